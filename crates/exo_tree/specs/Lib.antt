@@ -1,1 +1,3 @@
 pub mod Tree
+pub mod Context
+pub mod Places
