@@ -1,0 +1,13 @@
+-- Lists with commas, which may end in one.
+use Rattle.std.specs.Prelude.{List, [], ◌∷◌, ◌++◌, Option, Bool, true, false}
+use Rattle.phrases.specs.Phrase.{Phrase}
+use Rattle.phrases.specs.Sequence.{AllFit}
+
+-- what stands behind the first item: more items, and maybe a last comma
+abbrev pub spell_more : {A T : Type 0} → Phrase A T → A → List T → Bool → List A
+spell_more P comma [] true = comma ∷ []
+spell_more P comma [] false = []
+spell_more P comma (t ∷ ts) trailing = comma ∷ (P.spell t ++ spell_more P comma ts trailing)
+
+abbrev pub commas : {A T : Type 0} → Phrase A T → A → (Option A → Type 0) → Phrase A (List T × Bool)
+commas P comma ends = record { Fits = λ l. AllFit P l.0; spell = λ l. spell_more P comma l.0 l.1; Follows = ends }
