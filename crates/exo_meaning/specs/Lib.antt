@@ -1,0 +1,13 @@
+pub mod Value
+pub mod Scene
+pub mod State
+pub mod Calls
+pub mod Run
+pub mod Refines
+pub mod Laws
+pub mod Orders
+pub mod Inputs
+pub mod Footprint
+pub mod Renaming
+pub mod Unseen
+pub mod Nests
