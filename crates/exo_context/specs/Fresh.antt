@@ -1,0 +1,50 @@
+-- Copies with new binders.
+use Rattle.std.specs.Prelude.{◌≡◌, ◌==◌, ◌++◌, cond, ℕ, suc, List, [], ◌∷◌, ⊤}
+use Rattle.exo_tree.specs.Tree.{Statement, Assign, Reduce, Config, Pass, If, For, Alloc, View, Call, Block, end, next, Procedure}
+use Rattle.exo_meaning.specs.Renaming.{Renaming}
+use Rattle.exo_context.specs.Copies.{Moves, IsFree}
+use Rattle.exo_tree.specs.Context.{Context}
+
+-- the binders of a block, in preorder
+abbrev mutual
+  pub binders : Block → List ℕ
+  binders end = []
+  binders (next a b) = step_binders a ++ binders b
+
+  pub step_binders : Statement → List ℕ
+  step_binders (Assign x is e) = []
+  step_binders (Reduce x is e) = []
+  step_binders (Config f a) = []
+  step_binders Pass = []
+  step_binders (If c a b) = binders a ++ binders b
+  step_binders (For i lo hi b) = i.id ∷ binders b
+  step_binders (Alloc x cell dims memory) = x.id ∷ []
+  step_binders (View w x coords) = w.id ∷ []
+  step_binders (Call k args) = []
+
+abbrev pub swapped : ℕ → ℕ → ℕ → ℕ
+swapped a b x = cond (x == a) b (cond (x == b) a x)
+
+-- each id of the list changes places with the next new id
+abbrev pub exchanged : List ℕ → ℕ → ℕ → ℕ
+exchanged [] n x = x
+exchanged (i ∷ is) n x = exchanged is (suc n) (swapped i n x)
+
+-- which is undone from the last to the first
+abbrev pub exchanged_back : List ℕ → ℕ → ℕ → ℕ
+exchanged_back [] n x = x
+exchanged_back (i ∷ is) n x = swapped i n (exchanged_back is (suc n) x)
+
+-- the ids are free, and so are as many from n on
+abbrev pub AreFree : (ℕ → Type 0) → List ℕ → ℕ → Type 0
+AreFree Free [] n = ⊤
+AreFree Free (i ∷ is) n = Free i × Free n × AreFree Free is (suc n)
+
+-- a renaming that gives the binders of a block the ids from n on
+pub record IsFresh (b : Block) (n : ℕ) (r : Renaming) : Type 0 where
+  pub to : (x : ℕ) → r.to x ≡ exchanged (binders b) n x
+  pub from : (x : ℕ) → r.from x ≡ exchanged_back (binders b) n x
+
+-- there is one, and at a place where these ids are free it moves free names only
+abbrev pub FreshCopyLaw : Type 0
+FreshCopyLaw = (p : Procedure) (c : Context) (b : Block) (n : ℕ) → AreFree (IsFree p c) (binders b) n → (r : Renaming) × IsFresh b n r × Moves r (IsFree p c)

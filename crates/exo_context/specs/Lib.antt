@@ -1,0 +1,13 @@
+pub mod Context
+pub mod Sound
+pub mod Substitute
+pub mod Copies
+pub mod Facts
+pub mod Places
+pub mod Live
+pub mod Fields
+pub mod Known
+pub mod Scoped
+pub mod Chain
+pub mod Fresh
+pub mod Pairs

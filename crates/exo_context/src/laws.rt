@@ -1,0 +1,122 @@
+// Laws of places, each the contract of a function with nothing to do.
+
+ghost use Rattle.exo_context.specs.Context.{ContextLaw};
+ghost use Rattle.exo_context.specs.Context.{NamesLaw};
+ghost use Rattle.exo_context.specs.Substitute.{SubstitutionLaw};
+ghost use Rattle.exo_context.specs.Copies.{CopyLaw};
+ghost use Rattle.exo_context.specs.Facts.{FactsLaw};
+ghost use Rattle.exo_context.specs.Facts.{SteadyLaw};
+ghost use Rattle.exo_context.specs.Places.{OpenedLaw};
+ghost use Rattle.exo_context.specs.Live.{RunsForget};
+ghost use Rattle.exo_context.specs.Live.{LiveLaw};
+ghost use Rattle.exo_context.specs.Fields.{FieldsAreKept};
+ghost use Rattle.exo_context.specs.Known.{KnownLaw};
+ghost use Rattle.exo_context.specs.Known.{ShownLaw};
+ghost use Rattle.exo_context.specs.Pairs.{PairsCommute};
+ghost use Rattle.exo_context.specs.Context.{SameRunsLaw};
+ghost use Rattle.exo_context.specs.Scoped.{ScopeLaw};
+ghost use Rattle.exo_context.specs.Scoped.{BindersLaw};
+ghost use Rattle.exo_context.specs.Scoped.{FreshLaw};
+ghost use Rattle.exo_context.specs.Chain.{ChainLaw};
+ghost use Rattle.exo_context.specs.Fresh.{FreshCopyLaw};
+ghost use Rattle.exo_context.specs.Scoped.{UnmentionedLaw};
+
+/// A procedure in which a block is replaced is refined by it, where the new block may replace the old one at each state that comes to it.
+pub fn replaced_refines()
+    ensures { ContextLaw }
+{}
+
+/// The same where both blocks leave the same names.
+pub fn replaced_with_same_names()
+    ensures { NamesLaw }
+{}
+
+/// A run with a variable bound to the number of an expression is a run with that expression for the variable.
+pub fn substitution()
+    ensures { SubstitutionLaw }
+{}
+
+/// A copy of a loop under fresh ids does the same.
+pub fn copies_do_the_same()
+    ensures { CopyLaw }
+{}
+
+/// The bounds and conditions round a place hold there.
+pub fn facts_hold()
+    ensures { FactsLaw }
+{}
+
+/// A condition that nothing on the way changes is the same at the place.
+pub fn steady_conditions_hold()
+    ensures { SteadyLaw }
+{}
+
+/// What is opened at a path is the block itself.
+pub fn opened_blocks_are_there()
+    ensures { OpenedLaw }
+{}
+
+/// A run does not see fields that are not live.
+pub fn dead_fields_are_not_seen()
+    ensures { RunsForget }
+{}
+
+/// A block may be replaced by one that leaves other numbers in fields that are not live behind it.
+pub fn replaced_but_for_dead_fields()
+    ensures { LiveLaw }
+{}
+
+/// A field that a block does not write keeps its number.
+pub fn fields_are_kept()
+    ensures { FieldsAreKept }
+{}
+
+/// All that is known at a place holds there.
+pub fn known_facts_hold()
+    ensures { KnownLaw }
+{}
+
+/// A claim that follows from what is known at a place holds there.
+pub fn shown_claims_hold()
+    ensures { ShownLaw }
+{}
+
+/// Two turns of two loops commute where their footprints do not clash.
+pub fn pairs_commute()
+    ensures { PairsCommute }
+{}
+
+/// A procedure in which a block is replaced by one that does the same does the same, faults included.
+pub fn same_runs()
+    ensures { SameRunsLaw }
+{}
+
+/// In a procedure whose names are in scope nothing on the way changes what is known.
+pub fn names_stay_in_scope()
+    ensures { ScopeLaw }
+{}
+
+/// The binders of what stands in the hole are free there.
+pub fn binders_are_free()
+    ensures { BindersLaw }
+{}
+
+/// A name that the procedure does not bind is free at each place.
+pub fn fresh_names_are_free()
+    ensures { FreshLaw }
+{}
+
+/// Refinements compose, where the middle procedure never faults.
+pub fn refinements_compose()
+    ensures { ChainLaw }
+{}
+
+/// The binders of a block can be given new ids, and nothing but free names moves.
+pub fn copies_have_fresh_binders()
+    ensures { FreshCopyLaw }
+{}
+
+/// A block mentions no name but those bound before it and its own.
+pub fn names_out_of_scope_are_not_mentioned()
+    ensures { UnmentionedLaw }
+{}
