@@ -35,7 +35,7 @@ pub turns_sound : (i : ℕ) (body : State → Option State) (ns : List ℤ) (s :
 turns_sound i body [] s h = h
 turns_sound i body (n ∷ ns) s h = if_then IsSound IsSound (turn i body n s) (turns (turn i body) ns) (turn_sound i body n s h) (turns_sound i body ns)
 
-some_there : {A : Type 0} (o : Option A) (a : A) → o ≡ Some a → IsSome o
+pub some_there : {A : Type 0} (o : Option A) (a : A) → o ≡ Some a → IsSome o
 some_there o a e = subst IsSome (sym e) refl
 
 made_sound : (s : State) (x : ℕ) (shape : Shape) → IsSound s → IsSound (with_contents x (λ at. Undefined) (on_scene (with_buffer x shape) s))
@@ -58,27 +58,27 @@ made_sound s x shape h = record {
         subst (λ t. IsSome (cond t (Some shape) (s.scene.buffers z.buffer))) (sym (eq-eqb z.buffer x (sym same))) refl
     by_name y z false e = by_buffer (z.buffer == x) z.buffer (h.seen y z e)
 
-window_there : (s : State) (x : ℕ) (coords : List Coord) → IsSound s → IfSome (window s.scene x coords) (λ seen. IsSome (s.scene.buffers seen.buffer))
+pub window_there : (s : State) (x : ℕ) (coords : List Coord) → IsSound s → IfSome (window s.scene x coords) (λ seen. IsSome (s.scene.buffers seen.buffer))
 window_there s x coords h = if_then (λ seen. IsSome (s.scene.buffers seen.buffer)) (λ seen. IsSome (s.scene.buffers seen.buffer)) (s.scene.views x) _ (if_weaken (λ seen. s.scene.views x ≡ Some seen) (λ seen. IsSome (s.scene.buffers seen.buffer)) (s.scene.views x) (here (s.scene.views x)) (λ seen e. h.seen x seen e)) (λ seen k.
     if_map (λ sides. Unit {0}) (λ z. IsSome (s.scene.buffers z.buffer)) (narrowed s.scene seen.sides coords) (λ sides. record { buffer = seen.buffer; sides = sides }) (any (narrowed s.scene seen.sides coords)) (λ sides u. k))
 
 -- ---- calls
 
-abbrev IsThere : State → Given → Type 0
+abbrev pub IsThere : State → Given → Type 0
 IsThere s (GivenNumber n) = Unit {0}
 IsThere s (GivenView seen) = IsSome (s.scene.buffers seen.buffer)
 
-abbrev AreThere : State → List Given → Type 0
+abbrev pub AreThere : State → List Given → Type 0
 AreThere s [] = Unit {0}
 AreThere s (g ∷ gs) = IsThere s g × AreThere s gs
 
-given_there : (s : State) (a : Argument) → IsSound s → IfSome (given s.scene a) (IsThere s)
+pub given_there : (s : State) (a : Argument) → IsSound s → IfSome (given s.scene a) (IsThere s)
 given_there s (ControlArg a) h = tt
 given_there s (ConditionArg c) h = tt
 given_there s (Whole x) h = if_map (λ z. s.scene.views x ≡ Some z) (IsThere s) (s.scene.views x) GivenView (here (s.scene.views x)) (λ z e. h.seen x z e)
 given_there s (Window x coords) h = if_map (λ z. IsSome (s.scene.buffers z.buffer)) (IsThere s) (window s.scene x coords) GivenView (window_there s x coords h) (λ z k. k)
 
-all_there : (s : State) (args : List Argument) → IsSound s → IfSome (all_given s.scene args) (AreThere s)
+pub all_there : (s : State) (args : List Argument) → IsSound s → IfSome (all_given s.scene args) (AreThere s)
 all_there s [] h = tt
 all_there s (a ∷ args) h = if_then (IsThere s) (AreThere s) (given s.scene a) _ (given_there s a h) (λ g k. if_map (AreThere s) (AreThere s) (all_given s.scene args) (λ gs. g ∷ gs) (all_there s args h) (λ gs j. (k, j)))
 
@@ -91,7 +91,7 @@ back_same s true (GivenView seen) copy c k y d at = go (y == seen.buffer) (eqb-t
     go true e = absurd (true≢false (sym (subst IsSome (ap s.scene.buffers (sym (e refl)) ∙ d) k)))
     go false e = refl
 
-all_back_same : (s : State) (w : ℕ → Bool) (ps : List Param) (gs : List Given) (copies c : Cells) → AreThere s gs → (y : ℕ) → s.scene.buffers y ≡ None → (at : List ℤ) → copied_back w ps gs copies c y at ≡ c y at
+pub all_back_same : (s : State) (w : ℕ → Bool) (ps : List Param) (gs : List Given) (copies c : Cells) → AreThere s gs → (y : ℕ) → s.scene.buffers y ≡ None → (at : List ℤ) → copied_back w ps gs copies c y at ≡ c y at
 all_back_same s w [] gs copies c k y d at = refl
 all_back_same s w (p ∷ ps) [] copies c k y d at = refl
 all_back_same s w (p ∷ ps) (g ∷ gs) copies c k y d at = all_back_same s w ps gs copies (copy_back (w p.binder.id) g (copies p.binder.id) c) k.1 y d at ∙ back_same s (w p.binder.id) g (copies p.binder.id) c k.0 y d at
