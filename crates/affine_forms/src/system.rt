@@ -24,7 +24,10 @@ impl Term {
         ensures variable { result.variable ≡ variable }
         ensures coefficient { result.coefficient ≡ coefficient }
     {
-        Term { variable, coefficient }
+        Term {
+            variable,
+            coefficient,
+        }
     }
 }
 
@@ -72,6 +75,10 @@ impl System {
         ensures equations { result.equations ≡ equations }
         ensures rows { result.rows ≡ rows }
     {
-        System { vars, equations, rows }
+        System {
+            vars,
+            equations,
+            rows,
+        }
     }
 }
