@@ -1,3 +1,16 @@
 pub mod Tree
 pub mod Context
 pub mod Places
+pub mod Nodes
+pub mod Codes
+pub mod PlainBinder
+pub mod PlainControl
+pub mod PlainDatum
+pub mod PlainArgument
+pub mod PlainStatement
+pub mod Falls
+pub mod PlainParam
+pub mod PlainProcedure
+pub mod PlainTables
+pub mod PlainUnit
+pub mod Plain

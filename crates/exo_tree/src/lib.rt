@@ -1,2 +1,30 @@
 //! Trees of procedures: what a unit text is read to, what steps rewrite and what C is printed from.
 #![tactic(auto)]
+
+mod argument;
+mod binder;
+mod block;
+mod control;
+mod copy;
+mod copy_unit;
+mod data;
+mod lines;
+mod list;
+mod number;
+mod param;
+mod procedure;
+mod text;
+mod unit;
+
+pub use argument::{Arg, Args};
+pub use binder::Binder;
+pub use block::{Block, Stmt};
+pub use control::{Cond, Coord, Ctrl};
+pub use data::DataExpr;
+pub use lines::{Lines, ProcLines, StatementLines};
+pub use list::{Conds, Coords, Indices};
+pub use number::{Cell, FieldId, Id, Kind, MemId, ProcId};
+pub use param::{Param, ParamKind, Params};
+pub use procedure::{Proc, Procs};
+pub use text::{Name, Text};
+pub use unit::{Field, Fields, Memories, MemoryClass, Unit};

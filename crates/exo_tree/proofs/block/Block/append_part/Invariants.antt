@@ -1,0 +1,6 @@
+use Rattle.std.proofs.Common.{◌≡◌, ◌++◌, take, map}
+use Rattle.exo_tree.specs.PlainStatement.{statement}
+use Rattle.exo_tree.proofs.block.Block.append_part.Given as goal
+
+abbrev pub invariant-loop-s : goal.invariant-loop-s
+invariant-loop-s l = l.self ≡ l.initial.self ++ map statement (take l.s-index l.s-items)

@@ -1,0 +1,24 @@
+-- A block inside a statement has fewer statements than the block around it.
+use Rattle.std.specs.Prelude.{◌≤◌, List, [], ◌∷◌, map}
+use Rattle.std.proofs.Common.{arith}
+use denote.Param.Weighed.{most}
+use Rattle.exo_tree.specs.declared.block.Stmt.{Stmt}
+use Rattle.exo_tree.specs.declared.block.Stmt.TheVariants.{Assign, Reduce, Config, Pass, If, For, Alloc, View, Call}
+use Rattle.exo_tree.specs.declared.block.Block.TheDeep.{deep-Stmt}
+use Rattle.exo_tree.specs.Nodes.{nodes, nodes_of}
+use Rattle.exo_tree.specs.PlainStatement.{statement}
+
+pub deep_le-nodes : (s : Stmt) → deep-Stmt s ≤ nodes (statement s)
+deep_le-nodes (Assign x is e) = omega arith
+deep_le-nodes (Reduce x is e) = omega arith
+deep_le-nodes (Config f a) = omega arith
+deep_le-nodes Pass = omega arith
+deep_le-nodes (If c a b) = omega arith
+deep_le-nodes (For b lo hi body) = omega arith
+deep_le-nodes (Alloc b t dims m) = omega arith
+deep_le-nodes (View b x cs) = omega arith
+deep_le-nodes (Call p args) = omega arith
+
+pub depth_le-nodes : (ss : List Stmt) → most deep-Stmt ss ≤ nodes_of (map statement ss)
+depth_le-nodes [] = omega arith
+depth_le-nodes (s ∷ ss) = omega (arith, deep_le-nodes s, depth_le-nodes ss)

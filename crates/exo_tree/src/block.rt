@@ -1,0 +1,262 @@
+//! Statements and blocks.
+ghost use Rattle.std.specs.Prelude.{◌≡◌, [], ◌∷◌, ◌++◌, ◌+◌, ◌<◌, ◌≤◌, length, drop, slice_range, OnOk, OnErr, IfOk, slice_get, option_map};
+ghost use Rattle.std.specs.Option.{option_copied};
+ghost use Rattle.exo_tree.specs.Tree as tree;
+ghost use Rattle.exo_tree.specs.Tree.{block};
+ghost use Rattle.exo_tree.specs.Nodes.{nodes, nodes_of};
+ghost use Rattle.exo_tree.specs.PlainBinder.{binding, cell_type};
+ghost use Rattle.exo_tree.specs.PlainControl.{control, condition};
+ghost use Rattle.exo_tree.specs.PlainDatum.{datum};
+ghost use Rattle.exo_tree.specs.PlainArgument.{argument};
+ghost use Rattle.exo_tree.specs.PlainStatement.{statement};
+
+use crate::argument::{Arg, Args};
+use crate::binder::Binder;
+use crate::control::{Cond, Ctrl};
+use crate::data::DataExpr;
+use crate::list::{Coords, Indices};
+use crate::number::{Cell, FieldId, Id, MemId, ProcId};
+use std::alloc::{AllocError, Global};
+use std::marker::Model;
+
+/// A statement.
+#[cycle(tree)]
+#[derive(Drop)]
+pub enum Stmt {
+    /// `x[..] = e`
+    Assign(Id, Indices, DataExpr),
+    /// `x[..] += e`
+    Reduce(Id, Indices, DataExpr),
+    /// A write of a configuration field.
+    Config(FieldId, Arg),
+    Pass,
+    /// A condition with its branches; the second is empty where the text has no `else`.
+    If(Cond, Block, Block),
+    /// A loop from its lower bound up to the upper one, which it does not reach.
+    For(Binder, Ctrl, Ctrl, Block),
+    /// A buffer that lives to the end of its block.
+    Alloc(Binder, Cell, Indices, MemId),
+    /// A name for a window of a buffer or view, to the end of its block.
+    View(Binder, Id, Coords),
+    Call(ProcId, Args),
+}
+
+/// Statements in their order.
+#[cycle(tree)]
+#[derive(Drop)]
+pub struct Block {
+    statements: Vec<Stmt>,
+}
+
+impl Model for Block {
+    ghost use Rattle.std.specs.Prelude.{List};
+    ghost use Rattle.std.specs.Coded.{coded_list};
+    ghost use Rattle.exo_tree.specs.Tree.{Statement};
+    ghost use Rattle.exo_tree.specs.Nodes.{nodes_of};
+    ghost use Rattle.exo_tree.specs.Codes.{statement_code};
+
+    ghost Value = { List Statement };
+
+    ghost coded = { coded_list statement_code };
+
+    ghost use Rattle.std.specs.Prelude.{map};
+    ghost use Rattle.exo_tree.specs.PlainStatement.{statement};
+
+    ghost view = { λ b. map statement b.statements.items };
+
+    ghost size = { nodes_of };
+
+    ghost use Rattle.std.proofs.Common.{arith};
+    ghost use Rattle.exo_tree.specs.Falls.{depth_le-nodes};
+
+    ghost size_decreases = { λ a h. omega (arith, depth_le-nodes a.statements.items) };
+}
+
+impl Block {
+    /// The empty block.
+    pub fn new(alloc: Global) -> Block
+        ensures { result ≡ [] }
+    {
+        Block {
+            statements: Vec::new(alloc),
+        }
+    }
+
+    pub fn len(&self) -> usize
+        ensures { result ≡ length self.now }
+    {
+        self.statements.len()
+    }
+
+    /// Puts the statement last. After want of memory the block is unchanged.
+    pub fn push(&mut self, s: Stmt) -> Result<(), AllocError>
+        ensures pushed { OnOk result (self.new ≡ self.old ++ statement s ∷ []) }
+        ensures unchanged { OnErr result (self.new ≡ self.old) }
+    {
+        self.statements.push(s)?;
+        Ok(())
+    }
+
+    /// The statement at that index; None exactly where the block is not so long.
+    pub fn get(&self, k: usize) -> Option<&Stmt>
+        ensures { option_map statement (option_copied result) ≡ slice_get self.now k }
+    {
+        self.statements.get(k)
+    }
+
+    /// The statement at an index that is there, before the rest.
+    pub fn statement(&self, k: usize) -> &Stmt
+        requires { k < length self.now }
+        ensures value { drop k self.now ≡ statement result.now ∷ drop (k + 1) self.now }
+        ensures smaller { nodes (statement result.now) ≤ nodes_of self.now }
+    {
+        &self.statements[k]
+    }
+
+    /// Appends copies of the statements of `part` from `from` up to `to`.
+    pub fn append_part(
+        &mut self,
+        alloc: Global,
+        part: &Block,
+        from: usize,
+        to: usize,
+    ) -> Result<(), AllocError>
+        requires ordered { from ≤ to }
+        requires within { to ≤ length part.now }
+        ensures { OnOk result (self.new ≡ self.old ++ slice_range part.now from to) }
+    {
+        for s in &part.statements[from..to] {
+            self.push(s.duplicate(alloc)?)?;
+        }
+        Ok(())
+    }
+
+    /// A block of one statement.
+    pub fn single(alloc: Global, s: Stmt) -> Result<Block, AllocError>
+        ensures { IfOk result (λ b. b ≡ statement s ∷ []) }
+    {
+        let mut made = Block::new(alloc);
+        made.push(s)?;
+        Ok(made)
+    }
+
+    /// Moves the statements of `more` to the end.
+    pub fn append(&mut self, more: Block) -> Result<(), AllocError>
+        ensures { OnOk result (self.new ≡ self.old ++ more) }
+    {
+        let Block { mut statements } = more;
+        self.statements.append(&mut statements)
+    }
+
+    /// A block of copies of the `count` statements from `from` on.
+    pub fn piece(&self, alloc: Global, from: usize, count: usize) -> Result<Block, AllocError>
+        requires { from + count ≤ length self.now }
+        ensures { IfOk result (λ b. b ≡ slice_range self.now from (from + count)) }
+    {
+        let _length = self.len();
+        let mut made = Block::new(alloc);
+        made.append_part(alloc, self, from, from + count)?;
+        Ok(made)
+    }
+
+    #[cycle(duplicate)]
+    pub fn duplicate(&self, alloc: Global) -> Result<Block, AllocError>
+        ensures { IfOk result (λ b. b ≡ self.now) }
+    {
+        let mut copied = Block::new(alloc);
+        for s in &self.statements {
+            copied.push(s.duplicate(alloc)?)?;
+        }
+        Ok(copied)
+    }
+}
+
+impl Stmt {
+    #[cycle(duplicate)]
+    pub fn duplicate(&self, alloc: Global) -> Result<Stmt, AllocError>
+        ensures { IfOk result (λ s. statement s ≡ statement self.now) }
+    {
+        match self {
+            Stmt::Assign(x, at, e) => assign_of(alloc, *x, at, e),
+            Stmt::Reduce(x, at, e) => reduce_of(alloc, *x, at, e),
+            Stmt::Config(f, a) => Ok(Stmt::Config(*f, a.duplicate(alloc)?)),
+            Stmt::Pass => Ok(Stmt::Pass),
+            Stmt::If(c, a, b) => branch_of(alloc, c, a.duplicate(alloc)?, b.duplicate(alloc)?),
+            Stmt::For(b, lo, hi, body) => loop_of(alloc, b, lo, hi, body.duplicate(alloc)?),
+            Stmt::Alloc(b, t, dims, m) => alloc_of(alloc, b, *t, dims, *m),
+            Stmt::View(b, x, at) => view_of(alloc, b, *x, at),
+            Stmt::Call(p, args) => Ok(Stmt::Call(*p, args.duplicate(alloc)?)),
+        }
+    }
+}
+
+/// An assignment of these parts.
+pub(crate) fn assign_of(
+    alloc: Global,
+    x: Id,
+    at: &Indices,
+    e: &DataExpr,
+) -> Result<Stmt, AllocError>
+    ensures { IfOk result (λ s. statement s ≡ tree.Assign x.0 at.now (datum e.now)) }
+{
+    Ok(Stmt::Assign(x, at.duplicate(alloc)?, e.duplicate(alloc)?))
+}
+
+/// A reduction of these parts.
+pub(crate) fn reduce_of(
+    alloc: Global,
+    x: Id,
+    at: &Indices,
+    e: &DataExpr,
+) -> Result<Stmt, AllocError>
+    ensures { IfOk result (λ s. statement s ≡ tree.Reduce x.0 at.now (datum e.now)) }
+{
+    Ok(Stmt::Reduce(x, at.duplicate(alloc)?, e.duplicate(alloc)?))
+}
+
+/// A loop with a copied head.
+pub(crate) fn loop_of(
+    alloc: Global,
+    b: &Binder,
+    lo: &Ctrl,
+    hi: &Ctrl,
+    body: Block,
+) -> Result<Stmt, AllocError>
+    ensures { IfOk result (λ s. statement s ≡ tree.For (binding b.now) (control lo.now) (control hi.now) (block body)) }
+{
+    let binder = b.duplicate(alloc)?;
+    let low = lo.duplicate(alloc)?;
+    Ok(Stmt::For(binder, low, hi.duplicate(alloc)?, body))
+}
+
+/// A branch with a copied condition.
+pub(crate) fn branch_of(
+    alloc: Global,
+    c: &Cond,
+    then_part: Block,
+    else_part: Block,
+) -> Result<Stmt, AllocError>
+    ensures { IfOk result (λ s. statement s ≡ tree.If (condition c.now) (block then_part) (block else_part)) }
+{
+    Ok(Stmt::If(c.duplicate(alloc)?, then_part, else_part))
+}
+
+/// An allocation of these parts.
+pub(crate) fn alloc_of(
+    alloc: Global,
+    b: &Binder,
+    t: Cell,
+    dims: &Indices,
+    m: MemId,
+) -> Result<Stmt, AllocError>
+    ensures { IfOk result (λ s. statement s ≡ tree.Alloc (binding b.now) (cell_type t) dims.now m.0) }
+{
+    Ok(Stmt::Alloc(b.duplicate(alloc)?, t, dims.duplicate(alloc)?, m))
+}
+
+/// A view of these parts.
+pub(crate) fn view_of(alloc: Global, b: &Binder, x: Id, at: &Coords) -> Result<Stmt, AllocError>
+    ensures { IfOk result (λ s. statement s ≡ tree.View (binding b.now) x.0 at.now) }
+{
+    Ok(Stmt::View(b.duplicate(alloc)?, x, at.duplicate(alloc)?))
+}

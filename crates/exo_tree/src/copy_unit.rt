@@ -1,0 +1,96 @@
+//! Copies of procedures and of what units list. A copy is the same plain tree.
+ghost use Rattle.std.specs.Prelude.{◌≡◌, IfOk};
+ghost use Rattle.exo_tree.specs.PlainParam.{parameter_kind, parameter};
+ghost use Rattle.exo_tree.specs.PlainProcedure.{procedure};
+ghost use Rattle.exo_tree.specs.PlainTables.{config_field, memory_kind};
+
+use crate::param::{Param, ParamKind};
+use crate::procedure::Proc;
+use crate::text::Text;
+use crate::unit::{Field, MemoryClass};
+use std::alloc::{AllocError, Global};
+
+impl ParamKind {
+    pub fn duplicate(&self, alloc: Global) -> Result<ParamKind, AllocError>
+        ensures { IfOk result (λ k. parameter_kind k ≡ parameter_kind self.now) }
+    {
+        match self {
+            ParamKind::Ctrl(kind) => Ok(ParamKind::Ctrl(*kind)),
+            ParamKind::Tensor(cell, dims, memory) => Ok(ParamKind::Tensor(
+                *cell,
+                dims.duplicate(alloc)?,
+                *memory,
+            )),
+            ParamKind::Window(cell, dims, memory) => Ok(ParamKind::Window(
+                *cell,
+                dims.duplicate(alloc)?,
+                *memory,
+            )),
+        }
+    }
+}
+
+impl Param {
+    pub fn duplicate(&self, alloc: Global) -> Result<Param, AllocError>
+        ensures { IfOk result (λ p. parameter p ≡ parameter self.now) }
+    {
+        Ok(Param {
+            binder: self.binder.duplicate(alloc)?,
+            kind: self.kind.duplicate(alloc)?,
+        })
+    }
+}
+
+/// A copy of a template, where there is one.
+fn copied_template(alloc: Global, template: &Option<Text>) -> Result<Option<Text>, AllocError>
+    ensures { IfOk result (λ t. t ≡ template.now) }
+{
+    match template {
+        Some(text) => Ok(Some(text.duplicate(alloc)?)),
+        None => Ok(None),
+    }
+}
+
+impl Proc {
+    pub fn duplicate(&self, alloc: Global) -> Result<Proc, AllocError>
+        ensures { IfOk result (λ p. procedure p ≡ procedure self.now) }
+    {
+        Ok(Proc {
+            name: self.name.duplicate(alloc)?,
+            params: self.params.duplicate(alloc)?,
+            asserts: self.asserts.duplicate(alloc)?,
+            body: self.body.duplicate(alloc)?,
+            template: copied_template(alloc, &self.template)?,
+        })
+    }
+}
+
+impl Field {
+    pub fn duplicate(&self, alloc: Global) -> Result<Field, AllocError>
+        ensures { IfOk result (λ f. config_field f ≡ config_field self.now) }
+    {
+        Ok(Field {
+            config: self.config.duplicate(alloc)?,
+            name: self.name.duplicate(alloc)?,
+            kind: self.kind,
+        })
+    }
+}
+
+impl MemoryClass {
+    pub fn duplicate(&self, alloc: Global) -> Result<MemoryClass, AllocError>
+        ensures { IfOk result (λ m. memory_kind m ≡ memory_kind self.now) }
+    {
+        Ok(MemoryClass {
+            name: self.name.duplicate(alloc)?,
+            ctype: self.ctype.duplicate(alloc)?,
+            lanes: self.lanes,
+            cell: self.cell,
+            stack: self.stack,
+            read: self.read,
+            write: self.write,
+            reduce: self.reduce,
+            include: self.include.duplicate(alloc)?,
+        })
+    }
+}
