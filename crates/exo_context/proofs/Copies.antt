@@ -5,16 +5,16 @@ use Rattle.std.proofs.Math.Path.{fun_ext}
 use Rattle.exo_tree.specs.Tree.{For, Block, end, next, Param, ParamKind, ControlParam, TensorParam, WindowParam, Procedure}
 use Rattle.exo_meaning.specs.Value.{Undefined}
 use Rattle.exo_meaning.specs.Scene.{Shape, Seen, Scene, numbers, whole}
-use Rattle.exo_meaning.specs.State.{State, Cells}
+use Rattle.exo_meaning.specs.State.{State, Cells, left, kept}
 use Rattle.exo_meaning.specs.Run.{World, run, step, turns, turn, turns_of}
 use Rattle.exo_meaning.specs.Inputs.{IsAdmissible, IsArgument, AreArguments, is_buffer_of}
-use Rattle.exo_meaning.specs.Renaming.{Renaming, re_statement, re_seen, re_scene, re_state}
+use Rattle.exo_meaning.specs.Renaming.{Renaming, re_statement, re_block, re_seen, re_scene, re_state}
 use Rattle.exo_meaning.proofs.Renamed.{runs_rename}
 use Rattle.exo_meaning.proofs.Nested.{then_some}
 use Rattle.exo_tree.specs.Context.{Context}
 use Rattle.exo_context.specs.Context.{ComesTo}
 use Rattle.exo_context.specs.Sound.{IsSound, IsUnbound, IsSameName}
-use Rattle.exo_context.specs.Copies.{Moves, IsFree, CopyLaw}
+use Rattle.exo_context.specs.Copies.{Moves, IsFree, CopyLaw, SoundLaw, UnboundLaw, CopiedBlockLaw}
 use Rattle.exo_context.proofs.Parts.{none_some, some_injective}
 use Rattle.exo_context.proofs.Names.{turns_names, come_names}
 use Rattle.exo_context.proofs.Sound.{turns_sound, come_sound}
@@ -120,3 +120,25 @@ module _ (world : World) (p : Procedure) (old : Block) (c : Context) (s u : Stat
   place_unbound x free =
       let n = good.no_others x free.0 in
       unbound_on s u x (come_names world old c s u come x free.1) (record { control = n.0; buffers = n.1; views = n.2 })
+
+pub sound_law : SoundLaw
+sound_law world p old c s u good come = place_sound world p old c s u good come
+
+pub unbound_law : UnboundLaw
+unbound_law world p old c s u good come = place_unbound world p old c s u good come
+
+-- ---- copies of blocks
+
+-- what a renaming of unbound names moves is gone at the end of the scope
+left_re : (r : Renaming) (s t : State) → Moves r (IsUnbound s) → left s (re_state r t) ≡ left s t
+left_re r s t moves = ap {A = Cells} (λ c. record { scene = record s.scene { fields = t.scene.fields }; cells = c }) (fun_ext (λ b. ⊎_elim (λ e. ap (λ y. kept (s.scene.buffers b) (t.cells y)) e) (λ u. ap (λ o. kept o (t.cells (r.from b))) u.0.buffers ∙ sym (ap (λ o. kept o (t.cells b)) u.0.buffers)) (moves b)))
+
+pub copied_block_law : CopiedBlockLaw
+copied_block_law r world b s sound moves = (same, ap (option_map (left s)) same ∙ go (run world b s))
+  where
+    same : run world (re_block r b) s ≡ option_map (re_state r) (run world b s)
+    same = ap (run world (re_block r b)) (sym (re_same r s sound moves)) ∙ runs_rename r world b s
+
+    go : (o : Option State) → option_map (left s) (option_map (re_state r) o) ≡ option_map (left s) o
+    go None = refl
+    go (Some t) = ap Some (left_re r s t moves)

@@ -19,3 +19,4 @@ pub mod Binders
 pub mod Chain
 pub mod Fresh
 pub mod Unmentioned
+pub mod Grown

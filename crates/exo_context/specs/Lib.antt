@@ -11,3 +11,4 @@ pub mod Scoped
 pub mod Chain
 pub mod Fresh
 pub mod Pairs
+pub mod Grown

@@ -20,6 +20,11 @@ ghost use Rattle.exo_context.specs.Scoped.{FreshLaw};
 ghost use Rattle.exo_context.specs.Chain.{ChainLaw};
 ghost use Rattle.exo_context.specs.Fresh.{FreshCopyLaw};
 ghost use Rattle.exo_context.specs.Scoped.{UnmentionedLaw};
+ghost use Rattle.exo_context.specs.Copies.{SoundLaw};
+ghost use Rattle.exo_context.specs.Copies.{UnboundLaw};
+ghost use Rattle.exo_context.specs.Copies.{CopiedBlockLaw};
+ghost use Rattle.exo_context.specs.Grown.{GrownLaw};
+ghost use Rattle.exo_context.specs.Grown.{GrownRefinesLaw};
 
 /// A procedure in which a block is replaced is refined by it, where the new block may replace the old one at each state that comes to it.
 pub fn replaced_refines()
@@ -119,4 +124,29 @@ pub fn copies_have_fresh_binders()
 /// A block mentions no name but those bound before it and its own.
 pub fn names_out_of_scope_are_not_mentioned()
     ensures { UnmentionedLaw }
+{}
+
+/// Wherever a run on an admissible input comes to, what a name sees is there.
+pub fn places_are_sound()
+    ensures { SoundLaw }
+{}
+
+/// A name that is free at a place stands for nothing there.
+pub fn free_names_stand_for_nothing()
+    ensures { UnboundLaw }
+{}
+
+/// A copy of a block under fresh ids does the same under these ids.
+pub fn copied_blocks_do_the_same()
+    ensures { CopiedBlockLaw }
+{}
+
+/// A block that calls procedures of the shorter unit alone runs the same in the longer one.
+pub fn grown_units_do_the_same()
+    ensures { GrownLaw }
+{}
+
+/// One procedure refines another in the longer unit where it does in the shorter one.
+pub fn grown_units_keep_refinements()
+    ensures { GrownRefinesLaw }
 {}
