@@ -1,7 +1,8 @@
 -- Copies with new binders.
 use Rattle.std.proofs.Common.{◌≡◌, ◌⊎◌, inl, inr, ⊎_elim, ℕ, suc, List, [], ◌∷◌, refl, sym, ap, ◌∙◌, subst}
 use Rattle.exo_context.specs.Copies.{IsFree}
-use Rattle.exo_context.specs.Fresh.{binders, swapped, exchanged, exchanged_back, AreFree, FreshCopyLaw}
+use Rattle.exo_meaning.specs.Binders.{binders}
+use Rattle.exo_context.specs.Fresh.{swapped, exchanged, exchanged_back, AreFree, FreshCopyLaw}
 use Rattle.exo_context.proofs.Swaps.{swap_moves, swapped_twice}
 
 there_and_back : (is : List ℕ) (n x : ℕ) → exchanged_back is n (exchanged is n x) ≡ x

@@ -20,3 +20,4 @@ pub mod Chain
 pub mod Fresh
 pub mod Unmentioned
 pub mod Grown
+pub mod Examples

@@ -4,10 +4,14 @@ use Rattle.exo_tree.specs.Tree.{Block}
 use Rattle.exo_meaning.specs.Scene.{then_do, holds, where_true}
 use Rattle.exo_meaning.specs.State.{State, left, on_scene, with_control}
 use Rattle.exo_meaning.specs.Run.{World, run, step, turn, turns, turns_of, choose}
-use Rattle.exo_meaning.specs.Inputs.{all_have_extents}
+use Rattle.std.proofs.Common.{subst}
+use Rattle.exo_meaning.specs.Value.{IsRefinedBy}
+use Rattle.exo_context.proofs.Parts.{some_injective}
+use Rattle.exo_context.proofs.Refined.{refined_same}
+use Rattle.exo_meaning.specs.Inputs.{IsAdmissible, run_procedure, all_have_extents}
 use Rattle.exo_meaning.proofs.Compose.{compose}
 use Rattle.exo_tree.specs.Context.{Context, Here, After, InLoop, InThen, InElse, fill}
-use Rattle.exo_context.specs.Context.{ComesToTurn, now, later, ComesTo, SameRunsLaw}
+use Rattle.exo_context.specs.Context.{ComesToTurn, now, later, ComesTo, SameRunsRefineLaw, SameRunsLaw}
 
 then_same : {A B : Type 0} (o : Option A) (f g : A → Option B) → ((a : A) → o ≡ Some a → f a ≡ g a) → then_do o f ≡ then_do o g
 then_same None f g h = refl
@@ -43,3 +47,12 @@ pub same_runs_law : SameRunsLaw
 same_runs_law world c old new p was h s good =
     ap (λ b. where_true (all_have_extents s.scene p.params) (run world b s)) was
     ∙ ap (where_true (all_have_extents s.scene p.params)) (runs_same world old new c s (λ u z. h s u good z))
+
+pub same_runs_refine : SameRunsRefineLaw
+same_runs_refine world c old new p was h = record {
+  cells = λ s t u good i j b there at. subst (λ z. IsRefinedBy (t.cells b at) (z.cells b at)) (one s t u good i j) (refined_same (t.cells b at));
+  fields = λ s t u good i j f out. ap (λ (z : State). z.scene.fields f) (one s t u good i j);
+}
+  where
+    one : (s t u : State) → IsAdmissible world p s → run_procedure world p s ≡ Some t → run_procedure world (record p { body = fill c new }) s ≡ Some u → t ≡ u
+    one s t u good i j = some_injective t u (sym i ∙ same_runs_law world c old new p was h s good ∙ j)

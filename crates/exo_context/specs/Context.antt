@@ -59,3 +59,7 @@ NamesLaw = (kinds : ℕ → Kind) (ps : List Procedure) (c : Context) (old new :
 -- blocks that do the same wherever a run comes to the hole: the procedures do the same, faults included
 abbrev pub SameRunsLaw : Type 0
 SameRunsLaw = (world : World) (c : Context) (old new : Block) (p : Procedure) → p.body ≡ fill c old → ((s u : State) → IsAdmissible world p s → ComesTo world old c s u → run world old u ≡ run world new u) → (s : State) → IsAdmissible world p s → run_procedure world p s ≡ run_procedure world (record p { body = fill c new }) s
+
+-- so the one refines the other, and no field differs
+abbrev pub SameRunsRefineLaw : Type 0
+SameRunsRefineLaw = (world : World) (c : Context) (old new : Block) (p : Procedure) → p.body ≡ fill c old → ((s u : State) → IsAdmissible world p s → ComesTo world old c s u → run world old u ≡ run world new u) → Refines world p (record p { body = fill c new }) []

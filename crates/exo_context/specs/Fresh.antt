@@ -1,26 +1,10 @@
 -- Copies with new binders.
-use Rattle.std.specs.Prelude.{◌≡◌, ◌==◌, ◌++◌, cond, ℕ, suc, List, [], ◌∷◌, ⊤}
-use Rattle.exo_tree.specs.Tree.{Statement, Assign, Reduce, Config, Pass, If, For, Alloc, View, Call, Block, end, next, Procedure}
+use Rattle.std.specs.Prelude.{◌≡◌, ◌==◌, cond, ℕ, suc, List, [], ◌∷◌, ⊤}
+use Rattle.exo_tree.specs.Tree.{Block, Procedure}
+use Rattle.exo_meaning.specs.Binders.{binders}
 use Rattle.exo_meaning.specs.Renaming.{Renaming}
 use Rattle.exo_context.specs.Copies.{Moves, IsFree}
 use Rattle.exo_tree.specs.Context.{Context}
-
--- the binders of a block, in preorder
-abbrev mutual
-  pub binders : Block → List ℕ
-  binders end = []
-  binders (next a b) = step_binders a ++ binders b
-
-  pub step_binders : Statement → List ℕ
-  step_binders (Assign x is e) = []
-  step_binders (Reduce x is e) = []
-  step_binders (Config f a) = []
-  step_binders Pass = []
-  step_binders (If c a b) = binders a ++ binders b
-  step_binders (For i lo hi b) = i.id ∷ binders b
-  step_binders (Alloc x cell dims memory) = x.id ∷ []
-  step_binders (View w x coords) = w.id ∷ []
-  step_binders (Call k args) = []
 
 abbrev pub swapped : ℕ → ℕ → ℕ → ℕ
 swapped a b x = cond (x == a) b (cond (x == b) a x)

@@ -25,6 +25,7 @@ ghost use Rattle.exo_context.specs.Copies.{UnboundLaw};
 ghost use Rattle.exo_context.specs.Copies.{CopiedBlockLaw};
 ghost use Rattle.exo_context.specs.Grown.{GrownLaw};
 ghost use Rattle.exo_context.specs.Grown.{GrownRefinesLaw};
+ghost use Rattle.exo_context.specs.Context.{SameRunsRefineLaw};
 
 /// A procedure in which a block is replaced is refined by it, where the new block may replace the old one at each state that comes to it.
 pub fn replaced_refines()
@@ -149,4 +150,9 @@ pub fn grown_units_do_the_same()
 /// One procedure refines another in the longer unit where it does in the shorter one.
 pub fn grown_units_keep_refinements()
     ensures { GrownRefinesLaw }
+{}
+
+/// A procedure in which a block is replaced by one that does the same is refined by it, and no field differs.
+pub fn same_runs_refine()
+    ensures { SameRunsRefineLaw }
 {}

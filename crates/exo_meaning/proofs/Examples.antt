@@ -7,25 +7,25 @@ use Rattle.exo_meaning.specs.State.{State, with_buffer, with_contents, on_scene}
 use Rattle.exo_meaning.specs.Calls.{bare}
 use Rattle.exo_meaning.specs.Run.{World, run, tensor, world_of, callees}
 
-abbrev binder : ℕ → Binder
+abbrev pub binder : ℕ → Binder
 binder n = record { id = n; name = [] }
 
 one : ℤ → List ℤ
 one n = n ∷ []
 
 -- x (number 0) has 8 cells of value 3
-abbrev start : State
+abbrev pub start : State
 start = with_contents 0 (λ at. Number (pos 3)) (on_scene (with_buffer 0 (tensor I32 (pos 8 ∷ []))) (bare (λ x. pos 0) (λ f. pos 1)))
 
-abbrev world : World
+abbrev pub world : World
 world = world_of (λ f. Size) []
 
-abbrev seen : ℤ → Option State → Value
+abbrev pub seen : ℤ → Option State → Value
 seen n None = Undefined
 seen n (Some s) = s.cells 0 (n ∷ [])
 
 -- for i in seq(0, 4): x[2 * i] += 7
-abbrev evens : Block
+abbrev pub evens : Block
 evens = next (For (binder 1) (Lit (pos 0)) (Lit (pos 4)) (next (Reduce 0 (Mul (Lit (pos 2)) (Var 1) ∷ []) (Const (pos 7))) end)) end
 
 even_added : seen (pos 6) (run world evens start) ≡ Number (pos 10)
@@ -37,7 +37,7 @@ unfolding int_wrap
 odd_kept = refl
 
 -- a loop of a hundred turns
-abbrev hundred : Block
+abbrev pub hundred : Block
 hundred = next (For (binder 1) (Lit (pos 0)) (Lit (pos 100)) (next (Reduce 0 (Lit (pos 0) ∷ []) (Const (pos 7))) end)) end
 
 summed : seen (pos 0) (run world hundred start) ≡ Number (pos 703)
@@ -45,7 +45,7 @@ unfolding int_wrap
 summed = refl
 
 -- def fill(n: size, w: [i32][n]): for l in seq(0, n): w[l] = 5
-abbrev fill : Procedure
+abbrev pub fill : Procedure
 fill = record {
   name = [];
   template = None;

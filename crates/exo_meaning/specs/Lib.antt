@@ -11,3 +11,5 @@ pub mod Footprint
 pub mod Renaming
 pub mod Unseen
 pub mod Nests
+pub mod Binders
+pub mod Units

@@ -1,0 +1,129 @@
+-- The laws at small procedures.
+use Rattle.std.proofs.Common.{◌≡◌, ℕ, pos, ◌+ℤ◌, ◌==◌, Bool, true, false, true≢false, ◌||◌, cond, List, [], ◌∷◌, Option, Some, None, option_map, refl, ap}
+use Rattle.std.specs.Int.{int_wrap}
+use Rattle.std.proofs.lemmas.Int.{ints}
+use Rattle.std.proofs.Common.{arith}
+use Rattle.exo_tree.specs.Tree.{Binder, I8, I32, Index, Control, Lit, Var, Add, Datum, Const, Plus, Assign, For, Block, end, next, TensorParam, Procedure}
+use Rattle.exo_tree.specs.Context.{Context, Here, InLoop, fill}
+use Rattle.exo_tree.specs.Places.{Main, opened}
+use Rattle.exo_meaning.specs.Value.{Value, Undefined, Number, on_two, wrap}
+use Rattle.exo_meaning.specs.Scene.{Shape, Seen, Range, then_do}
+use Rattle.exo_meaning.specs.State.{State, value, place, put}
+use Rattle.exo_meaning.specs.Run.{World, run, unit_world}
+use Rattle.exo_meaning.specs.Inputs.{IsAdmissible, Refines, run_procedure}
+use Rattle.exo_context.specs.Scoped.{is_scoped, is_param}
+use Rattle.exo_context.specs.Substitute.{in_block}
+use Rattle.exo_context.specs.Grown.{calls_below}
+use Rattle.exo_context.proofs.SameRuns.{same_runs_refine}
+
+-- ---- a step's proof: a sum with its sides exchanged, at any place
+
+sum_swaps : (u v : Value) → on_two ◌+ℤ◌ u v ≡ on_two ◌+ℤ◌ v u
+sum_swaps Undefined Undefined = refl
+sum_swaps Undefined (Number n) = refl
+sum_swaps (Number m) Undefined = refl
+sum_swaps (Number m) (Number n) = let e : m +ℤ n ≡ n +ℤ m = omega (arith, ints) in ap (λ z. Number (wrap I32 z)) e
+
+-- each side faults, or neither does
+values_swap : (o r : Option Value) → then_do o (λ u. option_map (on_two ◌+ℤ◌ u) r) ≡ then_do r (λ u. option_map (on_two ◌+ℤ◌ u) o)
+values_swap None None = refl
+values_swap None (Some v) = refl
+values_swap (Some u) None = refl
+values_swap (Some u) (Some v) = ap Some (sum_swaps u v)
+
+abbrev stored : ℕ → List Control → Datum → Block
+stored x is e = next (Assign x is e) end
+
+-- the local statement, at each state
+stores_swap : (world : World) (x : ℕ) (is : List Control) (a b : Datum) (s : State) → run world (stored x is (Plus a b)) s ≡ run world (stored x is (Plus b a)) s
+stores_swap world x is a b s = ap (λ o. then_do (then_do (place s.scene x is) (λ p. then_do o (λ v. put s (λ old. v) p))) (λ t. Some t)) (values_swap (value s a) (value s b))
+
+-- and the law of contexts
+commuted : (world : World) (c : Context) (p : Procedure) (x : ℕ) (is : List Control) (a b : Datum) → p.body ≡ fill c (stored x is (Plus a b)) → Refines world p (record p { body = fill c (stored x is (Plus b a)) }) []
+commuted world c p x is a b was = same_runs_refine world c (stored x is (Plus a b)) (stored x is (Plus b a)) p was (λ s u good come. stores_swap world x is a b u)
+
+-- ---- an admissible input, and both runs
+
+abbrev binder : ℕ → Binder
+binder n = record { id = n; name = [] }
+
+abbrev body : Datum → Block
+body e = next (For (binder 1) (Lit (pos 0)) (Lit (pos 16)) (stored 0 (Var 1 ∷ []) e)) end
+
+-- for i in seq(0, 16): x[i] = 1 + 2
+abbrev three : Procedure
+three = record { name = []; template = None; params = record { binder = binder 0; kind = TensorParam I8 (Lit (pos 16) ∷ []) 0 } ∷ []; asserts = []; body = body (Plus (Const (pos 1)) (Const (pos 2))) }
+
+abbrev hole : Context
+hole = InLoop (binder 1) (Lit (pos 0)) (Lit (pos 16)) (Here end) end
+
+three_commutes : (world : World) → Refines world three (record three { body = body (Plus (Const (pos 2)) (Const (pos 1))) }) []
+three_commutes world = commuted world hole three 0 (Var 1 ∷ []) (Const (pos 1)) (Const (pos 2)) refl
+
+-- the path leads to the hole
+hole_is_there : opened 1 (record { branch = Main; index = 0 } ∷ record { branch = Main; index = 0 } ∷ []) three.body ≡ Some (record { around = hole; piece = stored 0 (Var 1 ∷ []) (Plus (Const (pos 1)) (Const (pos 2))) })
+hole_is_there = refl
+
+abbrev shape : Shape
+shape = record { cell = I8; dims = pos 16 ∷ []; strides = pos 1 ∷ [] }
+
+abbrev all_of_it : Seen
+all_of_it = record { buffer = 0; sides = Range (pos 0) (pos 16) ∷ [] }
+
+abbrev input : State
+input = record {
+  scene = record {
+    control = λ x. pos 0;
+    buffers = λ x. cond (x == 0) (Some shape) None;
+    views = λ x. cond (x == 0) (Some all_of_it) None;
+    fields = λ f. pos 0;
+  };
+  cells = λ b at. Undefined;
+}
+
+abbrev world : World
+world = unit_world (λ f. Index) []
+
+is_admissible : IsAdmissible world three input
+is_admissible = record {
+  arguments = ((refl, refl), tt);
+  no_others = λ x k. (refl, off x k, off_view x k);
+  cells = λ b s e at. tt;
+  tidy = λ b e at. refl;
+  fields = λ f. tt;
+  asserts = refl;
+}
+  where
+    off : (x : ℕ) → ((x == 0) || false) ≡ false → cond (x == 0) (Some shape) None ≡ None
+    off x k = go (x == 0) k
+      where
+        go : (t : Bool) → (t || false) ≡ false → cond t (Some shape) None ≡ None
+        go true k = absurd (true≢false k)
+        go false k = refl
+
+    off_view : (x : ℕ) → ((x == 0) || false) ≡ false → cond (x == 0) (Some all_of_it) None ≡ None
+    off_view x k = go (x == 0) k
+      where
+        go : (t : Bool) → (t || false) ≡ false → cond t (Some all_of_it) None ≡ None
+        go true k = absurd (true≢false k)
+        go false k = refl
+
+abbrev cell : Option State → Value
+cell None = Undefined
+cell (Some t) = t.cells 0 (pos 15 ∷ [])
+
+it_runs : cell (run_procedure world three input) ≡ Number (pos 3)
+unfolding int_wrap
+it_runs = refl
+
+-- ---- the tests of other laws
+
+names_are_in_scope : is_scoped (is_param three) three.body ≡ true
+names_are_in_scope = refl
+
+no_calls : calls_below 0 three.body ≡ true
+no_calls = refl
+
+-- x[i] = 3 with i + 1 for i
+substituted : in_block 1 (Add (Var 1) (Lit (pos 1))) (stored 0 (Var 1 ∷ []) (Const (pos 3))) ≡ stored 0 (Add (Var 1) (Lit (pos 1)) ∷ []) (Const (pos 3))
+substituted = refl
