@@ -124,11 +124,11 @@ is_unit = record {
 }
 
 -- a name that is not in scope, a number where a window is asked, and a window of another cell type are refused
-out_of_scope : is_block (λ f. None) 1 (λ k. None) (scope_of (λ f. None) 1 (λ k. None) [] fill_named.params) (λ x. x) (next (Assign 1 (Var 7 ∷ []) (Const (pos 5))) end) ≡ false
+out_of_scope : is_block (λ f. None) 1 (λ k. None) (scope_of [] fill_named.params) (λ x. x) (next (Assign 1 (Var 7 ∷ []) (Const (pos 5))) end) ≡ false
 out_of_scope = refl
 
-wrong_kind : are_for (λ f. None) (scope_of (λ f. None) 1 (λ k. None) [] fill_named.params) fill_named.params (ControlArg (Var 0) ∷ ControlArg (Var 0) ∷ []) ≡ false
+wrong_kind : are_for (λ f. None) (scope_of [] fill_named.params) fill_named.params (ControlArg (Var 0) ∷ ControlArg (Var 0) ∷ []) ≡ false
 wrong_kind = refl
 
-wrong_cell : are_for (λ f. None) (scope_of (λ f. None) 1 (λ k. None) [] fill_named.params) (record { binder = named 5 120; kind = WindowParam I8 (Var 0 ∷ []) 0 } ∷ []) (Window 1 (Span (Lit (pos 0)) (Var 0) ∷ []) ∷ []) ≡ false
+wrong_cell : are_for (λ f. None) (scope_of [] fill_named.params) (record { binder = named 5 120; kind = WindowParam I8 (Var 0 ∷ []) 0 } ∷ []) (Window 1 (Span (Lit (pos 0)) (Var 0) ∷ []) ∷ []) ≡ false
 wrong_cell = refl

@@ -81,6 +81,20 @@ is_dense None = false
 is_dense (Some (ControlName kind)) = false
 is_dense (Some (BufferName cell rank dense)) = dense
 
+abbrev pub param_sort : ParamKind → Sort
+param_sort (ControlParam kind) = ControlName kind
+param_sort (TensorParam cell dims memory) = BufferName cell (length dims) true
+param_sort (WindowParam cell dims memory) = BufferName cell (length dims) false
+
+-- the parameters, the last one innermost
+abbrev pub scope_of : Scope → List Param → Scope
+scope_of scope [] = scope
+scope_of scope (p ∷ ps) = scope_of (with_name scope p.binder (param_sort p.kind)) ps
+
+-- at most 8 dimensions
+abbrev pub is_rank : ℕ → Bool
+is_rank n = nat_lt n 9
+
 -- ---- expressions
 
 -- a literal of a tree: from 0 to 2^31 - 1
@@ -310,14 +324,23 @@ module _ (fields : ℕ → Option Kind) where
   is_call scope root None args = false
   is_call scope root (Some callee) args = are_for scope callee.procedure.params args && share_nothing_written callee.writes root callee.procedure.params args
 
+  -- ---- parameters
+
+  abbrev pub is_param_kind : ℕ → Scope → ParamKind → Bool
+  is_param_kind memories scope (ControlParam kind) = true
+  is_param_kind memories scope (TensorParam cell dims memory) = are_controls plainly scope dims && (is_rank (length dims) && nat_lt memory memories)
+  is_param_kind memories scope (WindowParam cell dims memory) = are_controls plainly scope dims && ((is_rank (length dims) && nat_lt 0 (length dims)) && nat_lt memory memories)
+
+  -- the dimensions of a parameter see the parameters before it
+  abbrev pub are_params : ℕ → Scope → List Param → Bool
+  are_params memories scope [] = true
+  are_params memories scope (p ∷ ps) = is_new scope p.binder && (is_param_kind memories scope p.kind && are_params memories (with_name scope p.binder (param_sort p.kind)) ps)
+
   -- ---- statements
 
   abbrev pub is_write : Scope → Option Kind → Argument → Bool
   is_write scope None a = false
   is_write scope (Some kind) a = is_of_kind with_strides scope kind a
-
-  abbrev pub is_rank : ℕ → Bool
-  is_rank n = nat_lt n 9
 
   -- a view of that rank; of what is no buffer there is none
   abbrev pub view_sort : Option Sort → ℕ → Sort
@@ -360,30 +383,9 @@ module _ (fields : ℕ → Option Kind) where
       is_statement scope root (View w x coords) = is_new scope w && (is_window scope x coords && nat_lt 0 (spans coords))
       is_statement scope root (Call k args) = is_call scope root (callees k) args
 
-    -- ---- procedures
-
-    abbrev pub param_sort : ParamKind → Sort
-    param_sort (ControlParam kind) = ControlName kind
-    param_sort (TensorParam cell dims memory) = BufferName cell (length dims) true
-    param_sort (WindowParam cell dims memory) = BufferName cell (length dims) false
-
-    abbrev pub is_param_kind : Scope → ParamKind → Bool
-    is_param_kind scope (ControlParam kind) = true
-    is_param_kind scope (TensorParam cell dims memory) = are_controls plainly scope dims && (is_rank (length dims) && nat_lt memory memories)
-    is_param_kind scope (WindowParam cell dims memory) = are_controls plainly scope dims && ((is_rank (length dims) && nat_lt 0 (length dims)) && nat_lt memory memories)
-
-    -- the dimensions of a parameter see the parameters before it
-    abbrev pub are_params : Scope → List Param → Bool
-    are_params scope [] = true
-    are_params scope (p ∷ ps) = is_new scope p.binder && (is_param_kind scope p.kind && are_params (with_name scope p.binder (param_sort p.kind)) ps)
-
-    abbrev pub scope_of : Scope → List Param → Scope
-    scope_of scope [] = scope
-    scope_of scope (p ∷ ps) = scope_of (with_name scope p.binder (param_sort p.kind)) ps
-
     -- its names and kinds are right, each id is below 2^31 and bound once, and no path is longer than 32
     pub record IsProcedure (p : Procedure) : Type 0 where
-      pub params : are_params [] p.params ≡ true
+      pub params : are_params memories [] p.params ≡ true
       pub asserts : list_all (is_condition with_both (scope_of [] p.params)) p.asserts ≡ true
       pub body : is_block (scope_of [] p.params) (λ x. x) p.body ≡ true
       pub filled : (not (is_empty p.body) && is_short p.body) ≡ true
