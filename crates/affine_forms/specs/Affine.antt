@@ -39,3 +39,11 @@ pub record IsRationalPoint (s : Constraints) (denominator : ℕ) (numerators : L
   pub one_each : length numerators ≡ s.variables
   pub equations_hold : AllByRecursion (λ e. value_over (pos denominator) e numerators ≡ pos 0) s.equations
   pub rows_hold : AllByRecursion (λ r. pos 0 ≤ℤ value_over (pos denominator) r numerators) s.rows
+
+-- no integers meet the equations and the rows
+abbrev pub HasNoIntegerPoint : Constraints → Type 0
+HasNoIntegerPoint s = (point : List ℤ) → IsIntegerPoint s point → ⊥
+
+-- some rational numbers meet the equations and the rows
+abbrev pub HasRationalPoint : Constraints → Type 0
+HasRationalPoint s = (denominator : ℕ) × (numerators : List ℤ) × IsRationalPoint s denominator numerators

@@ -5,7 +5,7 @@ use Rattle.affine_forms.specs.declared.system.Term.{Term}
 use Rattle.affine_forms.specs.declared.system.Row.{Row}
 use Rattle.affine_forms.specs.declared.system.System.{System}
 
--- the coefficient of a variable: 0 where no term names it
+-- the coefficient of a variable: that of the term that names it, and 0 where none does
 abbrev pub coefficient_of : List Term → ℕ → ℤ
 coefficient_of [] v = pos 0
 coefficient_of (t ∷ ts) v = if t.variable == v then t.coefficient else coefficient_of ts v

@@ -41,6 +41,10 @@ pub struct Row {
 }
 
 impl Row {
+    ghost use Rattle.std.specs.Prelude.{IsTrue, map, ◌≡◌};
+    ghost use Rattle.affine_forms.specs.Bounds.{is_narrow, is_increasing};
+    ghost use Rattle.affine_forms.specs.System.{coefficient_of};
+
     /// The row of terms, in the order of their variables, and a constant.
     pub fn new(terms: Vec<Term>, constant: i128) -> Row
         requires increasing { IsTrue (is_increasing (map (λ t. t.variable) terms.items)) }
@@ -49,6 +53,18 @@ impl Row {
         ensures constant { result.constant ≡ constant }
     {
         Row { terms, constant }
+    }
+
+    /// The coefficient of a variable: 0 where no term names it.
+    pub fn coefficient(&self, variable: u32) -> i128
+        ensures { result ≡ coefficient_of self.now.terms.items variable }
+    {
+        for term in &self.terms {
+            if term.variable == variable {
+                return term.coefficient;
+            }
+        }
+        0
     }
 }
 

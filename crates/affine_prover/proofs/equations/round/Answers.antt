@@ -1,0 +1,25 @@
+use Rattle.std.proofs.Common.{◌≡◌, sym, ap, ◌∙◌, Some, None}
+use Rattle.std.specs.Option.{option_map}
+use Rattle.std.specs.List.{position, find}
+use Rattle.affine_prover.specs.Elimination.{has_unit, reduced, round_of}
+use Rattle.affine_prover.proofs.Rounds.{round-none, round-some, round-unsolved, reduced-wide, not_found}
+use Rattle.affine_prover.proofs.equations.round.Goals as goal
+
+pub put_in-requires-clause-wide_equations : goal.put_in-requires-clause-wide_equations
+put_in-requires-clause-wide_equations c =
+    let is : Some c.in-Some.es.items ≡ reduced c.args.equations.items = sym (ap (option_map (λ v. v.items)) c.in-Some.is) ∙ c.in_ok-reduce.ensures in
+    reduced-wide c.args.n c.args.equations.items c.in-Some.es.items c.requires.wide_equations is
+
+pub returns-in-None : goal.returns-in-None
+returns-in-None c = round-none c.args.equations.items c.args.rows.items (sym (ap (option_map (λ v. v.items)) c.in-None.is) ∙ c.in_ok-reduce.ensures)
+
+pub returns-in_ok-all-in-None-solvable : goal.returns-in_ok-all-in-None-solvable
+returns-in_ok-all-in-None-solvable c =
+    let is : Some c.in-Some.es.items ≡ reduced c.args.equations.items = sym (ap (option_map (λ v. v.items)) c.in-Some.is) ∙ c.in_ok-reduce.ensures in
+    let none : None ≡ position has_unit c.in-Some.es.items = c.in-None-solvable.ensures ∙ ap (position has_unit) c.deref.ensures.value in
+    round-unsolved c.args.equations.items c.args.rows.items c.in-Some.es.items c.in_ok-all-in-None-solvable.all.items is (not_found has_unit c.in-Some.es.items none) c.in_ok-all-in-None-solvable.ensures
+
+pub returns-in_ok-turn-in-Some-solvable : goal.returns-in_ok-turn-in-Some-solvable
+returns-in_ok-turn-in-Some-solvable c =
+    let is : Some c.in-Some.es.items ≡ reduced c.args.equations.items = sym (ap (option_map (λ v. v.items)) c.in-Some.is) ∙ c.in_ok-reduce.ensures in
+    c.in_ok-turn-in-Some-solvable.ensures ∙ ap (λ rs. round_of c.in-Some.es.items rs (find has_unit c.in-Some.es.items)) c.deref-in-Some-solvable.ensures.value ∙ round-some c.args.equations.items c.args.rows.items c.in-Some.es.items is

@@ -1,0 +1,17 @@
+-- What the code's steps say, as stages of the elimination.
+use Rattle.affine_prover.specs.declared.eliminate.Step.{Step}
+use Rattle.affine_prover.specs.declared.eliminate.Step.TheVariants as step
+use Rattle.affine_prover.specs.declared.equations.Turn.{Turn}
+use Rattle.affine_prover.specs.declared.equations.Turn.TheVariants as turn
+use Rattle.affine_prover.specs.Elimination.{Stage, Round}
+use Rattle.affine_prover.specs.Elimination.Round.{Finished, Solved, Unsolved}
+use Rattle.affine_prover.specs.Elimination.Stage.{Ended, Rows}
+
+abbrev pub stage_of_step : Step → Stage
+stage_of_step (step.Ended v) = Ended v
+stage_of_step (step.Rows rows) = Rows rows.items
+
+abbrev pub round_of_turn : Turn → Round
+round_of_turn (turn.Finished v) = Finished v
+round_of_turn (turn.Solved es rows) = Solved es.items rows.items
+round_of_turn (turn.Unsolved rows) = Unsolved rows.items

@@ -1,0 +1,38 @@
+//! Rows tightened and merged.
+ghost use Rattle.std.specs.Prelude.{◌≡◌, IfOk};
+ghost use Rattle.std.specs.Option.{option_map};
+ghost use Rattle.affine_prover.specs.Elimination.{joined, normalized};
+
+use crate::row::DenseRow;
+use std::alloc::{AllocError, Global};
+
+/// Adds a row: it joins the row of the same coefficients, or stands at the end.
+fn join(kept: &mut Vec<DenseRow>, row: DenseRow) -> Result<(), AllocError>
+    ensures { IfOk result (λ _. kept.new.items ≡ joined kept.old.items row) }
+{
+    for i in 0..kept.len() {
+        if kept[i].is_like(&row) {
+            let k = &mut kept[i];
+            k.lower_to(&row);
+            return Ok(());
+        }
+    }
+    kept.push(row)?;
+    Ok(())
+}
+
+/// The rows tightened and merged, or `None` where one of them cannot hold.
+pub fn normalize(alloc: Global, rows: Vec<DenseRow>) -> Result<Option<Vec<DenseRow>>, AllocError>
+    ensures { IfOk result (λ r. option_map (λ v. v.items) r ≡ normalized rows.items) }
+{
+    let mut kept = Vec::new(alloc);
+    for mut row in rows {
+        row.tighten();
+        if !row.is_constant() {
+            join(&mut kept, row)?;
+        } else if row.constant() < 0 {
+            return Ok(None);
+        }
+    }
+    Ok(Some(kept))
+}
