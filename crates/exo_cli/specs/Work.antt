@@ -97,7 +97,7 @@ pub record Ends (words : List (List ℕ)) (before after : Moment) (status : Stat
   pub write_fault : status ≡ WriteFault → (bytes : List ℕ) × (
       (OutFails before after bytes × IfSome before.told (λ files. bytes ≡ for_out (answer words files)))
       ⊎ (ErrFails before after bytes × (IsReadFault (operands words) before.faults after.faults after.last_fault bytes
-        ⊎ IfSome before.told (λ files. bytes ≡ for_err (answer words files)))))
+      ⊎ IfSome before.told (λ files. bytes ≡ for_err (answer words files)))))
   -- else the status and all bytes are those of the answer
   pub told : status ≢ Memory → status ≢ ReadFault → status ≢ WriteFault → IfSome before.told (λ files.
       (status ≡ status_of (answer words files))

@@ -8,7 +8,10 @@ use std::alloc::{AllocError, Global};
 pub(crate) fn usage(alloc: Global) -> Result<String, AllocError>
     ensures { IfOk result (λ text. string_bytes text ≡ usage) }
 {
-    String::from_str(alloc, "exoc: usage: exoc compile PROCS SCHEDULE | check PROCS | show PROCS SCHEDULE NAME | gen N\n")
+    String::from_str(
+        alloc,
+        "exoc: usage: exoc compile PROCS SCHEDULE | check PROCS | show PROCS SCHEDULE NAME | gen N\n",
+    )
 }
 
 /// The file of this name was not read.
@@ -26,7 +29,13 @@ pub(crate) fn file_refused(alloc: Global, name: &str, why: &str) -> Result<Strin
 }
 
 /// A line of a schedule is refused: its number, its operator and why.
-pub(crate) fn line_refused(alloc: Global, name: &str, number: u32, operator: &str, why: &str) -> Result<String, AllocError>
+pub(crate) fn line_refused(
+    alloc: Global,
+    name: &str,
+    number: u32,
+    operator: &str,
+    why: &str,
+) -> Result<String, AllocError>
     ensures { IfOk result (λ text. string_bytes text ≡ line_refused name.now number operator.now why.now) }
 {
     format!(in alloc; "exoc: {name}:{number}: {operator} {why}\n")

@@ -32,9 +32,18 @@ impl Reply {
     {
         match self {
             Reply::Accepted(text) => status_after(write_all(out, text.as_bytes()), Status::Ok),
-            Reply::Rejected(message) => status_after(write_all(err, message.as_bytes()), Status::Refused),
-            Reply::Unread(message) => status_after(write_all(err, message.as_bytes()), Status::ReadFault),
-            Reply::Misused(message) => status_after(write_all(err, message.as_bytes()), Status::Usage),
+            Reply::Rejected(message) => status_after(
+                write_all(err, message.as_bytes()),
+                Status::Refused,
+            ),
+            Reply::Unread(message) => status_after(
+                write_all(err, message.as_bytes()),
+                Status::ReadFault,
+            ),
+            Reply::Misused(message) => status_after(
+                write_all(err, message.as_bytes()),
+                Status::Usage,
+            ),
         }
     }
 }

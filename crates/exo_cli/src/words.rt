@@ -16,8 +16,9 @@ pub(crate) fn read_command(words: &[String]) -> Option<Command<'_>>
 {
     match words {
         [_, word, procs, schedule]
-            if word.as_str() == "compile" && is_operand(procs.as_str()) && is_operand(schedule.as_str()) =>
-        {
+            if word.as_str() == "compile"
+                && is_operand(procs.as_str())
+                && is_operand(schedule.as_str()) => {
             Some(Command::Compile(procs.as_str(), schedule.as_str()))
         }
         _ => None,

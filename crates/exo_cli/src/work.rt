@@ -1,5 +1,5 @@
 // The order of the work: the words, the files, what their texts give, and then what is written.
-ghost use Rattle.std.specs.Prelude.{◌≡◌, ◌≤◌, IfOk, MatchResult, vec_len};
+ghost use Rattle.std.specs.Prelude.{◌≡◌, ◌≤◌, IfOk, MatchResult, length};
 ghost use Rattle.exo_cli.specs.Outside.{HasBytes};
 ghost use Rattle.exo_cli.specs.Words.{Compile, texts};
 ghost use Rattle.exo_cli.specs.Replies.{plain};
@@ -28,10 +28,24 @@ pub fn exoc<R: Threads + Sync, F: Files, O: Sink, E: Sink>(
     err: &mut E,
 ) -> Status
     ensures { Ends (texts words.now)
-        (record { told = F.told files.old; faults = F.faults files.old; last_fault = F.last_fault files.old;
-            out = O.taken out.old; out_faults = O.faults out.old; err = E.taken err.old; err_faults = E.faults err.old })
-        (record { told = F.told files.new; faults = F.faults files.new; last_fault = F.last_fault files.new;
-            out = O.taken out.new; out_faults = O.faults out.new; err = E.taken err.new; err_faults = E.faults err.new })
+        (record {
+          told = F.told files.old;
+          faults = F.faults files.old;
+          last_fault = F.last_fault files.old;
+          out = O.taken out.old;
+          out_faults = O.faults out.old;
+          err = E.taken err.old;
+          err_faults = E.faults err.old;
+        })
+        (record {
+          told = F.told files.new;
+          faults = F.faults files.new;
+          last_fault = F.last_fault files.new;
+          out = O.taken out.new;
+          out_faults = O.faults out.new;
+          err = E.taken err.new;
+          err_faults = E.faults err.new;
+        })
         result }
 {
     match reply_to(alloc, words, files) {
@@ -52,7 +66,12 @@ fn reply_to<F: Files>(alloc: Global, words: &[String], files: &mut F) -> Result<
 }
 
 /// What is replied to the command to compile these files.
-fn compile_files<F: Files>(alloc: Global, procs: &str, schedule: &str, files: &mut F) -> Result<Reply, AllocError>
+fn compile_files<F: Files>(
+    alloc: Global,
+    procs: &str,
+    schedule: &str,
+    files: &mut F,
+) -> Result<Reply, AllocError>
     ensures { IfOk result (λ reply. IsAnswerTo (Compile procs.now schedule.now) (F.told files.old) (F.faults files.old)
         (F.faults files.new) (F.last_fault files.new) (plain reply)) }
 {
@@ -68,9 +87,13 @@ fn compile_files<F: Files>(alloc: Global, procs: &str, schedule: &str, files: &m
 }
 
 /// The bytes of the file, or the reply with which the work ends there.
-fn read_text<F: Files>(alloc: Global, files: &mut F, name: &str) -> Result<Result<Vec<u8>, Reply>, AllocError>
+fn read_text<F: Files>(
+    alloc: Global,
+    files: &mut F,
+    name: &str,
+) -> Result<Result<Vec<u8>, Reply>, AllocError>
     ensures read { IfOk result (λ read. MatchResult read
-        (λ text. HasBytes (F.told files.old) name.now text.items × (vec_len text ≤ file_limit))
+        (λ text. HasBytes (F.told files.old) name.now text.items × (length text.items ≤ file_limit))
         (λ reply. EndsAt (F.told files.old) (F.faults files.old) (F.faults files.new) (F.last_fault files.new) name.now (plain reply))) }
     ensures same { F.told files.new ≡ F.told files.old }
     ensures count { F.faults files.old ≤ F.faults files.new }
