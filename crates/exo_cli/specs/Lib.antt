@@ -1,3 +1,10 @@
 pub mod Outside
 pub mod Statuses
 pub mod Memory
+pub mod Messages
+pub mod Words
+pub mod Asked
+pub mod Answer
+pub mod Compiled
+pub mod Replies
+pub mod Work

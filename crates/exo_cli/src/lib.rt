@@ -2,13 +2,20 @@
 //! what it writes.
 #![tactic(auto)]
 
+mod compile;
 mod count;
 mod disk;
 mod memory;
+mod messages;
 mod outside;
+mod reply;
 mod status;
+mod words;
+mod work;
 
 pub use disk::{DiskFiles, StdSink};
 pub use memory::{MemFiles, MemSink};
 pub use outside::{Failed, FileFault, Files, Sink, write_all};
+pub use reply::Reply;
 pub use status::Status;
+pub use work::exoc;

@@ -1,0 +1,213 @@
+-- How the program ends follows from its reply and from how that was delivered.
+use Rattle.std.proofs.Common.{◌≡◌, ◌≢◌, ℕ, ◌<◌, ◌≤◌, List, [], ◌∷◌, length, Option, Some, None, refl, ap, sym, ◌∙◌, arith, rules, ◌⊎◌, inl, inr, cond, Bool, true, false, nat_lt, codes, Contains, IfSome, IsNone, MatchOption}
+use Rattle.std.specs.Option.{option_map_or}
+use Rattle.exo_cli.specs.declared.status.Status.{Status}
+use Rattle.exo_cli.specs.declared.status.Status.TheVariants.{Ok, Refused, Usage, ReadFault, WriteFault, Memory}
+use Rattle.exo_cli.specs.Outside.{Folder, content_of, HasBytes, IsLonger, Rose, with_more, StopsWithin}
+use Rattle.exo_cli.specs.Messages.{usage, cannot_read, file_refused}
+use Rattle.exo_cli.specs.Words.{Command, Compile, command_of, files_of}
+use Rattle.exo_cli.specs.Answer.{Answer, Accepted, Rejected, Unread, Misused, status_of, for_out, for_err}
+use Rattle.exo_cli.specs.Work.{file_limit, opened, answer_to, answer, operands, IsReadFault, IsAnswerTo, IsAnswer, EndsAt, Moment, OutFails, ErrFails, Ends}
+use Rattle.exo_cli.proofs.Taking.{with_more-nothing}
+
+-- a file that is told and short enough is handed on
+pub opened-within : (held : Option (List ℕ)) (name bytes : List ℕ) (next : List ℕ → Answer)
+    → held ≡ Some bytes → length bytes ≤ file_limit → opened held name next ≡ next bytes
+opened-within held name bytes next e h = rw e (grind arith)
+
+-- a longer one is refused
+pub opened-longer : (held : Option (List ℕ)) (name bytes : List ℕ) (next : List ℕ → Answer)
+    → held ≡ Some bytes → file_limit < length bytes → opened held name next ≡ Rejected (file_refused name (codes "FileTooLong"))
+opened-longer held name bytes next e h = rw e (grind arith)
+
+-- the work ends at the second file
+pub second-ends : (told : Option Folder) (procs schedule unit : List ℕ) (before mid after : ℕ) (last : Option (List ℕ)) (reply : Answer)
+    → HasBytes told procs unit → length unit ≤ file_limit → before ≤ mid → EndsAt told mid after last schedule reply
+    → IsAnswerTo (Compile procs schedule) told before after last reply
+second-ends told procs schedule unit before mid after last (Accepted text) held short grew ends = absurd ends
+second-ends None procs schedule unit before mid after last (Rejected message) held short grew ends = tt
+second-ends (Some files) procs schedule unit before mid after last (Rejected message) held short grew ends =
+    opened-within _ _ _ _ held short ∙ opened-longer _ _ _ _ ends.0.1 ends.0.2 ∙ ap Rejected (sym ends.1)
+second-ends told procs schedule unit before mid after last (Unread message) held short grew ends = record {
+  rose = omega (arith, ends.0);
+  name = schedule;
+  last_fault = ends.1;
+  operand = (1, omega arith, refl);
+  names_it = ends.2;
+}
+second-ends told procs schedule unit before mid after last (Misused message) held short grew ends = absurd ends
+
+-- the words are no command
+pub misused : (asked : Option Command) (told : Option Folder) (before after : ℕ) (last : Option (List ℕ)) (message : List ℕ)
+    → MatchOption asked (Misused message ≡ Misused usage) (λ command. IsAnswerTo command told before after last (Misused message))
+    → IsNone asked × (message ≡ usage)
+misused None told before after last message e = (refl, cc)
+misused (Some command) told before after last message h = absurd h
+
+-- a file of the command could not be read
+pub unread : (asked : Option Command) (told : Option Folder) (before after : ℕ) (last : Option (List ℕ)) (message : List ℕ)
+    → MatchOption asked (Unread message ≡ Misused usage) (λ command. IsAnswerTo command told before after last (Unread message))
+    → IsReadFault (option_map_or files_of asked []) before after last message
+unread None told before after last message e = absurd cc
+unread (Some command) told before after last message h = h
+
+-- no command: the reply says so
+pub no-command : (asked : Option Command) (told : Option Folder) (before after : ℕ) (last : Option (List ℕ)) (reply : Answer)
+    → MatchOption asked (reply ≡ Misused usage) (λ command. IsAnswerTo command told before after last reply)
+    → IsNone asked → reply ≡ Misused usage
+no-command None told before after last reply e none = e
+no-command (Some command) told before after last reply h none = absurd cc
+
+-- the reply is a message that a file could not be read
+abbrev pub IsUnread : Answer → Type 0
+IsUnread (Unread message) = Unit {0}
+IsUnread other = ⊥
+
+-- else the reply is the answer to what the files tell
+pub told-answer : (asked : Option Command) (told : Option Folder) (before after : ℕ) (last : Option (List ℕ)) (reply : Answer)
+    → MatchOption asked (reply ≡ Misused usage) (λ command. IsAnswerTo command told before after last reply)
+    → (IsUnread reply → ⊥)
+    → IfSome told (λ files. option_map_or (λ command. answer_to command files) asked (Misused usage) ≡ reply)
+told-answer asked None before after last reply h read = tt
+told-answer None (Some files) before after last reply e read = sym e
+told-answer (Some command) (Some files) before after last (Accepted text) h read = h
+told-answer (Some command) (Some files) before after last (Rejected message) h read = h
+told-answer (Some command) (Some files) before after last (Unread message) h read = absurd (read tt)
+told-answer (Some command) (Some files) before after last (Misused message) h read = absurd h
+
+-- what follows from each fact on the files that are told
+pub if-told : (told : Option Folder) (P Q : Folder → Type 0) → ((files : Folder) → P files → Q files) → IfSome told P → IfSome told Q
+if-told None P Q step h = tt
+if-told (Some files) P Q step h = step files h
+
+-- what is known once a reply was delivered
+pub record IsDelivered (before after : Moment) (reply : Answer) (status : Status) : Type 0 where
+  pub ended : status ≢ WriteFault → status ≡ status_of reply
+  pub out : status ≢ WriteFault → after.out ≡ with_more before.out (for_out reply)
+  pub err : status ≢ WriteFault → after.err ≡ with_more before.err (for_err reply)
+  pub fault : status ≡ WriteFault →
+      (Rose before.out_faults after.out_faults × StopsWithin before.out after.out (for_out reply) × (after.err ≡ before.err))
+      ⊎ (Rose before.err_faults after.err_faults × StopsWithin before.err after.err (for_err reply) × (after.out ≡ before.out))
+
+-- a sink can fail at some bytes alone
+some-bytes : (old new : Option (List ℕ)) (reply : Answer) → StopsWithin old new (for_out reply) → IsUnread reply → ⊥
+some-bytes old new (Unread message) stops u = omega (arith, stops.proper)
+some-bytes old new (Accepted text) stops u = u
+some-bytes old new (Rejected message) stops u = u
+some-bytes old new (Misused message) stops u = u
+
+quiet : (before after : Moment) (reply : Answer) (status : Status) → IsDelivered before after reply status
+    → status ≢ Ok → status ≢ WriteFault → after.out ≡ before.out
+quiet before after (Accepted text) status d not_ok not_fault = absurd (not_ok (d.ended not_fault))
+quiet before after (Rejected message) status d not_ok not_fault = d.out not_fault ∙ with_more-nothing before.out
+quiet before after (Unread message) status d not_ok not_fault = d.out not_fault ∙ with_more-nothing before.out
+quiet before after (Misused message) status d not_ok not_fault = d.out not_fault ∙ with_more-nothing before.out
+
+-- no reply stands for want of memory or for a fault of a sink
+not-memory : (reply : Answer) → status_of reply ≡ Memory → ⊥
+not-memory (Accepted text) e = cc
+not-memory (Rejected message) e = cc
+not-memory (Unread message) e = cc
+not-memory (Misused message) e = cc
+
+usage-ends : (words : List (List ℕ)) (before after : Moment) (reply : Answer) (status : Status)
+    → IsAnswer words before.told before.faults after.faults after.last_fault reply → IsDelivered before after reply status
+    → status ≡ Usage → IsNone (command_of words) × (after.err ≡ with_more before.err usage)
+usage-ends words before after (Accepted text) status h d e = let w : status ≢ WriteFault = λ f. cc in absurd (let k = d.ended w in cc)
+usage-ends words before after (Rejected message) status h d e = let w : status ≢ WriteFault = λ f. cc in absurd (let k = d.ended w in cc)
+usage-ends words before after (Unread message) status h d e = let w : status ≢ WriteFault = λ f. cc in absurd (let k = d.ended w in cc)
+usage-ends words before after (Misused message) status h d e =
+    let w : status ≢ WriteFault = λ f. cc in
+    let m = misused (command_of words) before.told before.faults after.faults after.last_fault message h in
+    (m.0, d.err w ∙ ap (with_more before.err) m.1)
+
+read-ends : (words : List (List ℕ)) (before after : Moment) (reply : Answer) (status : Status)
+    → IsAnswer words before.told before.faults after.faults after.last_fault reply → IsDelivered before after reply status
+    → status ≡ ReadFault → (message : List ℕ) × IsReadFault (operands words) before.faults after.faults after.last_fault message
+    × (after.err ≡ with_more before.err message)
+read-ends words before after (Accepted text) status h d e = let w : status ≢ WriteFault = λ f. cc in absurd (let k = d.ended w in cc)
+read-ends words before after (Rejected message) status h d e = let w : status ≢ WriteFault = λ f. cc in absurd (let k = d.ended w in cc)
+read-ends words before after (Misused message) status h d e = let w : status ≢ WriteFault = λ f. cc in absurd (let k = d.ended w in cc)
+read-ends words before after (Unread message) status h d e =
+    let w : status ≢ WriteFault = λ f. cc in
+    (message, unread (command_of words) before.told before.faults after.faults after.last_fault message h, d.err w)
+
+-- the words are no command
+none-ends : (words : List (List ℕ)) (before after : Moment) (reply : Answer) (status : Status)
+    → IsAnswer words before.told before.faults after.faults after.last_fault reply → IsDelivered before after reply status
+    → IsNone (command_of words) → (status ≡ Usage) ⊎ ((status ≡ WriteFault) ⊎ (status ≡ Memory))
+none-ends words before after reply Usage h d none = inl refl
+none-ends words before after reply WriteFault h d none = inr (inl refl)
+none-ends words before after reply Memory h d none = inr (inr refl)
+none-ends words before after reply status h d none =
+    let w : status ≢ WriteFault = λ f. cc in
+    inl (d.ended w ∙ ap status_of (no-command (command_of words) before.told before.faults after.faults after.last_fault reply h none))
+
+told-ends : (words : List (List ℕ)) (before after : Moment) (reply : Answer) (status : Status)
+    → IsAnswer words before.told before.faults after.faults after.last_fault reply → IsDelivered before after reply status
+    → status ≢ ReadFault → status ≢ WriteFault → IfSome before.told (λ files. (status ≡ status_of (answer words files))
+    × (after.out ≡ with_more before.out (for_out (answer words files)))
+    × (after.err ≡ with_more before.err (for_err (answer words files))))
+told-ends words before after reply status h d not_read not_fault =
+    if-told before.told _ _ (λ files e. (
+      d.ended not_fault ∙ ap status_of (sym e),
+      d.out not_fault ∙ ap (λ r. with_more before.out (for_out r)) (sym e),
+      d.err not_fault ∙ ap (λ r. with_more before.err (for_err r)) (sym e),
+    ))
+    (told-answer (command_of words) before.told before.faults after.faults after.last_fault reply h (still-read reply status (d.ended not_fault) not_read))
+  where
+    still-read : (reply : Answer) (status : Status) → status ≡ status_of reply → status ≢ ReadFault → IsUnread reply → ⊥
+    still-read (Unread message) status e n u = n e
+    still-read (Accepted text) status e n u = u
+    still-read (Rejected message) status e n u = u
+    still-read (Misused message) status e n u = u
+
+-- the standard output failed
+out-ends : (words : List (List ℕ)) (before after : Moment) (reply : Answer)
+    → IsAnswer words before.told before.faults after.faults after.last_fault reply
+    → Rose before.out_faults after.out_faults × StopsWithin before.out after.out (for_out reply) × (after.err ≡ before.err)
+    → OutFails before after (for_out reply) × IfSome before.told (λ files. for_out reply ≡ for_out (answer words files))
+out-ends words before after reply h f = (
+  record { rose = f.0; part = f.1; other = f.2 },
+  if-told before.told _ _ (λ files e. ap for_out (sym e))
+      (told-answer (command_of words) before.told before.faults after.faults after.last_fault reply h (some-bytes _ _ reply f.1)),
+)
+
+-- the standard error failed
+err-ends : (words : List (List ℕ)) (before after : Moment) (reply : Answer)
+    → IsAnswer words before.told before.faults after.faults after.last_fault reply
+    → IsReadFault (operands words) before.faults after.faults after.last_fault (for_err reply)
+    ⊎ IfSome before.told (λ files. for_err reply ≡ for_err (answer words files))
+err-ends words before after (Unread message) h = inl (unread (command_of words) before.told before.faults after.faults after.last_fault message h)
+err-ends words before after (Accepted text) h =
+    inr (if-told before.told _ _ (λ files e. ap for_err (sym e)) (told-answer (command_of words) before.told before.faults after.faults after.last_fault (Accepted text) h (λ u. u)))
+err-ends words before after (Rejected message) h =
+    inr (if-told before.told _ _ (λ files e. ap for_err (sym e)) (told-answer (command_of words) before.told before.faults after.faults after.last_fault (Rejected message) h (λ u. u)))
+err-ends words before after (Misused message) h =
+    inr (if-told before.told _ _ (λ files e. ap for_err (sym e)) (told-answer (command_of words) before.told before.faults after.faults after.last_fault (Misused message) h (λ u. u)))
+
+fault-ends : (words : List (List ℕ)) (before after : Moment) (reply : Answer)
+    → IsAnswer words before.told before.faults after.faults after.last_fault reply
+    → (Rose before.out_faults after.out_faults × StopsWithin before.out after.out (for_out reply) × (after.err ≡ before.err))
+    ⊎ (Rose before.err_faults after.err_faults × StopsWithin before.err after.err (for_err reply) × (after.out ≡ before.out))
+    → (bytes : List ℕ) × (
+    (OutFails before after bytes × IfSome before.told (λ files. bytes ≡ for_out (answer words files)))
+    ⊎ (ErrFails before after bytes × (IsReadFault (operands words) before.faults after.faults after.last_fault bytes
+    ⊎ IfSome before.told (λ files. bytes ≡ for_err (answer words files)))))
+fault-ends words before after reply h (inl f) = (for_out reply, inl (out-ends words before after reply h f))
+fault-ends words before after reply h (inr f) =
+    (for_err reply, inr (record { rose = f.0; part = f.1; other = f.2 }, err-ends words before after reply h))
+
+-- the program ends as it says where its reply is the answer and was delivered
+pub ends : (words : List (List ℕ)) (before after : Moment) (reply : Answer) (status : Status)
+    → IsAnswer words before.told before.faults after.faults after.last_fault reply → IsDelivered before after reply status
+    → Ends words before after status
+ends words before after reply status h d = record {
+  quiet = quiet before after reply status d;
+  memory = λ e. absurd (not-memory reply (sym (d.ended (λ f. cc)) ∙ e));
+  usage = usage-ends words before after reply status h d;
+  no_command = none-ends words before after reply status h d;
+  read_fault = read-ends words before after reply status h d;
+  write_fault = λ e. fault-ends words before after reply h (d.fault e);
+  told = λ not_memory not_read not_fault. told-ends words before after reply status h d not_read not_fault;
+}

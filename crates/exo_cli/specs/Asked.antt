@@ -1,0 +1,7 @@
+-- The program's commands as plain ones.
+use Rattle.exo_cli.specs.declared.words.Command.{Command}
+use Rattle.exo_cli.specs.declared.words.Command.TheVariants.{Compile}
+use Rattle.exo_cli.specs.Words as plainly
+
+abbrev pub plain : Command → plainly.Command
+plain (Compile procs schedule) = plainly.Compile procs.now schedule.now

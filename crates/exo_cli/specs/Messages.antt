@@ -1,0 +1,28 @@
+-- The messages of the program, each a line.
+use Rattle.std.specs.Prelude.{ℕ, List, [], ◌∷◌, ◌++◌, codes}
+use Rattle.std.specs.Fmt.{decimal}
+
+-- the pieces, one after the other, and the end of the line
+abbrev pub ended : List (List ℕ) → List ℕ
+ended [] = 10 ∷ []
+ended (piece ∷ pieces) = piece ++ ended pieces
+
+-- a line that begins with the program's name
+abbrev pub line : List (List ℕ) → List ℕ
+line pieces = codes "exoc: " ++ ended pieces
+
+-- how the program is called
+abbrev pub usage : List ℕ
+usage = line (codes "usage: exoc compile PROCS SCHEDULE | check PROCS | show PROCS SCHEDULE NAME | gen N" ∷ [])
+
+-- the file of this name was not read
+abbrev pub cannot_read : List ℕ → List ℕ
+cannot_read name = line (codes "cannot read " ∷ name ∷ [])
+
+-- the file of this name is refused as a whole
+abbrev pub file_refused : List ℕ → List ℕ → List ℕ
+file_refused name why = line (name ∷ codes ": " ∷ why ∷ [])
+
+-- a line of a schedule is refused: its number, its operator and why
+abbrev pub line_refused : List ℕ → ℕ → List ℕ → List ℕ → List ℕ
+line_refused name number operator why = line (name ∷ codes ":" ∷ decimal number ∷ codes ": " ∷ operator ∷ codes " " ∷ why ∷ [])

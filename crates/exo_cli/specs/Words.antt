@@ -1,0 +1,28 @@
+-- The words of the command line, and which of them are commands.
+use Rattle.std.specs.Prelude.{ℕ, ◌==◌, Bool, true, false, ◌&&◌, not, List, [], ◌∷◌, map, string_bytes, Option, Some, None, if◌then◌else◌, codes}
+use Rattle.std.specs.Str.{bytes_eq}
+use Rattle.std.specs.declared.string.String.{String}
+use Rattle.std.specs.declared.alloc.Global.{Global}
+
+-- what the program is asked to do; its operands are names of files
+pub data Command : Type 0 where
+  Compile : List ℕ → List ℕ → Command
+
+-- the bytes of each word
+abbrev pub texts : List (String Global) → List (List ℕ)
+texts words = map string_bytes words
+
+-- a word can be an operand: it is not empty and does not begin with a hyphen
+abbrev pub is_operand : List ℕ → Bool
+is_operand [] = false
+is_operand (first ∷ rest) = not (first == 45)
+
+-- the command of the words, the first of which is the program's name
+abbrev pub command_of : List (List ℕ) → Option Command
+command_of (program ∷ word ∷ procs ∷ schedule ∷ []) =
+    if bytes_eq word (codes "compile") && is_operand procs && is_operand schedule then Some (Compile procs schedule) else None
+command_of words = None
+
+-- the files that a command reads, in order
+abbrev pub files_of : Command → List (List ℕ)
+files_of (Compile procs schedule) = procs ∷ schedule ∷ []

@@ -1,0 +1,42 @@
+// The messages of the program, each a line.
+ghost use Rattle.std.specs.Prelude.{◌≡◌, string_bytes, IfOk};
+ghost use Rattle.exo_cli.specs.Messages.{usage, cannot_read, file_refused, line_refused};
+
+use std::alloc::{AllocError, Global};
+
+/// How the program is called.
+pub(crate) fn usage(alloc: Global) -> Result<String, AllocError>
+    ensures { IfOk result (λ text. string_bytes text ≡ usage) }
+{
+    String::from_str(
+        alloc,
+        "exoc: usage: exoc compile PROCS SCHEDULE | check PROCS | show PROCS SCHEDULE NAME | gen N\n",
+    )
+}
+
+/// The file of this name was not read.
+pub(crate) fn cannot_read(alloc: Global, name: &str) -> Result<String, AllocError>
+    ensures { IfOk result (λ text. string_bytes text ≡ cannot_read name.now) }
+{
+    format!(in alloc; "exoc: cannot read {name}\n")
+}
+
+/// The file of this name is refused as a whole.
+pub(crate) fn file_refused(alloc: Global, name: &str, why: &str) -> Result<String, AllocError>
+    ensures { IfOk result (λ text. string_bytes text ≡ file_refused name.now why.now) }
+{
+    format!(in alloc; "exoc: {name}: {why}\n")
+}
+
+/// A line of a schedule is refused: its number, its operator and why.
+pub(crate) fn line_refused(
+    alloc: Global,
+    name: &str,
+    number: u32,
+    operator: &str,
+    why: &str,
+) -> Result<String, AllocError>
+    ensures { IfOk result (λ text. string_bytes text ≡ line_refused name.now number operator.now why.now) }
+{
+    format!(in alloc; "exoc: {name}:{number}: {operator} {why}\n")
+}

@@ -1,0 +1,114 @@
+// The order of the work: the words, the files, what their texts give, and then what is written.
+ghost use Rattle.std.specs.Prelude.{◌≡◌, ◌≤◌, IfOk, MatchResult, length};
+ghost use Rattle.exo_cli.specs.Outside.{HasBytes};
+ghost use Rattle.exo_cli.specs.Words.{Compile, texts};
+ghost use Rattle.exo_cli.specs.Replies.{plain};
+ghost use Rattle.exo_cli.specs.Work.{Ends, EndsAt, IsAnswer, IsAnswerTo, file_limit};
+
+use crate::compile::compile;
+use crate::messages;
+use crate::outside::{FileFault, Files, Sink};
+use crate::reply::Reply;
+use crate::status::Status;
+use crate::words::{Command, read_command};
+use std::alloc::{AllocError, Global};
+use std::thread::Threads;
+
+/// The most bytes that a file may have.
+const FILE_LIMIT: usize = 1 << 20;
+
+/// Does what the words ask, with `words[0]` the program's name: it reads the files that they name, puts the result
+/// to `out` or a message to `err`, and says how that ended. All is read and made before anything is written.
+pub fn exoc<R: Threads + Sync, F: Files, O: Sink, E: Sink>(
+    _rt: &R,
+    alloc: Global,
+    words: &[String],
+    files: &mut F,
+    out: &mut O,
+    err: &mut E,
+) -> Status
+    ensures { Ends (texts words.now)
+        (record {
+          told = F.told files.old;
+          faults = F.faults files.old;
+          last_fault = F.last_fault files.old;
+          out = O.taken out.old;
+          out_faults = O.faults out.old;
+          err = E.taken err.old;
+          err_faults = E.faults err.old;
+        })
+        (record {
+          told = F.told files.new;
+          faults = F.faults files.new;
+          last_fault = F.last_fault files.new;
+          out = O.taken out.new;
+          out_faults = O.faults out.new;
+          err = E.taken err.new;
+          err_faults = E.faults err.new;
+        })
+        result }
+{
+    match reply_to(alloc, words, files) {
+        Ok(reply) => reply.deliver(out, err),
+        Err(_) => Status::Memory,
+    }
+}
+
+/// What is replied to the words.
+fn reply_to<F: Files>(alloc: Global, words: &[String], files: &mut F) -> Result<Reply, AllocError>
+    ensures { IfOk result (λ reply. IsAnswer (texts words.now) (F.told files.old) (F.faults files.old) (F.faults files.new)
+        (F.last_fault files.new) (plain reply)) }
+{
+    match read_command(words) {
+        Some(Command::Compile(procs, schedule)) => compile_files(alloc, procs, schedule, files),
+        None => Ok(Reply::Misused(messages::usage(alloc)?)),
+    }
+}
+
+/// What is replied to the command to compile these files.
+fn compile_files<F: Files>(
+    alloc: Global,
+    procs: &str,
+    schedule: &str,
+    files: &mut F,
+) -> Result<Reply, AllocError>
+    ensures { IfOk result (λ reply. IsAnswerTo (Compile procs.now schedule.now) (F.told files.old) (F.faults files.old)
+        (F.faults files.new) (F.last_fault files.new) (plain reply)) }
+{
+    let unit = match read_text(alloc, files, procs)? {
+        Ok(text) => text,
+        Err(reply) => return Ok(reply),
+    };
+    let lines = match read_text(alloc, files, schedule)? {
+        Ok(text) => text,
+        Err(reply) => return Ok(reply),
+    };
+    compile(alloc, procs, &unit, schedule, &lines)
+}
+
+/// The bytes of the file, or the reply with which the work ends there.
+fn read_text<F: Files>(
+    alloc: Global,
+    files: &mut F,
+    name: &str,
+) -> Result<Result<Vec<u8>, Reply>, AllocError>
+    ensures read { IfOk result (λ read. MatchResult read
+        (λ text. HasBytes (F.told files.old) name.now text.items × (length text.items ≤ file_limit))
+        (λ reply. EndsAt (F.told files.old) (F.faults files.old) (F.faults files.new) (F.last_fault files.new) name.now (plain reply))) }
+    ensures same { F.told files.new ≡ F.told files.old }
+    ensures count { F.faults files.old ≤ F.faults files.new }
+{
+    let mut text = Vec::new(alloc);
+    match files.read_file(name, FILE_LIMIT, &mut text) {
+        Ok(()) => Ok(Ok(text)),
+        Err(FileFault::Memory) => Err(AllocError),
+        Err(FileFault::Failed) => {
+            let message = messages::cannot_read(alloc, name)?;
+            Ok(Err(Reply::Unread(message)))
+        }
+        Err(FileFault::TooLong) => {
+            let message = messages::file_refused(alloc, name, "FileTooLong")?;
+            Ok(Err(Reply::Rejected(message)))
+        }
+    }
+}
