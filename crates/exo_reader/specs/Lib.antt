@@ -1,1 +1,5 @@
 pub mod Token
+pub mod Fixed
+pub mod Expression
+pub mod Chain
+pub mod Views

@@ -1,5 +1,8 @@
 //! Reading unit texts: bytes to tokens and places, and tokens to source trees.
 #![tactic(auto)]
 
+pub mod expression;
+pub mod front;
+pub mod source;
 pub mod text;
 pub mod token;

@@ -1,0 +1,5 @@
+pub mod Signs
+pub mod Sizes
+pub mod Chains
+pub mod Atoms
+pub mod Returns

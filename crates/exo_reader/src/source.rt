@@ -1,0 +1,46 @@
+// Source trees: a text as it is written, without names resolved.
+
+use crate::text::Text;
+
+/// An operator between two expressions.
+#[derive(Clone, Copy, Debug, PartialEq, Eq)]
+pub enum Operator {
+    /// `or`
+    Or,
+    /// `and`
+    And,
+    /// `<`
+    Lt,
+    /// `<=`
+    Le,
+    /// `>`
+    Gt,
+    /// `>=`
+    Ge,
+    /// `==`
+    Eq,
+    /// `+`
+    Add,
+    /// `-`
+    Sub,
+    /// `*`
+    Mul,
+    /// `/`
+    Div,
+    /// `%`
+    Mod,
+}
+
+/// An expression as it is written.
+#[derive(Drop)]
+pub enum SourceExpr {
+    /// A literal, below 2^31.
+    Int(u32),
+    Name(Text),
+    /// A cell, `x[e]`.
+    Access(Text, Box<SourceExpr>),
+    Negative(Box<SourceExpr>),
+    /// An expression in parentheses.
+    Parens(Box<SourceExpr>),
+    Binary(Operator, Box<SourceExpr>, Box<SourceExpr>),
+}
