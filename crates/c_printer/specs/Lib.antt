@@ -1,0 +1,6 @@
+pub mod CTree
+pub mod Code
+pub mod Sizes
+pub mod Plain
+pub mod Falls
+pub mod CText

@@ -1,0 +1,36 @@
+-- How large control values can become.
+use Rattle.std.specs.Prelude.{ℕ, suc, ◌+◌, ◌-◌, ◌*◌, ◌/◌, ◌≤◌, ◌^◌, max, ℤ, pos, negsuc, List, [], ◌∷◌, unsigned_abs}
+use Rattle.exo_tree.specs.Tree.{Control, Lit, Var, Field, StrideOf, Neg, Add, Sub, Mul, Div, Mod}
+
+abbrev pub rounded_up : ℕ → ℕ → ℕ
+rounded_up m c = (m + (c - 1)) / c
+
+-- by the magnitudes of the variables
+abbrev pub magnitude : (ℕ → ℕ) → Control → ℕ
+magnitude most (Lit n) = unsigned_abs n
+magnitude most (Var x) = most x
+magnitude most (Field f) = 2 ^ 48
+magnitude most (StrideOf x k) = 2 ^ 48
+magnitude most (Neg a) = magnitude most a
+magnitude most (Add a b) = magnitude most a + magnitude most b
+magnitude most (Sub a b) = magnitude most a + magnitude most b
+magnitude most (Mul a b) = magnitude most a * magnitude most b
+magnitude most (Div a c) = rounded_up (magnitude most a) (unsigned_abs c)
+magnitude most (Mod a c) = unsigned_abs c - 1
+
+-- it and all its parts are at most 2 ^ 62
+abbrev pub IsNarrow : (ℕ → ℕ) → Control → Type 0
+IsNarrow most (Lit n) = magnitude most (Lit n) ≤ 2 ^ 62
+IsNarrow most (Var x) = magnitude most (Var x) ≤ 2 ^ 62
+IsNarrow most (Field f) = magnitude most (Field f) ≤ 2 ^ 62
+IsNarrow most (StrideOf x k) = magnitude most (StrideOf x k) ≤ 2 ^ 62
+IsNarrow most (Neg a) = IsNarrow most a
+IsNarrow most (Add a b) = IsNarrow most a × IsNarrow most b × (magnitude most (Add a b) ≤ 2 ^ 62)
+IsNarrow most (Sub a b) = IsNarrow most a × IsNarrow most b × (magnitude most (Sub a b) ≤ 2 ^ 62)
+IsNarrow most (Mul a b) = IsNarrow most a × IsNarrow most b × (magnitude most (Mul a b) ≤ 2 ^ 62)
+IsNarrow most (Div a c) = IsNarrow most a × (magnitude most (Div a c) ≤ 2 ^ 62)
+IsNarrow most (Mod a c) = IsNarrow most a × (magnitude most (Mod a c) ≤ 2 ^ 62)
+
+abbrev pub AreNarrow : (ℕ → ℕ) → List Control → Type 0
+AreNarrow most [] = Unit {0}
+AreNarrow most (a ∷ rest) = IsNarrow most a × AreNarrow most rest

@@ -1,0 +1,8 @@
+//! C: its trees, their text, and how a procedure becomes one.
+#![tactic(auto)]
+
+mod show;
+mod text;
+pub mod tree;
+
+pub use text::c_text;
