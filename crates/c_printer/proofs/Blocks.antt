@@ -1,7 +1,8 @@
 -- Lists of statements as blocks.
-use Rattle.std.proofs.Common.{◌≡◌, ℕ, zero, suc, ◌+◌, ◌<◌, ◌≤◌, List, [], ◌∷◌, length, drop, map, get_or, ap, sym, ◌∙◌, add-one, drop-cons, arith, subst}
+use Rattle.std.proofs.Common.{◌≡◌, ◌==◌, false, codes, refl, true≢false, ◌++◌, ℕ, zero, suc, ◌+◌, ◌<◌, ◌≤◌, List, [], ◌∷◌, length, drop, map, get_or, ap, sym, ◌∙◌, add-one, drop-cons, arith, subst}
 use Rattle.std.proofs.lemmas.List.{length-map, drop-map}
-use Rattle.c_printer.specs.CTree.{CStatement}
+use Rattle.c_printer.specs.CTree.{CStatement, cblock}
+use Rattle.c_printer.specs.CText.{line, or_else}
 use Rattle.c_printer.specs.Sizes.{nodes, nodes_of}
 
 -- a mapped list from an index on
@@ -20,3 +21,8 @@ nodes_of_part [] rest zero s h = cc
 nodes_of_part [] rest (suc k) s h = cc
 nodes_of_part (t ∷ ss) rest zero s h = let e : t ≡ s = cc in omega (arith, ap nodes e)
 nodes_of_part (t ∷ ss) rest (suc k) s h = omega (arith, nodes_of_part ss rest k s h)
+
+-- the text of a second branch that is there
+pub or_else_full : (indent t : List ℕ) (b : List CStatement) → (length b == 0) ≡ false → or_else indent (cblock b) t ≡ line indent (codes "} else {") ++ t ++ line indent (codes "}")
+or_else_full indent t [] h = absurd (true≢false h)
+or_else_full indent t (a ∷ rest) h = refl

@@ -1,2 +1,14 @@
 pub mod Blocks
 pub mod Appends
+pub mod Offsets
+pub mod Numbers
+pub mod Data
+pub mod Follow
+pub mod Places
+pub mod Simulate
+pub mod Scopes
+pub mod Allocs
+pub mod Simulated
+pub mod Beginnings
+pub mod Procedures
+pub mod Maps

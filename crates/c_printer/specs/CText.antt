@@ -184,10 +184,12 @@ struct_text s = margin (struct_word s.rank s.cell ++ codes " { " ++ type_word s.
 abbrev pub field_text : Name → Text
 field_text x = margin (codes "int64_t " ++ x ++ codes ";")
 
--- the report, the headers, the helpers, the structs and fields, and each function after an empty line
+-- the headers, and the helpers after an empty line
+abbrev pub preamble_text : List Text → Text
+preamble_text headers = margin (codes "#include <stdint.h>") ++ margin (codes "#include <stdlib.h>") ++ each include_text headers ++ margin [] ++ helpers
+
+-- the report in a comment, the preamble, the structs and the fields, and each function after an empty line
 abbrev pub text_of : CUnit → Text
 text_of u =
-    margin (codes "/* exoc") ++ each report_text u.report ++ margin (codes " */")
-    ++ margin (codes "#include <stdint.h>") ++ margin (codes "#include <stdlib.h>") ++ each include_text u.includes
-    ++ margin [] ++ helpers ++ each struct_text u.structs ++ each field_text u.fields
+    margin (codes "/* exoc") ++ each report_text u.report ++ margin (codes " */") ++ preamble_text u.includes ++ each struct_text u.structs ++ each field_text u.fields
     ++ each (λ f. margin [] ++ function_text f) u.functions

@@ -1,6 +1,7 @@
 //! C: its trees, their text, and how a procedure becomes one.
 #![tactic(auto)]
 
+pub mod laws;
 mod show;
 mod text;
 pub mod tree;

@@ -1,7 +1,7 @@
 //! The text of a file of C, appended piece by piece to one string.
 ghost use Rattle.std.specs.Prelude.{◌≡◌, ◌++◌, [], map, codes, IfOk, OnOk, string_bytes};
 ghost use Rattle.c_printer.specs.CTree.{cblock};
-ghost use Rattle.c_printer.specs.CText.{line, deeper, margin, each, or_word, or_else, head_text, block_text, inner_text, formal_text, signature_text, function_text, report_text, include_text, field_text, helpers, text_of};
+ghost use Rattle.c_printer.specs.CText.{line, deeper, margin, each, or_word, or_else, head_text, block_text, inner_text, formal_text, signature_text, function_text, report_text, include_text, field_text, helpers, preamble_text, text_of};
 ghost use Rattle.c_printer.specs.Plain.{plain_statement, plain_param, plain_function, plain_line, plain_unit};
 
 use std::alloc::{AllocError, Global};
@@ -119,7 +119,7 @@ fn listed_or(alloc: Global, word: &str, texts: &[String]) -> Result<String, Allo
 
 /// The texts of parameters.
 fn param_texts(alloc: Global, params: &[CParam]) -> Result<Vec<String>, AllocError>
-    ensures { IfOk result (λ v. map string_bytes v.items ≡ map (λ p. formal_text (plain_param p)) params.now) }
+    ensures { IfOk result (λ v. map string_bytes v.items ≡ map formal_text (map plain_param params.now)) }
 {
     let mut texts = Vec::new(alloc);
     for p in params {
@@ -221,7 +221,7 @@ fn put_functions(alloc: Global, out: &mut String, functions: &[CFunction]) -> Re
 
 /// Appends the headers, and the helpers after an empty line.
 fn put_preamble(alloc: Global, out: &mut String, headers: &[String]) -> Result<(), AllocError>
-    ensures { OnOk result (string_bytes out.new ≡ string_bytes out.old ++ (margin (codes "#include <stdint.h>") ++ margin (codes "#include <stdlib.h>") ++ each include_text (map string_bytes headers.now) ++ margin [] ++ helpers)) }
+    ensures { OnOk result (string_bytes out.new ≡ string_bytes out.old ++ preamble_text (map string_bytes headers.now)) }
 {
     put_margin(out, "#include <stdint.h>")?;
     put_margin(out, "#include <stdlib.h>")?;
