@@ -88,7 +88,7 @@ past_filled w zero f ss h = joined_end (filled w (f (block ss)))
 past_filled w (suc k) f [] h = absurd (omega arith)
 past_filled w (suc k) f (a ∷ ss) h = filled_after w a (past k f (block ss)) ∙ ap (option_map (next a)) (past_filled w k f ss (omega arith)) ∙ joined_next a (block (take k ss)) (filled w (f (block (drop k ss))))
 
-joined_block : (ss ts : List Statement) → joined (block ss) (block ts) ≡ block (ss ++ ts)
+pub joined_block : (ss ts : List Statement) → joined (block ss) (block ts) ≡ block (ss ++ ts)
 joined_block [] ts = refl
 joined_block (s ∷ ss) ts = ap (next s) (joined_block ss ts)
 

@@ -7,11 +7,10 @@ ghost use Rattle.exo_tree.specs.Branches.{branch_of};
 ghost use Rattle.exo_tree.specs.PlainPlace.{branch_taken, step_taken};
 ghost use Rattle.exo_tree.specs.PlainStatement.{statement};
 
-use arrayvec::ArrayVec;
-use std::marker::Model;
-
 use crate::block::{Block, Stmt};
 use crate::procedure::Proc;
+use arrayvec::ArrayVec;
+use std::marker::Model;
 
 /// Which block of a statement. A loop's block and the first one of a condition are the main one.
 #[derive(Clone, Copy, Debug, PartialEq, Eq)]
