@@ -4,6 +4,7 @@ use Rattle.std.specs.Coded.{Coded, coded_list, coded_ℕ, coded_ℤ, coded_bool,
 use Rattle.std.proofs.Common.{ap, arith, refl}
 use base.Stored.{Gv, gnil, gnum, gcons, num}
 use Rattle.exo_tree.specs.Tree as tree
+use Rattle.exo_tree.specs.Places as place
 use Rattle.exo_tree.specs.Tree.{Cell, Kind, Control, Condition, Datum, Coord, Argument, Statement, Block, Binder, ParamKind, Param, Procedure, ConfigField, MemoryKind, end, next}
 
 abbrev pub left : Gv → Gv
@@ -320,3 +321,18 @@ memory_kind_code =
     (λ m. (((m.name, m.ctype), (m.header, m.lanes)), ((m.cell, m.stack), ((m.read, m.write), m.reduce))))
     (λ p. record { name = p.0.0.0; ctype = p.0.0.1; lanes = p.0.1.1; cell = p.1.0.0; stack = p.1.0.1; read = p.1.1.0.0; write = p.1.1.0.1; reduce = p.1.1.1; header = p.0.1.0 })
     (λ _. refl)
+
+abbrev pub branch_taken_of : place.Branch → Gv
+branch_taken_of place.Main = gcons (gnum 0) gnil
+branch_taken_of place.Else = gcons (gnum 1) gnil
+
+pub same_branch : (s t : place.Branch) → branch_taken_of s ≡ branch_taken_of t → s ≡ t
+same_branch place.Main place.Main p = refl
+same_branch place.Else place.Else p = refl
+same_branch _ _ p = let e = ap tag p in absurd (omega arith)
+
+abbrev pub branch_code : Coded place.Branch
+branch_code = record { code = branch_taken_of; inj = same_branch }
+
+abbrev pub step_code : Coded place.Step
+step_code = code_by (place.Branch × ℕ) (coded× branch_code coded_ℕ) (λ s. (s.branch, s.index)) (λ p. record { branch = p.0; index = p.1 }) (λ _. refl)

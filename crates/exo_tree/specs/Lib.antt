@@ -13,4 +13,7 @@ pub mod PlainParam
 pub mod PlainProcedure
 pub mod PlainTables
 pub mod PlainUnit
+pub mod Branches
+pub mod Heights
+pub mod PlainPlace
 pub mod Plain

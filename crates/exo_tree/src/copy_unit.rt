@@ -42,7 +42,10 @@ impl Param {
 }
 
 /// A copy of a template, where there is one.
-fn copied_template(alloc: Global, template: &Option<Text>) -> Result<Option<Text>, AllocError>
+pub(crate) fn copied_template(
+    alloc: Global,
+    template: &Option<Text>,
+) -> Result<Option<Text>, AllocError>
     ensures { IfOk result (λ t. t ≡ template.now) }
 {
     match template {
