@@ -21,3 +21,5 @@ pub mod Fresh
 pub mod Unmentioned
 pub mod Grown
 pub mod Examples
+pub mod FirstState
+pub mod Sorted

@@ -12,3 +12,4 @@ pub mod Chain
 pub mod Fresh
 pub mod Pairs
 pub mod Grown
+pub mod Sorted

@@ -26,6 +26,9 @@ ghost use Rattle.exo_context.specs.Copies.{CopiedBlockLaw};
 ghost use Rattle.exo_context.specs.Grown.{GrownLaw};
 ghost use Rattle.exo_context.specs.Grown.{GrownRefinesLaw};
 ghost use Rattle.exo_context.specs.Context.{SameRunsRefineLaw};
+ghost use Rattle.exo_context.specs.Sorted.{FirstStateLaw};
+ghost use Rattle.exo_context.specs.Sorted.{FitLaw};
+ghost use Rattle.exo_context.specs.Sorted.{FitsAtLaw};
 
 /// A procedure in which a block is replaced is refined by it, where the new block may replace the old one at each state that comes to it.
 pub fn replaced_refines()
@@ -155,4 +158,19 @@ pub fn grown_units_keep_refinements()
 /// A procedure in which a block is replaced by one that does the same is refined by it, and no field differs.
 pub fn same_runs_refine()
     ensures { SameRunsRefineLaw }
+{}
+
+/// The first state of a callee is an admissible input of it.
+pub fn first_states_are_admissible()
+    ensures { FirstStateLaw }
+{}
+
+/// In a well-formed unit a run leaves in each cell and field what its type can hold.
+pub fn runs_fit()
+    ensures { FitLaw }
+{}
+
+/// In a well-formed unit the names, cells and fields of each state that a run comes to are of their sorts.
+pub fn places_fit()
+    ensures { FitsAtLaw }
 {}

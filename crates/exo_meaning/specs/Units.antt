@@ -91,6 +91,35 @@ abbrev pub scope_of : Scope → List Param → Scope
 scope_of scope [] = scope
 scope_of scope (p ∷ ps) = scope_of (with_name scope p.binder (param_sort p.kind)) ps
 
+abbrev pub spans : List Coord → ℕ
+spans [] = zero
+spans (At a ∷ cs) = spans cs
+spans (Span a b ∷ cs) = suc (spans cs)
+
+-- a view of that rank; of what is no buffer there is none
+abbrev pub view_sort : Option Sort → ℕ → Sort
+view_sort None rank = BufferName I32 rank false
+view_sort (Some (ControlName kind)) rank = BufferName I32 rank false
+view_sort (Some (BufferName cell r dense)) rank = BufferName cell rank false
+
+abbrev pub scope_after : Statement → Scope → Scope
+scope_after (Assign x is e) scope = scope
+scope_after (Reduce x is e) scope = scope
+scope_after (Config f a) scope = scope
+scope_after Pass scope = scope
+scope_after (If c a b) scope = scope
+scope_after (For i lo hi b) scope = scope
+scope_after (Alloc x cell dims memory) scope = with_name scope x (BufferName cell (length dims) true)
+scope_after (View w x coords) scope = with_name scope w (view_sort (sort_in scope x) (spans coords))
+scope_after (Call k args) scope = scope
+
+abbrev pub is_empty : Block → Bool
+is_empty end = true
+is_empty (next a b) = false
+
+abbrev pub is_short : Block → Bool
+is_short b = nat_lt (length (statements b)) (2 ^ 31)
+
 -- at most 8 dimensions
 abbrev pub is_rank : ℕ → Bool
 is_rank n = nat_lt n 9
@@ -257,11 +286,6 @@ module _ (fields : ℕ → Option Kind) where
   abbrev pub is_window : Scope → ℕ → List Coord → Bool
   is_window scope x coords = has_rank (length coords) (sort_in scope x) && list_all (is_coord scope) coords
 
-  abbrev pub spans : List Coord → ℕ
-  spans [] = zero
-  spans (At a ∷ cs) = spans cs
-  spans (Span a b ∷ cs) = suc (spans cs)
-
   -- ---- arguments
 
   -- a condition for a bool, a number for another kind
@@ -341,30 +365,6 @@ module _ (fields : ℕ → Option Kind) where
   abbrev pub is_write : Scope → Option Kind → Argument → Bool
   is_write scope None a = false
   is_write scope (Some kind) a = is_of_kind with_strides scope kind a
-
-  -- a view of that rank; of what is no buffer there is none
-  abbrev pub view_sort : Option Sort → ℕ → Sort
-  view_sort None rank = BufferName I32 rank false
-  view_sort (Some (ControlName kind)) rank = BufferName I32 rank false
-  view_sort (Some (BufferName cell r dense)) rank = BufferName cell rank false
-
-  abbrev pub scope_after : Statement → Scope → Scope
-  scope_after (Assign x is e) scope = scope
-  scope_after (Reduce x is e) scope = scope
-  scope_after (Config f a) scope = scope
-  scope_after Pass scope = scope
-  scope_after (If c a b) scope = scope
-  scope_after (For i lo hi b) scope = scope
-  scope_after (Alloc x cell dims memory) scope = with_name scope x (BufferName cell (length dims) true)
-  scope_after (View w x coords) scope = with_name scope w (view_sort (sort_in scope x) (spans coords))
-  scope_after (Call k args) scope = scope
-
-  abbrev pub is_empty : Block → Bool
-  is_empty end = true
-  is_empty (next a b) = false
-
-  abbrev pub is_short : Block → Bool
-  is_short b = nat_lt (length (statements b)) (2 ^ 31)
 
   module _ (memories : ℕ) (callees : ℕ → Option Callee) where
     abbrev mutual
