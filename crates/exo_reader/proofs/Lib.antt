@@ -3,3 +3,4 @@ pub mod Sizes
 pub mod Chains
 pub mod Atoms
 pub mod Returns
+pub mod Procedures

@@ -3,6 +3,7 @@
 
 pub mod expression;
 pub mod front;
+pub mod procedure;
 pub mod source;
 pub mod text;
 pub mod token;
