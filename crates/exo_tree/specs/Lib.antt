@@ -17,3 +17,5 @@ pub mod Branches
 pub mod Heights
 pub mod PlainPlace
 pub mod Plain
+pub mod Substitution
+pub mod Renaming

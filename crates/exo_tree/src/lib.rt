@@ -16,6 +16,7 @@ mod number;
 mod param;
 mod place;
 mod procedure;
+mod substitution;
 mod text;
 mod unit;
 
@@ -31,5 +32,6 @@ pub use number::{Cell, FieldId, Id, Kind, MemId, ProcId};
 pub use param::{Param, ParamKind, Params};
 pub use place::{Branch, Path, Step, at};
 pub use procedure::{Proc, Procs};
+pub use substitution::subst;
 pub use text::{Name, Text};
 pub use unit::{Field, Fields, Memories, MemoryClass, Unit};
