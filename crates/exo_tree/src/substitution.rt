@@ -9,8 +9,6 @@ ghost use Rattle.exo_tree.specs.PlainArgument.{argument};
 ghost use Rattle.exo_tree.specs.PlainStatement.{statement};
 ghost use Rattle.exo_tree.specs.Substitution.{in_control, in_condition, in_datum, in_coord, in_argument, in_statement, in_block};
 
-use std::alloc::{AllocError, Global};
-
 use crate::argument::{Arg, Args};
 use crate::binder::Binder;
 use crate::block::{Block, Stmt};
@@ -18,6 +16,7 @@ use crate::control::{Cond, Coord, Ctrl};
 use crate::data::DataExpr;
 use crate::list::{Coords, Indices};
 use crate::number::{Cell, Id, MemId};
+use std::alloc::{AllocError, Global};
 
 impl Ctrl {
     /// With `e` in place of the variable `x`.
@@ -198,8 +197,23 @@ impl Stmt {
             Stmt::Reduce(y, at, d) => subst_reduce(alloc, x, e, *y, at, d),
             Stmt::Config(f, a) => Ok(Stmt::Config(*f, a.subst(alloc, x, e)?)),
             Stmt::Pass => Ok(Stmt::Pass),
-            Stmt::If(c, a, b) => subst_branch(alloc, x, e, c, a.subst(alloc, x, e)?, b.subst(alloc, x, e)?),
-            Stmt::For(b, lo, hi, body) => subst_loop(alloc, x, e, b, lo, hi, body.subst(alloc, x, e)?),
+            Stmt::If(c, a, b) => subst_branch(
+                alloc,
+                x,
+                e,
+                c,
+                a.subst(alloc, x, e)?,
+                b.subst(alloc, x, e)?,
+            ),
+            Stmt::For(b, lo, hi, body) => subst_loop(
+                alloc,
+                x,
+                e,
+                b,
+                lo,
+                hi,
+                body.subst(alloc, x, e)?,
+            ),
             Stmt::Alloc(b, t, dims, m) => subst_alloc(alloc, x, e, b, *t, dims, *m),
             Stmt::View(b, y, at) => subst_view(alloc, x, e, b, *y, at),
             Stmt::Call(p, args) => Ok(Stmt::Call(*p, args.subst(alloc, x, e)?)),
@@ -207,25 +221,54 @@ impl Stmt {
     }
 }
 
-fn subst_assign(alloc: Global, x: Id, e: &Ctrl, y: Id, at: &Indices, d: &DataExpr) -> Result<Stmt, AllocError>
+fn subst_assign(
+    alloc: Global,
+    x: Id,
+    e: &Ctrl,
+    y: Id,
+    at: &Indices,
+    d: &DataExpr,
+) -> Result<Stmt, AllocError>
     ensures { IfOk result (λ s. statement s ≡ tree.Assign y.0 (map (in_control x.0 (control e.now)) at.now) (in_datum x.0 (control e.now) (datum d.now))) }
 {
     Ok(Stmt::Assign(y, at.subst(alloc, x, e)?, d.subst(alloc, x, e)?))
 }
 
-fn subst_reduce(alloc: Global, x: Id, e: &Ctrl, y: Id, at: &Indices, d: &DataExpr) -> Result<Stmt, AllocError>
+fn subst_reduce(
+    alloc: Global,
+    x: Id,
+    e: &Ctrl,
+    y: Id,
+    at: &Indices,
+    d: &DataExpr,
+) -> Result<Stmt, AllocError>
     ensures { IfOk result (λ s. statement s ≡ tree.Reduce y.0 (map (in_control x.0 (control e.now)) at.now) (in_datum x.0 (control e.now) (datum d.now))) }
 {
     Ok(Stmt::Reduce(y, at.subst(alloc, x, e)?, d.subst(alloc, x, e)?))
 }
 
-fn subst_branch(alloc: Global, x: Id, e: &Ctrl, c: &Cond, then_part: Block, else_part: Block) -> Result<Stmt, AllocError>
+fn subst_branch(
+    alloc: Global,
+    x: Id,
+    e: &Ctrl,
+    c: &Cond,
+    then_part: Block,
+    else_part: Block,
+) -> Result<Stmt, AllocError>
     ensures { IfOk result (λ s. statement s ≡ tree.If (in_condition x.0 (control e.now) (condition c.now)) (block then_part) (block else_part)) }
 {
     Ok(Stmt::If(c.subst(alloc, x, e)?, then_part, else_part))
 }
 
-fn subst_loop(alloc: Global, x: Id, e: &Ctrl, b: &Binder, lo: &Ctrl, hi: &Ctrl, body: Block) -> Result<Stmt, AllocError>
+fn subst_loop(
+    alloc: Global,
+    x: Id,
+    e: &Ctrl,
+    b: &Binder,
+    lo: &Ctrl,
+    hi: &Ctrl,
+    body: Block,
+) -> Result<Stmt, AllocError>
     ensures { IfOk result (λ s. statement s ≡ tree.For (binding b.now) (in_control x.0 (control e.now) (control lo.now)) (in_control x.0 (control e.now) (control hi.now)) (block body)) }
 {
     let binder = b.duplicate(alloc)?;
@@ -233,13 +276,28 @@ fn subst_loop(alloc: Global, x: Id, e: &Ctrl, b: &Binder, lo: &Ctrl, hi: &Ctrl, 
     Ok(Stmt::For(binder, low, hi.subst(alloc, x, e)?, body))
 }
 
-fn subst_alloc(alloc: Global, x: Id, e: &Ctrl, b: &Binder, t: Cell, dims: &Indices, m: MemId) -> Result<Stmt, AllocError>
+fn subst_alloc(
+    alloc: Global,
+    x: Id,
+    e: &Ctrl,
+    b: &Binder,
+    t: Cell,
+    dims: &Indices,
+    m: MemId,
+) -> Result<Stmt, AllocError>
     ensures { IfOk result (λ s. statement s ≡ tree.Alloc (binding b.now) (cell_type t) (map (in_control x.0 (control e.now)) dims.now) m.0) }
 {
     Ok(Stmt::Alloc(b.duplicate(alloc)?, t, dims.subst(alloc, x, e)?, m))
 }
 
-fn subst_view(alloc: Global, x: Id, e: &Ctrl, b: &Binder, y: Id, at: &Coords) -> Result<Stmt, AllocError>
+fn subst_view(
+    alloc: Global,
+    x: Id,
+    e: &Ctrl,
+    b: &Binder,
+    y: Id,
+    at: &Coords,
+) -> Result<Stmt, AllocError>
     ensures { IfOk result (λ s. statement s ≡ tree.View (binding b.now) y.0 (map (in_coord x.0 (control e.now)) at.now)) }
 {
     Ok(Stmt::View(b.duplicate(alloc)?, y, at.subst(alloc, x, e)?))
