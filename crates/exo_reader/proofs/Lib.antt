@@ -8,3 +8,4 @@ pub mod Strings
 pub mod Numbers
 pub mod Lines
 pub mod FirstLine
+pub mod Cuts

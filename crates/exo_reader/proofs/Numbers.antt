@@ -1,5 +1,5 @@
 -- Decimal literals.
-use Rattle.std.proofs.Common.{◌≡◌, ℕ, suc, ◌+◌, ◌*◌, ◌-◌, ◌<◌, ◌≤◌, List, [], ◌∷◌, drop, length, get_or, arith, refl, sym, ap, ◌∙◌, drop-cons, le-ltb, add-one}
+use Rattle.std.proofs.Common.{◌≡◌, ℕ, suc, ◌+◌, ◌*◌, ◌-◌, ◌<◌, ◌≤◌, List, [], ◌∷◌, drop, length, get_or, arith, refl, ap, ◌∙◌, drop-cons, le-ltb}
 use Rattle.exo_reader.specs.Piece.{decimal, literal}
 use Rattle.exo_reader.specs.declared.token.Literal.TheVariants.{TooLarge}
 

@@ -1,9 +1,8 @@
 -- Parts of strings.
-use Rattle.std.proofs.Common.{◌≡◌, ℕ, ◌+◌, ◌≤◌, List, [], ◌∷◌, ◌++◌, drop, length, refl, sym, ap, ◌∙◌, subst, arith, ne_eqb, append_assoc, drop-drop}
-use Rattle.exo_reader.specs.Quoted.{quoted, after_backslash, behind, ends, IsPart}
+use Rattle.std.proofs.Common.{◌≡◌, ℕ, List, ◌∷◌, refl, sym, ap, ◌∙◌, subst, ne_eqb}
+use Rattle.exo_reader.specs.Quoted.{quoted, after_backslash, IsPart}
 use Rattle.exo_reader.specs.declared.quoted.Quoted.{Quoted}
 use Rattle.exo_reader.specs.declared.quoted.Part.{Part}
-use Rattle.exo_reader.specs.declared.quoted.Part.TheVariants.{Byte, End}
 
 -- a part that begins with a backslash
 pub part_of_backslash : (quote b : ℕ) (bytes rest : List ℕ) (part : Part) → bytes ≡ b ∷ rest → (b ≡ quote → ⊥) → b ≡ 0x5C → IsPart quote (0x5C ∷ rest) (after_backslash quote rest) part → IsPart quote bytes (quoted quote bytes) part

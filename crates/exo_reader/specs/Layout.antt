@@ -1,7 +1,6 @@
 -- The tokens of a text: those of its lines, and what its line ends and indentations say.
-use Rattle.std.specs.Prelude.{ℕ, zero, suc, ◌+◌, ◌-◌, List, [], ◌∷◌, ◌++◌, Bool, true, false, if◌then◌else◌, nat_eq, nat_lt, length, map, replicate, bytes_eq, codes, take}
+use Rattle.std.specs.Prelude.{ℕ, zero, suc, ◌+◌, ◌-◌, List, [], ◌∷◌, ◌++◌, Bool, true, false, if◌then◌else◌, nat_eq, nat_lt, length, replicate, bytes_eq, codes, take}
 use Rattle.exo_reader.specs.Piece.{piece_of}
-use Rattle.exo_reader.specs.declared.piece.Piece.{Piece}
 use Rattle.exo_reader.specs.declared.token.Token.{Token}
 use Rattle.exo_reader.specs.declared.token.Token.TheVariants as token
 use Rattle.exo_reader.specs.declared.token.Sign.{Sign}
@@ -112,7 +111,7 @@ abbrev pub indentation : ℕ → ℕ → List ℕ → List Placed
 indentation line column blocks =
     if nat_lt (innermost blocks) column then put (at line 1) token.Indent ∷ []
     else (if nat_eq (innermost (still_open column blocks)) column
-      then replicate (length blocks - length (still_open column blocks)) (put (at line 1) token.Dedent)
+    then replicate (length blocks - length (still_open column blocks)) (put (at line 1) token.Dedent)
     else put (at line 1) (token.Bad Indentation) ∷ [])
 
 abbrev pub is_foreign : Token → Bool
@@ -142,7 +141,7 @@ begun blocks end (p ∷ more) =
     else record {
       placed = indentation p.place.line p.place.column blocks ++ with_end 0 end (p ∷ more);
       blocks = blocks_at p.place.column blocks;
-      brackets = brackets_after 0 (p ∷ more)
+      brackets = brackets_after 0 (p ∷ more);
     }
 
 abbrev pub laid : ℕ → List ℕ → ℕ → List ℕ → Laid
@@ -150,10 +149,10 @@ laid line blocks zero bytes =
     if is_import bytes then record { placed = []; blocks = blocks; brackets = 0 }
     else begun blocks (at line (length bytes + 1)) (line_tokens line bytes)
 laid line blocks (suc n) bytes = record {
-    placed = with_end (suc n) (at line (length bytes + 1)) (line_tokens line bytes);
-    blocks = blocks;
-    brackets = brackets_after (suc n) (line_tokens line bytes)
-  }
+  placed = with_end (suc n) (at line (length bytes + 1)) (line_tokens line bytes);
+  blocks = blocks;
+  brackets = brackets_after (suc n) (line_tokens line bytes);
+}
 
 -- the place behind the last byte of lines that begin with this one
 abbrev pub end_from : ℕ → List (List ℕ) → Place

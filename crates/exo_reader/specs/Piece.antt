@@ -1,5 +1,5 @@
 -- The token that begins at a byte, by the longest match.
-use Rattle.std.specs.Prelude.{ℕ, ◌+◌, ◌*◌, ◌-◌, List, [], ◌∷◌, ◌++◌, Bool, true, false, if◌then◌else◌, nat_eq, nat_lt, Option, Some, None, length, take_while, bytes_eq, codes}
+use Rattle.std.specs.Prelude.{ℕ, ◌+◌, ◌*◌, ◌-◌, List, [], ◌∷◌, if◌then◌else◌, nat_eq, nat_lt, Option, Some, None, length, take_while, bytes_eq, codes}
 use Rattle.std.specs.Char.{is_ascii_digit}
 use Rattle.exo_reader.specs.Bytes.{is_printable, is_quote, begins_name, goes_on_name}
 use Rattle.exo_reader.specs.Quoted.{quoted}
@@ -11,8 +11,7 @@ use Rattle.exo_reader.specs.declared.token.Decorator.{Decorator}
 use Rattle.exo_reader.specs.declared.token.Decorator.TheVariants.{Procedure, Instruction, Configuration, MemoryClass}
 use Rattle.exo_reader.specs.declared.token.Literal.{Literal}
 use Rattle.exo_reader.specs.declared.token.Literal.TheVariants.{Value, TooLarge}
-use Rattle.exo_reader.specs.declared.token.Fault.{Fault}
-use Rattle.exo_reader.specs.declared.token.Fault.TheVariants.{Byte, Indentation, Spelling}
+use Rattle.exo_reader.specs.declared.token.Fault.TheVariants.{Byte, Spelling}
 use Rattle.exo_reader.specs.declared.token.Token.{Token}
 use Rattle.exo_reader.specs.declared.token.Token.TheVariants as token
 use Rattle.exo_reader.specs.declared.quoted.Ending.{Ending}

@@ -71,7 +71,7 @@ fn put_dedents(given: &mut Vec<Placed>, place: Place, count: usize) -> Result<()
 /// Changes the open blocks by a line whose first token has this place, and gives what its indentation says.
 fn indent(alloc: Global, blocks: &mut Blocks, first: Place) -> Result<Vec<Placed>, AllocError>
     ensures given { IfOk result (λ given. given.items ≡ indentation first.line first.column blocks.old) }
-    ensures blocks { OnOk result (blocks.new ≡ blocks_at first.column blocks.old) }
+    ensures opened { OnOk result (blocks.new ≡ blocks_at first.column blocks.old) }
 {
     let column = first.column;
     let mut given = Vec::new(alloc);
@@ -100,7 +100,12 @@ fn indent(alloc: Global, blocks: &mut Blocks, first: Place) -> Result<Vec<Placed
 }
 
 /// Puts the tokens of a line behind those that are given, and its end where no bracket stays open, and says how many do.
-fn end_line(given: &mut Vec<Placed>, mut tokens: Vec<Placed>, brackets: usize, end: Place) -> Result<usize, AllocError>
+fn end_line(
+    given: &mut Vec<Placed>,
+    mut tokens: Vec<Placed>,
+    brackets: usize,
+    end: Place,
+) -> Result<usize, AllocError>
     requires { brackets + length tokens.items < 0x100000000 }
     ensures given { OnOk result (given.new.items ≡ given.old.items ++ with_end brackets end tokens.items) }
     ensures brackets { IfOk result (λ after. after ≡ brackets_after brackets tokens.items) }
@@ -125,10 +130,15 @@ pub struct LineLaid {
 }
 
 /// A line that begins where no bracket is open.
-fn begin_line(alloc: Global, blocks: &mut Blocks, line: u32, bytes: &[u8]) -> Result<LineLaid, AllocError>
+fn begin_line(
+    alloc: Global,
+    blocks: &mut Blocks,
+    line: u32,
+    bytes: &[u8],
+) -> Result<LineLaid, AllocError>
     requires { length bytes.now ≤ 0x100000 }
     ensures given { IfOk result (λ l. l.given.items ≡ (laid line blocks.old 0 bytes.now).placed) }
-    ensures blocks { OnOk result (blocks.new ≡ (laid line blocks.old 0 bytes.now).blocks) }
+    ensures opened { OnOk result (blocks.new ≡ (laid line blocks.old 0 bytes.now).blocks) }
     ensures brackets { IfOk result (λ l. l.brackets ≡ (laid line blocks.old 0 bytes.now).brackets) }
     ensures bound { IfOk result (λ l. l.brackets ≤ length bytes.now) }
 {
@@ -162,11 +172,17 @@ fn begin_line(alloc: Global, blocks: &mut Blocks, line: u32, bytes: &[u8]) -> Re
 
 /// What a line gives, behind lines that leave these blocks and so many brackets open; its blocks and brackets are
 /// those behind it.
-pub fn lay_line(alloc: Global, blocks: &mut Blocks, brackets: usize, line: u32, bytes: &[u8]) -> Result<LineLaid, AllocError>
+pub fn lay_line(
+    alloc: Global,
+    blocks: &mut Blocks,
+    brackets: usize,
+    line: u32,
+    bytes: &[u8],
+) -> Result<LineLaid, AllocError>
     requires few { brackets ≤ 0x100000 }
     requires short { length bytes.now ≤ 0x100000 }
     ensures given { IfOk result (λ l. l.given.items ≡ (laid line blocks.old brackets bytes.now).placed) }
-    ensures blocks { OnOk result (blocks.new ≡ (laid line blocks.old brackets bytes.now).blocks) }
+    ensures opened { OnOk result (blocks.new ≡ (laid line blocks.old brackets bytes.now).blocks) }
     ensures brackets { IfOk result (λ l. l.brackets ≡ (laid line blocks.old brackets bytes.now).brackets) }
     ensures bound { IfOk result (λ l. l.brackets ≤ brackets + length bytes.now) }
 {
@@ -187,7 +203,12 @@ pub fn lay_line(alloc: Global, blocks: &mut Blocks, brackets: usize, line: u32, 
 }
 
 /// What the end of a text gives.
-pub fn end_text(alloc: Global, blocks: &Blocks, brackets: usize, end: Place) -> Result<Vec<Placed>, AllocError>
+pub fn end_text(
+    alloc: Global,
+    blocks: &Blocks,
+    brackets: usize,
+    end: Place,
+) -> Result<Vec<Placed>, AllocError>
     ensures { IfOk result (λ given. given.items ≡ text_end end blocks.now brackets) }
 {
     let mut given = Vec::new(alloc);

@@ -45,7 +45,11 @@ fn part_after_backslash(bytes: &[u8]) -> Part
     match escaped(*byte) {
         Some(standing) => Part::Byte(standing, 2),
         None => {
-            let ending = if is_printable(*byte) { Ending::Unclosed } else { Ending::Foreign };
+            let ending = if is_printable(*byte) {
+                Ending::Unclosed
+            } else {
+                Ending::Foreign
+            };
             Part::End(ending, 1)
         }
     }

@@ -6,9 +6,9 @@ use Rattle.exo_reader.proofs.lexer.first_line.Given as goal
 
 abbrev pub invariant-loop-count : goal.invariant-loop-count
 invariant-loop-count l = record {
-    within : l.count ≤ length l.text;
-    whole : lines l.text ≡ prepend (take l.count l.text) (lines (drop l.count l.text))
-  }
+  within : l.count ≤ length l.text;
+  whole : lines l.text ≡ prepend (take l.count l.text) (lines (drop l.count l.text));
+}
 
 abbrev pub decreases-loop-count : goal.decreases-loop-count
 decreases-loop-count l = length l.text - l.count

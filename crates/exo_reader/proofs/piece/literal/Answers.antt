@@ -1,5 +1,5 @@
 use Rattle.exo_reader.proofs.Numbers.{too_large}
-use Rattle.std.proofs.Common.{arith, rules, ◌≡◌}
+use Rattle.std.proofs.Common.{arith}
 use Rattle.exo_reader.proofs.piece.literal.Goals as goal
 
 pub returns-then-next-ge2147483648 : goal.returns-then-next-ge2147483648

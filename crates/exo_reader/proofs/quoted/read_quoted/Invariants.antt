@@ -5,9 +5,9 @@ use Rattle.exo_reader.proofs.quoted.read_quoted.Given as goal
 
 abbrev pub invariant-parts : goal.invariant-parts
 invariant-parts l = record {
-    within : l.width ≤ length l.bytes;
-    whole : quoted l.quote l.bytes ≡ behind l.text l.width (quoted l.quote (drop l.width l.bytes))
-  }
+  within : l.width ≤ length l.bytes;
+  whole : quoted l.quote l.bytes ≡ behind l.text l.width (quoted l.quote (drop l.width l.bytes));
+}
 
 abbrev pub decreases-parts : goal.decreases-parts
 decreases-parts l = length l.bytes - l.width
