@@ -1,10 +1,6 @@
 //! Reading unit texts: bytes to tokens and places, and tokens to source trees.
 #![tactic(auto)]
 
-pub mod expression;
-pub mod front;
-pub mod procedure;
-pub mod source;
 pub mod blocks;
 pub mod bytes;
 pub mod expression;
@@ -14,6 +10,7 @@ pub mod lexer;
 pub mod line;
 pub mod piece;
 pub mod place;
+pub mod procedure;
 pub mod quoted;
 pub mod source;
 pub mod text;
