@@ -4,3 +4,8 @@ pub mod Chains
 pub mod Atoms
 pub mod Returns
 pub mod Procedures
+pub mod Strings
+pub mod Numbers
+pub mod Lines
+pub mod FirstLine
+pub mod Cuts

@@ -4,3 +4,7 @@ pub mod Expression
 pub mod Chain
 pub mod Procedure
 pub mod Views
+pub mod Bytes
+pub mod Quoted
+pub mod Piece
+pub mod Layout

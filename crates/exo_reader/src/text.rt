@@ -1,7 +1,7 @@
 // Bytes that a token holds.
 
-ghost use Rattle.std.specs.Prelude.{◌≡◌, [], ◌∷◌, ◌++◌, IfOk, length};
-ghost use Rattle.std.specs.Result.{is_ok, OnOk};
+ghost use Rattle.std.specs.Prelude.{◌≡◌, [], ◌∷◌, ◌++◌, IfOk};
+ghost use Rattle.std.specs.Result.{OnOk};
 
 use std::alloc::{AllocError, Global};
 use std::marker::Model;
@@ -28,6 +28,15 @@ impl Text {
         Text {
             bytes: Vec::new(alloc),
         }
+    }
+
+    /// These bytes.
+    pub fn from_slice(alloc: Global, bytes: &[u8]) -> Result<Text, AllocError>
+        ensures { IfOk result (λ t. t ≡ bytes.now) }
+    {
+        Ok(Text {
+            bytes: Vec::from_slice(alloc, bytes)?,
+        })
     }
 
     /// One more byte at the end.
