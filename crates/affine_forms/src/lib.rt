@@ -4,4 +4,4 @@
 pub mod laws;
 mod system;
 
-pub use system::{Row, System, Term};
+pub use system::{Row, System, Term, is_narrow};

@@ -3,9 +3,26 @@
 //! A row stands for the inequality "its sum is at least 0", an equation for "its sum is 0".
 //! The types keep their bounds, so that code which takes a system needs no test of its own;
 //! two systems are compared and hashed by their numbers, so a system can be the key of a cache.
-ghost use Rattle.std.specs.Prelude.{IsTrue, not, pos, map, length, ◌≡◌, ◌+◌, ◌≤◌, ◌&&◌};
+ghost use Rattle.std.specs.Prelude.{IsTrue, not, pos, map, length, is_some, nat_le, nat_lt, IfSome, ◌≡◌, ◌+◌, ◌≤◌, ◌&&◌};
+ghost use Rattle.std.specs.List.{list_all};
 ghost use Rattle.std.specs.Ordering.{int_eq};
 ghost use Rattle.affine_forms.specs.Bounds.{is_narrow, is_increasing, are_below};
+
+/// The greatest size of a number in a system.
+const WIDEST: u128 = 1 << 100;
+
+/// The most variables of a system.
+const MOST_VARIABLES: u32 = 64;
+
+/// The most equations and rows of a system together.
+const MOST_ROWS: usize = 512;
+
+/// Whether a number is at most 2^100 in size, as each number of a system is.
+pub fn is_narrow(z: i128) -> bool
+    ensures { result ≡ is_narrow z }
+{
+    z.unsigned_abs() <= WIDEST
+}
 
 /// A variable with its coefficient, which is not 0 and at most 2^100 in size.
 #[derive(Clone, Copy, PartialEq, Eq, Hash, Drop, Debug)]
@@ -29,6 +46,33 @@ impl Term {
             coefficient,
         }
     }
+
+    /// The term of a variable and its coefficient, or `None` where the coefficient is 0 or passes 2^100 in size.
+    pub fn try_new(variable: u32, coefficient: i128) -> Option<Term>
+        ensures fits { is_some result ≡ (not (int_eq coefficient (pos 0)) && is_narrow coefficient) }
+        ensures term { IfSome result (λ t. (t.variable ≡ variable) × (t.coefficient ≡ coefficient)) }
+    {
+        if coefficient != 0 && is_narrow(coefficient) {
+            Some(Term::new(variable, coefficient))
+        } else {
+            None
+        }
+    }
+}
+
+/// Whether the variables of the terms increase.
+fn is_increasing(terms: &[Term]) -> bool
+    ensures { result ≡ is_increasing (map (λ t. t.variable) terms.now) }
+{
+    let mut low = 0;
+    for term in terms {
+        let variable = term.variable as u64;
+        if variable < low {
+            return false;
+        }
+        low = variable + 1;
+    }
+    true
 }
 
 /// A sum of terms and a constant. The variables of the terms increase, so that each stands once; the constant is at most 2^100 in size.
@@ -41,7 +85,8 @@ pub struct Row {
 }
 
 impl Row {
-    ghost use Rattle.std.specs.Prelude.{IsTrue, map, ◌≡◌};
+    ghost use Rattle.std.specs.Prelude.{IsTrue, map, is_some, nat_lt, IfSome, ◌≡◌, ◌&&◌};
+    ghost use Rattle.std.specs.List.{list_all};
     ghost use Rattle.affine_forms.specs.Bounds.{is_narrow, is_increasing};
     ghost use Rattle.affine_forms.specs.System.{coefficient_of};
 
@@ -55,6 +100,30 @@ impl Row {
         Row { terms, constant }
     }
 
+    /// The row of terms and a constant, or `None` where the variables of the terms do not increase or the constant passes 2^100 in size.
+    pub fn try_new(terms: Vec<Term>, constant: i128) -> Option<Row>
+        ensures fits { is_some result ≡ (is_increasing (map (λ t. t.variable) terms.items) && is_narrow constant) }
+        ensures row { IfSome result (λ r. (r.terms ≡ terms) × (r.constant ≡ constant)) }
+    {
+        if is_increasing(&terms) && is_narrow(constant) {
+            Some(Row::new(terms, constant))
+        } else {
+            None
+        }
+    }
+
+    /// Whether each variable of the row is below `n`.
+    fn is_below(&self, n: u32) -> bool
+        ensures { result ≡ list_all (λ x. nat_lt x n) (map (λ t. t.variable) self.now.terms.items) }
+    {
+        for term in &self.terms {
+            if term.variable >= n {
+                return false;
+            }
+        }
+        true
+    }
+
     /// The coefficient of a variable: 0 where no term names it.
     pub fn coefficient(&self, variable: u32) -> i128
         ensures { result ≡ coefficient_of self.now.terms.items variable }
@@ -66,6 +135,18 @@ impl Row {
         }
         0
     }
+}
+
+/// Whether each variable of the rows is below `n`.
+fn are_below(n: u32, rows: &[Row]) -> bool
+    ensures { result ≡ are_below n (map (λ r. map (λ t. t.variable) r.terms.items) rows.now) }
+{
+    for row in rows {
+        if !row.is_below(n) {
+            return false;
+        }
+    }
+    true
 }
 
 /// Equations and rows over the variables `0 .. vars`: at most 64 variables, and at most 512 equations and rows together.
@@ -95,6 +176,20 @@ impl System {
             vars,
             equations,
             rows,
+        }
+    }
+
+    /// The system of equations and rows over `vars` variables, or `None` where it would have more than 64 variables,
+    /// more than 512 equations and rows together, or a variable that is not below `vars`.
+    pub fn try_new(vars: u32, equations: Vec<Row>, rows: Vec<Row>) -> Option<System>
+        ensures fits { is_some result ≡ (nat_le vars 64 && (nat_le (length equations.items + length rows.items) 512 && (are_below vars (map (λ r. map (λ t. t.variable) r.terms.items) equations.items) && are_below vars (map (λ r. map (λ t. t.variable) r.terms.items) rows.items)))) }
+        ensures system { IfSome result (λ s. (s.vars ≡ vars) × (s.equations ≡ equations) × (s.rows ≡ rows)) }
+    {
+        let few = vars <= MOST_VARIABLES && equations.len() <= MOST_ROWS && rows.len() <= MOST_ROWS - equations.len();
+        if few && are_below(vars, &equations) && are_below(vars, &rows) {
+            Some(System::new(vars, equations, rows))
+        } else {
+            None
         }
     }
 }

@@ -18,3 +18,10 @@ pub mod Staging
 pub mod Rounds
 pub mod Solving
 pub mod Spreading
+pub mod Fractions
+pub mod Parts
+pub mod Loosening
+pub mod Ratios
+pub mod Returning
+pub mod OpenRows
+pub mod OpenEquations

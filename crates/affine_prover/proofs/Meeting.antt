@@ -163,7 +163,7 @@ put_in-keeps m point es rows e h k i u =
     by false = tt
 
 -- the two rows of an equation
-dot-negated : (cs ps : List ℤ) → dot (map neg_ℤ cs) ps ≡ neg_ℤ (dot cs ps)
+pub dot-negated : (cs ps : List ℤ) → dot (map neg_ℤ cs) ps ≡ neg_ℤ (dot cs ps)
 dot-negated [] ps = refl
 dot-negated (c ∷ cs) [] = refl
 dot-negated (c ∷ cs) (p ∷ ps) = omega (arith, ints, dot-negated cs ps, neg-times c p)

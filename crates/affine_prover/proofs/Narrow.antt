@@ -1,6 +1,7 @@
 -- Steps that stop at a number that is too wide.
 use Rattle.std.proofs.Common.{Bool, true, false, cond, ◌&&◌, ◌≡◌, Option, Some, None, ℤ, ◌+ℤ◌, ◌*ℤ◌, ap, sym, ◌∙◌, refl}
-use Rattle.affine_prover.specs.Elimination.{is_narrow, weighed, is_narrow_weighed}
+use Rattle.affine_forms.specs.Bounds.{is_narrow}
+use Rattle.affine_prover.specs.Elimination.{weighed, is_narrow_weighed}
 
 -- what a test gave if it gave something
 pub some-kept : {X : Type 0} (b : Bool) (x y : X) → Some y ≡ cond b (Some x) None → (b ≡ true) × (y ≡ x)

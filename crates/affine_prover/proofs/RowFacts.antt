@@ -10,7 +10,8 @@ use Rattle.std.proofs.lemmas.Nat.Gcd.{le_of_dvd}
 use Rattle.std.proofs.Math.Nat.{div-le_self}
 use Rattle.affine_forms.specs.Affine.{Affine}
 use Rattle.affine_prover.specs.Shapes.{IsNarrow, AreNarrow}
-use Rattle.affine_prover.specs.Elimination.{gcd, gcd_of, tightened, is_narrow, weighed, weighed_lists, is_narrow_weighed, are_narrow_weighed, combined, is_narrow_combined, same_list}
+use Rattle.affine_forms.specs.Bounds.{is_narrow}
+use Rattle.affine_prover.specs.Elimination.{gcd, gcd_of, tightened, weighed, weighed_lists, is_narrow_weighed, are_narrow_weighed, combined, is_narrow_combined, same_list}
 use Rattle.affine_prover.proofs.Divisors.{gcd-is}
 use Rattle.affine_prover.proofs.Everywhere.{both, everywhere-map}
 use Rattle.affine_prover.proofs.Narrow.{some-kept, none-kept}

@@ -13,7 +13,7 @@ use Rattle.affine_prover.proofs.Everywhere.{everywhere-append, everywhere-map, e
 use Rattle.affine_prover.proofs.Widths.{IsWide, tightened-wide}
 use Rattle.affine_prover.proofs.Meeting.{substituted-wide, everywhere-remove, found-is}
 
-abbrev RoundWide : ℕ → Round → Type 0
+abbrev pub RoundWide : ℕ → Round → Type 0
 RoundWide m (Finished v) = Unit {0}
 RoundWide m (Solved es rows) = (n : ℕ) → m ≡ suc n → AllByRecursion (IsWide n) es × AllByRecursion (IsWide n) rows
 RoundWide m (Unsolved rows) = AllByRecursion (IsWide m) rows
@@ -36,7 +36,7 @@ round_of-wide m es rows (Some x) e h k =
     let is = found-is (IsWide m) has_unit es x h e in
     put_in-wide m es rows x h k is.0 is.1
 
-round-wide : (m : ℕ) (es rows : List Affine) → AllByRecursion (IsWide m) es → AllByRecursion (IsWide m) rows → RoundWide m (round es rows)
+pub round-wide : (m : ℕ) (es rows : List Affine) → AllByRecursion (IsWide m) es → AllByRecursion (IsWide m) rows → RoundWide m (round es rows)
 unfolding round reduced
 round-wide m es rows h k = by (list_any is_impossible es)
   where

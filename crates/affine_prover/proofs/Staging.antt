@@ -46,7 +46,7 @@ pub kept-wide : (n : ℕ) (rows kept : List Affine) → AreWide n rows → Some 
 kept-wide n rows kept w e =
     All-from_recursion (IsWide n) kept (subst (widths.AreWide n) (sym e) (normalized-wide n rows (recursion_from_All (IsWide n) rows w)))
 
-following-wide : (n v : ℕ) (rows : List Affine) → v < suc n → AllByRecursion (IsWide (suc n)) rows → AllByRecursion (IsWide n) (following v rows)
+pub following-wide : (n v : ℕ) (rows : List Affine) → v < suc n → AllByRecursion (IsWide (suc n)) rows → AllByRecursion (IsWide n) (following v rows)
 following-wide n v rows l h =
     let P : Affine → Type 0 = IsWide (suc n) in
     let Q : Affine → Type 0 = IsWide n in

@@ -17,7 +17,7 @@ abbrev pub Holds : List ℤ → Affine → Type 0
 Holds point r = pos 0 ≤ℤ value r point
 
 -- ---- rows without variables
-all_zero-dot : (cs ps : List ℤ) → list_all (λ c. int_eq c (pos 0)) cs ≡ true → dot cs ps ≡ pos 0
+pub all_zero-dot : (cs ps : List ℤ) → list_all (λ c. int_eq c (pos 0)) cs ≡ true → dot cs ps ≡ pos 0
 all_zero-dot [] ps h = refl
 all_zero-dot (c ∷ cs) [] h = refl
 all_zero-dot (c ∷ cs) (p ∷ ps) h =

@@ -3,6 +3,7 @@ use Rattle.std.specs.Prelude.{ℕ, zero, suc, ◌+◌, ◌*◌, ◌/◌, ◌%◌
 use Rattle.std.specs.Int.{int_div_euclid, is_positive, is_negative, int_min}
 use Rattle.std.specs.Ordering.{int_eq}
 use Rattle.std.specs.List.{filter, list_any, list_all, count_by, flat_map, find, fold, remove, position_or_len}
+use Rattle.affine_forms.specs.Bounds.{is_narrow}
 use Rattle.affine_forms.specs.Affine.{Affine, Constraints}
 use Rattle.affine_prover.specs.declared.answer.Verdict.{Verdict}
 use Rattle.affine_prover.specs.declared.answer.Verdict.TheVariants.{Shown, Open, TooMany, TooWide}
@@ -21,10 +22,6 @@ gcd a b = gcd_within b a b
 
 abbrev pub gcd_of : List ℤ → ℕ
 gcd_of cs = fold (λ g c. gcd (unsigned_abs c) g) 0 cs
-
--- a number that may be written down
-abbrev pub is_narrow : ℤ → Bool
-is_narrow z = nat_le (unsigned_abs z) (2 ^ 100)
 
 -- ---- sums
 

@@ -1,9 +1,9 @@
 //! The verdict on a system.
 ghost use Rattle.std.specs.Prelude.{◌≡◌, IfOk};
-ghost use Rattle.affine_forms.specs.Affine.{HasNoIntegerPoint};
+ghost use Rattle.affine_forms.specs.Affine.{HasNoIntegerPoint, HasRationalPoint};
 ghost use Rattle.affine_forms.specs.System.{plain_system};
 ghost use Rattle.affine_prover.specs.Elimination.{elimination};
-ghost use Rattle.affine_prover.specs.declared.answer.Verdict.TheVariants.{Shown};
+ghost use Rattle.affine_prover.specs.declared.answer.Verdict.TheVariants.{Shown, Open};
 
 use crate::answer::Verdict;
 use crate::dense::dense_rows;
@@ -23,7 +23,8 @@ use std::alloc::{AllocError, Global};
 /// and Integer Programming (1986), section 12.2; W. Pugh, The Omega test (1991), for equations and rounding.
 pub fn verdict(alloc: Global, s: &System) -> Result<Verdict, AllocError>
     ensures exact { IfOk result (λ v. v ≡ elimination (plain_system s.now)) }
-    ensures shown { IfOk result (λ v. v ≡ Shown → HasNoIntegerPoint (plain_system s.now)) }
+    ensures shown_has_no_point { IfOk result (λ v. v ≡ Shown → HasNoIntegerPoint (plain_system s.now)) }
+    ensures open_has_a_point { IfOk result (λ v. v ≡ Open → HasRationalPoint (plain_system s.now)) }
 {
     let n = s.vars;
     let equations = dense_rows(alloc, n, &s.equations)?;

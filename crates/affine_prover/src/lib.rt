@@ -12,5 +12,8 @@ mod number;
 mod row;
 mod signs;
 
+#[cfg(test)]
+mod tests;
+
 pub use answer::Verdict;
 pub use decide::verdict;

@@ -5,9 +5,10 @@ ghost use Rattle.std.specs.Int.{int_div_euclid};
 ghost use Rattle.std.specs.List.{All, list_all};
 ghost use Rattle.std.specs.Ordering.{int_eq};
 ghost use Rattle.std.specs.Option.{option_map};
-ghost use Rattle.affine_prover.specs.Elimination.{gcd_of, weighed_lists, are_narrow_weighed, is_narrow};
+ghost use Rattle.affine_forms.specs.Bounds.{is_narrow};
+ghost use Rattle.affine_prover.specs.Elimination.{gcd_of, weighed_lists, are_narrow_weighed};
 
-use crate::number::{gcd, is_narrow, weighed};
+use crate::number::{gcd, weighed};
 use std::alloc::{AllocError, Global};
 
 /// The greatest common divisor of the coefficients, 0 where all are 0.

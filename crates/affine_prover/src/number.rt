@@ -1,16 +1,9 @@
 //! Numbers of at most 2^100 in size.
 ghost use Rattle.std.specs.Prelude.{◌≡◌, Some, None, if◌then◌else◌, ◌+ℤ◌, ◌*ℤ◌, ◌<◌};
-ghost use Rattle.affine_prover.specs.Elimination.{gcd, is_narrow, weighed, is_narrow_weighed};
+ghost use Rattle.affine_forms.specs.Bounds.{is_narrow};
+ghost use Rattle.affine_prover.specs.Elimination.{gcd, weighed, is_narrow_weighed};
 
-/// The greatest size of a number.
-const LIMIT: u128 = 1 << 100;
-
-/// Whether the number may be written down.
-pub fn is_narrow(z: i128) -> bool
-    ensures { result ≡ is_narrow z }
-{
-    z.unsigned_abs() <= LIMIT
-}
+use affine_forms::is_narrow;
 
 /// The product, where it is at most 2^100 in size.
 fn product(x: i128, y: i128) -> Option<i128>

@@ -6,7 +6,7 @@ ghost use Rattle.affine_prover.specs.Shapes.{IsNarrow, AreNarrow};
 ghost use Rattle.affine_prover.specs.Elimination.{coefficient, is_constant, tightened, same_list, without, combined, is_narrow_combined, is_impossible, is_unit, has_unit, unit_place, solving_factor, negated};
 
 use crate::list::{all_zero, divide_all, gcd_of, negated_list, weighed_lists};
-use crate::number::{is_narrow, weighed};
+use crate::number::weighed;
 use std::alloc::{AllocError, Global};
 use std::marker::Model;
 

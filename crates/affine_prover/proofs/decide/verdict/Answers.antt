@@ -5,7 +5,8 @@ use Rattle.affine_prover.specs.Shapes.{AreWide}
 use Rattle.affine_prover.specs.Elimination.{verdict_on, elimination}
 use Rattle.affine_prover.proofs.Widths.{IsWide}
 use Rattle.affine_prover.proofs.Spreading.{plain_rows-wide}
-use Rattle.affine_prover.proofs.Meeting.{shown_has_no_point}
+use Rattle.affine_prover.proofs.Meeting.{shown_has_no_point as shown-law}
+use Rattle.affine_prover.proofs.OpenEquations.{open_has_a_point as open-law}
 use Rattle.affine_prover.proofs.decide.verdict.Goals as goal
 
 pub solve-requires-clause-wide_equations : goal.solve-requires-clause-wide_equations
@@ -29,5 +30,6 @@ returns c =
     c.in_ok-v.ensures ∙ ap (λ es. verdict_on n es c.in_ok-rows.rows.items) equations ∙ ap (verdict_on n (map (plain_row n) c.args.s.now.equations.items)) rows in
     record {
       exact = exact;
-      shown = λ e. shown_has_no_point (plain_system c.args.s.now) (plain_rows-wide n c.args.s.now.equations.items) (plain_rows-wide n c.args.s.now.rows.items) (sym exact ∙ e);
+      shown_has_no_point = λ e. shown-law (plain_system c.args.s.now) (plain_rows-wide n c.args.s.now.equations.items) (plain_rows-wide n c.args.s.now.rows.items) (sym exact ∙ e);
+      open_has_a_point = λ e. open-law (plain_system c.args.s.now) (plain_rows-wide n c.args.s.now.equations.items) (plain_rows-wide n c.args.s.now.rows.items) (sym exact ∙ e);
     }
