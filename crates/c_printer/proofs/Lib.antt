@@ -12,3 +12,8 @@ pub mod Simulated
 pub mod Beginnings
 pub mod Procedures
 pub mod Maps
+pub mod FirstAccess
+pub mod FirstUnits
+pub mod FirstBlocks
+pub mod Sure
+pub mod FirstForms

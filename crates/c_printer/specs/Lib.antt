@@ -12,3 +12,6 @@ pub mod CRun
 pub mod SameInput
 pub mod Simulation
 pub mod Laws
+pub mod LoweredUnit
+pub mod FirstForm
+pub mod PlainPrinted

@@ -2,8 +2,10 @@
 #![tactic(auto)]
 
 pub mod laws;
+mod lowering;
 mod show;
 mod text;
 pub mod tree;
 
+pub use lowering::{LowerError, Printed, lower};
 pub use text::c_text;
