@@ -1,5 +1,5 @@
 -- The statement at a path, by what the code has found of its first step.
-use Rattle.std.proofs.Common.{◌≡◌, ℕ, List, [], ◌∷◌, map, Option, Some, None, refl, ap, sym, ◌∙◌}
+use Rattle.std.proofs.Common.{◌≡◌, List, [], ◌∷◌, Option, Some, None, ap, ◌∙◌}
 use Rattle.std.specs.Prelude.{slice_get, option_and_then}
 use Rattle.exo_tree.specs.Tree.{Statement, Block, block}
 use Rattle.exo_tree.specs.Places.{Step, Path}

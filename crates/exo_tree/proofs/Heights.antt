@@ -1,9 +1,9 @@
 -- How long the paths are of a block with some statements replaced.
 use Rattle.std.proofs.Common.{◌≡◌, ℕ, zero, suc, ◌+◌, ◌-◌, ◌<◌, ◌≤◌, max, List, [], ◌∷◌, drop, Option, Some, None, refl, ap, sym, ◌∙◌, arith, subst, length}
-use Rattle.std.specs.Prelude.{option_map, option_and_then, IfSome, IsSomeAnd}
-use Rattle.exo_tree.specs.Tree.{Statement, Assign, Reduce, Config, Pass, If, For, Alloc, View, Call, Block, end, next, block, joined}
-use Rattle.exo_tree.specs.Context.{Context, Here, After, InLoop, InThen, InElse, fill}
-use Rattle.exo_tree.specs.Places.{Branch, Main, Else, Step, Path, Opened, parted, past, into, opened_in, opened, from_body, replaced}
+use Rattle.std.specs.Prelude.{option_map, IfSome, IsSomeAnd}
+use Rattle.exo_tree.specs.Tree.{Statement, If, For, Block, end, next, block, joined}
+use Rattle.exo_tree.specs.Context.{Context, After, InLoop, InThen, InElse, fill}
+use Rattle.exo_tree.specs.Places.{Branch, Main, Else, Step, Path, Opened, parted, past, into, opened_in, opened, replaced}
 use Rattle.exo_tree.specs.Heights.{height, height_below}
 use Rattle.exo_tree.proofs.Openings.{around_by, with_rest, filled}
 

@@ -1,5 +1,5 @@
 -- Codes of plain trees, by which a proof tells two of them apart.
-use Rattle.std.specs.Prelude.{◌≡◌, ℕ, ℤ, Bool, List, Option}
+use Rattle.std.specs.Prelude.{◌≡◌, ℕ, Bool, List, Option}
 use Rattle.std.specs.Coded.{Coded, coded_list, coded_ℕ, coded_ℤ, coded_bool, coded_option, coded×, code_by}
 use Rattle.std.proofs.Common.{ap, arith, refl}
 use base.Stored.{Gv, gnil, gnum, gcons, num}

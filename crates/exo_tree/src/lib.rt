@@ -20,6 +20,8 @@ mod place;
 mod procedure;
 mod renamed;
 mod substitution;
+#[cfg(test)]
+mod tests;
 mod text;
 mod unit;
 

@@ -1,4 +1,4 @@
-use Rattle.std.proofs.Common.{◌∷◌, sym, ◌∙◌}
+use Rattle.std.proofs.Common.{sym, ◌∙◌}
 use Rattle.exo_tree.specs.PlainStatement.{statement}
 use Rattle.exo_tree.proofs.Heights.{height_of_part}
 use Rattle.exo_tree.proofs.block.+fits.Goals as goal

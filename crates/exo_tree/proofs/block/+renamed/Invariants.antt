@@ -1,4 +1,4 @@
-use Rattle.std.proofs.Common.{◌≡◌, ◌+◌, ◌*◌, take, drop}
+use Rattle.std.proofs.Common.{◌≡◌, drop}
 use Rattle.exo_tree.specs.Tree.{block, joined}
 use Rattle.exo_tree.specs.Renaming.{re_block, fresh_id}
 use Rattle.exo_tree.proofs.block.+renamed.Given as goal

@@ -1,4 +1,4 @@
-use Rattle.std.proofs.Common.{◌≡◌, ◌+◌, ◌*◌, take, drop}
+use Rattle.std.proofs.Common.{◌≡◌, drop}
 use Rattle.exo_tree.specs.PlainControl.{control}
 use Rattle.exo_tree.specs.Tree.{block, joined}
 use Rattle.exo_tree.specs.Substitution.{in_block}

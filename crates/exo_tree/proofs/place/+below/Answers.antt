@@ -1,11 +1,10 @@
 use Rattle.std.proofs.Common.{◌≡◌, ◌∷◌, map, List, Option, Some, None, ap, sym, ◌∙◌}
 use Rattle.std.proofs.lemmas.Option.{slice_get-map}
-use Rattle.std.specs.Prelude.{slice_get, option_map, option_and_then}
+use Rattle.std.specs.Prelude.{option_map}
 use Rattle.std.specs.Option.{option_copied}
 use Rattle.exo_tree.specs.Tree.{Statement, block}
 use Rattle.exo_tree.specs.Places.{Path}
-use Rattle.exo_tree.specs.Branches.{branch_of}
-use Rattle.exo_tree.specs.PlainPlace.{branch_taken, step_taken}
+use Rattle.exo_tree.specs.PlainPlace.{step_taken}
 use Rattle.exo_tree.specs.PlainStatement.{statement}
 use Rattle.exo_tree.proofs.Openings.{statement_in}
 use Rattle.exo_tree.proofs.Below.{below_stops, below_last, below_next}

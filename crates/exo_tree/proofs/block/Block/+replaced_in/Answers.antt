@@ -1,10 +1,10 @@
-use Rattle.std.proofs.Common.{◌≡◌, ◌∷◌, map, List, Option, Some, None, ap, sym, ◌∙◌}
+use Rattle.std.proofs.Common.{◌≡◌, map, ap, sym, ◌∙◌}
 use Rattle.std.proofs.lemmas.Option.{slice_get-map}
-use Rattle.std.specs.Prelude.{slice_get, option_map, option_and_then}
+use Rattle.std.specs.Prelude.{option_map, option_and_then}
 use Rattle.exo_tree.specs.Tree.{block}
 use Rattle.exo_tree.specs.PlainPlace.{step_taken}
 use Rattle.exo_tree.proofs.Openings.{replaced_in}
-use Rattle.exo_tree.proofs.Edits.{if_ok, IsSpliced, spliced_is, inner_of, stops, goes_on, inner_within}
+use Rattle.exo_tree.proofs.Edits.{if_ok, IsSpliced, spliced_is, stops, goes_on, inner_within}
 use Rattle.exo_tree.proofs.block.Block.+replaced_in.Goals as goal
 
 pub returns-in-None-first : goal.returns-in-None-first

@@ -1,4 +1,3 @@
-use Rattle.std.proofs.Common.{◌∷◌}
 use Rattle.exo_tree.specs.Tree.{block}
 use Rattle.exo_tree.specs.Branches.{with_branch}
 use Rattle.exo_tree.specs.PlainPlace.{branch_taken}

@@ -1,0 +1,158 @@
+//! Trees built, found and changed at places.
+ghost use Rattle.std.specs.Prelude.{◌≡◌, ◌∷◌, IfOk};
+ghost use Rattle.exo_tree.specs.Tree.{block};
+ghost use Rattle.exo_tree.specs.Renaming.{binders, binders_below};
+ghost use Rattle.exo_tree.specs.PlainStatement.{statement};
+
+use super::*;
+use std::alloc::{AllocError, Global};
+use std::test::Fail;
+
+fn path(steps: &[(Branch, u32)]) -> Path {
+    let mut made = Path::new();
+    for step in steps {
+        if made.len() < 32 {
+            made.push(Step {
+                branch: step.0,
+                index: step.1,
+            });
+        }
+    }
+    made
+}
+
+fn loop_over(alloc: Global, id: u32, body: Block) -> Result<Stmt, AllocError>
+    ensures { IfOk result (λ s. binders_below (statement s) ≡ id ∷ binders (block body)) }
+{
+    let binder = Binder {
+        id: Id(id),
+        name: Name::new(alloc, "i")?,
+    };
+    Ok(Stmt::For(binder, Ctrl::Lit(0), Ctrl::Var(Id(1)), body))
+}
+
+/// `pass` within that many loops.
+fn nest(alloc: Global, loops: u32) -> Result<Block, AllocError> {
+    let mut made = Block::single(alloc, Stmt::Pass)?;
+    for id in 0..loops {
+        made = Block::single(alloc, loop_over(alloc, id, made)?)?;
+    }
+    Ok(made)
+}
+
+/// A pass and a loop over a store and a condition with one statement and, after `else`, two.
+fn sample(alloc: Global) -> Result<Proc, AllocError> {
+    let mut other = Block::single(alloc, Stmt::Pass)?;
+    other.push(Stmt::Pass)?;
+    let first = Block::single(alloc, Stmt::Pass)?;
+    let store = Stmt::Assign(Id(0), Indices::new(alloc), DataExpr::Lit(7));
+    let mut inner = Block::single(alloc, store)?;
+    inner.push(Stmt::If(Cond::True, first, other))?;
+    let mut body = Block::single(alloc, Stmt::Pass)?;
+    body.push(loop_over(alloc, 5, inner)?)?;
+    Ok(Proc {
+        name: Name::new(alloc, "f")?,
+        params: Params::new(alloc),
+        asserts: Conds::new(alloc),
+        body,
+        template: None,
+    })
+}
+
+fn word(s: Option<&Stmt>) -> &'static str {
+    match s {
+        None => "nothing",
+        Some(Stmt::Assign(_, _, _)) => "store",
+        Some(Stmt::If(_, _, _)) => "if",
+        Some(Stmt::For(_, _, _, _)) => "loop",
+        Some(_) => "pass",
+    }
+}
+
+#[test]
+fn places(rt: HostRuntime) -> Result<(), Fail> {
+    let alloc = rt.alloc();
+    let p = sample(alloc)?;
+    let rows: [(&[(Branch, u32)], &str); 10] = [
+        (&[], "nothing"),
+        (&[(Branch::Main, 0)], "pass"),
+        (&[(Branch::Main, 1)], "loop"),
+        (&[(Branch::Main, 2)], "nothing"),
+        (&[(Branch::Else, 0)], "nothing"),
+        (&[(Branch::Main, 0), (Branch::Main, 0)], "nothing"),
+        (&[(Branch::Main, 1), (Branch::Main, 0)], "store"),
+        (&[(Branch::Main, 1), (Branch::Main, 1)], "if"),
+        (
+            &[(Branch::Main, 1), (Branch::Main, 1), (Branch::Else, 1)],
+            "pass",
+        ),
+        (
+            &[(Branch::Main, 1), (Branch::Main, 1), (Branch::Main, 1)],
+            "nothing",
+        ),
+    ];
+    for row in rows {
+        assert_eq!(rt; word(at(&p, &path(row.0))), row.1);
+    }
+    Ok(())
+}
+
+fn answer(r: &Result<Proc, EditError>) -> &'static str {
+    match r {
+        Ok(_) => "replaced",
+        Err(EditError::NoPlace) => "no place",
+        Err(EditError::TooDeep) => "too deep",
+        Err(EditError::Memory) => "memory",
+    }
+}
+
+#[test]
+fn replacements(rt: HostRuntime) -> Result<(), Fail> {
+    let alloc = rt.alloc();
+    let p = sample(alloc)?;
+    let place = path(&[(Branch::Main, 1), (Branch::Main, 1), (Branch::Else, 0)]);
+    for (count, loops, want) in [
+        (2, 1, "replaced"),
+        (0, 29, "replaced"),
+        (2, 30, "too deep"),
+        (3, 1, "no place"),
+    ] {
+        let with = nest(alloc, loops)?;
+        let got = if p.body.fits(32) {
+            answer(&replace_at(alloc, &p, &place, count, &with))
+        } else {
+            "too deep before"
+        };
+        assert_eq!(rt; got, want);
+    }
+    Ok(())
+}
+
+#[test]
+fn substituted(rt: HostRuntime) -> Result<(), Fail> {
+    let alloc = rt.alloc();
+    let b = nest(alloc, 3)?;
+    let c = subst(alloc, &b, Id(1), &Ctrl::Lit(4))?;
+    let bound = match c.get(0) {
+        Some(Stmt::For(_, _, Ctrl::Lit(n), _)) => *n,
+        _ => 0,
+    };
+    assert_eq!(rt; bound, 4);
+    Ok(())
+}
+
+#[test]
+fn copies(rt: HostRuntime) -> Result<(), Fail> {
+    let alloc = rt.alloc();
+    let body = Block::single(alloc, Stmt::Pass)?;
+    let b = Block::single(alloc, loop_over(alloc, 5, body)?)?;
+    let mut next = 100;
+    let copy = fresh_copy(alloc, &b, &mut next)?;
+    let outer = match copy.get(0) {
+        Some(Stmt::For(i, _, _, _)) => i.id.0,
+        _ => 0,
+    };
+    assert_eq!(rt; outer, 100);
+    assert_eq!(rt; next, 101);
+    Ok(())
+}
