@@ -1,5 +1,7 @@
 -- Steps of the source that do not fault, and steps of the C for which there is always a store.
-use Rattle.std.proofs.Common.{◌≡◌, ℕ, ℤ, Bool, true, false, Option, Some, None, option_map, refl, sym, ap, subst, List, [], ◌∷◌, ⊤}
+use Rattle.std.proofs.Common.{◌≡◌, ◌+ℤ◌, ◌-ℤ◌, ◌*ℤ◌, neg_ℤ, ℕ, ℤ, Bool, true, false, Option, Some, None, option_map, refl, sym, ap, subst, List, [], ◌∷◌}
+use Rattle.std.specs.Prelude.{⊤}
+use Rattle.std.specs.Int.{int_div_euclid, int_rem_euclid}
 use Rattle.exo_meaning.specs.Scene.{then_do}
 use Rattle.exo_meaning.specs.Value.{Value}
 use Rattle.exo_tree.specs.Tree.{Cell}
@@ -86,12 +88,12 @@ stored_number : (s : Setting) (e : Number64) → Stored Any (number64 s e)
 stored_number s (Literal n) = stored_checked n
 stored_number s (Named x) = stored_number_under s.fields x (s.names x)
 stored_number s (StrideIn w k) = stored_stride_under (s.names w) k
-stored_number s (Opposite a) = stored_after Any Any (number64 s a) _ (stored_number s a) (λ m h. stored_checked _)
-stored_number s (Sum a b) = stored_both _ (number64 s a) (number64 s b) (stored_number s a) (stored_number s b)
-stored_number s (Difference a b) = stored_both _ (number64 s a) (number64 s b) (stored_number s a) (stored_number s b)
-stored_number s (Product a b) = stored_both _ (number64 s a) (number64 s b) (stored_number s a) (stored_number s b)
-stored_number s (Quotient a c) = stored_good Any _ _ (stored_after Any Any (number64 s a) _ (stored_number s a) (λ m h. stored_checked _))
-stored_number s (Remainder a c) = stored_good Any _ _ (stored_after Any Any (number64 s a) _ (stored_number s a) (λ m h. stored_checked _))
+stored_number s (Opposite a) = stored_after Any Any (number64 s a) _ (stored_number s a) (λ m h. stored_checked (neg_ℤ m))
+stored_number s (Sum a b) = stored_both ◌+ℤ◌ (number64 s a) (number64 s b) (stored_number s a) (stored_number s b)
+stored_number s (Difference a b) = stored_both ◌-ℤ◌ (number64 s a) (number64 s b) (stored_number s a) (stored_number s b)
+stored_number s (Product a b) = stored_both ◌*ℤ◌ (number64 s a) (number64 s b) (stored_number s a) (stored_number s b)
+stored_number s (Quotient a c) = stored_good Any _ _ (stored_after Any Any (number64 s a) _ (stored_number s a) (λ m h. stored_checked (int_div_euclid m c)))
+stored_number s (Remainder a c) = stored_good Any _ _ (stored_after Any Any (number64 s a) _ (stored_number s a) (λ m h. stored_checked (int_rem_euclid m c)))
 
 -- ---- cells
 
