@@ -23,3 +23,4 @@ pub mod Grown
 pub mod Examples
 pub mod FirstState
 pub mod Sorted
+pub mod Covered
