@@ -24,3 +24,4 @@ pub mod Examples
 pub mod FirstState
 pub mod Sorted
 pub mod Covered
+pub mod CallExchanges

@@ -360,14 +360,14 @@ module _ (kinds : ℕ → Kind) where
 
 -- ---- admissible inputs
 
-scope_else : (ps : List Param) (scope : Scope) (x : ℕ) → is_buffer_of x ps ≡ false → sort_in (scope_of scope ps) x ≡ sort_in scope x
+pub scope_else : (ps : List Param) (scope : Scope) (x : ℕ) → is_buffer_of x ps ≡ false → sort_in (scope_of scope ps) x ≡ sort_in scope x
 scope_else [] scope x h = refl
 scope_else (p ∷ ps) scope x h =
     let q = or_parts (x == p.binder.id) (is_buffer_of x ps) h in
     scope_else ps (with_name scope p.binder (param_sort p.kind)) x q.1 ∙ ap (λ t. cond t (Some (param_sort p.kind)) (sort_in scope x)) q.0
 
 -- a parameter is in scope by its kind
-found : (scene : Scene) (ps : List Param) (scope : Scope) → Differ ps → AreArguments scene ps → (x : ℕ) → is_buffer_of x ps ≡ true → (kind : ParamKind) × IsArgument scene x kind × (sort_in (scope_of scope ps) x ≡ Some (param_sort kind))
+pub found : (scene : Scene) (ps : List Param) (scope : Scope) → Differ ps → AreArguments scene ps → (x : ℕ) → is_buffer_of x ps ≡ true → (kind : ParamKind) × IsArgument scene x kind × (sort_in (scope_of scope ps) x ≡ Some (param_sort kind))
 found scene [] scope d a x h = absurd (true≢false (sym h))
 found scene (p ∷ ps) scope d a x h = go (found scene ps (with_name scope p.binder (param_sort p.kind)) d.1 a.1 x) (x == p.binder.id) (eqb-true x p.binder.id) refl h
   where
