@@ -30,7 +30,7 @@ use Rattle.exo_context.proofs.Covered.{or_left, or_right, IsCovered}
 
 -- ---- the cells that a name sees are listed
 
-unmap : {T U : Type 0} (P : U → Type 0) (f : T → U) (xs : List T) → Each P (map f xs) → Each (λ x. P (f x)) xs
+pub unmap : {T U : Type 0} (P : U → Type 0) (f : T → U) (xs : List T) → Each P (map f xs) → Each (λ x. P (f x)) xs
 unmap P f [] h = tt
 unmap P f (x ∷ xs) h = (h.0, unmap P f xs h.1)
 
@@ -76,7 +76,7 @@ each_cell P (Range lo n ∷ sides) h (i ∷ is) at e =
     let there : Each (λ at. P ((lo +ℤ i) ∷ at)) (cells_of sides) = subst (λ j. Each (λ at. P ((lo +ℤ j) ∷ at)) (cells_of sides)) (sym k.1) (crossed_range P (cells_of sides) lo (count n) k.0 k.2 h) in
     subst P m.2 (each_cell (λ at. P ((lo +ℤ i) ∷ at)) sides there is m.0 m.1)
 
-each_window : (P : Entry → Type 0) (f : Place → Entry) (z : Seen) → Each P (window_entries f z) → (is at : List ℤ) → cell_at z.sides is ≡ Some at → P (f (record { buffer = z.buffer; at = at }))
+pub each_window : (P : Entry → Type 0) (f : Place → Entry) (z : Seen) → Each P (window_entries f z) → (is at : List ℤ) → cell_at z.sides is ≡ Some at → P (f (record { buffer = z.buffer; at = at }))
 each_window P f z h is at e = each_cell (λ at. P (f (record { buffer = z.buffer; at = at }))) z.sides (unmap P (λ at. f (record { buffer = z.buffer; at = at })) (cells_of z.sides) h) is at e
 
 -- ---- what the body may not see

@@ -25,3 +25,4 @@ pub mod FirstState
 pub mod Sorted
 pub mod Covered
 pub mod CallExchanges
+pub mod CallChanges

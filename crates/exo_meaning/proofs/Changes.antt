@@ -19,14 +19,14 @@ some_injective a b e = cc
 
 -- ---- footprints in a row
 
-stores_parts : (p : Place) (xs ys : List Entry) → stores p (xs ++ ys) ≡ false → (stores p xs ≡ false) × (stores p ys ≡ false)
+pub stores_parts : (p : Place) (xs ys : List Entry) → stores p (xs ++ ys) ≡ false → (stores p xs ≡ false) × (stores p ys ≡ false)
 stores_parts p [] ys h = (refl, h)
 stores_parts p (x ∷ xs) ys h =
     let t = or_parts (stores_one p x) (stores p (xs ++ ys)) h in
     let u = stores_parts p xs ys t.1 in
     (ap₂ (λ a b. a || b) t.0 u.0, u.1)
 
-overwrites_parts : (p : Place) (xs ys : List Entry) → overwrites p (xs ++ ys) ≡ false → (overwrites p xs ≡ false) × (overwrites p ys ≡ false)
+pub overwrites_parts : (p : Place) (xs ys : List Entry) → overwrites p (xs ++ ys) ≡ false → (overwrites p xs ≡ false) × (overwrites p ys ≡ false)
 overwrites_parts p [] ys h = (refl, h)
 overwrites_parts p (x ∷ xs) ys h =
     let t = or_parts (overwrites_one p x) (overwrites p (xs ++ ys)) h in
