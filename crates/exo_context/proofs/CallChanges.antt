@@ -19,7 +19,7 @@ use Rattle.exo_meaning.proofs.Windows.{cell_at_index}
 use Rattle.exo_meaning.proofs.Changes.{stores_parts, overwrites_parts, changes_then, changes_none, assigned, reduced_to, ScopedChanges, scoped_changes, choose_changes, made_changes}
 use Rattle.exo_context.specs.Sound.{IsSound}
 use Rattle.exo_context.specs.Sorted.{IsSorted, Ends}
-use Rattle.exo_context.specs.Touched.{Mode, Reading, Writing, Reducing, Modes, cells_of, window_entries, buffer_entries, param_entries, all_entries, given_entries, entries_to, call_entries, touched}
+use Rattle.exo_context.specs.Touched.{IsCovered, Mode, Reading, Writing, Reducing, Modes, cells_of, window_entries, buffer_entries, param_entries, all_entries, given_entries, entries_to, call_entries, touched}
 use Rattle.exo_context.proofs.Parts.{none_some, some_injective}
 use Rattle.exo_context.proofs.Names.{if_gives}
 use Rattle.exo_context.proofs.Substitute.{and_parts}
@@ -27,7 +27,7 @@ use Rattle.exo_context.proofs.Sound.{AreThere, all_there, step_sound, turn_sound
 use Rattle.exo_context.proofs.Copies.{if_both}
 use Rattle.exo_context.proofs.FirstState.{Differ, params_differ, HasType, Matches, AllMatch, all_match, enters}
 use Rattle.exo_context.proofs.Sorted.{Next, IsGood, step_next, run_ends, inside, turn_next, found}
-use Rattle.exo_context.proofs.Covered.{or_left, or_right, IsCovered}
+use Rattle.exo_context.proofs.Covered.{or_left, or_right}
 use Rattle.exo_context.proofs.CallExchanges.{each_window, Paired, paired}
 
 -- ---- what the modes say of the changes
@@ -83,11 +83,11 @@ module _ (outer : Scope) (all : Modes) where
 
   pub by_modes : (es : List Entry) (s t : State) → Each (IsCovered outer all) es → ChangesBy es s t → ModeChanges outer all s t
   by_modes es s t h c = record {
-      change = c.change;
-      cells = c.cells;
-      idle = λ x sort e w r at v. c.idle (record { buffer = x; at = at }) (not_stored es h x sort e w r at) v;
-      sums = λ x sort e w shape b at. c.sums (record { buffer = x; at = at }) shape b (not_overwritten es h x sort e w at)
-    }
+    change = c.change;
+    cells = c.cells;
+    idle = λ x sort e w r at v. c.idle (record { buffer = x; at = at }) (not_stored es h x sort e w r at) v;
+    sums = λ x sort e w shape b at. c.sums (record { buffer = x; at = at }) shape b (not_overwritten es h x sort e w at);
+  }
 
 -- ---- the copies of a call
 
@@ -125,8 +125,8 @@ module _ (s : State) where
   all_copied (p ∷ ps) [] t df = tt
   all_copied (p ∷ ps) (g ∷ gs) t df =
       if_then (OneCopied p.binder.id p.kind g t) (Copied (p ∷ ps) (g ∷ gs) t) (bind_buffer s p.binder.id p.kind g t) (bind_buffers s ps gs) (one_copied p.binder.id p.kind g t) (λ u k.
-        if_weaken (Copied ps gs u) (Copied (p ∷ ps) (g ∷ gs) t) (bind_buffers s ps gs u) (all_copied ps gs u df.1) (λ w l.
-          (λ b e. let q = or_parts (b == p.binder.id) (is_buffer_of b ps) e in l.0 b q.1 ∙ k.0 b q.0, (kept_copy p.kind g (u.cells p.binder.id) (w.cells p.binder.id) (l.0 p.binder.id df.0) k.1, l.1))))
+      if_weaken (Copied ps gs u) (Copied (p ∷ ps) (g ∷ gs) t) (bind_buffers s ps gs u) (all_copied ps gs u df.1) (λ w l.
+      (λ b e. let q = or_parts (b == p.binder.id) (is_buffer_of b ps) e in l.0 b q.1 ∙ k.0 b q.0, (kept_copy p.kind g (u.cells p.binder.id) (w.cells p.binder.id) (l.0 p.binder.id df.0) k.1, l.1))))
 
   pub entered_copies : (ps : List Param) (gs : List Given) → Differ ps → IfSome (entered ps gs s) (λ inner. AreCopies ps gs inner.cells)
   entered_copies ps gs df = if_then (λ c. Unit {0}) (λ (inner : State). AreCopies ps gs inner.cells) (bind_numbers ps gs (λ x. pos 0)) _ (any (bind_numbers ps gs (λ x. pos 0))) (λ c u. if_weaken (Copied ps gs (bare c s.scene.fields)) (λ (inner : State). AreCopies ps gs inner.cells) (bind_buffers s ps gs (bare c s.scene.fields)) (all_copied ps gs (bare c s.scene.fields) df) (λ inner k. k.1))
@@ -384,13 +384,13 @@ module _ (kinds : ℕ → Kind) where
 
           ends : (gs : List Given) → AllMatch fields kinds scope s sorted c.procedure.params gs → (inner w : State) → AreCopies s c.procedure.params gs inner.cells → AreArguments inner.scene c.procedure.params → ModeChanges (scope_of [] c.procedure.params) modes inner w → IsTidy (returned c gs s w) → ChangesBy (all_entries modes c.procedure.params gs) s (returned c gs s w)
           ends gs m inner w copies a mc tidy = record {
-              change = call_change c.writes c.procedure.params gs mc.change (λ b at v. v);
-              cells = ap (λ y. copied_back c.writes c.procedure.params gs y s.cells) mc.cells ∙ all_back s inner.cells mc.change c.writes c.procedure.params gs s.cells (λ b at v. v) (pairs c.procedure.params gs m) copies refl;
-              idle = λ p h v. call_idle c.writes modes wr mc.change c.procedure.params gs (λ b at v. v) p.buffer p.at v (pairs c.procedure.params gs m) h;
-              sums = λ p shape e h. call_sums c.writes modes wr mc.change s p.buffer p.at shape e c.procedure.params gs (λ b at v. v) (pairs c.procedure.params gs m) (all_add c.procedure modes df inner w a mc p.buffer p.at shape e c.writes wr c.procedure.params gs (λ x k. k) m a) h ([], λ v. refl);
-              shapes = λ p h. refl;
-              tidy = tidy
-            }
+            change = call_change c.writes c.procedure.params gs mc.change (λ b at v. v);
+            cells = ap (λ y. copied_back c.writes c.procedure.params gs y s.cells) mc.cells ∙ all_back s inner.cells mc.change c.writes c.procedure.params gs s.cells (λ b at v. v) (pairs c.procedure.params gs m) copies refl;
+            idle = λ p h v. call_idle c.writes modes wr mc.change c.procedure.params gs (λ b at v. v) p.buffer p.at v (pairs c.procedure.params gs m) h;
+            sums = λ p shape e h. call_sums c.writes modes wr mc.change s p.buffer p.at shape e c.procedure.params gs (λ b at v. v) (pairs c.procedure.params gs m) (all_add c.procedure modes df inner w a mc p.buffer p.at shape e c.writes wr c.procedure.params gs (λ x k. k) m a) h ([], λ v. refl);
+            shapes = λ p h. refl;
+            tidy = tidy;
+          }
 
           at_givens : (o : Option (List Given)) → IfSome o (AllMatch fields kinds scope s sorted c.procedure.params) → IfSome o (AreThere s) → IfSome (then_do o (λ gs. then_do (entered c.procedure.params gs s) (λ inner. option_map (returned c gs s) (run_asserted c inner)))) (λ t. IsTidy t → ChangesBy (given_entries modes c.procedure.params o) s t)
           at_givens None m i = tt

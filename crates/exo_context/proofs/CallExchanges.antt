@@ -18,7 +18,7 @@ use Rattle.exo_meaning.proofs.Windows.{where_parts, cell_at_index, index_at_cell
 use Rattle.exo_meaning.proofs.Deltas.{each_append, exchange_then, exchange_where, each_further, assign_exchanges, reduce_exchanges, others_later, made_exchanges, configure_exchanges, view_exchanges, choose_exchanges, scoped_exchanges, Grows, step_grows}
 use Rattle.exo_context.specs.Sound.{IsSound}
 use Rattle.exo_context.specs.Sorted.{IsSorted, Ends}
-use Rattle.exo_context.specs.Touched.{Mode, Reading, Writing, Reducing, Modes, crossed, cells_of, window_entries, buffer_entries, param_entries, all_entries, given_entries, entries_to, call_entries, touched, modes_in}
+use Rattle.exo_context.specs.Touched.{IsCovered, Mode, Reading, Writing, Reducing, Modes, crossed, cells_of, window_entries, buffer_entries, param_entries, all_entries, given_entries, entries_to, call_entries, touched, modes_in}
 use Rattle.exo_context.proofs.Parts.{none_some, some_injective, then_gives, map_gives}
 use Rattle.exo_context.proofs.Names.{if_gives}
 use Rattle.exo_context.proofs.Substitute.{and_parts}
@@ -26,7 +26,7 @@ use Rattle.exo_context.proofs.Sound.{IsThere, AreThere, all_there, step_sound, t
 use Rattle.exo_context.proofs.Copies.{if_both}
 use Rattle.exo_context.proofs.FirstState.{Differ, params_differ, Matches, AllMatch, all_match, enters}
 use Rattle.exo_context.proofs.Sorted.{Next, IsGood, step_next, run_ends, inside, turn_next, found, scope_else}
-use Rattle.exo_context.proofs.Covered.{or_left, or_right, IsCovered}
+use Rattle.exo_context.proofs.Covered.{or_left, or_right}
 
 -- ---- the cells that a name sees are listed
 
@@ -133,9 +133,10 @@ module _ (d : Change) where
   all_through : (D : Change) (ps : List Param) (gs : List Given) → Differ ps → ((x : ℕ) → is_buffer_of x ps ≡ true → D x ≡ inner_change ps gs x) → AllThrough D ps gs
   all_through D [] gs df h = tt
   all_through D (p ∷ ps) [] df h = tt
-  all_through D (p ∷ ps) (g ∷ gs) df h =
-      (h p.binder.id (ap (λ t. t || is_buffer_of p.binder.id ps) self) ∙ ap (λ t. cond {A = List ℤ → Value → Value} t (through_kind p.kind g) (inner_change ps gs p.binder.id)) self,
-        all_through D ps gs df.1 (λ x k. h x (or_later x k) ∙ other x k (x == p.binder.id) (eqb-true x p.binder.id)))
+  all_through D (p ∷ ps) (g ∷ gs) df h = (
+    h p.binder.id (ap (λ t. t || is_buffer_of p.binder.id ps) self) ∙ ap (λ t. cond {A = List ℤ → Value → Value} t (through_kind p.kind g) (inner_change ps gs p.binder.id)) self,
+    all_through D ps gs df.1 (λ x k. h x (or_later x k) ∙ other x k (x == p.binder.id) (eqb-true x p.binder.id)),
+  )
     where
       self : (p.binder.id == p.binder.id) ≡ true
       self = eq-eqb p.binder.id p.binder.id refl
@@ -196,16 +197,16 @@ module _ (d : Change) where
   one_obeys modes x (ControlParam k) g h = nothing_obeys modes x (ControlParam k)
   one_obeys modes x (TensorParam cell dims memory) (GivenNumber n) h = nothing_obeys modes x (TensorParam cell dims memory)
   one_obeys modes x (TensorParam cell dims memory) (GivenView z) h = record {
-      read = λ e at v. seen_read modes x cell z h e at v;
-      write = λ e at v. seen_written modes x cell z h e at v;
-      add = λ c r f k e at u v. subst (λ y. through (GivenView z) at (added y u v) ≡ added y u (through (GivenView z) at v)) (sort_cell cell (length dims) true c r f k) (seen_added modes x cell z h e at u v)
-    }
+    read = λ e at v. seen_read modes x cell z h e at v;
+    write = λ e at v. seen_written modes x cell z h e at v;
+    add = λ c r f k e at u v. subst (λ y. through (GivenView z) at (added y u v) ≡ added y u (through (GivenView z) at v)) (sort_cell cell (length dims) true c r f k) (seen_added modes x cell z h e at u v);
+  }
   one_obeys modes x (WindowParam cell dims memory) (GivenNumber n) h = nothing_obeys modes x (WindowParam cell dims memory)
   one_obeys modes x (WindowParam cell dims memory) (GivenView z) h = record {
-      read = λ e at v. seen_read modes x cell z h e at v;
-      write = λ e at v. seen_written modes x cell z h e at v;
-      add = λ c r f k e at u v. subst (λ y. through (GivenView z) at (added y u v) ≡ added y u (through (GivenView z) at v)) (sort_cell cell (length dims) false c r f k) (seen_added modes x cell z h e at u v)
-    }
+    read = λ e at v. seen_read modes x cell z h e at v;
+    write = λ e at v. seen_written modes x cell z h e at v;
+    add = λ c r f k e at u v. subst (λ y. through (GivenView z) at (added y u v) ≡ added y u (through (GivenView z) at v)) (sort_cell cell (length dims) false c r f k) (seen_added modes x cell z h e at u v);
+  }
 
   -- a given for each parameter
   abbrev pub Paired : List Param → List Given → Type 0
@@ -234,11 +235,11 @@ module _ (d : Change) where
 
   pub inner_obeys : (modes : Modes) (ps : List Param) (gs : List Given) → Differ ps → Paired ps gs → Each (Passes d) (all_entries modes ps gs) → Obeys (scope_of [] ps) modes (inner_change ps gs)
   inner_obeys modes ps gs df pair h = record {
-      idle = λ x e at v. idle x e at v (is_buffer_of x ps) refl;
-      read = λ x e at v. read x e at v (is_buffer_of x ps) refl;
-      write = λ x e at v. write x e at v (is_buffer_of x ps) refl;
-      add = λ x cell r f e k at u v. add x cell r f e k at u v (is_buffer_of x ps) refl
-    }
+    idle = λ x e at v. idle x e at v (is_buffer_of x ps) refl;
+    read = λ x e at v. read x e at v (is_buffer_of x ps) refl;
+    write = λ x e at v. write x e at v (is_buffer_of x ps) refl;
+    add = λ x cell r f e k at u v. add x cell r f e k at u v (is_buffer_of x ps) refl;
+  }
     where
       elsewhere : (x : ℕ) → is_buffer_of x ps ≡ false → (at : List ℤ) (v : Value) → inner_change ps gs x at v ≡ v
       elsewhere x k at v = ap (λ (f : List ℤ → Value → Value). f at v) (not_param ps gs x k)

@@ -14,7 +14,7 @@ use Rattle.exo_meaning.specs.Units.{Sort, ControlName, BufferName, Scope, sort_i
 use Rattle.exo_meaning.proofs.Frame.{if_then, if_map, if_where, any, if_weaken, here, place_root, window_root, root_of, more_roots}
 use Rattle.exo_context.specs.Sound.{IsSound, IsSameName}
 use Rattle.exo_context.specs.Sorted.{IsSorted, Ends}
-use Rattle.exo_context.specs.Touched.{Mode, Reading, Writing, Reducing, Modes, picked, reads_from, call_has, has_mode, step_has_mode, cells_of, window_entries, buffer_entries, param_entries, all_entries, given_entries, entries_to, call_entries, touched}
+use Rattle.exo_context.specs.Touched.{IsCovered, Mode, Reading, Writing, Reducing, Modes, picked, reads_from, call_has, has_mode, step_has_mode, cells_of, window_entries, buffer_entries, param_entries, all_entries, given_entries, entries_to, call_entries, touched}
 use Rattle.exo_context.proofs.Parts.{none_some, some_injective}
 use Rattle.exo_context.proofs.Names.{if_gives, step_names}
 use Rattle.exo_context.proofs.Substitute.{and_parts}
@@ -115,23 +115,16 @@ roots_next world (Call k args) root s h = if_weaken _ _ (step world (Call k args
 -- ---- what is covered
 
 module _ (outer : Scope) (all : Modes) where
-  -- the buffer has the mode; one of the first scope is reduced in its own cell type, and none of them is made
-  abbrev pub IsCovered : Entry → Type 0
-  IsCovered (Reads q) = all Reading q.buffer ≡ true
-  IsCovered (Writes q) = all Writing q.buffer ≡ true
-  IsCovered (Reduces cell q) = (all Reducing q.buffer ≡ true) × ((sort : Sort) → sort_in outer q.buffer ≡ Some sort → (r : ℕ) × (d : Bool) × (sort ≡ BufferName cell r d))
-  IsCovered (Made x) = sort_in outer x ≡ None
-
-  joined_read : (ps qs : List Place) → Each IsCovered (all_read ps) → Each IsCovered (all_read qs) → Each IsCovered (all_read (ps ++ qs))
+  joined_read : (ps qs : List Place) → Each (IsCovered outer all) (all_read ps) → Each (IsCovered outer all) (all_read qs) → Each (IsCovered outer all) (all_read (ps ++ qs))
   joined_read [] qs u v = v
   joined_read (p ∷ ps) qs u v = (u.0, joined_read ps qs u.1 v)
 
   module _ (root : ℕ → ℕ) (scene : Scene) (roots : HasRoots root scene) where
-    reads_covered : (e : Datum) → ((y : ℕ) → reads_from root e y ≡ true → all Reading y ≡ true) → Each IsCovered (all_read (reads scene e))
+    reads_covered : (e : Datum) → ((y : ℕ) → reads_from root e y ≡ true → all Reading y ≡ true) → Each (IsCovered outer all) (all_read (reads scene e))
     reads_covered (Const n) h = tt
     reads_covered (Read x is) h = go (place scene x is) (place_root root scene roots x is)
       where
-        go : (o : Option Place) → IfSome o (λ p. p.buffer ≡ root x) → Each IsCovered (all_read (listed o))
+        go : (o : Option Place) → IfSome o (λ p. p.buffer ≡ root x) → Each (IsCovered outer all) (all_read (listed o))
         go None k = tt
         go (Some p) k = (h p.buffer (eq-eqb p.buffer (root x) k), tt)
     reads_covered (Negated a) h = reads_covered a h
@@ -149,10 +142,10 @@ module _ (outer : Scope) (all : Modes) where
         (joined_read (reads scene c) (reads scene d) (reads_covered c (λ y k. h y (or_right (in_a y) (in_b y || (in_c y || in_d y)) (or_right (in_b y) (in_c y || in_d y) (or_left (in_c y) (in_d y) k)))))
         (reads_covered d (λ y k. h y (or_right (in_a y) (in_b y || (in_c y || in_d y)) (or_right (in_b y) (in_c y || in_d y) (or_right (in_c y) (in_d y) k)))))))
 
-    written_covered : (x : ℕ) (is : List Control) → (all Writing (root x) ≡ true) → Each IsCovered (written (place scene x is))
+    written_covered : (x : ℕ) (is : List Control) → (all Writing (root x) ≡ true) → Each (IsCovered outer all) (written (place scene x is))
     written_covered x is h = go (place scene x is) (place_root root scene roots x is)
       where
-        go : (o : Option Place) → IfSome o (λ p. p.buffer ≡ root x) → Each IsCovered (written o)
+        go : (o : Option Place) → IfSome o (λ p. p.buffer ≡ root x) → Each (IsCovered outer all) (written o)
         go None k = tt
         go (Some p) k = (ap (all Writing) k ∙ h, tt)
 
@@ -174,62 +167,62 @@ module _ (outer : Scope) (all : Modes) where
             (z.0, z.1, sort_is sort (BufferName cell z.0 z.1) (sym (within b sort k) ∙ ap (sort_in scope) e ∙ z.2 ∙ ap (λ y. Some (BufferName y z.0 z.1)) (sym (same_cell_is cell c h))))
 
     -- a window of a name whose buffer's modes are among all
-    window_covered : (f : Place → Entry) (z : Seen) → ((at : List ℤ) → IsCovered (f (record { buffer = z.buffer; at = at }))) → Each IsCovered (window_entries f z)
-    window_covered f z h = each_map IsCovered (λ at. f (record { buffer = z.buffer; at = at })) (cells_of z.sides) h
+    window_covered : (f : Place → Entry) (z : Seen) → ((at : List ℤ) → (IsCovered outer all) (f (record { buffer = z.buffer; at = at }))) → Each (IsCovered outer all) (window_entries f z)
+    window_covered f z h = each_map (IsCovered outer all) (λ at. f (record { buffer = z.buffer; at = at })) (cells_of z.sides) h
 
     abbrev Among : Modes → ℕ → ℕ → Type 0
     Among modes p b = (m : Mode) → modes m p ≡ true → all m b ≡ true
 
-    buffer_covered : (modes : Modes) (p : ℕ) (cell : Cell) (x : ℕ) (z : Seen) → has_cell cell (sort_in scope x) ≡ true → z.buffer ≡ root x → Among modes p (root x) → Each IsCovered (buffer_entries modes p cell (GivenView z))
+    buffer_covered : (modes : Modes) (p : ℕ) (cell : Cell) (x : ℕ) (z : Seen) → has_cell cell (sort_in scope x) ≡ true → z.buffer ≡ root x → Among modes p (root x) → Each (IsCovered outer all) (buffer_entries modes p cell (GivenView z))
     buffer_covered modes p cell x z has e among =
-        each_join IsCovered (chosen (modes Reading p) (window_entries Reads z) []) (chosen (modes Writing p) (window_entries Writes z) [] ++ chosen (modes Reducing p) (window_entries (Reduces cell) z) [])
-        (each_chosen IsCovered (modes Reading p) (window_entries Reads z) (λ h. window_covered Reads z (λ at. ap (all Reading) e ∙ among Reading h)))
-        (each_join IsCovered (chosen (modes Writing p) (window_entries Writes z) []) (chosen (modes Reducing p) (window_entries (Reduces cell) z) [])
-        (each_chosen IsCovered (modes Writing p) (window_entries Writes z) (λ h. window_covered Writes z (λ at. ap (all Writing) e ∙ among Writing h)))
-        (each_chosen IsCovered (modes Reducing p) (window_entries (Reduces cell) z) (λ h. window_covered (Reduces cell) z (λ at. (ap (all Reducing) e ∙ among Reducing h, of_type x cell has z.buffer e)))))
+        each_join (IsCovered outer all) (chosen (modes Reading p) (window_entries Reads z) []) (chosen (modes Writing p) (window_entries Writes z) [] ++ chosen (modes Reducing p) (window_entries (Reduces cell) z) [])
+        (each_chosen (IsCovered outer all) (modes Reading p) (window_entries Reads z) (λ h. window_covered Reads z (λ at. ap (all Reading) e ∙ among Reading h)))
+        (each_join (IsCovered outer all) (chosen (modes Writing p) (window_entries Writes z) []) (chosen (modes Reducing p) (window_entries (Reduces cell) z) [])
+        (each_chosen (IsCovered outer all) (modes Writing p) (window_entries Writes z) (λ h. window_covered Writes z (λ at. ap (all Writing) e ∙ among Writing h)))
+        (each_chosen (IsCovered outer all) (modes Reducing p) (window_entries (Reduces cell) z) (λ h. window_covered (Reduces cell) z (λ at. (ap (all Reducing) e ∙ among Reducing h, of_type x cell has z.buffer e)))))
 
     -- the buffer of a buffer argument
     abbrev AmongRoot : Modes → ℕ → Argument → Type 0
     AmongRoot modes p a = (y : ℕ) → is_root root y a ≡ true → Among modes p y
 
-    for_cell : (modes : Modes) (p : ℕ) (cell : Cell) (x : ℕ) (z : Seen) → has_cell cell (sort_in scope x) ≡ true → z.buffer ≡ root x → ((y : ℕ) → (y == root x) ≡ true → Among modes p y) → Each IsCovered (buffer_entries modes p cell (GivenView z))
+    for_cell : (modes : Modes) (p : ℕ) (cell : Cell) (x : ℕ) (z : Seen) → has_cell cell (sort_in scope x) ≡ true → z.buffer ≡ root x → ((y : ℕ) → (y == root x) ≡ true → Among modes p y) → Each (IsCovered outer all) (buffer_entries modes p cell (GivenView z))
     for_cell modes p cell x z has e among = buffer_covered modes p cell x z has e (among (root x) (eq-eqb (root x) (root x) refl))
 
-    given_covered : (modes : Modes) (p : ℕ) (kind : ParamKind) (a : Argument) → is_for fields scope kind a ≡ true → AmongRoot modes p a → IfSome (given s.scene a) (λ g. Each IsCovered (param_entries modes p kind g))
+    given_covered : (modes : Modes) (p : ℕ) (kind : ParamKind) (a : Argument) → is_for fields scope kind a ≡ true → AmongRoot modes p a → IfSome (given s.scene a) (λ g. Each (IsCovered outer all) (param_entries modes p kind g))
     given_covered modes p (ControlParam kind) a h among = if_weaken (λ g. Unit {0}) (λ g. Unit {0}) (given s.scene a) (any (given s.scene a)) (λ g u. tt)
     given_covered modes p (TensorParam cell dims memory) (ControlArg e) h among = tt
     given_covered modes p (TensorParam cell dims memory) (ConditionArg c) h among = tt
     given_covered modes p (TensorParam cell dims memory) (Whole x) h among =
         let has = (and_parts (has_cell cell (sort_in scope x)) _ h).0 in
-        if_map (λ z. z.buffer ≡ root x) (λ g. Each IsCovered (buffer_entries modes p cell g)) (s.scene.views x) GivenView (root_of root s.scene roots x) (λ z e. for_cell modes p cell x z has e among)
+        if_map (λ z. z.buffer ≡ root x) (λ g. Each (IsCovered outer all) (buffer_entries modes p cell g)) (s.scene.views x) GivenView (root_of root s.scene roots x) (λ z e. for_cell modes p cell x z has e among)
     given_covered modes p (TensorParam cell dims memory) (Window x coords) h among =
         let has = (and_parts (has_cell cell (sort_in scope x)) _ h).0 in
-        if_map (λ z. z.buffer ≡ root x) (λ g. Each IsCovered (buffer_entries modes p cell g)) (window s.scene x coords) GivenView (window_root root s.scene roots x coords) (λ z e. for_cell modes p cell x z has e among)
+        if_map (λ z. z.buffer ≡ root x) (λ g. Each (IsCovered outer all) (buffer_entries modes p cell g)) (window s.scene x coords) GivenView (window_root root s.scene roots x coords) (λ z e. for_cell modes p cell x z has e among)
     given_covered modes p (WindowParam cell dims memory) (ControlArg e) h among = tt
     given_covered modes p (WindowParam cell dims memory) (ConditionArg c) h among = tt
     given_covered modes p (WindowParam cell dims memory) (Whole x) h among =
         let has = (and_parts (has_cell cell (sort_in scope x)) _ h).0 in
-        if_map (λ z. z.buffer ≡ root x) (λ g. Each IsCovered (buffer_entries modes p cell g)) (s.scene.views x) GivenView (root_of root s.scene roots x) (λ z e. for_cell modes p cell x z has e among)
+        if_map (λ z. z.buffer ≡ root x) (λ g. Each (IsCovered outer all) (buffer_entries modes p cell g)) (s.scene.views x) GivenView (root_of root s.scene roots x) (λ z e. for_cell modes p cell x z has e among)
     given_covered modes p (WindowParam cell dims memory) (Window x coords) h among =
         let has = (and_parts (has_cell cell (sort_in scope x)) _ h).0 in
-        if_map (λ z. z.buffer ≡ root x) (λ g. Each IsCovered (buffer_entries modes p cell g)) (window s.scene x coords) GivenView (window_root root s.scene roots x coords) (λ z e. for_cell modes p cell x z has e among)
+        if_map (λ z. z.buffer ≡ root x) (λ g. Each (IsCovered outer all) (buffer_entries modes p cell g)) (window s.scene x coords) GivenView (window_root root s.scene roots x coords) (λ z e. for_cell modes p cell x z has e among)
 
-    all_covered : (modes : Modes) (ps : List Param) (args : List Argument) → are_for fields scope ps args ≡ true → ((m : Mode) (y : ℕ) → call_writes (modes m) root y ps args ≡ true → all m y ≡ true) → IfSome (all_given s.scene args) (λ gs. Each IsCovered (all_entries modes ps gs))
+    all_covered : (modes : Modes) (ps : List Param) (args : List Argument) → are_for fields scope ps args ≡ true → ((m : Mode) (y : ℕ) → call_writes (modes m) root y ps args ≡ true → all m y ≡ true) → IfSome (all_given s.scene args) (λ gs. Each (IsCovered outer all) (all_entries modes ps gs))
     all_covered modes [] args h among = if_weaken (λ gs. Unit {0}) (λ gs. Unit {0}) (all_given s.scene args) (any (all_given s.scene args)) (λ gs u. tt)
     all_covered modes (p ∷ ps) [] h among = tt
     all_covered modes (p ∷ ps) (a ∷ args) h among =
         let q = and_parts (is_for fields scope p.kind a) (are_for fields scope ps args) h in
-        if_then (λ g. Each IsCovered (param_entries modes p.binder.id p.kind g)) (λ gs. Each IsCovered (all_entries modes (p ∷ ps) gs)) (given s.scene a) _
+        if_then (λ g. Each (IsCovered outer all) (param_entries modes p.binder.id p.kind g)) (λ gs. Each (IsCovered outer all) (all_entries modes (p ∷ ps) gs)) (given s.scene a) _
         (given_covered modes p.binder.id p.kind a q.0 (λ y k m e. among m y (or_left (modes m p.binder.id && is_root root y a) (call_writes (modes m) root y ps args) (ap₂ (λ u v. u && v) e k)))) (λ g k.
-        if_map (λ gs. Each IsCovered (all_entries modes ps gs)) (λ gs. Each IsCovered (all_entries modes (p ∷ ps) gs)) (all_given s.scene args) (λ gs. g ∷ gs)
+        if_map (λ gs. Each (IsCovered outer all) (all_entries modes ps gs)) (λ gs. Each (IsCovered outer all) (all_entries modes (p ∷ ps) gs)) (all_given s.scene args) (λ gs. g ∷ gs)
         (all_covered modes ps args q.1 (λ m y e. among m y (or_right (modes m p.binder.id && is_root root y a) (call_writes (modes m) root y ps args) e))) (λ gs l.
-        each_join IsCovered (param_entries modes p.binder.id p.kind g) (all_entries modes ps gs) k l))
+        each_join (IsCovered outer all) (param_entries modes p.binder.id p.kind g) (all_entries modes ps gs) k l))
 
-    call_covered : (o : Option Callee) (modes : Modes) (args : List Argument) → is_call fields scope root o args ≡ true → ((m : Mode) (y : ℕ) → call_has o (modes m) root y args ≡ true → all m y ≡ true) → Each IsCovered (entries_to o modes args s)
+    call_covered : (o : Option Callee) (modes : Modes) (args : List Argument) → is_call fields scope root o args ≡ true → ((m : Mode) (y : ℕ) → call_has o (modes m) root y args ≡ true → all m y ≡ true) → Each (IsCovered outer all) (entries_to o modes args s)
     call_covered None modes args h among = tt
     call_covered (Some c) modes args h among = go (all_given s.scene args) (all_covered modes c.procedure.params args (and_parts (are_for fields scope c.procedure.params args) _ h).0 among)
       where
-        go : (o : Option (List Given)) → IfSome o (λ gs. Each IsCovered (all_entries modes c.procedure.params gs)) → Each IsCovered (given_entries modes c.procedure.params o)
+        go : (o : Option (List Given)) → IfSome o (λ gs. Each (IsCovered outer all) (all_entries modes c.procedure.params gs)) → Each (IsCovered outer all) (given_entries modes c.procedure.params o)
         go None k = tt
         go (Some gs) k = k
 
@@ -248,32 +241,32 @@ module _ (outer : Scope) (all : Modes) where
       pub sorted : IsSorted kinds scope s
       pub roots : HasRoots root s.scene
 
-    reduced_covered : (scope : Scope) (root : ℕ → ℕ) (s : State) → Within outer scope → At scope root s → (x : ℕ) (is : List Control) → all Reducing (root x) ≡ true → Each IsCovered (reduced s.scene (place s.scene x is))
+    reduced_covered : (scope : Scope) (root : ℕ → ℕ) (s : State) → Within outer scope → At scope root s → (x : ℕ) (is : List Control) → all Reducing (root x) ≡ true → Each (IsCovered outer all) (reduced s.scene (place s.scene x is))
     reduced_covered scope root s within h x is has = go (place s.scene x is) (place_root root s.scene h.roots x is)
       where
         sort_is : (a b : Sort) → Some a ≡ Some b → a ≡ b
         sort_is a b e = cc
 
-        by_shape : (p : Place) → p.buffer ≡ root x → (o : Option Shape) → s.scene.buffers p.buffer ≡ o → Each IsCovered (reduced_as p o)
+        by_shape : (p : Place) → p.buffer ≡ root x → (o : Option Shape) → s.scene.buffers p.buffer ≡ o → Each (IsCovered outer all) (reduced_as p o)
         by_shape p k None e = tt
         by_shape p k (Some shape) e =
             let z = h.sorted.buffers p.buffer shape e in
             ((ap (all Reducing) k ∙ has, λ sort j. (z.0, z.1, sort_is sort (BufferName shape.cell z.0 z.1) (sym (within p.buffer sort j) ∙ z.2))), tt)
 
-        go : (o : Option Place) → IfSome o (λ p. p.buffer ≡ root x) → Each IsCovered (reduced s.scene o)
+        go : (o : Option Place) → IfSome o (λ p. p.buffer ≡ root x) → Each (IsCovered outer all) (reduced s.scene o)
         go None k = tt
         go (Some p) k = by_shape p k (s.scene.buffers p.buffer) refl
 
-    turns_covered : (i : Binder) (body : State → Option State) (touch : State → List Entry) (scope : Scope) (root : ℕ → ℕ) → is_new scope i ≡ true → ((t : State) → At (with_name scope i (ControlName Index)) root t → Each IsCovered (touch t)) → ((t : State) → IsSound t → IsSorted kinds (with_name scope i (ControlName Index)) t → IfSome (body t) (Ends kinds t)) → (ns : List ℤ) (s : State) → At scope root s → Each IsCovered (turns_touch (turn i.id body) (λ n t. touch (on_scene (with_control i.id n) t)) ns s)
+    turns_covered : (i : Binder) (body : State → Option State) (touch : State → List Entry) (scope : Scope) (root : ℕ → ℕ) → is_new scope i ≡ true → ((t : State) → At (with_name scope i (ControlName Index)) root t → Each (IsCovered outer all) (touch t)) → ((t : State) → IsSound t → IsSorted kinds (with_name scope i (ControlName Index)) t → IfSome (body t) (Ends kinds t)) → (ns : List ℤ) (s : State) → At scope root s → Each (IsCovered outer all) (turns_touch (turn i.id body) (λ n t. touch (on_scene (with_control i.id n) t)) ns s)
     turns_covered i body touch scope root new k run_ok [] s h = tt
     turns_covered i body touch scope root new k run_ok (n ∷ ns) s h =
         let inner = on_scene (with_control i.id n) s in
-        each_join IsCovered (touch inner) (further (turn i.id body n s) (turns_touch (turn i.id body) (λ n t. touch (on_scene (with_control i.id n) t)) ns))
+        each_join (IsCovered outer all) (touch inner) (further (turn i.id body n s) (turns_touch (turn i.id body) (λ n t. touch (on_scene (with_control i.id n) t)) ns))
         (k inner (record { sound = record { tidy = h.sound.tidy; seen = h.sound.seen }; sorted = inside kinds scope i n s new h.sorted; roots = h.roots }))
-        (each_further IsCovered (turn i.id body n s) (turns_touch (turn i.id body) (λ n t. touch (on_scene (with_control i.id n) t)) ns) (λ t e. turns_covered i body touch scope root new k run_ok ns t (record {
+        (each_further (IsCovered outer all) (turn i.id body n s) (turns_touch (turn i.id body) (λ n t. touch (on_scene (with_control i.id n) t)) ns) (λ t e. turns_covered i body touch scope root new k run_ok ns t (record {
           sound = if_gives IsSound (turn i.id body n s) t (turn_sound i.id body n s h.sound) e;
           sorted = (if_gives (Next kinds scope s) (turn i.id body n s) t (turn_next kinds fields agree memories world same good i body scope new run_ok n s h.sound h.sorted) e).sorted;
-          roots = if_gives (λ (z : State). HasRoots root z.scene) (turn i.id body n s) t (if_map (λ z. Unit {0}) (λ (z : State). HasRoots root z.scene) (body inner) (left s) (any (body inner)) (λ z u. h.roots)) e
+          roots = if_gives (λ (z : State). HasRoots root z.scene) (turn i.id body n s) t (if_map (λ z. Unit {0}) (λ (z : State). HasRoots root z.scene) (body inner) (left s) (any (body inner)) (λ z u. h.roots)) e;
         })))
 
     not_in_outer : (x : Binder) (scope : Scope) → is_new scope x ≡ true → Within outer scope → sort_in outer x.id ≡ None
@@ -283,7 +276,7 @@ module _ (outer : Scope) (all : Modes) where
         go None e = refl
         go (Some sort) e = absurd (none_some (sym (new_is_none scope x new) ∙ within x.id sort e))
 
-    pick : (t : Bool) (es fs : List Entry) → Each IsCovered es → Each IsCovered fs → Each IsCovered (chosen t es fs)
+    pick : (t : Bool) (es fs : List Entry) → Each (IsCovered outer all) es → Each (IsCovered outer all) fs → Each (IsCovered outer all) (chosen t es fs)
     pick true es fs h k = h
     pick false es fs h k = k
 
@@ -313,24 +306,24 @@ module _ (outer : Scope) (all : Modes) where
     typed_after (Call k args) scope root ok h = h
 
     mutual
-      pub run_covered : (b : Block) (scope : Scope) (root : ℕ → ℕ) → is_block fields memories world.callees scope root b ≡ true → Within outer scope → RootsTyped scope root → Sub root b → (s : State) → At scope root s → Each IsCovered (touched world modes b s)
+      pub run_covered : (b : Block) (scope : Scope) (root : ℕ → ℕ) → is_block fields memories world.callees scope root b ≡ true → Within outer scope → RootsTyped scope root → Sub root b → (s : State) → At scope root s → Each (IsCovered outer all) (touched world modes b s)
       run_covered end scope root ok within typed sub = λ s h. tt
       run_covered (next a b) scope root ok within typed sub = λ s h.
           let p = and_parts (is_statement fields memories world.callees scope root a) (is_block fields memories world.callees (scope_after a scope) (roots_after a root) b) ok in
-          let now : Each IsCovered (step_footprint world (call_entries world.callees modes) a s) = step_covered a scope root p.0 within typed (λ m y e. sub m y (or_left (step_has_mode world.callees modes m root a y) (has_mode world.callees modes m (roots_after a root) b y) e)) s h in
-          each_join IsCovered (step_footprint world (call_entries world.callees modes) a s) (further (step world a s) (footprint world (call_entries world.callees modes) b)) now
-          (each_further IsCovered (step world a s) (footprint world (call_entries world.callees modes) b) (λ t e.
-            run_covered b (scope_after a scope) (roots_after a root) p.1 (within_after a scope root p.0 within) (typed_after a scope root p.0 typed) (λ m y e. sub m y (or_right (step_has_mode world.callees modes m root a y) (has_mode world.callees modes m (roots_after a root) b y) e)) t (record {
-              sound = if_gives IsSound (step world a s) t (step_sound world a s h.sound) e;
-              sorted = (if_gives (Next kinds (scope_after a scope) s) (step world a s) t (step_next kinds fields agree memories world same good a scope root p.0 s h.sound h.sorted) e).sorted;
-              roots = if_gives (λ (z : State). HasRoots (roots_after a root) z.scene) (step world a s) t (roots_next world a root s h.roots) e
-            })))
+          let now : Each (IsCovered outer all) (step_footprint world (call_entries world.callees modes) a s) = step_covered a scope root p.0 within typed (λ m y e. sub m y (or_left (step_has_mode world.callees modes m root a y) (has_mode world.callees modes m (roots_after a root) b y) e)) s h in
+          each_join (IsCovered outer all) (step_footprint world (call_entries world.callees modes) a s) (further (step world a s) (footprint world (call_entries world.callees modes) b)) now
+          (each_further (IsCovered outer all) (step world a s) (footprint world (call_entries world.callees modes) b) (λ t e.
+          run_covered b (scope_after a scope) (roots_after a root) p.1 (within_after a scope root p.0 within) (typed_after a scope root p.0 typed) (λ m y e. sub m y (or_right (step_has_mode world.callees modes m root a y) (has_mode world.callees modes m (roots_after a root) b y) e)) t (record {
+            sound = if_gives IsSound (step world a s) t (step_sound world a s h.sound) e;
+            sorted = (if_gives (Next kinds (scope_after a scope) s) (step world a s) t (step_next kinds fields agree memories world same good a scope root p.0 s h.sound h.sorted) e).sorted;
+            roots = if_gives (λ (z : State). HasRoots (roots_after a root) z.scene) (step world a s) t (roots_next world a root s h.roots) e;
+          })))
 
-      step_covered : (a : Statement) (scope : Scope) (root : ℕ → ℕ) → is_statement fields memories world.callees scope root a ≡ true → Within outer scope → RootsTyped scope root → SubStep root a → (s : State) → At scope root s → Each IsCovered (step_footprint world (call_entries world.callees modes) a s)
+      step_covered : (a : Statement) (scope : Scope) (root : ℕ → ℕ) → is_statement fields memories world.callees scope root a ≡ true → Within outer scope → RootsTyped scope root → SubStep root a → (s : State) → At scope root s → Each (IsCovered outer all) (step_footprint world (call_entries world.callees modes) a s)
       step_covered (Assign x is e) scope root ok within typed sub = λ s h.
-          each_join IsCovered (all_read (reads s.scene e)) (written (place s.scene x is)) (reads_covered root s.scene h.roots e (λ y k. sub Reading y k)) (written_covered root s.scene h.roots x is (sub Writing (root x) (eq-eqb (root x) (root x) refl)))
+          each_join (IsCovered outer all) (all_read (reads s.scene e)) (written (place s.scene x is)) (reads_covered root s.scene h.roots e (λ y k. sub Reading y k)) (written_covered root s.scene h.roots x is (sub Writing (root x) (eq-eqb (root x) (root x) refl)))
       step_covered (Reduce x is e) scope root ok within typed sub = λ s h.
-          each_join IsCovered (all_read (reads s.scene e)) (reduced s.scene (place s.scene x is)) (reads_covered root s.scene h.roots e (λ y k. sub Reading y k)) (reduced_covered scope root s within h x is (sub Reducing (root x) (eq-eqb (root x) (root x) refl)))
+          each_join (IsCovered outer all) (all_read (reads s.scene e)) (reduced s.scene (place s.scene x is)) (reads_covered root s.scene h.roots e (λ y k. sub Reading y k)) (reduced_covered scope root s within h x is (sub Reducing (root x) (eq-eqb (root x) (root x) refl)))
       step_covered (Config f a) scope root ok within typed sub = λ s h. tt
       step_covered Pass scope root ok within typed sub = λ s h. tt
       step_covered (If c a b) scope root ok within typed sub = λ s h.

@@ -26,3 +26,4 @@ pub mod Sorted
 pub mod Covered
 pub mod CallExchanges
 pub mod CallChanges
+pub mod UnitFootprints

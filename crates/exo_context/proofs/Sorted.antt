@@ -432,7 +432,7 @@ module _ (kinds : ℕ → Kind) (fields : ℕ → Option Kind) (memories : ℕ) 
 
 -- ---- units
 
-agrees : (fields : List ConfigField) (f : ℕ) (k : Kind) → field_kind fields f ≡ Some k → kinds_of fields f ≡ k
+pub agrees : (fields : List ConfigField) (f : ℕ) (k : Kind) → field_kind fields f ≡ Some k → kinds_of fields f ≡ k
 agrees [] zero k e = absurd (none_some e)
 agrees [] (suc f) k e = absurd (none_some e)
 agrees (field ∷ fields) zero k e = some_injective field.kind k e
@@ -451,7 +451,7 @@ module _ (fields : List ConfigField) (memories : ℕ) where
   all_good_more (x ∷ cs) c h k zero d e = h zero d e
   all_good_more (x ∷ cs) c h k (suc n) d e = all_good_more cs c (λ m. h (suc m)) k n d e
 
-  good_callee : (above : List Callee) (p : Procedure) → AllGood above → IsProcedure (field_kind fields) memories (slice_get above) p → IsGood kinds_are (field_kind fields) memories (callee_in (world_of kinds_are above) p)
+  pub good_callee : (above : List Callee) (p : Procedure) → AllGood above → IsProcedure (field_kind fields) memories (slice_get above) p → IsGood kinds_are (field_kind fields) memories (callee_in (world_of kinds_are above) p)
   good_callee above p h ok = (ok.params, λ world s same adm. run_ends kinds_are (field_kind fields) (agrees fields) memories (world_of kinds_are above) refl h p.body (scope_of [] p.params) (λ x. x) ok.body s (admissible_sound world p s adm) (admissible_sorted kinds_are (field_kind fields) memories world same p ok.params s adm))
 
   all_good : (above : List Callee) (ps : List Procedure) → AllGood above → AreProcedures fields memories above ps → AllGood (callees kinds_are above ps)
