@@ -14,6 +14,9 @@ use Rattle.exo_meaning.specs.Inputs.{IsAdmissible, Refines, run_procedure}
 use Rattle.exo_context.specs.Scoped.{is_scoped, is_param}
 use Rattle.exo_context.specs.Substitute.{in_block}
 use Rattle.exo_context.specs.Grown.{calls_below}
+use Rattle.exo_meaning.specs.Footprint.{Writes}
+use Rattle.exo_context.specs.Sorted.{MayRun}
+use Rattle.exo_context.specs.Touched.{Reading, Writing, touched, unit_modes}
 use Rattle.exo_context.proofs.SameRuns.{same_runs_refine}
 
 -- ---- a step's proof: a sum with its sides exchanged, at any place
@@ -127,3 +130,50 @@ no_calls = refl
 -- x[i] = 3 with i + 1 for i
 substituted : in_block 1 (Add (Var 1) (Lit (pos 1))) (stored 0 (Var 1 ∷ []) (Const (pos 3))) ≡ stored 0 (Add (Var 1) (Lit (pos 1)) ∷ []) (Const (pos 3))
 substituted = refl
+
+-- ---- what a call touches
+
+-- def fill(n: size, w: [i8][n]): for l in seq(0, n): w[l] = 5
+abbrev fill_five : Procedure
+fill_five = record {
+  name = [];
+  template = None;
+  params = record { binder = binder 10; kind = ControlParam Size } ∷ record { binder = binder 11; kind = WindowParam I8 (Var 10 ∷ []) 0 } ∷ [];
+  asserts = [];
+  body = next (For (binder 12) (Lit (pos 0)) (Var 10) (stored 11 (Var 12 ∷ []) (Const (pos 5)))) end;
+}
+
+abbrev unit : World
+unit = unit_world (λ f. Index) (fill_five ∷ [])
+
+-- fill(2, x[3:5])
+abbrev call_it : Block
+call_it = next (Call 0 (ControlArg (Lit (pos 2)) ∷ Window 0 (Span (Lit (pos 3)) (Lit (pos 5)) ∷ []) ∷ [])) end
+
+its_window_is_written : unit_modes (λ f. Index) (fill_five ∷ []) 0 Writing 11 ≡ true
+its_window_is_written = refl
+
+it_is_not_read : unit_modes (λ f. Index) (fill_five ∷ []) 0 Reading 11 ≡ false
+it_is_not_read = refl
+
+-- one entry for each cell of the window
+two_cells : touched unit (unit_modes (λ f. Index) (fill_five ∷ [])) call_it input ≡ Writes (record { buffer = 0; at = pos 3 ∷ [] }) ∷ Writes (record { buffer = 0; at = pos 4 ∷ [] }) ∷ []
+two_cells = refl
+
+abbrev filled_cell : Option State → Value
+filled_cell None = Undefined
+filled_cell (Some t) = t.cells 0 (pos 4 ∷ [])
+
+it_fills : filled_cell (run unit call_it input) ≡ Number (pos 5)
+unfolding int_wrap
+it_fills = refl
+
+-- and the unit of that procedure alone is well formed
+abbrev fill_named : Procedure
+fill_named = record fill_five {
+  params = record { binder = record { id = 10; name = 110 ∷ [] }; kind = ControlParam Size } ∷ record { binder = record { id = 11; name = 119 ∷ [] }; kind = WindowParam I8 (Var 10 ∷ []) 0 } ∷ [];
+  body = next (For (record { id = 12; name = 108 ∷ [] }) (Lit (pos 0)) (Var 10) (stored 11 (Var 12 ∷ []) (Const (pos 5)))) end;
+}
+
+may_run : MayRun [] 1 [] fill_named
+may_run = record { unit = tt; procedure = record { params = refl; asserts = refl; body = refl; filled = refl; ids = refl; distinct = refl; paths = refl; template = refl } }

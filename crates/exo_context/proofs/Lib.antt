@@ -23,3 +23,7 @@ pub mod Grown
 pub mod Examples
 pub mod FirstState
 pub mod Sorted
+pub mod Covered
+pub mod CallExchanges
+pub mod CallChanges
+pub mod UnitFootprints

@@ -29,7 +29,7 @@ stored_fits cell Undefined = tt
 stored_fits cell (Number n) = int_wrap_fits (width cell) (int_wrap (width cell) n) (SFits-int_wrap (width cell) n)
 
 -- a new name is none that is in scope
-is_other : (scope : Scope) (x : Binder) → is_new scope x ≡ true → (y : ℕ) (sort : Sort) → sort_in scope y ≡ Some sort → (y == x.id) ≡ false
+pub is_other : (scope : Scope) (x : Binder) → is_new scope x ≡ true → (y : ℕ) (sort : Sort) → sort_in scope y ≡ Some sort → (y == x.id) ≡ false
 is_other scope x new y sort e = go (y == x.id) (eqb-true y x.id)
   where
     go : (t : Bool) → (t ≡ true → y ≡ x.id) → t ≡ false
@@ -147,7 +147,7 @@ module _ (kinds : ℕ → Kind) where
       by_name y c r dense z shape true sort v b = view_is (sort_in scope x) refl has c r dense z shape sort (some_injective seen z v) b
       by_name y c r dense z shape false sort v b = h.views y c r dense z sort v shape b
 
-  inside : (scope : Scope) (i : Binder) (n : ℤ) (s : State) → is_new scope i ≡ true → IsSorted kinds scope s → IsSorted kinds (with_name scope i (ControlName Index)) (on_scene (with_control i.id n) s)
+  pub inside : (scope : Scope) (i : Binder) (n : ℤ) (s : State) → is_new scope i ≡ true → IsSorted kinds scope s → IsSorted kinds (with_name scope i (ControlName Index)) (on_scene (with_control i.id n) s)
   inside scope i n s new h = record {
     buffers = λ b shape k. let z = h.buffers b shape k in (z.0, z.1, ap (λ t. cond t (Some (ControlName Index)) (sort_in scope b)) (is_other scope i new b _ z.2) ∙ z.2);
     views = λ y c r dense z sort v shape b. go y c r dense z shape (y == i.id) sort v b;
@@ -276,12 +276,16 @@ module _ (kinds : ℕ → Kind) where
     chosen true f g s h k = h
     chosen false f g s h k = k
 
+    pub turn_next : (i : Binder) (body : State → Option State) (scope : Scope) → is_new scope i ≡ true → ((s : State) → IsSound s → IsSorted kinds (with_name scope i (ControlName Index)) s → IfSome (body s) (Ends kinds s)) → (n : ℤ) (s : State) → IsSound s → IsSorted kinds scope s → IfSome (turn i.id body n s) (Next scope s)
+    turn_next i body scope new k n s sound h =
+        let inner = on_scene (with_control i.id n) s in
+        if_map (Ends kinds inner) (Next scope s) (body inner) (left s) (k inner (record { tidy = sound.tidy; seen = sound.seen }) (inside scope i n s new h)) (λ t e. left_next scope s t h e.kept e.cells e.fields)
+
     turns_next : (i : Binder) (body : State → Option State) (scope : Scope) → is_new scope i ≡ true → ((s : State) → IsSound s → IsSorted kinds (with_name scope i (ControlName Index)) s → IfSome (body s) (Ends kinds s)) → (ns : List ℤ) (s : State) → IsSound s → IsSorted kinds scope s → IfSome (turns (turn i.id body) ns s) (Next scope s)
     turns_next i body scope new k [] = λ s sound h. next_self scope s h
     turns_next i body scope new k (n ∷ ns) = λ s sound h.
-        let inner = on_scene (with_control i.id n) s in
         if_then (λ t. IsSound t × Next scope s t) (Next scope s) (turn i.id body n s) (turns (turn i.id body) ns)
-        (if_both IsSound (Next scope s) (λ t. IsSound t × Next scope s t) (turn i.id body n s) (turn_sound i.id body n s sound) (if_map (Ends kinds inner) (Next scope s) (body inner) (left s) (k inner (record { tidy = sound.tidy; seen = sound.seen }) (inside scope i n s new h)) (λ t e. left_next scope s t h e.kept e.cells e.fields)) (λ t a b. (a, b)))
+        (if_both IsSound (Next scope s) (λ t. IsSound t × Next scope s t) (turn i.id body n s) (turn_sound i.id body n s sound) (turn_next i body scope new k n s sound h) (λ t a b. (a, b)))
         (λ t z. if_weaken (Next scope t) (Next scope s) (turns (turn i.id body) ns t) (turns_next i body scope new k ns t z.0 z.1.sorted) (λ u e. record { sorted = e.sorted; kept_buffers = λ c shape m. e.kept_buffers c shape (z.1.kept_buffers c shape m) }))
 
     mutual
@@ -356,14 +360,14 @@ module _ (kinds : ℕ → Kind) where
 
 -- ---- admissible inputs
 
-scope_else : (ps : List Param) (scope : Scope) (x : ℕ) → is_buffer_of x ps ≡ false → sort_in (scope_of scope ps) x ≡ sort_in scope x
+pub scope_else : (ps : List Param) (scope : Scope) (x : ℕ) → is_buffer_of x ps ≡ false → sort_in (scope_of scope ps) x ≡ sort_in scope x
 scope_else [] scope x h = refl
 scope_else (p ∷ ps) scope x h =
     let q = or_parts (x == p.binder.id) (is_buffer_of x ps) h in
     scope_else ps (with_name scope p.binder (param_sort p.kind)) x q.1 ∙ ap (λ t. cond t (Some (param_sort p.kind)) (sort_in scope x)) q.0
 
 -- a parameter is in scope by its kind
-found : (scene : Scene) (ps : List Param) (scope : Scope) → Differ ps → AreArguments scene ps → (x : ℕ) → is_buffer_of x ps ≡ true → (kind : ParamKind) × IsArgument scene x kind × (sort_in (scope_of scope ps) x ≡ Some (param_sort kind))
+pub found : (scene : Scene) (ps : List Param) (scope : Scope) → Differ ps → AreArguments scene ps → (x : ℕ) → is_buffer_of x ps ≡ true → (kind : ParamKind) × IsArgument scene x kind × (sort_in (scope_of scope ps) x ≡ Some (param_sort kind))
 found scene [] scope d a x h = absurd (true≢false (sym h))
 found scene (p ∷ ps) scope d a x h = go (found scene ps (with_name scope p.binder (param_sort p.kind)) d.1 a.1 x) (x == p.binder.id) (eqb-true x p.binder.id) refl h
   where
@@ -428,7 +432,7 @@ module _ (kinds : ℕ → Kind) (fields : ℕ → Option Kind) (memories : ℕ) 
 
 -- ---- units
 
-agrees : (fields : List ConfigField) (f : ℕ) (k : Kind) → field_kind fields f ≡ Some k → kinds_of fields f ≡ k
+pub agrees : (fields : List ConfigField) (f : ℕ) (k : Kind) → field_kind fields f ≡ Some k → kinds_of fields f ≡ k
 agrees [] zero k e = absurd (none_some e)
 agrees [] (suc f) k e = absurd (none_some e)
 agrees (field ∷ fields) zero k e = some_injective field.kind k e
@@ -447,7 +451,7 @@ module _ (fields : List ConfigField) (memories : ℕ) where
   all_good_more (x ∷ cs) c h k zero d e = h zero d e
   all_good_more (x ∷ cs) c h k (suc n) d e = all_good_more cs c (λ m. h (suc m)) k n d e
 
-  good_callee : (above : List Callee) (p : Procedure) → AllGood above → IsProcedure (field_kind fields) memories (slice_get above) p → IsGood kinds_are (field_kind fields) memories (callee_in (world_of kinds_are above) p)
+  pub good_callee : (above : List Callee) (p : Procedure) → AllGood above → IsProcedure (field_kind fields) memories (slice_get above) p → IsGood kinds_are (field_kind fields) memories (callee_in (world_of kinds_are above) p)
   good_callee above p h ok = (ok.params, λ world s same adm. run_ends kinds_are (field_kind fields) (agrees fields) memories (world_of kinds_are above) refl h p.body (scope_of [] p.params) (λ x. x) ok.body s (admissible_sound world p s adm) (admissible_sorted kinds_are (field_kind fields) memories world same p ok.params s adm))
 
   all_good : (above : List Callee) (ps : List Procedure) → AllGood above → AreProcedures fields memories above ps → AllGood (callees kinds_are above ps)

@@ -13,3 +13,4 @@ pub mod Fresh
 pub mod Pairs
 pub mod Grown
 pub mod Sorted
+pub mod Touched

@@ -29,6 +29,11 @@ ghost use Rattle.exo_context.specs.Context.{SameRunsRefineLaw};
 ghost use Rattle.exo_context.specs.Sorted.{FirstStateLaw};
 ghost use Rattle.exo_context.specs.Sorted.{FitLaw};
 ghost use Rattle.exo_context.specs.Sorted.{FitsAtLaw};
+ghost use Rattle.exo_context.specs.Touched.{ModesCover};
+ghost use Rattle.exo_context.specs.Touched.{RunsGoByFootprint};
+ghost use Rattle.exo_context.specs.Touched.{RunsExchange};
+ghost use Rattle.exo_context.specs.Touched.{TurnsWithCallsCommute};
+ghost use Rattle.exo_context.specs.Touched.{PairsWithCallsCommute};
 
 /// A procedure in which a block is replaced is refined by it, where the new block may replace the old one at each state that comes to it.
 pub fn replaced_refines()
@@ -173,4 +178,29 @@ pub fn runs_fit()
 /// In a well-formed unit the names, cells and fields of each state that a run comes to are of their sorts.
 pub fn places_fit()
     ensures { FitsAtLaw }
+{}
+
+/// A run of a procedure touches each parameter in its modes alone, calls included.
+pub fn parameters_are_touched_in_their_modes()
+    ensures { ModesCover }
+{}
+
+/// A run changes the cells as its footprint says, calls included.
+pub fn runs_go_by_footprint()
+    ensures { RunsGoByFootprint }
+{}
+
+/// A run exchanges with each change of cells that its footprint lets pass, calls included.
+pub fn runs_exchange()
+    ensures { RunsExchange }
+{}
+
+/// Two turns commute whose footprints do not clash, calls included.
+pub fn turns_with_calls_commute()
+    ensures { TurnsWithCallsCommute }
+{}
+
+/// Two turns of a nest of loops commute where their footprints do not clash, calls included.
+pub fn pairs_with_calls_commute()
+    ensures { PairsWithCallsCommute }
 {}

@@ -19,14 +19,14 @@ some_injective a b e = cc
 
 -- ---- footprints in a row
 
-stores_parts : (p : Place) (xs ys : List Entry) → stores p (xs ++ ys) ≡ false → (stores p xs ≡ false) × (stores p ys ≡ false)
+pub stores_parts : (p : Place) (xs ys : List Entry) → stores p (xs ++ ys) ≡ false → (stores p xs ≡ false) × (stores p ys ≡ false)
 stores_parts p [] ys h = (refl, h)
 stores_parts p (x ∷ xs) ys h =
     let t = or_parts (stores_one p x) (stores p (xs ++ ys)) h in
     let u = stores_parts p xs ys t.1 in
     (ap₂ (λ a b. a || b) t.0 u.0, u.1)
 
-overwrites_parts : (p : Place) (xs ys : List Entry) → overwrites p (xs ++ ys) ≡ false → (overwrites p xs ≡ false) × (overwrites p ys ≡ false)
+pub overwrites_parts : (p : Place) (xs ys : List Entry) → overwrites p (xs ++ ys) ≡ false → (overwrites p xs ≡ false) × (overwrites p ys ≡ false)
 overwrites_parts p [] ys h = (refl, h)
 overwrites_parts p (x ∷ xs) ys h =
     let t = or_parts (overwrites_one p x) (overwrites p (xs ++ ys)) h in
@@ -37,7 +37,7 @@ added_all-append : (cell : Cell) (us ws : List Value) (v : Value) → added_all 
 added_all-append cell [] ws v = refl
 added_all-append cell (u ∷ us) ws v = added_all-append cell us ws (added cell u v)
 
-changes_then : (xs ys : List Entry) (s t u : State) → ChangesBy xs s t → ChangesBy ys t u → ChangesBy (xs ++ ys) s u
+pub changes_then : (xs ys : List Entry) (s t u : State) → ChangesBy xs s t → ChangesBy ys t u → ChangesBy (xs ++ ys) s u
 changes_then xs ys s t u m n = record {
   change = λ b at v. n.change b at (m.change b at v);
   cells = n.cells ∙ ap (under n.change) m.cells;
@@ -52,7 +52,7 @@ changes_then xs ys s t u m n = record {
 }
 
 -- no change of cells
-changes_none : (es : List Entry) (s t : State) → t.cells ≡ s.cells → t.scene.buffers ≡ s.scene.buffers → IsTidy s → ChangesBy es s t
+pub changes_none : (es : List Entry) (s t : State) → t.cells ≡ s.cells → t.scene.buffers ≡ s.scene.buffers → IsTidy s → ChangesBy es s t
 changes_none es s t e f h = record {
   change = λ b at v. v;
   cells = e;
@@ -62,7 +62,7 @@ changes_none es s t e f h = record {
   tidy = λ x d at. ap (λ c. c x at) e ∙ h x (ap (λ g. g x) (sym f) ∙ d) at;
 }
 
-changes_further : (xs : List Entry) (s : State) (o : Option State) (g : State → Option State) (touch : State → List Entry) → IfSome o (ChangesBy xs s) → ((t : State) → IsTidy t → IfSome (g t) (ChangesBy (touch t) t)) → IfSome (then_do o g) (ChangesBy (xs ++ further o touch) s)
+pub changes_further : (xs : List Entry) (s : State) (o : Option State) (g : State → Option State) (touch : State → List Entry) → IfSome o (ChangesBy xs s) → ((t : State) → IsTidy t → IfSome (g t) (ChangesBy (touch t) t)) → IfSome (then_do o g) (ChangesBy (xs ++ further o touch) s)
 changes_further xs s None g touch m k = tt
 changes_further xs s (Some t) g touch m k = if_weaken (ChangesBy (touch t) t) (ChangesBy (xs ++ touch t) s) (g t) (k t m.tidy) (λ u n. changes_then xs (touch t) s t u m n)
 
@@ -115,7 +115,7 @@ module _ (s : State) (p : Place) (shape : Shape) (at_p : s.scene.buffers p.buffe
           (u ∷ [], λ v. ap (λ z. added z.cell u v) same)
 
 module _ (s : State) (tidy : IsTidy s) (rs : List Place) where
-  assigned : (o : Option Place) (r : Option Value) → IfSome (then_do o (λ p. then_do r (λ v. put s (λ old. v) p))) (ChangesBy (all_read rs ++ written o) s)
+  pub assigned : (o : Option Place) (r : Option Value) → IfSome (then_do o (λ p. then_do r (λ v. put s (λ old. v) p))) (ChangesBy (all_read rs ++ written o) s)
   assigned None r = tt
   assigned (Some p) None = tt
   assigned (Some p) (Some v) = go (s.scene.buffers p.buffer) refl
@@ -124,7 +124,7 @@ module _ (s : State) (tidy : IsTidy s) (rs : List Place) where
       go None e = tt
       go (Some shape) e = stored_changes s p shape e tidy rs (stored_as shape.cell v)
 
-  reduced_to : (o : Option Place) (r : Option Value) → IfSome (then_do o (λ p. then_do r (λ v. put s (λ old. on_two ◌+ℤ◌ old v) p))) (ChangesBy (all_read rs ++ reduced s.scene o) s)
+  pub reduced_to : (o : Option Place) (r : Option Value) → IfSome (then_do o (λ p. then_do r (λ v. put s (λ old. on_two ◌+ℤ◌ old v) p))) (ChangesBy (all_read rs ++ reduced s.scene o) s)
   reduced_to None r = tt
   reduced_to (Some p) None = tt
   reduced_to (Some p) (Some v) = go (s.scene.buffers p.buffer) refl
@@ -146,7 +146,7 @@ pub record ScopedChanges (es : List Entry) (s t : State) : Type 0 where
   pub dead : (p : Place) → s.scene.buffers p.buffer ≡ None → IsFixed changes.change p
   pub buffers : t.scene.buffers ≡ s.scene.buffers
 
-left_changes : (es : List Entry) (s s' t : State) → IsTidy s → s'.cells ≡ s.cells → s'.scene.buffers ≡ s.scene.buffers → ChangesBy es s' t → ScopedChanges es s (left s t)
+pub left_changes : (es : List Entry) (s s' t : State) → IsTidy s → s'.cells ≡ s.cells → s'.scene.buffers ≡ s.scene.buffers → ChangesBy es s' t → ScopedChanges es s (left s t)
 left_changes es s s' t tidy ec eb m = record {
   changes = record {
     change = λ b. lived (s.scene.buffers b) (m.change b);
@@ -174,7 +174,7 @@ tidy_inside s i n h = h
 pub scoped_changes : (es : List Entry) (f : State → Option State) (s s' : State) → IsTidy s → s'.cells ≡ s.cells → s'.scene.buffers ≡ s.scene.buffers → IfSome (f s') (ChangesBy es s') → IfSome (option_map (left s) (f s')) (ScopedChanges es s)
 scoped_changes es f s s' tidy ec eb m = if_map (ChangesBy es s') (ScopedChanges es s) (f s') (left s) m (λ t c. left_changes es s s' t tidy ec eb c)
 
-choose_changes : (t : Bool) (a b : State → Option State) (fa fb : List Entry) (s : State) → IfSome (a s) (ChangesBy fa s) → IfSome (b s) (ChangesBy fb s) → IfSome (choose t a b s) (ChangesBy (chosen t fa fb) s)
+pub choose_changes : (t : Bool) (a b : State → Option State) (fa fb : List Entry) (s : State) → IfSome (a s) (ChangesBy fa s) → IfSome (b s) (ChangesBy fb s) → IfSome (choose t a b s) (ChangesBy (chosen t fa fb) s)
 choose_changes true a b fa fb s h k = h
 choose_changes false a b fa fb s h k = k
 
@@ -186,7 +186,7 @@ turns_change i body touch k (n ∷ ns) s h =
     (if_weaken (ScopedChanges (touch inner) s) (ChangesBy (touch inner) s) (turn i body n s) (scoped_changes (touch inner) body s inner h refl refl (k inner h)) (λ t c. c.changes))
     (turns_change i body touch k ns)
 
-made_changes : (s : State) (x : ℕ) (shape : Shape) → IsTidy s → ChangesBy (Made x ∷ []) s (with_contents x (λ at. Undefined) (on_scene (with_buffer x shape) s))
+pub made_changes : (s : State) (x : ℕ) (shape : Shape) → IsTidy s → ChangesBy (Made x ∷ []) s (with_contents x (λ at. Undefined) (on_scene (with_buffer x shape) s))
 made_changes s x shape h = record {
   change = λ b at v. cond (b == x) Undefined v;
   cells = fun_ext (λ b. fun_ext (λ at. inside (b == x) b at));

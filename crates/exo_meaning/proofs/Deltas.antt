@@ -12,7 +12,7 @@ use Rattle.exo_meaning.specs.Orders.{Each}
 use Rattle.exo_meaning.proofs.Cells.{there_is}
 use Rattle.exo_meaning.proofs.Frame.{if_then, if_map, if_where, any, if_weaken}
 
-each_append : {T : Type 0} (P : T → Type 0) (xs ys : List T) → Each P (xs ++ ys) → Each P xs × Each P ys
+pub each_append : {T : Type 0} (P : T → Type 0) (xs ys : List T) → Each P (xs ++ ys) → Each P xs × Each P ys
 each_append P [] ys h = (tt, h)
 each_append P (x ∷ xs) ys h = let t = each_append P xs ys h.1 in ((h.0, t.0), t.1)
 
@@ -59,19 +59,19 @@ step_grows world (Call k args) s = call_grows (world.callees k) args s
 module _ (d : Change) where
   -- ---- steps in a row
 
-  exchange_then : (f : State → Option State) (g : State → Option State) (s : State) → Exchanges d f s → ((t : State) → f s ≡ Some t → Exchanges d g t) → Exchanges d (λ s. then_do (f s) g) s
+  pub exchange_then : (f : State → Option State) (g : State → Option State) (s : State) → Exchanges d f s → ((t : State) → f s ≡ Some t → Exchanges d g t) → Exchanges d (λ s. then_do (f s) g) s
   exchange_then f g s h k = ap (λ o. then_do o g) h ∙ go (f s) k
     where
       go : (o : Option State) → ((t : State) → o ≡ Some t → Exchanges d g t) → then_do (option_map (changed_by d) o) g ≡ option_map (changed_by d) (then_do o g)
       go None k = refl
       go (Some t) k = k t refl
 
-  exchange_where : (test : Bool) (o r : Option State) → o ≡ option_map (changed_by d) r → where_true test o ≡ option_map (changed_by d) (where_true test r)
+  pub exchange_where : (test : Bool) (o r : Option State) → o ≡ option_map (changed_by d) r → where_true test o ≡ option_map (changed_by d) (where_true test r)
   exchange_where false o r h = refl
   exchange_where true o r h = h
 
   -- what is known of each result
-  each_further : (P : Entry → Type 0) (o : Option State) (f : State → List Entry) → Each P (further o f) → (t : State) → o ≡ Some t → Each P (f t)
+  pub each_further : (P : Entry → Type 0) (o : Option State) (f : State → List Entry) → Each P (further o f) → (t : State) → o ≡ Some t → Each P (f t)
   each_further P None f h t e = absurd (none_some e)
   each_further P (Some u) f h t e = subst (λ x. Each P (f x)) (some_injective u t e) h
     where
@@ -122,7 +122,7 @@ module _ (d : Change) where
       go None h = refl
       go (Some shape) h = ap (λ c. Some (record s { cells = c })) (cells_exchange s.cells p (λ old. stored_as shape.cell (f old)) (h shape refl))
 
-  assign_exchanges : (x : ℕ) (is : List Control) (e : Datum) (s : State) → Each (Passes d) (all_read (reads s.scene e) ++ written (place s.scene x is)) → Exchanges d (assign x is e) s
+  pub assign_exchanges : (x : ℕ) (is : List Control) (e : Datum) (s : State) → Each (Passes d) (all_read (reads s.scene e) ++ written (place s.scene x is)) → Exchanges d (assign x is e) s
   assign_exchanges x is e s h =
       let parts = each_append (Passes d) (all_read (reads s.scene e)) (written (place s.scene x is)) h in
       ap (λ o. then_do (place s.scene x is) (λ p. then_do o (λ v. put (changed_by d s) (λ old. v) p))) (value_same s e (all_fixed (reads s.scene e) parts.0)) ∙ at_place (place s.scene x is) parts.1 (value s e)
@@ -135,7 +135,7 @@ module _ (d : Change) where
       at_place None k r = refl
       at_place (Some p) k r = at_value p k.0 r
 
-  reduce_exchanges : (x : ℕ) (is : List Control) (e : Datum) (s : State) → Each (Passes d) (all_read (reads s.scene e) ++ reduced s.scene (place s.scene x is)) → Exchanges d (reduce x is e) s
+  pub reduce_exchanges : (x : ℕ) (is : List Control) (e : Datum) (s : State) → Each (Passes d) (all_read (reads s.scene e) ++ reduced s.scene (place s.scene x is)) → Exchanges d (reduce x is e) s
   reduce_exchanges x is e s h =
       let parts = each_append (Passes d) (all_read (reads s.scene e)) (reduced s.scene (place s.scene x is)) h in
       ap (λ o. then_do (place s.scene x is) (λ p. then_do o (λ v. put (changed_by d s) (λ old. on_two ◌+ℤ◌ old v) p))) (value_same s e (all_fixed (reads s.scene e) parts.0)) ∙ at_place (place s.scene x is) parts.1 (value s e)
@@ -164,29 +164,29 @@ module _ (d : Change) where
       go None = refl
       go (Some t) = ap Some (left_exchanges s t l)
 
-  others_later : (s : State) (o : Option State) → LeavesOthers d s.scene → IfSome o (Grows s) → (t : State) → o ≡ Some t → LeavesOthers d t.scene
+  pub others_later : (s : State) (o : Option State) → LeavesOthers d s.scene → IfSome o (Grows s) → (t : State) → o ≡ Some t → LeavesOthers d t.scene
   others_later s None l g t e = absurd (none_some e)
   others_later s (Some u) l g t e = λ x n. l x (g x (subst (λ (z : State). z.scene.buffers x ≡ None) (sym (some_injective u t e)) n))
     where
       some_injective : {A : Type 0} (a b : A) → Some a ≡ Some b → a ≡ b
       some_injective a b e = cc
 
-  made_exchanges : (x : ℕ) (c : Cells) → ((at : List ℤ) (v : Value) → d x at v ≡ v) → updated (under d c) x (λ at. Undefined) ≡ under d (updated c x (λ at. Undefined))
+  pub made_exchanges : (x : ℕ) (c : Cells) → ((at : List ℤ) (v : Value) → d x at v ≡ v) → updated (under d c) x (λ at. Undefined) ≡ under d (updated c x (λ at. Undefined))
   made_exchanges x c h = fun_ext (λ b. fun_ext (λ at. go b at (b == x) (eqb-true b x)))
     where
       go : (b : ℕ) (at : List ℤ) (t : Bool) → (t ≡ true → b ≡ x) → cond {A = List ℤ → Value} t (λ at. Undefined) (λ at. d b at (c b at)) at ≡ d b at (cond {A = List ℤ → Value} t (λ at. Undefined) (c b) at)
       go b at false k = refl
       go b at true k = subst (λ z. Undefined ≡ d z at Undefined) (sym (k refl)) (sym (h at Undefined))
 
-  configure_exchanges : (world : World) (f : ℕ) (s : State) (o : Option ℤ) → then_do o (λ n. where_true (suits (world.kinds f) n) (Some (on_scene (with_field f n) (changed_by d s)))) ≡ option_map (changed_by d) (then_do o (λ n. where_true (suits (world.kinds f) n) (Some (on_scene (with_field f n) s))))
+  pub configure_exchanges : (world : World) (f : ℕ) (s : State) (o : Option ℤ) → then_do o (λ n. where_true (suits (world.kinds f) n) (Some (on_scene (with_field f n) (changed_by d s)))) ≡ option_map (changed_by d) (then_do o (λ n. where_true (suits (world.kinds f) n) (Some (on_scene (with_field f n) s))))
   configure_exchanges world f s None = refl
   configure_exchanges world f s (Some n) = exchange_where (suits (world.kinds f) n) _ (Some (on_scene (with_field f n) s)) refl
 
-  view_exchanges : (w : ℕ) (s : State) (o : Option Seen) → then_do o (λ seen. Some (on_scene (with_view w seen) (changed_by d s))) ≡ option_map (changed_by d) (then_do o (λ seen. Some (on_scene (with_view w seen) s)))
+  pub view_exchanges : (w : ℕ) (s : State) (o : Option Seen) → then_do o (λ seen. Some (on_scene (with_view w seen) (changed_by d s))) ≡ option_map (changed_by d) (then_do o (λ seen. Some (on_scene (with_view w seen) s)))
   view_exchanges w s None = refl
   view_exchanges w s (Some seen) = refl
 
-  choose_exchanges : (t : Bool) (a b : State → Option State) (fa fb : List Entry) (s : State) → (Each (Passes d) fa → Exchanges d a s) → (Each (Passes d) fb → Exchanges d b s) → Each (Passes d) (chosen t fa fb) → Exchanges d (choose t a b) s
+  pub choose_exchanges : (t : Bool) (a b : State → Option State) (fa fb : List Entry) (s : State) → (Each (Passes d) fa → Exchanges d a s) → (Each (Passes d) fb → Exchanges d b s) → Each (Passes d) (chosen t fa fb) → Exchanges d (choose t a b) s
   choose_exchanges true a b fa fb s ha hb h = ha h
   choose_exchanges false a b fa fb s ha hb h = hb h
 
