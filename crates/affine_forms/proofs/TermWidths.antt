@@ -5,7 +5,7 @@ use Rattle.std.specs.Int.RustNames.{FitsSigned}
 use Rattle.std.proofs.lemmas.Bool.Decides.{nat_tests}
 use Rattle.std.proofs.Math.Nat.{mod-lt}
 use Rattle.std.specs.Ordering.{int_eq}
-use Rattle.std.specs.Int.{w128, int_div_euclid, int_rem_euclid, is_positive}
+use Rattle.std.specs.Int.{w64, w128, int_div_euclid, int_rem_euclid, is_positive}
 use Rattle.affine_forms.specs.Atoms.{Atom, Terms, none, term, same_atom, with_term, terms_added, terms_scaled, divided, undivided, divides, present}
 use Rattle.affine_forms.specs.Forms.{is_short, are_short}
 use Rattle.affine_forms.specs.TermBounds.{is_kept_atom, are_kept, joined_terms, raised}
@@ -107,8 +107,8 @@ fits_within z h = fits_signed_from_abs w128 z (omega (arith, within_le (2 ^ 126)
 pub fits_raised : (c z : ℤ) → is_within (2 ^ 126 - 2 ^ 62) c ≡ true → is_within (2 ^ 62) z ≡ true → FitsSigned w128 c × FitsSigned w128 (c +ℤ z)
 fits_raised c z h i = (fits_within c (within_from_le (2 ^ 126) c (omega (arith, within_le (2 ^ 126 - 2 ^ 62) c h))), fits_within (c +ℤ z) (within_sum (2 ^ 126 - 2 ^ 62) (2 ^ 62) (2 ^ 126) c z h i (omega arith)))
 
-pub within_times : (z c : ℤ) → is_within (2 ^ 62) z ≡ true → is_within (2 ^ 62) c ≡ true → is_within (2 ^ 126) (z *ℤ c) ≡ true
-within_times z c h i = within_product (2 ^ 62) (2 ^ 62) (2 ^ 126) z c h i (omega arith)
+pub within_times : (z c : ℤ) → is_within (2 ^ 63) z ≡ true → is_within (2 ^ 62) c ≡ true → is_within (2 ^ 126) (z *ℤ c) ≡ true
+within_times z c h i = within_product (2 ^ 63) (2 ^ 62) (2 ^ 126) z c h i (omega arith)
 
 -- ---- what stays short
 
@@ -154,5 +154,12 @@ within_present bound (term c a ts) h =
 pub rest_within : (k c : ℤ) → is_positive c ≡ true → is_within (2 ^ 64) c ≡ true → is_within (2 ^ 64) (int_rem_euclid k c) ≡ true
 rest_within k (negsuc c) h i = absurd (true≢false (sym h))
 rest_within k (pos zero) h i = absurd (true≢false (sym h))
-rest_within (pos a) (pos (suc c)) h i = let l = mod-lt a {suc c} (omega arith) in within_from_le (2 ^ 64) (int_rem_euclid (pos a) (pos (suc c))) (omega (arith, ints, within_le (2 ^ 64) (pos (suc c)) i, l))
-rest_within (negsuc a) (pos (suc c)) h i = let l = mod-lt a {suc c} (omega arith) in within_from_le (2 ^ 64) (int_rem_euclid (negsuc a) (pos (suc c))) (omega (arith, ints, within_le (2 ^ 64) (pos (suc c)) i, l))
+rest_within (pos a) (pos (suc c)) h i = let l : a % suc c < suc c = mod-lt a (omega arith) in within_from_le (2 ^ 64) (int_rem_euclid (pos a) (pos (suc c))) (omega (arith, ints, within_le (2 ^ 64) (pos (suc c)) i, l))
+rest_within (negsuc a) (pos (suc c)) h i = let l : a % suc c < suc c = mod-lt a (omega arith) in within_from_le (2 ^ 64) (int_rem_euclid (negsuc a) (pos (suc c))) (omega (arith, ints, within_le (2 ^ 64) (pos (suc c)) i, l))
+
+-- a literal of 64 bits
+pub within_64 : (z : ℤ) → FitsSigned w64 z → is_within (2 ^ 63) z ≡ true
+within_64 z h = within_from_le (2 ^ 63) z (omega (arith, ints, h))
+
+pub fits_64 : (z : ℤ) → FitsSigned w64 z → FitsSigned w128 z
+fits_64 z h = fits_within z (within_from_le (2 ^ 126) z (omega (arith, within_le (2 ^ 63) z (within_64 z h))))

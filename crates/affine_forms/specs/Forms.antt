@@ -100,4 +100,12 @@ is_writable at (Add a b) = (is_writable at a && is_writable at b) && is_short_fo
 is_writable at (Sub a b) = (is_writable at a && is_writable at b) && is_short_form (form at (Sub a b))
 is_writable at (Mul a b) = (is_writable at a && is_writable at b) && is_short_form (form at (Mul a b))
 is_writable at (Div a c) = is_writable at a && is_short_form (form at (Div a c))
-is_writable at (Mod a c) = (is_writable at a && is_short_form (scaled c (quotient (form at a) c))) && is_short_form (form at (Mod a c))
+is_writable at (Mod a c) = is_writable at a && ((is_short_form (quotient (form at a) c) && is_short_form (scaled c (quotient (form at a) c))) && is_short_form (form at (Mod a c)))
+
+-- all may stand in an expression
+abbrev pub anything : Allowed
+anything = record { variable = λ x. true; field = λ f. true; stride = λ x k. true }
+
+-- each product has a side of literals, and each divisor is positive
+abbrev pub keeps_rules : Control → Bool
+keeps_rules e = is_affine anything e

@@ -209,7 +209,7 @@ impl Terms {
     /// The sum with each coefficient multiplied.
     pub fn scaled(&self, alloc: Global, by: i128) -> Result<Terms, AllocError>
         requires short { IsTrue (are_short self.now) }
-        requires narrow { IsTrue (is_short by) }
+        requires narrow { IsTrue (is_within (2 ^ 63) by) }
         ensures { IfOk result (λ t. t ≡ terms_scaled by self.now) }
     {
         let mut made = Terms::new(alloc);

@@ -5,9 +5,11 @@ mod atom;
 mod error;
 pub mod laws;
 mod linear;
+mod normal;
 mod system;
 
 pub use atom::{Atom, Terms, Weighed};
 pub use error::FormError;
 pub use linear::Linear;
+pub use normal::{Reader, form};
 pub use system::{Row, System, Term, is_narrow};

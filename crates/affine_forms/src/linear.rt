@@ -1,9 +1,9 @@
 //! Affine forms: a constant and a weighed sum of atoms.
-ghost use Rattle.std.specs.Prelude.{◌≡◌, IfOk, IsTrue, negsuc, pos, true};
+ghost use Rattle.std.specs.Prelude.{◌≡◌, IfOk, IsTrue, negsuc, pos, true, ◌^◌, ◌&&◌};
 ghost use Rattle.std.specs.Int.{is_positive};
 ghost use Rattle.affine_forms.specs.Atoms as plain;
 ghost use Rattle.affine_forms.specs.Atoms.{added, scaled, subtracted, constantly, only, quotient};
-ghost use Rattle.affine_forms.specs.Forms.{is_short, are_short, is_short_form, without_zeros};
+ghost use Rattle.affine_forms.specs.Forms.{is_within, is_short, are_short, is_short_form, without_zeros};
 ghost use Rattle.affine_forms.specs.TermBounds.{is_kept_atom};
 ghost use Rattle.affine_forms.specs.PlainAtoms.{plain_atom};
 ghost use Rattle.affine_forms.specs.Outcomes.{Formed};
@@ -93,7 +93,7 @@ impl Linear {
 
     /// The form with each number multiplied.
     pub fn scaled(&self, alloc: Global, by: i128) -> Result<Linear, FormError>
-        requires { IsTrue (is_short by) }
+        requires { IsTrue (is_within (2 ^ 63) by) }
         ensures { Formed result (is_short_form (scaled by self.now)) (scaled by self.now) }
     {
         let terms = self.terms.scaled(alloc, by)?;
@@ -140,6 +140,15 @@ impl Linear {
             terms.join(alloc, 1, &atom)?;
         }
         Linear::new(self.constant.div_euclid(literal), terms)
+    }
+
+    /// The quotient by a literal, multiplied by it again.
+    pub fn multiple(&self, alloc: Global, by: i64) -> Result<Linear, FormError>
+        requires { IsTrue (is_positive by) }
+        ensures { Formed result (is_short_form (quotient self.now by) && is_short_form (scaled by (quotient self.now by))) (scaled by (quotient self.now by)) }
+    {
+        let q = self.quotient(alloc, by)?;
+        q.scaled(alloc, by as i128)
     }
 
     /// The form without the terms that cancelled.
