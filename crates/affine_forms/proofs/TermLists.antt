@@ -1,5 +1,5 @@
 -- The plain sums of lists of terms.
-use Rattle.std.proofs.Common.{◌≡◌, ℕ, zero, suc, ◌+◌, ◌<◌, ◌≤◌, ◌*◌, ◌^◌, ◌==◌, ℤ, pos, ◌+ℤ◌, ◌*ℤ◌, not, Bool, true, false, cond, ◌&&◌, List, [], ◌∷◌, ◌++◌, length, get_or, take, drop, set, Option, Some, None, option_map, arith, refl, sym, ap, ap₂, ◌∙◌, add-one}
+use Rattle.std.proofs.Common.{◌≡◌, ℕ, zero, suc, ◌+◌, ◌<◌, ◌≤◌, ◌^◌, ◌==◌, ℤ, pos, ◌+ℤ◌, ◌*ℤ◌, not, Bool, true, false, cond, ◌&&◌, List, [], ◌∷◌, ◌++◌, length, get_or, take, drop, set, Option, Some, None, option_map, arith, refl, sym, ap, ap₂, ◌∙◌, add-one}
 use Rattle.std.proofs.Math.Seq.{drop-cons}
 use Rattle.std.proofs.lemmas.Bool.Decides.{nat_tests}
 use Rattle.std.proofs.lemmas.List.{take_more}
@@ -7,7 +7,7 @@ use Rattle.std.specs.Ordering.{int_eq}
 use Rattle.std.specs.Int.{int_div_euclid}
 use Rattle.affine_forms.specs.Atoms.{Atom, Terms, none, term, same_atom, same_terms, taken, with_term, terms_scaled, present, divides, divided, undivided}
 use Rattle.affine_forms.specs.AtomCodes.{nodes, nodes_in}
-use Rattle.affine_forms.specs.TermBounds.{count, is_kept_atom, are_kept, joined_terms, term_if, first_that, is_wanted, is_sought, without_term, raised}
+use Rattle.affine_forms.specs.TermBounds.{count, is_kept_atom, are_kept, joined_terms, term_if, first_that, is_sought, without_term, raised}
 use Rattle.affine_forms.specs.Forms.{is_within}
 use Rattle.affine_forms.specs.PlainAtoms.{plain_atom, plain_terms}
 use Rattle.affine_forms.specs.declared.atom.Weighed.{Weighed}

@@ -1,12 +1,12 @@
 -- How large the numbers of sums become.
-use Rattle.std.proofs.Common.{◌≡◌, ℕ, zero, suc, ◌+◌, ◌<◌, ◌≤◌, ◌*◌, ◌^◌, ◌-◌, ◌/◌, ◌%◌, ℤ, pos, negsuc, ◌+ℤ◌, ◌*ℤ◌, Bool, true, false, cond, ◌&&◌, List, [], ◌∷◌, ◌++◌, length, get_or, take, drop, set, map, unsigned_abs, nat_le, arith, refl, sym, ap, ap₂, ◌∙◌, subst, add-one, mul-le-mul, true≢false}
+use Rattle.std.proofs.Common.{◌≡◌, ℕ, zero, suc, ◌+◌, ◌<◌, ◌≤◌, ◌*◌, ◌^◌, ◌-◌, ◌%◌, ℤ, pos, negsuc, ◌+ℤ◌, ◌*ℤ◌, Bool, true, false, cond, ◌&&◌, List, [], ◌∷◌, length, get_or, unsigned_abs, arith, refl, sym, ap, ap₂, ◌∙◌, mul-le-mul, true≢false}
 use Rattle.std.proofs.lemmas.Int.{ints, unsigned_abs-mul, fits_signed_from_abs}
 use Rattle.std.specs.Int.RustNames.{FitsSigned}
 use Rattle.std.proofs.lemmas.Bool.Decides.{nat_tests}
 use Rattle.std.proofs.Math.Nat.{mod-lt}
 use Rattle.std.specs.Ordering.{int_eq}
 use Rattle.std.specs.Int.{w64, w128, int_div_euclid, int_rem_euclid, is_positive}
-use Rattle.affine_forms.specs.Atoms.{Atom, Terms, none, term, same_atom, with_term, terms_added, terms_scaled, divided, undivided, divides, present}
+use Rattle.affine_forms.specs.Atoms.{Atom, Terms, none, term, same_atom, with_term, terms_scaled, divided, undivided, divides, present}
 use Rattle.affine_forms.specs.Forms.{is_short, are_short}
 use Rattle.affine_forms.specs.TermBounds.{is_kept_atom, are_kept, joined_terms, raised}
 use Rattle.affine_forms.specs.Forms.{is_within, are_within}

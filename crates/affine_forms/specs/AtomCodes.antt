@@ -1,6 +1,6 @@
 -- Codes of atoms and sums, by which a proof tells two of them apart.
-use Rattle.std.specs.Prelude.{◌≡◌, ◌+◌, ℕ, ℤ, List, [], ◌∷◌}
-use Rattle.std.specs.Coded.{Coded, coded_ℤ, coded_ℕ, coded×, code_by}
+use Rattle.std.specs.Prelude.{◌≡◌, ◌+◌, ℕ, ℤ, [], ◌∷◌}
+use Rattle.std.specs.Coded.{Coded, coded_ℤ, coded×, code_by}
 use Rattle.std.proofs.Common.{ap, arith, refl}
 use base.Stored.{Gv, gnil, gnum, gcons, num}
 use Rattle.exo_tree.specs.Tree.{Kind, Size, Index, Truth, Stride}

@@ -1,6 +1,5 @@
 -- The plain forms of atoms and sums, and what is well formed of them.
-use Rattle.std.specs.Prelude.{ℕ, ℤ, ◌^◌, nat_le, unsigned_abs, Bool, true, false, ◌&&◌, List, [], ◌∷◌}
-use Rattle.std.specs.Int.{is_positive}
+use Rattle.std.specs.Prelude.{List, [], ◌∷◌}
 use Rattle.exo_tree.specs.PlainBinder.{control_kind}
 use Rattle.affine_forms.specs.Atoms as plain
 use Rattle.affine_forms.specs.declared.atom.Atom.{Atom}

@@ -1,9 +1,9 @@
 -- The bounds that the sums of the program keep.
-use Rattle.std.specs.Prelude.{ℕ, zero, suc, ℤ, ◌+ℤ◌, ◌^◌, nat_le, unsigned_abs, Bool, true, false, ◌&&◌, if◌then◌else◌, Option, Some, None, option_map}
+use Rattle.std.specs.Prelude.{ℕ, zero, suc, ℤ, ◌+ℤ◌, ◌^◌, Bool, true, false, ◌&&◌, if◌then◌else◌, Option, Some, None, option_map}
 use Rattle.std.specs.Int.{is_positive}
 use Rattle.std.specs.Ordering.{int_eq}
 use Rattle.affine_forms.specs.Atoms.{Atom, Variable, EntryField, UnknownField, OpaqueStride, Quotient, Terms, none, term, same_atom}
-use Rattle.affine_forms.specs.Forms.{is_within, are_within, are_short}
+use Rattle.affine_forms.specs.Forms.{is_within, are_short}
 
 -- a quotient is that of a normal form by a literal of at least 1
 abbrev pub is_kept_atom : Atom → Bool

@@ -11,10 +11,9 @@ ghost use Rattle.affine_forms.specs.TermBounds.{is_kept_atom, joined_terms, term
 ghost use Rattle.affine_forms.specs.Forms.{is_within, are_within, is_short, are_short};
 ghost use Rattle.affine_forms.specs.PlainAtoms.{plain_atom, plain_terms};
 
+use exo_tree::{Branch, FieldId, Id, Kind, Path, Step};
 use std::alloc::{AllocError, Global};
 use std::marker::Model;
-
-use exo_tree::{Branch, FieldId, Id, Kind, Path, Step};
 
 /// What a control value is built of: a part of an expression that is kept as it is.
 #[cycle(terms)]
@@ -121,7 +120,12 @@ impl Terms {
 
     /// Takes the first term of that atom and coefficient out, and says whether there was one.
     #[cycle(same)]
-    fn take_out(&mut self, alloc: Global, coefficient: i128, atom: &Atom) -> Result<bool, AllocError>
+    fn take_out(
+        &mut self,
+        alloc: Global,
+        coefficient: i128,
+        atom: &Atom,
+    ) -> Result<bool, AllocError>
         ensures { IfOk result (λ found. taken (same_atom (plain_atom atom.now)) coefficient self.old ≡ (if found then Some self.new else None)) }
     {
         match self.place_of(alloc, atom, Some(coefficient))? {
@@ -152,7 +156,13 @@ impl Terms {
     }
 
     /// Puts a term last, if it is wanted.
-    fn push_if(&mut self, alloc: Global, wanted: bool, coefficient: i128, atom: &Atom) -> Result<(), AllocError>
+    fn push_if(
+        &mut self,
+        alloc: Global,
+        wanted: bool,
+        coefficient: i128,
+        atom: &Atom,
+    ) -> Result<(), AllocError>
         requires narrow { IsTrue (is_within (2 ^ 126) coefficient) }
         requires kept { IsTrue (is_kept_atom (plain_atom atom.now)) }
         ensures { OnOk result (self.new ≡ joined_terms self.old (term_if wanted coefficient (plain_atom atom.now) plain.none)) }
@@ -237,7 +247,12 @@ impl Terms {
     {
         let mut made = Terms::new(alloc);
         for w in &self.items {
-            made.push_if(alloc, divides(by, w.coefficient), w.coefficient.div_euclid(by), &w.atom)?;
+            made.push_if(
+                alloc,
+                divides(by, w.coefficient),
+                w.coefficient.div_euclid(by),
+                &w.atom,
+            )?;
         }
         Ok(made)
     }
@@ -275,7 +290,12 @@ impl Terms {
 
     /// The index of the first term of that atom, and of that coefficient if one is given.
     #[cycle(same)]
-    fn place_of(&self, alloc: Global, atom: &Atom, coefficient: Option<i128>) -> Result<Option<usize>, AllocError>
+    fn place_of(
+        &self,
+        alloc: Global,
+        atom: &Atom,
+        coefficient: Option<i128>,
+    ) -> Result<Option<usize>, AllocError>
         ensures { IfOk result (λ k. k ≡ first_that (is_sought (plain_atom atom.now) coefficient) self.now) }
     {
         for (k, w) in self.items.iter().enumerate() {
@@ -331,7 +351,11 @@ impl Atom {
         match self {
             Atom::Variable(x) => Ok(Atom::Variable(*x)),
             Atom::EntryField(f, kind) => Ok(Atom::EntryField(*f, *kind)),
-            Atom::UnknownField(f, kind, path) => Ok(Atom::UnknownField(*f, *kind, path.duplicate())),
+            Atom::UnknownField(f, kind, path) => Ok(Atom::UnknownField(
+                *f,
+                *kind,
+                path.duplicate(),
+            )),
             Atom::OpaqueStride(x, k) => Ok(Atom::OpaqueStride(*x, *k)),
             Atom::Quotient(n, terms, c) => Ok(Atom::Quotient(*n, terms.duplicate(alloc)?, *c)),
         }
@@ -395,7 +419,8 @@ fn is_unknown(a: &Atom, f: FieldId, kind: Kind, path: &Path) -> bool
     match a {
         Atom::Variable(_) => false,
         Atom::EntryField(_, _) => false,
-        Atom::UnknownField(g, other, at) => (f.0 == g.0 && is_same_kind(kind, *other)) && is_same_path(path.as_slice(), at.as_slice()),
+        Atom::UnknownField(g, other, at) => (f.0 == g.0 && is_same_kind(kind, *other))
+            && is_same_path(path.as_slice(), at.as_slice()),
         Atom::OpaqueStride(_, _) => false,
         Atom::Quotient(_, _, _) => false,
     }

@@ -8,11 +8,10 @@ ghost use Rattle.affine_forms.specs.TermBounds.{is_kept_atom};
 ghost use Rattle.affine_forms.specs.PlainAtoms.{plain_atom};
 ghost use Rattle.affine_forms.specs.Outcomes.{Formed};
 
-use std::alloc::{AllocError, Global};
-use std::marker::Model;
-
 use crate::atom::{Atom, Terms, is_short};
 use crate::error::FormError;
+use std::alloc::{AllocError, Global};
+use std::marker::Model;
 
 /// A constant and a weighed sum of atoms, with numbers of at most 2^62 in size.
 #[derive(Drop)]
@@ -104,7 +103,10 @@ impl Linear {
     pub fn plus(self, alloc: Global, other: &Linear) -> Result<Linear, FormError>
         ensures { Formed result (is_short_form (added self other.now)) (added self other.now) }
     {
-        let Linear { constant, mut terms } = self;
+        let Linear {
+            constant,
+            mut terms,
+        } = self;
         terms.add(alloc, &other.terms)?;
         Linear::new(constant + other.constant, terms)
     }

@@ -7,12 +7,10 @@ ghost use Rattle.affine_forms.specs.Forms.{is_literal, is_short_form, keeps_rule
 ghost use Rattle.affine_forms.specs.Outcomes.{Formed};
 ghost use Rattle.exo_tree.specs.PlainControl.{control};
 
-use std::alloc::Global;
-
-use exo_tree::{Ctrl, FieldId, Id};
-
 use crate::error::FormError;
 use crate::linear::Linear;
+use exo_tree::{Ctrl, FieldId, Id};
+use std::alloc::Global;
 
 /// What stands for variables, fields and strides at a place.
 pub trait Reader {

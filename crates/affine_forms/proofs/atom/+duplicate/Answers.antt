@@ -1,8 +1,7 @@
-use Rattle.std.proofs.Common.{◌≡◌, ap, refl, ◌∙◌, sym, rules}
+use Rattle.std.proofs.Common.{rules}
 use Rattle.std.proofs.lemmas.Int.{to_z-of_z}
 use Rattle.std.specs.Int.{w128}
 use Rattle.std.specs.Int.RustNames.{FitsSigned}
-use Rattle.affine_forms.specs.PlainAtoms.{plain_terms}
 use Rattle.affine_forms.proofs.TermLists.{plain_grows}
 use Rattle.affine_forms.proofs.atom.+duplicate.Goals as goal
 

@@ -1,12 +1,12 @@
-use Rattle.std.proofs.Common.{◌≡◌, ◌+◌, ◌&&◌, Bool, true, false, cond, not, Some, None, option_map, drop, ap, ap₂, refl, ◌∙◌, sym, rules, arith, length, vec_len, ◌==◌}
+use Rattle.std.proofs.Common.{◌≡◌, ◌+◌, ◌&&◌, false, cond, Some, option_map, drop, ap, ap₂, ◌∙◌, sym, rules, arith, length, vec_len, ◌==◌}
 use Rattle.std.proofs.lemmas.Int.{to_z-of_z}
 use Rattle.std.specs.Int.{w128}
 use Rattle.std.specs.Int.RustNames.{FitsSigned}
-use Rattle.affine_forms.specs.Atoms.{same_atom, same_terms, taken}
+use Rattle.affine_forms.specs.Atoms.{same_terms}
 use Rattle.affine_forms.specs.AtomCodes.{nodes_in}
 use Rattle.affine_forms.specs.PlainAtoms.{plain_atom, plain_terms}
-use Rattle.affine_forms.specs.TermBounds.{is_sought, is_wanted, first_that, without_term, count}
-use Rattle.affine_forms.proofs.TermLists.{place_drop, place_here, place_end, taken_place, place_inside, nodes_fall, same_step, same_end}
+use Rattle.affine_forms.specs.TermBounds.{is_sought, without_term}
+use Rattle.affine_forms.proofs.TermLists.{place_here, place_end, taken_place, place_inside, nodes_fall, same_step, same_end}
 use Rattle.affine_forms.proofs.atom.+same.Goals as goal
 
 pub Terms::place_of-returns-then-is_wanted : goal.Terms::place_of-returns-then-is_wanted

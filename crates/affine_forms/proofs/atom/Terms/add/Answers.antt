@@ -1,16 +1,11 @@
-use Rattle.std.proofs.Common.{List, [], ◌∷◌, ◌≡◌, ◌<◌, ◌≤◌, ◌+◌, ◌*◌, ◌-◌, ◌^◌, ◌∙◌, sym, ap, ap₂, refl, ◌&&◌, Bool, true, false, cond, not, arith, length, vec_len, get_or, drop, rules, ◌==◌, ◌*ℤ◌, pos, subst}
-use Rattle.std.proofs.lemmas.Int.{to_z-of_z, ints}
-use Rattle.std.proofs.lemmas.Bool.Decides.{nat_tests}
-use Rattle.std.specs.Int.{w128, int_div_euclid, int_rem_euclid, is_positive}
-use Rattle.std.specs.Int.RustNames.{FitsSigned}
-use Rattle.std.specs.Ordering.{int_eq}
-use Rattle.affine_forms.specs.Atoms.{term, none, present, divided, undivided, divides, terms_scaled, terms_added, with_term}
-use Rattle.affine_forms.specs.Forms.{is_within, are_within, is_short, are_short}
-use Rattle.affine_forms.specs.TermBounds.{joined_terms, term_if, are_kept, is_none}
+use Rattle.std.proofs.Common.{◌≡◌, ◌+◌, ◌*◌, ◌-◌, ◌^◌, ◌∙◌, sym, ap, true, arith, drop, subst}
+use Rattle.std.proofs.lemmas.Int.{to_z-of_z}
+use Rattle.std.specs.Int.{w128}
+use Rattle.affine_forms.specs.Atoms.{terms_added}
+use Rattle.affine_forms.specs.Forms.{are_within}
 use Rattle.affine_forms.specs.PlainAtoms.{plain_atom, plain_terms}
-use Rattle.affine_forms.specs.declared.atom.Weighed.{Weighed}
-use Rattle.affine_forms.proofs.TermLists.{made_step, made_end, present_law, divided_law, undivided_law, scaled_law, plain_drop, plain_end, joined_none, joined_if, count_plain}
-use Rattle.affine_forms.proofs.TermWidths.{kept_in, within_in, fits_within, within_times, within_quotient, within_with_term, within_le, wider}
+use Rattle.affine_forms.proofs.TermLists.{plain_drop}
+use Rattle.affine_forms.proofs.TermWidths.{kept_in, within_in, fits_within, within_with_term, wider}
 use Rattle.affine_forms.proofs.atom.Terms.add.Goals as goal
 
 pub join-requires-clause-room : goal.join-requires-clause-room
@@ -32,5 +27,5 @@ loop-w-preserved c =
     let joined = simp to_z-of_z at c.in_ok-join.ensures in
     record {
       sum = ap (λ ts. terms_added ts (plain_terms (drop (c.loop-w.w-index + 1) c.deref-w-items.result.now))) joined ∙ sym (ap (terms_added c.loop-w.self) (plain_drop c.deref-w-items.result.now c.loop-w.w-index c.w-item.result c.loop-w-test.true c.w-item.is)) ∙ c.loop-w.invariant.sum;
-      room = subst (λ ts. are_within (2 ^ 62 * (c.loop-w.w-index + 1 + 1)) ts ≡ true) (sym joined) (within_with_term (2 ^ 62 * (c.loop-w.w-index + 1)) (2 ^ 62) (2 ^ 62 * (c.loop-w.w-index + 1 + 1)) c.w-item.result.coefficient (plain_atom c.w-item.result.atom) c.loop-w.self short c.loop-w.invariant.room (omega arith))
+      room = subst (λ ts. are_within (2 ^ 62 * (c.loop-w.w-index + 1 + 1)) ts ≡ true) (sym joined) (within_with_term (2 ^ 62 * (c.loop-w.w-index + 1)) (2 ^ 62) (2 ^ 62 * (c.loop-w.w-index + 1 + 1)) c.w-item.result.coefficient (plain_atom c.w-item.result.atom) c.loop-w.self short c.loop-w.invariant.room (omega arith));
     }

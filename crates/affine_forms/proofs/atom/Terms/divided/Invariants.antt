@@ -1,6 +1,5 @@
-use Rattle.std.proofs.Common.{◌≡◌, ◌+◌, ◌*◌, ◌^◌, true, drop}
-use Rattle.affine_forms.specs.Atoms.{terms_added, terms_scaled, present, divided, undivided}
-use Rattle.affine_forms.specs.Forms.{are_within, are_short}
+use Rattle.std.proofs.Common.{◌≡◌, drop}
+use Rattle.affine_forms.specs.Atoms.{divided}
 use Rattle.affine_forms.specs.TermBounds.{joined_terms}
 use Rattle.affine_forms.specs.PlainAtoms.{plain_terms}
 use Rattle.affine_forms.proofs.atom.Terms.divided.Given as goal

@@ -1,9 +1,9 @@
-use Rattle.std.proofs.Common.{◌≡◌, ◌∙◌, sym, ap, ap₂, refl, Some, None, true, arith}
+use Rattle.std.proofs.Common.{◌≡◌, ◌∙◌, sym, ap, ap₂, Some, None}
 use Rattle.std.proofs.lemmas.Int.{to_z-of_z}
 use Rattle.std.specs.Int.{w128}
-use Rattle.affine_forms.specs.Atoms.{term, none, with_term}
-use Rattle.affine_forms.specs.PlainAtoms.{plain_atom, plain_terms}
-use Rattle.affine_forms.specs.TermBounds.{is_sought, first_that, joined_terms, raised, count}
+use Rattle.affine_forms.specs.Atoms.{term, none}
+use Rattle.affine_forms.specs.PlainAtoms.{plain_atom}
+use Rattle.affine_forms.specs.TermBounds.{is_sought, first_that, joined_terms, raised}
 use Rattle.affine_forms.proofs.TermLists.{with_term_place, place_inside}
 use Rattle.affine_forms.proofs.atom.Terms.join.Goals as goal
 

@@ -1,9 +1,9 @@
-use Rattle.std.proofs.Common.{◌≡◌, ◌∙◌, sym, ap, ap₂, refl, ◌&&◌, true, arith}
+use Rattle.std.proofs.Common.{ap, ap₂, refl, ◌&&◌}
 use Rattle.std.proofs.lemmas.Int.{to_z-of_z}
 use Rattle.std.specs.Int.{w128}
 use Rattle.affine_forms.specs.Atoms.{term, none}
 use Rattle.affine_forms.specs.PlainAtoms.{plain_atom, plain_terms}
-use Rattle.affine_forms.specs.TermBounds.{joined_terms, are_kept}
+use Rattle.affine_forms.specs.TermBounds.{joined_terms}
 use Rattle.affine_forms.proofs.TermLists.{plain_append}
 use Rattle.affine_forms.proofs.TermWidths.{kept_joined}
 use Rattle.affine_forms.proofs.atom.Terms.push.Goals as goal

@@ -1,11 +1,9 @@
-use Rattle.std.proofs.Common.{◌≡◌, ◌<◌, ◌≤◌, ◌+◌, ◌-◌, ◌^◌, ◌∙◌, sym, ap, ap₂, refl, ◌&&◌, true, arith, length, get_or, rules, set, unsigned_abs, ◌+ℤ◌, subst}
-use Rattle.std.proofs.lemmas.Int.{to_z-of_z, fits_signed_from_abs, ints}
+use Rattle.std.proofs.Common.{◌≡◌, ◌<◌, ◌-◌, ◌^◌, ◌∙◌, sym, ap, refl, true, arith, length, set, ◌+ℤ◌, subst}
+use Rattle.std.proofs.lemmas.Int.{to_z-of_z, ints}
 use Rattle.std.specs.Int.{w128}
-use Rattle.std.specs.Int.RustNames.{FitsSigned}
-use Rattle.affine_forms.specs.Atoms.{term, none}
-use Rattle.affine_forms.specs.PlainAtoms.{plain_atom, plain_terms}
+use Rattle.affine_forms.specs.PlainAtoms.{plain_terms}
 use Rattle.affine_forms.specs.TermBounds.{count, raised, are_kept}
-use Rattle.affine_forms.specs.Forms.{are_within, is_within}
+use Rattle.affine_forms.specs.Forms.{are_within}
 use Rattle.affine_forms.proofs.TermLists.{count_plain, plain_set}
 use Rattle.affine_forms.proofs.TermWidths.{within_in, fits_raised, kept_raised}
 use mir.Val

@@ -1,6 +1,6 @@
-use Rattle.std.proofs.Common.{◌≡◌, ◌∙◌, sym, ap, arith}
+use Rattle.std.proofs.Common.{ap, arith}
 use Rattle.affine_forms.specs.PlainAtoms.{plain_terms}
-use Rattle.affine_forms.specs.TermBounds.{are_kept, count, without_term}
+use Rattle.affine_forms.specs.TermBounds.{count, without_term}
 use Rattle.affine_forms.proofs.TermLists.{count_plain, plain_remove, kept_without}
 use Rattle.affine_forms.proofs.atom.Terms.remove.Goals as goal
 

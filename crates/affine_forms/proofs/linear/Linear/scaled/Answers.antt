@@ -1,8 +1,7 @@
-use Rattle.std.proofs.Common.{◌≡◌, ◌^◌, ◌∙◌, sym, ap, ap₂, refl, subst, true, arith, ◌*ℤ◌}
+use Rattle.std.proofs.Common.{◌^◌, subst, arith, ◌*ℤ◌}
 use Rattle.std.proofs.lemmas.Int.{to_z-of_z}
-use Rattle.std.specs.Int.{w128}
-use Rattle.affine_forms.specs.Atoms.{Linear, scaled}
-use Rattle.affine_forms.specs.Forms.{is_within, is_short, are_short, is_short_form}
+use Rattle.affine_forms.specs.Atoms.{scaled}
+use Rattle.affine_forms.specs.Forms.{is_short, are_short, is_short_form}
 use Rattle.affine_forms.specs.Outcomes.{Formed}
 use Rattle.affine_forms.proofs.Values.{and_parts}
 use Rattle.affine_forms.proofs.TermWidths.{within_le, within_from_le, fits_within, within_times}

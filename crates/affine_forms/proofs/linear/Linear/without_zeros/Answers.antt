@@ -1,12 +1,9 @@
-use Rattle.std.proofs.Common.{◌≡◌, ◌^◌, ◌-◌, ◌∙◌, sym, ap, ap₂, refl, subst, true, arith, ◌&&◌, ℤ, pos, negsuc, ◌*ℤ◌, ◌-ℤ◌}
-use Rattle.std.proofs.lemmas.Int.{to_z-of_z, ints}
-use Rattle.std.specs.Int.{w64, w128, is_positive, int_rem_euclid}
-use Rattle.std.specs.Int.RustNames.{FitsSigned}
-use Rattle.affine_forms.specs.Atoms.{Linear, scaled, terms_scaled, divided, undivided, present}
-use Rattle.affine_forms.specs.Forms.{is_within, are_within, is_short, are_short, is_short_form}
-use Rattle.affine_forms.specs.Outcomes.{Formed}
+use Rattle.std.proofs.Common.{◌^◌, ◌∙◌, ap, ap₂, arith, ◌&&◌}
+use Rattle.std.proofs.lemmas.Int.{to_z-of_z}
+use Rattle.std.specs.Int.{w128}
+use Rattle.affine_forms.specs.Forms.{is_short, are_short}
 use Rattle.affine_forms.proofs.Values.{and_parts}
-use Rattle.affine_forms.proofs.TermWidths.{within_le, within_from_le, fits_within, within_times, wider, short_negated, are_short_negated, within_divided, within_undivided, within_present, rest_within, within_64, fits_64}
+use Rattle.affine_forms.proofs.TermWidths.{within_le, within_from_le, fits_within, within_present}
 use Rattle.affine_forms.proofs.linear.Linear.without_zeros.Goals as goal
 
 pub invariant_of-result : goal.invariant_of-result
