@@ -1,4 +1,6 @@
 mod Integers
+pub mod TermLists
+pub mod TermWidths
 pub mod Values
 pub mod NormalForm
 pub mod FormulaValues

@@ -71,13 +71,20 @@ normal at e = without_zeros (form at e)
 
 -- ---- widths
 
+-- at most that in size
+abbrev pub is_within : ℕ → ℤ → Bool
+is_within bound z = nat_le (unsigned_abs z) bound
+
+abbrev pub are_within : ℕ → Terms → Bool
+are_within bound none = true
+are_within bound (term c a ts) = is_within bound c && are_within bound ts
+
 -- at most 2^62 in size
 abbrev pub is_short : ℤ → Bool
-is_short z = nat_le (unsigned_abs z) (2 ^ 62)
+is_short z = is_within (2 ^ 62) z
 
 abbrev pub are_short : Terms → Bool
-are_short none = true
-are_short (term c a ts) = is_short c && are_short ts
+are_short ts = are_within (2 ^ 62) ts
 
 abbrev pub is_short_form : Linear → Bool
 is_short_form l = is_short l.constant && are_short l.terms
@@ -93,4 +100,12 @@ is_writable at (Add a b) = (is_writable at a && is_writable at b) && is_short_fo
 is_writable at (Sub a b) = (is_writable at a && is_writable at b) && is_short_form (form at (Sub a b))
 is_writable at (Mul a b) = (is_writable at a && is_writable at b) && is_short_form (form at (Mul a b))
 is_writable at (Div a c) = is_writable at a && is_short_form (form at (Div a c))
-is_writable at (Mod a c) = (is_writable at a && is_short_form (scaled c (quotient (form at a) c))) && is_short_form (form at (Mod a c))
+is_writable at (Mod a c) = is_writable at a && ((is_short_form (quotient (form at a) c) && is_short_form (scaled c (quotient (form at a) c))) && is_short_form (form at (Mod a c)))
+
+-- all may stand in an expression
+abbrev pub anything : Allowed
+anything = record { variable = λ x. true; field = λ f. true; stride = λ x k. true }
+
+-- each product has a side of literals, and each divisor is positive
+abbrev pub keeps_rules : Control → Bool
+keeps_rules e = is_affine anything e

@@ -3,6 +3,11 @@ pub mod Affine
 pub mod System
 pub mod Atoms
 pub mod Forms
+pub mod Outcomes
+pub mod TermBounds
+pub mod AtomCodes
+pub mod PlainAtoms
+pub mod AtomFalls
 pub mod Formulas
 pub mod Systems
 pub mod Laws

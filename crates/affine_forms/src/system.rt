@@ -185,7 +185,9 @@ impl System {
         ensures fits { is_some result ≡ (nat_le vars 64 && (nat_le (length equations.items + length rows.items) 512 && (are_below vars (map (λ r. map (λ t. t.variable) r.terms.items) equations.items) && are_below vars (map (λ r. map (λ t. t.variable) r.terms.items) rows.items)))) }
         ensures system { IfSome result (λ s. (s.vars ≡ vars) × (s.equations ≡ equations) × (s.rows ≡ rows)) }
     {
-        let few = vars <= MOST_VARIABLES && equations.len() <= MOST_ROWS && rows.len() <= MOST_ROWS - equations.len();
+        let few = vars <= MOST_VARIABLES
+            && equations.len() <= MOST_ROWS
+            && rows.len() <= MOST_ROWS - equations.len();
         if few && are_below(vars, &equations) && are_below(vars, &rows) {
             Some(System::new(vars, equations, rows))
         } else {

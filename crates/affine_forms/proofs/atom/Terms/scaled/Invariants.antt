@@ -1,0 +1,8 @@
+use Rattle.std.proofs.Common.{◌≡◌, drop}
+use Rattle.affine_forms.specs.Atoms.{terms_scaled}
+use Rattle.affine_forms.specs.TermBounds.{joined_terms}
+use Rattle.affine_forms.specs.PlainAtoms.{plain_terms}
+use Rattle.affine_forms.proofs.atom.Terms.scaled.Given as goal
+
+abbrev pub invariant-loop-w : goal.invariant-loop-w
+invariant-loop-w l = joined_terms l.made (terms_scaled l.by (plain_terms (drop l.w-index l.w-items))) ≡ terms_scaled l.by l.self
