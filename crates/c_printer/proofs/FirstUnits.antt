@@ -1,26 +1,26 @@
 -- Units of procedures of the first form: C keeps their names, and they use no configuration field and no memory.
-use Rattle.std.proofs.Common.{◌≡◌, ◌+◌, length, ℕ, zero, suc, Bool, true, false, cond, ◌&&◌, ◌||◌, List, [], ◌∷◌, ◌++◌, Option, Some, None, slice_get, refl, sym, ap, ap₂, ◌∙◌, subst, true≢false}
+use Rattle.std.proofs.Common.{◌≡◌, ◌+◌, length, ℕ, zero, suc, Bool, true, false, not, cond, ◌&&◌, ◌||◌, List, [], ◌∷◌, ◌++◌, Option, Some, None, slice_get, refl, sym, ap, ap₂, ◌∙◌, subst, true≢false}
 use Rattle.std.proofs.lemmas.Bool.{and_parts, and_from}
 use Rattle.std.proofs.lemmas.List.{append-nil}
 use Rattle.exo_tree.specs.Tree.{Binder, Condition, Statement, Assign, Reduce, Config, Pass, If, For, Alloc, View, Call, Block, end, next, Param, Procedure, ConfigField, MemoryKind, Program}
 use Rattle.c_printer.specs.CTree.{Name, CFunction}
 use Rattle.c_printer.specs.Names.{is_reserved, pick, numbered, first_free, is_taken, c_name, binders_in, binders_of, param_binders, all_binders, names_of, called, c_names}
-use Rattle.c_printer.specs.LoweredUnit.{Printing, naming_in, function_of, function_at, in_conditions, in_block, in_statement, in_procedure, is_used, fields_from, fields_of, stands_in, is_made_in, stands_in_procedure, is_filled, is_new, headers_from, headers_of, field_name}
-use Rattle.c_printer.specs.FirstForm.{is_first_access, is_first_datum, is_first_statement, is_first_block, are_first_params, is_nothing, is_none, is_first_form, are_free, is_first_there, is_first, are_first}
+use Rattle.c_printer.specs.LoweredUnit.{Printing, global_names, naming_in, function_of, function_at, in_conditions, in_block, in_statement, in_procedure, is_used, fields_from, fields_of, stands_in, is_made_in, stands_in_procedure, is_filled, is_new, headers_from, headers_of, field_name}
+use Rattle.c_printer.specs.FirstForm.{is_first_access, is_first_datum, is_first_statement, is_first_block, are_first_params, is_nothing, is_none, is_first_form, are_free, are_distinct, are_no_words, have_own_names, is_first_unit, is_first_there, is_first, are_first}
 
 -- ---- names
 
-free_name : (globals names : List Name) (x : Name) → cond (is_reserved globals x) false true ≡ true → c_name globals names x ≡ x
+free_name : (globals names : List Name) (x : Name) → not (is_reserved globals x) ≡ true → c_name globals names x ≡ x
 free_name globals names x h = pick_it (is_reserved globals x) refl h
   where
-    pick_it : (t : Bool) → is_reserved globals x ≡ t → cond t false true ≡ true → c_name globals names x ≡ x
+    pick_it : (t : Bool) → is_reserved globals x ≡ t → not t ≡ true → c_name globals names x ≡ x
     pick_it true e g = absurd (true≢false (sym g))
     pick_it false e g = ap (λ t. pick t (numbered x (first_free (is_taken globals names) x (suc (length globals + length names)) 1)) x) e
 
 free_names : (globals names : List Name) (bs : List Binder) → are_free globals (names_of bs) ≡ true → called globals names bs ≡ bs
 free_names globals names [] h = refl
 free_names globals names (b ∷ bs) h =
-    let parts = and_parts (cond (is_reserved globals b.name) false true) (are_free globals (names_of bs)) h in
+    let parts = and_parts (not (is_reserved globals b.name)) (are_free globals (names_of bs)) h in
     ap₂ (λ x rest. record { id = b.id; name = x } ∷ rest) (free_name globals names b.name parts.0) (free_names globals names bs parts.1)
 
 -- what a block of the first form does not have
@@ -57,14 +57,15 @@ first_parts p h =
 
 pub first_there : (globals : List Name) (o : Option Procedure) → is_first globals o ≡ true → is_first_there o ≡ true
 first_there globals None h = h
-first_there globals (Some p) h = (and_parts (is_first_form p) (are_free globals (names_of (param_binders p.params))) h).0
+first_there globals (Some p) h = (and_parts (is_first_form p) (have_own_names globals p.params) h).0
 
 -- C keeps its names
 same_names : (globals : List Name) (p : Procedure) → is_first globals (Some p) ≡ true → c_names globals p ≡ param_binders p.params
 same_names globals p h =
-    let parts = and_parts (is_first_form p) (are_free globals (names_of (param_binders p.params))) h in
+    let parts = and_parts (is_first_form p) (have_own_names globals p.params) h in
+    let names = and_parts (are_free globals (names_of (param_binders p.params))) (are_distinct (names_of (param_binders p.params))) parts.1 in
     let binders : all_binders p ≡ param_binders p.params = ap (λ bs. param_binders p.params ++ bs) (first_bare p.params p.body (first_parts p parts.0).body).no_binders ∙ append-nil (param_binders p.params) in
-    ap (λ bs. called globals (names_of bs) bs) binders ∙ free_names globals (names_of (param_binders p.params)) (param_binders p.params) parts.1
+    ap (λ bs. called globals (names_of bs) bs) binders ∙ free_names globals (names_of (param_binders p.params)) (param_binders p.params) names.0
 
 pub first_function : (program : Program) (globals : List Name) (p : Procedure) → is_first globals (Some p) ≡ true → function_of (naming_in program (param_binders p.params)) p ≡ function_at program globals (Some p)
 first_function program globals p h = ap (λ table. function_of (naming_in program table) p) (sym (same_names globals p h))
@@ -114,3 +115,6 @@ no_fields program globals what h = no_fields_from (is_used program what) (no_fie
 
 pub no_headers : (program : Program) (globals : List Name) (what : List Printing) → are_first program globals what ≡ true → headers_of program what ≡ []
 no_headers program globals what h = no_headers_from (is_filled program what) (no_memory_filled program globals what h) 0 [] program.memories
+
+pub all_first : (program : Program) (what : List Printing) → is_first_unit program what ≡ true → are_first program (global_names program what) what ≡ true
+all_first program what h = (and_parts (are_no_words (global_names program what) && are_distinct (global_names program what)) (are_first program (global_names program what) what) h).1

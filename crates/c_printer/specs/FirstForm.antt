@@ -1,10 +1,10 @@
 -- The first form of procedures: each parameter is a tensor of 32-bit cells with one literal dimension,
 -- and each statement is a `pass`, or an assignment to a cell at a literal index or a reduction into one, of an expression over literals and such cells.
-use Rattle.std.specs.Prelude.{◌≡◌, ℕ, ◌==◌, ℤ, pos, int_le, Bool, true, false, ◌&&◌, if◌then◌else◌, List, [], ◌∷◌, Option, Some, None, slice_get, ⊤}
+use Rattle.std.specs.Prelude.{◌≡◌, ℕ, ◌==◌, ℤ, pos, int_le, Bool, true, false, not, ◌&&◌, if◌then◌else◌, List, [], ◌∷◌, Option, Some, None, slice_get, ⊤}
 use Rattle.exo_tree.specs.Tree.{Cell, I8, I32, Control, Lit, Datum, Const, Read, Negated, Relu, Plus, Minus, Times, Select, Statement, Assign, Reduce, Pass, Block, end, next, Param, ParamKind, ControlParam, TensorParam, WindowParam, Procedure, Program}
 use Rattle.exo_meaning.specs.Scene.{is_below}
 use Rattle.c_printer.specs.CTree.{Name}
-use Rattle.c_printer.specs.Names.{is_reserved, param_binders, names_of}
+use Rattle.c_printer.specs.Names.{is_in, is_word, is_reserved, param_binders, names_of}
 use Rattle.c_printer.specs.LoweredUnit.{Printing, global_names}
 
 -- a literal of the unit text
@@ -73,18 +73,38 @@ is_first_form p = are_first_params p.params && is_first_block p.params p.body &&
 -- no name of the list is reserved
 abbrev pub are_free : List Name → List Name → Bool
 are_free globals [] = true
-are_free globals (x ∷ xs) = (if is_reserved globals x then false else true) && are_free globals xs
+are_free globals (x ∷ xs) = not (is_reserved globals x) && are_free globals xs
+
+-- each name stands once in the list
+abbrev pub are_distinct : List Name → Bool
+are_distinct [] = true
+are_distinct (x ∷ xs) = not (is_in xs x) && are_distinct xs
+
+-- no name is a word of C or of the text
+abbrev pub are_no_words : List Name → Bool
+are_no_words [] = true
+are_no_words (x ∷ xs) = not (is_word x) && are_no_words xs
 
 abbrev pub is_first_there : Option Procedure → Bool
 is_first_there None = false
 is_first_there (Some p) = is_first_form p
 
+-- different names that are not reserved
+abbrev pub have_own_names : List Name → List Param → Bool
+have_own_names globals ps = are_free globals (names_of (param_binders ps)) && are_distinct (names_of (param_binders ps))
+
 -- a procedure of the first form whose names C can keep
 abbrev pub is_first : List Name → Option Procedure → Bool
 is_first globals None = false
-is_first globals (Some p) = is_first_form p && are_free globals (names_of (param_binders p.params))
+is_first globals (Some p) = is_first_form p && have_own_names globals p.params
 
 -- each listed procedure is one
 abbrev pub are_first : Program → List Name → List Printing → Bool
 are_first program globals [] = true
 are_first program globals (w ∷ ws) = is_first globals (slice_get program.procedures w.proc) && are_first program globals ws
+
+-- the listed procedures are of the first form, and all names of C can be kept
+abbrev pub is_first_unit : Program → List Printing → Bool
+is_first_unit program what =
+    let globals = global_names program what in
+    are_no_words globals && are_distinct globals && are_first program globals what

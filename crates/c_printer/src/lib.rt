@@ -4,6 +4,8 @@
 pub mod laws;
 mod lowering;
 mod show;
+#[cfg(test)]
+mod tests;
 mod text;
 pub mod tree;
 

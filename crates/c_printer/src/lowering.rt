@@ -13,7 +13,7 @@ ghost use Rattle.c_printer.specs.Names.{name_in, param_binders};
 ghost use Rattle.c_printer.specs.Lowered.{cell_in, cell_at_of, number32_of, Becomes, block_of};
 ghost use Rattle.c_printer.specs.LoweredUnit.{named_field, field_word, name_of, line_of, naming_in, formal_of, formals_of, function_of, function_at, functions_of, global_names, lowered};
 ghost use Rattle.c_printer.specs.SameInput.{form_of, param_forms};
-ghost use Rattle.c_printer.specs.FirstForm.{first_index, is_first_access, is_first_datum, is_first_statement, is_first_block, is_first_param, are_first_params, is_first_form, is_first_there, is_first, are_first};
+ghost use Rattle.c_printer.specs.FirstForm.{first_index, is_first_access, is_first_datum, is_first_statement, is_first_block, is_first_param, are_first_params, is_first_form, is_first_there, is_first, are_first, is_first_unit};
 ghost use Rattle.c_printer.specs.Plain.{plain_type, plain_number, plain_cell, plain_data, plain_statement, plain_param, plain_function, plain_line, plain_unit};
 ghost use Rattle.c_printer.specs.PlainPrinted.{printing};
 
@@ -310,9 +310,10 @@ fn lower_functions(alloc: Global, unit: &Unit, what: &[Printed]) -> Result<Vec<C
     Ok(made)
 }
 
-/// The C of the listed procedures, which are of the first form and have no names that C reserves. It fails for want of memory alone.
+/// The C of the listed procedures, which are of the first form and have names that C can keep.
+/// `what` lists each once, in the order of the unit. Memory is its only error so far.
 pub fn lower(alloc: Global, unit: &Unit, what: &[Printed]) -> Result<CUnit, LowerError>
-    requires { are_first (program unit.now) (global_names (program unit.now) (map printing what.now)) (map printing what.now) ≡ true }
+    requires { is_first_unit (program unit.now) (map printing what.now) ≡ true }
     ensures ok { IfOk result (λ c. plain_unit c ≡ lowered (program unit.now) (map printing what.now)) }
     ensures err { IfErr result (λ e. e ≡ LowerError.Memory) }
 {
