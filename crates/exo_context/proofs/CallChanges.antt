@@ -1,34 +1,33 @@
 -- A run with calls is a change that goes by its footprint.
-use Rattle.std.proofs.Common.{◌≡◌, ℕ, zero, suc, ℤ, pos, ◌+ℤ◌, ◌==◌, Bool, true, false, true≢false, cond, not, ◌&&◌, ◌||◌, List, [], ◌∷◌, ◌++◌, map, length, Option, Some, None, IfSome, option_map, refl, sym, ap, ap₂, ◌∙◌, subst, eqb-true, eq-eqb}
-use Rattle.std.specs.Prelude.{IsSome, slice_get}
+use Rattle.std.proofs.Common.{◌≡◌, ℕ, ℤ, pos, ◌==◌, Bool, true, false, true≢false, cond, not, ◌&&◌, ◌||◌, List, [], ◌∷◌, ◌++◌, Option, Some, None, IfSome, option_map, refl, sym, ap, ap₂, ◌∙◌, subst, eqb-true, eq-eqb}
 use Rattle.std.proofs.Math.Path.{fun_ext}
 use Rattle.std.specs.Cmp.Rules.{signed_items}
-use Rattle.exo_tree.specs.Tree.{Binder, Cell, Kind, Index, Control, Argument, Statement, Assign, Reduce, Config, Pass, If, For, Alloc, View, Call, Block, end, next, Param, ParamKind, ControlParam, TensorParam, WindowParam, Procedure}
+use Rattle.exo_tree.specs.Tree.{Binder, Cell, Kind, Index, Argument, Statement, Assign, Reduce, Config, Pass, If, For, Alloc, View, Call, Block, end, next, Param, ParamKind, ControlParam, TensorParam, WindowParam, Procedure}
 use Rattle.exo_meaning.specs.Value.{Value, Undefined}
-use Rattle.exo_meaning.specs.Scene.{Shape, Seen, Scene, then_do, where_true, numbers, holds, window, updated, cell_at, index_of, extents, strides_seen}
-use Rattle.exo_meaning.specs.State.{State, Cells, Place, place, is_there, value, left, scoped, same_index, on_scene, with_control, with_field, with_view, with_contents, with_buffer}
-use Rattle.exo_meaning.specs.Calls.{Callee, Given, GivenNumber, GivenView, all_given, suits, all_positive, held_at, contents, copy_in, bind_numbers, bind_buffer, bind_buffers, bare, entered, value_or, copy_back, copied_back, returned, all_hold, run_asserted}
+use Rattle.exo_meaning.specs.Scene.{Shape, Seen, then_do, where_true, numbers, holds, window, index_of, extents, strides_seen}
+use Rattle.exo_meaning.specs.State.{State, Cells, Place, place, is_there, value, same_index, on_scene, with_control, with_field, with_view, with_contents, with_buffer}
+use Rattle.exo_meaning.specs.Calls.{Callee, Given, GivenNumber, GivenView, all_given, suits, all_positive, held_at, contents, bind_numbers, bind_buffer, bind_buffers, bare, entered, value_or, copy_back, copied_back, returned, all_hold, run_asserted}
 use Rattle.exo_meaning.specs.Run.{World, run, step, call_to, turn, turns, turns_of, choose, argument_number, tensor}
 use Rattle.exo_meaning.specs.Inputs.{IsAdmissible, IsArgument, AreArguments, is_buffer_of}
-use Rattle.exo_meaning.specs.Footprint.{Entry, Reads, Writes, Reduces, Made, IsFixed, further, chosen, turns_touch, footprint, step_footprint, reads, Change, under, stores_one, stores, overwrites_one, overwrites, IsTidy, added, added_all, IsSum, ChangesBy}
+use Rattle.exo_meaning.specs.Footprint.{Entry, Reads, Writes, Reduces, Made, further, chosen, turns_touch, step_footprint, reads, Change, under, stores_one, stores, overwrites_one, overwrites, IsTidy, IsSum, ChangesBy}
 use Rattle.exo_meaning.specs.Orders.{Each}
-use Rattle.exo_meaning.specs.Units.{Sort, ControlName, BufferName, Scope, sort_in, is_new, with_name, with_fields, plainly, is_control, is_condition, are_for, is_call, scope_after, is_empty, is_short, is_block, is_statement, param_sort, are_params, scope_of}
+use Rattle.exo_meaning.specs.Units.{Sort, ControlName, Scope, sort_in, is_new, with_name, with_fields, plainly, is_control, is_condition, are_for, is_call, scope_after, is_empty, is_short, is_block, is_statement, param_sort, scope_of}
 use Rattle.exo_meaning.proofs.Cells.{there_is}
-use Rattle.exo_meaning.proofs.Frame.{if_then, if_map, if_where, any, if_weaken, here, or_parts, updated_other}
+use Rattle.exo_meaning.proofs.Frame.{if_then, if_map, if_where, any, if_weaken, or_parts, updated_other}
 use Rattle.exo_meaning.proofs.Windows.{cell_at_index}
 use Rattle.exo_meaning.proofs.Changes.{stores_parts, overwrites_parts, changes_then, changes_none, assigned, reduced_to, ScopedChanges, scoped_changes, choose_changes, made_changes}
 use Rattle.exo_context.specs.Sound.{IsSound}
 use Rattle.exo_context.specs.Sorted.{IsSorted, Ends}
-use Rattle.exo_context.specs.Touched.{IsCovered, Mode, Reading, Writing, Reducing, Modes, cells_of, window_entries, buffer_entries, param_entries, all_entries, given_entries, entries_to, call_entries, touched}
-use Rattle.exo_context.proofs.Parts.{none_some, some_injective}
+use Rattle.exo_context.specs.Touched.{IsCovered, Reading, Writing, Reducing, Modes, window_entries, buffer_entries, param_entries, all_entries, given_entries, entries_to, call_entries, touched}
+use Rattle.exo_context.proofs.Parts.{none_some}
 use Rattle.exo_context.proofs.Names.{if_gives}
 use Rattle.exo_context.proofs.Substitute.{and_parts}
 use Rattle.exo_context.proofs.Sound.{AreThere, all_there, step_sound, turn_sound}
 use Rattle.exo_context.proofs.Copies.{if_both}
-use Rattle.exo_context.proofs.FirstState.{Differ, params_differ, HasType, Matches, AllMatch, all_match, enters}
+use Rattle.exo_context.proofs.FirstState.{Differ, params_differ, Matches, AllMatch, all_match, enters}
 use Rattle.exo_context.proofs.Sorted.{Next, IsGood, step_next, run_ends, inside, turn_next, found}
 use Rattle.exo_context.proofs.Covered.{or_left, or_right}
-use Rattle.exo_context.proofs.CallExchanges.{each_window, Paired, paired}
+use Rattle.exo_context.proofs.CallExchanges.{each_window}
 
 -- ---- what the modes say of the changes
 

@@ -1,31 +1,29 @@
 -- A run with calls exchanges with a change of cells that it does not see.
 use Rattle.std.proofs.Common.{◌≡◌, ℕ, zero, suc, ℤ, pos, negsuc, ◌+ℤ◌, ◌<◌, arith, ◌==◌, Bool, true, false, true≢false, cond, not, ◌&&◌, ◌||◌, List, [], ◌∷◌, ◌++◌, map, length, Option, Some, None, IfSome, option_map, refl, sym, ap, ap₂, ◌∙◌, subst, eqb-true, eq-eqb}
-use Rattle.std.specs.Prelude.{IsSome, slice_get}
 use Rattle.std.proofs.Math.Path.{fun_ext}
 use Rattle.std.proofs.lemmas.Int.{ints}
-use Rattle.exo_tree.specs.Tree.{Binder, Cell, Kind, Index, Control, Argument, Statement, Assign, Reduce, Config, Pass, If, For, Alloc, View, Call, Block, end, next, Param, ParamKind, ControlParam, TensorParam, WindowParam, Procedure}
-use Rattle.exo_meaning.specs.Value.{Value, Undefined, stored_as, on_two}
-use Rattle.exo_meaning.specs.Scene.{Shape, Side, Point, Range, Seen, Scene, then_do, where_true, numbers, holds, window, updated, cell_at, index_of, extents, strides_seen, whole, is_below}
-use Rattle.exo_meaning.specs.State.{State, Cells, Place, place, value, left, scoped, same_index, on_scene, with_control, with_contents, with_buffer}
-use Rattle.exo_meaning.specs.Calls.{Callee, Given, GivenNumber, GivenView, given, all_given, suits, all_positive, held_at, contents, copy_in, bind_numbers, bind_buffer, bind_buffers, bare, entered, value_or, copy_back, copied_back, returned, all_hold, run_asserted}
-use Rattle.exo_meaning.specs.Run.{World, run, step, call_to, turn, turns, turns_of, choose, argument_number, tensor, range, count, callee_in, world_of}
+use Rattle.exo_tree.specs.Tree.{Binder, Cell, Kind, Index, Argument, Statement, Assign, Reduce, Config, Pass, If, For, Alloc, View, Call, Block, end, next, Param, ParamKind, ControlParam, TensorParam, WindowParam}
+use Rattle.exo_meaning.specs.Value.{Value, Undefined}
+use Rattle.exo_meaning.specs.Scene.{Side, Point, Range, Seen, Scene, then_do, where_true, numbers, holds, window, updated, cell_at, index_of, extents, strides_seen, is_below}
+use Rattle.exo_meaning.specs.State.{State, Cells, Place, left, same_index, on_scene, with_control, with_contents, with_buffer}
+use Rattle.exo_meaning.specs.Calls.{Callee, Given, GivenNumber, GivenView, all_given, all_positive, held_at, contents, copy_in, bind_numbers, bind_buffer, bind_buffers, bare, entered, value_or, copy_back, copied_back, returned, all_hold, run_asserted}
+use Rattle.exo_meaning.specs.Run.{World, run, step, call_to, turn, turns, turns_of, choose, argument_number, tensor, range, count}
 use Rattle.exo_meaning.specs.Inputs.{IsAdmissible, IsArgument, AreArguments, is_buffer_of}
-use Rattle.exo_meaning.specs.Footprint.{Entry, Reads, Writes, Reduces, Made, IsFixed, further, chosen, turns_touch, footprint, step_footprint, Change, under, changed_by, Passes, LeavesOthers, Exchanges, added}
+use Rattle.exo_meaning.specs.Footprint.{Entry, Reads, Writes, Reduces, Made, further, chosen, turns_touch, step_footprint, Change, under, changed_by, Passes, LeavesOthers, Exchanges, added}
 use Rattle.exo_meaning.specs.Orders.{Each}
-use Rattle.exo_meaning.specs.Units.{Sort, ControlName, BufferName, Scope, sort_in, is_new, with_name, has_rank, with_fields, plainly, is_control, is_condition, is_window, are_for, is_call, view_sort, scope_after, is_empty, is_short, is_block, is_statement, spans, param_sort, are_params, scope_of}
-use Rattle.exo_meaning.proofs.Frame.{if_then, if_map, if_where, any, if_weaken, here, or_parts}
-use Rattle.exo_meaning.proofs.Windows.{where_parts, cell_at_index, index_at_cell}
+use Rattle.exo_meaning.specs.Units.{Sort, ControlName, BufferName, Scope, sort_in, is_new, with_name, with_fields, plainly, is_control, is_condition, are_for, is_call, scope_after, is_empty, is_short, is_block, is_statement, param_sort, scope_of}
+use Rattle.exo_meaning.proofs.Frame.{if_map, any, or_parts}
+use Rattle.exo_meaning.proofs.Windows.{where_parts, cell_at_index}
 use Rattle.exo_meaning.proofs.Deltas.{each_append, exchange_then, exchange_where, each_further, assign_exchanges, reduce_exchanges, others_later, made_exchanges, configure_exchanges, view_exchanges, choose_exchanges, scoped_exchanges, Grows, step_grows}
 use Rattle.exo_context.specs.Sound.{IsSound}
 use Rattle.exo_context.specs.Sorted.{IsSorted, Ends}
-use Rattle.exo_context.specs.Touched.{IsCovered, Mode, Reading, Writing, Reducing, Modes, crossed, cells_of, window_entries, buffer_entries, param_entries, all_entries, given_entries, entries_to, call_entries, touched, modes_in}
-use Rattle.exo_context.proofs.Parts.{none_some, some_injective, then_gives, map_gives}
+use Rattle.exo_context.specs.Touched.{IsCovered, Reading, Writing, Reducing, Modes, crossed, cells_of, window_entries, buffer_entries, param_entries, all_entries, given_entries, entries_to, call_entries, touched}
+use Rattle.exo_context.proofs.Parts.{none_some, some_injective, map_gives}
 use Rattle.exo_context.proofs.Names.{if_gives}
 use Rattle.exo_context.proofs.Substitute.{and_parts}
-use Rattle.exo_context.proofs.Sound.{IsThere, AreThere, all_there, step_sound, turn_sound}
-use Rattle.exo_context.proofs.Copies.{if_both}
+use Rattle.exo_context.proofs.Sound.{AreThere, all_there, step_sound, turn_sound}
 use Rattle.exo_context.proofs.FirstState.{Differ, params_differ, Matches, AllMatch, all_match, enters}
-use Rattle.exo_context.proofs.Sorted.{Next, IsGood, step_next, run_ends, inside, turn_next, found, scope_else}
+use Rattle.exo_context.proofs.Sorted.{Next, IsGood, step_next, run_ends, inside, turn_next, scope_else}
 use Rattle.exo_context.proofs.Covered.{or_left, or_right}
 
 -- ---- the cells that a name sees are listed

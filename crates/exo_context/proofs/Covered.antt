@@ -1,21 +1,20 @@
 -- The modes of a block cover what its runs touch.
-use Rattle.std.proofs.Common.{◌≡◌, ℕ, ℤ, ◌==◌, Bool, true, false, true≢false, cond, not, ◌&&◌, ◌||◌, List, [], ◌∷◌, ◌++◌, map, length, Option, Some, None, IfSome, option_map, refl, sym, ap, ap₂, ◌∙◌, subst, eqb-true, eq-eqb}
-use Rattle.std.specs.Prelude.{IsSome, slice_get}
-use Rattle.exo_tree.specs.Tree.{Binder, Cell, Kind, Index, Control, Coord, Argument, ControlArg, ConditionArg, Whole, Window, Datum, Const, Read, Negated, Relu, Plus, Minus, Times, Select, Statement, Assign, Reduce, Config, Pass, If, For, Alloc, View, Call, Block, end, next, Param, ParamKind, ControlParam, TensorParam, WindowParam}
-use Rattle.exo_meaning.specs.Value.{Value, Undefined}
-use Rattle.exo_meaning.specs.Scene.{Shape, Seen, Scene, then_do, numbers, holds, window, whole, updated}
-use Rattle.exo_meaning.specs.State.{State, Place, place, left, on_scene, with_control, with_view, with_contents, with_buffer}
-use Rattle.exo_meaning.specs.Calls.{Callee, Given, GivenNumber, GivenView, given, all_given, all_positive}
-use Rattle.exo_meaning.specs.Run.{World, run, step, turn, turns, turns_of, tensor, roots_after, is_root, call_writes}
+use Rattle.std.proofs.Common.{◌≡◌, ℕ, ℤ, ◌==◌, Bool, true, false, true≢false, cond, not, ◌&&◌, ◌||◌, List, [], ◌∷◌, ◌++◌, map, length, Option, Some, None, IfSome, refl, sym, ap, ap₂, ◌∙◌, eq-eqb}
+use Rattle.exo_tree.specs.Tree.{Binder, Cell, Kind, Index, Control, Argument, ControlArg, ConditionArg, Whole, Window, Datum, Const, Read, Negated, Relu, Plus, Minus, Times, Select, Statement, Assign, Reduce, Config, Pass, If, For, Alloc, View, Call, Block, end, next, Param, ParamKind, ControlParam, TensorParam, WindowParam}
+use Rattle.exo_meaning.specs.Value.{Undefined}
+use Rattle.exo_meaning.specs.Scene.{Shape, Seen, Scene, numbers, holds, window, whole, updated}
+use Rattle.exo_meaning.specs.State.{State, Place, place, left, on_scene, with_control, with_contents, with_buffer}
+use Rattle.exo_meaning.specs.Calls.{Callee, Given, GivenView, given, all_given, all_positive}
+use Rattle.exo_meaning.specs.Run.{World, run, step, turn, turns_of, tensor, roots_after, is_root, call_writes}
 use Rattle.exo_meaning.specs.Laws.{HasRoots}
-use Rattle.exo_meaning.specs.Footprint.{Entry, Reads, Writes, Reduces, Made, listed, all_read, written, reduced_as, reduced, reads, further, chosen, turns_touch, footprint, step_footprint}
+use Rattle.exo_meaning.specs.Footprint.{Entry, Reads, Writes, Reduces, listed, all_read, written, reduced_as, reduced, reads, further, chosen, turns_touch, footprint, step_footprint}
 use Rattle.exo_meaning.specs.Orders.{Each}
 use Rattle.exo_meaning.specs.Units.{Sort, ControlName, BufferName, Scope, sort_in, is_new, with_name, has_rank, has_cell, with_fields, plainly, is_control, is_condition, is_window, is_for, are_for, is_call, view_sort, scope_after, is_empty, is_short, is_block, is_statement, spans}
-use Rattle.exo_meaning.proofs.Frame.{if_then, if_map, if_where, any, if_weaken, here, place_root, window_root, root_of, more_roots}
+use Rattle.exo_meaning.proofs.Frame.{if_then, if_map, if_where, any, if_weaken, place_root, window_root, root_of, more_roots}
 use Rattle.exo_context.specs.Sound.{IsSound, IsSameName}
 use Rattle.exo_context.specs.Sorted.{IsSorted, Ends}
-use Rattle.exo_context.specs.Touched.{IsCovered, Mode, Reading, Writing, Reducing, Modes, picked, reads_from, call_has, has_mode, step_has_mode, cells_of, window_entries, buffer_entries, param_entries, all_entries, given_entries, entries_to, call_entries, touched}
-use Rattle.exo_context.proofs.Parts.{none_some, some_injective}
+use Rattle.exo_context.specs.Touched.{IsCovered, Mode, Reading, Writing, Reducing, Modes, reads_from, call_has, has_mode, step_has_mode, cells_of, window_entries, buffer_entries, param_entries, all_entries, given_entries, entries_to, call_entries, touched}
+use Rattle.exo_context.proofs.Parts.{none_some}
 use Rattle.exo_context.proofs.Names.{if_gives, step_names}
 use Rattle.exo_context.proofs.Substitute.{and_parts}
 use Rattle.exo_context.proofs.Sound.{step_sound, turn_sound}

@@ -3,7 +3,7 @@ use Rattle.std.proofs.Common.{◌≡◌, ℕ, pos, ◌+ℤ◌, ◌==◌, Bool, t
 use Rattle.std.specs.Int.{int_wrap}
 use Rattle.std.proofs.lemmas.Int.{ints}
 use Rattle.std.proofs.Common.{arith}
-use Rattle.exo_tree.specs.Tree.{Binder, I8, I32, Index, Control, Lit, Var, Add, Datum, Const, Plus, Assign, For, Block, end, next, TensorParam, Procedure}
+use Rattle.exo_tree.specs.Tree.{Binder, I8, I32, Index, Control, Lit, Var, Add, Datum, Const, Plus, Assign, For, Block, end, next, TensorParam, Procedure, WindowParam, ControlParam, Call, ControlArg, Window, Span, Size}
 use Rattle.exo_tree.specs.Context.{Context, Here, InLoop, fill}
 use Rattle.exo_tree.specs.Places.{Main, opened}
 use Rattle.exo_meaning.specs.Value.{Value, Undefined, Number, on_two, wrap}

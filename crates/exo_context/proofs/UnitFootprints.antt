@@ -1,33 +1,33 @@
 -- Footprints in a well-formed unit, calls included.
-use Rattle.std.proofs.Common.{◌≡◌, ℕ, zero, suc, ℤ, ◌==◌, Bool, true, false, true≢false, cond, not, ◌&&◌, ◌||◌, List, [], ◌∷◌, ◌++◌, Option, Some, None, IfSome, option_map, refl, sym, ap, ap₂, ◌∙◌, subst, eqb-true, eq-eqb}
-use Rattle.std.specs.Prelude.{IsSome, slice_get}
+use Rattle.std.proofs.Common.{◌≡◌, ℕ, zero, suc, ℤ, ◌==◌, Bool, true, false, true≢false, ◌&&◌, ◌||◌, List, [], ◌∷◌, ◌++◌, Option, Some, None, IfSome, option_map, refl, sym, ap, ap₂, ◌∙◌, subst}
+use Rattle.std.specs.Prelude.{slice_get}
 use Rattle.std.proofs.Math.Path.{fun_ext}
-use Rattle.exo_tree.specs.Tree.{Binder, Cell, Kind, Index, Argument, Statement, Assign, Reduce, Config, Pass, If, For, Alloc, View, Call, Block, end, next, Param, ParamKind, ControlParam, TensorParam, WindowParam, Procedure, ConfigField}
-use Rattle.exo_meaning.specs.Scene.{Shape, Seen, Scene, then_do, numbers, whole}
+use Rattle.exo_tree.specs.Tree.{Kind, Index, Argument, Statement, Assign, Reduce, Config, Pass, If, For, Alloc, View, Call, Block, end, next, Param, ParamKind, ControlParam, TensorParam, WindowParam, Procedure, ConfigField}
+use Rattle.exo_meaning.specs.Scene.{Seen, then_do, numbers, whole}
 use Rattle.exo_meaning.specs.State.{State, Cells, left, on_scene, with_control}
 use Rattle.exo_meaning.specs.Calls.{Callee}
 use Rattle.exo_meaning.specs.Run.{World, run, turn, is_root, call_writes, call_to_writes, writes, step_writes, roots_after, world_of, callee_in, callees, kinds_of, unit_world}
-use Rattle.exo_meaning.specs.Inputs.{IsAdmissible, IsArgument, AreArguments, is_buffer_of}
+use Rattle.exo_meaning.specs.Inputs.{IsAdmissible, IsArgument, is_buffer_of}
 use Rattle.exo_meaning.specs.Laws.{HasRoots}
-use Rattle.exo_meaning.specs.Footprint.{Entry, Change, changed_by, Passes, LeavesOthers, Exchanges, IsClear, ChangesBy}
+use Rattle.exo_meaning.specs.Footprint.{Change, Passes, LeavesOthers, Exchanges, ChangesBy}
 use Rattle.exo_meaning.specs.Orders.{Each, HasScene}
 use Rattle.exo_meaning.specs.Nests.{both_turns}
-use Rattle.exo_meaning.specs.Units.{Sort, ControlName, BufferName, Scope, sort_in, is_new, with_name, is_block, are_params, scope_of, field_kind, IsProcedure, AreProcedures}
+use Rattle.exo_meaning.specs.Units.{ControlName, Scope, with_name, is_block, are_params, scope_of, field_kind, IsProcedure, AreProcedures}
 use Rattle.exo_meaning.proofs.Frame.{if_map, if_weaken, here}
 use Rattle.exo_meaning.proofs.Nested.{kept_twice}
-use Rattle.exo_meaning.proofs.Changes.{ScopedChanges, scoped_changes}
+use Rattle.exo_meaning.proofs.Changes.{scoped_changes}
 use Rattle.exo_meaning.proofs.Deltas.{scoped_exchanges}
 use Rattle.exo_meaning.proofs.Together.{either_order}
 use Rattle.exo_context.specs.Sound.{IsSound}
-use Rattle.exo_context.specs.Sorted.{IsSorted, Ends, MayRun}
+use Rattle.exo_context.specs.Sorted.{IsSorted}
 use Rattle.exo_context.specs.Pairs.{LeavesFields}
-use Rattle.exo_context.specs.Touched.{IsCovered, Mode, Reading, Writing, Reducing, Modes, call_has, has_mode, step_has_mode, touched, no_modes, modes_at, modes_in, all_modes, unit_modes, turn_touched, pair_touched, ModesCover, MayTouch, RunsGoByFootprint, RunsExchange, TurnsWithCallsCommute, PairsWithCallsCommute}
+use Rattle.exo_context.specs.Touched.{IsCovered, Mode, Writing, Reducing, Modes, call_has, has_mode, step_has_mode, touched, modes_at, modes_in, all_modes, unit_modes, turn_touched, pair_touched, ModesCover, RunsGoByFootprint, RunsExchange, TurnsWithCallsCommute, PairsWithCallsCommute}
 use Rattle.exo_context.proofs.Parts.{none_some, some_injective}
 use Rattle.exo_context.proofs.Substitute.{and_parts}
 use Rattle.exo_context.proofs.Copies.{admissible_sound}
 use Rattle.exo_context.proofs.FirstState.{params_differ}
-use Rattle.exo_context.proofs.Sorted.{IsGood, inside, found, admissible_sorted, agrees, good_callee, unit_good}
-use Rattle.exo_context.proofs.Covered.{or_left, or_right, RootsTyped, Within, At, run_covered}
+use Rattle.exo_context.proofs.Sorted.{IsGood, inside, found, admissible_sorted, agrees, good_callee}
+use Rattle.exo_context.proofs.Covered.{or_left, run_covered}
 use Rattle.exo_context.proofs.CallExchanges.{Obeys, all_pass, ExchangesWell, run_exchanges}
 use Rattle.exo_context.proofs.CallChanges.{ModeChanges, by_modes, WritesAre, ChangesWell, run_changes}
 
