@@ -1,2 +1,4 @@
+pub mod Lists
 pub mod Taking
 pub mod Endings
+pub mod Commuting

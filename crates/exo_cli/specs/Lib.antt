@@ -5,6 +5,8 @@ pub mod Messages
 pub mod Words
 pub mod Asked
 pub mod Answer
+pub mod Commute
+pub mod Refusals
 pub mod Compiled
 pub mod Replies
 pub mod Work
