@@ -2,3 +2,4 @@ pub mod Lists
 pub mod Taking
 pub mod Endings
 pub mod Commuting
+pub mod Running

@@ -7,6 +7,8 @@ pub mod Asked
 pub mod Answer
 pub mod Commute
 pub mod Refusals
+pub mod Lines
+pub mod Sessions
 pub mod Compiled
 pub mod Replies
 pub mod Work

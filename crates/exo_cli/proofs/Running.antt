@@ -1,0 +1,20 @@
+-- Where a schedule stops.
+use Rattle.std.proofs.Common.{◌≡◌, ◌<◌, ℕ, zero, suc, ◌+◌, List, [], ◌∷◌, drop, length, Some, slice_get, get_or, refl, ap, sym, ◌∙◌, arith, add-one, drop-cons}
+use Rattle.std.proofs.lemmas.Option.{slice_get_read}
+use Rattle.exo_cli.specs.Lines.{Versions, performed, run_lines, after}
+use Rattle.exo_cli.specs.Sessions.{RefusesLine, StopsLine}
+use Rattle.exo_cli.specs.declared.lines.Line.{Line}
+use Rattle.exo_cli.specs.declared.session.Why.{Why}
+use Rattle.exo_cli.specs.declared.session.Why.TheVariants.{Memory, UnknownProc, NoSuchPattern, WrongShape}
+
+-- the place of an element
+pub slice_get-at : (lines : List Line) (k : ℕ) (line : Line) → k < length lines → line ≡ get_or lines k line → slice_get lines k ≡ Some line
+slice_get-at lines k line h e = slice_get_read lines (length lines) k line refl h e
+
+-- a line that is refused after those before it went
+pub stops : (lines : List Line) (v w : Versions) (k : ℕ) (line : Line) (why : Why) → run_lines (drop k lines) w ≡ run_lines lines v
+    → k < length lines → line ≡ get_or lines k line → RefusesLine (performed line.act w) why → StopsLine lines v k why
+stops lines v w k line Memory ran h e refused = tt
+stops lines v w k line why ran h e refused =
+    (line, slice_get-at lines k line h e,
+    sym ran ∙ ap (λ l. run_lines l w) (drop-cons lines k line h ∙ ap (λ x. x ∷ drop (suc k) lines) (sym e)) ∙ ap (after line (run_lines (drop (suc k) lines))) refused)

@@ -1,0 +1,156 @@
+// Running a schedule: versions are made of versions, and names hold the latest ones.
+ghost use Rattle.std.specs.Prelude.{◌≡◌, Option, None, slice_get, length, ◌<◌, MatchResult, OnOk, IfErr};
+ghost use Rattle.exo_tree.specs.Plain.{procedure};
+ghost use Rattle.exo_cli.specs.Commute.{Made};
+ghost use Rattle.exo_cli.specs.Lines.{Went, Done, adding, changing, changing_held, emitting, held, performed, run_lines};
+ghost use Rattle.exo_cli.specs.Sessions.{versions, RefusesLine, StopsLine};
+ghost use Rattle.exo_cli.specs.declared.session.Why.TheVariants.{Memory};
+
+use crate::commute::{StepRefusal, commute_expr};
+use crate::lines::{Act, Commute, Line};
+use exo_tree::{Name, Proc, Procs};
+use std::alloc::{AllocError, AllocFailed, Global};
+
+/// Why a line is refused.
+#[derive(Clone, Copy, Debug, PartialEq, Eq)]
+pub enum Why {
+    /// Memory ran out.
+    Memory,
+    /// The name holds no version.
+    UnknownProc,
+    /// No statement matches the pattern.
+    NoSuchPattern,
+    /// The statement that matches has not the shape that the step asks.
+    WrongShape,
+}
+
+impl From<AllocError> for Why {
+    ghost from_gives = { λ _ e. e ≡ Memory };
+
+    fn from(_error: AllocError) -> Self {
+        Why::Memory
+    }
+}
+
+impl<T: Drop> From<AllocFailed<T>> for Why {
+    ghost from_gives = { λ _ e. e ≡ Memory };
+
+    fn from(_error: AllocFailed<T>) -> Self {
+        Why::Memory
+    }
+}
+
+/// The versions so far.
+#[derive(Drop)]
+pub struct Session {
+    /// The procedures of the text and then the versions made by steps; the numbers below are places in it.
+    pub procs: Procs,
+    /// Of each, the procedure of the text from which it comes.
+    pub origins: Vec<usize>,
+    /// What names hold, the latest binding last.
+    pub names: Vec<(Name, usize)>,
+    /// The versions to be printed.
+    pub emitted: Vec<usize>,
+}
+
+impl Session {
+    /// The version that the name holds.
+    fn held(&self, name: &str) -> Option<usize>
+        ensures { result ≡ held (versions self.now).names name.now }
+    {
+        let mut found = None;
+        for binding in &self.names {
+            if binding.0.as_str() == name {
+                found = Some(binding.1);
+            }
+        }
+        found
+    }
+
+    /// What the step makes of version `k`.
+    fn changed(&self, alloc: Global, k: usize, c: &Commute) -> Result<Proc, Why>
+        ensures { MatchResult result
+            (λ p. changing c.now k (versions self.now) (slice_get (versions self.now).procedures k)
+                ≡ adding c.now.bind k (versions self.now) (Made (procedure p)))
+            (RefusesLine (changing c.now k (versions self.now) (slice_get (versions self.now).procedures k))) }
+    {
+        let Some(p) = self.procs.get(k) else {
+            return Err(Why::UnknownProc);
+        };
+        match commute_expr(alloc, p, c.target.as_str(), c.which) {
+            Ok(made) => Ok(made),
+            Err(StepRefusal::Memory) => Err(Why::Memory),
+            Err(StepRefusal::NoSuchPattern) => Err(Why::NoSuchPattern),
+            Err(StepRefusal::WrongShape) => Err(Why::WrongShape),
+        }
+    }
+
+    /// Puts a version last that was made of version `k`, under this name.
+    fn add(&mut self, alloc: Global, name: &Name, k: usize, p: Proc) -> Result<(), AllocError>
+        ensures { OnOk result (adding name.now k (versions self.old) (Made (procedure p)) ≡ Went (versions self.new)) }
+    {
+        let version = self.procs.len();
+        self.procs.push(p)?;
+        let origin = self.origins.get(k).copied().unwrap_or(0);
+        self.origins.push(origin)?;
+        let bound = name.duplicate(alloc)?;
+        self.names.push((bound, version))?;
+        Ok(())
+    }
+
+    /// Does what a line asks that changes a version.
+    fn change(&mut self, alloc: Global, c: &Commute) -> Result<(), Why>
+        ensures { MatchResult result
+            (λ _. changing_held c.now (versions self.old) (held (versions self.old).names c.now.of) ≡ Went (versions self.new))
+            (RefusesLine (changing_held c.now (versions self.old) (held (versions self.old).names c.now.of))) }
+    {
+        let Some(k) = self.held(c.of.as_str()) else {
+            return Err(Why::UnknownProc);
+        };
+        match self.changed(alloc, k, c) {
+            Ok(made) => Ok(self.add(alloc, &c.bind, k, made)?),
+            Err(why) => Err(why),
+        }
+    }
+
+    /// Marks the version that the name holds to be printed.
+    fn emit(&mut self, name: &str) -> Result<(), Why>
+        ensures { MatchResult result
+            (λ _. emitting (held (versions self.old).names name.now) (versions self.old) ≡ Went (versions self.new))
+            (RefusesLine (emitting (held (versions self.old).names name.now) (versions self.old))) }
+    {
+        let Some(k) = self.held(name) else {
+            return Err(Why::UnknownProc);
+        };
+        self.emitted.push(k)?;
+        Ok(())
+    }
+
+    /// Does what a line asks.
+    fn perform(&mut self, alloc: Global, act: &Act) -> Result<(), Why>
+        ensures { MatchResult result
+            (λ _. performed act.now (versions self.old) ≡ Went (versions self.new))
+            (RefusesLine (performed act.now (versions self.old))) }
+    {
+        match act {
+            Act::Commute(c) => self.change(alloc, c),
+            Act::Emit(name) => self.emit(name.as_str()),
+        }
+    }
+
+    /// Does what the lines ask, in order. An error is that of the first line that is refused, with its index.
+    pub fn run(&mut self, alloc: Global, lines: &[Line]) -> Result<(), (usize, Why)>
+        ensures ran { MatchResult result
+            (λ _. run_lines lines.now (versions self.old) ≡ Done (versions self.new))
+            (λ e. StopsLine lines.now (versions self.old) e.0 e.1) }
+        ensures within { IfErr result (λ e. e.0 < length lines.now) }
+    {
+        for k in 0..lines.len() {
+            let line = &lines[k];
+            if let Err(why) = self.perform(alloc, &line.act) {
+                return Err((k, why));
+            }
+        }
+        Ok(())
+    }
+}
