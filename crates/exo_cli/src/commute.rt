@@ -145,11 +145,11 @@ fn commuted(alloc: Global, body: &Block, x: Id, which: Operation) -> Result<Bloc
 }
 
 /// The number of the first parameter of this name.
-fn parameter_of(params: &Params, name: &str) -> Option<Id>
+fn parameter_of(params: &Params, name: &[u8]) -> Option<Id>
     ensures { option_map (λ x. x.0) result ≡ parameter_of params.now name.now }
 {
     for p in params.as_slice() {
-        if p.binder.name.as_str() == name {
+        if p.binder.name.as_str().as_bytes() == name {
             return Some(p.binder.id);
         }
     }
@@ -158,7 +158,7 @@ fn parameter_of(params: &Params, name: &str) -> Option<Id>
 
 /// The step: in the first assignment to `x`, the sides of the first sum or product in preorder change places.
 /// `NoSuchPattern` where nothing is assigned to `x`, `WrongShape` where the right side has no such operation.
-pub fn commute_expr(alloc: Global, p: &Proc, x: &str, which: Operation) -> Result<Proc, StepRefusal>
+pub fn commute_expr(alloc: Global, p: &Proc, x: &[u8], which: Operation) -> Result<Proc, StepRefusal>
     ensures { Steps (commute_expr (procedure p.now) x.now which) procedure result }
 {
     let Some(id) = parameter_of(&p.params, x) else {

@@ -11,6 +11,7 @@ mod memory;
 mod messages;
 mod outside;
 mod reply;
+mod schedule;
 mod session;
 mod status;
 mod words;

@@ -1,16 +1,16 @@
 // The lines of a schedule.
 use crate::commute::Operation;
-use exo_tree::Name;
+use exo_reader::text::Text;
 
 /// A line that changes a version: `bind = commute_expr(of, 'target[_] = _', ..)`.
 #[derive(Drop)]
 pub struct Commute {
     /// The name that holds the new version.
-    pub bind: Name,
+    pub bind: Text,
     /// The name of the version that is changed.
-    pub of: Name,
+    pub of: Text,
     /// What the changed assignment assigns to.
-    pub target: Name,
+    pub target: Text,
     /// Which operation has its sides exchanged.
     pub which: Operation,
 }
@@ -21,7 +21,7 @@ pub enum Act {
     /// To change a version.
     Commute(Commute),
     /// To print the version that the name holds.
-    Emit(Name),
+    Emit(Text),
 }
 
 /// A line of a schedule, and the number of its line in the text, from 1.

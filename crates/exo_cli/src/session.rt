@@ -8,7 +8,8 @@ ghost use Rattle.exo_cli.specs.declared.session.Why.TheVariants.{Memory};
 
 use crate::commute::{StepRefusal, commute_expr};
 use crate::lines::{Act, Commute, Line};
-use exo_tree::{Name, Proc, Procs};
+use exo_reader::text::Text;
+use exo_tree::{Proc, Procs};
 use std::alloc::{AllocError, AllocFailed, Global};
 
 /// Why a line is refused.
@@ -48,19 +49,19 @@ pub struct Session {
     /// Of each, the procedure of the text from which it comes.
     pub origins: Vec<usize>,
     /// What names hold, the latest binding last.
-    pub names: Vec<(Name, usize)>,
+    pub names: Vec<(Text, usize)>,
     /// The versions to be printed.
     pub emitted: Vec<usize>,
 }
 
 impl Session {
     /// The version that the name holds.
-    fn held(&self, name: &str) -> Option<usize>
+    fn held(&self, name: &Text) -> Option<usize>
         ensures { result ≡ held (versions self.now).names name.now }
     {
         let mut found = None;
         for binding in &self.names {
-            if binding.0.as_str() == name {
+            if binding.0.as_slice() == name.as_slice() {
                 found = Some(binding.1);
             }
         }
@@ -77,7 +78,7 @@ impl Session {
         let Some(p) = self.procs.get(k) else {
             return Err(Why::UnknownProc);
         };
-        match commute_expr(alloc, p, c.target.as_str(), c.which) {
+        match commute_expr(alloc, p, c.target.as_slice(), c.which) {
             Ok(made) => Ok(made),
             Err(StepRefusal::Memory) => Err(Why::Memory),
             Err(StepRefusal::NoSuchPattern) => Err(Why::NoSuchPattern),
@@ -86,14 +87,14 @@ impl Session {
     }
 
     /// Puts a version last that was made of version `k`, under this name.
-    fn add(&mut self, alloc: Global, name: &Name, k: usize, p: Proc) -> Result<(), AllocError>
+    fn add(&mut self, name: &Text, k: usize, p: Proc) -> Result<(), AllocError>
         ensures { OnOk result (adding name.now k (versions self.old) (Made (procedure p)) ≡ Went (versions self.new)) }
     {
         let version = self.procs.len();
         self.procs.push(p)?;
         let origin = self.origins.get(k).copied().unwrap_or(0);
         self.origins.push(origin)?;
-        let bound = name.duplicate(alloc)?;
+        let bound = name.clone()?;
         self.names.push((bound, version))?;
         Ok(())
     }
@@ -104,17 +105,17 @@ impl Session {
             (λ _. changing_held c.now (versions self.old) (held (versions self.old).names c.now.of) ≡ Went (versions self.new))
             (RefusesLine (changing_held c.now (versions self.old) (held (versions self.old).names c.now.of))) }
     {
-        let Some(k) = self.held(c.of.as_str()) else {
+        let Some(k) = self.held(&c.of) else {
             return Err(Why::UnknownProc);
         };
         match self.changed(alloc, k, c) {
-            Ok(made) => Ok(self.add(alloc, &c.bind, k, made)?),
+            Ok(made) => Ok(self.add(&c.bind, k, made)?),
             Err(why) => Err(why),
         }
     }
 
     /// Marks the version that the name holds to be printed.
-    fn emit(&mut self, name: &str) -> Result<(), Why>
+    fn emit(&mut self, name: &Text) -> Result<(), Why>
         ensures { MatchResult result
             (λ _. emitting (held (versions self.old).names name.now) (versions self.old) ≡ Went (versions self.new))
             (RefusesLine (emitting (held (versions self.old).names name.now) (versions self.old))) }
@@ -134,7 +135,7 @@ impl Session {
     {
         match act {
             Act::Commute(c) => self.change(alloc, c),
-            Act::Emit(name) => self.emit(name.as_str()),
+            Act::Emit(name) => self.emit(name),
         }
     }
 

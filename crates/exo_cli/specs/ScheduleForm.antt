@@ -1,0 +1,134 @@
+-- The first form of schedules: lines that exchange the sides of a sum or product in an assignment, and one that prints.
+use Rattle.std.specs.Prelude.{ℕ, ◌+◌, Bool, true, false, ◌&&◌, if◌then◌else◌, nat_eq, nat_le, List, [], ◌∷◌, ◌++◌, drop, map, length, list_any, Option, Some, None, codes}
+use Rattle.std.specs.Str.{bytes_eq}
+use Rattle.exo_reader.specs.Layout.{lexed, line_tokens, place_of, token_of, end_place}
+use Rattle.exo_reader.specs.declared.place.Place.{Place}
+use Rattle.exo_reader.specs.declared.token.Token.{Token}
+use Rattle.exo_reader.specs.declared.token.Token.TheVariants as token
+use Rattle.exo_reader.specs.declared.token.Token.TheVariants.{Name, Str, Sign, NewLine}
+use Rattle.exo_reader.specs.declared.token.Sign.TheVariants.{Open, Close, OpenBracket, CloseBracket, Comma, Assign, Plus, Times, Any}
+use Rattle.exo_cli.specs.declared.commute.Operation.{Operation}
+use Rattle.exo_cli.specs.declared.commute.Operation.TheVariants.{Sum, Product}
+use Rattle.exo_cli.specs.declared.lines.Commute.{Commute}
+use Rattle.exo_cli.specs.declared.lines.Act.{Act}
+use Rattle.exo_cli.specs.declared.lines.Act.TheVariants as act
+use Rattle.exo_cli.specs.declared.lines.Line.{Line}
+
+-- ---- strings that hold patterns, by their tokens; a comment has no place in them
+
+abbrev pub hash : ℕ
+hash = 0x23
+
+abbrev pub pattern_tokens : List ℕ → List Token
+pattern_tokens text = if list_any (λ b. nat_eq b hash) text then [] else map token_of (line_tokens 1 text)
+
+-- `x[_] = _`, an assignment to x
+abbrev pub target_in : List Token → Option (List ℕ)
+target_in (Name x ∷ Sign OpenBracket ∷ Sign Any ∷ Sign CloseBracket ∷ Sign Assign ∷ Sign Any ∷ []) = Some x
+target_in tokens = None
+
+-- `_ + _` or `_ * _`
+abbrev pub operation_in : List Token → Option Operation
+operation_in (Sign Any ∷ Sign Plus ∷ Sign Any ∷ []) = Some Sum
+operation_in (Sign Any ∷ Sign Times ∷ Sign Any ∷ []) = Some Product
+operation_in tokens = None
+
+-- ---- lines
+
+-- neighbouring strings are one
+abbrev pub string_before : List Token → List ℕ
+string_before (Str s ∷ more) = s ++ string_before more
+string_before tokens = []
+
+abbrev pub behind_strings : List Token → List Token
+behind_strings (Str s ∷ more) = behind_strings more
+behind_strings tokens = tokens
+
+-- the two strings before the parenthesis that ends a line
+abbrev pub second_string : List ℕ → List ℕ → List Token → Option (List ℕ × List ℕ)
+second_string one two (Sign Close ∷ NewLine ∷ []) = Some (one, two)
+second_string one two tokens = None
+
+abbrev pub first_string : List ℕ → List Token → Option (List ℕ × List ℕ)
+first_string one (Sign Comma ∷ more) = second_string one (string_before more) (behind_strings more)
+first_string one tokens = None
+
+abbrev pub two_strings : List Token → Option (List ℕ × List ℕ)
+two_strings tokens = first_string (string_before tokens) (behind_strings tokens)
+
+-- the limits of names and of strings
+abbrev pub is_short_name : List ℕ → Bool
+is_short_name name = nat_le (length name) 63
+
+abbrev pub are_short : List ℕ × List ℕ → Bool
+are_short strings = nat_le (length strings.0) 1024 && nat_le (length strings.1) 1024
+
+abbrev pub commute_with : List ℕ → List ℕ → Option (List ℕ) → Option Operation → Option Act
+commute_with bind of (Some target) (Some which) =
+    if is_short_name bind && is_short_name of && is_short_name target
+    then Some (act.Commute (record { bind = bind; of = of; target = target; which = which })) else None
+commute_with bind of target which = None
+
+abbrev pub commute_in : List ℕ → List ℕ → List ℕ → Option (List ℕ × List ℕ) → Option Act
+commute_in bind operator of None = None
+commute_in bind operator of (Some strings) =
+    if bytes_eq operator (codes "commute_expr") && are_short strings
+    then commute_with bind of (target_in (pattern_tokens strings.0)) (operation_in (pattern_tokens strings.1)) else None
+
+abbrev pub emit_in : List ℕ → List ℕ → Option Act
+emit_in operator name = if bytes_eq operator (codes "emit") && is_short_name name then Some (act.Emit name) else None
+
+-- what the tokens of a line ask: `bind = commute_expr(of, 'x[_] = _', '_ + _')` or `emit(name)`
+abbrev pub act_in : List Token → Option Act
+act_in (Name bind ∷ Sign Assign ∷ Name operator ∷ Sign Open ∷ Name of ∷ Sign Comma ∷ strings) = commute_in bind operator of (two_strings strings)
+act_in (Name operator ∷ Sign Open ∷ Name name ∷ Sign Close ∷ NewLine ∷ []) = emit_in operator name
+act_in tokens = None
+
+-- ---- whole texts
+
+abbrev pub ends_line : Token → Bool
+ends_line NewLine = true
+ends_line other = false
+
+-- the number of the line of the first of these places
+abbrev pub first_number : List Place → ℕ
+first_number [] = 0
+first_number (p ∷ more) = p.line
+
+-- lines whose first one has one token more before it
+abbrev pub begun : ℕ → Token → List (ℕ × List Token) → List (ℕ × List Token)
+begun number t [] = (number, t ∷ []) ∷ []
+begun number t (line ∷ more) = (number, t ∷ line.1) ∷ more
+
+-- the lines of tokens, each up to its end, with the number of the line in the text where it begins
+abbrev pub numbered : List Token → List Place → List (ℕ × List Token)
+numbered [] places = []
+numbered (t ∷ tokens) places =
+    if ends_line t then (first_number places, t ∷ []) ∷ numbered tokens (drop 1 places)
+    else begun (first_number places) t (numbered tokens (drop 1 places))
+
+abbrev pub with_line : ℕ → Option Act → Option (List Line) → Option (List Line)
+with_line number (Some a) (Some lines) = Some (record { number = number; act = a } ∷ lines)
+with_line number a lines = None
+
+abbrev pub lines_in : List (ℕ × List Token) → Option (List Line)
+lines_in [] = Some []
+lines_in (line ∷ more) = with_line line.0 (act_in line.1) (lines_in more)
+
+abbrev pub with_emit : Act → ℕ → ℕ
+with_emit (act.Emit name) n = n + 1
+with_emit (act.Commute c) n = n
+
+-- how many lines print
+abbrev pub emits : List Line → ℕ
+emits [] = 0
+emits (line ∷ lines) = with_emit line.act (emits lines)
+
+-- at most so many lines, and one that prints
+abbrev pub within : Option (List Line) → Option (List Line)
+within None = None
+within (Some lines) = if nat_le (length lines) 4096 && nat_le (emits lines) 1 then Some lines else None
+
+-- the lines of a schedule of the first form; none where the text is not of that form
+abbrev pub schedule_of : List ℕ → Option (List Line)
+schedule_of text = within (lines_in (numbered (map token_of (lexed text)) (map place_of (lexed text) ++ end_place text ∷ [])))
