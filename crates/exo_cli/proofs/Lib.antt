@@ -3,3 +3,4 @@ pub mod Taking
 pub mod Endings
 pub mod Commuting
 pub mod Running
+pub mod Reading

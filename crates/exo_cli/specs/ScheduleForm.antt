@@ -1,5 +1,6 @@
 -- The first form of schedules: lines that exchange the sides of a sum or product in an assignment, and one that prints.
-use Rattle.std.specs.Prelude.{ℕ, ◌+◌, Bool, true, false, ◌&&◌, if◌then◌else◌, nat_eq, nat_le, List, [], ◌∷◌, ◌++◌, drop, map, length, list_any, Option, Some, None, codes}
+use Rattle.std.specs.Prelude.{ℕ, suc, ◌+◌, Bool, true, false, ◌&&◌, if◌then◌else◌, nat_eq, nat_le, List, [], ◌∷◌, ◌++◌, drop, map, length, Option, Some, None, option_map, codes}
+use Rattle.std.specs.List.{list_any}
 use Rattle.std.specs.Str.{bytes_eq}
 use Rattle.exo_reader.specs.Layout.{lexed, line_tokens, place_of, token_of, end_place}
 use Rattle.exo_reader.specs.declared.place.Place.{Place}
@@ -22,9 +23,19 @@ hash = 0x23
 abbrev pub pattern_tokens : List ℕ → List Token
 pattern_tokens text = if list_any (λ b. nat_eq b hash) text then [] else map token_of (line_tokens 1 text)
 
+-- what stands behind `[_]`
+abbrev pub behind_index : List Token → Option (List Token)
+behind_index (Sign OpenBracket ∷ Sign Any ∷ Sign CloseBracket ∷ more) = Some more
+behind_index tokens = None
+
+-- `= _` and nothing more
+abbrev pub is_any_value : Option (List Token) → Bool
+is_any_value (Some (Sign Assign ∷ Sign Any ∷ [])) = true
+is_any_value tokens = false
+
 -- `x[_] = _`, an assignment to x
 abbrev pub target_in : List Token → Option (List ℕ)
-target_in (Name x ∷ Sign OpenBracket ∷ Sign Any ∷ Sign CloseBracket ∷ Sign Assign ∷ Sign Any ∷ []) = Some x
+target_in (Name x ∷ more) = if is_any_value (behind_index more) then Some x else None
 target_in tokens = None
 
 -- `_ + _` or `_ * _`
@@ -44,10 +55,14 @@ abbrev pub behind_strings : List Token → List Token
 behind_strings (Str s ∷ more) = behind_strings more
 behind_strings tokens = tokens
 
+-- `)` and the end of the line
+abbrev pub is_end : List Token → Bool
+is_end (Sign Close ∷ NewLine ∷ []) = true
+is_end tokens = false
+
 -- the two strings before the parenthesis that ends a line
 abbrev pub second_string : List ℕ → List ℕ → List Token → Option (List ℕ × List ℕ)
-second_string one two (Sign Close ∷ NewLine ∷ []) = Some (one, two)
-second_string one two tokens = None
+second_string one two tokens = if is_end tokens then Some (one, two) else None
 
 abbrev pub first_string : List ℕ → List Token → Option (List ℕ × List ℕ)
 first_string one (Sign Comma ∷ more) = second_string one (string_before more) (behind_strings more)
@@ -75,14 +90,28 @@ commute_in bind operator of (Some strings) =
     if bytes_eq operator (codes "commute_expr") && are_short strings
     then commute_with bind of (target_in (pattern_tokens strings.0)) (operation_in (pattern_tokens strings.1)) else None
 
-abbrev pub emit_in : List ℕ → List ℕ → Option Act
-emit_in operator name = if bytes_eq operator (codes "emit") && is_short_name name then Some (act.Emit name) else None
+-- an operator, its first name and what stands behind that
+abbrev pub call_in : List Token → Option (List ℕ × List ℕ × List Token)
+call_in (Name operator ∷ Sign Open ∷ Name name ∷ more) = Some (operator, name, more)
+call_in tokens = None
+
+-- `, STRINGS` behind the first name of a line that binds one
+abbrev pub commute_rest : List ℕ → List ℕ → List ℕ → List Token → Option Act
+commute_rest bind operator of (Sign Comma ∷ strings) = commute_in bind operator of (two_strings strings)
+commute_rest bind operator of tokens = None
+
+abbrev pub commute_call : List ℕ → Option (List ℕ × List ℕ × List Token) → Option Act
+commute_call bind None = None
+commute_call bind (Some call) = commute_rest bind call.0 call.1 call.2
+
+abbrev pub emit_call : Option (List ℕ × List ℕ × List Token) → Option Act
+emit_call None = None
+emit_call (Some call) = if bytes_eq call.0 (codes "emit") && is_short_name call.1 && is_end call.2 then Some (act.Emit call.1) else None
 
 -- what the tokens of a line ask: `bind = commute_expr(of, 'x[_] = _', '_ + _')` or `emit(name)`
 abbrev pub act_in : List Token → Option Act
-act_in (Name bind ∷ Sign Assign ∷ Name operator ∷ Sign Open ∷ Name of ∷ Sign Comma ∷ strings) = commute_in bind operator of (two_strings strings)
-act_in (Name operator ∷ Sign Open ∷ Name name ∷ Sign Close ∷ NewLine ∷ []) = emit_in operator name
-act_in tokens = None
+act_in (Name bind ∷ Sign Assign ∷ more) = commute_call bind (call_in more)
+act_in tokens = emit_call (call_in tokens)
 
 -- ---- whole texts
 
@@ -107,9 +136,14 @@ numbered (t ∷ tokens) places =
     if ends_line t then (first_number places, t ∷ []) ∷ numbered tokens (drop 1 places)
     else begun (first_number places) t (numbered tokens (drop 1 places))
 
+-- how many tokens the first line has, with its end
+abbrev pub width_of : List Token → ℕ
+width_of [] = 0
+width_of (t ∷ tokens) = if ends_line t then 1 else suc (width_of tokens)
+
 abbrev pub with_line : ℕ → Option Act → Option (List Line) → Option (List Line)
-with_line number (Some a) (Some lines) = Some (record { number = number; act = a } ∷ lines)
-with_line number a lines = None
+with_line number None lines = None
+with_line number (Some a) lines = option_map (λ more. record { number = number; act = a } ∷ more) lines
 
 abbrev pub lines_in : List (ℕ × List Token) → Option (List Line)
 lines_in [] = Some []
