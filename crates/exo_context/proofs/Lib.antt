@@ -27,3 +27,5 @@ pub mod Covered
 pub mod CallExchanges
 pub mod CallChanges
 pub mod UnitFootprints
+pub mod NestsWithin
+pub mod UnitFields

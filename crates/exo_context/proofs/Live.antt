@@ -33,7 +33,7 @@ module _ (g : ℕ → ℤ) (scene : Scene) where
   abbrev pub right_of : (a b : ℕ → Bool) → Knows (λ f. a f || b f) → Knows b
   right_of a b h f k = h f (or_right (a f) (b f) k)
 
-  number_live : (a : Control) → Knows (λ f. read_by_control f a) → number other a ≡ number scene a
+  pub number_live : (a : Control) → Knows (λ f. read_by_control f a) → number other a ≡ number scene a
   number_live (Lit n) h = refl
   number_live (Var x) h = refl
   number_live (Field x) h = sym (h x (eq-eqb x x refl))
@@ -49,7 +49,7 @@ module _ (g : ℕ → ℤ) (scene : Scene) where
   number_live (Div a c) h = ap (λ n. int_div_euclid n c) (number_live a h)
   number_live (Mod a c) h = ap (λ n. int_rem_euclid n c) (number_live a h)
 
-  numbers_live : (as' : List Control) → Knows (λ f. read_by_controls f as') → numbers other as' ≡ numbers scene as'
+  pub numbers_live : (as' : List Control) → Knows (λ f. read_by_controls f as') → numbers other as' ≡ numbers scene as'
   numbers_live [] h = refl
   numbers_live (a ∷ as') h = ap₂ ◌∷◌ (number_live a (left_of (λ f. read_by_control f a) (λ f. read_by_controls f as') h)) (numbers_live as' (right_of (λ f. read_by_control f a) (λ f. read_by_controls f as') h))
 
@@ -69,7 +69,7 @@ module _ (g : ℕ → ℤ) (scene : Scene) where
   holds_live (And c d) h = ap₂ ◌&&◌ (holds_live c (left_of (λ f. read_by_condition f c) (λ f. read_by_condition f d) h)) (holds_live d (right_of (λ f. read_by_condition f c) (λ f. read_by_condition f d) h))
   holds_live (Or c d) h = ap₂ ◌||◌ (holds_live c (left_of (λ f. read_by_condition f c) (λ f. read_by_condition f d) h)) (holds_live d (right_of (λ f. read_by_condition f c) (λ f. read_by_condition f d) h))
 
-  narrowed_live : (sides : List Side) (coords : List Coord) → Knows (λ f. read_by_coords f coords) → narrowed other sides coords ≡ narrowed scene sides coords
+  pub narrowed_live : (sides : List Side) (coords : List Coord) → Knows (λ f. read_by_coords f coords) → narrowed other sides coords ≡ narrowed scene sides coords
   narrowed_live [] [] h = refl
   narrowed_live [] (c ∷ cs) h = refl
   narrowed_live (Point p ∷ sides) cs h = ap (option_map (λ rest. Point p ∷ rest)) (narrowed_live sides cs h)
@@ -81,13 +81,13 @@ module _ (g : ℕ → ℤ) (scene : Scene) where
       ap (λ j. where_true (int_le (pos 0) j && int_lt j (number other b) && int_le (number other b) n) (option_map (λ rest. Range (lo +ℤ j) (number other b -ℤ j) ∷ rest) (narrowed other sides cs))) (number_live a (left_of (λ f. read_by_control f a) (λ f. read_by_control f b || read_by_coords f cs) h))
       ∙ ap₂ (λ j o. where_true (int_le (pos 0) (number scene a) && int_lt (number scene a) j && int_le j n) (option_map (λ rest. Range (lo +ℤ number scene a) (j -ℤ number scene a) ∷ rest) o)) (number_live b (left_of (λ f. read_by_control f b) (λ f. read_by_coords f cs) r)) (narrowed_live sides cs (right_of (λ f. read_by_control f b) (λ f. read_by_coords f cs) r))
 
-  window_live : (x : ℕ) (coords : List Coord) → Knows (λ f. read_by_coords f coords) → window other x coords ≡ window scene x coords
+  pub window_live : (x : ℕ) (coords : List Coord) → Knows (λ f. read_by_coords f coords) → window other x coords ≡ window scene x coords
   window_live x coords h = ap (then_do (scene.views x)) (fun_ext (λ seen. ap (option_map (λ sides. record { buffer = seen.buffer; sides = sides })) (narrowed_live seen.sides coords h)))
 
-  place_live : (x : ℕ) (is : List Control) → Knows (λ f. read_by_controls f is) → place other x is ≡ place scene x is
+  pub place_live : (x : ℕ) (is : List Control) → Knows (λ f. read_by_controls f is) → place other x is ≡ place scene x is
   place_live x is h = ap (λ js. then_do (scene.views x) (λ seen. option_map (λ at. record { buffer = seen.buffer; at = at }) (cell_at seen.sides js))) (numbers_live is h)
 
-  argument_live : (a : Argument) → Knows (λ f. read_by_argument f a) → argument_number other a ≡ argument_number scene a
+  pub argument_live : (a : Argument) → Knows (λ f. read_by_argument f a) → argument_number other a ≡ argument_number scene a
   argument_live (ControlArg a) h = ap Some (number_live a h)
   argument_live (ConditionArg c) h = ap (λ t. Some (truth t)) (holds_live c h)
   argument_live (Whole x) h = refl

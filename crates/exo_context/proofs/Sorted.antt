@@ -51,7 +51,7 @@ module _ (kinds : ℕ → Kind) where
   pub ends_of : (scope : Scope) (s t : State) → IsSorted kinds scope t → Ends kinds t t
   ends_of scope s t h = record { kept = λ b shape e. e; cells = h.cells; fields = h.fields }
 
-  left_next : (scope : Scope) (s t : State) → IsSorted kinds scope s → Kept s t → CellsFit t → FieldsFit kinds t → Next scope s (left s t)
+  pub left_next : (scope : Scope) (s t : State) → IsSorted kinds scope s → Kept s t → CellsFit t → FieldsFit kinds t → Next scope s (left s t)
   left_next scope s t h k fit fields = record {
     sorted = record {
       buffers = h.buffers;

@@ -226,21 +226,21 @@ turns_with_calls_commute fields memories ps scope root i j a b m n s unit sound 
     same_a same_b
 
 module _ (world : World) (i j : ℕ) (b : Block) (leaves : LeavesFields world b) where
-  abbrev deep : ℤ × ℤ → State → State
+  abbrev pub deep : ℤ × ℤ → State → State
   deep x s = on_scene (with_control j x.1) (on_scene (with_control i x.0) s)
 
   -- both turns in one scope
-  abbrev in_one : ℤ × ℤ → State → Option State
+  abbrev pub in_one : ℤ × ℤ → State → Option State
   in_one x s = option_map (left s) (run world b (deep x s))
 
-  one_scope : (x : ℤ × ℤ) → both_turns i j (run world b) x ≡ in_one x
+  pub one_scope : (x : ℤ × ℤ) → both_turns i j (run world b) x ≡ in_one x
   one_scope x = fun_ext (λ s. scopes s (run world b (deep x s)))
     where
       scopes : (s : State) (o : Option State) → option_map (left s) (option_map (left (on_scene (with_control i x.0) s)) o) ≡ option_map (left s) o
       scopes s None = refl
       scopes s (Some t) = ap {A = Cells} (λ c. Some (record { scene = record s.scene { fields = t.scene.fields }; cells = c })) (fun_ext (λ z. fun_ext (λ at. kept_twice (s.scene.buffers z) (t.cells z) at)))
 
-  same_scene : (x : ℤ × ℤ) (s : State) → IfSome (in_one x s) (HasScene s.scene)
+  pub same_scene : (x : ℤ × ℤ) (s : State) → IfSome (in_one x s) (HasScene s.scene)
   same_scene x s = if_map (λ t. run world b (deep x s) ≡ Some t) (HasScene s.scene) (run world b (deep x s)) (left s) (here (run world b (deep x s))) (λ t e. ap (λ f. record s.scene { fields = f }) (leaves (deep x s) t e))
 
 pub pairs_with_calls_commute : PairsWithCallsCommute

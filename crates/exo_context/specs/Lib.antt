@@ -14,3 +14,5 @@ pub mod Pairs
 pub mod Grown
 pub mod Sorted
 pub mod Touched
+pub mod NestsWithin
+pub mod UnitFields

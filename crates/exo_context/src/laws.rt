@@ -34,6 +34,10 @@ ghost use Rattle.exo_context.specs.Touched.{RunsGoByFootprint};
 ghost use Rattle.exo_context.specs.Touched.{RunsExchange};
 ghost use Rattle.exo_context.specs.Touched.{TurnsWithCallsCommute};
 ghost use Rattle.exo_context.specs.Touched.{PairsWithCallsCommute};
+ghost use Rattle.exo_context.specs.NestsWithin.{NestsWithinBounds};
+ghost use Rattle.exo_context.specs.NestsWithin.{NestsFromFootprints};
+ghost use Rattle.exo_context.specs.UnitFields.{UnitLeaves};
+ghost use Rattle.exo_context.specs.UnitFields.{UnitForgets};
 
 /// A procedure in which a block is replaced is refined by it, where the new block may replace the old one at each state that comes to it.
 pub fn replaced_refines()
@@ -203,4 +207,24 @@ pub fn turns_with_calls_commute()
 /// Two turns of a nest of loops commute where their footprints do not clash, calls included.
 pub fn pairs_with_calls_commute()
     ensures { PairsWithCallsCommute }
+{}
+
+/// Two loops, one in the other, may change places where turns within the bounds commute.
+pub fn nests_within_bounds()
+    ensures { NestsWithinBounds }
+{}
+
+/// The same in a well-formed unit where what such turns touch does not clash, calls included.
+pub fn nests_from_footprints()
+    ensures { NestsFromFootprints }
+{}
+
+/// A call leaves the fields alone that its procedure does not write, directly or through calls.
+pub fn calls_leave_fields()
+    ensures { UnitLeaves }
+{}
+
+/// A call does not see the fields that are not live before it.
+pub fn calls_forget_dead_fields()
+    ensures { UnitForgets }
 {}
