@@ -4,3 +4,4 @@ pub mod Endings
 pub mod Commuting
 pub mod Running
 pub mod Reading
+pub mod Kept

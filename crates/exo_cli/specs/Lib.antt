@@ -8,6 +8,7 @@ pub mod Answer
 pub mod Commute
 pub mod Refusals
 pub mod Lines
+pub mod Kept
 pub mod ScheduleForm
 pub mod Sessions
 pub mod Compiled

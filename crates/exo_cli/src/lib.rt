@@ -6,6 +6,7 @@ mod commute;
 mod compile;
 mod count;
 mod disk;
+pub mod laws;
 mod lines;
 mod memory;
 mod messages;

@@ -1,0 +1,320 @@
+-- A version runs like the procedure that it comes from.
+use Rattle.std.proofs.Common.{◌≡◌, ◌⊎◌, inl, inr, ⊎_elim, ℕ, zero, suc, pos, ◌+◌, ◌+ℤ◌, ◌-ℤ◌, ◌*ℤ◌, List, [], ◌∷◌, ◌++◌, length, Bool, true, false, refl, ap, sym, ◌∙◌, arith, if◌then◌else◌, Option, Some, None, option_map, subst}
+use Rattle.std.specs.Prelude.{slice_get, slice_index}
+use Rattle.std.proofs.lemmas.Int.{ints}
+use Rattle.std.proofs.Math.IntN.{*ℤ_comm}
+use Rattle.std.proofs.lemmas.List.{length-append}
+use Rattle.exo_tree.specs.Tree.{I32, Datum, Const, Read, Negated, Relu, Plus, Minus, Times, Select, Statement, Assign, Reduce, Config, Pass, If, For, Alloc, View, Call, Block, end, next, block, statements, Procedure}
+use Rattle.exo_meaning.specs.Value.{Value, Undefined, Number, on_one, on_two, on_four, relu, selected, wrap, IsRefinedBy}
+use Rattle.exo_meaning.specs.Scene.{then_do, where_true}
+use Rattle.exo_meaning.specs.State.{State, value, place, put}
+use Rattle.exo_meaning.specs.Run.{World, run, step}
+use Rattle.exo_meaning.specs.Inputs.{Refines, run_procedure, all_have_extents}
+use Rattle.exo_cli.specs.Commute.{Stepped, Made, NoSuchPattern, WrongShape, has, exchanged, assigns, changed_before, behind, commuted, parameter_of, with_body, commuted_at, commute_expr}
+use Rattle.exo_cli.specs.declared.commute.Operation.{Operation}
+use Rattle.exo_cli.specs.declared.commute.Operation.TheVariants.{Sum, Product}
+use Rattle.exo_cli.specs.Lines.{Versions, Progress, Went, Refused, Done, Stopped, held, adding, changing, changing_held, emitting, performed, operator_of, after, run_lines}
+use Rattle.exo_cli.specs.declared.lines.Commute.{Commute}
+use Rattle.exo_cli.specs.declared.lines.Act.{Act}
+use Rattle.exo_cli.specs.declared.lines.Act.TheVariants as act
+use Rattle.exo_cli.specs.declared.session.Why.{Why}
+use Rattle.exo_cli.specs.Kept.{IsVersionOf, HasOrigin, AreVersions, CommutedRunsAlike, CommutedRefines, SchedulesRunAlike}
+
+-- ---- values
+
+sum_swaps : (u v : Value) → on_two ◌+ℤ◌ u v ≡ on_two ◌+ℤ◌ v u
+sum_swaps Undefined Undefined = refl
+sum_swaps Undefined (Number n) = refl
+sum_swaps (Number m) Undefined = refl
+sum_swaps (Number m) (Number n) = let e : m +ℤ n ≡ n +ℤ m = omega (arith, ints) in ap (λ z. Number (wrap I32 z)) e
+
+product_swaps : (u v : Value) → on_two ◌*ℤ◌ u v ≡ on_two ◌*ℤ◌ v u
+product_swaps Undefined Undefined = refl
+product_swaps Undefined (Number n) = refl
+product_swaps (Number m) Undefined = refl
+product_swaps (Number m) (Number n) = ap (λ z. Number (wrap I32 z)) (*ℤ_comm m n)
+
+-- each side faults, or neither does
+sides_swap : (f : Value → Value → Value) → ((u v : Value) → f u v ≡ f v u) → (o r : Option Value)
+    → then_do o (λ u. option_map (f u) r) ≡ then_do r (λ u. option_map (f u) o)
+sides_swap f swaps None None = refl
+sides_swap f swaps None (Some v) = refl
+sides_swap f swaps (Some u) None = refl
+sides_swap f swaps (Some u) (Some v) = ap Some (swaps u v)
+
+-- of a binary operation, one side is changed and has the value of before
+abbrev both : (Value → Value → Value) → Option Value → Option Value → Option Value
+both f o r = then_do o (λ u. option_map (f u) r)
+
+sum_kept : (t : Bool) (s : State) (a b c d : Datum) → value s c ≡ value s a → value s d ≡ value s b → value s (if t then Plus c b else Plus a d) ≡ value s (Plus a b)
+sum_kept true s a b c d left right = ap (λ o. both (on_two ◌+ℤ◌) o (value s b)) left
+sum_kept false s a b c d left right = ap (λ r. both (on_two ◌+ℤ◌) (value s a) r) right
+
+difference_kept : (t : Bool) (s : State) (a b c d : Datum) → value s c ≡ value s a → value s d ≡ value s b → value s (if t then Minus c b else Minus a d) ≡ value s (Minus a b)
+difference_kept true s a b c d left right = ap (λ o. both (on_two ◌-ℤ◌) o (value s b)) left
+difference_kept false s a b c d left right = ap (λ r. both (on_two ◌-ℤ◌) (value s a) r) right
+
+product_kept : (t : Bool) (s : State) (a b c d : Datum) → value s c ≡ value s a → value s d ≡ value s b → value s (if t then Times c b else Times a d) ≡ value s (Times a b)
+product_kept true s a b c d left right = ap (λ o. both (on_two ◌*ℤ◌) o (value s b)) left
+product_kept false s a b c d left right = ap (λ r. both (on_two ◌*ℤ◌) (value s a) r) right
+
+abbrev all_four : Option Value → Option Value → Option Value → Option Value → Option Value
+all_four o p q r = then_do o (λ x. then_do p (λ v. then_do q (λ y. option_map (on_four selected x v y) r)))
+
+select_kept : (t u w : Bool) (s : State) (a b c d e f g h : Datum) → value s e ≡ value s a → value s f ≡ value s b → value s g ≡ value s c → value s h ≡ value s d
+    → value s (if t then Select e b c d else (if u then Select a f c d else (if w then Select a b g d else Select a b c h))) ≡ value s (Select a b c d)
+select_kept true u w s a b c d e f g h p q r k = ap (λ o. all_four o (value s b) (value s c) (value s d)) p
+select_kept false true w s a b c d e f g h p q r k = ap (λ o. all_four (value s a) o (value s c) (value s d)) q
+select_kept false false true s a b c d e f g h p q r k = ap (λ o. all_four (value s a) (value s b) o (value s d)) r
+select_kept false false false s a b c d e f g h p q r k = ap (λ o. all_four (value s a) (value s b) (value s c) o) k
+
+-- an exchange keeps the value, in each state
+pub values_kept : (o : Operation) (s : State) (e : Datum) → value s (exchanged o e) ≡ value s e
+values_kept o s (Const n) = refl
+values_kept o s (Read x is) = refl
+values_kept o s (Negated a) = ap (option_map (on_one (λ m. pos 0 -ℤ m))) (values_kept o s a)
+values_kept o s (Relu a) = ap (option_map (on_one relu)) (values_kept o s a)
+values_kept Sum s (Plus a b) = sides_swap (on_two ◌+ℤ◌) sum_swaps (value s b) (value s a)
+values_kept Product s (Plus a b) = sum_kept (has Product a) s a b (exchanged Product a) (exchanged Product b) (values_kept Product s a) (values_kept Product s b)
+values_kept o s (Minus a b) = difference_kept (has o a) s a b (exchanged o a) (exchanged o b) (values_kept o s a) (values_kept o s b)
+values_kept Sum s (Times a b) = product_kept (has Sum a) s a b (exchanged Sum a) (exchanged Sum b) (values_kept Sum s a) (values_kept Sum s b)
+values_kept Product s (Times a b) = sides_swap (on_two ◌*ℤ◌) product_swaps (value s b) (value s a)
+values_kept o s (Select a b c d) =
+    select_kept (has o a) (has o b) (has o c) s a b c d (exchanged o a) (exchanged o b) (exchanged o c) (exchanged o d) (values_kept o s a) (values_kept o s b) (values_kept o s c) (values_kept o s d)
+
+-- ---- blocks
+
+then_alike : (o : Option State) (f g : State → Option State) → ((t : State) → f t ≡ g t) → then_do o f ≡ then_do o g
+then_alike None f g same = refl
+then_alike (Some t) f g same = same t
+
+block_of_statements : (b : Block) → block (statements b) ≡ b
+block_of_statements end = refl
+block_of_statements (next a b) = ap (next a) (block_of_statements b)
+
+abbrev unmatched : (T : Type 0) → Stepped T
+unmatched T = NoSuchPattern
+
+abbrev misshapen : (T : Type 0) → Stepped T
+misshapen T = WrongShape
+
+refused_is_not_made : {T : Type 0} (t : T) → unmatched T ≡ Made t → ⊥
+refused_is_not_made t e = cc
+
+misshapen_is_not_made : {T : Type 0} (t : T) → misshapen T ≡ Made t → ⊥
+misshapen_is_not_made t e = cc
+
+made_is : {T : Type 0} (t u : T) → Made t ≡ Made u → t ≡ u
+made_is t u e = cc
+
+module _ (world : World) (o : Operation) where
+  changed_alike : (a : Statement) (rest ts : List Statement) → changed_before o a rest ≡ Made ts → (s : State) → run world (block ts) s ≡ run world (block (a ∷ rest)) s
+  changed_alike (Assign x is e) rest ts made s = go (has o e) made
+    where
+      same : run world (block (Assign x is (exchanged o e) ∷ rest)) s ≡ run world (block (Assign x is e ∷ rest)) s
+      same = ap (λ r. then_do (then_do (place s.scene x is) (λ p. then_do r (λ v. put s (λ old. v) p))) (run world (block rest))) (values_kept o s e)
+
+      go : (t : Bool) → (if t then Made (Assign x is (exchanged o e) ∷ rest) else WrongShape) ≡ Made ts → run world (block ts) s ≡ run world (block (Assign x is e ∷ rest)) s
+      go true e' = ap (λ us. run world (block us) s) (sym (made_is _ ts e')) ∙ same
+      go false e' = absurd (misshapen_is_not_made ts e')
+  changed_alike (Reduce x is e) rest ts made s = absurd (misshapen_is_not_made ts made)
+  changed_alike (Config f a) rest ts made s = absurd (misshapen_is_not_made ts made)
+  changed_alike Pass rest ts made s = absurd (misshapen_is_not_made ts made)
+  changed_alike (If c a b) rest ts made s = absurd (misshapen_is_not_made ts made)
+  changed_alike (For i lo hi b) rest ts made s = absurd (misshapen_is_not_made ts made)
+  changed_alike (Alloc x cell dims memory) rest ts made s = absurd (misshapen_is_not_made ts made)
+  changed_alike (View w x coords) rest ts made s = absurd (misshapen_is_not_made ts made)
+  changed_alike (Call k args) rest ts made s = absurd (misshapen_is_not_made ts made)
+
+  behind_alike : (a : Statement) (rest ts : List Statement) (r : Stepped (List Statement)) → behind a r ≡ Made ts
+      → ((us : List Statement) → r ≡ Made us → (s : State) → run world (block us) s ≡ run world (block rest) s)
+      → (s : State) → run world (block ts) s ≡ run world (block (a ∷ rest)) s
+  behind_alike a rest ts (Made us) made alike s =
+      ap (λ vs. run world (block vs) s) (sym (made_is (a ∷ us) ts made)) ∙ then_alike (step world a s) (run world (block us)) (run world (block rest)) (alike us refl)
+  behind_alike a rest ts NoSuchPattern made alike s = absurd (refused_is_not_made ts made)
+  behind_alike a rest ts WrongShape made alike s = absurd (misshapen_is_not_made ts made)
+
+  pub commuted_alike : (x : ℕ) (ss ts : List Statement) → commuted x o ss ≡ Made ts → (s : State) → run world (block ts) s ≡ run world (block ss) s
+  commuted_alike x [] ts made s = absurd (refused_is_not_made ts made)
+  commuted_alike x (a ∷ rest) ts made s = go (commuted_alike x rest) (assigns x a) made
+    where
+      go : ((us : List Statement) → commuted x o rest ≡ Made us → (s : State) → run world (block us) s ≡ run world (block rest) s) → (t : Bool)
+          → (if t then changed_before o a rest else behind a (commuted x o rest)) ≡ Made ts → run world (block ts) s ≡ run world (block (a ∷ rest)) s
+      go alike true e = changed_alike a rest ts e s
+      go alike false e = behind_alike a rest ts (commuted x o rest) e alike s
+
+-- ---- procedures
+
+pub commuted_runs_alike : CommutedRunsAlike
+commuted_runs_alike p q x o made = at (parameter_of p.params x) made
+  where
+    of : (y : ℕ) (r : Stepped (List Statement)) → r ≡ commuted y o (statements p.body) → with_body p r ≡ Made q → IsVersionOf p q
+    of y NoSuchPattern is e = absurd (refused_is_not_made q e)
+    of y WrongShape is e = absurd (misshapen_is_not_made q e)
+    of y (Made ts) is e =
+        let same = made_is (record p { body = block ts }) q e in
+        subst (IsVersionOf p) same (record {
+          name = refl;
+          params = refl;
+          asserts = refl;
+          template = refl;
+          runs = λ world s. commuted_alike world o y (statements p.body) ts (sym is) s ∙ ap (λ b. run world b s) (block_of_statements p.body)
+        })
+
+    at : (found : Option ℕ) → commuted_at p o found ≡ Made q → IsVersionOf p q
+    at None e = absurd (refused_is_not_made q e)
+    at (Some y) e = of y (commuted y o (statements p.body)) refl e
+
+-- ---- refinement
+
+runs_alike : (world : World) (p q : Procedure) → IsVersionOf p q → (s : State) → run_procedure world q s ≡ run_procedure world p s
+runs_alike world p q version s =
+    ap (λ ps. where_true (all_have_extents s.scene ps) (run world q.body s)) version.params ∙ ap (where_true (all_have_extents s.scene p.params)) (version.runs world s)
+
+same_result : (o : Option State) (t u : State) → o ≡ Some t → o ≡ Some u → t ≡ u
+same_result o t u e f = some_is t u (sym e ∙ f)
+  where
+    some_is : (t u : State) → Some t ≡ Some u → t ≡ u
+    some_is t u e = cc
+
+refined_by_itself : (v : Value) → IsRefinedBy v v
+refined_by_itself Undefined = tt
+refined_by_itself (Number n) = refl
+
+pub versions_refine : (world : World) (p q : Procedure) → IsVersionOf p q → Refines world p q []
+versions_refine world p q version = record {
+  cells = λ s t u good before later b there at. subst (λ w. IsRefinedBy (t.cells b at) (w.cells b at)) (same s t u before later) (refined_by_itself (t.cells b at));
+  fields = λ s t u good before later f named. ap (λ w. w.scene.fields f) (same s t u before later);
+}
+  where
+    same : (s t u : State) → run_procedure world p s ≡ Some t → run_procedure world q s ≡ Some u → t ≡ u
+    same s t u before later = same_result (run_procedure world p s) t u before (sym (runs_alike world p q version s) ∙ later)
+
+pub commuted_refines : CommutedRefines
+commuted_refines world p q x o made = versions_refine world p q (commuted_runs_alike p q x o made)
+
+-- ---- lists that grow at their end
+
+nothing_there : {A : Type 0} {a : A} → None ≡ Some a → ⊥
+nothing_there e = cc
+
+some_is : {A : Type 0} {a b : A} → Some a ≡ Some b → a ≡ b
+some_is e = cc
+
+there_still : {A : Type 0} (xs ys : List A) (k : ℕ) (a : A) → slice_get xs k ≡ Some a → slice_get (xs ++ ys) k ≡ Some a
+there_still [] ys zero a e = absurd (nothing_there e)
+there_still [] ys (suc k) a e = absurd (nothing_there e)
+there_still (x ∷ xs) ys zero a e = e
+there_still (x ∷ xs) ys (suc k) a e = there_still xs ys k a e
+
+last_is_there : {A : Type 0} (xs : List A) (a : A) → slice_get (xs ++ a ∷ []) (length xs) ≡ Some a
+last_is_there [] a = refl
+last_is_there (x ∷ xs) a = last_is_there xs a
+
+index_is : (xs : List ℕ) (k : ℕ) (a : ℕ) → slice_get xs k ≡ Some a → slice_index xs k ≡ a
+index_is [] zero a e = absurd (nothing_there e)
+index_is [] (suc k) a e = absurd (nothing_there e)
+index_is (x ∷ xs) zero a e = some_is e
+index_is (x ∷ xs) (suc k) a e = index_is xs k a e
+
+-- an entry of a list with one more at its end is one of before, or the new one
+entry_of : {A : Type 0} (xs : List A) (y : A) (k : ℕ) (a : A) → slice_get (xs ++ y ∷ []) k ≡ Some a → (slice_get xs k ≡ Some a) ⊎ ((k ≡ length xs) × (y ≡ a))
+entry_of [] y zero a e = inr (refl, some_is e)
+entry_of [] y (suc k) a e = absurd (nothing_there e)
+entry_of (x ∷ xs) y zero a e = inl e
+entry_of (x ∷ xs) y (suc k) a e = ⊎_elim (λ h. inl h) (λ h. inr (ap suc h.0, h.1)) (entry_of xs y k a e)
+
+-- ---- along a schedule
+
+composed : (p q r : Procedure) → IsVersionOf p q → IsVersionOf q r → IsVersionOf p r
+composed p q r one two = record {
+  name = two.name ∙ one.name;
+  params = two.params ∙ one.params;
+  asserts = two.asserts ∙ one.asserts;
+  template = two.template ∙ one.template;
+  runs = λ world s. two.runs world s ∙ one.runs world s;
+}
+
+with_version : Versions → ℕ → Procedure → List (List ℕ × ℕ) → Versions
+with_version v k q names = record v { procedures = v.procedures ++ q ∷ []; origins = v.origins ++ slice_index v.origins k ∷ []; names = names }
+
+-- a version made of another one comes from the same procedure
+added_versions : (v : Versions) (k : ℕ) (p q : Procedure) (names : List (List ℕ × ℕ)) → AreVersions v → slice_get v.procedures k ≡ Some p → IsVersionOf p q
+    → AreVersions (with_version v k q names)
+unfolding with_version
+added_versions v k p q names are there version = record {
+  lengths = length-append v.origins (slice_index v.origins k ∷ []) ∙ (ap (λ n. n + 1) are.lengths ∙ sym (length-append v.procedures (q ∷ [])));
+  each = λ j r e. ⊎_elim (λ h. old j r h) (λ h. new j r h.0 h.1) (entry_of v.procedures q j r e);
+}
+  where
+    old : (j : ℕ) (r : Procedure) → slice_get v.procedures j ≡ Some r → HasOrigin (with_version v k q names) j r
+    old j r e =
+        let o = are.each j r e in
+        record {
+          from = o.from;
+          origin = o.origin;
+          of = there_still v.origins (slice_index v.origins k ∷ []) j o.from o.of;
+          there = there_still v.procedures (q ∷ []) o.from o.origin o.there;
+          kept = o.kept;
+        }
+
+    new : (j : ℕ) (r : Procedure) → j ≡ length v.procedures → q ≡ r → HasOrigin (with_version v k q names) j r
+    new j r at same =
+        let o = are.each k p there in
+        record {
+          from = o.from;
+          origin = o.origin;
+          of = subst (λ i. slice_get (v.origins ++ slice_index v.origins k ∷ []) i ≡ Some o.from) (are.lengths ∙ sym at)
+            (last_is_there v.origins (slice_index v.origins k) ∙ ap Some (index_is v.origins k o.from o.of));
+          there = there_still v.procedures (q ∷ []) o.from o.origin o.there;
+          kept = composed o.origin p r o.kept (subst (IsVersionOf p) same version);
+        }
+
+went_is : (v u : Versions) → Went v ≡ Went u → v ≡ u
+went_is v u e = cc
+
+refused_does_not_go : (w : Why) (u : Versions) → Refused w ≡ Went u → ⊥
+refused_does_not_go w u e = cc
+
+-- a step adds a version of the version that it changes
+adding_keeps : (name : List ℕ) (k : ℕ) (v u : Versions) (p : Procedure) (r : Stepped Procedure) → AreVersions v → slice_get v.procedures k ≡ Some p
+    → ((q : Procedure) → r ≡ Made q → IsVersionOf p q) → adding name k v r ≡ Went u → AreVersions u
+unfolding with_version
+adding_keeps name k v u p (Made q) are there version e = subst AreVersions (went_is _ u e) (added_versions v k p q (v.names ++ (name, length v.procedures) ∷ []) are there (version q refl))
+adding_keeps name k v u p NoSuchPattern are there version e = absurd (refused_does_not_go _ u e)
+adding_keeps name k v u p WrongShape are there version e = absurd (refused_does_not_go _ u e)
+
+changing_keeps : (c : Commute) (k : ℕ) (v u : Versions) (o : Option Procedure) → AreVersions v → slice_get v.procedures k ≡ o → changing c k v o ≡ Went u → AreVersions u
+changing_keeps c k v u None are there e = absurd (refused_does_not_go _ u e)
+changing_keeps c k v u (Some p) are there e = adding_keeps c.bind k v u p (commute_expr p c.target c.which) are there (λ q made. commuted_runs_alike p q c.target c.which made) e
+
+changing_held_keeps : (c : Commute) (v u : Versions) (o : Option ℕ) → AreVersions v → changing_held c v o ≡ Went u → AreVersions u
+changing_held_keeps c v u None are e = absurd (refused_does_not_go _ u e)
+changing_held_keeps c v u (Some k) are e = changing_keeps c k v u (slice_get v.procedures k) are refl e
+
+emitting_keeps : (o : Option ℕ) (v u : Versions) → AreVersions v → emitting o v ≡ Went u → AreVersions u
+emitting_keeps None v u are e = absurd (refused_does_not_go _ u e)
+emitting_keeps (Some k) v u are e = subst AreVersions (went_is _ u e) (record { lengths = are.lengths; each = same })
+  where
+    same : (j : ℕ) (q : Procedure) → slice_get v.procedures j ≡ Some q → HasOrigin (record v { emitted = v.emitted ++ k ∷ [] }) j q
+    same j q there =
+        let o = are.each j q there in
+        record { from = o.from; origin = o.origin; of = o.of; there = o.there; kept = o.kept }
+
+performed_keeps : (a : Act) (v u : Versions) → AreVersions v → performed a v ≡ Went u → AreVersions u
+performed_keeps (act.Commute c) v u are e = changing_held_keeps c v u (held v.names c.of) are e
+performed_keeps (act.Emit name) v u are e = emitting_keeps (held v.names name) v u are e
+
+stopped_is_not_done : (n : ℕ) (operator : List ℕ) (w : Why) (v : Versions) → Stopped n operator w ≡ Done v → ⊥
+stopped_is_not_done n operator w v e = cc
+
+pub schedules_run_alike : SchedulesRunAlike
+schedules_run_alike [] v w are e = subst AreVersions (done_is v w e) are
+  where
+    done_is : (v w : Versions) → Done v ≡ Done w → v ≡ w
+    done_is v w e = cc
+schedules_run_alike (line ∷ lines) v w are e = go (schedules_run_alike lines) (performed line.act v) refl e
+  where
+    go : ((v w : Versions) → AreVersions v → run_lines lines v ≡ Done w → AreVersions w) → (r : Progress) → performed line.act v ≡ r → after line (run_lines lines) r ≡ Done w → AreVersions w
+    go later (Went u) is e = later u w (performed_keeps line.act v u are is) e
+    go later (Refused why) is e = absurd (stopped_is_not_done line.number (operator_of line.act) why w e)

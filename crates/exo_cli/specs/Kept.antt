@@ -1,0 +1,43 @@
+-- What a version keeps of the procedure of the text that it comes from.
+use Rattle.std.specs.Prelude.{◌≡◌, ℕ, List, [], length, Some, slice_get}
+use Rattle.exo_tree.specs.Tree.{Procedure}
+use Rattle.exo_meaning.specs.State.{State}
+use Rattle.exo_meaning.specs.Run.{World, run}
+use Rattle.exo_meaning.specs.Inputs.{Refines}
+use Rattle.exo_cli.specs.Commute.{Made, commute_expr}
+use Rattle.exo_cli.specs.Lines.{Versions, Done, run_lines}
+use Rattle.exo_cli.specs.declared.commute.Operation.{Operation}
+use Rattle.exo_cli.specs.declared.lines.Line.{Line}
+
+-- q has the name, the parameters, the assertions and the template of p, and its body runs alike from every state, faults too
+pub record IsVersionOf (p q : Procedure) : Type 0 where
+  pub name : q.name ≡ p.name
+  pub params : q.params ≡ p.params
+  pub asserts : q.asserts ≡ p.asserts
+  pub template : q.template ≡ p.template
+  pub runs : (world : World) (s : State) → run world q.body s ≡ run world p.body s
+
+-- the sides of a sum or product may change places: what comes out runs alike
+abbrev pub CommutedRunsAlike : Type 0
+CommutedRunsAlike = (p q : Procedure) (x : List ℕ) (o : Operation) → commute_expr p x o ≡ Made q → IsVersionOf p q
+
+-- so it refines
+abbrev pub CommutedRefines : Type 0
+CommutedRefines = (world : World) (p q : Procedure) (x : List ℕ) (o : Operation) → commute_expr p x o ≡ Made q → Refines world p q []
+
+-- the version of that number comes from a procedure that is there, and runs like it
+pub record HasOrigin (v : Versions) (k : ℕ) (q : Procedure) : Type 0 where
+  pub from : ℕ
+  pub origin : Procedure
+  pub of : slice_get v.origins k ≡ Some from
+  pub there : slice_get v.procedures from ≡ Some origin
+  pub kept : IsVersionOf origin q
+
+-- each version is one of its origin's
+pub record AreVersions (v : Versions) : Type 0 where
+  pub lengths : length v.origins ≡ length v.procedures
+  pub each : (k : ℕ) (q : Procedure) → slice_get v.procedures k ≡ Some q → HasOrigin v k q
+
+-- along a schedule
+abbrev pub SchedulesRunAlike : Type 0
+SchedulesRunAlike = (lines : List Line) (v w : Versions) → AreVersions v → run_lines lines v ≡ Done w → AreVersions w
