@@ -3,6 +3,9 @@ pub mod Fixed
 pub mod Expression
 pub mod Chain
 pub mod Procedure
+pub mod Reserved
+pub mod FirstForm
+pub mod FirstAnswers
 pub mod Views
 pub mod Bytes
 pub mod Quoted
