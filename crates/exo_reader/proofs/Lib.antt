@@ -11,3 +11,4 @@ pub mod FirstLine
 pub mod Cuts
 pub mod Lists
 pub mod FirstPrograms
+pub mod FirstTexts

@@ -1,6 +1,6 @@
 -- The first form of units: one procedure whose parameters are tensors of 32-bit cells with one literal dimension, and
 -- whose statements store sums, differences, products and negations of literals and of cells in such cells.
-use Rattle.std.specs.Prelude.{ℕ, zero, suc, ◌+◌, ℤ, pos, Bool, true, false, ◌&&◌, ◌||◌, if◌then◌else◌, nat_lt, nat_le, List, [], ◌∷◌, Option, Some, None, option_map, option_and_then, length, codes, bytes_eq}
+use Rattle.std.specs.Prelude.{ℕ, zero, suc, ◌+◌, ℤ, pos, Bool, true, false, not, ◌&&◌, ◌||◌, if◌then◌else◌, nat_lt, nat_le, List, [], ◌∷◌, Option, Some, None, option_map, option_and_then, length, codes, bytes_eq}
 use Rattle.exo_tree.specs.Tree as tree
 use Rattle.exo_tree.specs.Tree.{Datum, Program}
 use Rattle.exo_reader.specs.Expression.{Tree, number, variable, access, negative, parens, binary}
@@ -74,7 +74,7 @@ is_plain (b ∷ x) = if nat_lt b 128 then is_plain x else false
 
 -- a name of at most 63 bytes that C does not keep for itself
 abbrev pub is_free : List ℕ → Bool
-is_free x = nat_le (length x) 63 && is_plain x && (if is_reserved x then false else true)
+is_free x = nat_le (length x) 63 && (is_plain x && not (is_reserved x))
 
 -- a tensor of so many 32-bit cells
 abbrev pub tensor : ℕ → tree.ParamKind
@@ -82,7 +82,7 @@ tensor extent = tree.TensorParam tree.I32 (index_of extent) 0
 
 -- an `i32` tensor of at least one cell
 abbrev pub is_first_param : SourceParameter → Bool
-is_first_param p = bytes_eq p.kind (codes "i32") && nat_lt 0 (literal_of p.extent) && is_free p.name
+is_first_param p = bytes_eq p.kind (codes "i32") && (nat_lt 0 (literal_of p.extent) && is_free p.name)
 
 abbrev pub first_param : ℕ → SourceParameter → Option tree.Param
 first_param id p =
@@ -108,8 +108,8 @@ list_of (some p more trailing) = p ∷ more
 -- the names and the numbers of parameters and of statements are those of the form
 abbrev pub is_first : SourceProcedure → Bool
 is_first p =
-    nat_le (length (list_of p.params)) 32 && nat_le (length p.body) 60
-    && is_free p.name && (if is_named (list_of p.params) p.name then false else true) && are_different (list_of p.params)
+    nat_le (length (list_of p.params)) 32
+    && (nat_le (length p.body) 60 && (is_free p.name && (not (is_named (list_of p.params) p.name) && are_different (list_of p.params))))
 
 -- the memory that is always there
 abbrev pub dram : tree.MemoryKind

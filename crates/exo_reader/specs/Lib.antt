@@ -11,3 +11,4 @@ pub mod Bytes
 pub mod Quoted
 pub mod Piece
 pub mod Layout
+pub mod FirstText

@@ -271,9 +271,9 @@ fn tensor_of(alloc: Global, extent: u32) -> Result<ParamKind, AllocError>
     Ok(ParamKind::Tensor(Cell::I32, dims, MemId(0)))
 }
 
-/// A parameter with the number.
-fn first_param(alloc: Global, id: u32, p: &SourceParam) -> Result<Param, FirstError>
-    ensures { Translates (first_param id (parameter_of p.now)) parameter result }
+/// Puts the parameter last, with the number.
+fn push_param(alloc: Global, params: &mut Params, id: u32, p: &SourceParam) -> Result<(), FirstError>
+    ensures { MatchResult result (λ _. IsPushed (first_param id (parameter_of p.now)) params.old params.new) (λ e. Rejects (first_param id (parameter_of p.now)) e) }
 {
     let extent = literal_of(&p.extent);
     if p.kind.as_slice() != b"i32".as_slice() {
@@ -288,7 +288,8 @@ fn first_param(alloc: Global, id: u32, p: &SourceParam) -> Result<Param, FirstEr
     let name = tree_name(alloc, &p.name)?;
     let kind = tensor_of(alloc, extent)?;
     let binder = Binder { id: Id(id), name };
-    Ok(Param { binder, kind })
+    params.push(Param { binder, kind })?;
+    Ok(())
 }
 
 /// The parameters, numbered from 0.
@@ -299,8 +300,7 @@ pub fn first_params(alloc: Global, params: &[SourceParam]) -> Result<Params, Fir
     let mut made = Params::new(alloc);
     let mut id = 0;
     for param in params {
-        let one = first_param(alloc, id, param)?;
-        made.push(one)?;
+        push_param(alloc, &mut made, id, param)?;
         id += 1;
     }
     Ok(made)

@@ -5,6 +5,7 @@ pub mod blocks;
 pub mod bytes;
 pub mod expression;
 pub mod first;
+pub mod first_text;
 pub mod front;
 pub mod layout;
 pub mod lexer;
