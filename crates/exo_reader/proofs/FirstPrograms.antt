@@ -64,15 +64,15 @@ pub first_ok : (p : SourceProc) (params : List SourceParam) (different : Bool) �
 first_ok p params different same few short free unnamed is =
     let list : list_of (listed p.params.items.items p.params.trailing) ≡ map parameter_of params = list_of-listed p.params.items.items p.params.trailing ∙ ap (map parameter_of) (sym same) in
     let fourth : different ≡ (not (is_named (map parameter_of params) p.name) && are_different (map parameter_of params)) =
-      is ∙ and_true (not (is_named (map parameter_of params) p.name)) (are_different (map parameter_of params)) (ap not unnamed) in
+    is ∙ and_true (not (is_named (map parameter_of params) p.name)) (are_different (map parameter_of params)) (ap not unnamed) in
     let third : different ≡ (is_free p.name && (not (is_named (map parameter_of params) p.name) && are_different (map parameter_of params))) =
-      fourth ∙ and_true (is_free p.name) (not (is_named (map parameter_of params) p.name) && are_different (map parameter_of params)) free in
+    fourth ∙ and_true (is_free p.name) (not (is_named (map parameter_of params) p.name) && are_different (map parameter_of params)) free in
     let second : different ≡ (nat_le (length (map statement_of p.body.items)) 60 && (is_free p.name && (not (is_named (map parameter_of params) p.name) && are_different (map parameter_of params)))) =
-      third ∙ and_true (nat_le (length (map statement_of p.body.items)) 60) (is_free p.name && (not (is_named (map parameter_of params) p.name) && are_different (map parameter_of params)))
-        (le-leb (length (map statement_of p.body.items)) 60 (omega (arith, length-map p.body.items statement_of))) in
+    third ∙ and_true (nat_le (length (map statement_of p.body.items)) 60) (is_free p.name && (not (is_named (map parameter_of params) p.name) && are_different (map parameter_of params)))
+    (le-leb (length (map statement_of p.body.items)) 60 (omega (arith, length-map p.body.items statement_of))) in
     let whole : different ≡ (nat_le (length (map parameter_of params)) 32 && (nat_le (length (map statement_of p.body.items)) 60 && (is_free p.name && (not (is_named (map parameter_of params) p.name) && are_different (map parameter_of params))))) =
-      second ∙ and_true (nat_le (length (map parameter_of params)) 32) (nat_le (length (map statement_of p.body.items)) 60 && (is_free p.name && (not (is_named (map parameter_of params) p.name) && are_different (map parameter_of params))))
-        (le-leb (length (map parameter_of params)) 32 (omega (arith, length-map params parameter_of))) in
+    second ∙ and_true (nat_le (length (map parameter_of params)) 32) (nat_le (length (map statement_of p.body.items)) 60 && (is_free p.name && (not (is_named (map parameter_of params) p.name) && are_different (map parameter_of params))))
+    (le-leb (length (map parameter_of params)) 32 (omega (arith, length-map params parameter_of))) in
     whole ∙ ap (λ l. nat_le (length l) 32 && (nat_le (length (map statement_of p.body.items)) 60 && (is_free p.name && (not (is_named l p.name) && are_different l)))) (sym list)
 
 -- the procedure's own name

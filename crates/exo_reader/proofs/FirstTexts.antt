@@ -21,9 +21,9 @@ program_of tokens s p text has = ap first_program (sym (text.only has.source has
 
 spells : (tokens : List Token) (s : SourceProcedure) (p : Program) → IsText procedure tokens s → first_program s ≡ Some p → SpellsFirst tokens p
 spells tokens s p text is = record {
-    has = record { source = s; fits = text.fits; spelled = text.spelled; is = is };
-    only = λ other has. let e : Some other ≡ Some p = sym (program_of tokens s other text has) ∙ is in cc (e)
-  }
+  has = record { source = s; fits = text.fits; spelled = text.spelled; is = is };
+  only = λ other has. let e : Some other ≡ Some p = sym (program_of tokens s other text has) ∙ is in cc (e);
+}
 
 none : (tokens : List Token) (s : SourceProcedure) (e : FirstError) → IsText procedure tokens s → Rejects (first_program s) e → RefusesFirst tokens e
 none tokens s Memory text rejects = tt

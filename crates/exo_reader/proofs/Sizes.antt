@@ -47,7 +47,7 @@ within_link room operator left right other links is within =
     record {
       left_depth = omega (arith, front.0, le-max_left (depth left) (depth right));
       right_depth = omega (arith, front.0, le-max_right (depth left) (depth right));
-      nodes = omega (arith, front.1)
+      nodes = omega (arith, front.1);
     }
 
 -- the room that is left at the right of an operator

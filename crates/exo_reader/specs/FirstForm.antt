@@ -120,7 +120,7 @@ abbrev pub first_procedure : SourceProcedure → Option tree.Procedure
 first_procedure p =
     if is_first p
     then both (λ params body. record { name = p.name; params = params; asserts = []; body = tree.block body; template = None })
-      (first_params 0 (list_of p.params)) (first_body (list_of p.params) p.body)
+    (first_params 0 (list_of p.params)) (first_body (list_of p.params) p.body)
     else None
 
 abbrev pub first_program : SourceProcedure → Option Program

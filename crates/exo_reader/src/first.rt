@@ -14,7 +14,10 @@ ghost use Rattle.exo_reader.specs.FirstAnswers.{Rejects, Translates, IsPushed};
 use crate::reserved::is_reserved;
 use crate::source::{Operator, SourceExpr, SourceParam, SourceProc, SourceStmt};
 use crate::text::Text;
-use exo_tree::{Binder, Block, Cell, Conds, Ctrl, DataExpr, Fields, Id, Indices, Lines, MemId, Memories, MemoryClass, Name, Param, ParamKind, Params, Proc, Procs, Stmt, Unit};
+use exo_tree::{
+    Binder, Block, Cell, Conds, Ctrl, DataExpr, Fields, Id, Indices, Lines, MemId, Memories,
+    MemoryClass, Name, Param, ParamKind, Params, Proc, Procs, Stmt, Unit,
+};
 use std::alloc::{AllocError, AllocFailed, Global};
 
 /// Why a text gives no program of the first form.
@@ -103,7 +106,12 @@ fn index_of(alloc: Global, value: u32) -> Result<Indices, AllocError>
 }
 
 /// A cell that is read.
-fn first_read(alloc: Global, params: &[SourceParam], name: &Text, index: &SourceExpr) -> Result<DataExpr, FirstError>
+fn first_read(
+    alloc: Global,
+    params: &[SourceParam],
+    name: &Text,
+    index: &SourceExpr,
+) -> Result<DataExpr, FirstError>
     requires { length params.now ≤ 32 }
     ensures { Translates (read_of (cell_at (map parameter_of params.now) name.now (tree_of index.now))) datum result }
 {
@@ -115,7 +123,12 @@ fn first_read(alloc: Global, params: &[SourceParam], name: &Text, index: &Source
 }
 
 /// Two sides with a sign between them.
-fn joined(alloc: Global, operator: Operator, left: DataExpr, right: DataExpr) -> Result<DataExpr, FirstError>
+fn joined(
+    alloc: Global,
+    operator: Operator,
+    left: DataExpr,
+    right: DataExpr,
+) -> Result<DataExpr, FirstError>
     ensures { Translates (joined operator (Some (datum left)) (Some (datum right))) datum result }
 {
     let left = Box::new(alloc, left)?;
@@ -129,7 +142,11 @@ fn joined(alloc: Global, operator: Operator, left: DataExpr, right: DataExpr) ->
 }
 
 /// What is stored in a cell.
-pub fn first_datum(alloc: Global, params: &[SourceParam], e: &SourceExpr) -> Result<DataExpr, FirstError>
+pub fn first_datum(
+    alloc: Global,
+    params: &[SourceParam],
+    e: &SourceExpr,
+) -> Result<DataExpr, FirstError>
     requires { length params.now ≤ 32 }
     ensures { Translates (first_datum (map parameter_of params.now) (tree_of e.now)) datum result }
 {
@@ -151,7 +168,12 @@ pub fn first_datum(alloc: Global, params: &[SourceParam], e: &SourceExpr) -> Res
 }
 
 /// Puts the statement last, as the form has it.
-fn push_statement(alloc: Global, params: &[SourceParam], block: &mut Block, s: &SourceStmt) -> Result<(), FirstError>
+fn push_statement(
+    alloc: Global,
+    params: &[SourceParam],
+    block: &mut Block,
+    s: &SourceStmt,
+) -> Result<(), FirstError>
     requires { length params.now ≤ 32 }
     ensures { MatchResult result (λ _. IsPushed (first_statement (map parameter_of params.now) (statement_of s.now)) block.old block.new) (λ e. Rejects (first_statement (map parameter_of params.now) (statement_of s.now)) e) }
 {
@@ -170,7 +192,11 @@ fn push_statement(alloc: Global, params: &[SourceParam], block: &mut Block, s: &
 }
 
 /// The statements of a body.
-pub fn first_body(alloc: Global, params: &[SourceParam], body: &[SourceStmt]) -> Result<Block, FirstError>
+pub fn first_body(
+    alloc: Global,
+    params: &[SourceParam],
+    body: &[SourceStmt],
+) -> Result<Block, FirstError>
     requires { length params.now ≤ 32 }
     ensures { Translates (first_body (map parameter_of params.now) (map statement_of body.now)) (λ b. b) result }
 {
@@ -272,7 +298,12 @@ fn tensor_of(alloc: Global, extent: u32) -> Result<ParamKind, AllocError>
 }
 
 /// Puts the parameter last, with the number.
-fn push_param(alloc: Global, params: &mut Params, id: u32, p: &SourceParam) -> Result<(), FirstError>
+fn push_param(
+    alloc: Global,
+    params: &mut Params,
+    id: u32,
+    p: &SourceParam,
+) -> Result<(), FirstError>
     ensures { MatchResult result (λ _. IsPushed (first_param id (parameter_of p.now)) params.old params.new) (λ e. Rejects (first_param id (parameter_of p.now)) e) }
 {
     let extent = literal_of(&p.extent);

@@ -19,7 +19,16 @@ fn is_in(words: &[&[u8]], name: &[u8]) -> bool
 fn is_library_word(name: &[u8]) -> bool
     ensures { result ≡ is_in library_words name.now }
 {
-    is_in(&[b"NULL".as_slice(), b"main".as_slice(), b"malloc".as_slice(), b"free".as_slice(), b"size_t".as_slice()], name)
+    is_in(
+        &[
+            b"NULL".as_slice(),
+            b"main".as_slice(),
+            b"malloc".as_slice(),
+            b"free".as_slice(),
+            b"size_t".as_slice(),
+        ],
+        name,
+    )
 }
 
 /// Whether it is a keyword of C11 up to `goto`.
@@ -27,9 +36,21 @@ fn is_early_keyword(name: &[u8]) -> bool
     ensures { result ≡ is_in keywords_to_goto name.now }
 {
     let words = [
-        b"auto".as_slice(), b"break".as_slice(), b"case".as_slice(), b"char".as_slice(), b"const".as_slice(),
-        b"continue".as_slice(), b"default".as_slice(), b"do".as_slice(), b"double".as_slice(), b"else".as_slice(),
-        b"enum".as_slice(), b"extern".as_slice(), b"float".as_slice(), b"for".as_slice(), b"goto".as_slice(),
+        b"auto".as_slice(),
+        b"break".as_slice(),
+        b"case".as_slice(),
+        b"char".as_slice(),
+        b"const".as_slice(),
+        b"continue".as_slice(),
+        b"default".as_slice(),
+        b"do".as_slice(),
+        b"double".as_slice(),
+        b"else".as_slice(),
+        b"enum".as_slice(),
+        b"extern".as_slice(),
+        b"float".as_slice(),
+        b"for".as_slice(),
+        b"goto".as_slice(),
     ];
     is_in(&words, name)
 }
@@ -39,10 +60,25 @@ fn is_late_keyword(name: &[u8]) -> bool
     ensures { result ≡ is_in keywords_from_if name.now }
 {
     let words = [
-        b"if".as_slice(), b"inline".as_slice(), b"int".as_slice(), b"long".as_slice(), b"register".as_slice(),
-        b"restrict".as_slice(), b"return".as_slice(), b"short".as_slice(), b"signed".as_slice(), b"sizeof".as_slice(),
-        b"static".as_slice(), b"struct".as_slice(), b"switch".as_slice(), b"typedef".as_slice(), b"union".as_slice(),
-        b"unsigned".as_slice(), b"void".as_slice(), b"volatile".as_slice(), b"while".as_slice(),
+        b"if".as_slice(),
+        b"inline".as_slice(),
+        b"int".as_slice(),
+        b"long".as_slice(),
+        b"register".as_slice(),
+        b"restrict".as_slice(),
+        b"return".as_slice(),
+        b"short".as_slice(),
+        b"signed".as_slice(),
+        b"sizeof".as_slice(),
+        b"static".as_slice(),
+        b"struct".as_slice(),
+        b"switch".as_slice(),
+        b"typedef".as_slice(),
+        b"union".as_slice(),
+        b"unsigned".as_slice(),
+        b"void".as_slice(),
+        b"volatile".as_slice(),
+        b"while".as_slice(),
     ];
     is_in(&words, name)
 }
@@ -61,13 +97,34 @@ fn is_integer_type(name: &[u8]) -> bool
     ensures { result ≡ is_in integer_types name.now }
 {
     let words = [
-        b"int8_t".as_slice(), b"int16_t".as_slice(), b"int32_t".as_slice(), b"int64_t".as_slice(),
-        b"uint8_t".as_slice(), b"uint16_t".as_slice(), b"uint32_t".as_slice(), b"uint64_t".as_slice(),
-        b"int_least8_t".as_slice(), b"int_least16_t".as_slice(), b"int_least32_t".as_slice(), b"int_least64_t".as_slice(),
-        b"uint_least8_t".as_slice(), b"uint_least16_t".as_slice(), b"uint_least32_t".as_slice(), b"uint_least64_t".as_slice(),
-        b"int_fast8_t".as_slice(), b"int_fast16_t".as_slice(), b"int_fast32_t".as_slice(), b"int_fast64_t".as_slice(),
-        b"uint_fast8_t".as_slice(), b"uint_fast16_t".as_slice(), b"uint_fast32_t".as_slice(), b"uint_fast64_t".as_slice(),
-        b"intptr_t".as_slice(), b"uintptr_t".as_slice(), b"intmax_t".as_slice(), b"uintmax_t".as_slice(),
+        b"int8_t".as_slice(),
+        b"int16_t".as_slice(),
+        b"int32_t".as_slice(),
+        b"int64_t".as_slice(),
+        b"uint8_t".as_slice(),
+        b"uint16_t".as_slice(),
+        b"uint32_t".as_slice(),
+        b"uint64_t".as_slice(),
+        b"int_least8_t".as_slice(),
+        b"int_least16_t".as_slice(),
+        b"int_least32_t".as_slice(),
+        b"int_least64_t".as_slice(),
+        b"uint_least8_t".as_slice(),
+        b"uint_least16_t".as_slice(),
+        b"uint_least32_t".as_slice(),
+        b"uint_least64_t".as_slice(),
+        b"int_fast8_t".as_slice(),
+        b"int_fast16_t".as_slice(),
+        b"int_fast32_t".as_slice(),
+        b"int_fast64_t".as_slice(),
+        b"uint_fast8_t".as_slice(),
+        b"uint_fast16_t".as_slice(),
+        b"uint_fast32_t".as_slice(),
+        b"uint_fast64_t".as_slice(),
+        b"intptr_t".as_slice(),
+        b"uintptr_t".as_slice(),
+        b"intmax_t".as_slice(),
+        b"uintmax_t".as_slice(),
     ];
     is_in(&words, name)
 }
