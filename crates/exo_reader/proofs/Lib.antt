@@ -9,3 +9,4 @@ pub mod Numbers
 pub mod Lines
 pub mod FirstLine
 pub mod Cuts
+pub mod Ascii
