@@ -12,3 +12,4 @@ pub mod Cuts
 pub mod Lists
 pub mod FirstPrograms
 pub mod FirstTexts
+pub mod Ascii

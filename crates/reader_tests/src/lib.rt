@@ -1,0 +1,5 @@
+//! Texts and what they are read to: tables of worked cases for exo_reader.
+#![tactic(auto)]
+
+#[cfg(test)]
+mod lexis;
