@@ -1,10 +1,8 @@
 -- Operands that no operator splits.
-use Rattle.std.proofs.Common.{◌≡◌, ℕ, suc, ◌+◌, ◌<◌, ◌≤◌, List, [], ◌∷◌, ◌++◌, Option, Some, None, length, refl, sym, ap, ◌∙◌, append_assoc, subst, arith, ◌⊎◌, inl, inr}
-use Rattle.std.proofs.lemmas.List.{append_cancel_left, append-nil}
-use Rattle.phrases.specs.Phrase.{first, Phrase, Taken, Begins, Refused}
-use Rattle.phrases.proofs.Phrases.{first_append, taken_rest}
-use Rattle.exo_reader.specs.Expression.{Tree, number, variable, access, negative, parens, binary, level_of, Stands, spelling, FollowsOperand, operand, Within, HasPlace, depth, nodes}
-use Rattle.exo_reader.specs.declared.source.Operator.{Operator}
+use Rattle.std.proofs.Common.{◌≡◌, ℕ, ◌+◌, ◌≤◌, List, [], ◌∷◌, ◌++◌, Option, Some, length, refl, sym, ap, ◌∙◌, append_assoc, subst, arith, ◌⊎◌, inl, inr}
+use Rattle.phrases.specs.Phrase.{first, Taken, Begins, Refused}
+use Rattle.phrases.proofs.Phrases.{taken_rest}
+use Rattle.exo_reader.specs.Expression.{Tree, number, variable, access, negative, parens, binary, Stands, spelling, FollowsOperand, operand, Within, HasPlace, depth, nodes}
 use Rattle.exo_reader.specs.declared.token.Token.{Token}
 use Rattle.exo_reader.specs.declared.token.Token.TheVariants.{Int, Name, Sign}
 use Rattle.exo_reader.specs.declared.token.Literal.TheVariants.{Value}

@@ -1,15 +1,14 @@
 -- Operands with operators of one level between them, read from the left.
-use Rattle.std.proofs.Common.{◌≡◌, ℕ, suc, ◌+◌, ◌<◌, ◌≤◌, List, [], ◌∷◌, ◌++◌, Option, Some, None, length, refl, sym, ap, ◌∙◌, append_assoc, subst, arith, ◌⊎◌, inl, inr}
-use Rattle.std.proofs.lemmas.List.{append_cancel_left, append-nil, length-append}
+use Rattle.std.proofs.Common.{◌≡◌, ℕ, suc, ◌+◌, ◌<◌, ◌≤◌, List, [], ◌∷◌, ◌++◌, Option, Some, length, refl, sym, ap, ◌∙◌, append_assoc, subst, arith, ◌⊎◌, inl, inr}
+use Rattle.std.proofs.lemmas.List.{append_cancel_left, append-nil}
 use Rattle.std.proofs.Math.Nat.{eq-or-lt_of_le}
-use Rattle.phrases.specs.Phrase.{first, Phrase, Taken, Begins, Refused}
-use Rattle.phrases.proofs.Phrases.{first_append, taken_rest}
+use Rattle.phrases.specs.Phrase.{first, Taken, Refused}
 use Rattle.exo_reader.specs.Expression.{Tree, number, variable, access, negative, parens, binary, level_of, left_level, sign, Stands, spelling, FollowsOperand, operand, Within, depth, nodes, NoSign}
 use Rattle.exo_reader.specs.Chain.{Link, with_links, LinksAt, Extends, Begun}
 use Rattle.exo_reader.specs.declared.source.Operator.{Operator}
 use Rattle.exo_reader.specs.declared.token.Token.{Token}
 use Rattle.exo_reader.specs.declared.expression.Room.{Room}
-use Rattle.exo_reader.proofs.Signs.{left_low, low_level, compared_left, sign_same, follows_sign, sign_follows, follows_weaker, headed}
+use Rattle.exo_reader.proofs.Signs.{left_low, compared_left, sign_same, follows_sign, sign_follows, follows_weaker}
 use Rattle.exo_reader.proofs.Sizes.{within_front, within_link, Leaves, Right, right_within, within_binary, nodes_some}
 
 abbrev pub spelling_links : List Link → List Token

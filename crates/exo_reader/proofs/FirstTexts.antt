@@ -1,7 +1,6 @@
 -- Texts of the first form.
-use Rattle.std.proofs.Common.{◌≡◌, ℕ, List, [], ◌++◌, Option, Some, None, Result, Ok, Err, MatchResult, refl, sym, ap, ◌∙◌, subst}
-use Rattle.std.specs.Result.{IsErrAnd}
-use Rattle.phrases.specs.Text.{IsText, FaultAt, Faults}
+use Rattle.std.proofs.Common.{◌≡◌, List, Some, None, Result, Ok, Err, refl, sym, ap, ◌∙◌}
+use Rattle.phrases.specs.Text.{IsText, Faults}
 use Rattle.phrases.specs.declared.Refusal.{Refusal}
 use Rattle.phrases.specs.declared.Refusal.TheVariants as refusal
 use Rattle.exo_tree.specs.Tree.{Program}

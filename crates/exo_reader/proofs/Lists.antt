@@ -1,5 +1,5 @@
 -- Lists that a loop goes over, by what remains of them.
-use Rattle.std.proofs.Common.{◌≡◌, ℕ, ◌+◌, ◌<◌, List, [], ◌∷◌, ◌++◌, Bool, true, false, ◌||◌, length, drop, get_or, map, refl, sym, ap, ◌∙◌, Bor, bytes_eq}
+use Rattle.std.proofs.Common.{◌≡◌, ℕ, ◌+◌, ◌<◌, List, ◌||◌, length, drop, get_or, map, ap, Bor, bytes_eq}
 use Rattle.std.proofs.lemmas.List.{drop_more}
 use Rattle.exo_reader.specs.Reserved.{is_in}
 

@@ -1,27 +1,26 @@
 -- The productions of procedures.
-use Rattle.std.proofs.Common.{◌≡◌, ℕ, suc, ◌+◌, ◌<◌, ◌≤◌, List, [], ◌∷◌, ◌++◌, Option, Some, None, Bool, true, false, length, refl, sym, ap, ◌∙◌, append_assoc, subst, arith, map, take, drop, get_or}
-use Rattle.std.proofs.lemmas.List.{append-nil, length-append, take-append-drop, drop_more, map-append}
-use Rattle.phrases.specs.Phrase.{first, Phrase, Taken, Begins, Refused}
-use Rattle.phrases.specs.Sequence.{exactly, then, AllFit, spell_all, many}
-use Rattle.phrases.specs.Commas.{spell_more, commas}
-use Rattle.phrases.specs.Answers.{Reads, Refuses}
+use Rattle.std.proofs.Common.{◌≡◌, ℕ, ◌+◌, ◌<◌, ◌≤◌, List, [], ◌∷◌, ◌++◌, Option, Some, Bool, true, false, length, refl, sym, ap, ◌∙◌, subst, arith, map, take, drop, get_or}
+use Rattle.std.proofs.lemmas.List.{length-append, take-append-drop, drop_more, map-append}
+use Rattle.phrases.specs.Phrase.{first, Phrase, Taken, Refused}
+use Rattle.phrases.specs.Sequence.{exactly, then, spell_all, many}
+use Rattle.phrases.specs.Commas.{commas}
+use Rattle.phrases.specs.Answers.{Refuses}
 use Rattle.phrases.specs.declared.Refusal.{Refusal}
-use Rattle.phrases.specs.declared.Refusal.TheVariants.{Memory, Syntax}
-use Rattle.phrases.proofs.Phrases.{first_append, taken_rest}
+use Rattle.phrases.specs.declared.Refusal.TheVariants.{Syntax}
 use Rattle.phrases.proofs.Exits.{refuses_along}
-use Rattle.phrases.proofs.Sequences.{Back, Step, Before, step_taken, step_refused, Items, items_none, items_next, items_done, items_refused, Apart, refused_exactly}
+use Rattle.phrases.proofs.Sequences.{Back, Step, step_taken, Items, items_none, items_next, items_done, items_refused, Apart, refused_exactly}
 use Rattle.phrases.proofs.Commas.{CommaApart, Commas, commas_none, commas_next, commas_refused, commas_done, commas_trailing}
 use Rattle.phrases.proofs.Joints.{Joint, now, later, both, whole_err}
 use Rattle.exo_reader.specs.Token.{a_name}
 use Rattle.exo_reader.specs.Fixed.{token_of}
 use Rattle.exo_reader.specs.declared.front.Fixed.{Fixed}
-use Rattle.exo_reader.specs.Expression.{Tree, number, Stands, spelling, FollowsOperand, operand}
-use Rattle.exo_reader.specs.Procedure.{control_room, data_room, SourceStatement, pass, assign, StatementFits, spelling_statement, statement, HasSome, EndsBlock, body, SourceParameter, parameter, SourceParameters, none, some, EndsParameters, ParametersFit, spelling_parameters, parameters, SourceProcedure, procedure}
+use Rattle.exo_reader.specs.Expression.{Tree, number, spelling, operand}
+use Rattle.exo_reader.specs.Procedure.{control_room, data_room, SourceStatement, pass, assign, StatementFits, spelling_statement, statement, EndsBlock, body, SourceParameter, parameter, SourceParameters, none, some, EndsParameters, ParametersFit, spelling_parameters, parameters, SourceProcedure, procedure}
 use Rattle.exo_reader.specs.Views.{statement_of, parameter_of, listed}
 use Rattle.exo_reader.specs.declared.source.SourceStmt.{SourceStmt}
 use Rattle.exo_reader.specs.declared.source.SourceParam.{SourceParam}
 use Rattle.exo_reader.specs.declared.token.Token.{Token}
-use Rattle.exo_reader.specs.declared.token.Token.TheVariants.{Int, Name, Str, Sign, Word, NewLine, Indent, Dedent, Decorator}
+use Rattle.exo_reader.specs.declared.token.Token.TheVariants.{Name, Sign, Word, NewLine, Indent, Dedent, Decorator}
 use Rattle.exo_reader.specs.declared.token.Word.TheVariants as w
 use Rattle.exo_reader.specs.declared.token.Decorator.TheVariants as d
 use Rattle.exo_reader.specs.declared.token.Sign.TheVariants.{Open, Close, OpenBracket, CloseBracket, Comma, Colon, Assign}

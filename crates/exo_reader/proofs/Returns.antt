@@ -1,9 +1,9 @@
 -- The returns of the functions that read expressions.
-use Rattle.std.proofs.Common.{◌≡◌, ℕ, zero, suc, ◌+◌, ◌-◌, ◌<◌, ◌≤◌, List, [], ◌∷◌, ◌++◌, Option, Some, None, Result, Ok, Err, length, refl, sym, ap, ◌∙◌, append_assoc, subst, arith, add-one, ◌⊎◌, inl, inr}
-use Rattle.phrases.specs.Phrase.{first, Phrase, Taken, Refused}
-use Rattle.phrases.specs.Answers.{Reads, Refuses}
+use Rattle.std.proofs.Common.{◌≡◌, ℕ, zero, suc, ◌+◌, ◌-◌, ◌<◌, ◌≤◌, List, [], ◌∷◌, Some, length, refl, sym, ap, ◌∙◌, subst, arith, add-one, ◌⊎◌, inl, inr}
+use Rattle.phrases.specs.Phrase.{first, Taken, Refused}
+use Rattle.phrases.specs.Answers.{Refuses}
 use Rattle.phrases.specs.declared.Refusal.{Refusal}
-use Rattle.phrases.specs.declared.Refusal.TheVariants.{Memory, Syntax}
+use Rattle.phrases.specs.declared.Refusal.TheVariants.{Syntax}
 use Rattle.phrases.proofs.Exits.{refuses_along}
 use Rattle.exo_reader.specs.Expression.{Tree, number, variable, access, negative, parens, binary, operand, level_of, left_level, sign, Stands, NoSign, HasPlace, depth, nodes}
 use Rattle.exo_reader.specs.Views.{tree_of, IsMeasured}
@@ -12,7 +12,7 @@ use Rattle.exo_reader.specs.declared.source.Operator.{Operator}
 use Rattle.exo_reader.specs.declared.expression.Room.{Room}
 use Rattle.exo_reader.specs.declared.expression.Measured.{Measured}
 use Rattle.exo_reader.specs.declared.token.Token.{Token}
-use Rattle.exo_reader.specs.declared.token.Token.TheVariants.{Int, Name, Str, Word, Sign, Decorator, NewLine, Indent, Dedent, Bad}
+use Rattle.exo_reader.specs.declared.token.Token.TheVariants.{Int, Name, Sign}
 use Rattle.exo_reader.specs.declared.token.Literal.{Literal}
 use Rattle.exo_reader.specs.declared.token.Literal.TheVariants.{Value, TooLarge}
 use Rattle.exo_reader.specs.declared.token.Sign.TheVariants as s

@@ -1,5 +1,5 @@
 -- Depths and numbers of nodes.
-use Rattle.std.proofs.Common.{◌≡◌, ℕ, suc, ◌+◌, ◌<◌, ◌≤◌, max, List, [], ◌∷◌, refl, sym, ap, ◌∙◌, subst, arith}
+use Rattle.std.proofs.Common.{◌≡◌, ◌+◌, ◌<◌, ◌≤◌, max, List, [], ◌∷◌, ap, arith}
 use Rattle.std.proofs.Math.Nat.{le-max_left, le-max_right, max-le}
 use Rattle.exo_reader.specs.Expression.{Tree, number, variable, access, negative, parens, binary, depth, nodes, Within}
 use Rattle.exo_reader.specs.Chain.{Link, with_links}

@@ -1,6 +1,6 @@
 -- The first form of units: one procedure whose parameters are tensors of 32-bit cells with one literal dimension, and
 -- whose statements store sums, differences, products and negations of literals and of cells in such cells.
-use Rattle.std.specs.Prelude.{ℕ, zero, suc, ◌+◌, ℤ, pos, Bool, true, false, not, ◌&&◌, ◌||◌, if◌then◌else◌, nat_lt, nat_le, List, [], ◌∷◌, Option, Some, None, option_map, option_and_then, length, codes, bytes_eq}
+use Rattle.std.specs.Prelude.{ℕ, ◌+◌, pos, Bool, true, false, not, ◌&&◌, if◌then◌else◌, nat_lt, nat_le, List, [], ◌∷◌, Option, Some, None, option_map, length, codes, bytes_eq}
 use Rattle.exo_tree.specs.Tree as tree
 use Rattle.exo_tree.specs.Tree.{Datum, Program}
 use Rattle.exo_reader.specs.Expression.{Tree, number, variable, access, negative, parens, binary}

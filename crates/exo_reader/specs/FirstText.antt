@@ -1,6 +1,5 @@
 -- Texts of the first form.
-use Rattle.std.specs.Prelude.{◌≡◌, ℕ, List, Option, Some, map, Result, MatchResult}
-use Rattle.phrases.specs.Phrase.{Phrase}
+use Rattle.std.specs.Prelude.{◌≡◌, ℕ, List, Some, map, Result, MatchResult}
 use Rattle.phrases.specs.declared.Refusal.{Refusal}
 use Rattle.phrases.specs.declared.Refusal.TheVariants as refusal
 use Rattle.exo_tree.specs.Tree.{Program}

@@ -1,6 +1,6 @@
 -- The grammar of procedures: so far with parameters of one dimension, `pass` and assignments to cells with one index.
-use Rattle.std.specs.Prelude.{◌≡◌, ℕ, List, [], ◌∷◌, ◌++◌, Option, Some, None, Bool, true, false}
-use Rattle.phrases.specs.Phrase.{first, Phrase}
+use Rattle.std.specs.Prelude.{◌≡◌, ℕ, List, [], ◌∷◌, ◌++◌, Option, Some, Bool}
+use Rattle.phrases.specs.Phrase.{Phrase}
 use Rattle.phrases.specs.Sequence.{AllFit, spell_all}
 use Rattle.phrases.specs.Commas.{spell_more}
 use Rattle.exo_reader.specs.Expression.{Tree, spelling, operand}

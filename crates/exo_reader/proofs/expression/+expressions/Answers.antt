@@ -1,4 +1,4 @@
-use Rattle.std.proofs.Common.{arith, ap, refl, length, inl, inr}
+use Rattle.std.proofs.Common.{arith, ap, refl, length}
 use Rattle.phrases.proofs.Exits.{exit}
 use Rattle.phrases.proofs.Phrases.{taken_shorter}
 use Rattle.exo_reader.proofs.Chains.{taken_of_begun}

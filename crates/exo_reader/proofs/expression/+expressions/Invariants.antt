@@ -1,4 +1,4 @@
-use Rattle.std.proofs.Common.{◌≡◌, ◌≤◌, ◌<◌, ◌∷◌, ℕ, List, length, ◌+◌, ◌-◌, ◌*◌}
+use Rattle.std.proofs.Common.{◌≤◌, List, length, ◌+◌, ◌-◌, ◌*◌}
 use Rattle.exo_reader.specs.Views.{tree_of, IsMeasured}
 use Rattle.exo_reader.specs.Chain.{Begun}
 use Rattle.exo_reader.specs.declared.token.Token.{Token}
