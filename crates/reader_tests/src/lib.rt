@@ -2,4 +2,6 @@
 #![tactic(auto)]
 
 #[cfg(test)]
+mod first;
+#[cfg(test)]
 mod lexis;
