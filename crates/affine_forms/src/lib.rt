@@ -3,13 +3,21 @@
 
 mod atom;
 mod error;
+mod facts;
+mod formula;
 pub mod laws;
 mod linear;
 mod normal;
+mod place;
+mod sum;
 mod system;
 
 pub use atom::{Atom, Terms, Weighed};
 pub use error::FormError;
+pub use facts::{Fact, Facts, FieldFact};
+pub use formula::Formula;
 pub use linear::Linear;
+pub use sum::Sum;
 pub use normal::{Reader, form};
+pub use place::{AtEntry, kind_of};
 pub use system::{Row, System, Term, is_narrow};
