@@ -1,8 +1,8 @@
 //! What is known of configuration fields at a place.
-ghost use Rattle.std.specs.Prelude.{◌≡◌, [], ◌∷◌, OnOk, OnErr, IfOk, option_map};
+ghost use Rattle.std.specs.Prelude.{◌≡◌, [], ◌∷◌, OnOk, OnErr, IfSome, IsTrue, option_map};
 ghost use Rattle.std.specs.Option.{option_copied};
 ghost use Rattle.affine_forms.specs.Facts as plain;
-ghost use Rattle.affine_forms.specs.Facts.{fact_of};
+ghost use Rattle.affine_forms.specs.Facts.{fact_of, fact_keeps_rules};
 ghost use Rattle.affine_forms.specs.PlainFacts.{plain_fact};
 
 use std::alloc::{AllocError, Global};
@@ -45,6 +45,11 @@ impl Model for Facts {
     ghost use Rattle.affine_forms.specs.PlainFacts.{plain_entry};
 
     ghost view = { λ f. map plain_entry f.items.items };
+
+    ghost use Rattle.std.specs.Prelude.{IsTrue};
+    ghost use Rattle.affine_forms.specs.Facts.{facts_keep_rules};
+
+    ghost invariant = { λ f. IsTrue (facts_keep_rules (map plain_entry f.items.items)) };
 }
 
 impl Facts {
@@ -59,6 +64,7 @@ impl Facts {
 
     /// Puts a fact before the others. After want of memory nothing has changed.
     pub fn set(&mut self, field: FieldId, fact: Fact) -> Result<(), AllocError>
+        requires { IsTrue (fact_keeps_rules (plain_fact fact)) }
         ensures set { OnOk result (self.new ≡ record { field = field.0; fact = plain_fact fact } ∷ self.old) }
         ensures unchanged { OnErr result (self.new ≡ self.old) }
     {
@@ -68,7 +74,8 @@ impl Facts {
 
     /// What is known of a field; None exactly where it has its value at entry.
     pub fn get(&self, f: FieldId) -> Option<&Fact>
-        ensures { option_map plain_fact (option_copied result) ≡ fact_of self.now f.0 }
+        ensures fact { option_map plain_fact (option_copied result) ≡ fact_of self.now f.0 }
+        ensures rules { IfSome (option_copied result) (λ fact. IsTrue (fact_keeps_rules (plain_fact fact))) }
     {
         for e in &self.items {
             if e.field.0 == f.0 {

@@ -2,12 +2,13 @@
 #![tactic(auto)]
 
 mod atom;
+mod condition;
 mod error;
 mod facts;
 mod formula;
 pub mod laws;
 mod linear;
-mod normal;
+mod reader;
 mod place;
 mod sum;
 mod system;
@@ -18,6 +19,7 @@ pub use facts::{Fact, Facts, FieldFact};
 pub use formula::Formula;
 pub use linear::Linear;
 pub use sum::Sum;
-pub use normal::{Reader, form};
-pub use place::{AtEntry, kind_of};
+pub use condition::{FlagReader, formula_of};
+pub use reader::{Reader, form, normal};
+pub use place::{AtEntry, AtPlace, kind_of};
 pub use system::{Row, System, Term, is_narrow};
