@@ -1,5 +1,5 @@
 -- Known values keep the rules.
-use Rattle.std.proofs.Common.{◌≡◌, ℕ, zero, suc, ◌<◌, Bool, true, ◌&&◌, List, [], ◌∷◌, length, get_or, map, arith, refl, sym, ap, ◌∙◌}
+use Rattle.std.proofs.Common.{◌≡◌, ℕ, zero, suc, ◌<◌, true, List, [], ◌∷◌, length, get_or, map, arith, ap, ◌∙◌}
 use Rattle.affine_forms.specs.Facts.{fact_keeps_rules, facts_keep_rules}
 use Rattle.affine_forms.specs.PlainFacts.{plain_fact, plain_entry}
 use Rattle.affine_forms.specs.declared.facts.FieldFact.{FieldFact}

@@ -1,10 +1,10 @@
 -- Codes and plain forms of facts.
-use Rattle.std.specs.Prelude.{◌≡◌, ℕ, List}
-use Rattle.std.specs.Coded.{Coded, coded_list, coded_ℕ, coded×, code_by}
+use Rattle.std.specs.Prelude.{◌≡◌, ℕ}
+use Rattle.std.specs.Coded.{Coded, coded_ℕ, coded×, code_by}
 use Rattle.std.proofs.Common.{ap, arith, refl}
-use base.Stored.{Gv, gnil, gnum, gcons, num}
+use base.Stored.{Gv, gnum, gcons}
 use Rattle.exo_tree.specs.Codes.{argument_code}
-use Rattle.affine_forms.specs.AtomCodes.{left, right, tag, code_path, same_path}
+use Rattle.affine_forms.specs.AtomCodes.{right, tag, code_path, same_path}
 use Rattle.affine_forms.specs.Facts.{Fact, Known, UnknownAt, FieldFact}
 
 abbrev pub code_fact : Fact → Gv

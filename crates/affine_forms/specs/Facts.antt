@@ -1,5 +1,5 @@
 -- What is known of configuration fields at a place, and what an expression reads there.
-use Rattle.std.specs.Prelude.{ℕ, ℤ, pos, ◌==◌, Bool, true, false, ◌&&◌, if◌then◌else◌, List, [], ◌∷◌, slice_get, Option, Some, None}
+use Rattle.std.specs.Prelude.{ℕ, pos, ◌==◌, Bool, true, ◌&&◌, if◌then◌else◌, List, [], ◌∷◌, slice_get, Option, Some, None}
 use Rattle.exo_tree.specs.Tree.{Kind, Index, Argument, ControlArg, ConditionArg, Whole, Window, ConfigField}
 use Rattle.exo_tree.specs.Places.{Path}
 use Rattle.affine_forms.specs.Atoms.{Variable, EntryField, UnknownField, OpaqueStride, Linear, constantly, only}
@@ -40,18 +40,18 @@ kind_of fields f = elim (slice_get fields f) [ None ↦ Index | Some c ↦ c.kin
 
 abbrev pub entry_reading : List ConfigField → Reading
 entry_reading fields = record {
-    variable = λ x. only (Variable x);
-    field = λ f. only (EntryField f (kind_of fields f));
-    stride = λ x k. only (OpaqueStride x k);
-    field_fits = λ f. true;
-    stride_fits = λ x k. true
-  }
+  variable = λ x. only (Variable x);
+  field = λ f. only (EntryField f (kind_of fields f));
+  stride = λ x k. only (OpaqueStride x k);
+  field_fits = λ f. true;
+  stride_fits = λ x k. true;
+}
 
 abbrev pub entry_flags : List ConfigField → Flags
 entry_flags fields = record {
-    variable = own_flag;
-    field = λ f. row (moved (pos 1) (only (EntryField f (kind_of fields f))))
-  }
+  variable = own_flag;
+  field = λ f. row (moved (pos 1) (only (EntryField f (kind_of fields f))));
+}
 
 -- ---- at a place
 
@@ -74,12 +74,12 @@ field_fits fields (Some (UnknownAt path)) = true
 
 abbrev pub place_reading : List ConfigField → List FieldFact → Reading
 place_reading fields facts = record {
-    variable = λ x. only (Variable x);
-    field = λ f. field_form fields f (fact_of facts f);
-    stride = λ x k. only (OpaqueStride x k);
-    field_fits = λ f. field_fits fields (fact_of facts f);
-    stride_fits = λ x k. true
-  }
+  variable = λ x. only (Variable x);
+  field = λ f. field_form fields f (fact_of facts f);
+  stride = λ x k. only (OpaqueStride x k);
+  field_fits = λ f. field_fits fields (fact_of facts f);
+  stride_fits = λ x k. true;
+}
 
 -- a condition that is a field's known value stands in for that field
 abbrev pub field_formula : List ConfigField → ℕ → Option Fact → Formula
@@ -100,6 +100,6 @@ field_formula_fits fields (Some (UnknownAt path)) = true
 
 abbrev pub place_flags : List ConfigField → List FieldFact → Flags
 place_flags fields facts = record {
-    variable = own_flag;
-    field = λ f. field_formula fields f (fact_of facts f)
-  }
+  variable = own_flag;
+  field = λ f. field_formula fields f (fact_of facts f);
+}

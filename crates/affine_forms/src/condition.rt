@@ -8,13 +8,11 @@ ghost use Rattle.affine_forms.specs.Formulas as plain;
 ghost use Rattle.affine_forms.specs.Formulas.{formula, less, at_most, equal, is_writable_condition, condition_keeps_rules};
 ghost use Rattle.affine_forms.specs.PlainFormulas.{FormulaMade};
 
-use std::alloc::Global;
-
-use exo_tree::{Cond, Ctrl, FieldId, Id};
-
 use crate::error::FormError;
 use crate::formula::Formula;
 use crate::reader::{Reader, normal};
+use exo_tree::{Cond, Ctrl, FieldId, Id};
+use std::alloc::Global;
 
 /// What stands for variables and fields of kind bool at a place.
 pub trait FlagReader: Reader {
@@ -22,6 +20,7 @@ pub trait FlagReader: Reader {
     ghost use Rattle.affine_forms.specs.Formulas.{Flags};
 
     ghost flags: { Self → Flags };
+
     ghost flag_fits: { Self → ℕ → Bool };
 
     /// The formula of a variable.

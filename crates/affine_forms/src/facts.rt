@@ -5,10 +5,9 @@ ghost use Rattle.affine_forms.specs.Facts as plain;
 ghost use Rattle.affine_forms.specs.Facts.{fact_of, fact_keeps_rules};
 ghost use Rattle.affine_forms.specs.PlainFacts.{plain_fact};
 
+use exo_tree::{Arg, FieldId, Path};
 use std::alloc::{AllocError, Global};
 use std::marker::Model;
-
-use exo_tree::{Arg, FieldId, Path};
 
 /// What is known of a field.
 #[derive(Drop)]

@@ -7,11 +7,10 @@ ghost use Rattle.affine_forms.specs.TermBounds.{is_kept_atom};
 ghost use Rattle.affine_forms.specs.PlainAtoms.{plain_atom};
 ghost use Rattle.affine_forms.specs.PlainFormulas.{plain_formula};
 
-use std::alloc::{AllocError, Global};
-
 use crate::atom::Atom;
 use crate::linear::Linear;
 use crate::sum::Sum;
+use std::alloc::{AllocError, Global};
 
 /// What holds of atoms.
 #[derive(Drop)]

@@ -8,10 +8,6 @@ ghost use Rattle.affine_forms.specs.PlainFormulas.{FormulaMade};
 ghost use Rattle.affine_forms.specs.Forms.{is_short_form};
 ghost use Rattle.affine_forms.specs.Outcomes.{Formed};
 
-use std::alloc::Global;
-
-use exo_tree::{Arg, FieldId, Fields, Id, Kind};
-
 use crate::atom::Atom;
 use crate::condition::{FlagReader, formula_of};
 use crate::error::FormError;
@@ -19,6 +15,8 @@ use crate::facts::{Fact, Facts};
 use crate::formula::Formula;
 use crate::linear::Linear;
 use crate::reader::{Reader, form};
+use exo_tree::{Arg, FieldId, Fields, Id, Kind};
+use std::alloc::Global;
 
 /// The kind of a field.
 pub fn kind_of(fields: &Fields, f: FieldId) -> Kind
@@ -90,7 +88,10 @@ impl Reader for AtPlace<'_> {
                 Ok(l)
             }
             Some(Fact::Unknown(path)) => {
-                let l = Linear::only(alloc, Atom::UnknownField(f, kind_of(self.fields, f), path.duplicate()))?;
+                let l = Linear::only(
+                    alloc,
+                    Atom::UnknownField(f, kind_of(self.fields, f), path.duplicate()),
+                )?;
                 Ok(l)
             }
             Some(Fact::Known(value)) => known(alloc, self.fields, f, value),
@@ -105,6 +106,7 @@ impl Reader for AtPlace<'_> {
 
 impl FlagReader for AtEntry<'_> {
     ghost flags = { λ r. entry_flags r.fields.now };
+
     ghost flag_fits = { λ r f. true };
 
     fn flag(&self, alloc: Global, x: Id) -> Result<Formula, FormError> {
@@ -133,6 +135,7 @@ fn known_flag(alloc: Global, fields: &Fields, f: FieldId, value: &Arg) -> Result
 
 impl FlagReader for AtPlace<'_> {
     ghost flags = { λ r. place_flags r.fields.now r.facts.now };
+
     ghost flag_fits = { λ r f. field_formula_fits r.fields.now (fact_of r.facts.now f) };
 
     fn flag(&self, alloc: Global, x: Id) -> Result<Formula, FormError> {
@@ -147,7 +150,10 @@ impl FlagReader for AtPlace<'_> {
                 Ok(set)
             }
             Some(Fact::Unknown(path)) => {
-                let set = Formula::is_set(alloc, Atom::UnknownField(f, kind_of(self.fields, f), path.duplicate()))?;
+                let set = Formula::is_set(
+                    alloc,
+                    Atom::UnknownField(f, kind_of(self.fields, f), path.duplicate()),
+                )?;
                 Ok(set)
             }
             Some(Fact::Known(value)) => known_flag(alloc, self.fields, f, value),

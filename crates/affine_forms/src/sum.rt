@@ -7,11 +7,10 @@ ghost use Rattle.affine_forms.specs.Formulas.{moved};
 ghost use Rattle.affine_forms.specs.TermBounds.{is_kept_atom};
 ghost use Rattle.affine_forms.specs.PlainAtoms.{plain_atom};
 
-use std::alloc::{AllocError, Global};
-use std::marker::Model;
-
 use crate::atom::{Atom, Terms};
 use crate::linear::Linear;
+use std::alloc::{AllocError, Global};
+use std::marker::Model;
 
 /// A constant of at most 2^64 in size and a weighed sum of atoms: what a row or an equation speaks of.
 #[derive(Drop)]
@@ -72,7 +71,11 @@ impl Sum {
     }
 
     /// One form less another, less 1.
-    pub fn strict_difference(alloc: Global, left: &Linear, right: &Linear) -> Result<Sum, AllocError>
+    pub fn strict_difference(
+        alloc: Global,
+        left: &Linear,
+        right: &Linear,
+    ) -> Result<Sum, AllocError>
         ensures { IfOk result (λ s. s ≡ moved (pos 1) (subtracted left.now right.now)) }
     {
         let opposite = right.negated(alloc)?;
