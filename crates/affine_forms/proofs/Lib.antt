@@ -6,3 +6,4 @@ pub mod NormalForm
 pub mod FormulaValues
 pub mod Cases
 pub mod Points
+pub mod FactRules

@@ -52,7 +52,7 @@ abbrev pub code_path : Path → Gv
 code_path [] = gcons (gnum 0) gnil
 code_path (s ∷ p) = gcons (gnum 1) (gcons (code_step s) (code_path p))
 
-same_path : (p q : Path) → code_path p ≡ code_path q → p ≡ q
+pub same_path : (p q : Path) → code_path p ≡ code_path q → p ≡ q
 same_path [] [] e = refl
 same_path (s ∷ p) (t ∷ q) e =
     let a = same_step s t (ap (λ g. left (right g)) e) in

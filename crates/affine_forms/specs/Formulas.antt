@@ -4,7 +4,7 @@ use Rattle.std.specs.List.{flat_map}
 use Rattle.std.specs.Ordering.{int_eq}
 use Rattle.exo_tree.specs.Tree.{Condition, True, False, Flag, FieldFlag, Lt, Le, Gt, Ge, Eq, And, Or}
 use Rattle.affine_forms.specs.Atoms.{Linear, Valuation, value, Variable, only, constantly, scaled, subtracted}
-use Rattle.affine_forms.specs.Forms.{Reading, normal, Allowed, is_affine}
+use Rattle.affine_forms.specs.Forms.{Reading, normal, Allowed, anything, is_affine, is_writable}
 
 pub data Constraint : Type 0 where
   AtLeastZero IsZero : Linear → Constraint
@@ -117,3 +117,23 @@ cases (Either f g) = cases f ++ cases g
 abbrev pub cases_of_all : List Formula → List (List Constraint)
 cases_of_all [] = [] ∷ []
 cases_of_all (f ∷ fs) = product (cases f) (cases_of_all fs)
+
+-- ---- widths
+
+-- the normal forms of all sides can be written down, and so can what stands for its fields
+abbrev pub is_writable_condition : Reading → (ℕ → Bool) → Condition → Bool
+is_writable_condition at fits True = true
+is_writable_condition at fits False = true
+is_writable_condition at fits (Flag x) = true
+is_writable_condition at fits (FieldFlag f) = fits f
+is_writable_condition at fits (Lt a b) = is_writable at a && is_writable at b
+is_writable_condition at fits (Le a b) = is_writable at a && is_writable at b
+is_writable_condition at fits (Gt a b) = is_writable at a && is_writable at b
+is_writable_condition at fits (Ge a b) = is_writable at a && is_writable at b
+is_writable_condition at fits (Eq a b) = is_writable at a && is_writable at b
+is_writable_condition at fits (And c d) = is_writable_condition at fits c && is_writable_condition at fits d
+is_writable_condition at fits (Or c d) = is_writable_condition at fits c && is_writable_condition at fits d
+
+-- each side of a comparison keeps the rules
+abbrev pub condition_keeps_rules : Condition → Bool
+condition_keeps_rules c = is_affine_condition (record { numbers = anything; variable = λ x. true; field = λ f. true }) c

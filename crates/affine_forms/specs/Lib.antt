@@ -9,5 +9,9 @@ pub mod AtomCodes
 pub mod PlainAtoms
 pub mod AtomFalls
 pub mod Formulas
+pub mod PlainFormulas
+pub mod Facts
+pub mod FactCodes
+pub mod PlainFacts
 pub mod Systems
 pub mod Laws

@@ -2,14 +2,24 @@
 #![tactic(auto)]
 
 mod atom;
+mod condition;
 mod error;
+mod facts;
+mod formula;
 pub mod laws;
 mod linear;
-mod normal;
+mod place;
+mod reader;
+mod sum;
 mod system;
 
 pub use atom::{Atom, Terms, Weighed};
+pub use condition::{FlagReader, formula_of};
 pub use error::FormError;
+pub use facts::{Fact, Facts, FieldFact};
+pub use formula::Formula;
 pub use linear::Linear;
-pub use normal::{Reader, form};
+pub use place::{AtEntry, AtPlace, kind_of};
+pub use reader::{Reader, form, normal};
+pub use sum::Sum;
 pub use system::{Row, System, Term, is_narrow};

@@ -1,10 +1,10 @@
 -- The greatest common divisor, and quotients that are rounded down.
-use Rattle.std.proofs.Common.{ℕ, zero, suc, ◌+◌, ◌-◌, ◌*◌, ◌/◌, ◌%◌, ◌<◌, ◌≤◌, ◌≡◌, List, [], ◌∷◌, ℤ, pos, negsuc, ◌+ℤ◌, ◌*ℤ◌, unsigned_abs, arith, ap, sym, ◌∙◌, refl}
+use Rattle.std.proofs.Common.{ℕ, zero, suc, ◌+◌, ◌-◌, ◌*◌, ◌/◌, ◌%◌, ◌<◌, ◌≤◌, ◌≡◌, List, [], ◌∷◌, ℤ, pos, negsuc, ◌+ℤ◌, ◌*ℤ◌, unsigned_abs, arith, ap, sym, subst, ◌∙◌, refl}
 use Rattle.std.specs.List.{AllByRecursion, fold}
 use Rattle.std.specs.Int.{IsGcd, int_div_euclid, ◌∣◌}
 use Rattle.std.proofs.lemmas.Int.{ints}
-use Rattle.std.proofs.lemmas.Nat.Gcd.{IsGcd-from_zero, IsGcd-from_mod, dvd_refl, dvd_trans, mod-eq-zero_of_dvd}
-use Rattle.std.proofs.Math.Nat.{mod-zero, mod-lt, mul-le-mul_left}
+use Rattle.std.proofs.lemmas.Nat.Gcd.{IsGcd-from_zero, IsGcd-from_mod, same_from_IsGcd, dvd_refl, dvd_trans, mod-eq-zero_of_dvd}
+use Rattle.std.proofs.Math.Nat.{mod-zero, zero-mod, mod-lt, mul-le-mul_left}
 use Rattle.std.proofs.lemmas.Bool.{cases_lt}
 use Rattle.std.proofs.Common.{◌⊎◌, inl, inr}
 use Rattle.affine_prover.specs.Elimination.{gcd_within, gcd, gcd_of}
@@ -62,3 +62,6 @@ positive_of_dvd (suc g) a d h = omega arith
 
 pub gcd-positive : (a b : ℕ) → 0 < a → 0 < gcd a b
 gcd-positive a b h = positive_of_dvd (gcd a b) a (gcd-is a b).0 h
+
+pub zero-gcd : (b : ℕ) → gcd 0 b ≡ b
+zero-gcd b = sym (same_from_IsGcd 0 b _ _ (IsGcd-from_mod 0 b b (subst (λ r. IsGcd b r b) (sym (zero-mod b)) (IsGcd-from_zero b 0 refl))) (gcd-is 0 b))

@@ -1,14 +1,13 @@
 -- Rational numbers that meet the tightened and merged rows meet the rows.
-use Rattle.std.proofs.Common.{ℕ, zero, suc, ◌+◌, ◌*◌, ◌<◌, ◌≤◌, ◌≡◌, ◌==◌, ◌&&◌, Bool, true, false, not, cond, List, [], ◌∷◌, map, ℤ, pos, ◌+ℤ◌, ◌*ℤ◌, ◌≤ℤ◌, unsigned_abs, Option, Some, None, arith, ap, sym, subst, ◌∙◌, refl}
+use Rattle.std.proofs.Common.{ℕ, ◌<◌, ◌≡◌, ◌==◌, ◌&&◌, Bool, true, false, not, cond, List, [], ◌∷◌, map, ℤ, pos, ◌+ℤ◌, ◌*ℤ◌, ◌≤ℤ◌, unsigned_abs, Some, None, arith, ap, subst, refl}
 use Rattle.std.specs.Prelude.{int_lt}
 use Rattle.std.specs.List.{AllByRecursion, filter, fold, list_any}
 use Rattle.std.specs.Int.{int_div_euclid, int_min, is_negative, ◌∣◌}
 use Rattle.std.proofs.lemmas.Int.{ints}
 use Rattle.std.proofs.lemmas.Bool.Decides.{nat_tests}
-use Rattle.std.proofs.Math.IntN.{*ℤ-zero, *ℤ_comm}
 use Rattle.affine_forms.specs.Affine.{Affine, dot, value_over}
 use Rattle.affine_prover.specs.Elimination.{is_constant, is_false, tightened, joined, merged, same_list, normalized, gcd_of}
-use Rattle.affine_prover.proofs.Integers.{times-add, times_assoc, times_natural}
+use Rattle.affine_prover.proofs.Integers.{times-add, times_natural}
 use Rattle.affine_prover.proofs.Divisors.{gcd_of-divides, quotient-floor}
 use Rattle.affine_prover.proofs.Tightening.{dot-divided}
 use Rattle.affine_prover.proofs.Everywhere.{everywhere-both, everywhere-like}

@@ -1,4 +1,4 @@
--- The steps of the loops that merge and settle rows.
+-- The steps of the loops that merge and normalize rows.
 use Rattle.std.proofs.Common.{ℕ, zero, suc, ◌+◌, ◌<◌, ◌≤◌, ◌≡◌, Bool, true, false, not, cond, ◌||◌, List, [], ◌∷◌, ◌++◌, map, length, take, drop, set, get_or, Some, None, arith, ap, sym, ◌∙◌, refl, append_assoc}
 use Rattle.std.specs.List.{filter, list_any}
 use Rattle.std.specs.Int.{int_min}
@@ -31,7 +31,7 @@ joined-here ks r k i l e h =
 pub joined-end : (ks : List Affine) (r : Affine) (i : ℕ) → length ks ≤ i → ks ++ r ∷ [] ≡ take i ks ++ joined (drop i ks) r
 joined-end ks r i l = sym (ap (λ xs. xs ++ joined (drop i ks) r) (take_all i ks l) ∙ ap (λ xs. ks ++ joined xs r) (drop_all i ks l))
 
--- ---- settling
+-- ---- normalizing
 pub any_at : (rows : List Affine) (i : ℕ) (r : Affine) → i < length rows → r ≡ get_or rows i r → is_false (tightened r) ≡ true → list_any is_false (map tightened rows) ≡ true
 any_at [] i r l e h = absurd (omega arith)
 any_at (x ∷ xs) zero r l e h = ap (λ y. is_false (tightened y) || list_any is_false (map tightened xs)) (sym e) ∙ ap (λ t. t || list_any is_false (map tightened xs)) h

@@ -1,5 +1,5 @@
 -- Where the elimination answers Open, rational numbers meet the equations and the rows.
-use Rattle.std.proofs.Common.{ℕ, zero, suc, ◌+◌, ◌*◌, ◌%◌, ◌<◌, ◌≤◌, ◌≡◌, ◌==◌, ◌&&◌, Bool, true, false, not, cond, List, [], ◌∷◌, ◌++◌, map, length, ℤ, pos, negsuc, ◌+ℤ◌, ◌*ℤ◌, ◌≤ℤ◌, neg_ℤ, unsigned_abs, Option, Some, None, arith, ap, sym, subst, ◌∙◌, refl}
+use Rattle.std.proofs.Common.{ℕ, zero, suc, ◌+◌, ◌%◌, ◌<◌, ◌≡◌, ◌==◌, ◌&&◌, Bool, true, false, not, cond, List, [], ◌∷◌, ◌++◌, map, length, ℤ, pos, negsuc, ◌+ℤ◌, ◌*ℤ◌, ◌≤ℤ◌, neg_ℤ, unsigned_abs, Option, Some, None, arith, ap, sym, subst, ◌∙◌, refl}
 use Rattle.std.specs.List.{AllByRecursion, filter, flat_map, fold, find, list_all, list_any, remove, insert, position_or_len}
 use Rattle.std.specs.Int.{int_div_euclid, ◌∣◌}
 use Rattle.std.specs.Ordering.{int_eq}
@@ -9,10 +9,9 @@ use Rattle.std.proofs.lemmas.List.Edits.{length-insert}
 use Rattle.std.proofs.lemmas.Nat.Gcd.{dvd_of_mod-eq-zero}
 use Rattle.std.proofs.Math.Nat.{mod-zero}
 use Rattle.std.proofs.Math.IntN.{*ℤ-zero}
-use Rattle.affine_prover.specs.declared.answer.Verdict.{Verdict}
-use Rattle.affine_prover.specs.declared.answer.Verdict.TheVariants.{Shown, Open, TooMany, TooWide}
+use Rattle.affine_prover.specs.declared.answer.Verdict.TheVariants.{Open, TooWide}
 use Rattle.affine_forms.specs.Affine.{Affine, Constraints, dot, value_over, HasRationalPoint}
-use Rattle.affine_prover.specs.Elimination.{gcd, gcd_of, coefficient, combined, without, tightened, is_constant, is_impossible, is_unit, has_unit, unit_place, solving_factor, substituted, is_narrow_substituted, negated, put_in, round_of, round_on, reduced, round, verdict_on, verdict_on_rows, elimination, Round}
+use Rattle.affine_prover.specs.Elimination.{gcd, gcd_of, coefficient, without, tightened, is_constant, is_impossible, is_unit, has_unit, unit_place, solving_factor, substituted, is_narrow_substituted, negated, put_in, round_of, round_on, reduced, round, verdict_on, verdict_on_rows, elimination, Round}
 use Rattle.affine_prover.specs.Elimination.Round.{Finished, Solved, Unsolved}
 use Rattle.affine_prover.proofs.Integers.{times-add, neg-times, times_assoc}
 use Rattle.affine_prover.proofs.Divisors.{gcd_of-divides, quotient-exact}
@@ -77,12 +76,15 @@ equation-loosens d ps e i h = by (gcd_of e.coefficients) (gcd_of-divides e.coeff
   where
     divided : ℕ → Affine
     divided g = record { constant = int_div_euclid e.constant (pos g); coefficients = map (λ c. int_div_euclid c (pos g)) e.coefficients }
+
     undivided : (g : ℕ) → g ≡ 0 → unsigned_abs e.constant % g ≡ 0 → (c : Bool) → is_constant e ≡ c → (not c ≡ true → MeetsOver d ps e) → MeetsOver d ps e
     undivided g z m true u k = constant-meets d ps e u (sym (mod-zero (unsigned_abs e.constant)) ∙ ap (λ g. unsigned_abs e.constant % g) (sym z) ∙ m)
     undivided g z m false u k = k refl
+
     whole : (g : ℕ) → 0 < g → AllByRecursion (λ c. g ∣ unsigned_abs c) e.coefficients → (AllByRecursion (λ c. c ≡ pos 0) e.coefficients → g ≡ 0) → unsigned_abs e.constant % g ≡ 0 → (c : Bool) → is_constant (divided g) ≡ c → (not c ≡ true → MeetsOver d ps (divided g)) → MeetsOver d ps e
     whole g l v z m true u k = let none = z (divided_zeros g e.coefficients l v u) in absurd (omega arith)
     whole g l v z m false u k = divided-meets d ps g e l v m (k refl)
+
     by : (g : ℕ) → AllByRecursion (λ c. g ∣ unsigned_abs c) e.coefficients → (AllByRecursion (λ c. c ≡ pos 0) e.coefficients → g ≡ 0) → not (unsigned_abs e.constant % g == 0) ≡ false → (b : Bool) → (g == 0) ≡ b → (not (is_constant (cond b e (divided g))) ≡ true → MeetsOver d ps (cond b e (divided g))) → MeetsOver d ps e
     by g v z m true t k = undivided g (grind (arith, nat_tests)) (grind (arith, nat_tests)) (is_constant e) refl k
     by g v z m false t k = whole g (grind (arith, nat_tests)) v z (grind (arith, nat_tests)) (is_constant (divided g)) refl k
@@ -97,7 +99,7 @@ reduced-loosens d ps es kept e h = by (list_any is_impossible es) refl e
         let same : kept ≡ filter (λ e. not (is_constant e)) (map tightened es) = cc in
         let some = parts-map (λ e. not (is_constant e) ≡ true → MeetsOver d ps e) tightened es (parts-filter (MeetsOver d ps) (λ e. not (is_constant e)) (map tightened es) (subst (AllByRecursion (MeetsOver d ps)) same h)) in
         everywhere-like (λ e. (is_impossible e ≡ false) × (not (is_constant (tightened e)) ≡ true → MeetsOver d ps (tightened e))) (MeetsOver d ps) (λ e k. equation-loosens d ps e k.0 k.1) es
-          (everywhere-both (λ e. is_impossible e ≡ false) (λ e. not (is_constant (tightened e)) ≡ true → MeetsOver d ps (tightened e)) es (none-pass is_impossible es t) some)
+        (everywhere-both (λ e. is_impossible e ≡ false) (λ e. not (is_constant (tightened e)) ≡ true → MeetsOver d ps (tightened e)) es (none-pass is_impossible es t) some)
 
 -- ---- two rows for each equation
 two_rows-meet : (d : ℕ) (ps : List ℤ) (e : Affine) → AllByRecursion (HoldsOver d ps) (e ∷ negated e ∷ []) → MeetsOver d ps e
@@ -108,9 +110,12 @@ unsolved-returns n es rows p =
     let P : Affine → Type 0 = HoldsOver p.denominator p.numerators in
     let parts = parts-append P rows (flat_map (λ e. e ∷ negated e ∷ []) es) p.rows_hold in
     record {
-      denominator = p.denominator; numerators = p.numerators; positive = p.positive; one_each = p.one_each;
+      denominator = p.denominator;
+      numerators = p.numerators;
+      positive = p.positive;
+      one_each = p.one_each;
       equations_hold = everywhere-like (λ e. AllByRecursion P (e ∷ negated e ∷ [])) (MeetsOver p.denominator p.numerators) (two_rows-meet p.denominator p.numerators) es (parts-flat_map P (λ e. e ∷ negated e ∷ []) es parts.1);
-      rows_hold = parts.0
+      rows_hold = parts.0;
     }
 
 -- ---- an equation solved: its variable is computed from the others
@@ -178,10 +183,10 @@ put_in-returns n es rows e f w u p =
       positive = p.positive;
       one_each = length-insert qs v (solution d e qs) (omega (arith, p.one_each)) ∙ omega (arith, p.one_each);
       equations_hold = found-returns (MeetsOver d point) has_unit es e f (equation-solved n d qs e p.one_each is.0 is.1)
-        (everywhere-like (λ r. IsWide (suc n) r × MeetsOver d qs (substituted v e r)) (MeetsOver d point) (λ r k. over-substituted n v d qs e r below p.one_each is.0 k.0 ∙ k.1) others
+          (everywhere-like (λ r. IsWide (suc n) r × MeetsOver d qs (substituted v e r)) (MeetsOver d point) (λ r k. over-substituted n v d qs e r below p.one_each is.0 k.0 ∙ k.1) others
           (everywhere-both (IsWide (suc n)) (λ r. MeetsOver d qs (substituted v e r)) others (everywhere-remove (IsWide (suc n)) es (position_or_len has_unit es) w) (parts-map (MeetsOver d qs) (substituted v e) others p.equations_hold)));
       rows_hold = everywhere-like (λ r. IsWide (suc n) r × HoldsOver d qs (substituted v e r)) (HoldsOver d point) (λ r k. subst (λ z. pos 0 ≤ℤ z) (sym (over-substituted n v d qs e r below p.one_each is.0 k.0)) k.1) rows
-        (everywhere-both (IsWide (suc n)) (λ r. HoldsOver d qs (substituted v e r)) rows u (parts-map (HoldsOver d qs) (substituted v e) rows p.rows_hold))
+          (everywhere-both (IsWide (suc n)) (λ r. HoldsOver d qs (substituted v e r)) rows u (parts-map (HoldsOver d qs) (substituted v e) rows p.rows_hold));
     }
 
 -- ---- rounds
@@ -221,21 +226,24 @@ reduced-wide m es kept w e = by (list_any is_impossible es) e
     by false k =
         let same : kept ≡ filter (λ e. not (is_constant e)) (map tightened es) = cc in
         subst (AllByRecursion (IsWide m)) (sym same)
-          (everywhere-like (λ e. IsWide m e × (not (is_constant e) ≡ true)) (IsWide m) (λ e p. p.0) (filter (λ e. not (is_constant e)) (map tightened es))
-            (everywhere-filter (IsWide m) (λ e. not (is_constant e)) (map tightened es) (everywhere-map (IsWide m) (IsWide m) tightened (tightened-wide m) es w)))
+        (everywhere-like (λ e. IsWide m e × (not (is_constant e) ≡ true)) (IsWide m) (λ e p. p.0) (filter (λ e. not (is_constant e)) (map tightened es))
+        (everywhere-filter (IsWide m) (λ e. not (is_constant e)) (map tightened es) (everywhere-map (IsWide m) (IsWide m) tightened (tightened-wide m) es w)))
 
 reduced-returns : (n : ℕ) (es kept rows : List Affine) → reduced es ≡ Some kept → HasPoint n kept rows → HasPoint n es rows
 reduced-returns n es kept rows e p = record {
-  denominator = p.denominator; numerators = p.numerators; positive = p.positive; one_each = p.one_each;
+  denominator = p.denominator;
+  numerators = p.numerators;
+  positive = p.positive;
+  one_each = p.one_each;
   equations_hold = reduced-loosens p.denominator p.numerators es kept e p.equations_hold;
-  rows_hold = p.rows_hold
+  rows_hold = p.rows_hold;
 }
 
 round_on-gives : (m : ℕ) (es rows : List Affine) (o : Option (List Affine)) → reduced es ≡ o → AllByRecursion (IsWide m) es → AllByRecursion (IsWide m) rows → RoundGives m (HasPoint m es rows) (round_on rows o)
 round_on-gives m es rows None e w u = tt
 round_on-gives m es rows (Some kept) e w u =
     round-carries m (HasPoint m kept rows) (HasPoint m es rows) (reduced-returns m es kept rows e) (round_of kept rows (find has_unit kept))
-      (round_of-gives m kept rows (find has_unit kept) refl (reduced-wide m es kept w e) u)
+    (round_of-gives m kept rows (find has_unit kept) refl (reduced-wide m es kept w e) u)
 
 round-gives : (m : ℕ) (es rows : List Affine) → AllByRecursion (IsWide m) es → AllByRecursion (IsWide m) rows → RoundGives m (HasPoint m es rows) (round es rows)
 unfolding round

@@ -1,5 +1,5 @@
 -- Where the elimination answers Open for rows, rational numbers meet them.
-use Rattle.std.proofs.Common.{ℕ, zero, suc, ◌+◌, ◌<◌, ◌≡◌, Bool, true, false, not, cond, List, [], ◌∷◌, map, length, ltb, ℤ, pos, Option, Some, None, arith, ap, sym, subst, ◌∙◌, refl}
+use Rattle.std.proofs.Common.{ℕ, zero, suc, ◌+◌, ◌<◌, ◌≡◌, Bool, true, false, not, cond, List, [], ◌∷◌, map, length, ltb, ℤ, pos, Option, Some, None, arith, ap, ◌∙◌, refl}
 use Rattle.std.specs.Prelude.{is_some, replicate}
 use Rattle.std.specs.List.{AllByRecursion, filter, list_all, list_any, count_by}
 use Rattle.std.specs.Ordering.{int_eq}
@@ -7,12 +7,12 @@ use Rattle.std.proofs.lemmas.List.{length-replicate}
 use Rattle.affine_prover.specs.declared.answer.Verdict.{Verdict}
 use Rattle.affine_prover.specs.declared.answer.Verdict.TheVariants.{Shown, Open, TooMany, TooWide}
 use Rattle.affine_forms.specs.Affine.{Affine}
-use Rattle.affine_prover.specs.Elimination.{is_constant, is_false, is_free, tightened, merged, normalized, pairs, least_at, following, is_narrow_following, variable_eliminated, stage, stage_of, verdict_on_rows, Stage}
+use Rattle.affine_prover.specs.Elimination.{is_constant, is_false, is_free, tightened, merged, normalized, pairs, least_at, following, is_narrow_following, variable_eliminated, stage, stage_of, verdict_on_rows}
 use Rattle.affine_prover.specs.Elimination.Stage.{Ended, Rows}
 use Rattle.affine_prover.proofs.Everywhere.{everywhere-map}
 use Rattle.affine_prover.proofs.Widths.{IsWide, AreWide, least_at-below, tightened-wide, normalized-wide}
 use Rattle.affine_prover.proofs.Staging.{following-wide}
-use Rattle.affine_prover.proofs.Loosening.{HoldsOver, normalized-loosens}
+use Rattle.affine_prover.proofs.Loosening.{normalized-loosens}
 use Rattle.affine_prover.proofs.Returning.{HasRowPoint, following-returns}
 
 -- what a verdict promises: X where it is Open
@@ -54,7 +54,7 @@ any_point n rows e = record {
   numerators = replicate n (pos 0);
   positive = omega arith;
   one_each = length-replicate n (pos 0);
-  rows_hold = normalized-loosens 1 (replicate n (pos 0)) rows [] e tt
+  rows_hold = normalized-loosens 1 (replicate n (pos 0)) rows [] e tt;
 }
 
 last-open : (rows : List Affine) → AllByRecursion (IsWide 0) rows → (o : Option (List Affine)) → normalized rows ≡ o → HasIfOpen (HasRowPoint 0 rows) (cond (is_some o) Open Shown)
@@ -78,7 +78,7 @@ stage-open n rows w None e u rest = tt
 stage-open n rows w (Some []) e u rest = any_point (suc n) rows e
 stage-open n rows w (Some (r ∷ rs)) e u rest =
     open-carries (HasRowPoint (suc n) (r ∷ rs)) (HasRowPoint (suc n) rows) (normalized-returns (suc n) rows (r ∷ rs) e) (elim (variable_eliminated (least_at (pairs (r ∷ rs)) (suc n)) (r ∷ rs)) [ Ended v ↦ v | Rows next ↦ verdict_on_rows n next ])
-      (eliminated-open n (least_at (pairs (r ∷ rs)) (suc n)) (r ∷ rs) (least_at-below (pairs (r ∷ rs)) n) u rest)
+    (eliminated-open n (least_at (pairs (r ∷ rs)) (suc n)) (r ∷ rs) (least_at-below (pairs (r ∷ rs)) n) u rest)
 
 pub verdict_on_rows-has_point : (n : ℕ) (rows : List Affine) → AllByRecursion (IsWide n) rows → HasIfOpen (HasRowPoint n rows) (verdict_on_rows n rows)
 unfolding verdict_on_rows stage

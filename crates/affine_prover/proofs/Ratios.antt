@@ -25,19 +25,23 @@ least_ratio t size rest P some (r ∷ rs) h = by (t r) refl (least_ratio t size 
       row = r;
       meets = h.0;
       passes = e;
-      least = ((λ m. same_at_most (pos (size r) *ℤ rest r)), everywhere-like (λ x. t x ≡ false) (λ x. t x ≡ true → (pos (size x) *ℤ rest r) ≤ℤ (pos (size r) *ℤ rest x)) (λ x n m. absurd cc) rs none)
+      least = ((λ m. same_at_most (pos (size r) *ℤ rest r)), everywhere-like (λ x. t x ≡ false) (λ x. t x ≡ true → (pos (size x) *ℤ rest r) ≤ℤ (pos (size r) *ℤ rest x)) (λ x n m. absurd cc) rs none);
     }
+
     stays : (c : Chosen t size rest P rs) → (pos (size r) *ℤ rest c.row) ≤ℤ (pos (size c.row) *ℤ rest r) → Chosen t size rest P (r ∷ rs)
     stays c below = record { row = c.row; meets = c.meets; passes = c.passes; least = ((λ m. below), c.least) }
+
     changes : t r ≡ true → (c : Chosen t size rest P rs) → (pos (size c.row) *ℤ rest r) ≤ℤ (pos (size r) *ℤ rest c.row) → Chosen t size rest P (r ∷ rs)
     changes e c below = record {
       row = r;
       meets = h.0;
       passes = e;
-      least = ((λ m. same_at_most (pos (size r) *ℤ rest r)), everywhere-like (λ x. t x ≡ true → (pos (size x) *ℤ rest c.row) ≤ℤ (pos (size c.row) *ℤ rest x)) (λ x. t x ≡ true → (pos (size x) *ℤ rest r) ≤ℤ (pos (size r) *ℤ rest x)) (λ x k m. ratio_trans (rest c.row) (rest x) (rest r) (size c.row) (size x) (size r) (some c.row c.passes) (k m) below) rs c.least)
+      least = ((λ m. same_at_most (pos (size r) *ℤ rest r)), everywhere-like (λ x. t x ≡ true → (pos (size x) *ℤ rest c.row) ≤ℤ (pos (size c.row) *ℤ rest x)) (λ x. t x ≡ true → (pos (size x) *ℤ rest r) ≤ℤ (pos (size r) *ℤ rest x)) (λ x k m. ratio_trans (rest c.row) (rest x) (rest r) (size c.row) (size x) (size r) (some c.row c.passes) (k m) below) rs c.least);
     }
+
     among : t r ≡ true → Chosen t size rest P rs → Chosen t size rest P (r ∷ rs)
     among e c = by_lt_z (pos (size c.row) *ℤ rest r) (pos (size r) *ℤ rest c.row) (λ less. changes e c (omega (arith, ints, less))) (λ more. stays c more)
+
     by : (b : Bool) → t r ≡ b → AllByRecursion (λ x. t x ≡ false) rs ⊎ Chosen t size rest P rs → AllByRecursion (λ x. t x ≡ false) (r ∷ rs) ⊎ Chosen t size rest P (r ∷ rs)
     by true e (inl none) = inr (alone e none)
     by true e (inr c) = inr (among e c)

@@ -1,15 +1,15 @@
 -- Rational numbers that meet the rows that follow when a variable goes, and a number for that variable, meet the rows.
-use Rattle.std.proofs.Common.{ℕ, zero, suc, ◌+◌, ◌*◌, ◌/◌, ◌%◌, ◌<◌, ◌≤◌, ◌≡◌, ◌⊎◌, inl, inr, Bool, true, false, List, [], ◌∷◌, ◌++◌, map, length, ℤ, pos, negsuc, ◌+ℤ◌, ◌*ℤ◌, ◌≤ℤ◌, neg_ℤ, unsigned_abs, arith, ap, sym, subst, ◌∙◌, refl}
+use Rattle.std.proofs.Common.{ℕ, zero, suc, ◌*◌, ◌/◌, ◌<◌, ◌≡◌, ◌⊎◌, inl, inr, true, false, List, [], ◌∷◌, map, length, ℤ, pos, negsuc, ◌+ℤ◌, ◌*ℤ◌, ◌≤ℤ◌, neg_ℤ, unsigned_abs, arith, ap, sym, subst, ◌∙◌, refl}
 use Rattle.std.specs.List.{AllByRecursion, filter, flat_map, insert}
-use Rattle.std.specs.Int.{is_positive, is_negative, ◌∣◌}
+use Rattle.std.specs.Int.{is_positive, is_negative}
 use Rattle.std.specs.Ordering.{int_eq}
 use Rattle.std.proofs.lemmas.Int.{ints}
 use Rattle.std.proofs.lemmas.List.{length-map}
 use Rattle.std.proofs.lemmas.List.Edits.{length-insert}
 use Rattle.std.proofs.lemmas.Nat.Gcd.{mod-eq-zero_of_dvd}
-use Rattle.std.proofs.Math.IntN.{*ℤ-zero, zero-*ℤ, *ℤ_comm, pos-*ℤ-pos}
-use Rattle.affine_forms.specs.Affine.{Affine, dot, value_over}
-use Rattle.affine_prover.specs.Elimination.{gcd, coefficient, combined, without, combination, lower_factor, upper_factor, is_lower_bound, is_upper_bound, is_free, following}
+use Rattle.std.proofs.Math.IntN.{zero-*ℤ, *ℤ_comm, pos-*ℤ-pos}
+use Rattle.affine_forms.specs.Affine.{Affine, value_over}
+use Rattle.affine_prover.specs.Elimination.{gcd, coefficient, without, combination, lower_factor, upper_factor, is_lower_bound, is_upper_bound, is_free, following}
 use Rattle.affine_prover.proofs.Integers.{times-add, times_assoc, times_natural, neg-times}
 use Rattle.affine_prover.proofs.Divisors.{gcd-is}
 use Rattle.affine_prover.proofs.Everywhere.{everywhere-both, everywhere-like}
@@ -99,7 +99,7 @@ point_of n v d m x qs rows l h k e w s =
       numerators = insert more v x;
       positive = product_positive m d k h;
       one_each = length-insert more v x (omega arith) ∙ omega arith;
-      rows_hold = everywhere-like (λ r. IsWide (suc n) r × (pos 0 ≤ℤ (coefficient r v *ℤ x +ℤ pos m *ℤ value_over (pos d) (without v r) qs))) (HoldsOver (m * d) (insert more v x)) (λ r b. row-returns n v d m x qs r l e b.0 b.1) rows (everywhere-both (IsWide (suc n)) (λ r. pos 0 ≤ℤ (coefficient r v *ℤ x +ℤ pos m *ℤ value_over (pos d) (without v r) qs)) rows w s)
+      rows_hold = everywhere-like (λ r. IsWide (suc n) r × (pos 0 ≤ℤ (coefficient r v *ℤ x +ℤ pos m *ℤ value_over (pos d) (without v r) qs))) (HoldsOver (m * d) (insert more v x)) (λ r b. row-returns n v d m x qs r l e b.0 b.1) rows (everywhere-both (IsWide (suc n)) (λ r. pos 0 ≤ℤ (coefficient r v *ℤ x +ℤ pos m *ℤ value_over (pos d) (without v r) qs)) rows w s);
     }
   where
     product_positive : (m d : ℕ) → 0 < m → 0 < d → 0 < m * d
@@ -114,34 +114,34 @@ lower_point n v d qs rows l h e b c =
     let size : Affine → ℕ = λ r. unsigned_abs (coefficient r v) in
     let uppers = everywhere-both (IsBound n v d qs rows) (λ q. is_upper_bound v q ≡ true → HoldsOver d qs (combination v c.row q)) rows b (c.meets.lower c.passes) in
     point_of n v d (size c.row) (neg_ℤ (rest c.row)) qs rows l h (positive-size (coefficient c.row v) c.passes) e
-      (everywhere-like (IsBound n v d qs rows) (IsWide (suc n)) (λ r k. k.wide) rows b)
-      (everywhere-like (λ r. (IsBound n v d qs rows r × (is_upper_bound v r ≡ true → HoldsOver d qs (combination v c.row r))) × (is_lower_bound v r ≡ true → (pos (size r) *ℤ rest c.row) ≤ℤ (pos (size c.row) *ℤ rest r))) (λ r. pos 0 ≤ℤ (coefficient r v *ℤ neg_ℤ (rest c.row) +ℤ pos (size c.row) *ℤ rest r))
-        (λ r k. at_lower (coefficient r v) (rest c.row) (rest r) (size c.row) k.0.0.free k.1 (λ t. combination-bounds n v d qs c.row r l c.meets.wide k.0.0.wide (k.0.1 t)))
-        rows (everywhere-both (λ r. IsBound n v d qs rows r × (is_upper_bound v r ≡ true → HoldsOver d qs (combination v c.row r))) (λ r. is_lower_bound v r ≡ true → (pos (size r) *ℤ rest c.row) ≤ℤ (pos (size c.row) *ℤ rest r)) rows uppers c.least))
+    (everywhere-like (IsBound n v d qs rows) (IsWide (suc n)) (λ r k. k.wide) rows b)
+    (everywhere-like (λ r. (IsBound n v d qs rows r × (is_upper_bound v r ≡ true → HoldsOver d qs (combination v c.row r))) × (is_lower_bound v r ≡ true → (pos (size r) *ℤ rest c.row) ≤ℤ (pos (size c.row) *ℤ rest r))) (λ r. pos 0 ≤ℤ (coefficient r v *ℤ neg_ℤ (rest c.row) +ℤ pos (size c.row) *ℤ rest r))
+    (λ r k. at_lower (coefficient r v) (rest c.row) (rest r) (size c.row) k.0.0.free k.1 (λ t. combination-bounds n v d qs c.row r l c.meets.wide k.0.0.wide (k.0.1 t)))
+    rows (everywhere-both (λ r. IsBound n v d qs rows r × (is_upper_bound v r ≡ true → HoldsOver d qs (combination v c.row r))) (λ r. is_lower_bound v r ≡ true → (pos (size r) *ℤ rest c.row) ≤ℤ (pos (size c.row) *ℤ rest r)) rows uppers c.least))
 
 upper_point : (n v d : ℕ) (qs : List ℤ) (rows : List Affine) → v < suc n → 0 < d → length qs ≡ n → AllByRecursion (IsBound n v d qs rows) rows → AllByRecursion (λ r. is_lower_bound v r ≡ false) rows → Chosen (is_upper_bound v) (λ r. unsigned_abs (coefficient r v)) (λ r. value_over (pos d) (without v r) qs) (IsBound n v d qs rows) rows → HasRowPoint (suc n) rows
 upper_point n v d qs rows l h e b none c =
     let rest : Affine → ℤ = λ r. value_over (pos d) (without v r) qs in
     let size : Affine → ℕ = λ r. unsigned_abs (coefficient r v) in
     point_of n v d (size c.row) (rest c.row) qs rows l h (negative-size (coefficient c.row v) c.passes) e
-      (everywhere-like (IsBound n v d qs rows) (IsWide (suc n)) (λ r k. k.wide) rows b)
-      (everywhere-like (λ r. (IsBound n v d qs rows r × (is_lower_bound v r ≡ false)) × (is_upper_bound v r ≡ true → (pos (size r) *ℤ rest c.row) ≤ℤ (pos (size c.row) *ℤ rest r))) (λ r. pos 0 ≤ℤ (coefficient r v *ℤ rest c.row +ℤ pos (size c.row) *ℤ rest r))
-        (λ r k. at_upper (coefficient r v) (rest c.row) (rest r) (size c.row) k.0.0.free k.0.1 k.1)
-        rows (everywhere-both (λ r. IsBound n v d qs rows r × (is_lower_bound v r ≡ false)) (λ r. is_upper_bound v r ≡ true → (pos (size r) *ℤ rest c.row) ≤ℤ (pos (size c.row) *ℤ rest r)) rows (everywhere-both (IsBound n v d qs rows) (λ r. is_lower_bound v r ≡ false) rows b none) c.least))
+    (everywhere-like (IsBound n v d qs rows) (IsWide (suc n)) (λ r k. k.wide) rows b)
+    (everywhere-like (λ r. (IsBound n v d qs rows r × (is_lower_bound v r ≡ false)) × (is_upper_bound v r ≡ true → (pos (size r) *ℤ rest c.row) ≤ℤ (pos (size c.row) *ℤ rest r))) (λ r. pos 0 ≤ℤ (coefficient r v *ℤ rest c.row +ℤ pos (size c.row) *ℤ rest r))
+    (λ r k. at_upper (coefficient r v) (rest c.row) (rest r) (size c.row) k.0.0.free k.0.1 k.1)
+    rows (everywhere-both (λ r. IsBound n v d qs rows r × (is_lower_bound v r ≡ false)) (λ r. is_upper_bound v r ≡ true → (pos (size r) *ℤ rest c.row) ≤ℤ (pos (size c.row) *ℤ rest r)) rows (everywhere-both (IsBound n v d qs rows) (λ r. is_lower_bound v r ≡ false) rows b none) c.least))
 
 free_point : (n v d : ℕ) (qs : List ℤ) (rows : List Affine) → v < suc n → 0 < d → length qs ≡ n → AllByRecursion (IsBound n v d qs rows) rows → AllByRecursion (λ r. is_lower_bound v r ≡ false) rows → AllByRecursion (λ r. is_upper_bound v r ≡ false) rows → HasRowPoint (suc n) rows
 free_point n v d qs rows l h e b none nor =
     point_of n v d 1 (pos 0) qs rows l h (omega arith) e
-      (everywhere-like (IsBound n v d qs rows) (IsWide (suc n)) (λ r k. k.wide) rows b)
-      (everywhere-like (λ r. (IsBound n v d qs rows r × (is_lower_bound v r ≡ false)) × (is_upper_bound v r ≡ false)) (λ r. pos 0 ≤ℤ (coefficient r v *ℤ pos 0 +ℤ pos 1 *ℤ value_over (pos d) (without v r) qs))
-        (λ r k. at_neither (coefficient r v) (value_over (pos d) (without v r) qs) k.0.0.free k.0.1 k.1)
-        rows (everywhere-both (λ r. IsBound n v d qs rows r × (is_lower_bound v r ≡ false)) (λ r. is_upper_bound v r ≡ false) rows (everywhere-both (IsBound n v d qs rows) (λ r. is_lower_bound v r ≡ false) rows b none) nor))
+    (everywhere-like (IsBound n v d qs rows) (IsWide (suc n)) (λ r k. k.wide) rows b)
+    (everywhere-like (λ r. (IsBound n v d qs rows r × (is_lower_bound v r ≡ false)) × (is_upper_bound v r ≡ false)) (λ r. pos 0 ≤ℤ (coefficient r v *ℤ pos 0 +ℤ pos 1 *ℤ value_over (pos d) (without v r) qs))
+    (λ r k. at_neither (coefficient r v) (value_over (pos d) (without v r) qs) k.0.0.free k.0.1 k.1)
+    rows (everywhere-both (λ r. IsBound n v d qs rows r × (is_lower_bound v r ≡ false)) (λ r. is_upper_bound v r ≡ false) rows (everywhere-both (IsBound n v d qs rows) (λ r. is_lower_bound v r ≡ false) rows b none) nor))
 
 -- the variable's number is the greatest lower bound, or the least upper bound where there is no lower one
 bounded_point : (n v d : ℕ) (qs : List ℤ) (rows : List Affine) → v < suc n → 0 < d → length qs ≡ n → AllByRecursion (IsBound n v d qs rows) rows → HasRowPoint (suc n) rows
 bounded_point n v d qs rows l h e b =
     by (least_ratio (is_lower_bound v) (λ r. unsigned_abs (coefficient r v)) (λ r. value_over (pos d) (without v r) qs) (IsBound n v d qs rows) (λ r t. positive-size (coefficient r v) t) rows b)
-       (least_ratio (is_upper_bound v) (λ r. unsigned_abs (coefficient r v)) (λ r. value_over (pos d) (without v r) qs) (IsBound n v d qs rows) (λ r t. negative-size (coefficient r v) t) rows b)
+    (least_ratio (is_upper_bound v) (λ r. unsigned_abs (coefficient r v)) (λ r. value_over (pos d) (without v r) qs) (IsBound n v d qs rows) (λ r t. negative-size (coefficient r v) t) rows b)
   where
     by : AllByRecursion (λ r. is_lower_bound v r ≡ false) rows ⊎ Chosen (is_lower_bound v) (λ r. unsigned_abs (coefficient r v)) (λ r. value_over (pos d) (without v r) qs) (IsBound n v d qs rows) rows → AllByRecursion (λ r. is_upper_bound v r ≡ false) rows ⊎ Chosen (is_upper_bound v) (λ r. unsigned_abs (coefficient r v)) (λ r. value_over (pos d) (without v r) qs) (IsBound n v d qs rows) rows → HasRowPoint (suc n) rows
     by (inr c) uppers = lower_point n v d qs rows l h e b c

@@ -1,4 +1,4 @@
--- Law: where the elimination answers Shown, no integer point exists.
+-- Rows that hold at an integer point hold there once they are tightened and merged.
 use Rattle.std.proofs.Common.{◌≡◌, Bool, true, false, not, ◌||◌, cond, List, [], ◌∷◌, map, ℤ, pos, ◌+ℤ◌, ◌*ℤ◌, ◌≤ℤ◌, Option, Some, None, arith, ap, refl}
 use Rattle.std.specs.List.{AllByRecursion, filter, fold, list_any, list_all}
 use Rattle.std.specs.Int.{int_min, is_negative}
@@ -69,8 +69,8 @@ merged_onto-holds : (kept rows : List Affine) (point : List ℤ) → AllByRecurs
 merged_onto-holds kept [] point h i = h
 merged_onto-holds kept (r ∷ rs) point h i = merged_onto-holds (joined kept r) rs point (joined-holds kept r point h i.0) i.1
 
--- ---- rows that are settled
--- what an answer of the settling promises at a point at which the rows hold
+-- ---- rows that are normalized
+-- what normalized rows promise at a point at which the rows hold
 abbrev pub Keeps : List ℤ → Option (List Affine) → Type 0
 Keeps point None = ⊥
 Keeps point (Some rows) = AllByRecursion (Holds point) rows

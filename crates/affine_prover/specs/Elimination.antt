@@ -1,5 +1,8 @@
--- The elimination on lists of affine sums: solve the equations, tighten and merge the rows, take one variable away, and so on.
-use Rattle.std.specs.Prelude.{ℕ, zero, suc, ◌+◌, ◌*◌, ◌/◌, ◌%◌, ◌^◌, Bool, true, false, not, ◌&&◌, nat_lt, nat_le, ◌==◌, if◌then◌else◌, List, [], ◌∷◌, ◌++◌, map, slice_index_or, Option, Some, None, is_some, ℤ, pos, ◌+ℤ◌, ◌*ℤ◌, neg_ℤ, unsigned_abs}
+-- Fourier-Motzkin elimination over the integers, on lists of affine sums: equations are solved and put in, rows are tightened
+-- and merged, and one variable after the other is eliminated. J. Fourier (1826) and T. Motzkin (1936), as in A. Schrijver,
+-- Theory of Linear and Integer Programming (1986), section 12.2; the rules for equations and for rounding constants down are
+-- those of W. Pugh, The Omega test (1991). Rows stay in the order in which they stand or are made.
+use Rattle.std.specs.Prelude.{ℕ, zero, suc, ◌+◌, ◌*◌, ◌/◌, ◌%◌, Bool, true, false, not, ◌&&◌, nat_lt, ◌==◌, if◌then◌else◌, List, [], ◌∷◌, ◌++◌, map, slice_index_or, Option, Some, None, is_some, ℤ, pos, ◌+ℤ◌, ◌*ℤ◌, neg_ℤ, unsigned_abs}
 use Rattle.std.specs.Int.{int_div_euclid, is_positive, is_negative, int_min}
 use Rattle.std.specs.Ordering.{int_eq}
 use Rattle.std.specs.List.{filter, list_any, list_all, count_by, flat_map, find, fold, remove, position_or_len}
@@ -10,16 +13,17 @@ use Rattle.affine_prover.specs.declared.answer.Verdict.TheVariants.{Shown, Open,
 
 -- ---- numbers
 
--- Euclid's algorithm, in at most the given number of steps
+-- Euclid's algorithm (Elements, VII.2), in at most the given number of steps
 abbrev pub gcd_within : ℕ → ℕ → ℕ → ℕ
 gcd_within zero a b = a
 gcd_within (suc k) a zero = a
 gcd_within (suc k) a (suc b) = gcd_within k (suc b) (a % suc b)
 
--- the greatest common divisor: the second number falls with each step
+-- the greatest common divisor: the second number falls with each step, so it bounds their number
 unfoldable pub gcd : ℕ → ℕ → ℕ
 gcd a b = gcd_within b a b
 
+-- the gcd of the sizes of all numbers of a list: 0 where all of them are 0
 abbrev pub gcd_of : List ℤ → ℕ
 gcd_of cs = fold (λ g c. gcd (unsigned_abs c) g) 0 cs
 
@@ -36,7 +40,7 @@ is_constant a = list_all (λ c. int_eq c (pos 0)) a.coefficients
 abbrev pub weighed : ℤ → ℤ → ℤ → ℤ → ℤ
 weighed f x g y = f *ℤ x +ℤ g *ℤ y
 
--- both products and their sum may be written down
+-- both products and their sum are at most 2^100 in size
 abbrev pub is_narrow_weighed : ℤ → ℤ → ℤ → ℤ → Bool
 is_narrow_weighed f x g y = is_narrow (f *ℤ x) && (is_narrow (g *ℤ y) && is_narrow (weighed f x g y))
 
@@ -50,7 +54,7 @@ are_narrow_weighed f [] g ys = true
 are_narrow_weighed f (x ∷ xs) g [] = true
 are_narrow_weighed f (x ∷ xs) g (y ∷ ys) = is_narrow_weighed f x g y && are_narrow_weighed f xs g ys
 
--- f times one sum plus g times another, and whether each product and sum on the way may be written down
+-- f times one sum plus g times another, and whether each product and sum on the way is at most 2^100 in size
 abbrev pub combined : ℤ → Affine → ℤ → Affine → Affine
 combined f a g b = record { constant = weighed f a.constant g b.constant; coefficients = weighed_lists f a.coefficients g b.coefficients }
 
@@ -63,7 +67,7 @@ without v a = record a { coefficients = remove a.coefficients v }
 
 -- ---- rows: tighten and merge
 
--- the row divided by the gcd of its coefficients, its constant rounded down
+-- the row divided by the gcd of its coefficients, its constant rounded down, which keeps each integer point
 abbrev pub tightened : Affine → Affine
 tightened a =
     let g = gcd_of a.coefficients in
@@ -80,13 +84,15 @@ abbrev pub joined : List Affine → Affine → List Affine
 joined [] r = r ∷ []
 joined (k ∷ ks) r = if same_list k.coefficients r.coefficients then (record k { constant = int_min k.constant r.constant }) ∷ ks else k ∷ joined ks r
 
+-- of rows with equal coefficients one stays, at the first place, with the least constant
 abbrev pub merged : List Affine → List Affine
 merged rows = fold joined [] rows
 
+-- no variable stands in the row, and its constant is negative
 abbrev pub is_false : Affine → Bool
 is_false r = is_constant r && is_negative r.constant
 
--- the rows tightened and merged, or None where one of them cannot hold
+-- the rows tightened and merged, without those that hold everywhere, or None where one of them cannot hold
 unfoldable pub normalized : List Affine → Option (List Affine)
 normalized rows =
     let tight = map tightened rows in
@@ -94,6 +100,7 @@ normalized rows =
 
 -- ---- rows: take one variable away
 
+-- the row bounds the variable from below, from above, or not at all
 abbrev pub is_lower_bound : ℕ → Affine → Bool
 is_lower_bound v r = is_positive (coefficient r v)
 
@@ -103,7 +110,7 @@ is_upper_bound v r = is_negative (coefficient r v)
 abbrev pub is_free : ℕ → Affine → Bool
 is_free v r = int_eq (coefficient r v) (pos 0)
 
--- how many combinations the variable's going makes
+-- how many combinations eliminating the variable makes
 abbrev pub pairs : List Affine → ℕ → ℕ
 pairs rows v = count_by (is_lower_bound v) rows * count_by (is_upper_bound v) rows
 
@@ -112,7 +119,7 @@ abbrev pub least_at : (ℕ → ℕ) → ℕ → ℕ
 least_at f zero = 0
 least_at f (suc n) = let best = least_at f n in if nat_lt (f n) (f best) then n else best
 
--- the factors that cancel variable v in a row with a positive and one with a negative coefficient
+-- the factors that cancel variable v in a row with a positive and one with a negative coefficient, divided by their gcd
 abbrev pub lower_factor : ℕ → Affine → Affine → ℤ
 lower_factor v p q = pos (unsigned_abs (coefficient q v) / gcd (unsigned_abs (coefficient p v)) (unsigned_abs (coefficient q v)))
 
@@ -125,7 +132,7 @@ combination v p q = without v (combined (lower_factor v p q) p (upper_factor v p
 abbrev pub is_narrow_combination : ℕ → Affine → Affine → Bool
 is_narrow_combination v p q = is_narrow_combined (lower_factor v p q) p (upper_factor v p q) q
 
--- the rows that follow when variable v goes
+-- the rows that follow when variable v is eliminated: first those without it, then a combination for each lower and each upper bound
 abbrev pub following : ℕ → List Affine → List Affine
 following v rows =
     map (without v) (filter (is_free v) rows)
@@ -140,11 +147,13 @@ pub data Stage : Type 0 where
   Ended : Verdict → Stage
   Rows : List Affine → Stage
 
+-- the rows with variable v eliminated, or why the elimination ends there: the rows are counted before a combination is made
 unfoldable pub variable_eliminated : ℕ → List Affine → Stage
 variable_eliminated v rows =
     if nat_lt 4096 (count_by (is_free v) rows + pairs rows v) then Ended TooMany
     else (if is_narrow_following v rows then Rows (following v rows) else Ended TooWide)
 
+-- one stage on normalized rows: the lowest variable with the fewest combinations is eliminated
 abbrev pub stage_of : ℕ → Option (List Affine) → Stage
 stage_of n None = Ended Shown
 stage_of n (Some []) = Ended Open
@@ -164,6 +173,7 @@ verdict_on_rows (suc n) rows = elim (stage (suc n) rows) [ Ended v ↦ v | Rows 
 abbrev pub is_impossible : Affine → Bool
 is_impossible e = not (unsigned_abs e.constant % gcd_of e.coefficients == 0)
 
+-- a coefficient of 1 or -1: the equation can be solved for its variable in integers
 abbrev pub is_unit : ℤ → Bool
 is_unit c = unsigned_abs c == 1
 
@@ -185,6 +195,7 @@ substituted v e r = without v (combined (pos 1) r (solving_factor v e r) e)
 abbrev pub is_narrow_substituted : ℕ → Affine → Affine → Bool
 is_narrow_substituted v e r = is_narrow_combined (pos 1) r (solving_factor v e r) e
 
+-- the sum of the opposite numbers
 abbrev pub negated : Affine → Affine
 negated a = record { constant = neg_ℤ a.constant; coefficients = map neg_ℤ a.coefficients }
 
@@ -201,6 +212,7 @@ put_in es rows e =
     let others = remove es (position_or_len has_unit es) in
     if list_all (is_narrow_substituted v e) others && list_all (is_narrow_substituted v e) rows then Solved (map (substituted v e) others) (map (substituted v e) rows) else Finished TooWide
 
+-- the first equation that can be solved is solved; where there is none, each equation becomes two rows
 abbrev pub round_of : List Affine → List Affine → Option Affine → Round
 round_of es rows None = Unsolved (rows ++ flat_map (λ e. e ∷ negated e ∷ []) es)
 round_of es rows (Some e) = put_in es rows e

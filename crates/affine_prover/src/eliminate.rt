@@ -1,4 +1,4 @@
-//! One variable is taken away after the other.
+//! One variable is eliminated after the other.
 ghost use Rattle.std.specs.Prelude.{◌≡◌, ◌<◌, ◌≤◌, ◌+◌, ◌∷◌, [], length, suc, IfOk, Some, None, true, ◌++◌, map, if◌then◌else◌, IsTrue};
 ghost use Rattle.std.specs.List.{filter, list_all, flat_map};
 ghost use Rattle.std.specs.Option.{option_map};
@@ -119,7 +119,7 @@ fn combine_all(
     Ok(true)
 }
 
-/// The rows with variable `v` taken away.
+/// The rows with variable `v` eliminated. They are counted before one of them is made.
 fn eliminate_variable(
     alloc: Global,
     v: usize,
@@ -143,7 +143,7 @@ fn eliminate_variable(
     }
 }
 
-/// One stage: the rows are settled, and the cheapest variable is taken away.
+/// One stage: the rows are normalized, and the cheapest variable is eliminated.
 fn stage(alloc: Global, n: usize, rows: Vec<DenseRow>) -> Result<Step, AllocError>
     requires wide { AreWide n rows.items }
     requires some { 0 < n }

@@ -11,7 +11,6 @@ mod normalize;
 mod number;
 mod row;
 mod signs;
-
 #[cfg(test)]
 mod tests;
 

@@ -5,6 +5,9 @@ ghost use Rattle.affine_prover.specs.Elimination.{gcd, weighed, is_narrow_weighe
 
 use affine_forms::is_narrow;
 
+/// Numbers below it fit into a machine word.
+const SMALL: u128 = 1 << 64;
+
 /// The product, where it is at most 2^100 in size.
 fn product(x: i128, y: i128) -> Option<i128>
     ensures { result ≡ (if is_narrow (x *ℤ y) then Some (x *ℤ y) else None) }
@@ -30,10 +33,9 @@ pub fn weighed(f: i128, x: i128, g: i128, y: i128) -> Option<i128>
     sum(left, right)
 }
 
-/// The greatest common divisor.
-pub fn gcd(a: u128, b: u128) -> u128
-    ensures value { result ≡ gcd a b }
-    ensures positive { 0 < a → 0 < result }
+/// The greatest common divisor of two numbers of any size.
+fn wide_gcd(a: u128, b: u128) -> u128
+    ensures { result ≡ gcd a b }
 {
     let mut x = a;
     let mut y = b;
@@ -43,4 +45,32 @@ pub fn gcd(a: u128, b: u128) -> u128
         y = rest;
     }
     x
+}
+
+/// The greatest common divisor of two numbers of one machine word.
+fn small_gcd(a: u64, b: u64) -> u64
+    ensures { result ≡ gcd a b }
+{
+    let mut x = a;
+    let mut y = b;
+    while y != 0 {
+        let rest = x % y;
+        x = y;
+        y = rest;
+    }
+    x
+}
+
+/// The greatest common divisor. Most numbers are 0 or small, so that no wide division is needed.
+pub fn gcd(a: u128, b: u128) -> u128
+    ensures value { result ≡ gcd a b }
+    ensures positive { 0 < a → 0 < result }
+{
+    if a == 0 {
+        b
+    } else if a < SMALL && b < SMALL {
+        small_gcd(a as u64, b as u64) as u128
+    } else {
+        wide_gcd(a, b)
+    }
 }

@@ -1,36 +1,50 @@
 //! Verdicts on systems that were worked out by hand.
+use crate::{Verdict, verdict};
 use affine_forms::{Row, System, Term};
 use std::alloc::Global;
 use std::test::Fail;
 
-use crate::{Verdict, verdict};
+/// `2^60 + 1`.
+const WIDE: i128 = (1 << 60) + 1;
 
-/// A constant after the terms that are added to it, each a variable and its coefficient.
-type Sum<'a> = (&'a [(u32, i128)], i128);
+/// A system over at most two variables: each equation and row is a constant, the coefficient of x and that of y.
+#[derive(Clone, Copy, Drop)]
+struct Case {
+    name: &'static str,
+    vars: u32,
+    equations: &'static [[i128; 3]],
+    rows: &'static [[i128; 3]],
+    wanted: Verdict,
+}
 
-/// A system in words, its number of variables, its equations and rows, and its verdict.
-type Case<'a> = (&'a str, u32, &'a [Sum<'a>], &'a [Sum<'a>], Verdict);
-
-fn row(alloc: Global, terms: &[(u32, i128)], constant: i128) -> Result<Row, Fail> {
-    let mut all = Vec::new(alloc);
-    for (variable, coefficient) in terms {
-        let term = Term::try_new(*variable, *coefficient).ok_or("a term out of bounds")?;
-        all.push(term)?;
+/// The row of a constant and the coefficients of x and y.
+fn row(alloc: Global, sum: [i128; 3]) -> Result<Row, Fail> {
+    let mut terms = Vec::new(alloc);
+    for v in 0..2usize {
+        if sum[v + 1] != 0 {
+            let term = Term::try_new(v as u32, sum[v + 1]).ok_or("a term out of bounds")?;
+            terms.push(term)?;
+        }
     }
-    let row = Row::try_new(all, constant).ok_or("a row out of bounds")?;
+    let row = Row::try_new(terms, sum[0]).ok_or("a row out of bounds")?;
     Ok(row)
 }
 
-fn rows(alloc: Global, sums: &[Sum]) -> Result<Vec<Row>, Fail> {
+fn rows(alloc: Global, sums: &[[i128; 3]]) -> Result<Vec<Row>, Fail> {
     let mut all = Vec::new(alloc);
-    for (terms, constant) in sums {
-        let one = row(alloc, terms, *constant)?;
+    for sum in sums {
+        let one = row(alloc, *sum)?;
         all.push(one)?;
     }
     Ok(all)
 }
 
-fn verdict_of(alloc: Global, vars: u32, equations: &[Sum], inequalities: &[Sum]) -> Result<Verdict, Fail> {
+fn verdict_of(
+    alloc: Global,
+    vars: u32,
+    equations: &[[i128; 3]],
+    inequalities: &[[i128; 3]],
+) -> Result<Verdict, Fail> {
     let equations = rows(alloc, equations)?;
     let inequalities = rows(alloc, inequalities)?;
     let system = System::try_new(vars, equations, inequalities).ok_or("a system out of bounds")?;
@@ -38,38 +52,78 @@ fn verdict_of(alloc: Global, vars: u32, equations: &[Sum], inequalities: &[Sum])
     Ok(answer)
 }
 
-/// The rows `0 <= x + k * y <= 1000` for k from 1 to 65, and one row more.
-fn fan(alloc: Global, terms: &[(u32, i128)], constant: i128) -> Result<Verdict, Fail> {
-    let mut all = Vec::new(alloc);
+/// The verdict on `0 <= x + k * y <= 1000` for k from 1 to 65, and one row more.
+fn fan(alloc: Global, last: [i128; 3]) -> Result<Verdict, Fail> {
+    let mut sums = Vec::new(alloc);
     for k in 1..66u8 {
-        let low = row(alloc, &[(0, 1), (1, k as i128)], 0)?;
-        all.push(low)?;
-        let high = row(alloc, &[(0, -1), (1, -(k as i128))], 1000)?;
-        all.push(high)?;
+        sums.push([0, 1, k as i128])?;
+        sums.push([1000, -1, -(k as i128)])?;
     }
-    let last = row(alloc, terms, constant)?;
-    all.push(last)?;
-    let system = System::try_new(2, Vec::new(alloc), all).ok_or("a system out of bounds")?;
-    let answer = verdict(alloc, &system)?;
+    sums.push(last)?;
+    let answer = verdict_of(alloc, 2, &[], &sums)?;
     Ok(answer)
 }
 
 #[test]
 fn verdicts(rt: HostRuntime) -> Result<(), Fail> {
-    let alloc = rt.alloc();
-    let wide = (1i128 << 60) + 1;
-    let cases: [Case; 6] = [
-        ("nothing", 0, &[], &[], Verdict::Open),
-        ("2x - 2y - 1 = 0", 2, &[(&[(0, 2), (1, -2)], -1)], &[], Verdict::Shown),
-        ("2x - 1 >= 0, -2x + 1 >= 0", 1, &[], &[(&[(0, 2)], -1), (&[(0, -2)], 1)], Verdict::Shown),
-        ("x >= 0", 1, &[], &[(&[(0, 1)], 0)], Verdict::Open),
-        ("3x + 5y - 1 = 0", 2, &[(&[(0, 3), (1, 5)], -1)], &[], Verdict::Open),
-        ("2^61 x - w y >= 0, -(2^61 - 1) x + w y >= 0 for w = 2^60 + 1", 2, &[], &[(&[(0, 1 << 61), (1, -wide)], 0), (&[(0, 1 - (1 << 61)), (1, wide)], 0)], Verdict::TooWide),
+    let cases = [
+        Case {
+            name: "nothing",
+            vars: 0,
+            equations: &[],
+            rows: &[],
+            wanted: Verdict::Open,
+        },
+        Case {
+            name: "2x - 2y - 1 = 0",
+            vars: 2,
+            equations: &[[-1, 2, -2]],
+            rows: &[],
+            wanted: Verdict::Shown,
+        },
+        Case {
+            name: "2x - 1 >= 0, -2x + 1 >= 0",
+            vars: 1,
+            equations: &[],
+            rows: &[[-1, 2, 0], [1, -2, 0]],
+            wanted: Verdict::Shown,
+        },
+        Case {
+            name: "x >= 0",
+            vars: 1,
+            equations: &[],
+            rows: &[[0, 1, 0]],
+            wanted: Verdict::Open,
+        },
+        Case {
+            name: "3x + 5y - 1 = 0",
+            vars: 2,
+            equations: &[[-1, 3, 5]],
+            rows: &[],
+            wanted: Verdict::Open,
+        },
+        Case {
+            name: "a number past 2^100",
+            vars: 2,
+            equations: &[],
+            rows: &[[0, 1 << 61, -WIDE], [0, 1 - (1 << 61), WIDE]],
+            wanted: Verdict::TooWide,
+        },
     ];
-    for (name, vars, equations, inequalities, wanted) in cases {
-        assert_eq!(rt; verdict_of(alloc, vars, equations, inequalities)?, wanted, "{name}");
+    for case in &cases {
+        let answer = verdict_of(rt.alloc(), case.vars, case.equations, case.rows)?;
+        assert_eq!(rt; answer, case.wanted, "{}", case.name);
     }
-    assert_eq!(rt; fan(alloc, &[(0, -1)], -1)?, Verdict::TooMany, "x < 0");
-    assert_eq!(rt; fan(alloc, &[(0, 1)], -1001)?, Verdict::TooMany, "x > 1000");
+    Ok(())
+}
+
+#[test]
+fn many_rows(rt: HostRuntime) -> Result<(), Fail> {
+    assert_eq!(rt; fan(rt.alloc(), [-1, -1, 0])?, Verdict::TooMany, "x < 0");
+    assert_eq!(rt;
+        fan(rt.alloc(), [-1001, 1, 0])?,
+        Verdict::TooMany,
+        "x > 1000"
+    );
     Ok(())
 }

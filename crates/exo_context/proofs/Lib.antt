@@ -29,3 +29,4 @@ pub mod CallChanges
 pub mod UnitFootprints
 pub mod NestsWithin
 pub mod UnitFields
+pub mod Flags

@@ -16,3 +16,4 @@ pub mod Sorted
 pub mod Touched
 pub mod NestsWithin
 pub mod UnitFields
+pub mod Flags

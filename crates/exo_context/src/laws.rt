@@ -38,6 +38,7 @@ ghost use Rattle.exo_context.specs.NestsWithin.{NestsWithinBounds};
 ghost use Rattle.exo_context.specs.NestsWithin.{NestsFromFootprints};
 ghost use Rattle.exo_context.specs.UnitFields.{UnitLeaves};
 ghost use Rattle.exo_context.specs.UnitFields.{UnitForgets};
+ghost use Rattle.exo_context.specs.Flags.{FlagLaw};
 
 /// A procedure in which a block is replaced is refined by it, where the new block may replace the old one at each state that comes to it.
 pub fn replaced_refines()
@@ -227,4 +228,9 @@ pub fn calls_leave_fields()
 /// A call does not see the fields that are not live before it.
 pub fn calls_forget_dead_fields()
     ensures { UnitForgets }
+{}
+
+/// A block runs the same with a condition in the place of a flag that is set exactly where the condition holds.
+pub fn conditions_stand_for_flags()
+    ensures { FlagLaw }
 {}

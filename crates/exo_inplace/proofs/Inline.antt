@@ -5,9 +5,9 @@ use Rattle.std.proofs.Math.Path.{fun_ext}
 use Rattle.exo_tree.specs.Tree.{Control, Argument, ControlArg, ConditionArg, Whole, Window, ParamKind, ControlParam, TensorParam, WindowParam, Param, Statement, Assign, Reduce, Config, Pass, If, For, Alloc, View, Call, Block, end, next, Procedure}
 use Rattle.exo_meaning.specs.Value.{Value, Undefined, IsRefinedBy}
 use Rattle.exo_context.proofs.Sound.{run_sound}
-use Rattle.exo_meaning.specs.Scene.{Shape, Seen, then_do, number, holds, updated, where_true, window}
+use Rattle.exo_meaning.specs.Scene.{is_set, Shape, Seen, then_do, number, holds, updated, where_true, window}
 use Rattle.exo_meaning.specs.State.{State, left, kept, on_scene, with_control, with_field}
-use Rattle.exo_meaning.specs.Calls.{Callee, Given, GivenNumber, GivenView, given, all_given, entered, returned, run_asserted, all_hold, suits}
+use Rattle.exo_meaning.specs.Calls.{truth, Callee, Given, GivenNumber, GivenView, given, all_given, entered, returned, run_asserted, all_hold, suits}
 use Rattle.exo_meaning.specs.Run.{World, run, step, turn, turns, turns_of, choose, call_to, callee_in, argument_number}
 use Rattle.exo_meaning.specs.Run.{unit_world}
 use Rattle.exo_meaning.specs.Inputs.{is_buffer_of}
@@ -24,6 +24,8 @@ use Rattle.exo_context.proofs.Names.{if_gives, step_names, name_same, name_on}
 use Rattle.exo_context.proofs.Refined.{refined_same}
 use Rattle.exo_context.proofs.Replace.{context_law, where_gives}
 use Rattle.exo_context.proofs.Copies.{place_sound, place_unbound}
+use Rattle.exo_context.proofs.Facts.{condition_same}
+use Rattle.exo_context.proofs.Flags.{flag_law}
 use Rattle.exo_context.proofs.Substitute.{plain_same, substitution_law}
 use Rattle.exo_inplace.specs.Windows.{root_in, view_of, in_block as with_window}
 use Rattle.exo_inplace.specs.CallInPlace.{bind_control, bind_controls, bind_view, bind_views, bound, AreDistinct, MayRunInPlace}
@@ -150,12 +152,19 @@ module _ (world : World) (params : ℕ → Bool) (s v : State) (control_else : (
       let m = map_gives (run world (with_number x e b) v) (bound_number x e) t (sym (substitution_law world x e b v plain free) ∙ ap (run world b) (bound_same x e here) ∙ r) in
       (m.0, m.1, subst (λ z. SameEnd z m.0) m.2 (record { cells = refl; fields = refl }))
 
+  truth_set : (t : Bool) → is_set (truth t) ≡ t
+  truth_set true = refl
+  truth_set false = refl
+
   one_argument : (x : ℕ) (kind : ParamKind) (a : Argument) (g : Given) (b : Block) (t : State) → Takes params x kind a b → given s.scene a ≡ Some g → Stands v x kind g → run world b v ≡ Some t → (u : State) × (run world (with_argument x kind a b) v ≡ Some u) × SameEnd t u
   one_argument x (ControlParam kind) (ControlArg e) g b t (plain, free, names) k h r =
       let same : number v.scene e ≡ number s.scene e = plain_same e v.scene s.scene plain (λ y i. control_else y (names y i)) in
       let here : v.scene.control x ≡ number s.scene e = subst (Stands v x (ControlParam kind)) (sym (some_injective (GivenNumber (number s.scene e)) g k)) h in
       one_number x e b t plain free (here ∙ sym same) r
-  one_argument x (ControlParam kind) (ConditionArg c) g b t take k h r = absurd take
+  one_argument x (ControlParam kind) (ConditionArg c) g b t (plain, own, names) k h r =
+      let same : holds v.scene c ≡ holds s.scene c = condition_same v.scene s.scene c plain (λ y i. control_else y (names y i).0) in
+      let here : v.scene.control x ≡ truth (holds s.scene c) = subst (Stands v x (ControlParam kind)) (sym (some_injective (GivenNumber (truth (holds s.scene c))) g k)) h in
+      (t, sym (flag_law world x c b v plain own (λ y i. (names y i).1) (ap is_set here ∙ truth_set (holds s.scene c) ∙ sym same)) ∙ r, record { cells = refl; fields = refl })
   one_argument x (ControlParam kind) (Whole y) g b t take k h r = absurd take
   one_argument x (ControlParam kind) (Window y coords) g b t take k h r = absurd take
   one_argument x (TensorParam cell dims memory) a g b t take k h r =

@@ -11,6 +11,8 @@ use Rattle.exo_meaning.specs.Unseen.{in_block as mentions}
 use Rattle.exo_tree.specs.Context.{Context, fill, rest_of}
 use Rattle.exo_context.specs.Context.{ComesTo}
 use Rattle.exo_context.specs.Copies.{IsFree}
+use Rattle.exo_context.specs.Facts.{is_plain_condition, condition_has}
+use Rattle.exo_context.specs.Flags.{in_block as with_condition}
 use Rattle.exo_context.specs.Substitute.{is_plain, has_variable, catches, in_block as with_number}
 use Rattle.exo_inplace.specs.Windows.{root_in, coords_of, are_plain, coords_have, in_block as with_window}
 use Rattle.exo_inplace.specs.CallInPlace.{MayRunInPlace}
@@ -28,7 +30,7 @@ WiderLaw = (w v : World) (b : Block) (s : State) → IsWider w v → IfSome (run
 
 abbrev pub with_argument : ℕ → ParamKind → Argument → Block → Block
 with_argument x (ControlParam kind) (ControlArg e) b = with_number x e b
-with_argument x (ControlParam kind) (ConditionArg c) b = b
+with_argument x (ControlParam kind) (ConditionArg c) b = with_condition x c b
 with_argument x (ControlParam kind) (Whole y) b = b
 with_argument x (ControlParam kind) (Window y coords) b = b
 with_argument x (TensorParam cell dims memory) a b = with_window x a b
@@ -51,7 +53,7 @@ TakesWindow params x a b = (is_view a ≡ true) × (are_plain (coords_of a) ≡ 
 
 abbrev pub Takes : (ℕ → Bool) → ℕ → ParamKind → Argument → Block → Type 0
 Takes params x (ControlParam kind) (ControlArg e) b = (is_plain e ≡ true) × (catches x e b ≡ false) × ((y : ℕ) → has_variable e y ≡ true → params y ≡ false)
-Takes params x (ControlParam kind) (ConditionArg c) b = ⊥
+Takes params x (ControlParam kind) (ConditionArg c) b = (is_plain_condition c ≡ true) × (has_binder b x ≡ false) × ((y : ℕ) → condition_has c y ≡ true → (params y ≡ false) × (has_binder b y ≡ false))
 Takes params x (ControlParam kind) (Whole y) b = ⊥
 Takes params x (ControlParam kind) (Window y coords) b = ⊥
 Takes params x (TensorParam cell dims memory) a b = TakesWindow params x a b

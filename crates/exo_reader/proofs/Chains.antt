@@ -1,15 +1,14 @@
 -- Operands with operators of one level between them, read from the left.
-use Rattle.std.proofs.Common.{◌≡◌, ℕ, suc, ◌+◌, ◌<◌, ◌≤◌, List, [], ◌∷◌, ◌++◌, Option, Some, None, length, refl, sym, ap, ◌∙◌, append_assoc, subst, arith, ◌⊎◌, inl, inr}
-use Rattle.std.proofs.lemmas.List.{append_cancel_left, append-nil, length-append}
+use Rattle.std.proofs.Common.{◌≡◌, ℕ, suc, ◌+◌, ◌<◌, ◌≤◌, List, [], ◌∷◌, ◌++◌, Option, Some, length, refl, sym, ap, ◌∙◌, append_assoc, subst, arith, ◌⊎◌, inl, inr}
+use Rattle.std.proofs.lemmas.List.{append_cancel_left, append-nil}
 use Rattle.std.proofs.Math.Nat.{eq-or-lt_of_le}
-use Rattle.phrases.specs.Phrase.{first, Phrase, Taken, Begins, Refused}
-use Rattle.phrases.proofs.Phrases.{first_append, taken_rest}
+use Rattle.phrases.specs.Phrase.{first, Taken, Refused}
 use Rattle.exo_reader.specs.Expression.{Tree, number, variable, access, negative, parens, binary, level_of, left_level, sign, Stands, spelling, FollowsOperand, operand, Within, depth, nodes, NoSign}
 use Rattle.exo_reader.specs.Chain.{Link, with_links, LinksAt, Extends, Begun}
 use Rattle.exo_reader.specs.declared.source.Operator.{Operator}
 use Rattle.exo_reader.specs.declared.token.Token.{Token}
 use Rattle.exo_reader.specs.declared.expression.Room.{Room}
-use Rattle.exo_reader.proofs.Signs.{left_low, low_level, compared_left, sign_same, follows_sign, sign_follows, follows_weaker, headed}
+use Rattle.exo_reader.proofs.Signs.{left_low, compared_left, sign_same, follows_sign, sign_follows, follows_weaker}
 use Rattle.exo_reader.proofs.Sizes.{within_front, within_link, Leaves, Right, right_within, within_binary, nodes_some}
 
 abbrev pub spelling_links : List Link → List Token
@@ -54,17 +53,17 @@ chain_of level (negative i) stands = record { head = negative i; links = []; sta
 chain_of level (parens i) stands = record { head = parens i; links = []; stands = stands; at = tt; is = refl }
 chain_of level (binary o l r) stands =
     elim (eq-or-lt_of_le stands.0) as (λ _. Chain level (binary o l r)) [
-      inl same ↦
-        (let here : level_of o ≡ level = sym same in
-         let inner : Chain level l = chain_of level l (stands_weaker level (left_level o) l (omega (arith, left_low o)) stands.1) in
-         let last : Link = record { operator = o; right = r } in
-         record {
-           head = inner.head;
-           links = inner.links ++ (last ∷ []);
-           stands = inner.stands;
-           at = links_snoc level inner.links last inner.at here (subst (λ (k : ℕ). Stands (suc k) r) here stands.2);
-           is = ap (λ x. binary o x r) inner.is ∙ sym (with_links-snoc inner.head inner.links last)
-         })
+      | inl same ↦
+          (let here : level_of o ≡ level = sym same in
+          let inner : Chain level l = chain_of level l (stands_weaker level (left_level o) l (omega (arith, left_low o)) stands.1) in
+          let last : Link = record { operator = o; right = r } in
+          record {
+            head = inner.head;
+            links = inner.links ++ (last ∷ []);
+            stands = inner.stands;
+            at = links_snoc level inner.links last inner.at here (subst (λ (k : ℕ). Stands (suc k) r) here stands.2);
+            is = ap (λ x. binary o x r) inner.is ∙ sym (with_links-snoc inner.head inner.links last);
+          })
       | inr above ↦ record { head = binary o l r; links = []; stands = (above, stands.1, stands.2); at = tt; is = refl }
     ]
 
@@ -76,19 +75,19 @@ follows_links level (l ∷ links) y all follows = follows_sign (suc level) l.ope
 pub links_equal : (left : Tree) (links : List Link) (other : Tree) (x y : List Token) → other ≡ with_links left links → spelling left ++ x ≡ spelling other ++ y → x ≡ spelling_links links ++ y
 links_equal left links other x y is equal =
     append_cancel_left (spelling left) x (spelling_links links ++ y)
-      (equal ∙ ap (λ t. spelling t ++ y) is ∙ ap (λ s. s ++ y) (spelling-with_links left links) ∙ append_assoc (spelling left) (spelling_links links) y)
+    (equal ∙ ap (λ t. spelling t ++ y) is ∙ ap (λ s. s ++ y) (spelling-with_links left links) ∙ append_assoc (spelling left) (spelling_links links) y)
 
 pub begun_of_taken : (level : ℕ) (room : Room) (tokens : List Token) (t : Tree) (rest : List Token) → Taken (operand (suc level) room) tokens t rest → Begun level room tokens t rest
 begun_of_taken level room tokens t rest taken = record {
-    fits = (stands_weaker level (suc level) t (omega arith) taken.fits.0, taken.fits.1);
-    whole = taken.whole;
-    only = λ other x y same fits follows equal.
+  fits = (stands_weaker level (suc level) t (omega arith) taken.fits.0, taken.fits.1);
+  whole = taken.whole;
+  only = λ other x y same fits follows equal.
       let chain : Chain level other = chain_of level other fits.0 in
       let e : spelling t ++ x ≡ spelling chain.head ++ (spelling_links chain.links ++ y) =
-        equal ∙ ap (λ s. spelling s ++ y) chain.is ∙ ap (λ s. s ++ y) (spelling-with_links chain.head chain.links) ∙ append_assoc (spelling chain.head) (spelling_links chain.links) y in
+      equal ∙ ap (λ s. spelling s ++ y) chain.is ∙ ap (λ s. s ++ y) (spelling-with_links chain.head chain.links) ∙ append_assoc (spelling chain.head) (spelling_links chain.links) y in
       let head : chain.head ≡ t = taken.only chain.head x (spelling_links chain.links ++ y) same (chain.stands, within_front room chain.head other chain.links chain.is fits.1) (follows_links level chain.links y chain.at follows) e in
-      record { links = chain.links; at = chain.at; is = chain.is ∙ ap (λ h. with_links h chain.links) head }
-  }
+      record { links = chain.links; at = chain.at; is = chain.is ∙ ap (λ h. with_links h chain.links) head };
+}
 
 no_links : (level : ℕ) (left : Tree) (rest : List Token) (other : Tree) (x y : List Token) → NoSign level rest → first rest ≡ first x → (links : List Link) → LinksAt level links → other ≡ with_links left links → x ≡ spelling_links links ++ y → other ≡ left
 no_links level left rest other x y none same [] at is equal = is
@@ -96,12 +95,12 @@ no_links level left rest other x y none same (l ∷ links) at is equal = absurd 
 
 pub taken_of_begun : (level : ℕ) (room : Room) (tokens : List Token) (left : Tree) (rest : List Token) → Begun level room tokens left rest → NoSign level rest → Taken (operand level room) tokens left rest
 taken_of_begun level room tokens left rest begun none = record {
-    fits = begun.fits;
-    whole = begun.whole;
-    only = λ other x y same fits follows equal.
+  fits = begun.fits;
+  whole = begun.whole;
+  only = λ other x y same fits follows equal.
       let extends : Extends level left other = begun.only other x y same fits follows equal in
-      no_links level left rest other x y none same extends.links extends.at extends.is (links_equal left extends.links other x y extends.is equal)
-  }
+      no_links level left rest other x y none same extends.links extends.at extends.is (links_equal left extends.links other x y extends.is equal);
+}
 
 -- after an operator of the level, what was read goes on by a link with that operator
 pub record Linked (level : ℕ) (left other : Tree) (operator : Operator) (x y : List Token) : Type 0 where
@@ -124,7 +123,7 @@ linked_by level left other operator x y here follows (l ∷ links) at is equal =
       stands = at.1;
       at = at.2;
       is = is ∙ ap (λ o. with_links (binary o left l.right) links) same;
-      equal = (let tails : x ≡ (spelling l.right ++ spelling_links links) ++ y = cc in tails ∙ append_assoc (spelling l.right) (spelling_links links) y)
+      equal = (let tails : x ≡ (spelling l.right ++ spelling_links links) ++ y = cc in tails ∙ append_assoc (spelling l.right) (spelling_links links) y);
     }
 
 pub linked : (level : ℕ) (room : Room) (tokens : List Token) (left other : Tree) (rest x y : List Token) (operator : Operator) → Begun level room tokens left rest → first rest ≡ Some (sign operator) → level_of operator ≡ level → (operand level room).Fits other → FollowsOperand level (first y) → spelling left ++ (sign operator ∷ x) ≡ spelling other ++ y → Linked level left other operator x y
@@ -134,34 +133,34 @@ linked level room tokens left other rest x y operator begun here_sign here fits 
 
 pub begun_next : (level : ℕ) (room inner : Room) (tokens : List Token) (left : Tree) (after : List Token) (operator : Operator) (right : Tree) (rest : List Token) → Begun level room tokens left (sign operator ∷ after) → level_of operator ≡ level → Stands (left_level operator) left → Right room inner left → Taken (operand (suc level) inner) after right rest → Begun level room tokens (binary operator left right) rest
 begun_next level room inner tokens left after operator right rest begun here ready rights taken = record {
-    fits = ((omega arith, ready, subst (λ (k : ℕ). Stands (suc k) right) (sym here) taken.fits.0), within_binary room inner operator left right rights taken.fits.1);
-    whole = begun.whole ∙ ap (λ s. spelling left ++ (sign operator ∷ s)) taken.whole ∙ sym (append_assoc (spelling left) (sign operator ∷ spelling right) rest);
-    only = λ other x y same fits follows equal.
+  fits = ((omega arith, ready, subst (λ (k : ℕ). Stands (suc k) right) (sym here) taken.fits.0), within_binary room inner operator left right rights taken.fits.1);
+  whole = begun.whole ∙ ap (λ s. spelling left ++ (sign operator ∷ s)) taken.whole ∙ sym (append_assoc (spelling left) (sign operator ∷ spelling right) rest);
+  only = λ other x y same fits follows equal.
       let shifted : spelling left ++ (sign operator ∷ (spelling right ++ x)) ≡ spelling other ++ y = sym (append_assoc (spelling left) (sign operator ∷ spelling right) x) ∙ equal in
       let link : Linked level left other operator (spelling right ++ x) y = linked level room tokens left other (sign operator ∷ after) (spelling right ++ x) y operator begun refl here fits follows shifted in
       let within : Within inner link.right = right_within room inner left link.right rights (within_link room operator left link.right other link.links link.is fits.1) in
       let alike : link.right ≡ right = taken.only link.right x (spelling_links link.links ++ y) same (link.stands, within) (follows_links level link.links y link.at follows) link.equal in
-      record { links = link.links; at = link.at; is = link.is ∙ ap (λ r. with_links (binary operator left r) link.links) alike }
-  }
+      record { links = link.links; at = link.at; is = link.is ∙ ap (λ r. with_links (binary operator left r) link.links) alike };
+}
 
 pub refused_right : (level : ℕ) (room inner : Room) (tokens : List Token) (left : Tree) (after : List Token) (operator : Operator) (last : ℕ) → Begun level room tokens left (sign operator ∷ after) → level_of operator ≡ level → Stands (left_level operator) left → Right room inner left → Refused (operand (suc level) inner) after last → Refused (operand level room) tokens last
 refused_right level room inner tokens left after operator last begun here ready rights refused = record {
-    before = spelling left ++ (sign operator ∷ refused.before);
-    rest = refused.rest;
-    whole = begun.whole ∙ ap (λ s. spelling left ++ (sign operator ∷ s)) refused.whole ∙ sym (append_assoc (spelling left) (sign operator ∷ refused.before) refused.rest);
-    count = refused.count;
-    begins = record {
-      tree = binary operator left refused.begins.tree;
-      more = refused.begins.more;
-      fits = ((omega arith, ready, subst (λ (k : ℕ). Stands (suc k) refused.begins.tree) (sym here) refused.begins.fits.0), within_binary room inner operator left refused.begins.tree rights refused.begins.fits.1);
-      spelled = append_assoc (spelling left) (sign operator ∷ refused.before) refused.begins.more ∙ ap (λ s. spelling left ++ (sign operator ∷ s)) refused.begins.spelled
-    };
-    stuck = λ other x y same fits follows equal.
+  before = spelling left ++ (sign operator ∷ refused.before);
+  rest = refused.rest;
+  whole = begun.whole ∙ ap (λ s. spelling left ++ (sign operator ∷ s)) refused.whole ∙ sym (append_assoc (spelling left) (sign operator ∷ refused.before) refused.rest);
+  count = refused.count;
+  begins = record {
+    tree = binary operator left refused.begins.tree;
+    more = refused.begins.more;
+    fits = ((omega arith, ready, subst (λ (k : ℕ). Stands (suc k) refused.begins.tree) (sym here) refused.begins.fits.0), within_binary room inner operator left refused.begins.tree rights refused.begins.fits.1);
+    spelled = append_assoc (spelling left) (sign operator ∷ refused.before) refused.begins.more ∙ ap (λ s. spelling left ++ (sign operator ∷ s)) refused.begins.spelled;
+  };
+  stuck = λ other x y same fits follows equal.
       let shifted : spelling left ++ (sign operator ∷ (refused.before ++ x)) ≡ spelling other ++ y = sym (append_assoc (spelling left) (sign operator ∷ refused.before) x) ∙ equal in
       let link : Linked level left other operator (refused.before ++ x) y = linked level room tokens left other (sign operator ∷ after) (refused.before ++ x) y operator begun refl here fits follows shifted in
       let within : Within inner link.right = right_within room inner left link.right rights (within_link room operator left link.right other link.links link.is fits.1) in
-      refused.stuck link.right x (spelling_links link.links ++ y) same (link.stands, within) (follows_links level link.links y link.at follows) link.equal
-  }
+      refused.stuck link.right x (spelling_links link.links ++ y) same (link.stands, within) (follows_links level link.links y link.at follows) link.equal;
+}
 
 -- no room is left behind the operator
 too_many : (level : ℕ) (room : Room) (left other : Tree) (operator : Operator) (x y : List Token) → level_of operator ≡ level → (room.depth ≤ depth left) ⊎ (room.nodes ≤ nodes left + 1) → Within room other → FollowsOperand level (first y) → Some (sign operator) ≡ first x → (links : List Link) → other ≡ with_links left links → x ≡ spelling_links links ++ y → ⊥
@@ -170,40 +169,40 @@ too_many level room left other operator x y here full within follows head [] is 
 too_many level room left other operator x y here full within follows head (l ∷ links) is equal =
     let leaves : Leaves room left l.right = within_link room l.operator left l.right other links is within in
     elim full as (λ _. ⊥) [
-      inl deep ↦ omega (arith, leaves.left_depth)
-    | inr long ↦ omega (arith, leaves.nodes, nodes_some l.right)
+      | inl deep ↦ omega (arith, leaves.left_depth)
+      | inr long ↦ omega (arith, leaves.nodes, nodes_some l.right)
     ]
 
 pub refused_operator : (level : ℕ) (room : Room) (tokens : List Token) (left : Tree) (after : List Token) (operator : Operator) → Begun level room tokens left (sign operator ∷ after) → level_of operator ≡ level → (room.depth ≤ depth left) ⊎ (room.nodes ≤ nodes left + 1) → Refused (operand level room) tokens (length (sign operator ∷ after))
 refused_operator level room tokens left after operator begun here full = record {
-    before = spelling left;
-    rest = sign operator ∷ after;
-    whole = begun.whole;
-    count = refl;
-    begins = record { tree = left; more = []; fits = begun.fits; spelled = append-nil (spelling left) };
-    stuck = λ other x y same fits follows equal.
+  before = spelling left;
+  rest = sign operator ∷ after;
+  whole = begun.whole;
+  count = refl;
+  begins = record { tree = left; more = []; fits = begun.fits; spelled = append-nil (spelling left) };
+  stuck = λ other x y same fits follows equal.
       let extends : Extends level left other = begun.only other x y same fits follows equal in
-      too_many level room left other operator x y here full fits.1 follows same extends.links extends.is (links_equal left extends.links other x y extends.is equal)
-  }
+      too_many level room left other operator x y here full fits.1 follows same extends.links extends.is (links_equal left extends.links other x y extends.is equal);
+}
 
 pub refused_first : (level : ℕ) (room : Room) (tokens : List Token) (last : ℕ) → Refused (operand (suc level) room) tokens last → Refused (operand level room) tokens last
 refused_first level room tokens last refused = record {
-    before = refused.before;
-    rest = refused.rest;
-    whole = refused.whole;
-    count = refused.count;
-    begins = record {
-      tree = refused.begins.tree;
-      more = refused.begins.more;
-      fits = (stands_weaker level (suc level) refused.begins.tree (omega arith) refused.begins.fits.0, refused.begins.fits.1);
-      spelled = refused.begins.spelled
-    };
-    stuck = λ other x y same fits follows equal.
+  before = refused.before;
+  rest = refused.rest;
+  whole = refused.whole;
+  count = refused.count;
+  begins = record {
+    tree = refused.begins.tree;
+    more = refused.begins.more;
+    fits = (stands_weaker level (suc level) refused.begins.tree (omega arith) refused.begins.fits.0, refused.begins.fits.1);
+    spelled = refused.begins.spelled;
+  };
+  stuck = λ other x y same fits follows equal.
       let chain : Chain level other = chain_of level other fits.0 in
       let e : refused.before ++ x ≡ spelling chain.head ++ (spelling_links chain.links ++ y) =
-        equal ∙ ap (λ s. spelling s ++ y) chain.is ∙ ap (λ s. s ++ y) (spelling-with_links chain.head chain.links) ∙ append_assoc (spelling chain.head) (spelling_links chain.links) y in
-      refused.stuck chain.head x (spelling_links chain.links ++ y) same (chain.stands, within_front room chain.head other chain.links chain.is fits.1) (follows_links level chain.links y chain.at follows) e
-  }
+      equal ∙ ap (λ s. spelling s ++ y) chain.is ∙ ap (λ s. s ++ y) (spelling-with_links chain.head chain.links) ∙ append_assoc (spelling chain.head) (spelling_links chain.links) y in
+      refused.stuck chain.head x (spelling_links chain.links ++ y) same (chain.stands, within_front room chain.head other chain.links chain.is fits.1) (follows_links level chain.links y chain.at follows) e;
+}
 
 -- the front of a chain stands where the chain does
 stands_front : (level : ℕ) (left : Tree) (links : List Link) → LinksAt level links → Stands level (with_links left links) → Stands level left
@@ -217,15 +216,15 @@ one_comparison : (operator : Operator) (left right other : Tree) (links : List L
 one_comparison operator left right other [] here stands at is = is
 one_comparison operator left right other (l ∷ links) here stands at is =
     let inner : Stands 2 (binary l.operator (binary operator left right) l.right) =
-      stands_front 2 (binary l.operator (binary operator left right) l.right) links at.2 (subst (Stands 2) is stands) in
+    stands_front 2 (binary l.operator (binary operator left right) l.right) links at.2 (subst (Stands 2) is stands) in
     let tight : Stands 3 (binary operator left right) = subst (λ (k : ℕ). Stands k (binary operator left right)) (compared_left l.operator at.0) inner.1 in
     absurd (omega (arith, tight.0))
 
 pub taken_compared : (room : Room) (tokens : List Token) (operator : Operator) (left right : Tree) (rest : List Token) → level_of operator ≡ 2 → Begun 2 room tokens (binary operator left right) rest → Taken (operand 2 room) tokens (binary operator left right) rest
 taken_compared room tokens operator left right rest here begun = record {
-    fits = begun.fits;
-    whole = begun.whole;
-    only = λ other x y same fits follows equal.
+  fits = begun.fits;
+  whole = begun.whole;
+  only = λ other x y same fits follows equal.
       let extends : Extends 2 (binary operator left right) other = begun.only other x y same fits follows equal in
-      one_comparison operator left right other extends.links here fits.0 extends.at extends.is
-  }
+      one_comparison operator left right other extends.links here fits.0 extends.at extends.is;
+}

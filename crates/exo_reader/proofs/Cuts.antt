@@ -2,7 +2,8 @@
 use Rattle.std.proofs.Common.{◌≡◌, ℕ, zero, suc, ◌+◌, List, [], ◌∷◌, ◌++◌, replicate, Bool, true, false, cond, length, refl, sym, ap, ◌∙◌, append_assoc, append-nil}
 use Rattle.std.specs.Prelude.{Option, Some, None, MatchOption}
 use denote.Ref.{Bor}
-use Rattle.exo_reader.specs.Layout.{put, is_fault, is_sound, up_to_fault, text_end, layout, laid, lines}
+use Rattle.exo_reader.specs.Layout.{at, line_tokens, one_line, line_lexed, put, is_fault, is_sound, up_to_fault, text_end, layout, laid, lines}
+use Rattle.exo_reader.proofs.FirstLine.{lines-some}
 use Rattle.exo_reader.specs.declared.place.Place.{Place}
 use Rattle.exo_reader.specs.declared.place.Placed.{Placed}
 use Rattle.exo_reader.specs.declared.token.Token.TheVariants.{Dedent, NewLine}
@@ -75,3 +76,11 @@ lay_next target placed given cut new end line blocks after brackets left bytes l
 pub lay_last : (target placed last new : List Placed) (end : Place) (line : ℕ) (blocks : List ℕ) (brackets : ℕ) → target ≡ placed ++ up_to_fault (layout end line blocks brackets []) → last ≡ text_end end blocks brackets → new ≡ placed ++ last → new ≡ target
 lay_last target placed last new end line blocks brackets whole is put =
     put ∙ ap (λ (ts : List Placed). placed ++ ts) (is ∙ sym (cut_end end blocks brackets)) ∙ sym whole
+
+-- a text of one line
+more_by : (bytes : List ℕ) (more : List (List ℕ)) → (more ≡ [] → ⊥) → up_to_fault (line_tokens 1 bytes ++ (put (at 1 (length bytes + 1)) NewLine ∷ [])) ≡ one_line (bytes ∷ more)
+more_by bytes [] some = absurd (some refl)
+more_by bytes (next ∷ more) some = refl
+
+pub one_more : (text bytes next : List ℕ) → lines text ≡ bytes ∷ lines next → up_to_fault (line_tokens 1 bytes ++ (put (at 1 (length bytes + 1)) NewLine ∷ [])) ≡ line_lexed text
+one_more text bytes next is = more_by bytes (lines next) (lines-some next) ∙ ap one_line (sym is)

@@ -9,3 +9,7 @@ pub mod Numbers
 pub mod Lines
 pub mod FirstLine
 pub mod Cuts
+pub mod Lists
+pub mod FirstPrograms
+pub mod FirstTexts
+pub mod Ascii

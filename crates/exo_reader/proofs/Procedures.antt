@@ -1,27 +1,26 @@
 -- The productions of procedures.
-use Rattle.std.proofs.Common.{◌≡◌, ℕ, suc, ◌+◌, ◌<◌, ◌≤◌, List, [], ◌∷◌, ◌++◌, Option, Some, None, Bool, true, false, length, refl, sym, ap, ◌∙◌, append_assoc, subst, arith, map, take, drop, get_or}
-use Rattle.std.proofs.lemmas.List.{append-nil, length-append, take-append-drop, drop_more, map-append}
-use Rattle.phrases.specs.Phrase.{first, Phrase, Taken, Begins, Refused}
-use Rattle.phrases.specs.Sequence.{exactly, then, AllFit, spell_all, many}
-use Rattle.phrases.specs.Commas.{spell_more, commas}
-use Rattle.phrases.specs.Answers.{Reads, Refuses}
+use Rattle.std.proofs.Common.{◌≡◌, ℕ, ◌+◌, ◌<◌, ◌≤◌, List, [], ◌∷◌, ◌++◌, Option, Some, Bool, true, false, length, refl, sym, ap, ◌∙◌, subst, arith, map, take, drop, get_or}
+use Rattle.std.proofs.lemmas.List.{length-append, take-append-drop, drop_more, map-append}
+use Rattle.phrases.specs.Phrase.{first, Phrase, Taken, Refused}
+use Rattle.phrases.specs.Sequence.{exactly, then, spell_all, many}
+use Rattle.phrases.specs.Commas.{commas}
+use Rattle.phrases.specs.Answers.{Refuses}
 use Rattle.phrases.specs.declared.Refusal.{Refusal}
-use Rattle.phrases.specs.declared.Refusal.TheVariants.{Memory, Syntax}
-use Rattle.phrases.proofs.Phrases.{first_append, taken_rest}
+use Rattle.phrases.specs.declared.Refusal.TheVariants.{Syntax}
 use Rattle.phrases.proofs.Exits.{refuses_along}
-use Rattle.phrases.proofs.Sequences.{Back, Step, Before, step_taken, step_refused, Items, items_none, items_next, items_done, items_refused, Apart, refused_exactly}
+use Rattle.phrases.proofs.Sequences.{Back, Step, step_taken, Items, items_none, items_next, items_done, items_refused, Apart, refused_exactly}
 use Rattle.phrases.proofs.Commas.{CommaApart, Commas, commas_none, commas_next, commas_refused, commas_done, commas_trailing}
 use Rattle.phrases.proofs.Joints.{Joint, now, later, both, whole_err}
 use Rattle.exo_reader.specs.Token.{a_name}
 use Rattle.exo_reader.specs.Fixed.{token_of}
 use Rattle.exo_reader.specs.declared.front.Fixed.{Fixed}
-use Rattle.exo_reader.specs.Expression.{Tree, number, Stands, spelling, FollowsOperand, operand}
-use Rattle.exo_reader.specs.Procedure.{control_room, data_room, SourceStatement, pass, assign, StatementFits, spelling_statement, statement, HasSome, EndsBlock, body, SourceParameter, parameter, SourceParameters, none, some, EndsParameters, ParametersFit, spelling_parameters, parameters, SourceProcedure, procedure}
+use Rattle.exo_reader.specs.Expression.{Tree, number, spelling, operand}
+use Rattle.exo_reader.specs.Procedure.{control_room, data_room, SourceStatement, pass, assign, StatementFits, spelling_statement, statement, EndsBlock, body, SourceParameter, parameter, SourceParameters, none, some, EndsParameters, ParametersFit, spelling_parameters, parameters, SourceProcedure, procedure}
 use Rattle.exo_reader.specs.Views.{statement_of, parameter_of, listed}
 use Rattle.exo_reader.specs.declared.source.SourceStmt.{SourceStmt}
 use Rattle.exo_reader.specs.declared.source.SourceParam.{SourceParam}
 use Rattle.exo_reader.specs.declared.token.Token.{Token}
-use Rattle.exo_reader.specs.declared.token.Token.TheVariants.{Int, Name, Str, Sign, Word, NewLine, Indent, Dedent, Decorator}
+use Rattle.exo_reader.specs.declared.token.Token.TheVariants.{Name, Sign, Word, NewLine, Indent, Dedent, Decorator}
 use Rattle.exo_reader.specs.declared.token.Word.TheVariants as w
 use Rattle.exo_reader.specs.declared.token.Decorator.TheVariants as d
 use Rattle.exo_reader.specs.declared.token.Sign.TheVariants.{Open, Close, OpenBracket, CloseBracket, Comma, Colon, Assign}
@@ -34,19 +33,22 @@ back_pass (assign n index value) x y fits equal = absurd (let e : Word w.Pass �
 
 pub step_pass : (after : List Token) → Step statement (exactly (NewLine ∷ [])) (λ _. pass) (Word w.Pass ∷ after) after
 step_pass after = record {
-    front = Word w.Pass ∷ [];
-    split = refl;
-    fits = λ s fits. tt;
-    spelled = λ s. refl;
-    back = λ other x y same fits follows equal. back_pass other x y fits equal
-  }
+  front = Word w.Pass ∷ [];
+  split = refl;
+  fits = λ s fits. tt;
+  spelled = λ s. refl;
+  back = λ other x y same fits follows equal. back_pass other x y fits equal;
+}
 
 abbrev pub Assign4 : Phrase Token (Tree × (Unit {0}))
 Assign4 = then (operand 0 data_room) (exactly (NewLine ∷ []))
+
 abbrev pub Assign3 : Phrase Token ((Unit {0}) × (Tree × (Unit {0})))
 Assign3 = then (exactly (Sign CloseBracket ∷ Sign Assign ∷ [])) Assign4
+
 abbrev pub Assign2 : Phrase Token (Tree × ((Unit {0}) × (Tree × (Unit {0}))))
 Assign2 = then (operand 0 control_room) Assign3
+
 abbrev pub Assign1 : Phrase Token ((Unit {0}) × (Tree × ((Unit {0}) × (Tree × (Unit {0})))))
 Assign1 = then (exactly (Sign OpenBracket ∷ [])) Assign2
 
@@ -62,17 +64,17 @@ back_assign n (assign m index value) x y fits equal =
       fits = (tt, (fits.0, (tt, (fits.1, tt))));
       is = ap (λ k. assign k index value) same;
       equal = (let e : x ≡ (Sign OpenBracket ∷ (spelling index ++ (Sign CloseBracket ∷ Sign Assign ∷ (spelling value ++ (NewLine ∷ []))))) ++ y = cc in e);
-      follows = tt
+      follows = tt;
     }
 
 pub step_assign : (n : List ℕ) (after : List Token) → Step statement Assign1 (assign_of n) (Name n ∷ after) after
 step_assign n after = record {
-    front = Name n ∷ [];
-    split = refl;
-    fits = λ s fits. (fits.1.0, fits.1.1.1.0);
-    spelled = λ s. refl;
-    back = λ other x y same fits follows equal. back_assign n other x y fits equal
-  }
+  front = Name n ∷ [];
+  split = refl;
+  fits = λ s fits. (fits.1.0, fits.1.1.1.0);
+  spelled = λ s. refl;
+  back = λ other x y same fits follows equal. back_assign n other x y fits equal;
+}
 
 one_fits : (operand 0 control_room).Fits (number 0)
 one_fits = (tt, (omega arith, omega arith))
@@ -82,10 +84,13 @@ one_data = (tt, (omega arith, omega arith))
 
 pub assign1 : Joint (exactly (Sign OpenBracket ∷ [])) Assign2
 assign1 = record { may = record { may = λ q y fits follows. tt }; some = (number 0, (tt, (number 0, tt))); fits = (one_fits, (tt, (one_data, tt))) }
+
 pub assign2 : Joint (operand 0 control_room) Assign3
 assign2 = record { may = record { may = λ q y fits follows. tt }; some = (tt, (number 0, tt)); fits = (tt, (one_data, tt)) }
+
 pub assign3 : Joint (exactly (Sign CloseBracket ∷ Sign Assign ∷ [])) Assign4
 assign3 = record { may = record { may = λ q y fits follows. tt }; some = (number 0, tt); fits = (one_data, tt) }
+
 pub assign4 : Joint (operand 0 data_room) (exactly (NewLine ∷ []))
 assign4 = record { may = record { may = λ q y fits follows. tt }; some = tt; fits = tt }
 
@@ -101,13 +106,13 @@ starts_statement (assign n index value) y = tt
 
 refused_statement : (tokens : List Token) → (StartsStatement (first tokens) → ⊥) → Refused statement tokens (length tokens)
 refused_statement tokens missing = record {
-    before = [];
-    rest = tokens;
-    whole = refl;
-    count = refl;
-    begins = record { tree = pass; more = Word w.Pass ∷ NewLine ∷ []; fits = tt; spelled = refl };
-    stuck = λ other x y same stands follows equal. missing (subst StartsStatement (sym (same ∙ ap first equal)) (starts_statement other y))
-  }
+  before = [];
+  rest = tokens;
+  whole = refl;
+  count = refl;
+  begins = record { tree = pass; more = Word w.Pass ∷ NewLine ∷ []; fits = tt; spelled = refl };
+  stuck = λ other x y same stands follows equal. missing (subst StartsStatement (sym (same ∙ ap first equal)) (starts_statement other y));
+}
 
 not_statement : (t : Token) → (Some t ≡ Some (Word w.Pass) → ⊥) → ((n : List ℕ) → t ≡ Name n → ⊥) → StartsStatement (Some t) → ⊥
 not_statement (Word w.Pass) no_pass no_name starts = no_pass refl
@@ -124,10 +129,10 @@ statement_end tokens empty = subst (λ (ts : List Token). Refused statement ts 0
 
 pub apart : Apart statement EndsBlock
 apart = record {
-    begins = λ s y fits ends. subst StartsStatement ends (starts_statement s y);
-    next = λ s y fits. tt;
-    last = λ o ends. tt
-  }
+  begins = λ s y fits ends. subst StartsStatement ends (starts_statement s y);
+  next = λ s y fits. tt;
+  last = λ o ends. tt;
+}
 
 abbrev pub body_rest : Phrase Token (SourceStatement × List SourceStatement)
 body_rest = then statement (many statement EndsBlock)
@@ -138,12 +143,12 @@ back_body (s ∷ rest) x y fits follows equal = record { tree = (s, rest); fits 
 
 pub step_body : (tokens : List Token) → Step body body_rest (λ p. p.0 ∷ p.1) tokens tokens
 step_body tokens = record {
-    front = [];
-    split = refl;
-    fits = λ s fits. ((fits.0, fits.1), tt);
-    spelled = λ s. refl;
-    back = λ other x y same fits follows equal. back_body other x y fits follows equal
-  }
+  front = [];
+  split = refl;
+  fits = λ s fits. ((fits.0, fits.1), tt);
+  spelled = λ s. refl;
+  back = λ other x y same fits follows equal. back_body other x y fits follows equal;
+}
 
 pub body_joint : Joint statement (many statement EndsBlock)
 body_joint = record { may = record { may = λ q y fits follows. tt }; some = []; fits = tt }
@@ -165,20 +170,20 @@ map_snoc f (t ∷ list) s = ap (λ w. f t ∷ w) (map_snoc f list s)
 
 pub body_next : (tokens rest after : List Token) (list : List SourceStmt) (s : SourceStmt) → BodyBegun tokens list rest → Taken statement rest (statement_of s) after → BodyBegun tokens (list ++ (s ∷ [])) after
 body_next tokens rest after list s begun taken = record {
-    head = begun.head;
-    tail = begun.tail ++ (s ∷ []);
-    middle = begun.middle;
-    is = ap (λ w. w ++ (s ∷ [])) begun.is;
-    taken = begun.taken;
-    items = subst (λ (w : List SourceStatement). Items statement EndsBlock begun.middle w after) (sym (map_snoc statement_of begun.tail s)) (items_next statement EndsBlock begun.middle rest after (map statement_of begun.tail) (statement_of s) apart begun.items taken)
-  }
+  head = begun.head;
+  tail = begun.tail ++ (s ∷ []);
+  middle = begun.middle;
+  is = ap (λ w. w ++ (s ∷ [])) begun.is;
+  taken = begun.taken;
+  items = subst (λ (w : List SourceStatement). Items statement EndsBlock begun.middle w after) (sym (map_snoc statement_of begun.tail s)) (items_next statement EndsBlock begun.middle rest after (map statement_of begun.tail) (statement_of s) apart begun.items taken);
+}
 
 pub body_ok : (tokens rest : List Token) (list : List SourceStmt) → BodyBegun tokens list rest → first rest ≡ Some Dedent → Taken body tokens (map statement_of list) rest
 body_ok tokens rest list begun ends =
     subst (λ (b : List SourceStatement). Taken body tokens b rest) (sym (ap (map statement_of) begun.is))
-      (step_taken body body_rest (λ p. p.0 ∷ p.1) tokens tokens rest (statement_of begun.head, map statement_of begun.tail) (step_body tokens)
-        (both body_joint begun.taken (items_done statement EndsBlock begun.middle rest (map statement_of begun.tail) begun.items
-          (λ s y fits same. subst StartsStatement (sym same ∙ ends) (starts_statement s y)))))
+    (step_taken body body_rest (λ p. p.0 ∷ p.1) tokens tokens rest (statement_of begun.head, map statement_of begun.tail) (step_body tokens)
+    (both body_joint begun.taken (items_done statement EndsBlock begun.middle rest (map statement_of begun.tail) begun.items
+    (λ s y fits same. subst StartsStatement (sym same ∙ ends) (starts_statement s y)))))
 
 pub body_err_first : (tokens : List Token) (e : Refusal) → Refuses statement tokens e → Refuses body tokens e
 body_err_first tokens e refuses = whole_err body body_rest (λ p. p.0 ∷ p.1) tokens tokens e (step_body tokens) (now body_joint tokens e refuses)
@@ -186,10 +191,10 @@ body_err_first tokens e refuses = whole_err body body_rest (λ p. p.0 ∷ p.1) t
 pub body_err : (tokens rest : List Token) (list : List SourceStmt) (e : Refusal) → BodyBegun tokens list rest → (first rest ≡ Some Dedent → ⊥) → Refuses statement rest e → Refuses body tokens e
 body_err tokens rest list e begun unended refuses =
     whole_err body body_rest (λ p. p.0 ∷ p.1) tokens tokens e (step_body tokens)
-      (later body_joint begun.taken e
-        (refuses_along statement rest (many statement EndsBlock) begun.middle e
-          (λ last refused. items_refused statement EndsBlock begun.middle rest (map statement_of begun.tail) last apart begun.items unended refused)
-          refuses))
+    (later body_joint begun.taken e
+    (refuses_along statement rest (many statement EndsBlock) begun.middle e
+    (λ last refused. items_refused statement EndsBlock begun.middle rest (map statement_of begun.tail) last apart begun.items unended refused)
+    refuses))
 
 some_tokens : (s : SourceStatement) → 1 ≤ length (spelling_statement s)
 some_tokens pass = omega arith
@@ -206,21 +211,25 @@ words_err words tokens rest i d e whole less missing =
     let front : List Token = map token_of (take i words) in
     let behind : List Token = map token_of (drop (i + 1) words) in
     let cut_words : map token_of words ≡ front ++ (token_of word ∷ behind) =
-      ap (map token_of) (sym (take-append-drop i words) ∙ ap (λ w. take i words ++ w) (drop_more words i d less)) ∙ map-append token_of (take i words) (word ∷ drop (i + 1) words) in
+    ap (map token_of) (sym (take-append-drop i words) ∙ ap (λ w. take i words ++ w) (drop_more words i d less)) ∙ map-append token_of (take i words) (word ∷ drop (i + 1) words) in
     subst (λ (ws : List Token). Refuses (exactly ws) tokens e) (sym cut_words)
-      (subst (Refuses (exactly (front ++ (token_of word ∷ behind))) tokens) (sym missing.0)
-        (refused_exactly front behind tokens rest (token_of word) whole missing.1))
+    (subst (Refuses (exactly (front ++ (token_of word ∷ behind))) tokens) (sym missing.0)
+    (refused_exactly front behind tokens rest (token_of word) whole missing.1))
 
 -- parameters
 
 abbrev pub Param5 : Phrase Token (Tree × (Unit {0}))
 Param5 = then (operand 0 control_room) (exactly (Sign CloseBracket ∷ []))
+
 abbrev pub Param4 : Phrase Token ((Unit {0}) × (Tree × (Unit {0})))
 Param4 = then (exactly (Sign OpenBracket ∷ [])) Param5
+
 abbrev pub Param3 : Phrase Token (List ℕ × ((Unit {0}) × (Tree × (Unit {0}))))
 Param3 = then a_name Param4
+
 abbrev pub Param2 : Phrase Token ((Unit {0}) × (List ℕ × ((Unit {0}) × (Tree × (Unit {0})))))
 Param2 = then (exactly (Sign Colon ∷ [])) Param3
+
 abbrev pub Param1 : Phrase Token (List ℕ × ((Unit {0}) × (List ℕ × ((Unit {0}) × (Tree × (Unit {0}))))))
 Param1 = then a_name Param2
 
@@ -229,28 +238,32 @@ param_of p = record { name = p.0; kind = p.1.1.0; extent = p.1.1.1.1.0 }
 
 pub step_param : (tokens : List Token) → Step parameter Param1 param_of tokens tokens
 step_param tokens = record {
-    front = [];
-    split = refl;
-    fits = λ s fits. fits.1.1.1.1.0;
-    spelled = λ s. refl;
-    back = λ other x y same fits follows equal.
+  front = [];
+  split = refl;
+  fits = λ s fits. fits.1.1.1.1.0;
+  spelled = λ s. refl;
+  back = λ other x y same fits follows equal.
       record {
         tree = (other.name, (tt, (other.kind, (tt, (other.extent, tt)))));
         fits = (tt, (tt, (tt, (tt, (fits, tt)))));
         is = refl;
         equal = equal;
-        follows = tt
-      }
-  }
+        follows = tt;
+      };
+}
 
 pub param1 : Joint a_name Param2
 param1 = record { may = record { may = λ q y fits follows. tt }; some = (tt, ([], (tt, (number 0, tt)))); fits = (tt, (tt, (tt, (one_fits, tt)))) }
+
 pub param2 : Joint (exactly (Sign Colon ∷ [])) Param3
 param2 = record { may = record { may = λ q y fits follows. tt }; some = ([], (tt, (number 0, tt))); fits = (tt, (tt, (one_fits, tt))) }
+
 pub param3 : Joint a_name Param4
 param3 = record { may = record { may = λ q y fits follows. tt }; some = (tt, (number 0, tt)); fits = (tt, (one_fits, tt)) }
+
 pub param4 : Joint (exactly (Sign OpenBracket ∷ [])) Param5
 param4 = record { may = record { may = λ q y fits follows. tt }; some = (number 0, tt); fits = (one_fits, tt) }
+
 pub param5 : Joint (operand 0 control_room) (exactly (Sign CloseBracket ∷ []))
 param5 = record { may = record { may = λ q y fits follows. tt }; some = tt; fits = tt }
 
@@ -262,11 +275,11 @@ ends_comma equal = cc (equal)
 
 pub comma_apart : CommaApart parameter (Sign Comma) EndsParameters
 comma_apart = record {
-    comma_goes_on = ends_comma;
-    comma_follows = tt;
-    begins = λ p y fits ends. ends_name p.name ends;
-    last = λ o ends. tt
-  }
+  comma_goes_on = ends_comma;
+  comma_follows = tt;
+  begins = λ p y fits ends. ends_name p.name ends;
+  last = λ o ends. tt;
+}
 
 abbrev pub more_parameters : Phrase Token (List SourceParameter × Bool)
 more_parameters = commas parameter (Sign Comma) EndsParameters
@@ -284,12 +297,12 @@ back_params tokens (some p more trailing) x y unclosed same fits follows equal =
 
 pub step_params : (tokens : List Token) → (first tokens ≡ Some (Sign Close) → ⊥) → Step parameters some_parameters made tokens tokens
 step_params tokens unclosed = record {
-    front = [];
-    split = refl;
-    fits = λ s fits. fits;
-    spelled = λ s. refl;
-    back = λ other x y same fits follows equal. back_params tokens other x y unclosed same fits follows equal
-  }
+  front = [];
+  split = refl;
+  fits = λ s fits. fits;
+  spelled = λ s. refl;
+  back = λ other x y same fits follows equal. back_params tokens other x y unclosed same fits follows equal;
+}
 
 pub params_joint : Joint parameter more_parameters
 params_joint = record { may = record { may = λ q y fits follows. tt }; some = ([], false); fits = tt }
@@ -300,10 +313,10 @@ none_only tokens (some p more trailing) x y close same equal = absurd (ends_name
 
 pub params_none : (tokens : List Token) → first tokens ≡ Some (Sign Close) → Taken parameters tokens none tokens
 params_none tokens close = record {
-    fits = tt;
-    whole = refl;
-    only = λ other x y same fits follows equal. none_only tokens other x y close same equal
-  }
+  fits = tt;
+  whole = refl;
+  only = λ other x y same fits follows equal. none_only tokens other x y close same equal;
+}
 
 pub record ParamsBegun (tokens : List Token) (list : List SourceParam) (rest : List Token) : Type 0 where
   pub head : SourceParam
@@ -319,21 +332,21 @@ params_first tokens rest p unclosed taken = record { head = p; tail = []; middle
 
 pub params_next : (tokens rest after found : List Token) (list : List SourceParam) (p : SourceParam) → ParamsBegun tokens list rest → rest ≡ Sign Comma ∷ after → Taken parameter after (parameter_of p) found → ParamsBegun tokens (list ++ (p ∷ [])) found
 params_next tokens rest after found list p begun comma taken = record {
-    head = begun.head;
-    tail = begun.tail ++ (p ∷ []);
-    middle = begun.middle;
-    is = ap (λ w. w ++ (p ∷ [])) begun.is;
-    unclosed = begun.unclosed;
-    taken = begun.taken;
-    items = subst (λ (w : List SourceParameter). Commas parameter (Sign Comma) EndsParameters begun.middle w found) (sym (map_snoc parameter_of begun.tail p))
+  head = begun.head;
+  tail = begun.tail ++ (p ∷ []);
+  middle = begun.middle;
+  is = ap (λ w. w ++ (p ∷ [])) begun.is;
+  unclosed = begun.unclosed;
+  taken = begun.taken;
+  items = subst (λ (w : List SourceParameter). Commas parameter (Sign Comma) EndsParameters begun.middle w found) (sym (map_snoc parameter_of begun.tail p))
       (commas_next parameter (Sign Comma) EndsParameters begun.middle after found (map parameter_of begun.tail) (parameter_of p) comma_apart
-        (subst (Commas parameter (Sign Comma) EndsParameters begun.middle (map parameter_of begun.tail)) comma begun.items) taken)
-  }
+      (subst (Commas parameter (Sign Comma) EndsParameters begun.middle (map parameter_of begun.tail)) comma begun.items) taken);
+}
 
 params_whole : (tokens rest : List Token) (list : List SourceParam) (trailing : Bool) → (begun : ParamsBegun tokens list rest) → (last : List Token) → Taken more_parameters begun.middle (map parameter_of begun.tail, trailing) last → Taken parameters tokens (listed list trailing) last
 params_whole tokens rest list trailing begun last taken =
     subst (λ (b : SourceParameters). Taken parameters tokens b last) (sym (ap (λ l. listed l trailing) begun.is))
-      (step_taken parameters some_parameters made tokens tokens last (parameter_of begun.head, (map parameter_of begun.tail, trailing)) (step_params tokens begun.unclosed) (both params_joint begun.taken taken))
+    (step_taken parameters some_parameters made tokens tokens last (parameter_of begun.head, (map parameter_of begun.tail, trailing)) (step_params tokens begun.unclosed) (both params_joint begun.taken taken))
 
 pub params_done : (tokens rest : List Token) (list : List SourceParam) → ParamsBegun tokens list rest → (first rest ≡ Some (Sign Comma) → ⊥) → Taken parameters tokens (listed list false) rest
 params_done tokens rest list begun uncommaed =
@@ -342,7 +355,7 @@ params_done tokens rest list begun uncommaed =
 pub params_trailing : (tokens rest after : List Token) (list : List SourceParam) → ParamsBegun tokens list rest → rest ≡ Sign Comma ∷ after → first after ≡ Some (Sign Close) → Taken parameters tokens (listed list true) after
 params_trailing tokens rest after list begun comma ends =
     params_whole tokens rest list true begun after (commas_trailing parameter (Sign Comma) EndsParameters begun.middle after (map parameter_of begun.tail) comma_apart
-      (subst (Commas parameter (Sign Comma) EndsParameters begun.middle (map parameter_of begun.tail)) comma begun.items) ends)
+    (subst (Commas parameter (Sign Comma) EndsParameters begun.middle (map parameter_of begun.tail)) comma begun.items) ends)
 
 pub params_err_first : (tokens : List Token) (e : Refusal) → (first tokens ≡ Some (Sign Close) → ⊥) → Refuses parameter tokens e → Refuses parameters tokens e
 params_err_first tokens e unclosed refuses = whole_err parameters some_parameters made tokens tokens e (step_params tokens unclosed) (now params_joint tokens e refuses)
@@ -350,11 +363,11 @@ params_err_first tokens e unclosed refuses = whole_err parameters some_parameter
 pub params_err : (tokens rest after : List Token) (list : List SourceParam) (e : Refusal) → ParamsBegun tokens list rest → rest ≡ Sign Comma ∷ after → (first after ≡ Some (Sign Close) → ⊥) → Refuses parameter after e → Refuses parameters tokens e
 params_err tokens rest after list e begun comma goes refuses =
     whole_err parameters some_parameters made tokens tokens e (step_params tokens begun.unclosed)
-      (later params_joint begun.taken e
-        (refuses_along parameter after more_parameters begun.middle e
-          (λ last refused. commas_refused parameter (Sign Comma) EndsParameters begun.middle after (map parameter_of begun.tail) last comma_apart
-            (subst (Commas parameter (Sign Comma) EndsParameters begun.middle (map parameter_of begun.tail)) comma begun.items) goes refused)
-          refuses))
+    (later params_joint begun.taken e
+    (refuses_along parameter after more_parameters begun.middle e
+    (λ last refused. commas_refused parameter (Sign Comma) EndsParameters begun.middle after (map parameter_of begun.tail) last comma_apart
+    (subst (Commas parameter (Sign Comma) EndsParameters begun.middle (map parameter_of begun.tail)) comma begun.items) goes refused)
+    refuses))
 
 -- a parameter has tokens
 pub parameter_shorter : (tokens rest : List Token) (p : SourceParameter) → Taken parameter tokens p rest → length rest < length tokens
@@ -364,14 +377,19 @@ parameter_shorter tokens rest p taken = omega (arith, ap length taken.whole, len
 
 abbrev pub Proc7 : Phrase Token (List SourceStatement × (Unit {0}))
 Proc7 = then body (exactly (Dedent ∷ []))
+
 abbrev pub Proc6 : Phrase Token ((Unit {0}) × (List SourceStatement × (Unit {0})))
 Proc6 = then (exactly (Sign Close ∷ Sign Colon ∷ NewLine ∷ Indent ∷ [])) Proc7
+
 abbrev pub Proc5 : Phrase Token (SourceParameters × ((Unit {0}) × (List SourceStatement × (Unit {0}))))
 Proc5 = then parameters Proc6
+
 abbrev pub Proc4 : Phrase Token ((Unit {0}) × (SourceParameters × ((Unit {0}) × (List SourceStatement × (Unit {0})))))
 Proc4 = then (exactly (Sign Open ∷ [])) Proc5
+
 abbrev pub Proc3 : Phrase Token (List ℕ × ((Unit {0}) × (SourceParameters × ((Unit {0}) × (List SourceStatement × (Unit {0}))))))
 Proc3 = then a_name Proc4
+
 abbrev pub Proc2 : Phrase Token ((Unit {0}) × (List ℕ × ((Unit {0}) × (SourceParameters × ((Unit {0}) × (List SourceStatement × (Unit {0})))))))
 Proc2 = then (exactly (Decorator d.Procedure ∷ NewLine ∷ Word w.Def ∷ [])) Proc3
 
@@ -380,32 +398,37 @@ proc_of p = record { name = p.1.0; params = p.1.1.1.0; body = p.1.1.1.1.1.0 }
 
 pub step_proc : (tokens : List Token) → Step procedure Proc2 proc_of tokens tokens
 step_proc tokens = record {
-    front = [];
-    split = refl;
-    fits = λ s fits. (fits.1.1.1.0, fits.1.1.1.1.1.0);
-    spelled = λ s. refl;
-    back = λ other x y same fits follows equal.
+  front = [];
+  split = refl;
+  fits = λ s fits. (fits.1.1.1.0, fits.1.1.1.1.1.0);
+  spelled = λ s. refl;
+  back = λ other x y same fits follows equal.
       record {
         tree = (tt, (other.name, (tt, (other.params, (tt, (other.body, tt))))));
         fits = (tt, (tt, (tt, (fits.0, (tt, (fits.1, tt))))));
         is = refl;
         equal = equal;
-        follows = tt
-      }
-  }
+        follows = tt;
+      };
+}
 
 abbrev one_pass : List SourceStatement
 one_pass = pass ∷ []
 
 pub proc2 : Joint (exactly (Decorator d.Procedure ∷ NewLine ∷ Word w.Def ∷ [])) Proc3
 proc2 = record { may = record { may = λ q y fits follows. tt }; some = ([], (tt, (none, (tt, (one_pass, tt))))); fits = (tt, (tt, (tt, (tt, (((tt, tt), tt), tt))))) }
+
 pub proc3 : Joint a_name Proc4
 proc3 = record { may = record { may = λ q y fits follows. tt }; some = (tt, (none, (tt, (one_pass, tt)))); fits = (tt, (tt, (tt, (((tt, tt), tt), tt)))) }
+
 pub proc4 : Joint (exactly (Sign Open ∷ [])) Proc5
 proc4 = record { may = record { may = λ q y fits follows. tt }; some = (none, (tt, (one_pass, tt))); fits = (tt, (tt, (((tt, tt), tt), tt))) }
+
 pub proc5 : Joint parameters Proc6
 proc5 = record { may = record { may = λ q y fits follows. refl }; some = (tt, (one_pass, tt)); fits = (tt, (((tt, tt), tt), tt)) }
+
 pub proc6 : Joint (exactly (Sign Close ∷ Sign Colon ∷ NewLine ∷ Indent ∷ [])) Proc7
 proc6 = record { may = record { may = λ q y fits follows. tt }; some = (one_pass, tt); fits = (((tt, tt), tt), tt) }
+
 pub proc7 : Joint body (exactly (Dedent ∷ []))
 proc7 = record { may = record { may = λ q y fits follows. refl }; some = tt; fits = tt }

@@ -1,9 +1,9 @@
 -- The returns of the functions that read expressions.
-use Rattle.std.proofs.Common.{◌≡◌, ℕ, zero, suc, ◌+◌, ◌-◌, ◌<◌, ◌≤◌, List, [], ◌∷◌, ◌++◌, Option, Some, None, Result, Ok, Err, length, refl, sym, ap, ◌∙◌, append_assoc, subst, arith, add-one, ◌⊎◌, inl, inr}
-use Rattle.phrases.specs.Phrase.{first, Phrase, Taken, Refused}
-use Rattle.phrases.specs.Answers.{Reads, Refuses}
+use Rattle.std.proofs.Common.{◌≡◌, ℕ, zero, suc, ◌+◌, ◌-◌, ◌<◌, ◌≤◌, List, [], ◌∷◌, Some, length, refl, sym, ap, ◌∙◌, subst, arith, add-one, ◌⊎◌, inl, inr}
+use Rattle.phrases.specs.Phrase.{first, Taken, Refused}
+use Rattle.phrases.specs.Answers.{Refuses}
 use Rattle.phrases.specs.declared.Refusal.{Refusal}
-use Rattle.phrases.specs.declared.Refusal.TheVariants.{Memory, Syntax}
+use Rattle.phrases.specs.declared.Refusal.TheVariants.{Syntax}
 use Rattle.phrases.proofs.Exits.{refuses_along}
 use Rattle.exo_reader.specs.Expression.{Tree, number, variable, access, negative, parens, binary, operand, level_of, left_level, sign, Stands, NoSign, HasPlace, depth, nodes}
 use Rattle.exo_reader.specs.Views.{tree_of, IsMeasured}
@@ -12,7 +12,7 @@ use Rattle.exo_reader.specs.declared.source.Operator.{Operator}
 use Rattle.exo_reader.specs.declared.expression.Room.{Room}
 use Rattle.exo_reader.specs.declared.expression.Measured.{Measured}
 use Rattle.exo_reader.specs.declared.token.Token.{Token}
-use Rattle.exo_reader.specs.declared.token.Token.TheVariants.{Int, Name, Str, Word, Sign, Decorator, NewLine, Indent, Dedent, Bad}
+use Rattle.exo_reader.specs.declared.token.Token.TheVariants.{Int, Name, Sign}
 use Rattle.exo_reader.specs.declared.token.Literal.{Literal}
 use Rattle.exo_reader.specs.declared.token.Literal.TheVariants.{Value, TooLarge}
 use Rattle.exo_reader.specs.declared.token.Sign.TheVariants as s
@@ -44,7 +44,7 @@ index_err room inner name tokens after e place deep levels count front refuses =
 pub bracket_err : (room inner : Room) (name : List ℕ) (tokens after found : List Token) (index : Tree) (e : Refusal) → HasPlace room → 1 < room.depth → inner.depth ≡ room.depth - 1 → inner.nodes ≡ 256 → tokens ≡ Sign s.OpenBracket ∷ after → Taken (operand 0 inner) after index found → (e ≡ Syntax (length found)) × (first found ≡ Some (Sign s.CloseBracket) → ⊥) → Refuses (operand 5 room) (Name name ∷ tokens) e
 bracket_err room inner name tokens after found index e place deep levels count front taken missing =
     subst (Refuses (operand 5 room) (Name name ∷ tokens)) (sym missing.0)
-      (subst (λ (ts : List Token). Refused (operand 5 room) (Name name ∷ ts) (length found)) (sym front) (refused_bracket room inner name after found index place (index_room room inner deep levels count) taken missing.1))
+    (subst (λ (ts : List Token). Refused (operand 5 room) (Name name ∷ ts) (length found)) (sym front) (refused_bracket room inner name after found index place (index_room room inner deep levels count) taken missing.1))
 
 pub access_ok : (room inner : Room) (name : List ℕ) (tokens after found rest : List Token) (index tree : Tree) → HasPlace room → 1 < room.depth → inner.depth ≡ room.depth - 1 → inner.nodes ≡ 256 → tokens ≡ Sign s.OpenBracket ∷ after → Taken (operand 0 inner) after index found → found ≡ Sign s.CloseBracket ∷ rest → tree ≡ access name index → Taken (operand 5 room) (Name name ∷ tokens) tree rest
 access_ok room inner name tokens after found rest index tree place deep levels count front taken close is =
@@ -81,7 +81,7 @@ parens_err room inner tokens after e deep levels count front refuses =
 pub close_err : (room inner : Room) (tokens after found : List Token) (inside : Tree) (e : Refusal) → 1 < room.depth → inner.depth ≡ room.depth - 1 → inner.nodes ≡ room.nodes → tokens ≡ Sign s.Open ∷ after → Taken (operand 0 inner) after inside found → (e ≡ Syntax (length found)) × (first found ≡ Some (Sign s.Close) → ⊥) → Refuses (operand 5 room) tokens e
 close_err room inner tokens after found inside e deep levels count front taken missing =
     subst (Refuses (operand 5 room) tokens) (sym missing.0)
-      (subst (λ (ts : List Token). Refused (operand 5 room) ts (length found)) (sym front) (refused_close room inner after found inside (deeper_room room inner deep levels count) taken missing.1))
+    (subst (λ (ts : List Token). Refused (operand 5 room) ts (length found)) (sym front) (refused_close room inner after found inside (deeper_room room inner deep levels count) taken missing.1))
 
 pub parens_ok : (room inner : Room) (tokens after found rest : List Token) (inside tree : Tree) → 1 < room.depth → inner.depth ≡ room.depth - 1 → inner.nodes ≡ room.nodes → tokens ≡ Sign s.Open ∷ after → Taken (operand 0 inner) after inside found → found ≡ Sign s.Close ∷ rest → tree ≡ parens inside → Taken (operand 5 room) tokens tree rest
 parens_ok room inner tokens after found rest inside tree deep levels count front taken close is =
@@ -90,10 +90,10 @@ parens_ok room inner tokens after found rest inside tree deep levels count front
 -- the measured left side of an operator leaves this room
 pub rights : (room inner : Room) (m : Measured) → IsMeasured m → (inner.depth + 1 ≡ room.depth) × (inner.nodes + m.nodes + 1 ≡ room.nodes) × (m.depth < room.depth) × HasPlace inner → Right room inner (tree_of m.tree)
 rights room inner m measured room_is = record {
-    levels = room_is.0;
-    count = omega (arith, room_is.1, measured.nodes);
-    shallow = omega (arith, room_is.2, measured.depth)
-  }
+  levels = room_is.0;
+  count = omega (arith, room_is.1, measured.nodes);
+  shallow = omega (arith, room_is.2, measured.depth);
+}
 
 full_of : (room : Room) (m : Measured) → IsMeasured m → (room.depth ≤ m.depth) ⊎ (room.nodes ≤ m.nodes + 1) → (room.depth ≤ depth (tree_of m.tree)) ⊎ (room.nodes ≤ nodes (tree_of m.tree) + 1)
 full_of room m measured (inl deep) = inl (omega (arith, measured.depth))
@@ -102,7 +102,7 @@ full_of room m measured (inr long) = inr (omega (arith, measured.nodes))
 pub full_err : (level : ℕ) (room : Room) (tokens rest after : List Token) (m : Measured) (operator : Operator) → IsMeasured m → Begun level room tokens (tree_of m.tree) rest → (rest ≡ sign operator ∷ after) × (level_of operator ≡ level) → (room.depth ≤ m.depth) ⊎ (room.nodes ≤ m.nodes + 1) → Refused (operand level room) tokens (length rest)
 full_err level room tokens rest after m operator measured begun here full =
     subst (λ (r : List Token). Refused (operand level room) tokens (length r)) (sym here.0)
-      (refused_operator level room tokens (tree_of m.tree) after operator (subst (Begun level room tokens (tree_of m.tree)) here.0 begun) here.1 (full_of room m measured full))
+    (refused_operator level room tokens (tree_of m.tree) after operator (subst (Begun level room tokens (tree_of m.tree)) here.0 begun) here.1 (full_of room m measured full))
 
 ready : (o : Operator) (level : ℕ) (left : Tree) → level_of o ≡ level → (level ≡ 2 → ⊥) → Stands level left → Stands (left_level o) left
 ready o level left here ne stands = subst (λ (k : ℕ). Stands k left) (sym (left_same o (λ two. ne (sym here ∙ two)) ∙ here)) stands
@@ -116,8 +116,8 @@ begun_first level room tokens rest left taken = begun_of_taken level room tokens
 pub chain_err : (level : ℕ) (room inner : Room) (tokens rest after : List Token) (left : Tree) (operator : Operator) (e : Refusal) → Begun level room tokens left rest → (rest ≡ sign operator ∷ after) × (level_of operator ≡ level) → (level ≡ 2 → ⊥) → Right room inner left → Refuses (operand (level + 1) inner) after e → Refuses (operand level room) tokens e
 chain_err level room inner tokens rest after left operator e begun here ne right refuses =
     refuses_along (operand (suc level) inner) after (operand level room) tokens e
-      (λ last refused. refused_right level room inner tokens left after operator last (subst (Begun level room tokens left) here.0 begun) here.1 (ready operator level left here.1 ne begun.fits.0) right refused)
-      (rw add-one at refuses)
+    (λ last refused. refused_right level room inner tokens left after operator last (subst (Begun level room tokens left) here.0 begun) here.1 (ready operator level left here.1 ne begun.fits.0) right refused)
+    (rw add-one at refuses)
 
 pub chain_next : (level : ℕ) (room inner : Room) (tokens rest after behind : List Token) (left right tree : Tree) (operator : Operator) → Begun level room tokens left rest → (rest ≡ sign operator ∷ after) × (level_of operator ≡ level) → (level ≡ 2 → ⊥) → Right room inner left → Taken (operand (level + 1) inner) after right behind → tree ≡ binary operator left right → Begun level room tokens tree behind
 chain_next level room inner tokens rest after behind left right tree operator begun here ne room_left taken is =
@@ -132,13 +132,13 @@ compare_full room tokens rest after m operator measured taken here full = full_e
 pub compare_err : (room inner : Room) (tokens rest after : List Token) (left : Tree) (operator : Operator) (e : Refusal) → Taken (operand 3 room) tokens left rest → (rest ≡ sign operator ∷ after) × (level_of operator ≡ 2) → Right room inner left → Refuses (operand 3 inner) after e → Refuses (operand 2 room) tokens e
 compare_err room inner tokens rest after left operator e taken here right refuses =
     refuses_along (operand 3 inner) after (operand 2 room) tokens e
-      (λ last refused. refused_right 2 room inner tokens left after operator last (subst (Begun 2 room tokens left) here.0 (begun_of_taken 2 room tokens left rest taken)) here.1 (subst (λ (k : ℕ). Stands k left) (sym (compared_left operator here.1)) taken.fits.0) right refused)
-      refuses
+    (λ last refused. refused_right 2 room inner tokens left after operator last (subst (Begun 2 room tokens left) here.0 (begun_of_taken 2 room tokens left rest taken)) here.1 (subst (λ (k : ℕ). Stands k left) (sym (compared_left operator here.1)) taken.fits.0) right refused)
+    refuses
 
 pub compare_ok : (room inner : Room) (tokens rest after behind : List Token) (left right tree : Tree) (operator : Operator) → Taken (operand 3 room) tokens left rest → (rest ≡ sign operator ∷ after) × (level_of operator ≡ 2) → Right room inner left → Taken (operand 3 inner) after right behind → tree ≡ binary operator left right → Taken (operand 2 room) tokens tree behind
 compare_ok room inner tokens rest after behind left right tree operator taken here room_left right_taken is =
     rw is (taken_compared room tokens operator left right behind here.1
-      (begun_next 2 room inner tokens left after operator right behind (subst (Begun 2 room tokens left) here.0 (begun_of_taken 2 room tokens left rest taken)) here.1 (subst (λ (k : ℕ). Stands k left) (sym (compared_left operator here.1)) taken.fits.0) room_left right_taken))
+    (begun_next 2 room inner tokens left after operator right behind (subst (Begun 2 room tokens left) here.0 (begun_of_taken 2 room tokens left rest taken)) here.1 (subst (λ (k : ℕ). Stands k left) (sym (compared_left operator here.1)) taken.fits.0) room_left right_taken))
 
 not_start : (t : Token) → (Some t ≡ Some (Sign s.Minus) → ⊥) → (Some t ≡ Some (Sign s.Open) → ⊥) → ((l : Literal) → t ≡ Int l → ⊥) → ((n : List ℕ) → t ≡ Name n → ⊥) → Starts (Some t) → ⊥
 not_start (Int l) minus opened int name starts = int l refl

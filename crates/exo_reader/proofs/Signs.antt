@@ -1,7 +1,7 @@
 -- Operators and their tokens.
 use Rattle.std.proofs.Common.{◌≡◌, ℕ, suc, ◌<◌, ◌≤◌, List, [], ◌∷◌, Option, Some, None, refl, sym, ap, ◌∙◌, subst, arith}
 use Rattle.phrases.specs.Phrase.{first}
-use Rattle.exo_reader.specs.Expression.{level_of, left_level, sign, joins, joins_by_sign, joins_by_word, FollowsOperand, FollowsBy}
+use Rattle.exo_reader.specs.Expression.{level_of, left_level, sign, joins, FollowsOperand, FollowsBy}
 use Rattle.exo_reader.specs.declared.source.Operator.{Operator}
 use Rattle.exo_reader.specs.declared.source.Operator.TheVariants.{Or, And, Lt, Le, Gt, Ge, Eq, Add, Sub, Mul, Div, Mod}
 use Rattle.exo_reader.specs.declared.token.Token.{Token}

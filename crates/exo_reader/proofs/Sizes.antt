@@ -1,5 +1,5 @@
 -- Depths and numbers of nodes.
-use Rattle.std.proofs.Common.{◌≡◌, ℕ, suc, ◌+◌, ◌<◌, ◌≤◌, max, List, [], ◌∷◌, refl, sym, ap, ◌∙◌, subst, arith}
+use Rattle.std.proofs.Common.{◌≡◌, ◌+◌, ◌<◌, ◌≤◌, max, List, [], ◌∷◌, ap, arith}
 use Rattle.std.proofs.Math.Nat.{le-max_left, le-max_right, max-le}
 use Rattle.exo_reader.specs.Expression.{Tree, number, variable, access, negative, parens, binary, depth, nodes, Within}
 use Rattle.exo_reader.specs.Chain.{Link, with_links}
@@ -47,7 +47,7 @@ within_link room operator left right other links is within =
     record {
       left_depth = omega (arith, front.0, le-max_left (depth left) (depth right));
       right_depth = omega (arith, front.0, le-max_right (depth left) (depth right));
-      nodes = omega (arith, front.1)
+      nodes = omega (arith, front.1);
     }
 
 -- the room that is left at the right of an operator

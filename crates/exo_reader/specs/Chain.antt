@@ -1,6 +1,6 @@
 -- An operand of a level that is being read from the left.
 use Rattle.std.specs.Prelude.{◌≡◌, ℕ, suc, List, [], ◌∷◌, ◌++◌}
-use Rattle.phrases.specs.Phrase.{first, Phrase}
+use Rattle.phrases.specs.Phrase.{first}
 use Rattle.exo_reader.specs.Expression.{Tree, binary, level_of, Stands, spelling, operand}
 use Rattle.exo_reader.specs.declared.source.Operator.{Operator}
 use Rattle.exo_reader.specs.declared.token.Token.{Token}

@@ -178,3 +178,12 @@ layout end line blocks brackets (bytes ∷ more) =
 -- the tokens of a text with their places
 abbrev pub lexed : List ℕ → List Placed
 lexed text = up_to_fault (layout (end_place text) 1 [] 0 (lines text))
+
+-- the tokens of a text that is to be one line, as the string of an argument; a second line begins behind a line end
+abbrev pub one_line : List (List ℕ) → List Placed
+one_line [] = []
+one_line (bytes ∷ []) = line_tokens 1 bytes
+one_line (bytes ∷ next ∷ more) = up_to_fault (line_tokens 1 bytes ++ (put (at 1 (length bytes + 1)) token.NewLine ∷ []))
+
+abbrev pub line_lexed : List ℕ → List Placed
+line_lexed text = one_line (lines text)

@@ -3,8 +3,12 @@ pub mod Fixed
 pub mod Expression
 pub mod Chain
 pub mod Procedure
+pub mod Reserved
+pub mod FirstForm
+pub mod FirstAnswers
 pub mod Views
 pub mod Bytes
 pub mod Quoted
 pub mod Piece
 pub mod Layout
+pub mod FirstText

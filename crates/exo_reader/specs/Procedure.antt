@@ -1,6 +1,6 @@
 -- The grammar of procedures: so far with parameters of one dimension, `pass` and assignments to cells with one index.
-use Rattle.std.specs.Prelude.{◌≡◌, ℕ, List, [], ◌∷◌, ◌++◌, Option, Some, None, Bool, true, false}
-use Rattle.phrases.specs.Phrase.{first, Phrase}
+use Rattle.std.specs.Prelude.{◌≡◌, ℕ, List, [], ◌∷◌, ◌++◌, Option, Some, Bool}
+use Rattle.phrases.specs.Phrase.{Phrase}
 use Rattle.phrases.specs.Sequence.{AllFit, spell_all}
 use Rattle.phrases.specs.Commas.{spell_more}
 use Rattle.exo_reader.specs.Expression.{Tree, spelling, operand}
@@ -66,7 +66,7 @@ parameter =
     record {
       Fits = λ p. (operand 0 control_room).Fits p.extent;
       spell = λ p. Name p.name ∷ Sign Colon ∷ Name p.kind ∷ Sign OpenBracket ∷ (spelling p.extent ++ (Sign CloseBracket ∷ []));
-      Follows = λ o. Unit {0}
+      Follows = λ o. Unit {0};
     }
 
 abbrev pub EndsParameters : Option Token → Type 0
@@ -90,5 +90,5 @@ procedure =
     record {
       Fits = λ p. ParametersFit p.params × body.Fits p.body;
       spell = λ p. Decorator d.Procedure ∷ NewLine ∷ Word w.Def ∷ Name p.name ∷ Sign Open ∷ (spelling_parameters p.params ++ (Sign Close ∷ Sign Colon ∷ NewLine ∷ Indent ∷ (spell_all statement p.body ++ (Dedent ∷ []))));
-      Follows = λ o. Unit {0}
+      Follows = λ o. Unit {0};
     }

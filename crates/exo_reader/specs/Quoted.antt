@@ -1,5 +1,5 @@
 -- Strings behind their first quote.
-use Rattle.std.specs.Prelude.{◌≡◌, ℕ, ◌+◌, ◌≤◌, List, [], ◌∷◌, ◌++◌, drop, length, if◌then◌else◌, nat_eq, Option, Some, None}
+use Rattle.std.specs.Prelude.{◌≡◌, ℕ, ◌+◌, ◌≤◌, ◌<◌, List, [], ◌∷◌, ◌++◌, drop, length, if◌then◌else◌, nat_eq, Option, Some, None}
 use Rattle.exo_reader.specs.Bytes.{is_printable, escaped}
 use Rattle.exo_reader.specs.declared.quoted.Ending.{Ending}
 use Rattle.exo_reader.specs.declared.quoted.Ending.TheVariants.{Closed, Unclosed, Foreign}
@@ -37,5 +37,5 @@ abbrev mutual
 
 -- a part of a string, at the front of its bytes
 abbrev pub IsPart : ℕ → List ℕ → Quoted → Part → Type 0
-IsPart quote bytes q (Byte c n) = (1 ≤ n) × (n ≤ length bytes) × (q ≡ behind (c ∷ []) n (quoted quote (drop n bytes)))
+IsPart quote bytes q (Byte c n) = (c < 0x80) × (1 ≤ n) × (n ≤ length bytes) × (q ≡ behind (c ∷ []) n (quoted quote (drop n bytes)))
 IsPart quote bytes q (End ending n) = (n ≤ length bytes) × (q ≡ ends n ending)

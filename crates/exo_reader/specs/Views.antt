@@ -1,5 +1,5 @@
 -- Source trees without where they lie in memory.
-use Rattle.std.specs.Prelude.{◌≡◌, ℕ, List, [], ◌∷◌, map, Bool}
+use Rattle.std.specs.Prelude.{◌≡◌, List, [], ◌∷◌, map, Bool}
 use Rattle.exo_reader.specs.Expression.{Tree, number, variable, access, negative, parens, binary, depth, nodes}
 use Rattle.exo_reader.specs.declared.source.SourceExpr.{SourceExpr}
 use Rattle.exo_reader.specs.declared.source.SourceExpr.TheVariants.{Int, Name, Access', Negative', Parens', Binary'}

@@ -1,6 +1,6 @@
 // What the bytes of a text may be.
 
-ghost use Rattle.std.specs.Prelude.{◌≡◌, take_while};
+ghost use Rattle.std.specs.Prelude.{◌≡◌, ◌<◌, take_while, EachIndex, slice_index};
 ghost use Rattle.std.specs.Char.{is_ascii_digit};
 ghost use Rattle.exo_reader.specs.Bytes.{is_printable, is_quote, begins_name, goes_on_name, escaped};
 
@@ -49,7 +49,8 @@ pub fn escaped(byte: u8) -> Option<u8>
 
 /// The bytes at the front with which a name goes on.
 pub fn name_at(bytes: &[u8]) -> &[u8]
-    ensures { result.now ≡ take_while goes_on_name bytes.now }
+    ensures value { result.now ≡ take_while goes_on_name bytes.now }
+    ensures ascii { EachIndex result.now (λ k. slice_index result.now k < 0x80) }
 {
     let mut count = 0;
     while count < bytes.len() && goes_on_name(bytes[count]) {

@@ -120,7 +120,12 @@ fn right_room(left: &Measured, room: Room) -> Option<Room>
 }
 
 /// Two sides with their operator.
-fn joined(alloc: Global, left: Measured, operator: Operator, right: Measured) -> Result<Measured, AllocError>
+fn joined(
+    alloc: Global,
+    left: Measured,
+    operator: Operator,
+    right: Measured,
+) -> Result<Measured, AllocError>
     requires measured { IsMeasured left × IsMeasured right }
     requires shallow { (left.depth < 4294967295) × (right.depth < 4294967295) }
     requires few { left.nodes + right.nodes < 4294967295 }
@@ -128,7 +133,11 @@ fn joined(alloc: Global, left: Measured, operator: Operator, right: Measured) ->
 {
     let depth = left.depth.max(right.depth) + 1;
     let nodes = left.nodes + right.nodes + 1;
-    let tree = SourceExpr::Binary(operator, Box::new(alloc, left.tree)?, Box::new(alloc, right.tree)?);
+    let tree = SourceExpr::Binary(
+        operator,
+        Box::new(alloc, left.tree)?,
+        Box::new(alloc, right.tree)?,
+    );
     Ok(Measured { tree, depth, nodes })
 }
 
@@ -178,7 +187,12 @@ fn accessed(alloc: Global, name: &Text, index: Measured) -> Result<Measured, All
 
 /// An operand of a level, within the room: level 0 is a whole expression.
 #[cycle(expressions)]
-pub fn read_operand(alloc: Global, tokens: &[Token], level: u8, room: Room) -> Result<(Measured, &[Token]), Refusal>
+pub fn read_operand(
+    alloc: Global,
+    tokens: &[Token],
+    level: u8,
+    room: Room,
+) -> Result<(Measured, &[Token]), Refusal>
     requires levels { level ≤ 5 }
     requires place { HasPlace room }
     ensures measured { IfOk result (λ x. IsMeasured x.0) }
@@ -190,7 +204,13 @@ pub fn read_operand(alloc: Global, tokens: &[Token], level: u8, room: Room) -> R
 
 /// An operand of a level whose first part has been read.
 #[cycle(expressions)]
-pub fn read_from(alloc: Global, atom: Measured, rest: &[Token], level: u8, room: Room) -> Result<(Measured, &[Token]), Refusal>
+pub fn read_from(
+    alloc: Global,
+    atom: Measured,
+    rest: &[Token],
+    level: u8,
+    room: Room,
+) -> Result<(Measured, &[Token]), Refusal>
     requires levels { level ≤ 5 }
     requires place { HasPlace room }
     requires measured { IsMeasured atom }
@@ -211,7 +231,12 @@ pub fn read_from(alloc: Global, atom: Measured, rest: &[Token], level: u8, room:
 
 /// The other side of a comparison, if there is one.
 #[cycle(expressions)]
-fn read_comparison(alloc: Global, left: Measured, rest: &[Token], room: Room) -> Result<(Measured, &[Token]), Refusal>
+fn read_comparison(
+    alloc: Global,
+    left: Measured,
+    rest: &[Token],
+    room: Room,
+) -> Result<(Measured, &[Token]), Refusal>
     requires place { HasPlace room }
     requires measured { IsMeasured left }
     ensures shorter { IfOk result (λ x. length x.1.now ≤ length rest.now) }
@@ -231,7 +256,13 @@ fn read_comparison(alloc: Global, left: Measured, rest: &[Token], room: Room) ->
 
 /// The operators of a level and their right sides, as many as there are.
 #[cycle(expressions)]
-fn read_chain(alloc: Global, leftmost: Measured, tail: &[Token], level: u8, room: Room) -> Result<(Measured, &[Token]), Refusal>
+fn read_chain(
+    alloc: Global,
+    leftmost: Measured,
+    tail: &[Token],
+    level: u8,
+    room: Room,
+) -> Result<(Measured, &[Token]), Refusal>
     requires splits { level < 5 }
     requires no_comparison { level ≢ 2 }
     requires place { HasPlace room }
@@ -278,7 +309,12 @@ fn read_unary(alloc: Global, tokens: &[Token], room: Room) -> Result<(Measured, 
 }
 
 /// A literal that stands first.
-fn read_literal<'a>(tokens: &[Token], literal: Literal, rest: &'a [Token], room: Room) -> Result<(Measured, &'a [Token]), Refusal>
+fn read_literal<'a>(
+    tokens: &[Token],
+    literal: Literal,
+    rest: &'a [Token],
+    room: Room,
+) -> Result<(Measured, &'a [Token]), Refusal>
     requires place { HasPlace room }
     requires front { tokens.now ≡ Token.Int literal ∷ rest.now }
     ensures measured { IfOk result (λ x. IsMeasured x.0) }
@@ -299,7 +335,12 @@ fn read_literal<'a>(tokens: &[Token], literal: Literal, rest: &'a [Token], room:
 
 /// What comes behind a minus.
 #[cycle(expressions)]
-fn read_negative<'a>(alloc: Global, tokens: &[Token], rest: &'a [Token], room: Room) -> Result<(Measured, &'a [Token]), Refusal>
+fn read_negative<'a>(
+    alloc: Global,
+    tokens: &[Token],
+    rest: &'a [Token],
+    room: Room,
+) -> Result<(Measured, &'a [Token]), Refusal>
     requires place { HasPlace room }
     requires front { tokens.now ≡ Token.Sign Sign.Minus ∷ rest.now }
     ensures measured { IfOk result (λ x. IsMeasured x.0) }
@@ -319,7 +360,12 @@ fn read_negative<'a>(alloc: Global, tokens: &[Token], rest: &'a [Token], room: R
 
 /// What comes behind an opening parenthesis.
 #[cycle(expressions)]
-fn read_parens<'a>(alloc: Global, tokens: &[Token], rest: &'a [Token], room: Room) -> Result<(Measured, &'a [Token]), Refusal>
+fn read_parens<'a>(
+    alloc: Global,
+    tokens: &[Token],
+    rest: &'a [Token],
+    room: Room,
+) -> Result<(Measured, &'a [Token]), Refusal>
     requires place { HasPlace room }
     requires front { tokens.now ≡ Token.Sign Sign.Open ∷ rest.now }
     ensures measured { IfOk result (λ x. IsMeasured x.0) }
@@ -340,7 +386,12 @@ fn read_parens<'a>(alloc: Global, tokens: &[Token], rest: &'a [Token], room: Roo
 
 /// What comes behind a name in an expression.
 #[cycle(expressions)]
-fn read_access<'a>(alloc: Global, name: &Text, rest: &'a [Token], room: Room) -> Result<(Measured, &'a [Token]), Refusal>
+fn read_access<'a>(
+    alloc: Global,
+    name: &Text,
+    rest: &'a [Token],
+    room: Room,
+) -> Result<(Measured, &'a [Token]), Refusal>
     requires place { HasPlace room }
     ensures measured { IfOk result (λ x. IsMeasured x.0) }
     ensures reads { Reads (operand 5 room) (Token.Name name.now ∷ rest.now) (λ x. tree_of x.0.tree) (λ x. x.1.now) result }

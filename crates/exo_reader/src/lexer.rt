@@ -1,11 +1,11 @@
 // The tokens of a text.
 
 ghost use Rattle.std.specs.Prelude.{◌≡◌, ◌+◌, ◌≤◌, ◌++◌, [], ◌∷◌, length, map, take, true, false, IfOk, MatchOption};
-ghost use Rattle.exo_reader.specs.Layout.{lines, line_end_width, end_place, up_to_fault, is_sound, layout, lexed, place_of, token_of};
+ghost use Rattle.exo_reader.specs.Layout.{lines, line_end_width, end_place, up_to_fault, is_sound, layout, lexed, line_lexed, place_of, token_of};
 
 use crate::blocks::Blocks;
 use crate::layout::{end_text, lay_line};
-use crate::line::is_fault;
+use crate::line::{is_fault, line_tokens};
 use crate::place::{Place, Placed};
 use crate::token::Token;
 use std::alloc::{AllocError, Global};
@@ -102,13 +102,13 @@ fn lay_text(alloc: Global, text: &[u8], end: Place) -> Result<Vec<Placed>, Alloc
     ensures { IfOk result (λ placed. placed.items ≡ up_to_fault (layout end 1 [] 0 (lines text.now))) }
 {
     let mut placed = Vec::new(alloc);
-    let mut blocks = Blocks::new(alloc);
+    let mut open_blocks = Blocks::new(alloc);
     let mut brackets = 0;
     let mut line = 1;
     let mut rest = text;
     'lines: loop {
         let (bytes, after) = first_line(rest);
-        let laid = lay_line(alloc, &mut blocks, brackets, line, bytes)?;
+        let laid = lay_line(alloc, &mut open_blocks, brackets, line, bytes)?;
         let mut given = laid.given;
         let sound = cut_at_fault(&mut given);
         placed.append(&mut given)?;
@@ -117,7 +117,7 @@ fn lay_text(alloc: Global, text: &[u8], end: Place) -> Result<Vec<Placed>, Alloc
         }
         brackets = laid.brackets;
         let Some(next) = after else {
-            let mut last = end_text(alloc, &blocks, brackets, end)?;
+            let mut last = end_text(alloc, &open_blocks, brackets, end)?;
             placed.append(&mut last)?;
             return Ok(placed);
         };
@@ -149,5 +149,38 @@ pub fn lex(alloc: Global, text: &[u8]) -> Result<Lexed, AllocError>
 {
     let end = end_place(text);
     let placed = lay_text(alloc, text, end)?;
+    separate(alloc, placed, end)
+}
+
+/// The tokens of a text that is to be one line, up to a fault.
+fn lay_one_line(alloc: Global, text: &[u8]) -> Result<Vec<Placed>, AllocError>
+    requires { length text.now ≤ 0x100000 }
+    ensures { IfOk result (λ placed. placed.items ≡ line_lexed text.now) }
+{
+    let (bytes, after) = first_line(text);
+    let mut placed = line_tokens(alloc, 1, bytes)?;
+    let Some(_) = after else {
+        return Ok(placed);
+    };
+    placed.push(Placed {
+        place: Place {
+            line: 1,
+            column: bytes.len() as u32 + 1,
+        },
+        token: Token::NewLine,
+    })?;
+    cut_at_fault(&mut placed);
+    Ok(placed)
+}
+
+/// The tokens of a text of at most 2^20 bytes that is to be one line, as the string of an argument, and their places. No
+/// indentation counts in it and it has no end, but one of more lines has a line end where the first one ends.
+pub fn lex_line(alloc: Global, text: &[u8]) -> Result<Lexed, AllocError>
+    requires { length text.now ≤ 0x100000 }
+    ensures tokens { IfOk result (λ l. l.tokens.items ≡ map token_of (line_lexed text.now)) }
+    ensures places { IfOk result (λ l. l.places.items ≡ map place_of (line_lexed text.now) ++ end_place text.now ∷ []) }
+{
+    let end = end_place(text);
+    let placed = lay_one_line(alloc, text)?;
     separate(alloc, placed, end)
 }

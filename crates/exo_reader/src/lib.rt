@@ -4,6 +4,8 @@
 pub mod blocks;
 pub mod bytes;
 pub mod expression;
+pub mod first;
+pub mod first_text;
 pub mod front;
 pub mod layout;
 pub mod lexer;
@@ -12,6 +14,7 @@ pub mod piece;
 pub mod place;
 pub mod procedure;
 pub mod quoted;
+pub mod reserved;
 pub mod source;
 pub mod text;
 pub mod token;

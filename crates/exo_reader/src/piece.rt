@@ -1,6 +1,6 @@
 // The token that begins at a byte.
 
-ghost use Rattle.std.specs.Prelude.{◌≡◌, ◌+◌, ◌≤◌, ◌<◌, length, IfOk};
+ghost use Rattle.std.specs.Prelude.{◌≡◌, ◌+◌, ◌≤◌, ◌<◌, length, IfOk, EachIndex, slice_index};
 ghost use Rattle.exo_reader.specs.Quoted.{quoted};
 ghost use Rattle.exo_reader.specs.Piece.{word_of, decorator_of, sign_of, sign_with_equals, literal, name_token, name_piece, decorator_piece, literal_piece, string_piece, lone_piece, sign_piece, piece_of};
 
@@ -133,6 +133,7 @@ fn literal(digits: &[u8]) -> Literal
 
 /// A name; a word or `_` alone is none.
 fn name_token(alloc: Global, text: &[u8]) -> Result<Token, AllocError>
+    requires { EachIndex text.now (λ k. slice_index text.now k < 0x80) }
     ensures { IfOk result (λ t. t ≡ name_token text.now) }
 {
     if text == b"_".as_slice() {
@@ -146,6 +147,7 @@ fn name_token(alloc: Global, text: &[u8]) -> Result<Token, AllocError>
 
 /// The piece of a name.
 fn name_piece(alloc: Global, text: &[u8]) -> Result<Piece, AllocError>
+    requires { EachIndex text.now (λ k. slice_index text.now k < 0x80) }
     ensures { IfOk result (λ p. p ≡ name_piece text.now) }
 {
     let token = name_token(alloc, text)?;

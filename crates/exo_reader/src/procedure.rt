@@ -92,12 +92,19 @@ fn read_pass(rest: &[Token]) -> Result<(SourceStmt, &[Token]), Refusal>
 }
 
 /// What comes behind the name of an assignment.
-fn read_assignment<'a>(alloc: Global, name: &Text, rest: &'a [Token]) -> Result<(SourceStmt, &'a [Token]), Refusal>
+fn read_assignment<'a>(
+    alloc: Global,
+    name: &Text,
+    rest: &'a [Token],
+) -> Result<(SourceStmt, &'a [Token]), Refusal>
     ensures { Reads statement (Token.Name name.now ∷ rest.now) (λ x. statement_of x.0) (λ x. x.1.now) result }
 {
     let rest = expect_all(rest, &[Fixed::Sign(Sign::OpenBracket)])?;
     let (index, rest) = read_control(alloc, rest)?;
-    let rest = expect_all(rest, &[Fixed::Sign(Sign::CloseBracket), Fixed::Sign(Sign::Assign)])?;
+    let rest = expect_all(
+        rest,
+        &[Fixed::Sign(Sign::CloseBracket), Fixed::Sign(Sign::Assign)],
+    )?;
     let (value, rest) = read_data(alloc, rest)?;
     let rest = expect_all(rest, &[Fixed::NewLine])?;
     let target = name.clone()?;
@@ -187,11 +194,26 @@ pub fn read_parameters(alloc: Global, tokens: &[Token]) -> Result<(SourceParams,
 pub fn read_procedure(alloc: Global, tokens: &[Token]) -> Result<(SourceProc, &[Token]), Refusal>
     ensures { Reads procedure tokens.now (λ x. procedure_of x.0) (λ x. x.1.now) result }
 {
-    let rest = expect_all(tokens, &[Fixed::Decorator(Decorator::Procedure), Fixed::NewLine, Fixed::Word(Word::Def)])?;
+    let rest = expect_all(
+        tokens,
+        &[
+            Fixed::Decorator(Decorator::Procedure),
+            Fixed::NewLine,
+            Fixed::Word(Word::Def),
+        ],
+    )?;
     let (name, rest) = read_name(rest)?;
     let rest = expect_all(rest, &[Fixed::Sign(Sign::Open)])?;
     let (params, rest) = read_parameters(alloc, rest)?;
-    let rest = expect_all(rest, &[Fixed::Sign(Sign::Close), Fixed::Sign(Sign::Colon), Fixed::NewLine, Fixed::Indent])?;
+    let rest = expect_all(
+        rest,
+        &[
+            Fixed::Sign(Sign::Close),
+            Fixed::Sign(Sign::Colon),
+            Fixed::NewLine,
+            Fixed::Indent,
+        ],
+    )?;
     let (body, rest) = read_body(alloc, rest)?;
     let rest = expect_all(rest, &[Fixed::Dedent])?;
     Ok((SourceProc { name, params, body }, rest))

@@ -1,23 +1,23 @@
 // Bytes that a token holds.
 
-ghost use Rattle.std.specs.Prelude.{◌≡◌, [], ◌∷◌, ◌++◌, IfOk};
+ghost use Rattle.std.specs.Prelude.{◌≡◌, ◌<◌, [], ◌∷◌, ◌++◌, IfOk, EachIndex, slice_index};
 ghost use Rattle.std.specs.Result.{OnOk};
 
 use std::alloc::{AllocError, Global};
 use std::marker::Model;
 
-/// The bytes of a name, or those that a string stands for.
+/// A name, or what a string stands for. It is seen as the list of its bytes.
 #[derive(Drop)]
 pub struct Text {
-    bytes: Vec<u8>,
+    text: String,
 }
 
 impl Model for Text {
-    ghost use Rattle.std.specs.Prelude.{ℕ, List};
+    ghost use Rattle.std.specs.Prelude.{ℕ, List, string_bytes};
 
     ghost Value = { List ℕ };
 
-    ghost view = { λ t. t.bytes.items };
+    ghost view = { λ t. string_bytes t.text };
 }
 
 impl Text {
@@ -26,32 +26,42 @@ impl Text {
         ensures { result ≡ [] }
     {
         Text {
-            bytes: Vec::new(alloc),
+            text: String::new(alloc),
         }
     }
 
     /// These bytes.
     pub fn from_slice(alloc: Global, bytes: &[u8]) -> Result<Text, AllocError>
+        requires { EachIndex bytes.now (λ k. slice_index bytes.now k < 0x80) }
         ensures { IfOk result (λ t. t ≡ bytes.now) }
     {
-        Ok(Text {
-            bytes: Vec::from_slice(alloc, bytes)?,
-        })
+        let mut text = Text::new(alloc);
+        for byte in bytes {
+            text.push(*byte)?;
+        }
+        Ok(text)
     }
 
     /// One more byte at the end.
     pub fn push(&mut self, byte: u8) -> Result<(), AllocError>
+        requires { byte < 0x80 }
         ensures { OnOk result (self.new ≡ self.old ++ byte ∷ []) }
     {
-        self.bytes.push(byte)?;
-        Ok(())
+        self.text.push(char::from(byte))
     }
 
     /// The bytes.
     pub fn as_slice(&self) -> &[u8]
         ensures { result.now ≡ self.now }
     {
-        self.bytes.as_slice()
+        self.text.as_bytes()
+    }
+
+    /// The characters.
+    pub fn as_str(&self) -> &str
+        ensures { result.now ≡ self.now }
+    {
+        self.text.as_str()
     }
 
     /// A copy.
@@ -59,7 +69,7 @@ impl Text {
         ensures { IfOk result (λ t. t ≡ self.now) }
     {
         Ok(Text {
-            bytes: self.bytes.clone()?,
+            text: self.text.clone()?,
         })
     }
 }

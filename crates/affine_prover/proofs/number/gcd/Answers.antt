@@ -1,12 +1,13 @@
-use Rattle.std.proofs.Common.{arith}
-use Rattle.std.proofs.lemmas.Nat.Gcd.{IsGcd-from_zero, IsGcd-from_mod, same_from_IsGcd}
-use Rattle.affine_prover.proofs.Divisors.{gcd-is, gcd-positive}
+use Rattle.std.proofs.Common.{arith, ap, sym, ◌∙◌}
+use Rattle.affine_prover.specs.Elimination.{gcd}
+use Rattle.affine_prover.proofs.Divisors.{gcd-positive, zero-gcd}
 use Rattle.affine_prover.proofs.number.gcd.Goals as goal
 
-pub loop-y-preserved : goal.loop-y-preserved
-loop-y-preserved c = λ g h. c.loop-y.invariant g (IsGcd-from_mod c.loop-y.x c.loop-y.y g h)
+pub returns-then-a-eq0-clause-value : goal.returns-then-a-eq0-clause-value
+returns-then-a-eq0-clause-value c = sym (zero-gcd c.args.b) ∙ ap (λ a. gcd a c.args.b) (sym c.if-a-eq0.true)
 
-pub returns : goal.returns
-returns c =
-    let is = same_from_IsGcd c.args.a c.args.b _ _ (c.loop-y.invariant c.loop-y.x (IsGcd-from_zero c.loop-y.x c.loop-y.y (omega arith))) (gcd-is c.args.a c.args.b) in
-    record { value = is; positive = λ h. omega (arith, is, gcd-positive c.args.a c.args.b h) }
+pub returns-then-b-lt-SMALL-clause-positive : goal.returns-then-b-lt-SMALL-clause-positive
+returns-then-b-lt-SMALL-clause-positive c = λ h. omega (arith, c.small_gcd.ensures, gcd-positive c.args.a c.args.b h)
+
+pub returns-else-a-lt-SMALL-clause-positive : goal.returns-else-a-lt-SMALL-clause-positive
+returns-else-a-lt-SMALL-clause-positive c = λ h. omega (arith, c.wide_gcd.ensures, gcd-positive c.args.a c.args.b h)

@@ -1,4 +1,4 @@
-use Rattle.std.proofs.Common.{arith, ap, refl, length, inl, inr}
+use Rattle.std.proofs.Common.{arith, ap, refl, length}
 use Rattle.phrases.proofs.Exits.{exit}
 use Rattle.phrases.proofs.Phrases.{taken_shorter}
 use Rattle.exo_reader.proofs.Chains.{taken_of_begun}
@@ -45,7 +45,7 @@ read_chain-loop-operator-preserved t c =
     record {
       shorter = omega (arith, c.loop-operator.invariant.shorter, taken_shorter c.in_ok-right.ensures.reads, ap length c.in-Some.ensures.0);
       measured = c.in_ok-longer.ensures.1;
-      begun = λ tokens begun. chain_next _ _ _ _ _ _ _ _ _ _ _ (c.loop-operator.invariant.begun tokens begun) c.in-Some.ensures c.requires.no_comparison (rights _ _ _ c.loop-operator.invariant.measured c.in-Some-right_room.ensures) c.in_ok-right.ensures.reads c.in_ok-longer.ensures.0
+      begun = λ tokens begun. chain_next _ _ _ _ _ _ _ _ _ _ _ (c.loop-operator.invariant.begun tokens begun) c.in-Some.ensures c.requires.no_comparison (rights _ _ _ c.loop-operator.invariant.measured c.in-Some-right_room.ensures) c.in_ok-right.ensures.reads c.in_ok-longer.ensures.0;
     }
 
 pub read_chain-returns-clause-reads : goal.read_chain-returns-clause-reads
@@ -134,5 +134,5 @@ pub read_unary-returns-in_default-token : goal.read_unary-returns-in_default-tok
 read_unary-returns-in_default-token t c =
     record {
       measured = tt;
-      reads = start_err _ _ _ _ c.requires.place c.in-Some-next.ensures c.in_default.ensures c.in_default-behind.ensures c.in_default-token.not-Int c.in_default-token.not-Name
+      reads = start_err _ _ _ _ c.requires.place c.in-Some-next.ensures c.in_default.ensures c.in_default-behind.ensures c.in_default-token.not-Int c.in_default-token.not-Name;
     }

@@ -7,7 +7,7 @@ abbrev pub invariant-lines : goal.invariant-lines
 invariant-lines l = record {
   few_lines : l.line + length l.rest ≤ length l.text + 1;
   few_brackets : l.brackets + length l.rest ≤ length l.text;
-  whole : up_to_fault (layout l.end 1 [] 0 (lines l.text)) ≡ l.placed.items ++ up_to_fault (layout l.end l.line l.blocks l.brackets (lines l.rest));
+  whole : up_to_fault (layout l.end 1 [] 0 (lines l.text)) ≡ l.placed.items ++ up_to_fault (layout l.end l.line l.open_blocks l.brackets (lines l.rest));
 }
 
 abbrev pub decreases-lines : goal.decreases-lines

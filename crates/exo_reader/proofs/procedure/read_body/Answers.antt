@@ -1,6 +1,6 @@
 use Rattle.std.proofs.Common.{◌≡◌, false, true, refl}
 use Rattle.phrases.proofs.Exits.{exit}
-use Rattle.exo_reader.proofs.Procedures.{body_first, body_next, body_ok, body_err_first, body_err, statement_shorter}
+use Rattle.exo_reader.proofs.Procedures.{body_next, body_ok, body_err_first, body_err, statement_shorter}
 use Rattle.exo_reader.proofs.procedure.read_body.Goals as goal
 
 pub returns-in_err-first : goal.returns-in_err-first

@@ -1,6 +1,6 @@
 use Rattle.std.proofs.Common.{◌≡◌, false, true, refl}
 use Rattle.phrases.proofs.Exits.{exit}
-use Rattle.exo_reader.proofs.Procedures.{params_none, params_first, params_next, params_done, params_trailing, params_err_first, params_err, parameter_shorter}
+use Rattle.exo_reader.proofs.Procedures.{params_next, params_done, params_trailing, params_err_first, params_err}
 use Rattle.exo_reader.proofs.procedure.read_parameters.Goals as goal
 
 pub returns-in_err-first : goal.returns-in_err-first

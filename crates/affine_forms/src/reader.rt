@@ -109,3 +109,13 @@ pub fn form<R: Reader>(alloc: Global, reader: &R, e: &Ctrl) -> Result<Linear, Fo
         }
     }
 }
+
+/// The normal form of an expression: a constant and weighed atoms, in order of first appearance.
+pub fn normal<R: Reader>(alloc: Global, reader: &R, e: &Ctrl) -> Result<Linear, FormError>
+    requires { IsTrue (keeps_rules (control e.now)) }
+    ensures { Formed result (is_writable (R.reading reader.now) (control e.now)) (normal (R.reading reader.now) (control e.now)) }
+{
+    let l = form(alloc, reader, e)?;
+    let present = l.without_zeros(alloc)?;
+    Ok(present)
+}
