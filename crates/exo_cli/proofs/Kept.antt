@@ -18,6 +18,7 @@ use Rattle.exo_cli.specs.declared.lines.Commute.{Commute}
 use Rattle.exo_cli.specs.declared.lines.Act.{Act}
 use Rattle.exo_cli.specs.declared.lines.Act.TheVariants as act
 use Rattle.exo_cli.specs.declared.session.Why.{Why}
+use Rattle.exo_cli.specs.Compiled.{started, numbers_from}
 use Rattle.exo_cli.specs.Kept.{IsVersionOf, HasOrigin, AreVersions, CommutedRunsAlike, CommutedRefines, SchedulesRunAlike}
 
 -- ---- values
@@ -239,26 +240,21 @@ with_version : Versions → ℕ → Procedure → List (List ℕ × ℕ) → Ver
 with_version v k q names = record v { procedures = v.procedures ++ q ∷ []; origins = v.origins ++ slice_index v.origins k ∷ []; names = names }
 
 -- a version made of another one comes from the same procedure
-added_versions : (v : Versions) (k : ℕ) (p q : Procedure) (names : List (List ℕ × ℕ)) → AreVersions v → slice_get v.procedures k ≡ Some p → IsVersionOf p q
-    → AreVersions (with_version v k q names)
+added_versions : (text : List Procedure) (v : Versions) (k : ℕ) (p q : Procedure) (names : List (List ℕ × ℕ)) → AreVersions text v → slice_get v.procedures k ≡ Some p → IsVersionOf p q
+    → AreVersions text (with_version v k q names)
 unfolding with_version
-added_versions v k p q names are there version = record {
+added_versions text v k p q names are there version = record {
   lengths = length-append v.origins (slice_index v.origins k ∷ []) ∙ (ap (λ n. n + 1) are.lengths ∙ sym (length-append v.procedures (q ∷ [])));
+  first = λ j r e. there_still v.procedures (q ∷ []) j r (are.first j r e);
   each = λ j r e. ⊎_elim (λ h. old j r h) (λ h. new j r h.0 h.1) (entry_of v.procedures q j r e);
 }
   where
-    old : (j : ℕ) (r : Procedure) → slice_get v.procedures j ≡ Some r → HasOrigin (with_version v k q names) j r
+    old : (j : ℕ) (r : Procedure) → slice_get v.procedures j ≡ Some r → HasOrigin text (with_version v k q names) j r
     old j r e =
         let o = are.each j r e in
-        record {
-          from = o.from;
-          origin = o.origin;
-          of = there_still v.origins (slice_index v.origins k ∷ []) j o.from o.of;
-          there = there_still v.procedures (q ∷ []) o.from o.origin o.there;
-          kept = o.kept;
-        }
+        record { from = o.from; origin = o.origin; of = there_still v.origins (slice_index v.origins k ∷ []) j o.from o.of; in_text = o.in_text; kept = o.kept }
 
-    new : (j : ℕ) (r : Procedure) → j ≡ length v.procedures → q ≡ r → HasOrigin (with_version v k q names) j r
+    new : (j : ℕ) (r : Procedure) → j ≡ length v.procedures → q ≡ r → HasOrigin text (with_version v k q names) j r
     new j r at same =
         let o = are.each k p there in
         record {
@@ -266,7 +262,7 @@ added_versions v k p q names are there version = record {
           origin = o.origin;
           of = subst (λ i. slice_get (v.origins ++ slice_index v.origins k ∷ []) i ≡ Some o.from) (are.lengths ∙ sym at)
             (last_is_there v.origins (slice_index v.origins k) ∙ ap Some (index_is v.origins k o.from o.of));
-          there = there_still v.procedures (q ∷ []) o.from o.origin o.there;
+          in_text = o.in_text;
           kept = composed o.origin p r o.kept (subst (IsVersionOf p) same version);
         }
 
@@ -277,44 +273,68 @@ refused_does_not_go : (w : Why) (u : Versions) → Refused w ≡ Went u → ⊥
 refused_does_not_go w u e = cc
 
 -- a step adds a version of the version that it changes
-adding_keeps : (name : List ℕ) (k : ℕ) (v u : Versions) (p : Procedure) (r : Stepped Procedure) → AreVersions v → slice_get v.procedures k ≡ Some p
-    → ((q : Procedure) → r ≡ Made q → IsVersionOf p q) → adding name k v r ≡ Went u → AreVersions u
+adding_keeps : (text : List Procedure) (name : List ℕ) (k : ℕ) (v u : Versions) (p : Procedure) (r : Stepped Procedure) → AreVersions text v → slice_get v.procedures k ≡ Some p
+    → ((q : Procedure) → r ≡ Made q → IsVersionOf p q) → adding name k v r ≡ Went u → AreVersions text u
 unfolding with_version
-adding_keeps name k v u p (Made q) are there version e = subst AreVersions (went_is _ u e) (added_versions v k p q (v.names ++ (name, length v.procedures) ∷ []) are there (version q refl))
-adding_keeps name k v u p NoSuchPattern are there version e = absurd (refused_does_not_go _ u e)
-adding_keeps name k v u p WrongShape are there version e = absurd (refused_does_not_go _ u e)
+adding_keeps text name k v u p (Made q) are there version e = subst (AreVersions text) (went_is _ u e) (added_versions text v k p q (v.names ++ (name, length v.procedures) ∷ []) are there (version q refl))
+adding_keeps text name k v u p NoSuchPattern are there version e = absurd (refused_does_not_go _ u e)
+adding_keeps text name k v u p WrongShape are there version e = absurd (refused_does_not_go _ u e)
 
-changing_keeps : (c : Commute) (k : ℕ) (v u : Versions) (o : Option Procedure) → AreVersions v → slice_get v.procedures k ≡ o → changing c k v o ≡ Went u → AreVersions u
-changing_keeps c k v u None are there e = absurd (refused_does_not_go _ u e)
-changing_keeps c k v u (Some p) are there e = adding_keeps c.bind k v u p (commute_expr p c.target c.which) are there (λ q made. commuted_runs_alike p q c.target c.which made) e
+changing_keeps : (text : List Procedure) (c : Commute) (k : ℕ) (v u : Versions) (o : Option Procedure) → AreVersions text v → slice_get v.procedures k ≡ o → changing c k v o ≡ Went u → AreVersions text u
+changing_keeps text c k v u None are there e = absurd (refused_does_not_go _ u e)
+changing_keeps text c k v u (Some p) are there e = adding_keeps text c.bind k v u p (commute_expr p c.target c.which) are there (λ q made. commuted_runs_alike p q c.target c.which made) e
 
-changing_held_keeps : (c : Commute) (v u : Versions) (o : Option ℕ) → AreVersions v → changing_held c v o ≡ Went u → AreVersions u
-changing_held_keeps c v u None are e = absurd (refused_does_not_go _ u e)
-changing_held_keeps c v u (Some k) are e = changing_keeps c k v u (slice_get v.procedures k) are refl e
+changing_held_keeps : (text : List Procedure) (c : Commute) (v u : Versions) (o : Option ℕ) → AreVersions text v → changing_held c v o ≡ Went u → AreVersions text u
+changing_held_keeps text c v u None are e = absurd (refused_does_not_go _ u e)
+changing_held_keeps text c v u (Some k) are e = changing_keeps text c k v u (slice_get v.procedures k) are refl e
 
-emitting_keeps : (o : Option ℕ) (v u : Versions) → AreVersions v → emitting o v ≡ Went u → AreVersions u
-emitting_keeps None v u are e = absurd (refused_does_not_go _ u e)
-emitting_keeps (Some k) v u are e = subst AreVersions (went_is _ u e) (record { lengths = are.lengths; each = same })
+emitting_keeps : (text : List Procedure) (o : Option ℕ) (v u : Versions) → AreVersions text v → emitting o v ≡ Went u → AreVersions text u
+emitting_keeps text None v u are e = absurd (refused_does_not_go _ u e)
+emitting_keeps text (Some k) v u are e = subst (AreVersions text) (went_is _ u e) (record { lengths = are.lengths; first = are.first; each = same })
   where
-    same : (j : ℕ) (q : Procedure) → slice_get v.procedures j ≡ Some q → HasOrigin (record v { emitted = v.emitted ++ k ∷ [] }) j q
+    same : (j : ℕ) (q : Procedure) → slice_get v.procedures j ≡ Some q → HasOrigin text (record v { emitted = v.emitted ++ k ∷ [] }) j q
     same j q there =
         let o = are.each j q there in
-        record { from = o.from; origin = o.origin; of = o.of; there = o.there; kept = o.kept }
+        record { from = o.from; origin = o.origin; of = o.of; in_text = o.in_text; kept = o.kept }
 
-performed_keeps : (a : Act) (v u : Versions) → AreVersions v → performed a v ≡ Went u → AreVersions u
-performed_keeps (act.Commute c) v u are e = changing_held_keeps c v u (held v.names c.of) are e
-performed_keeps (act.Emit name) v u are e = emitting_keeps (held v.names name) v u are e
+performed_keeps : (text : List Procedure) (a : Act) (v u : Versions) → AreVersions text v → performed a v ≡ Went u → AreVersions text u
+performed_keeps text (act.Commute c) v u are e = changing_held_keeps text c v u (held v.names c.of) are e
+performed_keeps text (act.Emit name) v u are e = emitting_keeps text (held v.names name) v u are e
 
 stopped_is_not_done : (n : ℕ) (operator : List ℕ) (w : Why) (v : Versions) → Stopped n operator w ≡ Done v → ⊥
 stopped_is_not_done n operator w v e = cc
 
-pub schedules_run_alike : SchedulesRunAlike
-schedules_run_alike [] v w are e = subst AreVersions (done_is v w e) are
+lines_keep : (text : List Procedure) (lines : List Line) (v w : Versions) → AreVersions text v → run_lines lines v ≡ Done w → AreVersions text w
+lines_keep text [] v w are e = subst (AreVersions text) (done_is v w e) are
   where
     done_is : (v w : Versions) → Done v ≡ Done w → v ≡ w
     done_is v w e = cc
-schedules_run_alike (line ∷ lines) v w are e = go (schedules_run_alike lines) (performed line.act v) refl e
+lines_keep text (line ∷ lines) v w are e = go (lines_keep text lines) (performed line.act v) refl e
   where
-    go : ((v w : Versions) → AreVersions v → run_lines lines v ≡ Done w → AreVersions w) → (r : Progress) → performed line.act v ≡ r → after line (run_lines lines) r ≡ Done w → AreVersions w
-    go later (Went u) is e = later u w (performed_keeps line.act v u are is) e
+    go : ((v w : Versions) → AreVersions text v → run_lines lines v ≡ Done w → AreVersions text w) → (r : Progress) → performed line.act v ≡ r → after line (run_lines lines) r ≡ Done w → AreVersions text w
+    go later (Went u) is e = later u w (performed_keeps text line.act v u are is) e
     go later (Refused why) is e = absurd (stopped_is_not_done line.number (operator_of line.act) why w e)
+
+-- before the first line each procedure comes of itself
+as_many : (n : ℕ) (ps : List Procedure) → length (numbers_from n ps) ≡ length ps
+as_many n [] = refl
+as_many n (p ∷ ps) = ap suc (as_many (suc n) ps)
+
+own_number : (n : ℕ) (ps : List Procedure) (k : ℕ) (q : Procedure) → slice_get ps k ≡ Some q → slice_get (numbers_from n ps) k ≡ Some (n + k)
+own_number n [] zero q e = absurd (nothing_there e)
+own_number n [] (suc k) q e = absurd (nothing_there e)
+own_number n (p ∷ ps) zero q e = let same : n ≡ n + 0 = omega arith in ap Some same
+own_number n (p ∷ ps) (suc k) q e = let same : suc n + k ≡ n + suc k = omega arith in own_number (suc n) ps k q e ∙ ap Some same
+
+by_itself : (p : Procedure) → IsVersionOf p p
+by_itself p = record { name = refl; params = refl; asserts = refl; template = refl; runs = λ world s. refl }
+
+begins : (text : List Procedure) → AreVersions text (started text)
+begins text = record {
+  lengths = as_many 0 text;
+  first = λ k p e. e;
+  each = λ k q e. record { from = k; origin = q; of = own_number 0 text k q e; in_text = e; kept = by_itself q };
+}
+
+pub schedules_run_alike : SchedulesRunAlike
+schedules_run_alike text lines w e = lines_keep text lines (started text) w (begins text) e

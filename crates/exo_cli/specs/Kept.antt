@@ -6,6 +6,7 @@ use Rattle.exo_meaning.specs.Run.{World, run}
 use Rattle.exo_meaning.specs.Inputs.{Refines}
 use Rattle.exo_cli.specs.Commute.{Made, commute_expr}
 use Rattle.exo_cli.specs.Lines.{Versions, Done, run_lines}
+use Rattle.exo_cli.specs.Compiled.{started}
 use Rattle.exo_cli.specs.declared.commute.Operation.{Operation}
 use Rattle.exo_cli.specs.declared.lines.Line.{Line}
 
@@ -25,19 +26,20 @@ CommutedRunsAlike = (p q : Procedure) (x : List ℕ) (o : Operation) → commute
 abbrev pub CommutedRefines : Type 0
 CommutedRefines = (world : World) (p q : Procedure) (x : List ℕ) (o : Operation) → commute_expr p x o ≡ Made q → Refines world p q []
 
--- the version of that number comes from a procedure that is there, and runs like it
-pub record HasOrigin (v : Versions) (k : ℕ) (q : Procedure) : Type 0 where
+-- the version of that number comes from a procedure of the text, and runs like it
+pub record HasOrigin (text : List Procedure) (v : Versions) (k : ℕ) (q : Procedure) : Type 0 where
   pub from : ℕ
   pub origin : Procedure
   pub of : slice_get v.origins k ≡ Some from
-  pub there : slice_get v.procedures from ≡ Some origin
+  pub in_text : slice_get text from ≡ Some origin
   pub kept : IsVersionOf origin q
 
--- each version is one of its origin's
-pub record AreVersions (v : Versions) : Type 0 where
+-- the procedures of the text stand first, and each version is one of its origin's
+pub record AreVersions (text : List Procedure) (v : Versions) : Type 0 where
   pub lengths : length v.origins ≡ length v.procedures
-  pub each : (k : ℕ) (q : Procedure) → slice_get v.procedures k ≡ Some q → HasOrigin v k q
+  pub first : (k : ℕ) (p : Procedure) → slice_get text k ≡ Some p → slice_get v.procedures k ≡ Some p
+  pub each : (k : ℕ) (q : Procedure) → slice_get v.procedures k ≡ Some q → HasOrigin text v k q
 
--- along a schedule
+-- before the first line, and along a schedule
 abbrev pub SchedulesRunAlike : Type 0
-SchedulesRunAlike = (lines : List Line) (v w : Versions) → AreVersions v → run_lines lines v ≡ Done w → AreVersions w
+SchedulesRunAlike = (text : List Procedure) (lines : List Line) (w : Versions) → run_lines lines (started text) ≡ Done w → AreVersions text w
