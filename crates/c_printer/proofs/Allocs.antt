@@ -33,6 +33,7 @@ at_most_is v = go (int_le (negsuc 281474976710655) v && int_le v (pos 2814749767
   where
     below : (b : ℤ) → int_le v b ≡ true → v ≤ℤ b
     below b e = grind (arith, ints)
+
     go : (t : Bool) → (int_le (negsuc 281474976710655) v && int_le v (pos 281474976710656)) ≡ t → Amount (at_most_48 v) v
     go false e = inl (ap (λ t. storable t v) e)
     go true e = inr (ap (λ t. storable t v) e, below (pos 281474976710656) (and_parts _ _ e).1)
@@ -44,9 +45,9 @@ product_amount : (s : Setting) (a b : Number64) (v w : ℤ) → Amount (amount s
 product_amount s a b v w h k =
     ⊎_elim (λ e. inl (ap (λ o. after o (λ m. after (number64 s b) (λ n. after (at_most_48 n) (λ j. at_most_48 (m *ℤ n))))) e))
     (λ e. subst (λ o. Amount (after o (λ m. after (number64 s b) (λ n. after (at_most_48 n) (λ j. at_most_48 (m *ℤ n))))) (v *ℤ w)) (sym e.0)
-      (subst (λ o. Amount (after o (λ n. after (at_most_48 n) (λ j. at_most_48 (v *ℤ n)))) (v *ℤ w)) (sym k)
-      (⊎_elim (λ f. inl (ap (λ o. after o (λ j. at_most_48 (v *ℤ w))) f))
-        (λ f. subst (λ o. Amount (after o (λ j. at_most_48 (v *ℤ w))) (v *ℤ w)) (sym f.0) (at_most_is (v *ℤ w))) (at_most_is w))))
+    (subst (λ o. Amount (after o (λ n. after (at_most_48 n) (λ j. at_most_48 (v *ℤ n)))) (v *ℤ w)) (sym k)
+    (⊎_elim (λ f. inl (ap (λ o. after o (λ j. at_most_48 (v *ℤ w))) f))
+    (λ f. subst (λ o. Amount (after o (λ j. at_most_48 (v *ℤ w))) (v *ℤ w)) (sym f.0) (at_most_is (v *ℤ w))) (at_most_is w))))
     h
 
 both_positive : (a b : ℤ) → int_le (pos 1) a ≡ true → int_le (pos 1) b ≡ true → int_le (pos 1) (a *ℤ b) ≡ true
@@ -192,7 +193,7 @@ module _ (naming : Naming) (forms : Forms) (most : ℕ → ℕ) (layout : Layout
         there = ap (λ p. new_machine.setting.objects p.object) same ∙ old_object (layout y).object (match.below y _ h.shape) ∙ h.there;
         same_cell = h.same_cell;
         above = subst (λ p. pos 0 ≤ℤ p.offset) (sym same) h.above;
-        room = subst (λ p. (p.offset +ℤ product h.extents) ≤ℤ h.object.size) (sym same) h.room
+        room = subst (λ p. (p.offset +ℤ product h.extents) ≤ℤ h.object.size) (sym same) h.room;
       }
   others_kept y (TensorForm c ds (suc lanes)) e d h = absurd h
   others_kept y (WindowForm c rank) e d h = absurd h
@@ -213,7 +214,7 @@ module _ (naming : Naming) (forms : Forms) (most : ℕ → ℕ) (layout : Layout
         there = ap (λ p. new_machine.setting.objects p.object) same ∙ ap (λ t. cond t (Some (record { cell = cell; size = product extents *ℤ pos 1; heap = true })) (m.setting.objects m.setting.free)) (eq-eqb m.setting.free m.setting.free refl);
         same_cell = refl;
         above = subst (λ p. pos 0 ≤ℤ p.offset) (sym same) (omega (arith, ints));
-        room = subst (λ p. (p.offset +ℤ product extents) ≤ℤ (product extents *ℤ pos 1)) (sym same) (omega (arith, ints))
+        room = subst (λ p. (p.offset +ℤ product extents) ≤ℤ (product extents *ℤ pos 1)) (sym same) (omega (arith, ints));
       }
 
   names_there : (y : ℕ) → New y (wider y)
@@ -235,11 +236,11 @@ module _ (naming : Naming) (forms : Forms) (most : ℕ → ℕ) (layout : Layout
 
   kept_there : Kept naming layout s m new_state new_machine
   kept_there = record {
-      buffers = λ b shape e. ap (λ t. cond t (Some (tensor cell extents)) (s.scene.buffers b)) (old_buffer b shape e) ∙ e;
-      objects = old_object;
-      free = omega arith;
-      untouched = λ o k h out. new_contents o k h
-    }
+    buffers = λ b shape e. ap (λ t. cond t (Some (tensor cell extents)) (s.scene.buffers b)) (old_buffer b shape e) ∙ e;
+    objects = old_object;
+    free = omega arith;
+    untouched = λ o k h out. new_contents o k h;
+  }
 
   cells_there : (b : ℕ) (shape : Shape) → new_state.scene.buffers b ≡ Some shape → (at : List ℤ) → in_range at shape.dims ≡ true → IsHeld (new_state.cells b at) (new_machine.contents (spot_of new_layout b shape at).object (spot_of new_layout b shape at).offset)
   cells_there b shape e at r = go (b == x) refl
@@ -256,6 +257,7 @@ module _ (naming : Naming) (forms : Forms) (most : ℕ → ℕ) (layout : Layout
     where
       at_free : (n : ℕ) → nat_lt n (suc n) ≡ true
       at_free n = grind arith
+
       go : (t : Bool) → (b == x) ≡ t → nat_lt (new_layout b).object (suc m.setting.free) ≡ true
       go true d = ap (λ t. nat_lt (cond t (record { object = m.setting.free; offset = pos 0 }) (layout b)).object (suc m.setting.free)) d ∙ at_free m.setting.free
       go false d = ap (λ p. nat_lt p.object (suc m.setting.free)) (old_layout b d) ∙ below_more (layout b).object m.setting.free (match.below b shape (new_buffer b shape d e))
@@ -272,15 +274,19 @@ module _ (naming : Naming) (forms : Forms) (most : ℕ → ℕ) (layout : Layout
     where
       new_shape : (d : ℕ) (form : Shape) → (d == x) ≡ true → new_state.scene.buffers d ≡ Some form → form ≡ tensor cell extents
       new_shape d form g h = let k : Some form ≡ Some (tensor cell extents) = sym h ∙ ap (λ t. cond t (Some (tensor cell extents)) (s.scene.buffers d)) g in cc
+
       no_clash : (d : ℕ) (form : Shape) → (d == x) ≡ false → new_state.scene.buffers d ≡ Some form → m.setting.free ≡ (layout d).object → ⊥
       no_clash d form g h k = true≢false (sym (match.below d form (new_buffer d form g h)) ∙ ap (λ o. nat_lt o m.setting.free) (sym k) ∙ itself m.setting.free)
         where
           itself : (n : ℕ) → nat_lt n n ≡ false
           itself n = grind arith
+
       new_place : (d : ℕ) → (d == x) ≡ true → new_layout d ≡ record { object = m.setting.free; offset = pos 0 }
       new_place d g = ap (λ t. cond t (record { object = m.setting.free; offset = pos 0 }) (layout d)) g
+
       objects : (new_layout b).object ≡ (new_layout c).object
       objects = ap (λ p. p.object) same
+
       go : (t u : Bool) → (b == x) ≡ t → (c == x) ≡ u → (b ≡ c) × (at ≡ bt)
       go true true g h =
           let left = ap₂ (λ p z. p.offset +ℤ dot at z.strides) (new_place b g) (new_shape b shape g e) in
@@ -329,15 +335,15 @@ module _ (naming : Naming) (forms : Forms) (most : ℕ → ℕ) (layout : Layout
 
     all_ends : (u : State) (p : Machine) → Ends naming wider new_layout new_state new_machine u p → Ends naming forms layout s m u (without p)
     all_ends u p r = record {
-        kept = record {
-          buffers = λ b shape e. r.kept.buffers b shape (kept_there.buffers b shape e);
-          objects = λ o h. ap (λ t. cond t None (p.setting.objects o)) (below_is o m.setting.free h) ∙ r.kept.objects o (below_more o m.setting.free h) ∙ old_object o h;
-          free = le_trans kept_there.free r.kept.free;
-          untouched = λ o k h out. r.kept.untouched o k (below_more o m.setting.free h) (outside o k h out) ∙ new_contents o k h
-        };
-        names = λ y. ⊎_elim (λ e. inl e) (λ f. ⊎_elim (λ e. inl (gone y e)) (λ e. inr (e ∙ ap (λ b. cond b (Some (IsArray pointer)) (m.setting.names (naming.binder y))) f)) (r.names y)) (fresh.other_name y);
-        cells = λ b shape e at q. subst (λ l. IsHeld (u.cells b at) (p.contents l.object (l.offset +ℤ dot at shape.strides))) (old_layout b (old_buffer b shape e)) (r.cells b shape (kept_there.buffers b shape e) at q)
-      }
+      kept = record {
+        buffers = λ b shape e. r.kept.buffers b shape (kept_there.buffers b shape e);
+        objects = λ o h. ap (λ t. cond t None (p.setting.objects o)) (below_is o m.setting.free h) ∙ r.kept.objects o (below_more o m.setting.free h) ∙ old_object o h;
+        free = le_trans kept_there.free r.kept.free;
+        untouched = λ o k h out. r.kept.untouched o k (below_more o m.setting.free h) (outside o k h out) ∙ new_contents o k h;
+      };
+      names = λ y. ⊎_elim (λ e. inl e) (λ f. ⊎_elim (λ e. inl (gone y e)) (λ e. inr (e ∙ ap (λ b. cond b (Some (IsArray pointer)) (m.setting.names (naming.binder y))) f)) (r.names y)) (fresh.other_name y);
+      cells = λ b shape e at q. subst (λ l. IsHeld (u.cells b at) (p.contents l.object (l.offset +ℤ dot at shape.strides))) (old_layout b (old_buffer b shape e)) (r.cells b shape (kept_there.buffers b shape e) at q);
+    }
       where
         outside : (o : ℕ) (k : ℤ) → nat_lt o m.setting.free ≡ true → IsOutside naming layout s o k → IsOutside naming new_layout new_state o k
         outside o k h out b shape e may at q lies = pick (b == x) refl
@@ -348,6 +354,7 @@ module _ (naming : Naming) (forms : Forms) (most : ℕ → ℕ) (layout : Layout
                 not_below : (n : ℕ) → nat_lt n n ≡ false
                 not_below n = grind arith
             pick false d = out b shape (new_buffer b shape d e) may at q (sym (ap (λ z. moved z (dot at shape.strides)) (old_layout b d)) ∙ lies)
+
         gone : (y : ℕ) → wider y ≡ NoForm → forms y ≡ NoForm
         gone y h = pick (y == x) refl
           where

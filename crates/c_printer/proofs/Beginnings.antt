@@ -30,20 +30,20 @@ module _ (naming : Naming) (most : ℕ → ℕ) (layout : Layout) (forms : Forms
   form_here : (x : ℕ) (kind : ParamKind) → IsArgument s.scene x kind → IsSame naming most layout s m x kind → IsGoodParam forms most kind → HasForm naming forms most layout s.scene m.setting x (form_of kind)
   form_here x (ControlParam kind) a h g = record { name = h.name; small = h.small }
   form_here x (TensorParam cell dims memory) a h g = record {
-      extents = numbers s.scene dims;
-      object = h.object;
-      plain = g.0;
-      narrow = g.1;
-      numbers_are = refl;
-      shape = a.0;
-      view = a.1;
-      few = h.few;
-      name = h.name;
-      there = h.there;
-      same_cell = h.same_cell;
-      above = subst (λ z. pos 0 ≤ℤ z) (sym h.begins) (omega (arith, ints));
-      room = subst (λ z. (z +ℤ product (numbers s.scene dims)) ≤ℤ h.object.size) (sym h.begins) (subst (λ z. (pos 0 +ℤ product (numbers s.scene dims)) ≤ℤ z) (sym h.size) (omega (arith, ints)))
-    }
+    extents = numbers s.scene dims;
+    object = h.object;
+    plain = g.0;
+    narrow = g.1;
+    numbers_are = refl;
+    shape = a.0;
+    view = a.1;
+    few = h.few;
+    name = h.name;
+    there = h.there;
+    same_cell = h.same_cell;
+    above = subst (λ z. pos 0 ≤ℤ z) (sym h.begins) (omega (arith, ints));
+    room = subst (λ z. (z +ℤ product (numbers s.scene dims)) ≤ℤ h.object.size) (sym h.begins) (subst (λ z. (pos 0 +ℤ product (numbers s.scene dims)) ≤ℤ z) (sym h.size) (omega (arith, ints)));
+  }
   form_here x (WindowParam cell dims memory) a h g = absurd h
 
   names_here : (ps : List Param) → AreArguments s.scene ps → AreSame naming most layout s m ps → AreGoodParams forms most ps → (x : ℕ) → HasForm naming forms most layout s.scene m.setting x (param_forms ps x)
@@ -113,9 +113,9 @@ module _ (naming : Naming) (most : ℕ → ℕ) (layout : Layout) (world : World
 
   pub begun : Matches naming forms most layout s m
   begun = record {
-      names = names_here naming most layout forms s m procedure.params admissible.arguments same good;
-      cells = cells_here;
-      known = λ b shape e n. no_tensor (sym n ∙ (found b shape e).form);
-      below = λ b shape e. (found b shape e).same.below;
-      apart = apart_here
-    }
+    names = names_here naming most layout forms s m procedure.params admissible.arguments same good;
+    cells = cells_here;
+    known = λ b shape e n. no_tensor (sym n ∙ (found b shape e).form);
+    below = λ b shape e. (found b shape e).same.below;
+    apart = apart_here;
+  }

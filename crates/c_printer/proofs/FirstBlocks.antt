@@ -39,7 +39,7 @@ module _ (ps : List Param) (ss : List Statement) (k : ℕ) (a : Statement) (here
   one_more naming forms made pushed x whole so_far push becomes =
       let rest = block_of naming forms (block (drop (k + 1) ss)) in
       let next_is : block_of naming forms (block (drop k ss)) ≡ first x rest =
-          ap (λ l. block_of naming forms (block l)) here ∙ ap (λ f. before naming forms a (block_of naming f (block (drop (k + 1) ss)))) (same_forms naming forms ps a both.0) ∙ becomes rest in
+      ap (λ l. block_of naming forms (block l)) here ∙ ap (λ f. before naming forms a (block_of naming f (block (drop (k + 1) ss)))) (same_forms naming forms ps a both.0) ∙ becomes rest in
       ap (λ l. followed_by (cblock l) rest) push ∙ followed_by_push made x rest ∙ ap (followed_by (cblock made)) (sym next_is) ∙ so_far
 
 pub if_ok : {A E : Type 0} (r : Result A E) (P Q : A → Type 0) → ((a : A) → P a → Q a) → IfOk r P → IfOk r Q

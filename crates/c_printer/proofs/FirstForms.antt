@@ -59,10 +59,10 @@ good_params forms [] h = tt
 good_params forms (p ∷ ps) h =
     let parts = and_parts (is_first_param p.kind) (are_first_params ps) h in
     (one p.kind parts.0, good_params forms ps parts.1)
-    where
-      one : (kind : ParamKind) → is_first_param kind ≡ true → IsGoodParam forms none_most kind
-      one (TensorParam I32 (Lit n ∷ []) memory) k = ((tt, tt), (narrow n (from_one n k), tt))
-      one kind k = absurd (true≢false (sym k))
+  where
+    one : (kind : ParamKind) → is_first_param kind ≡ true → IsGoodParam forms none_most kind
+    one (TensorParam I32 (Lit n ∷ []) memory) k = ((tt, tt), (narrow n (from_one n k), tt))
+    one kind k = absurd (true≢false (sym k))
 
 module _ (naming : Naming) (any : (x : ℕ) → naming.stored x ≡ true) (ps : List Param) (params : are_first_params ps ≡ true) where
   abbrev forms : Forms
@@ -167,7 +167,7 @@ module _ (world : World) (ps : List Param) where
   access_succeeds scene a x (Lit i ∷ []) h =
       let t = here scene ps a x i h in
       let found : place scene x (Lit i ∷ []) ≡ Some (record { buffer = x; at = (pos 0 +ℤ i) ∷ [] }) =
-          ap (λ o. then_do o (λ seen. option_map (λ at. record { buffer = seen.buffer; at = at }) (cell_at seen.sides (i ∷ [])))) t.view ∙ ap (λ b. option_map (λ at. record { buffer = x; at = at }) (where_true b (Some ((pos 0 +ℤ i) ∷ [])))) t.inside in
+      ap (λ o. then_do o (λ seen. option_map (λ at. record { buffer = seen.buffer; at = at }) (cell_at seen.sides (i ∷ [])))) t.view ∙ ap (λ b. option_map (λ at. record { buffer = x; at = at }) (where_true b (Some ((pos 0 +ℤ i) ∷ [])))) t.inside in
       succeeds_at (HasBuffer scene) (place scene x (Lit i ∷ [])) (record { buffer = x; at = (pos 0 +ℤ i) ∷ [] }) found (tensor I32 (t.size ∷ []), t.buffer)
   access_succeeds scene a x is h = absurd (true≢false (sym h))
 
@@ -193,7 +193,7 @@ module _ (world : World) (ps : List Param) where
       let l = and_parts (is_first_datum ps e && is_first_datum ps f) (is_first_datum ps g) k.0 in
       let m = and_parts (is_first_datum ps e) (is_first_datum ps f) l.0 in
       succeeds_then AnyValue AnyValue (value s e) _ (value_succeeds s a e m.0) (λ x i. succeeds_then AnyValue AnyValue (value s f) _ (value_succeeds s a f m.1)
-        (λ v j. succeeds_then AnyValue AnyValue (value s g) _ (value_succeeds s a g l.1) (λ y o. succeeds_map AnyValue AnyValue (value s d) _ (value_succeeds s a d k.1) (λ z q. tt))))
+      (λ v j. succeeds_then AnyValue AnyValue (value s g) _ (value_succeeds s a g l.1) (λ y o. succeeds_map AnyValue AnyValue (value s d) _ (value_succeeds s a d k.1) (λ z q. tt))))
 
   put_succeeds : (s : State) (f : Value → Value) (p : Place) → HasBuffer s.scene p → Succeeds (IsKept s.scene) (put s f p)
   put_succeeds s f p h = succeeds_map (λ shape. ⊤) (IsKept s.scene) (s.scene.buffers p.buffer) _ (succeeds_at (λ shape. ⊤) (s.scene.buffers p.buffer) h.0 h.1 tt) (λ shape k. refl)
@@ -224,10 +224,10 @@ first_extents scene [] h = refl
 first_extents scene (p ∷ ps) h =
     let k = and_parts (is_first_param p.kind) (are_first_params ps) h in
     and_from _ (all_have_extents scene ps) (one p.kind k.0) (first_extents scene ps k.1)
-    where
-      one : (kind : ParamKind) → is_first_param kind ≡ true → has_extents scene kind ≡ true
-      one (TensorParam I32 (Lit n ∷ []) memory) f = and_from (int_le (pos 1) n) true (and_parts (int_le (pos 1) n) (int_le n (pos 2147483647)) f).0 refl
-      one kind f = absurd (true≢false (sym f))
+  where
+    one : (kind : ParamKind) → is_first_param kind ≡ true → has_extents scene kind ≡ true
+    one (TensorParam I32 (Lit n ∷ []) memory) f = and_from (int_le (pos 1) n) true (and_parts (int_le (pos 1) n) (int_le n (pos 2147483647)) f).0 refl
+    one kind f = absurd (true≢false (sym f))
 
 -- ---- the law
 
@@ -243,9 +243,14 @@ first_forms_follow program table layout world c_world p s m h admissible same se
     let parts = and_parts (are_first_params p.params) (is_first_block p.params p.body) front.0 in
     let follows = procedures_follow naming none_most layout world c_world p s m admissible same separate (good_params (param_forms p.params) p.params parts.0) (good_block naming (λ x. refl) p.params parts.0 p.body parts.1) in
     let ends = both_end (Ends naming (param_forms p.params) layout s m) (IsKept s.scene) (IsSet m.setting) (run world p.body s) (run_c c_world (block_of naming (param_forms p.params) p.body) m)
-      (block_succeeds world p.params p.body parts.1 s admissible.arguments) (stored_block naming (λ x. refl) p.params parts.0 c_world p.body parts.1 m) follows in
-    (ends.source, ends.target, ap (λ b. where_true b (run world p.body s)) (first_extents s.scene p.params parts.0) ∙ ends.source_is, ends.target_is, record {
-      cells = λ b shape e at r. refined (ends.source.cells b at) _ (ends.related.cells b shape e at r);
-      outside = ends.related.kept.untouched;
-      fields = λ f e. ap (λ n. n.fields (naming.field f)) ends.target_has ∙ e ∙ ap (λ scene. scene.fields f) (sym ends.source_has);
-    })
+    (block_succeeds world p.params p.body parts.1 s admissible.arguments) (stored_block naming (λ x. refl) p.params parts.0 c_world p.body parts.1 m) follows in (
+      ends.source,
+      ends.target,
+      ap (λ b. where_true b (run world p.body s)) (first_extents s.scene p.params parts.0) ∙ ends.source_is,
+      ends.target_is,
+      record {
+        cells = λ b shape e at r. refined (ends.source.cells b at) _ (ends.related.cells b shape e at r);
+        outside = ends.related.kept.untouched;
+        fields = λ f e. ap (λ n. n.fields (naming.field f)) ends.target_has ∙ e ∙ ap (λ scene. scene.fields f) (sym ends.source_has);
+      },
+    )

@@ -5,7 +5,7 @@ use Rattle.std.proofs.lemmas.List.{append-nil}
 use Rattle.exo_tree.specs.Tree.{Binder, Condition, Statement, Assign, Reduce, Config, Pass, If, For, Alloc, View, Call, Block, end, next, Param, Procedure, ConfigField, MemoryKind, Program}
 use Rattle.c_printer.specs.CTree.{Name, CFunction}
 use Rattle.c_printer.specs.Names.{is_reserved, pick, numbered, first_free, is_taken, c_name, binders_in, binders_of, param_binders, all_binders, names_of, called, c_names}
-use Rattle.c_printer.specs.LoweredUnit.{Printing, global_names, naming_in, function_of, function_at, in_conditions, in_block, in_statement, in_procedure, is_used, fields_from, fields_of, stands_in, is_made_in, stands_in_procedure, is_filled, is_new, headers_from, headers_of, field_name}
+use Rattle.c_printer.specs.LoweredUnit.{Printing, printed_names, global_names, naming_in, function_of, function_at, in_conditions, in_block, in_statement, in_procedure, is_used, fields_from, fields_of, stands_in, is_made_in, stands_in_procedure, is_filled, is_new, headers_from, headers_of, field_name}
 use Rattle.c_printer.specs.FirstForm.{is_first_access, is_first_datum, is_first_statement, is_first_block, are_first_params, is_nothing, is_none, is_first_form, are_free, are_distinct, are_no_words, have_own_names, is_first_unit, is_first_there, is_first, are_first}
 
 -- ---- names
@@ -116,5 +116,9 @@ no_fields program globals what h = no_fields_from (is_used program what) (no_fie
 pub no_headers : (program : Program) (globals : List Name) (what : List Printing) → are_first program globals what ≡ true → headers_of program what ≡ []
 no_headers program globals what h = no_headers_from (is_filled program what) (no_memory_filled program globals what h) 0 [] program.memories
 
-pub all_first : (program : Program) (what : List Printing) → is_first_unit program what ≡ true → are_first program (global_names program what) what ≡ true
-all_first program what h = (and_parts (are_no_words (global_names program what) && are_distinct (global_names program what)) (are_first program (global_names program what) what) h).1
+pub all_first : (program : Program) (what : List Printing) → is_first_unit program what ≡ true → are_first program (printed_names program what) what ≡ true
+all_first program what h = (and_parts (are_no_words (printed_names program what) && are_distinct (printed_names program what)) (are_first program (printed_names program what) what) h).1
+
+-- there are no other global names
+pub all_names : (program : Program) (what : List Printing) → is_first_unit program what ≡ true → global_names program what ≡ printed_names program what
+all_names program what h = ap (λ fs. printed_names program what ++ fs) (no_fields program (printed_names program what) what (all_first program what h)) ∙ append-nil (printed_names program what)

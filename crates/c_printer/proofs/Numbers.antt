@@ -168,4 +168,3 @@ module _ (s : Setting) where
       let room : (x.at + 1) * f.size ≤ 2 ^ 48 = (let below : x.at + 1 ≤ x.of = omega (arith, x.below) in le_trans (mul-le _ _ _ _ below (le_refl f.size)) most) in
       horner_value e x.at es dims is ds (h.0 ∙ ap Done x.at_is) h.1 k.1 parts.1 f.size f.size_is room
       ∙ ap (λ z. Done (z +ℤ dot is (row_major ds))) (sym (ap₂ (λ p q. p *ℤ q) x.at_is f.size_is))
-

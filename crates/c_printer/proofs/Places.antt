@@ -86,7 +86,7 @@ module _ (naming : Naming) (forms : Forms) (most : ℕ → ℕ) (layout : Layout
           lies = refl;
           there = t.there;
           cell_here = refl;
-          cell_there = t.same_cell
+          cell_there = t.same_cell;
         }))
         (whole_cell (numbers scene is) t.extents)
 

@@ -163,25 +163,25 @@ module _ (naming : Naming) (forms : Forms) (most : ℕ → ℕ) (layout : Layout
       let value : inner_scene.control x ≡ s.scene.control x = ap (λ t. cond t n (s.scene.control x)) e in
       record {
         name = other_name x _ (other_text naming forms i fresh x h) c.name ∙ ap (λ z. Some (IsNumber z)) (sym value);
-        small = subst (λ z. unsigned_abs z ≤ updated most i bound x) (sym value) (subst (λ t. unsigned_abs (s.scene.control x) ≤ cond t bound (most x)) (sym e) c.small)
+        small = subst (λ z. unsigned_abs z ≤ updated most i bound x) (sym value) (subst (λ t. unsigned_abs (s.scene.control x) ≤ cond t bound (most x)) (sym e) c.small);
       }
 
   tensor_kept : (x : ℕ) (cell : Cell) (dims : List Control) → same_name (naming.binder x) (naming.binder i) ≡ false → IsTensor naming forms most layout s.scene m.setting x cell dims → IsTensor naming (updated forms i NumberForm) (updated most i bound) layout inner_scene inner_setting x cell dims
   tensor_kept x cell dims h t = record {
-      extents = t.extents;
-      object = t.object;
-      plain = all_plain_wider naming forms i fresh dims t.plain;
-      narrow = all_narrow_wider naming forms i fresh most bound dims t.plain t.narrow;
-      numbers_are = numbers_wider naming forms i fresh s.scene n dims t.plain ∙ t.numbers_are;
-      shape = t.shape;
-      view = t.view;
-      few = t.few;
-      name = other_name x _ h t.name;
-      there = t.there;
-      same_cell = t.same_cell;
-      above = t.above;
-      room = t.room
-    }
+    extents = t.extents;
+    object = t.object;
+    plain = all_plain_wider naming forms i fresh dims t.plain;
+    narrow = all_narrow_wider naming forms i fresh most bound dims t.plain t.narrow;
+    numbers_are = numbers_wider naming forms i fresh s.scene n dims t.plain ∙ t.numbers_are;
+    shape = t.shape;
+    view = t.view;
+    few = t.few;
+    name = other_name x _ h t.name;
+    there = t.there;
+    same_cell = t.same_cell;
+    above = t.above;
+    room = t.room;
+  }
 
   others_kept : (x : ℕ) (f : Form) → forms x ≡ f → (x == i) ≡ false → HasForm naming forms most layout s.scene m.setting x f → Inner x f
   others_kept x NoForm e d h = tt
@@ -196,7 +196,7 @@ module _ (naming : Naming) (forms : Forms) (most : ℕ → ℕ) (layout : Layout
       let same = subst (λ y. same_name (naming.binder x) (naming.binder y) ≡ true) (eqb-true x i e) (same_name_self (naming.binder x)) in
       record {
         name = ap (λ b. cond b (Some (IsNumber n)) (m.setting.names (naming.binder x))) same ∙ ap (λ z. Some (IsNumber z)) (sym value);
-        small = subst (λ z. unsigned_abs z ≤ updated most i bound x) (sym value) (subst (λ t. unsigned_abs n ≤ cond t bound (most x)) (sym e) small)
+        small = subst (λ z. unsigned_abs z ≤ updated most i bound x) (sym value) (subst (λ t. unsigned_abs n ≤ cond t bound (most x)) (sym e) small);
       }
 
   names_inside : (x : ℕ) → Inner x (updated forms i NumberForm x)
@@ -226,20 +226,20 @@ module _ (naming : Naming) (forms : Forms) (most : ℕ → ℕ) (layout : Layout
   form_back x NoForm h = tt
   form_back x NumberForm c = record { name = c.name; small = c.small }
   form_back x (TensorForm cell dims zero) h = record {
-      extents = h.extents;
-      object = h.object;
-      plain = h.plain;
-      narrow = h.narrow;
-      numbers_are = numbers_by_control forms (left s t).scene s.scene refl dims h.plain ∙ h.numbers_are;
-      shape = h.shape;
-      view = h.view;
-      few = h.few;
-      name = h.name;
-      there = object_back (layout x).object (match.below x _ h.shape) ∙ h.there;
-      same_cell = h.same_cell;
-      above = h.above;
-      room = h.room
-    }
+    extents = h.extents;
+    object = h.object;
+    plain = h.plain;
+    narrow = h.narrow;
+    numbers_are = numbers_by_control forms (left s t).scene s.scene refl dims h.plain ∙ h.numbers_are;
+    shape = h.shape;
+    view = h.view;
+    few = h.few;
+    name = h.name;
+    there = object_back (layout x).object (match.below x _ h.shape) ∙ h.there;
+    same_cell = h.same_cell;
+    above = h.above;
+    room = h.room;
+  }
   form_back x (TensorForm cell dims (suc lanes)) h = absurd h
   form_back x (WindowForm cell rank) h = absurd h
 

@@ -110,12 +110,12 @@ module _ (naming : Naming) (forms : Forms) (most : ℕ → ℕ) (layout : Layout
 
       kept : (f g : Value → Value) → ((u v : Value) → IsHeld u v → IsRead (f u) (g v)) → Match (record s { cells = changed s.cells p (λ old. stored_as one.shape.cell (f old)) }) (put32 m cell g q)
       kept f g k = record {
-          names = match.names;
-          cells = λ b shape e at r. cond_held _ _ _ _ _ _ (same_place b shape at e r) (stored_there _ _ (k _ _ (match.cells b shape e at r))) (match.cells b shape e at r);
-          known = match.known;
-          below = match.below;
-          apart = match.apart
-        }
+        names = match.names;
+        cells = λ b shape e at r. cond_held _ _ _ _ _ _ (same_place b shape at e r) (stored_there _ _ (k _ _ (match.cells b shape e at r))) (match.cells b shape e at r);
+        known = match.known;
+        below = match.below;
+        apart = match.apart;
+      }
 
       -- the C changes that one spot
       elsewhere : (to : Cell) (g : Value → Value) (o : ℕ) (k : ℤ) → nat_lt o m.setting.free ≡ true → IsOutside naming layout s o k → (put32 m to g q).contents o k ≡ m.contents o k

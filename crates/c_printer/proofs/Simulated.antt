@@ -32,20 +32,20 @@ module _ (naming : Naming) (layout : Layout) where
 
   pub kept_trans : (s : State) (m : Machine) (t : State) (n : Machine) (u : State) (p : Machine) → t.scene.buffers ≡ s.scene.buffers → Kept naming layout s m t n → Kept naming layout t n u p → Kept naming layout s m u p
   kept_trans s m t n u p same h k = record {
-      buffers = λ b shape e. k.buffers b shape (h.buffers b shape e);
-      objects = λ o e. k.objects o (still_below o m.setting.free n.setting.free e h.free) ∙ h.objects o e;
-      free = le_trans h.free k.free;
-      untouched = λ o i e out. k.untouched o i (still_below o m.setting.free n.setting.free e h.free) (λ b shape f. out b shape (sym (ap (λ g. g b) same) ∙ f)) ∙ h.untouched o i e out
-    }
+    buffers = λ b shape e. k.buffers b shape (h.buffers b shape e);
+    objects = λ o e. k.objects o (still_below o m.setting.free n.setting.free e h.free) ∙ h.objects o e;
+    free = le_trans h.free k.free;
+    untouched = λ o i e out. k.untouched o i (still_below o m.setting.free n.setting.free e h.free) (λ b shape f. out b shape (sym (ap (λ g. g b) same) ∙ f)) ∙ h.untouched o i e out;
+  }
 
   -- at the end of a scope
   kept_closed : (s : State) (m : Machine) (t : State) (n : Machine) → Kept naming layout s m t n → Kept naming layout s m (left s t) (back_to m n)
   kept_closed s m t n h = record {
-      buffers = λ b shape e. e;
-      objects = λ o e. ap (λ b. still_there b (n.setting.objects o) None) e ∙ h.objects o e;
-      free = le_refl m.setting.free;
-      untouched = λ o i e out. ap (λ b. still_there b (n.contents o) (λ k. Undefined) i) e ∙ h.untouched o i e out
-    }
+    buffers = λ b shape e. e;
+    objects = λ o e. ap (λ b. still_there b (n.setting.objects o) None) e ∙ h.objects o e;
+    free = le_refl m.setting.free;
+    untouched = λ o i e out. ap (λ b. still_there b (n.contents o) (λ k. Undefined) i) e ∙ h.untouched o i e out;
+  }
 
 pub ran_on : (naming : Naming) (forms : Forms) (most : ℕ → ℕ) (layout : Layout) (s : State) (m : Machine) (t : State) (n : Machine) (u : State) (p : Machine) → Ran naming forms most layout s m t n → Ran naming forms most layout t n u p → Ran naming forms most layout s m u p
 ran_on naming forms most layout s m t n u p h k = record { matches = k.matches; kept = kept_trans naming layout s m t n u p h.same_buffers h.kept k.kept; control = k.control ∙ h.control; names = k.names ∙ h.names; same_buffers = k.same_buffers ∙ h.same_buffers }
@@ -91,20 +91,20 @@ ends_refl naming forms most layout s m match = record { kept = kept_refl naming 
 -- a statement, and then the rest of its block
 ends_on : (naming : Naming) (forms : Forms) (most : ℕ → ℕ) (layout : Layout) (s : State) (m : Machine) (t : State) (n : Machine) (u : State) (p : Machine) → Ran naming forms most layout s m t n → Ends naming forms layout t n u p → Ends naming forms layout s m u p
 ends_on naming forms most layout s m t n u p h k = record {
-    kept = kept_trans naming layout s m t n u p h.same_buffers h.kept k.kept;
-    names = λ x. ⊎_elim (λ e. inl e) (λ e. inr (e ∙ ap (λ f. f (naming.binder x)) h.names)) (k.names x);
-    cells = λ b shape e at r. k.cells b shape (h.kept.buffers b shape e) at r
-  }
+  kept = kept_trans naming layout s m t n u p h.same_buffers h.kept k.kept;
+  names = λ x. ⊎_elim (λ e. inl e) (λ e. inr (e ∙ ap (λ f. f (naming.binder x)) h.names)) (k.names x);
+  cells = λ b shape e at r. k.cells b shape (h.kept.buffers b shape e) at r;
+}
 
 module _ (naming : Naming) (forms inner : Forms) (most : ℕ → ℕ) (layout : Layout) where
   scope_follows : (s : State) (m : Machine) → Matches naming forms most layout s m → (o : Option State) (p : Outcome Machine) → Follows (Ends naming inner layout s m) o p → Follows (Ran naming forms most layout s m) (option_map (left s) o) (after p (λ n. Done (back_to m n)))
   scope_follows s m match o p h = follows_map (Ends naming inner layout s m) (Ran naming forms most layout s m) o p (left s) (back_to m) h (λ t n r. record {
-      matches = closed naming forms most layout s m match t n r.kept r.cells;
-      kept = kept_closed naming layout s m t n r.kept;
-      control = refl;
-      names = refl;
-      same_buffers = refl
-    })
+    matches = closed naming forms most layout s m match t n r.kept r.cells;
+    kept = kept_closed naming layout s m t n r.kept;
+    control = refl;
+    names = refl;
+    same_buffers = refl;
+  })
 
 -- ---- loops
 
@@ -178,9 +178,9 @@ module _ (naming : Naming) (forms : Forms) (most : ℕ → ℕ) (layout : Layout
           follows_done (Next s m) _ _ top _ (upper_is at s m match ∙ ap Done e)
           (subst (λ b. Follows (Next s m) (then_do (turn i go at s) (turns (turn i go) (range (at +ℤ pos 1) n))) (go_on b (λ p. after (turn64 (naming.binder i) c_go at p) (turns64 (turn64 (naming.binder i) c_go) (upper64 (naming.binder i) (number_of naming forms hi)) fuel (at +ℤ pos 1))) m)) (sym more.0)
           (follows_then (Next s m) (Next s m) _ _ _ _ (turn_follows at small s m match) (λ t p r.
-            follows_weaken (Next t p) (Next s m) _ _
-            (turns_follow n fuel (at +ℤ pos 1) t p r.matches (number_by_control forms t.scene s.scene r.control hi good_hi.0 ∙ e) (omega (arith, ints)) (inl more.1) (omega arith))
-            (λ u q x. ran_on naming forms most layout s m t p u q r x))))
+          follows_weaken (Next t p) (Next s m) _ _
+          (turns_follow n fuel (at +ℤ pos 1) t p r.matches (number_by_control forms t.scene s.scene r.control hi good_hi.0 ∙ e) (omega (arith, ints)) (inl more.1) (omega arith))
+          (λ u q x. ran_on naming forms most layout s m t p u q r x))))
 
     -- ---- the whole loop
 
@@ -207,7 +207,7 @@ module _ (naming : Naming) (forms : Forms) (most : ℕ → ℕ) (layout : Layout
         let top_small = bounded naming forms most layout s.scene m.setting match.names hi good_hi.0 in
         follows_done (Next s m) _ _ low _ (number_is naming forms most layout s.scene m.setting match.names lo good_lo)
         (turns_follow low top low_small top_small (count (top -ℤ low)) (count (pos 9223372036854775807 -ℤ low)) low s m match refl (omega (arith, ints)) (turns_left low top)
-          (few_turns low top (le_trans low_small (narrow most lo good_lo.1)) (le_trans top_small (narrow most hi good_hi.1))))
+        (few_turns low top (le_trans low_small (narrow most lo good_lo.1)) (le_trans top_small (narrow most hi good_hi.1))))
 
 -- ---- trees
 

@@ -30,14 +30,14 @@ still_there false a gone = gone
 -- the names of before, and the objects, fields and contents of after, without what was made in between
 abbrev pub back_to : Machine → Machine → Machine
 back_to before m = record {
-    setting = record {
-      names = before.setting.names;
-      objects = λ o. still_there (nat_lt o before.setting.free) (m.setting.objects o) None;
-      free = before.setting.free;
-      fields = m.setting.fields
-    };
-    contents = λ o. still_there (nat_lt o before.setting.free) (m.contents o) (λ k. Undefined)
-  }
+  setting = record {
+    names = before.setting.names;
+    objects = λ o. still_there (nat_lt o before.setting.free) (m.setting.objects o) None;
+    free = before.setting.free;
+    fields = m.setting.fields;
+  };
+  contents = λ o. still_there (nat_lt o before.setting.free) (m.contents o) (λ k. Undefined);
+}
 
 abbrev pub in_scope : (Machine → Outcome Machine) → Machine → Outcome Machine
 in_scope run m = after (run m) (λ n. Done (back_to m n))
@@ -123,7 +123,7 @@ made heap element x n m =
     let o = m.setting.free in
     record {
       setting = with_thing x (array_thing element (record { object = o; offset = pos 0 })) (with_object (record { cell = cell_of element; size = n *ℤ pos (lanes_of element); heap = heap }) m.setting);
-      contents = λ k. if k == o then (λ at. Undefined) else m.contents k
+      contents = λ k. if k == o then (λ at. Undefined) else m.contents k;
     }
 
 abbrev pub make : Bool → Element → Name → Outcome ℤ → Machine → Outcome Machine

@@ -5,7 +5,7 @@ use Rattle.exo_tree.specs.Tree.{Cell, I8, I32, Control, Lit, Datum, Const, Read,
 use Rattle.exo_meaning.specs.Scene.{is_below}
 use Rattle.c_printer.specs.CTree.{Name}
 use Rattle.c_printer.specs.Names.{is_in, is_word, is_reserved, param_binders, names_of}
-use Rattle.c_printer.specs.LoweredUnit.{Printing, global_names}
+use Rattle.c_printer.specs.LoweredUnit.{Printing, printed_names}
 
 -- a literal of the unit text
 abbrev pub is_literal : ℤ → Bool
@@ -103,8 +103,8 @@ abbrev pub are_first : Program → List Name → List Printing → Bool
 are_first program globals [] = true
 are_first program globals (w ∷ ws) = is_first globals (slice_get program.procedures w.proc) && are_first program globals ws
 
--- the listed procedures are of the first form, and all names of C can be kept
+-- the listed procedures are of the first form, and all names of C can be kept; such procedures use no field
 abbrev pub is_first_unit : Program → List Printing → Bool
 is_first_unit program what =
-    let globals = global_names program what in
+    let globals = printed_names program what in
     are_no_words globals && are_distinct globals && are_first program globals what

@@ -39,5 +39,5 @@ pub record Agrees (naming : Naming) (layout : Layout) (s : State) (m : Machine) 
 -- both end, and what they leave agrees
 abbrev pub FirstFormsFollow : Type 0
 FirstFormsFollow = (program : Program) (table : List Binder) (layout : Layout) (world : World) (c_world : CWorld) (p : Procedure) (s : State) (m : Machine)
-  → is_first_form p ≡ true → IsAdmissible world p s → AreSame (naming_in program table) (λ x. 0) layout s m p.params → AreSeparate layout s
-  → (t : State) × (n : Machine) × (run_procedure world p s ≡ Some t) × (run_c c_world (function_of (naming_in program table) p).body m ≡ Done n) × Agrees (naming_in program table) layout s m t n
+    → is_first_form p ≡ true → IsAdmissible world p s → AreSame (naming_in program table) (λ x. 0) layout s m p.params → AreSeparate layout s
+    → (t : State) × (n : Machine) × (run_procedure world p s ≡ Some t) × (run_c c_world (function_of (naming_in program table) p).body m ≡ Done n) × Agrees (naming_in program table) layout s m t n

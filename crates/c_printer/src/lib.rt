@@ -1,6 +1,7 @@
 //! C: its trees, their text, and how a procedure becomes one.
 #![tactic(auto)]
 
+mod first_form;
 pub mod laws;
 mod lowering;
 mod show;
@@ -9,5 +10,6 @@ mod tests;
 mod text;
 pub mod tree;
 
+pub use first_form::is_first_unit;
 pub use lowering::{LowerError, Printed, lower};
 pub use text::c_text;

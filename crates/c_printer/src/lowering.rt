@@ -11,17 +11,20 @@ ghost use Rattle.exo_tree.specs.PlainUnit.{program};
 ghost use Rattle.c_printer.specs.CTree.{Literal, cblock};
 ghost use Rattle.c_printer.specs.Names.{name_in, param_binders};
 ghost use Rattle.c_printer.specs.Lowered.{cell_in, cell_at_of, number32_of, Becomes, block_of};
-ghost use Rattle.c_printer.specs.LoweredUnit.{named_field, field_word, name_of, line_of, naming_in, formal_of, formals_of, function_of, function_at, functions_of, global_names, lowered};
+ghost use Rattle.c_printer.specs.LoweredUnit.{named_field, field_word, name_of, line_of, naming_in, formal_of, formals_of, function_of, function_at, functions_of, printed_names, lowered};
 ghost use Rattle.c_printer.specs.SameInput.{form_of, param_forms};
 ghost use Rattle.c_printer.specs.FirstForm.{first_index, is_first_access, is_first_datum, is_first_statement, is_first_block, is_first_param, are_first_params, is_first_form, is_first_there, is_first, are_first, is_first_unit};
 ghost use Rattle.c_printer.specs.Plain.{plain_type, plain_number, plain_cell, plain_data, plain_statement, plain_param, plain_function, plain_line, plain_unit};
 ghost use Rattle.c_printer.specs.PlainPrinted.{printing};
 
+use crate::tree::{
+    CBlock, CCell, CData, CFunction, CNumber, CParam, CStatement, CType, CUnit, ReportLine,
+};
+use exo_tree::{
+    Block, Cell, Ctrl, DataExpr, FieldId, Id, Indices, Name, Param, ParamKind, Params, Proc,
+    ProcId, Stmt, Unit,
+};
 use std::alloc::{AllocError, Global};
-
-use exo_tree::{Block, Cell, Ctrl, DataExpr, FieldId, Id, Indices, Name, Param, ParamKind, Params, Proc, ProcId, Stmt, Unit};
-
-use crate::tree::{CBlock, CCell, CData, CFunction, CNumber, CParam, CStatement, CType, CUnit, ReportLine};
 
 /// A procedure to print: the procedure of the text that it comes from, and the fields that it may leave different.
 #[derive(Drop)]
@@ -106,7 +109,13 @@ fn literal_index(is: &Indices) -> CNumber
 }
 
 /// The C of a cell.
-fn lower_cell(alloc: Global, unit: &Unit, params: &Params, x: Id, is: &Indices) -> Result<CCell, AllocError>
+fn lower_cell(
+    alloc: Global,
+    unit: &Unit,
+    params: &Params,
+    x: Id,
+    is: &Indices,
+) -> Result<CCell, AllocError>
     requires { is_first_access params.now x.0 is.now ≡ true }
     ensures { IfOk result (λ c. plain_cell c ≡ cell_at_of (naming_in (program unit.now) (param_binders params.now)) (param_forms params.now) x.0 is.now) }
 {
@@ -117,14 +126,22 @@ fn lower_cell(alloc: Global, unit: &Unit, params: &Params, x: Id, is: &Indices) 
 }
 
 /// The C of a data expression.
-fn lower_data(alloc: Global, unit: &Unit, params: &Params, e: &DataExpr) -> Result<CData, AllocError>
+fn lower_data(
+    alloc: Global,
+    unit: &Unit,
+    params: &Params,
+    e: &DataExpr,
+) -> Result<CData, AllocError>
     requires { is_first_datum params.now (datum e.now) ≡ true }
     ensures { IfOk result (λ d. plain_data d ≡ number32_of (naming_in (program unit.now) (param_binders params.now)) (param_forms params.now) (datum e.now)) }
 {
     match e {
         DataExpr::Lit(n) => Ok(CData::Literal(*n)),
         DataExpr::Read(x, is) => Ok(CData::Read(lower_cell(alloc, unit, params, *x, is)?)),
-        DataExpr::Neg(a) => Ok(CData::Opposite(Box::new(alloc, lower_data(alloc, unit, params, a)?)?)),
+        DataExpr::Neg(a) => Ok(CData::Opposite(Box::new(
+            alloc,
+            lower_data(alloc, unit, params, a)?,
+        )?)),
         DataExpr::Relu(a) => Ok(CData::Relu(Box::new(alloc, lower_data(alloc, unit, params, a)?)?)),
         DataExpr::Add(a, b) => {
             let left = Box::new(alloc, lower_data(alloc, unit, params, a)?)?;
@@ -142,13 +159,25 @@ fn lower_data(alloc: Global, unit: &Unit, params: &Params, e: &DataExpr) -> Resu
             let x = Box::new(alloc, lower_data(alloc, unit, params, x)?)?;
             let v = Box::new(alloc, lower_data(alloc, unit, params, v)?)?;
             let y = Box::new(alloc, lower_data(alloc, unit, params, y)?)?;
-            Ok(CData::Select(x, v, y, Box::new(alloc, lower_data(alloc, unit, params, z)?)?))
+            Ok(CData::Select(
+                x,
+                v,
+                y,
+                Box::new(alloc, lower_data(alloc, unit, params, z)?)?,
+            ))
         }
     }
 }
 
 /// The C of a store in a cell.
-fn lower_store(alloc: Global, unit: &Unit, params: &Params, x: Id, is: &Indices, e: &DataExpr) -> Result<(CType, CCell, CData), AllocError>
+fn lower_store(
+    alloc: Global,
+    unit: &Unit,
+    params: &Params,
+    x: Id,
+    is: &Indices,
+    e: &DataExpr,
+) -> Result<(CType, CCell, CData), AllocError>
     requires access { is_first_access params.now x.0 is.now ≡ true }
     requires value { is_first_datum params.now (datum e.now) ≡ true }
     ensures cell_type { IfOk result (λ r. plain_type r.0 ≡ cell_in (param_forms params.now x.0) I32) }
@@ -161,7 +190,12 @@ fn lower_store(alloc: Global, unit: &Unit, params: &Params, x: Id, is: &Indices,
 }
 
 /// The C of a statement.
-fn lower_statement(alloc: Global, unit: &Unit, params: &Params, s: &Stmt) -> Result<CStatement, AllocError>
+fn lower_statement(
+    alloc: Global,
+    unit: &Unit,
+    params: &Params,
+    s: &Stmt,
+) -> Result<CStatement, AllocError>
     requires { is_first_statement params.now (statement s.now) ≡ true }
     ensures { IfOk result (λ c. Becomes (naming_in (program unit.now) (param_binders params.now)) (param_forms params.now) (statement s.now) (plain_statement c)) }
 {
@@ -273,7 +307,11 @@ fn report_line(alloc: Global, unit: &Unit, w: &Printed) -> Result<ReportLine, Al
     let name = printed_name(alloc, unit, w.proc)?;
     let origin = String::from_str(alloc, w.origin.as_str())?;
     let differs = report_fields(alloc, unit, &w.fields)?;
-    Ok(ReportLine { name, origin, differs })
+    Ok(ReportLine {
+        name,
+        origin,
+        differs,
+    })
 }
 
 /// The report.
@@ -299,9 +337,13 @@ fn lower_printed(alloc: Global, unit: &Unit, k: ProcId) -> Result<CFunction, All
 }
 
 /// The C of the listed procedures.
-fn lower_functions(alloc: Global, unit: &Unit, what: &[Printed]) -> Result<Vec<CFunction>, AllocError>
-    requires { are_first (program unit.now) (global_names (program unit.now) (map printing what.now)) (map printing what.now) ≡ true }
-    ensures { IfOk result (λ v. map plain_function v.items ≡ functions_of (program unit.now) (global_names (program unit.now) (map printing what.now)) (map printing what.now)) }
+fn lower_functions(
+    alloc: Global,
+    unit: &Unit,
+    what: &[Printed],
+) -> Result<Vec<CFunction>, AllocError>
+    requires { are_first (program unit.now) (printed_names (program unit.now) (map printing what.now)) (map printing what.now) ≡ true }
+    ensures { IfOk result (λ v. map plain_function v.items ≡ functions_of (program unit.now) (printed_names (program unit.now) (map printing what.now)) (map printing what.now)) }
 {
     let mut made = Vec::new(alloc);
     for w in what {

@@ -3,9 +3,8 @@ ghost use Rattle.std.specs.Prelude.{Some, string_bytes};
 ghost use Rattle.c_printer.specs.CText.{type_word, number64_text, test_text, cell_text, number32_text, actual_text, formal_text, head_text, signature_text, origin_text};
 ghost use Rattle.c_printer.specs.Plain.{plain_type, plain_number, plain_test, plain_cell, plain_data, plain_value, plain_param, plain_statement};
 
-use std::fmt;
-
 use crate::tree::{CCell, CData, CNumber, CParam, CStatement, CTest, CType, CValue};
+use std::fmt;
 
 impl fmt::Display for CType {
     ghost output = { λ t. Some (type_word (plain_type t)) };
@@ -117,7 +116,10 @@ impl fmt::Display for CStatement {
                 write!(f, "{x} < {hi}; {x}++) {{")
             }
             CStatement::Array(t, x, n) => write!(f, "{t} {x}[{n}];"),
-            CStatement::Malloc(t, x, n) => write!(f, "{t} *{x} = ({t} *)malloc((size_t){n} * sizeof({t}));"),
+            CStatement::Malloc(t, x, n) => write!(
+                f,
+                "{t} *{x} = ({t} *)malloc((size_t){n} * sizeof({t}));"
+            ),
             CStatement::Free(x) => write!(f, "free({x});"),
         }
     }
@@ -150,6 +152,10 @@ impl fmt::Display for Origin<'_> {
     ghost output = { λ s. Some (origin_text (string_bytes s.name.now) (string_bytes s.origin.now) (string_bytes s.fields.now)) };
 
     fn fmt<W: fmt::Write>(&self, f: &mut fmt::Formatter<W>) -> fmt::Result {
-        write!(f, " * {}: from {}; differs: {}", self.name, self.origin, self.fields)
+        write!(
+            f,
+            " * {}: from {}; differs: {}",
+            self.name, self.origin, self.fields
+        )
     }
 }

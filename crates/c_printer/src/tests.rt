@@ -1,9 +1,14 @@
 //! Worked texts.
 
+use crate::tree::{
+    CBlock, CCell, CData, CFunction, CNumber, CParam, CStatement, CTest, CType, CUnit, ReportLine,
+};
+use crate::{Printed, c_text, is_first_unit, lower};
+use exo_tree::{
+    Binder, Block, Cell, Conds, Ctrl, DataExpr, Fields, Id, Indices, Lines, MemId, Memories, Name,
+    Param, ParamKind, Params, Proc, ProcId, Procs, Stmt, Unit,
+};
 use std::alloc::{AllocError, Global};
-
-use crate::c_text;
-use crate::tree::{CBlock, CCell, CData, CFunction, CNumber, CParam, CStatement, CTest, CType, CUnit, ReportLine};
 
 /// The two lines of a report's end, the headers and the helpers.
 const PREAMBLE: &str = "#include <stdint.h>
@@ -39,7 +44,12 @@ fn report_line(alloc: Global, name: &str) -> Result<ReportLine, AllocError> {
 }
 
 /// A file of one function, with its line in the report.
-fn file_of(alloc: Global, name: &str, params: Vec<CParam>, body: CBlock) -> Result<CUnit, AllocError> {
+fn file_of(
+    alloc: Global,
+    name: &str,
+    params: Vec<CParam>,
+    body: CBlock,
+) -> Result<CUnit, AllocError> {
     let mut report = Vec::new(alloc);
     report.push(report_line(alloc, name)?)?;
     let function = CFunction {
@@ -98,7 +108,12 @@ fn nested(alloc: Global) -> Result<CUnit, AllocError> {
     body.push(CStatement::Malloc(CType::Int8, text(alloc, "t")?, number(alloc, "n")?))?;
     body.push(CStatement::Branch(test, then, other))?;
     let mut whole = CBlock::new(alloc);
-    whole.push(CStatement::Loop(text(alloc, "i")?, CNumber::Literal(0), number(alloc, "n")?, body))?;
+    whole.push(CStatement::Loop(
+        text(alloc, "i")?,
+        CNumber::Literal(0),
+        number(alloc, "n")?,
+        body,
+    ))?;
     file_of(alloc, "f", Vec::new(alloc), whole)
 }
 
@@ -107,7 +122,11 @@ fn files_have_their_texts(rt: HostRuntime) -> Result<(), AllocError> {
     let alloc = rt.alloc();
     let cases = [
         (nothing(alloc), "/* exoc\n */\n", ""),
-        (nop(alloc)?, "/* exoc\n * nop: from nop; differs: nothing\n */\n", "\nvoid nop(int64_t n) {\n    ;\n}\n"),
+        (
+            nop(alloc)?,
+            "/* exoc\n * nop: from nop; differs: nothing\n */\n",
+            "\nvoid nop(int64_t n) {\n    ;\n}\n",
+        ),
         (
             add3(alloc)?,
             "/* exoc\n * add3: from add3; differs: nothing\n */\n",
@@ -122,6 +141,86 @@ fn files_have_their_texts(rt: HostRuntime) -> Result<(), AllocError> {
     for (unit, report, functions) in &cases {
         let want = format!(in alloc; "{report}{PREAMBLE}{functions}")?;
         assert_eq!(rt; c_text(alloc, unit)?.as_str(), want.as_str());
+    }
+    Ok(())
+}
+
+fn literal(alloc: Global, n: i64) -> Result<Indices, AllocError> {
+    let mut is = Indices::new(alloc);
+    is.push(Ctrl::Lit(n))?;
+    Ok(is)
+}
+
+fn tensor(alloc: Global, id: u32, name: &str, size: i64) -> Result<Param, AllocError> {
+    let binder = Binder {
+        id: Id(id),
+        name: Name::new(alloc, name)?,
+    };
+    let kind = ParamKind::Tensor(Cell::I32, literal(alloc, size)?, MemId(0));
+    Ok(Param { binder, kind })
+}
+
+/// `x[0] = 3 + y[index]` for tensors of those names with 4 cells.
+fn unit_of(alloc: Global, name: &str, x: &str, y: &str, index: i64) -> Result<Unit, AllocError> {
+    let mut params = Params::new(alloc);
+    params.push(tensor(alloc, 0, x, 4)?)?;
+    params.push(tensor(alloc, 1, y, 4)?)?;
+    let three = Box::new(alloc, DataExpr::Lit(3))?;
+    let read = Box::new(alloc, DataExpr::Read(Id(1), literal(alloc, index)?))?;
+    let mut body = Block::new(alloc);
+    body.push(Stmt::Assign(Id(0), literal(alloc, 0)?, DataExpr::Add(three, read)))?;
+    let mut procs = Procs::new(alloc);
+    procs.push(Proc {
+        name: Name::new(alloc, name)?,
+        params,
+        asserts: Conds::new(alloc),
+        body,
+        template: None,
+    })?;
+    Ok(Unit {
+        procs,
+        fields: Fields::new(alloc),
+        memories: Memories::new(alloc),
+        lines: Lines::new(alloc),
+    })
+}
+
+fn print_first(alloc: Global) -> Result<Vec<Printed>, AllocError> {
+    let mut what = Vec::new(alloc);
+    what.push(Printed {
+        proc: ProcId(0),
+        origin: Name::new(alloc, "add3")?,
+        fields: Vec::new(alloc),
+    })?;
+    Ok(what)
+}
+
+#[test]
+fn procedures_of_the_first_form_become_c(rt: HostRuntime) -> Result<(), AllocError> {
+    let alloc = rt.alloc();
+    let what = print_first(alloc)?;
+    let cases = [
+        ("add3", "x", "y", 1, true),
+        ("add3", "x", "y", 4, false),
+        ("add3", "x", "x", 1, false),
+        ("add3", "x", "int", 1, false),
+        ("add3", "x", "add3", 1, false),
+        ("add3", "_x", "y", 1, false),
+        ("while", "x", "y", 1, false),
+    ];
+    for (name, x, y, index, want) in cases {
+        let unit = unit_of(alloc, name, x, y, index)?;
+        let first = is_first_unit(&unit, &what);
+        assert_eq!(rt; first, want);
+        if first {
+            let Ok(c) = lower(alloc, &unit, &what) else {
+                return Err(AllocError);
+            };
+            assert_eq!(rt;
+                c_text(alloc, &c)?.as_str(),
+                c_text(alloc, &add3(alloc)?)?.as_str()
+            );
+        }
     }
     Ok(())
 }

@@ -4,10 +4,9 @@ ghost use Rattle.c_printer.specs.CTree.{cblock};
 ghost use Rattle.c_printer.specs.CText.{line, deeper, margin, each, or_word, or_else, head_text, block_text, inner_text, formal_text, signature_text, function_text, report_text, include_text, field_text, helpers, preamble_text, text_of};
 ghost use Rattle.c_printer.specs.Plain.{plain_statement, plain_param, plain_function, plain_line, plain_unit};
 
-use std::alloc::{AllocError, Global};
-
 use crate::show::{Origin, Signature};
 use crate::tree::{CBlock, CFunction, CParam, CStatement, CUnit, ReportLine};
+use std::alloc::{AllocError, Global};
 
 /// Appends a line behind an indentation.
 fn put_line(out: &mut String, indent: &str, text: &str) -> Result<(), AllocError>
@@ -35,7 +34,13 @@ fn inner_indent(alloc: Global, indent: &str) -> Result<String, AllocError>
 
 /// Appends the second branch of a condition and the brace.
 #[cycle(put)]
-fn put_other(alloc: Global, out: &mut String, indent: &str, inner: &str, other: &CBlock) -> Result<(), AllocError>
+fn put_other(
+    alloc: Global,
+    out: &mut String,
+    indent: &str,
+    inner: &str,
+    other: &CBlock,
+) -> Result<(), AllocError>
     ensures { OnOk result (string_bytes out.new ≡ string_bytes out.old ++ or_else indent.now (cblock other.now) (block_text inner.now (cblock other.now))) }
 {
     if other.is_empty() {
@@ -49,7 +54,13 @@ fn put_other(alloc: Global, out: &mut String, indent: &str, inner: &str, other: 
 
 /// Appends the branches of a condition.
 #[cycle(put)]
-fn put_branches(alloc: Global, out: &mut String, indent: &str, then: &CBlock, other: &CBlock) -> Result<(), AllocError>
+fn put_branches(
+    alloc: Global,
+    out: &mut String,
+    indent: &str,
+    then: &CBlock,
+    other: &CBlock,
+) -> Result<(), AllocError>
     ensures { OnOk result (string_bytes out.new ≡ string_bytes out.old ++ (block_text (deeper indent.now) (cblock then.now) ++ or_else indent.now (cblock other.now) (block_text (deeper indent.now) (cblock other.now)))) }
 {
     let inner = inner_indent(alloc, indent)?;
@@ -71,7 +82,12 @@ fn put_body(alloc: Global, out: &mut String, indent: &str, body: &CBlock) -> Res
 
 /// Appends the lines of a statement after its first.
 #[cycle(put)]
-fn put_inner(alloc: Global, out: &mut String, indent: &str, s: &CStatement) -> Result<(), AllocError>
+fn put_inner(
+    alloc: Global,
+    out: &mut String,
+    indent: &str,
+    s: &CStatement,
+) -> Result<(), AllocError>
     ensures { OnOk result (string_bytes out.new ≡ string_bytes out.old ++ inner_text indent.now (plain_statement s.now)) }
 {
     match s {
@@ -91,7 +107,12 @@ fn put_head(alloc: Global, out: &mut String, indent: &str, s: &CStatement) -> Re
 
 /// Appends the lines of a block.
 #[cycle(put)]
-fn put_block(alloc: Global, out: &mut String, indent: &str, block: &CBlock) -> Result<(), AllocError>
+fn put_block(
+    alloc: Global,
+    out: &mut String,
+    indent: &str,
+    block: &CBlock,
+) -> Result<(), AllocError>
     ensures { OnOk result (string_bytes out.new ≡ string_bytes out.old ++ block_text indent.now (cblock block.now)) }
 {
     for k in 0..block.len() {
@@ -192,10 +213,22 @@ fn put_includes(alloc: Global, out: &mut String, headers: &[String]) -> Result<(
 fn put_helpers(out: &mut String) -> Result<(), AllocError>
     ensures { OnOk result (string_bytes out.new ≡ string_bytes out.old ++ helpers) }
 {
-    put_margin(out, "static inline int64_t exo_div(int64_t a, int64_t b) { int64_t q = a / b; return (a % b < 0) ? q - 1 : q; }")?;
-    put_margin(out, "static inline int64_t exo_mod(int64_t a, int64_t b) { int64_t r = a % b; return (r < 0) ? r + b : r; }")?;
-    put_margin(out, "static inline uint32_t exo_relu(uint32_t x) { return ((int32_t)x > 0) ? x : 0; }")?;
-    put_margin(out, "static inline uint32_t exo_select(uint32_t x, uint32_t v, uint32_t y, uint32_t z) { return ((int32_t)x < (int32_t)v) ? y : z; }")
+    put_margin(
+        out,
+        "static inline int64_t exo_div(int64_t a, int64_t b) { int64_t q = a / b; return (a % b < 0) ? q - 1 : q; }",
+    )?;
+    put_margin(
+        out,
+        "static inline int64_t exo_mod(int64_t a, int64_t b) { int64_t r = a % b; return (r < 0) ? r + b : r; }",
+    )?;
+    put_margin(
+        out,
+        "static inline uint32_t exo_relu(uint32_t x) { return ((int32_t)x > 0) ? x : 0; }",
+    )?;
+    put_margin(
+        out,
+        "static inline uint32_t exo_select(uint32_t x, uint32_t v, uint32_t y, uint32_t z) { return ((int32_t)x < (int32_t)v) ? y : z; }",
+    )
 }
 
 /// Appends a line for each configuration field.

@@ -13,9 +13,9 @@ use Rattle.c_printer.proofs.lowering.lower_block.Goals as goal
 
 pub loop-k-preserved : goal.loop-k-preserved
 loop-k-preserved c = record {
-    left = still_first c.args.params.now c.args.b.now c.loop-k.k (statement c.statement.result.now) c.statement.ensures.value c.loop-k.invariant.left;
-    whole = one_more c.args.params.now c.args.b.now c.loop-k.k (statement c.statement.result.now) c.statement.ensures.value c.loop-k.invariant.left (naming_in (program c.args.unit.now) (param_binders c.args.params.now)) (param_forms c.args.params.now) c.loop-k.made c.push.new.self (plain_statement c.in_ok-lower_statement.field-0) _ c.loop-k.invariant.whole c.in_ok-push.ensures.pushed c.in_ok-lower_statement.ensures;
-  }
+  left = still_first c.args.params.now c.args.b.now c.loop-k.k (statement c.statement.result.now) c.statement.ensures.value c.loop-k.invariant.left;
+  whole = one_more c.args.params.now c.args.b.now c.loop-k.k (statement c.statement.result.now) c.statement.ensures.value c.loop-k.invariant.left (naming_in (program c.args.unit.now) (param_binders c.args.params.now)) (param_forms c.args.params.now) c.loop-k.made c.push.new.self (plain_statement c.in_ok-lower_statement.field-0) _ c.loop-k.invariant.whole c.in_ok-push.ensures.pushed c.in_ok-lower_statement.ensures;
+}
 
 pub returns : goal.returns
 returns c =
