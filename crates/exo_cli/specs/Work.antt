@@ -1,5 +1,5 @@
 -- The order of the program's work: its words, the files in order, and then what their texts give.
-use Rattle.std.specs.Prelude.{◌≡◌, ◌≢◌, ℕ, ◌⊎◌, ◌≤◌, List, [], ◌∷◌, Option, Some, None, length, if◌then◌else◌, nat_lt, codes, Contains, IfSome, IsNone, MatchOption}
+use Rattle.std.specs.Prelude.{◌≡◌, ◌≢◌, ℕ, ◌⊎◌, ◌≤◌, List, [], ◌∷◌, Option, Some, None, length, if◌then◌else◌, nat_lt, codes, Contains, IfSome, IsNone, MatchBool, MatchOption}
 use Rattle.std.specs.Option.{option_map_or}
 use Rattle.exo_cli.specs.declared.status.Status.{Status}
 use Rattle.exo_cli.specs.declared.status.Status.TheVariants.{Ok, Refused, Usage, ReadFault, WriteFault, Memory}
@@ -7,25 +7,26 @@ use Rattle.exo_cli.specs.Outside.{Folder, content_of, IsLonger, Rose, with_more,
 use Rattle.exo_cli.specs.Messages.{usage, cannot_read, file_refused}
 use Rattle.exo_cli.specs.Words.{Command, Compile, command_of, files_of}
 use Rattle.exo_cli.specs.Answer.{Answer, Accepted, Rejected, Unread, Misused, status_of, for_out, for_err}
-use Rattle.exo_cli.specs.Compiled.{compiled}
+use Rattle.exo_cli.specs.Compiled.{IsCompiled}
 
 -- the most bytes that a file may have
 abbrev pub file_limit : ℕ
 file_limit = 1048576
 
--- the answer from a file's bytes, where it has some that are not too many
-abbrev pub opened : Option (List ℕ) → List ℕ → (List ℕ → Answer) → Answer
-opened None name next = Unread (cannot_read name)
-opened (Some bytes) name next = if nat_lt file_limit (length bytes) then Rejected (file_refused name (codes "FileTooLong")) else next bytes
+-- This answer comes of a file's bytes: it has none, or too many, or what is next holds of them.
+abbrev pub Opens : Option (List ℕ) → List ℕ → (List ℕ → Answer → Type 0) → Answer → Type 0
+Opens None name next answer = answer ≡ Unread (cannot_read name)
+Opens (Some bytes) name next answer =
+    MatchBool (nat_lt file_limit (length bytes)) (answer ≡ Rejected (file_refused name (codes "FileTooLong"))) (next bytes answer)
 
--- the answer to a command over these files
-abbrev pub answer_to : Command → Folder → Answer
-answer_to (Compile procs schedule) files =
-    opened (content_of files procs) procs (λ unit. opened (content_of files schedule) schedule (λ lines. compiled procs unit schedule lines))
+-- this is the answer to a command over these files
+abbrev pub AnswersTo : Command → Folder → Answer → Type 0
+AnswersTo (Compile procs schedule) files =
+    Opens (content_of files procs) procs (λ unit. Opens (content_of files schedule) schedule (λ lines. IsCompiled procs unit schedule lines))
 
--- the answer to the words over these files
-abbrev pub answer : List (List ℕ) → Folder → Answer
-answer words files = option_map_or (λ command. answer_to command files) (command_of words) (Misused usage)
+-- this is the answer to the words over these files
+abbrev pub Answers : List (List ℕ) → Folder → Answer → Type 0
+Answers words files answer = MatchOption (command_of words) (answer ≡ Misused usage) (λ command. AnswersTo command files answer)
 
 -- the names of the files that the words name
 abbrev pub operands : List (List ℕ) → List (List ℕ)
@@ -51,8 +52,8 @@ pub record IsReadFault (names : List (List ℕ)) (before after : ℕ) (last : Op
 
 -- The answer to a command is that of what the files hold, where they tell it, or a file could not be read.
 abbrev pub IsAnswerTo : Command → Option Folder → ℕ → ℕ → Option (List ℕ) → Answer → Type 0
-IsAnswerTo command told before after last (Accepted text) = IfSome told (λ files. answer_to command files ≡ Accepted text)
-IsAnswerTo command told before after last (Rejected message) = IfSome told (λ files. answer_to command files ≡ Rejected message)
+IsAnswerTo command told before after last (Accepted text) = IfSome told (λ files. AnswersTo command files (Accepted text))
+IsAnswerTo command told before after last (Rejected message) = IfSome told (λ files. AnswersTo command files (Rejected message))
 IsAnswerTo command told before after last (Unread message) = IsReadFault (files_of command) before after last message
 IsAnswerTo command told before after last (Misused message) = ⊥
 
@@ -95,11 +96,12 @@ pub record Ends (words : List (List ℕ)) (before after : Moment) (status : Stat
       × (after.err ≡ with_more before.err message)
   -- a sink failed at its part of the answer, or the standard error at the message of a file that could not be read
   pub write_fault : status ≡ WriteFault → (bytes : List ℕ) × (
-      (OutFails before after bytes × IfSome before.told (λ files. bytes ≡ for_out (answer words files)))
+      (OutFails before after bytes × IfSome before.told (λ files. (answer : Answer) × Answers words files answer × (bytes ≡ for_out answer)))
       ⊎ (ErrFails before after bytes × (IsReadFault (operands words) before.faults after.faults after.last_fault bytes
-      ⊎ IfSome before.told (λ files. bytes ≡ for_err (answer words files)))))
+      ⊎ IfSome before.told (λ files. (answer : Answer) × Answers words files answer × (bytes ≡ for_err answer)))))
   -- else the status and all bytes are those of the answer
   pub told : status ≢ Memory → status ≢ ReadFault → status ≢ WriteFault → IfSome before.told (λ files.
-      (status ≡ status_of (answer words files))
-      × (after.out ≡ with_more before.out (for_out (answer words files)))
-      × (after.err ≡ with_more before.err (for_err (answer words files))))
+      (answer : Answer) × Answers words files answer
+      × (status ≡ status_of answer)
+      × (after.out ≡ with_more before.out (for_out answer))
+      × (after.err ≡ with_more before.err (for_err answer)))

@@ -1,24 +1,151 @@
 // From the texts of a unit and of a schedule to the text of C.
-ghost use Rattle.std.specs.Prelude.{◌≡◌, IfOk};
-ghost use Rattle.exo_cli.specs.Answer.{IsVerdict};
-ghost use Rattle.exo_cli.specs.Compiled.{compiled};
+ghost use Rattle.std.specs.Prelude.{◌≡◌, ◌≤◌, ◌≢◌, length, map, IfOk};
+ghost use Rattle.exo_tree.specs.Plain.{program};
+ghost use Rattle.c_printer.specs.PlainPrinted.{printing};
+ghost use Rattle.exo_cli.specs.Answer.{Rejected, IsVerdict};
+ghost use Rattle.exo_cli.specs.Compiled.{IsCompiled, ended, not_built, printed, scheduled, started, why_text};
+ghost use Rattle.exo_cli.specs.Lines.{operator_of, run_lines};
+ghost use Rattle.exo_cli.specs.Messages.{line_refused};
 ghost use Rattle.exo_cli.specs.Replies.{plain};
+ghost use Rattle.exo_cli.specs.ScheduleForm.{schedule_of};
 
+use crate::lines::{Act, Line};
 use crate::messages;
 use crate::reply::Reply;
+use crate::schedule::read_schedule;
+use crate::session::{Session, Why};
+use c_printer::{Printed, c_text, is_first_unit, lower};
+use exo_reader::first::FirstError;
+use exo_reader::first_text::read_first;
+use exo_tree::Unit;
 use std::alloc::{AllocError, Global};
 
 /// Compiles the unit by the schedule. The names are those of their files, for the messages.
-#[tactic(auto, unfolding(crate::specs::Compiled::compiled))]
 pub(crate) fn compile(
     alloc: Global,
     procs: &str,
-    _unit: &[u8],
-    _schedule: &str,
-    _lines: &[u8],
+    unit: &[u8],
+    schedule: &str,
+    lines: &[u8],
 ) -> Result<Reply, AllocError>
-    ensures answer { IfOk result (λ reply. plain reply ≡ compiled procs.now _unit.now _schedule.now _lines.now) }
+    requires unit { length unit.now ≤ 1048576 }
+    requires lines { length lines.now ≤ 1048576 }
+    ensures answer { IfOk result (λ reply. IsCompiled procs.now unit.now schedule.now lines.now (plain reply)) }
     ensures verdict { IfOk result (λ reply. IsVerdict (plain reply)) }
 {
-    Ok(Reply::Rejected(messages::file_refused(alloc, procs, "NotBuilt")?))
+    match read_first(alloc, unit) {
+        Ok(unit) => schedule_unit(alloc, procs, unit, schedule, lines),
+        Err(FirstError::NotBuilt) => not_built(alloc, procs),
+        Err(FirstError::Memory) => Err(AllocError),
+    }
+}
+
+/// The file of this name is not of a form that is built.
+fn not_built(alloc: Global, name: &str) -> Result<Reply, AllocError>
+    ensures answer { IfOk result (λ reply. plain reply ≡ not_built name.now) }
+    ensures verdict { IfOk result (λ reply. IsVerdict (plain reply)) }
+{
+    let message = messages::file_refused(alloc, name, "NotBuilt")?;
+    Ok(Reply::Rejected(message))
+}
+
+/// Runs the schedule on the unit, and prints what it says.
+fn schedule_unit(
+    alloc: Global,
+    procs: &str,
+    unit: Unit,
+    schedule: &str,
+    lines: &[u8],
+) -> Result<Reply, AllocError>
+    requires { length lines.now ≤ 1048576 }
+    ensures answer { IfOk result (λ reply. plain reply ≡ scheduled procs.now schedule.now (program unit) (schedule_of lines.now)) }
+    ensures verdict { IfOk result (λ reply. IsVerdict (plain reply)) }
+{
+    match read_schedule(alloc, lines)? {
+        Some(lines) => run_lines(alloc, procs, unit, schedule, &lines),
+        None => not_built(alloc, schedule),
+    }
+}
+
+/// Runs the lines on the unit, and prints what they say.
+fn run_lines(
+    alloc: Global,
+    procs: &str,
+    unit: Unit,
+    schedule: &str,
+    lines: &[Line],
+) -> Result<Reply, AllocError>
+    ensures answer { IfOk result (λ reply. plain reply ≡ ended procs.now schedule.now (program unit) (run_lines lines.now (started unit.procs))) }
+    ensures verdict { IfOk result (λ reply. IsVerdict (plain reply)) }
+{
+    let Unit {
+        procs: first,
+        fields,
+        memories,
+        lines: places,
+    } = unit;
+    let mut session = Session::start(alloc, first)?;
+    if let Err((k, why)) = session.run(alloc, lines) {
+        return refuse_line(alloc, schedule, &lines[k], why);
+    }
+    let what = session.printed(alloc)?;
+    let unit = Unit {
+        procs: session.into_procs(),
+        fields,
+        memories,
+        lines: places,
+    };
+    print(alloc, procs, &unit, &what)
+}
+
+/// The name of an operator.
+fn operator_of(act: &Act) -> &'static str
+    ensures { result.now ≡ operator_of act.now }
+{
+    match act {
+        Act::Commute(_) => "commute_expr",
+        Act::Emit(_) => "emit",
+    }
+}
+
+/// A cause as messages have it.
+fn why_text(why: Why) -> &'static str
+    ensures { result.now ≡ why_text why }
+{
+    match why {
+        Why::Memory => "Memory",
+        Why::UnknownProc => "UnknownProc",
+        Why::NoSuchPattern => "NoSuchPattern",
+        Why::WrongShape => "WrongShape",
+    }
+}
+
+/// The line is refused for this cause.
+fn refuse_line(alloc: Global, schedule: &str, line: &Line, why: Why) -> Result<Reply, AllocError>
+    ensures answer { IfOk result (λ reply. plain reply ≡ Rejected (line_refused schedule.now line.now.number (operator_of line.now.act) (why_text why))) }
+    ensures verdict { IfOk result (λ reply. IsVerdict (plain reply)) }
+    ensures cause { IfOk result (λ _. why ≢ Why.Memory) }
+{
+    if why == Why::Memory {
+        return Err(AllocError);
+    }
+    let message = messages::line_refused(alloc, schedule, line.number, operator_of(&line.act), why_text(why))?;
+    Ok(Reply::Rejected(message))
+}
+
+/// The C of the listed procedures, where they are of the form that is built.
+fn print(alloc: Global, procs: &str, unit: &Unit, what: &[Printed]) -> Result<Reply, AllocError>
+    ensures answer { IfOk result (λ reply. plain reply ≡ printed procs.now (program unit.now) (map printing what.now)) }
+    ensures verdict { IfOk result (λ reply. IsVerdict (plain reply)) }
+{
+    if !is_first_unit(unit, what) {
+        return not_built(alloc, procs);
+    }
+    match lower(alloc, unit, what) {
+        Ok(c) => {
+            let text = c_text(alloc, &c)?;
+            Ok(Reply::Accepted(text))
+        }
+        Err(_) => Err(AllocError),
+    }
 }

@@ -1,15 +1,19 @@
 // Running a schedule: versions are made of versions, and names hold the latest ones.
-ghost use Rattle.std.specs.Prelude.{◌≡◌, Option, None, slice_get, length, ◌<◌, MatchResult, OnOk, IfErr};
+ghost use Rattle.std.specs.Prelude.{◌≡◌, Option, None, slice_get, slice_index, length, map, ◌<◌, MatchResult, OnOk, IfOk, IfErr};
 ghost use Rattle.exo_tree.specs.Plain.{procedure};
 ghost use Rattle.exo_cli.specs.Commute.{Made};
 ghost use Rattle.exo_cli.specs.Lines.{Went, Done, adding, changing, changing_held, emitting, held, performed, run_lines};
+ghost use Rattle.c_printer.specs.LoweredUnit.{name_of};
+ghost use Rattle.c_printer.specs.PlainPrinted.{printing};
+ghost use Rattle.exo_cli.specs.Compiled.{printings, started};
 ghost use Rattle.exo_cli.specs.Sessions.{versions, RefusesLine, StopsLine};
 ghost use Rattle.exo_cli.specs.declared.session.Why.TheVariants.{Memory};
 
 use crate::commute::{StepRefusal, commute_expr};
 use crate::lines::{Act, Commute, Line};
+use c_printer::Printed;
 use exo_reader::text::Text;
-use exo_tree::{Proc, Procs};
+use exo_tree::{Name, Proc, ProcId, Procs};
 use std::alloc::{AllocError, AllocFailed, Global};
 
 /// Why a line is refused.
@@ -47,16 +51,97 @@ pub struct Session {
     /// The procedures of the text and then the versions made by steps; the numbers below are places in it.
     pub procs: Procs,
     /// Of each, the procedure of the text from which it comes.
-    pub origins: Vec<usize>,
+    pub origins: Vec<u32>,
     /// What names hold, the latest binding last.
-    pub names: Vec<(Text, usize)>,
+    pub names: Vec<(Text, u32)>,
     /// The versions to be printed.
-    pub emitted: Vec<usize>,
+    pub emitted: Vec<u32>,
+}
+
+/// The length as the number of a version. More of them than numbers are taken as want of memory.
+fn number_of(length: usize) -> Result<u32, AllocError>
+    ensures { IfOk result (λ number. number ≡ length) }
+{
+    if length > u32::MAX as usize {
+        return Err(AllocError);
+    }
+    Ok(length as u32)
+}
+
+/// The text as a name of a schedule.
+fn name_of(alloc: Global, text: &str) -> Result<Text, AllocError>
+    ensures { IfOk result (λ name. name ≡ text.now) }
+{
+    let mut name = Text::new(alloc);
+    for byte in text.as_bytes() {
+        name.push(*byte)?;
+    }
+    Ok(name)
 }
 
 impl Session {
+    /// The versions before the first line: each procedure of the text, under its name.
+    pub fn start(alloc: Global, procs: Procs) -> Result<Session, AllocError>
+        ensures { IfOk result (λ session. versions session ≡ started procs) }
+    {
+        let mut origins = Vec::new(alloc);
+        let mut names = Vec::new(alloc);
+        for p in procs.as_slice() {
+            let number = number_of(origins.len())?;
+            let name = name_of(alloc, p.name.as_str())?;
+            names.push((name, number))?;
+            origins.push(number)?;
+        }
+        Ok(Session {
+            procs,
+            origins,
+            names,
+            emitted: Vec::new(alloc),
+        })
+    }
+
+    /// The name of the procedure of the text from which version `k` comes; empty where there is none.
+    fn origin_name(&self, alloc: Global, k: u32) -> Result<Name, AllocError>
+        ensures { IfOk result (λ name. name ≡ name_of (slice_get (versions self.now).procedures (slice_index (versions self.now).origins k))) }
+    {
+        let origin = self.origins.get(k as usize).copied().unwrap_or(0);
+        match self.procs.get(origin as usize) {
+            Some(p) => p.name.duplicate(alloc),
+            None => Name::new(alloc, ""),
+        }
+    }
+
+    /// The versions to print.
+    pub fn printed(&self, alloc: Global) -> Result<Vec<Printed>, AllocError>
+        ensures { IfOk result (λ what. map printing what.items ≡ printings (versions self.now)) }
+    {
+        let mut what = Vec::new(alloc);
+        for k in &self.emitted {
+            let origin = self.origin_name(alloc, *k)?;
+            what.push(Printed {
+                proc: ProcId(*k),
+                origin,
+                fields: Vec::new(alloc),
+            })?;
+        }
+        Ok(what)
+    }
+
+    /// The procedures of the text and the versions.
+    pub fn into_procs(self) -> Procs
+        ensures { result ≡ self.procs }
+    {
+        let Session {
+            procs,
+            origins: _,
+            names: _,
+            emitted: _,
+        } = self;
+        procs
+    }
+
     /// The version that the name holds.
-    fn held(&self, name: &Text) -> Option<usize>
+    fn held(&self, name: &Text) -> Option<u32>
         ensures { result ≡ held (versions self.now).names name.now }
     {
         let mut found = None;
@@ -69,13 +154,13 @@ impl Session {
     }
 
     /// What the step makes of version `k`.
-    fn changed(&self, alloc: Global, k: usize, c: &Commute) -> Result<Proc, Why>
+    fn changed(&self, alloc: Global, k: u32, c: &Commute) -> Result<Proc, Why>
         ensures { MatchResult result
             (λ p. changing c.now k (versions self.now) (slice_get (versions self.now).procedures k)
                 ≡ adding c.now.bind k (versions self.now) (Made (procedure p)))
             (RefusesLine (changing c.now k (versions self.now) (slice_get (versions self.now).procedures k))) }
     {
-        let Some(p) = self.procs.get(k) else {
+        let Some(p) = self.procs.get(k as usize) else {
             return Err(Why::UnknownProc);
         };
         match commute_expr(alloc, p, c.target.as_slice(), c.which) {
@@ -87,12 +172,12 @@ impl Session {
     }
 
     /// Puts a version last that was made of version `k`, under this name.
-    fn add(&mut self, name: &Text, k: usize, p: Proc) -> Result<(), AllocError>
+    fn add(&mut self, name: &Text, k: u32, p: Proc) -> Result<(), AllocError>
         ensures { OnOk result (adding name.now k (versions self.old) (Made (procedure p)) ≡ Went (versions self.new)) }
     {
-        let version = self.procs.len();
+        let version = number_of(self.procs.len())?;
         self.procs.push(p)?;
-        let origin = self.origins.get(k).copied().unwrap_or(0);
+        let origin = self.origins.get(k as usize).copied().unwrap_or(0);
         self.origins.push(origin)?;
         let bound = name.clone()?;
         self.names.push((bound, version))?;
