@@ -30,3 +30,4 @@ pub mod UnitFootprints
 pub mod NestsWithin
 pub mod UnitFields
 pub mod Flags
+pub mod WellFormed

@@ -17,3 +17,4 @@ pub mod Touched
 pub mod NestsWithin
 pub mod UnitFields
 pub mod Flags
+pub mod WellFormed

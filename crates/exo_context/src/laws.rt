@@ -39,6 +39,10 @@ ghost use Rattle.exo_context.specs.NestsWithin.{NestsFromFootprints};
 ghost use Rattle.exo_context.specs.UnitFields.{UnitLeaves};
 ghost use Rattle.exo_context.specs.UnitFields.{UnitForgets};
 ghost use Rattle.exo_context.specs.Flags.{FlagLaw};
+ghost use Rattle.exo_context.specs.WellFormed.{WellScoped};
+ghost use Rattle.exo_context.specs.WellFormed.{PlainBoundsLaw};
+ghost use Rattle.exo_context.specs.WellFormed.{WellKnown};
+ghost use Rattle.exo_context.specs.WellFormed.{CallsAreBelow};
 
 /// A procedure in which a block is replaced is refined by it, where the new block may replace the old one at each state that comes to it.
 pub fn replaced_refines()
@@ -233,4 +237,24 @@ pub fn calls_forget_dead_fields()
 /// A block runs the same with a condition in the place of a flag that is set exactly where the condition holds.
 pub fn conditions_stand_for_flags()
     ensures { FlagLaw }
+{}
+
+/// In a well-formed procedure each name that is used is bound, and each binder is new.
+pub fn well_formed_names_are_in_scope()
+    ensures { WellScoped }
+{}
+
+/// In a well-formed procedure no bound of a loop reads a field or a stride.
+pub fn well_formed_bounds_are_plain()
+    ensures { PlainBoundsLaw }
+{}
+
+/// In a well-formed procedure nothing on the way to a place changes what is known there.
+pub fn well_formed_facts_stay()
+    ensures { WellKnown }
+{}
+
+/// A well-formed procedure calls procedures of its table alone.
+pub fn well_formed_calls_are_below()
+    ensures { CallsAreBelow }
 {}

@@ -1,0 +1,5 @@
+use Rattle.exo_context.proofs.WellFormed.{calls_are_below}
+use Rattle.exo_context.proofs.laws.well_formed_calls_are_below.Goals as goal
+
+pub returns : goal.returns
+returns c = calls_are_below
