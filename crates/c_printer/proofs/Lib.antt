@@ -17,3 +17,4 @@ pub mod FirstUnits
 pub mod FirstBlocks
 pub mod Sure
 pub mod FirstForms
+pub mod FirstUnitsFollow

@@ -1,5 +1,5 @@
 -- What the C promises, as the contract of a function in `laws`.
-use Rattle.std.specs.Prelude.{ℕ, ◌≡◌, ℤ, nat_lt, true, List, Option, Some}
+use Rattle.std.specs.Prelude.{ℕ, ◌≡◌, ℤ, nat_lt, true, List, Option, Some, slice_get}
 use Rattle.exo_tree.specs.Tree.{Binder, Block, Procedure, Program}
 use Rattle.exo_meaning.specs.Value.{IsRefinedBy}
 use Rattle.exo_meaning.specs.Scene.{Shape}
@@ -7,10 +7,12 @@ use Rattle.exo_meaning.specs.Inputs.{IsAdmissible, run_procedure}
 use Rattle.exo_meaning.specs.State.{State}
 use Rattle.exo_meaning.specs.Run.{World, run}
 use Rattle.c_printer.specs.Machine.{Machine, Done}
+use Rattle.c_printer.specs.CTree.{CFunction}
+use Rattle.c_printer.specs.Names.{c_names}
 use Rattle.c_printer.specs.CRun.{CWorld, run_c}
 use Rattle.c_printer.specs.Lowered.{Naming, Forms, block_of}
-use Rattle.c_printer.specs.LoweredUnit.{naming_in, function_of}
-use Rattle.c_printer.specs.FirstForm.{is_first_form}
+use Rattle.c_printer.specs.LoweredUnit.{Printing, global_names, naming_in, function_of, lowered}
+use Rattle.c_printer.specs.FirstForm.{is_first_form, is_first_unit}
 use Rattle.c_printer.specs.SameInput.{param_forms, AreSame, AreGoodParams}
 use Rattle.c_printer.specs.Simulation.{Follows, Layout, Matches, Ends, IsGoodBlock, IsOutside, in_range, spot_of}
 
@@ -41,3 +43,12 @@ abbrev pub FirstFormsFollow : Type 0
 FirstFormsFollow = (program : Program) (table : List Binder) (layout : Layout) (world : World) (c_world : CWorld) (p : Procedure) (s : State) (m : Machine)
     → is_first_form p ≡ true → IsAdmissible world p s → AreSame (naming_in program table) (λ x. 0) layout s m p.params → AreSeparate layout s
     → (t : State) × (n : Machine) × (run_procedure world p s ≡ Some t) × (run_c c_world (function_of (naming_in program table) p).body m ≡ Done n) × Agrees (naming_in program table) layout s m t n
+
+-- the same of the functions of a lowered unit: the one that stands where a procedure is listed does what that procedure does,
+-- with the arguments under their C names
+abbrev pub FirstUnitsFollow : Type 0
+FirstUnitsFollow = (program : Program) (what : List Printing) (k : ℕ) (w : Printing) (p : Procedure) (layout : Layout) (world : World) (c_world : CWorld) (s : State) (m : Machine)
+  → is_first_unit program what ≡ true → slice_get what k ≡ Some w → slice_get program.procedures w.proc ≡ Some p
+  → IsAdmissible world p s → AreSame (naming_in program (c_names (global_names program what) p)) (λ x. 0) layout s m p.params → AreSeparate layout s
+  → (f : CFunction) × (t : State) × (n : Machine) × (slice_get (lowered program what).functions k ≡ Some f) × (run_procedure world p s ≡ Some t) × (run_c c_world f.body m ≡ Done n)
+    × Agrees (naming_in program (c_names (global_names program what) p)) layout s m t n
