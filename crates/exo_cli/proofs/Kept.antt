@@ -168,7 +168,7 @@ commuted_runs_alike p q x o made = at (parameter_of p.params x) made
 
 -- ---- refinement
 
-runs_alike : (world : World) (p q : Procedure) → IsVersionOf p q → (s : State) → run_procedure world q s ≡ run_procedure world p s
+pub runs_alike : (world : World) (p q : Procedure) → IsVersionOf p q → (s : State) → run_procedure world q s ≡ run_procedure world p s
 runs_alike world p q version s =
     ap (λ ps. where_true (all_have_extents s.scene ps) (run world q.body s)) version.params ∙ ap (where_true (all_have_extents s.scene p.params)) (version.runs world s)
 
@@ -196,10 +196,10 @@ commuted_refines world p q x o made = versions_refine world p q (commuted_runs_a
 
 -- ---- lists that grow at their end
 
-nothing_there : {A : Type 0} {a : A} → None ≡ Some a → ⊥
+pub nothing_there : {A : Type 0} {a : A} → None ≡ Some a → ⊥
 nothing_there e = cc
 
-some_is : {A : Type 0} {a b : A} → Some a ≡ Some b → a ≡ b
+pub some_is : {A : Type 0} {a b : A} → Some a ≡ Some b → a ≡ b
 some_is e = cc
 
 there_still : {A : Type 0} (xs ys : List A) (k : ℕ) (a : A) → slice_get xs k ≡ Some a → slice_get (xs ++ ys) k ≡ Some a
@@ -212,7 +212,7 @@ last_is_there : {A : Type 0} (xs : List A) (a : A) → slice_get (xs ++ a ∷ []
 last_is_there [] a = refl
 last_is_there (x ∷ xs) a = last_is_there xs a
 
-index_is : (xs : List ℕ) (k : ℕ) (a : ℕ) → slice_get xs k ≡ Some a → slice_index xs k ≡ a
+pub index_is : (xs : List ℕ) (k : ℕ) (a : ℕ) → slice_get xs k ≡ Some a → slice_index xs k ≡ a
 index_is [] zero a e = absurd (nothing_there e)
 index_is [] (suc k) a e = absurd (nothing_there e)
 index_is (x ∷ xs) zero a e = some_is e

@@ -5,3 +5,4 @@ pub mod Commuting
 pub mod Running
 pub mod Reading
 pub mod Kept
+pub mod Headline

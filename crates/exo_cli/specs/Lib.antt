@@ -8,9 +8,10 @@ pub mod Answer
 pub mod Commute
 pub mod Refusals
 pub mod Lines
-pub mod Kept
 pub mod ScheduleForm
 pub mod Sessions
 pub mod Compiled
 pub mod Replies
 pub mod Work
+pub mod Kept
+pub mod Headline

@@ -1,0 +1,119 @@
+-- What stands behind the C that is printed.
+use Rattle.std.proofs.Common.{◌≡◌, ◌⊎◌, ⊎_elim, ℕ, zero, suc, true, false, true≢false, Bool, List, [], ◌∷◌, map, slice_get, Option, Some, None, option_map, refl, sym, ap, ◌∙◌, subst, if◌then◌else◌}
+use Rattle.std.specs.Prelude.{slice_index}
+use Rattle.std.proofs.lemmas.Option.{slice_get-map}
+use Rattle.std.proofs.lemmas.Bool.{and_parts}
+use Rattle.exo_tree.specs.Tree.{Param, Condition, Procedure, Program}
+use Rattle.exo_meaning.specs.Calls.{all_hold}
+use Rattle.exo_meaning.specs.State.{State}
+use Rattle.exo_meaning.specs.Run.{World}
+use Rattle.exo_meaning.specs.Inputs.{IsAdmissible, AreArguments, is_buffer_of, run_procedure}
+use Rattle.c_printer.specs.CTree.{Name, CFunction}
+use Rattle.c_printer.specs.CText.{text_of}
+use Rattle.c_printer.specs.CRun.{run_c}
+use Rattle.c_printer.specs.Machine.{Done}
+use Rattle.c_printer.specs.LoweredUnit.{Printing, name_of, printed_names, global_names, function_at, lowered}
+use Rattle.c_printer.specs.FirstForm.{is_first, are_first, is_first_unit}
+use Rattle.c_printer.proofs.FirstUnits.{all_first}
+use Rattle.c_printer.proofs.FirstUnitsFollow.{first_units_follow}
+use Rattle.exo_reader.specs.FirstText.{HasFirst, SpellsFirst, tokens_of}
+use Rattle.exo_cli.specs.Answer.{Answer, Accepted, Rejected}
+use Rattle.exo_cli.specs.Compiled.{IsCompiled, not_built, printed, ended, scheduled, started, printing_of, printings}
+use Rattle.exo_cli.specs.Lines as lines
+use Rattle.exo_cli.specs.Lines.{Versions, Outcome, run_lines}
+use Rattle.exo_cli.specs.ScheduleForm.{schedule_of}
+use Rattle.exo_cli.specs.Kept.{IsVersionOf, HasOrigin, AreVersions}
+use Rattle.exo_cli.specs.Headline.{DoesWhat, IsPrinted, Promise, with_versions}
+use Rattle.exo_cli.specs.declared.lines.Line.{Line}
+use Rattle.exo_cli.proofs.Kept.{nothing_there, some_is, index_is, runs_alike, schedules_run_alike}
+
+-- each listed procedure is there and of the first form
+listed_is_first : (program : Program) (globals : List Name) (what : List Printing) (k : ℕ) (w : Printing) → are_first program globals what ≡ true → slice_get what k ≡ Some w
+    → is_first globals (slice_get program.procedures w.proc) ≡ true
+listed_is_first program globals [] zero w h e = absurd (nothing_there e)
+listed_is_first program globals [] (suc k) w h e = absurd (nothing_there e)
+listed_is_first program globals (u ∷ us) zero w h e =
+    subst (λ l. is_first globals (slice_get program.procedures l.proc) ≡ true) (some_is e) (and_parts (is_first globals (slice_get program.procedures u.proc)) (are_first program globals us) h).0
+listed_is_first program globals (u ∷ us) (suc k) w h e = listed_is_first program globals us k w (and_parts (is_first globals (slice_get program.procedures u.proc)) (are_first program globals us) h).1 e
+
+-- a version has the admissible inputs of its origin
+admissible_too : (world : World) (p q : Procedure) (s : State) → IsVersionOf p q → IsAdmissible world p s → IsAdmissible world q s
+admissible_too world p q s version good = record {
+  arguments = subst (λ ps. AreArguments s.scene ps) (sym version.params) good.arguments;
+  no_others = λ x k. good.no_others x (ap (λ ps. is_buffer_of x ps) (sym version.params) ∙ k);
+  cells = good.cells;
+  tidy = good.tidy;
+  fields = good.fields;
+  asserts = ap (λ cs. all_hold s.scene cs) version.asserts ∙ good.asserts;
+}
+
+module _ (text : Program) (v : Versions) (h : is_first_unit (with_versions text v) (printings v) ≡ true) (are : AreVersions text.procedures v) where
+  -- what is printed for a version comes from its origin
+  version_does : (k n : ℕ) (q : Procedure) → slice_get (printings v) k ≡ Some (printing_of v n) → slice_get v.procedures n ≡ Some q → (o : HasOrigin text.procedures v n q)
+      → DoesWhat (with_versions text v) (printings v) k o.origin q
+  version_does k n q listed there o world c_world layout s m valid input =
+      let follows = first_units_follow (with_versions text v) (printings v) k (printing_of v n) q layout world c_world s m h listed there (admissible_too world o.origin q s o.kept valid.admissible) input.same input.separate in
+      (follows.0, follows.1, follows.2, follows.3, sym (runs_alike world o.origin q o.kept s) ∙ follows.4, follows.5, follows.6)
+
+  version_printed : (k n : ℕ) (found : Option Procedure) → slice_get (printings v) k ≡ Some (printing_of v n) → slice_get v.procedures n ≡ found
+      → is_first (printed_names (with_versions text v) (printings v)) found ≡ true → IsPrinted text (with_versions text v) (printings v) k (printing_of v n)
+  version_printed k n None listed there first = absurd (true≢false (sym first))
+  version_printed k n (Some q) listed there first =
+      let o = are.each n q there in
+      record {
+        version = q;
+        origin = o.origin;
+        from = o.from;
+        there = there;
+        in_text = o.in_text;
+        origin_named = ap (λ i. name_of (slice_get v.procedures i)) (index_is v.origins n o.from o.of) ∙ ap name_of (are.first o.from o.origin o.in_text);
+        nothing_differs = refl;
+        kept = version_does k n q listed there o;
+      }
+
+  each_printed : (k : ℕ) (w : Printing) → slice_get (printings v) k ≡ Some w → IsPrinted text (with_versions text v) (printings v) k w
+  each_printed k w listed = go (slice_get v.emitted k) (sym (slice_get-map (printing_of v) v.emitted k) ∙ listed)
+    where
+      go : (o : Option ℕ) → option_map (printing_of v) o ≡ Some w → IsPrinted text (with_versions text v) (printings v) k w
+      go None e = absurd (nothing_there e)
+      go (Some n) e =
+          let is = some_is e in
+          let here = listed ∙ ap Some (sym is) in
+          subst (IsPrinted text (with_versions text v) (printings v) k) is
+            (version_printed k n (slice_get v.procedures n) here refl
+              (listed_is_first (with_versions text v) (printed_names (with_versions text v) (printings v)) (printings v) k (printing_of v n) (all_first (with_versions text v) (printings v) h) here))
+
+accepted_is_not : {text message : List ℕ} → Accepted text ≡ Rejected message → ⊥
+accepted_is_not e = cc
+
+accepted_is : {text other : List ℕ} → Accepted text ≡ Accepted other → text ≡ other
+accepted_is e = cc
+
+module _ (procs unit schedule bytes text : List ℕ) where
+  by_print : (program : Program) (ls : List Line) (v : Versions) (first : Bool) → SpellsFirst (tokens_of unit) program → schedule_of bytes ≡ Some ls → run_lines ls (started program.procedures) ≡ lines.Done v
+      → is_first_unit (with_versions program v) (printings v) ≡ first
+      → Accepted text ≡ (if first then Accepted (text_of (lowered (with_versions program v) (printings v))) else not_built procs) → Promise unit bytes text
+  by_print program ls v true spelled read ran first e = record {
+    text = program;
+    lines = ls;
+    versions = v;
+    spelled = spelled;
+    read = read;
+    ran = ran;
+    bytes = accepted_is e;
+    each = each_printed program v first (schedules_run_alike program.procedures ls v ran);
+  }
+  by_print program ls v false spelled read ran first e = absurd (accepted_is_not e)
+
+  by_run : (program : Program) (ls : List Line) (o : Outcome) → SpellsFirst (tokens_of unit) program → schedule_of bytes ≡ Some ls → run_lines ls (started program.procedures) ≡ o
+      → Accepted text ≡ ended procs schedule program o → Promise unit bytes text
+  by_run program ls (lines.Done v) spelled read ran e = by_print program ls v (is_first_unit (with_versions program v) (printings v)) spelled read ran refl e
+  by_run program ls (lines.Stopped n operator why) spelled read ran e = absurd (accepted_is_not e)
+
+  by_read : (program : Program) (o : Option (List Line)) → SpellsFirst (tokens_of unit) program → schedule_of bytes ≡ o → Accepted text ≡ scheduled procs schedule program o → Promise unit bytes text
+  by_read program None spelled read e = absurd (accepted_is_not e)
+  by_read program (Some ls) spelled read e = by_run program ls (run_lines ls (started program.procedures)) spelled read refl e
+
+  -- an accepted text keeps the promise
+  pub accepted_is_promised : IsCompiled procs unit schedule bytes (Accepted text) → Promise unit bytes text
+  accepted_is_promised = ⊎_elim (λ h. absurd (accepted_is_not h.1)) (λ h. by_read h.0 (schedule_of bytes) h.1 refl h.2)

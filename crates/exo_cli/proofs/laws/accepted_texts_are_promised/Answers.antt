@@ -1,0 +1,5 @@
+use Rattle.exo_cli.proofs.Headline.{accepted_is_promised}
+use Rattle.exo_cli.proofs.laws.accepted_texts_are_promised.Goals as goal
+
+pub returns : goal.returns
+returns c = accepted_is_promised

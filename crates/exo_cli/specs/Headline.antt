@@ -1,0 +1,71 @@
+-- What the compiler promises of the C that it prints.
+use Rattle.std.specs.Prelude.{◌≡◌, ℕ, List, [], Some, slice_get}
+use Rattle.exo_tree.specs.Tree.{Procedure, Program}
+use Rattle.exo_meaning.specs.State.{State}
+use Rattle.exo_meaning.specs.Run.{World}
+use Rattle.exo_meaning.specs.Inputs.{IsValid, run_procedure}
+use Rattle.c_printer.specs.CTree.{CFunction}
+use Rattle.c_printer.specs.CText.{text_of}
+use Rattle.c_printer.specs.CRun.{CWorld, run_c}
+use Rattle.c_printer.specs.Machine.{Machine, Done}
+use Rattle.c_printer.specs.Names.{c_names}
+use Rattle.c_printer.specs.Lowered.{Naming}
+use Rattle.c_printer.specs.LoweredUnit.{Printing, naming_in, global_names, lowered}
+use Rattle.c_printer.specs.SameInput.{AreSame}
+use Rattle.c_printer.specs.Simulation.{Layout}
+use Rattle.c_printer.specs.Laws.{AreSeparate, Agrees}
+use Rattle.exo_reader.specs.FirstText.{SpellsFirst, tokens_of}
+use Rattle.exo_cli.specs.Answer.{Accepted}
+use Rattle.exo_cli.specs.Compiled.{IsCompiled, started, printing_of, printings}
+use Rattle.exo_cli.specs.Lines.{Versions, Done as Ran, run_lines}
+use Rattle.exo_cli.specs.ScheduleForm.{schedule_of}
+use Rattle.exo_cli.specs.declared.lines.Line.{Line}
+
+-- the names that the binders of a version have in the C
+abbrev pub naming_of : Program → List Printing → Procedure → Naming
+naming_of program what q = naming_in program (c_names (global_names program what) q)
+
+-- The C machine begins with the input of the procedure: each argument is an object of its own, dense and row-major, with the same cells.
+pub record IsSameInput (naming : Naming) (layout : Layout) (q : Procedure) (s : State) (m : Machine) : Type 0 where
+  pub same : AreSame naming (λ x. 0) layout s m q.params
+  pub separate : AreSeparate layout s
+
+-- The C function at that place of the file, printed for the version q, does what the procedure p of the text does: on each valid input
+-- of p and each input of the machine that is the same, p does not fault, the C does not fault, both end, each cell of an argument that
+-- p leaves defined has the same value after the C, every cell outside the arguments is as it was, and no configuration field differs.
+abbrev pub DoesWhat : Program → List Printing → ℕ → Procedure → Procedure → Type 0
+DoesWhat program what at p q = (world : World) (c_world : CWorld) (layout : Layout) (s : State) (m : Machine)
+    → IsValid world p s → IsSameInput (naming_of program what q) layout q s m
+    → (f : CFunction) × (t : State) × (n : Machine) × (slice_get (lowered program what).functions at ≡ Some f) × (run_procedure world p s ≡ Some t) × (run_c c_world f.body m ≡ Done n) × Agrees (naming_of program what q) layout s m t n
+
+-- The version of that number is printed: it comes from a procedure of the text, whose name the report gives, with no field that
+-- may differ, and its C does what that procedure does. Program is that of the text with the versions, and what lists the versions printed.
+pub record IsPrinted (text program : Program) (what : List Printing) (at : ℕ) (w : Printing) : Type 0 where
+  pub version : Procedure
+  pub origin : Procedure
+  pub from : ℕ
+  pub there : slice_get program.procedures w.proc ≡ Some version
+  pub in_text : slice_get text.procedures from ≡ Some origin
+  pub origin_named : w.origin ≡ origin.name
+  pub nothing_differs : w.fields ≡ []
+  pub kept : DoesWhat program what at origin version
+
+-- The program of the text with the versions that the schedule made.
+abbrev pub with_versions : Program → Versions → Program
+with_versions text v = record text { procedures = v.procedures }
+
+-- What stands behind the C that is printed for a unit and a schedule: the program that the unit spells, the versions that the
+-- schedule makes, and for each version that is printed the promise that its C does what a procedure of the text does.
+pub record Promise (unit schedule printed : List ℕ) : Type 0 where
+  pub text : Program
+  pub lines : List Line
+  pub versions : Versions
+  pub spelled : SpellsFirst (tokens_of unit) text
+  pub read : schedule_of schedule ≡ Some lines
+  pub ran : run_lines lines (started text.procedures) ≡ Ran versions
+  pub bytes : printed ≡ text_of (lowered (with_versions text versions) (printings versions))
+  pub each : (k : ℕ) (w : Printing) → slice_get (printings versions) k ≡ Some w → IsPrinted text (with_versions text versions) (printings versions) k w
+
+-- what is accepted keeps the promise
+abbrev pub AcceptedIsPromised : Type 0
+AcceptedIsPromised = (procs unit schedule lines text : List ℕ) → IsCompiled procs unit schedule lines (Accepted text) → Promise unit lines text
