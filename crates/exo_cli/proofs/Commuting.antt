@@ -41,17 +41,17 @@ take-next (suc k) (b ∷ body) a rest e = rw add-one (ap (λ l. b ∷ l) (rw add
 pub changed-rest : (o : Operation) (a : Statement) (rest b : List Statement) → changed_before o a [] ≡ Made b → changed_before o a rest ≡ Made (b ++ rest)
 changed-rest o (Assign x is e) rest b h = by-case (has o e) h
   where
-  by-case : (t : Bool) → (if t then Made (Assign x is (exchanged o e) ∷ []) else WrongShape) ≡ Made b → (if t then Made (Assign x is (exchanged o e) ∷ rest) else WrongShape) ≡ Made (b ++ rest)
-  by-case true h = let same : Assign x is (exchanged o e) ∷ [] ≡ b = cc in ap (λ l. Made (l ++ rest)) same
-  by-case false h = absurd cc
+    by-case : (t : Bool) → (if t then Made (Assign x is (exchanged o e) ∷ []) else WrongShape) ≡ Made b → (if t then Made (Assign x is (exchanged o e) ∷ rest) else WrongShape) ≡ Made (b ++ rest)
+    by-case true h = let same : Assign x is (exchanged o e) ∷ [] ≡ b = cc in ap (λ l. Made (l ++ rest)) same
+    by-case false h = absurd cc
 changed-rest o a rest b h = absurd cc
 
 pub wrong-rest : (o : Operation) (a : Statement) (rest : List Statement) → changed_before o a [] ≡ WrongShape → changed_before o a rest ≡ WrongShape
 wrong-rest o (Assign x is e) rest h = by-case (has o e) h
   where
-  by-case : (t : Bool) → (if t then Made (Assign x is (exchanged o e) ∷ []) else WrongShape) ≡ WrongShape → (if t then Made (Assign x is (exchanged o e) ∷ rest) else WrongShape) ≡ WrongShape
-  by-case true h = absurd cc
-  by-case false h = refl
+    by-case : (t : Bool) → (if t then Made (Assign x is (exchanged o e) ∷ []) else WrongShape) ≡ WrongShape → (if t then Made (Assign x is (exchanged o e) ∷ rest) else WrongShape) ≡ WrongShape
+    by-case true h = absurd cc
+    by-case false h = refl
 wrong-rest o a rest h = refl
 
 -- what is known when the first statements were looked at

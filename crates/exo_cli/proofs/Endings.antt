@@ -17,20 +17,20 @@ pub opened-within : (held : Option (List ℕ)) (name bytes : List ℕ) (next : L
     → held ≡ Some bytes → length bytes ≤ file_limit → next bytes reply → Opens held name next reply
 opened-within held name bytes next reply e h holds = rw e (by-case (nat_lt file_limit (length bytes)) refl h holds)
   where
-  by-case : (b : Bool) → nat_lt file_limit (length bytes) ≡ b → length bytes ≤ file_limit → next bytes reply
-      → MatchBool b (reply ≡ Rejected (file_refused name (codes "FileTooLong"))) (next bytes reply)
-  by-case true longer h holds = absurd (omega (arith, ltb-true file_limit (length bytes) longer))
-  by-case false shorter h holds = holds
+    by-case : (b : Bool) → nat_lt file_limit (length bytes) ≡ b → length bytes ≤ file_limit → next bytes reply
+        → MatchBool b (reply ≡ Rejected (file_refused name (codes "FileTooLong"))) (next bytes reply)
+    by-case true longer h holds = absurd (omega (arith, ltb-true file_limit (length bytes) longer))
+    by-case false shorter h holds = holds
 
 -- a longer one is refused
 pub opened-longer : (held : Option (List ℕ)) (name bytes : List ℕ) (next : List ℕ → Answer → Type 0) (message : List ℕ)
     → held ≡ Some bytes → file_limit < length bytes → message ≡ file_refused name (codes "FileTooLong") → Opens held name next (Rejected message)
 opened-longer held name bytes next message e h is = rw e (by-case (nat_lt file_limit (length bytes)) refl h is)
   where
-  by-case : (b : Bool) → nat_lt file_limit (length bytes) ≡ b → file_limit < length bytes → message ≡ file_refused name (codes "FileTooLong")
-      → MatchBool b (Rejected message ≡ Rejected (file_refused name (codes "FileTooLong"))) (next bytes (Rejected message))
-  by-case true longer h is = ap Rejected is
-  by-case false shorter h is = absurd (omega (arith, ltb-false file_limit (length bytes) shorter))
+    by-case : (b : Bool) → nat_lt file_limit (length bytes) ≡ b → file_limit < length bytes → message ≡ file_refused name (codes "FileTooLong")
+        → MatchBool b (Rejected message ≡ Rejected (file_refused name (codes "FileTooLong"))) (next bytes (Rejected message))
+    by-case true longer h is = ap Rejected is
+    by-case false shorter h is = absurd (omega (arith, ltb-false file_limit (length bytes) shorter))
 
 -- the work ends at the second file
 pub second-ends : (told : Option Folder) (procs schedule unit : List ℕ) (before mid after : ℕ) (last : Option (List ℕ)) (reply : Answer)
@@ -40,7 +40,7 @@ second-ends told procs schedule unit before mid after last (Accepted text) held 
 second-ends None procs schedule unit before mid after last (Rejected message) held short grew ends = tt
 second-ends (Some files) procs schedule unit before mid after last (Rejected message) held short grew ends =
     opened-within (content_of files procs) procs unit (λ u. Opens (content_of files schedule) schedule (λ lines. IsCompiled procs u schedule lines)) (Rejected message) held short
-        (opened-longer (content_of files schedule) schedule ends.0.0 (λ lines. IsCompiled procs unit schedule lines) message ends.0.1 ends.0.2 ends.1)
+    (opened-longer (content_of files schedule) schedule ends.0.0 (λ lines. IsCompiled procs unit schedule lines) message ends.0.1 ends.0.2 ends.1)
 second-ends told procs schedule unit before mid after last (Unread message) held short grew ends = record {
   rose = omega (arith, ends.0);
   name = schedule;
@@ -58,10 +58,10 @@ compiled-answers None procs schedule unit lines before after last (Accepted text
 compiled-answers None procs schedule unit lines before after last (Rejected message) held short also less compiled verdict = tt
 compiled-answers (Some files) procs schedule unit lines before after last (Accepted text) held short also less compiled verdict =
     opened-within (content_of files procs) procs unit (λ u. Opens (content_of files schedule) schedule (λ l. IsCompiled procs u schedule l)) (Accepted text) held short
-        (opened-within (content_of files schedule) schedule lines (λ l. IsCompiled procs unit schedule l) (Accepted text) also less compiled)
+    (opened-within (content_of files schedule) schedule lines (λ l. IsCompiled procs unit schedule l) (Accepted text) also less compiled)
 compiled-answers (Some files) procs schedule unit lines before after last (Rejected message) held short also less compiled verdict =
     opened-within (content_of files procs) procs unit (λ u. Opens (content_of files schedule) schedule (λ l. IsCompiled procs u schedule l)) (Rejected message) held short
-        (opened-within (content_of files schedule) schedule lines (λ l. IsCompiled procs unit schedule l) (Rejected message) also less compiled)
+    (opened-within (content_of files schedule) schedule lines (λ l. IsCompiled procs unit schedule l) (Rejected message) also less compiled)
 compiled-answers told procs schedule unit lines before after last (Unread message) held short also less compiled verdict = absurd verdict
 compiled-answers told procs schedule unit lines before after last (Misused message) held short also less compiled verdict = absurd verdict
 
@@ -152,7 +152,7 @@ usage-ends words before after (Misused message) status h d e =
 read-ends : (words : List (List ℕ)) (before after : Moment) (reply : Answer) (status : Status)
     → IsAnswer words before.told before.faults after.faults after.last_fault reply → IsDelivered before after reply status
     → status ≡ ReadFault → (message : List ℕ) × IsReadFault (operands words) before.faults after.faults after.last_fault message
-        × (after.err ≡ with_more before.err message)
+    × (after.err ≡ with_more before.err message)
 read-ends words before after (Accepted text) status h d e = let w : status ≢ WriteFault = λ f. cc in absurd (let k = d.ended w in cc)
 read-ends words before after (Rejected message) status h d e = let w : status ≢ WriteFault = λ f. cc in absurd (let k = d.ended w in cc)
 read-ends words before after (Misused message) status h d e = let w : status ≢ WriteFault = λ f. cc in absurd (let k = d.ended w in cc)
@@ -174,18 +174,18 @@ none-ends words before after reply status h d none =
 told-ends : (words : List (List ℕ)) (before after : Moment) (reply : Answer) (status : Status)
     → IsAnswer words before.told before.faults after.faults after.last_fault reply → IsDelivered before after reply status
     → status ≢ ReadFault → status ≢ WriteFault → IfSome before.told (λ files. (answer : Answer) × Answers words files answer
-        × (status ≡ status_of answer)
-        × (after.out ≡ with_more before.out (for_out answer))
-        × (after.err ≡ with_more before.err (for_err answer)))
+    × (status ≡ status_of answer)
+    × (after.out ≡ with_more before.out (for_out answer))
+    × (after.err ≡ with_more before.err (for_err answer)))
 told-ends words before after reply status h d not_read not_fault =
     if-told before.told _ _ (λ files holds. (reply, holds, d.ended not_fault, d.out not_fault, d.err not_fault))
     (told-answer (command_of words) before.told before.faults after.faults after.last_fault reply h (still-read reply status (d.ended not_fault) not_read))
   where
-  still-read : (reply : Answer) (status : Status) → status ≡ status_of reply → status ≢ ReadFault → IsUnread reply → ⊥
-  still-read (Unread message) status e n u = n e
-  still-read (Accepted text) status e n u = u
-  still-read (Rejected message) status e n u = u
-  still-read (Misused message) status e n u = u
+    still-read : (reply : Answer) (status : Status) → status ≡ status_of reply → status ≢ ReadFault → IsUnread reply → ⊥
+    still-read (Unread message) status e n u = n e
+    still-read (Accepted text) status e n u = u
+    still-read (Rejected message) status e n u = u
+    still-read (Misused message) status e n u = u
 
 -- the standard output failed
 out-ends : (words : List (List ℕ)) (before after : Moment) (reply : Answer)
@@ -193,15 +193,16 @@ out-ends : (words : List (List ℕ)) (before after : Moment) (reply : Answer)
     → Rose before.out_faults after.out_faults × StopsWithin before.out after.out (for_out reply) × (after.err ≡ before.err)
     → OutFails before after (for_out reply) × IfSome before.told (λ files. (answer : Answer) × Answers words files answer × (for_out reply ≡ for_out answer))
 out-ends words before after reply h f = (
-    record { rose = f.0; part = f.1; other = f.2 },
-    if-told before.told _ _ (λ files holds. (reply, holds, refl))
-        (told-answer (command_of words) before.told before.faults after.faults after.last_fault reply h (some-bytes _ _ reply f.1)))
+  record { rose = f.0; part = f.1; other = f.2 },
+  if-told before.told _ _ (λ files holds. (reply, holds, refl))
+      (told-answer (command_of words) before.told before.faults after.faults after.last_fault reply h (some-bytes _ _ reply f.1)),
+)
 
 -- the standard error failed
 err-ends : (words : List (List ℕ)) (before after : Moment) (reply : Answer)
     → IsAnswer words before.told before.faults after.faults after.last_fault reply
     → IsReadFault (operands words) before.faults after.faults after.last_fault (for_err reply)
-        ⊎ IfSome before.told (λ files. (answer : Answer) × Answers words files answer × (for_err reply ≡ for_err answer))
+    ⊎ IfSome before.told (λ files. (answer : Answer) × Answers words files answer × (for_err reply ≡ for_err answer))
 err-ends words before after (Unread message) h = inl (unread (command_of words) before.told before.faults after.faults after.last_fault message h)
 err-ends words before after (Accepted text) h =
     inr (if-told before.told _ _ (λ files holds. (Accepted text, holds, refl)) (told-answer (command_of words) before.told before.faults after.faults after.last_fault (Accepted text) h (λ u. u)))
@@ -213,11 +214,11 @@ err-ends words before after (Misused message) h =
 fault-ends : (words : List (List ℕ)) (before after : Moment) (reply : Answer)
     → IsAnswer words before.told before.faults after.faults after.last_fault reply
     → (Rose before.out_faults after.out_faults × StopsWithin before.out after.out (for_out reply) × (after.err ≡ before.err))
-      ⊎ (Rose before.err_faults after.err_faults × StopsWithin before.err after.err (for_err reply) × (after.out ≡ before.out))
+    ⊎ (Rose before.err_faults after.err_faults × StopsWithin before.err after.err (for_err reply) × (after.out ≡ before.out))
     → (bytes : List ℕ) × (
-      (OutFails before after bytes × IfSome before.told (λ files. (answer : Answer) × Answers words files answer × (bytes ≡ for_out answer)))
-      ⊎ (ErrFails before after bytes × (IsReadFault (operands words) before.faults after.faults after.last_fault bytes
-        ⊎ IfSome before.told (λ files. (answer : Answer) × Answers words files answer × (bytes ≡ for_err answer)))))
+    (OutFails before after bytes × IfSome before.told (λ files. (answer : Answer) × Answers words files answer × (bytes ≡ for_out answer)))
+    ⊎ (ErrFails before after bytes × (IsReadFault (operands words) before.faults after.faults after.last_fault bytes
+    ⊎ IfSome before.told (λ files. (answer : Answer) × Answers words files answer × (bytes ≡ for_err answer)))))
 fault-ends words before after reply h (inl f) = (for_out reply, inl (out-ends words before after reply h f))
 fault-ends words before after reply h (inr f) =
     (for_err reply, inr (record { rose = f.0; part = f.1; other = f.2 }, err-ends words before after reply h))

@@ -1,24 +1,21 @@
 -- What stands behind the C that is printed.
-use Rattle.std.proofs.Common.{◌≡◌, ◌⊎◌, ⊎_elim, ℕ, zero, suc, true, false, true≢false, Bool, List, [], ◌∷◌, map, slice_get, Option, Some, None, option_map, refl, sym, ap, ◌∙◌, subst, if◌then◌else◌}
-use Rattle.std.specs.Prelude.{slice_index}
+use Rattle.std.proofs.Common.{◌≡◌, ⊎_elim, ℕ, zero, suc, true, false, true≢false, Bool, List, [], ◌∷◌, slice_get, Option, Some, None, option_map, refl, sym, ap, ◌∙◌, subst, if◌then◌else◌}
 use Rattle.std.proofs.lemmas.Option.{slice_get-map}
 use Rattle.std.proofs.lemmas.Bool.{and_parts}
-use Rattle.exo_tree.specs.Tree.{Param, Condition, Procedure, Program}
+use Rattle.exo_tree.specs.Tree.{Procedure, Program}
 use Rattle.exo_meaning.specs.Calls.{all_hold}
 use Rattle.exo_meaning.specs.State.{State}
 use Rattle.exo_meaning.specs.Run.{World}
-use Rattle.exo_meaning.specs.Inputs.{IsAdmissible, AreArguments, is_buffer_of, run_procedure}
-use Rattle.c_printer.specs.CTree.{Name, CFunction}
+use Rattle.exo_meaning.specs.Inputs.{IsAdmissible, AreArguments, is_buffer_of}
+use Rattle.c_printer.specs.CTree.{Name}
 use Rattle.c_printer.specs.CText.{text_of}
-use Rattle.c_printer.specs.CRun.{run_c}
-use Rattle.c_printer.specs.Machine.{Done}
-use Rattle.c_printer.specs.LoweredUnit.{Printing, name_of, printed_names, global_names, function_at, lowered}
+use Rattle.c_printer.specs.LoweredUnit.{Printing, name_of, printed_names, lowered}
 use Rattle.c_printer.specs.FirstForm.{is_first, are_first, is_first_unit}
 use Rattle.c_printer.proofs.FirstUnits.{all_first}
 use Rattle.c_printer.proofs.FirstUnitsFollow.{first_units_follow}
-use Rattle.exo_reader.specs.FirstText.{HasFirst, SpellsFirst, tokens_of}
-use Rattle.exo_cli.specs.Answer.{Answer, Accepted, Rejected}
-use Rattle.exo_cli.specs.Compiled.{IsCompiled, not_built, printed, ended, scheduled, started, printing_of, printings}
+use Rattle.exo_reader.specs.FirstText.{SpellsFirst, tokens_of}
+use Rattle.exo_cli.specs.Answer.{Accepted, Rejected}
+use Rattle.exo_cli.specs.Compiled.{IsCompiled, not_built, ended, scheduled, started, printing_of, printings}
 use Rattle.exo_cli.specs.Lines as lines
 use Rattle.exo_cli.specs.Lines.{Versions, Outcome, run_lines}
 use Rattle.exo_cli.specs.ScheduleForm.{schedule_of}
@@ -80,8 +77,8 @@ module _ (text : Program) (v : Versions) (h : is_first_unit (with_versions text 
           let is = some_is e in
           let here = listed ∙ ap Some (sym is) in
           subst (IsPrinted text (with_versions text v) (printings v) k) is
-            (version_printed k n (slice_get v.procedures n) here refl
-              (listed_is_first (with_versions text v) (printed_names (with_versions text v) (printings v)) (printings v) k (printing_of v n) (all_first (with_versions text v) (printings v) h) here))
+          (version_printed k n (slice_get v.procedures n) here refl
+          (listed_is_first (with_versions text v) (printed_names (with_versions text v) (printings v)) (printings v) k (printing_of v n) (all_first (with_versions text v) (printings v) h) here))
 
 accepted_is_not : {text message : List ℕ} → Accepted text ≡ Rejected message → ⊥
 accepted_is_not e = cc

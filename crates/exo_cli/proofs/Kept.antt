@@ -17,6 +17,7 @@ use Rattle.exo_cli.specs.Lines.{Versions, Progress, Went, Refused, Done, Stopped
 use Rattle.exo_cli.specs.declared.lines.Commute.{Commute}
 use Rattle.exo_cli.specs.declared.lines.Act.{Act}
 use Rattle.exo_cli.specs.declared.lines.Act.TheVariants as act
+use Rattle.exo_cli.specs.declared.lines.Line.{Line}
 use Rattle.exo_cli.specs.declared.session.Why.{Why}
 use Rattle.exo_cli.specs.Compiled.{started, numbers_from}
 use Rattle.exo_cli.specs.Kept.{IsVersionOf, HasOrigin, AreVersions, CommutedRunsAlike, CommutedRefines, SchedulesRunAlike}
@@ -159,7 +160,7 @@ commuted_runs_alike p q x o made = at (parameter_of p.params x) made
           params = refl;
           asserts = refl;
           template = refl;
-          runs = λ world s. commuted_alike world o y (statements p.body) ts (sym is) s ∙ ap (λ b. run world b s) (block_of_statements p.body)
+          runs = λ world s. commuted_alike world o y (statements p.body) ts (sym is) s ∙ ap (λ b. run world b s) (block_of_statements p.body);
         })
 
     at : (found : Option ℕ) → commuted_at p o found ≡ Made q → IsVersionOf p q
@@ -261,7 +262,7 @@ added_versions text v k p q names are there version = record {
           from = o.from;
           origin = o.origin;
           of = subst (λ i. slice_get (v.origins ++ slice_index v.origins k ∷ []) i ≡ Some o.from) (are.lengths ∙ sym at)
-            (last_is_there v.origins (slice_index v.origins k) ∙ ap Some (index_is v.origins k o.from o.of));
+              (last_is_there v.origins (slice_index v.origins k) ∙ ap Some (index_is v.origins k o.from o.of));
           in_text = o.in_text;
           kept = composed o.origin p r o.kept (subst (IsVersionOf p) same version);
         }
@@ -333,7 +334,7 @@ begins : (text : List Procedure) → AreVersions text (started text)
 begins text = record {
   lengths = as_many 0 text;
   first = λ k p e. e;
-  each = λ k q e. record { from = k; origin = q; of = own_number 0 text k q e; in_text = e; kept = by_itself q };
+  each = λ k q e. record { from = k; origin = q; of = let same : 0 + k ≡ k = omega arith in own_number 0 text k q e ∙ ap Some same; in_text = e; kept = by_itself q };
 }
 
 pub schedules_run_alike : SchedulesRunAlike

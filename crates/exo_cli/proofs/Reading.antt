@@ -22,21 +22,21 @@ pub numbered-first : (tokens : List Token) (places : List Place) → 0 < length 
 numbered-first [] places h = absurd (omega arith)
 numbered-first (t ∷ []) places h = by-case (ends_line t)
   where
-  by-case : (b : Bool) → (if b then (first_number places, t ∷ []) ∷ [] else (first_number places, t ∷ []) ∷ [])
-      ≡ (first_number places, take (if b then 1 else 1) (t ∷ [])) ∷ numbered (drop (if b then 1 else 1) (t ∷ [])) (drop (if b then 1 else 1) places)
-  by-case true = refl
-  by-case false = refl
+    by-case : (b : Bool) → (if b then (first_number places, t ∷ []) ∷ [] else (first_number places, t ∷ []) ∷ [])
+        ≡ (first_number places, take (if b then 1 else 1) (t ∷ [])) ∷ numbered (drop (if b then 1 else 1) (t ∷ [])) (drop (if b then 1 else 1) places)
+    by-case true = refl
+    by-case false = refl
 numbered-first (t ∷ u ∷ tokens) places h = by-case (ends_line t) (numbered-first (u ∷ tokens) (drop 1 places) (omega arith))
   where
-  by-case : (b : Bool) → FirstLine (u ∷ tokens) (drop 1 places) (width_of (u ∷ tokens))
-      → (if b then (first_number places, t ∷ []) ∷ numbered (u ∷ tokens) (drop 1 places) else begun (first_number places) t (numbered (u ∷ tokens) (drop 1 places)))
-      ≡ (first_number places, take (if b then 1 else suc (width_of (u ∷ tokens))) (t ∷ u ∷ tokens))
+    by-case : (b : Bool) → FirstLine (u ∷ tokens) (drop 1 places) (width_of (u ∷ tokens))
+        → (if b then (first_number places, t ∷ []) ∷ numbered (u ∷ tokens) (drop 1 places) else begun (first_number places) t (numbered (u ∷ tokens) (drop 1 places)))
+        ≡ (first_number places, take (if b then 1 else suc (width_of (u ∷ tokens))) (t ∷ u ∷ tokens))
         ∷ numbered (drop (if b then 1 else suc (width_of (u ∷ tokens))) (t ∷ u ∷ tokens)) (drop (if b then 1 else suc (width_of (u ∷ tokens))) places)
-  by-case true first = refl
-  by-case false first =
-      ap (begun (first_number places) t) first
-      ∙ ap (λ l. (first_number places, t ∷ take (width_of (u ∷ tokens)) (u ∷ tokens)) ∷ numbered (drop (width_of (u ∷ tokens)) (u ∷ tokens)) l)
-          (drop-one (width_of (u ∷ tokens)) places)
+    by-case true first = refl
+    by-case false first =
+        ap (begun (first_number places) t) first
+        ∙ ap (λ l. (first_number places, t ∷ take (width_of (u ∷ tokens)) (u ∷ tokens)) ∷ numbered (drop (width_of (u ∷ tokens)) (u ∷ tokens)) l)
+        (drop-one (width_of (u ∷ tokens)) places)
 
 -- what is read of the rest, behind these lines
 abbrev pub with_all : List Line → Option (List Line) → Option (List Line)
@@ -56,15 +56,15 @@ AreRead tokens places front start =
 pub line-next : (tokens : List Token) (places : List Place) (front : List Line) (start w : ℕ)
     → AreRead tokens places front start → start < length tokens → w ≡ width_of (drop start tokens)
     → lines_in (numbered tokens places) ≡ with_all front (with_line (first_number (drop start places)) (act_in (take w (drop start tokens)))
-        (lines_in (numbered (drop (start + w) tokens) (drop (start + w) places))))
+    (lines_in (numbered (drop (start + w) tokens) (drop (start + w) places))))
 line-next tokens places front start w read h e =
     let some : 0 < length (drop start tokens) = omega (arith, length-drop start tokens) in
     let first : FirstLine (drop start tokens) (drop start places) w = rw e (numbered-first (drop start tokens) (drop start places) some) in
     read ∙ ap (λ l. with_all front (lines_in l)) first
     ∙ ap (λ l. with_all front (with_line (first_number (drop start places)) (act_in (take w (drop start tokens))) (lines_in (numbered l (drop w (drop start places))))))
-        (drop-both start w tokens)
+    (drop-both start w tokens)
     ∙ ap (λ l. with_all front (with_line (first_number (drop start places)) (act_in (take w (drop start tokens))) (lines_in (numbered (drop (start + w) tokens) l))))
-        (drop-both start w places)
+    (drop-both start w places)
 
 -- a line that is of the form
 pub line-read : (tokens : List Token) (places : List Place) (front : List Line) (start w : ℕ) (a : Act)

@@ -16,7 +16,7 @@ use Rattle.c_printer.specs.Simulation.{Layout}
 use Rattle.c_printer.specs.Laws.{AreSeparate, Agrees}
 use Rattle.exo_reader.specs.FirstText.{SpellsFirst, tokens_of}
 use Rattle.exo_cli.specs.Answer.{Accepted}
-use Rattle.exo_cli.specs.Compiled.{IsCompiled, started, printing_of, printings}
+use Rattle.exo_cli.specs.Compiled.{IsCompiled, started, printings}
 use Rattle.exo_cli.specs.Lines.{Versions, Done as Ran, run_lines}
 use Rattle.exo_cli.specs.ScheduleForm.{schedule_of}
 use Rattle.exo_cli.specs.declared.lines.Line.{Line}

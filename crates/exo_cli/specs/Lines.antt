@@ -39,10 +39,10 @@ emitting (Some k) v = Went (record v { emitted = v.emitted ++ k ∷ [] })
 -- the version that a step made of version k is put last, under this name, and comes of the same procedure
 abbrev pub adding : List ℕ → ℕ → Versions → Stepped Procedure → Progress
 adding name k v (Made q) = Went (record v {
-    procedures = v.procedures ++ q ∷ [];
-    origins = v.origins ++ slice_index v.origins k ∷ [];
-    names = v.names ++ (name, length v.procedures) ∷ []
-  })
+  procedures = v.procedures ++ q ∷ [];
+  origins = v.origins ++ slice_index v.origins k ∷ [];
+  names = v.names ++ (name, length v.procedures) ∷ [];
+})
 adding name k v NoSuchPattern = Refused why.NoSuchPattern
 adding name k v WrongShape = Refused why.WrongShape
 

@@ -5,12 +5,10 @@ use Rattle.std.specs.Str.{bytes_eq}
 use Rattle.exo_reader.specs.Layout.{lexed, line_tokens, place_of, token_of, end_place}
 use Rattle.exo_reader.specs.declared.place.Place.{Place}
 use Rattle.exo_reader.specs.declared.token.Token.{Token}
-use Rattle.exo_reader.specs.declared.token.Token.TheVariants as token
 use Rattle.exo_reader.specs.declared.token.Token.TheVariants.{Name, Str, Sign, NewLine}
 use Rattle.exo_reader.specs.declared.token.Sign.TheVariants.{Open, Close, OpenBracket, CloseBracket, Comma, Assign, Plus, Times, Any}
 use Rattle.exo_cli.specs.declared.commute.Operation.{Operation}
 use Rattle.exo_cli.specs.declared.commute.Operation.TheVariants.{Sum, Product}
-use Rattle.exo_cli.specs.declared.lines.Commute.{Commute}
 use Rattle.exo_cli.specs.declared.lines.Act.{Act}
 use Rattle.exo_cli.specs.declared.lines.Act.TheVariants as act
 use Rattle.exo_cli.specs.declared.lines.Line.{Line}

@@ -48,7 +48,10 @@ fn has(e: &DataExpr, which: Operation) -> bool
         DataExpr::Add(a, b) => which == Operation::Sum || has(a, which) || has(b, which),
         DataExpr::Sub(a, b) => has(a, which) || has(b, which),
         DataExpr::Mul(a, b) => which == Operation::Product || has(a, which) || has(b, which),
-        DataExpr::Select(x, v, y, z) => has(x, which) || has(v, which) || has(y, which) || has(z, which),
+        DataExpr::Select(x, v, y, z) => has(x, which)
+            || has(v, which)
+            || has(y, which)
+            || has(z, which),
     }
 }
 
@@ -64,15 +67,27 @@ fn exchange(e: &mut DataExpr, which: Operation)
             if which == Operation::Sum {
                 mem::swap(a, b);
             } else {
-                if has(a, which) { exchange(a, which); } else { exchange(b, which); }
+                if has(a, which) {
+                    exchange(a, which);
+                } else {
+                    exchange(b, which);
+                }
             }
         }
-        DataExpr::Sub(a, b) => if has(a, which) { exchange(a, which); } else { exchange(b, which); },
+        DataExpr::Sub(a, b) => if has(a, which) {
+            exchange(a, which);
+        } else {
+            exchange(b, which);
+        },
         DataExpr::Mul(a, b) => {
             if which == Operation::Product {
                 mem::swap(a, b);
             } else {
-                if has(a, which) { exchange(a, which); } else { exchange(b, which); }
+                if has(a, which) {
+                    exchange(a, which);
+                } else {
+                    exchange(b, which);
+                }
             }
         }
         DataExpr::Select(x, v, y, z) => {
@@ -158,7 +173,12 @@ fn parameter_of(params: &Params, name: &[u8]) -> Option<Id>
 
 /// The step: in the first assignment to `x`, the sides of the first sum or product in preorder change places.
 /// `NoSuchPattern` where nothing is assigned to `x`, `WrongShape` where the right side has no such operation.
-pub fn commute_expr(alloc: Global, p: &Proc, x: &[u8], which: Operation) -> Result<Proc, StepRefusal>
+pub fn commute_expr(
+    alloc: Global,
+    p: &Proc,
+    x: &[u8],
+    which: Operation,
+) -> Result<Proc, StepRefusal>
     ensures { Steps (commute_expr (procedure p.now) x.now which) procedure result }
 {
     let Some(id) = parameter_of(&p.params, x) else {

@@ -129,7 +129,13 @@ fn refuse_line(alloc: Global, schedule: &str, line: &Line, why: Why) -> Result<R
     if why == Why::Memory {
         return Err(AllocError);
     }
-    let message = messages::line_refused(alloc, schedule, line.number, operator_of(&line.act), why_text(why))?;
+    let message = messages::line_refused(
+        alloc,
+        schedule,
+        line.number,
+        operator_of(&line.act),
+        why_text(why),
+    )?;
     Ok(Reply::Rejected(message))
 }
 

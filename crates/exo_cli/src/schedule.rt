@@ -31,7 +31,12 @@ fn behind_index(tokens: &[Token]) -> Option<&[Token]>
     ensures { option_map (λ more. more.now) result ≡ behind_index tokens.now }
 {
     match tokens {
-        [Token::Sign(Sign::OpenBracket), Token::Sign(Sign::Any), Token::Sign(Sign::CloseBracket), more @ ..] => Some(more),
+        [
+            Token::Sign(Sign::OpenBracket),
+            Token::Sign(Sign::Any),
+            Token::Sign(Sign::CloseBracket),
+            more @ ..,
+        ] => Some(more),
         _ => None,
     }
 }
@@ -64,8 +69,16 @@ fn operation_in(tokens: &[Token]) -> Option<Operation>
     ensures { result ≡ operation_in tokens.now }
 {
     match tokens {
-        [Token::Sign(Sign::Any), Token::Sign(Sign::Plus), Token::Sign(Sign::Any)] => Some(Operation::Sum),
-        [Token::Sign(Sign::Any), Token::Sign(Sign::Times), Token::Sign(Sign::Any)] => Some(Operation::Product),
+        [
+            Token::Sign(Sign::Any),
+            Token::Sign(Sign::Plus),
+            Token::Sign(Sign::Any),
+        ] => Some(Operation::Sum),
+        [
+            Token::Sign(Sign::Any),
+            Token::Sign(Sign::Times),
+            Token::Sign(Sign::Any),
+        ] => Some(Operation::Product),
         _ => None,
     }
 }
@@ -177,7 +190,12 @@ fn call_in(tokens: &[Token]) -> Option<(&Text, &Text, &[Token])>
     ensures { option_map (λ call. (call.0.now, call.1.now, call.2.now)) result ≡ call_in tokens.now }
 {
     match tokens {
-        [Token::Name(operator), Token::Sign(Sign::Open), Token::Name(name), more @ ..] => Some((operator, name, more)),
+        [
+            Token::Name(operator),
+            Token::Sign(Sign::Open),
+            Token::Name(name),
+            more @ ..,
+        ] => Some((operator, name, more)),
         _ => None,
     }
 }
@@ -214,7 +232,9 @@ fn act_in(alloc: Global, tokens: &[Token]) -> Result<Option<Act>, AllocError>
     ensures { IfOk result (λ act. act ≡ act_in tokens.now) }
 {
     match tokens {
-        [Token::Name(bind), Token::Sign(Sign::Assign), more @ ..] => commute_call(alloc, bind, more),
+        [Token::Name(bind), Token::Sign(Sign::Assign), more @ ..] => commute_call(
+            alloc, bind, more,
+        ),
         _ => emit_call(tokens),
     }
 }
@@ -254,7 +274,11 @@ fn first_number(places: &[Place]) -> u32
 }
 
 /// The lines of these tokens, whose places are given; None where one is not of the form.
-fn lines_in(alloc: Global, tokens: &[Token], places: &[Place]) -> Result<Option<Vec<Line>>, AllocError>
+fn lines_in(
+    alloc: Global,
+    tokens: &[Token],
+    places: &[Place],
+) -> Result<Option<Vec<Line>>, AllocError>
     requires { length tokens.now ≤ length places.now }
     ensures { IfOk result (λ read. option_map (λ lines. lines.items) read ≡ lines_in (numbered tokens.now places.now)) }
 {

@@ -157,7 +157,7 @@ impl Session {
     fn changed(&self, alloc: Global, k: u32, c: &Commute) -> Result<Proc, Why>
         ensures { MatchResult result
             (λ p. changing c.now k (versions self.now) (slice_get (versions self.now).procedures k)
-                ≡ adding c.now.bind k (versions self.now) (Made (procedure p)))
+            ≡ adding c.now.bind k (versions self.now) (Made (procedure p)))
             (RefusesLine (changing c.now k (versions self.now) (slice_get (versions self.now).procedures k))) }
     {
         let Some(p) = self.procs.get(k as usize) else {

@@ -10,7 +10,8 @@ const UNIT: &str = "@proc\ndef add3(x: i32[4], y: i32[4]):\n    x[0] = y[1] + 3\
 
 const SCHEDULE: &str = "p = commute_expr(add3, 'x[_] = _', '_ + _')\nemit(p)\n";
 
-const HELPERS: &str = "static inline int64_t exo_div(int64_t a, int64_t b) { int64_t q = a / b; return (a % b < 0) ? q - 1 : q; }\nstatic inline int64_t exo_mod(int64_t a, int64_t b) { int64_t r = a % b; return (r < 0) ? r + b : r; }\nstatic inline uint32_t exo_relu(uint32_t x) { return ((int32_t)x > 0) ? x : 0; }\nstatic inline uint32_t exo_select(uint32_t x, uint32_t v, uint32_t y, uint32_t z) { return ((int32_t)x < (int32_t)v) ? y : z; }\n";
+const HELPERS: &str =
+    "static inline int64_t exo_div(int64_t a, int64_t b) { int64_t q = a / b; return (a % b < 0) ? q - 1 : q; }\nstatic inline int64_t exo_mod(int64_t a, int64_t b) { int64_t r = a % b; return (r < 0) ? r + b : r; }\nstatic inline uint32_t exo_relu(uint32_t x) { return ((int32_t)x > 0) ? x : 0; }\nstatic inline uint32_t exo_select(uint32_t x, uint32_t v, uint32_t y, uint32_t z) { return ((int32_t)x < (int32_t)v) ? y : z; }\n";
 
 /// A list of these words.
 fn strings(alloc: Global, words: &[&str]) -> Result<Vec<String>, AllocError> {
@@ -61,7 +62,9 @@ const COMPILE: [&str; 4] = ["exoc", "compile", "u.py", "s.py"];
 #[test]
 fn the_first_example_is_compiled(rt: HostRuntime) -> Result<(), Fail> {
     let alloc = rt.alloc();
-    let expected = format!(in alloc; "/* exoc\n * add3: from add3; differs: nothing\n */\n#include <stdint.h>\n#include <stdlib.h>\n\n{HELPERS}\nvoid add3(int32_t *x, int32_t *y) {{\n    x[0LL] = (int32_t)(3u + (uint32_t)y[1LL]);\n}}\n")?;
+    let expected = format!(in alloc;
+        "/* exoc\n * add3: from add3; differs: nothing\n */\n#include <stdint.h>\n#include <stdlib.h>\n\n{HELPERS}\nvoid add3(int32_t *x, int32_t *y) {{\n    x[0LL] = (int32_t)(3u + (uint32_t)y[1LL]);\n}}\n"
+    )?;
     let ran = run(&rt, &COMPILE, UNIT, SCHEDULE, &[], 4096)?;
     assert_eq!(rt; ran.status, Status::Ok);
     assert_eq!(rt; ran.out.bytes(), expected.as_bytes());
@@ -74,10 +77,26 @@ fn what_is_refused_is_named(rt: HostRuntime) -> Result<(), Fail> {
     let broken = "@proc\ndef add3(x: i32[4], y: i32[4]):\n    x[4] = 1\n";
     let cases = [
         (broken, "", "exoc: u.py: NotBuilt\n"),
-        (UNIT, "p = commute_expr(add3, 'y[_] = _', '_ + _')\n", "exoc: s.py:1: commute_expr NoSuchPattern\n"),
-        (UNIT, "p = commute_expr(add3, 'x[_] = _', '_ * _')\n", "exoc: s.py:1: commute_expr WrongShape\n"),
-        (UNIT, "p = cut_loop(add3, 'i', '1')\n", "exoc: s.py: NotBuilt\n"),
-        (UNIT, "p = commute_expr(add3, 'x[_] = _', '_ + _')\nemit(q)\n", "exoc: s.py:2: emit UnknownProc\n"),
+        (
+            UNIT,
+            "p = commute_expr(add3, 'y[_] = _', '_ + _')\n",
+            "exoc: s.py:1: commute_expr NoSuchPattern\n",
+        ),
+        (
+            UNIT,
+            "p = commute_expr(add3, 'x[_] = _', '_ * _')\n",
+            "exoc: s.py:1: commute_expr WrongShape\n",
+        ),
+        (
+            UNIT,
+            "p = cut_loop(add3, 'i', '1')\n",
+            "exoc: s.py: NotBuilt\n",
+        ),
+        (
+            UNIT,
+            "p = commute_expr(add3, 'x[_] = _', '_ + _')\nemit(q)\n",
+            "exoc: s.py:2: emit UnknownProc\n",
+        ),
         (UNIT, "emit(add3)\nemit(add3)\n", "exoc: s.py: NotBuilt\n"),
     ];
     for (unit, schedule, message) in cases {
@@ -99,7 +118,14 @@ fn faults_are_answered(rt: HostRuntime) -> Result<(), Fail> {
     assert_eq!(rt; full.status, Status::WriteFault);
     assert_eq!(rt; full.out.bytes(), b"/* ex".as_slice());
     assert_eq!(rt; full.err.bytes().len(), 0);
-    let missing = run(&rt, &["exoc", "compile", "v.py", "s.py"], UNIT, SCHEDULE, &[], 4096)?;
+    let missing = run(
+        &rt,
+        &["exoc", "compile", "v.py", "s.py"],
+        UNIT,
+        SCHEDULE,
+        &[],
+        4096,
+    )?;
     assert_eq!(rt; missing.status, Status::ReadFault);
     assert_eq!(rt; missing.err.bytes(), b"exoc: cannot read v.py\n".as_slice());
     Ok(())
@@ -107,7 +133,8 @@ fn faults_are_answered(rt: HostRuntime) -> Result<(), Fail> {
 
 #[test]
 fn other_words_are_usage(rt: HostRuntime) -> Result<(), Fail> {
-    let usage = b"exoc: usage: exoc compile PROCS SCHEDULE | check PROCS | show PROCS SCHEDULE NAME | gen N\n";
+    let usage =
+        b"exoc: usage: exoc compile PROCS SCHEDULE | check PROCS | show PROCS SCHEDULE NAME | gen N\n";
     let cases: [&[&str]; 5] = [
         &["exoc", "compile", "u.py"],
         &["exoc", "compile", "u.py", "-s.py"],
