@@ -1,5 +1,5 @@
 -- What stands behind the C that is printed.
-use Rattle.std.proofs.Common.{◌≡◌, ⊎_elim, ℕ, zero, suc, true, false, true≢false, Bool, List, [], ◌∷◌, slice_get, Option, Some, None, option_map, refl, sym, ap, ◌∙◌, subst, if◌then◌else◌}
+use Rattle.std.proofs.Common.{◌≡◌, ◌≢◌, MatchBool, MatchOption, IfSome, nat_lt, length, codes, ⊎_elim, ℕ, zero, suc, true, false, true≢false, Bool, List, [], ◌∷◌, slice_get, Option, Some, None, option_map, refl, sym, ap, ◌∙◌, subst, if◌then◌else◌}
 use Rattle.std.proofs.lemmas.Option.{slice_get-map}
 use Rattle.std.proofs.lemmas.Bool.{and_parts}
 use Rattle.exo_tree.specs.Tree.{Procedure, Program}
@@ -14,13 +14,19 @@ use Rattle.c_printer.specs.FirstForm.{is_first, are_first, is_first_unit}
 use Rattle.c_printer.proofs.FirstUnits.{all_first}
 use Rattle.c_printer.proofs.FirstUnitsFollow.{first_units_follow}
 use Rattle.exo_reader.specs.FirstText.{SpellsFirst, tokens_of}
-use Rattle.exo_cli.specs.Answer.{Accepted, Rejected}
+use Rattle.exo_cli.specs.declared.status.Status.{Status}
+use Rattle.exo_cli.specs.declared.status.Status.TheVariants.{Ok, Refused, Usage, ReadFault, WriteFault, Memory}
+use Rattle.exo_cli.specs.Outside.{Folder, content_of, with_more}
+use Rattle.exo_cli.specs.Messages.{usage, file_refused}
+use Rattle.exo_cli.specs.Words.{Command, Compile, command_of}
+use Rattle.exo_cli.specs.Work.{file_limit, Opens, AnswersTo, Answers, Moment, Ends}
+use Rattle.exo_cli.specs.Answer.{Answer, Accepted, Rejected, Unread, Misused, status_of, for_out, for_err}
 use Rattle.exo_cli.specs.Compiled.{IsCompiled, not_built, ended, scheduled, started, printing_of, printings}
 use Rattle.exo_cli.specs.Lines as lines
 use Rattle.exo_cli.specs.Lines.{Versions, Outcome, run_lines}
 use Rattle.exo_cli.specs.ScheduleForm.{schedule_of}
 use Rattle.exo_cli.specs.Kept.{IsVersionOf, HasOrigin, AreVersions}
-use Rattle.exo_cli.specs.Headline.{DoesWhat, IsPrinted, Promise, with_versions}
+use Rattle.exo_cli.specs.Headline.{DoesWhat, IsPrinted, Promise, Promised, with_versions}
 use Rattle.exo_cli.specs.declared.lines.Line.{Line}
 use Rattle.exo_cli.proofs.Kept.{nothing_there, some_is, index_is, runs_alike, schedules_run_alike}
 
@@ -114,3 +120,77 @@ module _ (procs unit schedule bytes text : List ℕ) where
   -- an accepted text keeps the promise
   pub accepted_is_promised : IsCompiled procs unit schedule bytes (Accepted text) → Promise unit bytes text
   accepted_is_promised = ⊎_elim (λ h. absurd (accepted_is_not h.1)) (λ h. by_read h.0 (schedule_of bytes) h.1 refl h.2)
+
+-- ---- and so does what the program writes
+
+module _ (words : List (List ℕ)) (files : Folder) (before after : Option (List ℕ)) (text : List ℕ) (written : after ≡ with_more before text) where
+  by_schedule : (procs schedule unit : List ℕ) → command_of words ≡ Some (Compile procs schedule) → content_of files procs ≡ Some unit
+      → (held : Option (List ℕ)) → content_of files schedule ≡ held → Opens held schedule (λ lines. IsCompiled procs unit schedule lines) (Accepted text) → Promised words files before after
+  by_schedule procs schedule unit asked first None there e = absurd (accepted_is_not_unread e)
+    where
+      accepted_is_not_unread : {t m : List ℕ} → Accepted t ≡ Unread m → ⊥
+      accepted_is_not_unread e = cc
+  by_schedule procs schedule unit asked first (Some bytes) there e = go (nat_lt file_limit (length bytes)) e
+    where
+      go : (b : Bool) → MatchBool b (Accepted text ≡ Rejected (file_refused schedule (codes "FileTooLong"))) (IsCompiled procs unit schedule bytes (Accepted text)) → Promised words files before after
+      go true e = absurd (accepted_is_not e)
+      go false e = record {
+        procs = procs;
+        schedule = schedule;
+        unit = unit;
+        lines = bytes;
+        printed = text;
+        asked = asked;
+        unit_file = first;
+        schedule_file = there;
+        written = written;
+        kept = accepted_is_promised procs unit schedule bytes text e;
+      }
+
+  by_unit : (procs schedule : List ℕ) → command_of words ≡ Some (Compile procs schedule) → (held : Option (List ℕ)) → content_of files procs ≡ held
+      → Opens held procs (λ unit. Opens (content_of files schedule) schedule (λ lines. IsCompiled procs unit schedule lines)) (Accepted text) → Promised words files before after
+  by_unit procs schedule asked None there e = absurd (accepted_is_not_unread e)
+    where
+      accepted_is_not_unread : {t m : List ℕ} → Accepted t ≡ Unread m → ⊥
+      accepted_is_not_unread e = cc
+  by_unit procs schedule asked (Some bytes) there e = go (nat_lt file_limit (length bytes)) e
+    where
+      go : (b : Bool) → MatchBool b (Accepted text ≡ Rejected (file_refused procs (codes "FileTooLong")))
+          (Opens (content_of files schedule) schedule (λ lines. IsCompiled procs bytes schedule lines) (Accepted text)) → Promised words files before after
+      go true e = absurd (accepted_is_not e)
+      go false e = by_schedule procs schedule bytes asked there (content_of files schedule) refl e
+
+  by_words : (asked : Option Command) → command_of words ≡ asked → MatchOption asked (Accepted text ≡ Misused usage) (λ command. AnswersTo command files (Accepted text)) → Promised words files before after
+  by_words None is e = absurd (accepted_is_not_misused e)
+    where
+      accepted_is_not_misused : {t m : List ℕ} → Accepted t ≡ Misused m → ⊥
+      accepted_is_not_misused e = cc
+  by_words (Some (Compile procs schedule)) is e = by_unit procs schedule is (content_of files procs) refl e
+
+-- an answer that ends well is accepted
+by_answer : (words : List (List ℕ)) (files : Folder) (before after : Option (List ℕ)) (answer : Answer) → Answers words files answer → Ok ≡ status_of answer → after ≡ with_more before (for_out answer)
+    → Promised words files before after
+by_answer words files before after (Accepted text) answers ok written = by_words words files before after text written (command_of words) refl answers
+by_answer words files before after (Rejected message) answers ok written = absurd (let e : Ok ≡ Refused = ok in cc)
+by_answer words files before after (Unread message) answers ok written = absurd (let e : Ok ≡ ReadFault = ok in cc)
+by_answer words files before after (Misused message) answers ok written = absurd (let e : Ok ≡ Usage = ok in cc)
+
+not_memory : Ok ≢ Memory
+not_memory e = cc
+
+not_read_fault : Ok ≢ ReadFault
+not_read_fault e = cc
+
+not_write_fault : Ok ≢ WriteFault
+not_write_fault e = cc
+
+-- what the program writes where it ends well keeps the promise
+pub ends_promised : (words : List (List ℕ)) (before after : Moment) (status : Status) → Ends words before after status → status ≡ Ok
+    → IfSome before.told (λ files. Promised words files before.out after.out)
+ends_promised words before after status ends ok = told before.told (subst (λ s. Ends words before after s) ok ends).told
+  where
+    told : (o : Option Folder) → (Ok ≢ Memory → Ok ≢ ReadFault → Ok ≢ WriteFault → IfSome o (λ files.
+        (answer : Answer) × Answers words files answer × (Ok ≡ status_of answer) × (after.out ≡ with_more before.out (for_out answer)) × (after.err ≡ with_more before.err (for_err answer))))
+        → IfSome o (λ files. Promised words files before.out after.out)
+    told None h = tt
+    told (Some files) h = let a = h not_memory not_read_fault not_write_fault in by_answer words files before.out after.out a.0 a.1 a.2 a.3

@@ -1,5 +1,5 @@
 -- What the compiler promises of the C that it prints.
-use Rattle.std.specs.Prelude.{◌≡◌, ℕ, List, [], Some, slice_get}
+use Rattle.std.specs.Prelude.{◌≡◌, ℕ, List, [], Option, Some, slice_get}
 use Rattle.exo_tree.specs.Tree.{Procedure, Program}
 use Rattle.exo_meaning.specs.State.{State}
 use Rattle.exo_meaning.specs.Run.{World}
@@ -15,6 +15,8 @@ use Rattle.c_printer.specs.SameInput.{AreSame}
 use Rattle.c_printer.specs.Simulation.{Layout}
 use Rattle.c_printer.specs.Laws.{AreSeparate, Agrees}
 use Rattle.exo_reader.specs.FirstText.{SpellsFirst, tokens_of}
+use Rattle.exo_cli.specs.Outside.{Folder, content_of, with_more}
+use Rattle.exo_cli.specs.Words.{Compile, command_of}
 use Rattle.exo_cli.specs.Answer.{Accepted}
 use Rattle.exo_cli.specs.Compiled.{IsCompiled, started, printings}
 use Rattle.exo_cli.specs.Lines.{Versions, Done as Ran, run_lines}
@@ -69,3 +71,16 @@ pub record Promise (unit schedule printed : List ℕ) : Type 0 where
 -- what is accepted keeps the promise
 abbrev pub AcceptedIsPromised : Type 0
 AcceptedIsPromised = (procs unit schedule lines text : List ℕ) → IsCompiled procs unit schedule lines (Accepted text) → Promise unit lines text
+
+-- The words ask to compile two files, which are told; what was written to the output is C, and it keeps the promise.
+pub record Promised (words : List (List ℕ)) (files : Folder) (before after : Option (List ℕ)) : Type 0 where
+  pub procs : List ℕ
+  pub schedule : List ℕ
+  pub unit : List ℕ
+  pub lines : List ℕ
+  pub printed : List ℕ
+  pub asked : command_of words ≡ Some (Compile procs schedule)
+  pub unit_file : content_of files procs ≡ Some unit
+  pub schedule_file : content_of files schedule ≡ Some lines
+  pub written : after ≡ with_more before printed
+  pub kept : Promise unit lines printed

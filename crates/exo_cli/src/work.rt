@@ -1,5 +1,6 @@
 // The order of the work: the words, the files, what their texts give, and then what is written.
-ghost use Rattle.std.specs.Prelude.{◌≡◌, ◌≤◌, IfOk, MatchResult, length};
+ghost use Rattle.std.specs.Prelude.{◌≡◌, ◌≤◌, IfOk, IfSome, MatchResult, length};
+ghost use Rattle.exo_cli.specs.Headline.{Promised};
 ghost use Rattle.exo_cli.specs.Outside.{HasBytes};
 ghost use Rattle.exo_cli.specs.Words.{Compile, texts};
 ghost use Rattle.exo_cli.specs.Replies.{plain};
@@ -27,7 +28,7 @@ pub fn exoc<R: Threads + Sync, F: Files, O: Sink, E: Sink>(
     out: &mut O,
     err: &mut E,
 ) -> Status
-    ensures { Ends (texts words.now)
+    ensures ends { Ends (texts words.now)
         (record {
           told = F.told files.old;
           faults = F.faults files.old;
@@ -47,6 +48,7 @@ pub fn exoc<R: Threads + Sync, F: Files, O: Sink, E: Sink>(
           err_faults = E.faults err.new;
         })
         result }
+    ensures promise { result ≡ Status.Ok → IfSome (F.told files.old) (λ folder. Promised (texts words.now) folder (O.taken out.old) (O.taken out.new)) }
 {
     match reply_to(alloc, words, files) {
         Ok(reply) => reply.deliver(out, err),
