@@ -4,3 +4,5 @@ pub mod Endings
 pub mod Commuting
 pub mod Running
 pub mod Reading
+pub mod CommuteMeaning
+pub mod Starting

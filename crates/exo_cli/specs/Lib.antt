@@ -7,6 +7,7 @@ pub mod Asked
 pub mod Answer
 pub mod Commute
 pub mod Refusals
+pub mod Laws
 pub mod Lines
 pub mod ScheduleForm
 pub mod Sessions

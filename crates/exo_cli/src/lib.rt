@@ -6,6 +6,7 @@ mod commute;
 mod compile;
 mod count;
 mod disk;
+pub mod laws;
 mod lines;
 mod memory;
 mod messages;
@@ -17,6 +18,7 @@ mod status;
 mod words;
 mod work;
 
+pub use commute::{Operation, StepRefusal, commute_expr};
 pub use disk::{DiskFiles, StdSink};
 pub use memory::{MemFiles, MemSink};
 pub use outside::{Failed, FileFault, Files, Sink, write_all};
