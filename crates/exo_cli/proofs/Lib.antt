@@ -6,3 +6,4 @@ pub mod Running
 pub mod Reading
 pub mod Kept
 pub mod Headline
+pub mod Starting

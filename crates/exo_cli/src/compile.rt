@@ -17,7 +17,7 @@ use crate::session::{Session, Why};
 use c_printer::{Printed, c_text, is_first_unit, lower};
 use exo_reader::first::FirstError;
 use exo_reader::first_text::read_first;
-use exo_tree::Unit;
+use exo_tree::{Lines, Procs, Unit};
 use std::alloc::{AllocError, Global};
 
 /// Compiles the unit by the schedule. The names are those of their files, for the messages.
@@ -62,7 +62,7 @@ fn schedule_unit(
     ensures verdict { IfOk result (λ reply. IsVerdict (plain reply)) }
 {
     match read_schedule(alloc, lines)? {
-        Some(lines) => run_lines(alloc, procs, unit, schedule, &lines),
+        Some(lines) => run_lines(alloc, procs, &unit, schedule, &lines),
         None => not_built(alloc, schedule),
     }
 }
@@ -71,31 +71,35 @@ fn schedule_unit(
 fn run_lines(
     alloc: Global,
     procs: &str,
-    unit: Unit,
+    unit: &Unit,
     schedule: &str,
     lines: &[Line],
 ) -> Result<Reply, AllocError>
-    ensures answer { IfOk result (λ reply. plain reply ≡ ended procs.now schedule.now (program unit) (run_lines lines.now (started unit.procs))) }
+    ensures answer { IfOk result (λ reply. plain reply ≡ ended procs.now schedule.now (program unit.now) (run_lines lines.now (started unit.now.procs))) }
     ensures verdict { IfOk result (λ reply. IsVerdict (plain reply)) }
 {
-    let Unit {
-        procs: first,
-        fields,
-        memories,
-        lines: places,
-    } = unit;
+    let first = unit.procs.duplicate(alloc)?;
     let mut session = Session::start(alloc, first)?;
     if let Err((k, why)) = session.run(alloc, lines) {
         return refuse_line(alloc, schedule, &lines[k], why);
     }
     let what = session.printed(alloc)?;
-    let unit = Unit {
-        procs: session.into_procs(),
+    let made = with_procs(alloc, unit, session.into_procs())?;
+    print(alloc, procs, &made, &what)
+}
+
+/// A unit with these procedures in place of its own.
+fn with_procs(alloc: Global, unit: &Unit, procs: Procs) -> Result<Unit, AllocError>
+    ensures { IfOk result (λ made. program made ≡ record (program unit.now) { procedures = procs }) }
+{
+    let fields = unit.fields.duplicate(alloc)?;
+    let memories = unit.memories.duplicate(alloc)?;
+    Ok(Unit {
+        procs,
         fields,
         memories,
-        lines: places,
-    };
-    print(alloc, procs, &unit, &what)
+        lines: Lines::new(alloc),
+    })
 }
 
 /// The name of an operator.

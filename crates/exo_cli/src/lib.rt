@@ -18,6 +18,7 @@ mod status;
 mod words;
 mod work;
 
+pub use commute::{Operation, StepRefusal, commute_expr};
 pub use disk::{DiskFiles, StdSink};
 pub use memory::{MemFiles, MemSink};
 pub use outside::{Failed, FileFault, Files, Sink, write_all};

@@ -53,7 +53,7 @@ pub struct Session {
     /// Of each, the procedure of the text from which it comes.
     pub origins: Vec<u32>,
     /// What names hold, the latest binding last.
-    pub names: Vec<(Text, u32)>,
+    pub names: Vec<(Name, u32)>,
     /// The versions to be printed.
     pub emitted: Vec<u32>,
 }
@@ -68,17 +68,6 @@ fn number_of(length: usize) -> Result<u32, AllocError>
     Ok(length as u32)
 }
 
-/// The text as a name of a schedule.
-fn name_of(alloc: Global, text: &str) -> Result<Text, AllocError>
-    ensures { IfOk result (λ name. name ≡ text.now) }
-{
-    let mut name = Text::new(alloc);
-    for byte in text.as_bytes() {
-        name.push(*byte)?;
-    }
-    Ok(name)
-}
-
 impl Session {
     /// The versions before the first line: each procedure of the text, under its name.
     pub fn start(alloc: Global, procs: Procs) -> Result<Session, AllocError>
@@ -88,7 +77,7 @@ impl Session {
         let mut names = Vec::new(alloc);
         for p in procs.as_slice() {
             let number = number_of(origins.len())?;
-            let name = name_of(alloc, p.name.as_str())?;
+            let name = p.name.duplicate(alloc)?;
             names.push((name, number))?;
             origins.push(number)?;
         }
@@ -146,7 +135,7 @@ impl Session {
     {
         let mut found = None;
         for binding in &self.names {
-            if binding.0.as_slice() == name.as_slice() {
+            if binding.0.as_str() == name.as_str() {
                 found = Some(binding.1);
             }
         }
@@ -172,14 +161,14 @@ impl Session {
     }
 
     /// Puts a version last that was made of version `k`, under this name.
-    fn add(&mut self, name: &Text, k: u32, p: Proc) -> Result<(), AllocError>
+    fn add(&mut self, alloc: Global, name: &Text, k: u32, p: Proc) -> Result<(), AllocError>
         ensures { OnOk result (adding name.now k (versions self.old) (Made (procedure p)) ≡ Went (versions self.new)) }
     {
         let version = number_of(self.procs.len())?;
         self.procs.push(p)?;
         let origin = self.origins.get(k as usize).copied().unwrap_or(0);
         self.origins.push(origin)?;
-        let bound = name.clone()?;
+        let bound = Name::new(alloc, name.as_str())?;
         self.names.push((bound, version))?;
         Ok(())
     }
@@ -194,7 +183,7 @@ impl Session {
             return Err(Why::UnknownProc);
         };
         match self.changed(alloc, k, c) {
-            Ok(made) => Ok(self.add(&c.bind, k, made)?),
+            Ok(made) => Ok(self.add(alloc, &c.bind, k, made)?),
             Err(why) => Err(why),
         }
     }
