@@ -1,5 +1,5 @@
 -- The turns of one loop in another order.
-use Rattle.std.proofs.Common.{◌≡◌, ℕ, ℤ, Option, Some, refl, sym, ap, ◌∙◌}
+use Rattle.std.proofs.Common.{◌≡◌, ℕ, Some, refl, sym, ap, ◌∙◌}
 use Rattle.exo_tree.specs.Tree.{Block}
 use Rattle.exo_meaning.specs.State.{State, left, on_scene, with_control}
 use Rattle.exo_meaning.specs.Run.{World, run, turn, turns_of}
@@ -16,8 +16,8 @@ pub turn_stays : (world : World) (i : ℕ) (b : Block) (s : State) → LeavesFie
 turn_stays world i b s leaves n t h =
     let inside = on_scene (with_control i n) t in
     if_map (λ v. run world b inside ≡ Some v) (IsAt s) (run world b inside) (left t) (here (run world b inside)) (λ v e.
-      let fields : v.scene.fields ≡ t.scene.fields = leaves inside v e in
-      (ap (λ f. record t.scene { fields = f }) fields ∙ h.0, left_tidy t v))
+    let fields : v.scene.fields ≡ t.scene.fields = leaves inside v e in
+    (ap (λ f. record t.scene { fields = f }) fields ∙ h.0, left_tidy t v))
 
 pub turns_may_be_permuted : TurnsMayBePermuted
 turns_may_be_permuted world i lo hi b s ms tidy leaves order =
