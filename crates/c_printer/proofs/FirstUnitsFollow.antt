@@ -33,8 +33,8 @@ pub first_units_follow : FirstUnitsFollow
 first_units_follow program what k w p layout world c_world s m h listed there admissible same separate =
     let globals = global_names program what in
     let first : is_first (printed_names program what) (Some p) ≡ true =
-        subst (λ o. is_first (printed_names program what) o ≡ true) there (first_here program (printed_names program what) what k w (all_first program what h) listed) in
+    subst (λ o. is_first (printed_names program what) o ≡ true) there (first_here program (printed_names program what) what k w (all_first program what h) listed) in
     let found : slice_get (lowered program what).functions k ≡ Some (function_at program globals (Some p)) =
-        function_there program globals what k w listed ∙ ap (λ o. Some (function_at program globals o)) there in
+    function_there program globals what k w listed ∙ ap (λ o. Some (function_at program globals o)) there in
     let runs = first_forms_follow program (c_names globals p) layout world c_world p s m (first_there (printed_names program what) (Some p) first) admissible same separate in
     (function_at program globals (Some p), runs.0, runs.1, found, runs.2, runs.3, runs.4)

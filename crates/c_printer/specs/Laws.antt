@@ -48,7 +48,7 @@ FirstFormsFollow = (program : Program) (table : List Binder) (layout : Layout) (
 -- with the arguments under their C names
 abbrev pub FirstUnitsFollow : Type 0
 FirstUnitsFollow = (program : Program) (what : List Printing) (k : ℕ) (w : Printing) (p : Procedure) (layout : Layout) (world : World) (c_world : CWorld) (s : State) (m : Machine)
-  → is_first_unit program what ≡ true → slice_get what k ≡ Some w → slice_get program.procedures w.proc ≡ Some p
-  → IsAdmissible world p s → AreSame (naming_in program (c_names (global_names program what) p)) (λ x. 0) layout s m p.params → AreSeparate layout s
-  → (f : CFunction) × (t : State) × (n : Machine) × (slice_get (lowered program what).functions k ≡ Some f) × (run_procedure world p s ≡ Some t) × (run_c c_world f.body m ≡ Done n)
+    → is_first_unit program what ≡ true → slice_get what k ≡ Some w → slice_get program.procedures w.proc ≡ Some p
+    → IsAdmissible world p s → AreSame (naming_in program (c_names (global_names program what) p)) (λ x. 0) layout s m p.params → AreSeparate layout s
+    → (f : CFunction) × (t : State) × (n : Machine) × (slice_get (lowered program what).functions k ≡ Some f) × (run_procedure world p s ≡ Some t) × (run_c c_world f.body m ≡ Done n)
     × Agrees (naming_in program (c_names (global_names program what) p)) layout s m t n

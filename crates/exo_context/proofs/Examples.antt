@@ -1,5 +1,6 @@
 -- The laws at small procedures.
-use Rattle.std.proofs.Common.{◌≡◌, ℕ, pos, ◌+ℤ◌, ◌==◌, Bool, true, false, true≢false, ◌||◌, cond, List, [], ◌∷◌, Option, Some, None, option_map, refl, ap}
+use Rattle.std.proofs.Common.{◌≡◌, ℕ, pos, ◌+ℤ◌, ◌≤ℤ◌, ◌<ℤ◌, ◌==◌, Bool, true, false, true≢false, ◌||◌, cond, List, [], ◌∷◌, Option, Some, None, IfSome, option_map, refl, sym, ap, subst}
+use Rattle.std.proofs.Math.Path.{fun_ext}
 use Rattle.std.specs.Int.{int_wrap}
 use Rattle.std.proofs.lemmas.Int.{ints}
 use Rattle.std.proofs.Common.{arith}
@@ -7,17 +8,26 @@ use Rattle.exo_tree.specs.Tree.{Binder, I8, I32, Index, Control, Lit, Var, Add, 
 use Rattle.exo_tree.specs.Context.{Context, Here, InLoop, fill}
 use Rattle.exo_tree.specs.Places.{Main, opened}
 use Rattle.exo_meaning.specs.Value.{Value, Undefined, Number, on_two, wrap}
-use Rattle.exo_meaning.specs.Scene.{Shape, Seen, Range, then_do}
+use Rattle.exo_meaning.specs.Scene.{Scene, Shape, Seen, Range, then_do}
 use Rattle.exo_meaning.specs.State.{State, value, place, put}
-use Rattle.exo_meaning.specs.Run.{World, run, unit_world}
+use Rattle.exo_meaning.specs.Run.{World, run, step, turn, turns, unit_world}
 use Rattle.exo_meaning.specs.Inputs.{IsAdmissible, Refines, run_procedure}
 use Rattle.exo_context.specs.Scoped.{is_scoped, is_param}
 use Rattle.exo_context.specs.Substitute.{in_block}
 use Rattle.exo_context.specs.Grown.{calls_below}
-use Rattle.exo_meaning.specs.Footprint.{Writes}
+use Rattle.exo_meaning.specs.Footprint.{Writes, IsTidy}
+use Rattle.exo_meaning.specs.Orders.{exchange, Exchange}
+use Rattle.exo_meaning.specs.Nests.{IsAt}
+use Rattle.exo_meaning.proofs.Together.{turns_commute}
 use Rattle.exo_context.specs.Sorted.{MayRun}
 use Rattle.exo_context.specs.Touched.{Reading, Writing, touched, unit_modes}
+use Rattle.exo_context.specs.Fields.{HasField}
+use Rattle.exo_context.specs.UnitFields.{unit_writes}
+use Rattle.exo_context.specs.Pairs.{LeavesFields}
 use Rattle.exo_context.proofs.SameRuns.{same_runs_refine}
+use Rattle.exo_context.proofs.Fields.{fields_are_kept}
+use Rattle.exo_context.proofs.UnitFields.{unit_leaves}
+use Rattle.exo_context.proofs.TurnOrders.{turns_may_be_permuted}
 
 -- ---- a step's proof: a sum with its sides exchanged, at any place
 
@@ -177,3 +187,26 @@ fill_named = record fill_five {
 
 may_run : MayRun [] 1 [] fill_named
 may_run = record { unit = tt; procedure = record { params = refl; asserts = refl; body = refl; filled = refl; ids = refl; distinct = refl; paths = refl; template = refl } }
+
+-- ---- the turns of a loop, the other way round
+
+-- x[i] = 3
+abbrev store_three : Block
+store_three = stored 0 (Var 1 ∷ []) (Const (pos 3))
+
+no_fields : LeavesFields world store_three
+no_fields s t e = fun_ext (λ f. subst (λ o. IfSome o (HasField f s)) e (fields_are_kept world (unit_writes []) (unit_leaves (λ g. Index) []) f store_three refl s))
+
+-- turns 0 and 1 store in two cells
+turns_swap : Exchange (IsAt input) (turn 1 (run world store_three)) (pos 0) (pos 1)
+turns_swap t h =
+    let here : t ≡ record { scene = input.scene; cells = t.cells } = ap {B = State} (λ (z : Scene). record { scene = z; cells = t.cells }) h.0 in
+    subst (λ (u : State). then_do (turn 1 (run world store_three) (pos 0) u) (turn 1 (run world store_three) (pos 1)) ≡ then_do (turn 1 (run world store_three) (pos 1) u) (turn 1 (run world store_three) (pos 0))) (sym here)
+    (turns_commute (λ f. Index) 1 1 store_three store_three (pos 0) (pos 1) (record { scene = input.scene; cells = t.cells }) (subst IsTidy here h.1) refl refl ((λ u. refl), tt) ((λ u. refl), tt))
+
+-- for i in seq(0, 2): x[i] = 3
+turned : turns (turn 1 (run world store_three)) (pos 1 ∷ pos 0 ∷ []) input ≡ step world (For (binder 1) (Lit (pos 0)) (Lit (pos 2)) store_three) input
+turned =
+    let first : (pos 0 ≤ℤ pos 0) × (pos 0 <ℤ pos 2) = (omega (arith, ints), omega (arith, ints)) in
+    let second : (pos 0 ≤ℤ pos 1) × (pos 1 <ℤ pos 2) = (omega (arith, ints), omega (arith, ints)) in
+    turns_may_be_permuted world (binder 1) (Lit (pos 0)) (Lit (pos 2)) store_three input (pos 1 ∷ pos 0 ∷ []) is_admissible.tidy no_fields (exchange (first, (second, turns_swap)))

@@ -28,6 +28,7 @@ pub mod CallExchanges
 pub mod CallChanges
 pub mod UnitFootprints
 pub mod NestsWithin
+pub mod TurnOrders
 pub mod UnitFields
 pub mod Flags
 pub mod WellFormed

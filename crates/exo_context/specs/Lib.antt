@@ -15,6 +15,7 @@ pub mod Grown
 pub mod Sorted
 pub mod Touched
 pub mod NestsWithin
+pub mod TurnOrders
 pub mod UnitFields
 pub mod Flags
 pub mod WellFormed

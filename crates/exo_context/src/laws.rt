@@ -36,6 +36,7 @@ ghost use Rattle.exo_context.specs.Touched.{TurnsWithCallsCommute};
 ghost use Rattle.exo_context.specs.Touched.{PairsWithCallsCommute};
 ghost use Rattle.exo_context.specs.NestsWithin.{NestsWithinBounds};
 ghost use Rattle.exo_context.specs.NestsWithin.{NestsFromFootprints};
+ghost use Rattle.exo_context.specs.TurnOrders.{TurnsMayBePermuted};
 ghost use Rattle.exo_context.specs.UnitFields.{UnitLeaves};
 ghost use Rattle.exo_context.specs.UnitFields.{UnitForgets};
 ghost use Rattle.exo_context.specs.Flags.{FlagLaw};
@@ -222,6 +223,11 @@ pub fn nests_within_bounds()
 /// The same in a well-formed unit where what such turns touch does not clash, calls included.
 pub fn nests_from_footprints()
     ensures { NestsFromFootprints }
+{}
+
+/// The turns of one loop may be run in any order that is reached by exchanging turns within the bounds that commute.
+pub fn turns_may_be_permuted()
+    ensures { TurnsMayBePermuted }
 {}
 
 /// A call leaves the fields alone that its procedure does not write, directly or through calls.
