@@ -16,9 +16,11 @@ slice_get-at lines k line h e = slice_get_read lines (length lines) k line refl 
 pub stops : (lines : List Line) (v w : Versions) (k : ℕ) (line : Line) (why : Why) → run_lines (drop k lines) w ≡ run_lines lines v
     → k < length lines → line ≡ get_or lines k line → RefusesLine (performed line.act w) why → StopsLine lines v k why
 stops lines v w k line Memory ran h e refused = tt
-stops lines v w k line why ran h e refused =
-    (line, slice_get-at lines k line h e,
-    sym ran ∙ ap (λ l. run_lines l w) (drop-cons lines k line h ∙ ap (λ x. x ∷ drop (suc k) lines) (sym e)) ∙ ap (after line (run_lines (drop (suc k) lines))) refused)
+stops lines v w k line why ran h e refused = (
+  line,
+  slice_get-at lines k line h e,
+  sym ran ∙ ap (λ l. run_lines l w) (drop-cons lines k line h ∙ ap (λ x. x ∷ drop (suc k) lines) (sym e)) ∙ ap (after line (run_lines (drop (suc k) lines))) refused,
+)
 
 -- the line at which a schedule stops, from versions that are the same
 pub stopped-line : (lines : List Line) (v w : Versions) (k : ℕ) (line : Line) (why : Why) → (why ≡ Memory → ⊥) → v ≡ w → StopsLine lines v k why

@@ -11,9 +11,9 @@ pub returns-in-Err-clause-answer : goal.returns-in-Err-clause-answer
 returns-in-Err-clause-answer c =
     let begun = c.in_ok-session.ensures ∙ ap started c.in_ok-first.ensures in
     if-both c.refuse_line.result _ _ _ (λ reply answer cause.
-        answer ∙ ap (ended c.args.procs.now c.args.schedule.now (program c.args.unit.now))
-            (sym (stopped-line c.args.lines.now (versions c.in_ok-session.session) (started c.args.unit.now.procs) c.in-Err.k c.index-lines-k.result c.in-Err.why
-                cause begun c.in-Err.ensures.ran c.index-lines-k.is)))
+    answer ∙ ap (ended c.args.procs.now c.args.schedule.now (program c.args.unit.now))
+    (sym (stopped-line c.args.lines.now (versions c.in_ok-session.session) (started c.args.unit.now.procs) c.in-Err.k c.index-lines-k.result c.in-Err.why
+    cause begun c.in-Err.ensures.ran c.index-lines-k.is)))
     c.refuse_line.ensures.answer c.refuse_line.ensures.cause
 
 pub returns-clause-answer : goal.returns-clause-answer
@@ -22,9 +22,9 @@ returns-clause-answer c =
     let ran = ap (run_lines c.args.lines.now) (sym begun) ∙ c.in_default.ensures.ran in
     let made = c.in_ok-made.ensures ∙ ap (λ ps. record (program c.args.unit.now) { procedures = ps }) c.into_procs.ensures in
     if-both c.print.result _ _ _ (λ reply answer verdict.
-        answer
-        ∙ ap (λ l. printed c.args.procs.now (program c.in_ok-made.made) (map printing l)) c.deref.ensures.value
-        ∙ ap (λ p. printed c.args.procs.now p (map printing c.in_ok-what.what.items)) made
-        ∙ ap (printed c.args.procs.now (record (program c.args.unit.now) { procedures = c.run.new.self.procs })) c.in_ok-what.ensures
-        ∙ sym (ap (ended c.args.procs.now c.args.schedule.now (program c.args.unit.now)) ran))
+    answer
+    ∙ ap (λ l. printed c.args.procs.now (program c.in_ok-made.made) (map printing l)) c.deref.ensures.value
+    ∙ ap (λ p. printed c.args.procs.now p (map printing c.in_ok-what.what.items)) made
+    ∙ ap (printed c.args.procs.now (record (program c.args.unit.now) { procedures = c.run.new.self.procs })) c.in_ok-what.ensures
+    ∙ sym (ap (ended c.args.procs.now c.args.schedule.now (program c.args.unit.now)) ran))
     c.print.ensures.answer c.print.ensures.verdict

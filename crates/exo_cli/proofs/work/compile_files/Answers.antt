@@ -12,7 +12,7 @@ returns-in-Err-2 g c =
     let second = rw c.in-Err-2.is at c.in_ok-text-2.ensures.read in
     let ends = rw c.in_ok-text.ensures.same at second in
     second-ends (g.F.Files.told c.args.files.now) c.args.procs.now c.args.schedule.now c.in-Ok.text.items
-        (g.F.Files.faults c.args.files.now) (g.F.Files.faults c.read_text.new.files) _ _ _ first.0 first.1 c.in_ok-text.ensures.count ends
+    (g.F.Files.faults c.args.files.now) (g.F.Files.faults c.read_text.new.files) _ _ _ first.0 first.1 c.in_ok-text.ensures.count ends
 
 pub returns : goal.returns
 returns g c =
@@ -23,6 +23,6 @@ returns g c =
     let unit = subst (λ (l : List ℕ). HasBytes told c.args.procs.now l × (length l ≤ file_limit)) (sym c.deref.ensures.value) first in
     let lines = subst (λ (l : List ℕ). HasBytes told c.args.schedule.now l × (length l ≤ file_limit)) (sym c.deref-2.ensures.value) second in
     if-both c.compile.result _ _ _ (λ reply compiled verdict.
-        compiled-answers told c.args.procs.now c.args.schedule.now c.deref.result.now c.deref-2.result.now _ _ _ (plain reply)
-            unit.0 unit.1 lines.0 lines.1 compiled verdict)
+    compiled-answers told c.args.procs.now c.args.schedule.now c.deref.result.now c.deref-2.result.now _ _ _ (plain reply)
+    unit.0 unit.1 lines.0 lines.1 compiled verdict)
     c.compile.ensures.answer c.compile.ensures.verdict
