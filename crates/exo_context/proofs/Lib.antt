@@ -32,3 +32,4 @@ pub mod TurnOrders
 pub mod UnitFields
 pub mod Flags
 pub mod WellFormed
+pub mod Instances
