@@ -185,7 +185,7 @@ fill_named = record fill_five {
   body = next (For (record { id = 12; name = 108 ∷ [] }) (Lit (pos 0)) (Var 10) (stored 11 (Var 12 ∷ []) (Const (pos 5)))) end;
 }
 
-may_run : MayRun [] 1 [] fill_named
+pub may_run : MayRun [] 1 [] fill_named
 may_run = record { unit = tt; procedure = record { params = refl; asserts = refl; body = refl; filled = refl; ids = refl; distinct = refl; paths = refl; template = refl } }
 
 -- ---- the turns of a loop, the other way round

@@ -1,57 +1,43 @@
 -- Laws at a small closed world, state and procedure: `three`, that stores in each cell of x, and `fill_named`, that it may call.
-use Rattle.std.proofs.Common.{◌≡◌, ℕ, ℤ, pos, ◌==◌, Bool, true, false, true≢false, ◌||◌, cond, List, [], ◌∷◌, Option, Some, None, IfSome, option_map, refl, sym, subst, inl, inr, eqb-true}
-use Rattle.std.proofs.Common.{arith}
-use Rattle.std.proofs.lemmas.Int.{ints}
-use Rattle.exo_tree.specs.Tree.{Binder, I8, Index, Lit, Var, Condition, Lt, Le, Flag, Plus, Const, Assign, Alloc, If, For, Pass, Call, Argument, ControlArg, Window, Span, Block, end, next, Statement, TensorParam, Procedure}
-use Rattle.exo_tree.specs.Context.{Context, Here, InLoop, fill}
+use Rattle.std.proofs.Common.{◌≡◌, pos, ◌==◌, Bool, true, false, true≢false, cond, List, [], ◌∷◌, Some, None, IfSome, option_map, refl, sym, subst, eqb-true}
+use Rattle.exo_tree.specs.Tree.{I8, Index, Lit, Var, Condition, Lt, Le, Flag, Plus, Const, Assign, Alloc, If, Pass, Argument, ControlArg, Window, Span, Block, end, next, Statement, Procedure}
+use Rattle.exo_tree.specs.Context.{Here, fill}
 use Rattle.exo_meaning.specs.Value.{Number}
 use Rattle.exo_tree.specs.Places.{Main}
-use Rattle.exo_meaning.specs.Scene.{Seen, then_do}
+use Rattle.exo_meaning.specs.Scene.{Seen}
 use Rattle.exo_meaning.specs.State.{State, on_scene, with_control}
-use Rattle.exo_meaning.specs.Run.{World, run, step, call_to, kinds_of, unit_world, callees}
+use Rattle.exo_meaning.specs.Run.{run, call_to}
 use Rattle.exo_meaning.specs.Refines.{Both, StateRefined, SameScene}
-use Rattle.exo_meaning.specs.Renaming.{Renaming, re_block, re_statement, re_state}
 use Rattle.exo_meaning.specs.Laws.{HasRoots, IsKept}
-use Rattle.exo_meaning.specs.Inputs.{IsAdmissible, Refines, run_procedure}
+use Rattle.exo_meaning.specs.Inputs.{Refines, run_procedure}
 use Rattle.exo_meaning.specs.Orders.{Each}
-use Rattle.exo_meaning.specs.Units.{scope_of, field_kind, AreProcedures}
 use Rattle.exo_meaning.proofs.Windows.{none_is_some, one_value}
 use Rattle.exo_meaning.proofs.Monotone.{runs_are_monotone, data_is_apart}
 use Rattle.exo_meaning.proofs.Commute.{stores_commute}
 use Rattle.exo_meaning.proofs.Frame.{others_are_kept}
-use Rattle.exo_meaning.proofs.Renamed.{runs_rename}
-use Rattle.exo_context.specs.Context.{ComesTo, ComesToTurn, now}
+use Rattle.exo_context.specs.Context.{ComesTo, now}
 use Rattle.exo_context.specs.Sound.{IsSound, IsUnbound}
-use Rattle.exo_context.specs.Copies.{IsFree, HoldsAt, Moves}
-use Rattle.exo_context.specs.Fresh.{IsFresh}
+use Rattle.exo_context.specs.Copies.{IsFree, HoldsAt}
 use Rattle.exo_context.specs.Facts.{IsTrueAt, facts}
 use Rattle.exo_context.specs.Known.{KeepsKnown, known}
-use Rattle.exo_context.specs.Scoped.{is_scoped, is_param, HasPlainBounds}
 use Rattle.exo_context.specs.Substitute.{bound}
 use Rattle.exo_context.specs.Fields.{HasField}
 use Rattle.exo_context.specs.Live.{SameLive, refield}
 use Rattle.exo_context.specs.UnitFields.{unit_live}
-use Rattle.exo_context.specs.Grown.{calls_below}
-use Rattle.exo_context.specs.Sorted.{MayRun, Ends, IsSorted, scope_at}
-use Rattle.exo_context.specs.Touched.{IsCovered, modes_in, unit_modes, touched}
-use Rattle.exo_context.proofs.Examples.{binder, three, hole, body, stored, input, all_of_it, world, unit, fill_five, fill_named, store_three, three_commutes, is_admissible, hole_is_there, stores_swap}
+use Rattle.exo_context.proofs.Examples.{binder, three, hole, stored, input, all_of_it, world, unit, fill_five, store_three, three_commutes, is_admissible, hole_is_there, stores_swap}
 use Rattle.exo_context.proofs.Substitute.{substitution_law}
-use Rattle.exo_context.proofs.Copies.{sound_law, unbound_law, copy_law, copied_block_law}
-use Rattle.exo_context.proofs.Facts.{facts_law, steady_law}
+use Rattle.exo_context.proofs.Copies.{sound_law, unbound_law}
+use Rattle.exo_context.proofs.Facts.{facts_law}
 use Rattle.exo_context.proofs.Known.{known_law, shown_law}
 use Rattle.exo_context.proofs.Places.{opened_law}
 use Rattle.exo_context.proofs.Scoped.{scope_law}
 use Rattle.exo_context.proofs.Binders.{binders_law, fresh_law}
 use Rattle.exo_context.proofs.Chain.{chain_law}
-use Rattle.exo_context.proofs.Fresh.{fresh_copy_law}
 use Rattle.exo_context.proofs.Grown.{grown_law, grown_refines}
 use Rattle.exo_context.proofs.SameRuns.{same_runs_law, same_runs_refine}
 use Rattle.exo_context.proofs.Live.{runs_forget}
 use Rattle.exo_context.proofs.UnitFields.{unit_leaves, unit_forgets}
 use Rattle.exo_context.proofs.Flags.{flag_law}
-use Rattle.exo_context.proofs.Sorted.{fit_law, fits_at_law}
-use Rattle.exo_context.proofs.UnitFootprints.{modes_cover}
-use Rattle.exo_context.proofs.WellFormed.{well_scoped, plain_bounds, well_known, calls_are_below}
 
 -- ---- laws of runs
 
@@ -100,20 +86,20 @@ flag_is_condition = flag_law world 20 (Lt (Lit (pos 0)) (Lit (pos 1))) (guarded 
 
 -- ---- at the hole of `three`
 
-abbrev old : Block
+abbrev pub old : Block
 old = stored 0 (Var 1 ∷ []) (Plus (Const (pos 1)) (Const (pos 2)))
 
-abbrev new : Block
+abbrev pub new : Block
 new = stored 0 (Var 1 ∷ []) (Plus (Const (pos 2)) (Const (pos 1)))
 
-abbrev exchanged : Procedure
+abbrev pub exchanged : Procedure
 exchanged = record three { body = fill hole new }
 
 -- the first turn comes to it
-abbrev first : State
+abbrev pub first : State
 first = on_scene (with_control 1 (pos 0)) input
 
-comes : ComesTo world old hole input first
+pub comes : ComesTo world old hole input first
 comes = (pos 0, input, now, refl)
 
 keeps : KeepsKnown three hole
@@ -131,7 +117,7 @@ not_negative = shown_law world three old hole (Le (Lit (pos 0)) (Var 1)) keeps (
 filled_again : fill hole old ≡ three.body
 filled_again = opened_law 1 (record { branch = Main; index = 0 } ∷ record { branch = Main; index = 0 } ∷ []) three.body (record { around = hole; piece = old }) hole_is_there
 
-sound_there : IsSound first
+pub sound_there : IsSound first
 sound_there = sound_law world three old hole input first is_admissible comes
 
 seven_is_free : IsFree three hole 7
@@ -161,7 +147,7 @@ fields_not_seen : Both (SameLive (λ f. false)) (run world three.body input) (ru
 fields_not_seen = runs_forget world (unit_live []) (unit_forgets (λ f. Index) []) three.body (λ f. false) input (λ f. pos 7) (λ f k. absurd (true≢false (sym k)))
 
 -- fill(2, x[3:5])
-abbrev args : List Argument
+abbrev pub args : List Argument
 args = ControlArg (Lit (pos 2)) ∷ Window 0 (Span (Lit (pos 3)) (Lit (pos 5)) ∷ []) ∷ []
 
 fields_not_seen_by_call : Both (SameLive (λ f. false)) (call_to (unit.callees 0) args input) (call_to (unit.callees 0) args sevens)

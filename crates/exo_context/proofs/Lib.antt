@@ -33,3 +33,4 @@ pub mod UnitFields
 pub mod Flags
 pub mod WellFormed
 pub mod Instances
+pub mod UnitInstances
