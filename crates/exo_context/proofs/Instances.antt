@@ -1,10 +1,14 @@
 -- Laws at a small closed world, state and procedure: `three`, that stores in each cell of x, and `fill_named`, that it may call.
-use Rattle.std.proofs.Common.{◌≡◌, pos, ◌==◌, Bool, true, false, true≢false, cond, List, [], ◌∷◌, Some, None, IfSome, option_map, refl, sym, subst, eqb-true}
+use Rattle.std.proofs.Common.{◌≡◌, ℕ, pos, ◌==◌, Bool, true, false, true≢false, cond, List, [], ◌∷◌, Some, None, IfSome, option_map, refl, sym, subst, eqb-true, ◌||◌}
 use Rattle.exo_tree.specs.Tree.{I8, Index, Lit, Var, Condition, Lt, Le, Flag, Plus, Const, Assign, Alloc, If, Pass, Argument, ControlArg, Window, Span, Block, end, next, Statement, Procedure}
 use Rattle.exo_tree.specs.Context.{Here, fill}
 use Rattle.exo_meaning.specs.Value.{Number}
 use Rattle.exo_tree.specs.Places.{Main}
-use Rattle.exo_meaning.specs.Scene.{Seen}
+use Rattle.exo_meaning.specs.Scene.{Seen, holds}
+use Rattle.exo_meaning.specs.Unseen.{in_block as mentions}
+use Rattle.exo_context.specs.Scoped.{is_param}
+use Rattle.exo_context.proofs.Unmentioned.{unmentioned_law}
+use Rattle.exo_context.proofs.Facts.{facts_law, steady_law}
 use Rattle.exo_meaning.specs.State.{State, on_scene, with_control}
 use Rattle.exo_meaning.specs.Run.{run, call_to}
 use Rattle.exo_meaning.specs.Refines.{Both, StateRefined, SameScene}
@@ -27,7 +31,6 @@ use Rattle.exo_context.specs.UnitFields.{unit_live}
 use Rattle.exo_context.proofs.Examples.{binder, three, hole, stored, input, all_of_it, world, unit, fill_five, store_three, three_commutes, is_admissible, hole_is_there, stores_swap}
 use Rattle.exo_context.proofs.Substitute.{substitution_law}
 use Rattle.exo_context.proofs.Copies.{sound_law, unbound_law}
-use Rattle.exo_context.proofs.Facts.{facts_law}
 use Rattle.exo_context.proofs.Known.{known_law, shown_law}
 use Rattle.exo_context.proofs.Places.{opened_law}
 use Rattle.exo_context.proofs.Scoped.{scope_law}
@@ -165,3 +168,19 @@ pass_or_not : Refines world (nothing (next Pass end)) (nothing (next Pass (next 
 pass_or_not = chain_law world (nothing (next Pass end)) (nothing end) (nothing (next Pass (next Pass end))) [] [] (refl, refl) (λ s good. refl)
     (same_runs_refine world (Here end) (next Pass end) end (nothing (next Pass end)) refl (λ s u good come. refl))
     (same_runs_refine world (Here end) end (next Pass (next Pass end)) (nothing end) refl (λ s u good come. refl))
+
+-- ---- conditions that stay, and names that are not there
+
+three_is_less : holds first.scene (Lt (Lit (pos 3)) (Lit (pos 4))) ≡ holds input.scene (Lt (Lit (pos 3)) (Lit (pos 4)))
+three_is_less = steady_law world old hole input first (Lt (Lit (pos 3)) (Lit (pos 4))) refl (λ x k. absurd (true≢false (sym k))) comes
+
+nine_is_not_mentioned : mentions (λ x. x == 9) three.body ≡ false
+nine_is_not_mentioned = unmentioned_law (is_param three) (λ x. x == 9) three.body refl (λ x k. other x 0 refl (x == 0) refl k) (λ x k. bound_one x (x == 1) refl k)
+  where
+    other : (x n : ℕ) → (n == 9) ≡ false → (t : Bool) → (x == n) ≡ t → (t || false) ≡ true → (x == 9) ≡ false
+    other x n d true e k = subst (λ z. (z == 9) ≡ false) (sym (eqb-true x n e)) d
+    other x n d false e k = absurd (true≢false (sym k))
+
+    bound_one : (x : ℕ) → (t : Bool) → (x == 1) ≡ t → ((t || false) || false) ≡ true → (x == 9) ≡ false
+    bound_one x true e k = subst (λ z. (z == 9) ≡ false) (sym (eqb-true x 1 e)) refl
+    bound_one x false e k = absurd (true≢false (sym k))
