@@ -44,11 +44,11 @@ values_swap None (Some v) = refl
 values_swap (Some u) None = refl
 values_swap (Some u) (Some v) = ap Some (sum_swaps u v)
 
-abbrev stored : ℕ → List Control → Datum → Block
+abbrev pub stored : ℕ → List Control → Datum → Block
 stored x is e = next (Assign x is e) end
 
 -- the local statement, at each state
-stores_swap : (world : World) (x : ℕ) (is : List Control) (a b : Datum) (s : State) → run world (stored x is (Plus a b)) s ≡ run world (stored x is (Plus b a)) s
+pub stores_swap : (world : World) (x : ℕ) (is : List Control) (a b : Datum) (s : State) → run world (stored x is (Plus a b)) s ≡ run world (stored x is (Plus b a)) s
 stores_swap world x is a b s = ap (λ o. then_do (then_do (place s.scene x is) (λ p. then_do o (λ v. put s (λ old. v) p))) (λ t. Some t)) (values_swap (value s a) (value s b))
 
 -- and the law of contexts
@@ -57,33 +57,33 @@ commuted world c p x is a b was = same_runs_refine world c (stored x is (Plus a 
 
 -- ---- an admissible input, and both runs
 
-abbrev binder : ℕ → Binder
+abbrev pub binder : ℕ → Binder
 binder n = record { id = n; name = [] }
 
-abbrev body : Datum → Block
+abbrev pub body : Datum → Block
 body e = next (For (binder 1) (Lit (pos 0)) (Lit (pos 16)) (stored 0 (Var 1 ∷ []) e)) end
 
 -- for i in seq(0, 16): x[i] = 1 + 2
-abbrev three : Procedure
+abbrev pub three : Procedure
 three = record { name = []; template = None; params = record { binder = binder 0; kind = TensorParam I8 (Lit (pos 16) ∷ []) 0 } ∷ []; asserts = []; body = body (Plus (Const (pos 1)) (Const (pos 2))) }
 
-abbrev hole : Context
+abbrev pub hole : Context
 hole = InLoop (binder 1) (Lit (pos 0)) (Lit (pos 16)) (Here end) end
 
-three_commutes : (world : World) → Refines world three (record three { body = body (Plus (Const (pos 2)) (Const (pos 1))) }) []
+pub three_commutes : (world : World) → Refines world three (record three { body = body (Plus (Const (pos 2)) (Const (pos 1))) }) []
 three_commutes world = commuted world hole three 0 (Var 1 ∷ []) (Const (pos 1)) (Const (pos 2)) refl
 
 -- the path leads to the hole
-hole_is_there : opened 1 (record { branch = Main; index = 0 } ∷ record { branch = Main; index = 0 } ∷ []) three.body ≡ Some (record { around = hole; piece = stored 0 (Var 1 ∷ []) (Plus (Const (pos 1)) (Const (pos 2))) })
+pub hole_is_there : opened 1 (record { branch = Main; index = 0 } ∷ record { branch = Main; index = 0 } ∷ []) three.body ≡ Some (record { around = hole; piece = stored 0 (Var 1 ∷ []) (Plus (Const (pos 1)) (Const (pos 2))) })
 hole_is_there = refl
 
-abbrev shape : Shape
+abbrev pub shape : Shape
 shape = record { cell = I8; dims = pos 16 ∷ []; strides = pos 1 ∷ [] }
 
-abbrev all_of_it : Seen
+abbrev pub all_of_it : Seen
 all_of_it = record { buffer = 0; sides = Range (pos 0) (pos 16) ∷ [] }
 
-abbrev input : State
+abbrev pub input : State
 input = record {
   scene = record {
     control = λ x. pos 0;
@@ -94,10 +94,10 @@ input = record {
   cells = λ b at. Undefined;
 }
 
-abbrev world : World
+abbrev pub world : World
 world = unit_world (λ f. Index) []
 
-is_admissible : IsAdmissible world three input
+pub is_admissible : IsAdmissible world three input
 is_admissible = record {
   arguments = ((refl, refl), tt);
   no_others = λ x k. (refl, off x k, off_view x k);
@@ -144,7 +144,7 @@ substituted = refl
 -- ---- what a call touches
 
 -- def fill(n: size, w: [i8][n]): for l in seq(0, n): w[l] = 5
-abbrev fill_five : Procedure
+abbrev pub fill_five : Procedure
 fill_five = record {
   name = [];
   template = None;
@@ -153,11 +153,11 @@ fill_five = record {
   body = next (For (binder 12) (Lit (pos 0)) (Var 10) (stored 11 (Var 12 ∷ []) (Const (pos 5)))) end;
 }
 
-abbrev unit : World
+abbrev pub unit : World
 unit = unit_world (λ f. Index) (fill_five ∷ [])
 
 -- fill(2, x[3:5])
-abbrev call_it : Block
+abbrev pub call_it : Block
 call_it = next (Call 0 (ControlArg (Lit (pos 2)) ∷ Window 0 (Span (Lit (pos 3)) (Lit (pos 5)) ∷ []) ∷ [])) end
 
 its_window_is_written : unit_modes (λ f. Index) (fill_five ∷ []) 0 Writing 11 ≡ true
@@ -179,22 +179,22 @@ unfolding int_wrap
 it_fills = refl
 
 -- and the unit of that procedure alone is well formed
-abbrev fill_named : Procedure
+abbrev pub fill_named : Procedure
 fill_named = record fill_five {
   params = record { binder = record { id = 10; name = 110 ∷ [] }; kind = ControlParam Size } ∷ record { binder = record { id = 11; name = 119 ∷ [] }; kind = WindowParam I8 (Var 10 ∷ []) 0 } ∷ [];
   body = next (For (record { id = 12; name = 108 ∷ [] }) (Lit (pos 0)) (Var 10) (stored 11 (Var 12 ∷ []) (Const (pos 5)))) end;
 }
 
-may_run : MayRun [] 1 [] fill_named
+pub may_run : MayRun [] 1 [] fill_named
 may_run = record { unit = tt; procedure = record { params = refl; asserts = refl; body = refl; filled = refl; ids = refl; distinct = refl; paths = refl; template = refl } }
 
 -- ---- the turns of a loop, the other way round
 
 -- x[i] = 3
-abbrev store_three : Block
+abbrev pub store_three : Block
 store_three = stored 0 (Var 1 ∷ []) (Const (pos 3))
 
-no_fields : LeavesFields world store_three
+pub no_fields : LeavesFields world store_three
 no_fields s t e = fun_ext (λ f. subst (λ o. IfSome o (HasField f s)) e (fields_are_kept world (unit_writes []) (unit_leaves (λ g. Index) []) f store_three refl s))
 
 -- turns 0 and 1 store in two cells

@@ -32,3 +32,5 @@ pub mod TurnOrders
 pub mod UnitFields
 pub mod Flags
 pub mod WellFormed
+pub mod Instances
+pub mod UnitInstances

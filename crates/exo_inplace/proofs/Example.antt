@@ -11,11 +11,11 @@ use Rattle.exo_meaning.proofs.Windows.{none_is_some, one_value}
 use Rattle.exo_inplace.specs.CallInPlace.{bound, MayRunInPlace}
 use Rattle.exo_inplace.proofs.CallInPlace.{call_in_place}
 
-abbrev binder : ℕ → Binder
+abbrev pub binder : ℕ → Binder
 binder n = record { id = n; name = [] }
 
 -- def q(n: size, w: [i8][n]): for i in seq(0, n): w[i] = 5
-abbrev q : Procedure
+abbrev pub q : Procedure
 q = record {
   name = [];
   template = None;
@@ -24,27 +24,27 @@ q = record {
   body = next (For (binder 2) (Lit (pos 0)) (Var 0) (next (Assign 1 (Var 2 ∷ []) (Const (pos 5))) end)) end;
 }
 
-abbrev world : World
+abbrev pub world : World
 world = world_of (λ f. Index) []
 
-abbrev four : Shape
+abbrev pub four : Shape
 four = record { cell = I8; dims = pos 4 ∷ []; strides = pos 1 ∷ [] }
 
-abbrev all_of : Seen
+abbrev pub all_of : Seen
 all_of = record { buffer = 10; sides = Range (pos 0) (pos 4) ∷ [] }
 
 -- a buffer x of four cells, number 10
-abbrev s : State
+abbrev pub s : State
 s = record {
   scene = record { control = λ x. pos 0; buffers = λ b. cond (b == 10) (Some four) None; views = λ x. cond (x == 10) (Some all_of) None; fields = λ f. pos 0 };
   cells = λ b at. Undefined;
 }
 
 -- q(2, x[1:3])
-abbrev args : List Argument
+abbrev pub args : List Argument
 args = ControlArg (Lit (pos 2)) ∷ Window 10 (Span (Lit (pos 1)) (Lit (pos 3)) ∷ []) ∷ []
 
-abbrev part : Seen
+abbrev pub part : Seen
 part = record { buffer = 10; sides = Range (pos 1) (pos 2) ∷ [] }
 
 abbrev gs : List Given
@@ -60,7 +60,7 @@ not_ten x k true e = absurd (true≢false (sym (ap hidden (eqb-true x 10 e)) ∙
 given_is : all_given s.scene args ≡ Some gs
 given_is = refl
 
-may : MayRunInPlace hidden world q gs s
+pub may : MayRunInPlace hidden world q gs s
 may = record {
   sound = record { tidy = λ b e at. refl; seen = λ x z e. there x z (x == 10) e };
   names = refl;
