@@ -1,6 +1,6 @@
 // The lines of a schedule.
 use crate::commute::Operation;
-use exo_reader::text::Text;
+use exo_lexer::text::Text;
 
 /// A line that changes a version: `bind = commute_expr(of, 'target[_] = _', ..)`.
 #[derive(Drop)]

@@ -4,11 +4,11 @@ ghost use Rattle.exo_cli.specs.ScheduleForm.{act_in, behind_index, behind_string
 
 use crate::commute::Operation;
 use crate::lines::{Act, Commute, Line};
-use exo_reader::lexer::lex;
-use exo_reader::line::line_tokens;
-use exo_reader::place::Place;
-use exo_reader::text::Text;
-use exo_reader::token::{Sign, Token};
+use exo_lexer::lexer::lex;
+use exo_lexer::line::line_tokens;
+use exo_lexer::place::Place;
+use exo_lexer::text::Text;
+use exo_lexer::token::{Sign, Token};
 use std::alloc::{AllocError, Global};
 
 /// The tokens of a pattern; none where it holds a comment.

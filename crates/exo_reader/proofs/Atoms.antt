@@ -3,10 +3,10 @@ use Rattle.std.proofs.Common.{◌≡◌, ℕ, ◌+◌, ◌≤◌, List, [], ◌�
 use Rattle.phrases.specs.Phrase.{first, Taken, Begins, Refused}
 use Rattle.phrases.proofs.Phrases.{taken_rest}
 use Rattle.exo_reader.specs.Expression.{Tree, number, variable, access, negative, parens, binary, Stands, spelling, FollowsOperand, operand, Within, HasPlace, depth, nodes}
-use Rattle.exo_reader.specs.declared.token.Token.{Token}
-use Rattle.exo_reader.specs.declared.token.Token.TheVariants.{Int, Name, Sign}
-use Rattle.exo_reader.specs.declared.token.Literal.TheVariants.{Value}
-use Rattle.exo_reader.specs.declared.token.Sign.TheVariants.{Open, Close, OpenBracket, CloseBracket, Minus}
+use Rattle.exo_lexer.specs.declared.token.Token.{Token}
+use Rattle.exo_lexer.specs.declared.token.Token.TheVariants.{Int, Name, Sign}
+use Rattle.exo_lexer.specs.declared.token.Literal.TheVariants.{Value}
+use Rattle.exo_lexer.specs.declared.token.Sign.TheVariants.{Open, Close, OpenBracket, CloseBracket, Minus}
 use Rattle.exo_reader.specs.declared.expression.Room.{Room}
 use Rattle.exo_reader.proofs.Signs.{low_level, headed}
 use Rattle.exo_reader.proofs.Sizes.{depth_some, nodes_some}

@@ -6,7 +6,7 @@ use Rattle.phrases.specs.Phrase.{first, Taken, Refused}
 use Rattle.exo_reader.specs.Expression.{Tree, number, variable, access, negative, parens, binary, level_of, left_level, sign, Stands, spelling, FollowsOperand, operand, Within, depth, nodes, NoSign}
 use Rattle.exo_reader.specs.Chain.{Link, with_links, LinksAt, Extends, Begun}
 use Rattle.exo_reader.specs.declared.source.Operator.{Operator}
-use Rattle.exo_reader.specs.declared.token.Token.{Token}
+use Rattle.exo_lexer.specs.declared.token.Token.{Token}
 use Rattle.exo_reader.specs.declared.expression.Room.{Room}
 use Rattle.exo_reader.proofs.Signs.{left_low, compared_left, sign_same, follows_sign, sign_follows, follows_weaker}
 use Rattle.exo_reader.proofs.Sizes.{within_front, within_link, Leaves, Right, right_within, within_binary, nodes_some}

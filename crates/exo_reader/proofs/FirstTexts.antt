@@ -12,7 +12,7 @@ use Rattle.exo_reader.specs.FirstAnswers.{Rejects, Translates}
 use Rattle.exo_reader.specs.FirstText.{HasFirst, SpellsFirst, RefusesFirst, ReadsFirst, first_error}
 use Rattle.exo_reader.specs.declared.first.FirstError.{FirstError}
 use Rattle.exo_reader.specs.declared.first.FirstError.TheVariants.{NotBuilt, Memory}
-use Rattle.exo_reader.specs.declared.token.Token.{Token}
+use Rattle.exo_lexer.specs.declared.token.Token.{Token}
 
 -- the program of a source tree that the tokens are
 program_of : (tokens : List Token) (s : SourceProcedure) (p : Program) → IsText procedure tokens s → (has : HasFirst tokens p) → first_program s ≡ Some p

@@ -4,12 +4,6 @@ pub mod Chains
 pub mod Atoms
 pub mod Returns
 pub mod Procedures
-pub mod Strings
-pub mod Numbers
-pub mod Lines
-pub mod FirstLine
-pub mod Cuts
 pub mod Lists
 pub mod FirstPrograms
 pub mod FirstTexts
-pub mod Ascii

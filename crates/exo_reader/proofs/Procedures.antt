@@ -11,7 +11,7 @@ use Rattle.phrases.proofs.Exits.{refuses_along}
 use Rattle.phrases.proofs.Sequences.{Back, Step, step_taken, Items, items_none, items_next, items_done, items_refused, Apart, refused_exactly}
 use Rattle.phrases.proofs.Commas.{CommaApart, Commas, commas_none, commas_next, commas_refused, commas_done, commas_trailing}
 use Rattle.phrases.proofs.Joints.{Joint, now, later, both, whole_err}
-use Rattle.exo_reader.specs.Token.{a_name}
+use Rattle.exo_lexer.specs.Token.{a_name}
 use Rattle.exo_reader.specs.Fixed.{token_of}
 use Rattle.exo_reader.specs.declared.front.Fixed.{Fixed}
 use Rattle.exo_reader.specs.Expression.{Tree, number, spelling, operand}
@@ -19,11 +19,11 @@ use Rattle.exo_reader.specs.Procedure.{control_room, data_room, SourceStatement,
 use Rattle.exo_reader.specs.Views.{statement_of, parameter_of, listed}
 use Rattle.exo_reader.specs.declared.source.SourceStmt.{SourceStmt}
 use Rattle.exo_reader.specs.declared.source.SourceParam.{SourceParam}
-use Rattle.exo_reader.specs.declared.token.Token.{Token}
-use Rattle.exo_reader.specs.declared.token.Token.TheVariants.{Name, Sign, Word, NewLine, Indent, Dedent, Decorator}
-use Rattle.exo_reader.specs.declared.token.Word.TheVariants as w
-use Rattle.exo_reader.specs.declared.token.Decorator.TheVariants as d
-use Rattle.exo_reader.specs.declared.token.Sign.TheVariants.{Open, Close, OpenBracket, CloseBracket, Comma, Colon, Assign}
+use Rattle.exo_lexer.specs.declared.token.Token.{Token}
+use Rattle.exo_lexer.specs.declared.token.Token.TheVariants.{Name, Sign, Word, NewLine, Indent, Dedent, Decorator}
+use Rattle.exo_lexer.specs.declared.token.Word.TheVariants as w
+use Rattle.exo_lexer.specs.declared.token.Decorator.TheVariants as d
+use Rattle.exo_lexer.specs.declared.token.Sign.TheVariants.{Open, Close, OpenBracket, CloseBracket, Comma, Colon, Assign}
 
 -- statements
 

@@ -11,11 +11,11 @@ use Rattle.exo_reader.specs.Chain.{Begun}
 use Rattle.exo_reader.specs.declared.source.Operator.{Operator}
 use Rattle.exo_reader.specs.declared.expression.Room.{Room}
 use Rattle.exo_reader.specs.declared.expression.Measured.{Measured}
-use Rattle.exo_reader.specs.declared.token.Token.{Token}
-use Rattle.exo_reader.specs.declared.token.Token.TheVariants.{Int, Name, Sign}
-use Rattle.exo_reader.specs.declared.token.Literal.{Literal}
-use Rattle.exo_reader.specs.declared.token.Literal.TheVariants.{Value, TooLarge}
-use Rattle.exo_reader.specs.declared.token.Sign.TheVariants as s
+use Rattle.exo_lexer.specs.declared.token.Token.{Token}
+use Rattle.exo_lexer.specs.declared.token.Token.TheVariants.{Int, Name, Sign}
+use Rattle.exo_lexer.specs.declared.token.Literal.{Literal}
+use Rattle.exo_lexer.specs.declared.token.Literal.TheVariants.{Value, TooLarge}
+use Rattle.exo_lexer.specs.declared.token.Sign.TheVariants as s
 use Rattle.exo_reader.proofs.Signs.{left_same, compared_left}
 use Rattle.exo_reader.proofs.Sizes.{Right}
 use Rattle.exo_reader.proofs.Chains.{begun_of_taken, begun_next, taken_of_begun, taken_compared, refused_right, refused_first, refused_operator}

@@ -4,7 +4,7 @@ use Rattle.phrases.specs.Phrase.{first}
 use Rattle.exo_reader.specs.Expression.{level_of, left_level, sign, joins, FollowsOperand, FollowsBy}
 use Rattle.exo_reader.specs.declared.source.Operator.{Operator}
 use Rattle.exo_reader.specs.declared.source.Operator.TheVariants.{Or, And, Lt, Le, Gt, Ge, Eq, Add, Sub, Mul, Div, Mod}
-use Rattle.exo_reader.specs.declared.token.Token.{Token}
+use Rattle.exo_lexer.specs.declared.token.Token.{Token}
 
 pub joins-sign : (o : Operator) → joins (sign o) ≡ Some o
 joins-sign Or = refl

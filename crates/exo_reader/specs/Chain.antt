@@ -3,7 +3,7 @@ use Rattle.std.specs.Prelude.{◌≡◌, ℕ, suc, List, [], ◌∷◌, ◌++◌
 use Rattle.phrases.specs.Phrase.{first}
 use Rattle.exo_reader.specs.Expression.{Tree, binary, level_of, Stands, spelling, operand}
 use Rattle.exo_reader.specs.declared.source.Operator.{Operator}
-use Rattle.exo_reader.specs.declared.token.Token.{Token}
+use Rattle.exo_lexer.specs.declared.token.Token.{Token}
 use Rattle.exo_reader.specs.declared.expression.Room.{Room}
 
 -- an operator and its right side

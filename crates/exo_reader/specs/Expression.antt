@@ -3,13 +3,13 @@ use Rattle.std.specs.Prelude.{◌≡◌, ℕ, suc, ◌+◌, ◌≤◌, ◌<◌, 
 use Rattle.phrases.specs.Phrase.{first, Phrase}
 use Rattle.exo_reader.specs.declared.source.Operator.{Operator}
 use Rattle.exo_reader.specs.declared.source.Operator.TheVariants.{Or, And, Lt, Le, Gt, Ge, Eq, Add, Sub, Mul, Div, Mod}
-use Rattle.exo_reader.specs.declared.token.Literal.TheVariants.{Value}
-use Rattle.exo_reader.specs.declared.token.Sign.{Sign}
-use Rattle.exo_reader.specs.declared.token.Sign.TheVariants as s
-use Rattle.exo_reader.specs.declared.token.Word.{Word}
-use Rattle.exo_reader.specs.declared.token.Word.TheVariants as w
-use Rattle.exo_reader.specs.declared.token.Token.{Token}
-use Rattle.exo_reader.specs.declared.token.Token.TheVariants as t
+use Rattle.exo_lexer.specs.declared.token.Literal.TheVariants.{Value}
+use Rattle.exo_lexer.specs.declared.token.Sign.{Sign}
+use Rattle.exo_lexer.specs.declared.token.Sign.TheVariants as s
+use Rattle.exo_lexer.specs.declared.token.Word.{Word}
+use Rattle.exo_lexer.specs.declared.token.Word.TheVariants as w
+use Rattle.exo_lexer.specs.declared.token.Token.{Token}
+use Rattle.exo_lexer.specs.declared.token.Token.TheVariants as t
 use Rattle.exo_reader.specs.declared.expression.Room.{Room}
 
 -- an expression as it is written, without where it lies in memory

@@ -7,10 +7,10 @@ use Rattle.exo_tree.specs.PlainUnit.{program}
 use Rattle.exo_tree.specs.declared.unit.Unit as unit
 use Rattle.exo_reader.specs.Procedure.{SourceProcedure, procedure}
 use Rattle.exo_reader.specs.FirstForm.{first_program}
-use Rattle.exo_reader.specs.Layout.{lexed, token_of}
+use Rattle.exo_lexer.specs.Layout.{lexed, token_of}
 use Rattle.exo_reader.specs.declared.first.FirstError.{FirstError}
 use Rattle.exo_reader.specs.declared.first.FirstError.TheVariants.{NotBuilt, Memory}
-use Rattle.exo_reader.specs.declared.token.Token.{Token}
+use Rattle.exo_lexer.specs.declared.token.Token.{Token}
 
 -- a source tree of the form is spelled by the tokens, and has this program
 pub record HasFirst (tokens : List Token) (p : Program) : Type 0 where

@@ -1,6 +1,6 @@
 -- Tokens that carry neither a name nor a number nor a string.
-use Rattle.exo_reader.specs.declared.token.Token.{Token}
-use Rattle.exo_reader.specs.declared.token.Token.TheVariants as t
+use Rattle.exo_lexer.specs.declared.token.Token.{Token}
+use Rattle.exo_lexer.specs.declared.token.Token.TheVariants as t
 use Rattle.exo_reader.specs.declared.front.Fixed.{Fixed}
 use Rattle.exo_reader.specs.declared.front.Fixed.TheVariants.{Word, Sign, Decorator, NewLine, Indent, Dedent}
 

@@ -1,4 +1,3 @@
-pub mod Token
 pub mod Fixed
 pub mod Expression
 pub mod Chain
@@ -7,8 +6,4 @@ pub mod Reserved
 pub mod FirstForm
 pub mod FirstAnswers
 pub mod Views
-pub mod Bytes
-pub mod Quoted
-pub mod Piece
-pub mod Layout
 pub mod FirstText

@@ -5,11 +5,11 @@ use Rattle.phrases.specs.Sequence.{AllFit, spell_all}
 use Rattle.phrases.specs.Commas.{spell_more}
 use Rattle.exo_reader.specs.Expression.{Tree, spelling, operand}
 use Rattle.exo_reader.specs.declared.expression.Room.{Room}
-use Rattle.exo_reader.specs.declared.token.Token.{Token}
-use Rattle.exo_reader.specs.declared.token.Token.TheVariants.{Name, Sign, Word, NewLine, Indent, Dedent, Decorator}
-use Rattle.exo_reader.specs.declared.token.Word.TheVariants as w
-use Rattle.exo_reader.specs.declared.token.Decorator.TheVariants as d
-use Rattle.exo_reader.specs.declared.token.Sign.TheVariants.{Open, Close, OpenBracket, CloseBracket, Comma, Colon, Assign}
+use Rattle.exo_lexer.specs.declared.token.Token.{Token}
+use Rattle.exo_lexer.specs.declared.token.Token.TheVariants.{Name, Sign, Word, NewLine, Indent, Dedent, Decorator}
+use Rattle.exo_lexer.specs.declared.token.Word.TheVariants as w
+use Rattle.exo_lexer.specs.declared.token.Decorator.TheVariants as d
+use Rattle.exo_lexer.specs.declared.token.Sign.TheVariants.{Open, Close, OpenBracket, CloseBracket, Comma, Colon, Assign}
 
 -- the room of an index, a bound, a dimension or a condition
 abbrev pub control_room : Room

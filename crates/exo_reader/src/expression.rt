@@ -6,12 +6,12 @@ ghost use Rattle.phrases.specs.Answers.{Reads};
 ghost use Rattle.exo_reader.specs.Expression.{Tree, operand, negative, parens, access, binary, HasPlace, level_of, joins, joins_by_sign, joins_by_word, sign, NoSign};
 ghost use Rattle.exo_reader.specs.Views.{tree_of, IsMeasured};
 ghost use Rattle.exo_reader.specs.Chain.{Begun};
-ghost use Rattle.exo_reader.specs.declared.token.Token.{Token};
+ghost use Rattle.exo_lexer.specs.declared.token.Token.{Token};
 
 use crate::front::{Fixed, behind, expect};
 use crate::source::{Operator, SourceExpr};
-use crate::text::Text;
-use crate::token::{Literal, Sign, Token, Word, next};
+use exo_lexer::text::Text;
+use exo_lexer::token::{Literal, Sign, Token, Word, next};
 use phrases::Refusal;
 use std::alloc::{AllocError, Global};
 

@@ -13,7 +13,7 @@ ghost use Rattle.exo_reader.specs.FirstAnswers.{Rejects, Translates, IsPushed};
 
 use crate::reserved::is_reserved;
 use crate::source::{Operator, SourceExpr, SourceParam, SourceProc, SourceStmt};
-use crate::text::Text;
+use exo_lexer::text::Text;
 use exo_tree::{
     Binder, Block, Cell, Conds, Ctrl, DataExpr, Fields, Id, Indices, Lines, MemId, Memories,
     MemoryClass, Name, Param, ParamKind, Params, Proc, Procs, Stmt, Unit,

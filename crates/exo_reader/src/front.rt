@@ -4,12 +4,12 @@ ghost use Rattle.std.specs.Prelude.{◌≡◌, ◌∷◌, Some, IsTrue, ◌↔�
 ghost use Rattle.phrases.specs.Phrase.{first};
 ghost use Rattle.phrases.specs.Sequence.{exactly};
 ghost use Rattle.phrases.specs.Answers.{Reads};
-ghost use Rattle.exo_reader.specs.Token.{a_name};
+ghost use Rattle.exo_lexer.specs.Token.{a_name};
 ghost use Rattle.exo_reader.specs.Fixed.{token_of};
-ghost use Rattle.exo_reader.specs.declared.token.Token.{Token};
+ghost use Rattle.exo_lexer.specs.declared.token.Token.{Token};
 
-use crate::text::Text;
-use crate::token::{Decorator, Sign, Token, Word, next};
+use exo_lexer::text::Text;
+use exo_lexer::token::{Decorator, Sign, Token, Word, next};
 use phrases::Refusal;
 
 /// A token that carries neither a name nor a number nor a string.

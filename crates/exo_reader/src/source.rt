@@ -1,6 +1,6 @@
 // Source trees: a text as it is written, without names resolved.
 
-use crate::text::Text;
+use exo_lexer::text::Text;
 
 /// An operator between two expressions.
 #[derive(Clone, Copy, Debug, PartialEq, Eq)]

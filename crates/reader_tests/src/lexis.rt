@@ -1,9 +1,9 @@
 // Texts and their tokens.
 
-use exo_reader::lexer::lex;
-use exo_reader::place::Place;
-use exo_reader::text::Text;
-use exo_reader::token::{Literal, Token};
+use exo_lexer::lexer::lex;
+use exo_lexer::place::Place;
+use exo_lexer::text::Text;
+use exo_lexer::token::{Literal, Token};
 use std::alloc::{AllocError, Global};
 
 /// The bytes as characters.

@@ -1,7 +1,7 @@
 use Rattle.std.proofs.Common.{◌≤◌, List, length, ◌+◌, ◌-◌, ◌*◌}
 use Rattle.exo_reader.specs.Views.{tree_of, IsMeasured}
 use Rattle.exo_reader.specs.Chain.{Begun}
-use Rattle.exo_reader.specs.declared.token.Token.{Token}
+use Rattle.exo_lexer.specs.declared.token.Token.{Token}
 use Rattle.exo_reader.proofs.expression.+expressions.Given as goal
 
 abbrev pub decreases-read_access : goal.decreases-read_access

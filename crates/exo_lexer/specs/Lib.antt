@@ -1,0 +1,5 @@
+pub mod Token
+pub mod Bytes
+pub mod Quoted
+pub mod Piece
+pub mod Layout
