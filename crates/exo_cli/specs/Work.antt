@@ -28,6 +28,10 @@ AnswersTo (Compile procs schedule) files =
 abbrev pub Answers : List (List ℕ) → Folder → Answer → Type 0
 Answers words files answer = MatchOption (command_of words) (answer ≡ Misused usage) (λ command. AnswersTo command files answer)
 
+-- the words and the files have one answer
+abbrev pub AnswersAreUnique : Type 0
+AnswersAreUnique = (words : List (List ℕ)) (files : Folder) (one other : Answer) → Answers words files one → Answers words files other → one ≡ other
+
 -- the names of the files that the words name
 abbrev pub operands : List (List ℕ) → List (List ℕ)
 operands words = option_map_or files_of (command_of words) []
