@@ -276,16 +276,18 @@ extent_small p small = small_front (spelling p.extent) (token.Sign sign.CloseBra
 more_small : (more : List SourceParameter) (trailing : Bool) → are_small (spell_more parameter (token.Sign sign.Comma) more trailing) ≡ true → SmallExtents more
 unfolding SmallExtents
 more_small [] trailing small = tt
-more_small (p ∷ more) trailing small =
-    (extent_small p (small_front (parameter.spell p) (spell_more parameter (token.Sign sign.Comma) more trailing) small),
-    more_small more trailing (small_back (parameter.spell p) (spell_more parameter (token.Sign sign.Comma) more trailing) small))
+more_small (p ∷ more) trailing small = (
+  extent_small p (small_front (parameter.spell p) (spell_more parameter (token.Sign sign.Comma) more trailing) small),
+  more_small more trailing (small_back (parameter.spell p) (spell_more parameter (token.Sign sign.Comma) more trailing) small),
+)
 
 extents_small : (ps : SourceParameters) → are_small (spelling_parameters ps) ≡ true → SmallExtents (list_of ps)
 unfolding SmallExtents
 extents_small none small = tt
-extents_small (some p more trailing) small =
-    (extent_small p (small_front (parameter.spell p) (spell_more parameter (token.Sign sign.Comma) more trailing) small),
-    more_small more trailing (small_back (parameter.spell p) (spell_more parameter (token.Sign sign.Comma) more trailing) small))
+extents_small (some p more trailing) small = (
+  extent_small p (small_front (parameter.spell p) (spell_more parameter (token.Sign sign.Comma) more trailing) small),
+  more_small more trailing (small_back (parameter.spell p) (spell_more parameter (token.Sign sign.Comma) more trailing) small),
+)
 
 -- a procedure of the form, from its parts
 made_printable : (p : SourceProcedure) (q : Procedure) → are_small (procedure.spell p) ≡ true → is_first p ≡ true
