@@ -12,7 +12,8 @@ use Rattle.c_printer.specs.LoweredUnit.{Printing, name_of, printed_names}
 use Rattle.c_printer.specs.FirstForm.{is_first_form, have_own_names, is_first, is_first_unit}
 use Rattle.exo_cli.specs.Commute.{Stepped, Made, NoSuchPattern, WrongShape, commute_expr}
 use Rattle.exo_cli.specs.Lines.{Versions, Progress, Went, Refused, Done, Stopped, held, held_after, adding, changing, changing_held, emitting, performed, operator_of, after, run_lines}
-use Rattle.exo_cli.specs.ScheduleForm.{schedule_of, emits, with_emit, within, lines_in}
+use Rattle.exo_cli.specs.ScheduleForm.{schedule_of, emits, with_emit, within, lines_in, numbered}
+use Rattle.exo_lexer.specs.Layout.{lexed, place_of, token_of, end_place}
 use Rattle.exo_cli.specs.declared.commute.Operation.{Operation}
 use Rattle.exo_cli.specs.declared.lines.Commute.{Commute}
 use Rattle.exo_cli.specs.declared.lines.Act.{Act}
@@ -49,8 +50,8 @@ held_first found n [] name k e = inl e
 held_first found n (p ∷ ps) name k e = go (bytes_eq p.name name) (held_first (if bytes_eq p.name name then Some n else found) (suc n) ps name k e)
   where
     go : (b : Bool) → ((if b then Some n else found) ≡ Some k) ⊎ (k < suc n + length ps) → (found ≡ Some k) ⊎ (k < n + suc (length ps))
-    go true h = inr (⊎_elim (λ e. let same : n ≡ k = some_is e in omega arith) (λ (l : k < suc n + length ps). omega arith) h)
-    go false h = ⊎_elim (λ e. inl e) (λ (l : k < suc n + length ps). let less : k < n + suc (length ps) = omega arith in inr less) h
+    go true h = inr (⊎_elim (λ (e : Some n ≡ Some k). let same : n ≡ k = some_is e in omega arith) (λ (l : k < suc n + length ps). omega arith) h)
+    go false h = ⊎_elim (λ (e : found ≡ Some k). inl e) (λ (l : k < suc n + length ps). let less : k < n + suc (length ps) = omega arith in inr less) h
 
 -- ---- versions
 
@@ -64,12 +65,12 @@ added_built name k v u NoSuchPattern are printable e = absurd (refused_does_not_
 added_built name k v u WrongShape are printable e = absurd (refused_does_not_go _ u e)
 added_built name k v u (Made q) are printable e = subst AreBuilt (went_is _ u e) (record {
   each = λ j p there. ⊎_elim (λ h. are.each j p h) (λ h. subst IsPrintable h.1 (printable q refl)) (entry_of v.procedures q j p there);
-  named = λ n j h. longer (name_below n j (bytes_eq name n) (sym (held_more None v.names (name, length v.procedures) n) ∙ h));
-  emitted = λ i j h. longer (inr (are.emitted i j h));
+  named = λ n j h. longer j (name_below n j (bytes_eq name n) (sym (held_more None v.names (name, length v.procedures) n) ∙ h));
+  emitted = λ i j h. longer j (inr (are.emitted i j h));
 })
   where
-    longer : {j : ℕ} → (j ≡ length v.procedures) ⊎ (j < length v.procedures) → j < length (v.procedures ++ q ∷ [])
-    longer {j} h =
+    longer : (j : ℕ) → (j ≡ length v.procedures) ⊎ (j < length v.procedures) → j < length (v.procedures ++ q ∷ [])
+    longer j h =
         let size : length (v.procedures ++ q ∷ []) ≡ length v.procedures + 1 = length-append v.procedures (q ∷ []) in
         ⊎_elim (λ (same : j ≡ length v.procedures). omega arith) (λ (less : j < length v.procedures). omega arith) h
 
@@ -164,17 +165,17 @@ lines_emit (line ∷ lines) v w e = go (lines_emit lines) (performed line.act v)
     go later (Refused why) is e = absurd (stopped_is_not_done line.number (operator_of line.act) why w e)
 
 -- a schedule of the form has one line that prints at most
-few_emits : (lines : List Line) → AreRead lines → emits lines ≤ 1
-few_emits lines read = go (lines_in _) read.1
+few_within : (o : Option (List Line)) (lines : List Line) → within o ≡ Some lines → emits lines ≤ 1
+few_within None lines e = absurd (nothing_there e)
+few_within (Some found) lines e = go (nat_le (length found) 4096) (nat_le (emits found) 1) refl e
   where
-    go : (o : Option (List Line)) → within o ≡ Some lines → emits lines ≤ 1
-    go None e = absurd (nothing_there e)
-    go (Some found) e = by (nat_le (length found) 4096) (nat_le (emits found) 1) refl e
-      where
-        by : (a b : Bool) → nat_le (emits found) 1 ≡ b → (if a && b then Some found else None) ≡ Some lines → emits lines ≤ 1
-        by true true h e = subst (λ l. emits l ≤ 1) (some_is e) (leb-true (emits found) 1 h)
-        by true false h e = absurd (nothing_there e)
-        by false b h e = absurd (nothing_there e)
+    go : (a b : Bool) → nat_le (emits found) 1 ≡ b → (if a && b then Some found else None) ≡ Some lines → emits lines ≤ 1
+    go true true h e = subst (λ (l : List Line). emits l ≤ 1) (some_is e) (leb-true (emits found) 1 h)
+    go true false h e = absurd (nothing_there e)
+    go false b h e = absurd (nothing_there e)
+
+few_emits : (lines : List Line) → AreRead lines → emits lines ≤ 1
+few_emits lines read = few_within (lines_in (numbered (map token_of (lexed read.0)) (map place_of (lexed read.0) ++ end_place read.0 ∷ []))) lines read.1
 
 -- ---- what is listed
 

@@ -12,17 +12,17 @@ use Rattle.exo_cli.proofs.Kept.{refused_is_not_made, misshapen_is_not_made, made
 pub record IsChanged (o : Operation) (old new : List Statement) : Type 0 where
   pub front : List Statement
   pub target : ℕ
-  pub at : List Control
+  pub indices : List Control
   pub value : Datum
   pub back : List Statement
-  pub before : front ++ Assign target at value ∷ back ≡ old
-  pub after : front ++ Assign target at (exchanged o value) ∷ back ≡ new
+  pub before : front ++ Assign target indices value ∷ back ≡ old
+  pub after : front ++ Assign target indices (exchanged o value) ∷ back ≡ new
 
 changed_here : (o : Operation) (a : Statement) (rest ts : List Statement) → changed_before o a rest ≡ Made ts → IsChanged o (a ∷ rest) ts
 changed_here o (Assign x is e) rest ts made = go (has o e) made
   where
     go : (t : Bool) → (if t then Made (Assign x is (exchanged o e) ∷ rest) else WrongShape) ≡ Made ts → IsChanged o (Assign x is e ∷ rest) ts
-    go true h = record { front = []; target = x; at = is; value = e; back = rest; before = refl; after = made_is _ ts h }
+    go true h = record { front = []; target = x; indices = is; value = e; back = rest; before = refl; after = made_is _ ts h }
     go false h = absurd (misshapen_is_not_made ts h)
 changed_here o a rest ts made = absurd (misshapen_is_not_made ts made)
 
@@ -32,7 +32,7 @@ changed_behind o a rest ts (Made us) made later =
     record {
       front = a ∷ is.front;
       target = is.target;
-      at = is.at;
+      indices = is.indices;
       value = is.value;
       back = is.back;
       before = ap (λ l. a ∷ l) is.before;
@@ -117,18 +117,18 @@ module _ (t : Datum → Bool) where
 
   -- so it is the same of an expression with sides exchanged
   pub exchanged_same : GoesBySides → (o : Operation) (e : Datum) → Same e (exchanged o e)
-  exchanged_same by o (Const n) = refl
-  exchanged_same by o (Read x is) = refl
-  exchanged_same by o (Negated a) = by.negated (exchanged o a) ∙ exchanged_same by o a ∙ sym (by.negated a)
-  exchanged_same by o (Relu a) = by.relu (exchanged o a) ∙ exchanged_same by o a ∙ sym (by.relu a)
-  exchanged_same by Sum (Plus a b) = sides_same Plus by.plus a b
-  exchanged_same by Product (Plus a b) = pair_same (has Product a) Plus by.plus a b (exchanged Product a) (exchanged Product b) (exchanged_same by Product a) (exchanged_same by Product b)
-  exchanged_same by o (Minus a b) = pair_same (has o a) Minus by.minus a b (exchanged o a) (exchanged o b) (exchanged_same by o a) (exchanged_same by o b)
-  exchanged_same by Sum (Times a b) = pair_same (has Sum a) Times by.times a b (exchanged Sum a) (exchanged Sum b) (exchanged_same by Sum a) (exchanged_same by Sum b)
-  exchanged_same by Product (Times a b) = sides_same Times by.times a b
-  exchanged_same by o (Select a b c d) =
-      four_same Select by.all_four by.select (has o a) (has o b) (has o c) a b c d (exchanged o a) (exchanged o b) (exchanged o c) (exchanged o d)
-      (exchanged_same by o a) (exchanged_same by o b) (exchanged_same by o c) (exchanged_same by o d)
+  exchanged_same sides o (Const n) = refl
+  exchanged_same sides o (Read x is) = refl
+  exchanged_same sides o (Negated a) = sides.negated (exchanged o a) ∙ exchanged_same sides o a ∙ sym (sides.negated a)
+  exchanged_same sides o (Relu a) = sides.relu (exchanged o a) ∙ exchanged_same sides o a ∙ sym (sides.relu a)
+  exchanged_same sides Sum (Plus a b) = sides_same Plus sides.plus a b
+  exchanged_same sides Product (Plus a b) = pair_same (has Product a) Plus sides.plus a b (exchanged Product a) (exchanged Product b) (exchanged_same sides Product a) (exchanged_same sides Product b)
+  exchanged_same sides o (Minus a b) = pair_same (has o a) Minus sides.minus a b (exchanged o a) (exchanged o b) (exchanged_same sides o a) (exchanged_same sides o b)
+  exchanged_same sides Sum (Times a b) = pair_same (has Sum a) Times sides.times a b (exchanged Sum a) (exchanged Sum b) (exchanged_same sides Sum a) (exchanged_same sides Sum b)
+  exchanged_same sides Product (Times a b) = sides_same Times sides.times a b
+  exchanged_same sides o (Select a b c d) =
+      four_same Select sides.all_four sides.select (has o a) (has o b) (has o c) a b c d (exchanged o a) (exchanged o b) (exchanged o c) (exchanged o d)
+      (exchanged_same sides o a) (exchanged_same sides o b) (exchanged_same sides o c) (exchanged_same sides o d)
 
 -- ---- the first form
 
@@ -152,12 +152,12 @@ first_block_same ps (c ∷ front) a b back same = ap (λ t. is_first_statement p
 pub changed_first : (ps : List Param) (o : Operation) (old new : List Statement) → IsChanged o old new → is_first_block ps (block new) ≡ is_first_block ps (block old)
 changed_first ps o old new c =
     ap (λ l. is_first_block ps (block l)) (sym c.after)
-    ∙ first_block_same ps c.front (Assign c.target c.at c.value) (Assign c.target c.at (exchanged o c.value)) c.back (ap (λ t. is_first_access ps c.target c.at && t) (first_datum_same ps o c.value))
+    ∙ first_block_same ps c.front (Assign c.target c.indices c.value) (Assign c.target c.indices (exchanged o c.value)) c.back (ap (λ t. is_first_access ps c.target c.indices && t) (first_datum_same ps o c.value))
     ∙ ap (λ l. is_first_block ps (block l)) c.before
 
 pub commuted_first : (p q : Procedure) (x : List ℕ) (o : Operation) → commute_expr p x o ≡ Made q → is_first_form q ≡ is_first_form p
 commuted_first p q x o made =
-    let has = commuted_body p q x o made in
-    ap is_first_form (sym has.is)
-    ∙ ap (λ t. are_first_params p.params && t && is_nothing p.asserts && is_none p.template) (changed_first p.params o has.old has.new has.changed)
-    ∙ ap (λ b. are_first_params p.params && is_first_block p.params b && is_nothing p.asserts && is_none p.template) has.body
+    let c = commuted_body p q x o made in
+    ap is_first_form (sym c.is)
+    ∙ ap (λ t. are_first_params p.params && t && is_nothing p.asserts && is_none p.template) (changed_first p.params o c.old c.new c.changed)
+    ∙ ap (λ b. are_first_params p.params && is_first_block p.params b && is_nothing p.asserts && is_none p.template) c.body

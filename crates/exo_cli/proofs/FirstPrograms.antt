@@ -51,15 +51,18 @@ both_there f (Some a) (Some b) c e = record { left = a; right = b; has_left = re
 -- ---- parameters
 
 -- the parameter of that number, as it is written
+abbrev written : ℕ → SourceParameter → Param
+written id p = record { binder = record { id = id; name = p.name }; kind = tensor (literal_of p.extent) }
+
 record IsTaken (id : ℕ) (p : SourceParameter) (q : Param) : Type 0 where
-  is : record { binder = record { id = id; name = p.name }; kind = tensor (literal_of p.extent) } ≡ q
+  is : written id p ≡ q
   some_cells : nat_lt 0 (literal_of p.extent) ≡ true
   free : is_free p.name ≡ true
 
 taken : (id : ℕ) (p : SourceParameter) (q : Param) → first_param id p ≡ Some q → IsTaken id p q
 taken id p q e = go (is_first_param p) refl e
   where
-    go : (t : Bool) → is_first_param p ≡ t → (if t then Some (record { binder = record { id = id; name = p.name }; kind = tensor (literal_of p.extent) }) else None) ≡ Some q → IsTaken id p q
+    go : (t : Bool) → is_first_param p ≡ t → (if t then Some (written id p) else None) ≡ Some q → IsTaken id p q
     go true h e =
         let rest = and_parts (nat_lt 0 (literal_of p.extent)) (is_free p.name) (and_parts (bytes_eq p.kind (codes "i32")) (nat_lt 0 (literal_of p.extent) && is_free p.name) h).1 in
         record { is = some_is e; some_cells = rest.0; free = rest.1 }
@@ -181,15 +184,12 @@ cell_there id (p ∷ more) qs x k n e found =
     let parts = both_there ◌∷◌ (first_param id p) (first_params (id + 1) more) qs e in
     let one = taken id p parts.left parts.has_left in
     subst (λ l. has_cell l n (pos k) ≡ true) parts.is
-    (subst (λ q. has_cell (q ∷ parts.right) n (pos k) ≡ true) one.is
+    (subst (λ (q : Param). has_cell (q ∷ parts.right) n (pos k) ≡ true) one.is
     (go (bytes_eq p.name x) (nat_lt k (literal_of p.extent)) refl parts.right (λ found. cell_there (id + 1) more parts.right x k n parts.has_right found) (λ found. found_from (id + 1) more x k n found) found))
   where
-    own : Param
-    own = record { binder = record { id = id; name = p.name }; kind = tensor (literal_of p.extent) }
-
     go : (named there : Bool) → nat_lt k (literal_of p.extent) ≡ there → (rest : List Param) → (cell_in (id + 1) more x k ≡ Some n → has_cell rest n (pos k) ≡ true) → (cell_in (id + 1) more x k ≡ Some n → id + 1 ≤ n)
         → (if named then (if there then Some id else None) else cell_in (id + 1) more x k) ≡ Some n
-        → has_cell (record { binder = record { id = id; name = p.name }; kind = tensor (literal_of p.extent) } ∷ rest) n (pos k) ≡ true
+        → has_cell (written id p ∷ rest) n (pos k) ≡ true
     go true true h rest later above found =
         let same : n ≡ id = sym (some_is found) in
         ap (λ t. if t then (int_le (pos 0) (pos k) && int_lt (pos k) (pos (literal_of p.extent))) else has_cell rest n (pos k)) (eq-eqb n id same) ∙ within k (literal_of p.extent) h
@@ -309,7 +309,7 @@ made_printable p q small first e =
           (and_from (are_first_params parts.left) (is_first_block parts.left (block parts.right)) (params_first 0 (list_of p.params) parts.left extents parts.has_left)
           (body_first (list_of p.params) parts.left parts.has_left p.body parts.right body_small parts.has_right)) refl) refl;
       no_word = free_of_reserved p.name own.0;
-      names = subst (λ names. (are_free (p.name ∷ []) names && are_distinct names) ≡ true) (sym (params_names 0 (list_of p.params) parts.left parts.has_left))
+      names = subst (λ (names : List Name). (are_free (p.name ∷ []) names && are_distinct names) ≡ true) (sym (params_names 0 (list_of p.params) parts.left parts.has_left))
           (and_from (are_free (p.name ∷ []) (source_names (list_of p.params))) (are_distinct (source_names (list_of p.params)))
           (names_free p.name 0 (list_of p.params) parts.left parts.has_left (not-true (is_named (list_of p.params) p.name) apart.0)) (names_distinct (list_of p.params) apart.1));
     })
@@ -329,10 +329,13 @@ pub record HasOne (program : Program) : Type 0 where
   pub only : program.procedures ≡ one ∷ []
   pub printable : IsPrintable one
 
+abbrev alone : Procedure → Program
+alone p = record { procedures = p ∷ []; fields = []; memories = dram ∷ [] }
+
 pub first_has_one : (tokens : List Token) (program : Program) → are_small tokens ≡ true → HasFirst tokens program → HasOne program
 first_has_one tokens program small has = go (first_procedure has.source) refl has.is
   where
-    go : (o : Option Procedure) → first_procedure has.source ≡ o → option_map (λ (p : Procedure). record { procedures = p ∷ []; fields = []; memories = dram ∷ [] }) o ≡ Some program → HasOne program
+    go : (o : Option Procedure) → first_procedure has.source ≡ o → option_map alone o ≡ Some program → HasOne program
     go None h e = absurd (nothing_there e)
     go (Some q) h e = record {
       one = q;

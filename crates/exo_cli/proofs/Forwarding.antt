@@ -100,10 +100,10 @@ module _ (o : Operation) where
 
   changed_images : (path : Path) (old new : List Statement) → IsChanged o old new → Images (statement_at path (block old)) (statement_at path (block new))
   changed_images path old new c =
-      let images = body_images path (opened_in 1 path (block (c.front ++ Assign c.target c.at c.value ∷ c.back))) (opened_in 1 path (block (c.front ++ Assign c.target c.at (exchanged o c.value) ∷ c.back)))
-      (opened_images path c.front c.target c.at c.value c.back) in
+      let images = body_images path (opened_in 1 path (block (c.front ++ Assign c.target c.indices c.value ∷ c.back))) (opened_in 1 path (block (c.front ++ Assign c.target c.indices (exchanged o c.value) ∷ c.back)))
+      (opened_images path c.front c.target c.indices c.value c.back) in
       subst (λ l. Images (statement_at path (block l)) (statement_at path (block new))) c.before
-      (subst (λ l. Images (statement_at path (block (c.front ++ Assign c.target c.at c.value ∷ c.back))) (statement_at path (block l))) c.after images)
+      (subst (λ l. Images (statement_at path (block (c.front ++ Assign c.target c.indices c.value ∷ c.back))) (statement_at path (block l))) c.after images)
 
 pub commuted_forwards : CommutedForwards
 commuted_forwards p q x o made = record {
@@ -113,5 +113,5 @@ commuted_forwards p q x o made = record {
   where
     go : HasBody o p q → (path to : Path) (a : Statement) → statement_at path p.body ≡ Some a → path ≡ to → (b : Statement) × (statement_at to q.body ≡ Some b) × IsCommuted o a b
     go has path to a there same =
-        let found = changed_images o path has.old has.new has.changed a (ap (statement_at path) has.body ∙ there) in
-        (found.0, ap (λ (r : Path). statement_at r q.body) (sym same) ∙ ap (λ (r : Procedure). statement_at path r.body) (sym has.is) ∙ found.1, found.2)
+        let new = changed_images o path has.old has.new has.changed a (ap (statement_at path) has.body ∙ there) in
+        (new.0, ap (λ (r : Path). statement_at r q.body) (sym same) ∙ ap (λ (r : Procedure). statement_at path r.body) (sym has.is) ∙ new.1, new.2)

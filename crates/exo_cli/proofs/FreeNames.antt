@@ -17,7 +17,7 @@ begins_alike (a ∷ p) (b ∷ x) = go (a == b) (begins_alike p x)
     go false same = refl
 
 own_alike : (x : List ℕ) → printer.is_own x ≡ reader.is_own x
-own_alike x = ap₂ ◌||◌ (begins_alike (codes "_") x) (begins_alike (codes "exo_") x)
+own_alike x = ap₂ (λ a b. a || b) (begins_alike (codes "_") x) (begins_alike (codes "exo_") x)
 
 each_reserved : List (List ℕ) → Bool
 each_reserved [] = true

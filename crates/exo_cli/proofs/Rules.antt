@@ -61,7 +61,7 @@ changed_ids o p q has =
     let ids = map (λ (r : Param). r.binder.id) p.params in
     ap bound_ids (sym has.is)
     ∙ ap (λ l. ids ++ binders (block l)) (sym c.after)
-    ∙ ap (λ l. ids ++ l) (binders_same c.target c.at c.back c.value (exchanged o c.value) c.front)
+    ∙ ap (λ l. ids ++ l) (binders_same c.target c.indices c.back c.value (exchanged o c.value) c.front)
     ∙ ap (λ l. ids ++ binders (block l)) c.before
     ∙ ap (λ b. ids ++ binders b) has.body
 
@@ -71,7 +71,7 @@ of_body : (T : Block → Bool) (o : Operation) (p q : Procedure) → (has : HasB
     → T (block has.new) ≡ T p.body
 of_body T o p q has same =
     let c = has.changed in
-    ap (λ l. T (block l)) (sym c.after) ∙ same c.front c.target c.at c.back c.value ∙ ap (λ l. T (block l)) c.before ∙ ap T has.body
+    ap (λ l. T (block l)) (sym c.after) ∙ same c.front c.target c.indices c.back c.value ∙ ap (λ l. T (block l)) c.before ∙ ap T has.body
 
 changed_procedure : (fields : ℕ → Option Kind) (memories : ℕ) (table : ℕ → Option Callee) (o : Operation) (p q : Procedure) → HasBody o p q
     → IsProcedure fields memories table p → IsProcedure fields memories table q
