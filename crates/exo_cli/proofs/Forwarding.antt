@@ -91,7 +91,7 @@ module _ (o : Operation) where
 
   -- the first step of a path goes into the body
   body_images : (path : Path) (one other : Option Opened) → Images (found one) (found other) → Images (found (from_body path one)) (found (from_body path other))
-  body_images [] one other images = images
+  body_images [] one other images = λ a h. absurd (nothing_there h)
   body_images (s ∷ path) one other images = go s.branch
     where
       go : (branch : Branch) → Images (found (elim branch [ Main ↦ one | Else ↦ None ])) (found (elim branch [ Main ↦ other | Else ↦ None ]))

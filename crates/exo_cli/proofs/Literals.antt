@@ -6,7 +6,7 @@ use Rattle.std.proofs.lemmas.Bool.{and_parts, and_from}
 use Rattle.exo_lexer.specs.Bytes.{begins_name, goes_on_name, is_quote, is_printable}
 use Rattle.exo_lexer.specs.Quoted.{quoted}
 use Rattle.exo_lexer.specs.Piece.{word_of, decorator_of, sign_of, sign_with_equals, decimal, literal, string_piece, string_ending, word_token, name_token, name_piece, decorated, decorator_piece, digits_piece, literal_piece, lone_piece, longer_piece, sign_piece, piece_of}
-use Rattle.exo_lexer.specs.Layout.{at, put, token_of, lines, tokens_in, is_fault, up_to_fault, line_tokens, brackets_after, is_import, innermost, still_open, blocks_at, indentation, is_foreign, line_end, with_end, begun, laid, text_end, layout, end_place, lexed}
+use Rattle.exo_lexer.specs.Layout.{at, put, token_of, lines, tokens_in, is_fault, up_to_fault, line_tokens, brackets_after, is_import, innermost, still_open, blocks_at, indentation, is_foreign, line_end, with_end, Laid, begun, laid, text_end, layout, end_place, lexed}
 use Rattle.exo_lexer.specs.declared.token.Literal.{Literal}
 use Rattle.exo_lexer.specs.declared.token.Literal.TheVariants.{Value, TooLarge}
 use Rattle.exo_lexer.specs.declared.token.Token.{Token}
@@ -173,26 +173,30 @@ small_indentation line column blocks = go (nat_lt (innermost blocks) column) (na
     go false true = small_more (length blocks - length (still_open column blocks)) (put (at line 1) token.Dedent) refl
     go false false = refl
 
+-- of what a line gives
+abbrev laid_small : Laid → Bool
+laid_small l = all_small l.placed
+
 small_begun : (blocks : List ℕ) (end : Place) (ps : List Placed) → all_small ps ≡ true → all_small (begun blocks end ps).placed ≡ true
 small_begun blocks end [] h = refl
 small_begun blocks end (p ∷ more) h = go (is_foreign p.token)
   where
-    go : (b : Bool) → all_small (
+    go : (b : Bool) → laid_small (
         if b then record { placed = p ∷ more; blocks = blocks; brackets = 0 }
         else record {
           placed = indentation p.place.line p.place.column blocks ++ with_end 0 end (p ∷ more);
           blocks = blocks_at p.place.column blocks;
           brackets = brackets_after 0 (p ∷ more);
-        }).placed ≡ true
+        }) ≡ true
     go true = h
     go false = small_join (indentation p.place.line p.place.column blocks) (with_end 0 end (p ∷ more)) (small_indentation p.place.line p.place.column blocks) (small_ended 0 end (p ∷ more) h)
 
 small_laid : (line : ℕ) (blocks : List ℕ) (brackets : ℕ) (bytes : List ℕ) → all_small (laid line blocks brackets bytes).placed ≡ true
 small_laid line blocks zero bytes = go (is_import bytes)
   where
-    go : (b : Bool) → all_small (
+    go : (b : Bool) → laid_small (
         if b then record { placed = []; blocks = blocks; brackets = 0 }
-        else begun blocks (at line (length bytes + 1)) (line_tokens line bytes)).placed ≡ true
+        else begun blocks (at line (length bytes + 1)) (line_tokens line bytes)) ≡ true
     go true = refl
     go false = small_begun blocks (at line (length bytes + 1)) (line_tokens line bytes) (small_line line bytes)
 small_laid line blocks (suc n) bytes = small_ended (suc n) (at line (length bytes + 1)) (line_tokens line bytes) (small_line line bytes)
