@@ -1,18 +1,18 @@
 -- Along a schedule each version is of the form that is printed, and names and prints stand for versions that are there.
-use Rattle.std.proofs.Common.{◌≡◌, ◌⊎◌, inl, inr, ⊎_elim, ℕ, zero, suc, ◌+◌, ◌<◌, ◌≤◌, List, [], ◌∷◌, ◌++◌, length, map, Option, Some, None, Bool, true, false, not, ◌&&◌, ◌||◌, if◌then◌else◌, nat_le, refl, sym, ap, ap₂, ◌∙◌, subst, true≢false, arith}
-use Rattle.std.specs.Prelude.{slice_get, slice_index, bytes_eq, option_map}
-use Rattle.std.proofs.lemmas.Bool.{and_parts, and_from, leb-true, not_from_false, or_from}
+use Rattle.std.proofs.Common.{◌≡◌, ◌⊎◌, inl, inr, ⊎_elim, ℕ, zero, suc, ◌+◌, ◌<◌, ◌≤◌, List, [], ◌∷◌, ◌++◌, length, map, Option, Some, None, Bool, true, false, not, ◌&&◌, if◌then◌else◌, nat_le, refl, sym, ap, ap₂, ◌∙◌, subst, arith}
+use Rattle.std.specs.Prelude.{slice_get, bytes_eq, option_map}
+use Rattle.std.proofs.lemmas.Bool.{and_from, leb-true, not_from_false}
 use Rattle.std.proofs.lemmas.List.{length-append, length-map}
-use Rattle.std.proofs.lemmas.Option.{slice_get_within, slice_get-get_or, slice_get-map}
+use Rattle.std.proofs.lemmas.Option.{slice_get-map}
 use Rattle.exo_tree.specs.Tree.{Procedure, Program}
-use Rattle.exo_reader.specs.FirstText.{HasFirst, tokens_of}
+use Rattle.exo_reader.specs.FirstText.{tokens_of}
 use Rattle.c_printer.specs.CTree.{Name}
 use Rattle.c_printer.specs.Names.{is_word}
-use Rattle.c_printer.specs.LoweredUnit.{Printing, name_of, printed_names}
+use Rattle.c_printer.specs.LoweredUnit.{Printing, name_of}
 use Rattle.c_printer.specs.FirstForm.{is_first_form, have_own_names, is_first, is_first_unit}
 use Rattle.exo_cli.specs.Commute.{Stepped, Made, NoSuchPattern, WrongShape, commute_expr}
-use Rattle.exo_cli.specs.Lines.{Versions, Progress, Went, Refused, Done, Stopped, held, held_after, adding, changing, changing_held, emitting, performed, operator_of, after, run_lines}
-use Rattle.exo_cli.specs.ScheduleForm.{schedule_of, emits, with_emit, within, lines_in, numbered}
+use Rattle.exo_cli.specs.Lines.{Versions, Progress, Went, Refused, Done, held, held_after, adding, changing, changing_held, emitting, performed, operator_of, after, run_lines}
+use Rattle.exo_cli.specs.ScheduleForm.{emits, with_emit, within, lines_in, numbered}
 use Rattle.exo_lexer.specs.Layout.{lexed, place_of, token_of, end_place}
 use Rattle.exo_cli.specs.declared.commute.Operation.{Operation}
 use Rattle.exo_cli.specs.declared.lines.Commute.{Commute}
@@ -20,7 +20,6 @@ use Rattle.exo_cli.specs.declared.lines.Act.{Act}
 use Rattle.exo_cli.specs.declared.lines.Act.TheVariants as act
 use Rattle.exo_cli.specs.declared.lines.Line.{Line}
 use Rattle.exo_cli.specs.Compiled.{started, names_from, printing_of, printings, with_versions}
-use Rattle.exo_cli.specs.Kept.{IsVersionOf}
 use Rattle.exo_cli.specs.Built.{IsRead, AreRead, AcceptedIsBuilt}
 use Rattle.exo_cli.proofs.Kept.{nothing_there, some_is, went_is, refused_does_not_go, stopped_is_not_done, entry_of, commuted_runs_alike}
 use Rattle.exo_cli.proofs.Literals.{small_text}

@@ -1,7 +1,6 @@
 -- The statements that commute_expr leaves, from those before: one assignment is another one.
-use Rattle.std.proofs.Common.{◌≡◌, ℕ, zero, suc, List, [], ◌∷◌, ◌++◌, Option, Some, None, option_map, Bool, true, false, ◌&&◌, ◌||◌, if◌then◌else◌, refl, sym, ap, ap₂, ◌∙◌, subst}
-use Rattle.std.proofs.lemmas.Bool.{and_parts, and_from}
-use Rattle.exo_tree.specs.Tree.{Control, Datum, Const, Read, Negated, Relu, Plus, Minus, Times, Select, Statement, Assign, Reduce, Config, Pass, If, For, Alloc, View, Call, Block, end, next, block, statements, Param, Procedure}
+use Rattle.std.proofs.Common.{◌≡◌, ℕ, List, [], ◌∷◌, ◌++◌, Option, Some, None, Bool, true, false, ◌&&◌, if◌then◌else◌, refl, sym, ap, ◌∙◌}
+use Rattle.exo_tree.specs.Tree.{Control, Datum, Const, Read, Negated, Relu, Plus, Minus, Times, Select, Statement, Assign, block, statements, Param, Procedure}
 use Rattle.c_printer.specs.FirstForm.{is_first_access, is_first_datum, is_first_statement, is_first_block, are_first_params, is_first_form, is_nothing, is_none}
 use Rattle.exo_cli.specs.Commute.{Stepped, Made, NoSuchPattern, WrongShape, has, exchanged, assigns, changed_before, behind, commuted, parameter_of, with_body, commuted_at, commute_expr}
 use Rattle.exo_cli.specs.declared.commute.Operation.{Operation}

@@ -1,11 +1,11 @@
 -- The procedure that a text of the first form spells is of the form that is printed.
-use Rattle.std.proofs.Common.{◌≡◌, ℕ, zero, suc, ◌+◌, ◌≤◌, List, [], ◌∷◌, ◌++◌, Option, Some, None, option_map, Bool, true, false, not, ◌&&◌, ◌||◌, ◌==◌, if◌then◌else◌, nat_lt, nat_le, length, map, codes, pos, refl, sym, ap, ◌∙◌, subst, true≢false, arith, eq-eqb}
-use Rattle.std.specs.Prelude.{int_le, int_lt, bytes_eq, slice_get}
+use Rattle.std.proofs.Common.{◌≡◌, ℕ, ◌+◌, ◌≤◌, List, [], ◌∷◌, ◌++◌, Option, Some, None, option_map, Bool, true, false, not, ◌&&◌, ◌||◌, if◌then◌else◌, nat_lt, nat_le, length, codes, pos, refl, sym, ap, ◌∙◌, subst, true≢false, arith, eq-eqb}
+use Rattle.std.specs.Prelude.{int_le, int_lt, bytes_eq}
 use Rattle.std.proofs.lemmas.Int.{ints}
 use Rattle.std.proofs.lemmas.Bool.{and_parts, and_from, not-true, not_from_false, or_from, ne_eqb}
 use Rattle.phrases.specs.Sequence.{spell_all}
 use Rattle.phrases.specs.Commas.{spell_more}
-use Rattle.exo_tree.specs.Tree.{I32, Lit, Datum, Const, Read, Negated, Plus, Minus, Times, Statement, Assign, Param, Procedure, Program, block}
+use Rattle.exo_tree.specs.Tree.{Datum, Negated, Plus, Minus, Times, Statement, Param, Procedure, Program, block}
 use Rattle.exo_lexer.specs.declared.token.Token.{Token}
 use Rattle.exo_lexer.specs.declared.token.Sign.TheVariants as sign
 use Rattle.exo_lexer.specs.declared.token.Token.TheVariants as token
@@ -15,7 +15,7 @@ use Rattle.exo_reader.specs.Expression.{Tree, number, variable, access, negative
 use Rattle.exo_reader.specs.Expression as expression
 use Rattle.exo_reader.specs.Procedure.{SourceStatement, pass, assign, SourceParameter, SourceParameters, none, some, SourceProcedure, statement, parameter, spelling_parameters, procedure}
 use Rattle.exo_reader.specs.Reserved.{is_reserved}
-use Rattle.exo_reader.specs.FirstForm.{both, literal_of, cell_in, cell_at, index_of, read_of, joined, first_datum, assign_of, first_statement, first_body, is_plain, is_free, tensor, is_first_param, first_param, first_params, is_named, are_different, list_of, is_first, dram, first_procedure, first_program}
+use Rattle.exo_reader.specs.FirstForm.{both, literal_of, cell_in, cell_at, index_of, read_of, joined, first_datum, assign_of, first_statement, first_body, is_plain, is_free, tensor, is_first_param, first_param, first_params, is_named, are_different, list_of, is_first, dram, first_procedure}
 use Rattle.exo_reader.specs.FirstText.{HasFirst}
 use Rattle.c_printer.specs.CTree.{Name}
 use Rattle.c_printer.specs.Machine.{same_name}

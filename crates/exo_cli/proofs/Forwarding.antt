@@ -1,12 +1,12 @@
 -- The statements of a version stand where they stood.
-use Rattle.std.proofs.Common.{◌≡◌, ◌⊎◌, inl, inr, ℕ, zero, suc, List, [], ◌∷◌, ◌++◌, Option, Some, None, option_map, refl, sym, ap, ◌∙◌, subst}
+use Rattle.std.proofs.Common.{◌≡◌, inl, inr, ℕ, zero, suc, List, [], ◌∷◌, ◌++◌, Option, Some, None, option_map, refl, sym, ap, ◌∙◌, subst}
 use Rattle.std.specs.Prelude.{option_and_then}
-use Rattle.exo_tree.specs.Tree.{Control, Datum, Statement, Assign, Reduce, Config, Pass, If, For, Alloc, View, Call, Block, end, next, block, Procedure}
+use Rattle.exo_tree.specs.Tree.{Control, Datum, Statement, Assign, Reduce, Config, Pass, If, For, Alloc, View, Call, Block, next, block, Procedure}
 use Rattle.exo_tree.specs.Context.{Context, Here, After, InLoop, InThen, InElse}
-use Rattle.exo_tree.specs.Places.{Branch, Main, Else, Step, Path, Opened, parted, past, into, opened_in, from_body, opened, first_of, statement_at}
-use Rattle.exo_cli.specs.Commute.{Made, commute_expr, exchanged}
+use Rattle.exo_tree.specs.Places.{Branch, Main, Else, Path, Opened, parted, past, into, opened_in, from_body, first_of, statement_at}
+use Rattle.exo_cli.specs.Commute.{exchanged}
 use Rattle.exo_cli.specs.declared.commute.Operation.{Operation}
-use Rattle.exo_cli.specs.Moves.{Forwards, commute_moves, IsCommuted, CommutedForwards}
+use Rattle.exo_cli.specs.Moves.{IsCommuted, CommutedForwards}
 use Rattle.exo_cli.proofs.Kept.{nothing_there, some_is}
 use Rattle.exo_cli.proofs.Changed.{IsChanged, HasBody, commuted_body}
 

@@ -1,5 +1,5 @@
 -- A name that is free in the first form of units is one that C keeps.
-use Rattle.std.proofs.Common.{◌≡◌, ℕ, List, [], ◌∷◌, Bool, true, false, ◌&&◌, ◌||◌, not, ◌==◌, if◌then◌else◌, codes, refl, sym, ap₂, ◌∙◌, subst, true≢false, ⊎_elim}
+use Rattle.std.proofs.Common.{◌≡◌, ℕ, List, [], ◌∷◌, Bool, true, false, ◌&&◌, ◌||◌, ◌==◌, if◌then◌else◌, codes, refl, sym, ap₂, ◌∙◌, subst, true≢false, ⊎_elim}
 use Rattle.std.specs.Prelude.{bytes_eq}
 use Rattle.std.specs.Cmp.Lexicographic.{bytes_decides}
 use Rattle.std.proofs.lemmas.Bool.{and_parts, or_cases, false_from_ne_true}

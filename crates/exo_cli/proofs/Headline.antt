@@ -1,5 +1,5 @@
 -- What stands behind the C that is printed.
-use Rattle.std.proofs.Common.{◌≡◌, ◌≢◌, MatchBool, MatchOption, IfSome, nat_lt, length, codes, ⊎_elim, ℕ, zero, suc, true, false, true≢false, Bool, List, [], ◌∷◌, slice_get, Option, Some, None, option_map, refl, sym, ap, ◌∙◌, subst, if◌then◌else◌}
+use Rattle.std.proofs.Common.{◌≡◌, ◌≢◌, MatchBool, MatchOption, IfSome, nat_lt, length, codes, ⊎_elim, ℕ, zero, suc, true, false, true≢false, Bool, List, [], ◌∷◌, slice_get, Option, Some, None, option_map, refl, sym, ap, ◌∙◌, subst}
 use Rattle.std.proofs.lemmas.Option.{slice_get-map}
 use Rattle.std.proofs.lemmas.Bool.{and_parts}
 use Rattle.exo_tree.specs.Tree.{Procedure, Program}
@@ -8,8 +8,7 @@ use Rattle.exo_meaning.specs.State.{State}
 use Rattle.exo_meaning.specs.Run.{World}
 use Rattle.exo_meaning.specs.Inputs.{IsAdmissible, AreArguments, is_buffer_of}
 use Rattle.c_printer.specs.CTree.{Name}
-use Rattle.c_printer.specs.CText.{text_of}
-use Rattle.c_printer.specs.LoweredUnit.{Printing, name_of, printed_names, lowered}
+use Rattle.c_printer.specs.LoweredUnit.{Printing, name_of, printed_names}
 use Rattle.c_printer.specs.FirstForm.{is_first, are_first, is_first_unit}
 use Rattle.c_printer.proofs.FirstUnits.{all_first}
 use Rattle.c_printer.proofs.FirstUnitsFollow.{first_units_follow}

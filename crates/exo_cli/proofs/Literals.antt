@@ -15,7 +15,7 @@ use Rattle.exo_lexer.specs.declared.token.Word.{Word}
 use Rattle.exo_lexer.specs.declared.token.Decorator.{Decorator}
 use Rattle.exo_lexer.specs.declared.token.Sign.{Sign}
 use Rattle.exo_lexer.specs.declared.token.Sign.TheVariants.{Any}
-use Rattle.exo_lexer.specs.declared.token.Fault.TheVariants.{Byte, Indentation, Spelling}
+use Rattle.exo_lexer.specs.declared.token.Fault.TheVariants.{Byte, Indentation}
 use Rattle.exo_lexer.specs.declared.quoted.Ending.{Ending}
 use Rattle.exo_lexer.specs.declared.quoted.Ending.TheVariants.{Closed, Unclosed, Foreign}
 use Rattle.exo_lexer.specs.declared.quoted.Quoted.{Quoted}

@@ -1,19 +1,19 @@
 -- A version with the sides of a sum or product exchanged keeps the rules of a unit.
-use Rattle.std.proofs.Common.{◌≡◌, ◌^◌, ℕ, zero, suc, ◌+◌, nat_lt, List, [], ◌∷◌, ◌++◌, length, map, Option, Some, None, Bool, true, false, not, ◌&&◌, refl, sym, ap, ◌∙◌, subst, true≢false, arith}
-use Rattle.std.specs.Prelude.{slice_get, int_lt}
+use Rattle.std.proofs.Common.{◌≡◌, ◌^◌, ℕ, zero, suc, nat_lt, List, [], ◌∷◌, ◌++◌, length, map, Option, Some, None, Bool, true, not, ◌&&◌, refl, sym, ap, ◌∙◌, subst, true≢false, arith}
+use Rattle.std.specs.Prelude.{slice_get}
 use Rattle.std.specs.List.{list_all}
 use Rattle.std.proofs.lemmas.Bool.{and_parts, and_from}
 use Rattle.std.proofs.lemmas.List.{length-append}
-use Rattle.exo_tree.specs.Tree.{Kind, Index, Control, Datum, Argument, Statement, Assign, Reduce, Config, Pass, If, For, Alloc, View, Call, Block, end, next, block, statements, Param, Procedure, ConfigField, Program}
+use Rattle.exo_tree.specs.Tree.{Kind, Index, Control, Datum, Statement, Assign, Reduce, Config, Pass, If, For, Alloc, View, Call, Block, end, next, block, statements, Param, Procedure, ConfigField, Program}
 use Rattle.exo_meaning.specs.Binders.{binders, step_binders}
 use Rattle.exo_meaning.specs.Calls.{Callee}
 use Rattle.exo_meaning.specs.Run.{callees, callee_in, world_of, kinds_of, roots_after}
 use Rattle.exo_meaning.specs.Units.{Scope, ControlName, with_name, scope_of, scope_after, is_empty, is_short, plainly, with_fields, is_control, is_condition, is_access, is_datum, is_call, is_new, bound_ids, are_distinct, larger, levels, step_levels, is_block, is_statement, IsProcedure, field_kind, AreProcedures, IsUnit}
-use Rattle.exo_cli.specs.Commute.{Made, commute_expr, exchanged}
+use Rattle.exo_cli.specs.Commute.{exchanged}
 use Rattle.exo_cli.specs.declared.commute.Operation.{Operation}
-use Rattle.exo_cli.specs.Kept.{with_version, Keeps, CommutedIsKept}
+use Rattle.exo_cli.specs.Kept.{with_version, CommutedIsKept}
 use Rattle.exo_cli.proofs.Kept.{nothing_there, some_is, there_still, commuted_runs_alike}
-use Rattle.exo_cli.proofs.Changed.{IsChanged, HasBody, commuted_body, exchanged_same}
+use Rattle.exo_cli.proofs.Changed.{HasBody, commuted_body, exchanged_same}
 
 -- ---- one assignment among statements, with another right side
 

@@ -1,5 +1,5 @@
 -- Where a schedule stops.
-use Rattle.std.proofs.Common.{◌≡◌, ◌<◌, ℕ, zero, suc, ◌+◌, List, [], ◌∷◌, drop, length, Some, slice_get, get_or, refl, ap, sym, ◌∙◌, arith, add-one, drop-cons, IfOk, Ok, Err}
+use Rattle.std.proofs.Common.{◌≡◌, ◌<◌, ℕ, suc, List, ◌∷◌, drop, length, Some, slice_get, get_or, refl, ap, sym, ◌∙◌, drop-cons, IfOk, Ok, Err}
 use Rattle.std.specs.Prelude.{Result}
 use Rattle.std.proofs.lemmas.Option.{slice_get_read, get_or_from_slice_get}
 use Rattle.exo_tree.specs.Tree.{Program}
@@ -11,7 +11,7 @@ use Rattle.exo_cli.specs.Lines.{Versions, Done, Stopped, operator_of, performed,
 use Rattle.exo_cli.specs.Sessions.{RefusesLine, StopsLine}
 use Rattle.exo_cli.specs.declared.lines.Line.{Line}
 use Rattle.exo_cli.specs.declared.session.Why.{Why}
-use Rattle.exo_cli.specs.declared.session.Why.TheVariants.{Memory, UnknownProc, NoSuchPattern, WrongShape}
+use Rattle.exo_cli.specs.declared.session.Why.TheVariants.{Memory}
 
 -- the place of an element
 pub slice_get-at : (lines : List Line) (k : ℕ) (line : Line) → k < length lines → line ≡ get_or lines k line → slice_get lines k ≡ Some line

@@ -1,13 +1,12 @@
 -- The words and the files have one answer.
-use Rattle.std.proofs.Common.{◌≡◌, ◌⊎◌, ⊎_elim, ℕ, List, Bool, true, false, Option, Some, None, length, nat_lt, codes, refl, sym, ap, ◌∙◌, MatchBool, MatchOption}
-use Rattle.exo_reader.specs.FirstText.{SpellsFirst, tokens_of}
+use Rattle.std.proofs.Common.{◌≡◌, ⊎_elim, ℕ, List, Bool, true, false, Option, Some, None, length, nat_lt, codes, sym, ap, ◌∙◌, MatchBool, MatchOption}
 use Rattle.exo_cli.specs.Outside.{Folder, content_of}
-use Rattle.exo_cli.specs.Messages.{usage, cannot_read, file_refused}
+use Rattle.exo_cli.specs.Messages.{usage, file_refused}
 use Rattle.exo_cli.specs.Words.{Command, Compile, command_of}
 use Rattle.exo_cli.specs.Answer.{Answer, Rejected, Misused}
 use Rattle.exo_cli.specs.Compiled.{IsCompiled, scheduled}
 use Rattle.exo_cli.specs.ScheduleForm.{schedule_of}
-use Rattle.exo_cli.specs.Work.{file_limit, Opens, AnswersTo, Answers, AnswersAreUnique}
+use Rattle.exo_cli.specs.Work.{file_limit, Opens, AnswersTo, AnswersAreUnique}
 
 -- a text has at most one program
 compiled_once : (procs unit schedule lines : List ℕ) (a b : Answer) → IsCompiled procs unit schedule lines a → IsCompiled procs unit schedule lines b → a ≡ b

@@ -1,7 +1,6 @@
 -- What is accepted is of the form that is printed.
 use Rattle.std.specs.Prelude.{◌≡◌, ℕ, true, List, Some}
 use Rattle.exo_tree.specs.Tree.{Program}
-use Rattle.exo_lexer.specs.declared.token.Token.{Token}
 use Rattle.exo_reader.specs.FirstText.{HasFirst, tokens_of}
 use Rattle.c_printer.specs.FirstForm.{is_first_unit}
 use Rattle.exo_cli.specs.Compiled.{started, printings, with_versions}

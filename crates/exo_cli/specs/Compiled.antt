@@ -1,5 +1,5 @@
 -- The answer to the texts of a unit and of a schedule of the first form.
-use Rattle.std.specs.Prelude.{◌≡◌, ℕ, suc, ◌⊎◌, List, [], ◌∷◌, map, slice_get, slice_index, Option, Some, None, if◌then◌else◌, codes}
+use Rattle.std.specs.Prelude.{◌≡◌, ℕ, suc, ◌⊎◌, List, [], ◌∷◌, map, slice_get, slice_index, Option, Some, None, codes}
 use Rattle.exo_tree.specs.Tree.{Procedure, Program}
 use Rattle.exo_reader.specs.FirstText.{HasFirst, SpellsFirst, tokens_of}
 use Rattle.c_printer.specs.LoweredUnit.{Printing, name_of, lowered}

@@ -1,8 +1,7 @@
-use Rattle.std.proofs.Common.{◌≡◌, sym, ap, ◌∙◌, refl, arith}
+use Rattle.std.proofs.Common.{sym, ap, ◌∙◌, refl}
 use Rattle.std.proofs.lemmas.Result.{err_from_is_err_and}
 use Rattle.exo_tree.specs.Plain.{procedure}
 use Rattle.exo_cli.specs.Commute.{Made, with_body, commuted}
-use Rattle.exo_cli.specs.Refusals.{Refuses}
 use Rattle.exo_cli.proofs.Commuting.{commute-at, refused-body}
 use Rattle.exo_cli.proofs.Kept.{commuted_refines}
 use Rattle.exo_cli.proofs.Rules.{commuted_is_kept}

@@ -1,4 +1,4 @@
-use Rattle.std.proofs.Common.{map, refl, ap, sym, ◌∙◌}
+use Rattle.std.proofs.Common.{map, ap, sym, ◌∙◌}
 use Rattle.exo_tree.specs.Plain.{program}
 use Rattle.c_printer.specs.PlainPrinted.{printing}
 use Rattle.exo_cli.specs.Compiled.{ended, started}
