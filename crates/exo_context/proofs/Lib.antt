@@ -34,3 +34,7 @@ pub mod Flags
 pub mod WellFormed
 pub mod Instances
 pub mod UnitInstances
+pub mod PathOrder
+pub mod SameNumbers
+pub mod Apart
+pub mod KnownFields

@@ -44,6 +44,8 @@ ghost use Rattle.exo_context.specs.WellFormed.{WellScoped};
 ghost use Rattle.exo_context.specs.WellFormed.{PlainBoundsLaw};
 ghost use Rattle.exo_context.specs.WellFormed.{WellKnown};
 ghost use Rattle.exo_context.specs.WellFormed.{CallsAreBelow};
+ghost use Rattle.exo_context.specs.PlaceFacts.{PlaceFactsLaw};
+ghost use Rattle.exo_context.specs.PlaceFacts.{PlainTelling};
 
 /// A procedure in which a block is replaced is refined by it, where the new block may replace the old one at each state that comes to it.
 pub fn replaced_refines()
@@ -263,4 +265,15 @@ pub fn well_formed_facts_stay()
 /// A well-formed procedure calls procedures of its table alone.
 pub fn well_formed_calls_are_below()
     ensures { CallsAreBelow }
+{}
+
+/// In a well-formed unit each state that a run comes to has numbers for what is known of configuration fields there, and with them
+/// the bounds, conditions and assertions round the place are true, also those that read fields and strides.
+pub fn place_facts_hold()
+    ensures { PlaceFactsLaw }
+{}
+
+/// The right side of a configuration write may be written down as it is.
+pub fn plain_writes_are_told()
+    ensures { PlainTelling }
 {}
