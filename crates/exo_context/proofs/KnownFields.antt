@@ -1,7 +1,7 @@
 -- What is known of fields goes along with a run.
 use Rattle.std.proofs.Common.{◌≡◌, ℕ, zero, suc, ℤ, pos, ◌+ℤ◌, ◌==◌, int_lt, int_le, Bool, true, false, true≢false, cond, not, ◌&&◌, ◌||◌, List, [], ◌∷◌, ◌++◌, Option, Some, None, IfSome, option_map, refl, sym, ap, ap₂, ◌∙◌, subst, eqb-true, eq-eqb}
 use Rattle.std.specs.Prelude.{IsSome, get_or}
-use Rattle.exo_tree.specs.Tree.{I8, Control, Var, Condition, Lt, Le, Argument, Statement, Assign, Reduce, Config, Pass, If, For, Alloc, View, Call, Block, end, next}
+use Rattle.exo_tree.specs.Tree.{Binder, I8, Control, Var, Condition, Lt, Le, Argument, Statement, Assign, Reduce, Config, Pass, If, For, Alloc, View, Call, Block, end, next}
 use Rattle.exo_tree.specs.Context.{Context, Here, After, InLoop, InThen, InElse, fill}
 use Rattle.exo_tree.specs.Places.{Branch, Main, Else, Path}
 use Rattle.exo_meaning.specs.Scene.{Shape, Seen, Side, Range, Scene, updated, where_true, then_do, number, holds, stride_at, strides_of, strides_seen}
@@ -442,6 +442,65 @@ module _ (world : World) (tell : Telling) (leave : CallsLeave world tell.writes)
       let parts = map_gives (run world b inside) (left s) t e in
       turns_keep f i b k ns t n u z ∙ ap (λ (w : State). w.scene.fields f) (sym parts.2) ∙ if_gives (HasField f inside) (run world b inside) parts.0 (run_leaves f world tell.writes leave b k inside) parts.1
 
+  four : (p q r o : Bool) → (((p || q) || r) || o) ≡ false → (p ≡ false) × (q ≡ false) × (r ≡ false) × (o ≡ false)
+  four p q r o k =
+      let a = or_parts ((p || q) || r) o k in
+      let b = or_parts (p || q) r a.0 in
+      let c = or_parts p q b.0 in
+      (c.0, c.1, b.1, a.1)
+
+  ahead_new : (bound outside : ℕ → Bool) (b : Block) → is_scoped bound b ≡ true → AheadIsNew outside bound → (x : ℕ) → bound x ≡ true → (has_binder b x || outside x) ≡ false
+  ahead_new bound outside b scoped new x k = contrary (has_binder b x || outside x) (λ j. true≢false (sym k ∙ or_elim (has_binder b x) (outside x) j (binder_new bound b x scoped) (new x)))
+
+  -- into a branch
+  branch_back : (ahead fewer : ℕ → Bool) (path : Path) (inner : Branch) (g : Ghost) (s : State) → ((x : ℕ) → ahead x ≡ false → fewer x ≡ false) → (v : Numbers) → Fits fewer (path_in path inner zero) entry g s v → Fits ahead path entry g s v
+  branch_back ahead fewer path inner g s less v = fits_back ahead fewer path (path_in path inner zero) entry g g s s v (λ x k. (less x k, (refl, refl))) (λ f q b. (before_inside q path _ b, refl))
+
+  branch_start : (bound ahead fewer : ℕ → Bool) (path : Path) (inner : Branch) (g : Ghost) (known : KnownFields) (s : State) → ((x : ℕ) → ahead x ≡ false → fewer x ≡ false) → Stands world entry bound ahead path g known s → Stands world entry bound fewer (path_in path inner zero) g known s
+  branch_start bound ahead fewer path inner g known s less h = record {
+    sound = h.sound;
+    free = h.free;
+    strides = h.strides;
+    kinds = h.kinds;
+    fields = λ v fits. h.fields v (branch_back ahead fewer path inner g s less v fits);
+  }
+
+  condition_there : (bound ahead : ℕ → Bool) (path : Path) (g : Ghost) (known : KnownFields) (s : State) (v : Numbers) → Stands world entry bound ahead path g known s → ((x : ℕ) → bound x ≡ true → ahead x ≡ false) → Fits ahead path entry g s v → (c : Condition) → in_condition (is_not bound) c ≡ false → holds (with_known v known) c ≡ holds s.scene c
+  condition_there bound ahead path g known s v h new fits c k = holds_same bound (with_known v known) s.scene (known_same bound ahead path g known s v h new fits) c k (λ f r. sym (h.fields v fits f))
+
+  -- into a turn
+  abbrev head_ghost : Path → Binder → Ghost → State → Ghost
+  head_ghost path i g t = record { strides = λ x. cond (x == i.id) [] (g.strides x); unknown = marked path t.scene.fields g.unknown }
+
+  record Head (bound behind ahead : ℕ → Bool) (path : Path) (i : Binder) (b : Block) (g : Ghost) (known : KnownFields) (s : State) (n : ℤ) (t : State) : Type 0 where
+    back : (v : Numbers) → Fits (λ x. has_binder b x || behind x) (path_in path Main zero) entry (head_ghost path i g t) (on_scene (with_control i.id n) t) v → Fits ahead path entry g s v
+    stands : Stands world entry (λ y. (y == i.id) || bound y) (λ x. has_binder b x || behind x) (path_in path Main zero) (head_ghost path i g t) (forgotten (λ f. writes_field tell.writes f b) path known) (on_scene (with_control i.id n) t)
+
+  turn_head : (bound behind : ℕ → Bool) (path : Path) (i : Binder) (lo hi : Control) (b rest : Block) (g : Ghost) (known : KnownFields) (s : State) (n : ℤ) (t : State) (ahead : ℕ → Bool) → ((x : ℕ) → ahead x ≡ false → ((x == i.id) ≡ false) × (has_binder b x ≡ false) × (has_binder rest x ≡ false) × (behind x ≡ false)) → bound i.id ≡ false → ((f : ℕ) → IsOfKind (world.kinds f) (t.scene.fields f)) → Stands world entry bound ahead path g known s → ComesToTurn (turn i.id (run world b)) (turns_of s.scene lo hi) s n t → Head bound behind ahead path i b g known s n t
+  turn_head bound behind path i lo hi b rest g known s n t ahead parts new fit h come = record {
+    back = back;
+    stands = record {
+      sound = let k = come_to_turn_sound i.id (run world b) (turns_of s.scene lo hi) s n t come h.sound in record { tidy = k.tidy; seen = k.seen };
+      free = λ x k. let d = or_parts (x == i.id) (bound x) k in let u = unbound_on s t x (names x) (h.free x d.1) in record { control = updated_other t.scene.control i.id n x d.0 ∙ u.control; buffers = u.buffers; views = u.views };
+      strides = λ x k. strides x (x == i.id) refl k;
+      kinds = marked_fits (λ f z. IsOfKind (world.kinds f) z) path t.scene.fields g.unknown fit h.kinds;
+      fields = λ v fits. forget (λ f. writes_field tell.writes f b) path known s (on_scene (with_control i.id n) t) v (λ f k. turns_keep f i.id b k (turns_of s.scene lo hi) s n t come) (λ f. sym (fits.unknown f path (self_before_inside path _ []) ∙ marked_here path t.scene.fields g.unknown f)) (h.fields v (back v fits));
+    };
+  }
+    where
+      names : (x : ℕ) → IsSameName x s t
+      names = come_to_turn_names i.id (run world b) (turns_of s.scene lo hi) s n t come
+
+      back : (v : Numbers) → Fits (λ x. has_binder b x || behind x) (path_in path Main zero) entry (head_ghost path i g t) (on_scene (with_control i.id n) t) v → Fits ahead path entry g s v
+      back v = fits_back ahead (λ x. has_binder b x || behind x) path (path_in path Main zero) entry g (head_ghost path i g t) s (on_scene (with_control i.id n) t) v (λ x k. let d = parts x k in (or_false (has_binder b x) (behind x) d.1 d.3, (updated_other t.scene.control i.id n x d.0 ∙ sym (names x).control, ap (λ z. cond z [] (g.strides x)) d.0))) (λ f q j. (before_inside q path _ j, marked_before path t.scene.fields g.unknown f q j))
+
+      shown : Option Seen → List ℤ
+      shown o = elim o [ None ↦ [] | Some seen ↦ strides_seen t.scene seen ]
+
+      strides : (x : ℕ) (z : Bool) → (x == i.id) ≡ z → (z || bound x) ≡ true → name_strides t.scene x ≡ cond z [] (g.strides x)
+      strides x true e k = ap shown (ap t.scene.views (eqb-true x i.id e) ∙ (unbound_on s t i.id (names i.id) (h.free i.id new)).views)
+      strides x false e k = strides_kept s t x h.sound (sym (names x).views) (λ y there. sym (names y).buffers) ∙ h.strides x k
+
   module _ (old : Block) where
     come_on : (c : Context) (bound outside : ℕ → Bool) (outer : Path) (branch : Branch) (n : ℕ) (g : Ghost) (known : KnownFields) (s u : State) → is_scoped bound (fill c old) ≡ true → IsApart outside (fill c old) → AheadIsNew outside bound → V bound (fill c old) s → Before bound (λ x. has_binder (fill c old) x || outside x) outer branch n g known s → ComesTo world old c s u → Found (λ x. has_binder (fill c old) x || outside x) (path_in outer branch n) g s u (known_at tell outer branch n c old known) (facts_round tell outer branch n c old known)
     come_on (Here rest) bound outside outer branch n g known s u scoped apart new visit h z = subst (λ w. Found (λ x. has_binder (fill (Here rest) old) x || outside x) (path_in outer branch n) g s w known []) (sym z) (found_here bound (λ x. has_binder (fill (Here rest) old) x || outside x) (path_in outer branch n) g known s h)
@@ -456,7 +515,44 @@ module _ (world : World) (tell : Telling) (leave : CallsLeave world tell.writes)
           (λ v fits facts. facts) rest
     come_on (InLoop i lo hi c rest) bound outside outer branch n g known s u scoped apart new visit h z =
         let b = fill c old in
-        let ahead : ℕ → Bool = λ x. ((x == i.id) || has_binder b x) || has_binder rest x || outside x in
-        ?
-    come_on (InThen test c other rest) bound outside outer branch n g known s u scoped apart new visit h z = ?
-    come_on (InElse test other c rest) bound outside outer branch n g known s u scoped apart new visit h z = ?
+        let path = path_in outer branch n in
+        let names = and_parts (step_is_scoped bound (For i lo hi b)) (is_scoped bound rest) scoped in
+        let p = and_parts (not (bound i.id)) (not (in_control (is_not bound) lo || in_control (is_not bound) hi) && is_scoped (λ y. (y == i.id) || bound y) b) names.0 in
+        let q = and_parts (not (in_control (is_not bound) lo || in_control (is_not bound) hi)) (is_scoped (λ y. (y == i.id) || bound y) b) p.1 in
+        let bounds = or_parts (in_control (is_not bound) lo) (in_control (is_not bound) hi) (not_true (in_control (is_not bound) lo || in_control (is_not bound) hi) q.0) in
+        let behind : ℕ → Bool = λ x. has_binder rest x || outside x in
+        let head = turn_head bound behind path i lo hi b rest g known s z.0 z.1 (λ x. (((x == i.id) || has_binder b x) || has_binder rest x) || outside x) (λ x k. (let d = four (x == i.id) (has_binder b x) (has_binder rest x) (outside x) k in (d.0, d.1, d.2, or_false (has_binder rest x) (outside x) d.2 d.3))) (not_true (bound i.id) p.0) (walks.fit (λ y. (y == i.id) || bound y) b (on_scene (with_control i.id z.0) z.1) (walks.turn_in bound i lo hi b rest s z.0 z.1 visit z.2)) h z.2 in
+        let inner_new : AheadIsNew behind (λ y. (y == i.id) || bound y) = λ x k. or_false (x == i.id) (bound x) (contrary (x == i.id) (λ e. true≢false (sym k ∙ ap behind (eqb-true x i.id e) ∙ apart.0.0))) (behind_new bound outside (For i lo hi b) rest new names.1 x k) in
+        let rest_found = come_on c (λ y. (y == i.id) || bound y) behind path Main zero (head_ghost path i g z.1) (forgotten (λ f. writes_field tell.writes f b) path known) (on_scene (with_control i.id z.0) z.1) u q.1 apart.0.1 inner_new (walks.turn_in bound i lo hi b rest s z.0 z.1 visit z.2) head.stands z.3 in
+        let between = come_to_turn_each (Between (number s.scene lo) (number s.scene hi)) (turn i.id (run world b)) (turns_of s.scene lo hi) s z.0 z.1 z.2 (turns_between (number s.scene lo) (number s.scene hi)) in
+        let own : (v : Numbers) → Fits (λ x. has_binder b x || behind x) (path_in path Main zero) entry (head_ghost path i g z.1) (on_scene (with_control i.id z.0) z.1) v → v.scene.control i.id ≡ z.0 = λ v fits. fits.control i.id (or_false (has_binder b i.id) (behind i.id) (contrary (has_binder b i.id) (λ j. true≢false (sym (either_left (i.id == i.id) (bound i.id) (eq-eqb i.id i.id refl)) ∙ binder_new (λ y. (y == i.id) || bound y) b i.id q.1 j))) apart.0.0) ∙ ap (λ t. cond t z.0 (z.1.scene.control i.id)) (eq-eqb i.id i.id refl) in
+        let same : (v : Numbers) (e : Control) → in_control (is_not bound) e ≡ false → Fits (λ x. has_binder b x || behind x) (path_in path Main zero) entry (head_ghost path i g z.1) (on_scene (with_control i.id z.0) z.1) v → number (with_known v known) e ≡ number s.scene e = λ v e k fits. number_same bound (with_known v known) s.scene (known_same bound (λ x. (((x == i.id) || has_binder b x) || has_binder rest x) || outside x) path g known s v h (ahead_new bound outside (next (For i lo hi b) rest) scoped new) (head.back v fits)) e k (λ f r. sym (h.fields v (head.back v fits) f)) in
+        found_from (λ x. (((x == i.id) || has_binder b x) || has_binder rest x) || outside x) (λ x. has_binder b x || behind x) path (path_in path Main zero) g (head_ghost path i g z.1) s (on_scene (with_control i.id z.0) z.1) u (known_at tell path Main zero c old (forgotten (λ f. writes_field tell.writes f b) path known)) (facts_round tell path Main zero c old (forgotten (λ f. writes_field tell.writes f b) path known)) (facts_round tell outer branch n (InLoop i lo hi c rest) old known) head.back
+          (λ v fits facts. (ap₂ int_le (same v lo bounds.0 fits) (own v fits) ∙ le_holds (number s.scene lo) z.0 between.0, (ap₂ int_lt (own v fits) (same v hi bounds.1 fits) ∙ lt_holds z.0 (number s.scene hi) between.1, facts)))
+          rest_found
+    come_on (InThen test c other rest) bound outside outer branch n g known s u scoped apart new visit h z =
+        let b = fill c old in
+        let path = path_in outer branch n in
+        let names = and_parts (step_is_scoped bound (If test b other)) (is_scoped bound rest) scoped in
+        let p = and_parts (not (in_condition (is_not bound) test)) (is_scoped bound b && is_scoped bound other) names.0 in
+        let q = and_parts (is_scoped bound b) (is_scoped bound other) p.1 in
+        let behind : ℕ → Bool = λ x. has_binder rest x || outside x in
+        let ahead : ℕ → Bool = λ x. ((has_binder b x || has_binder other x) || has_binder rest x) || outside x in
+        let less : (x : ℕ) → ahead x ≡ false → (has_binder b x || behind x) ≡ false = λ x k. (let d = four (has_binder b x) (has_binder other x) (has_binder rest x) (outside x) k in or_false (has_binder b x) (behind x) d.0 (or_false (has_binder rest x) (outside x) d.2 d.3)) in
+        let found = come_on c bound behind path Main zero g known s u q.0 apart.0.0 (behind_new bound outside (If test b other) rest new names.1) (walks.then_in bound test b other rest s visit z.0) (branch_start bound ahead (λ x. has_binder b x || behind x) path Main g known s less h) z.1 in
+        found_from ahead (λ x. has_binder b x || behind x) path (path_in path Main zero) g g s s u (known_at tell path Main zero c old known) (facts_round tell path Main zero c old known) (facts_round tell outer branch n (InThen test c other rest) old known) (branch_back ahead (λ x. has_binder b x || behind x) path Main g s less)
+          (λ v fits facts. (condition_there bound ahead path g known s v h (ahead_new bound outside (next (If test b other) rest) scoped new) (branch_back ahead (λ x. has_binder b x || behind x) path Main g s less v fits) test (not_true (in_condition (is_not bound) test) p.0) ∙ z.0, facts))
+          found
+    come_on (InElse test other c rest) bound outside outer branch n g known s u scoped apart new visit h z =
+        let b = fill c old in
+        let path = path_in outer branch n in
+        let names = and_parts (step_is_scoped bound (If test other b)) (is_scoped bound rest) scoped in
+        let p = and_parts (not (in_condition (is_not bound) test)) (is_scoped bound other && is_scoped bound b) names.0 in
+        let q = and_parts (is_scoped bound other) (is_scoped bound b) p.1 in
+        let behind : ℕ → Bool = λ x. has_binder rest x || outside x in
+        let ahead : ℕ → Bool = λ x. ((has_binder other x || has_binder b x) || has_binder rest x) || outside x in
+        let less : (x : ℕ) → ahead x ≡ false → (has_binder b x || behind x) ≡ false = λ x k. (let d = four (has_binder other x) (has_binder b x) (has_binder rest x) (outside x) k in or_false (has_binder b x) (behind x) d.1 (or_false (has_binder rest x) (outside x) d.2 d.3)) in
+        let found = come_on c bound behind path Else zero g known s u q.1 apart.0.1 (behind_new bound outside (If test other b) rest new names.1) (walks.else_in bound test other b rest s visit z.0) (branch_start bound ahead (λ x. has_binder b x || behind x) path Else g known s less h) z.1 in
+        found_from ahead (λ x. has_binder b x || behind x) path (path_in path Else zero) g g s s u (known_at tell path Else zero c old known) (facts_round tell path Else zero c old known) (facts_round tell outer branch n (InElse test other c rest) old known) (branch_back ahead (λ x. has_binder b x || behind x) path Else g s less)
+          (λ v fits facts. (condition_there bound ahead path g known s v h (ahead_new bound outside (next (If test other b) rest) scoped new) (branch_back ahead (λ x. has_binder b x || behind x) path Else g s less v fits) test (not_true (in_condition (is_not bound) test) p.0) ∙ z.0, facts))
+          found
