@@ -199,7 +199,7 @@ same_value_right agree well v f (UnknownAt p) AtEntry h = absurd (true≢false (
 same_value_right agree well v f (UnknownAt p) (Known b) h = absurd (true≢false (sym h))
 same_value_right agree well v f (UnknownAt p) (UnknownAt q) h = ap (v.unknown f) (path_is p q h)
 
-or_false : (a b : Bool) → a ≡ false → b ≡ false → (a || b) ≡ false
+pub or_false : (a b : Bool) → a ≡ false → b ≡ false → (a || b) ≡ false
 or_false true b h k = h
 or_false false b h k = k
 
@@ -449,7 +449,7 @@ module _ (world : World) (tell : Telling) (leave : CallsLeave world tell.writes)
       let c = or_parts p q b.0 in
       (c.0, c.1, b.1, a.1)
 
-  ahead_new : (bound outside : ℕ → Bool) (b : Block) → is_scoped bound b ≡ true → AheadIsNew outside bound → (x : ℕ) → bound x ≡ true → (has_binder b x || outside x) ≡ false
+  pub ahead_new : (bound outside : ℕ → Bool) (b : Block) → is_scoped bound b ≡ true → AheadIsNew outside bound → (x : ℕ) → bound x ≡ true → (has_binder b x || outside x) ≡ false
   ahead_new bound outside b scoped new x k = contrary (has_binder b x || outside x) (λ j. true≢false (sym k ∙ or_elim (has_binder b x) (outside x) j (binder_new bound b x scoped) (new x)))
 
   -- into a branch
@@ -465,7 +465,7 @@ module _ (world : World) (tell : Telling) (leave : CallsLeave world tell.writes)
     fields = λ v fits. h.fields v (branch_back ahead fewer path inner g s less v fits);
   }
 
-  condition_there : (bound ahead : ℕ → Bool) (path : Path) (g : Ghost) (known : KnownFields) (s : State) (v : Numbers) → Stands world entry bound ahead path g known s → ((x : ℕ) → bound x ≡ true → ahead x ≡ false) → Fits ahead path entry g s v → (c : Condition) → in_condition (is_not bound) c ≡ false → holds (with_known v known) c ≡ holds s.scene c
+  pub condition_there : (bound ahead : ℕ → Bool) (path : Path) (g : Ghost) (known : KnownFields) (s : State) (v : Numbers) → Stands world entry bound ahead path g known s → ((x : ℕ) → bound x ≡ true → ahead x ≡ false) → Fits ahead path entry g s v → (c : Condition) → in_condition (is_not bound) c ≡ false → holds (with_known v known) c ≡ holds s.scene c
   condition_there bound ahead path g known s v h new fits c k = holds_same bound (with_known v known) s.scene (known_same bound ahead path g known s v h new fits) c k (λ f r. sym (h.fields v fits f))
 
   -- into a turn
@@ -502,7 +502,7 @@ module _ (world : World) (tell : Telling) (leave : CallsLeave world tell.writes)
       strides x false e k = strides_kept s t x h.sound (sym (names x).views) (λ y there. sym (names y).buffers) ∙ h.strides x k
 
   module _ (old : Block) where
-    come_on : (c : Context) (bound outside : ℕ → Bool) (outer : Path) (branch : Branch) (n : ℕ) (g : Ghost) (known : KnownFields) (s u : State) → is_scoped bound (fill c old) ≡ true → IsApart outside (fill c old) → AheadIsNew outside bound → V bound (fill c old) s → Before bound (λ x. has_binder (fill c old) x || outside x) outer branch n g known s → ComesTo world old c s u → Found (λ x. has_binder (fill c old) x || outside x) (path_in outer branch n) g s u (known_at tell outer branch n c old known) (facts_round tell outer branch n c old known)
+    pub come_on : (c : Context) (bound outside : ℕ → Bool) (outer : Path) (branch : Branch) (n : ℕ) (g : Ghost) (known : KnownFields) (s u : State) → is_scoped bound (fill c old) ≡ true → IsApart outside (fill c old) → AheadIsNew outside bound → V bound (fill c old) s → Before bound (λ x. has_binder (fill c old) x || outside x) outer branch n g known s → ComesTo world old c s u → Found (λ x. has_binder (fill c old) x || outside x) (path_in outer branch n) g s u (known_at tell outer branch n c old known) (facts_round tell outer branch n c old known)
     come_on (Here rest) bound outside outer branch n g known s u scoped apart new visit h z = subst (λ w. Found (λ x. has_binder (fill (Here rest) old) x || outside x) (path_in outer branch n) g s w known []) (sym z) (found_here bound (λ x. has_binder (fill (Here rest) old) x || outside x) (path_in outer branch n) g known s h)
     come_on (After a c) bound outside outer branch n g known s u scoped apart new visit h z =
         let b = fill c old in

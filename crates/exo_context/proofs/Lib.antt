@@ -38,3 +38,4 @@ pub mod PathOrder
 pub mod SameNumbers
 pub mod Apart
 pub mod KnownFields
+pub mod PlaceFacts
