@@ -39,3 +39,4 @@ pub mod SameNumbers
 pub mod Apart
 pub mod KnownFields
 pub mod PlaceFacts
+pub mod FieldInstances
