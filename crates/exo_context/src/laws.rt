@@ -32,6 +32,7 @@ ghost use Rattle.exo_context.specs.Sorted.{FitsAtLaw};
 ghost use Rattle.exo_context.specs.Touched.{ModesCover};
 ghost use Rattle.exo_context.specs.Touched.{RunsGoByFootprint};
 ghost use Rattle.exo_context.specs.Touched.{RunsExchange};
+ghost use Rattle.exo_context.specs.Touched.{BlocksCommute};
 ghost use Rattle.exo_context.specs.Touched.{TurnsWithCallsCommute};
 ghost use Rattle.exo_context.specs.Touched.{PairsWithCallsCommute};
 ghost use Rattle.exo_context.specs.NestsWithin.{NestsWithinBounds};
@@ -205,6 +206,11 @@ pub fn runs_go_by_footprint()
 /// A run exchanges with each change of cells that its footprint lets pass, calls included.
 pub fn runs_exchange()
     ensures { RunsExchange }
+{}
+
+/// Two blocks that leave all names and fields alone commute where their footprints do not clash, calls included.
+pub fn blocks_commute()
+    ensures { BlocksCommute }
 {}
 
 /// Two turns commute whose footprints do not clash, calls included.
