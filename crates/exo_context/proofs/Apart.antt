@@ -158,9 +158,10 @@ mutual
   pub apart : (later : ℕ → Bool) (b : Block) → are_distinct (binders b) ≡ true → ((x : ℕ) → Among (binders b) x ≡ true → later x ≡ false) → IsApart later b
   apart later end h k = tt
   apart later (next a b) h k =
-      let r = split (step_binders a) (binders b) h in
-      (step_apart (λ x. has_binder b x || later x) a r.first (λ x j. or_none (has_binder b x) (later x) (has_among b x ∙ r.apart x j) (k x (in_first (step_binders a) (binders b) x j))),
-      apart later b r.second (λ x j. k x (in_second (step_binders a) (binders b) x j)))
+      let r = split (step_binders a) (binders b) h in (
+        step_apart (λ x. has_binder b x || later x) a r.first (λ x j. or_none (has_binder b x) (later x) (has_among b x ∙ r.apart x j) (k x (in_first (step_binders a) (binders b) x j))),
+        apart later b r.second (λ x j. k x (in_second (step_binders a) (binders b) x j)),
+      )
 
   step_apart : (later : ℕ → Bool) (a : Statement) → are_distinct (step_binders a) ≡ true → ((x : ℕ) → Among (step_binders a) x ≡ true → later x ≡ false) → StepIsApart later a
   step_apart later (Assign x is e) h k = tt

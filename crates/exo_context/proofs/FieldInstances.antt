@@ -2,8 +2,8 @@
 use Rattle.std.proofs.Common.{◌≡◌, ◌≤ℤ◌, ℕ, zero, suc, ℤ, pos, ◌+ℤ◌, ◌==◌, int_lt, Bool, true, false, true≢false, cond, ◌||◌, List, [], ◌∷◌, Option, Some, None, refl, sym, ◌∙◌, arith}
 use Rattle.std.proofs.lemmas.Int.{ints}
 use Rattle.std.specs.Ordering.{int_eq}
-use Rattle.exo_tree.specs.Tree.{Binder, I32, Index, Size, Control, Lit, Var, Field, StrideOf, Neg, Add, Sub, Mul, Div, Mod, Condition, Lt, Eq, Argument, ControlArg, ConditionArg, Whole, Window, Const, Assign, Config, If, For, Call, Block, end, next, ControlParam, WindowParam, Procedure, ConfigField}
-use Rattle.exo_tree.specs.Context.{Context, Here, After, InThen, fill}
+use Rattle.exo_tree.specs.Tree.{Binder, I32, Index, Size, Control, Lit, Var, Field, StrideOf, Neg, Add, Sub, Mul, Div, Mod, Condition, Lt, Eq, Argument, ControlArg, ConditionArg, Whole, Window, Const, Assign, Config, If, For, Block, end, next, ControlParam, WindowParam, Procedure, ConfigField}
+use Rattle.exo_tree.specs.Context.{Context, Here, After, InThen}
 use Rattle.exo_tree.specs.Places.{Main, Path}
 use Rattle.exo_meaning.specs.Value.{Undefined}
 use Rattle.exo_meaning.specs.Scene.{Scene, Shape, Seen, Range, number, stride_at}

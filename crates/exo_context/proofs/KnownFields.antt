@@ -1,32 +1,31 @@
 -- What is known of fields goes along with a run.
-use Rattle.std.proofs.Common.{◌≡◌, ℕ, zero, suc, ℤ, pos, ◌+ℤ◌, ◌==◌, int_lt, int_le, Bool, true, false, true≢false, cond, not, ◌&&◌, ◌||◌, List, [], ◌∷◌, ◌++◌, Option, Some, None, IfSome, option_map, refl, sym, ap, ap₂, ◌∙◌, subst, eqb-true, eq-eqb}
+use Rattle.std.proofs.Common.{◌≡◌, ℕ, zero, suc, ℤ, pos, ◌==◌, int_lt, int_le, Bool, true, false, true≢false, cond, not, ◌&&◌, ◌||◌, List, [], ◌∷◌, Option, Some, None, refl, sym, ap, ap₂, ◌∙◌, subst, eqb-true, eq-eqb}
 use Rattle.std.specs.Prelude.{IsSome, get_or}
-use Rattle.exo_tree.specs.Tree.{Binder, I8, Control, Var, Condition, Lt, Le, Argument, Statement, Assign, Reduce, Config, Pass, If, For, Alloc, View, Call, Block, end, next}
+use Rattle.exo_tree.specs.Tree.{Binder, I8, Control, Condition, Argument, Statement, Assign, Reduce, Config, Pass, If, For, Alloc, View, Call, Block, end, next}
 use Rattle.exo_tree.specs.Context.{Context, Here, After, InLoop, InThen, InElse, fill}
 use Rattle.exo_tree.specs.Places.{Branch, Main, Else, Path}
-use Rattle.exo_meaning.specs.Scene.{Shape, Seen, Side, Range, Scene, updated, where_true, then_do, number, holds, stride_at, strides_of, strides_seen}
+use Rattle.exo_meaning.specs.Scene.{Shape, Seen, Side, Range, Scene, updated, where_true, number, holds, stride_at, strides_of, strides_seen}
 use Rattle.exo_meaning.specs.State.{State, left, scoped, on_scene, with_control, with_field}
 use Rattle.exo_meaning.specs.Calls.{suits}
 use Rattle.exo_meaning.specs.Run.{World, run, step, turn, turns_of, choose, argument_number}
 use Rattle.exo_meaning.specs.Inputs.{IsOfKind}
 use Rattle.exo_meaning.specs.Orders.{Each}
 use Rattle.exo_meaning.specs.Unseen.{in_control, in_condition, in_argument}
-use Rattle.exo_meaning.proofs.Frame.{or_parts, updated_other, if_weaken}
+use Rattle.exo_meaning.proofs.Frame.{or_parts, updated_other}
 use Rattle.exo_context.specs.Context.{ComesTo, ComesToTurn, now, later}
 use Rattle.exo_context.specs.Sound.{IsSound, IsUnbound, IsSameName, binds}
-use Rattle.exo_context.specs.Facts.{Fact, Holds, Fails, IsTrueAt}
 use Rattle.exo_context.specs.Fields.{writes_field, step_writes_field, HasField, CallsLeave}
 use Rattle.exo_context.specs.Live.{read_by_argument}
 use Rattle.exo_context.specs.Scoped.{is_not, is_scoped, step_is_scoped, has_binder, step_has_binder}
 use Rattle.exo_context.specs.KnownFields.{FieldValue, AtEntry, Known, UnknownAt, KnownFields, Telling, same_path, path_in, forgotten, same_value, agreed, after, at_end, known_at}
 use Rattle.exo_context.specs.PlaceFacts.{PlaceFact, facts_round, Numbers, argument_value, field_number, with_known, IsTrueIn, AgreeWell}
 use Rattle.exo_context.proofs.Parts.{none_some, some_injective, then_gives, map_gives}
-use Rattle.exo_context.proofs.Names.{if_gives, SameControl, step_control, step_names, Others, turn_names, come_to_turn_names}
+use Rattle.exo_context.proofs.Names.{if_gives, SameControl, step_control, step_names, Others, come_to_turn_names}
 use Rattle.exo_context.proofs.Sound.{left_sound, step_sound, come_to_turn_sound}
 use Rattle.exo_context.proofs.Copies.{unbound_on}
 use Rattle.exo_context.proofs.Substitute.{and_parts}
 use Rattle.exo_context.proofs.Scoped.{binders_new, not_true, or_elim}
-use Rattle.exo_context.proofs.Binders.{binder_new, step_binder_new}
+use Rattle.exo_context.proofs.Binders.{binder_new}
 use Rattle.exo_context.proofs.Fields.{run_leaves, step_leaves}
 use Rattle.exo_context.proofs.Facts.{Between, come_to_turn_each, turns_between, le_holds, lt_holds}
 use Rattle.exo_context.proofs.PathOrder.{is_before, path_self, path_is, other_path, before_inside, self_before_inside, self_before_next, before_step, before_after, either_left, either_right}
@@ -317,8 +316,8 @@ module _ (world : World) (tell : Telling) (leave : CallsLeave world tell.writes)
           strides = λ y k. h.strides y k ∙ sym (ends.onward.strides y (contrary (has_binder x y) (λ j. true≢false (sym k ∙ binder_new bound x y scoped j))));
           kinds = ends.kinds;
           fields = λ v fits f. pick v f
-            (ends.fields v (fits_back behind behind (path_in path inner ends.number) (path_in outer branch (suc n)) entry ends.ghost ends.ghost w (left s w) v (λ y k. (k, (sym (ends.onward.control y), refl))) (λ f q b. (before_after q outer branch inner n ends.number b, refl)) fits) f)
-            (sym (fits.unknown f path (self_before_next outer branch n) ∙ ends.onward.unknown f path (self_before_inside path _ []) ∙ marked_here path w.scene.fields g.unknown f));
+              (ends.fields v (fits_back behind behind (path_in path inner ends.number) (path_in outer branch (suc n)) entry ends.ghost ends.ghost w (left s w) v (λ y k. (k, (sym (ends.onward.control y), refl))) (λ f q b. (before_after q outer branch inner n ends.number b, refl)) fits) f)
+              (sym (fits.unknown f path (self_before_next outer branch n) ∙ ends.onward.unknown f path (self_before_inside path _ []) ∙ marked_here path w.scene.fields g.unknown f));
         };
         onward = record {
           control = λ y. refl;
@@ -511,8 +510,8 @@ module _ (world : World) (tell : Telling) (leave : CallsLeave world tell.writes)
         let one = step_on bound behind outer branch n a b g known s z.0 names.0 apart.0 (behind_new bound outside a b new names.1) visit (stands_weaken world entry bound (λ x. (step_has_binder a x || has_binder b x) || outside x) (λ x. step_has_binder a x || behind x) (path_in outer branch n) g known s (λ x k. assoc_false (step_has_binder a x) (has_binder b x) (outside x) k) h) z.1 in
         let rest = come_on c (λ y. binds a y || bound y) outside outer branch (suc n) one.ghost (after tell (path_in outer branch n) a known) z.0 u names.1 apart.1 (still_new bound outside a b apart.0 new) (walks.on bound a b s z.0 visit z.1) one.stands z.2 in
         found_from (λ x. (step_has_binder a x || has_binder b x) || outside x) behind (path_in outer branch n) (path_in outer branch (suc n)) g one.ghost s z.0 u (known_at tell outer branch (suc n) c old (after tell (path_in outer branch n) a known)) (facts_round tell outer branch (suc n) c old (after tell (path_in outer branch n) a known)) (facts_round tell outer branch (suc n) c old (after tell (path_in outer branch n) a known))
-          (λ v fits. fits_back (λ x. (step_has_binder a x || has_binder b x) || outside x) (λ x. step_has_binder a x || behind x) (path_in outer branch n) (path_in outer branch n) entry g g s s v (λ x k. (assoc_false (step_has_binder a x) (has_binder b x) (outside x) k, (refl, refl))) (λ f q j. (j, refl)) (step_back entry (step_has_binder a) behind outer branch n g one.ghost s z.0 v one.onward fits))
-          (λ v fits facts. facts) rest
+        (λ v fits. fits_back (λ x. (step_has_binder a x || has_binder b x) || outside x) (λ x. step_has_binder a x || behind x) (path_in outer branch n) (path_in outer branch n) entry g g s s v (λ x k. (assoc_false (step_has_binder a x) (has_binder b x) (outside x) k, (refl, refl))) (λ f q j. (j, refl)) (step_back entry (step_has_binder a) behind outer branch n g one.ghost s z.0 v one.onward fits))
+        (λ v fits facts. facts) rest
     come_on (InLoop i lo hi c rest) bound outside outer branch n g known s u scoped apart new visit h z =
         let b = fill c old in
         let path = path_in outer branch n in
@@ -528,8 +527,8 @@ module _ (world : World) (tell : Telling) (leave : CallsLeave world tell.writes)
         let own : (v : Numbers) → Fits (λ x. has_binder b x || behind x) (path_in path Main zero) entry (head_ghost path i g z.1) (on_scene (with_control i.id z.0) z.1) v → v.scene.control i.id ≡ z.0 = λ v fits. fits.control i.id (or_false (has_binder b i.id) (behind i.id) (contrary (has_binder b i.id) (λ j. true≢false (sym (either_left (i.id == i.id) (bound i.id) (eq-eqb i.id i.id refl)) ∙ binder_new (λ y. (y == i.id) || bound y) b i.id q.1 j))) apart.0.0) ∙ ap (λ t. cond t z.0 (z.1.scene.control i.id)) (eq-eqb i.id i.id refl) in
         let same : (v : Numbers) (e : Control) → in_control (is_not bound) e ≡ false → Fits (λ x. has_binder b x || behind x) (path_in path Main zero) entry (head_ghost path i g z.1) (on_scene (with_control i.id z.0) z.1) v → number (with_known v known) e ≡ number s.scene e = λ v e k fits. number_same bound (with_known v known) s.scene (known_same bound (λ x. (((x == i.id) || has_binder b x) || has_binder rest x) || outside x) path g known s v h (ahead_new bound outside (next (For i lo hi b) rest) scoped new) (head.back v fits)) e k (λ f r. sym (h.fields v (head.back v fits) f)) in
         found_from (λ x. (((x == i.id) || has_binder b x) || has_binder rest x) || outside x) (λ x. has_binder b x || behind x) path (path_in path Main zero) g (head_ghost path i g z.1) s (on_scene (with_control i.id z.0) z.1) u (known_at tell path Main zero c old (forgotten (λ f. writes_field tell.writes f b) path known)) (facts_round tell path Main zero c old (forgotten (λ f. writes_field tell.writes f b) path known)) (facts_round tell outer branch n (InLoop i lo hi c rest) old known) head.back
-          (λ v fits facts. (ap₂ int_le (same v lo bounds.0 fits) (own v fits) ∙ le_holds (number s.scene lo) z.0 between.0, (ap₂ int_lt (own v fits) (same v hi bounds.1 fits) ∙ lt_holds z.0 (number s.scene hi) between.1, facts)))
-          rest_found
+        (λ v fits facts. (ap₂ int_le (same v lo bounds.0 fits) (own v fits) ∙ le_holds (number s.scene lo) z.0 between.0, (ap₂ int_lt (own v fits) (same v hi bounds.1 fits) ∙ lt_holds z.0 (number s.scene hi) between.1, facts)))
+        rest_found
     come_on (InThen test c other rest) bound outside outer branch n g known s u scoped apart new visit h z =
         let b = fill c old in
         let path = path_in outer branch n in
@@ -541,8 +540,8 @@ module _ (world : World) (tell : Telling) (leave : CallsLeave world tell.writes)
         let less : (x : ℕ) → ahead x ≡ false → (has_binder b x || behind x) ≡ false = λ x k. (let d = four (has_binder b x) (has_binder other x) (has_binder rest x) (outside x) k in or_false (has_binder b x) (behind x) d.0 (or_false (has_binder rest x) (outside x) d.2 d.3)) in
         let found = come_on c bound behind path Main zero g known s u q.0 apart.0.0 (behind_new bound outside (If test b other) rest new names.1) (walks.then_in bound test b other rest s visit z.0) (branch_start bound ahead (λ x. has_binder b x || behind x) path Main g known s less h) z.1 in
         found_from ahead (λ x. has_binder b x || behind x) path (path_in path Main zero) g g s s u (known_at tell path Main zero c old known) (facts_round tell path Main zero c old known) (facts_round tell outer branch n (InThen test c other rest) old known) (branch_back ahead (λ x. has_binder b x || behind x) path Main g s less)
-          (λ v fits facts. (condition_there bound ahead path g known s v h (ahead_new bound outside (next (If test b other) rest) scoped new) (branch_back ahead (λ x. has_binder b x || behind x) path Main g s less v fits) test (not_true (in_condition (is_not bound) test) p.0) ∙ z.0, facts))
-          found
+        (λ v fits facts. (condition_there bound ahead path g known s v h (ahead_new bound outside (next (If test b other) rest) scoped new) (branch_back ahead (λ x. has_binder b x || behind x) path Main g s less v fits) test (not_true (in_condition (is_not bound) test) p.0) ∙ z.0, facts))
+        found
     come_on (InElse test other c rest) bound outside outer branch n g known s u scoped apart new visit h z =
         let b = fill c old in
         let path = path_in outer branch n in
@@ -554,5 +553,5 @@ module _ (world : World) (tell : Telling) (leave : CallsLeave world tell.writes)
         let less : (x : ℕ) → ahead x ≡ false → (has_binder b x || behind x) ≡ false = λ x k. (let d = four (has_binder other x) (has_binder b x) (has_binder rest x) (outside x) k in or_false (has_binder b x) (behind x) d.1 (or_false (has_binder rest x) (outside x) d.2 d.3)) in
         let found = come_on c bound behind path Else zero g known s u q.1 apart.0.1 (behind_new bound outside (If test other b) rest new names.1) (walks.else_in bound test other b rest s visit z.0) (branch_start bound ahead (λ x. has_binder b x || behind x) path Else g known s less h) z.1 in
         found_from ahead (λ x. has_binder b x || behind x) path (path_in path Else zero) g g s s u (known_at tell path Else zero c old known) (facts_round tell path Else zero c old known) (facts_round tell outer branch n (InElse test other c rest) old known) (branch_back ahead (λ x. has_binder b x || behind x) path Else g s less)
-          (λ v fits facts. (condition_there bound ahead path g known s v h (ahead_new bound outside (next (If test other b) rest) scoped new) (branch_back ahead (λ x. has_binder b x || behind x) path Else g s less v fits) test (not_true (in_condition (is_not bound) test) p.0) ∙ z.0, facts))
-          found
+        (λ v fits facts. (condition_there bound ahead path g known s v h (ahead_new bound outside (next (If test other b) rest) scoped new) (branch_back ahead (λ x. has_binder b x || behind x) path Else g s less v fits) test (not_true (in_condition (is_not bound) test) p.0) ∙ z.0, facts))
+        found

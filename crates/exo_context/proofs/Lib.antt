@@ -40,3 +40,4 @@ pub mod Apart
 pub mod KnownFields
 pub mod PlaceFacts
 pub mod FieldInstances
+pub mod RunInstances

@@ -1,5 +1,5 @@
 -- The order of paths in the text: what is round a statement comes before it.
-use Rattle.std.proofs.Common.{◌≡◌, ℕ, suc, ◌==◌, nat_lt, Bool, true, false, ◌&&◌, ◌||◌, List, [], ◌∷◌, ◌++◌, arith, refl, sym, ap, ap₂, ◌∙◌, true≢false, eqb-true, eq-eqb}
+use Rattle.std.proofs.Common.{◌≡◌, ℕ, suc, ◌==◌, nat_lt, Bool, true, false, ◌&&◌, ◌||◌, [], ◌∷◌, ◌++◌, arith, refl, sym, ap, ap₂, ◌∙◌, true≢false, eqb-true, eq-eqb}
 use Rattle.std.proofs.lemmas.Bool.Decides.{nat_tests}
 use Rattle.exo_tree.specs.Places.{Branch, Main, Else, Step, Path}
 use Rattle.exo_context.specs.KnownFields.{same_branch, same_step, same_path, path_in}

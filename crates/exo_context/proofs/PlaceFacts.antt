@@ -1,28 +1,24 @@
 -- All facts at a place hold there, those that read fields and strides too.
-use Rattle.std.proofs.Common.{◌≡◌, ℕ, zero, ℤ, ◌==◌, Bool, true, false, true≢false, not, ◌&&◌, ◌||◌, List, [], ◌∷◌, ◌++◌, map, Option, Some, None, refl, sym, ap, ap₂, ◌∙◌, subst, eqb-true}
+use Rattle.std.proofs.Common.{◌≡◌, ℕ, zero, ℤ, ◌==◌, Bool, true, false, true≢false, not, ◌&&◌, ◌||◌, List, [], ◌∷◌, ◌++◌, map, Option, Some, None, refl, sym, ap, ◌∙◌, subst}
 use Rattle.std.proofs.Math.Path.{fun_ext}
-use Rattle.exo_tree.specs.Tree.{Binder, Kind, Control, Lit, Var, Field, StrideOf, Neg, Add, Sub, Mul, Div, Mod, Condition, True, False, Flag, FieldFlag, Lt, Le, Gt, Ge, Eq, And, Or, Argument, ControlArg, ConditionArg, Whole, Window, Statement, Config, If, For, Block, end, next, joined, Procedure, ConfigField}
+use Rattle.exo_tree.specs.Tree.{Binder, Kind, Control, Lit, Var, Field, StrideOf, Neg, Add, Sub, Mul, Div, Mod, Condition, True, False, Flag, FieldFlag, Lt, Le, Gt, Ge, Eq, And, Or, Argument, ControlArg, ConditionArg, Whole, Window, Statement, Config, If, For, Block, end, next, joined, Procedure}
 use Rattle.exo_tree.specs.Context.{Context, Here, After, InLoop, InThen, InElse, fill, rest_of}
 use Rattle.exo_tree.specs.Places.{Main}
 use Rattle.exo_meaning.specs.Scene.{Scene, holds}
 use Rattle.exo_meaning.specs.State.{State, on_scene, with_control}
 use Rattle.exo_meaning.specs.Calls.{Callee, all_hold}
 use Rattle.exo_meaning.specs.Run.{World, run, step, turn, turns_of, roots_after, kinds_of, unit_world}
-use Rattle.exo_meaning.specs.Inputs.{IsAdmissible, IsOfKind}
 use Rattle.exo_meaning.specs.Orders.{Each}
 use Rattle.exo_meaning.specs.Unseen.{in_control, in_condition, in_argument}
-use Rattle.exo_meaning.specs.Units.{ControlName, Scope, with_name, Reads, plainly, with_fields, with_strides, is_truth, is_number_field, is_flag_field, is_new, is_control, is_condition, is_of_kind, is_write, scope_after, is_empty, is_short, is_block, is_statement, scope_of, field_kind, IsProcedure}
-use Rattle.exo_meaning.proofs.Frame.{or_parts}
+use Rattle.exo_meaning.specs.Units.{ControlName, Scope, with_name, plainly, with_fields, with_strides, is_truth, is_new, is_control, is_condition, is_write, scope_after, is_empty, is_short, is_block, is_statement, scope_of, field_kind}
 use Rattle.exo_context.specs.Context.{ComesTo, ComesToTurn}
 use Rattle.exo_context.specs.Sound.{binds, on_way}
 use Rattle.exo_context.specs.Facts.{Fact, Holds, IsTrueAt}
 use Rattle.exo_context.specs.Known.{params_facts}
 use Rattle.exo_context.specs.Live.{read_by_control, read_by_condition, read_by_argument}
 use Rattle.exo_context.specs.Scoped.{is_not, is_param, is_scoped, step_is_scoped, has_binder}
-use Rattle.exo_context.specs.Sorted.{MayRun}
-use Rattle.exo_context.specs.UnitFields.{unit_writes}
-use Rattle.exo_context.specs.KnownFields.{KnownFields, at_entry, Telling, known_fields}
-use Rattle.exo_context.specs.PlaceFacts.{PlaceFact, facts_round, place_facts, Numbers, with_known, IsTrueIn, AreNumbers, AgreeWell, IsToldWell, TellsWell, unit_telling, PlaceFactsLaw, PlainTelling}
+use Rattle.exo_context.specs.KnownFields.{KnownFields, at_entry}
+use Rattle.exo_context.specs.PlaceFacts.{facts_round, Numbers, with_known, IsTrueIn, unit_telling, PlaceFactsLaw, PlainTelling}
 use Rattle.exo_context.proofs.Substitute.{and_parts}
 use Rattle.exo_context.proofs.Scoped.{not_true}
 use Rattle.exo_context.proofs.Copies.{admissible_sound}
@@ -178,19 +174,21 @@ place_facts_law fields memories ps p may told agree tells well c old was s u goo
     let found = come_on world tell (unit_leaves kinds ps) well entry V walks old c (is_param p) nothing [] Main zero ghost at_entry s u body_scoped (subst (IsApart nothing) was (body_apart (map (λ q. q.binder.id) p.params) p.body may.procedure.distinct)) (λ x k. absurd (true≢false (sym k))) visit start come in
     let new = ahead_new world tell (unit_leaves kinds ps) well entry V walks (is_param p) nothing b body_scoped (λ x k. absurd (true≢false (sym k))) in
     let v = found.numbers in
-    let first = with_known v at_entry in
-    (v, record {
-      control = found.control;
-      strides = found.strides;
-      entry = found.fits.entries;
-      kinds = found.kinds;
-      fields = found.fields;
-      facts = each_join (IsTrueIn v) (map (λ fact. record { known = at_entry; fact = fact }) (params_facts p.params ++ map Holds p.asserts)) (facts_round tell [] Main zero c old at_entry)
-        (each_of_map s.scene v at_entry (params_facts p.params ++ map Holds p.asserts) (each_join (IsTrueAt first) (params_facts p.params) (map Holds p.asserts)
-          (params_true s.scene first p.params (λ x k. sym (found.fits.control x (new x k))) good.arguments)
-          (asserts_hold s.scene first (is_param p) (λ a k. condition_there world tell (unit_leaves kinds ps) well entry V walks (is_param p) (λ x. has_binder b x || nothing x) (record { branch = Main; index = zero } ∷ []) ghost at_entry s v start new found.fits a k) p.asserts scoped.1 good.asserts)))
-        found.facts;
-    })
+    let first = with_known v at_entry in (
+      v,
+      record {
+        control = found.control;
+        strides = found.strides;
+        entry = found.fits.entries;
+        kinds = found.kinds;
+        fields = found.fields;
+        facts = each_join (IsTrueIn v) (map (λ fact. record { known = at_entry; fact = fact }) (params_facts p.params ++ map Holds p.asserts)) (facts_round tell [] Main zero c old at_entry)
+            (each_of_map s.scene v at_entry (params_facts p.params ++ map Holds p.asserts) (each_join (IsTrueAt first) (params_facts p.params) (map Holds p.asserts)
+            (params_true s.scene first p.params (λ x k. sym (found.fits.control x (new x k))) good.arguments)
+            (asserts_hold s.scene first (is_param p) (λ a k. condition_there world tell (unit_leaves kinds ps) well entry V walks (is_param p) (λ x. has_binder b x || nothing x) (record { branch = Main; index = zero } ∷ []) ghost at_entry s v start new found.fits a k) p.asserts scoped.1 good.asserts)))
+            found.facts;
+      },
+    )
 
 -- ---- right sides as they are written
 

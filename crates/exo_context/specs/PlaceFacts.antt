@@ -1,9 +1,9 @@
 -- All facts at a place, with the numbers of the fields that their conditions read.
 use Rattle.std.specs.Prelude.{◌≡◌, ◌||◌, ◌++◌, ℕ, zero, suc, ℤ, pos, Bool, true, false, List, [], ◌∷◌, Some, None, IsSome, map}
-use Rattle.exo_tree.specs.Tree.{Var, Condition, Lt, Le, Argument, Config, Block, next, Procedure, ConfigField}
+use Rattle.exo_tree.specs.Tree.{Var, Lt, Le, Argument, Config, Block, next, Procedure, ConfigField}
 use Rattle.exo_tree.specs.Context.{Context, Here, After, InLoop, InThen, InElse, fill}
 use Rattle.exo_tree.specs.Places.{Branch, Main, Else, Path}
-use Rattle.exo_meaning.specs.Scene.{Scene, stride_at, holds}
+use Rattle.exo_meaning.specs.Scene.{Scene, stride_at}
 use Rattle.exo_meaning.specs.State.{State}
 use Rattle.exo_meaning.specs.Run.{World, argument_number, kinds_of, unit_world}
 use Rattle.exo_meaning.specs.Inputs.{IsAdmissible, IsOfKind}
