@@ -175,20 +175,6 @@ impl DenseRow {
         })
     }
 
-    /// A copy of the row with variable `v` taken out of its coefficients.
-    pub fn without(&self, alloc: Global, v: usize) -> Result<DenseRow, AllocError>
-        requires { v < length self.now.coefficients }
-        ensures { IfOk result (λ r. r ≡ without v self.now) }
-    {
-        let mut coefficients = Vec::with_capacity(alloc, self.coefficients.len())?;
-        coefficients.extend_from_slice(&self.coefficients)?;
-        let _gone = coefficients.remove(v);
-        Ok(DenseRow {
-            constant: self.constant,
-            coefficients,
-        })
-    }
-
     /// `f` times `a` plus `g` times `b`, where each number on the way is at most 2^100 in size.
     pub fn combined(
         alloc: Global,
