@@ -8,7 +8,7 @@ ghost use Rattle.affine_prover.specs.Steps.{stage_of_step, StepSettled};
 
 use crate::answer::Verdict;
 use crate::normalize::normalize;
-use crate::number::gcd;
+use crate::number::{gcd, quotient};
 use crate::row::DenseRow;
 use crate::signs::{BySign, cheapest, split};
 use std::alloc::{AllocError, Global};
@@ -40,8 +40,8 @@ fn combination(
     let a = p.coefficient(v).unsigned_abs();
     let b = q.coefficient(v).unsigned_abs();
     let g = gcd(a, b);
-    let of_lower = (b / g) as i128;
-    let of_upper = (a / g) as i128;
+    let of_lower = quotient(b, g) as i128;
+    let of_upper = quotient(a, g) as i128;
     match DenseRow::combined(alloc, of_lower, p, of_upper, q)? {
         Some(mut row) => {
             row.remove(v);

@@ -1,14 +1,14 @@
 //! Lists of coefficients.
-ghost use Rattle.std.specs.Prelude.{◌≡◌, Some, None, if◌then◌else◌, map, pos, ◌<ℤ◌, length, IfOk, unsigned_abs, ◌≤◌, ◌^◌, OnSome, neg_ℤ};
+ghost use Rattle.std.specs.Prelude.{◌≡◌, Some, None, if◌then◌else◌, map, pos, ◌<ℤ◌, length, IfOk, unsigned_abs, ◌≤◌, ◌^◌, OnSome, neg_ℤ, IsTrue, false};
 ghost use Rattle.affine_prover.specs.Shapes.{AreNarrow};
 ghost use Rattle.std.specs.Int.{int_div_euclid};
 ghost use Rattle.std.specs.List.{All, list_all};
 ghost use Rattle.std.specs.Ordering.{int_eq};
 ghost use Rattle.std.specs.Option.{option_map};
 ghost use Rattle.affine_forms.specs.Bounds.{is_narrow};
-ghost use Rattle.affine_prover.specs.Elimination.{gcd_of, weighed_lists, are_narrow_weighed};
+ghost use Rattle.affine_prover.specs.Elimination.{gcd_of, same_list, weighed_lists, are_narrow_weighed};
 
-use crate::number::{gcd, weighed};
+use crate::number::{floored, gcd, weighed};
 use std::alloc::{AllocError, Global};
 
 /// The greatest common divisor of the coefficients, 0 where all are 0.
@@ -31,7 +31,7 @@ pub fn divide_all(cs: &mut [i128], g: i128)
     ensures { cs.new ≡ map (λ c. int_div_euclid c g) cs.old }
 {
     for c in cs.iter_mut() {
-        *c = c.div_euclid(g);
+        *c = floored(*c, g);
     }
 }
 
@@ -40,6 +40,19 @@ pub fn all_zero(cs: &[i128]) -> bool
     ensures { result ≡ list_all (λ c. int_eq c (pos 0)) cs.now }
 {
     cs.iter().all(|c| *c == 0)
+}
+
+/// Whether the lists have different numbers at one place.
+pub fn differ_at(xs: &[i128], ys: &[i128], v: usize) -> bool
+    ensures { IsTrue result → same_list xs.now ys.now ≡ false }
+{
+    if v >= xs.len() {
+        return false;
+    }
+    if v >= ys.len() {
+        return false;
+    }
+    xs[v] != ys[v]
 }
 
 /// `f` times one list plus `g` times another, where each number on the way is at most 2^100 in size.

@@ -11,8 +11,9 @@ use std::alloc::AllocError;
 fn join(kept: &mut Vec<DenseRow>, row: DenseRow) -> Result<(), AllocError>
     ensures { IfOk result (λ _. kept.new.items ≡ joined kept.old.items row) }
 {
+    let lead = row.lead();
     for i in 0..kept.len() {
-        if kept[i].is_like(&row) {
+        if kept[i].is_like(lead, &row) {
             let k = &mut kept[i];
             k.lower_to(&row);
             return Ok(());

@@ -1,11 +1,11 @@
 //! Dense rows: one coefficient per variable.
 ghost use Rattle.std.specs.Prelude.{◌≡◌, ◌<◌, ◌≤◌, ◌^◌, length, Some, None, if◌then◌else◌, IfOk, unsigned_abs, ℤ, pos, IsTrue};
-ghost use Rattle.std.specs.List.{AllByRecursion, position};
+ghost use Rattle.std.specs.List.{AllByRecursion, position, position_or_len};
 ghost use Rattle.std.specs.Int.{int_min};
-ghost use Rattle.affine_prover.specs.Shapes.{IsNarrow, AreNarrow};
+ghost use Rattle.affine_prover.specs.Shapes.{IsNarrow, AreNarrow, is_present};
 ghost use Rattle.affine_prover.specs.Elimination.{coefficient, is_constant, tightened, same_list, without, combined, is_narrow_combined, is_impossible, is_unit, has_unit, unit_place, solving_factor, negated};
 
-use crate::list::{all_zero, divide_all, gcd_of, negated_list, weighed_lists};
+use crate::list::{all_zero, differ_at, divide_all, gcd_of, negated_list, weighed_lists};
 use crate::number::weighed;
 use std::alloc::{AllocError, Global};
 use std::marker::Model;
@@ -84,11 +84,29 @@ impl DenseRow {
         }
     }
 
-    /// Whether both rows have the same coefficients.
-    pub fn is_like(&self, other: &DenseRow) -> bool
+    /// The lowest variable that stands in the row, if one does.
+    fn first_present(&self) -> Option<usize>
+        ensures { result ≡ position is_present self.now.coefficients }
+    {
+        self.coefficients.iter().position(|c| *c != 0)
+    }
+
+    /// The lowest variable that stands in the row, or the number of variables.
+    pub fn lead(&self) -> usize
+        ensures { result ≡ position_or_len is_present self.now.coefficients }
+    {
+        match self.first_present() {
+            Some(v) => v,
+            None => self.width(),
+        }
+    }
+
+    /// Whether both rows have the same coefficients. Place `v` is looked at first: where it is the lead of one of them,
+    /// most rows that differ do so there.
+    pub fn is_like(&self, v: usize, other: &DenseRow) -> bool
         ensures { result ≡ same_list self.now.coefficients other.now.coefficients }
     {
-        self.coefficients == other.coefficients
+        !differ_at(&self.coefficients, &other.coefficients, v) && self.coefficients == other.coefficients
     }
 
     /// Lowers the constant to that of the other row, where that is less.
