@@ -81,8 +81,12 @@ appended-next f n xs i x y start made next l e is m a p =
       ap (list_all n) more ∙ list_all-append n (take i xs) (x ∷ []) ∙ ap (λ b. b && (n x && true)) a ∙ ap (λ b. b && true) one.0,
     )
 
-pub mapped-next : {X Y : Type 0} (f : X → Y) (n : X → Bool) (xs : List X) (i : ℕ) (x : X) (y : Y) (made next : List Y) → i < length xs → x ≡ get_or xs i x → Some y ≡ cond (n x) (Some (f x)) None → made ≡ map f (take i xs) → list_all n (take i xs) ≡ true → next ≡ made ++ y ∷ [] → (next ≡ map f (take (i + 1) xs)) × (list_all n (take (i + 1) xs) ≡ true)
-mapped-next f n xs i x y made next l e is m a p = appended-next f n xs i x y [] made next l e is m a p
+pub last-made : {X Y : Type 0} (f : X → Y) (n : X → Bool) (xs : List X) (x : X) (y : Y) (made next : List Y) → Some y ≡ cond (n x) (Some (f x)) None → made ≡ map f xs → list_all n xs ≡ true → next ≡ made ++ y ∷ [] → (next ≡ map f (xs ++ x ∷ [])) × (list_all n (xs ++ x ∷ []) ≡ true)
+last-made f n xs x y made next is m a p =
+    let one = some-kept (n x) (f x) y is in (
+      p ∙ ap (λ zs. zs ++ y ∷ []) m ∙ ap (λ z. map f xs ++ z ∷ []) one.1 ∙ sym (map_push f xs x),
+      list_all-append n xs (x ∷ []) ∙ ap (λ b. b && (n x && true)) a ∙ ap (λ b. b && true) one.0,
+    )
 
 pub none-made : {X Y : Type 0} (f : X → Y) (n : X → Bool) (xs : List X) (i : ℕ) (x : X) → i < length xs → x ≡ get_or xs i x → None ≡ cond (n x) (Some (f x)) None → None ≡ cond (list_all n xs) (Some (map f xs)) None
 none-made f n xs i x l e is =

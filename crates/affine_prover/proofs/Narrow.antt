@@ -1,5 +1,5 @@
 -- Steps that stop at a number that is too wide.
-use Rattle.std.proofs.Common.{◌≤◌, ◌^◌, unsigned_abs, arith, Bool, true, false, cond, ◌&&◌, ◌≡◌, Option, Some, None, ℤ, ◌+ℤ◌, ◌*ℤ◌, ap, sym, ◌∙◌, refl}
+use Rattle.std.proofs.Common.{◌≤◌, ◌^◌, unsigned_abs, arith, Bool, true, false, cond, ◌&&◌, ◌≡◌, Option, Some, None, ℤ, pos, ◌+ℤ◌, ◌*ℤ◌, ap, sym, ◌∙◌, refl}
 use Rattle.std.proofs.lemmas.Bool.Decides.{nat_tests}
 use Rattle.std.proofs.lemmas.Int.{ints, unsigned_abs-mul}
 use Rattle.std.proofs.Math.Nat.{mul-le-mul_left}
@@ -28,7 +28,7 @@ product-small a b h k = omega (arith, unsigned_abs-mul a b, mul-le-mul_left (uns
 pub sum-small : (a b : ℤ) → unsigned_abs a ≤ 2 ^ 98 → unsigned_abs b ≤ 2 ^ 98 → unsigned_abs (a +ℤ b) ≤ 2 ^ 99
 sum-small a b h k = omega (arith, ints)
 
-narrow_from : (z : ℤ) → unsigned_abs z ≤ 2 ^ 100 → is_narrow z ≡ true
+pub narrow_from : (z : ℤ) → unsigned_abs z ≤ 2 ^ 100 → is_narrow z ≡ true
 narrow_from z h = grind (arith, nat_tests)
 
 pub weighed-small : (f x g y : ℤ) → unsigned_abs f ≤ 2 ^ 49 → unsigned_abs x ≤ 2 ^ 49 → unsigned_abs g ≤ 2 ^ 49 → unsigned_abs y ≤ 2 ^ 49 → Some (weighed f x g y) ≡ cond (is_narrow_weighed f x g y) (Some (weighed f x g y)) None

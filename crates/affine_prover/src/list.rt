@@ -8,7 +8,7 @@ ghost use Rattle.std.specs.Option.{option_map};
 ghost use Rattle.affine_forms.specs.Bounds.{is_narrow};
 ghost use Rattle.affine_prover.specs.Elimination.{gcd_of, same_list, weighed_lists, are_narrow_weighed};
 
-use crate::number::{floored, gcd, weighed};
+use crate::number::{added, floored, gcd, weighed};
 use std::alloc::{AllocError, Global};
 
 /// The greatest common divisor of the coefficients, 0 where all are 0.
@@ -74,6 +74,22 @@ pub fn weighed_lists(
         }
     }
     Ok(Some(out))
+}
+
+/// Adds `g` times one list to another in place, and says whether each number on the way is at most 2^100 in size.
+pub fn add_times(xs: &mut [i128], g: i128, ys: &[i128]) -> bool
+    requires same { length xs.old ≡ length ys.now }
+    requires narrow { AreNarrow xs.old }
+    ensures narrow { result ≡ are_narrow_weighed (pos 1) xs.old g ys.now }
+    ensures sum { IsTrue result → xs.new ≡ weighed_lists (pos 1) xs.old g ys.now }
+{
+    for i in 0..xs.len() {
+        match added(xs[i], g, ys[i]) {
+            Some(z) => xs[i] = z,
+            None => return false,
+        }
+    }
+    true
 }
 
 /// The opposite numbers.

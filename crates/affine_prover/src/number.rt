@@ -46,15 +46,28 @@ fn wide_weighed(f: i128, x: i128, g: i128, y: i128) -> Option<i128>
     sum(left, right)
 }
 
-/// `f * x + g * y`, where both products and the sum are at most 2^100 in size. Small numbers need no test of overflow.
+/// `f * x + g * y`, where both products and the sum are at most 2^100 in size.
+/// Small numbers need no test of overflow, and most coefficients are 0.
 #[inline]
 pub fn weighed(f: i128, x: i128, g: i128, y: i128) -> Option<i128>
     ensures { result ≡ (if is_narrow_weighed f x g y then Some (weighed f x g y) else None) }
 {
+    if x == 0 && y == 0 {
+        return Some(0);
+    }
     if is_small(f) && is_small(x) && is_small(g) && is_small(y) {
         return Some(f * x + g * y);
     }
     wide_weighed(f, x, g, y)
+}
+
+/// `x + g * y`, where the product and the sum are at most 2^100 in size. Most numbers of an equation are 0.
+#[inline]
+pub fn added(x: i128, g: i128, y: i128) -> Option<i128>
+    requires { IsTrue (is_narrow x) }
+    ensures { result ≡ (if is_narrow_weighed (pos 1) x g y then Some (weighed (pos 1) x g y) else None) }
+{
+    if y == 0 { Some(x) } else { weighed(1, x, g, y) }
 }
 
 /// The greatest common divisor of two numbers of any size.

@@ -3,9 +3,9 @@ ghost use Rattle.std.specs.Prelude.{◌≡◌, ◌<◌, ◌≤◌, ◌^◌, leng
 ghost use Rattle.std.specs.List.{AllByRecursion, position, position_or_len};
 ghost use Rattle.std.specs.Int.{int_min};
 ghost use Rattle.affine_prover.specs.Shapes.{IsNarrow, AreNarrow, is_present};
-ghost use Rattle.affine_prover.specs.Elimination.{coefficient, is_constant, tightened, same_list, without, combined, is_narrow_combined, is_impossible, is_unit, has_unit, unit_place, solving_factor, negated};
+ghost use Rattle.affine_prover.specs.Elimination.{coefficient, is_constant, tightened, same_list, without, combined, is_narrow_combined, is_impossible, is_unit, has_unit, unit_place, substituted, is_narrow_substituted, solving_factor, negated};
 
-use crate::list::{all_zero, differ_at, divide_all, gcd_of, negated_list, weighed_lists};
+use crate::list::{add_times, all_zero, differ_at, divide_all, gcd_of, negated_list, weighed_lists};
 use crate::number::weighed;
 use std::alloc::{AllocError, Global};
 use std::marker::Model;
@@ -180,6 +180,30 @@ impl DenseRow {
     {
         let c = self.coefficient(v);
         if e.coefficient(v) == 1 { -c } else { c }
+    }
+
+    /// The row with the solution of `e` for its variable `v` put in, where each number on the way is at most 2^100 in size.
+    pub fn substituted(self, v: usize, e: &DenseRow) -> Option<DenseRow>
+        requires wide { length self.coefficients ≡ length e.now.coefficients }
+        requires below { v < length e.now.coefficients }
+        requires unit { IsTrue (is_unit (coefficient e.now v)) }
+        ensures { result ≡ (if is_narrow_substituted v e.now self then Some (substituted v e.now self) else None) }
+    {
+        let factor = self.solving_factor(v, e);
+        let DenseRow {
+            constant,
+            coefficients,
+        } = self;
+        let mut coefficients = coefficients;
+        let constant = weighed(1, constant, factor, e.constant)?;
+        if !add_times(&mut coefficients, factor, &e.coefficients) {
+            return None;
+        }
+        let _gone = coefficients.remove(v);
+        Some(DenseRow {
+            constant,
+            coefficients,
+        })
     }
 
     /// The row of the opposite numbers.
