@@ -1,5 +1,5 @@
 //! Dense rows: one coefficient per variable.
-ghost use Rattle.std.specs.Prelude.{◌≡◌, ◌<◌, ◌≤◌, ◌^◌, length, Some, None, if◌then◌else◌, IfOk, unsigned_abs, ℤ, pos, IsTrue};
+ghost use Rattle.std.specs.Prelude.{◌≡◌, ◌<◌, ◌≤◌, ◌^◌, ◌+◌, ◌-◌, reverse, length, Some, None, if◌then◌else◌, IfOk, unsigned_abs, ℤ, pos, IsTrue};
 ghost use Rattle.std.specs.List.{AllByRecursion, position, position_or_len};
 ghost use Rattle.std.specs.Int.{int_min};
 ghost use Rattle.affine_prover.specs.Shapes.{IsNarrow, AreNarrow, is_present};
@@ -84,20 +84,20 @@ impl DenseRow {
         }
     }
 
-    /// The lowest variable that stands in the row, if one does.
-    fn first_present(&self) -> Option<usize>
-        ensures { result ≡ position is_present self.now.coefficients }
+    /// How many variables after the last one that stands in the row have no coefficient.
+    fn trailing(&self) -> Option<usize>
+        ensures { result ≡ position is_present (reverse self.now.coefficients) }
     {
-        self.coefficients.iter().position(|c| *c != 0)
+        self.coefficients.iter().rev().position(|c| *c != 0)
     }
 
-    /// The lowest variable that stands in the row, or the number of variables.
+    /// The last variable that stands in the row, or 0 where none does.
     pub fn lead(&self) -> usize
-        ensures { result ≡ position_or_len is_present self.now.coefficients }
+        ensures { result ≡ length self.now.coefficients - (1 + position_or_len is_present (reverse self.now.coefficients)) }
     {
-        match self.first_present() {
-            Some(v) => v,
-            None => self.width(),
+        match self.trailing() {
+            Some(i) => self.width() - 1 - i,
+            None => 0,
         }
     }
 
