@@ -1,7 +1,8 @@
--- One more element of a filter, of what is made of it and of a test on it.
-use Rattle.std.proofs.Common.{ℕ, zero, suc, ◌+◌, ◌<◌, ◌≡◌, Bool, true, false, cond, ◌&&◌, List, [], ◌∷◌, ◌++◌, map, length, take, get_or, ℤ, pos, negsuc, Some, None, arith, ap, sym, ◌∙◌, refl, append_assoc}
+-- One more row, by the sign of a variable in it; and one more element that is made.
+use Rattle.std.proofs.Common.{ℕ, zero, suc, ◌+◌, ◌<◌, ◌≡◌, Bool, true, false, cond, ◌&&◌, List, [], ◌∷◌, ◌++◌, map, length, take, get_or, ℤ, pos, Some, None, arith, ap, sym, ◌∙◌, refl, append_assoc}
 use Rattle.std.specs.List.{filter, list_all}
 use Rattle.std.proofs.lemmas.List.{take_more, map_push, append-nil}
+use Rattle.std.proofs.lemmas.List.Elements.{filter-append}
 use Rattle.std.proofs.lemmas.List.Folds.{list_all-append}
 use Rattle.std.proofs.lemmas.Int.{ints}
 use Rattle.std.proofs.lemmas.Bool.Decides.{Decides-int_eq}
@@ -11,14 +12,6 @@ use Rattle.std.specs.Ordering.{int_eq}
 use Rattle.affine_forms.specs.Affine.{Affine}
 use Rattle.affine_prover.specs.Elimination.{coefficient, is_free, is_lower_bound, is_upper_bound}
 use Rattle.affine_prover.proofs.Narrow.{some-kept, none-kept}
-
-pub filter-append : {X : Type 0} (t : X → Bool) (xs ys : List X) → filter t (xs ++ ys) ≡ filter t xs ++ filter t ys
-filter-append t [] ys = refl
-filter-append {X} t (x ∷ xs) ys = by (t x) (filter-append t xs ys)
-  where
-    by : (b : Bool) → filter t (xs ++ ys) ≡ filter t xs ++ filter t ys → cond b (x ∷ filter t (xs ++ ys)) (filter t (xs ++ ys)) ≡ cond b (x ∷ filter t xs) (filter t xs) ++ filter t ys
-    by true e = ap (λ zs. x ∷ zs) e
-    by false e = e
 
 -- ---- one more row, by the sign of a variable
 filter-last : {X : Type 0} (t : X → Bool) (xs : List X) (x : X) (b : Bool) → t x ≡ b → filter t (xs ++ x ∷ []) ≡ filter t xs ++ cond b (x ∷ []) []

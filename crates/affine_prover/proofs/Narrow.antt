@@ -1,5 +1,5 @@
 -- Steps that stop at a number that is too wide.
-use Rattle.std.proofs.Common.{◌≤◌, ◌^◌, unsigned_abs, arith, Bool, true, false, cond, ◌&&◌, ◌≡◌, Option, Some, None, ℤ, pos, ◌+ℤ◌, ◌*ℤ◌, ap, sym, ◌∙◌, refl}
+use Rattle.std.proofs.Common.{◌≤◌, ◌^◌, unsigned_abs, arith, Bool, true, false, cond, ◌&&◌, ◌≡◌, Option, Some, None, ℤ, ◌+ℤ◌, ◌*ℤ◌, ap, sym, ◌∙◌, refl}
 use Rattle.std.proofs.lemmas.Bool.Decides.{nat_tests}
 use Rattle.std.proofs.lemmas.Int.{ints, unsigned_abs-mul}
 use Rattle.std.proofs.Math.Nat.{mul-le-mul_left}

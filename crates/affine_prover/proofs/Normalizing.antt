@@ -9,9 +9,6 @@ use Rattle.affine_prover.specs.Elimination.{joined, tightened, is_constant, is_f
 use Rattle.affine_prover.specs.Settled.{normalized_onto}
 use Rattle.std.proofs.Math.Bool.{or-true}
 
-lowered : Affine → Affine → Affine
-lowered k r = record k { constant = int_min k.constant r.constant }
-
 pub joined-past : (ks : List Affine) (r k : Affine) (i : ℕ) → i < length ks → k ≡ get_or ks i k → same_list k.coefficients r.coefficients ≡ false → take i ks ++ joined (drop i ks) r ≡ take (i + 1) ks ++ joined (drop (i + 1) ks) r
 joined-past ks r k i l e h =
     ap (λ xs. take i ks ++ joined xs r) (drop_more ks i k l)

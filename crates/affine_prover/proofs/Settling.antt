@@ -1,12 +1,12 @@
 -- Rows that are settled: normalizing leaves them as they are, and what normalizing leaves is settled.
-use Rattle.std.proofs.Common.{ℕ, zero, suc, ◌+◌, ◌*◌, ◌<◌, ◌≡◌, ◌==◌, Bool, true, false, not, cond, ◌&&◌, ◌||◌, List, [], ◌∷◌, ◌++◌, map, length, get_or, Option, Some, None, ℤ, pos, negsuc, ◌*ℤ◌, unsigned_abs, arith, ap, sym, subst, ◌∙◌, refl, append_assoc}
+use Rattle.std.proofs.Common.{ℕ, zero, suc, ◌*◌, ◌<◌, ◌≡◌, ◌==◌, Bool, true, false, not, cond, ◌&&◌, ◌||◌, List, [], ◌∷◌, ◌++◌, map, length, get_or, Some, None, ℤ, pos, unsigned_abs, arith, ap, sym, subst, ◌∙◌, refl, append_assoc}
 use Rattle.std.specs.List.{AllByRecursion, filter, fold, list_any, list_all, remove}
 use Rattle.std.specs.Int.{int_div_euclid, int_min, is_negative, ◌∣◌}
 use Rattle.std.specs.Ordering.{int_eq}
 use Rattle.std.proofs.lemmas.Int.{ints}
 use Rattle.std.proofs.lemmas.Bool.Decides.{nat_tests, Decides-int_eq}
 use Rattle.std.proofs.lemmas.List.{map-append, append-nil}
-use Rattle.std.proofs.lemmas.List.Elements.{recursion_from_All}
+use Rattle.std.proofs.lemmas.List.Elements.{filter-append, recursion_from_All}
 use Rattle.std.proofs.lemmas.List.Folds.{list_any-append}
 use Rattle.std.proofs.lemmas.List.Sums.{fold-append}
 use Rattle.std.proofs.lemmas.Int.{unsigned_abs-mul}
@@ -16,9 +16,8 @@ use Rattle.affine_forms.specs.Affine.{Affine}
 use Rattle.affine_prover.specs.Shapes.{AreWide}
 use Rattle.affine_prover.specs.Settled.{IsTight, DiffersFrom, AreDifferent, AreSettled, normalized_onto}
 use Rattle.affine_prover.specs.Elimination.{gcd, gcd_of, same_list, tightened, joined, merged, is_constant, is_false, normalized, is_free, without, coefficient}
-use Rattle.affine_prover.proofs.Divisors.{gcd-is, gcd_fold-divides, gcd_of-divides, quotient-exact, zero-gcd}
+use Rattle.affine_prover.proofs.Divisors.{gcd-is, gcd_of-divides, quotient-exact, zero-gcd}
 use Rattle.affine_prover.proofs.Everywhere.{both, everywhere-like, everywhere-filter, everywhere-map}
-use Rattle.affine_prover.proofs.Filtering.{filter-append}
 use Rattle.affine_prover.proofs.RowFacts.{tightened-same}
 use Rattle.affine_prover.proofs.Widths.{IsWide}
 

@@ -1,5 +1,5 @@
 -- Rows that normalizing leaves as they are, so that a stage need not look at them again.
-use Rattle.std.specs.Prelude.{◌≡◌, Bool, false, not, if◌then◌else◌, List, [], ◌∷◌, map, Option, Some, None}
+use Rattle.std.specs.Prelude.{◌≡◌, false, not, if◌then◌else◌, List, [], ◌∷◌, map, Option, Some, None}
 use Rattle.std.specs.List.{AllByRecursion, filter, fold, list_any}
 use Rattle.affine_forms.specs.Affine.{Affine}
 use Rattle.affine_prover.specs.Elimination.{gcd_of, same_list, tightened, joined, is_constant, is_false}

@@ -5,7 +5,9 @@ ghost use Rattle.std.specs.Int.{int_min};
 ghost use Rattle.affine_prover.specs.Shapes.{IsNarrow, AreNarrow, is_present};
 ghost use Rattle.affine_prover.specs.Elimination.{coefficient, is_constant, tightened, same_list, without, combined, is_narrow_combined, is_impossible, is_unit, has_unit, unit_place, substituted, is_narrow_substituted, solving_factor, negated};
 
-use crate::list::{add_times, all_zero, differ_at, divide_all, gcd_of, negated_list, weighed_lists};
+use crate::list::{
+    add_times, all_zero, differ_at, divide_all, gcd_of, negated_list, weighed_lists,
+};
 use crate::number::weighed;
 use std::alloc::{AllocError, Global};
 use std::marker::Model;
@@ -106,7 +108,8 @@ impl DenseRow {
     pub fn is_like(&self, v: usize, other: &DenseRow) -> bool
         ensures { result ≡ same_list self.now.coefficients other.now.coefficients }
     {
-        !differ_at(&self.coefficients, &other.coefficients, v) && self.coefficients == other.coefficients
+        !differ_at(&self.coefficients, &other.coefficients, v)
+            && self.coefficients == other.coefficients
     }
 
     /// Lowers the constant to that of the other row, where that is less.
@@ -124,18 +127,6 @@ impl DenseRow {
         ensures { self.new ≡ without v self.old }
     {
         let _gone = self.coefficients.remove(v);
-    }
-
-    /// A copy of the row.
-    pub fn copy(&self, alloc: Global) -> Result<DenseRow, AllocError>
-        ensures { IfOk result (λ r. r ≡ self.now) }
-    {
-        let mut coefficients = Vec::with_capacity(alloc, self.coefficients.len())?;
-        coefficients.extend_from_slice(&self.coefficients)?;
-        Ok(DenseRow {
-            constant: self.constant,
-            coefficients,
-        })
     }
 
     /// Whether no integers make the sum 0: the gcd of the coefficients does not divide the constant.

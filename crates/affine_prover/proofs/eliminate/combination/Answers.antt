@@ -1,4 +1,4 @@
-use Rattle.std.proofs.Common.{arith, sym, ◌∙◌, to_z, ◌/◌}
+use Rattle.std.proofs.Common.{arith, sym, ◌∙◌, to_z}
 use Rattle.std.specs.Int.{w128}
 use Rattle.std.proofs.lemmas.Int.{ints}
 use Rattle.affine_prover.proofs.RowFacts.{combined-width}

@@ -1,4 +1,4 @@
-use Rattle.std.proofs.Common.{◌≡◌, ◌+◌, ◌*◌, ◌++◌, map, arith, sym, ap, subst, ◌∙◌, true, false}
+use Rattle.std.proofs.Common.{◌+◌, ◌*◌, ◌++◌, map, arith, sym, ap, subst, ◌∙◌, true, false}
 use Rattle.std.specs.Prelude.{IsTrue}
 use Rattle.std.specs.List.{All, flat_map}
 use Rattle.affine_prover.specs.Shapes.{AreWide}

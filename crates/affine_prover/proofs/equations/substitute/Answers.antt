@@ -1,8 +1,6 @@
-use Rattle.std.proofs.Common.{arith, sym, ap, ◌∙◌, ◌≡◌, length, map, cond, Some, None}
-use Rattle.std.specs.List.{list_all}
-use Rattle.std.proofs.lemmas.List.{map-id}
+use Rattle.std.proofs.Common.{arith, sym, ◌∙◌, length}
 use Rattle.std.proofs.lemmas.Iterator.Adapters.{YieldsList-from_vec}
-use Rattle.std.proofs.lemmas.Iterator.Consumers.{YieldsList-turn, YieldsList-end}
+use Rattle.std.proofs.lemmas.Iterator.Consumers.{YieldsList-turn}
 use Rattle.affine_prover.specs.Elimination.{substituted, is_narrow_substituted}
 use Rattle.affine_prover.proofs.Filtering.{last-made, none-made}
 use Rattle.affine_prover.proofs.equations.substitute.Goals as goal

@@ -1,10 +1,10 @@
-use Rattle.std.proofs.Common.{arith, rules, ◌≡◌, sym, ap, ◌∙◌, ◌++◌, ◌∷◌, [], true, false, map, pos, to_z, of_z, ℤ}
+use Rattle.std.proofs.Common.{rules, sym, ap, ◌∙◌, ◌++◌, ◌∷◌, [], map, pos}
 use Rattle.std.proofs.lemmas.Int.{to_z-of_z}
 use Rattle.std.proofs.lemmas.List.{map_push}
 use Rattle.std.specs.Int.{w128}
 use Rattle.std.specs.Int.RustNames.{FitsSigned, int_lt}
 use Rattle.std.specs.List.{filter}
-use Rattle.affine_prover.specs.Elimination.{is_free, is_lower_bound, is_upper_bound, without}
+use Rattle.affine_prover.specs.Elimination.{is_free, without}
 use Rattle.affine_prover.proofs.Filtering.{lower_row, upper_row, free_row}
 use Rattle.affine_prover.proofs.signs.split.Goals as goal
 

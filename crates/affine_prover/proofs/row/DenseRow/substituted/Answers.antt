@@ -1,4 +1,4 @@
-use Rattle.std.proofs.Common.{◌≡◌, Some, None, cond, rules, sym, ap, ◌∙◌, arith, refl, pos, true, take, drop, ◌++◌, length}
+use Rattle.std.proofs.Common.{◌≡◌, Some, None, cond, rules, ap, ◌∙◌, arith, refl, pos, take, drop, ◌++◌, length}
 use Rattle.std.proofs.lemmas.Int.{to_z-of_z, fits_signed_from_abs}
 use Rattle.std.proofs.lemmas.List.{with_items_is}
 use Rattle.std.specs.Int.{w128}
