@@ -17,6 +17,7 @@ abbrev pub AreDifferent : List Affine → Type 0
 AreDifferent [] = Unit {0}
 AreDifferent (r ∷ rs) = AllByRecursion (DiffersFrom r) rs × AreDifferent rs
 
+-- each row is tight, and no two have the same coefficients: normalizing leaves them as they are
 abbrev pub AreSettled : List Affine → Type 0
 AreSettled rows = AllByRecursion IsTight rows × AreDifferent rows
 

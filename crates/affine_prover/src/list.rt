@@ -1,12 +1,12 @@
 //! Lists of coefficients.
-ghost use Rattle.std.specs.Prelude.{◌≡◌, Some, None, if◌then◌else◌, map, pos, ◌<ℤ◌, length, IfOk, unsigned_abs, ◌≤◌, ◌^◌, OnSome, neg_ℤ, IsTrue, false};
+ghost use Rattle.std.specs.Prelude.{◌≡◌, Some, None, if◌then◌else◌, map, pos, ◌<ℤ◌, length, IfOk, unsigned_abs, ◌≤◌, ◌^◌, OnSome, neg_ℤ, IsTrue, slice_index_or};
 ghost use Rattle.affine_prover.specs.Shapes.{AreNarrow};
 ghost use Rattle.std.specs.Int.{int_div_euclid};
 ghost use Rattle.std.specs.List.{All, list_all};
 ghost use Rattle.std.specs.Ordering.{int_eq};
 ghost use Rattle.std.specs.Option.{option_map};
 ghost use Rattle.affine_forms.specs.Bounds.{is_narrow};
-ghost use Rattle.affine_prover.specs.Elimination.{gcd_of, same_list, weighed_lists, are_narrow_weighed};
+ghost use Rattle.affine_prover.specs.Elimination.{gcd_of, weighed_lists, are_narrow_weighed};
 
 use crate::number::{added, floored, gcd, weighed};
 use std::alloc::{AllocError, Global};
@@ -42,17 +42,11 @@ pub fn all_zero(cs: &[i128]) -> bool
     cs.iter().all(|c| *c == 0)
 }
 
-/// Whether the lists have different numbers at one place.
-pub fn differ_at(xs: &[i128], ys: &[i128], v: usize) -> bool
-    ensures { IsTrue result → same_list xs.now ys.now ≡ false }
+/// The number at a place, 0 behind the end.
+pub fn number_at(xs: &[i128], v: usize) -> i128
+    ensures { result ≡ slice_index_or xs.now v (pos 0) }
 {
-    if v >= xs.len() {
-        return false;
-    }
-    if v >= ys.len() {
-        return false;
-    }
-    xs[v] != ys[v]
+    if v < xs.len() { xs[v] } else { 0 }
 }
 
 /// `f` times one list plus `g` times another, where each number on the way is at most 2^100 in size.

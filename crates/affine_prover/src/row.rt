@@ -6,7 +6,7 @@ ghost use Rattle.affine_prover.specs.Shapes.{IsNarrow, AreNarrow, is_present};
 ghost use Rattle.affine_prover.specs.Elimination.{coefficient, is_constant, tightened, same_list, without, combined, is_narrow_combined, is_impossible, is_unit, has_unit, unit_place, substituted, is_narrow_substituted, solving_factor, negated};
 
 use crate::list::{
-    add_times, all_zero, differ_at, divide_all, gcd_of, negated_list, weighed_lists,
+    add_times, all_zero, divide_all, gcd_of, negated_list, number_at, weighed_lists,
 };
 use crate::number::weighed;
 use std::alloc::{AllocError, Global};
@@ -108,8 +108,10 @@ impl DenseRow {
     pub fn is_like(&self, v: usize, other: &DenseRow) -> bool
         ensures { result ≡ same_list self.now.coefficients other.now.coefficients }
     {
-        !differ_at(&self.coefficients, &other.coefficients, v)
-            && self.coefficients == other.coefficients
+        if number_at(&self.coefficients, v) != number_at(&other.coefficients, v) {
+            return false;
+        }
+        self.coefficients == other.coefficients
     }
 
     /// Lowers the constant to that of the other row, where that is less.
