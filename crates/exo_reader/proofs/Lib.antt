@@ -2,8 +2,7 @@ pub mod Signs
 pub mod Sizes
 pub mod Chains
 pub mod Atoms
-pub mod Returns
-pub mod Procedures
+pub mod Indices
+pub mod Productions
 pub mod Lists
 pub mod FirstPrograms
-pub mod FirstTexts
