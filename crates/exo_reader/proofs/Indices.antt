@@ -1,7 +1,7 @@
 -- Lists of indices in a tree and outside of one.
 use Rattle.std.proofs.Common.{◌≡◌, ℕ, ◌+◌, ◌-◌, ◌<◌, ◌≤◌, max, Bool, false, List, [], ◌∷◌, ◌++◌, length, map, refl, sym, ap, ◌∙◌, subst, arith}
 use Rattle.std.proofs.Math.Nat.{le-max_left, le-max_right, max-le}
-use Rattle.phrases.specs.Limits.{Limits, Keeps}
+use Rattle.phrases.specs.Limits.{Limits, in_size, Keeps}
 use Rattle.phrases.specs.Sequence.{AllFit}
 use Rattle.phrases.specs.Commas.{spell_more, ListingFits, spell_listing}
 use Rattle.phrases.proofs.Phrases.{keeps_map, keeps_both, keeps_all}
@@ -68,3 +68,10 @@ pub deepest-snoc : (list : List Tree) (t : Tree) → deepest (trees (list ++ (t 
 deepest-snoc [] t = omega arith
 deepest-snoc (a ∷ list) t =
     let e : deepest (trees (list ++ (t ∷ []))) ≡ max (deepest (trees list)) (depth t) = deepest-snoc list t in omega (arith, e)
+
+deepest_by : (level : ℕ) (list : List Tree) → AllFit (operand 0 (control_room level)) in_size list → deepest (trees list) ≤ level
+deepest_by level list fits = (all_out in_size level list fits).1.0
+
+pub deepest_of : (level : ℕ) (list : List Tree) → ListingFits (operand 0 (control_room level)) FewDimensions in_size list → deepest (trees list) ≤ level
+deepest_of level [] fits = absurd fits
+deepest_of level (t ∷ ts) fits = deepest_by level (t ∷ ts) (fits.0, fits.1)

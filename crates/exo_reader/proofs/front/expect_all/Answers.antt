@@ -1,5 +1,5 @@
 use Rattle.phrases.proofs.Exits.{exit}
-use Rattle.exo_reader.proofs.Procedures.{words_err}
+use Rattle.exo_reader.proofs.Words.{words_err}
 use Rattle.exo_reader.proofs.front.expect_all.Goals as goal
 
 pub returns-in_err-rest : goal.returns-in_err-rest
