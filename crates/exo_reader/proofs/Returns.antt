@@ -195,11 +195,11 @@ long_of taken = (taken.fits in_size).1.1.0
 
 -- what is left of a room where something was read below
 
-pub left_of : {level : ℕ} {room inner : Room} {tokens rest : List Token} {t : Tree} (n : ℕ) → inner ≡ under n room → Taken (operand level inner) tokens t rest → nodes t + n ≤ room.nodes
-left_of {t = t} n same taken = omega (arith, long_of (roomed same taken), nodes_some t)
+pub left_of : {level : ℕ} {inner : Room} {tokens rest : List Token} {t : Tree} (room : Room) (n : ℕ) → inner ≡ under n room → Taken (operand level inner) tokens t rest → nodes t + n ≤ room.nodes
+left_of {t = t} room n same taken = omega (arith, long_of (roomed same taken), nodes_some t)
 
-pub deep_left : {level : ℕ} {room inner : Room} {tokens rest : List Token} {t : Tree} (n : ℕ) → inner ≡ under n room → Taken (operand level inner) tokens t rest → depth t + 1 ≤ room.depth
-deep_left {t = t} n same taken = omega (arith, deep_of (roomed same taken), depth_some t)
+pub deep_left : {level : ℕ} {inner : Room} {tokens rest : List Token} {t : Tree} (room : Room) (n : ℕ) → inner ≡ under n room → Taken (operand level inner) tokens t rest → depth t + 1 ≤ room.depth
+deep_left {t = t} room n same taken = omega (arith, deep_of (roomed same taken), depth_some t)
 
 pub place_under : (room inner : Room) (n : ℕ) → inner ≡ under n room → 1 < room.depth → n < room.nodes → HasPlace inner
 place_under room inner n same deep long = subst HasPlace (sym same) (record { depth = omega arith; nodes = omega arith })
@@ -270,8 +270,8 @@ rights room inner m measured same shallow few =
 
 -- cells
 
-pub depth_of : Room → ℕ
-depth_of room = room.depth
+pub deep_inside : (room inner : Room) → inner ≡ under 0 room → inner.depth ≡ room.depth - 1
+deep_inside room inner same = ap (λ (r : Room). r.depth) same
 
 pub cell_err : (room inner : Room) (n : List ℕ) (tokens after : List Token) (e : Refusal) → HasPlace room → IsShortName n → 1 < room.depth → inner ≡ under 0 room → tokens ≡ Sign s.OpenBracket ∷ after → Refuses (indices inner.depth) after e → Refuses (operand 5 room) (Name n ∷ tokens) e
 cell_err room inner n tokens after e place short deep same front refuses =

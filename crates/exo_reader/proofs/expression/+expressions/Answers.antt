@@ -8,8 +8,9 @@ use Rattle.exo_reader.proofs.Chains.{taken_of_begun}
 use Rattle.exo_reader.proofs.Atoms.{wide_minus, wide_open, wide_relu, wide_select}
 use Rattle.exo_reader.proofs.Made.{made_truth, made_name}
 use Rattle.exo_reader.proofs.Productions.{step_negative, step_parens, close_joint, step_relu, open_joint, step_cell, indices_joint, step_select, choice0, choice1, choice2, choice3, comma1, comma2, comma3, comma_apart}
-use Rattle.exo_reader.proofs.Returns.{renamed, roomed, roomed_err, fronted, fronted_err, true_ok, false_ok, variable_ok, long_err, full_front, full_cell, word_err, sign_err, start_err, end_err, full_err, first_err, begun_first, chain_err, chain_next, compare_none, compare_full, compare_err, compare_ok, all_err, left_of, deep_left, place_under, same_two, same_three, same_four, deep_indices, depth_of, cell_err, bracket_err, cell_ok, indices_err_first, indices_full, indices_err, indices_next, deepest_next, indices_ok}
+use Rattle.exo_reader.proofs.Returns.{renamed, roomed, roomed_err, fronted, fronted_err, true_ok, false_ok, variable_ok, long_err, full_front, full_cell, word_err, sign_err, start_err, end_err, full_err, first_err, begun_first, chain_err, chain_next, compare_none, compare_full, compare_err, compare_ok, all_err, left_of, deep_left, place_under, same_two, same_three, same_four, deep_indices, deep_inside, cell_err, bracket_err, cell_ok, indices_err_first, indices_full, indices_err, indices_next, deepest_next, indices_ok}
 use Rattle.exo_reader.specs.Expression.{HasPlace}
+use Rattle.exo_reader.specs.Views.{tree_of}
 use Rattle.exo_reader.proofs.expression.+expressions.Goals as goal
 
 -- operators
@@ -154,19 +155,19 @@ read_unary-returns-in_default-token t c =
 
 pub read_chain-joined-requires-clause-shallow : goal.read_chain-joined-requires-clause-shallow
 read_chain-joined-requires-clause-shallow t c =
-    (omega (arith, c.in_ok-inner.ensures.0.shallow, c.loop-operator.invariant.measured.depth), omega (arith, c.in_ok-right.ensures.measured.depth, deep_left _ c.in_ok-inner.ensures.0.is c.in_ok-right.ensures.reads))
+    (omega (arith, c.in_ok-inner.ensures.0.shallow, c.loop-operator.invariant.measured.depth), omega (arith, c.in_ok-right.ensures.measured.depth, deep_left _ _ c.in_ok-inner.ensures.0.is c.in_ok-right.ensures.reads))
 
 pub read_chain-joined-requires-clause-few : goal.read_chain-joined-requires-clause-few
 read_chain-joined-requires-clause-few t c =
-    omega (arith, c.loop-operator.invariant.measured.nodes, c.in_ok-right.ensures.measured.nodes, left_of _ c.in_ok-inner.ensures.0.is c.in_ok-right.ensures.reads)
+    omega (arith, c.loop-operator.invariant.measured.nodes, c.in_ok-right.ensures.measured.nodes, left_of _ _ c.in_ok-inner.ensures.0.is c.in_ok-right.ensures.reads)
 
 pub read_comparison-joined-requires-clause-shallow : goal.read_comparison-joined-requires-clause-shallow
 read_comparison-joined-requires-clause-shallow t c =
-    (omega (arith, c.in_ok-inner.ensures.0.shallow, c.requires.measured.depth), omega (arith, c.in_ok-right.ensures.measured.depth, deep_left _ c.in_ok-inner.ensures.0.is c.in_ok-right.ensures.reads))
+    (omega (arith, c.in_ok-inner.ensures.0.shallow, c.requires.measured.depth), omega (arith, c.in_ok-right.ensures.measured.depth, deep_left _ _ c.in_ok-inner.ensures.0.is c.in_ok-right.ensures.reads))
 
 pub read_comparison-joined-requires-clause-few : goal.read_comparison-joined-requires-clause-few
 read_comparison-joined-requires-clause-few t c =
-    omega (arith, c.requires.measured.nodes, c.in_ok-right.ensures.measured.nodes, left_of _ c.in_ok-inner.ensures.0.is c.in_ok-right.ensures.reads)
+    omega (arith, c.requires.measured.nodes, c.in_ok-right.ensures.measured.nodes, left_of _ _ c.in_ok-inner.ensures.0.is c.in_ok-right.ensures.reads)
 
 pub read_from-returns-then-level-eq5-clause-reads : goal.read_from-returns-then-level-eq5-clause-reads
 read_from-returns-then-level-eq5-clause-reads t c =
@@ -174,23 +175,23 @@ read_from-returns-then-level-eq5-clause-reads t c =
 
 pub read_negative-negated-requires-clause-shallow : goal.read_negative-negated-requires-clause-shallow
 read_negative-negated-requires-clause-shallow t c =
-    omega (arith, c.in_ok-inner.ensures.measured.depth, deep_left _ c.in_ok-inside.ensures.0 c.in_ok-inner.ensures.reads)
+    omega (arith, c.in_ok-inner.ensures.measured.depth, deep_left _ _ c.in_ok-inside.ensures.0 c.in_ok-inner.ensures.reads)
 
 pub read_negative-negated-requires-clause-few : goal.read_negative-negated-requires-clause-few
 read_negative-negated-requires-clause-few t c =
-    omega (arith, c.in_ok-inner.ensures.measured.nodes, left_of _ c.in_ok-inside.ensures.0 c.in_ok-inner.ensures.reads)
+    omega (arith, c.in_ok-inner.ensures.measured.nodes, left_of _ _ c.in_ok-inside.ensures.0 c.in_ok-inner.ensures.reads)
 
 pub read_parens-enclosed-requires-clause-shallow : goal.read_parens-enclosed-requires-clause-shallow
 read_parens-enclosed-requires-clause-shallow t c =
-    omega (arith, c.in_ok-inner.ensures.measured.depth, deep_left _ c.in_ok-inside.ensures.0 c.in_ok-inner.ensures.reads)
+    omega (arith, c.in_ok-inner.ensures.measured.depth, deep_left _ _ c.in_ok-inside.ensures.0 c.in_ok-inner.ensures.reads)
 
 pub read_relu-rectified-requires-clause-shallow : goal.read_relu-rectified-requires-clause-shallow
 read_relu-rectified-requires-clause-shallow t c =
-    omega (arith, c.in_ok-inner.ensures.measured.depth, deep_left _ c.in_ok-inside.ensures.0 c.in_ok-inner.ensures.reads)
+    omega (arith, c.in_ok-inner.ensures.measured.depth, deep_left _ _ c.in_ok-inside.ensures.0 c.in_ok-inner.ensures.reads)
 
 pub read_relu-rectified-requires-clause-few : goal.read_relu-rectified-requires-clause-few
 read_relu-rectified-requires-clause-few t c =
-    omega (arith, c.in_ok-inner.ensures.measured.nodes, left_of _ c.in_ok-inside.ensures.0 c.in_ok-inner.ensures.reads)
+    omega (arith, c.in_ok-inner.ensures.measured.nodes, left_of _ _ c.in_ok-inside.ensures.0 c.in_ok-inner.ensures.reads)
 
 pub read_access-returns-in_err-indices-clause-reads : goal.read_access-returns-in_err-indices-clause-reads
 read_access-returns-in_err-indices-clause-reads t c =
@@ -202,7 +203,7 @@ read_access-returns-in_err-rest-clause-reads t c =
 
 pub read_access-accessed-requires-clause-shallow : goal.read_access-accessed-requires-clause-shallow
 read_access-accessed-requires-clause-shallow t c =
-    omega (arith, c.in_ok-indices.ensures.measured.depth, deep_indices c.in_ok-indices.ensures.reads, ap depth_of c.in_ok-inside.ensures.0, c.in_ok-inside.ensures.1)
+    omega (arith, c.in_ok-indices.ensures.measured.depth, deep_indices c.in_ok-indices.ensures.reads, deep_inside _ _ c.in_ok-inside.ensures.0, c.in_ok-inside.ensures.1)
 
 pub read_access-returns-clause-reads : goal.read_access-returns-clause-reads
 read_access-returns-clause-reads t c =
@@ -229,7 +230,7 @@ read_indices-more-preserved t c =
     record {
       shorter = omega (arith, c.more.invariant.shorter, taken_shorter c.in_ok-index.ensures.reads, ap length c.in-Some.ensures);
       few = omega (arith, ap length c.in_ok-push-2.ensures.items, length-append c.more.items.items (c.in_ok-index.index.tree ∷ []), c.len.ensures);
-      deepest = rw c.in_ok-push-2.ensures.items (deepest_next _ _ _ _ c.more.invariant.deepest c.in_ok-index.ensures.measured.depth);
+      deepest = rw c.in_ok-push-2.ensures.items (c.max-deepest.ensures ∙ deepest_next _ _ _ _ c.more.invariant.deepest c.in_ok-index.ensures.measured.depth);
       read = rw c.in_ok-push-2.ensures.items (indices_next _ _ _ _ _ _ _ c.more.invariant.read c.in-Some.ensures c.in_ok-index.ensures.reads);
     }
 
@@ -244,107 +245,107 @@ read_select-returns-in_err-inside-clause-reads t c =
 pub read_select-returns-in_err-rest-clause-reads : goal.read_select-returns-in_err-rest-clause-reads
 read_select-returns-in_err-rest-clause-reads t c =
     exit _ _ _ _ _ _ c.from_residual-in_err-rest.ensures.1
-    (fronted_err _ _ _ _ c.requires.front (whole_err _ _ _ _ _ _ (step_select _ _ c.in_ok-inside.ensures.1) (now (choice0 _ (subst HasPlace c.in_ok-inside.ensures.0 c.in_ok-inside.ensures.3)) _ _ c.in_err-rest.ensures)))
+    (fronted_err _ _ _ _ c.requires.front (whole_err _ _ _ _ _ _ (step_select _ _ c.in_ok-inside.ensures.1) (now (choice0 c.args.room (subst HasPlace c.in_ok-inside.ensures.0 c.in_ok-inside.ensures.3)) _ _ c.in_err-rest.ensures)))
 
 pub read_select-returns-in_err-a-clause-reads : goal.read_select-returns-in_err-a-clause-reads
 read_select-returns-in_err-a-clause-reads t c =
     exit _ _ _ _ _ _ c.from_residual-in_err-a.ensures.1
-    (fronted_err _ _ _ _ c.requires.front (whole_err _ _ _ _ _ _ (step_select _ _ c.in_ok-inside.ensures.1) (later (choice0 _ (subst HasPlace c.in_ok-inside.ensures.0 c.in_ok-inside.ensures.3)) c.in_ok-rest.ensures _ (now_by (choice1 _) _ _ (roomed_err _ _ _ _ _ c.in_ok-inside.ensures.0 c.in_err-a.ensures.reads)))))
+    (fronted_err _ _ _ _ c.requires.front (whole_err _ _ _ _ _ _ (step_select _ _ c.in_ok-inside.ensures.1) (later (choice0 c.args.room (subst HasPlace c.in_ok-inside.ensures.0 c.in_ok-inside.ensures.3)) c.in_ok-rest.ensures _ (now_by (choice1 c.args.room) c.in_ok-rest.rest.now _ (roomed_err 0 _ _ _ _ c.in_ok-inside.ensures.0 c.in_err-a.ensures.reads)))))
 
 pub read_select-returns-in_err-rest-2-clause-reads : goal.read_select-returns-in_err-rest-2-clause-reads
 read_select-returns-in_err-rest-2-clause-reads t c =
     exit _ _ _ _ _ _ c.from_residual-in_err-rest-2.ensures.1
-    (fronted_err _ _ _ _ c.requires.front (whole_err _ _ _ _ _ _ (step_select _ _ c.in_ok-inside.ensures.1) (later (choice0 _ (subst HasPlace c.in_ok-inside.ensures.0 c.in_ok-inside.ensures.3)) c.in_ok-rest.ensures _ (later_by (choice1 _) (roomed c.in_ok-inside.ensures.0 c.in_ok-a.ensures.reads) _ (now (comma1 _ _ (roomed c.in_ok-inside.ensures.0 c.in_ok-a.ensures.reads).fits) _ _ c.in_err-rest-2.ensures)))))
+    (fronted_err _ _ _ _ c.requires.front (whole_err _ _ _ _ _ _ (step_select _ _ c.in_ok-inside.ensures.1) (later (choice0 c.args.room (subst HasPlace c.in_ok-inside.ensures.0 c.in_ok-inside.ensures.3)) c.in_ok-rest.ensures _ (later_by (choice1 c.args.room) (roomed c.in_ok-inside.ensures.0 c.in_ok-a.ensures.reads) _ (now (comma1 c.args.room (tree_of c.in_ok-a.a.tree) (roomed c.in_ok-inside.ensures.0 c.in_ok-a.ensures.reads).fits) _ _ c.in_err-rest-2.ensures)))))
 
 pub read_select-returns-in_err-b-clause-reads : goal.read_select-returns-in_err-b-clause-reads
 read_select-returns-in_err-b-clause-reads t c =
     exit _ _ _ _ _ _ c.from_residual-in_err-b.ensures.1
-    (fronted_err _ _ _ _ c.requires.front (whole_err _ _ _ _ _ _ (step_select _ _ c.in_ok-inside.ensures.1) (later (choice0 _ (subst HasPlace c.in_ok-inside.ensures.0 c.in_ok-inside.ensures.3)) c.in_ok-rest.ensures _ (later_by (choice1 _) (roomed c.in_ok-inside.ensures.0 c.in_ok-a.ensures.reads) _ (later (comma1 _ _ (roomed c.in_ok-inside.ensures.0 c.in_ok-a.ensures.reads).fits) c.in_ok-rest-2.ensures _ (now_by (choice2 _ _) _ _ (roomed_err _ _ _ _ _ (c.under.ensures ∙ same_two _ _ _ c.in_ok-a.ensures.measured.nodes) c.in_err-b.ensures.reads)))))))
+    (fronted_err _ _ _ _ c.requires.front (whole_err _ _ _ _ _ _ (step_select _ _ c.in_ok-inside.ensures.1) (later (choice0 c.args.room (subst HasPlace c.in_ok-inside.ensures.0 c.in_ok-inside.ensures.3)) c.in_ok-rest.ensures _ (later_by (choice1 c.args.room) (roomed c.in_ok-inside.ensures.0 c.in_ok-a.ensures.reads) _ (later (comma1 c.args.room (tree_of c.in_ok-a.a.tree) (roomed c.in_ok-inside.ensures.0 c.in_ok-a.ensures.reads).fits) c.in_ok-rest-2.ensures _ (now_by (choice2 c.args.room (tree_of c.in_ok-a.a.tree)) c.in_ok-rest-2.rest.now _ (roomed_err 0 _ _ _ _ (c.under.ensures ∙ same_two c.args.room _ (tree_of c.in_ok-a.a.tree) c.in_ok-a.ensures.measured.nodes) c.in_err-b.ensures.reads)))))))
 
 pub read_select-returns-in_err-rest-3-clause-reads : goal.read_select-returns-in_err-rest-3-clause-reads
 read_select-returns-in_err-rest-3-clause-reads t c =
     exit _ _ _ _ _ _ c.from_residual-in_err-rest-3.ensures.1
-    (fronted_err _ _ _ _ c.requires.front (whole_err _ _ _ _ _ _ (step_select _ _ c.in_ok-inside.ensures.1) (later (choice0 _ (subst HasPlace c.in_ok-inside.ensures.0 c.in_ok-inside.ensures.3)) c.in_ok-rest.ensures _ (later_by (choice1 _) (roomed c.in_ok-inside.ensures.0 c.in_ok-a.ensures.reads) _ (later (comma1 _ _ (roomed c.in_ok-inside.ensures.0 c.in_ok-a.ensures.reads).fits) c.in_ok-rest-2.ensures _ (later_by (choice2 _ _) (roomed (c.under.ensures ∙ same_two _ _ _ c.in_ok-a.ensures.measured.nodes) c.in_ok-b.ensures.reads) _ (now (comma2 _ _ _ (roomed (c.under.ensures ∙ same_two _ _ _ c.in_ok-a.ensures.measured.nodes) c.in_ok-b.ensures.reads).fits) _ _ c.in_err-rest-3.ensures)))))))
+    (fronted_err _ _ _ _ c.requires.front (whole_err _ _ _ _ _ _ (step_select _ _ c.in_ok-inside.ensures.1) (later (choice0 c.args.room (subst HasPlace c.in_ok-inside.ensures.0 c.in_ok-inside.ensures.3)) c.in_ok-rest.ensures _ (later_by (choice1 c.args.room) (roomed c.in_ok-inside.ensures.0 c.in_ok-a.ensures.reads) _ (later (comma1 c.args.room (tree_of c.in_ok-a.a.tree) (roomed c.in_ok-inside.ensures.0 c.in_ok-a.ensures.reads).fits) c.in_ok-rest-2.ensures _ (later_by (choice2 c.args.room (tree_of c.in_ok-a.a.tree)) (roomed (c.under.ensures ∙ same_two c.args.room _ (tree_of c.in_ok-a.a.tree) c.in_ok-a.ensures.measured.nodes) c.in_ok-b.ensures.reads) _ (now (comma2 c.args.room (tree_of c.in_ok-a.a.tree) (tree_of c.in_ok-b.b.tree) (roomed (c.under.ensures ∙ same_two c.args.room _ (tree_of c.in_ok-a.a.tree) c.in_ok-a.ensures.measured.nodes) c.in_ok-b.ensures.reads).fits) _ _ c.in_err-rest-3.ensures)))))))
 
 pub read_select-returns-in_err-c-clause-reads : goal.read_select-returns-in_err-c-clause-reads
 read_select-returns-in_err-c-clause-reads t c =
     exit _ _ _ _ _ _ c.from_residual-in_err-c.ensures.1
-    (fronted_err _ _ _ _ c.requires.front (whole_err _ _ _ _ _ _ (step_select _ _ c.in_ok-inside.ensures.1) (later (choice0 _ (subst HasPlace c.in_ok-inside.ensures.0 c.in_ok-inside.ensures.3)) c.in_ok-rest.ensures _ (later_by (choice1 _) (roomed c.in_ok-inside.ensures.0 c.in_ok-a.ensures.reads) _ (later (comma1 _ _ (roomed c.in_ok-inside.ensures.0 c.in_ok-a.ensures.reads).fits) c.in_ok-rest-2.ensures _ (later_by (choice2 _ _) (roomed (c.under.ensures ∙ same_two _ _ _ c.in_ok-a.ensures.measured.nodes) c.in_ok-b.ensures.reads) _ (later (comma2 _ _ _ (roomed (c.under.ensures ∙ same_two _ _ _ c.in_ok-a.ensures.measured.nodes) c.in_ok-b.ensures.reads).fits) c.in_ok-rest-3.ensures _ (now_by (choice3 _ _ _) _ _ (roomed_err _ _ _ _ _ (c.under-2.ensures ∙ same_three _ _ _ _ _ c.in_ok-a.ensures.measured.nodes c.in_ok-b.ensures.measured.nodes) c.in_err-c.ensures.reads)))))))))
+    (fronted_err _ _ _ _ c.requires.front (whole_err _ _ _ _ _ _ (step_select _ _ c.in_ok-inside.ensures.1) (later (choice0 c.args.room (subst HasPlace c.in_ok-inside.ensures.0 c.in_ok-inside.ensures.3)) c.in_ok-rest.ensures _ (later_by (choice1 c.args.room) (roomed c.in_ok-inside.ensures.0 c.in_ok-a.ensures.reads) _ (later (comma1 c.args.room (tree_of c.in_ok-a.a.tree) (roomed c.in_ok-inside.ensures.0 c.in_ok-a.ensures.reads).fits) c.in_ok-rest-2.ensures _ (later_by (choice2 c.args.room (tree_of c.in_ok-a.a.tree)) (roomed (c.under.ensures ∙ same_two c.args.room _ (tree_of c.in_ok-a.a.tree) c.in_ok-a.ensures.measured.nodes) c.in_ok-b.ensures.reads) _ (later (comma2 c.args.room (tree_of c.in_ok-a.a.tree) (tree_of c.in_ok-b.b.tree) (roomed (c.under.ensures ∙ same_two c.args.room _ (tree_of c.in_ok-a.a.tree) c.in_ok-a.ensures.measured.nodes) c.in_ok-b.ensures.reads).fits) c.in_ok-rest-3.ensures _ (now_by (choice3 c.args.room (tree_of c.in_ok-a.a.tree) (tree_of c.in_ok-b.b.tree)) c.in_ok-rest-3.rest.now _ (roomed_err 0 _ _ _ _ (c.under-2.ensures ∙ same_three c.args.room _ _ (tree_of c.in_ok-a.a.tree) (tree_of c.in_ok-b.b.tree) c.in_ok-a.ensures.measured.nodes c.in_ok-b.ensures.measured.nodes) c.in_err-c.ensures.reads)))))))))
 
 pub read_select-returns-in_err-rest-4-clause-reads : goal.read_select-returns-in_err-rest-4-clause-reads
 read_select-returns-in_err-rest-4-clause-reads t c =
     exit _ _ _ _ _ _ c.from_residual-in_err-rest-4.ensures.1
-    (fronted_err _ _ _ _ c.requires.front (whole_err _ _ _ _ _ _ (step_select _ _ c.in_ok-inside.ensures.1) (later (choice0 _ (subst HasPlace c.in_ok-inside.ensures.0 c.in_ok-inside.ensures.3)) c.in_ok-rest.ensures _ (later_by (choice1 _) (roomed c.in_ok-inside.ensures.0 c.in_ok-a.ensures.reads) _ (later (comma1 _ _ (roomed c.in_ok-inside.ensures.0 c.in_ok-a.ensures.reads).fits) c.in_ok-rest-2.ensures _ (later_by (choice2 _ _) (roomed (c.under.ensures ∙ same_two _ _ _ c.in_ok-a.ensures.measured.nodes) c.in_ok-b.ensures.reads) _ (later (comma2 _ _ _ (roomed (c.under.ensures ∙ same_two _ _ _ c.in_ok-a.ensures.measured.nodes) c.in_ok-b.ensures.reads).fits) c.in_ok-rest-3.ensures _ (later_by (choice3 _ _ _) (roomed (c.under-2.ensures ∙ same_three _ _ _ _ _ c.in_ok-a.ensures.measured.nodes c.in_ok-b.ensures.measured.nodes) c.in_ok-c.ensures.reads) _ (now (comma3 _ _ _ _ (roomed (c.under-2.ensures ∙ same_three _ _ _ _ _ c.in_ok-a.ensures.measured.nodes c.in_ok-b.ensures.measured.nodes) c.in_ok-c.ensures.reads).fits) _ _ c.in_err-rest-4.ensures)))))))))
+    (fronted_err _ _ _ _ c.requires.front (whole_err _ _ _ _ _ _ (step_select _ _ c.in_ok-inside.ensures.1) (later (choice0 c.args.room (subst HasPlace c.in_ok-inside.ensures.0 c.in_ok-inside.ensures.3)) c.in_ok-rest.ensures _ (later_by (choice1 c.args.room) (roomed c.in_ok-inside.ensures.0 c.in_ok-a.ensures.reads) _ (later (comma1 c.args.room (tree_of c.in_ok-a.a.tree) (roomed c.in_ok-inside.ensures.0 c.in_ok-a.ensures.reads).fits) c.in_ok-rest-2.ensures _ (later_by (choice2 c.args.room (tree_of c.in_ok-a.a.tree)) (roomed (c.under.ensures ∙ same_two c.args.room _ (tree_of c.in_ok-a.a.tree) c.in_ok-a.ensures.measured.nodes) c.in_ok-b.ensures.reads) _ (later (comma2 c.args.room (tree_of c.in_ok-a.a.tree) (tree_of c.in_ok-b.b.tree) (roomed (c.under.ensures ∙ same_two c.args.room _ (tree_of c.in_ok-a.a.tree) c.in_ok-a.ensures.measured.nodes) c.in_ok-b.ensures.reads).fits) c.in_ok-rest-3.ensures _ (later_by (choice3 c.args.room (tree_of c.in_ok-a.a.tree) (tree_of c.in_ok-b.b.tree)) (roomed (c.under-2.ensures ∙ same_three c.args.room _ _ (tree_of c.in_ok-a.a.tree) (tree_of c.in_ok-b.b.tree) c.in_ok-a.ensures.measured.nodes c.in_ok-b.ensures.measured.nodes) c.in_ok-c.ensures.reads) _ (now (comma3 c.args.room (tree_of c.in_ok-a.a.tree) (tree_of c.in_ok-b.b.tree) (tree_of c.in_ok-c.c.tree) (roomed (c.under-2.ensures ∙ same_three c.args.room _ _ (tree_of c.in_ok-a.a.tree) (tree_of c.in_ok-b.b.tree) c.in_ok-a.ensures.measured.nodes c.in_ok-b.ensures.measured.nodes) c.in_ok-c.ensures.reads).fits) _ _ c.in_err-rest-4.ensures)))))))))
 
 pub read_select-returns-in_err-d-clause-reads : goal.read_select-returns-in_err-d-clause-reads
 read_select-returns-in_err-d-clause-reads t c =
     exit _ _ _ _ _ _ c.from_residual-in_err-d.ensures.1
-    (fronted_err _ _ _ _ c.requires.front (whole_err _ _ _ _ _ _ (step_select _ _ c.in_ok-inside.ensures.1) (later (choice0 _ (subst HasPlace c.in_ok-inside.ensures.0 c.in_ok-inside.ensures.3)) c.in_ok-rest.ensures _ (later_by (choice1 _) (roomed c.in_ok-inside.ensures.0 c.in_ok-a.ensures.reads) _ (later (comma1 _ _ (roomed c.in_ok-inside.ensures.0 c.in_ok-a.ensures.reads).fits) c.in_ok-rest-2.ensures _ (later_by (choice2 _ _) (roomed (c.under.ensures ∙ same_two _ _ _ c.in_ok-a.ensures.measured.nodes) c.in_ok-b.ensures.reads) _ (later (comma2 _ _ _ (roomed (c.under.ensures ∙ same_two _ _ _ c.in_ok-a.ensures.measured.nodes) c.in_ok-b.ensures.reads).fits) c.in_ok-rest-3.ensures _ (later_by (choice3 _ _ _) (roomed (c.under-2.ensures ∙ same_three _ _ _ _ _ c.in_ok-a.ensures.measured.nodes c.in_ok-b.ensures.measured.nodes) c.in_ok-c.ensures.reads) _ (later (comma3 _ _ _ _ (roomed (c.under-2.ensures ∙ same_three _ _ _ _ _ c.in_ok-a.ensures.measured.nodes c.in_ok-b.ensures.measured.nodes) c.in_ok-c.ensures.reads).fits) c.in_ok-rest-4.ensures _ (now (close_joint _) _ _ (roomed_err _ _ _ _ _ (c.under-3.ensures ∙ same_four _ _ _ _ _ _ _ c.in_ok-a.ensures.measured.nodes c.in_ok-b.ensures.measured.nodes c.in_ok-c.ensures.measured.nodes) c.in_err-d.ensures.reads)))))))))))
+    (fronted_err _ _ _ _ c.requires.front (whole_err _ _ _ _ _ _ (step_select _ _ c.in_ok-inside.ensures.1) (later (choice0 c.args.room (subst HasPlace c.in_ok-inside.ensures.0 c.in_ok-inside.ensures.3)) c.in_ok-rest.ensures _ (later_by (choice1 c.args.room) (roomed c.in_ok-inside.ensures.0 c.in_ok-a.ensures.reads) _ (later (comma1 c.args.room (tree_of c.in_ok-a.a.tree) (roomed c.in_ok-inside.ensures.0 c.in_ok-a.ensures.reads).fits) c.in_ok-rest-2.ensures _ (later_by (choice2 c.args.room (tree_of c.in_ok-a.a.tree)) (roomed (c.under.ensures ∙ same_two c.args.room _ (tree_of c.in_ok-a.a.tree) c.in_ok-a.ensures.measured.nodes) c.in_ok-b.ensures.reads) _ (later (comma2 c.args.room (tree_of c.in_ok-a.a.tree) (tree_of c.in_ok-b.b.tree) (roomed (c.under.ensures ∙ same_two c.args.room _ (tree_of c.in_ok-a.a.tree) c.in_ok-a.ensures.measured.nodes) c.in_ok-b.ensures.reads).fits) c.in_ok-rest-3.ensures _ (later_by (choice3 c.args.room (tree_of c.in_ok-a.a.tree) (tree_of c.in_ok-b.b.tree)) (roomed (c.under-2.ensures ∙ same_three c.args.room _ _ (tree_of c.in_ok-a.a.tree) (tree_of c.in_ok-b.b.tree) c.in_ok-a.ensures.measured.nodes c.in_ok-b.ensures.measured.nodes) c.in_ok-c.ensures.reads) _ (later (comma3 c.args.room (tree_of c.in_ok-a.a.tree) (tree_of c.in_ok-b.b.tree) (tree_of c.in_ok-c.c.tree) (roomed (c.under-2.ensures ∙ same_three c.args.room _ _ (tree_of c.in_ok-a.a.tree) (tree_of c.in_ok-b.b.tree) c.in_ok-a.ensures.measured.nodes c.in_ok-b.ensures.measured.nodes) c.in_ok-c.ensures.reads).fits) c.in_ok-rest-4.ensures _ (now (close_joint _) c.in_ok-rest-4.rest.now _ (roomed_err 0 _ _ _ _ (c.under-3.ensures ∙ same_four c.args.room _ _ _ (tree_of c.in_ok-a.a.tree) (tree_of c.in_ok-b.b.tree) (tree_of c.in_ok-c.c.tree) c.in_ok-a.ensures.measured.nodes c.in_ok-b.ensures.measured.nodes c.in_ok-c.ensures.measured.nodes) c.in_err-d.ensures.reads)))))))))))
 
 pub read_select-returns-in_err-rest-5-clause-reads : goal.read_select-returns-in_err-rest-5-clause-reads
 read_select-returns-in_err-rest-5-clause-reads t c =
     exit _ _ _ _ _ _ c.from_residual-in_err-rest-5.ensures.1
-    (fronted_err _ _ _ _ c.requires.front (whole_err _ _ _ _ _ _ (step_select _ _ c.in_ok-inside.ensures.1) (later (choice0 _ (subst HasPlace c.in_ok-inside.ensures.0 c.in_ok-inside.ensures.3)) c.in_ok-rest.ensures _ (later_by (choice1 _) (roomed c.in_ok-inside.ensures.0 c.in_ok-a.ensures.reads) _ (later (comma1 _ _ (roomed c.in_ok-inside.ensures.0 c.in_ok-a.ensures.reads).fits) c.in_ok-rest-2.ensures _ (later_by (choice2 _ _) (roomed (c.under.ensures ∙ same_two _ _ _ c.in_ok-a.ensures.measured.nodes) c.in_ok-b.ensures.reads) _ (later (comma2 _ _ _ (roomed (c.under.ensures ∙ same_two _ _ _ c.in_ok-a.ensures.measured.nodes) c.in_ok-b.ensures.reads).fits) c.in_ok-rest-3.ensures _ (later_by (choice3 _ _ _) (roomed (c.under-2.ensures ∙ same_three _ _ _ _ _ c.in_ok-a.ensures.measured.nodes c.in_ok-b.ensures.measured.nodes) c.in_ok-c.ensures.reads) _ (later (comma3 _ _ _ _ (roomed (c.under-2.ensures ∙ same_three _ _ _ _ _ c.in_ok-a.ensures.measured.nodes c.in_ok-b.ensures.measured.nodes) c.in_ok-c.ensures.reads).fits) c.in_ok-rest-4.ensures _ (later (close_joint _) (roomed (c.under-3.ensures ∙ same_four _ _ _ _ _ _ _ c.in_ok-a.ensures.measured.nodes c.in_ok-b.ensures.measured.nodes c.in_ok-c.ensures.measured.nodes) c.in_ok-d.ensures.reads) _ (c.in_err-rest-5.ensures)))))))))))
+    (fronted_err _ _ _ _ c.requires.front (whole_err _ _ _ _ _ _ (step_select _ _ c.in_ok-inside.ensures.1) (later (choice0 c.args.room (subst HasPlace c.in_ok-inside.ensures.0 c.in_ok-inside.ensures.3)) c.in_ok-rest.ensures _ (later_by (choice1 c.args.room) (roomed c.in_ok-inside.ensures.0 c.in_ok-a.ensures.reads) _ (later (comma1 c.args.room (tree_of c.in_ok-a.a.tree) (roomed c.in_ok-inside.ensures.0 c.in_ok-a.ensures.reads).fits) c.in_ok-rest-2.ensures _ (later_by (choice2 c.args.room (tree_of c.in_ok-a.a.tree)) (roomed (c.under.ensures ∙ same_two c.args.room _ (tree_of c.in_ok-a.a.tree) c.in_ok-a.ensures.measured.nodes) c.in_ok-b.ensures.reads) _ (later (comma2 c.args.room (tree_of c.in_ok-a.a.tree) (tree_of c.in_ok-b.b.tree) (roomed (c.under.ensures ∙ same_two c.args.room _ (tree_of c.in_ok-a.a.tree) c.in_ok-a.ensures.measured.nodes) c.in_ok-b.ensures.reads).fits) c.in_ok-rest-3.ensures _ (later_by (choice3 c.args.room (tree_of c.in_ok-a.a.tree) (tree_of c.in_ok-b.b.tree)) (roomed (c.under-2.ensures ∙ same_three c.args.room _ _ (tree_of c.in_ok-a.a.tree) (tree_of c.in_ok-b.b.tree) c.in_ok-a.ensures.measured.nodes c.in_ok-b.ensures.measured.nodes) c.in_ok-c.ensures.reads) _ (later (comma3 c.args.room (tree_of c.in_ok-a.a.tree) (tree_of c.in_ok-b.b.tree) (tree_of c.in_ok-c.c.tree) (roomed (c.under-2.ensures ∙ same_three c.args.room _ _ (tree_of c.in_ok-a.a.tree) (tree_of c.in_ok-b.b.tree) c.in_ok-a.ensures.measured.nodes c.in_ok-b.ensures.measured.nodes) c.in_ok-c.ensures.reads).fits) c.in_ok-rest-4.ensures _ (later (close_joint _) (roomed (c.under-3.ensures ∙ same_four c.args.room _ _ _ (tree_of c.in_ok-a.a.tree) (tree_of c.in_ok-b.b.tree) (tree_of c.in_ok-c.c.tree) c.in_ok-a.ensures.measured.nodes c.in_ok-b.ensures.measured.nodes c.in_ok-c.ensures.measured.nodes) c.in_ok-d.ensures.reads) _ (c.in_err-rest-5.ensures)))))))))))
 
 pub read_select-returns-clause-reads : goal.read_select-returns-clause-reads
 read_select-returns-clause-reads t c =
-    fronted c.requires.front (renamed c.in_ok-select.ensures.0 (step_taken _ _ _ _ _ _ _ (step_select _ _ c.in_ok-inside.ensures.1) (both (choice0 _ (subst HasPlace c.in_ok-inside.ensures.0 c.in_ok-inside.ensures.3)) c.in_ok-rest.ensures (both_by (choice1 _) (roomed c.in_ok-inside.ensures.0 c.in_ok-a.ensures.reads) (both (comma1 _ _ (roomed c.in_ok-inside.ensures.0 c.in_ok-a.ensures.reads).fits) c.in_ok-rest-2.ensures (both_by (choice2 _ _) (roomed (c.under.ensures ∙ same_two _ _ _ c.in_ok-a.ensures.measured.nodes) c.in_ok-b.ensures.reads) (both (comma2 _ _ _ (roomed (c.under.ensures ∙ same_two _ _ _ c.in_ok-a.ensures.measured.nodes) c.in_ok-b.ensures.reads).fits) c.in_ok-rest-3.ensures (both_by (choice3 _ _ _) (roomed (c.under-2.ensures ∙ same_three _ _ _ _ _ c.in_ok-a.ensures.measured.nodes c.in_ok-b.ensures.measured.nodes) c.in_ok-c.ensures.reads) (both (comma3 _ _ _ _ (roomed (c.under-2.ensures ∙ same_three _ _ _ _ _ c.in_ok-a.ensures.measured.nodes c.in_ok-b.ensures.measured.nodes) c.in_ok-c.ensures.reads).fits) c.in_ok-rest-4.ensures (both (close_joint _) (roomed (c.under-3.ensures ∙ same_four _ _ _ _ _ _ _ c.in_ok-a.ensures.measured.nodes c.in_ok-b.ensures.measured.nodes c.in_ok-c.ensures.measured.nodes) c.in_ok-d.ensures.reads) c.in_ok-rest-5.ensures))))))))))
+    fronted c.requires.front (renamed c.in_ok-select.ensures.0 (step_taken _ _ _ _ _ _ _ (step_select _ _ c.in_ok-inside.ensures.1) (both (choice0 c.args.room (subst HasPlace c.in_ok-inside.ensures.0 c.in_ok-inside.ensures.3)) c.in_ok-rest.ensures (both_by (choice1 c.args.room) (roomed c.in_ok-inside.ensures.0 c.in_ok-a.ensures.reads) (both (comma1 c.args.room (tree_of c.in_ok-a.a.tree) (roomed c.in_ok-inside.ensures.0 c.in_ok-a.ensures.reads).fits) c.in_ok-rest-2.ensures (both_by (choice2 c.args.room (tree_of c.in_ok-a.a.tree)) (roomed (c.under.ensures ∙ same_two c.args.room _ (tree_of c.in_ok-a.a.tree) c.in_ok-a.ensures.measured.nodes) c.in_ok-b.ensures.reads) (both (comma2 c.args.room (tree_of c.in_ok-a.a.tree) (tree_of c.in_ok-b.b.tree) (roomed (c.under.ensures ∙ same_two c.args.room _ (tree_of c.in_ok-a.a.tree) c.in_ok-a.ensures.measured.nodes) c.in_ok-b.ensures.reads).fits) c.in_ok-rest-3.ensures (both_by (choice3 c.args.room (tree_of c.in_ok-a.a.tree) (tree_of c.in_ok-b.b.tree)) (roomed (c.under-2.ensures ∙ same_three c.args.room _ _ (tree_of c.in_ok-a.a.tree) (tree_of c.in_ok-b.b.tree) c.in_ok-a.ensures.measured.nodes c.in_ok-b.ensures.measured.nodes) c.in_ok-c.ensures.reads) (both (comma3 c.args.room (tree_of c.in_ok-a.a.tree) (tree_of c.in_ok-b.b.tree) (tree_of c.in_ok-c.c.tree) (roomed (c.under-2.ensures ∙ same_three c.args.room _ _ (tree_of c.in_ok-a.a.tree) (tree_of c.in_ok-b.b.tree) c.in_ok-a.ensures.measured.nodes c.in_ok-b.ensures.measured.nodes) c.in_ok-c.ensures.reads).fits) c.in_ok-rest-4.ensures (both (close_joint _) (roomed (c.under-3.ensures ∙ same_four c.args.room _ _ _ (tree_of c.in_ok-a.a.tree) (tree_of c.in_ok-b.b.tree) (tree_of c.in_ok-c.c.tree) c.in_ok-a.ensures.measured.nodes c.in_ok-b.ensures.measured.nodes c.in_ok-c.ensures.measured.nodes) c.in_ok-d.ensures.reads) c.in_ok-rest-5.ensures))))))))))
 
 pub read_select-overflow_add-a : goal.read_select-overflow_add-a
 read_select-overflow_add-a t c =
-    omega (arith, c.in_ok-a.ensures.measured.nodes, left_of _ c.in_ok-inside.ensures.0 c.in_ok-a.ensures.reads)
+    omega (arith, c.in_ok-a.ensures.measured.nodes, left_of _ _ c.in_ok-inside.ensures.0 c.in_ok-a.ensures.reads)
 
 pub read_select-overflow_add-a-2 : goal.read_select-overflow_add-a-2
 read_select-overflow_add-a-2 t c =
-    omega (arith, c.in_ok-a.ensures.measured.nodes, left_of _ c.in_ok-inside.ensures.0 c.in_ok-a.ensures.reads, c.in_ok-b.ensures.measured.nodes, left_of _ c.under.ensures c.in_ok-b.ensures.reads)
+    omega (arith, c.in_ok-a.ensures.measured.nodes, left_of _ _ c.in_ok-inside.ensures.0 c.in_ok-a.ensures.reads, c.in_ok-b.ensures.measured.nodes, left_of _ _ c.under.ensures c.in_ok-b.ensures.reads)
 
 pub read_select-overflow_add-a-3 : goal.read_select-overflow_add-a-3
 read_select-overflow_add-a-3 t c =
-    omega (arith, c.in_ok-a.ensures.measured.nodes, left_of _ c.in_ok-inside.ensures.0 c.in_ok-a.ensures.reads, c.in_ok-b.ensures.measured.nodes, left_of _ c.under.ensures c.in_ok-b.ensures.reads)
+    omega (arith, c.in_ok-a.ensures.measured.nodes, left_of _ _ c.in_ok-inside.ensures.0 c.in_ok-a.ensures.reads, c.in_ok-b.ensures.measured.nodes, left_of _ _ c.under.ensures c.in_ok-b.ensures.reads)
 
 pub read_select-overflow_add-a-4 : goal.read_select-overflow_add-a-4
 read_select-overflow_add-a-4 t c =
-    omega (arith, c.in_ok-a.ensures.measured.nodes, left_of _ c.in_ok-inside.ensures.0 c.in_ok-a.ensures.reads, c.in_ok-b.ensures.measured.nodes, left_of _ c.under.ensures c.in_ok-b.ensures.reads, c.in_ok-c.ensures.measured.nodes, left_of _ c.under-2.ensures c.in_ok-c.ensures.reads)
+    omega (arith, c.in_ok-a.ensures.measured.nodes, left_of _ _ c.in_ok-inside.ensures.0 c.in_ok-a.ensures.reads, c.in_ok-b.ensures.measured.nodes, left_of _ _ c.under.ensures c.in_ok-b.ensures.reads, c.in_ok-c.ensures.measured.nodes, left_of _ _ c.under-2.ensures c.in_ok-c.ensures.reads)
 
 pub read_select-overflow_add-a-5 : goal.read_select-overflow_add-a-5
 read_select-overflow_add-a-5 t c =
-    omega (arith, c.in_ok-a.ensures.measured.nodes, left_of _ c.in_ok-inside.ensures.0 c.in_ok-a.ensures.reads, c.in_ok-b.ensures.measured.nodes, left_of _ c.under.ensures c.in_ok-b.ensures.reads, c.in_ok-c.ensures.measured.nodes, left_of _ c.under-2.ensures c.in_ok-c.ensures.reads)
+    omega (arith, c.in_ok-a.ensures.measured.nodes, left_of _ _ c.in_ok-inside.ensures.0 c.in_ok-a.ensures.reads, c.in_ok-b.ensures.measured.nodes, left_of _ _ c.under.ensures c.in_ok-b.ensures.reads, c.in_ok-c.ensures.measured.nodes, left_of _ _ c.under-2.ensures c.in_ok-c.ensures.reads)
 
 pub read_select-overflow_add-a-6 : goal.read_select-overflow_add-a-6
 read_select-overflow_add-a-6 t c =
-    omega (arith, c.in_ok-a.ensures.measured.nodes, left_of _ c.in_ok-inside.ensures.0 c.in_ok-a.ensures.reads, c.in_ok-b.ensures.measured.nodes, left_of _ c.under.ensures c.in_ok-b.ensures.reads, c.in_ok-c.ensures.measured.nodes, left_of _ c.under-2.ensures c.in_ok-c.ensures.reads)
+    omega (arith, c.in_ok-a.ensures.measured.nodes, left_of _ _ c.in_ok-inside.ensures.0 c.in_ok-a.ensures.reads, c.in_ok-b.ensures.measured.nodes, left_of _ _ c.under.ensures c.in_ok-b.ensures.reads, c.in_ok-c.ensures.measured.nodes, left_of _ _ c.under-2.ensures c.in_ok-c.ensures.reads)
 
 pub read_select-under-requires-clause-long : goal.read_select-under-requires-clause-long
 read_select-under-requires-clause-long t c =
-    omega (arith, c.in_ok-a.ensures.measured.nodes, left_of _ c.in_ok-inside.ensures.0 c.in_ok-a.ensures.reads)
+    omega (arith, c.in_ok-a.ensures.measured.nodes, left_of _ _ c.in_ok-inside.ensures.0 c.in_ok-a.ensures.reads)
 
 pub read_select-under-requires-2-clause-long : goal.read_select-under-requires-2-clause-long
 read_select-under-requires-2-clause-long t c =
-    omega (arith, c.in_ok-a.ensures.measured.nodes, left_of _ c.in_ok-inside.ensures.0 c.in_ok-a.ensures.reads, c.in_ok-b.ensures.measured.nodes, left_of _ c.under.ensures c.in_ok-b.ensures.reads)
+    omega (arith, c.in_ok-a.ensures.measured.nodes, left_of _ _ c.in_ok-inside.ensures.0 c.in_ok-a.ensures.reads, c.in_ok-b.ensures.measured.nodes, left_of _ _ c.under.ensures c.in_ok-b.ensures.reads)
 
 pub read_select-under-requires-3-clause-long : goal.read_select-under-requires-3-clause-long
 read_select-under-requires-3-clause-long t c =
-    omega (arith, c.in_ok-a.ensures.measured.nodes, left_of _ c.in_ok-inside.ensures.0 c.in_ok-a.ensures.reads, c.in_ok-b.ensures.measured.nodes, left_of _ c.under.ensures c.in_ok-b.ensures.reads, c.in_ok-c.ensures.measured.nodes, left_of _ c.under-2.ensures c.in_ok-c.ensures.reads)
+    omega (arith, c.in_ok-a.ensures.measured.nodes, left_of _ _ c.in_ok-inside.ensures.0 c.in_ok-a.ensures.reads, c.in_ok-b.ensures.measured.nodes, left_of _ _ c.under.ensures c.in_ok-b.ensures.reads, c.in_ok-c.ensures.measured.nodes, left_of _ _ c.under-2.ensures c.in_ok-c.ensures.reads)
 
 pub read_select-read_operand-requires-2 : goal.read_select-read_operand-requires-2
 read_select-read_operand-requires-2 t c =
-    record { levels = omega arith; place = place_under _ _ _ c.under.ensures c.in_ok-inside.ensures.1 (omega (arith, c.in_ok-a.ensures.measured.nodes, left_of _ c.in_ok-inside.ensures.0 c.in_ok-a.ensures.reads)) }
+    (omega (arith, taken_shorter c.in_ok-rest.ensures, taken_shorter c.in_ok-a.ensures.reads, taken_shorter c.in_ok-rest-2.ensures), (omega arith, place_under _ _ _ c.under.ensures c.in_ok-inside.ensures.1 (omega (arith, c.in_ok-a.ensures.measured.nodes, left_of _ _ c.in_ok-inside.ensures.0 c.in_ok-a.ensures.reads))))
 
 pub read_select-read_operand-requires-3 : goal.read_select-read_operand-requires-3
 read_select-read_operand-requires-3 t c =
-    record { levels = omega arith; place = place_under _ _ _ c.under-2.ensures c.in_ok-inside.ensures.1 (omega (arith, c.in_ok-a.ensures.measured.nodes, left_of _ c.in_ok-inside.ensures.0 c.in_ok-a.ensures.reads, c.in_ok-b.ensures.measured.nodes, left_of _ c.under.ensures c.in_ok-b.ensures.reads)) }
+    (omega (arith, taken_shorter c.in_ok-rest.ensures, taken_shorter c.in_ok-a.ensures.reads, taken_shorter c.in_ok-rest-2.ensures, taken_shorter c.in_ok-b.ensures.reads, taken_shorter c.in_ok-rest-3.ensures), (omega arith, place_under _ _ _ c.under-2.ensures c.in_ok-inside.ensures.1 (omega (arith, c.in_ok-a.ensures.measured.nodes, left_of _ _ c.in_ok-inside.ensures.0 c.in_ok-a.ensures.reads, c.in_ok-b.ensures.measured.nodes, left_of _ _ c.under.ensures c.in_ok-b.ensures.reads))))
 
 pub read_select-read_operand-requires-4 : goal.read_select-read_operand-requires-4
 read_select-read_operand-requires-4 t c =
-    record { levels = omega arith; place = place_under _ _ _ c.under-3.ensures c.in_ok-inside.ensures.1 (omega (arith, c.in_ok-a.ensures.measured.nodes, left_of _ c.in_ok-inside.ensures.0 c.in_ok-a.ensures.reads, c.in_ok-b.ensures.measured.nodes, left_of _ c.under.ensures c.in_ok-b.ensures.reads, c.in_ok-c.ensures.measured.nodes, left_of _ c.under-2.ensures c.in_ok-c.ensures.reads)) }
+    (omega (arith, taken_shorter c.in_ok-rest.ensures, taken_shorter c.in_ok-a.ensures.reads, taken_shorter c.in_ok-rest-2.ensures, taken_shorter c.in_ok-b.ensures.reads, taken_shorter c.in_ok-rest-3.ensures, taken_shorter c.in_ok-c.ensures.reads, taken_shorter c.in_ok-rest-4.ensures), (omega arith, place_under _ _ _ c.under-3.ensures c.in_ok-inside.ensures.1 (omega (arith, c.in_ok-a.ensures.measured.nodes, left_of _ _ c.in_ok-inside.ensures.0 c.in_ok-a.ensures.reads, c.in_ok-b.ensures.measured.nodes, left_of _ _ c.under.ensures c.in_ok-b.ensures.reads, c.in_ok-c.ensures.measured.nodes, left_of _ _ c.under-2.ensures c.in_ok-c.ensures.reads))))
 
 pub read_select-selected-requires-clause-shallow : goal.read_select-selected-requires-clause-shallow
 read_select-selected-requires-clause-shallow t c =
-    (omega (arith, c.in_ok-a.ensures.measured.depth, deep_left _ c.in_ok-inside.ensures.0 c.in_ok-a.ensures.reads), omega (arith, c.in_ok-b.ensures.measured.depth, deep_left _ c.under.ensures c.in_ok-b.ensures.reads), omega (arith, c.in_ok-c.ensures.measured.depth, deep_left _ c.under-2.ensures c.in_ok-c.ensures.reads), omega (arith, c.in_ok-d.ensures.measured.depth, deep_left _ c.under-3.ensures c.in_ok-d.ensures.reads))
+    (omega (arith, c.in_ok-a.ensures.measured.depth, deep_left _ _ c.in_ok-inside.ensures.0 c.in_ok-a.ensures.reads), omega (arith, c.in_ok-b.ensures.measured.depth, deep_left _ _ c.under.ensures c.in_ok-b.ensures.reads), omega (arith, c.in_ok-c.ensures.measured.depth, deep_left _ _ c.under-2.ensures c.in_ok-c.ensures.reads), omega (arith, c.in_ok-d.ensures.measured.depth, deep_left _ _ c.under-3.ensures c.in_ok-d.ensures.reads))
 
 pub read_select-selected-requires-clause-few : goal.read_select-selected-requires-clause-few
 read_select-selected-requires-clause-few t c =
-    omega (arith, c.in_ok-a.ensures.measured.nodes, left_of _ c.in_ok-inside.ensures.0 c.in_ok-a.ensures.reads, c.in_ok-b.ensures.measured.nodes, left_of _ c.under.ensures c.in_ok-b.ensures.reads, c.in_ok-c.ensures.measured.nodes, left_of _ c.under-2.ensures c.in_ok-c.ensures.reads, c.in_ok-d.ensures.measured.nodes, left_of _ c.under-3.ensures c.in_ok-d.ensures.reads)
+    omega (arith, c.in_ok-a.ensures.measured.nodes, left_of _ _ c.in_ok-inside.ensures.0 c.in_ok-a.ensures.reads, c.in_ok-b.ensures.measured.nodes, left_of _ _ c.under.ensures c.in_ok-b.ensures.reads, c.in_ok-c.ensures.measured.nodes, left_of _ _ c.under-2.ensures c.in_ok-c.ensures.reads, c.in_ok-d.ensures.measured.nodes, left_of _ _ c.under-3.ensures c.in_ok-d.ensures.reads)
 
 pub read_signed-returns-in_default : goal.read_signed-returns-in_default
 read_signed-returns-in_default t c =
