@@ -1,6 +1,6 @@
+pub mod Limits
 pub mod Phrase
 pub mod Sequence
 pub mod Commas
 pub mod Text
-pub mod Limited
 pub mod Answers

@@ -1,6 +1,7 @@
 //! What it means to read a text exactly: phrases, what is taken from the front of a text, and where one is refused.
 //!
-//! A grammar is a list of phrases (`specs/`): which trees fit, how each is spelled, and what may stand behind one.
+//! A grammar is a list of phrases (`specs/`): which trees fit, how each is spelled, and what may stand behind one. Which
+//! trees fit depends on the limits that count, so that a refusal says exactly whether the grammar ends or a limit is passed.
 //! The contracts of readers are `Reads` and `IsText`, `FaultAt`; `proofs/` composes them through sequences and lists.
 #![tactic(auto)]
 
@@ -11,8 +12,14 @@ use std::alloc::{AllocError, AllocFailed};
 pub enum Refusal {
     /// There was no memory.
     Memory,
-    /// No text goes on here; so many tokens were left, the refused one among them.
+    /// No text of any size goes on here; so many tokens were left, the refused one among them.
     Syntax(usize),
+    /// Only texts that are too deep go on here.
+    TooDeep(usize),
+    /// Only texts that are too long go on here.
+    TooLong(usize),
+    /// Only texts with a literal that is too large go on here.
+    TooLarge(usize),
 }
 
 impl From<AllocError> for Refusal {
