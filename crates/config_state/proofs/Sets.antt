@@ -1,0 +1,57 @@
+-- Sets of fields, and their members in order.
+use Rattle.std.proofs.Common.{◌≡◌, ◌<◌, ◌≤◌, ℕ, zero, suc, ◌+◌, ◌-◌, nat_lt, Bool, true, false, if◌then◌else◌, ◌&&◌, ◌||◌, List, [], ◌∷◌, ◌++◌, length, get_or, refl, sym, ap, ap₂, ◌∙◌, arith, drop-cons}
+use Rattle.std.specs.Prelude.{drop, replicate}
+use Rattle.exo_tree.specs.Tree.{Statement, Block, end, next, block}
+use Rattle.config_state.specs.FieldSets.{contains, Marked, fields_from, fields_where}
+
+-- ---- members in order
+
+one_more : (n m : ℕ) → n < m → m - n ≡ suc (m - (n + 1))
+one_more n m h = omega arith
+
+next_is : (n : ℕ) → suc n ≡ n + 1
+next_is n = omega arith
+
+fields_step : (n m : ℕ) (test : ℕ → Bool) → n < m → fields_from n (m - n) test ≡ (if test n then n ∷ fields_from (n + 1) (m - (n + 1)) test else fields_from (n + 1) (m - (n + 1)) test)
+fields_step n m test h = ap (λ c. fields_from n c test) (one_more n m h) ∙ ap (λ k. if test n then n ∷ fields_from k (m - (n + 1)) test else fields_from k (m - (n + 1)) test) (next_is n)
+
+append_one : (done : List ℕ) (n : ℕ) (rest : List ℕ) → (done ++ n ∷ []) ++ rest ≡ done ++ n ∷ rest
+append_one [] n rest = refl
+append_one (d ∷ done) n rest = ap (λ z. d ∷ z) (append_one done n rest)
+
+pub take_one : (done : List ℕ) (n m : ℕ) (test : ℕ → Bool) (whole : List ℕ) → n < m → test n ≡ true → done ++ fields_from n (m - n) test ≡ whole → (done ++ n ∷ []) ++ fields_from (n + 1) (m - (n + 1)) test ≡ whole
+take_one done n m test whole h t e = append_one done n (fields_from (n + 1) (m - (n + 1)) test) ∙ ap (λ z. done ++ z) (sym (fields_step n m test h ∙ ap (λ b. if b then n ∷ fields_from (n + 1) (m - (n + 1)) test else fields_from (n + 1) (m - (n + 1)) test) t)) ∙ e
+
+pub pass_one : (done : List ℕ) (n m : ℕ) (test : ℕ → Bool) (whole : List ℕ) → n < m → test n ≡ false → done ++ fields_from n (m - n) test ≡ whole → done ++ fields_from (n + 1) (m - (n + 1)) test ≡ whole
+pass_one done n m test whole h t e = ap (λ z. done ++ z) (sym (fields_step n m test h ∙ ap (λ b. if b then n ∷ fields_from (n + 1) (m - (n + 1)) test else fields_from (n + 1) (m - (n + 1)) test) t)) ∙ e
+
+-- ---- marks
+
+pub marked_same : (test other : ℕ → Bool) (old new : List Bool) → ((f : ℕ) → f < length old → test f ≡ other f) → Marked test old new → Marked other old new
+marked_same test other old new same h = record { same_length = h.same_length; each = λ f k. h.each f k ∙ ap (λ t. contains old f || t) (same f k) }
+
+pub marked_none : (s : List Bool) → Marked (λ f. false) s s
+marked_none s = record { same_length = refl; each = λ f k. none (contains s f) }
+  where
+    none : (t : Bool) → t ≡ (t || false)
+    none true = refl
+    none false = refl
+
+pub marked_then : (test more : ℕ → Bool) (old mid new : List Bool) → Marked test old mid → Marked more mid new → Marked (λ f. test f || more f) old new
+marked_then test more old mid new h k = record {
+  same_length = k.same_length ∙ h.same_length;
+  each = λ f j. k.each f (let e = h.same_length in omega arith) ∙ ap (λ t. t || more f) (h.each f j) ∙ associate (contains old f) (test f) (more f);
+}
+  where
+    associate : (a b c : Bool) → ((a || b) || c) ≡ (a || (b || c))
+    associate true b c = refl
+    associate false b c = refl
+
+-- one statement and then the rest
+pub block_marked : (whole : Block → ℕ → Bool) (one : Statement → ℕ → Bool) → ((a : Statement) (b : Block) (f : ℕ) → whole (next a b) f ≡ (one a f || whole b f)) → (ss rest : List Statement) (k : ℕ) (a : Statement) (set mid new : List Bool) → drop k ss ≡ a ∷ rest → Marked (one a) set mid → Marked (whole (block rest)) mid new → Marked (whole (block (drop k ss))) set new
+block_marked whole one e ss rest k a set mid new d h j = marked_same (λ f. one a f || whole (block rest) f) (whole (block (drop k ss))) set new (λ f l. sym (e a (block rest) f) ∙ ap (λ (z : List Statement). whole (block z) f) (sym d)) (marked_then (one a) (whole (block rest)) set mid new h j)
+
+-- ---- an item of a slice
+
+pub drop_item : {X : Type 0} (xs : List X) (i : ℕ) (d : X) → i < length xs → d ≡ get_or xs i d → drop i xs ≡ d ∷ drop (i + 1) xs
+drop_item xs i d h e = drop-cons xs i d h ∙ ap₂ (λ a k. a ∷ drop k xs) (sym e) (next_is i)
