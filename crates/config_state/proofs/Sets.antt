@@ -1,6 +1,6 @@
 -- Sets of fields, and their members in order.
-use Rattle.std.proofs.Common.{◌≡◌, ◌<◌, ◌≤◌, ℕ, zero, suc, ◌+◌, ◌-◌, nat_lt, Bool, true, false, if◌then◌else◌, ◌&&◌, ◌||◌, List, [], ◌∷◌, ◌++◌, length, get_or, refl, sym, ap, ap₂, ◌∙◌, arith, drop-cons}
-use Rattle.std.specs.Prelude.{drop, replicate}
+use Rattle.std.proofs.Common.{◌≡◌, ◌<◌, ◌≤◌, ℕ, zero, suc, ◌+◌, ◌-◌, nat_lt, Bool, true, false, if◌then◌else◌, ◌&&◌, ◌||◌, List, [], ◌∷◌, ◌++◌, length, get_or, refl, sym, ap, ap₂, ◌∙◌, arith, drop-cons, Result, Ok, Err, IfOk}
+use Rattle.std.specs.Prelude.{drop, take, slice_range, replicate}
 use Rattle.exo_tree.specs.Tree.{Statement, Block, end, next, block}
 use Rattle.config_state.specs.FieldSets.{contains, Marked, fields_from, fields_where}
 
@@ -55,3 +55,30 @@ block_marked whole one e ss rest k a set mid new d h j = marked_same (λ f. one 
 
 pub drop_item : {X : Type 0} (xs : List X) (i : ℕ) (d : X) → i < length xs → d ≡ get_or xs i d → drop i xs ≡ d ∷ drop (i + 1) xs
 drop_item xs i d h e = drop-cons xs i d h ∙ ap₂ (λ a k. a ∷ drop k xs) (sym e) (next_is i)
+
+-- ---- some statements of a block
+
+range_step : (ss rest : List Statement) (k to : ℕ) (a : Statement) → k < to → drop k ss ≡ a ∷ rest → rest ≡ drop (k + 1) ss → slice_range ss k to ≡ a ∷ slice_range ss (k + 1) to
+range_step ss rest k to a h d e =
+    let one : to - k ≡ suc (to - (k + 1)) = omega arith in
+    ap₂ (λ n xs. take n xs) one d ∙ ap (λ xs. a ∷ take (to - (k + 1)) xs) e
+
+pub range_marked : (whole : Block → ℕ → Bool) (one : Statement → ℕ → Bool) → ((a : Statement) (b : Block) (f : ℕ) → whole (next a b) f ≡ (one a f || whole b f)) → (ss : List Statement) (k to : ℕ) (a : Statement) (set mid new : List Bool) → k < to → drop k ss ≡ a ∷ drop (k + 1) ss → Marked (one a) set mid → Marked (whole (block (slice_range ss (k + 1) to))) mid new → Marked (whole (block (slice_range ss k to))) set new
+range_marked whole one e ss k to a set mid new l d h j = marked_same (λ f. one a f || whole (block (slice_range ss (k + 1) to)) f) (whole (block (slice_range ss k to))) set new (λ f m. sym (e a (block (slice_range ss (k + 1) to)) f) ∙ ap (λ (z : List Statement). whole (block z) f) (sym (range_step ss (drop (k + 1) ss) k to a l d refl))) (marked_then (one a) (whole (block (slice_range ss (k + 1) to))) set mid new h j)
+
+pub range_end : (ss : List Statement) (k to : ℕ) → to ≤ k → slice_range ss k to ≡ []
+range_end ss k to h = let none : to - k ≡ 0 = omega arith in ap (λ n. take n (drop k ss)) none ∙ take_none (drop k ss)
+  where
+    take_none : (xs : List Statement) → take 0 xs ≡ []
+    take_none [] = refl
+    take_none (x ∷ xs) = refl
+
+-- ---- the same members
+
+pub fields_same : (n count : ℕ) (test other : ℕ → Bool) → ((f : ℕ) → f < n + count → test f ≡ other f) → fields_from n count test ≡ fields_from n count other
+fields_same n zero test other h = refl
+fields_same n (suc count) test other h = ap₂ (λ t fs. if t then n ∷ fs else fs) (h n (omega arith)) (fields_same (suc n) count test other (λ f l. h f (omega arith)))
+
+pub if_ok : {X E : Type 0} (r : Result X E) (P Q : X → Type 0) → ((x : X) → P x → Q x) → IfOk r P → IfOk r Q
+if_ok (Ok x) P Q k h = k x h
+if_ok (Err e) P Q k h = tt

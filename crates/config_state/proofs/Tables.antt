@@ -4,7 +4,8 @@ use Rattle.std.specs.Prelude.{replicate, slice_get}
 use Rattle.exo_tree.specs.Tree.{Statement, Assign, Reduce, Config, Pass, If, For, Alloc, View, Call, Block, end, next, Procedure}
 use Rattle.exo_context.specs.Fields.{writes_field, step_writes_field}
 use Rattle.exo_context.specs.UnitFields.{written_at, written_by, all_written}
-use Rattle.config_state.specs.FieldSets.{contains, Marked, in_table}
+use Rattle.config_state.specs.FieldSets.{contains, Marked, in_table, fields_where}
+use Rattle.config_state.proofs.Sets.{fields_same}
 
 -- each set has the fields that pass the test beside it
 abbrev pub Agree : ℕ → List (List Bool) → List (ℕ → Bool) → Type 0
@@ -77,3 +78,9 @@ written_next n table p rest all set h w = record {
 
 pub written_all : (n : ℕ) (table : List (List Bool)) (all : List Procedure) → Written n table [] all → (k f : ℕ) → f < n → in_table table k f ≡ written_at (all_written [] all) k f
 written_all n table all w k f l = agree_at n table w.tests w.agree k f l ∙ ap (λ ws. written_at ws k f) w.whole
+
+-- the members of what is added to the empty set by the table of a unit
+pub written_members : (n : ℕ) (set : List Bool) (table : List (List Bool)) (ps : List Procedure) (b : Block) → ((k f : ℕ) → f < n → in_table table k f ≡ written_at (all_written [] ps) k f) → Marked (λ f. writes_field (in_table table) f b) (replicate n false) set → fields_where (length set) (contains set) ≡ fields_where n (λ f. writes_field (written_at (all_written [] ps)) f b)
+written_members n set table ps b is_table h =
+    ap (λ m. fields_where m (contains set)) (h.same_length ∙ length_none n)
+    ∙ fields_same 0 n (contains set) (λ f. writes_field (written_at (all_written [] ps)) f b) (λ f l. (let below : f < n = omega arith in only_marked n (λ f. writes_field (in_table table) f b) set h f below ∙ writes_same (in_table table) (written_at (all_written [] ps)) f (λ k. is_table k f below) b))

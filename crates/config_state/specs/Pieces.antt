@@ -1,5 +1,5 @@
--- The statements from a path on.
-use Rattle.std.specs.Prelude.{◌≡◌, ℕ, Bool, List, [], ◌∷◌, Option, Some, None, IfSome, IsSome, slice_get, option_map, option_and_then}
+-- The statements of a procedure from a path on.
+use Rattle.std.specs.Prelude.{ℕ, ◌+◌, List, [], ◌∷◌, Option, Some, None, slice_get, slice_range, option_map, option_and_then}
 use Rattle.exo_tree.specs.Tree.{Statement, Block, block, statements, Procedure, Program}
 use Rattle.exo_tree.specs.Places.{Path, Opened, opened}
 use Rattle.exo_tree.specs.Branches.{branch_of}
@@ -8,12 +8,8 @@ use Rattle.exo_tree.specs.Branches.{branch_of}
 abbrev pub piece_at : Program → ℕ → Path → ℕ → Option Block
 piece_at unit p path count = option_and_then (λ (q : Procedure). option_map (λ (o : Opened). o.piece) (opened count path q.body)) (slice_get unit.procedures p)
 
--- the block in which the statement of a path stands, and its number there
-pub record Home : Type 0 where
-  pub statements : List Statement
-  pub index : ℕ
-
-abbrev pub home_in : Path → List Statement → Option Home
-home_in [] ss = None
-home_in (s ∷ []) ss = Some (record { statements = ss; index = s.index })
-home_in (s ∷ t ∷ path) ss = option_and_then (λ b. home_in (t ∷ path) (statements b)) (option_and_then (branch_of t.branch) (slice_get ss s.index))
+-- the statements of the block in which the statement of a path stands
+abbrev pub block_in : Path → List Statement → Option (List Statement)
+block_in [] ss = None
+block_in (s ∷ []) ss = Some ss
+block_in (s ∷ t ∷ path) ss = option_and_then (λ b. block_in (t ∷ path) (statements b)) (option_and_then (branch_of t.branch) (slice_get ss s.index))
