@@ -1,7 +1,9 @@
 -- Sets of fields, and their members in order.
 use Rattle.std.proofs.Common.{◌≡◌, ◌<◌, ◌≤◌, ℕ, zero, suc, ◌+◌, ◌-◌, nat_lt, Bool, true, false, if◌then◌else◌, ◌&&◌, ◌||◌, List, [], ◌∷◌, ◌++◌, length, get_or, refl, sym, ap, ap₂, ◌∙◌, arith, drop-cons, Result, Ok, Err, IfOk}
-use Rattle.std.specs.Prelude.{drop, take, slice_range, replicate}
-use Rattle.exo_tree.specs.Tree.{Statement, Block, end, next, block}
+use Rattle.std.proofs.lemmas.List.{drop_all}
+use Rattle.std.specs.Prelude.{map, drop, take, slice_range, replicate}
+use Rattle.exo_tree.specs.Tree.{Statement, Block, end, next, block, Coord, At, Span}
+use Rattle.exo_context.specs.Live.{read_by_control, read_by_coords}
 use Rattle.config_state.specs.FieldSets.{contains, Marked, fields_from, fields_where}
 
 -- ---- members in order
@@ -82,3 +84,26 @@ fields_same n (suc count) test other h = ap₂ (λ t fs. if t then n ∷ fs else
 pub if_ok : {X E : Type 0} (r : Result X E) (P Q : X → Type 0) → ((x : X) → P x → Q x) → IfOk r P → IfOk r Q
 if_ok (Ok x) P Q k h = k x h
 if_ok (Err e) P Q k h = tt
+
+-- ---- items of a list one after the other
+
+pub items_marked : {X A : Type 0} (plain : X → A) (whole : List A → ℕ → Bool) (one : A → ℕ → Bool) → ((a : A) (as' : List A) (f : ℕ) → whole (a ∷ as') f ≡ (one a f || whole as' f)) → (xs : List X) (k : ℕ) (d : X) (set mid new : List Bool) → k < length xs → d ≡ get_or xs k d → Marked (one (plain d)) set mid → Marked (whole (map plain (drop (k + 1) xs))) mid new → Marked (whole (map plain (drop k xs))) set new
+items_marked plain whole one e xs k d set mid new l i h j = marked_same (λ f. one (plain d) f || whole (map plain (drop (k + 1) xs)) f) (whole (map plain (drop k xs))) set new (λ f m. sym (e (plain d) (map plain (drop (k + 1) xs)) f) ∙ ap (λ ys. whole (map plain ys) f) (sym (drop_item xs k d l i))) (marked_then (one (plain d)) (whole (map plain (drop (k + 1) xs))) set mid new h j)
+
+pub items_end : {X A : Type 0} (plain : X → A) (whole : List A → ℕ → Bool) → ((f : ℕ) → whole [] f ≡ false) → (xs : List X) (k : ℕ) (set : List Bool) → length xs ≤ k → Marked (whole (map plain (drop k xs))) set set
+items_end plain whole e xs k set h = marked_same (λ f. false) (whole (map plain (drop k xs))) set set (λ f l. sym (e f) ∙ ap (λ ys. whole (map plain ys) f) (sym (drop_all k xs h))) (marked_none set)
+
+-- ---- coordinates
+
+pub coords_split : (c : Coord) (cs : List Coord) (f : ℕ) → read_by_coords f (c ∷ cs) ≡ (read_by_coords f (c ∷ []) || read_by_coords f cs)
+coords_split (At a) cs f = go (read_by_control f a)
+  where
+    go : (t : Bool) → (t || read_by_coords f cs) ≡ ((t || false) || read_by_coords f cs)
+    go true = refl
+    go false = refl
+coords_split (Span a b) cs f = go (read_by_control f a) (read_by_control f b)
+  where
+    go : (s t : Bool) → (s || (t || read_by_coords f cs)) ≡ ((s || (t || false)) || read_by_coords f cs)
+    go true t = refl
+    go false true = refl
+    go false false = refl

@@ -4,6 +4,9 @@ use Rattle.std.specs.Prelude.{replicate, slice_get}
 use Rattle.exo_tree.specs.Tree.{Statement, Assign, Reduce, Config, Pass, If, For, Alloc, View, Call, Block, end, next, Procedure}
 use Rattle.exo_context.specs.Fields.{writes_field, step_writes_field}
 use Rattle.exo_context.specs.UnitFields.{written_at, written_by, all_written}
+use Rattle.exo_context.specs.Live.{read_by_control, read_by_condition, read_by_arguments}
+use Rattle.exo_context.specs.UnitFields.{read_by_params, read_by_conditions}
+use Rattle.config_state.specs.Reads.{reads_field, step_reads_field, read_by, read_at, all_read}
 use Rattle.config_state.specs.FieldSets.{contains, Marked, in_table, fields_where}
 use Rattle.config_state.proofs.Sets.{fields_same}
 
@@ -84,3 +87,49 @@ pub written_members : (n : ℕ) (set : List Bool) (table : List (List Bool)) (ps
 written_members n set table ps b is_table h =
     ap (λ m. fields_where m (contains set)) (h.same_length ∙ length_none n)
     ∙ fields_same 0 n (contains set) (λ f. writes_field (written_at (all_written [] ps)) f b) (λ f l. (let below : f < n = omega arith in only_marked n (λ f. writes_field (in_table table) f b) set h f below ∙ writes_same (in_table table) (written_at (all_written [] ps)) f (λ k. is_table k f below) b))
+
+-- ---- reads, where the callees read the same
+
+module _ (calls other : ℕ → ℕ → Bool) (f : ℕ) (same : (k : ℕ) → calls k f ≡ other k f) where
+  mutual
+    pub reads_same : (b : Block) → reads_field calls f b ≡ reads_field other f b
+    reads_same end = refl
+    reads_same (next a b) = ap₂ ◌||◌ (step_reads_same a) (reads_same b)
+
+    step_reads_same : (a : Statement) → step_reads_field calls f a ≡ step_reads_field other f a
+    step_reads_same (Assign x is e) = refl
+    step_reads_same (Reduce x is e) = refl
+    step_reads_same (Config g a) = refl
+    step_reads_same Pass = refl
+    step_reads_same (If c a b) = ap (λ t. read_by_condition f c || t) (ap₂ ◌||◌ (reads_same a) (reads_same b))
+    step_reads_same (For i lo hi b) = ap (λ t. (read_by_control f lo || read_by_control f hi) || t) (reads_same b)
+    step_reads_same (Alloc x cell dims memory) = refl
+    step_reads_same (View w x coords) = refl
+    step_reads_same (Call k args) = ap (λ t. read_by_arguments f args || t) (same k)
+
+  pub read_by_same : (p : Procedure) → read_by calls p f ≡ read_by other p f
+  read_by_same p = ap (λ t. read_by_params f p.params || (read_by_conditions f p.asserts || t)) (reads_same p.body)
+
+-- the table so far, with what the tests make of the procedures that follow
+pub record ReadSoFar (n : ℕ) (table : List (List Bool)) (rest all : List Procedure) : Type 0 where
+  pub tests : List (ℕ → Bool)
+  pub agree : Agree n table tests
+  pub whole : all_read tests rest ≡ all_read [] all
+
+pub read_start : (n : ℕ) (all : List Procedure) → ReadSoFar n [] all all
+read_start n all = record { tests = []; agree = tt; whole = refl }
+
+pub read_next : (n : ℕ) (table : List (List Bool)) (p : Procedure) (rest all : List Procedure) (set : List Bool) → Marked (read_by (in_table table) p) (replicate n false) set → ReadSoFar n table (p ∷ rest) all → ReadSoFar n (table ++ set ∷ []) rest all
+read_next n table p rest all set h w = record {
+  tests = w.tests ++ read_by (read_at w.tests) p ∷ [];
+  agree = agree_more n table w.tests set (read_by (read_at w.tests) p) w.agree (λ f l. only_marked n (read_by (in_table table) p) set h f l ∙ read_by_same (in_table table) (read_at w.tests) f (λ k. agree_at n table w.tests w.agree k f l) p);
+  whole = w.whole;
+}
+
+pub read_all : (n : ℕ) (table : List (List Bool)) (all : List Procedure) → ReadSoFar n table [] all → (k f : ℕ) → f < n → in_table table k f ≡ read_at (all_read [] all) k f
+read_all n table all w k f l = agree_at n table w.tests w.agree k f l ∙ ap (λ ws. read_at ws k f) w.whole
+
+pub read_members : (n : ℕ) (set : List Bool) (table : List (List Bool)) (ps : List Procedure) (b : Block) → ((k f : ℕ) → f < n → in_table table k f ≡ read_at (all_read [] ps) k f) → Marked (λ f. reads_field (in_table table) f b) (replicate n false) set → fields_where (length set) (contains set) ≡ fields_where n (λ f. reads_field (read_at (all_read [] ps)) f b)
+read_members n set table ps b is_table h =
+    ap (λ m. fields_where m (contains set)) (h.same_length ∙ length_none n)
+    ∙ fields_same 0 n (contains set) (λ f. reads_field (read_at (all_read [] ps)) f b) (λ f l. (let below : f < n = omega arith in only_marked n (λ f. reads_field (in_table table) f b) set h f below ∙ reads_same (in_table table) (read_at (all_read [] ps)) f (λ k. is_table k f below) b))

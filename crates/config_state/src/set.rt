@@ -1,7 +1,7 @@
 //! Sets of a unit's configuration fields.
 ghost use Rattle.std.specs.Prelude.{◌≡◌, ◌++◌, ◌==◌, [], ◌∷◌, ◌<◌, false, length, map, replicate, IfOk, OnOk, OnErr, slice_get, option_map};
 ghost use Rattle.std.specs.Option.{option_copied};
-ghost use Rattle.config_state.specs.FieldSets.{contains, Marked, fields_where};
+ghost use Rattle.config_state.specs.FieldSets.{contains, in_table, Marked, fields_where};
 
 use exo_tree::FieldId;
 use std::alloc::{AllocError, Global};
@@ -119,5 +119,14 @@ impl FieldTable {
         ensures { option_copied result ≡ slice_get self.now k }
     {
         self.sets.get(k)
+    }
+
+    /// Adds to a set what is in the set of that procedure.
+    pub(crate) fn add(&self, k: usize, set: &mut FieldSet)
+        ensures { Marked (in_table self.now k) set.old set.new }
+    {
+        if let Some(called) = self.get(k) {
+            set.unite(called);
+        }
     }
 }

@@ -2,7 +2,7 @@ use Rattle.std.proofs.Common.{drop}
 use Rattle.exo_tree.specs.Tree.{block}
 use Rattle.exo_context.specs.Fields.{writes_field}
 use Rattle.config_state.specs.FieldSets.{in_table, Marked}
-use Rattle.config_state.proofs.written.+written.Given as goal
+use Rattle.config_state.proofs.writes.+written.Given as goal
 
 abbrev pub decreases-add_written : goal.decreases-add_written
 decreases-add_written l = goal.size-add_written l

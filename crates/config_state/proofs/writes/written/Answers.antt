@@ -9,7 +9,7 @@ use Rattle.config_state.specs.FieldSets.{in_table, Marked, fields_where}
 use Rattle.config_state.specs.Pieces.{piece_at}
 use Rattle.config_state.proofs.Sets.{if_ok}
 use Rattle.config_state.proofs.Tables.{written_members}
-use Rattle.config_state.proofs.written.written.Goals as goal
+use Rattle.config_state.proofs.writes.written.Goals as goal
 
 pub returns : goal.returns
 returns c =

@@ -35,17 +35,8 @@ pub fn add_written_by(s: &Stmt, table: &FieldTable, set: &mut FieldSet)
             add_written(b, table, set);
         }
         Stmt::For(_, _, _, body) => add_written(body, table, set),
-        Stmt::Call(p, _) => add_callee(p.0 as usize, table, set),
+        Stmt::Call(p, _) => table.add(p.0 as usize, set),
         _ => {}
-    }
-}
-
-/// The same of a call.
-fn add_callee(p: usize, table: &FieldTable, set: &mut FieldSet)
-    ensures { Marked (in_table table.now p) set.old set.new }
-{
-    if let Some(called) = table.get(p) {
-        set.unite(called);
     }
 }
 

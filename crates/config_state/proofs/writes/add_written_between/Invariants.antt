@@ -2,7 +2,7 @@ use Rattle.std.specs.Prelude.{slice_range}
 use Rattle.exo_tree.specs.Tree.{block}
 use Rattle.exo_context.specs.Fields.{writes_field}
 use Rattle.config_state.specs.FieldSets.{in_table, Marked}
-use Rattle.config_state.proofs.written.add_written_between.Given as goal
+use Rattle.config_state.proofs.writes.add_written_between.Given as goal
 
 -- what is left would add to the set what all would add to the set as it was
 abbrev pub invariant-loop-k : goal.invariant-loop-k

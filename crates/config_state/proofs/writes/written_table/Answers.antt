@@ -7,7 +7,7 @@ use Rattle.exo_context.specs.Fields.{writes_field}
 use Rattle.config_state.specs.FieldSets.{in_table, Marked}
 use Rattle.config_state.proofs.Sets.{drop_item}
 use Rattle.config_state.proofs.Tables.{Written, written_start, written_next, written_all}
-use Rattle.config_state.proofs.written.written_table.Goals as goal
+use Rattle.config_state.proofs.writes.written_table.Goals as goal
 
 pub loop-p-init : goal.loop-p-init
 loop-p-init c =
