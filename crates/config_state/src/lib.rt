@@ -5,6 +5,8 @@ mod expression;
 mod piece;
 mod reading;
 mod set;
+#[cfg(test)]
+mod tests;
 mod writes;
 
 pub use reading::{add_read, read, read_table};

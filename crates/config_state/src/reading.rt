@@ -8,11 +8,11 @@ ghost use Rattle.config_state.specs.Reads.{reads_field, step_reads_field, read_b
 ghost use Rattle.config_state.specs.Pieces.{piece_at};
 ghost use Rattle.config_state.specs.FieldSets.{in_table, IsTable, Marked, fields_where};
 
-use crate::piece::piece_at;
 use crate::expression::{
     add_argument, add_arguments, add_condition, add_conditions, add_control, add_controls,
     add_coordinates, add_datum, add_params,
 };
+use crate::piece::piece_at;
 use crate::set::{FieldSet, FieldTable};
 use exo_tree::{Block, FieldId, Path, Proc, ProcId, Stmt, Unit};
 use std::alloc::{AllocError, Global};

@@ -22,8 +22,8 @@ loop-p-preserved c =
     let empty : c.in_ok-set.set ≡ replicate n false = c.in_ok-set.ensures ∙ ap (λ m. replicate m false) c.len.ensures in
     subst (λ t. ReadSoFar n t rest c.args.unit.now.procs) (sym c.in_ok-push.ensures.pushed)
     (read_next n c.loop-p.table (procedure c.p-item.result) rest c.args.unit.now.procs c.add_read_of.new.set
-      (subst (λ s. Marked (read_by (in_table c.loop-p.table) (procedure c.p-item.result)) s c.add_read_of.new.set) empty c.add_read_of.ensures)
-      (subst (λ z. ReadSoFar n c.loop-p.table (map procedure z) c.args.unit.now.procs) one c.loop-p.invariant))
+    (subst (λ s. Marked (read_by (in_table c.loop-p.table) (procedure c.p-item.result)) s c.add_read_of.new.set) empty c.add_read_of.ensures)
+    (subst (λ z. ReadSoFar n c.loop-p.table (map procedure z) c.args.unit.now.procs) one c.loop-p.invariant))
 
 pub returns : goal.returns
 returns c =

@@ -23,8 +23,8 @@ loop-p-preserved c =
     let empty : c.in_ok-set.set ≡ replicate n false = c.in_ok-set.ensures ∙ ap (λ m. replicate m false) c.len.ensures in
     subst (λ t. Written n t rest c.args.unit.now.procs) (sym c.in_ok-push.ensures.pushed)
     (written_next n c.loop-p.table (procedure c.p-item.result) rest c.args.unit.now.procs c.add_written.new.set
-      (subst (λ s. Marked (λ f. writes_field (in_table c.loop-p.table) f (block c.p-item.result.body)) s c.add_written.new.set) empty c.add_written.ensures)
-      (subst (λ z. Written n c.loop-p.table (map procedure z) c.args.unit.now.procs) one c.loop-p.invariant))
+    (subst (λ s. Marked (λ f. writes_field (in_table c.loop-p.table) f (block c.p-item.result.body)) s c.add_written.new.set) empty c.add_written.ensures)
+    (subst (λ z. Written n c.loop-p.table (map procedure z) c.args.unit.now.procs) one c.loop-p.invariant))
 
 pub returns : goal.returns
 returns c =
