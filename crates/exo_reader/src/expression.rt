@@ -45,37 +45,33 @@ impl Operator {
     }
 }
 
-impl Sign {
-    /// The operator that the sign is between two expressions.
-    fn operator(self) -> Option<Operator>
-        ensures { result ≡ joins_by_sign self }
-    {
-        match self {
-            Sign::Less => Some(Operator::Lt),
-            Sign::LessEqual => Some(Operator::Le),
-            Sign::Greater => Some(Operator::Gt),
-            Sign::GreaterEqual => Some(Operator::Ge),
-            Sign::Equal => Some(Operator::Eq),
-            Sign::Plus => Some(Operator::Add),
-            Sign::Minus => Some(Operator::Sub),
-            Sign::Times => Some(Operator::Mul),
-            Sign::Divide => Some(Operator::Div),
-            Sign::Modulo => Some(Operator::Mod),
-            _ => None,
-        }
+/// The operator that the sign is between two expressions.
+fn sign_operator(sign: Sign) -> Option<Operator>
+    ensures { result ≡ joins_by_sign sign }
+{
+    match sign {
+        Sign::Less => Some(Operator::Lt),
+        Sign::LessEqual => Some(Operator::Le),
+        Sign::Greater => Some(Operator::Gt),
+        Sign::GreaterEqual => Some(Operator::Ge),
+        Sign::Equal => Some(Operator::Eq),
+        Sign::Plus => Some(Operator::Add),
+        Sign::Minus => Some(Operator::Sub),
+        Sign::Times => Some(Operator::Mul),
+        Sign::Divide => Some(Operator::Div),
+        Sign::Modulo => Some(Operator::Mod),
+        _ => None,
     }
 }
 
-impl Word {
-    /// The operator that the word is between two expressions.
-    fn operator(self) -> Option<Operator>
-        ensures { result ≡ joins_by_word self }
-    {
-        match self {
-            Word::Or => Some(Operator::Or),
-            Word::And => Some(Operator::And),
-            _ => None,
-        }
+/// The operator that the word is between two expressions.
+fn word_operator(word: Word) -> Option<Operator>
+    ensures { result ≡ joins_by_word word }
+{
+    match word {
+        Word::Or => Some(Operator::Or),
+        Word::And => Some(Operator::And),
+        _ => None,
     }
 }
 
@@ -84,8 +80,8 @@ fn operator_of(token: &Token) -> Option<Operator>
     ensures { result ≡ joins token.now }
 {
     match token {
-        Token::Sign(sign) => sign.operator(),
-        Token::Word(word) => word.operator(),
+        Token::Sign(sign) => sign_operator(*sign),
+        Token::Word(word) => word_operator(*word),
         _ => None,
     }
 }
