@@ -289,9 +289,10 @@ wide_select = record {
   stands = (tt, tt, tt, tt);
   spelled = refl;
   shallow = refl;
-  wide = λ other x y found.
-      (omega (arith, ap depth found.4, depth_some found.0, le-max_left (depth found.0) (depth found.1), le-max_left (max (depth found.0) (depth found.1)) (max (depth found.2) (depth found.3))),
-      omega (arith, ap nodes found.4, nodes_some found.0, nodes_some found.1, nodes_some found.2, nodes_some found.3));
+  wide = λ other x y found. (
+    omega (arith, ap depth found.4, depth_some found.0, le-max_left (depth found.0) (depth found.1), le-max_left (max (depth found.0) (depth found.1)) (max (depth found.2) (depth found.3))),
+    omega (arith, ap nodes found.4, nodes_some found.0, nodes_some found.1, nodes_some found.2, nodes_some found.3),
+  );
 }
 
 -- no room is left for an index

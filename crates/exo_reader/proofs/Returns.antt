@@ -260,13 +260,14 @@ deep_indices {level = level} {list = list} taken = deepest_of level list (taken.
 
 -- the room at the right of an operator
 pub rights : (room inner : Room) (m : Measured) → IsMeasured m → inner ≡ under (m.nodes + 1) room → m.depth < room.depth → m.nodes + 1 < room.nodes → Right room inner (tree_of m.tree) × HasPlace inner
-rights room inner m measured same shallow few =
-    (record {
-      is = same ∙ ap (λ k. under (k + 1) room) measured.nodes;
-      shallow = omega (arith, shallow, measured.depth);
-      few = omega (arith, few, measured.nodes);
-    },
-    place_under room inner (m.nodes + 1) same (omega (arith, shallow, measured.depth, depth_some (tree_of m.tree))) few)
+rights room inner m measured same shallow few = (
+  record {
+    is = same ∙ ap (λ k. under (k + 1) room) measured.nodes;
+    shallow = omega (arith, shallow, measured.depth);
+    few = omega (arith, few, measured.nodes);
+  },
+  place_under room inner (m.nodes + 1) same (omega (arith, shallow, measured.depth, depth_some (tree_of m.tree))) few,
+)
 
 -- cells
 
