@@ -1,12 +1,12 @@
 -- Operands that no operator splits: with which token each begins, and what is left of it.
-use Rattle.std.proofs.Common.{◌≡◌, ℕ, ◌+◌, ◌-◌, ◌<◌, ◌≤◌, max, Bool, true, false, List, [], ◌∷◌, ◌++◌, Option, Some, length, refl, sym, ap, ◌∙◌, append_assoc, subst, arith, ◌⊎◌, inl, inr}
-use Rattle.phrases.specs.Limits.{Limits, unlimited, in_depth, in_length, in_size, Cause, syntax, too_deep, too_long, too_large}
-use Rattle.phrases.specs.Phrase.{first, Taken, Begins, GoesOn, Refused}
+use Rattle.std.proofs.Common.{◌≡◌, ℕ, ◌<◌, ◌≤◌, max, true, false, List, [], ◌∷◌, ◌++◌, Option, Some, length, refl, sym, ap, ◌∙◌, append_assoc, subst, arith}
+use Rattle.phrases.specs.Limits.{in_length, in_size, syntax, too_deep, too_long, too_large}
+use Rattle.phrases.specs.Phrase.{first, Taken, Begins, Refused}
 use Rattle.phrases.specs.Answers.{Refuses}
 use Rattle.phrases.specs.declared.Refusal.{Refusal}
 use Rattle.phrases.specs.declared.Refusal.TheVariants.{Memory, Syntax, TooDeep, TooLong, TooLarge}
 use Rattle.phrases.proofs.Phrases.{keeps_all}
-use Rattle.exo_reader.specs.Values.{IsShortName, IsValue}
+use Rattle.exo_reader.specs.Values.{IsShortName}
 use Rattle.exo_reader.specs.Expression.{Tree, number, truth, variable, access, field, stride, relu, select, negative, parens, binary, Trees, end, next, Stands, HasIndex, AllStand, spelling, spelling_list, FollowsOperand, operand, Within, HasPlace, depth, deepest, nodes, sign}
 use Rattle.exo_reader.specs.Rooms.{IsFull}
 use Rattle.exo_lexer.specs.declared.token.Token.{Token}

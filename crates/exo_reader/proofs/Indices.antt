@@ -1,12 +1,12 @@
 -- Lists of indices in a tree and outside of one.
-use Rattle.std.proofs.Common.{◌≡◌, ℕ, ◌+◌, ◌-◌, ◌<◌, ◌≤◌, max, Bool, false, List, [], ◌∷◌, ◌++◌, length, map, refl, sym, ap, ◌∙◌, subst, arith}
+use Rattle.std.proofs.Common.{◌≡◌, ℕ, ◌-◌, ◌<◌, ◌≤◌, max, false, List, [], ◌∷◌, ◌++◌, length, refl, ap, arith}
 use Rattle.std.proofs.Math.Nat.{le-max_left, le-max_right, max-le}
 use Rattle.phrases.specs.Limits.{Limits, in_size, Keeps}
 use Rattle.phrases.specs.Sequence.{AllFit}
 use Rattle.phrases.specs.Commas.{spell_more, ListingFits, spell_listing}
 use Rattle.phrases.proofs.Phrases.{keeps_map, keeps_both, keeps_all}
 use Rattle.exo_reader.specs.Values.{IsShortName}
-use Rattle.exo_reader.specs.Expression.{Tree, access, Trees, end, next, trees, Stands, HasIndex, AllStand, spelling, spelling_list, spelling_more, operand, Within, depth, deepest, nodes, count, most_dimensions, AreShort, AreSmall, control_room, FewDimensions}
+use Rattle.exo_reader.specs.Expression.{Tree, access, Trees, end, next, trees, Stands, AllStand, spelling, spelling_list, spelling_more, operand, Within, depth, deepest, count, AreShort, AreSmall, control_room, FewDimensions}
 use Rattle.exo_reader.specs.declared.expression.Room.{Room}
 use Rattle.exo_lexer.specs.declared.token.Token.TheVariants.{Sign}
 use Rattle.exo_lexer.specs.declared.token.Sign.TheVariants.{Comma}

@@ -1,23 +1,20 @@
 -- The productions of procedures.
-use Rattle.std.proofs.Common.{◌≡◌, ℕ, ◌+◌, ◌<◌, ◌≤◌, List, [], ◌∷◌, ◌++◌, Option, Some, Bool, true, false, length, refl, sym, ap, ◌∙◌, subst, arith, map, take, drop, get_or}
-use Rattle.std.proofs.lemmas.List.{length-append, take-append-drop, drop_more, map-append}
-use Rattle.phrases.specs.Limits.{Limits, in_size, Cause, syntax}
+use Rattle.std.proofs.Common.{◌≡◌, ℕ, ◌<◌, ◌≤◌, List, [], ◌∷◌, ◌++◌, Option, Some, Bool, true, false, length, refl, sym, ap, ◌∙◌, subst, arith, map}
+use Rattle.std.proofs.lemmas.List.{length-append}
+use Rattle.phrases.specs.Limits.{Limits, syntax}
 use Rattle.phrases.specs.Phrase.{first, Phrase, Taken, Refused}
 use Rattle.phrases.proofs.Phrases.{keeps_all}
 use Rattle.phrases.specs.Sequence.{exactly, then, spell_all, many}
 use Rattle.phrases.specs.Commas.{commas}
 use Rattle.phrases.specs.Answers.{Refuses}
 use Rattle.phrases.specs.declared.Refusal.{Refusal}
-use Rattle.phrases.specs.declared.Refusal.TheVariants.{Syntax}
 use Rattle.phrases.proofs.Exits.{refuses_along}
-use Rattle.phrases.proofs.Sequences.{Back, Step, step_taken, Items, items_none, items_next, items_done, items_refused, Apart, refused_exactly}
+use Rattle.phrases.proofs.Sequences.{Back, Step, step_taken, Items, items_none, items_next, items_done, items_refused, Apart}
 use Rattle.phrases.proofs.Commas.{CommaApart, Commas, commas_none, commas_next, commas_refused, commas_done, commas_trailing}
 use Rattle.phrases.proofs.Joints.{Joint, now, later, both, whole_err}
-use Rattle.exo_reader.specs.Values.{name, IsShortName}
+use Rattle.exo_reader.specs.Values.{name}
 use Rattle.exo_lexer.specs.declared.token.Literal.TheVariants.{Value}
-use Rattle.exo_reader.specs.Fixed.{token_of}
-use Rattle.exo_reader.specs.declared.front.Fixed.{Fixed}
-use Rattle.exo_reader.specs.Expression.{Tree, number, spelling, operand, control, datum}
+use Rattle.exo_reader.specs.Expression.{Tree, number, spelling, control, datum}
 use Rattle.exo_reader.specs.Procedure.{SourceStatement, pass, assign, StatementFits, spelling_statement, statement, EndsBlock, body, SourceParameter, parameter, SourceParameters, none, some, EndsParameters, ParametersFit, spelling_parameters, parameters, SourceProcedure, procedure}
 use Rattle.exo_reader.specs.Views.{statement_of, parameter_of, listed}
 use Rattle.exo_reader.specs.declared.source.SourceStmt.{SourceStmt}

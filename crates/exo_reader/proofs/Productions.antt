@@ -1,24 +1,23 @@
 -- Operands that no operator splits, by what stands behind their first tokens.
 use Rattle.std.proofs.Math.Nat.{le-max_left, le-max_right, max-le}
-use Rattle.std.proofs.Common.{◌≡◌, ℕ, suc, max, ◌+◌, ◌-◌, ◌<◌, ◌≤◌, List, [], ◌∷◌, ◌++◌, Option, Some, length, refl, sym, ap, ◌∙◌, append_assoc, subst, arith}
+use Rattle.std.proofs.Common.{◌≡◌, ℕ, suc, max, ◌+◌, ◌-◌, ◌<◌, ◌≤◌, List, [], ◌∷◌, ◌++◌, Option, Some, refl, sym, ap, ◌∙◌, append_assoc, subst, arith}
 use Rattle.phrases.specs.Limits.{Limits}
 use Rattle.phrases.specs.Phrase.{first, Phrase}
 use Rattle.phrases.specs.Sequence.{exactly, then, then_by}
-use Rattle.phrases.specs.Commas.{listing}
 use Rattle.phrases.proofs.Phrases.{keeps_map, keeps_both, keeps_all}
 use Rattle.phrases.proofs.Sequences.{Back, Step, JointBy}
 use Rattle.phrases.proofs.Commas.{CommaApart}
 use Rattle.phrases.proofs.Joints.{Joint}
 use Rattle.exo_reader.specs.Values.{IsShortName, name, literal}
-use Rattle.exo_reader.specs.Expression.{Tree, number, truth, variable, access, field, stride, relu, select, negative, parens, binary, Trees, trees, Stands, HasIndex, AllStand, spelling, spelling_list, FollowsOperand, operand, Within, under, HasPlace, depth, nodes, IsShort, IsSmall, indices, control_room, EndsList, FewDimensions}
+use Rattle.exo_reader.specs.Expression.{Tree, number, access, field, stride, relu, select, negative, parens, trees, spelling, spelling_list, FollowsOperand, operand, Within, under, HasPlace, depth, nodes, IsShort, IsSmall, indices, control_room, EndsList}
 use Rattle.exo_lexer.specs.declared.token.Token.{Token}
-use Rattle.exo_lexer.specs.declared.token.Token.TheVariants.{Int, Name, Word, Sign}
+use Rattle.exo_lexer.specs.declared.token.Token.TheVariants.{Name, Word, Sign}
 use Rattle.exo_lexer.specs.declared.token.Literal.{Literal}
 use Rattle.exo_lexer.specs.declared.token.Literal.TheVariants.{Value}
 use Rattle.exo_lexer.specs.declared.token.Word.TheVariants.{Stride, Relu, Select}
 use Rattle.exo_lexer.specs.declared.token.Sign.TheVariants.{Open, Close, OpenBracket, CloseBracket, Comma, Dot, Minus}
 use Rattle.exo_reader.specs.declared.expression.Room.{Room}
-use Rattle.exo_reader.proofs.Sizes.{nodes_some, depth_some, zero_within, zero_beside, inside_negative, around_negative, inside_relu, around_relu, inside_parens, around_parens}
+use Rattle.exo_reader.proofs.Sizes.{nodes_some, zero_within, zero_beside, inside_negative, around_negative, inside_relu, around_relu, inside_parens, around_parens}
 use Rattle.exo_reader.proofs.Atoms.{Goes, goes, Named, plain, cell, dotted, starts, Starts, four}
 use Rattle.exo_reader.proofs.Indices.{listed, trees-listed, spelled_list, around_access, inside_access}
 

@@ -1,6 +1,6 @@
 -- The returns of the functions that read expressions.
-use Rattle.std.proofs.Common.{◌≡◌, ℕ, zero, suc, max, true, false, ◌+◌, ◌-◌, ◌<◌, ◌≤◌, List, [], ◌∷◌, ◌++◌, Option, Some, length, map, refl, sym, ap, ◌∙◌, subst, arith, add-one}
-use Rattle.phrases.specs.Limits.{Limits, in_length, in_size, Cause, syntax, too_deep, too_long, too_large}
+use Rattle.std.proofs.Common.{◌≡◌, ℕ, zero, suc, max, true, false, ◌+◌, ◌-◌, ◌<◌, ◌≤◌, List, [], ◌∷◌, ◌++◌, Some, length, map, refl, sym, ap, ◌∙◌, subst, arith, add-one}
+use Rattle.phrases.specs.Limits.{in_size, Cause, syntax, too_deep, too_long, too_large}
 use Rattle.phrases.specs.Phrase.{first, Phrase, Taken, Refused}
 use Rattle.phrases.specs.Answers.{Refuses}
 use Rattle.phrases.specs.declared.Refusal.{Refusal}
