@@ -1,8 +1,9 @@
 //! The text of expressions over control values.
 ghost use Rattle.std.specs.Prelude.{◌≡◌, ◌++◌, map, OnOk, string_bytes};
+ghost use Rattle.exo_tree.specs.Tree as tree;
 ghost use Rattle.exo_tree.specs.PlainControl.{control, condition, coordinate};
 ghost use Rattle.exo_show.specs.ControlText.{precedence_of, in_place, control_text, coord_text, indices_text, access_text, window_text, condition_precedence, condition_in_place, condition_text};
-ghost use Rattle.exo_show.specs.Layout.{bracketed};
+ghost use Rattle.exo_show.specs.Layout.{between};
 ghost use Rattle.exo_show.specs.Seen.{words_in};
 
 use crate::precedence::{COMPARISON, CONJUNCTION, DISJUNCTION, PRODUCT, SUM, UNARY};
@@ -37,7 +38,7 @@ fn put_operand(out: &mut String, words: &Words, e: &Ctrl, place: u8) -> Result<(
 
 /// Appends the stride of a buffer's dimension.
 fn put_stride(out: &mut String, words: &Words, x: Id, k: u32) -> Result<(), AllocError>
-    ensures { OnOk result (string_bytes out.new ≡ string_bytes out.old ++ control_text (words_in words.now) (StrideOf x.0 k)) }
+    ensures { OnOk result (string_bytes out.new ≡ string_bytes out.old ++ control_text (words_in words.now) (tree.StrideOf x.0 k)) }
 {
     out.push_str("stride(")?;
     words.put_name(out, x)?;

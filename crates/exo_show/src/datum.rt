@@ -1,7 +1,6 @@
 //! The text of expressions over cells.
-ghost use Rattle.std.specs.Prelude.{◌≡◌, ◌++◌, OnOk, string_bytes};
+ghost use Rattle.std.specs.Prelude.{◌≡◌, ◌++◌, codes, OnOk, string_bytes};
 ghost use Rattle.exo_tree.specs.PlainDatum.{datum};
-ghost use Rattle.exo_tree.specs.Tree as tree;
 ghost use Rattle.exo_show.specs.DatumText.{datum_precedence, datum_in_place, datum_text};
 ghost use Rattle.exo_show.specs.Seen.{words_in};
 
@@ -36,27 +35,13 @@ fn put_operand(out: &mut String, words: &Words, e: &DataExpr, place: u8) -> Resu
     }
 }
 
-/// Appends the text of a choice.
+/// Appends a further expression of a list.
 #[cycle(datum)]
-fn put_select(
-    out: &mut String,
-    words: &Words,
-    a: &DataExpr,
-    b: &DataExpr,
-    c: &DataExpr,
-    d: &DataExpr,
-) -> Result<(), AllocError>
-    ensures { OnOk result (string_bytes out.new ≡ string_bytes out.old ++ datum_text (words_in words.now) (tree.Select (datum a.now) (datum b.now) (datum c.now) (datum d.now))) }
+fn put_next(out: &mut String, words: &Words, e: &DataExpr) -> Result<(), AllocError>
+    ensures { OnOk result (string_bytes out.new ≡ string_bytes out.old ++ (codes ", " ++ datum_text (words_in words.now) (datum e.now))) }
 {
-    out.push_str("select(")?;
-    put_datum(out, words, a)?;
     out.push_str(", ")?;
-    put_datum(out, words, b)?;
-    out.push_str(", ")?;
-    put_datum(out, words, c)?;
-    out.push_str(", ")?;
-    put_datum(out, words, d)?;
-    out.push_str(")")
+    put_datum(out, words, e)
 }
 
 /// Appends the text of an expression over cells.
@@ -91,6 +76,13 @@ pub fn put_datum(out: &mut String, words: &Words, e: &DataExpr) -> Result<(), Al
             put_datum(out, words, a)?;
             out.push_str(")")
         }
-        DataExpr::Select(a, b, c, d) => put_select(out, words, a, b, c, d),
+        DataExpr::Select(a, b, c, d) => {
+            out.push_str("select(")?;
+            put_datum(out, words, a)?;
+            put_next(out, words, b)?;
+            put_next(out, words, c)?;
+            put_next(out, words, d)?;
+            out.push_str(")")
+        }
     }
 }

@@ -7,7 +7,7 @@ ghost use Rattle.exo_tree.specs.PlainParam.{parameter_kind, parameter};
 ghost use Rattle.exo_tree.specs.PlainProcedure.{procedure};
 ghost use Rattle.exo_tree.specs.PlainUnit.{program};
 ghost use Rattle.exo_show.specs.Layout.{listed, line};
-ghost use Rattle.exo_show.specs.Words.{kind_word};
+ghost use Rattle.exo_show.specs.Words.{words_of, kind_word};
 ghost use Rattle.exo_show.specs.ProcedureText.{marker_text, type_text, param_text, assert_text, header_text, procedure_text, shown};
 ghost use Rattle.exo_show.specs.Seen.{words_in};
 
