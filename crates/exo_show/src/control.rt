@@ -95,11 +95,8 @@ fn condition_precedence(c: &Cond) -> u8
     match c {
         Cond::Or(_, _) => DISJUNCTION,
         Cond::And(_, _) => CONJUNCTION,
-        Cond::Lt(_, _)
-        | Cond::Le(_, _)
-        | Cond::Gt(_, _)
-        | Cond::Ge(_, _)
-        | Cond::Eq(_, _) => COMPARISON,
+        Cond::Lt(_, _) | Cond::Le(_, _) | Cond::Gt(_, _) | Cond::Ge(_, _) | Cond::Eq(_, _) =>
+            COMPARISON,
         _ => UNARY,
     }
 }

@@ -15,7 +15,9 @@ use crate::control::put_condition;
 use crate::statement::{cell_word, put_block, put_extent};
 use crate::text::{put_line, put_quoted};
 use crate::words::Words;
-use exo_tree::{Cell, Cond, Indices, Kind, MemId, Param, ParamKind, Params, Proc, ProcId, Text, Unit};
+use exo_tree::{
+    Cell, Cond, Indices, Kind, MemId, Param, ParamKind, Params, Proc, ProcId, Text, Unit,
+};
 use std::alloc::{AllocError, Global};
 
 /// The word of a control type.

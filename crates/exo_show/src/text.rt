@@ -1,6 +1,7 @@
 //! Numbers, quotes and lines.
-ghost use Rattle.std.specs.Prelude.{◌≡◌, ◌++◌, decimal, OnOk, IfOk, string_bytes};
+ghost use Rattle.std.specs.Prelude.{◌≡◌, ◌++◌, flat_map, decimal, OnOk, IfOk, string_bytes};
 ghost use Rattle.std.specs.Fmt.{signed_decimal};
+ghost use Rattle.std.specs.Str.{chars};
 ghost use Rattle.exo_show.specs.Names.{unknown};
 ghost use Rattle.exo_show.specs.Layout.{escaped, quoted, line, deeper};
 
@@ -43,14 +44,22 @@ fn put_escaped(out: &mut String, c: char) -> Result<(), AllocError>
     }
 }
 
+/// Appends the characters of a text as they stand between double quotes.
+fn put_characters(out: &mut String, text: &str) -> Result<(), AllocError>
+    ensures { OnOk result (string_bytes out.new ≡ string_bytes out.old ++ flat_map escaped (chars text.now)) }
+{
+    for c in text.chars() {
+        put_escaped(out, c)?;
+    }
+    Ok(())
+}
+
 /// Appends a text between double quotes.
 pub(crate) fn put_quoted(out: &mut String, text: &str) -> Result<(), AllocError>
     ensures { OnOk result (string_bytes out.new ≡ string_bytes out.old ++ quoted text.now) }
 {
     out.push_str("\"")?;
-    for c in text.chars() {
-        put_escaped(out, c)?;
-    }
+    put_characters(out, text)?;
     out.push_str("\"")
 }
 

@@ -1,4 +1,5 @@
 use Rattle.std.proofs.Common.{codes, string_bytes, ap, sym, ◌∙◌, ◌++◌}
+use Rattle.std.proofs.lemmas.Result.{on_ok_weaker}
 use Rattle.exo_tree.specs.Tree.{block}
 use Rattle.exo_show.specs.Layout.{line}
 use Rattle.exo_show.specs.Seen.{words_in}
@@ -9,4 +10,7 @@ use Rattle.exo_show.proofs.statement.+block.Goals as goal
 
 pub put_other-returns : goal.put_other-returns
 put_other-returns t c =
-    more (string_bytes c.args.out.now) (line c.args.indent.now (codes "else:")) (block_text (words_in c.args.words.now) c.args.inner.now (block c.args.other.now)) _ _ c.in_ok-put_line.ensures c.put_block.ensures
+    let out = string_bytes c.args.out.now in
+    let other = block_text (words_in c.args.words.now) c.args.inner.now (block c.args.other.now) in
+    let full = or_else_full c.args.indent.now other c.args.other.now (λ e. c.if-len-eq0.false (c.len.ensures ∙ e)) in
+    on_ok_weaker _ (λ e. more out (line c.args.indent.now (codes "else:")) other _ _ c.in_ok-put_line.ensures e ∙ ap (λ x. out ++ x) (sym full)) c.put_block.ensures
