@@ -4,7 +4,7 @@ use Rattle.indexmap.specs.IndexMap.{get}
 use Rattle.exo_context.specs.Touched as touched
 use Rattle.exo_context.specs.Touched.{Mode, picked}
 use Rattle.exo_modes.specs.Marks as marks
-use Rattle.exo_modes.specs.declared.modes.Modes.{Modes}
+use Rattle.exo_modes.specs.declared.mode.Modes.{Modes}
 use Rattle.exo_modes.specs.declared.row.Row.{Row}
 use Rattle.exo_modes.specs.declared.aliases.Alias.{Alias}
 use Rattle.exo_modes.specs.declared.table.ModeTable.{ModeTable}

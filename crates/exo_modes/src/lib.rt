@@ -2,12 +2,12 @@
 #![tactic(auto)]
 
 mod aliases;
-mod modes;
+mod mode;
 mod row;
 mod table;
 #[cfg(test)]
 mod tests;
 mod walk;
 
-pub use modes::Modes;
+pub use mode::Modes;
 pub use table::{ModeTable, modes};

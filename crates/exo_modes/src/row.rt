@@ -4,7 +4,7 @@ ghost use Rattle.exo_context.specs.Touched.{Mode, no_modes};
 ghost use Rattle.exo_modes.specs.Marks.{together, used};
 ghost use Rattle.exo_modes.specs.Seen.{says, row_says};
 
-use crate::modes::Modes;
+use crate::mode::Modes;
 use exo_tree::Id;
 use indexmap::IndexMap;
 use std::alloc::{AllocError, Global};

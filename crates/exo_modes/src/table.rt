@@ -6,7 +6,7 @@ ghost use Rattle.exo_context.specs.Touched.{Mode, modes_at, all_modes};
 ghost use Rattle.exo_modes.specs.Marks.{modes_of, param_modes};
 ghost use Rattle.exo_modes.specs.Seen.{says, row_says, table_says};
 
-use crate::modes::Modes;
+use crate::mode::Modes;
 use crate::row::Row;
 use crate::walk::{Above, row_of};
 use exo_tree::{Id, ProcId, Unit};

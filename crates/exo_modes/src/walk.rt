@@ -11,12 +11,13 @@ ghost use Rattle.exo_modes.specs.Marks.{together, reads, argument_marks, call_ma
 ghost use Rattle.exo_modes.specs.Seen.{row_says, rows_say, roots_in};
 
 use crate::aliases::{Alias, root, set_root};
-use crate::modes::Modes;
+use crate::mode::Modes;
 use crate::row::Row;
 use exo_tree::{Arg, Args, Block, DataExpr, Param, Proc, ProcId, Stmt, Unit};
 use std::alloc::{AllocError, Global};
 
 /// The procedures that may be called: the first of the unit, with what they touch.
+#[derive(Clone, Copy)]
 pub(crate) struct Above<'a> {
     pub(crate) unit: &'a Unit,
     pub(crate) rows: &'a [Row],
@@ -33,21 +34,25 @@ fn mark_reads(row: &mut Row, aliases: &[Alias], e: &DataExpr) -> Result<(), Allo
         DataExpr::Relu(a) => mark_reads(row, aliases, a),
         DataExpr::Add(a, b) => {
             mark_reads(row, aliases, a)?;
-            mark_reads(row, aliases, b)
+            mark_reads(row, aliases, b)?;
+            Ok(())
         }
         DataExpr::Sub(a, b) => {
             mark_reads(row, aliases, a)?;
-            mark_reads(row, aliases, b)
+            mark_reads(row, aliases, b)?;
+            Ok(())
         }
         DataExpr::Mul(a, b) => {
             mark_reads(row, aliases, a)?;
-            mark_reads(row, aliases, b)
+            mark_reads(row, aliases, b)?;
+            Ok(())
         }
         DataExpr::Select(a, b, c, d) => {
             mark_reads(row, aliases, a)?;
             mark_reads(row, aliases, b)?;
             mark_reads(row, aliases, c)?;
-            mark_reads(row, aliases, d)
+            mark_reads(row, aliases, d)?;
+            Ok(())
         }
     }
 }
@@ -119,20 +124,24 @@ fn walk_statement(
     match s {
         Stmt::Assign(x, _, e) => {
             mark_reads(row, aliases, e)?;
-            row.insert(root(aliases, *x), Modes::WRITE)
+            row.insert(root(aliases, *x), Modes::WRITE)?;
+            Ok(())
         }
         Stmt::Reduce(x, _, e) => {
             mark_reads(row, aliases, e)?;
-            row.insert(root(aliases, *x), Modes::REDUCE)
+            row.insert(root(aliases, *x), Modes::REDUCE)?;
+            Ok(())
         }
         Stmt::If(_, a, b) => {
             walk_block(above, row, aliases, a)?;
-            walk_block(above, row, aliases, b)
+            walk_block(above, row, aliases, b)?;
+            Ok(())
         }
         Stmt::For(_, _, _, b) => walk_block(above, row, aliases, b),
         Stmt::Alloc(x, _, _, _) => {
             row.insert(x.id, Modes::WRITE)?;
-            set_root(aliases, x.id, x.id)
+            set_root(aliases, x.id, x.id)?;
+            Ok(())
         }
         Stmt::View(w, x, _) => {
             let buffer = root(aliases, *x);
