@@ -1,3 +1,3 @@
 pub mod Unions
 pub mod Roots
-pub mod Rows
+pub mod Walks

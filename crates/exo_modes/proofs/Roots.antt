@@ -5,9 +5,9 @@ use Rattle.exo_meaning.specs.Scene.{updated}
 use Rattle.exo_modes.specs.Marks as marks
 use Rattle.exo_modes.specs.Marks.{root_among, root_by}
 
-pub among_push : (as : List marks.Alias) (a : marks.Alias) (x y : ℕ) → root_among (as ++ a ∷ []) x y ≡ (if x == a.name then a.root else root_among as x y)
+pub among_push : (aliases : List marks.Alias) (a : marks.Alias) (x y : ℕ) → root_among (aliases ++ a ∷ []) x y ≡ (if x == a.name then a.root else root_among aliases x y)
 among_push [] a x y = refl
-among_push (b ∷ as) a x y = among_push as a x (if x == b.name then b.root else y)
+among_push (b ∷ aliases) a x y = among_push aliases a x (if x == b.name then b.root else y)
 
-pub root_by_push : (as : List marks.Alias) (a : marks.Alias) → root_by (as ++ a ∷ []) ≡ updated (root_by as) a.name a.root
-root_by_push as a = λ i x. among_push as a x x i
+pub root_by_push : (aliases : List marks.Alias) (a : marks.Alias) → root_by (aliases ++ a ∷ []) ≡ updated (root_by aliases) a.name a.root
+root_by_push aliases a = λ i x. among_push aliases a x x i
