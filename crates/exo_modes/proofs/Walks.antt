@@ -1,5 +1,5 @@
 -- What a walk has marked, and what is left.
-use Rattle.std.proofs.Common.{◌≡◌, ℕ, ◌||◌, ◌&&◌, ◌==◌, ◌≤◌, ◌+◌, Bool, true, false, List, [], ◌∷◌, length, drop, take, refl, ap, sym, ◌∙◌, subst}
+use Rattle.std.proofs.Common.{◌≡◌, ℕ, zero, suc, arith, ◌||◌, ◌&&◌, ◌==◌, ◌≤◌, ◌+◌, Bool, true, false, List, [], ◌∷◌, length, drop, take, refl, ap, sym, ◌∙◌, subst}
 use Rattle.std.proofs.Math.Bool.{or_assoc}
 use Rattle.std.proofs.lemmas.List.{drop_all}
 use Rattle.exo_tree.specs.Tree.{Binder, Cell, Control, Condition, Datum, Statement, Assign, Reduce, If, Alloc, Block, block, end, next, Program}
@@ -52,3 +52,21 @@ module _ (program : Program) (above : List Modes) (n : ℕ) (root : ℕ → ℕ)
   pub walked_off : (row whole : Modes) (ss : List Statement) (k : ℕ) → length ss ≤ k → together row (block_marks program above n root (block (drop k ss))) ≡ whole → row ≡ whole
   walked_off row whole ss k l w =
       sym (nothing_more row) ∙ ap (λ ts. together row (block_marks program above n root (block ts))) (sym (drop_all k ss l)) ∙ w
+
+take_shorter : {X : Type 0} (k n : ℕ) (ys : List X) → k ≤ n → take k (take n ys) ≡ take k ys
+take_shorter zero n ys h = refl
+take_shorter (suc k) zero ys h = absurd (omega arith)
+take_shorter (suc k) (suc n) [] h = refl
+take_shorter (suc k) (suc n) (y ∷ ys) h = ap (λ zs. y ∷ zs) (take_shorter k n ys (omega arith))
+
+length_taken : {X : Type 0} (n : ℕ) (ys : List X) → length (take n ys) ≤ length ys
+length_taken zero ys = omega arith
+length_taken (suc n) [] = omega arith
+length_taken (suc n) (y ∷ ys) = omega (arith, length_taken n ys)
+
+-- the names from before the block are kept
+pub kept_on : {X : Type 0} (known : ℕ) (xs ys zs : List X) → take known xs ≡ zs → known ≤ length xs → take (length xs) ys ≡ xs → (take known ys ≡ zs) × (known ≤ length ys)
+kept_on known xs ys zs e h k = (
+  sym (take_shorter known (length xs) ys h) ∙ ap (take known) k ∙ e,
+  omega (arith, h, ap length k, length_taken (length xs) ys),
+)

@@ -100,13 +100,15 @@ fn mark_call(
 ) -> Result<(), AllocError>
     ensures { OnOk result (row_says row.new ≡ together (row_says row.old) (call_marks (program above.now.unit.now) (rows_say above.now.rows.now) (length above.now.rows.now) (roots_in aliases.now) k.0 args.now)) }
 {
-    let Some(callee) = above.rows.get(k.0 as usize) else {
+    let index = k.0 as usize;
+    if above.rows.len() <= index {
         return Ok(());
-    };
-    match above.unit.procs.get(k.0 as usize) {
-        Some(p) => mark_arguments(row, aliases, callee, p.params.as_slice(), args.as_slice()),
-        None => Ok(()),
     }
+    if let Some(p) = above.unit.procs.get(index) {
+        let callee = &above.rows[index];
+        mark_arguments(row, aliases, callee, p.params.as_slice(), args.as_slice())?;
+    }
+    Ok(())
 }
 
 /// Marks what a statement touches, and adds the name that it binds.
