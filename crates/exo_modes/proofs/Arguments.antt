@@ -1,10 +1,9 @@
 -- What the arguments of a call touch, one by one.
-use Rattle.std.proofs.Common.{◌≡◌, ℕ, zero, suc, ◌+◌, ◌<◌, ◌≤◌, ◌||◌, ◌&&◌, min, List, [], ◌∷◌, length, drop, map, get_or, refl, ap, sym, ◌∙◌, add-one, drop-cons, arith}
+use Rattle.std.proofs.Common.{◌≡◌, ℕ, zero, suc, ◌+◌, ◌<◌, ◌≤◌, ◌&&◌, min, List, [], ◌∷◌, length, drop, get_or, refl, ap, sym, ◌∙◌, add-one, drop-cons, arith}
 use Rattle.std.proofs.Math.Bool.{or_assoc}
-use Rattle.std.proofs.lemmas.List.{drop_all}
 use Rattle.exo_tree.specs.Tree.{Param, Argument}
 use Rattle.exo_meaning.specs.Run.{is_root}
-use Rattle.exo_context.specs.Touched.{Mode, Modes, no_modes}
+use Rattle.exo_context.specs.Touched.{Modes, no_modes}
 use Rattle.exo_modes.specs.Marks.{together, argument_marks}
 use Rattle.exo_modes.proofs.Unions.{same_modes, nothing_more}
 

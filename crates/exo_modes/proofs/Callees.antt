@@ -2,7 +2,7 @@
 use Rattle.std.proofs.Common.{◌≡◌, ℕ, zero, suc, ◌+◌, ◌<◌, ◌≤◌, List, [], ◌∷◌, ◌++◌, Option, Some, None, option_map, slice_get, get_or, length, take, map, refl, ap, sym, ◌∙◌, append_assoc, add-one, subst, arith}
 use Rattle.std.proofs.lemmas.List.{append-nil, map-append}
 use Rattle.std.proofs.lemmas.Option.{slice_get-map, slice_get_past}
-use Rattle.exo_tree.specs.Tree.{Kind, Argument, Param, Procedure, Program}
+use Rattle.exo_tree.specs.Tree.{Kind, Argument, Procedure, Program}
 use Rattle.exo_meaning.specs.Calls.{Callee}
 use Rattle.exo_meaning.specs.Run.{callees, callee_in, world_of, kinds_of}
 use Rattle.exo_context.specs.Touched.{Mode, Modes, call_has, no_modes, modes_at, modes_in, all_modes}

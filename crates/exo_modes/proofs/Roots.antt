@@ -1,6 +1,5 @@
 -- The buffers of names after one more alias.
-use Rattle.std.proofs.Common.{◌≡◌, ℕ, ◌==◌, Bool, true, false, cond, List, [], ◌∷◌, ◌++◌, map, if◌then◌else◌, refl, ap, sym, ◌∙◌}
-use Rattle.std.proofs.Math.Path.{fun_ext}
+use Rattle.std.proofs.Common.{◌≡◌, ℕ, ◌==◌, List, [], ◌∷◌, ◌++◌, if◌then◌else◌, refl}
 use Rattle.exo_meaning.specs.Scene.{updated}
 use Rattle.exo_modes.specs.Marks as marks
 use Rattle.exo_modes.specs.Marks.{root_among, root_by}

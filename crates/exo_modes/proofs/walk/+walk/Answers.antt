@@ -1,4 +1,4 @@
-use Rattle.std.proofs.Common.{◌≤◌, true, false, length, drop, refl, ap, sym, ◌∙◌, arith}
+use Rattle.std.proofs.Common.{◌≤◌, true, false, length, drop, ap, sym, ◌∙◌, arith}
 use Rattle.exo_tree.specs.Tree.{block}
 use Rattle.exo_tree.specs.PlainBinder.{binding, cell_type}
 use Rattle.exo_tree.specs.PlainControl.{condition}

@@ -1,8 +1,7 @@
-use Rattle.std.proofs.Common.{◌≡◌, ◌<◌, ◌≤◌, ◌&&◌, [], min, length, drop, map, ap, sym, ◌∙◌, arith}
+use Rattle.std.proofs.Common.{◌≤◌, min, length, map, ap, ◌∙◌, arith}
 use Rattle.std.proofs.lemmas.List.{length-map, drop-map}
 use Rattle.exo_tree.specs.PlainParam.{parameter}
 use Rattle.exo_tree.specs.PlainArgument.{argument}
-use Rattle.exo_meaning.specs.Run.{is_root}
 use Rattle.exo_modes.specs.Marks.{together, argument_marks}
 use Rattle.exo_modes.specs.Seen.{row_says, roots_in}
 use Rattle.exo_modes.proofs.Arguments.{drop_read, argued_on, argued_off}

@@ -1,8 +1,8 @@
-use Rattle.std.proofs.Common.{length, ap, ◌∙◌}
+use Rattle.std.proofs.Common.{length, ◌∙◌}
 use Rattle.exo_tree.specs.Tree.{block}
 use Rattle.exo_tree.specs.PlainUnit.{program}
 use Rattle.exo_modes.specs.Marks.{together, block_marks}
-use Rattle.exo_modes.specs.Seen.{row_says, rows_say, roots_in}
+use Rattle.exo_modes.specs.Seen.{rows_say, roots_in}
 use Rattle.exo_modes.proofs.walk.row_of.Goals as goal
 
 pub returns : goal.returns
