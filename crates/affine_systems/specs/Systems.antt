@@ -1,11 +1,13 @@
--- Claims over atoms as systems over numbered variables.
+-- Claims over atoms as systems over numbered variables: the hypotheses and the denied claim in disjunctive normal form,
+-- and for each of its cases a system of linear constraints, with rows that say what a quotient is
+-- (as W. Pugh, The Omega test, 1991, does for floors in Presburger arithmetic).
 use Rattle.std.specs.Prelude.{ℕ, zero, suc, ◌+◌, nat_le, ℤ, pos, ◌+ℤ◌, ◌-ℤ◌, Bool, ◌&&◌, if◌then◌else◌, List, [], ◌∷◌, ◌++◌, map, length}
 use Rattle.std.specs.List.{AllByRecursion, list_any, list_all, position_or_len}
 use Rattle.std.specs.Int.{is_positive}
 use Rattle.exo_tree.specs.Tree.{Kind, Size, Index, Truth, Stride}
 use Rattle.exo_tree.specs.Places.{Path}
 use Rattle.exo_meaning.specs.Inputs.{IsOfKind}
-use Rattle.affine_forms.specs.Affine.{Affine, Constraints, IsIntegerPoint}
+use Rattle.affine_forms.specs.Affine.{Affine, Constraints, HasNoIntegerPoint}
 use Rattle.affine_forms.specs.Atoms.{Atom, Variable, EntryField, UnknownField, OpaqueStride, Quotient, Terms, none, term, Linear, Valuation, same_atom, only, constantly, scaled, subtracted}
 use Rattle.affine_forms.specs.Formulas.{Constraint, AtLeastZero, IsZero, Formula, moved, negation, cases_of_all}
 
@@ -83,10 +85,14 @@ added_at k z [] = []
 added_at zero z (c ∷ cs) = (z +ℤ c) ∷ cs
 added_at (suc k) z (c ∷ cs) = c ∷ added_at k z cs
 
+-- each term adds its coefficient at the number of its atom
+abbrev pub numbered_onto : List Atom → List ℤ → Terms → List ℤ
+numbered_onto atoms cs none = cs
+numbered_onto atoms cs (term c a ts) = numbered_onto atoms (added_at (position_or_len (same_atom a) atoms) c cs) ts
+
 -- the coefficient of each atom
 abbrev pub numbered : List Atom → Terms → List ℤ
-numbered atoms none = map (λ a. pos 0) atoms
-numbered atoms (term c a ts) = added_at (position_or_len (same_atom a) atoms) c (numbered atoms ts)
+numbered atoms ts = numbered_onto atoms (map (λ a. pos 0) atoms) ts
 
 abbrev pub affine : List Atom → Linear → Affine
 affine atoms l = record { constant = l.constant; coefficients = numbered atoms l.terms }
@@ -120,11 +126,8 @@ abbrev pub systems : List Formula → Formula → List Constraints
 systems context claim = map system (failing_cases context claim)
 
 -- no system has an integer point
-abbrev pub HasNoPoint : Constraints → Type 0
-HasNoPoint s = (point : List ℤ) → IsIntegerPoint s point → ⊥
-
 abbrev pub IsShown : List Formula → Formula → Type 0
-IsShown context claim = AllByRecursion HasNoPoint (systems context claim)
+IsShown context claim = AllByRecursion HasNoIntegerPoint (systems context claim)
 
 -- ---- limits
 

@@ -1,7 +1,7 @@
 use Rattle.std.proofs.lemmas.Int.{to_z-of_z}
 use Rattle.std.specs.Int.{w64, w128}
 use Rattle.affine_forms.proofs.TermWidths.{within_64, fits_64}
-use Rattle.affine_forms.proofs.linear.Linear.multiple.Goals as goal
+use Rattle.affine_forms.proofs.linear.Draft.multiple.Goals as goal
 
 pub scaled-requires : goal.scaled-requires
 scaled-requires c =

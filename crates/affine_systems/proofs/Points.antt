@@ -6,15 +6,15 @@ use Rattle.std.specs.List.{AllByRecursion, list_any, position_or_len}
 use Rattle.std.specs.Int.{int_div_euclid, is_positive}
 use Rattle.exo_tree.specs.Tree.{Kind, Size, Index, Truth, Stride}
 use Rattle.exo_meaning.specs.Inputs.{IsOfKind}
-use Rattle.affine_forms.specs.Affine.{Affine, Constraints, dot, IsIntegerPoint}
+use Rattle.affine_forms.specs.Affine.{Affine, Constraints, dot, IsIntegerPoint, HasNoIntegerPoint}
 use Rattle.affine_forms.specs.Affine as affine_sums
 use Rattle.affine_forms.specs.Atoms.{Atom, Variable, EntryField, UnknownField, OpaqueStride, Quotient, Terms, none, term, Linear, Valuation, atom_value, terms_value, value, same_atom, only, constantly, scaled, subtracted}
 use Rattle.affine_forms.specs.Formulas.{Constraint, AtLeastZero, IsZero, moved, negation, is_kept, is_met, all_met, all_kept}
-use Rattle.affine_forms.specs.Systems.{Made, stands_in, with_atom, with_atoms, sum_of, with_constraint, with_constraints, quotient_rows, kind_rows, own_rows, explained, all_explained, made_of, added_at, numbered, affine, equations_of, rows_of, system_of, nothing, system, failing_cases, HasNoPoint, KeepsKinds}
-use Rattle.affine_forms.specs.Laws.{SystemsLaw, ShownLaw, HasPointIn}
+use Rattle.affine_systems.specs.Systems.{Made, stands_in, with_atom, with_atoms, sum_of, with_constraint, with_constraints, quotient_rows, kind_rows, own_rows, explained, all_explained, made_of, added_at, numbered_onto, numbered, affine, equations_of, rows_of, system_of, nothing, system, failing_cases, KeepsKinds}
+use Rattle.affine_systems.specs.Laws.{SystemsLaw, ShownLaw, HasPointIn}
 use Rattle.affine_forms.proofs.Integers.{add-times}
 use Rattle.affine_forms.proofs.Values.{and_parts, int_eq_same, same_value, same_self, subtracted_value, scaled_value, quotient_floor}
-use Rattle.affine_forms.proofs.Cases.{moved_value, negation_met, all_cases_met, all_met_append, some_kept}
+use Rattle.affine_systems.proofs.Cases.{moved_value, negation_met, all_cases_met, all_met_append, some_kept}
 
 pub at_least : (a b : ℤ) → int_le a b ≡ true → a ≤ℤ b
 at_least a b h = omega (arith, ints)
@@ -177,10 +177,6 @@ module _ (v : Valuation) where
   zeros_length [] = refl
   zeros_length (a ∷ atoms) = ap suc (zeros_length atoms)
 
-  numbered_length : (atoms : List Atom) (ts : Terms) → length (numbered atoms ts) ≡ length atoms
-  numbered_length atoms none = zeros_length atoms
-  numbered_length atoms (term c a ts) = added_at_length (position_or_len (same_atom a) atoms) c (numbered atoms ts) ∙ numbered_length atoms ts
-
   zeros_dot : (atoms : List Atom) → dot (map (λ a. pos 0) atoms) (point_of atoms) ≡ pos 0
   zeros_dot [] = refl
   zeros_dot (a ∷ atoms) = omega (arith, ints, zeros_dot atoms, zero-*ℤ (atom_value v a))
@@ -201,9 +197,12 @@ module _ (v : Valuation) where
           further : dot (added_at (position_or_len (same_atom a) atoms) z cs) (point_of atoms) ≡ (z *ℤ atom_value v a) +ℤ dot cs (point_of atoms) → dot (c ∷ added_at (position_or_len (same_atom a) atoms) z cs) (point_of (b ∷ atoms)) ≡ (z *ℤ atom_value v a) +ℤ dot (c ∷ cs) (point_of (b ∷ atoms))
           further h = omega (arith, ints, h)
 
+  onto_value : (atoms : List Atom) (cs : List ℤ) (ts : Terms) → length cs ≡ length atoms → TermsThere atoms ts → dot (numbered_onto atoms cs ts) (point_of atoms) ≡ dot cs (point_of atoms) +ℤ terms_value v ts
+  onto_value atoms cs none e h = omega (arith, ints)
+  onto_value atoms cs (term c a ts) e h = omega (arith, ints, onto_value atoms (added_at (position_or_len (same_atom a) atoms) c cs) ts (added_at_length (position_or_len (same_atom a) atoms) c cs ∙ e) h.1, added_at_dot a c atoms cs e h.0)
+
   numbered_value : (atoms : List Atom) (ts : Terms) → TermsThere atoms ts → dot (numbered atoms ts) (point_of atoms) ≡ terms_value v ts
-  numbered_value atoms none h = zeros_dot atoms
-  numbered_value atoms (term c a ts) h = added_at_dot a c atoms (numbered atoms ts) (numbered_length atoms ts) h.0 ∙ ap (λ z. (c *ℤ atom_value v a) +ℤ z) (numbered_value atoms ts h.1)
+  numbered_value atoms ts h = omega (arith, ints, onto_value atoms (map (λ a. pos 0) atoms) ts (zeros_length atoms) h, zeros_dot atoms)
 
   affine_value : (atoms : List Atom) (l : Linear) → TermsThere atoms l.terms → affine_sums.value (affine atoms l) (point_of atoms) ≡ value v l
   affine_value atoms l h = ap (λ z. l.constant +ℤ z) (numbered_value atoms l.terms h)
@@ -248,7 +247,7 @@ systems_law v context claim keeps met fails = some_case v keeps (failing_cases c
     all : all_met v (context ++ negation claim ∷ []) ≡ (true && (not (is_met v claim) && true))
     all = all_met_append v context (negation claim ∷ []) ∙ ap₂ (λ a b. a && (b && true)) met (negation_met v claim)
 
-no_point : (v : Valuation) (css : List (List Constraint)) → AllByRecursion HasNoPoint (map system css) → HasPointIn v css → ⊥
+no_point : (v : Valuation) (css : List (List Constraint)) → AllByRecursion HasNoIntegerPoint (map system css) → HasPointIn v css → ⊥
 no_point v [] h p = p
 no_point v (cs ∷ css) h (inl p) = h.0 (point_of v (made_of nothing cs).atoms) p
 no_point v (cs ∷ css) h (inr p) = no_point v css h.1 p

@@ -1,0 +1,7 @@
+pub mod Systems
+pub mod Laws
+pub mod FormulaCodes
+pub mod PlainCases
+pub mod PlainOwn
+pub mod PlainMade
+pub mod Outcomes
