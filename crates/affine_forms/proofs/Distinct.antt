@@ -4,14 +4,13 @@ use Rattle.std.proofs.lemmas.Int.{ints}
 use Rattle.std.specs.Prelude.{◌⊎◌}
 use Rattle.std.specs.Int.{int_div_euclid, int_rem_euclid, is_positive}
 use Rattle.std.specs.Ordering.{int_eq}
-use Rattle.affine_forms.specs.Atoms.{Atom, Terms, none, term, Linear, same_atom, with_term, terms_added, terms_scaled, scaled, subtracted, divides, divided, undivided, quotient, quotient_of, present}
-use Rattle.affine_forms.specs.Forms.{is_within, are_within, are_short, is_short, is_short_form}
-use Rattle.affine_forms.specs.Formulas.{difference}
+use Rattle.affine_forms.specs.Atoms.{Atom, Terms, none, term, Linear, same_atom, with_term, terms_added, terms_scaled, divides, divided, undivided, quotient, quotient_of, present}
+use Rattle.affine_forms.specs.Forms.{is_within, are_within, are_short}
 use Rattle.affine_forms.specs.TermBounds.{is_apart, are_distinct, are_present, term_if}
 use Rattle.affine_forms.proofs.Values.{and_parts, int_eq_same}
 use Rattle.affine_forms.proofs.TermLists.{present_law, divided_law, undivided_law}
 use Rattle.affine_forms.proofs.SameAtoms.{same_atom_sym, same_class}
-use Rattle.affine_forms.proofs.TermWidths.{within_le, within_from_le, within_sum, wider, are_short_negated, within_present}
+use Rattle.affine_forms.proofs.TermWidths.{within_le, within_from_le, within_sum, wider, within_present}
 
 -- ---- one more term
 
@@ -125,7 +124,7 @@ present_negated (term c a ts) h =
 -- ---- numbers of a sum of two sums that name each atom once
 
 -- atoms that are equal are apart from the same atoms
-apart_alike : (a b : Atom) (us : Terms) → same_atom a b ≡ true → is_apart a us ≡ is_apart b us
+pub apart_alike : (a b : Atom) (us : Terms) → same_atom a b ≡ true → is_apart a us ≡ is_apart b us
 apart_alike a b none h = refl
 apart_alike a b (term c u us) h = ap₂ (λ s t. not s && t) (same_atom_sym u a ∙ same_class a b u h ∙ same_atom_sym b u) (apart_alike a b us h)
 
@@ -177,16 +176,13 @@ module _ (m n : ℕ) where
   pub within_added : (ts us : Terms) → are_within m ts ≡ true → are_within n us ≡ true → are_distinct us ≡ true → are_within (m + n) (terms_added ts us) ≡ true
   within_added ts us h k d = room_added ts us k d (room_first us ts h)
 
--- ---- differences of two forms
+-- ---- two sums together, without what cancels
 
-pub difference_within : (k l : Linear) → are_short k.terms ≡ true → are_short l.terms ≡ true → are_distinct l.terms ≡ true → are_within (2 ^ 64) (difference k l).terms ≡ true
-difference_within k l h i d = wider (2 ^ 62 + 2 ^ 62) (2 ^ 64) (difference k l).terms (omega arith) (within_present (2 ^ 62 + 2 ^ 62) (subtracted k l).terms (within_added (2 ^ 62) (2 ^ 62) k.terms (terms_scaled (negsuc 0) l.terms) h (are_short_negated l.terms i) (distinct_scaled (negsuc 0) l.terms ∙ d)))
+pub joined_within : (ts us : Terms) → are_short ts ≡ true → are_short us ≡ true → are_distinct us ≡ true → are_within (2 ^ 64) (present (terms_added ts us)) ≡ true
+joined_within ts us h i d = wider (2 ^ 62 + 2 ^ 62) (2 ^ 64) (present (terms_added ts us)) (omega arith) (within_present (2 ^ 62 + 2 ^ 62) (terms_added ts us) (within_added (2 ^ 62) (2 ^ 62) ts us h i d))
 
-pub difference_distinct : (k l : Linear) → are_distinct k.terms ≡ true → are_distinct (difference k l).terms ≡ true
-difference_distinct k l h = distinct_present (subtracted k l).terms (distinct_added k.terms (terms_scaled (negsuc 0) l.terms) h)
-
-pub difference_present : (k l : Linear) → are_present (difference k l).terms ≡ true
-difference_present k l = present_present (subtracted k l).terms
+pub joined_distinct : (ts us : Terms) → are_distinct ts ≡ true → are_distinct (present (terms_added ts us)) ≡ true
+joined_distinct ts us h = distinct_present (terms_added ts us) (distinct_added ts us h)
 
 -- ---- quotients
 

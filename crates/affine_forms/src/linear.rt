@@ -124,10 +124,10 @@ impl Draft {
         self.plus(alloc, &opposite)
     }
 
-    /// The quotient by a literal: what it divides is taken out, and the rest becomes a quotient atom.
-    pub fn quotient(&self, alloc: Global, by: i64) -> Result<Draft, FormError>
+    /// The terms of the quotient by a literal: those that it divides, and a quotient atom of the rest.
+    fn quotient_terms(&self, alloc: Global, by: i64) -> Result<Terms, AllocError>
         requires { IsTrue (is_positive by) }
-        ensures { Formed result (is_short_form (quotient self.now by)) (quotient self.now by) }
+        ensures { IfOk result (λ t. t ≡ (quotient self.now by).terms) }
     {
         let literal = by as i128;
         let mut terms = self.terms.divided(alloc, literal)?;
@@ -136,7 +136,16 @@ impl Draft {
             let atom = Atom::Quotient(self.constant.rem_euclid(literal), rest, by);
             terms.join(alloc, 1, &atom)?;
         }
-        Draft::new(self.constant.div_euclid(literal), terms)
+        Ok(terms)
+    }
+
+    /// The quotient by a literal: what it divides is taken out, and the rest becomes a quotient atom.
+    pub fn quotient(&self, alloc: Global, by: i64) -> Result<Draft, FormError>
+        requires { IsTrue (is_positive by) }
+        ensures { Formed result (is_short_form (quotient self.now by)) (quotient self.now by) }
+    {
+        let terms = self.quotient_terms(alloc, by)?;
+        Draft::new(self.constant.div_euclid(by as i128), terms)
     }
 
     /// The quotient by a literal, multiplied by it again.

@@ -39,11 +39,15 @@ impl Model for Sum {
 
 /// The terms of two forms, without those that cancel.
 fn terms_left(alloc: Global, left: &Linear, opposite: &Draft) -> Result<Terms, AllocError>
-    ensures { IfOk result (λ t. t ≡ present (terms_added left.now.terms opposite.now.terms)) }
+    ensures value { IfOk result (λ t. t ≡ present (terms_added left.now.terms opposite.now.terms)) }
+    ensures narrow { IfOk result (λ t. IsTrue (are_within (2 ^ 64) t)) }
+    ensures distinct { IfOk result (λ t. IsTrue (are_distinct t)) }
+    ensures present { IfOk result (λ t. IsTrue (are_present t)) }
 {
     let mut terms = left.terms().duplicate(alloc)?;
     terms.add(alloc, opposite.terms())?;
-    terms.present(alloc)
+    let kept = terms.present(alloc)?;
+    Ok(kept)
 }
 
 impl Sum {

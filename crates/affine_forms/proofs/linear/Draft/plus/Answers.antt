@@ -1,4 +1,4 @@
-use Rattle.std.proofs.Common.{◌^◌, ◌∙◌, ap, subst, arith, ◌+ℤ◌, ◌+◌}
+use Rattle.std.proofs.Common.{◌^◌, ◌∙◌, ap, subst, arith, ◌+ℤ◌}
 use Rattle.std.proofs.lemmas.Int.{to_z-of_z}
 use Rattle.affine_forms.specs.Atoms.{added}
 use Rattle.affine_forms.specs.Forms.{is_short, are_short, is_short_form}
