@@ -1,6 +1,6 @@
 -- Products of lists of cases.
-use Rattle.std.proofs.Common.{◌≡◌, ℕ, zero, suc, ◌+◌, ◌*◌, ◌≤◌, min, List, [], ◌∷◌, ◌++◌, map, length, arith, refl, sym, ap, ap₂, ◌∙◌}
-use Rattle.std.proofs.lemmas.List.{append-nil, length-append, length-map}
+use Rattle.std.proofs.Common.{◌≡◌, ℕ, zero, suc, ◌+◌, ◌*◌, ◌<◌, set, get_or, List, [], ◌∷◌, ◌++◌, map, length, arith, refl, sym, ap, ap₂, ◌∙◌}
+use Rattle.std.proofs.lemmas.List.{append-nil}
 use Rattle.affine_forms.specs.Formulas.{Constraint, Formula, product, cases, cases_of_all}
 
 
@@ -54,8 +54,38 @@ cases_last fs f = cases_append fs (f ∷ []) ∙ ap (product (cases_of_all fs)) 
 
 -- ---- how many
 
+length_append : (xs ys : List (List Constraint)) → length (xs ++ ys) ≡ length xs + length ys
+length_append [] ys = omega arith
+length_append (x ∷ xs) ys = omega (arith, length_append xs ys)
+
+length_behind_one : (x : List Constraint) (ys : List (List Constraint)) → length (map (λ y. x ++ y) ys) ≡ length ys
+length_behind_one x [] = refl
+length_behind_one x (y ∷ ys) = ap suc (length_behind_one x ys)
+
 pub length_product : (xs ys : List (List Constraint)) → length (product xs ys) ≡ length xs * length ys
-length_product [] ys = refl
+length_product [] ys = omega arith
 length_product (x ∷ xs) ys =
-    length-append (map (λ y. x ++ y) ys) (product xs ys)
-    ∙ ap₂ (λ a b. a + b) (length-map (λ y. x ++ y) ys) (length_product xs ys)
+    let e : length (map (λ y. x ++ y) ys ++ product xs ys) ≡ length ys + length xs * length ys = length_append (map (λ y. x ++ y) ys) (product xs ys) ∙ ap₂ (λ a b. a + b) (length_behind_one x ys) (length_product xs ys) in
+    omega (arith, e)
+
+-- ---- cases behind which a constraint stands
+
+-- the first k cases with a constraint behind them
+abbrev pub behind : ℕ → Constraint → List (List Constraint) → List (List Constraint)
+behind zero c ks = ks
+behind (suc k) c [] = []
+behind (suc k) c (x ∷ xs) = (x ++ c ∷ []) ∷ behind k c xs
+
+pub behind_all : (ks : List (List Constraint)) (c : Constraint) → behind (length ks) c ks ≡ map (λ k. k ++ c ∷ []) ks
+behind_all [] c = refl
+behind_all (x ∷ xs) c = ap (λ r. (x ++ c ∷ []) ∷ r) (behind_all xs c)
+
+pub length_behind : (k : ℕ) (c : Constraint) (ks : List (List Constraint)) → length (behind k c ks) ≡ length ks
+length_behind zero c ks = refl
+length_behind (suc k) c [] = refl
+length_behind (suc k) c (x ∷ xs) = ap suc (length_behind k c xs)
+
+pub behind_more : (k : ℕ) (c : Constraint) (ks : List (List Constraint)) (d : List Constraint) → k < length ks → set (behind k c ks) k (get_or (behind k c ks) k d ++ c ∷ []) ≡ behind (suc k) c ks
+behind_more k c [] d l = absurd (omega arith)
+behind_more zero c (x ∷ xs) d l = refl
+behind_more (suc k) c (x ∷ xs) d l = ap (λ r. (x ++ c ∷ []) ∷ r) (behind_more k c xs d (omega arith))

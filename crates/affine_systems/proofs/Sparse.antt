@@ -1,12 +1,15 @@
 -- Sparse terms as the coefficients of all variables.
-use Rattle.std.proofs.Common.{◌≡◌, ℕ, zero, suc, ◌+◌, ◌<◌, ◌≤◌, ◌==◌, nat_le, nat_lt, ℤ, pos, Bool, true, false, cond, ◌&&◌, List, [], ◌∷◌, ◌++◌, map, length, take, get_or, arith, refl, sym, ap, ap₂, ◌∙◌, add-one}
+use Rattle.std.proofs.Common.{◌≡◌, ℕ, zero, suc, ◌+◌, ◌<◌, ◌≤◌, ◌^◌, ◌==◌, nat_le, nat_lt, ℤ, pos, Bool, true, false, cond, ◌&&◌, List, [], ◌∷◌, ◌++◌, map, length, take, get_or, arith, refl, sym, ap, ap₂, ◌∙◌, add-one}
 use Rattle.std.proofs.lemmas.Bool.Decides.{nat_tests}
 use Rattle.std.proofs.lemmas.List.{take_more, take_all, map-append}
 use Rattle.std.specs.List.{list_all}
 use Rattle.affine_forms.specs.declared.system.Term.{Term}
-use Rattle.affine_forms.specs.Bounds.{is_increasing, is_increasing_from}
+use Rattle.affine_forms.specs.Bounds.{is_narrow, is_increasing, is_increasing_from}
 use Rattle.affine_forms.specs.System.{coefficient_of, below}
+use Rattle.std.specs.Int.{w128}
+use Rattle.std.specs.Int.RustNames.{FitsSigned}
 use Rattle.affine_forms.proofs.Values.{and_parts}
+use Rattle.affine_forms.proofs.TermWidths.{within_le, within_from_le, fits_within}
 
 abbrev pub are_under : ℕ → List Term → Bool
 are_under n ts = list_all (λ x. nat_lt x n) (map (λ t. t.variable) ts)
@@ -83,12 +86,12 @@ pub record IsSparse (ts : List Term) (k : ℕ) (cs : List ℤ) : Type 0 where
 pub sparse_none : (cs : List ℤ) → IsSparse [] 0 cs
 sparse_none cs = record { value = refl; increasing = refl; under = refl }
 
-pub sparse_with : (ts : List Term) (k : ℕ) (cs : List ℤ) (z : ℤ) (t : Term) → IsSparse ts k cs → k < length cs → z ≡ get_or cs k z → t.variable ≡ k → t.coefficient ≡ z → IsSparse (ts ++ t ∷ []) (k + 1) cs
-sparse_with ts k cs z t s l is v c = rw add-one (record {
+pub sparse_with : (ts : List Term) (k : ℕ) (cs : List ℤ) (t : Term) → IsSparse ts k cs → k < length cs → t.variable ≡ k → t.coefficient ≡ get_or cs k (pos 0) → IsSparse (ts ++ t ∷ []) (k + 1) cs
+sparse_with ts k cs t s l v c = rw add-one (record {
     value =
         map-append (coefficient_of (ts ++ t ∷ [])) (below k) (k ∷ [])
-        ∙ ap₂ (λ xs y. xs ++ y ∷ []) (map_below (coefficient_of (ts ++ t ∷ [])) (coefficient_of ts) k (λ w m. coefficient_before ts t w (omega (arith, m, v))) ∙ s.value) (last ∙ c ∙ is)
-        ∙ sym (take_more cs z k l) ∙ ap (λ n. take n cs) (add-one k);
+        ∙ ap₂ (λ xs y. xs ++ y ∷ []) (map_below (coefficient_of (ts ++ t ∷ [])) (coefficient_of ts) k (λ w m. coefficient_before ts t w (omega (arith, m, v))) ∙ s.value) (last ∙ c)
+        ∙ sym (take_more cs k (pos 0) l) ∙ ap (λ n. take n cs) (add-one k);
     increasing = ap is_increasing variables ∙ increasing_from_last 0 (map (λ t. t.variable) ts) k s.increasing (omega arith) s.under;
     under = ap (list_all (λ x. nat_lt x (suc k))) variables ∙ under_last (map (λ t. t.variable) ts) k s.under;
   })
@@ -99,15 +102,23 @@ sparse_with ts k cs z t s l is v c = rw add-one (record {
     last : coefficient_of (ts ++ t ∷ []) k ≡ t.coefficient
     last = ap (coefficient_of (ts ++ t ∷ [])) (sym v) ∙ coefficient_last ts t (ap (λ n. are_under n ts) v ∙ s.under)
 
-pub sparse_without : (ts : List Term) (k : ℕ) (cs : List ℤ) (z : ℤ) → IsSparse ts k cs → k < length cs → z ≡ get_or cs k z → z ≡ pos 0 → IsSparse ts (k + 1) cs
-sparse_without ts k cs z s l is e = rw add-one (record {
+pub sparse_without : (ts : List Term) (k : ℕ) (cs : List ℤ) → IsSparse ts k cs → k < length cs → get_or cs k (pos 0) ≡ pos 0 → IsSparse ts (k + 1) cs
+sparse_without ts k cs s l e = rw add-one (record {
     value =
         map-append (coefficient_of ts) (below k) (k ∷ [])
-        ∙ ap₂ (λ xs y. xs ++ y ∷ []) s.value (coefficient_absent ts k k s.under (omega arith) ∙ sym e ∙ is)
-        ∙ sym (take_more cs z k l) ∙ ap (λ n. take n cs) (add-one k);
+        ∙ ap₂ (λ xs y. xs ++ y ∷ []) s.value (coefficient_absent ts k k s.under (omega arith) ∙ sym e)
+        ∙ sym (take_more cs k (pos 0) l) ∙ ap (λ n. take n cs) (add-one k);
     increasing = s.increasing;
     under = under_more (map (λ t. t.variable) ts) k s.under;
   })
 
 pub sparse_all : (ts : List Term) (k : ℕ) (cs : List ℤ) → IsSparse ts k cs → k ≡ length cs → map (coefficient_of ts) (below (length cs)) ≡ cs
 sparse_all ts k cs s e = ap (λ n. map (coefficient_of ts) (below n)) (sym e) ∙ s.value ∙ take_all k cs (omega (arith, e))
+
+pub narrow_at : (cs : List ℤ) (k : ℕ) → list_all is_narrow cs ≡ true → k < length cs → is_narrow (get_or cs k (pos 0)) ≡ true
+narrow_at [] k h l = absurd (omega arith)
+narrow_at (z ∷ cs) zero h l = (and_parts (is_narrow z) (list_all is_narrow cs) h).0
+narrow_at (z ∷ cs) (suc k) h l = narrow_at cs k (and_parts (is_narrow z) (list_all is_narrow cs) h).1 (omega arith)
+
+pub narrow_fits : (z : ℤ) → is_narrow z ≡ true → FitsSigned w128 z
+narrow_fits z h = fits_within z (within_from_le (2 ^ 126) z (omega (arith, within_le (2 ^ 100) z h)))

@@ -2,6 +2,5 @@ pub mod Systems
 pub mod Laws
 pub mod FormulaCodes
 pub mod PlainCases
-pub mod PlainOwn
 pub mod PlainMade
 pub mod Outcomes

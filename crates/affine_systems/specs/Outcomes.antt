@@ -46,7 +46,7 @@ IsRefusal WideNumber s = ⊥
 IsRefusal TooManySystems s = ⊥
 IsRefusal Memory s = ⊤
 
-abbrev pub IsAnswer : Result (Vec Obligation) FormError → Stated → List ℕ → Path → Type 0
+abbrev pub IsAnswer : {A : Type 0} → Result (Vec Obligation A) FormError → Stated → List ℕ → Path → Type 0
 IsAnswer (Ok os) s what place = AreOwed os.items s what place
 IsAnswer (Err e) s what place = IsRefusal e s
 

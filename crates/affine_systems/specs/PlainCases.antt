@@ -8,5 +8,5 @@ abbrev pub plain_constraint : Constraint → plain.Constraint
 plain_constraint (AtLeastZero s) = plain.AtLeastZero s.now
 plain_constraint (IsZero s) = plain.IsZero s.now
 
-abbrev pub plain_cases : List (Vec Constraint) → List (List plain.Constraint)
+abbrev pub plain_cases : {A : Type 0} → List (Vec Constraint A) → List (List plain.Constraint)
 plain_cases ks = map (λ k. map plain_constraint k.items) ks

@@ -1,7 +1,7 @@
 -- Claims over atoms as systems over numbered variables: the hypotheses and the denied claim in disjunctive normal form,
 -- and for each of its cases a system of linear constraints, with rows that say what a quotient is
 -- (as W. Pugh, The Omega test, 1991, does for floors in Presburger arithmetic).
-use Rattle.std.specs.Prelude.{ℕ, zero, suc, ◌+◌, nat_le, ℤ, pos, ◌+ℤ◌, ◌-ℤ◌, Bool, ◌&&◌, if◌then◌else◌, List, [], ◌∷◌, ◌++◌, map, length}
+use Rattle.std.specs.Prelude.{ℕ, zero, suc, ◌+◌, nat_le, ℤ, pos, ◌+ℤ◌, ◌-ℤ◌, Bool, true, false, ◌&&◌, if◌then◌else◌, List, [], ◌∷◌, ◌++◌, map, length}
 use Rattle.std.specs.List.{AllByRecursion, list_any, list_all, position_or_len}
 use Rattle.std.specs.Int.{is_positive}
 use Rattle.exo_tree.specs.Tree.{Kind, Size, Index, Truth, Stride}
@@ -31,6 +31,11 @@ with_atoms atoms (term c a ts) = with_atoms (with_atom atoms a) ts
 abbrev pub sum_of : Constraint → Linear
 sum_of (AtLeastZero l) = l
 sum_of (IsZero l) = l
+
+-- it says that its sum is 0
+abbrev pub is_equation : Constraint → Bool
+is_equation (AtLeastZero l) = false
+is_equation (IsZero l) = true
 
 abbrev pub with_constraint : Made → Constraint → Made
 with_constraint made c = record { atoms = with_atoms made.atoms (sum_of c).terms; constraints = made.constraints ++ c ∷ [] }

@@ -93,7 +93,7 @@ fn with_constraint<'a>(
     mut cases: Vec<Case<'a>>,
     c: Constraint<'a>,
 ) -> Result<Vec<Case<'a>>, AllocError>
-    ensures { IfOk result (λ v. plain_cases v.items ≡ map (λ k. k ++ plain_constraint c ∷ []) (plain_cases cases.items)) }
+    ensures { IfOk result (λ v. plain_cases v.items ≡ map (λ k. k ++ plain_constraint c.entry ∷ []) (plain_cases cases.entry.items)) }
 {
     for k in 0..cases.len() {
         cases[k].push(c)?;
@@ -107,7 +107,7 @@ pub fn with_cases<'a>(
     prefixes: Vec<Case<'a>>,
     f: &'a Formula,
 ) -> Result<Vec<Case<'a>>, AllocError>
-    ensures { IfOk result (λ v. plain_cases v.items ≡ product (plain_cases prefixes.items) (cases (plain_formula f.now))) }
+    ensures { IfOk result (λ v. plain_cases v.items ≡ product (plain_cases prefixes.entry.items) (cases (plain_formula f.now))) }
 {
     match f {
         Formula::AtLeastZero(sum) => with_constraint(prefixes, Constraint::AtLeastZero(sum)),

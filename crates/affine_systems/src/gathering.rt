@@ -1,17 +1,19 @@
 //! The constraints of a case and the atoms of its variables.
-ghost use Rattle.std.specs.Prelude.{◌≡◌, ◌++◌, ◌∷◌, [], map, length, IfOk, OnOk, IsTrue, false};
-ghost use Rattle.affine_forms.specs.Atoms as plain;
-ghost use Rattle.affine_forms.specs.Formulas as formulas;
-ghost use Rattle.affine_forms.specs.TermBounds.{is_kept_atom};
+ghost use Rattle.std.specs.Prelude.{◌≡◌, ◌^◌, map, IfOk, OnOk, IsTrue};
+ghost use Rattle.exo_tree.specs.PlainBinder.{control_kind};
+ghost use Rattle.affine_forms.specs.Atoms.{only};
+ghost use Rattle.affine_forms.specs.Bounds.{is_narrow};
+ghost use Rattle.affine_forms.specs.Forms.{are_within};
+ghost use Rattle.affine_forms.specs.TermBounds.{is_kept_atom, are_distinct};
 ghost use Rattle.affine_forms.specs.PlainAtoms.{plain_atom};
-ghost use Rattle.affine_systems.specs.Systems.{stands_in, with_atom, with_atoms, with_constraint, with_constraints, sum_of, explained, all_explained, made_of, nothing, own_rows, is_small, system_of};
+ghost use Rattle.affine_systems.specs.Systems.{stands_in, with_atom, with_atoms, with_constraint, with_constraints, sum_of, is_equation, explained, all_explained, made_of, nothing, own_rows, kind_rows};
 ghost use Rattle.affine_systems.specs.PlainCases.{plain_constraint};
-ghost use Rattle.affine_systems.specs.PlainOwn.{own_constraints};
 ghost use Rattle.affine_systems.specs.PlainMade.{plain_stated, plain_made};
 
 use crate::case::Constraint;
-use crate::own::{OwnRow, own_rows};
+use crate::own::OwnRow;
 use affine_forms::{Atom, Terms};
+use exo_tree::Kind;
 use std::alloc::{AllocError, Global};
 
 /// A constraint of a system: one of its case, or one that says what an atom is.
@@ -22,9 +24,34 @@ pub enum Stated<'a> {
 }
 
 impl Stated<'_> {
+    /// Whether its sum is 0, and not at least 0.
+    pub fn is_equation(&self) -> bool
+        ensures { result ≡ is_equation (plain_stated self.now) }
+    {
+        match self {
+            Stated::Given(Constraint::AtLeastZero(_)) => false,
+            Stated::Given(Constraint::IsZero(_)) => true,
+            Stated::Own(_) => false,
+        }
+    }
+
+    /// The constant of its sum.
+    pub fn constant(&self) -> i128
+        ensures value { result ≡ (sum_of (plain_stated self.now)).constant }
+        ensures narrow { IsTrue (is_narrow result) }
+    {
+        match self {
+            Stated::Given(Constraint::AtLeastZero(sum)) => sum.constant(),
+            Stated::Given(Constraint::IsZero(sum)) => sum.constant(),
+            Stated::Own(row) => row.constant(),
+        }
+    }
+
     /// The weighed sum.
     pub fn terms(&self) -> &Terms
-        ensures { result.now ≡ (sum_of (plain_stated self.now)).terms }
+        ensures value { result.now ≡ (sum_of (plain_stated self.now)).terms }
+        ensures narrow { IsTrue (are_within (2 ^ 64) result.now) }
+        ensures distinct { IsTrue (are_distinct result.now) }
     {
         match self {
             Stated::Given(Constraint::AtLeastZero(sum)) => sum.terms(),
@@ -86,11 +113,32 @@ impl<'a> Gathering<'a> {
 
     /// Puts a constraint last, with the atoms that it names first.
     fn state(&mut self, alloc: Global, c: Stated<'a>) -> Result<(), AllocError>
-        ensures { OnOk result (plain_made self.new ≡ with_constraint (plain_made self.old) (plain_stated c)) }
+        ensures { OnOk result (plain_made self.new ≡ with_constraint (plain_made self.old) (plain_stated c.entry)) }
     {
         self.add_atoms(alloc, c.terms())?;
         self.constraints.push(c)?;
         Ok(())
+    }
+
+    /// Puts the rows last that say what a field of that kind is: a size is at least 1, and a bool is 0 or 1.
+    fn state_kind(&mut self, alloc: Global, kind: Kind, field: &Atom) -> Result<(), AllocError>
+        requires { IsTrue (is_kept_atom (plain_atom field.now)) }
+        ensures { OnOk result (plain_made self.new ≡ with_constraints (plain_made self.old) (kind_rows (control_kind kind) (only (plain_atom field.now)))) }
+    {
+        match kind {
+            Kind::Size => {
+                let row = OwnRow::at_least_one(alloc, field)?;
+                self.state(alloc, Stated::Own(row))
+            }
+            Kind::Index => Ok(()),
+            Kind::Bool => {
+                let low = OwnRow::at_least_zero(alloc, field)?;
+                self.state(alloc, Stated::Own(low))?;
+                let high = OwnRow::at_most_one(alloc, field)?;
+                self.state(alloc, Stated::Own(high))
+            }
+            Kind::Stride => Ok(()),
+        }
     }
 
     /// Puts the rows last that say what an atom is.
@@ -98,10 +146,18 @@ impl<'a> Gathering<'a> {
         requires { IsTrue (is_kept_atom (plain_atom atom.now)) }
         ensures { OnOk result (plain_made self.new ≡ with_constraints (plain_made self.old) (own_rows (plain_atom atom.now))) }
     {
-        for row in own_rows(alloc, atom)? {
-            self.state(alloc, Stated::Own(row))?;
+        match atom {
+            Atom::Variable(_) => Ok(()),
+            Atom::EntryField(_, kind) => self.state_kind(alloc, *kind, atom),
+            Atom::UnknownField(_, kind, _) => self.state_kind(alloc, *kind, atom),
+            Atom::OpaqueStride(_, _) => Ok(()),
+            Atom::Quotient(n, terms, by) => {
+                let low = OwnRow::not_above(alloc, *n, terms, *by, atom)?;
+                self.state(alloc, Stated::Own(low))?;
+                let high = OwnRow::not_below(alloc, *n, terms, *by, atom)?;
+                self.state(alloc, Stated::Own(high))
+            }
         }
-        Ok(())
     }
 
     /// Says what an atom is, at its first appearance: the atoms inside it come first.

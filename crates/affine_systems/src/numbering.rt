@@ -35,9 +35,10 @@ fn coefficients(alloc: Global, atoms: &[Atom], terms: &Terms) -> Result<Vec<i128
     let mut all = Vec::from_elem(alloc, 0i128, atoms.len())?;
     for w in terms.as_slice() {
         let k = number_of(alloc, atoms, &w.atom)?;
-        if k < all.len() {
-            all[k] += w.coefficient;
+        if k >= all.len() {
+            continue;
         }
+        all[k] += w.coefficient;
     }
     Ok(all)
 }
@@ -52,9 +53,10 @@ fn sparse(alloc: Global, coefficients: &[i128]) -> Result<Vec<Term>, AllocError>
 {
     let mut terms = Vec::new(alloc);
     for (k, c) in coefficients.iter().enumerate() {
-        if *c != 0 {
-            terms.push(Term::new(k as u32, *c))?;
+        if *c == 0 {
+            continue;
         }
+        terms.push(Term::new(k as u32, *c))?;
     }
     Ok(terms)
 }

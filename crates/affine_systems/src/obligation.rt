@@ -1,20 +1,21 @@
 //! Claims as obligations.
-ghost use Rattle.std.specs.Prelude.{◌≡◌, ◌++◌, ◌∷◌, [], map, min, length, IfOk, OnOk, IsTrue, if◌then◌else◌};
+ghost use Rattle.std.specs.Prelude.{◌≡◌, ◌≤◌, nat_lt, ◌++◌, ◌∷◌, [], map, min, length, IfOk, OnOk, IsTrue};
+ghost use Rattle.std.specs.List.{list_all};
 ghost use Rattle.affine_forms.specs.Bounds.{are_below};
 ghost use Rattle.affine_forms.specs.Formulas.{cases_of_all, negation};
 ghost use Rattle.affine_forms.specs.PlainAtoms.{plain_atom};
 ghost use Rattle.affine_forms.specs.PlainFormulas.{plain_formula};
 ghost use Rattle.affine_forms.specs.System.{plain_row, plain_system};
-ghost use Rattle.affine_systems.specs.Systems.{stated, system, system_of, equations_of, rows_of};
+ghost use Rattle.affine_systems.specs.Systems.{stated, system, equations_of, rows_of, affine, sum_of};
 ghost use Rattle.affine_systems.specs.PlainCases.{plain_constraint, plain_cases};
-ghost use Rattle.affine_systems.specs.PlainMade.{plain_made};
+ghost use Rattle.affine_systems.specs.PlainMade.{plain_stated};
 ghost use Rattle.affine_systems.specs.Outcomes.{IsAnswer, IsSystem, FailuresArePoints, owed, plain_obligation};
 
 use crate::case::{Case, Constraint, MANY, case_count, empty_case, with_cases};
 use crate::context::Context;
-use crate::gathering::{Gathering, Stated, gathered};
+use crate::gathering::{Stated, gathered};
 use crate::numbering::row;
-use affine_forms::{FormError, Formula, Row, System};
+use affine_forms::{Atom, FormError, Formula, Row, System};
 use exo_tree::{Path, Text};
 use std::alloc::{AllocError, Global};
 
@@ -29,36 +30,46 @@ pub struct Obligation {
     pub place: Path,
 }
 
+/// The row of a constraint over numbered atoms.
+fn row_of(alloc: Global, atoms: &[Atom], c: &Stated) -> Result<Row, AllocError>
+    requires { length atoms.now ≤ 64 }
+    ensures value { IfOk result (λ r. plain_row (length atoms.now) r ≡ affine (map plain_atom atoms.now) (sum_of (plain_stated c.now))) }
+    ensures below { IfOk result (λ r. IsTrue (list_all (λ x. nat_lt x (length atoms.now)) (map (λ t. t.variable) r.terms.items))) }
+{
+    let r = row(alloc, atoms, c.constant(), c.terms())?;
+    Ok(r)
+}
+
 /// The equations over numbered atoms.
-fn equations(alloc: Global, made: &Gathering) -> Result<Vec<Row>, AllocError>
-    requires { length made.now.atoms.items ≤ 64 }
-    ensures value { IfOk result (λ v. map (plain_row (length made.now.atoms.items)) v.items ≡ equations_of (plain_made made.now).atoms (plain_made made.now).constraints) }
-    ensures below { IfOk result (λ v. IsTrue (are_below (length made.now.atoms.items) (map (λ r. map (λ t. t.variable) r.terms.items) v.items))) }
+fn equations(alloc: Global, atoms: &[Atom], cs: &[Stated]) -> Result<Vec<Row>, AllocError>
+    requires { length atoms.now ≤ 64 }
+    ensures value { IfOk result (λ v. map (plain_row (length atoms.now)) v.items ≡ equations_of (map plain_atom atoms.now) (map plain_stated cs.now)) }
+    ensures below { IfOk result (λ v. IsTrue (are_below (length atoms.now) (map (λ r. map (λ t. t.variable) r.terms.items) v.items))) }
 {
     let mut all = Vec::new(alloc);
-    for c in &made.constraints {
-        if let Stated::Given(Constraint::IsZero(sum)) = c {
-            all.push(row(alloc, &made.atoms, sum.constant(), sum.terms())?)?;
+    for c in cs {
+        if !c.is_equation() {
+            continue;
         }
+        let r = row_of(alloc, atoms, c)?;
+        all.push(r)?;
     }
     Ok(all)
 }
 
 /// The rows over numbered atoms.
-fn rows(alloc: Global, made: &Gathering) -> Result<Vec<Row>, AllocError>
-    requires { length made.now.atoms.items ≤ 64 }
-    ensures value { IfOk result (λ v. map (plain_row (length made.now.atoms.items)) v.items ≡ rows_of (plain_made made.now).atoms (plain_made made.now).constraints) }
-    ensures below { IfOk result (λ v. IsTrue (are_below (length made.now.atoms.items) (map (λ r. map (λ t. t.variable) r.terms.items) v.items))) }
+fn rows(alloc: Global, atoms: &[Atom], cs: &[Stated]) -> Result<Vec<Row>, AllocError>
+    requires { length atoms.now ≤ 64 }
+    ensures value { IfOk result (λ v. map (plain_row (length atoms.now)) v.items ≡ rows_of (map plain_atom atoms.now) (map plain_stated cs.now)) }
+    ensures below { IfOk result (λ v. IsTrue (are_below (length atoms.now) (map (λ r. map (λ t. t.variable) r.terms.items) v.items))) }
 {
     let mut all = Vec::new(alloc);
-    for c in &made.constraints {
-        match c {
-            Stated::Given(Constraint::AtLeastZero(sum)) => {
-                all.push(row(alloc, &made.atoms, sum.constant(), sum.terms())?)?;
-            }
-            Stated::Given(Constraint::IsZero(_)) => {}
-            Stated::Own(own) => all.push(row(alloc, &made.atoms, own.constant(), own.terms())?)?,
+    for c in cs {
+        if c.is_equation() {
+            continue;
         }
+        let r = row_of(alloc, atoms, c)?;
+        all.push(r)?;
     }
     Ok(all)
 }
@@ -75,8 +86,8 @@ fn system_of_case(alloc: Global, case: &[Constraint<'_>]) -> Result<System, Form
         return Err(FormError::SystemTooLarge);
     }
     let vars = made.atoms.len() as u32;
-    let equations = equations(alloc, &made)?;
-    let rows = rows(alloc, &made)?;
+    let equations = equations(alloc, &made.atoms, &made.constraints)?;
+    let rows = rows(alloc, &made.atoms, &made.constraints)?;
     System::try_new(vars, equations, rows).ok_or(FormError::SystemTooLarge)
 }
 

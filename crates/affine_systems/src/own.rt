@@ -1,18 +1,13 @@
 //! What an atom is, said in rows.
-ghost use Rattle.std.specs.Prelude.{◌≡◌, ◌^◌, ◌-ℤ◌, IfOk, IsTrue, pos, negsuc, map};
+ghost use Rattle.std.specs.Prelude.{◌≡◌, ◌^◌, ◌-ℤ◌, IfOk, IsTrue, pos};
 ghost use Rattle.std.specs.Int.{is_positive};
-ghost use Rattle.exo_tree.specs.PlainBinder.{control_kind};
-ghost use Rattle.affine_forms.specs.Atoms as plain;
 ghost use Rattle.affine_forms.specs.Atoms.{only, constantly, scaled, subtracted};
 ghost use Rattle.affine_forms.specs.Forms.{is_within, are_within, are_short};
 ghost use Rattle.affine_forms.specs.Formulas.{moved};
 ghost use Rattle.affine_forms.specs.TermBounds.{is_kept_atom, are_distinct};
 ghost use Rattle.affine_forms.specs.PlainAtoms.{plain_atom};
-ghost use Rattle.affine_systems.specs.Systems.{kind_rows, own_rows};
-ghost use Rattle.affine_systems.specs.PlainOwn.{own_constraints};
 
 use affine_forms::{Atom, Terms};
-use exo_tree::Kind;
 use std::alloc::{AllocError, Global};
 use std::marker::Model;
 
@@ -58,7 +53,7 @@ impl OwnRow {
     }
 
     /// The atom is at least 1.
-    fn at_least_one(alloc: Global, atom: &Atom) -> Result<OwnRow, AllocError>
+    pub fn at_least_one(alloc: Global, atom: &Atom) -> Result<OwnRow, AllocError>
         requires { IsTrue (is_kept_atom (plain_atom atom.now)) }
         ensures { IfOk result (λ r. r ≡ moved (pos 1) (only (plain_atom atom.now))) }
     {
@@ -69,7 +64,7 @@ impl OwnRow {
     }
 
     /// The atom is at least 0.
-    fn at_least_zero(alloc: Global, atom: &Atom) -> Result<OwnRow, AllocError>
+    pub fn at_least_zero(alloc: Global, atom: &Atom) -> Result<OwnRow, AllocError>
         requires { IsTrue (is_kept_atom (plain_atom atom.now)) }
         ensures { IfOk result (λ r. r ≡ only (plain_atom atom.now)) }
     {
@@ -80,7 +75,7 @@ impl OwnRow {
     }
 
     /// The atom is at most 1.
-    fn at_most_one(alloc: Global, atom: &Atom) -> Result<OwnRow, AllocError>
+    pub fn at_most_one(alloc: Global, atom: &Atom) -> Result<OwnRow, AllocError>
         requires { IsTrue (is_kept_atom (plain_atom atom.now)) }
         ensures { IfOk result (λ r. r ≡ subtracted (constantly (pos 1)) (only (plain_atom atom.now))) }
     {
@@ -91,7 +86,7 @@ impl OwnRow {
     }
 
     /// The literal times the quotient is at most what is divided.
-    fn not_above(
+    pub fn not_above(
         alloc: Global,
         n: i128,
         terms: &Terms,
@@ -114,7 +109,7 @@ impl OwnRow {
     }
 
     /// What is divided is at most the literal times the quotient, and what is left below the literal.
-    fn not_below(
+    pub fn not_below(
         alloc: Global,
         n: i128,
         terms: &Terms,
@@ -136,42 +131,5 @@ impl OwnRow {
             constant: literal - 1 - n,
             terms: sum,
         })
-    }
-}
-
-/// The rows of a field of that kind: a size is at least 1, and a bool is 0 or 1.
-fn kind_rows(alloc: Global, kind: Kind, field: &Atom) -> Result<Vec<OwnRow>, AllocError>
-    requires { IsTrue (is_kept_atom (plain_atom field.now)) }
-    ensures { IfOk result (λ v. own_constraints v.items ≡ kind_rows (control_kind kind) (only (plain_atom field.now))) }
-{
-    let mut rows = Vec::new(alloc);
-    match kind {
-        Kind::Size => rows.push(OwnRow::at_least_one(alloc, field)?)?,
-        Kind::Index => {}
-        Kind::Bool => {
-            rows.push(OwnRow::at_least_zero(alloc, field)?)?;
-            rows.push(OwnRow::at_most_one(alloc, field)?)?;
-        }
-        Kind::Stride => {}
-    }
-    Ok(rows)
-}
-
-/// The rows that say what an atom is.
-pub fn own_rows(alloc: Global, atom: &Atom) -> Result<Vec<OwnRow>, AllocError>
-    requires { IsTrue (is_kept_atom (plain_atom atom.now)) }
-    ensures { IfOk result (λ v. own_constraints v.items ≡ own_rows (plain_atom atom.now)) }
-{
-    match atom {
-        Atom::Variable(_) => Ok(Vec::new(alloc)),
-        Atom::EntryField(_, kind) => kind_rows(alloc, *kind, atom),
-        Atom::UnknownField(_, kind, _) => kind_rows(alloc, *kind, atom),
-        Atom::OpaqueStride(_, _) => Ok(Vec::new(alloc)),
-        Atom::Quotient(n, terms, by) => {
-            let mut rows = Vec::new(alloc);
-            rows.push(OwnRow::not_above(alloc, *n, terms, *by, atom)?)?;
-            rows.push(OwnRow::not_below(alloc, *n, terms, *by, atom)?)?;
-            Ok(rows)
-        }
     }
 }
