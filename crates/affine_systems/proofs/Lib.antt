@@ -4,3 +4,7 @@ pub mod Products
 pub mod Sparse
 pub mod Numbers
 pub mod Gathered
+pub mod Counts
+pub mod CaseLists
+pub mod FormulaLists
+pub mod Answering

@@ -1,5 +1,5 @@
 -- The numbers that the terms of a sum add to the coefficients of numbered atoms: each of its atoms stands once, so each number is added once.
-use Rattle.std.proofs.Common.{◌≡◌, ℕ, zero, suc, ◌+◌, ◌<◌, ◌≤◌, ◌^◌, nat_le, ℤ, pos, ◌+ℤ◌, Bool, true, false, cond, not, ◌&&◌, List, [], ◌∷◌, map, length, set, get_or, unsigned_abs, arith, refl, sym, ap, ap₂, ◌∙◌, true≢false, inl, inr}
+use Rattle.std.proofs.Common.{◌≡◌, ℕ, zero, suc, ◌+◌, ◌<◌, ◌≤◌, ◌^◌, nat_le, ℤ, pos, ◌+ℤ◌, Bool, true, false, cond, not, ◌&&◌, List, [], ◌∷◌, ◌++◌, map, length, set, get_or, drop, unsigned_abs, arith, refl, sym, ap, ap₂, ◌∙◌, true≢false, inl, inr, add-one}
 use Rattle.std.proofs.lemmas.Int.{ints}
 use Rattle.std.proofs.lemmas.Bool.Decides.{nat_tests}
 use Rattle.std.specs.Prelude.{◌⊎◌}
@@ -7,10 +7,15 @@ use Rattle.std.specs.List.{list_all, position_or_len}
 use Rattle.affine_forms.specs.Atoms.{Atom, Terms, none, term, same_atom}
 use Rattle.affine_forms.specs.Bounds.{is_narrow}
 use Rattle.affine_forms.specs.Forms.{is_within}
-use Rattle.affine_forms.specs.TermBounds.{is_apart}
+use Rattle.affine_forms.specs.TermBounds.{is_apart, are_distinct}
 use Rattle.affine_forms.proofs.Values.{and_parts}
 use Rattle.affine_forms.proofs.Distinct.{apart_alike}
 use Rattle.affine_forms.proofs.TermWidths.{within_le, within_from_le}
+use Rattle.std.proofs.lemmas.List.{map-append}
+use Rattle.affine_forms.specs.System.{below}
+use Rattle.affine_forms.specs.PlainAtoms.{plain_atom, plain_terms}
+use Rattle.affine_forms.specs.declared.atom.Atom.{Atom as RsAtom}
+use Rattle.affine_forms.specs.declared.atom.Weighed.{Weighed}
 use Rattle.affine_systems.specs.Systems.{added_at}
 
 -- each coefficient is 0, or it is narrow and no term is left to be added to it
@@ -95,3 +100,25 @@ pub length_added : (k : ℕ) (z : ℤ) (cs : List ℤ) → length (added_at k z 
 length_added k z [] = refl
 length_added zero z (c ∷ cs) = refl
 length_added (suc k) z (c ∷ cs) = ap suc (length_added k z cs)
+
+-- ---- zeros
+
+zero_first : (n : ℕ) → map (λ x. pos 0) (below n) ++ pos 0 ∷ [] ≡ pos 0 ∷ map (λ x. pos 0) (below n)
+zero_first zero = refl
+zero_first (suc n) = ap (λ r. r ++ pos 0 ∷ []) (map-append (λ x. pos 0) (below n) (n ∷ []) ∙ zero_first n) ∙ ap (λ r. pos 0 ∷ r) (sym (map-append (λ x. pos 0) (below n) (n ∷ [])))
+
+pub zeros_below : (xs : List RsAtom) → map (λ x. pos 0) (below (length xs)) ≡ map (λ a. pos 0) (map plain_atom xs)
+zeros_below [] = refl
+zeros_below (x ∷ xs) = map-append (λ y. pos 0) (below (length xs)) (length xs ∷ []) ∙ zero_first (length xs) ∙ ap (λ r. pos 0 ∷ r) (zeros_below xs)
+
+-- ---- the atom of each term stands once
+
+pub apart_at : (ws : List Weighed) (k : ℕ) (x : Weighed) → k < length ws → x ≡ get_or ws k x → are_distinct (plain_terms ws) ≡ true → is_apart (plain_atom x.atom) (plain_terms (drop (k + 1) ws)) ≡ true
+apart_at [] k x l is h = absurd (omega arith)
+apart_at (y ∷ ws) zero x l is h = ap (λ v. is_apart (plain_atom v.atom) (plain_terms ws)) is ∙ (and_parts (is_apart (plain_atom y.atom) (plain_terms ws)) (are_distinct (plain_terms ws)) h).0
+apart_at (y ∷ ws) (suc k) x l is h = ap (λ n. is_apart (plain_atom x.atom) (plain_terms (drop n (y ∷ ws)))) (add-one (suc k)) ∙ ap (λ n. is_apart (plain_atom x.atom) (plain_terms (drop n ws))) (sym (add-one k)) ∙ apart_at ws k x (omega arith) is (and_parts (is_apart (plain_atom y.atom) (plain_terms ws)) (are_distinct (plain_terms ws)) h).1
+
+pub get_same : (cs : List ℤ) (k : ℕ) (y z : ℤ) → k < length cs → get_or cs k y ≡ get_or cs k z
+get_same [] k y z l = absurd (omega arith)
+get_same (d ∷ cs) zero y z l = refl
+get_same (d ∷ cs) (suc k) y z l = get_same cs k y z (omega arith)

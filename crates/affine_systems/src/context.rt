@@ -1,5 +1,5 @@
 //! What holds at a place.
-ghost use Rattle.std.specs.Prelude.{◌≡◌, ◌++◌, ◌∷◌, [], map, take, OnOk, OnErr, length};
+ghost use Rattle.std.specs.Prelude.{◌≡◌, ◌++◌, ◌∷◌, [], map, OnOk, OnErr, length};
 ghost use Rattle.affine_forms.specs.PlainFormulas.{plain_formula};
 
 use affine_forms::Formula;
@@ -51,13 +51,6 @@ impl Context {
         ensures { result ≡ length self.now }
     {
         self.items.len()
-    }
-
-    /// Takes the formulas after the first `len` away.
-    pub fn truncate(&mut self, len: usize)
-        ensures { self.new ≡ take len self.old }
-    {
-        self.items.truncate(len);
     }
 
     /// The formulas.

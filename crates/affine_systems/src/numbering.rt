@@ -1,13 +1,13 @@
 //! Rows over numbered variables.
-ghost use Rattle.std.specs.Prelude.{◌≡◌, ◌^◌, ◌≤◌, nat_lt, length, map, IfOk, IsTrue};
+ghost use Rattle.std.specs.Prelude.{◌≡◌, ◌^◌, ◌<◌, ◌≤◌, nat_lt, length, map, get_or, pos, IfOk, IsTrue};
 ghost use Rattle.std.specs.List.{list_all, position_or_len};
 ghost use Rattle.affine_forms.specs.Atoms.{same_atom};
 ghost use Rattle.affine_forms.specs.Bounds.{is_narrow, is_increasing};
-ghost use Rattle.affine_forms.specs.Forms.{are_within};
+ghost use Rattle.affine_forms.specs.Forms.{is_within, are_within};
 ghost use Rattle.affine_forms.specs.System.{coefficient_of, below, plain_row};
 ghost use Rattle.affine_forms.specs.TermBounds.{are_distinct};
 ghost use Rattle.affine_forms.specs.PlainAtoms.{plain_atom};
-ghost use Rattle.affine_systems.specs.Systems.{numbered, affine};
+ghost use Rattle.affine_systems.specs.Systems.{added_at, numbered, affine};
 
 use affine_forms::{Atom, Row, Term, Terms};
 use std::alloc::{AllocError, Global};
@@ -24,6 +24,28 @@ fn number_of(alloc: Global, atoms: &[Atom], atom: &Atom) -> Result<usize, AllocE
     Ok(atoms.len())
 }
 
+/// A 0 for each atom.
+fn zeros(alloc: Global, atoms: &[Atom]) -> Result<Vec<i128>, AllocError>
+    ensures { IfOk result (λ v. v.items ≡ map (λ a. pos 0) (map plain_atom atoms.now)) }
+{
+    let mut all = Vec::with_capacity(alloc, atoms.len())?;
+    for k in 0..atoms.len() {
+        let _number = k;
+        all.push(0)?;
+    }
+    Ok(all)
+}
+
+/// Adds to the k-th number.
+fn add_at(all: &mut Vec<i128>, k: usize, z: i128)
+    requires inside { k < length all.old.items }
+    requires narrow { IsTrue (is_within (2 ^ 64) (get_or all.old.items k (pos 0))) }
+    requires small { IsTrue (is_within (2 ^ 64) z) }
+    ensures { all.new.items ≡ added_at k z all.old.items }
+{
+    all[k] += z;
+}
+
 /// The coefficient of each atom in a sum.
 fn coefficients(alloc: Global, atoms: &[Atom], terms: &Terms) -> Result<Vec<i128>, AllocError>
     requires narrow { IsTrue (are_within (2 ^ 64) terms.now) }
@@ -32,13 +54,13 @@ fn coefficients(alloc: Global, atoms: &[Atom], terms: &Terms) -> Result<Vec<i128
     ensures narrow { IfOk result (λ v. IsTrue (list_all is_narrow v.items)) }
     ensures len { IfOk result (λ v. length v.items ≡ length atoms.now) }
 {
-    let mut all = Vec::from_elem(alloc, 0i128, atoms.len())?;
+    let mut all = zeros(alloc, atoms)?;
     for w in terms.as_slice() {
         let k = number_of(alloc, atoms, &w.atom)?;
         if k >= all.len() {
             continue;
         }
-        all[k] += w.coefficient;
+        add_at(&mut all, k, w.coefficient);
     }
     Ok(all)
 }

@@ -166,7 +166,10 @@ pub fn systems(
     let cases = failing_cases(alloc, ctx, &denied)?;
     let mut owed = Vec::new(alloc);
     for case in &cases {
-        let system = system_of_case(alloc, case)?;
+        let system = match system_of_case(alloc, case) {
+            Ok(s) => s,
+            Err(e) => return Err(e),
+        };
         owe(alloc, &mut owed, system, what, place)?;
     }
     Ok(owed)
