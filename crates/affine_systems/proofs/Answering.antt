@@ -1,12 +1,10 @@
 -- What is answered to a claim.
-use Rattle.std.proofs.Common.{◌≡◌, ℕ, zero, suc, ◌+◌, ◌<◌, ◌≤◌, min, nat_le, Bool, true, false, cond, ◌&&◌, List, [], ◌∷◌, map, length, get_or, take, arith, refl, sym, ap, ap₂, subst, ◌∙◌, true≢false, inl, inr}
+use Rattle.std.proofs.Common.{◌≡◌, ℕ, zero, suc, ◌<◌, ◌≤◌, min, nat_le, Bool, true, false, cond, ◌&&◌, List, [], ◌∷◌, map, length, get_or, arith, refl, sym, ap, subst, ◌∙◌, inl, inr}
 use Rattle.std.proofs.lemmas.Bool.Decides.{nat_tests}
 use Rattle.std.specs.List.{list_all}
-use Rattle.std.specs.Prelude.{⊤}
 use Rattle.exo_tree.specs.Places.{Path}
 use Rattle.affine_forms.specs.Affine.{Constraints, IsIntegerPoint}
 use Rattle.affine_forms.specs.Atoms.{Valuation, atom_value}
-use Rattle.affine_forms.specs.System.{plain_system}
 use Rattle.affine_forms.specs.Formulas.{Constraint, Formula}
 use Rattle.affine_forms.specs.declared.error.FormError.{FormError}
 use Rattle.affine_forms.specs.declared.error.FormError.TheVariants.{TooManyCases, SystemTooLarge, WideNumber, TooManySystems, Memory}

@@ -1,9 +1,10 @@
 -- Lists of cases of the program as plain ones.
-use Rattle.std.proofs.Common.{◌≡◌, ℕ, zero, suc, ◌+◌, ◌<◌, List, [], ◌∷◌, ◌++◌, map, length, set, get_or, take, arith, refl, sym, ap, ap₂, ◌∙◌, add-one}
+use Rattle.std.proofs.Common.{◌≡◌, ℕ, zero, suc, ◌+◌, ◌<◌, List, [], ◌∷◌, ◌++◌, map, length, set, get_or, take, arith, refl, sym, ap, ◌∙◌, add-one}
 use Rattle.std.proofs.lemmas.List.{append-nil, map-append, take_more}
 use Rattle.std.specs.Prelude.{Vec}
 use Rattle.affine_forms.specs.Formulas.{Constraint, product}
 use Rattle.affine_systems.specs.declared.case.Constraint.{Constraint as RsConstraint}
+use Rattle.affine_systems.specs.Systems.{system}
 use Rattle.affine_systems.specs.PlainCases.{plain_constraint, plain_cases}
 use Rattle.affine_systems.proofs.Products.{product_append, behind, behind_more}
 
@@ -47,3 +48,14 @@ module _ {A : Type 0} where
       ∙ ap (λ zs. set zs k (get_or zs k [] ++ plain_constraint d ∷ [])) done
       ∙ behind_more k (plain_constraint d) ks [] m
       ∙ ap (λ n. behind n (plain_constraint d) ks) (sym (add-one k))
+
+  -- the system of a case stands at its place
+  pub system_at : (xs : List (Vec RsConstraint A)) (k : ℕ) (v : Vec RsConstraint A) (css : List (List Constraint)) → k < length xs → v ≡ get_or xs k v → plain_cases xs ≡ css → (k < length (map system css)) × (system (map plain_constraint v.items) ≡ get_or (map system css) k (system (map plain_constraint v.items)))
+  system_at [] k v css l is e = absurd (omega arith)
+  system_at (x ∷ xs) k v [] l is e = absurd (let n : suc (length (plain_cases xs)) ≡ 0 = ap length e in omega (arith, n))
+  system_at (x ∷ xs) zero v (cs ∷ css) l is e = (omega arith, ap (λ y. system (map plain_constraint y.items)) is ∙ ap (λ ks. system (get_or ks 0 [])) e)
+  system_at (x ∷ xs) (suc k) v (cs ∷ css) l is e = let r = system_at xs k v css (omega arith) is (ap tail_of e) in (omega (arith, r.0), r.1)
+    where
+      tail_of : List (List Constraint) → List (List Constraint)
+      tail_of [] = []
+      tail_of (y ∷ ys) = ys

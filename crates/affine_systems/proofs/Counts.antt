@@ -1,7 +1,7 @@
 -- Numbers of cases, counted up to 65.
-use Rattle.std.proofs.Common.{◌≡◌, ℕ, zero, suc, ◌+◌, ◌*◌, ◌≤◌, min, nat_le, Bool, true, false, List, [], ◌∷◌, ◌++◌, length, arith, refl, sym, ap, ap₂, ◌∙◌}
+use Rattle.std.proofs.Common.{◌≡◌, ℕ, zero, suc, ◌*◌, ◌≤◌, min, nat_le, Bool, true, false, List, [], ◌∷◌, ◌++◌, length, arith, refl, sym, ap, ap₂, ◌∙◌}
 use Rattle.std.proofs.lemmas.Bool.Decides.{nat_tests}
-use Rattle.affine_forms.specs.Formulas.{Formula, product, cases, cases_of_all}
+use Rattle.affine_forms.specs.Formulas.{Formula, cases, cases_of_all}
 use Rattle.affine_systems.proofs.Products.{cases_last, length_product}
 
 small : (x : ℕ) → nat_le x 64 ≡ true → min x 65 ≡ x

@@ -1,6 +1,6 @@
 -- One more step of the loops that gather constraints.
-use Rattle.std.proofs.Common.{◌≡◌, ℕ, zero, suc, ◌+◌, ◌<◌, ◌≤◌, Bool, true, false, cond, not, ◌&&◌, ◌||◌, List, [], ◌∷◌, ◌++◌, map, length, get_or, drop, arith, refl, sym, ap, ap₂, ◌∙◌, add-one}
-use Rattle.affine_forms.specs.Atoms.{Atom, Terms, none, term}
+use Rattle.std.proofs.Common.{◌≡◌, ℕ, zero, suc, ◌+◌, ◌<◌, ◌≤◌, Bool, true, false, cond, not, ◌||◌, List, [], ◌∷◌, map, length, get_or, drop, arith, refl, sym, ap, ◌∙◌, add-one}
+use Rattle.affine_forms.specs.Atoms.{Atom, Terms}
 use Rattle.affine_forms.specs.Formulas.{Constraint, AtLeastZero, IsZero}
 use Rattle.std.proofs.Math.Seq.{drop-cons}
 use Rattle.std.specs.List.{list_any, position_or_len}

@@ -1,10 +1,9 @@
 -- The numbers that the terms of a sum add to the coefficients of numbered atoms: each of its atoms stands once, so each number is added once.
-use Rattle.std.proofs.Common.{◌≡◌, ℕ, zero, suc, ◌+◌, ◌<◌, ◌≤◌, ◌^◌, nat_le, ℤ, pos, ◌+ℤ◌, Bool, true, false, cond, not, ◌&&◌, List, [], ◌∷◌, ◌++◌, map, length, set, get_or, drop, unsigned_abs, arith, refl, sym, ap, ap₂, ◌∙◌, true≢false, inl, inr, add-one}
+use Rattle.std.proofs.Common.{◌≡◌, ℕ, zero, suc, ◌+◌, ◌<◌, ◌≤◌, ◌^◌, ℤ, pos, ◌+ℤ◌, Bool, true, false, cond, not, ◌&&◌, List, [], ◌∷◌, ◌++◌, map, length, set, get_or, drop, arith, refl, sym, ap, ap₂, ◌∙◌, true≢false, inl, inr, add-one}
 use Rattle.std.proofs.lemmas.Int.{ints}
-use Rattle.std.proofs.lemmas.Bool.Decides.{nat_tests}
 use Rattle.std.specs.Prelude.{◌⊎◌}
 use Rattle.std.specs.List.{list_all, position_or_len}
-use Rattle.affine_forms.specs.Atoms.{Atom, Terms, none, term, same_atom}
+use Rattle.affine_forms.specs.Atoms.{Atom, Terms, term, same_atom}
 use Rattle.affine_forms.specs.Bounds.{is_narrow}
 use Rattle.affine_forms.specs.Forms.{is_within}
 use Rattle.affine_forms.specs.TermBounds.{is_apart, are_distinct}

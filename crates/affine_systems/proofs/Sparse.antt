@@ -88,13 +88,13 @@ sparse_none cs = record { value = refl; increasing = refl; under = refl }
 
 pub sparse_with : (ts : List Term) (k : ℕ) (cs : List ℤ) (t : Term) → IsSparse ts k cs → k < length cs → t.variable ≡ k → t.coefficient ≡ get_or cs k (pos 0) → IsSparse (ts ++ t ∷ []) (k + 1) cs
 sparse_with ts k cs t s l v c = rw add-one (record {
-    value =
-        map-append (coefficient_of (ts ++ t ∷ [])) (below k) (k ∷ [])
-        ∙ ap₂ (λ xs y. xs ++ y ∷ []) (map_below (coefficient_of (ts ++ t ∷ [])) (coefficient_of ts) k (λ w m. coefficient_before ts t w (omega (arith, m, v))) ∙ s.value) (last ∙ c)
-        ∙ sym (take_more cs k (pos 0) l) ∙ ap (λ n. take n cs) (add-one k);
-    increasing = ap is_increasing variables ∙ increasing_from_last 0 (map (λ t. t.variable) ts) k s.increasing (omega arith) s.under;
-    under = ap (list_all (λ x. nat_lt x (suc k))) variables ∙ under_last (map (λ t. t.variable) ts) k s.under;
-  })
+  value =
+      map-append (coefficient_of (ts ++ t ∷ [])) (below k) (k ∷ [])
+      ∙ ap₂ (λ xs y. xs ++ y ∷ []) (map_below (coefficient_of (ts ++ t ∷ [])) (coefficient_of ts) k (λ w m. coefficient_before ts t w (omega (arith, m, v))) ∙ s.value) (last ∙ c)
+      ∙ sym (take_more cs k (pos 0) l) ∙ ap (λ n. take n cs) (add-one k);
+  increasing = ap is_increasing variables ∙ increasing_from_last 0 (map (λ t. t.variable) ts) k s.increasing (omega arith) s.under;
+  under = ap (list_all (λ x. nat_lt x (suc k))) variables ∙ under_last (map (λ t. t.variable) ts) k s.under;
+})
   where
     variables : map (λ t. t.variable) (ts ++ t ∷ []) ≡ map (λ t. t.variable) ts ++ k ∷ []
     variables = map-append (λ t. t.variable) ts (t ∷ []) ∙ ap (λ x. map (λ t. t.variable) ts ++ x ∷ []) v
@@ -104,13 +104,13 @@ sparse_with ts k cs t s l v c = rw add-one (record {
 
 pub sparse_without : (ts : List Term) (k : ℕ) (cs : List ℤ) → IsSparse ts k cs → k < length cs → get_or cs k (pos 0) ≡ pos 0 → IsSparse ts (k + 1) cs
 sparse_without ts k cs s l e = rw add-one (record {
-    value =
-        map-append (coefficient_of ts) (below k) (k ∷ [])
-        ∙ ap₂ (λ xs y. xs ++ y ∷ []) s.value (coefficient_absent ts k k s.under (omega arith) ∙ sym e)
-        ∙ sym (take_more cs k (pos 0) l) ∙ ap (λ n. take n cs) (add-one k);
-    increasing = s.increasing;
-    under = under_more (map (λ t. t.variable) ts) k s.under;
-  })
+  value =
+      map-append (coefficient_of ts) (below k) (k ∷ [])
+      ∙ ap₂ (λ xs y. xs ++ y ∷ []) s.value (coefficient_absent ts k k s.under (omega arith) ∙ sym e)
+      ∙ sym (take_more cs k (pos 0) l) ∙ ap (λ n. take n cs) (add-one k);
+  increasing = s.increasing;
+  under = under_more (map (λ t. t.variable) ts) k s.under;
+})
 
 pub sparse_all : (ts : List Term) (k : ℕ) (cs : List ℤ) → IsSparse ts k cs → k ≡ length cs → map (coefficient_of ts) (below (length cs)) ≡ cs
 sparse_all ts k cs s e = ap (λ n. map (coefficient_of ts) (below n)) (sym e) ∙ s.value ∙ take_all k cs (omega (arith, e))

@@ -1,9 +1,9 @@
-use Rattle.std.proofs.Common.{◌≡◌, ◌∙◌, ◌++◌, sym, ap, ap₂, subst, [], ◌∷◌}
+use Rattle.std.proofs.Common.{◌≡◌, ◌∙◌, ◌++◌, sym, ap, ap₂, subst}
 use Rattle.std.specs.Prelude.{IfOk}
 use Rattle.affine_forms.specs.Formulas.{product, cases}
 use Rattle.affine_forms.specs.Formulas as plain
 use Rattle.affine_forms.specs.PlainFormulas.{plain_formula}
-use Rattle.affine_systems.specs.PlainCases.{plain_constraint, plain_cases}
+use Rattle.affine_systems.specs.PlainCases.{plain_cases}
 use Rattle.affine_systems.proofs.Products.{product_one, product_assoc, product_empty}
 use Rattle.affine_systems.proofs.CaseLists.{plain_append}
 use Rattle.affine_systems.proofs.case.+with_cases.Goals as goal

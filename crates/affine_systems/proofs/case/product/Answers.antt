@@ -1,4 +1,4 @@
-use Rattle.std.proofs.Common.{◌∙◌, ◌++◌, ap, ap₂, map}
+use Rattle.std.proofs.Common.{◌∙◌, ◌++◌, ap₂, map}
 use Rattle.affine_systems.specs.PlainCases.{plain_constraint, plain_cases}
 use Rattle.affine_systems.proofs.CaseLists.{product_next}
 use Rattle.affine_systems.proofs.case.product.Goals as goal

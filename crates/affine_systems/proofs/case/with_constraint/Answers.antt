@@ -6,10 +6,10 @@ use Rattle.affine_systems.proofs.case.with_constraint.Goals as goal
 
 pub loop-k-preserved : goal.loop-k-preserved
 loop-k-preserved c = record {
-    done = pushed_behind c.loop-k.cases.items c.loop-k.k c.index_mut.result.now c.push.new.self c.args.c (plain_cases c.args.cases.items) (omega (arith, c.loop-k-test.true, c.loop-k.invariant.len, c.len-k-end.ensures)) c.index_mut.ensures.value c.in_ok-push.ensures.items c.loop-k.invariant.done (omega (arith, c.loop-k-test.true, plain_length c.args.cases.items, c.len-k-end.ensures));
-    len = set_length c.loop-k.cases.items c.loop-k.k c.push.new.self ∙ c.loop-k.invariant.len;
-    inside = omega (arith, c.loop-k-test.true, c.len-k-end.ensures);
-  }
+  done = pushed_behind c.loop-k.cases.items c.loop-k.k c.index_mut.result.now c.push.new.self c.args.c (plain_cases c.args.cases.items) (omega (arith, c.loop-k-test.true, c.loop-k.invariant.len, c.len-k-end.ensures)) c.index_mut.ensures.value c.in_ok-push.ensures.items c.loop-k.invariant.done (omega (arith, c.loop-k-test.true, plain_length c.args.cases.items, c.len-k-end.ensures));
+  len = set_length c.loop-k.cases.items c.loop-k.k c.push.new.self ∙ c.loop-k.invariant.len;
+  inside = omega (arith, c.loop-k-test.true, c.len-k-end.ensures);
+}
 
 pub returns : goal.returns
 returns c =

@@ -1,13 +1,13 @@
-use Rattle.std.proofs.Common.{◌≡◌, ◌∙◌, ◌^◌, ◌+◌, ◌≤◌, sym, ap, subst, arith, map, drop, length, pos, true, add-one}
+use Rattle.std.proofs.Common.{◌≡◌, ◌∙◌, ◌^◌, ◌+◌, sym, ap, subst, arith, map, drop, pos}
 use Rattle.std.proofs.lemmas.Int.{to_z-of_z}
 use Rattle.std.proofs.lemmas.List.{length-map}
 use Rattle.std.specs.Int.{w128}
 use Rattle.std.specs.List.{position_or_len}
-use Rattle.affine_forms.specs.Atoms.{Terms, term, same_atom}
-use Rattle.affine_forms.specs.Forms.{is_within, are_within}
+use Rattle.affine_forms.specs.Atoms.{same_atom}
+use Rattle.affine_forms.specs.Forms.{are_within}
 use Rattle.affine_forms.specs.TermBounds.{are_distinct}
 use Rattle.affine_forms.specs.PlainAtoms.{plain_atom, plain_terms}
-use Rattle.affine_forms.proofs.TermLists.{plain_drop, plain_end}
+use Rattle.affine_forms.proofs.TermLists.{plain_drop}
 use Rattle.affine_forms.proofs.TermWidths.{within_at, within_le, within_from_le, fits_within}
 use Rattle.affine_systems.specs.Systems.{numbered_onto, added_at}
 use Rattle.affine_systems.proofs.Numbers.{HasRoom, room_first, room_added, room_narrow, room_length, room_at, added_past, apart_at}

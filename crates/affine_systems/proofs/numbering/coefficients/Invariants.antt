@@ -6,6 +6,6 @@ use Rattle.affine_systems.proofs.numbering.coefficients.Given as goal
 
 abbrev pub invariant-loop-w : goal.invariant-loop-w
 invariant-loop-w l = record {
-    sum : numbered_onto (map plain_atom l.atoms) l.all.items (plain_terms (drop l.w-index l.w-items)) ≡ numbered (map plain_atom l.atoms) l.terms;
-    room : HasRoom (plain_terms (drop l.w-index l.w-items)) (map plain_atom l.atoms) l.all.items;
-  }
+  sum : numbered_onto (map plain_atom l.atoms) l.all.items (plain_terms (drop l.w-index l.w-items)) ≡ numbered (map plain_atom l.atoms) l.terms;
+  room : HasRoom (plain_terms (drop l.w-index l.w-items)) (map plain_atom l.atoms) l.all.items;
+}

@@ -9,9 +9,9 @@ returns-then-branch c = sym (c.loop-k.invariant.place ∙ number_here (same_atom
 
 pub loop-k-preserved : goal.loop-k-preserved
 loop-k-preserved c = record {
-    place = c.loop-k.invariant.place ∙ number_next (same_atom (plain_atom c.args.atom.now)) c.args.atoms.now c.loop-k.k c.index-atoms-k.result c.loop-k-test.true c.index-atoms-k.is (sym c.in_ok-same.ensures ∙ c.if-branch.false);
-    inside = omega (arith, c.loop-k-test.true);
-  }
+  place = c.loop-k.invariant.place ∙ number_next (same_atom (plain_atom c.args.atom.now)) c.args.atoms.now c.loop-k.k c.index-atoms-k.result c.loop-k-test.true c.index-atoms-k.is (sym c.in_ok-same.ensures ∙ c.if-branch.false);
+  inside = omega (arith, c.loop-k-test.true);
+}
 
 pub returns : goal.returns
 returns c = sym (c.loop-k.invariant.place ∙ number_end (same_atom (plain_atom c.args.atom.now)) c.args.atoms.now c.loop-k.k (omega (arith, c.loop-k-test.false, c.loop-k.invariant.inside)))

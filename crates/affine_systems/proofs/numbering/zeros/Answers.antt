@@ -1,6 +1,5 @@
 use Rattle.std.proofs.Common.{◌≡◌, ◌∙◌, arith, ap, map, pos, length}
 use Rattle.affine_forms.specs.System.{below}
-use Rattle.affine_forms.specs.PlainAtoms.{plain_atom}
 use Rattle.affine_systems.proofs.Numbers.{zeros_below}
 use Rattle.affine_systems.proofs.numbering.zeros.Goals as goal
 

@@ -1,4 +1,4 @@
-use Rattle.std.proofs.Common.{◌≡◌, ◌∙◌, ◌++◌, ap, subst, sym, [], ◌∷◌}
+use Rattle.std.proofs.Common.{◌≡◌, ◌∙◌, ◌++◌, ap, subst, [], ◌∷◌}
 use Rattle.std.specs.Prelude.{IfOk}
 use Rattle.affine_forms.specs.Formulas.{product, cases, cases_of_all}
 use Rattle.affine_forms.specs.PlainFormulas.{plain_formula}

@@ -8,6 +8,6 @@ use Rattle.affine_systems.proofs.obligation.rows.Given as goal
 
 abbrev pub invariant-loop-c : goal.invariant-loop-c
 invariant-loop-c l = record {
-    value : map (plain_row (length l.atoms)) l.all.items ++ rows_of (map plain_atom l.atoms) (map plain_stated (drop l.c-index l.cs)) ≡ rows_of (map plain_atom l.atoms) (map plain_stated l.cs);
-    below : are_below (length l.atoms) (map (λ r. map (λ t. t.variable) r.terms.items) l.all.items) ≡ true;
-  }
+  value : map (plain_row (length l.atoms)) l.all.items ++ rows_of (map plain_atom l.atoms) (map plain_stated (drop l.c-index l.cs)) ≡ rows_of (map plain_atom l.atoms) (map plain_stated l.cs);
+  below : are_below (length l.atoms) (map (λ r. map (λ t. t.variable) r.terms.items) l.all.items) ≡ true;
+}

@@ -7,6 +7,6 @@ use Rattle.affine_systems.proofs.obligation.systems.Given as goal
 
 abbrev pub invariant-loop-case : goal.invariant-loop-case
 invariant-loop-case l = record {
-    owed : map plain_obligation l.owed.items ≡ map (owed l.what l.place) (map system (plain_cases (take l.case-index l.case-items)));
-    small : list_all is_small (map system (plain_cases (take l.case-index l.case-items))) ≡ true;
-  }
+  owed : map plain_obligation l.owed.items ≡ map (owed l.what l.place) (map system (plain_cases (take l.case-index l.case-items)));
+  small : list_all is_small (map system (plain_cases (take l.case-index l.case-items))) ≡ true;
+}

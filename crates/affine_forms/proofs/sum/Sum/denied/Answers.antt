@@ -18,8 +18,9 @@ invariant_of-result c =
     let fk = row_fits k c.self.invariant.0 in
     let fo = fits_within (pos 0 -ℤ k) (within_from_le (2 ^ 126) (pos 0 -ℤ k) (omega (arith, ints, l))) in
     let denied = row_denied k c.self.invariant.0 in
-    let fd = row_fits ((pos 0 -ℤ k) -ℤ pos 1) denied in
-    (rw (to_z-of_z w128 k fk, to_z-of_z w128 (pos 0 -ℤ k) fo, to_z-of_z w128 ((pos 0 -ℤ k) -ℤ pos 1) fd) denied,
+    let fd = row_fits ((pos 0 -ℤ k) -ℤ pos 1) denied in (
+      rw (to_z-of_z w128 k fk, to_z-of_z w128 (pos 0 -ℤ k) fo, to_z-of_z w128 ((pos 0 -ℤ k) -ℤ pos 1) fd) denied,
       ap (are_within (2 ^ 64)) c.in_ok-scaled.ensures ∙ within_scaled 1 (2 ^ 64) (2 ^ 64) (negsuc 0) c.self.inside.terms (within_from_le 1 (negsuc 0) (omega (arith, ints))) c.self.invariant.1 (omega arith),
       ap are_distinct c.in_ok-scaled.ensures ∙ distinct_scaled (negsuc 0) c.self.inside.terms ∙ c.self.invariant.2,
-      ap are_present c.in_ok-scaled.ensures ∙ present_negated c.self.inside.terms c.self.invariant.3)
+      ap are_present c.in_ok-scaled.ensures ∙ present_negated c.self.inside.terms c.self.invariant.3,
+    )

@@ -1,4 +1,4 @@
-use Rattle.std.proofs.Common.{◌≡◌, ◌∙◌, arith, ap}
+use Rattle.std.proofs.Common.{◌≡◌, arith, ap}
 use Rattle.affine_forms.specs.AtomCodes.{nodes_in}
 use Rattle.affine_forms.specs.PlainAtoms.{plain_terms}
 use Rattle.affine_forms.proofs.TermLists.{nodes_fall}

@@ -1,13 +1,13 @@
-use Rattle.std.proofs.Common.{◌≡◌, ◌∙◌, ◌^◌, ◌-◌, ◌+◌, arith, refl, sym, ap, ap₂, pos, negsuc, true, ◌+ℤ◌, ◌*ℤ◌, ◌-ℤ◌, ◌&&◌}
+use Rattle.std.proofs.Common.{◌≡◌, ◌∙◌, ◌^◌, ◌-◌, ◌+◌, arith, refl, ap, pos, negsuc, true, ◌+ℤ◌, ◌*ℤ◌, ◌-ℤ◌, ◌&&◌}
 use Rattle.std.proofs.lemmas.Int.{to_z-of_z, ints}
 use Rattle.std.proofs.Math.IntN.{*ℤ-zero}
-use Rattle.std.specs.Int.{w64, w128}
-use Rattle.affine_forms.specs.Atoms.{Terms, term, none, with_term, terms_added, terms_scaled}
-use Rattle.affine_forms.specs.Forms.{is_within, are_within}
+use Rattle.std.specs.Int.{w128}
+use Rattle.affine_forms.specs.Atoms.{term, none, with_term, terms_added}
+use Rattle.affine_forms.specs.Forms.{are_within}
 use Rattle.affine_forms.specs.TermBounds.{are_distinct}
 use Rattle.affine_forms.specs.PlainAtoms.{plain_atom}
-use Rattle.affine_forms.proofs.Distinct.{distinct_added, distinct_scaled, within_added}
-use Rattle.affine_forms.proofs.TermWidths.{within_le, within_from_le, fits_within, wider, within_64, fits_64, within_scaled}
+use Rattle.affine_forms.proofs.Distinct.{distinct_added, within_added}
+use Rattle.affine_forms.proofs.TermWidths.{within_le, within_from_le, fits_within, wider, within_64, fits_64}
 use Rattle.affine_systems.proofs.own.OwnRow.not_above.Goals as goal
 
 pub join-requires-clause-room : goal.join-requires-clause-room
@@ -28,10 +28,11 @@ invariant_of-result c =
     let ts = c.args.terms.now in
     let q = term (pos 0 -ℤ c.args.by) (plain_atom c.args.quotient.now) none in
     let l = within_le (2 ^ 63) c.args.by (within_64 c.args.by c.ranges.by) in
-    let z = within_from_le (2 ^ 63) (pos 0 -ℤ c.args.by) (omega (arith, ints, l)) in
-    (rw (to_z-of_z w128 c.args.n c.ranges.n) (within_from_le (2 ^ 66) c.args.n (omega (arith, within_le (2 ^ 64) c.args.n c.requires.constant))),
+    let z = within_from_le (2 ^ 63) (pos 0 -ℤ c.args.by) (omega (arith, ints, l)) in (
+      rw (to_z-of_z w128 c.args.n c.ranges.n) (within_from_le (2 ^ 66) c.args.n (omega (arith, within_le (2 ^ 64) c.args.n c.requires.constant))),
       ap (are_within (2 ^ 64)) (sum_is c) ∙ wider (2 ^ 62 + 2 ^ 63) (2 ^ 64) (terms_added ts q) (omega arith) (within_added (2 ^ 62) (2 ^ 63) ts q c.requires.short (ap (λ t. t && true) z) refl),
-      ap are_distinct (sum_is c) ∙ distinct_added ts q c.requires.distinct)
+      ap are_distinct (sum_is c) ∙ distinct_added ts q c.requires.distinct,
+    )
 
 pub returns : goal.returns
 returns c =

@@ -1,9 +1,9 @@
-use Rattle.std.proofs.Common.{◌≡◌, ◌∙◌, ◌^◌, ◌-◌, ◌+◌, arith, refl, sym, ap, ap₂, ℤ, pos, negsuc, true, ◌+ℤ◌, ◌*ℤ◌, ◌-ℤ◌, ◌&&◌}
+use Rattle.std.proofs.Common.{◌≡◌, ◌∙◌, ◌^◌, ◌+◌, arith, refl, ap, ap₂, ℤ, pos, negsuc, true, ◌+ℤ◌, ◌*ℤ◌, ◌-ℤ◌, ◌&&◌}
 use Rattle.std.proofs.lemmas.Int.{to_z-of_z, ints}
 use Rattle.std.proofs.Math.IntN.{*ℤ-zero}
 use Rattle.std.specs.Int.{w64, w128}
 use Rattle.std.specs.Int.RustNames.{FitsSigned}
-use Rattle.affine_forms.specs.Atoms.{Terms, term, none, with_term, terms_added, terms_scaled}
+use Rattle.affine_forms.specs.Atoms.{term, none, terms_added, terms_scaled}
 use Rattle.affine_forms.specs.Forms.{is_within, are_within}
 use Rattle.affine_forms.specs.TermBounds.{are_distinct}
 use Rattle.affine_forms.specs.PlainAtoms.{plain_atom}
@@ -40,10 +40,11 @@ invariant_of-result c =
     let is = c.in_ok-add.ensures ∙ ap₂ terms_added (sum ∙ ap (λ a. term c.args.by a none) c.in_ok-duplicate.ensures) c.in_ok-opposite.ensures in
     let q = term c.args.by (plain_atom c.args.quotient.now) none in
     let us = terms_scaled (negsuc 0) c.args.terms.now in
-    let short = within_scaled 1 (2 ^ 62) (2 ^ 62) (negsuc 0) c.args.terms.now (within_from_le 1 (negsuc 0) (omega (arith, ints))) c.requires.short (omega arith) in
-    (rw (to_z-of_z w64 c.args.by fb, to_z-of_z w128 c.args.by f128, to_z-of_z w128 (c.args.by -ℤ pos 1) (fits_small c.args.by fb), to_z-of_z w128 c.args.n c.ranges.n, to_z-of_z w128 ((c.args.by -ℤ pos 1) -ℤ c.args.n) (fits_all c.args.by c.args.n fb c.requires.constant)) (within c.args.by c.args.n fb c.requires.constant),
+    let short = within_scaled 1 (2 ^ 62) (2 ^ 62) (negsuc 0) c.args.terms.now (within_from_le 1 (negsuc 0) (omega (arith, ints))) c.requires.short (omega arith) in (
+      rw (to_z-of_z w64 c.args.by fb, to_z-of_z w128 c.args.by f128, to_z-of_z w128 (c.args.by -ℤ pos 1) (fits_small c.args.by fb), to_z-of_z w128 c.args.n c.ranges.n, to_z-of_z w128 ((c.args.by -ℤ pos 1) -ℤ c.args.n) (fits_all c.args.by c.args.n fb c.requires.constant)) (within c.args.by c.args.n fb c.requires.constant),
       ap (are_within (2 ^ 64)) is ∙ wider (2 ^ 63 + 2 ^ 62) (2 ^ 64) (terms_added q us) (omega arith) (within_added (2 ^ 63) (2 ^ 62) q us (ap (λ t. t && true) (within_64 c.args.by fb)) short (distinct_scaled (negsuc 0) c.args.terms.now ∙ c.requires.distinct)),
-      ap are_distinct is ∙ distinct_added q us refl)
+      ap are_distinct is ∙ distinct_added q us refl,
+    )
 
 pub returns : goal.returns
 returns c =
