@@ -6,5 +6,7 @@ pub mod SameAtoms
 pub mod Distinct
 pub mod RowConstants
 pub mod NormalForm
+pub mod Strides
+pub mod LaterExtents
 pub mod FormulaValues
 pub mod FactRules

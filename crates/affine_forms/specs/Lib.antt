@@ -13,4 +13,5 @@ pub mod PlainFormulas
 pub mod Facts
 pub mod FactCodes
 pub mod PlainFacts
+pub mod Strides
 pub mod Laws

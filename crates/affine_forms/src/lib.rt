@@ -10,6 +10,7 @@ pub mod laws;
 mod linear;
 mod place;
 mod reader;
+mod stride;
 mod sum;
 mod system;
 
@@ -21,5 +22,6 @@ pub use formula::Formula;
 pub use linear::{Draft, Linear};
 pub use place::{AtEntry, AtPlace, kind_of};
 pub use reader::{Reader, form, normal_form};
+pub use stride::{dense_stride, extent_product};
 pub use sum::{Equation, Sum};
 pub use system::{Row, System, Term, is_narrow};

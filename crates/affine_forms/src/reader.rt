@@ -50,7 +50,7 @@ fn is_literal(e: &Ctrl) -> bool
 }
 
 /// The product of two forms, by the constant of the side that is built of literals.
-fn times(alloc: Global, by_left: bool, left: &Draft, right: &Draft) -> Result<Draft, FormError>
+pub fn times(alloc: Global, by_left: bool, left: &Draft, right: &Draft) -> Result<Draft, FormError>
     ensures { Formed result (is_short_form (forms.times by_left left.now right.now)) (forms.times by_left left.now right.now) }
 {
     if by_left {

@@ -140,7 +140,7 @@ fn nested_quotients(alloc: Global) -> Result<Case, AllocError> {
     })
 }
 
-fn case(alloc: Global, k: usize) -> Result<Case, AllocError> {
+fn made_case(alloc: Global, k: usize) -> Result<Case, AllocError> {
     match k {
         0 => bounds(alloc),
         1 => quotient(alloc),
@@ -173,7 +173,7 @@ fn claims(rt: HostRuntime) -> Result<(), Fail> {
         "4; >0 0:1 1:-4; >3 0:-1 1:4; >0 1:1 2:1 3:-3; >2 1:-1 2:-1 3:3; >-1 3:-1\n",
     ];
     for k in 0..wanted.len() {
-        let case = case(rt.alloc(), k)?;
+        let case = made_case(rt.alloc(), k)?;
         let found = answer(rt.alloc(), &case.context, &case.claim)?;
         assert_eq!(rt; found.as_str(), wanted[k], "case {k}");
     }
