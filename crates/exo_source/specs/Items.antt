@@ -1,0 +1,113 @@
+-- The grammar of what stands at the top level.
+use Rattle.std.specs.Prelude.{◌≡◌, ℕ, ◌^◌, ◌<◌, ◌≤◌, List, [], ◌∷◌, ◌++◌, Option, Some, None, Bool, if◌then◌else◌, nat_lt, length}
+use Rattle.phrases.specs.Limits.{Limits, Keeps}
+use Rattle.phrases.specs.Phrase.{Phrase}
+use Rattle.phrases.specs.Sequence.{AllFit, spell_all, carried, several, many}
+use Rattle.exo_reader.specs.Expression.{Tree}
+use Rattle.exo_lexer.specs.declared.token.Literal.{Literal}
+use Rattle.exo_lexer.specs.declared.token.Literal.TheVariants.{Value, TooLarge}
+use Rattle.exo_lexer.specs.declared.token.Token.{Token}
+use Rattle.exo_lexer.specs.declared.token.Token.TheVariants.{Name, Int, Str, Sign, Word, Decorator, NewLine, Indent, Dedent}
+use Rattle.exo_lexer.specs.declared.token.Sign.TheVariants.{Open, Close, Colon, Assign}
+use Rattle.exo_lexer.specs.declared.token.Word.TheVariants as w
+use Rattle.exo_lexer.specs.declared.token.Decorator.TheVariants as d
+use Rattle.exo_source.specs.Source.{Statement, Definition, ConfigField, Setting, strings, int, yes, no, Attribute, Item, procedure, instruction, configuration, memory}
+use Rattle.exo_source.specs.Parts.{name, control, HasSome, type_name, parameters}
+use Rattle.exo_source.specs.Statements.{body, EndsBlock}
+
+-- strings one after another, as one
+abbrev pub joined : List (List ℕ) → List ℕ
+joined [] = []
+joined (piece ∷ more) = piece ++ joined more
+
+-- no string stands there
+abbrev pub NoString : Option Token → Type 0
+NoString o = (x : List ℕ) → o ≡ Some (Str x) → ⊥
+
+-- neighbouring strings of at most 1,024 bytes together
+abbrev pub neighbours : Phrase Token (List (List ℕ))
+neighbours =
+    record {
+      Fits = λ limits pieces. HasSome pieces × Keeps limits (Unit {0}) (length (joined pieces) ≤ 1024) (Unit {0});
+      spell = spell_all (carried Str);
+      Follows = NoString;
+    }
+
+-- the token of a number
+abbrev pub literal : ℕ → Literal
+literal n = if nat_lt n (2 ^ 31) then Value n else TooLarge
+
+-- the value of an attribute
+abbrev pub SettingFits : Limits → Setting → Type 0
+SettingFits limits (strings pieces) = neighbours.Fits limits pieces
+SettingFits limits (int n) = Keeps limits (Unit {0}) (Unit {0}) (n < 2 ^ 31)
+SettingFits limits yes = Unit {0}
+SettingFits limits no = Unit {0}
+
+abbrev pub spell_setting : Setting → List Token
+spell_setting (strings pieces) = neighbours.spell pieces
+spell_setting (int n) = Int (literal n) ∷ []
+spell_setting yes = Word w.True ∷ []
+spell_setting no = Word w.False ∷ []
+
+abbrev pub setting : Phrase Token Setting
+setting = record { Fits = SettingFits; spell = spell_setting; Follows = NoString }
+
+-- an attribute of a memory
+abbrev pub attribute : Phrase Token Attribute
+attribute =
+    record {
+      Fits = λ limits a. name.Fits limits a.name × setting.Fits limits a.value;
+      spell = λ a. Name a.name ∷ Sign Assign ∷ (setting.spell a.value ++ (NewLine ∷ []));
+      Follows = λ o. Unit {0};
+    }
+
+-- a field of a configuration
+abbrev pub field : Phrase Token ConfigField
+field =
+    record {
+      Fits = λ limits f. name.Fits limits f.name × type_name.Fits limits f.kind;
+      spell = λ f. Name f.name ∷ Sign Colon ∷ (type_name.spell f.kind ++ (NewLine ∷ []));
+      Follows = λ o. Unit {0};
+    }
+
+-- an assertion before the first statement
+abbrev pub assertion : Phrase Token Tree
+assertion =
+    record {
+      Fits = control.Fits;
+      spell = λ e. Word w.Assert ∷ (control.spell e ++ (NewLine ∷ []));
+      Follows = λ o. Unit {0};
+    }
+
+-- the name, the parameters, the assertions and the body
+abbrev pub definition : Phrase Token Definition
+definition =
+    record {
+      Fits = λ limits p. name.Fits limits p.name × parameters.Fits limits (p.params, p.trailing) × AllFit assertion limits p.asserts × (body 1).Fits limits p.body;
+      spell = λ p. Word w.Def ∷ Name p.name ∷ Sign Open ∷ (parameters.spell (p.params, p.trailing) ++ (Sign Close ∷ Sign Colon ∷ NewLine ∷ Indent ∷ (spell_all assertion p.asserts ++ ((body 1).spell p.body ++ (Dedent ∷ [])))));
+      Follows = λ o. Unit {0};
+    }
+
+-- the header of a class and its lines
+abbrev pub class : List ℕ → List Token → List Token
+class x lines = NewLine ∷ Word w.Class ∷ Name x ∷ Sign Colon ∷ NewLine ∷ Indent ∷ (lines ++ (Dedent ∷ []))
+
+abbrev pub ItemFits : Limits → Item → Type 0
+ItemFits limits (procedure p) = definition.Fits limits p
+ItemFits limits (instruction template p) = neighbours.Fits limits template × definition.Fits limits p
+ItemFits limits (configuration x fields) = name.Fits limits x × AllFit field limits fields × HasSome fields
+ItemFits limits (memory x attributes) = name.Fits limits x × AllFit attribute limits attributes × HasSome attributes
+
+abbrev pub spell_item : Item → List Token
+spell_item (procedure p) = Decorator d.Procedure ∷ NewLine ∷ definition.spell p
+spell_item (instruction template p) = Decorator d.Instruction ∷ Sign Open ∷ (neighbours.spell template ++ (Sign Close ∷ NewLine ∷ definition.spell p))
+spell_item (configuration x fields) = Decorator d.Configuration ∷ class x (spell_all field fields)
+spell_item (memory x attributes) = Decorator d.MemoryClass ∷ class x (spell_all attribute attributes)
+
+abbrev pub item : Phrase Token Item
+item = record { Fits = ItemFits; spell = spell_item; Follows = λ o. Unit {0} }
+
+-- a unit: any number of items, to the end of the text
+abbrev pub unit : Phrase Token (List Item)
+unit = many item (λ o. o ≡ None)

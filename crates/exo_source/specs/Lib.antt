@@ -1,0 +1,5 @@
+pub mod Source
+pub mod Parts
+pub mod Statements
+pub mod Items
+pub mod Texts
