@@ -1,5 +1,6 @@
 -- An operand of a level that is being read from the left.
 use Rattle.std.specs.Prelude.{◌≡◌, ℕ, suc, List, [], ◌∷◌, ◌++◌}
+use Rattle.phrases.specs.Limits.{Limits}
 use Rattle.phrases.specs.Phrase.{first}
 use Rattle.exo_reader.specs.Expression.{Tree, binary, level_of, Stands, spelling, operand}
 use Rattle.exo_reader.specs.declared.source.Operator.{Operator}
@@ -27,6 +28,6 @@ pub record Extends (level : ℕ) (left other : Tree) : Type 0 where
 
 -- the left tree is read, and links may come
 pub record Begun (level : ℕ) (room : Room) (tokens : List Token) (left : Tree) (rest : List Token) : Type 0 where
-  pub fits : (operand level room).Fits left
+  pub fits : (limits : Limits) → (operand level room).Fits limits left
   pub whole : tokens ≡ spelling left ++ rest
-  pub only : (other : Tree) (x y : List Token) → first rest ≡ first x → (operand level room).Fits other → (operand level room).Follows (first y) → spelling left ++ x ≡ spelling other ++ y → Extends level left other
+  pub only : (limits : Limits) (other : Tree) (x y : List Token) → first rest ≡ first x → (operand level room).Fits limits other → (operand level room).Follows (first y) → spelling left ++ x ≡ spelling other ++ y → Extends level left other

@@ -1,5 +1,7 @@
 pub mod Fixed
+pub mod Values
 pub mod Expression
+pub mod Rooms
 pub mod Chain
 pub mod Procedure
 pub mod Reserved

@@ -1,8 +1,10 @@
 -- Source trees without where they lie in memory.
 use Rattle.std.specs.Prelude.{◌≡◌, List, [], ◌∷◌, map, Bool}
-use Rattle.exo_reader.specs.Expression.{Tree, number, variable, access, negative, parens, binary, depth, nodes}
+use Rattle.exo_reader.specs.Expression.{Tree, number, truth, variable, access, field, stride, relu, select, negative, parens, binary, trees, depth, deepest, nodes}
+use Rattle.exo_lexer.specs.declared.token.Literal.TheVariants.{Value}
 use Rattle.exo_reader.specs.declared.source.SourceExpr.{SourceExpr}
-use Rattle.exo_reader.specs.declared.source.SourceExpr.TheVariants.{Int, Name, Access', Negative', Parens', Binary'}
+use Rattle.exo_reader.specs.declared.source.SourceExpr.TheOpen.{SourceExpr-F, Int, Truth, Name, Access, Field, Stride, Relu, Select, Negative, Parens, Binary}
+use Rattle.exo_reader.specs.declared.source.SourceExpr.TheFolds.{fold-SourceExpr}
 use Rattle.exo_reader.specs.Procedure.{SourceStatement, pass, assign, SourceParameter, SourceParameters, none, some, SourceProcedure}
 use Rattle.exo_reader.specs.declared.source.SourceStmt.{SourceStmt}
 use Rattle.exo_reader.specs.declared.source.SourceStmt.TheVariants.{Pass, Assign}
@@ -10,19 +12,38 @@ use Rattle.exo_reader.specs.declared.source.SourceParam.{SourceParam}
 use Rattle.exo_reader.specs.declared.source.SourceParams.{SourceParams}
 use Rattle.exo_reader.specs.declared.source.SourceProc.{SourceProc}
 use Rattle.exo_reader.specs.declared.expression.Measured.{Measured}
+use Rattle.exo_reader.specs.declared.expression.Indices.{Indices}
+
+-- an expression, with those in it in their places
+abbrev pub tree_step : SourceExpr-F Tree → Tree
+tree_step (Int n) = number (Value n)
+tree_step (Truth b) = truth b
+tree_step (Name x) = variable x
+tree_step (Access x list) = access x (trees list.items)
+tree_step (Field x f) = field x f
+tree_step (Stride x n) = stride x (Value n)
+tree_step (Relu inner) = relu inner
+tree_step (Select a b c d) = select a b c d
+tree_step (Negative inner) = negative inner
+tree_step (Parens inner) = parens inner
+tree_step (Binary operator left right) = binary operator left right
 
 abbrev pub tree_of : SourceExpr → Tree
-tree_of (Int n) = number n
-tree_of (Name x) = variable x
-tree_of (Access' x p index) = access x (tree_of index)
-tree_of (Negative' p inner) = negative (tree_of inner)
-tree_of (Parens' p inner) = parens (tree_of inner)
-tree_of (Binary' operator p left q right) = binary operator (tree_of left) (tree_of right)
+tree_of = fold-SourceExpr Tree tree_step
 
 -- the depth and the number of nodes are right
 pub record IsMeasured (m : Measured) : Type 0 where
   pub depth : m.depth ≡ depth (tree_of m.tree)
   pub nodes : m.nodes ≡ nodes (tree_of m.tree)
+
+-- the depth of the deepest index is right
+pub record AreMeasured (l : Indices) : Type 0 where
+  pub depth : l.depth ≡ deepest (trees (map tree_of l.items.items))
+
+-- an expression without parts
+pub record IsLeaf (t : Tree) : Type 0 where
+  pub depth : depth t ≡ 1
+  pub nodes : nodes t ≡ 1
 
 abbrev pub statement_of : SourceStmt → SourceStatement
 statement_of Pass = pass

@@ -1,14 +1,16 @@
 // Reading expressions from the front of a list of tokens.
 
-ghost use Rattle.std.specs.Prelude.{◌≡◌, ◌≢◌, ◌≤◌, ◌<◌, ◌+◌, ◌^◌, ◌⊎◌, Some, [], ◌∷◌, ℕ, List, length, IfOk, MatchResult, MatchOption};
+ghost use Rattle.std.specs.Prelude.{◌≡◌, ◌≢◌, ◌≤◌, ◌<◌, ◌+◌, ◌-◌, ◌⊎◌, Some, [], ◌∷◌, ℕ, List, length, map, IfOk, MatchResult, MatchOption};
 ghost use Rattle.phrases.specs.Phrase.{first, Taken, Refused};
 ghost use Rattle.phrases.specs.Answers.{Reads};
-ghost use Rattle.exo_reader.specs.Expression.{Tree, operand, negative, parens, access, binary, HasPlace, level_of, joins, joins_by_sign, joins_by_word, sign, NoSign};
-ghost use Rattle.exo_reader.specs.Views.{tree_of, IsMeasured};
+ghost use Rattle.exo_reader.specs.Values.{IsShortName};
+ghost use Rattle.exo_reader.specs.Expression.{Tree, operand, relu, select, negative, parens, access, binary, trees, HasPlace, level_of, joins, joins_by_sign, joins_by_word, sign, NoSign, under, control, datum, indices, most_depth};
+ghost use Rattle.exo_reader.specs.Views.{tree_of, IsMeasured, AreMeasured, IsLeaf};
 ghost use Rattle.exo_reader.specs.Chain.{Begun};
+ghost use Rattle.exo_reader.specs.Rooms.{IsFull, Right};
 ghost use Rattle.exo_lexer.specs.declared.token.Token.{Token};
 
-use crate::front::{Fixed, behind, expect};
+use crate::front::{Fixed, behind, expect_all, is_short, read_literal, read_name};
 use crate::source::{Operator, SourceExpr};
 use exo_lexer::text::Text;
 use exo_lexer::token::{Literal, Sign, Token, Word, next};
@@ -45,37 +47,33 @@ impl Operator {
     }
 }
 
-impl Sign {
-    /// The operator that the sign is between two expressions.
-    fn operator(self) -> Option<Operator>
-        ensures { result ≡ joins_by_sign self }
-    {
-        match self {
-            Sign::Less => Some(Operator::Lt),
-            Sign::LessEqual => Some(Operator::Le),
-            Sign::Greater => Some(Operator::Gt),
-            Sign::GreaterEqual => Some(Operator::Ge),
-            Sign::Equal => Some(Operator::Eq),
-            Sign::Plus => Some(Operator::Add),
-            Sign::Minus => Some(Operator::Sub),
-            Sign::Times => Some(Operator::Mul),
-            Sign::Divide => Some(Operator::Div),
-            Sign::Modulo => Some(Operator::Mod),
-            _ => None,
-        }
+/// The operator that the sign is between two expressions.
+fn sign_operator(sign: Sign) -> Option<Operator>
+    ensures { result ≡ joins_by_sign sign }
+{
+    match sign {
+        Sign::Less => Some(Operator::Lt),
+        Sign::LessEqual => Some(Operator::Le),
+        Sign::Greater => Some(Operator::Gt),
+        Sign::GreaterEqual => Some(Operator::Ge),
+        Sign::Equal => Some(Operator::Eq),
+        Sign::Plus => Some(Operator::Add),
+        Sign::Minus => Some(Operator::Sub),
+        Sign::Times => Some(Operator::Mul),
+        Sign::Divide => Some(Operator::Div),
+        Sign::Modulo => Some(Operator::Mod),
+        _ => None,
     }
 }
 
-impl Word {
-    /// The operator that the word is between two expressions.
-    fn operator(self) -> Option<Operator>
-        ensures { result ≡ joins_by_word self }
-    {
-        match self {
-            Word::Or => Some(Operator::Or),
-            Word::And => Some(Operator::And),
-            _ => None,
-        }
+/// The operator that the word is between two expressions.
+fn word_operator(word: Word) -> Option<Operator>
+    ensures { result ≡ joins_by_word word }
+{
+    match word {
+        Word::Or => Some(Operator::Or),
+        Word::And => Some(Operator::And),
+        _ => None,
     }
 }
 
@@ -84,8 +82,8 @@ fn operator_of(token: &Token) -> Option<Operator>
     ensures { result ≡ joins token.now }
 {
     match token {
-        Token::Sign(sign) => sign.operator(),
-        Token::Word(word) => word.operator(),
+        Token::Sign(sign) => sign_operator(*sign),
+        Token::Word(word) => word_operator(*word),
         _ => None,
     }
 }
@@ -101,22 +99,73 @@ fn operator_at(tokens: &[Token], level: u8) -> Option<(Operator, &[Token])>
     }
 }
 
+/// The greatest depth of an expression.
+pub const DEPTH: u32 = 64;
+
 /// The most nodes of an index, a bound or another control expression.
 pub const CONTROL_NODES: u32 = 256;
 
-/// The room for the right side of an operator, if there is any.
-fn right_room(left: &Measured, room: Room) -> Option<Room>
+/// The most nodes of what is stored in a cell.
+pub const DATA_NODES: u32 = 1024;
+
+/// The most indices of a cell, and the most dimensions.
+pub const DIMENSIONS: usize = 8;
+
+impl Room {
+    /// The room one level below, where so many nodes are taken.
+    fn under(self, taken: u32) -> Room
+        requires deep { 1 ≤ self.depth }
+        requires long { taken ≤ self.nodes }
+        ensures { result ≡ under taken self }
+    {
+        Room {
+            depth: self.depth - 1,
+            nodes: self.nodes - taken,
+        }
+    }
+
+    /// The room below a token with which so many tokens are left: beside a part so deep, and where so many nodes are
+    /// taken. Else the limit that the token passes.
+    fn below(self, beside: u32, taken: u32, left: usize) -> Result<Room, Refusal>
+        requires { 1 ≤ beside }
+        ensures { MatchResult result (λ inner. (inner ≡ under taken self) × (beside < self.depth) × (taken < self.nodes)) (λ e. IsFull self beside taken left e) }
+    {
+        if self.depth <= beside {
+            return Err(Refusal::TooDeep(left));
+        }
+        if self.nodes <= taken {
+            return Err(Refusal::TooLong(left));
+        }
+        Ok(self.under(taken))
+    }
+}
+
+/// An expression that is one token or a few.
+fn leaf(tree: SourceExpr) -> Measured
+    requires { IsLeaf (tree_of tree) }
+    ensures same { tree_of result.tree ≡ tree_of tree }
+    ensures measured { IsMeasured result }
+{
+    Measured {
+        tree,
+        depth: 1,
+        nodes: 1,
+    }
+}
+
+/// The room for the right side of an operator with which so many tokens are left. Else the limit that it passes.
+fn right_room(left: &Measured, room: Room, remaining: usize) -> Result<Room, Refusal>
     requires place { HasPlace room }
     requires measured { IsMeasured left.now }
-    ensures { MatchOption result ((room.depth ≤ left.now.depth) ⊎ (room.nodes ≤ left.now.nodes + 1)) (λ inner. (inner.depth + 1 ≡ room.depth) × (inner.nodes + left.now.nodes + 1 ≡ room.nodes) × (left.now.depth < room.depth) × HasPlace inner) }
+    ensures { MatchResult result (λ inner. Right room inner (tree_of left.now.tree)) (λ e. IsFull room left.now.depth (left.now.nodes + 1) remaining e) }
 {
-    if room.depth <= left.depth || room.nodes - 1 <= left.nodes {
-        return None;
+    if room.depth <= left.depth {
+        return Err(Refusal::TooDeep(remaining));
     }
-    Some(Room {
-        depth: room.depth - 1,
-        nodes: room.nodes - 1 - left.nodes,
-    })
+    if room.nodes - 1 <= left.nodes {
+        return Err(Refusal::TooLong(remaining));
+    }
+    Ok(room.under(left.nodes + 1))
 }
 
 /// Two sides with their operator.
@@ -156,6 +205,45 @@ fn negated(alloc: Global, inner: Measured) -> Result<Measured, AllocError>
     })
 }
 
+/// What is not below 0 of an expression.
+fn rectified(alloc: Global, inner: Measured) -> Result<Measured, AllocError>
+    requires measured { IsMeasured inner }
+    requires shallow { inner.depth < 4294967295 }
+    requires few { inner.nodes < 4294967295 }
+    ensures { IfOk result (λ m. (tree_of m.tree ≡ relu (tree_of inner.tree)) × IsMeasured m) }
+{
+    let tree = SourceExpr::Relu(Box::new(alloc, inner.tree)?);
+    Ok(Measured {
+        tree,
+        depth: inner.depth + 1,
+        nodes: inner.nodes + 1,
+    })
+}
+
+/// A choice among expressions.
+fn selected(
+    alloc: Global,
+    a: Measured,
+    b: Measured,
+    c: Measured,
+    d: Measured,
+) -> Result<Measured, AllocError>
+    requires measured { IsMeasured a × IsMeasured b × IsMeasured c × IsMeasured d }
+    requires shallow { (a.depth < 4294967295) × (b.depth < 4294967295) × (c.depth < 4294967295) × (d.depth < 4294967295) }
+    requires few { a.nodes + b.nodes + c.nodes + d.nodes < 4294967295 }
+    ensures { IfOk result (λ m. (tree_of m.tree ≡ select (tree_of a.tree) (tree_of b.tree) (tree_of c.tree) (tree_of d.tree)) × IsMeasured m) }
+{
+    let depth = a.depth.max(b.depth).max(c.depth.max(d.depth)) + 1;
+    let nodes = a.nodes + b.nodes + c.nodes + d.nodes + 1;
+    let tree = SourceExpr::Select(
+        Box::new(alloc, a.tree)?,
+        Box::new(alloc, b.tree)?,
+        Box::new(alloc, c.tree)?,
+        Box::new(alloc, d.tree)?,
+    );
+    Ok(Measured { tree, depth, nodes })
+}
+
 /// An expression in parentheses.
 fn enclosed(alloc: Global, inner: Measured) -> Result<Measured, AllocError>
     requires measured { IsMeasured inner }
@@ -170,19 +258,25 @@ fn enclosed(alloc: Global, inner: Measured) -> Result<Measured, AllocError>
     })
 }
 
+/// Indices with the depth of the deepest one.
+#[derive(Drop)]
+pub struct Indices {
+    pub items: Vec<SourceExpr>,
+    pub depth: u32,
+}
+
 /// A cell of a name.
-fn accessed(alloc: Global, name: &Text, index: Measured) -> Result<Measured, AllocError>
-    requires measured { IsMeasured index }
-    requires shallow { index.depth < 4294967295 }
-    ensures { IfOk result (λ m. (tree_of m.tree ≡ access name.now (tree_of index.tree)) × IsMeasured m) }
+fn accessed(name: Text, indices: Indices) -> Measured
+    requires measured { AreMeasured indices }
+    requires shallow { indices.depth < 4294967295 }
+    ensures same { tree_of result.tree ≡ access name (trees (map tree_of indices.items.items)) }
+    ensures measured { IsMeasured result }
 {
-    let name = name.clone()?;
-    let tree = SourceExpr::Access(name, Box::new(alloc, index.tree)?);
-    Ok(Measured {
-        tree,
-        depth: index.depth + 1,
+    Measured {
+        tree: SourceExpr::Access(name, indices.items),
+        depth: indices.depth + 1,
         nodes: 1,
-    })
+    }
 }
 
 /// An operand of a level, within the room: level 0 is a whole expression.
@@ -246,9 +340,7 @@ fn read_comparison(
     let Some((operator, after)) = operator_at(rest, 2) else {
         return Ok((left, rest));
     };
-    let Some(inner) = right_room(&left, room) else {
-        return Err(Refusal::Syntax(rest.len()));
-    };
+    let inner = right_room(&left, room, rest.len())?;
     let (right, behind) = read_operand(alloc, after, 3, inner)?;
     let both = joined(alloc, left, operator, right)?;
     Ok((both, behind))
@@ -274,9 +366,7 @@ fn read_chain(
     let mut left = leftmost;
     let mut rest = tail;
     while let Some((operator, after)) = operator_at(rest, level) {
-        let Some(inner) = right_room(&left, room) else {
-            return Err(Refusal::Syntax(rest.len()));
-        };
+        let inner = right_room(&left, room, rest.len())?;
         let (right, behind) = read_operand(alloc, after, level + 1, inner)?;
         let longer = joined(alloc, left, operator, right)?;
         left = longer;
@@ -292,24 +382,20 @@ fn read_unary(alloc: Global, tokens: &[Token], room: Room) -> Result<(Measured, 
     ensures measured { IfOk result (λ x. IsMeasured x.0) }
     ensures reads { Reads (operand 5 room) tokens.now (λ x. tree_of x.0.tree) (λ x. x.1.now) result }
 {
-    if let Some(rest) = behind(tokens, Fixed::Sign(Sign::Minus)) {
-        return read_negative(alloc, tokens, rest, room);
-    }
-    if let Some(rest) = behind(tokens, Fixed::Sign(Sign::Open)) {
-        return read_parens(alloc, tokens, rest, room);
-    }
     let Some((token, rest)) = next(tokens) else {
         return Err(Refusal::Syntax(0));
     };
     match token {
-        Token::Int(literal) => read_literal(tokens, *literal, rest, room),
-        Token::Name(name) => read_access(alloc, name, rest, room),
+        Token::Int(literal) => read_number(tokens, *literal, rest, room),
+        Token::Name(name) => read_named(alloc, tokens, name, rest, room),
+        Token::Word(word) => read_word(alloc, tokens, *word, rest, room),
+        Token::Sign(sign) => read_signed(alloc, tokens, *sign, rest, room),
         _ => Err(Refusal::Syntax(tokens.len())),
     }
 }
 
 /// A literal that stands first.
-fn read_literal<'a>(
+fn read_number<'a>(
     tokens: &[Token],
     literal: Literal,
     rest: &'a [Token],
@@ -321,15 +407,116 @@ fn read_literal<'a>(
     ensures reads { Reads (operand 5 room) tokens.now (λ x. tree_of x.0.tree) (λ x. x.1.now) result }
 {
     match literal {
-        Literal::Value(value) => {
-            let leaf = Measured {
-                tree: SourceExpr::Int(value),
-                depth: 1,
-                nodes: 1,
-            };
-            Ok((leaf, rest))
-        }
-        Literal::TooLarge => Err(Refusal::Syntax(tokens.len())),
+        Literal::Value(value) => Ok((leaf(SourceExpr::Int(value)), rest)),
+        Literal::TooLarge => Err(Refusal::TooLarge(tokens.len())),
+    }
+}
+
+/// An operand that begins with a word.
+#[cycle(expressions)]
+fn read_word<'a>(
+    alloc: Global,
+    tokens: &[Token],
+    word: Word,
+    rest: &'a [Token],
+    room: Room,
+) -> Result<(Measured, &'a [Token]), Refusal>
+    requires place { HasPlace room }
+    requires front { tokens.now ≡ Token.Word word ∷ rest.now }
+    ensures measured { IfOk result (λ x. IsMeasured x.0) }
+    ensures reads { Reads (operand 5 room) tokens.now (λ x. tree_of x.0.tree) (λ x. x.1.now) result }
+{
+    match word {
+        Word::True => Ok((leaf(SourceExpr::Truth(true)), rest)),
+        Word::False => Ok((leaf(SourceExpr::Truth(false)), rest)),
+        Word::Stride => read_stride(rest, room),
+        Word::Relu => read_relu(alloc, tokens, rest, room),
+        Word::Select => read_select(alloc, tokens, rest, room),
+        _ => Err(Refusal::Syntax(tokens.len())),
+    }
+}
+
+/// What comes behind `stride`.
+fn read_stride(rest: &[Token], room: Room) -> Result<(Measured, &[Token]), Refusal>
+    requires place { HasPlace room }
+    ensures measured { IfOk result (λ x. IsMeasured x.0) }
+    ensures reads { Reads (operand 5 room) (Token.Word Word.Stride ∷ rest.now) (λ x. tree_of x.0.tree) (λ x. x.1.now) result }
+{
+    let rest = expect_all(rest, &[Fixed::Sign(Sign::Open)])?;
+    let (name, rest) = read_name(rest)?;
+    let rest = expect_all(rest, &[Fixed::Sign(Sign::Comma)])?;
+    let (dimension, rest) = read_literal(rest)?;
+    let rest = expect_all(rest, &[Fixed::Sign(Sign::Close)])?;
+    Ok((leaf(SourceExpr::Stride(name, dimension)), rest))
+}
+
+/// What comes behind `relu`.
+#[cycle(expressions)]
+fn read_relu<'a>(
+    alloc: Global,
+    tokens: &[Token],
+    rest: &'a [Token],
+    room: Room,
+) -> Result<(Measured, &'a [Token]), Refusal>
+    requires place { HasPlace room }
+    requires front { tokens.now ≡ Token.Word Word.Relu ∷ rest.now }
+    ensures measured { IfOk result (λ x. IsMeasured x.0) }
+    ensures reads { Reads (operand 5 room) tokens.now (λ x. tree_of x.0.tree) (λ x. x.1.now) result }
+{
+    let inside = room.below(1, 1, tokens.len())?;
+    let rest = expect_all(rest, &[Fixed::Sign(Sign::Open)])?;
+    let (inner, rest) = read_operand(alloc, rest, 0, inside)?;
+    let rest = expect_all(rest, &[Fixed::Sign(Sign::Close)])?;
+    let relu = rectified(alloc, inner)?;
+    Ok((relu, rest))
+}
+
+/// What comes behind `select`. Each argument leaves a node for each one behind it.
+#[cycle(expressions)]
+fn read_select<'a>(
+    alloc: Global,
+    tokens: &[Token],
+    rest: &'a [Token],
+    room: Room,
+) -> Result<(Measured, &'a [Token]), Refusal>
+    requires place { HasPlace room }
+    requires front { tokens.now ≡ Token.Word Word.Select ∷ rest.now }
+    ensures measured { IfOk result (λ x. IsMeasured x.0) }
+    ensures reads { Reads (operand 5 room) tokens.now (λ x. tree_of x.0.tree) (λ x. x.1.now) result }
+{
+    let comma = [Fixed::Sign(Sign::Comma)];
+    let inside = room.below(1, 4, tokens.len())?;
+    let rest = expect_all(rest, &[Fixed::Sign(Sign::Open)])?;
+    let (a, rest) = read_operand(alloc, rest, 0, inside)?;
+    let rest = expect_all(rest, &comma)?;
+    let (b, rest) = read_operand(alloc, rest, 0, room.under(a.nodes + 3))?;
+    let rest = expect_all(rest, &comma)?;
+    let (c, rest) = read_operand(alloc, rest, 0, room.under(a.nodes + b.nodes + 2))?;
+    let rest = expect_all(rest, &comma)?;
+    let (d, rest) = read_operand(alloc, rest, 0, room.under(a.nodes + b.nodes + c.nodes + 1))?;
+    let rest = expect_all(rest, &[Fixed::Sign(Sign::Close)])?;
+    let select = selected(alloc, a, b, c, d)?;
+    Ok((select, rest))
+}
+
+/// An operand that begins with a sign.
+#[cycle(expressions)]
+fn read_signed<'a>(
+    alloc: Global,
+    tokens: &[Token],
+    sign: Sign,
+    rest: &'a [Token],
+    room: Room,
+) -> Result<(Measured, &'a [Token]), Refusal>
+    requires place { HasPlace room }
+    requires front { tokens.now ≡ Token.Sign sign ∷ rest.now }
+    ensures measured { IfOk result (λ x. IsMeasured x.0) }
+    ensures reads { Reads (operand 5 room) tokens.now (λ x. tree_of x.0.tree) (λ x. x.1.now) result }
+{
+    match sign {
+        Sign::Minus => read_negative(alloc, tokens, rest, room),
+        Sign::Open => read_parens(alloc, tokens, rest, room),
+        _ => Err(Refusal::Syntax(tokens.len())),
     }
 }
 
@@ -346,14 +533,8 @@ fn read_negative<'a>(
     ensures measured { IfOk result (λ x. IsMeasured x.0) }
     ensures reads { Reads (operand 5 room) tokens.now (λ x. tree_of x.0.tree) (λ x. x.1.now) result }
 {
-    if room.depth <= 1 || room.nodes <= 1 {
-        return Err(Refusal::Syntax(tokens.len()));
-    }
-    let under = Room {
-        depth: room.depth - 1,
-        nodes: room.nodes - 1,
-    };
-    let (inner, rest) = read_unary(alloc, rest, under)?;
+    let inside = room.below(1, 1, tokens.len())?;
+    let (inner, rest) = read_unary(alloc, rest, inside)?;
     let negative = negated(alloc, inner)?;
     Ok((negative, rest))
 }
@@ -371,48 +552,139 @@ fn read_parens<'a>(
     ensures measured { IfOk result (λ x. IsMeasured x.0) }
     ensures reads { Reads (operand 5 room) tokens.now (λ x. tree_of x.0.tree) (λ x. x.1.now) result }
 {
-    if room.depth <= 1 {
-        return Err(Refusal::Syntax(tokens.len()));
-    }
-    let deeper = Room {
-        depth: room.depth - 1,
-        nodes: room.nodes,
-    };
-    let (inner, rest) = read_operand(alloc, rest, 0, deeper)?;
-    let rest = expect(rest, Fixed::Sign(Sign::Close))?;
+    let inside = room.below(1, 0, tokens.len())?;
+    let (inner, rest) = read_operand(alloc, rest, 0, inside)?;
+    let rest = expect_all(rest, &[Fixed::Sign(Sign::Close)])?;
     let parens = enclosed(alloc, inner)?;
     Ok((parens, rest))
 }
 
-/// What comes behind a name in an expression.
+/// An operand that begins with a name.
 #[cycle(expressions)]
-fn read_access<'a>(
+fn read_named<'a>(
     alloc: Global,
+    tokens: &[Token],
     name: &Text,
     rest: &'a [Token],
     room: Room,
 ) -> Result<(Measured, &'a [Token]), Refusal>
     requires place { HasPlace room }
+    requires front { tokens.now ≡ Token.Name name.now ∷ rest.now }
     ensures measured { IfOk result (λ x. IsMeasured x.0) }
-    ensures reads { Reads (operand 5 room) (Token.Name name.now ∷ rest.now) (λ x. tree_of x.0.tree) (λ x. x.1.now) result }
+    ensures reads { Reads (operand 5 room) tokens.now (λ x. tree_of x.0.tree) (λ x. x.1.now) result }
 {
-    let Some(inside) = behind(rest, Fixed::Sign(Sign::OpenBracket)) else {
-        let leaf = Measured {
-            tree: SourceExpr::Name(name.clone()?),
-            depth: 1,
-            nodes: 1,
-        };
-        return Ok((leaf, rest));
-    };
-    if room.depth <= 1 {
-        return Err(Refusal::Syntax(rest.len()));
+    if !is_short(name) {
+        return Err(Refusal::TooLong(tokens.len()));
     }
-    let inner = Room {
-        depth: room.depth - 1,
+    let copy = name.clone()?;
+    if let Some(after) = behind(rest, Fixed::Sign(Sign::Dot)) {
+        return read_field(copy, after, room);
+    }
+    if let Some(after) = behind(rest, Fixed::Sign(Sign::OpenBracket)) {
+        return read_access(alloc, copy, rest, after, room);
+    }
+    Ok((leaf(SourceExpr::Name(copy)), rest))
+}
+
+/// What comes behind the dot of a field.
+fn read_field(name: Text, rest: &[Token], room: Room) -> Result<(Measured, &[Token]), Refusal>
+    requires place { HasPlace room }
+    requires short { IsShortName name }
+    ensures measured { IfOk result (λ x. IsMeasured x.0) }
+    ensures reads { Reads (operand 5 room) (Token.Name name ∷ Token.Sign Sign.Dot ∷ rest.now) (λ x. tree_of x.0.tree) (λ x. x.1.now) result }
+{
+    let (field, rest) = read_name(rest)?;
+    Ok((leaf(SourceExpr::Field(name, field)), rest))
+}
+
+/// What comes behind the name of a cell and its bracket.
+#[cycle(expressions)]
+fn read_access<'a>(
+    alloc: Global,
+    name: Text,
+    tokens: &[Token],
+    rest: &'a [Token],
+    room: Room,
+) -> Result<(Measured, &'a [Token]), Refusal>
+    requires place { HasPlace room }
+    requires short { IsShortName name }
+    requires front { tokens.now ≡ Token.Sign Sign.OpenBracket ∷ rest.now }
+    ensures measured { IfOk result (λ x. IsMeasured x.0) }
+    ensures reads { Reads (operand 5 room) (Token.Name name ∷ tokens.now) (λ x. tree_of x.0.tree) (λ x. x.1.now) result }
+{
+    let inside = room.below(1, 0, tokens.len())?;
+    let (indices, rest) = read_indices(alloc, rest, inside.depth)?;
+    let rest = expect_all(rest, &[Fixed::Sign(Sign::CloseBracket)])?;
+    Ok((accessed(name, indices), rest))
+}
+
+/// The indices before a bracket, at most so deep and at most 8.
+#[cycle(expressions)]
+pub fn read_indices(
+    alloc: Global,
+    tokens: &[Token],
+    depth: u32,
+) -> Result<(Indices, &[Token]), Refusal>
+    requires place { 1 ≤ depth }
+    ensures measured { IfOk result (λ x. AreMeasured x.0) }
+    ensures reads { Reads (indices depth) tokens.now (λ x. map tree_of x.0.items.items) (λ x. x.1.now) result }
+{
+    let room = Room {
+        depth,
         nodes: CONTROL_NODES,
     };
-    let (index, rest) = read_operand(alloc, inside, 0, inner)?;
-    let rest = expect(rest, Fixed::Sign(Sign::CloseBracket))?;
-    let cell = accessed(alloc, name, index)?;
-    Ok((cell, rest))
+    let mut items = Vec::new(alloc);
+    let (first, behind_first) = read_operand(alloc, tokens, 0, room)?;
+    let mut deepest = first.depth;
+    let mut rest = behind_first;
+    items.push(first.tree)?;
+    'more: while let Some(after) = behind(rest, Fixed::Sign(Sign::Comma)) {
+        if items.len() >= DIMENSIONS {
+            return Err(Refusal::TooLong(rest.len()));
+        }
+        let (index, found) = read_operand(alloc, after, 0, room)?;
+        deepest = deepest.max(index.depth);
+        items.push(index.tree)?;
+        rest = found;
+    }
+    let indices = Indices {
+        items,
+        depth: deepest,
+    };
+    Ok((indices, rest))
+}
+
+/// An index, a bound, a dimension or a condition.
+pub fn read_control(alloc: Global, tokens: &[Token]) -> Result<(SourceExpr, &[Token]), Refusal>
+    ensures { Reads control tokens.now (λ x. tree_of x.0) (λ x. x.1.now) result }
+{
+    let room = Room {
+        depth: DEPTH,
+        nodes: CONTROL_NODES,
+    };
+    let (value, rest) = read_operand(alloc, tokens, 0, room)?;
+    Ok((value.tree, rest))
+}
+
+/// What is stored in a cell.
+pub fn read_data(alloc: Global, tokens: &[Token]) -> Result<(SourceExpr, &[Token]), Refusal>
+    ensures { Reads datum tokens.now (λ x. tree_of x.0) (λ x. x.1.now) result }
+{
+    let room = Room {
+        depth: DEPTH,
+        nodes: DATA_NODES,
+    };
+    let (value, rest) = read_operand(alloc, tokens, 0, room)?;
+    Ok((value.tree, rest))
+}
+
+/// The dimensions, or the indices of a cell, before a bracket.
+pub fn read_dimensions(
+    alloc: Global,
+    tokens: &[Token],
+) -> Result<(Vec<SourceExpr>, &[Token]), Refusal>
+    ensures { Reads (indices most_depth) tokens.now (λ x. map tree_of x.0.items) (λ x. x.1.now) result }
+{
+    let (dimensions, rest) = read_indices(alloc, tokens, DEPTH)?;
+    Ok((dimensions.items, rest))
 }

@@ -7,9 +7,9 @@ ghost use Rattle.exo_reader.specs.Views.{procedure_of};
 ghost use Rattle.exo_reader.specs.FirstText.{ReadsFirst, tokens_of, first_error};
 
 use crate::first::{FirstError, first_program};
-use exo_lexer::lexer::lex;
 use crate::procedure::read_procedure;
 use crate::source::SourceProc;
+use exo_lexer::lexer::lex;
 use exo_lexer::token::{Token, next};
 use exo_tree::Unit;
 use phrases::Refusal;

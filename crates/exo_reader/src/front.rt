@@ -4,12 +4,13 @@ ghost use Rattle.std.specs.Prelude.{◌≡◌, ◌∷◌, Some, IsTrue, ◌↔�
 ghost use Rattle.phrases.specs.Phrase.{first};
 ghost use Rattle.phrases.specs.Sequence.{exactly};
 ghost use Rattle.phrases.specs.Answers.{Reads};
-ghost use Rattle.exo_lexer.specs.Token.{a_name};
+ghost use Rattle.exo_reader.specs.Values.{IsShortName, name, literal};
 ghost use Rattle.exo_reader.specs.Fixed.{token_of};
 ghost use Rattle.exo_lexer.specs.declared.token.Token.{Token};
+ghost use Rattle.exo_lexer.specs.declared.token.Literal.{Literal};
 
 use exo_lexer::text::Text;
-use exo_lexer::token::{Decorator, Sign, Token, Word, next};
+use exo_lexer::token::{Decorator, Literal, Sign, Token, Word, next};
 use phrases::Refusal;
 
 /// A token that carries neither a name nor a number nor a string.
@@ -55,5 +56,68 @@ pub fn expect(tokens: &[Token], fixed: Fixed) -> Result<&[Token], Refusal>
     match behind(tokens, fixed) {
         Some(rest) => Ok(rest),
         None => Err(Refusal::Syntax(tokens.len())),
+    }
+}
+
+/// The tokens behind these ones.
+pub fn expect_all<'a>(tokens: &'a [Token], words: &[Fixed]) -> Result<&'a [Token], Refusal>
+    ensures { Reads (exactly (map token_of words.now)) tokens.now (λ _. tt) (λ x. x.now) result }
+{
+    let mut rest = tokens;
+    for word in words {
+        rest = expect(rest, *word)?;
+    }
+    Ok(rest)
+}
+
+/// Whether this token stands first.
+pub fn stands_first(tokens: &[Token], fixed: Fixed) -> bool
+    ensures { IsTrue result ↔ first tokens.now ≡ Some (token_of fixed) }
+{
+    behind(tokens, fixed).is_some()
+}
+
+/// The most bytes of a name.
+pub const NAME_BYTES: usize = 63;
+
+/// Whether a name has at most 63 bytes.
+pub fn is_short(name: &Text) -> bool
+    ensures { IsTrue result ↔ IsShortName name.now }
+{
+    name.as_slice().len() <= NAME_BYTES
+}
+
+/// The name that stands first, of at most 63 bytes.
+pub fn read_name(tokens: &[Token]) -> Result<(Text, &[Token]), Refusal>
+    ensures { Reads name tokens.now (λ x. x.0) (λ x. x.1.now) result }
+{
+    let Some((token, rest)) = next(tokens) else {
+        return Err(Refusal::Syntax(0));
+    };
+    match token {
+        Token::Name(found) => {
+            if !is_short(found) {
+                return Err(Refusal::TooLong(tokens.len()));
+            }
+            let copy = found.clone()?;
+            Ok((copy, rest))
+        }
+        _ => Err(Refusal::Syntax(tokens.len())),
+    }
+}
+
+/// The literal that stands first, below 2^31.
+pub fn read_literal(tokens: &[Token]) -> Result<(u32, &[Token]), Refusal>
+    ensures { Reads literal tokens.now (λ x. Literal.Value x.0) (λ x. x.1.now) result }
+{
+    let Some((token, rest)) = next(tokens) else {
+        return Err(Refusal::Syntax(0));
+    };
+    match token {
+        Token::Int(found) => match found {
+            Literal::Value(value) => Ok((*value, rest)),
+            Literal::TooLarge => Err(Refusal::TooLarge(tokens.len())),
+        },
+        _ => Err(Refusal::Syntax(tokens.len())),
     }
 }

@@ -11,77 +11,13 @@ ghost use Rattle.exo_reader.specs.Procedure.{control_room, data_room, statement,
 ghost use Rattle.exo_reader.specs.Views.{tree_of, statement_of, parameter_of, parameters_of, procedure_of};
 ghost use Rattle.exo_lexer.specs.declared.token.Token.{Token};
 
-use crate::expression::{CONTROL_NODES, Room, read_operand};
-use crate::front::{Fixed, behind, expect};
+use crate::expression::{read_control, read_data};
+use crate::front::{Fixed, behind, expect_all, read_name, stands_first};
 use crate::source::{SourceExpr, SourceParam, SourceParams, SourceProc, SourceStmt};
 use exo_lexer::text::Text;
 use exo_lexer::token::{Decorator, Sign, Token, Word, next};
 use phrases::Refusal;
 use std::alloc::Global;
-
-/// The greatest depth of an expression.
-pub const DEPTH: u32 = 64;
-
-/// The most nodes of what is stored in a cell.
-pub const DATA_NODES: u32 = 1024;
-
-/// The tokens behind these ones.
-pub fn expect_all<'a>(tokens: &'a [Token], words: &[Fixed]) -> Result<&'a [Token], Refusal>
-    ensures { Reads (exactly (map token_of words.now)) tokens.now (λ _. tt) (λ x. x.now) result }
-{
-    let mut rest = tokens;
-    for word in words {
-        rest = expect(rest, *word)?;
-    }
-    Ok(rest)
-}
-
-/// The name that stands first.
-pub fn read_name(tokens: &[Token]) -> Result<(Text, &[Token]), Refusal>
-    ensures { Reads a_name tokens.now (λ x. x.0) (λ x. x.1.now) result }
-{
-    let Some((token, rest)) = next(tokens) else {
-        return Err(Refusal::Syntax(0));
-    };
-    match token {
-        Token::Name(name) => {
-            let copy = name.clone()?;
-            Ok((copy, rest))
-        }
-        _ => Err(Refusal::Syntax(tokens.len())),
-    }
-}
-
-/// Whether this token stands first.
-pub fn stands_first(tokens: &[Token], fixed: Fixed) -> bool
-    ensures { IsTrue result ↔ first tokens.now ≡ Some (token_of fixed) }
-{
-    behind(tokens, fixed).is_some()
-}
-
-/// An index, a bound, a dimension or a condition.
-pub fn read_control(alloc: Global, tokens: &[Token]) -> Result<(SourceExpr, &[Token]), Refusal>
-    ensures { Reads (operand 0 control_room) tokens.now (λ x. tree_of x.0) (λ x. x.1.now) result }
-{
-    let room = Room {
-        depth: DEPTH,
-        nodes: CONTROL_NODES,
-    };
-    let (value, rest) = read_operand(alloc, tokens, 0, room)?;
-    Ok((value.tree, rest))
-}
-
-/// What is stored in a cell.
-pub fn read_data(alloc: Global, tokens: &[Token]) -> Result<(SourceExpr, &[Token]), Refusal>
-    ensures { Reads (operand 0 data_room) tokens.now (λ x. tree_of x.0) (λ x. x.1.now) result }
-{
-    let room = Room {
-        depth: DEPTH,
-        nodes: DATA_NODES,
-    };
-    let (value, rest) = read_operand(alloc, tokens, 0, room)?;
-    Ok((value.tree, rest))
-}
 
 /// What comes behind `pass`.
 fn read_pass(rest: &[Token]) -> Result<(SourceStmt, &[Token]), Refusal>

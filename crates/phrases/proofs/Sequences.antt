@@ -1,9 +1,9 @@
 -- Phrases made of phrases, read from the left.
 use Rattle.std.proofs.Common.{◌≡◌, ℕ, List, [], ◌∷◌, ◌++◌, Option, Some, None, length, refl, sym, ap, ◌∙◌, append_assoc, subst}
 use Rattle.std.proofs.lemmas.List.{append_cancel_left, append-nil}
-use Rattle.phrases.specs.Limits.{Limits, in_depth, in_length, Cause, passed, syntax, too_long, Keeps}
+use Rattle.phrases.specs.Limits.{Limits, in_depth, in_length, Cause, passed, syntax, too_long, too_large, Keeps}
 use Rattle.phrases.specs.Phrase.{first, Phrase, Taken, Begins, GoesOn, Goes, Refused}
-use Rattle.phrases.specs.Sequence.{exactly, then, AllFit, spell_all, many, several, MaybeFits, maybe, carried_short}
+use Rattle.phrases.specs.Sequence.{exactly, then, AllFit, spell_all, many, several, MaybeFits, maybe, carried_short, carried_small, then_by}
 use Rattle.phrases.proofs.Phrases.{first_append, taken_rest, goes_along, keeps_all}
 
 -- the other reading goes on by a part
@@ -360,4 +360,89 @@ refused_other token Short tokens some short none = record {
   begins = record { tree = some; more = token some ∷ []; fits = λ limits. keeps_all limits tt short tt; spelled = refl };
   goes = tt;
   stuck = λ other u v same fits follows equal. none other (same ∙ ap first equal);
+}
+
+pub taken_small : {A T : Type 0} (token : T → A) (Small : T → Type 0) (rest : List A) (x : T) → ((a b : T) → token a ≡ token b → a ≡ b) → Small x → Taken (carried_small token Small) (token x ∷ rest) x rest
+taken_small token Small rest x injective small = record {
+  fits = λ limits. keeps_all limits tt tt small;
+  whole = refl;
+  only = λ limits other u v same fits follows equal. let e : token other ≡ token x = cc in injective other x e;
+}
+
+pub refused_large : {A T : Type 0} (token : T → A) (Small : T → Type 0) (rest : List A) (x some : T) → ((a b : T) → token a ≡ token b → a ≡ b) → Small some → (Small x → ⊥) → Refused (carried_small token Small) too_large (token x ∷ rest) (length (token x ∷ rest))
+refused_large token Small rest x some injective small large = record {
+  before = [];
+  rest = token x ∷ rest;
+  whole = refl;
+  count = refl;
+  begins = record { tree = some; more = token some ∷ []; fits = λ limits. keeps_all limits tt tt small; spelled = refl };
+  goes = record { tree = x; token = token x; more = []; next = refl; fits = (tt, tt); spelled = refl };
+  stuck = λ other u v same fits follows equal.
+      let e : Some (token x) ≡ Some (token other) = same ∙ ap first equal in
+      let alike : token x ≡ token other = cc (e) in
+      large (subst Small (sym (injective x other alike)) fits.2);
+}
+
+pub refused_else : {A T : Type 0} (token : T → A) (Small : T → Type 0) (tokens : List A) (some : T) → Small some → ((x : T) → first tokens ≡ Some (token x) → ⊥) → Refused (carried_small token Small) syntax tokens (length tokens)
+refused_else token Small tokens some small none = record {
+  before = [];
+  rest = tokens;
+  whole = refl;
+  count = refl;
+  begins = record { tree = some; more = token some ∷ []; fits = λ limits. keeps_all limits tt tt small; spelled = refl };
+  goes = tt;
+  stuck = λ other u v same fits follows equal. none other (same ∙ ap first equal);
+}
+
+-- a phrase that depends on the one before it
+
+-- what the second phrase begins with may stand behind the first, and there is one behind each
+pub record JointBy {A T S : Type 0} (P : Phrase A T) (Q : T → Phrase A S) (ends : Option A → Type 0) : Type 0 where
+  pub may : (limits : Limits) (t : T) (q : S) (y : List A) → (Q t).Fits limits q → ends (first y) → P.Follows (first ((Q t).spell q ++ y))
+  pub follows : (t : T) (o : Option A) → ends o → (Q t).Follows o
+  pub some : S
+  pub fits : (limits : Limits) (t : T) → P.Fits limits t → (Q t).Fits limits some
+
+pub step_then_by : {A T S : Type 0} (P : Phrase A T) (Q : T → Phrase A S) (ends : Option A → Type 0) (tokens after : List A) (t : T) → JointBy P Q ends → Taken P tokens t after → Step (then_by P Q ends) (Q t) (λ q. (t, q)) tokens after
+step_then_by P Q ends tokens after t joint taken = record {
+  front = P.spell t;
+  split = taken.whole;
+  fits = λ limits q fits. (taken.fits limits, fits);
+  spelled = λ q. refl;
+  back = λ limits other x y same fits follows equal.
+      let e : P.spell t ++ x ≡ P.spell other.0 ++ ((Q other.0).spell other.1 ++ y) = equal ∙ append_assoc (P.spell other.0) ((Q other.0).spell other.1) y in
+      let may : P.Follows (first ((Q other.0).spell other.1 ++ y)) = joint.may limits other.0 other.1 y fits.1 follows in
+      let alike : other.0 ≡ t = taken.only limits other.0 x ((Q other.0).spell other.1 ++ y) same fits.0 may e in
+      record {
+        tree = other.1;
+        fits = subst (λ u. (Q u).Fits limits other.1) alike fits.1;
+        is = ap (λ u. (u, other.1)) alike;
+        equal = taken_rest taken limits other.0 x ((Q other.0).spell other.1 ++ y) same fits.0 may e ∙ ap (λ u. (Q u).spell other.1 ++ y) alike;
+        follows = joint.follows t (first y) follows;
+      };
+}
+
+pub refused_then_by : {A T S : Type 0} (P : Phrase A T) (Q : T → Phrase A S) (ends : Option A → Type 0) {cause : Cause} (tokens : List A) (last : ℕ) → JointBy P Q ends → Refused P cause tokens last → Refused (then_by P Q ends) cause tokens last
+refused_then_by P Q ends {cause = cause} tokens last joint refused = record {
+  before = refused.before;
+  rest = refused.rest;
+  whole = refused.whole;
+  count = refused.count;
+  begins = record {
+    tree = (refused.begins.tree, joint.some);
+    more = refused.begins.more ++ (Q refused.begins.tree).spell joint.some;
+    fits = λ limits. (refused.begins.fits limits, joint.fits limits refused.begins.tree (refused.begins.fits limits));
+    spelled = sym (append_assoc refused.before refused.begins.more ((Q refused.begins.tree).spell joint.some)) ∙ ap (λ w. w ++ (Q refused.begins.tree).spell joint.some) refused.begins.spelled;
+  };
+  goes = goes_along P (then_by P Q ends) cause refused.before refused.rest refused.before refused.rest
+      (λ limits goes. record {
+        tree = (goes.tree, joint.some);
+        token = goes.token;
+        more = goes.more ++ (Q goes.tree).spell joint.some;
+        next = goes.next;
+        fits = (goes.fits, joint.fits limits goes.tree goes.fits);
+        spelled = sym (append_assoc refused.before (goes.token ∷ goes.more) ((Q goes.tree).spell joint.some)) ∙ ap (λ w. w ++ (Q goes.tree).spell joint.some) goes.spelled;
+      }) refused.goes;
+  stuck = λ other x y same fits follows equal.
+      refused.stuck other.0 x ((Q other.0).spell other.1 ++ y) same fits.0 (joint.may (passed cause) other.0 other.1 y fits.1 follows) (equal ∙ append_assoc (P.spell other.0) ((Q other.0).spell other.1) y);
 }

@@ -1,6 +1,6 @@
 -- Lists with commas, which may end in one.
 use Rattle.std.specs.Prelude.{List, [], ◌∷◌, ◌++◌, Option, Bool, true, false}
-use Rattle.phrases.specs.Limits.{Keeps}
+use Rattle.phrases.specs.Limits.{Limits, Keeps}
 use Rattle.phrases.specs.Phrase.{Phrase}
 use Rattle.phrases.specs.Sequence.{AllFit}
 
@@ -18,3 +18,15 @@ commas P comma Short ends =
       spell = λ l. spell_more P comma l.0 l.1;
       Follows = ends;
     }
+
+-- one item or more with commas between them, short together where lengths count
+abbrev pub ListingFits : {A T : Type 0} → Phrase A T → (List T → Type 0) → Limits → List T → Type 0
+ListingFits P Short limits [] = ⊥
+ListingFits P Short limits (t ∷ ts) = P.Fits limits t × AllFit P limits ts × Keeps limits (Unit {0}) (Short (t ∷ ts)) (Unit {0})
+
+abbrev pub spell_listing : {A T : Type 0} → Phrase A T → A → List T → List A
+spell_listing P comma [] = []
+spell_listing P comma (t ∷ ts) = P.spell t ++ spell_more P comma ts false
+
+abbrev pub listing : {A T : Type 0} → Phrase A T → A → (List T → Type 0) → (Option A → Type 0) → Phrase A (List T)
+listing P comma Short ends = record { Fits = ListingFits P Short; spell = spell_listing P comma; Follows = ends }

@@ -46,3 +46,11 @@ carried token = record { Fits = λ _ _. Unit {0}; spell = λ x. token x ∷ []; 
 -- one token that carries a value which is short where lengths count, as a name
 abbrev pub carried_short : {A T : Type 0} → (T → A) → (T → Type 0) → Phrase A T
 carried_short token Short = record { Fits = λ limits x. Keeps limits (Unit {0}) (Short x) (Unit {0}); spell = λ x. token x ∷ []; Follows = λ _. Unit {0} }
+
+-- one token that carries a value which is small where sizes count, as a literal
+abbrev pub carried_small : {A T : Type 0} → (T → A) → (T → Type 0) → Phrase A T
+carried_small token Small = record { Fits = λ limits x. Keeps limits (Unit {0}) (Unit {0}) (Small x); spell = λ x. token x ∷ []; Follows = λ _. Unit {0} }
+
+-- one phrase and then another which depends on what the first one is, as where that takes up of a limit
+abbrev pub then_by : {A T S : Type 0} → Phrase A T → (T → Phrase A S) → (Option A → Type 0) → Phrase A (T × S)
+then_by P Q ends = record { Fits = λ limits t. P.Fits limits t.0 × (Q t.0).Fits limits t.1; spell = λ t. P.spell t.0 ++ (Q t.0).spell t.1; Follows = ends }
