@@ -1,19 +1,18 @@
 -- The grammar of what stands at the top level.
-use Rattle.std.specs.Prelude.{◌≡◌, ℕ, ◌^◌, ◌<◌, ◌≤◌, List, [], ◌∷◌, ◌++◌, Option, Some, None, Bool, if◌then◌else◌, nat_lt, length}
+use Rattle.std.specs.Prelude.{◌≡◌, ℕ, ◌≤◌, List, [], ◌∷◌, ◌++◌, Option, Some, None, Bool, length}
 use Rattle.phrases.specs.Limits.{Limits, Keeps}
 use Rattle.phrases.specs.Phrase.{Phrase}
 use Rattle.phrases.specs.Sequence.{AllFit, spell_all, carried, several, many}
-use Rattle.exo_reader.specs.Expression.{Tree}
-use Rattle.exo_lexer.specs.declared.token.Literal.{Literal}
-use Rattle.exo_lexer.specs.declared.token.Literal.TheVariants.{Value, TooLarge}
+use Rattle.exo_reader.specs.Values.{name, literal}
+use Rattle.exo_reader.specs.Expression.{Tree, control}
 use Rattle.exo_lexer.specs.declared.token.Token.{Token}
 use Rattle.exo_lexer.specs.declared.token.Token.TheVariants.{Name, Int, Str, Sign, Word, Decorator, NewLine, Indent, Dedent}
 use Rattle.exo_lexer.specs.declared.token.Sign.TheVariants.{Open, Close, Colon, Assign}
 use Rattle.exo_lexer.specs.declared.token.Word.TheVariants as w
 use Rattle.exo_lexer.specs.declared.token.Decorator.TheVariants as d
-use Rattle.exo_source.specs.Source.{Statement, Definition, ConfigField, Setting, strings, int, yes, no, Attribute, Item, procedure, instruction, configuration, memory}
-use Rattle.exo_source.specs.Parts.{name, control, HasSome, type_name, parameters}
-use Rattle.exo_source.specs.Statements.{body, EndsBlock}
+use Rattle.exo_source.specs.Source.{Definition, ConfigField, Setting, strings, int, yes, no, Attribute, Item, procedure, instruction, configuration, memory}
+use Rattle.exo_source.specs.Parts.{Is, HasSome, some_of, type_name, parameters}
+use Rattle.exo_source.specs.Statements.{body}
 
 -- strings one after another, as one
 abbrev pub joined : List (List ℕ) → List ℕ
@@ -22,31 +21,31 @@ joined (piece ∷ more) = piece ++ joined more
 
 -- no string stands there
 abbrev pub NoString : Option Token → Type 0
-NoString o = (x : List ℕ) → o ≡ Some (Str x) → ⊥
+NoString (Some (Str x)) = ⊥
+NoString other = Unit {0}
 
 -- neighbouring strings of at most 1,024 bytes together
+abbrev pub FewBytes : List (List ℕ) → Type 0
+FewBytes pieces = length (joined pieces) ≤ 1024
+
 abbrev pub neighbours : Phrase Token (List (List ℕ))
 neighbours =
     record {
-      Fits = λ limits pieces. HasSome pieces × Keeps limits (Unit {0}) (length (joined pieces) ≤ 1024) (Unit {0});
+      Fits = λ limits pieces. (several (carried Str) FewBytes NoString).Fits limits pieces × HasSome pieces;
       spell = spell_all (carried Str);
       Follows = NoString;
     }
 
--- the token of a number
-abbrev pub literal : ℕ → Literal
-literal n = if nat_lt n (2 ^ 31) then Value n else TooLarge
-
 -- the value of an attribute
 abbrev pub SettingFits : Limits → Setting → Type 0
 SettingFits limits (strings pieces) = neighbours.Fits limits pieces
-SettingFits limits (int n) = Keeps limits (Unit {0}) (Unit {0}) (n < 2 ^ 31)
+SettingFits limits (int n) = literal.Fits limits n
 SettingFits limits yes = Unit {0}
 SettingFits limits no = Unit {0}
 
 abbrev pub spell_setting : Setting → List Token
 spell_setting (strings pieces) = neighbours.spell pieces
-spell_setting (int n) = Int (literal n) ∷ []
+spell_setting (int n) = literal.spell n
 spell_setting yes = Word w.True ∷ []
 spell_setting no = Word w.False ∷ []
 
@@ -80,12 +79,15 @@ assertion =
       Follows = λ o. Unit {0};
     }
 
--- the name, the parameters, the assertions and the body
+abbrev pub assertions : Phrase Token (List Tree)
+assertions = many assertion (λ o. o ≡ Some (Word w.Assert) → ⊥)
+
+-- the name, the parameters, the assertions and the body, which is the first block
 abbrev pub definition : Phrase Token Definition
 definition =
     record {
-      Fits = λ limits p. name.Fits limits p.name × parameters.Fits limits (p.params, p.trailing) × AllFit assertion limits p.asserts × (body 1).Fits limits p.body;
-      spell = λ p. Word w.Def ∷ Name p.name ∷ Sign Open ∷ (parameters.spell (p.params, p.trailing) ++ (Sign Close ∷ Sign Colon ∷ NewLine ∷ Indent ∷ (spell_all assertion p.asserts ++ ((body 1).spell p.body ++ (Dedent ∷ [])))));
+      Fits = λ limits p. name.Fits limits p.name × parameters.Fits limits (p.params, p.trailing) × assertions.Fits limits p.asserts × (body 1).Fits limits (p.body, tt);
+      spell = λ p. Word w.Def ∷ Name p.name ∷ Sign Open ∷ (parameters.spell (p.params, p.trailing) ++ (Sign Close ∷ Sign Colon ∷ NewLine ∷ Indent ∷ (assertions.spell p.asserts ++ (body 1).spell (p.body, tt))));
       Follows = λ o. Unit {0};
     }
 
@@ -96,14 +98,14 @@ class x lines = NewLine ∷ Word w.Class ∷ Name x ∷ Sign Colon ∷ NewLine �
 abbrev pub ItemFits : Limits → Item → Type 0
 ItemFits limits (procedure p) = definition.Fits limits p
 ItemFits limits (instruction template p) = neighbours.Fits limits template × definition.Fits limits p
-ItemFits limits (configuration x fields) = name.Fits limits x × AllFit field limits fields × HasSome fields
-ItemFits limits (memory x attributes) = name.Fits limits x × AllFit attribute limits attributes × HasSome attributes
+ItemFits limits (configuration x list) = name.Fits limits x × (some_of field (Is Dedent)).Fits limits list
+ItemFits limits (memory x list) = name.Fits limits x × (some_of attribute (Is Dedent)).Fits limits list
 
 abbrev pub spell_item : Item → List Token
 spell_item (procedure p) = Decorator d.Procedure ∷ NewLine ∷ definition.spell p
 spell_item (instruction template p) = Decorator d.Instruction ∷ Sign Open ∷ (neighbours.spell template ++ (Sign Close ∷ NewLine ∷ definition.spell p))
-spell_item (configuration x fields) = Decorator d.Configuration ∷ class x (spell_all field fields)
-spell_item (memory x attributes) = Decorator d.MemoryClass ∷ class x (spell_all attribute attributes)
+spell_item (configuration x list) = Decorator d.Configuration ∷ class x (spell_all field list)
+spell_item (memory x list) = Decorator d.MemoryClass ∷ class x (spell_all attribute list)
 
 abbrev pub item : Phrase Token Item
 item = record { Fits = ItemFits; spell = spell_item; Follows = λ o. Unit {0} }

@@ -2,4 +2,4 @@ pub mod Source
 pub mod Parts
 pub mod Statements
 pub mod Items
-pub mod Texts
+pub mod Views

@@ -1,6 +1,7 @@
 -- Units as they are written, without names resolved. Names and strings are lists of bytes.
 use Rattle.std.specs.Prelude.{ℕ, List, [], ◌∷◌, Bool, Option}
 use Rattle.exo_reader.specs.Expression.{Tree}
+use Rattle.exo_lexer.specs.declared.token.Literal.{Literal}
 
 -- one coordinate of a window: a point, or a span up to the end that it does not reach
 pub data Coordinate : Type 0 where
@@ -38,9 +39,9 @@ mutual
     next : Statement → Block → Block
 
 -- a list of statements as a block, and back
-abbrev pub block : List Statement → Block
-block [] = end
-block (s ∷ more) = next s (block more)
+abbrev pub block_of : List Statement → Block
+block_of [] = end
+block_of (s ∷ more) = next s (block_of more)
 
 abbrev pub statements : Block → List Statement
 statements end = []
@@ -72,7 +73,7 @@ pub record ConfigField : Type 0 where
 -- the value of an attribute; neighbouring strings are joined
 pub data Setting : Type 0 where
   strings : List (List ℕ) → Setting
-  int : ℕ → Setting
+  int : Literal → Setting
   yes no : Setting
 
 -- an attribute of a memory

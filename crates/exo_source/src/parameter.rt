@@ -1,99 +1,68 @@
-// Parameters, and the parts of them that allocations have too.
+// Parameters.
 
-use crate::front::{name_stands_first, read_name};
-use crate::source::{SourceKind, SourceParam, SourceParams, SourceType};
-use exo_lexer::text::Text;
-use exo_lexer::token::{Sign, Token, Word};
-use exo_reader::front::{Fixed, behind, expect};
-use exo_reader::procedure::{read_control, stands_first};
-use exo_reader::source::SourceExpr;
+ghost use Rattle.std.specs.Prelude.{◌≡◌, ◌∷◌, List, map, length, IsTrue, ◌↔◌};
+ghost use Rattle.phrases.specs.Phrase.{Taken, Refused};
+ghost use Rattle.phrases.specs.Answers.{Reads, Refuses};
+ghost use Rattle.exo_source.specs.Parts.{form, parameter, parameters, StartsWithName, RefusesParameter};
+ghost use Rattle.exo_source.specs.Views.{plain_form, plain_parameter, plain_parameters};
+ghost use Rattle.exo_lexer.specs.declared.token.Token.{Token};
+
+use crate::part::{read_dims, read_kind, read_memory, read_name_and, read_optional_dims};
+use crate::source::{SourceParam, SourceParams, SourceType};
+use exo_lexer::token::{Sign, Token, next};
+use exo_reader::front::{Fixed, behind, expect_all, stands_first};
 use phrases::Refusal;
 use std::alloc::Global;
-
-/// The most dimensions, indices or coordinates.
-pub const RANK: usize = 8;
 
 /// The most parameters.
 pub const PARAMETERS: usize = 32;
 
-/// What stands where a type must stand.
-pub fn read_kind(tokens: &[Token]) -> Result<(SourceKind, &[Token]), Refusal> {
-    if let Some(rest) = behind(tokens, Fixed::Word(Word::Stride)) {
-        return Ok((SourceKind::Stride, rest));
-    }
-    let (name, rest) = read_name(tokens)?;
-    Ok((SourceKind::Named(name), rest))
-}
-
-/// Dimensions or indices between brackets.
-pub fn read_dims(alloc: Global, tokens: &[Token]) -> Result<(Vec<SourceExpr>, &[Token]), Refusal> {
-    let inside = expect(tokens, Fixed::Sign(Sign::OpenBracket))?;
-    let mut dims = Vec::new(alloc);
-    let (first, behind_first) = read_control(alloc, inside)?;
-    dims.push(first)?;
-    let mut rest = behind_first;
-    'more: while let Some(after) = behind(rest, Fixed::Sign(Sign::Comma)) {
-        if dims.len() >= RANK {
-            return Err(Refusal::TooLong(rest.len()));
-        }
-        let (dim, found) = read_control(alloc, after)?;
-        dims.push(dim)?;
-        rest = found;
-    }
-    let rest = expect(rest, Fixed::Sign(Sign::CloseBracket))?;
-    Ok((dims, rest))
-}
-
-/// Dimensions or indices between brackets, or none.
-pub fn read_optional_dims(
-    alloc: Global,
-    tokens: &[Token],
-) -> Result<(Vec<SourceExpr>, &[Token]), Refusal> {
-    if stands_first(tokens, Fixed::Sign(Sign::OpenBracket)) {
-        read_dims(alloc, tokens)
-    } else {
-        Ok((Vec::new(alloc), tokens))
-    }
-}
-
-/// The name of a memory behind `@`, or none.
-pub fn read_memory(tokens: &[Token]) -> Result<(Option<Text>, &[Token]), Refusal> {
-    let Some(rest) = behind(tokens, Fixed::Sign(Sign::At)) else {
-        return Ok((None, tokens));
-    };
-    let (name, rest) = read_name(rest)?;
-    Ok((Some(name), rest))
-}
-
 /// The type of a window parameter, behind its bracket.
-fn read_window_type(alloc: Global, rest: &[Token]) -> Result<(SourceType, &[Token]), Refusal> {
-    let (kind, rest) = read_kind(rest)?;
-    let rest = expect(rest, Fixed::Sign(Sign::CloseBracket))?;
-    let (dims, rest) = read_dims(alloc, rest)?;
-    Ok((SourceType::Window(kind, dims), rest))
+fn read_window_type(alloc: Global, after: &[Token]) -> Result<(SourceType, &[Token]), Refusal>
+    ensures { Reads form (Token.Sign Sign.OpenBracket ∷ after.now) (λ x. plain_form x.0) (λ x. x.1.now) result }
+{
+    let (kind, behind_kind) = read_kind(after)?;
+    let before_dims = expect_all(behind_kind, &[Fixed::Sign(Sign::CloseBracket)])?;
+    let (list, rest) = read_dims(alloc, before_dims)?;
+    Ok((SourceType::Window(kind, list), rest))
 }
 
 /// The type of a parameter.
-fn read_type(alloc: Global, tokens: &[Token]) -> Result<(SourceType, &[Token]), Refusal> {
-    if let Some(rest) = behind(tokens, Fixed::Sign(Sign::OpenBracket)) {
-        return read_window_type(alloc, rest);
+pub fn read_type(alloc: Global, tokens: &[Token]) -> Result<(SourceType, &[Token]), Refusal>
+    ensures { Reads form tokens.now (λ x. plain_form x.0) (λ x. x.1.now) result }
+{
+    if let Some(after) = behind(tokens, Fixed::Sign(Sign::OpenBracket)) {
+        return read_window_type(alloc, after);
     }
-    let (kind, rest) = read_kind(tokens)?;
-    let (dims, rest) = read_optional_dims(alloc, rest)?;
-    Ok((SourceType::Plain(kind, dims), rest))
+    let (kind, behind_kind) = read_kind(tokens)?;
+    let (list, rest) = read_optional_dims(alloc, behind_kind)?;
+    Ok((SourceType::Plain(kind, list), rest))
 }
 
 /// A parameter.
-pub fn read_parameter(alloc: Global, tokens: &[Token]) -> Result<(SourceParam, &[Token]), Refusal> {
-    let (name, rest) = read_name(tokens)?;
-    let rest = expect(rest, Fixed::Sign(Sign::Colon))?;
-    let (form, rest) = read_type(alloc, rest)?;
-    let (memory, rest) = read_memory(rest)?;
+pub fn read_parameter(alloc: Global, tokens: &[Token]) -> Result<(SourceParam, &[Token]), Refusal>
+    ensures { Reads parameter tokens.now (λ x. plain_parameter x.0) (λ x. x.1.now) result }
+{
+    let (name, after) = read_name_and(tokens, &[Fixed::Sign(Sign::Colon)])?;
+    let (form, behind_form) = read_type(alloc, after)?;
+    let (memory, rest) = read_memory(behind_form)?;
     Ok((SourceParam { name, form, memory }, rest))
 }
 
-/// A parameter where there are as many as may be: there is none.
-fn refuse_parameter(tokens: &[Token]) -> Refusal {
+/// Whether a name of any length stands first.
+pub fn name_stands_first(tokens: &[Token]) -> bool
+    ensures { IsTrue result ↔ StartsWithName tokens.now }
+{
+    match next(tokens) {
+        Some((Token::Name(_), _)) => true,
+        _ => false,
+    }
+}
+
+/// Why no parameter stands there, where there are as many as may be.
+fn refuse_parameter(tokens: &[Token]) -> Refusal
+    ensures { RefusesParameter tokens.now result }
+{
     if name_stands_first(tokens) {
         Refusal::TooLong(tokens.len())
     } else {
@@ -101,8 +70,10 @@ fn refuse_parameter(tokens: &[Token]) -> Refusal {
     }
 }
 
-/// The parameters before a closing parenthesis.
-pub fn read_parameters(alloc: Global, tokens: &[Token]) -> Result<(SourceParams, &[Token]), Refusal> {
+/// The parameters before a closing parenthesis, at most 32.
+pub fn read_parameters(alloc: Global, tokens: &[Token]) -> Result<(SourceParams, &[Token]), Refusal>
+    ensures { Reads parameters tokens.now (λ x. plain_parameters x.0) (λ x. x.1.now) result }
+{
     let mut items = Vec::new(alloc);
     if stands_first(tokens, Fixed::Sign(Sign::Close)) {
         let params = SourceParams {

@@ -1,6 +1,5 @@
 // Source trees of units: a text as it is written, without names resolved.
 
-use crate::block::SourceBlock;
 use exo_lexer::text::Text;
 use exo_reader::source::SourceExpr;
 
@@ -35,6 +34,27 @@ pub enum SourceKind {
     Named(Text),
 }
 
+/// A statement as it is written. A list of dimensions or indices is empty where none are written.
+#[derive(Drop)]
+pub enum SourceStmt {
+    Pass,
+    /// A condition with its branches; the second is empty where there is no `else`.
+    If(SourceExpr, Vec<SourceStmt>, Vec<SourceStmt>),
+    /// A loop over a name, from its lower bound up to the upper one.
+    For(Text, SourceExpr, SourceExpr, Vec<SourceStmt>),
+    /// `x : TYPE[..] @ MEMORY`
+    Alloc(Text, SourceKind, Vec<SourceExpr>, Option<Text>),
+    Call(Text, SourceArgs),
+    /// `C.f = e`
+    Config(Text, Text, SourceExpr),
+    /// `x[..] = e`
+    Assign(Text, Vec<SourceExpr>, SourceExpr),
+    /// `x[..] += e`
+    Reduce(Text, Vec<SourceExpr>, SourceExpr),
+    /// `w = x[..]` with at least one span.
+    View(Text, Text, Vec<SourceCoord>),
+}
+
 /// The type of a parameter.
 #[derive(Drop)]
 pub enum SourceType {
@@ -60,13 +80,13 @@ pub struct SourceParams {
     pub trailing: bool,
 }
 
-/// What stands below a decorator: a procedure or the body of an instruction.
+/// What stands below `@proc` or `@instr`.
 #[derive(Drop)]
 pub struct SourceDef {
     pub name: Text,
     pub params: SourceParams,
     pub asserts: Vec<SourceExpr>,
-    pub body: SourceBlock,
+    pub body: Vec<SourceStmt>,
 }
 
 /// A field of a configuration, `NAME : TYPE`.
@@ -82,8 +102,8 @@ pub enum SourceValue {
     /// Neighbouring strings, which are joined.
     Strings(Vec<Text>),
     Int(u32),
-    True,
-    False,
+    Yes,
+    No,
 }
 
 /// An attribute of a memory, `NAME = VALUE`.
@@ -99,8 +119,8 @@ pub enum SourceItem {
     Procedure(SourceDef),
     /// The neighbouring strings of its template, and what it does.
     Instruction(Vec<Text>, SourceDef),
-    /// A configuration class with its fields.
+    /// A configuration with its fields.
     Configuration(Text, Vec<SourceField>),
-    /// A memory class with its attributes.
+    /// A class of memories with its attributes.
     Memory(Text, Vec<SourceAttribute>),
 }

@@ -1,155 +1,140 @@
 // Statements and blocks.
 
-use crate::block::{SourceBlock, SourceStmt};
-use crate::front::read_name;
-use crate::parameter::{read_dims, read_kind, read_memory, read_optional_dims};
-use crate::source::{SourceArg, SourceArgs};
+ghost use Rattle.std.specs.Prelude.{◌≡◌, ◌≤◌, ◌<◌, ◌∷◌, ◌++◌, ℕ, List, Some, suc, map, length};
+ghost use Rattle.phrases.specs.Phrase.{first, Taken, Refused};
+ghost use Rattle.phrases.specs.Answers.{Reads};
+ghost use Rattle.exo_reader.specs.Values.{IsShortName};
+ghost use Rattle.exo_reader.specs.Views.{tree_of};
+ghost use Rattle.exo_source.specs.Statements.{statement, block, otherwise, body, store, stored_by, equated, IsNoHead, BeginsStore};
+ghost use Rattle.exo_source.specs.Views.{plain_statement, plain_argument};
+ghost use Rattle.exo_lexer.specs.declared.token.Token.{Token};
+
+use crate::argument::{read_arguments, read_right};
+use crate::part::{read_control_and, read_data_and, read_kind, read_memory, read_name_and, read_optional_dims};
+use crate::source::{SourceArg, SourceStmt};
 use exo_lexer::text::Text;
 use exo_lexer::token::{Sign, Token, Word, next};
-use exo_reader::front::{Fixed, behind, expect};
-use exo_reader::procedure::{expect_all, read_control, read_data, stands_first};
+use exo_reader::expression::read_control;
+use exo_reader::front::{Fixed, behind, expect_all, is_short, stands_first};
+use exo_reader::source::SourceExpr;
 use phrases::Refusal;
 use std::alloc::Global;
 
 /// The most blocks inside one another; the body of a procedure is the first.
 pub const NESTING: u32 = 24;
 
-/// An argument: an expression or a window.
-pub fn read_argument(alloc: Global, tokens: &[Token]) -> Result<(SourceArg, &[Token]), Refusal> {
-    let (value, rest) = read_control(alloc, tokens)?;
-    Ok((SourceArg::Value(value), rest))
-}
-
-/// What is stored in a cell without an index, or a window that is viewed.
-pub fn read_right(alloc: Global, tokens: &[Token]) -> Result<(SourceArg, &[Token]), Refusal> {
-    let (value, rest) = read_data(alloc, tokens)?;
-    Ok((SourceArg::Value(value), rest))
-}
-
-/// The arguments before a closing parenthesis.
-pub fn read_arguments(alloc: Global, tokens: &[Token]) -> Result<(SourceArgs, &[Token]), Refusal> {
-    let mut items = Vec::new(alloc);
-    if stands_first(tokens, Fixed::Sign(Sign::Close)) {
-        let arguments = SourceArgs {
-            items,
-            trailing: false,
-        };
-        return Ok((arguments, tokens));
-    }
-    let (first, behind_first) = read_argument(alloc, tokens)?;
-    items.push(first)?;
-    let mut rest = behind_first;
-    'more: while let Some(after) = behind(rest, Fixed::Sign(Sign::Comma)) {
-        if stands_first(after, Fixed::Sign(Sign::Close)) {
-            let arguments = SourceArgs {
-                items,
-                trailing: true,
-            };
-            return Ok((arguments, after));
-        }
-        let (argument, found) = read_argument(alloc, after)?;
-        items.push(argument)?;
-        rest = found;
-    }
-    let arguments = SourceArgs {
-        items,
-        trailing: false,
-    };
-    Ok((arguments, rest))
-}
-
 /// What comes behind `pass`.
-fn read_pass(rest: &[Token]) -> Result<(SourceStmt, &[Token]), Refusal> {
-    let rest = expect(rest, Fixed::NewLine)?;
+fn read_pass(after: &[Token]) -> Result<(SourceStmt, &[Token]), Refusal>
+    ensures { (nesting : ℕ) → Reads (statement nesting) (Token.Word Word.Pass ∷ after.now) (λ x. plain_statement x.0) (λ x. x.1.now) result }
+{
+    let rest = expect_all(after, &[Fixed::NewLine])?;
     Ok((SourceStmt::Pass, rest))
 }
 
 /// What comes behind the name and the colon of an allocation.
-fn read_allocation<'a>(
+fn read_allocation(
     alloc: Global,
     name: Text,
-    rest: &'a [Token],
-) -> Result<(SourceStmt, &'a [Token]), Refusal> {
-    let (kind, rest) = read_kind(rest)?;
-    let (dims, rest) = read_optional_dims(alloc, rest)?;
-    let (memory, rest) = read_memory(rest)?;
-    let rest = expect(rest, Fixed::NewLine)?;
-    Ok((SourceStmt::Alloc(name, kind, dims, memory), rest))
+    after: &[Token],
+) -> Result<(SourceStmt, &[Token]), Refusal>
+    requires { IsShortName name }
+    ensures { (nesting : ℕ) → Reads (statement nesting) (Token.Name name ∷ Token.Sign Sign.Colon ∷ after.now) (λ x. plain_statement x.0) (λ x. x.1.now) result }
+{
+    let (kind, behind_kind) = read_kind(after)?;
+    let (list, behind_dims) = read_optional_dims(alloc, behind_kind)?;
+    let (memory, behind_memory) = read_memory(behind_dims)?;
+    let rest = expect_all(behind_memory, &[Fixed::NewLine])?;
+    Ok((SourceStmt::Alloc(name, kind, list, memory), rest))
 }
 
 /// What comes behind the name and the parenthesis of a call.
-fn read_call<'a>(
-    alloc: Global,
-    name: Text,
-    rest: &'a [Token],
-) -> Result<(SourceStmt, &'a [Token]), Refusal> {
-    let (arguments, rest) = read_arguments(alloc, rest)?;
-    let rest = expect_all(rest, &[Fixed::Sign(Sign::Close), Fixed::NewLine])?;
-    Ok((SourceStmt::Call(name, arguments), rest))
+fn read_call(alloc: Global, name: Text, after: &[Token]) -> Result<(SourceStmt, &[Token]), Refusal>
+    requires { IsShortName name }
+    ensures { (nesting : ℕ) → Reads (statement nesting) (Token.Name name ∷ Token.Sign Sign.Open ∷ after.now) (λ x. plain_statement x.0) (λ x. x.1.now) result }
+{
+    let (list, behind_list) = read_arguments(alloc, after)?;
+    let rest = expect_all(behind_list, &[Fixed::Sign(Sign::Close), Fixed::NewLine])?;
+    Ok((SourceStmt::Call(name, list), rest))
 }
 
 /// What comes behind the name and the dot of a configuration write.
-fn read_config<'a>(
-    alloc: Global,
-    name: Text,
-    rest: &'a [Token],
-) -> Result<(SourceStmt, &'a [Token]), Refusal> {
-    let (field, rest) = read_name(rest)?;
-    let rest = expect(rest, Fixed::Sign(Sign::Assign))?;
-    let (value, rest) = read_control(alloc, rest)?;
-    let rest = expect(rest, Fixed::NewLine)?;
+fn read_config(alloc: Global, name: Text, after: &[Token]) -> Result<(SourceStmt, &[Token]), Refusal>
+    requires { IsShortName name }
+    ensures { (nesting : ℕ) → Reads (statement nesting) (Token.Name name ∷ Token.Sign Sign.Dot ∷ after.now) (λ x. plain_statement x.0) (λ x. x.1.now) result }
+{
+    let (field, behind_field) = read_name_and(after, &[Fixed::Sign(Sign::Assign)])?;
+    let (value, rest) = read_control_and(alloc, behind_field, &[Fixed::NewLine])?;
     Ok((SourceStmt::Config(name, field, value), rest))
 }
 
-/// What comes behind the name of a cell with an index.
-fn read_cell<'a>(
-    alloc: Global,
-    name: Text,
-    rest: &'a [Token],
-) -> Result<(SourceStmt, &'a [Token]), Refusal> {
-    let (dims, rest) = read_dims(alloc, rest)?;
-    if let Some(after) = behind(rest, Fixed::Sign(Sign::Reduce)) {
-        let (value, rest) = read_data(alloc, after)?;
-        let rest = expect(rest, Fixed::NewLine)?;
-        return Ok((SourceStmt::Reduce(name, dims, value), rest));
+/// `=` or `+=`, what is stored, and the end of the line. The first part says whether it is `+=`.
+fn read_store(alloc: Global, tokens: &[Token]) -> Result<((bool, SourceExpr), &[Token]), Refusal>
+    ensures { Reads store tokens.now (λ x. (x.0.0, tree_of x.0.1)) (λ x. x.1.now) result }
+{
+    if let Some(after) = behind(tokens, Fixed::Sign(Sign::Reduce)) {
+        let (value, rest) = read_data_and(alloc, after, &[Fixed::NewLine])?;
+        return Ok(((true, value), rest));
     }
-    let rest = expect(rest, Fixed::Sign(Sign::Assign))?;
-    let (value, rest) = read_data(alloc, rest)?;
-    let rest = expect(rest, Fixed::NewLine)?;
-    Ok((SourceStmt::Assign(name, dims, value), rest))
+    let after = expect_all(tokens, &[Fixed::Sign(Sign::Assign)])?;
+    let (value, rest) = read_data_and(alloc, after, &[Fixed::NewLine])?;
+    Ok(((false, value), rest))
 }
 
-/// What comes behind the name and the `+=` of a reduction without an index.
-fn read_reduction<'a>(
+/// A store in a cell, or a reduction into one.
+fn stored(name: Text, list: Vec<SourceExpr>, reduces: bool, value: SourceExpr) -> SourceStmt
+    ensures { plain_statement result ≡ stored_by name (map tree_of list.items) reduces (tree_of value) }
+{
+    if reduces {
+        SourceStmt::Reduce(name, list, value)
+    } else {
+        SourceStmt::Assign(name, list, value)
+    }
+}
+
+/// What comes behind the name of an assignment to a cell with an index, or of a reduction.
+fn read_stored(
     alloc: Global,
     name: Text,
-    rest: &'a [Token],
-) -> Result<(SourceStmt, &'a [Token]), Refusal> {
-    let (value, rest) = read_data(alloc, rest)?;
-    let rest = expect(rest, Fixed::NewLine)?;
-    Ok((SourceStmt::Reduce(name, Vec::new(alloc), value), rest))
+    tokens: &[Token],
+) -> Result<(SourceStmt, &[Token]), Refusal>
+    requires short { IsShortName name }
+    requires front { BeginsStore (first tokens.now) }
+    ensures { (nesting : ℕ) → Reads (statement nesting) (Token.Name name ∷ tokens.now) (λ x. plain_statement x.0) (λ x. x.1.now) result }
+{
+    let (list, behind_list) = read_optional_dims(alloc, tokens)?;
+    let ((reduces, value), rest) = read_store(alloc, behind_list)?;
+    Ok((stored(name, list, reduces, value), rest))
+}
+
+/// An assignment without an index, or a view.
+fn equated(alloc: Global, name: Text, right: SourceArg) -> SourceStmt
+    ensures { plain_statement result ≡ equated name (plain_argument right) }
+{
+    match right {
+        SourceArg::Value(value) => SourceStmt::Assign(name, Vec::new(alloc), value),
+        SourceArg::Window(of, coords) => SourceStmt::View(name, of, coords),
+    }
 }
 
 /// What comes behind the name and the `=` of an assignment without an index, or of a view.
-fn read_equation<'a>(
+fn read_equation(
     alloc: Global,
     name: Text,
-    rest: &'a [Token],
-) -> Result<(SourceStmt, &'a [Token]), Refusal> {
-    let (right, rest) = read_right(alloc, rest)?;
-    let rest = expect(rest, Fixed::NewLine)?;
-    match right {
-        SourceArg::Value(value) => Ok((SourceStmt::Assign(name, Vec::new(alloc), value), rest)),
-        SourceArg::Window(of, coords) => Ok((SourceStmt::View(name, of, coords), rest)),
-    }
+    after: &[Token],
+) -> Result<(SourceStmt, &[Token]), Refusal>
+    requires { IsShortName name }
+    ensures { (nesting : ℕ) → Reads (statement nesting) (Token.Name name ∷ Token.Sign Sign.Assign ∷ after.now) (λ x. plain_statement x.0) (λ x. x.1.now) result }
+{
+    let (right, behind_right) = read_right(alloc, after)?;
+    let rest = expect_all(behind_right, &[Fixed::NewLine])?;
+    Ok((equated(alloc, name, right), rest))
 }
 
 /// What comes behind the name with which a statement begins.
-fn read_named<'a>(
-    alloc: Global,
-    name: Text,
-    rest: &'a [Token],
-) -> Result<(SourceStmt, &'a [Token]), Refusal> {
+fn read_named(alloc: Global, name: Text, rest: &[Token]) -> Result<(SourceStmt, &[Token]), Refusal>
+    requires { IsShortName name }
+    ensures { (nesting : ℕ) → Reads (statement nesting) (Token.Name name ∷ rest.now) (λ x. plain_statement x.0) (λ x. x.1.now) result }
+{
     if let Some(after) = behind(rest, Fixed::Sign(Sign::Colon)) {
         return read_allocation(alloc, name, after);
     }
@@ -159,16 +144,30 @@ fn read_named<'a>(
     if let Some(after) = behind(rest, Fixed::Sign(Sign::Dot)) {
         return read_config(alloc, name, after);
     }
-    if let Some(after) = behind(rest, Fixed::Sign(Sign::Reduce)) {
-        return read_reduction(alloc, name, after);
-    }
     if let Some(after) = behind(rest, Fixed::Sign(Sign::Assign)) {
         return read_equation(alloc, name, after);
     }
-    if stands_first(rest, Fixed::Sign(Sign::OpenBracket)) {
-        return read_cell(alloc, name, rest);
+    read_stored(alloc, name, rest)
+}
+
+/// A statement that begins with a name, if one stands first.
+fn read_simple(alloc: Global, tokens: &[Token]) -> Result<(SourceStmt, &[Token]), Refusal>
+    requires no_word { IsNoHead (first tokens.now) }
+    ensures { (nesting : ℕ) → Reads (statement nesting) tokens.now (λ x. plain_statement x.0) (λ x. x.1.now) result }
+{
+    let Some((token, rest)) = next(tokens) else {
+        return Err(Refusal::Syntax(0));
+    };
+    match token {
+        Token::Name(name) => {
+            if !is_short(name) {
+                return Err(Refusal::TooLong(tokens.len()));
+            }
+            let copy = name.clone()?;
+            read_named(alloc, copy, rest)
+        }
+        _ => Err(Refusal::Syntax(tokens.len())),
     }
-    Err(Refusal::Syntax(rest.len()))
 }
 
 /// A statement in a block of this nesting.
@@ -177,18 +176,20 @@ pub fn read_statement(
     alloc: Global,
     tokens: &[Token],
     nesting: u32,
-) -> Result<(SourceStmt, &[Token]), Refusal> {
-    if let Some(rest) = behind(tokens, Fixed::Word(Word::Pass)) {
-        return read_pass(rest);
+) -> Result<(SourceStmt, &[Token]), Refusal>
+    requires { nesting ≤ 24 }
+    ensures { Reads (statement nesting) tokens.now (λ x. plain_statement x.0) (λ x. x.1.now) result }
+{
+    if let Some(after) = behind(tokens, Fixed::Word(Word::Pass)) {
+        return read_pass(after);
     }
-    if let Some(rest) = behind(tokens, Fixed::Word(Word::If)) {
-        return read_if(alloc, tokens, rest, nesting);
+    if let Some(after) = behind(tokens, Fixed::Word(Word::If)) {
+        return read_if(alloc, tokens, after, nesting);
     }
-    if let Some(rest) = behind(tokens, Fixed::Word(Word::For)) {
-        return read_for(alloc, tokens, rest, nesting);
+    if let Some(after) = behind(tokens, Fixed::Word(Word::For)) {
+        return read_for(alloc, tokens, after, nesting);
     }
-    let (name, rest) = read_name(tokens)?;
-    read_named(alloc, name, rest)
+    read_simple(alloc, tokens)
 }
 
 /// What comes behind `if`.
@@ -196,16 +197,20 @@ pub fn read_statement(
 fn read_if<'a>(
     alloc: Global,
     tokens: &[Token],
-    rest: &'a [Token],
+    after: &'a [Token],
     nesting: u32,
-) -> Result<(SourceStmt, &'a [Token]), Refusal> {
+) -> Result<(SourceStmt, &'a [Token]), Refusal>
+    requires depth { nesting ≤ 24 }
+    requires front { tokens.now ≡ Token.Word Word.If ∷ after.now }
+    ensures { Reads (statement nesting) tokens.now (λ x. plain_statement x.0) (λ x. x.1.now) result }
+{
     if nesting >= NESTING {
         return Err(Refusal::TooDeep(tokens.len()));
     }
-    let (condition, rest) = read_control(alloc, rest)?;
-    let (body, rest) = read_block(alloc, rest, nesting + 1)?;
-    let (otherwise, rest) = read_else(alloc, rest, nesting + 1)?;
-    Ok((SourceStmt::If(condition, body, otherwise), rest))
+    let (condition, behind_condition) = read_control(alloc, after)?;
+    let (inside, behind_block) = read_block(alloc, behind_condition, nesting + 1)?;
+    let (other, rest) = read_else(alloc, behind_block, nesting + 1)?;
+    Ok((SourceStmt::If(condition, inside, other), rest))
 }
 
 /// The block of an `else`, or an empty one.
@@ -214,11 +219,15 @@ fn read_else(
     alloc: Global,
     tokens: &[Token],
     nesting: u32,
-) -> Result<(SourceBlock, &[Token]), Refusal> {
-    match behind(tokens, Fixed::Word(Word::Else)) {
-        Some(rest) => read_block(alloc, rest, nesting),
-        None => Ok((SourceBlock::new(alloc), tokens)),
-    }
+) -> Result<(Vec<SourceStmt>, &[Token]), Refusal>
+    requires { nesting ≤ 24 }
+    ensures { Reads (otherwise nesting) tokens.now (λ x. map plain_statement x.0.items) (λ x. x.1.now) result }
+{
+    let Some(after) = behind(tokens, Fixed::Word(Word::Else)) else {
+        return Ok((Vec::new(alloc), tokens));
+    };
+    let (inside, rest) = read_block(alloc, after, nesting)?;
+    Ok((inside, rest))
 }
 
 /// What comes behind `for`.
@@ -226,27 +235,28 @@ fn read_else(
 fn read_for<'a>(
     alloc: Global,
     tokens: &[Token],
-    rest: &'a [Token],
+    after: &'a [Token],
     nesting: u32,
-) -> Result<(SourceStmt, &'a [Token]), Refusal> {
+) -> Result<(SourceStmt, &'a [Token]), Refusal>
+    requires depth { nesting ≤ 24 }
+    requires front { tokens.now ≡ Token.Word Word.For ∷ after.now }
+    ensures { Reads (statement nesting) tokens.now (λ x. plain_statement x.0) (λ x. x.1.now) result }
+{
     if nesting >= NESTING {
         return Err(Refusal::TooDeep(tokens.len()));
     }
-    let (name, rest) = read_name(rest)?;
-    let rest = expect_all(
-        rest,
+    let (name, behind_name) = read_name_and(
+        after,
         &[
             Fixed::Word(Word::In),
             Fixed::Word(Word::Seq),
             Fixed::Sign(Sign::Open),
         ],
     )?;
-    let (low, rest) = read_control(alloc, rest)?;
-    let rest = expect(rest, Fixed::Sign(Sign::Comma))?;
-    let (high, rest) = read_control(alloc, rest)?;
-    let rest = expect(rest, Fixed::Sign(Sign::Close))?;
-    let (body, rest) = read_block(alloc, rest, nesting + 1)?;
-    Ok((SourceStmt::For(name, low, high, body), rest))
+    let (low, behind_low) = read_control_and(alloc, behind_name, &[Fixed::Sign(Sign::Comma)])?;
+    let (high, behind_high) = read_control_and(alloc, behind_low, &[Fixed::Sign(Sign::Close)])?;
+    let (inside, rest) = read_block(alloc, behind_high, nesting + 1)?;
+    Ok((SourceStmt::For(name, low, high, inside), rest))
 }
 
 /// A colon, and the block of this nesting behind it.
@@ -255,30 +265,37 @@ fn read_block(
     alloc: Global,
     tokens: &[Token],
     nesting: u32,
-) -> Result<(SourceBlock, &[Token]), Refusal> {
-    let rest = expect_all(
+) -> Result<(Vec<SourceStmt>, &[Token]), Refusal>
+    requires { nesting ≤ 24 }
+    ensures { Reads (block nesting) tokens.now (λ x. map plain_statement x.0.items) (λ x. x.1.now) result }
+{
+    let after = expect_all(
         tokens,
         &[Fixed::Sign(Sign::Colon), Fixed::NewLine, Fixed::Indent],
     )?;
-    read_statements(alloc, rest, nesting)
+    let (inside, rest) = read_body(alloc, after, nesting)?;
+    Ok((inside, rest))
 }
 
 /// The statements of a block of this nesting, and its end.
 #[cycle(statements)]
-pub fn read_statements(
+pub fn read_body(
     alloc: Global,
     tokens: &[Token],
     nesting: u32,
-) -> Result<(SourceBlock, &[Token]), Refusal> {
-    let mut block = SourceBlock::new(alloc);
+) -> Result<(Vec<SourceStmt>, &[Token]), Refusal>
+    requires { nesting ≤ 24 }
+    ensures { Reads (body nesting) tokens.now (λ x. (map plain_statement x.0.items, tt)) (λ x. x.1.now) result }
+{
+    let mut inside = Vec::new(alloc);
     let (first, behind_first) = read_statement(alloc, tokens, nesting)?;
-    block.push(first)?;
+    inside.push(first)?;
     let mut rest = behind_first;
     'more: while !stands_first(rest, Fixed::Dedent) {
         let (statement, after) = read_statement(alloc, rest, nesting)?;
-        block.push(statement)?;
+        inside.push(statement)?;
         rest = after;
     }
-    let rest = expect(rest, Fixed::Dedent)?;
-    Ok((block, rest))
+    let behind_block = expect_all(rest, &[Fixed::Dedent])?;
+    Ok((inside, behind_block))
 }

@@ -1,0 +1,5 @@
+mod Optional
+mod Parts
+mod Lists
+mod Parameters
+mod Statements
