@@ -2,4 +2,6 @@ mod Optional
 mod Parts
 mod Lists
 mod Parameters
+mod Made
+mod Arguments
 mod Statements

@@ -263,3 +263,8 @@ enclosed_full P Short plain tokens rest after more list t token can begun comma 
     enclosed_later P Short plain tokens rest list (TooLong (length after)) can begun
     (commas_full P (Sign Comma) Short (Is (Sign Close)) begun.middle after more (map plain begun.tail) t token (enclosed_apart P Short can)
     (subst (Commas P (Sign Comma) (Is (Sign Close)) begun.middle (map plain begun.tail)) comma begun.items) begun.short unclosed next fits spelled over)
+
+-- what is left behind some of a phrase is not longer
+pub some_shorter : {X T : Type 0} (P : Phrase Token T) (ends : Option Token → Type 0) (plain : X → T) (tokens rest : List Token) (list : List X) → Some_read P ends plain tokens list rest → length rest ≤ length tokens
+some_shorter P ends plain tokens rest list begun =
+    omega (arith, ap length begun.taken.whole, length-append (P.spell (plain begun.head)) begun.middle, ap length begun.items.whole, length-append (spell_all P (map plain begun.tail)) rest)

@@ -672,6 +672,19 @@ for_deep nesting tokens after deep front = record {
   stuck = λ other x y same fits follows equal. let less : nesting < 24 = for_nests nesting other y fits (sym (ap first front) ∙ same ∙ ap first equal) in omega (arith, less, deep);
 }
 
+pub no_head : (o : Option Token) → (o ≡ Some (Word w.Pass) → ⊥) → (o ≡ Some (Word w.If) → ⊥) → (o ≡ Some (Word w.For) → ⊥) → IsNoHead o
+no_head (Some (Word w.Pass)) no_pass no_if no_for = no_pass refl
+no_head (Some (Word w.If)) no_pass no_if no_for = no_if refl
+no_head (Some (Word w.For)) no_pass no_if no_for = no_for refl
+no_head other no_pass no_if no_for = tt
+
+pub begins_store : (o : Option Token) → (o ≡ Some (Sign Colon) → ⊥) → (o ≡ Some (Sign Open) → ⊥) → (o ≡ Some (Sign Dot) → ⊥) → (o ≡ Some (Sign Assign) → ⊥) → BeginsStore o
+begins_store (Some (Sign Colon)) no_colon no_open no_dot no_equal = no_colon refl
+begins_store (Some (Sign Open)) no_colon no_open no_dot no_equal = no_open refl
+begins_store (Some (Sign Dot)) no_colon no_open no_dot no_equal = no_dot refl
+begins_store (Some (Sign Assign)) no_colon no_open no_dot no_equal = no_equal refl
+begins_store other no_colon no_open no_dot no_equal = tt
+
 -- the lines of a block
 
 no_else : (s : Statement) (y : List Token) → first (spelling s ++ y) ≡ Some (Word w.Else) → ⊥

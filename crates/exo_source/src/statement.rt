@@ -253,9 +253,11 @@ fn read_for<'a>(
             Fixed::Sign(Sign::Open),
         ],
     )?;
-    let (low, behind_low) = read_control_and(alloc, behind_name, &[Fixed::Sign(Sign::Comma)])?;
-    let (high, behind_high) = read_control_and(alloc, behind_low, &[Fixed::Sign(Sign::Close)])?;
-    let (inside, rest) = read_block(alloc, behind_high, nesting + 1)?;
+    let (low, behind_low) = read_control(alloc, behind_name)?;
+    let before_high = expect_all(behind_low, &[Fixed::Sign(Sign::Comma)])?;
+    let (high, behind_high) = read_control(alloc, before_high)?;
+    let before_block = expect_all(behind_high, &[Fixed::Sign(Sign::Close)])?;
+    let (inside, rest) = read_block(alloc, before_block, nesting + 1)?;
     Ok((SourceStmt::For(name, low, high, inside), rest))
 }
 

@@ -11,4 +11,4 @@ pub returns-in_err-rest : goal.returns-in_err-rest
 returns-in_err-rest c = λ nesting. exit _ _ _ _ _ _ c.from_residual-in_err-rest.ensures.1 (whole_err _ _ _ _ _ _ (step_equation nesting _ _ c.requires) (later equation1 c.in_ok-right.ensures _ c.in_err-rest.ensures))
 
 pub returns : goal.returns
-returns c = λ nesting. step_taken _ _ _ _ _ _ _ (step_equation nesting _ _ c.requires) (both equation1 c.in_ok-right.ensures c.in_ok-rest.ensures)
+returns c = λ nesting. rw c.equated.ensures (step_taken _ _ _ _ _ _ _ (step_equation nesting _ _ c.requires) (both equation1 c.in_ok-right.ensures c.in_ok-rest.ensures))

@@ -11,4 +11,4 @@ pub returns-in_err-reduces : goal.returns-in_err-reduces
 returns-in_err-reduces c = λ nesting. exit _ _ _ _ _ _ c.from_residual-in_err-reduces.ensures.1 (whole_err _ _ _ _ _ _ (step_storing nesting _ _ c.requires.short c.requires.front) (later stored1 c.in_ok-list.ensures _ c.in_err-reduces.ensures))
 
 pub returns : goal.returns
-returns c = λ nesting. step_taken _ _ _ _ _ _ _ (step_storing nesting _ _ c.requires.short c.requires.front) (both stored1 c.in_ok-list.ensures c.in_ok-reduces.ensures)
+returns c = λ nesting. rw c.stored.ensures (step_taken _ _ _ _ _ _ _ (step_storing nesting _ _ c.requires.short c.requires.front) (both stored1 c.in_ok-list.ensures c.in_ok-reduces.ensures))
