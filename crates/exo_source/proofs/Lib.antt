@@ -5,3 +5,5 @@ mod Parameters
 mod Made
 mod Arguments
 mod Statements
+mod Neighbours
+mod Items

@@ -268,3 +268,13 @@ enclosed_full P Short plain tokens rest after more list t token can begun comma 
 pub some_shorter : {X T : Type 0} (P : Phrase Token T) (ends : Option Token → Type 0) (plain : X → T) (tokens rest : List Token) (list : List X) → Some_read P ends plain tokens list rest → length rest ≤ length tokens
 some_shorter P ends plain tokens rest list begun =
     omega (arith, ap length begun.taken.whole, length-append (P.spell (plain begun.head)) begun.middle, ap length begun.items.whole, length-append (spell_all P (map plain begun.tail)) rest)
+
+-- any number of a phrase
+
+pub many_next : {X T : Type 0} (P : Phrase Token T) (ends : Option Token → Type 0) (plain : X → T) (tokens rest after : List Token) (list : List X) (s : X) → Apart P ends → Items P ends tokens (map plain list) rest → Taken P rest (plain s) after → Items P ends tokens (map plain (list ++ (s ∷ []))) after
+many_next {T = T} P ends plain tokens rest after list s apart items taken =
+    subst (λ (w : List T). Items P ends tokens w after) (sym (map_snoc plain list s)) (items_next P ends tokens rest after (map plain list) (plain s) apart items taken)
+
+pub many_err : {T : Type 0} (P : Phrase Token T) (ends : Option Token → Type 0) (tokens rest : List Token) (list : List T) (e : Refusal) → Apart P ends → Items P ends tokens list rest → (ends (first rest) → ⊥) → Refuses P rest e → Refuses (many P ends) tokens e
+many_err P ends tokens rest list e apart items unended refuses =
+    refuses_along P rest (many P ends) tokens e (λ cause last refused. items_refused P ends tokens rest list last apart items unended refused) refuses

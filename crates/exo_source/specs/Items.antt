@@ -2,7 +2,7 @@
 use Rattle.std.specs.Prelude.{◌≡◌, ℕ, ◌≤◌, List, [], ◌∷◌, ◌++◌, Option, Some, None, Bool, length}
 use Rattle.phrases.specs.Limits.{Limits, Keeps}
 use Rattle.phrases.specs.Phrase.{Phrase}
-use Rattle.phrases.specs.Sequence.{AllFit, spell_all, carried, several, many}
+use Rattle.phrases.specs.Sequence.{AllFit, spell_all, exactly, then, carried, several, many}
 use Rattle.exo_reader.specs.Values.{name, literal}
 use Rattle.exo_reader.specs.Expression.{Tree, control}
 use Rattle.exo_lexer.specs.declared.token.Token.{Token}
@@ -11,7 +11,7 @@ use Rattle.exo_lexer.specs.declared.token.Sign.TheVariants.{Open, Close, Colon, 
 use Rattle.exo_lexer.specs.declared.token.Word.TheVariants as w
 use Rattle.exo_lexer.specs.declared.token.Decorator.TheVariants as d
 use Rattle.exo_source.specs.Source.{Definition, ConfigField, Setting, strings, int, yes, no, Attribute, Item, procedure, instruction, configuration, memory}
-use Rattle.exo_source.specs.Parts.{Is, HasSome, some_of, type_name, parameters}
+use Rattle.exo_source.specs.Parts.{Is, IsNot, HasSome, some_of, type_name, parameters}
 use Rattle.exo_source.specs.Statements.{body}
 
 -- strings one after another, as one
@@ -23,6 +23,11 @@ joined (piece ∷ more) = piece ++ joined more
 abbrev pub NoString : Option Token → Type 0
 NoString (Some (Str x)) = ⊥
 NoString other = Unit {0}
+
+-- a string stands first
+abbrev pub StartsWithString : List Token → Type 0
+StartsWithString (Str x ∷ more) = Unit {0}
+StartsWithString other = ⊥
 
 -- neighbouring strings of at most 1,024 bytes together
 abbrev pub FewBytes : List (List ℕ) → Type 0
@@ -80,7 +85,7 @@ assertion =
     }
 
 abbrev pub assertions : Phrase Token (List Tree)
-assertions = many assertion (λ o. o ≡ Some (Word w.Assert) → ⊥)
+assertions = many assertion (IsNot (Word w.Assert))
 
 -- the name, the parameters, the assertions and the body, which is the first block
 abbrev pub definition : Phrase Token Definition
@@ -91,21 +96,33 @@ definition =
       Follows = λ o. Unit {0};
     }
 
--- the header of a class and its lines
-abbrev pub class : List ℕ → List Token → List Token
-class x lines = NewLine ∷ Word w.Class ∷ Name x ∷ Sign Colon ∷ NewLine ∷ Indent ∷ (lines ++ (Dedent ∷ []))
+-- the header of a class behind its decorator
+abbrev pub class_header : Phrase Token (List ℕ)
+class_header =
+    record {
+      Fits = name.Fits;
+      spell = λ x. NewLine ∷ Word w.Class ∷ Name x ∷ Sign Colon ∷ NewLine ∷ Indent ∷ [];
+      Follows = λ o. Unit {0};
+    }
+
+-- one field or more, or one attribute or more, and the end of their block
+abbrev pub fields : Phrase Token (List ConfigField × (Unit {0}))
+fields = then (some_of field (Is Dedent)) (exactly (Dedent ∷ []))
+
+abbrev pub attributes : Phrase Token (List Attribute × (Unit {0}))
+attributes = then (some_of attribute (Is Dedent)) (exactly (Dedent ∷ []))
 
 abbrev pub ItemFits : Limits → Item → Type 0
 ItemFits limits (procedure p) = definition.Fits limits p
 ItemFits limits (instruction template p) = neighbours.Fits limits template × definition.Fits limits p
-ItemFits limits (configuration x list) = name.Fits limits x × (some_of field (Is Dedent)).Fits limits list
-ItemFits limits (memory x list) = name.Fits limits x × (some_of attribute (Is Dedent)).Fits limits list
+ItemFits limits (configuration x list) = class_header.Fits limits x × fields.Fits limits (list, tt)
+ItemFits limits (memory x list) = class_header.Fits limits x × attributes.Fits limits (list, tt)
 
 abbrev pub spell_item : Item → List Token
 spell_item (procedure p) = Decorator d.Procedure ∷ NewLine ∷ definition.spell p
 spell_item (instruction template p) = Decorator d.Instruction ∷ Sign Open ∷ (neighbours.spell template ++ (Sign Close ∷ NewLine ∷ definition.spell p))
-spell_item (configuration x list) = Decorator d.Configuration ∷ class x (spell_all field list)
-spell_item (memory x list) = Decorator d.MemoryClass ∷ class x (spell_all attribute list)
+spell_item (configuration x list) = Decorator d.Configuration ∷ (class_header.spell x ++ fields.spell (list, tt))
+spell_item (memory x list) = Decorator d.MemoryClass ∷ (class_header.spell x ++ attributes.spell (list, tt))
 
 abbrev pub item : Phrase Token Item
 item = record { Fits = ItemFits; spell = spell_item; Follows = λ o. Unit {0} }

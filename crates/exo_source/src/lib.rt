@@ -2,6 +2,7 @@
 #![tactic(auto)]
 
 pub mod argument;
+pub mod item;
 pub mod lines;
 pub mod parameter;
 pub mod part;

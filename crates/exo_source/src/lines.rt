@@ -1,9 +1,9 @@
 // Strings that stand beside one another.
 
-ghost use Rattle.std.specs.Prelude.{◌≡◌, ◌∷◌, ◌+◌, ◌≤◌, length, List, Some, MatchOption};
+ghost use Rattle.std.specs.Prelude.{◌≡◌, ◌∷◌, ◌+◌, ◌≤◌, length, List, Some, IsTrue, ◌↔◌, MatchOption};
 ghost use Rattle.phrases.specs.Phrase.{first, Taken, Refused};
 ghost use Rattle.phrases.specs.Answers.{Reads};
-ghost use Rattle.exo_source.specs.Items.{neighbours};
+ghost use Rattle.exo_source.specs.Items.{neighbours, StartsWithString};
 ghost use Rattle.exo_lexer.specs.declared.token.Token.{Token};
 
 use exo_lexer::text::Text;
@@ -22,6 +22,16 @@ pub fn string_at(tokens: &[Token]) -> Option<(&Text, &[Token])>
     match token {
         Token::Str(text) => Some((text, rest)),
         _ => None,
+    }
+}
+
+/// Whether a string stands first.
+pub fn string_stands_first(tokens: &[Token]) -> bool
+    ensures { IsTrue result ↔ StartsWithString tokens.now }
+{
+    match next(tokens) {
+        Some((Token::Str(_), _)) => true,
+        _ => false,
     }
 }
 

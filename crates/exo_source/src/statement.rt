@@ -160,11 +160,11 @@ fn read_simple(alloc: Global, tokens: &[Token]) -> Result<(SourceStmt, &[Token])
     };
     match token {
         Token::Name(name) => {
-            if !is_short(name) {
-                return Err(Refusal::TooLong(tokens.len()));
+            if is_short(name) {
+                let copy = name.clone()?;
+                return read_named(alloc, copy, rest);
             }
-            let copy = name.clone()?;
-            read_named(alloc, copy, rest)
+            Err(Refusal::TooLong(tokens.len()))
         }
         _ => Err(Refusal::Syntax(tokens.len())),
     }

@@ -5,7 +5,7 @@ use Rattle.phrases.proofs.Joints.{whole_err, now, later, both}
 use Rattle.exo_source.proofs.Made.{made_branch, made_loop}
 use Rattle.exo_source.proofs.Statements.{step_block, block1, step_else, optional_else, if1, if2, step_if, for1, for2, for3, for4, for5, step_for, if_deep, for_deep, apart, body1, statement_shorter}
 use Rattle.exo_source.proofs.Lists.{some_first, some_next, some_done, some_err_first, some_err}
-use Rattle.exo_source.proofs.Optional.{something_err, something_taken}
+use Rattle.exo_source.proofs.Optional.{something_err, something_taken, nothing_taken}
 use Rattle.exo_source.proofs.statement.+statements.Goals as goal
 
 pub read_if-returns-then-nesting-ge-NESTING : goal.read_if-returns-then-nesting-ge-NESTING
@@ -22,6 +22,9 @@ read_if-returns-in_err-other t c = exit _ _ _ _ _ _ c.from_residual-in_err-other
 
 pub read_if-returns : goal.read_if-returns
 read_if-returns t c = rw (made_branch _ _ _) (step_taken _ _ _ _ _ _ _ (step_if _ _ _ (omega arith) c.requires.front) (both (if1 _) c.in_ok-condition.ensures (both (if2 _) c.in_ok-inside.ensures c.in_ok-other.ensures)))
+
+pub read_else-returns-in_default : goal.read_else-returns-in_default
+read_else-returns-in_default t c = rw c.new.ensures.items (nothing_taken (optional_else _) _ c.in_default.ensures)
 
 pub read_else-returns-in_err-inside : goal.read_else-returns-in_err-inside
 read_else-returns-in_err-inside t c = rw c.in-Some.ensures (exit _ _ _ _ _ _ c.from_residual.ensures.1 (something_err (optional_else _) _ _ refl (whole_err _ _ _ _ _ _ (step_else _ _) c.in_err-inside.ensures)))

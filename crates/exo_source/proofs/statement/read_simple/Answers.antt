@@ -6,7 +6,7 @@ pub returns-in_default : goal.returns-in_default
 returns-in_default c = λ nesting. statement_end _ _ c.in_default.ensures
 
 pub returns-in_default-token : goal.returns-in_default-token
-returns-in_default-token c = λ nesting. statement_start _ _ _ _ c.in-Some.ensures c.requires c.in_default-token.not-Name
+returns-in_default-token c = λ nesting. statement_start _ _ _ _ c.in-Some.ensures c.requires.no_word c.in_default-token.not-Name
 
-pub returns-then-not-is_short : goal.returns-then-not-is_short
-returns-then-not-is_short c = λ nesting. statement_long _ _ _ _ (rw c.in-Name.is at c.in-Some.ensures) (λ short. let h : false ≡ true = c.is_short.ensures.1 short in cc)
+pub returns-else-is_short : goal.returns-else-is_short
+returns-else-is_short c = λ nesting. statement_long _ _ _ _ (rw c.in-Name.is at c.in-Some.ensures) (λ short. let h : false ≡ true = c.if-is_short.ensures.1 short in cc)
