@@ -60,9 +60,6 @@ assertions_apart = record {
   last = λ o ends. tt;
 }
 
-pub assertion_shorter : (tokens rest : List Token) (e : Tree) → Taken assertion tokens e rest → length rest < length tokens
-assertion_shorter tokens rest e taken = omega (arith, ap length taken.whole, length-append (assertion.spell e) rest)
-
 -- definitions
 
 abbrev pub Def5T : Type 0

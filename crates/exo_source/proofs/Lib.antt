@@ -7,3 +7,4 @@ mod Arguments
 mod Statements
 mod Neighbours
 mod Items
+mod Units

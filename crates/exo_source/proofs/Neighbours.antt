@@ -5,7 +5,7 @@ use Rattle.phrases.specs.Limits.{Limits, in_depth, in_length, Cause, syntax, too
 use Rattle.phrases.specs.Phrase.{first, Phrase, Taken, Refused, GoesOn}
 use Rattle.phrases.specs.Sequence.{AllFit, spell_all, carried, several}
 use Rattle.phrases.proofs.Phrases.{keeps_all, keeps_map, goes_along}
-use Rattle.phrases.proofs.Sequences.{Items, Apart, all_append, spell_all-append, several_done, several_full}
+use Rattle.phrases.proofs.Sequences.{Items, items_next, Apart, all_append, spell_all-append, several_done, several_full}
 use Rattle.exo_lexer.specs.declared.token.Token.{Token}
 use Rattle.exo_lexer.specs.declared.token.Token.TheVariants.{Str}
 use Rattle.exo_source.specs.Parts.{HasSome}
@@ -88,8 +88,8 @@ no_pieces : (tokens : List Token) (other : List (List ℕ)) (y : List Token) →
 no_pieces tokens [] y none some same = some
 no_pieces tokens (x ∷ more) y none some same = none x same
 
-pub pieces_none : (tokens rest : List Token) → tokens ≡ rest → ((z : List ℕ) → first rest ≡ Some (Str z) → ⊥) → Refused neighbours syntax tokens (length rest)
-pieces_none tokens rest whole none = record {
+refused_none : (tokens rest : List Token) → tokens ≡ rest → ((z : List ℕ) → first rest ≡ Some (Str z) → ⊥) → Refused neighbours syntax tokens (length rest)
+refused_none tokens rest whole none = record {
   before = [];
   rest = rest;
   whole = whole;
@@ -98,3 +98,21 @@ pieces_none tokens rest whole none = record {
   goes = tt;
   stuck = λ other x y same fits follows equal. no_pieces rest other y none fits.1 (same ∙ ap first equal);
 }
+
+pub pieces_none : (tokens rest : List Token) (list : List (List ℕ)) → Items piece NoString tokens list rest → length list ≡ 0 → ((z : List ℕ) → first rest ≡ Some (Str z) → ⊥) → Refused neighbours syntax tokens (length rest)
+pieces_none tokens rest [] items empty none = refused_none tokens rest items.whole none
+pieces_none tokens rest (x ∷ list) items empty none = absurd (omega (arith, empty))
+
+pub some_by : (list : List (List ℕ)) → 1 ≤ length list → HasSome list
+some_by [] long = absurd (omega (arith, long))
+some_by (x ∷ list) long = tt
+
+taken_piece : (rest after : List Token) (x : List ℕ) → rest ≡ Str x ∷ after → Taken piece rest x after
+taken_piece rest after x whole = record {
+  fits = λ limits. tt;
+  whole = whole;
+  only = λ limits other u v same fits follows equal. let e : Str x ≡ Str other = cc (equal) in let f : x ≡ other = cc (e) in sym f;
+}
+
+pub pieces_next : (tokens rest after : List Token) (list : List (List ℕ)) (x : List ℕ) → Items piece NoString tokens list rest → rest ≡ Str x ∷ after → Items piece NoString tokens (list ++ (x ∷ [])) after
+pieces_next tokens rest after list x items whole = items_next piece NoString tokens rest after list x pieces_apart items (taken_piece rest after x whole)

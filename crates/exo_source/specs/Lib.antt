@@ -3,3 +3,4 @@ pub mod Parts
 pub mod Statements
 pub mod Items
 pub mod Views
+pub mod Texts

@@ -8,3 +8,4 @@ pub mod parameter;
 pub mod part;
 pub mod source;
 pub mod statement;
+pub mod unit;

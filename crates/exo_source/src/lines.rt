@@ -1,6 +1,6 @@
 // Strings that stand beside one another.
 
-ghost use Rattle.std.specs.Prelude.{◌≡◌, ◌∷◌, ◌+◌, ◌≤◌, length, List, Some, IsTrue, ◌↔◌, MatchOption};
+ghost use Rattle.std.specs.Prelude.{◌≡◌, ◌∷◌, ◌+◌, ◌≤◌, ℕ, length, List, Some, IsTrue, ◌↔◌, MatchOption};
 ghost use Rattle.phrases.specs.Phrase.{first, Taken, Refused};
 ghost use Rattle.phrases.specs.Answers.{Reads};
 ghost use Rattle.exo_source.specs.Items.{neighbours, StartsWithString};
@@ -47,11 +47,12 @@ pub fn read_strings(alloc: Global, tokens: &[Token]) -> Result<(Vec<Text>, &[Tok
         if length > room {
             return Err(Refusal::TooLong(rest.len()));
         }
-        pieces.push(piece.clone()?)?;
+        let copy = piece.clone()?;
+        pieces.push(copy)?;
         room -= length;
         rest = after;
     }
-    if pieces.is_empty() {
+    if pieces.len() == 0 {
         return Err(Refusal::Syntax(rest.len()));
     }
     Ok((pieces, rest))

@@ -1,9 +1,10 @@
-use Rattle.std.proofs.Common.{ap}
+use Rattle.std.proofs.Common.{ap, arith, length}
 use Rattle.phrases.specs.Phrase.{first}
+use Rattle.phrases.proofs.Phrases.{taken_shorter}
 use Rattle.phrases.proofs.Exits.{exit}
 use Rattle.phrases.proofs.Sequences.{step_taken, items_none, items_done}
 use Rattle.phrases.proofs.Joints.{whole_err}
-use Rattle.exo_source.proofs.Items.{step_assertion, assertions_apart, assertion_shorter}
+use Rattle.exo_source.proofs.Items.{step_assertion, assertions_apart}
 use Rattle.exo_source.proofs.Lists.{many_next, many_err}
 use Rattle.exo_source.proofs.item.read_asserts.Goals as goal
 
@@ -17,7 +18,7 @@ pub more-preserved : goal.more-preserved
 more-preserved c = rw c.in_ok-push.ensures.items (many_next _ _ _ _ _ _ _ _ assertions_apart c.more.invariant (rw c.in-Some.ensures (step_taken _ _ _ _ _ _ _ (step_assertion _) c.in_ok-condition.ensures)))
 
 pub more-smaller : goal.more-smaller
-more-smaller c = assertion_shorter _ _ _ (rw c.in-Some.ensures (step_taken _ _ _ _ _ _ _ (step_assertion _) c.in_ok-condition.ensures))
+more-smaller c = omega (arith, ap length c.in-Some.ensures, taken_shorter c.in_ok-condition.ensures)
 
 pub returns : goal.returns
 returns c = items_done _ _ _ _ _ c.more.invariant (λ limits e y fits same. c.in_default.ensures same)

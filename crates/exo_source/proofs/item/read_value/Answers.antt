@@ -8,8 +8,8 @@ use Rattle.exo_source.proofs.item.read_value.Goals as goal
 pub returns-in-Some : goal.returns-in-Some
 returns-in-Some c = taken_yes _ _ c.in-Some.ensures
 
-pub returns-in-Some-2 : goal.returns-in-Some-2
-returns-in-Some-2 c = taken_no _ _ c.in-Some-2.ensures
+pub returns-in-Some-behind : goal.returns-in-Some-behind
+returns-in-Some-behind c = taken_no _ _ c.in-Some-behind.ensures
 
 pub returns-in_err-pieces : goal.returns-in_err-pieces
 returns-in_err-pieces c = exit _ _ _ _ _ _ c.from_residual.ensures.1 (whole_err _ _ _ _ _ _ (step_strings _ (c.if-string_stands_first.ensures.0 refl)) c.in_err-pieces.ensures)
