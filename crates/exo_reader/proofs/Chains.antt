@@ -1,15 +1,20 @@
 -- Operands with operators of one level between them, read from the left.
-use Rattle.std.proofs.Common.{◌≡◌, ℕ, suc, ◌+◌, ◌<◌, ◌≤◌, List, [], ◌∷◌, ◌++◌, Option, Some, length, refl, sym, ap, ◌∙◌, append_assoc, subst, arith, ◌⊎◌, inl, inr}
+use Rattle.std.proofs.Common.{◌≡◌, ℕ, suc, ◌+◌, ◌-◌, ◌<◌, ◌≤◌, max, List, [], ◌∷◌, ◌++◌, Option, Some, length, refl, sym, ap, ◌∙◌, append_assoc, subst, arith, ◌⊎◌, inl, inr}
 use Rattle.std.proofs.lemmas.List.{append_cancel_left, append-nil}
 use Rattle.std.proofs.Math.Nat.{eq-or-lt_of_le}
-use Rattle.phrases.specs.Phrase.{first, Taken, Refused}
-use Rattle.exo_reader.specs.Expression.{Tree, number, variable, access, negative, parens, binary, level_of, left_level, sign, Stands, spelling, FollowsOperand, operand, Within, depth, nodes, NoSign}
+use Rattle.phrases.specs.Limits.{Limits, unlimited, in_depth, in_length, Cause, too_deep, too_long, passed}
+use Rattle.phrases.specs.Phrase.{first, Taken, GoesOn, Refused}
+use Rattle.phrases.proofs.Phrases.{goes_along}
+use Rattle.exo_reader.specs.Expression.{Tree, number, truth, variable, access, field, stride, relu, select, negative, parens, binary, level_of, left_level, sign, Stands, spelling, FollowsOperand, operand, Within, under, depth, nodes, NoSign}
+use Rattle.exo_reader.specs.Rooms.{Right}
+use Rattle.exo_lexer.specs.declared.token.Literal.TheVariants.{Value}
 use Rattle.exo_reader.specs.Chain.{Link, with_links, LinksAt, Extends, Begun}
 use Rattle.exo_reader.specs.declared.source.Operator.{Operator}
 use Rattle.exo_lexer.specs.declared.token.Token.{Token}
 use Rattle.exo_reader.specs.declared.expression.Room.{Room}
 use Rattle.exo_reader.proofs.Signs.{left_low, compared_left, sign_same, follows_sign, sign_follows, follows_weaker}
-use Rattle.exo_reader.proofs.Sizes.{within_front, within_link, Leaves, Right, right_within, within_binary, nodes_some}
+use Rattle.exo_reader.proofs.Sizes.{within_front, right_within, within_binary, depth_some, nodes_some}
+use Rattle.std.proofs.Math.Nat.{le-max_left, max-le}
 
 abbrev pub spelling_links : List Link → List Token
 spelling_links [] = []
@@ -31,8 +36,13 @@ links_snoc level (m ∷ links) l all here stands = (all.0, all.1, links_snoc lev
 -- a tighter operand stands in a looser place
 pub stands_weaker : (low high : ℕ) (t : Tree) → low ≤ high → Stands high t → Stands low t
 stands_weaker low high (number n) le stands = tt
+stands_weaker low high (truth b) le stands = tt
 stands_weaker low high (variable n) le stands = tt
 stands_weaker low high (access x i) le stands = stands
+stands_weaker low high (field x f) le stands = tt
+stands_weaker low high (stride x n) le stands = tt
+stands_weaker low high (relu i) le stands = stands
+stands_weaker low high (select a b c d) le stands = stands
 stands_weaker low high (negative i) le stands = stands
 stands_weaker low high (parens i) le stands = stands
 stands_weaker low high (binary o l r) le stands = (omega arith, stands.1, stands.2)
@@ -47,8 +57,13 @@ pub record Chain (level : ℕ) (t : Tree) : Type 0 where
 
 pub chain_of : (level : ℕ) (t : Tree) → Stands level t → Chain level t
 chain_of level (number n) stands = record { head = number n; links = []; stands = tt; at = tt; is = refl }
+chain_of level (truth b) stands = record { head = truth b; links = []; stands = tt; at = tt; is = refl }
 chain_of level (variable n) stands = record { head = variable n; links = []; stands = tt; at = tt; is = refl }
 chain_of level (access x i) stands = record { head = access x i; links = []; stands = stands; at = tt; is = refl }
+chain_of level (field x f) stands = record { head = field x f; links = []; stands = tt; at = tt; is = refl }
+chain_of level (stride x n) stands = record { head = stride x n; links = []; stands = tt; at = tt; is = refl }
+chain_of level (relu i) stands = record { head = relu i; links = []; stands = stands; at = tt; is = refl }
+chain_of level (select a b c d) stands = record { head = select a b c d; links = []; stands = stands; at = tt; is = refl }
 chain_of level (negative i) stands = record { head = negative i; links = []; stands = stands; at = tt; is = refl }
 chain_of level (parens i) stands = record { head = parens i; links = []; stands = stands; at = tt; is = refl }
 chain_of level (binary o l r) stands =
@@ -79,13 +94,13 @@ links_equal left links other x y is equal =
 
 pub begun_of_taken : (level : ℕ) (room : Room) (tokens : List Token) (t : Tree) (rest : List Token) → Taken (operand (suc level) room) tokens t rest → Begun level room tokens t rest
 begun_of_taken level room tokens t rest taken = record {
-  fits = (stands_weaker level (suc level) t (omega arith) taken.fits.0, taken.fits.1);
+  fits = λ limits. (stands_weaker level (suc level) t (omega arith) (taken.fits limits).0, (taken.fits limits).1);
   whole = taken.whole;
-  only = λ other x y same fits follows equal.
+  only = λ limits other x y same fits follows equal.
       let chain : Chain level other = chain_of level other fits.0 in
       let e : spelling t ++ x ≡ spelling chain.head ++ (spelling_links chain.links ++ y) =
       equal ∙ ap (λ s. spelling s ++ y) chain.is ∙ ap (λ s. s ++ y) (spelling-with_links chain.head chain.links) ∙ append_assoc (spelling chain.head) (spelling_links chain.links) y in
-      let head : chain.head ≡ t = taken.only chain.head x (spelling_links chain.links ++ y) same (chain.stands, within_front room chain.head other chain.links chain.is fits.1) (follows_links level chain.links y chain.at follows) e in
+      let head : chain.head ≡ t = taken.only limits chain.head x (spelling_links chain.links ++ y) same (chain.stands, within_front limits room chain.head other chain.links chain.is fits.1) (follows_links level chain.links y chain.at follows) e in
       record { links = chain.links; at = chain.at; is = chain.is ∙ ap (λ h. with_links h chain.links) head };
 }
 
@@ -97,8 +112,8 @@ pub taken_of_begun : (level : ℕ) (room : Room) (tokens : List Token) (left : T
 taken_of_begun level room tokens left rest begun none = record {
   fits = begun.fits;
   whole = begun.whole;
-  only = λ other x y same fits follows equal.
-      let extends : Extends level left other = begun.only other x y same fits follows equal in
+  only = λ limits other x y same fits follows equal.
+      let extends : Extends level left other = begun.only limits other x y same fits follows equal in
       no_links level left rest other x y none same extends.links extends.at extends.is (links_equal left extends.links other x y extends.is equal);
 }
 
@@ -126,25 +141,29 @@ linked_by level left other operator x y here follows (l ∷ links) at is equal =
       equal = (let tails : x ≡ (spelling l.right ++ spelling_links links) ++ y = cc in tails ∙ append_assoc (spelling l.right) (spelling_links links) y);
     }
 
-pub linked : (level : ℕ) (room : Room) (tokens : List Token) (left other : Tree) (rest x y : List Token) (operator : Operator) → Begun level room tokens left rest → first rest ≡ Some (sign operator) → level_of operator ≡ level → (operand level room).Fits other → FollowsOperand level (first y) → spelling left ++ (sign operator ∷ x) ≡ spelling other ++ y → Linked level left other operator x y
-linked level room tokens left other rest x y operator begun here_sign here fits follows equal =
-    let extends : Extends level left other = begun.only other (sign operator ∷ x) y here_sign fits follows equal in
+pub linked : (limits : Limits) (level : ℕ) (room : Room) (tokens : List Token) (left other : Tree) (rest x y : List Token) (operator : Operator) → Begun level room tokens left rest → first rest ≡ Some (sign operator) → level_of operator ≡ level → (operand level room).Fits limits other → FollowsOperand level (first y) → spelling left ++ (sign operator ∷ x) ≡ spelling other ++ y → Linked level left other operator x y
+linked limits level room tokens left other rest x y operator begun here_sign here fits follows equal =
+    let extends : Extends level left other = begun.only limits other (sign operator ∷ x) y here_sign fits follows equal in
     linked_by level left other operator x y here follows extends.links extends.at extends.is (links_equal left extends.links other (sign operator ∷ x) y extends.is equal)
 
 pub begun_next : (level : ℕ) (room inner : Room) (tokens : List Token) (left : Tree) (after : List Token) (operator : Operator) (right : Tree) (rest : List Token) → Begun level room tokens left (sign operator ∷ after) → level_of operator ≡ level → Stands (left_level operator) left → Right room inner left → Taken (operand (suc level) inner) after right rest → Begun level room tokens (binary operator left right) rest
 begun_next level room inner tokens left after operator right rest begun here ready rights taken = record {
-  fits = ((omega arith, ready, subst (λ (k : ℕ). Stands (suc k) right) (sym here) taken.fits.0), within_binary room inner operator left right rights taken.fits.1);
+  fits = λ limits. ((omega arith, ready, subst (λ (k : ℕ). Stands (suc k) right) (sym here) (taken.fits limits).0), within_binary limits room inner operator left right rights (begun.fits limits).1 (taken.fits limits).1);
   whole = begun.whole ∙ ap (λ s. spelling left ++ (sign operator ∷ s)) taken.whole ∙ sym (append_assoc (spelling left) (sign operator ∷ spelling right) rest);
-  only = λ other x y same fits follows equal.
+  only = λ limits other x y same fits follows equal.
       let shifted : spelling left ++ (sign operator ∷ (spelling right ++ x)) ≡ spelling other ++ y = sym (append_assoc (spelling left) (sign operator ∷ spelling right) x) ∙ equal in
-      let link : Linked level left other operator (spelling right ++ x) y = linked level room tokens left other (sign operator ∷ after) (spelling right ++ x) y operator begun refl here fits follows shifted in
-      let within : Within inner link.right = right_within room inner left link.right rights (within_link room operator left link.right other link.links link.is fits.1) in
-      let alike : link.right ≡ right = taken.only link.right x (spelling_links link.links ++ y) same (link.stands, within) (follows_links level link.links y link.at follows) link.equal in
+      let link : Linked level left other operator (spelling right ++ x) y = linked limits level room tokens left other (sign operator ∷ after) (spelling right ++ x) y operator begun refl here fits follows shifted in
+      let within : Within limits inner link.right = subst (λ (r : Room). Within limits r link.right) (sym rights.is) (right_within limits room operator left link.right other link.links link.is fits.1) in
+      let alike : link.right ≡ right = taken.only limits link.right x (spelling_links link.links ++ y) same (link.stands, within) (follows_links level link.links y link.at follows) link.equal in
       record { links = link.links; at = link.at; is = link.is ∙ ap (λ r. with_links (binary operator left r) link.links) alike };
 }
 
-pub refused_right : (level : ℕ) (room inner : Room) (tokens : List Token) (left : Tree) (after : List Token) (operator : Operator) (last : ℕ) → Begun level room tokens left (sign operator ∷ after) → level_of operator ≡ level → Stands (left_level operator) left → Right room inner left → Refused (operand (suc level) inner) after last → Refused (operand level room) tokens last
-refused_right level room inner tokens left after operator last begun here ready rights refused = record {
+fits_binary : (limits : Limits) (level : ℕ) (room inner : Room) (left right : Tree) (operator : Operator) → level_of operator ≡ level → Stands (left_level operator) left → Right room inner left → Within limits room left → (operand (suc level) inner).Fits limits right → (operand level room).Fits limits (binary operator left right)
+fits_binary limits level room inner left right operator here ready rights within fits =
+    ((omega arith, ready, subst (λ (k : ℕ). Stands (suc k) right) (sym here) fits.0), within_binary limits room inner operator left right rights within fits.1)
+
+pub refused_right : (level : ℕ) (room inner : Room) (tokens : List Token) (left : Tree) (after : List Token) (operator : Operator) {cause : Cause} (last : ℕ) → Begun level room tokens left (sign operator ∷ after) → level_of operator ≡ level → Stands (left_level operator) left → Right room inner left → Refused (operand (suc level) inner) cause after last → Refused (operand level room) cause tokens last
+refused_right level room inner tokens left after operator {cause = cause} last begun here ready rights refused = record {
   before = spelling left ++ (sign operator ∷ refused.before);
   rest = refused.rest;
   whole = begun.whole ∙ ap (λ s. spelling left ++ (sign operator ∷ s)) refused.whole ∙ sym (append_assoc (spelling left) (sign operator ∷ refused.before) refused.rest);
@@ -152,41 +171,77 @@ refused_right level room inner tokens left after operator last begun here ready 
   begins = record {
     tree = binary operator left refused.begins.tree;
     more = refused.begins.more;
-    fits = ((omega arith, ready, subst (λ (k : ℕ). Stands (suc k) refused.begins.tree) (sym here) refused.begins.fits.0), within_binary room inner operator left refused.begins.tree rights refused.begins.fits.1);
+    fits = λ limits. fits_binary limits level room inner left refused.begins.tree operator here ready rights (begun.fits limits).1 (refused.begins.fits limits);
     spelled = append_assoc (spelling left) (sign operator ∷ refused.before) refused.begins.more ∙ ap (λ s. spelling left ++ (sign operator ∷ s)) refused.begins.spelled;
   };
+  goes = goes_along (operand (suc level) inner) (operand level room) cause refused.before refused.rest (spelling left ++ (sign operator ∷ refused.before)) refused.rest
+      (λ limits on. record {
+        tree = binary operator left on.tree;
+        token = on.token;
+        more = on.more;
+        next = on.next;
+        fits = fits_binary limits level room inner left on.tree operator here ready rights (begun.fits limits).1 on.fits;
+        spelled = append_assoc (spelling left) (sign operator ∷ refused.before) (on.token ∷ on.more) ∙ ap (λ s. spelling left ++ (sign operator ∷ s)) on.spelled;
+      }) refused.goes;
   stuck = λ other x y same fits follows equal.
       let shifted : spelling left ++ (sign operator ∷ (refused.before ++ x)) ≡ spelling other ++ y = sym (append_assoc (spelling left) (sign operator ∷ refused.before) x) ∙ equal in
-      let link : Linked level left other operator (refused.before ++ x) y = linked level room tokens left other (sign operator ∷ after) (refused.before ++ x) y operator begun refl here fits follows shifted in
-      let within : Within inner link.right = right_within room inner left link.right rights (within_link room operator left link.right other link.links link.is fits.1) in
+      let link : Linked level left other operator (refused.before ++ x) y = linked (passed cause) level room tokens left other (sign operator ∷ after) (refused.before ++ x) y operator begun refl here fits follows shifted in
+      let within : Within (passed cause) inner link.right = subst (λ (r : Room). Within (passed cause) r link.right) (sym rights.is) (right_within (passed cause) room operator left link.right other link.links link.is fits.1) in
       refused.stuck link.right x (spelling_links link.links ++ y) same (link.stands, within) (follows_links level link.links y link.at follows) link.equal;
 }
 
--- no room is left behind the operator
-too_many : (level : ℕ) (room : Room) (left other : Tree) (operator : Operator) (x y : List Token) → level_of operator ≡ level → (room.depth ≤ depth left) ⊎ (room.nodes ≤ nodes left + 1) → Within room other → FollowsOperand level (first y) → Some (sign operator) ≡ first x → (links : List Link) → other ≡ with_links left links → x ≡ spelling_links links ++ y → ⊥
-too_many level room left other operator x y here full within follows head [] is equal =
+-- no tree within the limits goes on with the operator
+no_link : (limits : Limits) (level : ℕ) (room : Room) (left other : Tree) (operator : Operator) (x y : List Token) → level_of operator ≡ level → ((l : Link) → Within limits room (binary l.operator left l.right) → ⊥) → Within limits room other → FollowsOperand level (first y) → Some (sign operator) ≡ first x → (links : List Link) → other ≡ with_links left links → x ≡ spelling_links links ++ y → ⊥
+no_link limits level room left other operator x y here full within follows head [] is equal =
     let h : level_of operator < level = sign_follows level operator (subst (λ (o : Option Token). FollowsOperand level o) (ap first (sym equal) ∙ sym head) follows) in omega (arith, h)
-too_many level room left other operator x y here full within follows head (l ∷ links) is equal =
-    let leaves : Leaves room left l.right = within_link room l.operator left l.right other links is within in
-    elim full as (λ _. ⊥) [
-      | inl deep ↦ omega (arith, leaves.left_depth)
-      | inr long ↦ omega (arith, leaves.nodes, nodes_some l.right)
-    ]
+no_link limits level room left other operator x y here full within follows head (l ∷ links) is equal =
+    full l (within_front limits room (binary l.operator left l.right) other links is within)
 
-pub refused_operator : (level : ℕ) (room : Room) (tokens : List Token) (left : Tree) (after : List Token) (operator : Operator) → Begun level room tokens left (sign operator ∷ after) → level_of operator ≡ level → (room.depth ≤ depth left) ⊎ (room.nodes ≤ nodes left + 1) → Refused (operand level room) tokens (length (sign operator ∷ after))
-refused_operator level room tokens left after operator begun here full = record {
+stuck_operator : (limits : Limits) (level : ℕ) (room : Room) (tokens : List Token) (left : Tree) (after : List Token) (operator : Operator) → Begun level room tokens left (sign operator ∷ after) → level_of operator ≡ level → ((l : Link) → Within limits room (binary l.operator left l.right) → ⊥) → (other : Tree) (x y : List Token) → Some (sign operator) ≡ first x → (operand level room).Fits limits other → FollowsOperand level (first y) → spelling left ++ x ≡ spelling other ++ y → ⊥
+stuck_operator limits level room tokens left after operator begun here full other x y same fits follows equal =
+    let extends : Extends level left other = begun.only limits other x y same fits follows equal in
+    no_link limits level room left other operator x y here full fits.1 follows same extends.links extends.is (links_equal left extends.links other x y extends.is equal)
+
+-- the operator with a literal at its right
+goes_operator : (limits : Limits) (level : ℕ) (room : Room) (left : Tree) (after : List Token) (operator : Operator) → level_of operator ≡ level → Stands (left_level operator) left → Within limits room (binary operator left (number (Value 0))) → GoesOn (operand level room) limits (spelling left) (sign operator ∷ after)
+goes_operator limits level room left after operator here ready within = record {
+  tree = binary operator left (number (Value 0));
+  token = sign operator;
+  more = spelling (number (Value 0));
+  next = refl;
+  fits = ((omega arith, ready, tt), within);
+  spelled = refl;
+}
+
+-- the left side is as deep as the room
+pub deep_operator : (level : ℕ) (room : Room) (tokens : List Token) (left : Tree) (after : List Token) (operator : Operator) → Begun level room tokens left (sign operator ∷ after) → level_of operator ≡ level → Stands (left_level operator) left → room.depth ≤ depth left → Refused (operand level room) too_deep tokens (length (sign operator ∷ after))
+deep_operator level room tokens left after operator begun here ready deep = record {
   before = spelling left;
   rest = sign operator ∷ after;
   whole = begun.whole;
   count = refl;
   begins = record { tree = left; more = []; fits = begun.fits; spelled = append-nil (spelling left) };
+  goes = goes_operator unlimited level room left after operator here ready tt;
   stuck = λ other x y same fits follows equal.
-      let extends : Extends level left other = begun.only other x y same fits follows equal in
-      too_many level room left other operator x y here full fits.1 follows same extends.links extends.is (links_equal left extends.links other x y extends.is equal);
+      stuck_operator in_depth level room tokens left after operator begun here (λ l within. omega (arith, within, le-max_left (depth left) (depth l.right))) other x y same fits follows equal;
 }
 
-pub refused_first : (level : ℕ) (room : Room) (tokens : List Token) (last : ℕ) → Refused (operand (suc level) room) tokens last → Refused (operand level room) tokens last
-refused_first level room tokens last refused = record {
+-- the left side leaves no node for a right one
+pub long_operator : (level : ℕ) (room : Room) (tokens : List Token) (left : Tree) (after : List Token) (operator : Operator) → Begun level room tokens left (sign operator ∷ after) → level_of operator ≡ level → Stands (left_level operator) left → depth left < room.depth → room.nodes ≤ nodes left + 1 → Refused (operand level room) too_long tokens (length (sign operator ∷ after))
+long_operator level room tokens left after operator begun here ready shallow long = record {
+  before = spelling left;
+  rest = sign operator ∷ after;
+  whole = begun.whole;
+  count = refl;
+  begins = record { tree = left; more = []; fits = begun.fits; spelled = append-nil (spelling left) };
+  goes = goes_operator in_depth level room left after operator here ready
+      (let deeper : max (depth left) 1 ≤ room.depth - 1 = max-le (omega (arith, shallow)) (omega (arith, shallow, depth_some left)) in omega (arith, deeper, shallow));
+  stuck = λ other x y same fits follows equal.
+      stuck_operator in_length level room tokens left after operator begun here (λ l within. omega (arith, within.1.0, nodes_some l.right)) other x y same fits follows equal;
+}
+
+pub refused_first : (level : ℕ) (room : Room) (tokens : List Token) {cause : Cause} (last : ℕ) → Refused (operand (suc level) room) cause tokens last → Refused (operand level room) cause tokens last
+refused_first level room tokens {cause = cause} last refused = record {
   before = refused.before;
   rest = refused.rest;
   whole = refused.whole;
@@ -194,14 +249,16 @@ refused_first level room tokens last refused = record {
   begins = record {
     tree = refused.begins.tree;
     more = refused.begins.more;
-    fits = (stands_weaker level (suc level) refused.begins.tree (omega arith) refused.begins.fits.0, refused.begins.fits.1);
+    fits = λ limits. (stands_weaker level (suc level) refused.begins.tree (omega arith) (refused.begins.fits limits).0, (refused.begins.fits limits).1);
     spelled = refused.begins.spelled;
   };
+  goes = goes_along (operand (suc level) room) (operand level room) cause refused.before refused.rest refused.before refused.rest
+      (λ limits on. record { tree = on.tree; token = on.token; more = on.more; next = on.next; fits = (stands_weaker level (suc level) on.tree (omega arith) on.fits.0, on.fits.1); spelled = on.spelled }) refused.goes;
   stuck = λ other x y same fits follows equal.
       let chain : Chain level other = chain_of level other fits.0 in
       let e : refused.before ++ x ≡ spelling chain.head ++ (spelling_links chain.links ++ y) =
       equal ∙ ap (λ s. spelling s ++ y) chain.is ∙ ap (λ s. s ++ y) (spelling-with_links chain.head chain.links) ∙ append_assoc (spelling chain.head) (spelling_links chain.links) y in
-      refused.stuck chain.head x (spelling_links chain.links ++ y) same (chain.stands, within_front room chain.head other chain.links chain.is fits.1) (follows_links level chain.links y chain.at follows) e;
+      refused.stuck chain.head x (spelling_links chain.links ++ y) same (chain.stands, within_front (passed cause) room chain.head other chain.links chain.is fits.1) (follows_links level chain.links y chain.at follows) e;
 }
 
 -- the front of a chain stands where the chain does
@@ -224,7 +281,7 @@ pub taken_compared : (room : Room) (tokens : List Token) (operator : Operator) (
 taken_compared room tokens operator left right rest here begun = record {
   fits = begun.fits;
   whole = begun.whole;
-  only = λ other x y same fits follows equal.
-      let extends : Extends 2 (binary operator left right) other = begun.only other x y same fits follows equal in
+  only = λ limits other x y same fits follows equal.
+      let extends : Extends 2 (binary operator left right) other = begun.only limits other x y same fits follows equal in
       one_comparison operator left right other extends.links here fits.0 extends.at extends.is;
 }

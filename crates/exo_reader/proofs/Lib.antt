@@ -1,9 +1,11 @@
 pub mod Signs
 pub mod Sizes
+pub mod Words
 pub mod Chains
 pub mod Atoms
+pub mod Indices
+pub mod Productions
+pub mod Made
 pub mod Returns
-pub mod Procedures
 pub mod Lists
 pub mod FirstPrograms
-pub mod FirstTexts

@@ -3,7 +3,8 @@
 use Rattle.std.specs.Prelude.{ℕ, ◌+◌, pos, Bool, true, false, not, ◌&&◌, if◌then◌else◌, nat_lt, nat_le, List, [], ◌∷◌, Option, Some, None, option_map, length, codes, bytes_eq}
 use Rattle.exo_tree.specs.Tree as tree
 use Rattle.exo_tree.specs.Tree.{Datum, Program}
-use Rattle.exo_reader.specs.Expression.{Tree, number, variable, access, negative, parens, binary}
+use Rattle.exo_reader.specs.Expression.{Tree, number, truth, variable, access, field, stride, relu, select, negative, parens, binary, Trees, end, next}
+use Rattle.exo_lexer.specs.declared.token.Literal.TheVariants.{Value}
 use Rattle.exo_reader.specs.Procedure.{SourceStatement, pass, assign, SourceParameter, SourceParameters, none, some, SourceProcedure}
 use Rattle.exo_reader.specs.Reserved.{is_reserved}
 use Rattle.exo_reader.specs.declared.source.Operator.{Operator}
@@ -19,7 +20,7 @@ all (a ∷ more) = both ◌∷◌ a (all more)
 
 -- what a literal says; 0 where none stands
 abbrev pub literal_of : Tree → ℕ
-literal_of (number n) = n
+literal_of (number (Value n)) = n
 literal_of other = 0
 
 -- the number of the first parameter of this name, where it has a cell at this index
@@ -30,8 +31,13 @@ cell_in id (p ∷ more) x k =
 
 -- the cell at an index that is written as a literal
 abbrev pub cell_at : List SourceParameter → List ℕ → Tree → Option (ℕ × ℕ)
-cell_at params x (number k) = option_map (λ id. (id, k)) (cell_in 0 params x k)
+cell_at params x (number (Value k)) = option_map (λ id. (id, k)) (cell_in 0 params x k)
 cell_at params x other = None
+
+-- the cell at one index that is written as a literal
+abbrev pub cell_of : List SourceParameter → List ℕ → Trees → Option (ℕ × ℕ)
+cell_of params x (next index end) = cell_at params x index
+cell_of params x other = None
 
 abbrev pub index_of : ℕ → List tree.Control
 index_of k = tree.Lit (pos k) ∷ []
@@ -48,12 +54,12 @@ joined Mul a b = both tree.Times a b
 joined other a b = None
 
 abbrev pub first_datum : List SourceParameter → Tree → Option Datum
-first_datum params (number n) = Some (tree.Const (pos n))
-first_datum params (variable x) = None
-first_datum params (access x index) = read_of (cell_at params x index)
+first_datum params (number (Value n)) = Some (tree.Const (pos n))
+first_datum params (access x indices) = read_of (cell_of params x indices)
 first_datum params (negative e) = option_map tree.Negated (first_datum params e)
 first_datum params (parens e) = first_datum params e
 first_datum params (binary operator l r) = joined operator (first_datum params l) (first_datum params r)
+first_datum params other = None
 
 abbrev pub assign_of : ℕ × ℕ → Datum → tree.Statement
 assign_of c d = tree.Assign c.0 (index_of c.1) d

@@ -1,5 +1,6 @@
 -- Texts of the first form.
 use Rattle.std.specs.Prelude.{◌≡◌, ℕ, List, Some, map, Result, MatchResult}
+use Rattle.phrases.specs.Limits.{Limits}
 use Rattle.phrases.specs.declared.Refusal.{Refusal}
 use Rattle.phrases.specs.declared.Refusal.TheVariants as refusal
 use Rattle.exo_tree.specs.Tree.{Program}
@@ -15,7 +16,7 @@ use Rattle.exo_lexer.specs.declared.token.Token.{Token}
 -- a source tree of the form is spelled by the tokens, and has this program
 pub record HasFirst (tokens : List Token) (p : Program) : Type 0 where
   pub source : SourceProcedure
-  pub fits : procedure.Fits source
+  pub fits : (limits : Limits) → procedure.Fits limits source
   pub spelled : tokens ≡ procedure.spell source
   pub is : first_program source ≡ Some p
 
@@ -38,4 +39,4 @@ tokens_of text = map token_of (lexed text)
 
 abbrev pub first_error : Refusal → FirstError
 first_error refusal.Memory = Memory
-first_error (refusal.Syntax last) = NotBuilt
+first_error other = NotBuilt

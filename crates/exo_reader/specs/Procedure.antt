@@ -1,23 +1,16 @@
 -- The grammar of procedures: so far with parameters of one dimension, `pass` and assignments to cells with one index.
 use Rattle.std.specs.Prelude.{◌≡◌, ℕ, List, [], ◌∷◌, ◌++◌, Option, Some, Bool}
+use Rattle.phrases.specs.Limits.{Limits}
 use Rattle.phrases.specs.Phrase.{Phrase}
 use Rattle.phrases.specs.Sequence.{AllFit, spell_all}
 use Rattle.phrases.specs.Commas.{spell_more}
-use Rattle.exo_reader.specs.Expression.{Tree, spelling, operand}
-use Rattle.exo_reader.specs.declared.expression.Room.{Room}
+use Rattle.exo_reader.specs.Values.{name}
+use Rattle.exo_reader.specs.Expression.{Tree, spelling, control, datum}
 use Rattle.exo_lexer.specs.declared.token.Token.{Token}
 use Rattle.exo_lexer.specs.declared.token.Token.TheVariants.{Name, Sign, Word, NewLine, Indent, Dedent, Decorator}
 use Rattle.exo_lexer.specs.declared.token.Word.TheVariants as w
 use Rattle.exo_lexer.specs.declared.token.Decorator.TheVariants as d
 use Rattle.exo_lexer.specs.declared.token.Sign.TheVariants.{Open, Close, OpenBracket, CloseBracket, Comma, Colon, Assign}
-
--- the room of an index, a bound, a dimension or a condition
-abbrev pub control_room : Room
-control_room = record { depth = 64; nodes = 256 }
-
--- the room of what is stored in a cell
-abbrev pub data_room : Room
-data_room = record { depth = 64; nodes = 1024 }
 
 pub data SourceStatement : Type 0 where
   pass : SourceStatement
@@ -38,9 +31,9 @@ pub record SourceProcedure : Type 0 where
   pub params : SourceParameters
   pub body : List SourceStatement
 
-abbrev pub StatementFits : SourceStatement → Type 0
-StatementFits pass = Unit {0}
-StatementFits (assign x index value) = (operand 0 control_room).Fits index × (operand 0 data_room).Fits value
+abbrev pub StatementFits : Limits → SourceStatement → Type 0
+StatementFits limits pass = Unit {0}
+StatementFits limits (assign x index value) = name.Fits limits x × control.Fits limits index × datum.Fits limits value
 
 abbrev pub spelling_statement : SourceStatement → List Token
 spelling_statement pass = Word w.Pass ∷ NewLine ∷ []
@@ -59,12 +52,12 @@ EndsBlock o = o ≡ Some Dedent
 
 -- one statement or more, before the end of their block
 abbrev pub body : Phrase Token (List SourceStatement)
-body = record { Fits = λ b. AllFit statement b × HasSome b; spell = spell_all statement; Follows = EndsBlock }
+body = record { Fits = λ limits b. AllFit statement limits b × HasSome b; spell = spell_all statement; Follows = EndsBlock }
 
 abbrev pub parameter : Phrase Token SourceParameter
 parameter =
     record {
-      Fits = λ p. (operand 0 control_room).Fits p.extent;
+      Fits = λ limits p. name.Fits limits p.name × name.Fits limits p.kind × control.Fits limits p.extent;
       spell = λ p. Name p.name ∷ Sign Colon ∷ Name p.kind ∷ Sign OpenBracket ∷ (spelling p.extent ++ (Sign CloseBracket ∷ []));
       Follows = λ o. Unit {0};
     }
@@ -72,9 +65,9 @@ parameter =
 abbrev pub EndsParameters : Option Token → Type 0
 EndsParameters o = o ≡ Some (Sign Close)
 
-abbrev pub ParametersFit : SourceParameters → Type 0
-ParametersFit none = Unit {0}
-ParametersFit (some p more trailing) = parameter.Fits p × AllFit parameter more
+abbrev pub ParametersFit : Limits → SourceParameters → Type 0
+ParametersFit limits none = Unit {0}
+ParametersFit limits (some p more trailing) = parameter.Fits limits p × AllFit parameter limits more
 
 abbrev pub spelling_parameters : SourceParameters → List Token
 spelling_parameters none = []
@@ -88,7 +81,7 @@ parameters = record { Fits = ParametersFit; spell = spelling_parameters; Follows
 abbrev pub procedure : Phrase Token SourceProcedure
 procedure =
     record {
-      Fits = λ p. ParametersFit p.params × body.Fits p.body;
+      Fits = λ limits p. name.Fits limits p.name × ParametersFit limits p.params × body.Fits limits p.body;
       spell = λ p. Decorator d.Procedure ∷ NewLine ∷ Word w.Def ∷ Name p.name ∷ Sign Open ∷ (spelling_parameters p.params ++ (Sign Close ∷ Sign Colon ∷ NewLine ∷ Indent ∷ (spell_all statement p.body ++ (Dedent ∷ []))));
       Follows = λ o. Unit {0};
     }

@@ -22,11 +22,11 @@ tree_step (Name x) = variable x
 tree_step (Access x list) = access x (trees list.items)
 tree_step (Field x f) = field x f
 tree_step (Stride x n) = stride x (Value n)
-tree_step (Relu inner) = relu inner
-tree_step (Select a b c d) = select a b c d
-tree_step (Negative inner) = negative inner
-tree_step (Parens inner) = parens inner
-tree_step (Binary operator left right) = binary operator left right
+tree_step (Relu inner) = relu inner.value
+tree_step (Select a b c d) = select a.value b.value c.value d.value
+tree_step (Negative inner) = negative inner.value
+tree_step (Parens inner) = parens inner.value
+tree_step (Binary operator left right) = binary operator left.value right.value
 
 abbrev pub tree_of : SourceExpr → Tree
 tree_of = fold-SourceExpr Tree tree_step

@@ -128,7 +128,7 @@ impl Room {
     /// taken. Else the limit that the token passes.
     fn below(self, beside: u32, taken: u32, left: usize) -> Result<Room, Refusal>
         requires { 1 ≤ beside }
-        ensures { MatchResult result (λ inner. (inner ≡ under taken self) × (beside < self.depth) × (taken < self.nodes)) (λ e. IsFull self beside taken left e) }
+        ensures { MatchResult result (λ inner. (inner ≡ under taken self) × (beside < self.depth) × (taken < self.nodes) × HasPlace inner) (λ e. IsFull self beside taken left e) }
     {
         if self.depth <= beside {
             return Err(Refusal::TooDeep(left));
@@ -157,7 +157,7 @@ fn leaf(tree: SourceExpr) -> Measured
 fn right_room(left: &Measured, room: Room, remaining: usize) -> Result<Room, Refusal>
     requires place { HasPlace room }
     requires measured { IsMeasured left.now }
-    ensures { MatchResult result (λ inner. Right room inner (tree_of left.now.tree)) (λ e. IsFull room left.now.depth (left.now.nodes + 1) remaining e) }
+    ensures { MatchResult result (λ inner. Right room inner (tree_of left.now.tree) × HasPlace inner) (λ e. IsFull room left.now.depth (left.now.nodes + 1) remaining e) }
 {
     if room.depth <= left.depth {
         return Err(Refusal::TooDeep(remaining));

@@ -7,8 +7,9 @@ ghost use Rattle.exo_tree.specs.PlainParam.{parameter, parameter_kind};
 ghost use Rattle.exo_tree.specs.PlainProcedure.{procedure};
 ghost use Rattle.exo_tree.specs.PlainTables.{memory_kind};
 ghost use Rattle.exo_tree.specs.PlainUnit.{program};
+ghost use Rattle.exo_reader.specs.Expression.{trees};
 ghost use Rattle.exo_reader.specs.Views.{tree_of, statement_of, parameter_of, procedure_of};
-ghost use Rattle.exo_reader.specs.FirstForm.{literal_of, cell_in, cell_at, index_of, read_of, tensor, joined, first_datum, first_statement, first_body, is_plain, is_free, first_param, first_params, is_named, are_different, is_first, dram, first_procedure, first_program};
+ghost use Rattle.exo_reader.specs.FirstForm.{literal_of, cell_in, cell_at, cell_of, index_of, read_of, tensor, joined, first_datum, first_statement, first_body, is_plain, is_free, first_param, first_params, is_named, are_different, is_first, dram, first_procedure, first_program};
 ghost use Rattle.exo_reader.specs.FirstAnswers.{Rejects, Translates, IsPushed};
 
 use crate::reserved::is_reserved;
@@ -57,8 +58,7 @@ fn literal_of(e: &SourceExpr) -> u32
 {
     match e {
         SourceExpr::Int(value) => *value,
-        SourceExpr::Name(_) | SourceExpr::Access(_, _) => 0,
-        SourceExpr::Negative(_) | SourceExpr::Parens(_) | SourceExpr::Binary(_, _, _) => 0,
+        _ => 0,
     }
 }
 
@@ -91,9 +91,20 @@ fn cell_at(params: &[SourceParam], name: &Text, index: &SourceExpr) -> Option<(u
             let id = cell_in(params, name, *value)?;
             Some((id, *value))
         }
-        SourceExpr::Name(_) | SourceExpr::Access(_, _) => None,
-        SourceExpr::Negative(_) | SourceExpr::Parens(_) | SourceExpr::Binary(_, _, _) => None,
+        _ => None,
     }
+}
+
+/// The cell at one index that is written as a literal.
+fn cell_of(params: &[SourceParam], name: &Text, indices: &[SourceExpr]) -> Option<(u32, u32)>
+    requires { length params.now ≤ 32 }
+    ensures { result ≡ cell_of (map parameter_of params.now) name.now (trees (map tree_of indices.now)) }
+{
+    let (index, more) = indices.split_first()?;
+    if !more.is_empty() {
+        return None;
+    }
+    cell_at(params, name, index)
 }
 
 /// One literal index.
@@ -110,12 +121,12 @@ fn first_read(
     alloc: Global,
     params: &[SourceParam],
     name: &Text,
-    index: &SourceExpr,
+    indices: &[SourceExpr],
 ) -> Result<DataExpr, FirstError>
     requires { length params.now ≤ 32 }
-    ensures { Translates (read_of (cell_at (map parameter_of params.now) name.now (tree_of index.now))) datum result }
+    ensures { Translates (read_of (cell_of (map parameter_of params.now) name.now (trees (map tree_of indices.now)))) datum result }
 {
-    let Some((id, value)) = cell_at(params, name, index) else {
+    let Some((id, value)) = cell_of(params, name, indices) else {
         return Err(FirstError::NotBuilt);
     };
     let indices = index_of(alloc, value)?;
@@ -152,8 +163,7 @@ pub fn first_datum(
 {
     match e {
         SourceExpr::Int(value) => Ok(DataExpr::Lit(i64::from(*value))),
-        SourceExpr::Name(_) => Err(FirstError::NotBuilt),
-        SourceExpr::Access(name, index) => first_read(alloc, params, name, index),
+        SourceExpr::Access(name, indices) => first_read(alloc, params, name, indices.as_slice()),
         SourceExpr::Negative(inner) => {
             let inner = Box::new(alloc, first_datum(alloc, params, inner)?)?;
             Ok(DataExpr::Neg(inner))
@@ -164,6 +174,7 @@ pub fn first_datum(
             let right = first_datum(alloc, params, right)?;
             joined(alloc, *operator, left, right)
         }
+        _ => Err(FirstError::NotBuilt),
     }
 }
 

@@ -32,7 +32,7 @@ fn first_error(refusal: Refusal) -> FirstError
 {
     match refusal {
         Refusal::Memory => FirstError::Memory,
-        Refusal::Syntax(_) => FirstError::NotBuilt,
+        _ => FirstError::NotBuilt,
     }
 }
 

@@ -4,10 +4,8 @@ ghost use Rattle.std.specs.Prelude.{◌≡◌, ◌∷◌, [], Some, ℕ, List, l
 ghost use Rattle.phrases.specs.Phrase.{first, Taken, Refused};
 ghost use Rattle.phrases.specs.Sequence.{exactly};
 ghost use Rattle.phrases.specs.Answers.{Reads};
-ghost use Rattle.exo_lexer.specs.Token.{a_name};
 ghost use Rattle.exo_reader.specs.Fixed.{token_of};
-ghost use Rattle.exo_reader.specs.Expression.{operand};
-ghost use Rattle.exo_reader.specs.Procedure.{control_room, data_room, statement, body, parameter, parameters, procedure};
+ghost use Rattle.exo_reader.specs.Procedure.{statement, body, parameter, parameters, procedure};
 ghost use Rattle.exo_reader.specs.Views.{tree_of, statement_of, parameter_of, parameters_of, procedure_of};
 ghost use Rattle.exo_lexer.specs.declared.token.Token.{Token};
 

@@ -293,20 +293,28 @@ fits_longer P comma Short ends limits tokens rest list t listed fits short =
     subst (λ l. ListingFits P Short limits (l ++ (t ∷ []))) (sym listed.is)
     (listed.taken.fits limits, all_append P limits listed.tail (t ∷ []) (listed.items.all limits) (fits, tt), subst (λ l. Keeps limits (Unit {0}) (Short (l ++ (t ∷ []))) (Unit {0})) listed.is short)
 
+-- where no comma stands last, an item stands behind each one
+item_plain : {A T : Type 0} (P : Phrase A T) (comma : A) (ends : Option A → Type 0) (limits : Limits) (list others more : List T) (w y : List A) → CommaApart P comma ends → ends (first y) → AllFit P limits more → others ≡ list ++ more → comma ∷ w ≡ spell_more P comma more false ++ y → Item P comma limits list others false w y
+item_plain P comma ends limits list others [] w y apart follows all is equal = absurd (apart.comma_goes_on (subst (λ v. ends (first v)) (sym equal) follows))
+item_plain P comma ends limits list others (m ∷ ms) w y apart follows all is equal =
+    let e : w ≡ (P.spell m ++ spell_more P comma ms false) ++ y = cc in
+    record { item = m; more = ms; fits = all.0; all = all.1; is = is; equal = e ∙ append_assoc (P.spell m) (spell_more P comma ms false) y }
+
 -- another reading of what begins with the items and a comma has an item behind them
-item_listed : {A T : Type 0} (P : Phrase A T) (comma : A) (Short : List T → Type 0) (ends : Option A → Type 0) (limits : Limits) (tokens rest after : List A) (list others : List T) (w y : List A) → CommaApart P comma ends → (listed : Listed P comma ends tokens list rest) → rest ≡ comma ∷ after → (ends (first w) → ⊥) → ListingFits P Short limits others → ends (first y) → spell_listing P comma list ++ (comma ∷ w) ≡ spell_listing P comma others ++ y → (tail : List T) × (others ≡ listed.head ∷ tail) × Keeps limits (Unit {0}) (Short (listed.head ∷ tail)) (Unit {0}) × Item P comma limits listed.tail tail false w y
-item_listed P comma Short ends limits tokens rest after list others w y apart listed here goes fits follows equal =
+item_listed : {A T : Type 0} (P : Phrase A T) (comma : A) (Short : List T → Type 0) (ends : Option A → Type 0) (limits : Limits) (tokens rest after : List A) (list others : List T) (w y : List A) → CommaApart P comma ends → (listed : Listed P comma ends tokens list rest) → rest ≡ comma ∷ after → ListingFits P Short limits others → ends (first y) → spell_listing P comma list ++ (comma ∷ w) ≡ spell_listing P comma others ++ y → (tail : List T) × (others ≡ listed.head ∷ tail) × Keeps limits (Unit {0}) (Short (listed.head ∷ tail)) (Unit {0}) × Item P comma limits listed.tail tail false w y
+item_listed P comma Short ends limits tokens rest after list others w y apart listed here fits follows equal =
     let e : P.spell listed.head ++ (spell_more P comma listed.tail false ++ (comma ∷ w)) ≡ spell_listing P comma others ++ y =
     sym (append_assoc (P.spell listed.head) (spell_more P comma listed.tail false) (comma ∷ w)) ∙ ap (λ l. spell_listing P comma l ++ (comma ∷ w)) (sym listed.is) ∙ equal in
     let items : Commas P comma ends listed.middle listed.tail (comma ∷ after) = subst (Commas P comma ends listed.middle listed.tail) here listed.items in
     let ahead : first listed.middle ≡ first (spell_more P comma listed.tail false ++ (comma ∷ w)) = first_middle P comma listed.tail listed.middle (comma ∷ after) (comma ∷ w) items.whole refl in
     let found : Others P comma Short limits listed.head others (spell_more P comma listed.tail false ++ (comma ∷ w)) y =
     others_of P comma Short ends limits tokens listed.middle listed.head others (spell_more P comma listed.tail false ++ (comma ∷ w)) y apart listed.taken ahead fits follows e in
-    (found.tail, found.is, found.short, item_of P comma ends limits listed.middle after listed.tail found.tail false w y apart items goes found.all follows found.equal)
+    let longer : Longer P limits listed.tail found.tail = items.only limits found.tail false (comma ∷ w) y refl found.all follows found.equal in
+    (found.tail, found.is, found.short, item_plain P comma ends limits listed.tail found.tail longer.more w y apart follows longer.all longer.is (left_over P comma listed.tail longer.more found.tail false (comma ∷ w) y longer.is found.equal))
 
 -- an item behind a comma is refused, and the list has room for one more
-pub listing_refused : {A T : Type 0} (P : Phrase A T) (comma : A) (Short : List T → Type 0) (ends : Option A → Type 0) {cause : Cause} (tokens rest after : List A) (list : List T) (last : ℕ) → CommaApart P comma ends → Listed P comma ends tokens list rest → rest ≡ comma ∷ after → ((t : T) → Short (list ++ (t ∷ []))) → (ends (first after) → ⊥) → Refused P cause after last → Refused (listing P comma Short ends) cause tokens last
-listing_refused {T = T} P comma Short ends {cause = cause} tokens rest after list last apart listed here room goes refused = record {
+pub listing_refused : {A T : Type 0} (P : Phrase A T) (comma : A) (Short : List T → Type 0) (ends : Option A → Type 0) {cause : Cause} (tokens rest after : List A) (list : List T) (last : ℕ) → CommaApart P comma ends → Listed P comma ends tokens list rest → rest ≡ comma ∷ after → ((t : T) → Short (list ++ (t ∷ []))) → Refused P cause after last → Refused (listing P comma Short ends) cause tokens last
+listing_refused {T = T} P comma Short ends {cause = cause} tokens rest after list last apart listed here room refused = record {
   before = spell_listing P comma list ++ (comma ∷ refused.before);
   rest = refused.rest;
   whole = whole_listed P comma ends tokens rest list listed ∙ ap (λ w. spell_listing P comma list ++ w) here ∙ ap (λ w. spell_listing P comma list ++ (comma ∷ w)) refused.whole ∙ sym (append_assoc (spell_listing P comma list) (comma ∷ refused.before) refused.rest);
@@ -331,9 +339,8 @@ listing_refused {T = T} P comma Short ends {cause = cause} tokens rest after lis
             ∙ sym (listing_longer P comma list listed.head listed.tail on.tree listed.is);
       }) refused.goes;
   stuck = λ others x y same fits follows equal.
-      let ahead : first after ≡ first (refused.before ++ x) = ap first refused.whole ∙ first_append refused.before refused.rest x same in
       let found : (tail : List T) × (others ≡ listed.head ∷ tail) × Keeps (passed cause) (Unit {0}) (Short (listed.head ∷ tail)) (Unit {0}) × Item P comma (passed cause) listed.tail tail false (refused.before ++ x) y =
-      item_listed P comma Short ends (passed cause) tokens rest after list others (refused.before ++ x) y apart listed here (λ e. goes (subst ends (sym ahead) e)) fits follows
+      item_listed P comma Short ends (passed cause) tokens rest after list others (refused.before ++ x) y apart listed here fits follows
       (sym (append_assoc (spell_listing P comma list) (comma ∷ refused.before) x) ∙ equal) in
       refused.stuck found.3.item x (spell_more P comma found.3.more false ++ y) same found.3.fits (follows_more P comma ends found.3.more false y apart follows) found.3.equal;
 }

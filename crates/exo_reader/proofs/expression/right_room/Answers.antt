@@ -1,8 +1,6 @@
 use Rattle.std.proofs.Common.{arith}
-use Rattle.exo_reader.specs.Views.{tree_of}
-use Rattle.exo_reader.proofs.Sizes.{depth_some}
+use Rattle.exo_reader.proofs.Returns.{rights}
 use Rattle.exo_reader.proofs.expression.right_room.Goals as goal
 
 pub returns : goal.returns
-returns c =
-    (omega arith, omega arith, omega arith, record { depth = omega (arith, c.requires.measured.depth, depth_some (tree_of c.args.left.now.tree)); nodes = omega arith })
+returns c = rights _ _ _ c.requires.measured c.under.ensures (omega arith) (omega arith)
