@@ -3,6 +3,8 @@ mod Parts
 mod Lists
 mod Parameters
 mod Made
+mod Windows
+mod Coordinates
 mod Arguments
 mod Statements
 mod Neighbours

@@ -3,4 +3,5 @@ pub mod Parts
 pub mod Statements
 pub mod Items
 pub mod Views
+pub mod Windows
 pub mod Texts
