@@ -115,7 +115,6 @@ no_assert limits (s ∷ more) y fits same =
 pub def5 : Joint assertions (body 1)
 def5 = record { may = record { may = λ limits q y fits follows. no_assert limits q.0 y fits.0 }; some = (pass ∷ [], tt); fits = λ limits. (((tt, tt), tt), tt) }
 
-
 abbrev pub definition_of : Def1T → Definition
 definition_of s = record { name = s.1.0.0; params = s.1.1.0.0; trailing = s.1.1.0.1; asserts = s.1.1.1.1.0; body = s.1.1.1.1.1.0 }
 
@@ -145,7 +144,6 @@ Proc1 = then (exactly (NewLine ∷ [])) definition
 
 pub proc1 : Joint (exactly (NewLine ∷ [])) definition
 proc1 = record { may = record { may = λ limits q y fits follows. tt }; some = some_definition; fits = λ limits. definition_fits limits }
-
 
 back_procedure : (limits : Limits) (other : Item) (x y : List Token) → item.Fits limits other → Decorator d.Procedure ∷ x ≡ item.spell other ++ y → Back Proc1 (λ s. procedure s.1) limits other x y
 back_procedure limits (procedure p) x y fits equal = record { tree = (tt, p); fits = (tt, fits); is = refl; equal = (let e : x ≡ (NewLine ∷ definition.spell p) ++ y = cc in e); follows = tt }
@@ -189,7 +187,6 @@ instr2 = record { may = record { may = λ limits q y fits follows. tt }; some = 
 pub instr3 : Joint (exactly (Sign Close ∷ NewLine ∷ [])) definition
 instr3 = record { may = record { may = λ limits q y fits follows. tt }; some = some_definition; fits = λ limits. definition_fits limits }
 
-
 back_instruction : (limits : Limits) (other : Item) (x y : List Token) → item.Fits limits other → Decorator d.Instruction ∷ x ≡ item.spell other ++ y → Back Instr1 (λ s. instruction s.1.0 s.1.1.1) limits other x y
 back_instruction limits (procedure p) x y fits equal = absurd (let e : Decorator d.Instruction ≡ Decorator d.Procedure = cc in cc)
 back_instruction limits (instruction l p) x y fits equal = record { tree = (tt, (l, (tt, p))); fits = (tt, (fits.0, (tt, fits.1))); is = refl; equal = (let e : x ≡ (Sign Open ∷ (neighbours.spell l ++ (Sign Close ∷ NewLine ∷ definition.spell p))) ++ y = cc in e); follows = tt }
@@ -214,7 +211,6 @@ Conf1 = then class_header fields
 pub conf1 : Joint class_header fields
 conf1 = record { may = record { may = λ limits q y fits follows. tt }; some = (some_field ∷ [], tt); fits = λ limits. (((field_fits limits, tt), tt), tt) }
 
-
 back_configuration : (limits : Limits) (other : Item) (x y : List Token) → item.Fits limits other → Decorator d.Configuration ∷ x ≡ item.spell other ++ y → Back Conf1 (λ s. configuration s.0 s.1.0) limits other x y
 back_configuration limits (procedure p) x y fits equal = absurd (let e : Decorator d.Configuration ≡ Decorator d.Procedure = cc in cc)
 back_configuration limits (instruction l p) x y fits equal = absurd (let e : Decorator d.Configuration ≡ Decorator d.Instruction = cc in cc)
@@ -238,7 +234,6 @@ Mem1 = then class_header attributes
 
 pub mem1 : Joint class_header attributes
 mem1 = record { may = record { may = λ limits q y fits follows. tt }; some = (some_attribute ∷ [], tt); fits = λ limits. (((attribute_fits limits, tt), tt), tt) }
-
 
 back_memory : (limits : Limits) (other : Item) (x y : List Token) → item.Fits limits other → Decorator d.MemoryClass ∷ x ≡ item.spell other ++ y → Back Mem1 (λ s. memory s.0 s.1.0) limits other x y
 back_memory limits (procedure p) x y fits equal = absurd (let e : Decorator d.MemoryClass ≡ Decorator d.Procedure = cc in cc)
@@ -314,7 +309,6 @@ Class1 = then (exactly (NewLine ∷ Word w.Class ∷ [])) (then name (exactly (S
 pub class1 : Joint (exactly (NewLine ∷ Word w.Class ∷ [])) (then name (exactly (Sign Colon ∷ NewLine ∷ Indent ∷ [])))
 class1 = record { may = record { may = λ limits q y fits follows. tt }; some = ([], tt); fits = λ limits. (no_name limits, tt) }
 
-
 pub step_class : (tokens : List Token) → Step class_header Class1 (λ s. s.1.0) tokens tokens
 step_class tokens = record {
   front = [];
@@ -341,7 +335,6 @@ field1 = record { may = record { may = λ limits q y fits follows. tt }; some = 
 
 pub field2 : Joint type_name (exactly (NewLine ∷ []))
 field2 = record { may = record { may = λ limits q y fits follows. tt }; some = tt; fits = λ limits. tt }
-
 
 abbrev pub field_of : Field1T → ConfigField
 field_of s = record { name = s.0.0; kind = s.1.0 }
@@ -372,7 +365,6 @@ attr1 = record { may = record { may = λ limits q y fits follows. tt }; some = (
 
 pub attr2 : Joint setting (exactly (NewLine ∷ []))
 attr2 = record { may = record { may = λ limits q y fits follows. tt }; some = tt; fits = λ limits. tt }
-
 
 abbrev pub attribute_of : Attr1T → Attribute
 attribute_of s = record { name = s.0.0; value = s.1.0 }

@@ -195,7 +195,6 @@ Equation1 = then right (exactly (NewLine ∷ []))
 pub equation1 : Joint right (exactly (NewLine ∷ []))
 equation1 = record { may = record { may = λ limits q y fits follows. tt }; some = tt; fits = λ limits. tt }
 
-
 abbrev pub equation_of : List ℕ → Equation1T → Statement
 equation_of n s = equated n s.0
 

@@ -81,9 +81,10 @@ lowest_points (next t more) = ap (λ d. max (depth t) d) (lowest_points more)
 
 points_all : (limits : Limits) (list : Trees) → AllStand list → Keeps limits (deepest list ≤ 64) (AreShort list) (AreSmall list) → AllFit coordinate limits (points list)
 points_all limits end stand keeps = tt
-points_all limits (next t more) stand keeps =
-    ((stand.0, keeps_map limits (λ d. let e : depth t ≤ 64 = omega (arith, d) in e) (λ s. (s.0, s.1)) (λ s. s.0) keeps),
-    points_all limits more stand.1 (keeps_map limits (λ d. let e : deepest more ≤ 64 = omega (arith, d) in e) (λ s. s.2) (λ s. s.1) keeps))
+points_all limits (next t more) stand keeps = (
+  (stand.0, keeps_map limits (λ d. let e : depth t ≤ 64 = omega (arith, d) in e) (λ s. (s.0, s.1)) (λ s. s.0) keeps),
+  points_all limits more stand.1 (keeps_map limits (λ d. let e : deepest more ≤ 64 = omega (arith, d) in e) (λ s. s.2) (λ s. s.1) keeps),
+)
 
 few_points : (t : Tree) (more : Trees) → count (next t more) ≤ 8 → FewDimensions (points (next t more))
 few_points t more few = omega (arith, few, points_count more)
@@ -529,9 +530,10 @@ cell_deep room n inside rest after cs full short read ends none deep =
 
 cell_fits : (room : Room) (limits : Limits) (n : List ℕ) (cs : List Coordinate) → HasPlace room → IsShortName n → has_span cs ≡ false → lowest cs < room.depth → coordinates.Fits limits cs → (operand 5 room).Fits limits (access n (indices_of cs))
 cell_fits room limits n cs place short none shallow fits =
-    let cell : Cell limits cs = cell_of limits cs none fits in
-    ((cell.some, cell.stand),
-    keeps_map limits (λ u. let d : depth (access n (indices_of cs)) ≤ room.depth = omega (arith, shallow, lows_depth cs none) in d) (λ s. (place.nodes, (short, s.0, s.1))) (λ s. s) cell.keep)
+    let cell : Cell limits cs = cell_of limits cs none fits in (
+      (cell.some, cell.stand),
+      keeps_map limits (λ u. let d : depth (access n (indices_of cs)) ≤ room.depth = omega (arith, shallow, lows_depth cs none) in d) (λ s. (place.nodes, (short, s.0, s.1))) (λ s. s) cell.keep,
+    )
 
 access_only : (room : Room) (n : List ℕ) (inside after : List Token) (cs : List Coordinate) (limits : Limits) (other : Tree) (x y : List Token) → room.depth ≡ 64 → Taken coordinates inside cs (Sign CloseBracket ∷ after) → has_span cs ≡ false → (operand 5 room).Fits limits other → FollowsOperand 5 (first y) → Name n ∷ Sign OpenBracket ∷ (coordinates.spell cs ++ (Sign CloseBracket ∷ x)) ≡ spelling other ++ y → other ≡ access n (indices_of cs)
 access_only room n inside after cs limits (number l) x y full taken none fits follows equal = absurd (let e : Name n ≡ Int l = cc (equal) in cc (e))

@@ -14,7 +14,10 @@ ghost use Rattle.exo_lexer.specs.declared.token.Token.{Token};
 use crate::source::{SourceArg, SourceArgs, SourceCoord};
 use exo_lexer::text::Text;
 use exo_lexer::token::{Sign, Token, next};
-use exo_reader::expression::{CONTROL_NODES, DATA_NODES, DEPTH, DIMENSIONS, Measured, Room, read_control, read_from, read_operand};
+use exo_reader::expression::{
+    CONTROL_NODES, DATA_NODES, DEPTH, DIMENSIONS, Measured, Room, read_control, read_from,
+    read_operand,
+};
 use exo_reader::front::{Fixed, behind, expect, is_short, stands_first};
 use exo_reader::source::SourceExpr;
 use phrases::Refusal;
@@ -190,11 +193,7 @@ fn read_bracketed(
 }
 
 /// An expression in a room, or a window.
-fn read_in(
-    alloc: Global,
-    tokens: &[Token],
-    room: Room,
-) -> Result<(SourceArg, &[Token]), Refusal>
+fn read_in(alloc: Global, tokens: &[Token], room: Room) -> Result<(SourceArg, &[Token]), Refusal>
     requires place { HasPlace room }
     requires depth { room.depth ≡ 64 }
     ensures { Reads (argument_of (operand 0 room)) tokens.now (λ x. plain_argument x.0) (λ x. x.1.now) result }

@@ -10,7 +10,9 @@ ghost use Rattle.exo_source.specs.Views.{plain_statement, plain_argument};
 ghost use Rattle.exo_lexer.specs.declared.token.Token.{Token};
 
 use crate::argument::{read_arguments, read_right};
-use crate::part::{read_control_and, read_data_and, read_kind, read_memory, read_name_and, read_optional_dims};
+use crate::part::{
+    read_control_and, read_data_and, read_kind, read_memory, read_name_and, read_optional_dims,
+};
 use crate::source::{SourceArg, SourceStmt};
 use exo_lexer::text::Text;
 use exo_lexer::token::{Sign, Token, Word, next};
@@ -58,7 +60,11 @@ fn read_call(alloc: Global, name: Text, after: &[Token]) -> Result<(SourceStmt, 
 }
 
 /// What comes behind the name and the dot of a configuration write.
-fn read_config(alloc: Global, name: Text, after: &[Token]) -> Result<(SourceStmt, &[Token]), Refusal>
+fn read_config(
+    alloc: Global,
+    name: Text,
+    after: &[Token],
+) -> Result<(SourceStmt, &[Token]), Refusal>
     requires { IsShortName name }
     ensures { (nesting : ℕ) → Reads (statement nesting) (Token.Name name ∷ Token.Sign Sign.Dot ∷ after.now) (λ x. plain_statement x.0) (λ x. x.1.now) result }
 {
