@@ -1,12 +1,12 @@
 -- Operands that no operator splits: with which token each begins, and what is left of it.
-use Rattle.std.proofs.Common.{◌≡◌, ℕ, ◌+◌, ◌-◌, ◌<◌, ◌≤◌, max, Bool, true, false, List, [], ◌∷◌, ◌++◌, Option, Some, length, refl, sym, ap, ◌∙◌, append_assoc, subst, arith, ◌⊎◌, inl, inr}
-use Rattle.phrases.specs.Limits.{Limits, unlimited, in_depth, in_length, in_size, Cause, syntax, too_deep, too_long, too_large}
-use Rattle.phrases.specs.Phrase.{first, Taken, Begins, GoesOn, Refused}
+use Rattle.std.proofs.Common.{◌≡◌, ℕ, ◌<◌, ◌≤◌, max, true, false, List, [], ◌∷◌, ◌++◌, Option, Some, length, refl, sym, ap, ◌∙◌, append_assoc, subst, arith}
+use Rattle.phrases.specs.Limits.{in_length, in_size, syntax, too_deep, too_long, too_large}
+use Rattle.phrases.specs.Phrase.{first, Taken, Begins, Refused}
 use Rattle.phrases.specs.Answers.{Refuses}
 use Rattle.phrases.specs.declared.Refusal.{Refusal}
 use Rattle.phrases.specs.declared.Refusal.TheVariants.{Memory, Syntax, TooDeep, TooLong, TooLarge}
 use Rattle.phrases.proofs.Phrases.{keeps_all}
-use Rattle.exo_reader.specs.Values.{IsShortName, IsValue}
+use Rattle.exo_reader.specs.Values.{IsShortName}
 use Rattle.exo_reader.specs.Expression.{Tree, number, truth, variable, access, field, stride, relu, select, negative, parens, binary, Trees, end, next, Stands, HasIndex, AllStand, spelling, spelling_list, FollowsOperand, operand, Within, HasPlace, depth, deepest, nodes, sign}
 use Rattle.exo_reader.specs.Rooms.{IsFull}
 use Rattle.exo_lexer.specs.declared.token.Token.{Token}
@@ -289,9 +289,10 @@ wide_select = record {
   stands = (tt, tt, tt, tt);
   spelled = refl;
   shallow = refl;
-  wide = λ other x y found.
-      (omega (arith, ap depth found.4, depth_some found.0, le-max_left (depth found.0) (depth found.1), le-max_left (max (depth found.0) (depth found.1)) (max (depth found.2) (depth found.3))),
-      omega (arith, ap nodes found.4, nodes_some found.0, nodes_some found.1, nodes_some found.2, nodes_some found.3));
+  wide = λ other x y found. (
+    omega (arith, ap depth found.4, depth_some found.0, le-max_left (depth found.0) (depth found.1), le-max_left (max (depth found.0) (depth found.1)) (max (depth found.2) (depth found.3))),
+    omega (arith, ap nodes found.4, nodes_some found.0, nodes_some found.1, nodes_some found.2, nodes_some found.3),
+  );
 }
 
 -- no room is left for an index

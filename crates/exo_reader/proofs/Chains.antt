@@ -1,11 +1,11 @@
 -- Operands with operators of one level between them, read from the left.
-use Rattle.std.proofs.Common.{◌≡◌, ℕ, suc, ◌+◌, ◌-◌, ◌<◌, ◌≤◌, max, List, [], ◌∷◌, ◌++◌, Option, Some, length, refl, sym, ap, ◌∙◌, append_assoc, subst, arith, ◌⊎◌, inl, inr}
+use Rattle.std.proofs.Common.{◌≡◌, ℕ, suc, ◌+◌, ◌-◌, ◌<◌, ◌≤◌, max, List, [], ◌∷◌, ◌++◌, Option, Some, length, refl, sym, ap, ◌∙◌, append_assoc, subst, arith, inl, inr}
 use Rattle.std.proofs.lemmas.List.{append_cancel_left, append-nil}
 use Rattle.std.proofs.Math.Nat.{eq-or-lt_of_le}
 use Rattle.phrases.specs.Limits.{Limits, unlimited, in_depth, in_length, Cause, too_deep, too_long, passed}
 use Rattle.phrases.specs.Phrase.{first, Taken, GoesOn, Refused}
 use Rattle.phrases.proofs.Phrases.{goes_along}
-use Rattle.exo_reader.specs.Expression.{Tree, number, truth, variable, access, field, stride, relu, select, negative, parens, binary, level_of, left_level, sign, Stands, spelling, FollowsOperand, operand, Within, under, depth, nodes, NoSign}
+use Rattle.exo_reader.specs.Expression.{Tree, number, truth, variable, access, field, stride, relu, select, negative, parens, binary, level_of, left_level, sign, Stands, spelling, FollowsOperand, operand, Within, depth, nodes, NoSign}
 use Rattle.exo_reader.specs.Rooms.{Right}
 use Rattle.exo_lexer.specs.declared.token.Literal.TheVariants.{Value}
 use Rattle.exo_reader.specs.Chain.{Link, with_links, LinksAt, Extends, Begun}

@@ -1,5 +1,5 @@
 -- Programs of the first form.
-use Rattle.std.proofs.Common.{◌≡◌, ℕ, ◌<◌, ◌≤◌, ◌&&◌, not, if◌then◌else◌, nat_le, length, arith, List, [], ◌∷◌, ◌++◌, Option, Some, None, Bool, true, false, Result, Ok, Err, nat_lt, refl, sym, ap, ◌∙◌, subst, map, option_map, append_assoc, drop, get_or, ◌+◌, IsUtf8, All}
+use Rattle.std.proofs.Common.{◌≡◌, ℕ, ◌==◌, ◌<◌, ◌≤◌, ◌&&◌, not, if◌then◌else◌, nat_le, length, arith, List, [], ◌∷◌, ◌++◌, Option, Some, None, Bool, true, false, Result, Ok, Err, nat_lt, refl, sym, ap, ◌∙◌, subst, map, option_map, append_assoc, drop, get_or, ◌+◌, IsUtf8, All}
 use Rattle.std.specs.Result.{IsErrAnd}
 use Rattle.std.proofs.lemmas.Bool.{ltb-true, le-leb}
 use Rattle.std.proofs.lemmas.List.{length-map, drop_more}
@@ -8,9 +8,12 @@ use Rattle.std.proofs.lemmas.Str.{IsUtf8-from_ascii}
 use Rattle.std.proofs.lemmas.Str.Ascii.{IsAscii-from_all}
 use Rattle.exo_reader.specs.FirstAnswers.{Rejects, Translates, IsPushed}
 use Rattle.exo_tree.specs.Tree.{Param}
-use Rattle.exo_reader.specs.FirstForm.{is_plain, is_free, is_named, are_different, is_first, list_of, both, first_param, first_params}
+use Rattle.exo_reader.specs.FirstForm.{is_plain, is_free, is_named, are_different, is_first, list_of, both, cell_of, first_param, first_params}
 use Rattle.exo_reader.specs.Reserved.{is_reserved}
-use Rattle.exo_reader.specs.Procedure.{SourceProcedure}
+use Rattle.exo_reader.specs.Procedure.{SourceProcedure, SourceParameter}
+use Rattle.exo_reader.specs.Expression.{trees}
+use Rattle.exo_reader.specs.Views.{tree_of}
+use Rattle.exo_reader.specs.declared.source.SourceExpr.{SourceExpr}
 use Rattle.exo_reader.specs.declared.source.SourceProc.{SourceProc}
 use Rattle.exo_reader.specs.Views.{parameter_of, statement_of, procedure_of, listed}
 use Rattle.exo_reader.specs.declared.source.SourceParam.{SourceParam}
@@ -90,3 +93,11 @@ pub params_more : (params : List SourceParam) (made new : List Param) (id i : �
 params_more params made new id i item d is less so_far pushed =
     so_far ∙ ap (λ l. option_map (λ rest. made ++ rest) (first_params id (map parameter_of l))) (drop_more params i d less)
     ∙ pushed_by (first_param id (parameter_of (get_or params i d))) made new (first_params (id + 1) (map parameter_of (drop (i + 1) params))) (subst (λ (p : SourceParam). IsPushed (first_param id (parameter_of p)) made new) is pushed)
+
+-- two indices are none of the form
+more_indices : (params : List SourceParameter) (x : List ℕ) (a : SourceExpr) (more : List SourceExpr) → false ≡ (length more == 0) → None ≡ cell_of params x (trees (map tree_of (a ∷ more)))
+more_indices params x a [] some = absurd (cc (some))
+more_indices params x a (b ∷ more) some = refl
+
+pub two_indices : (params : List SourceParameter) (x : List ℕ) (indices : List SourceExpr) (a : SourceExpr) (more : List SourceExpr) → indices ≡ a ∷ more → false ≡ (length more == 0) → None ≡ cell_of params x (trees (map tree_of indices))
+two_indices params x indices a more is some = more_indices params x a more some ∙ ap (λ l. cell_of params x (trees (map tree_of l))) (sym is)

@@ -1,12 +1,12 @@
 -- Lists of indices in a tree and outside of one.
-use Rattle.std.proofs.Common.{◌≡◌, ℕ, ◌+◌, ◌-◌, ◌<◌, ◌≤◌, max, Bool, false, List, [], ◌∷◌, ◌++◌, length, map, refl, sym, ap, ◌∙◌, subst, arith}
+use Rattle.std.proofs.Common.{◌≡◌, ℕ, ◌-◌, ◌<◌, ◌≤◌, max, false, List, [], ◌∷◌, ◌++◌, length, refl, ap, arith}
 use Rattle.std.proofs.Math.Nat.{le-max_left, le-max_right, max-le}
 use Rattle.phrases.specs.Limits.{Limits, in_size, Keeps}
 use Rattle.phrases.specs.Sequence.{AllFit}
 use Rattle.phrases.specs.Commas.{spell_more, ListingFits, spell_listing}
 use Rattle.phrases.proofs.Phrases.{keeps_map, keeps_both, keeps_all}
 use Rattle.exo_reader.specs.Values.{IsShortName}
-use Rattle.exo_reader.specs.Expression.{Tree, access, Trees, end, next, trees, Stands, HasIndex, AllStand, spelling, spelling_list, spelling_more, operand, Within, depth, deepest, nodes, count, most_dimensions, AreShort, AreSmall, control_room, FewDimensions}
+use Rattle.exo_reader.specs.Expression.{Tree, access, Trees, end, next, trees, Stands, AllStand, spelling, spelling_list, spelling_more, operand, Within, depth, deepest, count, AreShort, AreSmall, control_room, FewDimensions}
 use Rattle.exo_reader.specs.declared.expression.Room.{Room}
 use Rattle.exo_lexer.specs.declared.token.Token.TheVariants.{Sign}
 use Rattle.exo_lexer.specs.declared.token.Sign.TheVariants.{Comma}
@@ -37,9 +37,10 @@ spelled_list room (t ∷ ts) = ap (λ w. spelling t ++ w) (spelled_more room ts)
 
 all_in : (limits : Limits) (level : ℕ) (ts : Trees) → AllStand ts → Keeps limits (deepest ts ≤ level) (AreShort ts) (AreSmall ts) → AllFit (operand 0 (control_room level)) limits (listed ts)
 all_in limits level end stands keeps = tt
-all_in limits level (next t ts) stands keeps =
-    ((stands.0, keeps_map limits {E = depth t ≤ level} (λ deep. omega (arith, deep, le-max_left (depth t) (deepest ts))) (λ long. (long.0, long.1)) (λ small. small.0) keeps),
-    all_in limits level ts stands.1 (keeps_map limits {E = deepest ts ≤ level} (λ deep. omega (arith, deep, le-max_right (depth t) (deepest ts))) (λ long. long.2) (λ small. small.1) keeps))
+all_in limits level (next t ts) stands keeps = (
+  (stands.0, keeps_map limits {E = depth t ≤ level} (λ deep. omega (arith, deep, le-max_left (depth t) (deepest ts))) (λ long. (long.0, long.1)) (λ small. small.0) keeps),
+  all_in limits level ts stands.1 (keeps_map limits {E = deepest ts ≤ level} (λ deep. omega (arith, deep, le-max_right (depth t) (deepest ts))) (λ long. long.2) (λ small. small.1) keeps),
+)
 
 all_out : (limits : Limits) (level : ℕ) (list : List Tree) → AllFit (operand 0 (control_room level)) limits list → AllStand (trees list) × Keeps limits (deepest (trees list) ≤ level) (AreShort (trees list)) (AreSmall (trees list))
 all_out limits level [] fits = (tt, keeps_all limits (omega arith) tt tt)
@@ -51,9 +52,10 @@ all_out limits level (t ∷ ts) fits =
 pub around_access : (limits : Limits) (room : Room) (n : List ℕ) (list : List Tree) → IsShortName n → 1 < room.depth → 1 ≤ room.nodes → ListingFits (operand 0 (control_room (room.depth - 1))) FewDimensions limits list → Stands 5 (access n (trees list)) × Within limits room (access n (trees list))
 around_access limits room n [] short deep some fits = absurd fits
 around_access limits room n (t ∷ ts) short deep some fits =
-    let all : AllStand (trees (t ∷ ts)) × Keeps limits (deepest (trees (t ∷ ts)) ≤ room.depth - 1) (AreShort (trees (t ∷ ts))) (AreSmall (trees (t ∷ ts))) = all_out limits (room.depth - 1) (t ∷ ts) (fits.0, fits.1) in
-    ((tt, all.0),
-    keeps_both limits (λ a b. omega (arith, a, deep)) (λ a b. (some, (short, omega (arith, b, count-trees (t ∷ ts)), a))) (λ a b. a) all.1 fits.2)
+    let all : AllStand (trees (t ∷ ts)) × Keeps limits (deepest (trees (t ∷ ts)) ≤ room.depth - 1) (AreShort (trees (t ∷ ts))) (AreSmall (trees (t ∷ ts))) = all_out limits (room.depth - 1) (t ∷ ts) (fits.0, fits.1) in (
+      (tt, all.0),
+      keeps_both limits (λ a b. omega (arith, a, deep)) (λ a b. (some, (short, omega (arith, b, count-trees (t ∷ ts)), a))) (λ a b. a) all.1 fits.2,
+    )
 
 -- the indices of a cell are in that room
 pub inside_access : (limits : Limits) (room : Room) (n : List ℕ) (ts : Trees) → Stands 5 (access n ts) → Within limits room (access n ts) → ListingFits (operand 0 (control_room (room.depth - 1))) FewDimensions limits (listed ts)

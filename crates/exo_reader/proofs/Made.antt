@@ -1,9 +1,7 @@
 -- The trees of source trees.
-use Rattle.std.proofs.Common.{◌≡◌, ℕ, Bool, List, [], ◌∷◌, map, sym, ap, ◌∙◌}
-use Rattle.std.specs.Prelude.{Vec}
-use Rattle.exo_reader.specs.Expression.{Tree, number, truth, variable, access, field, stride, trees}
+use Rattle.std.proofs.Common.{◌≡◌, ℕ, Bool, List, sym, ap, ◌∙◌}
+use Rattle.exo_reader.specs.Expression.{Tree, number, truth, variable, field, stride}
 use Rattle.exo_reader.specs.Views.{tree_of, tree_step}
-use Rattle.exo_reader.specs.declared.source.SourceExpr.{SourceExpr}
 use Rattle.exo_reader.specs.declared.source.SourceExpr.TheVariants.{Int, Truth, Name, Field, Stride, rolls-Int, rolls-Truth, rolls-Name, rolls-Field, rolls-Stride}
 use Rattle.exo_reader.specs.declared.source.SourceExpr.TheFolds.{fold-roll-SourceExpr}
 use Rattle.exo_lexer.specs.declared.token.Literal.TheVariants.{Value}

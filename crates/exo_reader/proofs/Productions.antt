@@ -1,24 +1,23 @@
 -- Operands that no operator splits, by what stands behind their first tokens.
 use Rattle.std.proofs.Math.Nat.{le-max_left, le-max_right, max-le}
-use Rattle.std.proofs.Common.{◌≡◌, ℕ, suc, max, ◌+◌, ◌-◌, ◌<◌, ◌≤◌, List, [], ◌∷◌, ◌++◌, Option, Some, length, refl, sym, ap, ◌∙◌, append_assoc, subst, arith}
+use Rattle.std.proofs.Common.{◌≡◌, ℕ, suc, max, ◌+◌, ◌-◌, ◌<◌, ◌≤◌, List, [], ◌∷◌, ◌++◌, Option, Some, refl, sym, ap, ◌∙◌, append_assoc, subst, arith}
 use Rattle.phrases.specs.Limits.{Limits}
 use Rattle.phrases.specs.Phrase.{first, Phrase}
 use Rattle.phrases.specs.Sequence.{exactly, then, then_by}
-use Rattle.phrases.specs.Commas.{listing}
 use Rattle.phrases.proofs.Phrases.{keeps_map, keeps_both, keeps_all}
 use Rattle.phrases.proofs.Sequences.{Back, Step, JointBy}
 use Rattle.phrases.proofs.Commas.{CommaApart}
 use Rattle.phrases.proofs.Joints.{Joint}
 use Rattle.exo_reader.specs.Values.{IsShortName, name, literal}
-use Rattle.exo_reader.specs.Expression.{Tree, number, truth, variable, access, field, stride, relu, select, negative, parens, binary, Trees, trees, Stands, HasIndex, AllStand, spelling, spelling_list, FollowsOperand, operand, Within, under, HasPlace, depth, nodes, IsShort, IsSmall, indices, control_room, EndsList, FewDimensions}
+use Rattle.exo_reader.specs.Expression.{Tree, number, access, field, stride, relu, select, negative, parens, trees, spelling, spelling_list, FollowsOperand, operand, Within, under, HasPlace, depth, nodes, IsShort, IsSmall, indices, control_room, EndsList}
 use Rattle.exo_lexer.specs.declared.token.Token.{Token}
-use Rattle.exo_lexer.specs.declared.token.Token.TheVariants.{Int, Name, Word, Sign}
+use Rattle.exo_lexer.specs.declared.token.Token.TheVariants.{Name, Word, Sign}
 use Rattle.exo_lexer.specs.declared.token.Literal.{Literal}
 use Rattle.exo_lexer.specs.declared.token.Literal.TheVariants.{Value}
 use Rattle.exo_lexer.specs.declared.token.Word.TheVariants.{Stride, Relu, Select}
 use Rattle.exo_lexer.specs.declared.token.Sign.TheVariants.{Open, Close, OpenBracket, CloseBracket, Comma, Dot, Minus}
 use Rattle.exo_reader.specs.declared.expression.Room.{Room}
-use Rattle.exo_reader.proofs.Sizes.{nodes_some, depth_some, zero_within, zero_beside, inside_negative, around_negative, inside_relu, around_relu, inside_parens, around_parens}
+use Rattle.exo_reader.proofs.Sizes.{nodes_some, zero_within, zero_beside, inside_negative, around_negative, inside_relu, around_relu, inside_parens, around_parens}
 use Rattle.exo_reader.proofs.Atoms.{Goes, goes, Named, plain, cell, dotted, starts, Starts, four}
 use Rattle.exo_reader.proofs.Indices.{listed, trees-listed, spelled_list, around_access, inside_access}
 
@@ -240,15 +239,22 @@ choice0 room place = record {
 -- literals fit behind what is read
 
 after_one : (limits : Limits) (room : Room) (a : Tree) → (operand 0 (under 4 room)).Fits limits a → (Choice2 room a).Fits limits (zero, (tt, (zero, (tt, (zero, tt)))))
-after_one limits room a fits =
-    ((tt, zero_beside limits room a 4 (nodes a + 3) (λ few. omega (arith, few, nodes_some a)) fits.1),
-    (tt, ((tt, zero_beside limits room a 4 (nodes a + 1 + 2) (λ few. omega (arith, few, nodes_some a)) fits.1),
-    (tt, ((tt, zero_beside limits room a 4 (nodes a + 1 + 1 + 1) (λ few. omega (arith, few, nodes_some a)) fits.1), tt)))))
+after_one limits room a fits = (
+  (tt, zero_beside limits room a 4 (nodes a + 3) (λ few. omega (arith, few, nodes_some a)) fits.1),
+  (
+    tt,
+    (
+      (tt, zero_beside limits room a 4 (nodes a + 1 + 2) (λ few. omega (arith, few, nodes_some a)) fits.1),
+      (tt, ((tt, zero_beside limits room a 4 (nodes a + 1 + 1 + 1) (λ few. omega (arith, few, nodes_some a)) fits.1), tt)),
+    ),
+  ),
+)
 
 after_two : (limits : Limits) (room : Room) (a b : Tree) → (operand 0 (under (nodes a + 3) room)).Fits limits b → (Choice3 room a b).Fits limits (zero, (tt, (zero, tt)))
-after_two limits room a b fits =
-    ((tt, zero_beside limits room b (nodes a + 3) (nodes a + nodes b + 2) (λ few. omega (arith, few, nodes_some b)) fits.1),
-    (tt, ((tt, zero_beside limits room b (nodes a + 3) (nodes a + nodes b + 1 + 1) (λ few. omega (arith, few, nodes_some b)) fits.1), tt)))
+after_two limits room a b fits = (
+  (tt, zero_beside limits room b (nodes a + 3) (nodes a + nodes b + 2) (λ few. omega (arith, few, nodes_some b)) fits.1),
+  (tt, ((tt, zero_beside limits room b (nodes a + 3) (nodes a + nodes b + 1 + 1) (λ few. omega (arith, few, nodes_some b)) fits.1), tt)),
+)
 
 after_three : (limits : Limits) (room : Room) (a b c : Tree) → (operand 0 (under (nodes a + nodes b + 2) room)).Fits limits c → (Choice4 room a b c).Fits limits (zero, tt)
 after_three limits room a b c fits =
@@ -307,9 +313,10 @@ pub step_select : (room : Room) (after : List Token) → 1 < room.depth → Step
 step_select room after deep = record {
   front = Word Select ∷ [];
   split = refl;
-  fits = λ limits p f.
-      ((f.1.0.0, f.1.1.1.0.0, f.1.1.1.1.1.0.0, f.1.1.1.1.1.1.1.0.0),
-      around_select limits room p.1.0 p.1.1.1.0 p.1.1.1.1.1.0 p.1.1.1.1.1.1.1.0 deep f.1.0.1 f.1.1.1.0.1 f.1.1.1.1.1.0.1 f.1.1.1.1.1.1.1.0.1);
+  fits = λ limits p f. (
+    (f.1.0.0, f.1.1.1.0.0, f.1.1.1.1.1.0.0, f.1.1.1.1.1.1.1.0.0),
+    around_select limits room p.1.0 p.1.1.1.0 p.1.1.1.1.1.0 p.1.1.1.1.1.1.1.0 deep f.1.0.1 f.1.1.1.0.1 f.1.1.1.1.1.0.1 f.1.1.1.1.1.1.1.0.1,
+  );
   spelled = λ p. refl;
   back = λ limits other x y same fits follows equal.
       let found : Goes (Word Select) other x y = goes (Word Select) other x y fits.0 equal in
@@ -322,11 +329,25 @@ step_select room after deep = record {
       let right : max (depth c) (depth d) ≤ max (max (depth a) (depth b)) (max (depth c) (depth d)) = le-max_right (max (depth a) (depth b)) (max (depth c) (depth d)) in
       record {
         tree = (tt, (a, (tt, (b, (tt, (c, (tt, (d, tt))))))));
-        fits = (tt,
-            ((found.5.0, inside_select limits room a b c d a 4 (omega (arith, left, le-max_left (depth a) (depth b))) (λ w. omega (arith, w, nodes_some b, nodes_some c, nodes_some d)) (λ w. w.0) (λ w. w.0) within),
-            (tt, ((found.5.1, inside_select limits room a b c d b (nodes a + 3) (omega (arith, left, le-max_right (depth a) (depth b))) (λ w. omega (arith, w, nodes_some c, nodes_some d)) (λ w. w.1) (λ w. w.1) within),
-            (tt, ((found.5.2, inside_select limits room a b c d c (nodes a + nodes b + 2) (omega (arith, right, le-max_left (depth c) (depth d))) (λ w. omega (arith, w, nodes_some d)) (λ w. w.2) (λ w. w.2) within),
-            (tt, ((found.5.3, inside_select limits room a b c d d (nodes a + nodes b + nodes c + 1) (omega (arith, right, le-max_right (depth c) (depth d))) (λ w. omega (arith, w)) (λ w. w.3) (λ w. w.3) within), tt))))))));
+        fits = (
+          tt,
+          (
+            (found.5.0, inside_select limits room a b c d a 4 (omega (arith, left, le-max_left (depth a) (depth b))) (λ w. omega (arith, w, nodes_some b, nodes_some c, nodes_some d)) (λ w. w.0) (λ w. w.0) within),
+            (
+              tt,
+              (
+                (found.5.1, inside_select limits room a b c d b (nodes a + 3) (omega (arith, left, le-max_right (depth a) (depth b))) (λ w. omega (arith, w, nodes_some c, nodes_some d)) (λ w. w.1) (λ w. w.1) within),
+                (
+                  tt,
+                  (
+                    (found.5.2, inside_select limits room a b c d c (nodes a + nodes b + 2) (omega (arith, right, le-max_left (depth c) (depth d))) (λ w. omega (arith, w, nodes_some d)) (λ w. w.2) (λ w. w.2) within),
+                    (tt, ((found.5.3, inside_select limits room a b c d d (nodes a + nodes b + nodes c + 1) (omega (arith, right, le-max_right (depth c) (depth d))) (λ w. omega (arith, w)) (λ w. w.3) (λ w. w.3) within), tt)),
+                  ),
+                ),
+              ),
+            ),
+          ),
+        );
         is = found.4;
         equal = found.6 ∙ ap (λ w. Sign Open ∷ w) (sym (four a b c d y));
         follows = tt;

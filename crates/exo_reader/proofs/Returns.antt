@@ -1,6 +1,6 @@
 -- The returns of the functions that read expressions.
-use Rattle.std.proofs.Common.{◌≡◌, ℕ, zero, suc, max, true, false, ◌+◌, ◌-◌, ◌<◌, ◌≤◌, List, [], ◌∷◌, ◌++◌, Option, Some, length, map, refl, sym, ap, ◌∙◌, subst, arith, add-one}
-use Rattle.phrases.specs.Limits.{Limits, in_length, in_size, Cause, syntax, too_deep, too_long, too_large}
+use Rattle.std.proofs.Common.{◌≡◌, ℕ, zero, suc, max, true, false, ◌+◌, ◌-◌, ◌<◌, ◌≤◌, List, [], ◌∷◌, ◌++◌, Some, length, map, refl, sym, ap, ◌∙◌, subst, arith, add-one}
+use Rattle.phrases.specs.Limits.{in_size, Cause, syntax, too_deep, too_long, too_large}
 use Rattle.phrases.specs.Phrase.{first, Phrase, Taken, Refused}
 use Rattle.phrases.specs.Answers.{Refuses}
 use Rattle.phrases.specs.declared.Refusal.{Refusal}
@@ -260,13 +260,14 @@ deep_indices {level = level} {list = list} taken = deepest_of level list (taken.
 
 -- the room at the right of an operator
 pub rights : (room inner : Room) (m : Measured) → IsMeasured m → inner ≡ under (m.nodes + 1) room → m.depth < room.depth → m.nodes + 1 < room.nodes → Right room inner (tree_of m.tree) × HasPlace inner
-rights room inner m measured same shallow few =
-    (record {
-      is = same ∙ ap (λ k. under (k + 1) room) measured.nodes;
-      shallow = omega (arith, shallow, measured.depth);
-      few = omega (arith, few, measured.nodes);
-    },
-    place_under room inner (m.nodes + 1) same (omega (arith, shallow, measured.depth, depth_some (tree_of m.tree))) few)
+rights room inner m measured same shallow few = (
+  record {
+    is = same ∙ ap (λ k. under (k + 1) room) measured.nodes;
+    shallow = omega (arith, shallow, measured.depth);
+    few = omega (arith, few, measured.nodes);
+  },
+  place_under room inner (m.nodes + 1) same (omega (arith, shallow, measured.depth, depth_some (tree_of m.tree))) few,
+)
 
 -- cells
 

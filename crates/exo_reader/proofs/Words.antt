@@ -1,5 +1,5 @@
 -- Single tokens, and a few in a row.
-use Rattle.std.proofs.Common.{◌≡◌, ℕ, ◌+◌, ◌<◌, ◌≤◌, List, [], ◌∷◌, ◌++◌, Option, Some, Bool, true, false, IsTrue, not, length, refl, sym, ap, ◌∙◌, subst, arith, map, take, drop, get_or}
+use Rattle.std.proofs.Common.{◌≡◌, ℕ, ◌+◌, ◌<◌, List, [], ◌∷◌, ◌++◌, Some, length, sym, ap, ◌∙◌, subst, arith, map, take, drop, get_or}
 use Rattle.std.proofs.lemmas.List.{take-append-drop, drop_more, map-append}
 use Rattle.phrases.specs.Limits.{syntax, too_long, too_large}
 use Rattle.phrases.specs.Phrase.{first, Refused}

@@ -33,7 +33,7 @@ pub record SourceProcedure : Type 0 where
 
 abbrev pub StatementFits : Limits → SourceStatement → Type 0
 StatementFits limits pass = Unit {0}
-StatementFits limits (assign x index value) = name.Fits limits x × control.Fits limits index × datum.Fits limits value
+StatementFits limits (assign x index value) = control.Fits limits index × datum.Fits limits value
 
 abbrev pub spelling_statement : SourceStatement → List Token
 spelling_statement pass = Word w.Pass ∷ NewLine ∷ []

@@ -1,8 +1,8 @@
 -- How much room is left for the parts of an expression.
 use Rattle.std.specs.Prelude.{◌≡◌, ℕ, ◌+◌, ◌≤◌, ◌<◌}
 use Rattle.phrases.specs.declared.Refusal.{Refusal}
-use Rattle.phrases.specs.declared.Refusal.TheVariants.{Memory, Syntax, TooDeep, TooLong, TooLarge}
-use Rattle.exo_reader.specs.Expression.{Tree, depth, nodes, HasPlace, under}
+use Rattle.phrases.specs.declared.Refusal.TheVariants.{TooDeep, TooLong}
+use Rattle.exo_reader.specs.Expression.{Tree, depth, nodes, under}
 use Rattle.exo_reader.specs.declared.expression.Room.{Room}
 
 -- a token that so many are left with passes a limit of the room: beside a part so deep, or with so many nodes taken

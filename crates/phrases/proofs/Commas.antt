@@ -2,7 +2,7 @@
 use Rattle.std.proofs.Common.{◌≡◌, ℕ, List, [], ◌∷◌, ◌++◌, Option, Some, Bool, true, false, length, refl, sym, ap, ◌∙◌, append_assoc, subst}
 use Rattle.std.proofs.lemmas.List.{append_cancel_left, append-nil}
 use Rattle.phrases.specs.Limits.{Limits, in_depth, in_length, Cause, passed, too_long, Keeps}
-use Rattle.phrases.specs.Phrase.{first, Phrase, Taken, GoesOn, Refused}
+use Rattle.phrases.specs.Phrase.{first, Phrase, Taken, Refused}
 use Rattle.phrases.specs.Sequence.{AllFit}
 use Rattle.phrases.specs.Commas.{spell_more, commas, ListingFits, spell_listing, listing}
 use Rattle.phrases.proofs.Phrases.{first_append, taken_rest, goes_along, keeps_all}

@@ -1,5 +1,5 @@
 -- Phrases in general.
-use Rattle.std.proofs.Common.{arith, ◌≤◌, ◌≡◌, List, [], ◌∷◌, ◌++◌, Some, length, refl, ap, ◌∙◌}
+use Rattle.std.proofs.Common.{arith, ◌≤◌, ◌≡◌, List, [], ◌∷◌, ◌++◌, length, refl, ap, ◌∙◌}
 use Rattle.std.proofs.lemmas.List.{append_cancel_left, length-append}
 use Rattle.phrases.specs.Limits.{Limits, unlimited, in_depth, in_length, in_size, Keeps, Cause, syntax, too_deep, too_long, too_large}
 use Rattle.phrases.specs.Phrase.{first, Phrase, Taken, GoesOn, Goes}

@@ -1,8 +1,8 @@
 -- Phrases made of phrases, read from the left.
 use Rattle.std.proofs.Common.{◌≡◌, ℕ, List, [], ◌∷◌, ◌++◌, Option, Some, None, length, refl, sym, ap, ◌∙◌, append_assoc, subst}
 use Rattle.std.proofs.lemmas.List.{append_cancel_left, append-nil}
-use Rattle.phrases.specs.Limits.{Limits, in_depth, in_length, Cause, passed, syntax, too_long, too_large, Keeps}
-use Rattle.phrases.specs.Phrase.{first, Phrase, Taken, Begins, GoesOn, Goes, Refused}
+use Rattle.phrases.specs.Limits.{Limits, in_depth, in_length, Cause, passed, syntax, too_long, too_large}
+use Rattle.phrases.specs.Phrase.{first, Phrase, Taken, GoesOn, Refused}
 use Rattle.phrases.specs.Sequence.{exactly, then, AllFit, spell_all, many, several, MaybeFits, maybe, carried_short, carried_small, then_by}
 use Rattle.phrases.proofs.Phrases.{first_append, taken_rest, goes_along, keeps_all}
 

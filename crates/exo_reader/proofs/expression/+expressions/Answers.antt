@@ -1,4 +1,4 @@
-use Rattle.std.proofs.Common.{[], ◌∷◌, arith, ap, refl, length, sym, subst, ◌∙◌, true, false, ◌≡◌}
+use Rattle.std.proofs.Common.{[], ◌∷◌, arith, ap, refl, length, subst, ◌∙◌, true, false, ◌≡◌}
 use Rattle.phrases.proofs.Exits.{exit}
 use Rattle.phrases.proofs.Phrases.{taken_shorter}
 use Rattle.phrases.proofs.Sequences.{step_taken}
@@ -7,7 +7,7 @@ use Rattle.std.proofs.lemmas.List.{length-append}
 use Rattle.exo_reader.proofs.Chains.{taken_of_begun}
 use Rattle.exo_reader.proofs.Atoms.{wide_minus, wide_open, wide_relu, wide_select}
 use Rattle.exo_reader.proofs.Made.{made_truth, made_name}
-use Rattle.exo_reader.proofs.Productions.{step_negative, step_parens, close_joint, step_relu, open_joint, step_cell, indices_joint, step_select, choice0, choice1, choice2, choice3, comma1, comma2, comma3, comma_apart}
+use Rattle.exo_reader.proofs.Productions.{step_negative, step_parens, close_joint, step_relu, open_joint, step_select, choice0, choice1, choice2, choice3, comma1, comma2, comma3}
 use Rattle.exo_reader.proofs.Returns.{renamed, roomed, roomed_err, fronted, fronted_err, true_ok, false_ok, variable_ok, long_err, full_front, full_cell, word_err, sign_err, start_err, end_err, full_err, first_err, begun_first, chain_err, chain_next, compare_none, compare_full, compare_err, compare_ok, all_err, left_of, deep_left, place_under, same_two, same_three, same_four, deep_indices, deep_inside, cell_err, bracket_err, cell_ok, indices_err_first, indices_full, indices_err, indices_next, deepest_next, indices_ok}
 use Rattle.exo_reader.specs.Expression.{HasPlace}
 use Rattle.exo_reader.specs.Views.{tree_of}

@@ -1,5 +1,5 @@
 use Rattle.std.proofs.Common.{false, true, ◌≡◌}
-use Rattle.exo_reader.proofs.Words.{name_long, name_other, name_end}
+use Rattle.exo_reader.proofs.Words.{name_long, name_other}
 use Rattle.exo_reader.proofs.front.read_name.Goals as goal
 
 pub returns-then-not-is_short : goal.returns-then-not-is_short
