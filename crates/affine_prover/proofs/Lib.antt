@@ -25,3 +25,4 @@ pub mod Ratios
 pub mod Returning
 pub mod OpenRows
 pub mod OpenEquations
+pub mod Settling

@@ -1,15 +1,13 @@
 -- The steps of the loops that merge and normalize rows.
 use Rattle.std.proofs.Common.{ℕ, zero, suc, ◌+◌, ◌<◌, ◌≤◌, ◌≡◌, Bool, true, false, not, cond, ◌||◌, List, [], ◌∷◌, ◌++◌, map, length, take, drop, set, get_or, Some, None, arith, ap, sym, ◌∙◌, refl, append_assoc}
-use Rattle.std.specs.List.{filter, list_any}
+use Rattle.std.specs.List.{filter, fold, list_any}
 use Rattle.std.specs.Int.{int_min}
 use Rattle.std.proofs.lemmas.List.{drop_more, take_more, drop_all, take_all, set_split}
 use Rattle.std.proofs.Common.{add-one}
 use Rattle.affine_forms.specs.Affine.{Affine}
-use Rattle.affine_prover.specs.Elimination.{joined, merged, tightened, is_constant, is_false, normalized, same_list, is_impossible, reduced}
+use Rattle.affine_prover.specs.Elimination.{joined, tightened, is_constant, is_false, same_list, is_impossible, reduced}
+use Rattle.affine_prover.specs.Settled.{normalized_onto}
 use Rattle.std.proofs.Math.Bool.{or-true}
-
-lowered : Affine → Affine → Affine
-lowered k r = record k { constant = int_min k.constant r.constant }
 
 pub joined-past : (ks : List Affine) (r k : Affine) (i : ℕ) → i < length ks → k ≡ get_or ks i k → same_list k.coefficients r.coefficients ≡ false → take i ks ++ joined (drop i ks) r ≡ take (i + 1) ks ++ joined (drop (i + 1) ks) r
 joined-past ks r k i l e h =
@@ -41,13 +39,13 @@ any_at (x ∷ xs) (suc i) r l e h = ap (λ t. is_false (tightened x) || t) (any_
     or_true true = refl
     or_true false = refl
 
-pub normalized-none : (rows : List Affine) → list_any is_false (map tightened rows) ≡ true → None ≡ normalized rows
-unfolding normalized
-normalized-none rows h = sym (ap (λ t. cond t None (Some (merged (filter (λ r. not (is_constant r)) (map tightened rows))))) h)
+pub normalized_onto-none : (kept rows : List Affine) → list_any is_false (map tightened rows) ≡ true → None ≡ normalized_onto kept rows
+unfolding normalized_onto
+normalized_onto-none kept rows h = sym (ap (λ t. cond t None (Some (fold joined kept (filter (λ r. not (is_constant r)) (map tightened rows))))) h)
 
-pub normalized-some : (rows kept : List Affine) → kept ≡ merged (filter (λ r. not (is_constant r)) (map tightened rows)) → list_any is_false (map tightened rows) ≡ false → Some kept ≡ normalized rows
-unfolding normalized
-normalized-some rows kept e h = ap Some e ∙ sym (ap (λ t. cond t None (Some (merged (filter (λ r. not (is_constant r)) (map tightened rows))))) h)
+pub normalized_onto-some : (kept rows all : List Affine) → all ≡ fold joined kept (filter (λ r. not (is_constant r)) (map tightened rows)) → list_any is_false (map tightened rows) ≡ false → Some all ≡ normalized_onto kept rows
+unfolding normalized_onto
+normalized_onto-some kept rows all e h = ap Some e ∙ sym (ap (λ t. cond t None (Some (fold joined kept (filter (λ r. not (is_constant r)) (map tightened rows))))) h)
 
 -- ---- reducing
 pub impossible_at : (es : List Affine) (i : ℕ) (e : Affine) → i < length es → e ≡ get_or es i e → is_impossible e ≡ true → list_any is_impossible es ≡ true

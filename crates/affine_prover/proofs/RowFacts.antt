@@ -1,6 +1,6 @@
 -- What the methods of a row need: narrow numbers stay narrow, and a row whose gcd is 0 or 1 is tight.
 use Rattle.std.proofs.Common.{ℕ, zero, suc, ◌+◌, ◌^◌, ◌<◌, ◌≤◌, ◌≡◌, ◌==◌, ◌&&◌, Bool, true, false, cond, List, [], ◌∷◌, map, length, ℤ, pos, negsuc, ◌*ℤ◌, neg_ℤ, unsigned_abs, Some, None, arith, ap, sym, subst, ◌∙◌, refl}
-use Rattle.std.specs.List.{AllByRecursion, list_all, fold, position, position_or_len}
+use Rattle.std.specs.List.{AllByRecursion, list_all, fold, remove, position, position_or_len}
 use Rattle.std.proofs.Common.{ltb, not}
 use Rattle.std.specs.Int.{int_div_euclid}
 use Rattle.std.specs.Ordering.{int_eq}
@@ -11,7 +11,7 @@ use Rattle.std.proofs.Math.Nat.{div-le_self}
 use Rattle.affine_forms.specs.Affine.{Affine}
 use Rattle.affine_prover.specs.Shapes.{IsNarrow, AreNarrow}
 use Rattle.affine_forms.specs.Bounds.{is_narrow}
-use Rattle.affine_prover.specs.Elimination.{gcd, gcd_of, tightened, weighed, weighed_lists, is_narrow_weighed, are_narrow_weighed, combined, is_narrow_combined, same_list}
+use Rattle.affine_prover.specs.Elimination.{gcd, gcd_of, tightened, weighed, weighed_lists, is_narrow_weighed, are_narrow_weighed, combined, is_narrow_combined, same_list, without}
 use Rattle.affine_prover.proofs.Divisors.{gcd-is}
 use Rattle.affine_prover.proofs.Everywhere.{both, everywhere-map}
 use Rattle.affine_prover.proofs.Narrow.{some-kept, none-kept}
@@ -104,6 +104,33 @@ combined-none f a g b k h i =
     let one = some-kept (is_narrow_weighed f a.constant g b.constant) (weighed f a.constant g b.constant) k h in
     let two = none-kept (are_narrow_weighed f a.coefficients g b.coefficients) (weighed_lists f a.coefficients g b.coefficients) i in
     sym (ap (λ t. cond (t && are_narrow_weighed f a.coefficients g b.coefficients) (Some (combined f a g b)) None) one.0 ∙ ap (λ t. cond t (Some (combined f a g b)) None) two)
+
+-- the list that was made, from what a test and the list say apart
+pub kept-list : (b n : Bool) (zs ws : List ℤ) → b ≡ n → b ≡ true → zs ≡ ws → Some zs ≡ cond n (Some ws) None
+kept-list b n zs ws e t is = ap Some is ∙ ap (λ m. cond m (Some ws) None) (sym t ∙ e)
+
+pub failed-list : (b n : Bool) (ws : List ℤ) → b ≡ n → b ≡ false → None ≡ cond n (Some ws) None
+failed-list b n ws e f = ap (λ m. cond m (Some ws) None) (sym f ∙ e)
+
+removed-narrow : (zs : List ℤ) (v : ℕ) → AreNarrow zs → AreNarrow (remove zs v)
+removed-narrow [] zero h = tt
+removed-narrow [] (suc v) h = tt
+removed-narrow (z ∷ zs) zero h = h.1
+removed-narrow (z ∷ zs) (suc v) h = (h.0, removed-narrow zs v h.1)
+
+-- a combination of which both parts were made, and a variable taken out
+pub removed-made : (f : ℤ) (a : Affine) (g : ℤ) (b : Affine) (v : ℕ) (k : ℤ) (zs rest : List ℤ) → Some k ≡ cond (is_narrow_weighed f a.constant g b.constant) (Some (weighed f a.constant g b.constant)) None → Some zs ≡ cond (are_narrow_weighed f a.coefficients g b.coefficients) (Some (weighed_lists f a.coefficients g b.coefficients)) None → rest ≡ remove zs v → (IsNarrow k × AreNarrow rest) × (Some (record { constant = k; coefficients = rest }) ≡ cond (is_narrow_combined f a g b) (Some (without v (combined f a g b))) None)
+removed-made f a g b v k zs rest h i e =
+    let both = combined-made f a g b k zs h i in
+    let is = some-kept (is_narrow_combined f a g b) (combined f a g b) (record { constant = k; coefficients = zs }) both.1 in (
+      (both.0.0, subst AreNarrow (sym e) (removed-narrow zs v both.0.1)),
+      ap (λ cs. Some (record { constant = k; coefficients = cs })) e ∙ ap (λ r. Some (without v r)) is.1 ∙ sym (ap (λ t. cond t (Some (without v (combined f a g b))) None) is.0),
+    )
+
+pub removed-none : (f : ℤ) (a : Affine) (g : ℤ) (b : Affine) (v : ℕ) (k : ℤ) → Some k ≡ cond (is_narrow_weighed f a.constant g b.constant) (Some (weighed f a.constant g b.constant)) None → None ≡ cond (are_narrow_weighed f a.coefficients g b.coefficients) (Some (weighed_lists f a.coefficients g b.coefficients)) None → None ≡ cond (is_narrow_combined f a g b) (Some (without v (combined f a g b))) None
+removed-none f a g b v k h i =
+    let wide = none-kept (is_narrow_combined f a g b) (combined f a g b) (combined-none f a g b k h i) in
+    sym (ap (λ t. cond t (Some (without v (combined f a g b))) None) wide)
 
 pub combined-width : (f : ℤ) (a : Affine) (g : ℤ) (b r : Affine) → length a.coefficients ≡ length b.coefficients → Some r ≡ cond (is_narrow_combined f a g b) (Some (combined f a g b)) None → length r.coefficients ≡ length a.coefficients
 combined-width f a g b r e h =

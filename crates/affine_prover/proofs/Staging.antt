@@ -1,16 +1,18 @@
 -- What the stages of the elimination come to, from what the code has computed.
-use Rattle.std.proofs.Common.{ℕ, suc, ◌+◌, ◌<◌, ◌≤◌, ◌≡◌, Bool, true, false, cond, ltb, List, [], ◌∷◌, map, length, Option, Some, None, arith, ap, sym, subst, ◌∙◌}
-use Rattle.std.specs.Prelude.{is_some}
-use Rattle.std.specs.List.{AllByRecursion, filter, flat_map, count_by}
+use Rattle.std.proofs.Common.{ℕ, suc, ◌+◌, ◌*◌, ◌<◌, ◌≤◌, ◌≡◌, Bool, true, false, cond, ltb, List, [], ◌∷◌, ◌++◌, map, length, Option, Some, None, arith, ap, sym, subst, ◌∙◌, refl}
+use Rattle.std.specs.Prelude.{is_some, IsTrue}
+use Rattle.std.specs.List.{AllByRecursion, All, filter, flat_map, count_by, list_all}
+use Rattle.std.proofs.lemmas.List.{length-map}
+use Rattle.std.proofs.lemmas.List.Sums.{length-filter}
 use Rattle.std.proofs.lemmas.Bool.Decides.{nat_tests}
 use Rattle.std.proofs.lemmas.List.Elements.{All-from_recursion, recursion_from_All}
 use Rattle.affine_prover.specs.declared.answer.Verdict.{Verdict}
 use Rattle.affine_prover.specs.declared.answer.Verdict.TheVariants.{Shown, Open, TooMany, TooWide}
 use Rattle.affine_forms.specs.Affine.{Affine}
 use Rattle.affine_prover.specs.Shapes.{AreWide}
-use Rattle.affine_prover.specs.Elimination.{is_free, is_lower_bound, is_upper_bound, pairs, least_at, normalized, combination, without, following, is_narrow_following, variable_eliminated, stage, stage_of, verdict_on_rows, Stage, lower_factor, upper_factor, weighed_lists}
+use Rattle.affine_prover.specs.Elimination.{is_free, is_lower_bound, is_upper_bound, pairs, least_at, normalized, combination, is_narrow_combination, without, following, is_narrow_following, variable_eliminated, stage, stage_of, verdict_on_rows, Stage, lower_factor, upper_factor, weighed_lists}
 use Rattle.affine_prover.specs.Elimination.Stage.{Ended, Rows}
-use Rattle.affine_prover.proofs.Everywhere.{everywhere-append, everywhere-map, everywhere-flat_map, everywhere-filter}
+use Rattle.affine_prover.proofs.Everywhere.{everywhere-append, everywhere-map, everywhere-flat_map, everywhere-filter, everywhere-like}
 use Rattle.affine_prover.proofs.Widths as widths
 use Rattle.affine_prover.proofs.Widths.{IsWide, normalized-wide, least_at-below, length-weighed_lists, length-remove}
 
@@ -40,6 +42,39 @@ unfolding variable_eliminated
 variable_eliminated-few v rows total e h narrow n =
     let test : ltb 4096 (count_by (is_free v) rows + pairs rows v) ≡ false = grind (arith, nat_tests) in
     ap (λ t. cond t (Rows (following v rows)) (Ended TooWide)) n ∙ sym (ap (λ t. cond t (Ended TooMany) (cond (is_narrow_following v rows) (Rows (following v rows)) (Ended TooWide))) test)
+
+-- ---- rows that were split by the sign of the variable
+pub split-total : (v : ℕ) (rows free lower upper : List Affine) (a b c : ℕ) → free ≡ map (without v) (filter (is_free v) rows) → lower ≡ filter (is_lower_bound v) rows → upper ≡ filter (is_upper_bound v) rows → a ≡ length free → b ≡ length lower → c ≡ length upper → a + b * c ≡ count_by (is_free v) rows + pairs rows v
+split-total v rows free lower upper a b c f l u p q r =
+    let one : a ≡ count_by (is_free v) rows = p ∙ ap length f ∙ length-map (filter (is_free v) rows) (without v) ∙ length-filter (is_free v) rows in
+    let two : b ≡ count_by (is_lower_bound v) rows = q ∙ ap length l ∙ length-filter (is_lower_bound v) rows in
+    let three : c ≡ count_by (is_upper_bound v) rows = r ∙ ap length u ∙ length-filter (is_upper_bound v) rows in
+    ap (λ n. n + b * c) one ∙ ap (λ n. count_by (is_free v) rows + n * c) two ∙ ap (λ n. count_by (is_free v) rows + count_by (is_lower_bound v) rows * n) three
+
+pub split-narrow : (v : ℕ) (rows lower upper : List Affine) → lower ≡ filter (is_lower_bound v) rows → upper ≡ filter (is_upper_bound v) rows → list_all (λ p. list_all (is_narrow_combination v p) upper) lower ≡ is_narrow_following v rows
+split-narrow v rows lower upper l u =
+    ap (λ qs. list_all (λ p. list_all (is_narrow_combination v p) qs) lower) u ∙ ap (λ ps. list_all (λ p. list_all (is_narrow_combination v p) (filter (is_upper_bound v) rows)) ps) l
+
+pub split-following : (v : ℕ) (rows free lower upper : List Affine) → free ≡ map (without v) (filter (is_free v) rows) → lower ≡ filter (is_lower_bound v) rows → upper ≡ filter (is_upper_bound v) rows → free ++ flat_map (λ p. map (combination v p) upper) lower ≡ following v rows
+split-following v rows free lower upper f l u =
+    ap (λ rs. rs ++ flat_map (λ p. map (combination v p) upper) lower) f
+    ∙ ap (λ qs. map (without v) (filter (is_free v) rows) ++ flat_map (λ p. map (combination v p) qs) lower) u
+    ∙ ap (λ ps. map (without v) (filter (is_free v) rows) ++ flat_map (λ p. map (combination v p) (filter (is_upper_bound v) rows)) ps) l
+
+pub filter-wide : (n : ℕ) (t : Affine → Bool) (rows : List Affine) → AreWide n rows → AreWide n (filter t rows)
+filter-wide n t rows w =
+    All-from_recursion (IsWide n) (filter t rows) (everywhere-like (λ r. IsWide n r × (t r ≡ true)) (IsWide n) (λ r k. k.0) (filter t rows) (everywhere-filter (IsWide n) t rows (recursion_from_All (IsWide n) rows w)))
+
+filtered-pass : (t : Affine → Bool) (rows : List Affine) → AllByRecursion (λ r. IsTrue (t r)) (filter t rows)
+filtered-pass t [] = tt
+filtered-pass t (r ∷ rs) = by (t r) refl (filtered-pass t rs)
+  where
+    by : (b : Bool) → t r ≡ b → AllByRecursion (λ r. IsTrue (t r)) (filter t rs) → AllByRecursion (λ r. IsTrue (t r)) (cond b (r ∷ filter t rs) (filter t rs))
+    by true e rest = (e, rest)
+    by false e rest = rest
+
+pub filter-passes : (t : Affine → Bool) (rows : List Affine) → All (λ r. IsTrue (t r)) (filter t rows)
+filter-passes t rows = All-from_recursion (λ r. IsTrue (t r)) (filter t rows) (filtered-pass t rows)
 
 -- ---- how many coefficients the rows have
 pub kept-wide : (n : ℕ) (rows kept : List Affine) → AreWide n rows → Some kept ≡ normalized rows → AreWide n kept

@@ -1,5 +1,5 @@
 -- Rows that hold at an integer point hold there once they are tightened and merged.
-use Rattle.std.proofs.Common.{◌≡◌, Bool, true, false, not, ◌||◌, cond, List, [], ◌∷◌, map, ℤ, pos, ◌+ℤ◌, ◌*ℤ◌, ◌≤ℤ◌, Option, Some, None, arith, ap, refl}
+use Rattle.std.proofs.Common.{ℕ, get_or, ◌≡◌, Bool, true, false, not, ◌||◌, cond, List, [], ◌∷◌, map, ℤ, pos, ◌+ℤ◌, ◌*ℤ◌, ◌≤ℤ◌, Option, Some, None, arith, ap, refl}
 use Rattle.std.specs.List.{AllByRecursion, filter, fold, list_any, list_all}
 use Rattle.std.specs.Int.{int_min, is_negative}
 use Rattle.std.specs.Ordering.{int_eq}
@@ -49,6 +49,13 @@ same_list-true (x ∷ xs) (y ∷ ys) e =
     let here : x ≡ y = (Decides-int_eq x y).0 parts.0 in
     let rest = same_list-true xs ys parts.1 in
     cc
+
+pub same_list-differs : (xs ys : List ℤ) (v : ℕ) → (get_or xs v (pos 0) ≡ get_or ys v (pos 0) → ⊥) → same_list xs ys ≡ false
+same_list-differs xs ys v h = by (same_list xs ys) refl
+  where
+    by : (b : Bool) → same_list xs ys ≡ b → b ≡ false
+    by true e = absurd (h (ap (λ zs. get_or zs v (pos 0)) (same_list-true xs ys e)))
+    by false e = refl
 
 least-holds : (k r : Affine) (point : List ℤ) → k.coefficients ≡ r.coefficients → Holds point k → Holds point r → Holds point (record k { constant = int_min k.constant r.constant })
 least-holds k r point e h i = by (int_lt r.constant k.constant) refl

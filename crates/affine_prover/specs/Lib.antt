@@ -1,3 +1,4 @@
 pub mod Shapes
 pub mod Elimination
+pub mod Settled
 pub mod Steps

@@ -41,43 +41,21 @@ fn reduce(alloc: Global, equations: Vec<DenseRow>) -> Result<Option<Vec<DenseRow
     Ok(Some(kept))
 }
 
-/// The row with the solution of `e` for its variable `v` put in.
-fn substituted(
-    alloc: Global,
-    v: usize,
-    e: &DenseRow,
-    row: &DenseRow,
-) -> Result<Option<DenseRow>, AllocError>
-    requires wide { length row.now.coefficients ≡ length e.now.coefficients }
-    requires below { v < length e.now.coefficients }
-    requires unit { IsTrue (is_unit (coefficient e.now v)) }
-    ensures { IfOk result (λ r. r ≡ (if is_narrow_substituted v e.now row.now then Some (substituted v e.now row.now) else None)) }
-{
-    let factor = row.solving_factor(v, e);
-    match DenseRow::combined(alloc, 1, row, factor, e)? {
-        Some(mut sum) => {
-            sum.remove(v);
-            Ok(Some(sum))
-        }
-        None => Ok(None),
-    }
-}
-
 /// The rows with the solution of `e` for its variable `v` put in, where each number on the way is at most 2^100 in size.
 fn substitute(
     alloc: Global,
     v: usize,
     e: &DenseRow,
-    rows: &[DenseRow],
+    rows: Vec<DenseRow>,
 ) -> Result<Option<Vec<DenseRow>>, AllocError>
-    requires wide { AreWide (length e.now.coefficients) rows.now }
+    requires wide { AreWide (length e.now.coefficients) rows.items }
     requires below { v < length e.now.coefficients }
     requires unit { IsTrue (is_unit (coefficient e.now v)) }
-    ensures { IfOk result (λ r. option_map (λ v. v.items) r ≡ (if list_all (is_narrow_substituted v e.now) rows.now then Some (map (substituted v e.now) rows.now) else None)) }
+    ensures { IfOk result (λ r. option_map (λ v. v.items) r ≡ (if list_all (is_narrow_substituted v e.now) rows.items then Some (map (substituted v e.now) rows.items) else None)) }
 {
     let mut next = Vec::with_capacity(alloc, rows.len())?;
     for row in rows {
-        match substituted(alloc, v, e, row)? {
+        match row.substituted(v, e) {
             Some(sum) => next.push(sum)?,
             None => return Ok(None),
         }
@@ -115,17 +93,17 @@ fn put_in(
     i: usize,
     n: usize,
     equations: Vec<DenseRow>,
-    rows: &[DenseRow],
+    rows: Vec<DenseRow>,
 ) -> Result<Turn, AllocError>
     requires wide_equations { AreWide n equations.items }
-    requires wide_rows { AreWide n rows.now }
+    requires wide_rows { AreWide n rows.items }
     requires first { position has_unit equations.items ≡ Some i }
-    ensures { IfOk result (λ t. round_of_turn t ≡ round_of equations.items rows.now (find has_unit equations.items)) }
+    ensures { IfOk result (λ t. round_of_turn t ≡ round_of equations.items rows.items (find has_unit equations.items)) }
 {
     let mut others = equations;
     let e = others.remove(i);
     let v = e.unit_place();
-    match substitute(alloc, v, &e, &others)? {
+    match substitute(alloc, v, &e, others)? {
         None => Ok(Turn::Finished(Verdict::TooWide)),
         Some(es) => match substitute(alloc, v, &e, rows)? {
             None => Ok(Turn::Finished(Verdict::TooWide)),
@@ -153,7 +131,7 @@ fn round(
                 Ok(Turn::Unsolved(all))
             }
             Some(i) => {
-                let turn = put_in(alloc, i, n, es, &rows)?;
+                let turn = put_in(alloc, i, n, es, rows)?;
                 Ok(turn)
             }
         },

@@ -1,5 +1,5 @@
 //! Lists of coefficients.
-ghost use Rattle.std.specs.Prelude.{◌≡◌, Some, None, if◌then◌else◌, map, pos, ◌<ℤ◌, length, IfOk, unsigned_abs, ◌≤◌, ◌^◌, OnSome, neg_ℤ};
+ghost use Rattle.std.specs.Prelude.{◌≡◌, Some, None, if◌then◌else◌, map, pos, ◌<ℤ◌, length, IfOk, unsigned_abs, ◌≤◌, ◌^◌, OnSome, neg_ℤ, IsTrue, slice_index_or};
 ghost use Rattle.affine_prover.specs.Shapes.{AreNarrow};
 ghost use Rattle.std.specs.Int.{int_div_euclid};
 ghost use Rattle.std.specs.List.{All, list_all};
@@ -8,7 +8,7 @@ ghost use Rattle.std.specs.Option.{option_map};
 ghost use Rattle.affine_forms.specs.Bounds.{is_narrow};
 ghost use Rattle.affine_prover.specs.Elimination.{gcd_of, weighed_lists, are_narrow_weighed};
 
-use crate::number::{gcd, weighed};
+use crate::number::{added, floored, gcd, weighed};
 use std::alloc::{AllocError, Global};
 
 /// The greatest common divisor of the coefficients, 0 where all are 0.
@@ -31,7 +31,7 @@ pub fn divide_all(cs: &mut [i128], g: i128)
     ensures { cs.new ≡ map (λ c. int_div_euclid c g) cs.old }
 {
     for c in cs.iter_mut() {
-        *c = c.div_euclid(g);
+        *c = floored(*c, g);
     }
 }
 
@@ -40,6 +40,13 @@ pub fn all_zero(cs: &[i128]) -> bool
     ensures { result ≡ list_all (λ c. int_eq c (pos 0)) cs.now }
 {
     cs.iter().all(|c| *c == 0)
+}
+
+/// The number at a place, 0 behind the end.
+pub fn number_at(xs: &[i128], v: usize) -> i128
+    ensures { result ≡ slice_index_or xs.now v (pos 0) }
+{
+    if v < xs.len() { xs[v] } else { 0 }
 }
 
 /// `f` times one list plus `g` times another, where each number on the way is at most 2^100 in size.
@@ -61,6 +68,22 @@ pub fn weighed_lists(
         }
     }
     Ok(Some(out))
+}
+
+/// Adds `g` times one list to another in place, and says whether each number on the way is at most 2^100 in size.
+pub fn add_times(xs: &mut [i128], g: i128, ys: &[i128]) -> bool
+    requires same { length xs.old ≡ length ys.now }
+    requires narrow { AreNarrow xs.old }
+    ensures narrow { result ≡ are_narrow_weighed (pos 1) xs.old g ys.now }
+    ensures sum { IsTrue result → xs.new ≡ weighed_lists (pos 1) xs.old g ys.now }
+{
+    for i in 0..xs.len() {
+        match added(xs[i], g, ys[i]) {
+            Some(z) => xs[i] = z,
+            None => return false,
+        }
+    }
+    true
 }
 
 /// The opposite numbers.

@@ -1,11 +1,13 @@
 //! Dense rows: one coefficient per variable.
-ghost use Rattle.std.specs.Prelude.{◌≡◌, ◌<◌, ◌≤◌, ◌^◌, length, Some, None, if◌then◌else◌, IfOk, unsigned_abs, ℤ, pos, IsTrue};
-ghost use Rattle.std.specs.List.{AllByRecursion, position};
+ghost use Rattle.std.specs.Prelude.{◌≡◌, ◌<◌, ◌≤◌, ◌^◌, ◌+◌, ◌-◌, reverse, length, Some, None, if◌then◌else◌, IfOk, unsigned_abs, ℤ, pos, IsTrue};
+ghost use Rattle.std.specs.List.{AllByRecursion, position, position_or_len};
 ghost use Rattle.std.specs.Int.{int_min};
-ghost use Rattle.affine_prover.specs.Shapes.{IsNarrow, AreNarrow};
-ghost use Rattle.affine_prover.specs.Elimination.{coefficient, is_constant, tightened, same_list, without, combined, is_narrow_combined, is_impossible, is_unit, has_unit, unit_place, solving_factor, negated};
+ghost use Rattle.affine_prover.specs.Shapes.{IsNarrow, AreNarrow, is_present};
+ghost use Rattle.affine_prover.specs.Elimination.{coefficient, is_constant, tightened, same_list, without, combined, is_narrow_combined, is_impossible, is_unit, has_unit, unit_place, substituted, is_narrow_substituted, solving_factor, negated};
 
-use crate::list::{all_zero, divide_all, gcd_of, negated_list, weighed_lists};
+use crate::list::{
+    add_times, all_zero, divide_all, gcd_of, negated_list, number_at, weighed_lists,
+};
 use crate::number::weighed;
 use std::alloc::{AllocError, Global};
 use std::marker::Model;
@@ -84,10 +86,31 @@ impl DenseRow {
         }
     }
 
-    /// Whether both rows have the same coefficients.
-    pub fn is_like(&self, other: &DenseRow) -> bool
+    /// How many variables after the last one that stands in the row have no coefficient.
+    fn trailing(&self) -> Option<usize>
+        ensures { result ≡ position is_present (reverse self.now.coefficients) }
+    {
+        self.coefficients.iter().rev().position(|c| *c != 0)
+    }
+
+    /// The last variable that stands in the row, or 0 where none does.
+    pub fn lead(&self) -> usize
+        ensures { result ≡ length self.now.coefficients - (1 + position_or_len is_present (reverse self.now.coefficients)) }
+    {
+        match self.trailing() {
+            Some(i) => self.width() - 1 - i,
+            None => 0,
+        }
+    }
+
+    /// Whether both rows have the same coefficients. Place `v` is looked at first: where it is the lead of one of them,
+    /// most rows that differ do so there.
+    pub fn is_like(&self, v: usize, other: &DenseRow) -> bool
         ensures { result ≡ same_list self.now.coefficients other.now.coefficients }
     {
+        if number_at(&self.coefficients, v) != number_at(&other.coefficients, v) {
+            return false;
+        }
         self.coefficients == other.coefficients
     }
 
@@ -106,18 +129,6 @@ impl DenseRow {
         ensures { self.new ≡ without v self.old }
     {
         let _gone = self.coefficients.remove(v);
-    }
-
-    /// A copy of the row.
-    pub fn copy(&self, alloc: Global) -> Result<DenseRow, AllocError>
-        ensures { IfOk result (λ r. r ≡ self.now) }
-    {
-        let mut coefficients = Vec::with_capacity(alloc, self.coefficients.len())?;
-        coefficients.extend_from_slice(&self.coefficients)?;
-        Ok(DenseRow {
-            constant: self.constant,
-            coefficients,
-        })
     }
 
     /// Whether no integers make the sum 0: the gcd of the coefficients does not divide the constant.
@@ -164,6 +175,30 @@ impl DenseRow {
         if e.coefficient(v) == 1 { -c } else { c }
     }
 
+    /// The row with the solution of `e` for its variable `v` put in, where each number on the way is at most 2^100 in size.
+    pub fn substituted(self, v: usize, e: &DenseRow) -> Option<DenseRow>
+        requires wide { length self.coefficients ≡ length e.now.coefficients }
+        requires below { v < length e.now.coefficients }
+        requires unit { IsTrue (is_unit (coefficient e.now v)) }
+        ensures { result ≡ (if is_narrow_substituted v e.now self then Some (substituted v e.now self) else None) }
+    {
+        let factor = self.solving_factor(v, e);
+        let DenseRow {
+            constant,
+            coefficients,
+        } = self;
+        let mut coefficients = coefficients;
+        let constant = weighed(1, constant, factor, e.constant)?;
+        if !add_times(&mut coefficients, factor, &e.coefficients) {
+            return None;
+        }
+        let _gone = coefficients.remove(v);
+        Some(DenseRow {
+            constant,
+            coefficients,
+        })
+    }
+
     /// The row of the opposite numbers.
     pub fn negated(&self, alloc: Global) -> Result<DenseRow, AllocError>
         ensures { IfOk result (λ r. r ≡ negated self.now) }
@@ -171,20 +206,6 @@ impl DenseRow {
         let coefficients = negated_list(alloc, &self.coefficients)?;
         Ok(DenseRow {
             constant: -self.constant,
-            coefficients,
-        })
-    }
-
-    /// A copy of the row with variable `v` taken out of its coefficients.
-    pub fn without(&self, alloc: Global, v: usize) -> Result<DenseRow, AllocError>
-        requires { v < length self.now.coefficients }
-        ensures { IfOk result (λ r. r ≡ without v self.now) }
-    {
-        let mut coefficients = Vec::with_capacity(alloc, self.coefficients.len())?;
-        coefficients.extend_from_slice(&self.coefficients)?;
-        let _gone = coefficients.remove(v);
-        Ok(DenseRow {
-            constant: self.constant,
             coefficients,
         })
     }

@@ -1,7 +1,7 @@
 -- Looking for the first assignment from the front.
-use Rattle.std.proofs.Common.{◌≡◌, ℕ, zero, suc, ◌+◌, List, [], ◌∷◌, ◌++◌, take, drop, Bool, true, false, refl, ap, sym, ◌∙◌, arith, add-one, if◌then◌else◌, length, ◌≤◌, Some}
+use Rattle.std.proofs.Common.{◌≡◌, ℕ, zero, suc, ◌+◌, List, [], ◌∷◌, ◌++◌, take, drop, Bool, true, false, refl, ap, sym, ◌∙◌, add-one, if◌then◌else◌, length, ◌≤◌, Some}
 use Rattle.exo_cli.proofs.Lists.{drop-all}
-use Rattle.exo_tree.specs.Tree.{Datum, Statement, Assign, Procedure, block, statements}
+use Rattle.exo_tree.specs.Tree.{Statement, Assign, Procedure, block, statements}
 use Rattle.exo_cli.specs.Commute.{Stepped, Made, NoSuchPattern, WrongShape, assigns, behind, changed_before, commuted, commuted_at, commute_expr, parameter_of, with_body, has, exchanged}
 use Rattle.exo_cli.specs.declared.commute.Operation.{Operation}
 use Rattle.exo_cli.specs.declared.commute.StepRefusal.{StepRefusal}

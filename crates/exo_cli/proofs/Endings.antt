@@ -1,11 +1,11 @@
 -- How the program ends follows from its reply and from how that was delivered.
-use Rattle.std.proofs.Common.{◌≡◌, ◌≢◌, ℕ, ◌<◌, ◌≤◌, List, [], ◌∷◌, length, Option, Some, None, refl, ap, sym, ◌∙◌, arith, ◌⊎◌, inl, inr, Bool, true, false, nat_lt, codes, IfSome, IsNone, MatchBool, MatchOption}
+use Rattle.std.proofs.Common.{◌≡◌, ◌≢◌, ℕ, ◌<◌, ◌≤◌, List, [], length, Option, Some, None, refl, ap, sym, ◌∙◌, arith, ◌⊎◌, inl, inr, Bool, true, false, nat_lt, codes, IfSome, IsNone, MatchBool, MatchOption}
 use Rattle.std.proofs.lemmas.Bool.{ltb-true, ltb-false}
 use Rattle.std.specs.Option.{option_map_or}
 use Rattle.exo_cli.specs.declared.status.Status.{Status}
-use Rattle.exo_cli.specs.declared.status.Status.TheVariants.{Ok, Refused, Usage, ReadFault, WriteFault, Memory}
-use Rattle.exo_cli.specs.Outside.{Folder, content_of, HasBytes, IsLonger, Rose, with_more, StopsWithin}
-use Rattle.exo_cli.specs.Messages.{usage, cannot_read, file_refused}
+use Rattle.exo_cli.specs.declared.status.Status.TheVariants.{Ok, Usage, ReadFault, WriteFault, Memory}
+use Rattle.exo_cli.specs.Outside.{Folder, content_of, HasBytes, Rose, with_more, StopsWithin}
+use Rattle.exo_cli.specs.Messages.{usage, file_refused}
 use Rattle.exo_cli.specs.Words.{Command, Compile, command_of, files_of}
 use Rattle.exo_cli.specs.Answer.{Answer, Accepted, Rejected, Unread, Misused, status_of, for_out, for_err, IsVerdict}
 use Rattle.exo_cli.specs.Compiled.{IsCompiled}

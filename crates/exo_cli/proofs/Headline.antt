@@ -1,5 +1,5 @@
 -- What stands behind the C that is printed.
-use Rattle.std.proofs.Common.{◌≡◌, ◌≢◌, MatchBool, MatchOption, IfSome, nat_lt, length, codes, ⊎_elim, ℕ, zero, suc, true, false, true≢false, Bool, List, [], ◌∷◌, slice_get, Option, Some, None, option_map, refl, sym, ap, ◌∙◌, subst, if◌then◌else◌}
+use Rattle.std.proofs.Common.{◌≡◌, ◌≢◌, MatchBool, MatchOption, IfSome, nat_lt, length, codes, ⊎_elim, ℕ, zero, suc, true, false, true≢false, Bool, List, [], ◌∷◌, slice_get, Option, Some, None, option_map, refl, sym, ap, ◌∙◌, subst}
 use Rattle.std.proofs.lemmas.Option.{slice_get-map}
 use Rattle.std.proofs.lemmas.Bool.{and_parts}
 use Rattle.exo_tree.specs.Tree.{Procedure, Program}
@@ -8,8 +8,7 @@ use Rattle.exo_meaning.specs.State.{State}
 use Rattle.exo_meaning.specs.Run.{World}
 use Rattle.exo_meaning.specs.Inputs.{IsAdmissible, AreArguments, is_buffer_of}
 use Rattle.c_printer.specs.CTree.{Name}
-use Rattle.c_printer.specs.CText.{text_of}
-use Rattle.c_printer.specs.LoweredUnit.{Printing, name_of, printed_names, lowered}
+use Rattle.c_printer.specs.LoweredUnit.{Printing, name_of, printed_names}
 use Rattle.c_printer.specs.FirstForm.{is_first, are_first, is_first_unit}
 use Rattle.c_printer.proofs.FirstUnits.{all_first}
 use Rattle.c_printer.proofs.FirstUnitsFollow.{first_units_follow}
@@ -21,14 +20,15 @@ use Rattle.exo_cli.specs.Messages.{usage, file_refused}
 use Rattle.exo_cli.specs.Words.{Command, Compile, command_of}
 use Rattle.exo_cli.specs.Work.{file_limit, Opens, AnswersTo, Answers, Moment, Ends}
 use Rattle.exo_cli.specs.Answer.{Answer, Accepted, Rejected, Unread, Misused, status_of, for_out, for_err}
-use Rattle.exo_cli.specs.Compiled.{IsCompiled, not_built, ended, scheduled, started, printing_of, printings}
+use Rattle.exo_cli.specs.Compiled.{IsCompiled, ended, scheduled, started, printing_of, printings, with_versions}
 use Rattle.exo_cli.specs.Lines as lines
 use Rattle.exo_cli.specs.Lines.{Versions, Outcome, run_lines}
 use Rattle.exo_cli.specs.ScheduleForm.{schedule_of}
 use Rattle.exo_cli.specs.Kept.{IsVersionOf, HasOrigin, AreVersions}
-use Rattle.exo_cli.specs.Headline.{DoesWhat, IsPrinted, Promise, Promised, with_versions}
+use Rattle.exo_cli.specs.Headline.{DoesWhat, IsPrinted, Promise, Promised}
 use Rattle.exo_cli.specs.declared.lines.Line.{Line}
 use Rattle.exo_cli.proofs.Kept.{nothing_there, some_is, index_is, runs_alike, schedules_run_alike}
+use Rattle.exo_cli.proofs.Built.{accepted_is_built}
 
 -- each listed procedure is there and of the first form
 listed_is_first : (program : Program) (globals : List Name) (what : List Printing) (k : ℕ) (w : Printing) → are_first program globals what ≡ true → slice_get what k ≡ Some w
@@ -93,10 +93,9 @@ accepted_is : {text other : List ℕ} → Accepted text ≡ Accepted other → t
 accepted_is e = cc
 
 module _ (procs unit schedule bytes text : List ℕ) where
-  by_print : (program : Program) (ls : List Line) (v : Versions) (first : Bool) → SpellsFirst (tokens_of unit) program → schedule_of bytes ≡ Some ls → run_lines ls (started program.procedures) ≡ lines.Done v
-      → is_first_unit (with_versions program v) (printings v) ≡ first
-      → Accepted text ≡ (if first then Accepted (text_of (lowered (with_versions program v) (printings v))) else not_built procs) → Promise unit bytes text
-  by_print program ls v true spelled read ran first e = record {
+  by_run : (program : Program) (ls : List Line) (o : Outcome) → SpellsFirst (tokens_of unit) program → schedule_of bytes ≡ Some ls → run_lines ls (started program.procedures) ≡ o
+      → Accepted text ≡ ended schedule program o → Promise unit bytes text
+  by_run program ls (lines.Done v) spelled read ran e = record {
     text = program;
     lines = ls;
     versions = v;
@@ -104,16 +103,11 @@ module _ (procs unit schedule bytes text : List ℕ) where
     read = read;
     ran = ran;
     bytes = accepted_is e;
-    each = each_printed program v first (schedules_run_alike program.procedures ls v ran);
+    each = each_printed program v (accepted_is_built program ls v (unit, spelled.has) (bytes, read) ran) (schedules_run_alike program.procedures ls v ran);
   }
-  by_print program ls v false spelled read ran first e = absurd (accepted_is_not e)
-
-  by_run : (program : Program) (ls : List Line) (o : Outcome) → SpellsFirst (tokens_of unit) program → schedule_of bytes ≡ Some ls → run_lines ls (started program.procedures) ≡ o
-      → Accepted text ≡ ended procs schedule program o → Promise unit bytes text
-  by_run program ls (lines.Done v) spelled read ran e = by_print program ls v (is_first_unit (with_versions program v) (printings v)) spelled read ran refl e
   by_run program ls (lines.Stopped n operator why) spelled read ran e = absurd (accepted_is_not e)
 
-  by_read : (program : Program) (o : Option (List Line)) → SpellsFirst (tokens_of unit) program → schedule_of bytes ≡ o → Accepted text ≡ scheduled procs schedule program o → Promise unit bytes text
+  by_read : (program : Program) (o : Option (List Line)) → SpellsFirst (tokens_of unit) program → schedule_of bytes ≡ o → Accepted text ≡ scheduled schedule program o → Promise unit bytes text
   by_read program None spelled read e = absurd (accepted_is_not e)
   by_read program (Some ls) spelled read e = by_run program ls (run_lines ls (started program.procedures)) spelled read refl e
 

@@ -90,7 +90,7 @@ then_alike : (o : Option State) (f g : State → Option State) → ((t : State) 
 then_alike None f g same = refl
 then_alike (Some t) f g same = same t
 
-block_of_statements : (b : Block) → block (statements b) ≡ b
+pub block_of_statements : (b : Block) → block (statements b) ≡ b
 block_of_statements end = refl
 block_of_statements (next a b) = ap (next a) (block_of_statements b)
 
@@ -100,13 +100,13 @@ unmatched T = NoSuchPattern
 abbrev misshapen : (T : Type 0) → Stepped T
 misshapen T = WrongShape
 
-refused_is_not_made : {T : Type 0} (t : T) → unmatched T ≡ Made t → ⊥
+pub refused_is_not_made : {T : Type 0} (t : T) → unmatched T ≡ Made t → ⊥
 refused_is_not_made t e = cc
 
-misshapen_is_not_made : {T : Type 0} (t : T) → misshapen T ≡ Made t → ⊥
+pub misshapen_is_not_made : {T : Type 0} (t : T) → misshapen T ≡ Made t → ⊥
 misshapen_is_not_made t e = cc
 
-made_is : {T : Type 0} (t u : T) → Made t ≡ Made u → t ≡ u
+pub made_is : {T : Type 0} (t u : T) → Made t ≡ Made u → t ≡ u
 made_is t u e = cc
 
 module _ (world : World) (o : Operation) where
@@ -192,8 +192,19 @@ versions_refine world p q version = record {
     same : (s t u : State) → run_procedure world p s ≡ Some t → run_procedure world q s ≡ Some u → t ≡ u
     same s t u before later = same_result (run_procedure world p s) t u before (sym (runs_alike world p q version s) ∙ later)
 
+turned : (p q : Procedure) → IsVersionOf p q → IsVersionOf q p
+turned p q version = record {
+  name = sym version.name;
+  params = sym version.params;
+  asserts = sym version.asserts;
+  template = sym version.template;
+  runs = λ world s. sym (version.runs world s);
+}
+
 pub commuted_refines : CommutedRefines
-commuted_refines world p q x o made = versions_refine world p q (commuted_runs_alike p q x o made)
+commuted_refines p q x o made =
+    let version = commuted_runs_alike p q x o made in
+    record { forth = λ world. versions_refine world p q version; back = λ world. versions_refine world q p (turned p q version) }
 
 -- ---- lists that grow at their end
 
@@ -203,13 +214,13 @@ nothing_there e = cc
 pub some_is : {A : Type 0} {a b : A} → Some a ≡ Some b → a ≡ b
 some_is e = cc
 
-there_still : {A : Type 0} (xs ys : List A) (k : ℕ) (a : A) → slice_get xs k ≡ Some a → slice_get (xs ++ ys) k ≡ Some a
+pub there_still : {A : Type 0} (xs ys : List A) (k : ℕ) (a : A) → slice_get xs k ≡ Some a → slice_get (xs ++ ys) k ≡ Some a
 there_still [] ys zero a e = absurd (nothing_there e)
 there_still [] ys (suc k) a e = absurd (nothing_there e)
 there_still (x ∷ xs) ys zero a e = e
 there_still (x ∷ xs) ys (suc k) a e = there_still xs ys k a e
 
-last_is_there : {A : Type 0} (xs : List A) (a : A) → slice_get (xs ++ a ∷ []) (length xs) ≡ Some a
+pub last_is_there : {A : Type 0} (xs : List A) (a : A) → slice_get (xs ++ a ∷ []) (length xs) ≡ Some a
 last_is_there [] a = refl
 last_is_there (x ∷ xs) a = last_is_there xs a
 
@@ -220,7 +231,7 @@ index_is (x ∷ xs) zero a e = some_is e
 index_is (x ∷ xs) (suc k) a e = index_is xs k a e
 
 -- an entry of a list with one more at its end is one of before, or the new one
-entry_of : {A : Type 0} (xs : List A) (y : A) (k : ℕ) (a : A) → slice_get (xs ++ y ∷ []) k ≡ Some a → (slice_get xs k ≡ Some a) ⊎ ((k ≡ length xs) × (y ≡ a))
+pub entry_of : {A : Type 0} (xs : List A) (y : A) (k : ℕ) (a : A) → slice_get (xs ++ y ∷ []) k ≡ Some a → (slice_get xs k ≡ Some a) ⊎ ((k ≡ length xs) × (y ≡ a))
 entry_of [] y zero a e = inr (refl, some_is e)
 entry_of [] y (suc k) a e = absurd (nothing_there e)
 entry_of (x ∷ xs) y zero a e = inl e
@@ -267,10 +278,10 @@ added_versions text v k p q names are there version = record {
           kept = composed o.origin p r o.kept (subst (IsVersionOf p) same version);
         }
 
-went_is : (v u : Versions) → Went v ≡ Went u → v ≡ u
+pub went_is : (v u : Versions) → Went v ≡ Went u → v ≡ u
 went_is v u e = cc
 
-refused_does_not_go : (w : Why) (u : Versions) → Refused w ≡ Went u → ⊥
+pub refused_does_not_go : (w : Why) (u : Versions) → Refused w ≡ Went u → ⊥
 refused_does_not_go w u e = cc
 
 -- a step adds a version of the version that it changes
@@ -302,7 +313,7 @@ performed_keeps : (text : List Procedure) (a : Act) (v u : Versions) → AreVers
 performed_keeps text (act.Commute c) v u are e = changing_held_keeps text c v u (held v.names c.of) are e
 performed_keeps text (act.Emit name) v u are e = emitting_keeps text (held v.names name) v u are e
 
-stopped_is_not_done : (n : ℕ) (operator : List ℕ) (w : Why) (v : Versions) → Stopped n operator w ≡ Done v → ⊥
+pub stopped_is_not_done : (n : ℕ) (operator : List ℕ) (w : Why) (v : Versions) → Stopped n operator w ≡ Done v → ⊥
 stopped_is_not_done n operator w v e = cc
 
 lines_keep : (text : List Procedure) (lines : List Line) (v w : Versions) → AreVersions text v → run_lines lines v ≡ Done w → AreVersions text w

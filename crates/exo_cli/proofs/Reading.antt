@@ -1,5 +1,5 @@
 -- The lines of tokens, from the front.
-use Rattle.std.proofs.Common.{◌≡◌, ◌<◌, ℕ, zero, suc, ◌+◌, List, [], ◌∷◌, ◌++◌, take, drop, length, Option, Some, None, option_map, Bool, true, false, if◌then◌else◌, refl, ap, sym, ◌∙◌, arith, add-one, append_assoc, ◌≤◌, length-drop, drop-cons, get_or}
+use Rattle.std.proofs.Common.{◌≡◌, ◌<◌, ℕ, zero, suc, ◌+◌, List, [], ◌∷◌, ◌++◌, take, drop, length, Option, Some, None, option_map, Bool, true, false, if◌then◌else◌, refl, ap, sym, ◌∙◌, arith, append_assoc, ◌≤◌, length-drop}
 use Rattle.std.proofs.lemmas.List.{append-nil}
 use Rattle.exo_cli.proofs.Lists.{drop-all, drop-both}
 use Rattle.exo_lexer.specs.declared.place.Place.{Place}

@@ -1,12 +1,17 @@
 -- Where a schedule stops.
-use Rattle.std.proofs.Common.{◌≡◌, ◌<◌, ℕ, zero, suc, ◌+◌, List, [], ◌∷◌, drop, length, Some, slice_get, get_or, refl, ap, sym, ◌∙◌, arith, add-one, drop-cons, IfOk, Ok, Err}
+use Rattle.std.proofs.Common.{◌≡◌, ◌<◌, ℕ, suc, List, ◌∷◌, drop, length, Some, slice_get, get_or, refl, ap, sym, ◌∙◌, drop-cons, IfOk, Ok, Err}
 use Rattle.std.specs.Prelude.{Result}
 use Rattle.std.proofs.lemmas.Option.{slice_get_read, get_or_from_slice_get}
-use Rattle.exo_cli.specs.Lines.{Versions, Stopped, operator_of, performed, run_lines, after}
+use Rattle.exo_tree.specs.Tree.{Program}
+use Rattle.c_printer.specs.LoweredUnit.{Printing, lowered}
+use Rattle.c_printer.specs.CText.{text_of}
+use Rattle.exo_cli.specs.Answer.{Accepted}
+use Rattle.exo_cli.specs.Compiled.{started, printings, with_versions, ended}
+use Rattle.exo_cli.specs.Lines.{Versions, Done, Stopped, operator_of, performed, run_lines, after}
 use Rattle.exo_cli.specs.Sessions.{RefusesLine, StopsLine}
 use Rattle.exo_cli.specs.declared.lines.Line.{Line}
 use Rattle.exo_cli.specs.declared.session.Why.{Why}
-use Rattle.exo_cli.specs.declared.session.Why.TheVariants.{Memory, UnknownProc, NoSuchPattern, WrongShape}
+use Rattle.exo_cli.specs.declared.session.Why.TheVariants.{Memory}
 
 -- the place of an element
 pub slice_get-at : (lines : List Line) (k : ℕ) (line : Line) → k < length lines → line ≡ get_or lines k line → slice_get lines k ≡ Some line
@@ -34,3 +39,9 @@ stopped-line lines v w k line why cause same stops e =
 pub if-both : {T E : Type 0} (r : Result T E) (P Q S : T → Type 0) → ((x : T) → P x → Q x → S x) → IfOk r P → IfOk r Q → IfOk r S
 if-both (Ok x) P Q S step p q = step x p q
 if-both (Err e) P Q S step p q = tt
+
+-- the C of what is emitted is what the schedule's end asks
+pub printed-is : (schedule : List ℕ) (text : Program) (lines : List Line) (v : Versions) (made : Program) (what : List Printing) → run_lines lines (started text.procedures) ≡ Done v
+    → made ≡ with_versions text v → what ≡ printings v → Accepted (text_of (lowered made what)) ≡ ended schedule text (run_lines lines (started text.procedures))
+printed-is schedule text lines v made what ran is lists =
+    ap (λ (p : Program). Accepted (text_of (lowered p what))) is ∙ ap (λ l. Accepted (text_of (lowered (with_versions text v) l))) lists ∙ ap (ended schedule text) (sym ran)

@@ -1,5 +1,5 @@
 -- The numbers and names of procedures, one after the other.
-use Rattle.std.proofs.Common.{◌≡◌, ℕ, suc, ◌+◌, List, [], ◌∷◌, ◌++◌, length, refl, ap, sym, ◌∙◌, append_assoc, length-append, arith, ◌<◌, map, drop, get_or, drop-cons, add-one}
+use Rattle.std.proofs.Common.{◌≡◌, ℕ, suc, ◌+◌, List, [], ◌∷◌, ◌++◌, length, ap, sym, ◌∙◌, append_assoc, length-append, arith, ◌<◌, map, drop, get_or, drop-cons, add-one}
 use Rattle.exo_tree.specs.Plain.{procedure}
 use Rattle.exo_tree.specs.declared.procedure.Proc.{Proc}
 use Rattle.exo_tree.specs.Tree.{Procedure}

@@ -1,9 +1,8 @@
 -- The answer to the texts of a unit and of a schedule of the first form.
-use Rattle.std.specs.Prelude.{◌≡◌, ℕ, suc, ◌⊎◌, List, [], ◌∷◌, map, slice_get, slice_index, Option, Some, None, if◌then◌else◌, codes}
+use Rattle.std.specs.Prelude.{◌≡◌, ℕ, suc, ◌⊎◌, List, [], ◌∷◌, map, slice_get, slice_index, Option, Some, None, codes}
 use Rattle.exo_tree.specs.Tree.{Procedure, Program}
 use Rattle.exo_reader.specs.FirstText.{HasFirst, SpellsFirst, tokens_of}
 use Rattle.c_printer.specs.LoweredUnit.{Printing, name_of, lowered}
-use Rattle.c_printer.specs.FirstForm.{is_first_unit}
 use Rattle.c_printer.specs.CText.{text_of}
 use Rattle.exo_cli.specs.Answer.{Answer, Accepted, Rejected}
 use Rattle.exo_cli.specs.Messages.{file_refused, line_refused}
@@ -43,21 +42,22 @@ printing_of v k = record { proc = k; origin = name_of (slice_get v.procedures (s
 abbrev pub printings : Versions → List Printing
 printings v = map (printing_of v) v.emitted
 
--- the C of these procedures, where they are of the form that is built
-abbrev pub printed : List ℕ → Program → List Printing → Answer
-printed procs program what = if is_first_unit program what then Accepted (text_of (lowered program what)) else not_built procs
+-- the program of the text with the versions that the schedule made
+abbrev pub with_versions : Program → Versions → Program
+with_versions text v = record text { procedures = v.procedures }
 
-abbrev pub ended : List ℕ → List ℕ → Program → Outcome → Answer
-ended procs schedule program (Done v) = printed procs (record program { procedures = v.procedures }) (printings v)
-ended procs schedule program (Stopped number operator why) = Rejected (line_refused schedule number operator (why_text why))
+-- the C of what is emitted
+abbrev pub ended : List ℕ → Program → Outcome → Answer
+ended schedule program (Done v) = Accepted (text_of (lowered (with_versions program v) (printings v)))
+ended schedule program (Stopped number operator why) = Rejected (line_refused schedule number operator (why_text why))
 
-abbrev pub scheduled : List ℕ → List ℕ → Program → Option (List Line) → Answer
-scheduled procs schedule program None = not_built schedule
-scheduled procs schedule program (Some lines) = ended procs schedule program (run_lines lines (started program.procedures))
+abbrev pub scheduled : List ℕ → Program → Option (List Line) → Answer
+scheduled schedule program None = not_built schedule
+scheduled schedule program (Some lines) = ended schedule program (run_lines lines (started program.procedures))
 
 -- This is the answer to the bytes of the two files, whose names are given. A text has at most one program, so it has
 -- one answer.
 abbrev pub IsCompiled : List ℕ → List ℕ → List ℕ → List ℕ → Answer → Type 0
 IsCompiled procs unit schedule lines answer =
     (((program : Program) → HasFirst (tokens_of unit) program → ⊥) × (answer ≡ not_built procs))
-    ⊎ ((program : Program) × SpellsFirst (tokens_of unit) program × (answer ≡ scheduled procs schedule program (schedule_of lines)))
+    ⊎ ((program : Program) × SpellsFirst (tokens_of unit) program × (answer ≡ scheduled schedule program (schedule_of lines)))

@@ -18,7 +18,7 @@ use Rattle.exo_reader.specs.FirstText.{SpellsFirst, tokens_of}
 use Rattle.exo_cli.specs.Outside.{Folder, content_of, with_more}
 use Rattle.exo_cli.specs.Words.{Compile, command_of}
 use Rattle.exo_cli.specs.Answer.{Accepted}
-use Rattle.exo_cli.specs.Compiled.{IsCompiled, started, printings}
+use Rattle.exo_cli.specs.Compiled.{IsCompiled, started, printings, with_versions}
 use Rattle.exo_cli.specs.Lines.{Versions, Done as Ran, run_lines}
 use Rattle.exo_cli.specs.ScheduleForm.{schedule_of}
 use Rattle.exo_cli.specs.declared.lines.Line.{Line}
@@ -51,10 +51,6 @@ pub record IsPrinted (text program : Program) (what : List Printing) (at : ℕ) 
   pub origin_named : w.origin ≡ origin.name
   pub nothing_differs : w.fields ≡ []
   pub kept : DoesWhat program what at origin version
-
--- The program of the text with the versions that the schedule made.
-abbrev pub with_versions : Program → Versions → Program
-with_versions text v = record text { procedures = v.procedures }
 
 -- What stands behind the C that is printed for a unit and a schedule: the program that the unit spells, the versions that the
 -- schedule makes, and for each version that is printed the promise that its C does what a procedure of the text does.

@@ -11,7 +11,9 @@ pub mod Lines
 pub mod ScheduleForm
 pub mod Sessions
 pub mod Compiled
+pub mod Built
 pub mod Replies
 pub mod Work
 pub mod Kept
+pub mod Moves
 pub mod Headline

@@ -1,5 +1,5 @@
 -- Replies as plain answers.
-use Rattle.std.specs.Prelude.{ℕ, List, string_bytes}
+use Rattle.std.specs.Prelude.{string_bytes}
 use Rattle.exo_cli.specs.declared.reply.Reply.{Reply}
 use Rattle.exo_cli.specs.declared.reply.Reply.TheVariants.{Accepted, Rejected, Unread, Misused}
 use Rattle.exo_cli.specs.Answer as plainly

@@ -1,8 +1,8 @@
 -- The order of the program's work: its words, the files in order, and then what their texts give.
-use Rattle.std.specs.Prelude.{◌≡◌, ◌≢◌, ℕ, ◌⊎◌, ◌≤◌, List, [], ◌∷◌, Option, Some, None, length, if◌then◌else◌, nat_lt, codes, Contains, IfSome, IsNone, MatchBool, MatchOption}
+use Rattle.std.specs.Prelude.{◌≡◌, ◌≢◌, ℕ, ◌⊎◌, List, [], Option, Some, None, length, nat_lt, codes, Contains, IfSome, IsNone, MatchBool, MatchOption}
 use Rattle.std.specs.Option.{option_map_or}
 use Rattle.exo_cli.specs.declared.status.Status.{Status}
-use Rattle.exo_cli.specs.declared.status.Status.TheVariants.{Ok, Refused, Usage, ReadFault, WriteFault, Memory}
+use Rattle.exo_cli.specs.declared.status.Status.TheVariants.{Ok, Usage, ReadFault, WriteFault, Memory}
 use Rattle.exo_cli.specs.Outside.{Folder, content_of, IsLonger, Rose, with_more, StopsWithin}
 use Rattle.exo_cli.specs.Messages.{usage, cannot_read, file_refused}
 use Rattle.exo_cli.specs.Words.{Command, Compile, command_of, files_of}
@@ -27,6 +27,10 @@ AnswersTo (Compile procs schedule) files =
 -- this is the answer to the words over these files
 abbrev pub Answers : List (List ℕ) → Folder → Answer → Type 0
 Answers words files answer = MatchOption (command_of words) (answer ≡ Misused usage) (λ command. AnswersTo command files answer)
+
+-- the words and the files have one answer
+abbrev pub AnswersAreUnique : Type 0
+AnswersAreUnique = (words : List (List ℕ)) (files : Folder) (one other : Answer) → Answers words files one → Answers words files other → one ≡ other
 
 -- the names of the files that the words name
 abbrev pub operands : List (List ℕ) → List (List ℕ)

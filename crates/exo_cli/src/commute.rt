@@ -1,9 +1,11 @@
 // The step `commute_expr`: the sides of a sum or of a product change places.
-ghost use Rattle.std.specs.Prelude.{◌≡◌, ◌∷◌, ◌++◌, ◌+◌, ◌<◌, [], ℕ, length, take, drop, IfOk, MatchOption, option_map};
+ghost use Rattle.std.specs.Prelude.{◌≡◌, ◌∷◌, ◌++◌, ◌+◌, ◌<◌, [], ℕ, length, take, drop, IfOk, MatchOption, IfErr, option_map};
 ghost use Rattle.exo_tree.specs.Tree.{block};
 ghost use Rattle.exo_tree.specs.Plain.{datum, statement, procedure};
 ghost use Rattle.exo_cli.specs.Commute.{Made, WrongShape, assigns, changed_before, commute_expr, commuted, exchanged, has, parameter_of};
-ghost use Rattle.exo_cli.specs.Refusals.{Steps};
+ghost use Rattle.exo_cli.specs.Kept.{Keeps, MeansTheSame};
+ghost use Rattle.exo_cli.specs.Moves.{Forwards, commute_moves, IsCommuted};
+ghost use Rattle.exo_cli.specs.Refusals.{Refuses, Steps};
 ghost use Rattle.exo_cli.specs.declared.commute.StepRefusal.TheVariants.{Memory};
 
 use exo_tree::{Block, DataExpr, Id, Params, Proc, Stmt};
@@ -179,7 +181,11 @@ pub fn commute_expr(
     x: &[u8],
     which: Operation,
 ) -> Result<Proc, StepRefusal>
-    ensures { Steps (commute_expr (procedure p.now) x.now which) procedure result }
+    ensures refusal { IfErr result (Refuses (commute_expr (procedure p.now) x.now which)) }
+    ensures result { IfOk result (λ made. commute_expr (procedure p.now) x.now which ≡ Made (procedure made)) }
+    ensures kept { IfOk result (λ made. Keeps (procedure p.now) (procedure made)) }
+    ensures meaning { IfOk result (λ made. MeansTheSame (procedure p.now) (procedure made)) }
+    ensures moves { IfOk result (λ made. Forwards commute_moves (IsCommuted which) (procedure p.now) (procedure made)) }
 {
     let Some(id) = parameter_of(&p.params, x) else {
         return Err(StepRefusal::NoSuchPattern);

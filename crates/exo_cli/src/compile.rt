@@ -1,9 +1,13 @@
 // From the texts of a unit and of a schedule to the text of C.
-ghost use Rattle.std.specs.Prelude.{◌≡◌, ◌≤◌, ◌≢◌, length, map, IfOk};
+ghost use Rattle.std.specs.Prelude.{◌≡◌, ◌≤◌, ◌≢◌, true, length, map, IfOk};
 ghost use Rattle.exo_tree.specs.Plain.{program};
 ghost use Rattle.c_printer.specs.PlainPrinted.{printing};
-ghost use Rattle.exo_cli.specs.Answer.{Rejected, IsVerdict};
-ghost use Rattle.exo_cli.specs.Compiled.{IsCompiled, ended, not_built, printed, scheduled, started, why_text};
+ghost use Rattle.c_printer.specs.CText.{text_of};
+ghost use Rattle.c_printer.specs.FirstForm.{is_first_unit};
+ghost use Rattle.c_printer.specs.LoweredUnit.{lowered};
+ghost use Rattle.exo_cli.specs.Answer.{Accepted, Rejected, IsVerdict};
+ghost use Rattle.exo_cli.specs.Built.{IsRead, AreRead};
+ghost use Rattle.exo_cli.specs.Compiled.{IsCompiled, ended, not_built, scheduled, started, why_text};
 ghost use Rattle.exo_cli.specs.Lines.{operator_of, run_lines};
 ghost use Rattle.exo_cli.specs.Messages.{line_refused};
 ghost use Rattle.exo_cli.specs.Replies.{plain};
@@ -14,7 +18,7 @@ use crate::messages;
 use crate::reply::Reply;
 use crate::schedule::read_schedule;
 use crate::session::{Session, Why};
-use c_printer::{Printed, c_text, is_first_unit, lower};
+use c_printer::{Printed, c_text, lower};
 use exo_reader::first::FirstError;
 use exo_reader::first_text::read_first;
 use exo_tree::{Lines, Procs, Unit};
@@ -34,7 +38,7 @@ pub(crate) fn compile(
     ensures verdict { IfOk result (λ reply. IsVerdict (plain reply)) }
 {
     match read_first(alloc, unit) {
-        Ok(unit) => schedule_unit(alloc, procs, unit, schedule, lines),
+        Ok(unit) => schedule_unit(alloc, &unit, schedule, lines),
         Err(FirstError::NotBuilt) => not_built(alloc, procs),
         Err(FirstError::Memory) => Err(AllocError),
     }
@@ -52,17 +56,17 @@ fn not_built(alloc: Global, name: &str) -> Result<Reply, AllocError>
 /// Runs the schedule on the unit, and prints what it says.
 fn schedule_unit(
     alloc: Global,
-    procs: &str,
-    unit: Unit,
+    unit: &Unit,
     schedule: &str,
     lines: &[u8],
 ) -> Result<Reply, AllocError>
-    requires { length lines.now ≤ 1048576 }
-    ensures answer { IfOk result (λ reply. plain reply ≡ scheduled procs.now schedule.now (program unit) (schedule_of lines.now)) }
+    requires unit { IsRead (program unit.now) }
+    requires lines { length lines.now ≤ 1048576 }
+    ensures answer { IfOk result (λ reply. plain reply ≡ scheduled schedule.now (program unit.now) (schedule_of lines.now)) }
     ensures verdict { IfOk result (λ reply. IsVerdict (plain reply)) }
 {
     match read_schedule(alloc, lines)? {
-        Some(lines) => run_lines(alloc, procs, &unit, schedule, &lines),
+        Some(lines) => run_lines(alloc, unit, schedule, &lines),
         None => not_built(alloc, schedule),
     }
 }
@@ -70,12 +74,13 @@ fn schedule_unit(
 /// Runs the lines on the unit, and prints what they say.
 fn run_lines(
     alloc: Global,
-    procs: &str,
     unit: &Unit,
     schedule: &str,
     lines: &[Line],
 ) -> Result<Reply, AllocError>
-    ensures answer { IfOk result (λ reply. plain reply ≡ ended procs.now schedule.now (program unit.now) (run_lines lines.now (started unit.now.procs))) }
+    requires unit { IsRead (program unit.now) }
+    requires lines { AreRead lines.now }
+    ensures answer { IfOk result (λ reply. plain reply ≡ ended schedule.now (program unit.now) (run_lines lines.now (started unit.now.procs))) }
     ensures verdict { IfOk result (λ reply. IsVerdict (plain reply)) }
 {
     let first = unit.procs.duplicate(alloc)?;
@@ -85,7 +90,7 @@ fn run_lines(
     }
     let what = session.printed(alloc)?;
     let made = with_procs(alloc, unit, session.into_procs())?;
-    print(alloc, procs, &made, &what)
+    print(alloc, &made, &what)
 }
 
 /// A unit with these procedures in place of its own.
@@ -143,14 +148,12 @@ fn refuse_line(alloc: Global, schedule: &str, line: &Line, why: Why) -> Result<R
     Ok(Reply::Rejected(message))
 }
 
-/// The C of the listed procedures, where they are of the form that is built.
-fn print(alloc: Global, procs: &str, unit: &Unit, what: &[Printed]) -> Result<Reply, AllocError>
-    ensures answer { IfOk result (λ reply. plain reply ≡ printed procs.now (program unit.now) (map printing what.now)) }
+/// The C of the listed procedures.
+fn print(alloc: Global, unit: &Unit, what: &[Printed]) -> Result<Reply, AllocError>
+    requires { is_first_unit (program unit.now) (map printing what.now) ≡ true }
+    ensures answer { IfOk result (λ reply. plain reply ≡ Accepted (text_of (lowered (program unit.now) (map printing what.now)))) }
     ensures verdict { IfOk result (λ reply. IsVerdict (plain reply)) }
 {
-    if !is_first_unit(unit, what) {
-        return not_built(alloc, procs);
-    }
     match lower(alloc, unit, what) {
         Ok(c) => {
             let text = c_text(alloc, &c)?;

@@ -11,13 +11,13 @@ use Rattle.exo_context.proofs.Scoped.{not_true, or_elim, both_false}
 
 -- a binder of a block whose names are in scope is not bound before it
 mutual
-  binder_new : (bound : ℕ → Bool) (b : Block) (x : ℕ) → is_scoped bound b ≡ true → has_binder b x ≡ true → bound x ≡ false
+  pub binder_new : (bound : ℕ → Bool) (b : Block) (x : ℕ) → is_scoped bound b ≡ true → has_binder b x ≡ true → bound x ≡ false
   binder_new bound end x h k = absurd (true≢false (sym k))
   binder_new bound (next a b) x h k =
       let p = and_parts (step_is_scoped bound a) (is_scoped (λ y. binds a y || bound y) b) h in
       or_elim (step_has_binder a x) (has_binder b x) k (step_binder_new bound a x p.0) (λ j. (or_parts (binds a x) (bound x) (binder_new (λ y. binds a y || bound y) b x p.1 j)).1)
 
-  step_binder_new : (bound : ℕ → Bool) (a : Statement) (x : ℕ) → step_is_scoped bound a ≡ true → step_has_binder a x ≡ true → bound x ≡ false
+  pub step_binder_new : (bound : ℕ → Bool) (a : Statement) (x : ℕ) → step_is_scoped bound a ≡ true → step_has_binder a x ≡ true → bound x ≡ false
   step_binder_new bound (Assign y is e) x h k = absurd (true≢false (sym k))
   step_binder_new bound (Reduce y is e) x h k = absurd (true≢false (sym k))
   step_binder_new bound (Config f a) x h k = absurd (true≢false (sym k))

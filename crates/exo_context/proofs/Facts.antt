@@ -53,7 +53,7 @@ steady_law world old c s u t plain steady come = sym (condition_same s.scene u.s
 abbrev pub Between : ℤ → ℤ → ℤ → Type 0
 Between lo hi n = (lo ≤ℤ n) × (n <ℤ hi)
 
-come_to_turn_each : (P : ℤ → Type 0) (go : ℤ → State → Option State) (ns : List ℤ) (s : State) (n : ℤ) (u : State) → ComesToTurn go ns s n u → Each P ns → P n
+pub come_to_turn_each : (P : ℤ → Type 0) (go : ℤ → State → Option State) (ns : List ℤ) (s : State) (n : ℤ) (u : State) → ComesToTurn go ns s n u → Each P ns → P n
 come_to_turn_each P go [] s n u z = elim z [ ]
 come_to_turn_each P go (m ∷ ns) s n u now = λ h. h.0
 come_to_turn_each P go (m ∷ ns) s n u (later {t} e z) = λ h. come_to_turn_each P go ns t n u z h.1
@@ -75,7 +75,7 @@ turns_between lo hi = go (hi -ℤ lo) refl
 pub le_holds : (a b : ℤ) → a ≤ℤ b → int_le a b ≡ true
 le_holds a b h = grind (arith, ints)
 
-lt_holds : (a b : ℤ) → a <ℤ b → int_lt a b ≡ true
+pub lt_holds : (a b : ℤ) → a <ℤ b → int_lt a b ≡ true
 lt_holds a b h = grind (arith, ints)
 
 module _ (i : ℕ) (n : ℤ) (s v : State) (names : (x : ℕ) → s.scene.control x ≡ v.scene.control x) where

@@ -32,7 +32,7 @@ module _ (f : ℕ) where
           let p = or_parts (step_writes_field calls f a) (writes_field calls f b) k in
           if_then (HasField f s) (HasField f s) (step world a s) (run world b) (step_leaves a p.0 s) (λ t j. if_weaken (HasField f t) (HasField f s) (run world b t) (run_leaves b p.1 t) (λ u i. i ∙ j))
 
-      step_leaves : (a : Statement) → step_writes_field calls f a ≡ false → (s : State) → IfSome (step world a s) (HasField f s)
+      pub step_leaves : (a : Statement) → step_writes_field calls f a ≡ false → (s : State) → IfSome (step world a s) (HasField f s)
       step_leaves (Assign x is e) k s = store_leaves s (place s.scene x is) (value s e) (λ v old. v)
       step_leaves (Reduce x is e) k s = store_leaves s (place s.scene x is) (value s e) (λ v old. on_two ◌+ℤ◌ old v)
       step_leaves (Config g a) k s = if_then (λ n. Unit {0}) (HasField f s) (argument_number s.scene a) _ (any (argument_number s.scene a)) (λ n u. if_where (HasField f s) (suits (world.kinds g) n) (Some (on_scene (with_field g n) s)) (updated_other s.scene.fields g n f k))

@@ -11,7 +11,7 @@ use Rattle.exo_context.proofs.Names.{come_names}
 use Rattle.exo_context.proofs.Substitute.{and_parts}
 use Rattle.exo_context.proofs.Facts.{facts_law, steady_law, with_true, or_left, or_right, le_holds}
 
-each_join : {T : Type 0} (P : T → Type 0) (xs ys : List T) → Each P xs → Each P ys → Each P (xs ++ ys)
+pub each_join : {T : Type 0} (P : T → Type 0) (xs ys : List T) → Each P xs → Each P ys → Each P (xs ++ ys)
 each_join P [] ys h k = k
 each_join P (x ∷ xs) ys h k = (h.0, each_join P xs ys h.1 k)
 
@@ -24,7 +24,7 @@ module _ (s u : Scene) where
   param_true x (TensorParam cell dims memory) e h = tt
   param_true x (WindowParam cell dims memory) e h = tt
 
-  params_true : (ps : List Param) → ((x : ℕ) → is_buffer_of x ps ≡ true → s.control x ≡ u.control x) → AreArguments s ps → Each (IsTrueAt u) (params_facts ps)
+  pub params_true : (ps : List Param) → ((x : ℕ) → is_buffer_of x ps ≡ true → s.control x ≡ u.control x) → AreArguments s ps → Each (IsTrueAt u) (params_facts ps)
   params_true [] e h = tt
   params_true (p ∷ ps) e h = each_join (IsTrueAt u) (param_facts p.binder.id p.kind) (params_facts ps) (param_true p.binder.id p.kind (e p.binder.id (or_left (p.binder.id == p.binder.id) (is_buffer_of p.binder.id ps) (eq-eqb p.binder.id p.binder.id refl))) h.0) (params_true ps (λ x k. e x (or_right (x == p.binder.id) (is_buffer_of x ps) k)) h.1)
 
@@ -32,7 +32,7 @@ module _ (s u : Scene) where
   asserts_true [] e h = tt
   asserts_true (c ∷ cs) e h = let p = and_parts (holds s c) (all_hold s cs) h in with_true u (is_plain_condition c) (Holds c) (all_hold_facts cs) (λ q. e.0 q ∙ p.0) (asserts_true cs e.1 p.1)
 
-each_map : {T : Type 0} (P Q : T → Type 0) → ((x : T) → P x → Q x) → (xs : List T) → Each P xs → Each Q xs
+pub each_map : {T : Type 0} (P Q : T → Type 0) → ((x : T) → P x → Q x) → (xs : List T) → Each P xs → Each Q xs
 each_map P Q k [] h = tt
 each_map P Q k (x ∷ xs) h = (k x h.0, each_map P Q k xs h.1)
 

@@ -34,3 +34,10 @@ pub mod Flags
 pub mod WellFormed
 pub mod Instances
 pub mod UnitInstances
+pub mod PathOrder
+pub mod SameNumbers
+pub mod Apart
+pub mod KnownFields
+pub mod PlaceFacts
+pub mod FieldInstances
+pub mod RunInstances

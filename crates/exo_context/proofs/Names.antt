@@ -87,3 +87,27 @@ module _ (world : World) (old : Block) where
       name_on x s z.1 u (come_to_turn_names i.id (run world (fill c old)) (turns_of s.scene lo hi) s z.0 z.1 z.2 x) (name_on x z.1 v u inside (come_names c v u z.3 x p.1))
   come_names (InThen test c other rest) s u z x k = come_names c s u z.1 x k
   come_names (InElse test other c rest) s u z x k = come_names c s u z.1 x k
+
+-- ---- control values
+
+-- a statement leaves all control values as they are: a loop's variable is gone after the loop
+abbrev pub SameControl : State → State → Type 0
+SameControl s t = (x : ℕ) → t.scene.control x ≡ s.scene.control x
+
+store_control : (s : State) (o : Option Place) (r : Option Value) (f : Value → Value → Value) → IfSome (then_do o (λ p. then_do r (λ v. put s (f v) p))) (SameControl s)
+store_control s o r f = if_then (λ p. Unit {0}) (SameControl s) o _ (any o) (λ p u. if_then (λ v. Unit {0}) (SameControl s) r _ (any r) (λ v w. if_map (λ t. Unit {0}) (SameControl s) (s.scene.buffers p.buffer) _ (any (s.scene.buffers p.buffer)) (λ t u x. refl)))
+
+call_control : (o : Option Callee) (args : List Argument) (s : State) → IfSome (call_to o args s) (SameControl s)
+call_control None args s = tt
+call_control (Some c) args s = if_then (λ gs. Unit {0}) (SameControl s) (all_given s.scene args) _ (any (all_given s.scene args)) (λ gs u. if_then (λ t. Unit {0}) (SameControl s) (entered c.procedure.params gs s) _ (any (entered c.procedure.params gs s)) (λ t v. if_map (λ w. Unit {0}) (SameControl s) (run_asserted c t) (returned c gs s) (any (run_asserted c t)) (λ w z x. refl)))
+
+pub step_control : (world : World) (a : Statement) (s : State) → IfSome (step world a s) (SameControl s)
+step_control world (Assign x is e) s = store_control s (place s.scene x is) (value s e) (λ v old. v)
+step_control world (Reduce x is e) s = store_control s (place s.scene x is) (value s e) (λ v old. on_two ◌+ℤ◌ old v)
+step_control world (Config f a) s = if_then (λ n. Unit {0}) (SameControl s) (argument_number s.scene a) _ (any (argument_number s.scene a)) (λ n u. if_where (SameControl s) (suits (world.kinds f) n) (Some (on_scene (with_field f n) s)) (λ x. refl))
+step_control world Pass s = λ x. refl
+step_control world (If c a b) s = if_map (λ t. Unit {0}) (SameControl s) (choose (holds s.scene c) (run world a) (run world b) s) (left s) (any (choose (holds s.scene c) (run world a) (run world b) s)) (λ t u x. refl)
+step_control world (For i lo hi b) s = if_weaken (λ t. (x : ℕ) → IsSameName x s t) (SameControl s) (turns (turn i.id (run world b)) (turns_of s.scene lo hi) s) (turns_names i.id (run world b) (turns_of s.scene lo hi) s) (λ t h x. sym (h x).control)
+step_control world (Alloc x cell dims memory) s = if_where (SameControl s) (all_positive (numbers s.scene dims)) (Some (with_contents x.id (λ at. Undefined) (on_scene (with_buffer x.id (tensor cell (numbers s.scene dims))) s))) (λ y. refl)
+step_control world (View w x coords) s = if_then (λ n. Unit {0}) (SameControl s) (window s.scene x coords) _ (any (window s.scene x coords)) (λ seen u y. refl)
+step_control world (Call k args) s = call_control (world.callees k) args s

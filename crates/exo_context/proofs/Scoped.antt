@@ -66,7 +66,7 @@ new_name bound x y h k = go (x == y) refl
     go true e = absurd (true≢false (sym k ∙ ap bound (eqb-true x y e) ∙ not_true (bound y) h))
     go false e = e
 
-binders_new : (bound : ℕ → Bool) (a : Statement) (x : ℕ) → step_is_scoped bound a ≡ true → bound x ≡ true → binds a x ≡ false
+pub binders_new : (bound : ℕ → Bool) (a : Statement) (x : ℕ) → step_is_scoped bound a ≡ true → bound x ≡ true → binds a x ≡ false
 binders_new bound (Assign y is e) x h k = refl
 binders_new bound (Reduce y is e) x h k = refl
 binders_new bound (Config f a) x h k = refl

@@ -131,7 +131,7 @@ run_sound world (next a b) s h = if_then IsSound IsSound (step world a s) (run w
 
 -- ---- on the way
 
-come_to_turn_sound : (i : ℕ) (body : State → Option State) (ns : List ℤ) (s : State) (n : ℤ) (u : State) → ComesToTurn (turn i body) ns s n u → IsSound s → IsSound u
+pub come_to_turn_sound : (i : ℕ) (body : State → Option State) (ns : List ℤ) (s : State) (n : ℤ) (u : State) → ComesToTurn (turn i body) ns s n u → IsSound s → IsSound u
 come_to_turn_sound i body [] s n u z = elim z [ ]
 come_to_turn_sound i body (m ∷ ns) s n u now = λ h. h
 come_to_turn_sound i body (m ∷ ns) s n u (later {t} e z) = λ h. come_to_turn_sound i body ns t n u z (if_gives IsSound (turn i body m s) t (turn_sound i body m s h) e)

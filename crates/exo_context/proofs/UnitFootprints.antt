@@ -3,25 +3,25 @@ use Rattle.std.proofs.Common.{◌≡◌, ℕ, zero, suc, ℤ, ◌==◌, Bool, tr
 use Rattle.std.specs.Prelude.{slice_get}
 use Rattle.std.proofs.Math.Path.{fun_ext}
 use Rattle.exo_tree.specs.Tree.{Kind, Index, Argument, Statement, Assign, Reduce, Config, Pass, If, For, Alloc, View, Call, Block, end, next, Param, ParamKind, ControlParam, TensorParam, WindowParam, Procedure, ConfigField}
-use Rattle.exo_meaning.specs.Scene.{Seen, then_do, numbers, whole}
+use Rattle.exo_meaning.specs.Scene.{Scene, Seen, then_do, numbers, whole}
 use Rattle.exo_meaning.specs.State.{State, Cells, left, on_scene, with_control}
 use Rattle.exo_meaning.specs.Calls.{Callee}
 use Rattle.exo_meaning.specs.Run.{World, run, turn, is_root, call_writes, call_to_writes, writes, step_writes, roots_after, world_of, callee_in, callees, kinds_of, unit_world}
 use Rattle.exo_meaning.specs.Inputs.{IsAdmissible, IsArgument, is_buffer_of}
 use Rattle.exo_meaning.specs.Laws.{HasRoots}
-use Rattle.exo_meaning.specs.Footprint.{Change, Passes, LeavesOthers, Exchanges, ChangesBy}
+use Rattle.exo_meaning.specs.Footprint.{Entry, IsTidy, Change, Passes, LeavesOthers, Exchanges, ChangesBy}
 use Rattle.exo_meaning.specs.Orders.{Each, HasScene}
 use Rattle.exo_meaning.specs.Nests.{both_turns}
 use Rattle.exo_meaning.specs.Units.{ControlName, Scope, with_name, is_block, are_params, scope_of, field_kind, IsProcedure, AreProcedures}
 use Rattle.exo_meaning.proofs.Frame.{if_map, if_weaken, here}
-use Rattle.exo_meaning.proofs.Nested.{kept_twice}
-use Rattle.exo_meaning.proofs.Changes.{scoped_changes}
+use Rattle.exo_meaning.proofs.Nested.{left_same, kept_twice}
+use Rattle.exo_meaning.proofs.Changes.{ScopedChanges, left_changes, scoped_changes}
 use Rattle.exo_meaning.proofs.Deltas.{scoped_exchanges}
 use Rattle.exo_meaning.proofs.Together.{either_order}
 use Rattle.exo_context.specs.Sound.{IsSound}
 use Rattle.exo_context.specs.Sorted.{IsSorted}
 use Rattle.exo_context.specs.Pairs.{LeavesFields}
-use Rattle.exo_context.specs.Touched.{IsCovered, Mode, Writing, Reducing, Modes, call_has, has_mode, step_has_mode, touched, modes_at, modes_in, all_modes, unit_modes, turn_touched, pair_touched, ModesCover, RunsGoByFootprint, RunsExchange, TurnsWithCallsCommute, PairsWithCallsCommute}
+use Rattle.exo_context.specs.Touched.{IsCovered, Mode, Writing, Reducing, Modes, call_has, has_mode, step_has_mode, touched, modes_at, modes_in, all_modes, unit_modes, turn_touched, pair_touched, ModesCover, RunsGoByFootprint, RunsExchange, BlocksCommute, TurnsWithCallsCommute, PairsWithCallsCommute}
 use Rattle.exo_context.proofs.Parts.{none_some, some_injective}
 use Rattle.exo_context.proofs.Substitute.{and_parts}
 use Rattle.exo_context.proofs.Copies.{admissible_sound}
@@ -204,6 +204,23 @@ runs_go_by_footprint fields memories ps scope root b s may = block_changes field
 
 pub runs_exchange : RunsExchange
 runs_exchange fields memories ps scope root b s may d = block_exchanges fields memories ps may.unit d b scope root may.block s may.sound may.sorted
+
+-- what leaves all names and fields alone is as if in a scope of its own
+settles : (es : List Entry) (s : State) → IsTidy s → (o : Option State) → IfSome o (HasScene s.scene) → IfSome o (ChangesBy es s) → IfSome o (ScopedChanges es s)
+settles es s tidy None e c = tt
+settles es s tidy (Some t) e c = subst (ScopedChanges es s) (left_same s t (e ∙ ap (λ (z : Scene). record s.scene { fields = z.fields }) (sym e)) c.tidy) (left_changes es s s t tidy refl refl c)
+
+pub blocks_commute : BlocksCommute
+blocks_commute fields memories ps scope root a b s may_a may_b same_a same_b clear =
+    let world = unit_world (kinds_of fields) ps in
+    let modes = unit_modes (kinds_of fields) ps in
+    either_order (run world a) (run world b) (touched world modes a s) (touched world modes b s) s clear.0 clear.1
+    (λ d l p. runs_exchange fields memories ps scope root a s may_a d l p)
+    (λ d l p. runs_exchange fields memories ps scope root b s may_b d l p)
+    (run world a s) (run world b s) refl refl
+    (settles (touched world modes a s) s may_a.sound.tidy (run world a s) same_a (runs_go_by_footprint fields memories ps scope root a s may_a))
+    (settles (touched world modes b s) s may_b.sound.tidy (run world b s) same_b (runs_go_by_footprint fields memories ps scope root b s may_b))
+    same_a same_b
 
 pub turns_with_calls_commute : TurnsWithCallsCommute
 turns_with_calls_commute fields memories ps scope root i j a b m n s unit sound sorted may_a may_b same_a same_b h k =

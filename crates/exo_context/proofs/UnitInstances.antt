@@ -77,7 +77,7 @@ by_live = live_law (λ f. Index) [] (unit_live []) hole old new three exchanged 
 fresh_copy : (r : Renaming) × IsFresh three.body 5 r × Moves r (IsFree three (Here end))
 fresh_copy = fresh_copy_law three (Here end) three.body 5 ((refl, refl), (refl, refl), tt)
 
-input_is_sound : IsSound input
+pub input_is_sound : IsSound input
 input_is_sound = sound_law world three three.body (Here end) input input is_admissible refl
 
 moved : Moves fresh_copy.0 (IsUnbound input)
@@ -101,22 +101,22 @@ copied_body = copied_block_law fresh_copy.0 world three.body input input_is_soun
 
 -- ---- a well-formed unit: x, a tensor of 16 cells, and `fill_named` above
 
-abbrev letter : ℕ → ℕ → Binder
+abbrev pub letter : ℕ → ℕ → Binder
 letter n c = record { id = n; name = c ∷ [] }
 
-abbrev three_named : Procedure
+abbrev pub three_named : Procedure
 three_named = record { name = 116 ∷ []; template = None; params = record { binder = letter 0 120; kind = TensorParam I8 (Lit (pos 16) ∷ []) 0 } ∷ []; asserts = []; body = next (For (letter 1 105) (Lit (pos 0)) (Lit (pos 16)) store_three) end }
 
-abbrev above : List Procedure
+abbrev pub above : List Procedure
 above = fill_named ∷ []
 
-abbrev named_unit : World
+abbrev pub named_unit : World
 named_unit = unit_world (kinds_of []) above
 
 abbrev named_hole : Context
 named_hole = InLoop (letter 1 105) (Lit (pos 0)) (Lit (pos 16)) (Here end) end
 
-are_procedures : AreProcedures [] 1 [] above
+pub are_procedures : AreProcedures [] 1 [] above
 are_procedures = (may_run.procedure, tt)
 
 may : MayRun [] 1 above three_named
@@ -131,7 +131,7 @@ it_fits = fit_law [] 1 above three_named may input good
 abbrev scope : Scope
 scope = scope_of [] three_named.params
 
-input_is_sorted : IsSorted (kinds_of []) scope input
+pub input_is_sorted : IsSorted (kinds_of []) scope input
 input_is_sorted = fits_at_law [] 1 above three_named (Here end) three_named.body may refl input input good refl
 
 its_modes : Each (IsCovered scope (modes_in named_unit (unit_modes (kinds_of []) above) three_named)) (touched named_unit (unit_modes (kinds_of []) above) three_named.body input)

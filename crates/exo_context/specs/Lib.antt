@@ -19,3 +19,5 @@ pub mod TurnOrders
 pub mod UnitFields
 pub mod Flags
 pub mod WellFormed
+pub mod KnownFields
+pub mod PlaceFacts

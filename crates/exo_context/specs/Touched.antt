@@ -154,6 +154,10 @@ RunsGoByFootprint = (fields : List ConfigField) (memories : ℕ) (ps : List Proc
 abbrev pub RunsExchange : Type 0
 RunsExchange = (fields : List ConfigField) (memories : ℕ) (ps : List Procedure) (scope : Scope) (root : ℕ → ℕ) (b : Block) (s : State) → MayTouch fields memories ps scope root b s → let world = unit_world (kinds_of fields) ps in (d : Change) → LeavesOthers d s.scene → Each (Passes d) (touched world (unit_modes (kinds_of fields) ps) b s) → Exchanges d (run world b) s
 
+-- two blocks that leave all names and fields alone may be run in either order where no entry of the one clashes with one of the other, calls included
+abbrev pub BlocksCommute : Type 0
+BlocksCommute = (fields : List ConfigField) (memories : ℕ) (ps : List Procedure) (scope : Scope) (root : ℕ → ℕ) (a b : Block) (s : State) → MayTouch fields memories ps scope root a s → MayTouch fields memories ps scope root b s → let world = unit_world (kinds_of fields) ps in let modes = unit_modes (kinds_of fields) ps in IfSome (run world a s) (HasScene s.scene) → IfSome (run world b s) (HasScene s.scene) → AreClear s.scene (touched world modes a s) (touched world modes b s) → then_do (run world a s) (run world b) ≡ then_do (run world b s) (run world a)
+
 -- ---- turns
 
 abbrev pub turn_touched : World → (ℕ → Modes) → Binder → Block → ℤ → State → List Entry

@@ -32,6 +32,7 @@ ghost use Rattle.exo_context.specs.Sorted.{FitsAtLaw};
 ghost use Rattle.exo_context.specs.Touched.{ModesCover};
 ghost use Rattle.exo_context.specs.Touched.{RunsGoByFootprint};
 ghost use Rattle.exo_context.specs.Touched.{RunsExchange};
+ghost use Rattle.exo_context.specs.Touched.{BlocksCommute};
 ghost use Rattle.exo_context.specs.Touched.{TurnsWithCallsCommute};
 ghost use Rattle.exo_context.specs.Touched.{PairsWithCallsCommute};
 ghost use Rattle.exo_context.specs.NestsWithin.{NestsWithinBounds};
@@ -44,6 +45,8 @@ ghost use Rattle.exo_context.specs.WellFormed.{WellScoped};
 ghost use Rattle.exo_context.specs.WellFormed.{PlainBoundsLaw};
 ghost use Rattle.exo_context.specs.WellFormed.{WellKnown};
 ghost use Rattle.exo_context.specs.WellFormed.{CallsAreBelow};
+ghost use Rattle.exo_context.specs.PlaceFacts.{PlaceFactsLaw};
+ghost use Rattle.exo_context.specs.PlaceFacts.{PlainTelling};
 
 /// A procedure in which a block is replaced is refined by it, where the new block may replace the old one at each state that comes to it.
 pub fn replaced_refines()
@@ -205,6 +208,11 @@ pub fn runs_exchange()
     ensures { RunsExchange }
 {}
 
+/// Two blocks that leave all names and fields alone commute where their footprints do not clash, calls included.
+pub fn blocks_commute()
+    ensures { BlocksCommute }
+{}
+
 /// Two turns commute whose footprints do not clash, calls included.
 pub fn turns_with_calls_commute()
     ensures { TurnsWithCallsCommute }
@@ -263,4 +271,15 @@ pub fn well_formed_facts_stay()
 /// A well-formed procedure calls procedures of its table alone.
 pub fn well_formed_calls_are_below()
     ensures { CallsAreBelow }
+{}
+
+/// In a well-formed unit each state that a run comes to has numbers for what is known of configuration fields there, and with them
+/// the bounds, conditions and assertions round the place are true, also those that read fields and strides.
+pub fn place_facts_hold()
+    ensures { PlaceFactsLaw }
+{}
+
+/// The right side of a configuration write may be written down as it is.
+pub fn plain_writes_are_told()
+    ensures { PlainTelling }
 {}

@@ -1,8 +1,9 @@
 -- Laws of calls and windows at the small call of `Example`, and at small procedures.
-use Rattle.std.proofs.Common.{◌≡◌, ℕ, ℤ, pos, ◌==◌, Bool, true, false, true≢false, cond, ◌||◌, List, [], ◌∷◌, Option, Some, None, IfSome, refl, sym, subst, ap, ◌∙◌, eqb-true, eq-eqb, arith}
+use Rattle.std.proofs.Common.{◌≡◌, ℕ, ℤ, pos, ◌==◌, Bool, true, false, true≢false, cond, ◌||◌, List, [], ◌∷◌, Option, Some, None, IfSome, option_map, refl, sym, subst, ap, ◌∙◌, eqb-true, eq-eqb, arith}
+use Rattle.std.specs.Int.{int_wrap}
 use Rattle.std.proofs.lemmas.Int.{ints}
 use Rattle.exo_tree.specs.Tree.{I8, Index, Lit, Const, Plus, Span, Argument, Window, ControlArg, Config, TensorParam, WindowParam, Param, Procedure, Datum, Assign, For, View, Call, Block, end, next}
-use Rattle.exo_meaning.specs.Value.{Undefined}
+use Rattle.exo_meaning.specs.Value.{Value, Undefined, Number}
 use Rattle.exo_meaning.specs.Scene.{Seen, Scene, Shape, Range, whole}
 use Rattle.exo_meaning.specs.Calls.{GivenView, held_at}
 use Rattle.exo_inplace.specs.InPlace.{AreApart, IsPlacing, StandsFor, SeenStands, BufferStands, IsWithin, cell_through}
@@ -53,6 +54,14 @@ same_sums : run empty (looped (Plus (Const (pos 1)) (Const (pos 2)))) s ≡ run 
 same_sums = along_law empty (looped (Plus (Const (pos 1)) (Const (pos 2)))) (looped (Plus (Const (pos 2)) (Const (pos 1)))) s
     (both_next (in_turns refl refl (λ n u come. both_next (at_once refl) (λ t e. both_end))) (λ t e. both_end))
 
+-- what a buffer holds at an index after a run
+abbrev cell_of : ℕ → ℤ → Option State → Option Value
+cell_of b i o = option_map (λ (t : State). t.cells b (i ∷ [])) o
+
+first_is_three : cell_of 10 (pos 0) (run empty (looped (Plus (Const (pos 2)) (Const (pos 1)))) s) ≡ Some (Number (pos 3))
+unfolding int_wrap
+first_is_three = refl
+
 -- ---- windows
 
 -- w = x[1:3]
@@ -64,6 +73,14 @@ w_window = Window 10 (Span (Lit (pos 1)) (Lit (pos 3)) ∷ [])
 
 by_window : IfSome (run empty (stored 1 (Const (pos 5))) with_w) (λ a. run empty (in_block 1 w_window (stored 1 (Const (pos 5)))) with_w ≡ Some a)
 by_window = window_law empty 1 w_window (stored 1 (Const (pos 5))) with_w (record { seen = part; name = refl; window = refl; plain = refl; own = refl; root = refl; variables = λ y k. refl })
+
+by_name : cell_of 10 (pos 1) (run empty (stored 1 (Const (pos 5))) with_w) ≡ Some (Number (pos 5))
+unfolding int_wrap
+by_name = refl
+
+by_coordinates : cell_of 10 (pos 1) (run empty (in_block 1 w_window (stored 1 (Const (pos 5)))) with_w) ≡ Some (Number (pos 5))
+unfolding int_wrap
+by_coordinates = refl
 
 abbrev x_param : Param
 x_param = record { binder = binder 10; kind = TensorParam I8 (Lit (pos 4) ∷ []) 0 }
@@ -99,6 +116,14 @@ staged_store = staged_law (λ x. x == 10) (λ x. x == 1) empty (λ x. x) 1 part 
         go true r k l e = subst (λ (o : Seen). o.buffer ≡ x) (one_value (record { buffer = 1; sides = whole (pos 2 ∷ []) }) z e) (sym (eqb-true x 1 k))
         go false true k l e = subst (λ (o : Seen). o.buffer ≡ x) (one_value all_of z e) (sym (eqb-true x 10 l))
         go false false k l e = absurd (none_is_some e)
+
+in_the_buffer : cell_of 1 (pos 0) (run empty (stored 1 (Const (pos 5))) (staged 1 part four s)) ≡ Some (Number (pos 5))
+unfolding int_wrap
+in_the_buffer = refl
+
+in_the_window : cell_of 10 (pos 1) (run empty (stored 1 (Const (pos 5))) (on_scene (with_view 1 part) s)) ≡ Some (Number (pos 5))
+unfolding int_wrap
+in_the_window = refl
 
 -- ---- a call of a procedure that sets field 0 to 4
 
@@ -139,6 +164,15 @@ inlined = inline_refines (λ f. Index) (plain sets ∷ []) (plain call) (plain s
 
 called : Refines above_it (plain sets) (plain call) []
 called = replace_refines (λ f. Index) (plain sets ∷ []) (plain sets) (plain sets) (Here end) 0 [] empty (λ x. false) refl (may_inline sets)
+
+abbrev field_of : Option State → Option ℤ
+field_of o = option_map (λ (t : State). t.scene.fields 0) o
+
+four_by_call : field_of (run above_it call s) ≡ Some (pos 4)
+four_by_call = refl
+
+four_in_place : field_of (run above_it sets s) ≡ Some (pos 4)
+four_in_place = refl
 
 -- ---- x[1:3] and y[0:2] as arguments, of which the first is written
 
@@ -254,3 +288,11 @@ store_in_place = in_place empty hides is_written no_name every base (λ x. x) (s
         go : (t : Bool) → (x == 0) ≡ t → cond {A = Option Seen} t (Some (record { buffer = 0; sides = Range (pos 0) (pos 2) ∷ [] })) None ≡ Some z → z.buffer ≡ x
         go true k e = subst (λ (o : Seen). o.buffer ≡ x) (one_value (record { buffer = 0; sides = Range (pos 0) (pos 2) ∷ [] }) z e) (sym (eqb-true x 0 k))
         go false k e = absurd (none_is_some e)
+
+in_its_own : cell_of 0 (pos 0) (run empty (stored 0 (Const (pos 5))) own) ≡ Some (Number (pos 5))
+unfolding int_wrap
+in_its_own = refl
+
+in_its_place : cell_of 10 (pos 1) (run empty (stored 0 (Const (pos 5))) placed) ≡ Some (Number (pos 5))
+unfolding int_wrap
+in_its_place = refl

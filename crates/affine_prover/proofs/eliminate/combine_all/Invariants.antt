@@ -1,10 +1,10 @@
 use Rattle.std.proofs.Common.{◌≡◌, ◌++◌, take, map, true}
-use Rattle.std.specs.List.{filter, list_all, flat_map}
-use Rattle.affine_prover.specs.Elimination.{is_upper_bound, is_lower_bound, combination, is_narrow_combination}
+use Rattle.std.specs.List.{list_all, flat_map}
+use Rattle.affine_prover.specs.Elimination.{combination, is_narrow_combination}
 use Rattle.affine_prover.proofs.eliminate.combine_all.Given as goal
 
 abbrev pub invariant-loop-p : goal.invariant-loop-p
 invariant-loop-p l = record {
-  made : l.next.items ≡ l.fn.next.items ++ flat_map (λ p. map (combination l.v p) (filter (is_upper_bound l.v) l.rows)) (filter (is_lower_bound l.v) (take l.p-index l.rows));
-  narrow : list_all (λ p. list_all (is_narrow_combination l.v p) (filter (is_upper_bound l.v) l.rows)) (filter (is_lower_bound l.v) (take l.p-index l.rows)) ≡ true;
+  made : l.next.items ≡ l.fn.next.items ++ flat_map (λ p. map (combination l.v p) l.upper) (take l.p-index l.lower);
+  narrow : list_all (λ p. list_all (is_narrow_combination l.v p) l.upper) (take l.p-index l.lower) ≡ true;
 }

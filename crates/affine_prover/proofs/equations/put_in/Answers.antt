@@ -29,17 +29,17 @@ substitute-requires-in-Some-clause-unit c =
 pub returns-in-None : goal.returns-in-None
 returns-in-None c =
     let at = found has_unit c.args.equations.items c.args.i c.remove-e.result c.requires.first c.remove-e.ensures.value in
-    let others : c.deref.result.now ≡ remove c.args.equations.items c.args.i = c.deref.ensures.value ∙ c.remove-e.ensures.items in
-    wide-others c.args.equations.items c.args.rows.now c.deref.result.now c.remove-e.result c.args.i c.unit_place-v.result at.0 at.1 c.unit_place-v.ensures others (sym (ap (option_map (λ v. v.items)) c.in-None.is) ∙ c.in_ok-substitute.ensures)
+    let others : c.remove-e.new.self.items ≡ remove c.args.equations.items c.args.i = c.remove-e.ensures.items in
+    wide-others c.args.equations.items c.args.rows.items c.remove-e.new.self.items c.remove-e.result c.args.i c.unit_place-v.result at.0 at.1 c.unit_place-v.ensures others (sym (ap (option_map (λ v. v.items)) c.in-None.is) ∙ c.in_ok-substitute.ensures)
 
 pub returns-in-None-2 : goal.returns-in-None-2
 returns-in-None-2 c =
     let at = found has_unit c.args.equations.items c.args.i c.remove-e.result c.requires.first c.remove-e.ensures.value in
-    let others : c.deref.result.now ≡ remove c.args.equations.items c.args.i = c.deref.ensures.value ∙ c.remove-e.ensures.items in
-    wide-rows c.args.equations.items c.args.rows.now c.deref.result.now c.remove-e.result c.args.i c.unit_place-v.result at.0 at.1 c.unit_place-v.ensures others (sym (ap (option_map (λ v. v.items)) c.in-None-2.is) ∙ c.in_ok-substitute-in-Some.ensures)
+    let others : c.remove-e.new.self.items ≡ remove c.args.equations.items c.args.i = c.remove-e.ensures.items in
+    wide-rows c.args.equations.items c.args.rows.items c.remove-e.new.self.items c.remove-e.result c.args.i c.unit_place-v.result at.0 at.1 c.unit_place-v.ensures others (sym (ap (option_map (λ v. v.items)) c.in-None-2.is) ∙ c.in_ok-substitute-in-Some.ensures)
 
 pub returns : goal.returns
 returns c =
     let at = found has_unit c.args.equations.items c.args.i c.remove-e.result c.requires.first c.remove-e.ensures.value in
-    let others : c.deref.result.now ≡ remove c.args.equations.items c.args.i = c.deref.ensures.value ∙ c.remove-e.ensures.items in
-    solved-both c.args.equations.items c.args.rows.now c.deref.result.now c.in-Some.es.items c.in-Some-2.rest.items c.remove-e.result c.args.i c.unit_place-v.result at.0 at.1 c.unit_place-v.ensures others (sym (ap (option_map (λ v. v.items)) c.in-Some.is) ∙ c.in_ok-substitute.ensures) (sym (ap (option_map (λ v. v.items)) c.in-Some-2.is) ∙ c.in_ok-substitute-in-Some.ensures)
+    let others : c.remove-e.new.self.items ≡ remove c.args.equations.items c.args.i = c.remove-e.ensures.items in
+    solved-both c.args.equations.items c.args.rows.items c.remove-e.new.self.items c.in-Some.es.items c.in-Some-2.rest.items c.remove-e.result c.args.i c.unit_place-v.result at.0 at.1 c.unit_place-v.ensures others (sym (ap (option_map (λ v. v.items)) c.in-Some.is) ∙ c.in_ok-substitute.ensures) (sym (ap (option_map (λ v. v.items)) c.in-Some-2.is) ∙ c.in_ok-substitute-in-Some.ensures)

@@ -1,7 +1,7 @@
 use Rattle.std.proofs.Common.{◌≡◌, sym, ap, ◌∙◌, Some, None}
 use Rattle.std.specs.Option.{option_map}
-use Rattle.std.specs.List.{position, find}
-use Rattle.affine_prover.specs.Elimination.{has_unit, reduced, round_of}
+use Rattle.std.specs.List.{position}
+use Rattle.affine_prover.specs.Elimination.{has_unit, reduced}
 use Rattle.affine_prover.proofs.Rounds.{round-none, round-some, round-unsolved, reduced-wide, not_found}
 use Rattle.affine_prover.proofs.equations.round.Goals as goal
 
@@ -22,4 +22,4 @@ returns-in_ok-all-in-None-solvable c =
 pub returns-in_ok-turn-in-Some-solvable : goal.returns-in_ok-turn-in-Some-solvable
 returns-in_ok-turn-in-Some-solvable c =
     let is : Some c.in-Some.es.items ≡ reduced c.args.equations.items = sym (ap (option_map (λ v. v.items)) c.in-Some.is) ∙ c.in_ok-reduce.ensures in
-    c.in_ok-turn-in-Some-solvable.ensures ∙ ap (λ rs. round_of c.in-Some.es.items rs (find has_unit c.in-Some.es.items)) c.deref-in-Some-solvable.ensures.value ∙ round-some c.args.equations.items c.args.rows.items c.in-Some.es.items is
+    c.in_ok-turn-in-Some-solvable.ensures ∙ round-some c.args.equations.items c.args.rows.items c.in-Some.es.items is

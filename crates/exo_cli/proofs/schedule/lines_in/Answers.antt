@@ -1,4 +1,4 @@
-use Rattle.std.proofs.Common.{◌≡◌, ◌≤◌, ◌<◌, ◌+◌, ◌-◌, ℕ, Some, take, drop, length, sym, ap, ◌∙◌, arith, length-drop}
+use Rattle.std.proofs.Common.{◌≡◌, ◌+◌, ◌-◌, ℕ, take, drop, sym, ap, ◌∙◌, arith, length-drop}
 use Rattle.exo_cli.specs.ScheduleForm.{act_in, first_number, width_of}
 use Rattle.exo_cli.proofs.Lists.{rest-range}
 use Rattle.exo_cli.proofs.Reading.{line-pushed, line-refused}

@@ -1,6 +1,5 @@
-use Rattle.std.proofs.Common.{◌≡◌, ◌∷◌, ◌+◌, ℕ, length, map, drop, suc, sym, ap, ◌∙◌, arith, drop-cons, add-one}
+use Rattle.std.proofs.Common.{◌≡◌, ◌+◌, length, map, drop, arith}
 use Rattle.exo_tree.specs.Plain.{procedure}
-use Rattle.exo_cli.specs.Compiled.{numbers_from, names_from}
 use Rattle.exo_cli.proofs.Starting.{next-number, next-name, next-procedure}
 use Rattle.exo_cli.proofs.session.Session.start.Goals as goal
 

@@ -1,0 +1,99 @@
+-- All facts at a place, with the numbers of the fields that their conditions read.
+use Rattle.std.specs.Prelude.{◌≡◌, ◌||◌, ◌++◌, ℕ, zero, suc, ℤ, pos, Bool, true, false, List, [], ◌∷◌, Some, None, IsSome, map}
+use Rattle.exo_tree.specs.Tree.{Var, Lt, Le, Argument, Config, Block, next, Procedure, ConfigField}
+use Rattle.exo_tree.specs.Context.{Context, Here, After, InLoop, InThen, InElse, fill}
+use Rattle.exo_tree.specs.Places.{Branch, Main, Else, Path}
+use Rattle.exo_meaning.specs.Scene.{Scene, stride_at}
+use Rattle.exo_meaning.specs.State.{State}
+use Rattle.exo_meaning.specs.Run.{World, argument_number, kinds_of, unit_world}
+use Rattle.exo_meaning.specs.Inputs.{IsAdmissible, IsOfKind}
+use Rattle.exo_meaning.specs.Orders.{Each}
+use Rattle.exo_meaning.specs.Unseen.{in_argument}
+use Rattle.exo_context.specs.Context.{ComesTo}
+use Rattle.exo_context.specs.Sound.{on_way}
+use Rattle.exo_context.specs.Facts.{Fact, Holds, Fails, IsTrueAt}
+use Rattle.exo_context.specs.Fields.{writes_field}
+use Rattle.exo_context.specs.Live.{read_by_argument}
+use Rattle.exo_context.specs.Known.{params_facts}
+use Rattle.exo_context.specs.Scoped.{is_not, is_param}
+use Rattle.exo_context.specs.Sorted.{MayRun}
+use Rattle.exo_context.specs.UnitFields.{unit_writes}
+use Rattle.exo_context.specs.KnownFields.{FieldValue, AtEntry, Known, UnknownAt, KnownFields, at_entry, Telling, path_in, forgotten, after, known_fields}
+
+-- ---- the facts
+
+-- a fact, with what is known of the fields where its condition is evaluated
+pub record PlaceFact : Type 0 where
+  pub known : KnownFields
+  pub fact : Fact
+
+-- of the loops and branches round the hole, from the outermost inwards
+module _ (tell : Telling) where
+  abbrev pub facts_round : Path → Branch → ℕ → Context → Block → KnownFields → List PlaceFact
+  facts_round outer branch n (Here rest) old known = []
+  facts_round outer branch n (After a c) old known = facts_round outer branch (suc n) c old (after tell (path_in outer branch n) a known)
+  facts_round outer branch n (InLoop i lo hi c rest) old known = record { known = known; fact = Holds (Le lo (Var i.id)) } ∷ record { known = known; fact = Holds (Lt (Var i.id) hi) } ∷ facts_round (path_in outer branch n) Main zero c old (forgotten (λ f. writes_field tell.writes f (fill c old)) (path_in outer branch n) known)
+  facts_round outer branch n (InThen t c other rest) old known = record { known = known; fact = Holds t } ∷ facts_round (path_in outer branch n) Main zero c old known
+  facts_round outer branch n (InElse t other c rest) old known = record { known = known; fact = Fails t } ∷ facts_round (path_in outer branch n) Else zero c old known
+
+  -- of the parameters, the assertions, and the loops and branches
+  abbrev pub place_facts : Procedure → Context → Block → List PlaceFact
+  place_facts p c old = map (λ fact. record { known = at_entry; fact = fact }) (params_facts p.params ++ map Holds p.asserts) ++ facts_round [] Main zero c old at_entry
+
+-- ---- their numbers
+
+-- the control values, the strides of names and the fields at entry of a scene, and the number of each field that the statement at a path made unknown
+pub record Numbers : Type 0 where
+  pub scene : Scene
+  pub unknown : ℕ → Path → ℤ
+
+abbrev pub argument_value : Scene → Argument → ℤ
+argument_value scene a = elim (argument_number scene a) [ None ↦ pos 0 | Some n ↦ n ]
+
+abbrev pub field_number : Numbers → ℕ → FieldValue → ℤ
+field_number v f AtEntry = v.scene.fields f
+field_number v f (Known a) = argument_value v.scene a
+field_number v f (UnknownAt path) = v.unknown f path
+
+-- a scene in which each field has the number of what is known of it
+abbrev pub with_known : Numbers → KnownFields → Scene
+with_known v known = record v.scene { fields = λ f. field_number v f (known f) }
+
+abbrev pub IsTrueIn : Numbers → PlaceFact → Type 0
+IsTrueIn v e = IsTrueAt (with_known v e.known) e.fact
+
+-- numbers of a state u that a run from s comes to: those of its control values and of the strides that its names have there, and of each field what is known of it; and all facts are true
+pub record AreNumbers (world : World) (s u : State) (known : KnownFields) (round : List PlaceFact) (v : Numbers) : Type 0 where
+  pub control : (x : ℕ) → v.scene.control x ≡ u.scene.control x
+  pub strides : (x k : ℕ) → IsSome (u.scene.views x) → stride_at v.scene (v.scene.views x) k ≡ stride_at u.scene (u.scene.views x) k
+  pub entry : (f : ℕ) → v.scene.fields f ≡ s.scene.fields f
+  pub kinds : (f : ℕ) (path : Path) → IsOfKind (world.kinds f) (v.unknown f path)
+  pub fields : (f : ℕ) → u.scene.fields f ≡ field_number v f (known f)
+  pub facts : Each (IsTrueIn v) round
+
+-- ---- the laws
+
+-- two arguments that agree have the same number in every scene
+abbrev pub AgreeWell : (Argument → Argument → Bool) → Type 0
+AgreeWell agree = (a b : Argument) → agree a b ≡ true → (scene : Scene) → argument_value scene a ≡ argument_value scene b
+
+-- what is written down for the right side of a write has its number wherever a run comes to the write; it uses names in scope alone, and no field
+pub record IsToldWell (world : World) (p : Procedure) (told : Argument → Argument) (c : Context) (f : ℕ) (a : Argument) (rest : Block) : Type 0 where
+  pub named : in_argument (is_not (λ x. is_param p x || on_way c x)) (told a) ≡ false
+  pub plain : (g : ℕ) → read_by_argument g (told a) ≡ false
+  pub same : (s u : State) → IsAdmissible world p s → ComesTo world (next (Config f a) rest) c s u → argument_value u.scene (told a) ≡ argument_value u.scene a
+
+abbrev pub TellsWell : World → Procedure → (Argument → Argument) → Type 0
+TellsWell world p told = (c : Context) (f : ℕ) (a : Argument) (rest : Block) → p.body ≡ fill c (next (Config f a) rest) → IsToldWell world p told c f a rest
+
+-- where calls write what the procedures of a unit write
+abbrev pub unit_telling : List Procedure → (Argument → Argument) → (Argument → Argument → Bool) → Telling
+unit_telling ps told agree = record { writes = unit_writes ps; told = told; agree = agree }
+
+-- in a well-formed unit, each state that a run on an admissible input comes to has numbers for what is known of fields there, and with them all facts are true
+abbrev pub PlaceFactsLaw : Type 0
+PlaceFactsLaw = (fields : List ConfigField) (memories : ℕ) (ps : List Procedure) (p : Procedure) → MayRun fields memories ps p → let world = unit_world (kinds_of fields) ps in (told : Argument → Argument) (agree : Argument → Argument → Bool) → TellsWell world p told → AgreeWell agree → let tell = unit_telling ps told agree in (c : Context) (old : Block) → p.body ≡ fill c old → (s u : State) → IsAdmissible world p s → ComesTo world old c s u → (v : Numbers) × AreNumbers world s u (known_fields tell c old) (place_facts tell p c old) v
+
+-- the right side of a write may be written down as it is
+abbrev pub PlainTelling : Type 0
+PlainTelling = (fields : List ConfigField) (memories : ℕ) (ps : List Procedure) (p : Procedure) → MayRun fields memories ps p → TellsWell (unit_world (kinds_of fields) ps) p (λ a. a)
