@@ -1,7 +1,9 @@
-//! Texts and what they are read to: tables of worked cases for exo_reader.
+//! Tables of texts: their tokens and places, and what they are read to.
 #![tactic(auto)]
 
 #[cfg(test)]
 mod first;
 #[cfg(test)]
 mod lexis;
+#[cfg(test)]
+mod units;

@@ -1,0 +1,12 @@
+mod Optional
+mod Parts
+mod Lists
+mod Parameters
+mod Made
+mod Windows
+mod Coordinates
+mod Arguments
+mod Statements
+mod Neighbours
+mod Items
+mod Units

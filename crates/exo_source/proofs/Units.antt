@@ -1,0 +1,106 @@
+-- Whole texts, and where and why one is refused.
+use Rattle.std.proofs.Common.{◌≡◌, ℕ, ◌+◌, ◌-◌, ◌<◌, ◌≤◌, List, [], ◌∷◌, ◌++◌, Option, Some, None, length, take, drop, refl, sym, ap, ◌∙◌, subst, arith, map, Bool, true, false}
+use Rattle.std.proofs.lemmas.List.{length-append, length-drop, length-map}
+use Rattle.std.proofs.Math.Seq.{take-append_seam, drop-append_seam, take-length}
+use Rattle.phrases.specs.Limits.{Limits, Cause, syntax, too_deep, too_long, too_large}
+use Rattle.phrases.specs.Phrase.{first, Phrase}
+use Rattle.phrases.specs.Text.{FaultAt}
+use Rattle.exo_lexer.specs.Layout.{lexed, token_of, place_of, end_place}
+use Rattle.exo_lexer.specs.declared.place.Place.{Place}
+use Rattle.exo_lexer.specs.declared.token.Token.{Token}
+use Rattle.exo_lexer.specs.declared.token.Token.TheVariants.{Sign, NewLine, Dedent}
+use Rattle.exo_lexer.specs.declared.token.Sign.TheVariants.{Colon}
+use Rattle.exo_source.specs.Source.{Item}
+use Rattle.exo_source.specs.Items.{item, unit}
+use Rattle.exo_source.specs.Texts.{tokens_of, places_of, EndsHeader, IsAtEnd, first_kind, IsKindBy, IsSyntaxKind, IsKind, IsPlaced, IsFault, IsRefusal}
+use Rattle.exo_source.specs.declared.unit.ReadKind.{ReadKind}
+use Rattle.exo_source.specs.declared.unit.ReadKind.TheVariants as k
+use Rattle.exo_source.specs.declared.unit.ReadError.{ReadError}
+use Rattle.exo_source.proofs.Items.{StartsItem, starts_item}
+
+-- all items are read
+
+pub none_left : (rest : List Token) → rest ≡ [] → (limits : Limits) (i : Item) (y : List Token) → item.Fits limits i → first rest ≡ first (item.spell i ++ y) → ⊥
+none_left rest empty limits i y fits same = subst StartsItem (sym same ∙ ap first empty) (starts_item i y)
+
+pub some_left : (rest more : List Token) (a : Token) → rest ≡ a ∷ more → first rest ≡ None → ⊥
+some_left rest more a is none = let e : Some a ≡ None = sym (ap first is) ∙ none in cc (e)
+
+-- a slice to the end
+pub tail_is : (tokens : List Token) (n : ℕ) → take (length tokens - n) (drop n tokens) ≡ drop n tokens
+tail_is tokens n = ap (λ m. take m (drop n tokens)) (sym (length-drop n tokens)) ∙ take-length (drop n tokens)
+
+-- headers
+
+header_end : (end : List Token) → length end ≡ 1 → first end ≡ Some NewLine → end ≡ NewLine ∷ []
+header_end [] one same = absurd (omega (arith, one))
+header_end (t ∷ []) one same = let e : t ≡ NewLine = cc (same) in ap (λ u. u ∷ []) e
+header_end (t ∷ u ∷ more) one same = absurd (omega (arith, one))
+
+pub header_there : (before end : List Token) → 2 ≤ length before → drop (length before - 2) before ≡ Sign Colon ∷ end → first end ≡ Some NewLine → EndsHeader before
+header_there before end long is same =
+    let one : length end ≡ 1 = omega (arith, long, ap length is, length-drop (length before - 2) before) in
+    is ∙ ap (λ l. Sign Colon ∷ l) (header_end end one same)
+
+pub header_back : (before end : List Token) → drop (length before - 2) before ≡ Sign Colon ∷ end → EndsHeader before → first end ≡ Some NewLine
+header_back before end is ends =
+    let e : Sign Colon ∷ end ≡ Sign Colon ∷ NewLine ∷ [] = sym is ∙ ends in
+    let f : end ≡ NewLine ∷ [] = cc (e) in
+    ap first f
+
+pub no_header : (before : List Token) → (first (drop (length before - 2) before) ≡ Some (Sign Colon) → ⊥) → EndsHeader before → ⊥
+no_header before none ends = none (ap first ends)
+
+pub short_header : (before : List Token) → length before < 2 → EndsHeader before → ⊥
+short_header before short ends = omega (arith, short, ap length ends, length-drop (length before - 2) before)
+
+-- the end of a text
+
+pub not_at_end : (left more : List Token) (a : Token) → left ≡ a ∷ more → (first left ≡ Some Dedent → ⊥) → IsAtEnd left → ⊥
+not_at_end [] more a is none ends = let e : length {A = Token} [] ≡ length (a ∷ more) = ap length is in omega (arith, e)
+not_at_end (Dedent ∷ left) more a is none ends = none refl
+not_at_end (other ∷ left) more a is none ends = absurd ends
+
+pub at_end : (left : List Token) → left ≡ [] → IsAtEnd left
+at_end left empty = subst IsAtEnd (sym empty) tt
+
+-- kinds
+
+pub kind_some : (before rest : List Token) (kind : ReadKind) → first_kind rest ≡ Some kind → IsSyntaxKind before rest kind
+kind_some before rest kind is = subst (λ (o : Option ReadKind). IsKindBy o before rest kind) (sym is) refl
+
+pub kind_none : (before rest : List Token) (kind : ReadKind) → first_kind rest ≡ None → IsKindBy None before rest kind → IsSyntaxKind before rest kind
+kind_none before rest kind is by = subst (λ (o : Option ReadKind). IsKindBy o before rest kind) (sym is) by
+
+-- errors
+
+pub last_within : {cause : Cause} (tokens : List Token) (last : ℕ) → FaultAt unit cause tokens last → last ≤ length tokens
+last_within tokens last fault = omega (arith, ap length fault.whole, length-append fault.before fault.rest, fault.count)
+
+refused_by : (tokens : List Token) (places : List Place) (kind : ReadKind) (e : ReadError) → IsFault tokens places e → IsRefusal tokens places kind e
+refused_by tokens places k.Memory e fault = tt
+refused_by tokens places other e fault = fault
+
+pub limit_fault : (cause : Cause) (tokens : List Token) (places : List Place) (last : ℕ) (e : ReadError) → (fault : FaultAt unit cause tokens last) → IsKind cause fault.before fault.rest e.kind → IsPlaced places last e → IsRefusal tokens places e.kind e
+limit_fault cause tokens places last e fault kind placed = refused_by tokens places e.kind e (record { cause = cause; last = last; fault = fault; kind = kind; placed = placed })
+
+before_is : (tokens before rest : List Token) (last : ℕ) → tokens ≡ before ++ rest → length rest ≡ last → take (length tokens - last) tokens ≡ before
+before_is tokens before rest last whole count =
+    let n : length tokens - last ≡ length before = omega (arith, ap length whole, length-append before rest, count) in
+    ap (λ m. take m tokens) n ∙ ap (take (length before)) whole ∙ take-append_seam before rest
+
+rest_is : (tokens before rest : List Token) (last : ℕ) → tokens ≡ before ++ rest → length rest ≡ last → drop (length tokens - last) tokens ≡ rest
+rest_is tokens before rest last whole count =
+    let n : length tokens - last ≡ length before = omega (arith, ap length whole, length-append before rest, count) in
+    ap (λ m. drop m tokens) n ∙ ap (drop (length before)) whole ∙ drop-append_seam before rest
+
+pub syntax_fault : (tokens : List Token) (places : List Place) (last : ℕ) (kind : ReadKind) (e : ReadError) → FaultAt unit syntax tokens last → IsSyntaxKind (take (length tokens - last) tokens) (take (length tokens - (length tokens - last)) (drop (length tokens - last) tokens)) kind → e.kind ≡ kind → IsPlaced places last e → IsRefusal tokens places e.kind e
+syntax_fault tokens places last kind e fault sliced same placed =
+    let is : IsSyntaxKind (take (length tokens - last) tokens) (drop (length tokens - last) tokens) kind = subst (λ (r : List Token). IsSyntaxKind (take (length tokens - last) tokens) r kind) (tail_is tokens (length tokens - last)) sliced in
+    let one : IsSyntaxKind fault.before (drop (length tokens - last) tokens) kind = subst (λ (b : List Token). IsSyntaxKind b (drop (length tokens - last) tokens) kind) (before_is tokens fault.before fault.rest last fault.whole fault.count) is in
+    let two : IsSyntaxKind fault.before fault.rest kind = subst (λ (r : List Token). IsSyntaxKind fault.before r kind) (rest_is tokens fault.before fault.rest last fault.whole fault.count) one in
+    limit_fault syntax tokens places last e fault (subst (λ (n : ReadKind). IsSyntaxKind fault.before fault.rest n) (sym same) two) placed
+
+-- a text has one place more than tokens
+pub places_more : (text : List ℕ) → length (places_of text) ≡ length (tokens_of text) + 1
+places_more text = omega (arith, length-append (map place_of (lexed text)) (end_place text ∷ []), length-map (lexed text) place_of, length-map (lexed text) token_of)

@@ -1,0 +1,13 @@
+use Rattle.std.proofs.Common.{length}
+use Rattle.exo_lexer.specs.declared.token.Token.TheVariants.{Dedent}
+use Rattle.exo_source.specs.Parts.{Is}
+use Rattle.exo_source.specs.Items.{field}
+use Rattle.exo_source.specs.Views.{plain_field}
+use Rattle.exo_source.proofs.Lists.{Some_read}
+use Rattle.exo_source.proofs.item.read_fields.Given as goal
+
+abbrev pub invariant-more : goal.invariant-more
+invariant-more l = Some_read field (Is Dedent) plain_field l.fn.tokens l.list.items l.rest
+
+abbrev pub decreases-more : goal.decreases-more
+decreases-more l = length l.rest

@@ -1,0 +1,12 @@
+use Rattle.std.proofs.Common.{length, map}
+use Rattle.phrases.proofs.Sequences.{Items}
+use Rattle.exo_source.specs.Items.{item}
+use Rattle.exo_source.specs.Views.{plain_item}
+use Rattle.exo_source.proofs.Items.{AtEnd}
+use Rattle.exo_source.proofs.unit.read_items.Given as goal
+
+abbrev pub invariant-more : goal.invariant-more
+invariant-more l = Items item AtEnd l.fn.tokens (map plain_item l.items.items) l.rest
+
+abbrev pub decreases-more : goal.decreases-more
+decreases-more l = length l.rest

@@ -1,0 +1,7 @@
+pub mod Source
+pub mod Parts
+pub mod Statements
+pub mod Items
+pub mod Views
+pub mod Windows
+pub mod Texts

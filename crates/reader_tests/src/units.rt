@@ -1,0 +1,292 @@
+// Texts of units, and where and why a text is none.
+
+use exo_source::unit::read_unit;
+use std::alloc::{AllocError, Global};
+
+/// How many items a text has, or where it is wrong and why.
+fn shown(alloc: Global, text: &[u8]) -> Result<String, AllocError> {
+    if text.len() > 0x100000 {
+        return Ok(String::new(alloc));
+    }
+    match read_unit(alloc, text) {
+        Ok(source) => {
+            let items = source.items.len();
+            format!(in alloc; "{items} items")
+        }
+        Err(error) => {
+            let line = error.line;
+            let column = error.column;
+            let kind = error.kind;
+            format!(in alloc; "{line}:{column} {kind:?}")
+        }
+    }
+}
+
+#[test]
+fn worked_units(rt: HostRuntime) -> Result<(), AllocError> {
+    let rows = [
+        (b"".as_slice(), "0 items"),
+        (b"from exo import *\n\n# nothing\n".as_slice(), "0 items"),
+        (
+            b"@proc\ndef add3(x: i32[4], y: i32[4]):\n    x[0] = y[1] + 3\n".as_slice(),
+            "1 items",
+        ),
+        (
+            b"from __future__ import annotations\nfrom exo import *\n\n@memory\nclass AVX2:\n    ctype = \"__m256i\"\n    lanes = 8\n    cell = \"i32\"\n    place = \"stack\"\n    read = False\n    write = False\n    reduce = False\n    include = \"immintrin.h\"\n\n@instr(\"{dst_data} = _mm256_loadu_si256((const __m256i *)&{src_data});\")\ndef load8(dst: [i32][8] @ AVX2, src: [i32][8] @ DRAM):\n    assert stride(src, 0) == 1\n    assert stride(dst, 0) == 1\n    for l in seq(0, 8):\n        dst[l] = src[l]\n\n@instr(\"{c_data} = _mm256_add_epi32({c_data}, \"\n       \"_mm256_mullo_epi32(_mm256_set1_epi32({a_data}), {b_data}));\")\ndef mac8(c: [i32][8] @ AVX2, a: i32 @ DRAM, b: [i32][8] @ AVX2):\n    assert stride(c, 0) == 1\n    assert stride(b, 0) == 1\n    for l in seq(0, 8):\n        c[l] += a * b[l]\n\n@proc\ndef gemm(M: size, N: size, K: size, A: i32[M, K], B: i32[K, N], C: i32[M, N]):\n    assert N % 8 == 0\n    for i in seq(0, M):\n        for j in seq(0, N):\n            for k in seq(0, K):\n                C[i, j] += A[i, k] * B[k, j]\n".as_slice(),
+            "4 items",
+        ),
+        (
+            b"@config\nclass Cfg:\n    w : size\n    s: stride\n\n@proc\ndef f(n: size, x: i32[n], k: stride,):\n    for i in seq(0, n):\n        Cfg.w = 8\n        x[i] = 0\n    t : i32[2 * n] @ DRAM\n    s : i8\n    s = select(x[0], 1, s, -s)\n    s += relu(x[0])\n    if n < 3 and Cfg.w == 8:\n        pass\n    else:\n        if True:\n            pass\n".as_slice(),
+            "2 items",
+        ),
+        (
+            b"@proc\ndef fill(n: size, w: [i32][n]):\n    for l in seq(0, n):\n        w[l] = 5\n@proc\ndef col(M: size, N: size, A: i32[M, N]):\n    fill(M, A[0:M, N - 1])\n    v = A[0, 1:N]\n    fill(N - 1, v,)\n    fill()\n    s = A[0, 0] + 1\n".as_slice(),
+            "2 items",
+        ),
+        (
+            b"@proc\r\ndef f():\r\n    pass # \x80\xFF\r\n".as_slice(),
+            "1 items",
+        ),
+    ];
+    for (text, wanted) in rows {
+        let found = shown(rt.alloc(), text)?;
+        assert_eq!(rt; found.as_str(), wanted);
+    }
+    Ok(())
+}
+
+#[test]
+fn indentations(rt: HostRuntime) -> Result<(), AllocError> {
+    let rows = [
+        (b"@proc\ndef f():\npass\n".as_slice(), "3:1 BadIndent"),
+        (
+            b"@proc\ndef f():\n    pass\n      pass\n".as_slice(),
+            "4:1 BadIndent",
+        ),
+        (
+            b"@proc\ndef f():\n    pass\n  pass\n".as_slice(),
+            "4:1 BadIndent",
+        ),
+        (b" @proc\n".as_slice(), "1:1 BadIndent"),
+        (
+            b"@proc\ndef f():\n    if 1 < 2:\n    pass\n".as_slice(),
+            "4:1 BadIndent",
+        ),
+        (
+            b"@proc\ndef f():\n    if 1 < 2:\n@proc\n".as_slice(),
+            "4:1 BadIndent",
+        ),
+        (
+            b"@proc\ndef f():\n    if 1 < 2:\n    \"a\"\n".as_slice(),
+            "4:1 BadIndent",
+        ),
+        (
+            b"@proc\ndef f():\n    if 1 < 2:\n".as_slice(),
+            "4:1 Syntax",
+        ),
+        (b"@proc\ndef f():".as_slice(), "2:9 Syntax"),
+        (b"@proc\ndef f():\n".as_slice(), "3:1 Syntax"),
+        (
+            b"@proc\ndef f():\n    assert 1 < 2\n".as_slice(),
+            "4:1 Syntax",
+        ),
+        (
+            b"@proc\ndef f():\n    assert 1 < 2\n@proc\n".as_slice(),
+            "4:1 Syntax",
+        ),
+        (b"@config\nclass C:\nw : size\n".as_slice(), "3:1 BadIndent"),
+        (b"@proc\ndef f():\n\tpass\n".as_slice(), "3:1 BadByte"),
+    ];
+    for (text, wanted) in rows {
+        let found = shown(rt.alloc(), text)?;
+        assert_eq!(rt; found.as_str(), wanted);
+    }
+    Ok(())
+}
+
+#[test]
+fn texts_that_are_none(rt: HostRuntime) -> Result<(), AllocError> {
+    let rows = [
+        (
+            b"@proc\ndef f(n: size):\n    for i in seq(0, n".as_slice(),
+            "3:22 Syntax",
+        ),
+        (b"@foo\n".as_slice(), "1:1 Syntax"),
+        (b"@process\n".as_slice(), "1:1 Syntax"),
+        (b"pass\n".as_slice(), "1:1 Syntax"),
+        (b"@proc def f():\n    pass\n".as_slice(), "1:7 Syntax"),
+        (
+            b"@proc\ndef f():\n    \"\"\"ab\"\"\"\n    pass\n".as_slice(),
+            "3:5 Syntax",
+        ),
+        (
+            b"@proc\ndef f():\n    if 1 < 2 < 3:\n        pass\n".as_slice(),
+            "3:14 Syntax",
+        ),
+        (
+            b"@proc\ndef f():\n    w = x[0:4] + 1\n".as_slice(),
+            "3:16 Syntax",
+        ),
+        (b"@proc\ndef f():\n    f(,)\n".as_slice(), "3:7 Syntax"),
+        (b"@proc\ndef f():\n    x[] = 1\n".as_slice(), "3:7 Syntax"),
+        (b"@proc\ndef f():\n    x[0,] = 1\n".as_slice(), "3:9 Syntax"),
+        (
+            b"@proc\ndef f():\n    else:\n        pass\n".as_slice(),
+            "3:5 Syntax",
+        ),
+        (
+            b"@proc\ndef f():\n    if 1 < 2:\n        pass\n    elif 1 < 2:\n        pass\n".as_slice(),
+            "5:10 Syntax",
+        ),
+        (
+            b"@proc\ndef f():\n    pass\n    assert 1 < 2\n".as_slice(),
+            "4:5 Syntax",
+        ),
+        (
+            b"@proc\ndef f(stride: size):\n    pass\n".as_slice(),
+            "2:7 Syntax",
+        ),
+        (
+            b"@proc\ndef f(x: [i32]):\n    pass\n".as_slice(),
+            "2:15 Syntax",
+        ),
+        (b"@proc\ndef f(,):\n    pass\n".as_slice(), "2:7 Syntax"),
+        (
+            b"@memory\nclass M:\n    lanes = 007\n".as_slice(),
+            "3:14 Syntax",
+        ),
+        (
+            b"@memory\nclass M:\n    lanes = -1\n".as_slice(),
+            "3:13 Syntax",
+        ),
+        (b"@instr(\"abc\n".as_slice(), "1:8 Syntax"),
+        (b"@instr(\"a\\qc\")\n".as_slice(), "1:8 Syntax"),
+        (b"@instr()\n".as_slice(), "1:8 Syntax"),
+        (b"@instr(\"a\x80\")\n".as_slice(), "1:10 BadByte"),
+        (b"@proc\ndef f\x80():\n    pass\n".as_slice(), "2:6 BadByte"),
+        (b"@proc\ndef f():\n    pass\t\n".as_slice(), "3:9 BadByte"),
+        (b"@proc\n1 \x80\n".as_slice(), "2:1 Syntax"),
+    ];
+    for (text, wanted) in rows {
+        let found = shown(rt.alloc(), text)?;
+        assert_eq!(rt; found.as_str(), wanted);
+    }
+    Ok(())
+}
+
+/// Appends so many copies of a piece.
+fn push_times(out: &mut String, piece: &str, count: usize) -> Result<(), AllocError> {
+    for _ in 0..count {
+        out.push_str(piece)?;
+    }
+    Ok(())
+}
+
+/// A procedure with so many conditions inside one another.
+fn nested(alloc: Global, count: usize) -> Result<String, AllocError> {
+    let mut text = String::new(alloc);
+    text.push_str("@proc\ndef f():\n")?;
+    for k in 0..count {
+        push_times(&mut text, " ", k)?;
+        text.push_str(" if 1 < 2:\n")?;
+    }
+    push_times(&mut text, " ", count)?;
+    text.push_str(" pass\n")?;
+    Ok(text)
+}
+
+/// A procedure with one line: copies of a piece between a beginning and an end.
+fn line(
+    alloc: Global,
+    begin: &str,
+    piece: &str,
+    count: usize,
+    end: &str,
+) -> Result<String, AllocError> {
+    let mut text = String::new(alloc);
+    text.push_str("@proc\ndef f():\n    ")?;
+    text.push_str(begin)?;
+    push_times(&mut text, piece, count)?;
+    text.push_str(end)?;
+    text.push_str("\n")?;
+    Ok(text)
+}
+
+/// `x = y[((1))]` or `x = y[((1)):2]`, with so many parentheses.
+fn indexed(alloc: Global, count: usize, end: &str) -> Result<String, AllocError> {
+    let mut text = String::new(alloc);
+    text.push_str("@proc\ndef f():\n    x = y[")?;
+    push_times(&mut text, "(", count)?;
+    text.push_str("1")?;
+    push_times(&mut text, ")", count)?;
+    text.push_str(end)?;
+    text.push_str("\n")?;
+    Ok(text)
+}
+
+/// A procedure with so many parameters, and what stands behind them.
+fn parameters(alloc: Global, count: usize, end: &str) -> Result<String, AllocError> {
+    let mut text = String::new(alloc);
+    text.push_str("@proc\ndef f(")?;
+    push_times(&mut text, "p: size,", count)?;
+    text.push_str(end)?;
+    text.push_str("):\n    pass\n")?;
+    Ok(text)
+}
+
+/// An instruction with a template of so many bytes, and what stands behind it.
+fn template(alloc: Global, count: usize, end: &str) -> Result<String, AllocError> {
+    let mut text = String::new(alloc);
+    text.push_str("@instr(\"")?;
+    push_times(&mut text, "a", count)?;
+    text.push_str("\"")?;
+    text.push_str(end)?;
+    text.push_str(")\ndef f():\n    pass\n")?;
+    Ok(text)
+}
+
+#[test]
+fn limits(rt: HostRuntime) -> Result<(), AllocError> {
+    let alloc = rt.alloc();
+    let sum = "1*1*1*1*1*1*1*1+1*1*1*1*1*1*1*1+1*1*1*1*1*1*1*1+1*1*1*1*1*1*1*1+1*1*1*1*1*1*1*1+1*1*1*1*1*1*1*1+1*1*1*1*1*1*1*1+1*1*1*1*1*1*1*1";
+    let both = "1*1*1*1*1*1*1*1+1*1*1*1*1*1*1*1+1*1*1*1*1*1*1*1+1*1*1*1*1*1*1*1+1*1*1*1*1*1*1*1+1*1*1*1*1*1*1*1+1*1*1*1*1*1*1*1+1*1*1*1*1*1*1*1<1*1*1*1*1*1*1*1+1*1*1*1*1*1*1*1+1*1*1*1*1*1*1*1+1*1*1*1*1*1*1*1+1*1*1*1*1*1*1*1+1*1*1*1*1*1*1*1+1*1*1*1*1*1*1*1+1*1*1*1*1*1*1*1";
+    let taken = "(1*1*1*1*1*1*1*1+1*1*1*1*1*1*1*1+1*1*1*1*1*1*1*1+1*1*1*1*1*1*1*1+1*1*1*1*1*1*1*1+1*1*1*1*1*1*1*1+1*1*1*1*1*1*1*1+1*1*1*1*1*1*1*1)-";
+    let rows = [
+        (nested(alloc, 23)?, "1 items"),
+        (nested(alloc, 24)?, "26:25 TooDeep"),
+        (line(alloc, "x = ", "-", 63, "1")?, "1 items"),
+        (line(alloc, "x = ", "-", 64, "1")?, "3:72 TooDeep"),
+        (indexed(alloc, 62, "]")?, "1 items"),
+        (indexed(alloc, 63, "]")?, "3:138 TooDeep"),
+        (indexed(alloc, 63, "] + 1")?, "3:138 TooDeep"),
+        (indexed(alloc, 63, ":2]")?, "1 items"),
+        (indexed(alloc, 64, ":2]")?, "3:74 TooDeep"),
+        (line(alloc, "", "a", 63, " = 1")?, "1 items"),
+        (line(alloc, "", "a", 64, " = 1")?, "3:5 TooLong"),
+        (line(alloc, "x[0", ",0", 7, "] = 1")?, "1 items"),
+        (line(alloc, "x[0", ",0", 8, "] = 1")?, "3:22 TooLong"),
+        (line(alloc, "f(x[0:1", ",0", 7, "])")?, "1 items"),
+        (line(alloc, "f(x[0:1", ",0", 8, "])")?, "3:26 TooLong"),
+        (line(alloc, "f(1", ",1", 40, ")")?, "1 items"),
+        (line(alloc, "assert 1<2\n    x = (1<", sum, 1, ")")?, "1 items"),
+        (line(alloc, "x = 1", "-1", 64, "")?, "3:136 TooDeep"),
+        (line(alloc, "C.f = ", both, 1, "")?, "1 items"),
+        (line(alloc, "C.f = ", both, 1, "+1")?, "3:266 TooLong"),
+        (line(alloc, "x = ", taken, 7, "1")?, "1 items"),
+        (line(alloc, "x = ", taken, 8, "1")?, "3:1048 TooLong"),
+        (line(alloc, "x = 2147483647", "", 0, "")?, "1 items"),
+        (line(alloc, "x = 2147483648", "", 0, "")?, "3:9 LiteralTooLarge"),
+        (line(alloc, "x 2147483648", "", 0, "")?, "3:7 Syntax"),
+        (parameters(alloc, 32, "")?, "1 items"),
+        (parameters(alloc, 32, "q: size")?, "2:263 TooLong"),
+        (parameters(alloc, 32, "5")?, "2:263 Syntax"),
+        (template(alloc, 1024, "")?, "1 items"),
+        (template(alloc, 1025, "")?, "1:8 TooLong"),
+        (template(alloc, 1000, " \"aaaaaaaaaaaaaaaaaaaaaaaaa\"")?, "1:1011 TooLong"),
+    ];
+    for (text, wanted) in rows {
+        let found = shown(alloc, text.as_bytes())?;
+        assert_eq!(rt; found.as_str(), wanted);
+    }
+    Ok(())
+}
