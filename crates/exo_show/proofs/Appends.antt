@@ -1,6 +1,5 @@
 -- What several appends leave.
-use Rattle.std.proofs.Common.{◌≡◌, ℕ, List, [], ◌∷◌, ◌++◌, ap, sym, ◌∙◌, append_assoc}
-use Rattle.std.proofs.lemmas.List.{append-nil}
+use Rattle.std.proofs.Common.{◌≡◌, ℕ, List, ◌++◌, ap, ◌∙◌, append_assoc}
 
 -- one more text after o and a
 pub more : (o a b p t : List ℕ) → p ≡ o ++ a → t ≡ p ++ b → t ≡ o ++ (a ++ b)

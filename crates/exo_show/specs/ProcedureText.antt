@@ -1,5 +1,5 @@
 -- The text of procedures.
-use Rattle.std.specs.Prelude.{ℕ, List, [], ◌++◌, Option, Some, None, map, flat_map, slice_get, codes}
+use Rattle.std.specs.Prelude.{ℕ, [], ◌++◌, Option, Some, None, map, flat_map, slice_get, codes}
 use Rattle.exo_tree.specs.Tree.{Condition, ParamKind, ControlParam, TensorParam, WindowParam, Param, Procedure, Program}
 use Rattle.exo_show.specs.Layout.{Text, listed, line, quoted}
 use Rattle.exo_show.specs.Words.{Words, words_of, cell_word, kind_word}

@@ -1,5 +1,5 @@
 -- The text of statements and blocks.
-use Rattle.std.specs.Prelude.{ℕ, List, [], ◌∷◌, ◌++◌, ◌==◌, map, if◌then◌else◌, codes}
+use Rattle.std.specs.Prelude.{ℕ, List, [], ◌++◌, ◌==◌, map, if◌then◌else◌, codes}
 use Rattle.exo_tree.specs.Tree.{Control, Argument, ControlArg, ConditionArg, Whole, Window, Statement, Assign, Reduce, Config, Pass, If, For, Alloc, View, Call, Block, end, next}
 use Rattle.exo_show.specs.Layout.{Text, listed, line, deeper, between, loop_text}
 use Rattle.exo_show.specs.Words.{Words, cell_word}

@@ -1,6 +1,4 @@
-use Rattle.std.proofs.Common.{[], ◌++◌, codes, map, flat_map, string_bytes, ap, ◌∙◌}
-use Rattle.exo_tree.specs.Tree.{block}
-use Rattle.exo_tree.specs.PlainControl.{condition}
+use Rattle.std.proofs.Common.{[], ◌++◌, codes, flat_map, string_bytes, ap, ◌∙◌}
 use Rattle.exo_tree.specs.PlainProcedure.{procedure}
 use Rattle.exo_show.specs.Layout.{line}
 use Rattle.exo_show.specs.Seen.{words_in}
