@@ -6,9 +6,9 @@ use Rattle.exo_tree.specs.Tree.{Control, Condition, True, False, Flag, FieldFlag
 use Rattle.exo_meaning.specs.Scene.{Scene, number, is_set, holds}
 use Rattle.affine_forms.specs.Atoms.{Linear, Valuation, value, subtracted}
 use Rattle.affine_forms.specs.Forms.{Reading, normal, is_affine}
-use Rattle.affine_forms.specs.Formulas.{less, at_most, equal, moved, Flags, formula, AllowedFlags, is_affine_condition, is_met}
+use Rattle.affine_forms.specs.Formulas.{difference, less, at_most, equal, moved, Flags, formula, AllowedFlags, is_affine_condition, is_met}
 use Rattle.affine_forms.specs.Laws.{ReadsFlagsAt, FormulaLaw}
-use Rattle.affine_forms.proofs.Values.{and_parts, subtracted_value}
+use Rattle.affine_forms.proofs.Values.{and_parts, subtracted_value, present_value}
 use Rattle.affine_forms.proofs.NormalForm.{normal_law}
 
 lt_is : (a b : ℤ) → int_le (pos 0) ((b -ℤ a) -ℤ pos 1) ≡ int_lt a b
@@ -27,16 +27,19 @@ flag_is (pos (suc n)) h = grind (arith, ints)
 flag_is (negsuc n) h = absurd (omega (arith, ints))
 
 module _ (v : Valuation) where
+  difference_value : (k l : Linear) → value v (difference k l) ≡ value v k -ℤ value v l
+  difference_value k l = omega (arith, ints, subtracted_value v k l, present_value v (subtracted k l).terms)
+
   pub less_met : (a b : Linear) → is_met v (less a b) ≡ int_lt (value v a) (value v b)
   less_met a b =
-      let is : value v (moved (pos 1) (subtracted b a)) ≡ (value v b -ℤ value v a) -ℤ pos 1 = omega (arith, ints, subtracted_value v b a) in
+      let is : value v (moved (pos 1) (difference b a)) ≡ (value v b -ℤ value v a) -ℤ pos 1 = omega (arith, ints, difference_value b a) in
       ap (int_le (pos 0)) is ∙ lt_is (value v a) (value v b)
 
   pub at_most_met : (a b : Linear) → is_met v (at_most a b) ≡ int_le (value v a) (value v b)
-  at_most_met a b = ap (int_le (pos 0)) (subtracted_value v b a) ∙ le_is (value v a) (value v b)
+  at_most_met a b = ap (int_le (pos 0)) (difference_value b a) ∙ le_is (value v a) (value v b)
 
   pub equal_met : (a b : Linear) → is_met v (equal a b) ≡ int_eq (value v a) (value v b)
-  equal_met a b = ap (λ z. int_eq z (pos 0)) (subtracted_value v a b) ∙ eq_is (value v a) (value v b)
+  equal_met a b = ap (λ z. int_eq z (pos 0)) (difference_value a b) ∙ eq_is (value v a) (value v b)
 
 module _ (may : AllowedFlags) (v : Valuation) (at : Reading) (flags : Flags) (scene : Scene) (reads : ReadsFlagsAt may v at flags scene) where
   normal_is : (e : Control) → is_affine may.numbers e ≡ true → value v (normal at e) ≡ number scene e

@@ -1,9 +1,12 @@
-mod Integers
+pub mod Integers
 pub mod TermLists
 pub mod TermWidths
 pub mod Values
+pub mod SameAtoms
+pub mod Distinct
+pub mod RowConstants
 pub mod NormalForm
+pub mod Strides
+pub mod LaterExtents
 pub mod FormulaValues
-pub mod Cases
-pub mod Points
 pub mod FactRules

@@ -59,7 +59,7 @@ module _ (v : Valuation) (g : ℕ) (h : 0 < g) where
 -- ---- expressions
 
 -- what is built of literals alone has no terms
-literal_terms : (at : Reading) (e : Control) → is_literal e ≡ true → (form at e).terms ≡ none
+pub literal_terms : (at : Reading) (e : Control) → is_literal e ≡ true → (form at e).terms ≡ none
 literal_terms at (Lit n) h = refl
 literal_terms at (Var x) h = absurd (true≢false (sym h))
 literal_terms at (Field f) h = absurd (true≢false (sym h))

@@ -104,8 +104,8 @@ within_in bound ws vs ts k w e f h is r = within_at bound ws k w h is (ap (λ xs
 pub fits_within : (z : ℤ) → is_within (2 ^ 126) z ≡ true → FitsSigned w128 z
 fits_within z h = fits_signed_from_abs w128 z (omega (arith, within_le (2 ^ 126) z h))
 
-pub fits_raised : (c z : ℤ) → is_within (2 ^ 126 - 2 ^ 62) c ≡ true → is_within (2 ^ 62) z ≡ true → FitsSigned w128 c × FitsSigned w128 (c +ℤ z)
-fits_raised c z h i = (fits_within c (within_from_le (2 ^ 126) c (omega (arith, within_le (2 ^ 126 - 2 ^ 62) c h))), fits_within (c +ℤ z) (within_sum (2 ^ 126 - 2 ^ 62) (2 ^ 62) (2 ^ 126) c z h i (omega arith)))
+pub fits_raised : (c z : ℤ) → is_within (2 ^ 126 - 2 ^ 64) c ≡ true → is_within (2 ^ 64) z ≡ true → FitsSigned w128 c × FitsSigned w128 (c +ℤ z)
+fits_raised c z h i = (fits_within c (within_from_le (2 ^ 126) c (omega (arith, within_le (2 ^ 126 - 2 ^ 64) c h))), fits_within (c +ℤ z) (within_sum (2 ^ 126 - 2 ^ 64) (2 ^ 64) (2 ^ 126) c z h i (omega arith)))
 
 pub within_times : (z c : ℤ) → is_within (2 ^ 63) z ≡ true → is_within (2 ^ 62) c ≡ true → is_within (2 ^ 126) (z *ℤ c) ≡ true
 within_times z c h i = within_product (2 ^ 63) (2 ^ 62) (2 ^ 126) z c h i (omega arith)
@@ -163,3 +163,19 @@ within_64 z h = within_from_le (2 ^ 63) z (omega (arith, ints, h))
 
 pub fits_64 : (z : ℤ) → FitsSigned w64 z → FitsSigned w128 z
 fits_64 z h = fits_within z (within_from_le (2 ^ 126) z (omega (arith, within_le (2 ^ 63) z (within_64 z h))))
+
+-- ---- products term by term
+
+pub within_scaled : (m n k : ℕ) (z : ℤ) (ts : Terms) → is_within m z ≡ true → are_within n ts ≡ true → m * n ≤ k → are_within k (terms_scaled z ts) ≡ true
+within_scaled m n k z none h i l = refl
+within_scaled m n k z (term c a ts) h i l =
+    let p = and_parts (is_within n c) (are_within n ts) i in
+    ap₂ (λ s t. s && t) (within_product m n k z c h p.0 l) (within_scaled m n k z ts h p.1 l)
+
+within_scaled_at : (bound : ℕ) (z : ℤ) (ws : List Weighed) (k : ℕ) (w : Weighed) → k < length ws → w ≡ get_or ws k w → are_within bound (terms_scaled z (plain_terms ws)) ≡ true → is_within bound (z *ℤ w.coefficient) ≡ true
+within_scaled_at bound z [] k w h is r = absurd (omega arith)
+within_scaled_at bound z (x ∷ ws) zero w h is r = ap (λ v. is_within bound (z *ℤ v.coefficient)) is ∙ (and_parts (is_within bound (z *ℤ x.coefficient)) (are_within bound (terms_scaled z (plain_terms ws))) r).0
+within_scaled_at bound z (x ∷ ws) (suc k) w h is r = within_scaled_at bound z ws k w (omega arith) is (and_parts (is_within bound (z *ℤ x.coefficient)) (are_within bound (terms_scaled z (plain_terms ws))) r).1
+
+pub within_scaled_in : (bound : ℕ) (z : ℤ) (ws vs : List Weighed) (ts : Terms) (k : ℕ) (w : Weighed) → ws ≡ vs → plain_terms vs ≡ ts → k < length ws → w ≡ get_or ws k w → are_within bound (terms_scaled z ts) ≡ true → is_within bound (z *ℤ w.coefficient) ≡ true
+within_scaled_in bound z ws vs ts k w e f h is r = within_scaled_at bound z ws k w h is (ap (λ xs. are_within bound (terms_scaled z (plain_terms xs))) e ∙ ap (λ us. are_within bound (terms_scaled z us)) f ∙ r)

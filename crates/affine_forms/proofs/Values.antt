@@ -44,7 +44,7 @@ same_step_is s t h = let k = and_parts (same_branch s.branch t.branch) (s.index 
     step : Branch → ℕ → Step
     step b i = record { branch = b; index = i }
 
-same_path_is : (p q : Path) → same_path p q ≡ true → p ≡ q
+pub same_path_is : (p q : Path) → same_path p q ≡ true → p ≡ q
 same_path_is [] [] h = refl
 same_path_is [] (t ∷ q) h = absurd (true≢false (sym h))
 same_path_is (s ∷ p) [] h = absurd (true≢false (sym h))
@@ -54,7 +54,7 @@ pub same_path_self : (p : Path) → same_path p p ≡ true
 same_path_self [] = refl
 same_path_self (s ∷ p) = ap₂ (λ a b. a && b) (ap₂ (λ a b. a && b) (same_branch_self s.branch) (eq-eqb s.index s.index refl)) (same_path_self p)
 
-same_kind_is : (a b : Kind) → same_kind a b ≡ true → a ≡ b
+pub same_kind_is : (a b : Kind) → same_kind a b ≡ true → a ≡ b
 same_kind_is Size Size h = refl
 same_kind_is Index Index h = refl
 same_kind_is Truth Truth h = refl

@@ -1,10 +1,10 @@
 -- What is known and what is claimed of control values, as formulas over atoms.
-use Rattle.std.specs.Prelude.{ℕ, ℤ, pos, negsuc, ◌-ℤ◌, Bool, true, ◌&&◌, ◌||◌, int_le, List, [], ◌∷◌, ◌++◌, map}
+use Rattle.std.specs.Prelude.{ℕ, ℤ, pos, negsuc, ◌-ℤ◌, Bool, true, ◌&&◌, ◌||◌, int_le, int_lt, ◌^◌, ◌-◌, List, [], ◌∷◌, ◌++◌, map}
 use Rattle.std.specs.List.{flat_map}
 use Rattle.std.specs.Ordering.{int_eq}
 use Rattle.exo_tree.specs.Tree.{Condition, True, False, Flag, FieldFlag, Lt, Le, Gt, Ge, Eq, And, Or}
 use Rattle.affine_forms.specs.Atoms.{Linear, Valuation, value, Variable, only, constantly, scaled, subtracted}
-use Rattle.affine_forms.specs.Forms.{Reading, normal, Allowed, anything, is_affine, is_writable}
+use Rattle.affine_forms.specs.Forms.{Reading, normal, without_zeros, Allowed, anything, is_affine, is_writable}
 
 pub data Constraint : Type 0 where
   AtLeastZero IsZero : Linear → Constraint
@@ -22,14 +22,18 @@ row l = Says (AtLeastZero l)
 abbrev pub moved : ℤ → Linear → Linear
 moved n l = record l { constant = l.constant -ℤ n }
 
+-- one form less another, without the terms that cancel
+abbrev pub difference : Linear → Linear → Linear
+difference k l = without_zeros (subtracted k l)
+
 abbrev pub less : Linear → Linear → Formula
-less a b = row (moved (pos 1) (subtracted b a))
+less a b = row (moved (pos 1) (difference b a))
 
 abbrev pub at_most : Linear → Linear → Formula
-at_most a b = row (subtracted b a)
+at_most a b = row (difference b a)
 
 abbrev pub equal : Linear → Linear → Formula
-equal a b = Says (IsZero (subtracted a b))
+equal a b = Says (IsZero (difference a b))
 
 -- ---- of conditions
 
@@ -119,6 +123,10 @@ cases_of_all [] = [] ∷ []
 cases_of_all (f ∷ fs) = product (cases f) (cases_of_all fs)
 
 -- ---- widths
+
+-- the constant of a row is at least -2^64 and less than 2^64, so that of its negation is too
+abbrev pub is_row_constant : ℤ → Bool
+is_row_constant k = int_le (negsuc (2 ^ 64 - 1)) k && int_lt k (pos (2 ^ 64))
 
 -- the normal forms of all sides can be written down, and so can what stands for its fields
 abbrev pub is_writable_condition : Reading → (ℕ → Bool) → Condition → Bool

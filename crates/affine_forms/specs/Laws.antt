@@ -1,12 +1,11 @@
--- The laws of normal forms, formulas and systems, each the contract of a function.
-use Rattle.std.specs.Prelude.{◌≡◌, ◌⊎◌, ℕ, true, false, List, [], ◌∷◌, map}
+-- The laws of normal forms and formulas, each the contract of a function.
+use Rattle.std.specs.Prelude.{◌≡◌, ℕ, true, List}
 use Rattle.exo_tree.specs.Tree.{Control, Condition}
 use Rattle.exo_meaning.specs.Scene.{Scene, number, stride_at, is_set, holds}
-use Rattle.affine_forms.specs.Affine.{IsIntegerPoint}
-use Rattle.affine_forms.specs.Atoms.{Valuation, value, atom_value}
+use Rattle.affine_forms.specs.Atoms.{Valuation, value}
 use Rattle.affine_forms.specs.Forms.{Reading, normal, Allowed, is_affine}
-use Rattle.affine_forms.specs.Formulas.{Constraint, Formula, Flags, formula, AllowedFlags, is_affine_condition, is_met, all_met}
-use Rattle.affine_forms.specs.Systems.{made_of, nothing, system, failing_cases, KeepsKinds, IsShown}
+use Rattle.affine_forms.specs.Formulas.{Flags, formula, AllowedFlags, is_affine_condition, is_met}
+use Rattle.affine_forms.specs.Strides.{is_one_open, product_form, all_affine, product_of}
 
 -- the valuation gives each allowed variable its number, and what is read for fields and strides has their numbers
 pub record ReadsAt (may : Allowed) (v : Valuation) (at : Reading) (scene : Scene) : Type 0 where
@@ -28,16 +27,6 @@ pub record ReadsFlagsAt (may : AllowedFlags) (v : Valuation) (at : Reading) (fla
 abbrev pub FormulaLaw : Type 0
 FormulaLaw = (may : AllowedFlags) (v : Valuation) (at : Reading) (flags : Flags) (scene : Scene) (c : Condition) → ReadsFlagsAt may v at flags scene → is_affine_condition may c ≡ true → is_met v (formula at flags c) ≡ holds scene c
 
--- in one of these cases the values of the atoms are a point of the case's system: each variable has the value of its atom,
--- so a quotient's variable has the floor of its form by its literal
-abbrev pub HasPointIn : Valuation → List (List Constraint) → Type 0
-HasPointIn v [] = ⊥
-HasPointIn v (cs ∷ css) = IsIntegerPoint (system cs) (map (atom_value v) (made_of nothing cs).atoms) ⊎ HasPointIn v css
-
--- values of the atoms at which the context is met and the claim is not are a point of one of the claim's systems
-abbrev pub SystemsLaw : Type 0
-SystemsLaw = (v : Valuation) (context : List Formula) (claim : Formula) → KeepsKinds v → all_met v context ≡ true → is_met v claim ≡ false → HasPointIn v (failing_cases context claim)
-
--- where no system of a claim has an integer point, the claim holds at all values of the atoms at which its context does
-abbrev pub ShownLaw : Type 0
-ShownLaw = (v : Valuation) (context : List Formula) (claim : Formula) → KeepsKinds v → IsShown context claim → all_met v context ≡ true → is_met v claim ≡ true
+-- the form of a product of extents has its value
+abbrev pub StrideLaw : Type 0
+StrideLaw = (may : Allowed) (v : Valuation) (at : Reading) (scene : Scene) (extents : List Control) → ReadsAt may v at scene → all_affine may extents ≡ true → is_one_open extents ≡ true → value v (product_form at extents) ≡ product_of scene extents

@@ -13,5 +13,5 @@ pub mod PlainFormulas
 pub mod Facts
 pub mod FactCodes
 pub mod PlainFacts
-pub mod Systems
+pub mod Strides
 pub mod Laws

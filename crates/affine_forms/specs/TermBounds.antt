@@ -1,9 +1,24 @@
 -- The bounds that the sums of the program keep.
-use Rattle.std.specs.Prelude.{ℕ, zero, suc, ℤ, ◌+ℤ◌, ◌^◌, Bool, true, false, ◌&&◌, if◌then◌else◌, Option, Some, None, option_map}
+use Rattle.std.specs.Prelude.{ℕ, zero, suc, ℤ, pos, ◌+ℤ◌, ◌^◌, Bool, true, false, not, ◌&&◌, if◌then◌else◌, Option, Some, None, option_map}
 use Rattle.std.specs.Int.{is_positive}
 use Rattle.std.specs.Ordering.{int_eq}
 use Rattle.affine_forms.specs.Atoms.{Atom, Variable, EntryField, UnknownField, OpaqueStride, Quotient, Terms, none, term, same_atom}
 use Rattle.affine_forms.specs.Forms.{is_within, are_short}
+
+-- no atom of the sum is that one
+abbrev pub is_apart : Atom → Terms → Bool
+is_apart a none = true
+is_apart a (term c b ts) = not (same_atom b a) && is_apart a ts
+
+-- each atom stands once
+abbrev pub are_distinct : Terms → Bool
+are_distinct none = true
+are_distinct (term c a ts) = is_apart a ts && are_distinct ts
+
+-- no coefficient is 0
+abbrev pub are_present : Terms → Bool
+are_present none = true
+are_present (term c a ts) = not (int_eq c (pos 0)) && are_present ts
 
 -- a quotient is that of a normal form by a literal of at least 1
 abbrev pub is_kept_atom : Atom → Bool
@@ -11,7 +26,7 @@ is_kept_atom (Variable x) = true
 is_kept_atom (EntryField f kind) = true
 is_kept_atom (UnknownField f kind path) = true
 is_kept_atom (OpaqueStride x k) = true
-is_kept_atom (Quotient n ts c) = is_positive c && (is_within (2 ^ 64) n && are_short ts)
+is_kept_atom (Quotient n ts c) = is_positive c && (is_within (2 ^ 64) n && (are_short ts && (are_distinct ts && are_present ts)))
 
 abbrev pub are_kept : Terms → Bool
 are_kept none = true

@@ -7,7 +7,7 @@ ghost use Rattle.exo_tree.specs.Tree as tree;
 ghost use Rattle.exo_tree.specs.PlainBinder.{control_kind};
 ghost use Rattle.exo_tree.specs.PlainPlace.{step_taken};
 ghost use Rattle.affine_forms.specs.Atoms.{same_kind, same_step, same_path, same_atom, same_terms, taken, with_term, terms_added, terms_scaled, present, divides, divided, undivided};
-ghost use Rattle.affine_forms.specs.TermBounds.{is_kept_atom, joined_terms, term_if, raised, first_that, is_sought, is_wanted, count, is_none, without_term};
+ghost use Rattle.affine_forms.specs.TermBounds.{is_kept_atom, are_kept, joined_terms, term_if, raised, first_that, is_sought, is_wanted, count, is_none, without_term};
 ghost use Rattle.affine_forms.specs.Forms.{is_within, are_within, is_short, are_short};
 ghost use Rattle.affine_forms.specs.PlainAtoms.{plain_atom, plain_terms};
 
@@ -88,6 +88,25 @@ impl Terms {
         let mut made = Terms::new(alloc);
         made.push(1, atom)?;
         Ok(made)
+    }
+
+    /// An atom with that coefficient.
+    pub fn weighed(alloc: Global, coefficient: i128, atom: Atom) -> Result<Terms, AllocError>
+        requires narrow { IsTrue (is_within (2 ^ 126) coefficient) }
+        requires kept { IsTrue (is_kept_atom (plain_atom atom)) }
+        ensures { IfOk result (λ t. t ≡ plain.term coefficient (plain_atom atom) plain.none) }
+    {
+        let mut made = Terms::new(alloc);
+        made.push(coefficient, atom)?;
+        Ok(made)
+    }
+
+    /// The terms, in their order.
+    pub fn as_slice(&self) -> &[Weighed]
+        ensures terms { plain_terms result.now ≡ self.now }
+        ensures kept { IsTrue (are_kept (plain_terms result.now)) }
+    {
+        &self.items
     }
 
     #[cycle(duplicate)]
@@ -177,8 +196,8 @@ impl Terms {
     /// Adds to the coefficient of that index.
     fn raise(&mut self, k: usize, by: i128)
         requires inside { k < count self.old }
-        requires room { IsTrue (are_within (2 ^ 126 - 2 ^ 62) self.old) }
-        requires narrow { IsTrue (is_within (2 ^ 62) by) }
+        requires room { IsTrue (are_within (2 ^ 126 - 2 ^ 64) self.old) }
+        requires narrow { IsTrue (is_within (2 ^ 64) by) }
         ensures { self.new ≡ raised k by self.old }
     {
         self.items[k].coefficient += by;
@@ -186,8 +205,8 @@ impl Terms {
 
     /// Adds a term: it joins the term of the same atom, or stands at the end.
     pub fn join(&mut self, alloc: Global, coefficient: i128, atom: &Atom) -> Result<(), AllocError>
-        requires room { IsTrue (are_within (2 ^ 126 - 2 ^ 62) self.old) }
-        requires narrow { IsTrue (is_within (2 ^ 62) coefficient) }
+        requires room { IsTrue (are_within (2 ^ 126 - 2 ^ 64) self.old) }
+        requires narrow { IsTrue (is_within (2 ^ 64) coefficient) }
         requires kept { IsTrue (is_kept_atom (plain_atom atom.now)) }
         ensures { OnOk result (self.new ≡ with_term coefficient (plain_atom atom.now) self.old) }
     {
@@ -206,8 +225,8 @@ impl Terms {
 
     /// Adds the terms of another sum, in their order.
     pub fn add(&mut self, alloc: Global, other: &Terms) -> Result<(), AllocError>
-        requires short { IsTrue (are_short self.old) }
-        requires other_short { IsTrue (are_short other.now) }
+        requires narrow { IsTrue (are_within (2 ^ 64) self.old) }
+        requires other_narrow { IsTrue (are_within (2 ^ 64) other.now) }
         ensures { OnOk result (self.new ≡ terms_added self.old other.now) }
     {
         for w in &other.items {
@@ -218,8 +237,7 @@ impl Terms {
 
     /// The sum with each coefficient multiplied.
     pub fn scaled(&self, alloc: Global, by: i128) -> Result<Terms, AllocError>
-        requires short { IsTrue (are_short self.now) }
-        requires narrow { IsTrue (is_within (2 ^ 63) by) }
+        requires { IsTrue (are_within (2 ^ 126) (terms_scaled by self.now)) }
         ensures { IfOk result (λ t. t ≡ terms_scaled by self.now) }
     {
         let mut made = Terms::new(alloc);

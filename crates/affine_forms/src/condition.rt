@@ -10,7 +10,7 @@ ghost use Rattle.affine_forms.specs.PlainFormulas.{FormulaMade};
 
 use crate::error::FormError;
 use crate::formula::Formula;
-use crate::reader::{Reader, normal};
+use crate::reader::{Reader, normal_form};
 use exo_tree::{Cond, Ctrl, FieldId, Id};
 use std::alloc::Global;
 
@@ -37,8 +37,8 @@ fn less<R: Reader>(alloc: Global, reader: &R, a: &Ctrl, b: &Ctrl) -> Result<Form
     requires { IsTrue (keeps_rules (control a.now) && keeps_rules (control b.now)) }
     ensures { FormulaMade result (is_writable (R.reading reader.now) (control a.now) && is_writable (R.reading reader.now) (control b.now)) (less (forms.normal (R.reading reader.now) (control a.now)) (forms.normal (R.reading reader.now) (control b.now))) }
 {
-    let left = normal(alloc, reader, a)?;
-    let right = normal(alloc, reader, b)?;
+    let left = normal_form(alloc, reader, a)?;
+    let right = normal_form(alloc, reader, b)?;
     let f = Formula::less(alloc, &left, &right)?;
     Ok(f)
 }
@@ -48,8 +48,8 @@ fn greater<R: Reader>(alloc: Global, reader: &R, a: &Ctrl, b: &Ctrl) -> Result<F
     requires { IsTrue (keeps_rules (control a.now) && keeps_rules (control b.now)) }
     ensures { FormulaMade result (is_writable (R.reading reader.now) (control a.now) && is_writable (R.reading reader.now) (control b.now)) (less (forms.normal (R.reading reader.now) (control b.now)) (forms.normal (R.reading reader.now) (control a.now))) }
 {
-    let left = normal(alloc, reader, a)?;
-    let right = normal(alloc, reader, b)?;
+    let left = normal_form(alloc, reader, a)?;
+    let right = normal_form(alloc, reader, b)?;
     let f = Formula::less(alloc, &right, &left)?;
     Ok(f)
 }
@@ -59,8 +59,8 @@ fn at_most<R: Reader>(alloc: Global, reader: &R, a: &Ctrl, b: &Ctrl) -> Result<F
     requires { IsTrue (keeps_rules (control a.now) && keeps_rules (control b.now)) }
     ensures { FormulaMade result (is_writable (R.reading reader.now) (control a.now) && is_writable (R.reading reader.now) (control b.now)) (at_most (forms.normal (R.reading reader.now) (control a.now)) (forms.normal (R.reading reader.now) (control b.now))) }
 {
-    let left = normal(alloc, reader, a)?;
-    let right = normal(alloc, reader, b)?;
+    let left = normal_form(alloc, reader, a)?;
+    let right = normal_form(alloc, reader, b)?;
     let f = Formula::at_most(alloc, &left, &right)?;
     Ok(f)
 }
@@ -70,8 +70,8 @@ fn at_least<R: Reader>(alloc: Global, reader: &R, a: &Ctrl, b: &Ctrl) -> Result<
     requires { IsTrue (keeps_rules (control a.now) && keeps_rules (control b.now)) }
     ensures { FormulaMade result (is_writable (R.reading reader.now) (control a.now) && is_writable (R.reading reader.now) (control b.now)) (at_most (forms.normal (R.reading reader.now) (control b.now)) (forms.normal (R.reading reader.now) (control a.now))) }
 {
-    let left = normal(alloc, reader, a)?;
-    let right = normal(alloc, reader, b)?;
+    let left = normal_form(alloc, reader, a)?;
+    let right = normal_form(alloc, reader, b)?;
     let f = Formula::at_most(alloc, &right, &left)?;
     Ok(f)
 }
@@ -81,8 +81,8 @@ fn equal<R: Reader>(alloc: Global, reader: &R, a: &Ctrl, b: &Ctrl) -> Result<For
     requires { IsTrue (keeps_rules (control a.now) && keeps_rules (control b.now)) }
     ensures { FormulaMade result (is_writable (R.reading reader.now) (control a.now) && is_writable (R.reading reader.now) (control b.now)) (equal (forms.normal (R.reading reader.now) (control a.now)) (forms.normal (R.reading reader.now) (control b.now))) }
 {
-    let left = normal(alloc, reader, a)?;
-    let right = normal(alloc, reader, b)?;
+    let left = normal_form(alloc, reader, a)?;
+    let right = normal_form(alloc, reader, b)?;
     let f = Formula::equal(alloc, &left, &right)?;
     Ok(f)
 }

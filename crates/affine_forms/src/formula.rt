@@ -2,14 +2,14 @@
 ghost use Rattle.std.specs.Prelude.{◌≡◌, IfOk, IsTrue, pos, negsuc};
 ghost use Rattle.affine_forms.specs.Atoms.{constantly, only};
 ghost use Rattle.affine_forms.specs.Formulas as plain;
-ghost use Rattle.affine_forms.specs.Formulas.{row, less, at_most, equal, moved};
+ghost use Rattle.affine_forms.specs.Formulas.{row, less, at_most, equal, moved, negation};
 ghost use Rattle.affine_forms.specs.TermBounds.{is_kept_atom};
 ghost use Rattle.affine_forms.specs.PlainAtoms.{plain_atom};
 ghost use Rattle.affine_forms.specs.PlainFormulas.{plain_formula};
 
 use crate::atom::Atom;
 use crate::linear::Linear;
-use crate::sum::Sum;
+use crate::sum::{Equation, Sum};
 use std::alloc::{AllocError, Global};
 
 /// What holds of atoms.
@@ -18,20 +18,22 @@ pub enum Formula {
     /// A row: the sum is at least 0.
     AtLeastZero(Sum),
     /// An equation: the sum is 0.
-    IsZero(Sum),
+    IsZero(Equation),
+    /// Both hold.
     Both(Box<Formula>, Box<Formula>),
+    /// One of them holds.
     Either(Box<Formula>, Box<Formula>),
 }
 
 impl Formula {
-    /// What always holds: the row 0.
+    /// What always holds: the constant row 0.
     pub fn always(alloc: Global) -> Formula
         ensures { plain_formula result ≡ row (constantly (pos 0)) }
     {
         Formula::AtLeastZero(Sum::number(alloc, 0))
     }
 
-    /// What never holds: the row -1.
+    /// What never holds: the constant row -1.
     pub fn never(alloc: Global) -> Formula
         ensures { plain_formula result ≡ row (constantly (negsuc 0)) }
     {
@@ -64,7 +66,7 @@ impl Formula {
     pub fn equal(alloc: Global, a: &Linear, b: &Linear) -> Result<Formula, AllocError>
         ensures { IfOk result (λ f. plain_formula f ≡ equal a.now b.now) }
     {
-        Ok(Formula::IsZero(Sum::difference(alloc, a, b)?))
+        Ok(Formula::IsZero(Equation::difference(alloc, a, b)?))
     }
 
     /// Both formulas hold.
@@ -81,5 +83,30 @@ impl Formula {
     {
         let left = Box::new(alloc, f)?;
         Ok(Formula::Either(left, Box::new(alloc, g)?))
+    }
+
+    /// The formula that holds where this one does not: a row's opposite less 1, for an equation less or greater,
+    /// and `either` and `both` exchanged.
+    pub fn negated(&self, alloc: Global) -> Result<Formula, AllocError>
+        ensures { IfOk result (λ f. plain_formula f ≡ negation (plain_formula self.now)) }
+    {
+        match self {
+            Formula::AtLeastZero(sum) => Ok(Formula::AtLeastZero(sum.denied(alloc)?)),
+            Formula::IsZero(sum) => {
+                let below = Formula::AtLeastZero(sum.below(alloc)?);
+                let above = Formula::AtLeastZero(sum.above(alloc)?);
+                Formula::either(alloc, below, above)
+            }
+            Formula::Both(f, g) => {
+                let left = f.negated(alloc)?;
+                let right = g.negated(alloc)?;
+                Formula::either(alloc, left, right)
+            }
+            Formula::Either(f, g) => {
+                let left = f.negated(alloc)?;
+                let right = g.negated(alloc)?;
+                Formula::both(alloc, left, right)
+            }
+        }
     }
 }

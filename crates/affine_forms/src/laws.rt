@@ -1,5 +1,5 @@
-//! The laws of affine forms, formulas and systems, each the contract of a function that does nothing.
-ghost use Rattle.affine_forms.specs.Laws.{FormulaLaw, NormalLaw, ShownLaw, SystemsLaw};
+//! The laws of affine forms and formulas, each the contract of a function that does nothing.
+ghost use Rattle.affine_forms.specs.Laws.{FormulaLaw, NormalLaw, StrideLaw};
 
 /// The normal form of a control expression has its value, wherever what is read for its variables, fields and strides has theirs.
 pub fn normal_is_exact()
@@ -11,12 +11,7 @@ pub fn formulas_are_exact()
     ensures { FormulaLaw }
 {}
 
-/// Values at which a context is met and a claim fails are a point of one of the claim's systems.
-pub fn failed_claims_have_points()
-    ensures { SystemsLaw }
-{}
-
-/// A claim without integer points in its systems holds wherever its context does.
-pub fn shown_claims_hold()
-    ensures { ShownLaw }
+/// The form of a product of extents, of which at most one is no literal, has its value.
+pub fn strides_are_exact()
+    ensures { StrideLaw }
 {}

@@ -13,7 +13,7 @@ use crate::condition::{FlagReader, formula_of};
 use crate::error::FormError;
 use crate::facts::{Fact, Facts};
 use crate::formula::Formula;
-use crate::linear::Linear;
+use crate::linear::Draft;
 use crate::reader::{Reader, form};
 use exo_tree::{Arg, FieldId, Fields, Id, Kind};
 use std::alloc::Global;
@@ -37,18 +37,18 @@ pub struct AtEntry<'a> {
 impl Reader for AtEntry<'_> {
     ghost reading = { λ r. entry_reading r.fields.now };
 
-    fn variable(&self, alloc: Global, x: Id) -> Result<Linear, FormError> {
-        let l = Linear::only(alloc, Atom::Variable(x))?;
+    fn variable(&self, alloc: Global, x: Id) -> Result<Draft, FormError> {
+        let l = Draft::only(alloc, Atom::Variable(x))?;
         Ok(l)
     }
 
-    fn field(&self, alloc: Global, f: FieldId) -> Result<Linear, FormError> {
-        let l = Linear::only(alloc, Atom::EntryField(f, kind_of(self.fields, f)))?;
+    fn field(&self, alloc: Global, f: FieldId) -> Result<Draft, FormError> {
+        let l = Draft::only(alloc, Atom::EntryField(f, kind_of(self.fields, f)))?;
         Ok(l)
     }
 
-    fn stride(&self, alloc: Global, x: Id, k: u32) -> Result<Linear, FormError> {
-        let l = Linear::only(alloc, Atom::OpaqueStride(x, k))?;
+    fn stride(&self, alloc: Global, x: Id, k: u32) -> Result<Draft, FormError> {
+        let l = Draft::only(alloc, Atom::OpaqueStride(x, k))?;
         Ok(l)
     }
 }
@@ -61,34 +61,34 @@ pub struct AtPlace<'a> {
 }
 
 /// The form of a known value.
-fn known(alloc: Global, fields: &Fields, f: FieldId, value: &Arg) -> Result<Linear, FormError>
+fn known(alloc: Global, fields: &Fields, f: FieldId, value: &Arg) -> Result<Draft, FormError>
     requires { IsTrue (fact_keeps_rules (plain.Known (argument value.now))) }
     ensures { Formed result (field_fits fields.now (Some (plain.Known (argument value.now))) && is_short_form (field_form fields.now f.0 (Some (plain.Known (argument value.now))))) (field_form fields.now f.0 (Some (plain.Known (argument value.now)))) }
 {
     match value {
         Arg::Ctrl(e) => form(alloc, &AtEntry { fields }, e),
-        Arg::Cond(_) => Linear::constantly(alloc, 0),
-        Arg::Whole(_) => Linear::constantly(alloc, 0),
-        Arg::Window(_, _) => Linear::constantly(alloc, 0),
+        Arg::Cond(_) => Draft::constantly(alloc, 0),
+        Arg::Whole(_) => Draft::constantly(alloc, 0),
+        Arg::Window(_, _) => Draft::constantly(alloc, 0),
     }
 }
 
 impl Reader for AtPlace<'_> {
     ghost reading = { λ r. place_reading r.fields.now r.facts.now };
 
-    fn variable(&self, alloc: Global, x: Id) -> Result<Linear, FormError> {
-        let l = Linear::only(alloc, Atom::Variable(x))?;
+    fn variable(&self, alloc: Global, x: Id) -> Result<Draft, FormError> {
+        let l = Draft::only(alloc, Atom::Variable(x))?;
         Ok(l)
     }
 
-    fn field(&self, alloc: Global, f: FieldId) -> Result<Linear, FormError> {
+    fn field(&self, alloc: Global, f: FieldId) -> Result<Draft, FormError> {
         match self.facts.get(f) {
             None => {
-                let l = Linear::only(alloc, Atom::EntryField(f, kind_of(self.fields, f)))?;
+                let l = Draft::only(alloc, Atom::EntryField(f, kind_of(self.fields, f)))?;
                 Ok(l)
             }
             Some(Fact::Unknown(path)) => {
-                let l = Linear::only(
+                let l = Draft::only(
                     alloc,
                     Atom::UnknownField(f, kind_of(self.fields, f), path.duplicate()),
                 )?;
@@ -98,8 +98,8 @@ impl Reader for AtPlace<'_> {
         }
     }
 
-    fn stride(&self, alloc: Global, x: Id, k: u32) -> Result<Linear, FormError> {
-        let l = Linear::only(alloc, Atom::OpaqueStride(x, k))?;
+    fn stride(&self, alloc: Global, x: Id, k: u32) -> Result<Draft, FormError> {
+        let l = Draft::only(alloc, Atom::OpaqueStride(x, k))?;
         Ok(l)
     }
 }

@@ -8,7 +8,7 @@ ghost use Rattle.affine_forms.specs.Outcomes.{Formed};
 ghost use Rattle.exo_tree.specs.PlainControl.{control};
 
 use crate::error::FormError;
-use crate::linear::Linear;
+use crate::linear::{Draft, Linear};
 use exo_tree::{Ctrl, FieldId, Id};
 use std::alloc::Global;
 
@@ -19,15 +19,15 @@ pub trait Reader {
     ghost reading: { Self → Reading };
 
     /// The form of a variable.
-    fn variable(&self, alloc: Global, x: Id) -> Result<Linear, FormError>
+    fn variable(&self, alloc: Global, x: Id) -> Result<Draft, FormError>
         ensures { Formed result (is_short_form ((reading self.now).variable x.0)) ((reading self.now).variable x.0) };
 
     /// The form of a configuration field.
-    fn field(&self, alloc: Global, f: FieldId) -> Result<Linear, FormError>
+    fn field(&self, alloc: Global, f: FieldId) -> Result<Draft, FormError>
         ensures { Formed result ((reading self.now).field_fits f.0 && is_short_form ((reading self.now).field f.0)) ((reading self.now).field f.0) };
 
     /// The form of the stride of a buffer's dimension.
-    fn stride(&self, alloc: Global, x: Id, k: u32) -> Result<Linear, FormError>
+    fn stride(&self, alloc: Global, x: Id, k: u32) -> Result<Draft, FormError>
         ensures { Formed result ((reading self.now).stride_fits x.0 k && is_short_form ((reading self.now).stride x.0 k)) ((reading self.now).stride x.0 k) };
 }
 
@@ -50,7 +50,7 @@ fn is_literal(e: &Ctrl) -> bool
 }
 
 /// The product of two forms, by the constant of the side that is built of literals.
-fn times(alloc: Global, by_left: bool, left: &Linear, right: &Linear) -> Result<Linear, FormError>
+pub fn times(alloc: Global, by_left: bool, left: &Draft, right: &Draft) -> Result<Draft, FormError>
     ensures { Formed result (is_short_form (forms.times by_left left.now right.now)) (forms.times by_left left.now right.now) }
 {
     if by_left {
@@ -61,7 +61,7 @@ fn times(alloc: Global, by_left: bool, left: &Linear, right: &Linear) -> Result<
 }
 
 /// What is left of a form by a literal: the form less the literal times their quotient.
-fn remainder(alloc: Global, l: Linear, by: i64) -> Result<Linear, FormError>
+fn remainder(alloc: Global, l: Draft, by: i64) -> Result<Draft, FormError>
     requires { IsTrue (is_positive by) }
     ensures { Formed result ((is_short_form (quotient l by) && is_short_form (scaled by (quotient l by))) && is_short_form (subtracted l (scaled by (quotient l by)))) (subtracted l (scaled by (quotient l by))) }
 {
@@ -70,12 +70,12 @@ fn remainder(alloc: Global, l: Linear, by: i64) -> Result<Linear, FormError>
 }
 
 /// The form of an expression, in which the terms that cancelled keep their places.
-pub fn form<R: Reader>(alloc: Global, reader: &R, e: &Ctrl) -> Result<Linear, FormError>
+pub fn form<R: Reader>(alloc: Global, reader: &R, e: &Ctrl) -> Result<Draft, FormError>
     requires { IsTrue (keeps_rules (control e.now)) }
     ensures { Formed result (is_writable (R.reading reader.now) (control e.now)) (form (R.reading reader.now) (control e.now)) }
 {
     match e {
-        Ctrl::Lit(n) => Linear::constantly(alloc, *n as i128),
+        Ctrl::Lit(n) => Draft::constantly(alloc, *n as i128),
         Ctrl::Var(x) => reader.variable(alloc, *x),
         Ctrl::Field(f) => reader.field(alloc, *f),
         Ctrl::Stride(x, k) => reader.stride(alloc, *x, *k),
@@ -110,8 +110,9 @@ pub fn form<R: Reader>(alloc: Global, reader: &R, e: &Ctrl) -> Result<Linear, Fo
     }
 }
 
-/// The normal form of an expression: a constant and weighed atoms, in order of first appearance.
-pub fn normal<R: Reader>(alloc: Global, reader: &R, e: &Ctrl) -> Result<Linear, FormError>
+/// The normal form of an expression: a constant and weighed atoms, in order of first appearance,
+/// each once and with a coefficient other than 0.
+pub fn normal_form<R: Reader>(alloc: Global, reader: &R, e: &Ctrl) -> Result<Linear, FormError>
     requires { IsTrue (keeps_rules (control e.now)) }
     ensures { Formed result (is_writable (R.reading reader.now) (control e.now)) (normal (R.reading reader.now) (control e.now)) }
 {

@@ -11,11 +11,12 @@ use Rattle.exo_lexer.specs.declared.token.Sign.TheVariants as sign
 use Rattle.exo_lexer.specs.declared.token.Token.TheVariants as token
 use Rattle.exo_reader.specs.declared.source.Operator.{Operator}
 use Rattle.exo_reader.specs.declared.source.Operator.TheVariants as op
-use Rattle.exo_reader.specs.Expression.{Tree, number, variable, access, negative, parens, binary, spelling}
+use Rattle.exo_lexer.specs.declared.token.Literal.TheVariants.{Value, TooLarge}
+use Rattle.exo_reader.specs.Expression.{Tree, number, truth, variable, access, field, stride, relu, select, negative, parens, binary, Trees, end, next, spelling}
 use Rattle.exo_reader.specs.Expression as expression
 use Rattle.exo_reader.specs.Procedure.{SourceStatement, pass, assign, SourceParameter, SourceParameters, none, some, SourceProcedure, statement, parameter, spelling_parameters, procedure}
 use Rattle.exo_reader.specs.Reserved.{is_reserved}
-use Rattle.exo_reader.specs.FirstForm.{both, literal_of, cell_in, cell_at, index_of, read_of, joined, first_datum, assign_of, first_statement, first_body, is_plain, is_free, tensor, is_first_param, first_param, first_params, is_named, are_different, list_of, is_first, dram, first_procedure}
+use Rattle.exo_reader.specs.FirstForm.{both, literal_of, cell_in, cell_at, cell_of, index_of, read_of, joined, first_datum, assign_of, first_statement, first_body, is_plain, is_free, tensor, is_first_param, first_param, first_params, is_named, are_different, list_of, is_first, dram, first_procedure}
 use Rattle.exo_reader.specs.FirstText.{HasFirst}
 use Rattle.c_printer.specs.CTree.{Name}
 use Rattle.c_printer.specs.Machine.{same_name}
@@ -83,9 +84,15 @@ at_least_one : (n : ℕ) → nat_lt 0 n ≡ true → int_le (pos 1) (pos n) ≡ 
 at_least_one n h = grind (arith, ints)
 
 literal_small : (t : Tree) → are_small (spelling t) ≡ true → nat_lt (literal_of t) 0x80000000 ≡ true
-literal_small (number n) h = (and_parts (nat_lt n 0x80000000) true h).0
+literal_small (number (Value n)) h = (and_parts (nat_lt n 0x80000000) true h).0
+literal_small (number TooLarge) h = refl
+literal_small (truth b) h = refl
 literal_small (variable x) h = refl
-literal_small (access x index) h = refl
+literal_small (access x indices) h = refl
+literal_small (field x f) h = refl
+literal_small (stride x n) h = refl
+literal_small (relu t) h = refl
+literal_small (select a b c d) h = refl
 literal_small (negative t) h = refl
 literal_small (parens t) h = refl
 literal_small (binary operator l r) h = refl
@@ -200,16 +207,28 @@ cell_there id (p ∷ more) qs x k n e found =
 
 module _ (params : List SourceParameter) (qs : List Param) (all : first_params 0 params ≡ Some qs) where
   access_first : (x : List ℕ) (t : Tree) (c : ℕ × ℕ) → cell_at params x t ≡ Some c → is_first_access qs c.0 (index_of c.1) ≡ true
-  access_first x (number k) c e = go (cell_in 0 params x k) refl e
+  access_first x (number TooLarge) c e = absurd (nothing_there e)
+  access_first x (number (Value k)) c e = go (cell_in 0 params x k) refl e
     where
       go : (o : Option ℕ) → cell_in 0 params x k ≡ o → option_map (λ id. (id, k)) o ≡ Some c → has_cell qs c.0 (pos c.1) ≡ true
       go None h e = absurd (nothing_there e)
       go (Some n) h e = subst (λ (d : ℕ × ℕ). has_cell qs d.0 (pos d.1) ≡ true) (some_is e) (cell_there 0 params qs x k n all h)
+  access_first x (truth b) c e = absurd (nothing_there e)
   access_first x (variable y) c e = absurd (nothing_there e)
-  access_first x (access y index) c e = absurd (nothing_there e)
+  access_first x (access y indices) c e = absurd (nothing_there e)
+  access_first x (field y f) c e = absurd (nothing_there e)
+  access_first x (stride y n) c e = absurd (nothing_there e)
+  access_first x (relu t) c e = absurd (nothing_there e)
+  access_first x (select a b g d) c e = absurd (nothing_there e)
   access_first x (negative t) c e = absurd (nothing_there e)
   access_first x (parens t) c e = absurd (nothing_there e)
   access_first x (binary operator l r) c e = absurd (nothing_there e)
+
+  -- an access with one index
+  indexed_first : (x : List ℕ) (indices : Trees) (c : ℕ × ℕ) → cell_of params x indices ≡ Some c → is_first_access qs c.0 (index_of c.1) ≡ true
+  indexed_first x end c e = absurd (nothing_there e)
+  indexed_first x (next index end) c e = access_first x index c e
+  indexed_first x (next index (next other more)) c e = absurd (nothing_there e)
 
   -- ---- what is stored
 
@@ -238,9 +257,15 @@ module _ (params : List SourceParameter) (qs : List Param) (all : first_params 0
   joined_first other o r d left right e = absurd (nothing_there e)
 
   datum_first : (t : Tree) (d : Datum) → are_small (spelling t) ≡ true → first_datum params t ≡ Some d → is_first_datum qs d ≡ true
-  datum_first (number n) d small e = subst (λ a. is_first_datum qs a ≡ true) (some_is e) (literal_first n (and_parts (nat_lt n 0x80000000) true small).0)
+  datum_first (number TooLarge) d small e = absurd (nothing_there e)
+  datum_first (truth b) d small e = absurd (nothing_there e)
+  datum_first (field x f) d small e = absurd (nothing_there e)
+  datum_first (stride x n) d small e = absurd (nothing_there e)
+  datum_first (relu t) d small e = absurd (nothing_there e)
+  datum_first (select a b g h) d small e = absurd (nothing_there e)
+  datum_first (number (Value n)) d small e = subst (λ a. is_first_datum qs a ≡ true) (some_is e) (literal_first n (and_parts (nat_lt n 0x80000000) true small).0)
   datum_first (variable x) d small e = absurd (nothing_there e)
-  datum_first (access x index) d small e = read_first (cell_at params x index) d (λ c h. access_first x index c h) e
+  datum_first (access x indices) d small e = read_first (cell_of params x indices) d (λ c h. indexed_first x indices c h) e
   datum_first (negative t) d small e = negated_first (first_datum params t) d (λ a h. datum_first t a small h) e
   datum_first (parens t) d small e = datum_first t d (small_front (spelling t) (token.Sign sign.Close ∷ []) small) e
   datum_first (binary which l r) d small e =

@@ -1,4 +1,3 @@
-pub mod Token
 pub mod Bytes
 pub mod Quoted
 pub mod Piece

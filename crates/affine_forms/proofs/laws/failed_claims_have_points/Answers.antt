@@ -1,5 +1,0 @@
-use Rattle.affine_forms.proofs.Points.{systems_law}
-use Rattle.affine_forms.proofs.laws.failed_claims_have_points.Goals as goal
-
-pub returns : goal.returns
-returns c = systems_law

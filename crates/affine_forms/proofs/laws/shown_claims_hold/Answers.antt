@@ -1,5 +1,0 @@
-use Rattle.affine_forms.proofs.Points.{shown_law}
-use Rattle.affine_forms.proofs.laws.shown_claims_hold.Goals as goal
-
-pub returns : goal.returns
-returns c = shown_law

@@ -1,0 +1,6 @@
+pub mod Systems
+pub mod Laws
+pub mod FormulaCodes
+pub mod PlainCases
+pub mod PlainMade
+pub mod Outcomes

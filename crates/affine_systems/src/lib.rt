@@ -1,0 +1,13 @@
+//! The systems of linear constraints that say whether a claim about control values holds.
+#![tactic(auto)]
+
+mod case;
+mod context;
+mod gathering;
+pub mod laws;
+mod numbering;
+mod obligation;
+mod own;
+
+pub use context::Context;
+pub use obligation::{Obligation, systems};

@@ -1,0 +1,13 @@
+//! Tables of expressions and claims with their forms and systems, worked out by hand.
+#![tactic(auto)]
+
+#[cfg(test)]
+mod limits;
+#[cfg(test)]
+mod rules;
+#[cfg(test)]
+mod shown;
+#[cfg(test)]
+mod systems;
+#[cfg(test)]
+mod trees;

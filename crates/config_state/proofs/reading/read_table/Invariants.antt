@@ -1,0 +1,7 @@
+use Rattle.std.proofs.Common.{drop, length, map}
+use Rattle.exo_tree.specs.PlainProcedure.{procedure}
+use Rattle.config_state.proofs.Tables.{ReadSoFar}
+use Rattle.config_state.proofs.reading.read_table.Given as goal
+
+abbrev pub invariant-loop-p : goal.invariant-loop-p
+invariant-loop-p l = ReadSoFar (length l.unit.fields) l.table (map procedure (drop l.p-index l.p-items)) l.unit.procs

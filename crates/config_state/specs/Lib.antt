@@ -1,0 +1,3 @@
+pub mod FieldSets
+pub mod Reads
+pub mod Pieces

@@ -1,0 +1,38 @@
+-- What several marks say together.
+use Rattle.std.proofs.Common.{◌≡◌, ℕ, ◌||◌, Bool, true, false, refl, ap, sym, ◌∙◌}
+use Rattle.std.proofs.Math.Bool.{or_assoc}
+use Rattle.exo_tree.specs.Tree.{Datum, Plus, Select}
+use Rattle.exo_context.specs.Touched.{Mode, Reading, Writing, Reducing, Modes, picked, no_modes, reads_from}
+use Rattle.exo_modes.specs.Marks.{together, reads}
+
+pub same_modes : (f g : Modes) → ((m : Mode) (y : ℕ) → f m y ≡ g m y) → f ≡ g
+same_modes f g h = λ i m y. h m y i
+
+pub or_false : (a : Bool) → (a || false) ≡ a
+or_false true = refl
+or_false false = refl
+
+pub nothing_more : (f : Modes) → together f no_modes ≡ f
+nothing_more f = same_modes _ _ (λ m y. or_false (f m y))
+
+-- one more mark after o and a
+pub more : (o a b p t : Modes) → p ≡ together o a → t ≡ together p b → t ≡ together o (together a b)
+more o a b p t h i = i ∙ ap (λ f. together f b) h ∙ same_modes _ _ (λ m y. or_assoc (o m y) (a m y) (b m y))
+
+-- what two expressions read
+reads_at : (m : Mode) (r s : Bool) → (picked m r false false || picked m s false false) ≡ picked m (r || s) false false
+reads_at Reading r s = refl
+reads_at Writing r s = refl
+reads_at Reducing r s = refl
+
+reads_two : (root : ℕ → ℕ) (a b e : Datum) → ((y : ℕ) → reads_from root e y ≡ (reads_from root a y || reads_from root b y)) → together (reads root a) (reads root b) ≡ reads root e
+reads_two root a b e h = same_modes _ _ (λ m y. reads_at m (reads_from root a y) (reads_from root b y) ∙ ap (λ t. picked m t false false) (sym (h y)))
+
+pub read_both : (root : ℕ → ℕ) (a b e : Datum) (o p t : Modes) → ((y : ℕ) → reads_from root e y ≡ (reads_from root a y || reads_from root b y)) → p ≡ together o (reads root a) → t ≡ together p (reads root b) → t ≡ together o (reads root e)
+read_both root a b e o p t h i j = more o (reads root a) (reads root b) p t i j ∙ ap (together o) (reads_two root a b e h)
+
+pub read_all : (root : ℕ → ℕ) (a b c d : Datum) (o p q r t : Modes) → p ≡ together o (reads root a) → q ≡ together p (reads root b) → r ≡ together q (reads root c) → t ≡ together r (reads root d) → t ≡ together o (reads root (Select a b c d))
+read_all root a b c d o p q r t i j k l =
+    let last = read_both root c d (Plus c d) q r t (λ y. refl) k l in
+    let three = read_both root b (Plus c d) (Plus b (Plus c d)) p q t (λ y. refl) j last in
+    read_both root a (Plus b (Plus c d)) (Select a b c d) o p t (λ y. refl) i three

@@ -1,0 +1,13 @@
+//! Which parameters a procedure reads, writes or reduces: directly, through a view, or through a call.
+#![tactic(auto)]
+
+mod aliases;
+mod mode;
+mod row;
+mod table;
+#[cfg(test)]
+mod tests;
+mod walk;
+
+pub use mode::Modes;
+pub use table::{ModeTable, modes};

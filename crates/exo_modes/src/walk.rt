@@ -1,0 +1,184 @@
+//! A walk through the body of a procedure.
+ghost use Rattle.std.specs.Prelude.{◌≡◌, ◌&&◌, map, take, length, OnOk, IfOk};
+ghost use Rattle.exo_tree.specs.Tree.{block};
+ghost use Rattle.exo_tree.specs.PlainDatum.{datum};
+ghost use Rattle.exo_tree.specs.PlainParam.{parameter};
+ghost use Rattle.exo_tree.specs.PlainArgument.{argument};
+ghost use Rattle.exo_tree.specs.PlainStatement.{statement};
+ghost use Rattle.exo_tree.specs.PlainUnit.{program};
+ghost use Rattle.exo_meaning.specs.Run.{roots_after, is_root};
+ghost use Rattle.exo_modes.specs.Marks.{together, reads, argument_marks, call_marks, block_marks, step_marks};
+ghost use Rattle.exo_modes.specs.Seen.{row_says, rows_say, roots_in};
+
+use crate::aliases::{Alias, root, set_root};
+use crate::mode::Modes;
+use crate::row::Row;
+use exo_tree::{Arg, Args, Block, DataExpr, Param, Proc, ProcId, Stmt, Unit};
+use std::alloc::{AllocError, Global};
+
+/// The procedures that may be called: the first of the unit, with what they touch.
+#[derive(Clone, Copy)]
+pub(crate) struct Above<'a> {
+    pub(crate) unit: &'a Unit,
+    pub(crate) rows: &'a [Row],
+}
+
+/// Marks what an expression reads.
+fn mark_reads(row: &mut Row, aliases: &[Alias], e: &DataExpr) -> Result<(), AllocError>
+    ensures { OnOk result (row_says row.new ≡ together (row_says row.old) (reads (roots_in aliases.now) (datum e.now))) }
+{
+    match e {
+        DataExpr::Lit(_) => Ok(()),
+        DataExpr::Read(x, _) => row.insert(root(aliases, *x), Modes::READ),
+        DataExpr::Neg(a) => mark_reads(row, aliases, a),
+        DataExpr::Relu(a) => mark_reads(row, aliases, a),
+        DataExpr::Add(a, b) => {
+            mark_reads(row, aliases, a)?;
+            mark_reads(row, aliases, b)?;
+            Ok(())
+        }
+        DataExpr::Sub(a, b) => {
+            mark_reads(row, aliases, a)?;
+            mark_reads(row, aliases, b)?;
+            Ok(())
+        }
+        DataExpr::Mul(a, b) => {
+            mark_reads(row, aliases, a)?;
+            mark_reads(row, aliases, b)?;
+            Ok(())
+        }
+        DataExpr::Select(a, b, c, d) => {
+            mark_reads(row, aliases, a)?;
+            mark_reads(row, aliases, b)?;
+            mark_reads(row, aliases, c)?;
+            mark_reads(row, aliases, d)?;
+            Ok(())
+        }
+    }
+}
+
+/// Marks what an argument touches, by what the callee does with its parameter.
+fn mark_argument(
+    row: &mut Row,
+    aliases: &[Alias],
+    callee: &Row,
+    p: &Param,
+    a: &Arg,
+) -> Result<(), AllocError>
+    ensures { OnOk result (row_says row.new ≡ together (row_says row.old) (λ m y. row_says callee.now m p.now.binder.id.0 && is_root (roots_in aliases.now) y (argument a.now))) }
+{
+    match a {
+        Arg::Whole(x) => row.insert(root(aliases, *x), callee.get(p.binder.id)),
+        Arg::Window(x, _) => row.insert(root(aliases, *x), callee.get(p.binder.id)),
+        _ => Ok(()),
+    }
+}
+
+/// Marks what the arguments of a call touch.
+fn mark_arguments(
+    row: &mut Row,
+    aliases: &[Alias],
+    callee: &Row,
+    params: &[Param],
+    args: &[Arg],
+) -> Result<(), AllocError>
+    ensures { OnOk result (row_says row.new ≡ together (row_says row.old) (argument_marks (row_says callee.now) (roots_in aliases.now) (map parameter params.now) (map argument args.now))) }
+{
+    for k in 0..params.len().min(args.len()) {
+        mark_argument(row, aliases, callee, &params[k], &args[k])?;
+    }
+    Ok(())
+}
+
+/// Marks what a call touches.
+fn mark_call(
+    above: &Above,
+    row: &mut Row,
+    aliases: &[Alias],
+    k: ProcId,
+    args: &Args,
+) -> Result<(), AllocError>
+    ensures { OnOk result (row_says row.new ≡ together (row_says row.old) (call_marks (program above.now.unit.now) (rows_say above.now.rows.now) (length above.now.rows.now) (roots_in aliases.now) k.0 args.now)) }
+{
+    let index = k.0 as usize;
+    if above.rows.len() <= index {
+        return Ok(());
+    }
+    if let Some(p) = above.unit.procs.get(index) {
+        let callee = &above.rows[index];
+        mark_arguments(row, aliases, callee, p.params.as_slice(), args.as_slice())?;
+    }
+    Ok(())
+}
+
+/// Marks what a statement touches, and adds the name that it binds.
+#[cycle(walk)]
+fn walk_statement(
+    above: &Above,
+    row: &mut Row,
+    aliases: &mut Vec<Alias>,
+    s: &Stmt,
+) -> Result<(), AllocError>
+    ensures marks { OnOk result (row_says row.new ≡ together (row_says row.old) (step_marks (program above.now.unit.now) (rows_say above.now.rows.now) (length above.now.rows.now) (roots_in aliases.old.items) (statement s.now))) }
+    ensures roots { OnOk result (roots_in aliases.new.items ≡ roots_after (statement s.now) (roots_in aliases.old.items)) }
+    ensures kept { OnOk result (take (length aliases.old.items) aliases.new.items ≡ aliases.old.items) }
+{
+    match s {
+        Stmt::Assign(x, _, e) => {
+            mark_reads(row, aliases, e)?;
+            row.insert(root(aliases, *x), Modes::WRITE)?;
+            Ok(())
+        }
+        Stmt::Reduce(x, _, e) => {
+            mark_reads(row, aliases, e)?;
+            row.insert(root(aliases, *x), Modes::REDUCE)?;
+            Ok(())
+        }
+        Stmt::If(_, a, b) => {
+            walk_block(above, row, aliases, a)?;
+            walk_block(above, row, aliases, b)?;
+            Ok(())
+        }
+        Stmt::For(_, _, _, b) => walk_block(above, row, aliases, b),
+        Stmt::Alloc(x, _, _, _) => {
+            row.insert(x.id, Modes::WRITE)?;
+            set_root(aliases, x.id, x.id)?;
+            Ok(())
+        }
+        Stmt::View(w, x, _) => {
+            let buffer = root(aliases, *x);
+            set_root(aliases, w.id, buffer)
+        }
+        Stmt::Call(k, args) => mark_call(above, row, aliases, *k, args),
+        _ => Ok(()),
+    }
+}
+
+/// Marks what a block touches. Its names end with it.
+#[cycle(walk)]
+pub(crate) fn walk_block(
+    above: &Above,
+    row: &mut Row,
+    aliases: &mut Vec<Alias>,
+    b: &Block,
+) -> Result<(), AllocError>
+    ensures marks { OnOk result (row_says row.new ≡ together (row_says row.old) (block_marks (program above.now.unit.now) (rows_say above.now.rows.now) (length above.now.rows.now) (roots_in aliases.old.items) (block b.now))) }
+    ensures kept { OnOk result (aliases.new.items ≡ aliases.old.items) }
+{
+    let known = aliases.len();
+    for k in 0..b.len() {
+        walk_statement(above, row, aliases, b.statement(k))?;
+    }
+    aliases.truncate(known);
+    Ok(())
+}
+
+/// What the body of a procedure touches.
+pub(crate) fn row_of(alloc: Global, above: &Above, p: &Proc) -> Result<Row, AllocError>
+    ensures { IfOk result (λ r. row_says r ≡ block_marks (program above.now.unit.now) (rows_say above.now.rows.now) (length above.now.rows.now) (λ y. y) (block p.now.body)) }
+{
+    let mut row = Row::new(alloc);
+    let mut aliases = Vec::new(alloc);
+    walk_block(above, &mut row, &mut aliases, &p.body)?;
+    Ok(row)
+}
