@@ -80,10 +80,7 @@ fn indentations(rt: HostRuntime) -> Result<(), AllocError> {
             b"@proc\ndef f():\n    if 1 < 2:\n    \"a\"\n".as_slice(),
             "4:1 BadIndent",
         ),
-        (
-            b"@proc\ndef f():\n    if 1 < 2:\n".as_slice(),
-            "4:1 Syntax",
-        ),
+        (b"@proc\ndef f():\n    if 1 < 2:\n".as_slice(), "4:1 Syntax"),
         (b"@proc\ndef f():".as_slice(), "2:9 Syntax"),
         (b"@proc\ndef f():\n".as_slice(), "3:1 Syntax"),
         (
@@ -245,48 +242,98 @@ fn template(alloc: Global, count: usize, end: &str) -> Result<String, AllocError
     Ok(text)
 }
 
+/// Whether a text is read to what is wanted.
+fn same(alloc: Global, text: &String, wanted: &str) -> Result<bool, AllocError> {
+    let found = shown(alloc, text.as_bytes())?;
+    Ok(found.as_str() == wanted)
+}
+
 #[test]
-fn limits(rt: HostRuntime) -> Result<(), AllocError> {
-    let alloc = rt.alloc();
-    let sum = "1*1*1*1*1*1*1*1+1*1*1*1*1*1*1*1+1*1*1*1*1*1*1*1+1*1*1*1*1*1*1*1+1*1*1*1*1*1*1*1+1*1*1*1*1*1*1*1+1*1*1*1*1*1*1*1+1*1*1*1*1*1*1*1";
-    let both = "1*1*1*1*1*1*1*1+1*1*1*1*1*1*1*1+1*1*1*1*1*1*1*1+1*1*1*1*1*1*1*1+1*1*1*1*1*1*1*1+1*1*1*1*1*1*1*1+1*1*1*1*1*1*1*1+1*1*1*1*1*1*1*1<1*1*1*1*1*1*1*1+1*1*1*1*1*1*1*1+1*1*1*1*1*1*1*1+1*1*1*1*1*1*1*1+1*1*1*1*1*1*1*1+1*1*1*1*1*1*1*1+1*1*1*1*1*1*1*1+1*1*1*1*1*1*1*1";
-    let taken = "(1*1*1*1*1*1*1*1+1*1*1*1*1*1*1*1+1*1*1*1*1*1*1*1+1*1*1*1*1*1*1*1+1*1*1*1*1*1*1*1+1*1*1*1*1*1*1*1+1*1*1*1*1*1*1*1+1*1*1*1*1*1*1*1)-";
+fn blocks_inside_one_another(rt: HostRuntime) -> Result<(), AllocError> {
+    for (count, wanted) in [(23, "1 items"), (24, "26:25 TooDeep")] {
+        let text = nested(rt.alloc(), count)?;
+        let right = same(rt.alloc(), &text, wanted)?;
+        assert!(rt; right);
+    }
+    Ok(())
+}
+
+#[test]
+fn indices_inside_parentheses(rt: HostRuntime) -> Result<(), AllocError> {
     let rows = [
-        (nested(alloc, 23)?, "1 items"),
-        (nested(alloc, 24)?, "26:25 TooDeep"),
-        (line(alloc, "x = ", "-", 63, "1")?, "1 items"),
-        (line(alloc, "x = ", "-", 64, "1")?, "3:72 TooDeep"),
-        (indexed(alloc, 62, "]")?, "1 items"),
-        (indexed(alloc, 63, "]")?, "3:138 TooDeep"),
-        (indexed(alloc, 63, "] + 1")?, "3:138 TooDeep"),
-        (indexed(alloc, 63, ":2]")?, "1 items"),
-        (indexed(alloc, 64, ":2]")?, "3:74 TooDeep"),
-        (line(alloc, "", "a", 63, " = 1")?, "1 items"),
-        (line(alloc, "", "a", 64, " = 1")?, "3:5 TooLong"),
-        (line(alloc, "x[0", ",0", 7, "] = 1")?, "1 items"),
-        (line(alloc, "x[0", ",0", 8, "] = 1")?, "3:22 TooLong"),
-        (line(alloc, "f(x[0:1", ",0", 7, "])")?, "1 items"),
-        (line(alloc, "f(x[0:1", ",0", 8, "])")?, "3:26 TooLong"),
-        (line(alloc, "f(1", ",1", 40, ")")?, "1 items"),
-        (line(alloc, "assert 1<2\n    x = (1<", sum, 1, ")")?, "1 items"),
-        (line(alloc, "x = 1", "-1", 64, "")?, "3:136 TooDeep"),
-        (line(alloc, "C.f = ", both, 1, "")?, "1 items"),
-        (line(alloc, "C.f = ", both, 1, "+1")?, "3:266 TooLong"),
-        (line(alloc, "x = ", taken, 7, "1")?, "1 items"),
-        (line(alloc, "x = ", taken, 8, "1")?, "3:1048 TooLong"),
-        (line(alloc, "x = 2147483647", "", 0, "")?, "1 items"),
-        (line(alloc, "x = 2147483648", "", 0, "")?, "3:9 LiteralTooLarge"),
-        (line(alloc, "x 2147483648", "", 0, "")?, "3:7 Syntax"),
-        (parameters(alloc, 32, "")?, "1 items"),
-        (parameters(alloc, 32, "q: size")?, "2:263 TooLong"),
-        (parameters(alloc, 32, "5")?, "2:263 Syntax"),
-        (template(alloc, 1024, "")?, "1 items"),
-        (template(alloc, 1025, "")?, "1:8 TooLong"),
-        (template(alloc, 1000, " \"aaaaaaaaaaaaaaaaaaaaaaaaa\"")?, "1:1011 TooLong"),
+        (62, "]", "1 items"),
+        (63, "]", "3:138 TooDeep"),
+        (63, "] + 1", "3:138 TooDeep"),
+        (63, ":2]", "1 items"),
+        (64, ":2]", "3:74 TooDeep"),
     ];
-    for (text, wanted) in rows {
-        let found = shown(alloc, text.as_bytes())?;
-        assert_eq!(rt; found.as_str(), wanted);
+    for (count, end, wanted) in rows {
+        let text = indexed(rt.alloc(), count, end)?;
+        let right = same(rt.alloc(), &text, wanted)?;
+        assert!(rt; right);
+    }
+    Ok(())
+}
+
+#[test]
+fn many_parameters(rt: HostRuntime) -> Result<(), AllocError> {
+    let rows = [
+        (32, "", "1 items"),
+        (32, "q: size", "2:263 TooLong"),
+        (32, "5", "2:263 Syntax"),
+    ];
+    for (count, end, wanted) in rows {
+        let text = parameters(rt.alloc(), count, end)?;
+        let right = same(rt.alloc(), &text, wanted)?;
+        assert!(rt; right);
+    }
+    Ok(())
+}
+
+#[test]
+fn long_templates(rt: HostRuntime) -> Result<(), AllocError> {
+    let rows = [
+        (1024, "", "1 items"),
+        (1025, "", "1:8 TooLong"),
+        (1000, " \"aaaaaaaaaaaaaaaaaaaaaaaaa\"", "1:1011 TooLong"),
+    ];
+    for (count, end, wanted) in rows {
+        let text = template(rt.alloc(), count, end)?;
+        let right = same(rt.alloc(), &text, wanted)?;
+        assert!(rt; right);
+    }
+    Ok(())
+}
+
+#[test]
+fn lines_at_their_limits(rt: HostRuntime) -> Result<(), AllocError> {
+    let both =
+        "1*1*1*1*1*1*1*1+1*1*1*1*1*1*1*1+1*1*1*1*1*1*1*1+1*1*1*1*1*1*1*1+1*1*1*1*1*1*1*1+1*1*1*1*1*1*1*1+1*1*1*1*1*1*1*1+1*1*1*1*1*1*1*1<1*1*1*1*1*1*1*1+1*1*1*1*1*1*1*1+1*1*1*1*1*1*1*1+1*1*1*1*1*1*1*1+1*1*1*1*1*1*1*1+1*1*1*1*1*1*1*1+1*1*1*1*1*1*1*1+1*1*1*1*1*1*1*1";
+    let taken =
+        "(1*1*1*1*1*1*1*1+1*1*1*1*1*1*1*1+1*1*1*1*1*1*1*1+1*1*1*1*1*1*1*1+1*1*1*1*1*1*1*1+1*1*1*1*1*1*1*1+1*1*1*1*1*1*1*1+1*1*1*1*1*1*1*1)-";
+    let rows = [
+        ("x = ", "-", 63, "1", "1 items"),
+        ("x = ", "-", 64, "1", "3:72 TooDeep"),
+        ("", "a", 63, " = 1", "1 items"),
+        ("", "a", 64, " = 1", "3:5 TooLong"),
+        ("x[0", ",0", 7, "] = 1", "1 items"),
+        ("x[0", ",0", 8, "] = 1", "3:22 TooLong"),
+        ("f(x[0:1", ",0", 7, "])", "1 items"),
+        ("f(x[0:1", ",0", 8, "])", "3:26 TooLong"),
+        ("f(1", ",1", 40, ")", "1 items"),
+        ("x = 1", "-1", 64, "", "3:136 TooDeep"),
+        ("C.f = ", both, 1, "", "1 items"),
+        ("C.f = ", both, 1, "+1", "3:266 TooLong"),
+        ("x = ", taken, 7, "1", "1 items"),
+        ("x = ", taken, 8, "1", "3:1048 TooLong"),
+        ("x = 2147483647", "", 0, "", "1 items"),
+        ("x = 2147483648", "", 0, "", "3:9 LiteralTooLarge"),
+        ("x 2147483648", "", 0, "", "3:7 Syntax"),
+    ];
+    for (begin, piece, count, end, wanted) in rows {
+        let text = line(rt.alloc(), begin, piece, count, end)?;
+        let right = same(rt.alloc(), &text, wanted)?;
+        assert!(rt; right);
     }
     Ok(())
 }
