@@ -1,0 +1,3 @@
+pub mod Magnitude
+pub mod Widths
+pub mod Bounds

@@ -1,0 +1,12 @@
+//! Widths: whether the control values of a procedure fit numbers of 64 bits in C.
+#![tactic(auto)]
+
+mod expressions;
+mod magnitude;
+mod procedures;
+mod statements;
+#[cfg(test)]
+mod tests;
+
+pub use magnitude::{Bound, magnitude};
+pub use procedures::is_narrow;
