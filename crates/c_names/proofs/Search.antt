@@ -1,5 +1,5 @@
 -- The search for a free number.
-use Rattle.std.proofs.Common.{◌≡◌, ◌+◌, ◌-◌, ◌<◌, ℕ, zero, suc, Bool, true, false, refl, sym, ap, ◌∙◌, subst, arith}
+use Rattle.std.proofs.Common.{◌≡◌, ◌-◌, ◌<◌, ℕ, zero, suc, Bool, true, false, ap, ◌∙◌, arith}
 use Rattle.c_names.specs.Words.{Name}
 use Rattle.c_names.specs.Names.{numbered, pick, first_free}
 

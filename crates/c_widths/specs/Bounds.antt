@@ -1,6 +1,6 @@
 -- The bounds of names, as the program keeps them.
 use Rattle.std.specs.Prelude.{ℕ, ◌==◌, if◌then◌else◌, List, [], ◌∷◌}
-use Rattle.c_widths.specs.declared.magnitude.Bound.{Bound}
+use Rattle.c_widths.specs.declared.magnitudes.Bound.{Bound}
 
 -- the first bound of that name; 0 where it has none
 abbrev pub most_in : List Bound → ℕ → ℕ

@@ -3,11 +3,11 @@ ghost use Rattle.std.specs.Prelude.{◌≡◌, ◌^◌, ◌&&◌, map, nat_le};
 ghost use Rattle.exo_tree.specs.PlainControl.{control, condition, coordinate};
 ghost use Rattle.exo_tree.specs.PlainDatum.{datum};
 ghost use Rattle.exo_tree.specs.PlainArgument.{argument};
-ghost use Rattle.c_widths.specs.Magnitude as widths;
+ghost use Rattle.c_widths.specs.Magnitude as magnitudes;
 ghost use Rattle.c_widths.specs.Widths as widths;
 ghost use Rattle.c_widths.specs.Bounds.{most_in};
 
-use crate::magnitude::{Bound, FIELD_LIMIT, magnitude};
+use crate::magnitudes::{Bound, FIELD_LIMIT, magnitude};
 use exo_tree::{Arg, Args, Cond, Conds, Coord, Coords, Ctrl, DataExpr, Indices};
 
 /// Whether each expression fits.
@@ -24,7 +24,7 @@ pub(crate) fn are_narrow(bounds: &[Bound], es: &Indices) -> bool
 
 /// Whether both expressions fit.
 pub(crate) fn are_both_narrow(bounds: &[Bound], a: &Ctrl, b: &Ctrl) -> bool
-    ensures { result ≡ (widths.is_narrow (most_in bounds.now) (control a.now) && widths.is_narrow (most_in bounds.now) (control b.now)) }
+    ensures { result ≡ (magnitudes.is_narrow (most_in bounds.now) (control a.now) && magnitudes.is_narrow (most_in bounds.now) (control b.now)) }
 {
     magnitude(bounds, a).is_some() && magnitude(bounds, b).is_some()
 }
@@ -35,11 +35,8 @@ pub(crate) fn is_narrow_test(bounds: &[Bound], c: &Cond) -> bool
 {
     match c {
         Cond::True | Cond::False | Cond::Var(_) | Cond::Field(_) => true,
-        Cond::Lt(a, b)
-        | Cond::Le(a, b)
-        | Cond::Gt(a, b)
-        | Cond::Ge(a, b)
-        | Cond::Eq(a, b) => are_both_narrow(bounds, a, b),
+        Cond::Lt(a, b) | Cond::Le(a, b) | Cond::Gt(a, b) | Cond::Ge(a, b) | Cond::Eq(a, b) =>
+            are_both_narrow(bounds, a, b),
         Cond::And(a, b) | Cond::Or(a, b) => {
             is_narrow_test(bounds, a) && is_narrow_test(bounds, b)
         }
@@ -126,7 +123,7 @@ pub(crate) fn are_narrow_arguments(bounds: &[Bound], args: &Args) -> bool
 
 /// Whether an expression fits, and is at most what a field can be.
 fn is_field_sized(bounds: &[Bound], e: &Ctrl) -> bool
-    ensures { result ≡ (widths.is_narrow (most_in bounds.now) (control e.now) && nat_le (widths.magnitude (most_in bounds.now) (control e.now)) (2 ^ 48)) }
+    ensures { result ≡ (magnitudes.is_narrow (most_in bounds.now) (control e.now) && nat_le (magnitudes.magnitude (most_in bounds.now) (control e.now)) (2 ^ 48)) }
 {
     match magnitude(bounds, e) {
         Some(m) => m <= FIELD_LIMIT,

@@ -2,11 +2,11 @@
 #![tactic(auto)]
 
 mod expressions;
-mod magnitude;
+mod magnitudes;
 mod procedures;
 mod statements;
 #[cfg(test)]
 mod tests;
 
-pub use magnitude::{Bound, magnitude};
+pub use magnitudes::{Bound, magnitude};
 pub use procedures::is_narrow;

@@ -7,7 +7,7 @@ ghost use Rattle.c_widths.specs.Widths.{most_of_kind, most_of_param, most_of, ha
 ghost use Rattle.c_widths.specs.Bounds.{most_in};
 
 use crate::expressions::{are_narrow, are_narrow_tests};
-use crate::magnitude::{Bound, FIELD_LIMIT};
+use crate::magnitudes::{Bound, FIELD_LIMIT};
 use crate::statements::is_narrow_block;
 use exo_tree::{Kind, Memories, Param, ParamKind, Params, Proc};
 use std::alloc::{AllocError, Global};

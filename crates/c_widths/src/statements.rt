@@ -12,7 +12,7 @@ use crate::expressions::{
     are_narrow, are_narrow_arguments, are_narrow_coords, is_narrow_datum, is_narrow_setting,
     is_narrow_test,
 };
-use crate::magnitude::{Bound, magnitude, product};
+use crate::magnitudes::{Bound, magnitude, product};
 use exo_tree::{Binder, Block, Ctrl, DataExpr, Indices, MemId, Memories, Stmt};
 use std::alloc::{AllocError, Global};
 

@@ -21,8 +21,20 @@ fn magnitudes_are_exact(rt: HostRuntime) -> Result<(), AllocError> {
         most: 2147483647,
     };
     let largest = times(alloc, 2147483647, Ctrl::Var(Id(7)))?;
-    let past = times(alloc, 2147483647, times(alloc, 2147483647, Ctrl::Var(Id(7)))?)?;
-    let hidden = times(alloc, 0, times(alloc, 2147483647, times(alloc, 2147483647, Ctrl::Var(Id(7)))?)?)?;
+    let past = times(
+        alloc,
+        2147483647,
+        times(alloc, 2147483647, Ctrl::Var(Id(7)))?,
+    )?;
+    let hidden = times(
+        alloc,
+        0,
+        times(
+            alloc,
+            2147483647,
+            times(alloc, 2147483647, Ctrl::Var(Id(7)))?,
+        )?,
+    )?;
     let quotient = Ctrl::Div(Box::new(alloc, Ctrl::Var(Id(7)))?, 8);
     let remainder = Ctrl::Mod(Box::new(alloc, Ctrl::Field(FieldId(0)))?, 8);
     let cases = [

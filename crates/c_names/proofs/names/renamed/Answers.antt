@@ -1,4 +1,4 @@
-use Rattle.std.proofs.Common.{◌≡◌, ◌∙◌, ◌+◌, ◌-◌, ◌<◌, ℕ, suc, length, true, false, sym, ap, subst, IfOk, arith}
+use Rattle.std.proofs.Common.{◌≡◌, ◌∙◌, ◌+◌, ◌-◌, suc, length, true, false, sym, ap, subst, IfOk, arith}
 use Rattle.c_names.specs.Names as names
 use Rattle.c_names.proofs.Search.{passed_by, found, none_left}
 use Rattle.c_names.proofs.names.renamed.Goals as goal

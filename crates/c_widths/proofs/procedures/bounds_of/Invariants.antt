@@ -1,5 +1,5 @@
 -- A name has the bound that was made, else that of a parameter that is left.
-use Rattle.std.proofs.Common.{◌≡◌, ◌++◌, drop, map}
+use Rattle.std.proofs.Common.{◌≡◌, drop, map}
 use Rattle.exo_tree.specs.PlainParam.{parameter}
 use Rattle.c_widths.specs.Widths.{most_of}
 use Rattle.c_widths.proofs.Growing.{most_before}
