@@ -1,0 +1,82 @@
+//! Whether the control expressions of a procedure fit.
+ghost use Rattle.std.specs.Prelude.{◌≡◌, map, IfOk};
+ghost use Rattle.exo_tree.specs.PlainParam.{parameter, parameter_kind};
+ghost use Rattle.exo_tree.specs.PlainProcedure.{procedure};
+ghost use Rattle.exo_tree.specs.PlainBinder.{control_kind};
+ghost use Rattle.c_widths.specs.Widths.{most_of_kind, most_of_param, most_of, has_narrow_dims, have_narrow_dims, is_narrow_procedure};
+ghost use Rattle.c_widths.specs.Bounds.{most_in};
+
+use crate::expressions::{are_narrow, are_narrow_tests};
+use crate::magnitudes::{Bound, FIELD_LIMIT};
+use crate::statements::is_narrow_block;
+use exo_tree::{Kind, Memories, Param, ParamKind, Params, Proc};
+use std::alloc::{AllocError, Global};
+
+/// The most that a valid input gives a control parameter.
+fn most_of_kind(kind: Kind) -> u64
+    ensures { result ≡ most_of_kind (control_kind kind) }
+{
+    match kind {
+        Kind::Size | Kind::Index | Kind::Bool => 2147483647,
+        Kind::Stride => FIELD_LIMIT,
+    }
+}
+
+/// The most that a valid input gives a parameter: 0 for a buffer.
+fn most_of_param(kind: &ParamKind) -> u64
+    ensures { result ≡ most_of_param (parameter_kind kind.now) }
+{
+    match kind {
+        ParamKind::Ctrl(kind) => most_of_kind(*kind),
+        ParamKind::Tensor(_, _, _) | ParamKind::Window(_, _, _) => 0,
+    }
+}
+
+/// The bounds of parameters.
+fn bounds_of(alloc: Global, params: &[Param]) -> Result<Vec<Bound>, AllocError>
+    ensures { IfOk result (λ v. most_in v.items ≡ most_of (map parameter params.now)) }
+{
+    let mut bounds = Vec::new(alloc);
+    for p in params {
+        bounds.push(Bound {
+            id: p.binder.id,
+            most: most_of_param(&p.kind),
+        })?;
+    }
+    Ok(bounds)
+}
+
+/// Whether the dimensions of a parameter fit.
+fn has_narrow_dims(bounds: &[Bound], kind: &ParamKind) -> bool
+    ensures { result ≡ has_narrow_dims (most_in bounds.now) (parameter_kind kind.now) }
+{
+    match kind {
+        ParamKind::Ctrl(_) => true,
+        ParamKind::Tensor(_, dims, _) | ParamKind::Window(_, dims, _) => are_narrow(bounds, dims),
+    }
+}
+
+/// Whether the dimensions of all parameters fit.
+fn have_narrow_dims(bounds: &[Bound], params: &Params) -> bool
+    ensures { result ≡ have_narrow_dims (most_in bounds.now) params.now }
+{
+    for p in params.as_slice() {
+        if !has_narrow_dims(bounds, &p.kind) {
+            return false;
+        }
+    }
+    true
+}
+
+/// Whether no magnitude in a procedure's own tree passes its bound: 2^62 for each control expression with its parts and for the
+/// number of cells of an allocation on the stack, 2^48 for what a configuration field is set to.
+/// A parameter is at most 2^31 - 1, and a stride, a field and a parameter of kind stride at most 2^48.
+pub fn is_narrow(alloc: Global, memories: &Memories, p: &Proc) -> Result<bool, AllocError>
+    ensures { IfOk result (λ t. t ≡ is_narrow_procedure memories.now (procedure p.now)) }
+{
+    let bounds = bounds_of(alloc, p.params.as_slice())?;
+    if !have_narrow_dims(&bounds, &p.params) || !are_narrow_tests(&bounds, &p.asserts) {
+        return Ok(false);
+    }
+    is_narrow_block(alloc, memories, &bounds, &p.body)
+}
