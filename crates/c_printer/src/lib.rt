@@ -11,5 +11,5 @@ mod text;
 pub mod tree;
 
 pub use first_form::is_first_unit;
-pub use lowering::{LowerError, Printed, lower};
+pub use lowering::{LowerError, Printed, lower, lower_report};
 pub use text::c_text;

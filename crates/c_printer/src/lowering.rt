@@ -315,7 +315,7 @@ fn report_line(alloc: Global, unit: &Unit, w: &Printed) -> Result<ReportLine, Al
 }
 
 /// The report.
-fn lower_report(alloc: Global, unit: &Unit, what: &[Printed]) -> Result<Vec<ReportLine>, AllocError>
+pub fn lower_report(alloc: Global, unit: &Unit, what: &[Printed]) -> Result<Vec<ReportLine>, AllocError>
     ensures { IfOk result (λ v. map plain_line v.items ≡ map (λ w. line_of (program unit.now) (printing w)) what.now) }
 {
     let mut made = Vec::new(alloc);
