@@ -8,10 +8,10 @@ ghost use Rattle.exo_tree.specs.PlainArgument.{argument};
 ghost use Rattle.exo_tree.specs.PlainStatement.{statement};
 ghost use Rattle.c_printer.specs.CTree.{cblock, followed_by};
 ghost use Rattle.c_printer.specs.Plain.{plain_type, plain_cell, plain_data, plain_statement};
-ghost use Rattle.c_printer.specs.Lowered.{cell_in, cell_at_of, number32_of, block_of};
+ghost use Rattle.c_printer.specs.Lowered.{cell_in, cell_at_of, number32_of, forms_after, block_of};
 ghost use Rattle.c_lowering.specs.Scope.{forms_in};
 ghost use Rattle.c_lowering.specs.Naming.{naming_of};
-ghost use Rattle.c_lowering.specs.Heads.{allocation, head_of, frees};
+ghost use Rattle.c_lowering.specs.Heads.{allocation, head_of, end_of, frees};
 ghost use Rattle.c_lowering.specs.SelfContained.{is_value, is_alone, is_alone_block};
 
 use crate::expressions::{
@@ -174,6 +174,31 @@ fn put_frees(
     Ok(())
 }
 
+/// An allocation comes into scope, and is freed at the end of its block where it is on the heap.
+fn open_scope<'a>(
+    names: &Names<'_>,
+    s: &'a Stmt,
+    scope: &mut Vec<Entry<'a>>,
+    buffers: &mut Vec<Id>,
+) -> Result<(), AllocError>
+    requires { is_alone names.now.unit.now.memories (statement s.now) ≡ true }
+    ensures forms { OnOk result (forms_in scope.new.items ≡ forms_after (naming_of names.now) (statement s.now) (forms_in scope.old.items)) }
+    ensures ends { OnOk result (frees (naming_of names.now) (map (λ x. x.0) buffers.new.items) ≡ followed_by (end_of (naming_of names.now) (statement s.now)) (frees (naming_of names.now) (map (λ x. x.0) buffers.old.items))) }
+{
+    let _ = names;
+    let Stmt::Alloc(x, cell, dims, _) = s else {
+        return Ok(());
+    };
+    scope.push(Entry {
+        id: x.id,
+        form: Form::Tensor(*cell, dims),
+    })?;
+    if dims.len() != 0 {
+        buffers.push(x.id)?;
+    }
+    Ok(())
+}
+
 /// The C of a block.
 #[cycle(lower)]
 pub(crate) fn lower_block(
@@ -191,15 +216,7 @@ pub(crate) fn lower_block(
     for k in 0..b.len() {
         let s = b.statement(k);
         made.push(lower_statement(alloc, names, &inner, s)?)?;
-        if let Stmt::Alloc(x, cell, dims, _) = s {
-            inner.push(Entry {
-                id: x.id,
-                form: Form::Tensor(*cell, dims),
-            })?;
-            if dims.len() != 0 {
-                buffers.push(x.id)?;
-            }
-        }
+        open_scope(names, s, &mut inner, &mut buffers)?;
     }
     put_frees(alloc, names, &mut made, &buffers)?;
     Ok(made)

@@ -1,3 +1,4 @@
 pub mod Magnitude
 pub mod Widths
 pub mod Bounds
+pub mod Laws

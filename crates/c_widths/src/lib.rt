@@ -2,6 +2,7 @@
 #![tactic(auto)]
 
 mod expressions;
+pub mod laws;
 mod magnitudes;
 mod procedures;
 mod statements;

@@ -1,0 +1,23 @@
+//! Laws of magnitudes, each the contract of a function with nothing to do.
+ghost use Rattle.c_widths.specs.Laws.{ValuesLaw, NarrowLaw, StartLaw, RunsLaw};
+
+/// No value passes its magnitude, wherever the names are within their bounds.
+pub fn values_stay_within()
+    ensures { ValuesLaw }
+{}
+
+/// The value of an expression that fits is at most 2^62 in size.
+pub fn narrow_values_fit()
+    ensures { NarrowLaw }
+{}
+
+/// The names of a valid input are within the bounds of the parameters.
+pub fn inputs_start_within()
+    ensures { StartLaw }
+{}
+
+/// Along the run of a procedure that fits and calls nothing, on a valid input and with allocations of at most 2^48 cells, the
+/// names in scope stay within their bounds.
+pub fn runs_stay_within()
+    ensures { RunsLaw }
+{}
