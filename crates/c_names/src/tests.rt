@@ -4,10 +4,9 @@ use crate::{c_name, first_clash};
 use exo_tree::Name;
 use std::alloc::{AllocError, Global};
 
-/// The names, which stand with blanks between.
-fn names(alloc: Global, text: &str) -> Result<Vec<Name>, AllocError> {
+fn names(alloc: Global, words: &[&str]) -> Result<Vec<Name>, AllocError> {
     let mut made = Vec::new(alloc);
-    for word in text.split(' ') {
+    for word in words {
         made.push(Name::new(alloc, word)?)?;
     }
     Ok(made)
@@ -16,8 +15,13 @@ fn names(alloc: Global, text: &str) -> Result<Vec<Name>, AllocError> {
 #[test]
 fn reserved_binders_are_renamed(rt: HostRuntime) -> Result<(), AllocError> {
     let alloc = rt.alloc();
-    let globals = names(alloc, "f Cfg_w exo")?;
-    let binders = names(alloc, "x int int_1 f main _t exo_div v_t_1_ Cfg_w")?;
+    let globals = names(alloc, &["f", "Cfg_w"])?;
+    let binders = names(
+        alloc,
+        &[
+            "x", "int", "int_1", "f", "main", "_t", "exo_div", "v_t_1_", "Cfg_w",
+        ],
+    )?;
     let cases = [
         ("x", "x"),
         ("int", "int_2"),
@@ -37,24 +41,26 @@ fn reserved_binders_are_renamed(rt: HostRuntime) -> Result<(), AllocError> {
     Ok(())
 }
 
+/// The name that clashes; empty where none does.
+fn clash(alloc: Global, words: &[&str]) -> Result<Name, AllocError> {
+    let globals = names(alloc, words)?;
+    match first_clash(&globals) {
+        Some(name) => name.duplicate(alloc),
+        None => Name::new(alloc, ""),
+    }
+}
+
 #[test]
 fn the_first_clash_is_named(rt: HostRuntime) -> Result<(), AllocError> {
     let alloc = rt.alloc();
-    let cases = [
-        ("f g Cfg_w", ""),
-        ("f main g", "main"),
-        ("f g h g f", "f"),
-        ("f g A_b_c A_b_c while", "A_b_c"),
-        ("f exo_relu", "exo_relu"),
-        ("f _g", "_g"),
-    ];
-    for (text, want) in cases {
-        let globals = names(alloc, text)?;
-        let got = match first_clash(&globals) {
-            Some(name) => name.as_str(),
-            None => "",
-        };
-        assert_eq!(rt; got, want);
-    }
+    assert_eq!(rt; clash(alloc, &["f", "g", "Cfg_w"])?.as_str(), "");
+    assert_eq!(rt; clash(alloc, &["f", "main", "g"])?.as_str(), "main");
+    assert_eq!(rt; clash(alloc, &["f", "g", "h", "g", "f"])?.as_str(), "f");
+    assert_eq!(rt;
+        clash(alloc, &["f", "g", "A_b_c", "A_b_c", "while"])?.as_str(),
+        "A_b_c"
+    );
+    assert_eq!(rt; clash(alloc, &["f", "exo_relu"])?.as_str(), "exo_relu");
+    assert_eq!(rt; clash(alloc, &["f", "_g"])?.as_str(), "_g");
     Ok(())
 }
