@@ -1,22 +1,28 @@
 //! Claims at and past the limits.
 use crate::systems::answer;
-use crate::trees::{lit, or, var};
+use crate::trees::{held, lit, var};
 use exo_tree::Cond;
 use std::alloc::{AllocError, Global};
 use std::test::Fail;
 
-/// `count` conditions `x <= 0 or x > 1`, each of a variable of its own.
+/// Adds `x <= 0 or x > 1`.
+fn add_choice(alloc: Global, all: &mut Vec<Cond>, x: u32) -> Result<(), AllocError> {
+    let below = held(alloc, Cond::Le(var(x), lit(0)))?;
+    let above = held(alloc, Cond::Gt(var(x), lit(1)))?;
+    all.push(Cond::Or(below, above))?;
+    Ok(())
+}
+
+/// Conditions `x <= 0 or x > 1`, each of a variable of its own.
 fn choices(alloc: Global, count: u32) -> Result<Vec<Cond>, AllocError> {
     let mut all = Vec::new(alloc);
     for x in 0..count {
-        let below = Cond::Le(var(x), lit(0));
-        let above = Cond::Gt(var(x), lit(1));
-        all.push(or(alloc, below, above)?)?;
+        add_choice(alloc, &mut all, x)?;
     }
     Ok(all)
 }
 
-/// `count` conditions `0 <= x`, each of a variable of its own.
+/// Conditions `0 <= x`, each of a variable of its own.
 fn variables(alloc: Global, count: u32) -> Result<Vec<Cond>, AllocError> {
     let mut all = Vec::new(alloc);
     for x in 0..count {
@@ -25,7 +31,7 @@ fn variables(alloc: Global, count: u32) -> Result<Vec<Cond>, AllocError> {
     Ok(all)
 }
 
-/// `count` times the condition `0 <= x`.
+/// The condition `0 <= x` so many times.
 fn rows(alloc: Global, count: u32) -> Result<Vec<Cond>, AllocError> {
     let mut all = Vec::new(alloc);
     for _ in 0..count {
@@ -34,31 +40,49 @@ fn rows(alloc: Global, count: u32) -> Result<Vec<Cond>, AllocError> {
     Ok(all)
 }
 
-/// The refusal of `False` in that context, or nothing where it has systems.
-fn refusal(alloc: Global, context: &[Cond]) -> Result<String, Fail> {
-    let found = answer(alloc, context, &Cond::False)?;
+/// What a context is made of.
+#[derive(Clone, Copy, Drop)]
+enum Of {
+    Choices(u32),
+    Variables(u32),
+    Rows(u32),
+}
+
+fn context(alloc: Global, of: Of) -> Result<Vec<Cond>, AllocError> {
+    match of {
+        Of::Choices(count) => choices(alloc, count),
+        Of::Variables(count) => variables(alloc, count),
+        Of::Rows(count) => rows(alloc, count),
+    }
+}
+
+/// The refusal of `False` in a context, or "systems" where there is none.
+fn refusal(alloc: Global, of: Of) -> Result<String, Fail> {
+    let context = context(alloc, of)?;
+    let found = answer(alloc, &context, &Cond::False)?;
     if found.as_str().len() > 20 {
-        return Ok(String::from_str(alloc, "")?);
+        return Ok(String::from_str(alloc, "systems")?);
     }
     Ok(found)
 }
 
 #[test]
 fn limits(rt: HostRuntime) -> Result<(), Fail> {
-    let alloc = rt.alloc();
-    let fits = refusal(alloc, &choices(alloc, 6)?)?;
-    assert_eq!(rt; fits.as_str(), "", "64 cases");
-    let many = refusal(alloc, &choices(alloc, 7)?)?;
-    assert_eq!(rt; many.as_str(), "TooManyCases", "128 cases");
-    let wide = refusal(alloc, &variables(alloc, 64)?)?;
-    assert_eq!(rt; wide.as_str(), "", "64 variables");
-    let wider = refusal(alloc, &variables(alloc, 65)?)?;
-    assert_eq!(rt; wider.as_str(), "SystemTooLarge", "65 variables");
-    let long = refusal(alloc, &rows(alloc, 511)?)?;
-    assert_eq!(rt; long.as_str(), "", "512 rows");
-    let longer = refusal(alloc, &rows(alloc, 512)?)?;
-    assert_eq!(rt; longer.as_str(), "SystemTooLarge", "513 rows");
-    let both = refusal(alloc, &choices(alloc, 70)?)?;
-    assert_eq!(rt; both.as_str(), "TooManyCases", "cases come first");
+    let wanted = [
+        // 64 cases, then 128
+        (Of::Choices(6), "systems"),
+        (Of::Choices(7), "TooManyCases"),
+        (Of::Variables(64), "systems"),
+        (Of::Variables(65), "SystemTooLarge"),
+        // the denied claim is one row more
+        (Of::Rows(511), "systems"),
+        (Of::Rows(512), "SystemTooLarge"),
+        // too many cases and too many variables
+        (Of::Choices(70), "TooManyCases"),
+    ];
+    for (of, answer) in &wanted {
+        let found = refusal(rt.alloc(), *of)?;
+        assert_eq!(rt; found.as_str(), *answer);
+    }
     Ok(())
 }

@@ -1,10 +1,10 @@
 //! Claims and their systems, worked out by hand.
 use crate::rules::condition_keeps_rules;
 use crate::shown::show_systems;
-use crate::trees::{and, field, lit, modulo, or, over, plus, var};
+use crate::trees::{boxed, field, held, lit, var};
 use affine_forms::{AtEntry, FormError, Formula, formula_of};
-use affine_systems::{Context, systems};
-use exo_tree::{Cond, Field, FieldId, Fields, Id, Kind, Name, Path, Text};
+use affine_systems::{Context, Obligation, systems};
+use exo_tree::{Cond, Ctrl, Field, FieldId, Fields, Id, Kind, Name, Path, Text};
 use std::alloc::{AllocError, Global};
 use std::test::Fail;
 
@@ -31,112 +31,138 @@ fn formula(alloc: Global, fields: &Fields, c: &Cond) -> Result<Formula, Fail> {
     }
 }
 
+/// What a context says.
+fn known(alloc: Global, fields: &Fields, context: &[Cond]) -> Result<Context, Fail> {
+    let mut known = Context::new(alloc);
+    for c in context {
+        known.push(formula(alloc, fields, c)?)?;
+    }
+    Ok(known)
+}
+
+/// The name of a refusal.
+fn refusal(e: FormError) -> &'static str {
+    match e {
+        FormError::TooManyCases => "TooManyCases",
+        FormError::SystemTooLarge => "SystemTooLarge",
+        FormError::WideNumber => "WideNumber",
+        FormError::TooManySystems => "TooManySystems",
+        FormError::Memory => "Memory",
+    }
+}
+
+/// The obligations as text, or the refusal.
+fn shown(alloc: Global, answer: Result<Vec<Obligation>, FormError>) -> Result<String, Fail> {
+    match answer {
+        Ok(owed) => show_systems(alloc, &owed),
+        Err(e) => Ok(String::from_str(alloc, refusal(e))?),
+    }
+}
+
 /// The systems of a claim in a context, as text, or the refusal.
 pub fn answer(alloc: Global, context: &[Cond], claim: &Cond) -> Result<String, Fail> {
     let fields = fields(alloc)?;
-    let mut known = Context::new(alloc);
-    for c in context {
-        known.push(formula(alloc, &fields, c)?)?;
-    }
-    let denied = formula(alloc, &fields, claim)?;
     let what = Text::new(alloc, "claim")?;
-    match systems(alloc, &known, &denied, &what, &Path::new()) {
-        Ok(owed) => show_systems(alloc, &owed),
-        Err(FormError::TooManyCases) => Ok(String::from_str(alloc, "TooManyCases")?),
-        Err(FormError::SystemTooLarge) => Ok(String::from_str(alloc, "SystemTooLarge")?),
-        Err(_) => Ok(String::from_str(alloc, "another error")?),
-    }
+    let known = known(alloc, &fields, context)?;
+    let stated = formula(alloc, &fields, claim)?;
+    let owed = systems(alloc, &known, &stated, &what, &Path::new());
+    shown(alloc, owed)
 }
 
 /// A context and a claim.
 #[derive(Drop)]
 struct Case {
     context: Vec<Cond>,
-    claim: Cond,
+    claim: Box<Cond>,
+}
+
+/// Conditions as a context.
+fn one(alloc: Global, c: Cond) -> Result<Vec<Cond>, AllocError> {
+    let mut all = Vec::new(alloc);
+    all.push(c)?;
+    Ok(all)
 }
 
 /// `0 <= i` and `i < n` say that `i < n`; sizes are at least 1.
 fn bounds(alloc: Global) -> Result<Case, AllocError> {
-    let mut context = Vec::new(alloc);
-    context.push(Cond::Le(lit(1), var(0)))?;
+    let claim = held(alloc, Cond::Lt(var(1), var(0)))?;
+    let mut context = one(alloc, Cond::Le(lit(1), var(0)))?;
     context.push(Cond::Le(lit(0), var(1)))?;
     context.push(Cond::Lt(var(1), var(0)))?;
-    Ok(Case {
-        context,
-        claim: Cond::Lt(var(1), var(0)),
-    })
+    Ok(Case { context, claim })
 }
 
 /// `(i + 3) / 4 == j`.
 fn quotient(alloc: Global) -> Result<Case, AllocError> {
-    let e = over(alloc, plus(alloc, var(0), lit(3))?, 4)?;
+    let i = boxed(alloc, var(0))?;
+    let three = boxed(alloc, lit(3))?;
+    let sum = boxed(alloc, Ctrl::Add(i, three))?;
+    let claim = held(alloc, Cond::Eq(Ctrl::Div(sum, 4), var(1)))?;
     Ok(Case {
         context: Vec::new(alloc),
-        claim: Cond::Eq(e, var(1)),
+        claim,
     })
 }
 
 /// A bool and a size, and a claim that is never met.
 fn kinds(alloc: Global) -> Result<Case, AllocError> {
-    let mut context = Vec::new(alloc);
-    context.push(Cond::Field(FieldId(1)))?;
+    let claim = held(alloc, Cond::False)?;
+    let mut context = one(alloc, Cond::Field(FieldId(1)))?;
     context.push(Cond::Lt(field(0), var(5)))?;
-    Ok(Case {
-        context,
-        claim: Cond::False,
-    })
+    Ok(Case { context, claim })
 }
 
 /// `0 <= Cfg.f / 2` for a size.
 fn halved_size(alloc: Global) -> Result<Case, AllocError> {
-    let half = over(alloc, field(0), 2)?;
+    let size = boxed(alloc, field(0))?;
+    let claim = held(alloc, Cond::Le(lit(0), Ctrl::Div(size, 2)))?;
     Ok(Case {
         context: Vec::new(alloc),
-        claim: Cond::Le(lit(0), half),
+        claim,
     })
 }
 
 /// `a <= 1 or b <= 2`, and the claim `c <= 3 and d <= 4`.
 fn four_cases(alloc: Global) -> Result<Case, AllocError> {
-    let mut context = Vec::new(alloc);
-    let one = Cond::Le(var(0), lit(1));
-    let two = Cond::Le(var(1), lit(2));
-    context.push(or(alloc, one, two)?)?;
-    let three = Cond::Le(var(2), lit(3));
-    let four = Cond::Le(var(3), lit(4));
-    Ok(Case {
-        context,
-        claim: and(alloc, three, four)?,
-    })
+    let three = held(alloc, Cond::Le(var(2), lit(3)))?;
+    let four = held(alloc, Cond::Le(var(3), lit(4)))?;
+    let claim = held(alloc, Cond::And(three, four))?;
+    let first = held(alloc, Cond::Le(var(0), lit(1)))?;
+    let second = held(alloc, Cond::Le(var(1), lit(2)))?;
+    let context = one(alloc, Cond::Or(first, second))?;
+    Ok(Case { context, claim })
 }
 
 /// `i < i + n`, in which i cancels.
 fn cancelled(alloc: Global) -> Result<Case, AllocError> {
-    let sum = plus(alloc, var(0), var(1))?;
+    let i = boxed(alloc, var(0))?;
+    let n = boxed(alloc, var(1))?;
+    let claim = held(alloc, Cond::Lt(var(0), Ctrl::Add(i, n)))?;
     Ok(Case {
         context: Vec::new(alloc),
-        claim: Cond::Lt(var(0), sum),
+        claim,
     })
 }
 
 /// `i % 8 < 8`, where b holds and n is 8.
 fn remainder(alloc: Global) -> Result<Case, AllocError> {
-    let mut context = Vec::new(alloc);
-    context.push(Cond::Var(Id(7)))?;
+    let i = boxed(alloc, var(0))?;
+    let claim = held(alloc, Cond::Lt(Ctrl::Mod(i, 8), lit(8)))?;
+    let mut context = one(alloc, Cond::Var(Id(7)))?;
     context.push(Cond::Eq(var(8), lit(8)))?;
-    Ok(Case {
-        context,
-        claim: Cond::Lt(modulo(alloc, var(0), 8)?, lit(8)),
-    })
+    Ok(Case { context, claim })
 }
 
 /// `0 <= (i / 4 + j) / 3`.
 fn nested_quotients(alloc: Global) -> Result<Case, AllocError> {
-    let inner = over(alloc, var(0), 4)?;
-    let outer = over(alloc, plus(alloc, inner, var(1))?, 3)?;
+    let i = boxed(alloc, var(0))?;
+    let inner = boxed(alloc, Ctrl::Div(i, 4))?;
+    let j = boxed(alloc, var(1))?;
+    let sum = boxed(alloc, Ctrl::Add(inner, j))?;
+    let claim = held(alloc, Cond::Le(lit(0), Ctrl::Div(sum, 3)))?;
     Ok(Case {
         context: Vec::new(alloc),
-        claim: Cond::Le(lit(0), outer),
+        claim,
     })
 }
 

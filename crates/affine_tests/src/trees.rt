@@ -14,30 +14,14 @@ pub fn field(f: u32) -> Ctrl {
     Ctrl::Field(FieldId(f))
 }
 
-pub fn plus(alloc: Global, a: Ctrl, b: Ctrl) -> Result<Ctrl, AllocError> {
-    Ok(Ctrl::Add(Box::new(alloc, a)?, Box::new(alloc, b)?))
+/// An expression in a box. Trees are boxed one by one, so that no tree lies open beside a `?`.
+pub fn boxed(alloc: Global, e: Ctrl) -> Result<Box<Ctrl>, AllocError> {
+    let b = Box::new(alloc, e)?;
+    Ok(b)
 }
 
-pub fn minus(alloc: Global, a: Ctrl, b: Ctrl) -> Result<Ctrl, AllocError> {
-    Ok(Ctrl::Sub(Box::new(alloc, a)?, Box::new(alloc, b)?))
-}
-
-pub fn times(alloc: Global, a: Ctrl, b: Ctrl) -> Result<Ctrl, AllocError> {
-    Ok(Ctrl::Mul(Box::new(alloc, a)?, Box::new(alloc, b)?))
-}
-
-pub fn over(alloc: Global, a: Ctrl, by: i64) -> Result<Ctrl, AllocError> {
-    Ok(Ctrl::Div(Box::new(alloc, a)?, by))
-}
-
-pub fn modulo(alloc: Global, a: Ctrl, by: i64) -> Result<Ctrl, AllocError> {
-    Ok(Ctrl::Mod(Box::new(alloc, a)?, by))
-}
-
-pub fn and(alloc: Global, c: Cond, d: Cond) -> Result<Cond, AllocError> {
-    Ok(Cond::And(Box::new(alloc, c)?, Box::new(alloc, d)?))
-}
-
-pub fn or(alloc: Global, c: Cond, d: Cond) -> Result<Cond, AllocError> {
-    Ok(Cond::Or(Box::new(alloc, c)?, Box::new(alloc, d)?))
+/// A condition in a box.
+pub fn held(alloc: Global, c: Cond) -> Result<Box<Cond>, AllocError> {
+    let b = Box::new(alloc, c)?;
+    Ok(b)
 }
