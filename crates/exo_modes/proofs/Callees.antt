@@ -1,12 +1,14 @@
 -- The procedures above one, and their modes.
-use Rattle.std.proofs.Common.{◌≡◌, ℕ, zero, suc, ◌+◌, ◌<◌, ◌≤◌, List, [], ◌∷◌, ◌++◌, Option, Some, None, option_map, slice_get, get_or, length, take, map, refl, ap, sym, ◌∙◌, append_assoc, add-one, subst, arith}
-use Rattle.std.proofs.lemmas.List.{append-nil, map-append}
+use Rattle.std.proofs.Common.{◌≡◌, ℕ, zero, suc, ◌+◌, ◌<◌, ◌≤◌, List, [], ◌∷◌, ◌++◌, Option, Some, None, option_map, slice_get, IfSome, get_or, length, take, map, refl, ap, sym, ◌∙◌, append_assoc, add-one, arith}
+use Rattle.std.proofs.lemmas.List.{append-nil, map-append, take_all, length_push}
 use Rattle.std.proofs.lemmas.Option.{slice_get-map, slice_get_past}
+use Rattle.std.proofs.lemmas.Option.{none_some}
+use Rattle.exo_meaning.proofs.Frame.{some_injective}
 use Rattle.exo_tree.specs.Tree.{Kind, Argument, Procedure, Program}
 use Rattle.exo_meaning.specs.Calls.{Callee}
 use Rattle.exo_meaning.specs.Run.{callees, callee_in, world_of, kinds_of}
 use Rattle.exo_context.specs.Touched.{Mode, Modes, call_has, no_modes, modes_at, modes_in, all_modes}
-use Rattle.exo_modes.specs.Marks.{argument_marks, call_marks, callable}
+use Rattle.exo_modes.specs.Marks.{argument_marks, block_marks, call_marks, callable, modes_of, IsBegun}
 
 get_taken : (ps : List Procedure) (n k : ℕ) → k < n → slice_get (take n ps) k ≡ slice_get ps k
 get_taken ps zero k h = absurd (omega arith)
@@ -66,11 +68,36 @@ modes_of_read f [] k x e h = absurd (omega (arith, h))
 modes_of_read f (y ∷ xs) zero x e h = ap f (sym e)
 modes_of_read f (y ∷ xs) (suc k) x e h = modes_of_read f xs k x e (omega (arith, h))
 
-taken_more : {X Y : Type 0} (f : X → Y) (xs : List X) (k : ℕ) (x : X) → x ≡ get_or xs k x → k < length xs → take (suc k) (map f xs) ≡ take k (map f xs) ++ f x ∷ []
-taken_more f [] k x e h = absurd (omega (arith, h))
-taken_more f (y ∷ xs) zero x e h = ap (λ z. f z ∷ []) (sym e)
-taken_more f (y ∷ xs) (suc k) x e h = ap (λ zs. f y ∷ zs) (taken_more f xs k x e (omega (arith, h)))
+taken_more : (ps : List Procedure) (k : ℕ) (p : Procedure) → slice_get ps k ≡ Some p → take (suc k) ps ≡ take k ps ++ p ∷ []
+taken_more [] zero p e = absurd (none_some e)
+taken_more [] (suc k) p e = absurd (none_some e)
+taken_more (q ∷ ps) zero p e = ap (λ r. r ∷ []) (some_injective q p e)
+taken_more (q ∷ ps) (suc k) p e = ap (λ rs. q ∷ rs) (taken_more ps k p e)
 
--- one procedure more is taken
-pub take_read : {X Y : Type 0} (f : X → Y) (xs : List X) (ys : List Y) (k : ℕ) (x : X) → map f xs ≡ ys → x ≡ get_or xs k x → k < length xs → take (k + 1) ys ≡ take k ys ++ f x ∷ []
-take_read f xs ys k x m e h = subst (λ zs. take (k + 1) zs ≡ take k zs ++ f x ∷ []) m (ap (λ n. take n (map f xs)) (add-one k) ∙ taken_more f xs k x e h)
+there : (ps : List Procedure) (k : ℕ) → k < length ps → slice_get ps k ≡ None → ⊥
+there [] k h e = omega (arith, h)
+there (p ∷ ps) zero h e = none_some (sym e)
+there (p ∷ ps) (suc k) h e = there ps k (omega (arith, h)) e
+
+module _ (program : Program) (ms new : List Modes) (k : ℕ) (begun : IsBegun program ms) (size : length ms ≡ k) where
+  abbrev kinds : ℕ → Kind
+  kinds = kinds_of program.fields
+
+  abbrev Added : Procedure → Type 0
+  Added p = new ≡ ms ++ block_marks program ms k (λ y. y) p.body ∷ []
+
+  -- the modes of the first procedures and of the next one
+  one_added : (p : Procedure) → slice_get program.procedures k ≡ Some p → Added p → IsBegun program new × (length new ≡ k + 1)
+  one_added p e a =
+      ?
+
+  by_procedure : (o : Option Procedure) → slice_get program.procedures k ≡ o → k < length program.procedures → IfSome o Added → IsBegun program new × (length new ≡ k + 1)
+  by_procedure None e h a = absurd (there program.procedures k h e)
+  by_procedure (Some p) e h a = one_added p e a
+
+  pub begun_on : k < length program.procedures → IfSome (slice_get program.procedures k) Added → IsBegun program new × (length new ≡ k + 1)
+  begun_on h a = by_procedure (slice_get program.procedures k) refl h a
+
+-- all modes, where as many are begun as there are procedures
+pub begun_whole : (program : Program) (ms : List Modes) → length program.procedures ≤ length ms → IsBegun program ms → ms ≡ modes_of program
+begun_whole program ms h b = b ∙ ap (all_modes (kinds_of program.fields) [] []) (take_all (length ms) program.procedures h)

@@ -1,5 +1,5 @@
 -- Which buffers are touched, and how.
-use Rattle.std.specs.Prelude.{ℕ, ◌==◌, ◌||◌, ◌&&◌, Bool, false, List, [], ◌∷◌, Option, Some, None, if◌then◌else◌, take, slice_get}
+use Rattle.std.specs.Prelude.{◌≡◌, ℕ, ◌==◌, ◌||◌, ◌&&◌, Bool, false, List, [], ◌∷◌, Option, Some, None, if◌then◌else◌, take, length, slice_get}
 use Rattle.exo_tree.specs.Tree.{Datum, Argument, Block, Statement, Program, Param}
 use Rattle.exo_meaning.specs.Calls.{Callee}
 use Rattle.exo_meaning.specs.Run.{callees, kinds_of, call_writes}
@@ -52,6 +52,10 @@ step_marks program above n root s m y = step_has_mode (callable program n) (mode
 -- the modes of each procedure of a program, in order
 abbrev pub modes_of : Program → List Modes
 modes_of program = all_modes (kinds_of program.fields) [] [] program.procedures
+
+-- the modes of the first procedures of a program, as many as there are
+abbrev pub IsBegun : Program → List Modes → Type 0
+IsBegun program ms = ms ≡ all_modes (kinds_of program.fields) [] [] (take (length ms) program.procedures)
 
 -- how the procedure of number k touches its parameter of index i; not at all where there is none
 abbrev pub param_modes : Program → ℕ → ℕ → Mode → Bool

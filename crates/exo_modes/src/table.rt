@@ -1,9 +1,9 @@
 //! The modes of all procedures of a unit.
-ghost use Rattle.std.specs.Prelude.{◌≡◌, ◌++◌, ◌+◌, [], map, take, length, OnOk, IfOk};
+ghost use Rattle.std.specs.Prelude.{◌≡◌, ◌++◌, [], ◌∷◌, length, slice_get, OnOk, OnErr, IfOk, IfSome};
 ghost use Rattle.exo_tree.specs.PlainUnit.{program};
 ghost use Rattle.exo_meaning.specs.Run.{kinds_of};
 ghost use Rattle.exo_context.specs.Touched.{Mode, modes_at, all_modes};
-ghost use Rattle.exo_modes.specs.Marks.{modes_of, param_modes};
+ghost use Rattle.exo_modes.specs.Marks.{block_marks, modes_of, IsBegun, param_modes};
 ghost use Rattle.exo_modes.specs.Seen.{says, row_says, table_says};
 
 use crate::mode::Modes;
@@ -19,23 +19,47 @@ pub struct ModeTable {
 }
 
 impl ModeTable {
-    /// The modes of the unit's procedures. Each body is gone through once, from the first procedure on,
-    /// so that those that it calls are known.
+    /// The modes of the unit's procedures.
     pub fn new(alloc: Global, unit: &Unit) -> Result<ModeTable, AllocError>
         ensures { IfOk result (λ t. table_says t ≡ modes_of (program unit.now)) }
     {
         let mut table = ModeTable {
             rows: Vec::new(alloc),
         };
-        for p in unit.procs.as_slice() {
-            let above = Above {
-                unit,
-                rows: &table.rows,
-            };
-            let row = row_of(alloc, &above, p)?;
-            table.rows.push(row)?;
-        }
+        table.extend(alloc, unit)?;
         Ok(table)
+    }
+
+    /// Adds the modes of those procedures of the unit that the table does not have yet, as of versions made since.
+    /// Each body is gone through once, from the first procedure on, so that those that it calls are known.
+    /// After want of memory the table still has the modes of the first procedures, as many as it has.
+    pub fn extend(&mut self, alloc: Global, unit: &Unit) -> Result<(), AllocError>
+        requires { IsBegun (program unit.now) (table_says self.old) }
+        ensures whole { OnOk result (table_says self.new ≡ modes_of (program unit.now)) }
+        ensures begun { OnErr result (IsBegun (program unit.now) (table_says self.new)) }
+    {
+        for k in self.rows.len()..unit.procs.len() {
+            self.add(alloc, unit, k)?;
+        }
+        Ok(())
+    }
+
+    /// Adds the modes of the procedure of that number, which is the next one.
+    fn add(&mut self, alloc: Global, unit: &Unit, k: usize) -> Result<(), AllocError>
+        requires { k ≡ length (table_says self.old) }
+        ensures added { OnOk result (IfSome (slice_get unit.now.procs k) (λ p. table_says self.new ≡ table_says self.old ++ block_marks (program unit.now) (table_says self.old) k (λ y. y) p.body ∷ [])) }
+        ensures unchanged { OnErr result (table_says self.new ≡ table_says self.old) }
+    {
+        let Some(p) = unit.procs.get(k) else {
+            return Ok(());
+        };
+        let above = Above {
+            unit,
+            rows: &self.rows,
+        };
+        let row = row_of(alloc, &above, p)?;
+        self.rows.push(row)?;
+        Ok(())
     }
 
     /// How a procedure touches the buffer of that id; not at all where there is no such procedure.
