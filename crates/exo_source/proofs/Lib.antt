@@ -10,3 +10,5 @@ mod Statements
 mod Neighbours
 mod Items
 mod Units
+mod Widths
+mod Strings
