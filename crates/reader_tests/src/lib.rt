@@ -2,8 +2,12 @@
 #![tactic(auto)]
 
 #[cfg(test)]
+mod changes;
+#[cfg(test)]
 mod first;
 #[cfg(test)]
 mod lexis;
+#[cfg(test)]
+mod strings;
 #[cfg(test)]
 mod units;

@@ -4,7 +4,7 @@ use exo_source::unit::read_unit;
 use std::alloc::{AllocError, Global};
 
 /// How many items a text has, or where it is wrong and why.
-fn shown(alloc: Global, text: &[u8]) -> Result<String, AllocError> {
+pub fn shown(alloc: Global, text: &[u8]) -> Result<String, AllocError> {
     if text.len() > 0x100000 {
         return Ok(String::new(alloc));
     }
