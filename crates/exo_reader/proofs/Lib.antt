@@ -7,7 +7,3 @@ pub mod Indices
 pub mod Productions
 pub mod Made
 pub mod Returns
-pub mod Procedures
-pub mod Lists
-pub mod FirstPrograms
-pub mod FirstTexts

@@ -3,9 +3,4 @@ pub mod Values
 pub mod Expression
 pub mod Rooms
 pub mod Chain
-pub mod Procedure
-pub mod Reserved
-pub mod FirstForm
-pub mod FirstAnswers
 pub mod Views
-pub mod FirstText

@@ -5,12 +5,6 @@ use Rattle.exo_lexer.specs.declared.token.Literal.TheVariants.{Value}
 use Rattle.exo_reader.specs.declared.source.SourceExpr.{SourceExpr}
 use Rattle.exo_reader.specs.declared.source.SourceExpr.TheOpen.{SourceExpr-F, Int, Truth, Name, Access, Field, Stride, Relu, Select, Negative, Parens, Binary}
 use Rattle.exo_reader.specs.declared.source.SourceExpr.TheFolds.{fold-SourceExpr}
-use Rattle.exo_reader.specs.Procedure.{SourceStatement, pass, assign, SourceParameter, SourceParameters, none, some, SourceProcedure}
-use Rattle.exo_reader.specs.declared.source.SourceStmt.{SourceStmt}
-use Rattle.exo_reader.specs.declared.source.SourceStmt.TheVariants.{Pass, Assign}
-use Rattle.exo_reader.specs.declared.source.SourceParam.{SourceParam}
-use Rattle.exo_reader.specs.declared.source.SourceParams.{SourceParams}
-use Rattle.exo_reader.specs.declared.source.SourceProc.{SourceProc}
 use Rattle.exo_reader.specs.declared.expression.Measured.{Measured}
 use Rattle.exo_reader.specs.declared.expression.Indices.{Indices}
 
@@ -44,20 +38,3 @@ pub record AreMeasured (l : Indices) : Type 0 where
 pub record IsLeaf (t : Tree) : Type 0 where
   pub depth : depth t ≡ 1
   pub nodes : nodes t ≡ 1
-
-abbrev pub statement_of : SourceStmt → SourceStatement
-statement_of Pass = pass
-statement_of (Assign x index value) = assign x (tree_of index) (tree_of value)
-
-abbrev pub parameter_of : SourceParam → SourceParameter
-parameter_of p = record { name = p.name; kind = p.kind; extent = tree_of p.extent }
-
-abbrev pub listed : List SourceParam → Bool → SourceParameters
-listed [] trailing = none
-listed (p ∷ more) trailing = some (parameter_of p) (map parameter_of more) trailing
-
-abbrev pub parameters_of : SourceParams → SourceParameters
-parameters_of p = listed p.items.items p.trailing
-
-abbrev pub procedure_of : SourceProc → SourceProcedure
-procedure_of p = record { name = p.name; params = parameters_of p.params; body = map statement_of p.body.items }

@@ -1,4 +1,4 @@
-// Source trees: a text as it is written, without names resolved.
+// Source trees of expressions: a text as it is written, without names resolved.
 
 use exo_lexer::text::Text;
 
@@ -53,36 +53,4 @@ pub enum SourceExpr {
     /// An expression in parentheses.
     Parens(Box<SourceExpr>),
     Binary(Operator, Box<SourceExpr>, Box<SourceExpr>),
-}
-
-/// A statement as it is written.
-#[derive(Drop)]
-pub enum SourceStmt {
-    Pass,
-    /// `x[e] = f`: the name, the index and the value.
-    Assign(Text, SourceExpr, SourceExpr),
-}
-
-/// A parameter `x: TYPE[e]` as it is written.
-#[derive(Drop)]
-pub struct SourceParam {
-    pub name: Text,
-    pub kind: Text,
-    pub extent: SourceExpr,
-}
-
-/// The parameters between the parentheses.
-#[derive(Drop)]
-pub struct SourceParams {
-    pub items: Vec<SourceParam>,
-    /// Whether a comma stands behind the last one.
-    pub trailing: bool,
-}
-
-/// A procedure as it is written.
-#[derive(Drop)]
-pub struct SourceProc {
-    pub name: Text,
-    pub params: SourceParams,
-    pub body: Vec<SourceStmt>,
 }

@@ -1,10 +1,8 @@
-//! Tables of texts: their tokens and places, and what they are read to.
+//! Tables of texts: their tokens and places, what they are read to, and where and why they are refused.
 #![tactic(auto)]
 
 #[cfg(test)]
 mod changes;
-#[cfg(test)]
-mod first;
 #[cfg(test)]
 mod lexis;
 #[cfg(test)]
