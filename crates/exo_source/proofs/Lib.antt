@@ -10,3 +10,4 @@ mod Statements
 mod Neighbours
 mod Items
 mod Units
+pub mod Eased

@@ -2,6 +2,7 @@
 use Rattle.std.specs.Prelude.{◌≡◌, ℕ, ◌+◌, ◌-◌, List, [], ◌∷◌, ◌++◌, Option, Some, None, map, length, drop, slice_get, Result, MatchResult}
 use Rattle.phrases.specs.Limits.{Cause, syntax, too_deep, too_long, too_large}
 use Rattle.phrases.specs.Text.{IsText, FaultAt}
+use Rattle.exo_source.specs.Source.{Item}
 use Rattle.exo_lexer.specs.Layout.{lexed, token_of, place_of, end_place}
 use Rattle.exo_lexer.specs.declared.place.Place.{Place}
 use Rattle.exo_lexer.specs.declared.token.Token.{Token}
@@ -94,3 +95,8 @@ abbrev pub ReadsUnit : List ℕ → Result Source ReadError → Type 0
 ReadsUnit text result =
     MatchResult result (λ s. IsText unit (tokens_of text) (map plain_item s.items.items) × (s.places.items ≡ places_of text))
     (λ e. IsRefusal (tokens_of text) (places_of text) e.kind e)
+
+-- The tokens of a text are one unit, or there is one error.
+pub record TextsAreOne : Type 0 where
+  pub error : (tokens : List Token) (places : List Place) (a b : ReadError) → IsFault tokens places a → IsFault tokens places b → a ≡ b
+  pub no_error : (tokens : List Token) (places : List Place) (items : List Item) (e : ReadError) → IsText unit tokens items → IsFault tokens places e → ⊥
