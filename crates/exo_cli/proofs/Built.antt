@@ -4,7 +4,7 @@ use Rattle.std.specs.Prelude.{slice_get, bytes_eq, option_map}
 use Rattle.std.proofs.lemmas.Bool.{and_parts, and_from, leb-true, not-true, not_from_false}
 use Rattle.std.proofs.lemmas.List.{length-append, length-map}
 use Rattle.std.proofs.lemmas.Option.{slice_get-map}
-use Rattle.exo_tree.specs.Tree.{Procedure, Program}
+use Rattle.exo_tree.specs.Tree.{statements, Procedure, Program}
 use Rattle.c_printer.specs.CTree.{Name}
 use Rattle.c_printer.specs.Names.{is_word}
 use Rattle.c_printer.specs.LoweredUnit.{Printing, name_of}
@@ -18,7 +18,9 @@ use Rattle.exo_cli.specs.declared.lines.Commute.{Commute}
 use Rattle.exo_cli.specs.declared.lines.Act.{Act}
 use Rattle.exo_cli.specs.declared.lines.Act.TheVariants as act
 use Rattle.exo_cli.specs.declared.lines.Line.{Line}
-use Rattle.exo_cli.specs.Compiled.{are_built, started, names_from, printing_of, printings, with_versions}
+use Rattle.exo_cli.specs.Compiled.{started, names_from, printing_of, printings, with_versions}
+use Rattle.exo_cli.specs.FirstUnits.{are_assignments, are_first, is_none, is_built}
+use Rattle.exo_cli.specs.FirstUnits.{is_first as is_first_here}
 use Rattle.exo_cli.specs.Built.{AreRead, AcceptedIsBuilt}
 use Rattle.exo_cli.proofs.Kept.{nothing_there, some_is, went_is, refused_does_not_go, stopped_is_not_done, entry_of, commuted_runs_alike}
 use Rattle.exo_cli.proofs.Changed.{commuted_first}
@@ -118,15 +120,15 @@ lines_built (line ∷ lines) v w are e = go (lines_built lines) (performed line.
     go later (Went u) is e = later u w (performed_built line.act v u are is) e
     go later (Refused why) is e = absurd (stopped_is_not_done line.number (operator_of line.act) why w e)
 
-each_printable : (ps : List Procedure) → are_built ps ≡ true → (k : ℕ) (q : Procedure) → slice_get ps k ≡ Some q → IsPrintable q
+each_printable : (ps : List Procedure) → are_first ps ≡ true → (k : ℕ) (q : Procedure) → slice_get ps k ≡ Some q → IsPrintable q
 each_printable [] h zero q e = absurd (nothing_there e)
 each_printable [] h (suc k) q e = absurd (nothing_there e)
-each_printable (p ∷ ps) h zero q e = subst IsPrintable (some_is e) (alone_is_printable p (and_parts (stands_alone p) (are_built ps) h).0)
-each_printable (p ∷ ps) h (suc k) q e = each_printable ps (and_parts (stands_alone p) (are_built ps) h).1 k q e
+each_printable (p ∷ ps) h zero q e = subst IsPrintable (some_is e) (alone_is_printable p (and_parts (stands_alone p) (are_assignments p.body && nat_le (length (statements p.body)) 60) (and_parts (is_first_here p) (are_first ps) h).0).0)
+each_printable (p ∷ ps) h (suc k) q e = each_printable ps (and_parts (is_first_here p) (are_first ps) h).1 k q e
 
-begin_built : (text : Program) → are_built text.procedures ≡ true → AreBuilt (started text.procedures)
+begin_built : (text : Program) → is_built text ≡ true → AreBuilt (started text.procedures)
 begin_built text h = record {
-  each = each_printable text.procedures h;
+  each = each_printable text.procedures (and_parts (nat_le (length text.memories) 1) (are_first text.procedures) (and_parts (is_none text.fields) (nat_le (length text.memories) 1 && are_first text.procedures) h).1).1;
   named = λ name k e. ⊎_elim (λ n. absurd (nothing_there n)) (λ (less : k < 0 + length text.procedures). let below : k < length text.procedures = omega arith in below) (held_first None 0 text.procedures name k e);
   emitted = λ i k e. none i k e;
 }
@@ -224,7 +226,7 @@ accepted_is_built text lines v built schedule ran =
         (at.0, ap (λ (u : Printing). slice_get v.procedures u.proc) (sym (some_is e)) ∙ at.1, are.each k at.0 at.1)
 
 -- the same of what is equal to it
-pub printed_is_built : (text : Program) (lines : List Line) (v : Versions) (made : Program) (what : List Printing) → are_built text.procedures ≡ true → AreRead lines → run_lines lines (started text.procedures) ≡ Done v
+pub printed_is_built : (text : Program) (lines : List Line) (v : Versions) (made : Program) (what : List Printing) → is_built text ≡ true → AreRead lines → run_lines lines (started text.procedures) ≡ Done v
     → made ≡ with_versions text v → what ≡ printings v → is_first_unit made what ≡ true
 printed_is_built text lines v made what built schedule ran is lists =
     ap (λ (p : Program). is_first_unit p what) is ∙ ap (is_first_unit (with_versions text v)) lists ∙ accepted_is_built text lines v built schedule ran

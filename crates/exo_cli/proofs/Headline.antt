@@ -26,7 +26,8 @@ use Rattle.exo_cli.specs.Messages.{usage, file_refused}
 use Rattle.exo_cli.specs.Words.{Command, Compile, command_of}
 use Rattle.exo_cli.specs.Work.{file_limit, Opens, AnswersTo, Answers, Moment, Ends}
 use Rattle.exo_cli.specs.Answer.{Answer, Accepted, Rejected, Unread, Misused, status_of, for_out, for_err}
-use Rattle.exo_cli.specs.Compiled.{IsCompiled, are_built, broken, not_built, typed, ended, scheduled, started, printing_of, printings, with_versions}
+use Rattle.exo_cli.specs.Compiled.{IsCompiled, broken, not_built, typed, ended, scheduled, started, printing_of, printings, with_versions}
+use Rattle.exo_cli.specs.FirstUnits.{is_built}
 use Rattle.exo_cli.specs.Lines as lines
 use Rattle.exo_cli.specs.Lines.{Versions, Outcome, run_lines}
 use Rattle.exo_cli.specs.ScheduleForm.{schedule_of}
@@ -99,7 +100,7 @@ accepted_is : {text other : List ℕ} → Accepted text ≡ Accepted other → t
 accepted_is e = cc
 
 module _ (procs source schedule bytes text : List ℕ) (items : List Item) (spelled : IsText unit (tokens_of source) items) (keeps : unit_fault items ≡ None) where
-  by_run : are_built (unit_of items).procedures ≡ true → (ls : List Line) (o : Outcome) → schedule_of bytes ≡ Some ls → run_lines ls (started (unit_of items).procedures) ≡ o
+  by_run : is_built (unit_of items) ≡ true → (ls : List Line) (o : Outcome) → schedule_of bytes ≡ Some ls → run_lines ls (started (unit_of items).procedures) ≡ o
       → Accepted text ≡ ended schedule (unit_of items) o → Promise source bytes text
   by_run built ls (lines.Done v) read ran e = record {
     items = items;
@@ -114,11 +115,11 @@ module _ (procs source schedule bytes text : List ℕ) (items : List Item) (spel
   }
   by_run built ls (lines.Stopped n operator why) read ran e = absurd (accepted_is_not e)
 
-  by_read : are_built (unit_of items).procedures ≡ true → (o : Option (List Line)) → schedule_of bytes ≡ o → Accepted text ≡ scheduled schedule (unit_of items) o → Promise source bytes text
+  by_read : is_built (unit_of items) ≡ true → (o : Option (List Line)) → schedule_of bytes ≡ o → Accepted text ≡ scheduled schedule (unit_of items) o → Promise source bytes text
   by_read built None read e = absurd (accepted_is_not e)
   by_read built (Some ls) read e = by_run built ls (run_lines ls (started (unit_of items).procedures)) read refl e
 
-  by_form : (b : Bool) → are_built (unit_of items).procedures ≡ b → Accepted text ≡ (if b then scheduled schedule (unit_of items) (schedule_of bytes) else not_built procs) → Promise source bytes text
+  by_form : (b : Bool) → is_built (unit_of items) ≡ b → Accepted text ≡ (if b then scheduled schedule (unit_of items) (schedule_of bytes) else not_built procs) → Promise source bytes text
   by_form true built e = by_read built (schedule_of bytes) refl e
   by_form false built e = absurd (accepted_is_not e)
 
@@ -129,7 +130,7 @@ accepted_is_not_broken procs (Some place) f e = accepted_is_not e
 module _ (procs source schedule bytes text : List ℕ) where
   by_rules : (items : List Item) → IsText unit (tokens_of source) items → (o : Option Fault) → unit_fault items ≡ o
       → Accepted text ≡ typed procs schedule (schedule_of bytes) (places_of source) items o → Promise source bytes text
-  by_rules items spelled None keeps e = by_form procs source schedule bytes text items spelled keeps (are_built (unit_of items).procedures) refl e
+  by_rules items spelled None keeps e = by_form procs source schedule bytes text items spelled keeps (is_built (unit_of items)) refl e
   by_rules items spelled (Some f) breaks e = absurd (accepted_is_not_broken procs (slice_get (places_of source) f.token) f e)
 
   -- an accepted text keeps the promise

@@ -1,6 +1,6 @@
 -- The answer to the texts of a unit and of a schedule: the unit is read, then its rules are tested, then its form, and then
 -- the schedule's lines run.
-use Rattle.std.specs.Prelude.{◌≡◌, ℕ, suc, ◌⊎◌, Bool, true, ◌&&◌, if◌then◌else◌, List, [], ◌∷◌, map, slice_get, slice_index, Option, Some, None, codes}
+use Rattle.std.specs.Prelude.{◌≡◌, ℕ, suc, ◌⊎◌, if◌then◌else◌, List, [], ◌∷◌, map, slice_get, slice_index, Option, Some, None, codes}
 use Rattle.phrases.specs.Text.{IsText}
 use Rattle.exo_tree.specs.Tree.{Procedure, Program}
 use Rattle.exo_lexer.specs.declared.place.Place.{Place}
@@ -14,7 +14,7 @@ use Rattle.exo_names.specs.Faults.{Fault}
 use Rattle.exo_names.specs.declared.error.TypeKind.{TypeKind}
 use Rattle.exo_names.specs.declared.error.TypeKind.TheVariants as rule
 use Rattle.exo_types.specs.ItemRules.{unit_fault, unit_of}
-use Rattle.c_printer.specs.FirstForm.{stands_alone}
+use Rattle.exo_cli.specs.FirstUnits.{is_built}
 use Rattle.c_printer.specs.LoweredUnit.{Printing, name_of, lowered}
 use Rattle.c_printer.specs.CText.{text_of}
 use Rattle.exo_cli.specs.Answer.{Answer, Accepted, Rejected}
@@ -89,14 +89,9 @@ rule_text rule.ConfigPlace = codes "ConfigPlace"
 rule_text rule.StridePlace = codes "StridePlace"
 rule_text rule.SharedArgument = codes "SharedArgument"
 
--- each procedure is of the form whose C is printed
-abbrev pub are_built : List Procedure → Bool
-are_built [] = true
-are_built (p ∷ ps) = stands_alone p && are_built ps
-
 -- a well-formed unit, by its program
 abbrev pub printed : List ℕ → List ℕ → Option (List Line) → Program → Answer
-printed procs schedule lines program = if are_built program.procedures then scheduled schedule program lines else not_built procs
+printed procs schedule lines program = if is_built program then scheduled schedule program lines else not_built procs
 
 -- a rule is broken at a token, which has this place
 abbrev pub broken : List ℕ → Option Place → TypeKind → Answer

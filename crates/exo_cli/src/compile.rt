@@ -7,18 +7,22 @@ ghost use Rattle.c_printer.specs.FirstForm.{is_first_unit};
 ghost use Rattle.c_printer.specs.LoweredUnit.{lowered};
 ghost use Rattle.exo_cli.specs.Answer.{Accepted, Rejected, IsVerdict};
 ghost use Rattle.exo_cli.specs.Built.{AreRead};
-ghost use Rattle.exo_cli.specs.Compiled.{IsCompiled, IsUnread, are_built, ended, kind_text, not_built, printed, rule_text, scheduled, started, why_text};
+ghost use Rattle.exo_cli.specs.Compiled.{IsCompiled, ended, kind_text, not_built, printed, rule_text, scheduled, started, typed, why_text};
+ghost use Rattle.exo_cli.specs.FirstUnits.{is_built};
+ghost use Rattle.exo_source.specs.Views.{plain_item};
+ghost use Rattle.exo_types.specs.ItemRules.{unit_fault};
 ghost use Rattle.exo_cli.specs.Lines.{operator_of, run_lines};
 ghost use Rattle.exo_cli.specs.Messages.{line_refused, place_refused};
 ghost use Rattle.exo_cli.specs.Replies.{plain};
 ghost use Rattle.exo_cli.specs.ScheduleForm.{schedule_of};
 
+use crate::first::is_built;
 use crate::lines::{Act, Line};
 use crate::messages;
 use crate::reply::Reply;
 use crate::schedule::read_schedule;
 use crate::session::{Session, Why};
-use c_printer::{Printed, c_text, lower, stands_alone};
+use c_printer::{Printed, c_text, lower};
 use exo_source::unit::{ReadError, ReadKind, Source, read_unit};
 use exo_types::{TypeError, TypeKind, check_types};
 use exo_tree::{Lines, Procs, Unit};
@@ -105,18 +109,6 @@ fn rule_text(rule: TypeKind) -> &'static str
     }
 }
 
-/// Whether each procedure is of the form whose C is printed.
-fn are_built(procs: &Procs) -> bool
-    ensures { result ≡ are_built procs.now }
-{
-    for p in procs.as_slice() {
-        if !stands_alone(p) {
-            return false;
-        }
-    }
-    true
-}
-
 /// Compiles a unit that keeps the rules.
 fn print_unit(
     alloc: Global,
@@ -129,7 +121,7 @@ fn print_unit(
     ensures answer { IfOk result (λ reply. plain reply ≡ printed procs.now schedule.now (schedule_of lines.now) (program unit.now)) }
     ensures verdict { IfOk result (λ reply. IsVerdict (plain reply)) }
 {
-    if !are_built(&unit.procs) {
+    if !is_built(unit) {
         return not_built(alloc, procs);
     }
     schedule_unit(alloc, unit, schedule, lines)
@@ -151,7 +143,7 @@ fn schedule_unit(
     schedule: &str,
     lines: &[u8],
 ) -> Result<Reply, AllocError>
-    requires unit { are_built (program unit.now).procedures ≡ true }
+    requires unit { is_built (program unit.now) ≡ true }
     requires lines { length lines.now ≤ 1048576 }
     ensures answer { IfOk result (λ reply. plain reply ≡ scheduled schedule.now (program unit.now) (schedule_of lines.now)) }
     ensures verdict { IfOk result (λ reply. IsVerdict (plain reply)) }
@@ -169,7 +161,7 @@ fn run_lines(
     schedule: &str,
     lines: &[Line],
 ) -> Result<Reply, AllocError>
-    requires unit { are_built (program unit.now).procedures ≡ true }
+    requires unit { is_built (program unit.now) ≡ true }
     requires lines { AreRead lines.now }
     ensures answer { IfOk result (λ reply. plain reply ≡ ended schedule.now (program unit.now) (run_lines lines.now (started unit.now.procs))) }
     ensures verdict { IfOk result (λ reply. IsVerdict (plain reply)) }
