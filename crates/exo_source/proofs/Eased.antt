@@ -5,7 +5,8 @@ use Rattle.phrases.specs.Phrase.{Phrase}
 use Rattle.phrases.specs.Sequence.{AllFit, carried}
 use Rattle.phrases.proofs.Eased.{Eases, eased, keeps_eased, all_eased, maybe_eased, commas_ease, listing_eases, one_fault, no_fault}
 use Rattle.exo_reader.specs.Values.{name, literal}
-use Rattle.exo_reader.specs.Expression.{Tree, Room, operand, control, datum, control_room, data_room, most_depth, FewDimensions, EndsList}
+use Rattle.exo_reader.specs.Expression.{Tree, operand, control, datum, control_room, data_room, most_depth, FewDimensions, EndsList}
+use Rattle.exo_reader.specs.declared.expression.Room.{Room}
 use Rattle.exo_lexer.specs.declared.token.Token.{Token}
 use Rattle.exo_lexer.specs.declared.token.Token.TheVariants.{Sign, Str, Dedent}
 use Rattle.exo_lexer.specs.declared.token.Sign.TheVariants.{Close, Comma}
@@ -164,7 +165,7 @@ kinds too_long before rest a b h k = h ∙ sym k
 kinds too_large before rest a b h k = h ∙ sym k
 
 same_error : (a b : ReadError) → a.line ≡ b.line → a.column ≡ b.column → a.kind ≡ b.kind → a ≡ b
-same_error a b l c k = cc
+same_error a b l c k = ap₂ (λ x y. record { line = x; column = y; kind = a.kind }) l c ∙ ap (λ x. record { line = b.line; column = b.column; kind = x }) k
 
 same_place : {p q : Place} → Some p ≡ Some q → p ≡ q
 same_place e = cc
