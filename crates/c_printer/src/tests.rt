@@ -68,7 +68,8 @@ fn nested(alloc: Global) -> Result<CUnit, AllocError> {
 #[test]
 fn a_nested_function_has_its_text(rt: HostRuntime) -> Result<(), AllocError> {
     let alloc = rt.alloc();
-    let lines = "\nvoid f(void) {\n    for (int64_t i = 0LL; i < n; i++) {\n        int8_t *t = (int8_t *)malloc((size_t)n * sizeof(int8_t));\n        if ((i < 2LL)) {\n            free(t);\n        } else {\n            ;\n        }\n    }\n}\n";
+    let lines =
+        "\nvoid f(void) {\n    for (int64_t i = 0LL; i < n; i++) {\n        int8_t *t = (int8_t *)malloc((size_t)n * sizeof(int8_t));\n        if ((i < 2LL)) {\n            free(t);\n        } else {\n            ;\n        }\n    }\n}\n";
     let want = format!(in alloc; "/* exoc\n */\n{PREAMBLE}{lines}")?;
     assert_eq!(rt; c_text(alloc, &nested(alloc)?)?.as_str(), want.as_str());
     Ok(())

@@ -24,8 +24,8 @@ use crate::schedule::read_schedule;
 use crate::session::{Session, Why};
 use c_printer::{Printed, c_text, lower};
 use exo_source::unit::{ReadError, ReadKind, Source, read_unit};
-use exo_types::{TypeError, TypeKind, check_types};
 use exo_tree::{Lines, Procs, Unit};
+use exo_types::{TypeError, TypeKind, check_types};
 use std::alloc::{AllocError, Global};
 
 /// Compiles the unit by the schedule. The names are those of their files, for the messages.

@@ -125,9 +125,12 @@ field_eases : Eases field
 field_eases limits f fits = (name_eases limits f.name fits.0, type_name_eases limits f.kind fits.1)
 
 definition_eases : Eases definition
-definition_eases limits p fits =
-    (name_eases limits p.name fits.0, parameters_ease limits (p.params, p.trailing) fits.1, all_eased assertion control_eases limits p.asserts fits.2,
-    (some_ease (statement 1) (Is Dedent) (λ l s f. statement_eases l 1 s f) limits p.body fits.3.0, tt))
+definition_eases limits p fits = (
+  name_eases limits p.name fits.0,
+  parameters_ease limits (p.params, p.trailing) fits.1,
+  all_eased assertion control_eases limits p.asserts fits.2,
+  (some_ease (statement 1) (Is Dedent) (λ l s f. statement_eases l 1 s f) limits p.body fits.3.0, tt),
+)
 
 item_eases : Eases item
 item_eases limits (procedure p) fits = definition_eases limits p fits
@@ -174,9 +177,9 @@ one_error : (tokens : List Token) (places : List Place) (a b : ReadError) → Is
 one_error tokens places a b f g =
     let one = one_fault unit unit_eases f.cause g.cause tokens f.last g.last f.fault g.fault in
     let same : a.kind ≡ b.kind =
-        kinds g.cause g.fault.before g.fault.rest a.kind b.kind
-        (subst (λ r. IsKind g.cause g.fault.before r a.kind) one.3 (subst (λ w. IsKind g.cause w f.fault.rest a.kind) one.2 (subst (λ c. IsKind c f.fault.before f.fault.rest a.kind) one.0 f.kind)))
-        g.kind in
+    kinds g.cause g.fault.before g.fault.rest a.kind b.kind
+    (subst (λ r. IsKind g.cause g.fault.before r a.kind) one.3 (subst (λ w. IsKind g.cause w f.fault.rest a.kind) one.2 (subst (λ c. IsKind c f.fault.before f.fault.rest a.kind) one.0 f.kind)))
+    g.kind in
     let place : f.placed.place ≡ g.placed.place = same_place (sym f.placed.there ∙ ap (place_left places) one.1 ∙ g.placed.there) in
     same_error a b
     (f.placed.line ∙ ap (λ (p : Place). p.line) place ∙ sym g.placed.line)

@@ -104,13 +104,14 @@ module _ {A T : Type 0} (kind : Phrase A T) (eases : Eases kind) where
     where
       go : (w : List A) → g.before ≡ f.before ++ w → f.rest ≡ w ++ g.rest → AreOne c d tokens last more f g
       go [] longer rest =
-          let before : f.before ≡ g.before = sym (longer ∙ append-nil f.before) in
-          (one_cause c d f.before f.rest (stops c tokens last f)
-          (λ on. stops d tokens more g (subst (λ r. GoesOn kind (passed d) g.before r) rest (subst (λ b. GoesOn kind (passed d) b f.rest) before on)))
-          f.goes (subst (λ r. Goes d kind f.before r) (sym rest) (subst (λ b. Goes d kind b g.rest) (sym before) g.goes)),
-          sym f.count ∙ ap length rest ∙ g.count,
-          before,
-          rest)
+          let before : f.before ≡ g.before = sym (longer ∙ append-nil f.before) in (
+            one_cause c d f.before f.rest (stops c tokens last f)
+                (λ on. stops d tokens more g (subst (λ r. GoesOn kind (passed d) g.before r) rest (subst (λ b. GoesOn kind (passed d) b f.rest) before on)))
+                f.goes (subst (λ r. Goes d kind f.before r) (sym rest) (subst (λ b. Goes d kind b g.rest) (sym before) g.goes)),
+            sym f.count ∙ ap length rest ∙ g.count,
+            before,
+            rest,
+          )
       go (a ∷ w) longer rest = absurd (not_past c d tokens last more f g a w longer rest)
 
   -- a text is refused at one token, for one cause
