@@ -1,9 +1,9 @@
 -- Normal forms and formulas at a place have their values.
-use Rattle.std.proofs.Common.{◌≡◌, ◌≤ℤ◌, ℕ, ℤ, pos, ◌+ℤ◌, ◌-ℤ◌, ◌*ℤ◌, int_le, Bool, true, false, List, Option, Some, None, arith, refl, sym, ap, ◌∙◌, true≢false}
+use Rattle.std.proofs.Common.{◌≡◌, ◌≤ℤ◌, ℕ, ℤ, pos, ◌+ℤ◌, ◌-ℤ◌, ◌*ℤ◌, int_le, true, List, Option, Some, None, arith, sym, ap, ◌∙◌, true≢false}
 use Rattle.std.proofs.lemmas.Int.{ints}
-use Rattle.exo_tree.specs.Tree.{Argument, ControlArg, ConditionArg, Whole, Window, ConfigField, Procedure}
+use Rattle.exo_tree.specs.Tree.{ControlArg, ConditionArg, Whole, Window, ConfigField, Procedure}
 use Rattle.exo_meaning.specs.Scene.{Scene, is_set}
-use Rattle.affine_forms.specs.Atoms.{Atom, Variable, EntryField, UnknownField, Valuation, atom_value, value, only}
+use Rattle.affine_forms.specs.Atoms.{Atom, Variable, EntryField, UnknownField, Valuation, atom_value, value}
 use Rattle.affine_forms.specs.Forms.{Allowed}
 use Rattle.affine_forms.specs.Formulas.{AllowedFlags, is_met}
 use Rattle.affine_forms.specs.Laws.{ReadsAt, ReadsFlagsAt}

@@ -1,5 +1,5 @@
 -- The roots of a procedure that has extents have extents over variables alone.
-use Rattle.std.proofs.Common.{◌≡◌, ℕ, ◌==◌, Bool, true, false, cond, ◌&&◌, List, [], ◌∷◌, length, Option, Some, None, refl, subst}
+use Rattle.std.proofs.Common.{◌≡◌, ℕ, ◌==◌, Bool, true, false, cond, List, [], ◌∷◌, length, Option, Some, None, refl, subst}
 use Rattle.exo_tree.specs.Tree.{Coord, Statement, Assign, Reduce, Config, Pass, If, For, Alloc, View, Call, Block, end, next, Param, ParamKind, ControlParam, TensorParam, WindowParam, Procedure}
 use Rattle.affine_forms.proofs.Values.{and_parts, some_injective, none_some}
 use Rattle.affine_places.specs.Roots.{Layout, Dense, Strided, Rooted, Roots, no_roots, own_root, with_root, with_kind, with_params, seen_through, with_view, with_block, with_statement, roots_of, are_extents, kind_has_extents, params_have_extents, block_has_extents, statement_has_extents, has_extents}

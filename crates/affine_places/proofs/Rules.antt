@@ -1,9 +1,9 @@
 -- Extents keep the rules of affine expressions.
-use Rattle.std.proofs.Common.{◌≡◌, ℕ, nat_lt, Bool, true, false, ◌&&◌, ◌||◌, List, [], ◌∷◌, length, refl, ap, ap₂, ◌∙◌}
+use Rattle.std.proofs.Common.{◌≡◌, Bool, true, ◌&&◌, ◌||◌, List, [], ◌∷◌, length, refl, ap₂}
 use Rattle.std.specs.Int.{is_positive}
 use Rattle.exo_tree.specs.Tree.{Control, Lit, Var, Field, StrideOf, Neg, Add, Sub, Mul, Div, Mod}
 use Rattle.exo_meaning.specs.Units.{is_rank}
-use Rattle.affine_forms.specs.Forms.{Allowed, anything, is_literal, is_affine, keeps_rules}
+use Rattle.affine_forms.specs.Forms.{Allowed, is_literal, is_affine, keeps_rules}
 use Rattle.affine_forms.specs.Strides.{all_affine, all_keep_rules}
 use Rattle.affine_forms.proofs.Values.{and_parts}
 use Rattle.affine_places.specs.Roots.{variables, are_extents}

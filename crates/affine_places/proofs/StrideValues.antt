@@ -1,10 +1,10 @@
 -- The stride that is read for a coordinate of a name has its number.
-use Rattle.std.proofs.Common.{◌≡◌, ℕ, zero, suc, ◌<◌, ◌≤◌, ℤ, pos, ◌*ℤ◌, nat_lt, Bool, true, false, cond, ◌&&◌, List, [], ◌∷◌, map, length, drop, get_or, Option, Some, None, IsSome, option_map, slice_get, arith, refl, sym, ap, ap₂, subst, ◌∙◌, true≢false}
+use Rattle.std.proofs.Common.{◌≡◌, ℕ, zero, suc, ◌<◌, ◌≤◌, ℤ, pos, ◌*ℤ◌, nat_lt, Bool, true, false, cond, List, [], ◌∷◌, map, length, drop, get_or, Option, Some, None, IsSome, option_map, slice_get, arith, refl, sym, ap, ◌∙◌, true≢false}
 use Rattle.std.proofs.lemmas.Int.{ints}
 use Rattle.std.proofs.lemmas.Bool.Decides.{nat_tests}
 use Rattle.std.proofs.lemmas.Option.{slice_get-map}
-use Rattle.exo_tree.specs.Tree.{Control, Procedure}
-use Rattle.exo_meaning.specs.Scene.{Shape, Side, Point, Range, Seen, Scene, number, numbers, strides_of, strides_seen, stride_at}
+use Rattle.exo_tree.specs.Tree.{Control}
+use Rattle.exo_meaning.specs.Scene.{Shape, Side, Point, Range, Seen, Scene, number, numbers, strides_of, stride_at}
 use Rattle.exo_meaning.specs.Run.{product, row_major}
 use Rattle.exo_meaning.specs.Units.{is_rank}
 use Rattle.affine_forms.specs.Atoms.{Atom, Variable, OpaqueStride, Valuation, atom_value, value, constantly, only}

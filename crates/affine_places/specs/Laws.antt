@@ -1,6 +1,6 @@
 -- The laws of normal forms and formulas at a place, each the contract of a function.
-use Rattle.std.specs.Prelude.{◌≡◌, ◌≤ℤ◌, ℕ, zero, suc, ℤ, pos, Bool, true, false, List, [], ◌∷◌, map, get_or, Option, Some, None, IsSome}
-use Rattle.exo_tree.specs.Tree.{Control, Condition, Argument, ControlArg, ConditionArg, Whole, Window, ConfigField, Procedure}
+use Rattle.std.specs.Prelude.{◌≡◌, ◌≤ℤ◌, ℕ, zero, suc, ℤ, pos, true, false, List, [], ◌∷◌, map, get_or, Option, Some, None, IsSome}
+use Rattle.exo_tree.specs.Tree.{Control, Condition, ControlArg, ConditionArg, Whole, Window, ConfigField, Procedure}
 use Rattle.exo_meaning.specs.Scene.{Shape, Side, Point, Range, Seen, Scene, number, numbers, is_set, holds}
 use Rattle.exo_meaning.specs.Run.{row_major}
 use Rattle.affine_forms.specs.Atoms.{Valuation, value}

@@ -1,6 +1,6 @@
 -- What an expression reads at a place of a procedure.
-use Rattle.std.specs.Prelude.{ℕ, pos, nat_lt, Bool, true, ◌&&◌, if◌then◌else◌, List, length, slice_get, Option, Some, None}
-use Rattle.exo_tree.specs.Tree.{Argument, ControlArg, ConditionArg, Whole, Window, ConfigField, Program}
+use Rattle.std.specs.Prelude.{ℕ, pos, nat_lt, Bool, true, if◌then◌else◌, List, length, slice_get, Option, Some, None}
+use Rattle.exo_tree.specs.Tree.{ControlArg, ConditionArg, Whole, Window, ConfigField, Program}
 use Rattle.affine_forms.specs.Atoms.{Atom, Variable, EntryField, UnknownField, OpaqueStride, Linear, constantly, only}
 use Rattle.affine_forms.specs.Forms.{Reading, form, is_writable}
 use Rattle.affine_forms.specs.Formulas.{Formula, Flags, own_flag, row, moved, formula, is_writable_condition}

@@ -1,5 +1,5 @@
 -- What a table of roots tells of each name.
-use Rattle.std.specs.Prelude.{ℕ, Option, nat_eq, option_map}
+use Rattle.std.specs.Prelude.{nat_eq, option_map}
 use Rattle.indexmap.specs.IndexMap.{get}
 use Rattle.affine_places.specs.Roots as plain
 use Rattle.affine_places.specs.declared.layout.Layout.{Layout}

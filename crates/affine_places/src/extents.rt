@@ -60,12 +60,7 @@ fn root_stride(alloc: Global, root: Id, d: u32, layout: Layout<'_>) -> Result<Dr
 }
 
 /// The stride of a name's coordinate: that of the root's dimension over which the coordinate runs.
-pub(crate) fn stride_of(
-    alloc: Global,
-    roots: &Roots<'_>,
-    x: Id,
-    k: u32,
-) -> Result<Draft, FormError>
+pub(crate) fn stride_of(alloc: Global, roots: &Roots<'_>, x: Id, k: u32) -> Result<Draft, FormError>
     ensures { Formed result (stride_of_fits (roots_in roots.now x.0) k && is_short_form (stride_of (roots_in roots.now x.0) k)) (stride_of (roots_in roots.now x.0) k) }
 {
     let Some(seen) = roots.get(x) else {

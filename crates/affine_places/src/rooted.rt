@@ -56,11 +56,7 @@ impl<'a> Rooted<'a> {
     }
 
     /// What a window of the name has: a point drops its dimension.
-    pub(crate) fn through(
-        &self,
-        alloc: Global,
-        coords: &Coords,
-    ) -> Result<Rooted<'a>, AllocError>
+    pub(crate) fn through(&self, alloc: Global, coords: &Coords) -> Result<Rooted<'a>, AllocError>
         ensures { IfOk result (λ r. plain_root r ≡ seen_through coords.now (plain_root self.now)) }
     {
         Ok(Rooted {

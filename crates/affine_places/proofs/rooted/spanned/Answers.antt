@@ -1,4 +1,4 @@
-use Rattle.std.proofs.Common.{◌≡◌, ◌≤◌, ◌<◌, ◌+◌, ◌++◌, [], ◌∷◌, min, length, drop, map, ap, sym, ◌∙◌, arith}
+use Rattle.std.proofs.Common.{◌≤◌, ◌<◌, ◌+◌, ◌++◌, min, length, drop, map, ap, sym, ◌∙◌, arith}
 use Rattle.std.proofs.lemmas.List.{length-map, drop-map}
 use Rattle.exo_tree.specs.PlainControl.{coordinate}
 use Rattle.affine_places.specs.Roots.{spanned}
@@ -13,8 +13,8 @@ loop-k-preserved c =
     let p = ap (map coordinate) (read_on c.args.coords.now c.loop-k.k c.index-coords-k.result c.index-coords-k.is m) in
     let q = read_number c.args.dims.now c.loop-k.k n in
     elim c.if-is_span.branch [
-      then-is_span+in_ok-push w ↦ ap (λ v. v ++ spanned (map coordinate (drop (c.loop-k.k + 1) c.args.coords.now)) (drop (c.loop-k.k + 1) c.args.dims.now)) (ap (λ v. v.items) w.kept-is ∙ w.in_ok-push.ensures.items) ∙ kept_on c.loop-k.kept.items _ (coordinate c.index-coords-k.result) _ _ _ _ _ p q (sym c.is_span.ensures ∙ w.if-is_span.true) c.loop-k.invariant
-    | else-is_span w ↦ ap (λ v. v.items ++ spanned (map coordinate (drop (c.loop-k.k + 1) c.args.coords.now)) (drop (c.loop-k.k + 1) c.args.dims.now)) w.kept-is ∙ dropped_on c.loop-k.kept.items _ (coordinate c.index-coords-k.result) _ _ _ _ _ p q (sym c.is_span.ensures ∙ w.if-is_span.false) c.loop-k.invariant
+      | then-is_span+in_ok-push w ↦ ap (λ v. v ++ spanned (map coordinate (drop (c.loop-k.k + 1) c.args.coords.now)) (drop (c.loop-k.k + 1) c.args.dims.now)) (ap (λ v. v.items) w.kept-is ∙ w.in_ok-push.ensures.items) ∙ kept_on c.loop-k.kept.items _ (coordinate c.index-coords-k.result) _ _ _ _ _ p q (sym c.is_span.ensures ∙ w.if-is_span.true) c.loop-k.invariant
+      | else-is_span w ↦ ap (λ v. v.items ++ spanned (map coordinate (drop (c.loop-k.k + 1) c.args.coords.now)) (drop (c.loop-k.k + 1) c.args.dims.now)) w.kept-is ∙ dropped_on c.loop-k.kept.items _ (coordinate c.index-coords-k.result) _ _ _ _ _ p q (sym c.is_span.ensures ∙ w.if-is_span.false) c.loop-k.invariant
     ]
 
 pub returns : goal.returns
