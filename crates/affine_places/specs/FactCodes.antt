@@ -5,7 +5,7 @@ use Rattle.std.proofs.Common.{ap, arith, refl}
 use base.Stored.{Gv, gnum, gcons}
 use Rattle.exo_tree.specs.Codes.{argument_code}
 use Rattle.affine_forms.specs.AtomCodes.{right, tag, code_path, same_path}
-use Rattle.affine_forms.specs.Facts.{Fact, Known, UnknownAt, FieldFact}
+use Rattle.affine_places.specs.Facts.{Fact, Known, UnknownAt, FieldFact}
 
 abbrev pub code_fact : Fact → Gv
 code_fact (Known a) = gcons (gnum 0) (argument_code.code a)

@@ -1,9 +1,9 @@
 //! What is known of configuration fields at a place.
 ghost use Rattle.std.specs.Prelude.{◌≡◌, [], ◌∷◌, OnOk, OnErr, IfSome, IsTrue, option_map};
 ghost use Rattle.std.specs.Option.{option_copied};
-ghost use Rattle.affine_forms.specs.Facts as plain;
-ghost use Rattle.affine_forms.specs.Facts.{fact_of, fact_keeps_rules};
-ghost use Rattle.affine_forms.specs.PlainFacts.{plain_fact};
+ghost use Rattle.affine_places.specs.Facts as plain;
+ghost use Rattle.affine_places.specs.Facts.{fact_of, fact_keeps_rules};
+ghost use Rattle.affine_places.specs.PlainFacts.{plain_fact};
 
 use exo_tree::{Arg, FieldId, Path};
 use std::alloc::{AllocError, Global};
@@ -34,19 +34,19 @@ pub struct Facts {
 impl Model for Facts {
     ghost use Rattle.std.specs.Prelude.{List, map};
     ghost use Rattle.std.specs.Coded.{coded_list};
-    ghost use Rattle.affine_forms.specs.Facts as plain;
-    ghost use Rattle.affine_forms.specs.FactCodes.{entry_code};
+    ghost use Rattle.affine_places.specs.Facts as plain;
+    ghost use Rattle.affine_places.specs.FactCodes.{entry_code};
 
     ghost Value = { List plain.FieldFact };
 
     ghost coded = { coded_list entry_code };
 
-    ghost use Rattle.affine_forms.specs.PlainFacts.{plain_entry};
+    ghost use Rattle.affine_places.specs.PlainFacts.{plain_entry};
 
     ghost view = { λ f. map plain_entry f.items.items };
 
     ghost use Rattle.std.specs.Prelude.{IsTrue};
-    ghost use Rattle.affine_forms.specs.Facts.{facts_keep_rules};
+    ghost use Rattle.affine_places.specs.Facts.{facts_keep_rules};
 
     ghost invariant = { λ f. IsTrue (facts_keep_rules (map plain_entry f.items.items)) };
 }
