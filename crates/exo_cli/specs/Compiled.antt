@@ -105,7 +105,7 @@ typed procs schedule lines places items (Some f) = broken procs (slice_get place
 -- the text is no unit: the answer names the first token with which none goes on
 abbrev pub IsUnread : List ℕ → List ℕ → Answer → Type 0
 IsUnread procs text answer =
-    (e : ReadError) × IsFault (tokens_of text) (places_of text) e × (answer ≡ Rejected (place_refused procs e.line e.column (kind_text e.kind)))
+    (e : ReadError) × IsFault unit (tokens_of text) (places_of text) e × (answer ≡ Rejected (place_refused procs e.line e.column (kind_text e.kind)))
 
 -- the text is a unit
 abbrev pub IsTyped : List ℕ → List ℕ → List ℕ → List ℕ → Answer → Type 0

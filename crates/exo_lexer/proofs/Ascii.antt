@@ -1,7 +1,7 @@
 -- Bytes of names.
-use Rattle.std.proofs.Common.{◌≡◌, ℕ, suc, ◌+◌, ◌<◌, ◌≤◌, Bool, true, false, List, get_or, take, length, refl, sym, ap, ◌∙◌, arith, leb, eqb, below_more, get_or-take, length-take-le}
+use Rattle.std.proofs.Common.{◌≡◌, ℕ, ◌+◌, ◌<◌, ◌≤◌, true, List, get_or, take, length, arith, below_more, get_or-take, length-take-le}
 use Rattle.std.proofs.lemmas.Bool.Decides.{nat_tests}
-use Rattle.exo_lexer.specs.Bytes.{goes_on_name, begins_name}
+use Rattle.exo_lexer.specs.Bytes.{goes_on_name}
 
 pub name_ascii : (b : ℕ) → goes_on_name b ≡ true → b < 0x80
 name_ascii b is = grind (arith, nat_tests)

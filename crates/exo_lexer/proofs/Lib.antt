@@ -4,3 +4,4 @@ pub mod Lines
 pub mod FirstLine
 pub mod Cuts
 pub mod Ascii
+mod Widths

@@ -1,6 +1,7 @@
 // The tokens of a text.
 
 ghost use Rattle.std.specs.Prelude.{◌≡◌, ◌+◌, ◌≤◌, ◌++◌, [], ◌∷◌, length, map, take, true, false, IfOk, MatchOption};
+ghost use Rattle.exo_lexer.specs.Widths.{least_widths};
 ghost use Rattle.exo_lexer.specs.Layout.{lines, line_end_width, end_place, up_to_fault, is_sound, layout, lexed, line_lexed, place_of, token_of};
 
 use crate::blocks::Blocks;
@@ -141,11 +142,13 @@ fn separate(alloc: Global, placed: Vec<Placed>, end: Place) -> Result<Lexed, All
     Ok(Lexed { tokens, places })
 }
 
-/// The tokens of a text of at most 2^20 bytes, and their places.
+/// The tokens of a text of at most 2^20 bytes, and their places. The text has as many bytes as they take at the least, but
+/// for a last line end.
 pub fn lex(alloc: Global, text: &[u8]) -> Result<Lexed, AllocError>
     requires { length text.now ≤ 0x100000 }
     ensures tokens { IfOk result (λ l. l.tokens.items ≡ map token_of (lexed text.now)) }
     ensures places { IfOk result (λ l. l.places.items ≡ map place_of (lexed text.now) ++ end_place text.now ∷ []) }
+    ensures widths { IfOk result (λ l. least_widths l.tokens.items ≤ length text.now + 1) }
 {
     let end = end_place(text);
     let placed = lay_text(alloc, text, end)?;

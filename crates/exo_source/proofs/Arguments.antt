@@ -1,8 +1,7 @@
 -- Arguments between parentheses.
-use Rattle.std.proofs.Common.{◌≡◌, List, [], ◌∷◌, ◌++◌, Option, Some, Bool, true, false, ap, sym, ◌∙◌, append_assoc}
-use Rattle.phrases.specs.Limits.{Limits}
+use Rattle.std.proofs.Common.{◌≡◌, List, ◌∷◌, ◌++◌, Some, true, false, ap, sym, ◌∙◌, append_assoc}
 use Rattle.phrases.specs.Phrase.{first}
-use Rattle.exo_reader.specs.Expression.{Tree, number, truth, variable, access, field, stride, relu, select, negative, parens, binary, word_of, sign, spelling}
+use Rattle.exo_reader.specs.Expression.{Tree, number, truth, variable, access, field, stride, relu, select, negative, parens, binary, sign, spelling}
 use Rattle.exo_lexer.specs.declared.token.Token.{Token}
 use Rattle.exo_lexer.specs.declared.token.Token.TheVariants.{Name, Int, Sign, Word}
 use Rattle.exo_lexer.specs.declared.token.Sign.TheVariants.{Open, Close, Minus}

@@ -1,21 +1,21 @@
 -- The coordinates of windows.
-use Rattle.std.proofs.Common.{◌≡◌, ℕ, ◌+◌, ◌<◌, ◌≤◌, max, List, [], ◌∷◌, ◌++◌, Option, Some, Bool, true, false, ◌||◌, length, refl, sym, ap, ◌∙◌, append_assoc, subst, arith, map}
+use Rattle.std.proofs.Common.{◌≡◌, ℕ, ◌<◌, ◌≤◌, max, List, [], ◌∷◌, ◌++◌, Option, Some, true, false, ◌||◌, length, refl, sym, ap, ◌∙◌, append_assoc, subst, arith, map}
 use Rattle.std.proofs.lemmas.List.{length-append, length-map}
 use Rattle.phrases.specs.Limits.{Limits, in_depth, Cause, passed, too_long}
-use Rattle.phrases.specs.Phrase.{first, Phrase, Taken, Refused}
+use Rattle.phrases.specs.Phrase.{first, Taken, Refused}
 use Rattle.phrases.specs.Answers.{Refuses}
 use Rattle.phrases.specs.declared.Refusal.{Refusal}
 use Rattle.phrases.proofs.Phrases.{goes_along, taken_rest}
 use Rattle.phrases.proofs.Exits.{refuses_along}
 use Rattle.phrases.proofs.Sequences.{Back, Step}
 use Rattle.phrases.proofs.Commas.{CommaApart, Listed, listing_refused_first, listing_refused, listing_full, listing_done}
-use Rattle.exo_reader.specs.Expression.{Tree, Trees, trees, number, truth, variable, access, field, stride, relu, select, negative, parens, binary, word_of, sign, depth, deepest, nodes, spelling, FollowsOperand, control, FewDimensions, EndsList}
+use Rattle.exo_reader.specs.Expression.{Tree, trees, number, truth, variable, access, field, stride, relu, select, negative, parens, binary, sign, deepest, spelling, FollowsOperand, control, FewDimensions, EndsList}
 use Rattle.exo_reader.specs.Views.{tree_of, tree_step}
 use Rattle.exo_reader.specs.declared.source.SourceExpr.TheVariants.{Access, rolls-Access}
 use Rattle.exo_reader.specs.declared.source.SourceExpr.TheFolds.{fold-roll-SourceExpr}
 use Rattle.exo_lexer.specs.declared.token.Token.{Token}
 use Rattle.exo_lexer.specs.declared.token.Token.TheVariants.{Name, Int, Sign, Word}
-use Rattle.exo_lexer.specs.declared.token.Sign.TheVariants.{Open, Close, CloseBracket, Comma, Colon, Minus}
+use Rattle.exo_lexer.specs.declared.token.Sign.TheVariants.{Open, CloseBracket, Comma, Colon, Minus}
 use Rattle.exo_lexer.specs.declared.token.Word.TheVariants as w
 use Rattle.exo_source.specs.Source.{Coordinate, point, span}
 use Rattle.exo_source.specs.Statements.{FollowsCoordinate, coordinate, coordinates}

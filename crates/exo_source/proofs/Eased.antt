@@ -173,12 +173,12 @@ same_error a b l c k = ap₂ (λ x y. record { line = x; column = y; kind = a.ki
 same_place : {p q : Place} → Some p ≡ Some q → p ≡ q
 same_place e = cc
 
-one_error : (tokens : List Token) (places : List Place) (a b : ReadError) → IsFault tokens places a → IsFault tokens places b → a ≡ b
+one_error : (tokens : List Token) (places : List Place) (a b : ReadError) → IsFault unit tokens places a → IsFault unit tokens places b → a ≡ b
 one_error tokens places a b f g =
     let one = one_fault unit unit_eases f.cause g.cause tokens f.last g.last f.fault g.fault in
     let same : a.kind ≡ b.kind =
     kinds g.cause g.fault.before g.fault.rest a.kind b.kind
-    (subst (λ r. IsKind g.cause g.fault.before r a.kind) one.3 (subst (λ w. IsKind g.cause w f.fault.rest a.kind) one.2 (subst (λ c. IsKind c f.fault.before f.fault.rest a.kind) one.0 f.kind)))
+    (subst (λ r. IsKind g.cause g.fault.before r a.kind) one.3 (subst (λ w. IsKind g.cause w f.fault.rest a.kind) one.2 (subst (λ c. IsKind c f.fault.before f.fault.rest a.kind) one.0 f.why)))
     g.kind in
     let place : f.placed.place ≡ g.placed.place = same_place (sym f.placed.there ∙ ap (place_left places) one.1 ∙ g.placed.there) in
     same_error a b

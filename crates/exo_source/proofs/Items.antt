@@ -1,5 +1,5 @@
 -- The productions of the top level.
-use Rattle.std.proofs.Common.{◌≡◌, ℕ, ◌+◌, ◌<◌, ◌≤◌, List, [], ◌∷◌, ◌++◌, Option, Some, None, Bool, false, length, refl, sym, ap, ◌∙◌, append_assoc, subst, arith}
+use Rattle.std.proofs.Common.{◌≡◌, ℕ, ◌<◌, ◌≤◌, List, [], ◌∷◌, ◌++◌, Option, Some, None, Bool, false, length, refl, sym, ap, ◌∙◌, append_assoc, subst, arith}
 use Rattle.std.proofs.lemmas.List.{length-append}
 use Rattle.phrases.specs.Limits.{Limits, syntax}
 use Rattle.phrases.specs.Phrase.{first, Phrase, Taken, Refused}
@@ -16,8 +16,8 @@ use Rattle.exo_lexer.specs.declared.token.Decorator.TheVariants as d
 use Rattle.exo_source.specs.Source.{TypeName, stride, Parameter, Statement, pass, Definition, ConfigField, Setting, strings, int, yes, no, Attribute, Item, procedure, instruction, configuration, memory}
 use Rattle.exo_source.specs.Parts.{Is, IsNot, some_of, type_name, parameters}
 use Rattle.exo_source.specs.Statements.{spelling, statement, body}
-use Rattle.exo_source.specs.Items.{NoString, neighbours, setting, attribute, field, assertion, assertions, definition, class_header, fields, attributes, item, unit, StartsWithString}
-use Rattle.exo_source.proofs.Parts.{no_name, zero, control_zero}
+use Rattle.exo_source.specs.Items.{NoString, neighbours, setting, attribute, field, assertion, assertions, definition, class_header, fields, attributes, item, StartsWithString}
+use Rattle.exo_source.proofs.Parts.{no_name}
 use Rattle.exo_source.proofs.Statements.{StartsStatement, starts_statement}
 use Rattle.exo_source.proofs.Neighbours.{one_string}
 

@@ -11,3 +11,5 @@ mod Neighbours
 mod Items
 mod Units
 pub mod Eased
+mod Widths
+mod Strings

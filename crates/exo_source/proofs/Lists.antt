@@ -1,7 +1,7 @@
 -- Lists that loops read.
-use Rattle.std.proofs.Common.{◌≡◌, ℕ, ◌+◌, ◌<◌, ◌≤◌, List, [], ◌∷◌, ◌++◌, Option, Some, Bool, true, false, length, refl, sym, ap, ◌∙◌, append_assoc, subst, arith, map}
+use Rattle.std.proofs.Common.{◌≡◌, ◌≤◌, List, [], ◌∷◌, ◌++◌, Option, Some, Bool, true, false, length, refl, sym, ap, ◌∙◌, append_assoc, subst, arith, map}
 use Rattle.std.proofs.lemmas.List.{length-append, append-nil}
-use Rattle.phrases.specs.Limits.{Limits, unlimited, in_depth, in_length, Cause, syntax, too_long}
+use Rattle.phrases.specs.Limits.{Limits, in_depth, in_length, syntax, too_long}
 use Rattle.phrases.specs.Phrase.{first, Phrase, Taken, Refused}
 use Rattle.phrases.specs.Sequence.{AllFit, spell_all, then, many}
 use Rattle.phrases.specs.Commas.{spell_more, commas}
@@ -16,7 +16,7 @@ use Rattle.phrases.proofs.Joints.{Joint, now, later, both, whole_err}
 use Rattle.exo_lexer.specs.declared.token.Token.{Token}
 use Rattle.exo_lexer.specs.declared.token.Token.TheVariants.{Sign}
 use Rattle.exo_lexer.specs.declared.token.Sign.TheVariants.{Close, Comma}
-use Rattle.exo_source.specs.Parts.{Is, HasSome, some_of, EnclosedFit, spell_enclosed, enclosed}
+use Rattle.exo_source.specs.Parts.{Is, some_of, EnclosedFit, spell_enclosed, enclosed}
 
 pub map_snoc : {A B : Type 0} (f : A → B) (list : List A) (s : A) → map f (list ++ (s ∷ [])) ≡ map f list ++ (f s ∷ [])
 map_snoc f [] s = refl

@@ -1,10 +1,8 @@
 -- The plain form of each kind of statement.
-use Rattle.std.proofs.Common.{◌≡◌, List, [], ◌∷◌, Option, Bool, true, false, sym, ap, ◌∙◌, map}
+use Rattle.std.proofs.Common.{◌≡◌, sym, ap, ◌∙◌, map}
 use Rattle.exo_reader.specs.Views.{tree_of}
-use Rattle.exo_reader.specs.declared.source.SourceExpr.{SourceExpr}
 use Rattle.exo_source.specs.Source.{Statement, block_of, pass, branch, loop, allocate, call, configure, assign, reduce, view}
-use Rattle.exo_source.specs.Views.{plain_coordinate, plain_argument, plain_arguments, plain_kind, statement_step, plain_statement}
-use Rattle.exo_source.specs.declared.source.SourceStmt.{SourceStmt}
+use Rattle.exo_source.specs.Views.{plain_coordinate, plain_arguments, plain_kind, statement_step, plain_statement}
 use Rattle.exo_source.specs.declared.source.SourceStmt.TheVariants.{Pass, If, For, Alloc, Call, Config, Assign, Reduce, View, rolls-Pass, rolls-If, rolls-For, rolls-Alloc, rolls-Call, rolls-Config, rolls-Assign, rolls-Reduce, rolls-View}
 use Rattle.exo_source.specs.declared.source.SourceStmt.TheFolds.{fold-roll-SourceStmt}
 

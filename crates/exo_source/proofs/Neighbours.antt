@@ -1,9 +1,9 @@
 -- Neighbouring strings.
 use Rattle.std.proofs.Common.{◌≡◌, ℕ, ◌+◌, ◌<◌, ◌≤◌, List, [], ◌∷◌, ◌++◌, Option, Some, length, refl, sym, ap, ◌∙◌, append_assoc, subst, arith}
-use Rattle.std.proofs.lemmas.List.{length-append, append-nil}
-use Rattle.phrases.specs.Limits.{Limits, in_depth, in_length, Cause, syntax, too_long}
-use Rattle.phrases.specs.Phrase.{first, Phrase, Taken, Refused, GoesOn}
-use Rattle.phrases.specs.Sequence.{AllFit, spell_all, carried, several}
+use Rattle.std.proofs.lemmas.List.{length-append}
+use Rattle.phrases.specs.Limits.{Limits, Cause, syntax, too_long}
+use Rattle.phrases.specs.Phrase.{first, Phrase, Taken, Refused}
+use Rattle.phrases.specs.Sequence.{spell_all, carried, several}
 use Rattle.phrases.proofs.Phrases.{keeps_all, keeps_map, goes_along}
 use Rattle.phrases.proofs.Sequences.{Items, items_next, Apart, all_append, spell_all-append, several_done, several_full}
 use Rattle.exo_lexer.specs.declared.token.Token.{Token}

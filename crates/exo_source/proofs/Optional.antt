@@ -1,7 +1,7 @@
 -- A list that stands as a phrase says, or nothing where it is empty.
-use Rattle.std.proofs.Common.{◌≡◌, ℕ, List, [], ◌∷◌, ◌++◌, Option, Some, length, refl, sym, ap, ◌∙◌, subst, ◌⊎◌, inl, inr}
+use Rattle.std.proofs.Common.{◌≡◌, ℕ, List, [], ◌++◌, Option, Some, sym, ap, ◌∙◌, ◌⊎◌, inl, inr}
 use Rattle.phrases.specs.Limits.{Limits, unlimited, Cause, passed}
-use Rattle.phrases.specs.Phrase.{first, Phrase, Taken, Refused, GoesOn}
+use Rattle.phrases.specs.Phrase.{first, Phrase, Taken, Refused}
 use Rattle.phrases.specs.Answers.{Refuses}
 use Rattle.phrases.specs.declared.Refusal.{Refusal}
 use Rattle.phrases.proofs.Phrases.{first_append, goes_along}

@@ -1,20 +1,19 @@
 -- The productions of parameters.
-use Rattle.std.proofs.Common.{◌≡◌, ℕ, ◌+◌, ◌<◌, ◌≤◌, List, [], ◌∷◌, ◌++◌, Option, Some, None, length, refl, sym, ap, ◌∙◌, subst, arith, map}
+use Rattle.std.proofs.Common.{◌≡◌, ℕ, ◌<◌, ◌≤◌, List, [], ◌∷◌, ◌++◌, Option, Some, None, length, refl, sym, ap, ◌∙◌, subst, arith, map}
 use Rattle.std.proofs.lemmas.List.{length-append, length-map}
 use Rattle.phrases.specs.Limits.{Limits, syntax}
-use Rattle.phrases.specs.Phrase.{first, Phrase, Taken, Refused}
+use Rattle.phrases.specs.Phrase.{first, Phrase, Refused}
 use Rattle.phrases.specs.Sequence.{exactly, then}
 use Rattle.phrases.specs.Answers.{Refuses}
 use Rattle.phrases.specs.declared.Refusal.{Refusal}
 use Rattle.phrases.specs.declared.Refusal.TheVariants.{Memory, Syntax, TooDeep, TooLong, TooLarge}
-use Rattle.phrases.proofs.Phrases.{keeps_all}
 use Rattle.phrases.proofs.Sequences.{Back, Step}
 use Rattle.phrases.proofs.Joints.{Joint}
 use Rattle.exo_reader.specs.Values.{name}
 use Rattle.exo_reader.specs.Expression.{Tree}
 use Rattle.exo_lexer.specs.declared.token.Token.{Token}
-use Rattle.exo_lexer.specs.declared.token.Token.TheVariants.{Name, Sign, Word, NewLine}
-use Rattle.exo_lexer.specs.declared.token.Sign.TheVariants.{OpenBracket, CloseBracket, Comma, Close, Colon, At}
+use Rattle.exo_lexer.specs.declared.token.Token.TheVariants.{Name, Sign, Word}
+use Rattle.exo_lexer.specs.declared.token.Sign.TheVariants.{OpenBracket, CloseBracket, Comma, Close, Colon}
 use Rattle.exo_lexer.specs.declared.token.Word.TheVariants as w
 use Rattle.exo_source.specs.Source.{TypeName, stride, named, Form, plain, strided, Parameter}
 use Rattle.exo_source.specs.Parts.{dims, maybe_dims, type_name, FollowsMemory, maybe_memory, form, parameter, FewParameters, parameters, StartsWithName, RefusesParameter}

@@ -1,5 +1,5 @@
 -- Parts of parameters and statements.
-use Rattle.std.proofs.Common.{◌≡◌, ℕ, ◌+◌, ◌≤◌, List, [], ◌∷◌, ◌++◌, Option, Some, None, length, refl, sym, ap, ◌∙◌, arith, ◌⊎◌, inl, inr}
+use Rattle.std.proofs.Common.{◌≡◌, ℕ, ◌≤◌, List, [], ◌∷◌, ◌++◌, Option, Some, None, length, refl, ap, ◌∙◌, arith, ◌⊎◌, inl, inr}
 use Rattle.phrases.specs.Limits.{Limits}
 use Rattle.phrases.specs.Phrase.{first, Phrase, Taken}
 use Rattle.phrases.specs.Sequence.{exactly, then}
@@ -10,8 +10,8 @@ use Rattle.exo_reader.specs.Values.{name}
 use Rattle.exo_reader.specs.Expression.{Tree, number, FollowsOperand, control, datum, indices, most_depth}
 use Rattle.exo_lexer.specs.declared.token.Literal.TheVariants.{Value}
 use Rattle.exo_lexer.specs.declared.token.Token.{Token}
-use Rattle.exo_lexer.specs.declared.token.Token.TheVariants.{Name, Sign, Word, NewLine}
-use Rattle.exo_lexer.specs.declared.token.Sign.TheVariants.{OpenBracket, CloseBracket, Comma, Close, Colon, At}
+use Rattle.exo_lexer.specs.declared.token.Token.TheVariants.{Name, Sign, Word}
+use Rattle.exo_lexer.specs.declared.token.Sign.TheVariants.{OpenBracket, CloseBracket, At}
 use Rattle.exo_lexer.specs.declared.token.Word.TheVariants as w
 use Rattle.exo_source.specs.Source.{TypeName, stride, named}
 use Rattle.exo_source.specs.Parts.{ClosesFirst, dims, maybe_dims, type_name, memory, FollowsMemory, maybe_memory}

@@ -12,11 +12,11 @@ use Rattle.exo_reader.specs.Expression.{Tree, control, datum}
 use Rattle.exo_lexer.specs.declared.token.Token.{Token}
 use Rattle.exo_lexer.specs.declared.token.Token.TheVariants.{Name, Int, Sign, Word, NewLine, Indent, Dedent}
 use Rattle.exo_lexer.specs.declared.token.Literal.TheVariants.{Value}
-use Rattle.exo_lexer.specs.declared.token.Sign.TheVariants.{Open, Close, OpenBracket, CloseBracket, Comma, Colon, Dot, Assign, Reduce, At}
+use Rattle.exo_lexer.specs.declared.token.Sign.TheVariants.{Open, Close, OpenBracket, Comma, Colon, Dot, Assign, Reduce}
 use Rattle.exo_lexer.specs.declared.token.Word.TheVariants as w
-use Rattle.exo_source.specs.Source.{Argument, value, window, TypeName, stride, Statement, pass, branch, loop, allocate, call, configure, assign, reduce, view, Block, end, next, block_of, statements}
+use Rattle.exo_source.specs.Source.{Argument, value, window, TypeName, Statement, pass, branch, loop, allocate, call, configure, assign, reduce, view, Block, end, next, block_of, statements}
 use Rattle.exo_source.specs.Parts.{Is, some_of, dims, maybe_dims, type_name, maybe_memory}
-use Rattle.exo_source.specs.Statements.{argument, arguments, right, indented, spelling, spelling_all, spelling_else, Nests, IsSome, StatementFits, BlockFits, statement, body, block, otherwise, sign_of, store, stored_by, equated, IsNoHead, BeginsStore}
+use Rattle.exo_source.specs.Statements.{arguments, right, spelling, spelling_all, Nests, StatementFits, BlockFits, statement, body, block, otherwise, sign_of, store, stored_by, equated, IsNoHead, BeginsStore}
 use Rattle.exo_source.proofs.Optional.{Alike, Optional}
 use Rattle.exo_source.proofs.Parts.{name_fits, no_name, zero, control_zero, datum_zero}
 

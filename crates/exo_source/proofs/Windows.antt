@@ -1,8 +1,8 @@
 -- What begins with a name and a bracket: windows, and expressions that begin with a cell.
-use Rattle.std.proofs.Common.{◌≡◌, ℕ, suc, ◌+◌, ◌<◌, ◌≤◌, max, List, [], ◌∷◌, ◌++◌, Option, Some, Bool, true, false, length, refl, sym, ap, ◌∙◌, append_assoc, subst, arith, ◌⊎◌, inl, inr, map}
-use Rattle.std.proofs.lemmas.List.{length-append, append-nil, append_cancel_left}
+use Rattle.std.proofs.Common.{◌≡◌, ℕ, ◌+◌, ◌<◌, ◌≤◌, max, List, [], ◌∷◌, ◌++◌, Some, true, false, length, refl, sym, ap, ◌∙◌, append_assoc, subst, arith, ◌⊎◌, inl, inr, map}
+use Rattle.std.proofs.lemmas.List.{length-append, append-nil}
 use Rattle.phrases.specs.Limits.{Limits, unlimited, in_depth, in_length, Keeps, Cause, passed, syntax, too_deep}
-use Rattle.phrases.specs.Phrase.{first, Phrase, Taken, Refused, Begins, GoesOn}
+use Rattle.phrases.specs.Phrase.{first, Taken, Refused, Begins}
 use Rattle.phrases.specs.Sequence.{AllFit}
 use Rattle.phrases.specs.Commas.{spell_more}
 use Rattle.phrases.specs.Answers.{Refuses}
@@ -10,7 +10,7 @@ use Rattle.phrases.specs.declared.Refusal.{Refusal}
 use Rattle.phrases.proofs.Phrases.{keeps_all, keeps_map, keeps_both, goes_along, taken_rest}
 use Rattle.phrases.proofs.Exits.{refuses_along}
 use Rattle.exo_reader.specs.Values.{name, IsShortName}
-use Rattle.exo_reader.specs.Expression.{Tree, Trees, end, next, trees, number, truth, variable, access, field, stride, relu, select, negative, parens, binary, word_of, sign, left_level, depth, deepest, nodes, count, IsShort, AreShort, IsSmall, AreSmall, HasIndex, Stands, AllStand, spelling, spelling_list, spelling_more, FollowsOperand, HasPlace, Within, operand, control, FewDimensions}
+use Rattle.exo_reader.specs.Expression.{Tree, Trees, end, next, trees, number, truth, variable, access, field, stride, relu, select, negative, parens, binary, sign, left_level, depth, deepest, count, IsShort, AreShort, IsSmall, AreSmall, HasIndex, Stands, AllStand, spelling, spelling_list, spelling_more, FollowsOperand, HasPlace, operand, FewDimensions}
 use Rattle.exo_reader.specs.declared.source.Operator.{Operator}
 use Rattle.exo_reader.specs.declared.source.Operator.TheVariants as o
 use Rattle.exo_reader.specs.declared.expression.Room.{Room}
@@ -18,11 +18,11 @@ use Rattle.exo_reader.proofs.Signs.{low_level}
 use Rattle.exo_lexer.specs.declared.token.Literal.TheVariants.{Value}
 use Rattle.exo_lexer.specs.declared.token.Token.{Token}
 use Rattle.exo_lexer.specs.declared.token.Token.TheVariants.{Name, Int, Sign, Word}
-use Rattle.exo_lexer.specs.declared.token.Sign.TheVariants.{Open, Close, OpenBracket, CloseBracket, Comma, Colon, Dot, Minus}
+use Rattle.exo_lexer.specs.declared.token.Sign.TheVariants.{Open, OpenBracket, CloseBracket, Comma, Colon, Dot, Minus}
 use Rattle.exo_lexer.specs.declared.token.Word.TheVariants as w
 use Rattle.exo_source.specs.Source.{Coordinate, point, span, Argument, value, window}
 use Rattle.exo_source.specs.Statements.{coordinate, coordinates, HasSpan, argument_of}
-use Rattle.exo_source.specs.Windows.{low_of, low_depth, lowest, is_span, has_span, NoBracket}
+use Rattle.exo_source.specs.Windows.{low_of, lowest, has_span, NoBracket}
 use Rattle.exo_source.proofs.Parts.{name_fits, zero, control_zero}
 
 abbrev pub close : List Token
@@ -50,7 +50,7 @@ points_span : (list : Trees) → HasSpan (points list) → ⊥
 points_span end spans = spans
 points_span (next t more) spans = points_span more spans
 
-no_span : (cs : List Coordinate) → has_span cs ≡ false → HasSpan cs → ⊥
+pub no_span : (cs : List Coordinate) → has_span cs ≡ false → HasSpan cs → ⊥
 no_span [] none spans = spans
 no_span (point e ∷ more) none spans = no_span more none spans
 no_span (span a b ∷ more) none spans = absurd (cc (none))

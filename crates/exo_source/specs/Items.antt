@@ -1,12 +1,12 @@
 -- The grammar of what stands at the top level.
-use Rattle.std.specs.Prelude.{◌≡◌, ℕ, ◌≤◌, List, [], ◌∷◌, ◌++◌, Option, Some, None, Bool, length}
-use Rattle.phrases.specs.Limits.{Limits, Keeps}
+use Rattle.std.specs.Prelude.{◌≡◌, ℕ, ◌≤◌, List, [], ◌∷◌, ◌++◌, Option, Some, None, length}
+use Rattle.phrases.specs.Limits.{Limits}
 use Rattle.phrases.specs.Phrase.{Phrase}
-use Rattle.phrases.specs.Sequence.{AllFit, spell_all, exactly, then, carried, several, many}
+use Rattle.phrases.specs.Sequence.{spell_all, exactly, then, carried, several, many}
 use Rattle.exo_reader.specs.Values.{name, literal}
 use Rattle.exo_reader.specs.Expression.{Tree, control}
 use Rattle.exo_lexer.specs.declared.token.Token.{Token}
-use Rattle.exo_lexer.specs.declared.token.Token.TheVariants.{Name, Int, Str, Sign, Word, Decorator, NewLine, Indent, Dedent}
+use Rattle.exo_lexer.specs.declared.token.Token.TheVariants.{Name, Str, Sign, Word, Decorator, NewLine, Indent, Dedent}
 use Rattle.exo_lexer.specs.declared.token.Sign.TheVariants.{Open, Close, Colon, Assign}
 use Rattle.exo_lexer.specs.declared.token.Word.TheVariants as w
 use Rattle.exo_lexer.specs.declared.token.Decorator.TheVariants as d

@@ -5,3 +5,4 @@ pub mod Items
 pub mod Views
 pub mod Windows
 pub mod Texts
+pub mod Strings

@@ -1,5 +1,5 @@
 -- The grammar of parameters, and of the parts of them that statements have too.
-use Rattle.std.specs.Prelude.{◌≡◌, ℕ, ◌<◌, List, [], ◌∷◌, ◌++◌, Option, Some, None, Bool, true, false, length}
+use Rattle.std.specs.Prelude.{◌≡◌, ℕ, ◌<◌, List, [], ◌∷◌, ◌++◌, Option, Some, Bool, true, false, length}
 use Rattle.phrases.specs.Limits.{Limits}
 use Rattle.phrases.specs.Phrase.{Phrase}
 use Rattle.phrases.specs.Sequence.{AllFit, spell_all, maybe}

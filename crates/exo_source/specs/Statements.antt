@@ -1,8 +1,8 @@
 -- The grammar of statements and blocks.
-use Rattle.std.specs.Prelude.{◌≡◌, ℕ, ◌+◌, ◌<◌, List, [], ◌∷◌, ◌++◌, Option, Some, None, Bool, true, false, length}
+use Rattle.std.specs.Prelude.{ℕ, ◌+◌, ◌<◌, List, [], ◌∷◌, ◌++◌, Option, Some, Bool, true, false}
 use Rattle.phrases.specs.Limits.{Limits, Keeps}
 use Rattle.phrases.specs.Phrase.{Phrase}
-use Rattle.phrases.specs.Sequence.{AllFit, spell_all, then, exactly}
+use Rattle.phrases.specs.Sequence.{then, exactly}
 use Rattle.phrases.specs.Commas.{listing}
 use Rattle.exo_reader.specs.Values.{name}
 use Rattle.exo_reader.specs.Expression.{Tree, control, datum, FewDimensions, EndsList, FollowsOperand}
@@ -11,7 +11,7 @@ use Rattle.exo_lexer.specs.declared.token.Token.TheVariants.{Name, Sign, Word, N
 use Rattle.exo_lexer.specs.declared.token.Sign.TheVariants.{Open, Close, OpenBracket, CloseBracket, Comma, Colon, Dot, Assign, Reduce}
 use Rattle.exo_lexer.specs.declared.token.Word.TheVariants as w
 use Rattle.exo_source.specs.Source.{Coordinate, point, span, Argument, value, window, Statement, pass, branch, loop, allocate, call, configure, assign, reduce, view, Block, end, next, block_of}
-use Rattle.exo_source.specs.Parts.{Is, IsNot, some_of, EnclosedFit, spell_enclosed, enclosed, dims, maybe_dims, type_name, maybe_memory}
+use Rattle.exo_source.specs.Parts.{Is, IsNot, some_of, spell_enclosed, enclosed, maybe_dims, type_name, maybe_memory}
 
 -- a coordinate of a window
 abbrev pub CoordinateFits : Limits → Coordinate → Type 0

@@ -1,8 +1,11 @@
 -- Texts of units: their trees, and where and why one is refused.
-use Rattle.std.specs.Prelude.{◌≡◌, ℕ, ◌+◌, ◌-◌, List, [], ◌∷◌, ◌++◌, Option, Some, None, map, length, drop, slice_get, Result, MatchResult}
+use Rattle.std.specs.Prelude.{◌≡◌, ℕ, ◌+◌, ◌-◌, ◌≤◌, List, [], ◌∷◌, ◌++◌, Option, Some, None, map, length, take, drop, slice_get, Result, MatchResult}
 use Rattle.phrases.specs.Limits.{Cause, syntax, too_deep, too_long, too_large}
+use Rattle.phrases.specs.Phrase.{Phrase}
 use Rattle.phrases.specs.Text.{IsText, FaultAt}
 use Rattle.exo_source.specs.Source.{Item}
+use Rattle.phrases.specs.declared.Refusal.{Refusal}
+use Rattle.phrases.specs.declared.Refusal.TheVariants as r
 use Rattle.exo_lexer.specs.Layout.{lexed, token_of, place_of, end_place}
 use Rattle.exo_lexer.specs.declared.place.Place.{Place}
 use Rattle.exo_lexer.specs.declared.token.Token.{Token}
@@ -77,26 +80,47 @@ pub record IsPlaced (places : List Place) (last : ℕ) (e : ReadError) : Type 0 
   pub line : e.line ≡ place.line
   pub column : e.column ≡ column_at place e.kind
 
--- The tokens are refused at the first one with which no unit begins: this is where and why.
-pub record IsFault (tokens : List Token) (places : List Place) (e : ReadError) : Type 0 where
+-- The tokens are refused at the first one with which no text of the kind begins: this is where and why.
+pub record IsFault {T : Type 0} (kind : Phrase Token T) (tokens : List Token) (places : List Place) (e : ReadError) : Type 0 where
   pub cause : Cause
   pub last : ℕ
-  pub fault : FaultAt unit cause tokens last
-  pub kind : IsKind cause fault.before fault.rest e.kind
+  pub fault : FaultAt kind cause tokens last
+  pub why : IsKind cause fault.before fault.rest e.kind
   pub placed : IsPlaced places last e
 
--- an error says where and why the tokens are no unit, but for want of memory
-abbrev pub IsRefusal : List Token → List Place → ReadKind → ReadError → Type 0
-IsRefusal tokens places k.Memory e = Unit {0}
-IsRefusal tokens places kind e = IsFault tokens places e
+-- an error says where and why the tokens are no text of the kind, but for want of memory
+abbrev pub IsRefusal : {T : Type 0} → Phrase Token T → List Token → List Place → ReadKind → ReadError → Type 0
+IsRefusal kind tokens places k.Memory e = Unit {0}
+IsRefusal kind tokens places why e = IsFault kind tokens places e
 
 -- exactly the unit that a text spells, with the places of its tokens, or exactly where and why it is none
 abbrev pub ReadsUnit : List ℕ → Result Source ReadError → Type 0
 ReadsUnit text result =
     MatchResult result (λ s. IsText unit (tokens_of text) (map plain_item s.items.items) × (s.places.items ≡ places_of text))
-    (λ e. IsRefusal (tokens_of text) (places_of text) e.kind e)
+    (λ e. IsRefusal unit (tokens_of text) (places_of text) e.kind e)
+
+-- no more tokens are left at a refusal than there are
+abbrev pub IsLeft : List Token → Refusal → Type 0
+IsLeft tokens r.Memory = Unit {0}
+IsLeft tokens (r.Syntax last) = last ≤ length tokens
+IsLeft tokens (r.TooDeep last) = last ≤ length tokens
+IsLeft tokens (r.TooLong last) = last ≤ length tokens
+IsLeft tokens (r.TooLarge last) = last ≤ length tokens
+
+-- the error says what a cause does at the first of the last tokens
+pub record SaysAt (cause : Cause) (tokens : List Token) (places : List Place) (last : ℕ) (e : ReadError) : Type 0 where
+  pub why : IsKind cause (take (length tokens - last) tokens) (drop (length tokens - last) tokens) e.kind
+  pub placed : IsPlaced places last e
+
+-- the error says what the refusal does
+abbrev pub Says : List Token → List Place → Refusal → ReadError → Type 0
+Says tokens places r.Memory e = e.kind ≡ k.Memory
+Says tokens places (r.Syntax last) e = SaysAt syntax tokens places last e
+Says tokens places (r.TooDeep last) e = SaysAt too_deep tokens places last e
+Says tokens places (r.TooLong last) e = SaysAt too_long tokens places last e
+Says tokens places (r.TooLarge last) e = SaysAt too_large tokens places last e
 
 -- The tokens of a text are one unit, or there is one error.
 pub record TextsAreOne : Type 0 where
-  pub error : (tokens : List Token) (places : List Place) (a b : ReadError) → IsFault tokens places a → IsFault tokens places b → a ≡ b
-  pub no_error : (tokens : List Token) (places : List Place) (items : List Item) (e : ReadError) → IsText unit tokens items → IsFault tokens places e → ⊥
+  pub error : (tokens : List Token) (places : List Place) (a b : ReadError) → IsFault unit tokens places a → IsFault unit tokens places b → a ≡ b
+  pub no_error : (tokens : List Token) (places : List Place) (items : List Item) (e : ReadError) → IsText unit tokens items → IsFault unit tokens places e → ⊥

@@ -1,5 +1,5 @@
 -- Source trees without where they lie in memory.
-use Rattle.std.specs.Prelude.{List, map, Bool}
+use Rattle.std.specs.Prelude.{ℕ, List, map, Bool}
 use Rattle.exo_reader.specs.Views.{tree_of}
 use Rattle.exo_lexer.specs.declared.token.Literal.TheVariants.{Value}
 use Rattle.exo_source.specs.Source as tree
@@ -9,6 +9,7 @@ use Rattle.exo_source.specs.declared.source.SourceCoord.TheVariants.{Point, Span
 use Rattle.exo_source.specs.declared.source.SourceArg.{SourceArg}
 use Rattle.exo_source.specs.declared.source.SourceArg.TheVariants as a
 use Rattle.exo_source.specs.declared.source.SourceArgs.{SourceArgs}
+use Rattle.exo_source.specs.declared.source.SourceWindow.{SourceWindow}
 use Rattle.exo_source.specs.declared.source.SourceKind.{SourceKind}
 use Rattle.exo_source.specs.declared.source.SourceKind.TheVariants.{Stride, Named}
 use Rattle.exo_source.specs.declared.source.SourceStmt.{SourceStmt}
@@ -36,6 +37,9 @@ plain_argument (a.Window x cs) = tree.window x (map plain_coordinate cs.items)
 
 abbrev pub plain_arguments : SourceArgs → List Argument × Bool
 plain_arguments l = (map plain_argument l.items.items, l.trailing)
+
+abbrev pub plain_window : SourceWindow → List ℕ × List Coordinate
+plain_window w = (w.name, map plain_coordinate w.coords.items)
 
 abbrev pub plain_kind : SourceKind → TypeName
 plain_kind Stride = tree.stride

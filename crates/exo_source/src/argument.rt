@@ -77,7 +77,7 @@ fn either(one: bool, other: bool) -> bool
 }
 
 /// The coordinates before a bracket, at most 8.
-fn read_coordinates(alloc: Global, tokens: &[Token]) -> Result<(NotedCoords, &[Token]), Refusal>
+pub fn read_coordinates(alloc: Global, tokens: &[Token]) -> Result<(NotedCoords, &[Token]), Refusal>
     ensures noted { IfOk result (λ x. AreNoted x.0) }
     ensures reads { Reads coordinates tokens.now (λ x. map plain_coordinate x.0.items.items) (λ x. x.1.now) result }
 {

@@ -27,6 +27,13 @@ pub struct SourceArgs {
     pub trailing: bool,
 }
 
+/// A window `x[..]` with at least one span.
+#[derive(Drop)]
+pub struct SourceWindow {
+    pub name: Text,
+    pub coords: Vec<SourceCoord>,
+}
+
 /// What stands where a type must stand. The word `stride` is a type there, and no name elsewhere.
 #[derive(Drop)]
 pub enum SourceKind {

@@ -1,4 +1,4 @@
-use Rattle.std.proofs.Common.{◌≡◌, ◌+◌, ◌∙◌, ◌++◌, ◌∷◌, [], List, length, sym, ap}
+use Rattle.std.proofs.Common.{◌+◌, ◌∙◌, ◌++◌, ◌∷◌, [], List, length, sym, ap}
 use Rattle.exo_lexer.specs.Layout.{at, put, one_line, up_to_fault}
 use Rattle.exo_lexer.specs.declared.place.Placed.{Placed}
 use Rattle.exo_lexer.specs.declared.token.Token.TheVariants.{NewLine}

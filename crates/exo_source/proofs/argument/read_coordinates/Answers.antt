@@ -1,4 +1,4 @@
-use Rattle.std.proofs.Common.{◌≡◌, ◌∙◌, ◌||◌, [], ◌∷◌, sym, ap, arith, map}
+use Rattle.std.proofs.Common.{◌∙◌, ◌||◌, [], ◌∷◌, sym, ap, arith, map}
 use Rattle.std.proofs.lemmas.List.{length-append}
 use Rattle.exo_source.specs.Windows.{has_span}
 use Rattle.exo_source.specs.Views.{plain_coordinate}

@@ -1,4 +1,4 @@
-use Rattle.std.proofs.Common.{◌≡◌, ap, length, arith}
+use Rattle.std.proofs.Common.{ap, length, arith}
 use Rattle.exo_source.proofs.Neighbours.{pieces_taken, pieces_full, pieces_none, joined_snoc, pieces_next, some_by}
 use Rattle.phrases.proofs.Sequences.{items_none}
 use Rattle.exo_source.proofs.lines.read_strings.Goals as goal

@@ -1,5 +1,5 @@
 use Rattle.std.proofs.Common.{◌≡◌, false, true, refl}
-use Rattle.exo_source.proofs.unit.header_kind.Goals as goal
+use Rattle.exo_source.proofs.refusal.header_kind.Goals as goal
 
 pub returns-then-is_at_end : goal.returns-then-is_at_end
 returns-then-is_at_end c = λ ends. c.if-is_at_end.ensures.0 refl

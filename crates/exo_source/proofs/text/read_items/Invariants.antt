@@ -3,7 +3,7 @@ use Rattle.phrases.proofs.Sequences.{Items}
 use Rattle.exo_source.specs.Items.{item}
 use Rattle.exo_source.specs.Views.{plain_item}
 use Rattle.exo_source.proofs.Items.{AtEnd}
-use Rattle.exo_source.proofs.unit.read_items.Given as goal
+use Rattle.exo_source.proofs.text.read_items.Given as goal
 
 abbrev pub invariant-more : goal.invariant-more
 invariant-more l = Items item AtEnd l.fn.tokens (map plain_item l.items.items) l.rest

@@ -1,7 +1,7 @@
 use Rattle.std.proofs.Common.{arith, ap, sym, length, ◌-◌, ◌∙◌}
 use Rattle.phrases.specs.Phrase.{first}
 use Rattle.exo_source.proofs.Units.{header_there, header_back, no_header, short_header, tail_is}
-use Rattle.exo_source.proofs.unit.ends_header.Goals as goal
+use Rattle.exo_source.proofs.refusal.ends_header.Goals as goal
 
 pub returns-then-before-lt2 : goal.returns-then-before-lt2
 returns-then-before-lt2 c = (λ h. cc (h), λ ends. absurd (short_header c.args.before.now (omega arith) ends))

@@ -1,6 +1,6 @@
 use Rattle.std.proofs.Common.{sym}
 use Rattle.exo_source.proofs.Units.{kind_some, kind_none}
-use Rattle.exo_source.proofs.unit.syntax_kind.Goals as goal
+use Rattle.exo_source.proofs.refusal.syntax_kind.Goals as goal
 
 pub returns-in-Some : goal.returns-in-Some
 returns-in-Some c = kind_some _ _ _ (sym c.in-Some.ensures)

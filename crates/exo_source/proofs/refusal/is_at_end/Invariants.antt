@@ -1,6 +1,6 @@
 use Rattle.std.proofs.Common.{length}
 use Rattle.exo_source.specs.Texts.{IsAtEnd}
-use Rattle.exo_source.proofs.unit.is_at_end.Given as goal
+use Rattle.exo_source.proofs.refusal.is_at_end.Given as goal
 
 abbrev pub invariant-more : goal.invariant-more
 invariant-more l = record {

@@ -4,7 +4,7 @@ use Rattle.exo_source.proofs.Lists.{many_next, many_err}
 use Rattle.exo_source.proofs.Items.{items_apart, item_shorter}
 use Rattle.phrases.proofs.Sequences.{items_none, items_done}
 use Rattle.phrases.proofs.Texts.{text_ok, text_err, text_exit}
-use Rattle.exo_source.proofs.unit.read_items.Goals as goal
+use Rattle.exo_source.proofs.text.read_items.Goals as goal
 
 pub returns-in_err-item : goal.returns-in_err-item
 returns-in_err-item c = text_exit _ _ _ _ _ c.from_residual.ensures.1 (text_err _ _ _ refl (many_err _ _ _ _ _ _ items_apart c.more.invariant (λ ends. some_left _ _ _ c.in-Some.ensures ends) c.in_err-item.ensures))

@@ -1,7 +1,7 @@
 use Rattle.std.proofs.Common.{length, subst, sym, ap, arith, refl}
 use Rattle.exo_source.specs.Texts.{IsAtEnd}
 use Rattle.exo_source.proofs.Units.{not_at_end, at_end}
-use Rattle.exo_source.proofs.unit.is_at_end.Goals as goal
+use Rattle.exo_source.proofs.refusal.is_at_end.Goals as goal
 
 pub more-init : goal.more-init
 more-init c = record { there = λ h. h; back = λ h. h }
