@@ -1,6 +1,6 @@
 -- The rules on expressions. An expression whose outermost form cannot be of the kind that its place asks is charged at its first
 -- token, whatever stands inside; else its parts are tested, and then the whole. Parentheses are looked through for the form.
-use Rattle.std.specs.Prelude.{ℕ, suc, ◌+◌, ◌==◌, nat_lt, Bool, true, false, not, ◌&&◌, ◌||◌, if◌then◌else◌, List, [], ◌∷◌, ◌++◌, length, Option, Some, None}
+use Rattle.std.specs.Prelude.{ℕ, ◌+◌, ◌==◌, nat_lt, Bool, true, false, not, ◌&&◌, ◌||◌, if◌then◌else◌, List, [], ◌∷◌, ◌++◌, length, Option, Some, None}
 use Rattle.exo_tree.specs.Tree.{Kind, ConfigField}
 use Rattle.exo_meaning.specs.Units.{Sort, ControlName, BufferName, Scope, Reads, plainly, is_truth, is_number, is_flag}
 use Rattle.exo_lexer.specs.declared.token.Literal.{Literal}
@@ -8,19 +8,14 @@ use Rattle.exo_lexer.specs.declared.token.Literal.TheVariants.{Value, TooLarge}
 use Rattle.exo_reader.specs.declared.source.Operator.{Operator}
 use Rattle.exo_reader.specs.declared.source.Operator.TheVariants.{Or, And, Lt, Le, Gt, Ge, Eq, Add, Sub, Mul, Div, Mod}
 use Rattle.exo_reader.specs.Expression.{Tree, Trees, number, truth, variable, access, field, stride, relu, select, negative, parens, binary, end, next, spelling}
-use Rattle.exo_source.specs.Source.{Coordinate, point, span}
 use Rattle.exo_names.specs.declared.error.TypeKind.TheVariants.{UnknownName, KindMismatch, RankMismatch, NotAffine, ConfigPlace, StridePlace}
 use Rattle.exo_names.specs.declared.fault.Fault.{Fault}
 use Rattle.exo_names.specs.Faults.{fault, unless, parts_then_whole}
 use Rattle.exo_names.specs.Names.{named_in, sort_of, field_in}
 
--- how many tokens an expression has, and a coordinate
+-- how many tokens an expression has
 unfoldable pub width : Tree → ℕ
 width e = length (spelling e)
-
-abbrev pub coordinate_width : Coordinate → ℕ
-coordinate_width (point e) = width e
-coordinate_width (span a b) = width a + suc (width b)
 
 -- ---- forms
 
@@ -256,18 +251,3 @@ module _ (fields : List ConfigField) where
       if is_arithmetic operator && not (is_quotient operator)
       then data_faults scope n l ++ data_faults scope (n + width l + 1) r
       else wrong_form scope n (binary operator l r)
-
-  -- ---- windows: the name, the number of coordinates and each of them are tested by themselves
-
-  abbrev pub coordinate_faults : Scope → ℕ → Coordinate → List Fault
-  coordinate_faults scope n (point e) = control_faults plainly scope n e
-  coordinate_faults scope n (span a b) = control_faults plainly scope n a ++ control_faults plainly scope (n + width a + 1) b
-
-  abbrev pub coordinates_faults : Scope → ℕ → List Coordinate → List Fault
-  coordinates_faults scope n [] = []
-  coordinates_faults scope n (c ∷ cs) = coordinate_faults scope n c ++ coordinates_faults scope (n + coordinate_width c + 1) cs
-
-  abbrev pub window_faults : (Option Sort → Bool) → Scope → ℕ → List ℕ → List Coordinate → List Fault
-  window_faults fits scope n x cs =
-      let sort = sort_of (named_in scope x) in
-      name_faults fits sort n ++ (rank_faults sort (length cs) n ++ coordinates_faults scope (n + 2) cs)

@@ -3,3 +3,4 @@ pub mod Names
 pub mod Tables
 pub mod ExpressionRules
 pub mod Resolved
+pub mod WindowRules

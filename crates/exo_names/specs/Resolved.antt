@@ -2,8 +2,7 @@
 -- What the rules on expressions refuse stands for some tree here, which nobody sees.
 use Rattle.std.specs.Prelude.{ℕ, pos, Bool, true, false, if◌then◌else◌, List, [], ◌∷◌, map, Option, Some, None}
 use Rattle.exo_tree.specs.Tree as tree
-use Rattle.exo_tree.specs.Tree.{Kind, ConfigField, Control, Condition, Datum, Coord}
-use Rattle.exo_source.specs.Source.{Coordinate, point, span}
+use Rattle.exo_tree.specs.Tree.{Kind, ConfigField, Control, Condition, Datum}
 use Rattle.exo_meaning.specs.Units.{Scope}
 use Rattle.exo_lexer.specs.declared.token.Literal.{Literal}
 use Rattle.exo_lexer.specs.declared.token.Literal.TheVariants.{Value, TooLarge}
@@ -71,10 +70,3 @@ module _ (fields : List ConfigField) where
   datum_of scope (binary o.Sub l r) = tree.Minus (datum_of scope l) (datum_of scope r)
   datum_of scope (binary o.Mul l r) = tree.Times (datum_of scope l) (datum_of scope r)
   datum_of scope other = tree.Const (pos 0)
-
-  abbrev pub coordinate_of : Scope → Coordinate → Coord
-  coordinate_of scope (point e) = tree.At (control_of scope e)
-  coordinate_of scope (span a b) = tree.Span (control_of scope a) (control_of scope b)
-
-  abbrev pub coordinates_of : Scope → List Coordinate → List Coord
-  coordinates_of scope cs = map (coordinate_of scope) cs
