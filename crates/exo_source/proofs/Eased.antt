@@ -179,7 +179,7 @@ one_error tokens places a b f g =
     let same : a.kind ≡ b.kind =
     kinds g.cause g.fault.before g.fault.rest a.kind b.kind
     (subst (λ r. IsKind g.cause g.fault.before r a.kind) one.3 (subst (λ w. IsKind g.cause w f.fault.rest a.kind) one.2 (subst (λ c. IsKind c f.fault.before f.fault.rest a.kind) one.0 f.why)))
-    g.kind in
+    g.why in
     let place : f.placed.place ≡ g.placed.place = same_place (sym f.placed.there ∙ ap (place_left places) one.1 ∙ g.placed.there) in
     same_error a b
     (f.placed.line ∙ ap (λ (p : Place). p.line) place ∙ sym g.placed.line)
