@@ -9,7 +9,7 @@ use Rattle.exo_source.specs.Source.{Item}
 use Rattle.exo_source.specs.Texts.{tokens_of, places_of}
 use Rattle.exo_source.specs.declared.unit.ReadError.{ReadError}
 use Rattle.exo_source.proofs.Eased.{texts_are_one}
-use Rattle.exo_types.specs.ItemRules.{unit_fault}
+use Rattle.exo_types.specs.UnitRules.{unit_fault}
 use Rattle.exo_cli.specs.Compiled.{IsCompiled, kind_text, typed}
 use Rattle.exo_cli.specs.ScheduleForm.{schedule_of}
 use Rattle.exo_cli.specs.Work.{file_limit, Opens, AnswersTo, AnswersAreUnique}

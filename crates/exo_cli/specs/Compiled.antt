@@ -13,7 +13,7 @@ use Rattle.exo_source.specs.declared.unit.ReadError.{ReadError}
 use Rattle.exo_names.specs.Faults.{Fault}
 use Rattle.exo_names.specs.declared.error.TypeKind.{TypeKind}
 use Rattle.exo_names.specs.declared.error.TypeKind.TheVariants as rule
-use Rattle.exo_types.specs.ItemRules.{unit_fault, unit_of}
+use Rattle.exo_types.specs.UnitRules.{unit_fault, unit_of}
 use Rattle.exo_cli.specs.FirstUnits.{is_built}
 use Rattle.c_printer.specs.LoweredUnit.{Printing, name_of, lowered}
 use Rattle.c_printer.specs.CText.{text_of}
@@ -80,6 +80,7 @@ kind_text kind.TooLong = codes "TooLong"
 kind_text kind.LiteralTooLarge = codes "LiteralTooLarge"
 
 abbrev pub rule_text : TypeKind → List ℕ
+rule_text rule.Memory = codes "Memory"
 rule_text rule.UnknownName = codes "UnknownName"
 rule_text rule.Redefined = codes "Redefined"
 rule_text rule.KindMismatch = codes "KindMismatch"

@@ -18,7 +18,7 @@ use Rattle.phrases.specs.Text.{IsText}
 use Rattle.exo_source.specs.Source.{Item}
 use Rattle.exo_source.specs.Items.{unit}
 use Rattle.exo_source.specs.Texts.{tokens_of}
-use Rattle.exo_types.specs.ItemRules.{unit_fault, unit_of}
+use Rattle.exo_types.specs.UnitRules.{unit_fault, unit_of}
 use Rattle.exo_cli.specs.Outside.{Folder, content_of, with_more}
 use Rattle.exo_cli.specs.Words.{Compile, command_of}
 use Rattle.exo_cli.specs.Answer.{Accepted}

@@ -9,8 +9,8 @@ ghost use Rattle.exo_cli.specs.Answer.{Accepted, Rejected, IsVerdict};
 ghost use Rattle.exo_cli.specs.Built.{AreRead};
 ghost use Rattle.exo_cli.specs.Compiled.{IsCompiled, ended, kind_text, not_built, printed, rule_text, scheduled, started, typed, why_text};
 ghost use Rattle.exo_cli.specs.FirstUnits.{is_built};
-ghost use Rattle.exo_source.specs.Views.{plain_item};
-ghost use Rattle.exo_types.specs.ItemRules.{unit_fault};
+ghost use Rattle.exo_types.specs.Typed.{IsPlaced, items_of};
+ghost use Rattle.exo_types.specs.UnitRules.{unit_fault};
 ghost use Rattle.exo_cli.specs.Lines.{operator_of, run_lines};
 ghost use Rattle.exo_cli.specs.Messages.{line_refused, place_refused};
 ghost use Rattle.exo_cli.specs.Replies.{plain};
@@ -25,7 +25,8 @@ use crate::session::{Session, Why};
 use c_printer::{Printed, c_text, lower};
 use exo_source::unit::{ReadError, ReadKind, Source, read_unit};
 use exo_tree::{Lines, Procs, Unit};
-use exo_types::{TypeError, TypeKind, check_types};
+use exo_names::error::{TypeError, TypeKind};
+use exo_types::unit::check_types;
 use std::alloc::{AllocError, Global};
 
 /// Compiles the unit by the schedule. The names are those of their files, for the messages.
@@ -83,8 +84,9 @@ fn type_unit(
     schedule: &str,
     lines: &[u8],
 ) -> Result<Reply, AllocError>
+    requires source { IsPlaced source.now }
     requires lines { length lines.now ≤ 1048576 }
-    ensures answer { IfOk result (λ reply. plain reply ≡ typed procs.now schedule.now (schedule_of lines.now) source.now.places.items (map plain_item source.now.items.items) (unit_fault (map plain_item source.now.items.items))) }
+    ensures answer { IfOk result (λ reply. plain reply ≡ typed procs.now schedule.now (schedule_of lines.now) source.now.places.items (items_of source.now) (unit_fault (items_of source.now))) }
     ensures verdict { IfOk result (λ reply. IsVerdict (plain reply)) }
 {
     match check_types(alloc, source) {
@@ -98,6 +100,7 @@ fn rule_text(rule: TypeKind) -> &'static str
     ensures { result.now ≡ rule_text rule }
 {
     match rule {
+        TypeKind::Memory => "Memory",
         TypeKind::UnknownName => "UnknownName",
         TypeKind::Redefined => "Redefined",
         TypeKind::KindMismatch => "KindMismatch",
@@ -107,6 +110,19 @@ fn rule_text(rule: TypeKind) -> &'static str
         TypeKind::StridePlace => "StridePlace",
         TypeKind::SharedArgument => "SharedArgument",
     }
+}
+
+/// The text of this name breaks a rule.
+fn refuse_rule(alloc: Global, name: &str, e: TypeError) -> Result<Reply, AllocError>
+    ensures answer { IfOk result (λ reply. plain reply ≡ Rejected (place_refused name.now e.line e.column (rule_text e.kind))) }
+    ensures verdict { IfOk result (λ reply. IsVerdict (plain reply)) }
+    ensures cause { IfOk result (λ _. e.kind ≢ TypeKind.Memory) }
+{
+    if e.kind == TypeKind::Memory {
+        return Err(AllocError);
+    }
+    let message = messages::place_refused(alloc, name, e.line, e.column, rule_text(e.kind))?;
+    Ok(Reply::Rejected(message))
 }
 
 /// Compiles a unit that keeps the rules.
