@@ -21,7 +21,11 @@ fn sums(alloc: Global, k: usize) -> Result<Ctrl, AllocError> {
     match k {
         0 => Ok(lit(5)),
         // -(2 * 3) + 1
-        1 => plus(alloc, negated(alloc, times(alloc, lit(2), lit(3))?)?, lit(1)),
+        1 => plus(
+            alloc,
+            negated(alloc, times(alloc, lit(2), lit(3))?)?,
+            lit(1),
+        ),
         // v0 + 3 - v0
         2 => minus(alloc, plus(alloc, var(0), lit(3))?, var(0)),
         // v0 + v1 - v0 + v0: the term that cancelled comes again at its place
