@@ -1,6 +1,7 @@
 // The token that begins at a byte.
 
-ghost use Rattle.std.specs.Prelude.{◌≡◌, ◌+◌, ◌≤◌, ◌<◌, length, IfOk, EachIndex, slice_index};
+ghost use Rattle.std.specs.Prelude.{◌≡◌, ◌+◌, ◌≤◌, ◌<◌, length, IfOk, EachIndex, slice_index, take_while};
+ghost use Rattle.std.specs.Char.{is_ascii_digit};
 ghost use Rattle.exo_lexer.specs.Quoted.{quoted};
 ghost use Rattle.exo_lexer.specs.Piece.{word_of, decorator_of, sign_of, sign_with_equals, literal, name_token, name_piece, decorator_piece, literal_piece, string_piece, lone_piece, sign_piece, piece_of};
 
@@ -175,6 +176,18 @@ fn decorator_piece(text: &[u8]) -> Piece
     }
 }
 
+/// The digits at the front that a literal has: one `0`, or all. So each byte of zeros is looked at once.
+fn literal_at(bytes: &[u8]) -> &[u8]
+    ensures same { literal_piece result.now ≡ literal_piece (take_while is_ascii_digit bytes.now) }
+    ensures within { length result.now ≤ length bytes.now }
+    ensures some { 0 < length (take_while is_ascii_digit bytes.now) → 0 < length result.now }
+{
+    match bytes.first() {
+        Some(first) if *first == b'0' => &bytes[..1],
+        _ => digits_at(bytes),
+    }
+}
+
 /// The piece of digits: a literal is `0` or has no zero first.
 fn literal_piece(digits: &[u8]) -> Piece
     ensures value { result ≡ literal_piece digits.now }
@@ -263,7 +276,7 @@ pub fn piece_of(alloc: Global, bytes: &[u8]) -> Result<Piece, AllocError>
     if begins_name(first) {
         name_piece(alloc, name_at(bytes))
     } else if first.is_ascii_digit() {
-        Ok(literal_piece(digits_at(bytes)))
+        Ok(literal_piece(literal_at(bytes)))
     } else if is_quote(first) {
         string_piece(alloc, first, rest)
     } else if first == b'@' {
