@@ -4,3 +4,4 @@
 pub mod error;
 pub mod fault;
 pub mod scope;
+pub mod table;
