@@ -29,8 +29,8 @@ fields_from n [] c x = refl
 fields_from n (e ∷ es) c x = rw (text_turned e.0.0.now c, text_turned e.0.1.now x) (by (is_field c x e.0) (fields_from (n + 1) es c x))
   where
     by : (t : Bool) → field_from (n + 1) (map field_entry es) c x ≡ placed (position_from (is_field c x) (n + 1) (keys_of es)) (lookup (is_field c x) es)
-       → (if t then Some (n, control_kind e.1) else field_from (n + 1) (map field_entry es) c x)
-         ≡ placed (cond t (Some n) (position_from (is_field c x) (n + 1) (keys_of es))) (cond t (Some e.1) (lookup (is_field c x) es))
+        → (if t then Some (n, control_kind e.1) else field_from (n + 1) (map field_entry es) c x)
+        ≡ placed (cond t (Some n) (position_from (is_field c x) (n + 1) (keys_of es))) (cond t (Some e.1) (lookup (is_field c x) es))
     by true h = refl
     by false h = h
 
