@@ -1,0 +1,4 @@
+//! Which units are well formed: names to ids, kinds, ranks and places; or the first rule that a text breaks.
+#![tactic(auto)]
+
+pub mod error;
