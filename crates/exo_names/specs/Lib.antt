@@ -1,0 +1,6 @@
+pub mod Faults
+pub mod Names
+pub mod Tables
+pub mod ExpressionRules
+pub mod Resolved
+pub mod WindowRules
