@@ -1,9 +1,10 @@
 //! Classes of memories and their attributes.
-ghost use Rattle.std.specs.Prelude.{◌≡◌, IfOk, OnOk, map};
+ghost use Rattle.std.specs.Prelude.{◌≡◌, ◌≤◌, ◌+◌, [], length, IfOk, OnOk, map};
+ghost use Rattle.phrases.specs.Sequence.{spell_all};
 ghost use Rattle.std.specs.List.{list_any};
 ghost use Rattle.exo_tree.specs.PlainTables.{memory_kind};
 ghost use Rattle.exo_meaning.specs.Units.{is_text, is_memory};
-ghost use Rattle.exo_source.specs.Items.{joined};
+ghost use Rattle.exo_source.specs.Items.{joined, attribute};
 ghost use Rattle.exo_source.specs.Views.{plain_setting, plain_attribute};
 ghost use Rattle.exo_names.specs.Faults.{charged};
 ghost use Rattle.exo_types.specs.MemoryRules.{plain_memory, trait_named, text_of, is_strings, is_truth_value, is_cell_word, is_place_word, is_lane_count, has_form, trait_faults, attribute_faults, attributes_fault, lanes_faults, count_of, truth_of, with_trait, with_attributes};
@@ -180,4 +181,140 @@ fn attribute_charge(
     let own = trait_charge(kind, &attribute.value, text.as_str().as_bytes(), token);
     let repeated = is_among(before, attribute.name.as_slice());
     Ok(own.and(Charge::unless(!repeated, TypeKind::Redefined, token)))
+}
+
+/// How many tokens an attribute has.
+fn width(attribute: &SourceAttribute) -> usize
+    requires { length (attribute.spell (plain_attribute attribute.now)) ≤ 0x100000 }
+    ensures { result ≡ length (attribute.spell (plain_attribute attribute.now)) }
+{
+    match &attribute.value {
+        SourceValue::Strings(pieces) => pieces.len() + 3,
+        _ => 4,
+    }
+}
+
+/// The first rule that attributes break by themselves; the first of them begins at the token.
+pub fn attributes_fault(
+    alloc: Global,
+    attributes: &[SourceAttribute],
+    token: usize,
+) -> Result<Option<Fault>, AllocError>
+    requires { token + length (spell_all attribute (map plain_attribute attributes.now)) ≤ 0x100000 }
+    ensures { IfOk result (λ o. o ≡ attributes_fault [] token (map plain_attribute attributes.now)) }
+{
+    let mut at = token;
+    let mut k = 0;
+    for attribute in attributes {
+        let own = attribute_charge(alloc, &attributes[..k], attribute, at)?;
+        if own.first.is_some() {
+            return Ok(own.first);
+        }
+        at += width(attribute);
+        k += 1;
+    }
+    Ok(None)
+}
+
+/// The number of lanes of a value.
+fn count_of(value: &SourceValue) -> u32
+    ensures { result ≡ count_of (plain_setting value.now) }
+{
+    match value {
+        SourceValue::Int(count) => *count,
+        _ => 0,
+    }
+}
+
+fn truth_of(value: &SourceValue) -> bool
+    ensures { result ≡ truth_of (plain_setting value.now) }
+{
+    match value {
+        SourceValue::Yes => true,
+        _ => false,
+    }
+}
+
+/// Gives a memory one attribute more.
+fn set_trait(
+    alloc: Global,
+    made: &mut MemoryClass,
+    kind: Option<Trait>,
+    value: &SourceValue,
+) -> Result<(), AllocError>
+    ensures { OnOk result (memory_kind made.new ≡ with_trait (memory_kind made.old) kind (plain_setting value.now)) }
+{
+    let Some(kind) = kind else {
+        return Ok(());
+    };
+    let text = text_of(alloc, value)?;
+    match kind {
+        Trait::Ctype => made.ctype = text,
+        Trait::Lanes => made.lanes = count_of(value),
+        Trait::CellType => made.cell = cell_of_text(text.as_str().as_bytes()),
+        Trait::Place => made.stack = is_same(text.as_str().as_bytes(), b"stack"),
+        Trait::MayRead => made.read = truth_of(value),
+        Trait::MayWrite => made.write = truth_of(value),
+        Trait::MayReduce => made.reduce = truth_of(value),
+        Trait::Header => made.include = text,
+    }
+    Ok(())
+}
+
+/// A memory without attributes.
+pub fn plain_memory(alloc: Global, name: &str) -> Result<MemoryClass, AllocError>
+    ensures { IfOk result (λ m. memory_kind m ≡ plain_memory name.now) }
+{
+    let name = Name::new(alloc, name)?;
+    let ctype = Text::new(alloc, "")?;
+    let include = Text::new(alloc, "")?;
+    Ok(MemoryClass {
+        name,
+        ctype,
+        lanes: 0,
+        cell: None,
+        stack: false,
+        read: true,
+        write: true,
+        reduce: true,
+        include,
+    })
+}
+
+/// The memory of that name with these attributes.
+pub fn memory_of(
+    alloc: Global,
+    name: &str,
+    attributes: &[SourceAttribute],
+) -> Result<MemoryClass, AllocError>
+    ensures { IfOk result (λ m. memory_kind m ≡ with_attributes (plain_memory name.now) (map plain_attribute attributes.now)) }
+{
+    let mut made = plain_memory(alloc, name)?;
+    for attribute in attributes {
+        let kind = trait_named(attribute.name.as_slice());
+        set_trait(alloc, &mut made, kind, &attribute.value)?;
+    }
+    Ok(made)
+}
+
+/// Whether a memory keeps the rule on lanes: one with lanes has a C type and a cell type, and only instructions touch it.
+fn keeps_lanes(made: &MemoryClass) -> bool
+    ensures { result ≡ is_memory (memory_kind made.now) }
+{
+    let has_type = !made.ctype.as_str().is_empty();
+    if made.lanes == 0 {
+        return !has_type;
+    }
+    let is_touched = made.read || made.write || made.reduce;
+    made.lanes <= 64 && has_type && made.cell.is_some() && !is_touched
+}
+
+/// What the attributes of a memory break together, at the token of its name.
+pub fn lanes_charge(own: Option<Fault>, token: usize, made: &MemoryClass) -> Charge
+    ensures { result ≡ charged (lanes_faults own token (memory_kind made.now)) }
+{
+    match own {
+        Some(_) => Charge::none(),
+        None => Charge::unless(keeps_lanes(made), TypeKind::KindMismatch, token),
+    }
 }

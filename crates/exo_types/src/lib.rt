@@ -1,4 +1,5 @@
 //! Which units are well formed: names to ids, kinds, ranks and places; or the first rule that a text breaks.
 #![tactic(auto)]
 
-pub mod error;
+pub mod attribute;
+pub mod types;

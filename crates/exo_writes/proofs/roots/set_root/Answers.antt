@@ -1,6 +1,6 @@
 use Rattle.std.proofs.Common.{ap, ◌∙◌}
 use Rattle.exo_writes.specs.Written.{roots_in}
-use Rattle.exo_writes.proofs.Roots.{root_by_push}
+use Rattle.exo_writes.proofs.Pushed.{root_by_push}
 use Rattle.exo_writes.proofs.roots.set_root.Goals as goal
 
 pub returns-clause-set : goal.returns-clause-set

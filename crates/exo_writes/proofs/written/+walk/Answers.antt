@@ -13,6 +13,12 @@ walk_statement-returns-in_ok-walk_block-in-If-2-clause-marks t c =
     branched c.args.above.now.procs.now (rows_say c.args.above.now.rows.now) (roots_in c.args.aliases.now.items) (condition c.in-If.field-0) (block c.in-If.a) (block c.in-If.b) o _ _ c.in_ok-walk_block-in-If.ensures.marks i
     ∙ ap (λ s. either o (step_marks c.args.above.now.procs.now (rows_say c.args.above.now.rows.now) (roots_in c.args.aliases.now.items) s)) (sym (ap statement c.in-If.is))
 
+pub walk_statement-returns-in_ok-set_root-in-Alloc-clause-marks : goal.walk_statement-returns-in_ok-set_root-in-Alloc-clause-marks
+walk_statement-returns-in_ok-set_root-in-Alloc-clause-marks t c =
+    let o = row_says c.args.row.now in
+    c.in_ok-mark-in-Alloc.ensures
+    ∙ ap (λ s. either o (step_marks c.args.above.now.procs.now (rows_say c.args.above.now.rows.now) (roots_in c.args.aliases.now.items) s)) (sym (ap statement c.in-Alloc.is))
+
 pub walk_block-loop-k-preserved : goal.walk_block-loop-k-preserved
 walk_block-loop-k-preserved t c = (
   walked_on c.args.above.now.procs.now (rows_say c.args.above.now.rows.now) (roots_in c.loop-k.aliases.items) (roots_in c.walk_statement.new.aliases.items) (row_says c.loop-k.row) (row_says c.walk_statement.new.row) _ (statement c.statement.result.now) (drop c.loop-k.k c.args.b.now) _ c.statement.ensures.value c.in_ok-walk_statement.ensures.marks c.in_ok-walk_statement.ensures.roots c.loop-k.invariant.0,

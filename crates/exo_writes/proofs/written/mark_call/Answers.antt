@@ -29,5 +29,6 @@ returns-in_ok-mark_arguments c =
     let found = sym c.get.ensures ∙ ap (λ o. option_map procedure (option_copied o)) c.in-Some.is in
     let given = get_read row_says c.args.above.now.rows.now c.args.k.0 c.index-above-index.result (rows_say c.args.above.now.rows.now) refl c.index-above-index.is h in
     c.in_ok-mark_arguments.ensures
+    ∙ ap (λ r. either row (argued (row_says r) (roots_in c.args.aliases.now) (map parameter c.as_slice.result.now) (map argument c.as_slice-in-Some.result.now))) (sym c.index-above-index.is)
     ∙ ap (either row) (λ i. argued (row_says c.index-above-index.result) (roots_in c.args.aliases.now) (c.as_slice.ensures i) (c.as_slice-in-Some.ensures i))
     ∙ ap (either row) (sym (call_above c.args.above.now.procs.now (rows_say c.args.above.now.rows.now) c.args.k.0 (roots_in c.args.aliases.now) c.args.args.now (procedure c.in-Some.p.now) _ found given))
