@@ -5,7 +5,7 @@ use Rattle.std.specs.List.{list_any}
 use Rattle.exo_tree.specs.Tree as tree
 use Rattle.exo_tree.specs.Tree.{Kind, Cell, ConfigField, Param, ParamKind, ControlParam, TensorParam, WindowParam}
 use Rattle.exo_meaning.specs.Calls.{Callee}
-use Rattle.exo_meaning.specs.Units.{Sort, Scope, with_both, is_truth, has_cell, is_dense, root_of, same_root}
+use Rattle.exo_meaning.specs.Units.{Sort, Scope, with_both, is_truth, has_cell, is_dense, root_of, same_root, field_kind}
 use Rattle.exo_reader.specs.Expression.{Tree, Trees, variable, access, parens}
 use Rattle.exo_source.specs.Source.{Coordinate, point, span, Argument, value, window}
 use Rattle.exo_source.specs.Parts.{maybe_dims}
@@ -15,8 +15,9 @@ use Rattle.exo_names.specs.declared.error.TypeKind.TheVariants.{UnknownName, Ran
 use Rattle.exo_names.specs.declared.fault.Fault.{Fault}
 use Rattle.exo_names.specs.Faults.{fault, unless}
 use Rattle.exo_names.specs.Names.{named_in, sort_of, id_in, no_id}
-use Rattle.exo_names.specs.ExpressionRules.{name_faults, rank_faults, wrong_form, control_faults, condition_faults, window_faults, list_of}
-use Rattle.exo_names.specs.Resolved.{control_of, condition_of, coordinates_of}
+use Rattle.exo_names.specs.ExpressionRules.{name_faults, rank_faults, wrong_form, control_faults, condition_faults, list_of}
+use Rattle.exo_names.specs.WindowRules.{window_faults, coordinates_of}
+use Rattle.exo_names.specs.Resolved.{control_of, condition_of}
 
 -- ---- widths
 
@@ -131,14 +132,14 @@ module _ (fields : List ConfigField) where
 
   -- a buffer that was passed to a parameter before, where the callee writes or reduces it or the parameter p
   abbrev pub is_passed : (ℕ → Bool) → Param → Option ℕ → List (Param × Option ℕ) → Bool
-  is_passed writes p r passed = list_any (λ q. same_root q.1 r && (writes q.0.binder.id || writes p.binder.id)) passed
+  is_passed writes p r passed = list_any (λ q. same_root (field_kind fields) q.1 r && (writes q.0.binder.id || writes p.binder.id)) passed
 
   -- passed: the parameters before, each with the buffer that its argument is a part of
   abbrev pub shared_faults : (ℕ → Bool) → Scope → (ℕ → ℕ) → List (Param × Option ℕ) → List Param → ℕ → List Argument → List Fault
   shared_faults writes scope root passed [] n args = []
   shared_faults writes scope root passed (p ∷ ps) n [] = []
   shared_faults writes scope root passed (p ∷ ps) n (a ∷ args) =
-      let r = root_of root (argument_of scope p.kind a) in
+      let r = root_of (field_kind fields) root (argument_of scope p.kind a) in
       unless (not (is_passed writes p r passed)) SharedArgument n
       ++ shared_faults writes scope root ((p, r) ∷ passed) ps (n + argument_width a + 1) args
 

@@ -26,6 +26,13 @@ abbrev pub no_memory_faults : List MemoryKind → ℕ → Option (List ℕ) → 
 no_memory_faults memories n None = []
 no_memory_faults memories n (Some x) = memory_faults memories n (Some x) ++ fault KindMismatch (n + 1)
 
+-- the number of the first token of the assertions, and of the body; n is that of `def`
+abbrev pub asserts_start : ℕ → Definition → ℕ
+asserts_start n d = n + 3 + length (parameters.spell (d.params, d.trailing)) + 4
+
+abbrev pub body_start : ℕ → Definition → ℕ
+body_start n d = asserts_start n d + length (spell_all assertion d.asserts)
+
 module _ (fields : List ConfigField) (memories : List MemoryKind) where
   -- a type without dimensions: a control value, or a single cell
   abbrev pub scalar_faults : Option Kind → TypeName → ℕ → Option (List ℕ) → List Fault
@@ -73,13 +80,6 @@ module _ (fields : List ConfigField) (memories : List MemoryKind) where
   assertions_fault scope n [] = None
   assertions_fault scope n (e ∷ es) =
       or_else (least (condition_faults fields with_both scope (n + 1) e)) (assertions_fault scope (n + width e + 2) es)
-
-  -- the number of the first token of the assertions, and of the body; n is that of `def`
-  abbrev pub asserts_start : ℕ → Definition → ℕ
-  asserts_start n d = n + 3 + length (parameters.spell (d.params, d.trailing)) + 4
-
-  abbrev pub body_start : ℕ → Definition → ℕ
-  body_start n d = asserts_start n d + length (spell_all assertion d.asserts)
 
   module _ (above : List Procedure) (callees : ℕ → Option Callee) where
     -- the procedure, whose first binder gets this id

@@ -5,3 +5,5 @@ pub mod StatementRules
 pub mod ItemRules
 pub mod UnitRules
 pub mod UnitLines
+pub mod Typed
+pub mod Refusals

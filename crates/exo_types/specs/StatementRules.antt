@@ -13,8 +13,9 @@ use Rattle.exo_names.specs.declared.error.TypeKind.TheVariants.{UnknownName}
 use Rattle.exo_names.specs.declared.fault.Fault.{Fault}
 use Rattle.exo_names.specs.Faults.{fault, least, or_else}
 use Rattle.exo_names.specs.Names.{id_in, field_in, procedure_in, no_id}
-use Rattle.exo_names.specs.ExpressionRules.{width, is_buffer, control_faults, controls_faults, condition_faults, data_faults, window_faults}
-use Rattle.exo_names.specs.Resolved.{control_of, condition_of, controls_of, datum_of, coordinates_of, field_number}
+use Rattle.exo_names.specs.ExpressionRules.{width, is_buffer, control_faults, controls_faults, condition_faults, data_faults}
+use Rattle.exo_names.specs.WindowRules.{window_faults, coordinates_of}
+use Rattle.exo_names.specs.Resolved.{control_of, condition_of, controls_of, datum_of, field_number}
 use Rattle.exo_types.specs.TypeRules.{cell_faults, cell_of, binder, binder_faults, memory_faults, memory_of}
 use Rattle.exo_types.specs.ArgumentRules.{dims_width, points, arguments_of, call_faults, params_of}
 
@@ -113,9 +114,6 @@ module _ (fields : List ConfigField) where
 
     -- The first rule that a statement breaks, and a block. A header stands before its blocks, and names end with their block.
     abbrev mutual
-      pub statement_fault : ℕ → Scope → (ℕ → ℕ) → ℕ → Statement → Option Fault
-      statement_fault id scope root n s = or_else (least (own_faults scope root n s)) (inner_fault id scope root n s)
-
       pub inner_fault : ℕ → Scope → (ℕ → ℕ) → ℕ → Statement → Option Fault
       inner_fault id scope root n pass = None
       inner_fault id scope root n (branch c a b) =
@@ -134,5 +132,8 @@ module _ (fields : List ConfigField) where
       block_fault id scope root n end = None
       block_fault id scope root n (next s more) =
           let t = statement_of id scope s in
-          or_else (statement_fault id scope root n s)
+          or_else (or_else (least (own_faults scope root n s)) (inner_fault id scope root n s))
           (block_fault (id + bound s) (scope_after t scope) (roots_after t root) (n + statement_width s) more)
+
+    abbrev pub statement_fault : ℕ → Scope → (ℕ → ℕ) → ℕ → Statement → Option Fault
+    statement_fault id scope root n s = or_else (least (own_faults scope root n s)) (inner_fault id scope root n s)

@@ -4,7 +4,7 @@ ghost use Rattle.phrases.specs.Sequence.{spell_all};
 ghost use Rattle.std.specs.List.{list_any};
 ghost use Rattle.exo_tree.specs.PlainTables.{memory_kind};
 ghost use Rattle.exo_meaning.specs.Units.{is_text, is_memory};
-ghost use Rattle.exo_source.specs.Items.{joined, attribute};
+ghost use Rattle.exo_source.specs.Items as grammar;
 ghost use Rattle.exo_source.specs.Views.{plain_setting, plain_attribute};
 ghost use Rattle.exo_names.specs.Faults.{charged};
 ghost use Rattle.exo_types.specs.MemoryRules.{plain_memory, trait_named, text_of, is_strings, is_truth_value, is_cell_word, is_place_word, is_lane_count, has_form, trait_faults, attribute_faults, attributes_fault, lanes_faults, count_of, truth_of, with_trait, with_attributes};
@@ -63,7 +63,7 @@ fn trait_named(name: &[u8]) -> Option<Trait>
 
 /// Neighbouring strings as one.
 pub fn joined(alloc: Global, pieces: &[lexer::Text]) -> Result<Text, AllocError>
-    ensures { IfOk result (λ t. t ≡ joined pieces.now) }
+    ensures { IfOk result (λ t. t ≡ grammar.joined pieces.now) }
 {
     let mut whole = String::new(alloc);
     for piece in pieces {
@@ -185,8 +185,8 @@ fn attribute_charge(
 
 /// How many tokens an attribute has.
 fn width(attribute: &SourceAttribute) -> usize
-    requires { length (attribute.spell (plain_attribute attribute.now)) ≤ 0x100000 }
-    ensures { result ≡ length (attribute.spell (plain_attribute attribute.now)) }
+    requires { length (grammar.attribute.spell (plain_attribute attribute.now)) ≤ 0x100000 }
+    ensures { result ≡ length (grammar.attribute.spell (plain_attribute attribute.now)) }
 {
     match &attribute.value {
         SourceValue::Strings(pieces) => pieces.len() + 3,
@@ -200,7 +200,7 @@ pub fn attributes_fault(
     attributes: &[SourceAttribute],
     token: usize,
 ) -> Result<Option<Fault>, AllocError>
-    requires { token + length (spell_all attribute (map plain_attribute attributes.now)) ≤ 0x100000 }
+    requires { token + length (spell_all grammar.attribute (map plain_attribute attributes.now)) ≤ 0x100000 }
     ensures { IfOk result (λ o. o ≡ attributes_fault [] token (map plain_attribute attributes.now)) }
 {
     let mut at = token;

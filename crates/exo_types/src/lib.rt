@@ -2,4 +2,6 @@
 #![tactic(auto)]
 
 pub mod attribute;
+pub mod refusal;
 pub mod types;
+pub mod unit;
