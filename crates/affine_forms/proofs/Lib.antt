@@ -9,4 +9,3 @@ pub mod NormalForm
 pub mod Strides
 pub mod LaterExtents
 pub mod FormulaValues
-pub mod FactRules

@@ -10,8 +10,5 @@ pub mod PlainAtoms
 pub mod AtomFalls
 pub mod Formulas
 pub mod PlainFormulas
-pub mod Facts
-pub mod FactCodes
-pub mod PlainFacts
 pub mod Strides
 pub mod Laws

@@ -32,7 +32,7 @@ pub trait Reader {
 }
 
 /// Whether the expression is built of literals alone.
-fn is_literal(e: &Ctrl) -> bool
+pub fn is_literal(e: &Ctrl) -> bool
     ensures { result ≡ is_literal (control e.now) }
 {
     match e {

@@ -2,11 +2,17 @@
 #![tactic(auto)]
 
 #[cfg(test)]
+mod buffers;
+#[cfg(test)]
+mod forms;
+#[cfg(test)]
 mod limits;
 #[cfg(test)]
 mod rules;
 #[cfg(test)]
 mod shown;
+#[cfg(test)]
+mod strides;
 #[cfg(test)]
 mod systems;
 #[cfg(test)]

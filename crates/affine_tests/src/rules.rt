@@ -1,27 +1,11 @@
 //! Whether expressions and conditions keep the rules of affine ones.
 ghost use Rattle.std.specs.Prelude.{◌≡◌};
 ghost use Rattle.exo_tree.specs.PlainControl.{control, condition};
-ghost use Rattle.affine_forms.specs.Forms.{is_literal, keeps_rules};
+ghost use Rattle.affine_forms.specs.Forms.{keeps_rules};
 ghost use Rattle.affine_forms.specs.Formulas.{condition_keeps_rules};
 
+use affine_forms::is_literal;
 use exo_tree::{Cond, Ctrl};
-
-fn is_literal(e: &Ctrl) -> bool
-    ensures { result ≡ is_literal (control e.now) }
-{
-    match e {
-        Ctrl::Lit(_) => true,
-        Ctrl::Var(_) => false,
-        Ctrl::Field(_) => false,
-        Ctrl::Stride(_, _) => false,
-        Ctrl::Neg(a) => is_literal(a),
-        Ctrl::Add(a, b) => is_literal(a) && is_literal(b),
-        Ctrl::Sub(a, b) => is_literal(a) && is_literal(b),
-        Ctrl::Mul(a, b) => is_literal(a) && is_literal(b),
-        Ctrl::Div(a, _) => is_literal(a),
-        Ctrl::Mod(a, _) => is_literal(a),
-    }
-}
 
 /// Whether each product has a side of literals, and each divisor is at least 1.
 pub fn keeps_rules(e: &Ctrl) -> bool

@@ -1,5 +1,5 @@
 //! Forms and systems as text.
-use affine_forms::Row;
+use affine_forms::{Atom, FormError, Linear, Row, Terms};
 use affine_systems::Obligation;
 use std::alloc::Global;
 use std::test::Fail;
@@ -35,4 +35,55 @@ pub fn show_systems(alloc: Global, os: &[Obligation]) -> Result<String, Fail> {
         text.push_str("\n")?;
     }
     Ok(text)
+}
+
+/// The atom as text: `v` a variable, `f` a field at entry, `u` an unknown field with the indices of its path,
+/// `s` a stride, and a quotient in brackets.
+fn put_terms(alloc: Global, text: &mut String, depth: u32, terms: &Terms) -> Result<(), Fail> {
+    if depth == 0 {
+        return Err(Fail::new("too deep a quotient"));
+    }
+    for w in terms.as_slice() {
+        let head = format!(in alloc; " {}*", w.coefficient)?;
+        text.push_str(&head)?;
+        match &w.atom {
+            Atom::Quotient(k, inner, by) => {
+                let first = format!(in alloc; "[{k}")?;
+                text.push_str(&first)?;
+                put_terms(alloc, text, depth - 1, inner)?;
+                let last = format!(in alloc; " / {by}]")?;
+                text.push_str(&last)?;
+            }
+            atom => put_plain(alloc, text, atom)?,
+        }
+    }
+    Ok(())
+}
+
+/// An atom that is no quotient.
+fn put_plain(alloc: Global, text: &mut String, atom: &Atom) -> Result<(), Fail> {
+    let shown = match atom {
+        Atom::Variable(x) => format!(in alloc; "v{}", x.0)?,
+        Atom::EntryField(f, _) => format!(in alloc; "f{}", f.0)?,
+        Atom::UnknownField(f, _, path) => {
+            format!(in alloc; "u{}@{}", f.0, path.as_slice().len())?
+        }
+        Atom::OpaqueStride(x, k) => format!(in alloc; "s{}.{k}", x.0)?,
+        Atom::Quotient(_, _, _) => return Err(Fail::new("a quotient")),
+    };
+    text.push_str(&shown)?;
+    Ok(())
+}
+
+/// A normal form, its constant first, or the refusal.
+pub fn show_form(alloc: Global, answer: &Result<Linear, FormError>) -> Result<String, Fail> {
+    match answer {
+        Ok(l) => {
+            let mut text = format!(in alloc; "{}", l.constant())?;
+            put_terms(alloc, &mut text, 4, l.terms())?;
+            Ok(text)
+        }
+        Err(FormError::WideNumber) => Ok(String::from_str(alloc, "WideNumber")?),
+        Err(_) => Err(Fail::new("another refusal")),
+    }
 }

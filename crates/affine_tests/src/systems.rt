@@ -2,7 +2,8 @@
 use crate::rules::condition_keeps_rules;
 use crate::shown::show_systems;
 use crate::trees::{and, field, lit, modulo, or, over, plus, var};
-use affine_forms::{AtEntry, FormError, Formula, formula_of};
+use affine_forms::{FormError, Formula, formula_of};
+use affine_places::{AtEntry, Roots};
 use affine_systems::{Context, systems};
 use exo_tree::{Cond, Field, FieldId, Fields, Id, Kind, Name, Path, Text};
 use std::alloc::{AllocError, Global};
@@ -25,7 +26,12 @@ fn formula(alloc: Global, fields: &Fields, c: &Cond) -> Result<Formula, Fail> {
     if !condition_keeps_rules(c) {
         return Err(Fail::new("a condition that is not affine"));
     }
-    match formula_of(alloc, &AtEntry { fields }, c) {
+    let roots = Roots::new(alloc);
+    let at = AtEntry {
+        fields,
+        roots: &roots,
+    };
+    match formula_of(alloc, &at, c) {
         Ok(f) => Ok(f),
         Err(_) => Err(Fail::new("no formula")),
     }

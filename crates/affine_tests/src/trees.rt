@@ -14,6 +14,14 @@ pub fn field(f: u32) -> Ctrl {
     Ctrl::Field(FieldId(f))
 }
 
+pub fn stride(x: u32, k: u32) -> Ctrl {
+    Ctrl::Stride(Id(x), k)
+}
+
+pub fn negated(alloc: Global, a: Ctrl) -> Result<Ctrl, AllocError> {
+    Ok(Ctrl::Neg(Box::new(alloc, a)?))
+}
+
 pub fn plus(alloc: Global, a: Ctrl, b: Ctrl) -> Result<Ctrl, AllocError> {
     Ok(Ctrl::Add(Box::new(alloc, a)?, Box::new(alloc, b)?))
 }

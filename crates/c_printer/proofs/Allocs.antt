@@ -66,10 +66,10 @@ times_assoc (pos x) (negsuc y) z h k l = absurd (true≢false (sym k))
 times_assoc (pos x) (pos y) (negsuc z) h k l = absurd (true≢false (sym l))
 
 module _ (naming : Naming) (forms : Forms) (most : ℕ → ℕ) (layout : Layout) (scene : Scene) (setting : Setting) (match : (x : ℕ) → HasForm naming forms most layout scene setting x (forms x)) where
-  value : (e : Control) → IsPlain forms e → IsNarrow most e → number64 setting (number_with naming (λ x k. Literal (pos 0)) e) ≡ Done (number scene e)
-  value e h k = same_number naming forms most layout scene setting match (λ x k. Literal (pos 0)) e h k
+  value : (e : Control) → IsPlain forms e → IsNarrow most e → number64 setting (number_with naming (λ x k. Literal (pos 1)) e) ≡ Done (number scene e)
+  value e h k = same_number naming forms most layout scene setting match (λ x k. Literal (pos 1)) e h k
 
-  number_amount : (e : Control) → IsPlain forms e → IsNarrow most e → Amount (amount setting (number_with naming (λ x k. Literal (pos 0)) e)) (number scene e)
+  number_amount : (e : Control) → IsPlain forms e → IsNarrow most e → Amount (amount setting (number_with naming (λ x k. Literal (pos 1)) e)) (number scene e)
   number_amount (Lit n) h k = after_known _ _ (value (Lit n) h k)
   number_amount (Var y) h k = after_known _ _ (value (Var y) h k)
   number_amount (Field f) h k = absurd h
@@ -77,7 +77,7 @@ module _ (naming : Naming) (forms : Forms) (most : ℕ → ℕ) (layout : Layout
   number_amount (Neg a) h k = after_known _ _ (value (Neg a) h k)
   number_amount (Add a b) h k = after_known _ _ (value (Add a b) h k)
   number_amount (Sub a b) h k = after_known _ _ (value (Sub a b) h k)
-  number_amount (Mul a b) h k = product_amount setting (number_with naming (λ x j. Literal (pos 0)) a) (number_with naming (λ x j. Literal (pos 0)) b) (number scene a) (number scene b) (number_amount a h.0 k.0) (value b h.1 k.1)
+  number_amount (Mul a b) h k = product_amount setting (number_with naming (λ x j. Literal (pos 1)) a) (number_with naming (λ x j. Literal (pos 1)) b) (number scene a) (number scene b) (number_amount a h.0 k.0) (value b h.1 k.1)
   number_amount (Div a c) h k = after_known _ _ (value (Div a c) h k)
   number_amount (Mod a c) h k = after_known _ _ (value (Mod a c) h k)
 
@@ -88,8 +88,8 @@ module _ (naming : Naming) (forms : Forms) (most : ℕ → ℕ) (layout : Layout
       times_one z = omega (arith, ints)
   chain_amount a v (d ∷ ds) h k p q r =
       let parts = and_parts (int_le (pos 1) (number scene d)) (all_positive (numbers scene ds)) q in
-      subst (λ z. Amount (amount setting (product_from (Product a (number_with naming (λ x k. Literal (pos 0)) d)) (dims_of naming ds))) z) (times_assoc v (number scene d) (product (numbers scene ds)) p parts.0 (positive_product (numbers scene ds) parts.1))
-      (chain_amount (Product a (number_with naming (λ x k. Literal (pos 0)) d)) (v *ℤ number scene d) ds h.1 k.1 (both_positive v (number scene d) p parts.0) parts.1 (product_amount setting a (number_with naming (λ x j. Literal (pos 0)) d) v (number scene d) r (value d h.0 k.0)))
+      subst (λ z. Amount (amount setting (product_from (Product a (number_with naming (λ x k. Literal (pos 1)) d)) (dims_of naming ds))) z) (times_assoc v (number scene d) (product (numbers scene ds)) p parts.0 (positive_product (numbers scene ds) parts.1))
+      (chain_amount (Product a (number_with naming (λ x k. Literal (pos 1)) d)) (v *ℤ number scene d) ds h.1 k.1 (both_positive v (number scene d) p parts.0) parts.1 (product_amount setting a (number_with naming (λ x j. Literal (pos 1)) d) v (number scene d) r (value d h.0 k.0)))
 
   dims_amount : (ds : List Control) → ArePlain forms ds → AreNarrow most ds → all_positive (numbers scene ds) ≡ true → Amount (amount setting (product_of (dims_of naming ds))) (product (numbers scene ds))
   dims_amount [] h k p = at_most_is (pos 1)

@@ -108,7 +108,7 @@ no_fields_from used h k (f ∷ fs) = ap (λ t. cond t (field_name f ∷ fields_f
 no_headers_from : (filled : ℕ → Bool) → ((m : ℕ) → filled m ≡ false) → (k : ℕ) (seen : List Name) (ms : List MemoryKind) → headers_from filled k seen ms ≡ []
 no_headers_from filled h k seen [] = refl
 no_headers_from filled h k seen (m ∷ ms) =
-    ap (λ t. cond (t && is_new seen m.header) (m.header ∷ headers_from filled (suc k) (m.header ∷ seen) ms) (headers_from filled (suc k) seen ms)) (h k) ∙ no_headers_from filled h (suc k) seen ms
+    ap (λ t. cond (t && is_new seen m.header) (m.header ∷ headers_from filled (suc k) (seen ++ m.header ∷ []) ms) (headers_from filled (suc k) seen ms)) (h k) ∙ no_headers_from filled h (suc k) seen ms
 
 pub no_fields : (program : Program) (globals : List Name) (what : List Printing) → are_first program globals what ≡ true → fields_of program what ≡ []
 no_fields program globals what h = no_fields_from (is_used program what) (no_field_used program globals what h) 0 program.fields

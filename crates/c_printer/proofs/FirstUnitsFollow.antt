@@ -23,7 +23,7 @@ function_there program globals (v ∷ vs) zero w e = ap (λ u. Some (function_at
 function_there program globals (v ∷ vs) (suc k) w e = function_there program globals vs k w e
 
 -- the procedure at that place is of the first form
-first_here : (program : Program) (globals : List Name) (what : List Printing) (k : ℕ) (w : Printing) → are_first program globals what ≡ true → slice_get what k ≡ Some w → is_first globals (slice_get program.procedures w.proc) ≡ true
+pub first_here : (program : Program) (globals : List Name) (what : List Printing) (k : ℕ) (w : Printing) → are_first program globals what ≡ true → slice_get what k ≡ Some w → is_first globals (slice_get program.procedures w.proc) ≡ true
 first_here program globals [] k w h e = absurd (some_none e)
 first_here program globals (v ∷ vs) zero w h e =
     subst (λ u. is_first globals (slice_get program.procedures u.proc) ≡ true) (some_same e) (and_parts (is_first globals (slice_get program.procedures v.proc)) (are_first program globals vs) h).0

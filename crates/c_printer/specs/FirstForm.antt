@@ -108,3 +108,7 @@ abbrev pub is_first_unit : Program → List Printing → Bool
 is_first_unit program what =
     let globals = printed_names program what in
     are_no_words globals && are_distinct globals && are_first program globals what
+
+-- a procedure of the first form, with names that C keeps in a file that holds it alone
+abbrev pub stands_alone : Procedure → Bool
+stands_alone p = not (is_word p.name) && is_first (p.name ∷ []) (Some p)

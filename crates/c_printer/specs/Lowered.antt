@@ -52,7 +52,7 @@ numbers_with naming strides (a ∷ as') = number_with naming strides a ∷ numbe
 
 -- dimensions hold no strides
 abbrev pub dims_of : Naming → List Control → List Number64
-dims_of naming = numbers_with naming (λ x k. Literal (pos 0))
+dims_of naming = numbers_with naming (λ x k. Literal (pos 1))
 
 -- ---- products and offsets
 

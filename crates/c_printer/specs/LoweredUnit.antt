@@ -174,7 +174,7 @@ is_new seen header = not (is_empty header) && not (is_in seen header)
 -- each header once, in the unit's order
 abbrev pub headers_from : (ℕ → Bool) → ℕ → List Name → List MemoryKind → List Name
 headers_from filled k seen [] = []
-headers_from filled k seen (m ∷ ms) = if filled k && is_new seen m.header then m.header ∷ headers_from filled (suc k) (m.header ∷ seen) ms else headers_from filled (suc k) seen ms
+headers_from filled k seen (m ∷ ms) = if filled k && is_new seen m.header then m.header ∷ headers_from filled (suc k) (seen ++ m.header ∷ []) ms else headers_from filled (suc k) seen ms
 
 abbrev pub headers_of : Program → List Printing → List Name
 headers_of program what = headers_from (is_filled program what) 0 [] program.memories

@@ -1,22 +1,7 @@
 -- How large control values can become.
-use Rattle.std.specs.Prelude.{ℕ, suc, ◌+◌, ◌-◌, ◌*◌, ◌/◌, ◌≤◌, ◌^◌, max, ℤ, pos, negsuc, List, [], ◌∷◌, unsigned_abs}
+use Rattle.std.specs.Prelude.{ℕ, ◌≤◌, ◌^◌, List, [], ◌∷◌}
 use Rattle.exo_tree.specs.Tree.{Control, Lit, Var, Field, StrideOf, Neg, Add, Sub, Mul, Div, Mod}
-
-abbrev pub rounded_up : ℕ → ℕ → ℕ
-rounded_up m c = (m + (c - 1)) / c
-
--- by the magnitudes of the variables
-abbrev pub magnitude : (ℕ → ℕ) → Control → ℕ
-magnitude most (Lit n) = unsigned_abs n
-magnitude most (Var x) = most x
-magnitude most (Field f) = 2 ^ 48
-magnitude most (StrideOf x k) = 2 ^ 48
-magnitude most (Neg a) = magnitude most a
-magnitude most (Add a b) = magnitude most a + magnitude most b
-magnitude most (Sub a b) = magnitude most a + magnitude most b
-magnitude most (Mul a b) = magnitude most a * magnitude most b
-magnitude most (Div a c) = rounded_up (magnitude most a) (unsigned_abs c)
-magnitude most (Mod a c) = unsigned_abs c - 1
+pub use Rattle.c_widths.specs.Magnitude.{rounded_up, magnitude}
 
 -- it and all its parts are at most 2 ^ 62
 abbrev pub IsNarrow : (ℕ → ℕ) → Control → Type 0

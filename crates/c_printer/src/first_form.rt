@@ -1,5 +1,5 @@
 //! Whether procedures are of the first form, with names that C can keep.
-ghost use Rattle.std.specs.Prelude.{◌≡◌, map, slice_get, codes};
+ghost use Rattle.std.specs.Prelude.{◌≡◌, [], ◌∷◌, map, slice_get};
 ghost use Rattle.exo_tree.specs.Tree.{block};
 ghost use Rattle.exo_tree.specs.PlainDatum.{datum};
 ghost use Rattle.exo_tree.specs.PlainStatement.{statement};
@@ -7,12 +7,13 @@ ghost use Rattle.exo_tree.specs.PlainParam.{parameter, parameter_kind};
 ghost use Rattle.exo_tree.specs.PlainProcedure.{procedure};
 ghost use Rattle.exo_tree.specs.PlainUnit.{program};
 ghost use Rattle.c_printer.specs.Machine.{same_name};
-ghost use Rattle.c_printer.specs.Names.{is_in, starts_with, is_own, type_keywords, statement_keywords, other_keywords, library_words, exact_types, least_types, fast_types, greatest_types, is_word, is_reserved, param_binders, names_of};
+ghost use Rattle.c_printer.specs.Names.{is_in, is_reserved, param_binders, names_of};
 ghost use Rattle.c_printer.specs.LoweredUnit.{name_of, printed_names};
-ghost use Rattle.c_printer.specs.FirstForm.{extent, is_first_param, are_first_params, has_cell, is_first_access, is_first_datum, is_first_statement, is_first_block, is_first_form, are_free, are_distinct, are_no_words, is_first, is_first_unit};
+ghost use Rattle.c_printer.specs.FirstForm.{extent, is_first_param, are_first_params, has_cell, is_first_access, is_first_datum, is_first_statement, is_first_block, is_first_form, are_free, are_distinct, are_no_words, is_first, is_first_unit, stands_alone};
 ghost use Rattle.c_printer.specs.PlainPrinted.{printing};
 
 use crate::lowering::Printed;
+use c_names::is_word;
 use exo_tree::{
     Block, Cell, Ctrl, DataExpr, Id, Indices, Param, ParamKind, Params, Proc, ProcId, Stmt, Unit,
 };
@@ -138,153 +139,6 @@ fn is_same(word: &str, x: &str) -> bool
     word == x
 }
 
-/// Whether the name begins with those bytes.
-fn begins_with(p: &[u8], x: &[u8]) -> bool
-    ensures { result ≡ starts_with p.now x.now }
-{
-    let [a, p @ ..] = p else {
-        return true;
-    };
-    let [b, x @ ..] = x else {
-        return false;
-    };
-    *a == *b && begins_with(p, x)
-}
-
-/// Whether the name begins with `_` or `exo_`.
-fn is_own(x: &str) -> bool
-    ensures { result ≡ is_own x.now }
-{
-    begins_with(b"_", x.as_bytes()) || begins_with(b"exo_", x.as_bytes())
-}
-
-/// Whether it is a keyword of types.
-fn is_type_keyword(x: &str) -> bool
-    ensures { result ≡ is_in type_keywords x.now }
-{
-    is_same("char", x)
-        || is_same("double", x)
-        || is_same("enum", x)
-        || is_same("float", x)
-        || is_same("int", x)
-        || is_same("long", x)
-        || is_same("short", x)
-        || is_same("signed", x)
-        || is_same("struct", x)
-        || is_same("union", x)
-        || is_same("unsigned", x)
-        || is_same("void", x)
-}
-
-/// Whether it is a keyword of statements.
-fn is_statement_keyword(x: &str) -> bool
-    ensures { result ≡ is_in statement_keywords x.now }
-{
-    is_same("break", x)
-        || is_same("case", x)
-        || is_same("continue", x)
-        || is_same("default", x)
-        || is_same("do", x)
-        || is_same("else", x)
-        || is_same("for", x)
-        || is_same("goto", x)
-        || is_same("if", x)
-        || is_same("return", x)
-        || is_same("switch", x)
-        || is_same("while", x)
-}
-
-/// Whether it is another keyword.
-fn is_other_keyword(x: &str) -> bool
-    ensures { result ≡ is_in other_keywords x.now }
-{
-    is_same("auto", x)
-        || is_same("const", x)
-        || is_same("extern", x)
-        || is_same("inline", x)
-        || is_same("register", x)
-        || is_same("restrict", x)
-        || is_same("sizeof", x)
-        || is_same("static", x)
-        || is_same("typedef", x)
-        || is_same("volatile", x)
-}
-
-/// Whether it is a name of the library.
-fn is_library_word(x: &str) -> bool
-    ensures { result ≡ is_in library_words x.now }
-{
-    is_same("NULL", x)
-        || is_same("main", x)
-        || is_same("malloc", x)
-        || is_same("free", x)
-        || is_same("size_t", x)
-}
-
-/// Whether it is an integer type of exact width.
-fn is_exact_type(x: &str) -> bool
-    ensures { result ≡ is_in exact_types x.now }
-{
-    is_same("int8_t", x)
-        || is_same("int16_t", x)
-        || is_same("int32_t", x)
-        || is_same("int64_t", x)
-        || is_same("uint8_t", x)
-        || is_same("uint16_t", x)
-        || is_same("uint32_t", x)
-        || is_same("uint64_t", x)
-}
-
-/// Whether it is an integer type of least width.
-fn is_least_type(x: &str) -> bool
-    ensures { result ≡ is_in least_types x.now }
-{
-    is_same("int_least8_t", x)
-        || is_same("int_least16_t", x)
-        || is_same("int_least32_t", x)
-        || is_same("int_least64_t", x)
-        || is_same("uint_least8_t", x)
-        || is_same("uint_least16_t", x)
-        || is_same("uint_least32_t", x)
-        || is_same("uint_least64_t", x)
-}
-
-/// Whether it is a fastest integer type.
-fn is_fast_type(x: &str) -> bool
-    ensures { result ≡ is_in fast_types x.now }
-{
-    is_same("int_fast8_t", x)
-        || is_same("int_fast16_t", x)
-        || is_same("int_fast32_t", x)
-        || is_same("int_fast64_t", x)
-        || is_same("uint_fast8_t", x)
-        || is_same("uint_fast16_t", x)
-        || is_same("uint_fast32_t", x)
-        || is_same("uint_fast64_t", x)
-}
-
-/// Whether it is an integer type for pointers, or a greatest one.
-fn is_greatest_type(x: &str) -> bool
-    ensures { result ≡ is_in greatest_types x.now }
-{
-    is_same("intptr_t", x)
-        || is_same("uintptr_t", x)
-        || is_same("intmax_t", x)
-        || is_same("uintmax_t", x)
-}
-
-/// Whether C or this program's text has the name for something else.
-fn is_word(x: &str) -> bool
-    ensures { result ≡ is_word x.now }
-{
-    let keyword = is_type_keyword(x) || is_statement_keyword(x) || is_other_keyword(x);
-    let integer_type = is_exact_type(x)
-        || is_least_type(x)
-        || is_fast_type(x)
-        || is_greatest_type(x);
-    is_own(x) || keyword || is_library_word(x) || integer_type
-}
-
 /// The name of a procedure; empty where the unit has none of that number.
 fn name_at(unit: &Unit, k: ProcId) -> &str
     ensures { result.now ≡ name_of (slice_get unit.now.procs k.0) }
@@ -400,4 +254,29 @@ pub fn is_first_unit(unit: &Unit, what: &[Printed]) -> bool
         }
     }
     true
+}
+
+/// Whether no parameter has a name that is reserved in a file of this procedure alone.
+fn are_free_beside(name: &str, params: &[Param]) -> bool
+    ensures { result ≡ are_free (name.now ∷ []) (names_of (param_binders (map parameter params.now))) }
+{
+    for p in params {
+        let x = p.binder.name.as_str();
+        if is_word(x) || is_same(name, x) {
+            return false;
+        }
+    }
+    true
+}
+
+/// Whether the procedure is of the first form, and C can keep its names in a file that holds it alone.
+pub fn stands_alone(p: &Proc) -> bool
+    ensures { result ≡ stands_alone (procedure p.now) }
+{
+    let name = p.name.as_str();
+    let params = p.params.as_slice();
+    !is_word(name)
+        && is_first_form(p)
+        && are_free_beside(name, params)
+        && have_distinct_names(params)
 }

@@ -10,6 +10,6 @@ mod tests;
 mod text;
 pub mod tree;
 
-pub use first_form::is_first_unit;
+pub use first_form::{is_first_unit, stands_alone};
 pub use lowering::{LowerError, Printed, lower};
 pub use text::c_text;

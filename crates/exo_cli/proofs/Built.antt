@@ -1,15 +1,14 @@
 -- Along a schedule each version is of the form that is printed, and names and prints stand for versions that are there.
 use Rattle.std.proofs.Common.{◌≡◌, ◌⊎◌, inl, inr, ⊎_elim, ℕ, zero, suc, ◌+◌, ◌<◌, ◌≤◌, List, [], ◌∷◌, ◌++◌, length, map, Option, Some, None, Bool, true, false, not, ◌&&◌, if◌then◌else◌, nat_le, refl, sym, ap, ap₂, ◌∙◌, subst, arith}
 use Rattle.std.specs.Prelude.{slice_get, bytes_eq, option_map}
-use Rattle.std.proofs.lemmas.Bool.{and_from, leb-true, not_from_false}
+use Rattle.std.proofs.lemmas.Bool.{and_parts, and_from, leb-true, not-true, not_from_false}
 use Rattle.std.proofs.lemmas.List.{length-append, length-map}
 use Rattle.std.proofs.lemmas.Option.{slice_get-map}
-use Rattle.exo_tree.specs.Tree.{Procedure, Program}
-use Rattle.exo_reader.specs.FirstText.{tokens_of}
+use Rattle.exo_tree.specs.Tree.{statements, Procedure, Program}
 use Rattle.c_printer.specs.CTree.{Name}
 use Rattle.c_printer.specs.Names.{is_word}
 use Rattle.c_printer.specs.LoweredUnit.{Printing, name_of}
-use Rattle.c_printer.specs.FirstForm.{is_first_form, have_own_names, is_first, is_first_unit}
+use Rattle.c_printer.specs.FirstForm.{is_first_form, have_own_names, is_first, is_first_unit, stands_alone}
 use Rattle.exo_cli.specs.Commute.{Stepped, Made, NoSuchPattern, WrongShape, commute_expr}
 use Rattle.exo_cli.specs.Lines.{Versions, Progress, Went, Refused, Done, held, held_after, adding, changing, changing_held, emitting, performed, operator_of, after, run_lines}
 use Rattle.exo_cli.specs.ScheduleForm.{emits, with_emit, within, lines_in, numbered}
@@ -20,11 +19,23 @@ use Rattle.exo_cli.specs.declared.lines.Act.{Act}
 use Rattle.exo_cli.specs.declared.lines.Act.TheVariants as act
 use Rattle.exo_cli.specs.declared.lines.Line.{Line}
 use Rattle.exo_cli.specs.Compiled.{started, names_from, printing_of, printings, with_versions}
-use Rattle.exo_cli.specs.Built.{IsRead, AreRead, AcceptedIsBuilt}
+use Rattle.exo_cli.specs.FirstUnits.{are_assignments, are_first, is_none, is_built}
+use Rattle.exo_cli.specs.FirstUnits.{is_first as is_first_here}
+use Rattle.exo_cli.specs.Built.{AreRead, AcceptedIsBuilt}
 use Rattle.exo_cli.proofs.Kept.{nothing_there, some_is, went_is, refused_does_not_go, stopped_is_not_done, entry_of, commuted_runs_alike}
-use Rattle.exo_cli.proofs.Literals.{small_text}
-use Rattle.exo_cli.proofs.FirstPrograms.{IsPrintable, HasOne, first_has_one}
 use Rattle.exo_cli.proofs.Changed.{commuted_first}
+
+-- the procedure is of the form, and C keeps its names, alone in a file
+record IsPrintable (q : Procedure) : Type 0 where
+  form : is_first_form q ≡ true
+  no_word : is_word q.name ≡ false
+  names : have_own_names (q.name ∷ []) q.params ≡ true
+
+alone_is_printable : (q : Procedure) → stands_alone q ≡ true → IsPrintable q
+alone_is_printable q h =
+    let parts = and_parts (not (is_word q.name)) (is_first (q.name ∷ []) (Some q)) h in
+    let own = and_parts (is_first_form q) (have_own_names (q.name ∷ []) q.params) parts.1 in
+    record { form = own.0; no_word = not-true (is_word q.name) parts.0; names = own.1 }
 
 -- ---- a step
 
@@ -109,21 +120,19 @@ lines_built (line ∷ lines) v w are e = go (lines_built lines) (performed line.
     go later (Went u) is e = later u w (performed_built line.act v u are is) e
     go later (Refused why) is e = absurd (stopped_is_not_done line.number (operator_of line.act) why w e)
 
-begin_built : (text : Program) → HasOne text → AreBuilt (started text.procedures)
-begin_built text has = record {
-  each = λ k q there. subst IsPrintable (only k q (ap (λ l. slice_get l k) (sym has.only) ∙ there)) has.printable;
-  named = λ name k h. ⊎_elim (λ e. absurd (nothing_there e)) (λ (less : k < 0 + length text.procedures). let below : k < length text.procedures = omega arith in below) (held_first None 0 text.procedures name k h);
-  emitted = λ i k h. none i k h;
+each_printable : (ps : List Procedure) → are_first ps ≡ true → (k : ℕ) (q : Procedure) → slice_get ps k ≡ Some q → IsPrintable q
+each_printable [] h zero q e = absurd (nothing_there e)
+each_printable [] h (suc k) q e = absurd (nothing_there e)
+each_printable (p ∷ ps) h zero q e = subst IsPrintable (some_is e) (alone_is_printable p (and_parts (stands_alone p) (are_assignments p.body && nat_le (length (statements p.body)) 60) (and_parts (is_first_here p) (are_first ps) h).0).0)
+each_printable (p ∷ ps) h (suc k) q e = each_printable ps (and_parts (is_first_here p) (are_first ps) h).1 k q e
+
+begin_built : (text : Program) → is_built text ≡ true → AreBuilt (started text.procedures)
+begin_built text h = record {
+  each = each_printable text.procedures (and_parts (nat_le (length text.memories) 1) (are_first text.procedures) (and_parts (is_none text.fields) (nat_le (length text.memories) 1 && are_first text.procedures) h).1).1;
+  named = λ name k e. ⊎_elim (λ n. absurd (nothing_there n)) (λ (less : k < 0 + length text.procedures). let below : k < length text.procedures = omega arith in below) (held_first None 0 text.procedures name k e);
+  emitted = λ i k e. none i k e;
 }
   where
-    only : (k : ℕ) (q : Procedure) → slice_get (has.one ∷ []) k ≡ Some q → has.one ≡ q
-    only zero q e = some_is e
-    only (suc k) q e = absurd (past k e)
-      where
-        past : (k : ℕ) → slice_get [] k ≡ Some q → ⊥
-        past zero e = nothing_there e
-        past (suc k) e = nothing_there e
-
     none : (i k : ℕ) → slice_get [] i ≡ Some k → k < length text.procedures
     none zero k e = absurd (nothing_there e)
     none (suc i) k e = absurd (nothing_there e)
@@ -201,8 +210,8 @@ there_is (p ∷ ps) zero h = (p, refl)
 there_is (p ∷ ps) (suc k) h = let less : k < length ps = omega arith in there_is ps k less
 
 pub accepted_is_built : AcceptedIsBuilt
-accepted_is_built text lines v unit schedule ran =
-    let are = lines_built lines (started text.procedures) v (begin_built text (first_has_one (tokens_of unit.0) text (small_text unit.0) unit.1)) ran in
+accepted_is_built text lines v built schedule ran =
+    let are = lines_built lines (started text.procedures) v (begin_built text built) ran in
     let count : length v.emitted ≡ 0 + emits lines = lines_emit lines (started text.procedures) v ran in
     let few : emits lines ≤ 1 = few_emits lines schedule in
     let size : length (printings v) ≡ length v.emitted = length-map v.emitted (printing_of v) in
@@ -217,7 +226,7 @@ accepted_is_built text lines v unit schedule ran =
         (at.0, ap (λ (u : Printing). slice_get v.procedures u.proc) (sym (some_is e)) ∙ at.1, are.each k at.0 at.1)
 
 -- the same of what is equal to it
-pub printed_is_built : (text : Program) (lines : List Line) (v : Versions) (made : Program) (what : List Printing) → IsRead text → AreRead lines → run_lines lines (started text.procedures) ≡ Done v
+pub printed_is_built : (text : Program) (lines : List Line) (v : Versions) (made : Program) (what : List Printing) → is_built text ≡ true → AreRead lines → run_lines lines (started text.procedures) ≡ Done v
     → made ≡ with_versions text v → what ≡ printings v → is_first_unit made what ≡ true
-printed_is_built text lines v made what unit schedule ran is lists =
-    ap (λ (p : Program). is_first_unit p what) is ∙ ap (is_first_unit (with_versions text v)) lists ∙ accepted_is_built text lines v unit schedule ran
+printed_is_built text lines v made what built schedule ran is lists =
+    ap (λ (p : Program). is_first_unit p what) is ∙ ap (is_first_unit (with_versions text v)) lists ∙ accepted_is_built text lines v built schedule ran

@@ -1,13 +1,10 @@
 pub mod Lists
-pub mod Literals
 pub mod Taking
 pub mod Endings
 pub mod Commuting
 pub mod Running
 pub mod Reading
 pub mod Kept
-pub mod FreeNames
-pub mod FirstPrograms
 pub mod Changed
 pub mod Built
 pub mod Rules

@@ -1,20 +1,32 @@
 -- The words and the files have one answer.
 use Rattle.std.proofs.Common.{◌≡◌, ⊎_elim, ℕ, List, Bool, true, false, Option, Some, None, length, nat_lt, codes, sym, ap, ◌∙◌, MatchBool, MatchOption}
 use Rattle.exo_cli.specs.Outside.{Folder, content_of}
-use Rattle.exo_cli.specs.Messages.{usage, file_refused}
+use Rattle.exo_cli.specs.Messages.{usage, file_refused, place_refused}
 use Rattle.exo_cli.specs.Words.{Command, Compile, command_of}
 use Rattle.exo_cli.specs.Answer.{Answer, Rejected, Misused}
-use Rattle.exo_cli.specs.Compiled.{IsCompiled, scheduled}
+use Rattle.phrases.specs.Limits.{in_size}
+use Rattle.exo_source.specs.Source.{Item}
+use Rattle.exo_source.specs.Texts.{tokens_of, places_of}
+use Rattle.exo_source.specs.declared.unit.ReadError.{ReadError}
+use Rattle.exo_source.proofs.Eased.{texts_are_one}
+use Rattle.exo_types.specs.UnitRules.{unit_fault}
+use Rattle.exo_cli.specs.Compiled.{IsCompiled, kind_text, typed}
 use Rattle.exo_cli.specs.ScheduleForm.{schedule_of}
 use Rattle.exo_cli.specs.Work.{file_limit, Opens, AnswersTo, AnswersAreUnique}
 
--- a text has at most one program
-compiled_once : (procs unit schedule lines : List ℕ) (a b : Answer) → IsCompiled procs unit schedule lines a → IsCompiled procs unit schedule lines b → a ≡ b
-compiled_once procs unit schedule lines a b one other =
+-- a text is one unit, or has one error
+compiled_once : (procs source schedule lines : List ℕ) (a b : Answer) → IsCompiled procs source schedule lines a → IsCompiled procs source schedule lines b → a ≡ b
+compiled_once procs source schedule lines a b one other =
     ⊎_elim
-    (λ h. ⊎_elim (λ k. h.1 ∙ sym k.1) (λ k. absurd (h.0 k.0 k.1.has)) other)
-    (λ h. ⊎_elim (λ k. absurd (k.0 h.0 h.1.has)) (λ k. h.2 ∙ ap (λ p. scheduled schedule p (schedule_of lines)) (k.1.only h.0 h.1.has) ∙ sym k.2) other)
+    (λ h. ⊎_elim (λ k. h.2 ∙ ap refused (texts_are_one.error (tokens_of source) (places_of source) h.0 k.0 h.1 k.1) ∙ sym k.2) (λ k. absurd (texts_are_one.no_error (tokens_of source) (places_of source) k.0 h.0 k.1 h.1)) other)
+    (λ h. ⊎_elim (λ k. absurd (texts_are_one.no_error (tokens_of source) (places_of source) h.0 k.0 h.1 k.1)) (λ k. h.2 ∙ ap given (k.1.only in_size h.0 (h.1.fits in_size) h.1.spelled) ∙ sym k.2) other)
     one
+  where
+    refused : ReadError → Answer
+    refused e = Rejected (place_refused procs e.line e.column (kind_text e.kind))
+
+    given : List Item → Answer
+    given items = typed procs schedule (schedule_of lines) (places_of source) items (unit_fault items)
 
 -- a file opens in one way
 opens_once : (held : Option (List ℕ)) (name : List ℕ) (next : List ℕ → Answer → Type 0) (a b : Answer) → ((bytes : List ℕ) → next bytes a → next bytes b → a ≡ b)

@@ -1,5 +1,5 @@
 -- What the compiler promises of the C that it prints.
-use Rattle.std.specs.Prelude.{◌≡◌, ℕ, List, [], Option, Some, slice_get}
+use Rattle.std.specs.Prelude.{◌≡◌, ℕ, List, [], Option, Some, None, slice_get}
 use Rattle.exo_tree.specs.Tree.{Procedure, Program}
 use Rattle.exo_meaning.specs.State.{State}
 use Rattle.exo_meaning.specs.Run.{World}
@@ -14,7 +14,11 @@ use Rattle.c_printer.specs.LoweredUnit.{Printing, naming_in, global_names, lower
 use Rattle.c_printer.specs.SameInput.{AreSame}
 use Rattle.c_printer.specs.Simulation.{Layout}
 use Rattle.c_printer.specs.Laws.{AreSeparate, Agrees}
-use Rattle.exo_reader.specs.FirstText.{SpellsFirst, tokens_of}
+use Rattle.phrases.specs.Text.{IsText}
+use Rattle.exo_source.specs.Source.{Item}
+use Rattle.exo_source.specs.Items.{unit}
+use Rattle.exo_source.specs.Texts.{tokens_of}
+use Rattle.exo_types.specs.UnitRules.{unit_fault, unit_of}
 use Rattle.exo_cli.specs.Outside.{Folder, content_of, with_more}
 use Rattle.exo_cli.specs.Words.{Compile, command_of}
 use Rattle.exo_cli.specs.Answer.{Accepted}
@@ -52,17 +56,18 @@ pub record IsPrinted (text program : Program) (what : List Printing) (at : ℕ) 
   pub nothing_differs : w.fields ≡ []
   pub kept : DoesWhat program what at origin version
 
--- What stands behind the C that is printed for a unit and a schedule: the program that the unit spells, the versions that the
--- schedule makes, and for each version that is printed the promise that its C does what a procedure of the text does.
-pub record Promise (unit schedule printed : List ℕ) : Type 0 where
-  pub text : Program
+-- What stands behind the C that is printed for a unit and a schedule: the unit that the text spells, which keeps all rules, the
+-- program that it stands for, the versions that the schedule makes, and for each version that is printed the promise that its C does what a procedure of the text does.
+pub record Promise (bytes schedule printed : List ℕ) : Type 0 where
+  pub items : List Item
   pub lines : List Line
   pub versions : Versions
-  pub spelled : SpellsFirst (tokens_of unit) text
+  pub spelled : IsText unit (tokens_of bytes) items
+  pub keeps : unit_fault items ≡ None
   pub read : schedule_of schedule ≡ Some lines
-  pub ran : run_lines lines (started text.procedures) ≡ Ran versions
-  pub bytes : printed ≡ text_of (lowered (with_versions text versions) (printings versions))
-  pub each : (k : ℕ) (w : Printing) → slice_get (printings versions) k ≡ Some w → IsPrinted text (with_versions text versions) (printings versions) k w
+  pub ran : run_lines lines (started (unit_of items).procedures) ≡ Ran versions
+  pub text : printed ≡ text_of (lowered (with_versions (unit_of items) versions) (printings versions))
+  pub each : (k : ℕ) (w : Printing) → slice_get (printings versions) k ≡ Some w → IsPrinted (unit_of items) (with_versions (unit_of items) versions) (printings versions) k w
 
 -- what is accepted keeps the promise
 abbrev pub AcceptedIsPromised : Type 0

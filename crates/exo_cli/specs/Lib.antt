@@ -10,6 +10,7 @@ pub mod Refusals
 pub mod Lines
 pub mod ScheduleForm
 pub mod Sessions
+pub mod FirstUnits
 pub mod Compiled
 pub mod Built
 pub mod Replies

@@ -26,3 +26,7 @@ file_refused name why = line (name ∷ codes ": " ∷ why ∷ [])
 -- a line of a schedule is refused: its number, its operator and why
 abbrev pub line_refused : List ℕ → ℕ → List ℕ → List ℕ → List ℕ
 line_refused name number operator why = line (name ∷ codes ":" ∷ decimal number ∷ codes ": " ∷ operator ∷ codes " " ∷ why ∷ [])
+
+-- a text is refused at a place: its line, its column and why
+abbrev pub place_refused : List ℕ → ℕ → ℕ → List ℕ → List ℕ
+place_refused name row column why = line (name ∷ codes ":" ∷ decimal row ∷ codes ":" ∷ decimal column ∷ codes ": " ∷ why ∷ [])

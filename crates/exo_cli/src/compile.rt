@@ -6,22 +6,27 @@ ghost use Rattle.c_printer.specs.CText.{text_of};
 ghost use Rattle.c_printer.specs.FirstForm.{is_first_unit};
 ghost use Rattle.c_printer.specs.LoweredUnit.{lowered};
 ghost use Rattle.exo_cli.specs.Answer.{Accepted, Rejected, IsVerdict};
-ghost use Rattle.exo_cli.specs.Built.{IsRead, AreRead};
-ghost use Rattle.exo_cli.specs.Compiled.{IsCompiled, ended, not_built, scheduled, started, why_text};
+ghost use Rattle.exo_cli.specs.Built.{AreRead};
+ghost use Rattle.exo_cli.specs.Compiled.{IsCompiled, ended, kind_text, not_built, printed, rule_text, scheduled, started, typed, why_text};
+ghost use Rattle.exo_cli.specs.FirstUnits.{is_built};
+ghost use Rattle.exo_types.specs.Typed.{IsPlaced, items_of};
+ghost use Rattle.exo_types.specs.UnitRules.{unit_fault};
 ghost use Rattle.exo_cli.specs.Lines.{operator_of, run_lines};
-ghost use Rattle.exo_cli.specs.Messages.{line_refused};
+ghost use Rattle.exo_cli.specs.Messages.{line_refused, place_refused};
 ghost use Rattle.exo_cli.specs.Replies.{plain};
 ghost use Rattle.exo_cli.specs.ScheduleForm.{schedule_of};
 
+use crate::first::is_built;
 use crate::lines::{Act, Line};
 use crate::messages;
 use crate::reply::Reply;
 use crate::schedule::read_schedule;
 use crate::session::{Session, Why};
 use c_printer::{Printed, c_text, lower};
-use exo_reader::first::FirstError;
-use exo_reader::first_text::read_first;
+use exo_source::unit::{ReadError, ReadKind, Source, read_unit};
 use exo_tree::{Lines, Procs, Unit};
+use exo_names::error::{TypeError, TypeKind};
+use exo_types::unit::check_types;
 use std::alloc::{AllocError, Global};
 
 /// Compiles the unit by the schedule. The names are those of their files, for the messages.
@@ -37,11 +42,105 @@ pub(crate) fn compile(
     ensures answer { IfOk result (λ reply. IsCompiled procs.now unit.now schedule.now lines.now (plain reply)) }
     ensures verdict { IfOk result (λ reply. IsVerdict (plain reply)) }
 {
-    match read_first(alloc, unit) {
-        Ok(unit) => schedule_unit(alloc, &unit, schedule, lines),
-        Err(FirstError::NotBuilt) => not_built(alloc, procs),
-        Err(FirstError::Memory) => Err(AllocError),
+    match read_unit(alloc, unit) {
+        Ok(source) => type_unit(alloc, procs, &source, schedule, lines),
+        Err(e) => refuse_text(alloc, procs, e),
     }
+}
+
+/// A cause as messages have it.
+fn kind_text(kind: ReadKind) -> &'static str
+    ensures { result.now ≡ kind_text kind }
+{
+    match kind {
+        ReadKind::Memory => "Memory",
+        ReadKind::BadByte => "BadByte",
+        ReadKind::BadIndent => "BadIndent",
+        ReadKind::Syntax => "Syntax",
+        ReadKind::TooDeep => "TooDeep",
+        ReadKind::TooLong => "TooLong",
+        ReadKind::LiteralTooLarge => "LiteralTooLarge",
+    }
+}
+
+/// The text of this name is no unit.
+fn refuse_text(alloc: Global, name: &str, e: ReadError) -> Result<Reply, AllocError>
+    ensures answer { IfOk result (λ reply. plain reply ≡ Rejected (place_refused name.now e.line e.column (kind_text e.kind))) }
+    ensures verdict { IfOk result (λ reply. IsVerdict (plain reply)) }
+    ensures cause { IfOk result (λ _. e.kind ≢ ReadKind.Memory) }
+{
+    if e.kind == ReadKind::Memory {
+        return Err(AllocError);
+    }
+    let message = messages::place_refused(alloc, name, e.line, e.column, kind_text(e.kind))?;
+    Ok(Reply::Rejected(message))
+}
+
+/// Tests the rules of the unit, and compiles what it stands for.
+fn type_unit(
+    alloc: Global,
+    procs: &str,
+    source: &Source,
+    schedule: &str,
+    lines: &[u8],
+) -> Result<Reply, AllocError>
+    requires source { IsPlaced source.now }
+    requires lines { length lines.now ≤ 1048576 }
+    ensures answer { IfOk result (λ reply. plain reply ≡ typed procs.now schedule.now (schedule_of lines.now) source.now.places.items (items_of source.now) (unit_fault (items_of source.now))) }
+    ensures verdict { IfOk result (λ reply. IsVerdict (plain reply)) }
+{
+    match check_types(alloc, source) {
+        Ok(unit) => print_unit(alloc, procs, &unit, schedule, lines),
+        Err(e) => refuse_rule(alloc, procs, e),
+    }
+}
+
+/// A rule as messages have it.
+fn rule_text(rule: TypeKind) -> &'static str
+    ensures { result.now ≡ rule_text rule }
+{
+    match rule {
+        TypeKind::Memory => "Memory",
+        TypeKind::UnknownName => "UnknownName",
+        TypeKind::Redefined => "Redefined",
+        TypeKind::KindMismatch => "KindMismatch",
+        TypeKind::RankMismatch => "RankMismatch",
+        TypeKind::NotAffine => "NotAffine",
+        TypeKind::ConfigPlace => "ConfigPlace",
+        TypeKind::StridePlace => "StridePlace",
+        TypeKind::SharedArgument => "SharedArgument",
+    }
+}
+
+/// The text of this name breaks a rule.
+fn refuse_rule(alloc: Global, name: &str, e: TypeError) -> Result<Reply, AllocError>
+    ensures answer { IfOk result (λ reply. plain reply ≡ Rejected (place_refused name.now e.line e.column (rule_text e.kind))) }
+    ensures verdict { IfOk result (λ reply. IsVerdict (plain reply)) }
+    ensures cause { IfOk result (λ _. e.kind ≢ TypeKind.Memory) }
+{
+    if e.kind == TypeKind::Memory {
+        return Err(AllocError);
+    }
+    let message = messages::place_refused(alloc, name, e.line, e.column, rule_text(e.kind))?;
+    Ok(Reply::Rejected(message))
+}
+
+/// Compiles a unit that keeps the rules.
+fn print_unit(
+    alloc: Global,
+    procs: &str,
+    unit: &Unit,
+    schedule: &str,
+    lines: &[u8],
+) -> Result<Reply, AllocError>
+    requires lines { length lines.now ≤ 1048576 }
+    ensures answer { IfOk result (λ reply. plain reply ≡ printed procs.now schedule.now (schedule_of lines.now) (program unit.now)) }
+    ensures verdict { IfOk result (λ reply. IsVerdict (plain reply)) }
+{
+    if !is_built(unit) {
+        return not_built(alloc, procs);
+    }
+    schedule_unit(alloc, unit, schedule, lines)
 }
 
 /// The file of this name is not of a form that is built.
@@ -60,7 +159,7 @@ fn schedule_unit(
     schedule: &str,
     lines: &[u8],
 ) -> Result<Reply, AllocError>
-    requires unit { IsRead (program unit.now) }
+    requires unit { is_built (program unit.now) ≡ true }
     requires lines { length lines.now ≤ 1048576 }
     ensures answer { IfOk result (λ reply. plain reply ≡ scheduled schedule.now (program unit.now) (schedule_of lines.now)) }
     ensures verdict { IfOk result (λ reply. IsVerdict (plain reply)) }
@@ -78,7 +177,7 @@ fn run_lines(
     schedule: &str,
     lines: &[Line],
 ) -> Result<Reply, AllocError>
-    requires unit { IsRead (program unit.now) }
+    requires unit { is_built (program unit.now) ≡ true }
     requires lines { AreRead lines.now }
     ensures answer { IfOk result (λ reply. plain reply ≡ ended schedule.now (program unit.now) (run_lines lines.now (started unit.now.procs))) }
     ensures verdict { IfOk result (λ reply. IsVerdict (plain reply)) }

@@ -6,6 +6,7 @@ mod commute;
 mod compile;
 mod count;
 mod disk;
+mod first;
 pub mod laws;
 mod lines;
 mod memory;

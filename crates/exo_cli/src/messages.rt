@@ -1,6 +1,6 @@
 // The messages of the program, each a line.
 ghost use Rattle.std.specs.Prelude.{◌≡◌, string_bytes, IfOk};
-ghost use Rattle.exo_cli.specs.Messages.{usage, cannot_read, file_refused, line_refused};
+ghost use Rattle.exo_cli.specs.Messages.{usage, cannot_read, file_refused, place_refused, line_refused};
 
 use std::alloc::{AllocError, Global};
 
@@ -26,6 +26,19 @@ pub(crate) fn file_refused(alloc: Global, name: &str, why: &str) -> Result<Strin
     ensures { IfOk result (λ text. string_bytes text ≡ file_refused name.now why.now) }
 {
     format!(in alloc; "exoc: {name}: {why}\n")
+}
+
+/// A text is refused at a place: its line, its column and why.
+pub(crate) fn place_refused(
+    alloc: Global,
+    name: &str,
+    line: u32,
+    column: u32,
+    why: &str,
+) -> Result<String, AllocError>
+    ensures { IfOk result (λ text. string_bytes text ≡ place_refused name.now line column why.now) }
+{
+    format!(in alloc; "exoc: {name}:{line}:{column}: {why}\n")
 }
 
 /// A line of a schedule is refused: its number, its operator and why.

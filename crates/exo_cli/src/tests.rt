@@ -73,10 +73,40 @@ fn the_first_example_is_compiled(rt: HostRuntime) -> Result<(), Fail> {
 }
 
 #[test]
+fn a_unit_may_be_empty_or_have_several_procedures(rt: HostRuntime) -> Result<(), Fail> {
+    let alloc = rt.alloc();
+    let empty = format!(in alloc;
+        "/* exoc\n */\n#include <stdint.h>\n#include <stdlib.h>\n\n{HELPERS}"
+    )?;
+    let ran = run(&rt, &COMPILE, "", "", &[], 4096)?;
+    assert_eq!(rt; ran.status, Status::Ok);
+    assert_eq!(rt; ran.out.bytes(), empty.as_bytes());
+    let two = format!(in alloc; "@proc\ndef nothing(z: i32[1]):\n    pass\n{UNIT}")?;
+    let ran = run(&rt, &COMPILE, two.as_str(), "emit(nothing)\n", &[], 4096)?;
+    let expected = format!(in alloc;
+        "/* exoc\n * nothing: from nothing; differs: nothing\n */\n#include <stdint.h>\n#include <stdlib.h>\n\n{HELPERS}\nvoid nothing(int32_t *z) {{\n    ;\n}}\n"
+    )?;
+    assert_eq!(rt; ran.status, Status::Ok);
+    assert_eq!(rt; ran.out.bytes(), expected.as_bytes());
+    Ok(())
+}
+
+#[test]
 fn what_is_refused_is_named(rt: HostRuntime) -> Result<(), Fail> {
     let broken = "@proc\ndef add3(x: i32[4], y: i32[4]):\n    x[4] = 1\n";
     let cases = [
         (broken, "", "exoc: u.py: NotBuilt\n"),
+        (
+            "@proc\ndef f(n: size, x: i32[n]):\n    for i in seq(0, n",
+            "",
+            "exoc: u.py:3:22: Syntax\n",
+        ),
+        (
+            "@proc\ndef f(a: [i32][4], b: [i32][4]):\n    for l in seq(0, 4):\n        a[l] = b[l]\n@proc\ndef g(x: i32[8]):\n    f(x[0:4], x[4:8])\n",
+            "",
+            "exoc: u.py:7:15: SharedArgument\n",
+        ),
+        ("", "emit(p)\n", "exoc: s.py:1: emit UnknownProc\n"),
         (
             UNIT,
             "p = commute_expr(add3, 'y[_] = _', '_ + _')\n",

@@ -10,5 +10,6 @@ mod Statements
 mod Neighbours
 mod Items
 mod Units
+pub mod Eased
 mod Widths
 mod Strings

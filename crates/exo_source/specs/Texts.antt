@@ -3,6 +3,7 @@ use Rattle.std.specs.Prelude.{◌≡◌, ℕ, ◌+◌, ◌-◌, ◌≤◌, List,
 use Rattle.phrases.specs.Limits.{Cause, syntax, too_deep, too_long, too_large}
 use Rattle.phrases.specs.Phrase.{Phrase}
 use Rattle.phrases.specs.Text.{IsText, FaultAt}
+use Rattle.exo_source.specs.Source.{Item}
 use Rattle.phrases.specs.declared.Refusal.{Refusal}
 use Rattle.phrases.specs.declared.Refusal.TheVariants as r
 use Rattle.exo_lexer.specs.Layout.{lexed, token_of, place_of, end_place}
@@ -118,3 +119,8 @@ Says tokens places (r.Syntax last) e = SaysAt syntax tokens places last e
 Says tokens places (r.TooDeep last) e = SaysAt too_deep tokens places last e
 Says tokens places (r.TooLong last) e = SaysAt too_long tokens places last e
 Says tokens places (r.TooLarge last) e = SaysAt too_large tokens places last e
+
+-- The tokens of a text are one unit, or there is one error.
+pub record TextsAreOne : Type 0 where
+  pub error : (tokens : List Token) (places : List Place) (a b : ReadError) → IsFault unit tokens places a → IsFault unit tokens places b → a ≡ b
+  pub no_error : (tokens : List Token) (places : List Place) (items : List Item) (e : ReadError) → IsText unit tokens items → IsFault unit tokens places e → ⊥

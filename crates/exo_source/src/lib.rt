@@ -3,6 +3,7 @@
 
 pub mod argument;
 pub mod item;
+pub mod laws;
 pub mod lines;
 pub mod parameter;
 pub mod part;

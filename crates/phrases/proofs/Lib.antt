@@ -4,3 +4,4 @@ pub mod Commas
 pub mod Exits
 pub mod Texts
 pub mod Joints
+pub mod Eased

@@ -1,0 +1,13 @@
+//! The laws of places, each the contract of a function that does nothing.
+ghost use Rattle.affine_places.specs.Laws.{FormulaAtPlace, NormalAtPlace};
+
+/// The normal form at a place has the value of its expression, wherever fields have the numbers that the facts tell and
+/// buffers and views are as the procedure's binders make them.
+pub fn normal_is_exact_at_places()
+    ensures { NormalAtPlace }
+{}
+
+/// There the formula of a condition is met exactly where the condition holds.
+pub fn formulas_are_exact_at_places()
+    ensures { FormulaAtPlace }
+{}

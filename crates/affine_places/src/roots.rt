@@ -1,0 +1,160 @@
+//! The roots of a procedure's names.
+ghost use Rattle.std.specs.Prelude.{◌≡◌, ◌<◌, IsTrue, IfOk, OnOk, length, option_map};
+ghost use Rattle.std.specs.Option.{option_copied};
+ghost use Rattle.exo_tree.specs.Tree.{block};
+ghost use Rattle.exo_tree.specs.PlainParam.{parameter_kind};
+ghost use Rattle.exo_tree.specs.PlainStatement.{statement};
+ghost use Rattle.exo_tree.specs.PlainProcedure.{procedure};
+ghost use Rattle.exo_tree.specs.PlainUnit.{program};
+ghost use Rattle.affine_places.specs.Roots as plain;
+ghost use Rattle.affine_places.specs.Roots.{Dense, no_roots, own_root, with_root, with_kind, with_params, with_view, with_block, with_statement, roots_of, are_extents, kind_has_extents, params_have_extents, block_has_extents, statement_has_extents, has_extents, unit_roots, unit_has_extents};
+ghost use Rattle.affine_places.specs.Seen.{plain_root, roots_in};
+
+use crate::layout::{Extents, Layout};
+use crate::rooted::Rooted;
+use exo_tree::{Block, Coords, Id, Indices, ParamKind, Params, Proc, ProcId, Stmt, Unit};
+use indexmap::IndexMap;
+use std::alloc::{AllocError, Global};
+
+/// For each name of a procedure that stands for a buffer: its root, a parameter or an allocation, and the dimension
+/// of the root over which each coordinate of the name runs.
+#[derive(Drop)]
+pub struct Roots<'a> {
+    pub(crate) table: IndexMap<u32, Rooted<'a>>,
+}
+
+impl<'a> Roots<'a> {
+    /// No name stands for a buffer.
+    pub fn new(alloc: Global) -> Roots<'a>
+        ensures { roots_in result ≡ no_roots }
+    {
+        Roots {
+            table: IndexMap::new(alloc),
+        }
+    }
+
+    /// What a name stands for; None where that is no buffer.
+    pub(crate) fn get(&self, x: Id) -> Option<&Rooted<'a>>
+        ensures { option_map plain_root (option_copied result) ≡ roots_in self.now x.0 }
+    {
+        self.table.get(&x.0)
+    }
+
+    fn insert(&mut self, x: Id, r: Rooted<'a>) -> Result<(), AllocError>
+        ensures { OnOk result (roots_in self.new ≡ with_root x.0 (plain_root r.entry) (roots_in self.old)) }
+    {
+        self.table.insert(x.0, r)?;
+        Ok(())
+    }
+
+    /// A dense buffer.
+    fn insert_dense(&mut self, alloc: Global, x: Id, list: &'a Indices) -> Result<(), AllocError>
+        requires { IsTrue (are_extents list.now) }
+        ensures { OnOk result (roots_in self.new ≡ with_root x.0 (own_root x.0 (Dense list.now) (length list.now)) (roots_in self.old)) }
+    {
+        let rank = list.len() as u32;
+        let layout = Layout::Dense(Extents { list });
+        let rooted = Rooted::own(alloc, x, layout, rank)?;
+        self.insert(x, rooted)
+    }
+
+    /// A buffer with strides that are given.
+    fn insert_strided(&mut self, alloc: Global, x: Id, list: &'a Indices) -> Result<(), AllocError>
+        requires { IsTrue (are_extents list.now) }
+        ensures { OnOk result (roots_in self.new ≡ with_root x.0 (own_root x.0 plain.Strided (length list.now)) (roots_in self.old)) }
+    {
+        let rank = list.len() as u32;
+        let rooted = Rooted::own(alloc, x, Layout::Strided, rank)?;
+        self.insert(x, rooted)
+    }
+
+    /// A view of a name; nothing where the name stands for no buffer.
+    fn insert_view(
+        &mut self,
+        alloc: Global,
+        w: Id,
+        x: Id,
+        coords: &Coords,
+    ) -> Result<(), AllocError>
+        ensures { OnOk result (roots_in self.new ≡ with_view w.0 coords.now (roots_in self.old x.0) (roots_in self.old)) }
+    {
+        match self.get(x) {
+            None => Ok(()),
+            Some(seen) => {
+                let rooted = seen.through(alloc, coords)?;
+                self.insert(w, rooted)
+            }
+        }
+    }
+
+    fn insert_kind(&mut self, alloc: Global, x: Id, kind: &'a ParamKind) -> Result<(), AllocError>
+        requires { IsTrue (kind_has_extents (parameter_kind kind.now)) }
+        ensures { OnOk result (roots_in self.new ≡ with_kind x.0 (parameter_kind kind.now) (roots_in self.old)) }
+    {
+        match kind {
+            ParamKind::Ctrl(_) => Ok(()),
+            ParamKind::Tensor(_, list, _) => self.insert_dense(alloc, x, list),
+            ParamKind::Window(_, list, _) => self.insert_strided(alloc, x, list),
+        }
+    }
+
+    fn insert_params(&mut self, alloc: Global, params: &'a Params) -> Result<(), AllocError>
+        requires { IsTrue (params_have_extents params.now) }
+        ensures { OnOk result (roots_in self.new ≡ with_params params.now (roots_in self.old)) }
+    {
+        for p in params.as_slice() {
+            self.insert_kind(alloc, p.binder.id, &p.kind)?;
+        }
+        Ok(())
+    }
+
+    #[cycle(insert)]
+    fn insert_block(&mut self, alloc: Global, b: &'a Block) -> Result<(), AllocError>
+        requires { IsTrue (block_has_extents (block b.now)) }
+        ensures { OnOk result (roots_in self.new ≡ with_block (block b.now) (roots_in self.old)) }
+    {
+        for k in 0..b.len() {
+            self.insert_statement(alloc, b.statement(k))?;
+        }
+        Ok(())
+    }
+
+    #[cycle(insert)]
+    fn insert_statement(&mut self, alloc: Global, s: &'a Stmt) -> Result<(), AllocError>
+        requires { IsTrue (statement_has_extents (statement s.now)) }
+        ensures { OnOk result (roots_in self.new ≡ with_statement (statement s.now) (roots_in self.old)) }
+    {
+        match s {
+            Stmt::If(_, a, b) => {
+                self.insert_block(alloc, a)?;
+                self.insert_block(alloc, b)
+            }
+            Stmt::For(_, _, _, b) => self.insert_block(alloc, b),
+            Stmt::Alloc(x, _, list, _) => self.insert_dense(alloc, x.id, list),
+            Stmt::View(w, x, coords) => self.insert_view(alloc, w.id, *x, coords),
+            _ => Ok(()),
+        }
+    }
+
+    /// The roots of a procedure's names. Each binder is looked at once.
+    pub fn of(alloc: Global, p: &'a Proc) -> Result<Roots<'a>, AllocError>
+        requires { IsTrue (has_extents (procedure p.now)) }
+        ensures { IfOk result (λ r. roots_in r ≡ roots_of (procedure p.now)) }
+    {
+        let mut roots = Roots::new(alloc);
+        roots.insert_params(alloc, &p.params)?;
+        roots.insert_block(alloc, &p.body)?;
+        Ok(roots)
+    }
+
+    /// The roots of the procedure `p` of the unit; none where the unit has no such procedure.
+    pub fn of_unit(alloc: Global, unit: &'a Unit, p: ProcId) -> Result<Roots<'a>, AllocError>
+        requires { IsTrue (unit_has_extents (program unit.now) p.0) }
+        ensures { IfOk result (λ r. roots_in r ≡ unit_roots (program unit.now) p.0) }
+    {
+        match unit.procs.get(p.0 as usize) {
+            Some(found) => Roots::of(alloc, found),
+            None => Ok(Roots::new(alloc)),
+        }
+    }
+}
