@@ -1,0 +1,2 @@
+pub mod FirstUnits
+pub mod Outcomes
