@@ -1,14 +1,17 @@
 -- Lists of trees of which each has to be there.
-use Rattle.std.proofs.Common.{◌≡◌, ℕ, ◌<◌, length, List, [], ◌∷◌, ◌++◌, Option, Some, None, Bool, true, false, if◌then◌else◌, nat_lt, sym, ap, ◌∙◌, subst, map, option_map, append_assoc, drop, get_or, ◌+◌, IsUtf8, All, refl}
+use Rattle.std.proofs.Common.{◌≡◌, ℕ, ◌==◌, ◌<◌, length, List, [], ◌∷◌, ◌++◌, Option, Some, None, Bool, true, false, if◌then◌else◌, nat_lt, sym, ap, ◌∙◌, subst, map, option_map, append_assoc, drop, get_or, ◌+◌, IsUtf8, All, refl}
 use Rattle.std.proofs.lemmas.Bool.{ltb-true}
 use Rattle.std.proofs.lemmas.List.{drop_more}
 use Rattle.std.proofs.lemmas.List.Elements.{All-nil, All-cons}
 use Rattle.std.proofs.lemmas.Str.{IsUtf8-from_ascii}
 use Rattle.std.proofs.lemmas.Str.Ascii.{IsAscii-from_all}
 use Rattle.exo_tree.specs.Tree.{Param}
+use Rattle.exo_reader.specs.Expression.{trees}
+use Rattle.exo_reader.specs.Views.{tree_of}
+use Rattle.exo_reader.specs.declared.source.SourceExpr.{SourceExpr}
 use Rattle.exo_source.specs.Views.{plain_parameter}
 use Rattle.exo_source.specs.declared.source.SourceParam.{SourceParam}
-use Rattle.first_units.specs.FirstUnits.{both, is_plain, first_param, first_params}
+use Rattle.first_units.specs.FirstUnits.{both, only_literal, is_plain, first_param, first_params}
 use Rattle.first_units.specs.Outcomes.{IsPushed}
 
 if_both : (c d : Bool) → (if c then d else false) ≡ true → (c ≡ true) × (d ≡ true)
@@ -34,3 +37,11 @@ pub params_more : (params : List SourceParam) (made new : List Param) (id i : �
 params_more params made new id i item d is less so_far pushed =
     so_far ∙ ap (λ l. option_map (λ rest. made ++ rest) (first_params id (map plain_parameter l))) (drop_more params i d less)
     ∙ pushed_by (first_param id (plain_parameter (get_or params i d))) made new (first_params (id + 1) (map plain_parameter (drop (i + 1) params))) (subst (λ (p : SourceParam). IsPushed (first_param id (plain_parameter p)) made new) is pushed)
+
+-- two are no literal alone
+more_literals : (a : SourceExpr) (more : List SourceExpr) → false ≡ (length more == 0) → None ≡ only_literal (trees (map tree_of (a ∷ more)))
+more_literals a [] some = absurd (cc (some))
+more_literals a (b ∷ more) some = refl
+
+pub two_literals : (list : List SourceExpr) (a : SourceExpr) (more : List SourceExpr) → list ≡ a ∷ more → false ≡ (length more == 0) → None ≡ only_literal (trees (map tree_of list))
+two_literals list a more is some = more_literals a more some ∙ ap (λ l. only_literal (trees (map tree_of l))) (sym is)

@@ -66,10 +66,11 @@ fn literal_of(e: &SourceExpr) -> Option<u32>
 fn only_literal(list: &[SourceExpr]) -> Option<u32>
     ensures { result ≡ only_literal (trees (map tree_of list.now)) }
 {
-    match list {
-        [e] => literal_of(e),
-        _ => None,
+    let (index, more) = list.split_first()?;
+    if !more.is_empty() {
+        return None;
     }
+    literal_of(index)
 }
 
 /// The id of the first parameter of this name.
