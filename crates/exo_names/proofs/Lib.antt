@@ -1,3 +1,0 @@
-pub mod Charges
-pub mod Scopes
-pub mod Tables

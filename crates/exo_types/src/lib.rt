@@ -1,7 +1,0 @@
-//! Which units are well formed: names to ids, kinds, ranks and places; or the first rule that a text breaks.
-#![tactic(auto)]
-
-pub mod attribute;
-pub mod refusal;
-pub mod types;
-pub mod unit;
