@@ -1,8 +1,8 @@
 -- A well-formed procedure keeps the rules of affine ones.
-use Rattle.std.proofs.Common.{◌≡◌, ℕ, ℤ, pos, int_lt, nat_lt, Bool, true, false, not, ◌&&◌, ◌||◌, List, [], ◌∷◌, length, Option, Some, None, refl, sym, ap, ap₂, ◌∙◌, true≢false}
+use Rattle.std.proofs.Common.{◌≡◌, ℕ, pos, int_lt, nat_lt, Bool, true, not, ◌&&◌, ◌||◌, List, [], ◌∷◌, length, Option, Some, None, refl, sym, ap₂, ◌∙◌, true≢false}
 use Rattle.std.specs.List.{list_all}
 use Rattle.std.specs.Int.{is_positive}
-use Rattle.exo_tree.specs.Tree.{Kind, Index, Control, Lit, Var, Field, StrideOf, Neg, Add, Sub, Mul, Div, Mod, Condition, True, False, Flag, FieldFlag, Lt, Le, Gt, Ge, Eq, And, Or, Argument, ControlArg, ConditionArg, Whole, Window, Statement, Assign, Reduce, Config, Pass, If, For, Alloc, View, Call, Block, end, next, Param, ParamKind, ControlParam, TensorParam, WindowParam, Procedure}
+use Rattle.exo_tree.specs.Tree.{Kind, Index, Control, Lit, Var, Field, StrideOf, Neg, Add, Sub, Mul, Div, Mod, Condition, True, False, Flag, FieldFlag, Lt, Le, Gt, Ge, Eq, And, Or, Argument, ControlArg, ConditionArg, Whole, Window, Statement, Assign, Reduce, Config, Pass, If, For, Alloc, View, Call, Block, end, next, Param, ParamKind, ControlParam, TensorParam, WindowParam}
 use Rattle.exo_meaning.specs.Calls.{Callee}
 use Rattle.exo_meaning.specs.Run.{roots_after}
 use Rattle.exo_meaning.specs.Units as units
@@ -13,7 +13,7 @@ use Rattle.affine_forms.specs.Strides.{all_affine}
 use Rattle.affine_forms.proofs.Values.{and_parts}
 use Rattle.affine_places.specs.Facts.{fact_keeps_rules, Known}
 use Rattle.affine_places.specs.Roots.{variables, are_extents, kind_has_extents, params_have_extents, block_has_extents, statement_has_extents, has_extents}
-use Rattle.exo_places.specs.Rules.{block_keeps_rules, statement_keeps_rules, procedure_keeps_rules}
+use Rattle.exo_places.specs.Rules.{block_keeps_rules, statement_keeps_rules}
 use Rattle.exo_places.specs.Laws.{WellFormedIsAffine}
 
 both_true : (a b : Bool) → a ≡ true → b ≡ true → a && b ≡ true
