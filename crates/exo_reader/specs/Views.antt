@@ -1,5 +1,5 @@
 -- Source trees without where they lie in memory.
-use Rattle.std.specs.Prelude.{◌≡◌, map}
+use Rattle.std.specs.Prelude.{◌≡◌, List, [], ◌∷◌, map, Bool}
 use Rattle.exo_reader.specs.Expression.{Tree, number, truth, variable, access, field, stride, relu, select, negative, parens, binary, trees, depth, deepest, nodes}
 use Rattle.exo_lexer.specs.declared.token.Literal.TheVariants.{Value}
 use Rattle.exo_reader.specs.declared.source.SourceExpr.{SourceExpr}
