@@ -93,7 +93,8 @@ fn are_named_apart(procs: &Procs) -> bool
 pub(crate) fn is_built(unit: &Unit) -> bool
     ensures { result ≡ is_built (program unit.now) }
 {
-    unit.fields.len() == 0 && unit.memories.len() <= 1
+    unit.fields.len() == 0
+        && unit.memories.len() <= 1
         && are_named_apart(&unit.procs)
         && are_first(&unit.procs)
 }
