@@ -1,6 +1,7 @@
 -- Lists of anything.
-use Rattle.std.proofs.Common.{◌≡◌, ◌≤◌, ℕ, zero, suc, List, [], ◌∷◌, drop, take, length, refl, arith, ◌+◌, ◌-◌, ap, sym, ◌∙◌, length-drop, zero-add}
+use Rattle.std.proofs.Common.{◌≡◌, ◌≤◌, ◌&&◌, ℕ, zero, suc, Bool, true, false, List, [], ◌∷◌, drop, take, length, refl, arith, ◌+◌, ◌-◌, ap, sym, ◌∙◌, length-drop, zero-add}
 use Rattle.std.proofs.Math.Seq.{take-length, drop-nil}
+use Rattle.exo_tree.specs.Tree.{Statement, block, statements}
 
 -- nothing is left past the end
 pub drop-all : {A : Type 0} (k : ℕ) (xs : List A) → length xs ≤ k → drop k xs ≡ []
@@ -21,3 +22,13 @@ drop-both (suc m) n (x ∷ xs) = drop-both m n xs ∙ ap (λ (k : ℕ). drop k (
 -- what is left, as a range
 pub rest-range : {A : Type 0} (xs : List A) (n : ℕ) → take (length xs - n) (drop n xs) ≡ drop n xs
 rest-range xs n = ap (λ (k : ℕ). take k (drop n xs)) (sym (length-drop n xs)) ∙ take-length (drop n xs)
+
+-- a block, as the list of its statements
+pub statements_block : (list : List Statement) → statements (block list) ≡ list
+statements_block [] = refl
+statements_block (s ∷ list) = ap (λ l. s ∷ l) (statements_block list)
+
+-- what follows a test that holds
+pub and_true : (a b : Bool) → true ≡ a → b ≡ (a && b)
+and_true true b h = refl
+and_true false b h = absurd (let e : true ≡ false = h in cc (e))

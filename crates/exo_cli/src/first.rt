@@ -49,7 +49,13 @@ fn are_assignments(b: &Block) -> bool
 fn is_first(p: &Proc) -> bool
     ensures { result ≡ is_first (procedure p.now) }
 {
-    stands_alone(p) && are_assignments(&p.body) && p.body.len() <= 60
+    if !stands_alone(p) {
+        return false;
+    }
+    if !are_assignments(&p.body) {
+        return false;
+    }
+    p.body.len() <= 60
 }
 
 /// Whether all procedures are.
