@@ -217,82 +217,77 @@ fn procedure(
     })
 }
 
-/// The loop over 13 cells, divided by 8 with a guard.
-fn divided(alloc: Global) -> Result<Proc, AllocError> {
+/// A procedure without assertions.
+fn plain(alloc: Global, name: &str, params: Params, body: Block) -> Result<Proc, AllocError> {
+    procedure(alloc, name, params, Conds::new(alloc), body)
+}
+
+/// The guarded store of the divided loop.
+fn guarded(alloc: Global) -> Result<Block, AllocError> {
+    let guard = Cond::Lt(control(alloc, "8o*i+")?, Ctrl::Lit(13));
+    let body = store(alloc, b'x', &["8o*i+"], DataExpr::Lit(0))?;
+    Block::single(alloc, Stmt::If(guard, body, Block::new(alloc)))
+}
+
+/// How many turns the outer loop has.
+fn turns(alloc: Global) -> Result<Ctrl, AllocError> {
+    let sum = operation(alloc, b'+', Ctrl::Lit(13), Ctrl::Lit(7))?;
+    operation(alloc, b'/', sum, Ctrl::Lit(8))
+}
+
+/// A parameter of 13 cells.
+fn thirteen(alloc: Global) -> Result<Params, AllocError> {
     let mut params = Params::new(alloc);
     let mut cells = Indices::new(alloc);
     cells.push(Ctrl::Lit(13))?;
-    params.push(Param {
-        binder: binder(alloc, b'x', "x")?,
-        kind: ParamKind::Tensor(Cell::I32, cells, MemId(0)),
-    })?;
-    let guard = Cond::Lt(control(alloc, "8o*i+")?, Ctrl::Lit(13));
-    let body = store(alloc, b'x', &["8o*i+"], DataExpr::Lit(0))?;
-    let guarded = Block::single(alloc, Stmt::If(guard, body, Block::new(alloc)))?;
-    let inner = repeated(alloc, b'i', "ii", Ctrl::Lit(8), guarded)?;
-    let sum = operation(alloc, b'+', Ctrl::Lit(13), Ctrl::Lit(7))?;
-    let turns = operation(alloc, b'/', sum, Ctrl::Lit(8))?;
-    let body = repeated(alloc, b'o', "io", turns, inner)?;
-    procedure(alloc, "f", params, Conds::new(alloc), body)
+    let binder = binder(alloc, b'x', "x")?;
+    let kind = ParamKind::Tensor(Cell::I32, cells, MemId(0));
+    params.push(Param { binder, kind })?;
+    Ok(params)
+}
+
+/// The loop over 13 cells, divided by 8 with a guard.
+fn divided(alloc: Global) -> Result<Proc, AllocError> {
+    let inner = repeated(alloc, b'i', "ii", Ctrl::Lit(8), guarded(alloc)?)?;
+    let body = repeated(alloc, b'o', "io", turns(alloc)?, inner)?;
+    plain(alloc, "f", thirteen(alloc)?, body)
+}
+
+/// A nest over 8 cells that copies one buffer to the other.
+fn copied(alloc: Global, letter: u8, to: u8, from: u8) -> Result<Block, AllocError> {
+    let name = if letter == b'j' { "j" } else { "k" };
+    let copy = store(alloc, to, &[name], cell(alloc, from, &[name])?)?;
+    repeated(alloc, letter, "i0", Ctrl::Lit(8), copy)
+}
+
+/// The even cells.
+fn even(alloc: Global) -> Result<Block, AllocError> {
+    let work = store(alloc, b't', &["2i*"], DataExpr::Lit(7))?;
+    repeated(alloc, b'i', "i", Ctrl::Lit(4), work)
 }
 
 /// The even cells, staged.
 fn staged(alloc: Global) -> Result<Proc, AllocError> {
     let mut params = Params::new(alloc);
     tensor(alloc, &mut params, b'x', "x", &["8"])?;
-    let load = store(alloc, b't', &["j"], cell(alloc, b'x', &["j"])?)?;
-    let work = store(alloc, b't', &["2i*"], DataExpr::Lit(7))?;
-    let save = store(alloc, b'x', &["k"], cell(alloc, b't', &["k"])?)?;
     let mut body = fresh(alloc, b't', "t", &["8"], 0)?;
-    body.append(repeated(alloc, b'j', "i0", Ctrl::Lit(8), load)?)?;
-    body.append(repeated(alloc, b'i', "i", Ctrl::Lit(4), work)?)?;
-    body.append(repeated(alloc, b'k', "i0", Ctrl::Lit(8), save)?)?;
-    procedure(alloc, "half", params, Conds::new(alloc), body)
+    body.append(copied(alloc, b'j', b't', b'x')?)?;
+    body.append(even(alloc)?)?;
+    body.append(copied(alloc, b'k', b'x', b't')?)?;
+    plain(alloc, "half", params, body)
 }
 
-/// `x[..] += y[..] * z[..]`
-fn product(
-    alloc: Global,
-    at: Indices,
-    left: DataExpr,
-    right: DataExpr,
-) -> Result<Block, AllocError> {
-    let left = Box::new(alloc, left)?;
-    let e = DataExpr::Mul(left, Box::new(alloc, right)?);
-    Block::single(alloc, Stmt::Reduce(id(b'c'), at, e))
-}
-
-/// The part of the product of matrices over one vector of `k`: `M N K` are `m n o`, `A B C` are `x y z`.
-fn vector_turn(alloc: Global) -> Result<Block, AllocError> {
-    let load = store(alloc, b'b', &["p"], cell(alloc, b'y', &["k", "8j*p+"])?)?;
-    let left = cell(alloc, b'x', &["i", "k"])?;
-    let right = cell(alloc, b'b', &["q"])?;
-    let work = product(alloc, indices(alloc, &["q"])?, left, right)?;
-    let mut turn = fresh(alloc, b'b', "b", &["8"], 1)?;
-    turn.append(repeated(alloc, b'p', "ji", Ctrl::Lit(8), load)?)?;
-    turn.append(repeated(alloc, b'q', "ji", Ctrl::Lit(8), work)?)?;
-    Ok(turn)
-}
-
-/// The product of matrices in vectors of 8.
-fn gemm_vec(alloc: Global) -> Result<Proc, AllocError> {
-    let mut params = Params::new(alloc);
-    sizes(alloc, &mut params, &[(b'm', "M"), (b'n', "N"), (b'o', "K")])?;
-    tensor(alloc, &mut params, b'x', "A", &["m", "o"])?;
-    tensor(alloc, &mut params, b'y', "B", &["o", "n"])?;
-    tensor(alloc, &mut params, b'z', "C", &["m", "n"])?;
+/// `stride(src, 0) == 1`
+fn dense(alloc: Global) -> Result<Conds, AllocError> {
     let mut asserts = Conds::new(alloc);
-    asserts.push(Cond::Eq(control(alloc, "n8%")?, Ctrl::Lit(0)))?;
-    let load = store(alloc, b'c', &["s"], cell(alloc, b'z', &["i", "8j*s+"])?)?;
-    let save = store(alloc, b'z', &["i", "8j*t+"], cell(alloc, b'c', &["t"])?)?;
-    let turn = vector_turn(alloc)?;
-    let mut tile = fresh(alloc, b'c', "c", &["8"], 1)?;
-    tile.append(repeated(alloc, b's', "i0", Ctrl::Lit(8), load)?)?;
-    tile.append(repeated(alloc, b'k', "k", Ctrl::Var(id(b'o')), turn)?)?;
-    tile.append(repeated(alloc, b't', "i0", Ctrl::Lit(8), save)?)?;
-    let row = repeated(alloc, b'j', "jo", control(alloc, "n8/")?, tile)?;
-    let body = repeated(alloc, b'i', "i", Ctrl::Var(id(b'm')), row)?;
-    procedure(alloc, "gemm_vec", params, asserts, body)
+    asserts.push(Cond::Eq(Ctrl::Stride(id(b's'), 0), Ctrl::Lit(1)))?;
+    Ok(asserts)
+}
+
+/// A loop that loads 8 cells.
+fn loaded(alloc: Global) -> Result<Block, AllocError> {
+    let load = store(alloc, b'd', &["l"], cell(alloc, b's', &["l"])?)?;
+    repeated(alloc, b'l', "l", Ctrl::Lit(8), load)
 }
 
 /// An instruction whose template has a quote, a backslash and a line's end.
@@ -300,13 +295,35 @@ fn instruction(alloc: Global) -> Result<Proc, AllocError> {
     let mut params = Params::new(alloc);
     window(alloc, &mut params, b'd', "dst", 1)?;
     window(alloc, &mut params, b's', "src", 0)?;
-    let mut asserts = Conds::new(alloc);
-    asserts.push(Cond::Eq(Ctrl::Stride(id(b's'), 0), Ctrl::Lit(1)))?;
-    let load = store(alloc, b'd', &["l"], cell(alloc, b's', &["l"])?)?;
-    let body = repeated(alloc, b'l', "l", Ctrl::Lit(8), load)?;
-    let mut made = procedure(alloc, "load8", params, asserts, body)?;
+    let mut made = procedure(alloc, "load8", params, dense(alloc)?, loaded(alloc)?)?;
     made.template = Some(Text::new(alloc, "{dst_data} = \"\\\n';")?);
     Ok(made)
+}
+
+/// A call with a window and a whole buffer, and a store to a cell of rank 0.
+fn first_branch(alloc: Global) -> Result<Block, AllocError> {
+    let mut args = Args::new(alloc);
+    args.push(Arg::Window(id(b'w'), coords(alloc, &["0:8"])?))?;
+    args.push(Arg::Whole(id(b'v')))?;
+    let mut first = Block::single(alloc, Stmt::Call(ProcId(0), args))?;
+    first.append(store(alloc, b's', &[], datum(alloc, "s1+")?)?)?;
+    Ok(first)
+}
+
+/// A view with a point and a span.
+fn viewed(alloc: Global) -> Result<Block, AllocError> {
+    let view = binder(alloc, b'w', "w")?;
+    let seen = coords(alloc, &["n1-", "0:4"])?;
+    Block::single(alloc, Stmt::View(view, id(b'x'), seen))
+}
+
+/// A configuration write, a condition on a field with both branches, and a call of what is not there.
+fn configured(alloc: Global, body: &mut Block) -> Result<(), AllocError> {
+    let other = Block::single(alloc, Stmt::Pass)?;
+    body.push(Stmt::Config(FieldId(0), Arg::Ctrl(control(alloc, "n1+")?)))?;
+    body.push(Stmt::If(Cond::Field(FieldId(1)), first_branch(alloc)?, other))?;
+    body.push(Stmt::Call(ProcId(9), Args::new(alloc)))?;
+    Ok(())
 }
 
 /// Every other form: fields, views, calls, a second branch, cells of rank 0, and numbers that name nothing.
@@ -315,21 +332,9 @@ fn others(alloc: Global) -> Result<Proc, AllocError> {
     sizes(alloc, &mut params, &[(b'n', "n")])?;
     tensor(alloc, &mut params, b'x', "x", &["n", "8"])?;
     tensor(alloc, &mut params, b's', "s", &[])?;
-    let mut args = Args::new(alloc);
-    args.push(Arg::Window(id(b'w'), coords(alloc, &["0:8"])?))?;
-    args.push(Arg::Whole(id(b'v')))?;
-    let mut first = Block::single(alloc, Stmt::Call(ProcId(0), args))?;
-    first.append(store(alloc, b's', &[], datum(alloc, "s1+")?)?)?;
-    let other = Block::single(alloc, Stmt::Pass)?;
-    let view = binder(alloc, b'w', "w")?;
-    let mut body = Block::single(
-        alloc,
-        Stmt::View(view, id(b'x'), coords(alloc, &["n1-", "0:4"])?),
-    )?;
-    body.push(Stmt::Config(FieldId(0), Arg::Ctrl(control(alloc, "n1+")?)))?;
-    body.push(Stmt::If(Cond::Field(FieldId(1)), first, other))?;
-    body.push(Stmt::Call(ProcId(9), Args::new(alloc)))?;
-    procedure(alloc, "others", params, Conds::new(alloc), body)
+    let mut body = viewed(alloc)?;
+    configured(alloc, &mut body)?;
+    plain(alloc, "others", params, body)
 }
 
 fn memory(alloc: Global, name: &str) -> Result<MemoryClass, AllocError> {
@@ -354,22 +359,38 @@ fn field(alloc: Global, name: &str, kind: Kind) -> Result<Field, AllocError> {
     })
 }
 
-/// The memories `DRAM` and `AVX2`, the fields `Cfg.w` and `Cfg.on`, and the procedures above.
-fn unit(alloc: Global) -> Result<Unit, AllocError> {
+/// The memories `DRAM` and `AVX2`.
+fn memories(alloc: Global) -> Result<Memories, AllocError> {
     let mut memories = Memories::new(alloc);
     memories.push(memory(alloc, "DRAM")?)?;
     memories.push(memory(alloc, "AVX2")?)?;
+    Ok(memories)
+}
+
+/// The fields `Cfg.w` and `Cfg.on`.
+fn fields(alloc: Global) -> Result<Fields, AllocError> {
     let mut fields = Fields::new(alloc);
     fields.push(field(alloc, "w", Kind::Size)?)?;
     fields.push(field(alloc, "on", Kind::Bool)?)?;
+    Ok(fields)
+}
+
+/// The procedures above.
+fn procs(alloc: Global) -> Result<Procs, AllocError> {
     let mut procs = Procs::new(alloc);
     procs.push(instruction(alloc)?)?;
     procs.push(divided(alloc)?)?;
     procs.push(staged(alloc)?)?;
-    procs.push(gemm_vec(alloc)?)?;
     procs.push(others(alloc)?)?;
+    Ok(procs)
+}
+
+/// All of them.
+fn unit(alloc: Global) -> Result<Unit, AllocError> {
+    let fields = fields(alloc)?;
+    let memories = memories(alloc)?;
     Ok(Unit {
-        procs,
+        procs: procs(alloc)?,
         fields,
         memories,
         lines: Lines::new(alloc),
@@ -403,23 +424,6 @@ def half(x: i32[8]):
         t[2 * i] = 7
     for i0 in seq(0, 8):
         x[i0] = t[i0]
-",
-        "@proc
-def gemm_vec(M: size, N: size, K: size, A: i32[M, K], B: i32[K, N], C: i32[M, N]):
-    assert N % 8 == 0
-    for i in seq(0, M):
-        for jo in seq(0, N / 8):
-            c : i32[8] @ AVX2
-            for i0 in seq(0, 8):
-                c[i0] = C[i, 8 * jo + i0]
-            for k in seq(0, K):
-                b : i32[8] @ AVX2
-                for ji in seq(0, 8):
-                    b[ji] = B[k, 8 * jo + ji]
-                for ji in seq(0, 8):
-                    c[ji] += A[i, k] * b[ji]
-            for i0 in seq(0, 8):
-                C[i, 8 * jo + i0] = c[i0]
 ",
         "@proc
 def others(n: size, x: i32[n, 8], s: i32):
