@@ -1,0 +1,11 @@
+pub mod Charges
+pub mod Scopes
+pub mod Tables
+pub mod Seen
+pub mod Widths
+pub mod Wide
+pub mod Rests
+pub mod Told
+pub mod Controls
+pub mod Kept
+pub mod Trees

@@ -1,0 +1,12 @@
+pub mod Bare
+pub mod Pieces
+pub mod Rows
+pub mod Sound
+pub mod Expressions
+pub mod Alone
+pub mod Sources
+pub mod Heads
+pub mod Blocks
+pub mod Templates
+pub mod Procedures
+pub mod Readings
