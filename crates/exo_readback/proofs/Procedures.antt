@@ -48,23 +48,23 @@ decorator_of x rest = (decorator_piece x).token ∷ bare ((decorator_piece x).wi
 
 proc_reads : Reads Free (codes "@proc") (t.Decorator d.Procedure ∷ [])
 proc_reads = record {
-      line = (refl, (refl, (refl, (refl, (refl, tt)))));
-      goes = λ rest free. ap (λ (x : List ℕ). decorator_of x (codes "proc" ++ rest)) (taken_names (codes "proc") rest free (refl, (refl, (refl, (refl, tt)))));
-    }
+  line = (refl, (refl, (refl, (refl, (refl, tt)))));
+  goes = λ rest free. ap (λ (x : List ℕ). decorator_of x (codes "proc" ++ rest)) (taken_names (codes "proc") rest free (refl, (refl, (refl, (refl, tt)))));
+}
 
 instr_reads : Reads Any (codes "@instr(") (t.Decorator d.Instruction ∷ t.Sign s.Open ∷ [])
 instr_reads = record {
-      line = (refl, (refl, (refl, (refl, (refl, (refl, (refl, tt)))))));
-      goes = λ rest any. ap (λ (ts : List Token). t.Decorator d.Instruction ∷ ts) (open_goes rest);
-    }
+  line = (refl, (refl, (refl, (refl, (refl, (refl, (refl, tt)))))));
+  goes = λ rest any. ap (λ (ts : List Token). t.Decorator d.Instruction ∷ ts) (open_goes rest);
+}
 
 marker_row : (template : Option (List ℕ)) → IsTemplate template → IsRow (marker_text template) (marker_tokens template)
 marker_row None h = record { reads = proc_reads; begins = (refl, refl); sound = (refl, tt); closed = refl }
 marker_row (Some template) h =
     record {
       reads =
-      weaker _ _ (join Any Any (codes "@instr(" ++ quoted template) (codes ")") _ _
-      (join Any Any (codes "@instr(") (quoted template) _ _ instr_reads (λ rest any. tt) (quoted_reads template h)) (λ rest any. tt) close_reads);
+          weaker _ _ (join Any Any (codes "@instr(" ++ quoted template) (codes ")") _ _
+          (join Any Any (codes "@instr(") (quoted template) _ _ instr_reads (λ rest any. tt) (quoted_reads template h)) (λ rest any. tt) close_reads);
       begins = (refl, refl);
       sound = (refl, (refl, (refl, (refl, tt))));
       closed = refl;
@@ -147,12 +147,13 @@ module _ (program : Program) (names : ℕ → Text) where
   asserts_out [] h place rest line = (line, refl)
   asserts_out (c ∷ cs) h place rest line =
       let more : (m : ℕ) × (text_out place (line + 1) (suc zero) (flat_map (assert_text words) cs ++ rest) ≡ asserts_of cs ++ text_out place m (suc zero) rest) = asserts_out cs h.1 place rest (line + 1) in
-      let text = codes "assert " ++ condition_text words c in
-      (more.0,
-      ap (text_out place line (suc zero)) (append_assoc (assert_text words c) (flat_map (assert_text words) cs) rest)
-      ∙ row_after place line zero (suc zero) text (flat_map (assert_text words) cs ++ rest) _ (assert_row c h.0) (no_import zero text)
-      ∙ ap (λ (ts : List Token). t.Word word.Assert ∷ (expression.spelling (condition_tree words program.fields c) ++ (t.NewLine ∷ ts))) more.1
-      ∙ next_assert c cs (text_out place more.0 (suc zero) rest))
+      let text = codes "assert " ++ condition_text words c in (
+        more.0,
+        ap (text_out place line (suc zero)) (append_assoc (assert_text words c) (flat_map (assert_text words) cs) rest)
+            ∙ row_after place line zero (suc zero) text (flat_map (assert_text words) cs ++ rest) _ (assert_row c h.0) (no_import zero text)
+            ∙ ap (λ (ts : List Token). t.Word word.Assert ∷ (expression.spelling (condition_tree words program.fields c) ++ (t.NewLine ∷ ts))) more.1
+            ∙ next_assert c cs (text_out place more.0 (suc zero) rest),
+      )
 
   -- the block of the procedure, to the end of the text
   inside_out : (cs : List Condition) (b : Block) → Each (IsCondition program names) cs → IsSome b → IsBlock program names b → (place : Place) (line : ℕ) → text_out place line zero (flat_map (assert_text words) cs ++ (block_text words (indent_of (suc zero)) b ++ [])) ≡ t.Indent ∷ (asserts_of cs ++ (spelling_all (block_of words program.fields b) ++ (t.Dedent ∷ [])))

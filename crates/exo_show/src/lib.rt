@@ -4,7 +4,7 @@
 mod control;
 mod datum;
 mod names;
-mod precedence;
+pub mod precedence;
 mod procedure;
 mod statement;
 #[cfg(test)]
