@@ -27,11 +27,11 @@ pub procedures_are_spelled : ProceduresAreSpelled
 procedures_are_spelled program k p there h = ap tokens_of (shown_by program p (slice_get program.procedures k) there) ∙ procedure_spelled program p h
 
 -- tokens that an item spells are no fault of a unit
-no_fault : (x : Item) (tokens : List Token) (places : List Place) (e : ReadError) → tokens ≡ item.spell x → ((limits : Limits) → item.Fits limits x) → IsFault tokens places e → ⊥
+no_fault : (x : Item) (tokens : List Token) (places : List Place) (e : ReadError) → tokens ≡ item.spell x → ((limits : Limits) → item.Fits limits x) → IsFault unit tokens places e → ⊥
 no_fault x tokens places e spelled fits f =
     f.fault.none (x ∷ []) f.fault.rest (fits (passed f.cause), tt) refl (sym f.fault.whole ∙ spelled ∙ sym (append-nil (item.spell x)))
 
-want : (x : Item) (tokens : List Token) (places : List Place) (kind : ReadKind) (e : ReadError) → tokens ≡ item.spell x → ((limits : Limits) → item.Fits limits x) → IsRefusal tokens places kind e → kind ≡ Memory
+want : (x : Item) (tokens : List Token) (places : List Place) (kind : ReadKind) (e : ReadError) → tokens ≡ item.spell x → ((limits : Limits) → item.Fits limits x) → IsRefusal unit tokens places kind e → kind ≡ Memory
 want x tokens places Memory e spelled fits r = refl
 want x tokens places BadByte e spelled fits r = absurd (no_fault x tokens places e spelled fits r)
 want x tokens places BadIndent e spelled fits r = absurd (no_fault x tokens places e spelled fits r)
