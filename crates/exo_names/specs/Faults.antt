@@ -3,7 +3,7 @@
 use Rattle.std.specs.Prelude.{ℕ, ◌==◌, nat_lt, Bool, true, false, ◌&&◌, ◌||◌, if◌then◌else◌, List, [], ◌∷◌, ◌++◌, Option, Some, None}
 use Rattle.std.specs.List.{list_any}
 use Rattle.exo_names.specs.declared.error.TypeKind.{TypeKind}
-use Rattle.exo_names.specs.declared.error.TypeKind.TheVariants.{UnknownName, Redefined, KindMismatch, RankMismatch, NotAffine, ConfigPlace, StridePlace, SharedArgument}
+use Rattle.exo_names.specs.declared.error.TypeKind.TheVariants.{UnknownName, Redefined, KindMismatch, RankMismatch, NotAffine, ConfigPlace, StridePlace, SharedArgument, Memory}
 use Rattle.exo_names.specs.declared.fault.Fault.{Fault}
 use Rattle.exo_names.specs.declared.fault.Charge.{Charge}
 
@@ -25,6 +25,7 @@ rank_of NotAffine = 4
 rank_of ConfigPlace = 5
 rank_of StridePlace = 6
 rank_of SharedArgument = 7
+rank_of Memory = 8
 
 abbrev pub is_before : Fault → Fault → Bool
 is_before a b = nat_lt a.token b.token || ((a.token == b.token) && nat_lt (rank_of a.rule) (rank_of b.rule))
@@ -55,6 +56,7 @@ hides NotAffine = false
 hides ConfigPlace = false
 hides StridePlace = false
 hides SharedArgument = false
+hides Memory = false
 
 abbrev pub any_hides : List Fault → Bool
 any_hides faults = list_any (λ f. hides f.rule) faults

@@ -2,7 +2,7 @@
 
 use thiserror::Error;
 
-/// The rule that is broken.
+/// The rule that is broken, or want of memory.
 #[derive(Clone, Copy, PartialEq, Eq, Debug, Error)]
 pub enum TypeKind {
     /// Nothing of that name is in scope, or there is no such type, memory, field, attribute, procedure or hole.
@@ -29,9 +29,12 @@ pub enum TypeKind {
     /// Two arguments of one call are parts of one buffer, and the callee writes one of them.
     #[error("SharedArgument")]
     SharedArgument,
+    /// There was no memory; no rule is.
+    #[error("Memory")]
+    Memory,
 }
 
-/// The first rule that a text breaks, and its place, counted from 1.
+/// The first rule that a text breaks, and its place, counted from 1. Both numbers are 0 for want of memory.
 #[derive(Clone, Copy, PartialEq, Eq, Debug)]
 pub struct TypeError {
     pub line: u32,

@@ -33,6 +33,7 @@ impl TypeKind {
             TypeKind::ConfigPlace => 5,
             TypeKind::StridePlace => 6,
             TypeKind::SharedArgument => 7,
+            TypeKind::Memory => 8,
         }
     }
 

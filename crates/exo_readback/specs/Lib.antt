@@ -3,3 +3,4 @@ pub mod Written
 pub mod Writable
 pub mod Sizes
 pub mod Laws
+pub mod Again

@@ -1,0 +1,10 @@
+pub mod TypeRules
+pub mod MemoryRules
+pub mod ArgumentRules
+pub mod StatementRules
+pub mod ItemRules
+pub mod UnitRules
+pub mod UnitLines
+pub mod Typed
+pub mod Refusals
+pub mod Seen

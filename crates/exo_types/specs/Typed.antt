@@ -1,0 +1,53 @@
+-- What it means to check a unit's names and types: exactly the unit that its text stands for, or exactly the first broken rule.
+use Rattle.std.specs.Prelude.{◌≡◌, ◌+◌, ◌≤◌, List, length, map, slice_get, Some, None, Result, MatchResult}
+use Rattle.phrases.specs.Limits.{Limits}
+use Rattle.exo_tree.specs.declared.unit.Unit as tree
+use Rattle.exo_tree.specs.PlainUnit.{program}
+use Rattle.exo_meaning.specs.Units.{IsUnit}
+use Rattle.exo_lexer.specs.declared.place.Place.{Place}
+use Rattle.exo_source.specs.Source.{Item}
+use Rattle.exo_source.specs.Items.{unit}
+use Rattle.exo_source.specs.Views.{plain_item}
+use Rattle.exo_source.specs.declared.unit.Source.{Source}
+use Rattle.exo_names.specs.declared.error.TypeKind.{TypeKind}
+use Rattle.exo_names.specs.declared.error.TypeKind.TheVariants.{Memory}
+use Rattle.exo_names.specs.declared.error.TypeError.{TypeError}
+use Rattle.exo_names.specs.declared.fault.Fault.{Fault}
+use Rattle.exo_types.specs.UnitRules.{unit_fault, unit_of}
+use Rattle.exo_types.specs.UnitLines.{lines_of}
+
+abbrev pub items_of : Source → List Item
+items_of s = map plain_item s.items.items
+
+-- there is a place for each token of the text and one for its end, and the tokens are at most 2^20
+pub record IsPlaced (s : Source) : Type 0 where
+  pub places : length s.places.items ≡ length (unit.spell (items_of s)) + 1
+  pub short : length (unit.spell (items_of s)) ≤ 0x100000
+
+-- the text breaks no rule, and this is its unit, with the line of each procedure and statement
+pub record IsTyped (s : Source) (u : tree.Unit) : Type 0 where
+  pub keeps : unit_fault (items_of s) ≡ None
+  pub program : program u ≡ unit_of (items_of s)
+  pub lines : u.lines ≡ lines_of s.places.items (items_of s)
+
+-- the error is the first rule that the text breaks, at the place of its token
+pub record IsBroken (s : Source) (e : TypeError) : Type 0 where
+  pub fault : Fault
+  pub first : unit_fault (items_of s) ≡ Some fault
+  pub kind : e.kind ≡ fault.rule
+  pub place : Place
+  pub there : slice_get s.places.items fault.token ≡ Some place
+  pub line : e.line ≡ place.line
+  pub column : e.column ≡ place.column
+
+-- but for want of memory
+abbrev pub IsRefused : Source → TypeKind → TypeError → Type 0
+IsRefused s Memory e = Unit {0}
+IsRefused s kind e = IsBroken s e
+
+abbrev pub Types : Source → Result tree.Unit TypeError → Type 0
+Types s result = MatchResult result (IsTyped s) (λ e. IsRefused s e.kind e)
+
+-- a unit whose text keeps the grammar and all limits, and breaks no rule, is well formed
+abbrev pub TypedUnitsAreFormed : Type 0
+TypedUnitsAreFormed = (items : List Item) → ((limits : Limits) → unit.Fits limits items) → length (unit.spell items) ≤ 0x100000 → unit_fault items ≡ None → IsUnit (unit_of items)

@@ -1,0 +1,5 @@
+pub mod Unions
+pub mod Pushed
+pub mod Walks
+pub mod Arguments
+pub mod Callees

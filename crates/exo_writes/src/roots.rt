@@ -1,0 +1,38 @@
+//! The buffers of names.
+ghost use Rattle.std.specs.Prelude.{◌≡◌, take, length, OnOk};
+ghost use Rattle.exo_meaning.specs.Scene.{updated};
+ghost use Rattle.exo_writes.specs.Written.{roots_in};
+
+use std::alloc::AllocError;
+
+/// A name and the buffer that it stands for.
+#[derive(Clone, Copy)]
+pub struct Alias {
+    pub name: u32,
+    pub root: u32,
+}
+
+/// The buffer of a name: that of its last alias, or the name itself.
+pub fn root(aliases: &[Alias], name: u32) -> u32
+    ensures { result ≡ roots_in aliases.now name }
+{
+    let mut root = name;
+    for alias in aliases {
+        if name == alias.name {
+            root = alias.root;
+        }
+    }
+    root
+}
+
+/// Lets a name stand for a buffer from now on.
+pub fn set_root(aliases: &mut Vec<Alias>, name: u32, buffer: u32) -> Result<(), AllocError>
+    ensures set { OnOk result (roots_in aliases.new.items ≡ updated (roots_in aliases.old.items) name buffer) }
+    ensures kept { OnOk result (take (length aliases.old.items) aliases.new.items ≡ aliases.old.items) }
+{
+    if root(aliases, name) == buffer {
+        return Ok(());
+    }
+    aliases.push(Alias { name, root: buffer })?;
+    Ok(())
+}
