@@ -1,6 +1,6 @@
 -- The rules on expressions. An expression whose outermost form cannot be of the kind that its place asks is charged at its first
 -- token, whatever stands inside; else its parts are tested, and then the whole. Parentheses are looked through for the form.
-use Rattle.std.specs.Prelude.{ℕ, ◌+◌, ◌==◌, nat_lt, Bool, true, false, not, ◌&&◌, ◌||◌, if◌then◌else◌, List, [], ◌∷◌, ◌++◌, length, Option, Some, None}
+use Rattle.std.specs.Prelude.{ℕ, suc, ◌+◌, ◌==◌, nat_lt, Bool, true, false, not, ◌&&◌, ◌||◌, if◌then◌else◌, List, [], ◌∷◌, ◌++◌, length, Option, Some, None}
 use Rattle.exo_tree.specs.Tree.{Kind, ConfigField}
 use Rattle.exo_meaning.specs.Units.{Sort, ControlName, BufferName, Scope, Reads, plainly, is_truth, is_number, is_flag}
 use Rattle.exo_lexer.specs.declared.token.Literal.{Literal}
@@ -16,6 +16,15 @@ use Rattle.exo_names.specs.Names.{named_in, sort_of, field_in}
 -- how many tokens an expression has
 unfoldable pub width : Tree → ℕ
 width e = length (spelling e)
+
+-- a list of expressions with a comma between two, and the bracket that closes it
+abbrev pub commas_width : List Tree → ℕ
+commas_width [] = 0
+commas_width (e ∷ es) = width e + suc (commas_width es)
+
+abbrev pub closed_width : List Tree → ℕ
+closed_width [] = 1
+closed_width (e ∷ es) = commas_width (e ∷ es)
 
 -- ---- forms
 

@@ -4,3 +4,4 @@ pub mod Tables
 pub mod ExpressionRules
 pub mod Resolved
 pub mod WindowRules
+pub mod Tests

@@ -15,6 +15,11 @@ abbrev pub coordinate_width : Coordinate → ℕ
 coordinate_width (point e) = width e
 coordinate_width (span a b) = width a + suc (width b)
 
+-- coordinates with a comma between two, and the bracket that closes them
+abbrev pub coordinates_width : List Coordinate → ℕ
+coordinates_width [] = 0
+coordinates_width (c ∷ cs) = coordinate_width c + suc (coordinates_width cs)
+
 module _ (fields : List ConfigField) where
   abbrev pub coordinate_faults : Scope → ℕ → Coordinate → List Fault
   coordinate_faults scope n (point e) = control_faults fields plainly scope n e

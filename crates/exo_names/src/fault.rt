@@ -115,10 +115,6 @@ impl Charge {
     pub fn then_whole(self, whole: Charge) -> Charge
         ensures { (a b : List Fault) → self ≡ charged a → whole ≡ charged b → result ≡ charged (parts_then_whole a b) }
     {
-        if self.hides {
-            self
-        } else {
-            self.and(whole)
-        }
+        if self.hides { self } else { self.and(whole) }
     }
 }

@@ -1,7 +1,7 @@
 //! The names in scope.
 ghost use Rattle.std.specs.Prelude.{◌≡◌, None, [], ◌-◌, drop, length, OnOk, OnErr, option_map};
 ghost use Rattle.exo_meaning.specs.Units.{with_name};
-ghost use Rattle.exo_names.specs.Names.{named_in};
+ghost use Rattle.exo_names.specs.Names.{named_in, sort_of};
 ghost use Rattle.exo_names.specs.Tables.{named, sort_meant};
 
 use exo_tree::{Cell, Id, Kind};
@@ -69,6 +69,14 @@ impl<'a> Scope<'a> {
         ensures { option_map (named name.now) result ≡ named_in self.now name.now }
     {
         self.table.get(name).copied()
+    }
+
+    /// The sort of what a name stands for; None exactly where it is not in scope.
+    pub fn sort(&self, name: &str) -> Option<Sort>
+        ensures { option_map sort_meant result ≡ sort_of (named_in self.now name.now) }
+    {
+        let meant = self.get(name)?;
+        Some(meant.sort)
     }
 
     /// How many names are in scope.

@@ -45,6 +45,21 @@ may_be_part (access x is) = true
 may_be_part (parens e) = may_be_part e
 may_be_part other = false
 
+-- ---- callees
+
+-- what a call asks of its callee: its parameters, and which of them it writes or reduces
+pub record Signature : Type 0 where
+  pub params : List Param
+  pub writes : ℕ → Bool
+
+abbrev pub signature_of : Callee → Signature
+signature_of callee = record { params = callee.procedure.params; writes = callee.writes }
+
+-- an argument that was passed: the buffer that it is a part of, and whether its parameter is written or reduced
+pub record Passed : Type 0 where
+  pub root : Option ℕ
+  pub written : Bool
+
 module _ (fields : List ConfigField) where
   -- a whole buffer of a rank
   abbrev pub whole_faults : (Option Sort → Bool) → Scope → ℕ → List ℕ → ℕ → List Fault
@@ -97,12 +112,6 @@ module _ (fields : List ConfigField) where
   argument_faults scope kind n (value e) = value_faults scope kind n e
   argument_faults scope kind n (window x cs) = view_faults scope kind n x cs
 
-  -- as many as there are both parameters and arguments, with a token between two
-  abbrev pub arguments_faults : Scope → List Param → ℕ → List Argument → List Fault
-  arguments_faults scope [] n args = []
-  arguments_faults scope (p ∷ ps) n [] = []
-  arguments_faults scope (p ∷ ps) n (a ∷ args) = argument_faults scope p.kind n a ++ arguments_faults scope ps (n + argument_width a + 1) args
-
   -- ---- as trees
 
   abbrev pub part_of : Scope → Tree → tree.Argument
@@ -130,27 +139,27 @@ module _ (fields : List ConfigField) where
 
   -- ---- calls
 
-  -- a buffer that was passed to a parameter before, where the callee writes or reduces it or the parameter p
-  abbrev pub is_passed : (ℕ → Bool) → Param → Option ℕ → List (Param × Option ℕ) → Bool
-  is_passed writes p r passed = list_any (λ q. same_root (field_kind fields) q.1 r && (writes q.0.binder.id || writes p.binder.id)) passed
+  -- a part of a buffer that was passed before, where the callee writes or reduces one of the two parameters
+  abbrev pub is_passed : Bool → Option ℕ → List Passed → Bool
+  is_passed written r passed = list_any (λ q. same_root (field_kind fields) q.root r && (q.written || written)) passed
 
-  -- passed: the parameters before, each with the buffer that its argument is a part of
-  abbrev pub shared_faults : (ℕ → Bool) → Scope → (ℕ → ℕ) → List (Param × Option ℕ) → List Param → ℕ → List Argument → List Fault
-  shared_faults writes scope root passed [] n args = []
-  shared_faults writes scope root passed (p ∷ ps) n [] = []
-  shared_faults writes scope root passed (p ∷ ps) n (a ∷ args) =
+  -- as many as there are both parameters and arguments, with a token between two; passed are those before
+  abbrev pub arguments_faults : (ℕ → Bool) → Scope → (ℕ → ℕ) → List Passed → List Param → ℕ → List Argument → List Fault
+  arguments_faults writes scope root passed [] n args = []
+  arguments_faults writes scope root passed (p ∷ ps) n [] = []
+  arguments_faults writes scope root passed (p ∷ ps) n (a ∷ args) =
       let r = root_of (field_kind fields) root (argument_of scope p.kind a) in
-      unless (not (is_passed writes p r passed)) SharedArgument n
-      ++ shared_faults writes scope root ((p, r) ∷ passed) ps (n + argument_width a + 1) args
+      let written = writes p.binder.id in
+      argument_faults scope p.kind n a
+      ++ (unless (not (is_passed written r passed)) SharedArgument n
+      ++ arguments_faults writes scope root (passed ++ record { root = r; written = written } ∷ []) ps (n + argument_width a + 1) args)
 
   -- a call of a procedure that stands above; a wrong number of arguments is charged at the procedure's name
-  abbrev pub call_faults : Option Callee → Scope → (ℕ → ℕ) → ℕ → List Argument → List Fault
+  abbrev pub call_faults : Option Signature → Scope → (ℕ → ℕ) → ℕ → List Argument → List Fault
   call_faults None scope root n args = fault UnknownName n
   call_faults (Some callee) scope root n args =
-      let params = callee.procedure.params in
-      unless (length args == length params) RankMismatch n
-      ++ (arguments_faults scope params (n + 2) args ++ shared_faults callee.writes scope root [] params (n + 2) args)
+      unless (length args == length callee.params) RankMismatch n ++ arguments_faults callee.writes scope root [] callee.params (n + 2) args
 
-abbrev pub params_of : Option Callee → List Param
+abbrev pub params_of : Option Signature → List Param
 params_of None = []
-params_of (Some callee) = callee.procedure.params
+params_of (Some callee) = callee.params

@@ -1,8 +1,7 @@
 -- The rules on parameters, procedures and configurations, and what they are as trees. n is the number of the first token.
 use Rattle.std.specs.Prelude.{ℕ, suc, ◌+◌, not, List, [], ◌∷◌, ◌++◌, length, map, Option, Some, None}
 use Rattle.std.specs.List.{list_any}
-use Rattle.exo_tree.specs.Tree.{Kind, ConfigField, MemoryKind, Procedure, Param, ParamKind, ControlParam, TensorParam, WindowParam}
-use Rattle.exo_meaning.specs.Calls.{Callee}
+use Rattle.exo_tree.specs.Tree.{Kind, ConfigField, Procedure, Param, ParamKind, ControlParam, TensorParam, WindowParam}
 use Rattle.exo_meaning.specs.Units.{Scope, with_name, scope_of, param_sort, plainly, with_both, same_field}
 use Rattle.exo_reader.specs.Expression.{Tree}
 use Rattle.exo_source.specs.Source as source
@@ -16,13 +15,13 @@ use Rattle.exo_names.specs.Faults.{fault, unless, least, or_else}
 use Rattle.exo_names.specs.ExpressionRules.{width, controls_faults, condition_faults}
 use Rattle.exo_names.specs.Resolved.{controls_of, condition_of}
 use Rattle.exo_types.specs.TypeRules.{kind_named, cell_faults, kind_faults, cell_of, kind_of, binder, binder_faults, memory_faults, memory_of}
-use Rattle.exo_types.specs.ArgumentRules.{dims_width}
+use Rattle.exo_types.specs.ArgumentRules.{Signature, dims_width}
 use Rattle.exo_types.specs.StatementRules.{block_of, block_fault}
 
 -- ---- parameters
 
 -- a control parameter has no memory; the `@` is token n
-abbrev pub no_memory_faults : List MemoryKind → ℕ → Option (List ℕ) → List Fault
+abbrev pub no_memory_faults : List (List ℕ) → ℕ → Option (List ℕ) → List Fault
 no_memory_faults memories n None = []
 no_memory_faults memories n (Some x) = memory_faults memories n (Some x) ++ fault KindMismatch (n + 1)
 
@@ -33,7 +32,7 @@ asserts_start n d = n + 3 + length (parameters.spell (d.params, d.trailing)) + 4
 abbrev pub body_start : ℕ → Definition → ℕ
 body_start n d = asserts_start n d + length (spell_all assertion d.asserts)
 
-module _ (fields : List ConfigField) (memories : List MemoryKind) where
+module _ (fields : List ConfigField) (memories : List (List ℕ)) where
   -- a type without dimensions: a control value, or a single cell
   abbrev pub scalar_faults : Option Kind → TypeName → ℕ → Option (List ℕ) → List Fault
   scalar_faults (Some kind) type n m = no_memory_faults memories (n + 1) m
@@ -81,7 +80,7 @@ module _ (fields : List ConfigField) (memories : List MemoryKind) where
   assertions_fault scope n (e ∷ es) =
       or_else (least (condition_faults fields with_both scope (n + 1) e)) (assertions_fault scope (n + width e + 2) es)
 
-  module _ (above : List Procedure) (callees : ℕ → Option Callee) where
+  module _ (above : List (List ℕ)) (signatures : List Signature) where
     -- the procedure, whose first binder gets this id
     abbrev pub definition_of : ℕ → Option (List ℕ) → Definition → Procedure
     definition_of id template d =
@@ -91,7 +90,7 @@ module _ (fields : List ConfigField) (memories : List MemoryKind) where
           name = d.name;
           params = params;
           asserts = map (condition_of fields scope) d.asserts;
-          body = block_of fields memories above callees (id + length params) scope (source.block_of d.body);
+          body = block_of fields memories above signatures (id + length params) scope (source.block_of d.body);
           template = template;
         }
 
@@ -102,7 +101,7 @@ module _ (fields : List ConfigField) (memories : List MemoryKind) where
         let scope = scope_of [] params in
         or_else (params_fault id [] (n + 3) d.params)
         (or_else (assertions_fault scope (asserts_start n d) d.asserts)
-        (block_fault fields memories above callees (id + length params) scope (λ x. x) (body_start n d) (source.block_of d.body)))
+        (block_fault fields memories above signatures (id + length params) scope (λ x. x) (body_start n d) (source.block_of d.body)))
 
 -- ---- configurations
 

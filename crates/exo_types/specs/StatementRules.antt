@@ -1,9 +1,8 @@
 -- The rules on statements, and what statements are as trees of a procedure. n is always the number of the first token,
 -- id the id that the next binder gets, root the buffer of each name.
-use Rattle.std.specs.Prelude.{ℕ, suc, ◌+◌, if◌then◌else◌, List, [], ◌∷◌, ◌++◌, length, Option, Some, None}
+use Rattle.std.specs.Prelude.{ℕ, suc, ◌+◌, if◌then◌else◌, List, [], ◌∷◌, ◌++◌, length, slice_get, Option, Some, None}
 use Rattle.exo_tree.specs.Tree as tree
-use Rattle.exo_tree.specs.Tree.{Kind, Index, ConfigField, MemoryKind, Procedure}
-use Rattle.exo_meaning.specs.Calls.{Callee}
+use Rattle.exo_tree.specs.Tree.{Kind, Index, ConfigField}
 use Rattle.exo_meaning.specs.Run.{roots_after}
 use Rattle.exo_meaning.specs.Units.{ControlName, Scope, with_name, scope_after, plainly, with_fields, with_strides, is_truth}
 use Rattle.exo_reader.specs.Expression.{Tree}
@@ -12,12 +11,12 @@ use Rattle.exo_source.specs.Statements.{spelling, spelling_all}
 use Rattle.exo_names.specs.declared.error.TypeKind.TheVariants.{UnknownName}
 use Rattle.exo_names.specs.declared.fault.Fault.{Fault}
 use Rattle.exo_names.specs.Faults.{fault, least, or_else}
-use Rattle.exo_names.specs.Names.{id_in, field_in, procedure_in, no_id}
+use Rattle.exo_names.specs.Names.{id_in, field_in, name_number, no_id}
 use Rattle.exo_names.specs.ExpressionRules.{width, is_buffer, control_faults, controls_faults, condition_faults, data_faults}
 use Rattle.exo_names.specs.WindowRules.{window_faults, coordinates_of}
 use Rattle.exo_names.specs.Resolved.{control_of, condition_of, controls_of, datum_of, field_number}
-use Rattle.exo_types.specs.TypeRules.{cell_faults, cell_of, binder, binder_faults, memory_faults, memory_of}
-use Rattle.exo_types.specs.ArgumentRules.{dims_width, points, arguments_of, call_faults, params_of}
+use Rattle.exo_types.specs.TypeRules.{cell_faults, cell_of, binder, binder_faults, memory_faults, memory_of, number_or}
+use Rattle.exo_types.specs.ArgumentRules.{Signature, dims_width, points, arguments_of, call_faults, params_of}
 
 abbrev pub statement_width : Statement → ℕ
 statement_width s = length (spelling s)
@@ -58,13 +57,13 @@ module _ (fields : List ConfigField) where
   written_of None scope e = tree.ControlArg (control_of fields scope e)
   written_of (Some f) scope e = kind_written_of scope f.1 e
 
-  -- the memories of the text; the procedures that stand above, by their names and by their numbers
-  module _ (memories : List MemoryKind) (above : List Procedure) (callees : ℕ → Option Callee) where
+  -- the names of the memories, and the names and signatures of the procedures that stand above
+  module _ (memories above : List (List ℕ)) (signatures : List Signature) where
     abbrev pub number_in : List ℕ → ℕ
-    number_in f = elim (procedure_in above f) [ None ↦ no_id | Some k ↦ k ]
+    number_in f = number_or no_id (name_number above f)
 
-    abbrev pub callee_named : List ℕ → Option Callee
-    callee_named f = elim (procedure_in above f) [ None ↦ None | Some k ↦ callees k ]
+    abbrev pub callee_named : List ℕ → Option Signature
+    callee_named f = elim (name_number above f) [ None ↦ None | Some k ↦ slice_get signatures k ]
 
     -- ---- as trees
 

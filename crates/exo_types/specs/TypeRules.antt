@@ -1,13 +1,13 @@
 -- The rules on types, binders and memories, where parameters and statements name them. n is the number of the first token.
 use Rattle.std.specs.Prelude.{ℕ, ◌+◌, Bool, not, if◌then◌else◌, List, [], codes, Option, Some, None}
 use Rattle.std.specs.List.{list_any}
-use Rattle.exo_tree.specs.Tree.{Kind, Size, Index, Truth, Stride, Cell, I8, I32, MemoryKind, Binder}
+use Rattle.exo_tree.specs.Tree.{Kind, Size, Index, Truth, Stride, Cell, I8, I32, Binder}
 use Rattle.exo_meaning.specs.Units.{Scope, is_text}
 use Rattle.exo_source.specs.Source.{TypeName, stride, named}
 use Rattle.exo_names.specs.declared.error.TypeKind.TheVariants.{UnknownName, Redefined, KindMismatch}
 use Rattle.exo_names.specs.declared.fault.Fault.{Fault}
 use Rattle.exo_names.specs.Faults.{fault, unless}
-use Rattle.exo_names.specs.Names.{memory_in}
+use Rattle.exo_names.specs.Names.{name_number}
 
 -- ---- types
 
@@ -62,21 +62,21 @@ is_taken scope x = list_any (λ known. is_text known.binder.name x) scope
 abbrev pub binder_faults : Scope → ℕ → List ℕ → List Fault
 binder_faults scope n x = unless (not (is_taken scope x)) Redefined n
 
--- ---- memories
+-- ---- memories, by the list of their names
 
 abbrev pub named_memory_faults : Option ℕ → ℕ → List Fault
 named_memory_faults None n = fault UnknownName n
 named_memory_faults (Some m) n = []
 
 -- the memory behind an `@`, which is token n; where none is named, it is the first one, which is always there
-abbrev pub memory_faults : List MemoryKind → ℕ → Option (List ℕ) → List Fault
+abbrev pub memory_faults : List (List ℕ) → ℕ → Option (List ℕ) → List Fault
 memory_faults memories n None = []
-memory_faults memories n (Some x) = named_memory_faults (memory_in memories x) (n + 1)
+memory_faults memories n (Some x) = named_memory_faults (name_number memories x) (n + 1)
 
-abbrev pub number_or_first : Option ℕ → ℕ
-number_or_first None = 0
-number_or_first (Some m) = m
+abbrev pub number_or : ℕ → Option ℕ → ℕ
+number_or d None = d
+number_or d (Some m) = m
 
-abbrev pub memory_of : List MemoryKind → Option (List ℕ) → ℕ
+abbrev pub memory_of : List (List ℕ) → Option (List ℕ) → ℕ
 memory_of memories None = 0
-memory_of memories (Some x) = number_or_first (memory_in memories x)
+memory_of memories (Some x) = number_or 0 (name_number memories x)

@@ -1,5 +1,5 @@
 -- The rules on what stands at the top level, and the unit that a text stands for. n is the number of the first token.
-use Rattle.std.specs.Prelude.{ℕ, ◌+◌, Bool, not, ◌||◌, List, [], ◌∷◌, ◌++◌, length, map, slice_get, Option, Some, None}
+use Rattle.std.specs.Prelude.{ℕ, ◌+◌, Bool, not, ◌||◌, List, [], ◌∷◌, ◌++◌, length, map, Option, Some, None}
 use Rattle.std.specs.List.{list_any}
 use Rattle.exo_tree.specs.Tree.{Procedure, Program}
 use Rattle.exo_meaning.specs.Calls.{Callee}
@@ -11,6 +11,7 @@ use Rattle.exo_source.specs.Items.{joined, item}
 use Rattle.exo_names.specs.declared.error.TypeKind.TheVariants.{UnknownName, Redefined}
 use Rattle.exo_names.specs.declared.fault.Fault.{Fault}
 use Rattle.exo_names.specs.Faults.{unless, least, or_else}
+use Rattle.exo_types.specs.ArgumentRules.{Signature, signature_of}
 use Rattle.exo_types.specs.StatementRules.{bound_in}
 use Rattle.exo_types.specs.ItemRules.{definition_of, definition_fault, field_of, fields_fault}
 use Rattle.exo_types.specs.MemoryRules.{dram, plain_memory, with_attributes, attributes_fault, lanes_faults}
@@ -32,15 +33,24 @@ is_given p x =
 abbrev pub item_name_faults : Above → ℕ → List ℕ → List Fault
 item_name_faults above n x = unless (not (is_given above.program x)) Redefined n
 
+abbrev pub memory_names : Program → List (List ℕ)
+memory_names p = map (λ m. m.name) p.memories
+
+abbrev pub procedure_names : Program → List (List ℕ)
+procedure_names p = map (λ q. q.name) p.procedures
+
+abbrev pub signatures : Above → List Signature
+signatures above = map signature_of above.callees
+
 abbrev pub procedure_here : Above → Option (List ℕ) → Definition → Procedure
 procedure_here above template d =
-    definition_of above.program.fields above.program.memories above.program.procedures (slice_get above.callees) above.next_id template d
+    definition_of above.program.fields (memory_names above.program) (procedure_names above.program) (signatures above) above.next_id template d
 
 -- n is the number of the token `def`
 abbrev pub procedure_fault : Above → ℕ → Definition → Option Fault
 procedure_fault above n d =
     or_else (least (item_name_faults above (n + 1) d.name))
-    (definition_fault above.program.fields above.program.memories above.program.procedures (slice_get above.callees) above.next_id n d)
+    (definition_fault above.program.fields (memory_names above.program) (procedure_names above.program) (signatures above) above.next_id n d)
 
 -- a template whose holes do not name parameters is charged at its first string
 abbrev pub template_faults : Above → ℕ → List (List ℕ) → Definition → List Fault

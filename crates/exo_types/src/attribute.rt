@@ -194,26 +194,25 @@ fn width(attribute: &SourceAttribute) -> usize
     }
 }
 
-/// The first rule that attributes break by themselves; the first of them begins at the token.
+/// The first rule that attributes break by themselves, the first of which begins at token `n`; and the number of the token
+/// behind the last where they break none.
 pub fn attributes_fault(
     alloc: Global,
     attributes: &[SourceAttribute],
-    token: usize,
-) -> Result<Option<Fault>, AllocError>
-    requires { token + length (spell_all grammar.attribute (map plain_attribute attributes.now)) ≤ 0x100000 }
-    ensures { IfOk result (λ o. o ≡ attributes_fault [] token (map plain_attribute attributes.now)) }
+    n: usize,
+) -> Result<(Option<Fault>, usize), AllocError>
+    requires { n + length (spell_all grammar.attribute (map plain_attribute attributes.now)) ≤ 0x100000 }
+    ensures { IfOk result (λ o. o.0 ≡ attributes_fault [] n (map plain_attribute attributes.now)) }
 {
-    let mut at = token;
-    let mut k = 0;
-    for attribute in attributes {
-        let own = attribute_charge(alloc, &attributes[..k], attribute, at)?;
+    let mut next = n;
+    for (k, attribute) in attributes.iter().enumerate() {
+        let own = attribute_charge(alloc, &attributes[..k], attribute, next)?;
         if own.first.is_some() {
-            return Ok(own.first);
+            return Ok((own.first, next));
         }
-        at += width(attribute);
-        k += 1;
+        next += width(attribute);
     }
-    Ok(None)
+    Ok((None, next))
 }
 
 /// The number of lanes of a value.

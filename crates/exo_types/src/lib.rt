@@ -1,7 +1,15 @@
 //! Which units are well formed: names to ids, kinds, ranks and places; or the first rule that a text breaks.
 #![tactic(auto)]
 
+pub mod argument;
 pub mod attribute;
+pub mod call;
+pub mod context;
+pub mod definition;
 pub mod refusal;
+pub mod resolved;
+pub mod statement;
+pub mod template;
 pub mod types;
 pub mod unit;
+pub mod window;
