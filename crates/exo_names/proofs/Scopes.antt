@@ -30,7 +30,7 @@ named_append (n ∷ a) b x = by (is_text n.binder.name x) (named_in (a ++ b) x) 
     by false u v e = e
 
 -- each way round, two names are the same or not
-text_turned : (x y : List ℕ) → is_text x y ≡ bytes_eq y x
+pub text_turned : (x y : List ℕ) → is_text x y ≡ bytes_eq y x
 text_turned x y = by (bytes_eq x y) (bytes_eq y x) refl refl
   where
     by : (t u : Bool) → bytes_eq x y ≡ t → bytes_eq y x ≡ u → bytes_eq x y ≡ bytes_eq y x

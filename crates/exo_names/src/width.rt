@@ -13,7 +13,9 @@ pub fn end_of(e: &SourceExpr, n: usize) -> usize
     ensures { result ≡ n + width (tree_of e.now) }
 {
     match e {
-        SourceExpr::Int(_) | SourceExpr::Truth(_) | SourceExpr::Name(_) => n + 1,
+        SourceExpr::Int(_) => n + 1,
+        SourceExpr::Truth(_) => n + 1,
+        SourceExpr::Name(_) => n + 1,
         SourceExpr::Field(_, _) => n + 3,
         SourceExpr::Stride(_, _) => n + 6,
         SourceExpr::Access(_, indices) => end_of_list(indices, n + 2),
