@@ -33,7 +33,7 @@ fn unknown_first(names: &Names, n: usize, e: &SourceExpr) -> Charge
 }
 
 /// The test of an expression whose form cannot be what its place asks.
-pub(crate) fn test_wrong_form(names: &Names, n: usize, e: &SourceExpr) -> Tested
+pub fn test_wrong_form(names: &Names, n: usize, e: &SourceExpr) -> Tested
     requires { n + width (tree_of e.now) ≤ most_tokens }
     ensures { Tells result (wrong_form names.now.fields.now names.now.scope.now n (tree_of e.now)) false n (tree_of e.now) }
 {

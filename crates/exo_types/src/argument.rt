@@ -1,7 +1,7 @@
 //! Arguments of calls.
 
-use crate::resolved::{NO_ID, condition_of, control_of, controls_of, coordinates_of, id_in};
-use crate::window::test_window;
+use exo_names::resolved::{NO_ID, condition_of, control_of, coordinates_of, id_in};
+use exo_names::window::test_window;
 use exo_lexer::text::Text;
 use exo_names::control::{test_condition, test_control, test_controls, test_wrong_form};
 use exo_names::error::TypeKind;
@@ -144,17 +144,17 @@ fn test_view(
     let sort = names.scope.sort(x.as_str());
     match kind {
         ParamKind::Ctrl(_) => {
-            let (_, end) = test_window(names, sort, false, n, coords);
+            let (_, end) = test_window(names, false, n, x.as_str(), coords);
             (name_charge(sort, false, n), end)
         }
         ParamKind::Tensor(cell, dims, _) => {
             let fits = has_cell(*cell, sort) && dims.len() == 0;
-            let (parts, end) = test_window(names, sort, fits, n, coords);
+            let (parts, end) = test_window(names, fits, n, x.as_str(), coords);
             let same = spans(coords) == dims.len();
             (parts.and(Charge::unless(same, TypeKind::RankMismatch, n)), end)
         }
         ParamKind::Window(cell, dims, _) => {
-            let (parts, end) = test_window(names, sort, has_cell(*cell, sort), n, coords);
+            let (parts, end) = test_window(names, has_cell(*cell, sort), n, x.as_str(), coords);
             let same = spans(coords) == dims.len();
             (parts.and(Charge::unless(same, TypeKind::RankMismatch, n)), end)
         }
@@ -177,10 +177,10 @@ pub fn test_argument(
 /// The buffer that an expression for a buffer is a part of.
 fn part_root(names: &Names, aliases: &[Alias], e: &SourceExpr) -> u32 {
     match e {
-        SourceExpr::Name(x) => root(aliases, id_in(names, x).0),
-        SourceExpr::Access(x, _) => root(aliases, id_in(names, x).0),
+        SourceExpr::Name(x) => root(aliases, id_in(names, x.as_str()).0),
+        SourceExpr::Access(x, _) => root(aliases, id_in(names, x.as_str()).0),
         SourceExpr::Parens(inner) => part_root(names, aliases, inner),
-        _ => root(aliases, NO_ID),
+        _ => root(aliases, NO_ID.0),
     }
 }
 
@@ -196,7 +196,7 @@ pub fn root_of(
             ParamKind::Ctrl(_) => None,
             _ => Some(part_root(names, aliases, e)),
         },
-        SourceArg::Window(x, _) => Some(root(aliases, id_in(names, x).0)),
+        SourceArg::Window(x, _) => Some(root(aliases, id_in(names, x.as_str()).0)),
     }
 }
 
@@ -216,12 +216,12 @@ fn points_of(
 /// A part of a buffer as a tree.
 fn part_of(alloc: Global, names: &Names, e: &SourceExpr) -> Result<Arg, AllocError> {
     match e {
-        SourceExpr::Name(x) => Ok(Arg::Whole(id_in(names, x))),
+        SourceExpr::Name(x) => Ok(Arg::Whole(id_in(names, x.as_str()))),
         SourceExpr::Access(x, indices) => {
-            Ok(Arg::Window(id_in(names, x), points_of(alloc, names, indices)?))
+            Ok(Arg::Window(id_in(names, x.as_str()), points_of(alloc, names, indices)?))
         }
         SourceExpr::Parens(inner) => part_of(alloc, names, inner),
-        _ => Ok(Arg::Whole(Id(NO_ID))),
+        _ => Ok(Arg::Whole(NO_ID)),
     }
 }
 
@@ -251,7 +251,7 @@ pub fn argument_of(
             _ => part_of(alloc, names, e),
         },
         SourceArg::Window(x, coords) => {
-            Ok(Arg::Window(id_in(names, x), coordinates_of(alloc, names, coords)?))
+            Ok(Arg::Window(id_in(names, x.as_str()), coordinates_of(alloc, names, coords)?))
         }
     }
 }

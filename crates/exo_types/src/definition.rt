@@ -4,7 +4,7 @@ use crate::context::{
     Context, Walk, binder_charge, end_of_memory, memory_charge, memory_of,
 };
 use crate::refusal::{Refusal, keep};
-use crate::resolved::{condition_of, controls_of};
+use exo_names::resolved::{condition_of, indices_of};
 use crate::statement::{block_of, test_dims};
 use crate::types::{cell_charge, cell_of, kind_named};
 use exo_lexer::text::Text;
@@ -71,11 +71,11 @@ fn form_of(
                     return Ok(ParamKind::Ctrl(kind));
                 }
             }
-            let extents = controls_of(context.alloc, names, dims)?;
+            let extents = indices_of(context.alloc, names, dims)?;
             Ok(ParamKind::Tensor(cell_of(kind), extents, home))
         }
         SourceType::Window(kind, dims) => {
-            let extents = controls_of(context.alloc, names, dims)?;
+            let extents = indices_of(context.alloc, names, dims)?;
             Ok(ParamKind::Window(cell_of(kind), extents, home))
         }
     }

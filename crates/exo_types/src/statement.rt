@@ -6,11 +6,11 @@ use crate::context::{
     Context, Walk, binder_charge, end_of_memory, memory_charge, memory_of,
 };
 use crate::refusal::{Refusal, keep};
-use crate::resolved::{
-    NO_ID, condition_of, control_of, controls_of, coordinates_of, datum_of, id_in,
+use exo_names::resolved::{
+    condition_of, control_of, coordinates_of, data_of, id_in, indices_of,
 };
 use crate::types::{cell_charge, cell_of};
-use crate::window::test_window;
+use exo_names::window::test_window;
 use exo_lexer::text::Text;
 use exo_names::control::{test_condition, test_control, test_controls};
 use exo_names::datum::test_data;
@@ -70,9 +70,9 @@ fn add_assign<'c>(
     };
     let (charge, end) = test_store(&names, n, x, dims, e);
     keep(charge)?;
-    let indices = controls_of(context.alloc, &names, dims)?;
-    let value = datum_of(context.alloc, &names, e)?;
-    into.push(Stmt::Assign(id_in(&names, x), indices, value))?;
+    let indices = indices_of(context.alloc, &names, dims)?;
+    let value = data_of(context.alloc, &names, e)?;
+    into.push(Stmt::Assign(id_in(&names, x.as_str()), indices, value))?;
     Ok(end)
 }
 
@@ -92,9 +92,9 @@ fn add_reduce<'c>(
     };
     let (charge, end) = test_store(&names, n, x, dims, e);
     keep(charge)?;
-    let indices = controls_of(context.alloc, &names, dims)?;
-    let value = datum_of(context.alloc, &names, e)?;
-    into.push(Stmt::Reduce(id_in(&names, x), indices, value))?;
+    let indices = indices_of(context.alloc, &names, dims)?;
+    let value = data_of(context.alloc, &names, e)?;
+    into.push(Stmt::Reduce(id_in(&names, x.as_str()), indices, value))?;
     Ok(end)
 }
 
@@ -180,7 +180,7 @@ fn add_alloc<'c>(
     let (extents, end) = test_dims(&names, n + 3, dims);
     let place = memory_charge(context.memories, end, memory);
     keep(name.and(cell_charge(kind, n + 2).and(extents.and(place))))?;
-    let indices = controls_of(context.alloc, &names, dims)?;
+    let indices = indices_of(context.alloc, &names, dims)?;
     let name = Name::new(context.alloc, x.as_str())?;
     let cell = cell_of(kind);
     let id = walk.bind(x.as_str(), Sort::Buffer(cell, dims.len(), true))?;
@@ -213,9 +213,9 @@ fn add_view<'c>(
     };
     let sort = names.scope.sort(x.as_str());
     let name = binder_charge(&walk.scope, w, n);
-    let (window, end) = test_window(&names, sort, is_buffer(sort), n + 2, coords);
+    let (window, end) = test_window(&names, is_buffer(sort), n + 2, x.as_str(), coords);
     keep(name.and(window))?;
-    let of = id_in(&names, x);
+    let of = id_in(&names, x.as_str());
     let made = coordinates_of(context.alloc, &names, coords)?;
     let name = Name::new(context.alloc, w.as_str())?;
     let seen = Sort::Buffer(cell_seen(sort), spans(coords), false);
