@@ -5,27 +5,42 @@ use Rattle.std.specs.List.{list_any}
 use Rattle.exo_tree.specs.Tree as tree
 use Rattle.exo_tree.specs.Tree.{Kind, Cell, ConfigField, Param, ParamKind, ControlParam, TensorParam, WindowParam}
 use Rattle.exo_meaning.specs.Calls.{Callee}
-use Rattle.exo_meaning.specs.Units.{Sort, Scope, with_both, is_truth, has_cell, is_dense, root_of, same_root, field_kind}
+use Rattle.exo_meaning.specs.Units.{Sort, Scope, Reads, with_both, is_truth, has_cell, is_dense, root_of, field_kind}
 use Rattle.exo_reader.specs.Expression.{Tree, Trees, variable, access, parens}
 use Rattle.exo_source.specs.Source.{Coordinate, point, span, Argument, value, window}
-use Rattle.exo_source.specs.Parts.{maybe_dims}
-use Rattle.exo_source.specs.Statements.{spell_argument}
-use Rattle.exo_reader.specs.Expression.{control}
 use Rattle.exo_names.specs.declared.error.TypeKind.TheVariants.{UnknownName, RankMismatch, SharedArgument}
 use Rattle.exo_names.specs.declared.fault.Fault.{Fault}
 use Rattle.exo_names.specs.Faults.{fault, unless}
 use Rattle.exo_names.specs.Names.{named_in, sort_of, id_in, no_id}
-use Rattle.exo_names.specs.ExpressionRules.{name_faults, rank_faults, wrong_form, control_faults, condition_faults, list_of}
-use Rattle.exo_names.specs.WindowRules.{window_faults, coordinates_of}
+use Rattle.exo_names.specs.ExpressionRules.{width, closed_width, name_faults, rank_faults, wrong_form, control_faults, condition_faults, list_of}
+use Rattle.exo_types.specs.declared.call.Passed.{Passed}
+use Rattle.exo_names.specs.WindowRules.{coordinates_width, window_faults, coordinates_of}
 use Rattle.exo_names.specs.Resolved.{control_of, condition_of}
 
--- ---- widths
+-- ---- how many tokens there are
 
+-- dimensions or indices with their brackets, where there are any
 abbrev pub dims_width : List Tree → ℕ
-dims_width ds = length (maybe_dims.spell ds)
+dims_width [] = 0
+dims_width (d ∷ ds) = suc (closed_width (d ∷ ds))
 
 abbrev pub argument_width : Argument → ℕ
-argument_width a = length (spell_argument control a)
+argument_width (value e) = width e
+argument_width (window x cs) = 2 + coordinates_width cs
+
+-- arguments with the token behind each
+abbrev pub spaced_width : List Argument → ℕ
+spaced_width [] = 0
+spaced_width (a ∷ more) = argument_width a + suc (spaced_width more)
+
+-- arguments and the parenthesis that closes them; a comma behind the last one is not counted
+abbrev pub arguments_width : List Argument → ℕ
+arguments_width [] = 1
+arguments_width (a ∷ more) = spaced_width (a ∷ more)
+
+abbrev pub comma_width : Bool → ℕ
+comma_width true = 1
+comma_width false = 0
 
 -- ---- windows
 
@@ -55,10 +70,23 @@ pub record Signature : Type 0 where
 abbrev pub signature_of : Callee → Signature
 signature_of callee = record { params = callee.procedure.params; writes = callee.writes }
 
--- an argument that was passed: the buffer that it is a part of, and whether its parameter is written or reduced
-pub record Passed : Type 0 where
-  pub root : Option ℕ
-  pub written : Bool
+-- both are parts of one buffer
+abbrev pub same_buffer : Option ℕ → Option ℕ → Bool
+same_buffer None other = false
+same_buffer (Some x) None = false
+same_buffer (Some x) (Some y) = x == y
+
+-- a part of a buffer that was passed before, where the callee writes or reduces one of the two parameters
+abbrev pub is_passed : Bool → Option ℕ → List Passed → Bool
+is_passed written r passed = list_any (λ q. same_buffer q.root r && (q.written || written)) passed
+
+-- a whole buffer for a tensor: one of rank 0 takes a single cell, and one of a higher rank a whole dense tensor of its cell type
+abbrev pub tensor_takes : Cell → ℕ → Option Sort → Bool
+tensor_takes cell rank sort = has_cell cell sort && ((rank == 0) || is_dense sort)
+
+-- a part of a buffer for a tensor: a single cell, where its rank is 0
+abbrev pub cell_takes : Cell → ℕ → Option Sort → Bool
+cell_takes cell rank sort = has_cell cell sort && (rank == 0)
 
 module _ (fields : List ConfigField) where
   -- a whole buffer of a rank
@@ -68,14 +96,6 @@ module _ (fields : List ConfigField) where
       name_faults fits sort n ++ rank_faults sort rank n
 
   -- ---- arguments
-
-  -- a whole buffer for a tensor: one of rank 0 takes a single cell, and one of a higher rank a whole dense tensor of its cell type
-  abbrev pub tensor_takes : Cell → ℕ → Option Sort → Bool
-  tensor_takes cell rank sort = has_cell cell sort && ((rank == 0) || is_dense sort)
-
-  -- a part of a buffer for a tensor: a single cell, where its rank is 0
-  abbrev pub cell_takes : Cell → ℕ → Option Sort → Bool
-  cell_takes cell rank sort = has_cell cell sort && (rank == 0)
 
   -- first is the number of the argument's first token, with parentheses around it
   abbrev pub tensor_faults : Scope → Cell → ℕ → ℕ → Tree → List Fault
@@ -93,11 +113,11 @@ module _ (fields : List ConfigField) where
   strided_faults scope cell rank first n other = wrong_form fields scope n other
 
   -- a control value of a kind: a condition for `bool`, an affine expression for the others
-  abbrev pub kind_value_faults : Scope → Kind → ℕ → Tree → List Fault
-  kind_value_faults scope kind n e = if is_truth kind then condition_faults fields with_both scope n e else control_faults fields with_both scope n e
+  abbrev pub kind_faults : Reads → Scope → Kind → ℕ → Tree → List Fault
+  kind_faults may scope kind n e = if is_truth kind then condition_faults fields may scope n e else control_faults fields may scope n e
 
   abbrev pub value_faults : Scope → ParamKind → ℕ → Tree → List Fault
-  value_faults scope (ControlParam kind) n e = kind_value_faults scope kind n e
+  value_faults scope (ControlParam kind) n e = kind_faults with_both scope kind n e
   value_faults scope (TensorParam cell dims memory) n e = tensor_faults scope cell (length dims) n e
   value_faults scope (WindowParam cell dims memory) n e = strided_faults scope cell (length dims) n n e
 
@@ -138,10 +158,6 @@ module _ (fields : List ConfigField) where
   arguments_of scope (p ∷ ps) (a ∷ args) = argument_of scope p.kind a ∷ arguments_of scope ps args
 
   -- ---- calls
-
-  -- a part of a buffer that was passed before, where the callee writes or reduces one of the two parameters
-  abbrev pub is_passed : Bool → Option ℕ → List Passed → Bool
-  is_passed written r passed = list_any (λ q. same_root (field_kind fields) q.root r && (q.written || written)) passed
 
   -- as many as there are both parameters and arguments, with a token between two; passed are those before
   abbrev pub arguments_faults : (ℕ → Bool) → Scope → (ℕ → ℕ) → List Passed → List Param → ℕ → List Argument → List Fault

@@ -6,17 +6,14 @@ use Rattle.exo_meaning.specs.Units.{Scope, with_name, scope_of, param_sort, plai
 use Rattle.exo_reader.specs.Expression.{Tree}
 use Rattle.exo_source.specs.Source as source
 use Rattle.exo_source.specs.Source.{TypeName, Form, plain, strided, Parameter, Definition}
-use Rattle.exo_source.specs.Parts.{parameter, parameters}
-use Rattle.exo_source.specs.Items.{assertion}
-use Rattle.phrases.specs.Sequence.{spell_all}
 use Rattle.exo_names.specs.declared.error.TypeKind.TheVariants.{Redefined, KindMismatch}
 use Rattle.exo_names.specs.declared.fault.Fault.{Fault}
 use Rattle.exo_names.specs.Faults.{fault, unless, least, or_else}
-use Rattle.exo_names.specs.ExpressionRules.{width, controls_faults, condition_faults}
+use Rattle.exo_names.specs.ExpressionRules.{width, closed_width, controls_faults, condition_faults}
 use Rattle.exo_names.specs.Resolved.{controls_of, condition_of}
-use Rattle.exo_types.specs.TypeRules.{kind_named, cell_faults, kind_faults, cell_of, kind_of, binder, binder_faults, memory_faults, memory_of}
-use Rattle.exo_types.specs.ArgumentRules.{Signature, dims_width}
-use Rattle.exo_types.specs.StatementRules.{block_of, block_fault}
+use Rattle.exo_types.specs.TypeRules.{kind_named, cell_faults, kind_faults, cell_of, kind_of, binder, binder_faults, memory_faults, memory_of, memory_width}
+use Rattle.exo_types.specs.ArgumentRules.{Signature, dims_width, comma_width}
+use Rattle.exo_types.specs.StatementRules.{block_width, block_of, block_fault}
 
 -- ---- parameters
 
@@ -25,12 +22,40 @@ abbrev pub no_memory_faults : List (List ℕ) → ℕ → Option (List ℕ) → 
 no_memory_faults memories n None = []
 no_memory_faults memories n (Some x) = memory_faults memories n (Some x) ++ fault KindMismatch (n + 1)
 
+-- ---- how many tokens there are
+
+abbrev pub form_width : Form → ℕ
+form_width (plain type ds) = 1 + dims_width ds
+form_width (strided type ds) = 4 + closed_width ds
+
+abbrev pub parameter_width : Parameter → ℕ
+parameter_width p = 2 + form_width p.form + memory_width p.memory
+
+-- parameters with the token behind each
+abbrev pub spaced_params : List Parameter → ℕ
+spaced_params [] = 0
+spaced_params (p ∷ more) = parameter_width p + suc (spaced_params more)
+
+-- parameters and the parenthesis that closes them; a comma behind the last one is not counted
+abbrev pub params_width : List Parameter → ℕ
+params_width [] = 1
+params_width (p ∷ more) = spaced_params (p ∷ more)
+
+-- `assert`, a condition and a line end each
+abbrev pub asserts_width : List Tree → ℕ
+asserts_width [] = 0
+asserts_width (e ∷ es) = width e + 2 + asserts_width es
+
 -- the number of the first token of the assertions, and of the body; n is that of `def`
 abbrev pub asserts_start : ℕ → Definition → ℕ
-asserts_start n d = n + 3 + length (parameters.spell (d.params, d.trailing)) + 4
+asserts_start n d = n + 3 + params_width d.params + comma_width d.trailing + 3
 
 abbrev pub body_start : ℕ → Definition → ℕ
-body_start n d = asserts_start n d + length (spell_all assertion d.asserts)
+body_start n d = asserts_start n d + asserts_width d.asserts
+
+-- the number of the token behind a definition
+abbrev pub definition_end : ℕ → Definition → ℕ
+definition_end n d = body_start n d + block_width (source.block_of d.body) + 1
 
 module _ (fields : List ConfigField) (memories : List (List ℕ)) where
   -- a type without dimensions: a control value, or a single cell
@@ -70,11 +95,10 @@ module _ (fields : List ConfigField) (memories : List (List ℕ)) where
   params_fault id scope n [] = None
   params_fault id scope n (p ∷ ps) =
       or_else (least (binder_faults scope n p.name ++ form_faults scope (n + 2) p.form p.memory))
-      (params_fault (suc id) (with_param scope (param_of id scope p)) (n + length (parameter.spell p) + 1) ps)
+      (params_fault (suc id) (with_param scope (param_of id scope p)) (n + parameter_width p + 1) ps)
 
   -- ---- procedures and instructions
 
-  -- `assert`, a condition and a line end each
   abbrev pub assertions_fault : Scope → ℕ → List Tree → Option Fault
   assertions_fault scope n [] = None
   assertions_fault scope n (e ∷ es) =

@@ -7,3 +7,4 @@ pub mod UnitRules
 pub mod UnitLines
 pub mod Typed
 pub mod Refusals
+pub mod Seen

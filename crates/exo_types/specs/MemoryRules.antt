@@ -5,7 +5,7 @@ use Rattle.exo_tree.specs.Tree.{MemoryKind}
 use Rattle.exo_meaning.specs.Units.{is_text, is_memory}
 use Rattle.exo_lexer.specs.declared.token.Literal.TheVariants.{Value, TooLarge}
 use Rattle.exo_source.specs.Source.{Setting, strings, int, yes, no, Attribute}
-use Rattle.exo_source.specs.Items.{joined, attribute}
+use Rattle.exo_source.specs.Items.{joined}
 use Rattle.exo_names.specs.declared.error.TypeKind.TheVariants.{UnknownName, Redefined, KindMismatch}
 use Rattle.exo_names.specs.declared.fault.Fault.{Fault}
 use Rattle.exo_names.specs.Faults.{fault, unless, least, or_else}
@@ -85,13 +85,27 @@ abbrev pub trait_faults : Option Trait → ℕ → Setting → List Fault
 trait_faults None n v = fault UnknownName n
 trait_faults (Some t) n v = unless (has_form t v) KindMismatch n
 
+-- how many tokens the value of an attribute has, and an attribute
+abbrev pub setting_width : Setting → ℕ
+setting_width (strings pieces) = length pieces
+setting_width (int k) = 1
+setting_width yes = 1
+setting_width no = 1
+
+abbrev pub attribute_width : Attribute → ℕ
+attribute_width a = 2 + setting_width a.value + 1
+
+abbrev pub attributes_width : List Attribute → ℕ
+attributes_width [] = 0
+attributes_width (a ∷ more) = attribute_width a + attributes_width more
+
 -- both are charged at the attribute's name; given are the names before
 abbrev pub attribute_faults : List (List ℕ) → ℕ → Attribute → List Fault
 attribute_faults given n a = trait_faults (trait_named a.name) n a.value ++ unless (not (list_any (λ x. is_text x a.name) given)) Redefined n
 
 abbrev pub attributes_fault : List (List ℕ) → ℕ → List Attribute → Option Fault
 attributes_fault given n [] = None
-attributes_fault given n (a ∷ more) = or_else (least (attribute_faults given n a)) (attributes_fault (given ++ a.name ∷ []) (n + length (attribute.spell a)) more)
+attributes_fault given n (a ∷ more) = or_else (least (attribute_faults given n a)) (attributes_fault (given ++ a.name ∷ []) (n + attribute_width a) more)
 
 -- where each attribute keeps its own rules, they keep the one on lanes together, else the memory's name is charged, token n
 abbrev pub lanes_faults : Option Fault → ℕ → MemoryKind → List Fault

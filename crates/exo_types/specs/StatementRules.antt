@@ -4,25 +4,40 @@ use Rattle.std.specs.Prelude.{ℕ, suc, ◌+◌, if◌then◌else◌, List, [], 
 use Rattle.exo_tree.specs.Tree as tree
 use Rattle.exo_tree.specs.Tree.{Kind, Index, ConfigField}
 use Rattle.exo_meaning.specs.Run.{roots_after}
-use Rattle.exo_meaning.specs.Units.{ControlName, Scope, with_name, scope_after, plainly, with_fields, with_strides, is_truth}
+use Rattle.exo_meaning.specs.Units.{ControlName, Scope, with_name, scope_after, plainly, with_fields, with_strides}
 use Rattle.exo_reader.specs.Expression.{Tree}
 use Rattle.exo_source.specs.Source.{Statement, pass, branch, loop, allocate, call, configure, assign, reduce, view, Block, end, next}
-use Rattle.exo_source.specs.Statements.{spelling, spelling_all}
 use Rattle.exo_names.specs.declared.error.TypeKind.TheVariants.{UnknownName}
 use Rattle.exo_names.specs.declared.fault.Fault.{Fault}
 use Rattle.exo_names.specs.Faults.{fault, least, or_else}
 use Rattle.exo_names.specs.Names.{id_in, field_in, name_number, no_id}
 use Rattle.exo_names.specs.ExpressionRules.{width, is_buffer, control_faults, controls_faults, condition_faults, data_faults}
-use Rattle.exo_names.specs.WindowRules.{window_faults, coordinates_of}
+use Rattle.exo_names.specs.WindowRules.{coordinates_width, window_faults, coordinates_of}
 use Rattle.exo_names.specs.Resolved.{control_of, condition_of, controls_of, datum_of, field_number}
-use Rattle.exo_types.specs.TypeRules.{cell_faults, cell_of, binder, binder_faults, memory_faults, memory_of, number_or}
-use Rattle.exo_types.specs.ArgumentRules.{Signature, dims_width, points, arguments_of, call_faults, params_of}
+use Rattle.exo_types.specs.TypeRules.{cell_faults, cell_of, binder, binder_faults, memory_faults, memory_of, memory_width, number_or}
+use Rattle.exo_types.specs.ArgumentRules.{Signature, dims_width, arguments_width, comma_width, points, kind_faults, kind_value_of, arguments_of, call_faults, params_of}
 
-abbrev pub statement_width : Statement → ℕ
-statement_width s = length (spelling s)
+-- how many tokens statements have, and blocks without what stands around them
+abbrev mutual
+  pub statement_width : Statement → ℕ
+  statement_width pass = 2
+  statement_width (branch c a b) = 1 + width c + 3 + block_width a + 1 + else_width b
+  statement_width (loop i low high a) = 5 + width low + 1 + width high + 4 + block_width a + 1
+  statement_width (allocate x type ds m) = 3 + dims_width ds + memory_width m + 1
+  statement_width (call f args trailing) = 2 + arguments_width args + comma_width trailing + 1
+  statement_width (configure c x e) = 4 + width e + 1
+  statement_width (assign x ds e) = 1 + dims_width ds + 1 + width e + 1
+  statement_width (reduce x ds e) = 1 + dims_width ds + 1 + width e + 1
+  statement_width (view w x cs) = 4 + coordinates_width cs + 1
 
-abbrev pub block_width : Block → ℕ
-block_width b = length (spelling_all b)
+  pub block_width : Block → ℕ
+  block_width end = 0
+  block_width (next s more) = statement_width s + block_width more
+
+  -- `else`, a colon, a line end and an indentation, and the end of the block
+  pub else_width : Block → ℕ
+  else_width end = 0
+  else_width (next s more) = 4 + (statement_width s + block_width more) + 1
 
 -- how many names a statement or a block binds
 abbrev mutual
@@ -43,19 +58,20 @@ abbrev mutual
 
 module _ (fields : List ConfigField) where
   -- ---- configuration writes: a condition where the field is a `bool`; right is the number of the right side's first token
-  abbrev pub kind_write_faults : Scope → Kind → ℕ → Tree → List Fault
-  kind_write_faults scope kind right e = if is_truth kind then condition_faults fields with_strides scope right e else control_faults fields with_strides scope right e
-
   abbrev pub write_faults : Option (ℕ × Kind) → Scope → ℕ → ℕ → Tree → List Fault
   write_faults None scope n right e = fault UnknownName n
-  write_faults (Some f) scope n right e = kind_write_faults scope f.1 right e
-
-  abbrev pub kind_written_of : Scope → Kind → Tree → tree.Argument
-  kind_written_of scope kind e = if is_truth kind then tree.ConditionArg (condition_of fields scope e) else tree.ControlArg (control_of fields scope e)
+  write_faults (Some f) scope n right e = kind_faults fields with_strides scope f.1 right e
 
   abbrev pub written_of : Option (ℕ × Kind) → Scope → Tree → tree.Argument
   written_of None scope e = tree.ControlArg (control_of fields scope e)
-  written_of (Some f) scope e = kind_written_of scope f.1 e
+  written_of (Some f) scope e = kind_value_of fields scope f.1 e
+
+  -- the left side of an assignment: its name, the number of its indices and each of them are tested by themselves
+  abbrev pub target_faults : Scope → ℕ → List ℕ → List Tree → List Fault
+  target_faults scope n x ds = window_faults fields is_buffer scope n x (points ds)
+
+  abbrev pub store_faults : Scope → ℕ → List ℕ → List Tree → Tree → List Fault
+  store_faults scope n x ds e = target_faults scope n x ds ++ data_faults fields scope (n + 1 + dims_width ds + 1) e
 
   -- the names of the memories, and the names and signatures of the procedures that stand above
   module _ (memories above : List (List ℕ)) (signatures : List Signature) where
@@ -87,13 +103,6 @@ module _ (fields : List ConfigField) where
           tree.next t (block_of (id + bound s) (scope_after t scope) more)
 
     -- ---- rules
-
-    -- the left side of an assignment: its name, the number of its indices and each of them are tested by themselves
-    abbrev pub target_faults : Scope → ℕ → List ℕ → List Tree → List Fault
-    target_faults scope n x ds = window_faults fields is_buffer scope n x (points ds)
-
-    abbrev pub store_faults : Scope → ℕ → List ℕ → List Tree → Tree → List Fault
-    store_faults scope n x ds e = target_faults scope n x ds ++ data_faults fields scope (n + 1 + dims_width ds + 1) e
 
     -- the rules that a statement breaks, but for those inside its blocks; a loop's bounds do not see its variable
     abbrev pub own_faults : Scope → (ℕ → ℕ) → ℕ → Statement → List Fault

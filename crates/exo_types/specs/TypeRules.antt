@@ -1,13 +1,13 @@
 -- The rules on types, binders and memories, where parameters and statements name them. n is the number of the first token.
 use Rattle.std.specs.Prelude.{ℕ, ◌+◌, Bool, not, if◌then◌else◌, List, [], codes, Option, Some, None}
-use Rattle.std.specs.List.{list_any}
+use Rattle.std.specs.Option.{is_some}
 use Rattle.exo_tree.specs.Tree.{Kind, Size, Index, Truth, Stride, Cell, I8, I32, Binder}
 use Rattle.exo_meaning.specs.Units.{Scope, is_text}
 use Rattle.exo_source.specs.Source.{TypeName, stride, named}
 use Rattle.exo_names.specs.declared.error.TypeKind.TheVariants.{UnknownName, Redefined, KindMismatch}
 use Rattle.exo_names.specs.declared.fault.Fault.{Fault}
 use Rattle.exo_names.specs.Faults.{fault, unless}
-use Rattle.exo_names.specs.Names.{name_number}
+use Rattle.exo_names.specs.Names.{named_in, name_number}
 
 -- ---- types
 
@@ -57,7 +57,7 @@ binder id x = record { id = id; name = x }
 
 -- the name is given already in its procedure
 abbrev pub is_taken : Scope → List ℕ → Bool
-is_taken scope x = list_any (λ known. is_text known.binder.name x) scope
+is_taken scope x = is_some (named_in scope x)
 
 abbrev pub binder_faults : Scope → ℕ → List ℕ → List Fault
 binder_faults scope n x = unless (not (is_taken scope x)) Redefined n
@@ -80,3 +80,8 @@ number_or d (Some m) = m
 abbrev pub memory_of : List (List ℕ) → Option (List ℕ) → ℕ
 memory_of memories None = 0
 memory_of memories (Some x) = number_or 0 (name_number memories x)
+
+-- `@` and a name, or nothing
+abbrev pub memory_width : Option (List ℕ) → ℕ
+memory_width None = 0
+memory_width (Some x) = 2

@@ -4,7 +4,7 @@ use Rattle.exo_tree.specs.declared.lines.ProcLines.{ProcLines}
 use Rattle.exo_lexer.specs.declared.place.Place.{Place}
 use Rattle.exo_source.specs.Source as source
 use Rattle.exo_source.specs.Source.{Statement, pass, branch, loop, allocate, call, configure, assign, reduce, view, Block, end, next, Definition, Item, procedure, instruction, configuration, memory}
-use Rattle.exo_source.specs.Items.{item}
+use Rattle.exo_types.specs.UnitRules.{item_width}
 use Rattle.exo_names.specs.ExpressionRules.{width}
 use Rattle.exo_types.specs.StatementRules.{statement_width, block_width}
 use Rattle.exo_types.specs.ItemRules.{body_start}
@@ -49,7 +49,7 @@ lines_of_item places n (memory x settings) = []
 -- one entry for each procedure and instruction, in their order
 abbrev pub lines_from : List Place → ℕ → List Item → List ProcLines
 lines_from places n [] = []
-lines_from places n (i ∷ more) = lines_of_item places n i ++ lines_from places (n + length (item.spell i)) more
+lines_from places n (i ∷ more) = lines_of_item places n i ++ lines_from places (n + item_width i) more
 
 abbrev pub lines_of : List Place → List Item → List ProcLines
 lines_of places items = lines_from places 0 items

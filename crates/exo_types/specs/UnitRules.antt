@@ -1,5 +1,5 @@
 -- The rules on what stands at the top level, and the unit that a text stands for. n is the number of the first token.
-use Rattle.std.specs.Prelude.{ℕ, ◌+◌, Bool, not, ◌||◌, List, [], ◌∷◌, ◌++◌, length, map, Option, Some, None}
+use Rattle.std.specs.Prelude.{ℕ, ◌+◌, ◌*◌, Bool, not, ◌||◌, List, [], ◌∷◌, ◌++◌, length, map, Option, Some, None}
 use Rattle.std.specs.List.{list_any}
 use Rattle.exo_tree.specs.Tree.{Procedure, Program}
 use Rattle.exo_meaning.specs.Calls.{Callee}
@@ -7,14 +7,14 @@ use Rattle.exo_meaning.specs.Run.{world_of, callee_in, kinds_of}
 use Rattle.exo_meaning.specs.Units.{is_text, is_template}
 use Rattle.exo_source.specs.Source as source
 use Rattle.exo_source.specs.Source.{Definition, Item, procedure, instruction, configuration, memory}
-use Rattle.exo_source.specs.Items.{joined, item}
+use Rattle.exo_source.specs.Items.{joined}
 use Rattle.exo_names.specs.declared.error.TypeKind.TheVariants.{UnknownName, Redefined}
 use Rattle.exo_names.specs.declared.fault.Fault.{Fault}
 use Rattle.exo_names.specs.Faults.{unless, least, or_else}
 use Rattle.exo_types.specs.ArgumentRules.{Signature, signature_of}
 use Rattle.exo_types.specs.StatementRules.{bound_in}
-use Rattle.exo_types.specs.ItemRules.{definition_of, definition_fault, field_of, fields_fault}
-use Rattle.exo_types.specs.MemoryRules.{dram, plain_memory, with_attributes, attributes_fault, lanes_faults}
+use Rattle.exo_types.specs.ItemRules.{definition_end, definition_of, definition_fault, field_of, fields_fault}
+use Rattle.exo_types.specs.MemoryRules.{dram, plain_memory, with_attributes, attributes_fault, lanes_faults, attributes_width}
 
 -- what stands above an item: the unit so far, its procedures as callees, and the id of the next binder
 pub record Above : Type 0 where
@@ -56,6 +56,13 @@ procedure_fault above n d =
 abbrev pub template_faults : Above → ℕ → List (List ℕ) → Definition → List Fault
 template_faults above n template d = unless (is_template (procedure_here above None d).params (Some (joined template))) UnknownName n
 
+-- how many tokens an item has
+abbrev pub item_width : Item → ℕ
+item_width (procedure d) = definition_end 2 d
+item_width (instruction template d) = definition_end (2 + length template + 2) d
+item_width (configuration x fs) = 7 + 4 * length fs + 1
+item_width (memory x settings) = 7 + attributes_width settings + 1
+
 -- the first rule that an item breaks
 abbrev pub item_fault : Above → ℕ → Item → Option Fault
 item_fault above n (procedure d) = procedure_fault above (n + 2) d
@@ -89,7 +96,7 @@ after_items above (i ∷ more) = after_items (after_item above i) more
 -- an item's names are seen below it alone
 abbrev pub items_fault : Above → ℕ → List Item → Option Fault
 items_fault above n [] = None
-items_fault above n (i ∷ more) = or_else (item_fault above n i) (items_fault (after_item above i) (n + length (item.spell i)) more)
+items_fault above n (i ∷ more) = or_else (item_fault above n i) (items_fault (after_item above i) (n + item_width i) more)
 
 -- the first rule that a unit breaks, and the unit that it stands for where it breaks none
 abbrev pub unit_fault : List Item → Option Fault

@@ -1,4 +1,18 @@
 //! Arguments of calls.
+ghost use Rattle.std.specs.Prelude.{◌≡◌, ◌+◌, ◌≤◌, ◌==◌, ◌&&◌, Bool, Option, None, Some, map, length, option_map, IfOk};
+ghost use Rattle.exo_tree.specs.PlainBinder.{cell_type, control_kind};
+ghost use Rattle.exo_tree.specs.PlainParam.{parameter_kind};
+ghost use Rattle.exo_tree.specs.PlainArgument.{argument};
+ghost use Rattle.exo_meaning.specs.Units as units;
+ghost use Rattle.exo_reader.specs.Views.{tree_of};
+ghost use Rattle.exo_source.specs.Views.{plain_coordinate, plain_argument};
+ghost use Rattle.exo_names.specs.Faults.{charged};
+ghost use Rattle.exo_names.specs.Names.{named_in, sort_of};
+ghost use Rattle.exo_names.specs.Tests.{sort_seen, reads, most_tokens};
+ghost use Rattle.exo_names.specs.ExpressionRules.{width, closed_width};
+ghost use Rattle.exo_names.specs.WindowRules.{window_faults, coordinates_width, coordinates_of};
+ghost use Rattle.exo_writes.specs.Written.{roots_in};
+ghost use Rattle.exo_types.specs.ArgumentRules as rules;
 
 use exo_names::resolved::{NO_ID, condition_of, control_of, coordinates_of, id_in};
 use exo_names::window::test_window;
@@ -16,7 +30,9 @@ use exo_writes::roots::{Alias, root};
 use std::alloc::{AllocError, Global};
 
 /// How many coordinates are spans.
-pub fn spans(coords: &[SourceCoord]) -> usize {
+pub fn spans(coords: &[SourceCoord]) -> usize
+    ensures { result ≡ rules.spans (map plain_coordinate coords.now) }
+{
     let mut count = 0;
     for coord in coords {
         if let SourceCoord::Span(_, _) = coord {
@@ -27,7 +43,9 @@ pub fn spans(coords: &[SourceCoord]) -> usize {
 }
 
 /// Whether it is a buffer or view of that cell type.
-fn has_cell(cell: Cell, sort: Option<Sort>) -> bool {
+fn has_cell(cell: Cell, sort: Option<Sort>) -> bool
+    ensures { result ≡ units.has_cell (cell_type cell) (sort_seen sort) }
+{
     match sort {
         Some(Sort::Buffer(known, _, _)) => known == cell,
         _ => false,
@@ -35,15 +53,33 @@ fn has_cell(cell: Cell, sort: Option<Sort>) -> bool {
 }
 
 /// Whether it is a whole dense tensor.
-fn is_dense(sort: Option<Sort>) -> bool {
+fn is_dense(sort: Option<Sort>) -> bool
+    ensures { result ≡ units.is_dense (sort_seen sort) }
+{
     match sort {
         Some(Sort::Buffer(_, _, dense)) => dense,
         _ => false,
     }
 }
 
+/// Whether a tensor of that cell type and rank takes a whole buffer.
+fn takes_whole(cell: Cell, rank: usize, sort: Option<Sort>) -> bool
+    ensures { result ≡ rules.tensor_takes (cell_type cell) rank (sort_seen sort) }
+{
+    has_cell(cell, sort) && (rank == 0 || is_dense(sort))
+}
+
+/// Whether a tensor of that cell type and rank takes a single cell.
+fn takes_cell(cell: Cell, rank: usize, sort: Option<Sort>) -> bool
+    ensures { result ≡ rules.cell_takes (cell_type cell) rank (sort_seen sort) }
+{
+    has_cell(cell, sort) && rank == 0
+}
+
 /// Whether an expression is a name or a cell; parentheses are looked through.
-fn may_be_part(e: &SourceExpr) -> bool {
+fn may_be_part(e: &SourceExpr) -> bool
+    ensures { result ≡ rules.may_be_part (tree_of e.now) }
+{
     match e {
         SourceExpr::Name(_) | SourceExpr::Access(_, _) => true,
         SourceExpr::Parens(inner) => may_be_part(inner),
@@ -51,19 +87,20 @@ fn may_be_part(e: &SourceExpr) -> bool {
     }
 }
 
-/// The charge of a name of that sort for a whole buffer.
-fn whole_charge(sort: Option<Sort>, fits: bool, rank: usize, n: usize) -> Charge {
+/// The charge of a whole buffer of that rank.
+fn test_whole(names: &Names, fits: bool, n: usize, x: &Text, rank: usize) -> Charge
+    ensures { (test : Option units.Sort → Bool) → test (sort_of (named_in names.now.scope.now x.now)) ≡ fits → result ≡ charged (rules.whole_faults names.now.fields.now test names.now.scope.now n x.now rank) }
+{
+    let sort = names.scope.sort(x.as_str());
     name_charge(sort, fits, n).and(rank_charge(sort, rank, n))
 }
 
 /// The charge of a cell with its indices where a part of a buffer is asked.
-fn test_cell(
-    names: &Names,
-    sort: Option<Sort>,
-    fits: bool,
-    n: usize,
-    indices: &[SourceExpr],
-) -> Charge {
+fn test_cell(names: &Names, fits: bool, n: usize, x: &Text, indices: &[SourceExpr]) -> Charge
+    requires { n + 2 + closed_width (map tree_of indices.now) ≤ most_tokens }
+    ensures { (test : Option units.Sort → Bool) → test (sort_of (named_in names.now.scope.now x.now)) ≡ fits → result ≡ charged (window_faults names.now.fields.now test names.now.scope.now n x.now (rules.points (map tree_of indices.now))) }
+{
+    let sort = names.scope.sort(x.as_str());
     let name = name_charge(sort, fits, n);
     let rank = rank_charge(sort, indices.len(), n);
     let (parts, _end) = test_controls(names, PLAINLY, n + 2, indices);
@@ -71,17 +108,18 @@ fn test_cell(
 }
 
 /// The charge of an expression where a tensor is asked: a whole dense tensor, or a single cell for one of rank 0.
-fn test_tensor(names: &Names, cell: Cell, rank: usize, n: usize, e: &SourceExpr) -> Charge {
+fn test_tensor(names: &Names, cell: Cell, rank: usize, n: usize, e: &SourceExpr) -> Charge
+    requires { n + width (tree_of e.now) ≤ most_tokens }
+    ensures { result ≡ charged (rules.tensor_faults names.now.fields.now names.now.scope.now (cell_type cell) rank n (tree_of e.now)) }
+{
     match e {
         SourceExpr::Name(x) => {
             let sort = names.scope.sort(x.as_str());
-            let fits = has_cell(cell, sort) && (rank == 0 || is_dense(sort));
-            whole_charge(sort, fits, rank, n)
+            test_whole(names, takes_whole(cell, rank, sort), n, x, rank)
         }
         SourceExpr::Access(x, indices) => {
             let sort = names.scope.sort(x.as_str());
-            let fits = has_cell(cell, sort) && rank == 0;
-            test_cell(names, sort, fits, n, indices)
+            test_cell(names, takes_cell(cell, rank, sort), n, x, indices)
         }
         SourceExpr::Parens(inner) if may_be_part(inner) => {
             test_tensor(names, cell, rank, n + 1, inner)
@@ -98,15 +136,18 @@ fn test_strided(
     first: usize,
     n: usize,
     e: &SourceExpr,
-) -> Charge {
+) -> Charge
+    requires { n + width (tree_of e.now) ≤ most_tokens }
+    ensures { result ≡ charged (rules.strided_faults names.now.fields.now names.now.scope.now (cell_type cell) rank first n (tree_of e.now)) }
+{
     match e {
         SourceExpr::Name(x) => {
             let sort = names.scope.sort(x.as_str());
-            whole_charge(sort, has_cell(cell, sort), rank, n)
+            test_whole(names, has_cell(cell, sort), n, x, rank)
         }
         SourceExpr::Access(x, indices) => {
             let sort = names.scope.sort(x.as_str());
-            let part = test_cell(names, sort, has_cell(cell, sort), n, indices);
+            let part = test_cell(names, has_cell(cell, sort), n, x, indices);
             part.and(Charge::unless(rank == 0, TypeKind::RankMismatch, first))
         }
         SourceExpr::Parens(inner) if may_be_part(inner) => {
@@ -117,7 +158,11 @@ fn test_strided(
 }
 
 /// The test of a control value of a kind: a condition for a `bool`, else a number.
-pub fn test_kind(names: &Names, may: Reads, kind: Kind, n: usize, e: &SourceExpr) -> Tested {
+pub fn test_kind(names: &Names, may: Reads, kind: Kind, n: usize, e: &SourceExpr) -> Tested
+    requires { n + width (tree_of e.now) ≤ most_tokens }
+    ensures charge { result.charge ≡ charged (rules.kind_faults names.now.fields.now (reads may) names.now.scope.now (control_kind kind) n (tree_of e.now)) }
+    ensures end { result.end ≡ n + width (tree_of e.now) }
+{
     match kind {
         Kind::Bool => test_condition(names, may, n, e),
         _ => test_control(names, may, n, e),
@@ -125,7 +170,10 @@ pub fn test_kind(names: &Names, may: Reads, kind: Kind, n: usize, e: &SourceExpr
 }
 
 /// The charge of an expression where a parameter of a kind is asked.
-fn test_value(names: &Names, kind: &ParamKind, n: usize, e: &SourceExpr) -> Charge {
+fn test_value(names: &Names, kind: &ParamKind, n: usize, e: &SourceExpr) -> Charge
+    requires { n + width (tree_of e.now) ≤ most_tokens }
+    ensures { result ≡ charged (rules.value_faults names.now.fields.now names.now.scope.now (parameter_kind kind.now) n (tree_of e.now)) }
+{
     match kind {
         ParamKind::Ctrl(kind) => test_kind(names, WITH_BOTH, *kind, n, e).charge,
         ParamKind::Tensor(cell, dims, _) => test_tensor(names, *cell, dims.len(), n, e),
@@ -140,7 +188,11 @@ fn test_view(
     n: usize,
     x: &Text,
     coords: &[SourceCoord],
-) -> (Charge, usize) {
+) -> (Charge, usize)
+    requires { n + 2 + coordinates_width (map plain_coordinate coords.now) ≤ most_tokens }
+    ensures charge { result.0 ≡ charged (rules.view_faults names.now.fields.now names.now.scope.now (parameter_kind kind.now) n x.now (map plain_coordinate coords.now)) }
+    ensures end { result.1 ≡ n + 2 + coordinates_width (map plain_coordinate coords.now) }
+{
     let sort = names.scope.sort(x.as_str());
     match kind {
         ParamKind::Ctrl(_) => {
@@ -148,7 +200,7 @@ fn test_view(
             (name_charge(sort, false, n), end)
         }
         ParamKind::Tensor(cell, dims, _) => {
-            let fits = has_cell(*cell, sort) && dims.len() == 0;
+            let fits = takes_cell(*cell, dims.len(), sort);
             let (parts, end) = test_window(names, fits, n, x.as_str(), coords);
             let same = spans(coords) == dims.len();
             (parts.and(Charge::unless(same, TypeKind::RankMismatch, n)), end)
@@ -166,16 +218,22 @@ pub fn test_argument(
     names: &Names,
     kind: &ParamKind,
     n: usize,
-    argument: &SourceArg,
-) -> (Charge, usize) {
-    match argument {
+    given: &SourceArg,
+) -> (Charge, usize)
+    requires { n + rules.argument_width (plain_argument given.now) ≤ most_tokens }
+    ensures charge { result.0 ≡ charged (rules.argument_faults names.now.fields.now names.now.scope.now (parameter_kind kind.now) n (plain_argument given.now)) }
+    ensures end { result.1 ≡ n + rules.argument_width (plain_argument given.now) }
+{
+    match given {
         SourceArg::Value(e) => (test_value(names, kind, n, e), end_of(e, n)),
         SourceArg::Window(x, coords) => test_view(names, kind, n, x, coords),
     }
 }
 
 /// The buffer that an expression for a buffer is a part of.
-fn part_root(names: &Names, aliases: &[Alias], e: &SourceExpr) -> u32 {
+fn part_root(names: &Names, aliases: &[Alias], e: &SourceExpr) -> u32
+    ensures { Some result ≡ units.root_of (units.field_kind names.now.fields.now) (roots_in aliases.now) (rules.part_of names.now.fields.now names.now.scope.now (tree_of e.now)) }
+{
     match e {
         SourceExpr::Name(x) => root(aliases, id_in(names, x.as_str()).0),
         SourceExpr::Access(x, _) => root(aliases, id_in(names, x.as_str()).0),
@@ -189,9 +247,11 @@ pub fn root_of(
     names: &Names,
     aliases: &[Alias],
     kind: &ParamKind,
-    argument: &SourceArg,
-) -> Option<u32> {
-    match argument {
+    given: &SourceArg,
+) -> Option<u32>
+    ensures { result ≡ units.root_of (units.field_kind names.now.fields.now) (roots_in aliases.now) (rules.argument_of names.now.fields.now names.now.scope.now (parameter_kind kind.now) (plain_argument given.now)) }
+{
+    match given {
         SourceArg::Value(e) => match kind {
             ParamKind::Ctrl(_) => None,
             _ => Some(part_root(names, aliases, e)),
@@ -205,7 +265,9 @@ fn points_of(
     alloc: Global,
     names: &Names,
     indices: &[SourceExpr],
-) -> Result<Coords, AllocError> {
+) -> Result<Coords, AllocError>
+    ensures { IfOk result (λ l. l ≡ coordinates_of names.now.fields.now names.now.scope.now (rules.points (map tree_of indices.now))) }
+{
     let mut made = Coords::new(alloc);
     for e in indices {
         made.push(Coord::At(control_of(alloc, names, e)?))?;
@@ -214,7 +276,9 @@ fn points_of(
 }
 
 /// A part of a buffer as a tree.
-fn part_of(alloc: Global, names: &Names, e: &SourceExpr) -> Result<Arg, AllocError> {
+fn part_of(alloc: Global, names: &Names, e: &SourceExpr) -> Result<Arg, AllocError>
+    ensures { IfOk result (λ a. argument a ≡ rules.part_of names.now.fields.now names.now.scope.now (tree_of e.now)) }
+{
     match e {
         SourceExpr::Name(x) => Ok(Arg::Whole(id_in(names, x.as_str()))),
         SourceExpr::Access(x, indices) => {
@@ -231,7 +295,9 @@ pub fn kind_of(
     names: &Names,
     kind: Kind,
     e: &SourceExpr,
-) -> Result<Arg, AllocError> {
+) -> Result<Arg, AllocError>
+    ensures { IfOk result (λ a. argument a ≡ rules.kind_value_of names.now.fields.now names.now.scope.now (control_kind kind) (tree_of e.now)) }
+{
     match kind {
         Kind::Bool => Ok(Arg::Cond(condition_of(alloc, names, e)?)),
         _ => Ok(Arg::Ctrl(control_of(alloc, names, e)?)),
@@ -243,9 +309,11 @@ pub fn argument_of(
     alloc: Global,
     names: &Names,
     kind: &ParamKind,
-    argument: &SourceArg,
-) -> Result<Arg, AllocError> {
-    match argument {
+    given: &SourceArg,
+) -> Result<Arg, AllocError>
+    ensures { IfOk result (λ a. argument a ≡ rules.argument_of names.now.fields.now names.now.scope.now (parameter_kind kind.now) (plain_argument given.now)) }
+{
+    match given {
         SourceArg::Value(e) => match kind {
             ParamKind::Ctrl(kind) => kind_of(alloc, names, *kind, e),
             _ => part_of(alloc, names, e),

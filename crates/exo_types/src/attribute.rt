@@ -1,13 +1,13 @@
 //! Classes of memories and their attributes.
-ghost use Rattle.std.specs.Prelude.{◌≡◌, ◌≤◌, ◌+◌, [], length, IfOk, OnOk, map};
-ghost use Rattle.phrases.specs.Sequence.{spell_all};
+ghost use Rattle.std.specs.Prelude.{◌≡◌, ◌≤◌, ◌+◌, [], None, IfOk, OnOk, map};
 ghost use Rattle.std.specs.List.{list_any};
 ghost use Rattle.exo_tree.specs.PlainTables.{memory_kind};
 ghost use Rattle.exo_meaning.specs.Units.{is_text, is_memory};
-ghost use Rattle.exo_source.specs.Items as grammar;
+ghost use Rattle.exo_source.specs.Items.{joined};
+ghost use Rattle.exo_names.specs.Tests.{most_tokens};
 ghost use Rattle.exo_source.specs.Views.{plain_setting, plain_attribute};
 ghost use Rattle.exo_names.specs.Faults.{charged};
-ghost use Rattle.exo_types.specs.MemoryRules.{plain_memory, trait_named, text_of, is_strings, is_truth_value, is_cell_word, is_place_word, is_lane_count, has_form, trait_faults, attribute_faults, attributes_fault, lanes_faults, count_of, truth_of, with_trait, with_attributes};
+ghost use Rattle.exo_types.specs.MemoryRules.{plain_memory, trait_named, text_of, is_strings, is_truth_value, is_cell_word, is_place_word, is_lane_count, has_form, trait_faults, attribute_faults, attribute_width, attributes_width, attributes_fault, lanes_faults, count_of, truth_of, with_trait, with_attributes};
 
 use crate::types::{cell_of_text, is_same};
 use exo_lexer::text as lexer;
@@ -63,7 +63,7 @@ fn trait_named(name: &[u8]) -> Option<Trait>
 
 /// Neighbouring strings as one.
 pub fn joined(alloc: Global, pieces: &[lexer::Text]) -> Result<Text, AllocError>
-    ensures { IfOk result (λ t. t ≡ grammar.joined pieces.now) }
+    ensures { IfOk result (λ t. t ≡ joined pieces.now) }
 {
     let mut whole = String::new(alloc);
     for piece in pieces {
@@ -185,8 +185,8 @@ fn attribute_charge(
 
 /// How many tokens an attribute has.
 fn width(attribute: &SourceAttribute) -> usize
-    requires { length (grammar.attribute.spell (plain_attribute attribute.now)) ≤ 0x100000 }
-    ensures { result ≡ length (grammar.attribute.spell (plain_attribute attribute.now)) }
+    requires { attribute_width (plain_attribute attribute.now) ≤ most_tokens }
+    ensures { result ≡ attribute_width (plain_attribute attribute.now) }
 {
     match &attribute.value {
         SourceValue::Strings(pieces) => pieces.len() + 3,
@@ -201,11 +201,13 @@ pub fn attributes_fault(
     attributes: &[SourceAttribute],
     n: usize,
 ) -> Result<(Option<Fault>, usize), AllocError>
-    requires { n + length (spell_all grammar.attribute (map plain_attribute attributes.now)) ≤ 0x100000 }
-    ensures { IfOk result (λ o. o.0 ≡ attributes_fault [] n (map plain_attribute attributes.now)) }
+    requires { n + attributes_width (map plain_attribute attributes.now) ≤ most_tokens }
+    ensures fault { IfOk result (λ o. o.0 ≡ attributes_fault [] n (map plain_attribute attributes.now)) }
+    ensures end { IfOk result (λ o. o.0 ≡ None → o.1 ≡ n + attributes_width (map plain_attribute attributes.now)) }
 {
     let mut next = n;
-    for (k, attribute) in attributes.iter().enumerate() {
+    for k in 0..attributes.len() {
+        let attribute = &attributes[k];
         let own = attribute_charge(alloc, &attributes[..k], attribute, next)?;
         if own.first.is_some() {
             return Ok((own.first, next));

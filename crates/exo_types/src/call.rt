@@ -1,4 +1,12 @@
 //! Calls of procedures that stand above.
+ghost use Rattle.std.specs.Prelude.{◌≡◌, ◌+◌, ◌≤◌, ◌||◌, [], map, length, option_map, IfOk};
+ghost use Rattle.exo_tree.specs.PlainParam.{parameter};
+ghost use Rattle.exo_source.specs.Views.{plain_argument};
+ghost use Rattle.exo_names.specs.Faults.{charged};
+ghost use Rattle.exo_names.specs.Tests.{most_tokens};
+ghost use Rattle.exo_writes.specs.Written.{roots_in, row_says};
+ghost use Rattle.exo_types.specs.ArgumentRules as rules;
+ghost use Rattle.exo_types.specs.Seen.{signature};
 
 use crate::argument::{argument_of, root_of, test_argument};
 use exo_names::error::TypeKind;
@@ -20,13 +28,15 @@ pub struct Callee<'c> {
 
 /// An argument that was passed: the buffer that it is a part of, and whether its parameter is written or reduced.
 #[derive(Clone, Copy)]
-struct Passed {
-    root: Option<u32>,
-    written: bool,
+pub struct Passed {
+    pub root: Option<u32>,
+    pub written: bool,
 }
 
 /// Whether both are parts of one buffer.
-fn same_root(one: Option<u32>, other: Option<u32>) -> bool {
+fn same_buffer(one: Option<u32>, other: Option<u32>) -> bool
+    ensures { result ≡ rules.same_buffer one other }
+{
     match (one, other) {
         (Some(x), Some(y)) => x == y,
         _ => false,
@@ -34,16 +44,19 @@ fn same_root(one: Option<u32>, other: Option<u32>) -> bool {
 }
 
 /// Whether a part of that buffer was passed before, and one of the two parameters is written.
-fn is_passed(passed: &[Passed], now: Passed) -> bool {
+fn is_passed(passed: &[Passed], now: Passed) -> bool
+    ensures { result ≡ rules.is_passed now.written now.root passed.now }
+{
     for before in passed {
-        if same_root(before.root, now.root) && (before.written || now.written) {
+        if same_buffer(before.root, now.root) && (before.written || now.written) {
             return true;
         }
     }
     false
 }
 
-/// What the arguments of a call break, the first of which begins at token `n`, and the number of the token behind the last.
+/// What the arguments of a call break, the first of which is token `n`, and the number of the token behind the one that is
+/// behind the last, where there are as many as parameters.
 fn test_arguments(
     alloc: Global,
     names: &Names,
@@ -51,30 +64,34 @@ fn test_arguments(
     callee: Callee,
     n: usize,
     arguments: &[SourceArg],
-) -> Result<(Charge, usize), AllocError> {
+) -> Result<(Charge, usize), AllocError>
+    requires { n + rules.spaced_width (map plain_argument arguments.now) ≤ most_tokens }
+    ensures charge { IfOk result (λ r. r.0 ≡ charged (rules.arguments_faults names.now.fields.now (signature callee.entry).writes names.now.scope.now (roots_in aliases.now) [] (signature callee.entry).params n (map plain_argument arguments.now))) }
+    ensures end { IfOk result (λ r. length arguments.now ≡ length (signature callee.entry).params → r.1 ≡ n + rules.spaced_width (map plain_argument arguments.now)) }
+{
     let params = callee.params.as_slice();
     let mut passed = Vec::new(alloc);
     let mut charge = Charge::none();
-    let mut last = n;
     let mut next = n;
     for k in 0..params.len().min(arguments.len()) {
         let param = &params[k];
+        let given = &arguments[k];
         let now = Passed {
-            root: root_of(names, aliases, &param.kind, &arguments[k]),
+            root: root_of(names, aliases, &param.kind, given),
             written: callee.writes.has(param.binder.id.0),
         };
-        let (own, end) = test_argument(names, &param.kind, next, &arguments[k]);
+        let (own, end) = test_argument(names, &param.kind, next, given);
         let shared = is_passed(&passed, now);
         let shares = Charge::unless(!shared, TypeKind::SharedArgument, next);
         charge = charge.and(own.and(shares));
         passed.push(now)?;
-        last = end;
         next = end + 1;
     }
-    Ok((charge, last))
+    Ok((charge, next))
 }
 
-/// What a call breaks, whose name is token `n`, and the number of the token behind its last argument.
+/// What a call breaks, whose name is token `n`, and the number of the token behind the parenthesis that closes its arguments,
+/// if no comma stands before it and there are as many as parameters.
 pub fn test_call(
     alloc: Global,
     names: &Names,
@@ -82,23 +99,30 @@ pub fn test_call(
     callee: Option<Callee>,
     n: usize,
     arguments: &[SourceArg],
-) -> Result<(Charge, usize), AllocError> {
+) -> Result<(Charge, usize), AllocError>
+    requires { n + 2 + rules.arguments_width (map plain_argument arguments.now) ≤ most_tokens }
+    ensures charge { IfOk result (λ r. r.0 ≡ charged (rules.call_faults names.now.fields.now (option_map signature callee.entry) names.now.scope.now (roots_in aliases.now) n (map plain_argument arguments.now))) }
+    ensures end { IfOk result (λ r. (length arguments.now ≡ length (rules.params_of (option_map signature callee.entry))) → r.1 ≡ n + 2 + rules.arguments_width (map plain_argument arguments.now)) }
+{
     let Some(callee) = callee else {
-        return Ok((Charge::of(TypeKind::UnknownName, n), n));
+        return Ok((Charge::of(TypeKind::UnknownName, n), n + 3));
     };
     let same = arguments.len() == callee.params.len();
     let count = Charge::unless(same, TypeKind::RankMismatch, n);
-    let (parts, end) = test_arguments(alloc, names, aliases, callee, n + 2, arguments)?;
+    let (parts, next) = test_arguments(alloc, names, aliases, callee, n + 2, arguments)?;
+    let end = if arguments.is_empty() { n + 3 } else { next };
     Ok((count.and(parts), end))
 }
 
-/// The arguments of a call as trees.
+/// The arguments of a call as trees, as many as there are both parameters and arguments.
 pub fn arguments_of(
     alloc: Global,
     names: &Names,
     params: &[Param],
     arguments: &[SourceArg],
-) -> Result<Args, AllocError> {
+) -> Result<Args, AllocError>
+    ensures { IfOk result (λ l. l ≡ rules.arguments_of names.now.fields.now names.now.scope.now (map parameter params.now) (map plain_argument arguments.now)) }
+{
     let mut made = Args::new(alloc);
     for k in 0..params.len().min(arguments.len()) {
         made.push(argument_of(alloc, names, &params[k].kind, &arguments[k])?)?;

@@ -3,12 +3,9 @@
 use crate::call::Callee;
 use exo_lexer::place::Place;
 use exo_lexer::text::Text;
-use exo_names::error::TypeKind;
-use exo_names::fault::Charge;
 use exo_names::scope::{Meant, Scope, Sort};
 use exo_names::table::{FieldTable, NameTable};
-use exo_names::tested::Names;
-use exo_tree::{Id, MemId, ProcId, StatementLines};
+use exo_tree::{Id, StatementLines};
 use exo_writes::roots::{Alias, root, set_root};
 use exo_writes::written::Above;
 use std::alloc::{AllocError, Global};
@@ -35,42 +32,6 @@ pub struct Walk<'c> {
     pub next_id: u32,
     /// The lines of the statements so far.
     pub lines: StatementLines,
-}
-
-/// The charge of a name that is given already in its procedure.
-pub fn binder_charge(scope: &Scope, name: &Text, n: usize) -> Charge {
-    let is_taken = scope.get(name.as_str()).is_some();
-    Charge::unless(!is_taken, TypeKind::Redefined, n)
-}
-
-/// The charge of the memory behind an `@`, which is token `n`.
-pub fn memory_charge(memories: &NameTable, n: usize, memory: &Option<Text>) -> Charge {
-    match memory {
-        None => Charge::none(),
-        Some(name) => {
-            let is_known = memories.get(name.as_str()).is_some();
-            Charge::unless(is_known, TypeKind::UnknownName, n + 1)
-        }
-    }
-}
-
-/// The number of the token behind a memory.
-pub fn end_of_memory(n: usize, memory: &Option<Text>) -> usize {
-    match memory {
-        None => n,
-        Some(_) => n + 2,
-    }
-}
-
-/// The memory that is named; the first one where none is.
-pub fn memory_of(memories: &NameTable, memory: &Option<Text>) -> MemId {
-    let Some(name) = memory else {
-        return MemId(0);
-    };
-    match memories.get(name.as_str()) {
-        Some(number) => MemId(number as u32),
-        None => MemId(0),
-    }
 }
 
 impl<'c> Context<'c> {

@@ -1,11 +1,10 @@
 //! Procedures and instructions: parameters, assertions and bodies.
 
-use crate::context::{
-    Context, Walk, binder_charge, end_of_memory, memory_charge, memory_of,
-};
+use crate::context::{Context, Walk};
+use crate::part::{binder_charge, end_of_memory, memory_charge, memory_of, test_dims};
 use crate::refusal::{Refusal, keep};
 use exo_names::resolved::{condition_of, indices_of};
-use crate::statement::{block_of, test_dims};
+use crate::statement::block_of;
 use crate::types::{cell_charge, cell_of, kind_named};
 use exo_lexer::text::Text;
 use exo_names::control::{test_condition, test_controls};

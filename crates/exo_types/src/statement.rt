@@ -2,9 +2,8 @@
 
 use crate::argument::{kind_of, spans, test_kind};
 use crate::call::{arguments_of, test_call};
-use crate::context::{
-    Context, Walk, binder_charge, end_of_memory, memory_charge, memory_of,
-};
+use crate::context::{Context, Walk};
+use crate::part::{binder_charge, end_of_memory, memory_charge, memory_of, test_dims, test_store};
 use crate::refusal::{Refusal, keep};
 use exo_names::resolved::{
     condition_of, control_of, coordinates_of, data_of, id_in, indices_of,
@@ -12,47 +11,16 @@ use exo_names::resolved::{
 use crate::types::{cell_charge, cell_of};
 use exo_names::window::test_window;
 use exo_lexer::text::Text;
-use exo_names::control::{test_condition, test_control, test_controls};
-use exo_names::datum::test_data;
+use exo_names::control::{test_condition, test_control};
 use exo_names::error::TypeKind;
 use exo_names::fault::Charge;
 use exo_names::scope::Sort;
 use exo_names::tested::{
-    Names, PLAINLY, WITH_FIELDS, WITH_STRIDES, is_buffer, name_charge, rank_charge,
+    Names, PLAINLY, WITH_FIELDS, WITH_STRIDES, is_buffer,
 };
 use exo_reader::source::SourceExpr;
 use exo_source::source::{SourceArgs, SourceCoord, SourceKind, SourceStmt};
 use exo_tree::{Arg, Binder, Block, Cell, Id, Kind, Name, ProcId, Stmt};
-
-/// The charge of dimensions or indices whose bracket is token `n`, and the number of the token behind them.
-pub fn test_dims(names: &Names, n: usize, dims: &[SourceExpr]) -> (Charge, usize) {
-    if dims.is_empty() {
-        return (Charge::none(), n);
-    }
-    test_controls(names, PLAINLY, n + 1, dims)
-}
-
-/// The charge of the left side of an assignment, and the number of the token behind it.
-fn test_target(names: &Names, n: usize, x: &Text, dims: &[SourceExpr]) -> (Charge, usize) {
-    let sort = names.scope.sort(x.as_str());
-    let name = name_charge(sort, is_buffer(sort), n);
-    let rank = rank_charge(sort, dims.len(), n);
-    let (parts, end) = test_dims(names, n + 1, dims);
-    (name.and(rank.and(parts)), end)
-}
-
-/// The charge of a store or a reduction, and the number of the token behind its line.
-fn test_store(
-    names: &Names,
-    n: usize,
-    x: &Text,
-    dims: &[SourceExpr],
-    e: &SourceExpr,
-) -> (Charge, usize) {
-    let (target, end) = test_target(names, n, x, dims);
-    let value = test_data(names, end + 1, e);
-    (target.and(value.charge), value.end + 1)
-}
 
 /// Adds an assignment.
 fn add_assign<'c>(
@@ -158,7 +126,7 @@ fn add_call<'c>(
     )?;
     into.push(Stmt::Call(ProcId(k as u32), made))?;
     let comma = if arguments.trailing { 1 } else { 0 };
-    Ok(end + comma + 2)
+    Ok(end + comma + 1)
 }
 
 /// Adds an allocation.

@@ -1,0 +1,6 @@
+use Rattle.exo_reader.specs.Views.{tree_of}
+use Rattle.exo_names.specs.ExpressionRules.{width}
+use Rattle.exo_types.proofs.argument.+test_strided.Given as goal
+
+abbrev pub decreases-test_strided : goal.decreases-test_strided
+decreases-test_strided l = width (tree_of l.e.now)
