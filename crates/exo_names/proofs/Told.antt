@@ -1,0 +1,95 @@
+-- What the test of an expression tells, from the tests of its parts.
+use Rattle.std.proofs.Common.{◌≡◌, ℕ, suc, ◌+◌, ◌<◌, ◌≤◌, Bool, true, false, ◌&&◌, ◌||◌, List, [], ◌∷◌, ◌++◌, Option, Some, None, refl, sym, ap, subst, ◌∙◌, arith, if◌then◌else◌}
+use Rattle.exo_reader.specs.Expression.{Tree, number, truth, variable, access, field, stride, relu, select, negative, parens, binary}
+use Rattle.exo_reader.specs.Views.{tree_of}
+use Rattle.exo_reader.specs.declared.source.Operator.{Operator}
+use Rattle.exo_reader.specs.declared.source.SourceExpr.{SourceExpr}
+use Rattle.exo_names.specs.declared.error.TypeKind.TheVariants.{KindMismatch}
+use Rattle.exo_names.specs.declared.fault.Fault.{Fault}
+use Rattle.exo_names.specs.declared.fault.Charge.{Charge}
+use Rattle.exo_names.specs.declared.tested.Tested.{Tested}
+use Rattle.exo_names.specs.Faults.{fault, charged, any_hides, parts_then_whole}
+use Rattle.exo_names.specs.Tests.{Tells, Varies, Joined}
+use Rattle.exo_names.specs.ExpressionRules.{width, has_variables, is_divisor, affine_faults}
+use Rattle.exo_names.proofs.Charges.{any_hides_append, hides_of}
+use Rattle.exo_names.proofs.Widths.{width_negative, width_parens, width_relu, width_binary}
+
+-- an expression by its tree
+pub tells_as : (faults : Tree → List Fault) (fits : Tree → Bool) (r : Tested) (n : ℕ) (e : SourceExpr) (t : Tree) → tree_of e ≡ t → Tells r (faults t) (fits t) n t → Tells r (faults (tree_of e)) (fits (tree_of e)) n (tree_of e)
+tells_as faults fits r n e t same told = subst (λ (u : Tree). Tells r (faults u) (fits u) n u) (sym same) told
+
+pub varies_as : (r : Tested) (e : SourceExpr) (t : Tree) → tree_of e ≡ t → Varies r t → Varies r (tree_of e)
+varies_as r e t same told = subst (λ (u : Tree). Varies r u) (sym same) told
+
+pub told_negative : (r inner : Tested) (faults : List Fault) (fits : Bool) (n : ℕ) (e : Tree) → r.charge ≡ inner.charge → r.end ≡ inner.end → r.fits ≡ true → Tells inner faults fits (n + 1) e → Tells r faults true n (negative e)
+told_negative r inner faults fits n e p q f told = record {
+  charge = p ∙ told.charge;
+  end = let w = width_negative e in let v = told.end in omega arith;
+  form = f;
+}
+
+pub told_relu : (r inner : Tested) (faults : List Fault) (fits : Bool) (n : ℕ) (e : Tree) → r.charge ≡ inner.charge → r.end ≡ inner.end + 1 → r.fits ≡ true → Tells inner faults fits (n + 2) e → Tells r faults true n (relu e)
+told_relu r inner faults fits n e p q f told = record {
+  charge = p ∙ told.charge;
+  end = let w = width_relu e in let v = told.end in omega arith;
+  form = f;
+}
+
+-- parentheses: their form is that of what stands inside
+enclosed_charge : (b : Bool) (c : Charge) (faults wrong : List Fault) → c ≡ charged faults → (if b then c else charged wrong) ≡ charged (if b then faults else wrong)
+enclosed_charge true c faults wrong p = p
+enclosed_charge false c faults wrong p = refl
+
+pub told_parens : (r inner : Tested) (faults wrong : List Fault) (fits : Bool) (n : ℕ) (e : Tree) → r.charge ≡ (if inner.fits then inner.charge else charged wrong) → r.end ≡ inner.end + 1 → r.fits ≡ inner.fits
+    → Tells inner faults fits (n + 1) e → Tells r (if fits then faults else wrong) fits n (parens e)
+told_parens r inner faults wrong fits n e p q f told = record {
+  charge = p ∙ ap (λ b. if b then inner.charge else charged wrong) told.form ∙ enclosed_charge fits inner.charge faults wrong told.charge;
+  end = let w = width_parens e in let v = told.end in omega arith;
+  form = f ∙ told.form;
+}
+
+-- two sides
+pub told_end : (r left right : Tested) (f g : List Fault) (s t : Bool) (n : ℕ) (o : Operator) (a b : Tree) → r.end ≡ right.end → Tells left f s n a → Tells right g t (left.end + 1) b → r.end ≡ n + width (binary o a b)
+told_end r left right f g s t n o a b q x y = let w = width_binary o a b in let u = x.end in let v = y.end in omega arith
+
+-- the right side begins behind the operator
+pub behind : (left : Tested) (f : List Fault) (s : Bool) (n : ℕ) (a : Tree) → Tells left f s n a → left.end + 1 ≡ n + width a + 1
+behind left f s n a x = ap (λ k. k + 1) x.end
+
+-- where a part hides the whole it does not matter what the whole breaks
+hidden : (b : Bool) (parts x y : List Fault) → any_hides parts ≡ b → (b ≡ false → x ≡ y) → parts_then_whole parts x ≡ parts_then_whole parts y
+hidden true parts x y h f = ap (λ b. parts ++ (if b then [] else x)) h ∙ sym (ap (λ b. parts ++ (if b then [] else y)) h)
+hidden false parts x y h f = ap (parts_then_whole parts) (f refl)
+
+left_shows : (a b : Bool) → (a || b) ≡ false → a ≡ false
+left_shows true b h = h
+left_shows false b h = refl
+
+right_shows : (a b : Bool) → (a || b) ≡ false → b ≡ false
+right_shows true b h = cc
+right_shows false b h = h
+
+pub hides_left : (a b : List Fault) → any_hides (a ++ b) ≡ false → any_hides a ≡ false
+hides_left a b h = left_shows (any_hides a) (any_hides b) (sym (any_hides_append a b) ∙ h)
+
+pub hides_right : (a b : List Fault) → any_hides (a ++ b) ≡ false → any_hides b ≡ false
+hides_right a b h = right_shows (any_hides a) (any_hides b) (sym (any_hides_append a b) ∙ h)
+
+-- what two tested sides say of their variables
+pub joined_varies : (left right : Tested) (a b : List Fault) (l r : Tree) → left.charge ≡ charged a → right.charge ≡ charged b → Varies left l → Varies right r → any_hides (a ++ b) ≡ false
+    → (left.variables ≡ has_variables l) × (right.variables ≡ has_variables r)
+joined_varies left right a b l r p q x y h = (
+  x.told (hides_of left.charge a p ∙ hides_left a b h),
+  y.told (hides_of right.charge b q ∙ hides_right a b h),
+)
+
+pub joined_charge : (left right : Tested) (a b : List Fault) (l r : Tree) (o : Operator) (n m : ℕ) (d : Bool) → left.charge ≡ charged a → right.charge ≡ charged b → Varies left l → Varies right r → d ≡ is_divisor r
+    → parts_then_whole (a ++ b) (affine_faults o n m (left.variables && right.variables) d) ≡ parts_then_whole (a ++ b) (affine_faults o n m (has_variables l && has_variables r) (is_divisor r))
+joined_charge left right a b l r o n m d p q x y e =
+    hidden (any_hides (a ++ b)) (a ++ b) _ _ refl (λ h.
+    let v = joined_varies left right a b l r p q x y h in
+    ap (λ t. affine_faults o n m (t && right.variables) d) v.0 ∙ ap (λ t. affine_faults o n m (has_variables l && t) d) v.1 ∙ ap (affine_faults o n m (has_variables l && has_variables r)) e)
+
+-- what is told of the whole shows that no part hides it
+pub shows_parts : (c : Charge) (a w : List Fault) → c ≡ charged (parts_then_whole a w) → c.hides ≡ false → any_hides a ≡ false
+shows_parts c a w p h = hides_left a _ (sym (hides_of c _ p) ∙ h)
