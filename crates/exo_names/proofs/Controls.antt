@@ -1,6 +1,7 @@
 -- What the tests of control values and conditions tell, from the tests of their sides; and lists of control values.
-use Rattle.std.proofs.Common.{◌≡◌, ℕ, suc, ◌+◌, ◌<◌, Bool, true, false, not, ◌&&◌, ◌||◌, List, [], ◌∷◌, ◌++◌, map, drop, length, get_or, append_assoc, refl, sym, ap, subst, ◌∙◌, arith, if◌then◌else◌}
+use Rattle.std.proofs.Common.{◌≡◌, ℕ, suc, ◌+◌, ◌==◌, ◌<◌, Bool, true, false, not, ◌&&◌, ◌||◌, List, [], ◌∷◌, ◌++◌, map, drop, length, get_or, append_assoc, refl, sym, ap, subst, ◌∙◌, arith, if◌then◌else◌}
 use Rattle.std.proofs.lemmas.List.{append-nil as append_nil}
+use Rattle.std.proofs.lemmas.Bool.Decides.{nat_tests}
 use Rattle.exo_tree.specs.Tree.{ConfigField}
 use Rattle.exo_meaning.specs.Units.{Scope, Reads}
 use Rattle.exo_reader.specs.Expression.{Tree, binary}
@@ -57,25 +58,25 @@ module _ (fields : List ConfigField) (may : Reads) (scope : Scope) where
       → t.end ≡ right.end → t.fits ≡ true → Tells left (condition_faults fields may scope n l) f n l → Tells right (condition_faults fields may scope (left.end + 1) r) g (left.end + 1) r
       → Tells t (condition_faults fields may scope n (binary o l r)) (may_be_condition (binary o l r)) n (binary o l r)
   told_condition t left right f g n o l r h p q s x y =
-      let no = joins_no_arithmetic o h in
+      let apart = joins_no_arithmetic o h in
       record {
         charge =
             p ∙ ap (λ k. charged (condition_faults fields may scope n l ++ condition_faults fields may scope k r)) (behind left _ f n l x)
-            ∙ ap charged (picked (joins_conditions o) _ (control_faults fields may scope n l ++ control_faults fields may scope (n + width l + 1) r) h ∙ other (is_arithmetic o) (wrong_form fields scope n (binary o l r)) _ no);
+            ∙ ap charged (picked (joins_conditions o) _ (control_faults fields may scope n l ++ control_faults fields may scope (n + width l + 1) r) h ∙ other (is_arithmetic o) (wrong_form fields scope n (binary o l r)) _ apart);
         end = told_end t left right _ _ f g n o l r q x y;
-        form = s ∙ sym (ap not no);
+        form = s ∙ sym (ap not apart);
       }
 
   pub told_comparison : (t left right : Tested) (f g : Bool) (n : ℕ) (o : Operator) (l r : Tree) → joins_conditions o ≡ false → is_arithmetic o ≡ false
       → t.charge ≡ charged (control_faults fields may scope n l ++ control_faults fields may scope (left.end + 1) r)
       → t.end ≡ right.end → t.fits ≡ true → Tells left (control_faults fields may scope n l) f n l → Tells right (control_faults fields may scope (left.end + 1) r) g (left.end + 1) r
       → Tells t (condition_faults fields may scope n (binary o l r)) (may_be_condition (binary o l r)) n (binary o l r)
-  told_comparison t left right f g n o l r h no p q s x y = record {
+  told_comparison t left right f g n o l r h apart p q s x y = record {
     charge =
         p ∙ ap (λ k. charged (control_faults fields may scope n l ++ control_faults fields may scope k r)) (behind left _ f n l x)
-        ∙ ap charged (other (joins_conditions o) (condition_faults fields may scope n l ++ condition_faults fields may scope (n + width l + 1) r) _ h ∙ other (is_arithmetic o) (wrong_form fields scope n (binary o l r)) _ no);
+        ∙ ap charged (other (joins_conditions o) (condition_faults fields may scope n l ++ condition_faults fields may scope (n + width l + 1) r) _ h ∙ other (is_arithmetic o) (wrong_form fields scope n (binary o l r)) _ apart);
     end = told_end t left right _ _ f g n o l r q x y;
-    form = s ∙ sym (ap not no);
+    form = s ∙ sym (ap not apart);
   }
 
   -- one expression of a list, and those behind it
@@ -84,6 +85,11 @@ module _ (fields : List ConfigField) (may : Reads) (scope : Scope) where
   controls_next xs i d n m h e p =
       ap (λ l. controls_faults fields may scope n (map tree_of l)) (rest_of xs i d h e)
       ∙ ap (λ k. control_faults fields may scope n (tree_of d) ++ controls_faults fields may scope (k + 1) (map tree_of (drop (i + 1) xs))) (sym p)
+
+  -- of no expressions nothing is wrong
+  pub no_controls : (n : ℕ) (xs : List SourceExpr) → (length xs == 0) ≡ true → charged [] ≡ charged (controls_faults fields may scope n (map tree_of xs))
+  no_controls n [] h = refl
+  no_controls n (x ∷ xs) h = grind (arith, nat_tests)
 
 -- the faults of what a loop has gone through, and of what is left
 pub record Gone (charge : Charge) (rest whole : List Fault) : Type 0 where

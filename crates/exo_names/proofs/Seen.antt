@@ -4,6 +4,7 @@ use Rattle.exo_lexer.specs.declared.token.Literal.TheVariants.{Value}
 use Rattle.exo_reader.specs.Expression.{Tree, number, truth, variable, access, field, stride, relu, select, negative, parens, binary, trees}
 use Rattle.exo_reader.specs.Views.{tree_of, tree_step}
 use Rattle.exo_reader.specs.declared.source.Operator.{Operator}
+use Rattle.exo_reader.specs.declared.source.SourceExpr.{SourceExpr}
 use Rattle.exo_reader.specs.declared.source.SourceExpr.TheVariants.{Int, Truth, Name, Access, Field, Stride, Relu, Select, Negative, Parens, Binary, rolls-Int, rolls-Truth, rolls-Name, rolls-Access, rolls-Field, rolls-Stride, rolls-Relu, rolls-Select, rolls-Negative, rolls-Parens, rolls-Binary}
 use Rattle.exo_reader.specs.declared.source.SourceExpr.TheFolds.{fold-roll-SourceExpr}
 
@@ -39,3 +40,7 @@ seen_parens e = ap tree_of (sym (rolls-Parens e)) ∙ fold-roll-SourceExpr Tree 
 
 pub seen_binary : (o : Operator) (l r : _) → tree_of (Binary o l r) ≡ binary o (tree_of l.value) (tree_of r.value)
 seen_binary o l r = ap tree_of (sym (rolls-Binary o l r)) ∙ fold-roll-SourceExpr Tree tree_step _
+
+-- two sides behind their boxes
+pub sides : (e : SourceExpr) (o : Operator) (l r : _) (a b : SourceExpr) → e ≡ Binary o l r → a ≡ l.value → b ≡ r.value → tree_of e ≡ binary o (tree_of a) (tree_of b)
+sides e o l r a b p q s = ap tree_of p ∙ seen_binary o l r ∙ ap (λ x. binary o (tree_of x) (tree_of r.value)) (sym q) ∙ ap (λ x. binary o (tree_of a) (tree_of x)) (sym s)

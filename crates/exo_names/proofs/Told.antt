@@ -1,5 +1,5 @@
 -- What the test of an expression tells, from the tests of its parts.
-use Rattle.std.proofs.Common.{◌≡◌, ℕ, suc, ◌+◌, ◌<◌, ◌≤◌, Bool, true, false, ◌&&◌, ◌||◌, List, [], ◌∷◌, ◌++◌, Option, Some, None, refl, sym, ap, subst, ◌∙◌, arith, if◌then◌else◌}
+use Rattle.std.proofs.Common.{◌≡◌, ℕ, suc, ◌+◌, ◌<◌, ◌≤◌, Bool, true, false, ◌&&◌, ◌||◌, List, [], ◌∷◌, ◌++◌, Option, Some, None, refl, sym, ap, subst, ◌∙◌, arith, if◌then◌else◌, true≢false}
 use Rattle.exo_reader.specs.Expression.{Tree, number, truth, variable, access, field, stride, relu, select, negative, parens, binary}
 use Rattle.exo_reader.specs.Views.{tree_of}
 use Rattle.exo_reader.specs.declared.source.Operator.{Operator}
@@ -93,3 +93,22 @@ joined_charge left right a b l r o n m d p q x y e =
 -- what is told of the whole shows that no part hides it
 pub shows_parts : (c : Charge) (a w : List Fault) → c ≡ charged (parts_then_whole a w) → c.hides ≡ false → any_hides a ≡ false
 shows_parts c a w p h = hides_left a _ (sym (hides_of c _ p) ∙ h)
+
+-- what hides tells nothing of variables
+true_hides : (b : Bool) → (b || true) ≡ true
+true_hides true = refl
+true_hides false = refl
+
+pub varies_wrong : (r : Tested) (faults : List Fault) (n : ℕ) (e : Tree) → r.charge ≡ charged (faults ++ fault KindMismatch n) → Varies r e
+varies_wrong r faults n e p = record {
+  told = λ h. absurd (true≢false (sym (hides_of r.charge _ p ∙ any_hides_append faults (fault KindMismatch n) ∙ true_hides (any_hides faults)) ∙ h));
+}
+
+inner_hides : (b : Bool) (c d : Charge) (n : ℕ) → d ≡ (if b then c else charged (fault KindMismatch n)) → d.hides ≡ false → c.hides ≡ false
+inner_hides true c d n p h = ap (λ k. k.hides) (sym p) ∙ h
+inner_hides false c d n p h = absurd (true≢false (sym (hides_of d (fault KindMismatch n) p) ∙ h))
+
+pub varies_parens : (r inner : Tested) (n : ℕ) (e : Tree) → r.charge ≡ (if inner.fits then inner.charge else charged (fault KindMismatch n)) → r.variables ≡ inner.variables → Varies inner e → Varies r (parens e)
+varies_parens r inner n e p v told = record {
+  told = λ h. v ∙ told.told (inner_hides inner.fits inner.charge r.charge n p h);
+}

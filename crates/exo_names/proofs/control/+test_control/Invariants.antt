@@ -2,5 +2,5 @@ use Rattle.exo_reader.specs.Views.{tree_of}
 use Rattle.exo_names.specs.ExpressionRules.{width}
 use Rattle.exo_names.proofs.control.+test_control.Given as goal
 
-abbrev pub decreases : goal.decreases
-decreases l = width (tree_of l.e.now)
+abbrev pub decreases-test_control : goal.decreases-test_control
+decreases-test_control l = width (tree_of l.e.now)
