@@ -14,7 +14,7 @@ use Rattle.exo_names.specs.declared.fault.Charge.{Charge}
 use Rattle.exo_names.specs.declared.tested.Tested.{Tested}
 use Rattle.exo_names.specs.Faults.{charged, parts_then_whole}
 use Rattle.exo_names.specs.Tests.{Tells}
-use Rattle.exo_names.specs.ExpressionRules.{width, is_arithmetic, joins_conditions, has_variables, is_divisor, affine_faults, may_be_control, may_be_condition, wrong_form, control_faults, controls_faults, condition_faults}
+use Rattle.exo_names.specs.ExpressionRules.{width, is_arithmetic, is_quotient, data_faults, may_be_data, joins_conditions, has_variables, is_divisor, affine_faults, may_be_control, may_be_condition, wrong_form, control_faults, controls_faults, condition_faults}
 use Rattle.exo_names.proofs.Told.{behind, told_end}
 use Rattle.exo_names.proofs.Rests.{rest_of}
 
@@ -90,6 +90,18 @@ module _ (fields : List ConfigField) (may : Reads) (scope : Scope) where
   pub no_controls : (n : ℕ) (xs : List SourceExpr) → (length xs == 0) ≡ true → charged [] ≡ charged (controls_faults fields may scope n (map tree_of xs))
   no_controls n [] h = refl
   no_controls n (x ∷ xs) h = grind (arith, nat_tests)
+
+pub told_sum : (fields : List ConfigField) (scope : Scope) (t left right : Tested) (f g : Bool) (n : ℕ) (o : Operator) (l r : Tree) → (is_arithmetic o && not (is_quotient o)) ≡ true
+    → t.charge ≡ charged (data_faults fields scope n l ++ data_faults fields scope (left.end + 1) r)
+    → t.end ≡ right.end → t.fits ≡ true → Tells left (data_faults fields scope n l) f n l → Tells right (data_faults fields scope (left.end + 1) r) g (left.end + 1) r
+    → Tells t (data_faults fields scope n (binary o l r)) (may_be_data (binary o l r)) n (binary o l r)
+told_sum fields scope t left right f g n o l r h p q s x y = record {
+  charge =
+      p ∙ ap (λ k. charged (data_faults fields scope n l ++ data_faults fields scope k r)) (behind left _ f n l x)
+      ∙ ap charged (picked (is_arithmetic o && not (is_quotient o)) _ _ h);
+  end = told_end t left right _ _ f g n o l r q x y;
+  form = s ∙ sym h;
+}
 
 -- the faults of what a loop has gone through, and of what is left
 pub record Gone (charge : Charge) (rest whole : List Fault) : Type 0 where

@@ -1,6 +1,6 @@
 -- What the test of an expression tells, from the tests of its parts.
 use Rattle.std.proofs.Common.{◌≡◌, ℕ, suc, ◌+◌, ◌<◌, ◌≤◌, Bool, true, false, ◌&&◌, ◌||◌, List, [], ◌∷◌, ◌++◌, Option, Some, None, refl, sym, ap, subst, ◌∙◌, arith, if◌then◌else◌, true≢false}
-use Rattle.exo_reader.specs.Expression.{Tree, number, truth, variable, access, field, stride, relu, select, negative, parens, binary}
+use Rattle.exo_reader.specs.Expression.{Tree, number, truth, variable, access, field, stride, relu, select, negative, parens, binary, trees}
 use Rattle.exo_reader.specs.Views.{tree_of}
 use Rattle.exo_reader.specs.declared.source.Operator.{Operator}
 use Rattle.exo_reader.specs.declared.source.SourceExpr.{SourceExpr}
@@ -10,9 +10,10 @@ use Rattle.exo_names.specs.declared.fault.Charge.{Charge}
 use Rattle.exo_names.specs.declared.tested.Tested.{Tested}
 use Rattle.exo_names.specs.Faults.{fault, charged, any_hides, parts_then_whole}
 use Rattle.exo_names.specs.Tests.{Tells, Varies, Joined}
-use Rattle.exo_names.specs.ExpressionRules.{width, has_variables, is_divisor, affine_faults}
+use Rattle.exo_names.specs.ExpressionRules.{width, closed_width, list_of, has_variables, is_divisor, affine_faults}
 use Rattle.exo_names.proofs.Charges.{any_hides_append, hides_of}
-use Rattle.exo_names.proofs.Widths.{width_negative, width_parens, width_relu, width_binary}
+use Rattle.exo_names.proofs.Seen.{listed}
+use Rattle.exo_names.proofs.Widths.{width_negative, width_parens, width_relu, width_binary, width_access, width_select}
 
 -- an expression by its tree
 pub tells_as : (faults : Tree → List Fault) (fits : Tree → Bool) (r : Tested) (n : ℕ) (e : SourceExpr) (t : Tree) → tree_of e ≡ t → Tells r (faults t) (fits t) n t → Tells r (faults (tree_of e)) (fits (tree_of e)) n (tree_of e)
@@ -112,3 +113,29 @@ pub varies_parens : (r inner : Tested) (n : ℕ) (e : Tree) → r.charge ≡ (if
 varies_parens r inner n e p v told = record {
   told = λ h. v ∙ told.told (inner_hides inner.fits inner.charge r.charge n p h);
 }
+
+-- a cell
+pub told_access : (r : Tested) (faults : List Tree → List Fault) (n : ℕ) (x : List ℕ) (es : List Tree) → r.charge ≡ charged (faults es) → r.end ≡ n + 2 + closed_width es → r.fits ≡ true → Tells r (faults (list_of (trees es))) true n (access x (trees es))
+told_access r faults n x es p q s = record {
+  charge = p ∙ ap (λ l. charged (faults l)) (sym (listed es));
+  end = let w = width_access x es in omega arith;
+  form = s;
+}
+
+-- a choice
+pub told_select : (r p q s t : Tested) (f : ℕ → Tree → List Fault) (e g h i : Bool) (n : ℕ) (a b c d : Tree)
+    → r.charge ≡ charged (f (n + 2) a ++ (f (p.end + 1) b ++ (f (q.end + 1) c ++ f (s.end + 1) d))) → r.end ≡ t.end + 1 → r.fits ≡ true
+    → Tells p (f (n + 2) a) e (n + 2) a → Tells q (f (p.end + 1) b) g (p.end + 1) b → Tells s (f (q.end + 1) c) h (q.end + 1) c → Tells t (f (s.end + 1) d) i (s.end + 1) d
+    → Tells r (f (n + 2) a ++ (f (n + 2 + width a + 1) b ++ (f (n + 2 + width a + 1 + width b + 1) c ++ f (n + 2 + width a + 1 + width b + 1 + width c + 1) d))) true n (select a b c d)
+told_select r p q s t f e g h i n a b c d charge last form x y z w =
+    let second : p.end + 1 ≡ n + 2 + width a + 1 = ap (λ k. k + 1) x.end in
+    let third : q.end + 1 ≡ n + 2 + width a + 1 + width b + 1 = ap (λ k. k + 1) (y.end ∙ ap (λ k. k + width b) second) in
+    let fourth : s.end + 1 ≡ n + 2 + width a + 1 + width b + 1 + width c + 1 = ap (λ k. k + 1) (z.end ∙ ap (λ k. k + width c) third) in
+    record {
+      charge =
+          charge ∙ ap (λ k. charged (f (n + 2) a ++ (f k b ++ (f (q.end + 1) c ++ f (s.end + 1) d)))) second
+          ∙ ap (λ k. charged (f (n + 2) a ++ (f (n + 2 + width a + 1) b ++ (f k c ++ f (s.end + 1) d)))) third
+          ∙ ap (λ k. charged (f (n + 2) a ++ (f (n + 2 + width a + 1) b ++ (f (n + 2 + width a + 1 + width b + 1) c ++ f k d)))) fourth;
+      end = let v = width_select a b c d in let u = w.end in omega arith;
+      form = form;
+    }

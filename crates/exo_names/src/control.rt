@@ -13,7 +13,11 @@ ghost use Rattle.exo_names.specs.ExpressionRules.{width, closed_width, is_diviso
 
 use crate::error::TypeKind;
 use crate::fault::Charge;
-use crate::tested::{Names, Reads, Tested, affine_charge, all_of, any_of, dimension_charge, field_charge, is_arithmetic, is_buffer, is_divisor, is_flag, is_number, joins_conditions, missing_field, name_charge};
+use crate::tested::{
+    Names, Reads, Tested, affine_charge, all_of, any_of, dimension_charge, field_charge,
+    is_arithmetic, is_buffer, is_divisor, is_flag, is_number, joins_conditions, missing_field,
+    name_charge,
+};
 use crate::width::end_of;
 use exo_lexer::text::Text;
 use exo_reader::source::{Operator, SourceExpr};

@@ -13,6 +13,6 @@ returns-clause-joined c = λ a b l r p q x y d.
     record {
       charge = made;
       told = λ h.
-        let v = joined_varies c.args.left c.args.right a b l r p q x y (shows_parts _ (a ++ b) _ made h) in
-        c.fitting.ensures.variables ∙ c.any_of-variables.ensures ∙ ap (λ t. t || c.args.right.variables) v.0 ∙ ap (λ t. has_variables l || t) v.1;
+          let v = joined_varies c.args.left c.args.right a b l r p q x y (shows_parts _ (a ++ b) _ made h) in
+          c.fitting.ensures.variables ∙ c.any_of-variables.ensures ∙ ap (λ t. t || c.args.right.variables) v.0 ∙ ap (λ t. has_variables l || t) v.1;
     }
