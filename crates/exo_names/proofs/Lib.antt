@@ -7,3 +7,5 @@ pub mod Wide
 pub mod Rests
 pub mod Told
 pub mod Controls
+pub mod Kept
+pub mod Trees

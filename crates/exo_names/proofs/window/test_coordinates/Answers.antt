@@ -25,7 +25,7 @@ loop-c-preserved c =
       gone =
           gone_next _ _ _ _ _ _ (λ a b p q. c.and-charge.ensures a b p (c.test_coordinate-end.ensures.charge ∙ ap charged (sym q)))
           (ap (λ l. coordinates_faults c.args.names.now.fields.now c.args.names.now.scope.now c.loop-c.next (map plain_coordinate l)) rest
-           ∙ ap (λ k. coordinate_faults c.args.names.now.fields.now c.args.names.now.scope.now c.loop-c.next (plain_coordinate c.c-item.result) ++ coordinates_faults c.args.names.now.fields.now c.args.names.now.scope.now (k + 1) (map plain_coordinate (drop (c.loop-c.c-index + 1) c.args.list.now))) (sym u))
+          ∙ ap (λ k. coordinate_faults c.args.names.now.fields.now c.args.names.now.scope.now c.loop-c.next (plain_coordinate c.c-item.result) ++ coordinates_faults c.args.names.now.fields.now c.args.names.now.scope.now (k + 1) (map plain_coordinate (drop (c.loop-c.c-index + 1) c.args.list.now))) (sym u))
           c.loop-c.invariant.gone;
     }
 
