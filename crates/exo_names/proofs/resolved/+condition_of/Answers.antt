@@ -19,12 +19,12 @@ returns-in-Parens t c =
 pub returns-in_ok-right-in-Binary : goal.returns-in_ok-right-in-Binary
 returns-in_ok-right-in-Binary t c =
     renamed condition _ _ _
-    (two (joined_conditions c.in-Binary.operator) c.in_ok-left-in-Binary.ensures c.in_ok-right-in-Binary.ensures ∙ conditions_are c.args.names.now.fields.now c.args.names.now.scope.now c.in-Binary.operator _ _ (sym c.joins_conditions.ensures ∙ c.if-joins_conditions.true)
-     ∙ sym (ap (λ e. condition_of c.args.names.now.fields.now c.args.names.now.scope.now e) (sides _ _ _ _ _ _ c.in-Binary.is c.deref-in-Binary.ensures c.deref-in-Binary-2.ensures)))
+    (two (joined_conditions c.in-Binary.operator) c.in_ok-left-in-Binary.ensures c.in_ok-right-in-Binary.ensures ∙ conditions_are c.args.names.now.fields.now c.args.names.now.scope.now c.in-Binary.operator (tree_of c.deref-in-Binary.result.now) (tree_of c.deref-in-Binary-2.result.now) (sym c.joins_conditions.ensures ∙ c.if-joins_conditions.true)
+    ∙ sym (ap (λ e. condition_of c.args.names.now.fields.now c.args.names.now.scope.now e) (sides _ _ _ _ _ _ c.in-Binary.is c.deref-in-Binary.ensures c.deref-in-Binary-2.ensures)))
     c.joined_conditions.ensures
 
 pub returns-in_ok-right-in-Binary-2 : goal.returns-in_ok-right-in-Binary-2
 returns-in_ok-right-in-Binary-2 t c =
     c.compared.ensures ∙ two (compared c.in-Binary-2.operator) c.in_ok-left-in-Binary-2.ensures c.in_ok-right-in-Binary-2.ensures
-    ∙ comparison_is c.args.names.now.fields.now c.args.names.now.scope.now c.in-Binary-2.operator _ _ (cc (c.in-Binary-2.operator-is, c.joins_conditions.ensures, c.if-joins_conditions.false))
+    ∙ comparison_is c.args.names.now.fields.now c.args.names.now.scope.now c.in-Binary-2.operator (tree_of c.deref-in-Binary-2-2.result.now) (tree_of c.deref-in-Binary-2-3.result.now) (cc (c.in-Binary-2.operator-is, c.joins_conditions.ensures, c.if-joins_conditions.false))
     ∙ sym (ap (λ e. condition_of c.args.names.now.fields.now c.args.names.now.scope.now e) (sides _ _ _ _ _ _ c.in-Binary-2.is c.deref-in-Binary-2-2.ensures c.deref-in-Binary-2-3.ensures))

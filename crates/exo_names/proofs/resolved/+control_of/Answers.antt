@@ -26,5 +26,5 @@ pub returns-in_ok-right-in-Binary : goal.returns-in_ok-right-in-Binary
 returns-in_ok-right-in-Binary t c =
     renamed control _ _ _
     (three (joined c.in-Binary.operator) c.in_ok-left-in-Binary.ensures c.in_ok-right-in-Binary.ensures (c.divisor_of.ensures ∙ ap (λ e. divisor_of (tree_of e)) (c.deref-in-Binary-3.ensures ∙ sym c.deref-in-Binary-2.ensures))
-     ∙ sym (ap (λ e. control_of c.args.names.now.fields.now c.args.names.now.scope.now e) (sides _ _ _ _ _ _ c.in-Binary.is c.deref-in-Binary.ensures c.deref-in-Binary-2.ensures)))
+    ∙ sym (ap (λ e. control_of c.args.names.now.fields.now c.args.names.now.scope.now e) (sides _ _ _ _ _ _ c.in-Binary.is c.deref-in-Binary.ensures c.deref-in-Binary-2.ensures)))
     c.joined.ensures

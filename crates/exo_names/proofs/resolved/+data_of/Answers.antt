@@ -26,7 +26,7 @@ pub returns-in_ok-fourth-in-Select : goal.returns-in_ok-fourth-in-Select
 returns-in_ok-fourth-in-Select t c =
     renamed datum _ _ _
     (four Select c.in_ok-first-in-Select.ensures c.in_ok-second-in-Select.ensures c.in_ok-third-in-Select.ensures c.in_ok-fourth-in-Select.ensures
-     ∙ sym (ap (λ e. datum_of c.args.names.now.fields.now c.args.names.now.scope.now e) (choices _ _ _ _ _ _ _ _ _ c.in-Select.is c.deref-in-Select.ensures c.deref-in-Select-2.ensures c.deref-in-Select-3.ensures c.deref-in-Select-4.ensures)))
+    ∙ sym (ap (λ e. datum_of c.args.names.now.fields.now c.args.names.now.scope.now e) (choices _ _ _ _ _ _ _ _ _ c.in-Select.is c.deref-in-Select.ensures c.deref-in-Select-2.ensures c.deref-in-Select-3.ensures c.deref-in-Select-4.ensures)))
     c.selected.ensures
 
 pub returns-in_ok-value-in-Negative : goal.returns-in_ok-value-in-Negative
@@ -45,5 +45,5 @@ pub returns-in_ok-right-in-Binary : goal.returns-in_ok-right-in-Binary
 returns-in_ok-right-in-Binary t c =
     renamed datum _ _ _
     (two (joined_data c.in-Binary.operator) c.in_ok-left-in-Binary.ensures c.in_ok-right-in-Binary.ensures
-     ∙ sym (ap (λ e. datum_of c.args.names.now.fields.now c.args.names.now.scope.now e) (sides _ _ _ _ _ _ c.in-Binary.is c.deref-in-Binary.ensures c.deref-in-Binary-2.ensures)))
+    ∙ sym (ap (λ e. datum_of c.args.names.now.fields.now c.args.names.now.scope.now e) (sides _ _ _ _ _ _ c.in-Binary.is c.deref-in-Binary.ensures c.deref-in-Binary-2.ensures)))
     c.joined_data.ensures
