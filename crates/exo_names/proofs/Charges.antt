@@ -3,6 +3,8 @@ use Rattle.std.proofs.Common.{◌≡◌, ℕ, ◌==◌, nat_lt, Bool, true, fals
 use Rattle.std.specs.List.{list_any}
 use Rattle.std.proofs.lemmas.Bool.Decides.{nat_tests}
 use Rattle.std.proofs.lemmas.List.Folds.{list_any-append}
+use Rattle.std.proofs.lemmas.List.{append-nil}
+use Rattle.exo_names.specs.declared.fault.Charge.{Charge}
 use Rattle.exo_names.specs.declared.fault.Fault.{Fault}
 use Rattle.exo_names.specs.Faults.{rank_of, is_before, earlier, least, hides, any_hides, charged, parts_then_whole}
 
@@ -47,3 +49,18 @@ least_append (x ∷ xs) ys = ap (earlier (Some x)) (least_append xs ys) ∙ asso
 
 pub any_hides_append : (xs ys : List Fault) → any_hides (xs ++ ys) ≡ (any_hides xs || any_hides ys)
 any_hides_append xs ys = list_any-append (λ f. hides f.rule) xs ys
+
+pub hides_of : (c : Charge) (faults : List Fault) → c ≡ charged faults → c.hides ≡ any_hides faults
+unfolding charged
+hides_of c faults p = ap (λ k. k.hides) p
+
+pub first_of : (c : Charge) (faults : List Fault) → c ≡ charged faults → c.first ≡ least faults
+unfolding charged
+first_of c faults p = ap (λ k. k.first) p
+
+-- parts of which one hides the whole, and parts of which none does
+pub whole_hidden : (parts whole : List Fault) → any_hides parts ≡ true → parts ≡ parts_then_whole parts whole
+whole_hidden parts whole h = sym (append-nil parts) ∙ ap (λ b. parts ++ (if b then [] else whole)) (sym h)
+
+pub whole_shown : (parts whole : List Fault) → any_hides parts ≡ false → parts ++ whole ≡ parts_then_whole parts whole
+whole_shown parts whole h = ap (λ b. parts ++ (if b then [] else whole)) (sym h)

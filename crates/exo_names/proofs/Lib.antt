@@ -5,3 +5,7 @@ pub mod Seen
 pub mod Widths
 pub mod Wide
 pub mod Rests
+pub mod Told
+pub mod Controls
+pub mod Kept
+pub mod Trees

@@ -26,3 +26,6 @@ closed_none (x ∷ xs) h = grind (arith, nat_tests)
 -- nothing is left at the end
 pub rest_none : (xs : List SourceExpr) (i : ℕ) → length xs ≤ i → commas_width (map tree_of (drop i xs)) ≡ 0
 rest_none xs i h = ap (λ l. commas_width (map tree_of l)) (drop_of_length-le xs h)
+
+pub empty_rest : {A : Type 0} (xs : List A) (i : ℕ) → length xs ≤ i → drop i xs ≡ []
+empty_rest xs i h = drop_of_length-le xs h

@@ -1,9 +1,11 @@
 -- The trees of source expressions, form by form.
-use Rattle.std.proofs.Common.{◌≡◌, ℕ, Bool, List, map, sym, ap, ◌∙◌}
+use Rattle.std.proofs.Common.{◌≡◌, ℕ, Bool, List, [], ◌∷◌, map, sym, ap, refl, ◌∙◌}
+use Rattle.exo_names.specs.ExpressionRules.{list_of}
 use Rattle.exo_lexer.specs.declared.token.Literal.TheVariants.{Value}
 use Rattle.exo_reader.specs.Expression.{Tree, number, truth, variable, access, field, stride, relu, select, negative, parens, binary, trees}
 use Rattle.exo_reader.specs.Views.{tree_of, tree_step}
 use Rattle.exo_reader.specs.declared.source.Operator.{Operator}
+use Rattle.exo_reader.specs.declared.source.SourceExpr.{SourceExpr}
 use Rattle.exo_reader.specs.declared.source.SourceExpr.TheVariants.{Int, Truth, Name, Access, Field, Stride, Relu, Select, Negative, Parens, Binary, rolls-Int, rolls-Truth, rolls-Name, rolls-Access, rolls-Field, rolls-Stride, rolls-Relu, rolls-Select, rolls-Negative, rolls-Parens, rolls-Binary}
 use Rattle.exo_reader.specs.declared.source.SourceExpr.TheFolds.{fold-roll-SourceExpr}
 
@@ -39,3 +41,18 @@ seen_parens e = ap tree_of (sym (rolls-Parens e)) ∙ fold-roll-SourceExpr Tree 
 
 pub seen_binary : (o : Operator) (l r : _) → tree_of (Binary o l r) ≡ binary o (tree_of l.value) (tree_of r.value)
 seen_binary o l r = ap tree_of (sym (rolls-Binary o l r)) ∙ fold-roll-SourceExpr Tree tree_step _
+
+-- two sides behind their boxes
+pub sides : (e : SourceExpr) (o : Operator) (l r : _) (a b : SourceExpr) → e ≡ Binary o l r → a ≡ l.value → b ≡ r.value → tree_of e ≡ binary o (tree_of a) (tree_of b)
+sides e o l r a b p q s = ap tree_of p ∙ seen_binary o l r ∙ ap (λ x. binary o (tree_of x) (tree_of r.value)) (sym q) ∙ ap (λ x. binary o (tree_of a) (tree_of x)) (sym s)
+
+-- a list of indices is the list that it was made of
+pub listed : (es : List Tree) → list_of (trees es) ≡ es
+listed [] = refl
+listed (e ∷ es) = ap (λ l. e ∷ l) (listed es)
+
+-- four parts behind their boxes
+pub choices : (e : SourceExpr) (f g h i : _) (a b c d : SourceExpr) → e ≡ Select f g h i → a ≡ f.value → b ≡ g.value → c ≡ h.value → d ≡ i.value → tree_of e ≡ select (tree_of a) (tree_of b) (tree_of c) (tree_of d)
+choices e f g h i a b c d p q r s t =
+    ap tree_of p ∙ seen_select f g h i ∙ ap (λ x. select (tree_of x) (tree_of g.value) (tree_of h.value) (tree_of i.value)) (sym q) ∙ ap (λ x. select (tree_of a) (tree_of x) (tree_of h.value) (tree_of i.value)) (sym r)
+    ∙ ap (λ x. select (tree_of a) (tree_of b) (tree_of x) (tree_of i.value)) (sym s) ∙ ap (λ x. select (tree_of a) (tree_of b) (tree_of c) (tree_of x)) (sym t)

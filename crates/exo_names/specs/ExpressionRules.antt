@@ -154,12 +154,13 @@ abbrev pub list_of : Trees → List Tree
 list_of end = []
 list_of (next e more) = e ∷ list_of more
 
--- a product has one side without variables, and what divides is a literal; right is the first token of the right side
-abbrev pub affine_faults : Operator → ℕ → ℕ → Tree → Tree → List Fault
-affine_faults Mul n right l r = unless (not (has_variables l && has_variables r)) NotAffine n
-affine_faults Div n right l r = unless (is_divisor r) NotAffine right
-affine_faults Mod n right l r = unless (is_divisor r) NotAffine right
-affine_faults other n right l r = []
+-- A product has one side without variables, and what divides is a literal. Told are whether both sides have variables, and whether
+-- the right one is such a literal; right is its first token.
+abbrev pub affine_faults : Operator → ℕ → ℕ → Bool → Bool → List Fault
+affine_faults Mul n right vary divides = unless (not vary) NotAffine n
+affine_faults Div n right vary divides = unless divides NotAffine right
+affine_faults Mod n right vary divides = unless divides NotAffine right
+affine_faults other n right vary divides = []
 
 -- ---- forms that cannot be what is asked
 
@@ -206,7 +207,7 @@ module _ (fields : List ConfigField) where
   control_faults may scope n (binary operator l r) =
       let right = n + width l + 1 in
       if is_arithmetic operator
-      then parts_then_whole (control_faults may scope n l ++ control_faults may scope right r) (affine_faults operator n right l r)
+      then parts_then_whole (control_faults may scope n l ++ control_faults may scope right r) (affine_faults operator n right (has_variables l && has_variables r) (is_divisor r))
       else wrong_form scope n (binary operator l r)
 
   -- each where a control value is asked, with a token between two

@@ -66,5 +66,5 @@ abbrev pub parts_then_whole : List Fault → List Fault → List Fault
 parts_then_whole parts whole = parts ++ (if any_hides parts then [] else whole)
 
 -- what is told of the faults of an expression: the first of them, and whether one of them hides those of what it is a part of
-abbrev pub charged : List Fault → Charge
+unfoldable pub charged : List Fault → Charge
 charged faults = record { first = least faults; hides = any_hides faults }

@@ -5,3 +5,4 @@ pub mod ExpressionRules
 pub mod Resolved
 pub mod WindowRules
 pub mod Tests
+pub mod Laws

@@ -20,6 +20,11 @@ pub record Tells (t : Tested) (faults : List Fault) (fits : Bool) (n : ℕ) (e :
 pub record Varies (t : Tested) (e : Tree) : Type 0 where
   pub told : t.charge.hides ≡ false → t.variables ≡ has_variables e
 
+-- the charge of these faults, and where nothing is hidden whether there are variables
+pub record Joined (t : Tested) (faults : List Fault) (variables : Bool) : Type 0 where
+  pub charge : t.charge ≡ charged faults
+  pub told : t.charge.hides ≡ false → t.variables ≡ variables
+
 -- the sort of a name
 abbrev pub sort_seen : Option Sort → Option units.Sort
 sort_seen sort = option_map sort_meant sort

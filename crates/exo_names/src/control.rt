@@ -1,19 +1,22 @@
 //! Which rules control values and conditions break first.
-ghost use Rattle.std.specs.Prelude.{◌≡◌, ◌+◌, ◌≤◌, ◌<◌, ◌||◌, ◌++◌, List, true, false, map, if◌then◌else◌};
+ghost use Rattle.std.specs.Prelude.{◌≡◌, ◌+◌, ◌≤◌, ◌<◌, ◌||◌, ◌&&◌, ◌++◌, List, true, false, map, if◌then◌else◌};
 ghost use Rattle.exo_lexer.specs.declared.token.Literal.TheVariants.{Value};
-ghost use Rattle.exo_reader.specs.Expression.{Tree, stride};
+ghost use Rattle.exo_reader.specs.Expression.{Tree, variable, field, stride};
 ghost use Rattle.exo_reader.specs.Views.{tree_of};
 ghost use Rattle.exo_names.specs.Faults.{charged, fault, parts_then_whole};
 ghost use Rattle.exo_names.specs.declared.error.TypeKind.TheVariants.{KindMismatch};
 ghost use Rattle.exo_names.specs.declared.fault.Fault.{Fault};
-ghost use Rattle.exo_names.specs.Tests.{Tells, Varies, reads, most_tokens};
-ghost use Rattle.exo_names.specs.ExpressionRules.{width, closed_width, is_divisor, has_variables, affine_faults, may_be_control, may_be_condition, unknown_first, wrong_form, control_faults, controls_faults, condition_faults};
+ghost use Rattle.exo_meaning.specs.Units.{is_number, is_flag};
+ghost use Rattle.exo_names.specs.Names.{named_in, sort_of, field_in};
+ghost use Rattle.exo_names.specs.Tests.{Tells, Varies, Joined, reads, most_tokens};
+ghost use Rattle.exo_names.specs.ExpressionRules.{width, closed_width, is_divisor, has_variables, affine_faults, name_faults, field_faults, may_be_control, may_be_condition, unknown_first, wrong_form, control_faults, controls_faults, condition_faults};
 
 use crate::error::TypeKind;
 use crate::fault::Charge;
 use crate::tested::{
-    Names, Reads, Tested, affine_charge, dimension_charge, field_charge, is_arithmetic, is_buffer,
-    is_divisor, is_flag, is_number, joins_conditions, missing_field, name_charge,
+    Names, Reads, Tested, affine_charge, all_of, any_of, dimension_charge, field_charge,
+    is_arithmetic, is_buffer, is_divisor, is_flag, is_number, joins_conditions, missing_field,
+    name_charge,
 };
 use crate::width::end_of;
 use exo_lexer::text::Text;
@@ -47,7 +50,10 @@ pub fn test_wrong_form(names: &Names, n: usize, e: &SourceExpr) -> Tested
 
 /// The test of an expression of so many tokens whose form fits.
 fn fitting(charge: Charge, end: usize, variables: bool) -> Tested
-    ensures { result ≡ record { charge = charge; end = end; fits = true; variables = variables } }
+    ensures charge { result.charge ≡ charge }
+    ensures end { result.end ≡ end }
+    ensures form { result.fits ≡ true }
+    ensures variables { result.variables ≡ variables }
 {
     Tested {
         charge,
@@ -57,11 +63,53 @@ fn fitting(charge: Charge, end: usize, variables: bool) -> Tested
     }
 }
 
+/// The test of an expression behind a minus.
+pub(crate) fn negated(inner: Tested) -> Tested
+    ensures charge { result.charge ≡ inner.charge }
+    ensures end { result.end ≡ inner.end }
+    ensures form { result.fits ≡ true }
+    ensures variables { result.variables ≡ inner.variables }
+{
+    Tested {
+        fits: true,
+        ..inner
+    }
+}
+
+/// The test of a name where a number is asked.
+fn test_number(names: &Names, n: usize, x: &Text) -> Tested
+    requires { n + 1 ≤ most_tokens }
+    ensures tells { Tells result (name_faults is_number (sort_of (named_in names.now.scope.now x.now)) n) true n (variable x.now) }
+    ensures variables { result.variables ≡ true }
+{
+    let sort = names.scope.sort(x.as_str());
+    fitting(name_charge(sort, is_number(sort), n), n + 1, true)
+}
+
+/// The test of a name where a bool is asked.
+fn test_flag(names: &Names, n: usize, x: &Text) -> Tested
+    requires { n + 1 ≤ most_tokens }
+    ensures { Tells result (name_faults is_flag (sort_of (named_in names.now.scope.now x.now)) n) true n (variable x.now) }
+{
+    let sort = names.scope.sort(x.as_str());
+    fitting(name_charge(sort, is_flag(sort), n), n + 1, true)
+}
+
+/// The test of a field where a bool is asked, or a number.
+fn test_field(names: &Names, wants_truth: bool, may: bool, n: usize, c: &Text, x: &Text) -> Tested
+    requires { n + 3 ≤ most_tokens }
+    ensures tells { Tells result (field_faults wants_truth may (field_in names.now.fields.now c.now x.now) n) true n (field c.now x.now) }
+    ensures variables { result.variables ≡ true }
+{
+    let found = names.fields.get(c.as_str(), x.as_str());
+    fitting(field_charge(found, wants_truth, may, n), n + 3, true)
+}
+
 /// The test of an expression in parentheses, whose form is that of what stands inside.
 pub(crate) fn enclosed(inner: Tested, n: usize) -> Tested
     requires { inner.end < most_tokens }
     ensures end { result.end ≡ inner.end + 1 }
-    ensures fits { result.fits ≡ inner.fits }
+    ensures form { result.fits ≡ inner.fits }
     ensures variables { result.variables ≡ inner.variables }
     ensures charge { result.charge ≡ (if inner.fits then inner.charge else charged (fault KindMismatch n)) }
 {
@@ -99,19 +147,15 @@ fn joined(
     middle: usize,
     divides: bool,
 ) -> Tested
-    ensures charge { (a b : List Fault) (l r : Tree) → left.charge ≡ charged a → right.charge ≡ charged b → Varies left l → Varies right r → divides ≡ is_divisor r → result.charge ≡ charged (parts_then_whole (a ++ b) (affine_faults operator n middle l r)) }
+    ensures joined { (a b : List Fault) (l r : Tree) → left.charge ≡ charged a → right.charge ≡ charged b → Varies left l → Varies right r → divides ≡ is_divisor r → Joined result (parts_then_whole (a ++ b) (affine_faults operator n middle (has_variables l && has_variables r) (is_divisor r))) (has_variables l || has_variables r) }
     ensures end { result.end ≡ right.end }
     ensures form { result.fits ≡ true }
-    ensures variables { (l r : Tree) → Varies left l → Varies right r → result.charge.hides ≡ false → result.variables ≡ (has_variables l || has_variables r) }
 {
     let parts = left.charge.and(right.charge);
-    let vary = left.variables && right.variables;
+    let vary = all_of(left.variables, right.variables);
     let whole = affine_charge(operator, vary, divides, n, middle);
-    fitting(
-        parts.then_whole(whole),
-        right.end,
-        left.variables || right.variables,
-    )
+    let variables = any_of(left.variables, right.variables);
+    fitting(parts.then_whole(whole), right.end, variables)
 }
 
 /// The test of an expression that stands where a control value is asked: a number.
@@ -122,19 +166,10 @@ pub fn test_control(names: &Names, may: Reads, n: usize, e: &SourceExpr) -> Test
 {
     match e {
         SourceExpr::Int(_) => fitting(Charge::none(), n + 1, false),
-        SourceExpr::Name(x) => {
-            let sort = names.scope.sort(x.as_str());
-            fitting(name_charge(sort, is_number(sort), n), n + 1, true)
-        }
-        SourceExpr::Field(c, x) => {
-            let field = names.fields.get(c.as_str(), x.as_str());
-            fitting(field_charge(field, false, may.fields, n), n + 3, true)
-        }
+        SourceExpr::Name(x) => test_number(names, n, x),
+        SourceExpr::Field(c, x) => test_field(names, false, may.fields, n, c, x),
         SourceExpr::Stride(x, k) => test_stride(names, may, n, x, *k),
-        SourceExpr::Negative(inner) => {
-            let tested = test_control(names, may, n + 1, inner);
-            fitting(tested.charge, tested.end, tested.variables)
-        }
+        SourceExpr::Negative(inner) => negated(test_control(names, may, n + 1, inner)),
         SourceExpr::Parens(inner) => enclosed(test_control(names, may, n + 1, inner), n),
         SourceExpr::Binary(operator, left, right) if is_arithmetic(*operator) => {
             let l = test_control(names, may, n, left);
@@ -162,14 +197,8 @@ pub fn test_condition(names: &Names, may: Reads, n: usize, e: &SourceExpr) -> Te
 {
     match e {
         SourceExpr::Truth(_) => fitting(Charge::none(), n + 1, true),
-        SourceExpr::Name(x) => {
-            let sort = names.scope.sort(x.as_str());
-            fitting(name_charge(sort, is_flag(sort), n), n + 1, true)
-        }
-        SourceExpr::Field(c, x) => {
-            let field = names.fields.get(c.as_str(), x.as_str());
-            fitting(field_charge(field, true, may.fields, n), n + 3, true)
-        }
+        SourceExpr::Name(x) => test_flag(names, n, x),
+        SourceExpr::Field(c, x) => test_field(names, true, may.fields, n, c, x),
         SourceExpr::Parens(inner) => enclosed(test_condition(names, may, n + 1, inner), n),
         SourceExpr::Binary(operator, left, right) if joins_conditions(*operator) => {
             let l = test_condition(names, may, n, left);

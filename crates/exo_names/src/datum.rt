@@ -1,22 +1,32 @@
 //! Which rules values of cells break first.
-ghost use Rattle.std.specs.Prelude.{◌≡◌, ◌+◌, ◌≤◌, [], map, true};
+ghost use Rattle.std.specs.Prelude.{◌≡◌, ◌+◌, ◌≤◌, ◌&&◌, not, [], map, true};
 ghost use Rattle.exo_reader.specs.Expression.{select};
 ghost use Rattle.exo_reader.specs.Views.{tree_of};
 ghost use Rattle.exo_names.specs.Faults.{charged};
 ghost use Rattle.exo_names.specs.Tests.{Tells, most_tokens};
-ghost use Rattle.exo_names.specs.ExpressionRules.{width, closed_width, may_be_data, data_faults, read_faults};
+ghost use Rattle.exo_names.specs.ExpressionRules.{width, closed_width, is_arithmetic, is_quotient, may_be_data, data_faults, read_faults};
 
-use crate::control::{enclosed, test_controls, test_wrong_form};
+use crate::control::{enclosed, negated, test_controls, test_wrong_form};
 use crate::fault::Charge;
-use crate::tested::{
-    Names, PLAINLY, Tested, is_arithmetic, is_buffer, is_quotient, name_charge, rank_charge,
-};
+use crate::tested::{Names, PLAINLY, Tested, is_buffer, name_charge, rank_charge};
 use exo_lexer::text::Text;
-use exo_reader::source::SourceExpr;
+use exo_reader::source::{Operator, SourceExpr};
+
+/// Sums and products, which values of cells have too.
+fn is_data_operator(operator: Operator) -> bool
+    ensures { result ≡ (is_arithmetic operator && not (is_quotient operator)) }
+{
+    match operator {
+        Operator::Add | Operator::Sub | Operator::Mul => true,
+        _ => false,
+    }
+}
 
 /// A value whose form fits.
 fn value(charge: Charge, end: usize) -> Tested
-    ensures { result ≡ record { charge = charge; end = end; fits = true; variables = true } }
+    ensures charge { result.charge ≡ charge }
+    ensures end { result.end ≡ end }
+    ensures form { result.fits ≡ true }
 {
     Tested {
         charge,
@@ -31,7 +41,7 @@ fn test_cell(names: &Names, n: usize, x: &Text) -> Tested
     requires { n + 1 ≤ most_tokens }
     ensures charge { result.charge ≡ charged (read_faults names.now.fields.now names.now.scope.now n x.now []) }
     ensures end { result.end ≡ n + 1 }
-    ensures fits { result.fits ≡ true }
+    ensures form { result.fits ≡ true }
 {
     let sort = names.scope.sort(x.as_str());
     let parts = name_charge(sort, is_buffer(sort), n);
@@ -43,7 +53,7 @@ fn test_access(names: &Names, n: usize, x: &Text, indices: &[SourceExpr]) -> Tes
     requires { n + 2 + closed_width (map tree_of indices.now) ≤ most_tokens }
     ensures charge { result.charge ≡ charged (read_faults names.now.fields.now names.now.scope.now n x.now (map tree_of indices.now)) }
     ensures end { result.end ≡ n + 2 + closed_width (map tree_of indices.now) }
-    ensures fits { result.fits ≡ true }
+    ensures form { result.fits ≡ true }
 {
     let sort = names.scope.sort(x.as_str());
     let name = name_charge(sort, is_buffer(sort), n);
@@ -88,13 +98,9 @@ pub fn test_data(names: &Names, n: usize, e: &SourceExpr) -> Tested
             value(tested.charge, tested.end + 1)
         }
         SourceExpr::Select(a, b, c, d) => test_select(names, n, a, b, c, d),
-        SourceExpr::Negative(inner) => {
-            let tested = test_data(names, n + 1, inner);
-            value(tested.charge, tested.end)
-        }
+        SourceExpr::Negative(inner) => negated(test_data(names, n + 1, inner)),
         SourceExpr::Parens(inner) => enclosed(test_data(names, n + 1, inner), n),
-        SourceExpr::Binary(operator, left, right)
-            if is_arithmetic(*operator) && !is_quotient(*operator) => {
+        SourceExpr::Binary(operator, left, right) if is_data_operator(*operator) => {
             let l = test_data(names, n, left);
             let r = test_data(names, l.end + 1, right);
             value(l.charge.and(r.charge), r.end)

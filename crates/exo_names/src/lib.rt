@@ -5,6 +5,7 @@ pub mod control;
 pub mod datum;
 pub mod error;
 pub mod fault;
+pub mod laws;
 pub mod resolved;
 pub mod scope;
 pub mod table;

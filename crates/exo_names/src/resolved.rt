@@ -1,16 +1,15 @@
 //! Source trees with their names resolved.
-ghost use Rattle.std.specs.Prelude.{◌≡◌, IfOk, false, map};
+ghost use Rattle.std.specs.Prelude.{◌≡◌, IfOk, map};
 ghost use Rattle.exo_tree.specs.PlainControl.{control, condition, coordinate};
 ghost use Rattle.exo_tree.specs.PlainDatum.{datum};
-ghost use Rattle.exo_reader.specs.Expression.{binary, select};
+ghost use Rattle.exo_tree.specs.Tree.{Neg, Negated, Relu, Select};
 ghost use Rattle.exo_reader.specs.Views.{tree_of};
 ghost use Rattle.exo_source.specs.Views.{plain_coordinate};
-ghost use Rattle.exo_names.specs.ExpressionRules.{joins_conditions};
 ghost use Rattle.exo_names.specs.Names.{id_in, field_in};
-ghost use Rattle.exo_names.specs.Resolved.{field_number, divisor_of, control_of, controls_of, condition_of, datum_of};
+ghost use Rattle.exo_names.specs.Resolved.{field_number, divisor_of, joined, compared, joined_conditions, joined_data, truth_of, control_of, controls_of, condition_of, datum_of};
 ghost use Rattle.exo_names.specs.WindowRules.{coordinate_of, coordinates_of};
 
-use crate::tested::Names;
+use crate::tested::{Names, joins_conditions as is_joint};
 use exo_reader::source::{Operator, SourceExpr};
 use exo_source::source::SourceCoord;
 use exo_tree::{Cond, Coord, Coords, Ctrl, DataExpr, FieldId, Id, Indices};
@@ -50,44 +49,35 @@ fn divisor_of(e: &SourceExpr) -> u32
     }
 }
 
-/// The control value with an operator and its two sides.
-#[cycle(controls)]
-fn binary_control(
+/// Two control values with an operator between; what divides is a literal.
+fn joined(
     alloc: Global,
-    names: &Names,
     operator: Operator,
-    l: &SourceExpr,
-    r: &SourceExpr,
+    left: Ctrl,
+    right: Ctrl,
+    divisor: u32,
 ) -> Result<Ctrl, AllocError>
-    ensures { IfOk result (λ e. control e ≡ control_of names.now.fields.now names.now.scope.now (binary operator (tree_of l.now) (tree_of r.now))) }
+    ensures { IfOk result (λ e. control e ≡ joined operator (control left) (control right) divisor) }
 {
+    let left = Box::new(alloc, left)?;
     match operator {
-        Operator::Add => {
-            let left = Box::new(alloc, control_of(alloc, names, l)?)?;
-            Ok(Ctrl::Add(left, Box::new(alloc, control_of(alloc, names, r)?)?))
-        }
-        Operator::Sub => {
-            let left = Box::new(alloc, control_of(alloc, names, l)?)?;
-            Ok(Ctrl::Sub(left, Box::new(alloc, control_of(alloc, names, r)?)?))
-        }
-        Operator::Mul => {
-            let left = Box::new(alloc, control_of(alloc, names, l)?)?;
-            Ok(Ctrl::Mul(left, Box::new(alloc, control_of(alloc, names, r)?)?))
-        }
-        Operator::Div => {
-            let left = Box::new(alloc, control_of(alloc, names, l)?)?;
-            Ok(Ctrl::Div(left, i64::from(divisor_of(r))))
-        }
-        Operator::Mod => {
-            let left = Box::new(alloc, control_of(alloc, names, l)?)?;
-            Ok(Ctrl::Mod(left, i64::from(divisor_of(r))))
-        }
+        Operator::Add => Ok(Ctrl::Add(left, Box::new(alloc, right)?)),
+        Operator::Sub => Ok(Ctrl::Sub(left, Box::new(alloc, right)?)),
+        Operator::Mul => Ok(Ctrl::Mul(left, Box::new(alloc, right)?)),
+        Operator::Div => Ok(Ctrl::Div(left, i64::from(divisor))),
+        Operator::Mod => Ok(Ctrl::Mod(left, i64::from(divisor))),
         _ => Ok(Ctrl::Lit(0)),
     }
 }
 
+/// A control value behind a minus.
+fn negated(alloc: Global, value: Ctrl) -> Result<Ctrl, AllocError>
+    ensures { IfOk result (λ e. control e ≡ Neg (control value)) }
+{
+    Ok(Ctrl::Neg(Box::new(alloc, value)?))
+}
+
 /// The control value that an expression stands for. What breaks a rule stands for some value.
-#[cycle(controls)]
 pub fn control_of(alloc: Global, names: &Names, e: &SourceExpr) -> Result<Ctrl, AllocError>
     ensures { IfOk result (λ c. control c ≡ control_of names.now.fields.now names.now.scope.now (tree_of e.now)) }
 {
@@ -98,35 +88,55 @@ pub fn control_of(alloc: Global, names: &Names, e: &SourceExpr) -> Result<Ctrl, 
         SourceExpr::Stride(x, k) => Ok(Ctrl::Stride(id_in(names, x.as_str()), *k)),
         SourceExpr::Negative(inner) => {
             let value = control_of(alloc, names, inner)?;
-            Ok(Ctrl::Neg(Box::new(alloc, value)?))
+            negated(alloc, value)
         }
         SourceExpr::Parens(inner) => control_of(alloc, names, inner),
-        SourceExpr::Binary(operator, l, r) => binary_control(alloc, names, *operator, l, r),
+        SourceExpr::Binary(operator, l, r) => {
+            let left = control_of(alloc, names, l)?;
+            let right = control_of(alloc, names, r)?;
+            joined(alloc, *operator, left, right, divisor_of(r))
+        }
         _ => Ok(Ctrl::Lit(0)),
     }
 }
 
-/// The comparison of two control values, where the operator is no `or` and no `and`.
-fn compared(
-    alloc: Global,
-    names: &Names,
-    operator: Operator,
-    l: &SourceExpr,
-    r: &SourceExpr,
-) -> Result<Cond, AllocError>
-    requires { joins_conditions operator ≡ false }
-    ensures { IfOk result (λ c. condition c ≡ condition_of names.now.fields.now names.now.scope.now (binary operator (tree_of l.now) (tree_of r.now))) }
+/// The comparison of two control values.
+fn compared(operator: Operator, left: Ctrl, right: Ctrl) -> Cond
+    ensures { condition result ≡ compared operator (control left) (control right) }
 {
-    let left = control_of(alloc, names, l)?;
-    let right = control_of(alloc, names, r)?;
-    Ok(match operator {
+    match operator {
         Operator::Lt => Cond::Lt(left, right),
         Operator::Le => Cond::Le(left, right),
         Operator::Gt => Cond::Gt(left, right),
         Operator::Ge => Cond::Ge(left, right),
         Operator::Eq => Cond::Eq(left, right),
         _ => Cond::False,
+    }
+}
+
+/// Two conditions that are joined.
+fn joined_conditions(
+    alloc: Global,
+    operator: Operator,
+    left: Cond,
+    right: Cond,
+) -> Result<Cond, AllocError>
+    ensures { IfOk result (λ c. condition c ≡ joined_conditions operator (condition left) (condition right)) }
+{
+    let left = Box::new(alloc, left)?;
+    let right = Box::new(alloc, right)?;
+    Ok(match operator {
+        Operator::Or => Cond::Or(left, right),
+        Operator::And => Cond::And(left, right),
+        _ => Cond::False,
     })
+}
+
+/// `True` or `False`.
+fn truth_of(b: bool) -> Cond
+    ensures { condition result ≡ truth_of b }
+{
+    if b { Cond::True } else { Cond::False }
 }
 
 /// The condition that an expression stands for. What breaks a rule stands for some condition.
@@ -134,19 +144,20 @@ pub fn condition_of(alloc: Global, names: &Names, e: &SourceExpr) -> Result<Cond
     ensures { IfOk result (λ c. condition c ≡ condition_of names.now.fields.now names.now.scope.now (tree_of e.now)) }
 {
     match e {
-        SourceExpr::Truth(true) => Ok(Cond::True),
+        SourceExpr::Truth(b) => Ok(truth_of(*b)),
         SourceExpr::Name(x) => Ok(Cond::Var(id_in(names, x.as_str()))),
         SourceExpr::Field(c, x) => Ok(Cond::Field(field_in(names, c.as_str(), x.as_str()))),
         SourceExpr::Parens(inner) => condition_of(alloc, names, inner),
-        SourceExpr::Binary(Operator::Or, l, r) => {
-            let left = Box::new(alloc, condition_of(alloc, names, l)?)?;
-            Ok(Cond::Or(left, Box::new(alloc, condition_of(alloc, names, r)?)?))
+        SourceExpr::Binary(operator, l, r) if is_joint(*operator) => {
+            let left = condition_of(alloc, names, l)?;
+            let right = condition_of(alloc, names, r)?;
+            joined_conditions(alloc, *operator, left, right)
         }
-        SourceExpr::Binary(Operator::And, l, r) => {
-            let left = Box::new(alloc, condition_of(alloc, names, l)?)?;
-            Ok(Cond::And(left, Box::new(alloc, condition_of(alloc, names, r)?)?))
+        SourceExpr::Binary(operator, l, r) => {
+            let left = control_of(alloc, names, l)?;
+            let right = control_of(alloc, names, r)?;
+            Ok(compared(*operator, left, right))
         }
-        SourceExpr::Binary(operator, l, r) => compared(alloc, names, *operator, l, r),
         _ => Ok(Cond::False),
     }
 }
@@ -162,55 +173,58 @@ pub fn indices_of(alloc: Global, names: &Names, list: &[SourceExpr]) -> Result<I
     Ok(indices)
 }
 
-/// The value of cells with an operator and its two sides.
-#[cycle(data)]
-fn binary_data(
+/// Two values of cells with an operator between.
+fn joined_data(
     alloc: Global,
-    names: &Names,
     operator: Operator,
-    l: &SourceExpr,
-    r: &SourceExpr,
+    left: DataExpr,
+    right: DataExpr,
 ) -> Result<DataExpr, AllocError>
-    ensures { IfOk result (λ e. datum e ≡ datum_of names.now.fields.now names.now.scope.now (binary operator (tree_of l.now) (tree_of r.now))) }
+    ensures { IfOk result (λ e. datum e ≡ joined_data operator (datum left) (datum right)) }
 {
-    match operator {
-        Operator::Add => {
-            let left = Box::new(alloc, data_of(alloc, names, l)?)?;
-            Ok(DataExpr::Add(left, Box::new(alloc, data_of(alloc, names, r)?)?))
-        }
-        Operator::Sub => {
-            let left = Box::new(alloc, data_of(alloc, names, l)?)?;
-            Ok(DataExpr::Sub(left, Box::new(alloc, data_of(alloc, names, r)?)?))
-        }
-        Operator::Mul => {
-            let left = Box::new(alloc, data_of(alloc, names, l)?)?;
-            Ok(DataExpr::Mul(left, Box::new(alloc, data_of(alloc, names, r)?)?))
-        }
-        _ => Ok(DataExpr::Lit(0)),
-    }
+    let left = Box::new(alloc, left)?;
+    let right = Box::new(alloc, right)?;
+    Ok(match operator {
+        Operator::Add => DataExpr::Add(left, right),
+        Operator::Sub => DataExpr::Sub(left, right),
+        Operator::Mul => DataExpr::Mul(left, right),
+        _ => DataExpr::Lit(0),
+    })
 }
 
-/// The choice between values of cells.
-#[cycle(data)]
+/// A value of cells behind a minus.
+fn negated_data(alloc: Global, value: DataExpr) -> Result<DataExpr, AllocError>
+    ensures { IfOk result (λ e. datum e ≡ Negated (datum value)) }
+{
+    Ok(DataExpr::Neg(Box::new(alloc, value)?))
+}
+
+/// A value of cells where it is above 0.
+fn rectified(alloc: Global, value: DataExpr) -> Result<DataExpr, AllocError>
+    ensures { IfOk result (λ e. datum e ≡ Relu (datum value)) }
+{
+    Ok(DataExpr::Relu(Box::new(alloc, value)?))
+}
+
+/// A choice between values of cells.
 fn selected(
     alloc: Global,
-    names: &Names,
-    a: &SourceExpr,
-    b: &SourceExpr,
-    c: &SourceExpr,
-    d: &SourceExpr,
+    first: DataExpr,
+    second: DataExpr,
+    third: DataExpr,
+    fourth: DataExpr,
 ) -> Result<DataExpr, AllocError>
-    ensures { IfOk result (λ e. datum e ≡ datum_of names.now.fields.now names.now.scope.now (select (tree_of a.now) (tree_of b.now) (tree_of c.now) (tree_of d.now))) }
+    ensures { IfOk result (λ e. datum e ≡ Select (datum first) (datum second) (datum third) (datum fourth)) }
 {
-    let first = Box::new(alloc, data_of(alloc, names, a)?)?;
-    let second = Box::new(alloc, data_of(alloc, names, b)?)?;
-    let third = Box::new(alloc, data_of(alloc, names, c)?)?;
-    let fourth = Box::new(alloc, data_of(alloc, names, d)?)?;
-    Ok(DataExpr::Select(first, second, third, fourth))
+    Ok(DataExpr::Select(
+        Box::new(alloc, first)?,
+        Box::new(alloc, second)?,
+        Box::new(alloc, third)?,
+        Box::new(alloc, fourth)?,
+    ))
 }
 
 /// The value of cells that an expression stands for. What breaks a rule stands for some value.
-#[cycle(data)]
 pub fn data_of(alloc: Global, names: &Names, e: &SourceExpr) -> Result<DataExpr, AllocError>
     ensures { IfOk result (λ d. datum d ≡ datum_of names.now.fields.now names.now.scope.now (tree_of e.now)) }
 {
@@ -223,15 +237,25 @@ pub fn data_of(alloc: Global, names: &Names, e: &SourceExpr) -> Result<DataExpr,
         }
         SourceExpr::Relu(inner) => {
             let value = data_of(alloc, names, inner)?;
-            Ok(DataExpr::Relu(Box::new(alloc, value)?))
+            rectified(alloc, value)
         }
-        SourceExpr::Select(a, b, c, d) => selected(alloc, names, a, b, c, d),
+        SourceExpr::Select(a, b, c, d) => {
+            let first = data_of(alloc, names, a)?;
+            let second = data_of(alloc, names, b)?;
+            let third = data_of(alloc, names, c)?;
+            let fourth = data_of(alloc, names, d)?;
+            selected(alloc, first, second, third, fourth)
+        }
         SourceExpr::Negative(inner) => {
             let value = data_of(alloc, names, inner)?;
-            Ok(DataExpr::Neg(Box::new(alloc, value)?))
+            negated_data(alloc, value)
         }
         SourceExpr::Parens(inner) => data_of(alloc, names, inner),
-        SourceExpr::Binary(operator, l, r) => binary_data(alloc, names, *operator, l, r),
+        SourceExpr::Binary(operator, l, r) => {
+            let left = data_of(alloc, names, l)?;
+            let right = data_of(alloc, names, r)?;
+            joined_data(alloc, *operator, left, right)
+        }
         _ => Ok(DataExpr::Lit(0)),
     }
 }

@@ -1,13 +1,12 @@
 //! What the test of an expression tells, and the tests of names, fields and operators.
-ghost use Rattle.std.specs.Prelude.{◌≡◌, ◌&&◌, Bool, option_map, Option};
+ghost use Rattle.std.specs.Prelude.{◌≡◌, ◌&&◌, ◌||◌, Bool, option_map, Option};
 ghost use Rattle.exo_lexer.specs.declared.token.Literal.TheVariants.{Value};
 ghost use Rattle.exo_meaning.specs.Units as units;
-ghost use Rattle.exo_reader.specs.Expression.{Tree};
 ghost use Rattle.exo_reader.specs.Views.{tree_of};
 ghost use Rattle.exo_names.specs.Faults.{charged};
 ghost use Rattle.exo_names.specs.Tables.{found_field};
 ghost use Rattle.exo_names.specs.Tests.{sort_seen};
-ghost use Rattle.exo_names.specs.ExpressionRules.{is_buffer, is_arithmetic, is_quotient, joins_conditions, has_variables, is_divisor, name_faults, rank_faults, dimension_faults, field_faults, no_such_field, affine_faults};
+ghost use Rattle.exo_names.specs.ExpressionRules.{is_buffer, is_arithmetic, is_quotient, joins_conditions, is_divisor, name_faults, rank_faults, dimension_faults, field_faults, no_such_field, affine_faults};
 
 use crate::error::TypeKind;
 use crate::fault::Charge;
@@ -203,20 +202,34 @@ pub fn is_divisor(e: &SourceExpr) -> bool
     }
 }
 
-/// The charge of an operator's two sides that break no hiding rule: a product of two sides with variables, or a divisor that is no
-/// literal from 1 on. The right side begins at token `right`.
+/// The charge of an operator's two sides: both have variables in a product, or the right one, which begins at token `right`, is no
+/// literal from 1 on in a quotient.
 pub fn affine_charge(
     operator: Operator,
-    both_vary: bool,
+    vary: bool,
     divides: bool,
     n: usize,
     right: usize,
 ) -> Charge
-    ensures { (l r : Tree) → both_vary ≡ (has_variables l && has_variables r) → divides ≡ is_divisor r → result ≡ charged (affine_faults operator n right l r) }
+    ensures { result ≡ charged (affine_faults operator n right vary divides) }
 {
     match operator {
-        Operator::Mul => Charge::unless(!both_vary, TypeKind::NotAffine, n),
+        Operator::Mul => Charge::unless(!vary, TypeKind::NotAffine, n),
         Operator::Div | Operator::Mod => Charge::unless(divides, TypeKind::NotAffine, right),
         _ => Charge::none(),
     }
+}
+
+/// Whether both hold.
+pub fn all_of(a: bool, b: bool) -> bool
+    ensures { result ≡ (a && b) }
+{
+    a && b
+}
+
+/// Whether one of them holds.
+pub fn any_of(a: bool, b: bool) -> bool
+    ensures { result ≡ (a || b) }
+{
+    a || b
 }
