@@ -14,15 +14,15 @@ ghost use Rattle.exo_names.specs.WindowRules.{window_faults, coordinates_width, 
 ghost use Rattle.exo_writes.specs.Written.{roots_in};
 ghost use Rattle.exo_types.specs.ArgumentRules as rules;
 
-use exo_names::resolved::{NO_ID, condition_of, control_of, coordinates_of, id_in};
-use exo_names::window::test_window;
 use exo_lexer::text::Text;
 use exo_names::control::{test_condition, test_control, test_controls, test_wrong_form};
 use exo_names::error::TypeKind;
 use exo_names::fault::Charge;
+use exo_names::resolved::{NO_ID, condition_of, control_of, coordinates_of, id_in};
 use exo_names::scope::Sort;
 use exo_names::tested::{Names, PLAINLY, Reads, Tested, WITH_BOTH, name_charge, rank_charge};
 use exo_names::width::end_of;
+use exo_names::window::test_window;
 use exo_reader::source::SourceExpr;
 use exo_source::source::{SourceArg, SourceCoord};
 use exo_tree::{Arg, Cell, Coord, Coords, Id, Indices, Kind, ParamKind};
@@ -203,12 +203,18 @@ fn test_view(
             let fits = takes_cell(*cell, dims.len(), sort);
             let (parts, end) = test_window(names, fits, n, x.as_str(), coords);
             let same = spans(coords) == dims.len();
-            (parts.and(Charge::unless(same, TypeKind::RankMismatch, n)), end)
+            (
+                parts.and(Charge::unless(same, TypeKind::RankMismatch, n)),
+                end,
+            )
         }
         ParamKind::Window(cell, dims, _) => {
             let (parts, end) = test_window(names, has_cell(*cell, sort), n, x.as_str(), coords);
             let same = spans(coords) == dims.len();
-            (parts.and(Charge::unless(same, TypeKind::RankMismatch, n)), end)
+            (
+                parts.and(Charge::unless(same, TypeKind::RankMismatch, n)),
+                end,
+            )
         }
     }
 }
@@ -243,12 +249,7 @@ fn part_root(names: &Names, aliases: &[Alias], e: &SourceExpr) -> u32
 }
 
 /// The buffer that an argument is a part of; None for a control value.
-pub fn root_of(
-    names: &Names,
-    aliases: &[Alias],
-    kind: &ParamKind,
-    given: &SourceArg,
-) -> Option<u32>
+pub fn root_of(names: &Names, aliases: &[Alias], kind: &ParamKind, given: &SourceArg) -> Option<u32>
     ensures { result ≡ units.root_of (units.field_kind names.now.fields.now) (roots_in aliases.now) (rules.argument_of names.now.fields.now names.now.scope.now (parameter_kind kind.now) (plain_argument given.now)) }
 {
     match given {
@@ -261,11 +262,7 @@ pub fn root_of(
 }
 
 /// Points as the coordinates of a window.
-fn points_of(
-    alloc: Global,
-    names: &Names,
-    indices: &[SourceExpr],
-) -> Result<Coords, AllocError>
+fn points_of(alloc: Global, names: &Names, indices: &[SourceExpr]) -> Result<Coords, AllocError>
     ensures { IfOk result (λ l. l ≡ coordinates_of names.now.fields.now names.now.scope.now (rules.points (map tree_of indices.now))) }
 {
     let mut made = Coords::new(alloc);
@@ -290,12 +287,7 @@ fn part_of(alloc: Global, names: &Names, e: &SourceExpr) -> Result<Arg, AllocErr
 }
 
 /// A control value of a kind as a tree.
-pub fn kind_of(
-    alloc: Global,
-    names: &Names,
-    kind: Kind,
-    e: &SourceExpr,
-) -> Result<Arg, AllocError>
+pub fn kind_of(alloc: Global, names: &Names, kind: Kind, e: &SourceExpr) -> Result<Arg, AllocError>
     ensures { IfOk result (λ a. argument a ≡ rules.kind_value_of names.now.fields.now names.now.scope.now (control_kind kind) (tree_of e.now)) }
 {
     match kind {
@@ -319,7 +311,10 @@ pub fn argument_of(
             _ => part_of(alloc, names, e),
         },
         SourceArg::Window(x, coords) => {
-            Ok(Arg::Window(id_in(names, x.as_str()), coordinates_of(alloc, names, coords)?))
+            Ok(Arg::Window(
+                id_in(names, x.as_str()),
+                coordinates_of(alloc, names, coords)?,
+            ))
         }
     }
 }

@@ -137,12 +137,7 @@ fn has_form(kind: Trait, value: &SourceValue, text: &[u8]) -> bool
 }
 
 /// What an attribute breaks by itself.
-fn trait_charge(
-    kind: Option<Trait>,
-    value: &SourceValue,
-    text: &[u8],
-    token: usize,
-) -> Charge
+fn trait_charge(kind: Option<Trait>, value: &SourceValue, text: &[u8], token: usize) -> Charge
     requires { text.now ≡ text_of (plain_setting value.now) }
     ensures { result ≡ charged (trait_faults kind token (plain_setting value.now)) }
 {

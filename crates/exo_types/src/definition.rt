@@ -3,18 +3,20 @@
 use crate::context::{Context, Walk};
 use crate::part::{binder_charge, end_of_memory, memory_charge, memory_of, test_dims};
 use crate::refusal::{Refusal, keep};
-use exo_names::resolved::{condition_of, indices_of};
 use crate::statement::block_of;
 use crate::types::{cell_charge, cell_of, kind_named};
 use exo_lexer::text::Text;
 use exo_names::control::{test_condition, test_controls};
 use exo_names::error::TypeKind;
 use exo_names::fault::Charge;
+use exo_names::resolved::{condition_of, indices_of};
 use exo_names::scope::{Scope, Sort};
 use exo_names::tested::{Names, PLAINLY, WITH_BOTH};
 use exo_reader::source::SourceExpr;
 use exo_source::source::{SourceDef, SourceKind, SourceParam, SourceParams, SourceType};
-use exo_tree::{Binder, Conds, Kind, Name, Param, ParamKind, Params, Proc, StatementLines, Text as Template};
+use exo_tree::{
+    Binder, Conds, Kind, Name, Param, ParamKind, Params, Proc, StatementLines, Text as Template,
+};
 
 /// The charge of a memory that stands behind a control parameter.
 fn no_memory_charge(context: &Context, n: usize, memory: &Option<Text>) -> Charge {

@@ -5,19 +5,15 @@ use crate::call::{arguments_of, test_call};
 use crate::context::{Context, Walk};
 use crate::part::{binder_charge, end_of_memory, memory_charge, memory_of, test_dims, test_store};
 use crate::refusal::{Refusal, keep};
-use exo_names::resolved::{
-    condition_of, control_of, coordinates_of, data_of, id_in, indices_of,
-};
 use crate::types::{cell_charge, cell_of};
-use exo_names::window::test_window;
 use exo_lexer::text::Text;
 use exo_names::control::{test_condition, test_control};
 use exo_names::error::TypeKind;
 use exo_names::fault::Charge;
+use exo_names::resolved::{condition_of, control_of, coordinates_of, data_of, id_in, indices_of};
 use exo_names::scope::Sort;
-use exo_names::tested::{
-    Names, PLAINLY, WITH_FIELDS, WITH_STRIDES, is_buffer,
-};
+use exo_names::tested::{Names, PLAINLY, WITH_FIELDS, WITH_STRIDES, is_buffer};
+use exo_names::window::test_window;
 use exo_reader::source::SourceExpr;
 use exo_source::source::{SourceArgs, SourceCoord, SourceKind, SourceStmt};
 use exo_tree::{Arg, Binder, Block, Cell, Id, Kind, Name, ProcId, Stmt};

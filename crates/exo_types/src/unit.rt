@@ -14,9 +14,7 @@ use exo_names::fault::{Charge, Fault};
 use exo_names::table::{FieldTable, NameTable};
 use exo_source::source::{SourceAttribute, SourceDef, SourceField, SourceItem, SourceValue};
 use exo_source::unit::Source;
-use exo_tree::{
-    Field, Fields, Lines, Memories, Name, Proc, ProcLines, Procs, Text, Unit,
-};
+use exo_tree::{Field, Fields, Lines, Memories, Name, Proc, ProcLines, Procs, Text, Unit};
 use exo_writes::written::{Above, Row, written_by};
 use std::alloc::{AllocError, Global};
 
@@ -208,19 +206,13 @@ impl<'c> Typed<'c> {
             SourceItem::Configuration(name, fields) => {
                 self.add_configuration(alloc, n, name, fields)
             }
-            SourceItem::Memory(name, attributes) => {
-                self.add_memory(alloc, n, name, attributes)
-            }
+            SourceItem::Memory(name, attributes) => { self.add_memory(alloc, n, name, attributes) }
         }
     }
 }
 
 /// The unit of items.
-fn unit_of(
-    alloc: Global,
-    places: &[Place],
-    items: &[SourceItem],
-) -> Result<Unit, Refusal> {
+fn unit_of(alloc: Global, places: &[Place], items: &[SourceItem]) -> Result<Unit, Refusal> {
     let mut typed = Typed::new(alloc)?;
     let mut next = 0;
     for item in items {

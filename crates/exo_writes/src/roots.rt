@@ -26,11 +26,7 @@ pub fn root(aliases: &[Alias], name: u32) -> u32
 }
 
 /// Lets a name stand for a buffer from now on.
-pub fn set_root(
-    aliases: &mut Vec<Alias>,
-    name: u32,
-    buffer: u32,
-) -> Result<(), AllocError>
+pub fn set_root(aliases: &mut Vec<Alias>, name: u32, buffer: u32) -> Result<(), AllocError>
     ensures set { OnOk result (roots_in aliases.new.items ≡ updated (roots_in aliases.old.items) name buffer) }
     ensures kept { OnOk result (take (length aliases.old.items) aliases.new.items ≡ aliases.old.items) }
 {

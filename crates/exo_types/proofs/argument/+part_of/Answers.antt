@@ -13,8 +13,8 @@ returns-in_ok-points_of-in-Access t c =
     let fields = c.args.names.now.fields.now in
     let id = c.id_in-in-Access.ensures ∙ ap (id_in scope) c.as_str-in-Access.ensures in
     let cs =
-        c.in_ok-points_of-in-Access.ensures
-        ∙ ap (λ is. coordinates_of fields scope (points (map tree_of is))) c.deref.ensures.value
-        ∙ ap (λ es. coordinates_of fields scope (points es)) (sym (listed (map tree_of c.in-Access.indices.items)))
+    c.in_ok-points_of-in-Access.ensures
+    ∙ ap (λ is. coordinates_of fields scope (points (map tree_of is))) c.deref.ensures.value
+    ∙ ap (λ es. coordinates_of fields scope (points es)) (sym (listed (map tree_of c.in-Access.indices.items)))
     in
     (λ i. Window (id i) (cs i)) ∙ ap (part_of fields scope) (sym (is_access _ _ _ c.in-Access.is))

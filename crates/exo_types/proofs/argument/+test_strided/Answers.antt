@@ -27,9 +27,9 @@ returns-in-Access t c =
     let s = c.sort-sort-in-Access.ensures ∙ ap (λ y. sort_of (named_in scope y)) c.as_str-in-Access.ensures in
     let fits = sym (c.has_cell-in-Access.ensures ∙ ap (has_cell cell) s) in
     let part =
-        c.test_cell-part.ensures (has_cell cell) fits
-        ∙ ap (λ is. charged (window_faults fields (has_cell cell) scope c.args.n x (points (map tree_of is)))) c.deref.ensures.value
-        ∙ ap (λ es. charged (window_faults fields (has_cell cell) scope c.args.n x (points es))) (sym (listed (map tree_of c.in-Access.indices.items)))
+    c.test_cell-part.ensures (has_cell cell) fits
+    ∙ ap (λ is. charged (window_faults fields (has_cell cell) scope c.args.n x (points (map tree_of is)))) c.deref.ensures.value
+    ∙ ap (λ es. charged (window_faults fields (has_cell cell) scope c.args.n x (points es))) (sym (listed (map tree_of c.in-Access.indices.items)))
     in
     c.and.ensures _ _ part c.unless.ensures
     ∙ ap (λ e. charged (strided_faults fields scope cell c.args.rank c.args.first c.args.n e)) (sym (is_access _ _ _ c.in-Access.is))

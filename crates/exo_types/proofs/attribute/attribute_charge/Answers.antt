@@ -13,9 +13,9 @@ returns c =
     let a = c.args.attribute.now in
     let names = map (λ x. x.name) c.args.before.now in
     let own =
-        c.trait_charge-own.ensures
-        ∙ ap (λ t. charged (trait_faults t n (plain_setting a.value))) (c.trait_named-kind.ensures ∙ ap trait_named c.as_slice.ensures) in
+    c.trait_charge-own.ensures
+    ∙ ap (λ t. charged (trait_faults t n (plain_setting a.value))) (c.trait_named-kind.ensures ∙ ap trait_named c.as_slice.ensures) in
     let repeated =
-        c.unless.ensures
-        ∙ ap (λ b. charged (unless (not b) Redefined n)) (c.is_among-repeated.ensures ∙ ap (λ y. list_any (λ x. is_text x y) names) c.as_slice-2.ensures) in
+    c.unless.ensures
+    ∙ ap (λ b. charged (unless (not b) Redefined n)) (c.is_among-repeated.ensures ∙ ap (λ y. list_any (λ x. is_text x y) names) c.as_slice-2.ensures) in
     c.and.ensures _ _ own repeated

@@ -51,9 +51,9 @@ loop-k-preserved c =
           gone_next _ _ (own ++ unless (not (is_passed c.has.result c.root_of.result c.loop-k.passed.items)) SharedArgument c.loop-k.next) _ _ _
           (λ done e. c.and-charge.ensures done _ e (c.and.ensures own _ c.test_argument-end.ensures.charge shares))
           (one_more fields (row_says c.args.callee.writes.now) scope (roots_in c.args.aliases.now) c.loop-k.passed.items c.push.new.self.items c.loop-k.next (c.test_argument-end.result.1 + 1) p _ (map parameter (drop (c.loop-k.k + 1) c.as_slice-params.result.now)) a _ (map plain_argument (drop (c.loop-k.k + 1) c.args.arguments.now)) c.root_of.result c.has.result
-            (ap (map parameter) (drop_read c.as_slice-params.result.now c.loop-k.k c.index-params-k.result c.index-params-k.is g))
-            (ap (map plain_argument) (drop_read c.args.arguments.now c.loop-k.k c.index-arguments-k.result c.index-arguments-k.is h))
-            c.root_of.ensures c.has.ensures c.in_ok-push.ensures.items (ap (λ k. k + 1) c.test_argument-end.ensures.end))
+          (ap (map parameter) (drop_read c.as_slice-params.result.now c.loop-k.k c.index-params-k.result c.index-params-k.is g))
+          (ap (map plain_argument) (drop_read c.args.arguments.now c.loop-k.k c.index-arguments-k.result c.index-arguments-k.is h))
+          c.root_of.ensures c.has.ensures c.in_ok-push.ensures.items (ap (λ k. k + 1) c.test_argument-end.ensures.end))
           c.loop-k.invariant.gone;
     }
 
