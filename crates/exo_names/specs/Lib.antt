@@ -6,3 +6,4 @@ pub mod Resolved
 pub mod WindowRules
 pub mod Tests
 pub mod Laws
+pub mod Arguments

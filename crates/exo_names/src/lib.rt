@@ -1,6 +1,7 @@
 //! What the names of a text stand for, and which rules its expressions break.
 #![tactic(auto)]
 
+pub mod argument;
 pub mod control;
 pub mod datum;
 pub mod error;

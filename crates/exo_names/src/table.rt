@@ -1,5 +1,5 @@
 //! The tables of a text: fields of configurations, and names that are numbered in their order.
-ghost use Rattle.std.specs.Prelude.{◌≡◌, None, [], ◌∷◌, ◌++◌, ◌<◌, length, OnOk, OnErr, option_map};
+ghost use Rattle.std.specs.Prelude.{◌≡◌, None, [], ◌∷◌, ◌++◌, ◌<◌, length, is_some, OnOk, OnErr, option_map};
 ghost use Rattle.exo_tree.specs.PlainBinder.{control_kind};
 ghost use Rattle.exo_names.specs.Names.{field_in, name_number};
 ghost use Rattle.exo_names.specs.Tables.{found_field};
@@ -54,6 +54,16 @@ impl<'a> FieldTable<'a> {
     {
         let (number, _, kind) = self.table.get_full(&(config, name))?;
         Some((FieldId(number as u32), *kind))
+    }
+
+    /// Whether there is a field of these names.
+    pub fn has(&self, config: &str, name: &str) -> bool
+        ensures { result ≡ is_some (field_in self.now config.now name.now) }
+    {
+        match self.get(config, name) {
+            Some(_) => true,
+            None => false,
+        }
     }
 
     /// How many fields there are.
