@@ -1,5 +1,5 @@
 -- The attributes of a memory, one by one.
-use Rattle.std.proofs.Common.{◌≡◌, ℕ, zero, suc, ◌+◌, ◌<◌, ◌≤◌, Bool, true, false, List, [], ◌∷◌, ◌++◌, Option, Some, None, length, map, drop, take, get_or, refl, ap, sym, ◌∙◌, add-one, arith}
+use Rattle.std.proofs.Common.{◌≡◌, ℕ, zero, suc, ◌+◌, ◌<◌, true, false, List, [], ◌∷◌, ◌++◌, Option, Some, None, length, map, drop, take, get_or, refl, ap, sym, ◌∙◌, add-one, arith}
 use Rattle.std.specs.Option.{is_some}
 use Rattle.exo_source.specs.Views.{plain_attribute}
 use Rattle.exo_source.specs.declared.source.SourceAttribute.{SourceAttribute}

@@ -1,5 +1,5 @@
 -- The number of a name is below how many names there are.
-use Rattle.std.proofs.Common.{◌≡◌, ℕ, suc, ◌+◌, ◌<◌, Bool, true, false, List, [], ◌∷◌, Option, Some, None, length, if◌then◌else◌, arith}
+use Rattle.std.proofs.Common.{◌≡◌, ℕ, suc, ◌+◌, ◌<◌, Bool, true, false, List, [], ◌∷◌, Option, Some, length, if◌then◌else◌, arith}
 use Rattle.exo_meaning.specs.Units.{is_text}
 use Rattle.exo_names.specs.Names.{number_from, name_number}
 

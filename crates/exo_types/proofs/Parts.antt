@@ -1,10 +1,10 @@
 -- Cells as windows of points.
 use Rattle.std.proofs.lemmas.Bool.Decides.{nat_tests}
-use Rattle.std.proofs.Common.{◌≡◌, ◌==◌, ℕ, suc, true, false, arith, ◌+◌, Bool, List, [], ◌∷◌, ◌++◌, length, map, Option, refl, sym, ap, ◌∙◌}
+use Rattle.std.proofs.Common.{◌≡◌, ◌==◌, ℕ, suc, true, false, arith, ◌+◌, Bool, List, [], ◌∷◌, ◌++◌, length, map, Option, refl, ap, ◌∙◌}
 use Rattle.std.proofs.lemmas.List.{length-map}
 use Rattle.exo_tree.specs.Tree.{ConfigField}
 use Rattle.exo_meaning.specs.Units.{Sort, Scope, Reads, plainly}
-use Rattle.exo_reader.specs.Expression.{Tree, access, trees}
+use Rattle.exo_reader.specs.Expression.{Tree}
 use Rattle.exo_source.specs.Source.{point}
 use Rattle.exo_names.specs.Names.{named_in, sort_of}
 use Rattle.exo_names.specs.ExpressionRules.{width, closed_width, name_faults, rank_faults, control_faults, controls_faults}

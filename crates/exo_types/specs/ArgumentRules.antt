@@ -6,7 +6,7 @@ use Rattle.exo_tree.specs.Tree as tree
 use Rattle.exo_tree.specs.Tree.{Kind, Cell, ConfigField, Param, ParamKind, ControlParam, TensorParam, WindowParam}
 use Rattle.exo_meaning.specs.Calls.{Callee}
 use Rattle.exo_meaning.specs.Units.{Sort, Scope, Reads, with_both, is_truth, has_cell, is_dense, root_of, field_kind}
-use Rattle.exo_reader.specs.Expression.{Tree, Trees, variable, access, parens}
+use Rattle.exo_reader.specs.Expression.{Tree, variable, access, parens}
 use Rattle.exo_source.specs.Source.{Coordinate, point, span, Argument, value, window}
 use Rattle.exo_names.specs.declared.error.TypeKind.TheVariants.{UnknownName, RankMismatch, SharedArgument}
 use Rattle.exo_names.specs.declared.fault.Fault.{Fault}

@@ -1,6 +1,6 @@
 -- The rules on statements, and what statements are as trees of a procedure. n is always the number of the first token,
 -- id the id that the next binder gets, root the buffer of each name.
-use Rattle.std.specs.Prelude.{ℕ, suc, ◌+◌, if◌then◌else◌, List, [], ◌∷◌, ◌++◌, length, slice_get, Option, Some, None}
+use Rattle.std.specs.Prelude.{ℕ, suc, ◌+◌, List, [], ◌++◌, slice_get, Option, Some, None}
 use Rattle.exo_tree.specs.Tree as tree
 use Rattle.exo_tree.specs.Tree.{Kind, Index, ConfigField}
 use Rattle.exo_meaning.specs.Run.{roots_after}

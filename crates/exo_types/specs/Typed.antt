@@ -1,5 +1,5 @@
 -- What it means to check a unit's names and types: exactly the unit that its text stands for, or exactly the first broken rule.
-use Rattle.std.specs.Prelude.{◌≡◌, ℕ, ◌+◌, ◌≤◌, List, length, map, slice_get, Option, Some, None, Result, MatchResult}
+use Rattle.std.specs.Prelude.{◌≡◌, ◌+◌, ◌≤◌, List, length, map, slice_get, Some, None, Result, MatchResult}
 use Rattle.phrases.specs.Limits.{Limits}
 use Rattle.exo_tree.specs.declared.unit.Unit as tree
 use Rattle.exo_tree.specs.PlainUnit.{program}

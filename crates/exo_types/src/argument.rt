@@ -1,5 +1,5 @@
 //! Arguments of calls.
-ghost use Rattle.std.specs.Prelude.{◌≡◌, ◌+◌, ◌≤◌, ◌==◌, ◌&&◌, Bool, Option, None, Some, map, length, option_map, IfOk};
+ghost use Rattle.std.specs.Prelude.{◌≡◌, ◌+◌, ◌≤◌, ◌==◌, ◌&&◌, Bool, Option, None, Some, map, IfOk};
 ghost use Rattle.exo_tree.specs.PlainBinder.{cell_type, control_kind};
 ghost use Rattle.exo_tree.specs.PlainParam.{parameter_kind};
 ghost use Rattle.exo_tree.specs.PlainArgument.{argument};
@@ -25,7 +25,7 @@ use exo_names::width::end_of;
 use exo_names::window::test_window;
 use exo_reader::source::SourceExpr;
 use exo_source::source::{SourceArg, SourceCoord};
-use exo_tree::{Arg, Cell, Coord, Coords, Id, Indices, Kind, ParamKind};
+use exo_tree::{Arg, Cell, Coord, Coords, Kind, ParamKind};
 use exo_writes::roots::{Alias, root};
 use std::alloc::{AllocError, Global};
 

@@ -4,7 +4,7 @@ ghost use Rattle.exo_tree.specs.PlainParam.{parameter};
 ghost use Rattle.exo_source.specs.Views.{plain_argument};
 ghost use Rattle.exo_names.specs.Faults.{charged};
 ghost use Rattle.exo_names.specs.Tests.{most_tokens};
-ghost use Rattle.exo_writes.specs.Written.{roots_in, row_says};
+ghost use Rattle.exo_writes.specs.Written.{roots_in};
 ghost use Rattle.exo_types.specs.ArgumentRules as rules;
 ghost use Rattle.exo_types.specs.Seen.{signature};
 

@@ -1,5 +1,5 @@
 -- The procedures that may be called.
-use Rattle.std.proofs.Common.{◌≡◌, ℕ, zero, suc, ◌<◌, ◌≤◌, Bool, List, [], ◌∷◌, Option, Some, None, slice_get, get_or, length, map, refl, ap, sym, ◌∙◌, arith}
+use Rattle.std.proofs.Common.{◌≡◌, ℕ, zero, suc, ◌<◌, ◌≤◌, Bool, List, [], ◌∷◌, Some, None, slice_get, get_or, length, map, refl, ap, sym, ◌∙◌, arith}
 use Rattle.exo_tree.specs.Tree.{Argument, Procedure}
 use Rattle.exo_meaning.specs.Run.{call_writes, call_to_writes}
 use Rattle.exo_writes.specs.Written.{nothing, callees_by, callee_by, call_marks}

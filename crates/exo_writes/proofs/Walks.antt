@@ -1,5 +1,5 @@
 -- What a walk has marked, and what is left.
-use Rattle.std.proofs.Common.{◌≡◌, ℕ, zero, suc, arith, ◌||◌, ◌≤◌, Bool, List, [], ◌∷◌, length, drop, take, refl, ap, sym, ◌∙◌}
+use Rattle.std.proofs.Common.{◌≡◌, ℕ, zero, suc, arith, ◌≤◌, Bool, List, [], ◌∷◌, length, drop, take, refl, ap, sym, ◌∙◌}
 use Rattle.std.proofs.Math.Bool.{or_assoc}
 use Rattle.std.proofs.lemmas.List.{drop_all}
 use Rattle.exo_tree.specs.Tree.{Condition, Statement, If, Block, block, Procedure}

@@ -1,7 +1,7 @@
 -- Which buffers a procedure writes or reduces, by the tables of the program.
-use Rattle.std.specs.Prelude.{ℕ, ◌==◌, ◌||◌, Bool, false, List, [], ◌∷◌, map, Option, Some, None, if◌then◌else◌, slice_get, nat_eq}
+use Rattle.std.specs.Prelude.{ℕ, ◌==◌, ◌||◌, Bool, false, List, [], ◌∷◌, map, Some, None, if◌then◌else◌, slice_get, nat_eq}
 use Rattle.indexmap.specs.IndexMap.{get}
-use Rattle.exo_tree.specs.Tree.{Kind, Index, Argument, Block, Statement, Procedure}
+use Rattle.exo_tree.specs.Tree.{Index, Argument, Block, Statement, Procedure}
 use Rattle.exo_meaning.specs.Calls.{Callee}
 use Rattle.exo_meaning.specs.Run.{World, world_of, writes, step_writes, call_to_writes}
 use Rattle.exo_writes.specs.declared.roots.Alias.{Alias}

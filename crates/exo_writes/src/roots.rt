@@ -1,5 +1,5 @@
 //! The buffers of names.
-ghost use Rattle.std.specs.Prelude.{◌≡◌, ◌≤◌, take, length, OnOk};
+ghost use Rattle.std.specs.Prelude.{◌≡◌, take, length, OnOk};
 ghost use Rattle.exo_meaning.specs.Scene.{updated};
 ghost use Rattle.exo_writes.specs.Written.{roots_in};
 

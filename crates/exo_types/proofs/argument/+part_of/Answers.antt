@@ -1,4 +1,4 @@
-use Rattle.std.proofs.Common.{◌≡◌, ap, sym, ◌∙◌, map}
+use Rattle.std.proofs.Common.{ap, sym, ◌∙◌, map}
 use Rattle.exo_tree.specs.Tree.{Window}
 use Rattle.exo_reader.specs.Views.{tree_of}
 use Rattle.exo_names.specs.Names.{id_in}

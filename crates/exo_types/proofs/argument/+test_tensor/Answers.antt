@@ -1,4 +1,4 @@
-use Rattle.std.proofs.Common.{◌≡◌, ap, sym, ◌∙◌, map, arith}
+use Rattle.std.proofs.Common.{ap, sym, ◌∙◌, map, arith}
 use Rattle.exo_reader.specs.Views.{tree_of}
 use Rattle.exo_names.specs.ExpressionRules.{width, closed_width}
 use Rattle.exo_tree.specs.PlainBinder.{cell_type}

@@ -1,4 +1,4 @@
-use Rattle.std.proofs.Common.{◌≡◌, ap, sym, ◌∙◌, map, length}
+use Rattle.std.proofs.Common.{ap, sym, ◌∙◌, map, length}
 use Rattle.std.proofs.lemmas.List.{length-map}
 use Rattle.exo_reader.specs.Views.{tree_of}
 use Rattle.exo_names.specs.Faults.{charged}

@@ -1,4 +1,4 @@
-use Rattle.std.proofs.Common.{◌≡◌, not, map, ap, sym, ◌∙◌}
+use Rattle.std.proofs.Common.{not, map, ap, ◌∙◌}
 use Rattle.std.specs.List.{list_any}
 use Rattle.exo_meaning.specs.Units.{is_text}
 use Rattle.exo_source.specs.Views.{plain_setting}

@@ -1,4 +1,4 @@
-use Rattle.std.proofs.Common.{◌≡◌, ◌+◌, ◌<◌, length, ap, sym, ◌∙◌, arith}
+use Rattle.std.proofs.Common.{◌+◌, ap, sym, ◌∙◌, arith}
 use Rattle.exo_types.proofs.Attributes.{stops, goes_on, width_read}
 use Rattle.exo_types.proofs.attribute.attributes_fault.Goals as goal
 

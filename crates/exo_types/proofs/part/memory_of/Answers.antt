@@ -1,4 +1,4 @@
-use Rattle.std.proofs.Common.{◌≡◌, ◌<◌, ◌^◌, sym, ◌∙◌, arith}
+use Rattle.std.proofs.Common.{sym, ◌∙◌, arith}
 use Rattle.exo_types.proofs.Numbers.{number_below}
 use Rattle.exo_types.proofs.part.memory_of.Goals as goal
 
