@@ -49,6 +49,7 @@ pub const WITH_BOTH: Reads = Reads {
 };
 
 /// What names stand for: the fields of configurations, and the names in scope.
+#[derive(Drop)]
 pub struct Names<'n> {
     pub fields: &'n FieldTable<'n>,
     pub scope: &'n Scope<'n>,
