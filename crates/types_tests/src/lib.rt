@@ -1,0 +1,5 @@
+//! Tables of expressions: the first rule that each breaks.
+#![tactic(auto)]
+
+#[cfg(test)]
+mod expressions;
