@@ -85,10 +85,10 @@ pub answer_first : (gs : List Found) (f : Found) (rest : List Found) (v : Verdic
 answer_first gs f rest v shown true_of refused =
     let after = answer_after (eliminations gs) v (eliminations rest) (are_shown gs (recursion_from_All IsShown gs shown)) refused in
     sym (
-      ap answer_of (joined gs f rest)
-      ∙ ap (λ w. answer_of (eliminations gs ++ w ∷ eliminations rest)) (sym true_of.exact)
-      ∙ after
-      ∙ ap (λ n. First n v) (lengths gs)
+    ap answer_of (joined gs f rest)
+    ∙ ap (λ w. answer_of (eliminations gs ++ w ∷ eliminations rest)) (sym true_of.exact)
+    ∙ after
+    ∙ ap (λ n. First n v) (lengths gs)
     )
 
 pub answer_all : (fs : List Found) → All IsShown fs → AllShown ≡ answer_of (eliminations fs)

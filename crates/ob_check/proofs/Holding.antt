@@ -24,7 +24,7 @@ sums_decide a b =
 constraints_decide : (s t : Constraints) → Decides (same_system s t) (s ≡ t)
 constraints_decide s t =
     Decides-like (same_system s t) (λ p i. record { variables = p.0 i; equations = p.1.0 i; rows = p.1.1 i }) (λ e. (ap (λ c. c.variables) e, (ap (λ c. c.equations) e, ap (λ c. c.rows) e)))
-      (Decides-and (s.variables == t.variables) (pointwise same_sum s.equations t.equations && pointwise same_sum s.rows t.rows) (Decides-eqb s.variables t.variables) (Decides-and (pointwise same_sum s.equations t.equations) (pointwise same_sum s.rows t.rows) (pointwise_decides sums_decide s.equations t.equations) (pointwise_decides sums_decide s.rows t.rows)))
+    (Decides-and (s.variables == t.variables) (pointwise same_sum s.equations t.equations && pointwise same_sum s.rows t.rows) (Decides-eqb s.variables t.variables) (Decides-and (pointwise same_sum s.equations t.equations) (pointwise same_sum s.rows t.rows) (pointwise_decides sums_decide s.equations t.equations) (pointwise_decides sums_decide s.rows t.rows)))
 
 -- `==` on the program's systems is sameness of the constraints
 agree : (s t : System) → systems_equal s t ≡ same_system (plain_system s) (plain_system t)

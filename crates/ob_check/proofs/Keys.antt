@@ -13,8 +13,8 @@ use Rattle.affine_forms.specs.contracts.system.TermPartialEq.TheImpl as term_eq
 use Rattle.affine_forms.specs.contracts.system.RowPartialEq.TheImpl as row_eq
 use Rattle.affine_forms.specs.contracts.system.SystemPartialEq.TheImpl as system_eq
 use Rattle.ob_check.specs.Rows.{term_numbers, row_numbers}
-use Rattle.ob_check.proofs.Rows.{same_rows}
-use Rattle.ob_check.proofs.Sameness.{heads, variables, same_numbers}
+use Rattle.ob_check.proofs.Rows.{variables, same_plain}
+use Rattle.ob_check.proofs.Sameness.{heads, same_numbers}
 
 abbrev terms_equal : Term → Term → Bool
 terms_equal = (term_eq.ghosts).eq
@@ -50,9 +50,6 @@ module _ (s t : System) where
   unfolding Same
   numbers_decide = Decides-and (s.vars == t.vars) (pointwise rows_equal s.equations.items t.equations.items && pointwise rows_equal s.rows.items t.rows.items) (Decides-eqb s.vars t.vars) (Decides-and (pointwise rows_equal s.equations.items t.equations.items) (pointwise rows_equal s.rows.items t.rows.items) (Decides-pointwise rows_equal row_numbers row_decides s.equations.items t.equations.items) (Decides-pointwise rows_equal row_numbers row_decides s.rows.items t.rows.items))
 
-  over : (n m : ℕ) (rs qs : List Row) → n ≡ m → map row_numbers rs ≡ map row_numbers qs → map (plain_row n) rs ≡ map (plain_row m) qs
-  over n m rs qs e f = same_rows n rs qs f ∙ ap (λ k. map (plain_row k) qs) e
-
   back : (n m : ℕ) (rs qs : List Row) → n ≡ m → are_below n (map variables rs) ≡ true → are_below m (map variables qs) ≡ true → map (plain_row n) rs ≡ map (plain_row m) qs → map row_numbers rs ≡ map row_numbers qs
   back n m rs qs e a b f = same_numbers n rs qs a (subst (λ k. are_below k (map variables qs) ≡ true) (sym e) b) (f ∙ ap (λ k. map (plain_row k) qs) (sym e))
 
@@ -61,7 +58,8 @@ module _ (s t : System) where
   unfolding Same
   systems_decide = Decides-like (systems_equal s t) forth along numbers_decide where
     forth : Same → plain_system s ≡ plain_system t
-    forth p i = record { variables = p.0 i; equations = over s.vars t.vars s.equations.items t.equations.items p.0 p.1.0 i; rows = over s.vars t.vars s.rows.items t.rows.items p.0 p.1.1 i }
+    forth p = same_plain s t p.0 p.1.0 p.1.1
+
     along : plain_system s ≡ plain_system t → Same
     along e =
         let n : s.vars ≡ t.vars = ap (λ c. c.variables) e in

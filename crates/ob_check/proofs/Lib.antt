@@ -6,3 +6,4 @@ mod Entries
 mod Keyed
 mod Holding
 mod Answering
+mod Looking

@@ -16,6 +16,7 @@ use Rattle.affine_forms.specs.declared.system.Term.{Term}
 use Rattle.affine_forms.specs.declared.system.Row.{Row}
 use Rattle.affine_forms.specs.declared.system.System.{System}
 use Rattle.ob_check.specs.Rows.{term_numbers, row_numbers}
+use Rattle.ob_check.proofs.Rows.{variables}
 
 -- ---- a row's terms follow from its coefficients
 
@@ -82,9 +83,9 @@ terms_follow n l m (t ∷ ts) (u ∷ us) a b same = elim (cases_order t.variable
       ] in
       λ i. (e i, coefficients i) ∷ terms_follow n (suc t.variable) (suc u.variable) ts us (rest n l t ts a) (rest n m u us b) tails i
   | inr apart ↦ elim apart [
-      | inl lt ↦ absurd (never_zero t (sym (own t ts) ∙ same t.variable (within n l t ts a) ∙ before n m u us b t.variable lt))
-      | inr gt ↦ absurd (never_zero u (sym (own u us) ∙ sym (same u.variable (within n m u us b)) ∙ before n l t ts a u.variable gt))
-    ]
+    | inl lt ↦ absurd (never_zero t (sym (own t ts) ∙ same t.variable (within n l t ts a) ∙ before n m u us b t.variable lt))
+    | inr gt ↦ absurd (never_zero u (sym (own u us) ∙ sym (same u.variable (within n m u us b)) ∙ before n l t ts a u.variable gt))
+  ]
 ]
 
 agree_below : (f g : ℕ → ℤ) (n : ℕ) → map f (below n) ≡ map g (below n) → (v : ℕ) → v < n → f v ≡ g v
@@ -97,9 +98,6 @@ agree_below f g (suc n) e v lt =
     ]
 
 -- ---- rows
-
-abbrev pub variables : Row → List ℕ
-variables r = map (λ t. t.variable) r.terms.items
 
 same_row : (n : ℕ) (r q : Row) → list_all (λ x. nat_lt x n) (variables r) ≡ true → list_all (λ x. nat_lt x n) (variables q) ≡ true → plain_row n r ≡ plain_row n q → row_numbers r ≡ row_numbers q
 unfolding Agree

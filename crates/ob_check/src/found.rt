@@ -39,10 +39,7 @@ pub(crate) fn looked_up<'a>(
 }
 
 /// The systems that the cache does not know, in order.
-pub(crate) fn missing<'a>(
-    alloc: Global,
-    found: &[Found<'a>],
-) -> Result<Vec<&'a System>, AllocError>
+pub(crate) fn missing<'a>(alloc: Global, found: &[Found<'a>]) -> Result<Vec<&'a System>, AllocError>
     ensures { IfOk result (λ v. map (λ s. plain_system s.now) v.items ≡ missing_of found.now) }
 {
     let mut all = Vec::new(alloc);

@@ -32,12 +32,42 @@ fn short_lists(rt: HostRuntime) -> Result<(), Fail> {
     let cases: [(&str, &[Kind], Answer, u64); 8] = [
         ("nothing", &[], Answer::AllShown, 0),
         ("all shown", &[Shown(0), Shown(7)], Answer::AllShown, 1),
-        ("one in the middle", &[Shown(0), Open(1), Shown(2)], first(1, Verdict::Open), 1),
-        ("two that are open", &[Shown(0), Open(1), Open(0)], first(1, Verdict::Open), 1),
-        ("too many rows", &[Shown(0), TooMany, Open(0)], first(1, Verdict::TooMany), 1),
-        ("open before too many", &[Open(0), TooMany], first(0, Verdict::Open), 1),
-        ("the same twice", &[Shown(3), Shown(3), Open(3), Open(3)], first(2, Verdict::Open), 1),
-        ("many rows", &[Shown(0), Rows(65)], first(1, Verdict::Open), 1),
+        (
+            "one in the middle",
+            &[Shown(0), Open(1), Shown(2)],
+            first(1, Verdict::Open),
+            1,
+        ),
+        (
+            "two that are open",
+            &[Shown(0), Open(1), Open(0)],
+            first(1, Verdict::Open),
+            1,
+        ),
+        (
+            "too many rows",
+            &[Shown(0), TooMany, Open(0)],
+            first(1, Verdict::TooMany),
+            1,
+        ),
+        (
+            "open before too many",
+            &[Open(0), TooMany],
+            first(0, Verdict::Open),
+            1,
+        ),
+        (
+            "the same twice",
+            &[Shown(3), Shown(3), Open(3), Open(3)],
+            first(2, Verdict::Open),
+            1,
+        ),
+        (
+            "many rows",
+            &[Shown(0), Rows(65)],
+            first(1, Verdict::Open),
+            1,
+        ),
     ];
     for (name, kinds, wanted, chunks) in cases {
         let obs = obligations(rt.alloc(), kinds)?;

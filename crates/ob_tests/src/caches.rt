@@ -36,7 +36,13 @@ fn the_oldest_go(rt: HostRuntime) -> Result<(), Fail> {
     let one_more = obligations(rt.alloc(), &[Kind::Open(2)])?;
     let front = obligations(rt.alloc(), &[Kind::Open(0)])?;
     let back = obligations(rt.alloc(), &[Kind::Open(1)])?;
-    let steps = [(&oldest, 1), (&full, 16), (&one_more, 1), (&front, 0), (&back, 1)];
+    let steps = [
+        (&oldest, 1),
+        (&full, 16),
+        (&one_more, 1),
+        (&front, 0),
+        (&back, 1),
+    ];
     for (obs, chunks) in steps {
         discharge(&rt, rt.alloc(), obs, &mut cache, &gate)?;
         assert_eq!(rt; gate.count()?, chunks, "of {} obligations", obs.len());
