@@ -15,7 +15,7 @@ use Rattle.exo_lexer.specs.declared.token.Token.TheVariants as t
 use Rattle.exo_lexer.specs.declared.token.Word.TheVariants as w
 use Rattle.exo_lexer.specs.declared.token.Sign.{Sign}
 use Rattle.exo_lexer.specs.declared.token.Sign.TheVariants as s
-use Rattle.exo_readback.specs.Names.{IsName, BeginsName, AreNameBytes}
+use Rattle.exo_readback.specs.Names.{IsName, BeginsName, AreNameBytes, Each}
 use Rattle.exo_readback.proofs.Bare.{bare, skip}
 
 -- what may stand behind a name, a number or a sign, so that it ends there
@@ -330,20 +330,16 @@ between_reads B a op b us vs token r o q = record {
 
 -- ---- lists
 
-abbrev pub Each : {A : Type 0} → (A → Type 0) → List A → Type 0
-Each P [] = Unit {0}
-Each P (x ∷ xs) = P x × Each P xs
-
 -- items behind commas
 abbrev pub more_tokens : {A : Type 0} → (A → List Token) → List A → List Token
 more_tokens g [] = []
 more_tokens g (x ∷ xs) = t.Sign s.Comma ∷ (g x ++ more_tokens g xs)
 
-free_more : (us : List (List ℕ)) (rest : List ℕ) → Free rest → Free (flat_map (λ u. codes ", " ++ u) us ++ rest)
+pub free_more : (us : List (List ℕ)) (rest : List ℕ) → Free rest → Free (flat_map (λ u. codes ", " ++ u) us ++ rest)
 free_more [] rest free = free
 free_more (u ∷ us) rest free = (refl, refl)
 
-comma_blank : Reads Any (codes ", ") (t.Sign s.Comma ∷ [])
+pub comma_blank : Reads Any (codes ", ") (t.Sign s.Comma ∷ [])
 comma_blank = join Any Any (codes ",") (codes " ") (t.Sign s.Comma ∷ []) [] comma_reads (λ rest any. tt) blank_reads
 
 pub more_reads : (A : Type 0) (f : A → List ℕ) (g : A → List Token) (xs : List A) → Each (λ x. Reads Free (f x) (g x)) xs → Reads Free (flat_map (λ u. codes ", " ++ u) (map f xs)) (more_tokens g xs)

@@ -40,7 +40,7 @@ no_return : (b : ℕ) (rest : List ℕ) → eqb b 0x0D ≡ false → is_skipped_
 no_return b [] e = refl
 no_return b (c ∷ rest) e = rw e refl
 
-line_byte : (b : ℕ) (rest : List ℕ) → nat_lt b 0x20 ≡ false → lines (b ∷ rest) ≡ longer b (lines rest)
+pub line_byte : (b : ℕ) (rest : List ℕ) → nat_lt b 0x20 ≡ false → lines (b ∷ rest) ≡ longer b (lines rest)
 line_byte b rest e =
     let feed : eqb b 0x0A ≡ false = grind (arith, nat_tests, e) in
     let return : eqb b 0x0D ≡ false = grind (arith, nat_tests, e) in

@@ -18,3 +18,7 @@ pub record IsName (x : List ℕ) : Type 0 where
   pub bytes : AreNameBytes x
   pub some : bytes_eq x (codes "_") ≡ false
   pub free : word_of x ≡ None
+
+abbrev pub Each : {A : Type 0} → (A → Type 0) → List A → Type 0
+Each P [] = Unit {0}
+Each P (x ∷ xs) = P x × Each P xs

@@ -29,11 +29,19 @@ access_tree x [] = variable x
 access_tree x (e ∷ more) = access x (trees (e ∷ more))
 
 -- the configuration of a field, and its name in that
+abbrev pub config_of : ℕ → Option ConfigField → List ℕ
+config_of f None = unknown f
+config_of f (Some x) = x.config
+
+abbrev pub field_of : ℕ → Option ConfigField → List ℕ
+field_of f None = unknown f
+field_of f (Some x) = x.name
+
 abbrev pub config_word : List ConfigField → ℕ → List ℕ
-config_word fields f = elim (slice_get fields f) [ None ↦ unknown f | Some x ↦ x.config ]
+config_word fields f = config_of f (slice_get fields f)
 
 abbrev pub field_word : List ConfigField → ℕ → List ℕ
-field_word fields f = elim (slice_get fields f) [ None ↦ unknown f | Some x ↦ x.name ]
+field_word fields f = field_of f (slice_get fields f)
 
 -- some coordinate is a span
 abbrev pub has_span : List Coord → Bool

@@ -1,9 +1,18 @@
 //! What the shown text of a procedure is read as, each law the contract of a function with nothing to do.
 
-ghost use Rattle.exo_readback.specs.Names.{AreNameBytes};
-ghost use Rattle.std.specs.Prelude.{[]};
+ghost use Rattle.exo_readback.specs.Laws.{ControlsAreSpelled, ConditionsAreSpelled, DataAreSpelled};
 
-/// Nothing yet.
-pub fn nothing()
-    ensures { AreNameBytes [] }
+/// The text of an expression over control values has the tokens of its source tree.
+pub fn controls_are_spelled()
+    ensures { ControlsAreSpelled }
+{}
+
+/// So has the text of a condition.
+pub fn conditions_are_spelled()
+    ensures { ConditionsAreSpelled }
+{}
+
+/// So has the text of an expression over cells.
+pub fn data_are_spelled()
+    ensures { DataAreSpelled }
 {}
