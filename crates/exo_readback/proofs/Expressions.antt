@@ -34,11 +34,11 @@ placed_by false x e r = r
 placed_reads : (place precedence : ℕ) (x : Text) (e : Tree) → Reads Free x (spelling e) → Reads Free (operand place precedence x) (spelling (placed place precedence e))
 placed_reads place precedence x e r = placed_by (ltb precedence place) x e r
 
-abbrev field_text : ℕ → Option ConfigField → Text
+abbrev pub field_text : ℕ → Option ConfigField → Text
 field_text f None = unknown f
 field_text f (Some x) = x.config ++ codes "." ++ x.name
 
-field_by : (f : ℕ) (o : Option ConfigField) → HasNames o → Reads Free (field_text f o) (t.Name (config_of f o) ∷ t.Sign s.Dot ∷ t.Name (field_of f o) ∷ [])
+pub field_by : (f : ℕ) (o : Option ConfigField) → HasNames o → Reads Free (field_text f o) (t.Name (config_of f o) ∷ t.Sign s.Dot ∷ t.Name (field_of f o) ∷ [])
 field_by f None h = absurd h
 field_by f (Some x) h =
     join Any Free (x.config ++ codes ".") x.name (t.Name x.config ∷ t.Sign s.Dot ∷ []) (t.Name x.name ∷ [])

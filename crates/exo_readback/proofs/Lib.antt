@@ -4,3 +4,6 @@ pub mod Rows
 pub mod Sound
 pub mod Expressions
 pub mod Alone
+pub mod Sources
+pub mod Heads
+pub mod Blocks

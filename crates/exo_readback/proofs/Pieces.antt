@@ -203,7 +203,7 @@ lone_by : (sign : Sign) (q : Bool) (rest : List ℕ) → first_of (cond q (of_si
 lone_by sign true rest = refl
 lone_by sign false rest = refl
 
-open_goes : (rest : List ℕ) → bare 0 (0x28 ∷ rest) ≡ t.Sign s.Open ∷ bare 0 rest
+pub open_goes : (rest : List ℕ) → bare 0 (0x28 ∷ rest) ≡ t.Sign s.Open ∷ bare 0 rest
 open_goes [] = refl
 open_goes (c ∷ more) = lone_by s.Open (eqb c 0x3D) (c ∷ more)
 
@@ -238,7 +238,7 @@ comma_goes (c ∷ more) = lone_by s.Comma (eqb c 0x3D) (c ∷ more)
 pub comma_reads : Reads Any (codes ",") (t.Sign s.Comma ∷ [])
 comma_reads = record { line = (refl, tt); goes = λ rest any. comma_goes rest }
 
-colon_goes : (rest : List ℕ) → bare 0 (0x3A ∷ rest) ≡ t.Sign s.Colon ∷ bare 0 rest
+pub colon_goes : (rest : List ℕ) → bare 0 (0x3A ∷ rest) ≡ t.Sign s.Colon ∷ bare 0 rest
 colon_goes [] = refl
 colon_goes (c ∷ more) = lone_by s.Colon (eqb c 0x3D) (c ∷ more)
 

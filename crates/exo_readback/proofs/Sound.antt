@@ -14,7 +14,7 @@ pub record Whole (tokens : List Token) : Type 0 where
   pub sound : IsSound tokens
   pub closed : (n : ℕ) → open_after n tokens ≡ n
 
-sound_append : (xs ys : List Token) → IsSound xs → IsSound ys → IsSound (xs ++ ys)
+pub sound_append : (xs ys : List Token) → IsSound xs → IsSound ys → IsSound (xs ++ ys)
 sound_append [] ys l k = k
 sound_append (x ∷ xs) ys l k = (l.0, sound_append xs ys l.1 k)
 
