@@ -7,3 +7,6 @@ pub mod Alone
 pub mod Sources
 pub mod Heads
 pub mod Blocks
+pub mod Templates
+pub mod Procedures
+pub mod Readings

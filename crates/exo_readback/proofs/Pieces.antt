@@ -80,6 +80,9 @@ go_names : (x : List ℕ) → AreNameBytes x → AllGo goes_on_name x
 go_names [] h = tt
 go_names (b ∷ x) h = (h.0, go_names x h.1)
 
+pub taken_names : (x rest : List ℕ) → Free rest → AreNameBytes x → take_while goes_on_name (x ++ rest) ≡ x
+taken_names x rest free go = taken goes_on_name x rest (name_stops rest free) (go_names x go)
+
 name_line : (x : List ℕ) → AreNameBytes x → OneLine x
 name_line [] h = tt
 name_line (b ∷ x) h =

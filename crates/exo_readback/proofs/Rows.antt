@@ -267,7 +267,7 @@ pub below_row : (k : ℕ) (text rest : List ℕ) (tokens : List Token) → IsRow
 below_row k text rest tokens r import end line d =
     row_after end line d k text rest tokens r import ∙ ap (λ (ts : List Token). replicate d t.Dedent ++ ts) (sym (row_after end line zero k text rest tokens r import))
 
-end_out : (end : Place) (line k : ℕ) → text_out end line k [] ≡ replicate k t.Dedent
+pub end_out : (end : Place) (line k : ℕ) → text_out end line k [] ≡ replicate k t.Dedent
 end_out end line k = map_replicate (length (columns k)) (put end t.Dedent) ∙ ap (λ (n : ℕ). replicate n t.Dedent) (length_columns k)
 
 replicate_deep : (d k : ℕ) (token : Token) → replicate (deep d k) token ≡ replicate d token ++ replicate k token

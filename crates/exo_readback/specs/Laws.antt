@@ -1,15 +1,23 @@
 -- The laws of shown texts.
-use Rattle.std.specs.Prelude.{◌≡◌, ℕ, List, map}
-use Rattle.exo_tree.specs.Tree.{Control, Condition, Datum, Program}
+use Rattle.std.specs.Prelude.{◌≡◌, ℕ, List, [], ◌∷◌, map, Some, slice_get, Result, MatchResult}
+use Rattle.phrases.specs.Limits.{Limits}
+use Rattle.exo_tree.specs.Tree.{Control, Condition, Datum, Procedure, Program}
 use Rattle.exo_lexer.specs.Layout.{token_of, line_lexed}
 use Rattle.exo_lexer.specs.declared.token.Token.{Token}
 use Rattle.exo_reader.specs.Expression.{spelling}
+use Rattle.exo_source.specs.Items.{item}
+use Rattle.exo_source.specs.Views.{plain_item}
+use Rattle.exo_source.specs.Texts.{tokens_of, ReadsUnit}
+use Rattle.exo_source.specs.declared.unit.ReadError.{ReadError}
+use Rattle.exo_source.specs.declared.unit.ReadKind.TheVariants.{Memory}
+use Rattle.exo_source.specs.declared.unit.Source.{Source}
 use Rattle.exo_show.specs.Layout.{Text}
 use Rattle.exo_show.specs.Words.{words_with}
 use Rattle.exo_show.specs.ControlText.{control_text, condition_text}
 use Rattle.exo_show.specs.DatumText.{datum_text}
-use Rattle.exo_readback.specs.Written.{control_tree, condition_tree, datum_tree}
-use Rattle.exo_readback.specs.Writable.{IsControl, IsCondition, IsDatum}
+use Rattle.exo_show.specs.ProcedureText.{shown}
+use Rattle.exo_readback.specs.Written.{control_tree, condition_tree, datum_tree, written}
+use Rattle.exo_readback.specs.Writable.{IsControl, IsCondition, IsDatum, IsWritable}
 
 -- the tokens of a text of one line
 abbrev pub line_tokens_of : Text → List Token
@@ -24,3 +32,15 @@ ConditionsAreSpelled = (program : Program) (names : ℕ → Text) (c : Condition
 
 abbrev pub DataAreSpelled : Type 0
 DataAreSpelled = (program : Program) (names : ℕ → Text) (e : Datum) → IsDatum program names e → line_tokens_of (datum_text (words_with program names) e) ≡ spelling (datum_tree (words_with program names) program.fields e)
+
+-- the shown text of a procedure of a program is what its source tree spells
+abbrev pub ProceduresAreSpelled : Type 0
+ProceduresAreSpelled = (program : Program) (k : ℕ) (p : Procedure) → slice_get program.procedures k ≡ Some p → IsWritable program p → tokens_of (shown program k) ≡ item.spell (written program p)
+
+-- the source tree of the procedure alone is read, but for want of memory
+abbrev pub ReadsBack : Program → Procedure → Result Source ReadError → Type 0
+ReadsBack program p result = MatchResult result (λ s. map plain_item s.items.items ≡ written program p ∷ []) (λ e. e.kind ≡ Memory)
+
+-- whoever reads the shown text of a procedure that keeps the limits reads that tree
+abbrev pub ShownIsRead : Type 0
+ShownIsRead = (program : Program) (k : ℕ) (p : Procedure) → slice_get program.procedures k ≡ Some p → IsWritable program p → ((limits : Limits) → item.Fits limits (written program p)) → (result : Result Source ReadError) → ReadsUnit (shown program k) result → ReadsBack program p result

@@ -49,6 +49,11 @@ has_span [] = false
 has_span (At a ∷ more) = has_span more
 has_span (Span a b ∷ more) = true
 
+-- a template is one string
+abbrev pub marked : Option (List ℕ) → Definition → Item
+marked None d = source.procedure d
+marked (Some template) d = source.instruction (template ∷ []) d
+
 -- `stride` is a word of the grammar, other kinds are names
 abbrev pub kind_name : Kind → TypeName
 kind_name tree.Size = named (kind_word tree.Size)
@@ -165,9 +170,8 @@ module _ (w : Words) (fields : List ConfigField) where
         body = source.statements (block_of p.body);
       }
 
-  -- a template is one string
   abbrev pub item_of : Procedure → Item
-  item_of p = elim p.template [ None ↦ source.procedure (definition_of p) | Some template ↦ source.instruction (template ∷ []) (definition_of p) ]
+  item_of p = marked p.template (definition_of p)
 
 -- a procedure of a program
 abbrev pub written : Program → Procedure → Item

@@ -1,6 +1,6 @@
 //! What the shown text of a procedure is read as, each law the contract of a function with nothing to do.
 
-ghost use Rattle.exo_readback.specs.Laws.{ControlsAreSpelled, ConditionsAreSpelled, DataAreSpelled};
+ghost use Rattle.exo_readback.specs.Laws.{ControlsAreSpelled, ConditionsAreSpelled, DataAreSpelled, ProceduresAreSpelled, ShownIsRead};
 
 /// The text of an expression over control values has the tokens of its source tree.
 pub fn controls_are_spelled()
@@ -15,4 +15,14 @@ pub fn conditions_are_spelled()
 /// So has the text of an expression over cells.
 pub fn data_are_spelled()
     ensures { DataAreSpelled }
+{}
+
+/// So has the text of a whole procedure, to its last line.
+pub fn procedures_are_spelled()
+    ensures { ProceduresAreSpelled }
+{}
+
+/// So a procedure within the limits of the grammar is read as its source tree.
+pub fn shown_is_read()
+    ensures { ShownIsRead }
 {}
