@@ -9,4 +9,5 @@ pub mod Heads
 pub mod Blocks
 pub mod Templates
 pub mod Procedures
+pub mod Fits
 pub mod Readings

@@ -18,6 +18,7 @@ use Rattle.exo_show.specs.ProcedureText.{procedure_text, shown}
 use Rattle.exo_readback.specs.Written.{written}
 use Rattle.exo_readback.specs.Laws.{ProceduresAreSpelled, ReadsBack, ShownIsRead}
 use Rattle.exo_readback.proofs.Procedures.{procedure_spelled}
+use Rattle.exo_readback.proofs.Fits.{written_fits}
 
 shown_by : (program : Program) (p : Procedure) (o : Option Procedure) → o ≡ Some p → elim o as (λ x. List ℕ) [ None ↦ [] | Some q ↦ procedure_text (words_of program q) q ] ≡ procedure_text (words_of program p) p
 shown_by program p o e = ap (λ (x : Option Procedure). elim x as (λ y. List ℕ) [ None ↦ [] | Some q ↦ procedure_text (words_of program q) q ]) e
@@ -44,5 +45,5 @@ own : (x : Item) (tokens : List Token) (items : List Item) → tokens ≡ item.s
 own x tokens items spelled fits text = sym (text.only unlimited (x ∷ []) (fits, tt) (spelled ∙ sym (append-nil (item.spell x))))
 
 pub shown_is_read : ShownIsRead
-shown_is_read program k p there h fits (Ok s) reads = own (written program p) (tokens_of (shown program k)) (map plain_item s.items.items) (procedures_are_spelled program k p there h) (fits unlimited) reads.0
-shown_is_read program k p there h fits (Err e) reads = want (written program p) (tokens_of (shown program k)) (places_of (shown program k)) e.kind e (procedures_are_spelled program k p there h) fits reads
+shown_is_read program k p there h small (Ok s) reads = own (written program p) (tokens_of (shown program k)) (map plain_item s.items.items) (procedures_are_spelled program k p there h) (written_fits program p h small unlimited) reads.0
+shown_is_read program k p there h small (Err e) reads = want (written program p) (tokens_of (shown program k)) (places_of (shown program k)) e.kind e (procedures_are_spelled program k p there h) (written_fits program p h small) reads

@@ -18,6 +18,7 @@ use Rattle.exo_show.specs.DatumText.{datum_text}
 use Rattle.exo_show.specs.ProcedureText.{shown}
 use Rattle.exo_readback.specs.Written.{control_tree, condition_tree, datum_tree, written}
 use Rattle.exo_readback.specs.Writable.{IsControl, IsCondition, IsDatum, IsWritable}
+use Rattle.exo_readback.specs.Sizes.{IsWithinItem}
 
 -- the tokens of a text of one line
 abbrev pub line_tokens_of : Text → List Token
@@ -41,6 +42,10 @@ ProceduresAreSpelled = (program : Program) (k : ℕ) (p : Procedure) → slice_g
 abbrev pub ReadsBack : Program → Procedure → Result Source ReadError → Type 0
 ReadsBack program p result = MatchResult result (λ s. map plain_item s.items.items ≡ written program p ∷ []) (λ e. e.kind ≡ Memory)
 
--- whoever reads the shown text of a procedure that keeps the limits reads that tree
+-- the source tree of a procedure within the limits is of the grammar
+abbrev pub WrittenFits : Type 0
+WrittenFits = (program : Program) (p : Procedure) → IsWritable program p → IsWithinItem (written program p) → (limits : Limits) → item.Fits limits (written program p)
+
+-- whoever reads the shown text of such a procedure reads that tree
 abbrev pub ShownIsRead : Type 0
-ShownIsRead = (program : Program) (k : ℕ) (p : Procedure) → slice_get program.procedures k ≡ Some p → IsWritable program p → ((limits : Limits) → item.Fits limits (written program p)) → (result : Result Source ReadError) → ReadsUnit (shown program k) result → ReadsBack program p result
+ShownIsRead = (program : Program) (k : ℕ) (p : Procedure) → slice_get program.procedures k ≡ Some p → IsWritable program p → IsWithinItem (written program p) → (result : Result Source ReadError) → ReadsUnit (shown program k) result → ReadsBack program p result

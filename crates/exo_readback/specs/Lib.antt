@@ -1,4 +1,5 @@
 pub mod Names
 pub mod Written
 pub mod Writable
+pub mod Sizes
 pub mod Laws

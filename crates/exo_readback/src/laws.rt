@@ -1,6 +1,6 @@
 //! What the shown text of a procedure is read as, each law the contract of a function with nothing to do.
 
-ghost use Rattle.exo_readback.specs.Laws.{ControlsAreSpelled, ConditionsAreSpelled, DataAreSpelled, ProceduresAreSpelled, ShownIsRead};
+ghost use Rattle.exo_readback.specs.Laws.{ControlsAreSpelled, ConditionsAreSpelled, DataAreSpelled, ProceduresAreSpelled, WrittenFits, ShownIsRead};
 
 /// The text of an expression over control values has the tokens of its source tree.
 pub fn controls_are_spelled()
@@ -20,6 +20,11 @@ pub fn data_are_spelled()
 /// So has the text of a whole procedure, to its last line.
 pub fn procedures_are_spelled()
     ensures { ProceduresAreSpelled }
+{}
+
+/// The source tree of a procedure within the limits of the grammar is of the grammar.
+pub fn written_fits()
+    ensures { WrittenFits }
 {}
 
 /// So a procedure within the limits of the grammar is read as its source tree.
