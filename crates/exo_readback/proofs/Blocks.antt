@@ -1,7 +1,7 @@
 -- The text of blocks is read as their source trees spell them.
-use Rattle.std.proofs.Common.{◌≡◌, ℕ, zero, suc, ◌+◌, List, [], ◌∷◌, ◌++◌, map, Bool, true, false, eqb, Option, Some, None, codes, slice_get, refl, sym, ap, ◌∙◌, append_assoc, arith, subst}
+use Rattle.std.proofs.Common.{◌≡◌, ℕ, zero, suc, ◌+◌, List, [], ◌∷◌, ◌++◌, map, true, Option, Some, None, codes, slice_get, refl, sym, ap, ◌∙◌, append_assoc, arith, subst}
 use Rattle.std.proofs.lemmas.Bool.Decides.{nat_tests}
-use Rattle.exo_tree.specs.Tree.{Argument, Statement, Assign, Reduce, Config, Pass, If, For, Alloc, View, Call, Block, end, next, ConfigField, Program}
+use Rattle.exo_tree.specs.Tree.{Statement, Assign, Reduce, Config, Pass, If, For, Alloc, View, Call, Block, end, next, ConfigField, Program}
 use Rattle.exo_lexer.specs.Bytes.{begins_name}
 use Rattle.exo_lexer.specs.declared.place.Place.{Place}
 use Rattle.exo_lexer.specs.declared.token.Token.{Token}
@@ -20,8 +20,8 @@ use Rattle.exo_show.specs.StatementText.{argument_text, head_text, or_else, bloc
 use Rattle.exo_readback.specs.Names.{IsName}
 use Rattle.exo_readback.specs.Written.{statement_of, block_of}
 use Rattle.exo_readback.specs.Writable.{HasNames, IsSome, IsStatement, IsBlock}
-use Rattle.exo_readback.proofs.Pieces.{Free, Any, Reads, join, named, weaker, colon_reads}
-use Rattle.exo_readback.proofs.Rows.{IsSound, BeginsRow, IsRow, indent_of, deep, text_out, row, Below, row_after, row_first, below_row, below_more, no_import}
+use Rattle.exo_readback.proofs.Pieces.{Free, Any, join, named, weaker, colon_reads}
+use Rattle.exo_readback.proofs.Rows.{IsSound, BeginsRow, IsRow, indent_of, text_out, row, Below, row_after, row_first, below_row, below_more, no_import}
 use Rattle.exo_readback.proofs.Sound.{Whole, sound_append}
 use Rattle.exo_readback.proofs.Sources.{head_tokens, head_whole}
 use Rattle.exo_readback.proofs.Expressions.{field_text}
@@ -109,11 +109,11 @@ mutual
 
 else_row : IsRow (codes "else:") (t.Word word.Else ∷ t.Sign s.Colon ∷ [])
 else_row = record {
-      reads = weaker _ _ (join Free Any (codes "else") (codes ":") (t.Word word.Else ∷ []) (t.Sign s.Colon ∷ []) (named (codes "else") refl (refl, (refl, (refl, (refl, tt))))) (λ rest any. (refl, refl)) colon_reads);
-      begins = (refl, refl);
-      sound = (refl, (refl, tt));
-      closed = refl;
-    }
+  reads = weaker _ _ (join Free Any (codes "else") (codes ":") (t.Word word.Else ∷ []) (t.Sign s.Colon ∷ []) (named (codes "else") refl (refl, (refl, (refl, (refl, tt))))) (λ rest any. (refl, refl)) colon_reads);
+  begins = (refl, refl);
+  sound = (refl, (refl, tt));
+  closed = refl;
+}
 
 -- the tokens of a line, of what is in it, of what follows it in its block, and of what follows that
 line_parts : (h i b x : List Token) → h ++ (t.NewLine ∷ (i ++ (b ++ x))) ≡ ((h ++ (t.NewLine ∷ i)) ++ b) ++ x
@@ -170,12 +170,13 @@ module _ (program : Program) (names : ℕ → Text) where
   else_out place k end rest line nested = (line, refl)
   else_out place k (next a b) rest line nested =
       let inner : NestedOut place (suc k) (next a b) rest (line + 1) = nested tt (line + 1) in
-      let all = spelling_all (block_of words program.fields (next a b)) in
-      (inner.0,
-      ap (text_out place line (suc k)) (append_assoc (row (suc k) (codes "else:")) (block_text words (indent_of (suc (suc k))) (next a b)) rest)
-      ∙ row_after place line zero (suc k) (codes "else:") (block_text words (indent_of (suc (suc k))) (next a b) ++ rest) (t.Word word.Else ∷ t.Sign s.Colon ∷ []) else_row (no_import k (codes "else:"))
-      ∙ ap (λ (ts : List Token). t.Word word.Else ∷ t.Sign s.Colon ∷ t.NewLine ∷ ts) inner.1
-      ∙ ap (λ (ts : List Token). t.Word word.Else ∷ t.Sign s.Colon ∷ t.NewLine ∷ t.Indent ∷ ts) (sym (append_assoc all (t.Dedent ∷ []) (text_out place inner.0 (suc k) rest))))
+      let all = spelling_all (block_of words program.fields (next a b)) in (
+        inner.0,
+        ap (text_out place line (suc k)) (append_assoc (row (suc k) (codes "else:")) (block_text words (indent_of (suc (suc k))) (next a b)) rest)
+            ∙ row_after place line zero (suc k) (codes "else:") (block_text words (indent_of (suc (suc k))) (next a b) ++ rest) (t.Word word.Else ∷ t.Sign s.Colon ∷ []) else_row (no_import k (codes "else:"))
+            ∙ ap (λ (ts : List Token). t.Word word.Else ∷ t.Sign s.Colon ∷ t.NewLine ∷ ts) inner.1
+            ∙ ap (λ (ts : List Token). t.Word word.Else ∷ t.Sign s.Colon ∷ t.NewLine ∷ t.Indent ∷ ts) (sym (append_assoc all (t.Dedent ∷ []) (text_out place inner.0 (suc k) rest))),
+      )
 
   mutual
     inner_out : (a : Statement) → IsStatement program names a → (place : Place) (k : ℕ) (rest : List ℕ) → Below (suc k) rest → (line : ℕ) → (m : ℕ) × (text_out place line (suc k) (inner_text words (indent_of (suc k)) a ++ rest) ≡ inner_tokens (statement_of words program.fields a) ++ text_out place m (suc k) rest)
@@ -186,12 +187,13 @@ module _ (program : Program) (names : ℕ → Text) where
     inner_out (If c a b) h place k rest below line =
         let other = or_else (indent_of (suc k)) b (block_text words (indent_of (suc (suc k))) b) in
         let first : NestedOut place (suc k) a (other ++ rest) line = nested_out a h.1 h.2 place (suc k) (other ++ rest) (below_else k b (block_text words (indent_of (suc (suc k))) b) rest below) line in
-        let second : (m : ℕ) × (text_out place first.0 (suc k) (other ++ rest) ≡ spelling_else (block_of words program.fields b) ++ text_out place m (suc k) rest) = else_out place k b rest first.0 (λ some l. nested_out b some h.3 place (suc k) rest below l) in
-        (second.0,
-        ap (text_out place line (suc k)) (append_assoc (block_text words (indent_of (suc (suc k))) a) other rest)
-        ∙ first.1
-        ∙ ap (λ (ts : List Token). t.Indent ∷ (spelling_all (block_of words program.fields a) ++ (t.Dedent ∷ ts))) second.1
-        ∙ ap (λ (ts : List Token). t.Indent ∷ ts) (sym (append_assoc (spelling_all (block_of words program.fields a)) (t.Dedent ∷ spelling_else (block_of words program.fields b)) (text_out place second.0 (suc k) rest))))
+        let second : (m : ℕ) × (text_out place first.0 (suc k) (other ++ rest) ≡ spelling_else (block_of words program.fields b) ++ text_out place m (suc k) rest) = else_out place k b rest first.0 (λ some l. nested_out b some h.3 place (suc k) rest below l) in (
+          second.0,
+          ap (text_out place line (suc k)) (append_assoc (block_text words (indent_of (suc (suc k))) a) other rest)
+              ∙ first.1
+              ∙ ap (λ (ts : List Token). t.Indent ∷ (spelling_all (block_of words program.fields a) ++ (t.Dedent ∷ ts))) second.1
+              ∙ ap (λ (ts : List Token). t.Indent ∷ ts) (sym (append_assoc (spelling_all (block_of words program.fields a)) (t.Dedent ∷ spelling_else (block_of words program.fields b)) (text_out place second.0 (suc k) rest))),
+        )
     inner_out (For i lo hi b) h place k rest below line =
         let inner : NestedOut place (suc k) b rest line = nested_out b h.3 h.4 place (suc k) rest below line in
         (inner.0, inner.1 ∙ ap (λ (ts : List Token). t.Indent ∷ ts) (sym (append_assoc (spelling_all (block_of words program.fields b)) (t.Dedent ∷ []) (text_out place inner.0 (suc k) rest))))
@@ -205,13 +207,14 @@ module _ (program : Program) (names : ℕ → Text) where
         let after = block_text words (indent_of (suc k)) b ++ rest in
         let st = statement_of words program.fields a in
         let one : (m : ℕ) × (text_out place (line + 1) (suc k) (inner_text words (indent_of (suc k)) a ++ after) ≡ inner_tokens st ++ text_out place m (suc k) after) = inner_out a h.0 place k after (below_block k b rest h.1 below) (line + 1) in
-        let two : (m : ℕ) × (text_out place one.0 (suc k) after ≡ spelling_all (block_of words program.fields b) ++ text_out place m (suc k) rest) = block_out b h.1 place k rest below one.0 in
-        (two.0,
-        ap (text_out place line (suc k)) (block_text_parts (suc k) a b rest)
-        ∙ row_after place line zero (suc k) (head_text words a) (inner_text words (indent_of (suc k)) a ++ after) (head_tokens st) (head_row a h.0) (no_import k (head_text words a))
-        ∙ ap (λ (ts : List Token). head_tokens st ++ (t.NewLine ∷ ts)) (one.1 ∙ ap (λ (ts : List Token). inner_tokens st ++ ts) two.1)
-        ∙ line_parts (head_tokens st) (inner_tokens st) (spelling_all (block_of words program.fields b)) (text_out place two.0 (suc k) rest)
-        ∙ ap (λ (ts : List Token). (ts ++ spelling_all (block_of words program.fields b)) ++ text_out place two.0 (suc k) rest) (sym (spelled_is st)))
+        let two : (m : ℕ) × (text_out place one.0 (suc k) after ≡ spelling_all (block_of words program.fields b) ++ text_out place m (suc k) rest) = block_out b h.1 place k rest below one.0 in (
+          two.0,
+          ap (text_out place line (suc k)) (block_text_parts (suc k) a b rest)
+              ∙ row_after place line zero (suc k) (head_text words a) (inner_text words (indent_of (suc k)) a ++ after) (head_tokens st) (head_row a h.0) (no_import k (head_text words a))
+              ∙ ap (λ (ts : List Token). head_tokens st ++ (t.NewLine ∷ ts)) (one.1 ∙ ap (λ (ts : List Token). inner_tokens st ++ ts) two.1)
+              ∙ line_parts (head_tokens st) (inner_tokens st) (spelling_all (block_of words program.fields b)) (text_out place two.0 (suc k) rest)
+              ∙ ap (λ (ts : List Token). (ts ++ spelling_all (block_of words program.fields b)) ++ text_out place two.0 (suc k) rest) (sym (spelled_is st)),
+        )
 
     pub nested_out : (b : Block) → IsSome b → IsBlock program names b → (place : Place) (k : ℕ) (rest : List ℕ) → Below k rest → (line : ℕ) → NestedOut place k b rest line
     nested_out end some h place k rest below line = absurd some
@@ -219,10 +222,11 @@ module _ (program : Program) (names : ℕ → Text) where
         let after = block_text words (indent_of (suc k)) b ++ rest in
         let st = statement_of words program.fields a in
         let one : (m : ℕ) × (text_out place (line + 1) (suc k) (inner_text words (indent_of (suc k)) a ++ after) ≡ inner_tokens st ++ text_out place m (suc k) after) = inner_out a h.0 place k after (below_block k b rest h.1 (below_more k rest below)) (line + 1) in
-        let two : (m : ℕ) × (text_out place one.0 (suc k) after ≡ spelling_all (block_of words program.fields b) ++ text_out place m (suc k) rest) = block_out b h.1 place k rest (below_more k rest below) one.0 in
-        (two.0,
-        ap (text_out place line k) (block_text_parts (suc k) a b rest)
-        ∙ row_first place line k (head_text words a) (inner_text words (indent_of (suc k)) a ++ after) (head_tokens st) (head_row a h.0)
-        ∙ ap (λ (ts : List Token). t.Indent ∷ (head_tokens st ++ (t.NewLine ∷ ts))) (one.1 ∙ ap (λ (ts : List Token). inner_tokens st ++ ts) (two.1 ∙ ap (λ (ts : List Token). spelling_all (block_of words program.fields b) ++ ts) (below place two.0 1)))
-        ∙ ap (λ (ts : List Token). t.Indent ∷ ts) (block_parts (head_tokens st) (inner_tokens st) (spelling_all (block_of words program.fields b)) (text_out place two.0 k rest)
-        ∙ ap (λ (ts : List Token). (ts ++ spelling_all (block_of words program.fields b)) ++ (t.Dedent ∷ text_out place two.0 k rest)) (sym (spelled_is st))))
+        let two : (m : ℕ) × (text_out place one.0 (suc k) after ≡ spelling_all (block_of words program.fields b) ++ text_out place m (suc k) rest) = block_out b h.1 place k rest (below_more k rest below) one.0 in (
+          two.0,
+          ap (text_out place line k) (block_text_parts (suc k) a b rest)
+              ∙ row_first place line k (head_text words a) (inner_text words (indent_of (suc k)) a ++ after) (head_tokens st) (head_row a h.0)
+              ∙ ap (λ (ts : List Token). t.Indent ∷ (head_tokens st ++ (t.NewLine ∷ ts))) (one.1 ∙ ap (λ (ts : List Token). inner_tokens st ++ ts) (two.1 ∙ ap (λ (ts : List Token). spelling_all (block_of words program.fields b) ++ ts) (below place two.0 1)))
+              ∙ ap (λ (ts : List Token). t.Indent ∷ ts) (block_parts (head_tokens st) (inner_tokens st) (spelling_all (block_of words program.fields b)) (text_out place two.0 k rest)
+              ∙ ap (λ (ts : List Token). (ts ++ spelling_all (block_of words program.fields b)) ++ (t.Dedent ∷ text_out place two.0 k rest)) (sym (spelled_is st))),
+        )

@@ -1,5 +1,5 @@
 -- Texts that are read piece by piece.
-use Rattle.std.proofs.Common.{flat_map, map, ◌≡◌, ℕ, zero, suc, ◌+◌, ◌-◌, ◌*◌, ◌/◌, ◌%◌, ◌^◌, ◌≤◌, ◌<◌, List, [], ◌∷◌, ◌++◌, Bool, true, false, cond, if◌then◌else◌, nat_eq, nat_lt, eqb, ltb, length, refl, sym, ap, ◌∙◌, append_assoc, append-nil, codes, take, get_or, take_while, arith, subst, ne_eqb, lt-ltb}
+use Rattle.std.proofs.Common.{flat_map, map, ◌≡◌, ℕ, zero, suc, ◌+◌, ◌-◌, ◌*◌, ◌%◌, ◌^◌, ◌<◌, List, [], ◌∷◌, ◌++◌, Bool, true, false, cond, nat_eq, nat_lt, eqb, length, refl, sym, ap, ◌∙◌, append_assoc, codes, take, get_or, take_while, arith, subst, ne_eqb, lt-ltb}
 use Rattle.std.proofs.lemmas.Bool.Decides.{nat_tests}
 use Rattle.std.proofs.lemmas.Fmt.{decimal_by_steps, first_decimal, decimal_digit}
 use Rattle.std.specs.Prelude.{decimal}
@@ -7,7 +7,7 @@ use Rattle.std.specs.List.{prefix_len}
 use Rattle.std.specs.Char.{is_ascii_digit}
 use Rattle.std.proofs.Math.Seq.{take-append_seam}
 use Rattle.exo_lexer.specs.Bytes.{goes_on_name, begins_name}
-use Rattle.exo_lexer.specs.Piece.{piece_of, name_piece, name_token, word_of, word_token, literal_piece, literal, decimal as read_decimal}
+use Rattle.exo_lexer.specs.Piece.{piece_of, name_piece, name_token, literal_piece, literal, decimal as read_decimal}
 use Rattle.exo_lexer.specs.declared.piece.Piece.{Piece}
 use Rattle.exo_lexer.specs.declared.token.Literal.TheVariants.{Value}
 use Rattle.exo_lexer.specs.declared.token.Token.{Token}
@@ -42,9 +42,9 @@ one_line_append (b ∷ x) y l k = (l.0, one_line_append x y l.1 k)
 
 pub join : (B C : List ℕ → Type 0) (x y : List ℕ) (us vs : List Token) → Reads B x us → ((rest : List ℕ) → C rest → B (y ++ rest)) → Reads C y vs → Reads C (x ++ y) (us ++ vs)
 join B C x y us vs r border q = record {
-      line = one_line_append x y r.line q.line;
-      goes = λ rest free. ap (bare 0) (append_assoc x y rest) ∙ r.goes (y ++ rest) (border rest free) ∙ ap (λ (ts : List Token). us ++ ts) (q.goes rest free) ∙ sym (append_assoc us vs (bare 0 rest));
-    }
+  line = one_line_append x y r.line q.line;
+  goes = λ rest free. ap (bare 0) (append_assoc x y rest) ∙ r.goes (y ++ rest) (border rest free) ∙ ap (λ (ts : List Token). us ++ ts) (q.goes rest free) ∙ sym (append_assoc us vs (bare 0 rest));
+}
 
 pub spelled_as : (B : List ℕ → Type 0) (x : List ℕ) (us vs : List Token) → us ≡ vs → Reads B x us → Reads B x vs
 spelled_as B x us vs e r = record { line = r.line; goes = λ rest free. r.goes rest free ∙ ap (λ (ts : List Token). ts ++ bare 0 rest) e }
@@ -111,8 +111,8 @@ named (b ∷ more) begins bytes =
     record {
       line = name_line (b ∷ more) bytes;
       goes = λ rest free.
-      piece_reads b more rest (name_piece (b ∷ more)) (grind (arith, nat_tests, is)) (grind (arith, nat_tests, is))
-      (piece_name b (more ++ rest) is ∙ ap name_piece (taken goes_on_name (b ∷ more) rest (name_stops rest free) (go_names (b ∷ more) bytes))) refl;
+          piece_reads b more rest (name_piece (b ∷ more)) (grind (arith, nat_tests, is)) (grind (arith, nat_tests, is))
+          (piece_name b (more ++ rest) is ∙ ap name_piece (taken goes_on_name (b ∷ more) rest (name_stops rest free) (go_names (b ∷ more) bytes))) refl;
     }
 
 name_is : (x : List ℕ) → IsName x → name_token x ≡ t.Name x
@@ -169,8 +169,8 @@ digits_read n (d ∷ ds) is some piece =
     record {
       line = digits_line (d ∷ ds) is.digits;
       goes = λ rest free.
-      piece_reads d ds rest (record { token = t.Int (Value n); width = length (d ∷ ds) }) (grind (arith, nat_tests, go)) (grind (arith, nat_tests, go))
-      (piece_digits d (ds ++ rest) nameless go ∙ ap literal_piece (taken is_ascii_digit (d ∷ ds) rest (digit_stops rest free) is.digits) ∙ piece) refl;
+          piece_reads d ds rest (record { token = t.Int (Value n); width = length (d ∷ ds) }) (grind (arith, nat_tests, go)) (grind (arith, nat_tests, go))
+          (piece_digits d (ds ++ rest) nameless go ∙ ap literal_piece (taken is_ascii_digit (d ∷ ds) rest (digit_stops rest free) is.digits) ∙ piece) refl;
     }
 
 literal_is : (n : ℕ) (ds : List ℕ) → read_decimal 0 ds ≡ n → n < 0x80000000 → literal ds ≡ Value n
@@ -323,13 +323,13 @@ between_line a op b l m n =
 -- two sides with an operator between
 pub between_reads : (B : List ℕ → Type 0) (a op b : List ℕ) (us vs : List Token) (token : Token) → Reads Free a us → IsOperator op token → Reads B b vs → Reads B (a ++ codes " " ++ op ++ codes " " ++ b) (us ++ (token ∷ vs))
 between_reads B a op b us vs token r o q = record {
-      line = between_line a op b r.line o.line q.line;
-      goes = λ rest border.
+  line = between_line a op b r.line o.line q.line;
+  goes = λ rest border.
       ap (bare 0) (between_parts a op b rest)
       ∙ r.goes (0x20 ∷ (op ++ (0x20 ∷ (b ++ rest)))) (refl, refl)
       ∙ ap (λ (ts : List Token). us ++ ts) (o.goes (b ++ rest) ∙ ap (λ (ts : List Token). token ∷ ts) (q.goes rest border))
       ∙ sym (append_assoc us (token ∷ vs) (bare 0 rest));
-    }
+}
 
 -- ---- lists
 

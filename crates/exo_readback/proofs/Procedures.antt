@@ -1,11 +1,9 @@
 -- The text of a procedure is read as its source tree spells it.
-use Rattle.std.proofs.Common.{◌≡◌, ℕ, zero, suc, ◌+◌, ◌-◌, List, [], ◌∷◌, ◌++◌, map, flat_map, take_while, Bool, true, false, Option, Some, None, codes, slice_get, refl, sym, ap, ◌∙◌, append_assoc, append-nil, arith, subst}
+use Rattle.std.proofs.Common.{◌≡◌, ℕ, zero, suc, ◌+◌, ◌-◌, List, [], ◌∷◌, ◌++◌, map, flat_map, false, Option, Some, None, codes, refl, sym, ap, ◌∙◌, append_assoc, append-nil, subst}
 use Rattle.phrases.specs.Sequence.{spell_all}
 use Rattle.exo_tree.specs.Tree.{Condition, Block, Param, Procedure, Program}
-use Rattle.exo_lexer.specs.Bytes.{goes_on_name}
 use Rattle.exo_lexer.specs.Piece.{decorator_piece}
-use Rattle.exo_lexer.specs.Layout.{token_of, lexed, lines, layout, end_place, is_import}
-use Rattle.exo_lexer.specs.declared.piece.Piece.{Piece}
+use Rattle.exo_lexer.specs.Layout.{token_of, lines, layout, end_place, is_import}
 use Rattle.exo_lexer.specs.declared.place.Place.{Place}
 use Rattle.exo_lexer.specs.declared.token.Token.{Token}
 use Rattle.exo_lexer.specs.declared.token.Token.TheVariants as t
@@ -23,7 +21,7 @@ use Rattle.exo_show.specs.Names.{names_of}
 use Rattle.exo_show.specs.Words.{Words, words_with, words_of}
 use Rattle.exo_show.specs.ControlText.{condition_text}
 use Rattle.exo_show.specs.StatementText.{block_text}
-use Rattle.exo_show.specs.ProcedureText.{marker_text, param_text, assert_text, header_text, procedure_text, shown}
+use Rattle.exo_show.specs.ProcedureText.{marker_text, param_text, assert_text, header_text, procedure_text}
 use Rattle.exo_readback.specs.Names.{IsName, Each}
 use Rattle.exo_readback.specs.Written.{marked, condition_tree, block_of, parameter_of, definition_of, written}
 use Rattle.exo_readback.specs.Writable.{IsSome, IsCondition, IsParam, IsBlock, IsTemplate, IsWritable}
@@ -48,23 +46,23 @@ decorator_of x rest = (decorator_piece x).token ∷ bare ((decorator_piece x).wi
 
 proc_reads : Reads Free (codes "@proc") (t.Decorator d.Procedure ∷ [])
 proc_reads = record {
-      line = (refl, (refl, (refl, (refl, (refl, tt)))));
-      goes = λ rest free. ap (λ (x : List ℕ). decorator_of x (codes "proc" ++ rest)) (taken_names (codes "proc") rest free (refl, (refl, (refl, (refl, tt)))));
-    }
+  line = (refl, (refl, (refl, (refl, (refl, tt)))));
+  goes = λ rest free. ap (λ (x : List ℕ). decorator_of x (codes "proc" ++ rest)) (taken_names (codes "proc") rest free (refl, (refl, (refl, (refl, tt)))));
+}
 
 instr_reads : Reads Any (codes "@instr(") (t.Decorator d.Instruction ∷ t.Sign s.Open ∷ [])
 instr_reads = record {
-      line = (refl, (refl, (refl, (refl, (refl, (refl, (refl, tt)))))));
-      goes = λ rest any. ap (λ (ts : List Token). t.Decorator d.Instruction ∷ ts) (open_goes rest);
-    }
+  line = (refl, (refl, (refl, (refl, (refl, (refl, (refl, tt)))))));
+  goes = λ rest any. ap (λ (ts : List Token). t.Decorator d.Instruction ∷ ts) (open_goes rest);
+}
 
 marker_row : (template : Option (List ℕ)) → IsTemplate template → IsRow (marker_text template) (marker_tokens template)
 marker_row None h = record { reads = proc_reads; begins = (refl, refl); sound = (refl, tt); closed = refl }
 marker_row (Some template) h =
     record {
       reads =
-      weaker _ _ (join Any Any (codes "@instr(" ++ quoted template) (codes ")") _ _
-      (join Any Any (codes "@instr(") (quoted template) _ _ instr_reads (λ rest any. tt) (quoted_reads template h)) (λ rest any. tt) close_reads);
+          weaker _ _ (join Any Any (codes "@instr(" ++ quoted template) (codes ")") _ _
+          (join Any Any (codes "@instr(") (quoted template) _ _ instr_reads (λ rest any. tt) (quoted_reads template h)) (λ rest any. tt) close_reads);
       begins = (refl, refl);
       sound = (refl, (refl, (refl, (refl, tt))));
       closed = refl;
@@ -147,12 +145,13 @@ module _ (program : Program) (names : ℕ → Text) where
   asserts_out [] h place rest line = (line, refl)
   asserts_out (c ∷ cs) h place rest line =
       let more : (m : ℕ) × (text_out place (line + 1) (suc zero) (flat_map (assert_text words) cs ++ rest) ≡ asserts_of cs ++ text_out place m (suc zero) rest) = asserts_out cs h.1 place rest (line + 1) in
-      let text = codes "assert " ++ condition_text words c in
-      (more.0,
-      ap (text_out place line (suc zero)) (append_assoc (assert_text words c) (flat_map (assert_text words) cs) rest)
-      ∙ row_after place line zero (suc zero) text (flat_map (assert_text words) cs ++ rest) _ (assert_row c h.0) (no_import zero text)
-      ∙ ap (λ (ts : List Token). t.Word word.Assert ∷ (expression.spelling (condition_tree words program.fields c) ++ (t.NewLine ∷ ts))) more.1
-      ∙ next_assert c cs (text_out place more.0 (suc zero) rest))
+      let text = codes "assert " ++ condition_text words c in (
+        more.0,
+        ap (text_out place line (suc zero)) (append_assoc (assert_text words c) (flat_map (assert_text words) cs) rest)
+            ∙ row_after place line zero (suc zero) text (flat_map (assert_text words) cs ++ rest) _ (assert_row c h.0) (no_import zero text)
+            ∙ ap (λ (ts : List Token). t.Word word.Assert ∷ (expression.spelling (condition_tree words program.fields c) ++ (t.NewLine ∷ ts))) more.1
+            ∙ next_assert c cs (text_out place more.0 (suc zero) rest),
+      )
 
   -- the block of the procedure, to the end of the text
   inside_out : (cs : List Condition) (b : Block) → Each (IsCondition program names) cs → IsSome b → IsBlock program names b → (place : Place) (line : ℕ) → text_out place line zero (flat_map (assert_text words) cs ++ (block_text words (indent_of (suc zero)) b ++ [])) ≡ t.Indent ∷ (asserts_of cs ++ (spelling_all (block_of words program.fields b) ++ (t.Dedent ∷ [])))

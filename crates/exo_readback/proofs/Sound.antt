@@ -1,5 +1,5 @@
 -- What source trees spell has no fault and closes its brackets.
-use Rattle.std.proofs.Common.{◌≡◌, ℕ, ◌+◌, ◌-◌, List, [], ◌∷◌, ◌++◌, Bool, true, false, refl, sym, ap, ◌∙◌, append_assoc, arith, subst}
+use Rattle.std.proofs.Common.{◌≡◌, ℕ, ◌+◌, ◌-◌, List, [], ◌∷◌, ◌++◌, Bool, true, false, refl, ap, ◌∙◌, append_assoc, arith, subst}
 use Rattle.exo_lexer.specs.Layout.{is_fault, brackets_behind}
 use Rattle.exo_lexer.specs.declared.token.Token.{Token}
 use Rattle.exo_lexer.specs.declared.token.Token.TheVariants as t
@@ -33,9 +33,9 @@ before token xs sound same l = record { sound = (sound, l.sound); closed = λ n.
 
 around : (left right : Token) (xs : List Token) → is_fault left ≡ false → is_fault right ≡ false → ((n : ℕ) → brackets_behind n left ≡ n + 1) → ((n : ℕ) → brackets_behind n right ≡ n - 1) → Whole xs → Whole (left ∷ (xs ++ (right ∷ [])))
 around left right xs l k up down all = record {
-      sound = (l, sound_append xs (right ∷ []) all.sound (k, tt));
-      closed = λ n. open_append (brackets_behind n left) xs (right ∷ []) ∙ ap (λ (m : ℕ). brackets_behind m right) (all.closed (brackets_behind n left) ∙ up n) ∙ down (n + 1) ∙ omega arith;
-    }
+  sound = (l, sound_append xs (right ∷ []) all.sound (k, tt));
+  closed = λ n. open_append (brackets_behind n left) xs (right ∷ []) ∙ ap (λ (m : ℕ). brackets_behind m right) (all.closed (brackets_behind n left) ∙ up n) ∙ down (n + 1) ∙ omega arith;
+}
 
 pub in_parens : (xs : List Token) → Whole xs → Whole (t.Sign s.Open ∷ (xs ++ (t.Sign s.Close ∷ [])))
 in_parens xs all = around (t.Sign s.Open) (t.Sign s.Close) xs refl refl (λ n. refl) (λ n. refl) all
