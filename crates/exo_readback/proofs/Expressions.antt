@@ -14,7 +14,6 @@ use Rattle.exo_show.specs.Names.{unknown}
 use Rattle.exo_show.specs.Words.{Words, words_with}
 use Rattle.exo_show.specs.ControlText.{precedence_of, control_text, condition_precedence, condition_text, access_text}
 use Rattle.exo_show.specs.DatumText.{datum_precedence, datum_text}
-use Rattle.exo_show.specs.declared.precedence.TheConstants.{DISJUNCTION, CONJUNCTION, COMPARISON, SUM, PRODUCT, UNARY}
 use Rattle.exo_readback.specs.Names.{IsName, Each}
 use Rattle.exo_readback.specs.Written.{literal_tree, placed, access_tree, config_of, field_of, control_tree, condition_tree, datum_tree}
 use Rattle.exo_readback.specs.Writable.{IsLiteral, HasNames, IsControl, IsCondition, IsAccess, IsDatum}
@@ -77,12 +76,12 @@ module _ (program : Program) (names : ℕ → Text) where
   control_reads (Var x) h = name_reads (names x) h
   control_reads (Field f) h = field_by f (slice_get program.fields f) h
   control_reads (StrideOf x k) h = stride_reads (names x) k h.0 h.1
-  control_reads (Neg a) h = join Any Free (codes "-") _ (t.Sign s.Minus ∷ []) _ minus_reads (λ rest free. tt) (operand_reads UNARY a (control_reads a h))
-  control_reads (Add a b) h = between_reads Free _ (codes "+") _ _ _ (t.Sign s.Plus) (operand_reads SUM a (control_reads a h.0)) plus_is (operand_reads PRODUCT b (control_reads b h.1))
-  control_reads (Sub a b) h = between_reads Free _ (codes "-") _ _ _ (t.Sign s.Minus) (operand_reads SUM a (control_reads a h.0)) binary_minus_is (operand_reads PRODUCT b (control_reads b h.1))
-  control_reads (Mul a b) h = between_reads Free _ (codes "*") _ _ _ (t.Sign s.Times) (operand_reads PRODUCT a (control_reads a h.0)) times_is (operand_reads UNARY b (control_reads b h.1))
-  control_reads (Div a n) h = between_reads Free _ (codes "/") _ _ _ (t.Sign s.Divide) (operand_reads PRODUCT a (control_reads a h.0)) divide_is (literal_reads n h.1)
-  control_reads (Mod a n) h = between_reads Free _ (codes "%") _ _ _ (t.Sign s.Modulo) (operand_reads PRODUCT a (control_reads a h.0)) modulo_is (literal_reads n h.1)
+  control_reads (Neg a) h = join Any Free (codes "-") _ (t.Sign s.Minus ∷ []) _ minus_reads (λ rest free. tt) (operand_reads 5 a (control_reads a h))
+  control_reads (Add a b) h = between_reads Free _ (codes "+") _ _ _ (t.Sign s.Plus) (operand_reads 3 a (control_reads a h.0)) plus_is (operand_reads 4 b (control_reads b h.1))
+  control_reads (Sub a b) h = between_reads Free _ (codes "-") _ _ _ (t.Sign s.Minus) (operand_reads 3 a (control_reads a h.0)) binary_minus_is (operand_reads 4 b (control_reads b h.1))
+  control_reads (Mul a b) h = between_reads Free _ (codes "*") _ _ _ (t.Sign s.Times) (operand_reads 4 a (control_reads a h.0)) times_is (operand_reads 5 b (control_reads b h.1))
+  control_reads (Div a n) h = between_reads Free _ (codes "/") _ _ _ (t.Sign s.Divide) (operand_reads 4 a (control_reads a h.0)) divide_is (literal_reads n h.1)
+  control_reads (Mod a n) h = between_reads Free _ (codes "%") _ _ _ (t.Sign s.Modulo) (operand_reads 4 a (control_reads a h.0)) modulo_is (literal_reads n h.1)
 
   abbrev pub condition_tokens : Condition → List Token
   condition_tokens c = spelling (condition_tree words program.fields c)
@@ -100,8 +99,8 @@ module _ (program : Program) (names : ℕ → Text) where
   condition_reads (Gt a b) h = between_reads Free _ (codes ">") _ _ _ (t.Sign s.Greater) (control_reads a h.0) greater_is (control_reads b h.1)
   condition_reads (Ge a b) h = between_reads Free _ (codes ">=") _ _ _ (t.Sign s.GreaterEqual) (control_reads a h.0) greater_equal_is (control_reads b h.1)
   condition_reads (Eq a b) h = between_reads Free _ (codes "==") _ _ _ (t.Sign s.Equal) (control_reads a h.0) equal_is (control_reads b h.1)
-  condition_reads (And a b) h = between_reads Free _ (codes "and") _ _ _ (t.Word word.And) (part_reads CONJUNCTION a (condition_reads a h.0)) and_word_is (part_reads COMPARISON b (condition_reads b h.1))
-  condition_reads (Or a b) h = between_reads Free _ (codes "or") _ _ _ (t.Word word.Or) (part_reads DISJUNCTION a (condition_reads a h.0)) or_word_is (part_reads CONJUNCTION b (condition_reads b h.1))
+  condition_reads (And a b) h = between_reads Free _ (codes "and") _ _ _ (t.Word word.And) (part_reads 1 a (condition_reads a h.0)) and_word_is (part_reads 2 b (condition_reads b h.1))
+  condition_reads (Or a b) h = between_reads Free _ (codes "or") _ _ _ (t.Word word.Or) (part_reads 0 a (condition_reads a h.0)) or_word_is (part_reads 1 b (condition_reads b h.1))
 
   pub each_control : (is : List Control) → Each (IsControl program names) is → Each (λ e. Reads Free (control_text words e) (control_tokens e)) is
   each_control [] h = tt
@@ -139,10 +138,10 @@ module _ (program : Program) (names : ℕ → Text) where
   pub datum_reads : (e : Datum) → IsDatum program names e → Reads Free (datum_text words e) (datum_tokens e)
   datum_reads (Const n) h = literal_reads n h
   datum_reads (Read x is) h = access_reads x is h
-  datum_reads (Negated a) h = join Any Free (codes "-") _ (t.Sign s.Minus ∷ []) _ minus_reads (λ rest free. tt) (side_reads UNARY a (datum_reads a h))
-  datum_reads (Plus a b) h = between_reads Free _ (codes "+") _ _ _ (t.Sign s.Plus) (side_reads SUM a (datum_reads a h.0)) plus_is (side_reads PRODUCT b (datum_reads b h.1))
-  datum_reads (Minus a b) h = between_reads Free _ (codes "-") _ _ _ (t.Sign s.Minus) (side_reads SUM a (datum_reads a h.0)) binary_minus_is (side_reads PRODUCT b (datum_reads b h.1))
-  datum_reads (Times a b) h = between_reads Free _ (codes "*") _ _ _ (t.Sign s.Times) (side_reads PRODUCT a (datum_reads a h.0)) times_is (side_reads UNARY b (datum_reads b h.1))
+  datum_reads (Negated a) h = join Any Free (codes "-") _ (t.Sign s.Minus ∷ []) _ minus_reads (λ rest free. tt) (side_reads 5 a (datum_reads a h))
+  datum_reads (Plus a b) h = between_reads Free _ (codes "+") _ _ _ (t.Sign s.Plus) (side_reads 3 a (datum_reads a h.0)) plus_is (side_reads 4 b (datum_reads b h.1))
+  datum_reads (Minus a b) h = between_reads Free _ (codes "-") _ _ _ (t.Sign s.Minus) (side_reads 3 a (datum_reads a h.0)) binary_minus_is (side_reads 4 b (datum_reads b h.1))
+  datum_reads (Times a b) h = between_reads Free _ (codes "*") _ _ _ (t.Sign s.Times) (side_reads 4 a (datum_reads a h.0)) times_is (side_reads 5 b (datum_reads b h.1))
   datum_reads (Relu a) h =
       weaker _ _ (join Free Any (codes "relu(" ++ datum_text words a) (codes ")") (t.Word word.Relu ∷ t.Sign s.Open ∷ datum_tokens a) (t.Sign s.Close ∷ [])
       (join Any Free (codes "relu(") (datum_text words a) (t.Word word.Relu ∷ t.Sign s.Open ∷ []) (datum_tokens a) relu_open (λ rest free. tt) (datum_reads a h)) (λ rest any. (refl, refl)) close_reads)

@@ -4,14 +4,13 @@ use Rattle.exo_tree.specs.Tree as tree
 use Rattle.exo_tree.specs.Tree.{Cell, Kind, Control, Lit, Var, Field, StrideOf, Neg, Add, Sub, Mul, Div, Mod, Condition, Flag, FieldFlag, Lt, Le, Gt, Ge, Eq, And, Or, Datum, Const, Read, Negated, Relu, Plus, Minus, Times, Select, Coord, At, Span, Argument, ControlArg, ConditionArg, Whole, Window, Statement, Assign, Reduce, Config, Pass, If, For, Alloc, View, Call, Block, end, next, ParamKind, ControlParam, TensorParam, WindowParam, Param, ConfigField, Procedure, Program}
 use Rattle.exo_lexer.specs.declared.token.Literal.TheVariants.{Value}
 use Rattle.exo_reader.specs.declared.source.Operator.TheVariants as o
-use Rattle.exo_reader.specs.Expression.{Tree, number, truth, variable, access, field, stride, relu, select, negative, parens, binary, trees}
+use Rattle.exo_reader.specs.Expression.{level_of, left_level, Tree, number, truth, variable, access, field, stride, relu, select, negative, parens, binary, trees}
 use Rattle.exo_source.specs.Source as source
 use Rattle.exo_source.specs.Source.{Coordinate, point, span, TypeName, named, Form, Parameter, Definition, Item}
 use Rattle.exo_show.specs.Names.{unknown}
 use Rattle.exo_show.specs.Words.{Words, words_of, cell_word, kind_word}
 use Rattle.exo_show.specs.ControlText.{precedence_of, condition_precedence}
 use Rattle.exo_show.specs.DatumText.{datum_precedence}
-use Rattle.exo_show.specs.declared.precedence.TheConstants.{DISJUNCTION, CONJUNCTION, COMPARISON, SUM, PRODUCT, UNARY}
 
 -- a number; show writes a sign before one below 0
 abbrev pub literal_tree : ℤ → Tree
@@ -70,12 +69,12 @@ module _ (w : Words) (fields : List ConfigField) where
   control_tree (Var x) = variable (w.name x)
   control_tree (Field f) = field_tree f
   control_tree (StrideOf x k) = stride (w.name x) (Value k)
-  control_tree (Neg a) = negative (placed UNARY (precedence_of a) (control_tree a))
-  control_tree (Add a b) = binary o.Add (placed SUM (precedence_of a) (control_tree a)) (placed PRODUCT (precedence_of b) (control_tree b))
-  control_tree (Sub a b) = binary o.Sub (placed SUM (precedence_of a) (control_tree a)) (placed PRODUCT (precedence_of b) (control_tree b))
-  control_tree (Mul a b) = binary o.Mul (placed PRODUCT (precedence_of a) (control_tree a)) (placed UNARY (precedence_of b) (control_tree b))
-  control_tree (Div a n) = binary o.Div (placed PRODUCT (precedence_of a) (control_tree a)) (literal_tree n)
-  control_tree (Mod a n) = binary o.Mod (placed PRODUCT (precedence_of a) (control_tree a)) (literal_tree n)
+  control_tree (Neg a) = negative (placed 5 (precedence_of a) (control_tree a))
+  control_tree (Add a b) = binary o.Add (placed (left_level o.Add) (precedence_of a) (control_tree a)) (placed (suc (level_of o.Add)) (precedence_of b) (control_tree b))
+  control_tree (Sub a b) = binary o.Sub (placed (left_level o.Sub) (precedence_of a) (control_tree a)) (placed (suc (level_of o.Sub)) (precedence_of b) (control_tree b))
+  control_tree (Mul a b) = binary o.Mul (placed (left_level o.Mul) (precedence_of a) (control_tree a)) (placed (suc (level_of o.Mul)) (precedence_of b) (control_tree b))
+  control_tree (Div a n) = binary o.Div (placed (left_level o.Div) (precedence_of a) (control_tree a)) (literal_tree n)
+  control_tree (Mod a n) = binary o.Mod (placed (left_level o.Mod) (precedence_of a) (control_tree a)) (literal_tree n)
 
   abbrev pub condition_tree : Condition → Tree
   condition_tree tree.True = truth true
@@ -87,16 +86,16 @@ module _ (w : Words) (fields : List ConfigField) where
   condition_tree (Gt a b) = binary o.Gt (control_tree a) (control_tree b)
   condition_tree (Ge a b) = binary o.Ge (control_tree a) (control_tree b)
   condition_tree (Eq a b) = binary o.Eq (control_tree a) (control_tree b)
-  condition_tree (And a b) = binary o.And (placed CONJUNCTION (condition_precedence a) (condition_tree a)) (placed COMPARISON (condition_precedence b) (condition_tree b))
-  condition_tree (Or a b) = binary o.Or (placed DISJUNCTION (condition_precedence a) (condition_tree a)) (placed CONJUNCTION (condition_precedence b) (condition_tree b))
+  condition_tree (And a b) = binary o.And (placed (left_level o.And) (condition_precedence a) (condition_tree a)) (placed (suc (level_of o.And)) (condition_precedence b) (condition_tree b))
+  condition_tree (Or a b) = binary o.Or (placed (left_level o.Or) (condition_precedence a) (condition_tree a)) (placed (suc (level_of o.Or)) (condition_precedence b) (condition_tree b))
 
   abbrev pub datum_tree : Datum → Tree
   datum_tree (Const n) = literal_tree n
   datum_tree (Read x is) = access_tree (w.name x) (map control_tree is)
-  datum_tree (Negated a) = negative (placed UNARY (datum_precedence a) (datum_tree a))
-  datum_tree (Plus a b) = binary o.Add (placed SUM (datum_precedence a) (datum_tree a)) (placed PRODUCT (datum_precedence b) (datum_tree b))
-  datum_tree (Minus a b) = binary o.Sub (placed SUM (datum_precedence a) (datum_tree a)) (placed PRODUCT (datum_precedence b) (datum_tree b))
-  datum_tree (Times a b) = binary o.Mul (placed PRODUCT (datum_precedence a) (datum_tree a)) (placed UNARY (datum_precedence b) (datum_tree b))
+  datum_tree (Negated a) = negative (placed 5 (datum_precedence a) (datum_tree a))
+  datum_tree (Plus a b) = binary o.Add (placed (left_level o.Add) (datum_precedence a) (datum_tree a)) (placed (suc (level_of o.Add)) (datum_precedence b) (datum_tree b))
+  datum_tree (Minus a b) = binary o.Sub (placed (left_level o.Sub) (datum_precedence a) (datum_tree a)) (placed (suc (level_of o.Sub)) (datum_precedence b) (datum_tree b))
+  datum_tree (Times a b) = binary o.Mul (placed (left_level o.Mul) (datum_precedence a) (datum_tree a)) (placed (suc (level_of o.Mul)) (datum_precedence b) (datum_tree b))
   datum_tree (Relu a) = relu (datum_tree a)
   datum_tree (Select a b c d) = select (datum_tree a) (datum_tree b) (datum_tree c) (datum_tree d)
 
