@@ -29,7 +29,7 @@ use Rattle.phrases.specs.Sequence.{exactly}
 use Rattle.phrases.proofs.Sequences.{step_taken}
 use Rattle.phrases.proofs.Joints.{whole_err, now, later, both}
 use Rattle.exo_reader.proofs.Productions.{comma_apart, Cell, step_cell, indices_joint}
-use Rattle.phrases.proofs.Commas.{Listed, listed_first, listed_next, listing_done, listing_refused_first, listing_refused, listing_full}
+use Rattle.phrases.proofs.Commas.{Listed, listed_next, listing_done, listing_refused_first, listing_refused, listing_full}
 use Rattle.std.proofs.lemmas.List.{length-append, length-map, map-append}
 use Rattle.exo_reader.specs.declared.source.SourceExpr.{SourceExpr}
 use Rattle.exo_reader.proofs.Chains.{begun_of_taken, begun_next, taken_of_begun, taken_compared, refused_right, refused_first, deep_operator, long_operator}
@@ -217,9 +217,6 @@ same_four room a b c t u v is and more = ap (λ k. under (k + b + c + 1) room) i
 
 -- lists of indices
 
-control_place : (level : ℕ) → 1 ≤ level → HasPlace (control_room level)
-control_place level some = record { depth = some; nodes = omega arith }
-
 pub indices_err_first : (level : ℕ) (tokens : List Token) (e : Refusal) → Refuses (operand 0 (control_room level)) tokens e → Refuses (indices level) tokens e
 indices_err_first level tokens e refuses =
     refuses_along (operand 0 (control_room level)) tokens (indices level) tokens e
@@ -236,9 +233,6 @@ indices_err level tokens rest after items e listed comma few refuses =
     refuses_along (operand 0 (control_room level)) after (indices level) tokens e
     (λ cause last refused. listing_refused (operand 0 (control_room level)) (Sign s.Comma) FewDimensions EndsList tokens rest after (map tree_of items) last (comma_apart (control_room level)) listed comma
     (λ t. omega (arith, length-append (map tree_of items) (t ∷ []), length-map items tree_of, few)) refused) refuses
-
-pub indices_first : (level : ℕ) (tokens rest : List Token) (item : SourceExpr) → Taken (operand 0 (control_room level)) tokens (tree_of item) rest → Listed (operand 0 (control_room level)) (Sign s.Comma) EndsList tokens (map tree_of (item ∷ [])) rest
-indices_first level tokens rest item taken = listed_first (operand 0 (control_room level)) (Sign s.Comma) EndsList tokens rest (tree_of item) taken
 
 pub indices_next : (level : ℕ) (tokens rest after found : List Token) (items : List SourceExpr) (item : SourceExpr) → Listed (operand 0 (control_room level)) (Sign s.Comma) EndsList tokens (map tree_of items) rest → rest ≡ Sign s.Comma ∷ after → Taken (operand 0 (control_room level)) after (tree_of item) found → Listed (operand 0 (control_room level)) (Sign s.Comma) EndsList tokens (map tree_of (items ++ (item ∷ []))) found
 indices_next level tokens rest after found items item listed comma taken =

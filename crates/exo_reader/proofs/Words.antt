@@ -42,9 +42,6 @@ name_long tokens rest t n front is long = rw (front, is) (refused_short Name IsS
 pub name_other : (tokens rest : List Token) (t : Token) → tokens ≡ t ∷ rest → ((n : List ℕ) → t ≡ Name n → ⊥) → Refused name syntax tokens (length tokens)
 name_other tokens rest t front none = refused_other Name IsShortName tokens [] no_bytes (λ n here. none n (let e : Some t ≡ Some (Name n) = sym (ap first front) ∙ here in cc (e)))
 
-pub name_end : (tokens : List Token) → tokens ≡ [] → Refused name syntax tokens 0
-name_end tokens none = rw none (refused_other Name IsShortName [] [] no_bytes (λ n here. cc (here)))
-
 pub literal_large : (tokens rest : List Token) (t : Token) (n : Literal) → tokens ≡ t ∷ rest → t ≡ Int n → n ≡ TooLarge → Refused literal too_large tokens (length tokens)
 literal_large tokens rest t n front is large = rw (front, is, large) (refused_large Int IsValue rest TooLarge (Value 0) int_same tt (λ small. small))
 
