@@ -1,0 +1,14 @@
+//! What the names of a text stand for, and which rules its expressions break.
+#![tactic(auto)]
+
+pub mod control;
+pub mod datum;
+pub mod error;
+pub mod fault;
+pub mod resolved;
+pub mod oracle;
+pub mod scope;
+pub mod table;
+pub mod tested;
+pub mod width;
+pub mod window;
