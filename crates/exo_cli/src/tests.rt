@@ -81,10 +81,10 @@ fn a_unit_may_be_empty_or_have_several_procedures(rt: HostRuntime) -> Result<(),
     let ran = run(&rt, &COMPILE, "", "", &[], 4096)?;
     assert_eq!(rt; ran.status, Status::Ok);
     assert_eq!(rt; ran.out.bytes(), empty.as_bytes());
-    let two = format!(in alloc; "@proc\ndef nothing(z: i32[1]):\n    pass\n{UNIT}")?;
-    let ran = run(&rt, &COMPILE, two.as_str(), "emit(nothing)\n", &[], 4096)?;
+    let two = format!(in alloc; "@proc\ndef one(z: i32[1]):\n    z[0] = 1\n{UNIT}")?;
+    let ran = run(&rt, &COMPILE, two.as_str(), "emit(one)\n", &[], 4096)?;
     let expected = format!(in alloc;
-        "/* exoc\n * nothing: from nothing; differs: nothing\n */\n#include <stdint.h>\n#include <stdlib.h>\n\n{HELPERS}\nvoid nothing(int32_t *z) {{\n    ;\n}}\n"
+        "/* exoc\n * one: from one; differs: nothing\n */\n#include <stdint.h>\n#include <stdlib.h>\n\n{HELPERS}\nvoid one(int32_t *z) {{\n    z[0LL] = (int32_t)1u;\n}}\n"
     )?;
     assert_eq!(rt; ran.status, Status::Ok);
     assert_eq!(rt; ran.out.bytes(), expected.as_bytes());
