@@ -5,3 +5,4 @@ pub mod Gone
 pub mod Calls
 pub mod Attributes
 pub mod Numbers
+pub mod Holes

@@ -1,4 +1,5 @@
 pub mod TypeRules
+pub mod HoleRules
 pub mod MemoryRules
 pub mod ArgumentRules
 pub mod StatementRules

@@ -6,4 +6,5 @@ pub mod attribute;
 pub mod call;
 pub mod part;
 pub mod refusal;
+pub mod template;
 pub mod types;

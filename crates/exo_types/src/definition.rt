@@ -1,0 +1,322 @@
+//! Procedures and instructions: parameters, assertions and bodies.
+ghost use Rattle.std.specs.Prelude.{◌≡◌, ◌+◌, ◌≤◌, ◌<◌, [], List, map, length, IfOk, MatchResult};
+ghost use Rattle.exo_tree.specs.Tree.{ConfigField};
+ghost use Rattle.exo_tree.specs.PlainParam.{parameter, parameter_kind};
+ghost use Rattle.exo_meaning.specs.Units as units;
+ghost use Rattle.exo_reader.specs.Views.{tree_of};
+ghost use Rattle.exo_source.specs.Views.{plain_kind, plain_form, plain_parameter, plain_definition};
+ghost use Rattle.exo_names.specs.Faults.{charged};
+ghost use Rattle.exo_names.specs.Tables.{sort_meant};
+ghost use Rattle.exo_names.specs.Tests.{most_tokens};
+ghost use Rattle.exo_names.specs.ExpressionRules.{width};
+ghost use Rattle.exo_types.specs.TypeRules.{memory_width, kind_named};
+ghost use Rattle.exo_types.specs.ArgumentRules.{comma_width};
+ghost use Rattle.exo_types.specs.ItemRules as rules;
+ghost use Rattle.exo_types.specs.ItemRules.{form_width, parameter_width, params_width, asserts_width, definition_end};
+ghost use Rattle.exo_types.specs.Refusals.{Refuses};
+ghost use Rattle.exo_types.specs.Walks.{HasRoom};
+ghost use Rattle.exo_types.specs.Definitions as definitions;
+ghost use Rattle.exo_types.specs.Definitions.{HasSpace, IsParam, AreParams, IsAssert, AreAsserts, IsDefined};
+
+use crate::context::{Context, Walk};
+use crate::part::{binder_charge, end_of_memory, memory_charge, memory_of, test_dims};
+use crate::refusal::{Refusal, keep};
+use crate::statement::block_of;
+use crate::types::{cell_charge, cell_of, kind_named};
+use exo_lexer::text::Text;
+use exo_names::control::{test_condition, test_controls};
+use exo_names::error::TypeKind;
+use exo_names::fault::Charge;
+use exo_names::resolved::{condition_of, indices_of};
+use exo_names::scope::{Scope, Sort};
+use exo_names::table::NameTable;
+use exo_names::tested::{Names, PLAINLY, WITH_BOTH};
+use exo_reader::source::SourceExpr;
+use exo_source::source::{SourceDef, SourceKind, SourceParam, SourceType};
+use exo_tree::{
+    Binder, Cond, Conds, Indices, Name, Param, ParamKind, Params, Proc, StatementLines, Text as Template,
+};
+use std::alloc::{AllocError, Global};
+
+/// The charge of a memory that stands behind a control parameter; its `@` is token `n`.
+fn no_memory_charge(memories: &NameTable, n: usize, memory: &Option<Text>) -> Charge
+    requires { n < most_tokens }
+    ensures { result ≡ charged (rules.no_memory_faults memories.now n memory.now) }
+{
+    match memory {
+        None => Charge::none(),
+        Some(_) => {
+            let named = memory_charge(memories, n, memory);
+            named.and(Charge::of(TypeKind::KindMismatch, n + 1))
+        }
+    }
+}
+
+/// The charge of a type without dimensions, which is token `n`, and of the memory behind it.
+fn test_scalar(
+    memories: &NameTable,
+    n: usize,
+    kind: &SourceKind,
+    memory: &Option<Text>,
+) -> Charge
+    requires { n + 1 < most_tokens }
+    ensures { (fields : List ConfigField) → result ≡ charged (rules.scalar_faults fields memories.now (kind_named (plain_kind kind.now)) (plain_kind kind.now) n memory.now) }
+{
+    match kind_named(kind) {
+        Some(_) => no_memory_charge(memories, n + 1, memory),
+        None => cell_charge(kind, n).and(memory_charge(memories, n + 1, memory)),
+    }
+}
+
+/// The charge of the type of a parameter, whose first token is `n`, and of the memory behind it; and the number of the token
+/// behind the type.
+fn test_form(
+    names: &Names,
+    memories: &NameTable,
+    n: usize,
+    form: &SourceType,
+    memory: &Option<Text>,
+) -> (Charge, usize)
+    requires { n + form_width (plain_form form.now) < most_tokens }
+    ensures charge { result.0 ≡ charged (rules.form_faults names.now.fields.now memories.now names.now.scope.now n (plain_form form.now) memory.now) }
+    ensures end { result.1 ≡ n + form_width (plain_form form.now) }
+{
+    match form {
+        SourceType::Plain(kind, dims) => {
+            if dims.is_empty() {
+                return (test_scalar(memories, n, kind, memory), n + 1);
+            }
+            let (extents, end) = test_dims(names, n + 1, dims);
+            let place = memory_charge(memories, end, memory);
+            (cell_charge(kind, n).and(extents.and(place)), end)
+        }
+        SourceType::Window(kind, dims) => {
+            let (extents, end) = test_controls(names, PLAINLY, n + 4, dims);
+            let place = memory_charge(memories, end, memory);
+            (cell_charge(kind, n + 1).and(extents.and(place)), end)
+        }
+    }
+}
+
+/// What a parameter of a type without dimensions takes: a control value, or a single cell.
+fn scalar_of(
+    alloc: Global,
+    memories: &NameTable,
+    kind: &SourceKind,
+    memory: &Option<Text>,
+) -> ParamKind
+    requires { length memories.now ≤ 4294967295 }
+    ensures { (fields : List ConfigField) → parameter_kind result ≡ rules.scalar_of fields memories.now (kind_named (plain_kind kind.now)) (plain_kind kind.now) memory.now }
+{
+    match kind_named(kind) {
+        Some(named) => ParamKind::Ctrl(named),
+        None => {
+            let home = memory_of(memories, memory);
+            ParamKind::Tensor(cell_of(kind), Indices::new(alloc), home)
+        }
+    }
+}
+
+/// What a parameter of that type takes.
+fn form_of(
+    alloc: Global,
+    names: &Names,
+    memories: &NameTable,
+    form: &SourceType,
+    memory: &Option<Text>,
+) -> Result<ParamKind, AllocError>
+    requires { length memories.now ≤ 4294967295 }
+    ensures { IfOk result (λ k. parameter_kind k ≡ rules.form_of names.now.fields.now memories.now names.now.scope.now (plain_form form.now) memory.now) }
+{
+    match form {
+        SourceType::Plain(kind, dims) => {
+            if dims.is_empty() {
+                return Ok(scalar_of(alloc, memories, kind, memory));
+            }
+            let extents = indices_of(alloc, names, dims)?;
+            Ok(ParamKind::Tensor(cell_of(kind), extents, memory_of(memories, memory)))
+        }
+        SourceType::Window(kind, dims) => {
+            let extents = indices_of(alloc, names, dims)?;
+            Ok(ParamKind::Window(cell_of(kind), extents, memory_of(memories, memory)))
+        }
+    }
+}
+
+/// What a parameter's name stands for.
+fn param_sort(kind: &ParamKind) -> Sort
+    ensures { sort_meant result ≡ units.param_sort (parameter_kind kind.now) }
+{
+    match kind {
+        ParamKind::Ctrl(kind) => Sort::Control(*kind),
+        ParamKind::Tensor(cell, dims, _) => Sort::Buffer(*cell, dims.len(), true),
+        ParamKind::Window(cell, dims, _) => Sort::Buffer(*cell, dims.len(), false),
+    }
+}
+
+/// What a parameter breaks whose first token is `n`, and the number of the token behind it.
+fn test_param(context: &Context, walk: &Walk, n: usize, param: &SourceParam) -> (Charge, usize)
+    requires { HasRoom context.now walk.now n (parameter_width (plain_parameter param.now)) }
+    ensures charge { result.0 ≡ charged (definitions.param_faults context.now walk.now n (plain_parameter param.now)) }
+    ensures end { result.1 ≡ n + parameter_width (plain_parameter param.now) }
+{
+    let names = Names {
+        fields: context.fields,
+        scope: &walk.scope,
+    };
+    let taken = binder_charge(&walk.scope, &param.name, n);
+    let (form, end) = test_form(&names, context.memories, n + 2, &param.form, &param.memory);
+    (taken.and(form), end_of_memory(end, &param.memory))
+}
+
+/// The parameter whose first token is `n`, and the number of the token behind it.
+fn param_of<'c>(
+    context: &Context<'c>,
+    walk: &mut Walk<'c>,
+    n: usize,
+    param: &'c SourceParam,
+) -> Result<(Param, usize), Refusal>
+    requires { HasRoom context.now walk.old n (parameter_width (plain_parameter param.now)) }
+    ensures made { MatchResult result (λ r. IsParam context.now walk.old walk.new (parameter r.0) n (plain_parameter param.now)) (λ e. Refuses e (definitions.param_fault context.now walk.old n (plain_parameter param.now))) }
+    ensures end { IfOk result (λ r. r.1 ≡ n + parameter_width (plain_parameter param.now)) }
+{
+    let (charge, end) = test_param(context, walk, n, param);
+    keep(charge)?;
+    let name = Name::new(context.alloc, param.name.as_str())?;
+    let names = Names {
+        fields: context.fields,
+        scope: &walk.scope,
+    };
+    let kind = form_of(context.alloc, &names, context.memories, &param.form, &param.memory)?;
+    let id = walk.bind(param.name.as_str(), param_sort(&kind))?;
+    let binder = Binder { id, name };
+    Ok((Param { binder, kind }, end))
+}
+
+/// The parameters of a procedure, whose first token is `n`, and the number of the token behind the last.
+fn params_of<'c>(
+    context: &Context<'c>,
+    walk: &mut Walk<'c>,
+    n: usize,
+    params: &'c [SourceParam],
+) -> Result<(Params, usize), Refusal>
+    requires { HasRoom context.now walk.old n (params_width (map plain_parameter params.now)) }
+    ensures made { MatchResult result (λ r. AreParams context.now walk.old walk.new r.0 n (map plain_parameter params.now)) (λ e. Refuses e (definitions.params_fault context.now walk.old n (map plain_parameter params.now))) }
+    ensures end { IfOk result (λ r. r.1 + 1 ≡ n + params_width (map plain_parameter params.now)) }
+{
+    let mut made = Params::new(context.alloc);
+    let mut last = n;
+    let mut next = n;
+    for param in params {
+        let (one, end) = param_of(context, walk, next, param)?;
+        made.push(one)?;
+        last = end;
+        next = end + 1;
+    }
+    Ok((made, last))
+}
+
+/// The assertion whose `assert` is token `n`, and the number of the token behind its line.
+fn assert_of(
+    context: &Context,
+    scope: &Scope,
+    n: usize,
+    e: &SourceExpr,
+) -> Result<(Cond, usize), Refusal>
+    requires { n + width (tree_of e.now) + 2 ≤ most_tokens }
+    ensures made { MatchResult result (λ r. IsAssert context.now scope.now n r.0 (tree_of e.now)) (λ r. Refuses r (definitions.assert_fault context.now scope.now n (tree_of e.now))) }
+    ensures end { IfOk result (λ r. r.1 ≡ n + width (tree_of e.now) + 2) }
+{
+    let names = Names {
+        fields: context.fields,
+        scope,
+    };
+    let tested = test_condition(&names, WITH_BOTH, n + 1, e);
+    keep(tested.charge)?;
+    Ok((condition_of(context.alloc, &names, e)?, tested.end + 1))
+}
+
+/// The assertions of a procedure, whose first token is `n`, and the number of the token behind them.
+fn asserts_of(
+    context: &Context,
+    scope: &Scope,
+    n: usize,
+    asserts: &[SourceExpr],
+) -> Result<(Conds, usize), Refusal>
+    requires { n + asserts_width (map tree_of asserts.now) ≤ most_tokens }
+    ensures made { MatchResult result (λ r. AreAsserts context.now scope.now n r.0 (map tree_of asserts.now)) (λ r. Refuses r (definitions.asserts_fault context.now scope.now n (map tree_of asserts.now))) }
+    ensures end { IfOk result (λ r. r.1 ≡ n + asserts_width (map tree_of asserts.now)) }
+{
+    let mut made = Conds::new(context.alloc);
+    let mut next = n;
+    for e in asserts {
+        let (one, end) = assert_of(context, scope, next, e)?;
+        made.push(one)?;
+        next = end;
+    }
+    Ok((made, next))
+}
+
+/// What is made of a procedure: its tree, the lines of its statements, the id of the next binder, and the number of the token
+/// behind it.
+#[derive(Drop)]
+pub struct Defined {
+    pub procedure: Proc,
+    pub lines: StatementLines,
+    pub next_id: u32,
+    pub end: usize,
+}
+
+/// A walk in which no name is given yet.
+fn first_walk<'c>(alloc: Global, first_id: u32) -> Walk<'c>
+    ensures scope { result.scope ≡ [] }
+    ensures aliases { result.aliases.items ≡ [] }
+    ensures ids { result.next_id ≡ first_id }
+    ensures lines { result.lines ≡ [] }
+{
+    Walk {
+        scope: Scope::new(alloc),
+        aliases: Vec::new(alloc),
+        next_id: first_id,
+        lines: StatementLines::new(alloc),
+    }
+}
+
+/// How many tokens a comma is, where one stands.
+fn comma_width(stands: bool) -> usize
+    ensures { result ≡ comma_width stands }
+{
+    if stands { 1 } else { 0 }
+}
+
+/// The procedure of a definition whose `def` is token `n`, and whose first binder gets that id.
+pub fn definition_of<'c>(
+    context: &Context<'c>,
+    first_id: u32,
+    n: usize,
+    template: Option<Template>,
+    definition: &'c SourceDef,
+) -> Result<Defined, Refusal>
+    requires { HasSpace context.now first_id n (definition_end 0 (plain_definition definition.now)) }
+    ensures { MatchResult result (λ r. IsDefined context.now first_id template n r (plain_definition definition.now)) (λ e. Refuses e (definitions.definition_fault context.now first_id n (plain_definition definition.now))) }
+{
+    let alloc = context.alloc;
+    let name = Name::new(alloc, definition.name.as_str())?;
+    let mut walk = first_walk(alloc, first_id);
+    let (params, last) = params_of(context, &mut walk, n + 3, &definition.params.items)?;
+    let start = last + comma_width(definition.params.trailing) + 4;
+    let (asserts, middle) = asserts_of(context, &walk.scope, start, &definition.asserts)?;
+    let (body, end) = block_of(context, &mut walk, middle, &definition.body)?;
+    Ok(Defined {
+        procedure: Proc {
+            name,
+            params,
+            asserts,
+            body,
+            template,
+        },
+        lines: walk.lines,
+        next_id: walk.next_id,
+        end: end + 1,
+    })
+}
