@@ -4,6 +4,8 @@
 pub mod argument;
 pub mod attribute;
 pub mod call;
+pub mod context;
 pub mod part;
 pub mod refusal;
+pub mod statement;
 pub mod types;
