@@ -1,5 +1,5 @@
 -- What a walk through the statements of a procedure keeps, and what it makes of a statement and of a block.
-use Rattle.std.specs.Prelude.{◌≡◌, ℕ, ◌+◌, ◌<◌, ◌≤◌, Bool, List, [], ◌∷◌, ◌++◌, length, map, take, slice_get, Option, Some, None}
+use Rattle.std.specs.Prelude.{◌≡◌, ℕ, ◌+◌, ◌<◌, ◌≤◌, Bool, List, [], ◌∷◌, ◌++◌, length, map, take, Option, Some, None}
 use Rattle.exo_tree.specs.Tree as tree
 use Rattle.exo_tree.specs.Tree.{Procedure}
 use Rattle.exo_meaning.specs.Run.{roots_after}
@@ -25,10 +25,6 @@ signatures_by (p ∷ ps) (w ∷ ws) = record { params = p.params; writes = w } �
 
 abbrev pub signatures_in : Context → List Signature
 signatures_in c = signatures_by c.above.procs.now (rows_say c.above.rows.now)
-
--- that of a number, where there is one
-abbrev pub signature_at : List Signature → Option ℕ → Option Signature
-signature_at signatures number = elim number [ None ↦ None | Some k ↦ slice_get signatures k ]
 
 -- ---- what a walk needs
 

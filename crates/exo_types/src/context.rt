@@ -1,5 +1,5 @@
 //! What stands above a procedure, and what a walk through its text keeps.
-ghost use Rattle.std.specs.Prelude.{◌≡◌, ◌+◌, ◌<◌, None, option_map, take, length, IfOk, OnOk};
+ghost use Rattle.std.specs.Prelude.{◌≡◌, ◌+◌, ◌<◌, None, option_map, slice_get, take, length, IfOk, OnOk};
 ghost use Rattle.exo_meaning.specs.Scene.{updated};
 ghost use Rattle.exo_meaning.specs.Units.{with_name};
 ghost use Rattle.exo_names.specs.Names.{named_in, name_number};
@@ -8,7 +8,7 @@ ghost use Rattle.exo_writes.specs.Written.{roots_in};
 ghost use Rattle.exo_types.specs.Seen.{signature};
 ghost use Rattle.exo_types.specs.TypeRules.{binder};
 ghost use Rattle.exo_types.specs.UnitLines.{line_at};
-ghost use Rattle.exo_types.specs.Walks.{signatures_in, signature_at};
+ghost use Rattle.exo_types.specs.Walks.{signatures_in};
 
 use crate::call::Callee;
 use exo_lexer::place::Place;
@@ -60,13 +60,12 @@ impl<'c> Context<'c> {
         self.procedures.get(name.as_str())
     }
 
-    /// The procedure above of that number.
-    pub fn callee(&self, number: Option<usize>) -> Option<Callee<'c>>
-        ensures { option_map signature result ≡ signature_at (signatures_in self.now) number }
+    /// The procedure above of that number; None exactly where there is none.
+    pub fn callee(&self, number: usize) -> Option<Callee<'c>>
+        ensures { option_map signature result ≡ slice_get (signatures_in self.now) number }
     {
-        let k = number?;
-        let procedure = self.above.procs.get(k)?;
-        let writes = self.above.rows.get(k)?;
+        let procedure = self.above.procs.get(number)?;
+        let writes = self.above.rows.get(number)?;
         Some(Callee {
             params: &procedure.params,
             writes,

@@ -1,5 +1,5 @@
 //! Statements and blocks.
-ghost use Rattle.std.specs.Prelude.{◌≡◌, ◌+◌, ◌≤◌, ◌<◌, map, length, IfOk, MatchResult};
+ghost use Rattle.std.specs.Prelude.{◌≡◌, ◌+◌, ◌≤◌, map, length, IfOk, MatchResult};
 ghost use Rattle.exo_tree.specs.PlainStatement.{statement};
 ghost use Rattle.exo_meaning.specs.Units as units;
 ghost use Rattle.exo_reader.specs.Views.{tree_of};
@@ -18,13 +18,14 @@ ghost use Rattle.exo_types.specs.Walks.{HasRoom, IsPlain, IsStatement, IsBlock};
 use crate::argument::{kind_of, spans, test_kind};
 use crate::call::{arguments_of, test_call};
 use crate::context::{Context, Walk};
-use crate::part::{binder_charge, end_of_memory, memory_charge, memory_of, test_dims, test_store};
-use crate::refusal::{Refusal, keep};
+use crate::part::{
+    binder_charge, comma_width, end_of_memory, memory_charge, memory_of, test_dims, test_store,
+};
+use crate::refusal::{Refusal, keep, unknown_name};
 use crate::types::{cell_charge, cell_of};
 use exo_lexer::text::Text;
 use exo_names::control::{test_condition, test_control};
-use exo_names::error::TypeKind;
-use exo_names::fault::{Charge, Fault};
+use exo_names::fault::Charge;
 use exo_names::resolved::{condition_of, control_of, coordinates_of, data_of, id_in, indices_of};
 use exo_names::scope::Sort;
 use exo_names::tested::{Names, PLAINLY, WITH_FIELDS, WITH_STRIDES, is_buffer};
@@ -95,10 +96,7 @@ fn config_of(
     ensures end { IfOk result (λ r. r.1 ≡ n + statement_width (configure config.now field.now (tree_of e.now))) }
 {
     let Some((number, kind)) = context.fields.get(config.as_str(), field.as_str()) else {
-        return Err(Refusal::Broken(Fault {
-            token: n,
-            rule: TypeKind::UnknownName,
-        }));
+        return Err(unknown_name(n));
     };
     let names = Names {
         fields: context.fields,
@@ -127,17 +125,18 @@ fn call_of(
         fields: context.fields,
         scope: &walk.scope,
     };
-    let number = context.number_in(name);
-    let callee = context.callee(number);
-    let given = arguments.items.as_slice();
-    let (charge, end) = test_call(context.alloc, &names, &walk.aliases, callee, n, given)?;
-    keep(charge)?;
-    let (Some(callee), Some(k)) = (callee, number) else {
-        return Ok((Stmt::Pass, n));
+    let Some(number) = context.number_in(name) else {
+        return Err(unknown_name(n));
     };
+    let Some(callee) = context.callee(number) else {
+        return Err(unknown_name(n));
+    };
+    let given = arguments.items.as_slice();
+    let (charge, end) = test_call(context.alloc, &names, &walk.aliases, Some(callee), n, given)?;
+    keep(charge)?;
     let made = arguments_of(context.alloc, &names, callee.params.as_slice(), given)?;
-    let comma = if arguments.trailing { 1 } else { 0 };
-    Ok((Stmt::Call(ProcId(k as u32), made), end + comma + 1))
+    let comma = comma_width(arguments.trailing);
+    Ok((Stmt::Call(ProcId(number as u32), made), end + comma + 1))
 }
 
 /// The charge of an allocation whose name is token `n`, and the number of the token behind it.
@@ -150,7 +149,7 @@ fn test_alloc(
     dims: &[SourceExpr],
     memory: &Option<Text>,
 ) -> (Charge, usize)
-    requires { n + statement_width (allocate x.now (plain_kind kind.now) (map tree_of dims.now) memory.now) < most_tokens }
+    requires { n + statement_width (allocate x.now (plain_kind kind.now) (map tree_of dims.now) memory.now) ≤ most_tokens }
     ensures charge { result.0 ≡ charged (walks.own_faults context.now walk.now n (allocate x.now (plain_kind kind.now) (map tree_of dims.now) memory.now)) }
     ensures end { result.1 ≡ n + statement_width (allocate x.now (plain_kind kind.now) (map tree_of dims.now) memory.now) }
 {
@@ -391,8 +390,8 @@ pub fn block_of<'c>(
     ensures { MatchResult result (λ r. IsBlock context.now walk.old walk.new r.0 n (block_of (map plain_statement statements.now))) (λ r. Refuses r (walks.block_fault context.now walk.old n (block_of (map plain_statement statements.now)))) }
     ensures end { IfOk result (λ r. r.1 ≡ n + block_width (block_of (map plain_statement statements.now))) }
 {
-    let known = walk.scope.len();
-    let views = walk.aliases.len();
+    let named = walk.scope.len();
+    let viewed = walk.aliases.len();
     let mut made = Block::new(context.alloc);
     let mut next = n;
     for s in statements {
@@ -401,7 +400,7 @@ pub fn block_of<'c>(
         made.push(one)?;
         next = end;
     }
-    walk.scope.truncate(known);
-    walk.aliases.truncate(views);
+    walk.scope.truncate(named);
+    walk.aliases.truncate(viewed);
     Ok((made, next))
 }
