@@ -5,4 +5,12 @@ pub mod Gone
 pub mod Calls
 pub mod Attributes
 pub mod Numbers
+pub mod Forms
+pub mod Broken
+pub mod Falling
+pub mod Bounded
+pub mod Spans
+pub mod Walked
+pub mod Nested
+pub mod Bound
 pub mod Holes

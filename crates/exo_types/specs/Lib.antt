@@ -9,3 +9,5 @@ pub mod UnitLines
 pub mod Typed
 pub mod Refusals
 pub mod Seen
+pub mod Walks
+pub mod Definitions

@@ -4,7 +4,10 @@
 pub mod argument;
 pub mod attribute;
 pub mod call;
+pub mod context;
+pub mod definition;
 pub mod part;
 pub mod refusal;
+pub mod statement;
 pub mod template;
 pub mod types;
