@@ -14,3 +14,4 @@ pub mod Walked
 pub mod Nested
 pub mod Bound
 pub mod Holes
+pub mod Defining

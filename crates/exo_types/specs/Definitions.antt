@@ -21,10 +21,10 @@ use Rattle.exo_types.specs.ItemRules.{body_start, definition_end, parameter_widt
 use Rattle.exo_types.specs.UnitLines.{block_starts, line_at}
 use Rattle.exo_types.specs.Walks.{signatures_in}
 
--- there is room for a procedure with so many tokens: each binder takes a token of its own, and each token has a place
-pub record HasSpace (c : Context) (id n width : ℕ) : Type 0 where
+-- there is room for a procedure: each binder takes a token of its own, and each token has a place
+pub record HasSpace (c : Context) (id n : ℕ) (d : Definition) : Type 0 where
   pub ids : id ≤ n
-  pub tokens : n + width < length c.places.now
+  pub tokens : definition_end n d < length c.places.now
   pub few : length c.places.now ≤ 0x100001
   pub memories : length c.memories.now ≤ 4294967295
   pub procedures : length c.procedures.now ≤ 4294967295

@@ -11,3 +11,4 @@ pub mod Refusals
 pub mod Seen
 pub mod Walks
 pub mod Definitions
+pub mod Standing

@@ -12,7 +12,7 @@ ghost use Rattle.exo_names.specs.ExpressionRules.{width};
 ghost use Rattle.exo_types.specs.TypeRules.{memory_width, kind_named};
 ghost use Rattle.exo_types.specs.ArgumentRules.{comma_width};
 ghost use Rattle.exo_types.specs.ItemRules as rules;
-ghost use Rattle.exo_types.specs.ItemRules.{form_width, parameter_width, params_width, asserts_width, definition_end};
+ghost use Rattle.exo_types.specs.ItemRules.{form_width, parameter_width, params_width, asserts_width};
 ghost use Rattle.exo_types.specs.Refusals.{Refuses};
 ghost use Rattle.exo_types.specs.Walks.{HasRoom};
 ghost use Rattle.exo_types.specs.Definitions as definitions;
@@ -34,7 +34,8 @@ use exo_names::tested::{Names, PLAINLY, WITH_BOTH};
 use exo_reader::source::SourceExpr;
 use exo_source::source::{SourceDef, SourceKind, SourceParam, SourceType};
 use exo_tree::{
-    Binder, Cond, Conds, Indices, Name, Param, ParamKind, Params, Proc, StatementLines, Text as Template,
+    Binder, Cond, Conds, Indices, Name, Param, ParamKind, Params, Proc, StatementLines,
+    Text as Template,
 };
 use std::alloc::{AllocError, Global};
 
@@ -53,12 +54,7 @@ fn no_memory_charge(memories: &NameTable, n: usize, memory: &Option<Text>) -> Ch
 }
 
 /// The charge of a type without dimensions, which is token `n`, and of the memory behind it.
-fn test_scalar(
-    memories: &NameTable,
-    n: usize,
-    kind: &SourceKind,
-    memory: &Option<Text>,
-) -> Charge
+fn test_scalar(memories: &NameTable, n: usize, kind: &SourceKind, memory: &Option<Text>) -> Charge
     requires { n + 1 < most_tokens }
     ensures { (fields : List ConfigField) → result ≡ charged (rules.scalar_faults fields memories.now (kind_named (plain_kind kind.now)) (plain_kind kind.now) n memory.now) }
 {
@@ -187,13 +183,20 @@ fn param_of<'c>(
         fields: context.fields,
         scope: &walk.scope,
     };
-    let kind = form_of(context.alloc, &names, context.memories, &param.form, &param.memory)?;
+    let kind = form_of(
+        context.alloc,
+        &names,
+        context.memories,
+        &param.form,
+        &param.memory,
+    )?;
     let id = walk.bind(param.name.as_str(), param_sort(&kind))?;
     let binder = Binder { id, name };
     Ok((Param { binder, kind }, end))
 }
 
-/// The parameters of a procedure, whose first token is `n`, and the number of the token behind the last.
+/// The parameters of a procedure, whose first token is `n`, and the number of the token behind the parenthesis that closes them,
+/// if no comma stands before it.
 fn params_of<'c>(
     context: &Context<'c>,
     walk: &mut Walk<'c>,
@@ -202,18 +205,17 @@ fn params_of<'c>(
 ) -> Result<(Params, usize), Refusal>
     requires { HasRoom context.now walk.old n (params_width (map plain_parameter params.now)) }
     ensures made { MatchResult result (λ r. AreParams context.now walk.old walk.new r.0 n (map plain_parameter params.now)) (λ e. Refuses e (definitions.params_fault context.now walk.old n (map plain_parameter params.now))) }
-    ensures end { IfOk result (λ r. r.1 + 1 ≡ n + params_width (map plain_parameter params.now)) }
+    ensures end { IfOk result (λ r. r.1 ≡ n + params_width (map plain_parameter params.now)) }
 {
     let mut made = Params::new(context.alloc);
-    let mut last = n;
     let mut next = n;
     for param in params {
         let (one, end) = param_of(context, walk, next, param)?;
         made.push(one)?;
-        last = end;
         next = end + 1;
     }
-    Ok((made, last))
+    let end = if params.is_empty() { n + 1 } else { next };
+    Ok((made, end))
 }
 
 /// The assertion whose `assert` is token `n`, and the number of the token behind its line.
@@ -297,14 +299,14 @@ pub fn definition_of<'c>(
     template: Option<Template>,
     definition: &'c SourceDef,
 ) -> Result<Defined, Refusal>
-    requires { HasSpace context.now first_id n (definition_end 0 (plain_definition definition.now)) }
+    requires { HasSpace context.now first_id n (plain_definition definition.now) }
     ensures { MatchResult result (λ r. IsDefined context.now first_id template n r (plain_definition definition.now)) (λ e. Refuses e (definitions.definition_fault context.now first_id n (plain_definition definition.now))) }
 {
     let alloc = context.alloc;
     let name = Name::new(alloc, definition.name.as_str())?;
     let mut walk = first_walk(alloc, first_id);
-    let (params, last) = params_of(context, &mut walk, n + 3, &definition.params.items)?;
-    let start = last + comma_width(definition.params.trailing) + 4;
+    let (params, closed) = params_of(context, &mut walk, n + 3, &definition.params.items)?;
+    let start = closed + comma_width(definition.params.trailing) + 3;
     let (asserts, middle) = asserts_of(context, &walk.scope, start, &definition.asserts)?;
     let (body, end) = block_of(context, &mut walk, middle, &definition.body)?;
     Ok(Defined {

@@ -10,4 +10,6 @@ pub mod part;
 pub mod refusal;
 pub mod statement;
 pub mod template;
+pub mod typed;
 pub mod types;
+pub mod unit;

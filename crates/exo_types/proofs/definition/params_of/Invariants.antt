@@ -1,0 +1,8 @@
+-- What has been made, and what is left.
+use Rattle.std.proofs.Common.{drop, map}
+use Rattle.exo_source.specs.Views.{plain_parameter}
+use Rattle.exo_types.proofs.Defining.{SoFar}
+use Rattle.exo_types.proofs.definition.params_of.Given as goal
+
+abbrev pub invariant-loop-param : goal.invariant-loop-param
+invariant-loop-param l = SoFar l.context l.initial.walk l.walk l.made l.n l.next (map plain_parameter l.params) (map plain_parameter (drop l.param-index l.params))
