@@ -1,8 +1,13 @@
 -- Holes of templates, byte by byte.
-use Rattle.std.proofs.Common.{◌≡◌, ℕ, zero, suc, ◌+◌, ◌-◌, ◌<◌, ◌≤◌, ◌==◌, Bool, true, false, ◌&&◌, List, [], ◌∷◌, ◌++◌, length, take, drop, get_or, slice_range, refl, ap, sym, ◌∙◌, arith, add_assoc}
+use Rattle.std.proofs.Common.{◌≡◌, ℕ, zero, suc, ◌+◌, ◌-◌, ◌<◌, ◌≤◌, ◌==◌, Bool, true, false, ◌&&◌, ◌||◌, if◌then◌else◌, Option, Some, None, is_some, List, [], ◌∷◌, ◌++◌, length, take, drop, get_or, slice_range, refl, ap, sym, ◌∙◌, arith, add_assoc}
 use Rattle.std.proofs.lemmas.List.{take_more, get_or-drop, length-drop}
-use Rattle.exo_tree.specs.Tree.{Param}
-use Rattle.exo_meaning.specs.Units.{is_text, Reading, holes_fit}
+use Rattle.std.specs.List.{list_any}
+use Rattle.exo_tree.specs.Tree.{Kind, ConfigField, Param}
+use Rattle.exo_meaning.specs.Units.{Scope, is_text, data_ending, is_hole_of, Reading, holes_fit}
+use Rattle.exo_source.specs.Source.{Form, plain, strided, Parameter}
+use Rattle.exo_types.specs.TypeRules.{kind_named}
+use Rattle.exo_types.specs.ItemRules.{scalar_of, form_of, param_of, with_param, params_from}
+use Rattle.exo_types.specs.HoleRules.{is_control, is_written_hole, HaveHoles}
 use Rattle.exo_types.proofs.Lists.{drop_read}
 
 -- a byte, and what is left of the text
@@ -27,3 +32,23 @@ pub text_short : (name text ending : List ℕ) → length text < length name →
 text_short [] text ending h = absurd (omega (arith, h))
 text_short (x ∷ name) [] ending h = refl
 text_short (x ∷ name) (y ∷ text) ending h = let e = text_short name text ending (omega (arith, h)) in grind arith
+
+-- ---- the parameters of a procedure
+
+-- a parameter has the hole that is written
+hole_by : (name x : List ℕ) (scope : Scope) (fields : List ConfigField) (memories : List (List ℕ)) (id : ℕ) (form : Form) (m : Option (List ℕ)) → is_hole_of name (record { binder = record { id = id; name = x }; kind = form_of fields memories scope form m }) ≡ (if is_control form then is_text name x else is_text name (x ++ data_ending))
+hole_by name x scope fields memories id (plain type []) m = by (kind_named type)
+  where
+    by : (o : Option Kind) → is_hole_of name (record { binder = record { id = id; name = x }; kind = scalar_of fields memories o type m }) ≡ (if is_some o then is_text name x else is_text name (x ++ data_ending))
+    by None = refl
+    by (Some kind) = refl
+hole_by name x scope fields memories id (plain type (d ∷ ds)) m = refl
+hole_by name x scope fields memories id (strided type ds) m = refl
+
+same_holes : (fields : List ConfigField) (memories : List (List ℕ)) (id : ℕ) (scope : Scope) (ps : List Parameter) (name : List ℕ) → list_any (is_hole_of name) (params_from fields memories id scope ps) ≡ list_any (is_written_hole name) ps
+same_holes fields memories id scope [] name = refl
+same_holes fields memories id scope (p ∷ ps) name =
+    λ i. hole_by name p.name scope fields memories id p.form p.memory i || same_holes fields memories (suc id) (with_param fields memories scope (param_of fields memories id scope p)) ps name i
+
+pub have_holes : (fields : List ConfigField) (memories : List (List ℕ)) (id : ℕ) (scope : Scope) (ps : List Parameter) → HaveHoles (params_from fields memories id scope ps) ps
+have_holes fields memories id scope ps = record { same = same_holes fields memories id scope ps }

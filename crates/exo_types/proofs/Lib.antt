@@ -15,3 +15,8 @@ pub mod Nested
 pub mod Bound
 pub mod Holes
 pub mod Defining
+pub mod Named
+pub mod Writes
+pub mod Added
+pub mod Items
+pub mod Fielded
