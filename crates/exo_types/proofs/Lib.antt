@@ -13,3 +13,4 @@ pub mod Spans
 pub mod Walked
 pub mod Nested
 pub mod Bound
+pub mod Plain
