@@ -46,7 +46,7 @@ pub none_broken : (fs : List Fault) → least fs ≡ None → fs ≡ []
 none_broken [] h = refl
 none_broken (f ∷ fs) h = absurd (never_none f (least fs) h)
 
-first_empty : (a b : List Fault) → a ++ b ≡ [] → a ≡ []
+pub first_empty : (a b : List Fault) → a ++ b ≡ [] → a ≡ []
 first_empty [] b h = refl
 first_empty (f ∷ a) b h = cc
 

@@ -14,3 +14,4 @@ pub mod Walked
 pub mod Nested
 pub mod Bound
 pub mod Plain
+pub mod Signatures

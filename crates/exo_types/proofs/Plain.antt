@@ -42,7 +42,7 @@ module _ (c : Context) where
   settled : (w : Walk) (t : tree.Statement) (n : ℕ) (s : Statement) → statement_fault c w n s ≡ or_else (own_fault c w n s) None → scope_after (statement_of c w s) w.scope ≡ w.scope → roots_after (statement_of c w s) (roots_in w.aliases.items) ≡ roots_in w.aliases.items → bound s ≡ 0 → inner_starts n s ≡ [] → own_fault c w n s ≡ None → t ≡ statement_of c w s → IsStatement c w w t n s
   settled w t n s plain scope roots none inner own made = record {
     keeps = plain ∙ ap (λ o. or_else o None) own;
-    made = made;
+    means = made;
     scope = sym (ap (λ u. scope_after u w.scope) made ∙ scope);
     roots = sym (ap (λ u. roots_after u (roots_in w.aliases.items)) made ∙ roots);
     kept = take-length w.aliases.items;
@@ -69,4 +69,4 @@ module _ (c : Context) where
   pub called : (w : Walk) (n : ℕ) (x : List ℕ) (args : List source.Argument) (trailing : Bool) (k : ℕ) (f : Signature) (made : List tree.Argument) → name_number c.procedures.now x ≡ Some k → slice_get (signatures_in c) k ≡ Some f → own_fault c w n (call x args trailing) ≡ None → made ≡ arguments_of c.fields.now w.scope f.params args → IsStatement c w w (tree.Call k made) n (call x args trailing)
   called w n x args trailing k f made found seen own h =
       settled w (tree.Call k made) n (call x args trailing) refl refl refl refl refl own
-      ((λ i. tree.Call k (h i)) ∙ (λ i. tree.Call (number_or no_id (sym found i)) (arguments_of c.fields.now w.scope (params_of (sym (callee_found x k f found seen) i)) args)))
+      ((λ i. tree.Call k (h i)) ∙ (λ i. tree.Call (number_or no_id (sym found i)) (arguments_of c.fields.now w.scope (params_of (sym (callee_found c x k f found seen) i)) args)))

@@ -73,7 +73,7 @@ module _ (c : Context) where
   -- inside it are told.
   pub record IsStatement (before after : Walk) (made : tree.Statement) (n : ℕ) (s : Statement) : Type 0 where
     pub keeps : statement_fault before n s ≡ None
-    pub made : made ≡ statement_of before s
+    pub means : made ≡ statement_of before s
     pub scope : after.scope ≡ scope_after made before.scope
     pub roots : roots_in after.aliases.items ≡ roots_after made (roots_in before.aliases.items)
     pub kept : take (length before.aliases.items) after.aliases.items ≡ before.aliases.items
@@ -83,7 +83,7 @@ module _ (c : Context) where
   -- a block breaks no rule, and this is its tree; its names end with it, and its lines are told
   pub record IsBlock (before after : Walk) (made : List tree.Statement) (n : ℕ) (b : Block) : Type 0 where
     pub keeps : block_fault before n b ≡ None
-    pub made : tree.block made ≡ block_of before b
+    pub means : tree.block made ≡ block_of before b
     pub scope : after.scope ≡ before.scope
     pub aliases : after.aliases.items ≡ before.aliases.items
     pub ids : after.next_id ≡ before.next_id + bound_in b

@@ -42,7 +42,7 @@ fn assign_of(
     e: &SourceExpr,
 ) -> Result<(Stmt, usize), Refusal>
     requires { n + statement_width (assign x.now (map tree_of dims.now) (tree_of e.now)) ≤ most_tokens }
-    ensures { Makes context.now walk.now walk.now n (assign x.now (map tree_of dims.now) (tree_of e.now)) result }
+    ensures made { Makes context.now walk.now walk.now n (assign x.now (map tree_of dims.now) (tree_of e.now)) result }
     ensures end { IfOk result (λ r. r.1 ≡ n + statement_width (assign x.now (map tree_of dims.now) (tree_of e.now))) }
 {
     let names = Names {
@@ -66,7 +66,7 @@ fn reduce_of(
     e: &SourceExpr,
 ) -> Result<(Stmt, usize), Refusal>
     requires { n + statement_width (reduce x.now (map tree_of dims.now) (tree_of e.now)) ≤ most_tokens }
-    ensures { Makes context.now walk.now walk.now n (reduce x.now (map tree_of dims.now) (tree_of e.now)) result }
+    ensures made { Makes context.now walk.now walk.now n (reduce x.now (map tree_of dims.now) (tree_of e.now)) result }
     ensures end { IfOk result (λ r. r.1 ≡ n + statement_width (reduce x.now (map tree_of dims.now) (tree_of e.now))) }
 {
     let names = Names {
@@ -90,7 +90,7 @@ fn config_of(
     e: &SourceExpr,
 ) -> Result<(Stmt, usize), Refusal>
     requires { n + statement_width (configure config.now field.now (tree_of e.now)) ≤ most_tokens }
-    ensures { Makes context.now walk.now walk.now n (configure config.now field.now (tree_of e.now)) result }
+    ensures made { Makes context.now walk.now walk.now n (configure config.now field.now (tree_of e.now)) result }
     ensures end { IfOk result (λ r. r.1 ≡ n + statement_width (configure config.now field.now (tree_of e.now))) }
 {
     let Some((number, kind)) = context.fields.get(config.as_str(), field.as_str()) else {
@@ -116,7 +116,7 @@ fn call_of(
 ) -> Result<(Stmt, usize), Refusal>
     requires room { n + statement_width (call name.now (map plain_argument arguments.now.items.items) arguments.now.trailing) ≤ most_tokens }
     requires few { length context.now.procedures.now ≤ 4294967295 }
-    ensures { Makes context.now walk.now walk.now n (call name.now (map plain_argument arguments.now.items.items) arguments.now.trailing) result }
+    ensures made { Makes context.now walk.now walk.now n (call name.now (map plain_argument arguments.now.items.items) arguments.now.trailing) result }
     ensures end { IfOk result (λ r. r.1 ≡ n + statement_width (call name.now (map plain_argument arguments.now.items.items) arguments.now.trailing)) }
 {
     let names = Names {
@@ -173,7 +173,7 @@ fn alloc_of<'c>(
     memory: &Option<Text>,
 ) -> Result<(Stmt, usize), Refusal>
     requires { HasRoom context.now walk.old n (statement_width (allocate x.now (plain_kind kind.now) (map tree_of dims.now) memory.now)) }
-    ensures { Makes context.now walk.old walk.new n (allocate x.now (plain_kind kind.now) (map tree_of dims.now) memory.now) result }
+    ensures made { Makes context.now walk.old walk.new n (allocate x.now (plain_kind kind.now) (map tree_of dims.now) memory.now) result }
     ensures end { IfOk result (λ r. r.1 ≡ n + statement_width (allocate x.now (plain_kind kind.now) (map tree_of dims.now) memory.now)) }
 {
     let (charge, end) = test_alloc(context, walk, n, x, kind, dims, memory);
@@ -233,7 +233,7 @@ fn view_of<'c>(
     coords: &[SourceCoord],
 ) -> Result<(Stmt, usize), Refusal>
     requires { HasRoom context.now walk.old n (statement_width (view w.now x.now (map plain_coordinate coords.now))) }
-    ensures { Makes context.now walk.old walk.new n (view w.now x.now (map plain_coordinate coords.now)) result }
+    ensures made { Makes context.now walk.old walk.new n (view w.now x.now (map plain_coordinate coords.now)) result }
     ensures end { IfOk result (λ r. r.1 ≡ n + statement_width (view w.now x.now (map plain_coordinate coords.now))) }
 {
     let (charge, end) = test_view(context, walk, n, w, x, coords);
@@ -259,7 +259,7 @@ fn statement_of<'c>(
     s: &'c SourceStmt,
 ) -> Result<(Stmt, usize), Refusal>
     requires { HasRoom context.now walk.old n (statement_width (plain_statement s.now)) }
-    ensures { Makes context.now walk.old walk.new n (plain_statement s.now) result }
+    ensures made { Makes context.now walk.old walk.new n (plain_statement s.now) result }
     ensures end { IfOk result (λ r. r.1 ≡ n + statement_width (plain_statement s.now)) }
 {
     match s {
@@ -288,7 +288,7 @@ fn branch_of<'c>(
     b: &'c [SourceStmt],
 ) -> Result<(Stmt, usize), Refusal>
     requires { HasRoom context.now walk.old n (statement_width (branch (tree_of c.now) (block_of (map plain_statement a.now)) (block_of (map plain_statement b.now)))) }
-    ensures { Makes context.now walk.old walk.new n (branch (tree_of c.now) (block_of (map plain_statement a.now)) (block_of (map plain_statement b.now))) result }
+    ensures made { Makes context.now walk.old walk.new n (branch (tree_of c.now) (block_of (map plain_statement a.now)) (block_of (map plain_statement b.now))) result }
     ensures end { IfOk result (λ r. r.1 ≡ n + statement_width (branch (tree_of c.now) (block_of (map plain_statement a.now)) (block_of (map plain_statement b.now)))) }
 {
     let names = Names {
@@ -312,7 +312,7 @@ fn else_of<'c>(
     b: &'c [SourceStmt],
 ) -> Result<(Block, usize), Refusal>
     requires { HasRoom context.now walk.old n (else_width (block_of (map plain_statement b.now))) }
-    ensures { MakesBlock context.now walk.old walk.new (n + 4) (block_of (map plain_statement b.now)) result }
+    ensures made { MakesBlock context.now walk.old walk.new (n + 4) (block_of (map plain_statement b.now)) result }
     ensures end { IfOk result (λ r. r.1 ≡ n + else_width (block_of (map plain_statement b.now))) }
 {
     if b.is_empty() {
@@ -357,7 +357,7 @@ fn loop_of<'c>(
     a: &'c [SourceStmt],
 ) -> Result<(Stmt, usize), Refusal>
     requires { HasRoom context.now walk.old n (statement_width (loop i.now (tree_of low.now) (tree_of high.now) (block_of (map plain_statement a.now)))) }
-    ensures { Makes context.now walk.old walk.new n (loop i.now (tree_of low.now) (tree_of high.now) (block_of (map plain_statement a.now))) result }
+    ensures made { Makes context.now walk.old walk.new n (loop i.now (tree_of low.now) (tree_of high.now) (block_of (map plain_statement a.now))) result }
     ensures end { IfOk result (λ r. r.1 ≡ n + statement_width (loop i.now (tree_of low.now) (tree_of high.now) (block_of (map plain_statement a.now)))) }
 {
     let (charge, bounds_end) = test_loop(context, walk, n, i, low, high);
@@ -385,7 +385,7 @@ pub fn block_of<'c>(
     statements: &'c [SourceStmt],
 ) -> Result<(Block, usize), Refusal>
     requires { HasRoom context.now walk.old n (block_width (block_of (map plain_statement statements.now))) }
-    ensures { MakesBlock context.now walk.old walk.new n (block_of (map plain_statement statements.now)) result }
+    ensures made { MakesBlock context.now walk.old walk.new n (block_of (map plain_statement statements.now)) result }
     ensures end { IfOk result (λ r. r.1 ≡ n + block_width (block_of (map plain_statement statements.now))) }
 {
     let named = walk.scope.len();
