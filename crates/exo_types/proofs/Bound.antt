@@ -39,7 +39,7 @@ module _ (c : Context) where
       let long : rank ≡ length is = ranked ∙ sym (length-map ds _) ∙ ap length (sym is_dims) in
       record {
         keeps = ap (λ o. or_else o None) own;
-        made = λ i. tree.Alloc (is_b i) (is_cell i) (is_dims i) (is_home i);
+        means = λ i. tree.Alloc (is_b i) (is_cell i) (is_dims i) (is_home i);
         scope = scope ∙ (λ i. with_name walk.scope (sym is_b i) (BufferName cell (long i) true));
         roots = roots ∙ (λ i. updated (roots_in walk.aliases.items) (sym is_b i).id (sym is_b i).id);
         kept = kept;
@@ -55,7 +55,7 @@ module _ (c : Context) where
       let same : sort ≡ view_sort (sort_in walk.scope of) (units.spans made) = is_sort ∙ (λ i. view_sort (seen i) ((same_spans c.fields.now walk.scope cs ∙ ap units.spans (sym is_made)) i)) in
       record {
         keeps = ap (λ o. or_else o None) own;
-        made = λ i. tree.View (is_b i) (is_of i) (is_made i);
+        means = λ i. tree.View (is_b i) (is_of i) (is_made i);
         scope = scope ∙ (λ i. with_name walk.scope (sym is_b i) (same i));
         roots = roots ∙ (λ i. updated (roots_in walk.aliases.items) (sym is_b i).id (roots_in walk.aliases.items of));
         kept = kept;

@@ -1,5 +1,6 @@
 -- Broken rules: which decides, and what it means that none is broken.
-use Rattle.std.proofs.Common.{◌≡◌, ℕ, Bool, true, false, not, List, [], ◌∷◌, ◌++◌, Option, Some, None, if◌then◌else◌, refl, ap, sym, ◌∙◌}
+use Rattle.std.proofs.Common.{◌≡◌, ℕ, Bool, true, false, not, List, [], ◌∷◌, ◌++◌, Option, Some, None, Result, Ok, Err, MatchResult, if◌then◌else◌, refl, ap, sym, subst, ◌∙◌}
+use Rattle.std.specs.Result.{IsErrAnd}
 use Rattle.exo_meaning.specs.Units.{Named, Scope}
 use Rattle.exo_names.specs.declared.fault.Fault.{Fault}
 use Rattle.exo_names.specs.declared.fault.Charge.{Charge}
@@ -45,7 +46,7 @@ pub none_broken : (fs : List Fault) → least fs ≡ None → fs ≡ []
 none_broken [] h = refl
 none_broken (f ∷ fs) h = absurd (never_none f (least fs) h)
 
-first_empty : (a b : List Fault) → a ++ b ≡ [] → a ≡ []
+pub first_empty : (a b : List Fault) → a ++ b ≡ [] → a ≡ []
 first_empty [] b h = refl
 first_empty (f ∷ a) b h = cc
 
@@ -56,3 +57,15 @@ free (Some m) n h = cc
 -- a name that breaks no rule is new
 pub is_free : (scope : Scope) (n : ℕ) (x : List ℕ) (more : List Fault) → least (binder_faults scope n x ++ more) ≡ None → named_in scope x ≡ None
 is_free scope n x more h = free (named_in scope x) n (first_empty (binder_faults scope n x) more (none_broken (binder_faults scope n x ++ more) h))
+
+-- what a `?` returns
+pub exit : {X : Type 0} (P : X → Type 0) (first : Option Fault) (result : Result X Refusal) (e : Refusal) → IsErrAnd result (λ r. r ≡ e) → Refuses e first → MatchResult result P (λ r. Refuses r first)
+exit P first (Ok x) e is refuses = absurd is
+exit P first (Err r) e is refuses = subst (λ y. Refuses y first) (sym is) refuses
+
+-- what a charge says that was kept or refused
+pub kept_none : (c : Charge) (fs : List Fault) → c ≡ charged fs → c.first ≡ None → least fs ≡ None
+kept_none c fs h k = sym (first_of c fs h) ∙ k
+
+pub kept_err : (e : Refusal) (c : Charge) (fs : List Fault) → c ≡ charged fs → Refuses e c.first → Refuses e (least fs)
+kept_err e c fs h r = refuses_same e c.first (least fs) (first_of c fs h) r

@@ -13,6 +13,8 @@ pub mod Spans
 pub mod Walked
 pub mod Nested
 pub mod Bound
+pub mod Plain
+pub mod Signatures
 pub mod Holes
 pub mod Defining
 pub mod Named

@@ -66,7 +66,7 @@ module _ (c : Context) where
             none_of_both _ _ own
             (none_of_both _ _ (sym (same_fault walk walk walk.next_id (n + 1 + width e + 3) k a refl refl refl h) ∙ first.keeps)
             (sym (same_fault walk one (walk.next_id + bound_in a) (n + 1 + width e + 3 + block_width a + 5) m b first.ids first.scope first.aliases start) ∙ second.keeps));
-        made = λ i. tree.If (made i) (first.made i) ((second.made ∙ same_block walk one (walk.next_id + bound_in a) b first.ids first.scope) i);
+        means = λ i. tree.If (made i) (first.means i) ((second.means ∙ same_block walk one (walk.next_id + bound_in a) b first.ids first.scope) i);
         scope = second.scope ∙ first.scope;
         roots = ap roots_in aliases;
         kept = ap (take (length walk.aliases.items)) aliases ∙ take-length walk.aliases.items;
@@ -102,7 +102,7 @@ module _ (c : Context) where
     few = r.few;
     memories = r.memories;
     procedures = r.procedures;
-    falls = subst (λ y. Falls y.0 y.1) (λ j. (sym i j, sym s j)) (omega arith, r.falls);
+    falls = subst {A = ℕ × Scope} (λ y. Falls y.0 y.1) (λ j. (sym i j, sym s j)) (omega arith, r.falls);
   }
 
   pub looped : (walk one two after : Walk) (n k : ℕ) (x : List ℕ) (low high : Tree) (a : Block) (A : List tree.Statement) (b : tree.Binder) (from to : tree.Control) → own_fault c walk n (loop x low high a) ≡ None → one.scope ≡ inside walk x → one.next_id ≡ walk.next_id + 1 → one.aliases.items ≡ walk.aliases.items → one.lines ≡ walk.lines → k ≡ n + 5 + width low + 1 + width high + 4 → IsBlock c one two A k a → b ≡ binder walk.next_id x → from ≡ control_of c.fields.now walk.scope low → to ≡ control_of c.fields.now walk.scope high → after.scope ≡ walk.scope → after.aliases.items ≡ two.aliases.items → after.next_id ≡ two.next_id → after.lines ≡ two.lines → IsStatement c walk after (tree.For b from to (tree.block A)) n (loop x low high a)
@@ -111,7 +111,7 @@ module _ (c : Context) where
       let kept : after.aliases.items ≡ walk.aliases.items = aliases ∙ made.aliases ∙ aliased in
       record {
         keeps = none_of_both _ _ own ((λ j. rules.block_fault c.fields.now c.memories.now c.procedures.now (signatures_in c) (sym id j) (sym s j) (roots_in (sym aliased j)) (sym h j) a) ∙ made.keeps);
-        made = λ j. tree.For (is_b j) (is_from j) (is_to j) ((made.made ∙ (λ l. rules.block_of c.fields.now c.memories.now c.procedures.now (signatures_in c) (id l) (s l) a)) j);
+        means = λ j. tree.For (is_b j) (is_from j) (is_to j) ((made.means ∙ (λ l. rules.block_of c.fields.now c.memories.now c.procedures.now (signatures_in c) (id l) (s l) a)) j);
         scope = scope;
         roots = ap roots_in kept;
         kept = ap (take (length walk.aliases.items)) kept ∙ take-length walk.aliases.items;

@@ -93,7 +93,7 @@ module _ (c : Context) where
   -- the walk has gone from token n, where the whole began, to token k, where the rest begins
   pub record SoFar (first walk : Walk) (made : List tree.Statement) (n k : ℕ) (whole rest : Block) : Type 0 where
     pub fault : block_fault c walk k rest ≡ block_fault c first n whole
-    pub made : joined (tree.block made) (block_of c walk rest) ≡ block_of c first whole
+    pub means : joined (tree.block made) (block_of c walk rest) ≡ block_of c first whole
     pub width : k + block_width rest ≡ n + block_width whole
     pub count : walk.next_id + bound_in rest ≡ first.next_id + bound_in whole
     pub ids : walk.next_id ≤ k
@@ -110,7 +110,7 @@ module _ (c : Context) where
   pub so_first : (first : Walk) (made : List tree.Statement) (n : ℕ) (whole : Block) → made ≡ [] → HasRoom c first n (block_width whole) → SoFar first first made n n whole whole
   so_first first made n whole h room = record {
     fault = refl;
-    made = ap (λ l. joined (tree.block l) (block_of c first whole)) h;
+    means = ap (λ l. joined (tree.block l) (block_of c first whole)) h;
     width = refl;
     count = refl;
     ids = room.ids;
@@ -135,20 +135,20 @@ module _ (c : Context) where
   -- one more statement
   pub so_on : (first walk after : Walk) (made new : List tree.Statement) (n k m : ℕ) (whole : Block) (s : Statement) (more : Block) (t : tree.Statement) → SoFar first walk made n k whole (next s more) → IsStatement c (with_line walk k) after t k s → m ≡ k + statement_width s → new ≡ made ++ t ∷ [] → SoFar first after new n m whole more
   so_on first walk after made new n k m whole s more t f step end' pushed =
-      let scope : after.scope ≡ scope_after (statement_of c walk s) walk.scope = step.scope ∙ ap (λ u. scope_after u walk.scope) step.made in
-      let roots : roots_in after.aliases.items ≡ roots_after (statement_of c walk s) (roots_in walk.aliases.items) = step.roots ∙ ap (λ u. roots_after u (roots_in walk.aliases.items)) step.made in
+      let scope : after.scope ≡ scope_after (statement_of c walk s) walk.scope = step.scope ∙ ap (λ u. scope_after u walk.scope) step.means in
+      let roots : roots_in after.aliases.items ≡ roots_after (statement_of c walk s) (roots_in walk.aliases.items) = step.roots ∙ ap (λ u. roots_after u (roots_in walk.aliases.items)) step.means in
       let few = few_bound s in
       record {
         fault = goes_on _ _ _ _ f.fault step.keeps (λ i. rules.block_fault c.fields.now c.memories.now c.procedures.now (signatures_in c) (step.ids i) (scope i) (roots i) (end' i) more);
-        made =
+        means =
             (λ i. joined (tree.block (pushed i)) (rules.block_of c.fields.now c.memories.now c.procedures.now (signatures_in c) (step.ids i) (scope i) more))
             ∙ joined_last made t (rules.block_of c.fields.now c.memories.now c.procedures.now (signatures_in c) (walk.next_id + bound s) (scope_after (statement_of c walk s) walk.scope) more)
-            ∙ ap (λ u. joined (tree.block made) (tree.next u (rules.block_of c.fields.now c.memories.now c.procedures.now (signatures_in c) (walk.next_id + bound s) (scope_after (statement_of c walk s) walk.scope) more))) step.made
-            ∙ f.made;
+            ∙ ap (λ u. joined (tree.block made) (tree.next u (rules.block_of c.fields.now c.memories.now c.procedures.now (signatures_in c) (walk.next_id + bound s) (scope_after (statement_of c walk s) walk.scope) more))) step.means
+            ∙ f.means;
         width = omega (arith, f.width, end');
         count = omega (arith, f.count, step.ids);
         ids = omega (arith, f.ids, step.ids, few, end');
-        falls = subst (λ x. Falls x.0 x.1) (λ i. (sym step.ids i, sym scope i)) (falls_after c.fields.now c.memories.now c.procedures.now (signatures_in c) walk.next_id walk.scope s f.falls);
+        falls = subst {A = ℕ × Scope} (λ x. Falls x.0 x.1) (λ i. (sym step.ids i, sym scope i)) (falls_after c.fields.now c.memories.now c.procedures.now (signatures_in c) walk.next_id walk.scope s f.falls);
         lines =
             (λ i. step.lines i ++ map (line_at c.places.now) (block_starts (end' i) more))
             ∙ told_on walk.lines (map (line_at c.places.now) (inner_starts k s)) (map (line_at c.places.now) (block_starts (k + statement_width s) more)) (line_at c.places.now k)
@@ -163,7 +163,7 @@ module _ (c : Context) where
   pub ended : (first walk after : Walk) (made : List tree.Statement) (n k : ℕ) (whole : Block) → SoFar first walk made n k whole end → after.scope ≡ first.scope → after.aliases.items ≡ first.aliases.items → after.next_id ≡ walk.next_id → after.lines ≡ walk.lines → IsBlock c first after made n whole
   ended first walk after made n k whole f scope aliases ids lines = record {
     keeps = sym f.fault;
-    made = sym (joined_end made) ∙ f.made;
+    means = sym (joined_end made) ∙ f.means;
     scope = scope;
     aliases = aliases;
     ids = ids ∙ omega (arith, f.count);

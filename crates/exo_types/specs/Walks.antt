@@ -1,7 +1,9 @@
 -- What a walk through the statements of a procedure keeps, and what it makes of a statement and of a block.
-use Rattle.std.specs.Prelude.{◌≡◌, ℕ, ◌+◌, ◌<◌, ◌≤◌, Bool, List, [], ◌∷◌, ◌++◌, length, map, take, Option, Some, None}
+use Rattle.std.specs.Prelude.{◌≡◌, ℕ, ◌+◌, ◌<◌, ◌≤◌, Bool, List, [], ◌∷◌, ◌++◌, length, map, take, Option, Some, None, Result, MatchResult}
 use Rattle.exo_tree.specs.Tree as tree
 use Rattle.exo_tree.specs.Tree.{Procedure}
+use Rattle.exo_tree.specs.PlainStatement as plain
+use Rattle.exo_tree.specs.declared.block.Stmt.{Stmt}
 use Rattle.exo_meaning.specs.Run.{roots_after}
 use Rattle.exo_meaning.specs.Units.{Scope, scope_after}
 use Rattle.exo_source.specs.Source.{Statement, Block}
@@ -10,6 +12,8 @@ use Rattle.exo_names.specs.Faults.{least}
 use Rattle.exo_writes.specs.Written.{roots_in, rows_say}
 use Rattle.exo_types.specs.declared.context.Context.{Context}
 use Rattle.exo_types.specs.declared.context.Walk.{Walk}
+use Rattle.exo_types.specs.declared.refusal.Refusal.{Refusal}
+use Rattle.exo_types.specs.Refusals.{Refuses}
 use Rattle.exo_types.specs.ArgumentRules.{Signature}
 use Rattle.exo_types.specs.StatementRules as rules
 use Rattle.exo_types.specs.StatementRules.{bound, bound_in}
@@ -65,16 +69,11 @@ module _ (c : Context) where
 
   -- ---- what a walk makes
 
-  -- a statement that binds no name and has no blocks: it breaks no rule, and this is its tree
-  pub record IsPlain (w : Walk) (made : tree.Statement) (n : ℕ) (s : Statement) : Type 0 where
-    pub keeps : own_fault w n s ≡ None
-    pub made : made ≡ statement_of w s
-
   -- A statement breaks no rule, and this is its tree. Behind it the names that it binds are in scope, and the lines of the statements
   -- inside it are told.
   pub record IsStatement (before after : Walk) (made : tree.Statement) (n : ℕ) (s : Statement) : Type 0 where
     pub keeps : statement_fault before n s ≡ None
-    pub made : made ≡ statement_of before s
+    pub means : made ≡ statement_of before s
     pub scope : after.scope ≡ scope_after made before.scope
     pub roots : roots_in after.aliases.items ≡ roots_after made (roots_in before.aliases.items)
     pub kept : take (length before.aliases.items) after.aliases.items ≡ before.aliases.items
@@ -84,8 +83,15 @@ module _ (c : Context) where
   -- a block breaks no rule, and this is its tree; its names end with it, and its lines are told
   pub record IsBlock (before after : Walk) (made : List tree.Statement) (n : ℕ) (b : Block) : Type 0 where
     pub keeps : block_fault before n b ≡ None
-    pub made : tree.block made ≡ block_of before b
+    pub means : tree.block made ≡ block_of before b
     pub scope : after.scope ≡ before.scope
     pub aliases : after.aliases.items ≡ before.aliases.items
     pub ids : after.next_id ≡ before.next_id + bound_in b
     pub lines : after.lines ≡ before.lines ++ map (line_at c.places.now) (block_starts n b)
+
+  -- the statement is made, or the first rule that it breaks is told
+  abbrev pub Makes : Walk → Walk → ℕ → Statement → Result (Stmt × ℕ) Refusal → Type 0
+  Makes before after n s result = MatchResult result (λ r. IsStatement before after (plain.statement r.0) n s) (λ e. Refuses e (statement_fault before n s))
+
+  abbrev pub MakesBlock : Walk → Walk → ℕ → Block → Result (List tree.Statement × ℕ) Refusal → Type 0
+  MakesBlock before after n b result = MatchResult result (λ r. IsBlock before after r.0 n b) (λ e. Refuses e (block_fault before n b))

@@ -64,11 +64,13 @@ impl<'c> Context<'c> {
     pub fn callee(&self, number: usize) -> Option<Callee<'c>>
         ensures { option_map signature result ≡ slice_get (signatures_in self.now) number }
     {
+        if self.above.rows.len() <= number {
+            return None;
+        }
         let procedure = self.above.procs.get(number)?;
-        let writes = self.above.rows.get(number)?;
         Some(Callee {
             params: &procedure.params,
-            writes,
+            writes: &self.above.rows[number],
         })
     }
 }

@@ -1,6 +1,5 @@
 //! Statements and blocks.
-ghost use Rattle.std.specs.Prelude.{◌≡◌, ◌+◌, ◌≤◌, map, length, IfOk, MatchResult};
-ghost use Rattle.exo_tree.specs.PlainStatement.{statement};
+ghost use Rattle.std.specs.Prelude.{◌≡◌, ◌+◌, ◌≤◌, map, length, IfOk};
 ghost use Rattle.exo_meaning.specs.Units as units;
 ghost use Rattle.exo_reader.specs.Views.{tree_of};
 ghost use Rattle.exo_source.specs.Source.{branch, loop, allocate, call, configure, assign, reduce, view, block_of};
@@ -10,10 +9,9 @@ ghost use Rattle.exo_names.specs.Faults.{charged};
 ghost use Rattle.exo_names.specs.Tables.{sort_meant};
 ghost use Rattle.exo_names.specs.Tests.{sort_seen, most_tokens};
 ghost use Rattle.exo_names.specs.ExpressionRules.{width};
-ghost use Rattle.exo_types.specs.Refusals.{Refuses};
 ghost use Rattle.exo_types.specs.StatementRules.{statement_width, block_width, else_width};
 ghost use Rattle.exo_types.specs.Walks as walks;
-ghost use Rattle.exo_types.specs.Walks.{HasRoom, IsPlain, IsStatement, IsBlock};
+ghost use Rattle.exo_types.specs.Walks.{HasRoom, Makes, MakesBlock};
 
 use crate::argument::{kind_of, spans, test_kind};
 use crate::call::{arguments_of, test_call};
@@ -44,7 +42,7 @@ fn assign_of(
     e: &SourceExpr,
 ) -> Result<(Stmt, usize), Refusal>
     requires { n + statement_width (assign x.now (map tree_of dims.now) (tree_of e.now)) ≤ most_tokens }
-    ensures made { MatchResult result (λ r. IsPlain context.now walk.now (statement r.0) n (assign x.now (map tree_of dims.now) (tree_of e.now))) (λ r. Refuses r (walks.own_fault context.now walk.now n (assign x.now (map tree_of dims.now) (tree_of e.now)))) }
+    ensures made { Makes context.now walk.now walk.now n (assign x.now (map tree_of dims.now) (tree_of e.now)) result }
     ensures end { IfOk result (λ r. r.1 ≡ n + statement_width (assign x.now (map tree_of dims.now) (tree_of e.now))) }
 {
     let names = Names {
@@ -68,7 +66,7 @@ fn reduce_of(
     e: &SourceExpr,
 ) -> Result<(Stmt, usize), Refusal>
     requires { n + statement_width (reduce x.now (map tree_of dims.now) (tree_of e.now)) ≤ most_tokens }
-    ensures made { MatchResult result (λ r. IsPlain context.now walk.now (statement r.0) n (reduce x.now (map tree_of dims.now) (tree_of e.now))) (λ r. Refuses r (walks.own_fault context.now walk.now n (reduce x.now (map tree_of dims.now) (tree_of e.now)))) }
+    ensures made { Makes context.now walk.now walk.now n (reduce x.now (map tree_of dims.now) (tree_of e.now)) result }
     ensures end { IfOk result (λ r. r.1 ≡ n + statement_width (reduce x.now (map tree_of dims.now) (tree_of e.now))) }
 {
     let names = Names {
@@ -92,7 +90,7 @@ fn config_of(
     e: &SourceExpr,
 ) -> Result<(Stmt, usize), Refusal>
     requires { n + statement_width (configure config.now field.now (tree_of e.now)) ≤ most_tokens }
-    ensures made { MatchResult result (λ r. IsPlain context.now walk.now (statement r.0) n (configure config.now field.now (tree_of e.now))) (λ r. Refuses r (walks.own_fault context.now walk.now n (configure config.now field.now (tree_of e.now)))) }
+    ensures made { Makes context.now walk.now walk.now n (configure config.now field.now (tree_of e.now)) result }
     ensures end { IfOk result (λ r. r.1 ≡ n + statement_width (configure config.now field.now (tree_of e.now))) }
 {
     let Some((number, kind)) = context.fields.get(config.as_str(), field.as_str()) else {
@@ -118,7 +116,7 @@ fn call_of(
 ) -> Result<(Stmt, usize), Refusal>
     requires room { n + statement_width (call name.now (map plain_argument arguments.now.items.items) arguments.now.trailing) ≤ most_tokens }
     requires few { length context.now.procedures.now ≤ 4294967295 }
-    ensures made { MatchResult result (λ r. IsPlain context.now walk.now (statement r.0) n (call name.now (map plain_argument arguments.now.items.items) arguments.now.trailing)) (λ r. Refuses r (walks.own_fault context.now walk.now n (call name.now (map plain_argument arguments.now.items.items) arguments.now.trailing))) }
+    ensures made { Makes context.now walk.now walk.now n (call name.now (map plain_argument arguments.now.items.items) arguments.now.trailing) result }
     ensures end { IfOk result (λ r. r.1 ≡ n + statement_width (call name.now (map plain_argument arguments.now.items.items) arguments.now.trailing)) }
 {
     let names = Names {
@@ -175,7 +173,7 @@ fn alloc_of<'c>(
     memory: &Option<Text>,
 ) -> Result<(Stmt, usize), Refusal>
     requires { HasRoom context.now walk.old n (statement_width (allocate x.now (plain_kind kind.now) (map tree_of dims.now) memory.now)) }
-    ensures made { MatchResult result (λ r. IsStatement context.now walk.old walk.new (statement r.0) n (allocate x.now (plain_kind kind.now) (map tree_of dims.now) memory.now)) (λ r. Refuses r (walks.own_fault context.now walk.old n (allocate x.now (plain_kind kind.now) (map tree_of dims.now) memory.now))) }
+    ensures made { Makes context.now walk.old walk.new n (allocate x.now (plain_kind kind.now) (map tree_of dims.now) memory.now) result }
     ensures end { IfOk result (λ r. r.1 ≡ n + statement_width (allocate x.now (plain_kind kind.now) (map tree_of dims.now) memory.now)) }
 {
     let (charge, end) = test_alloc(context, walk, n, x, kind, dims, memory);
@@ -235,7 +233,7 @@ fn view_of<'c>(
     coords: &[SourceCoord],
 ) -> Result<(Stmt, usize), Refusal>
     requires { HasRoom context.now walk.old n (statement_width (view w.now x.now (map plain_coordinate coords.now))) }
-    ensures made { MatchResult result (λ r. IsStatement context.now walk.old walk.new (statement r.0) n (view w.now x.now (map plain_coordinate coords.now))) (λ r. Refuses r (walks.own_fault context.now walk.old n (view w.now x.now (map plain_coordinate coords.now)))) }
+    ensures made { Makes context.now walk.old walk.new n (view w.now x.now (map plain_coordinate coords.now)) result }
     ensures end { IfOk result (λ r. r.1 ≡ n + statement_width (view w.now x.now (map plain_coordinate coords.now))) }
 {
     let (charge, end) = test_view(context, walk, n, w, x, coords);
@@ -261,7 +259,7 @@ fn statement_of<'c>(
     s: &'c SourceStmt,
 ) -> Result<(Stmt, usize), Refusal>
     requires { HasRoom context.now walk.old n (statement_width (plain_statement s.now)) }
-    ensures made { MatchResult result (λ r. IsStatement context.now walk.old walk.new (statement r.0) n (plain_statement s.now)) (λ r. Refuses r (walks.statement_fault context.now walk.old n (plain_statement s.now))) }
+    ensures made { Makes context.now walk.old walk.new n (plain_statement s.now) result }
     ensures end { IfOk result (λ r. r.1 ≡ n + statement_width (plain_statement s.now)) }
 {
     match s {
@@ -290,7 +288,7 @@ fn branch_of<'c>(
     b: &'c [SourceStmt],
 ) -> Result<(Stmt, usize), Refusal>
     requires { HasRoom context.now walk.old n (statement_width (branch (tree_of c.now) (block_of (map plain_statement a.now)) (block_of (map plain_statement b.now)))) }
-    ensures made { MatchResult result (λ r. IsStatement context.now walk.old walk.new (statement r.0) n (branch (tree_of c.now) (block_of (map plain_statement a.now)) (block_of (map plain_statement b.now)))) (λ r. Refuses r (walks.statement_fault context.now walk.old n (branch (tree_of c.now) (block_of (map plain_statement a.now)) (block_of (map plain_statement b.now))))) }
+    ensures made { Makes context.now walk.old walk.new n (branch (tree_of c.now) (block_of (map plain_statement a.now)) (block_of (map plain_statement b.now))) result }
     ensures end { IfOk result (λ r. r.1 ≡ n + statement_width (branch (tree_of c.now) (block_of (map plain_statement a.now)) (block_of (map plain_statement b.now)))) }
 {
     let names = Names {
@@ -314,7 +312,7 @@ fn else_of<'c>(
     b: &'c [SourceStmt],
 ) -> Result<(Block, usize), Refusal>
     requires { HasRoom context.now walk.old n (else_width (block_of (map plain_statement b.now))) }
-    ensures made { MatchResult result (λ r. IsBlock context.now walk.old walk.new r.0 (n + 4) (block_of (map plain_statement b.now))) (λ r. Refuses r (walks.block_fault context.now walk.old (n + 4) (block_of (map plain_statement b.now)))) }
+    ensures made { MakesBlock context.now walk.old walk.new (n + 4) (block_of (map plain_statement b.now)) result }
     ensures end { IfOk result (λ r. r.1 ≡ n + else_width (block_of (map plain_statement b.now))) }
 {
     if b.is_empty() {
@@ -359,7 +357,7 @@ fn loop_of<'c>(
     a: &'c [SourceStmt],
 ) -> Result<(Stmt, usize), Refusal>
     requires { HasRoom context.now walk.old n (statement_width (loop i.now (tree_of low.now) (tree_of high.now) (block_of (map plain_statement a.now)))) }
-    ensures made { MatchResult result (λ r. IsStatement context.now walk.old walk.new (statement r.0) n (loop i.now (tree_of low.now) (tree_of high.now) (block_of (map plain_statement a.now)))) (λ r. Refuses r (walks.statement_fault context.now walk.old n (loop i.now (tree_of low.now) (tree_of high.now) (block_of (map plain_statement a.now))))) }
+    ensures made { Makes context.now walk.old walk.new n (loop i.now (tree_of low.now) (tree_of high.now) (block_of (map plain_statement a.now))) result }
     ensures end { IfOk result (λ r. r.1 ≡ n + statement_width (loop i.now (tree_of low.now) (tree_of high.now) (block_of (map plain_statement a.now)))) }
 {
     let (charge, bounds_end) = test_loop(context, walk, n, i, low, high);
@@ -387,7 +385,7 @@ pub fn block_of<'c>(
     statements: &'c [SourceStmt],
 ) -> Result<(Block, usize), Refusal>
     requires { HasRoom context.now walk.old n (block_width (block_of (map plain_statement statements.now))) }
-    ensures made { MatchResult result (λ r. IsBlock context.now walk.old walk.new r.0 n (block_of (map plain_statement statements.now))) (λ r. Refuses r (walks.block_fault context.now walk.old n (block_of (map plain_statement statements.now)))) }
+    ensures made { MakesBlock context.now walk.old walk.new n (block_of (map plain_statement statements.now)) result }
     ensures end { IfOk result (λ r. r.1 ≡ n + block_width (block_of (map plain_statement statements.now))) }
 {
     let named = walk.scope.len();
