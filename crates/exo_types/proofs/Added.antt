@@ -135,7 +135,7 @@ module _ (t pushed after : Typed) (above : Above) (places : List Place) (templat
       let at : end ≡ definition_end n d = is_end ∙ here.end in
       record {
         keeps = none_of_both _ _ (ap least (sym (same_name_faults t above a s (n + 1) d.name)) ∙ name) here.keeps;
-        end = at;
+        ends = at;
         stands = record {
           program = λ i. record {
             procedures = (procs ∙ (λ j. (ap (λ g. g.procedures) s.program) j ++ here.procedure j ∷ [])) i;

@@ -63,7 +63,7 @@ module _ (c : Context) where
   -- the walk has gone from token n, where the whole began, to token k, where the rest begins
   pub record SoFar (first walk : Walk) (made : List Param) (n k : ℕ) (whole rest : List Parameter) : Type 0 where
     pub fault : params_fault c walk k rest ≡ params_fault c first n whole
-    pub made : made ++ params_of c walk rest ≡ params_of c first whole
+    pub means : made ++ params_of c walk rest ≡ params_of c first whole
     pub width : k + spaced_params rest ≡ n + spaced_params whole
     pub scope : walk.scope ≡ scope_of first.scope made
     pub count : walk.next_id + length rest ≡ first.next_id + length whole
@@ -75,7 +75,7 @@ module _ (c : Context) where
   pub so_first : (first : Walk) (made : List Param) (n width : ℕ) (whole : List Parameter) → made ≡ [] → HasRoom c first n width → SoFar first first made n n whole whole
   so_first first made n width whole h room = record {
     fault = refl;
-    made = ap (λ l. l ++ params_of c first whole) h;
+    means = ap (λ l. l ++ params_of c first whole) h;
     width = refl;
     scope = ap (scope_of first.scope) (sym h);
     count = refl;
@@ -102,14 +102,14 @@ module _ (c : Context) where
       let fields = c.fields.now in
       let memories = c.memories.now in
       let id : after.next_id ≡ suc walk.next_id = step.ids ∙ add-one walk.next_id in
-      let scope : after.scope ≡ rules.with_param fields memories walk.scope (param_of c walk p) = step.scope ∙ ap (rules.with_param fields memories walk.scope) step.made in
+      let scope : after.scope ≡ rules.with_param fields memories walk.scope (param_of c walk p) = step.scope ∙ ap (rules.with_param fields memories walk.scope) step.means in
       record {
         fault = goes_on _ _ _ _ f.fault step.keeps (λ i. rules.params_fault fields memories (id i) (scope i) (end' i) more);
-        made =
+        means =
             (λ i. pushed i ++ rules.params_from fields memories (id i) (scope i) more)
             ∙ append_assoc made (t ∷ []) (rules.params_from fields memories (suc walk.next_id) (rules.with_param fields memories walk.scope (param_of c walk p)) more)
-            ∙ ap (λ u. made ++ (u ∷ rules.params_from fields memories (suc walk.next_id) (rules.with_param fields memories walk.scope (param_of c walk p)) more)) step.made
-            ∙ f.made;
+            ∙ ap (λ u. made ++ (u ∷ rules.params_from fields memories (suc walk.next_id) (rules.with_param fields memories walk.scope (param_of c walk p)) more)) step.means
+            ∙ f.means;
         width = omega (arith, f.width, end');
         scope = step.scope ∙ ap (λ s. rules.with_param fields memories s t) f.scope ∙ sym (scope_last first.scope made t) ∙ ap (scope_of first.scope) (sym pushed);
         count = omega (arith, f.count, step.ids);
@@ -123,7 +123,7 @@ module _ (c : Context) where
   pub all_made : (first walk after : Walk) (made : List Param) (n k : ℕ) (whole rest : List Parameter) → rest ≡ [] → SoFar first walk made n k whole rest → after.scope ≡ walk.scope → after.aliases.items ≡ walk.aliases.items → after.next_id ≡ walk.next_id → after.lines ≡ walk.lines → AreParams c first after made n whole
   all_made first walk after made n k whole rest none f scope aliases ids lines = record {
     keeps = sym f.fault ∙ ap (params_fault c walk k) none;
-    made = sym (append-nil made) ∙ ap (λ r. made ++ params_of c walk r) (sym none) ∙ f.made;
+    means = sym (append-nil made) ∙ ap (λ r. made ++ params_of c walk r) (sym none) ∙ f.means;
     scope = scope ∙ f.scope;
     ids = ids ∙ omega (arith, f.count, ap length none);
     aliases = aliases ∙ f.aliases;
@@ -152,7 +152,7 @@ module _ (c : Context) where
   -- the walk behind the parameters
   pub record IsBehind (walk : Walk) (made : List Param) (id n : ℕ) (d : Definition) : Type 0 where
     pub keeps : rules.params_fault c.fields.now c.memories.now id [] (n + 3) d.params ≡ None
-    pub made : made ≡ params_in id d
+    pub means : made ≡ params_in id d
     pub scope : walk.scope ≡ scope_in id d
     pub ids : walk.next_id ≡ id + length (params_in id d)
     pub roots : roots_in walk.aliases.items ≡ (λ x. x)
@@ -160,10 +160,10 @@ module _ (c : Context) where
 
   pub behind : (first walk : Walk) (made : List Param) (id n : ℕ) (d : Definition) → IsFirst first id → AreParams c first walk made (n + 3) d.params → IsBehind walk made id n d
   behind first walk made id n d f a =
-      let same : made ≡ params_in id d = a.made ∙ (λ i. rules.params_from c.fields.now c.memories.now (f.ids i) (f.scope i) d.params) in
+      let same : made ≡ params_in id d = a.means ∙ (λ i. rules.params_from c.fields.now c.memories.now (f.ids i) (f.scope i) d.params) in
       record {
         keeps = (λ i. rules.params_fault c.fields.now c.memories.now (sym f.ids i) (sym f.scope i) (n + 3) d.params) ∙ a.keeps;
-        made = same;
+        means = same;
         scope = a.scope ∙ (λ i. scope_of (f.scope i) (same i));
         ids = omega (arith, a.ids, f.ids, params_count c.fields.now c.memories.now id [] d.params);
         roots = ap roots_in (a.aliases ∙ f.aliases);
@@ -205,9 +205,9 @@ module _ (c : Context) where
         keeps = none_of_both _ _ b.keeps (none_of_both _ _ (asserts_kept walk made.procedure.params id n j d made.procedure.asserts b g a) (sym (same_body walk made.procedure.params id n k d b h) ∙ body.keeps));
         procedure = λ i. record {
           name = name i;
-          params = b.made i;
-          asserts = (a.made ∙ (λ l. map (condition_of c.fields.now (b.scope l)) d.asserts)) i;
-          body = (body.made ∙ (λ l. statements.block_of c.fields.now c.memories.now c.procedures.now (signatures_in c) (b.ids l) (b.scope l) (block_of d.body))) i;
+          params = b.means i;
+          asserts = (a.means ∙ (λ l. map (condition_of c.fields.now (b.scope l)) d.asserts)) i;
+          body = (body.means ∙ (λ l. statements.block_of c.fields.now c.memories.now c.procedures.now (signatures_in c) (b.ids l) (b.scope l) (block_of d.body))) i;
           template = temp i;
         };
         lines = lines ∙ body.lines ∙ (λ i. b.lines i ++ map (line_at c.places.now) (block_starts (h i) (block_of d.body)));

@@ -47,13 +47,13 @@ one_added places t after k end items i more b s = record {
   stands = s.stands;
   agrees = s.agrees;
   few = s.few;
-  fault = goes_on _ _ _ _ b.fault s.keeps (ap (λ n. items_fault (after_item b.above i) n more) s.end);
+  fault = goes_on _ _ _ _ b.fault s.keeps (ap (λ n. items_fault (after_item b.above i) n more) s.ends);
   unit = b.unit;
   lines =
-      (λ j. s.lines j ++ lines_from places (s.end j) more)
+      (λ j. s.lines j ++ lines_from places (s.ends j) more)
       ∙ append_assoc t.unit.lines (lines_of_item places k i) (lines_from places (k + item_width i) more)
       ∙ b.lines;
-  width = omega (arith, b.width, s.end);
+  width = omega (arith, b.width, s.ends);
 }
 
 pub item_refused : (places : List Place) (t : Typed) (k : ℕ) (items : List Item) (i : Item) (more : List Item) (e : Refusal) (b : Below places t k items (i ∷ more)) → Refuses e (item_fault b.above k i) → Refuses e (unit_fault items)

@@ -22,3 +22,6 @@ pub mod Writes
 pub mod Added
 pub mod Items
 pub mod Fielded
+pub mod Spelled
+pub mod Charged
+pub mod Within

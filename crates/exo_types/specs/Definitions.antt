@@ -65,7 +65,7 @@ module _ (c : Context) where
   -- a parameter breaks no rule, and this is its tree; behind it its name is in scope
   pub record IsParam (before after : Walk) (made : tree.Param) (n : ℕ) (p : Parameter) : Type 0 where
     pub keeps : param_fault before n p ≡ None
-    pub made : made ≡ param_of before p
+    pub means : made ≡ param_of before p
     pub scope : after.scope ≡ rules.with_param c.fields.now c.memories.now before.scope made
     pub ids : after.next_id ≡ before.next_id + 1
     pub aliases : after.aliases.items ≡ before.aliases.items
@@ -74,7 +74,7 @@ module _ (c : Context) where
   -- the same of several, one after another
   pub record AreParams (before after : Walk) (made : List tree.Param) (n : ℕ) (ps : List Parameter) : Type 0 where
     pub keeps : params_fault before n ps ≡ None
-    pub made : made ≡ params_of before ps
+    pub means : made ≡ params_of before ps
     pub scope : after.scope ≡ scope_of before.scope made
     pub ids : after.next_id ≡ before.next_id + length ps
     pub aliases : after.aliases.items ≡ before.aliases.items
@@ -83,11 +83,11 @@ module _ (c : Context) where
   -- an assertion breaks no rule, and this is its condition
   pub record IsAssert (scope : Scope) (n : ℕ) (made : Cond) (e : Tree) : Type 0 where
     pub keeps : assert_fault scope n e ≡ None
-    pub made : condition made ≡ condition_of c.fields.now scope e
+    pub means : condition made ≡ condition_of c.fields.now scope e
 
   pub record AreAsserts (scope : Scope) (n : ℕ) (made : List tree.Condition) (es : List Tree) : Type 0 where
     pub keeps : asserts_fault scope n es ≡ None
-    pub made : made ≡ map (condition_of c.fields.now scope) es
+    pub means : made ≡ map (condition_of c.fields.now scope) es
 
   -- a procedure whose `def` is token n breaks no rule, and this is its tree, with the lines of its statements
   pub record IsDefined (id : ℕ) (template : Option (List ℕ)) (n : ℕ) (made : Defined) (d : Definition) : Type 0 where

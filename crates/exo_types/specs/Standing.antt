@@ -88,7 +88,7 @@ pub record IsPushed (t after : Typed) (name : List ℕ) (p : Procedure) (row : R
 -- so it stands above what follows
 pub record IsProcedure (above : Above) (places : List Place) (t after : Typed) (template : Option (List ℕ)) (n end : ℕ) (d : Definition) : Type 0 where
   pub keeps : procedure_fault above n d ≡ None
-  pub end : end ≡ definition_end n d
+  pub ends : end ≡ definition_end n d
   pub stands : Stands after (with_procedure above d (procedure_here above template d))
   pub agrees : Agrees after
   pub few : IsFew after end
@@ -99,7 +99,7 @@ pub record IsProcedure (above : Above) (places : List Place) (t after : Typed) (
 -- an item breaks no rule, and what it adds stands above the next one, which begins at token end
 pub record IsAdded (above : Above) (places : List Place) (t after : Typed) (n end : ℕ) (i : Item) : Type 0 where
   pub keeps : item_fault above n i ≡ None
-  pub end : end ≡ n + item_width i
+  pub ends : end ≡ n + item_width i
   pub stands : Stands after (after_item above i)
   pub agrees : Agrees after
   pub few : IsFew after end

@@ -10,7 +10,6 @@ ghost use Rattle.exo_names.specs.Tables.{sort_meant};
 ghost use Rattle.exo_names.specs.Tests.{most_tokens};
 ghost use Rattle.exo_names.specs.ExpressionRules.{width};
 ghost use Rattle.exo_types.specs.TypeRules.{memory_width, kind_named};
-ghost use Rattle.exo_types.specs.ArgumentRules.{comma_width};
 ghost use Rattle.exo_types.specs.ItemRules as rules;
 ghost use Rattle.exo_types.specs.ItemRules.{form_width, parameter_width, params_width, asserts_width};
 ghost use Rattle.exo_types.specs.Refusals.{Refuses};
@@ -19,7 +18,7 @@ ghost use Rattle.exo_types.specs.Definitions as definitions;
 ghost use Rattle.exo_types.specs.Definitions.{HasSpace, IsParam, AreParams, IsAssert, AreAsserts, IsDefined};
 
 use crate::context::{Context, Walk};
-use crate::part::{binder_charge, end_of_memory, memory_charge, memory_of, test_dims};
+use crate::part::{binder_charge, comma_width, end_of_memory, memory_charge, memory_of, test_dims};
 use crate::refusal::{Refusal, keep};
 use crate::statement::block_of;
 use crate::types::{cell_charge, cell_of, kind_named};
@@ -282,13 +281,6 @@ fn first_walk<'c>(alloc: Global, first_id: u32) -> Walk<'c>
         next_id: first_id,
         lines: StatementLines::new(alloc),
     }
-}
-
-/// How many tokens a comma is, where one stands.
-fn comma_width(stands: bool) -> usize
-    ensures { result ≡ comma_width stands }
-{
-    if stands { 1 } else { 0 }
 }
 
 /// The procedure of a definition whose `def` is token `n`, and whose first binder gets that id.
