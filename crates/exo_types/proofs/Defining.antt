@@ -114,7 +114,7 @@ module _ (c : Context) where
         scope = step.scope ∙ ap (λ s. rules.with_param fields memories s t) f.scope ∙ sym (scope_last first.scope made t) ∙ ap (scope_of first.scope) (sym pushed);
         count = omega (arith, f.count, step.ids);
         ids = omega (arith, f.ids, step.ids, end');
-        falls = subst (λ x. Falls x.0 x.1) (λ i. (sym id i, sym scope i)) (omega arith, f.falls);
+        falls = subst (λ (x : ℕ × Scope). Falls x.0 x.1) (λ i. (sym id i, sym scope i)) (omega arith, f.falls);
         aliases = step.aliases ∙ f.aliases;
         lines = step.lines ∙ f.lines;
       }
@@ -196,7 +196,7 @@ module _ (c : Context) where
         few = room.few;
         memories = room.memories;
         procedures = room.procedures;
-        falls = subst (λ x. Falls x.0 x.1) (λ i. (sym (b.ids ∙ ap (λ l. id + l) count) i, sym b.scope i)) (params_fall c.fields.now c.memories.now id [] d.params tt);
+        falls = subst (λ (x : ℕ × Scope). Falls x.0 x.1) (λ i. (sym (b.ids ∙ ap (λ l. id + l) count) i, sym b.scope i)) (params_fall c.fields.now c.memories.now id [] d.params tt);
       }
 
   pub defined : (walk after : Walk) (id n j k : ℕ) (template : Option (List ℕ)) (d : Definition) (made : Defined) → IsBehind walk made.procedure.params id n d → j ≡ asserts_start n d → AreAsserts c walk.scope j made.procedure.asserts d.asserts → k ≡ body_start n d → IsBlock c walk after made.procedure.body k (block_of d.body) → made.procedure.name ≡ d.name → made.procedure.template ≡ template → made.lines ≡ after.lines → made.next_id ≡ after.next_id → made.end ≡ definition_end n d → IsDefined c id template n made d

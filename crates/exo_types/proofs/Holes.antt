@@ -1,25 +1,31 @@
 -- Holes of templates, byte by byte.
-use Rattle.std.proofs.Common.{◌≡◌, ℕ, zero, suc, ◌+◌, ◌-◌, ◌<◌, ◌≤◌, ◌==◌, Bool, true, false, ◌&&◌, ◌||◌, if◌then◌else◌, Option, Some, None, is_some, List, [], ◌∷◌, ◌++◌, length, take, drop, get_or, slice_range, refl, ap, sym, ◌∙◌, arith, add_assoc}
+use Rattle.std.proofs.Common.{◌≡◌, ℕ, zero, suc, ◌+◌, ◌-◌, ◌<◌, ◌≤◌, ◌==◌, Bool, true, false, ◌&&◌, ◌||◌, if◌then◌else◌, Option, Some, None, is_some, List, [], ◌∷◌, ◌++◌, length, take, drop, get_or, slice_range, refl, ap, sym, ◌∙◌, arith, add-one, drop-cons}
+use Rattle.std.proofs.lemmas.Bool.{ne_eqb}
 use Rattle.std.proofs.lemmas.List.{take_more, get_or-drop, length-drop}
 use Rattle.std.specs.List.{list_any}
 use Rattle.exo_tree.specs.Tree.{Kind, ConfigField, Param}
-use Rattle.exo_meaning.specs.Units.{Scope, is_text, data_ending, is_hole_of, Reading, holes_fit}
+use Rattle.exo_meaning.specs.Units.{Scope, is_text, data_ending, is_hole_of, Plain, InHole, holes_fit}
 use Rattle.exo_source.specs.Source.{Form, plain, strided, Parameter}
 use Rattle.exo_types.specs.TypeRules.{kind_named}
 use Rattle.exo_types.specs.ItemRules.{scalar_of, form_of, param_of, with_param, params_from}
 use Rattle.exo_types.specs.HoleRules.{is_control, is_written_hole, HaveHoles}
-use Rattle.exo_types.proofs.Lists.{drop_read}
-
--- a byte, and what is left of the text
-pub byte_read : (ps : List Param) (r : Reading) (text : List ℕ) (k c : ℕ) → c ≡ get_or text k c → k < length text → holes_fit ps r (drop k text) ≡ holes_fit ps r (c ∷ drop (k + 1) text)
-byte_read ps r text k c e h = ap (holes_fit ps r) (drop_read text k c e h)
 
 -- a hole with one byte more
-pub hole_grows : (text : List ℕ) (from k c : ℕ) → from ≤ k → c ≡ get_or text k c → k < length text → slice_range text from (k + 1) ≡ slice_range text from k ++ c ∷ []
-hole_grows text from k c low e h =
+hole_grows : (text : List ℕ) (from k : ℕ) → from ≤ k → k < length text → slice_range text from (k + 1) ≡ slice_range text from k ++ get_or text k 0 ∷ []
+hole_grows text from k low h =
     let step : k + 1 - from ≡ k - from + 1 = omega arith in
     let place : from + (k - from) ≡ k = omega arith in
-    rw (step, take_more (drop from text) (k - from) c (omega (arith, length-drop from text)), get_or-drop, place) (ap (λ x. take (k - from) (drop from text) ++ x ∷ []) (sym e))
+    rw (step, take_more (drop from text) (k - from) 0 (omega (arith, length-drop from text)), get_or-drop, place)
+
+-- in a hole each byte but a closing brace goes on
+pub in_hole : (ps : List Param) (text : List ℕ) (from k : ℕ) → from ≤ k → k < length text → (get_or text k 0 ≡ 125 → ⊥) → holes_fit ps (InHole (slice_range text from k)) (drop k text) ≡ holes_fit ps (InHole (slice_range text from (k + 1))) (drop (k + 1) text)
+in_hole ps text from k low h other =
+    let name = slice_range text from k in
+    let c = get_or text k 0 in
+    let rest = drop (k + 1) text in
+    ap (holes_fit ps (InHole name)) (drop-cons text k 0 h ∙ ap (λ n. c ∷ drop n text) (sym (add-one k)))
+    ∙ ap (λ b. if b then (list_any (is_hole_of name) ps && holes_fit ps Plain rest) else holes_fit ps (InHole (name ++ c ∷ [])) rest) (ne_eqb c 125 other)
+    ∙ ap (λ n. holes_fit ps (InHole n) rest) (sym (hole_grows text from k low h))
 
 -- a text is the front and the back of another
 pub text_parts : (name text ending : List ℕ) → length name ≤ length text → is_text text (name ++ ending) ≡ (is_text (take (length name) text) name && is_text (drop (length name) text) ending)

@@ -25,3 +25,5 @@ pub mod Fielded
 pub mod Spelled
 pub mod Charged
 pub mod Within
+pub mod Params
+pub mod Declared

@@ -1,0 +1,35 @@
+-- Types of parameters: with dimensions or without.
+use Rattle.std.proofs.Common.{◌≡◌, ℕ, ◌+◌, List, [], ◌∷◌, ◌++◌, Option, Some, None, length, map, refl, ap, sym, ◌∙◌, add-one}
+use Rattle.exo_tree.specs.Tree as tree
+use Rattle.exo_tree.specs.Tree.{ConfigField}
+use Rattle.exo_meaning.specs.Units.{Scope, Sort, plainly, with_name, param_sort}
+use Rattle.exo_reader.specs.Expression.{Tree}
+use Rattle.exo_source.specs.Source.{TypeName, plain, Parameter}
+use Rattle.exo_names.specs.declared.fault.Fault.{Fault}
+use Rattle.exo_names.specs.ExpressionRules.{controls_faults}
+use Rattle.exo_types.specs.declared.context.Context.{Context}
+use Rattle.exo_types.specs.declared.context.Walk.{Walk}
+use Rattle.exo_types.specs.TypeRules.{binder, cell_faults, memory_faults}
+use Rattle.exo_types.specs.ArgumentRules.{dims_width}
+use Rattle.exo_types.specs.ItemRules.{form_faults, form_of, with_param}
+use Rattle.exo_types.specs.Definitions.{IsParam, param_fault, param_of}
+
+pub no_dims : {X : Type 0} (f : X → Tree) (xs : List X) → length xs ≡ 0 → map f xs ≡ []
+no_dims f [] h = refl
+no_dims f (x ∷ xs) h = cc
+
+pub dims_faults : (fields : List ConfigField) (memories : List (List ℕ)) (scope : Scope) (n : ℕ) (type : TypeName) (ds : List Tree) (m : Option (List ℕ)) → (length ds ≡ 0 → ⊥) → form_faults fields memories scope n (plain type ds) m ≡ cell_faults type n ++ (controls_faults fields plainly scope (n + 2) ds ++ memory_faults memories (n + 1 + dims_width ds) m)
+dims_faults fields memories scope n type [] m h = absurd (h refl)
+dims_faults fields memories scope n type (d ∷ ds) m h = refl
+
+module _ (c : Context) where
+  -- a parameter whose name is bound
+  pub is_param : (walk after : Walk) (n id : ℕ) (p : Parameter) (x : List ℕ) (y : List ℕ) (kind : tree.ParamKind) (sort : Sort) → param_fault c walk n p ≡ None → id ≡ walk.next_id → x ≡ p.name → y ≡ p.name → kind ≡ form_of c.fields.now c.memories.now walk.scope p.form p.memory → sort ≡ param_sort kind → after.scope ≡ with_name walk.scope (binder walk.next_id y) sort → after.next_id ≡ walk.next_id + 1 → after.aliases.items ≡ walk.aliases.items → after.lines ≡ walk.lines → IsParam c walk after (record { binder = record { id = id; name = x }; kind = kind }) n p
+  is_param walk after n id p x y kind sort keeps is_id is_x is_y is_kind is_sort scope ids aliases lines = record {
+    keeps = keeps;
+    means = λ i. record { binder = record { id = is_id i; name = is_x i }; kind = is_kind i };
+    scope = scope ∙ (λ i. with_name walk.scope (record { id = sym is_id i; name = (is_y ∙ sym is_x) i }) (is_sort i));
+    ids = ids;
+    aliases = aliases;
+    lines = lines;
+  }
