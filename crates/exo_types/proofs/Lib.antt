@@ -27,3 +27,4 @@ pub mod Charged
 pub mod Within
 pub mod Params
 pub mod Declared
+pub mod Checked
