@@ -4,7 +4,7 @@ use Rattle.exo_source.specs.Views.{plain_argument}
 use Rattle.exo_names.specs.Faults.{charged, least}
 use Rattle.exo_writes.specs.Written.{roots_in}
 use Rattle.exo_types.specs.Seen.{signature}
-use Rattle.exo_types.specs.ArgumentRules.{call_faults, arguments_of}
+use Rattle.exo_types.specs.ArgumentRules.{arguments_width, call_faults, arguments_of}
 use Rattle.exo_types.proofs.Broken.{exit, refuses_first, refuses_same, kept_none, kept_err}
 use Rattle.exo_types.proofs.Numbers.{number_below}
 use Rattle.exo_types.proofs.Plain.{called, callee_found, callee_unknown, counted}
@@ -37,9 +37,23 @@ overflow_cast-result c =
 pub overflow_add-result : goal.overflow_add-result
 overflow_add-result c =
     let same = counted (length (map plain_argument c.as_slice-given.result.now)) (length c.in-Some-callee.callee.params.now) c.args.n _ (kept_none _ _ c.in_ok-charge.ensures.charge c.in_ok-keep.ensures) in
-    let end' = c.in_ok-charge.ensures.end (sym (length-map c.as_slice-given.result.now plain_argument) ∙ same) in
-    let given = c.as_slice-given.ensures.value in
-    ?
+    let behind = c.in_ok-charge.ensures.end (sym (length-map c.as_slice-given.result.now plain_argument) ∙ same) in
+    let given = ap (λ l. arguments_width (map plain_argument l)) c.as_slice-given.ensures.value in
+    omega (arith, behind, given, c.requires.room, c.comma_width-comma.ensures)
+
+pub overflow_add-result-2 : goal.overflow_add-result-2
+overflow_add-result-2 c =
+    let same = counted (length (map plain_argument c.as_slice-given.result.now)) (length c.in-Some-callee.callee.params.now) c.args.n _ (kept_none _ _ c.in_ok-charge.ensures.charge c.in_ok-keep.ensures) in
+    let behind = c.in_ok-charge.ensures.end (sym (length-map c.as_slice-given.result.now plain_argument) ∙ same) in
+    let given = ap (λ l. arguments_width (map plain_argument l)) c.as_slice-given.ensures.value in
+    omega (arith, behind, given, c.requires.room, c.comma_width-comma.ensures)
+
+pub returns-clause-end : goal.returns-clause-end
+returns-clause-end c =
+    let same = counted (length (map plain_argument c.as_slice-given.result.now)) (length c.in-Some-callee.callee.params.now) c.args.n _ (kept_none _ _ c.in_ok-charge.ensures.charge c.in_ok-keep.ensures) in
+    let behind = c.in_ok-charge.ensures.end (sym (length-map c.as_slice-given.result.now plain_argument) ∙ same) in
+    let given = ap (λ l. arguments_width (map plain_argument l)) c.as_slice-given.ensures.value in
+    omega (arith, behind, given, c.requires.room, c.comma_width-comma.ensures)
 
 pub returns-clause-made : goal.returns-clause-made
 returns-clause-made c =
