@@ -26,7 +26,10 @@ use Rattle.exo_types.specs.Walks.{signatures_in, IsStatement, own_fault, stateme
 use Rattle.exo_types.proofs.Broken.{none_broken, first_empty}
 
 -- the callee of a name
-pub callee_found : (c : Context) (x : List ℕ) (k : ℕ) (f : Signature) → name_number c.procedures.now x ≡ Some k → slice_get (signatures_in c) k ≡ Some f → callee_named c.fields.now c.memories.now c.procedures.now (signatures_in c) x ≡ Some f
+pub callee_unknown : (c : Context) (x : List ℕ) → name_number c.procedures.now x ≡ None → callee_named c.fields.now c.memories.now c.procedures.now (signatures_in c) x ≡ None
+callee_unknown c x none = ap (λ o. elim o [ None ↦ None | Some j ↦ slice_get (signatures_in c) j ]) none
+
+pub callee_found : (c : Context) (x : List ℕ) (k : ℕ) (f : Option Signature) → name_number c.procedures.now x ≡ Some k → slice_get (signatures_in c) k ≡ f → callee_named c.fields.now c.memories.now c.procedures.now (signatures_in c) x ≡ f
 callee_found c x k f found seen = ap (λ o. elim o [ None ↦ None | Some j ↦ slice_get (signatures_in c) j ]) found ∙ seen
 
 -- as many arguments as parameters, where no rule is broken
@@ -69,4 +72,4 @@ module _ (c : Context) where
   pub called : (w : Walk) (n : ℕ) (x : List ℕ) (args : List source.Argument) (trailing : Bool) (k : ℕ) (f : Signature) (made : List tree.Argument) → name_number c.procedures.now x ≡ Some k → slice_get (signatures_in c) k ≡ Some f → own_fault c w n (call x args trailing) ≡ None → made ≡ arguments_of c.fields.now w.scope f.params args → IsStatement c w w (tree.Call k made) n (call x args trailing)
   called w n x args trailing k f made found seen own h =
       settled w (tree.Call k made) n (call x args trailing) refl refl refl refl refl own
-      ((λ i. tree.Call k (h i)) ∙ (λ i. tree.Call (number_or no_id (sym found i)) (arguments_of c.fields.now w.scope (params_of (sym (callee_found c x k f found seen) i)) args)))
+      ((λ i. tree.Call k (h i)) ∙ (λ i. tree.Call (number_or no_id (sym found i)) (arguments_of c.fields.now w.scope (params_of (sym (callee_found c x k (Some f) found seen) i)) args)))

@@ -1,9 +1,13 @@
 -- The signatures of the procedures above, by their numbers.
 use Rattle.std.proofs.Common.{◌≡◌, ℕ, zero, suc, ◌<◌, ◌≤◌, Bool, List, [], ◌∷◌, Some, None, slice_get, get_or, length, map, refl, ap, sym, ◌∙◌, arith}
 use Rattle.exo_tree.specs.Tree.{Procedure}
+use Rattle.exo_types.specs.ArgumentRules.{Signature}
 use Rattle.exo_types.specs.Walks.{signatures_by}
 
-pub found_signature : (ps : List Procedure) (ws : List (ℕ → Bool)) (k : ℕ) (p : Procedure) (w : ℕ → Bool) → slice_get ps k ≡ Some p → slice_get ws k ≡ Some w → slice_get (signatures_by ps ws) k ≡ Some (record { params = p.params; writes = w })
+abbrev pub signed : Procedure → (ℕ → Bool) → Signature
+signed p w = record { params = p.params; writes = w }
+
+pub found_signature : (ps : List Procedure) (ws : List (ℕ → Bool)) (k : ℕ) (p : Procedure) (w : ℕ → Bool) → slice_get ps k ≡ Some p → slice_get ws k ≡ Some w → slice_get (signatures_by ps ws) k ≡ Some (signed p w)
 found_signature [] ws k p w e h = cc
 found_signature (q ∷ ps) [] k p w e h = cc
 found_signature (q ∷ ps) (v ∷ ws) zero p w e h = cc

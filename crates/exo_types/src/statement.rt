@@ -243,7 +243,7 @@ fn view_of<'c>(
         scope: &walk.scope,
     };
     let of = id_in(&names, x.as_str());
-    let sort = view_sort(walk.scope.sort(x.as_str()), spans(coords));
+    let sort = view_sort(names.scope.sort(x.as_str()), spans(coords));
     let made = coordinates_of(context.alloc, &names, coords)?;
     let name = Name::new(context.alloc, w.as_str())?;
     let id = walk.bind_view(w.as_str(), of, sort)?;
