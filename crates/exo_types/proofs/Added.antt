@@ -28,12 +28,12 @@ use Rattle.exo_types.specs.StatementRules.{block_width, bound_in}
 use Rattle.exo_types.specs.ItemRules.{params_width, body_start, definition_end, definition_fault, definition_of}
 use Rattle.exo_types.specs.Refusals.{Refuses}
 use Rattle.exo_types.specs.UnitRules.{Above, is_given, item_name_faults, memory_names, procedure_names, signatures, procedure_here, procedure_fault, with_procedure}
-use Rattle.exo_types.specs.UnitLines.{lines_of_definition, line_at}
+use Rattle.exo_types.specs.UnitLines.{block_starts, lines_of_definition, line_at}
 use Rattle.exo_types.specs.Walks.{signatures_by, signatures_in}
 use Rattle.exo_types.specs.Definitions as definitions
 use Rattle.exo_types.specs.Definitions.{HasSpace, IsDefined}
 use Rattle.exo_types.specs.Standing.{Agrees, IsFew, Stands, HasPlaces, here_fault, IsHere, IsPushed, IsProcedure}
-use Rattle.exo_types.proofs.Broken.{refuses_same, refuses_first, refuses_second, none_of_both}
+use Rattle.exo_types.proofs.Broken.{refuses_same, refuses_first, refuses_second, none_of_both, none_broken, first_empty}
 use Rattle.exo_types.proofs.Bounded.{few_bound_in}
 use Rattle.exo_types.proofs.Defining.{params_few}
 use Rattle.exo_types.proofs.Named.{named, named_more, no_number}
@@ -46,6 +46,49 @@ pub in_tables : (t : Typed) (x : List ℕ) → Agrees t → is_given (program t.
 in_tables t x a =
     λ i. (sym (ap (λ l. is_some (name_number l x)) a.procedures ∙ named (λ q. q.name) t.unit.procs x) i)
     || ((sym (a.configurations x) i) || (sym (ap (λ l. is_some (name_number l x)) a.memories ∙ named (λ m. m.name) t.unit.memories x) i))
+
+first_false : (a b : Bool) → (a || b) ≡ false → a ≡ false
+first_false true b h = cc
+first_false false b h = refl
+
+second_false : (a b : Bool) → (a || b) ≡ false → b ≡ false
+second_false true b h = cc
+second_false false b h = h
+
+-- what breaks no rule is not given
+pub not_given : (b : Bool) (n : ℕ) (more : List Fault) → least (unless (not b) Redefined n ++ more) ≡ None → b ≡ false
+not_given b n more h = by b (first_empty (unless (not b) Redefined n) more (none_broken (unless (not b) Redefined n ++ more) h))
+  where
+    by : (b : Bool) → unless (not b) Redefined n ≡ [] → b ≡ false
+    by true e = cc
+    by false e = refl
+
+pub not_given_alone : (b : Bool) (n : ℕ) → least (unless (not b) Redefined n) ≡ None → b ≡ false
+not_given_alone true n h = cc
+not_given_alone false n h = refl
+
+module _ (t : Typed) (x : List ℕ) (a : Agrees t) (new : is_given (program t.unit) x ≡ false) where
+  in_none : (is_some (name_number t.procedures x) || (is_some (name_number t.configurations x) || is_some (name_number t.memories x))) ≡ false
+  in_none = sym (in_tables t x a) ∙ new
+
+  pub new_procedure : name_number t.procedures x ≡ None
+  new_procedure = no_number (name_number t.procedures x) (first_false _ _ in_none)
+
+  pub new_configuration : name_number t.configurations x ≡ None
+  new_configuration = no_number (name_number t.configurations x) (first_false _ _ (second_false _ _ in_none))
+
+  pub new_memory : name_number t.memories x ≡ None
+  new_memory = no_number (name_number t.memories x) (second_false _ _ (second_false _ _ in_none))
+
+  pub new_fields : list_any (λ f. is_text f.config x) t.fields ≡ false
+  new_fields = ap (list_any (λ f. is_text f.config x)) a.fields ∙ sym (a.configurations x) ∙ first_false _ _ (second_false _ _ in_none)
+
+-- where one of the tables has a name, or the others do not
+pub given_first : (t : Typed) (x : List ℕ) → Agrees t → is_some (name_number t.procedures x) ≡ true → true ≡ is_given (program t.unit) x
+given_first t x a h = sym (in_tables t x a ∙ ap (λ b. b || (is_some (name_number t.configurations x) || is_some (name_number t.memories x))) h)
+
+pub given_last : (t : Typed) (x : List ℕ) → Agrees t → is_some (name_number t.procedures x) ≡ false → is_some (name_number t.configurations x) ≡ false → is_some (name_number t.memories x) ≡ is_given (program t.unit) x
+given_last t x a h k = sym (in_tables t x a ∙ (λ i. h i || (k i || is_some (name_number t.memories x))))
 
 -- ---- what stands above, in the tables
 
@@ -64,7 +107,7 @@ module _ (t : Typed) (above : Above) (a : Agrees t) (s : Stands t above) where
 
   -- a context of these tables
   pub record IsContext (c : Context) (places : List Place) : Type 0 where
-    pub places : c.places.now ≡ places
+    pub all_places : c.places.now ≡ places
     pub fields : c.fields.now ≡ t.fields
     pub memories : c.memories.now ≡ t.memories
     pub procedures : c.procedures.now ≡ t.procedures
@@ -78,7 +121,7 @@ module _ (t : Typed) (above : Above) (a : Agrees t) (s : Stands t above) where
   here_made c places template n made d k m = record {
     keeps = (λ i. definition_fault (sym (k.fields ∙ same_fields) i) (sym (k.memories ∙ same_memories) i) (sym (k.procedures ∙ same_procedures) i) (sym (k.signatures ∙ s.signatures) i) (sym s.next_id i) n d) ∙ m.keeps;
     procedure = m.procedure ∙ (λ i. definition_of ((k.fields ∙ same_fields) i) ((k.memories ∙ same_memories) i) ((k.procedures ∙ same_procedures) i) ((k.signatures ∙ s.signatures) i) (s.next_id i) template d);
-    lines = m.lines ∙ ap (λ l. map (line_at l) _) k.places;
+    lines = m.lines ∙ ap (λ l. map (line_at l) (block_starts (body_start n d) (block_of d.body))) k.all_places;
     ids = m.ids ∙ ap (λ id. id + length d.params + bound_in (block_of d.body)) s.next_id;
     end = m.end;
   }
@@ -116,14 +159,6 @@ new_signatures t above d p row a s w =
 -- a procedure has more tokens than it binds names
 pub few_ids : (n : ℕ) (d : Definition) → n + (length d.params + bound_in (block_of d.body)) ≤ definition_end n d
 few_ids n d = let a = params_few d.params in let b = few_bound_in (block_of d.body) in omega (arith, a, b)
-
--- a name that breaks no rule is new
-pub new_procedure : (t : Typed) (x : List ℕ) (n : ℕ) → Agrees t → least (unless (not (is_given (program t.unit) x)) Redefined n) ≡ None → name_number t.procedures x ≡ None
-new_procedure t x n a h = no_number (name_number t.procedures x) (first_false (is_some (name_number t.procedures x)) _ n (ap (λ b. least (unless (not b) Redefined n)) (sym (in_tables t x a)) ∙ h))
-  where
-    first_false : (b c : Bool) (n : ℕ) → least (unless (not (b || c)) Redefined n) ≡ None → b ≡ false
-    first_false true c n e = cc
-    first_false false c n e = refl
 
 -- what stands above the next item
 module _ (t pushed after : Typed) (above : Above) (places : List Place) (template : Option (List ℕ)) (n : ℕ) (d : Definition) (made : Defined) (row : Row) (lines : ProcLines) where
@@ -165,5 +200,5 @@ module _ (t pushed after : Typed) (above : Above) (places : List Place) (templat
           fields = omega (arith, few.fields, ap length old_fields, at);
           memories = omega (arith, few.memories, ap length old_memories, at);
         };
-        lines = ap (λ u. u.lines) unit ∙ p.lines ∙ (λ i. t.unit.lines ++ (is_lines ∙ (λ j. record { def = line_at places n; statements = here.lines j })) i ∷ []);
+        lines = ap (λ u. u.lines) unit ∙ p.told ∙ (λ i. t.unit.lines ++ (is_lines ∙ (λ j. record { def = line_at places n; statements = here.lines j })) i ∷ []);
       }

@@ -3,12 +3,15 @@ use Rattle.std.proofs.Common.{◌≡◌, ℕ, ◌+◌, ◌*◌, ◌≤◌, Bool,
 use Rattle.std.specs.List.{list_any}
 use Rattle.std.proofs.lemmas.List.{append-nil, length-append, length-map, map-append}
 use Rattle.exo_tree.specs.Tree.{MemoryKind}
+use Rattle.exo_tree.specs.PlainUnit.{program}
 use Rattle.exo_meaning.specs.Units.{is_text}
 use Rattle.exo_source.specs.Source as source
 use Rattle.exo_source.specs.Source.{Attribute, Setting, configuration, memory}
 use Rattle.exo_lexer.specs.declared.place.Place.{Place}
 use Rattle.exo_names.specs.declared.fault.Fault.{Fault}
-use Rattle.exo_names.specs.Faults.{or_else, least}
+use Rattle.exo_names.specs.declared.fault.Charge.{Charge}
+use Rattle.exo_names.specs.declared.error.TypeKind.TheVariants.{Redefined}
+use Rattle.exo_names.specs.Faults.{charged, or_else, least, unless}
 use Rattle.exo_names.specs.Names.{name_number}
 use Rattle.exo_writes.specs.Written.{rows_say}
 use Rattle.exo_types.specs.declared.attribute.Trait.{Trait}
@@ -17,9 +20,11 @@ use Rattle.exo_types.specs.declared.attribute.Trait.TheVariants as traits
 use Rattle.exo_types.specs.declared.typed.Typed.{Typed}
 use Rattle.exo_types.specs.MemoryRules.{plain_memory, with_trait, with_attributes, trait_named, attributes_width, attributes_fault, lanes_faults}
 use Rattle.exo_types.specs.ItemRules.{field_of, fields_fault}
-use Rattle.exo_types.specs.UnitRules.{Above, item_name_faults}
+use Rattle.exo_types.specs.UnitRules.{Above, is_given, item_name_faults}
 use Rattle.exo_types.specs.Walks.{signatures_by}
 use Rattle.exo_types.specs.Standing.{Agrees, IsFew, Stands, IsAdded}
+use Rattle.exo_types.proofs.Broken.{first_of}
+use Rattle.exo_types.proofs.Added.{same_name_faults}
 
 -- an attribute leaves the name of a memory as it is
 trait_name : (m : MemoryKind) (o : Option Trait) (v : Setting) → (with_trait m o v).name ≡ m.name
@@ -36,6 +41,10 @@ trait_name m (Some Header) v = refl
 attributes_name : (m : MemoryKind) (settings : List Attribute) → (with_attributes m settings).name ≡ m.name
 attributes_name m [] = refl
 attributes_name m (a ∷ more) = attributes_name (with_trait m (trait_named a.name) a.value) more ∙ trait_name m (trait_named a.name) a.value
+
+-- what is charged at the name of a memory
+pub memory_charged : (t : Typed) (above : Above) → Agrees t → Stands t above → (c : Charge) (n : ℕ) (x : List ℕ) (settings : List Attribute) (own : Option Fault) (m : MemoryKind) → c ≡ charged (unless (not (is_given (program t.unit) x)) Redefined (n + 3) ++ lanes_faults own (n + 3) m) → own ≡ attributes_fault [] (n + 7) settings → m ≡ with_attributes (plain_memory x) settings → c.first ≡ least (item_name_faults above (n + 3) x ++ lanes_faults (attributes_fault [] (n + 7) settings) (n + 3) (with_attributes (plain_memory x) settings))
+memory_charged t above a s c n x settings own m h o e = first_of c _ h ∙ (λ i. least (same_name_faults t above a s (n + 3) x i ++ lanes_faults (o i) (n + 3) (e i)))
 
 -- procedures and what goes with them are as before
 pub record KeepsProcedures (t after : Typed) : Type 0 where

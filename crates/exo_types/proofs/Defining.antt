@@ -53,7 +53,7 @@ params_spaced : (ps : List Parameter) → length ps ≤ spaced_params ps
 params_spaced [] = omega arith
 params_spaced (p ∷ ps) = omega (arith, params_spaced ps)
 
-params_few : (ps : List Parameter) → length ps ≤ params_width ps
+pub params_few : (ps : List Parameter) → length ps ≤ params_width ps
 params_few ps = omega (arith, params_spaced ps, spaced_least ps)
 
 goes_on : (a b c whole : Option Fault) → or_else a b ≡ whole → a ≡ None → c ≡ b → c ≡ whole

@@ -28,3 +28,4 @@ pub mod Within
 pub mod Params
 pub mod Declared
 pub mod Checked
+pub mod Procedures

@@ -1,6 +1,8 @@
 -- Names of the top level, in tables and in the unit.
-use Rattle.std.proofs.Common.{◌≡◌, ℕ, ◌+◌, Bool, true, false, not, ◌&&◌, ◌||◌, List, [], ◌∷◌, ◌++◌, Option, Some, None, is_some, length, map, if◌then◌else◌, refl, ap, sym, ◌∙◌, arith}
+use Rattle.std.proofs.Common.{◌≡◌, ℕ, suc, ◌+◌, ◌==◌, Bool, true, false, not, ◌&&◌, ◌||◌, List, [], ◌∷◌, ◌++◌, Option, Some, None, is_some, length, map, if◌then◌else◌, refl, ap, sym, ◌∙◌, arith}
 use Rattle.std.specs.List.{list_any}
+use Rattle.std.proofs.lemmas.Bool.Decides.{nat_tests}
+use Rattle.std.proofs.lemmas.List.{append-nil}
 use Rattle.std.proofs.lemmas.List.Folds.{list_any-append}
 use Rattle.exo_tree.specs.Tree.{ConfigField}
 use Rattle.exo_meaning.specs.Units.{is_text, same_field}
@@ -26,11 +28,11 @@ from_more n [] y x = if_some (is_text y x) n None ∙ or_false (is_text y x)
     or_false : (b : Bool) → (b || false) ≡ b
     or_false true = refl
     or_false false = refl
-from_more n (z ∷ ys) y x = by (is_text z x)
+from_more n (z ∷ ys) y x = by (is_text z x) (from_more (n + 1) ys y x)
   where
-    by : (b : Bool) → is_some (if b then Some n else number_from (n + 1) (ys ++ y ∷ []) x) ≡ (is_some (if b then Some n else number_from (n + 1) ys x) || is_text y x)
-    by true = refl
-    by false = from_more (n + 1) ys y x
+    by : (b : Bool) → is_some (number_from (n + 1) (ys ++ y ∷ []) x) ≡ (is_some (number_from (n + 1) ys x) || is_text y x) → is_some (if b then Some n else number_from (n + 1) (ys ++ y ∷ []) x) ≡ (is_some (if b then Some n else number_from (n + 1) ys x) || is_text y x)
+    by true h = refl
+    by false h = h
 
 -- one name more
 pub named_more : (ys : List (List ℕ)) (y x : List ℕ) → is_some (name_number (ys ++ y ∷ []) x) ≡ (is_some (name_number ys x) || is_text y x)
@@ -62,12 +64,12 @@ from_field n config f (g ∷ gs) =
 
 other_config : (config : List ℕ) (f : source.ConfigField) (gs : List ConfigField) → list_any (λ g. is_text g.config config) gs ≡ false → list_any (same_field (field_of config f)) gs ≡ false
 other_config config f [] h = refl
-other_config config f (g ∷ gs) h = by (is_text g.config config) (is_text config g.config) (same_text g.config config) h
+other_config config f (g ∷ gs) h = by (is_text g.config config) (is_text config g.config) (same_text g.config config) h (other_config config f gs)
   where
-    by : (a b : Bool) → a ≡ b → (a || list_any (λ k. is_text k.config config) gs) ≡ false → ((b && is_text f.name g.name) || list_any (same_field (field_of config f)) gs) ≡ false
-    by true b e k = cc
-    by false true e k = cc
-    by false false e k = other_config config f gs k
+    by : (a b : Bool) → a ≡ b → (a || list_any (λ k. is_text k.config config) gs) ≡ false → (list_any (λ k. is_text k.config config) gs ≡ false → list_any (same_field (field_of config f)) gs ≡ false) → ((b && is_text f.name g.name) || list_any (same_field (field_of config f)) gs) ≡ false
+    by true b e k rest = cc
+    by false true e k rest = cc
+    by false false e k rest = rest k
 
 -- above a new configuration there is no field of it
 pub field_among : (config : List ℕ) (f : source.ConfigField) (above given : List ConfigField) → list_any (λ g. is_text g.config config) above ≡ false → is_some (field_in (above ++ given) config f.name) ≡ list_any (same_field (field_of config f)) given
@@ -94,3 +96,16 @@ configurations_more config x names fields f fs h =
     named_more names config x
     ∙ (λ i. h i || sym (fields_named config x f fs) i)
     ∙ sym (list_any-append (λ g. is_text g.config x) fields (map (field_of config) (f ∷ fs)))
+
+-- the names of configurations, with one more where it has fields
+pub configurations_after : (config x : List ℕ) (names after : List (List ℕ)) (fields : List ConfigField) (fs : List source.ConfigField) (used : Bool) → used ≡ not (length fs == 0) → after ≡ names ++ (if used then config ∷ [] else []) → is_some (name_number names x) ≡ list_any (λ g. is_text g.config x) fields → is_some (name_number after x) ≡ list_any (λ g. is_text g.config x) (fields ++ map (field_of config) fs)
+configurations_after config x names after fields [] used u p h =
+    ap (λ l. is_some (name_number l x)) (p ∙ ap (λ b. names ++ (if b then config ∷ [] else [])) u ∙ append-nil names)
+    ∙ h
+    ∙ ap (list_any (λ g. is_text g.config x)) (sym (append-nil fields))
+configurations_after config x names after fields (f ∷ fs) used u p h =
+    ap (λ l. is_some (name_number l x)) (p ∙ ap (λ b. names ++ (if b then config ∷ [] else [])) (u ∙ some (length fs)))
+    ∙ configurations_more config x names fields f fs h
+  where
+    some : (n : ℕ) → not (suc n == 0) ≡ true
+    some n = grind (arith, nat_tests)

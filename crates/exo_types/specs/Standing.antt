@@ -77,7 +77,7 @@ pub record IsPushed (t after : Typed) (name : List ℕ) (p : Procedure) (row : R
   pub procedures : after.unit.procs ≡ t.unit.procs ++ p ∷ []
   pub fields : after.unit.fields ≡ t.unit.fields
   pub memories : after.unit.memories ≡ t.unit.memories
-  pub lines : after.unit.lines ≡ t.unit.lines ++ lines ∷ []
+  pub told : after.unit.lines ≡ t.unit.lines ++ lines ∷ []
   pub names : after.procedures ≡ t.procedures ++ name ∷ []
   pub same_memories : after.memories ≡ t.memories
   pub same_configurations : after.configurations ≡ t.configurations

@@ -1,5 +1,5 @@
 //! The unit so far, with the tables of its names; and what each item adds to it.
-ghost use Rattle.std.specs.Prelude.{◌≡◌, ◌+◌, ◌*◌, ◌<◌, ◌≤◌, [], ◌∷◌, ◌++◌, List, None, not, false, is_some, map, length, IfOk, OnOk, MatchResult};
+ghost use Rattle.std.specs.Prelude.{◌≡◌, ◌+◌, ◌*◌, ◌<◌, ◌≤◌, [], ◌∷◌, ◌++◌, List, None, not, false, is_some, if◌then◌else◌, map, length, IfOk, OnOk, MatchResult};
 ghost use Rattle.std.specs.List.{list_any};
 ghost use Rattle.exo_tree.specs.Tree.{block};
 ghost use Rattle.exo_tree.specs.PlainUnit.{program};
@@ -16,6 +16,7 @@ ghost use Rattle.exo_types.specs.Refusals.{Refuses};
 ghost use Rattle.exo_types.specs.ItemRules.{definition_end, field_of, fields_fault};
 ghost use Rattle.exo_types.specs.UnitRules as rules;
 ghost use Rattle.exo_types.specs.UnitRules.{nothing_above, is_given, item_fault, item_width, procedure_fault};
+ghost use Rattle.exo_types.specs.UnitLines.{line_at};
 ghost use Rattle.exo_types.specs.Standing.{Agrees, IsFew, Stands, HasPlaces, field_fault, here_fault, IsHere, IsPushed, IsProcedure, IsAdded};
 
 use crate::attribute::{attributes_fault, joined, lanes_charge, memory_of, plain_memory};
@@ -102,6 +103,25 @@ fn add_fields<'c>(
         next += 4;
     }
     Ok(next)
+}
+
+/// The line of a token.
+fn line_of(places: &[Place], n: usize) -> u32
+    requires { n < length places.now }
+    ensures { result ≡ line_at places.now n }
+{
+    places[n].line
+}
+
+/// Puts a name last where it is used.
+fn push_used<'c>(names: &mut NameTable<'c>, name: &'c str, is_used: bool) -> Result<(), AllocError>
+    requires { name_number names.old name.now ≡ None }
+    ensures { OnOk result (names.new ≡ names.old ++ (if is_used then name.now ∷ [] else [])) }
+{
+    if is_used {
+        names.push(name)?;
+    }
+    Ok(())
 }
 
 impl<'c> Typed<'c> {
@@ -230,7 +250,7 @@ impl<'c> Typed<'c> {
         let made = self.defined(alloc, places, n, template, definition)?;
         let row = self.row_of(alloc, &made.procedure.body)?;
         let lines = ProcLines {
-            def: places[n].line,
+            def: line_of(places, n),
             statements: made.lines,
         };
         self.push_procedure(definition.name.as_str(), made.procedure, row, lines)?;
@@ -281,9 +301,7 @@ impl<'c> Typed<'c> {
             name,
             fields,
         )?;
-        if !fields.is_empty() {
-            self.configurations.push(name.as_str())?;
-        }
+        push_used(&mut self.configurations, name.as_str(), !fields.is_empty())?;
         Ok(end + 1)
     }
 
