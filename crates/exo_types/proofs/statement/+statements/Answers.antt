@@ -103,6 +103,11 @@ else_of-block_of-requires t c =
     let some = some_statements plain_statement c.args.b.now (sym c.is_empty.ensures ∙ c.if-is_empty.false) in
     (omega arith, room_behind c.args.context.now c.args.walk.now c.args.n _ c.requires some)
 
+pub else_of-overflow_add-result : goal.else_of-overflow_add-result
+else_of-overflow_add-result t c =
+    let some = some_statements plain_statement c.args.b.now (sym c.is_empty.ensures ∙ c.if-is_empty.false) in
+    omega (arith, some, c.in_ok-made.ensures.end, c.requires.tokens, c.requires.few)
+
 pub else_of-returns-clause-end : goal.else_of-returns-clause-end
 else_of-returns-clause-end t c =
     let some = some_statements plain_statement c.args.b.now (sym c.is_empty.ensures ∙ c.if-is_empty.false) in
