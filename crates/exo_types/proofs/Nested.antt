@@ -1,12 +1,14 @@
 -- Statements that have blocks.
-use Rattle.std.proofs.Common.{◌≡◌, ℕ, suc, ◌+◌, ◌<◌, ◌≤◌, List, [], ◌∷◌, ◌++◌, Option, Some, None, length, map, take, refl, ap, sym, ◌∙◌, append_assoc, subst, add-one, arith}
+use Rattle.std.proofs.Common.{◌≡◌, ℕ, suc, ◌+◌, ◌<◌, ◌≤◌, ◌==◌, true, false, List, [], ◌∷◌, ◌++◌, Option, Some, None, length, map, take, refl, ap, sym, ◌∙◌, append_assoc, subst, add-one, arith}
 use Rattle.std.proofs.lemmas.List.{append-nil, map-append}
+use Rattle.std.proofs.lemmas.Bool.Decides.{nat_tests}
 use Rattle.std.proofs.Math.Seq.{take-length}
 use Rattle.exo_tree.specs.Tree as tree
 use Rattle.exo_tree.specs.Tree.{Index}
 use Rattle.exo_meaning.specs.Units.{Scope, ControlName, with_name}
 use Rattle.exo_reader.specs.Expression.{Tree}
-use Rattle.exo_source.specs.Source.{Block, branch, loop}
+use Rattle.exo_source.specs.Source.{Statement, Block, end, next, branch, loop}
+use Rattle.exo_source.specs.Source as source
 use Rattle.exo_names.specs.declared.fault.Fault.{Fault}
 use Rattle.exo_names.specs.Faults.{or_else}
 use Rattle.exo_names.specs.ExpressionRules.{width}
@@ -25,7 +27,41 @@ use Rattle.exo_types.proofs.Bounded.{few_bound_in}
 use Rattle.exo_types.proofs.Falling.{falls_more}
 use Rattle.exo_types.proofs.Broken.{refuses_same, refuses_first, refuses_second, none_of_both}
 
+-- a block of no statements, and one of some
+pub no_statements : {X : Type 0} (f : X → Statement) (xs : List X) → (length xs == 0) ≡ true → source.block_of (map f xs) ≡ end
+no_statements f [] h = refl
+no_statements f (x ∷ xs) h = grind (arith, nat_tests)
+
+pub some_statements : {X : Type 0} (f : X → Statement) (xs : List X) → (length xs == 0) ≡ false → else_width (source.block_of (map f xs)) ≡ 4 + block_width (source.block_of (map f xs)) + 1
+some_statements f [] h = cc
+some_statements f (x ∷ xs) h = refl
+
+pub else_wider : (b : Block) → block_width b ≤ else_width b
+else_wider end = omega arith
+else_wider (next s more) = omega arith
+
 module _ (c : Context) where
+  -- a block of no statements leaves the walk as it was
+  pub no_block : (walk : Walk) (made : List tree.Statement) (n : ℕ) (b : Block) → made ≡ [] → b ≡ end → IsBlock c walk walk made n b
+  no_block walk made n b h e = record {
+    keeps = ap (block_fault c walk n) e;
+    means = ap tree.block h ∙ ap (block_of c walk) (sym e);
+    scope = refl;
+    aliases = refl;
+    ids = let none = ap bound_in e in omega (arith, none);
+    lines = sym (append-nil walk.lines) ∙ ap (λ x. walk.lines ++ map (line_at c.places.now) (block_starts n x)) (sym e);
+  }
+
+  pub room_behind : (walk : Walk) (n : ℕ) (b : Block) → HasRoom c walk n (else_width b) → else_width b ≡ 4 + block_width b + 1 → HasRoom c walk (n + 4) (block_width b)
+  room_behind walk n b r h = record {
+    ids = omega (arith, r.ids);
+    tokens = omega (arith, r.tokens, h);
+    few = r.few;
+    memories = r.memories;
+    procedures = r.procedures;
+    falls = r.falls;
+  }
+
   -- what a block breaks and is in a walk that stands where another one stands
   same_fault : (walk one : Walk) (id n m : ℕ) (b : Block) → one.next_id ≡ id → one.scope ≡ walk.scope → one.aliases.items ≡ walk.aliases.items → m ≡ n → block_fault c one m b ≡ rules.block_fault c.fields.now c.memories.now c.procedures.now (signatures_in c) id walk.scope (roots_in walk.aliases.items) n b
   same_fault walk one id n m b i s a k = λ j. rules.block_fault c.fields.now c.memories.now c.procedures.now (signatures_in c) (i j) (s j) (roots_in (a j)) (k j) b

@@ -28,6 +28,9 @@ pub record IsOver (before after : Scope) : Type 0 where
 pub over_itself : (s : Scope) → IsOver s s
 over_itself s = record { front = []; over = refl }
 
+pub over_one : (before after : Scope) (n : Named) → after ≡ n ∷ before → IsOver before after
+over_one before after n h = record { front = n ∷ []; over = h }
+
 -- taking the newer names out gives the scope back
 pub taken_out : (before after : Scope) → IsOver before after → drop (length after - length before) after ≡ before
 taken_out before after o =
@@ -95,6 +98,7 @@ module _ (c : Context) where
     pub fault : block_fault c walk k rest ≡ block_fault c first n whole
     pub means : joined (tree.block made) (block_of c walk rest) ≡ block_of c first whole
     pub width : k + block_width rest ≡ n + block_width whole
+    pub forward : n ≤ k
     pub count : walk.next_id + bound_in rest ≡ first.next_id + bound_in whole
     pub ids : walk.next_id ≤ k
     pub falls : Falls walk.next_id walk.scope
@@ -103,15 +107,16 @@ module _ (c : Context) where
     pub views : take (length first.aliases.items) walk.aliases.items ≡ first.aliases.items
     pub long : length first.aliases.items ≤ length walk.aliases.items
 
-  -- a walk, and the line of the statement at hand
-  abbrev pub with_line : Walk → ℕ → Walk
-  with_line walk k = record walk { lines = walk.lines ++ line_at c.places.now k ∷ [] }
+  -- a walk with these lines
+  abbrev pub with_lines : Walk → List ℕ → Walk
+  with_lines walk l = record walk { lines = l }
 
   pub so_first : (first : Walk) (made : List tree.Statement) (n : ℕ) (whole : Block) → made ≡ [] → HasRoom c first n (block_width whole) → SoFar first first made n n whole whole
   so_first first made n whole h room = record {
     fault = refl;
     means = ap (λ l. joined (tree.block l) (block_of c first whole)) h;
     width = refl;
+    forward = omega arith;
     count = refl;
     ids = room.ids;
     falls = room.falls;
@@ -122,8 +127,8 @@ module _ (c : Context) where
   }
 
   -- there is room for the statement at hand
-  pub room_for : (first walk : Walk) (made : List tree.Statement) (n k : ℕ) (whole : Block) (s : Statement) (more : Block) → HasRoom c first n (block_width whole) → SoFar first walk made n k whole (next s more) → HasRoom c (with_line walk k) k (statement_width s)
-  room_for first walk made n k whole s more room f = record {
+  pub room_for : (first walk : Walk) (l : List ℕ) (made : List tree.Statement) (n k : ℕ) (whole : Block) (s : Statement) (more : Block) → HasRoom c first n (block_width whole) → SoFar first walk made n k whole (next s more) → HasRoom c (with_lines walk l) k (statement_width s)
+  room_for first walk l made n k whole s more room f = record {
     ids = f.ids;
     tokens = omega (arith, f.width, room.tokens);
     few = room.few;
@@ -133,8 +138,8 @@ module _ (c : Context) where
   }
 
   -- one more statement
-  pub so_on : (first walk after : Walk) (made new : List tree.Statement) (n k m : ℕ) (whole : Block) (s : Statement) (more : Block) (t : tree.Statement) → SoFar first walk made n k whole (next s more) → IsStatement c (with_line walk k) after t k s → m ≡ k + statement_width s → new ≡ made ++ t ∷ [] → SoFar first after new n m whole more
-  so_on first walk after made new n k m whole s more t f step end' pushed =
+  pub so_on : (first walk after : Walk) (l : List ℕ) (made new : List tree.Statement) (n k m : ℕ) (whole : Block) (s : Statement) (more : Block) (t : tree.Statement) → SoFar first walk made n k whole (next s more) → l ≡ walk.lines ++ line_at c.places.now k ∷ [] → IsStatement c (with_lines walk l) after t k s → m ≡ k + statement_width s → new ≡ made ++ t ∷ [] → SoFar first after new n m whole more
+  so_on first walk after l made new n k m whole s more t f told step end' pushed =
       let scope : after.scope ≡ scope_after (statement_of c walk s) walk.scope = step.scope ∙ ap (λ u. scope_after u walk.scope) step.means in
       let roots : roots_in after.aliases.items ≡ roots_after (statement_of c walk s) (roots_in walk.aliases.items) = step.roots ∙ ap (λ u. roots_after u (roots_in walk.aliases.items)) step.means in
       let few = few_bound s in
@@ -146,11 +151,12 @@ module _ (c : Context) where
             ∙ ap (λ u. joined (tree.block made) (tree.next u (rules.block_of c.fields.now c.memories.now c.procedures.now (signatures_in c) (walk.next_id + bound s) (scope_after (statement_of c walk s) walk.scope) more))) step.means
             ∙ f.means;
         width = omega (arith, f.width, end');
+        forward = omega (arith, f.forward, end');
         count = omega (arith, f.count, step.ids);
         ids = omega (arith, f.ids, step.ids, few, end');
         falls = subst {A = ℕ × Scope} (λ x. Falls x.0 x.1) (λ i. (sym step.ids i, sym scope i)) (falls_after c.fields.now c.memories.now c.procedures.now (signatures_in c) walk.next_id walk.scope s f.falls);
         lines =
-            (λ i. step.lines i ++ map (line_at c.places.now) (block_starts (end' i) more))
+            (λ i. (step.lines ∙ ap (λ x. x ++ map (line_at c.places.now) (inner_starts k s)) told) i ++ map (line_at c.places.now) (block_starts (end' i) more))
             ∙ told_on walk.lines (map (line_at c.places.now) (inner_starts k s)) (map (line_at c.places.now) (block_starts (k + statement_width s) more)) (line_at c.places.now k)
             ∙ ap (λ l. walk.lines ++ (line_at c.places.now k ∷ l)) (sym (map-append (line_at c.places.now) (inner_starts k s) (block_starts (k + statement_width s) more)))
             ∙ f.lines;
