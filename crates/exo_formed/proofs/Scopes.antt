@@ -55,6 +55,17 @@ fresh id n scope x b h = negated (absent id scope x b (none (named_in scope x) (
 
 -- ---- names and their ids
 
+-- names are found by their ids, and the next binder may get this id
+pub record Entered (id : ℕ) (scope : Scope) : Type 0 where
+  pub keeps : KeepsIds scope
+  pub below : Below id scope
+
+pub later : (id more : ℕ) (scope : Scope) → id ≤ more → Entered id scope → Entered more scope
+later id more scope h e = record { keeps = e.keeps; below = below_up id more scope h e.below }
+
+pub nothing : (id : ℕ) → Entered id []
+nothing id = record { keeps = record { found = λ x n p. cc }; below = tt }
+
 pub named_kept : (scope : Scope) → KeepsIds scope → (x : List ℕ) (test : Option Sort → Bool) (n : ℕ) → name_faults test (sort_of (named_in scope x)) n ≡ [] → test (sort_in scope (id_in scope x)) ≡ true
 named_kept scope keeps x test n h = by (named_in scope x) refl h
   where

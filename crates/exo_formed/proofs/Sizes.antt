@@ -1,21 +1,22 @@
 -- How large the trees of statements are: they bind no more names than they have tokens, hand out ids upwards, and are not deep.
-use Rattle.std.proofs.Common.{◌≡◌, ℕ, suc, ◌+◌, ◌≤◌, ◌<◌, nat_lt, Bool, true, false, List, [], ◌∷◌, ◌++◌, length, Option, refl, ap, arith, if◌then◌else◌}
+use Rattle.std.proofs.Common.{◌≡◌, ℕ, suc, ◌+◌, ◌≤◌, ◌<◌, ◌^◌, nat_lt, Bool, true, false, not, List, [], ◌∷◌, ◌++◌, length, Option, refl, ap, arith, lt-ltb, if◌then◌else◌}
 use Rattle.std.proofs.lemmas.List.{length-append}
 use Rattle.phrases.specs.Limits.{in_size}
 use Rattle.exo_tree.specs.Tree as tree
 use Rattle.exo_tree.specs.Tree.{ConfigField, Index, statements}
 use Rattle.exo_meaning.specs.Binders.{binders, step_binders}
-use Rattle.exo_meaning.specs.Units.{Scope, ControlName, with_name, scope_after, levels, step_levels, larger}
+use Rattle.exo_meaning.specs.Units.{Scope, ControlName, with_name, scope_after, levels, step_levels, larger, is_empty, is_short}
 use Rattle.exo_lexer.specs.declared.token.Token.{Token}
 use Rattle.exo_lexer.specs.declared.token.Token.TheVariants.{Name, Sign, Word, NewLine, Indent, Dedent}
 use Rattle.exo_lexer.specs.declared.token.Sign.TheVariants as s
 use Rattle.exo_reader.specs.Expression.{Tree, spelling}
 use Rattle.exo_source.specs.Source.{Statement, pass, branch, loop, allocate, call, configure, assign, reduce, view, Block, end, next}
 use Rattle.exo_source.specs.Statements as st
-use Rattle.exo_source.specs.Statements.{indented, spelling_all, spelling_else, StatementFits, BlockFits}
+use Rattle.exo_source.specs.Statements.{indented, spelling_all, spelling_else, StatementFits, BlockFits, IsSome}
 use Rattle.exo_types.specs.TypeRules.{binder}
 use Rattle.exo_types.specs.ArgumentRules.{Signature}
 use Rattle.exo_types.specs.StatementRules.{bound, bound_in, statement_of, block_of}
+use Rattle.exo_formed.proofs.Texts.{Text}
 use Rattle.exo_formed.proofs.Ids.{Ascends, up_to, then_ascend}
 
 -- ---- tokens
@@ -83,6 +84,13 @@ module _ (fields : List ConfigField) (memories above : List (List ℕ)) (signatu
   statements_few id scope (next t more) =
       omega
       (arith, length-append (st.spelling t) (spelling_all more), has_token t, statements_few (id + bound t) (scope_after (tree_of id scope t) scope) more)
+
+  pub short : (id : ℕ) (scope : Scope) (b : Block) → Text (spelling_all b) → is_short (trees_of id scope b) ≡ true
+  short id scope b text = lt-ltb (length (statements (trees_of id scope b))) (2 ^ 31) (omega (arith, text.short, statements_few id scope b))
+
+  pub filled : (id : ℕ) (scope : Scope) (b : Block) → IsSome b → not (is_empty (trees_of id scope b)) ≡ true
+  filled id scope end h = absurd h
+  filled id scope (next t more) h = refl
 
   -- ---- ids
 

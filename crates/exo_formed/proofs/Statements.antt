@@ -12,7 +12,7 @@ use Rattle.exo_tree.specs.Tree.{Kind, Index, ConfigField}
 use Rattle.exo_meaning.specs.Calls.{Callee}
 use Rattle.exo_meaning.specs.Run.{roots_after}
 use Rattle.exo_meaning.specs.Units as units
-use Rattle.exo_meaning.specs.Units.{Scope, ControlName, BufferName, sort_in, with_name, scope_after, view_sort, field_kind, plainly, with_fields, with_strides, is_empty, is_short, is_rank, is_write, is_access, is_datum, is_block, is_statement}
+use Rattle.exo_meaning.specs.Units.{Scope, ControlName, BufferName, sort_in, with_name, scope_after, view_sort, field_kind, plainly, with_fields, with_strides, is_rank, is_write, is_access, is_datum, is_block, is_statement}
 use Rattle.exo_reader.specs.Expression.{Tree, spelling, control}
 use Rattle.exo_source.specs.Source.{Coordinate, point, span, window, Statement, pass, branch, loop, allocate, call, configure, assign, reduce, view, Block, end, next}
 use Rattle.exo_source.specs.Parts.{MaybeDimsFit, maybe_dims, type_name, maybe_memory, spell_enclosed}
@@ -29,10 +29,10 @@ use Rattle.exo_types.specs.TypeRules.{binder, binder_faults, cell_faults, cell_o
 use Rattle.exo_types.specs.ArgumentRules.{Signature, signature_of, dims_width}
 use Rattle.exo_types.specs.StatementRules.{block_width, bound, bound_in, write_faults, written_of, target_faults, store_faults, statement_of, block_of, own_faults, inner_fault, block_fault, statement_width}
 use Rattle.exo_formed.proofs.Unbroken.{both, pair, none_of, left_none, right_none, fault_none, neither_broken}
-use Rattle.exo_formed.proofs.Scopes.{Below, below_up, fresh}
+use Rattle.exo_formed.proofs.Scopes.{Entered, below_up, fresh, later}
 use Rattle.exo_formed.proofs.Texts.{Text, front, back, behind, fits_in, maybe_dims_fit, window_fits}
 use Rattle.exo_formed.proofs.Tables.{memory_formed, field_kept}
-use Rattle.exo_formed.proofs.Sizes.{statements_few}
+use Rattle.exo_formed.proofs.Sizes.{filled, short}
 use Rattle.exo_formed.proofs.Leaves.{Laws, control_formed, controls_formed, condition_formed, datum_formed, window_formed, target_formed}
 use Rattle.exo_formed.proofs.Arguments.{kind_value_formed, span_counted}
 use Rattle.exo_formed.proofs.Calls.{call_formed}
@@ -78,23 +78,10 @@ module _ (laws : Laws) (fields : List ConfigField) (F : ℕ → Option Kind) (mo
   abbrev fault_of : ℕ → Scope → (ℕ → ℕ) → ℕ → Block → Option Fault
   fault_of id scope root n b = block_fault fields memories above signatures id scope root n b
 
-  -- ---- blocks as wholes
-
-  pub filled : (id : ℕ) (scope : Scope) (b : Block) → IsSome b → not (is_empty (trees_of id scope b)) ≡ true
-  filled id scope end h = absurd h
-  filled id scope (next t rest) h = refl
-
-  pub short : (id : ℕ) (scope : Scope) (b : Block) → Text (spelling_all b) → is_short (trees_of id scope b) ≡ true
-  short id scope b text = lt-ltb (length (tree.statements (trees_of id scope b))) (2 ^ 31) (omega (arith, text.short, statements_few fields memories above signatures id scope b))
-
   -- ---- scopes behind statements
 
-  pub record Entered (id : ℕ) (scope : Scope) : Type 0 where
-    pub keeps : KeepsIds scope
-    pub below : Below id scope
-
   unchanged : (id count : ℕ) (scope : Scope) → Entered id scope → Entered (id + count) scope
-  unchanged id count scope e = record { keeps = e.keeps; below = below_up id (id + count) scope (omega arith) e.below }
+  unchanged id count scope e = later id (id + count) scope (omega arith) e
 
   entered : (id n : ℕ) (scope : Scope) (root : ℕ → ℕ) (t : Statement) → Entered id scope → faults_of scope root n t ≡ [] → Entered (id + bound t) (scope_after (tree_of id scope t) scope)
   entered id n scope root pass e h = unchanged id 0 scope e
@@ -154,7 +141,7 @@ module _ (laws : Laws) (fields : List ConfigField) (F : ℕ → Option Kind) (mo
         let parts = neither_broken (fault_of id scope root first a) (fault_of (id + bound_in a) scope root (first + block_width a + 5) b) k in
         let behind_one : Entered (id + bound_in a) scope = unchanged id (bound_in a) scope e in
         pair (condition_formed laws fields F more with_fields scope (n + 1) c e.keeps (fits_in c (front (spelling c) tail line)) h)
-        (pair (pair (filled id scope a fits.2) (pair (short id scope a one) (short (id + bound_in a) scope b other)))
+        (pair (pair (filled fields memories above signatures id scope a fits.2) (pair (short fields memories above signatures id scope a one) (short fields memories above signatures (id + bound_in a) scope b other)))
         (pair (block_formed (nesting + 1) id first scope root a e fits.3 one parts.0) (block_formed (nesting + 1) (id + bound_in a) (first + block_width a + 5) scope root b behind_one fits.4 other parts.1)))
     statement_formed nesting id n scope root (loop i low high a) e fits text h k =
         let lines : List Token = indented (spelling_all a) in
@@ -172,7 +159,7 @@ module _ (laws : Laws) (fields : List ConfigField) (F : ℕ → Option Kind) (mo
         (pair
         (pair (control_formed laws fields F more plainly scope (n + 5) low e.keeps (fits_in low (front (spelling low) (Sign s.Comma ∷ last) bounds)) (left_none lows highs none))
         (control_formed laws fields F more plainly scope (n + 5 + width low + 1) high e.keeps (fits_in high (front (spelling high) (Sign s.Close ∷ lines) upper)) (right_none lows highs none)))
-        (pair (pair (filled (suc id) (with_name scope (binder id i) (ControlName Index)) a fits.4) (short (suc id) (with_name scope (binder id i) (ControlName Index)) a block))
+        (pair (pair (filled fields memories above signatures (suc id) (with_name scope (binder id i) (ControlName Index)) a fits.4) (short fields memories above signatures (suc id) (with_name scope (binder id i) (ControlName Index)) a block))
         (block_formed (nesting + 1) (suc id) (n + 5 + width low + 1 + width high + 4) (with_name scope (binder id i) (ControlName Index)) root a inner fits.5 block k)))
     statement_formed nesting id n scope root (allocate x type ds m) e fits text h k =
         let last : List Token = maybe_memory.spell m ++ (NewLine ∷ []) in
