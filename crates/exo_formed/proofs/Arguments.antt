@@ -182,5 +182,5 @@ module _ (laws : Laws) (fields : List ConfigField) (F : ℕ → Option Kind) (mo
       window_strided cell (length dims) n x cs f (turned (spans cs) (length dims) same) (left_none faults _ h)
 
   pub argument_formed : (kind : ParamKind) (n : ℕ) (a : Argument) → argument.Fits in_size a → Text (argument.spell a) → argument_faults fields scope kind n a ≡ [] → is_for F scope kind (argument_of fields scope kind a) ≡ true
-  argument_formed kind n (value e) fits text h = value_formed kind n e fits.0 (fits_in e text) h
-  argument_formed kind n (window x cs) fits text h = view_formed kind n x cs fits.2 (window_fits x cs text) h
+  argument_formed kind n (value e) fits text h = value_formed kind n e fits.0 (fits_in e fits.1.2 text) h
+  argument_formed kind n (window x cs) fits text h = view_formed kind n x cs fits.2 (window_fits x cs fits.1 text) h

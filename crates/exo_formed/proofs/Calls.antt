@@ -148,13 +148,14 @@ module _ (laws : Laws) (fields : List ConfigField) (F : ℕ → Option Kind) (mo
       pair (arguments_formed laws fields F more scope keeps callee.writes root [] callee.procedure.params (n + 2) args fits texts same none) (nothing_shared laws fields F more scope keeps callee.writes root [] callee.procedure.params (n + 2) args none)
 
   module _ (memories above : List (List ℕ)) (signatures : List Signature) (cs : List Callee) (signed : map signature_of cs ≡ signatures) where
+    abbrev callee_at : Option ℕ → Option Signature
+    callee_at o = elim o [ None ↦ None | Some k ↦ slice_get signatures k ]
+
     pub call_formed : (root : ℕ → ℕ) (n : ℕ) (f : List ℕ) (args : List Argument) (trailing : Bool) → arguments.Fits in_size (args, trailing) → Text (spell_enclosed argument args trailing)
         → call_faults fields (callee_named fields memories above signatures f) scope root n args ≡ []
         → is_call F scope root (slice_get cs (number_in fields memories above signatures f)) (arguments_of fields scope (params_of (callee_named fields memories above signatures f)) args) ≡ true
     call_formed root n f args trailing fits text h = by (name_number above f) h
       where
-        abbrev callee_at : Option ℕ → Option Signature
-        callee_at o = elim o [ None ↦ None | Some k ↦ slice_get signatures k ]
         at : (k : ℕ) → option_map signature_of (slice_get cs k) ≡ slice_get signatures k
         at k = sym (slice_get-map signature_of cs k) ∙ ap (λ l. slice_get l k) signed
         by : (o : Option ℕ) → call_faults fields (callee_at o) scope root n args ≡ [] → is_call F scope root (slice_get cs (number_or no_id o)) (arguments_of fields scope (params_of (callee_at o)) args) ≡ true

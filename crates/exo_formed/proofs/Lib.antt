@@ -11,4 +11,5 @@ mod Calls
 mod Statements
 mod Procedures
 mod Entries
+mod Lexed
 mod Units

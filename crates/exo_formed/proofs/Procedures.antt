@@ -98,7 +98,7 @@ module _ (laws : Laws) (fields : List ConfigField) (F : ℕ → Option Kind) (mo
       let place : List Fault = memory_faults memories (n + 1 + dims_width (d ∷ ds)) m in
       let none = right_none (cell_faults type n) (sizes ++ place) h in
       let inner = back (type_name.spell type) (maybe_dims.spell (d ∷ ds)) text in
-      pair (controls_formed laws fields F more plainly scope (n + 2) (d ∷ ds) keeps (maybe_dims_fit (d ∷ ds) inner) (left_none sizes place none))
+      pair (controls_formed laws fields F more plainly scope (n + 2) (d ∷ ds) keeps (maybe_dims_fit (d ∷ ds) fits.1 inner) (left_none sizes place none))
       (pair (maybe_rank_formed fields scope (d ∷ ds) fits.1) (memory_formed memories M some within (n + 1 + dims_width (d ∷ ds)) m (right_none sizes place none)))
   form_formed scope keeps n (strided type []) m fits text h = absurd fits.1
   form_formed scope keeps n (strided type (d ∷ ds)) m fits text h =
@@ -107,7 +107,7 @@ module _ (laws : Laws) (fields : List ConfigField) (F : ℕ → Option Kind) (mo
       let none = right_none (cell_faults type (n + 1)) (sizes ++ place) h in
       let tail : List Token = Sign s.CloseBracket ∷ dims.spell (d ∷ ds) in
       let inner = behind (Sign s.CloseBracket) (dims.spell (d ∷ ds)) (back (type_name.spell type) tail (behind (Sign s.OpenBracket) (type_name.spell type ++ tail) text)) in
-      pair (controls_formed laws fields F more plainly scope (n + 4) (d ∷ ds) keeps (dims_fit (d ∷ ds) inner) (left_none sizes place none))
+      pair (controls_formed laws fields F more plainly scope (n + 4) (d ∷ ds) keeps (dims_fit (d ∷ ds) fits.1 inner) (left_none sizes place none))
       (pair (pair (maybe_rank_formed fields scope (d ∷ ds) fits.1) (lt-ltb 0 (length (controls_of fields scope (d ∷ ds))) (omega arith)))
       (memory_formed memories M some within (n + 3 + dims_width (d ∷ ds)) m (right_none sizes place none)))
 
@@ -151,14 +151,14 @@ module _ (laws : Laws) (fields : List ConfigField) (F : ℕ → Option Kind) (mo
 
   -- ---- assertions
 
-  assertions_formed : (scope : Scope) → KeepsIds scope → (n : ℕ) (es : List Tree) → Text (assertions.spell es) → assertions_fault fields memories scope n es ≡ None → list_all (is_condition F with_both scope) (map (condition_of fields scope) es) ≡ true
-  assertions_formed scope keeps n [] text h = refl
-  assertions_formed scope keeps n (e ∷ es) text h =
+  assertions_formed : (scope : Scope) → KeepsIds scope → (n : ℕ) (es : List Tree) → assertions.Fits in_size es → Text (assertions.spell es) → assertions_fault fields memories scope n es ≡ None → list_all (is_condition F with_both scope) (map (condition_of fields scope) es) ≡ true
+  assertions_formed scope keeps n [] fits text h = refl
+  assertions_formed scope keeps n (e ∷ es) fits text h =
       let parts = neither_broken (least (condition_faults fields with_both scope (n + 1) e)) (assertions_fault fields memories scope (n + width e + 2) es) h in
       let line : List Token = spelling e ++ (NewLine ∷ []) in
       let own = front (spelling e) (NewLine ∷ []) (behind (Word w.Assert) line (front (Word w.Assert ∷ line) (assertions.spell es) text)) in
-      pair (condition_formed laws fields F more with_both scope (n + 1) e keeps (fits_in e own) (none_of (condition_faults fields with_both scope (n + 1) e) parts.0))
-      (assertions_formed scope keeps (n + width e + 2) es (back (Word w.Assert ∷ line) (assertions.spell es) text) parts.1)
+      pair (condition_formed laws fields F more with_both scope (n + 1) e keeps (fits_in e fits.0.1.2 own) (none_of (condition_faults fields with_both scope (n + 1) e) parts.0))
+      (assertions_formed scope keeps (n + width e + 2) es fits.1 (back (Word w.Assert ∷ line) (assertions.spell es) text) parts.1)
 
   -- ---- procedures
 
@@ -197,7 +197,7 @@ module _ (laws : Laws) (fields : List ConfigField) (F : ℕ → Option Kind) (mo
             (arith, few, same, parameters_few d.params d.trailing, bound_in_few block, ap length (body_spelled d.body), length-append list close, length-append (assertions.spell d.asserts) lines, length-append (spell_all (statement 1) d.body) (Dedent ∷ [])) in
         record {
           params = known.are;
-          asserts = assertions_formed scope entered.keeps (asserts_start n d) d.asserts asserts_text inner.0;
+          asserts = assertions_formed scope entered.keeps (asserts_start n d) d.asserts fits.2 asserts_text inner.0;
           body = block_formed laws fields F more memories above M some within signatures cs signed 1 first (body_start n d) scope (λ x. x) block entered block_fits block_text inner.1;
           filled = pair (filled fields memories above signatures first scope block (body_some d.body fits.3.0.1)) (short fields memories above signatures first scope block block_text);
           ids = all_below id (first + bound_in block) (2 ^ 31) all most ids;

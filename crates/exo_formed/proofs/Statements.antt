@@ -13,7 +13,7 @@ use Rattle.exo_meaning.specs.Calls.{Callee}
 use Rattle.exo_meaning.specs.Run.{roots_after}
 use Rattle.exo_meaning.specs.Units as units
 use Rattle.exo_meaning.specs.Units.{Scope, ControlName, BufferName, sort_in, with_name, scope_after, view_sort, field_kind, plainly, with_fields, with_strides, is_rank, is_write, is_access, is_datum, is_block, is_statement}
-use Rattle.exo_reader.specs.Expression.{Tree, spelling, control}
+use Rattle.exo_reader.specs.Expression.{Tree, spelling, control, datum}
 use Rattle.exo_source.specs.Source.{Coordinate, point, span, window, Statement, pass, branch, loop, allocate, call, configure, assign, reduce, view, Block, end, next}
 use Rattle.exo_source.specs.Parts.{MaybeDimsFit, maybe_dims, type_name, maybe_memory, spell_enclosed}
 use Rattle.exo_source.specs.Statements as st
@@ -106,24 +106,24 @@ module _ (laws : Laws) (fields : List ConfigField) (F : ℕ → Option Kind) (mo
 
   -- ---- single statements
 
-  stored : (scope : Scope) (n : ℕ) (x : List ℕ) (ds : List Tree) (sign : Token) (e : Tree) → KeepsIds scope → Text (maybe_dims.spell ds ++ (sign ∷ (spelling e ++ (NewLine ∷ [])))) → store_faults fields scope n x ds e ≡ []
+  stored : (scope : Scope) (n : ℕ) (x : List ℕ) (ds : List Tree) (sign : Token) (e : Tree) → KeepsIds scope → MaybeDimsFit in_size ds → datum.Fits in_size e → Text (maybe_dims.spell ds ++ (sign ∷ (spelling e ++ (NewLine ∷ [])))) → store_faults fields scope n x ds e ≡ []
       → (is_access F scope (id_in scope x) (controls_of fields scope ds) && is_datum F scope (datum_of fields scope e)) ≡ true
-  stored scope n x ds sign e keeps text h =
+  stored scope n x ds sign e keeps dims_fits fits text h =
       let tail : List Token = spelling e ++ (NewLine ∷ []) in
       let value : Text (spelling e) = front (spelling e) (NewLine ∷ []) (behind sign tail (back (maybe_dims.spell ds) (sign ∷ tail) text)) in
       let right : List Fault = data_faults fields scope (n + 1 + dims_width ds + 1) e in
       pair
-      (target_formed laws fields F more scope n x ds keeps (maybe_dims_fit ds (front (maybe_dims.spell ds) (sign ∷ tail) text)) (left_none (target_faults fields scope n x ds) right h))
-      (datum_formed laws fields F more scope (n + 1 + dims_width ds + 1) e keeps (fits_in e value) (right_none (target_faults fields scope n x ds) right h))
+      (target_formed laws fields F more scope n x ds keeps (maybe_dims_fit ds dims_fits (front (maybe_dims.spell ds) (sign ∷ tail) text)) (left_none (target_faults fields scope n x ds) right h))
+      (datum_formed laws fields F more scope (n + 1 + dims_width ds + 1) e keeps (fits_in e fits.1.2 value) (right_none (target_faults fields scope n x ds) right h))
 
-  written : (scope : Scope) (n : ℕ) (c x : List ℕ) (e : Tree) → KeepsIds scope → Text (spelling e) → write_faults fields (field_in fields c x) scope n (n + 4) e ≡ []
+  written : (scope : Scope) (n : ℕ) (c x : List ℕ) (e : Tree) → KeepsIds scope → control.Fits in_size e → Text (spelling e) → write_faults fields (field_in fields c x) scope n (n + 4) e ≡ []
       → is_write F scope (F (field_number (field_in fields c x))) (written_of fields (field_in fields c x) scope e) ≡ true
-  written scope n c x e keeps text h = by (field_in fields c x) refl h
+  written scope n c x e keeps fits text h = by (field_in fields c x) refl h
     where
       by : (o : Option (ℕ × Kind)) → field_in fields c x ≡ o → write_faults fields o scope n (n + 4) e ≡ [] → is_write F scope (F (field_number o)) (written_of fields o scope e) ≡ true
       by None p h = absurd (fault_none _ n h)
       by (Some f) p h =
-          ap (λ k. is_write F scope k (written_of fields (Some f) scope e)) (more f.0 f.1 (field_kept fields c x f p)) ∙ kind_value_formed laws fields F more scope keeps with_strides f.1 (n + 4) e (fits_in e text) h
+          ap (λ k. is_write F scope k (written_of fields (Some f) scope e)) (more f.0 f.1 (field_kept fields c x f p)) ∙ kind_value_formed laws fields F more scope keeps with_strides f.1 (n + 4) e (fits_in e fits.1.2 text) h
 
   -- ---- statements and blocks, of this nesting
 
@@ -140,7 +140,7 @@ module _ (laws : Laws) (fields : List ConfigField) (F : ℕ → Option Kind) (mo
         let first : ℕ = n + 1 + width c + 3 in
         let parts = neither_broken (fault_of id scope root first a) (fault_of (id + bound_in a) scope root (first + block_width a + 5) b) k in
         let behind_one : Entered (id + bound_in a) scope = unchanged id (bound_in a) scope e in
-        pair (condition_formed laws fields F more with_fields scope (n + 1) c e.keeps (fits_in c (front (spelling c) tail line)) h)
+        pair (condition_formed laws fields F more with_fields scope (n + 1) c e.keeps (fits_in c fits.1.1.2 (front (spelling c) tail line)) h)
         (pair (pair (filled fields memories above signatures id scope a fits.2) (pair (short fields memories above signatures id scope a one) (short fields memories above signatures (id + bound_in a) scope b other)))
         (pair (block_formed (nesting + 1) id first scope root a e fits.3 one parts.0) (block_formed (nesting + 1) (id + bound_in a) (first + block_width a + 5) scope root b behind_one fits.4 other parts.1)))
     statement_formed nesting id n scope root (loop i low high a) e fits text h k =
@@ -157,8 +157,8 @@ module _ (laws : Laws) (fields : List ConfigField) (F : ℕ → Option Kind) (mo
         let inner : Entered (suc id) (with_name scope (binder id i) (ControlName Index)) = record { keeps = laws.scopes scope (binder id i) (ControlName Index) e.keeps new; below = (omega arith, below_up id (suc id) scope (omega arith) e.below) } in
         pair new
         (pair
-        (pair (control_formed laws fields F more plainly scope (n + 5) low e.keeps (fits_in low (front (spelling low) (Sign s.Comma ∷ last) bounds)) (left_none lows highs none))
-        (control_formed laws fields F more plainly scope (n + 5 + width low + 1) high e.keeps (fits_in high (front (spelling high) (Sign s.Close ∷ lines) upper)) (right_none lows highs none)))
+        (pair (control_formed laws fields F more plainly scope (n + 5) low e.keeps (fits_in low fits.2.1.2 (front (spelling low) (Sign s.Comma ∷ last) bounds)) (left_none lows highs none))
+        (control_formed laws fields F more plainly scope (n + 5 + width low + 1) high e.keeps (fits_in high fits.3.1.2 (front (spelling high) (Sign s.Close ∷ lines) upper)) (right_none lows highs none)))
         (pair (pair (filled fields memories above signatures (suc id) (with_name scope (binder id i) (ControlName Index)) a fits.4) (short fields memories above signatures (suc id) (with_name scope (binder id i) (ControlName Index)) a block))
         (block_formed (nesting + 1) (suc id) (n + 5 + width low + 1 + width high + 4) (with_name scope (binder id i) (ControlName Index)) root a inner fits.5 block k)))
     statement_formed nesting id n scope root (allocate x type ds m) e fits text h k =
@@ -171,7 +171,7 @@ module _ (laws : Laws) (fields : List ConfigField) (F : ℕ → Option Kind) (mo
         let new = fresh id n scope x e.below (left_none (binder_faults scope n x) (cells ++ (dims ++ place)) h) in
         let none = right_none cells (dims ++ place) (right_none (binder_faults scope n x) (cells ++ (dims ++ place)) h) in
         pair new
-        (pair (controls_formed laws fields F more plainly scope (n + 4) ds e.keeps (maybe_dims_fit ds (front (maybe_dims.spell ds) last sizes)) (left_none dims place none))
+        (pair (controls_formed laws fields F more plainly scope (n + 4) ds e.keeps (maybe_dims_fit ds fits.2 (front (maybe_dims.spell ds) last sizes)) (left_none dims place none))
         (pair (maybe_rank_formed fields scope ds fits.2) (memory_formed memories M some within (n + 3 + dims_width ds) m (right_none dims place none))))
     statement_formed nesting id n scope root (call f args trailing) e fits text h k =
         let list : List Token = spell_enclosed argument args trailing in
@@ -181,16 +181,16 @@ module _ (laws : Laws) (fields : List ConfigField) (F : ℕ → Option Kind) (mo
     statement_formed nesting id n scope root (configure c x v) e fits text h k =
         let tail : List Token = spelling v ++ (NewLine ∷ []) in
         let right = front (spelling v) (NewLine ∷ []) (behind (Sign s.Assign) tail (behind (Name x) (Sign s.Assign ∷ tail) (behind (Sign s.Dot) (Name x ∷ Sign s.Assign ∷ tail) (behind (Name c) (Sign s.Dot ∷ Name x ∷ Sign s.Assign ∷ tail) text)))) in
-        written scope n c x v e.keeps right h
-    statement_formed nesting id n scope root (assign x ds v) e fits text h k = stored scope n x ds (Sign s.Assign) v e.keeps (behind (Name x) (maybe_dims.spell ds ++ (Sign s.Assign ∷ (spelling v ++ (NewLine ∷ [])))) text) h
-    statement_formed nesting id n scope root (reduce x ds v) e fits text h k = stored scope n x ds (Sign s.Reduce) v e.keeps (behind (Name x) (maybe_dims.spell ds ++ (Sign s.Reduce ∷ (spelling v ++ (NewLine ∷ [])))) text) h
+        written scope n c x v e.keeps fits.2 right h
+    statement_formed nesting id n scope root (assign x ds v) e fits text h k = stored scope n x ds (Sign s.Assign) v e.keeps fits.1 fits.2 (behind (Name x) (maybe_dims.spell ds ++ (Sign s.Assign ∷ (spelling v ++ (NewLine ∷ [])))) text) h
+    statement_formed nesting id n scope root (reduce x ds v) e fits text h k = stored scope n x ds (Sign s.Reduce) v e.keeps fits.1 fits.2 (behind (Name x) (maybe_dims.spell ds ++ (Sign s.Reduce ∷ (spelling v ++ (NewLine ∷ [])))) text) h
     statement_formed nesting id n scope root (view x y cs) e fits text h k =
         let right : List Token = argument.spell (window y cs) in
         let tail : List Token = right ++ (NewLine ∷ []) in
         let part = front right (NewLine ∷ []) (behind (Sign s.Assign) tail (behind (Name x) (Sign s.Assign ∷ tail) text)) in
         let faults : List Fault = window_faults fields is_buffer scope (n + 2) y cs in
         pair (fresh id n scope x e.below (left_none (binder_faults scope n x) faults h))
-        (pair (window_formed laws fields F more is_buffer scope (n + 2) y cs e.keeps (λ z t. t) (window_fits y cs part) (right_none (binder_faults scope n x) faults h))
+        (pair (window_formed laws fields F more is_buffer scope (n + 2) y cs e.keeps (λ z t. t) (window_fits y cs fits.1.1 part) (right_none (binder_faults scope n x) faults h))
         (lt-ltb 0 (units.spans (coordinates_of fields scope cs)) (span_counted fields scope cs fits.1.2)))
 
     pub block_formed : (nesting id n : ℕ) (scope : Scope) (root : ℕ → ℕ) (b : Block) → Entered id scope → BlockFits in_size nesting b → Text (spelling_all b) → fault_of id scope root n b ≡ None → is_block F M (slice_get cs) scope root (trees_of id scope b) ≡ true

@@ -6,7 +6,7 @@ use Rattle.phrases.specs.Sequence.{AllFit, spell_all}
 use Rattle.exo_lexer.specs.declared.token.Token.{Token}
 use Rattle.exo_lexer.specs.declared.token.Token.TheVariants.{Name, Sign, Word, Decorator, NewLine, Indent, Dedent}
 use Rattle.exo_lexer.specs.declared.token.Sign.TheVariants as s
-use Rattle.exo_lexer.specs.declared.token.Decorator.TheVariants as d
+use Rattle.exo_lexer.specs.declared.token.Decorator.TheVariants as decorator
 use Rattle.exo_tree.specs.Tree.{Kind, ConfigField, Param, Procedure}
 use Rattle.exo_meaning.specs.Calls.{Callee}
 use Rattle.exo_meaning.specs.Run.{world_of, callee_in, kinds_of}
@@ -27,7 +27,11 @@ use Rattle.exo_types.specs.ItemRules.{field_of, definition_fault}
 use Rattle.exo_types.specs.MemoryRules.{plain_memory, with_attributes}
 use Rattle.exo_types.specs.UnitRules.{Above, nothing_above, item_name_faults, memory_names, procedure_names, signatures, procedure_here, procedure_fault, template_faults, item_width, item_fault, after_item, after_items, items_fault, unit_fault, unit_of}
 use Rattle.exo_types.specs.Laws.{SignaturesAgree}
-use Rattle.exo_formed.specs.Laws.{TypedUnitsAreFormed}
+use Rattle.exo_source.specs.Texts.{tokens_of}
+use Rattle.exo_lexer.specs.Layout.{lexed, place_of, token_of, end_place}
+use Rattle.exo_formed.specs.Small.{are_small_tokens}
+use Rattle.exo_formed.specs.Laws.{TypedUnitsAreFormed, ReadUnitsAreFormed}
+use Rattle.exo_formed.proofs.Lexed.{lexed_small}
 use Rattle.exo_formed.proofs.Unbroken.{pair, none_of, unless_none, neither_broken}
 use Rattle.exo_formed.proofs.Texts.{Text, front, back, behind}
 use Rattle.exo_formed.proofs.Leaves.{Laws}
@@ -172,7 +176,7 @@ module _ (laws : Laws) (agree : SignaturesAgree) where
       let F : List ConfigField = (after_items above (i ∷ more)).program.fields in
       let parts = neither_broken (item_fault above n i) (items_fault (after_item above i) (n + item_width i) more) h in
       let own = front (item.spell i) (unit.spell more) text in
-      let inner = behind NewLine (definition.spell def) (behind (Decorator d.Procedure) (NewLine ∷ definition.spell def) own) in
+      let inner = behind NewLine (definition.spell def) (behind (Decorator decorator.Procedure) (NewLine ∷ definition.spell def) own) in
       let l = length-append (item.spell i) (unit.spell more) in
       let g = grows above i in
       (
@@ -190,7 +194,7 @@ module _ (laws : Laws) (agree : SignaturesAgree) where
       let own = front (item.spell i) (unit.spell more) text in
       let strings : List Token = neighbours.spell template in
       let tail : List Token = Sign s.Close ∷ NewLine ∷ definition.spell def in
-      let inner = behind NewLine (definition.spell def) (behind (Sign s.Close) (NewLine ∷ definition.spell def) (back strings tail (behind (Sign s.Open) (strings ++ tail) (behind (Decorator d.Instruction) (Sign s.Open ∷ (strings ++ tail)) own)))) in
+      let inner = behind NewLine (definition.spell def) (behind (Sign s.Close) (NewLine ∷ definition.spell def) (back strings tail (behind (Sign s.Open) (strings ++ tail) (behind (Decorator decorator.Instruction) (Sign s.Open ∷ (strings ++ tail)) own)))) in
       let l = length-append (item.spell i) (unit.spell more) in
       let g = grows above i in
       (
@@ -216,7 +220,7 @@ module _ (laws : Laws) (agree : SignaturesAgree) where
       let text : Text (unit.spell items) = record { small = small; short = short } in
       let sound = sound_at_end nothing_above 0 items sound_at_first h in
       let g = grows_to_end nothing_above items in
-      let formed = procedures_formed nothing_above 0 items [] refl (omega arith) (fits in_size) text short h in
+      let formed = procedures_formed nothing_above 0 items [] refl (omega arith) (fits in_size) text (omega (arith, short)) h in
       record {
         procedures = subst (λ (ps : List Procedure). AreProcedures last.program.fields (length last.program.memories) [] ps) (sym (added_are nothing_above items)) formed;
         fields = sound.fields;
@@ -226,3 +230,9 @@ module _ (laws : Laws) (agree : SignaturesAgree) where
             pair (lt-ltb (length last.program.procedures) (2 ^ 31) (omega (arith, short, g.procedures)))
             (pair (lt-ltb (length last.program.fields) (2 ^ 31) (omega (arith, short, g.fields))) (lt-ltb (length last.program.memories) (2 ^ 31) (omega (arith, short, g.memories))));
       }
+
+  -- what is read
+  pub read_units_formed : ReadUnitsAreFormed
+  read_units_formed text items is few h =
+      let short : length (tokens_of text) ≤ 0x100000 = omega (arith, few, length-append (map place_of (lexed text)) (end_place text ∷ []), length-map (lexed text) place_of, length-map (lexed text) token_of) in
+      units_formed items is.fits (omega (arith, short, ap length is.spelled)) (ap are_small_tokens (sym is.spelled) ∙ lexed_small text) h

@@ -1,6 +1,6 @@
 //! What breaks no rule of the language is well formed, each law the contract of a function with nothing to do.
 
-ghost use Rattle.exo_formed.specs.Laws.{TypedUnitsAreFormed};
+ghost use Rattle.exo_formed.specs.Laws.{TypedUnitsAreFormed, ReadUnitsAreFormed};
 
 use exo_names::laws::{
     conditions_keep_rules, controls_keep_rules, data_keep_rules, lists_keep_rules, scopes_keep_ids,
@@ -11,6 +11,19 @@ use exo_types::laws::signatures_agree;
 /// A unit whose text is of the grammar and breaks no rule is well formed.
 pub fn typed_units_are_formed()
     ensures { TypedUnitsAreFormed }
+{
+    controls_keep_rules();
+    lists_keep_rules();
+    conditions_keep_rules();
+    data_keep_rules();
+    windows_keep_rules();
+    scopes_keep_ids();
+    signatures_agree();
+}
+
+/// So is what a text is read as.
+pub fn read_units_are_formed()
+    ensures { ReadUnitsAreFormed }
 {
     controls_keep_rules();
     lists_keep_rules();
