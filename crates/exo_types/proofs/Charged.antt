@@ -382,22 +382,22 @@ module _ (fields : List ConfigField) (hi : ℕ) where
 -- ---- types, binders, memories
 
 pub cell_within : {hi : ℕ} (type : TypeName) (n : ℕ) → n < hi → Within hi (cell_faults type n)
-cell_within type n h = by (cell_named type)
+cell_within {hi = hi} type n h = by (cell_named type)
   where
-    absent : (o : Option Kind) → Within _ (no_cell_faults o n)
+    absent : (o : Option Kind) → Within hi (no_cell_faults o n)
     absent None = one k.UnknownName n h
     absent (Some kind) = one k.KindMismatch n h
-    by : (o : Option Cell) → Within _ (elim o [ None ↦ no_cell_faults (kind_named type) n | Some cell ↦ [] ])
+    by : (o : Option Cell) → Within hi (elim o [ None ↦ no_cell_faults (kind_named type) n | Some cell ↦ [] ])
     by None = absent (kind_named type)
     by (Some cell) = none
 
 pub kind_type_within : {hi : ℕ} (type : TypeName) (n : ℕ) → n < hi → Within hi (kind_faults type n)
-kind_type_within type n h = by (kind_named type)
+kind_type_within {hi = hi} type n h = by (kind_named type)
   where
-    absent : (o : Option Cell) → Within _ (no_kind_faults o n)
+    absent : (o : Option Cell) → Within hi (no_kind_faults o n)
     absent None = one k.UnknownName n h
     absent (Some cell) = one k.KindMismatch n h
-    by : (o : Option Kind) → Within _ (elim o [ None ↦ no_kind_faults (cell_named type) n | Some kind ↦ [] ])
+    by : (o : Option Kind) → Within hi (elim o [ None ↦ no_kind_faults (cell_named type) n | Some kind ↦ [] ])
     by None = absent (cell_named type)
     by (Some kind) = none
 

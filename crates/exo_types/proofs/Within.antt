@@ -55,7 +55,7 @@ module _ (fields : List ConfigField) (hi : ℕ) where
       inner_within : (id : ℕ) (scope : Scope) (root : ℕ → ℕ) (n : ℕ) (t : Statement) → n + statement_width t ≤ hi → First hi (inner_fault fields memories above signatures id scope root n t)
       inner_within id scope root n pass h = unbroken
       inner_within id scope root n (branch c a b) h =
-          or_later (block_within id scope root (n + 1 + width c + 3) a (omega (arith, h))) (else_within (id + bound_in a) scope root (n + 1 + width c + 3 + block_width a + 1) b (omega (arith, h)))
+          or_later (block_within id scope root (n + 1 + width c + 3) a (omega (arith, h))) (else_within (id + bound_in a) scope root (n + 1 + width c + 3 + block_width a + 5) b (omega (arith, h)))
       inner_within id scope root n (loop i low high a) h = block_within (suc id) (with_name scope (binder id i) (ControlName Index)) root (n + 5 + width low + 1 + width high + 4) a (omega (arith, h))
       inner_within id scope root n (allocate x type ds m) h = unbroken
       inner_within id scope root n (call f args trailing) h = unbroken
@@ -64,19 +64,18 @@ module _ (fields : List ConfigField) (hi : ℕ) where
       inner_within id scope root n (reduce x ds e) h = unbroken
       inner_within id scope root n (view w x cs) h = unbroken
 
-      -- n is the number of the token `else`
-      else_within : (id : ℕ) (scope : Scope) (root : ℕ → ℕ) (n : ℕ) (b : Block) → n + else_width b ≤ hi → First hi (block_fault fields memories above signatures id scope root (n + 4) b)
+      -- n is the number of the first token behind the indentation, which is four behind the `else`
+      else_within : (id : ℕ) (scope : Scope) (root : ℕ → ℕ) (n : ℕ) (b : Block) → n + else_width b ≤ hi + 4 → First hi (block_fault fields memories above signatures id scope root n b)
       else_within id scope root n end h = unbroken
-      else_within id scope root n (next t more) h = more_within id scope root (n + 4) t more (omega (arith, h))
+      else_within id scope root n (next t more) h =
+          or_later (or_later (leastly (own_within scope root n t (omega (arith, h)))) (inner_within id scope root n t (omega (arith, h))))
+          (block_within (id + bound t) (scope_after (statement_of fields memories above signatures id scope t) scope) (roots_after (statement_of fields memories above signatures id scope t) root) (n + statement_width t) more (omega (arith, h)))
 
       block_within : (id : ℕ) (scope : Scope) (root : ℕ → ℕ) (n : ℕ) (b : Block) → n + block_width b ≤ hi → First hi (block_fault fields memories above signatures id scope root n b)
       block_within id scope root n end h = unbroken
-      block_within id scope root n (next t more) h = more_within id scope root n t more (omega (arith, h))
-
-      more_within : (id : ℕ) (scope : Scope) (root : ℕ → ℕ) (n : ℕ) (t : Statement) (more : Block) → n + statement_width t + block_width more ≤ hi → First hi (block_fault fields memories above signatures id scope root n (next t more))
-      more_within id scope root n t more h =
+      block_within id scope root n (next t more) h =
           or_later (or_later (leastly (own_within scope root n t (omega (arith, h)))) (inner_within id scope root n t (omega (arith, h))))
-          (block_within (id + bound t) (scope_after (statement_of fields memories above signatures id scope t) scope) (roots_after (statement_of fields memories above signatures id scope t) root) (n + statement_width t) more h)
+          (block_within (id + bound t) (scope_after (statement_of fields memories above signatures id scope t) scope) (roots_after (statement_of fields memories above signatures id scope t) root) (n + statement_width t) more (omega (arith, h)))
 
 -- ---- parameters and assertions
 
