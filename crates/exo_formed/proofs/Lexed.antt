@@ -144,20 +144,25 @@ indentation_small line column blocks =
     if_small (nat_lt (innermost blocks) column) (put (at line 1) token.Indent ∷ []) inner refl
     (if_small (nat_eq (innermost (still_open column blocks)) column) ends bad (copies_small (length blocks - length (still_open column blocks)) (put (at line 1) token.Dedent) refl) refl)
 
-begun_small : (blocks : List ℕ) (end : Place) (ps : List Placed) → Small ps → Small (begun blocks end ps).placed
-begun_small blocks end [] h = refl
-begun_small blocks end (p ∷ more) h = by (is_foreign p.token)
-  where
-    by : (b : Bool) → Small (if b then record { placed = p ∷ more; blocks = blocks; brackets = 0 } else record { placed = indentation p.place.line p.place.column blocks ++ with_end 0 end (p ∷ more); blocks = blocks_at p.place.column blocks; brackets = brackets_after 0 (p ∷ more) }).placed
-    by true = h
-    by false = also (indentation p.place.line p.place.column blocks) (with_end 0 end (p ∷ more)) (indentation_small p.place.line p.place.column blocks) (with_end_small 0 end (p ∷ more) h)
+abbrev SmallLaid : Laid → Type 0
+SmallLaid l = Small l.placed
 
-laid_small : (line : ℕ) (blocks : List ℕ) (brackets : ℕ) (bytes : List ℕ) → Small (laid line blocks brackets bytes).placed
-laid_small line blocks zero bytes = by (is_import bytes)
-  where
-    by : (b : Bool) → Small (if b then record { placed = []; blocks = blocks; brackets = 0 } else begun blocks (at line (length bytes + 1)) (line_tokens line bytes)).placed
-    by true = refl
-    by false = begun_small blocks (at line (length bytes + 1)) (line_tokens line bytes) (line_small line bytes)
+either_small : (b : Bool) (x y : Laid) → SmallLaid x → SmallLaid y → SmallLaid (if b then x else y)
+either_small true x y h k = h
+either_small false x y h k = k
+
+begun_small : (blocks : List ℕ) (end : Place) (ps : List Placed) → Small ps → SmallLaid (begun blocks end ps)
+begun_small blocks end [] h = refl
+begun_small blocks end (p ∷ more) h =
+    let cut : Laid = record { placed = p ∷ more; blocks = blocks; brackets = 0 } in
+    let whole : Laid = record { placed = indentation p.place.line p.place.column blocks ++ with_end 0 end (p ∷ more); blocks = blocks_at p.place.column blocks; brackets = brackets_after 0 (p ∷ more) } in
+    either_small (is_foreign p.token) cut whole h
+    (also (indentation p.place.line p.place.column blocks) (with_end 0 end (p ∷ more)) (indentation_small p.place.line p.place.column blocks) (with_end_small 0 end (p ∷ more) h))
+
+laid_small : (line : ℕ) (blocks : List ℕ) (brackets : ℕ) (bytes : List ℕ) → SmallLaid (laid line blocks brackets bytes)
+laid_small line blocks zero bytes =
+    let skipped : Laid = record { placed = []; blocks = blocks; brackets = 0 } in
+    either_small (is_import bytes) skipped (begun blocks (at line (length bytes + 1)) (line_tokens line bytes)) refl (begun_small blocks (at line (length bytes + 1)) (line_tokens line bytes) (line_small line bytes))
 laid_small line blocks (suc n) bytes = with_end_small (suc n) (at line (length bytes + 1)) (line_tokens line bytes) (line_small line bytes)
 
 text_end_small : (end : Place) (blocks : List ℕ) (brackets : ℕ) → Small (text_end end blocks brackets)
