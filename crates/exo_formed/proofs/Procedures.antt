@@ -1,7 +1,6 @@
 -- Procedures that break no rule keep those of a well-formed unit.
 use Rattle.std.proofs.Common.{◌≡◌, ℕ, suc, ◌+◌, ◌≤◌, ◌<◌, ◌^◌, nat_lt, Bool, true, false, not, ◌&&◌, List, [], ◌∷◌, ◌++◌, length, map, Option, Some, None, slice_get, refl, sym, ap, subst, ◌∙◌, arith, lt-ltb}
 use Rattle.std.specs.List.{list_all}
-use Rattle.std.proofs.lemmas.List.{length-append}
 use Rattle.phrases.specs.Limits.{in_size}
 use Rattle.phrases.specs.Sequence.{AllFit, spell_all}
 use Rattle.phrases.specs.Commas.{spell_more}
@@ -31,10 +30,10 @@ use Rattle.exo_types.specs.StatementRules.{bound_in, block_of, block_fault}
 use Rattle.exo_types.specs.ItemRules.{scalar_faults, form_faults, scalar_of, form_of, param_of, with_param, params_from, params_fault, parameter_width, assertions_fault, asserts_start, body_start, definition_of, definition_fault}
 use Rattle.exo_formed.proofs.Unbroken.{both, pair, none_of, left_none, right_none, neither_broken}
 use Rattle.exo_formed.proofs.Scopes.{Entered, below_up, fresh, later, nothing}
-use Rattle.exo_formed.proofs.Ids.{Ascends, up_to, then_ascend, ascending_differ, all_below}
+use Rattle.exo_formed.proofs.Ids.{Ascends, ascending_differ, all_below}
 use Rattle.exo_formed.proofs.Texts.{Text, front, back, behind, fits_in, dims_fit, maybe_dims_fit}
 use Rattle.exo_formed.proofs.Tables.{memory_formed}
-use Rattle.exo_formed.proofs.Sizes.{bound_in_few, binders_ascend, block_shallow, short, filled}
+use Rattle.exo_formed.proofs.Sizes.{body_spelled, bound_most, params_length, definition_ascends, block_shallow, short, filled}
 use Rattle.exo_formed.proofs.Leaves.{Laws, controls_formed, condition_formed}
 use Rattle.exo_formed.proofs.Statements.{maybe_rank_formed, block_formed}
 
@@ -62,19 +61,7 @@ all_parameters [] true h = absurd h
 all_parameters [] false h = tt
 all_parameters (p ∷ ps) trailing h = (h.0, h.1.0)
 
-more_few : (ps : List Parameter) (trailing : Bool) → length ps ≤ length (spell_more parameter (Sign s.Comma) ps trailing)
-more_few [] trailing = omega arith
-more_few (p ∷ ps) trailing = omega (arith, length-append (parameter.spell p) (spell_more parameter (Sign s.Comma) ps trailing), more_few ps trailing)
-
-pub parameters_few : (ps : List Parameter) (trailing : Bool) → length ps ≤ length (parameters.spell (ps, trailing))
-parameters_few [] trailing = omega arith
-parameters_few (p ∷ ps) trailing = omega (arith, length-append (parameter.spell p) (spell_more parameter (Sign s.Comma) ps trailing), more_few ps trailing)
-
 -- ---- bodies: the first block of a procedure
-
-pub body_spelled : (ts : List Statement) → spell_all (statement 1) ts ≡ spelling_all (source.block_of ts)
-body_spelled [] = refl
-body_spelled (t ∷ ts) = ap (λ l. st.spelling t ++ l) (body_spelled ts)
 
 body_fits : (ts : List Statement) → AllFit (statement 1) in_size ts → BlockFits in_size 1 (source.block_of ts)
 body_fits [] h = tt
@@ -138,17 +125,6 @@ module _ (laws : Laws) (fields : List ConfigField) (F : ℕ → Option Kind) (mo
       let rest = params_formed (suc id) (n + parameter_width p + 1) inner ps after fits.1 texts.1 parts.1 in
       record { are = pair new (pair formed rest.are); entered = later (suc id + length ps) (id + suc (length ps)) (scope_of inner (params_at (suc id) inner ps)) (omega arith) rest.entered }
 
-  params_length : (id : ℕ) (scope : Scope) (ps : List Parameter) → length (params_at id scope ps) ≡ length ps
-  params_length id scope [] = refl
-  params_length id scope (p ∷ ps) = ap suc (params_length (suc id) (with_param fields memories scope (param_at id scope p)) ps)
-
-  params_ascend : (id : ℕ) (scope : Scope) (ps : List Parameter) → Ascends id (map (λ q. q.binder.id) (params_at id scope ps)) (id + length ps)
-  params_ascend id scope [] = omega arith
-  params_ascend id scope (p ∷ ps) =
-      let inner : Scope = with_param fields memories scope (param_at id scope p) in
-      let most : suc id + length ps ≤ id + suc (length ps) = omega arith in
-      (omega arith, up_to (suc id) (suc id + length ps) (id + suc (length ps)) (map (λ q. q.binder.id) (params_at (suc id) inner ps)) most (params_ascend (suc id) inner ps))
-
   -- ---- assertions
 
   assertions_formed : (scope : Scope) → KeepsIds scope → (n : ℕ) (es : List Tree) → assertions.Fits in_size es → Text (assertions.spell es) → assertions_fault fields memories scope n es ≡ None → list_all (is_condition F with_both scope) (map (condition_of fields scope) es) ≡ true
@@ -186,22 +162,19 @@ module _ (laws : Laws) (fields : List ConfigField) (F : ℕ → Option Kind) (mo
         let parts = neither_broken (params_fault fields memories id [] (n + 3) d.params) (or_else assertions_broken body_broken) h in
         let inner = neither_broken assertions_broken body_broken parts.1 in
         let known = params_formed id (n + 3) [] d.params (nothing id) (all_parameters d.params d.trailing fits.1) (each_text d.params d.trailing (front list close head)) parts.0 in
-        let same = params_length id [] d.params in
+        let same = params_length fields memories id [] d.params in
         let entered = later (id + length d.params) first scope (omega (arith, same)) known.entered in
-        let ids : Ascends id (map (λ q. q.binder.id) params ++ binders (block_of fields memories above signatures first scope block)) (first + bound_in block) =
-            then_ascend id first (first + bound_in block) (map (λ q. q.binder.id) params) (binders (block_of fields memories above signatures first scope block))
-            (up_to id (id + length d.params) first (map (λ q. q.binder.id) params) (omega (arith, same)) (params_ascend id [] d.params)) (binders_ascend fields memories above signatures first scope block) in
+        let last : ℕ = id + length d.params + bound_in block in
         let all : List ℕ = map (λ q. q.binder.id) params ++ binders (block_of fields memories above signatures first scope block) in
-        let most : first + bound_in block ≤ 2 ^ 31 =
-            omega
-            (arith, few, same, parameters_few d.params d.trailing, bound_in_few block, ap length (body_spelled d.body), length-append list close, length-append (assertions.spell d.asserts) lines, length-append (spell_all (statement 1) d.body) (Dedent ∷ [])) in
+        let ids : Ascends id all last = definition_ascends fields memories above signatures id template d in
+        let most : last ≤ 2 ^ 31 = omega (arith, few, bound_most d) in
         record {
           params = known.are;
           asserts = assertions_formed scope entered.keeps (asserts_start n d) d.asserts fits.2 asserts_text inner.0;
           body = block_formed laws fields F more memories above M some within signatures cs signed 1 first (body_start n d) scope (λ x. x) block entered block_fits block_text inner.1;
           filled = pair (filled fields memories above signatures first scope block (body_some d.body fits.3.0.1)) (short fields memories above signatures first scope block block_text);
-          ids = all_below id (first + bound_in block) (2 ^ 31) all most ids;
-          distinct = ascending_differ id (first + bound_in block) all ids;
+          ids = all_below id last (2 ^ 31) all most ids;
+          distinct = ascending_differ id last all ids;
           paths = lt-ltb (levels (block_of fields memories above signatures first scope block)) 33 (omega (arith, block_shallow fields memories above signatures 1 first scope block (omega arith) block_fits));
           template = templated;
         }

@@ -1,20 +1,26 @@
 -- How large the trees of statements are: they bind no more names than they have tokens, hand out ids upwards, and are not deep.
-use Rattle.std.proofs.Common.{◌≡◌, ℕ, suc, ◌+◌, ◌≤◌, ◌<◌, ◌^◌, nat_lt, Bool, true, false, not, List, [], ◌∷◌, ◌++◌, length, Option, refl, ap, arith, lt-ltb, if◌then◌else◌}
+use Rattle.std.proofs.Common.{◌≡◌, ℕ, suc, ◌+◌, ◌≤◌, ◌<◌, ◌^◌, nat_lt, Bool, true, false, not, List, [], ◌∷◌, ◌++◌, length, map, Option, refl, ap, arith, lt-ltb, if◌then◌else◌}
 use Rattle.std.proofs.lemmas.List.{length-append}
 use Rattle.phrases.specs.Limits.{in_size}
+use Rattle.phrases.specs.Sequence.{spell_all}
+use Rattle.phrases.specs.Commas.{spell_more}
 use Rattle.exo_tree.specs.Tree as tree
-use Rattle.exo_tree.specs.Tree.{ConfigField, Index, statements}
+use Rattle.exo_tree.specs.Tree.{ConfigField, Index, Param, statements}
 use Rattle.exo_meaning.specs.Binders.{binders, step_binders}
-use Rattle.exo_meaning.specs.Units.{Scope, ControlName, with_name, scope_after, levels, step_levels, larger, is_empty, is_short}
+use Rattle.exo_meaning.specs.Units.{Scope, ControlName, with_name, scope_after, scope_of, bound_ids, levels, step_levels, larger, is_empty, is_short}
 use Rattle.exo_lexer.specs.declared.token.Token.{Token}
 use Rattle.exo_lexer.specs.declared.token.Token.TheVariants.{Name, Sign, Word, NewLine, Indent, Dedent}
 use Rattle.exo_lexer.specs.declared.token.Sign.TheVariants as s
 use Rattle.exo_reader.specs.Expression.{Tree, spelling}
-use Rattle.exo_source.specs.Source.{Statement, pass, branch, loop, allocate, call, configure, assign, reduce, view, Block, end, next}
+use Rattle.exo_source.specs.Source as source
+use Rattle.exo_source.specs.Source.{Parameter, Definition, Statement, pass, branch, loop, allocate, call, configure, assign, reduce, view, Block, end, next}
+use Rattle.exo_source.specs.Parts.{parameter, parameters}
+use Rattle.exo_source.specs.Items.{assertions, definition}
 use Rattle.exo_source.specs.Statements as st
-use Rattle.exo_source.specs.Statements.{indented, spelling_all, spelling_else, StatementFits, BlockFits, IsSome}
+use Rattle.exo_source.specs.Statements.{indented, spelling_all, spelling_else, StatementFits, BlockFits, IsSome, statement, body}
 use Rattle.exo_types.specs.TypeRules.{binder}
 use Rattle.exo_types.specs.ArgumentRules.{Signature}
+use Rattle.exo_types.specs.ItemRules.{param_of, with_param, params_from, definition_of}
 use Rattle.exo_types.specs.StatementRules.{bound, bound_in, statement_of, block_of}
 use Rattle.exo_formed.proofs.Texts.{Text}
 use Rattle.exo_formed.proofs.Ids.{Ascends, up_to, then_ascend}
@@ -61,6 +67,29 @@ has_token (assign x ds e) = omega arith
 has_token (reduce x ds e) = omega arith
 has_token (view w x cs) = omega arith
 
+-- parameters and bodies
+
+more_few : (ps : List Parameter) (trailing : Bool) → length ps ≤ length (spell_more parameter (Sign s.Comma) ps trailing)
+more_few [] trailing = omega arith
+more_few (p ∷ ps) trailing = omega (arith, length-append (parameter.spell p) (spell_more parameter (Sign s.Comma) ps trailing), more_few ps trailing)
+
+parameters_few : (ps : List Parameter) (trailing : Bool) → length ps ≤ length (parameters.spell (ps, trailing))
+parameters_few [] trailing = omega arith
+parameters_few (p ∷ ps) trailing = omega (arith, length-append (parameter.spell p) (spell_more parameter (Sign s.Comma) ps trailing), more_few ps trailing)
+
+pub body_spelled : (ts : List Statement) → spell_all (statement 1) ts ≡ spelling_all (source.block_of ts)
+body_spelled [] = refl
+body_spelled (t ∷ ts) = ap (λ l. st.spelling t ++ l) (body_spelled ts)
+
+-- the names that a definition binds
+pub bound_most : (d : Definition) → length d.params + bound_in (source.block_of d.body) ≤ length (definition.spell d)
+bound_most d =
+    let lines : List Token = (body 1).spell (d.body, tt) in
+    let tail : List Token = assertions.spell d.asserts ++ lines in
+    let close : List Token = Sign s.Close ∷ Sign s.Colon ∷ NewLine ∷ Indent ∷ tail in
+    omega
+    (arith, parameters_few d.params d.trailing, bound_in_few (source.block_of d.body), ap length (body_spelled d.body), length-append (parameters.spell (d.params, d.trailing)) close, length-append (assertions.spell d.asserts) lines, length-append (spell_all (statement 1) d.body) (Dedent ∷ []))
+
 -- ---- the greater of two
 
 larger_most : (m n k most : ℕ) → m + k ≤ most → n + k ≤ most → larger m n + k ≤ most
@@ -69,6 +98,20 @@ larger_most m n k most h j = by (nat_lt m n)
     by : (t : Bool) → (if t then n else m) + k ≤ most
     by true = j
     by false = h
+
+-- ---- ids of parameters
+
+module _ (fields : List ConfigField) (memories : List (List ℕ)) where
+  pub params_length : (id : ℕ) (scope : Scope) (ps : List Parameter) → length (params_from fields memories id scope ps) ≡ length ps
+  params_length id scope [] = refl
+  params_length id scope (p ∷ ps) = ap suc (params_length (suc id) (with_param fields memories scope (param_of fields memories id scope p)) ps)
+
+  params_ascend : (id : ℕ) (scope : Scope) (ps : List Parameter) → Ascends id (map (λ q. q.binder.id) (params_from fields memories id scope ps)) (id + length ps)
+  params_ascend id scope [] = omega arith
+  params_ascend id scope (p ∷ ps) =
+      let inner : Scope = with_param fields memories scope (param_of fields memories id scope p) in
+      let most : suc id + length ps ≤ id + suc (length ps) = omega arith in
+      (omega arith, up_to (suc id) (suc id + length ps) (id + suc (length ps)) (map (λ q. q.binder.id) (params_from fields memories (suc id) inner ps)) most (params_ascend (suc id) inner ps))
 
 module _ (fields : List ConfigField) (memories above : List (List ℕ)) (signatures : List Signature) where
   abbrev tree_of : ℕ → Scope → Statement → tree.Statement
@@ -123,6 +166,17 @@ module _ (fields : List ConfigField) (memories above : List (List ℕ)) (signatu
         let first : List ℕ = step_binders (tree_of id scope t) in
         let later : List ℕ = binders (trees_of (id + bound t) (scope_after (tree_of id scope t) scope) more) in
         up_to id (id + bound t + bound_in more) (id + (bound t + bound_in more)) (first ++ later) most (then_ascend id (id + bound t) (id + bound t + bound_in more) first later l r)
+
+  pub definition_ascends : (id : ℕ) (template : Option (List ℕ)) (d : Definition) → Ascends id (bound_ids (definition_of fields memories above signatures id template d)) (id + length d.params + bound_in (source.block_of d.body))
+  definition_ascends id template d =
+      let params : List Param = params_from fields memories id [] d.params in
+      let first : ℕ = id + length params in
+      let block : Block = source.block_of d.body in
+      let same = params_length fields memories id [] d.params in
+      let ids : List ℕ = map (λ q. q.binder.id) params in
+      let inner : List ℕ = binders (trees_of first (scope_of [] params) block) in
+      up_to id (first + bound_in block) (id + length d.params + bound_in block) (ids ++ inner) (omega (arith, same))
+      (then_ascend id first (first + bound_in block) ids inner (up_to id (id + length d.params) first ids (omega (arith, same)) (params_ascend fields memories id [] d.params)) (binders_ascend first (scope_of [] params) block))
 
   -- ---- depth: n is the nesting of the block
 

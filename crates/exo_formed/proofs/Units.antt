@@ -1,5 +1,6 @@
 -- A unit that breaks no rule is well formed.
-use Rattle.std.proofs.Common.{◌≡◌, ℕ, zero, suc, ◌+◌, ◌≤◌, ◌<◌, ◌^◌, nat_lt, Bool, true, false, ◌&&◌, List, [], ◌∷◌, ◌++◌, length, map, Option, Some, None, slice_get, refl, sym, ap, subst, ◌∙◌, arith, lt-ltb, append_assoc, append-nil as append_nil}
+use Rattle.std.proofs.Common.{◌≡◌, ℕ, zero, suc, ◌+◌, ◌*◌, ◌≤◌, ◌<◌, ◌^◌, nat_lt, Bool, true, false, ◌&&◌, List, [], ◌∷◌, ◌++◌, length, map, Option, Some, None, slice_get, refl, sym, ap, subst, ◌∙◌, arith, lt-ltb, append_assoc, append-nil as append_nil}
+use Rattle.std.specs.List.{list_all}
 use Rattle.std.proofs.lemmas.List.{length-append, length-map, map-append}
 use Rattle.phrases.specs.Limits.{Limits, in_size}
 use Rattle.phrases.specs.Sequence.{AllFit, spell_all}
@@ -10,7 +11,7 @@ use Rattle.exo_lexer.specs.declared.token.Decorator.TheVariants as decorator
 use Rattle.exo_tree.specs.Tree.{Kind, ConfigField, Param, Procedure}
 use Rattle.exo_meaning.specs.Calls.{Callee}
 use Rattle.exo_meaning.specs.Run.{world_of, callee_in, kinds_of}
-use Rattle.exo_meaning.specs.Units.{field_kind, is_template, IsProcedure, AreProcedures, IsUnit}
+use Rattle.exo_meaning.specs.Units.{field_kind, bound_ids, is_template, IsProcedure, AreProcedures, IsUnit}
 use Rattle.exo_source.specs.Source as source
 use Rattle.exo_source.specs.Source.{Definition, Statement, Attribute, Item, procedure, instruction, configuration, memory}
 use Rattle.exo_source.specs.Parts.{parameters}
@@ -30,13 +31,14 @@ use Rattle.exo_types.specs.Laws.{SignaturesAgree}
 use Rattle.exo_source.specs.Texts.{tokens_of}
 use Rattle.exo_lexer.specs.Layout.{lexed, place_of, token_of, end_place}
 use Rattle.exo_formed.specs.Small.{are_small_tokens}
-use Rattle.exo_formed.specs.Laws.{TypedUnitsAreFormed, ReadUnitsAreFormed}
+use Rattle.exo_formed.specs.Laws.{TypedUnitsAreFormed, ReadUnitsAreFormed, TypedUnitsAreLow}
 use Rattle.exo_formed.proofs.Lexed.{lexed_small}
 use Rattle.exo_formed.proofs.Unbroken.{pair, none_of, unless_none, neither_broken}
 use Rattle.exo_formed.proofs.Texts.{Text, front, back, behind}
+use Rattle.exo_formed.proofs.Ids.{all_below}
 use Rattle.exo_formed.proofs.Leaves.{Laws}
-use Rattle.exo_formed.proofs.Sizes.{bound_in_few}
-use Rattle.exo_formed.proofs.Procedures.{parameters_few, body_spelled, definition_formed}
+use Rattle.exo_formed.proofs.Sizes.{bound_most, definition_ascends}
+use Rattle.exo_formed.proofs.Procedures.{definition_formed}
 use Rattle.exo_formed.proofs.Entries.{Sound, sound_at_end, sound_at_first}
 
 -- ---- tables only grow
@@ -68,15 +70,6 @@ memories_at_end above (i ∷ more) = omega (arith, memories_after above i, memor
 
 -- ---- by no more than there are tokens
 
--- the names that a definition binds
-bound_most : (d : Definition) → length d.params + bound_in (source.block_of d.body) ≤ length (definition.spell d)
-bound_most d =
-    let lines : List Token = (body 1).spell (d.body, tt) in
-    let tail : List Token = assertions.spell d.asserts ++ lines in
-    let close : List Token = Sign s.Close ∷ Sign s.Colon ∷ NewLine ∷ Indent ∷ tail in
-    omega
-    (arith, parameters_few d.params d.trailing, bound_in_few (source.block_of d.body), ap length (body_spelled d.body), length-append (parameters.spell (d.params, d.trailing)) close, length-append (assertions.spell d.asserts) lines, length-append (spell_all (statement 1) d.body) (Dedent ∷ []))
-
 fields_most : (fs : List source.ConfigField) → length fs ≤ length (spell_all phrase.field fs)
 fields_most [] = omega arith
 fields_most (f ∷ fs) = omega (arith, length-append (phrase.field.spell f) (spell_all phrase.field fs), fields_most fs)
@@ -86,7 +79,7 @@ record Grows (before after : Above) (tokens : ℕ) : Type 0 where
   ids : after.next_id ≤ before.next_id + tokens
   procedures : length after.program.procedures ≤ length before.program.procedures + tokens
   fields : length after.program.fields ≤ length before.program.fields + tokens
-  memories : length after.program.memories ≤ length before.program.memories + tokens
+  memories : 2 * length after.program.memories ≤ 2 * length before.program.memories + tokens
 
 grows : (above : Above) (i : Item) → Grows above (after_item above i) (length (item.spell i))
 grows above (procedure d) = record {
@@ -146,6 +139,40 @@ added_are above (instruction template d ∷ more) =
     added_are (after_item above (instruction template d)) more ∙ append_assoc above.program.procedures (procedure_here above (Some (joined template)) d ∷ []) (added (after_item above (instruction template d)) more)
 added_are above (configuration x fs ∷ more) = added_are (after_item above (configuration x fs)) more
 added_are above (memory x settings ∷ more) = added_are (after_item above (memory x settings)) more
+
+-- ---- ids and numbers
+
+one_low : (above : Above) (template : Option (List ℕ)) (def : Definition) → above.next_id + length (definition.spell def) ≤ 0x100000 → list_all (λ x. nat_lt x (2 ^ 20)) (bound_ids (procedure_here above template def)) ≡ true
+one_low above template def few =
+    all_below above.next_id (above.next_id + length def.params + bound_in (source.block_of def.body)) (2 ^ 20) (bound_ids (procedure_here above template def)) (omega (arith, few, bound_most def))
+    (definition_ascends above.program.fields (memory_names above.program) (procedure_names above.program) (signatures above) above.next_id template def)
+
+added_low : (above : Above) (items : List Item) → above.next_id + length (unit.spell items) ≤ 0x100000 → list_all (λ p. list_all (λ x. nat_lt x (2 ^ 20)) (bound_ids p)) (added above items) ≡ true
+unfolding added
+added_low above [] few = refl
+added_low above (procedure def ∷ more) few =
+    let i : Item = procedure def in
+    let l = length-append (item.spell i) (unit.spell more) in
+    let g = grows above i in
+    pair (one_low above None def (omega (arith, few, l))) (added_low (after_item above i) more (omega (arith, few, l, g.ids)))
+added_low above (instruction template def ∷ more) few =
+    let i : Item = instruction template def in
+    let l = length-append (item.spell i) (unit.spell more) in
+    let g = grows above i in
+    pair (one_low above (Some (joined template)) def (omega (arith, few, l, length-append (neighbours.spell template) (Sign s.Close ∷ NewLine ∷ definition.spell def)))) (added_low (after_item above i) more (omega (arith, few, l, g.ids)))
+added_low above (configuration x fs ∷ more) few = added_low (after_item above (configuration x fs)) more (omega (arith, few, length-append (item.spell (configuration x fs)) (unit.spell more)))
+added_low above (memory x settings ∷ more) few = added_low (after_item above (memory x settings)) more (omega (arith, few, length-append (item.spell (memory x settings)) (unit.spell more)))
+
+pub units_low : TypedUnitsAreLow
+units_low items short =
+    let last : Above = after_items nothing_above items in
+    let g = grows_to_end nothing_above items in
+    record {
+      ids = subst (λ (ps : List Procedure). list_all (λ p. list_all (λ x. nat_lt x (2 ^ 20)) (bound_ids p)) ps ≡ true) (sym (added_are nothing_above items)) (added_low nothing_above items (omega (arith, short)));
+      procedures = omega (arith, short, g.procedures);
+      fields = omega (arith, short, g.fields);
+      memories = omega (arith, short, g.memories);
+    }
 
 module _ (laws : Laws) (agree : SignaturesAgree) where
   -- a procedure below callees of the signatures above, in a unit with fields and memories behind it too
@@ -231,8 +258,8 @@ module _ (laws : Laws) (agree : SignaturesAgree) where
             (pair (lt-ltb (length last.program.fields) (2 ^ 31) (omega (arith, short, g.fields))) (lt-ltb (length last.program.memories) (2 ^ 31) (omega (arith, short, g.memories))));
       }
 
-  -- what is read
-  pub read_units_formed : ReadUnitsAreFormed
-  read_units_formed text items is few h =
-      let short : length (tokens_of text) ≤ 0x100000 = omega (arith, few, length-append (map place_of (lexed text)) (end_place text ∷ []), length-map (lexed text) place_of, length-map (lexed text) token_of) in
-      units_formed items is.fits (omega (arith, short, ap length is.spelled)) (ap are_small_tokens (sym is.spelled) ∙ lexed_small text) h
+-- what is read
+pub read_units_formed : TypedUnitsAreFormed → ReadUnitsAreFormed
+read_units_formed formed text items is few h =
+    let short : length (tokens_of text) ≤ 0x100000 = omega (arith, few, length-append (map place_of (lexed text)) (end_place text ∷ []), length-map (lexed text) place_of, length-map (lexed text) token_of) in
+    formed items is.fits (omega (arith, short, ap length is.spelled)) (ap are_small_tokens (sym is.spelled) ∙ lexed_small text) h

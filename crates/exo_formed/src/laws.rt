@@ -1,6 +1,6 @@
 //! What breaks no rule of the language is well formed, each law the contract of a function with nothing to do.
 
-ghost use Rattle.exo_formed.specs.Laws.{TypedUnitsAreFormed, ReadUnitsAreFormed};
+ghost use Rattle.exo_formed.specs.Laws.{TypedUnitsAreFormed, ReadUnitsAreFormed, TypedUnitsAreLow};
 
 use exo_names::laws::{
     conditions_keep_rules, controls_keep_rules, data_keep_rules, lists_keep_rules, scopes_keep_ids,
@@ -25,11 +25,10 @@ pub fn typed_units_are_formed()
 pub fn read_units_are_formed()
     ensures { ReadUnitsAreFormed }
 {
-    controls_keep_rules();
-    lists_keep_rules();
-    conditions_keep_rules();
-    data_keep_rules();
-    windows_keep_rules();
-    scopes_keep_ids();
-    signatures_agree();
+    typed_units_are_formed();
 }
+
+/// The ids of a unit, and the numbers of its procedures, fields and memories, are below 2^20.
+pub fn typed_units_are_low()
+    ensures { TypedUnitsAreLow }
+{}

@@ -2,14 +2,4 @@ use Rattle.exo_formed.proofs.Units.{read_units_formed}
 use Rattle.exo_formed.proofs.laws.read_units_are_formed.Goals as goal
 
 pub returns : goal.returns
-returns c =
-    read_units_formed
-    (record {
-      controls = c.controls_keep_rules.ensures;
-      lists = c.lists_keep_rules.ensures;
-      conditions = c.conditions_keep_rules.ensures;
-      cells = c.data_keep_rules.ensures;
-      windows = c.windows_keep_rules.ensures;
-      scopes = c.scopes_keep_ids.ensures;
-    })
-    c.signatures_agree.ensures
+returns c = read_units_formed c.typed_units_are_formed.ensures
