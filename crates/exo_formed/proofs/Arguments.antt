@@ -1,25 +1,21 @@
 -- Arguments that break no rule are such as their parameters take.
-use Rattle.std.proofs.Common.{◌≡◌, ℕ, suc, ◌+◌, ◌<◌, ◌==◌, Bool, true, false, not, ◌&&◌, ◌||◌, List, [], ◌∷◌, ◌++◌, length, Option, Some, None, refl, sym, ap, ◌∙◌, arith, if◌then◌else◌}
+use Rattle.std.proofs.Common.{◌≡◌, ℕ, suc, ◌+◌, ◌<◌, ◌==◌, Bool, true, false, not, ◌||◌, List, [], ◌∷◌, ◌++◌, length, Option, Some, None, refl, ap, ◌∙◌, arith, if◌then◌else◌}
 use Rattle.std.specs.List.{list_all}
 use Rattle.std.proofs.lemmas.Bool.Decides.{Decides-eqb}
 use Rattle.std.proofs.lemmas.List.{length-map}
 use Rattle.phrases.specs.Limits.{in_size}
-use Rattle.phrases.specs.Sequence.{AllFit}
-use Rattle.exo_lexer.specs.declared.token.Token.{Token}
-use Rattle.exo_lexer.specs.declared.token.Token.TheVariants as t
-use Rattle.exo_lexer.specs.declared.token.Sign.TheVariants as s
 use Rattle.exo_tree.specs.Tree as tree
 use Rattle.exo_tree.specs.Tree.{Kind, Size, Index, Truth, Stride, Cell, ConfigField, Param, ParamKind, ControlParam, TensorParam, WindowParam}
 use Rattle.exo_meaning.specs.Units as units
 use Rattle.exo_meaning.specs.Units.{Scope, Reads, Sort, ControlName, BufferName, sort_in, field_kind, with_both, has_cell, has_rank, is_dense, is_window, is_of_kind, is_for_tensor, is_for_window, is_for, are_for}
-use Rattle.exo_reader.specs.Expression.{Tree, Trees, number, truth, variable, access, field, stride, relu, select, negative, parens, binary, end, next, spelling, Stands, HasIndex}
+use Rattle.exo_reader.specs.Expression.{Tree, Trees, number, truth, variable, access, field, stride, relu, select, negative, parens, binary, end, next, Stands, HasIndex}
 use Rattle.exo_source.specs.Source.{Coordinate, point, span, Argument, value, window}
 use Rattle.exo_source.specs.Statements.{HasSpan, argument}
 use Rattle.exo_names.specs.declared.fault.Fault.{Fault}
 use Rattle.exo_names.specs.Names.{named_in, sort_of, id_in}
-use Rattle.exo_names.specs.ExpressionRules.{is_buffer, name_faults, rank_faults, wrong_form, unknown_first, list_of, control_faults, condition_faults}
+use Rattle.exo_names.specs.ExpressionRules.{is_buffer, name_faults, rank_faults, wrong_form, unknown_first, list_of}
 use Rattle.exo_names.specs.WindowRules.{window_faults, coordinates_faults, coordinate_of, coordinates_of}
-use Rattle.exo_names.specs.Laws.{KeepsIds, fit, all_fit, coordinate_fits}
+use Rattle.exo_names.specs.Laws.{KeepsIds, fit, coordinate_fits}
 use Rattle.exo_types.specs.ArgumentRules.{spans, points, may_be_part, tensor_takes, cell_takes, whole_faults, tensor_faults, strided_faults, kind_faults, value_faults, view_faults, argument_faults, part_of, kind_value_of, value_of, argument_of}
 use Rattle.exo_formed.proofs.Unbroken.{both, pair, negated, turned, left_none, right_none, fault_none, unless_none}
 use Rattle.exo_formed.proofs.Scopes.{named_kept, buffer_kept}

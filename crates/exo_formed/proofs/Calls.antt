@@ -1,5 +1,5 @@
 -- Calls that break no rule: each argument fits its parameter, and none shares a buffer with another where the callee writes one.
-use Rattle.std.proofs.Common.{◌≡◌, ℕ, suc, ◌+◌, ◌==◌, Bool, true, false, not, ◌&&◌, ◌||◌, List, [], ◌∷◌, ◌++◌, length, map, option_map, Option, Some, None, slice_get, refl, sym, ap, subst, ◌∙◌, arith}
+use Rattle.std.proofs.Common.{◌≡◌, ℕ, ◌+◌, ◌==◌, Bool, true, false, not, ◌&&◌, ◌||◌, List, [], ◌∷◌, ◌++◌, length, map, option_map, Option, Some, None, slice_get, refl, sym, ap, subst, ◌∙◌, arith}
 use Rattle.std.specs.List.{list_any}
 use Rattle.std.proofs.lemmas.Bool.Decides.{Decides-eqb}
 use Rattle.std.proofs.lemmas.Option.{slice_get-map}
@@ -158,6 +158,7 @@ module _ (laws : Laws) (fields : List ConfigField) (F : ℕ → Option Kind) (mo
       where
         at : (k : ℕ) → option_map signature_of (slice_get cs k) ≡ slice_get signatures k
         at k = sym (slice_get-map signature_of cs k) ∙ ap (λ l. slice_get l k) signed
+
         by : (o : Option ℕ) → call_faults fields (callee_at o) scope root n args ≡ [] → is_call F scope root (slice_get cs (number_or no_id o)) (arguments_of fields scope (params_of (callee_at o)) args) ≡ true
         by None h = absurd (fault_none _ n h)
         by (Some k) h =

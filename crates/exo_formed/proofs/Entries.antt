@@ -1,5 +1,5 @@
 -- The tables of fields and memories of a unit that breaks no rule are those of a well-formed one.
-use Rattle.std.proofs.Common.{◌≡◌, ℕ, ◌+◌, Bool, true, false, not, ◌&&◌, ◌||◌, List, [], ◌∷◌, ◌++◌, length, map, Option, Some, None, refl, sym, ap, ◌∙◌, append_assoc, append-nil as append_nil, subst}
+use Rattle.std.proofs.Common.{◌≡◌, ℕ, ◌+◌, Bool, true, false, not, ◌&&◌, ◌||◌, List, [], ◌∷◌, ◌++◌, map, Option, Some, None, refl, sym, ap, ◌∙◌, append_assoc, append-nil as append_nil, subst}
 use Rattle.std.specs.List.{list_any, list_all}
 use Rattle.exo_tree.specs.Tree.{ConfigField, MemoryKind, Program}
 use Rattle.exo_meaning.specs.Units.{is_text, all_differ, same_field, is_memory}
@@ -7,14 +7,14 @@ use Rattle.exo_source.specs.Source as source
 use Rattle.exo_source.specs.Source.{Attribute, Setting, Item, procedure, instruction, configuration, memory}
 use Rattle.exo_names.specs.declared.error.TypeKind.TheVariants.{Redefined}
 use Rattle.exo_names.specs.declared.fault.Fault.{Fault}
-use Rattle.exo_names.specs.Faults.{unless, least, or_else}
+use Rattle.exo_names.specs.Faults.{unless, least}
 use Rattle.exo_types.specs.declared.attribute.Trait.{Trait}
 use Rattle.exo_types.specs.declared.attribute.Trait.TheVariants.{Ctype, Lanes, CellType, Place, MayRead, MayWrite, MayReduce, Header}
 use Rattle.exo_types.specs.TypeRules.{kind_faults}
 use Rattle.exo_types.specs.ItemRules.{field_of, fields_fault}
 use Rattle.exo_types.specs.MemoryRules.{plain_memory, trait_named, with_trait, with_attributes, attributes_fault, lanes_faults}
 use Rattle.exo_types.specs.UnitRules.{Above, nothing_above, is_given, item_name_faults, item_fault, after_item, items_fault, after_items, item_width}
-use Rattle.exo_formed.proofs.Unbroken.{both, pair, neither, nor, negated, not_true, none_of_both, no_more, all_more, none_of, left_none, right_none, unless_none, neither_broken}
+use Rattle.exo_formed.proofs.Unbroken.{both, pair, neither, nor, negated, not_true, no_more, all_more, none_of, left_none, right_none, unless_none, neither_broken}
 use Rattle.exo_formed.proofs.Scopes.{text_turned}
 
 -- ---- lists whose elements differ

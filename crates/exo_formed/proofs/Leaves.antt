@@ -3,7 +3,7 @@ use Rattle.std.proofs.Common.{◌≡◌, ℕ, suc, Bool, true, List, [], ◌∷�
 use Rattle.std.specs.List.{list_all}
 use Rattle.exo_tree.specs.Tree.{Kind, ConfigField}
 use Rattle.exo_meaning.specs.Units.{Scope, Reads, Sort, sort_in, plainly, field_kind, has_rank, is_control, are_controls, is_condition, is_access, is_datum, is_coord, is_window}
-use Rattle.exo_reader.specs.Expression.{Tree, spelling}
+use Rattle.exo_reader.specs.Expression.{Tree}
 use Rattle.exo_source.specs.Source.{Coordinate}
 use Rattle.exo_names.specs.Faults.{least}
 use Rattle.exo_names.specs.Names.{id_in}
@@ -13,7 +13,7 @@ use Rattle.exo_names.specs.WindowRules.{window_faults, coordinates_of}
 use Rattle.exo_names.specs.Laws.{KeepsIds, fit, coordinate_fits, ControlsKeepRules, ListsKeepRules, ConditionsKeepRules, DataKeepRules, WindowsKeepRules, ScopesKeepIds}
 use Rattle.exo_types.specs.ArgumentRules.{points}
 use Rattle.exo_formed.proofs.Unbroken.{both, pair}
-use Rattle.exo_formed.proofs.Texts.{Text, fits_in, points_fit}
+use Rattle.exo_formed.proofs.Texts.{points_fit}
 use Rattle.exo_formed.proofs.Wider.{control_wider, controls_wider, condition_wider, datum_wider, window_wider}
 
 -- what is known of expressions that break no rule

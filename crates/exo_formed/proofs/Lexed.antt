@@ -1,10 +1,10 @@
 -- The lexis gives no literal from 2^31 on.
-use Rattle.std.proofs.Common.{◌≡◌, ℕ, zero, suc, ◌+◌, ◌-◌, nat_lt, nat_eq, Bool, true, false, ◌&&◌, List, [], ◌∷◌, ◌++◌, map, length, replicate, bytes_eq, codes, Option, Some, None, take_while, refl, sym, ap, ◌∙◌, if◌then◌else◌}
+use Rattle.std.proofs.Common.{◌≡◌, ℕ, zero, suc, ◌+◌, ◌-◌, nat_lt, nat_eq, Bool, true, false, List, [], ◌∷◌, ◌++◌, map, length, replicate, bytes_eq, codes, Option, Some, None, take_while, refl, if◌then◌else◌}
 use Rattle.std.specs.List.{list_all}
 use Rattle.std.specs.Char.{is_ascii_digit}
 use Rattle.exo_lexer.specs.Bytes.{is_printable, is_quote, begins_name, goes_on_name}
 use Rattle.exo_lexer.specs.Quoted.{quoted}
-use Rattle.exo_lexer.specs.Piece.{word_of, decorator_of, sign_of, sign_with_equals, decimal, literal, string_ending, string_piece, word_token, name_token, name_piece, decorated, decorator_piece, digits_piece, literal_piece, lone_piece, longer_piece, sign_piece, piece_of}
+use Rattle.exo_lexer.specs.Piece.{word_of, decorator_of, sign_of, sign_with_equals, decimal, string_ending, string_piece, word_token, name_token, name_piece, decorated, decorator_piece, digits_piece, literal_piece, lone_piece, longer_piece, sign_piece, piece_of}
 use Rattle.exo_lexer.specs.Layout.{at, put, token_of, lines, tokens_in, is_fault, up_to_fault, line_tokens, is_import, innermost, still_open, blocks_at, indentation, is_foreign, brackets_after, line_end, with_end, Laid, begun, laid, text_end, layout, end_place, lexed}
 use Rattle.exo_lexer.specs.declared.place.Place.{Place}
 use Rattle.exo_lexer.specs.declared.place.Placed.{Placed}
@@ -12,14 +12,12 @@ use Rattle.exo_lexer.specs.declared.piece.Piece.{Piece}
 use Rattle.exo_lexer.specs.declared.quoted.Ending.{Ending}
 use Rattle.exo_lexer.specs.declared.quoted.Ending.TheVariants.{Closed, Unclosed, Foreign}
 use Rattle.exo_lexer.specs.declared.quoted.Quoted.{Quoted}
-use Rattle.exo_lexer.specs.declared.token.Literal.{Literal}
 use Rattle.exo_lexer.specs.declared.token.Literal.TheVariants.{Value, TooLarge}
 use Rattle.exo_lexer.specs.declared.token.Sign.{Sign}
 use Rattle.exo_lexer.specs.declared.token.Sign.TheVariants.{Any}
 use Rattle.exo_lexer.specs.declared.token.Word.{Word}
 use Rattle.exo_lexer.specs.declared.token.Decorator.{Decorator}
-use Rattle.exo_lexer.specs.declared.token.Fault.TheVariants.{Byte, Spelling, Indentation}
-use Rattle.exo_lexer.specs.declared.token.Token.{Token}
+use Rattle.exo_lexer.specs.declared.token.Fault.TheVariants.{Byte, Indentation}
 use Rattle.exo_lexer.specs.declared.token.Token.TheVariants as token
 use Rattle.exo_source.specs.Texts.{tokens_of}
 use Rattle.exo_formed.specs.Small.{is_small_token, are_small_tokens}
@@ -51,6 +49,7 @@ name_small text = by (bytes_eq text (codes "_"))
     word : (o : Option Word) → is_small_token (word_token o text) ≡ true
     word (Some w) = refl
     word None = refl
+
     by : (b : Bool) → is_small_token (if b then token.Sign Any else word_token (word_of text) text) ≡ true
     by true = refl
     by false = word (word_of text)

@@ -1,5 +1,5 @@
 -- Procedures that break no rule keep those of a well-formed unit.
-use Rattle.std.proofs.Common.{◌≡◌, ℕ, suc, ◌+◌, ◌≤◌, ◌<◌, ◌^◌, nat_lt, Bool, true, false, not, ◌&&◌, List, [], ◌∷◌, ◌++◌, length, map, Option, Some, None, slice_get, refl, sym, ap, subst, ◌∙◌, arith, lt-ltb}
+use Rattle.std.proofs.Common.{◌≡◌, ℕ, suc, ◌+◌, ◌≤◌, ◌<◌, ◌^◌, Bool, true, false, List, [], ◌∷◌, ◌++◌, length, map, Option, Some, None, slice_get, refl, subst, arith, lt-ltb}
 use Rattle.std.specs.List.{list_all}
 use Rattle.phrases.specs.Limits.{in_size}
 use Rattle.phrases.specs.Sequence.{AllFit, spell_all}
@@ -11,24 +11,23 @@ use Rattle.exo_lexer.specs.declared.token.Word.TheVariants as w
 use Rattle.exo_tree.specs.Tree.{Kind, ConfigField, Param, ParamKind}
 use Rattle.exo_meaning.specs.Calls.{Callee}
 use Rattle.exo_meaning.specs.Binders.{binders}
-use Rattle.exo_meaning.specs.Units.{Scope, with_name, scope_of, param_sort, field_kind, plainly, with_both, is_rank, is_condition, is_param_kind, are_params, bound_ids, is_template, levels, IsProcedure}
+use Rattle.exo_meaning.specs.Units.{Scope, with_name, scope_of, param_sort, field_kind, plainly, with_both, is_condition, is_param_kind, are_params, is_template, levels, IsProcedure}
 use Rattle.exo_reader.specs.Expression.{Tree, spelling}
 use Rattle.exo_source.specs.Source as source
 use Rattle.exo_source.specs.Source.{TypeName, Form, plain, strided, Parameter, Definition, Statement}
-use Rattle.exo_source.specs.Parts.{HasSome, dims, maybe_dims, type_name, maybe_memory, form, parameter, parameters, spell_enclosed}
-use Rattle.exo_source.specs.Statements as st
+use Rattle.exo_source.specs.Parts.{HasSome, dims, maybe_dims, type_name, maybe_memory, form, parameter, parameters}
 use Rattle.exo_source.specs.Statements.{spelling_all, BlockFits, IsSome, statement, body}
-use Rattle.exo_source.specs.Items.{assertion, assertions, definition}
+use Rattle.exo_source.specs.Items.{assertions, definition}
 use Rattle.exo_names.specs.declared.fault.Fault.{Fault}
 use Rattle.exo_names.specs.Faults.{least, or_else}
-use Rattle.exo_names.specs.ExpressionRules.{width, controls_faults, condition_faults}
+use Rattle.exo_names.specs.ExpressionRules.{width, closed_width, controls_faults, condition_faults}
 use Rattle.exo_names.specs.Resolved.{controls_of, condition_of}
 use Rattle.exo_names.specs.Laws.{KeepsIds}
 use Rattle.exo_types.specs.TypeRules.{kind_named, cell_faults, binder, binder_faults, memory_faults}
 use Rattle.exo_types.specs.ArgumentRules.{Signature, signature_of, dims_width}
 use Rattle.exo_types.specs.StatementRules.{bound_in, block_of, block_fault}
-use Rattle.exo_types.specs.ItemRules.{scalar_faults, form_faults, scalar_of, form_of, param_of, with_param, params_from, params_fault, parameter_width, assertions_fault, asserts_start, body_start, definition_of, definition_fault}
-use Rattle.exo_formed.proofs.Unbroken.{both, pair, none_of, left_none, right_none, neither_broken}
+use Rattle.exo_types.specs.ItemRules.{scalar_faults, form_faults, scalar_of, form_of, param_of, params_from, params_fault, parameter_width, assertions_fault, asserts_start, body_start, definition_of, definition_fault}
+use Rattle.exo_formed.proofs.Unbroken.{pair, none_of, left_none, right_none, neither_broken}
 use Rattle.exo_formed.proofs.Scopes.{Entered, below_up, fresh, later, nothing}
 use Rattle.exo_formed.proofs.Ids.{Ascends, ascending_differ, all_below}
 use Rattle.exo_formed.proofs.Texts.{Text, front, back, behind, fits_in, dims_fit, maybe_dims_fit}
@@ -90,13 +89,13 @@ module _ (laws : Laws) (fields : List ConfigField) (F : ℕ → Option Kind) (mo
   form_formed scope keeps n (strided type []) m fits text h = absurd fits.1
   form_formed scope keeps n (strided type (d ∷ ds)) m fits text h =
       let sizes : List Fault = controls_faults fields plainly scope (n + 4) (d ∷ ds) in
-      let place : List Fault = memory_faults memories (n + 3 + dims_width (d ∷ ds)) m in
+      let place : List Fault = memory_faults memories (n + 4 + closed_width (d ∷ ds)) m in
       let none = right_none (cell_faults type (n + 1)) (sizes ++ place) h in
       let tail : List Token = Sign s.CloseBracket ∷ dims.spell (d ∷ ds) in
       let inner = behind (Sign s.CloseBracket) (dims.spell (d ∷ ds)) (back (type_name.spell type) tail (behind (Sign s.OpenBracket) (type_name.spell type ++ tail) text)) in
       pair (controls_formed laws fields F more plainly scope (n + 4) (d ∷ ds) keeps (dims_fit (d ∷ ds) fits.1 inner) (left_none sizes place none))
       (pair (pair (maybe_rank_formed fields scope (d ∷ ds) fits.1) (lt-ltb 0 (length (controls_of fields scope (d ∷ ds))) (omega arith)))
-      (memory_formed memories M some within (n + 3 + dims_width (d ∷ ds)) m (right_none sizes place none)))
+      (memory_formed memories M some within (n + 4 + closed_width (d ∷ ds)) m (right_none sizes place none)))
 
   abbrev param_at : ℕ → Scope → Parameter → Param
   param_at id scope p = param_of fields memories id scope p

@@ -1,12 +1,10 @@
 -- Scopes whose ids are below the next one: a name that is not taken is new, and names are found by their ids.
-use Rattle.std.proofs.Common.{◌≡◌, ℕ, suc, ◌≤◌, ◌<◌, ◌==◌, Bool, true, false, not, ◌||◌, List, [], ◌∷◌, ◌++◌, Option, Some, None, is_some, refl, sym, ap, ◌∙◌, true≢false, arith, if◌then◌else◌}
+use Rattle.std.proofs.Common.{◌≡◌, ℕ, ◌≤◌, ◌<◌, ◌==◌, Bool, true, false, not, ◌||◌, List, [], ◌∷◌, Option, Some, None, is_some, refl, sym, ap, ◌∙◌, true≢false, arith, if◌then◌else◌}
 use Rattle.std.specs.List.{list_any}
 use Rattle.std.specs.Str.{bytes_eq}
 use Rattle.std.proofs.lemmas.Bool.Decides.{nat_tests}
 use Rattle.std.proofs.lemmas.Slice.Eq.{bytes_eq-Decides}
-use Rattle.exo_tree.specs.Tree.{Binder}
-use Rattle.exo_meaning.specs.Units.{Named, Scope, Sort, ControlName, BufferName, sort_in, is_text, is_new, with_name, has_rank}
-use Rattle.exo_names.specs.declared.fault.Fault.{Fault}
+use Rattle.exo_meaning.specs.Units.{Named, Scope, Sort, ControlName, BufferName, sort_in, is_text, is_new, has_rank}
 use Rattle.exo_names.specs.Names.{named_in, sort_of, id_of, id_in}
 use Rattle.exo_names.specs.ExpressionRules.{name_faults, rank_faults, is_buffer}
 use Rattle.exo_names.specs.Laws.{KeepsIds}

@@ -1,5 +1,5 @@
 -- How large the trees of statements are: they bind no more names than they have tokens, hand out ids upwards, and are not deep.
-use Rattle.std.proofs.Common.{◌≡◌, ℕ, suc, ◌+◌, ◌≤◌, ◌<◌, ◌^◌, nat_lt, Bool, true, false, not, List, [], ◌∷◌, ◌++◌, length, map, Option, refl, ap, arith, lt-ltb, if◌then◌else◌}
+use Rattle.std.proofs.Common.{◌≡◌, ℕ, suc, ◌+◌, ◌≤◌, ◌^◌, nat_lt, Bool, true, false, not, List, [], ◌∷◌, ◌++◌, length, map, Option, refl, ap, arith, lt-ltb, if◌then◌else◌}
 use Rattle.std.proofs.lemmas.List.{length-append}
 use Rattle.phrases.specs.Limits.{in_size}
 use Rattle.phrases.specs.Sequence.{spell_all}
@@ -9,9 +9,9 @@ use Rattle.exo_tree.specs.Tree.{ConfigField, Index, Param, statements}
 use Rattle.exo_meaning.specs.Binders.{binders, step_binders}
 use Rattle.exo_meaning.specs.Units.{Scope, ControlName, with_name, scope_after, scope_of, bound_ids, levels, step_levels, larger, is_empty, is_short}
 use Rattle.exo_lexer.specs.declared.token.Token.{Token}
-use Rattle.exo_lexer.specs.declared.token.Token.TheVariants.{Name, Sign, Word, NewLine, Indent, Dedent}
+use Rattle.exo_lexer.specs.declared.token.Token.TheVariants.{Sign, NewLine, Indent, Dedent}
 use Rattle.exo_lexer.specs.declared.token.Sign.TheVariants as s
-use Rattle.exo_reader.specs.Expression.{Tree, spelling}
+use Rattle.exo_reader.specs.Expression.{spelling}
 use Rattle.exo_source.specs.Source as source
 use Rattle.exo_source.specs.Source.{Parameter, Definition, Statement, pass, branch, loop, allocate, call, configure, assign, reduce, view, Block, end, next}
 use Rattle.exo_source.specs.Parts.{parameter, parameters}

@@ -1,7 +1,6 @@
 -- Statements and blocks that break no rule keep those of a well-formed unit.
-use Rattle.std.proofs.Common.{◌≡◌, ℕ, suc, ◌+◌, ◌≤◌, ◌<◌, ◌^◌, nat_lt, Bool, true, false, not, ◌&&◌, List, [], ◌∷◌, ◌++◌, length, map, Option, Some, None, slice_get, refl, sym, ap, ◌∙◌, arith, lt-ltb}
-use Rattle.std.specs.List.{list_all}
-use Rattle.std.proofs.lemmas.List.{length-append, length-map}
+use Rattle.std.proofs.Common.{◌≡◌, ℕ, suc, ◌+◌, ◌≤◌, ◌<◌, true, ◌&&◌, List, [], ◌∷◌, ◌++◌, length, map, Option, Some, None, slice_get, refl, ap, ◌∙◌, arith, lt-ltb}
+use Rattle.std.proofs.lemmas.List.{length-map}
 use Rattle.phrases.specs.Limits.{in_size}
 use Rattle.exo_lexer.specs.declared.token.Token.{Token}
 use Rattle.exo_lexer.specs.declared.token.Token.TheVariants.{Name, Sign, Word, NewLine, Indent, Dedent}
@@ -14,7 +13,7 @@ use Rattle.exo_meaning.specs.Run.{roots_after}
 use Rattle.exo_meaning.specs.Units as units
 use Rattle.exo_meaning.specs.Units.{Scope, ControlName, BufferName, sort_in, with_name, scope_after, view_sort, field_kind, plainly, with_fields, with_strides, is_rank, is_write, is_access, is_datum, is_block, is_statement}
 use Rattle.exo_reader.specs.Expression.{Tree, spelling, control, datum}
-use Rattle.exo_source.specs.Source.{Coordinate, point, span, window, Statement, pass, branch, loop, allocate, call, configure, assign, reduce, view, Block, end, next}
+use Rattle.exo_source.specs.Source.{window, Statement, pass, branch, loop, allocate, call, configure, assign, reduce, view, Block, end, next}
 use Rattle.exo_source.specs.Parts.{MaybeDimsFit, maybe_dims, type_name, maybe_memory, spell_enclosed}
 use Rattle.exo_source.specs.Statements as st
 use Rattle.exo_source.specs.Statements.{HasSpan, argument, indented, spelling_all, spelling_else, StatementFits, BlockFits, IsSome}
@@ -25,10 +24,10 @@ use Rattle.exo_names.specs.ExpressionRules.{width, is_buffer, control_faults, co
 use Rattle.exo_names.specs.WindowRules.{window_faults, coordinates_of}
 use Rattle.exo_names.specs.Resolved.{control_of, controls_of, datum_of, field_number}
 use Rattle.exo_names.specs.Laws.{KeepsIds}
-use Rattle.exo_types.specs.TypeRules.{binder, binder_faults, cell_faults, cell_of, memory_faults, memory_of}
+use Rattle.exo_types.specs.TypeRules.{binder, binder_faults, cell_faults, cell_of, memory_faults}
 use Rattle.exo_types.specs.ArgumentRules.{Signature, signature_of, dims_width}
 use Rattle.exo_types.specs.StatementRules.{block_width, bound, bound_in, write_faults, written_of, target_faults, store_faults, statement_of, block_of, own_faults, inner_fault, block_fault, statement_width}
-use Rattle.exo_formed.proofs.Unbroken.{both, pair, none_of, left_none, right_none, fault_none, neither_broken}
+use Rattle.exo_formed.proofs.Unbroken.{pair, none_of, left_none, right_none, fault_none, neither_broken}
 use Rattle.exo_formed.proofs.Scopes.{Entered, below_up, fresh, later}
 use Rattle.exo_formed.proofs.Texts.{Text, front, back, behind, fits_in, maybe_dims_fit, window_fits}
 use Rattle.exo_formed.proofs.Tables.{memory_formed, field_kept}

@@ -1,5 +1,5 @@
 -- What names of memories and fields are found as.
-use Rattle.std.proofs.Common.{◌≡◌, ℕ, suc, ◌+◌, ◌≤◌, ◌<◌, nat_lt, Bool, true, false, ◌&&◌, List, [], ◌∷◌, length, Option, Some, None, refl, sym, ap, ◌∙◌, arith, lt-ltb, if◌then◌else◌}
+use Rattle.std.proofs.Common.{◌≡◌, ℕ, suc, ◌+◌, ◌≤◌, ◌<◌, nat_lt, Bool, true, false, ◌&&◌, List, [], ◌∷◌, length, Option, Some, None, refl, ap, ◌∙◌, arith, lt-ltb, if◌then◌else◌}
 use Rattle.exo_tree.specs.Tree.{Kind, ConfigField}
 use Rattle.exo_meaning.specs.Units.{is_text, field_kind}
 use Rattle.exo_names.specs.Names.{number_from, name_number, field_from, field_in}

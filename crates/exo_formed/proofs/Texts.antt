@@ -1,5 +1,5 @@
 -- Parts of a text: their literals are small, and they have few tokens.
-use Rattle.std.proofs.Common.{◌≡◌, ℕ, ◌+◌, ◌≤◌, ◌^◌, nat_lt, Bool, true, false, ◌&&◌, List, [], ◌∷◌, ◌++◌, length, refl, sym, ap, ◌∙◌, arith}
+use Rattle.std.proofs.Common.{◌≡◌, ℕ, ◌≤◌, ◌^◌, nat_lt, true, false, List, [], ◌∷◌, ◌++◌, length, refl, arith}
 use Rattle.std.specs.List.{list_all}
 use Rattle.std.proofs.lemmas.List.{length-append}
 use Rattle.exo_lexer.specs.declared.token.Token.{Token}
@@ -7,7 +7,6 @@ use Rattle.exo_lexer.specs.declared.token.Token.TheVariants as t
 use Rattle.exo_lexer.specs.declared.token.Sign.TheVariants as s
 use Rattle.exo_reader.specs.Expression.{Tree, Trees, number, truth, variable, access, field, stride, relu, select, negative, parens, binary, end, next, sign, spelling, spelling_list, spelling_more}
 use Rattle.exo_reader.specs.declared.source.Operator.{Operator}
-use Rattle.exo_reader.specs.declared.source.Operator.TheVariants as o
 use Rattle.exo_reader.specs.Expression.{IsSmall, AreSmall, control}
 use Rattle.phrases.specs.Limits.{in_size}
 use Rattle.phrases.specs.Sequence.{AllFit}

@@ -1,32 +1,29 @@
 -- A unit that breaks no rule is well formed.
-use Rattle.std.proofs.Common.{◌≡◌, ℕ, zero, suc, ◌+◌, ◌*◌, ◌≤◌, ◌<◌, ◌^◌, nat_lt, Bool, true, false, ◌&&◌, List, [], ◌∷◌, ◌++◌, length, map, Option, Some, None, slice_get, refl, sym, ap, subst, ◌∙◌, arith, lt-ltb, append_assoc, append-nil as append_nil}
+use Rattle.std.proofs.Common.{◌≡◌, ℕ, zero, suc, ◌+◌, ◌*◌, ◌≤◌, ◌<◌, ◌^◌, nat_lt, true, List, [], ◌∷◌, ◌++◌, length, map, Option, Some, None, slice_get, refl, sym, ap, subst, ◌∙◌, arith, lt-ltb, append_assoc, append-nil as append_nil}
 use Rattle.std.specs.List.{list_all}
 use Rattle.std.proofs.lemmas.List.{length-append, length-map, map-append}
-use Rattle.phrases.specs.Limits.{Limits, in_size}
+use Rattle.phrases.specs.Limits.{in_size}
 use Rattle.phrases.specs.Sequence.{AllFit, spell_all}
 use Rattle.exo_lexer.specs.declared.token.Token.{Token}
-use Rattle.exo_lexer.specs.declared.token.Token.TheVariants.{Name, Sign, Word, Decorator, NewLine, Indent, Dedent}
+use Rattle.exo_lexer.specs.declared.token.Token.TheVariants.{Sign, Decorator, NewLine, Dedent}
 use Rattle.exo_lexer.specs.declared.token.Sign.TheVariants as s
 use Rattle.exo_lexer.specs.declared.token.Decorator.TheVariants as decorator
-use Rattle.exo_tree.specs.Tree.{Kind, ConfigField, Param, Procedure}
+use Rattle.exo_tree.specs.Tree.{Kind, ConfigField, Procedure}
 use Rattle.exo_meaning.specs.Calls.{Callee}
 use Rattle.exo_meaning.specs.Run.{world_of, callee_in, kinds_of}
-use Rattle.exo_meaning.specs.Units.{field_kind, bound_ids, is_template, IsProcedure, AreProcedures, IsUnit}
+use Rattle.exo_meaning.specs.Units.{field_kind, bound_ids, is_template, IsProcedure, AreProcedures}
 use Rattle.exo_source.specs.Source as source
 use Rattle.exo_source.specs.Source.{Definition, Statement, Attribute, Item, procedure, instruction, configuration, memory}
-use Rattle.exo_source.specs.Parts.{parameters}
-use Rattle.exo_source.specs.Statements as st
-use Rattle.exo_source.specs.Statements.{spelling_all, statement, body}
 use Rattle.exo_source.specs.Items as phrase
 use Rattle.exo_source.specs.Items.{joined, neighbours, assertions, definition, attribute, item, unit}
 use Rattle.exo_names.specs.declared.error.TypeKind.TheVariants.{UnknownName}
 use Rattle.exo_names.specs.declared.fault.Fault.{Fault}
-use Rattle.exo_names.specs.Faults.{least, or_else}
+use Rattle.exo_names.specs.Faults.{least}
 use Rattle.exo_types.specs.ArgumentRules.{signature_of}
 use Rattle.exo_types.specs.StatementRules.{bound_in}
 use Rattle.exo_types.specs.ItemRules.{field_of, definition_fault}
 use Rattle.exo_types.specs.MemoryRules.{plain_memory, with_attributes}
-use Rattle.exo_types.specs.UnitRules.{Above, nothing_above, item_name_faults, memory_names, procedure_names, signatures, procedure_here, procedure_fault, template_faults, item_width, item_fault, after_item, after_items, items_fault, unit_fault, unit_of}
+use Rattle.exo_types.specs.UnitRules.{Above, nothing_above, item_name_faults, memory_names, procedure_names, signatures, procedure_here, procedure_fault, template_faults, item_width, item_fault, after_item, after_items, items_fault}
 use Rattle.exo_types.specs.Laws.{SignaturesAgree}
 use Rattle.exo_source.specs.Texts.{tokens_of}
 use Rattle.exo_lexer.specs.Layout.{lexed, place_of, token_of, end_place}
@@ -39,7 +36,7 @@ use Rattle.exo_formed.proofs.Ids.{all_below}
 use Rattle.exo_formed.proofs.Leaves.{Laws}
 use Rattle.exo_formed.proofs.Sizes.{bound_most, definition_ascends}
 use Rattle.exo_formed.proofs.Procedures.{definition_formed}
-use Rattle.exo_formed.proofs.Entries.{Sound, sound_at_end, sound_at_first}
+use Rattle.exo_formed.proofs.Entries.{sound_at_end, sound_at_first}
 
 -- ---- tables only grow
 
@@ -205,8 +202,7 @@ module _ (laws : Laws) (agree : SignaturesAgree) where
       let own = front (item.spell i) (unit.spell more) text in
       let inner = behind NewLine (definition.spell def) (behind (Decorator decorator.Procedure) (NewLine ∷ definition.spell def) own) in
       let l = length-append (item.spell i) (unit.spell more) in
-      let g = grows above i in
-      (
+      let g = grows above i in (
         one_formed above F (length (after_items above (i ∷ more)).program.memories) cs (kind_at_end above (i ∷ more)) some (memories_at_end above (i ∷ more)) signed (n + 2) None def fits.0 inner (omega (arith, few, l)) parts.0 refl,
         procedures_formed (after_item above i) (n + item_width i) more (cs ++ callee_in (world_of (kinds_of F) cs) p ∷ []) (signed_on above (kinds_of F) cs p signed) some fits.1 (back (item.spell i) (unit.spell more) text) (omega (arith, few, l, g.ids)) parts.1,
       )
@@ -223,8 +219,7 @@ module _ (laws : Laws) (agree : SignaturesAgree) where
       let tail : List Token = Sign s.Close ∷ NewLine ∷ definition.spell def in
       let inner = behind NewLine (definition.spell def) (behind (Sign s.Close) (NewLine ∷ definition.spell def) (back strings tail (behind (Sign s.Open) (strings ++ tail) (behind (Decorator decorator.Instruction) (Sign s.Open ∷ (strings ++ tail)) own)))) in
       let l = length-append (item.spell i) (unit.spell more) in
-      let g = grows above i in
-      (
+      let g = grows above i in (
         one_formed above F (length (after_items above (i ∷ more)).program.memories) cs (kind_at_end above (i ∷ more)) some (memories_at_end above (i ∷ more)) signed (n + 2 + length template + 2) (Some (joined template)) def fits.0.1 inner (omega (arith, few, l, length-append strings tail)) own_parts.1 templated,
         procedures_formed (after_item above i) (n + item_width i) more (cs ++ callee_in (world_of (kinds_of F) cs) p ∷ []) (signed_on above (kinds_of F) cs p signed) some fits.1 (back (item.spell i) (unit.spell more) text) (omega (arith, few, l, g.ids)) parts.1,
       )

@@ -1,5 +1,5 @@
 -- What keeps the rules where some fields are known keeps them where these are known and more.
-use Rattle.std.proofs.Common.{◌≡◌, ℕ, Bool, true, false, List, [], ◌∷◌, length, Option, Some, None, refl, sym, ap, ◌∙◌, true≢false}
+use Rattle.std.proofs.Common.{◌≡◌, ℕ, true, List, [], ◌∷◌, length, Option, Some, None, refl, sym, ap, ◌∙◌, true≢false}
 use Rattle.std.specs.List.{list_all}
 use Rattle.exo_tree.specs.Tree.{Kind, Control, Lit, Var, Field, StrideOf, Neg, Add, Sub, Mul, Div, Mod, Condition, True, False, Flag, FieldFlag, Lt, Le, Gt, Ge, Eq, And, Or, Datum, Const, Read, Negated, Relu, Plus, Minus, Times, Select, Coord, At, Span}
 use Rattle.exo_meaning.specs.Units.{Scope, Reads, sort_in, plainly, has_rank, is_of_literals, is_number_field, is_flag_field, is_literal_number, is_control, are_controls, is_condition, is_access, is_datum, is_coord, is_window}

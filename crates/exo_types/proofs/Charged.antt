@@ -1,6 +1,6 @@
 -- Each rule that expressions, windows, arguments, types and binders break is charged at a token of theirs. No grammar is needed
 -- for that.
-use Rattle.std.proofs.Common.{◌≡◌, ℕ, suc, ◌+◌, ◌≤◌, ◌<◌, ◌==◌, Bool, true, false, not, ◌&&◌, ◌||◌, List, [], ◌∷◌, ◌++◌, length, Option, Some, None, refl, ap, arith, if◌then◌else◌}
+use Rattle.std.proofs.Common.{◌≡◌, ℕ, suc, ◌+◌, ◌≤◌, ◌<◌, ◌==◌, Bool, true, false, not, ◌&&◌, List, [], ◌∷◌, ◌++◌, length, Option, Some, None, refl, ap, arith, if◌then◌else◌}
 use Rattle.std.proofs.lemmas.List.{length-append}
 use Rattle.exo_tree.specs.Tree.{Kind, Cell, ConfigField, Param, ParamKind, ControlParam, TensorParam, WindowParam}
 use Rattle.exo_meaning.specs.Units.{Sort, ControlName, BufferName, Scope, Reads, plainly, with_both, is_truth, is_number, is_flag, has_cell, root_of, field_kind}
@@ -72,6 +72,7 @@ earlier_within hi a (Some b) h j = record { before = λ f e. by f (is_before b a
   where
     ap_token : (x y : Fault) → x ≡ y → x.token < hi → y.token < hi
     ap_token x y same l = omega (arith, ap (λ z. z.token) same, l)
+
     by : (f : Fault) (t : Bool) → (if t then Some b else Some a) ≡ Some f → f.token < hi
     by f true e = j.before f e
     by f false e = let same : a ≡ f = cc in ap_token a f same h
@@ -387,6 +388,7 @@ cell_within {hi = hi} type n h = by (cell_named type)
     absent : (o : Option Kind) → Within hi (no_cell_faults o n)
     absent None = one k.UnknownName n h
     absent (Some kind) = one k.KindMismatch n h
+
     by : (o : Option Cell) → Within hi (elim o [ None ↦ no_cell_faults (kind_named type) n | Some cell ↦ [] ])
     by None = absent (kind_named type)
     by (Some cell) = none
@@ -397,6 +399,7 @@ kind_type_within {hi = hi} type n h = by (kind_named type)
     absent : (o : Option Cell) → Within hi (no_kind_faults o n)
     absent None = one k.UnknownName n h
     absent (Some cell) = one k.KindMismatch n h
+
     by : (o : Option Kind) → Within hi (elim o [ None ↦ no_kind_faults (cell_named type) n | Some kind ↦ [] ])
     by None = absent (cell_named type)
     by (Some kind) = none
