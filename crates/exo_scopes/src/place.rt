@@ -1,0 +1,85 @@
+//! The strings of a schedule as trees, with their names resolved at a place.
+ghost use Rattle.std.specs.Prelude.{◌≡◌, MatchResult, map};
+ghost use Rattle.exo_tree.specs.PlainUnit.{program};
+ghost use Rattle.exo_meaning.specs.Units.{IsUnit};
+ghost use Rattle.exo_reader.specs.Views.{tree_of};
+ghost use Rattle.exo_source.specs.Views.{plain_coordinate};
+ghost use Rattle.exo_names.specs.Names.{id_in};
+ghost use Rattle.exo_names.specs.WindowRules.{coordinates_of};
+ghost use Rattle.exo_names.specs.Arguments.{IsTaken, IsRefused};
+ghost use Rattle.exo_scopes.specs.PlaceScope as place;
+ghost use Rattle.exo_scopes.specs.Resolved.{IsControlAt, IsConditionAt, are_of_form, are_known};
+
+use crate::tables::table_of;
+use crate::walk::scope_at;
+use exo_names::argument::{ArgError, condition_argument, control_argument, window_argument};
+use exo_names::tested::Names;
+use exo_reader::source::SourceExpr;
+use exo_source::source::SourceWindow;
+use exo_tree::{Cond, Coords, Ctrl, Id, Path, ProcId, Unit};
+use std::alloc::Global;
+
+/// The control value of a string at a place: before the statement at the path, or with `after` behind it; at the empty path
+/// only the parameters are in scope. A name that is not in scope stands for the id 4294967295. `NotOfForm` where the string
+/// is of no control value's form, else `UnknownName` where a field in it is none of the unit.
+pub fn ctrl_at(
+    alloc: Global,
+    unit: &Unit,
+    p: ProcId,
+    path: &Path,
+    after: bool,
+    e: &SourceExpr,
+) -> Result<Ctrl, ArgError>
+    requires { IsUnit (program unit.now) }
+    ensures { IsControlAt (program unit.now) p.0 path.now after (tree_of e.now) result }
+{
+    let fields = table_of(alloc, &unit.fields)?;
+    let scope = scope_at(alloc, unit, p, path, after)?;
+    let names = Names {
+        fields: &fields,
+        scope: &scope,
+    };
+    control_argument(alloc, &names, e)
+}
+
+/// The condition of a string at a place, as `ctrl_at` does it.
+pub fn cond_at(
+    alloc: Global,
+    unit: &Unit,
+    p: ProcId,
+    path: &Path,
+    after: bool,
+    e: &SourceExpr,
+) -> Result<Cond, ArgError>
+    requires { IsUnit (program unit.now) }
+    ensures { IsConditionAt (program unit.now) p.0 path.now after (tree_of e.now) result }
+{
+    let fields = table_of(alloc, &unit.fields)?;
+    let scope = scope_at(alloc, unit, p, path, after)?;
+    let names = Names {
+        fields: &fields,
+        scope: &scope,
+    };
+    condition_argument(alloc, &names, e)
+}
+
+/// The buffer or view and the coordinates of a window in a string at a place, as `ctrl_at` does it.
+pub fn window_at(
+    alloc: Global,
+    unit: &Unit,
+    p: ProcId,
+    path: &Path,
+    after: bool,
+    w: &SourceWindow,
+) -> Result<(Id, Coords), ArgError>
+    requires { IsUnit (program unit.now) }
+    ensures { MatchResult result (λ t. IsTaken (are_of_form (map plain_coordinate w.now.coords.items)) (are_known (program unit.now) (map plain_coordinate w.now.coords.items)) × (t.0.0 ≡ id_in (place.scope_at (program unit.now) p.0 path.now after) w.now.name) × (t.1 ≡ coordinates_of (program unit.now).fields (place.scope_at (program unit.now) p.0 path.now after) (map plain_coordinate w.now.coords.items))) (λ r. IsRefused (are_of_form (map plain_coordinate w.now.coords.items)) (are_known (program unit.now) (map plain_coordinate w.now.coords.items)) r) }
+{
+    let fields = table_of(alloc, &unit.fields)?;
+    let scope = scope_at(alloc, unit, p, path, after)?;
+    let names = Names {
+        fields: &fields,
+        scope: &scope,
+    };
+    window_argument(alloc, &names, w.name.as_str(), w.coords.as_slice())
+}
