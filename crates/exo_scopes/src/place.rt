@@ -13,11 +13,21 @@ ghost use Rattle.exo_scopes.specs.Resolved.{IsControlAt, IsConditionAt, are_of_f
 use crate::tables::table_of;
 use crate::walk::scope_at;
 use exo_names::argument::{ArgError, condition_argument, control_argument, window_argument};
+use exo_names::scope::Scope;
+use exo_names::table::FieldTable;
 use exo_names::tested::Names;
 use exo_reader::source::SourceExpr;
 use exo_source::source::SourceWindow;
 use exo_tree::{Cond, Coords, Ctrl, Id, Path, ProcId, Unit};
 use std::alloc::Global;
+
+/// What names stand for at a place.
+fn names_of<'n>(fields: &'n FieldTable, scope: &'n Scope) -> Names<'n>
+    ensures fields { result.fields.now ≡ fields.now }
+    ensures scope { result.scope.now ≡ scope.now }
+{
+    Names { fields, scope }
+}
 
 /// The control value of a string at a place: before the statement at the path, or with `after` behind it; at the empty path
 /// only the parameters are in scope. A name that is not in scope stands for the id 4294967295. `NotOfForm` where the string
@@ -35,10 +45,7 @@ pub fn ctrl_at(
 {
     let fields = table_of(alloc, &unit.fields)?;
     let scope = scope_at(alloc, unit, p, path, after)?;
-    let names = Names {
-        fields: &fields,
-        scope: &scope,
-    };
+    let names = names_of(&fields, &scope);
     control_argument(alloc, &names, e)
 }
 
@@ -56,10 +63,7 @@ pub fn cond_at(
 {
     let fields = table_of(alloc, &unit.fields)?;
     let scope = scope_at(alloc, unit, p, path, after)?;
-    let names = Names {
-        fields: &fields,
-        scope: &scope,
-    };
+    let names = names_of(&fields, &scope);
     condition_argument(alloc, &names, e)
 }
 
@@ -77,9 +81,6 @@ pub fn window_at(
 {
     let fields = table_of(alloc, &unit.fields)?;
     let scope = scope_at(alloc, unit, p, path, after)?;
-    let names = Names {
-        fields: &fields,
-        scope: &scope,
-    };
+    let names = names_of(&fields, &scope);
     window_argument(alloc, &names, w.name.as_str(), w.coords.as_slice())
 }
