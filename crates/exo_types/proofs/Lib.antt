@@ -5,6 +5,10 @@ pub mod Gone
 pub mod Calls
 pub mod Attributes
 pub mod Numbers
+pub mod Spelled
+pub mod Writes
+pub mod Charged
+pub mod Within
 pub mod Forms
 pub mod Broken
 pub mod Falling
@@ -18,13 +22,9 @@ pub mod Signatures
 pub mod Holes
 pub mod Defining
 pub mod Named
-pub mod Writes
 pub mod Added
 pub mod Items
 pub mod Fielded
-pub mod Spelled
-pub mod Charged
-pub mod Within
 pub mod Params
 pub mod Declared
 pub mod Checked

@@ -1,17 +1,16 @@
 -- How many tokens the phrases of a unit have: each is spelled by as many as its width says.
-use Rattle.std.proofs.Common.{◌≡◌, ℕ, suc, ◌+◌, ◌*◌, List, [], ◌∷◌, ◌++◌, length, Option, Some, None, Bool, true, false, refl, sym, ap, ◌∙◌, append_assoc, arith}
+use Rattle.std.proofs.Common.{◌≡◌, ℕ, suc, ◌+◌, ◌*◌, List, [], ◌∷◌, ◌++◌, length, Option, Some, None, Bool, true, false, refl, ap, arith}
 use Rattle.std.proofs.lemmas.List.{length-append}
 use Rattle.phrases.specs.Limits.{Limits, unlimited}
-use Rattle.phrases.specs.Sequence.{AllFit, spell_all, carried}
+use Rattle.phrases.specs.Sequence.{AllFit, spell_all}
 use Rattle.phrases.specs.Commas.{spell_more, spell_listing}
 use Rattle.exo_lexer.specs.declared.token.Token.{Token}
-use Rattle.exo_lexer.specs.declared.token.Token.TheVariants.{Name, Str, Sign, Word, NewLine, Indent, Dedent}
+use Rattle.exo_lexer.specs.declared.token.Token.TheVariants.{Sign, NewLine, Indent, Dedent}
 use Rattle.exo_lexer.specs.declared.token.Sign.TheVariants as s
-use Rattle.exo_lexer.specs.declared.token.Word.TheVariants as w
 use Rattle.exo_reader.specs.Expression.{Tree, spelling, control}
 use Rattle.exo_source.specs.Source as source
 use Rattle.exo_source.specs.Source.{Coordinate, point, span, Argument, value, window, TypeName, named, Form, plain, strided, Parameter, Definition, Statement, pass, branch, loop, allocate, call, configure, assign, reduce, view, Block, end, next, block_of, Setting, strings, int, yes, no, Attribute, Item, procedure, instruction, configuration, memory}
-use Rattle.exo_source.specs.Parts.{HasSome, EnclosedFit, spell_enclosed, dims, maybe_dims, type_name, maybe_memory, form, parameter, parameters}
+use Rattle.exo_source.specs.Parts.{spell_enclosed, dims, maybe_dims, type_name, maybe_memory, form, parameter, parameters}
 use Rattle.exo_source.specs.Statements as st
 use Rattle.exo_source.specs.Statements.{HasSpan, coordinate, coordinates, argument, arguments, indented, spelling_all, spelling_else, StatementFits, BlockFits, statement, body}
 use Rattle.exo_source.specs.Items as phrase
@@ -22,7 +21,7 @@ use Rattle.exo_types.specs.TypeRules.{memory_width}
 use Rattle.exo_types.specs.ArgumentRules.{dims_width, argument_width, spaced_width, arguments_width, comma_width}
 use Rattle.exo_types.specs.StatementRules.{statement_width, block_width, else_width}
 use Rattle.exo_types.specs.ItemRules.{form_width, parameter_width, spaced_params, params_width, asserts_width, definition_end}
-use Rattle.exo_types.specs.MemoryRules.{setting_width, attribute_width, attributes_width}
+use Rattle.exo_types.specs.MemoryRules.{setting_width, attributes_width}
 use Rattle.exo_types.specs.UnitRules.{item_width, items_width}
 
 -- ---- expressions

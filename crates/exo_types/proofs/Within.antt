@@ -1,5 +1,5 @@
 -- The first rule that a unit breaks is charged at a token of the unit. No grammar is needed for that.
-use Rattle.std.proofs.Common.{◌≡◌, ℕ, suc, ◌+◌, ◌*◌, ◌≤◌, ◌<◌, Bool, true, false, not, List, [], ◌∷◌, ◌++◌, length, Option, Some, None, refl, ap, arith}
+use Rattle.std.proofs.Common.{◌≡◌, ℕ, suc, ◌+◌, ◌*◌, ◌≤◌, ◌<◌, not, List, [], ◌∷◌, ◌++◌, length, Option, Some, None, arith}
 use Rattle.std.specs.List.{list_any}
 use Rattle.exo_tree.specs.Tree.{Kind, Index, ConfigField, MemoryKind}
 use Rattle.exo_meaning.specs.Units.{Scope, ControlName, plainly, with_fields, with_strides, with_both, with_name, scope_of, scope_after, is_template, is_memory, is_text, same_field}
@@ -10,18 +10,16 @@ use Rattle.exo_source.specs.Source.{TypeName, Form, plain, strided, Parameter, D
 use Rattle.exo_source.specs.Items.{joined}
 use Rattle.exo_names.specs.declared.error.TypeKind.TheVariants as k
 use Rattle.exo_names.specs.declared.fault.Fault.{Fault}
-use Rattle.exo_names.specs.Faults.{least, or_else}
 use Rattle.exo_names.specs.Names.{field_in}
-use Rattle.exo_names.specs.ExpressionRules.{width, is_buffer, closed_width, commas_width}
-use Rattle.exo_names.specs.WindowRules.{coordinates_width}
+use Rattle.exo_names.specs.ExpressionRules.{width, is_buffer, closed_width}
 use Rattle.exo_types.specs.declared.attribute.Trait.{Trait}
 use Rattle.exo_types.specs.TypeRules.{kind_named, memory_width, binder}
-use Rattle.exo_types.specs.ArgumentRules.{Signature, dims_width, points, comma_width, arguments_width}
+use Rattle.exo_types.specs.ArgumentRules.{Signature, dims_width, points}
 use Rattle.exo_types.specs.StatementRules.{statement_width, block_width, else_width, bound, bound_in, write_faults, store_faults, callee_named, statement_of, own_faults, inner_fault, block_fault}
 use Rattle.exo_types.specs.ItemRules.{form_width, parameter_width, spaced_params, params_width, asserts_width, asserts_start, body_start, definition_end, no_memory_faults, scalar_faults, form_faults, param_of, with_param, params_from, params_fault, assertions_fault, definition_fault, field_of, fields_fault}
-use Rattle.exo_types.specs.MemoryRules.{setting_width, attribute_width, attributes_width, trait_named, has_form, trait_faults, attribute_faults, attributes_fault, lanes_faults, plain_memory, with_attributes}
-use Rattle.exo_types.specs.UnitRules.{Above, nothing_above, is_given, item_name_faults, memory_names, procedure_names, signatures, procedure_here, procedure_fault, template_faults, item_width, items_width, item_fault, after_item, items_fault, unit_fault}
-use Rattle.exo_types.proofs.Charged.{Within, First, none, one, also, tested, leastly, or_later, sooner, unbroken, some_width, commas_most, commas_of_dims, points_width, control_within, controls_within, condition_within, data_within, window_within, kind_within, call_within, cell_within, kind_type_within, binder_within, memory_within}
+use Rattle.exo_types.specs.MemoryRules.{attribute_width, attributes_width, trait_named, has_form, trait_faults, attributes_fault, lanes_faults, plain_memory, with_attributes}
+use Rattle.exo_types.specs.UnitRules.{Above, nothing_above, is_given, item_name_faults, memory_names, procedure_names, signatures, procedure_here, procedure_fault, item_width, items_width, item_fault, after_item, items_fault, unit_fault}
+use Rattle.exo_types.proofs.Charged.{Within, First, none, one, also, tested, leastly, or_later, unbroken, some_width, commas_most, commas_of_dims, points_width, control_within, controls_within, condition_within, data_within, window_within, kind_within, call_within, cell_within, kind_type_within, binder_within, memory_within}
 
 -- ---- statements
 

@@ -1,9 +1,9 @@
 -- What a procedure writes depends on those above it by their parameters and what each of these writes alone; so tables of
 -- procedures and rows say it.
-use Rattle.std.proofs.Common.{◌≡◌, ℕ, zero, suc, ◌||◌, Bool, true, false, List, [], ◌∷◌, map, Option, Some, None, slice_get, option_map, refl, sym, ap, ◌∙◌}
+use Rattle.std.proofs.Common.{◌≡◌, ℕ, zero, suc, ◌||◌, Bool, false, List, [], ◌∷◌, map, Option, Some, None, slice_get, option_map, refl, sym, ap, ◌∙◌}
 use Rattle.exo_tree.specs.Tree.{Kind, Index, Argument, Procedure, Statement, Assign, Reduce, Config, Pass, If, For, Alloc, View, Call, Block, end, next}
 use Rattle.exo_meaning.specs.Calls.{Callee}
-use Rattle.exo_meaning.specs.Run.{World, world_of, callee_in, roots_after, call_writes, call_to_writes, writes, step_writes}
+use Rattle.exo_meaning.specs.Run.{world_of, callee_in, roots_after, call_writes, call_to_writes, writes, step_writes}
 use Rattle.exo_writes.specs.Written.{callees_by, world_by, block_marks}
 use Rattle.exo_types.specs.ArgumentRules.{Signature, signature_of}
 

@@ -6,6 +6,7 @@ pub mod attribute;
 pub mod call;
 pub mod context;
 pub mod definition;
+pub mod laws;
 pub mod part;
 pub mod refusal;
 pub mod statement;
