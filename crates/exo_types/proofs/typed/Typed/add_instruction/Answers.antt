@@ -1,4 +1,4 @@
-use Rattle.std.proofs.Common.{◌≡◌, ℕ, ◌+◌, List, Some, None, map, ap, sym, subst, ◌∙◌, arith}
+use Rattle.std.proofs.Common.{◌≡◌, ℕ, ◌+◌, [], List, Some, None, map, ap, sym, subst, ◌∙◌, arith}
 use Rattle.exo_source.specs.Source.{Parameter}
 use Rattle.exo_source.specs.Items.{joined}
 use Rattle.exo_source.specs.Views.{plain_parameter, plain_definition}

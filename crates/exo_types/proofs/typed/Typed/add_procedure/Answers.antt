@@ -1,5 +1,6 @@
 use Rattle.std.proofs.Common.{◌≡◌, ℕ, ◌+◌, List, None, ap, sym, refl, subst, ◌∙◌, arith}
 use Rattle.exo_source.specs.Views.{plain_definition}
+use Rattle.exo_tree.specs.declared.lines.ProcLines.{ProcLines}
 use Rattle.exo_tree.specs.PlainProcedure as plain
 use Rattle.exo_names.specs.Faults.{least}
 use Rattle.exo_names.specs.Names.{name_number}
@@ -30,10 +31,11 @@ pub returns : goal.returns
 returns c = λ above s.
     let t = c.args.self.now in
     let made = c.in_ok-made.made in
-    procedure_added t c.push_procedure.new.self _ above c.args.places.now c.args.template c.args.n (plain_definition c.args.definition.now) made c.in_ok-row.row _ _ c.requires.agrees c.requires.few s
+    let lines : ProcLines = record { def = c.line_of.result; statements = made.lines } in
+    procedure_added t c.push_procedure.new.self _ above c.args.places.now c.args.template c.args.n (plain_definition c.args.definition.now) made c.in_ok-row.row lines _ c.requires.agrees c.requires.few s
     (kept_none _ _ c.name_charge.ensures c.in_ok-keep.ensures)
     (c.in_ok-made.ensures above s)
     c.in_ok-row.ensures
     (ap (λ k. record { def = k; statements = made.lines }) c.line_of.ensures)
-    (subst (λ (y : List ℕ). IsPushed t c.push_procedure.new.self y (plain.procedure made.procedure) c.in_ok-row.row _) c.as_str.ensures c.in_ok-push_procedure.ensures)
+    (subst (λ (y : List ℕ). IsPushed t c.push_procedure.new.self y (plain.procedure made.procedure) c.in_ok-row.row lines) c.as_str.ensures c.in_ok-push_procedure.ensures)
     refl refl refl refl refl refl refl refl

@@ -1,4 +1,6 @@
-use Rattle.std.proofs.Common.{refl}
+use Rattle.std.proofs.Common.{ap, refl}
+use Rattle.exo_writes.specs.Written.{rows_say}
+use Rattle.exo_types.specs.Walks.{signatures_by}
 use Rattle.exo_source.specs.Views.{plain_definition}
 use Rattle.exo_types.proofs.Added.{here}
 use Rattle.exo_types.proofs.Procedures.{few_memories, few_procedures}
@@ -18,4 +20,4 @@ definition_of-requires c =
 pub returns : goal.returns
 returns c = λ above s.
     here c.args.self.now above c.requires.agrees s _ c.args.places.now c.args.template c.args.n (plain_definition c.args.definition.now) _ c.definition_of.ensures
-    (record { all_places = refl; fields = refl; memories = refl; procedures = refl; signatures = refl })
+    (record { all_places = refl; fields = refl; memories = refl; procedures = refl; signatures = ap (λ r. signatures_by c.args.self.now.unit.procs (rows_say r)) c.deref.ensures.value })
