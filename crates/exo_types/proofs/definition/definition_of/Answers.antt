@@ -44,7 +44,7 @@ returns-in_err-body c =
     let start : c.in_ok-params.closed + c.comma_width.result + 3 ≡ asserts_start n d = λ i. closed i + c.comma_width.ensures i + 3 in
     let asserts = subst (λ (l : List SourceExpr). AreAsserts context walk.scope (c.in_ok-params.closed + c.comma_width.result + 3) c.in_ok-asserts.asserts (map tree_of l)) c.deref-2.ensures.value c.in_ok-asserts.ensures.made in
     let middle : c.in_ok-asserts.middle ≡ body_start n d = c.in_ok-asserts.ensures.end ∙ (λ i. start i + asserts_width (map tree_of (c.deref-2.ensures.value i))) in
-    let refused = subst (λ (l : List SourceStmt). Refuses c.in_err-body.field-0 (block_fault context walk c.in_ok-asserts.middle (block_of (map plain_statement l)))) c.deref-3.ensures.value c.in_err-body.ensures.made in
+    let refused = subst (λ (l : List SourceStmt). Refuses c.in_err-body.field-0.0 (block_fault context walk c.in_ok-asserts.middle (block_of (map plain_statement l)))) c.deref-3.ensures.value c.in_err-body.ensures.made in
     exit _ _ _ _ c.from_residual-in_err-body.ensures.1 (refused_body context walk c.in_ok-params.params id n _ c.in_ok-asserts.middle d c.in_ok-asserts.asserts _ b start asserts middle refused)
 
 pub returns : goal.returns

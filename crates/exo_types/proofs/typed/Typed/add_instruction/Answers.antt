@@ -17,7 +17,7 @@ returns-in_err-keep c = λ above s.
     let d = plain_definition c.args.definition.now in
     let ps = (procedure_here above None d).params in
     let holes : HaveHoles ps (map plain_parameter c.deref.result.now) = subst (λ (l : List Parameter). HaveHoles ps l) (ap (map plain_parameter) (sym c.deref.ensures.value)) (have_holes above.program.fields (memory_names above.program) above.next_id [] d.params) in
-    let text = c.as_bytes.ensures ∙ c.as_str.ensures ∙ c.in_ok-template.ensures in
+    let text = c.as_bytes.ensures.value ∙ c.as_str.ensures ∙ c.in_ok-template.ensures in
     let fits = c.is_template-fits.ensures ps holes ∙ ap (λ y. is_template ps (Some y)) text in
     exit _ _ _ _ c.from_residual-in_err-keep.ensures.1 (refuses_first _ _ _ (kept_err _ _ _ (c.unless.ensures ∙ ap (λ b. charged (unless b UnknownName (c.args.n + 2))) fits) c.in_err-keep.ensures))
 
@@ -32,7 +32,7 @@ returns c = λ above s.
     let d = plain_definition c.args.definition.now in
     let ps = (procedure_here above None d).params in
     let holes : HaveHoles ps (map plain_parameter c.deref.result.now) = subst (λ (l : List Parameter). HaveHoles ps l) (ap (map plain_parameter) (sym c.deref.ensures.value)) (have_holes above.program.fields (memory_names above.program) above.next_id [] d.params) in
-    let text = c.as_bytes.ensures ∙ c.as_str.ensures ∙ c.in_ok-template.ensures in
+    let text = c.as_bytes.ensures.value ∙ c.as_str.ensures ∙ c.in_ok-template.ensures in
     let fits = c.is_template-fits.ensures ps holes ∙ ap (λ y. is_template ps (Some y)) text in
     instruction_item above c.args.places.now c.args.self.now _ c.args.n d c.args.pieces.now _ _ (omega arith) c.in_ok-template.ensures
     (kept_none _ _ (c.unless.ensures ∙ ap (λ b. charged (unless b UnknownName (c.args.n + 2))) fits) c.in_ok-keep.ensures)
