@@ -15,3 +15,7 @@ pub mod Nested
 pub mod Bound
 pub mod Plain
 pub mod Signatures
+pub mod Spelled
+pub mod Writes
+pub mod Charged
+pub mod Within

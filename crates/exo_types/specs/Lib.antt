@@ -9,3 +9,4 @@ pub mod Typed
 pub mod Refusals
 pub mod Seen
 pub mod Walks
+pub mod Laws

@@ -5,6 +5,7 @@ pub mod argument;
 pub mod attribute;
 pub mod call;
 pub mod context;
+pub mod laws;
 pub mod part;
 pub mod refusal;
 pub mod statement;
