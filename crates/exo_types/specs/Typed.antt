@@ -1,6 +1,5 @@
 -- What it means to check a unit's names and types: exactly the unit that its text stands for, or exactly the first broken rule.
 use Rattle.std.specs.Prelude.{◌≡◌, ◌+◌, ◌≤◌, List, length, map, slice_get, Some, None, Result, MatchResult}
-use Rattle.phrases.specs.Limits.{Limits}
 use Rattle.exo_tree.specs.declared.unit.Unit as tree
 use Rattle.exo_tree.specs.PlainUnit.{program}
 use Rattle.exo_lexer.specs.declared.place.Place.{Place}
