@@ -24,3 +24,4 @@ pub mod Inside
 pub mod Unbroken
 pub mod Whole
 pub mod Standing
+pub mod Returned

@@ -47,19 +47,20 @@ there (x ∷ xs) (suc j) l = there xs j (omega arith)
 -- ---- callees
 
 -- the procedure of a number, as a callee that stands on those of lower numbers
-pub record Stands (callees : List Callee) (j : ℕ) (q : Procedure) : Type 0 where
+pub record Stands (P : List Callee → Procedure → Type 0) (callees : List Callee) (j : ℕ) (q : Procedure) : Type 0 where
   pub kinds : ℕ → Kind
   pub before : List Callee
   pub here : slice_get callees j ≡ Some (callee_in (world_of kinds before) q)
   pub below : (i : ℕ) → i < j → slice_get before i ≡ slice_get callees i
   pub short : length before ≡ j
+  pub holds : P before q
 
-pub record AllStand (callees : List Callee) (ps : List Procedure) : Type 0 where
+pub record AllStand (P : List Callee → Procedure → Type 0) (callees : List Callee) (ps : List Procedure) : Type 0 where
   pub many : length callees ≡ length ps
-  pub each : (j : ℕ) (q : Procedure) → slice_get ps j ≡ Some q → Stands callees j q
+  pub each : (j : ℕ) (q : Procedure) → slice_get ps j ≡ Some q → Stands P callees j q
 
-pub no_procedures : AllStand [] []
-no_procedures = record { many = refl; each = λ j q h. absurd (none_some h) }
+pub no_procedures : (P : List Callee → Procedure → Type 0) → AllStand P [] []
+no_procedures P = record { many = refl; each = λ j q h. absurd (none_some h) }
   where
     none_some : {A : Type 0} {x : A} → None ≡ Some x → ⊥
     none_some h = cc
@@ -72,25 +73,26 @@ length-more (y ∷ xs) x = ap suc (length-more xs x)
 same_below : {A : Type 0} (xs : List A) (x : A) (i : ℕ) → i < length xs → slice_get xs i ≡ slice_get (xs ++ x ∷ []) i
 same_below xs x i l = let t = there xs i l in t.1 ∙ sym (get_left xs (x ∷ []) i t.0 t.1)
 
-stands_more : (callees : List Callee) (c : Callee) (j : ℕ) (q : Procedure) → j < length callees → Stands callees j q → Stands (callees ++ c ∷ []) j q
-stands_more callees c j q l s = record {
+stands_more : (P : List Callee → Procedure → Type 0) (callees : List Callee) (c : Callee) (j : ℕ) (q : Procedure) → j < length callees → Stands P callees j q → Stands P (callees ++ c ∷ []) j q
+stands_more P callees c j q l s = record {
   kinds = s.kinds; before = s.before;
   here = get_left callees (c ∷ []) j _ s.here;
   below = λ i m. s.below i m ∙ same_below callees c i (omega (arith, l, m));
   short = s.short;
+  holds = s.holds;
 }
 
-pub one_more : (callees : List Callee) (ps : List Procedure) (kinds : ℕ → Kind) (p : Procedure) → AllStand callees ps → AllStand (callees ++ callee_in (world_of kinds callees) p ∷ []) (ps ++ p ∷ [])
-one_more callees ps kinds p all = record {
+pub one_more : (P : List Callee → Procedure → Type 0) (callees : List Callee) (ps : List Procedure) (kinds : ℕ → Kind) (p : Procedure) → AllStand P callees ps → P callees p → AllStand P (callees ++ callee_in (world_of kinds callees) p ∷ []) (ps ++ p ∷ [])
+one_more P callees ps kinds p all own = record {
   many = length-more callees c ∙ ap suc all.many ∙ sym (length-more ps p);
   each = λ j q h. ⊎_elim (old j q) (new j q) (get_either ps p j q h);
 }
   where
     c : Callee
     c = callee_in (world_of kinds callees) p
-    old : (j : ℕ) (q : Procedure) → slice_get ps j ≡ Some q → Stands (callees ++ c ∷ []) j q
-    old j q h = stands_more callees c j q (let l = got_below ps j q h in omega (arith, l, all.many)) (all.each j q h)
-    new : (j : ℕ) (q : Procedure) → (j ≡ length ps) × (p ≡ q) → Stands (callees ++ c ∷ []) j q
+    old : (j : ℕ) (q : Procedure) → slice_get ps j ≡ Some q → Stands P (callees ++ c ∷ []) j q
+    old j q h = stands_more P callees c j q (let l = got_below ps j q h in omega (arith, l, all.many)) (all.each j q h)
+    new : (j : ℕ) (q : Procedure) → (j ≡ length ps) × (p ≡ q) → Stands P (callees ++ c ∷ []) j q
     new j q h =
         let place : j ≡ length callees = h.0 ∙ sym all.many in
         record {
@@ -98,6 +100,7 @@ one_more callees ps kinds p all = record {
           here = ap (slice_get (callees ++ c ∷ [])) place ∙ get_last callees c ∙ ap (λ z. Some (callee_in (world_of kinds callees) z)) h.1;
           below = λ i l. same_below callees c i (omega (arith, l, place));
           short = sym place;
+          holds = subst (P callees) h.1 own;
         }
 
 -- ---- the same parameters and writes
