@@ -1,13 +1,12 @@
 -- Each binder of a procedure gives its name to its id, where each id is bound once.
-use Rattle.std.proofs.Common.{◌≡◌, ℕ, suc, ◌+◌, ◌==◌, Bool, true, false, not, ◌&&◌, ◌||◌, if◌then◌else◌, List, [], ◌∷◌, ◌++◌, length, map, refl, sym, ap, ap₂, ◌∙◌, true≢false, eqb-true, eq-eqb}
-use Rattle.std.specs.List.{list_any}
+use Rattle.std.proofs.Common.{◌≡◌, ℕ, ◌==◌, true, false, not, ◌||◌, if◌then◌else◌, List, [], ◌∷◌, map, refl, sym, ap, ◌∙◌}
 use Rattle.exo_tree.specs.Tree.{Binder, Statement, Assign, Reduce, Config, Pass, If, For, Alloc, View, Call, Block, end, next, Param, Procedure}
 use Rattle.exo_meaning.specs.Binders.{binders, step_binders}
 use Rattle.exo_meaning.specs.Units.{are_distinct, bound_ids}
 use Rattle.exo_show.specs.Layout.{Text}
 use Rattle.exo_show.specs.Names.{unknown, with_binder, with_params, with_block, with_statement, names_of}
 use Rattle.exo_readback.proofs.Scoped.{both, neither, denied}
-use Rattle.exo_readback.proofs.Distinct.{has, same_number, has_append, in_left, in_right, Apart, apart}
+use Rattle.exo_readback.proofs.Distinct.{has, same_number, has_append, in_left, in_right, apart}
 
 -- all binders of a block have their names
 abbrev mutual
@@ -75,9 +74,10 @@ mutual
   block_called : (b : Block) (names final : ℕ → Text) → are_distinct (binders b) ≡ true → Agrees final (binders b) (with_block b names) → AreCalled final b
   block_called end names final d agrees = tt
   block_called (next a b) names final d agrees =
-      let s = apart (step_binders a) (binders b) d in
-      (statement_called a names final s.left (λ x h. agrees x (in_left (step_binders a) (binders b) x h) ∙ block_keeps b (with_statement a names) x (s.none x h)),
-       block_called b (with_statement a names) final s.right (λ x h. agrees x (in_right (step_binders a) (binders b) x h)))
+      let s = apart (step_binders a) (binders b) d in (
+        statement_called a names final s.left (λ x h. agrees x (in_left (step_binders a) (binders b) x h) ∙ block_keeps b (with_statement a names) x (s.none x h)),
+        block_called b (with_statement a names) final s.right (λ x h. agrees x (in_right (step_binders a) (binders b) x h)),
+      )
 
   statement_called : (a : Statement) (names final : ℕ → Text) → are_distinct (step_binders a) ≡ true → Agrees final (step_binders a) (with_statement a names) → IsCalled final a
   statement_called (Assign y is e) names final d agrees = tt
@@ -85,13 +85,15 @@ mutual
   statement_called (Config f a) names final d agrees = tt
   statement_called Pass names final d agrees = tt
   statement_called (If c a b) names final d agrees =
-      let s = apart (binders a) (binders b) d in
-      (block_called a names final s.left (λ x h. agrees x (in_left (binders a) (binders b) x h) ∙ block_keeps b (with_block a names) x (s.none x h)),
-       block_called b (with_block a names) final s.right (λ x h. agrees x (in_right (binders a) (binders b) x h)))
+      let s = apart (binders a) (binders b) d in (
+        block_called a names final s.left (λ x h. agrees x (in_left (binders a) (binders b) x h) ∙ block_keeps b (with_block a names) x (s.none x h)),
+        block_called b (with_block a names) final s.right (λ x h. agrees x (in_right (binders a) (binders b) x h)),
+      )
   statement_called (For i lo hi b) names final d agrees =
-      let s = both (not (has (binders b) i.id)) _ d in
-      (agrees i.id (head_in i.id (binders b)) ∙ block_keeps b (with_binder i names) i.id (denied _ s.0) ∙ own_binder i names,
-       block_called b (with_binder i names) final s.1 (λ x h. agrees x (tail_in i.id (binders b) x h)))
+      let s = both (not (has (binders b) i.id)) _ d in (
+        agrees i.id (head_in i.id (binders b)) ∙ block_keeps b (with_binder i names) i.id (denied _ s.0) ∙ own_binder i names,
+        block_called b (with_binder i names) final s.1 (λ x h. agrees x (tail_in i.id (binders b) x h)),
+      )
   statement_called (Alloc y cell dims memory) names final d agrees = agrees y.id (head_in y.id []) ∙ own_binder y names
   statement_called (View v y coords) names final d agrees = agrees v.id (head_in v.id []) ∙ own_binder v names
   statement_called (Call k args) names final d agrees = tt
@@ -108,12 +110,14 @@ params_keep (p ∷ ps) names x h =
 params_called : (ps : List Param) (names final : ℕ → Text) → are_distinct (param_ids ps) ≡ true → Agrees final (param_ids ps) (with_params ps names) → ParamsCalled final ps
 params_called [] names final d agrees = tt
 params_called (p ∷ ps) names final d agrees =
-    let s = both (not (has (param_ids ps) p.binder.id)) _ d in
-    (agrees p.binder.id (head_in p.binder.id (param_ids ps)) ∙ params_keep ps (with_binder p.binder names) p.binder.id (denied _ s.0) ∙ own_binder p.binder names,
-     params_called ps (with_binder p.binder names) final s.1 (λ x h. agrees x (tail_in p.binder.id (param_ids ps) x h)))
+    let s = both (not (has (param_ids ps) p.binder.id)) _ d in (
+      agrees p.binder.id (head_in p.binder.id (param_ids ps)) ∙ params_keep ps (with_binder p.binder names) p.binder.id (denied _ s.0) ∙ own_binder p.binder names,
+      params_called ps (with_binder p.binder names) final s.1 (λ x h. agrees x (tail_in p.binder.id (param_ids ps) x h)),
+    )
 
 pub called : (p : Procedure) → are_distinct (bound_ids p) ≡ true → ParamsCalled (names_of p) p.params × AreCalled (names_of p) p.body
 called p d =
-    let s = apart (param_ids p.params) (binders p.body) d in
-    (params_called p.params unknown (names_of p) s.left (λ x h. block_keeps p.body (with_params p.params unknown) x (s.none x h)),
-     block_called p.body (with_params p.params unknown) (names_of p) s.right (λ x h. refl))
+    let s = apart (param_ids p.params) (binders p.body) d in (
+      params_called p.params unknown (names_of p) s.left (λ x h. block_keeps p.body (with_params p.params unknown) x (s.none x h)),
+      block_called p.body (with_params p.params unknown) (names_of p) s.right (λ x h. refl),
+    )

@@ -1,8 +1,5 @@
 -- Written blocks with their names resolved are themselves, under other ids, and break no rule.
-use Rattle.std.proofs.Common.{◌≡◌, ℕ, zero, suc, ◌+◌, ◌==◌, nat_lt, Bool, true, false, not, ◌&&◌, ◌||◌, if◌then◌else◌, List, [], ◌∷◌, ◌++◌, length, map, Option, Some, None, slice_get, refl, sym, ap, ap₂, ◌∙◌, true≢false, eqb-true, eq-eqb, arith, length-append, subst}
-use Rattle.std.specs.List.{list_all}
-use Rattle.std.proofs.lemmas.List.{length-map}
-use Rattle.exo_tree.specs.Tree as tree
+use Rattle.std.proofs.Common.{◌≡◌, ℕ, suc, ◌+◌, ◌==◌, nat_lt, Bool, true, false, not, ◌&&◌, ◌||◌, if◌then◌else◌, List, [], ◌∷◌, length, map, Option, Some, None, refl, sym, ap, ap₂, ◌∙◌, true≢false, eqb-true, eq-eqb, length-append}
 use Rattle.exo_tree.specs.Tree.{Kind, Index, Cell, I8, I32, Binder, ConfigField, Control, Coord, At, Span, Argument, ControlArg, ConditionArg, Whole, Window, Statement, Assign, Reduce, Config, Pass, If, For, Alloc, View, Call, Block, end, next, Program}
 use Rattle.exo_meaning.specs.Scene.{updated}
 use Rattle.exo_meaning.specs.Calls.{Callee}
@@ -10,31 +7,26 @@ use Rattle.exo_meaning.specs.Run.{roots_after}
 use Rattle.exo_meaning.specs.Binders.{binders, step_binders}
 use Rattle.exo_meaning.specs.Units as units
 use Rattle.exo_meaning.specs.Units.{Scope, Sort, ControlName, BufferName, Named, sort_in, with_name, view_sort, scope_after, plainly, with_fields, with_strides, has_rank, is_new, is_empty, is_short, is_rank, is_control, are_controls, is_condition, is_access, is_datum, is_window, is_write, is_call, are_for, share_nothing_written, is_statement, is_block, field_kind}
-use Rattle.exo_meaning.specs.Renaming.{Renaming, re_control, re_controls, re_condition, re_datum, re_coords, re_argument, re_arguments, re_binder, re_statement, re_block}
+use Rattle.exo_meaning.specs.Renaming.{Renaming, re_controls, re_coords, re_arguments, re_binder, re_statement, re_block}
 use Rattle.exo_source.specs.Source as source
-use Rattle.exo_names.specs.declared.fault.Fault.{Fault}
-use Rattle.exo_names.specs.declared.error.TypeKind.TheVariants.{Redefined}
-use Rattle.exo_names.specs.Faults.{unless, least, or_else}
-use Rattle.exo_names.specs.Names.{id_in, field_in, name_number, no_id}
-use Rattle.exo_names.specs.ExpressionRules.{is_buffer}
-use Rattle.exo_names.specs.Resolved.{control_of, controls_of, datum_of, field_number}
-use Rattle.exo_names.specs.WindowRules.{window_faults}
+use Rattle.exo_names.specs.Names.{name_number}
+use Rattle.exo_names.specs.Resolved.{control_of, field_number}
 use Rattle.exo_show.specs.Layout.{Text}
 use Rattle.exo_show.specs.Words.{Words, words_with, cell_word}
-use Rattle.exo_types.specs.TypeRules.{binder, binder_faults, cell_faults, cell_of, memory_faults, named_memory_faults, memory_of, number_or, is_taken}
-use Rattle.exo_types.specs.ArgumentRules.{Signature, signature_of, dims_width, params_of, arguments_of, points, call_faults}
-use Rattle.exo_types.specs.StatementRules.{statement_width, bound, bound_in, number_in, callee_named, written_of, write_faults, target_faults, store_faults, statement_of, block_of, own_faults, inner_fault, block_fault}
+use Rattle.exo_types.specs.TypeRules.{binder, binder_faults, cell_faults, cell_of, memory_faults, named_memory_faults, memory_of, number_or}
+use Rattle.exo_types.specs.ArgumentRules.{Signature, signature_of, params_of, arguments_of, call_faults}
+use Rattle.exo_types.specs.StatementRules.{bound, bound_in, number_in, callee_named, written_of, statement_of, block_of}
 use Rattle.exo_readback.specs.Again.{calls, is_call_of}
 use Rattle.exo_readback.specs.Names.{Each}
 use Rattle.exo_readback.specs.Written as written
 use Rattle.exo_readback.specs.Written.{config_word, field_word, control_tree, condition_tree, datum_tree}
 use Rattle.exo_readback.specs.Writable as writable
-use Rattle.exo_readback.proofs.Scoped.{three, four, Finds, re_scope, re_named, both, neither, denied, not_taken, finds_more, id_found, sort_found}
-use Rattle.exo_readback.proofs.Resolved.{FindsFields, field_is, unless_fine, joined_fine, ranked_buffer, control_same, control_fine, controls_same, controls_fine}
-use Rattle.exo_readback.proofs.Judged.{condition_same, condition_fine, datum_same, datum_fine, coordinates_same, window_fine, points_are, access_window}
+use Rattle.exo_readback.proofs.Scoped.{three, four, Finds, re_scope, both, not_taken, finds_more, id_found}
+use Rattle.exo_readback.proofs.Resolved.{FindsFields, field_is, unless_fine, control_same, controls_same}
+use Rattle.exo_readback.proofs.Judged.{condition_same, datum_same, coordinates_same}
 use Rattle.exo_readback.proofs.Called.{AreCalled, IsCalled}
 use Rattle.exo_readback.proofs.Numbered.{Counts, split_left, split_right}
-use Rattle.exo_readback.proofs.Passed.{HasCoords, kind_same, kind_fine}
+use Rattle.exo_readback.proofs.Passed.{HasCoords, kind_same}
 use Rattle.exo_readback.proofs.Shared.{same_ids, arguments_same, call_fine}
 
 -- ---- lists under other ids
@@ -251,7 +243,7 @@ module _ (program : Program) (names : ℕ → Text) (r : Renaming) (finds_fields
         three If (condition_same w fields r scope finds finds_fields with_fields c s.0)
         (block_same a scope finds root id (split_left r id (binders a) (binders b) numbers) called.0 each.2 (λ k callee p q. meets k callee (or_left (calls k a) (calls k b) p) q) u.0)
         (ap (λ m. block_of fields memories above signatures (id + m) (re_scope r scope) (written.block_of w fields b)) (bound_block w fields a)
-          ∙ block_same b scope finds root (id + length (binders a)) more called.1 each.3 (λ k callee p q. meets k callee (or_right (calls k a) (calls k b) p) q) u.1)
+        ∙ block_same b scope finds root (id + length (binders a)) more called.1 each.3 (λ k callee p q. meets k callee (or_right (calls k a) (calls k b) p) q) u.1)
     statement_same (For i lo hi b) scope finds root id numbers called each meets h =
         let s = both (is_new scope i) _ h in
         let t = both (is_control kinds plainly scope lo && is_control kinds plainly scope hi) _ s.1 in
@@ -260,7 +252,7 @@ module _ (program : Program) (names : ℕ → Text) (r : Renaming) (finds_fields
         let inner = finds_more w r scope i (ControlName Index) finds s.0 called.0 in
         ap (λ m. For (binder m i.name) (control_of fields (re_scope r scope) (control_tree w fields lo)) (control_of fields (re_scope r scope) (control_tree w fields hi)) (block_of fields memories above signatures (suc id) (with_name (re_scope r scope) (binder m i.name) (ControlName Index)) (written.block_of w fields b))) (sym numbers.0)
         ∙ three (λ y l e. For (re_binder r i) y l e) (control_same w fields r scope finds finds_fields plainly lo u.0) (control_same w fields r scope finds finds_fields plainly hi u.1)
-          (block_same b (with_name scope i (ControlName Index)) inner root (suc id) numbers.1 called.1 each.4 meets v.1)
+        (block_same b (with_name scope i (ControlName Index)) inner root (suc id) numbers.1 called.1 each.4 meets v.1)
     statement_same (Alloc x cell dims memory) scope finds root id numbers called each meets h =
         let s = both (is_new scope x) _ h in
         let t = both (are_controls kinds plainly scope dims) _ s.1 in

@@ -1,31 +1,22 @@
 -- Written conditions, data and windows with their names resolved are themselves, under other ids, and break no rule.
-use Rattle.std.proofs.Common.{◌≡◌, ℕ, suc, ℤ, pos, negsuc, ◌+◌, ◌==◌, nat_lt, Bool, true, false, not, ◌&&◌, ◌||◌, if◌then◌else◌, List, [], ◌∷◌, ◌++◌, length, map, Option, Some, None, slice_get, refl, sym, ap, ap₂, ◌∙◌, true≢false, eqb-true, eq-eqb}
+use Rattle.std.proofs.Common.{◌≡◌, ℕ, pos, negsuc, ◌+◌, nat_lt, Bool, true, false, ◌&&◌, if◌then◌else◌, List, [], ◌∷◌, length, map, Option, Some, None, refl, sym, ap, ap₂, ◌∙◌, true≢false}
 use Rattle.std.specs.List.{list_all}
 use Rattle.std.proofs.lemmas.List.{length-map}
 use Rattle.exo_tree.specs.Tree as tree
 use Rattle.exo_tree.specs.Tree.{Kind, ConfigField, Control, Lit, Var, Field, StrideOf, Neg, Add, Sub, Mul, Div, Mod, Condition, Flag, FieldFlag, Lt, Le, Gt, Ge, Eq, And, Or, Datum, Const, Read, Negated, Relu, Plus, Minus, Times, Select, Coord, At, Span}
-use Rattle.exo_meaning.specs.Units.{Scope, Sort, ControlName, BufferName, Reads, sort_in, plainly, is_truth, is_number, is_flag, has_rank, has_dimension, is_of_literals, is_literal_number, is_control, are_controls, is_condition, is_access, is_datum, is_coord, is_window, is_number_field, is_flag_field, field_kind}
+use Rattle.exo_meaning.specs.Units.{Scope, Sort, Reads, sort_in, plainly, is_truth, is_flag, has_rank, is_control, are_controls, is_condition, is_access, is_datum, is_coord, is_window, is_flag_field, field_kind}
 use Rattle.exo_meaning.specs.Renaming.{Renaming, re_control, re_controls, re_condition, re_datum, re_coords}
-use Rattle.exo_lexer.specs.declared.token.Literal.{Literal}
-use Rattle.exo_lexer.specs.declared.token.Literal.TheVariants.{Value}
-use Rattle.exo_reader.specs.declared.source.Operator.TheVariants as o
-use Rattle.exo_reader.specs.Expression.{Tree, Trees, number, truth, variable, access, field, stride, relu, select, negative, parens, binary, trees}
-use Rattle.exo_source.specs.Source.{Coordinate, point, span}
-use Rattle.exo_names.specs.declared.error.TypeKind.{TypeKind}
-use Rattle.exo_names.specs.declared.fault.Fault.{Fault}
-use Rattle.exo_names.specs.Faults.{unless, parts_then_whole}
-use Rattle.exo_names.specs.Names.{named_in, sort_of, id_in, id_of, field_in}
-use Rattle.exo_names.specs.ExpressionRules.{width, may_be_control, may_be_condition, may_be_data, has_variables, is_divisor, name_faults, rank_faults, dimension_faults, is_buffer, field_faults, affine_faults, wrong_form, list_of, control_faults, controls_faults, condition_faults, read_faults, data_faults}
-use Rattle.exo_names.specs.Resolved.{number_of, field_number, divisor_of, control_of, controls_of, condition_of, datum_of}
-use Rattle.exo_names.specs.WindowRules.{coordinate_width, coordinate_faults, coordinates_faults, window_faults, coordinate_of, coordinates_of}
+use Rattle.exo_reader.specs.Expression.{Tree, parens}
+use Rattle.exo_source.specs.Source.{point}
+use Rattle.exo_names.specs.ExpressionRules.{may_be_condition, may_be_data, rank_faults, is_buffer, field_faults, wrong_form, control_faults, condition_faults, read_faults, data_faults}
+use Rattle.exo_names.specs.Resolved.{field_number, control_of, controls_of, condition_of, datum_of}
+use Rattle.exo_names.specs.WindowRules.{coordinates_faults, window_faults, coordinates_of}
 use Rattle.exo_show.specs.Words.{Words}
-use Rattle.exo_show.specs.ControlText.{precedence_of, condition_precedence}
+use Rattle.exo_show.specs.ControlText.{condition_precedence}
 use Rattle.exo_show.specs.DatumText.{datum_precedence}
 use Rattle.exo_readback.specs.Written as written
 use Rattle.exo_readback.specs.Written.{literal_tree, placed, access_tree, config_of, field_of, config_word, field_word, control_tree, condition_tree, datum_tree}
-use Rattle.exo_readback.proofs.Scoped.{Finds, re_scope, both, neither, denied, id_found, sort_found}
-
-use Rattle.exo_source.specs.Source as source
+use Rattle.exo_readback.proofs.Scoped.{Finds, re_scope, both, id_found, sort_found}
 use Rattle.exo_types.specs.ArgumentRules.{points}
 use Rattle.exo_readback.proofs.Resolved.{unless_fine, joined_fine, parts_fine, rank_fine, ranked_buffer, listed_again, FindsFields, field_is, name_fine, control_same, control_fine, controls_same, controls_fine}
 
@@ -150,9 +141,9 @@ module _ (w : Words) (fields : List ConfigField) (r : Renaming) (scope : Scope) 
       let p = both (has_rank (length is) (sort_in scope x)) _ h in
       ap (read_faults fields there n (w.name x)) e
       ∙ parts_fine _ _
-        (joined_fine _ _ (name_fine w fields r scope finds finds_fields is_buffer x n refl (ranked_buffer (sort_in scope x) (length is) p.0))
-        (controls_fine w fields r scope finds finds_fields plainly is p.1 (n + 2)))
-        (ap₂ (λ s k. rank_faults s k n) (sort_found w r scope finds x (has_rank (length is)) refl p.0) (length-map is (control_tree w fields)) ∙ rank_fine (sort_in scope x) (length is) n p.0)
+      (joined_fine _ _ (name_fine w fields r scope finds finds_fields is_buffer x n refl (ranked_buffer (sort_in scope x) (length is) p.0))
+      (controls_fine w fields r scope finds finds_fields plainly is p.1 (n + 2)))
+      (ap₂ (λ s k. rank_faults s k n) (sort_found w r scope finds x (has_rank (length is)) refl p.0) (length-map is (control_tree w fields)) ∙ rank_fine (sort_in scope x) (length is) n p.0)
 
   read_fine : (x : ℕ) (is : List Control) → is_access kinds scope x is ≡ true → (n : ℕ) → data_faults fields there n (access_tree (w.name x) (map (control_tree w fields) is)) ≡ []
   read_fine x [] h n = reads_fine x [] [] n refl h
@@ -219,8 +210,8 @@ module _ (w : Words) (fields : List ConfigField) (r : Renaming) (scope : Scope) 
       let p = both (has_rank (length cs) (sort_in scope x)) _ h in
       joined_fine _ _ (name_fine w fields r scope finds finds_fields test x n absent t)
       (joined_fine _ _
-        (ap₂ (λ s k. rank_faults s k n) (sort_found w r scope finds x test absent t) (length-map cs (written.coordinate_of w fields)) ∙ rank_fine (sort_in scope x) (length cs) n p.0)
-        (coordinates_fine cs p.1 (n + 2)))
+      (ap₂ (λ s k. rank_faults s k n) (sort_found w r scope finds x test absent t) (length-map cs (written.coordinate_of w fields)) ∙ rank_fine (sort_in scope x) (length cs) n p.0)
+      (coordinates_fine cs p.1 (n + 2)))
 
   -- cells as windows
   pub points_are : (is : List Control) → points (map (control_tree w fields) is) ≡ map (written.coordinate_of w fields) (map At is)

@@ -1,12 +1,11 @@
 -- Fields, memories and procedures are found by their names.
-use Rattle.std.proofs.Common.{◌≡◌, ℕ, zero, suc, pred, ◌+◌, ◌==◌, nat_lt, Bool, true, false, not, ◌&&◌, ◌||◌, if◌then◌else◌, List, [], ◌∷◌, length, map, Option, Some, None, slice_get, refl, sym, ap, ap₂, ◌∙◌, true≢false, arith, option_map}
+use Rattle.std.proofs.Common.{◌≡◌, ℕ, zero, suc, pred, ◌+◌, nat_lt, Bool, true, false, not, ◌&&◌, if◌then◌else◌, List, [], ◌∷◌, length, map, Some, None, slice_get, refl, sym, ap, ap₂, ◌∙◌, arith}
 use Rattle.std.specs.List.{list_any}
 use Rattle.std.proofs.lemmas.Bool.Decides.{nat_tests}
-use Rattle.exo_tree.specs.Tree.{Kind, ConfigField, MemoryKind, Procedure}
+use Rattle.exo_tree.specs.Tree.{ConfigField, MemoryKind, Procedure}
 use Rattle.exo_meaning.specs.Units.{is_text, same_field, all_differ}
-use Rattle.exo_names.specs.Names.{field_from, field_in, number_from, name_number}
+use Rattle.exo_names.specs.Names.{field_from, number_from, name_number}
 use Rattle.exo_show.specs.Words.{memory_name}
-use Rattle.exo_types.specs.TypeRules.{number_or, memory_of}
 use Rattle.exo_show.specs.Names.{unknown}
 use Rattle.exo_readback.proofs.Scoped.{both, neither, denied, same_text, text_same}
 use Rattle.exo_readback.proofs.Resolved.{FindsFields}

@@ -1,27 +1,22 @@
 -- Written arguments with their names resolved are themselves, under other ids, and break no rule.
-use Rattle.std.proofs.Common.{◌≡◌, ℕ, zero, suc, ◌+◌, ◌==◌, nat_lt, Bool, true, false, not, ◌&&◌, ◌||◌, if◌then◌else◌, List, [], ◌∷◌, ◌++◌, length, map, Option, Some, None, refl, sym, ap, ap₂, ◌∙◌, true≢false, eqb-true, eq-eqb}
-use Rattle.std.specs.List.{list_all, list_any}
-use Rattle.exo_tree.specs.Tree as tree
-use Rattle.exo_tree.specs.Tree.{Kind, Cell, ConfigField, Control, Condition, Coord, At, Span, Argument, ControlArg, ConditionArg, Whole, Window, ParamKind, ControlParam, TensorParam, WindowParam}
+use Rattle.std.proofs.Common.{◌≡◌, ℕ, suc, ◌==◌, Bool, true, false, not, ◌&&◌, if◌then◌else◌, List, [], ◌∷◌, length, map, Option, None, refl, sym, ap, ap₂, ◌∙◌, true≢false, eqb-true, eq-eqb}
+use Rattle.exo_tree.specs.Tree.{Kind, Cell, ConfigField, Control, Coord, At, Span, Argument, ControlArg, ConditionArg, Whole, Window, ParamKind, ControlParam, TensorParam, WindowParam}
 use Rattle.exo_meaning.specs.Units as units
 use Rattle.exo_meaning.specs.Units.{Scope, Sort, Reads, with_both, sort_in, is_truth, has_rank, has_cell, is_dense, is_control, is_condition, is_window, is_of_kind, is_for, field_kind}
 use Rattle.exo_meaning.specs.Renaming.{Renaming, re_coords, re_argument}
-use Rattle.exo_reader.specs.Expression.{Tree, variable, access, trees}
+use Rattle.exo_reader.specs.Expression.{trees}
 use Rattle.exo_source.specs.Source as source
 use Rattle.exo_source.specs.Source.{point, span}
-use Rattle.exo_names.specs.declared.fault.Fault.{Fault}
-use Rattle.exo_names.specs.declared.error.TypeKind.TheVariants.{RankMismatch}
-use Rattle.exo_names.specs.Faults.{unless}
-use Rattle.exo_names.specs.Names.{named_in, sort_of, id_in}
+use Rattle.exo_names.specs.Names.{id_in}
 use Rattle.exo_names.specs.ExpressionRules.{rank_faults, control_faults, condition_faults, list_of}
 use Rattle.exo_names.specs.Resolved.{control_of, condition_of}
 use Rattle.exo_names.specs.WindowRules.{window_faults, coordinates_of}
 use Rattle.exo_show.specs.Words.{Words}
-use Rattle.exo_types.specs.ArgumentRules.{spans, points, tensor_takes, cell_takes, whole_faults, tensor_faults, strided_faults, kind_faults, value_faults, view_faults, argument_faults, part_of, kind_value_of, value_of, argument_of}
+use Rattle.exo_types.specs.ArgumentRules.{spans, points, tensor_takes, cell_takes, whole_faults, kind_faults, argument_faults, part_of, kind_value_of, argument_of}
 use Rattle.exo_readback.specs.Written as written
 use Rattle.exo_readback.specs.Written.{access_tree, has_span, control_tree, condition_tree}
 use Rattle.exo_readback.specs.Writable.{HasSome}
-use Rattle.exo_readback.proofs.Scoped.{Finds, re_scope, both, neither, denied, id_found, sort_found}
+use Rattle.exo_readback.proofs.Scoped.{Finds, re_scope, both, denied, id_found, sort_found}
 use Rattle.exo_readback.proofs.Resolved.{FindsFields, unless_fine, joined_fine, rank_fine, listed_again, name_fine, control_same, control_fine}
 use Rattle.exo_readback.proofs.Judged.{condition_same, condition_fine, coordinates_same, window_fine}
 
@@ -147,14 +142,19 @@ module _ (w : Words) (fields : List ConfigField) (r : Renaming) (scope : Scope) 
     where
       has : (has_cell cell (sort_in scope x) ≡ true) × ((is_window kinds scope x (c ∷ cs) && (((length dims) == 0) && ((units.spans (c ∷ cs) == 0) && not (length (c ∷ cs) == 0)))) ≡ true)
       has = both _ _ h
+
       inner : (is_window kinds scope x (c ∷ cs) ≡ true) × ((((length dims) == 0) && ((units.spans (c ∷ cs) == 0) && not (length (c ∷ cs) == 0))) ≡ true)
       inner = both _ _ has.1
+
       zero_rank : (((length dims) == 0) ≡ true) × (((units.spans (c ∷ cs) == 0) && not (length (c ∷ cs) == 0)) ≡ true)
       zero_rank = both _ _ inner.1
+
       takes : cell_takes cell (length dims) (sort_in scope x) ≡ true
       takes = all_true _ _ has.0 zero_rank.0
+
       same_spans : (spans (map (written.coordinate_of w fields) (c ∷ cs)) == (length dims)) ≡ true
       same_spans = eq-eqb _ _ (spans_same (c ∷ cs) ∙ eqb-true _ _ (both _ _ zero_rank.1).0 ∙ sym (eqb-true _ _ zero_rank.0))
+
       by : (t : Bool) → has_span (c ∷ cs) ≡ t → argument_faults fields there (TensorParam cell dims memory) n (if t then source.window (w.name x) (map (written.coordinate_of w fields) (c ∷ cs)) else source.value (access_tree (w.name x) (map (written.low_tree w fields) (c ∷ cs)))) ≡ []
       by true p = joined_fine _ _ (window_fine w fields r scope finds finds_fields (cell_takes cell (length dims)) x (c ∷ cs) refl takes inner.0 n) (unless_fine _ _ n same_spans)
       by false p = low_fine (cell_takes cell (length dims)) x c cs refl takes p inner.0 n
@@ -165,8 +165,10 @@ module _ (w : Words) (fields : List ConfigField) (r : Renaming) (scope : Scope) 
     where
       has : (has_cell cell (sort_in scope x) ≡ true) × ((is_window kinds scope x (c ∷ cs) && ((length dims) == units.spans (c ∷ cs))) ≡ true)
       has = both _ _ h
+
       inner : (is_window kinds scope x (c ∷ cs) ≡ true) × (((length dims) == units.spans (c ∷ cs)) ≡ true)
       inner = both _ _ has.1
+
       by : (t : Bool) → has_span (c ∷ cs) ≡ t → argument_faults fields there (WindowParam cell dims memory) n (if t then source.window (w.name x) (map (written.coordinate_of w fields) (c ∷ cs)) else source.value (access_tree (w.name x) (map (written.low_tree w fields) (c ∷ cs)))) ≡ []
       by true p =
           joined_fine _ _ (window_fine w fields r scope finds finds_fields (has_cell cell) x (c ∷ cs) refl has.0 inner.0 n)

@@ -1,29 +1,20 @@
 -- Written expressions with their names resolved are the expressions, under other ids, and break no rule.
-use Rattle.std.proofs.Common.{◌≡◌, ℕ, suc, ℤ, pos, negsuc, ◌+◌, ◌==◌, nat_lt, Bool, true, false, not, ◌&&◌, ◌||◌, if◌then◌else◌, List, [], ◌∷◌, ◌++◌, length, map, Option, Some, None, slice_get, refl, sym, ap, ap₂, ◌∙◌, true≢false, eqb-true, eq-eqb}
-use Rattle.std.specs.List.{list_all}
-use Rattle.std.proofs.lemmas.List.{length-map}
-use Rattle.exo_tree.specs.Tree as tree
-use Rattle.exo_tree.specs.Tree.{Kind, ConfigField, Control, Lit, Var, Field, StrideOf, Neg, Add, Sub, Mul, Div, Mod, Condition, Flag, FieldFlag, Lt, Le, Gt, Ge, Eq, And, Or, Datum, Const, Read, Negated, Relu, Plus, Minus, Times, Select, Coord, At, Span}
-use Rattle.exo_meaning.specs.Units.{Scope, Sort, ControlName, BufferName, Reads, sort_in, plainly, is_truth, is_number, is_flag, has_rank, has_dimension, is_of_literals, is_literal_number, is_control, are_controls, is_condition, is_access, is_datum, is_coord, is_window, is_number_field, is_flag_field, field_kind}
-use Rattle.exo_meaning.specs.Renaming.{Renaming, re_control, re_controls, re_condition, re_datum, re_coords}
-use Rattle.exo_lexer.specs.declared.token.Literal.{Literal}
+use Rattle.std.proofs.Common.{◌≡◌, ℕ, ℤ, pos, negsuc, ◌+◌, nat_lt, Bool, true, false, not, ◌&&◌, ◌||◌, if◌then◌else◌, List, [], ◌∷◌, ◌++◌, map, Option, Some, None, slice_get, refl, sym, ap, ap₂, ◌∙◌, true≢false, eqb-true, eq-eqb}
+use Rattle.exo_tree.specs.Tree.{Kind, ConfigField, Control, Lit, Var, Field, StrideOf, Neg, Add, Sub, Mul, Div, Mod, Condition, Datum}
+use Rattle.exo_meaning.specs.Units.{Scope, Sort, ControlName, BufferName, Reads, sort_in, is_truth, is_number, has_rank, has_dimension, is_of_literals, is_literal_number, is_control, are_controls, is_number_field, field_kind}
+use Rattle.exo_meaning.specs.Renaming.{Renaming, re_control, re_controls}
 use Rattle.exo_lexer.specs.declared.token.Literal.TheVariants.{Value}
-use Rattle.exo_reader.specs.declared.source.Operator.TheVariants as o
-use Rattle.exo_reader.specs.Expression.{Tree, Trees, number, truth, variable, access, field, stride, relu, select, negative, parens, binary, trees}
-use Rattle.exo_source.specs.Source.{Coordinate, point, span}
+use Rattle.exo_reader.specs.Expression.{Tree, parens, trees}
 use Rattle.exo_names.specs.declared.error.TypeKind.{TypeKind}
 use Rattle.exo_names.specs.declared.fault.Fault.{Fault}
 use Rattle.exo_names.specs.Faults.{unless, parts_then_whole}
-use Rattle.exo_names.specs.Names.{named_in, sort_of, id_in, id_of, field_in}
-use Rattle.exo_names.specs.ExpressionRules.{width, may_be_control, may_be_condition, may_be_data, has_variables, is_divisor, name_faults, rank_faults, dimension_faults, is_buffer, field_faults, affine_faults, wrong_form, list_of, control_faults, controls_faults, condition_faults, read_faults, data_faults}
-use Rattle.exo_names.specs.Resolved.{number_of, field_number, divisor_of, control_of, controls_of, condition_of, datum_of}
-use Rattle.exo_names.specs.WindowRules.{coordinate_width, coordinate_faults, coordinates_faults, window_faults, coordinate_of, coordinates_of}
+use Rattle.exo_names.specs.Names.{named_in, sort_of, field_in}
+use Rattle.exo_names.specs.ExpressionRules.{may_be_control, has_variables, name_faults, rank_faults, dimension_faults, is_buffer, field_faults, wrong_form, list_of, control_faults, controls_faults}
+use Rattle.exo_names.specs.Resolved.{field_number, control_of, controls_of}
 use Rattle.exo_show.specs.Words.{Words}
-use Rattle.exo_show.specs.ControlText.{precedence_of, condition_precedence}
-use Rattle.exo_show.specs.DatumText.{datum_precedence}
-use Rattle.exo_readback.specs.Written as written
-use Rattle.exo_readback.specs.Written.{literal_tree, placed, access_tree, config_of, field_of, config_word, field_word, control_tree, condition_tree, datum_tree}
-use Rattle.exo_readback.proofs.Scoped.{Finds, re_scope, both, neither, denied, id_found, sort_found}
+use Rattle.exo_show.specs.ControlText.{precedence_of}
+use Rattle.exo_readback.specs.Written.{literal_tree, placed, config_of, field_of, config_word, field_word, control_tree, condition_tree, datum_tree}
+use Rattle.exo_readback.proofs.Scoped.{Finds, re_scope, both, id_found, sort_found}
 
 -- ---- nothing is broken
 

@@ -1,11 +1,11 @@
 -- Below items that hold what it names, a written procedure stands for itself.
-use Rattle.std.proofs.Common.{◌≡◌, ℕ, zero, suc, ◌+◌, ◌<◌, ◌==◌, nat_lt, Bool, true, false, not, ◌&&◌, ◌||◌, if◌then◌else◌, List, [], ◌∷◌, ◌++◌, length, map, Option, Some, None, slice_get, refl, sym, ap, ap₂, subst₂, ◌∙◌, true≢false, arith, subst, append-nil, append_assoc}
-use Rattle.std.specs.List.{list_all, list_any}
+use Rattle.std.proofs.Common.{◌≡◌, ℕ, zero, suc, ◌+◌, ◌<◌, ◌==◌, Bool, true, false, not, ◌&&◌, ◌||◌, if◌then◌else◌, List, [], ◌∷◌, ◌++◌, length, map, Option, Some, None, slice_get, refl, sym, ap, ap₂, subst₂, ◌∙◌, arith, subst, append-nil, append_assoc}
+use Rattle.std.specs.List.{list_any}
 use Rattle.std.proofs.Math.Path.{fun_ext}
-use Rattle.exo_tree.specs.Tree.{Kind, ConfigField, MemoryKind, Param, ParamKind, ControlParam, TensorParam, WindowParam, Procedure, Program}
+use Rattle.exo_tree.specs.Tree.{ConfigField, MemoryKind, Param, ParamKind, ControlParam, TensorParam, WindowParam, Procedure, Program}
 use Rattle.exo_meaning.specs.Calls.{Callee}
 use Rattle.exo_meaning.specs.Run.{world_of, callee_in, kinds_of}
-use Rattle.exo_meaning.specs.Units.{is_text, IsUnit, IsProcedure, AreProcedures, field_kind, bound_ids, all_differ, is_memory, scope_of, Reading, Plain, Opened, Closed, InHole, is_hole_of, holes_fit, is_template}
+use Rattle.exo_meaning.specs.Units.{is_text, IsUnit, IsProcedure, AreProcedures, field_kind, bound_ids, all_differ, scope_of, Reading, Plain, Opened, Closed, InHole, is_hole_of, holes_fit, is_template}
 use Rattle.exo_meaning.specs.Renaming.{Renaming}
 use Rattle.exo_source.specs.Source as source
 use Rattle.exo_source.specs.Source.{Item, Definition}
@@ -16,10 +16,9 @@ use Rattle.exo_show.specs.Layout.{Text}
 use Rattle.exo_show.specs.Names.{names_of, unknown}
 use Rattle.exo_show.specs.Words.{words_of, memory_name, callee_name}
 use Rattle.exo_types.specs.TypeRules.{number_or}
-use Rattle.exo_types.specs.ArgumentRules.{Signature, signature_of}
-use Rattle.exo_types.specs.StatementRules.{number_in, callee_named}
+use Rattle.exo_types.specs.ArgumentRules.{signature_of}
 use Rattle.exo_types.specs.ItemRules.{definition_of, definition_fault}
-use Rattle.exo_types.specs.UnitRules.{Above, nothing_above, after_item, after_items, item_fault, procedure_fault, procedure_here, item_name_faults, template_faults, unit_fault, is_given, memory_names, procedure_names, signatures}
+use Rattle.exo_types.specs.UnitRules.{Above, nothing_above, after_item, after_items, item_fault, procedure_fault, procedure_here, memory_names, procedure_names, signatures}
 use Rattle.exo_readback.specs.Again.{re_param, re_procedure, calls, HoldsWhatIsNamed, StandsFor, ShownIsTheSame}
 use Rattle.exo_readback.specs.Written as tree
 use Rattle.exo_readback.specs.Written.{marked, written}
@@ -28,7 +27,7 @@ use Rattle.exo_readback.proofs.Scoped.{both}
 use Rattle.exo_readback.proofs.Resolved.{FindsFields, unless_fine}
 use Rattle.exo_readback.proofs.Listed.{fields_found, memory_found, procedure_found}
 use Rattle.exo_readback.proofs.Numbered.{Counts, same_ids, counted, counts}
-use Rattle.exo_readback.proofs.Inside.{FindsMemories, MeetsCalls, Met}
+use Rattle.exo_readback.proofs.Inside.{FindsMemories, MeetsCalls}
 use Rattle.exo_readback.proofs.Standing.{Stands, AllStand, no_procedures, one_more, Same, same_writes, calls_there, got_below, there}
 use Rattle.exo_readback.proofs.Whole.{definition_same, definition_fine}
 
@@ -64,16 +63,18 @@ some_same : {A : Type 0} (a b : A) → Some a ≡ Some b → a ≡ b
 some_same a b h = ap (λ o. elim o [ None ↦ a | Some x ↦ x ]) h
 
 module _ (fields : List ConfigField) (count : ℕ) (ps others : List Procedure) (final callees : List Callee) (ruled : AllStand (Ruled fields count) final ps) (stand : AllStand Any callees others) (held : ℕ → Bool)
-  (same : (k : ℕ) (q : Procedure) → held k ≡ true → slice_get ps k ≡ Some q → slice_get others k ≡ Some q)
-  (closed : (j k : ℕ) (q : Procedure) → held j ≡ true → slice_get ps j ≡ Some q → calls k q.body ≡ true → held k ≡ true) where
+    (same : (k : ℕ) (q : Procedure) → held k ≡ true → slice_get ps k ≡ Some q → slice_get others k ≡ Some q)
+    (closed : (j k : ℕ) (q : Procedure) → held j ≡ true → slice_get ps j ≡ Some q → calls k q.body ≡ true → held k ≡ true) where
   -- where all that are lower do
   agree_at : (j : ℕ) (q : Procedure) → held j ≡ true → slice_get ps j ≡ Some q → ((i : ℕ) (c : Procedure) → i < j → held i ≡ true → slice_get ps i ≡ Some c → Same (slice_get final i) (slice_get callees i)) → Same (slice_get final j) (slice_get callees j)
   agree_at j q h g earlier = subst₂ Same (sym s.here) (sym t.here) (refl, fun_ext (λ y. same_writes (world_of s.kinds s.before) (world_of t.kinds t.before) q.body meet (λ x. x) y))
     where
       s : Stands (Ruled fields count) final j q
       s = ruled.each j q g
+
       t : Stands Any callees j q
       t = stand.each j q (same j q h g)
+
       meet : (i : ℕ) → calls i q.body ≡ true → Same (slice_get s.before i) (slice_get t.before i)
       meet i called =
           let c = calls_there (field_kind fields) count (slice_get s.before) q.body (scope_of [] q.params) (λ x. x) i s.holds.body called in
@@ -157,10 +158,10 @@ module _ (program : Program) (k : ℕ) (p : Procedure) (above : Above) (stand : 
       let t = stand.each i q.0 beside in
       let mine : callee ≡ callee_in (world_of s.kinds s.before) q.0 = some_same callee (callee_in (world_of s.kinds s.before) q.0) (sym at ∙ here.below i low ∙ s.here) in
       let meet : Same (Some (callee_in (world_of s.kinds s.before) q.0)) (Some (callee_in (world_of t.kinds t.before) q.0)) =
-          subst₂ Same s.here t.here (agree program.fields count program.procedures above.program.procedures whole.0 above.callees whole.1 stand held_numbers same_numbers closed_numbers (suc i) i (omega arith) h q.0 q.1) in
+      subst₂ Same s.here t.here (agree program.fields count program.procedures above.program.procedures whole.0 above.callees whole.1 stand held_numbers same_numbers closed_numbers (suc i) i (omega arith) h q.0 q.1) in
       let name : callee_name program.procedures i ≡ q.0.name = ap (λ o. elim o [ None ↦ unknown i | Some x ↦ x.name ]) q.1 in
       let found : name_number names (callee_name program.procedures i) ≡ Some i =
-          ap (name_number names) name ∙ procedure_found above.program.procedures i q.0 beside (λ j other g e. holds.named_once i j q.0 other called beside g e) in
+      ap (name_number names) name ∙ procedure_found above.program.procedures i q.0 beside (λ j other g e. holds.named_once i j q.0 other called beside g e) in
       record {
         number = ap (number_or no_id) found;
         signature =
@@ -172,8 +173,10 @@ module _ (program : Program) (k : ℕ) (p : Procedure) (above : Above) (stand : 
     where
       held_numbers : ℕ → Bool
       held_numbers = holds.held
+
       same_numbers : (j : ℕ) (q : Procedure) → holds.held j ≡ true → slice_get program.procedures j ≡ Some q → slice_get above.program.procedures j ≡ Some q
       same_numbers = holds.same
+
       closed_numbers : (j n : ℕ) (q : Procedure) → holds.held j ≡ true → slice_get program.procedures j ≡ Some q → calls n q.body ≡ true → holds.held n ≡ true
       closed_numbers = holds.closed
 

@@ -1,5 +1,5 @@
 -- What names stand for in a scope whose ids are others.
-use Rattle.std.proofs.Common.{◌≡◌, ℕ, ◌==◌, Bool, true, false, not, ◌&&◌, ◌||◌, if◌then◌else◌, List, [], ◌∷◌, map, Option, Some, None, refl, sym, ap, ap₂, ◌∙◌, true≢false, eqb-true, eq-eqb}
+use Rattle.std.proofs.Common.{◌≡◌, ℕ, ◌==◌, Bool, true, false, not, ◌&&◌, ◌||◌, if◌then◌else◌, List, [], ◌∷◌, map, Option, Some, None, refl, sym, ap, ap₂, ◌∙◌, true≢false, eqb-true}
 use Rattle.std.specs.List.{list_any}
 use Rattle.std.specs.Option.{is_some}
 use Rattle.std.proofs.lemmas.Slice.Eq.{bytes_eq-Decides}
@@ -79,6 +79,7 @@ finds_more w r scope b sort finds new same = record { found = λ x s p. by x s (
     other x s true q p =
         let none : named_in (re_scope r scope) (w.name x) ≡ None = ap (named_in (re_scope r scope)) (sym (same_text b.name (w.name x) q)) ∙ new_name r scope b new in
         cc
+
     by : (x : ℕ) (s : Sort) (t : Bool) → (x == b.id) ≡ t → (if t then Some sort else sort_in scope x) ≡ Some s → named_in (re_scope r (with_name scope b sort)) (w.name x) ≡ Some (entry w r x s)
     by x s true q p =
         let e : x ≡ b.id = eqb-true x b.id q in

@@ -1,17 +1,15 @@
 -- A written call breaks no rule: its arguments are of their parameters, and share no buffer that is written.
-use Rattle.std.proofs.Common.{◌≡◌, ℕ, zero, suc, ◌+◌, ◌==◌, Bool, true, false, not, ◌&&◌, ◌||◌, List, [], ◌∷◌, ◌++◌, length, map, Option, Some, None, option_map, refl, sym, ap, ap₂, ◌∙◌, true≢false, eqb-true, eq-eqb}
-use Rattle.std.specs.List.{list_any}
+use Rattle.std.proofs.Common.{◌≡◌, ℕ, suc, ◌+◌, ◌==◌, Bool, true, false, not, ◌&&◌, ◌||◌, List, [], ◌∷◌, ◌++◌, length, map, Option, Some, None, option_map, refl, sym, ap, ap₂, ◌∙◌, true≢false, eqb-true, eq-eqb}
 use Rattle.std.proofs.lemmas.List.{length-map, map-append}
 use Rattle.exo_tree.specs.Tree.{Kind, ConfigField, Argument, ControlArg, ConditionArg, Whole, Window, Param}
 use Rattle.exo_meaning.specs.Units as units
 use Rattle.exo_meaning.specs.Units.{Scope, is_for, are_for, share_nothing_written, is_shared, field_kind, root_of}
 use Rattle.exo_meaning.specs.Renaming.{Renaming, re_argument, re_arguments}
-use Rattle.exo_names.specs.declared.fault.Fault.{Fault}
-use Rattle.exo_names.specs.declared.error.TypeKind.TheVariants.{RankMismatch, SharedArgument}
+use Rattle.exo_names.specs.declared.error.TypeKind.TheVariants.{SharedArgument}
 use Rattle.exo_names.specs.Faults.{unless}
 use Rattle.exo_show.specs.Words.{Words}
 use Rattle.exo_types.specs.declared.call.Passed.{Passed}
-use Rattle.exo_types.specs.ArgumentRules.{Signature, same_buffer, is_passed, argument_width, argument_faults, argument_of, arguments_of, arguments_faults, call_faults}
+use Rattle.exo_types.specs.ArgumentRules.{same_buffer, is_passed, argument_width, argument_of, arguments_of, arguments_faults, call_faults}
 use Rattle.exo_readback.specs.Written as written
 use Rattle.exo_readback.specs.Names.{Each}
 use Rattle.exo_readback.proofs.Scoped.{Finds, re_scope, both, neither, denied}
@@ -104,10 +102,10 @@ module _ (w : Words) (fields : List ConfigField) (r : Renaming) (scope : Scope) 
         let fresh : shared (writes p.binder.id) (root_of kinds root a) ps args ≡ false = sym (shared_is p (root_of kinds root a) ps args) ∙ denied _ t.0 in
         joined_fine _ _ (argument_fine w fields r scope finds finds_fields p.kind a s.0 some.0 n)
         (joined_fine _ _
-          (ap (λ u. unless (not (is_passed (writes p.binder.id) u (map re_passed passed))) SharedArgument n) o ∙ unless_fine _ _ n (ap not (passed_fine passed p ps a args clear)))
-          (ap (λ u. arguments_faults fields writes there root' (map re_passed passed ++ record { root = u; written = writes p.binder.id } ∷ []) ps (n + argument_width (written.argument_of w fields a) + 1) (map (written.argument_of w fields) args)) o
-          ∙ ap (λ l. arguments_faults fields writes there root' l ps (n + argument_width (written.argument_of w fields a) + 1) (map (written.argument_of w fields) args)) (sym (map-append re_passed passed (entry ∷ [])))
-          ∙ arguments_fine ps args (passed ++ entry ∷ []) s.1 t.1 some.1 (clear_more passed entry ps args (clear_rest passed p ps a args clear) fresh) _))
+        (ap (λ u. unless (not (is_passed (writes p.binder.id) u (map re_passed passed))) SharedArgument n) o ∙ unless_fine _ _ n (ap not (passed_fine passed p ps a args clear)))
+        (ap (λ u. arguments_faults fields writes there root' (map re_passed passed ++ record { root = u; written = writes p.binder.id } ∷ []) ps (n + argument_width (written.argument_of w fields a) + 1) (map (written.argument_of w fields) args)) o
+        ∙ ap (λ l. arguments_faults fields writes there root' l ps (n + argument_width (written.argument_of w fields a) + 1) (map (written.argument_of w fields) args)) (sym (map-append re_passed passed (entry ∷ [])))
+        ∙ arguments_fine ps args (passed ++ entry ∷ []) s.1 t.1 some.1 (clear_more passed entry ps args (clear_rest passed p ps a args clear) fresh) _))
 
     pub call_fine : (ps : List Param) (args : List Argument) → are_for kinds scope ps args ≡ true → share_nothing_written kinds writes root ps args ≡ true → Each HasCoords args → (n : ℕ) → call_faults fields (Some (record { params = ps; writes = writes })) there root' n (map (written.argument_of w fields) args) ≡ []
     call_fine ps args h apart some n =

@@ -1,11 +1,11 @@
 -- Procedures as they stand below each other, and which parameters they write.
-use Rattle.std.proofs.Common.{◌≡◌, ℕ, zero, suc, ◌+◌, ◌<◌, ◌≤◌, ◌==◌, Bool, true, false, not, ◌&&◌, ◌||◌, List, [], ◌∷◌, ◌++◌, length, map, take, Option, Some, None, slice_get, refl, sym, ap, ap₂, ◌∙◌, true≢false, eqb-true, eq-eqb, arith, subst, inl, inr, ⊎_elim, ◌⊎◌}
-use Rattle.exo_tree.specs.Tree.{Kind, Index, ConfigField, Argument, Statement, Assign, Reduce, Config, Pass, If, For, Alloc, View, Call, Block, end, next, Param, Procedure, Program}
+use Rattle.std.proofs.Common.{◌≡◌, ℕ, zero, suc, ◌<◌, ◌==◌, Bool, true, false, not, ◌&&◌, ◌||◌, List, [], ◌∷◌, ◌++◌, length, Option, Some, None, slice_get, refl, sym, ap, ap₂, ◌∙◌, true≢false, eqb-true, eq-eqb, arith, subst, inl, inr, ⊎_elim, ◌⊎◌}
+use Rattle.exo_tree.specs.Tree.{Kind, Index, Argument, Statement, Assign, Reduce, Config, Pass, If, For, Alloc, View, Call, Block, end, next, Procedure}
 use Rattle.exo_meaning.specs.Calls.{Callee}
-use Rattle.exo_meaning.specs.Run.{World, world_of, callee_in, kinds_of, roots_after, writes, step_writes, call_writes, call_to_writes}
-use Rattle.exo_meaning.specs.Units.{Scope, ControlName, with_name, scope_after, is_call, is_statement, is_block, is_condition, is_control, is_new, is_empty, is_short, is_access, is_datum, is_window, with_fields, plainly, IsProcedure, AreProcedures, field_kind, scope_of}
+use Rattle.exo_meaning.specs.Run.{World, world_of, callee_in, roots_after, writes, step_writes, call_writes, call_to_writes}
+use Rattle.exo_meaning.specs.Units.{Scope, ControlName, with_name, scope_after, is_call, is_statement, is_block, is_condition, is_control, is_new, is_empty, is_short, with_fields, plainly}
 use Rattle.exo_readback.specs.Again.{calls, is_call_of}
-use Rattle.exo_readback.proofs.Scoped.{both, neither, denied}
+use Rattle.exo_readback.proofs.Scoped.{both}
 
 -- ---- lists
 
@@ -75,7 +75,8 @@ same_below xs x i l = let t = there xs i l in t.1 ∙ sym (get_left xs (x ∷ []
 
 stands_more : (P : List Callee → Procedure → Type 0) (callees : List Callee) (c : Callee) (j : ℕ) (q : Procedure) → j < length callees → Stands P callees j q → Stands P (callees ++ c ∷ []) j q
 stands_more P callees c j q l s = record {
-  kinds = s.kinds; before = s.before;
+  kinds = s.kinds;
+  before = s.before;
   here = get_left callees (c ∷ []) j _ s.here;
   below = λ i m. s.below i m ∙ same_below callees c i (omega (arith, l, m));
   short = s.short;
@@ -90,13 +91,16 @@ one_more P callees ps kinds p all own = record {
   where
     c : Callee
     c = callee_in (world_of kinds callees) p
+
     old : (j : ℕ) (q : Procedure) → slice_get ps j ≡ Some q → Stands P (callees ++ c ∷ []) j q
     old j q h = stands_more P callees c j q (let l = got_below ps j q h in omega (arith, l, all.many)) (all.each j q h)
+
     new : (j : ℕ) (q : Procedure) → (j ≡ length ps) × (p ≡ q) → Stands P (callees ++ c ∷ []) j q
     new j q h =
         let place : j ≡ length callees = h.0 ∙ sym all.many in
         record {
-          kinds = kinds; before = callees;
+          kinds = kinds;
+          before = callees;
           here = ap (slice_get (callees ++ c ∷ [])) place ∙ get_last callees c ∙ ap (λ z. Some (callee_in (world_of kinds callees) z)) h.1;
           below = λ i l. same_below callees c i (omega (arith, l, place));
           short = sym place;
@@ -161,6 +165,7 @@ module _ (kinds : ℕ → Option Kind) (count : ℕ) (callees : ℕ → Option C
     where
       same : i ≡ k
       same = eqb-true i k e
+
       by : (o : Option Callee) → callees k ≡ o → is_call kinds scope root o args ≡ true → IsThere i
       by None p t = absurd (true≢false (sym t))
       by (Some c) p t = (c, ap callees same ∙ p)

@@ -1,42 +1,30 @@
 -- A written block breaks no rule.
-use Rattle.std.proofs.Common.{◌≡◌, ℕ, zero, suc, ◌+◌, ◌==◌, nat_lt, Bool, true, false, not, ◌&&◌, ◌||◌, if◌then◌else◌, List, [], ◌∷◌, ◌++◌, length, map, Option, Some, None, slice_get, refl, sym, ap, ap₂, ◌∙◌, true≢false, eqb-true, eq-eqb, arith, length-append, subst}
-use Rattle.std.specs.List.{list_all}
-use Rattle.std.proofs.lemmas.List.{length-map}
+use Rattle.std.proofs.Common.{◌≡◌, ℕ, suc, ◌+◌, true, not, ◌&&◌, List, [], length, map, Option, None, refl, sym, ap, ap₂, ◌∙◌}
 use Rattle.exo_tree.specs.Tree as tree
 use Rattle.exo_tree.specs.Tree.{Kind, Index, Cell, I8, I32, Binder, ConfigField, Control, Coord, At, Span, Argument, ControlArg, ConditionArg, Whole, Window, Statement, Assign, Reduce, Config, Pass, If, For, Alloc, View, Call, Block, end, next, Program}
-use Rattle.exo_meaning.specs.Scene.{updated}
 use Rattle.exo_meaning.specs.Calls.{Callee}
 use Rattle.exo_meaning.specs.Run.{roots_after}
 use Rattle.exo_meaning.specs.Binders.{binders, step_binders}
-use Rattle.exo_meaning.specs.Units as units
-use Rattle.exo_meaning.specs.Units.{Scope, Sort, ControlName, BufferName, Named, sort_in, with_name, view_sort, scope_after, plainly, with_fields, with_strides, has_rank, is_new, is_empty, is_short, is_rank, is_control, are_controls, is_condition, is_access, is_datum, is_window, is_write, is_call, are_for, share_nothing_written, is_statement, is_block, field_kind}
-use Rattle.exo_meaning.specs.Renaming.{Renaming, re_control, re_controls, re_condition, re_datum, re_coords, re_argument, re_arguments, re_binder, re_statement, re_block}
-use Rattle.exo_source.specs.Source as source
-use Rattle.exo_names.specs.declared.fault.Fault.{Fault}
-use Rattle.exo_names.specs.declared.error.TypeKind.TheVariants.{Redefined}
-use Rattle.exo_names.specs.Faults.{unless, least, or_else}
-use Rattle.exo_names.specs.Names.{id_in, field_in, name_number, no_id}
+use Rattle.exo_meaning.specs.Units.{Scope, ControlName, sort_in, with_name, scope_after, plainly, with_fields, with_strides, has_rank, is_new, is_empty, is_short, is_rank, is_control, are_controls, is_condition, is_access, is_datum, is_window, is_statement, is_block, field_kind}
+use Rattle.exo_meaning.specs.Renaming.{Renaming, re_statement}
+use Rattle.exo_names.specs.Faults.{least, or_else}
 use Rattle.exo_names.specs.ExpressionRules.{is_buffer, width}
-use Rattle.exo_names.specs.Resolved.{control_of, controls_of, datum_of, field_number}
 use Rattle.exo_names.specs.WindowRules.{window_faults}
 use Rattle.exo_show.specs.Layout.{Text}
-use Rattle.exo_show.specs.Words.{Words, words_with, cell_word}
-use Rattle.exo_types.specs.TypeRules.{binder, binder_faults, cell_faults, cell_of, memory_faults, named_memory_faults, memory_of, number_or, is_taken}
-use Rattle.exo_types.specs.ArgumentRules.{Signature, signature_of, dims_width, params_of, arguments_of, points, call_faults}
-use Rattle.exo_types.specs.StatementRules.{statement_width, block_width, bound, bound_in, number_in, callee_named, written_of, write_faults, target_faults, store_faults, statement_of, block_of, own_faults, inner_fault, block_fault}
+use Rattle.exo_show.specs.Words.{Words, words_with}
+use Rattle.exo_types.specs.TypeRules.{binder}
+use Rattle.exo_types.specs.ArgumentRules.{Signature}
+use Rattle.exo_types.specs.StatementRules.{statement_width, block_width, bound, write_faults, store_faults, own_faults, inner_fault, block_fault}
 use Rattle.exo_readback.specs.Again.{calls, is_call_of}
-use Rattle.exo_readback.specs.Names.{Each}
 use Rattle.exo_readback.specs.Written as written
 use Rattle.exo_readback.specs.Written.{config_word, field_word, control_tree, condition_tree, datum_tree}
 use Rattle.exo_readback.specs.Writable as writable
-use Rattle.exo_readback.proofs.Scoped.{Finds, re_scope, re_named, both, neither, denied, not_taken, finds_more, id_found, sort_found}
-use Rattle.exo_readback.proofs.Resolved.{FindsFields, field_is, unless_fine, joined_fine, ranked_buffer, control_same, control_fine, controls_same, controls_fine}
-use Rattle.exo_readback.proofs.Judged.{condition_same, condition_fine, datum_same, datum_fine, coordinates_same, window_fine, points_are, access_window}
+use Rattle.exo_readback.proofs.Scoped.{Finds, re_scope, both, finds_more}
+use Rattle.exo_readback.proofs.Resolved.{FindsFields, field_is, joined_fine, ranked_buffer, control_fine, controls_fine}
+use Rattle.exo_readback.proofs.Judged.{condition_fine, datum_fine, window_fine, points_are, access_window}
 use Rattle.exo_readback.proofs.Called.{AreCalled, IsCalled}
 use Rattle.exo_readback.proofs.Numbered.{Counts, split_left, split_right}
-use Rattle.exo_readback.proofs.Passed.{HasCoords, kind_same, kind_fine}
-use Rattle.exo_readback.proofs.Shared.{same_ids, arguments_same, call_fine}
-
+use Rattle.exo_readback.proofs.Passed.{kind_fine}
 use Rattle.exo_readback.proofs.Inside.{RootsMeet, FindsMemories, MeetsCalls, MeetsCall, scope_re, roots_re, cell_fine, binder_fine, memory_fine, or_left, or_right, bound_block, bound_statement, call_keeps, write_kind, finds_after, statement_same}
 
 module _ (program : Program) (names : ℕ → Text) (r : Renaming) (finds_fields : FindsFields program.fields) (count : ℕ) (callees : ℕ → Option Callee) (memories above : List Text) (signatures : List Signature) (finds_memories : FindsMemories (words_with program names).memory count memories) where
@@ -61,7 +49,7 @@ module _ (program : Program) (names : ℕ → Text) (r : Renaming) (finds_fields
       let t = both (has_rank (length is) (sort_in scope x)) _ s.0 in
       joined_fine _ _
       (ap (window_faults fields is_buffer (re_scope r scope) n (w.name x)) (points_are w fields r scope finds finds_fields is)
-        ∙ window_fine w fields r scope finds finds_fields is_buffer x (map At is) refl (ranked_buffer (sort_in scope x) (length is) t.0) (access_window w fields r scope finds finds_fields x is s.0) n)
+      ∙ window_fine w fields r scope finds finds_fields is_buffer x (map At is) refl (ranked_buffer (sort_in scope x) (length is) t.0) (access_window w fields r scope finds finds_fields x is s.0) n)
       (datum_fine w fields r scope finds finds_fields e s.1 _)
 
   own_fine : (a : Statement) (scope : Scope) (finds : Finds w r scope) (root root' : ℕ → ℕ) → RootsMeet r root root' → writable.IsStatement program names a → MeetsOne a → is_statement kinds count callees scope root a ≡ true → (n : ℕ) → own_faults fields memories above signatures (re_scope r scope) root' n (written.statement_of w fields a) ≡ []

@@ -1,22 +1,19 @@
 -- A written procedure with its names resolved is itself, under other ids, and breaks no rule.
-use Rattle.std.proofs.Common.{◌≡◌, ℕ, zero, suc, ◌+◌, ◌==◌, nat_lt, Bool, true, false, not, ◌&&◌, ◌||◌, if◌then◌else◌, List, [], ◌∷◌, ◌++◌, length, map, Option, Some, None, slice_get, refl, sym, ap, ap₂, ◌∙◌, true≢false, subst}
+use Rattle.std.proofs.Common.{◌≡◌, ℕ, suc, ◌+◌, nat_lt, true, false, ◌&&◌, List, [], ◌∷◌, length, map, Option, None, refl, sym, ap, ap₂, ◌∙◌}
 use Rattle.std.specs.List.{list_all}
 use Rattle.std.proofs.lemmas.List.{length-map}
-use Rattle.exo_tree.specs.Tree.{Kind, Size, Index, Truth, Stride, Cell, I8, I32, Binder, ConfigField, Control, Condition, Param, ParamKind, ControlParam, TensorParam, WindowParam, Procedure, Program}
+use Rattle.exo_tree.specs.Tree.{Kind, Size, Index, Truth, Stride, I8, I32, ConfigField, Condition, Param, ParamKind, ControlParam, TensorParam, WindowParam, Procedure, Program}
 use Rattle.exo_meaning.specs.Calls.{Callee}
 use Rattle.exo_meaning.specs.Binders.{binders}
-use Rattle.exo_meaning.specs.Units.{Scope, BufferName, with_name, scope_of, param_sort, plainly, with_both, is_new, is_rank, are_controls, is_condition, is_param_kind, are_params, IsProcedure, field_kind, bound_ids, are_distinct}
-use Rattle.exo_meaning.specs.Renaming.{Renaming, re_controls, re_condition, re_binder, re_block}
-use Rattle.exo_reader.specs.Expression.{Tree}
+use Rattle.exo_meaning.specs.Units.{Scope, BufferName, with_name, scope_of, param_sort, plainly, with_both, is_new, is_rank, are_controls, is_condition, is_param_kind, are_params, IsProcedure, field_kind, bound_ids}
+use Rattle.exo_meaning.specs.Renaming.{Renaming, re_condition, re_binder}
 use Rattle.exo_source.specs.Source as source
-use Rattle.exo_names.specs.declared.fault.Fault.{Fault}
 use Rattle.exo_names.specs.Faults.{least, or_else}
-use Rattle.exo_names.specs.Resolved.{controls_of, condition_of}
-use Rattle.exo_names.specs.ExpressionRules.{width}
+use Rattle.exo_names.specs.Resolved.{condition_of}
 use Rattle.exo_show.specs.Layout.{Text}
 use Rattle.exo_show.specs.Names.{names_of}
-use Rattle.exo_show.specs.Words.{Words, words_with, words_of, memory_name, cell_word}
-use Rattle.exo_types.specs.TypeRules.{binder, binder_faults}
+use Rattle.exo_show.specs.Words.{Words, words_of, memory_name}
+use Rattle.exo_types.specs.TypeRules.{binder}
 use Rattle.exo_types.specs.ArgumentRules.{Signature}
 use Rattle.exo_types.specs.StatementRules.{block_of, block_fault}
 use Rattle.exo_types.specs.ItemRules.{form_faults, form_of, param_of, with_param, params_from, params_fault, parameter_width, asserts_start, body_start, assertions_fault, definition_of, definition_fault}
@@ -174,9 +171,9 @@ module _ (program : Program) (p : Procedure) (r : Renaming) (finds_fields : Find
       ap (λ params. record { name = p.name; params = params; asserts = map (condition_of fields (scope_of [] params)) (map (condition_tree w fields) p.asserts); body = block_of fields memories above signatures (id + length params) (scope_of [] params) (source.block_of (source.statements body_tree)); template = template }) same_params
       ∙ ap₂ (λ sc k. record { name = p.name; params = map (re_param r) p.params; asserts = map (condition_of fields sc) (map (condition_tree w fields) p.asserts); body = block_of fields memories above signatures k sc (source.block_of (source.statements body_tree)); template = template }) same_scope body_id
       ∙ ap₂ (λ cs b. record { name = p.name; params = map (re_param r) p.params; asserts = cs; body = b; template = template })
-        (asserts_same w fields r finds_fields count memories finds_memories p.asserts (scope_of [] p.params) finds rules.asserts)
-        (ap (λ b. block_of fields memories above signatures (id + length (ids_of p.params)) (re_scope r (scope_of [] p.params)) b) (block_again body_tree)
-        ∙ block_same program (names_of p) r finds_fields count callees memories above signatures finds_memories p.body (scope_of [] p.params) finds (λ x. x) (id + length (ids_of p.params)) body_numbers named.1 can.body meets rules.body)
+      (asserts_same w fields r finds_fields count memories finds_memories p.asserts (scope_of [] p.params) finds rules.asserts)
+      (ap (λ b. block_of fields memories above signatures (id + length (ids_of p.params)) (re_scope r (scope_of [] p.params)) b) (block_again body_tree)
+      ∙ block_same program (names_of p) r finds_fields count callees memories above signatures finds_memories p.body (scope_of [] p.params) finds (λ x. x) (id + length (ids_of p.params)) body_numbers named.1 can.body meets rules.body)
 
   pub definition_fine : (n : ℕ) → definition_fault fields memories above signatures id n (written.definition_of w fields p) ≡ None
   definition_fine n =
@@ -185,6 +182,6 @@ module _ (program : Program) (p : Procedure) (r : Renaming) (finds_fields : Find
       (ap (λ params. or_else (assertions_fault fields memories (scope_of [] params) (asserts_start n d) d.asserts) (block_fault fields memories above signatures (id + length params) (scope_of [] params) (λ x. x) (body_start n d) (source.block_of d.body))) same_params
       ∙ ap₂ (λ sc k. or_else (assertions_fault fields memories sc (asserts_start n d) d.asserts) (block_fault fields memories above signatures k sc (λ x. x) (body_start n d) (source.block_of d.body))) same_scope body_id
       ∙ ap₂ or_else
-        (asserts_fine w fields r finds_fields count memories finds_memories p.asserts (scope_of [] p.params) finds rules.asserts (asserts_start n d))
-        (ap (λ b. block_fault fields memories above signatures (id + length (ids_of p.params)) (re_scope r (scope_of [] p.params)) (λ x. x) (body_start n d) b) (block_again body_tree)
-        ∙ block_fine program (names_of p) r finds_fields count callees memories above signatures finds_memories p.body (scope_of [] p.params) finds (λ x. x) (λ x. x) (λ x. refl) (id + length (ids_of p.params)) body_numbers named.1 can.body meets rules.body (body_start n d)))
+      (asserts_fine w fields r finds_fields count memories finds_memories p.asserts (scope_of [] p.params) finds rules.asserts (asserts_start n d))
+      (ap (λ b. block_fault fields memories above signatures (id + length (ids_of p.params)) (re_scope r (scope_of [] p.params)) (λ x. x) (body_start n d) b) (block_again body_tree)
+      ∙ block_fine program (names_of p) r finds_fields count callees memories above signatures finds_memories p.body (scope_of [] p.params) finds (λ x. x) (λ x. x) (λ x. refl) (id + length (ids_of p.params)) body_numbers named.1 can.body meets rules.body (body_start n d)))
