@@ -5,3 +5,17 @@ pub mod Gone
 pub mod Calls
 pub mod Attributes
 pub mod Numbers
+pub mod Forms
+pub mod Broken
+pub mod Falling
+pub mod Bounded
+pub mod Spans
+pub mod Walked
+pub mod Nested
+pub mod Bound
+pub mod Plain
+pub mod Signatures
+pub mod Spelled
+pub mod Writes
+pub mod Charged
+pub mod Within

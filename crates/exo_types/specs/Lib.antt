@@ -8,3 +8,5 @@ pub mod UnitLines
 pub mod Typed
 pub mod Refusals
 pub mod Seen
+pub mod Walks
+pub mod Laws

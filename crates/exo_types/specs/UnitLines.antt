@@ -9,24 +9,25 @@ use Rattle.exo_names.specs.ExpressionRules.{width}
 use Rattle.exo_types.specs.StatementRules.{statement_width, block_width}
 use Rattle.exo_types.specs.ItemRules.{body_start}
 
--- the numbers of the first tokens of a statement and of the statements inside it, in preorder; n is that of its own
+-- The numbers of the first tokens of the statements inside a statement, and of a block with those inside them, in preorder; n is that
+-- of its own first token.
 abbrev mutual
-  pub statement_starts : ℕ → Statement → List ℕ
-  statement_starts n pass = n ∷ []
-  statement_starts n (branch c a b) =
+  pub inner_starts : ℕ → Statement → List ℕ
+  inner_starts n pass = []
+  inner_starts n (branch c a b) =
       let first = n + 1 + width c + 3 in
-      n ∷ (block_starts first a ++ block_starts (first + block_width a + 5) b)
-  statement_starts n (loop i low high a) = n ∷ block_starts (n + 5 + width low + 1 + width high + 4) a
-  statement_starts n (allocate x type ds m) = n ∷ []
-  statement_starts n (call f args trailing) = n ∷ []
-  statement_starts n (configure c x e) = n ∷ []
-  statement_starts n (assign x ds e) = n ∷ []
-  statement_starts n (reduce x ds e) = n ∷ []
-  statement_starts n (view w x cs) = n ∷ []
+      block_starts first a ++ block_starts (first + block_width a + 5) b
+  inner_starts n (loop i low high a) = block_starts (n + 5 + width low + 1 + width high + 4) a
+  inner_starts n (allocate x type ds m) = []
+  inner_starts n (call f args trailing) = []
+  inner_starts n (configure c x e) = []
+  inner_starts n (assign x ds e) = []
+  inner_starts n (reduce x ds e) = []
+  inner_starts n (view w x cs) = []
 
   pub block_starts : ℕ → Block → List ℕ
   block_starts n end = []
-  block_starts n (next s more) = statement_starts n s ++ block_starts (n + statement_width s) more
+  block_starts n (next s more) = n ∷ (inner_starts n s ++ block_starts (n + statement_width s) more)
 
 abbrev pub line_of : Option Place → ℕ
 line_of None = 0

@@ -4,6 +4,9 @@
 pub mod argument;
 pub mod attribute;
 pub mod call;
+pub mod context;
+pub mod laws;
 pub mod part;
 pub mod refusal;
+pub mod statement;
 pub mod types;

@@ -7,7 +7,7 @@ ghost use Rattle.exo_names.specs.Tests.{most_tokens};
 ghost use Rattle.exo_names.specs.ExpressionRules.{width, is_buffer, controls_faults};
 ghost use Rattle.exo_names.specs.WindowRules.{window_faults};
 ghost use Rattle.exo_types.specs.TypeRules.{binder_faults, memory_faults, memory_width, memory_of};
-ghost use Rattle.exo_types.specs.ArgumentRules.{dims_width, points};
+ghost use Rattle.exo_types.specs.ArgumentRules.{dims_width, comma_width, points};
 ghost use Rattle.exo_types.specs.StatementRules.{store_faults};
 
 use exo_lexer::text::Text;
@@ -66,6 +66,13 @@ pub fn memory_of(memories: &NameTable, memory: &Option<Text>) -> MemId
         Some(number) => MemId(number as u32),
         None => MemId(0),
     }
+}
+
+/// How many tokens the comma behind the last one of a list has, where there may be one.
+pub fn comma_width(trailing: bool) -> usize
+    ensures { result ≡ comma_width trailing }
+{
+    if trailing { 1 } else { 0 }
 }
 
 /// The charge of dimensions or indices whose bracket is token `n`, and the number of the token behind them.

@@ -1,5 +1,7 @@
 //! Why a part of a unit is refused.
 ghost use Rattle.std.specs.Prelude.{◌≡◌, MatchResult, None};
+ghost use Rattle.exo_names.specs.declared.error.TypeKind.TheVariants.{UnknownName};
+ghost use Rattle.exo_names.specs.Faults.{fault, least};
 ghost use Rattle.exo_types.specs.Refusals.{Refuses};
 
 use exo_names::error::{TypeError, TypeKind};
@@ -32,6 +34,16 @@ pub fn keep(charge: Charge) -> Result<(), Refusal>
         None => Ok(()),
         Some(fault) => Err(Refusal::Broken(fault)),
     }
+}
+
+/// Refuses a name at a token that stands for nothing.
+pub fn unknown_name(token: usize) -> Refusal
+    ensures { Refuses result (least (fault UnknownName token)) }
+{
+    Refusal::Broken(Fault {
+        token,
+        rule: TypeKind::UnknownName,
+    })
 }
 
 /// Want of memory.

@@ -1,0 +1,75 @@
+-- Statements that bind no name and have no blocks.
+use Rattle.std.proofs.Common.{◌≡◌, ℕ, ◌==◌, Bool, true, false, List, [], ◌++◌, Option, Some, None, map, slice_get, refl, ap, sym, ◌∙◌, arith}
+use Rattle.std.proofs.lemmas.List.{append-nil}
+use Rattle.std.proofs.lemmas.Bool.{eqb-true}
+use Rattle.std.proofs.Math.Seq.{take-length}
+use Rattle.exo_tree.specs.Tree as tree
+use Rattle.exo_tree.specs.Tree.{Kind}
+use Rattle.exo_meaning.specs.Run.{roots_after}
+use Rattle.exo_meaning.specs.Units.{scope_after}
+use Rattle.exo_reader.specs.Expression.{Tree}
+use Rattle.exo_source.specs.Source as source
+use Rattle.exo_source.specs.Source.{Statement, pass, call, configure, assign, reduce}
+use Rattle.exo_names.specs.declared.fault.Fault.{Fault}
+use Rattle.exo_names.specs.declared.error.TypeKind.TheVariants.{RankMismatch}
+use Rattle.exo_names.specs.Faults.{or_else, least, unless}
+use Rattle.exo_names.specs.Names.{id_in, name_number, field_in, no_id}
+use Rattle.exo_names.specs.Resolved.{controls_of, datum_of, field_number}
+use Rattle.exo_writes.specs.Written.{roots_in}
+use Rattle.exo_types.specs.declared.context.Context.{Context}
+use Rattle.exo_types.specs.declared.context.Walk.{Walk}
+use Rattle.exo_types.specs.TypeRules.{number_or}
+use Rattle.exo_types.specs.ArgumentRules.{Signature, kind_value_of, arguments_of, params_of}
+use Rattle.exo_types.specs.StatementRules.{bound, callee_named, written_of}
+use Rattle.exo_types.specs.UnitLines.{inner_starts, line_at}
+use Rattle.exo_types.specs.Walks.{signatures_in, IsStatement, own_fault, statement_fault, statement_of}
+use Rattle.exo_types.proofs.Broken.{none_broken, first_empty}
+
+-- the callee of a name
+pub callee_unknown : (c : Context) (x : List ℕ) → name_number c.procedures.now x ≡ None → callee_named c.fields.now c.memories.now c.procedures.now (signatures_in c) x ≡ None
+callee_unknown c x none = ap (λ o. elim o [ None ↦ None | Some j ↦ slice_get (signatures_in c) j ]) none
+
+pub callee_found : (c : Context) (x : List ℕ) (k : ℕ) (f : Option Signature) → name_number c.procedures.now x ≡ Some k → slice_get (signatures_in c) k ≡ f → callee_named c.fields.now c.memories.now c.procedures.now (signatures_in c) x ≡ f
+callee_found c x k f found seen = ap (λ o. elim o [ None ↦ None | Some j ↦ slice_get (signatures_in c) j ]) found ∙ seen
+
+-- as many arguments as parameters, where no rule is broken
+pub counted : (a b n : ℕ) (more : List Fault) → least (unless (a == b) RankMismatch n ++ more) ≡ None → a ≡ b
+counted a b n more h = by (a == b) refl (first_empty (unless (a == b) RankMismatch n) more (none_broken (unless (a == b) RankMismatch n ++ more) h))
+  where
+    by : (t : Bool) → (a == b) ≡ t → unless t RankMismatch n ≡ [] → a ≡ b
+    by true e k = eqb-true a b e
+    by false e k = cc
+
+module _ (c : Context) where
+  -- a statement that binds no name and has no blocks leaves the walk as it was
+  settled : (w : Walk) (t : tree.Statement) (n : ℕ) (s : Statement) → statement_fault c w n s ≡ or_else (own_fault c w n s) None → scope_after (statement_of c w s) w.scope ≡ w.scope → roots_after (statement_of c w s) (roots_in w.aliases.items) ≡ roots_in w.aliases.items → bound s ≡ 0 → inner_starts n s ≡ [] → own_fault c w n s ≡ None → t ≡ statement_of c w s → IsStatement c w w t n s
+  settled w t n s plain scope roots none inner own made = record {
+    keeps = plain ∙ ap (λ o. or_else o None) own;
+    means = made;
+    scope = sym (ap (λ u. scope_after u w.scope) made ∙ scope);
+    roots = sym (ap (λ u. roots_after u (roots_in w.aliases.items)) made ∙ roots);
+    kept = take-length w.aliases.items;
+    ids = omega (arith, none);
+    lines = sym (append-nil w.lines) ∙ ap (λ l. w.lines ++ map (line_at c.places.now) l) (sym inner);
+  }
+
+  pub passed : (w : Walk) (n : ℕ) → IsStatement c w w tree.Pass n pass
+  passed w n = settled w tree.Pass n pass refl refl refl refl refl refl refl
+
+  pub assigned : (w : Walk) (n : ℕ) (x : List ℕ) (ds : List Tree) (e : Tree) (id : ℕ) (is : List tree.Control) (d : tree.Datum) → own_fault c w n (assign x ds e) ≡ None → id ≡ id_in w.scope x → is ≡ controls_of c.fields.now w.scope ds → d ≡ datum_of c.fields.now w.scope e → IsStatement c w w (tree.Assign id is d) n (assign x ds e)
+  assigned w n x ds e id is d own a b f = settled w (tree.Assign id is d) n (assign x ds e) refl refl refl refl refl own (λ i. tree.Assign (a i) (b i) (f i))
+
+  pub reduced : (w : Walk) (n : ℕ) (x : List ℕ) (ds : List Tree) (e : Tree) (id : ℕ) (is : List tree.Control) (d : tree.Datum) → own_fault c w n (reduce x ds e) ≡ None → id ≡ id_in w.scope x → is ≡ controls_of c.fields.now w.scope ds → d ≡ datum_of c.fields.now w.scope e → IsStatement c w w (tree.Reduce id is d) n (reduce x ds e)
+  reduced w n x ds e id is d own a b f = settled w (tree.Reduce id is d) n (reduce x ds e) refl refl refl refl refl own (λ i. tree.Reduce (a i) (b i) (f i))
+
+  -- a field that there is
+  pub configured : (w : Walk) (n : ℕ) (x y : List ℕ) (e : Tree) (f : ℕ × Kind) (a : tree.Argument) → field_in c.fields.now x y ≡ Some f → own_fault c w n (configure x y e) ≡ None → a ≡ kind_value_of c.fields.now w.scope f.1 e → IsStatement c w w (tree.Config f.0 a) n (configure x y e)
+  configured w n x y e f a found own h =
+      settled w (tree.Config f.0 a) n (configure x y e) refl refl refl refl refl own
+      ((λ i. tree.Config f.0 (h i)) ∙ (λ i. tree.Config (field_number (sym found i)) (written_of c.fields.now (sym found i) w.scope e)))
+
+  -- a procedure that there is
+  pub called : (w : Walk) (n : ℕ) (x : List ℕ) (args : List source.Argument) (trailing : Bool) (k : ℕ) (f : Signature) (made : List tree.Argument) → name_number c.procedures.now x ≡ Some k → slice_get (signatures_in c) k ≡ Some f → own_fault c w n (call x args trailing) ≡ None → made ≡ arguments_of c.fields.now w.scope f.params args → IsStatement c w w (tree.Call k made) n (call x args trailing)
+  called w n x args trailing k f made found seen own h =
+      settled w (tree.Call k made) n (call x args trailing) refl refl refl refl refl own
+      ((λ i. tree.Call k (h i)) ∙ (λ i. tree.Call (number_or no_id (sym found i)) (arguments_of c.fields.now w.scope (params_of (sym (callee_found c x k (Some f) found seen) i)) args)))

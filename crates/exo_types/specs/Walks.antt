@@ -1,0 +1,98 @@
+-- What a walk through the statements of a procedure keeps, and what it makes of a statement and of a block.
+use Rattle.std.specs.Prelude.{◌≡◌, ℕ, ◌+◌, ◌<◌, ◌≤◌, Bool, List, [], ◌∷◌, ◌++◌, length, map, take, Option, None, Result, MatchResult}
+use Rattle.exo_tree.specs.Tree as tree
+use Rattle.exo_tree.specs.Tree.{Procedure}
+use Rattle.exo_tree.specs.PlainStatement as plain
+use Rattle.exo_tree.specs.declared.block.Stmt.{Stmt}
+use Rattle.exo_meaning.specs.Run.{roots_after}
+use Rattle.exo_meaning.specs.Units.{Scope, scope_after}
+use Rattle.exo_source.specs.Source.{Statement, Block}
+use Rattle.exo_names.specs.declared.fault.Fault.{Fault}
+use Rattle.exo_names.specs.Faults.{least}
+use Rattle.exo_writes.specs.Written.{roots_in, rows_say}
+use Rattle.exo_types.specs.declared.context.Context.{Context}
+use Rattle.exo_types.specs.declared.context.Walk.{Walk}
+use Rattle.exo_types.specs.declared.refusal.Refusal.{Refusal}
+use Rattle.exo_types.specs.Refusals.{Refuses}
+use Rattle.exo_types.specs.ArgumentRules.{Signature}
+use Rattle.exo_types.specs.StatementRules as rules
+use Rattle.exo_types.specs.StatementRules.{bound, bound_in}
+use Rattle.exo_types.specs.UnitLines.{inner_starts, block_starts, line_at}
+
+-- ---- the procedures above
+
+-- their signatures, by what each writes or reduces
+abbrev pub signatures_by : List Procedure → List (ℕ → Bool) → List Signature
+signatures_by [] ws = []
+signatures_by (p ∷ ps) [] = []
+signatures_by (p ∷ ps) (w ∷ ws) = record { params = p.params; writes = w } ∷ signatures_by ps ws
+
+abbrev pub signatures_in : Context → List Signature
+signatures_in c = signatures_by c.above.procs.now (rows_say c.above.rows.now)
+
+-- ---- what a walk needs
+
+-- the ids of the names in scope are below this one, and each is below those of the names that were given later
+abbrev pub Falls : ℕ → Scope → Type 0
+Falls id [] = Unit {0}
+Falls id (n ∷ scope) = (n.binder.id < id) × Falls n.binder.id scope
+
+-- There is room for so many tokens from token n on: each binder takes a token of its own, and each token has a place. The tables are no longer
+-- than their numbers reach, and the ids in scope fall.
+pub record HasRoom (c : Context) (w : Walk) (n width : ℕ) : Type 0 where
+  pub ids : w.next_id ≤ n
+  pub tokens : n + width < length c.places.now
+  pub few : length c.places.now ≤ 0x100001
+  pub memories : length c.memories.now ≤ 4294967295
+  pub procedures : length c.procedures.now ≤ 4294967295
+  pub falls : Falls w.next_id w.scope
+
+module _ (c : Context) where
+  -- ---- what the rules say of a statement and of a block whose first token is n
+
+  abbrev pub own_faults : Walk → ℕ → Statement → List Fault
+  own_faults w n s = rules.own_faults c.fields.now c.memories.now c.procedures.now (signatures_in c) w.scope (roots_in w.aliases.items) n s
+
+  abbrev pub own_fault : Walk → ℕ → Statement → Option Fault
+  own_fault w n s = least (own_faults w n s)
+
+  abbrev pub statement_fault : Walk → ℕ → Statement → Option Fault
+  statement_fault w n s = rules.statement_fault c.fields.now c.memories.now c.procedures.now (signatures_in c) w.next_id w.scope (roots_in w.aliases.items) n s
+
+  abbrev pub statement_of : Walk → Statement → tree.Statement
+  statement_of w s = rules.statement_of c.fields.now c.memories.now c.procedures.now (signatures_in c) w.next_id w.scope s
+
+  abbrev pub block_fault : Walk → ℕ → Block → Option Fault
+  block_fault w n b = rules.block_fault c.fields.now c.memories.now c.procedures.now (signatures_in c) w.next_id w.scope (roots_in w.aliases.items) n b
+
+  abbrev pub block_of : Walk → Block → tree.Block
+  block_of w b = rules.block_of c.fields.now c.memories.now c.procedures.now (signatures_in c) w.next_id w.scope b
+
+  -- ---- what a walk makes
+
+  -- A statement breaks no rule, and this is its tree. Behind it the names that it binds are in scope, and the lines of the statements
+  -- inside it are told.
+  pub record IsStatement (before after : Walk) (made : tree.Statement) (n : ℕ) (s : Statement) : Type 0 where
+    pub keeps : statement_fault before n s ≡ None
+    pub means : made ≡ statement_of before s
+    pub scope : after.scope ≡ scope_after made before.scope
+    pub roots : roots_in after.aliases.items ≡ roots_after made (roots_in before.aliases.items)
+    pub kept : take (length before.aliases.items) after.aliases.items ≡ before.aliases.items
+    pub ids : after.next_id ≡ before.next_id + bound s
+    pub lines : after.lines ≡ before.lines ++ map (line_at c.places.now) (inner_starts n s)
+
+  -- a block breaks no rule, and this is its tree; its names end with it, and its lines are told
+  pub record IsBlock (before after : Walk) (made : List tree.Statement) (n : ℕ) (b : Block) : Type 0 where
+    pub keeps : block_fault before n b ≡ None
+    pub means : tree.block made ≡ block_of before b
+    pub scope : after.scope ≡ before.scope
+    pub aliases : after.aliases.items ≡ before.aliases.items
+    pub ids : after.next_id ≡ before.next_id + bound_in b
+    pub lines : after.lines ≡ before.lines ++ map (line_at c.places.now) (block_starts n b)
+
+  -- the statement is made, or the first rule that it breaks is told
+  abbrev pub Makes : Walk → Walk → ℕ → Statement → Result (Stmt × ℕ) Refusal → Type 0
+  Makes before after n s result = MatchResult result (λ r. IsStatement before after (plain.statement r.0) n s) (λ e. Refuses e (statement_fault before n s))
+
+  abbrev pub MakesBlock : Walk → Walk → ℕ → Block → Result (List tree.Statement × ℕ) Refusal → Type 0
+  MakesBlock before after n b result = MatchResult result (λ r. IsBlock before after r.0 n b) (λ e. Refuses e (block_fault before n b))
