@@ -11,3 +11,17 @@ pub mod Templates
 pub mod Procedures
 pub mod Fits
 pub mod Readings
+pub mod Scoped
+pub mod Resolved
+pub mod Judged
+pub mod Listed
+pub mod Distinct
+pub mod Numbered
+pub mod Called
+pub mod Passed
+pub mod Shared
+pub mod Inside
+pub mod Unbroken
+pub mod Whole
+pub mod Standing
+pub mod Returned

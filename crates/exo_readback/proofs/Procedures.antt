@@ -1,11 +1,9 @@
 -- The text of a procedure is read as its source tree spells it.
-use Rattle.std.proofs.Common.{◌≡◌, ℕ, zero, suc, ◌+◌, ◌-◌, List, [], ◌∷◌, ◌++◌, map, flat_map, take_while, Bool, true, false, Option, Some, None, codes, slice_get, refl, sym, ap, ◌∙◌, append_assoc, append-nil, arith, subst}
+use Rattle.std.proofs.Common.{◌≡◌, ℕ, zero, suc, ◌+◌, ◌-◌, List, [], ◌∷◌, ◌++◌, map, flat_map, false, Option, Some, None, codes, refl, sym, ap, ◌∙◌, append_assoc, append-nil, subst}
 use Rattle.phrases.specs.Sequence.{spell_all}
 use Rattle.exo_tree.specs.Tree.{Condition, Block, Param, Procedure, Program}
-use Rattle.exo_lexer.specs.Bytes.{goes_on_name}
 use Rattle.exo_lexer.specs.Piece.{decorator_piece}
-use Rattle.exo_lexer.specs.Layout.{token_of, lexed, lines, layout, end_place, is_import}
-use Rattle.exo_lexer.specs.declared.piece.Piece.{Piece}
+use Rattle.exo_lexer.specs.Layout.{token_of, lines, layout, end_place, is_import}
 use Rattle.exo_lexer.specs.declared.place.Place.{Place}
 use Rattle.exo_lexer.specs.declared.token.Token.{Token}
 use Rattle.exo_lexer.specs.declared.token.Token.TheVariants as t
@@ -23,7 +21,7 @@ use Rattle.exo_show.specs.Names.{names_of}
 use Rattle.exo_show.specs.Words.{Words, words_with, words_of}
 use Rattle.exo_show.specs.ControlText.{condition_text}
 use Rattle.exo_show.specs.StatementText.{block_text}
-use Rattle.exo_show.specs.ProcedureText.{marker_text, param_text, assert_text, header_text, procedure_text, shown}
+use Rattle.exo_show.specs.ProcedureText.{marker_text, param_text, assert_text, header_text, procedure_text}
 use Rattle.exo_readback.specs.Names.{IsName, Each}
 use Rattle.exo_readback.specs.Written.{marked, condition_tree, block_of, parameter_of, definition_of, written}
 use Rattle.exo_readback.specs.Writable.{IsSome, IsCondition, IsParam, IsBlock, IsTemplate, IsWritable}

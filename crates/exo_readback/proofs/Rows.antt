@@ -1,14 +1,13 @@
 -- Lines of a text, one after another, and the blocks that their indentations open and close.
-use Rattle.std.proofs.Common.{◌≡◌, ℕ, zero, suc, ◌+◌, ◌-◌, ◌*◌, ◌≤◌, ◌<◌, List, [], ◌∷◌, ◌++◌, map, replicate, Bool, true, false, cond, if◌then◌else◌, nat_eq, nat_lt, eqb, ltb, length, refl, sym, ap, ◌∙◌, append_assoc, append-nil, codes, arith, subst, ne_eqb, lt-ltb}
+use Rattle.std.proofs.Common.{◌≡◌, ℕ, zero, suc, ◌+◌, ◌-◌, ◌≤◌, List, [], ◌∷◌, ◌++◌, map, replicate, true, false, nat_eq, nat_lt, eqb, ltb, length, refl, sym, ap, ◌∙◌, append_assoc, append-nil, codes, arith, subst, lt-ltb}
 use Rattle.std.proofs.lemmas.List.{map-append}
 use Rattle.std.proofs.lemmas.Bool.Decides.{nat_tests}
 use Rattle.exo_lexer.specs.Piece.{piece_of}
-use Rattle.exo_lexer.specs.Layout.{at, put, token_of, lines, longer, is_skipped_return, tokens_in, line_tokens, is_fault, is_foreign, up_to_fault, brackets_behind, brackets_after, is_import, innermost, still_open, blocks_at, indentation, line_end, with_end, begun, laid, layout, text_end, Laid}
+use Rattle.exo_lexer.specs.Layout.{at, put, token_of, lines, longer, is_skipped_return, tokens_in, line_tokens, is_fault, is_foreign, up_to_fault, brackets_behind, brackets_after, is_import, innermost, still_open, blocks_at, indentation, line_end, with_end, begun, laid, layout, Laid}
 use Rattle.exo_lexer.specs.declared.place.Place.{Place}
 use Rattle.exo_lexer.specs.declared.place.Placed.{Placed}
 use Rattle.exo_lexer.specs.declared.token.Token.{Token}
 use Rattle.exo_lexer.specs.declared.token.Token.TheVariants as t
-use Rattle.exo_lexer.specs.declared.token.Fault.TheVariants as f
 use Rattle.exo_readback.proofs.Bare.{bare, bare_is}
 use Rattle.exo_readback.proofs.Pieces.{Free, Reads, OneLine, one_line_append}
 

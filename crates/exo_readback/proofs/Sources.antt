@@ -1,5 +1,5 @@
 -- What the lines of source trees spell has no fault and closes its brackets.
-use Rattle.std.proofs.Common.{◌≡◌, ℕ, List, [], ◌∷◌, ◌++◌, Bool, true, false, Option, Some, None, refl, sym, ap, ◌∙◌, append_assoc, subst}
+use Rattle.std.proofs.Common.{◌≡◌, ℕ, List, [], ◌∷◌, ◌++◌, Bool, true, false, Option, Some, None, refl, append_assoc, subst}
 use Rattle.phrases.specs.Phrase.{Phrase}
 use Rattle.phrases.specs.Commas.{spell_more, spell_listing}
 use Rattle.phrases.specs.Sequence.{spell_maybe}
