@@ -7,3 +7,4 @@ pub mod call;
 pub mod part;
 pub mod refusal;
 pub mod types;
+pub mod unit;
