@@ -1,0 +1,3 @@
+pub mod PlaceScope
+pub mod NewNames
+pub mod Resolved
