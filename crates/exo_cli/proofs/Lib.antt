@@ -1,3 +1,4 @@
+pub mod Placed
 pub mod Lists
 pub mod Taking
 pub mod Endings

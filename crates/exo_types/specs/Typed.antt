@@ -19,8 +19,9 @@ use Rattle.exo_types.specs.UnitLines.{lines_of}
 abbrev pub items_of : Source → List Item
 items_of s = map plain_item s.items.items
 
--- there is a place for each token of the text and one for its end, and the tokens are at most 2^20
+-- the text keeps the grammar and all limits; there is a place for each token of it and one for its end, and the tokens are at most 2^20
 pub record IsPlaced (s : Source) : Type 0 where
+  pub fits : (limits : Limits) → unit.Fits limits (items_of s)
   pub places : length s.places.items ≡ length (unit.spell (items_of s)) + 1
   pub short : length (unit.spell (items_of s)) ≤ 0x100000
 
