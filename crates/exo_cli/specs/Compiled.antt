@@ -10,7 +10,7 @@ use Rattle.exo_source.specs.Texts.{tokens_of, places_of, IsFault}
 use Rattle.exo_source.specs.declared.unit.ReadKind.{ReadKind}
 use Rattle.exo_source.specs.declared.unit.ReadKind.TheVariants as kind
 use Rattle.exo_source.specs.declared.unit.ReadError.{ReadError}
-use Rattle.exo_names.specs.Faults.{Fault}
+use Rattle.exo_names.specs.declared.fault.Fault.{Fault}
 use Rattle.exo_names.specs.declared.error.TypeKind.{TypeKind}
 use Rattle.exo_names.specs.declared.error.TypeKind.TheVariants as rule
 use Rattle.exo_types.specs.UnitRules.{unit_fault, unit_of}
