@@ -23,9 +23,9 @@ use crate::reply::Reply;
 use crate::schedule::read_schedule;
 use crate::session::{Session, Why};
 use c_printer::{Printed, c_text, lower};
+use exo_names::error::{TypeError, TypeKind};
 use exo_source::unit::{ReadError, ReadKind, Source, read_unit};
 use exo_tree::{Lines, Procs, Unit};
-use exo_names::error::{TypeError, TypeKind};
 use exo_types::unit::check_types;
 use std::alloc::{AllocError, Global};
 
