@@ -6,6 +6,10 @@ mod changes;
 #[cfg(test)]
 mod lexis;
 #[cfg(test)]
+mod limits;
+#[cfg(test)]
 mod strings;
+#[cfg(test)]
+mod tables;
 #[cfg(test)]
 mod units;

@@ -13,7 +13,7 @@ fn refusal(alloc: Global, error: ReadError) -> Result<String, AllocError> {
 }
 
 /// What a text is read to, as an expression.
-fn shown_expr(alloc: Global, text: &[u8]) -> Result<String, AllocError> {
+pub fn shown_expr(alloc: Global, text: &[u8]) -> Result<String, AllocError> {
     if text.len() > 0x100000 {
         return Ok(String::new(alloc));
     }
@@ -24,7 +24,7 @@ fn shown_expr(alloc: Global, text: &[u8]) -> Result<String, AllocError> {
 }
 
 /// How many coordinates a text has, as a window.
-fn shown_window(alloc: Global, text: &[u8]) -> Result<String, AllocError> {
+pub fn shown_window(alloc: Global, text: &[u8]) -> Result<String, AllocError> {
     if text.len() > 0x100000 {
         return Ok(String::new(alloc));
     }

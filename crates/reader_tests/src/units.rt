@@ -102,6 +102,119 @@ fn indentations(rt: HostRuntime) -> Result<(), AllocError> {
 }
 
 #[test]
+fn line_ends_and_foreign_bytes(rt: HostRuntime) -> Result<(), AllocError> {
+    let rows = [
+        (
+            b"@proc\r\ndef add3(x: i32[4], y: i32[4]):\r\n    x[0] = y[1] + 3\r\n".as_slice(),
+            "1 items",
+        ),
+        (
+            b"from exo import *\r\n\r\n@proc\r\ndef f(\r\n    n: size,\r\n):\r\n    # \x80\r\n  \r\n    pass\r\n".as_slice(),
+            "1 items",
+        ),
+        (b"@proc\r\ndef f():\r\n    pass\r".as_slice(), "3:9 BadByte"),
+        (b"@proc\r\ndef f():\r\n    pass # a\r".as_slice(), "1 items"),
+        (b"@proc\rdef f():\n    pass\n".as_slice(), "1:6 BadByte"),
+        (b"@proc\r\r\ndef f():\n    pass\n".as_slice(), "1:6 BadByte"),
+        (
+            b"@proc\ndef f():\n    x = 1 +\r\n".as_slice(),
+            "3:12 Syntax",
+        ),
+        (
+            b"@proc\ndef f():\n    x = 1 + # a\r\n".as_slice(),
+            "3:16 Syntax",
+        ),
+        (b"@instr(\"a\r\n".as_slice(), "1:8 Syntax"),
+        (b"@instr(\"a\rb\")\n".as_slice(), "1:10 BadByte"),
+        (b"@proc\ndef f():\n    pass # a\rb\n".as_slice(), "1 items"),
+        (
+            b"@proc\ndef f():\n    pass\n  \r  pass\n".as_slice(),
+            "4:3 BadByte",
+        ),
+        (b"@proc\ndef f():\n    pass\n\t\n".as_slice(), "4:1 BadByte"),
+        (
+            b"@proc\ndef f():\n    pass\n    \tpass\n".as_slice(),
+            "4:5 BadByte",
+        ),
+        (
+            b"@proc\ndef f():\n    pass\n    # \t\n".as_slice(),
+            "1 items",
+        ),
+        (
+            b"@proc\ndef f():\n    pass\n\t# a\n".as_slice(),
+            "4:1 BadByte",
+        ),
+        (b"@proc\ndef f():\n    x\t= 1\n".as_slice(), "3:6 BadByte"),
+        (
+            b"@instr(\"a\tb\")\ndef f():\n    pass\n".as_slice(),
+            "1:10 BadByte",
+        ),
+        (
+            b"@instr(\n\t\"a\")\ndef f():\n    pass\n".as_slice(),
+            "2:1 BadByte",
+        ),
+        (b"from\ta import b\n".as_slice(), "1:1 Syntax"),
+        (b"from a\timport \x80\n".as_slice(), "0 items"),
+        (
+            b"import \xff\n@proc\ndef f():\n    pass # \xff\x00\x7f\n".as_slice(),
+            "1 items",
+        ),
+        (
+            b"@proc\ndef f():\n    pass\n\x80\n".as_slice(),
+            "4:1 BadByte",
+        ),
+        (
+            b"@proc\ndef f():\n    pass\n    \xc3\xa9 = 1\n".as_slice(),
+            "4:5 BadByte",
+        ),
+        (
+            b"@proc\ndef f():\n    if 1 < 2:\n    \x80\n".as_slice(),
+            "4:5 BadByte",
+        ),
+        (
+            b"@proc\ndef f():\n    x\xe9 = 1\n".as_slice(),
+            "3:6 BadByte",
+        ),
+        (
+            b"@proc\ndef f():\n    x = y[\xff]\n".as_slice(),
+            "3:11 BadByte",
+        ),
+        (
+            b"@proc\ndef f():\n    x = 1 \x7f\n".as_slice(),
+            "3:11 BadByte",
+        ),
+        (
+            b"@instr('a\x80')\ndef f():\n    pass\n".as_slice(),
+            "1:10 BadByte",
+        ),
+        (
+            b"@instr('a\\\x80')\ndef f():\n    pass\n".as_slice(),
+            "1:11 BadByte",
+        ),
+        (
+            b"@instr('\x7f')\ndef f():\n    pass\n".as_slice(),
+            "1:9 BadByte",
+        ),
+        (
+            b"@memory\nclass M:\n    ctype = 'a' \"\xff\"\n".as_slice(),
+            "3:18 BadByte",
+        ),
+        (b"@proc\ndef f():\n    '\x80'\n".as_slice(), "3:5 Syntax"),
+        (
+            b"@proc\ndef f():\n    pass pass \x80\n".as_slice(),
+            "3:10 Syntax",
+        ),
+        (b"\xef\xbb\xbf@proc\n".as_slice(), "1:1 BadByte"),
+        (b"# \xef\xbb\xbf\n".as_slice(), "0 items"),
+    ];
+    for (text, wanted) in rows {
+        let found = shown(rt.alloc(), text)?;
+        assert_eq!(rt; found.as_str(), wanted);
+    }
+    Ok(())
+}
+
+#[test]
 fn texts_that_are_none(rt: HostRuntime) -> Result<(), AllocError> {
     let rows = [
         (
@@ -179,13 +292,13 @@ fn push_times(out: &mut String, piece: &str, count: usize) -> Result<(), AllocEr
     Ok(())
 }
 
-/// A procedure with so many conditions inside one another.
-fn nested(alloc: Global, count: usize) -> Result<String, AllocError> {
+/// A procedure with so many blocks of a header inside one another.
+fn nested(alloc: Global, header: &str, count: usize) -> Result<String, AllocError> {
     let mut text = String::new(alloc);
     text.push_str("@proc\ndef f():\n")?;
     for k in 0..count {
         push_times(&mut text, " ", k)?;
-        text.push_str(" if 1 < 2:\n")?;
+        text.push_str(header)?;
     }
     push_times(&mut text, " ", count)?;
     text.push_str(" pass\n")?;
@@ -231,11 +344,11 @@ fn parameters(alloc: Global, count: usize, end: &str) -> Result<String, AllocErr
     Ok(text)
 }
 
-/// An instruction with a template of so many bytes, and what stands behind it.
-fn template(alloc: Global, count: usize, end: &str) -> Result<String, AllocError> {
+/// An instruction with a template of so many pieces, and what stands behind it.
+fn template(alloc: Global, piece: &str, count: usize, end: &str) -> Result<String, AllocError> {
     let mut text = String::new(alloc);
     text.push_str("@instr(\"")?;
-    push_times(&mut text, "a", count)?;
+    push_times(&mut text, piece, count)?;
     text.push_str("\"")?;
     text.push_str(end)?;
     text.push_str(")\ndef f():\n    pass\n")?;
@@ -250,8 +363,16 @@ fn same(alloc: Global, text: &String, wanted: &str) -> Result<bool, AllocError> 
 
 #[test]
 fn blocks_inside_one_another(rt: HostRuntime) -> Result<(), AllocError> {
-    for (count, wanted) in [(23, "1 items"), (24, "26:25 TooDeep")] {
-        let text = nested(rt.alloc(), count)?;
+    let rows = [
+        (" if 1 < 2:\n", 23, "1 items"),
+        (" if 1 < 2:\n", 24, "26:25 TooDeep"),
+        (" if 1 < 2:\n", 30, "26:25 TooDeep"),
+        (" for i in seq(0, 1):\n", 23, "1 items"),
+        (" for i in seq(0, 1):\n", 24, "26:25 TooDeep"),
+        (" for i in seq(0, 1):\n", 30, "26:25 TooDeep"),
+    ];
+    for (header, count, wanted) in rows {
+        let text = nested(rt.alloc(), header, count)?;
         let right = same(rt.alloc(), &text, wanted)?;
         assert!(rt; right);
     }
@@ -293,12 +414,22 @@ fn many_parameters(rt: HostRuntime) -> Result<(), AllocError> {
 #[test]
 fn long_templates(rt: HostRuntime) -> Result<(), AllocError> {
     let rows = [
-        (1024, "", "1 items"),
-        (1025, "", "1:8 TooLong"),
-        (1000, " \"aaaaaaaaaaaaaaaaaaaaaaaaa\"", "1:1011 TooLong"),
+        ("a", 1024, "", "1 items"),
+        ("a", 1025, "", "1:8 TooLong"),
+        (
+            "a",
+            1000,
+            " \"aaaaaaaaaaaaaaaaaaaaaaaaa\"",
+            "1:1011 TooLong",
+        ),
+        ("a", 1000, " \"aaaaaaaaaaaaaaaaaaaaaaaa\"", "1 items"),
+        ("a", 1024, " ''", "1 items"),
+        ("a", 1024, " '' 'b'", "1:1038 TooLong"),
+        ("\\n", 1024, "", "1 items"),
+        ("\\n", 1025, "", "1:8 TooLong"),
     ];
-    for (count, end, wanted) in rows {
-        let text = template(rt.alloc(), count, end)?;
+    for (piece, count, end, wanted) in rows {
+        let text = template(rt.alloc(), piece, count, end)?;
         let right = same(rt.alloc(), &text, wanted)?;
         assert!(rt; right);
     }
