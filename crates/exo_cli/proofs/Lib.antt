@@ -1,4 +1,3 @@
-pub mod Placed
 pub mod Lists
 pub mod Taking
 pub mod Endings

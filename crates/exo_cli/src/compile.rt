@@ -26,6 +26,7 @@ use c_printer::{Printed, c_text, lower};
 use exo_names::error::{TypeError, TypeKind};
 use exo_source::unit::{ReadError, ReadKind, Source, read_unit};
 use exo_tree::{Lines, Procs, Unit};
+use exo_types::laws::read_texts_are_placed;
 use exo_types::unit::check_types;
 use std::alloc::{AllocError, Global};
 
@@ -42,6 +43,7 @@ pub(crate) fn compile(
     ensures answer { IfOk result (λ reply. IsCompiled procs.now unit.now schedule.now lines.now (plain reply)) }
     ensures verdict { IfOk result (λ reply. IsVerdict (plain reply)) }
 {
+    read_texts_are_placed();
     match read_unit(alloc, unit) {
         Ok(source) => type_unit(alloc, procs, &source, schedule, lines),
         Err(e) => refuse_text(alloc, procs, e),

@@ -9,3 +9,4 @@ pub mod Spelled
 pub mod Writes
 pub mod Charged
 pub mod Within
+pub mod Placed

@@ -8,8 +8,9 @@ use Rattle.exo_source.specs.Views.{plain_item}
 use Rattle.exo_source.specs.Texts.{tokens_of, places_of}
 use Rattle.exo_source.specs.declared.unit.Source.{Source}
 use Rattle.exo_types.specs.Typed.{IsPlaced, items_of}
+use Rattle.exo_types.specs.Laws.{ReadTextsArePlaced}
 
-pub placed : (text : List ℕ) (s : Source) → IsText unit (tokens_of text) (items_of s) → s.places.items ≡ places_of text → length s.places.items ≤ 0x100001 → IsPlaced s
+pub placed : ReadTextsArePlaced
 placed text s read places few =
     let spelled = ap length read.spelled in
     let tokens = length-map (lexed text) token_of in
