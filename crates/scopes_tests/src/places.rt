@@ -67,7 +67,7 @@ fn meant(
 
 #[test]
 fn names_at_places(rt: HostRuntime) -> Result<(), AllocError> {
-    let alloc = Global;
+    let alloc = rt.alloc();
     let unit = unit_of(alloc, TEXT)?;
     let none = "4294967295";
     let rows: [(&[u32], bool, &[u8], &str); 22] = [
@@ -102,7 +102,7 @@ fn names_at_places(rt: HostRuntime) -> Result<(), AllocError> {
 
 #[test]
 fn strings_that_are_refused(rt: HostRuntime) -> Result<(), AllocError> {
-    let alloc = Global;
+    let alloc = rt.alloc();
     let unit = unit_of(alloc, TEXT)?;
     let rows: [(&[u8], &str); 10] = [
         (b"n / 2", "a control value"),
@@ -126,7 +126,7 @@ fn strings_that_are_refused(rt: HostRuntime) -> Result<(), AllocError> {
 
 #[test]
 fn conditions_and_windows(rt: HostRuntime) -> Result<(), AllocError> {
-    let alloc = Global;
+    let alloc = rt.alloc();
     let unit = unit_of(alloc, TEXT)?;
     let Ok(flag) = read_expr(alloc, b"n") else {
         return Err(AllocError);
