@@ -26,14 +26,16 @@ def p(n: size, x: i32[n]):
         x[i] = t
 ";
 
-/// A path of these steps into the first branch, of at most four.
+/// A path of these steps into the first branch.
 fn path_of(steps: &[u32]) -> Path {
     let mut path = Path::new();
-    for k in 0..steps.len().min(4) {
-        path.push(Step {
-            branch: Branch::Main,
-            index: steps[k],
-        });
+    for index in steps {
+        if path.len() < 32 {
+            path.push(Step {
+                branch: Branch::Main,
+                index: *index,
+            });
+        }
     }
     path
 }
