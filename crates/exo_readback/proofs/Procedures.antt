@@ -37,7 +37,7 @@ use Rattle.exo_readback.proofs.Blocks.{all_sound, block_out, nested_out}
 
 -- ---- the marker
 
-abbrev marker_tokens : Option (List ℕ) → List Token
+abbrev pub marker_tokens : Option (List ℕ) → List Token
 marker_tokens None = t.Decorator d.Procedure ∷ []
 marker_tokens (Some template) = t.Decorator d.Instruction ∷ t.Sign s.Open ∷ t.Str template ∷ t.Sign s.Close ∷ []
 
@@ -56,7 +56,7 @@ instr_reads = record {
   goes = λ rest any. ap (λ (ts : List Token). t.Decorator d.Instruction ∷ ts) (open_goes rest);
 }
 
-marker_row : (template : Option (List ℕ)) → IsTemplate template → IsRow (marker_text template) (marker_tokens template)
+pub marker_row : (template : Option (List ℕ)) → IsTemplate template → IsRow (marker_text template) (marker_tokens template)
 marker_row None h = record { reads = proc_reads; begins = (refl, refl); sound = (refl, tt); closed = refl }
 marker_row (Some template) h =
     record {
@@ -68,7 +68,7 @@ marker_row (Some template) h =
       closed = refl;
     }
 
-marker_import : (template : Option (List ℕ)) → is_import (marker_text template) ≡ false
+pub marker_import : (template : Option (List ℕ)) → is_import (marker_text template) ≡ false
 marker_import None = refl
 marker_import (Some template) = refl
 
@@ -190,7 +190,7 @@ module _ (program : Program) (names : ℕ → Text) where
       ∙ ap (λ (ts : List Token). header_tokens p ++ (t.NewLine ∷ ts)) (inside_out p.asserts p.body h.asserts h.some h.body place (line + 1))
       ∙ definition_is p
 
-  text_parts : (m hd a b : List ℕ) → m ++ hd ++ a ++ b ≡ m ++ (hd ++ (a ++ (b ++ [])))
+  pub text_parts : (m hd a b : List ℕ) → m ++ hd ++ a ++ b ≡ m ++ (hd ++ (a ++ (b ++ [])))
   text_parts m hd a b = simp (append_assoc, append-nil)
 
   pub procedure_out : (p : Procedure) → IsSpelled p → (place : Place) (line : ℕ) → text_out place line zero (procedure_text words p) ≡ item.spell (marked p.template (definition_of words program.fields p))
