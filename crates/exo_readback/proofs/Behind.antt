@@ -1,8 +1,8 @@
 -- A text behind another one, whose last line is ended.
-use Rattle.std.proofs.Common.{◌≡◌, ℕ, zero, suc, ◌+◌, ◌-◌, ◌≤◌, ◌<◌, List, [], ◌∷◌, ◌++◌, map, replicate, Bool, true, false, cond, if◌then◌else◌, nat_eq, nat_lt, eqb, ltb, length, refl, sym, ap, ap₂, ◌∙◌, append_assoc, append-nil, arith, subst, true≢false, lt-ltb}
+use Rattle.std.proofs.Common.{◌≡◌, ℕ, zero, suc, ◌+◌, ◌-◌, ◌≤◌, ◌<◌, List, [], ◌∷◌, ◌++◌, map, replicate, Bool, true, false, if◌then◌else◌, nat_eq, nat_lt, length, refl, sym, ap, ap₂, ◌∙◌, append_assoc, arith, subst, true≢false, lt-ltb}
 use Rattle.std.proofs.lemmas.List.{map-append}
 use Rattle.std.proofs.lemmas.Bool.Decides.{nat_tests}
-use Rattle.exo_lexer.specs.Layout.{at, put, token_of, lines, longer, is_skipped_return, line_tokens, is_fault, is_foreign, up_to_fault, brackets_behind, brackets_after, is_import, innermost, still_open, blocks_at, indentation, line_end, with_end, begun, laid, layout, text_end, lexed, end_place, Laid}
+use Rattle.exo_lexer.specs.Layout.{at, put, token_of, lines, longer, is_skipped_return, line_tokens, is_fault, is_foreign, up_to_fault, brackets_behind, brackets_after, is_import, innermost, still_open, blocks_at, indentation, line_end, with_end, begun, laid, layout, end_place, Laid}
 use Rattle.exo_lexer.specs.declared.place.Place.{Place}
 use Rattle.exo_lexer.specs.declared.place.Placed.{Placed}
 use Rattle.exo_lexer.specs.declared.token.Token.{Token}
@@ -10,7 +10,7 @@ use Rattle.exo_lexer.specs.declared.token.Token.TheVariants as t
 use Rattle.exo_lexer.specs.declared.token.Fault.TheVariants as f
 use Rattle.exo_source.specs.Texts.{tokens_of}
 use Rattle.exo_readback.specs.Below.{EndsLine}
-use Rattle.exo_readback.proofs.Rows.{IsSound, open_after, open_is, IsRow, IsLaid, laid_is, indent_of, text_out, laid_out, row, row_after, map_replicate, lines_of_row}
+use Rattle.exo_readback.proofs.Rows.{IsSound, open_after, open_is, IsRow, IsLaid, laid_is, indent_of, text_out, row, row_after, map_replicate, lines_of_row}
 use Rattle.exo_readback.proofs.Sound.{Whole}
 
 -- ---- lines
@@ -24,24 +24,28 @@ pub record Lines (text : List ℕ) : Type 0 where
 
 lines_by : (b c : ℕ) (text : List ℕ) (feed skipped : Bool) → nat_eq b 0x0A ≡ feed → is_skipped_return b (c ∷ text) ≡ skipped → Lines (c ∷ text) → Lines (b ∷ c ∷ text)
 lines_by b c text true skipped p q l = record {
-  first = []; more = l.first ∷ l.more;
+  first = [];
+  more = l.first ∷ l.more;
   own = rw p (ap (λ (ls : List (List ℕ)). [] ∷ ls) l.own);
   behind = λ rest. rw p (ap (λ (ls : List (List ℕ)). [] ∷ ls) (l.behind rest));
 }
 lines_by b c text false true p q l = record {
-  first = l.first; more = l.more;
+  first = l.first;
+  more = l.more;
   own = rw (p, q) l.own;
   behind = λ rest. rw (p, q) (l.behind rest);
 }
 lines_by b c text false false p q l = record {
-  first = b ∷ l.first; more = l.more;
+  first = b ∷ l.first;
+  more = l.more;
   own = rw (p, q) (ap (longer b) l.own);
   behind = λ rest. rw (p, q) (ap (longer b) (l.behind rest));
 }
 
 pub ended_lines : (b : ℕ) (text : List ℕ) → EndsLine (b ∷ text) → Lines (b ∷ text)
 ended_lines b [] h = record {
-  first = []; more = [];
+  first = [];
+  more = [];
   own = ap (λ (c : ℕ). lines (c ∷ [])) h;
   behind = λ rest. ap (λ (c : ℕ). lines (c ∷ rest)) h;
 }
@@ -89,6 +93,7 @@ indentation_open n line column blocks = by (nat_lt (innermost blocks) column) (n
     dedents : (m : ℕ) → open_after n (map token_of (replicate m (put (at line 1) t.Dedent))) ≡ n
     dedents zero = refl
     dedents (suc m) = dedents m
+
     by : (q u : Bool) → open_after n (map token_of (if q then put (at line 1) t.Indent ∷ [] else (if u then replicate (length blocks - length (still_open column blocks)) (put (at line 1) t.Dedent) else put (at line 1) (t.Bad f.Indentation) ∷ []))) ≡ n
     by true u = refl
     by false true = dedents (length blocks - length (still_open column blocks))
@@ -125,10 +130,10 @@ begun_steps blocks end (p ∷ more) h = by (is_foreign p.token) refl
     by false e = record {
       indented = blocks_indented p.place.column blocks h;
       counted = λ s. sym (
-        ap (open_after 0) (map-append token_of (indentation p.place.line p.place.column blocks) (with_end 0 end (p ∷ more)))
-        ∙ open_append 0 (map token_of (indentation p.place.line p.place.column blocks)) (map token_of (with_end 0 end (p ∷ more)))
-        ∙ ap (λ (n : ℕ). open_after n (map token_of (with_end 0 end (p ∷ more)))) (indentation_open 0 p.place.line p.place.column blocks)
-        ∙ with_end_open 0 end (p ∷ more));
+          ap (open_after 0) (map-append token_of (indentation p.place.line p.place.column blocks) (with_end 0 end (p ∷ more)))
+          ∙ open_append 0 (map token_of (indentation p.place.line p.place.column blocks)) (map token_of (with_end 0 end (p ∷ more)))
+          ∙ ap (λ (n : ℕ). open_after n (map token_of (with_end 0 end (p ∷ more)))) (indentation_open 0 p.place.line p.place.column blocks)
+          ∙ with_end_open 0 end (p ∷ more));
     }
 
 laid_steps : (line : ℕ) (blocks : List ℕ) (n : ℕ) (bytes : List ℕ) → AllIndented blocks → Steps (laid line blocks n bytes) n
@@ -154,16 +159,19 @@ run (bytes ∷ ls) line blocks n h =
     let step : Steps l n = laid_steps line blocks n bytes h in
     let more = run ls (line + 1) l.blocks l.brackets step.indented in
     record {
-      out = l.placed ++ more.out; last = more.last; open_blocks = more.open_blocks; open_brackets = more.open_brackets;
+      out = l.placed ++ more.out;
+      last = more.last;
+      open_blocks = more.open_blocks;
+      open_brackets = more.open_brackets;
       is = λ end rest. ap (λ (ps : List Placed). l.placed ++ ps) (more.is end rest) ∙ sym (append_assoc l.placed more.out (layout end more.last more.open_blocks more.open_brackets rest));
       indented = more.indented;
       counted = λ s.
-        let parts : IsSound (map token_of l.placed ++ map token_of more.out) = subst IsSound (map-append token_of l.placed more.out) s in
-        let first : l.brackets ≡ open_after n (map token_of l.placed) = step.counted (sound_left (map token_of l.placed) (map token_of more.out) parts) in
-        more.counted (sound_right (map token_of l.placed) (map token_of more.out) parts)
-        ∙ ap (λ (m : ℕ). open_after m (map token_of more.out)) first
-        ∙ sym (open_append n (map token_of l.placed) (map token_of more.out))
-        ∙ ap (open_after n) (sym (map-append token_of l.placed more.out));
+          let parts : IsSound (map token_of l.placed ++ map token_of more.out) = subst IsSound (map-append token_of l.placed more.out) s in
+          let first : l.brackets ≡ open_after n (map token_of l.placed) = step.counted (sound_left (map token_of l.placed) (map token_of more.out) parts) in
+          more.counted (sound_right (map token_of l.placed) (map token_of more.out) parts)
+          ∙ ap (λ (m : ℕ). open_after m (map token_of more.out)) first
+          ∙ sym (open_append n (map token_of l.placed) (map token_of more.out))
+          ∙ ap (open_after n) (sym (map-append token_of l.placed more.out));
     }
 
 -- ---- the end of a text
@@ -234,15 +242,15 @@ behind b above text rest tokens first spelled ends own whole r import out end =
     let all : map token_of (layout place 1 [] 0 (lines (b ∷ above))) ≡ tokens = ap (map token_of) (sym (unfaulted (layout place 1 [] 0 (lines (b ∷ above))) sound)) ∙ own in
     let tail : List Token = map token_of (layout place ran.last ran.open_blocks ran.open_brackets ([] ∷ [])) in
     let parts : map token_of ran.out ++ tail ≡ tokens =
-        sym (map-append token_of ran.out (layout place ran.last ran.open_blocks ran.open_brackets ([] ∷ [])))
-        ∙ ap (map token_of) (sym (ran.is place ([] ∷ []))) ∙ ap (λ (ls : List (List ℕ)). map token_of (layout place 1 [] 0 ls)) (sym l.own) ∙ all in
+    sym (map-append token_of ran.out (layout place ran.last ran.open_blocks ran.open_brackets ([] ∷ [])))
+    ∙ ap (map token_of) (sym (ran.is place ([] ∷ []))) ∙ ap (λ (ls : List (List ℕ)). map token_of (layout place 1 [] 0 ls)) (sym l.own) ∙ all in
     let left : IsSound (map token_of ran.out) = sound_left (map token_of ran.out) tail (subst IsSound (sym parts) whole.sound) in
     let count : ran.open_brackets ≡ open_after 0 (map token_of ran.out) = ran.counted left in
     let none_open : ran.open_brackets ≡ 0 =
-        sym (tail_open place ran.last ran.open_blocks ran.open_brackets)
-        ∙ ap (λ (n : ℕ). open_after n tail) count
-        ∙ sym (open_append 0 (map token_of ran.out) tail)
-        ∙ ap (open_after 0) parts ∙ whole.closed 0 in
+    sym (tail_open place ran.last ran.open_blocks ran.open_brackets)
+    ∙ ap (λ (n : ℕ). open_after n tail) count
+    ∙ sym (open_append 0 (map token_of ran.out) tail)
+    ∙ ap (open_after 0) parts ∙ whole.closed 0 in
     let ended : tail ≡ replicate (length ran.open_blocks) t.Dedent = ap (λ (n : ℕ). map token_of (layout place ran.last ran.open_blocks n ([] ∷ []))) none_open ∙ tail_out place ran.last ran.open_blocks in
     ap (λ (ls : List (List ℕ)). map token_of (layout end 1 [] 0 ls)) (l.behind (row zero text ++ rest))
     ∙ ap (map token_of) (ran.is end (lines (row zero text ++ rest)))

@@ -1,5 +1,5 @@
 -- What units spell has no fault and closes its brackets.
-use Rattle.std.proofs.Common.{◌≡◌, ℕ, List, [], ◌∷◌, ◌++◌, Option, Some, None, refl, sym, append_assoc, subst}
+use Rattle.std.proofs.Common.{ℕ, List, [], ◌∷◌, ◌++◌, refl, sym, append_assoc, subst}
 use Rattle.phrases.specs.Phrase.{Phrase}
 use Rattle.phrases.specs.Sequence.{spell_all}
 use Rattle.exo_lexer.specs.declared.token.Token.{Token}

@@ -27,3 +27,4 @@ pub mod Standing
 pub mod Returned
 pub mod Closed
 pub mod Behind
+pub mod Spliced

@@ -211,12 +211,15 @@ marked_sound : (template : Option (List ℕ)) (p : source.Definition) → IsSoun
 marked_sound None p h = (refl, (refl, h))
 marked_sound (Some template) p h = (refl, (refl, (refl, (refl, (refl, h)))))
 
-lexed_is : (text : List ℕ) (tokens : List Token) → text_out (end_place text) 1 zero text ≡ tokens → IsSound tokens → tokens_of text ≡ tokens
+pub lexed_is : (text : List ℕ) (tokens : List Token) → text_out (end_place text) 1 zero text ≡ tokens → IsSound tokens → tokens_of text ≡ tokens
 lexed_is text tokens e sound = ap (map token_of) (kept (layout (end_place text) 1 [] 0 (lines text)) (subst IsSound (sym e) sound)) ∙ e
+
+pub written_sound : (program : Program) (p : Procedure) → IsSound (item.spell (written program p))
+written_sound program p = marked_sound p.template (definition_of (words_of program p) program.fields p) (definition_sound program (names_of p) p)
 
 pub procedure_spelled : (program : Program) (p : Procedure) → IsWritable program p → tokens_of (procedure_text (words_of program p) p) ≡ item.spell (written program p)
 procedure_spelled program p h =
     let is : IsSpelled program (names_of p) p = record { name = h.name; params = h.params; asserts = h.asserts; some = h.some; body = h.body; template = h.template } in
     lexed_is (procedure_text (words_of program p) p) (item.spell (written program p))
     (procedure_out program (names_of p) p is (end_place (procedure_text (words_of program p) p)) 1)
-    (marked_sound p.template (definition_of (words_of program p) program.fields p) (definition_sound program (names_of p) p))
+    (written_sound program p)
