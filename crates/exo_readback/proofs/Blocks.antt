@@ -71,7 +71,7 @@ three a b c d = simp append_assoc
 store_parts : (sign : Token) (a b d : List Token) → a ++ (sign ∷ (b ++ d)) ≡ (a ++ (sign ∷ b)) ++ d
 store_parts sign a b d = simp append_assoc
 
-spelled_is : (a : source.Statement) → spelling a ≡ head_tokens a ++ (t.NewLine ∷ inner_tokens a)
+pub spelled_is : (a : source.Statement) → spelling a ≡ head_tokens a ++ (t.NewLine ∷ inner_tokens a)
 spelled_is source.pass = refl
 spelled_is (source.branch c a b) = ap (λ (ts : List Token). t.Word word.If ∷ ts) (branch_parts (e_spelling c) (spelling_all a) (spelling_else b))
 spelled_is (source.loop i low high a) = ap (λ (ts : List Token). t.Word word.For ∷ t.Name i ∷ t.Word word.In ∷ t.Word word.Seq ∷ t.Sign s.Open ∷ ts) (loop_parts (e_spelling low) (e_spelling high) (spelling_all a))

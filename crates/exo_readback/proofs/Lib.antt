@@ -25,3 +25,6 @@ pub mod Unbroken
 pub mod Whole
 pub mod Standing
 pub mod Returned
+pub mod Closed
+pub mod Behind
+pub mod Spliced

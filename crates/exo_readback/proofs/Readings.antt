@@ -19,7 +19,7 @@ use Rattle.exo_readback.specs.Laws.{ProceduresAreSpelled, ShownIsRead}
 use Rattle.exo_readback.proofs.Procedures.{procedure_spelled}
 use Rattle.exo_readback.proofs.Fits.{written_fits}
 
-shown_by : (program : Program) (p : Procedure) (o : Option Procedure) → o ≡ Some p → elim o as (λ x. List ℕ) [ None ↦ [] | Some q ↦ procedure_text (words_of program q) q ] ≡ procedure_text (words_of program p) p
+pub shown_by : (program : Program) (p : Procedure) (o : Option Procedure) → o ≡ Some p → elim o as (λ x. List ℕ) [ None ↦ [] | Some q ↦ procedure_text (words_of program q) q ] ≡ procedure_text (words_of program p) p
 shown_by program p o e = ap (λ (x : Option Procedure). elim x as (λ y. List ℕ) [ None ↦ [] | Some q ↦ procedure_text (words_of program q) q ]) e
 
 pub procedures_are_spelled : ProceduresAreSpelled

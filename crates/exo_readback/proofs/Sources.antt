@@ -49,7 +49,7 @@ memory_whole : (m : Option (List ℕ)) → Whole (spell_maybe memory m)
 memory_whole None = nothing
 memory_whole (Some x) = before (t.Sign s.At) (t.Name x ∷ []) refl (λ n. refl) (name x [] nothing)
 
-kind_whole : (kind : TypeName) → Whole (spell_type_name kind)
+pub kind_whole : (kind : TypeName) → Whole (spell_type_name kind)
 kind_whole stride = before (t.Word w.Stride) [] refl (λ n. refl) nothing
 kind_whole (named x) = name x [] nothing
 

@@ -2,6 +2,7 @@
 
 ghost use Rattle.exo_readback.specs.Laws.{ControlsAreSpelled, ConditionsAreSpelled, DataAreSpelled, ProceduresAreSpelled, WrittenFits, ShownIsRead};
 ghost use Rattle.exo_readback.specs.Again.{ShownIsTheSame};
+ghost use Rattle.exo_readback.specs.Below.{ShownIsReadBelow, ShownStandsAgain};
 
 /// The text of an expression over control values has the tokens of its source tree.
 pub fn controls_are_spelled()
@@ -37,4 +38,15 @@ pub fn shown_is_read()
 /// its binders.
 pub fn shown_is_the_same()
     ensures { ShownIsTheSame }
+{}
+
+/// Behind the text of other items, a procedure within the limits is read as its source tree.
+pub fn shown_is_read_below()
+    ensures { ShownIsReadBelow }
+{}
+
+/// And where these items hold what it names, the whole text keeps all rules and stands for what they stand for, and behind that for
+/// the procedure itself, but for the ids of its binders.
+pub fn shown_stands_again()
+    ensures { ShownStandsAgain }
 {}
