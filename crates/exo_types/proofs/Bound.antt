@@ -1,15 +1,14 @@
 -- Statements that bind a name, and those that neither bind names nor have blocks.
-use Rattle.std.proofs.Common.{◌≡◌, ℕ, suc, ◌+◌, ◌<◌, ◌≤◌, Bool, true, false, List, [], ◌∷◌, ◌++◌, Option, Some, None, length, map, take, refl, ap, sym, ◌∙◌, arith}
+use Rattle.std.proofs.Common.{◌≡◌, ℕ, ◌+◌, true, List, [], ◌∷◌, ◌++◌, Option, Some, None, length, take, refl, ap, sym, ◌∙◌}
 use Rattle.std.proofs.lemmas.List.{append-nil, length-map}
-use Rattle.std.proofs.Math.Seq.{take-length}
 use Rattle.exo_tree.specs.Tree as tree
 use Rattle.exo_meaning.specs.Scene.{updated}
 use Rattle.exo_meaning.specs.Units as units
 use Rattle.exo_meaning.specs.Units.{Scope, Named, Sort, BufferName, with_name, view_sort, sort_in}
 use Rattle.exo_reader.specs.Expression.{Tree}
-use Rattle.exo_source.specs.Source.{TypeName, Coordinate, Statement, allocate, view}
+use Rattle.exo_source.specs.Source.{TypeName, Coordinate, allocate, view}
 use Rattle.exo_names.specs.declared.fault.Fault.{Fault}
-use Rattle.exo_names.specs.Faults.{or_else, least}
+use Rattle.exo_names.specs.Faults.{or_else}
 use Rattle.exo_names.specs.Names.{named_in, sort_of, id_in}
 use Rattle.exo_names.specs.ExpressionRules.{is_buffer, name_faults}
 use Rattle.exo_names.specs.Resolved.{controls_of}

@@ -1,7 +1,6 @@
 -- Arguments, as many as there are both parameters and arguments.
 use Rattle.std.proofs.Common.{◌≡◌, ℕ, zero, suc, ◌+◌, ◌<◌, ◌≤◌, Bool, not, min, List, [], ◌∷◌, ◌++◌, Option, append_assoc, length, map, drop, get_or, refl, ap, sym, ◌∙◌, arith}
 use Rattle.std.proofs.lemmas.List.{drop_all}
-use Rattle.exo_tree.specs.Tree as tree
 use Rattle.exo_tree.specs.Tree.{ConfigField, Param}
 use Rattle.exo_meaning.specs.Units.{Scope, root_of, field_kind}
 use Rattle.exo_source.specs.Source.{Argument}

@@ -1,5 +1,5 @@
 -- Statements that have blocks.
-use Rattle.std.proofs.Common.{◌≡◌, ℕ, suc, ◌+◌, ◌<◌, ◌≤◌, ◌==◌, true, false, List, [], ◌∷◌, ◌++◌, Option, Some, None, length, map, take, refl, ap, sym, ◌∙◌, append_assoc, subst, add-one, arith}
+use Rattle.std.proofs.Common.{◌≡◌, ℕ, suc, ◌+◌, ◌≤◌, ◌==◌, true, false, List, [], ◌∷◌, ◌++◌, None, length, map, take, refl, ap, sym, ◌∙◌, append_assoc, subst, add-one, arith}
 use Rattle.std.proofs.lemmas.List.{append-nil, map-append}
 use Rattle.std.proofs.lemmas.Bool.Decides.{nat_tests}
 use Rattle.std.proofs.Math.Seq.{take-length}
@@ -9,8 +9,6 @@ use Rattle.exo_meaning.specs.Units.{Scope, ControlName, with_name}
 use Rattle.exo_reader.specs.Expression.{Tree}
 use Rattle.exo_source.specs.Source.{Statement, Block, end, next, branch, loop}
 use Rattle.exo_source.specs.Source as source
-use Rattle.exo_names.specs.declared.fault.Fault.{Fault}
-use Rattle.exo_names.specs.Faults.{or_else}
 use Rattle.exo_names.specs.ExpressionRules.{width}
 use Rattle.exo_names.specs.Resolved.{control_of, condition_of}
 use Rattle.exo_writes.specs.Written.{roots_in}
@@ -21,8 +19,8 @@ use Rattle.exo_types.specs.TypeRules.{binder}
 use Rattle.exo_types.specs.Refusals.{Refuses}
 use Rattle.exo_types.specs.StatementRules as rules
 use Rattle.exo_types.specs.StatementRules.{statement_width, block_width, else_width, bound, bound_in}
-use Rattle.exo_types.specs.UnitLines.{inner_starts, block_starts, line_at}
-use Rattle.exo_types.specs.Walks.{signatures_in, Falls, HasRoom, IsStatement, IsBlock, own_fault, statement_fault, statement_of, block_fault, block_of}
+use Rattle.exo_types.specs.UnitLines.{block_starts, line_at}
+use Rattle.exo_types.specs.Walks.{signatures_in, Falls, HasRoom, IsStatement, IsBlock, own_fault, statement_fault, block_fault, block_of}
 use Rattle.exo_types.proofs.Bounded.{few_bound_in}
 use Rattle.exo_types.proofs.Falling.{falls_more}
 use Rattle.exo_types.proofs.Broken.{refuses_same, refuses_first, refuses_second, none_of_both}

@@ -1,5 +1,5 @@
 -- Statements that bind no name and have no blocks.
-use Rattle.std.proofs.Common.{◌≡◌, ℕ, suc, ◌+◌, ◌<◌, ◌==◌, Bool, true, false, List, [], ◌∷◌, ◌++◌, Option, Some, None, length, map, take, slice_get, option_map, refl, ap, sym, ◌∙◌, arith}
+use Rattle.std.proofs.Common.{◌≡◌, ℕ, ◌==◌, Bool, true, false, List, [], ◌++◌, Option, Some, None, map, slice_get, refl, ap, sym, ◌∙◌, arith}
 use Rattle.std.proofs.lemmas.List.{append-nil}
 use Rattle.std.proofs.lemmas.Bool.{eqb-true}
 use Rattle.std.proofs.Math.Seq.{take-length}
@@ -11,15 +11,15 @@ use Rattle.exo_reader.specs.Expression.{Tree}
 use Rattle.exo_source.specs.Source as source
 use Rattle.exo_source.specs.Source.{Statement, pass, call, configure, assign, reduce}
 use Rattle.exo_names.specs.declared.fault.Fault.{Fault}
-use Rattle.exo_names.specs.declared.error.TypeKind.TheVariants.{UnknownName, RankMismatch}
-use Rattle.exo_names.specs.Faults.{or_else, least, fault, unless}
+use Rattle.exo_names.specs.declared.error.TypeKind.TheVariants.{RankMismatch}
+use Rattle.exo_names.specs.Faults.{or_else, least, unless}
 use Rattle.exo_names.specs.Names.{id_in, name_number, field_in, no_id}
 use Rattle.exo_names.specs.Resolved.{controls_of, datum_of, field_number}
 use Rattle.exo_writes.specs.Written.{roots_in}
 use Rattle.exo_types.specs.declared.context.Context.{Context}
 use Rattle.exo_types.specs.declared.context.Walk.{Walk}
 use Rattle.exo_types.specs.TypeRules.{number_or}
-use Rattle.exo_types.specs.ArgumentRules.{Signature, kind_value_of, arguments_of, arguments_faults, call_faults, params_of}
+use Rattle.exo_types.specs.ArgumentRules.{Signature, kind_value_of, arguments_of, params_of}
 use Rattle.exo_types.specs.StatementRules.{bound, callee_named, written_of}
 use Rattle.exo_types.specs.UnitLines.{inner_starts, line_at}
 use Rattle.exo_types.specs.Walks.{signatures_in, IsStatement, own_fault, statement_fault, statement_of}

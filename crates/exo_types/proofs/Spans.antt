@@ -1,5 +1,5 @@
 -- The spans of a window as it is written and as a tree.
-use Rattle.std.proofs.Common.{◌≡◌, ℕ, suc, List, [], ◌∷◌, refl, ap}
+use Rattle.std.proofs.Common.{◌≡◌, suc, List, [], ◌∷◌, refl, ap}
 use Rattle.exo_tree.specs.Tree.{ConfigField}
 use Rattle.exo_meaning.specs.Units as units
 use Rattle.exo_meaning.specs.Units.{Scope}

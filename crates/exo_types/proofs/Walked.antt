@@ -1,11 +1,11 @@
 -- What a walk through a block has done, and what is left of it.
-use Rattle.std.proofs.Common.{◌≡◌, ℕ, zero, suc, ◌+◌, ◌-◌, ◌<◌, ◌≤◌, List, [], ◌∷◌, ◌++◌, Option, Some, None, length, map, take, drop, refl, ap, sym, ◌∙◌, append_assoc, subst, arith}
+use Rattle.std.proofs.Common.{◌≡◌, ℕ, zero, suc, ◌+◌, ◌-◌, ◌≤◌, List, [], ◌∷◌, ◌++◌, Option, None, length, map, take, drop, refl, ap, sym, ◌∙◌, append_assoc, subst, arith}
 use Rattle.std.proofs.lemmas.List.{append-nil, map-append, length-append}
 use Rattle.std.proofs.Math.Seq.{drop-append_seam, take-length}
 use Rattle.exo_tree.specs.Tree as tree
 use Rattle.exo_tree.specs.Tree.{ConfigField, joined}
 use Rattle.exo_meaning.specs.Run.{roots_after}
-use Rattle.exo_meaning.specs.Units.{Scope, Named, scope_after, with_name}
+use Rattle.exo_meaning.specs.Units.{Scope, Named, scope_after}
 use Rattle.exo_source.specs.Source.{Statement, pass, branch, loop, allocate, call, configure, assign, reduce, view, Block, end, next}
 use Rattle.exo_names.specs.declared.fault.Fault.{Fault}
 use Rattle.exo_names.specs.Faults.{or_else}
@@ -16,8 +16,8 @@ use Rattle.exo_types.specs.ArgumentRules.{Signature}
 use Rattle.exo_types.specs.StatementRules as rules
 use Rattle.exo_types.specs.StatementRules.{statement_width, block_width, bound, bound_in}
 use Rattle.exo_types.specs.UnitLines.{inner_starts, block_starts, line_at}
-use Rattle.exo_types.specs.Walks.{signatures_in, Falls, HasRoom, IsStatement, IsBlock, statement_fault, statement_of, block_fault, block_of}
-use Rattle.exo_types.proofs.Bounded.{few_bound, few_bound_in}
+use Rattle.exo_types.specs.Walks.{signatures_in, Falls, HasRoom, IsStatement, IsBlock, statement_of, block_fault, block_of}
+use Rattle.exo_types.proofs.Bounded.{few_bound}
 use Rattle.exo_types.proofs.Falling.{falls_more}
 
 -- a scope that was put over another

@@ -1,5 +1,5 @@
 -- What a walk through the statements of a procedure keeps, and what it makes of a statement and of a block.
-use Rattle.std.specs.Prelude.{◌≡◌, ℕ, ◌+◌, ◌<◌, ◌≤◌, Bool, List, [], ◌∷◌, ◌++◌, length, map, take, Option, Some, None, Result, MatchResult}
+use Rattle.std.specs.Prelude.{◌≡◌, ℕ, ◌+◌, ◌<◌, ◌≤◌, Bool, List, [], ◌∷◌, ◌++◌, length, map, take, Option, None, Result, MatchResult}
 use Rattle.exo_tree.specs.Tree as tree
 use Rattle.exo_tree.specs.Tree.{Procedure}
 use Rattle.exo_tree.specs.PlainStatement as plain
@@ -37,7 +37,8 @@ abbrev pub Falls : ℕ → Scope → Type 0
 Falls id [] = Unit {0}
 Falls id (n ∷ scope) = (n.binder.id < id) × Falls n.binder.id scope
 
--- there is room for so many tokens from token n on: each binder takes a token of its own, and each token has a place
+-- There is room for so many tokens from token n on: each binder takes a token of its own, and each token has a place. The tables are no longer
+-- than their numbers reach, and the ids in scope fall.
 pub record HasRoom (c : Context) (w : Walk) (n width : ℕ) : Type 0 where
   pub ids : w.next_id ≤ n
   pub tokens : n + width < length c.places.now

@@ -1,9 +1,9 @@
-use Rattle.std.proofs.Common.{◌≡◌, ◌+◌, ◌-◌, ◌<◌, ◌≤◌, [], ◌∷◌, ◌++◌, IfOk, refl, vec_len, length, map, take, drop, ap, sym, subst, ◌∙◌, arith}
+use Rattle.std.proofs.Common.{◌≡◌, ◌+◌, ◌-◌, [], ◌∷◌, ◌++◌, IfOk, refl, vec_len, length, map, take, drop, ap, sym, subst, ◌∙◌, arith}
 use Rattle.std.proofs.lemmas.List.{drop_all}
 use Rattle.exo_tree.specs.Tree as tree
 use Rattle.exo_tree.specs.PlainStatement.{statement}
 use Rattle.exo_reader.specs.Views.{tree_of}
-use Rattle.exo_source.specs.Source.{block_of, next, end}
+use Rattle.exo_source.specs.Source.{block_of}
 use Rattle.exo_source.specs.Views.{plain_statement}
 use Rattle.exo_names.specs.Names.{named_in}
 use Rattle.exo_types.specs.TypeRules.{binder}

@@ -1,4 +1,4 @@
-use Rattle.std.proofs.Common.{◌≡◌, Some, ◌+◌, length, map, option_map, ap, sym, ◌∙◌, arith}
+use Rattle.std.proofs.Common.{length, map, option_map, ap, sym, ◌∙◌, arith}
 use Rattle.std.proofs.lemmas.List.{length-map}
 use Rattle.exo_source.specs.Views.{plain_argument}
 use Rattle.exo_names.specs.Faults.{charged, least}

@@ -1,4 +1,4 @@
-use Rattle.std.proofs.Common.{◌≡◌, ◌+◌, option_map, ap, sym, ◌∙◌}
+use Rattle.std.proofs.Common.{◌+◌, option_map, ap, sym, ◌∙◌}
 use Rattle.exo_reader.specs.Views.{tree_of}
 use Rattle.exo_names.specs.Faults.{charged, least}
 use Rattle.exo_names.specs.Names.{field_in}

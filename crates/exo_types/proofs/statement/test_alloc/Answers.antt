@@ -4,7 +4,6 @@ use Rattle.exo_reader.specs.Views.{tree_of}
 use Rattle.exo_names.specs.Faults.{charged}
 use Rattle.exo_names.specs.ExpressionRules.{controls_faults}
 use Rattle.exo_types.specs.TypeRules.{memory_faults}
-use Rattle.exo_types.specs.ArgumentRules.{dims_width}
 use Rattle.exo_types.proofs.statement.test_alloc.Goals as goal
 
 pub returns-clause-charge : goal.returns-clause-charge

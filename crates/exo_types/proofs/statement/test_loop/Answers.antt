@@ -1,4 +1,4 @@
-use Rattle.std.proofs.Common.{◌≡◌, ◌+◌, ap, ◌∙◌, arith}
+use Rattle.std.proofs.Common.{◌+◌, ap, ◌∙◌}
 use Rattle.exo_meaning.specs.Units.{plainly}
 use Rattle.exo_reader.specs.Views.{tree_of}
 use Rattle.exo_names.specs.Faults.{charged}
