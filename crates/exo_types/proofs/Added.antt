@@ -1,19 +1,17 @@
 -- What an item adds to what stands above it.
-use Rattle.std.proofs.Common.{◌≡◌, ℕ, suc, ◌+◌, ◌<◌, ◌≤◌, Bool, true, false, not, ◌||◌, List, [], ◌∷◌, ◌++◌, Option, Some, None, is_some, Result, Ok, Err, MatchResult, length, map, refl, ap, sym, ◌∙◌, append_assoc, arith}
+use Rattle.std.proofs.Common.{◌≡◌, ℕ, ◌+◌, ◌≤◌, Bool, true, false, not, ◌||◌, List, [], ◌∷◌, ◌++◌, Option, None, is_some, Result, Ok, Err, MatchResult, length, map, refl, ap, sym, ◌∙◌, arith}
 use Rattle.std.specs.List.{list_any}
 use Rattle.std.proofs.lemmas.List.{length-append, length-map, map-append}
 use Rattle.exo_tree.specs.Tree as tree
 use Rattle.exo_tree.specs.Tree.{ConfigField, Procedure}
 use Rattle.exo_tree.specs.declared.lines.ProcLines.{ProcLines}
-use Rattle.exo_tree.specs.declared.unit.Unit.{Unit}
 use Rattle.exo_tree.specs.PlainUnit.{program}
 use Rattle.exo_tree.specs.PlainProcedure as plain
-use Rattle.exo_meaning.specs.Calls.{Callee}
 use Rattle.exo_meaning.specs.Run.{world_of, callee_in, kinds_of}
 use Rattle.exo_meaning.specs.Units.{is_text}
 use Rattle.exo_source.specs.Source.{Definition, block_of}
 use Rattle.exo_names.specs.declared.fault.Fault.{Fault}
-use Rattle.exo_names.specs.Faults.{or_else, least, unless}
+use Rattle.exo_names.specs.Faults.{least, unless}
 use Rattle.exo_names.specs.declared.error.TypeKind.TheVariants.{Redefined}
 use Rattle.exo_names.specs.Names.{name_number}
 use Rattle.exo_lexer.specs.declared.place.Place.{Place}
@@ -23,20 +21,20 @@ use Rattle.exo_types.specs.declared.context.Context.{Context}
 use Rattle.exo_types.specs.declared.definition.Defined.{Defined}
 use Rattle.exo_types.specs.declared.refusal.Refusal.{Refusal}
 use Rattle.exo_types.specs.declared.typed.Typed.{Typed}
-use Rattle.exo_types.specs.ArgumentRules.{Signature, signature_of}
-use Rattle.exo_types.specs.StatementRules.{block_width, bound_in}
-use Rattle.exo_types.specs.ItemRules.{params_width, body_start, definition_end, definition_fault, definition_of}
+use Rattle.exo_types.specs.ArgumentRules.{signature_of}
+use Rattle.exo_types.specs.StatementRules.{bound_in}
+use Rattle.exo_types.specs.ItemRules.{body_start, definition_end, definition_fault, definition_of}
 use Rattle.exo_types.specs.Refusals.{Refuses}
-use Rattle.exo_types.specs.UnitRules.{Above, is_given, item_name_faults, memory_names, procedure_names, signatures, procedure_here, procedure_fault, with_procedure}
-use Rattle.exo_types.specs.UnitLines.{block_starts, lines_of_definition, line_at}
+use Rattle.exo_types.specs.UnitRules.{Above, is_given, item_name_faults, memory_names, procedure_names, signatures, with_procedure}
+use Rattle.exo_types.specs.UnitLines.{block_starts, line_at}
 use Rattle.exo_types.specs.Walks.{signatures_by, signatures_in}
 use Rattle.exo_types.specs.Definitions as definitions
 use Rattle.exo_types.specs.Definitions.{HasSpace, IsDefined}
-use Rattle.exo_types.specs.Standing.{Agrees, IsFew, Stands, HasPlaces, here_fault, IsHere, IsPushed, IsProcedure}
-use Rattle.exo_types.proofs.Broken.{refuses_same, refuses_first, refuses_second, none_of_both, none_broken, first_empty}
+use Rattle.exo_types.specs.Standing.{Agrees, IsFew, Stands, here_fault, IsHere, IsPushed, IsProcedure}
+use Rattle.exo_types.proofs.Broken.{refuses_same, none_of_both, none_broken, first_empty}
 use Rattle.exo_types.proofs.Bounded.{few_bound_in}
 use Rattle.exo_types.proofs.Defining.{params_few}
-use Rattle.exo_types.proofs.Named.{named, named_more, no_number}
+use Rattle.exo_types.proofs.Named.{named, no_number}
 use Rattle.exo_types.proofs.Writes.{signature_is}
 
 -- ---- names

@@ -1,9 +1,6 @@
 -- What the check of a text tells, by what its items are refused for.
-use Rattle.std.proofs.Common.{◌≡◌, ℕ, ◌+◌, ◌<◌, ◌≤◌, List, Option, Some, None, length, slice_get, refl, ap, sym, ◌∙◌, subst, arith}
-use Rattle.phrases.specs.Limits.{Limits}
+use Rattle.std.proofs.Common.{◌≡◌, List, length, slice_get, ap, sym, ◌∙◌, subst, arith}
 use Rattle.exo_lexer.specs.declared.place.Place.{Place}
-use Rattle.exo_source.specs.Source.{Item}
-use Rattle.exo_source.specs.Items.{unit}
 use Rattle.exo_source.specs.declared.unit.Source.{Source}
 use Rattle.exo_tree.specs.declared.unit.Unit as tree
 use Rattle.exo_names.specs.declared.error.TypeKind.{TypeKind}

@@ -1,14 +1,13 @@
 -- Parameters, assertions and procedures, one after another.
-use Rattle.std.proofs.Common.{◌≡◌, ℕ, suc, ◌+◌, ◌<◌, ◌≤◌, List, [], ◌∷◌, ◌++◌, Option, Some, None, length, map, refl, ap, sym, ◌∙◌, append_assoc, subst, add-one, arith}
-use Rattle.std.proofs.lemmas.List.{append-nil, length-append, length-map}
+use Rattle.std.proofs.Common.{◌≡◌, ℕ, suc, ◌+◌, ◌≤◌, List, [], ◌∷◌, ◌++◌, Option, None, length, map, refl, ap, sym, ◌∙◌, append_assoc, subst, add-one, arith}
+use Rattle.std.proofs.lemmas.List.{append-nil}
 use Rattle.exo_tree.specs.Tree as tree
 use Rattle.exo_tree.specs.Tree.{ConfigField, Param}
-use Rattle.exo_meaning.specs.Units.{Scope, scope_of, with_name, param_sort, with_both}
-use Rattle.exo_reader.specs.Expression.{Tree}
+use Rattle.exo_meaning.specs.Units.{Scope, scope_of, with_name, param_sort}
 use Rattle.exo_source.specs.Source.{Parameter, Definition, block_of}
 use Rattle.exo_names.specs.declared.fault.Fault.{Fault}
-use Rattle.exo_names.specs.Faults.{or_else, least}
-use Rattle.exo_names.specs.ExpressionRules.{width, condition_faults}
+use Rattle.exo_names.specs.Faults.{or_else}
+use Rattle.exo_names.specs.ExpressionRules.{width}
 use Rattle.exo_names.specs.Resolved.{condition_of}
 use Rattle.exo_writes.specs.Written.{roots_in}
 use Rattle.exo_types.specs.declared.context.Context.{Context}
@@ -23,7 +22,7 @@ use Rattle.exo_types.specs.ItemRules as rules
 use Rattle.exo_types.specs.ItemRules.{parameter_width, spaced_params, params_width, asserts_width, asserts_start, body_start, definition_end}
 use Rattle.exo_types.specs.Walks as walks
 use Rattle.exo_types.specs.Walks.{signatures_in, Falls, HasRoom, IsBlock}
-use Rattle.exo_types.specs.Definitions.{HasSpace, IsParam, AreParams, AreAsserts, IsDefined, param_fault, param_of, params_fault, params_of, assert_fault, asserts_fault, definition_fault}
+use Rattle.exo_types.specs.Definitions.{HasSpace, IsParam, AreParams, AreAsserts, IsDefined, param_fault, param_of, params_fault, params_of, asserts_fault, definition_fault}
 use Rattle.exo_types.proofs.Broken.{refuses_same, refuses_first, refuses_second, none_of_both}
 
 -- there are as many parameters as are written

@@ -1,8 +1,6 @@
 -- Items one after another: what has been added, and what is left.
-use Rattle.std.proofs.Common.{◌≡◌, ℕ, ◌+◌, ◌<◌, ◌≤◌, List, [], ◌∷◌, ◌++◌, Option, Some, None, length, map, refl, ap, sym, ◌∙◌, append_assoc, arith}
+use Rattle.std.proofs.Common.{◌≡◌, ℕ, ◌+◌, List, [], ◌∷◌, ◌++◌, Option, None, refl, ap, sym, ◌∙◌, append_assoc, arith}
 use Rattle.std.proofs.lemmas.List.{append-nil}
-use Rattle.exo_tree.specs.declared.unit.Unit.{Unit}
-use Rattle.exo_tree.specs.PlainUnit.{program}
 use Rattle.exo_source.specs.Source.{Item}
 use Rattle.exo_lexer.specs.declared.place.Place.{Place}
 use Rattle.exo_names.specs.declared.fault.Fault.{Fault}

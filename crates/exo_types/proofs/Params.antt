@@ -1,18 +1,17 @@
 -- Types of parameters: with dimensions or without.
-use Rattle.std.proofs.Common.{◌≡◌, ℕ, ◌+◌, List, [], ◌∷◌, ◌++◌, Option, Some, None, length, map, refl, ap, sym, ◌∙◌, add-one}
+use Rattle.std.proofs.Common.{◌≡◌, ℕ, ◌+◌, List, [], ◌∷◌, ◌++◌, Option, None, length, map, refl, sym, ◌∙◌}
 use Rattle.exo_tree.specs.Tree as tree
 use Rattle.exo_tree.specs.Tree.{ConfigField}
 use Rattle.exo_meaning.specs.Units.{Scope, Sort, plainly, with_name, param_sort}
 use Rattle.exo_reader.specs.Expression.{Tree}
 use Rattle.exo_source.specs.Source.{TypeName, plain, Parameter}
-use Rattle.exo_names.specs.declared.fault.Fault.{Fault}
 use Rattle.exo_names.specs.ExpressionRules.{controls_faults}
 use Rattle.exo_types.specs.declared.context.Context.{Context}
 use Rattle.exo_types.specs.declared.context.Walk.{Walk}
 use Rattle.exo_types.specs.TypeRules.{binder, cell_faults, memory_faults}
 use Rattle.exo_types.specs.ArgumentRules.{dims_width}
-use Rattle.exo_types.specs.ItemRules.{form_faults, form_of, with_param}
-use Rattle.exo_types.specs.Definitions.{IsParam, param_fault, param_of}
+use Rattle.exo_types.specs.ItemRules.{form_faults, form_of}
+use Rattle.exo_types.specs.Definitions.{IsParam, param_fault}
 
 pub no_dims : {X : Type 0} (f : X → Tree) (xs : List X) → length xs ≡ 0 → map f xs ≡ []
 no_dims f [] h = refl

@@ -1,15 +1,15 @@
 -- Procedures and instructions as items.
-use Rattle.std.proofs.Common.{◌≡◌, ℕ, ◌+◌, ◌≤◌, ◌<◌, List, [], ◌∷◌, ◌++◌, Option, Some, None, Result, Ok, Err, MatchResult, length, refl, ap, sym, ◌∙◌, subst, arith}
+use Rattle.std.proofs.Common.{◌≡◌, ℕ, ◌+◌, ◌≤◌, List, [], ◌∷◌, ◌++◌, Some, None, Result, Ok, Err, MatchResult, length, ap, sym, ◌∙◌, subst, arith}
 use Rattle.std.proofs.lemmas.List.{length-map}
 use Rattle.exo_lexer.specs.declared.place.Place.{Place}
-use Rattle.exo_source.specs.Source.{Definition, Item, procedure, instruction}
+use Rattle.exo_source.specs.Source.{Definition, procedure, instruction}
 use Rattle.exo_source.specs.Items.{joined}
-use Rattle.exo_names.specs.Faults.{or_else, least}
+use Rattle.exo_names.specs.Faults.{least}
 use Rattle.exo_types.specs.declared.refusal.Refusal.{Refusal}
 use Rattle.exo_types.specs.declared.typed.Typed.{Typed}
 use Rattle.exo_types.specs.Refusals.{Refuses}
 use Rattle.exo_types.specs.ItemRules.{definition_end}
-use Rattle.exo_types.specs.UnitRules.{Above, procedure_here, procedure_fault, with_procedure, template_faults, item_fault, item_width}
+use Rattle.exo_types.specs.UnitRules.{Above, procedure_here, procedure_fault, with_procedure, template_faults, item_fault}
 use Rattle.exo_types.specs.UnitLines.{lines_of_definition}
 use Rattle.exo_types.specs.Standing.{Agrees, IsFew, HasPlaces, Stands, IsProcedure, IsAdded}
 use Rattle.exo_types.proofs.Broken.{refuses_second, none_of_both}

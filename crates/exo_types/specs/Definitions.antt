@@ -1,5 +1,5 @@
 -- What is made of parameters and procedures, in a walk through their text. n is the number of the first token.
-use Rattle.std.specs.Prelude.{◌≡◌, ℕ, ◌+◌, ◌<◌, ◌≤◌, List, [], ◌∷◌, ◌++◌, length, map, Option, Some, None}
+use Rattle.std.specs.Prelude.{◌≡◌, ℕ, ◌+◌, ◌<◌, ◌≤◌, List, ◌++◌, length, map, Option, None}
 use Rattle.exo_tree.specs.Tree as tree
 use Rattle.exo_tree.specs.declared.control.Cond.{Cond}
 use Rattle.exo_tree.specs.PlainControl.{condition}

@@ -9,7 +9,7 @@ pub mod UnitLines
 pub mod Typed
 pub mod Refusals
 pub mod Seen
-pub mod Laws
 pub mod Walks
+pub mod Laws
 pub mod Definitions
 pub mod Standing

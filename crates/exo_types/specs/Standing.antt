@@ -1,5 +1,5 @@
 -- What stands above an item, as tables say it; and what an item adds. n is the number of the item's first token.
-use Rattle.std.specs.Prelude.{◌≡◌, ℕ, ◌+◌, ◌<◌, ◌≤◌, not, List, [], ◌∷◌, ◌++◌, length, map, Option, Some, None, is_some}
+use Rattle.std.specs.Prelude.{◌≡◌, ℕ, ◌+◌, ◌<◌, ◌≤◌, not, List, [], ◌∷◌, ◌++◌, length, map, Option, None, is_some}
 use Rattle.std.specs.List.{list_any}
 use Rattle.exo_tree.specs.Tree.{ConfigField, Procedure}
 use Rattle.exo_tree.specs.declared.lines.ProcLines.{ProcLines}

@@ -1,4 +1,4 @@
-use Rattle.std.proofs.Common.{ap, sym, ◌∙◌}
+use Rattle.std.proofs.Common.{ap, ◌∙◌}
 use Rattle.exo_tree.specs.PlainParam.{parameter_kind}
 use Rattle.exo_source.specs.Views.{plain_parameter}
 use Rattle.exo_names.specs.Names.{named_in}

@@ -1,4 +1,4 @@
-use Rattle.std.proofs.Common.{List, ◌∷◌, drop, map, ap, subst, ◌+◌, ◌∙◌}
+use Rattle.std.proofs.Common.{List, drop, map, ap, subst, ◌+◌}
 use Rattle.exo_tree.specs.PlainParam.{parameter}
 use Rattle.exo_source.specs.Source.{Parameter}
 use Rattle.exo_source.specs.Views.{plain_parameter}

@@ -3,7 +3,7 @@ use Rattle.std.proofs.lemmas.Bool.Decides.{nat_tests}
 use Rattle.std.proofs.lemmas.List.{length-map}
 use Rattle.exo_meaning.specs.Units.{plainly}
 use Rattle.exo_reader.specs.Views.{tree_of}
-use Rattle.exo_source.specs.Source.{plain, strided}
+use Rattle.exo_source.specs.Source.{plain}
 use Rattle.exo_source.specs.Views.{plain_kind, plain_form}
 use Rattle.exo_names.specs.Faults.{charged}
 use Rattle.exo_names.specs.ExpressionRules.{controls_faults, closed_width}

@@ -1,4 +1,4 @@
-use Rattle.std.proofs.Common.{◌≤◌, drop, ap, subst, ◌∙◌, arith}
+use Rattle.std.proofs.Common.{drop, ap, subst, ◌∙◌}
 use Rattle.exo_meaning.specs.Units.{holes_fit}
 use Rattle.exo_types.specs.HoleRules.{IsBegun, reading_at}
 use Rattle.exo_types.proofs.Holes.{in_hole}

@@ -1,4 +1,4 @@
-use Rattle.std.proofs.Common.{List, ◌∷◌, ◌+◌, drop, map, ap, refl, subst}
+use Rattle.std.proofs.Common.{List, ◌+◌, drop, map, ap, refl, subst}
 use Rattle.exo_source.specs.Source as source
 use Rattle.exo_source.specs.Views.{plain_field}
 use Rattle.exo_types.proofs.Lists.{drop_read}

@@ -1,4 +1,4 @@
-use Rattle.std.proofs.Common.{List, ◌∷◌, drop, map, ap, subst, ◌+◌, ◌∙◌, arith}
+use Rattle.std.proofs.Common.{List, drop, map, ap, subst, ◌+◌, arith}
 use Rattle.std.proofs.lemmas.List.{drop_all}
 use Rattle.exo_source.specs.Source.{Item}
 use Rattle.exo_source.specs.Views.{plain_item}

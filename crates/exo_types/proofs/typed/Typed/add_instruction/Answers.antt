@@ -1,6 +1,5 @@
-use Rattle.std.proofs.Common.{◌≡◌, ℕ, ◌+◌, [], List, Some, None, map, ap, sym, subst, ◌∙◌, arith}
+use Rattle.std.proofs.Common.{◌+◌, [], List, Some, None, map, ap, sym, subst, ◌∙◌, arith}
 use Rattle.exo_source.specs.Source.{Parameter}
-use Rattle.exo_source.specs.Items.{joined}
 use Rattle.exo_source.specs.Views.{plain_parameter, plain_definition}
 use Rattle.exo_names.specs.Faults.{charged, unless}
 use Rattle.exo_names.specs.declared.error.TypeKind.TheVariants.{UnknownName}

@@ -1,4 +1,4 @@
-use Rattle.std.proofs.Common.{◌≡◌, ◌+◌, [], ◌∷◌, ◌++◌, None, map, ap, sym, refl, ◌∙◌}
+use Rattle.std.proofs.Common.{◌+◌, [], ◌∷◌, ◌++◌, map, ap, sym, refl, ◌∙◌}
 use Rattle.exo_tree.specs.PlainTables.{memory_kind}
 use Rattle.exo_source.specs.Views.{plain_attribute}
 use Rattle.exo_names.specs.Faults.{or_else}

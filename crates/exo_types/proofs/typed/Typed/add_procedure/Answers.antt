@@ -1,4 +1,4 @@
-use Rattle.std.proofs.Common.{◌≡◌, ℕ, ◌+◌, List, None, ap, sym, refl, subst, ◌∙◌, arith}
+use Rattle.std.proofs.Common.{ℕ, ◌+◌, List, ap, sym, refl, subst, ◌∙◌, arith}
 use Rattle.exo_source.specs.Views.{plain_definition}
 use Rattle.exo_tree.specs.declared.lines.ProcLines.{ProcLines}
 use Rattle.exo_tree.specs.PlainProcedure as plain

@@ -1,5 +1,4 @@
-use Rattle.std.proofs.Common.{◌≡◌, true, false, is_some, ap, sym, ◌∙◌}
-use Rattle.exo_names.specs.Names.{name_number}
+use Rattle.std.proofs.Common.{is_some, ap, sym, ◌∙◌}
 use Rattle.exo_types.proofs.Added.{given_first, given_last}
 use Rattle.exo_types.proofs.typed.Typed.is_given.Goals as goal
 
