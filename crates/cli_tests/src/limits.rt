@@ -1,47 +1,12 @@
 // Files at the limit of their length, and sinks that fail at a put.
-use exo_cli::{MemFiles, MemSink, Status, exoc};
+use crate::runs::compile;
+use exo_cli::Status;
 use std::alloc::{AllocError, Global};
 use std::test::Fail;
-use std::thread::Threads;
 
 const UNIT: &str = "@proc\ndef add3(x: i32[4], y: i32[4]):\n    x[0] = y[1] + 3\n";
 
 const SCHEDULE: &str = "emit(add3)\n";
-
-/// A file of this name.
-fn file(alloc: Global, name: &str, bytes: Vec<u8>) -> Result<(String, Vec<u8>), AllocError> {
-    Ok((String::from_str(alloc, name)?, bytes))
-}
-
-/// What a run left: its status, and what the two sinks took.
-#[derive(Drop)]
-struct Outcome {
-    status: Status,
-    out: MemSink,
-    err: MemSink,
-}
-
-/// Compiles the unit by the schedule; the listed puts to the standard output fail.
-fn compile<R: Threads + Sync + AllocGlobal>(
-    rt: &R,
-    unit: Vec<u8>,
-    schedule: Vec<u8>,
-    fail: &[u64],
-) -> Result<Outcome, AllocError> {
-    let alloc = rt.alloc();
-    let mut list = Vec::new(alloc);
-    list.push(file(alloc, "u.py", unit)?)?;
-    list.push(file(alloc, "s.py", schedule)?)?;
-    let mut files = MemFiles::new(list, Vec::new(alloc));
-    let mut out = MemSink::new(alloc, fail.to_vec(alloc)?, 4096)?;
-    let mut err = MemSink::new(alloc, Vec::new(alloc), 4096)?;
-    let mut words = Vec::new(alloc);
-    for word in ["exoc", "compile", "u.py", "s.py"] {
-        words.push(String::from_str(alloc, word)?)?;
-    }
-    let status = exoc(rt, alloc, &words, &mut files, &mut out, &mut err);
-    Ok(Outcome { status, out, err })
-}
 
 /// The unit, with line ends behind it up to this length in bytes.
 fn long_unit(alloc: Global, length: usize) -> Result<Vec<u8>, AllocError> {
