@@ -119,10 +119,19 @@ fn strings_that_are_refused(rt: HostRuntime) -> Result<(), AllocError> {
         (b"relu(Cfg.other)", "NotOfForm"),
     ];
     for (string, answer) in rows {
-        assert_eq!(rt; meant(alloc, &unit, 0, &[0], true, string)?.as_str(), answer);
+        assert_eq!(rt;
+            meant(alloc, &unit, 0, &[0], true, string)?.as_str(),
+            answer
+        );
     }
-    assert_eq!(rt; meant(alloc, &unit, 7, &[], false, b"n")?.as_str(), "4294967295");
-    assert_eq!(rt; meant(alloc, &unit, 7, &[], false, b"Cfg.other")?.as_str(), "UnknownName");
+    assert_eq!(rt;
+        meant(alloc, &unit, 7, &[], false, b"n")?.as_str(),
+        "4294967295"
+    );
+    assert_eq!(rt;
+        meant(alloc, &unit, 7, &[], false, b"Cfg.other")?.as_str(),
+        "UnknownName"
+    );
     Ok(())
 }
 
@@ -138,7 +147,14 @@ fn conditions_and_windows(rt: HostRuntime) -> Result<(), AllocError> {
     let Ok(window) = read_window(alloc, b"w[0:i, 1]") else {
         return Err(AllocError);
     };
-    let Ok((id, coords)) = window_at(alloc, &unit, ProcId(0), &path_of(&[0, 2, 0, 0]), true, &window) else {
+    let Ok((id, coords)) = window_at(
+        alloc,
+        &unit,
+        ProcId(0),
+        &path_of(&[0, 2, 0, 0]),
+        true,
+        &window,
+    ) else {
         return Err(AllocError);
     };
     assert_eq!(rt; id.0, 5);
