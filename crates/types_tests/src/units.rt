@@ -557,10 +557,7 @@ fn two_rules(rt: HostRuntime) -> Result<(), AllocError> {
 #[test]
 fn accepted(rt: HostRuntime) -> Result<(), AllocError> {
     let rows = [
-        (
-            b"".as_slice(),
-            "ok",
-        ),
+        (b"".as_slice(), "ok"),
         (
             b"@config\nclass Cfg:\n    w : size\n    b : bool\n".as_slice(),
             "ok",
