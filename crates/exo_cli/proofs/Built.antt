@@ -19,7 +19,7 @@ use Rattle.exo_cli.specs.declared.lines.Act.{Act}
 use Rattle.exo_cli.specs.declared.lines.Act.TheVariants as act
 use Rattle.exo_cli.specs.declared.lines.Line.{Line}
 use Rattle.exo_cli.specs.Compiled.{started, names_from, printing_of, printings, with_versions}
-use Rattle.exo_cli.specs.FirstUnits.{are_assignments, are_first, is_none, are_named_apart, is_built}
+use Rattle.exo_cli.specs.FirstUnits.{are_assignments, are_first, is_none, is_built}
 use Rattle.exo_cli.specs.FirstUnits.{is_first as is_first_here}
 use Rattle.exo_cli.specs.Built.{AreRead, AcceptedIsBuilt}
 use Rattle.exo_cli.proofs.Kept.{nothing_there, some_is, went_is, refused_does_not_go, stopped_is_not_done, entry_of, commuted_runs_alike}
@@ -128,7 +128,7 @@ each_printable (p ∷ ps) h (suc k) q e = each_printable ps (and_parts (is_first
 
 begin_built : (text : Program) → is_built text ≡ true → AreBuilt (started text.procedures)
 begin_built text h = record {
-  each = each_printable text.procedures (and_parts (are_named_apart text.procedures) (are_first text.procedures) (and_parts (nat_le (length text.memories) 1) (are_named_apart text.procedures && are_first text.procedures) (and_parts (is_none text.fields) (nat_le (length text.memories) 1 && (are_named_apart text.procedures && are_first text.procedures)) h).1).1).1;
+  each = each_printable text.procedures (and_parts (nat_le (length text.memories) 1) (are_first text.procedures) (and_parts (is_none text.fields) (nat_le (length text.memories) 1 && are_first text.procedures) h).1).1;
   named = λ name k e. ⊎_elim (λ n. absurd (nothing_there n)) (λ (less : k < 0 + length text.procedures). let below : k < length text.procedures = omega arith in below) (held_first None 0 text.procedures name k e);
   emitted = λ i k e. none i k e;
 }

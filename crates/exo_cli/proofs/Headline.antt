@@ -13,10 +13,12 @@ use Rattle.c_printer.specs.FirstForm.{is_first, are_first, is_first_unit}
 use Rattle.c_printer.proofs.FirstUnits.{all_first}
 use Rattle.c_printer.proofs.FirstUnitsFollow.{first_units_follow}
 use Rattle.phrases.specs.Text.{IsText}
+use Rattle.exo_lexer.specs.declared.place.Place.{Place}
 use Rattle.exo_source.specs.Source.{Item}
 use Rattle.exo_source.specs.Items.{unit}
 use Rattle.exo_source.specs.Texts.{tokens_of, places_of}
-use Rattle.first_units.specs.FirstUnits.{first_program}
+use Rattle.exo_names.specs.declared.fault.Fault.{Fault}
+use Rattle.exo_types.specs.UnitRules.{unit_fault, unit_of}
 use Rattle.exo_cli.specs.declared.status.Status.{Status}
 use Rattle.exo_cli.specs.declared.status.Status.TheVariants.{Ok, Refused, Usage, ReadFault, WriteFault, Memory}
 use Rattle.exo_cli.specs.Outside.{Folder, content_of, with_more}
@@ -24,7 +26,7 @@ use Rattle.exo_cli.specs.Messages.{usage, file_refused}
 use Rattle.exo_cli.specs.Words.{Command, Compile, command_of}
 use Rattle.exo_cli.specs.Work.{file_limit, Opens, AnswersTo, Answers, Moment, Ends}
 use Rattle.exo_cli.specs.Answer.{Answer, Accepted, Rejected, Unread, Misused, status_of, for_out, for_err}
-use Rattle.exo_cli.specs.Compiled.{IsCompiled, not_built, printed, ended, scheduled, started, printing_of, printings, with_versions}
+use Rattle.exo_cli.specs.Compiled.{IsCompiled, broken, not_built, typed, ended, scheduled, started, printing_of, printings, with_versions}
 use Rattle.exo_cli.specs.FirstUnits.{is_built}
 use Rattle.exo_cli.specs.Lines as lines
 use Rattle.exo_cli.specs.Lines.{Versions, Outcome, run_lines}
@@ -97,39 +99,43 @@ accepted_is_not e = cc
 accepted_is : {text other : List ℕ} → Accepted text ≡ Accepted other → text ≡ other
 accepted_is e = cc
 
-module _ (procs source schedule bytes text : List ℕ) (items : List Item) (spelled : IsText unit (tokens_of source) items) where
-  by_run : (program : Program) → first_program items ≡ Some program → is_built program ≡ true → (ls : List Line) (o : Outcome) → schedule_of bytes ≡ Some ls → run_lines ls (started program.procedures) ≡ o
-      → Accepted text ≡ ended schedule program o → Promise source bytes text
-  by_run program stands_for built ls (lines.Done v) read ran e = record {
+module _ (procs source schedule bytes text : List ℕ) (items : List Item) (spelled : IsText unit (tokens_of source) items) (keeps : unit_fault items ≡ None) where
+  by_run : is_built (unit_of items) ≡ true → (ls : List Line) (o : Outcome) → schedule_of bytes ≡ Some ls → run_lines ls (started (unit_of items).procedures) ≡ o
+      → Accepted text ≡ ended schedule (unit_of items) o → Promise source bytes text
+  by_run built ls (lines.Done v) read ran e = record {
     items = items;
-    program = program;
     lines = ls;
     versions = v;
     spelled = spelled;
-    stands_for = stands_for;
+    keeps = keeps;
     read = read;
     ran = ran;
     text = accepted_is e;
-    each = each_printed program v (accepted_is_built program ls v built (bytes, read) ran) (schedules_run_alike program.procedures ls v ran);
+    each = each_printed (unit_of items) v (accepted_is_built (unit_of items) ls v built (bytes, read) ran) (schedules_run_alike (unit_of items).procedures ls v ran);
   }
-  by_run program stands_for built ls (lines.Stopped n operator why) read ran e = absurd (accepted_is_not e)
+  by_run built ls (lines.Stopped n operator why) read ran e = absurd (accepted_is_not e)
 
-  by_read : (program : Program) → first_program items ≡ Some program → is_built program ≡ true → (o : Option (List Line)) → schedule_of bytes ≡ o → Accepted text ≡ scheduled schedule program o → Promise source bytes text
-  by_read program stands_for built None read e = absurd (accepted_is_not e)
-  by_read program stands_for built (Some ls) read e = by_run program stands_for built ls (run_lines ls (started program.procedures)) read refl e
+  by_read : is_built (unit_of items) ≡ true → (o : Option (List Line)) → schedule_of bytes ≡ o → Accepted text ≡ scheduled schedule (unit_of items) o → Promise source bytes text
+  by_read built None read e = absurd (accepted_is_not e)
+  by_read built (Some ls) read e = by_run built ls (run_lines ls (started (unit_of items).procedures)) read refl e
 
-  by_form : (program : Program) → first_program items ≡ Some program → (b : Bool) → is_built program ≡ b → Accepted text ≡ (if b then scheduled schedule program (schedule_of bytes) else not_built procs) → Promise source bytes text
-  by_form program stands_for true built e = by_read program stands_for built (schedule_of bytes) refl e
-  by_form program stands_for false built e = absurd (accepted_is_not e)
+  by_form : (b : Bool) → is_built (unit_of items) ≡ b → Accepted text ≡ (if b then scheduled schedule (unit_of items) (schedule_of bytes) else not_built procs) → Promise source bytes text
+  by_form true built e = by_read built (schedule_of bytes) refl e
+  by_form false built e = absurd (accepted_is_not e)
 
-  by_program : (o : Option Program) → first_program items ≡ o → Accepted text ≡ printed procs schedule (schedule_of bytes) o → Promise source bytes text
-  by_program None stands_for e = absurd (accepted_is_not e)
-  by_program (Some program) stands_for e = by_form program stands_for (is_built program) refl e
+accepted_is_not_broken : {text : List ℕ} (procs : List ℕ) (place : Option Place) (f : Fault) → Accepted text ≡ broken procs place f.rule → ⊥
+accepted_is_not_broken procs None f e = accepted_is_not e
+accepted_is_not_broken procs (Some place) f e = accepted_is_not e
 
--- an accepted text keeps the promise
-pub accepted_is_promised : (procs source schedule bytes text : List ℕ) → IsCompiled procs source schedule bytes (Accepted text) → Promise source bytes text
-accepted_is_promised procs source schedule bytes text =
-    ⊎_elim (λ h. absurd (accepted_is_not h.2)) (λ h. by_program procs source schedule bytes text h.0 h.1 (first_program h.0) refl h.2)
+module _ (procs source schedule bytes text : List ℕ) where
+  by_rules : (items : List Item) → IsText unit (tokens_of source) items → (o : Option Fault) → unit_fault items ≡ o
+      → Accepted text ≡ typed procs schedule (schedule_of bytes) (places_of source) items o → Promise source bytes text
+  by_rules items spelled None keeps e = by_form procs source schedule bytes text items spelled keeps (is_built (unit_of items)) refl e
+  by_rules items spelled (Some f) breaks e = absurd (accepted_is_not_broken procs (slice_get (places_of source) f.token) f e)
+
+  -- an accepted text keeps the promise
+  pub accepted_is_promised : IsCompiled procs source schedule bytes (Accepted text) → Promise source bytes text
+  accepted_is_promised = ⊎_elim (λ h. absurd (accepted_is_not h.2)) (λ h. by_rules h.0 h.1 (unit_fault h.0) refl h.2)
 
 -- ---- and so does what the program writes
 

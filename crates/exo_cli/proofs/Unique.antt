@@ -9,8 +9,8 @@ use Rattle.exo_source.specs.Source.{Item}
 use Rattle.exo_source.specs.Texts.{tokens_of, places_of}
 use Rattle.exo_source.specs.declared.unit.ReadError.{ReadError}
 use Rattle.exo_source.proofs.Eased.{texts_are_one}
-use Rattle.first_units.specs.FirstUnits.{first_program}
-use Rattle.exo_cli.specs.Compiled.{IsCompiled, kind_text, printed}
+use Rattle.exo_types.specs.UnitRules.{unit_fault}
+use Rattle.exo_cli.specs.Compiled.{IsCompiled, kind_text, typed}
 use Rattle.exo_cli.specs.ScheduleForm.{schedule_of}
 use Rattle.exo_cli.specs.Work.{file_limit, Opens, AnswersTo, AnswersAreUnique}
 
@@ -26,7 +26,7 @@ compiled_once procs source schedule lines a b one other =
     refused e = Rejected (place_refused procs e.line e.column (kind_text e.kind))
 
     given : List Item → Answer
-    given items = printed procs schedule (schedule_of lines) (first_program items)
+    given items = typed procs schedule (schedule_of lines) (places_of source) items (unit_fault items)
 
 -- a file opens in one way
 opens_once : (held : Option (List ℕ)) (name : List ℕ) (next : List ℕ → Answer → Type 0) (a b : Answer) → ((bytes : List ℕ) → next bytes a → next bytes b → a ≡ b)

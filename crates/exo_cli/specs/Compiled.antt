@@ -1,14 +1,19 @@
--- The answer to the texts of a unit and of a schedule: the unit is read, then its form is tested, and then the schedule's lines run.
+-- The answer to the texts of a unit and of a schedule: the unit is read, then its rules are tested, then its form, and then
+-- the schedule's lines run.
 use Rattle.std.specs.Prelude.{◌≡◌, ℕ, suc, ◌⊎◌, if◌then◌else◌, List, [], ◌∷◌, map, slice_get, slice_index, Option, Some, None, codes}
 use Rattle.phrases.specs.Text.{IsText}
 use Rattle.exo_tree.specs.Tree.{Procedure, Program}
+use Rattle.exo_lexer.specs.declared.place.Place.{Place}
 use Rattle.exo_source.specs.Source.{Item}
 use Rattle.exo_source.specs.Items.{unit}
 use Rattle.exo_source.specs.Texts.{tokens_of, places_of, IsFault}
 use Rattle.exo_source.specs.declared.unit.ReadKind.{ReadKind}
 use Rattle.exo_source.specs.declared.unit.ReadKind.TheVariants as kind
 use Rattle.exo_source.specs.declared.unit.ReadError.{ReadError}
-use Rattle.first_units.specs.FirstUnits.{first_program}
+use Rattle.exo_names.specs.declared.fault.Fault.{Fault}
+use Rattle.exo_names.specs.declared.error.TypeKind.{TypeKind}
+use Rattle.exo_names.specs.declared.error.TypeKind.TheVariants as rule
+use Rattle.exo_types.specs.UnitRules.{unit_fault, unit_of}
 use Rattle.exo_cli.specs.FirstUnits.{is_built}
 use Rattle.c_printer.specs.LoweredUnit.{Printing, name_of, lowered}
 use Rattle.c_printer.specs.CText.{text_of}
@@ -74,10 +79,29 @@ kind_text kind.TooDeep = codes "TooDeep"
 kind_text kind.TooLong = codes "TooLong"
 kind_text kind.LiteralTooLarge = codes "LiteralTooLarge"
 
--- a unit, by the program of the first form that it stands for
-abbrev pub printed : List ℕ → List ℕ → Option (List Line) → Option Program → Answer
-printed procs schedule lines None = not_built procs
-printed procs schedule lines (Some program) = if is_built program then scheduled schedule program lines else not_built procs
+abbrev pub rule_text : TypeKind → List ℕ
+rule_text rule.Memory = codes "Memory"
+rule_text rule.UnknownName = codes "UnknownName"
+rule_text rule.Redefined = codes "Redefined"
+rule_text rule.KindMismatch = codes "KindMismatch"
+rule_text rule.RankMismatch = codes "RankMismatch"
+rule_text rule.NotAffine = codes "NotAffine"
+rule_text rule.ConfigPlace = codes "ConfigPlace"
+rule_text rule.StridePlace = codes "StridePlace"
+rule_text rule.SharedArgument = codes "SharedArgument"
+
+-- a well-formed unit, by its program
+abbrev pub printed : List ℕ → List ℕ → Option (List Line) → Program → Answer
+printed procs schedule lines program = if is_built program then scheduled schedule program lines else not_built procs
+
+-- a rule is broken at a token, which has this place
+abbrev pub broken : List ℕ → Option Place → TypeKind → Answer
+broken procs None broken_rule = not_built procs
+broken procs (Some place) broken_rule = Rejected (place_refused procs place.line place.column (rule_text broken_rule))
+
+abbrev pub typed : List ℕ → List ℕ → Option (List Line) → List Place → List Item → Option Fault → Answer
+typed procs schedule lines places items None = printed procs schedule lines (unit_of items)
+typed procs schedule lines places items (Some f) = broken procs (slice_get places f.token) f.rule
 
 -- the text is no unit: the answer names the first token with which none goes on
 abbrev pub IsUnread : List ℕ → List ℕ → Answer → Type 0
@@ -85,10 +109,10 @@ IsUnread procs text answer =
     (e : ReadError) × IsFault unit (tokens_of text) (places_of text) e × (answer ≡ Rejected (place_refused procs e.line e.column (kind_text e.kind)))
 
 -- the text is a unit
-abbrev pub IsUnitText : List ℕ → List ℕ → List ℕ → List ℕ → Answer → Type 0
-IsUnitText procs text schedule lines answer =
-    (items : List Item) × IsText unit (tokens_of text) items × (answer ≡ printed procs schedule (schedule_of lines) (first_program items))
+abbrev pub IsTyped : List ℕ → List ℕ → List ℕ → List ℕ → Answer → Type 0
+IsTyped procs text schedule lines answer =
+    (items : List Item) × IsText unit (tokens_of text) items × (answer ≡ typed procs schedule (schedule_of lines) (places_of text) items (unit_fault items))
 
 -- This is the answer to the bytes of the two files, whose names are given.
 abbrev pub IsCompiled : List ℕ → List ℕ → List ℕ → List ℕ → Answer → Type 0
-IsCompiled procs text schedule lines answer = IsUnread procs text answer ⊎ IsUnitText procs text schedule lines answer
+IsCompiled procs text schedule lines answer = IsUnread procs text answer ⊎ IsTyped procs text schedule lines answer

@@ -1,5 +1,5 @@
 -- Which units are compiled today: procedures of the first form and nothing else.
-use Rattle.std.specs.Prelude.{ℕ, Bool, true, false, not, ◌&&◌, ◌||◌, nat_le, bytes_eq, List, [], ◌∷◌, length}
+use Rattle.std.specs.Prelude.{Bool, true, false, ◌&&◌, nat_le, List, [], ◌∷◌, length}
 use Rattle.exo_tree.specs.Tree.{Datum, Const, Read, Negated, Relu, Plus, Minus, Times, Select, Statement, Assign, Block, end, next, statements, Procedure, ConfigField, Program}
 use Rattle.c_printer.specs.FirstForm.{stands_alone}
 
@@ -34,15 +34,6 @@ abbrev pub is_none : List ConfigField → Bool
 is_none [] = true
 is_none (f ∷ fs) = false
 
--- each name stands once
-abbrev pub is_named : List Procedure → List ℕ → Bool
-is_named [] x = false
-is_named (p ∷ ps) x = bytes_eq p.name x || is_named ps x
-
-abbrev pub are_named_apart : List Procedure → Bool
-are_named_apart [] = true
-are_named_apart (p ∷ ps) = not (is_named ps p.name) && are_named_apart ps
-
 -- it holds such procedures alone: no configuration, and no memory but the one that is always there
 abbrev pub is_built : Program → Bool
-is_built program = is_none program.fields && (nat_le (length program.memories) 1 && (are_named_apart program.procedures && are_first program.procedures))
+is_built program = is_none program.fields && (nat_le (length program.memories) 1 && are_first program.procedures)

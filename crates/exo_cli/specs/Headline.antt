@@ -18,7 +18,7 @@ use Rattle.phrases.specs.Text.{IsText}
 use Rattle.exo_source.specs.Source.{Item}
 use Rattle.exo_source.specs.Items.{unit}
 use Rattle.exo_source.specs.Texts.{tokens_of}
-use Rattle.first_units.specs.FirstUnits.{first_program}
+use Rattle.exo_types.specs.UnitRules.{unit_fault, unit_of}
 use Rattle.exo_cli.specs.Outside.{Folder, content_of, with_more}
 use Rattle.exo_cli.specs.Words.{Compile, command_of}
 use Rattle.exo_cli.specs.Answer.{Accepted}
@@ -56,19 +56,18 @@ pub record IsPrinted (text program : Program) (what : List Printing) (at : ℕ) 
   pub nothing_differs : w.fields ≡ []
   pub kept : DoesWhat program what at origin version
 
--- What stands behind the C that is printed for a unit and a schedule: the unit that the text spells, the program that it stands
--- for, the versions that the schedule makes, and for each version that is printed the promise that its C does what a procedure of the text does.
+-- What stands behind the C that is printed for a unit and a schedule: the unit that the text spells, which keeps all rules, the
+-- program that it stands for, the versions that the schedule makes, and for each version that is printed the promise that its C does what a procedure of the text does.
 pub record Promise (bytes schedule printed : List ℕ) : Type 0 where
   pub items : List Item
-  pub program : Program
   pub lines : List Line
   pub versions : Versions
   pub spelled : IsText unit (tokens_of bytes) items
-  pub stands_for : first_program items ≡ Some program
+  pub keeps : unit_fault items ≡ None
   pub read : schedule_of schedule ≡ Some lines
-  pub ran : run_lines lines (started program.procedures) ≡ Ran versions
-  pub text : printed ≡ text_of (lowered (with_versions program versions) (printings versions))
-  pub each : (k : ℕ) (w : Printing) → slice_get (printings versions) k ≡ Some w → IsPrinted program (with_versions program versions) (printings versions) k w
+  pub ran : run_lines lines (started (unit_of items).procedures) ≡ Ran versions
+  pub text : printed ≡ text_of (lowered (with_versions (unit_of items) versions) (printings versions))
+  pub each : (k : ℕ) (w : Printing) → slice_get (printings versions) k ≡ Some w → IsPrinted (unit_of items) (with_versions (unit_of items) versions) (printings versions) k w
 
 -- what is accepted keeps the promise
 abbrev pub AcceptedIsPromised : Type 0

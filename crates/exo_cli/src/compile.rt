@@ -1,5 +1,5 @@
 // From the texts of a unit and of a schedule to the text of C.
-ghost use Rattle.std.specs.Prelude.{◌≡◌, ◌≤◌, ◌≢◌, true, length, map, Some, IfOk};
+ghost use Rattle.std.specs.Prelude.{◌≡◌, ◌≤◌, ◌≢◌, true, length, map, IfOk};
 ghost use Rattle.exo_tree.specs.Plain.{program};
 ghost use Rattle.c_printer.specs.PlainPrinted.{printing};
 ghost use Rattle.c_printer.specs.CText.{text_of};
@@ -7,10 +7,10 @@ ghost use Rattle.c_printer.specs.FirstForm.{is_first_unit};
 ghost use Rattle.c_printer.specs.LoweredUnit.{lowered};
 ghost use Rattle.exo_cli.specs.Answer.{Accepted, Rejected, IsVerdict};
 ghost use Rattle.exo_cli.specs.Built.{AreRead};
-ghost use Rattle.exo_cli.specs.Compiled.{IsCompiled, ended, kind_text, not_built, printed, scheduled, started, why_text};
+ghost use Rattle.exo_cli.specs.Compiled.{IsCompiled, ended, kind_text, not_built, printed, rule_text, scheduled, started, typed, why_text};
 ghost use Rattle.exo_cli.specs.FirstUnits.{is_built};
-ghost use Rattle.exo_source.specs.Views.{plain_item};
-ghost use Rattle.first_units.specs.FirstUnits.{first_program};
+ghost use Rattle.exo_types.specs.Typed.{IsPlaced, items_of};
+ghost use Rattle.exo_types.specs.UnitRules.{unit_fault};
 ghost use Rattle.exo_cli.specs.Lines.{operator_of, run_lines};
 ghost use Rattle.exo_cli.specs.Messages.{line_refused, place_refused};
 ghost use Rattle.exo_cli.specs.Replies.{plain};
@@ -23,9 +23,11 @@ use crate::reply::Reply;
 use crate::schedule::read_schedule;
 use crate::session::{Session, Why};
 use c_printer::{Printed, c_text, lower};
+use exo_names::error::{TypeError, TypeKind};
 use exo_source::unit::{ReadError, ReadKind, Source, read_unit};
 use exo_tree::{Lines, Procs, Unit};
-use first_units::{FirstError, first_unit};
+use exo_types::laws::read_texts_are_placed;
+use exo_types::unit::check_types;
 use std::alloc::{AllocError, Global};
 
 /// Compiles the unit by the schedule. The names are those of their files, for the messages.
@@ -41,8 +43,9 @@ pub(crate) fn compile(
     ensures answer { IfOk result (λ reply. IsCompiled procs.now unit.now schedule.now lines.now (plain reply)) }
     ensures verdict { IfOk result (λ reply. IsVerdict (plain reply)) }
 {
+    read_texts_are_placed();
     match read_unit(alloc, unit) {
-        Ok(source) => form_unit(alloc, procs, &source, schedule, lines),
+        Ok(source) => type_unit(alloc, procs, &source, schedule, lines),
         Err(e) => refuse_text(alloc, procs, e),
     }
 }
@@ -75,26 +78,56 @@ fn refuse_text(alloc: Global, name: &str, e: ReadError) -> Result<Reply, AllocEr
     Ok(Reply::Rejected(message))
 }
 
-/// Compiles the unit, where it is of the first form.
-fn form_unit(
+/// Tests the rules of the unit, and compiles what it stands for.
+fn type_unit(
     alloc: Global,
     procs: &str,
     source: &Source,
     schedule: &str,
     lines: &[u8],
 ) -> Result<Reply, AllocError>
+    requires source { IsPlaced source.now }
     requires lines { length lines.now ≤ 1048576 }
-    ensures answer { IfOk result (λ reply. plain reply ≡ printed procs.now schedule.now (schedule_of lines.now) (first_program (map plain_item source.now.items.items))) }
+    ensures answer { IfOk result (λ reply. plain reply ≡ typed procs.now schedule.now (schedule_of lines.now) source.now.places.items (items_of source.now) (unit_fault (items_of source.now))) }
     ensures verdict { IfOk result (λ reply. IsVerdict (plain reply)) }
 {
-    match first_unit(alloc, source) {
+    match check_types(alloc, source) {
         Ok(unit) => print_unit(alloc, procs, &unit, schedule, lines),
-        Err(FirstError::NotBuilt) => not_built(alloc, procs),
-        Err(FirstError::Memory) => Err(AllocError),
+        Err(e) => refuse_rule(alloc, procs, e),
     }
 }
 
-/// Compiles the program of a unit.
+/// A rule as messages have it.
+fn rule_text(rule: TypeKind) -> &'static str
+    ensures { result.now ≡ rule_text rule }
+{
+    match rule {
+        TypeKind::Memory => "Memory",
+        TypeKind::UnknownName => "UnknownName",
+        TypeKind::Redefined => "Redefined",
+        TypeKind::KindMismatch => "KindMismatch",
+        TypeKind::RankMismatch => "RankMismatch",
+        TypeKind::NotAffine => "NotAffine",
+        TypeKind::ConfigPlace => "ConfigPlace",
+        TypeKind::StridePlace => "StridePlace",
+        TypeKind::SharedArgument => "SharedArgument",
+    }
+}
+
+/// The text of this name breaks a rule.
+fn refuse_rule(alloc: Global, name: &str, e: TypeError) -> Result<Reply, AllocError>
+    ensures answer { IfOk result (λ reply. plain reply ≡ Rejected (place_refused name.now e.line e.column (rule_text e.kind))) }
+    ensures verdict { IfOk result (λ reply. IsVerdict (plain reply)) }
+    ensures cause { IfOk result (λ _. e.kind ≢ TypeKind.Memory) }
+{
+    if e.kind == TypeKind::Memory {
+        return Err(AllocError);
+    }
+    let message = messages::place_refused(alloc, name, e.line, e.column, rule_text(e.kind))?;
+    Ok(Reply::Rejected(message))
+}
+
+/// Compiles a unit that keeps the rules.
 fn print_unit(
     alloc: Global,
     procs: &str,
@@ -103,7 +136,7 @@ fn print_unit(
     lines: &[u8],
 ) -> Result<Reply, AllocError>
     requires lines { length lines.now ≤ 1048576 }
-    ensures answer { IfOk result (λ reply. plain reply ≡ printed procs.now schedule.now (schedule_of lines.now) (Some (program unit.now))) }
+    ensures answer { IfOk result (λ reply. plain reply ≡ printed procs.now schedule.now (schedule_of lines.now) (program unit.now)) }
     ensures verdict { IfOk result (λ reply. IsVerdict (plain reply)) }
 {
     if !is_built(unit) {

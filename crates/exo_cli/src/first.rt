@@ -1,8 +1,8 @@
 // Which units are compiled today.
-ghost use Rattle.std.specs.Prelude.{◌≡◌, map};
+ghost use Rattle.std.specs.Prelude.{◌≡◌};
 ghost use Rattle.exo_tree.specs.Tree.{block};
 ghost use Rattle.exo_tree.specs.Plain.{datum, statement, procedure, program};
-ghost use Rattle.exo_cli.specs.FirstUnits.{is_sum, is_assignment, are_assignments, is_first, are_first, is_named, are_named_apart, is_built};
+ghost use Rattle.exo_cli.specs.FirstUnits.{is_sum, is_assignment, are_assignments, is_first, are_first, is_built};
 
 use c_printer::stands_alone;
 use exo_tree::{Block, DataExpr, Proc, Procs, Stmt, Unit};
@@ -70,37 +70,9 @@ fn are_first(procs: &Procs) -> bool
     true
 }
 
-/// Whether a procedure has the name.
-fn is_named(procs: &[Proc], x: &str) -> bool
-    ensures { result ≡ is_named (map procedure procs.now) x.now }
-{
-    for p in procs {
-        if p.name.as_str() == x {
-            return true;
-        }
-    }
-    false
-}
-
-/// Whether each name stands once.
-fn are_named_apart(procs: &Procs) -> bool
-    ensures { result ≡ are_named_apart procs.now }
-{
-    let list = procs.as_slice();
-    for (k, p) in list.iter().enumerate() {
-        if is_named(&list[k + 1..], p.name.as_str()) {
-            return false;
-        }
-    }
-    true
-}
-
 /// Whether the unit holds procedures of the first form and nothing else.
 pub(crate) fn is_built(unit: &Unit) -> bool
     ensures { result ≡ is_built (program unit.now) }
 {
-    unit.fields.len() == 0
-        && unit.memories.len() <= 1
-        && are_named_apart(&unit.procs)
-        && are_first(&unit.procs)
+    unit.fields.len() == 0 && unit.memories.len() <= 1 && are_first(&unit.procs)
 }

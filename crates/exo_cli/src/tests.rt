@@ -104,7 +104,7 @@ fn what_is_refused_is_named(rt: HostRuntime) -> Result<(), Fail> {
         (
             "@proc\ndef f(a: [i32][4], b: [i32][4]):\n    for l in seq(0, 4):\n        a[l] = b[l]\n@proc\ndef g(x: i32[8]):\n    f(x[0:4], x[4:8])\n",
             "",
-            "exoc: u.py: NotBuilt\n",
+            "exoc: u.py:7:15: SharedArgument\n",
         ),
         ("", "emit(p)\n", "exoc: s.py:1: emit UnknownProc\n"),
         (

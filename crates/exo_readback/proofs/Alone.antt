@@ -1,8 +1,7 @@
 -- Expressions that are a whole text.
-use Rattle.std.proofs.Common.{◌≡◌, ℕ, List, [], ◌∷◌, ◌++◌, map, refl, sym, ap, ◌∙◌, append-nil, subst}
-use Rattle.exo_lexer.specs.Layout.{token_of, tokens_in, lines, longer, one_line, up_to_fault}
+use Rattle.std.proofs.Common.{◌≡◌, ℕ, List, [], ◌∷◌, map, refl, sym, ap, ◌∙◌, append-nil, subst}
+use Rattle.exo_lexer.specs.Layout.{token_of, tokens_in, lines, longer, one_line}
 use Rattle.exo_lexer.specs.declared.token.Token.{Token}
-use Rattle.exo_reader.specs.Expression.{spelling}
 use Rattle.exo_show.specs.Words.{words_with}
 use Rattle.exo_readback.specs.Written.{control_tree, condition_tree, datum_tree}
 use Rattle.exo_readback.specs.Laws.{line_tokens_of, ControlsAreSpelled, ConditionsAreSpelled, DataAreSpelled}

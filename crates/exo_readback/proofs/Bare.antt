@@ -1,5 +1,5 @@
 -- The tokens of a line without their places.
-use Rattle.std.proofs.Common.{◌≡◌, ℕ, zero, suc, ◌+◌, ◌-◌, List, [], ◌∷◌, ◌++◌, map, Bool, true, false, cond, if◌then◌else◌, nat_eq, eqb, length, refl, sym, ap, ◌∙◌}
+use Rattle.std.proofs.Common.{◌≡◌, ℕ, zero, suc, ◌+◌, ◌-◌, List, [], ◌∷◌, ◌++◌, map, Bool, true, false, cond, if◌then◌else◌, nat_eq, eqb, length, refl, ap}
 use Rattle.exo_lexer.specs.Piece.{piece_of}
 use Rattle.exo_lexer.specs.Layout.{token_of, tokens_in, put, at}
 use Rattle.exo_lexer.specs.declared.token.Token.{Token}

@@ -1,7 +1,7 @@
 -- The text of blocks is read as their source trees spell them.
-use Rattle.std.proofs.Common.{◌≡◌, ℕ, zero, suc, ◌+◌, List, [], ◌∷◌, ◌++◌, map, Bool, true, false, eqb, Option, Some, None, codes, slice_get, refl, sym, ap, ◌∙◌, append_assoc, arith, subst}
+use Rattle.std.proofs.Common.{◌≡◌, ℕ, zero, suc, ◌+◌, List, [], ◌∷◌, ◌++◌, map, true, Option, Some, None, codes, slice_get, refl, sym, ap, ◌∙◌, append_assoc, arith, subst}
 use Rattle.std.proofs.lemmas.Bool.Decides.{nat_tests}
-use Rattle.exo_tree.specs.Tree.{Argument, Statement, Assign, Reduce, Config, Pass, If, For, Alloc, View, Call, Block, end, next, ConfigField, Program}
+use Rattle.exo_tree.specs.Tree.{Statement, Assign, Reduce, Config, Pass, If, For, Alloc, View, Call, Block, end, next, ConfigField, Program}
 use Rattle.exo_lexer.specs.Bytes.{begins_name}
 use Rattle.exo_lexer.specs.declared.place.Place.{Place}
 use Rattle.exo_lexer.specs.declared.token.Token.{Token}
@@ -20,8 +20,8 @@ use Rattle.exo_show.specs.StatementText.{argument_text, head_text, or_else, bloc
 use Rattle.exo_readback.specs.Names.{IsName}
 use Rattle.exo_readback.specs.Written.{statement_of, block_of}
 use Rattle.exo_readback.specs.Writable.{HasNames, IsSome, IsStatement, IsBlock}
-use Rattle.exo_readback.proofs.Pieces.{Free, Any, Reads, join, named, weaker, colon_reads}
-use Rattle.exo_readback.proofs.Rows.{IsSound, BeginsRow, IsRow, indent_of, deep, text_out, row, Below, row_after, row_first, below_row, below_more, no_import}
+use Rattle.exo_readback.proofs.Pieces.{Free, Any, join, named, weaker, colon_reads}
+use Rattle.exo_readback.proofs.Rows.{IsSound, BeginsRow, IsRow, indent_of, text_out, row, Below, row_after, row_first, below_row, below_more, no_import}
 use Rattle.exo_readback.proofs.Sound.{Whole, sound_append}
 use Rattle.exo_readback.proofs.Sources.{head_tokens, head_whole}
 use Rattle.exo_readback.proofs.Expressions.{field_text}
@@ -71,7 +71,7 @@ three a b c d = simp append_assoc
 store_parts : (sign : Token) (a b d : List Token) → a ++ (sign ∷ (b ++ d)) ≡ (a ++ (sign ∷ b)) ++ d
 store_parts sign a b d = simp append_assoc
 
-spelled_is : (a : source.Statement) → spelling a ≡ head_tokens a ++ (t.NewLine ∷ inner_tokens a)
+pub spelled_is : (a : source.Statement) → spelling a ≡ head_tokens a ++ (t.NewLine ∷ inner_tokens a)
 spelled_is source.pass = refl
 spelled_is (source.branch c a b) = ap (λ (ts : List Token). t.Word word.If ∷ ts) (branch_parts (e_spelling c) (spelling_all a) (spelling_else b))
 spelled_is (source.loop i low high a) = ap (λ (ts : List Token). t.Word word.For ∷ t.Name i ∷ t.Word word.In ∷ t.Word word.Seq ∷ t.Sign s.Open ∷ ts) (loop_parts (e_spelling low) (e_spelling high) (spelling_all a))

@@ -1,5 +1,5 @@
 -- The text of expressions is read as their source trees spell them.
-use Rattle.std.proofs.Common.{◌≡◌, ℕ, ◌<◌, ℤ, pos, negsuc, List, [], ◌∷◌, ◌++◌, map, flat_map, Bool, true, false, cond, nat_lt, ltb, Option, Some, None, codes, slice_get, refl, sym, ap, ◌∙◌, append_assoc, append-nil, decimal}
+use Rattle.std.proofs.Common.{◌≡◌, ℕ, ◌<◌, ℤ, pos, negsuc, List, [], ◌∷◌, ◌++◌, map, Bool, true, false, cond, ltb, Option, Some, None, codes, slice_get, refl, sym, ap, append_assoc, append-nil, decimal}
 use Rattle.std.specs.Fmt.{signed_decimal}
 use Rattle.exo_tree.specs.Tree as tree
 use Rattle.exo_tree.specs.Tree.{Control, Lit, Var, Field, StrideOf, Neg, Add, Sub, Mul, Div, Mod, Condition, Flag, FieldFlag, Lt, Le, Gt, Ge, Eq, And, Or, Datum, Const, Read, Negated, Relu, Plus, Minus, Times, Select, ConfigField, Program}
@@ -8,17 +8,17 @@ use Rattle.exo_lexer.specs.declared.token.Token.{Token}
 use Rattle.exo_lexer.specs.declared.token.Token.TheVariants as t
 use Rattle.exo_lexer.specs.declared.token.Sign.TheVariants as s
 use Rattle.exo_lexer.specs.declared.token.Word.TheVariants as word
-use Rattle.exo_reader.specs.Expression.{Tree, parens, trees, spelling, spelling_list, spelling_more}
+use Rattle.exo_reader.specs.Expression.{Tree, parens, trees, spelling, spelling_more}
 use Rattle.exo_show.specs.Layout.{Text, operand, listed, bracketed}
 use Rattle.exo_show.specs.Names.{unknown}
-use Rattle.exo_show.specs.Words.{Words, words_with, field_name}
+use Rattle.exo_show.specs.Words.{Words, words_with}
 use Rattle.exo_show.specs.ControlText.{precedence_of, control_text, condition_precedence, condition_text, access_text}
 use Rattle.exo_show.specs.DatumText.{datum_precedence, datum_text}
 use Rattle.exo_show.specs.declared.precedence.TheConstants.{DISJUNCTION, CONJUNCTION, COMPARISON, SUM, PRODUCT, UNARY}
 use Rattle.exo_readback.specs.Names.{IsName, Each}
 use Rattle.exo_readback.specs.Written.{literal_tree, placed, access_tree, config_of, field_of, control_tree, condition_tree, datum_tree}
-use Rattle.exo_readback.specs.Writable.{IsLiteral, HasNames, IsField, IsControl, IsCondition, IsAccess, IsDatum}
-use Rattle.exo_readback.proofs.Pieces.{Free, Any, Reads, join, spelled_as, weaker, named, name_reads, number_reads, open_reads, close_reads, open_bracket_reads, close_bracket_reads, comma_reads, dot_reads, minus_reads, comma_blank, plus_is, binary_minus_is, times_is, divide_is, modulo_is, less_is, less_equal_is, greater_is, greater_equal_is, equal_is, and_word_is, or_word_is, between_reads, more_tokens, listed_reads, bracketed_reads, wrapped_reads}
+use Rattle.exo_readback.specs.Writable.{IsLiteral, HasNames, IsControl, IsCondition, IsAccess, IsDatum}
+use Rattle.exo_readback.proofs.Pieces.{Free, Any, Reads, join, spelled_as, weaker, named, name_reads, number_reads, open_reads, close_reads, dot_reads, minus_reads, comma_blank, plus_is, binary_minus_is, times_is, divide_is, modulo_is, less_is, less_equal_is, greater_is, greater_equal_is, equal_is, and_word_is, or_word_is, between_reads, more_tokens, listed_reads, bracketed_reads, wrapped_reads}
 
 pub empty_reads : Reads Free [] []
 empty_reads = record { line = tt; goes = λ rest free. refl }

@@ -1,5 +1,5 @@
 -- The source trees of procedures are of the grammar.
-use Rattle.std.proofs.Common.{◌≡◌, ℕ, suc, ◌+◌, ◌≤◌, ◌<◌, ℤ, pos, negsuc, List, [], ◌∷◌, ◌++◌, map, length, Bool, true, false, cond, eqb, ltb, ◌==◌, Option, Some, None, codes, slice_get, refl, sym, ap, ◌∙◌, append-nil, arith, subst}
+use Rattle.std.proofs.Common.{◌≡◌, ℕ, ◌+◌, ◌≤◌, ℤ, pos, negsuc, List, [], ◌∷◌, map, length, Bool, true, false, cond, ltb, Option, Some, None, codes, refl, sym, ap, append-nil, arith, subst}
 use Rattle.std.proofs.lemmas.Bool.Decides.{nat_tests}
 use Rattle.phrases.specs.Limits.{Limits, unlimited, in_depth, in_length, in_size, Keeps}
 use Rattle.phrases.specs.Phrase.{Phrase}
@@ -7,7 +7,7 @@ use Rattle.phrases.specs.Sequence.{AllFit, MaybeFits}
 use Rattle.exo_tree.specs.Tree as tree
 use Rattle.exo_tree.specs.Tree.{Cell, Kind, Control, Lit, Var, Field, StrideOf, Neg, Add, Sub, Mul, Div, Mod, Condition, Flag, FieldFlag, Lt, Le, Gt, Ge, Eq, And, Or, Datum, Const, Read, Negated, Relu, Plus, Minus, Times, Select, Coord, At, Span, Argument, ControlArg, ConditionArg, Whole, Window, Statement, Assign, Reduce, Config, Pass, If, For, Alloc, View, Call, Block, end, next, ParamKind, ControlParam, TensorParam, WindowParam, Param, Procedure, Program}
 use Rattle.exo_reader.specs.Values.{IsShortName, name}
-use Rattle.exo_reader.specs.Expression.{Tree, trees, parens, Stands, AllStand, IsSmall, AreSmall, Within, operand, control, datum, control_room, data_room, most_depth, FewDimensions}
+use Rattle.exo_reader.specs.Expression.{Tree, trees, parens, Stands, AllStand, IsSmall, AreSmall, Within, operand, control, datum, control_room, data_room, most_depth}
 use Rattle.exo_reader.specs.declared.expression.Room.{Room}
 use Rattle.exo_source.specs.Source as source
 use Rattle.exo_source.specs.Parts.{HasSome as SomeItem, MaybeDimsFit, dims, memory, TypeNameFits, form, parameter, parameters}
@@ -19,9 +19,9 @@ use Rattle.exo_show.specs.Names.{names_of}
 use Rattle.exo_show.specs.Words.{Words, words_with, words_of, cell_word}
 use Rattle.exo_show.specs.ControlText.{precedence_of, condition_precedence}
 use Rattle.exo_show.specs.DatumText.{datum_precedence}
-use Rattle.exo_readback.specs.Names.{IsName, Each}
-use Rattle.exo_readback.specs.Written.{literal_tree, placed, access_tree, has_span, kind_name, control_tree, condition_tree, datum_tree, coordinate_of, low_tree, window_of, argument_of, stored_tree, memory_of, statement_of, block_of, form_of, param_memory, parameter_of, definition_of, marked, written}
-use Rattle.exo_readback.specs.Writable.{IsLiteral, HasSome, IsSome, IsControl, IsCondition, IsAccess, IsDatum, IsCoord, IsArgument, IsStored, IsMemory, IsStatement, IsBlock, IsParamKind, IsParam, IsTemplate, IsWritable}
+use Rattle.exo_readback.specs.Names.{Each}
+use Rattle.exo_readback.specs.Written.{literal_tree, placed, access_tree, has_span, kind_name, control_tree, condition_tree, datum_tree, coordinate_of, low_tree, argument_of, stored_tree, statement_of, block_of, form_of, parameter_of, definition_of, marked, written}
+use Rattle.exo_readback.specs.Writable.{IsLiteral, HasSome, IsSome, IsControl, IsCondition, IsDatum, IsCoord, IsArgument, IsStored, IsStatement, IsBlock, IsParamKind, IsParam, IsWritable}
 use Rattle.exo_readback.specs.Sizes.{IsWithin, IsWithinControl, IsWithinDims, IsWithinCoordinate, IsWithinWindow, IsWithinArgument, IsShortMemory, IsWithinStatement, IsWithinBlock, dims_of, IsWithinParameter, IsWithinDefinition, IsWithinItem}
 
 keeps : (limits : Limits) (A B C : Type 0) → A → B → C → Keeps limits A B C

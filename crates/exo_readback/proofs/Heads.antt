@@ -1,5 +1,5 @@
 -- The text of the lines of a procedure is read as its source tree spells them.
-use Rattle.std.proofs.Common.{◌≡◌, ℕ, List, [], ◌∷◌, ◌++◌, map, flat_map, Bool, true, false, cond, ◌==◌, eqb, Option, Some, None, codes, slice_get, refl, sym, ap, ◌∙◌, append_assoc, arith}
+use Rattle.std.proofs.Common.{◌≡◌, ℕ, List, [], ◌∷◌, ◌++◌, map, Bool, true, false, cond, eqb, Some, None, codes, slice_get, refl, ap, append_assoc, arith}
 use Rattle.phrases.specs.Phrase.{Phrase}
 use Rattle.phrases.specs.Commas.{spell_more, spell_listing}
 use Rattle.phrases.specs.Sequence.{spell_maybe}
@@ -16,14 +16,13 @@ use Rattle.exo_source.specs.Statements.{spell_coordinate, coordinate, coordinate
 use Rattle.exo_show.specs.Layout.{Text, listed, bracketed, loop_text}
 use Rattle.exo_show.specs.Words.{Words, words_with, cell_word, kind_word, memory_name, callee_name}
 use Rattle.exo_show.specs.ControlText.{control_text, condition_text, indices_text, access_text, coord_text, window_text}
-use Rattle.exo_show.specs.DatumText.{datum_text}
 use Rattle.exo_show.specs.StatementText.{argument_text, memory_text, extent_text, head_text}
 use Rattle.exo_show.specs.ProcedureText.{type_text, param_text}
 use Rattle.exo_readback.specs.Names.{IsName, Each}
-use Rattle.exo_readback.specs.Written.{access_tree, has_span, kind_name, control_tree, condition_tree, coordinate_of, low_tree, window_of, argument_of, stored_tree, memory_of, statement_of, form_of, param_memory, parameter_of}
+use Rattle.exo_readback.specs.Written.{access_tree, has_span, kind_name, control_tree, coordinate_of, low_tree, argument_of, stored_tree, memory_of, statement_of, form_of, param_memory, parameter_of}
 use Rattle.exo_readback.specs.Writable.{HasSome, IsControl, IsAccess, IsCoord, IsArgument, IsStored, IsMemory, IsStatement, IsParamKind, IsParam}
-use Rattle.exo_readback.proofs.Pieces.{Free, Any, Reads, IsOperator, join, spelled_as, weaker, named, name_reads, open_reads, close_reads, open_bracket_reads, close_bracket_reads, colon_reads, open_goes, comma_blank, assign_is, reduce_is, between_reads, more_tokens, free_more, listed_reads, bracketed_reads}
-use Rattle.exo_readback.proofs.Expressions.{empty_reads, field_by, control_tokens, control_reads, condition_reads, datum_tokens, datum_reads, each_control}
+use Rattle.exo_readback.proofs.Pieces.{Free, Any, Reads, IsOperator, join, spelled_as, weaker, named, name_reads, open_reads, close_reads, open_bracket_reads, close_bracket_reads, colon_reads, open_goes, comma_blank, assign_is, reduce_is, between_reads, more_tokens, listed_reads, bracketed_reads}
+use Rattle.exo_readback.proofs.Expressions.{empty_reads, field_by, control_tokens, control_reads, condition_reads, datum_reads, each_control}
 use Rattle.exo_readback.proofs.Sources.{head_tokens}
 
 colon_is : IsOperator (codes ":") (t.Sign s.Colon)

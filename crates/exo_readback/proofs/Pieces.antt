@@ -1,5 +1,5 @@
 -- Texts that are read piece by piece.
-use Rattle.std.proofs.Common.{flat_map, map, ◌≡◌, ℕ, zero, suc, ◌+◌, ◌-◌, ◌*◌, ◌/◌, ◌%◌, ◌^◌, ◌≤◌, ◌<◌, List, [], ◌∷◌, ◌++◌, Bool, true, false, cond, if◌then◌else◌, nat_eq, nat_lt, eqb, ltb, length, refl, sym, ap, ◌∙◌, append_assoc, append-nil, codes, take, get_or, take_while, arith, subst, ne_eqb, lt-ltb}
+use Rattle.std.proofs.Common.{flat_map, map, ◌≡◌, ℕ, zero, suc, ◌+◌, ◌-◌, ◌*◌, ◌%◌, ◌^◌, ◌<◌, List, [], ◌∷◌, ◌++◌, Bool, true, false, cond, nat_eq, nat_lt, eqb, length, refl, sym, ap, ◌∙◌, append_assoc, codes, take, get_or, take_while, arith, subst, ne_eqb, lt-ltb}
 use Rattle.std.proofs.lemmas.Bool.Decides.{nat_tests}
 use Rattle.std.proofs.lemmas.Fmt.{decimal_by_steps, first_decimal, decimal_digit}
 use Rattle.std.specs.Prelude.{decimal}
@@ -7,7 +7,7 @@ use Rattle.std.specs.List.{prefix_len}
 use Rattle.std.specs.Char.{is_ascii_digit}
 use Rattle.std.proofs.Math.Seq.{take-append_seam}
 use Rattle.exo_lexer.specs.Bytes.{goes_on_name, begins_name}
-use Rattle.exo_lexer.specs.Piece.{piece_of, name_piece, name_token, word_of, word_token, literal_piece, literal, decimal as read_decimal}
+use Rattle.exo_lexer.specs.Piece.{piece_of, name_piece, name_token, literal_piece, literal, decimal as read_decimal}
 use Rattle.exo_lexer.specs.declared.piece.Piece.{Piece}
 use Rattle.exo_lexer.specs.declared.token.Literal.TheVariants.{Value}
 use Rattle.exo_lexer.specs.declared.token.Token.{Token}

@@ -1,11 +1,9 @@
 -- The text of a procedure is read as its source tree spells it.
-use Rattle.std.proofs.Common.{◌≡◌, ℕ, zero, suc, ◌+◌, ◌-◌, List, [], ◌∷◌, ◌++◌, map, flat_map, take_while, Bool, true, false, Option, Some, None, codes, slice_get, refl, sym, ap, ◌∙◌, append_assoc, append-nil, arith, subst}
+use Rattle.std.proofs.Common.{◌≡◌, ℕ, zero, suc, ◌+◌, ◌-◌, List, [], ◌∷◌, ◌++◌, map, flat_map, false, Option, Some, None, codes, refl, sym, ap, ◌∙◌, append_assoc, append-nil, subst}
 use Rattle.phrases.specs.Sequence.{spell_all}
 use Rattle.exo_tree.specs.Tree.{Condition, Block, Param, Procedure, Program}
-use Rattle.exo_lexer.specs.Bytes.{goes_on_name}
 use Rattle.exo_lexer.specs.Piece.{decorator_piece}
-use Rattle.exo_lexer.specs.Layout.{token_of, lexed, lines, layout, end_place, is_import}
-use Rattle.exo_lexer.specs.declared.piece.Piece.{Piece}
+use Rattle.exo_lexer.specs.Layout.{token_of, lines, layout, end_place, is_import}
 use Rattle.exo_lexer.specs.declared.place.Place.{Place}
 use Rattle.exo_lexer.specs.declared.token.Token.{Token}
 use Rattle.exo_lexer.specs.declared.token.Token.TheVariants as t
@@ -23,7 +21,7 @@ use Rattle.exo_show.specs.Names.{names_of}
 use Rattle.exo_show.specs.Words.{Words, words_with, words_of}
 use Rattle.exo_show.specs.ControlText.{condition_text}
 use Rattle.exo_show.specs.StatementText.{block_text}
-use Rattle.exo_show.specs.ProcedureText.{marker_text, param_text, assert_text, header_text, procedure_text, shown}
+use Rattle.exo_show.specs.ProcedureText.{marker_text, param_text, assert_text, header_text, procedure_text}
 use Rattle.exo_readback.specs.Names.{IsName, Each}
 use Rattle.exo_readback.specs.Written.{marked, condition_tree, block_of, parameter_of, definition_of, written}
 use Rattle.exo_readback.specs.Writable.{IsSome, IsCondition, IsParam, IsBlock, IsTemplate, IsWritable}
@@ -39,7 +37,7 @@ use Rattle.exo_readback.proofs.Blocks.{all_sound, block_out, nested_out}
 
 -- ---- the marker
 
-abbrev marker_tokens : Option (List ℕ) → List Token
+abbrev pub marker_tokens : Option (List ℕ) → List Token
 marker_tokens None = t.Decorator d.Procedure ∷ []
 marker_tokens (Some template) = t.Decorator d.Instruction ∷ t.Sign s.Open ∷ t.Str template ∷ t.Sign s.Close ∷ []
 
@@ -58,7 +56,7 @@ instr_reads = record {
   goes = λ rest any. ap (λ (ts : List Token). t.Decorator d.Instruction ∷ ts) (open_goes rest);
 }
 
-marker_row : (template : Option (List ℕ)) → IsTemplate template → IsRow (marker_text template) (marker_tokens template)
+pub marker_row : (template : Option (List ℕ)) → IsTemplate template → IsRow (marker_text template) (marker_tokens template)
 marker_row None h = record { reads = proc_reads; begins = (refl, refl); sound = (refl, tt); closed = refl }
 marker_row (Some template) h =
     record {
@@ -70,7 +68,7 @@ marker_row (Some template) h =
       closed = refl;
     }
 
-marker_import : (template : Option (List ℕ)) → is_import (marker_text template) ≡ false
+pub marker_import : (template : Option (List ℕ)) → is_import (marker_text template) ≡ false
 marker_import None = refl
 marker_import (Some template) = refl
 
@@ -192,7 +190,7 @@ module _ (program : Program) (names : ℕ → Text) where
       ∙ ap (λ (ts : List Token). header_tokens p ++ (t.NewLine ∷ ts)) (inside_out p.asserts p.body h.asserts h.some h.body place (line + 1))
       ∙ definition_is p
 
-  text_parts : (m hd a b : List ℕ) → m ++ hd ++ a ++ b ≡ m ++ (hd ++ (a ++ (b ++ [])))
+  pub text_parts : (m hd a b : List ℕ) → m ++ hd ++ a ++ b ≡ m ++ (hd ++ (a ++ (b ++ [])))
   text_parts m hd a b = simp (append_assoc, append-nil)
 
   pub procedure_out : (p : Procedure) → IsSpelled p → (place : Place) (line : ℕ) → text_out place line zero (procedure_text words p) ≡ item.spell (marked p.template (definition_of words program.fields p))
@@ -213,12 +211,15 @@ marked_sound : (template : Option (List ℕ)) (p : source.Definition) → IsSoun
 marked_sound None p h = (refl, (refl, h))
 marked_sound (Some template) p h = (refl, (refl, (refl, (refl, (refl, h)))))
 
-lexed_is : (text : List ℕ) (tokens : List Token) → text_out (end_place text) 1 zero text ≡ tokens → IsSound tokens → tokens_of text ≡ tokens
+pub lexed_is : (text : List ℕ) (tokens : List Token) → text_out (end_place text) 1 zero text ≡ tokens → IsSound tokens → tokens_of text ≡ tokens
 lexed_is text tokens e sound = ap (map token_of) (kept (layout (end_place text) 1 [] 0 (lines text)) (subst IsSound (sym e) sound)) ∙ e
+
+pub written_sound : (program : Program) (p : Procedure) → IsSound (item.spell (written program p))
+written_sound program p = marked_sound p.template (definition_of (words_of program p) program.fields p) (definition_sound program (names_of p) p)
 
 pub procedure_spelled : (program : Program) (p : Procedure) → IsWritable program p → tokens_of (procedure_text (words_of program p) p) ≡ item.spell (written program p)
 procedure_spelled program p h =
     let is : IsSpelled program (names_of p) p = record { name = h.name; params = h.params; asserts = h.asserts; some = h.some; body = h.body; template = h.template } in
     lexed_is (procedure_text (words_of program p) p) (item.spell (written program p))
     (procedure_out program (names_of p) p is (end_place (procedure_text (words_of program p) p)) 1)
-    (marked_sound p.template (definition_of (words_of program p) program.fields p) (definition_sound program (names_of p) p))
+    (written_sound program p)

@@ -1,26 +1,25 @@
 -- Reading the shown text of a procedure.
-use Rattle.std.proofs.Common.{◌≡◌, ℕ, List, [], ◌∷◌, ◌++◌, map, Option, Some, None, Ok, Err, Result, MatchResult, slice_get, refl, sym, ap, ◌∙◌, append-nil}
+use Rattle.std.proofs.Common.{◌≡◌, ℕ, List, [], ◌∷◌, map, Option, Some, None, Ok, Err, slice_get, refl, sym, ap, ◌∙◌, append-nil}
 use Rattle.phrases.specs.Limits.{Limits, unlimited, passed}
-use Rattle.phrases.specs.Text.{IsText, FaultAt}
+use Rattle.phrases.specs.Text.{IsText}
 use Rattle.exo_tree.specs.Tree.{Procedure, Program}
 use Rattle.exo_lexer.specs.declared.place.Place.{Place}
 use Rattle.exo_lexer.specs.declared.token.Token.{Token}
 use Rattle.exo_source.specs.Source.{Item}
 use Rattle.exo_source.specs.Items.{item, unit}
 use Rattle.exo_source.specs.Views.{plain_item}
-use Rattle.exo_source.specs.Texts.{tokens_of, places_of, IsFault, IsRefusal, ReadsUnit}
+use Rattle.exo_source.specs.Texts.{tokens_of, places_of, IsFault, IsRefusal}
 use Rattle.exo_source.specs.declared.unit.ReadError.{ReadError}
 use Rattle.exo_source.specs.declared.unit.ReadKind.{ReadKind}
 use Rattle.exo_source.specs.declared.unit.ReadKind.TheVariants.{Memory, BadByte, BadIndent, Syntax, TooDeep, TooLong, LiteralTooLarge}
-use Rattle.exo_source.specs.declared.unit.Source.{Source}
 use Rattle.exo_show.specs.Words.{words_of}
 use Rattle.exo_show.specs.ProcedureText.{procedure_text, shown}
 use Rattle.exo_readback.specs.Written.{written}
-use Rattle.exo_readback.specs.Laws.{ProceduresAreSpelled, ReadsBack, ShownIsRead}
+use Rattle.exo_readback.specs.Laws.{ProceduresAreSpelled, ShownIsRead}
 use Rattle.exo_readback.proofs.Procedures.{procedure_spelled}
 use Rattle.exo_readback.proofs.Fits.{written_fits}
 
-shown_by : (program : Program) (p : Procedure) (o : Option Procedure) → o ≡ Some p → elim o as (λ x. List ℕ) [ None ↦ [] | Some q ↦ procedure_text (words_of program q) q ] ≡ procedure_text (words_of program p) p
+pub shown_by : (program : Program) (p : Procedure) (o : Option Procedure) → o ≡ Some p → elim o as (λ x. List ℕ) [ None ↦ [] | Some q ↦ procedure_text (words_of program q) q ] ≡ procedure_text (words_of program p) p
 shown_by program p o e = ap (λ (x : Option Procedure). elim x as (λ y. List ℕ) [ None ↦ [] | Some q ↦ procedure_text (words_of program q) q ]) e
 
 pub procedures_are_spelled : ProceduresAreSpelled

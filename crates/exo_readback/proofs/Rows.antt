@@ -1,14 +1,13 @@
 -- Lines of a text, one after another, and the blocks that their indentations open and close.
-use Rattle.std.proofs.Common.{◌≡◌, ℕ, zero, suc, ◌+◌, ◌-◌, ◌*◌, ◌≤◌, ◌<◌, List, [], ◌∷◌, ◌++◌, map, replicate, Bool, true, false, cond, if◌then◌else◌, nat_eq, nat_lt, eqb, ltb, length, refl, sym, ap, ◌∙◌, append_assoc, append-nil, codes, arith, subst, ne_eqb, lt-ltb}
+use Rattle.std.proofs.Common.{◌≡◌, ℕ, zero, suc, ◌+◌, ◌-◌, ◌≤◌, List, [], ◌∷◌, ◌++◌, map, replicate, true, false, nat_eq, nat_lt, eqb, ltb, length, refl, sym, ap, ◌∙◌, append_assoc, append-nil, codes, arith, subst, lt-ltb}
 use Rattle.std.proofs.lemmas.List.{map-append}
 use Rattle.std.proofs.lemmas.Bool.Decides.{nat_tests}
 use Rattle.exo_lexer.specs.Piece.{piece_of}
-use Rattle.exo_lexer.specs.Layout.{at, put, token_of, lines, longer, is_skipped_return, tokens_in, line_tokens, is_fault, is_foreign, up_to_fault, brackets_behind, brackets_after, is_import, innermost, still_open, blocks_at, indentation, line_end, with_end, begun, laid, layout, text_end, Laid}
+use Rattle.exo_lexer.specs.Layout.{at, put, token_of, lines, longer, is_skipped_return, tokens_in, line_tokens, is_fault, is_foreign, up_to_fault, brackets_behind, brackets_after, is_import, innermost, still_open, blocks_at, indentation, line_end, with_end, begun, laid, layout, Laid}
 use Rattle.exo_lexer.specs.declared.place.Place.{Place}
 use Rattle.exo_lexer.specs.declared.place.Placed.{Placed}
 use Rattle.exo_lexer.specs.declared.token.Token.{Token}
 use Rattle.exo_lexer.specs.declared.token.Token.TheVariants as t
-use Rattle.exo_lexer.specs.declared.token.Fault.TheVariants as f
 use Rattle.exo_readback.proofs.Bare.{bare, bare_is}
 use Rattle.exo_readback.proofs.Pieces.{Free, Reads, OneLine, one_line_append}
 
@@ -22,7 +21,7 @@ abbrev pub open_after : ℕ → List Token → ℕ
 open_after n [] = n
 open_after n (token ∷ more) = open_after (brackets_behind n token) more
 
-open_is : (n : ℕ) (ps : List Placed) → brackets_after n ps ≡ open_after n (map token_of ps)
+pub open_is : (n : ℕ) (ps : List Placed) → brackets_after n ps ≡ open_after n (map token_of ps)
 open_is n [] = refl
 open_is n (p ∷ more) = open_is (brackets_behind n p.token) more
 
@@ -167,10 +166,10 @@ row_placed line k text tokens row =
     subst (λ (found : List Placed). Placing line (margin k) found tokens) (sym cut) (first_placed line (margin k) text tokens row.begins e)
 
 -- what a line gives, of which this is the first token
-record IsLaid (l : Laid) (tokens : List Token) (blocks : List ℕ) : Type 0 where
-  all : map token_of l.placed ≡ tokens
-  behind : l.blocks ≡ blocks
-  brackets : l.brackets ≡ 0
+pub record IsLaid (l : Laid) (tokens : List Token) (blocks : List ℕ) : Type 0 where
+  pub all : map token_of l.placed ≡ tokens
+  pub behind : l.blocks ≡ blocks
+  pub brackets : l.brackets ≡ 0
 
 begun_is : (blocks after : List ℕ) (end : Place) (line column : ℕ) (token : Token) (more : List Placed) (tokens before : List Token) → tokens ≡ token ∷ map token_of more → IsSound tokens → open_after 0 tokens ≡ 0 → blocks_at column blocks ≡ after → map token_of (indentation line column blocks) ≡ before → IsLaid (begun blocks end (put (at line column) token ∷ more)) (before ++ (tokens ++ (t.NewLine ∷ []))) after
 begun_is blocks after end line column token more tokens before e sound closed back indents =
@@ -184,7 +183,7 @@ begun_is blocks after end line column token more tokens before e sound closed ba
     ∙ ap (λ (ts : List Token). before ++ ts) (ap (map token_of) w ∙ map-append token_of ps (put end t.NewLine ∷ []) ∙ ap (λ (ts : List Token). ts ++ (t.NewLine ∷ [])) (sym e)) in
     rw (not_foreign token s.0) (record { all = all; behind = back; brackets = n })
 
-laid_is : (line k : ℕ) (text : List ℕ) (tokens before : List Token) (blocks after : List ℕ) → IsRow text tokens → is_import (indent_of k ++ text) ≡ false → blocks_at (margin k) blocks ≡ after → map token_of (indentation line (margin k) blocks) ≡ before → IsLaid (laid line blocks 0 (indent_of k ++ text)) (before ++ (tokens ++ (t.NewLine ∷ []))) after
+pub laid_is : (line k : ℕ) (text : List ℕ) (tokens before : List Token) (blocks after : List ℕ) → IsRow text tokens → is_import (indent_of k ++ text) ≡ false → blocks_at (margin k) blocks ≡ after → map token_of (indentation line (margin k) blocks) ≡ before → IsLaid (laid line blocks 0 (indent_of k ++ text)) (before ++ (tokens ++ (t.NewLine ∷ []))) after
 laid_is line k text tokens before blocks after row import back indents =
     let p : Placing line (margin k) (line_tokens line (indent_of k ++ text)) tokens = row_placed line k text tokens row in
     let end = at line (length (indent_of k ++ text) + 1) in
@@ -198,7 +197,7 @@ laid_is line k text tokens before blocks after row import back indents =
 abbrev pub laid_out : Place → ℕ → ℕ → List (List ℕ) → List Token
 laid_out end line k ls = map token_of (layout end line (columns k) 0 ls)
 
-map_replicate : (n : ℕ) (p : Placed) → map token_of (replicate n p) ≡ replicate n p.token
+pub map_replicate : (n : ℕ) (p : Placed) → map token_of (replicate n p) ≡ replicate n p.token
 map_replicate zero p = refl
 map_replicate (suc n) p = ap (λ (ts : List Token). p.token ∷ ts) (map_replicate n p)
 
@@ -247,7 +246,7 @@ text_out end line k text = laid_out end line k (lines text)
 abbrev pub row : ℕ → List ℕ → List ℕ
 row k text = indent_of k ++ text ++ codes "\n"
 
-lines_of_row : (k : ℕ) (text rest : List ℕ) (tokens : List Token) → IsRow text tokens → lines (row k text ++ rest) ≡ (indent_of k ++ text) ∷ lines rest
+pub lines_of_row : (k : ℕ) (text rest : List ℕ) (tokens : List Token) → IsRow text tokens → lines (row k text ++ rest) ≡ (indent_of k ++ text) ∷ lines rest
 lines_of_row k text rest tokens r =
     ap lines (append_assoc (indent_of k ++ text) (codes "\n") rest) ∙ lines_row (indent_of k ++ text) rest (one_line_append (indent_of k) text (indent_line k) r.reads.line)
 

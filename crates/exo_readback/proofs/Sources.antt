@@ -1,5 +1,5 @@
 -- What the lines of source trees spell has no fault and closes its brackets.
-use Rattle.std.proofs.Common.{◌≡◌, ℕ, List, [], ◌∷◌, ◌++◌, Bool, true, false, Option, Some, None, refl, sym, ap, ◌∙◌, append_assoc, subst}
+use Rattle.std.proofs.Common.{◌≡◌, ℕ, List, [], ◌∷◌, ◌++◌, Bool, true, false, Option, Some, None, refl, append_assoc, subst}
 use Rattle.phrases.specs.Phrase.{Phrase}
 use Rattle.phrases.specs.Commas.{spell_more, spell_listing}
 use Rattle.phrases.specs.Sequence.{spell_maybe}
@@ -49,7 +49,7 @@ memory_whole : (m : Option (List ℕ)) → Whole (spell_maybe memory m)
 memory_whole None = nothing
 memory_whole (Some x) = before (t.Sign s.At) (t.Name x ∷ []) refl (λ n. refl) (name x [] nothing)
 
-kind_whole : (kind : TypeName) → Whole (spell_type_name kind)
+pub kind_whole : (kind : TypeName) → Whole (spell_type_name kind)
 kind_whole stride = before (t.Word w.Stride) [] refl (λ n. refl) nothing
 kind_whole (named x) = name x [] nothing
 

@@ -1,5 +1,5 @@
 -- The text of a template is read as one string.
-use Rattle.std.proofs.Common.{◌≡◌, ◌⊎◌, inl, inr, ℕ, zero, suc, ◌+◌, ◌-◌, ◌<◌, List, [], ◌∷◌, ◌++◌, flat_map, length, Bool, true, false, cond, eqb, codes, chars, encode_utf8, get_or, IsAscii, refl, sym, ap, ◌∙◌, append_assoc, arith, subst, length-append}
+use Rattle.std.proofs.Common.{◌≡◌, inl, inr, ℕ, zero, suc, ◌+◌, ◌-◌, ◌<◌, List, [], ◌∷◌, ◌++◌, flat_map, length, Bool, true, false, cond, eqb, codes, IsAscii, refl, sym, ap, ◌∙◌, append_assoc, arith, subst, length-append}
 use Rattle.std.proofs.lemmas.Bool.Decides.{nat_tests}
 use Rattle.std.proofs.lemmas.Str.{chars-IsAscii, encode_ascii}
 use Rattle.exo_lexer.specs.Bytes.{is_printable}

@@ -1,12 +1,10 @@
--- What is still to be shown of a shown procedure: read and typed below items that hold what it names, it is itself again, but for
--- the ids of its binders. That its text is read as its source tree is proved (`ShownIsRead`); this says what that tree stands for.
-use Rattle.std.specs.Prelude.{◌≡◌, ℕ, ◌==◌, Bool, true, false, ◌||◌, List, [], ◌∷◌, ◌++◌, map, Option, Some, None, slice_get}
-use Rattle.phrases.specs.Limits.{Limits}
+-- A shown procedure, read and typed below items that hold what it names, is itself again, but for the ids of its binders. That its
+-- text is read as its source tree stands in Laws; this says what that tree stands for.
+use Rattle.std.specs.Prelude.{◌≡◌, ℕ, ◌==◌, Bool, true, false, ◌||◌, List, [], ◌∷◌, ◌++◌, map, Some, None, slice_get}
 use Rattle.exo_tree.specs.Tree.{Statement, Assign, Reduce, Config, Pass, If, For, Alloc, View, Call, Block, end, next, ParamKind, ControlParam, TensorParam, WindowParam, Param, Procedure, Program}
 use Rattle.exo_meaning.specs.Renaming.{Renaming, re_controls, re_condition, re_binder, re_block}
 use Rattle.exo_meaning.specs.Units.{IsUnit}
 use Rattle.exo_source.specs.Source.{Item}
-use Rattle.exo_source.specs.Items.{item}
 use Rattle.exo_types.specs.UnitRules.{Above, nothing_above, after_item, after_items, item_fault, unit_fault, is_given}
 use Rattle.exo_readback.specs.Written.{written}
 use Rattle.exo_readback.specs.Writable.{IsWritable}
@@ -43,12 +41,17 @@ abbrev mutual
   is_call_of k (View w x coords) = false
   is_call_of k (Call callee args) = k == callee
 
--- a program holds what a procedure of another one names: the same fields and memories, and under the same numbers the procedures that
--- it calls, each under a name that is given to nothing else; and the procedure's own name is free
+-- A program holds what a procedure of another one names: the same fields and memories, and under the same numbers the procedures that
+-- it calls and all that these stand on, since what they write is theirs to say. Each name that it calls is given to nothing else, and
+-- the procedure's own name is free.
 pub record HoldsWhatIsNamed (above program : Program) (p : Procedure) : Type 0 where
   pub fields : above.fields ≡ program.fields
   pub memories : above.memories ≡ program.memories
-  pub called : (k : ℕ) (q : Procedure) → calls k p.body ≡ true → slice_get program.procedures k ≡ Some q → slice_get above.procedures k ≡ Some q
+  -- the numbers of the procedures that are the same: what one of them calls is another one
+  pub held : ℕ → Bool
+  pub same : (k : ℕ) (q : Procedure) → held k ≡ true → slice_get program.procedures k ≡ Some q → slice_get above.procedures k ≡ Some q
+  pub closed : (j k : ℕ) (q : Procedure) → held j ≡ true → slice_get program.procedures j ≡ Some q → calls k q.body ≡ true → held k ≡ true
+  pub called : (k : ℕ) → calls k p.body ≡ true → held k ≡ true
   pub named_once : (k j : ℕ) (q other : Procedure) → calls k p.body ≡ true → slice_get above.procedures k ≡ Some q → slice_get above.procedures j ≡ Some other → other.name ≡ q.name → j ≡ k
   pub free : is_given above p.name ≡ false
 
@@ -61,6 +64,6 @@ pub record StandsFor (above : Above) (i : Item) (p : Procedure) : Type 0 where
 -- below items that hold what it names, the source tree of a shown procedure stands for the procedure
 abbrev pub ShownIsTheSame : Type 0
 ShownIsTheSame = (program : Program) (k : ℕ) (p : Procedure) (items : List Item)
-    → IsUnit program → slice_get program.procedures k ≡ Some p → IsWritable program p → ((limits : Limits) → item.Fits limits (written program p))
+    → IsUnit program → slice_get program.procedures k ≡ Some p → IsWritable program p
     → unit_fault items ≡ None → HoldsWhatIsNamed (after_items nothing_above items).program program p
     → StandsFor (after_items nothing_above items) (written program p) p

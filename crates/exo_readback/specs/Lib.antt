@@ -4,3 +4,4 @@ pub mod Writable
 pub mod Sizes
 pub mod Laws
 pub mod Again
+pub mod Below

@@ -1,5 +1,5 @@
 -- Names as the grammar has them.
-use Rattle.std.specs.Prelude.{◌≡◌, ℕ, Bool, true, false, List, [], ◌∷◌, Option, None, codes, bytes_eq}
+use Rattle.std.specs.Prelude.{◌≡◌, ℕ, true, false, List, [], ◌∷◌, None, codes, bytes_eq}
 use Rattle.exo_lexer.specs.Bytes.{begins_name, goes_on_name}
 use Rattle.exo_lexer.specs.Piece.{word_of}
 

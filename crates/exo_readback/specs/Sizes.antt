@@ -3,7 +3,7 @@ use Rattle.std.specs.Prelude.{ℕ, ◌+◌, ◌≤◌, ◌<◌, List, [], ◌∷
 use Rattle.exo_reader.specs.Values.{IsShortName}
 use Rattle.exo_reader.specs.Expression.{Tree, depth, nodes, IsShort, control_room, data_room, most_depth, FewDimensions}
 use Rattle.exo_reader.specs.declared.expression.Room.{Room}
-use Rattle.exo_source.specs.Source.{Coordinate, point, span, Argument, value, window, Statement, pass, branch, loop, allocate, call, configure, assign, reduce, view, Block, end, next, block_of, Form, plain, strided, Parameter, Definition, Item, procedure, instruction, configuration, memory}
+use Rattle.exo_source.specs.Source.{Coordinate, point, span, Argument, value, window, Statement, pass, branch, loop, allocate, call, configure, assign, reduce, view, Block, end, next, block_of, Form, plain, strided, Parameter, Definition, Item, procedure, instruction}
 use Rattle.exo_readback.specs.Names.{Each}
 
 -- neither deeper nor of more nodes than the room, with short names and lists

@@ -3,13 +3,12 @@ use Rattle.std.specs.Prelude.{ℕ, suc, ℤ, pos, negsuc, Bool, true, false, nat
 use Rattle.exo_tree.specs.Tree as tree
 use Rattle.exo_tree.specs.Tree.{Cell, Kind, Control, Lit, Var, Field, StrideOf, Neg, Add, Sub, Mul, Div, Mod, Condition, Flag, FieldFlag, Lt, Le, Gt, Ge, Eq, And, Or, Datum, Const, Read, Negated, Relu, Plus, Minus, Times, Select, Coord, At, Span, Argument, ControlArg, ConditionArg, Whole, Window, Statement, Assign, Reduce, Config, Pass, If, For, Alloc, View, Call, Block, end, next, ParamKind, ControlParam, TensorParam, WindowParam, Param, ConfigField, Procedure, Program}
 use Rattle.exo_lexer.specs.declared.token.Literal.TheVariants.{Value}
-use Rattle.exo_reader.specs.declared.source.Operator.{Operator}
 use Rattle.exo_reader.specs.declared.source.Operator.TheVariants as o
 use Rattle.exo_reader.specs.Expression.{Tree, number, truth, variable, access, field, stride, relu, select, negative, parens, binary, trees}
 use Rattle.exo_source.specs.Source as source
 use Rattle.exo_source.specs.Source.{Coordinate, point, span, TypeName, named, Form, Parameter, Definition, Item}
-use Rattle.exo_show.specs.Names.{unknown, names_of}
-use Rattle.exo_show.specs.Words.{Words, words_with, words_of, cell_word, kind_word}
+use Rattle.exo_show.specs.Names.{unknown}
+use Rattle.exo_show.specs.Words.{Words, words_of, cell_word, kind_word}
 use Rattle.exo_show.specs.ControlText.{precedence_of, condition_precedence}
 use Rattle.exo_show.specs.DatumText.{datum_precedence}
 use Rattle.exo_show.specs.declared.precedence.TheConstants.{DISJUNCTION, CONJUNCTION, COMPARISON, SUM, PRODUCT, UNARY}

@@ -1,6 +1,8 @@
 //! What the shown text of a procedure is read as, each law the contract of a function with nothing to do.
 
 ghost use Rattle.exo_readback.specs.Laws.{ControlsAreSpelled, ConditionsAreSpelled, DataAreSpelled, ProceduresAreSpelled, WrittenFits, ShownIsRead};
+ghost use Rattle.exo_readback.specs.Again.{ShownIsTheSame};
+ghost use Rattle.exo_readback.specs.Below.{ShownIsReadBelow, ShownStandsAgain};
 
 /// The text of an expression over control values has the tokens of its source tree.
 pub fn controls_are_spelled()
@@ -30,4 +32,21 @@ pub fn written_fits()
 /// So a procedure within the limits of the grammar is read as its source tree.
 pub fn shown_is_read()
     ensures { ShownIsRead }
+{}
+
+/// And below items that hold what it names, this source tree keeps all rules and stands for the procedure itself, but for the ids of
+/// its binders.
+pub fn shown_is_the_same()
+    ensures { ShownIsTheSame }
+{}
+
+/// Behind the text of other items, a procedure within the limits is read as its source tree.
+pub fn shown_is_read_below()
+    ensures { ShownIsReadBelow }
+{}
+
+/// And where these items hold what it names, the whole text keeps all rules and stands for what they stand for, and behind that for
+/// the procedure itself, but for the ids of its binders.
+pub fn shown_stands_again()
+    ensures { ShownStandsAgain }
 {}

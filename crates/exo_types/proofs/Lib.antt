@@ -29,3 +29,4 @@ pub mod Params
 pub mod Declared
 pub mod Checked
 pub mod Procedures
+pub mod Placed

@@ -1,5 +1,5 @@
-//! Laws of widths and of what procedures write, each the contract of a function with nothing to do.
-ghost use Rattle.exo_types.specs.Laws.{UnitsAreWide, SignaturesAgree};
+//! Laws of widths, of what procedures write, and of texts that are read, each the contract of a function with nothing to do.
+ghost use Rattle.exo_types.specs.Laws.{UnitsAreWide, SignaturesAgree, ReadTextsArePlaced};
 
 /// Items of the grammar have as many tokens as their widths say.
 pub fn units_are_wide()
@@ -9,4 +9,9 @@ pub fn units_are_wide()
 /// What a procedure writes depends on those above it by their parameters and what each writes alone.
 pub fn signatures_agree()
     ensures { SignaturesAgree }
+{}
+
+/// What a text is read as has a place for each of its tokens.
+pub fn read_texts_are_placed()
+    ensures { ReadTextsArePlaced }
 {}

@@ -1,2 +1,0 @@
-pub mod FirstUnits
-pub mod Outcomes
