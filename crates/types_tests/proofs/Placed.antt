@@ -1,5 +1,5 @@
 -- A text that was read has a place for each of its tokens and one for its end.
-use Rattle.std.proofs.Common.{◌≡◌, ◌≤◌, ◌+◌, ℕ, List, [], ◌∷◌, length, map, ap, arith}
+use Rattle.std.proofs.Common.{◌≡◌, ◌≤◌, ℕ, List, [], ◌∷◌, length, map, ap, arith}
 use Rattle.std.proofs.lemmas.List.{length-append, length-map}
 use Rattle.phrases.specs.Text.{IsText}
 use Rattle.exo_lexer.specs.Layout.{lexed, token_of, place_of, end_place}
