@@ -1,6 +1,7 @@
 // Units, and the first rule that each breaks with its place.
 
 use exo_source::unit::read_unit;
+use exo_types::laws::read_texts_are_placed;
 use exo_types::unit::check_types;
 use std::alloc::{AllocError, Global};
 
@@ -9,6 +10,7 @@ fn typed(alloc: Global, text: &[u8]) -> Result<String, AllocError> {
     if text.len() > 0x100000 {
         return Ok(String::new(alloc));
     }
+    read_texts_are_placed();
     let Ok(source) = read_unit(alloc, text) else {
         return String::from_str(alloc, "no text");
     };
