@@ -1,0 +1,4 @@
+pub mod Contexts
+pub mod Values
+pub mod Tables
+pub mod Walks
