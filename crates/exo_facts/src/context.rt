@@ -120,7 +120,16 @@ pub fn context_at(
     add_asserts(&ground, alloc, &known, &proc.asserts, &mut context)?;
     let steps = path.as_slice();
     if !steps.is_empty() {
-        walk(&ground, alloc, &Path::new(), Branch::Main, &proc.body, steps, &mut known, &mut context)?;
+        walk(
+            &ground,
+            alloc,
+            &Path::new(),
+            Branch::Main,
+            &proc.body,
+            steps,
+            &mut known,
+            &mut context,
+        )?;
     }
     let facts = known.facts(alloc, ground.count)?;
     Ok((context, facts))

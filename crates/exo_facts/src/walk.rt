@@ -115,5 +115,14 @@ pub(crate) fn walk<'a>(
     let Some(inner) = s.block(next.branch) else {
         return Ok(());
     };
-    walk(ground, alloc, &path, next.branch, inner, rest, known, context)
+    walk(
+        ground,
+        alloc,
+        &path,
+        next.branch,
+        inner,
+        rest,
+        known,
+        context,
+    )
 }
