@@ -58,11 +58,10 @@ pub refused_one : (g : Ground) (known first : KnownFields) (fact : Fact) (e : Fo
 refused_one g known first fact e h w = subst (IsWide e) (fits_one g known first fact h) w
 
 -- it comes behind the others
-pub Came : Ground → List PlaceFact → List Formula → List Formula → Type 0
+abbrev pub Came : Ground → List PlaceFact → List Formula → List Formula → Type 0
 Came g es old new = (all_fit (program g.unit.now) (procedure g.proc.now) es ≡ true) × (new ≡ old ++ formulas (program g.unit.now) (procedure g.proc.now) es)
 
 pub added_one : (g : Ground) (known first : KnownFields) (fact : Fact) (old new : List Formula) (f : Formula) → SameBelow g.count known first → fact_fits (program g.unit.now) (procedure g.proc.now) known fact ≡ true → f ≡ fact_formula (program g.unit.now) (procedure g.proc.now) known fact → new ≡ old ++ f ∷ [] → Came g (record { known = first; fact = fact } ∷ []) old new
-unfolding Came
 added_one g known first fact old new f h fits made pushed =
     (sym (fits_one g known first fact h) ∙ fits, pushed ∙ ap (λ k. old ++ k ∷ []) made ∙ ap (λ fs. old ++ fs) (formula_one g known first fact h))
 
@@ -73,7 +72,6 @@ no_end [] = refl
 no_end (x ∷ xs) = ap (λ ys. x ∷ ys) (no_end xs)
 
 pub none_added : (g : Ground) (old new : List Formula) → new ≡ old → Came g [] old new
-unfolding Came
 none_added g old new e = (refl, e ∙ sym (no_end old))
 
 all_fit_joined : (g : Ground) (es fs : List PlaceFact) → all_fit (program g.unit.now) (procedure g.proc.now) (es ++ fs) ≡ (all_fit (program g.unit.now) (procedure g.proc.now) es && all_fit (program g.unit.now) (procedure g.proc.now) fs)
@@ -97,7 +95,6 @@ refused_first g es fs e h = subst (IsWide e) (sym (all_fit_joined g es fs)) (wid
 
 -- others behind the first
 pub added_more : {A : Type 0} (r : Result A FormError) (g : Ground) (es fs : List PlaceFact) (old now new : List Formula) → Came g es old now → Added r g fs now new → Added r g (es ++ fs) old new
-unfolding Came
 added_more (Ok t) g es fs old now new first h = (
   all_fit_joined g es fs ∙ ap (λ b. b && all_fit (program g.unit.now) (procedure g.proc.now) fs) first.0 ∙ h.0,
   h.1 ∙ ap (λ xs. xs ++ formulas (program g.unit.now) (procedure g.proc.now) fs) first.1 ∙ append_assoc old (formulas (program g.unit.now) (procedure g.proc.now) es) (formulas (program g.unit.now) (procedure g.proc.now) fs) ∙ ap (λ xs. old ++ xs) (sym (map-append (λ e. fact_formula (program g.unit.now) (procedure g.proc.now) e.known e.fact) es fs)),
