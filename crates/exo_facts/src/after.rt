@@ -1,10 +1,10 @@
 //! What statements do to what is known of one configuration field.
-ghost use Rattle.std.specs.Prelude.{◌≡◌, ◌<◌, ◌≤◌, ◌+◌, ◌^◌, IsTrue, IfOk, length, zero};
+ghost use Rattle.std.specs.Prelude.{◌≡◌, ◌<◌, ◌≤◌, ◌+◌, ◌^◌, if◌then◌else◌, IsTrue, IfOk, length, zero};
 ghost use Rattle.exo_tree.specs.Tree.{block};
 ghost use Rattle.exo_tree.specs.PlainPlace.{branch_taken};
 ghost use Rattle.exo_tree.specs.PlainStatement.{statement};
 ghost use Rattle.exo_meaning.specs.Units.{levels, step_levels, is_short};
-ghost use Rattle.exo_context.specs.KnownFields.{path_in};
+ghost use Rattle.exo_context.specs.KnownFields.{UnknownAt, path_in};
 ghost use Rattle.exo_places.specs.Rules.{block_keeps_rules, statement_keeps_rules};
 ghost use Rattle.exo_facts.specs.Values.{plain_value};
 ghost use Rattle.exo_facts.specs.Walks.{telling_of, kept_value, value_after, value_at_end};
@@ -53,10 +53,10 @@ fn kept<'a>(
 }
 
 /// The value, or one that the statement at the path makes unknown, where it may write the field.
-fn unless_written<'a>(writes: bool, path: &Path, value: Value<'a>) -> Value<'a>
-    ensures { plain_value result ≡ if writes then UnknownAt path.now else plain_value value }
+fn unless_written<'a>(may: bool, path: &Path, value: Value<'a>) -> Value<'a>
+    ensures { plain_value result ≡ (if may then UnknownAt path.now else plain_value value) }
 {
-    if writes {
+    if may {
         Value::Unknown(path.duplicate())
     } else {
         value

@@ -1,9 +1,7 @@
 //! The context and the facts of a place.
-ghost use Rattle.std.specs.Prelude.{◌≡◌, ◌<◌, ◌++◌, [], IsTrue, IfSome, length, map, slice_get};
+ghost use Rattle.std.specs.Prelude.{◌≡◌, ◌<◌, IsTrue, IfSome, length, map, slice_get};
 ghost use Rattle.std.specs.List.{list_all};
-ghost use Rattle.exo_tree.specs.Tree.{ControlParam};
 ghost use Rattle.exo_tree.specs.PlainBinder.{control_kind};
-ghost use Rattle.exo_tree.specs.PlainParam.{parameter_kind};
 ghost use Rattle.exo_tree.specs.PlainUnit.{program};
 ghost use Rattle.exo_context.specs.Facts.{Holds};
 ghost use Rattle.exo_context.specs.Known.{kind_facts, params_facts};
