@@ -15,6 +15,9 @@ pub parts : (s t : Bool) → (s && t) ≡ true → (s ≡ true) × (t ≡ true)
 parts true t h = (refl, h)
 parts false t h = cc
 
+pub both_hold : (s t : Bool) → s ≡ true → t ≡ true → (s && t) ≡ true
+both_hold s t h k = ap (λ b. b && t) h ∙ k
+
 pub statements_of : (xs : List Statement) → statements (block xs) ≡ xs
 statements_of [] = refl
 statements_of (x ∷ xs) = ap (λ ys. x ∷ ys) (statements_of xs)

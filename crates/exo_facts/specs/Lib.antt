@@ -2,3 +2,4 @@ pub mod Contexts
 pub mod Values
 pub mod Tables
 pub mod Walks
+pub mod Laws

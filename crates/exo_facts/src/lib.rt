@@ -7,6 +7,7 @@ mod context;
 mod enter;
 mod ground;
 mod known;
+pub mod laws;
 mod value;
 mod walk;
 mod writes;
