@@ -1,0 +1,3 @@
+pub mod Extents
+pub mod Arguments
+pub mod Claims

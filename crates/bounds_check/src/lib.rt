@@ -1,0 +1,2 @@
+//! What a procedure has to show so that no run of it faults.
+#![tactic(auto)]
