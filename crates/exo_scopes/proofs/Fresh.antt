@@ -6,7 +6,7 @@ use Rattle.std.proofs.lemmas.Slice.Eq.{bytes_eq-Decides}
 use Rattle.exo_tree.specs.Tree.{Kind, Binder, Statement, Assign, Reduce, Config, Pass, If, For, Alloc, View, Call, Block, end, next, Param}
 use Rattle.exo_meaning.specs.Calls.{Callee}
 use Rattle.exo_meaning.specs.Run.{roots_after}
-use Rattle.exo_meaning.specs.Units.{Named, Scope, is_text, is_new, with_name, scope_after, param_sort, is_param_kind, are_params, scope_of, is_condition, is_short, is_empty, is_control, are_controls, is_rank, is_window, is_block, is_statement, plainly, with_fields}
+use Rattle.exo_meaning.specs.Units.{Named, Scope, is_text, is_new, scope_after, is_param_kind, are_params, scope_of, is_condition, is_short, is_empty, is_control, is_block, is_statement, plainly, with_fields}
 use Rattle.exo_names.specs.Names.{named_in}
 use Rattle.exo_scopes.specs.PlaceScope.{naming, naming_params, naming_after}
 use Rattle.exo_scopes.specs.NewNames.{params_are_new, binds_new, step_binds_new}

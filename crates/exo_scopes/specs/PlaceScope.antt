@@ -5,7 +5,7 @@ use Rattle.std.specs.Prelude.{ℕ, zero, suc, Bool, if◌then◌else◌, List, [
 use Rattle.exo_tree.specs.Tree.{Index, Binder, Statement, Assign, Reduce, Config, Pass, If, For, Alloc, View, Call, Block, end, next, statements, Param, Procedure, Program}
 use Rattle.exo_tree.specs.Places.{Branch, Path}
 use Rattle.exo_tree.specs.Branches.{branch_of}
-use Rattle.exo_meaning.specs.Units.{ControlName, Scope, with_name, is_new}
+use Rattle.exo_meaning.specs.Units.{ControlName, Scope, with_name}
 
 -- one name more
 abbrev pub naming : Binder → Scope → Scope

@@ -1,10 +1,12 @@
 -- What a string of a schedule stands for at a place of a unit.
-use Rattle.std.specs.Prelude.{◌≡◌, ◌×◌, ℕ, Bool, List, Result, MatchResult}
+use Rattle.std.specs.Prelude.{◌≡◌, ℕ, Bool, List, Result, MatchResult}
 use Rattle.std.specs.List.{list_all}
-use Rattle.exo_tree.specs.Tree.{Control, Condition, Coord, Program}
+use Rattle.exo_tree.specs.Tree.{ConfigField, Program}
 use Rattle.exo_tree.specs.Places.{Path}
 use Rattle.exo_tree.specs.declared.control.Ctrl.{Ctrl}
 use Rattle.exo_tree.specs.declared.control.Cond.{Cond}
+use Rattle.exo_tree.specs.declared.number.Id.{Id}
+use Rattle.exo_tree.specs.declared.list.Coords.{Coords}
 use Rattle.exo_tree.specs.PlainControl.{control, condition}
 use Rattle.exo_meaning.specs.Units.{Scope}
 use Rattle.exo_reader.specs.Expression.{Tree}
@@ -25,8 +27,10 @@ abbrev pub IsConditionAt : Program → ℕ → Path → Bool → Tree → Result
 IsConditionAt u k path after e result =
     MatchResult result (λ c. IsTaken (is_condition_form e) (knows_fields u.fields e) × (condition c ≡ condition_of u.fields (scope_at u k path after) e)) (λ r. IsRefused (is_condition_form e) (knows_fields u.fields e) r)
 
-abbrev pub are_of_form : List Coordinate → Bool
-are_of_form cs = list_all is_coordinate_form cs
+-- a window has an id and coordinates
+abbrev pub IsWindowIn : List ConfigField → Scope → List ℕ → List Coordinate → Result (Id × Coords) ArgError → Type 0
+IsWindowIn fields scope x cs result =
+    MatchResult result (λ w. IsTaken (list_all is_coordinate_form cs) (list_all (knows_coordinate fields) cs) × (w.0.0 ≡ id_in scope x) × (w.1 ≡ coordinates_of fields scope cs)) (λ r. IsRefused (list_all is_coordinate_form cs) (list_all (knows_coordinate fields) cs) r)
 
-abbrev pub are_known : Program → List Coordinate → Bool
-are_known u cs = list_all (knows_coordinate u.fields) cs
+abbrev pub IsWindowAt : Program → ℕ → Path → Bool → List ℕ → List Coordinate → Result (Id × Coords) ArgError → Type 0
+IsWindowAt u k path after x cs result = IsWindowIn u.fields (scope_at u k path after) x cs result

@@ -1,14 +1,10 @@
 //! The strings of a schedule as trees, with their names resolved at a place.
-ghost use Rattle.std.specs.Prelude.{◌≡◌, MatchResult, map};
+ghost use Rattle.std.specs.Prelude.{◌≡◌, map};
 ghost use Rattle.exo_tree.specs.PlainUnit.{program};
 ghost use Rattle.exo_meaning.specs.Units.{IsUnit};
 ghost use Rattle.exo_reader.specs.Views.{tree_of};
 ghost use Rattle.exo_source.specs.Views.{plain_coordinate};
-ghost use Rattle.exo_names.specs.Names.{id_in};
-ghost use Rattle.exo_names.specs.WindowRules.{coordinates_of};
-ghost use Rattle.exo_names.specs.Arguments.{IsTaken, IsRefused};
-ghost use Rattle.exo_scopes.specs.PlaceScope as place;
-ghost use Rattle.exo_scopes.specs.Resolved.{IsControlAt, IsConditionAt, are_of_form, are_known};
+ghost use Rattle.exo_scopes.specs.Resolved.{IsControlAt, IsConditionAt, IsWindowAt};
 
 use crate::tables::table_of;
 use crate::walk::scope_at;
@@ -77,7 +73,7 @@ pub fn window_at(
     w: &SourceWindow,
 ) -> Result<(Id, Coords), ArgError>
     requires { IsUnit (program unit.now) }
-    ensures { MatchResult result (λ t. IsTaken (are_of_form (map plain_coordinate w.now.coords.items)) (are_known (program unit.now) (map plain_coordinate w.now.coords.items)) × (t.0.0 ≡ id_in (place.scope_at (program unit.now) p.0 path.now after) w.now.name) × (t.1 ≡ coordinates_of (program unit.now).fields (place.scope_at (program unit.now) p.0 path.now after) (map plain_coordinate w.now.coords.items))) (λ r. IsRefused (are_of_form (map plain_coordinate w.now.coords.items)) (are_known (program unit.now) (map plain_coordinate w.now.coords.items)) r) }
+    ensures { IsWindowAt (program unit.now) p.0 path.now after w.now.name (map plain_coordinate w.now.coords.items) result }
 {
     let fields = table_of(alloc, &unit.fields)?;
     let scope = scope_at(alloc, unit, p, path, after)?;

@@ -1,5 +1,5 @@
 //! The names in scope down a path.
-ghost use Rattle.std.specs.Prelude.{◌≡◌, true, map, OnOk, IfOk};
+ghost use Rattle.std.specs.Prelude.{◌≡◌, true, [], map, OnOk, IfOk};
 ghost use Rattle.exo_tree.specs.Tree.{block};
 ghost use Rattle.exo_tree.specs.PlainBinder.{binding};
 ghost use Rattle.exo_tree.specs.PlainPlace.{step_taken};
@@ -110,7 +110,12 @@ fn bind_along<'u>(
 }
 
 /// The names in scope at a place of a procedure.
-fn scope_in<'u>(alloc: Global, p: &'u Proc, path: &Path, after: bool) -> Result<Scope<'u>, AllocError>
+fn scope_in<'u>(
+    alloc: Global,
+    p: &'u Proc,
+    path: &Path,
+    after: bool,
+) -> Result<Scope<'u>, AllocError>
     requires params { params_are_new [] p.now.params ≡ true }
     requires body { binds_new (naming_params p.now.params []) (block p.now.body) ≡ true }
     ensures { IfOk result (λ s. s ≡ scope_in (procedure p.now) path.now after) }

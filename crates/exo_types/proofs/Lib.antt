@@ -5,3 +5,7 @@ pub mod Gone
 pub mod Calls
 pub mod Attributes
 pub mod Numbers
+pub mod Spelled
+pub mod Writes
+pub mod Charged
+pub mod Within

@@ -69,7 +69,7 @@ module _ (fields : List ConfigField) (memories : List (List ℕ)) where
   form_faults scope n (plain type (d ∷ ds)) m =
       cell_faults type n ++ (controls_faults fields plainly scope (n + 2) (d ∷ ds) ++ memory_faults memories (n + 1 + dims_width (d ∷ ds)) m)
   form_faults scope n (strided type ds) m =
-      cell_faults type (n + 1) ++ (controls_faults fields plainly scope (n + 4) ds ++ memory_faults memories (n + 3 + dims_width ds) m)
+      cell_faults type (n + 1) ++ (controls_faults fields plainly scope (n + 4) ds ++ memory_faults memories (n + 4 + closed_width ds) m)
 
   abbrev pub scalar_of : Option Kind → TypeName → Option (List ℕ) → ParamKind
   scalar_of (Some kind) type m = ControlParam kind

@@ -8,3 +8,4 @@ pub mod UnitLines
 pub mod Typed
 pub mod Refusals
 pub mod Seen
+pub mod Laws

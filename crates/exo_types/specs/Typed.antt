@@ -3,7 +3,6 @@ use Rattle.std.specs.Prelude.{◌≡◌, ◌+◌, ◌≤◌, List, length, map, 
 use Rattle.phrases.specs.Limits.{Limits}
 use Rattle.exo_tree.specs.declared.unit.Unit as tree
 use Rattle.exo_tree.specs.PlainUnit.{program}
-use Rattle.exo_meaning.specs.Units.{IsUnit}
 use Rattle.exo_lexer.specs.declared.place.Place.{Place}
 use Rattle.exo_source.specs.Source.{Item}
 use Rattle.exo_source.specs.Items.{unit}
@@ -47,7 +46,3 @@ IsRefused s kind e = IsBroken s e
 
 abbrev pub Types : Source → Result tree.Unit TypeError → Type 0
 Types s result = MatchResult result (IsTyped s) (λ e. IsRefused s e.kind e)
-
--- a unit whose text keeps the grammar and all limits, and breaks no rule, is well formed
-abbrev pub TypedUnitsAreFormed : Type 0
-TypedUnitsAreFormed = (items : List Item) → ((limits : Limits) → unit.Fits limits items) → length (unit.spell items) ≤ 0x100000 → unit_fault items ≡ None → IsUnit (unit_of items)

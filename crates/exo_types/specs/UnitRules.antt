@@ -63,6 +63,10 @@ item_width (instruction template d) = definition_end (2 + length template + 2) d
 item_width (configuration x fs) = 7 + 4 * length fs + 1
 item_width (memory x settings) = 7 + attributes_width settings + 1
 
+abbrev pub items_width : List Item → ℕ
+items_width [] = 0
+items_width (i ∷ more) = item_width i + items_width more
+
 -- the first rule that an item breaks
 abbrev pub item_fault : Above → ℕ → Item → Option Fault
 item_fault above n (procedure d) = procedure_fault above (n + 2) d

@@ -4,6 +4,7 @@
 pub mod argument;
 pub mod attribute;
 pub mod call;
+pub mod laws;
 pub mod part;
 pub mod refusal;
 pub mod types;

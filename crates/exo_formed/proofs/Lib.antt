@@ -1,0 +1,15 @@
+mod Unbroken
+mod Wider
+mod Texts
+mod Scopes
+mod Ids
+mod Sizes
+mod Tables
+mod Leaves
+mod Arguments
+mod Calls
+mod Statements
+mod Procedures
+mod Entries
+mod Lexed
+mod Units

@@ -1,0 +1,4 @@
+//! What breaks no rule of the language is a well-formed unit.
+#![tactic(auto)]
+
+pub mod laws;
