@@ -1,11 +1,12 @@
--- The extents of buffers and views, as expressions over what is in scope where they are bound.
+-- The extents of a procedure's buffers and views, as expressions over what is in scope where they are bound.
 use Rattle.std.specs.Prelude.{ℕ, ◌==◌, if◌then◌else◌, List, [], ◌∷◌}
-use Rattle.exo_tree.specs.Tree.{Control, Sub, Coord, At, Span, Statement, Assign, Reduce, Config, Pass, If, For, Alloc, View, Call, ParamKind, ControlParam, TensorParam, WindowParam, Param}
+use Rattle.exo_tree.specs.Tree.{Control, Sub, Coord, At, Span, Statement, Assign, Reduce, Config, Pass, If, For, Alloc, View, Call, Block, end, next, ParamKind, ControlParam, TensorParam, WindowParam, Param, Procedure}
 
 -- the extents of each name, from the outermost dimension on
 abbrev pub Extents : Type 0
 Extents = ℕ → List Control
 
+-- what is no buffer has none
 abbrev pub no_extents : Extents
 no_extents x = []
 
@@ -27,14 +28,22 @@ abbrev pub with_params : List Param → Extents → Extents
 with_params [] extents = extents
 with_params (p ∷ ps) extents = with_params ps (with_extents p.binder.id (dims_of p.kind) extents)
 
--- behind a statement
-abbrev pub extents_after : Statement → Extents → Extents
-extents_after (Assign x is e) extents = extents
-extents_after (Reduce x is e) extents = extents
-extents_after (Config f a) extents = extents
-extents_after Pass extents = extents
-extents_after (If c a b) extents = extents
-extents_after (For i lo hi b) extents = extents
-extents_after (Alloc x cell dims memory) extents = with_extents x.id dims extents
-extents_after (View w x coords) extents = with_extents w.id (span_extents coords) extents
-extents_after (Call k args) extents = extents
+-- the binders of a block, at every depth; those of a procedure have different ids
+abbrev mutual
+  pub with_block : Block → Extents → Extents
+  with_block end extents = extents
+  with_block (next a b) extents = with_block b (with_statement a extents)
+
+  pub with_statement : Statement → Extents → Extents
+  with_statement (Assign x is e) extents = extents
+  with_statement (Reduce x is e) extents = extents
+  with_statement (Config f a) extents = extents
+  with_statement Pass extents = extents
+  with_statement (If c a b) extents = with_block b (with_block a extents)
+  with_statement (For i lo hi b) extents = with_block b extents
+  with_statement (Alloc x cell dims memory) extents = with_extents x.id dims extents
+  with_statement (View w x coords) extents = with_extents w.id (span_extents coords) extents
+  with_statement (Call k args) extents = extents
+
+abbrev pub extents_of : Procedure → Extents
+extents_of p = with_block p.body (with_params p.params no_extents)
