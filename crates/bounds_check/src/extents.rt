@@ -1,11 +1,11 @@
 //! The extents of a procedure's buffers and views.
-ghost use Rattle.std.specs.Prelude.{◌≡◌, [], ◌∷◌, ◌++◌, map, IfOk, OnOk};
+ghost use Rattle.std.specs.Prelude.{◌≡◌, ◌++◌, map, IfOk, OnOk};
 ghost use Rattle.exo_tree.specs.Tree.{block};
 ghost use Rattle.exo_tree.specs.PlainControl.{control, coordinate};
 ghost use Rattle.exo_tree.specs.PlainParam.{parameter_kind};
 ghost use Rattle.exo_tree.specs.PlainStatement.{statement};
 ghost use Rattle.exo_tree.specs.PlainProcedure.{procedure};
-ghost use Rattle.bounds_check.specs.Extents.{no_extents, with_extents, span_extents, dims_of, with_params, with_block, with_statement, extents_of};
+ghost use Rattle.bounds_check.specs.Extents.{no_extents, with_extents, span_extent, span_extents, dims_of, with_params, with_block, with_statement, extents_of};
 ghost use Rattle.bounds_check.specs.Seen.{extents_in};
 
 use exo_tree::{Block, Coord, Ctrl, Id, Indices, ParamKind, Params, Proc, Stmt};
@@ -25,7 +25,7 @@ pub(crate) fn dims_of(kind: &ParamKind) -> &[Ctrl]
 
 /// Puts the extent of a coordinate last: that of a span is its upper end less its lower one, and a point has none.
 fn push_extent(alloc: Global, extents: &mut Indices, c: &Coord) -> Result<(), AllocError>
-    ensures { OnOk result (extents.new ≡ extents.old ++ span_extents (coordinate c.now ∷ [])) }
+    ensures { OnOk result (extents.new ≡ extents.old ++ span_extent (coordinate c.now)) }
 {
     match c {
         Coord::At(_) => Ok(()),
