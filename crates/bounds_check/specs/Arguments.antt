@@ -1,6 +1,6 @@
 -- The expressions of a callee under the arguments of a call: each parameter is what is passed for it, and the stride of a buffer
 -- parameter is that of the dimension of the buffer that is passed.
-use Rattle.std.specs.Prelude.{ℕ, zero, suc, pos, ◌==◌, if◌then◌else◌, List, [], ◌∷◌, Option, Some, None}
+use Rattle.std.specs.Prelude.{ℕ, zero, suc, ◌-◌, ◌==◌, Bool, true, false, if◌then◌else◌, List, [], ◌∷◌, take, Option, Some, None}
 use Rattle.exo_tree.specs.Tree.{Control, Lit, Var, Field, StrideOf, Neg, Add, Sub, Mul, Div, Mod, Condition, True, False, Flag, FieldFlag, Lt, Le, Gt, Ge, Eq, And, Or, Coord, At, Span, Argument, ControlArg, ConditionArg, Whole, Window, Param}
 
 -- what is passed for a parameter
@@ -23,19 +23,25 @@ truth_for x (Some (ConditionArg c)) = c
 truth_for x (Some (Whole y)) = Flag x
 truth_for x (Some (Window y coords)) = Flag x
 
--- the number of the coordinate that is the span of that number
+abbrev pub is_span : Coord → Bool
+is_span (At a) = false
+is_span (Span a b) = true
+
+-- the number of the coordinate that is the span of that number; that of coordinates where there are not so many spans
 abbrev pub span_place : ℕ → List Coord → ℕ
 span_place k [] = zero
-span_place k (At a ∷ cs) = suc (span_place k cs)
-span_place zero (Span a b ∷ cs) = zero
-span_place (suc k) (Span a b ∷ cs) = suc (span_place k cs)
+span_place k (c ∷ cs) = if is_span c then (if k == 0 then zero else suc (span_place (k - 1) cs)) else suc (span_place k cs)
+
+-- the stride of a window's dimension is that of the buffer's over which it runs; a buffer has at most 8 dimensions
+abbrev pub window_stride : ℕ → ℕ → List Coord → Control
+window_stride y k coords = StrideOf y (span_place k (take 8 coords))
 
 abbrev pub stride_for : ℕ → ℕ → Option Argument → Control
 stride_for x k None = StrideOf x k
 stride_for x k (Some (ControlArg a)) = StrideOf x k
 stride_for x k (Some (ConditionArg c)) = StrideOf x k
 stride_for x k (Some (Whole y)) = StrideOf y k
-stride_for x k (Some (Window y coords)) = StrideOf y (span_place k coords)
+stride_for x k (Some (Window y coords)) = window_stride y k coords
 
 module _ (params : List Param) (args : List Argument) where
   abbrev pub control_under : Control → Control
