@@ -1,5 +1,6 @@
 // Files at the limit of their length, and sinks that fail at a put.
 use exo_cli::{MemFiles, MemSink, Status, exoc};
+use ob_check::Free;
 use std::alloc::{AllocError, Global};
 use std::test::Fail;
 use std::thread::Threads;
@@ -39,7 +40,7 @@ fn compile<R: Threads + Sync + AllocGlobal>(
     for word in ["exoc", "compile", "u.py", "s.py"] {
         words.push(String::from_str(alloc, word)?)?;
     }
-    let status = exoc(rt, alloc, &words, &mut files, &mut out, &mut err);
+    let status = exoc(rt, alloc, &words, &mut files, &mut out, &mut err, &Free);
     Ok(Outcome { status, out, err })
 }
 

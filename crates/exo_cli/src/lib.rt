@@ -2,6 +2,7 @@
 //! what it writes.
 #![tactic(auto)]
 
+mod check;
 mod commute;
 mod compile;
 mod count;

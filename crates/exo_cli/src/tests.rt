@@ -2,6 +2,7 @@
 use crate::memory::{MemFiles, MemSink};
 use crate::status::Status;
 use crate::work::exoc;
+use ob_check::Free;
 use std::alloc::{AllocError, Global};
 use std::test::Fail;
 use std::thread::Threads;
@@ -53,7 +54,7 @@ fn run<R: Threads + Sync + AllocGlobal>(
     let mut out = MemSink::new(alloc, Vec::new(alloc), room)?;
     let mut err = MemSink::new(alloc, Vec::new(alloc), 4096)?;
     let words = strings(alloc, words)?;
-    let status = exoc(rt, alloc, &words, &mut files, &mut out, &mut err);
+    let status = exoc(rt, alloc, &words, &mut files, &mut out, &mut err, &Free);
     Ok(Outcome { status, out, err })
 }
 
