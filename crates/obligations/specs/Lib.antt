@@ -1,0 +1,4 @@
+pub mod Errors
+pub mod Limits
+pub mod Obligations
+pub mod Outcomes

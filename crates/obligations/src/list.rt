@@ -1,4 +1,11 @@
 //! The obligations of a procedure.
+ghost use Rattle.std.specs.Prelude.{◌≡◌, ◌<◌, ◌≤◌, ◌+◌, All, IsTrue, Some, map, length, take, drop, slice_get, ◌↔◌};
+ghost use Rattle.exo_tree.specs.PlainProcedure.{procedure};
+ghost use Rattle.exo_tree.specs.PlainUnit.{program};
+ghost use Rattle.exo_meaning.specs.Units.{IsUnit};
+ghost use Rattle.bounds_check.specs.PlainClaim.{placed};
+ghost use Rattle.bounds_check.specs.Claims.{claims_of};
+ghost use Rattle.obligations.specs.Outcomes.{AreObligations, AreObligationsIn};
 use crate::claims::{Site, put_claims};
 use crate::error::CheckError;
 use crate::owed::Owed;
@@ -9,12 +16,19 @@ use exo_tree::{Path, Proc, ProcId, Unit};
 use std::alloc::Global;
 
 /// Whether two paths are the same.
-fn same_place(a: &Path, b: &Path) -> bool {
+fn same_place(a: &Path, b: &Path) -> bool
+    ensures { IsTrue result ↔ (a.now ≡ b.now) }
+{
     a.as_slice() == b.as_slice()
 }
 
 /// How many claims from number `from` on have the place of the first of them.
-fn count_at(claims: &[Placed], from: usize) -> usize {
+fn count_at(claims: &[Placed], from: usize) -> usize
+    requires { from < length claims.now }
+    ensures some { 0 < result }
+    ensures within { from + result ≤ length claims.now }
+    ensures same { (first : Placed) → slice_get claims.now from ≡ Some first → All (λ c. c.place.now ≡ first.place.now) (take result (drop from claims.now)) }
+{
     let mut end = from + 1;
     while end < claims.len() && same_place(&claims[end].place, &claims[from].place) {
         end += 1;
@@ -29,7 +43,12 @@ fn obligations_of_claims(
     p: ProcId,
     proc: &Proc,
     claims: &[Placed],
-) -> Result<Vec<Obligation>, CheckError> {
+) -> Result<Vec<Obligation>, CheckError>
+    requires unit { IsUnit (program unit.now) }
+    requires found { slice_get (program unit.now).procedures p.0 ≡ Some (procedure proc.now) }
+    requires claims { map placed claims.now ≡ claims_of (program unit.now) (procedure proc.now) }
+    ensures { AreObligations result (program unit.now) (procedure proc.now) }
+{
     let roots = Roots::of(alloc, proc)?;
     let site = Site {
         unit,
@@ -43,7 +62,7 @@ fn obligations_of_claims(
         put_claims(alloc, &site, &claims[from].place, &claims[from..end], &mut out)?;
         from = end;
     }
-    Ok(out.items)
+    Ok(out.into_items())
 }
 
 /// What the procedure `p` of the unit owes: for each of its claims, in text order, a system for each case in which the
@@ -56,7 +75,10 @@ pub fn obligations(
     alloc: Global,
     unit: &Unit,
     p: ProcId,
-) -> Result<Vec<Obligation>, CheckError> {
+) -> Result<Vec<Obligation>, CheckError>
+    requires { IsUnit (program unit.now) }
+    ensures { AreObligationsIn result (program unit.now) (slice_get (program unit.now).procedures p.0) }
+{
     match unit.procs.get(p.0 as usize) {
         None => Ok(Vec::new(alloc)),
         Some(proc) => {
