@@ -166,11 +166,12 @@ fn faults_are_answered(rt: HostRuntime) -> Result<(), Fail> {
 fn other_words_are_usage(rt: HostRuntime) -> Result<(), Fail> {
     let usage =
         b"exoc: usage: exoc compile PROCS SCHEDULE | check PROCS | show PROCS SCHEDULE NAME | gen N\n";
-    let cases: [&[&str]; 5] = [
+    let cases: [&[&str]; 6] = [
         &["exoc", "compile", "u.py"],
         &["exoc", "compile", "u.py", "-s.py"],
         &["exoc", "compile", "", "s.py"],
-        &["exoc", "check", "u.py"],
+        &["exoc", "check"],
+        &["exoc", "check", "u.py", "s.py"],
         &[],
     ];
     for words in cases {
