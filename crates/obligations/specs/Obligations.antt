@@ -50,16 +50,16 @@ stated_fault CasesPassed = Some ManyCases
 stated_fault SizePassed = Some LargeSystem
 stated_fault (Listed ss) = None
 
+-- whether a list goes on after a claim without a fault
+abbrev pub unless_refused : Option Fault → Bool → Option Fault → Option Fault
+unless_refused (Some f) within rest = Some f
+unless_refused None true rest = rest
+unless_refused None false rest = Some ManyObligations
+
 module _ (u : Program) (p : Procedure) where
   -- of one claim: first its forms, then its cases, then the size of its systems
   abbrev pub claim_fault : Placed → Option Fault
   claim_fault c = if claim_fits u p c then stated_fault (claim_stated u p c) else Some Wide
-
-  -- whether a list goes on after a claim without a fault
-  abbrev pub unless_refused : Option Fault → Bool → Option Fault → Option Fault
-  unless_refused (Some f) within rest = Some f
-  unless_refused None true rest = rest
-  unless_refused None false rest = Some ManyObligations
 
   -- the first fault of claims, behind obligations that are owed already
   abbrev pub first_fault : List Owed → List Placed → Option Fault

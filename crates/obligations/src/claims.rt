@@ -1,5 +1,5 @@
 //! The obligations of the claims of one place.
-ghost use Rattle.std.specs.Prelude.{◌≡◌, ◌<◌, ◌∷◌, [], true, All, IsTrue, Some, map, length, slice_get};
+ghost use Rattle.std.specs.Prelude.{◌≡◌, ◌<◌, ◌∷◌, [], true, IsTrue, Some, map, length, slice_get};
 ghost use Rattle.std.specs.List.{list_all};
 ghost use Rattle.exo_tree.specs.Tree.{Procedure, Program};
 ghost use Rattle.exo_tree.specs.PlainUnit.{program};
@@ -8,7 +8,9 @@ ghost use Rattle.affine_places.specs.Roots.{roots_of};
 ghost use Rattle.affine_places.specs.Seen.{roots_in};
 ghost use Rattle.bounds_check.specs.PlainClaim.{claim, placed};
 ghost use Rattle.exo_facts.specs.Contexts.{IsPlaceIn, may_be_walked, context_of, context_fits, facts_of};
+ghost use Rattle.obligations.specs.Paths.{same_path};
 ghost use Rattle.obligations.specs.Outcomes.{Owes};
+
 use crate::error::CheckError;
 use crate::owed::Owed;
 use affine_forms::formula_of;
@@ -33,15 +35,15 @@ fn put_claim(
     at: &AtPlace<'_, '_>,
     context: &Context,
     place: &Path,
-    claim: &Claim,
+    c: &Claim,
     out: &mut Owed,
 ) -> Result<(), CheckError>
-    requires rules { IsTrue (condition_keeps_rules (claim claim.now).says) }
+    requires rules { IsTrue (condition_keeps_rules (claim c.now).says) }
     ensures { (u : Program) (p : Procedure) → u.fields ≡ at.now.fields.now → roots_in at.now.roots.now ≡ roots_of p → at.now.facts.now ≡ facts_of u p place.now →
-        context.now ≡ context_of u p place.now → context_fits u p place.now ≡ true → Owes result u p (record { place = place.now; claim = claim claim.now } ∷ []) out.old out.new }
+        context.now ≡ context_of u p place.now → context_fits u p place.now ≡ true → Owes result u p (record { place = place.now; claim = claim c.now } ∷ []) out.old out.new }
 {
-    let formula = formula_of(alloc, at, &claim.says)?;
-    let what = Text::new(alloc, claim.text.as_str())?;
+    let formula = formula_of(alloc, at, &c.says)?;
+    let what = Text::new(alloc, c.text.as_str())?;
     let owed = systems(alloc, context, &formula, &what, place)?;
     out.push_all(owed)
 }
@@ -57,7 +59,7 @@ pub(crate) fn put_claims(
     requires numbered { length (program site.now.unit.now).fields < 4294967296 }
     requires place { IsPlaceIn (program site.now.unit.now) site.now.p.0 place.now }
     requires some { 0 < length claims.now }
-    requires here { All (λ c. c.place ≡ place.now) (map placed claims.now) }
+    requires here { list_all (λ c. same_path c.place place.now) (map placed claims.now) ≡ true }
     requires rules { IsTrue (list_all (λ c. condition_keeps_rules c.claim.says) (map placed claims.now)) }
     ensures { (p : Procedure) → slice_get (program site.now.unit.now).procedures site.now.p.0 ≡ Some p → roots_in site.now.roots.now ≡ roots_of p → may_be_walked p ≡ true →
         Owes result (program site.now.unit.now) p (map placed claims.now) out.old out.new }

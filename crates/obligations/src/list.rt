@@ -1,11 +1,14 @@
 //! The obligations of a procedure.
-ghost use Rattle.std.specs.Prelude.{◌≡◌, ◌<◌, ◌≤◌, ◌+◌, All, IsTrue, Some, map, length, take, drop, slice_get, ◌↔◌};
+ghost use Rattle.std.specs.Prelude.{◌≡◌, Some, map, not, slice_get};
+ghost use Rattle.std.specs.List.{position_or_len};
 ghost use Rattle.exo_tree.specs.PlainProcedure.{procedure};
 ghost use Rattle.exo_tree.specs.PlainUnit.{program};
 ghost use Rattle.exo_meaning.specs.Units.{IsUnit};
 ghost use Rattle.bounds_check.specs.PlainClaim.{placed};
 ghost use Rattle.bounds_check.specs.Claims.{claims_of};
+ghost use Rattle.obligations.specs.Paths.{same_path};
 ghost use Rattle.obligations.specs.Outcomes.{AreObligations, AreObligationsIn};
+
 use crate::claims::{Site, put_claims};
 use crate::error::CheckError;
 use crate::owed::Owed;
@@ -16,24 +19,22 @@ use exo_tree::{Path, Proc, ProcId, Unit};
 use std::alloc::Global;
 
 /// Whether two paths are the same.
-fn same_place(a: &Path, b: &Path) -> bool
-    ensures { IsTrue result ↔ (a.now ≡ b.now) }
+fn same_path(a: &Path, b: &Path) -> bool
+    ensures { result ≡ same_path a.now b.now }
 {
     a.as_slice() == b.as_slice()
 }
 
-/// How many claims from number `from` on have the place of the first of them.
-fn count_at(claims: &[Placed], from: usize) -> usize
-    requires { from < length claims.now }
-    ensures some { 0 < result }
-    ensures within { from + result ≤ length claims.now }
-    ensures same { (first : Placed) → slice_get claims.now from ≡ Some first → All (λ c. c.place.now ≡ first.place.now) (take result (drop from claims.now)) }
+/// How many claims come before the first of another place.
+fn count_at(claims: &[Placed], place: &Path) -> usize
+    ensures { result ≡ position_or_len (λ c. not (same_path c.place place.now)) (map placed claims.now) }
 {
-    let mut end = from + 1;
-    while end < claims.len() && same_place(&claims[end].place, &claims[from].place) {
-        end += 1;
+    for (k, c) in claims.iter().enumerate() {
+        if !same_path(&c.place, place) {
+            return k;
+        }
     }
-    end - from
+    claims.len()
 }
 
 /// The obligations of claims of a procedure.
@@ -58,9 +59,11 @@ fn obligations_of_claims(
     let mut out = Owed::new(alloc);
     let mut from = 0;
     while from < claims.len() {
-        let end = from + count_at(claims, from);
-        put_claims(alloc, &site, &claims[from].place, &claims[from..end], &mut out)?;
-        from = end;
+        let rest = &claims[from..];
+        let place = &rest[0].place;
+        let count = count_at(rest, place);
+        put_claims(alloc, &site, place, &rest[..count], &mut out)?;
+        from += count;
     }
     Ok(out.into_items())
 }
@@ -71,11 +74,7 @@ fn obligations_of_claims(
 /// `Form` where a claim has no systems within the limits: `WideNumber` where a normal form of it or of its context is too
 /// wide, else `TooManyCases` where it has more than 64 cases, else `SystemTooLarge`. `TooManyObligations` where the list
 /// passes 65,536 obligations or 4,194,304 terms. The first claim that is refused decides, and of it `Form` comes first.
-pub fn obligations(
-    alloc: Global,
-    unit: &Unit,
-    p: ProcId,
-) -> Result<Vec<Obligation>, CheckError>
+pub fn obligations(alloc: Global, unit: &Unit, p: ProcId) -> Result<Vec<Obligation>, CheckError>
     requires { IsUnit (program unit.now) }
     ensures { AreObligationsIn result (program unit.now) (slice_get (program unit.now).procedures p.0) }
 {

@@ -1,10 +1,11 @@
 -- The text lines of statements: those of a procedure stand in preorder.
-use Rattle.std.specs.Prelude.{ℕ, suc, ◌==◌, Bool, true, false, ◌&&◌, List, [], ◌∷◌, ◌++◌, Option, Some, None, slice_get, slice_index_or}
+use Rattle.std.specs.Prelude.{ℕ, suc, List, [], ◌∷◌, ◌++◌, Option, Some, None, slice_get, slice_index_or}
 use Rattle.std.specs.List.{position_or_len}
 use Rattle.exo_tree.specs.Tree.{Statement, Assign, Reduce, Config, Pass, If, For, Alloc, View, Call, Block, end, next, Procedure}
 use Rattle.exo_tree.specs.Places.{Branch, Main, Else, Path}
 use Rattle.exo_tree.specs.declared.lines.ProcLines.{ProcLines}
 use Rattle.bounds_check.specs.Claims.{into}
+use Rattle.obligations.specs.Paths.{same_path}
 
 -- the paths of the statements of a block, the first of which has that number, in preorder
 abbrev mutual
@@ -22,18 +23,6 @@ abbrev mutual
   inner_paths path (Alloc x cell dims memory) = []
   inner_paths path (View w x coords) = []
   inner_paths path (Call k args) = []
-
-abbrev pub same_branch : Branch → Branch → Bool
-same_branch Main Main = true
-same_branch Main Else = false
-same_branch Else Main = false
-same_branch Else Else = true
-
-abbrev pub same_path : Path → Path → Bool
-same_path [] [] = true
-same_path [] (t ∷ q) = false
-same_path (s ∷ p) [] = false
-same_path (s ∷ p) (t ∷ q) = same_branch s.branch t.branch && (s.index == t.index) && same_path p q
 
 -- how many statements stand before the one at a path
 abbrev pub number_of : Procedure → Path → ℕ

@@ -13,6 +13,7 @@ ghost use Rattle.unit_check.specs.declared.refused.Why.TheVariants.{Memory};
 ghost use Rattle.obligations.specs.Outcomes.{IsRefusal};
 ghost use Rattle.unit_check.specs.Checked.{NotShown, NotListed, first_open, cause_of, checked, AllHold};
 ghost use Rattle.unit_check.specs.Outcomes.{IsChecked, Answers, IsOf};
+
 use crate::refused::{UnitRefused, Why};
 use affine_prover::Verdict;
 use affine_systems::Obligation;
@@ -70,12 +71,7 @@ fn not_shown(
 }
 
 /// What the answer on a procedure's obligations means.
-fn answered(
-    alloc: Global,
-    p: ProcId,
-    obs: &[Obligation],
-    answer: Answer,
-) -> Result<(), UnitRefused>
+fn answered(alloc: Global, p: ProcId, obs: &[Obligation], answer: Answer) -> Result<(), UnitRefused>
     requires { answer ≡ answer_of (map elimination (systems_of obs.now)) }
     ensures { Answers result p.0 (first_open (map plain_obligation obs.now)) }
 {

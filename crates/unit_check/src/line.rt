@@ -5,6 +5,7 @@ ghost use Rattle.exo_tree.specs.Nodes.{nodes, nodes_in};
 ghost use Rattle.exo_tree.specs.PlainStatement.{statement};
 ghost use Rattle.exo_tree.specs.PlainUnit.{program};
 ghost use Rattle.unit_check.specs.Preorder.{line_in};
+
 use crate::refused::UnitRefused;
 use exo_tree::{Block, Branch, Path, ProcId, Step, Stmt, Unit};
 
