@@ -117,6 +117,9 @@ fn a_long_elimination_is_refused(rt: HostRuntime) -> Result<(), Fail> {
     let unit = steep(rt.alloc())?;
     let ran = check(&rt, unit.as_str())?;
     assert_eq!(rt; ran.status, Status::Refused);
-    assert_eq!(rt; ran.err.bytes(), b"exoc: u.py:133: NotShown 0 <= x TooMany\n".as_slice());
+    assert_eq!(rt;
+        ran.err.bytes(),
+        b"exoc: u.py:133: NotShown 0 <= x TooMany\n".as_slice()
+    );
     Ok(())
 }

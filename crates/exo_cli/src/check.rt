@@ -1,4 +1,12 @@
 // From the text of a unit to whether its procedures show what they owe.
+ghost use Rattle.std.specs.Prelude.{◌≡◌, ◌≤◌, length, IfOk};
+ghost use Rattle.exo_tree.specs.PlainUnit.{program};
+ghost use Rattle.exo_meaning.specs.Units.{IsUnit};
+ghost use Rattle.exo_types.specs.Typed.{IsPlaced, items_of};
+ghost use Rattle.exo_types.specs.UnitRules.{unit_fault};
+ghost use Rattle.exo_cli.specs.Checking.{IsChecked, typed, well_formed, verdict_text};
+ghost use Rattle.exo_cli.specs.Replies.{plain};
+
 use crate::compile::{refuse_rule, refuse_text};
 use crate::messages;
 use crate::reply::Reply;
@@ -20,7 +28,10 @@ pub(crate) fn check<R: Threads + Sync, G: Gate>(
     name: &str,
     text: &[u8],
     gate: &G,
-) -> Result<Reply, AllocError> {
+) -> Result<Reply, AllocError>
+    requires { length text.now ≤ 1048576 }
+    ensures { IfOk result (λ reply. IsChecked name.now text.now (plain reply)) }
+{
     match read_unit(alloc, text) {
         Ok(source) => check_source(rt, alloc, name, &source, gate),
         Err(e) => refuse_text(alloc, name, e),
@@ -34,7 +45,10 @@ fn check_source<R: Threads + Sync, G: Gate>(
     name: &str,
     source: &Source,
     gate: &G,
-) -> Result<Reply, AllocError> {
+) -> Result<Reply, AllocError>
+    requires { IsPlaced source.now }
+    ensures { IfOk result (λ reply. plain reply ≡ typed name.now source.now.places.items (items_of source.now) (unit_fault (items_of source.now))) }
+{
     match check_types(alloc, source) {
         Ok(unit) => check_typed(rt, alloc, name, &unit, gate),
         Err(e) => refuse_rule(alloc, name, e),
@@ -48,7 +62,10 @@ fn check_typed<R: Threads + Sync, G: Gate>(
     name: &str,
     unit: &Unit,
     gate: &G,
-) -> Result<Reply, AllocError> {
+) -> Result<Reply, AllocError>
+    requires { IsUnit (program unit.now) }
+    ensures { IfOk result (λ reply. plain reply ≡ well_formed name.now (program unit.now) unit.now.lines) }
+{
     let mut cache = new_cache(alloc)?;
     match check_unit(rt, alloc, unit, &mut cache, gate) {
         Ok(count) => Ok(Reply::Accepted(messages::checked(alloc, count)?)),
@@ -95,7 +112,9 @@ fn form_text(error: FormError) -> &'static str {
 }
 
 /// A verdict as messages have it.
-fn verdict_text(verdict: Verdict) -> &'static str {
+fn verdict_text(verdict: Verdict) -> &'static str
+    ensures { result.now ≡ verdict_text verdict }
+{
     match verdict {
         Verdict::Shown => "Shown",
         Verdict::Open => "Open",
