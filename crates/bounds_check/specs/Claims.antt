@@ -11,6 +11,10 @@ use Rattle.bounds_check.specs.Claim.{Claim, Placed}
 use Rattle.bounds_check.specs.Extents.{Extents, span_extents, dims_of, extents_of}
 use Rattle.bounds_check.specs.Arguments.{control_under, condition_under}
 
+-- an assertion of a callee under the arguments, with its text as the callee writes it
+abbrev pub asserted : Words → List Param → List Argument → Condition → Claim
+asserted callee params args c = record { says = condition_under params args c; text = condition_text callee c }
+
 -- in the words of the procedure that has to show it
 module _ (w : Words) where
   abbrev pub as_shown : Condition → Claim
@@ -83,10 +87,6 @@ module _ (w : Words) where
   -- the extents of what is passed are the dimensions of the parameter under the arguments
   abbrev pub passed_extents : Extents → List Param → List Argument → Param → Argument → List Claim
   passed_extents extents params args p a = equal_extents (argument_extents extents a) (map (control_under params args) (dims_of p.kind))
-
-  -- an assertion under the arguments, with its text as the callee writes it
-  abbrev pub asserted : Words → List Param → List Argument → Condition → Claim
-  asserted callee params args c = record { says = condition_under params args c; text = condition_text callee c }
 
   -- the windows, the sizes, the extents, and the callee's assertions
   abbrev pub call_claims : Program → Extents → Option Procedure → List Argument → List Claim

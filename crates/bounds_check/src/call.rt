@@ -1,5 +1,6 @@
 //! Claims of calls.
 ghost use Rattle.std.specs.Prelude.{◌≡◌, [], ◌∷◌, ◌++◌, map, flat_map, OnOk, slice_get, Some};
+ghost use Rattle.exo_tree.specs.Tree as tree;
 ghost use Rattle.exo_tree.specs.PlainBinder.{control_kind};
 ghost use Rattle.exo_tree.specs.PlainControl.{control, condition};
 ghost use Rattle.exo_tree.specs.PlainParam.{parameter};
@@ -9,7 +10,7 @@ ghost use Rattle.exo_tree.specs.PlainUnit.{program};
 ghost use Rattle.exo_show.specs.Seen.{words_in};
 ghost use Rattle.bounds_check.specs.Pairs.{flat_zip};
 ghost use Rattle.bounds_check.specs.Arguments.{control_under};
-ghost use Rattle.bounds_check.specs.Claims.{argument_window, given_claims, argument_size, equal_extents, passed_extents, asserted, call_claims};
+ghost use Rattle.bounds_check.specs.Claims.{as_shown, argument_window, given_claims, argument_size, equal_extents, passed_extents, asserted, call_claims};
 ghost use Rattle.bounds_check.specs.Seen.{extents_in};
 
 use crate::arguments::{Passed, condition_under, control_under};
@@ -111,7 +112,7 @@ fn put_equal(
     extent: &Ctrl,
     d: &Ctrl,
 ) -> Result<(), AllocError>
-    ensures { OnOk result (out.new ≡ out.old ++ equal_extents (words_in words.now) (control extent.now ∷ []) (control_under passed.now.params.now passed.now.args.now (control d.now) ∷ [])) }
+    ensures { OnOk result (out.new ≡ out.old ++ as_shown (words_in words.now) (tree.Eq (control extent.now) (control_under passed.now.params.now passed.now.args.now (control d.now))) ∷ []) }
 {
     let left = extent.duplicate(alloc)?;
     let right = control_under(alloc, passed, d)?;

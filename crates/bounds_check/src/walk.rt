@@ -94,6 +94,7 @@ fn put_block(
 }
 
 /// The claims of the blocks of the statement at the path.
+#[tactic(auto, using(crate::proofs::Walks::left_least, crate::proofs::Walks::right_least))]
 #[cycle(walk)]
 fn put_inner(
     alloc: Global,
