@@ -139,11 +139,7 @@ pub(crate) fn control_under(alloc: Global, passed: &Passed, e: &Ctrl) -> Result<
 }
 
 /// A condition of the callee under the arguments.
-pub(crate) fn condition_under(
-    alloc: Global,
-    passed: &Passed,
-    c: &Cond,
-) -> Result<Cond, AllocError>
+pub(crate) fn condition_under(alloc: Global, passed: &Passed, c: &Cond) -> Result<Cond, AllocError>
     ensures { IfOk result (λ d. condition d ≡ condition_under passed.now.params.now passed.now.args.now (condition c.now)) }
 {
     match c {

@@ -102,18 +102,18 @@ pub(crate) fn put_window(
 }
 
 /// The claims of the reads of an expression.
-fn put_reads(
-    alloc: Global,
-    out: &mut Claims,
-    site: &Site,
-    e: &DataExpr,
-) -> Result<(), AllocError>
+fn put_reads(alloc: Global, out: &mut Claims, site: &Site, e: &DataExpr) -> Result<(), AllocError>
     ensures { OnOk result (out.new ≡ out.old ++ read_claims (words_in site.now.words.now) (extents_in site.now.extents.now) (datum e.now)) }
 {
     match e {
         DataExpr::Lit(_) => Ok(()),
-        DataExpr::Read(x, at) =>
-            put_indices(alloc, out, site.words, at.as_slice(), site.extents.get(*x)),
+        DataExpr::Read(x, at) => put_indices(
+            alloc,
+            out,
+            site.words,
+            at.as_slice(),
+            site.extents.get(*x),
+        ),
         DataExpr::Neg(a) => put_reads(alloc, out, site, a),
         DataExpr::Relu(a) => put_reads(alloc, out, site, a),
         DataExpr::Add(a, b) => {

@@ -34,8 +34,13 @@ fn put_argument_window(
         Arg::Ctrl(_) => Ok(()),
         Arg::Cond(_) => Ok(()),
         Arg::Whole(_) => Ok(()),
-        Arg::Window(x, coords) =>
-            put_window(alloc, out, site.words, coords.as_slice(), site.extents.get(*x)),
+        Arg::Window(x, coords) => put_window(
+            alloc,
+            out,
+            site.words,
+            coords.as_slice(),
+            site.extents.get(*x),
+        ),
     }
 }
 
@@ -203,7 +208,10 @@ fn put_call_of<'a>(
 ) -> Result<(), AllocError>
     ensures { OnOk result (out.new ≡ out.old ++ call_claims (words_in site.now.words.now) (program site.now.unit.now) (extents_in site.now.extents.now) (Some (procedure q.now)) args.now) }
 {
-    let passed = Passed { params: &q.params, args };
+    let passed = Passed {
+        params: &q.params,
+        args,
+    };
     let (params, given) = (q.params.as_slice(), args.as_slice());
     put_argument_windows(alloc, out, site, given)?;
     put_argument_sizes(alloc, out, site.words, params, given)?;

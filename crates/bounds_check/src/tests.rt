@@ -48,7 +48,10 @@ fn read(alloc: Global, x: u32, at: &[u32]) -> Result<Box<DataExpr>, AllocError> 
 /// A loop from 0 to a variable.
 fn turns(alloc: Global, i: u32, name: &str, hi: u32, body: Block) -> Result<Block, AllocError> {
     let binder = binder(alloc, i, name)?;
-    Block::single(alloc, Stmt::For(binder, Ctrl::Lit(0), Ctrl::Var(Id(hi)), body))
+    Block::single(
+        alloc,
+        Stmt::For(binder, Ctrl::Lit(0), Ctrl::Var(Id(hi)), body),
+    )
 }
 
 fn procedure(
@@ -104,7 +107,10 @@ fn column(alloc: Global) -> Result<Proc, AllocError> {
     params.push(control(alloc, 0, "M", Kind::Size)?)?;
     params.push(control(alloc, 1, "N", Kind::Size)?)?;
     params.push(tensor(alloc, 2, "A", &[0, 1])?)?;
-    let last = Ctrl::Sub(Box::new(alloc, Ctrl::Var(Id(1)))?, Box::new(alloc, Ctrl::Lit(1))?);
+    let last = Ctrl::Sub(
+        Box::new(alloc, Ctrl::Var(Id(1)))?,
+        Box::new(alloc, Ctrl::Lit(1))?,
+    );
     let mut coords = Coords::new(alloc);
     coords.push(Coord::Span(Ctrl::Lit(0), Ctrl::Var(Id(0))))?;
     coords.push(Coord::At(last))?;
@@ -153,12 +159,16 @@ fn a_product_of_matrices(rt: HostRuntime) -> Result<(), Fail> {
     let alloc = rt.alloc();
     let unit = unit(alloc)?;
     let claims = claims_of(alloc, &unit, ProcId(0))?;
-    assert!(rt; have_texts(&claims, &[
-        "1 <= M", "1 <= K", "1 <= K", "1 <= N", "1 <= M", "1 <= N",
-        "0 <= i", "i < M", "0 <= j", "j < N",
-        "0 <= i", "i < M", "0 <= k", "k < K",
-        "0 <= k", "k < K", "0 <= j", "j < N",
-    ]));
+    assert!(rt;
+        have_texts(
+            &claims,
+            &[
+                "1 <= M", "1 <= K", "1 <= K", "1 <= N", "1 <= M", "1 <= N", "0 <= i", "i < M",
+                "0 <= j", "j < N", "0 <= i", "i < M", "0 <= k", "k < K", "0 <= k", "k < K",
+                "0 <= j", "j < N",
+            ]
+        )
+    );
     assert!(rt; claims[5].place.as_slice().is_empty());
     assert!(rt; claims[6].place.as_slice().len() == 4);
     Ok(())
@@ -169,11 +179,24 @@ fn a_call_with_a_window(rt: HostRuntime) -> Result<(), Fail> {
     let alloc = rt.alloc();
     let unit = unit(alloc)?;
     let claims = claims_of(alloc, &unit, ProcId(2))?;
-    assert!(rt; have_texts(&claims, &[
-        "1 <= M", "1 <= N", "1 <= 8",
-        "0 <= 0", "0 < M", "M <= M", "0 <= N - 1", "N - 1 < N",
-        "1 <= M", "M - 0 == M", "stride(w, 0) == 1",
-    ]));
+    assert!(rt;
+        have_texts(
+            &claims,
+            &[
+                "1 <= M",
+                "1 <= N",
+                "1 <= 8",
+                "0 <= 0",
+                "0 < M",
+                "M <= M",
+                "0 <= N - 1",
+                "N - 1 < N",
+                "1 <= M",
+                "M - 0 == M",
+                "stride(w, 0) == 1",
+            ]
+        )
+    );
     let at = claims[10].place.as_slice();
     assert!(rt; at.len() == 1 && at[0].branch == Branch::Main && at[0].index == 1);
     let first_stride = match &claims[10].claim.says {

@@ -51,8 +51,13 @@ fn put_own(alloc: Global, out: &mut Claims, site: &Site, s: &Stmt) -> Result<(),
         Stmt::If(_, _, _) => Ok(()),
         Stmt::For(_, _, _, _) => Ok(()),
         Stmt::Alloc(_, _, dims, _) => put_sizes(alloc, out, site.words, dims.as_slice()),
-        Stmt::View(_, x, coords) =>
-            put_window(alloc, out, site.words, coords.as_slice(), site.extents.get(*x)),
+        Stmt::View(_, x, coords) => put_window(
+            alloc,
+            out,
+            site.words,
+            coords.as_slice(),
+            site.extents.get(*x),
+        ),
         Stmt::Call(k, args) => put_call(alloc, out, site, *k, args),
     }
 }

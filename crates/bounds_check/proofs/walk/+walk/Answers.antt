@@ -15,13 +15,17 @@ put_block-overflow_cast-k t c = omega (arith, short_length c.args.b.now c.requir
 pub put_block-into-path-requires : goal.put_block-into-path-requires
 put_block-into-path-requires t c = (deep_enough (length c.args.outer.now) (drop c.loop-k.k c.args.b.now) _ (statement c.statement-s.result.now) c.statement-s.ensures.value c.loop-k.invariant.levels).0
 
-pub put_block-put_inner-requires-clause-inside : goal.put_block-put_inner-requires-clause-inside
-put_block-put_inner-requires-clause-inside t c = (short_on (drop c.loop-k.k c.args.b.now) _ (statement c.statement-s.result.now) c.statement-s.ensures.value c.loop-k.invariant.inside).0
-
-pub put_block-put_inner-requires-clause-levels : goal.put_block-put_inner-requires-clause-levels
-put_block-put_inner-requires-clause-levels t c =
-    let d = deep_enough (length c.args.outer.now) (drop c.loop-k.k c.args.b.now) _ (statement c.statement-s.result.now) c.statement-s.ensures.value c.loop-k.invariant.levels in
-    omega (arith, d.1, into_length c.args.outer.now c.into-path.result (branch_taken c.args.branch) c.loop-k.k c.into-path.ensures)
+pub put_block-put_inner-requires : goal.put_block-put_inner-requires
+put_block-put_inner-requires t c =
+    let s = statement c.statement-s.result.now in
+    let ss = drop c.loop-k.k c.args.b.now in
+    let d = deep_enough (length c.args.outer.now) ss _ s c.statement-s.ensures.value c.loop-k.invariant.levels in (
+      omega (arith, c.statement-s.ensures.smaller),
+      (
+        (short_on ss _ s c.statement-s.ensures.value c.loop-k.invariant.inside).0,
+        omega (arith, d.1, into_length c.args.outer.now c.into-path.result (branch_taken c.args.branch) c.loop-k.k c.into-path.ensures),
+      ),
+    )
 
 pub put_block-loop-k-preserved : goal.put_block-loop-k-preserved
 put_block-loop-k-preserved t c =
@@ -32,7 +36,7 @@ put_block-loop-k-preserved t c =
     let ss = drop c.loop-k.k c.args.b.now in
     record {
       made = walked_on w u e c.args.outer.now (branch_taken c.args.branch) c.loop-k.k (map placed c.loop-k.out.items) (map placed c.place.new.out.items) _ _ c.into-path.result c.put_own.new.out s ss _ c.statement-s.ensures.value c.into-path.ensures
-        (c.in_ok-put_own.ensures ∙ ap (λ l. l ++ own_claims w u e s) c.new-own.ensures) c.in_ok-place.ensures c.in_ok-put_inner.ensures c.loop-k.invariant.made;
+          (c.in_ok-put_own.ensures ∙ ap (λ l. l ++ own_claims w u e s) c.new-own.ensures) c.in_ok-place.ensures c.in_ok-put_inner.ensures c.loop-k.invariant.made;
       inside = (short_on ss _ s c.statement-s.ensures.value c.loop-k.invariant.inside).1;
       levels = (deep_enough (length c.args.outer.now) ss _ s c.statement-s.ensures.value c.loop-k.invariant.levels).2;
     }

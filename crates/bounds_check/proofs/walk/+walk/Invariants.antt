@@ -1,7 +1,9 @@
 -- The claims so far, and those of the rest of the block.
-use Rattle.std.proofs.Common.{◌≡◌, ◌++◌, ◌+◌, ◌<◌, true, drop, map, length}
+use Rattle.std.proofs.Common.{◌≡◌, ◌++◌, ◌+◌, ◌*◌, ◌<◌, true, drop, map, length}
 use Rattle.exo_tree.specs.Tree.{block}
 use Rattle.exo_tree.specs.PlainPlace.{branch_taken}
+use Rattle.exo_tree.specs.Nodes.{nodes, nodes_of}
+use Rattle.exo_tree.specs.PlainStatement.{statement}
 use Rattle.exo_tree.specs.PlainUnit.{program}
 use Rattle.exo_meaning.specs.Units.{levels}
 use Rattle.exo_show.specs.Seen.{words_in}
@@ -19,3 +21,9 @@ invariant-put_block-loop-k l =
       inside : is_short_inside (block (drop l.k l.b)) ≡ true;
       levels : length l.outer + levels (block (drop l.k l.b)) < 33;
     }
+
+abbrev pub decreases-put_block : goal.decreases-put_block
+decreases-put_block l = 2 * nodes_of l.b.now + 1
+
+abbrev pub decreases-put_inner : goal.decreases-put_inner
+decreases-put_inner l = 2 * nodes (statement l.s.now)
