@@ -1,5 +1,5 @@
 -- In well-formed units each block is short, and no path is longer than 32.
-use Rattle.std.proofs.Common.{◌≡◌, ℕ, zero, suc, ◌<◌, nat_lt, Bool, true, not, ◌&&◌, List, [], ◌∷◌, ◌++◌, slice_get, length, Option, Some, refl, ap, sym, ◌∙◌, subst, arith}
+use Rattle.std.proofs.Common.{◌≡◌, ℕ, zero, suc, ◌<◌, nat_lt, Bool, true, not, ◌&&◌, List, [], ◌∷◌, ◌++◌, slice_get, length, Option, Some, refl, ap, ◌∙◌, subst, arith}
 use Rattle.std.proofs.lemmas.Bool.Decides.{nat_tests}
 use Rattle.exo_tree.specs.Tree.{Kind, Index, Statement, Assign, Reduce, Config, Pass, If, For, Alloc, View, Call, Block, end, next, Procedure, ConfigField, Program}
 use Rattle.exo_meaning.specs.Calls.{Callee}

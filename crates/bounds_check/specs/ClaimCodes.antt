@@ -1,5 +1,4 @@
 -- The codes of claims.
-use Rattle.std.specs.Prelude.{List}
 use Rattle.std.specs.Coded.{Coded, coded×, code_by}
 use Rattle.std.proofs.Common.{refl}
 use Rattle.exo_tree.specs.Tree.{Condition}

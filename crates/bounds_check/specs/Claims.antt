@@ -1,7 +1,7 @@
 -- What a procedure has to show, in text order: indices, windows and extents within their buffers, sizes of at least 1, and the
 -- assertions of the procedures that it calls.
 use Rattle.std.specs.Prelude.{ℕ, suc, pos, List, [], ◌∷◌, ◌++◌, map, flat_map, Option, Some, None, slice_get}
-use Rattle.exo_tree.specs.Tree.{Kind, Size, Index, Truth, Stride, Control, Lit, Condition, Le, Lt, Eq, Datum, Const, Read, Negated, Relu, Plus, Minus, Times, Select, Coord, At, Span, Argument, ControlArg, ConditionArg, Whole, Window, Statement, Assign, Reduce, Config, Pass, If, For, Alloc, View, Call, Block, end, next, ParamKind, ControlParam, TensorParam, WindowParam, Param, Procedure, Program}
+use Rattle.exo_tree.specs.Tree.{Kind, Size, Control, Lit, Condition, Le, Lt, Eq, Datum, Const, Read, Negated, Relu, Plus, Minus, Times, Select, Coord, At, Span, Argument, ControlArg, ConditionArg, Whole, Window, Statement, Assign, Reduce, Config, Pass, If, For, Alloc, View, Call, Block, end, next, ControlParam, TensorParam, WindowParam, Param, Procedure, Program}
 use Rattle.exo_tree.specs.Places.{Branch, Main, Else, Path}
 use Rattle.exo_meaning.specs.Units.{field_kind}
 use Rattle.exo_show.specs.Words.{Words, words_of}

@@ -1,10 +1,15 @@
 //! The claims of worked procedures, and their texts.
 
-use crate::{Placed, claims_of};
+use crate::Placed;
+use crate::bounds::Site;
+use crate::extents::Extents;
+use crate::list::Claims;
+use crate::walk::{put_own, put_params};
+use exo_show::Words;
 use exo_tree::{
     Arg, Args, Binder, Block, Branch, Cell, Cond, Conds, Coord, Coords, Ctrl, DataExpr, Field,
     FieldId, Fields, Id, Indices, Kind, Lines, MemId, Memories, Name, Param, ParamKind, Params,
-    Proc, ProcId, Procs, Stmt, Unit,
+    Path, Proc, ProcId, Procs, Stmt, Unit,
 };
 use std::alloc::{AllocError, Global};
 use std::test::Fail;
@@ -141,6 +146,29 @@ fn unit(alloc: Global) -> Result<Unit, AllocError> {
     })
 }
 
+/// The claims of a procedure's parameters and of a statement of its body.
+fn claims_at(alloc: Global, unit: &Unit, p: &Proc, s: &Stmt) -> Result<Vec<Placed>, AllocError> {
+    let words = Words::new(alloc, unit, p)?;
+    let extents = Extents::of(alloc, p)?;
+    let site = Site {
+        unit,
+        words: &words,
+        extents: &extents,
+    };
+    let mut own = Claims::new(alloc);
+    put_params(alloc, &mut own, &words, p.params.as_slice())?;
+    put_own(alloc, &mut own, &site, s)?;
+    let place = Path::new();
+    let mut out = Vec::new(alloc);
+    own.place(&mut out, &place)?;
+    Ok(out)
+}
+
+/// The first statement of the statement's block.
+fn first_inside<'a>(s: Option<&'a Stmt>) -> Option<&'a Stmt> {
+    s?.block(Branch::Main)?.get(0)
+}
+
 /// Whether the claims have these texts, in order.
 fn have_texts(claims: &[Placed], texts: &[&str]) -> bool {
     if claims.len() != texts.len() {
@@ -154,23 +182,45 @@ fn have_texts(claims: &[Placed], texts: &[&str]) -> bool {
     true
 }
 
+/// Whether a condition says that this stride is 1.
+fn is_unit_stride(c: &Cond, buffer: u32, dimension: u32) -> bool {
+    match c {
+        Cond::Eq(Ctrl::Stride(x, k), Ctrl::Lit(1)) => x.0 == buffer && *k == dimension,
+        _ => false,
+    }
+}
+
 #[test]
 fn a_product_of_matrices(rt: HostRuntime) -> Result<(), Fail> {
     let alloc = rt.alloc();
     let unit = unit(alloc)?;
-    let claims = claims_of(alloc, &unit, ProcId(0))?;
-    assert!(rt;
-        have_texts(
-            &claims,
-            &[
-                "1 <= M", "1 <= K", "1 <= K", "1 <= N", "1 <= M", "1 <= N", "0 <= i", "i < M",
-                "0 <= j", "j < N", "0 <= i", "i < M", "0 <= k", "k < K", "0 <= k", "k < K",
-                "0 <= j", "j < N",
-            ]
-        )
-    );
-    assert!(rt; claims[5].place.as_slice().is_empty());
-    assert!(rt; claims[6].place.as_slice().len() == 4);
+    let Some(p) = unit.procs.get(0) else {
+        return Ok(());
+    };
+    let Some(s) = first_inside(first_inside(first_inside(p.body.get(0)))) else {
+        return Ok(());
+    };
+    let claims = claims_at(alloc, &unit, p, s)?;
+    let texts = [
+        "1 <= M", "1 <= K", "1 <= K", "1 <= N", "1 <= M", "1 <= N", "0 <= i", "i < M", "0 <= j",
+        "j < N", "0 <= i", "i < M", "0 <= k", "k < K", "0 <= k", "k < K", "0 <= j", "j < N",
+    ];
+    assert!(rt; have_texts(&claims, &texts));
+    Ok(())
+}
+
+#[test]
+fn a_write_of_a_size(rt: HostRuntime) -> Result<(), Fail> {
+    let alloc = rt.alloc();
+    let unit = unit(alloc)?;
+    let Some(p) = unit.procs.get(2) else {
+        return Ok(());
+    };
+    let Some(s) = p.body.get(0) else {
+        return Ok(());
+    };
+    let claims = claims_at(alloc, &unit, p, s)?;
+    assert!(rt; have_texts(&claims, &["1 <= M", "1 <= N", "1 <= 8"]));
     Ok(())
 }
 
@@ -178,32 +228,29 @@ fn a_product_of_matrices(rt: HostRuntime) -> Result<(), Fail> {
 fn a_call_with_a_window(rt: HostRuntime) -> Result<(), Fail> {
     let alloc = rt.alloc();
     let unit = unit(alloc)?;
-    let claims = claims_of(alloc, &unit, ProcId(2))?;
-    assert!(rt;
-        have_texts(
-            &claims,
-            &[
-                "1 <= M",
-                "1 <= N",
-                "1 <= 8",
-                "0 <= 0",
-                "0 < M",
-                "M <= M",
-                "0 <= N - 1",
-                "N - 1 < N",
-                "1 <= M",
-                "M - 0 == M",
-                "stride(w, 0) == 1",
-            ]
-        )
-    );
-    let at = claims[10].place.as_slice();
-    assert!(rt; at.len() == 1 && at[0].branch == Branch::Main && at[0].index == 1);
-    let first_stride = match &claims[10].claim.says {
-        Cond::Eq(Ctrl::Stride(x, k), Ctrl::Lit(1)) => x.0 == 2 && *k == 0,
-        _ => false,
+    let Some(p) = unit.procs.get(2) else {
+        return Ok(());
     };
-    assert!(rt; first_stride);
-    assert!(rt; claims_of(alloc, &unit, ProcId(3))?.is_empty());
+    let Some(s) = p.body.get(1) else {
+        return Ok(());
+    };
+    let claims = claims_at(alloc, &unit, p, s)?;
+    let texts = [
+        "1 <= M",
+        "1 <= N",
+        "0 <= 0",
+        "0 < M",
+        "M <= M",
+        "0 <= N - 1",
+        "N - 1 < N",
+        "1 <= M",
+        "M - 0 == M",
+        "stride(w, 0) == 1",
+    ];
+    assert!(rt; have_texts(&claims, &texts));
+    let Some(last) = claims.last() else {
+        return Ok(());
+    };
+    assert!(rt; is_unit_stride(&last.claim.says, 2, 0));
     Ok(())
 }

@@ -40,7 +40,12 @@ fn put_write(
 }
 
 /// The claims of a statement itself.
-fn put_own(alloc: Global, out: &mut Claims, site: &Site, s: &Stmt) -> Result<(), AllocError>
+pub(crate) fn put_own(
+    alloc: Global,
+    out: &mut Claims,
+    site: &Site,
+    s: &Stmt,
+) -> Result<(), AllocError>
     ensures { OnOk result (out.new ≡ out.old ++ own_claims (words_in site.now.words.now) (program site.now.unit.now) (extents_in site.now.extents.now) (statement s.now)) }
 {
     match s {
@@ -123,7 +128,7 @@ fn put_inner(
 }
 
 /// The claims of parameters: `1 <= d` for each dimension of a buffer.
-fn put_params(
+pub(crate) fn put_params(
     alloc: Global,
     out: &mut Claims,
     words: &Words,

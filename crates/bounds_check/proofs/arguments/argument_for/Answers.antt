@@ -1,4 +1,4 @@
-use Rattle.std.proofs.Common.{◌≡◌, ◌≤◌, ◌∙◌, ◌∷◌, min, length, drop, map, ap, sym, arith, add-one}
+use Rattle.std.proofs.Common.{◌≤◌, ◌∙◌, ◌∷◌, min, length, drop, map, ap, sym, arith, add-one}
 use Rattle.std.proofs.lemmas.List.{length-map, drop-map}
 use Rattle.exo_tree.specs.declared.param.Param.{Param}
 use Rattle.exo_tree.specs.PlainParam.{parameter}

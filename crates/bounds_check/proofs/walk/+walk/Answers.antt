@@ -1,4 +1,4 @@
-use Rattle.std.proofs.Common.{◌≡◌, ◌+◌, ◌++◌, [], length, drop, map, ap, ◌∙◌, arith}
+use Rattle.std.proofs.Common.{◌++◌, length, drop, map, ap, ◌∙◌, arith}
 use Rattle.exo_tree.specs.PlainPlace.{branch_taken}
 use Rattle.exo_tree.specs.PlainStatement.{statement}
 use Rattle.exo_tree.specs.PlainUnit.{program}
