@@ -1,0 +1,20 @@
+-- Blocks whose statements have paths: each block inside has fewer than 2^31 statements.
+use Rattle.std.specs.Prelude.{Bool, true, ◌&&◌}
+use Rattle.exo_tree.specs.Tree.{Statement, Assign, Reduce, Config, Pass, If, For, Alloc, View, Call, Block, end, next}
+use Rattle.exo_meaning.specs.Units.{is_short}
+
+abbrev mutual
+  pub is_short_inside : Block → Bool
+  is_short_inside end = true
+  is_short_inside (next a b) = step_is_short a && is_short_inside b
+
+  pub step_is_short : Statement → Bool
+  step_is_short (Assign x is e) = true
+  step_is_short (Reduce x is e) = true
+  step_is_short (Config f a) = true
+  step_is_short Pass = true
+  step_is_short (If c a b) = (is_short a && is_short_inside a) && (is_short b && is_short_inside b)
+  step_is_short (For i lo hi b) = is_short b && is_short_inside b
+  step_is_short (Alloc x cell dims memory) = true
+  step_is_short (View w x coords) = true
+  step_is_short (Call k args) = true
