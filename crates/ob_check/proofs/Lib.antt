@@ -1,0 +1,10 @@
+mod Lists
+mod Rows
+mod Sameness
+mod Keys
+mod Entries
+mod Keyed
+mod Holding
+mod Truths
+mod Answering
+mod Looking

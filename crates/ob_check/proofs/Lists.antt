@@ -1,0 +1,34 @@
+-- Lists whose elements agree in what a function makes of them, and what holds of each element.
+use Rattle.std.proofs.Common.{◌≡◌, ℕ, ◌+◌, ◌-◌, ◌<◌, List, [], ◌∷◌, ◌++◌, map, take, drop, length, get_or, Contains, All, refl, sym, ap, ap₂, ◌∙◌, subst, arith, add-one, append_assoc, drop-cons, Result, Ok, Err, OnOk}
+use Rattle.std.specs.Prelude.{slice_range, OnErr}
+use Rattle.std.proofs.lemmas.List.{get_or_default, map-append, drop-drop, take-append-drop}
+
+-- where g agrees on the elements of two lists, so does what follows from it
+pub map_through : {A B C : Type 0} (g : A → B) (f : B → C) (xs ys : List A) → map g xs ≡ map g ys → map (λ x. f (g x)) xs ≡ map (λ x. f (g x)) ys
+map_through g f xs ys e = sym (maps g f xs) ∙ ap (map f) e ∙ maps g f ys where
+  maps : {A B C : Type 0} (g : A → B) (f : B → C) (xs : List A) → map f (map g xs) ≡ map (λ x. f (g x)) xs
+  maps g f [] = refl
+  maps g f (x ∷ xs) = ap (λ ys. f (g x) ∷ ys) (maps g f xs)
+
+pub All-from_contains : {X : Type 0} (P : X → Type 0) (xs : List X) → ((x : X) → Contains xs x → P x) → All P xs
+All-from_contains P xs f k d within = f (get_or xs k d) (k, within, get_or_default xs k (get_or xs k d) d within)
+
+-- one chunk more of what is left
+pub chunk_on : {X Y A : Type 0} (f : X → A) (g : Y → A) (all new chunk : List X) (ss : List Y) (start n : ℕ) → new ≡ all ++ chunk → map f chunk ≡ map g (slice_range ss start (start + n)) → map f all ++ map g (drop start ss) ≡ map g ss → map f new ++ map g (drop (start + n) ss) ≡ map g ss
+chunk_on f g all new chunk ss start n e h i =
+    let m : start + n - start ≡ n = omega arith in
+    let c : map f chunk ≡ map g (take n (drop start ss)) = h ∙ ap (λ k. map g (take k (drop start ss))) m in
+    ap (λ xs. map f xs ++ map g (drop (start + n) ss)) e
+    ∙ ap (λ xs. xs ++ map g (drop (start + n) ss)) (map-append f all chunk)
+    ∙ append_assoc (map f all) (map f chunk) (map g (drop (start + n) ss))
+    ∙ ap₂ (λ x y. map f all ++ (x ++ map g y)) c (sym (drop-drop n start ss))
+    ∙ ap (λ xs. map f all ++ xs) (sym (map-append g (take n (drop start ss)) (drop n (drop start ss))) ∙ ap (map g) (take-append-drop n (drop start ss)))
+    ∙ i
+
+-- what holds of a value in either case holds of it
+pub either_way : {X E V : Type 0} (r : Result X E) (Q : V → Type 0) (new made old : V) → OnOk r (new ≡ made) → OnErr r (new ≡ old) → Q made → Q old → Q new
+either_way (Ok x) Q new made old p q k l = subst Q (sym p) k
+either_way (Err e) Q new made old p q k l = subst Q (sym q) l
+
+pub item_at : {X : Type 0} (xs : List X) (i : ℕ) (x : X) → i < length xs → x ≡ get_or xs i x → drop i xs ≡ x ∷ drop (i + 1) xs
+item_at xs i x h e = drop-cons xs i x h ∙ ap₂ (λ y k. y ∷ drop k xs) (sym e) (sym (add-one i))

@@ -1,0 +1,6 @@
+pub mod Truth
+pub mod Rows
+pub mod Entries
+pub mod Held
+pub mod Systems
+pub mod Answers

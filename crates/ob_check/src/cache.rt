@@ -1,0 +1,87 @@
+//! The cache of verdicts.
+ghost use Rattle.std.specs.Prelude.{◌≡◌, All, IsTrue};
+ghost use Rattle.affine_forms.specs.System.{plain_system};
+ghost use Rattle.ob_check.specs.Truth.{IsTrueOf, is_small};
+
+use crate::copy::copy_of;
+use crate::found::Found;
+use crate::known::Known;
+use affine_forms::System;
+use affine_prover::Verdict;
+use lru::LruCache;
+use std::alloc::{AllocError, Global};
+use std::num::NonZeroUsize;
+
+/// The most systems whose verdicts are kept.
+const CAPACITY: usize = 1024;
+
+/// The most rows and equations together of a system whose verdict is kept.
+const MOST_ROWS: usize = 64;
+
+/// Whether the verdict on the system may be kept.
+fn is_small(s: &System) -> bool
+    ensures { result ≡ is_small (plain_system s.now) }
+{
+    s.equations.len() + s.rows.len() <= MOST_ROWS
+}
+
+/// The verdicts on at most 1,024 systems, of which each has at most 64 rows and equations together.
+/// Where there is no room for one more, the verdict that was not asked for the longest goes.
+#[derive(Drop)]
+pub struct Cache {
+    verdicts: LruCache<System, Verdict>,
+    ghost capacity: { verdicts.cap ≡ 1024 },
+    ghost all_true: { All (λ e. IsTrueOf (plain_system e.0) e.1) verdicts.entries },
+    ghost all_small: { All (λ e. IsTrue (is_small (plain_system e.0))) verdicts.entries },
+}
+
+impl Cache {
+    ghost use Rattle.std.specs.Prelude.{◌≡◌, [], map, fold, IfOk, OnOk};
+    ghost use Rattle.affine_forms.specs.System.{plain_system};
+    ghost use Rattle.ob_check.specs.Entries.{asked, is_missing, kept};
+    ghost use Rattle.ob_check.specs.Held.{held};
+    ghost use Rattle.ob_check.specs.Systems.{system_known, system_found, was_missing};
+
+    /// A cache that keeps nothing yet.
+    pub(crate) fn empty(alloc: Global) -> Result<Cache, AllocError>
+        ensures { IfOk result (λ c. held c ≡ []) }
+    {
+        let capacity = NonZeroUsize::new(CAPACITY).unwrap();
+        let verdicts = LruCache::new(alloc, capacity)?;
+        Ok(Cache { verdicts })
+    }
+
+    /// What the cache says of a system, which comes first from then on.
+    pub(crate) fn look_up<'a>(&mut self, system: &'a System) -> Found<'a>
+        ensures system { system_found result ≡ plain_system system.now }
+        ensures missing { was_missing result ≡ is_missing (held self.old) (plain_system system.now) }
+        ensures asked { held self.new ≡ asked (held self.old) (plain_system system.now) }
+    {
+        match self.verdicts.get(system).copied() {
+            Some(verdict) => Found::Kept(Known { system, verdict }),
+            None => Found::Missing(system),
+        }
+    }
+
+    /// Keeps a verdict, if its system is small enough.
+    fn keep(&mut self, alloc: Global, known: &Known<'_>) -> Result<(), AllocError>
+        ensures { OnOk result (held self.new ≡ kept (held self.old) (system_known known.now)) }
+    {
+        if !is_small(known.system) {
+            return Ok(());
+        }
+        let system = copy_of(alloc, known.system)?;
+        self.verdicts.put(system, known.verdict)?;
+        Ok(())
+    }
+
+    /// Keeps the verdicts on small systems, in order.
+    pub(crate) fn keep_all(&mut self, alloc: Global, all: &[Known<'_>]) -> Result<(), AllocError>
+        ensures { OnOk result (held self.new ≡ fold kept (held self.old) (map system_known all.now)) }
+    {
+        for known in all {
+            self.keep(alloc, known)?;
+        }
+        Ok(())
+    }
+}

@@ -1,0 +1,17 @@
+//! Decides lists of obligations: whether each system is shown to have no integer point, and else which is the first that is not.
+//! The verdicts on small systems are kept in a cache.
+#![tactic(auto)]
+
+mod answer;
+mod cache;
+mod copy;
+mod decide;
+mod found;
+mod gate;
+mod known;
+mod obligations;
+
+pub use answer::Answer;
+pub use cache::Cache;
+pub use gate::{Free, Gate};
+pub use obligations::{discharge, new_cache};

@@ -1,0 +1,99 @@
+//! Lists of obligations.
+ghost use Rattle.std.specs.Prelude.{◌≡◌, [], map, drop, IfOk, OnOk};
+ghost use Rattle.affine_prover.specs.Elimination.{elimination};
+ghost use Rattle.ob_check.specs.Truth.{IsTrueOf};
+ghost use Rattle.ob_check.specs.Systems.{systems_of, system_found, system_known, missing_of, ComesFirst, own_count};
+ghost use Rattle.ob_check.specs.Entries.{discharged};
+ghost use Rattle.ob_check.specs.Held.{held};
+ghost use Rattle.ob_check.specs.Answers.{is_refused, answer_of, ShownHasNoPoint};
+
+use crate::answer::Answer;
+use crate::cache::Cache;
+use crate::decide::decide_all;
+use crate::found::{Found, looked_up, missing};
+use crate::gate::Gate;
+use crate::known::Known;
+use affine_prover::Verdict;
+use affine_systems::Obligation;
+use std::alloc::{AllocError, Global};
+use std::thread::Threads;
+
+/// The verdict on a system that was looked up, where the decided ones go on at `next`.
+fn verdict_of(found: &Found<'_>, decided: &[Known<'_>], next: usize) -> Verdict
+    requires { ComesFirst found.now (drop next decided.now) }
+    ensures { IsTrueOf (system_found found.now) result }
+{
+    match found {
+        Found::Kept(known) => known.verdict,
+        Found::Missing(_) => decided[next].verdict,
+    }
+}
+
+/// Whether a verdict leaves it open that the system has no integer point.
+fn is_refused(verdict: Verdict) -> bool
+    ensures { result ≡ is_refused verdict }
+{
+    match verdict {
+        Verdict::Shown => false,
+        Verdict::Open => true,
+        Verdict::TooMany => true,
+        Verdict::TooWide => true,
+    }
+}
+
+/// How many of the decided systems are its own.
+fn own_count(found: &Found<'_>) -> usize
+    ensures { result ≡ own_count found.now }
+{
+    match found {
+        Found::Kept(_) => 0,
+        Found::Missing(_) => 1,
+    }
+}
+
+/// The answer on what was found, where the missing systems are decided in order.
+fn answer(found: &[Found<'_>], decided: &[Known<'_>]) -> Answer
+    requires { map system_known decided.now ≡ missing_of found.now }
+    ensures exact { result ≡ answer_of (map elimination (map system_found found.now)) }
+    ensures shown { ShownHasNoPoint (map system_found found.now) result }
+{
+    let mut next = 0;
+    for (index, f) in found.iter().enumerate() {
+        let verdict = verdict_of(f, decided, next);
+        if is_refused(verdict) {
+            return Answer::First { index, verdict };
+        }
+        next += own_count(f);
+    }
+    Answer::AllShown
+}
+
+/// A cache that keeps nothing yet.
+pub fn new_cache(alloc: Global) -> Result<Cache, AllocError>
+    ensures { IfOk result (λ c. held c ≡ []) }
+{
+    Cache::empty(alloc)
+}
+
+/// Decides obligations: whether each system is shown to have no integer point, and else which is the first that is not.
+///
+/// Each system is looked up in the cache, in order. Those that it does not know are cut into chunks of a sixteenth of their
+/// number, rounded up, and at least 16; the gate is told before the work on a chunk. Then the cache keeps the verdicts on
+/// those of at most 64 rows and equations together, in order. What the cache held changes no answer.
+pub fn discharge<R: Threads + Sync, G: Gate>(
+    _rt: &R,
+    alloc: Global,
+    obs: &[Obligation],
+    cache: &mut Cache,
+    gate: &G,
+) -> Result<Answer, AllocError>
+    ensures exact { IfOk result (λ a. a ≡ answer_of (map elimination (systems_of obs.now))) }
+    ensures shown { IfOk result (ShownHasNoPoint (systems_of obs.now)) }
+    ensures held { OnOk result (held cache.new ≡ discharged (held cache.old) (systems_of obs.now)) }
+{
+    let found = looked_up(alloc, obs, cache)?;
+    let missing = missing(alloc, &found)?;
+    let decided = decide_all(alloc, &missing, gate)?;
+    cache.keep_all(alloc, &decided)?;
+    Ok(answer(&found, &decided))
+}
