@@ -1,0 +1,5 @@
+pub mod SelfContained
+pub mod Scope
+pub mod Naming
+pub mod Heads
+pub mod Refusals

@@ -1,0 +1,223 @@
+//! The C of statements and blocks.
+ghost use Rattle.std.specs.Prelude.{◌≡◌, map, true, IfOk, OnOk};
+ghost use Rattle.exo_tree.specs.Tree.{I32, If, For, Config, block};
+ghost use Rattle.exo_tree.specs.PlainBinder.{cell_type, binding};
+ghost use Rattle.exo_tree.specs.PlainControl.{control, condition};
+ghost use Rattle.exo_tree.specs.PlainDatum.{datum};
+ghost use Rattle.exo_tree.specs.PlainArgument.{argument};
+ghost use Rattle.exo_tree.specs.PlainStatement.{statement};
+ghost use Rattle.c_printer.specs.CTree.{cblock, followed_by};
+ghost use Rattle.c_printer.specs.Plain.{plain_type, plain_cell, plain_data, plain_statement};
+ghost use Rattle.c_printer.specs.Lowered.{cell_in, cell_at_of, number32_of, forms_after, block_of};
+ghost use Rattle.c_lowering.specs.Scope.{forms_in};
+ghost use Rattle.c_lowering.specs.Naming.{naming_of};
+ghost use Rattle.c_lowering.specs.Heads.{allocation, head_of, end_of, frees};
+ghost use Rattle.c_lowering.specs.SelfContained.{is_value, is_alone, is_alone_block};
+
+use crate::expressions::{
+    Names, c_type, cell_type, lower_cell, lower_data, lower_number, lower_product, lower_test,
+    lower_value,
+};
+use crate::scope::{Entry, Form};
+use c_printer::tree::{CBlock, CCell, CData, CStatement, CType};
+use exo_tree::{Arg, Binder, Block, Cell, Cond, Ctrl, DataExpr, FieldId, Id, Indices, Stmt};
+use std::alloc::{AllocError, Global};
+
+/// The C of an allocation: one cell is on the stack, more are on the heap.
+fn lower_alloc(
+    alloc: Global,
+    names: &Names<'_>,
+    x: &Binder,
+    cell: Cell,
+    dims: &Indices,
+) -> Result<CStatement, AllocError>
+    ensures { IfOk result (λ c. plain_statement c ≡ allocation (naming_of names.now) x.now.id.0 (cell_type cell) dims.now) }
+{
+    let name = names.binder(alloc, x.id)?;
+    if dims.len() == 0 {
+        return Ok(CStatement::Array(c_type(cell), name, 1));
+    }
+    let count = lower_product(alloc, names, dims.as_slice())?;
+    Ok(CStatement::Malloc(c_type(cell), name, count))
+}
+
+/// The C of a store: the type, the cell and the number.
+fn lower_store(
+    alloc: Global,
+    names: &Names<'_>,
+    scope: &[Entry<'_>],
+    x: Id,
+    is: &Indices,
+    e: &DataExpr,
+) -> Result<(CType, CCell, CData), AllocError>
+    ensures cell_type { IfOk result (λ r. plain_type r.0 ≡ cell_in (forms_in scope.now x.0) I32) }
+    ensures cell { IfOk result (λ r. plain_cell r.1 ≡ cell_at_of (naming_of names.now) (forms_in scope.now) x.0 is.now) }
+    ensures value { IfOk result (λ r. plain_data r.2 ≡ number32_of (naming_of names.now) (forms_in scope.now) (datum e.now)) }
+{
+    let cell = lower_cell(alloc, names, scope, x, is)?;
+    let value = lower_data(alloc, names, scope, e)?;
+    Ok((cell_type(scope, x), cell, value))
+}
+
+/// The names in scope, in a list of its own.
+fn inner_scope<'a>(alloc: Global, scope: &[Entry<'a>]) -> Result<Vec<Entry<'a>>, AllocError>
+    ensures { IfOk result (λ v. v.items ≡ scope.now) }
+{
+    let mut all = Vec::new(alloc);
+    all.extend_from_slice(scope)?;
+    Ok(all)
+}
+
+/// The C of a condition with its branches.
+#[cycle(lower)]
+fn lower_branch(
+    alloc: Global,
+    names: &Names<'_>,
+    scope: &[Entry<'_>],
+    c: &Cond,
+    a: &Block,
+    b: &Block,
+) -> Result<CStatement, AllocError>
+    requires then { is_alone_block names.now.unit.now.memories (block a.now) ≡ true }
+    requires other { is_alone_block names.now.unit.now.memories (block b.now) ≡ true }
+    ensures { IfOk result (λ s. plain_statement s ≡ head_of (naming_of names.now) (forms_in scope.now) (If (condition c.now) (block a.now) (block b.now))) }
+{
+    let test = lower_test(alloc, names, scope, c)?;
+    let then = lower_block(alloc, names, scope, a)?;
+    let other = lower_block(alloc, names, scope, b)?;
+    Ok(CStatement::Branch(test, then, other))
+}
+
+/// The C of a loop.
+#[cycle(lower)]
+fn lower_loop(
+    alloc: Global,
+    names: &Names<'_>,
+    scope: &[Entry<'_>],
+    i: &Binder,
+    lo: &Ctrl,
+    hi: &Ctrl,
+    body: &Block,
+) -> Result<CStatement, AllocError>
+    requires { is_alone_block names.now.unit.now.memories (block body.now) ≡ true }
+    ensures { IfOk result (λ s. plain_statement s ≡ head_of (naming_of names.now) (forms_in scope.now) (For (binding i.now) (control lo.now) (control hi.now) (block body.now))) }
+{
+    let mut inner = inner_scope(alloc, scope)?;
+    inner.push(Entry {
+        id: i.id,
+        form: Form::Number,
+    })?;
+    let counter = names.binder(alloc, i.id)?;
+    let low = lower_number(alloc, names, scope, lo)?;
+    let high = lower_number(alloc, names, scope, hi)?;
+    let body = lower_block(alloc, names, &inner, body)?;
+    Ok(CStatement::Loop(counter, low, high, body))
+}
+
+/// The C statement that stands in a statement's place.
+#[cycle(lower)]
+fn lower_statement(
+    alloc: Global,
+    names: &Names<'_>,
+    scope: &[Entry<'_>],
+    s: &Stmt,
+) -> Result<CStatement, AllocError>
+    requires { is_alone names.now.unit.now.memories (statement s.now) ≡ true }
+    ensures { IfOk result (λ s. plain_statement s ≡ head_of (naming_of names.now) (forms_in scope.now) (statement s.now)) }
+{
+    match s {
+        Stmt::Assign(x, is, e) => {
+            let (t, cell, value) = lower_store(alloc, names, scope, *x, is, e)?;
+            Ok(CStatement::Store(t, cell, value))
+        }
+        Stmt::Reduce(x, is, e) => {
+            let (t, cell, value) = lower_store(alloc, names, scope, *x, is, e)?;
+            Ok(CStatement::AddTo(t, cell, value))
+        }
+        Stmt::Config(f, a) => lower_config(alloc, names, scope, *f, a),
+        Stmt::Pass => Ok(CStatement::Empty),
+        Stmt::If(c, a, b) => lower_branch(alloc, names, scope, c, a, b),
+        Stmt::For(i, lo, hi, body) => lower_loop(alloc, names, scope, i, lo, hi, body),
+        Stmt::Alloc(x, cell, dims, _) => lower_alloc(alloc, names, x, *cell, dims),
+        Stmt::View(_, _, _) | Stmt::Call(_, _) => unreachable!(),
+    }
+}
+
+/// The C of a configuration write.
+fn lower_config(
+    alloc: Global,
+    names: &Names<'_>,
+    scope: &[Entry<'_>],
+    f: FieldId,
+    a: &Arg,
+) -> Result<CStatement, AllocError>
+    requires { is_value (argument a.now) ≡ true }
+    ensures { IfOk result (λ s. plain_statement s ≡ head_of (naming_of names.now) (forms_in scope.now) (Config f.0 (argument a.now))) }
+{
+    let field = names.field(alloc, f)?;
+    Ok(CStatement::SetField(field, lower_value(alloc, names, scope, a)?))
+}
+
+/// The buffers of a block are freed, the last first.
+fn put_frees(
+    alloc: Global,
+    names: &Names<'_>,
+    made: &mut CBlock,
+    buffers: &[Id],
+) -> Result<(), AllocError>
+    ensures { OnOk result (cblock made.new ≡ followed_by (cblock made.old) (frees (naming_of names.now) (map (λ x. x.0) buffers.now))) }
+{
+    for k in 0..buffers.len() {
+        let x = buffers[buffers.len() - 1 - k];
+        made.push(CStatement::Free(names.binder(alloc, x)?))?;
+    }
+    Ok(())
+}
+
+/// An allocation comes into scope, and is freed at the end of its block where it is on the heap.
+fn open_scope<'a>(
+    names: &Names<'_>,
+    s: &'a Stmt,
+    scope: &mut Vec<Entry<'a>>,
+    buffers: &mut Vec<Id>,
+) -> Result<(), AllocError>
+    requires { is_alone names.now.unit.now.memories (statement s.now) ≡ true }
+    ensures forms { OnOk result (forms_in scope.new.items ≡ forms_after (naming_of names.now) (statement s.now) (forms_in scope.old.items)) }
+    ensures ends { OnOk result (frees (naming_of names.now) (map (λ x. x.0) buffers.new.items) ≡ followed_by (end_of (naming_of names.now) (statement s.now)) (frees (naming_of names.now) (map (λ x. x.0) buffers.old.items))) }
+{
+    let _ = names;
+    let Stmt::Alloc(x, cell, dims, _) = s else {
+        return Ok(());
+    };
+    scope.push(Entry {
+        id: x.id,
+        form: Form::Tensor(*cell, dims),
+    })?;
+    if dims.len() != 0 {
+        buffers.push(x.id)?;
+    }
+    Ok(())
+}
+
+/// The C of a block.
+#[cycle(lower)]
+pub(crate) fn lower_block(
+    alloc: Global,
+    names: &Names<'_>,
+    scope: &[Entry<'_>],
+    b: &Block,
+) -> Result<CBlock, AllocError>
+    requires { is_alone_block names.now.unit.now.memories (block b.now) ≡ true }
+    ensures { IfOk result (λ c. cblock c ≡ block_of (naming_of names.now) (forms_in scope.now) (block b.now)) }
+{
+    let mut inner = inner_scope(alloc, scope)?;
+    let mut buffers = Vec::new(alloc);
+    let mut made = CBlock::new(alloc);
+    for k in 0..b.len() {
+        let s = b.statement(k);
+        made.push(lower_statement(alloc, names, &inner, s)?)?;
+        open_scope(names, s, &mut inner, &mut buffers)?;
+    }
+    put_frees(alloc, names, &mut made, &buffers)?;
+    Ok(made)
+}
