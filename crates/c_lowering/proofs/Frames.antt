@@ -1,16 +1,13 @@
 -- A statement's C in two parts, and blocks put together from them.
-use Rattle.std.proofs.Common.{◌≡◌, ◌+◌, ◌==◌, ℕ, ℤ, Bool, true, false, not, ◌&&◌, ◌||◌, if◌then◌else◌, List, [], ◌∷◌, ◌++◌, Option, Some, None, refl, sym, ap, ap₂, ◌∙◌, true≢false, eqb-true}
-use Rattle.std.proofs.lemmas.Bool.{and_parts}
-use Rattle.exo_tree.specs.Tree.{Statement, Assign, Reduce, Config, Pass, If, For, Alloc, View, Call, MemoryKind}
+use Rattle.std.proofs.Common.{◌≡◌, ℕ, ℤ, Bool, true, false, not, ◌&&◌, ◌||◌, ◌==◌, if◌then◌else◌, List, [], ◌∷◌, ◌++◌, Option, Some, None, refl, sym, ap, ap₂, ◌∙◌, eqb-true}
+use Rattle.std.proofs.lemmas.Bool.{and_parts, false≢true}
+use Rattle.exo_tree.specs.Tree.{Binder, Cell, Control, Statement, Assign, Reduce, Config, Pass, If, For, Alloc, View, Call, Block, end, next, block, MemoryKind, Program}
 use Rattle.exo_meaning.specs.Scene.{updated}
-use Rattle.c_printer.specs.CTree.{Name, Number64, Element, Single, Vector, CStatement, Array, Malloc, Free, CBlock, stop, first, followed_by}
-use Rattle.c_printer.specs.Lowered as lowered
-use Rattle.c_printer.specs.Lowered.{Naming, Forms, Memory, allocated, before, is_empty}
-use Rattle.c_printer.specs.LoweredUnit.{memory_of}
-use Rattle.c_lowering.specs.SelfContained.{is_heap}
-use Rattle.c_lowering.specs.Heads.{is_on_stack, made, head_of, freed, end_of, frees}
-use Rattle.c_lowering.specs.Scope.{form_of, found_in, forms_in}
-use Rattle.c_lowering.specs.declared.scope.Entry.{Entry}
+use Rattle.c_printer.specs.CTree.{Name, Number64, Element, Single, Vector, CStatement, Array, Malloc, Free, CBlock, stop, first, followed_by, cblock}
+use Rattle.c_printer.specs.Lowered.{Naming, Forms, TensorForm, Memory, allocated, before, block_of, forms_after, dims_of, product_of, literals, without_lanes, is_empty}
+use Rattle.c_printer.specs.LoweredUnit.{memory_of, naming_in}
+use Rattle.c_lowering.specs.SelfContained.{is_heap, is_alone, is_alone_block}
+use Rattle.c_lowering.specs.Heads.{is_on_stack, made, allocation, head_of, freed, end_of, scope_after, heaped, frees}
 
 pub followed_by_stop : (c : CBlock) → followed_by c stop ≡ c
 followed_by_stop stop = refl
@@ -20,11 +17,72 @@ pub followed_by_assoc : (a b c : CBlock) → followed_by (followed_by a b) c ≡
 followed_by_assoc stop b c = refl
 followed_by_assoc (first s a) b c = ap (first s) (followed_by_assoc a b c)
 
-alloc_head : (t : Bool) (e : Element) (x : Name) (n : ℤ) (a : Number64) (rest : CBlock) → allocated t e x n a rest ≡ first (made t (Array e x n) (Malloc e x a)) (followed_by rest (freed t x))
-alloc_head true e x n a rest = ap (first (Array e x n)) (sym (followed_by_stop rest))
-alloc_head false e x n a rest = refl
+-- ---- memories of cells on the heap
 
--- the statement that stands in its place, the rest, and what stands at the end
+-- single cells, not on the stack
+pub record IsPlainMemory (m : Memory) : Type 0 where
+  pub no_lanes : m.lanes ≡ 0
+  pub on_heap : m.stack ≡ false
+
+off : (b : Bool) → not b ≡ true → b ≡ false
+off true e = sym e
+off false e = refl
+
+pub heap_memory : (o : Option MemoryKind) → is_heap o ≡ true → IsPlainMemory (memory_of o)
+heap_memory None h = record { no_lanes = refl; on_heap = refl }
+heap_memory (Some m) h =
+    let p = and_parts (m.lanes == 0) (not m.stack) h in record { no_lanes = eqb-true m.lanes 0 p.0; on_heap = off m.stack p.1 }
+
+abbrev chosen : Naming → ℕ → Cell → List Control → Name → ℕ → Bool → CStatement
+chosen naming x cell dims ctype lanes stack =
+    let e = (if lanes == 0 then Single cell else Vector ctype lanes cell) in
+    made (stack || is_empty dims) (Array e (naming.binder x) (literals (without_lanes lanes dims))) (Malloc e (naming.binder x) (product_of (dims_of naming (without_lanes lanes dims))))
+
+chosen_is : (naming : Naming) (x : ℕ) (cell : Cell) (dims : List Control) (ctype : Name) → chosen naming x cell dims ctype 0 false ≡ allocation naming x cell dims
+chosen_is naming x cell [] ctype = refl
+chosen_is naming x cell (d ∷ ds) ctype = refl
+
+pub alloc_head : (naming : Naming) (forms : Forms) (x : Binder) (cell : Cell) (dims : List Control) (memory : ℕ) → IsPlainMemory (naming.memory memory) → head_of naming forms (Alloc x cell dims memory) ≡ allocation naming x.id cell dims
+alloc_head naming forms x cell dims memory p = ap₂ (λ lanes stack. chosen naming x.id cell dims (naming.memory memory).ctype lanes stack) p.no_lanes p.on_heap ∙ chosen_is naming x.id cell dims (naming.memory memory).ctype
+
+ends_by : (naming : Naming) (x : Binder) (cell : Cell) (dims : List Control) (memory : ℕ) → freed (false || is_empty dims) (naming.binder x.id) ≡ frees naming (heaped (Alloc x cell dims memory))
+ends_by naming x cell [] memory = refl
+ends_by naming x cell (d ∷ ds) memory = refl
+
+alloc_end : (naming : Naming) (x : Binder) (cell : Cell) (dims : List Control) (memory : ℕ) → IsPlainMemory (naming.memory memory) → end_of naming (Alloc x cell dims memory) ≡ frees naming (heaped (Alloc x cell dims memory))
+alloc_end naming x cell dims memory p = ap (λ stack. freed (stack || is_empty dims) (naming.binder x.id)) p.on_heap ∙ ends_by naming x cell dims memory
+
+-- ---- statements that stand by themselves
+
+-- what stands at the end of the block frees the buffer
+pub end_is : (program : Program) (table : List Binder) (a : Statement) → is_alone program.memories a ≡ true → end_of (naming_in program table) a ≡ frees (naming_in program table) (heaped a)
+end_is program table (Assign x is e) h = refl
+end_is program table (Reduce x is e) h = refl
+end_is program table (Config f a) h = refl
+end_is program table Pass h = refl
+end_is program table (If c a b) h = refl
+end_is program table (For i lo hi b) h = refl
+end_is program table (Alloc x cell dims memory) h = alloc_end (naming_in program table) x cell dims memory (heap_memory _ h)
+end_is program table (View w x coords) h = refl
+end_is program table (Call k args) h = refl
+
+pub scope_is : (program : Program) (table : List Binder) (forms : Forms) (a : Statement) → is_alone program.memories a ≡ true → forms_after (naming_in program table) a forms ≡ scope_after a forms
+scope_is program table forms (Assign x is e) h = refl
+scope_is program table forms (Reduce x is e) h = refl
+scope_is program table forms (Config f a) h = refl
+scope_is program table forms Pass h = refl
+scope_is program table forms (If c a b) h = refl
+scope_is program table forms (For i lo hi b) h = refl
+scope_is program table forms (Alloc x cell dims memory) h = ap (λ lanes. updated forms x.id (TensorForm cell dims lanes)) (heap_memory _ h).no_lanes
+scope_is program table forms (View w x coords) h = absurd (false≢true h)
+scope_is program table forms (Call k args) h = refl
+
+-- ---- the statement that stands in its place, the rest, and what stands at the end
+
+alloc_parts : (t : Bool) (e : Element) (x : Name) (n : ℤ) (a : Number64) (rest : CBlock) → allocated t e x n a rest ≡ first (made t (Array e x n) (Malloc e x a)) (followed_by rest (freed t x))
+alloc_parts true e x n a rest = ap (first (Array e x n)) (sym (followed_by_stop rest))
+alloc_parts false e x n a rest = refl
+
 pub in_two : (naming : Naming) (forms : Forms) (a : Statement) (rest : CBlock) → before naming forms a rest ≡ first (head_of naming forms a) (followed_by rest (end_of naming a))
 in_two naming forms (Assign x is e) rest = ap (first (head_of naming forms (Assign x is e))) (sym (followed_by_stop rest))
 in_two naming forms (Reduce x is e) rest = ap (first (head_of naming forms (Reduce x is e))) (sym (followed_by_stop rest))
@@ -32,37 +90,42 @@ in_two naming forms (Config f a) rest = ap (first (head_of naming forms (Config 
 in_two naming forms Pass rest = ap (first (head_of naming forms Pass)) (sym (followed_by_stop rest))
 in_two naming forms (If c a b) rest = ap (first (head_of naming forms (If c a b))) (sym (followed_by_stop rest))
 in_two naming forms (For i lo hi b) rest = ap (first (head_of naming forms (For i lo hi b))) (sym (followed_by_stop rest))
-in_two naming forms (Alloc x cell dims memory) rest = alloc_head (is_on_stack naming memory dims) _ _ _ _ rest
+in_two naming forms (Alloc x cell dims memory) rest = alloc_parts (is_on_stack naming memory dims) _ _ _ _ rest
 in_two naming forms (View w x coords) rest = ap (first (head_of naming forms (View w x coords))) (sym (followed_by_stop rest))
 in_two naming forms (Call k args) rest = ap (first (head_of naming forms (Call k args))) (sym (followed_by_stop rest))
 
--- the last buffer is freed first
-pub frees_more : (naming : Naming) (xs : List ℕ) (x : ℕ) → frees naming (xs ++ x ∷ []) ≡ first (Free (naming.binder x)) (frees naming xs)
-frees_more naming [] x = refl
-frees_more naming (y ∷ xs) x = ap (λ c. followed_by c (first (Free (naming.binder y)) stop)) (frees_more naming xs x)
+-- ---- blocks
+
+pub cblock_push : (made : List CStatement) (c : CStatement) → cblock (made ++ c ∷ []) ≡ followed_by (cblock made) (first c stop)
+cblock_push [] c = refl
+cblock_push (a ∷ made) c = ap (first a) (cblock_push made c)
+
+-- the later buffers are freed first
+pub frees_append : (naming : Naming) (xs ys : List ℕ) → frees naming (xs ++ ys) ≡ followed_by (frees naming ys) (frees naming xs)
+frees_append naming [] ys = sym (followed_by_stop (frees naming ys))
+frees_append naming (x ∷ xs) ys = ap (λ c. followed_by c (first (Free (naming.binder x)) stop)) (frees_append naming xs ys) ∙ followed_by_assoc (frees naming ys) (frees naming xs) (first (Free (naming.binder x)) stop)
 
 -- one statement more
-pub one_more : (made whole : CBlock) (head : CStatement) (x e f g : CBlock) → followed_by e f ≡ g → followed_by made (followed_by (first head (followed_by x e)) f) ≡ whole → followed_by (followed_by made (first head stop)) (followed_by x g) ≡ whole
-one_more made whole head x e f g h k =
-    followed_by_assoc made (first head stop) (followed_by x g)
-    ∙ ap (λ c. followed_by made (first head c)) (ap (followed_by x) (sym h) ∙ sym (followed_by_assoc x e f))
-    ∙ k
+one_more : (made : CBlock) (head : CStatement) (x e f : CBlock) → followed_by made (followed_by (first head (followed_by x e)) f) ≡ followed_by (followed_by made (first head stop)) (followed_by x (followed_by e f))
+one_more made head x e f = ap (λ c. followed_by made (first head c)) (followed_by_assoc x e f) ∙ sym (followed_by_assoc made (first head stop) (followed_by x (followed_by e f)))
 
--- ---- memories of cells on the heap
+-- what is left of a block that stands by itself does too
+pub still_alone : (memories : List MemoryKind) (a : Statement) (rest ss : List Statement) → ss ≡ a ∷ rest → is_alone_block memories (block ss) ≡ true → (is_alone memories a ≡ true) × (is_alone_block memories (block rest) ≡ true)
+still_alone memories a rest ss e h = and_parts (is_alone memories a) (is_alone_block memories (block rest)) (ap (λ l. is_alone_block memories (block l)) (sym e) ∙ h)
 
-pub heap_memory : (o : Option MemoryKind) → is_heap o ≡ true → ((memory_of o).lanes ≡ 0) × ((memory_of o).stack ≡ false)
-heap_memory None h = (refl, refl)
-heap_memory (Some m) h = let p = and_parts (m.lanes == 0) (not m.stack) h in (eqb-true m.lanes 0 p.0, off m.stack p.1)
-  where
-    off : (b : Bool) → not b ≡ true → b ≡ false
-    off true e = sym e
-    off false e = refl
+-- what is made, the C of what is left and the ends stay the same together
+pub next_made : (program : Program) (table : List Binder) (forms later : Forms) (a : Statement) (rest ss : List Statement) (made more : List CStatement) (c : CStatement) (xs ys : List ℕ) (whole : CBlock) → ss ≡ a ∷ rest → is_alone program.memories a ≡ true → c ≡ head_of (naming_in program table) forms a → more ≡ made ++ c ∷ [] → later ≡ scope_after a forms → ys ≡ xs ++ heaped a → followed_by (cblock made) (followed_by (block_of (naming_in program table) forms (block ss)) (frees (naming_in program table) xs)) ≡ whole → followed_by (cblock more) (followed_by (block_of (naming_in program table) later (block rest)) (frees (naming_in program table) ys)) ≡ whole
+next_made program table forms later a rest ss made more c xs ys whole is alone head pushed scope buffers before_it =
+    let naming = naming_in program table in
+    let made_is : cblock more ≡ followed_by (cblock made) (first (head_of naming forms a) stop) = ap cblock pushed ∙ cblock_push made c ∙ ap (λ s. followed_by (cblock made) (first s stop)) head in
+    let forms_are : later ≡ forms_after naming a forms = scope ∙ sym (scope_is program table forms a alone) in
+    let ends_are : frees naming ys ≡ followed_by (end_of naming a) (frees naming xs) = ap (frees naming) buffers ∙ frees_append naming xs (heaped a) ∙ ap (λ e. followed_by e (frees naming xs)) (sym (end_is program table a alone)) in
+    let parts : block_of naming forms (block ss) ≡ first (head_of naming forms a) (followed_by (block_of naming (forms_after naming a forms) (block rest)) (end_of naming a)) = ap (λ l. block_of naming forms (block l)) is ∙ in_two naming forms a (block_of naming (forms_after naming a forms) (block rest)) in
+    ap₂ (λ m r. followed_by m r) made_is (ap₂ (λ f e. followed_by (block_of naming f (block rest)) e) forms_are ends_are)
+    ∙ sym (one_more (cblock made) (head_of naming forms a) (block_of naming (forms_after naming a forms) (block rest)) (end_of naming a) (frees naming xs))
+    ∙ ap (λ b. followed_by (cblock made) (followed_by b (frees naming xs))) (sym parts)
+    ∙ before_it
 
--- ---- names in scope
-
-found_more : (found : lowered.Form) (es : List Entry) (e : Entry) (x : ℕ) → found_in found (es ++ e ∷ []) x ≡ (if x == e.id.0 then form_of e.form else found_in found es x)
-found_more found [] e x = refl
-found_more found (d ∷ es) e x = found_more (if x == d.id.0 then form_of d.form else found) es e x
-
-pub forms_more : (es : List Entry) (e : Entry) → forms_in (es ++ e ∷ []) ≡ updated (forms_in es) e.id.0 (form_of e.form)
-forms_more es e = λ i x. found_more lowered.NoForm es e x i
+-- nothing is left
+pub all_made : (naming : Naming) (forms : Forms) (ss : List Statement) (made : CBlock) (xs : List ℕ) (whole : CBlock) → ss ≡ [] → followed_by made (followed_by (block_of naming forms (block ss)) (frees naming xs)) ≡ whole → followed_by made (frees naming xs) ≡ whole
+all_made naming forms ss made xs whole e h = ap (λ l. followed_by made (followed_by (block_of naming forms (block l)) (frees naming xs))) (sym e) ∙ h

@@ -1,2 +1,4 @@
 pub mod Frames
+pub mod Scopes
+pub mod Offsets
 pub mod Maps

@@ -3,7 +3,7 @@ use Rattle.std.specs.Prelude.{ℕ, pos, Bool, true, false, ◌||◌, List, [], �
 use Rattle.exo_tree.specs.Tree.{Cell, I32, Index, Control, Statement, Assign, Reduce, Config, Pass, If, For, Alloc, View, Call, ControlParam}
 use Rattle.exo_meaning.specs.Scene.{updated}
 use Rattle.c_printer.specs.CTree.{Name, Element, Single, CStatement, Store, AddTo, SetField, Empty, Branch, Loop, Array, Malloc, Free, CBlock, stop, first, followed_by}
-use Rattle.c_printer.specs.Lowered.{Memory, Naming, Forms, NumberForm, cell_in, cell_at_of, number32_of, number_of, test_of, actual_of, actuals_of, window_of, bind_of, call_of, dims_of, product_of, without_lanes, literals, element_of, is_empty, block_of}
+use Rattle.c_printer.specs.Lowered.{Memory, Naming, Forms, NumberForm, TensorForm, cell_in, cell_at_of, number32_of, number_of, test_of, actual_of, actuals_of, window_of, bind_of, call_of, dims_of, product_of, without_lanes, literals, element_of, is_empty, block_of}
 
 -- whether an allocation is on the stack: where its memory is, or where it is one cell
 abbrev pub is_on_stack : Naming → ℕ → List Control → Bool
@@ -42,6 +42,17 @@ freed false x = first (Free x) stop
 abbrev pub end_of : Naming → Statement → CBlock
 end_of naming (Alloc x cell dims memory) = freed (is_on_stack naming memory dims) (naming.binder x.id)
 end_of naming a = stop
+
+-- the names in scope after a statement, where buffers are of single cells
+abbrev pub scope_after : Statement → Forms → Forms
+scope_after (Alloc x cell dims memory) forms = updated forms x.id (TensorForm cell dims 0)
+scope_after a forms = forms
+
+-- the buffer that a statement puts on the heap
+abbrev pub heaped : Statement → List ℕ
+heaped (Alloc x cell [] memory) = []
+heaped (Alloc x cell (d ∷ ds) memory) = x.id ∷ []
+heaped a = []
 
 -- the buffers of a block are freed, the last first
 abbrev pub frees : Naming → List ℕ → CBlock

@@ -1,5 +1,5 @@
 //! The C of statements and blocks.
-ghost use Rattle.std.specs.Prelude.{◌≡◌, map, true, IfOk, OnOk};
+ghost use Rattle.std.specs.Prelude.{◌≡◌, ◌++◌, map, true, IfOk, OnOk};
 ghost use Rattle.exo_tree.specs.Tree.{I32, If, For, Config, block};
 ghost use Rattle.exo_tree.specs.PlainBinder.{cell_type, binding};
 ghost use Rattle.exo_tree.specs.PlainControl.{control, condition};
@@ -8,17 +8,16 @@ ghost use Rattle.exo_tree.specs.PlainArgument.{argument};
 ghost use Rattle.exo_tree.specs.PlainStatement.{statement};
 ghost use Rattle.c_printer.specs.CTree.{cblock, followed_by};
 ghost use Rattle.c_printer.specs.Plain.{plain_type, plain_cell, plain_data, plain_statement};
-ghost use Rattle.c_printer.specs.Lowered.{cell_in, cell_at_of, number32_of, forms_after, block_of};
+ghost use Rattle.c_printer.specs.Lowered.{cell_in, cell_at_of, number32_of, block_of};
 ghost use Rattle.c_lowering.specs.Scope.{forms_in};
 ghost use Rattle.c_lowering.specs.Naming.{naming_of};
-ghost use Rattle.c_lowering.specs.Heads.{allocation, head_of, end_of, frees};
+ghost use Rattle.c_lowering.specs.Heads.{allocation, head_of, scope_after, heaped, frees};
 ghost use Rattle.c_lowering.specs.SelfContained.{is_value, is_alone, is_alone_block};
 
-use crate::expressions::{
-    Names, c_type, cell_type, lower_cell, lower_data, lower_number, lower_product, lower_test,
-    lower_value,
-};
-use crate::scope::{Entry, Form};
+use crate::expressions::{lower_cell, lower_data, lower_test, lower_value};
+use crate::names::Names;
+use crate::numbers::{lower_number, lower_product};
+use crate::scope::{Entry, Form, c_type, cell_type, inner_scope};
 use c_printer::tree::{CBlock, CCell, CData, CStatement, CType};
 use exo_tree::{Arg, Binder, Block, Cell, Cond, Ctrl, DataExpr, FieldId, Id, Indices, Stmt};
 use std::alloc::{AllocError, Global};
@@ -59,15 +58,6 @@ fn lower_store(
     Ok((cell_type(scope, x), cell, value))
 }
 
-/// The names in scope, in a list of its own.
-fn inner_scope<'a>(alloc: Global, scope: &[Entry<'a>]) -> Result<Vec<Entry<'a>>, AllocError>
-    ensures { IfOk result (λ v. v.items ≡ scope.now) }
-{
-    let mut all = Vec::new(alloc);
-    all.extend_from_slice(scope)?;
-    Ok(all)
-}
-
 /// The C of a condition with its branches.
 #[cycle(lower)]
 fn lower_branch(
@@ -78,14 +68,14 @@ fn lower_branch(
     a: &Block,
     b: &Block,
 ) -> Result<CStatement, AllocError>
-    requires then { is_alone_block names.now.unit.now.memories (block a.now) ≡ true }
+    requires main { is_alone_block names.now.unit.now.memories (block a.now) ≡ true }
     requires other { is_alone_block names.now.unit.now.memories (block b.now) ≡ true }
     ensures { IfOk result (λ s. plain_statement s ≡ head_of (naming_of names.now) (forms_in scope.now) (If (condition c.now) (block a.now) (block b.now))) }
 {
     let test = lower_test(alloc, names, scope, c)?;
-    let then = lower_block(alloc, names, scope, a)?;
+    let main = lower_block(alloc, names, scope, a)?;
     let other = lower_block(alloc, names, scope, b)?;
-    Ok(CStatement::Branch(test, then, other))
+    Ok(CStatement::Branch(test, main, other))
 }
 
 /// The C of a loop.
@@ -169,30 +159,29 @@ fn put_frees(
 {
     for k in 0..buffers.len() {
         let x = buffers[buffers.len() - 1 - k];
-        made.push(CStatement::Free(names.binder(alloc, x)?))?;
+        let name = names.binder(alloc, x)?;
+        made.push(CStatement::Free(name))?;
     }
     Ok(())
 }
 
-/// An allocation comes into scope, and is freed at the end of its block where it is on the heap.
+/// An allocation comes into scope, and is one of the buffers to free where it is on the heap.
 fn open_scope<'a>(
-    names: &Names<'_>,
     s: &'a Stmt,
     scope: &mut Vec<Entry<'a>>,
     buffers: &mut Vec<Id>,
 ) -> Result<(), AllocError>
-    requires { is_alone names.now.unit.now.memories (statement s.now) ≡ true }
-    ensures forms { OnOk result (forms_in scope.new.items ≡ forms_after (naming_of names.now) (statement s.now) (forms_in scope.old.items)) }
-    ensures ends { OnOk result (frees (naming_of names.now) (map (λ x. x.0) buffers.new.items) ≡ followed_by (end_of (naming_of names.now) (statement s.now)) (frees (naming_of names.now) (map (λ x. x.0) buffers.old.items))) }
+    ensures forms { OnOk result (forms_in scope.new.items ≡ scope_after (statement s.now) (forms_in scope.old.items)) }
+    ensures buffers { OnOk result (map (λ x. x.0) buffers.new.items ≡ map (λ x. x.0) buffers.old.items ++ heaped (statement s.now)) }
 {
-    let _ = names;
     let Stmt::Alloc(x, cell, dims, _) = s else {
         return Ok(());
     };
-    scope.push(Entry {
+    let entry = Entry {
         id: x.id,
         form: Form::Tensor(*cell, dims),
-    })?;
+    };
+    scope.push(entry)?;
     if dims.len() != 0 {
         buffers.push(x.id)?;
     }
@@ -216,7 +205,7 @@ pub(crate) fn lower_block(
     for k in 0..b.len() {
         let s = b.statement(k);
         made.push(lower_statement(alloc, names, &inner, s)?)?;
-        open_scope(names, s, &mut inner, &mut buffers)?;
+        open_scope(s, &mut inner, &mut buffers)?;
     }
     put_frees(alloc, names, &mut made, &buffers)?;
     Ok(made)

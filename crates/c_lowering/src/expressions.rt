@@ -1,196 +1,22 @@
-//! The C of expressions.
-ghost use Rattle.std.specs.Prelude.{◌≡◌, map, true, IfOk, string_bytes};
-ghost use Rattle.exo_tree.specs.Tree.{I32, Index, ControlParam};
-ghost use Rattle.exo_tree.specs.PlainBinder.{cell_type};
+//! The C of conditions, cells and data expressions.
+ghost use Rattle.std.specs.Prelude.{◌≡◌, true, IfOk};
+ghost use Rattle.exo_tree.specs.Tree.{Index, ControlParam};
 ghost use Rattle.exo_tree.specs.PlainControl.{control, condition};
 ghost use Rattle.exo_tree.specs.PlainDatum.{datum};
 ghost use Rattle.exo_tree.specs.PlainArgument.{argument};
-ghost use Rattle.exo_tree.specs.PlainTables.{config_field};
-ghost use Rattle.c_printer.specs.CTree.{Sum, Product, InArray};
-ghost use Rattle.c_printer.specs.Plain.{plain_type, plain_number, plain_test, plain_cell, plain_data, plain_value};
-ghost use Rattle.c_printer.specs.Lowered.{cell_in, number_of, numbers_of, dims_of, product_of, or_one, strides_in, test_of, horner, offset, cell_at_of, number32_of, actual_of};
-ghost use Rattle.c_printer.specs.LoweredUnit.{field_name};
-ghost use Rattle.c_lowering.specs.Scope.{forms_in, or_no_form};
+ghost use Rattle.c_printer.specs.CTree.{InArray};
+ghost use Rattle.c_printer.specs.Plain.{plain_number, plain_test, plain_cell, plain_data, plain_value};
+ghost use Rattle.c_printer.specs.Lowered.{number_of, test_of, cell_at_of, number32_of, actual_of};
+ghost use Rattle.c_lowering.specs.Scope.{forms_in};
 ghost use Rattle.c_lowering.specs.Naming.{naming_of};
 ghost use Rattle.c_lowering.specs.SelfContained.{is_value};
 
-use crate::scope::{Entry, Form};
-use c_names::NameTable;
-use c_printer::tree::{CCell, CData, CNumber, CTest, CType, CValue};
-use exo_tree::{Arg, Cell, Cond, Ctrl, DataExpr, Field, FieldId, Id, Indices, Unit};
+use crate::names::Names;
+use crate::numbers::{lower_number, lower_offset};
+use crate::scope::{Entry, Form, find};
+use c_printer::tree::{CCell, CData, CNumber, CTest, CValue};
+use exo_tree::{Arg, Cond, Ctrl, DataExpr, Id, Indices};
 use std::alloc::{AllocError, Global};
-
-/// What names stand for in the C of a procedure.
-#[derive(Clone, Copy)]
-pub(crate) struct Names<'a> {
-    pub(crate) unit: &'a Unit,
-    pub(crate) binders: &'a NameTable,
-}
-
-impl Names<'_> {
-    /// The C name of a binder.
-    pub(crate) fn binder(&self, alloc: Global, x: Id) -> Result<String, AllocError>
-    ensures { IfOk result (λ s. string_bytes s ≡ (naming_of self.now).binder x.0) }
-{
-        String::from_str(alloc, self.binders.name(x))
-    }
-
-    /// The C name of a configuration field; empty where the unit has none of that number.
-    pub(crate) fn field(&self, alloc: Global, f: FieldId) -> Result<String, AllocError>
-    ensures { IfOk result (λ s. string_bytes s ≡ (naming_of self.now).field f.0) }
-{
-        match self.unit.fields.get(f.0 as usize) {
-            Some(field) => field_name(alloc, field),
-            None => Ok(String::new(alloc)),
-        }
-    }
-}
-
-/// The C name of a configuration field.
-pub(crate) fn field_name(alloc: Global, field: &Field) -> Result<String, AllocError>
-    ensures { IfOk result (λ s. string_bytes s ≡ field_name (config_field field.now)) }
-{
-    let config = field.config.as_str();
-    let name = field.name.as_str();
-    format!(in alloc; "{config}_{name}")
-}
-
-/// The C type of cells.
-pub(crate) fn c_type(cell: Cell) -> CType
-    ensures { plain_type result ≡ cell_type cell }
-{
-    match cell {
-        Cell::I8 => CType::Int8,
-        Cell::I32 => CType::Int32,
-    }
-}
-
-/// What a name is; None where it is not in scope.
-fn form<'a>(scope: &[Entry<'a>], x: Id) -> Option<Form<'a>>
-    ensures { or_no_form result ≡ forms_in scope.now x.0 }
-{
-    let mut found = None;
-    for e in scope {
-        if x.0 == e.id.0 {
-            found = Some(e.form);
-        }
-    }
-    found
-}
-
-/// The cell type of a buffer; `int32_t` for another name.
-pub(crate) fn cell_type(scope: &[Entry<'_>], x: Id) -> CType
-    ensures { plain_type result ≡ cell_in (forms_in scope.now x.0) I32 }
-{
-    match form(scope, x) {
-        Some(Form::Tensor(cell, _)) => c_type(cell),
-        _ => CType::Int32,
-    }
-}
-
-/// The product of two numbers.
-fn times(alloc: Global, a: CNumber, b: CNumber) -> Result<CNumber, AllocError>
-    ensures { IfOk result (λ n. plain_number n ≡ Product (plain_number a) (plain_number b)) }
-{
-    let left = Box::new(alloc, a)?;
-    Ok(CNumber::Product(left, Box::new(alloc, b)?))
-}
-
-/// The sum of two numbers.
-fn plus(alloc: Global, a: CNumber, b: CNumber) -> Result<CNumber, AllocError>
-    ensures { IfOk result (λ n. plain_number n ≡ Sum (plain_number a) (plain_number b)) }
-{
-    let left = Box::new(alloc, a)?;
-    Ok(CNumber::Sum(left, Box::new(alloc, b)?))
-}
-
-/// The product of dimensions; 1 where there is none. Dimensions hold no strides.
-pub(crate) fn lower_product(
-    alloc: Global,
-    names: &Names<'_>,
-    dims: &[Ctrl],
-) -> Result<CNumber, AllocError>
-    ensures { IfOk result (λ n. plain_number n ≡ product_of (dims_of (naming_of names.now) (map control dims.now))) }
-{
-    let Some((first, rest)) = dims.split_first() else {
-        return Ok(CNumber::Literal(1));
-    };
-    let mut product = lower_number(alloc, names, &[], first)?;
-    for d in rest {
-        product = times(alloc, product, lower_number(alloc, names, &[], d)?)?;
-    }
-    Ok(product)
-}
-
-/// The stride of a dimension of a buffer: the product of the later dimensions.
-fn lower_stride(
-    alloc: Global,
-    names: &Names<'_>,
-    scope: &[Entry<'_>],
-    x: Id,
-    k: u32,
-) -> Result<CNumber, AllocError>
-    ensures { IfOk result (λ n. plain_number n ≡ or_one (strides_in (naming_of names.now) x.0 (forms_in scope.now x.0)) k) }
-{
-    match form(scope, x) {
-        Some(Form::Tensor(_, dims)) => {
-            let all = dims.as_slice();
-            let from = all.len().min(k as usize + 1);
-            lower_product(alloc, names, &all[from..])
-        }
-        _ => Ok(CNumber::Literal(1)),
-    }
-}
-
-/// The C of a control expression.
-pub(crate) fn lower_number(
-    alloc: Global,
-    names: &Names<'_>,
-    scope: &[Entry<'_>],
-    e: &Ctrl,
-) -> Result<CNumber, AllocError>
-    ensures { IfOk result (λ n. plain_number n ≡ number_of (naming_of names.now) (forms_in scope.now) (control e.now)) }
-{
-    match e {
-        Ctrl::Lit(n) => Ok(CNumber::Literal(*n)),
-        Ctrl::Var(x) => Ok(CNumber::Named(names.binder(alloc, *x)?)),
-        Ctrl::Field(f) => Ok(CNumber::Named(names.field(alloc, *f)?)),
-        Ctrl::Stride(x, k) => lower_stride(alloc, names, scope, *x, *k),
-        Ctrl::Neg(a) => Ok(CNumber::Opposite(Box::new(
-            alloc,
-            lower_number(alloc, names, scope, a)?,
-        )?)),
-        Ctrl::Add(a, b) => {
-            let left = Box::new(alloc, lower_number(alloc, names, scope, a)?)?;
-            Ok(CNumber::Sum(
-                left,
-                Box::new(alloc, lower_number(alloc, names, scope, b)?)?,
-            ))
-        }
-        Ctrl::Sub(a, b) => {
-            let left = Box::new(alloc, lower_number(alloc, names, scope, a)?)?;
-            Ok(CNumber::Difference(
-                left,
-                Box::new(alloc, lower_number(alloc, names, scope, b)?)?,
-            ))
-        }
-        Ctrl::Mul(a, b) => {
-            let left = Box::new(alloc, lower_number(alloc, names, scope, a)?)?;
-            Ok(CNumber::Product(
-                left,
-                Box::new(alloc, lower_number(alloc, names, scope, b)?)?,
-            ))
-        }
-        Ctrl::Div(a, n) => {
-            let left = Box::new(alloc, lower_number(alloc, names, scope, a)?)?;
-            Ok(CNumber::Quotient(left, *n))
-        }
-        Ctrl::Mod(a, n) => {
-            let left = Box::new(alloc, lower_number(alloc, names, scope, a)?)?;
-            Ok(CNumber::Remainder(left, *n))
-        }
-    }
-}
 
 /// The C of a comparison's sides.
 fn lower_sides(
@@ -253,48 +79,6 @@ pub(crate) fn lower_test(
     }
 }
 
-/// An offset by the later indices: `((at * d) + e)` and so on.
-fn add_rows(
-    alloc: Global,
-    names: &Names<'_>,
-    scope: &[Entry<'_>],
-    at: CNumber,
-    is: &[Ctrl],
-    dims: &[Ctrl],
-) -> Result<CNumber, AllocError>
-    ensures { IfOk result (λ n. plain_number n ≡ horner (plain_number at) (numbers_of (naming_of names.now) (forms_in scope.now) (map control is.now)) (dims_of (naming_of names.now) (map control dims.now))) }
-{
-    let [i, is @ ..] = is else {
-        return Ok(at);
-    };
-    let [d, dims @ ..] = dims else {
-        return Ok(at);
-    };
-    let row = times(alloc, at, lower_number(alloc, names, &[], d)?)?;
-    let next = plus(alloc, row, lower_number(alloc, names, scope, i)?)?;
-    add_rows(alloc, names, scope, next, is, dims)
-}
-
-/// The offset of a cell in a dense, row-major buffer.
-fn lower_offset(
-    alloc: Global,
-    names: &Names<'_>,
-    scope: &[Entry<'_>],
-    is: &[Ctrl],
-    dims: &[Ctrl],
-) -> Result<CNumber, AllocError>
-    ensures { IfOk result (λ n. plain_number n ≡ offset (numbers_of (naming_of names.now) (forms_in scope.now) (map control is.now)) (dims_of (naming_of names.now) (map control dims.now))) }
-{
-    let [i, is @ ..] = is else {
-        return Ok(CNumber::Literal(0));
-    };
-    let at = lower_number(alloc, names, scope, i)?;
-    let [_, later @ ..] = dims else {
-        return Ok(at);
-    };
-    add_rows(alloc, names, scope, at, is, later)
-}
-
 /// The offset of a cell of a name: 0 where it is no buffer.
 fn lower_place(
     alloc: Global,
@@ -305,11 +89,13 @@ fn lower_place(
 ) -> Result<CNumber, AllocError>
     ensures { IfOk result (λ n. InArray ((naming_of names.now).binder x.0) (plain_number n) ≡ cell_at_of (naming_of names.now) (forms_in scope.now) x.0 is.now) }
 {
-    match form(scope, x) {
+    match find(scope, x) {
         Some(Form::Tensor(_, dims)) => {
-            lower_offset(alloc, names, scope, is.as_slice(), dims.as_slice())
+            let offset = lower_offset(alloc, names, scope, is.as_slice(), dims.as_slice())?;
+            Ok(offset)
         }
-        _ => Ok(CNumber::Literal(0)),
+        Some(Form::Number) => Ok(CNumber::Literal(0)),
+        None => Ok(CNumber::Literal(0)),
     }
 }
 

@@ -4,13 +4,14 @@ ghost use Rattle.exo_tree.specs.Tree.{block};
 ghost use Rattle.exo_tree.specs.PlainControl.{control, condition};
 ghost use Rattle.exo_tree.specs.PlainArgument.{argument};
 ghost use Rattle.exo_tree.specs.PlainStatement.{statement};
+ghost use Rattle.exo_tree.specs.PlainTables.{config_field};
 ghost use Rattle.exo_tree.specs.PlainUnit.{program};
 ghost use Rattle.c_printer.specs.PlainPrinted.{printing};
-ghost use Rattle.c_printer.specs.LoweredUnit.{in_control, in_condition, in_conditions, in_argument, in_arguments, in_block, in_statement, in_procedure, is_used, fields_of};
+ghost use Rattle.c_printer.specs.LoweredUnit.{in_control, in_condition, in_conditions, in_argument, in_arguments, in_block, in_statement, in_procedure, is_used, fields_from, fields_of};
 
-use crate::expressions::field_name;
+use crate::names::field_name;
 use c_printer::Printed;
-use exo_tree::{Arg, Args, Block, Cond, Conds, Ctrl, Name, ProcId, Stmt, Unit};
+use exo_tree::{Arg, Args, Block, Cond, Conds, Ctrl, Field, Name, ProcId, Stmt, Unit};
 use std::alloc::{AllocError, Global};
 
 /// Whether an expression reads the field.
@@ -32,11 +33,8 @@ fn in_condition(f: usize, c: &Cond) -> bool
     match c {
         Cond::True | Cond::False | Cond::Var(_) => false,
         Cond::Field(g) => f == g.0 as usize,
-        Cond::Lt(a, b)
-        | Cond::Le(a, b)
-        | Cond::Gt(a, b)
-        | Cond::Ge(a, b)
-        | Cond::Eq(a, b) => in_control(f, a) || in_control(f, b),
+        Cond::Lt(a, b) | Cond::Le(a, b) | Cond::Gt(a, b) | Cond::Ge(a, b) | Cond::Eq(a, b) =>
+            in_control(f, a) || in_control(f, b),
         Cond::And(a, b) | Cond::Or(a, b) => in_condition(f, a) || in_condition(f, b),
     }
 }
@@ -125,6 +123,25 @@ fn is_used(unit: &Unit, what: &[Printed], f: usize) -> bool
     false
 }
 
+/// The C names of those fields of a list that the listed procedures read or write.
+fn used_fields(
+    alloc: Global,
+    unit: &Unit,
+    what: &[Printed],
+    fields: &[Field],
+) -> Result<Vec<Name>, AllocError>
+    ensures { IfOk result (λ v. v.items ≡ fields_from (is_used (program unit.now) (map printing what.now)) 0 (map config_field fields.now)) }
+{
+    let mut names = Vec::new(alloc);
+    for (k, field) in fields.iter().enumerate() {
+        if is_used(unit, what, k) {
+            let name = field_name(alloc, field)?;
+            names.push(Name::new(alloc, name.as_str())?)?;
+        }
+    }
+    Ok(names)
+}
+
 /// The C names of the fields that the listed procedures read or write, in the unit's order.
 pub(crate) fn lower_fields(
     alloc: Global,
@@ -133,12 +150,6 @@ pub(crate) fn lower_fields(
 ) -> Result<Vec<Name>, AllocError>
     ensures { IfOk result (λ v. v.items ≡ fields_of (program unit.now) (map printing what.now)) }
 {
-    let mut names = Vec::new(alloc);
-    for (k, field) in unit.fields.as_slice().iter().enumerate() {
-        if is_used(unit, what, k) {
-            let name = field_name(alloc, field)?;
-            names.push(Name::new(alloc, name.as_str())?)?;
-        }
-    }
+    let names = used_fields(alloc, unit, what, unit.fields.as_slice())?;
     Ok(names)
 }

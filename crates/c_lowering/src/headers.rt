@@ -1,14 +1,15 @@
 //! The headers of the memories that printed procedures allocate in.
-ghost use Rattle.std.specs.Prelude.{◌≡◌, map, slice_get, IfOk};
+ghost use Rattle.std.specs.Prelude.{◌≡◌, [], map, slice_get, IfOk};
 ghost use Rattle.exo_tree.specs.Tree.{block};
 ghost use Rattle.exo_tree.specs.PlainStatement.{statement};
+ghost use Rattle.exo_tree.specs.PlainTables.{memory_kind};
 ghost use Rattle.exo_tree.specs.PlainUnit.{program};
 ghost use Rattle.c_printer.specs.PlainPrinted.{printing};
-ghost use Rattle.c_printer.specs.LoweredUnit.{stands_in, is_made_in, stands_in_procedure, is_filled, is_new, headers_of};
+ghost use Rattle.c_printer.specs.LoweredUnit.{stands_in, is_made_in, stands_in_procedure, is_filled, is_new, headers_from, headers_of};
 
 use c_names::is_in;
 use c_printer::Printed;
-use exo_tree::{Block, Name, ProcId, Stmt, Unit};
+use exo_tree::{Block, MemoryClass, Name, ProcId, Stmt, Unit};
 use std::alloc::{AllocError, Global};
 
 /// Whether a block allocates in the memory.
@@ -66,6 +67,24 @@ fn is_new(seen: &[Name], header: &str) -> bool
     !header.is_empty() && !is_in(seen, header)
 }
 
+/// The headers of those memories of a list that the listed procedures allocate in, each once.
+fn used_headers(
+    alloc: Global,
+    unit: &Unit,
+    what: &[Printed],
+    memories: &[MemoryClass],
+) -> Result<Vec<Name>, AllocError>
+    ensures { IfOk result (λ v. v.items ≡ headers_from (is_filled (program unit.now) (map printing what.now)) 0 [] (map memory_kind memories.now)) }
+{
+    let mut headers = Vec::new(alloc);
+    for (k, m) in memories.iter().enumerate() {
+        if is_filled(unit, what, k) && is_new(&headers, m.include.as_str()) {
+            headers.push(Name::new(alloc, m.include.as_str())?)?;
+        }
+    }
+    Ok(headers)
+}
+
 /// The headers of the memories that the listed procedures allocate in, each once, in the unit's order.
 pub(crate) fn lower_headers(
     alloc: Global,
@@ -74,11 +93,6 @@ pub(crate) fn lower_headers(
 ) -> Result<Vec<Name>, AllocError>
     ensures { IfOk result (λ v. v.items ≡ headers_of (program unit.now) (map printing what.now)) }
 {
-    let mut headers = Vec::new(alloc);
-    for (k, m) in unit.memories.as_slice().iter().enumerate() {
-        if is_filled(unit, what, k) && is_new(&headers, m.include.as_str()) {
-            headers.push(Name::new(alloc, m.include.as_str())?)?;
-        }
-    }
+    let headers = used_headers(alloc, unit, what, unit.memories.as_slice())?;
     Ok(headers)
 }

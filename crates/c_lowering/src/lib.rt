@@ -5,6 +5,8 @@ mod blocks;
 mod expressions;
 mod fields;
 mod headers;
+mod names;
+mod numbers;
 mod report;
 mod scope;
 mod self_contained;

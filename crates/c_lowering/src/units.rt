@@ -14,11 +14,11 @@ ghost use Rattle.c_lowering.specs.SelfContained.{is_no_window, are_no_windows, i
 ghost use Rattle.c_lowering.specs.Refusals.{is_wide, too_wide, IsLowered, Refuses};
 
 use crate::blocks::lower_block;
-use crate::expressions::{Names, c_type};
 use crate::fields::lower_fields;
 use crate::headers::lower_headers;
+use crate::names::Names;
 use crate::report::lower_report;
-use crate::scope::{Entry, Form};
+use crate::scope::{Entry, Form, c_type};
 use c_names::{NameTable, first_clash};
 use c_printer::tree::{CFunction, CParam, CUnit};
 use c_printer::{LowerError, Printed};
@@ -116,7 +116,10 @@ fn lower_printed(
     ensures { IfOk result (λ f. plain_function f ≡ function_at (program unit.now) globals.now (slice_get unit.now.procs k.0)) }
 {
     match unit.procs.get(k.0 as usize) {
-        Some(p) => lower_function(alloc, unit, globals, p),
+        Some(p) => {
+            let f = lower_function(alloc, unit, globals, p)?;
+            Ok(f)
+        }
         None => unreachable!(),
     }
 }
@@ -171,6 +174,17 @@ fn name_of(alloc: Global, unit: &Unit, k: ProcId) -> Result<Name, AllocError>
     }
 }
 
+/// The names of the listed procedures.
+fn printed_names(alloc: Global, unit: &Unit, what: &[Printed]) -> Result<Vec<Name>, AllocError>
+    ensures { IfOk result (λ v. v.items ≡ printed_names (program unit.now) (map printing what.now)) }
+{
+    let mut names = Vec::new(alloc);
+    for w in what {
+        names.push(name_of(alloc, unit, w.proc)?)?;
+    }
+    Ok(names)
+}
+
 /// The names of the listed procedures, and then those of the fields.
 fn global_names(
     alloc: Global,
@@ -180,10 +194,7 @@ fn global_names(
 ) -> Result<Vec<Name>, AllocError>
     ensures { IfOk result (λ v. v.items ≡ printed_names (program unit.now) (map printing what.now) ++ fields.now) }
 {
-    let mut names = Vec::new(alloc);
-    for w in what {
-        names.push(name_of(alloc, unit, w.proc)?)?;
-    }
+    let mut names = printed_names(alloc, unit, what)?;
     for field in fields {
         names.push(field.duplicate(alloc)?)?;
     }
@@ -215,12 +226,18 @@ pub fn lower_unit(alloc: Global, unit: &Unit, what: &[Printed]) -> Result<CUnit,
     let fields = lower_fields(alloc, unit, what)?;
     let globals = global_names(alloc, unit, what, &fields)?;
     if let Some(name) = first_clash(&globals) {
-        return Err(LowerError::NameClash(name.duplicate(alloc)?));
+        let name = name.duplicate(alloc)?;
+        return Err(LowerError::NameClash(name));
     }
+    let report = lower_report(alloc, unit, what)?;
+    let headers = lower_headers(alloc, unit, what)?;
+    let includes = texts(alloc, &headers)?;
+    let functions = lower_functions(alloc, unit, &globals, what)?;
+    let fields = texts(alloc, &fields)?;
     Ok(CUnit {
-        report: lower_report(alloc, unit, what)?,
-        includes: texts(alloc, &lower_headers(alloc, unit, what)?)?,
-        fields: texts(alloc, &fields)?,
-        functions: lower_functions(alloc, unit, &globals, what)?,
+        report,
+        includes,
+        fields,
+        functions,
     })
 }

@@ -5,8 +5,5 @@ use Rattle.c_printer.specs.PlainPrinted.{printing}
 use Rattle.c_printer.specs.LoweredUnit.{printed_names}
 use Rattle.c_lowering.proofs.units.global_names.Given as goal
 
-abbrev pub invariant-loop-w : goal.invariant-loop-w
-invariant-loop-w l = l.names.items ++ printed_names (program l.unit) (map printing (drop l.w-index l.what)) ≡ printed_names (program l.unit) (map printing l.what)
-
 abbrev pub invariant-loop-field : goal.invariant-loop-field
 invariant-loop-field l = l.names.items ++ drop l.field-index l.fields ≡ printed_names (program l.unit) (map printing l.what) ++ l.fields

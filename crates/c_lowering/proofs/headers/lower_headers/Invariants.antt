@@ -1,9 +1,0 @@
--- What is made, and then the headers of what is left, are the headers of all.
-use Rattle.std.proofs.Common.{◌≡◌, ◌++◌, drop, map}
-use Rattle.exo_tree.specs.PlainUnit.{program}
-use Rattle.c_printer.specs.PlainPrinted.{printing}
-use Rattle.c_printer.specs.LoweredUnit.{is_filled, headers_from, headers_of}
-use Rattle.c_lowering.proofs.headers.lower_headers.Given as goal
-
-abbrev pub invariant-loop-k : goal.invariant-loop-k
-invariant-loop-k l = l.headers.items ++ headers_from (is_filled (program l.unit) (map printing l.what)) l.k l.headers.items (drop l.k l.unit.memories) ≡ headers_of (program l.unit) (map printing l.what)
