@@ -1,6 +1,8 @@
 -- A statement's C in two parts, and blocks put together from them.
-use Rattle.std.proofs.Common.{◌≡◌, ℕ, ℤ, Bool, true, false, not, ◌&&◌, ◌||◌, ◌==◌, if◌then◌else◌, List, [], ◌∷◌, ◌++◌, Option, Some, None, refl, sym, ap, ap₂, ◌∙◌, eqb-true}
+use Rattle.std.proofs.Common.{◌≡◌, ◌≤◌, ◌<◌, ◌+◌, ◌-◌, ℕ, ℤ, Bool, true, false, not, ◌&&◌, ◌||◌, ◌==◌, if◌then◌else◌, List, [], ◌∷◌, ◌++◌, map, length, take, get_or, Option, Some, None, arith, refl, sym, ap, ap₂, ◌∙◌, eqb-true}
 use Rattle.std.proofs.lemmas.Bool.{and_parts, false≢true}
+use Rattle.std.proofs.lemmas.List.{take_more, map-append}
+use Rattle.exo_tree.specs.declared.number.Id.{Id}
 use Rattle.exo_tree.specs.Tree.{Binder, Cell, Control, Statement, Assign, Reduce, Config, Pass, If, For, Alloc, View, Call, Block, end, next, block, MemoryKind, Program}
 use Rattle.exo_meaning.specs.Scene.{updated}
 use Rattle.c_printer.specs.CTree.{Name, Number64, Element, Single, Vector, CStatement, Array, Malloc, Free, CBlock, stop, first, followed_by, cblock}
@@ -129,3 +131,32 @@ next_made program table forms later a rest ss made more c xs ys whole is alone h
 -- nothing is left
 pub all_made : (naming : Naming) (forms : Forms) (ss : List Statement) (made : CBlock) (xs : List ℕ) (whole : CBlock) → ss ≡ [] → followed_by made (followed_by (block_of naming forms (block ss)) (frees naming xs)) ≡ whole → followed_by made (frees naming xs) ≡ whole
 all_made naming forms ss made xs whole e h = ap (λ l. followed_by made (followed_by (block_of naming forms (block l)) (frees naming xs))) (sym e) ∙ h
+
+-- the buffer that is freed next is the last of those left
+pub next_freed : (naming : Naming) (xs : List Id) (k : ℕ) (x : Id) → k < length xs → x ≡ get_or xs (length xs - 1 - k) x → frees naming (map (λ y. y.0) (take (length xs - k) xs)) ≡ first (Free (naming.binder x.0)) (frees naming (map (λ y. y.0) (take (length xs - (k + 1)) xs)))
+next_freed naming xs k x h e =
+    let at = length xs - 1 - k in
+    let inside : at < length xs = omega (arith, h) in
+    let now : length xs - k ≡ at + 1 = omega (arith, h) in
+    let after : at ≡ length xs - (k + 1) = omega (arith, h) in
+    let last : take (at + 1) xs ≡ take at xs ++ x ∷ [] = take_more xs at x inside ∙ ap (λ y. take at xs ++ y ∷ []) (sym e) in
+    ap (λ n. frees naming (map (λ y. y.0) (take n xs))) now
+    ∙ ap (λ ys. frees naming (map (λ y. y.0) ys)) last
+    ∙ ap (frees naming) (map-append (λ y. y.0) (take at xs) (x ∷ []))
+    ∙ frees_append naming (map (λ y. y.0) (take at xs)) (x.0 ∷ [])
+    ∙ ap (λ n. first (Free (naming.binder x.0)) (frees naming (map (λ y. y.0) (take n xs)))) after
+
+-- one buffer more is freed
+pub freed_more : (naming : Naming) (xs : List Id) (k : ℕ) (x : Id) (made more : List CStatement) (whole : CBlock) → k < length xs → x ≡ get_or xs (length xs - 1 - k) x → more ≡ made ++ Free (naming.binder x.0) ∷ [] → followed_by (cblock made) (frees naming (map (λ y. y.0) (take (length xs - k) xs))) ≡ whole → followed_by (cblock more) (frees naming (map (λ y. y.0) (take (length xs - (k + 1)) xs))) ≡ whole
+freed_more naming xs k x made more whole h e pushed before_it =
+    let left = frees naming (map (λ y. y.0) (take (length xs - (k + 1)) xs)) in
+    ap (λ m. followed_by m left) (ap cblock pushed ∙ cblock_push made (Free (naming.binder x.0)))
+    ∙ followed_by_assoc (cblock made) (first (Free (naming.binder x.0)) stop) left
+    ∙ ap (followed_by (cblock made)) (sym (next_freed naming xs k x h e))
+    ∙ before_it
+
+-- none is left
+pub all_freed : (naming : Naming) (xs : List Id) (k : ℕ) (made whole : CBlock) → length xs ≤ k → followed_by made (frees naming (map (λ y. y.0) (take (length xs - k) xs))) ≡ whole → made ≡ whole
+all_freed naming xs k made whole h before_it =
+    let none : 0 ≡ length xs - k = omega (arith, h) in
+    sym (followed_by_stop made) ∙ ap (λ n. followed_by made (frees naming (map (λ y. y.0) (take n xs)))) none ∙ before_it

@@ -1,4 +1,6 @@
 pub mod Frames
 pub mod Scopes
 pub mod Offsets
+pub mod Parameters
+pub mod Widths
 pub mod Maps

@@ -1,9 +1,15 @@
 -- Dimensions and the offsets over them.
-use Rattle.std.proofs.Common.{◌≡◌, ℕ, zero, suc, ◌+◌, pos, List, [], ◌∷◌, map, drop, refl, sym, ap, ◌∙◌, add-one}
-use Rattle.std.proofs.lemmas.List.{drop-map}
+use Rattle.std.proofs.Common.{◌≡◌, ℕ, zero, suc, ◌+◌, ◌-◌, min, pos, List, [], ◌∷◌, map, length, take, drop, refl, sym, ap, ◌∙◌, add-one}
+use Rattle.std.proofs.lemmas.List.{drop-map, take_rest, drop_min}
 use Rattle.exo_tree.specs.Tree.{Cell, Control}
+use Rattle.exo_tree.specs.PlainControl.{control}
+use Rattle.exo_tree.specs.declared.control.Ctrl.{Ctrl}
 use Rattle.c_printer.specs.CTree.{Number64, Literal}
 use Rattle.c_printer.specs.Lowered.{Naming, Form, TensorForm, dims_of, product_of, row_strides, strides_in, or_one, horner, offset}
+
+-- the part of a list of dimensions from the next on
+pub later_is : (xs : List Ctrl) (k from : ℕ) → from ≡ min (k + 1) (length xs) → map control (take (length xs - from) (drop from xs)) ≡ drop (k + 1) (map control xs)
+later_is xs k from h = ap (map control) (take_rest xs from ∙ ap (λ n. drop n xs) h ∙ drop_min (k + 1) xs) ∙ sym (drop-map control (k + 1) xs)
 
 stride_after : (naming : Naming) (dims : List Control) (k : ℕ) → product_of (dims_of naming (drop (suc k) dims)) ≡ or_one (row_strides (dims_of naming dims)) k
 stride_after naming [] k = refl

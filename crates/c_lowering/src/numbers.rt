@@ -143,33 +143,24 @@ pub(crate) fn lower_number(
             lower_number(alloc, names, scope, a)?,
         )?)),
         Ctrl::Add(a, b) => {
-            let left = Box::new(alloc, lower_number(alloc, names, scope, a)?)?;
-            Ok(CNumber::Sum(
-                left,
-                Box::new(alloc, lower_number(alloc, names, scope, b)?)?,
-            ))
+            let a = Box::new(alloc, lower_number(alloc, names, scope, a)?)?;
+            Ok(CNumber::Sum(a, Box::new(alloc, lower_number(alloc, names, scope, b)?)?))
         }
         Ctrl::Sub(a, b) => {
-            let left = Box::new(alloc, lower_number(alloc, names, scope, a)?)?;
-            Ok(CNumber::Difference(
-                left,
-                Box::new(alloc, lower_number(alloc, names, scope, b)?)?,
-            ))
+            let a = Box::new(alloc, lower_number(alloc, names, scope, a)?)?;
+            Ok(CNumber::Difference(a, Box::new(alloc, lower_number(alloc, names, scope, b)?)?))
         }
         Ctrl::Mul(a, b) => {
-            let left = Box::new(alloc, lower_number(alloc, names, scope, a)?)?;
-            Ok(CNumber::Product(
-                left,
-                Box::new(alloc, lower_number(alloc, names, scope, b)?)?,
-            ))
+            let a = Box::new(alloc, lower_number(alloc, names, scope, a)?)?;
+            Ok(CNumber::Product(a, Box::new(alloc, lower_number(alloc, names, scope, b)?)?))
         }
         Ctrl::Div(a, n) => {
-            let left = Box::new(alloc, lower_number(alloc, names, scope, a)?)?;
-            Ok(CNumber::Quotient(left, *n))
+            let a = Box::new(alloc, lower_number(alloc, names, scope, a)?)?;
+            Ok(CNumber::Quotient(a, *n))
         }
         Ctrl::Mod(a, n) => {
-            let left = Box::new(alloc, lower_number(alloc, names, scope, a)?)?;
-            Ok(CNumber::Remainder(left, *n))
+            let a = Box::new(alloc, lower_number(alloc, names, scope, a)?)?;
+            Ok(CNumber::Remainder(a, *n))
         }
     }
 }
