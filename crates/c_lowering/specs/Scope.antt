@@ -9,7 +9,7 @@ use Rattle.c_lowering.specs.declared.scope.Entry.{Entry}
 
 abbrev pub form_of : Form → lowered.Form
 form_of Number = NumberForm
-form_of (Tensor cell dims) = TensorForm (cell_type cell) dims.now 0
+form_of (Tensor cell dims) = TensorForm (cell_type cell) dims 0
 
 abbrev pub or_no_form : Option Form → lowered.Form
 or_no_form None = NoForm

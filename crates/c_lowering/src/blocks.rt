@@ -1,5 +1,5 @@
 //! The C of statements and blocks.
-ghost use Rattle.std.specs.Prelude.{◌≡◌, ◌++◌, map, true, IfOk, OnOk};
+ghost use Rattle.std.specs.Prelude.{◌≡◌, ◌++◌, map, length, take, true, IfOk, OnOk};
 ghost use Rattle.exo_tree.specs.Tree.{I32, If, For, Config, block};
 ghost use Rattle.exo_tree.specs.PlainBinder.{cell_type, binding};
 ghost use Rattle.exo_tree.specs.PlainControl.{control, condition};
@@ -14,10 +14,10 @@ ghost use Rattle.c_lowering.specs.Naming.{naming_of};
 ghost use Rattle.c_lowering.specs.Heads.{allocation, head_of, scope_after, heaped, frees};
 ghost use Rattle.c_lowering.specs.SelfContained.{is_value, is_alone, is_alone_block};
 
-use crate::expressions::{lower_cell, lower_data, lower_test, lower_value};
+use crate::expressions::{lower_cell, lower_data, lower_sides, lower_test, lower_value};
 use crate::names::Names;
-use crate::numbers::{lower_number, lower_product};
-use crate::scope::{Entry, Form, c_type, cell_type, inner_scope};
+use crate::numbers::lower_product;
+use crate::scope::{Entry, Form, c_type, cell_type, enter};
 use c_printer::tree::{CBlock, CCell, CData, CStatement, CType};
 use exo_tree::{Arg, Binder, Block, Cell, Cond, Ctrl, DataExpr, FieldId, Id, Indices, Stmt};
 use std::alloc::{AllocError, Global};
@@ -44,7 +44,7 @@ fn lower_alloc(
 fn lower_store(
     alloc: Global,
     names: &Names<'_>,
-    scope: &[Entry<'_>],
+    scope: &[Entry],
     x: Id,
     is: &Indices,
     e: &DataExpr,
@@ -63,14 +63,15 @@ fn lower_store(
 fn lower_branch(
     alloc: Global,
     names: &Names<'_>,
-    scope: &[Entry<'_>],
+    scope: &mut Vec<Entry>,
     c: &Cond,
     a: &Block,
     b: &Block,
 ) -> Result<CStatement, AllocError>
     requires main { is_alone_block names.now.unit.now.memories (block a.now) ≡ true }
     requires other { is_alone_block names.now.unit.now.memories (block b.now) ≡ true }
-    ensures { IfOk result (λ s. plain_statement s ≡ head_of (naming_of names.now) (forms_in scope.now) (If (condition c.now) (block a.now) (block b.now))) }
+    ensures value { IfOk result (λ s. plain_statement s ≡ head_of (naming_of names.now) (forms_in scope.old.items) (If (condition c.now) (block a.now) (block b.now))) }
+    ensures scope { OnOk result (scope.new.items ≡ scope.old.items) }
 {
     let test = lower_test(alloc, names, scope, c)?;
     let main = lower_block(alloc, names, scope, a)?;
@@ -83,25 +84,39 @@ fn lower_branch(
 fn lower_loop(
     alloc: Global,
     names: &Names<'_>,
-    scope: &[Entry<'_>],
+    scope: &mut Vec<Entry>,
     i: &Binder,
     lo: &Ctrl,
     hi: &Ctrl,
     body: &Block,
 ) -> Result<CStatement, AllocError>
     requires { is_alone_block names.now.unit.now.memories (block body.now) ≡ true }
-    ensures { IfOk result (λ s. plain_statement s ≡ head_of (naming_of names.now) (forms_in scope.now) (For (binding i.now) (control lo.now) (control hi.now) (block body.now))) }
+    ensures value { IfOk result (λ s. plain_statement s ≡ head_of (naming_of names.now) (forms_in scope.old.items) (For (binding i.now) (control lo.now) (control hi.now) (block body.now))) }
+    ensures scope { OnOk result (scope.new.items ≡ scope.old.items) }
 {
-    let mut inner = inner_scope(alloc, scope)?;
-    inner.push(Entry {
-        id: i.id,
-        form: Form::Number,
-    })?;
     let counter = names.binder(alloc, i.id)?;
-    let low = lower_number(alloc, names, scope, lo)?;
-    let high = lower_number(alloc, names, scope, hi)?;
-    let body = lower_block(alloc, names, &inner, body)?;
+    let (low, high) = lower_sides(alloc, names, scope, lo, hi)?;
+    let depth = scope.len();
+    enter(scope, i.id, Form::Number)?;
+    let body = lower_block(alloc, names, scope, body)?;
+    scope.truncate(depth);
     Ok(CStatement::Loop(counter, low, high, body))
+}
+
+/// The C of a configuration write.
+fn lower_config(
+    alloc: Global,
+    names: &Names<'_>,
+    scope: &[Entry],
+    f: FieldId,
+    a: &Arg,
+) -> Result<CStatement, AllocError>
+    requires { is_value (argument a.now) ≡ true }
+    ensures { IfOk result (λ s. plain_statement s ≡ head_of (naming_of names.now) (forms_in scope.now) (Config f.0 (argument a.now))) }
+{
+    let field = names.field(alloc, f)?;
+    let value = lower_value(alloc, names, scope, a)?;
+    Ok(CStatement::SetField(field, value))
 }
 
 /// The C statement that stands in a statement's place.
@@ -109,11 +124,12 @@ fn lower_loop(
 fn lower_statement(
     alloc: Global,
     names: &Names<'_>,
-    scope: &[Entry<'_>],
+    scope: &mut Vec<Entry>,
     s: &Stmt,
 ) -> Result<CStatement, AllocError>
     requires { is_alone names.now.unit.now.memories (statement s.now) ≡ true }
-    ensures { IfOk result (λ s. plain_statement s ≡ head_of (naming_of names.now) (forms_in scope.now) (statement s.now)) }
+    ensures value { IfOk result (λ s. plain_statement s ≡ head_of (naming_of names.now) (forms_in scope.old.items) (statement s.now)) }
+    ensures scope { OnOk result (scope.new.items ≡ scope.old.items) }
 {
     match s {
         Stmt::Assign(x, is, e) => {
@@ -133,21 +149,6 @@ fn lower_statement(
     }
 }
 
-/// The C of a configuration write.
-fn lower_config(
-    alloc: Global,
-    names: &Names<'_>,
-    scope: &[Entry<'_>],
-    f: FieldId,
-    a: &Arg,
-) -> Result<CStatement, AllocError>
-    requires { is_value (argument a.now) ≡ true }
-    ensures { IfOk result (λ s. plain_statement s ≡ head_of (naming_of names.now) (forms_in scope.now) (Config f.0 (argument a.now))) }
-{
-    let field = names.field(alloc, f)?;
-    Ok(CStatement::SetField(field, lower_value(alloc, names, scope, a)?))
-}
-
 /// The buffers of a block are freed, the last first.
 fn put_frees(
     alloc: Global,
@@ -165,48 +166,49 @@ fn put_frees(
     Ok(())
 }
 
-/// An allocation comes into scope, and is one of the buffers to free where it is on the heap.
-fn open_scope<'a>(
-    s: &'a Stmt,
-    scope: &mut Vec<Entry<'a>>,
+/// A buffer comes into scope, and is one of those to free where it is on the heap.
+fn open_buffer(
+    alloc: Global,
+    s: &Stmt,
+    scope: &mut Vec<Entry>,
     buffers: &mut Vec<Id>,
 ) -> Result<(), AllocError>
     ensures forms { OnOk result (forms_in scope.new.items ≡ scope_after (statement s.now) (forms_in scope.old.items)) }
+    ensures kept { OnOk result (take (length scope.old.items) scope.new.items ≡ scope.old.items) }
     ensures buffers { OnOk result (map (λ x. x.0) buffers.new.items ≡ map (λ x. x.0) buffers.old.items ++ heaped (statement s.now)) }
 {
     let Stmt::Alloc(x, cell, dims, _) = s else {
         return Ok(());
     };
-    let entry = Entry {
-        id: x.id,
-        form: Form::Tensor(*cell, dims),
-    };
-    scope.push(entry)?;
+    let form = Form::Tensor(*cell, dims.duplicate(alloc)?);
+    enter(scope, x.id, form)?;
     if dims.len() != 0 {
         buffers.push(x.id)?;
     }
     Ok(())
 }
 
-/// The C of a block.
+/// The C of a block. The names that it binds are out of scope again behind it.
 #[cycle(lower)]
 pub(crate) fn lower_block(
     alloc: Global,
     names: &Names<'_>,
-    scope: &[Entry<'_>],
+    scope: &mut Vec<Entry>,
     b: &Block,
 ) -> Result<CBlock, AllocError>
     requires { is_alone_block names.now.unit.now.memories (block b.now) ≡ true }
-    ensures { IfOk result (λ c. cblock c ≡ block_of (naming_of names.now) (forms_in scope.now) (block b.now)) }
+    ensures value { IfOk result (λ c. cblock c ≡ block_of (naming_of names.now) (forms_in scope.old.items) (block b.now)) }
+    ensures scope { OnOk result (scope.new.items ≡ scope.old.items) }
 {
-    let mut inner = inner_scope(alloc, scope)?;
+    let depth = scope.len();
     let mut buffers = Vec::new(alloc);
     let mut made = CBlock::new(alloc);
     for k in 0..b.len() {
         let s = b.statement(k);
-        made.push(lower_statement(alloc, names, &inner, s)?)?;
-        open_scope(s, &mut inner, &mut buffers)?;
+        made.push(lower_statement(alloc, names, scope, s)?)?;
+        open_buffer(alloc, s, scope, &mut buffers)?;
     }
+    scope.truncate(depth);
     put_frees(alloc, names, &mut made, &buffers)?;
     Ok(made)
 }

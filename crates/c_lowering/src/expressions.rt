@@ -18,11 +18,11 @@ use c_printer::tree::{CCell, CData, CNumber, CTest, CValue};
 use exo_tree::{Arg, Cond, Ctrl, DataExpr, Id, Indices};
 use std::alloc::{AllocError, Global};
 
-/// The C of a comparison's sides.
-fn lower_sides(
+/// The C of two numbers: the sides of a comparison, or the bounds of a loop.
+pub(crate) fn lower_sides(
     alloc: Global,
     names: &Names<'_>,
-    scope: &[Entry<'_>],
+    scope: &[Entry],
     a: &Ctrl,
     b: &Ctrl,
 ) -> Result<(CNumber, CNumber), AllocError>
@@ -38,7 +38,7 @@ fn lower_sides(
 pub(crate) fn lower_test(
     alloc: Global,
     names: &Names<'_>,
-    scope: &[Entry<'_>],
+    scope: &[Entry],
     c: &Cond,
 ) -> Result<CTest, AllocError>
     ensures { IfOk result (λ t. plain_test t ≡ test_of (naming_of names.now) (forms_in scope.now) (condition c.now)) }
@@ -83,7 +83,7 @@ pub(crate) fn lower_test(
 fn lower_place(
     alloc: Global,
     names: &Names<'_>,
-    scope: &[Entry<'_>],
+    scope: &[Entry],
     x: Id,
     is: &Indices,
 ) -> Result<CNumber, AllocError>
@@ -103,7 +103,7 @@ fn lower_place(
 pub(crate) fn lower_cell(
     alloc: Global,
     names: &Names<'_>,
-    scope: &[Entry<'_>],
+    scope: &[Entry],
     x: Id,
     is: &Indices,
 ) -> Result<CCell, AllocError>
@@ -118,7 +118,7 @@ pub(crate) fn lower_cell(
 pub(crate) fn lower_data(
     alloc: Global,
     names: &Names<'_>,
-    scope: &[Entry<'_>],
+    scope: &[Entry],
     e: &DataExpr,
 ) -> Result<CData, AllocError>
     ensures { IfOk result (λ d. plain_data d ≡ number32_of (naming_of names.now) (forms_in scope.now) (datum e.now)) }
@@ -161,7 +161,7 @@ pub(crate) fn lower_data(
 pub(crate) fn lower_value(
     alloc: Global,
     names: &Names<'_>,
-    scope: &[Entry<'_>],
+    scope: &[Entry],
     a: &Arg,
 ) -> Result<CValue, AllocError>
     requires { is_value (argument a.now) ≡ true }

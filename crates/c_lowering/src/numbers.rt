@@ -108,7 +108,7 @@ fn later(dims: &[Ctrl], k: u32) -> &[Ctrl]
 fn lower_stride(
     alloc: Global,
     names: &Names<'_>,
-    scope: &[Entry<'_>],
+    scope: &[Entry],
     x: Id,
     k: u32,
 ) -> Result<CNumber, AllocError>
@@ -128,7 +128,7 @@ fn lower_stride(
 pub(crate) fn lower_number(
     alloc: Global,
     names: &Names<'_>,
-    scope: &[Entry<'_>],
+    scope: &[Entry],
     e: &Ctrl,
 ) -> Result<CNumber, AllocError>
     ensures { IfOk result (λ n. plain_number n ≡ number_of (naming_of names.now) (forms_in scope.now) (control e.now)) }
@@ -169,7 +169,7 @@ pub(crate) fn lower_number(
 fn add_rows(
     alloc: Global,
     names: &Names<'_>,
-    scope: &[Entry<'_>],
+    scope: &[Entry],
     at: CNumber,
     is: &[Ctrl],
     dims: &[Ctrl],
@@ -194,7 +194,7 @@ fn add_rows(
 pub(crate) fn lower_offset(
     alloc: Global,
     names: &Names<'_>,
-    scope: &[Entry<'_>],
+    scope: &[Entry],
     is: &[Ctrl],
     dims: &[Ctrl],
 ) -> Result<CNumber, AllocError>

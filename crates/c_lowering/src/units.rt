@@ -18,7 +18,7 @@ use crate::fields::lower_fields;
 use crate::headers::lower_headers;
 use crate::names::Names;
 use crate::report::lower_report;
-use crate::scope::{Entry, Form, c_type};
+use crate::scope::{Entry, Form, c_type, enter};
 use c_names::{NameTable, first_clash};
 use c_printer::tree::{CFunction, CParam, CUnit};
 use c_printer::{LowerError, Printed};
@@ -56,29 +56,27 @@ fn lower_params(
 }
 
 /// What a parameter is in the body.
-fn form_of(kind: &ParamKind) -> Form<'_>
+fn form_of(alloc: Global, kind: &ParamKind) -> Result<Form, AllocError>
     requires { is_no_window (parameter_kind kind.now) ≡ true }
-    ensures { form_of result ≡ input.form_of (parameter_kind kind.now) }
+    ensures { IfOk result (λ f. form_of f ≡ input.form_of (parameter_kind kind.now)) }
 {
     match kind {
-        ParamKind::Ctrl(_) => Form::Number,
-        ParamKind::Tensor(cell, dims, _) => Form::Tensor(*cell, dims),
+        ParamKind::Ctrl(_) => Ok(Form::Number),
+        ParamKind::Tensor(cell, dims, _) => Ok(Form::Tensor(*cell, dims.duplicate(alloc)?)),
         ParamKind::Window(_, _, _) => unreachable!(),
     }
 }
 
 /// What the parameters are in the body; of two of one number the first counts.
-fn param_scope<'a>(alloc: Global, params: &'a [Param]) -> Result<Vec<Entry<'a>>, AllocError>
+fn param_scope(alloc: Global, params: &[Param]) -> Result<Vec<Entry>, AllocError>
     requires { are_no_windows (map parameter params.now) ≡ true }
     ensures { IfOk result (λ v. forms_in v.items ≡ param_forms (map parameter params.now)) }
 {
     let mut scope = Vec::new(alloc);
     for k in 0..params.len() {
         let p = &params[params.len() - 1 - k];
-        scope.push(Entry {
-            id: p.binder.id,
-            form: form_of(&p.kind),
-        })?;
+        let form = form_of(alloc, &p.kind)?;
+        enter(&mut scope, p.binder.id, form)?;
     }
     Ok(scope)
 }
@@ -100,8 +98,8 @@ fn lower_function(
     };
     let name = String::from_str(alloc, p.name.as_str())?;
     let params = lower_params(alloc, &names, p.params.as_slice())?;
-    let scope = param_scope(alloc, p.params.as_slice())?;
-    let body = lower_block(alloc, &names, &scope, &p.body)?;
+    let mut scope = param_scope(alloc, p.params.as_slice())?;
+    let body = lower_block(alloc, &names, &mut scope, &p.body)?;
     Ok(CFunction { name, params, body })
 }
 

@@ -1,5 +1,5 @@
 -- The depth of the recursion; what is made, then the C of what is left and the ends, is the C of the whole.
-use Rattle.std.proofs.Common.{◌≡◌, ◌+◌, ◌*◌, drop, map, true}
+use Rattle.std.proofs.Common.{◌≡◌, ◌+◌, ◌*◌, length, take, drop, map, true}
 use Rattle.exo_tree.specs.Tree.{block}
 use Rattle.exo_tree.specs.Nodes.{nodes, nodes_of}
 use Rattle.exo_tree.specs.PlainStatement.{statement}
@@ -26,5 +26,6 @@ decreases-lower_block l = 3 * nodes_of l.b.now + 1
 abbrev pub invariant-lower_block-loop-k : goal.invariant-lower_block-loop-k
 invariant-lower_block-loop-k l = record {
   left : is_alone_block l.names.unit.now.memories (block (drop l.k l.b)) ≡ true;
-  whole : followed_by (cblock l.made) (followed_by (block_of (naming_of l.names) (forms_in l.inner.items) (block (drop l.k l.b))) (frees (naming_of l.names) (map (λ x. x.0) l.buffers.items))) ≡ block_of (naming_of l.names) (forms_in l.scope) (block l.b);
+  whole : followed_by (cblock l.made) (followed_by (block_of (naming_of l.names) (forms_in l.scope.items) (block (drop l.k l.b))) (frees (naming_of l.names) (map (λ x. x.0) l.buffers.items))) ≡ block_of (naming_of l.names) (forms_in l.fn.scope.items) (block l.b);
+  kept : take (length l.fn.scope.items) l.scope.items ≡ l.fn.scope.items;
 }
