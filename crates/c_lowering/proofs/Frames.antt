@@ -1,5 +1,5 @@
 -- A statement's C in two parts, and blocks put together from them.
-use Rattle.std.proofs.Common.{◌≡◌, ◌≤◌, ◌<◌, ◌+◌, ◌-◌, ℕ, ℤ, Bool, true, false, not, ◌&&◌, ◌||◌, ◌==◌, if◌then◌else◌, List, [], ◌∷◌, ◌++◌, map, length, take, get_or, Option, Some, None, arith, refl, sym, ap, ap₂, ◌∙◌, eqb-true}
+use Rattle.std.proofs.Common.{◌≡◌, ◌≤◌, ◌<◌, ◌+◌, ◌-◌, ℕ, ℤ, Bool, true, false, not, ◌&&◌, ◌||◌, ◌==◌, if◌then◌else◌, List, [], ◌∷◌, ◌++◌, map, length, take, get_or, Option, Some, None, slice_get, arith, refl, sym, ap, ap₂, ◌∙◌, eqb-true}
 use Rattle.std.proofs.lemmas.Bool.{and_parts, false≢true}
 use Rattle.std.proofs.lemmas.List.{take_more, map-append}
 use Rattle.exo_tree.specs.declared.number.Id.{Id}
@@ -9,7 +9,7 @@ use Rattle.c_printer.specs.CTree.{Name, Number64, Element, Single, Vector, CStat
 use Rattle.c_printer.specs.Lowered.{Naming, Forms, TensorForm, Memory, allocated, before, block_of, forms_after, dims_of, product_of, literals, without_lanes, is_empty}
 use Rattle.c_printer.specs.LoweredUnit.{memory_of, naming_in}
 use Rattle.c_lowering.specs.SelfContained.{is_heap, is_alone, is_alone_block}
-use Rattle.c_lowering.specs.Heads.{is_on_stack, made, allocation, head_of, freed, end_of, scope_after, heaped, frees}
+use Rattle.c_lowering.specs.Heads.{is_on_stack, made, allocation, buffer_of, head_of, freed, end_of, scope_after, heaped, frees}
 
 pub followed_by_stop : (c : CBlock) → followed_by c stop ≡ c
 followed_by_stop stop = refl
@@ -44,8 +44,8 @@ chosen_is : (naming : Naming) (x : ℕ) (cell : Cell) (dims : List Control) (cty
 chosen_is naming x cell [] ctype = refl
 chosen_is naming x cell (d ∷ ds) ctype = refl
 
-pub alloc_head : (naming : Naming) (forms : Forms) (x : Binder) (cell : Cell) (dims : List Control) (memory : ℕ) → IsPlainMemory (naming.memory memory) → head_of naming forms (Alloc x cell dims memory) ≡ allocation naming x.id cell dims
-alloc_head naming forms x cell dims memory p = ap₂ (λ lanes stack. chosen naming x.id cell dims (naming.memory memory).ctype lanes stack) p.no_lanes p.on_heap ∙ chosen_is naming x.id cell dims (naming.memory memory).ctype
+pub buffer_is : (naming : Naming) (x : Binder) (cell : Cell) (dims : List Control) (memory : ℕ) → IsPlainMemory (naming.memory memory) → allocation naming x.id cell dims ≡ buffer_of naming x cell dims memory
+buffer_is naming x cell dims memory p = sym (ap₂ (λ lanes stack. chosen naming x.id cell dims (naming.memory memory).ctype lanes stack) p.no_lanes p.on_heap ∙ chosen_is naming x.id cell dims (naming.memory memory).ctype)
 
 ends_by : (naming : Naming) (x : Binder) (cell : Cell) (dims : List Control) (memory : ℕ) → freed (false || is_empty dims) (naming.binder x.id) ≡ frees naming (heaped (Alloc x cell dims memory))
 ends_by naming x cell [] memory = refl
@@ -64,7 +64,7 @@ end_is program table (Config f a) h = refl
 end_is program table Pass h = refl
 end_is program table (If c a b) h = refl
 end_is program table (For i lo hi b) h = refl
-end_is program table (Alloc x cell dims memory) h = alloc_end (naming_in program table) x cell dims memory (heap_memory _ h)
+end_is program table (Alloc x cell dims memory) h = alloc_end (naming_in program table) x cell dims memory (heap_memory (slice_get program.memories memory) h)
 end_is program table (View w x coords) h = refl
 end_is program table (Call k args) h = refl
 
@@ -75,7 +75,7 @@ scope_is program table forms (Config f a) h = refl
 scope_is program table forms Pass h = refl
 scope_is program table forms (If c a b) h = refl
 scope_is program table forms (For i lo hi b) h = refl
-scope_is program table forms (Alloc x cell dims memory) h = ap (λ lanes. updated forms x.id (TensorForm cell dims lanes)) (heap_memory _ h).no_lanes
+scope_is program table forms (Alloc x cell dims memory) h = ap (λ lanes. updated forms x.id (TensorForm cell dims lanes)) (heap_memory (slice_get program.memories memory) h).no_lanes
 scope_is program table forms (View w x coords) h = absurd (false≢true h)
 scope_is program table forms (Call k args) h = refl
 
@@ -133,26 +133,27 @@ pub all_made : (naming : Naming) (forms : Forms) (ss : List Statement) (made : C
 all_made naming forms ss made xs whole e h = ap (λ l. followed_by made (followed_by (block_of naming forms (block l)) (frees naming xs))) (sym e) ∙ h
 
 -- the buffer that is freed next is the last of those left
-pub next_freed : (naming : Naming) (xs : List Id) (k : ℕ) (x : Id) → k < length xs → x ≡ get_or xs (length xs - 1 - k) x → frees naming (map (λ y. y.0) (take (length xs - k) xs)) ≡ first (Free (naming.binder x.0)) (frees naming (map (λ y. y.0) (take (length xs - (k + 1)) xs)))
-next_freed naming xs k x h e =
+next_freed : (naming : Naming) (xs : List Id) (k : ℕ) (d : Id) → k < length xs → frees naming (map (λ y. y.0) (take (length xs - k) xs)) ≡ first (Free (naming.binder (get_or xs (length xs - 1 - k) d).0)) (frees naming (map (λ y. y.0) (take (length xs - (k + 1)) xs)))
+next_freed naming xs k d h =
     let at = length xs - 1 - k in
+    let x = get_or xs at d in
     let inside : at < length xs = omega (arith, h) in
     let now : length xs - k ≡ at + 1 = omega (arith, h) in
     let after : at ≡ length xs - (k + 1) = omega (arith, h) in
-    let last : take (at + 1) xs ≡ take at xs ++ x ∷ [] = take_more xs at x inside ∙ ap (λ y. take at xs ++ y ∷ []) (sym e) in
     ap (λ n. frees naming (map (λ y. y.0) (take n xs))) now
-    ∙ ap (λ ys. frees naming (map (λ y. y.0) ys)) last
+    ∙ ap (λ ys. frees naming (map (λ y. y.0) ys)) (take_more xs at d inside)
     ∙ ap (frees naming) (map-append (λ y. y.0) (take at xs) (x ∷ []))
     ∙ frees_append naming (map (λ y. y.0) (take at xs)) (x.0 ∷ [])
     ∙ ap (λ n. first (Free (naming.binder x.0)) (frees naming (map (λ y. y.0) (take n xs)))) after
 
 -- one buffer more is freed
-pub freed_more : (naming : Naming) (xs : List Id) (k : ℕ) (x : Id) (made more : List CStatement) (whole : CBlock) → k < length xs → x ≡ get_or xs (length xs - 1 - k) x → more ≡ made ++ Free (naming.binder x.0) ∷ [] → followed_by (cblock made) (frees naming (map (λ y. y.0) (take (length xs - k) xs))) ≡ whole → followed_by (cblock more) (frees naming (map (λ y. y.0) (take (length xs - (k + 1)) xs))) ≡ whole
-freed_more naming xs k x made more whole h e pushed before_it =
+pub freed_more : (naming : Naming) (xs : List Id) (k : ℕ) (d : Id) (made more : List CStatement) (whole : CBlock) → k < length xs → more ≡ made ++ Free (naming.binder (get_or xs (length xs - 1 - k) d).0) ∷ [] → followed_by (cblock made) (frees naming (map (λ y. y.0) (take (length xs - k) xs))) ≡ whole → followed_by (cblock more) (frees naming (map (λ y. y.0) (take (length xs - (k + 1)) xs))) ≡ whole
+freed_more naming xs k d made more whole h pushed before_it =
     let left = frees naming (map (λ y. y.0) (take (length xs - (k + 1)) xs)) in
-    ap (λ m. followed_by m left) (ap cblock pushed ∙ cblock_push made (Free (naming.binder x.0)))
-    ∙ followed_by_assoc (cblock made) (first (Free (naming.binder x.0)) stop) left
-    ∙ ap (followed_by (cblock made)) (sym (next_freed naming xs k x h e))
+    let free = Free (naming.binder (get_or xs (length xs - 1 - k) d).0) in
+    ap (λ m. followed_by m left) (ap cblock pushed ∙ cblock_push made free)
+    ∙ followed_by_assoc (cblock made) (first free stop) left
+    ∙ ap (followed_by (cblock made)) (sym (next_freed naming xs k d h))
     ∙ before_it
 
 -- none is left

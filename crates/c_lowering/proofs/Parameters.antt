@@ -1,14 +1,14 @@
 -- What the parameters are in the body, from the last to the first.
-use Rattle.std.proofs.Common.{◌≡◌, ◌≤◌, ◌<◌, ◌+◌, ◌-◌, ◌==◌, if◌then◌else◌, ℕ, List, [], ◌∷◌, ◌++◌, map, length, drop, get_or, arith, refl, sym, ap, ap₂, ◌∙◌}
-use Rattle.std.proofs.lemmas.List.{drop_more, drop_all}
+use Rattle.std.proofs.Common.{◌≡◌, ◌≤◌, ◌<◌, ◌+◌, ◌-◌, ◌==◌, if◌then◌else◌, ℕ, zero, suc, true, ◌&&◌, List, [], ◌∷◌, ◌++◌, map, length, drop, get_or, arith, refl, sym, ap, ap₂, ◌∙◌}
+use Rattle.std.proofs.lemmas.List.{drop_more}
+use Rattle.std.proofs.lemmas.Bool.{and_parts}
 use Rattle.exo_tree.specs.PlainParam.{parameter, parameter_kind}
 use Rattle.exo_tree.specs.declared.param.Param.{Param}
 use Rattle.exo_meaning.specs.Scene.{updated}
 use Rattle.c_printer.specs.Lowered as lowered
 use Rattle.c_printer.specs.SameInput as input
 use Rattle.c_printer.specs.SameInput.{param_forms}
-use Rattle.c_lowering.specs.Scope.{forms_in}
-use Rattle.c_lowering.specs.declared.scope.Entry.{Entry}
+use Rattle.c_lowering.specs.SelfContained.{is_no_window, are_no_windows}
 
 param_first : (p : Param) (ps : List Param) → updated (param_forms (map parameter ps)) p.binder.id.0 (input.form_of (parameter_kind p.kind)) ≡ param_forms (map parameter (p ∷ ps))
 param_first p ps = let same : (x : ℕ) → updated (param_forms (map parameter ps)) p.binder.id.0 (input.form_of (parameter_kind p.kind)) x ≡ param_forms (map parameter (p ∷ ps)) x = λ x. refl in λ i x. same x i
@@ -28,13 +28,8 @@ param_more ps k p forms more form h is form_is entered so_far =
     ∙ ap (λ qs. param_forms (map parameter qs)) here
     ∙ ap (λ n. param_forms (map parameter (drop n ps))) after
 
--- none yet
-pub param_none : (ps : List Param) → forms_in [] ≡ param_forms (map parameter (drop (length ps - 0) ps))
-param_none ps =
-    let n : length ps - 0 ≡ length ps = omega arith in
-    let empty : forms_in [] ≡ param_forms [] = λ i x. lowered.NoForm in
-    empty ∙ ap (λ qs. param_forms (map parameter qs)) (sym (ap (λ m. drop m ps) n ∙ drop_all (length ps) ps (omega arith)))
-
--- and then all
-pub param_all : (ps : List Param) (k : ℕ) (es : List Entry) → length ps ≤ k → forms_in es ≡ param_forms (map parameter (drop (length ps - k) ps)) → forms_in es ≡ param_forms (map parameter ps)
-param_all ps k es h so_far = let none : length ps - k ≡ 0 = omega (arith, h) in so_far ∙ ap (λ n. param_forms (map parameter (drop n ps))) none
+-- none of them is a window
+pub not_window : (ps : List Param) (k : ℕ) (p : Param) → k < length ps → p ≡ get_or ps k p → are_no_windows (map parameter ps) ≡ true → is_no_window (parameter_kind p.kind) ≡ true
+not_window [] k p h is w = absurd (omega (arith, h))
+not_window (q ∷ ps) zero p h is w = ap (λ r. is_no_window (parameter_kind r.kind)) is ∙ (and_parts (is_no_window (parameter_kind q.kind)) (are_no_windows (map parameter ps)) w).0
+not_window (q ∷ ps) (suc k) p h is w = not_window ps k p (omega (arith, h)) is (and_parts (is_no_window (parameter_kind q.kind)) (are_no_windows (map parameter ps)) w).1

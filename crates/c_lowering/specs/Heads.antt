@@ -1,9 +1,9 @@
 -- A statement's C in two parts: the statement that stands in its place, and what stands at the end of its block.
 use Rattle.std.specs.Prelude.{ℕ, pos, Bool, true, false, ◌||◌, List, [], ◌∷◌}
-use Rattle.exo_tree.specs.Tree.{Cell, I32, Index, Control, Statement, Assign, Reduce, Config, Pass, If, For, Alloc, View, Call, ControlParam}
+use Rattle.exo_tree.specs.Tree.{Binder, Cell, I32, Index, Control, Statement, Assign, Reduce, Config, Pass, If, For, Alloc, View, Call, ControlParam}
 use Rattle.exo_meaning.specs.Scene.{updated}
-use Rattle.c_printer.specs.CTree.{Name, Element, Single, CStatement, Store, AddTo, SetField, Empty, Branch, Loop, Array, Malloc, Free, CBlock, stop, first, followed_by}
-use Rattle.c_printer.specs.Lowered.{Memory, Naming, Forms, NumberForm, TensorForm, cell_in, cell_at_of, number32_of, number_of, test_of, actual_of, actuals_of, window_of, bind_of, call_of, dims_of, product_of, without_lanes, literals, element_of, is_empty, block_of}
+use Rattle.c_printer.specs.CTree.{Name, Number64, Literal, Element, Single, CStatement, Store, AddTo, SetField, Empty, Branch, Loop, Array, Malloc, Free, CBlock, stop, first, followed_by}
+use Rattle.c_printer.specs.Lowered.{Memory, Naming, Forms, NumberForm, TensorForm, cell_in, cell_at_of, number32_of, number_of, test_of, actual_of, actuals_of, window_of, bind_of, call_of, dims_of, product_of, without_lanes, literals, element_of, is_empty, block_of, horner}
 
 -- whether an allocation is on the stack: where its memory is, or where it is one cell
 abbrev pub is_on_stack : Naming → ℕ → List Control → Bool
@@ -13,6 +13,13 @@ abbrev pub made : Bool → CStatement → CStatement → CStatement
 made true array heap = array
 made false array heap = heap
 
+-- an allocation: on the stack, or by `malloc`
+abbrev pub buffer_of : Naming → Binder → Cell → List Control → ℕ → CStatement
+buffer_of naming x cell dims memory =
+    let m = naming.memory memory in
+    let own = without_lanes m.lanes dims in
+    made (is_on_stack naming memory dims) (Array (element_of m cell) (naming.binder x.id) (literals own)) (Malloc (element_of m cell) (naming.binder x.id) (product_of (dims_of naming own)))
+
 abbrev pub head_of : Naming → Forms → Statement → CStatement
 head_of naming forms (Assign x is e) = Store (cell_in (forms x) I32) (cell_at_of naming forms x is) (number32_of naming forms e)
 head_of naming forms (Reduce x is e) = AddTo (cell_in (forms x) I32) (cell_at_of naming forms x is) (number32_of naming forms e)
@@ -20,10 +27,7 @@ head_of naming forms (Config f a) = SetField (naming.field f) (actual_of naming 
 head_of naming forms Pass = Empty
 head_of naming forms (If c a b) = Branch (test_of naming forms c) (block_of naming forms a) (block_of naming forms b)
 head_of naming forms (For i lo hi b) = Loop (naming.binder i.id) (number_of naming forms lo) (number_of naming forms hi) (block_of naming (updated forms i.id NumberForm) b)
-head_of naming forms (Alloc x cell dims memory) =
-    let m = naming.memory memory in
-    let own = without_lanes m.lanes dims in
-    made (is_on_stack naming memory dims) (Array (element_of m cell) (naming.binder x.id) (literals own)) (Malloc (element_of m cell) (naming.binder x.id) (product_of (dims_of naming own)))
+head_of naming forms (Alloc x cell dims memory) = buffer_of naming x cell dims memory
 head_of naming forms (View w x coords) = bind_of (naming.binder w.id) (window_of naming forms x (cell_in (forms x) I32) coords)
 head_of naming forms (Call k args) =
     let f = naming.routine k in
@@ -58,3 +62,8 @@ heaped a = []
 abbrev pub frees : Naming → List ℕ → CBlock
 frees naming [] = stop
 frees naming (x ∷ xs) = followed_by (frees naming xs) (first (Free (naming.binder x)) stop)
+
+-- the offset of a cell, by the C of its indices and of the dimensions behind the first
+abbrev pub offset_behind : List Number64 → List Number64 → Number64
+offset_behind [] ds = Literal (pos 0)
+offset_behind (e ∷ es) ds = horner e es ds

@@ -4,8 +4,7 @@ use Rattle.exo_tree.specs.Tree.{Procedure, MemoryKind, Program}
 use Rattle.c_widths.specs.Widths.{is_narrow_procedure}
 use Rattle.c_names.specs.Words.{Name}
 use Rattle.c_names.specs.Clash.{first_clash}
-use Rattle.c_printer.specs.LoweredUnit.{Printing, global_names, lowered}
-use Rattle.c_printer.specs.CTree.{CUnit}
+use Rattle.c_printer.specs.LoweredUnit.{Printing, global_names}
 use Rattle.c_printer.specs.declared.lowering.LowerError.{LowerError}
 use Rattle.c_printer.specs.declared.lowering.LowerError.TheVariants.{TooWide, NameClash, Memory}
 
@@ -33,7 +32,3 @@ abbrev pub Refuses : Program → List Printing → LowerError → Type 0
 Refuses program what (TooWide k) = too_wide program what ≡ Some k.0
 Refuses program what (NameClash x) = (too_wide program what ≡ None) × (name_clash program what ≡ Some x)
 Refuses program what Memory = ⊤
-
--- no procedure is too wide, no name clashes, and this is the C
-abbrev pub IsLowered : Program → List Printing → CUnit → Type 0
-IsLowered program what c = (too_wide program what ≡ None) × (name_clash program what ≡ None) × (c ≡ lowered program what)

@@ -1,5 +1,5 @@
 //! The C of statements and blocks.
-ghost use Rattle.std.specs.Prelude.{◌≡◌, ◌++◌, map, length, take, true, IfOk, OnOk};
+ghost use Rattle.std.specs.Prelude.{◌≡◌, ◌++◌, map, length, take, true, slice_get, IfOk, OnOk};
 ghost use Rattle.exo_tree.specs.Tree.{I32, If, For, Config, block};
 ghost use Rattle.exo_tree.specs.PlainBinder.{cell_type, binding};
 ghost use Rattle.exo_tree.specs.PlainControl.{control, condition};
@@ -11,15 +11,15 @@ ghost use Rattle.c_printer.specs.Plain.{plain_type, plain_cell, plain_data, plai
 ghost use Rattle.c_printer.specs.Lowered.{cell_in, cell_at_of, number32_of, block_of};
 ghost use Rattle.c_lowering.specs.Scope.{forms_in};
 ghost use Rattle.c_lowering.specs.Naming.{naming_of};
-ghost use Rattle.c_lowering.specs.Heads.{allocation, head_of, scope_after, heaped, frees};
-ghost use Rattle.c_lowering.specs.SelfContained.{is_value, is_alone, is_alone_block};
+ghost use Rattle.c_lowering.specs.Heads.{allocation, buffer_of, head_of, scope_after, heaped, frees};
+ghost use Rattle.c_lowering.specs.SelfContained.{is_heap, is_value, is_alone, is_alone_block};
 
-use crate::expressions::{lower_cell, lower_data, lower_sides, lower_test, lower_value};
+use crate::expressions::{lower_cell, lower_data, lower_test, lower_value};
 use crate::names::Names;
-use crate::numbers::lower_product;
+use crate::numbers::{lower_number, lower_product};
 use crate::scope::{Entry, Form, c_type, cell_type, enter};
 use c_printer::tree::{CBlock, CCell, CData, CStatement, CType};
-use exo_tree::{Arg, Binder, Block, Cell, Cond, Ctrl, DataExpr, FieldId, Id, Indices, Stmt};
+use exo_tree::{Arg, Binder, Block, Cell, Cond, Ctrl, DataExpr, FieldId, Id, Indices, MemId, Stmt};
 use std::alloc::{AllocError, Global};
 
 /// The C of an allocation: one cell is on the stack, more are on the heap.
@@ -38,6 +38,23 @@ fn lower_alloc(
     }
     let count = lower_product(alloc, names, dims.as_slice())?;
     Ok(CStatement::Malloc(c_type(cell), name, count))
+}
+
+/// The C of an allocation in a memory of cells on the heap.
+fn lower_buffer(
+    alloc: Global,
+    names: &Names<'_>,
+    x: &Binder,
+    cell: Cell,
+    dims: &Indices,
+    m: MemId,
+) -> Result<CStatement, AllocError>
+    requires { is_heap (slice_get names.now.unit.now.memories m.0) ≡ true }
+    ensures { IfOk result (λ c. plain_statement c ≡ buffer_of (naming_of names.now) (binding x.now) (cell_type cell) dims.now m.0) }
+{
+    let _ = m;
+    let made = lower_alloc(alloc, names, x, cell, dims)?;
+    Ok(made)
 }
 
 /// The C of a store: the type, the cell and the number.
@@ -95,7 +112,8 @@ fn lower_loop(
     ensures scope { OnOk result (scope.new.items ≡ scope.old.items) }
 {
     let counter = names.binder(alloc, i.id)?;
-    let (low, high) = lower_sides(alloc, names, scope, lo, hi)?;
+    let low = lower_number(alloc, names, scope, lo)?;
+    let high = lower_number(alloc, names, scope, hi)?;
     let depth = scope.len();
     enter(scope, i.id, Form::Number)?;
     let body = lower_block(alloc, names, scope, body)?;
@@ -128,7 +146,7 @@ fn lower_statement(
     s: &Stmt,
 ) -> Result<CStatement, AllocError>
     requires { is_alone names.now.unit.now.memories (statement s.now) ≡ true }
-    ensures value { IfOk result (λ s. plain_statement s ≡ head_of (naming_of names.now) (forms_in scope.old.items) (statement s.now)) }
+    ensures value { IfOk result (λ c. plain_statement c ≡ head_of (naming_of names.now) (forms_in scope.old.items) (statement s.now)) }
     ensures scope { OnOk result (scope.new.items ≡ scope.old.items) }
 {
     match s {
@@ -144,7 +162,7 @@ fn lower_statement(
         Stmt::Pass => Ok(CStatement::Empty),
         Stmt::If(c, a, b) => lower_branch(alloc, names, scope, c, a, b),
         Stmt::For(i, lo, hi, body) => lower_loop(alloc, names, scope, i, lo, hi, body),
-        Stmt::Alloc(x, cell, dims, _) => lower_alloc(alloc, names, x, *cell, dims),
+        Stmt::Alloc(x, cell, dims, m) => lower_buffer(alloc, names, x, *cell, dims, *m),
         Stmt::View(_, _, _) | Stmt::Call(_, _) => unreachable!(),
     }
 }

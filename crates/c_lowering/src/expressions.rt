@@ -18,8 +18,8 @@ use c_printer::tree::{CCell, CData, CNumber, CTest, CValue};
 use exo_tree::{Arg, Cond, Ctrl, DataExpr, Id, Indices};
 use std::alloc::{AllocError, Global};
 
-/// The C of two numbers: the sides of a comparison, or the bounds of a loop.
-pub(crate) fn lower_sides(
+/// The C of a comparison's sides.
+fn lower_sides(
     alloc: Global,
     names: &Names<'_>,
     scope: &[Entry],
@@ -91,7 +91,7 @@ fn lower_place(
 {
     match find(scope, x) {
         Some(Form::Tensor(_, dims)) => {
-            let offset = lower_offset(alloc, names, scope, is.as_slice(), dims.as_slice())?;
+            let offset = lower_offset(alloc, names, scope, is, dims)?;
             Ok(offset)
         }
         Some(Form::Number) => Ok(CNumber::Literal(0)),

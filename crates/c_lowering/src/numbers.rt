@@ -3,14 +3,15 @@ ghost use Rattle.std.specs.Prelude.{◌≡◌, ◌+◌, map, drop, IfOk};
 ghost use Rattle.exo_tree.specs.PlainControl.{control};
 ghost use Rattle.c_printer.specs.CTree.{Sum, Product};
 ghost use Rattle.c_printer.specs.Plain.{plain_number};
-ghost use Rattle.c_printer.specs.Lowered.{number_of, numbers_of, dims_of, product_from, product_of, or_one, strides_in, horner, offset};
+ghost use Rattle.c_printer.specs.Lowered.{number_of, numbers_of, dims_of, product_from, product_of, row_strides, or_one, strides_in, horner, offset};
 ghost use Rattle.c_lowering.specs.Scope.{forms_in};
 ghost use Rattle.c_lowering.specs.Naming.{naming_of, extent_of};
+ghost use Rattle.c_lowering.specs.Heads.{offset_behind};
 
 use crate::names::Names;
 use crate::scope::{Entry, Form, find};
 use c_printer::tree::CNumber;
-use exo_tree::{Ctrl, Id};
+use exo_tree::{Ctrl, Id, Indices};
 use std::alloc::{AllocError, Global};
 
 /// The product of two numbers.
@@ -104,7 +105,21 @@ fn later(dims: &[Ctrl], k: u32) -> &[Ctrl]
     &dims[from..]
 }
 
-/// The stride of a dimension of a buffer: the product of the later dimensions. 1 for what is no buffer.
+/// The stride of a dimension of a buffer of these dimensions: the product of the later ones.
+fn dense_stride(
+    alloc: Global,
+    names: &Names<'_>,
+    dims: &Indices,
+    k: u32,
+) -> Result<CNumber, AllocError>
+    ensures { IfOk result (λ n. plain_number n ≡ or_one (row_strides (dims_of (naming_of names.now) dims.now)) k) }
+{
+    let rest = later(dims.as_slice(), k);
+    let stride = lower_product(alloc, names, rest)?;
+    Ok(stride)
+}
+
+/// The stride of a dimension of a name; 1 for what is no buffer.
 fn lower_stride(
     alloc: Global,
     names: &Names<'_>,
@@ -116,7 +131,7 @@ fn lower_stride(
 {
     match find(scope, x) {
         Some(Form::Tensor(_, dims)) => {
-            let stride = lower_product(alloc, names, later(dims.as_slice(), k))?;
+            let stride = dense_stride(alloc, names, dims, k)?;
             Ok(stride)
         }
         Some(Form::Number) => Ok(CNumber::Literal(1)),
@@ -190,20 +205,35 @@ fn add_rows(
     Ok(whole)
 }
 
-/// The offset of a cell in a dense, row-major buffer of these dimensions.
-pub(crate) fn lower_offset(
+/// The offset of a cell by its indices and the dimensions behind the first.
+fn rows_offset(
     alloc: Global,
     names: &Names<'_>,
     scope: &[Entry],
     is: &[Ctrl],
-    dims: &[Ctrl],
+    rest: &[Ctrl],
 ) -> Result<CNumber, AllocError>
-    ensures { IfOk result (λ n. plain_number n ≡ offset (numbers_of (naming_of names.now) (forms_in scope.now) (map control is.now)) (dims_of (naming_of names.now) (map control dims.now))) }
+    ensures { IfOk result (λ n. plain_number n ≡ offset_behind (numbers_of (naming_of names.now) (forms_in scope.now) (map control is.now)) (dims_of (naming_of names.now) (map control rest.now))) }
 {
     let Some((i, inner)) = is.split_first() else {
         return Ok(CNumber::Literal(0));
     };
     let first = lower_number(alloc, names, scope, i)?;
-    let whole = add_rows(alloc, names, scope, first, inner, later(dims, 0))?;
+    let whole = add_rows(alloc, names, scope, first, inner, rest)?;
     Ok(whole)
+}
+
+/// The offset of a cell in a dense, row-major buffer of these dimensions.
+pub(crate) fn lower_offset(
+    alloc: Global,
+    names: &Names<'_>,
+    scope: &[Entry],
+    is: &Indices,
+    dims: &Indices,
+) -> Result<CNumber, AllocError>
+    ensures { IfOk result (λ n. plain_number n ≡ offset (numbers_of (naming_of names.now) (forms_in scope.now) is.now) (dims_of (naming_of names.now) dims.now)) }
+{
+    let rest = later(dims.as_slice(), 0);
+    let offset = rows_offset(alloc, names, scope, is.as_slice(), rest)?;
+    Ok(offset)
 }

@@ -1,5 +1,5 @@
 //! The C of a unit.
-ghost use Rattle.std.specs.Prelude.{◌≡◌, ◌++◌, map, true, Some, option_map, slice_get, string_bytes, IfOk, IfErr};
+ghost use Rattle.std.specs.Prelude.{◌≡◌, ◌++◌, map, true, Some, None, option_map, slice_get, string_bytes, IfOk, IfErr};
 ghost use Rattle.exo_tree.specs.PlainParam.{parameter, parameter_kind};
 ghost use Rattle.exo_tree.specs.PlainProcedure.{procedure};
 ghost use Rattle.exo_tree.specs.PlainUnit.{program};
@@ -7,11 +7,11 @@ ghost use Rattle.c_printer.specs.Plain.{plain_param, plain_function, plain_unit}
 ghost use Rattle.c_printer.specs.PlainPrinted.{printing};
 ghost use Rattle.c_printer.specs.SameInput.{param_forms};
 ghost use Rattle.c_printer.specs.SameInput as input;
-ghost use Rattle.c_printer.specs.LoweredUnit.{formal_of, formals_of, function_at, functions_of, name_of, printed_names};
+ghost use Rattle.c_printer.specs.LoweredUnit.{formal_of, formals_of, function_at, functions_of, name_of, printed_names, lowered};
 ghost use Rattle.c_lowering.specs.Scope.{form_of, forms_in};
 ghost use Rattle.c_lowering.specs.Naming.{naming_of};
 ghost use Rattle.c_lowering.specs.SelfContained.{is_no_window, are_no_windows, is_self_contained, is_there_alone, are_self_contained};
-ghost use Rattle.c_lowering.specs.Refusals.{is_wide, too_wide, IsLowered, Refuses};
+ghost use Rattle.c_lowering.specs.Refusals.{is_wide, too_wide, name_clash, Refuses};
 
 use crate::blocks::lower_block;
 use crate::fields::lower_fields;
@@ -215,7 +215,9 @@ fn texts(alloc: Global, names: &[Name]) -> Result<Vec<String>, AllocError>
 /// `NameClash` exactly where the name of a function or field is a word of C or is given twice, with the first such name.
 pub fn lower_unit(alloc: Global, unit: &Unit, what: &[Printed]) -> Result<CUnit, LowerError>
     requires { are_self_contained (program unit.now) (map printing what.now) ≡ true }
-    ensures ok { IfOk result (λ c. IsLowered (program unit.now) (map printing what.now) (plain_unit c)) }
+    ensures narrow { IfOk result (λ c. too_wide (program unit.now) (map printing what.now) ≡ None) }
+    ensures names { IfOk result (λ c. name_clash (program unit.now) (map printing what.now) ≡ None) }
+    ensures value { IfOk result (λ c. plain_unit c ≡ lowered (program unit.now) (map printing what.now)) }
     ensures err { IfErr result (λ e. Refuses (program unit.now) (map printing what.now) e) }
 {
     if let Some(k) = too_wide(alloc, unit, what)? {

@@ -1,6 +1,5 @@
-use Rattle.std.proofs.Common.{◌∙◌, ◌+◌, min, ap}
 use Rattle.c_lowering.proofs.Offsets.{later_is}
 use Rattle.c_lowering.proofs.numbers.later.Goals as goal
 
 pub returns : goal.returns
-returns c = later_is c.args.dims.now c.args.k c.min.result (c.min.ensures ∙ ap (min (c.args.k + 1)) c.len.ensures)
+returns c = later_is c.args.dims.now c.args.k c.min-from.result (cc)
