@@ -1,9 +1,9 @@
 -- A statement's C in two parts, and blocks put together from them.
-use Rattle.std.proofs.Common.{◌≡◌, ◌≤◌, ◌<◌, ◌+◌, ◌-◌, ℕ, ℤ, Bool, true, false, not, ◌&&◌, ◌||◌, ◌==◌, if◌then◌else◌, List, [], ◌∷◌, ◌++◌, map, length, take, get_or, Option, Some, None, slice_get, arith, refl, sym, ap, ap₂, ◌∙◌, eqb-true}
+use Rattle.std.proofs.Common.{◌≡◌, ◌≤◌, ◌<◌, ◌+◌, ◌-◌, ℕ, ℤ, Bool, true, false, not, ◌||◌, ◌==◌, if◌then◌else◌, List, [], ◌∷◌, ◌++◌, map, length, take, get_or, Option, Some, None, slice_get, arith, refl, sym, ap, ap₂, ◌∙◌, eqb-true}
 use Rattle.std.proofs.lemmas.Bool.{and_parts, false≢true}
 use Rattle.std.proofs.lemmas.List.{take_more, map-append}
 use Rattle.exo_tree.specs.declared.number.Id.{Id}
-use Rattle.exo_tree.specs.Tree.{Binder, Cell, Control, Statement, Assign, Reduce, Config, Pass, If, For, Alloc, View, Call, Block, end, next, block, MemoryKind, Program}
+use Rattle.exo_tree.specs.Tree.{Binder, Cell, Control, Statement, Assign, Reduce, Config, Pass, If, For, Alloc, View, Call, block, MemoryKind, Program}
 use Rattle.exo_meaning.specs.Scene.{updated}
 use Rattle.c_printer.specs.CTree.{Name, Number64, Element, Single, Vector, CStatement, Array, Malloc, Free, CBlock, stop, first, followed_by, cblock}
 use Rattle.c_printer.specs.Lowered.{Naming, Forms, TensorForm, Memory, allocated, before, block_of, forms_after, dims_of, product_of, literals, without_lanes, is_empty}

@@ -1,11 +1,11 @@
 -- Dimensions and the offsets over them.
-use Rattle.std.proofs.Common.{◌≡◌, ℕ, zero, suc, ◌+◌, ◌-◌, min, pos, List, [], ◌∷◌, map, length, take, drop, refl, sym, ap, ap₂, ◌∙◌, add-one}
+use Rattle.std.proofs.Common.{◌≡◌, ℕ, zero, suc, ◌+◌, ◌-◌, min, List, [], ◌∷◌, map, length, take, drop, refl, sym, ap, ap₂, ◌∙◌, add-one}
 use Rattle.std.proofs.lemmas.List.{drop-map, take_rest, drop_min}
 use Rattle.exo_tree.specs.Tree.{Control}
 use Rattle.exo_tree.specs.PlainControl.{control}
 use Rattle.exo_tree.specs.declared.control.Ctrl.{Ctrl}
-use Rattle.c_printer.specs.CTree.{Number64, Literal}
-use Rattle.c_printer.specs.Lowered.{Naming, dims_of, product_of, row_strides, or_one, horner, offset}
+use Rattle.c_printer.specs.CTree.{Number64}
+use Rattle.c_printer.specs.Lowered.{Naming, dims_of, product_of, row_strides, or_one, offset}
 use Rattle.c_lowering.specs.Heads.{offset_behind}
 
 -- the part of a list of dimensions from the next on

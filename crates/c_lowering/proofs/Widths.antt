@@ -1,5 +1,5 @@
 -- The last procedure that is too wide.
-use Rattle.std.proofs.Common.{◌≡◌, ℕ, Bool, true, false, if◌then◌else◌, Option, Some, None, refl}
+use Rattle.std.proofs.Common.{◌≡◌, ℕ, true, false, Option, Some, None, refl}
 use Rattle.c_lowering.specs.Refusals.{or_else}
 
 -- the one of the rest, or else the one that was found before
