@@ -7,8 +7,6 @@ mod call;
 mod claim;
 mod extents;
 mod list;
-#[cfg(test)]
-mod tests;
 mod walk;
 
 pub use claim::{Claim, Placed};
