@@ -7,8 +7,6 @@ mod names;
 pub mod precedence;
 mod procedure;
 mod statement;
-#[cfg(test)]
-mod tests;
 mod text;
 mod words;
 

@@ -1,6 +1,6 @@
 //! Texts of worked trees. Expressions are built from postfix strings: `ab+c*` is the product of a sum and `c`.
 
-use crate::{Words, put_condition, put_control, put_datum, show};
+use exo_show::{Words, put_condition, put_control, put_datum, show};
 use exo_tree::{
     Arg, Args, Binder, Block, Cell, Cond, Conds, Coord, Coords, Ctrl, DataExpr, Field, FieldId,
     Fields, Id, Indices, Kind, Lines, MemId, Memories, MemoryClass, Name, Param, ParamKind, Params,

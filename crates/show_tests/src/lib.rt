@@ -1,0 +1,5 @@
+//! Worked trees and their texts.
+#![tactic(auto)]
+
+#[cfg(test)]
+mod texts;
