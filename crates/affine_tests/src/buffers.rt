@@ -67,40 +67,64 @@ fn tensor(alloc: Global, x: u32, list: &[i64]) -> Result<Param, AllocError> {
     })
 }
 
+fn window(alloc: Global, x: u32, list: &[i64]) -> Result<Param, AllocError> {
+    let dims = extents(alloc, list)?;
+    Ok(Param {
+        binder: binder(alloc, x)?,
+        kind: ParamKind::Window(Cell::I32, dims, MemId(0)),
+    })
+}
+
 fn params(alloc: Global) -> Result<Params, AllocError> {
     let mut all = Params::new(alloc);
-    all.push(control(alloc, 0, Kind::Size)?)?;
-    all.push(control(alloc, 1, Kind::Size)?)?;
-    all.push(control(alloc, 2, Kind::Bool)?)?;
-    all.push(tensor(alloc, 3, &[0, -1])?)?;
-    all.push(tensor(alloc, 4, &[4, 8, 16])?)?;
-    all.push(tensor(alloc, 5, &[0, 8, -1])?)?;
-    all.push(tensor(alloc, 6, &[4, 0, -1])?)?;
-    all.push(tensor(alloc, 7, &[0, -2, 4])?)?;
-    all.push(tensor(alloc, 8, &[0])?)?;
-    let dims = extents(alloc, &[0, -1])?;
-    all.push(Param {
-        binder: binder(alloc, 9)?,
-        kind: ParamKind::Window(Cell::I32, dims, MemId(0)),
-    })?;
+    for (x, kind) in [(0, Kind::Size), (1, Kind::Size), (2, Kind::Bool)] {
+        all.push(control(alloc, x, kind)?)?;
+    }
+    for (x, list) in [(3, [0, -1, 1]), (4, [4, 8, 16]), (5, [0, 8, -1])] {
+        let rank = if x == 3 { 2 } else { 3 };
+        all.push(tensor(alloc, x, &list[..rank])?)?;
+    }
+    for (x, list) in [(6, [4, 0, -1]), (7, [0, -2, 4]), (8, [0, 1, 1])] {
+        let rank = if x == 8 { 1 } else { 3 };
+        all.push(tensor(alloc, x, &list[..rank])?)?;
+    }
+    all.push(window(alloc, 9, &[0, -1])?)?;
     Ok(all)
+}
+
+/// A block of views.
+fn views(alloc: Global, list: &[(u32, u32, [i64; 3], usize)]) -> Result<Block, AllocError> {
+    let mut all = Block::new(alloc);
+    for (w, x, coords, rank) in list {
+        let rank = (*rank).min(3);
+        all.push(view(alloc, *w, *x, &coords[..rank])?)?;
+    }
+    Ok(all)
+}
+
+/// The loop with view 15, and the condition with view 16.
+fn branches(alloc: Global, all: &mut Block) -> Result<(), AllocError> {
+    let inner = views(alloc, &[(15, 10, [0, -1, -1], 3)])?;
+    all.push(Stmt::For(binder(alloc, 20)?, lit(0), lit(4), inner))?;
+    let then = Block::single(alloc, Stmt::Pass)?;
+    let other = views(alloc, &[(16, 6, [-1, -1, 1], 3)])?;
+    all.push(Stmt::If(Cond::Var(Id(2)), then, other))?;
+    Ok(())
 }
 
 fn body(alloc: Global) -> Result<Block, AllocError> {
     let dims = extents(alloc, &[2, 0, 3])?;
-    let mut all = Block::single(
+    let mut all = views(
         alloc,
-        Stmt::Alloc(binder(alloc, 10)?, Cell::I32, dims, MemId(0)),
+        &[
+            (11, 3, [-1, 2, 0], 2),
+            (12, 5, [1, -1, -1], 3),
+            (13, 12, [-1, 3, 0], 2),
+            (14, 9, [1, -1, 0], 2),
+        ],
     )?;
-    all.push(view(alloc, 11, 3, &[-1, 2])?)?;
-    all.push(view(alloc, 12, 5, &[1, -1, -1])?)?;
-    all.push(view(alloc, 13, 12, &[-1, 3])?)?;
-    all.push(view(alloc, 14, 9, &[1, -1])?)?;
-    let inner = Block::single(alloc, view(alloc, 15, 10, &[0, -1, -1])?)?;
-    all.push(Stmt::For(binder(alloc, 20)?, lit(0), lit(4), inner))?;
-    let then = Block::single(alloc, Stmt::Pass)?;
-    let other = Block::single(alloc, view(alloc, 16, 6, &[-1, -1, 1])?)?;
-    all.push(Stmt::If(Cond::Var(Id(2)), then, other))?;
+    all.push(Stmt::Alloc(binder(alloc, 10)?, Cell::I32, dims, MemId(0)))?;
+    branches(alloc, &mut all)?;
     Ok(all)
 }
 

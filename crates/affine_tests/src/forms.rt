@@ -16,76 +16,101 @@ pub fn answer(alloc: Global, unit: &Unit, facts: &Facts, e: &Ctrl) -> Result<Str
     show_form(alloc, &normal(alloc, unit, ProcId(0), facts, e))
 }
 
-/// Sums and products over the variables 0 and 1.
+/// `-(2 * 3) + 1`
+fn opposite(alloc: Global) -> Result<Ctrl, AllocError> {
+    let six = times(alloc, lit(2), lit(3))?;
+    plus(alloc, negated(alloc, six)?, lit(1))
+}
+
+/// `v0 + 3 - v0`
+fn cancelled(alloc: Global) -> Result<Ctrl, AllocError> {
+    minus(alloc, plus(alloc, var(0), lit(3))?, var(0))
+}
+
+/// `v0 + v1 - v0 + v0`: the term that cancelled comes again at its place.
+fn come_again(alloc: Global) -> Result<Ctrl, AllocError> {
+    let sum = plus(alloc, var(0), var(1))?;
+    plus(alloc, minus(alloc, sum, var(0))?, var(0))
+}
+
+/// `v1 + v0 + v1`
+fn first_appearance(alloc: Global) -> Result<Ctrl, AllocError> {
+    plus(alloc, plus(alloc, var(1), var(0))?, var(1))
+}
+
+/// `3 * (v0 - 2)`
+fn left_literal(alloc: Global) -> Result<Ctrl, AllocError> {
+    times(alloc, lit(3), minus(alloc, var(0), lit(2))?)
+}
+
+/// `(v0 + 1) * (1 + 1)`
+fn right_literal(alloc: Global) -> Result<Ctrl, AllocError> {
+    let two = plus(alloc, lit(1), lit(1))?;
+    times(alloc, plus(alloc, var(0), lit(1))?, two)
+}
+
+/// Sums and products.
 fn sums(alloc: Global, k: usize) -> Result<Ctrl, AllocError> {
     match k {
         0 => Ok(lit(5)),
-        // -(2 * 3) + 1
-        1 => plus(
-            alloc,
-            negated(alloc, times(alloc, lit(2), lit(3))?)?,
-            lit(1),
-        ),
-        // v0 + 3 - v0
-        2 => minus(alloc, plus(alloc, var(0), lit(3))?, var(0)),
-        // v0 + v1 - v0 + v0: the term that cancelled comes again at its place
-        3 => {
-            let gone = minus(alloc, plus(alloc, var(0), var(1))?, var(0))?;
-            plus(alloc, gone, var(0))
-        }
-        // v1 + v0 + v1
-        4 => plus(alloc, plus(alloc, var(1), var(0))?, var(1)),
-        // 3 * (v0 - 2)
-        5 => times(alloc, lit(3), minus(alloc, var(0), lit(2))?),
-        // (v0 + 1) * (1 + 1)
-        _ => {
-            let two = plus(alloc, lit(1), lit(1))?;
-            times(alloc, plus(alloc, var(0), lit(1))?, two)
-        }
+        1 => opposite(alloc),
+        2 => cancelled(alloc),
+        3 => come_again(alloc),
+        4 => first_appearance(alloc),
+        5 => left_literal(alloc),
+        _ => right_literal(alloc),
     }
+}
+
+/// `8 * v0 + k`
+fn eights(alloc: Global, k: i64) -> Result<Ctrl, AllocError> {
+    plus(alloc, times(alloc, lit(8), var(0))?, lit(k))
+}
+
+/// `5 * v1 + 8 * v0`
+fn two_terms(alloc: Global) -> Result<Ctrl, AllocError> {
+    let five = times(alloc, lit(5), var(1))?;
+    plus(alloc, five, times(alloc, lit(8), var(0))?)
+}
+
+/// `(5 * v1 + 8 * v0 + 9) / 4`: what 4 divides is taken out first.
+fn taken_out(alloc: Global) -> Result<Ctrl, AllocError> {
+    let sum = plus(alloc, two_terms(alloc)?, lit(9))?;
+    over(alloc, sum, 4)
+}
+
+/// `(v0 - 5) / 4 + 2`
+fn moved(alloc: Global) -> Result<Ctrl, AllocError> {
+    let quotient = over(alloc, minus(alloc, var(0), lit(5))?, 4)?;
+    plus(alloc, quotient, lit(2))
+}
+
+/// `(v0 / 4 + v1) / 3`
+fn nested(alloc: Global) -> Result<Ctrl, AllocError> {
+    let inner = over(alloc, var(0), 4)?;
+    over(alloc, plus(alloc, inner, var(1))?, 3)
+}
+
+/// `(v0 + v1) / 4 - (v1 + v0) / 4`
+fn other_order(alloc: Global) -> Result<Ctrl, AllocError> {
+    let left = over(alloc, plus(alloc, var(0), var(1))?, 4)?;
+    let right = over(alloc, plus(alloc, var(1), var(0))?, 4)?;
+    minus(alloc, left, right)
 }
 
 /// Quotients and remainders.
 fn quotients(alloc: Global, k: usize) -> Result<Ctrl, AllocError> {
     match k {
-        // -3 / 8 and -3 % 8
         0 => over(alloc, negated(alloc, lit(3))?, 8),
         1 => modulo(alloc, negated(alloc, lit(3))?, 8),
-        // (5 * v1 + 8 * v0 + 9) / 4: what 4 divides is taken out first
-        2 => {
-            let five = times(alloc, lit(5), var(1))?;
-            let eight = times(alloc, lit(8), var(0))?;
-            let sum = plus(alloc, plus(alloc, five, eight)?, lit(9))?;
-            over(alloc, sum, 4)
-        }
-        // (8 * v0 + 9) / 4: a rest that is only a constant vanishes
-        3 => {
-            let eight = times(alloc, lit(8), var(0))?;
-            over(alloc, plus(alloc, eight, lit(9))?, 4)
-        }
-        // v0 % 8
+        2 => taken_out(alloc),
+        // a rest that is only a constant vanishes
+        3 => over(alloc, eights(alloc, 9)?, 4),
         4 => modulo(alloc, var(0), 8),
-        // (v0 - 5) / 4 + 2
-        5 => {
-            let moved = minus(alloc, var(0), lit(5))?;
-            plus(alloc, over(alloc, moved, 4)?, lit(2))
-        }
-        // (v0 / 4 + v1) / 3
-        6 => {
-            let inner = over(alloc, var(0), 4)?;
-            over(alloc, plus(alloc, inner, var(1))?, 3)
-        }
-        // (v0 + v1) / 4 - (v1 + v0) / 4
-        7 => {
-            let left = over(alloc, plus(alloc, var(0), var(1))?, 4)?;
-            let right = over(alloc, plus(alloc, var(1), var(0))?, 4)?;
-            minus(alloc, left, right)
-        }
-        // (8 * v0 + 3) % 4
-        _ => {
-            let eight = times(alloc, lit(8), var(0))?;
-            modulo(alloc, plus(alloc, eight, lit(3))?, 4)
-        }
+        5 => moved(alloc),
+        6 => nested(alloc),
+        7 => other_order(alloc),
+        _ => modulo(alloc, eights(alloc, 3)?, 4),
     }
 }
 
@@ -96,22 +121,38 @@ fn widest(alloc: Global) -> Result<Ctrl, AllocError> {
     times(alloc, left, right)
 }
 
+/// `-(2^62) - 1`
+fn below(alloc: Global) -> Result<Ctrl, AllocError> {
+    minus(alloc, negated(alloc, widest(alloc)?)?, lit(1))
+}
+
+/// `2 * (2^62 * v0)`
+fn twice(alloc: Global) -> Result<Ctrl, AllocError> {
+    times(alloc, lit(2), times(alloc, widest(alloc)?, var(0))?)
+}
+
+/// `(2^62 + 1) * 0`: a part that is too wide, though the whole is 0.
+fn wide_part(alloc: Global) -> Result<Ctrl, AllocError> {
+    times(alloc, plus(alloc, widest(alloc)?, lit(1))?, lit(0))
+}
+
+/// `2^62 * v0 + v0 - v0`: a term that is too wide, and then no more.
+fn wide_between(alloc: Global) -> Result<Ctrl, AllocError> {
+    let product = times(alloc, widest(alloc)?, var(0))?;
+    minus(alloc, plus(alloc, product, var(0))?, var(0))
+}
+
 /// Numbers at and past 2^62.
 fn wide(alloc: Global, k: usize) -> Result<Ctrl, AllocError> {
     match k {
         0 => widest(alloc),
         1 => plus(alloc, widest(alloc)?, lit(1)),
         2 => negated(alloc, widest(alloc)?),
-        3 => minus(alloc, negated(alloc, widest(alloc)?)?, lit(1)),
+        3 => below(alloc),
         4 => times(alloc, widest(alloc)?, var(0)),
-        5 => times(alloc, lit(2), times(alloc, widest(alloc)?, var(0))?),
-        // a part that is too wide, though the whole is 0
-        6 => times(alloc, plus(alloc, widest(alloc)?, lit(1))?, lit(0)),
-        // a term that is too wide, and cancels
-        _ => {
-            let twice = plus(alloc, times(alloc, widest(alloc)?, var(0))?, var(0))?;
-            minus(alloc, twice, var(0))
-        }
+        5 => twice(alloc),
+        6 => wide_part(alloc),
+        _ => wide_between(alloc),
     }
 }
 
