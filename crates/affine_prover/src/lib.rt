@@ -11,8 +11,6 @@ mod normalize;
 mod number;
 mod row;
 mod signs;
-#[cfg(test)]
-mod tests;
 
 pub use answer::Verdict;
 pub use decide::verdict;

@@ -1,4 +1,4 @@
-//! Tables of expressions and claims with their forms and systems, worked out by hand.
+//! Tables of expressions and claims with their forms and systems, and of systems with their verdicts, worked out by hand.
 #![tactic(auto)]
 
 #[cfg(test)]
@@ -19,3 +19,5 @@ mod strides;
 mod systems;
 #[cfg(test)]
 mod trees;
+#[cfg(test)]
+mod verdicts;

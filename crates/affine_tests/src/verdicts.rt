@@ -1,6 +1,6 @@
 //! Verdicts on systems that were worked out by hand.
-use crate::{Verdict, verdict};
 use affine_forms::{Row, System, Term};
+use affine_prover::{Verdict, verdict};
 use std::alloc::Global;
 use std::test::Fail;
 
