@@ -5,8 +5,6 @@ mod first_form;
 pub mod laws;
 mod lowering;
 mod show;
-#[cfg(test)]
-mod tests;
 mod text;
 pub mod tree;
 
