@@ -1,6 +1,8 @@
-//! The program over files and sinks in memory: at its limits, with faults in mid-stream, and on units that break a rule.
+//! The program over files and sinks in memory: worked examples, refusals, its limits, faults in mid-stream, and units that break a rule.
 #![tactic(auto)]
 
+#[cfg(test)]
+mod examples;
 #[cfg(test)]
 mod limits;
 #[cfg(test)]

@@ -1,7 +1,5 @@
 // The program over files and sinks in memory: worked examples, refusals and faults.
-use crate::memory::{MemFiles, MemSink};
-use crate::status::Status;
-use crate::work::exoc;
+use exo_cli::{MemFiles, MemSink, Status, exoc};
 use std::alloc::{AllocError, Global};
 use std::test::Fail;
 use std::thread::Threads;
