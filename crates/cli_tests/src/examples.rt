@@ -1,5 +1,6 @@
 // The program over files and sinks in memory: worked examples, refusals and faults.
 use exo_cli::{MemFiles, MemSink, Status, exoc};
+use ob_check::Free;
 use std::alloc::{AllocError, Global};
 use std::test::Fail;
 use std::thread::Threads;
@@ -51,7 +52,7 @@ fn run<R: Threads + Sync + AllocGlobal>(
     let mut out = MemSink::new(alloc, Vec::new(alloc), room)?;
     let mut err = MemSink::new(alloc, Vec::new(alloc), 4096)?;
     let words = strings(alloc, words)?;
-    let status = exoc(rt, alloc, &words, &mut files, &mut out, &mut err);
+    let status = exoc(rt, alloc, &words, &mut files, &mut out, &mut err, &Free);
     Ok(Outcome { status, out, err })
 }
 
@@ -163,11 +164,12 @@ fn faults_are_answered(rt: HostRuntime) -> Result<(), Fail> {
 fn other_words_are_usage(rt: HostRuntime) -> Result<(), Fail> {
     let usage =
         b"exoc: usage: exoc compile PROCS SCHEDULE | check PROCS | show PROCS SCHEDULE NAME | gen N\n";
-    let cases: [&[&str]; 5] = [
+    let cases: [&[&str]; 6] = [
         &["exoc", "compile", "u.py"],
         &["exoc", "compile", "u.py", "-s.py"],
         &["exoc", "compile", "", "s.py"],
-        &["exoc", "check", "u.py"],
+        &["exoc", "check"],
+        &["exoc", "check", "u.py", "s.py"],
         &[],
     ];
     for words in cases {

@@ -1,5 +1,6 @@
 // Runs of the program over files and sinks in memory.
 use exo_cli::{MemFiles, MemSink, Status, exoc};
+use ob_check::Free;
 use std::alloc::{AllocError, Global};
 use std::thread::Threads;
 
@@ -34,6 +35,6 @@ pub fn compile<R: Threads + Sync + AllocGlobal>(
     for word in ["exoc", "compile", "u.py", "s.py"] {
         words.push(String::from_str(alloc, word)?)?;
     }
-    let status = exoc(rt, alloc, &words, &mut files, &mut out, &mut err);
+    let status = exoc(rt, alloc, &words, &mut files, &mut out, &mut err, &Free);
     Ok(Outcome { status, out, err })
 }

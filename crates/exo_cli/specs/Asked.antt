@@ -1,7 +1,8 @@
 -- The program's commands as plain ones.
 use Rattle.exo_cli.specs.declared.words.Command.{Command}
-use Rattle.exo_cli.specs.declared.words.Command.TheVariants.{Compile}
+use Rattle.exo_cli.specs.declared.words.Command.TheVariants.{Compile, Check}
 use Rattle.exo_cli.specs.Words as plainly
 
 abbrev pub plain : Command → plainly.Command
 plain (Compile procs schedule) = plainly.Compile procs.now schedule.now
+plain (Check procs) = plainly.Check procs.now

@@ -12,6 +12,7 @@ pub mod ScheduleForm
 pub mod Sessions
 pub mod FirstUnits
 pub mod Compiled
+pub mod Checking
 pub mod Built
 pub mod Replies
 pub mod Work

@@ -30,3 +30,15 @@ line_refused name number operator why = line (name ∷ codes ":" ∷ decimal num
 -- a text is refused at a place: its line, its column and why
 abbrev pub place_refused : List ℕ → ℕ → ℕ → List ℕ → List ℕ
 place_refused name row column why = line (name ∷ codes ":" ∷ decimal row ∷ codes ":" ∷ decimal column ∷ codes ": " ∷ why ∷ [])
+
+-- a unit is refused at a line
+abbrev pub unit_refused : List ℕ → ℕ → List ℕ → List ℕ
+unit_refused name row why = line (name ∷ codes ":" ∷ decimal row ∷ codes ": " ∷ why ∷ [])
+
+-- what is owed at a line is not shown: the claim, and the verdict on it
+abbrev pub not_shown : List ℕ → ℕ → List ℕ → List ℕ → List ℕ
+not_shown name row what verdict = unit_refused name row (codes "NotShown " ++ what ++ codes " " ++ verdict)
+
+-- so many obligations, and all are shown
+abbrev pub checked : ℕ → List ℕ
+checked count = decimal count ++ codes " obligations\nok\n"

@@ -7,6 +7,7 @@ use Rattle.std.specs.declared.alloc.Global.{Global}
 -- what the program is asked to do; its operands are names of files
 pub data Command : Type 0 where
   Compile : List ℕ → List ℕ → Command
+  Check : List ℕ → Command
 
 -- the bytes of each word
 abbrev pub texts : List (String Global) → List (List ℕ)
@@ -21,8 +22,10 @@ is_operand (first ∷ rest) = not (first == 45)
 abbrev pub command_of : List (List ℕ) → Option Command
 command_of (program ∷ word ∷ procs ∷ schedule ∷ []) =
     if bytes_eq word (codes "compile") && is_operand procs && is_operand schedule then Some (Compile procs schedule) else None
+command_of (program ∷ word ∷ procs ∷ []) = if bytes_eq word (codes "check") && is_operand procs then Some (Check procs) else None
 command_of words = None
 
 -- the files that a command reads, in order
 abbrev pub files_of : Command → List (List ℕ)
 files_of (Compile procs schedule) = procs ∷ schedule ∷ []
+files_of (Check procs) = procs ∷ []

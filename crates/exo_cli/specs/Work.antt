@@ -5,9 +5,10 @@ use Rattle.exo_cli.specs.declared.status.Status.{Status}
 use Rattle.exo_cli.specs.declared.status.Status.TheVariants.{Ok, Usage, ReadFault, WriteFault, Memory}
 use Rattle.exo_cli.specs.Outside.{Folder, content_of, IsLonger, Rose, with_more, StopsWithin}
 use Rattle.exo_cli.specs.Messages.{usage, cannot_read, file_refused}
-use Rattle.exo_cli.specs.Words.{Command, Compile, command_of, files_of}
+use Rattle.exo_cli.specs.Words.{Command, Compile, Check, command_of, files_of}
 use Rattle.exo_cli.specs.Answer.{Answer, Accepted, Rejected, Unread, Misused, status_of, for_out, for_err}
 use Rattle.exo_cli.specs.Compiled.{IsCompiled}
+use Rattle.exo_cli.specs.Checking.{IsChecked}
 
 -- the most bytes that a file may have
 abbrev pub file_limit : ℕ
@@ -23,6 +24,7 @@ Opens (Some bytes) name next answer =
 abbrev pub AnswersTo : Command → Folder → Answer → Type 0
 AnswersTo (Compile procs schedule) files =
     Opens (content_of files procs) procs (λ unit. Opens (content_of files schedule) schedule (λ lines. IsCompiled procs unit schedule lines))
+AnswersTo (Check procs) files = Opens (content_of files procs) procs (IsChecked procs)
 
 -- this is the answer to the words over these files
 abbrev pub Answers : List (List ℕ) → Folder → Answer → Type 0

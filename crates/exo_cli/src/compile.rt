@@ -66,7 +66,7 @@ fn kind_text(kind: ReadKind) -> &'static str
 }
 
 /// The text of this name is no unit.
-fn refuse_text(alloc: Global, name: &str, e: ReadError) -> Result<Reply, AllocError>
+pub(crate) fn refuse_text(alloc: Global, name: &str, e: ReadError) -> Result<Reply, AllocError>
     ensures answer { IfOk result (λ reply. plain reply ≡ Rejected (place_refused name.now e.line e.column (kind_text e.kind))) }
     ensures verdict { IfOk result (λ reply. IsVerdict (plain reply)) }
     ensures cause { IfOk result (λ _. e.kind ≢ ReadKind.Memory) }
@@ -115,7 +115,7 @@ fn rule_text(rule: TypeKind) -> &'static str
 }
 
 /// The text of this name breaks a rule.
-fn refuse_rule(alloc: Global, name: &str, e: TypeError) -> Result<Reply, AllocError>
+pub(crate) fn refuse_rule(alloc: Global, name: &str, e: TypeError) -> Result<Reply, AllocError>
     ensures answer { IfOk result (λ reply. plain reply ≡ Rejected (place_refused name.now e.line e.column (rule_text e.kind))) }
     ensures verdict { IfOk result (λ reply. IsVerdict (plain reply)) }
     ensures cause { IfOk result (λ _. e.kind ≢ TypeKind.Memory) }

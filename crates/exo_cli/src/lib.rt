@@ -2,6 +2,7 @@
 //! what it writes.
 #![tactic(auto)]
 
+mod check;
 mod commute;
 mod compile;
 mod count;
@@ -26,3 +27,6 @@ pub use outside::{Failed, FileFault, Files, Sink, write_all};
 pub use reply::Reply;
 pub use status::Status;
 pub use work::exoc;
+
+#[cfg(test)]
+mod tests;

@@ -1,6 +1,6 @@
 // The messages of the program, each a line.
 ghost use Rattle.std.specs.Prelude.{◌≡◌, string_bytes, IfOk};
-ghost use Rattle.exo_cli.specs.Messages.{usage, cannot_read, file_refused, place_refused, line_refused};
+ghost use Rattle.exo_cli.specs.Messages.{usage, cannot_read, file_refused, place_refused, line_refused, unit_refused, not_shown, checked};
 
 use std::alloc::{AllocError, Global};
 
@@ -52,4 +52,36 @@ pub(crate) fn line_refused(
     ensures { IfOk result (λ text. string_bytes text ≡ line_refused name.now number operator.now why.now) }
 {
     format!(in alloc; "exoc: {name}:{number}: {operator} {why}\n")
+}
+
+/// A unit is refused at a line.
+pub(crate) fn unit_refused(
+    alloc: Global,
+    name: &str,
+    line: u32,
+    why: &str,
+) -> Result<String, AllocError>
+    ensures { IfOk result (λ text. string_bytes text ≡ unit_refused name.now line why.now) }
+{
+    format!(in alloc; "exoc: {name}:{line}: {why}\n")
+}
+
+/// What is owed at a line is not shown: the claim, and the verdict on it.
+pub(crate) fn not_shown(
+    alloc: Global,
+    name: &str,
+    line: u32,
+    what: &str,
+    verdict: &str,
+) -> Result<String, AllocError>
+    ensures { IfOk result (λ text. string_bytes text ≡ not_shown name.now line what.now verdict.now) }
+{
+    format!(in alloc; "exoc: {name}:{line}: NotShown {what} {verdict}\n")
+}
+
+/// All obligations are shown; their number.
+pub(crate) fn checked(alloc: Global, count: u64) -> Result<String, AllocError>
+    ensures { IfOk result (λ text. string_bytes text ≡ checked count) }
+{
+    format!(in alloc; "{count} obligations\nok\n")
 }

@@ -8,6 +8,8 @@ ghost use Rattle.exo_cli.specs.Asked.{plain};
 pub(crate) enum Command<'a> {
     /// Compile the procedures of the first file by the schedule of the second.
     Compile(&'a str, &'a str),
+    /// Check the procedures of the file.
+    Check(&'a str),
 }
 
 /// The command of the words, the first of which is the program's name.
@@ -20,6 +22,9 @@ pub(crate) fn read_command(words: &[String]) -> Option<Command<'_>>
                 && is_operand(procs.as_str())
                 && is_operand(schedule.as_str()) => {
             Some(Command::Compile(procs.as_str(), schedule.as_str()))
+        }
+        [_, word, procs] if word.as_str() == "check" && is_operand(procs.as_str()) => {
+            Some(Command::Check(procs.as_str()))
         }
         _ => None,
     }

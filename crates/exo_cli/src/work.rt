@@ -2,16 +2,18 @@
 ghost use Rattle.std.specs.Prelude.{◌≡◌, ◌≤◌, IfOk, IfSome, MatchResult, length};
 ghost use Rattle.exo_cli.specs.Headline.{Promised};
 ghost use Rattle.exo_cli.specs.Outside.{HasBytes};
-ghost use Rattle.exo_cli.specs.Words.{Compile, texts};
+ghost use Rattle.exo_cli.specs.Words.{Compile, Check, texts};
 ghost use Rattle.exo_cli.specs.Replies.{plain};
 ghost use Rattle.exo_cli.specs.Work.{Ends, EndsAt, IsAnswer, IsAnswerTo, file_limit};
 
+use crate::check::check;
 use crate::compile::compile;
 use crate::messages;
 use crate::outside::{FileFault, Files, Sink};
 use crate::reply::Reply;
 use crate::status::Status;
 use crate::words::{Command, read_command};
+use ob_check::Gate;
 use std::alloc::{AllocError, Global};
 use std::thread::Threads;
 
@@ -20,13 +22,14 @@ const FILE_LIMIT: usize = 1 << 20;
 
 /// Does what the words ask, with `words[0]` the program's name: it reads the files that they name, puts the result
 /// to `out` or a message to `err`, and says how that ended. All is read and made before anything is written.
-pub fn exoc<R: Threads + Sync, F: Files, O: Sink, E: Sink>(
-    _rt: &R,
+pub fn exoc<R: Threads + Sync, F: Files, O: Sink, E: Sink, G: Gate>(
+    rt: &R,
     alloc: Global,
     words: &[String],
     files: &mut F,
     out: &mut O,
     err: &mut E,
+    gate: &G,
 ) -> Status
     ensures ends { Ends (texts words.now)
         (record {
@@ -50,19 +53,26 @@ pub fn exoc<R: Threads + Sync, F: Files, O: Sink, E: Sink>(
         result }
     ensures promise { result ≡ Status.Ok → IfSome (F.told files.old) (λ folder. Promised (texts words.now) folder (O.taken out.old) (O.taken out.new)) }
 {
-    match reply_to(alloc, words, files) {
+    match reply_to(rt, alloc, words, files, gate) {
         Ok(reply) => reply.deliver(out, err),
         Err(_) => Status::Memory,
     }
 }
 
 /// What is replied to the words.
-fn reply_to<F: Files>(alloc: Global, words: &[String], files: &mut F) -> Result<Reply, AllocError>
+fn reply_to<R: Threads + Sync, F: Files, G: Gate>(
+    rt: &R,
+    alloc: Global,
+    words: &[String],
+    files: &mut F,
+    gate: &G,
+) -> Result<Reply, AllocError>
     ensures { IfOk result (λ reply. IsAnswer (texts words.now) (F.told files.old) (F.faults files.old) (F.faults files.new)
         (F.last_fault files.new) (plain reply)) }
 {
     match read_command(words) {
         Some(Command::Compile(procs, schedule)) => compile_files(alloc, procs, schedule, files),
+        Some(Command::Check(procs)) => check_file(rt, alloc, procs, files, gate),
         None => Ok(Reply::Misused(messages::usage(alloc)?)),
     }
 }
@@ -86,6 +96,24 @@ fn compile_files<F: Files>(
         Err(reply) => return Ok(reply),
     };
     compile(alloc, procs, &unit, schedule, &lines)
+}
+
+/// What is replied to the command to check this file.
+fn check_file<R: Threads + Sync, F: Files, G: Gate>(
+    rt: &R,
+    alloc: Global,
+    procs: &str,
+    files: &mut F,
+    gate: &G,
+) -> Result<Reply, AllocError>
+    ensures { IfOk result (λ reply. IsAnswerTo (Check procs.now) (F.told files.old) (F.faults files.old)
+        (F.faults files.new) (F.last_fault files.new) (plain reply)) }
+{
+    let text = match read_text(alloc, files, procs)? {
+        Ok(bytes) => bytes,
+        Err(reply) => return Ok(reply),
+    };
+    check(rt, alloc, procs, &text, gate)
 }
 
 /// The bytes of the file, or the reply with which the work ends there.

@@ -2,6 +2,7 @@
 #![tactic(auto)]
 
 use exo_cli::{DiskFiles, Status, StdSink, exoc};
+use ob_check::Free;
 use std::env;
 use std::process::ExitCode;
 
@@ -21,6 +22,6 @@ fn main(rt: HostRuntime) -> ExitCode {
     let mut files = DiskFiles::new(rt);
     let mut out = StdSink::new(rt.stdout());
     let mut err = StdSink::new(rt.stderr());
-    let status = exoc(&rt, rt.alloc(), &words, &mut files, &mut out, &mut err);
+    let status = exoc(&rt, rt.alloc(), &words, &mut files, &mut out, &mut err, &Free);
     ExitCode::from(status.number())
 }

@@ -1,0 +1,124 @@
+// From the text of a unit to whether its procedures show what they owe.
+ghost use Rattle.std.specs.Prelude.{◌≡◌, ◌≤◌, length, IfOk};
+ghost use Rattle.exo_tree.specs.PlainUnit.{program};
+ghost use Rattle.exo_meaning.specs.Units.{IsUnit};
+ghost use Rattle.exo_types.specs.Typed.{IsPlaced, items_of};
+ghost use Rattle.exo_types.specs.UnitRules.{unit_fault};
+ghost use Rattle.exo_cli.specs.Checking.{IsChecked, typed, well_formed, verdict_text};
+ghost use Rattle.exo_cli.specs.Replies.{plain};
+
+use crate::compile::{refuse_rule, refuse_text};
+use crate::messages;
+use crate::reply::Reply;
+use affine_forms::FormError;
+use affine_prover::Verdict;
+use exo_source::unit::{Source, read_unit};
+use exo_tree::Unit;
+use exo_types::unit::check_types;
+use ob_check::{Gate, new_cache};
+use obligations::CheckError;
+use std::alloc::{AllocError, Global};
+use std::thread::Threads;
+use unit_check::{UnitRefused, Why, check_unit, line_of};
+
+/// Checks the unit whose file has that name.
+pub(crate) fn check<R: Threads + Sync, G: Gate>(
+    rt: &R,
+    alloc: Global,
+    name: &str,
+    text: &[u8],
+    gate: &G,
+) -> Result<Reply, AllocError>
+    requires { length text.now ≤ 1048576 }
+    ensures { IfOk result (λ reply. IsChecked name.now text.now (plain reply)) }
+{
+    match read_unit(alloc, text) {
+        Ok(source) => check_source(rt, alloc, name, &source, gate),
+        Err(e) => refuse_text(alloc, name, e),
+    }
+}
+
+/// Tests the rules of the unit, and checks what it stands for.
+fn check_source<R: Threads + Sync, G: Gate>(
+    rt: &R,
+    alloc: Global,
+    name: &str,
+    source: &Source,
+    gate: &G,
+) -> Result<Reply, AllocError>
+    requires { IsPlaced source.now }
+    ensures { IfOk result (λ reply. plain reply ≡ typed name.now source.now.places.items (items_of source.now) (unit_fault (items_of source.now))) }
+{
+    match check_types(alloc, source) {
+        Ok(unit) => check_typed(rt, alloc, name, &unit, gate),
+        Err(e) => refuse_rule(alloc, name, e),
+    }
+}
+
+/// Checks a unit that keeps the rules.
+fn check_typed<R: Threads + Sync, G: Gate>(
+    rt: &R,
+    alloc: Global,
+    name: &str,
+    unit: &Unit,
+    gate: &G,
+) -> Result<Reply, AllocError>
+    requires { IsUnit (program unit.now) }
+    ensures { IfOk result (λ reply. plain reply ≡ well_formed name.now (program unit.now) unit.now.lines) }
+{
+    let mut cache = new_cache(alloc)?;
+    match check_unit(rt, alloc, unit, &mut cache, gate) {
+        Ok(count) => Ok(Reply::Accepted(messages::checked(alloc, count)?)),
+        Err(refused) => refuse_unit(alloc, name, unit, &refused),
+    }
+}
+
+/// The unit of this file is not shown.
+fn refuse_unit(
+    alloc: Global,
+    name: &str,
+    unit: &Unit,
+    refused: &UnitRefused,
+) -> Result<Reply, AllocError> {
+    let line = line_of(unit, refused);
+    let message = match &refused.why {
+        Why::Memory => return Err(AllocError),
+        Why::Check(e) => messages::unit_refused(alloc, name, line, check_text(*e))?,
+        Why::NotShown { what, verdict, .. } => {
+            messages::not_shown(alloc, name, line, what.as_str(), verdict_text(*verdict))?
+        }
+    };
+    Ok(Reply::Rejected(message))
+}
+
+/// The cause for which obligations can't be listed, as messages have it.
+fn check_text(error: CheckError) -> &'static str {
+    match error {
+        CheckError::TooManyObligations => "TooManyObligations",
+        CheckError::Form(form) => form_text(form),
+        CheckError::Memory => "Memory",
+    }
+}
+
+/// The cause for which a claim has no systems, as messages have it.
+fn form_text(error: FormError) -> &'static str {
+    match error {
+        FormError::TooManyCases => "TooManyCases",
+        FormError::SystemTooLarge => "SystemTooLarge",
+        FormError::WideNumber => "WideNumber",
+        FormError::TooManySystems => "TooManySystems",
+        FormError::Memory => "Memory",
+    }
+}
+
+/// A verdict as messages have it.
+fn verdict_text(verdict: Verdict) -> &'static str
+    ensures { result.now ≡ verdict_text verdict }
+{
+    match verdict {
+        Verdict::Shown => "Shown",
+        Verdict::Open => "Open",
+        Verdict::TooMany => "TooMany",
+        Verdict::TooWide => "TooWide",
+    }
+}

@@ -1,0 +1,5 @@
+pub mod Fields
+pub mod Steps
+pub mod Rooms
+pub mod Openings
+pub mod Adding

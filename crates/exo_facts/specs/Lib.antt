@@ -1,0 +1,5 @@
+pub mod Contexts
+pub mod Values
+pub mod Tables
+pub mod Walks
+pub mod Laws

@@ -1,0 +1,15 @@
+//! What holds at a place of a procedure: formulas of its parameters, assertions, loops and branches, and what is known of configuration fields.
+#![tactic(auto)]
+
+mod after;
+mod agreement;
+mod context;
+mod enter;
+mod ground;
+mod known;
+pub mod laws;
+mod value;
+mod walk;
+mod writes;
+
+pub use context::context_at;

@@ -1,0 +1,5 @@
+pub mod Paths
+pub mod Errors
+pub mod Limits
+pub mod Obligations
+pub mod Outcomes

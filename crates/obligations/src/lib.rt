@@ -1,0 +1,10 @@
+//! What a procedure has to show, as systems of linear constraints that must have no integer point.
+#![tactic(auto)]
+
+mod claims;
+mod error;
+mod list;
+mod owed;
+
+pub use error::CheckError;
+pub use list::obligations;

@@ -1,0 +1,88 @@
+//! The obligations of a procedure.
+ghost use Rattle.std.specs.Prelude.{◌≡◌, Some, map, not, slice_get};
+ghost use Rattle.std.specs.List.{position_or_len};
+ghost use Rattle.exo_tree.specs.PlainProcedure.{procedure};
+ghost use Rattle.exo_tree.specs.PlainUnit.{program};
+ghost use Rattle.exo_meaning.specs.Units.{IsUnit};
+ghost use Rattle.bounds_check.specs.PlainClaim.{placed};
+ghost use Rattle.bounds_check.specs.Claims.{claims_of};
+ghost use Rattle.obligations.specs.Paths.{same_path};
+ghost use Rattle.obligations.specs.Outcomes.{AreObligations, AreObligationsIn};
+
+use crate::claims::{Site, put_claims};
+use crate::error::CheckError;
+use crate::owed::Owed;
+use affine_places::Roots;
+use affine_systems::Obligation;
+use bounds_check::{Placed, claims_of};
+use exo_tree::{Path, Proc, ProcId, Unit};
+use std::alloc::Global;
+
+/// Whether two paths are the same.
+fn same_path(a: &Path, b: &Path) -> bool
+    ensures { result ≡ same_path a.now b.now }
+{
+    a.as_slice() == b.as_slice()
+}
+
+/// How many claims come before the first of another place.
+fn count_at(claims: &[Placed], place: &Path) -> usize
+    ensures { result ≡ position_or_len (λ c. not (same_path c.place place.now)) (map placed claims.now) }
+{
+    for (k, c) in claims.iter().enumerate() {
+        if !same_path(&c.place, place) {
+            return k;
+        }
+    }
+    claims.len()
+}
+
+/// The obligations of claims of a procedure.
+fn obligations_of_claims(
+    alloc: Global,
+    unit: &Unit,
+    p: ProcId,
+    proc: &Proc,
+    claims: &[Placed],
+) -> Result<Vec<Obligation>, CheckError>
+    requires unit { IsUnit (program unit.now) }
+    requires found { slice_get (program unit.now).procedures p.0 ≡ Some (procedure proc.now) }
+    requires claims { map placed claims.now ≡ claims_of (program unit.now) (procedure proc.now) }
+    ensures { AreObligations result (program unit.now) (procedure proc.now) }
+{
+    let roots = Roots::of(alloc, proc)?;
+    let site = Site {
+        unit,
+        p,
+        roots: &roots,
+    };
+    let mut out = Owed::new(alloc);
+    let mut from = 0;
+    while from < claims.len() {
+        let rest = &claims[from..];
+        let place = &rest[0].place;
+        let count = count_at(rest, place);
+        put_claims(alloc, &site, place, &rest[..count], &mut out)?;
+        from += count;
+    }
+    Ok(out.into_items())
+}
+
+/// What the procedure `p` of the unit owes: for each of its claims, in text order, a system for each case in which the
+/// context of its place holds and the claim does not. The procedure does not fault if no system has an integer point.
+///
+/// `Form` where a claim has no systems within the limits: `WideNumber` where a normal form of it or of its context is too
+/// wide, else `TooManyCases` where it has more than 64 cases, else `SystemTooLarge`. `TooManyObligations` where the list
+/// passes 65,536 obligations or 4,194,304 terms. The first claim that is refused decides, and of it `Form` comes first.
+pub fn obligations(alloc: Global, unit: &Unit, p: ProcId) -> Result<Vec<Obligation>, CheckError>
+    requires { IsUnit (program unit.now) }
+    ensures { AreObligationsIn result (program unit.now) (slice_get (program unit.now).procedures p.0) }
+{
+    match unit.procs.get(p.0 as usize) {
+        None => Ok(Vec::new(alloc)),
+        Some(proc) => {
+            let claims = claims_of(alloc, unit, p)?;
+            obligations_of_claims(alloc, unit, p, proc, &claims)
+        }
+    }
+}

@@ -1,0 +1,133 @@
+//! The check of a unit.
+ghost use Rattle.std.specs.Prelude.{◌≡◌, All, IfOk, Some, map, length, slice_get};
+ghost use Rattle.exo_tree.specs.Tree.{Procedure};
+ghost use Rattle.exo_tree.specs.PlainUnit.{program};
+ghost use Rattle.exo_meaning.specs.Units.{IsUnit};
+ghost use Rattle.affine_forms.specs.Affine.{HasNoIntegerPoint};
+ghost use Rattle.affine_systems.specs.Outcomes.{plain_obligation};
+ghost use Rattle.affine_prover.specs.Elimination.{elimination};
+ghost use Rattle.ob_check.specs.Answers.{answer_of};
+ghost use Rattle.ob_check.specs.Systems.{systems_of};
+ghost use Rattle.obligations.specs.Obligations.{Fault, obligations_of};
+ghost use Rattle.unit_check.specs.declared.refused.Why.TheVariants.{Memory};
+ghost use Rattle.obligations.specs.Outcomes.{IsRefusal};
+ghost use Rattle.unit_check.specs.Checked.{NotShown, NotListed, first_open, cause_of, checked, AllHold};
+ghost use Rattle.unit_check.specs.Outcomes.{IsChecked, Answers, IsOf};
+
+use crate::refused::{UnitRefused, Why};
+use affine_prover::Verdict;
+use affine_systems::Obligation;
+use exo_tree::{Path, ProcId, Text, Unit};
+use ob_check::{Answer, Cache, Gate, discharge};
+use obligations::{CheckError, obligations};
+use std::alloc::{AllocError, Global};
+use std::thread::Threads;
+
+/// Want of memory in the work on a procedure.
+fn out_of_memory(p: ProcId) -> UnitRefused
+    ensures { result.why ≡ Memory }
+{
+    UnitRefused {
+        proc: p,
+        place: Path::new(),
+        why: Why::Memory,
+    }
+}
+
+/// The obligations of a procedure can't be listed.
+fn not_listed(p: ProcId, error: CheckError) -> UnitRefused
+    ensures { (f : Fault) → IsRefusal error (Some f) → IsOf result p.0 (NotListed f) }
+{
+    match error {
+        CheckError::Memory => out_of_memory(p),
+        other => UnitRefused {
+            proc: p,
+            place: Path::new(),
+            why: Why::Check(other),
+        },
+    }
+}
+
+/// This obligation is not shown.
+fn not_shown(
+    alloc: Global,
+    p: ProcId,
+    o: &Obligation,
+    verdict: Verdict,
+) -> Result<UnitRefused, AllocError>
+    ensures { IfOk result (λ r. IsOf r p.0 (NotShown o.now.what o.now.place verdict)) }
+{
+    let what = o.what.duplicate(alloc)?;
+    let place = o.place.duplicate();
+    Ok(UnitRefused {
+        proc: p,
+        place: o.place.duplicate(),
+        why: Why::NotShown {
+            what,
+            place,
+            verdict,
+        },
+    })
+}
+
+/// What the answer on a procedure's obligations means.
+fn answered(alloc: Global, p: ProcId, obs: &[Obligation], answer: Answer) -> Result<(), UnitRefused>
+    requires { answer ≡ answer_of (map elimination (systems_of obs.now)) }
+    ensures { Answers result p.0 (first_open (map plain_obligation obs.now)) }
+{
+    match answer {
+        Answer::AllShown => Ok(()),
+        Answer::First { index, verdict } => match not_shown(alloc, p, &obs[index], verdict) {
+            Ok(refused) => Err(refused),
+            Err(_) => Err(out_of_memory(p)),
+        },
+    }
+}
+
+/// Discharges the obligations of a procedure, and counts them.
+fn check_procedure<R: Threads + Sync, G: Gate>(
+    rt: &R,
+    alloc: Global,
+    unit: &Unit,
+    p: ProcId,
+    cache: &mut Cache,
+    gate: &G,
+) -> Result<u64, UnitRefused>
+    requires { IsUnit (program unit.now) }
+    ensures exact { (q : Procedure) → slice_get (program unit.now).procedures p.0 ≡ Some q → Answers result p.0 (cause_of (program unit.now) q) }
+    ensures count { (q : Procedure) → slice_get (program unit.now).procedures p.0 ≡ Some q → IfOk result (λ n. n ≡ length (obligations_of (program unit.now) q)) }
+    ensures shown { (q : Procedure) → slice_get (program unit.now).procedures p.0 ≡ Some q → IfOk result (λ n. All (λ o. HasNoIntegerPoint o.system) (obligations_of (program unit.now) q)) }
+{
+    let obs = match obligations(alloc, unit, p) {
+        Ok(list) => list,
+        Err(e) => return Err(not_listed(p, e)),
+    };
+    let answer = match discharge(rt, alloc, &obs, cache, gate) {
+        Ok(found) => found,
+        Err(_) => return Err(out_of_memory(p)),
+    };
+    answered(alloc, p, &obs, answer)?;
+    Ok(obs.len() as u64)
+}
+
+/// Discharges the obligations of each procedure of the unit, in order, and counts them.
+///
+/// The first procedure that is refused ends the work: by `Check` where its obligations can't be listed, by `NotShown` with
+/// the first obligation whose system is not shown to have no integer point. What the cache held changes no answer.
+pub fn check_unit<R: Threads + Sync, G: Gate>(
+    rt: &R,
+    alloc: Global,
+    unit: &Unit,
+    cache: &mut Cache,
+    gate: &G,
+) -> Result<u64, UnitRefused>
+    requires { IsUnit (program unit.now) }
+    ensures exact { IsChecked result (checked (program unit.now)) }
+    ensures shown { IfOk result (λ _. AllHold (program unit.now)) }
+{
+    let mut count = 0;
+    for k in 0..unit.procs.len() {
+        count += check_procedure(rt, alloc, unit, ProcId(k as u32), cache, gate)?;
+    }
+    Ok(count)
+}

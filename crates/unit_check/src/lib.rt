@@ -1,0 +1,10 @@
+//! Whether each procedure of a unit shows what it owes, and else where it does not.
+#![tactic(auto)]
+
+mod check;
+mod line;
+mod refused;
+
+pub use check::check_unit;
+pub use line::line_of;
+pub use refused::{UnitRefused, Why};

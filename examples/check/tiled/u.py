@@ -1,0 +1,4 @@
+@proc
+def tiled(n: size, x: i32[n], y: i32[n / 8 + 1, 8]):
+    for i in seq(0, n):
+        y[i / 8, i % 8] = x[i]
