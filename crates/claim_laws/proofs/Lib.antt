@@ -1,0 +1,5 @@
+mod Basics
+mod Seen
+mod Tables
+mod Kept
+mod Ways

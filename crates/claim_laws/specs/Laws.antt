@@ -1,0 +1,21 @@
+-- The laws of claims, each the contract of a function in `laws`.
+use Rattle.std.specs.Prelude.{◌≡◌, ℕ, Some, IsSome, length, slice_get}
+use Rattle.exo_tree.specs.Tree.{Procedure, Program}
+use Rattle.exo_meaning.specs.State.{State}
+use Rattle.exo_meaning.specs.Run.{program_world}
+use Rattle.exo_meaning.specs.Inputs.{IsAdmissible, run_procedure}
+use Rattle.exo_meaning.specs.Units.{IsUnit}
+use Rattle.exo_context.specs.Sorted.{MayRun}
+use Rattle.claim_laws.specs.Holding.{ClaimsHold, LeadsTo}
+
+-- a procedure of a well-formed unit may call all of it
+abbrev pub ProceduresMayRun : Type 0
+ProceduresMayRun = (u : Program) (k : ℕ) (p : Procedure) → IsUnit u → slice_get u.procedures k ≡ Some p → MayRun u.fields (length u.memories) u.procedures p
+
+-- no admissible input makes the procedure of that number fault
+abbrev pub NeverFaults : Program → ℕ → Type 0
+NeverFaults u k = (p : Procedure) → slice_get u.procedures k ≡ Some p → (s : State) → IsAdmissible (program_world u) p s → IsSome (run_procedure (program_world u) p s)
+
+-- in a well-formed unit: where the claims of a procedure and of all that it calls hold, it never faults
+abbrev pub ClaimsSuffice : Type 0
+ClaimsSuffice = (u : Program) (k : ℕ) → IsUnit u → ((j : ℕ) → LeadsTo u k j → ClaimsHold u j) → NeverFaults u k
