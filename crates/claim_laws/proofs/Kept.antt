@@ -25,7 +25,7 @@ pub record SameNames (s t : Scene) : Type 0 where
 abbrev KeepsNames : State → Option State → Type 0
 KeepsNames s o = IfSome o (λ t. SameNames s.scene t.scene)
 
-same_on : (r s t : Scene) → SameNames r s → SameNames s t → SameNames r t
+pub same_on : (r s t : Scene) → SameNames r s → SameNames s t → SameNames r t
 same_on r s t h k = record { control = k.control ∙ h.control; views = k.views ∙ h.views }
 
 put_names : (s : State) (f : Value → Value) (p : Place) → KeepsNames s (put s f p)
@@ -92,7 +92,7 @@ module _ (table : Extents) where
       }
 
   -- one name more
-  more_described : (scope : Scope) (x : Binder) (sort : Sort) (s t : Scene) → IsDescribed table scope s → ((y : ℕ) → IsSome (sort_in scope y) → (t.views y ≡ s.views y) × (t.control y ≡ s.control y)) → ((cell : Cell) (rank : ℕ) (dense : Bool) → sort ≡ BufferName cell rank dense → IsSeen (with_name scope x sort) t (table x.id) rank (t.views x.id)) → IsDescribed table (with_name scope x sort) t
+  pub more_described : (scope : Scope) (x : Binder) (sort : Sort) (s t : Scene) → IsDescribed table scope s → ((y : ℕ) → IsSome (sort_in scope y) → (t.views y ≡ s.views y) × (t.control y ≡ s.control y)) → ((cell : Cell) (rank : ℕ) (dense : Bool) → sort ≡ BufferName cell rank dense → IsSeen (with_name scope x sort) t (table x.id) rank (t.views x.id)) → IsDescribed table (with_name scope x sort) t
   more_described scope x sort s t d old new y cell rank dense h = by_test (y == x.id)
       (λ e. subst (λ z. IsSeen (with_name scope x sort) t (table z) rank (t.views z)) (sym (eqb-true y x.id e)) (new cell rank dense (some_injective sort (BufferName cell rank dense) (sym (ap (λ u. cond u (Some sort) (sort_in scope y)) e) ∙ h))))
       (λ e. let h' : sort_in scope y ≡ Some (BufferName cell rank dense) = sym (ap (λ u. cond u (Some sort) (sort_in scope y)) e) ∙ h in
@@ -105,7 +105,7 @@ module _ (table : Extents) where
           steady = wider_depend scope x sort (table y) v.steady;
         })
 
-  control_buffer : {kind : Kind} {cell : Cell} {rank : ℕ} {dense : Bool} → ControlName kind ≡ BufferName cell rank dense → ⊥
+  pub control_buffer : {kind : Kind} {cell : Cell} {rank : ℕ} {dense : Bool} → ControlName kind ≡ BufferName cell rank dense → ⊥
   control_buffer e = cc
 
   pub control_described : (scope : Scope) (x : Binder) (n : ℤ) (kind : Kind) (s : Scene) → is_new scope x ≡ true → IsDescribed table scope s → IsDescribed table (with_name scope x (ControlName kind)) (with_control x.id n s)
@@ -113,11 +113,11 @@ module _ (table : Extents) where
       (λ y k. (refl, ap (λ t. cond t n (s.control y)) (not_new scope x y new k)))
       (λ cell rank dense e. absurd (control_buffer e))
 
-whole_extents : (dims : List ℤ) → extents (whole dims) ≡ dims
+pub whole_extents : (dims : List ℤ) → extents (whole dims) ≡ dims
 whole_extents [] = refl
 whole_extents (d ∷ dims) = ap (λ l. d ∷ l) (whole_extents dims)
 
-same_rank : {c cell : Cell} {r rank : ℕ} {d dense : Bool} → BufferName c r d ≡ BufferName cell rank dense → r ≡ rank
+pub same_rank : {c cell : Cell} {r rank : ℕ} {d dense : Bool} → BufferName c r d ≡ BufferName cell rank dense → r ≡ rank
 same_rank e = cc
 
 -- ---- windows

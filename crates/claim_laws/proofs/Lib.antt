@@ -3,3 +3,5 @@ mod Seen
 mod Tables
 mod Kept
 mod Ways
+mod Blocks
+mod Starts
