@@ -78,6 +78,9 @@ wider_depend scope x sort es h a b same = h a b (λ y k. same y (wide (y == x.id
     wide true o k = refl
     wide false o k = k
 
+pub control_buffer : {kind : Kind} {cell : Cell} {rank : ℕ} {dense : Bool} → ControlName kind ≡ BufferName cell rank dense → ⊥
+control_buffer e = cc
+
 -- ---- described names
 
 module _ (table : Extents) where
@@ -104,9 +107,6 @@ module _ (table : Extents) where
           positive = v.positive; rank_is = v.rank_is; small = v.small;
           steady = wider_depend scope x sort (table y) v.steady;
         })
-
-  pub control_buffer : {kind : Kind} {cell : Cell} {rank : ℕ} {dense : Bool} → ControlName kind ≡ BufferName cell rank dense → ⊥
-  control_buffer e = cc
 
   pub control_described : (scope : Scope) (x : Binder) (n : ℤ) (kind : Kind) (s : Scene) → is_new scope x ≡ true → IsDescribed table scope s → IsDescribed table (with_name scope x (ControlName kind)) (with_control x.id n s)
   control_described scope x n kind s new d = more_described scope x (ControlName kind) s (with_control x.id n s) d
@@ -142,7 +142,7 @@ module _ (scene : Scene) where
       let q = map_gives (narrowed scene p.0.sides cs) (λ sides. record { buffer = p.0.buffer; sides = sides }) part p.2 in
       subst (λ (z : Seen). AreSpans scene cs z.sides) q.2 (if_gives (AreSpans scene cs) (narrowed scene p.0.sides cs) q.0 (spans_kept p.0.sides cs) q.1)
 
-span_rank : (cs : List Coord) → length (span_extents cs) ≡ spans cs
+pub span_rank : (cs : List Coord) → length (span_extents cs) ≡ spans cs
 span_rank [] = refl
 span_rank (At a ∷ cs) = span_rank cs
 span_rank (Span a b ∷ cs) = ap suc (span_rank cs)

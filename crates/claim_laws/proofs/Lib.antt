@@ -5,3 +5,5 @@ mod Kept
 mod Ways
 mod Blocks
 mod Starts
+mod Under
+mod Given
