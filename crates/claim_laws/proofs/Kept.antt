@@ -71,12 +71,16 @@ none_there (Some a) e h = none_some (sym e)
 pub not_new : (scope : Scope) (x : Binder) (y : ℕ) → is_new scope x ≡ true → IsSome (sort_in scope y) → (y == x.id) ≡ false
 not_new scope x y h k = by_test (y == x.id) (λ e. absurd (none_there (sort_in scope y) (ap (sort_in scope) (eqb-true y x.id e) ∙ new_is_none scope x h) k)) (λ e. e)
 
-pub wider_depend : (scope : Scope) (x : Binder) (sort : Sort) (es : List Control) → DependOn scope es → DependOn (with_name scope x sort) es
-wider_depend scope x sort es h a b same = h a b (λ y k. same y (wide (y == x.id) (sort_in scope y) k))
+-- what is in scope stays in scope
+pub still_in_scope : (scope : Scope) (x : Binder) (sort : Sort) (y : ℕ) → IsSome (sort_in scope y) → IsSome (sort_in (with_name scope x sort) y)
+still_in_scope scope x sort y k = wide (y == x.id) (sort_in scope y) k
   where
     wide : (t : Bool) (o : Option Sort) → IsSome o → IsSome (cond t (Some sort) o)
     wide true o k = refl
     wide false o k = k
+
+pub wider_depend : (scope : Scope) (x : Binder) (sort : Sort) (es : List Control) → DependOn scope es → DependOn (with_name scope x sort) es
+wider_depend scope x sort es h a b same = h a b (λ y k. same y (still_in_scope scope x sort y k))
 
 pub control_buffer : {kind : Kind} {cell : Cell} {rank : ℕ} {dense : Bool} → ControlName kind ≡ BufferName cell rank dense → ⊥
 control_buffer e = cc

@@ -7,3 +7,4 @@ mod Blocks
 mod Starts
 mod Under
 mod Given
+mod Entered
