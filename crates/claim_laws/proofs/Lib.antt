@@ -8,3 +8,5 @@ mod Starts
 mod Under
 mod Given
 mod Entered
+mod Calling
+mod Standing
