@@ -1,5 +1,5 @@
 -- Tests, lists, and computations that give something.
-use Rattle.std.proofs.Common.{◌≡◌, ℕ, suc, ℤ, pos, ◌==◌, int_le, Bool, true, false, cond, not, ◌&&◌, ◌||◌, List, [], ◌∷◌, ◌++◌, map, Option, Some, None, IfSome, option_map, refl, sym, ap, ◌∙◌, subst, true≢false, arith, eq-eqb}
+use Rattle.std.proofs.Common.{◌≡◌, ℕ, suc, ◌==◌, Bool, true, false, not, ◌&&◌, ◌||◌, List, [], ◌∷◌, ◌++◌, map, Option, Some, None, IfSome, option_map, refl, sym, ap, subst, true≢false, arith, eq-eqb}
 use Rattle.std.specs.Prelude.{IsSome}
 use Rattle.exo_meaning.specs.Scene.{then_do, where_true}
 use Rattle.exo_meaning.specs.Orders.{Each}

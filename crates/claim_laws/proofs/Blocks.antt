@@ -1,30 +1,29 @@
 -- Where the claims of a block hold and the procedures that it calls run, the block runs.
-use Rattle.std.proofs.Common.{◌≡◌, ℕ, zero, suc, ℤ, ◌+ℤ◌, ◌==◌, Bool, true, false, not, ◌&&◌, ◌||◌, List, [], ◌∷◌, ◌++◌, map, Option, Some, None, option_map, refl, sym, ap, ◌∙◌, subst}
+use Rattle.std.proofs.Common.{◌≡◌, ℕ, zero, suc, ℤ, ◌+ℤ◌, ◌==◌, true, false, not, ◌&&◌, ◌||◌, List, [], ◌∷◌, ◌++◌, Option, Some, None, option_map, refl, sym, ap, ◌∙◌, subst}
 use Rattle.std.specs.Prelude.{IsSome, length, slice_get, nat_lt}
 use Rattle.exo_tree.specs.Tree.{Kind, Size, Index, Truth, Stride, Binder, Control, Condition, Argument, ControlArg, ConditionArg, Whole, Window, Statement, Assign, Reduce, Config, Pass, If, For, Alloc, View, Call, Block, end, next, Procedure, ConfigField, Program}
 use Rattle.exo_tree.specs.Context.{fill}
 use Rattle.exo_tree.specs.Places.{Branch, Main, Else, Path, opened}
 use Rattle.exo_meaning.specs.Value.{on_two}
-use Rattle.exo_meaning.specs.Scene.{Scene, then_do, where_true, numbers, number, holds, window}
-use Rattle.exo_meaning.specs.State.{State, on_scene, with_control, with_field, with_view, left, place, value}
-use Rattle.exo_meaning.specs.Calls.{truth, suits, all_positive}
+use Rattle.exo_meaning.specs.Scene.{Scene, then_do, numbers, holds, window}
+use Rattle.exo_meaning.specs.State.{State, on_scene, with_control, with_field, left}
+use Rattle.exo_meaning.specs.Calls.{suits, all_positive}
 use Rattle.exo_meaning.specs.Run.{World, run, step, call_to, turn, turns, turns_of, choose, argument_number, roots_after, kinds_of, program_world}
 use Rattle.exo_meaning.specs.Orders.{Each}
-use Rattle.exo_meaning.specs.Units.{ControlName, Scope, scope_of, scope_after, with_name, plainly, with_fields, with_strides, Reads, is_truth, is_control, are_controls, is_condition, is_new, is_empty, is_short, is_rank, is_of_kind, is_write, is_window, is_access, is_datum, spans, is_call, is_block, is_statement, field_kind}
+use Rattle.exo_meaning.specs.Units.{ControlName, Scope, scope_after, with_name, plainly, with_fields, with_strides, Reads, is_control, is_condition, is_new, is_empty, is_short, is_of_kind, is_write, is_window, spans, is_call, is_block, is_statement, field_kind}
 use Rattle.exo_context.specs.Context.{ComesToTurn, now, later}
 use Rattle.exo_context.specs.Places.{OpenedLaw}
 use Rattle.exo_context.specs.Sound.{IsSound}
 use Rattle.exo_context.specs.Copies.{SoundLaw}
-use Rattle.exo_context.specs.Sorted.{IsSorted, FitsAtLaw, MayRun, scope_at}
+use Rattle.exo_context.specs.Sorted.{IsSorted, FitsAtLaw, MayRun}
 use Rattle.exo_show.specs.Words.{Words, words_of}
-use Rattle.bounds_check.specs.Claim.{Claim, Placed}
 use Rattle.bounds_check.specs.Extents.{extents_of, Extents}
 use Rattle.bounds_check.specs.Claims.{into, placed_at, given_claims, write_claims, own_claims, inner_claims, block_claims, call_claims}
 use Rattle.claim_laws.specs.Holding.{ClaimHolds, calls, step_calls}
-use Rattle.claim_laws.proofs.Basics.{and_parts, no_test, by_test, none_some, some_there, there_some, some_succeeds, if_gives, Succeeds, succeeds_then, succeeds_map, succeeds_where, succeeds_some, some_injective, each_left, each_right, or_left, or_right, same_number}
-use Rattle.claim_laws.proofs.Seen.{IsHeld, Hold, IsDescribed, dims_positive, store_there, IsPart, window_there}
+use Rattle.claim_laws.proofs.Basics.{and_parts, no_test, by_test, none_some, there_some, if_gives, Succeeds, succeeds_then, succeeds_where, succeeds_some, some_injective, each_left, each_right, or_left, or_right, same_number}
+use Rattle.claim_laws.proofs.Seen.{Hold, IsDescribed, dims_positive, store_there, IsPart, window_there}
 use Rattle.claim_laws.proofs.Kept.{SameNames, same_on, turn_names, same_described, control_described, step_described}
-use Rattle.claim_laws.proofs.Tables.{Agrees, StepAgrees}
+use Rattle.claim_laws.proofs.Tables.{Agrees}
 use Rattle.claim_laws.proofs.Ways.{Reaches, claims_here, Leads, leads_here, Later, leads_next, leads_then, leads_else, InTurn, leads_loop}
 
 -- ---- values of a kind
@@ -57,7 +56,7 @@ module _ (i : ℕ) (body : State → Option State) (first : State) where
   turns_run (n ∷ ns) r same each =
       let x = there_some (turn i body n r) (each n r now same) in
       subst (λ o. IsSome (then_do o (turns (turn i body) ns))) (sym x.1)
-        (turns_run ns x.0 (same_on first.scene r.scene (x.0).scene same (if_gives (λ t. SameNames r.scene t.scene) (turn i body n r) x.0 (turn_names i body n r) x.1)) (λ m q z k. each m q (later x.1 z) k))
+      (turns_run ns x.0 (same_on first.scene r.scene (x.0).scene same (if_gives (λ t. SameNames r.scene t.scene) (turn i body n r) x.0 (turn_names i body n r) x.1)) (λ m q z k. each m q (later x.1 z) k))
 
 map_some : {A B : Type 0} (f : A → B) (o : Option A) → IsSome o → IsSome (option_map f o)
 map_some f None h = no_test h
@@ -179,8 +178,8 @@ module _ (u : Program) (p : Procedure) (may : MayRun u.fields (length u.memories
   configured f a scope t None e h m = no_test h
   configured f a scope t (Some kind) e h m =
       succeeds_some (λ z. Unit {0}) (step world (Config f a) t)
-        (succeeds_then (λ n. suits kind n ≡ true) (λ z. Unit {0}) (argument_number t.scene a) _ (given_suits w fields with_strides scope t.scene kind a h m) (λ n k.
-          succeeds_where (λ z. Unit {0}) (suits (world.kinds f) n) (Some (on_scene (with_field f n) t)) (ap (λ z. suits z n) (kind_is u.fields f kind e) ∙ k) tt))
+      (succeeds_then (λ n. suits kind n ≡ true) (λ z. Unit {0}) (argument_number t.scene a) _ (given_suits w fields with_strides scope t.scene kind a h m) (λ n k.
+      succeeds_where (λ z. Unit {0}) (suits (world.kinds f) n) (Some (on_scene (with_field f n) t)) (ap (λ z. suits z n) (kind_is u.fields f kind e) ∙ k) tt))
 
   module _ (calls_run : CallsRun) where
     mutual
@@ -189,7 +188,7 @@ module _ (u : Program) (p : Procedure) (may : MayRun u.fields (length u.memories
       block_runs (next a b) outer branch n scope root At s t h =
           let x = there_some (step world a t) (step_runs a b outer branch n scope root At s t h) in
           subst (λ o. IsSome (then_do o (run world b))) (sym x.1)
-            (block_runs b outer branch (suc n) (scope_after a scope) (roots_after a root) (Later world p a At) (rest_stands outer branch n a b scope root At s) x.0 (t, h, x.1))
+          (block_runs b outer branch (suc n) (scope_after a scope) (roots_after a root) (Later world p a At) (rest_stands outer branch n a b scope root At s) x.0 (t, h, x.1))
 
       step_runs : (a : Statement) (b : Block) (outer : Path) (branch : Branch) (n : ℕ) (scope : Scope) (root : ℕ → ℕ) (At : State → Type 0) → Stands outer branch n (next a b) scope root At → (t : State) → At t → IsSome (step world a t)
       step_runs (Assign x is e) b outer branch n scope root At s t h =
@@ -201,13 +200,13 @@ module _ (u : Program) (p : Procedure) (may : MayRun u.fields (length u.memories
       step_runs Pass b outer branch n scope root At s t h = refl
       step_runs (If c x y) b outer branch n scope root At s t h =
           map_some (left t) (choose (holds t.scene c) (run world x) (run world y) t) (by_test (holds t.scene c)
-            (λ e. subst (λ z. IsSome (choose z (run world x) (run world y) t)) (sym e) (block_runs x (into outer branch n) Main 0 scope root (λ t. At t × (holds t.scene c ≡ true)) (then_stands outer branch n b scope root At c x y s) t (h, e)))
-            (λ e. subst (λ z. IsSome (choose z (run world x) (run world y) t)) (sym e) (block_runs y (into outer branch n) Else 0 scope root (λ t. At t × (holds t.scene c ≡ false)) (else_stands outer branch n b scope root At c x y s) t (h, e))))
+          (λ e. subst (λ z. IsSome (choose z (run world x) (run world y) t)) (sym e) (block_runs x (into outer branch n) Main 0 scope root (λ t. At t × (holds t.scene c ≡ true)) (then_stands outer branch n b scope root At c x y s) t (h, e)))
+          (λ e. subst (λ z. IsSome (choose z (run world x) (run world y) t)) (sym e) (block_runs y (into outer branch n) Else 0 scope root (λ t. At t × (holds t.scene c ≡ false)) (else_stands outer branch n b scope root At c x y s) t (h, e))))
       step_runs (For i lo hi x) b outer branch n scope root At s t h =
           turns_run i.id (run world x) t (turns_of t.scene lo hi) t (record { control = refl; views = refl }) (λ m q z same.
-            map_some (left q) (run world x (on_scene (with_control i.id m) q))
-              (block_runs x (into outer branch n) Main 0 (with_name scope i (ControlName Index)) root (InTurn world p outer branch n b scope At i lo hi x) (loop_stands outer branch n b scope root At i lo hi x s) (on_scene (with_control i.id m) q)
-                (record { outside = t; at_outside = h; turn_is = m; before = q; comes = z; same = same; state_is = refl })))
+          map_some (left q) (run world x (on_scene (with_control i.id m) q))
+          (block_runs x (into outer branch n) Main 0 (with_name scope i (ControlName Index)) root (InTurn world p outer branch n b scope At i lo hi x) (loop_stands outer branch n b scope root At i lo hi x s) (on_scene (with_control i.id m) q)
+          (record { outside = t; at_outside = h; turn_is = m; before = q; comes = z; same = same; state_is = refl })))
       step_runs (Alloc x cell dims memory) b outer branch n scope root At s t h =
           succeeds_some (λ z. Unit {0}) (step world (Alloc x cell dims memory) t) (succeeds_where (λ z. Unit {0}) (all_positive (numbers t.scene dims)) _ (dims_positive w t.scene dims (held outer branch n (Alloc x cell dims memory) b scope root At s t h)) tt)
       step_runs (View v x cs) b outer branch n scope root At s t h =

@@ -1,23 +1,23 @@
 -- Where the claims of a call hold, the callee's first state is there, and what is passed has the values of the parameters in it.
-use Rattle.std.proofs.Common.{◌≡◌, ℕ, zero, suc, ℤ, pos, ◌==◌, Bool, true, false, cond, not, ◌&&◌, ◌||◌, List, [], ◌∷◌, ◌++◌, length, map, get_or, Option, Some, None, option_map, arith, refl, sym, ap, ap₂, ◌∙◌, subst, eqb-true}
-use Rattle.std.specs.Prelude.{IsSome, nat_lt, flat_map}
+use Rattle.std.proofs.Common.{◌≡◌, ℕ, zero, suc, ℤ, pos, ◌==◌, true, false, cond, ◌&&◌, ◌||◌, List, [], ◌∷◌, length, map, get_or, Option, Some, None, arith, refl, sym, ap, ap₂, ◌∙◌, subst}
+use Rattle.std.specs.Prelude.{IsSome, nat_lt}
 use Rattle.std.specs.Ordering.{int_eq}
 use Rattle.std.specs.Cmp.Rules.{signed_items}
 use Rattle.std.specs.List.{list_all}
 use Rattle.std.proofs.lemmas.Int.{ints}
-use Rattle.exo_tree.specs.Tree.{Binder, Cell, Kind, Control, Condition, Argument, ControlArg, ConditionArg, Whole, Window, Param, ParamKind, ControlParam, TensorParam, WindowParam}
-use Rattle.exo_meaning.specs.Scene.{Shape, Side, Range, Seen, Scene, then_do, where_true, number, numbers, holds, extents, whole, strides_of, strides_seen, stride_at, updated}
+use Rattle.exo_tree.specs.Tree.{Cell, Kind, Control, Condition, Argument, ControlArg, ConditionArg, Whole, Window, Param, ParamKind, ControlParam, TensorParam, WindowParam}
+use Rattle.exo_meaning.specs.Scene.{Shape, Seen, Scene, number, numbers, holds, extents, whole, strides_of, strides_seen, stride_at, updated}
 use Rattle.exo_meaning.specs.State.{State, same_index, with_buffer, with_contents, on_scene}
-use Rattle.exo_meaning.specs.Calls.{Given, GivenNumber, GivenView, truth, suits, bind_number, bind_numbers, copy_in, bind_buffer, bind_buffers, contents, all_positive, all_hold, bare, entered}
+use Rattle.exo_meaning.specs.Calls.{Given, GivenNumber, GivenView, suits, bind_number, bind_numbers, copy_in, bind_buffer, bind_buffers, contents, all_positive, all_hold, bare, entered}
 use Rattle.exo_meaning.specs.Inputs.{is_buffer_of}
-use Rattle.exo_meaning.specs.Units.{Sort, Scope, sort_in, is_new, with_name, scope_of, param_sort, is_truth, Reads, plainly, with_both, is_control, are_controls, is_condition, is_for, are_for, is_rank, is_param_kind, are_params}
+use Rattle.exo_meaning.specs.Units.{Scope, sort_in, is_new, with_name, scope_of, param_sort, plainly, with_both, is_control, are_controls, is_condition, is_for, are_for, is_param_kind, are_params}
 use Rattle.exo_show.specs.Words.{Words}
 use Rattle.exo_context.specs.Sound.{IsSound}
 use Rattle.bounds_check.specs.Pairs.{flat_zip}
 use Rattle.bounds_check.specs.Extents.{Extents, dims_of}
-use Rattle.bounds_check.specs.Arguments.{passed_for, stride_for, control_under, condition_under}
+use Rattle.bounds_check.specs.Arguments.{passed_for, control_under}
 use Rattle.bounds_check.specs.Claims.{asserted, argument_extents, equal_extents, passed_extents}
-use Rattle.claim_laws.proofs.Basics.{and_parts, and_true, or_parts, no_test, by_test, Succeeds, succeeds_then, succeeds_map, succeeds_where, succeeds_as, suc_same, each_left, each_right, same_number}
+use Rattle.claim_laws.proofs.Basics.{and_parts, and_true, or_parts, no_test, Succeeds, succeeds_then, succeeds_where, succeeds_as, suc_same, each_left, each_right, same_number}
 use Rattle.claim_laws.proofs.Seen.{IsDescribed, IsHeld, Hold, controls_depend}
 use Rattle.claim_laws.proofs.Kept.{not_new, still_in_scope}
 use Rattle.claim_laws.proofs.Under.{Covers, number_under, condition_same, Told, covers_more, covers_nothing}
@@ -63,9 +63,10 @@ module _ (fields : ℕ → Option Kind) (scope : Scope) where
   pub all_passed : (ps : List Param) (args : List Argument) → are_for fields scope ps args ≡ true → Differ ps → Passed ps args ps args
   all_passed [] args h d = tt
   all_passed (p ∷ ps) [] h d = no_test h
-  all_passed (p ∷ ps) (a ∷ args) h d =
-      (ap (λ t. cond t (Some a) (passed_for ps args p.binder.id)) (same_number p.binder.id),
-       passed_behind p a ps args ps args d.0 (all_passed ps args (and_parts (is_for fields scope p.kind a) (are_for fields scope ps args) h).1 d.1))
+  all_passed (p ∷ ps) (a ∷ args) h d = (
+    ap (λ t. cond t (Some a) (passed_for ps args p.binder.id)) (same_number p.binder.id),
+    passed_behind p a ps args ps args d.0 (all_passed ps args (and_parts (is_for fields scope p.kind a) (are_for fields scope ps args) h).1 d.1),
+  )
 
 -- ---- lists of numbers
 
@@ -121,7 +122,7 @@ module _ (w : Words) (fields : ℕ → Option Kind) (table : Extents) (scope : S
   one_bound : (x : ℕ) (kind : ParamKind) (a : Argument) (g : Given) (before : ℕ → ℤ) → For kind a g → Succeeds (bind_number x kind g before) (OneBound x kind a before)
   one_bound x (ControlParam kind) a (GivenNumber n) before k =
       succeeds_where (OneBound x (ControlParam kind) a before) (suits kind n) (Some (updated before x n)) k.1
-        (λ y h. ap (λ t. cond t n (before y)) h, subst (NumberOf kind a) (sym (ap (λ t. cond t n (before x)) (same_number x))) k.0)
+      (λ y h. ap (λ t. cond t n (before y)) h, subst (NumberOf kind a) (sym (ap (λ t. cond t n (before x)) (same_number x))) k.0)
   one_bound x (ControlParam kind) a (GivenView seen) before k = absurd k
   one_bound x (TensorParam cell dims memory) a g before k = (λ y h. refl, tt)
   one_bound x (WindowParam cell dims memory) a g before k = (λ y h. refl, tt)
@@ -134,8 +135,8 @@ module _ (w : Words) (fields : ℕ → Option Kind) (table : Extents) (scope : S
   numbers_bound (p ∷ ps) (a ∷ args) [] before d k = absurd k
   numbers_bound (p ∷ ps) (a ∷ args) (g ∷ gs) before d k =
       succeeds_then (OneBound p.binder.id p.kind a before) (AllBound (p ∷ ps) (a ∷ args) before) (bind_number p.binder.id p.kind g before) (bind_numbers ps gs) (one_bound p.binder.id p.kind a g before k.0) (λ c j.
-        succeeds_as (AllBound ps args c) (AllBound (p ∷ ps) (a ∷ args) before) (bind_numbers ps gs c) (numbers_bound ps args gs c d.1 k.1) (λ e u l.
-          (λ x h. let q = or_parts (x == p.binder.id) (is_buffer_of x ps) h in l.0 x q.1 ∙ j.0 x q.0, (subst (IsBound p.kind a) (sym (l.0 p.binder.id d.0)) j.1, l.1))))
+      succeeds_as (AllBound ps args c) (AllBound (p ∷ ps) (a ∷ args) before) (bind_numbers ps gs c) (numbers_bound ps args gs c d.1 k.1) (λ e u l.
+      (λ x h. let q = or_parts (x == p.binder.id) (is_buffer_of x ps) h in l.0 x q.1 ∙ j.0 x q.0, (subst (IsBound p.kind a) (sym (l.0 p.binder.id d.0)) j.1, l.1))))
 
   module _ (memories : ℕ) (params : List Param) (args : List Argument) where
     -- ---- extents
@@ -173,11 +174,14 @@ module _ (w : Words) (fields : ℕ → Option Kind) (table : Extents) (scope : S
           ap₂ (λ n ns. n ∷ ns) (number_under fields plainly params args s.scene first inner c d p.0) (dims_under inner c dims p.1)
 
       sized : (inner : Scope) → Plainly inner → (dims : List Control) (a : Argument) (seen : Seen) → are_controls fields plainly inner dims ≡ true → IsView w fields table scope s described sound (length dims) a seen → Hold s.scene (equal_extents w (argument_extents w table a) (map (control_under params args) dims)) → ((scene : Scene) → scene.control ≡ control → numbers scene dims ≡ extents seen.sides) × (all_positive (extents seen.sides) ≡ true)
-      sized inner c dims a seen h v m = (λ scene e.
-          controls_depend fields inner dims h scene first (λ y k. ap (λ f. f y) e)
-          ∙ sym (dims_under inner c dims h)
-          ∙ sym (equal_sizes (argument_extents w table a) dims m v.rank_is)
-          ∙ sym v.extents_are, v.positive)
+      sized inner c dims a seen h v m = (
+        λ scene e.
+            controls_depend fields inner dims h scene first (λ y k. ap (λ f. f y) e)
+            ∙ sym (dims_under inner c dims h)
+            ∙ sym (equal_sizes (argument_extents w table a) dims m v.rank_is)
+            ∙ sym v.extents_are,
+        v.positive,
+      )
 
       one_sized : (inner : Scope) → Plainly inner → (kind : ParamKind) (a : Argument) (g : Given) → is_param_kind fields memories inner kind ≡ true → For kind a g → Hold s.scene (equal_extents w (argument_extents w table a) (map (control_under params args) (dims_of kind))) → IsSized kind g
       one_sized inner c (ControlParam kind) a g h k m = tt
@@ -202,9 +206,10 @@ module _ (w : Words) (fields : ℕ → Option Kind) (table : Extents) (scope : S
           let q = and_parts (is_new inner p.binder) (is_param_kind fields memories inner p.kind && are_params fields memories (with_name inner p.binder (param_sort p.kind)) ps) h in
           let r = and_parts (is_param_kind fields memories inner p.kind) (are_params fields memories (with_name inner p.binder (param_sort p.kind)) ps) q.1 in
           let own = passed_extents w table params args p a in
-          let others = flat_zip (passed_extents w table params args) ps rest in
-          (one_sized inner c p.kind a g r.0 k.0 (each_left (IsHeld s.scene) own others m),
-           all_sized ps rest gs (with_name inner p.binder (param_sort p.kind)) (covers_more fields plainly params args s.scene first inner p a c passed.0 (told_plainly p.kind a p.binder.id bound.0)) r.1 passed.1 bound.1 k.1 (each_right (IsHeld s.scene) own others m))
+          let others = flat_zip (passed_extents w table params args) ps rest in (
+            one_sized inner c p.kind a g r.0 k.0 (each_left (IsHeld s.scene) own others m),
+            all_sized ps rest gs (with_name inner p.binder (param_sort p.kind)) (covers_more fields plainly params args s.scene first inner p a c passed.0 (told_plainly p.kind a p.binder.id bound.0)) r.1 passed.1 bound.1 k.1 (each_right (IsHeld s.scene) own others m),
+          )
 
       -- ---- buffers
 
@@ -249,18 +254,21 @@ module _ (w : Words) (fields : ℕ → Option Kind) (table : Extents) (scope : S
           let is = same t.scene e in
           let shape : Shape = record { cell = cell; dims = ns; strides = strides_seen s.scene seen } in
           succeeds_where (Copied x (length dims) seen t) (same_index ns (extents seen.sides) && all_positive ns) (Some (with_contents x (contents s.cells seen) (on_scene (with_buffer x shape) t)))
-            (and_true (same_index ns (extents seen.sides)) (all_positive ns) ((signed_items ns (extents seen.sides)).1 is) (ap all_positive is ∙ positive))
-            (record {
-              control_is = refl; fields_are = refl;
+          (and_true (same_index ns (extents seen.sides)) (all_positive ns) ((signed_items ns (extents seen.sides)).1 is) (ap all_positive is ∙ positive)) (
+            record {
+              control_is = refl;
+              fields_are = refl;
               buffers = λ y h. ap (λ b. cond b (Some shape) (t.scene.buffers y)) h;
               views = λ y h. ap (λ b. cond b (Some (record { buffer = x; sides = whole ns })) (t.scene.views y)) h;
-            }, record {
+            },
+            record {
               shape = shape;
               buffer_is = ap (λ b. cond b (Some shape) (t.scene.buffers x)) (same_number x);
               view_is = ap (λ b. cond b (Some (record { buffer = x; sides = whole ns })) (t.scene.views x)) (same_number x);
               strides_are = refl;
               rank_is = numbers_length t.scene dims;
-            })
+            },
+          )
 
       one_made : (x : ℕ) (kind : ParamKind) (g : Given) (t : State) → t.scene.control ≡ control → IsSized kind g → Succeeds (bind_buffer s x kind g t) (OneMade x kind g t)
       one_made x (ControlParam kind) g t e k = (record { control_is = refl; fields_are = refl; buffers = λ y h. refl; views = λ y h. refl }, tt)
@@ -284,13 +292,15 @@ module _ (w : Words) (fields : ℕ → Option Kind) (table : Extents) (scope : S
       all_made (p ∷ ps) [] t d e k = absurd k
       all_made (p ∷ ps) (g ∷ gs) t d e k =
           succeeds_then (OneMade p.binder.id p.kind g t) (AllMade (p ∷ ps) (g ∷ gs) t) (bind_buffer s p.binder.id p.kind g t) (bind_buffers s ps gs) (one_made p.binder.id p.kind g t e k.0) (λ z j.
-            succeeds_as (AllMade ps gs z) (AllMade (p ∷ ps) (g ∷ gs) t) (bind_buffers s ps gs z) (all_made ps gs z d.1 (j.0.control_is ∙ e) k.1) (λ y u l.
-              (record {
-                control_is = l.0.control_is ∙ j.0.control_is;
-                fields_are = l.0.fields_are ∙ j.0.fields_are;
-                buffers = λ x h. let q = or_parts (x == p.binder.id) (is_buffer_of x ps) h in l.0.buffers x q.1 ∙ j.0.buffers x q.0;
-                views = λ x h. let q = or_parts (x == p.binder.id) (is_buffer_of x ps) h in l.0.views x q.1 ∙ j.0.views x q.0;
-              }, (made_stays z.scene y.scene p.binder.id p.kind g (l.0.buffers p.binder.id d.0) (l.0.views p.binder.id d.0) j.1, l.1))))
+          succeeds_as (AllMade ps gs z) (AllMade (p ∷ ps) (g ∷ gs) t) (bind_buffers s ps gs z) (all_made ps gs z d.1 (j.0.control_is ∙ e) k.1) (λ y u l. (
+            record {
+              control_is = l.0.control_is ∙ j.0.control_is;
+              fields_are = l.0.fields_are ∙ j.0.fields_are;
+              buffers = λ x h. let q = or_parts (x == p.binder.id) (is_buffer_of x ps) h in l.0.buffers x q.1 ∙ j.0.buffers x q.0;
+              views = λ x h. let q = or_parts (x == p.binder.id) (is_buffer_of x ps) h in l.0.views x q.1 ∙ j.0.views x q.0;
+            },
+            (made_stays z.scene y.scene p.binder.id p.kind g (l.0.buffers p.binder.id d.0) (l.0.views p.binder.id d.0) j.1, l.1),
+          )))
 
       -- ---- all parameters
 
@@ -325,9 +335,9 @@ module _ (w : Words) (fields : ℕ → Option Kind) (table : Extents) (scope : S
       let differ = params_differ fields memories ps [] h in
       let passed = all_passed fields scope ps args f differ in
       succeeds_then (AllBound ps args (λ x. pos 0)) (λ inner. Covers fields with_both ps args s.scene inner.scene (scope_of [] ps)) (bind_numbers ps gs (λ x. pos 0)) (λ c. bind_buffers s ps gs (bare c s.scene.fields)) (numbers_bound ps args gs (λ x. pos 0) differ k) (λ c b.
-        succeeds_as (AllMade memories ps args c ps gs (bare c s.scene.fields)) (λ inner. Covers fields with_both ps args s.scene inner.scene (scope_of [] ps)) (bind_buffers s ps gs (bare c s.scene.fields))
-          (all_made memories ps args c ps gs (bare c s.scene.fields) differ refl (all_sized memories ps args c ps args gs [] (covers_nothing fields plainly ps args s.scene (bare c s.scene.fields).scene refl) h passed b.1 k m))
-          (λ inner u l. all_covered memories ps args c inner l.0.control_is ps args gs [] (covers_nothing fields with_both ps args s.scene inner.scene (sym l.0.fields_are)) passed b.1 k l.1))
+      succeeds_as (AllMade memories ps args c ps gs (bare c s.scene.fields)) (λ inner. Covers fields with_both ps args s.scene inner.scene (scope_of [] ps)) (bind_buffers s ps gs (bare c s.scene.fields))
+      (all_made memories ps args c ps gs (bare c s.scene.fields) differ refl (all_sized memories ps args c ps args gs [] (covers_nothing fields plainly ps args s.scene (bare c s.scene.fields).scene refl) h passed b.1 k m))
+      (λ inner u l. all_covered memories ps args c inner l.0.control_is ps args gs [] (covers_nothing fields with_both ps args s.scene inner.scene (sym l.0.fields_are)) passed b.1 k l.1))
 
 -- the callee's assertions hold in it
 module _ (fields : ℕ → Option Kind) (w : Words) (params : List Param) (args : List Argument) (outer inner : Scene) (scope : Scope) (covers : Covers fields with_both params args outer inner scope) where

@@ -1,22 +1,21 @@
 -- What is given for a parameter: where the claims hold it is there, and suits the parameter.
-use Rattle.std.proofs.Common.{◌≡◌, ℕ, zero, suc, ℤ, pos, ◌+ℤ◌, ◌-ℤ◌, ◌-◌, ◌≤◌, ◌==◌, int_le, int_lt, Bool, true, false, cond, not, ◌&&◌, ◌||◌, List, [], ◌∷◌, ◌++◌, length, map, get_or, take, Option, Some, None, option_map, arith, refl, sym, ap, ap₂, ◌∙◌, subst, eqb-true}
-use Rattle.std.specs.Prelude.{IsSome, nat_lt, flat_map}
+use Rattle.std.proofs.Common.{◌≡◌, ℕ, zero, suc, ℤ, pos, ◌+ℤ◌, ◌-ℤ◌, ◌-◌, ◌≤◌, ◌==◌, int_le, int_lt, true, false, cond, not, ◌&&◌, ◌||◌, List, [], ◌∷◌, length, get_or, Option, Some, None, option_map, arith, refl, sym, ap, ◌∙◌, subst, eqb-true}
+use Rattle.std.specs.Prelude.{nat_lt, flat_map}
 use Rattle.std.specs.List.{list_all}
 use Rattle.std.proofs.lemmas.List.{take_all}
-use Rattle.exo_tree.specs.Tree.{Cell, Kind, Size, Index, Truth, Stride, Control, Coord, At, Span, Argument, ControlArg, ConditionArg, Whole, Window, Param, ParamKind, ControlParam, TensorParam, WindowParam}
-use Rattle.exo_meaning.specs.Scene.{Shape, Side, Point, Range, Seen, Scene, then_do, where_true, number, numbers, holds, is_below, extents, narrowed, window, strides_of, strides_seen, stride_at}
+use Rattle.exo_tree.specs.Tree.{Kind, Size, Index, Truth, Stride, Control, Coord, At, Span, Argument, ControlArg, ConditionArg, Whole, Window, Param, ParamKind, ControlParam, TensorParam, WindowParam}
+use Rattle.exo_meaning.specs.Scene.{Shape, Side, Point, Range, Seen, Scene, number, numbers, holds, is_below, extents, narrowed, window, strides_of, strides_seen, stride_at}
 use Rattle.exo_meaning.specs.State.{State}
 use Rattle.exo_meaning.specs.Calls.{Given, GivenNumber, GivenView, truth, given, all_given, suits, all_positive}
-use Rattle.exo_meaning.specs.Run.{argument_number}
-use Rattle.exo_meaning.specs.Units.{Sort, Scope, sort_in, has_rank, has_cell, is_dense, is_rank, is_truth, with_both, is_coord, is_window, spans, is_control, is_condition, is_of_kind, is_for, are_for}
+use Rattle.exo_meaning.specs.Units.{Scope, sort_in, has_rank, has_cell, is_dense, is_rank, is_truth, with_both, is_coord, is_window, spans, is_of_kind, is_for, are_for}
 use Rattle.exo_show.specs.Words.{Words}
 use Rattle.exo_context.specs.Sound.{IsSound}
 use Rattle.bounds_check.specs.Pairs.{flat_zip}
-use Rattle.bounds_check.specs.Extents.{Extents, span_extents}
-use Rattle.bounds_check.specs.Arguments.{is_span, span_place, window_stride, stride_for}
+use Rattle.bounds_check.specs.Extents.{Extents}
+use Rattle.bounds_check.specs.Arguments.{span_place, stride_for}
 use Rattle.bounds_check.specs.Claims.{window_claims, argument_window, given_claims, argument_size, argument_extents}
-use Rattle.claim_laws.proofs.Basics.{and_parts, no_test, none_some, some_injective, map_gives, where_gives, Succeeds, succeeds_then, succeeds_map, succeeds_as, succeeds_at, some_succeeds, not_true, each_left, each_right}
-use Rattle.claim_laws.proofs.Seen.{IsSeen, IsDescribed, IsHeld, Hold, seen_of_rank, IsPart, window_there}
+use Rattle.claim_laws.proofs.Basics.{and_parts, no_test, none_some, map_gives, where_gives, Succeeds, succeeds_then, succeeds_map, each_left, each_right}
+use Rattle.claim_laws.proofs.Seen.{IsDescribed, IsHeld, Hold, seen_of_rank, IsPart, window_there}
 use Rattle.claim_laws.proofs.Kept.{span_rank}
 
 -- ---- strides of windows
@@ -78,7 +77,7 @@ module _ (scene : Scene) where
   stride_narrowed (Range lo n ∷ sides) (Span a b ∷ cs) out (t ∷ strides) (suc k) e h =
       let q = span_out lo n sides a b cs out e in
       subst (λ (o : List Side). nth (t ∷ strides_of sides strides) (span_place (suc k) (Span a b ∷ cs)) ≡ nth (strides_of o (t ∷ strides)) (suc k)) q.2
-        (ap (nth (t ∷ strides_of sides strides)) (span_later k a b cs) ∙ stride_narrowed sides cs q.0 strides k q.1 (less_than k (spans cs) h))
+      (ap (nth (t ∷ strides_of sides strides)) (span_later k a b cs) ∙ stride_narrowed sides cs q.0 strides k q.1 (less_than k (spans cs) h))
 
   -- of what is seen
   part_stride : (of part : Seen) (cs : List Coord) (k : ℕ) → narrowed scene of.sides cs ≡ Some part.sides → part.buffer ≡ of.buffer → nat_lt k (spans cs) ≡ true → nth (strides_seen scene of) (span_place k cs) ≡ nth (strides_seen scene part) k
@@ -135,7 +134,7 @@ module _ (w : Words) (fields : ℕ → Option Kind) (table : Extents) (scope : S
   whole_given rank x h =
       let v = seen_of_rank w fields table scope s described sound rank x h in
       subst (λ (o : Option Seen). Succeeds (option_map GivenView o) (IsGivenView rank (Whole x))) (sym v.view_is)
-        (record { extents_are = v.extents_are; positive = v.positive; rank_is = v.rank_is; strides = λ y k i. ap (λ o. stride_at s.scene o k) v.view_is })
+      (record { extents_are = v.extents_are; positive = v.positive; rank_is = v.rank_is; strides = λ y k i. ap (λ o. stride_at s.scene o k) v.view_is })
 
   window_given : (rank x : ℕ) (cs : List Coord) → is_window fields scope x cs ≡ true → spans cs ≡ rank → Hold s.scene (window_claims w cs (table x)) → Succeeds (option_map GivenView (window s.scene x cs)) (IsGivenView rank (Window x cs))
   window_given rank x cs h e m =
@@ -145,9 +144,9 @@ module _ (w : Words) (fields : ℕ → Option Kind) (table : Extents) (scope : S
         positive = k.positive;
         rank_is = span_rank cs ∙ e;
         strides = λ y j i.
-          ap (λ (l : List Coord). stride_at s.scene (s.scene.views x) (span_place j l)) (take_all 8 cs (short (length cs) r.small))
-          ∙ ap (λ o. stride_at s.scene o (span_place j cs)) k.view_is
-          ∙ part_stride s.scene k.of part cs j k.narrowed_is k.buffer_is (subst (λ n. nat_lt j n ≡ true) (sym e) i);
+            ap (λ (l : List Coord). stride_at s.scene (s.scene.views x) (span_place j l)) (take_all 8 cs (short (length cs) r.small))
+            ∙ ap (λ o. stride_at s.scene o (span_place j cs)) k.view_is
+            ∙ part_stride s.scene k.of part cs j k.narrowed_is k.buffer_is (subst (λ n. nat_lt j n ≡ true) (sym e) i);
       })
 
   control_given : (kind : Kind) (a : Argument) → is_of_kind fields with_both scope kind a ≡ true → Hold s.scene (given_claims w kind a) → Succeeds (given s.scene a) (IsFor (ControlParam kind) a)
@@ -193,4 +192,4 @@ module _ (w : Words) (fields : ℕ → Option Kind) (table : Extents) (scope : S
       let za = argument_size w p a in
       let zr = flat_zip (argument_size w) ps args in
       succeeds_then (IsFor p.kind a) (AreFor (p ∷ ps) (a ∷ args)) (given s.scene a) _ (one_given p p.kind a refl q.0 (each_left (IsHeld s.scene) wa wr m) (each_left (IsHeld s.scene) za zr n)) (λ g k.
-        succeeds_map (AreFor ps args) (AreFor (p ∷ ps) (a ∷ args)) (all_given s.scene args) (λ gs. g ∷ gs) (all_for ps args q.1 (each_right (IsHeld s.scene) wa wr m) (each_right (IsHeld s.scene) za zr n)) (λ gs j. (k, j)))
+      succeeds_map (AreFor ps args) (AreFor (p ∷ ps) (a ∷ args)) (all_given s.scene args) (λ gs. g ∷ gs) (all_for ps args q.1 (each_right (IsHeld s.scene) wa wr m) (each_right (IsHeld s.scene) za zr n)) (λ gs j. (k, j)))

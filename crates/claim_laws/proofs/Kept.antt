@@ -1,17 +1,16 @@
 -- What names see stays described along a run.
-use Rattle.std.proofs.Common.{◌≡◌, ℕ, suc, ◌≤◌, ℤ, pos, ◌+ℤ◌, ◌-ℤ◌, ◌==◌, int_le, int_lt, Bool, true, false, cond, not, ◌&&◌, ◌||◌, List, [], ◌∷◌, map, length, Option, Some, None, IfSome, option_map, arith, refl, sym, ap, ap₂, ◌∙◌, subst, eqb-true}
+use Rattle.std.proofs.Common.{◌≡◌, ℕ, suc, ◌≤◌, ℤ, pos, ◌+ℤ◌, ◌-ℤ◌, ◌==◌, int_le, int_lt, Bool, true, false, cond, not, ◌&&◌, ◌||◌, List, [], ◌∷◌, length, Option, Some, None, IfSome, option_map, arith, refl, sym, ap, ◌∙◌, subst, eqb-true}
 use Rattle.std.specs.Prelude.{IsSome, nat_lt}
 use Rattle.std.specs.List.{list_any, list_all}
-use Rattle.std.proofs.lemmas.Int.{ints}
-use Rattle.exo_tree.specs.Tree.{Binder, Cell, Kind, Index, Control, Coord, At, Span, Statement, Assign, Reduce, Config, Pass, If, For, Alloc, View, Call, Block}
+use Rattle.exo_tree.specs.Tree.{Binder, Cell, Kind, Control, Coord, At, Span, Statement, Assign, Reduce, Config, Pass, If, For, Alloc, View, Call}
 use Rattle.exo_meaning.specs.Value.{Value, on_two}
-use Rattle.exo_meaning.specs.Scene.{Shape, Side, Point, Range, Seen, Scene, then_do, number, numbers, holds, is_below, extents, whole, narrowed, window}
+use Rattle.exo_meaning.specs.Scene.{Side, Point, Range, Seen, Scene, then_do, number, numbers, holds, is_below, extents, whole, narrowed, window}
 use Rattle.exo_meaning.specs.State.{State, Place, place, put, value, left, scoped, on_scene, with_control, with_field, with_view, with_buffer}
 use Rattle.exo_meaning.specs.Calls.{Callee, all_given, entered, run_asserted, returned, suits, all_positive}
-use Rattle.exo_meaning.specs.Run.{World, run, step, call_to, turn, turns, turns_of, choose, argument_number, tensor, roots_after}
+use Rattle.exo_meaning.specs.Run.{World, run, step, call_to, turn, turns, turns_of, choose, argument_number, tensor}
 use Rattle.exo_meaning.specs.Units.{Sort, ControlName, BufferName, Named, Scope, sort_in, is_text, is_new, with_name, has_rank, is_rank, view_sort, scope_after, plainly, are_controls, is_coord, is_window, spans, is_statement}
 use Rattle.bounds_check.specs.Extents.{Extents, span_extents}
-use Rattle.claim_laws.proofs.Basics.{and_parts, and_true, or_parts, not_true, no_test, by_test, none_some, some_injective, there_some, if_gives, if_then, if_map, if_where, any, here, then_gives, map_gives, where_gives, same_number}
+use Rattle.claim_laws.proofs.Basics.{and_parts, and_true, or_parts, not_true, no_test, by_test, none_some, some_injective, if_gives, if_then, if_map, if_where, any, here, then_gives, map_gives, same_number}
 use Rattle.claim_laws.proofs.Seen.{DependOn, IsSeen, IsDescribed, AreSpans, longer, ranked, controls_depend, spans_depend}
 use Rattle.claim_laws.proofs.Tables.{StepAgrees}
 
@@ -48,7 +47,7 @@ call_names : (o : Option Callee) (args : List _) (s : State) → KeepsNames s (c
 call_names None args s = tt
 call_names (Some c) args s = if_then (λ gs. Unit {0}) (λ t. SameNames s.scene t.scene) (all_given s.scene args) _ (any (all_given s.scene args)) (λ gs u.
     if_then (λ t. Unit {0}) (λ t. SameNames s.scene t.scene) (entered c.procedure.params gs s) _ (any (entered c.procedure.params gs s)) (λ inner v.
-      if_map (λ t. Unit {0}) (λ t. SameNames s.scene t.scene) (run_asserted c inner) (returned c gs s) (any (run_asserted c inner)) (λ t z. record { control = refl; views = refl })))
+    if_map (λ t. Unit {0}) (λ t. SameNames s.scene t.scene) (run_asserted c inner) (returned c gs s) (any (run_asserted c inner)) (λ t z. record { control = refl; views = refl })))
 
 configure_names : (world : World) (f : ℕ) (a : _) (s : State) → KeepsNames s (step world (Config f a) s)
 configure_names world f a s = if_then (λ n. Unit {0}) (λ t. SameNames s.scene t.scene) (argument_number s.scene a) _ (any (argument_number s.scene a)) (λ n u. if_where (λ t. SameNames s.scene t.scene) (suits (world.kinds f) n) (Some (on_scene (with_field f n) s)) (λ h. record { control = refl; views = refl }))
@@ -95,7 +94,10 @@ module _ (table : Extents) where
         seen = v.seen;
         view_is = ap (λ f. f x) same.views ∙ v.view_is;
         extents_are = v.extents_are ∙ v.steady s t (λ y k. ap (λ f. f y) (sym same.control));
-        positive = v.positive; rank_is = v.rank_is; small = v.small; steady = v.steady;
+        positive = v.positive;
+        rank_is = v.rank_is;
+        small = v.small;
+        steady = v.steady;
       }
 
   -- one name more
@@ -103,14 +105,16 @@ module _ (table : Extents) where
   more_described scope x sort s t d old new y cell rank dense h = by_test (y == x.id)
       (λ e. subst (λ z. IsSeen (with_name scope x sort) t (table z) rank (t.views z)) (sym (eqb-true y x.id e)) (new cell rank dense (some_injective sort (BufferName cell rank dense) (sym (ap (λ u. cond u (Some sort) (sort_in scope y)) e) ∙ h))))
       (λ e. let h' : sort_in scope y ≡ Some (BufferName cell rank dense) = sym (ap (λ u. cond u (Some sort) (sort_in scope y)) e) ∙ h in
-        let v = d y cell rank dense h' in
-        record {
-          seen = v.seen;
-          view_is = (old y (subst IsSome (sym h') refl)).0 ∙ v.view_is;
-          extents_are = v.extents_are ∙ v.steady s t (λ z k. sym (old z k).1);
-          positive = v.positive; rank_is = v.rank_is; small = v.small;
-          steady = wider_depend scope x sort (table y) v.steady;
-        })
+      let v = d y cell rank dense h' in
+      record {
+        seen = v.seen;
+        view_is = (old y (subst IsSome (sym h') refl)).0 ∙ v.view_is;
+        extents_are = v.extents_are ∙ v.steady s t (λ z k. sym (old z k).1);
+        positive = v.positive;
+        rank_is = v.rank_is;
+        small = v.small;
+        steady = wider_depend scope x sort (table y) v.steady;
+      })
 
   pub control_described : (scope : Scope) (x : Binder) (n : ℤ) (kind : Kind) (s : Scene) → is_new scope x ≡ true → IsDescribed table scope s → IsDescribed table (with_name scope x (ControlName kind)) (with_control x.id n s)
   control_described scope x n kind s new d = more_described scope x (ControlName kind) s (with_control x.id n s) d
@@ -138,7 +142,7 @@ module _ (scene : Scene) where
       let i = number scene a in
       let j = number scene b in
       if_where (AreSpans scene (Span a b ∷ cs)) (int_le (pos 0) i && int_lt i j && int_le j n) _ (λ h. if_map (AreSpans scene cs) (AreSpans scene (Span a b ∷ cs)) (narrowed scene sides cs) _ (spans_kept sides cs) (λ out k.
-        (ap (λ z. (j -ℤ i) ∷ z) k.0, and_true (int_le (pos 1) (j -ℤ i)) (all_positive (extents out)) (longer i j (and_parts (int_le (pos 0) i) (int_lt i j) (and_parts (int_le (pos 0) i && int_lt i j) (int_le j n) h).0).1) k.1)))
+      (ap (λ z. (j -ℤ i) ∷ z) k.0, and_true (int_le (pos 1) (j -ℤ i)) (all_positive (extents out)) (longer i j (and_parts (int_le (pos 0) i) (int_lt i j) (and_parts (int_le (pos 0) i && int_lt i j) (int_le j n) h).0).1) k.1)))
 
   pub window_spans : (x : ℕ) (cs : List Coord) (part : Seen) → window scene x cs ≡ Some part → AreSpans scene cs part.sides
   window_spans x cs part e =
@@ -227,7 +231,7 @@ module _ (world : World) (fields : ℕ → Option Kind) (memories : ℕ) (callee
       let p = and_parts (is_new scope x) (are_controls fields plainly scope dims && (is_rank (length dims) && nat_lt memory memories)) h in
       let q = and_parts (are_controls fields plainly scope dims) (is_rank (length dims) && nat_lt memory memories) p.1 in
       if_where (λ (t : State). IsDescribed table (scope_after (Alloc x cell dims memory) scope) t.scene) (all_positive (numbers s.scene dims)) _ (λ positive.
-        alloc_described fields table scope s.scene d x cell dims p.0 q.0 (and_parts (is_rank (length dims)) (nat_lt memory memories) q.1).0 agree positive)
+      alloc_described fields table scope s.scene d x cell dims p.0 q.0 (and_parts (is_rank (length dims)) (nat_lt memory memories) q.1).0 agree positive)
   step_described (View w x cs) h agree =
       let p = and_parts (is_new scope w) (is_window fields scope x cs && nat_lt 0 (spans cs)) h in
       let q = and_parts (is_window fields scope x cs) (nat_lt 0 (spans cs)) p.1 in

@@ -10,3 +10,4 @@ mod Given
 mod Entered
 mod Calling
 mod Standing
+mod Induction

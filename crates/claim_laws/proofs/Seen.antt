@@ -1,23 +1,23 @@
 -- What buffer names see, and that claims bring places, values and windows about.
-use Rattle.std.proofs.Common.{◌≡◌, ℕ, zero, suc, ℤ, pos, ◌+ℤ◌, ◌-ℤ◌, ◌*ℤ◌, neg_ℤ, ◌==◌, int_le, int_lt, Bool, true, false, ◌&&◌, ◌||◌, List, [], ◌∷◌, ◌++◌, map, length, Option, Some, None, option_map, arith, refl, sym, ap, ap₂, ◌∙◌, subst, true≢false, eqb-true}
+use Rattle.std.proofs.Common.{◌≡◌, ℕ, ℤ, pos, ◌+ℤ◌, ◌-ℤ◌, ◌*ℤ◌, neg_ℤ, int_le, int_lt, Bool, true, ◌&&◌, List, [], ◌∷◌, ◌++◌, map, length, Option, Some, None, option_map, arith, refl, sym, ap, ap₂, ◌∙◌, subst, eqb-true}
 use Rattle.std.specs.Prelude.{IsSome}
 use Rattle.std.specs.List.{list_all}
 use Rattle.std.specs.Int.{int_div_euclid, int_rem_euclid}
 use Rattle.std.proofs.lemmas.Int.{ints}
 use Rattle.exo_tree.specs.Tree.{Cell, Kind, Control, Lit, Var, Field, StrideOf, Neg, Add, Sub, Mul, Div, Mod, Datum, Const, Read, Negated, Relu, Plus, Minus, Times, Select, Coord, At, Span}
 use Rattle.exo_meaning.specs.Value.{Value, stored_as}
-use Rattle.exo_meaning.specs.Scene.{Shape, Side, Point, Range, Seen, Scene, then_do, where_true, number, numbers, holds, cell_at, is_below, extents, narrowed, window}
+use Rattle.exo_meaning.specs.Scene.{Shape, Side, Point, Range, Seen, Scene, then_do, number, numbers, holds, cell_at, is_below, extents, narrowed, window}
 use Rattle.exo_meaning.specs.State as state
 use Rattle.exo_meaning.specs.State.{State, Place, place, put, changed, held}
 use Rattle.exo_meaning.specs.Calls.{all_positive}
 use Rattle.exo_meaning.specs.Orders.{Each}
-use Rattle.exo_meaning.specs.Units.{Sort, ControlName, BufferName, Scope, sort_in, has_rank, is_number, is_rank, plainly, is_control, are_controls, is_access, is_datum, is_coord, is_window, spans}
+use Rattle.exo_meaning.specs.Units.{Sort, ControlName, BufferName, Scope, sort_in, has_rank, is_number, is_rank, plainly, is_control, are_controls, is_access, is_datum, is_coord, is_window}
 use Rattle.exo_show.specs.Words.{Words}
 use Rattle.exo_context.specs.Sound.{IsSound}
 use Rattle.bounds_check.specs.Claim.{Claim}
 use Rattle.bounds_check.specs.Extents.{Extents, span_extents}
-use Rattle.bounds_check.specs.Claims.{at_least_one, index_claims, coord_claims, window_claims, read_claims, store_claims}
-use Rattle.claim_laws.proofs.Basics.{and_parts, and_true, no_test, none_some, some_injective, Succeeds, succeeds_then, succeeds_map, succeeds_where, succeeds_as, head_same, tail_same, nil_cons, suc_same, each_left, each_right}
+use Rattle.bounds_check.specs.Claims.{at_least_one, index_claims, window_claims, read_claims, store_claims}
+use Rattle.claim_laws.proofs.Basics.{and_parts, and_true, no_test, Succeeds, succeeds_then, succeeds_map, succeeds_where, succeeds_as, head_same, tail_same, nil_cons, suc_same, each_left, each_right}
 
 -- ---- what names see
 
@@ -113,8 +113,8 @@ module _ (w : Words) (scene : Scene) where
       let is_d = head_same n (number scene d) (extents sides) (numbers scene ds) e in
       let rest = indices_there sides is ds (tail_same n (number scene d) (extents sides) (numbers scene ds) e) (suc_same (length ds) (length is) r) h.1.1 in
       succeeds_where (λ at. Unit {0}) (is_below (number scene i) n) (option_map (λ at. (lo +ℤ number scene i) ∷ at) (cell_at sides (numbers scene is)))
-        (and_true (int_le (pos 0) (number scene i)) (int_lt (number scene i) n) h.0 (ap (int_lt (number scene i)) is_d ∙ h.1.0))
-        (succeeds_map (λ at. Unit {0}) (λ at. Unit {0}) (cell_at sides (numbers scene is)) (λ at. (lo +ℤ number scene i) ∷ at) rest (λ at u. tt))
+      (and_true (int_le (pos 0) (number scene i)) (int_lt (number scene i) n) h.0 (ap (int_lt (number scene i)) is_d ∙ h.1.0))
+      (succeeds_map (λ at. Unit {0}) (λ at. Unit {0}) (cell_at sides (numbers scene is)) (λ at. (lo +ℤ number scene i) ∷ at) rest (λ at u. tt))
 
   pub dims_positive : (ds : List Control) → Hold scene (map (at_least_one w) ds) → all_positive (numbers scene ds) ≡ true
   dims_positive [] h = refl
@@ -131,8 +131,8 @@ module _ (w : Words) (scene : Scene) where
       let is_d = head_same n (number scene d) (extents sides) (numbers scene ds) e in
       let rest = windows_there sides cs ds (tail_same n (number scene d) (extents sides) (numbers scene ds) e) (suc_same (length ds) (length cs) r) h.1.1 in
       succeeds_where (AreSpans scene cs) (is_below (number scene a) n) (option_map (λ r. Point (lo +ℤ number scene a) ∷ r) (narrowed scene sides cs))
-        (and_true (int_le (pos 0) (number scene a)) (int_lt (number scene a) n) h.0 (ap (int_lt (number scene a)) is_d ∙ h.1.0))
-        (succeeds_map (AreSpans scene cs) (AreSpans scene cs) (narrowed scene sides cs) (λ r. Point (lo +ℤ number scene a) ∷ r) rest (λ out k. k))
+      (and_true (int_le (pos 0) (number scene a)) (int_lt (number scene a) n) h.0 (ap (int_lt (number scene a)) is_d ∙ h.1.0))
+      (succeeds_map (AreSpans scene cs) (AreSpans scene cs) (narrowed scene sides cs) (λ r. Point (lo +ℤ number scene a) ∷ r) rest (λ out k. k))
   windows_there (Range lo n ∷ sides) (Span a b ∷ cs) (d ∷ ds) e r h =
       let i = number scene a in
       let j = number scene b in
@@ -140,8 +140,8 @@ module _ (w : Words) (scene : Scene) where
       let rest = windows_there sides cs ds (tail_same n (number scene d) (extents sides) (numbers scene ds) e) (suc_same (length ds) (length cs) r) h.1.1.1 in
       let out : List Side → List Side = λ r. Range (lo +ℤ i) (j -ℤ i) ∷ r in
       succeeds_where (AreSpans scene (Span a b ∷ cs)) (int_le (pos 0) i && int_lt i j && int_le j n) (option_map out (narrowed scene sides cs))
-        (and_true (int_le (pos 0) i && int_lt i j) (int_le j n) (and_true (int_le (pos 0) i) (int_lt i j) h.0 h.1.0) (ap (int_le j) is_d ∙ h.1.1.0))
-        (succeeds_map (AreSpans scene cs) (AreSpans scene (Span a b ∷ cs)) (narrowed scene sides cs) out rest (λ r k. (ap (λ z. (j -ℤ i) ∷ z) k.0, and_true (int_le (pos 1) (j -ℤ i)) (all_positive (extents r)) (longer i j h.1.0) k.1)))
+      (and_true (int_le (pos 0) i && int_lt i j) (int_le j n) (and_true (int_le (pos 0) i) (int_lt i j) h.0 h.1.0) (ap (int_le j) is_d ∙ h.1.1.0))
+      (succeeds_map (AreSpans scene cs) (AreSpans scene (Span a b ∷ cs)) (narrowed scene sides cs) out rest (λ r k. (ap (λ z. (j -ℤ i) ∷ z) k.0, and_true (int_le (pos 1) (j -ℤ i)) (all_positive (extents r)) (longer i j h.1.0) k.1)))
 
 -- ---- in one state, whose names are described
 
@@ -154,7 +154,7 @@ module _ (w : Words) (fields : ℕ → Option Kind) (table : Extents) (scope : S
       let k = and_parts (has_rank (length is) (sort_in scope x)) (are_controls fields plainly scope is) h in
       let v = seen_of_rank (length is) x k.0 in
       subst (λ o. Succeeds (then_do o (λ seen. option_map (at_cell seen) (cell_at seen.sides (numbers s.scene is)))) (λ p. IsSome (s.scene.buffers p.buffer))) (sym v.view_is)
-        (succeeds_map (λ at. Unit {0}) (λ p. IsSome (s.scene.buffers p.buffer)) (cell_at v.seen.sides (numbers s.scene is)) (at_cell v.seen) (indices_there w s.scene v.seen.sides is (table x) v.extents_are v.rank_is m) (λ at u. sound.seen x v.seen v.view_is))
+      (succeeds_map (λ at. Unit {0}) (λ p. IsSome (s.scene.buffers p.buffer)) (cell_at v.seen.sides (numbers s.scene is)) (at_cell v.seen) (indices_there w s.scene v.seen.sides is (table x) v.extents_are v.rank_is m) (λ at u. sound.seen x v.seen v.view_is))
     where
       at_cell : Seen → List ℤ → Place
       at_cell seen at = record { buffer = seen.buffer; at = at }
@@ -190,8 +190,8 @@ module _ (w : Words) (fields : ℕ → Option Kind) (table : Extents) (scope : S
       let p = each_left (IsHeld s.scene) (ra ++ rb ++ rc) rd m in
       let q = each_left (IsHeld s.scene) (ra ++ rb) rc p in
       succeeds_then (λ z. Unit {0}) (λ z. Unit {0}) (state.value s a) _ (value_there a j.0 (each_left (IsHeld s.scene) ra rb q)) (λ x u.
-        succeeds_then (λ z. Unit {0}) (λ z. Unit {0}) (state.value s b) _ (value_there b j.1 (each_right (IsHeld s.scene) ra rb q)) (λ y v.
-          both_there c d _ (value_there c i.0 (each_right (IsHeld s.scene) (ra ++ rb) rc p)) (value_there d i.1 (each_right (IsHeld s.scene) (ra ++ rb ++ rc) rd m))))
+      succeeds_then (λ z. Unit {0}) (λ z. Unit {0}) (state.value s b) _ (value_there b j.1 (each_right (IsHeld s.scene) ra rb q)) (λ y v.
+      both_there c d _ (value_there c i.0 (each_right (IsHeld s.scene) (ra ++ rb) rc p)) (value_there d i.1 (each_right (IsHeld s.scene) (ra ++ rb ++ rc) rd m))))
 
   put_there : (f : Value → Value) (p : Place) → IsSome (s.scene.buffers p.buffer) → Succeeds (put s f p) (λ t. Unit {0})
   put_there f p h = go (s.scene.buffers p.buffer) h
@@ -204,7 +204,7 @@ module _ (w : Words) (fields : ℕ → Option Kind) (table : Extents) (scope : S
   store_there x is e f h m =
       let k = and_parts (is_access fields scope x is) (is_datum fields scope e) h in
       succeeds_then (λ p. IsSome (s.scene.buffers p.buffer)) (λ t. Unit {0}) (place s.scene x is) _ (place_there x is k.0 (each_left (IsHeld s.scene) (index_claims w is (table x)) (read_claims w table e) m)) (λ p there.
-        succeeds_then (λ z. Unit {0}) (λ t. Unit {0}) (state.value s e) _ (value_there e k.1 (each_right (IsHeld s.scene) (index_claims w is (table x)) (read_claims w table e) m)) (λ z u. put_there (f z) p there))
+      succeeds_then (λ z. Unit {0}) (λ t. Unit {0}) (state.value s e) _ (value_there e k.1 (each_right (IsHeld s.scene) (index_claims w is (table x)) (read_claims w table e) m)) (λ z u. put_there (f z) p there))
 
   -- the window is there, a part of what the name sees, with the extents of its spans, each at least 1
   pub record IsPart (x : ℕ) (cs : List Coord) (part : Seen) : Type 0 where
@@ -220,9 +220,9 @@ module _ (w : Words) (fields : ℕ → Option Kind) (table : Extents) (scope : S
       let k = and_parts (has_rank (length cs) (sort_in scope x)) (list_all (is_coord fields scope) cs) h in
       let v = seen_of_rank (length cs) x k.0 in
       subst (λ o. Succeeds (then_do o (λ seen. option_map (with_sides seen) (narrowed s.scene seen.sides cs))) (IsPart x cs)) (sym v.view_is)
-        (succeeds_map (λ out. (narrowed s.scene v.seen.sides cs ≡ Some out) × AreSpans s.scene cs out) (IsPart x cs) (narrowed s.scene v.seen.sides cs) (with_sides v.seen)
-          (succeeds_as (AreSpans s.scene cs) (λ out. (narrowed s.scene v.seen.sides cs ≡ Some out) × AreSpans s.scene cs out) (narrowed s.scene v.seen.sides cs) (windows_there w s.scene v.seen.sides cs (table x) v.extents_are v.rank_is m) (λ out e k. (e, k)))
-          (λ out e. record { of = v.seen; view_is = v.view_is; narrowed_is = e.0; buffer_is = refl; extents_are = e.1.0; positive = e.1.1 }))
+      (succeeds_map (λ out. (narrowed s.scene v.seen.sides cs ≡ Some out) × AreSpans s.scene cs out) (IsPart x cs) (narrowed s.scene v.seen.sides cs) (with_sides v.seen)
+      (succeeds_as (AreSpans s.scene cs) (λ out. (narrowed s.scene v.seen.sides cs ≡ Some out) × AreSpans s.scene cs out) (narrowed s.scene v.seen.sides cs) (windows_there w s.scene v.seen.sides cs (table x) v.extents_are v.rank_is m) (λ out e k. (e, k)))
+      (λ out e. record { of = v.seen; view_is = v.view_is; narrowed_is = e.0; buffer_is = refl; extents_are = e.1.0; positive = e.1.1 }))
     where
       with_sides : Seen → List Side → Seen
       with_sides seen sides = record { buffer = seen.buffer; sides = sides }

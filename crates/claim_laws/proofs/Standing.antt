@@ -1,11 +1,10 @@
 -- The procedures of a unit: where each stands, and that it may call all of the unit.
-use Rattle.std.proofs.Common.{◌≡◌, ℕ, zero, suc, ◌==◌, Bool, true, false, not, ◌&&◌, ◌||◌, List, [], ◌∷◌, ◌++◌, Option, Some, None, refl, sym, ap, ap₂, ◌∙◌, subst, eqb-true, arith}
-use Rattle.std.specs.Prelude.{IsSome, length, slice_get, nat_lt}
-use Rattle.exo_tree.specs.Tree.{Kind, Index, Argument, Statement, Assign, Reduce, Config, Pass, If, For, Alloc, View, Call, Block, end, next, Procedure, ConfigField, Program}
-use Rattle.exo_meaning.specs.State.{State}
+use Rattle.std.proofs.Common.{◌≡◌, ℕ, zero, suc, Bool, true, false, not, ◌&&◌, ◌||◌, List, [], ◌∷◌, ◌++◌, Option, Some, None, refl, sym, ap, ◌∙◌, subst, eqb-true, arith}
+use Rattle.std.specs.Prelude.{length, slice_get, nat_lt}
+use Rattle.exo_tree.specs.Tree.{Kind, Index, Argument, Statement, Assign, Reduce, Config, Pass, If, For, Alloc, View, Call, Block, end, next, Procedure, ConfigField}
 use Rattle.exo_meaning.specs.Calls.{Callee}
-use Rattle.exo_meaning.specs.Run.{World, run, world_of, callee_in, callees, unit_world, kinds_of, program_world, roots_after}
-use Rattle.exo_meaning.specs.Units.{ControlName, Scope, with_name, scope_of, scope_after, plainly, with_fields, is_empty, is_short, is_new, is_control, is_condition, is_call, is_block, is_statement, field_kind, IsProcedure, AreProcedures, IsUnit}
+use Rattle.exo_meaning.specs.Run.{run, world_of, callee_in, callees, unit_world, kinds_of, roots_after}
+use Rattle.exo_meaning.specs.Units.{ControlName, Scope, with_name, scope_of, scope_after, plainly, with_fields, is_empty, is_short, is_new, is_control, is_condition, is_call, is_block, is_statement, field_kind, IsProcedure, AreProcedures}
 use Rattle.exo_context.specs.Grown.{calls_below, step_calls_below, GrownLaw}
 use Rattle.exo_context.specs.WellFormed.{CallsAreBelow}
 use Rattle.exo_context.specs.Sorted.{MayRun}

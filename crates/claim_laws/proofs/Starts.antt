@@ -1,24 +1,23 @@
 -- Where the claims of a procedure hold and what it calls runs, it runs on each admissible input.
-use Rattle.std.proofs.Common.{◌≡◌, ℕ, zero, ℤ, ◌==◌, Bool, true, false, ◌&&◌, List, [], ◌∷◌, ◌++◌, map, length, Option, Some, None, refl, sym, ap, ◌∙◌, subst}
-use Rattle.std.specs.Prelude.{IsSome, flat_map, nat_lt}
+use Rattle.std.proofs.Common.{◌≡◌, ℕ, Bool, true, false, ◌&&◌, List, [], ◌∷◌, map, length, Option, Some, refl, sym, ap, ◌∙◌, subst}
+use Rattle.std.specs.Prelude.{IsSome, nat_lt}
 use Rattle.exo_tree.specs.Tree.{Binder, Cell, Kind, Control, Param, ParamKind, ControlParam, TensorParam, WindowParam, Procedure, Program}
 use Rattle.exo_tree.specs.Places.{Main}
-use Rattle.exo_meaning.specs.Scene.{Scene, Seen, numbers, extents, whole, where_true}
+use Rattle.exo_meaning.specs.Scene.{Scene, numbers, whole, where_true}
 use Rattle.exo_meaning.specs.State.{State}
 use Rattle.exo_meaning.specs.Calls.{all_positive}
 use Rattle.exo_meaning.specs.Run.{run, program_world}
 use Rattle.exo_meaning.specs.Inputs.{has_extents, all_have_extents, run_procedure, IsAdmissible, IsArgument, AreArguments}
 use Rattle.exo_meaning.specs.Orders.{Each}
-use Rattle.exo_meaning.specs.Units.{Sort, ControlName, BufferName, Scope, is_new, with_name, scope_of, param_sort, is_rank, plainly, are_controls, is_param_kind, are_params, field_kind}
+use Rattle.exo_meaning.specs.Units.{Sort, BufferName, Scope, is_new, with_name, scope_of, param_sort, is_rank, plainly, are_controls, is_param_kind, are_params, field_kind}
 use Rattle.exo_context.specs.Places.{OpenedLaw}
 use Rattle.exo_context.specs.Copies.{SoundLaw}
 use Rattle.exo_context.specs.Sorted.{FitsAtLaw, MayRun}
 use Rattle.exo_show.specs.Words.{Words, words_of}
-use Rattle.bounds_check.specs.Claim.{Claim}
 use Rattle.bounds_check.specs.Extents.{Extents, dims_of, extents_of}
 use Rattle.bounds_check.specs.Claims.{at_least_one, param_claims, placed_at, block_claims, claims_of}
 use Rattle.claim_laws.specs.Holding.{ClaimHolds, calls}
-use Rattle.claim_laws.proofs.Basics.{and_parts, and_true, no_test, none_some, each_left, each_right, each_of}
+use Rattle.claim_laws.proofs.Basics.{and_parts, and_true, none_some, each_left, each_right, each_of}
 use Rattle.claim_laws.proofs.Seen.{DependOn, IsSeen, IsDescribed, IsHeld, Hold, controls_depend, dims_positive}
 use Rattle.claim_laws.proofs.Tables.{Agrees, ParamsAgree, table_agrees}
 use Rattle.claim_laws.proofs.Kept.{wider_depend, more_described, control_buffer, same_rank, whole_extents}
@@ -67,8 +66,8 @@ module _ (w : Words) (scene : Scene) where
   params_have_extents [] h = refl
   params_have_extents (p ∷ ps) h =
       and_true (has_extents scene p.kind) (all_have_extents scene ps)
-        (kind_has_extents p.kind (each_left (IsHeld scene) (map (at_least_one w) (dims_of p.kind)) (param_claims w ps) h))
-        (params_have_extents ps (each_right (IsHeld scene) (map (at_least_one w) (dims_of p.kind)) (param_claims w ps) h))
+      (kind_has_extents p.kind (each_left (IsHeld scene) (map (at_least_one w) (dims_of p.kind)) (param_claims w ps) h))
+      (params_have_extents ps (each_right (IsHeld scene) (map (at_least_one w) (dims_of p.kind)) (param_claims w ps) h))
 
 -- ---- the procedure
 
@@ -79,7 +78,7 @@ module _ (u : Program) (p : Procedure) (may : MayRun u.fields (length u.memories
   input_has_extents : (s : State) → IsAdmissible (program_world u) p s → all_have_extents s.scene p.params ≡ true
   input_has_extents s good =
       params_have_extents w s.scene p.params (each_of (ClaimHolds (program_world u) p) (IsHeld s.scene) (λ c. record { place = []; claim = c }) (param_claims w p.params) (λ c h. h s good)
-        (each_left (ClaimHolds (program_world u) p) (placed_at [] (param_claims w p.params)) (block_claims w u (extents_of p) [] Main 0 p.body) claimed))
+      (each_left (ClaimHolds (program_world u) p) (placed_at [] (param_claims w p.params)) (block_claims w u (extents_of p) [] Main 0 p.body) claimed))
 
   abbrev tables : ParamsAgree (extents_of p) p.params × Agrees (extents_of p) p.body
   tables = table_agrees p may.procedure.distinct
@@ -100,4 +99,4 @@ module _ (u : Program) (p : Procedure) (may : MayRun u.fields (length u.memories
   pub procedure_runs : (s : State) → IsAdmissible (program_world u) p s → IsSome (run_procedure (program_world u) p s)
   procedure_runs s good =
       subst (λ t. IsSome (where_true t (run (program_world u) p.body s))) (sym (input_has_extents s good))
-        (block_runs u p may opened_law sound_law fits_law Runs calls_run p.body [] Main 0 (scope_of [] p.params) (λ x. x) (λ s. IsAdmissible (program_world u) p s) body_stands s good)
+      (block_runs u p may opened_law sound_law fits_law Runs calls_run p.body [] Main 0 (scope_of [] p.params) (λ x. x) (λ s. IsAdmissible (program_world u) p s) body_stands s good)

@@ -1,5 +1,5 @@
 -- The table of extents tells of each name what its binder says.
-use Rattle.std.proofs.Common.{◌≡◌, ℕ, ◌==◌, Bool, true, false, cond, not, ◌&&◌, ◌||◌, List, [], ◌∷◌, ◌++◌, map, refl, sym, ap, ◌∙◌, subst, eqb-true, eq-eqb}
+use Rattle.std.proofs.Common.{◌≡◌, ℕ, ◌==◌, Bool, true, false, cond, not, ◌&&◌, ◌||◌, List, [], ◌∷◌, ◌++◌, map, refl, sym, ap, ◌∙◌, subst, eqb-true}
 use Rattle.std.specs.List.{list_any}
 use Rattle.exo_tree.specs.Tree.{Statement, Assign, Reduce, Config, Pass, If, For, Alloc, View, Call, Block, end, next, Param, Procedure}
 use Rattle.exo_meaning.specs.Binders.{binders, step_binders}
@@ -108,9 +108,10 @@ module _ (table : Extents) where
     block_agrees : (b : Block) (before : Extents) → are_distinct (binders b) ≡ true → Same (binders b) table (with_block b before) → Agrees table b
     block_agrees end before d same = tt
     block_agrees (next a b) before d same =
-        let made = with_statement a before in
-        (step_agrees a before (left_distinct (step_binders a) (binders b) d) (first_same (step_binders a) (binders b) made (with_block b made) d same (λ y h. block_leaves b made y h)),
-         block_agrees b made (right_distinct (step_binders a) (binders b) d) (second_same (step_binders a) (binders b) (with_block b made) same))
+        let made = with_statement a before in (
+          step_agrees a before (left_distinct (step_binders a) (binders b) d) (first_same (step_binders a) (binders b) made (with_block b made) d same (λ y h. block_leaves b made y h)),
+          block_agrees b made (right_distinct (step_binders a) (binders b) d) (second_same (step_binders a) (binders b) (with_block b made) same),
+        )
 
     step_agrees : (a : Statement) (before : Extents) → are_distinct (step_binders a) ≡ true → Same (step_binders a) table (with_statement a before) → StepAgrees table a
     step_agrees (Assign x is e) before d same = tt
@@ -118,9 +119,10 @@ module _ (table : Extents) where
     step_agrees (Config f a) before d same = tt
     step_agrees Pass before d same = tt
     step_agrees (If c a b) before d same =
-        let made = with_block a before in
-        (block_agrees a before (left_distinct (binders a) (binders b) d) (first_same (binders a) (binders b) made (with_block b made) d same (λ y h. block_leaves b made y h)),
-         block_agrees b made (right_distinct (binders a) (binders b) d) (second_same (binders a) (binders b) (with_block b made) same))
+        let made = with_block a before in (
+          block_agrees a before (left_distinct (binders a) (binders b) d) (first_same (binders a) (binders b) made (with_block b made) d same (λ y h. block_leaves b made y h)),
+          block_agrees b made (right_distinct (binders a) (binders b) d) (second_same (binders a) (binders b) (with_block b made) same),
+        )
     step_agrees (For i lo hi b) before d same =
         block_agrees b before (right_distinct (i.id ∷ []) (binders b) d) (λ y h. same y (or_right (y == i.id) (has (binders b) y) h))
     step_agrees (Alloc x cell dims memory) before d same = same x.id (or_left (x.id == x.id) false (same_number x.id)) ∙ this_name x.id dims before
@@ -147,14 +149,16 @@ params_agree : (ps : List Param) (table before : Extents) → are_distinct (ids 
 params_agree [] table before d same = tt
 params_agree (p ∷ ps) table before d same =
     let q = and_parts (not (has (ids ps) p.binder.id)) (are_distinct (ids ps)) d in
-    let made = with_extents p.binder.id (dims_of p.kind) before in
-    (same p.binder.id (or_left (p.binder.id == p.binder.id) (has (ids ps) p.binder.id) (same_number p.binder.id))
-     ∙ params_leave ps made p.binder.id (not_true (has (ids ps) p.binder.id) q.0)
-     ∙ this_name p.binder.id (dims_of p.kind) before,
-     params_agree ps table made q.1 (λ y h. same y (or_right (y == p.binder.id) (has (ids ps) y) h)))
+    let made = with_extents p.binder.id (dims_of p.kind) before in (
+      same p.binder.id (or_left (p.binder.id == p.binder.id) (has (ids ps) p.binder.id) (same_number p.binder.id))
+          ∙ params_leave ps made p.binder.id (not_true (has (ids ps) p.binder.id) q.0)
+          ∙ this_name p.binder.id (dims_of p.kind) before,
+      params_agree ps table made q.1 (λ y h. same y (or_right (y == p.binder.id) (has (ids ps) y) h)),
+    )
 
 pub table_agrees : (p : Procedure) → are_distinct (bound_ids p) ≡ true → ParamsAgree (extents_of p) p.params × Agrees (extents_of p) p.body
 table_agrees p d =
-    let first = with_params p.params no_extents in
-    (params_agree p.params (extents_of p) no_extents (left_distinct (ids p.params) (binders p.body) d) (λ y h. block_leaves p.body first y (apart (ids p.params) (binders p.body) d y h)),
-     block_agrees (extents_of p) p.body first (right_distinct (ids p.params) (binders p.body) d) (λ y h. refl))
+    let first = with_params p.params no_extents in (
+      params_agree p.params (extents_of p) no_extents (left_distinct (ids p.params) (binders p.body) d) (λ y h. block_leaves p.body first y (apart (ids p.params) (binders p.body) d y h)),
+      block_agrees (extents_of p) p.body first (right_distinct (ids p.params) (binders p.body) d) (λ y h. refl),
+    )

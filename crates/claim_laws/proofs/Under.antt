@@ -1,12 +1,12 @@
 -- An expression under the arguments of a call has in the caller's scene the value that it has in the callee's first one.
-use Rattle.std.proofs.Common.{◌≡◌, ℕ, zero, suc, ℤ, pos, neg_ℤ, ◌+ℤ◌, ◌-ℤ◌, ◌*ℤ◌, ◌==◌, int_le, int_lt, Bool, true, false, cond, not, ◌&&◌, ◌||◌, List, [], ◌∷◌, length, Option, Some, None, refl, sym, ap, ap₂, ◌∙◌, subst, eqb-true}
+use Rattle.std.proofs.Common.{◌≡◌, ℕ, ℤ, neg_ℤ, ◌+ℤ◌, ◌-ℤ◌, ◌*ℤ◌, ◌==◌, int_le, int_lt, Bool, true, false, cond, ◌&&◌, ◌||◌, List, [], length, Option, Some, refl, sym, ap, ap₂, ◌∙◌, subst, eqb-true}
 use Rattle.std.specs.Prelude.{nat_lt}
 use Rattle.std.specs.Ordering.{int_eq}
 use Rattle.std.specs.Int.{int_div_euclid, int_rem_euclid}
-use Rattle.exo_tree.specs.Tree.{Kind, Binder, Control, Lit, Var, Field, StrideOf, Neg, Add, Sub, Mul, Div, Mod, Condition, True, False, Flag, FieldFlag, Lt, Le, Gt, Ge, Eq, And, Or, Argument, ControlArg, ConditionArg, Whole, Window, Param, ParamKind, ControlParam, TensorParam, WindowParam}
-use Rattle.exo_meaning.specs.Scene.{Scene, number, numbers, holds, is_set, stride_at}
+use Rattle.exo_tree.specs.Tree.{Kind, Control, Lit, Var, Field, StrideOf, Neg, Add, Sub, Mul, Div, Mod, Condition, True, False, Flag, FieldFlag, Lt, Le, Gt, Ge, Eq, And, Or, Argument, ControlArg, ConditionArg, Whole, Window, Param, ParamKind, ControlParam, TensorParam, WindowParam}
+use Rattle.exo_meaning.specs.Scene.{Scene, number, holds, is_set, stride_at}
 use Rattle.exo_meaning.specs.Calls.{truth}
-use Rattle.exo_meaning.specs.Units.{Sort, ControlName, BufferName, Scope, sort_in, with_name, param_sort, is_truth, is_number, is_flag, has_dimension, Reads, is_control, are_controls, is_condition}
+use Rattle.exo_meaning.specs.Units.{Sort, Scope, sort_in, with_name, param_sort, is_truth, is_number, is_flag, has_dimension, Reads, is_control, is_condition}
 use Rattle.bounds_check.specs.Arguments.{passed_for, number_for, truth_for, stride_for, control_under, condition_under}
 use Rattle.claim_laws.proofs.Basics.{and_parts, no_test, by_test, not_true}
 
@@ -90,7 +90,7 @@ module _ (fields : ℕ → Option Kind) (may : Reads) (params : List Param) (arg
   by_name : (Of : Option Sort → ℕ → Option Argument → Type 0) (scope : Scope) (p : Param) (a : Argument) → passed_for params args p.binder.id ≡ Some a → Of (Some (param_sort p.kind)) p.binder.id (Some a) → (x : ℕ) → Of (sort_in scope x) x (passed_for params args x) → Of (sort_in (with_name scope p.binder (param_sort p.kind)) x) x (passed_for params args x)
   by_name Of scope p a passed new x old = by_test (x == p.binder.id)
       (λ e. subst (λ t. Of (cond t (Some (param_sort p.kind)) (sort_in scope x)) x (passed_for params args x)) (sym e)
-        (subst (λ y. Of (Some (param_sort p.kind)) y (passed_for params args y)) (sym (eqb-true x p.binder.id e)) (subst (Of (Some (param_sort p.kind)) p.binder.id) (sym passed) new)))
+      (subst (λ y. Of (Some (param_sort p.kind)) y (passed_for params args y)) (sym (eqb-true x p.binder.id e)) (subst (Of (Some (param_sort p.kind)) p.binder.id) (sym passed) new)))
       (λ e. subst (λ t. Of (cond t (Some (param_sort p.kind)) (sort_in scope x)) x (passed_for params args x)) (sym e) old)
 
   pub covers_more : (scope : Scope) (p : Param) (a : Argument) → Covers scope → passed_for params args p.binder.id ≡ Some a → Told p.kind a p.binder.id → Covers (with_name scope p.binder (param_sort p.kind))

@@ -1,9 +1,9 @@
 -- From a block of a procedure to the places in it.
-use Rattle.std.proofs.Common.{◌≡◌, ℕ, zero, suc, ℤ, ◌+◌, ◌==◌, Bool, true, false, List, [], ◌∷◌, ◌++◌, Option, Some, None, option_map, arith, refl, sym, ap, ◌∙◌, subst}
-use Rattle.exo_tree.specs.Tree.{Binder, Index, Control, Condition, Statement, If, For, Block, end, next, Procedure, Program}
-use Rattle.exo_tree.specs.Context.{Context, Here, After, InLoop, InThen, InElse, fill}
+use Rattle.std.proofs.Common.{◌≡◌, ℕ, suc, ℤ, ◌+◌, true, false, List, [], ◌∷◌, ◌++◌, Some, option_map, arith, refl, sym, ap, ◌∙◌, subst}
+use Rattle.exo_tree.specs.Tree.{Binder, Index, Control, Condition, Statement, If, For, Block, end, next, Procedure}
+use Rattle.exo_tree.specs.Context.{Here, After, InLoop, InThen, InElse, fill}
 use Rattle.exo_tree.specs.Places.{Branch, Main, Else, Path, Opened, opened_in, opened}
-use Rattle.exo_meaning.specs.Scene.{Scene, holds}
+use Rattle.exo_meaning.specs.Scene.{holds}
 use Rattle.exo_meaning.specs.State.{State, on_scene, with_control}
 use Rattle.exo_meaning.specs.Run.{World, run, step, turn, turns_of}
 use Rattle.exo_meaning.specs.Inputs.{IsAdmissible}
@@ -12,7 +12,7 @@ use Rattle.exo_meaning.specs.Units.{ControlName, Scope, with_name, scope_of, sco
 use Rattle.exo_context.specs.Context.{ComesToTurn, ComesTo}
 use Rattle.exo_context.specs.Places.{OpenedLaw}
 use Rattle.exo_context.specs.Sorted.{scope_at}
-use Rattle.bounds_check.specs.Claim.{Claim, Placed}
+use Rattle.bounds_check.specs.Claim.{Claim}
 use Rattle.bounds_check.specs.Claims.{into, placed_at}
 use Rattle.claim_laws.specs.Holding.{HoldsAtPlace, ClaimHolds}
 use Rattle.claim_laws.proofs.Basics.{append_assoc, each_of}
@@ -100,5 +100,7 @@ module _ (world : World) (p : Procedure) where
     place = o;
     is_there = subst (λ i. opened 1 (at_step Main i rest) p.body ≡ Some o) (from_zero k m e) is;
     scope_is = refl;
-    start = s; good = h; comes = come;
+    start = s;
+    good = h;
+    comes = come;
   }
