@@ -1,5 +1,5 @@
 //! The laws of claims, each the contract of a function with nothing to do.
-ghost use Rattle.claim_laws.specs.Laws.{ProceduresMayRun, ClaimsSuffice};
+ghost use Rattle.claim_laws.specs.Laws.{ProceduresMayRun, ClaimsSufficeHere, ClaimsSuffice};
 
 use exo_context::laws::{
     first_states_are_admissible, grown_units_do_the_same, opened_blocks_are_there,
@@ -10,6 +10,18 @@ use exo_context::laws::{
 pub fn procedures_may_run()
     ensures { ProceduresMayRun }
 {}
+
+/// No admissible input makes a procedure fault whose claims hold and which calls procedures that never fault.
+pub fn claims_suffice_here()
+    ensures { ClaimsSufficeHere }
+{
+    opened_blocks_are_there();
+    places_are_sound();
+    places_fit();
+    first_states_are_admissible();
+    grown_units_do_the_same();
+    well_formed_calls_are_below();
+}
 
 /// In a well-formed unit no admissible input makes a procedure fault whose claims hold, with those of all that it calls: each claim
 /// in every state in which a run comes to its place.
