@@ -20,13 +20,13 @@ use Rattle.claim_laws.proofs.Kept.{span_rank}
 
 -- ---- strides of windows
 
-less_than : (j n : ℕ) → nat_lt (suc j) (suc n) ≡ true → nat_lt j n ≡ true
+pub less_than : (j n : ℕ) → nat_lt (suc j) (suc n) ≡ true → nat_lt j n ≡ true
 less_than j n h = grind arith
 
-not_below_zero : (k : ℕ) → nat_lt k 0 ≡ true → ⊥
+pub not_below_zero : (k : ℕ) → nat_lt k 0 ≡ true → ⊥
 not_below_zero k h = grind arith
 
-span_later : (j : ℕ) (a b : Control) (cs : List Coord) → span_place (suc j) (Span a b ∷ cs) ≡ suc (span_place j cs)
+pub span_later : (j : ℕ) (a b : Control) (cs : List Coord) → span_place (suc j) (Span a b ∷ cs) ≡ suc (span_place j cs)
 span_later j a b cs = ap (λ t. cond t 0 (suc (span_place (suc j - 1) cs))) (not_zero j) ∙ ap (λ m. suc (span_place m cs)) (one_less j)
   where
     not_zero : (j : ℕ) → (suc j == 0) ≡ false
@@ -92,7 +92,7 @@ module _ (scene : Scene) where
           ∙ stride_narrowed of.sides cs part.sides shape.strides k e h
           ∙ sym (ap (λ (o : Option Shape). nth (elim o [ None ↦ [] | Some shape ↦ strides_of part.sides shape.strides ]) k) (ap scene.buffers same ∙ b))
 
-short : (n : ℕ) → is_rank n ≡ true → n ≤ 8
+pub short : (n : ℕ) → is_rank n ≡ true → n ≤ 8
 short n h = grind arith
 
 -- ---- arguments

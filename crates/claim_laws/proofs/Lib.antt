@@ -9,5 +9,6 @@ mod Under
 mod Given
 mod Entered
 mod Calling
+mod Shapes
 mod Standing
 mod Induction

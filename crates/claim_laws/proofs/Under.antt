@@ -10,6 +10,14 @@ use Rattle.exo_meaning.specs.Units.{Sort, Scope, sort_in, with_name, param_sort,
 use Rattle.bounds_check.specs.Arguments.{passed_for, number_for, truth_for, stride_for, control_under, condition_under}
 use Rattle.claim_laws.proofs.Basics.{and_parts, no_test, by_test, not_true}
 
+module _ (params : List Param) (args : List Argument) where
+  -- by the parameter that a name is
+  pub by_name : (Of : Option Sort → ℕ → Option Argument → Type 0) (scope : Scope) (p : Param) (a : Argument) → passed_for params args p.binder.id ≡ Some a → Of (Some (param_sort p.kind)) p.binder.id (Some a) → (x : ℕ) → Of (sort_in scope x) x (passed_for params args x) → Of (sort_in (with_name scope p.binder (param_sort p.kind)) x) x (passed_for params args x)
+  by_name Of scope p a passed new x old = by_test (x == p.binder.id)
+      (λ e. subst (λ t. Of (cond t (Some (param_sort p.kind)) (sort_in scope x)) x (passed_for params args x)) (sym e)
+      (subst (λ y. Of (Some (param_sort p.kind)) y (passed_for params args y)) (sym (eqb-true x p.binder.id e)) (subst (Of (Some (param_sort p.kind)) p.binder.id) (sym passed) new)))
+      (λ e. subst (λ t. Of (cond t (Some (param_sort p.kind)) (sort_in scope x)) x (passed_for params args x)) (sym e) old)
+
 module _ (fields : ℕ → Option Kind) (may : Reads) (params : List Param) (args : List Argument) (outer inner : Scene) where
   -- what stands for the names in scope has the values that they have inside
   pub record Covers (scope : Scope) : Type 0 where
@@ -86,18 +94,11 @@ module _ (fields : ℕ → Option Kind) (may : Reads) (params : List Param) (arg
   told_stride (TensorParam cell dims memory) a x k m t h = t m k h
   told_stride (WindowParam cell dims memory) a x k m t h = t m k h
 
-  -- by the parameter that a name is
-  by_name : (Of : Option Sort → ℕ → Option Argument → Type 0) (scope : Scope) (p : Param) (a : Argument) → passed_for params args p.binder.id ≡ Some a → Of (Some (param_sort p.kind)) p.binder.id (Some a) → (x : ℕ) → Of (sort_in scope x) x (passed_for params args x) → Of (sort_in (with_name scope p.binder (param_sort p.kind)) x) x (passed_for params args x)
-  by_name Of scope p a passed new x old = by_test (x == p.binder.id)
-      (λ e. subst (λ t. Of (cond t (Some (param_sort p.kind)) (sort_in scope x)) x (passed_for params args x)) (sym e)
-      (subst (λ y. Of (Some (param_sort p.kind)) y (passed_for params args y)) (sym (eqb-true x p.binder.id e)) (subst (Of (Some (param_sort p.kind)) p.binder.id) (sym passed) new)))
-      (λ e. subst (λ t. Of (cond t (Some (param_sort p.kind)) (sort_in scope x)) x (passed_for params args x)) (sym e) old)
-
   pub covers_more : (scope : Scope) (p : Param) (a : Argument) → Covers scope → passed_for params args p.binder.id ≡ Some a → Told p.kind a p.binder.id → Covers (with_name scope p.binder (param_sort p.kind))
   covers_more scope p a c passed told = record {
-    controls = λ x. by_name (λ o y z. is_number o ≡ true → number outer (number_for y z) ≡ inner.control y) scope p a passed (told_number p.kind a p.binder.id told) x (c.controls x);
-    flags = λ x. by_name (λ o y z. is_flag o ≡ true → holds outer (truth_for y z) ≡ is_set (inner.control y)) scope p a passed (told_flag p.kind a p.binder.id told) x (c.flags x);
-    strides = λ m x k. by_name (λ o y z. has_dimension k o ≡ true → number outer (stride_for y k z) ≡ stride_at inner (inner.views y) k) scope p a passed (told_stride p.kind a p.binder.id k m told) x (c.strides m x k);
+    controls = λ x. by_name params args (λ o y z. is_number o ≡ true → number outer (number_for y z) ≡ inner.control y) scope p a passed (told_number p.kind a p.binder.id told) x (c.controls x);
+    flags = λ x. by_name params args (λ o y z. is_flag o ≡ true → holds outer (truth_for y z) ≡ is_set (inner.control y)) scope p a passed (told_flag p.kind a p.binder.id told) x (c.flags x);
+    strides = λ m x k. by_name params args (λ o y z. has_dimension k o ≡ true → number outer (stride_for y k z) ≡ stride_at inner (inner.views y) k) scope p a passed (told_stride p.kind a p.binder.id k m told) x (c.strides m x k);
     fields_are = c.fields_are;
   }
 
