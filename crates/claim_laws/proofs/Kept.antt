@@ -155,7 +155,7 @@ span_rank [] = refl
 span_rank (At a ∷ cs) = span_rank cs
 span_rank (Span a b ∷ cs) = ap suc (span_rank cs)
 
-fewer_spans : (cs : List Coord) → is_rank (length cs) ≡ true → is_rank (spans cs) ≡ true
+pub fewer_spans : (cs : List Coord) → is_rank (length cs) ≡ true → is_rank (spans cs) ≡ true
 fewer_spans cs h = smaller (spans cs) (length cs) (fewer cs) h
   where
     fewer : (cs : List Coord) → spans cs ≤ length cs

@@ -11,4 +11,5 @@ mod Entered
 mod Calling
 mod Shapes
 mod Standing
+mod Formed
 mod Induction

@@ -1,5 +1,5 @@
 -- Where claims hold, and which procedures a run comes to.
-use Rattle.std.specs.Prelude.{◌≡◌, ◌==◌, ℕ, Bool, true, false, ◌||◌, Option, Some, None, slice_get}
+use Rattle.std.specs.Prelude.{◌≡◌, ◌==◌, ℕ, Bool, true, false, ◌||◌, [], Option, Some, None, slice_get}
 use Rattle.exo_tree.specs.Tree.{Condition, Statement, Assign, Reduce, Config, Pass, If, For, Alloc, View, Call, Block, end, next, Procedure, Program}
 use Rattle.exo_tree.specs.Places.{Opened, opened}
 use Rattle.exo_meaning.specs.Scene.{holds}
@@ -7,7 +7,9 @@ use Rattle.exo_meaning.specs.State.{State}
 use Rattle.exo_meaning.specs.Run.{World, program_world}
 use Rattle.exo_meaning.specs.Inputs.{IsAdmissible}
 use Rattle.exo_meaning.specs.Orders.{Each}
+use Rattle.exo_meaning.specs.Units.{Scope, scope_of, with_both, is_condition, field_kind}
 use Rattle.exo_context.specs.Copies.{HoldsAt}
+use Rattle.exo_context.specs.Sorted.{scope_at}
 use Rattle.bounds_check.specs.Claim.{Placed}
 use Rattle.bounds_check.specs.Claims.{claims_of}
 
@@ -24,6 +26,15 @@ ClaimHolds world p c = HoldsAtPlace world p (opened 1 c.place p.body) c.claim.sa
 -- all claims of the procedure of that number
 abbrev pub ClaimsHold : Program → ℕ → Type 0
 ClaimsHold u k = (p : Procedure) → slice_get u.procedures k ≡ Some p → Each (ClaimHolds (program_world u) p) (claims_of u p)
+
+-- the names in scope at a place
+abbrev pub names_at : Procedure → Option Opened → Scope
+names_at p None = scope_of [] p.params
+names_at p (Some o) = scope_at o.around (scope_of [] p.params)
+
+-- what has to be shown is a condition over the names in scope at its place
+abbrev pub ClaimIsFormed : Program → Procedure → Placed → Type 0
+ClaimIsFormed u p c = is_condition (field_kind u.fields) with_both (names_at p (opened 1 c.place p.body)) c.claim.says ≡ true
 
 -- whether a block calls the procedure of that number
 abbrev mutual

@@ -8,11 +8,15 @@ use Rattle.exo_meaning.specs.Orders.{Each}
 use Rattle.exo_meaning.specs.Units.{IsUnit}
 use Rattle.exo_context.specs.Sorted.{MayRun}
 use Rattle.bounds_check.specs.Claims.{claims_of}
-use Rattle.claim_laws.specs.Holding.{ClaimHolds, ClaimsHold, calls, LeadsTo}
+use Rattle.claim_laws.specs.Holding.{ClaimHolds, ClaimsHold, ClaimIsFormed, calls, LeadsTo}
 
 -- a procedure of a well-formed unit may call all of it
 abbrev pub ProceduresMayRun : Type 0
 ProceduresMayRun = (u : Program) (k : ℕ) (p : Procedure) → IsUnit u → slice_get u.procedures k ≡ Some p → MayRun u.fields (length u.memories) u.procedures p
+
+-- its claims are conditions over the names in scope at their places
+abbrev pub ClaimsAreFormed : Type 0
+ClaimsAreFormed = (u : Program) (p : Procedure) → MayRun u.fields (length u.memories) u.procedures p → Each (ClaimIsFormed u p) (claims_of u p)
 
 -- no admissible input makes the procedure of that number fault
 abbrev pub NeverFaults : Program → ℕ → Type 0
