@@ -27,7 +27,7 @@ use Rattle.claim_laws.proofs.Standing.{Standing, standing, entry, table_entry}
 
 -- ---- lists
 
-each_append : {A : Type 0} (P : A → Type 0) (xs ys : List A) → Each P xs → Each P ys → Each P (xs ++ ys)
+pub each_append : {A : Type 0} (P : A → Type 0) (xs ys : List A) → Each P xs → Each P ys → Each P (xs ++ ys)
 each_append P [] ys h k = k
 each_append P (x ∷ xs) ys h k = (h.0, each_append P xs ys h.1 k)
 
@@ -67,17 +67,17 @@ module _ (w : Words) (fields : ℕ → Option Kind) (table : Extents) (scope : S
   window_formed (At a ∷ cs) (d ∷ ds) h k =
       let p = and_parts (is_control fields plainly scope a) (list_all (is_coord fields scope) cs) h in
       let q = and_parts (Is d) (Are ds) k in
-      let i = control_freer fields scope a p.0 in
+      let i = control_freer fields plainly scope a p.0 in
       (i, (and_true (Is a) (Is d) i q.0, window_formed cs ds p.1 q.1))
   window_formed (Span a b ∷ cs) (d ∷ ds) h k =
       let p = and_parts (is_control fields plainly scope a && is_control fields plainly scope b) (list_all (is_coord fields scope) cs) h in
       let r = and_parts (is_control fields plainly scope a) (is_control fields plainly scope b) p.0 in
       let q = and_parts (Is d) (Are ds) k in
-      let i = control_freer fields scope a r.0 in
-      let j = control_freer fields scope b r.1 in
+      let i = control_freer fields plainly scope a r.0 in
+      let j = control_freer fields plainly scope b r.1 in
       (i, (and_true (Is a) (Is b) i j, (and_true (Is b) (Is d) j q.0, window_formed cs ds p.1 q.1)))
 
-  given_formed : (may : Reads) (kind : Kind) (a : Argument) → is_of_kind fields may scope kind a ≡ true → ((e : Control) → is_control fields may scope e ≡ true → Is e ≡ true) → AreFormed (given_claims w kind a)
+  pub given_formed : (may : Reads) (kind : Kind) (a : Argument) → is_of_kind fields may scope kind a ≡ true → ((e : Control) → is_control fields may scope e ≡ true → Is e ≡ true) → AreFormed (given_claims w kind a)
   given_formed may Size (ControlArg e) h k = (k e h, tt)
   given_formed may Index a h k = tt
   given_formed may Truth a h k = tt
@@ -113,10 +113,10 @@ module _ (w : Words) (fields : ℕ → Option Kind) (table : Extents) (scope : S
         let rc = read_claims w table c in
         append (ra ++ rb ++ rc) (read_claims w table d) (append (ra ++ rb) rc (append ra rb (reads_formed a q.0) (reads_formed b q.1)) (reads_formed c r.0)) (reads_formed d r.1)
 
-    store_formed : (x : ℕ) (is : List Control) (e : Datum) → (is_access fields scope x is && is_datum fields scope e) ≡ true → AreFormed (store_claims w table x is e)
+    pub store_formed : (x : ℕ) (is : List Control) (e : Datum) → (is_access fields scope x is && is_datum fields scope e) ≡ true → AreFormed (store_claims w table x is e)
     store_formed x is e h = let p = and_parts (is_access fields scope x is) (is_datum fields scope e) h in append (index_claims w is (table x)) (read_claims w table e) (access_formed x is p.0) (reads_formed e p.1)
 
-    seen_formed : (x : ℕ) (cs : List Coord) → is_window fields scope x cs ≡ true → AreFormed (window_claims w cs (table x))
+    pub seen_formed : (x : ℕ) (cs : List Coord) → is_window fields scope x cs ≡ true → AreFormed (window_claims w cs (table x))
     seen_formed x cs h = let p = and_parts (has_rank (length cs) (sort_in scope x)) (list_all (is_coord fields scope) cs) h in window_formed cs (table x) p.1 (tabled x (length cs) p.0).0
 
     -- ---- arguments
@@ -188,8 +188,8 @@ module _ (w : Words) (fields : ℕ → Option Kind) (table : Extents) (scope : S
           let r = and_parts (is_param_kind fields memories names p.kind) (are_params fields memories (with_name names p.binder (param_sort p.kind)) ps) q.1 in
           let k = and_parts (is_for fields scope p.kind a) (are_for fields scope ps rest) f in
           append (passed_extents w table params args p a) (flat_zip (passed_extents w table params args) ps rest)
-            (equal_formed (argument_extents w table a) (map (control_under params args) (dims_of p.kind)) (argument_formed p.kind a k.0).1 (dims_formed names g p.kind r.0))
-            (passed_formed ps rest (with_name names p.binder (param_sort p.kind)) (gives_more fields plainly params args scope ranks names p a g passed.0 k.0) r.1 passed.1 k.1)
+          (equal_formed (argument_extents w table a) (map (control_under params args) (dims_of p.kind)) (argument_formed p.kind a k.0).1 (dims_formed names g p.kind r.0))
+          (passed_formed ps rest (with_name names p.binder (param_sort p.kind)) (gives_more fields plainly params args scope ranks names p a g passed.0 k.0) r.1 passed.1 k.1)
 
       asserts_formed : (v : Words) (names : Scope) → Gives fields with_both params args scope ranks names → (cs : List Condition) → list_all (is_condition fields with_both names) cs ≡ true → AreFormed (map (asserted v params args) cs)
       asserts_formed v names g [] h = tt
@@ -210,8 +210,8 @@ module _ (w : Words) (fields : ℕ → Option Kind) (table : Extents) (scope : S
               let extents = flat_zip (passed_extents w table params args) params args in
               let gives = all_give fields with_both params args scope ranks params args [] (gives_nothing fields with_both params args scope ranks) passed f in
               append (windows ++ sizes ++ extents) (map (asserted (words_of u q) params args) q.asserts)
-                (append (windows ++ sizes) extents (append windows sizes (windows_formed params args f) (all_sizes_formed params args f)) (passed_formed params args [] (gives_nothing fields plainly params args scope ranks) h passed f))
-                (asserts_formed (words_of u q) (scope_of [] params) gives q.asserts asserts)
+              (append (windows ++ sizes) extents (append windows sizes (windows_formed params args f) (all_sizes_formed params args f)) (passed_formed params args [] (gives_nothing fields plainly params args scope ranks) h passed f))
+              (asserts_formed (words_of u q) (scope_of [] params) gives q.asserts asserts)
 
           go : AreFormed (call_claims w u table (Some q) args)
           go = subst (λ ps. AreFormed (flat_map (argument_window w table) args ++ flat_zip (argument_size w) ps args ++ flat_zip (passed_extents w table ps args) ps args ++ map (asserted (words_of u q) ps args) q.asserts)) (sym same) inside

@@ -12,4 +12,5 @@ mod Calling
 mod Shapes
 mod Standing
 mod Formed
+mod FormedWalk
 mod Induction

@@ -17,25 +17,25 @@ use Rattle.claim_laws.proofs.Entered.{Passed}
 -- ---- more names, more reads
 
 module _ (fields : ℕ → Option Kind) where
-  -- what may read nothing but names may stand where more may be read
-  pub control_freer : (scope : Scope) (e : Control) → is_control fields plainly scope e ≡ true → is_control fields with_both scope e ≡ true
-  control_freer scope (Lit n) h = h
-  control_freer scope (Var x) h = h
-  control_freer scope (Field f) h = no_test h
-  control_freer scope (StrideOf x k) h = no_test h
-  control_freer scope (Neg a) h = control_freer scope a h
-  control_freer scope (Add a b) h = let p = and_parts (is_control fields plainly scope a) (is_control fields plainly scope b) h in and_true (is_control fields with_both scope a) (is_control fields with_both scope b) (control_freer scope a p.0) (control_freer scope b p.1)
-  control_freer scope (Sub a b) h = let p = and_parts (is_control fields plainly scope a) (is_control fields plainly scope b) h in and_true (is_control fields with_both scope a) (is_control fields with_both scope b) (control_freer scope a p.0) (control_freer scope b p.1)
-  control_freer scope (Mul a b) h =
-      let q = and_parts (is_control fields plainly scope a && is_control fields plainly scope b) (is_of_literals a || is_of_literals b) h in
-      let p = and_parts (is_control fields plainly scope a) (is_control fields plainly scope b) q.0 in
-      and_true (is_control fields with_both scope a && is_control fields with_both scope b) (is_of_literals a || is_of_literals b) (and_true (is_control fields with_both scope a) (is_control fields with_both scope b) (control_freer scope a p.0) (control_freer scope b p.1)) q.1
-  control_freer scope (Div a c) h = let p = and_parts (is_control fields plainly scope a) _ h in and_true (is_control fields with_both scope a) _ (control_freer scope a p.0) p.1
-  control_freer scope (Mod a c) h = let p = and_parts (is_control fields plainly scope a) _ h in and_true (is_control fields with_both scope a) _ (control_freer scope a p.0) p.1
+  -- what may read less may stand where more may be read
+  pub control_freer : (may : Reads) (scope : Scope) (e : Control) → is_control fields may scope e ≡ true → is_control fields with_both scope e ≡ true
+  control_freer may scope (Lit n) h = h
+  control_freer may scope (Var x) h = h
+  control_freer may scope (Field f) h = (and_parts may.fields (is_number_field fields (fields f)) h).1
+  control_freer may scope (StrideOf x k) h = (and_parts may.strides (has_dimension k (sort_in scope x)) h).1
+  control_freer may scope (Neg a) h = control_freer may scope a h
+  control_freer may scope (Add a b) h = let p = and_parts (is_control fields may scope a) (is_control fields may scope b) h in and_true (is_control fields with_both scope a) (is_control fields with_both scope b) (control_freer may scope a p.0) (control_freer may scope b p.1)
+  control_freer may scope (Sub a b) h = let p = and_parts (is_control fields may scope a) (is_control fields may scope b) h in and_true (is_control fields with_both scope a) (is_control fields with_both scope b) (control_freer may scope a p.0) (control_freer may scope b p.1)
+  control_freer may scope (Mul a b) h =
+      let q = and_parts (is_control fields may scope a && is_control fields may scope b) (is_of_literals a || is_of_literals b) h in
+      let p = and_parts (is_control fields may scope a) (is_control fields may scope b) q.0 in
+      and_true (is_control fields with_both scope a && is_control fields with_both scope b) (is_of_literals a || is_of_literals b) (and_true (is_control fields with_both scope a) (is_control fields with_both scope b) (control_freer may scope a p.0) (control_freer may scope b p.1)) q.1
+  control_freer may scope (Div a c) h = let p = and_parts (is_control fields may scope a) _ h in and_true (is_control fields with_both scope a) _ (control_freer may scope a p.0) p.1
+  control_freer may scope (Mod a c) h = let p = and_parts (is_control fields may scope a) _ h in and_true (is_control fields with_both scope a) _ (control_freer may scope a p.0) p.1
 
   pub controls_freer : (scope : Scope) (es : List Control) → are_controls fields plainly scope es ≡ true → are_controls fields with_both scope es ≡ true
   controls_freer scope [] h = refl
-  controls_freer scope (e ∷ es) h = let p = and_parts (is_control fields plainly scope e) (are_controls fields plainly scope es) h in and_true (is_control fields with_both scope e) (are_controls fields with_both scope es) (control_freer scope e p.0) (controls_freer scope es p.1)
+  controls_freer scope (e ∷ es) h = let p = and_parts (is_control fields plainly scope e) (are_controls fields plainly scope es) h in and_true (is_control fields with_both scope e) (are_controls fields with_both scope es) (control_freer plainly scope e p.0) (controls_freer scope es p.1)
 
   pub spans_formed : (scope : Scope) (cs : List Coord) → list_all (is_coord fields scope) cs ≡ true → are_controls fields with_both scope (span_extents cs) ≡ true
   spans_formed scope [] h = refl
@@ -43,7 +43,7 @@ module _ (fields : ℕ → Option Kind) where
   spans_formed scope (Span a b ∷ cs) h =
       let p = and_parts (is_control fields plainly scope a && is_control fields plainly scope b) (list_all (is_coord fields scope) cs) h in
       let q = and_parts (is_control fields plainly scope a) (is_control fields plainly scope b) p.0 in
-      and_true (is_control fields with_both scope b && is_control fields with_both scope a) (are_controls fields with_both scope (span_extents cs)) (and_true (is_control fields with_both scope b) (is_control fields with_both scope a) (control_freer scope b q.1) (control_freer scope a q.0)) (spans_formed scope cs p.1)
+      and_true (is_control fields with_both scope b && is_control fields with_both scope a) (are_controls fields with_both scope (span_extents cs)) (and_true (is_control fields with_both scope b) (is_control fields with_both scope a) (control_freer plainly scope b q.1) (control_freer plainly scope a q.0)) (spans_formed scope cs p.1)
 
   -- one name more
   module _ (scope : Scope) (x : Binder) (sort : Sort) (new : is_new scope x ≡ true) where
@@ -140,7 +140,7 @@ module _ (fields : ℕ → Option Kind) (may : Reads) (params : List Param) (arg
         let q = and_parts (is_control fields may names a && is_control fields may names b) (is_of_literals a || is_of_literals b) h in
         let p = and_parts (is_control fields may names a) (is_control fields may names b) q.0 in
         and_true (Formed a && Formed b) (is_of_literals (under a) || is_of_literals (under b)) (and_true (Formed a) (Formed b) (control_formed a p.0) (control_formed b p.1))
-          (either_kept (is_of_literals a) (is_of_literals b) (is_of_literals (under a)) (is_of_literals (under b)) (literals_under a) (literals_under b) q.1)
+        (either_kept (is_of_literals a) (is_of_literals b) (is_of_literals (under a)) (is_of_literals (under b)) (literals_under a) (literals_under b) q.1)
     control_formed (Div a c) h = let p = and_parts (is_control fields may names a) _ h in and_true (Formed a) _ (control_formed a p.0) p.1
     control_formed (Mod a c) h = let p = and_parts (is_control fields may names a) _ h in and_true (Formed a) _ (control_formed a p.0) p.1
 

@@ -19,8 +19,21 @@ use Rattle.claim_laws.proofs.Basics.{append_assoc, each_of}
 use Rattle.claim_laws.proofs.Seen.{IsHeld, Hold}
 use Rattle.claim_laws.proofs.Kept.{SameNames}
 
-abbrev at_step : Branch → ℕ → Path → Path
+abbrev pub at_step : Branch → ℕ → Path → Path
 at_step branch n rest = record { branch = branch; index = n } ∷ rest
+
+pub same_zero : (n : ℕ) → n + 0 ≡ n
+same_zero n = omega arith
+
+pub shifted : (n k m : ℕ) → suc n + k ≡ m → n + suc k ≡ m
+shifted n k m e = omega arith
+
+pub from_zero : (k m : ℕ) → 0 + k ≡ m → k ≡ m
+from_zero k m e = omega arith
+
+pub opened_next : (branch : Branch) (k : ℕ) (rest : Path) (a : Statement) (b : Block) (o : Opened) → opened_in 1 (at_step branch k rest) b ≡ Some o → opened_in 1 (at_step branch (suc k) rest) (next a b) ≡ Some (record { around = After a o.around; piece = o.piece })
+opened_next branch k [] a b o e = ap (option_map (λ (o : Opened). record { around = After a o.around; piece = o.piece })) e
+opened_next branch k (s ∷ rest) a b o e = ap (option_map (λ (o : Opened). record { around = After a o.around; piece = o.piece })) e
 
 module _ (world : World) (p : Procedure) where
   -- a run on an admissible input comes to the place in this state, with these names in scope
@@ -39,25 +52,12 @@ module _ (world : World) (p : Procedure) where
   abbrev pub Leads : Path → Branch → ℕ → Block → Scope → (State → Type 0) → Type 0
   Leads outer branch n b scope At = (k m : ℕ) → n + k ≡ m → (rest : Path) (o : Opened) → opened_in 1 (record { branch = branch; index = k } ∷ rest) b ≡ Some o → (s t : State) → At s → ComesTo world o.piece o.around s t → Reaches (outer ++ record { branch = branch; index = m } ∷ rest) (scope_at o.around scope) t
 
-  same_zero : (n : ℕ) → n + 0 ≡ n
-  same_zero n = omega arith
-
-  shifted : (n k m : ℕ) → suc n + k ≡ m → n + suc k ≡ m
-  shifted n k m e = omega arith
-
-  from_zero : (k m : ℕ) → 0 + k ≡ m → k ≡ m
-  from_zero k m e = omega arith
-
   pub leads_here : (outer : Path) (branch : Branch) (n : ℕ) (a : Statement) (b : Block) (scope : Scope) (At : State → Type 0) → Leads outer branch n (next a b) scope At → (s : State) → At s → Reaches (into outer branch n) scope s
   leads_here outer branch n a b scope At l s h = l 0 n (same_zero n) [] (record { around = Here b; piece = next a end }) refl s s h refl
 
   -- after a statement
   abbrev pub Later : Statement → (State → Type 0) → State → Type 0
   Later a At t = (s : State) × At s × (step world a s ≡ Some t)
-
-  opened_next : (branch : Branch) (k : ℕ) (rest : Path) (a : Statement) (b : Block) (o : Opened) → opened_in 1 (at_step branch k rest) b ≡ Some o → opened_in 1 (at_step branch (suc k) rest) (next a b) ≡ Some (record { around = After a o.around; piece = o.piece })
-  opened_next branch k [] a b o e = ap (option_map (λ (o : Opened). record { around = After a o.around; piece = o.piece })) e
-  opened_next branch k (s ∷ rest) a b o e = ap (option_map (λ (o : Opened). record { around = After a o.around; piece = o.piece })) e
 
   pub leads_next : (outer : Path) (branch : Branch) (n : ℕ) (a : Statement) (b : Block) (scope : Scope) (At : State → Type 0) → Leads outer branch n (next a b) scope At → Leads outer branch (suc n) b (scope_after a scope) (Later a At)
   leads_next outer branch n a b scope At l k m e rest o is s t h come =

@@ -1,5 +1,5 @@
 //! The laws of claims, each the contract of a function with nothing to do.
-ghost use Rattle.claim_laws.specs.Laws.{ProceduresMayRun, ClaimsSufficeHere, ClaimsSuffice};
+ghost use Rattle.claim_laws.specs.Laws.{ProceduresMayRun, ClaimsAreFormed, ClaimsSufficeHere, ClaimsSuffice};
 
 use exo_context::laws::{
     first_states_are_admissible, grown_units_do_the_same, opened_blocks_are_there,
@@ -9,6 +9,11 @@ use exo_context::laws::{
 /// A procedure of a well-formed unit may call all of it.
 pub fn procedures_may_run()
     ensures { ProceduresMayRun }
+{}
+
+/// The claims of a well-formed procedure are conditions over the names in scope at their places.
+pub fn claims_are_formed()
+    ensures { ClaimsAreFormed }
 {}
 
 /// No admissible input makes a procedure fault whose claims hold and which calls procedures that never fault.
