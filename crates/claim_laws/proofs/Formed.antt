@@ -1,29 +1,19 @@
 -- The claims of a well-formed procedure are conditions over the names in scope at their places.
-use Rattle.std.proofs.Common.{◌≡◌, ℕ, zero, suc, ℤ, pos, ◌+◌, ◌==◌, Bool, true, false, cond, not, ◌&&◌, ◌||◌, List, [], ◌∷◌, ◌++◌, length, map, Option, Some, None, option_map, arith, refl, sym, ap, ◌∙◌, subst, eqb-true}
-use Rattle.std.specs.Prelude.{IsSome, nat_lt, flat_map, slice_get}
+use Rattle.std.proofs.Common.{◌≡◌, ℕ, ◌==◌, Bool, true, not, ◌&&◌, ◌||◌, List, [], ◌∷◌, ◌++◌, length, map, Option, Some, refl, sym, subst}
+use Rattle.std.specs.Prelude.{flat_map}
 use Rattle.std.specs.List.{list_all}
-use Rattle.exo_tree.specs.Tree.{Binder, Cell, Kind, Size, Index, Truth, Stride, Control, Lit, Condition, Le, Lt, Eq, Datum, Const, Read, Negated, Relu, Plus, Minus, Times, Select, Coord, At, Span, Argument, ControlArg, ConditionArg, Whole, Window, Statement, Assign, Reduce, Config, Pass, If, For, Alloc, View, Call, Block, end, next, Param, ParamKind, ControlParam, TensorParam, WindowParam, Procedure, Program}
-use Rattle.exo_tree.specs.Context.{Here, After, InLoop, InThen, InElse}
-use Rattle.exo_tree.specs.Places.{Branch, Main, Else, Path, Opened, opened_in, opened}
-use Rattle.exo_meaning.specs.Calls.{Callee}
-use Rattle.exo_meaning.specs.Run.{roots_after, kinds_of, callee_in, unit_world, program_world}
+use Rattle.exo_tree.specs.Tree.{Kind, Size, Index, Truth, Stride, Control, Condition, Datum, Const, Read, Negated, Relu, Plus, Minus, Times, Select, Coord, At, Span, Argument, ControlArg, ConditionArg, Whole, Window, Param, ParamKind, ControlParam, TensorParam, WindowParam, Procedure, Program}
 use Rattle.exo_meaning.specs.Orders.{Each}
-use Rattle.exo_meaning.specs.Units.{Sort, ControlName, BufferName, Scope, sort_in, with_name, scope_of, scope_after, param_sort, view_sort, is_new, is_empty, is_short, has_rank, has_cell, is_dense, is_rank, is_truth, plainly, with_fields, with_strides, with_both, Reads, is_control, are_controls, is_condition, is_access, is_datum, is_coord, is_window, is_of_kind, is_write, is_for, are_for, is_call, share_nothing_written, is_param_kind, are_params, spans, is_block, is_statement, field_kind}
-use Rattle.exo_context.specs.Sorted.{scope_at, MayRun}
+use Rattle.exo_meaning.specs.Units.{Scope, sort_in, with_name, scope_of, param_sort, is_new, has_rank, has_cell, is_dense, is_rank, plainly, with_both, Reads, is_control, are_controls, is_condition, is_access, is_datum, is_coord, is_window, is_of_kind, is_for, are_for, is_param_kind, are_params, spans}
 use Rattle.exo_show.specs.Words.{Words, words_of}
 use Rattle.bounds_check.specs.Pairs.{flat_zip}
-use Rattle.bounds_check.specs.Claim.{Claim, Placed}
-use Rattle.bounds_check.specs.Extents.{Extents, span_extents, dims_of, extents_of}
-use Rattle.bounds_check.specs.Arguments.{control_under, condition_under}
-use Rattle.bounds_check.specs.Claims.{asserted, at_least_one, one_index, index_claims, coord_claims, window_claims, read_claims, store_claims, argument_window, given_claims, argument_size, argument_extents, equal_extents, passed_extents, call_claims, write_claims, own_claims, placed_at, into, block_claims, inner_claims, param_claims, claims_of}
-use Rattle.claim_laws.specs.Holding.{names_at, ClaimIsFormed}
-use Rattle.claim_laws.specs.Laws.{ClaimsAreFormed}
-use Rattle.claim_laws.proofs.Basics.{and_parts, and_true, no_test, by_test, none_some, some_injective, append_assoc, same_number}
-use Rattle.claim_laws.proofs.Tables.{Agrees, StepAgrees, ParamsAgree, table_agrees}
-use Rattle.claim_laws.proofs.Kept.{fewer_spans}
-use Rattle.claim_laws.proofs.Entered.{Passed, Differ, params_differ, all_passed}
-use Rattle.claim_laws.proofs.Shapes.{control_freer, controls_freer, spans_formed, control_wider, controls_wider, AreRanks, Gives, controls_formed, condition_formed, gives_nothing, gives_more, all_give}
-use Rattle.claim_laws.proofs.Standing.{Standing, standing, entry, table_entry}
+use Rattle.bounds_check.specs.Claim.{Claim}
+use Rattle.bounds_check.specs.Extents.{Extents, dims_of}
+use Rattle.bounds_check.specs.Arguments.{control_under}
+use Rattle.bounds_check.specs.Claims.{asserted, at_least_one, index_claims, window_claims, read_claims, store_claims, argument_window, given_claims, argument_size, argument_extents, equal_extents, passed_extents, call_claims}
+use Rattle.claim_laws.proofs.Basics.{and_parts, and_true, no_test}
+use Rattle.claim_laws.proofs.Entered.{Passed, params_differ, all_passed}
+use Rattle.claim_laws.proofs.Shapes.{control_freer, controls_freer, spans_formed, AreRanks, Gives, controls_formed, condition_formed, gives_nothing, gives_more, all_give}
 
 -- ---- lists
 

@@ -1,28 +1,28 @@
 -- The claims of a well-formed procedure are conditions over the names in scope at their places: along its body.
-use Rattle.std.proofs.Common.{◌≡◌, ℕ, zero, suc, ◌+◌, ◌==◌, Bool, true, false, cond, not, ◌&&◌, ◌||◌, List, [], ◌∷◌, ◌++◌, length, map, Option, Some, None, option_map, refl, sym, ap, ◌∙◌, subst, eqb-true}
-use Rattle.std.specs.Prelude.{IsSome, nat_lt, flat_map, slice_get}
+use Rattle.std.proofs.Common.{◌≡◌, ℕ, suc, ◌+◌, ◌==◌, true, false, cond, not, ◌&&◌, List, [], ◌∷◌, ◌++◌, length, map, Option, Some, None, option_map, refl, sym, ap, ◌∙◌, subst, eqb-true}
+use Rattle.std.specs.Prelude.{nat_lt, slice_get}
 use Rattle.std.specs.List.{list_all}
-use Rattle.exo_tree.specs.Tree.{Binder, Cell, Kind, Index, Control, Condition, Argument, Statement, Assign, Reduce, Config, Pass, If, For, Alloc, View, Call, Block, end, next, Param, ParamKind, ControlParam, TensorParam, WindowParam, Procedure, Program}
+use Rattle.exo_tree.specs.Tree.{Binder, Kind, Index, Control, Condition, Argument, Statement, Assign, Reduce, Config, Pass, If, For, Alloc, View, Call, Block, end, next, Param, ParamKind, ControlParam, TensorParam, WindowParam, Procedure, Program}
 use Rattle.exo_tree.specs.Context.{Here, After, InLoop, InThen, InElse}
 use Rattle.exo_tree.specs.Places.{Branch, Main, Else, Path, Opened, opened_in, opened}
 use Rattle.exo_meaning.specs.Calls.{Callee}
 use Rattle.exo_meaning.specs.Run.{roots_after, kinds_of, callee_in, unit_world, program_world}
 use Rattle.exo_meaning.specs.Orders.{Each}
-use Rattle.exo_meaning.specs.Units.{Sort, ControlName, BufferName, Scope, sort_in, with_name, scope_of, scope_after, param_sort, view_sort, is_new, is_empty, is_short, has_rank, is_rank, plainly, with_fields, with_strides, with_both, is_control, are_controls, is_condition, is_coord, is_window, is_of_kind, is_write, are_for, is_call, share_nothing_written, is_param_kind, are_params, spans, is_block, is_statement, field_kind}
+use Rattle.exo_meaning.specs.Units.{Sort, ControlName, BufferName, Scope, sort_in, with_name, scope_of, scope_after, param_sort, view_sort, is_new, is_empty, is_short, has_rank, is_rank, plainly, with_fields, with_strides, with_both, is_control, are_controls, is_condition, is_coord, is_window, is_write, are_for, is_call, is_param_kind, are_params, spans, is_block, is_statement, field_kind}
 use Rattle.exo_context.specs.Sorted.{scope_at, MayRun}
 use Rattle.exo_show.specs.Words.{Words, words_of}
-use Rattle.bounds_check.specs.Claim.{Claim, Placed}
+use Rattle.bounds_check.specs.Claim.{Claim}
 use Rattle.bounds_check.specs.Extents.{Extents, span_extents, dims_of, extents_of}
-use Rattle.bounds_check.specs.Claims.{at_least_one, call_claims, write_claims, own_claims, placed_at, into, block_claims, inner_claims, param_claims, claims_of}
+use Rattle.bounds_check.specs.Claims.{at_least_one, call_claims, write_claims, own_claims, placed_at, into, block_claims, inner_claims, param_claims}
 use Rattle.claim_laws.specs.Holding.{names_at, ClaimIsFormed}
 use Rattle.claim_laws.specs.Laws.{ClaimsAreFormed}
-use Rattle.claim_laws.proofs.Basics.{and_parts, and_true, no_test, by_test, none_some, some_injective, append_assoc, same_number}
+use Rattle.claim_laws.proofs.Basics.{and_parts, no_test, by_test, some_injective, append_assoc}
 use Rattle.claim_laws.proofs.Tables.{Agrees, StepAgrees, ParamsAgree, table_agrees}
 use Rattle.claim_laws.proofs.Kept.{fewer_spans}
 use Rattle.claim_laws.proofs.Ways.{at_step, same_zero, shifted, from_zero, opened_next}
 use Rattle.claim_laws.proofs.Shapes.{control_freer, controls_freer, spans_formed, controls_wider}
 use Rattle.claim_laws.proofs.Formed.{each_append, AreFormed, IsFormedHere, sizes_formed, given_formed, IsTabled, store_formed, seen_formed, calls_formed}
-use Rattle.claim_laws.proofs.Standing.{Standing, standing, entry, table_entry}
+use Rattle.claim_laws.proofs.Standing.{standing, entry, table_entry}
 
 -- ---- the names at places
 

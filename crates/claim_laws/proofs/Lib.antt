@@ -14,3 +14,4 @@ mod Standing
 mod Formed
 mod FormedWalk
 mod Induction
+mod Examples

@@ -5,7 +5,7 @@ use Rattle.std.specs.List.{list_all}
 use Rattle.std.specs.Int.{int_div_euclid, int_rem_euclid}
 use Rattle.std.proofs.lemmas.Int.{ints}
 use Rattle.exo_tree.specs.Tree.{Cell, Kind, Control, Lit, Var, Field, StrideOf, Neg, Add, Sub, Mul, Div, Mod, Datum, Const, Read, Negated, Relu, Plus, Minus, Times, Select, Coord, At, Span}
-use Rattle.exo_meaning.specs.Value.{Value, stored_as}
+use Rattle.exo_meaning.specs.Value.{Value, stored_as, on_four, selected}
 use Rattle.exo_meaning.specs.Scene.{Shape, Side, Point, Range, Seen, Scene, then_do, number, numbers, holds, cell_at, is_below, extents, narrowed, window}
 use Rattle.exo_meaning.specs.State as state
 use Rattle.exo_meaning.specs.State.{State, Place, place, put, changed, held}
@@ -165,6 +165,11 @@ module _ (w : Words) (fields : ℕ → Option Kind) (table : Extents) (scope : S
   both_there : (a b : Datum) (f : Value → Value → Value) → There a → There b → Succeeds (then_do (state.value s a) (λ x. option_map (f x) (state.value s b))) (λ z. Unit {0})
   both_there a b f h k = succeeds_then (λ z. Unit {0}) (λ z. Unit {0}) (state.value s a) (λ x. option_map (f x) (state.value s b)) h (λ x u. succeeds_map (λ z. Unit {0}) (λ z. Unit {0}) (state.value s b) (f x) k (λ y v. tt))
 
+  all_there : (a b c d : Datum) → There a → There b → There c → There d → There (Select a b c d)
+  all_there a b c d h k m n =
+      succeeds_then (λ z. Unit {0}) (λ z. Unit {0}) (state.value s a) (λ x. then_do (state.value s b) (λ v. then_do (state.value s c) (λ y. option_map (on_four selected x v y) (state.value s d)))) h (λ x u.
+      succeeds_then (λ z. Unit {0}) (λ z. Unit {0}) (state.value s b) (λ v. then_do (state.value s c) (λ y. option_map (on_four selected x v y) (state.value s d))) k (λ v t. both_there c d (on_four selected x v) m n))
+
   value_there : (e : Datum) → is_datum fields scope e ≡ true → Hold s.scene (read_claims w table e) → There e
   value_there (Const n) h m = tt
   value_there (Read x is) h m = succeeds_map (λ p. IsSome (s.scene.buffers p.buffer)) (λ z. Unit {0}) (place s.scene x is) (held s.cells) (place_there x is h m) (λ p u. tt)
@@ -189,9 +194,7 @@ module _ (w : Words) (fields : ℕ → Option Kind) (table : Extents) (scope : S
       let rd = read_claims w table d in
       let p = each_left (IsHeld s.scene) (ra ++ rb ++ rc) rd m in
       let q = each_left (IsHeld s.scene) (ra ++ rb) rc p in
-      succeeds_then (λ z. Unit {0}) (λ z. Unit {0}) (state.value s a) _ (value_there a j.0 (each_left (IsHeld s.scene) ra rb q)) (λ x u.
-      succeeds_then (λ z. Unit {0}) (λ z. Unit {0}) (state.value s b) _ (value_there b j.1 (each_right (IsHeld s.scene) ra rb q)) (λ y v.
-      both_there c d _ (value_there c i.0 (each_right (IsHeld s.scene) (ra ++ rb) rc p)) (value_there d i.1 (each_right (IsHeld s.scene) (ra ++ rb ++ rc) rd m))))
+      all_there a b c d (value_there a j.0 (each_left (IsHeld s.scene) ra rb q)) (value_there b j.1 (each_right (IsHeld s.scene) ra rb q)) (value_there c i.0 (each_right (IsHeld s.scene) (ra ++ rb) rc p)) (value_there d i.1 (each_right (IsHeld s.scene) (ra ++ rb ++ rc) rd m))
 
   put_there : (f : Value → Value) (p : Place) → IsSome (s.scene.buffers p.buffer) → Succeeds (put s f p) (λ t. Unit {0})
   put_there f p h = go (s.scene.buffers p.buffer) h

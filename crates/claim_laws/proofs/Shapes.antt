@@ -1,14 +1,13 @@
 -- Expressions that are well formed in a scope: with more names, and under the arguments of a call.
-use Rattle.std.proofs.Common.{◌≡◌, ℕ, zero, suc, ℤ, pos, ◌-◌, ◌<◌, ◌≤◌, ◌==◌, Bool, true, false, cond, not, ◌&&◌, ◌||◌, List, [], ◌∷◌, ◌++◌, length, map, take, Option, Some, None, arith, refl, sym, ap, ap₂, ◌∙◌, subst, eqb-true}
+use Rattle.std.proofs.Common.{◌≡◌, ℕ, zero, suc, ◌==◌, Bool, true, false, cond, not, ◌&&◌, ◌||◌, List, [], ◌∷◌, length, map, Option, Some, None, arith, refl, sym, ap, ◌∙◌, subst, eqb-true}
 use Rattle.std.specs.Prelude.{IsSome, nat_lt}
 use Rattle.std.specs.List.{list_all}
 use Rattle.std.proofs.lemmas.List.{take_all}
-use Rattle.exo_tree.specs.Tree.{Binder, Cell, Kind, Control, Lit, Var, Field, StrideOf, Neg, Add, Sub, Mul, Div, Mod, Condition, True, False, Flag, FieldFlag, Lt, Le, Gt, Ge, Eq, And, Or, Coord, At, Span, Argument, ControlArg, ConditionArg, Whole, Window, Param, ParamKind, ControlParam, TensorParam, WindowParam}
-use Rattle.exo_meaning.specs.Units.{Sort, ControlName, BufferName, Scope, sort_in, with_name, scope_of, param_sort, is_new, is_truth, is_number, is_flag, has_rank, has_cell, has_dimension, is_dense, is_rank, is_literal_number, is_of_literals, Reads, plainly, with_both, is_number_field, is_flag_field, is_control, are_controls, is_condition, is_coord, is_window, is_of_kind, is_for, are_for, spans}
-use Rattle.bounds_check.specs.Extents.{Extents, span_extents}
+use Rattle.exo_tree.specs.Tree.{Binder, Kind, Control, Lit, Var, Field, StrideOf, Neg, Add, Sub, Mul, Div, Mod, Condition, True, False, Flag, FieldFlag, Lt, Le, Gt, Ge, Eq, And, Or, Coord, At, Span, Argument, ControlArg, ConditionArg, Whole, Window, Param, ParamKind, ControlParam, TensorParam, WindowParam}
+use Rattle.exo_meaning.specs.Units.{Sort, ControlName, BufferName, Scope, sort_in, with_name, scope_of, param_sort, is_new, is_truth, is_number, is_flag, has_rank, has_cell, has_dimension, is_dense, is_rank, is_of_literals, Reads, plainly, with_both, is_number_field, is_control, are_controls, is_condition, is_coord, is_window, is_for, are_for, spans}
+use Rattle.bounds_check.specs.Extents.{span_extents}
 use Rattle.bounds_check.specs.Arguments.{passed_for, number_for, truth_for, stride_for, span_place, window_stride, control_under, condition_under}
-use Rattle.claim_laws.proofs.Basics.{and_parts, and_true, no_test, by_test, not_true}
-use Rattle.claim_laws.proofs.Seen.{ranked}
+use Rattle.claim_laws.proofs.Basics.{and_parts, and_true, no_test, not_true}
 use Rattle.claim_laws.proofs.Kept.{not_new}
 use Rattle.claim_laws.proofs.Under.{by_name}
 use Rattle.claim_laws.proofs.Given.{span_later, short, less_than, not_below_zero}
