@@ -13,8 +13,8 @@ use Rattle.exo_context.specs.Sorted.{scope_at}
 use Rattle.bounds_check.specs.Claim.{Placed}
 use Rattle.bounds_check.specs.Claims.{claims_of}
 
--- a condition holds wherever a run of the procedure on an admissible input comes to the place; no statement is the place before
--- the body, to which the input itself comes
+-- a condition holds wherever a run of the procedure on an admissible input comes to the place; the place of no statement is the one
+-- before the body, where the input itself is
 abbrev pub HoldsAtPlace : World → Procedure → Option Opened → Condition → Type 0
 HoldsAtPlace world p None c = (s : State) → IsAdmissible world p s → holds s.scene c ≡ true
 HoldsAtPlace world p (Some o) c = HoldsAt world p o.piece o.around c
