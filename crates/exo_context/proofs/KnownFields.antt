@@ -1,10 +1,10 @@
 -- What is known of fields goes along with a run.
 use Rattle.std.proofs.Common.{◌≡◌, ℕ, zero, suc, ℤ, pos, ◌==◌, int_lt, int_le, Bool, true, false, true≢false, cond, not, ◌&&◌, ◌||◌, List, [], ◌∷◌, Option, Some, None, refl, sym, ap, ap₂, ◌∙◌, subst, eqb-true, eq-eqb}
-use Rattle.std.specs.Prelude.{IsSome, get_or}
+use Rattle.std.specs.Prelude.{get_or}
 use Rattle.exo_tree.specs.Tree.{Binder, I8, Control, Condition, Argument, Statement, Assign, Reduce, Config, Pass, If, For, Alloc, View, Call, Block, end, next}
 use Rattle.exo_tree.specs.Context.{Context, Here, After, InLoop, InThen, InElse, fill}
 use Rattle.exo_tree.specs.Places.{Branch, Main, Else, Path}
-use Rattle.exo_meaning.specs.Scene.{Shape, Seen, Side, Range, Scene, updated, where_true, number, holds, stride_at, strides_of, strides_seen}
+use Rattle.exo_meaning.specs.Scene.{Side, Range, updated, where_true, number, holds, strides_of}
 use Rattle.exo_meaning.specs.State.{State, left, scoped, on_scene, with_control, with_field}
 use Rattle.exo_meaning.specs.Calls.{suits}
 use Rattle.exo_meaning.specs.Run.{World, run, step, turn, turns_of, choose, argument_number}
@@ -24,15 +24,15 @@ use Rattle.exo_context.proofs.Names.{if_gives, SameControl, step_control, step_n
 use Rattle.exo_context.proofs.Sound.{left_sound, step_sound, come_to_turn_sound}
 use Rattle.exo_context.proofs.Copies.{unbound_on}
 use Rattle.exo_context.proofs.Substitute.{and_parts}
-use Rattle.exo_context.proofs.Scoped.{binders_new, not_true, or_elim}
+use Rattle.exo_context.proofs.Scoped.{not_true, or_elim}
 use Rattle.exo_context.proofs.Binders.{binder_new}
 use Rattle.exo_context.proofs.Fields.{run_leaves, step_leaves}
 use Rattle.exo_context.proofs.Facts.{Between, come_to_turn_each, turns_between, le_holds, lt_holds}
 use Rattle.exo_context.proofs.PathOrder.{is_before, path_self, path_is, other_path, before_inside, self_before_inside, self_before_next, before_step, before_after, either_left, either_right}
-use Rattle.exo_context.proofs.SameNumbers.{name_strides, stride_is, IsSameIn, number_same, holds_same, value_same}
-use Rattle.exo_context.proofs.Apart.{binds_less, IsApart, StepIsApart, binds_apart}
+use Rattle.exo_context.proofs.SameNumbers.{IsSameIn, number_same, holds_same, value_same}
+use Rattle.exo_context.proofs.Apart.{IsApart, StepIsApart, binds_apart}
 
-where_gives : {A : Type 0} (t : Bool) (o : Option A) (a : A) → where_true t o ≡ Some a → o ≡ Some a
+pub where_gives : {A : Type 0} (t : Bool) (o : Option A) (a : A) → where_true t o ≡ Some a → o ≡ Some a
 where_gives false o a e = absurd (none_some e)
 where_gives true o a e = e
 
