@@ -1,2 +1,4 @@
 pub mod Truths
 pub mod Affine
+pub mod Binders
+pub mod Rooted
