@@ -4,3 +4,5 @@ pub mod Binders
 pub mod Rooted
 pub mod Sides
 pub mod Standing
+pub mod Founded
+pub mod Model

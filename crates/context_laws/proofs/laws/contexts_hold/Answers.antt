@@ -1,4 +1,4 @@
-use Rattle.context_laws.proofs.Standing.{way_stands}
+use Rattle.context_laws.proofs.Model.{model}
 use Rattle.context_laws.proofs.laws.contexts_hold.Goals as goal
 
 pub returns : goal.returns
