@@ -6,3 +6,4 @@ pub mod Sides
 pub mod Standing
 pub mod Founded
 pub mod Model
+pub mod Told

@@ -1,4 +1,5 @@
 use Rattle.context_laws.proofs.Model.{model}
+use Rattle.context_laws.proofs.Told.{around, params_are_covered}
 use Rattle.context_laws.proofs.laws.contexts_hold.Goals as goal
 
 pub returns : goal.returns
