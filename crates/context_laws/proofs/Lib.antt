@@ -7,3 +7,4 @@ pub mod Standing
 pub mod Founded
 pub mod Model
 pub mod Told
+pub mod Agreement
