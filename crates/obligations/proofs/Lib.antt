@@ -1,0 +1,5 @@
+mod Affine
+mod Under
+mod Affines
+mod Places
+mod WellFormed

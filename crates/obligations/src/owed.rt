@@ -85,7 +85,7 @@ impl Owed {
 
     /// Puts obligations last, in their order. `TooManyObligations` where one passes a limit.
     pub(crate) fn push_all(&mut self, more: Vec<Obligation>) -> Result<(), CheckError>
-        ensures { Appended result self.old (map plain_obligation more.entry.items) self.new }
+        ensures { Appended result self.old (map plain_obligation more.items) self.new }
     {
         for o in more {
             self.push(o)?;
