@@ -3,3 +3,4 @@ mod Under
 mod Affines
 mod Places
 mod WellFormed
+mod Steps
