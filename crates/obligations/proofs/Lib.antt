@@ -4,3 +4,4 @@ mod Affines
 mod Places
 mod WellFormed
 mod Steps
+mod Counting

@@ -1,6 +1,6 @@
 //! Obligations in their order, within the limits of a procedure.
-ghost use Rattle.std.specs.Prelude.{◌≡◌, ◌++◌, ◌∷◌, [], map, length};
-ghost use Rattle.std.specs.List.{sum_by};
+ghost use Rattle.std.specs.Prelude.{◌≡◌, ◌≤◌, ◌++◌, ◌∷◌, [], true, nat_le, map, length};
+ghost use Rattle.std.specs.List.{list_all, sum_by};
 ghost use Rattle.affine_forms.specs.System.{plain_system};
 ghost use Rattle.affine_systems.specs.Outcomes.{plain_obligation};
 ghost use Rattle.obligations.specs.Limits.{system_terms};
@@ -40,6 +40,8 @@ impl Model for Owed {
 
 /// The number of terms of rows: variables with their coefficients, not constants.
 fn row_terms(rows: &[Row]) -> usize
+    requires few { length rows.now ≤ 512 }
+    requires short { list_all (λ r. nat_le (length r.terms.items) 64) rows.now ≡ true }
     ensures { result ≡ sum_by (λ r. length r.terms.items) rows.now }
 {
     let mut count = 0;
