@@ -5,3 +5,4 @@ mod Places
 mod WellFormed
 mod Steps
 mod Counting
+mod Terms

@@ -1,6 +1,6 @@
 //! Obligations in their order, within the limits of a procedure.
-ghost use Rattle.std.specs.Prelude.{◌≡◌, ◌≤◌, ◌++◌, ◌∷◌, [], true, nat_le, map, length};
-ghost use Rattle.std.specs.List.{list_all, sum_by};
+ghost use Rattle.std.specs.Prelude.{◌≡◌, ◌≤◌, ◌++◌, ◌∷◌, [], map, length};
+ghost use Rattle.std.specs.List.{sum_by};
 ghost use Rattle.affine_forms.specs.System.{plain_system};
 ghost use Rattle.affine_systems.specs.Outcomes.{plain_obligation};
 ghost use Rattle.obligations.specs.Limits.{system_terms};
@@ -38,10 +38,9 @@ impl Model for Owed {
     ghost invariant = { λ l. (l.terms ≡ terms_in (map plain_obligation l.items.items)) × (are_within (map plain_obligation l.items.items) ≡ true) };
 }
 
-/// The number of terms of rows: variables with their coefficients, not constants.
+/// The number of terms of rows: variables with their coefficients, not constants. A system has at most 512 rows of 64 terms.
 fn row_terms(rows: &[Row]) -> usize
-    requires few { length rows.now ≤ 512 }
-    requires short { list_all (λ r. nat_le (length r.terms.items) 64) rows.now ≡ true }
+    requires { sum_by (λ r. length r.terms.items) rows.now ≤ 32768 }
     ensures { result ≡ sum_by (λ r. length r.terms.items) rows.now }
 {
     let mut count = 0;
