@@ -1,9 +1,10 @@
 -- How many terms the systems of the program have.
-use Rattle.std.proofs.Common.{◌≡◌, ℕ, zero, suc, ◌+◌, ◌*◌, ◌<◌, ◌≤◌, ◌==◌, nat_le, nat_lt, ℤ, pos, Bool, true, false, not, cond, ◌&&◌, List, [], ◌∷◌, ◌++◌, map, length, length-map, refl, sym, ap, ap₂, ◌∙◌, arith}
+use Rattle.std.proofs.Common.{◌≡◌, ℕ, zero, suc, ◌+◌, ◌*◌, ◌<◌, ◌≤◌, ◌==◌, nat_le, nat_lt, ℤ, pos, Bool, true, false, not, cond, ◌&&◌, List, [], ◌∷◌, ◌++◌, map, length, refl, sym, ap, ap₂, ◌∙◌, arith}
 use Rattle.std.proofs.lemmas.Bool.{and_parts}
 use Rattle.std.proofs.lemmas.Bool.Decides.{nat_tests}
 use Rattle.std.specs.List.{list_all, count_by, sum_by}
 use Rattle.std.specs.Ordering.{int_eq}
+use Rattle.std.proofs.lemmas.List.{length-map}
 use Rattle.std.proofs.lemmas.List.Sums.{sum_by-append, sum_by-cons}
 use Rattle.affine_forms.specs.Bounds.{is_increasing, is_increasing_from, are_below}
 use Rattle.affine_forms.specs.System.{coefficient_of, below, plain_row, plain_system}
@@ -14,6 +15,10 @@ use Rattle.obligations.specs.Limits.{affine_terms, system_terms}
 
 abbrev variables : List Term → List ℕ
 variables ts = map (λ t. t.variable) ts
+
+-- the terms of rows together
+abbrev pub lengths : List Row → ℕ
+lengths rs = sum_by (λ r. length r.terms.items) rs
 
 -- ---- few terms
 
@@ -36,7 +41,7 @@ row_room : (r : Row) (n : ℕ) → list_all (λ x. nat_lt x n) (variables r.term
 row_room r n h l = let k = room 0 n (variables r.terms.items) r.increasing h (omega arith) in omega (arith, k, l, length-map r.terms.items (λ (t : Term). t.variable))
 
 -- at most 64 terms each
-rows_room : (n : ℕ) (rs : List Row) → are_below n (map (λ r. variables r.terms.items) rs) ≡ true → n ≤ 64 → sum_by (λ r. length r.terms.items) rs ≤ 64 * length rs
+rows_room : (n : ℕ) (rs : List Row) → are_below n (map (λ r. variables r.terms.items) rs) ≡ true → n ≤ 64 → lengths rs ≤ 64 * length rs
 rows_room n [] h l = omega arith
 rows_room n (r ∷ rs) h l =
     let p = and_parts (list_all (λ x. nat_lt x n) (variables r.terms.items)) (are_below n (map (λ q. variables q.terms.items) rs)) h in
@@ -44,10 +49,10 @@ rows_room n (r ∷ rs) h l =
     let rest = rows_room n rs p.1 l in
     omega (arith, one, rest, sum_by-cons (λ (q : Row). length q.terms.items) r rs)
 
-pub equations_few : (s : System) → sum_by (λ (r : Row). length r.terms.items) s.equations.items ≤ 32768
+pub equations_few : (s : System) → lengths s.equations.items ≤ 32768
 equations_few s = let k = rows_room s.vars s.equations.items s.equations_within s.few_variables in omega (arith, k, s.few_rows)
 
-pub rows_few : (s : System) → sum_by (λ (r : Row). length r.terms.items) s.rows.items ≤ 32768
+pub rows_few : (s : System) → lengths s.rows.items ≤ 32768
 rows_few s = let k = rows_room s.vars s.rows.items s.rows_within s.few_variables in omega (arith, k, s.few_rows)
 
 -- ---- terms as coefficients
@@ -55,28 +60,31 @@ rows_few s = let k = rows_room s.vars s.rows.items s.rows_within s.few_variables
 abbrev is_term : ℤ → Bool
 is_term c = not (int_eq c (pos 0))
 
-count_cons : {X : Type 0} (p : X → Bool) (x : X) (xs : List X) → count_by p (x ∷ xs) ≡ cond (p x) 1 0 + count_by p xs
-count_cons p x xs = sum_by-cons (λ y. cond (p y) 1 0) x xs
+abbrev one_if : Bool → ℕ
+one_if t = cond t 1 0
 
-count_last : (p : ℕ → Bool) (xs : List ℕ) (x : ℕ) → count_by p (xs ++ x ∷ []) ≡ count_by p xs + cond (p x) 1 0
-count_last p xs x = let h = sum_by-append (λ y. cond (p y) 1 0) xs (x ∷ []) in let k = count_cons p x [] in omega (arith, h, k)
+count_cons : {X : Type 0} (p : X → Bool) (x : X) (xs : List X) → count_by p (x ∷ xs) ≡ one_if (p x) + count_by p xs
+count_cons p x xs = sum_by-cons (λ y. one_if (p y)) x xs
+
+count_last : (p : ℕ → Bool) (xs : List ℕ) (x : ℕ) → count_by p (xs ++ x ∷ []) ≡ count_by p xs + one_if (p x)
+count_last p xs x = let h = sum_by-append (λ y. one_if (p y)) xs (x ∷ []) in let k = count_cons p x [] in omega (arith, h, k)
 
 count_map : {X Y : Type 0} (p : Y → Bool) (f : X → Y) (xs : List X) → count_by p (map f xs) ≡ count_by (λ x. p (f x)) xs
 count_map p f [] = refl
-count_map p f (x ∷ xs) = count_cons p (f x) (map f xs) ∙ ap (λ n. cond (p (f x)) 1 0 + n) (count_map p f xs) ∙ sym (count_cons (λ y. p (f y)) x xs)
+count_map p f (x ∷ xs) = count_cons p (f x) (map f xs) ∙ ap (λ n. one_if (p (f x)) + n) (count_map p f xs) ∙ sym (count_cons (λ y. p (f y)) x xs)
 
 -- tests that agree below a number count alike
 count_same : (p q : ℕ → Bool) (n : ℕ) → ((v : ℕ) → v < n → p v ≡ q v) → count_by p (below n) ≡ count_by q (below n)
 count_same p q zero h = refl
 count_same p q (suc n) h =
     count_last p (below n) n
-    ∙ ap₂ (λ a b. a + cond b 1 0) (count_same p q n (λ v l. h v (omega (arith, l)))) (h n (omega arith))
+    ∙ ap₂ (λ a b. a + one_if b) (count_same p q n (λ v l. h v (omega (arith, l)))) (h n (omega arith))
     ∙ sym (count_last q (below n) n)
 
 -- one number more passes
 count_more : (p : ℕ → Bool) (x n : ℕ) → p x ≡ false → x < n → count_by (λ v. cond (x == v) true (p v)) (below n) ≡ 1 + count_by p (below n)
 count_more p x zero h l = absurd (omega (arith, l))
-count_more p x (suc n) h l = go (x == n) refl
+count_more p x (suc n) h l = go (x == n) refl (λ k. count_more p x n h k)
   where
     apart : (a b v : ℕ) → (a == b) ≡ true → v < b → (a == v) ≡ false
     apart a b v e l = grind (arith, nat_tests)
@@ -87,18 +95,18 @@ count_more p x (suc n) h l = go (x == n) refl
     lower : (a b : ℕ) → (a == b) ≡ false → a < suc b → a < b
     lower a b e l = grind (arith, nat_tests)
 
-    go : (t : Bool) → (x == n) ≡ t → count_by (λ v. cond (x == v) true (p v)) (below (suc n)) ≡ 1 + count_by p (below (suc n))
-    go true e =
+    go : (t : Bool) → (x == n) ≡ t → (x < n → count_by (λ v. cond (x == v) true (p v)) (below n) ≡ 1 + count_by p (below n)) → count_by (λ v. cond (x == v) true (p v)) (below (suc n)) ≡ 1 + count_by p (below (suc n))
+    go true e lower_more =
         let a = count_last (λ v. cond (x == v) true (p v)) (below n) n in
-        let b : cond (cond (x == n) true (p n)) 1 0 ≡ 1 = ap (λ t. cond (cond t true (p n)) 1 0) e in
+        let b : one_if (cond (x == n) true (p n)) ≡ 1 = ap (λ t. one_if (cond t true (p n))) e in
         let c : count_by (λ v. cond (x == v) true (p v)) (below n) ≡ count_by p (below n) = count_same (λ v. cond (x == v) true (p v)) p n (λ v k. ap (λ t. cond t true (p v)) (apart x n v e k)) in
         let d = count_last p (below n) n in
-        let f : cond (p n) 1 0 ≡ 0 = ap (λ t. cond t 1 0) (ap p (sym (equal x n e)) ∙ h) in
+        let f : one_if (p n) ≡ 0 = ap one_if (ap p (sym (equal x n e)) ∙ h) in
         omega (arith, a, b, c, d, f)
-    go false e =
+    go false e lower_more =
         let a = count_last (λ v. cond (x == v) true (p v)) (below n) n in
-        let b : cond (cond (x == n) true (p n)) 1 0 ≡ cond (p n) 1 0 = ap (λ t. cond (cond t true (p n)) 1 0) e in
-        let c = count_more p x n h (lower x n e l) in
+        let b : one_if (cond (x == n) true (p n)) ≡ one_if (p n) = ap (λ t. one_if (cond t true (p n))) e in
+        let c = lower_more (lower x n e l) in
         let d = count_last p (below n) n in
         omega (arith, a, b, c, d)
 
@@ -127,7 +135,11 @@ counted (t ∷ ts) low n h k =
     count_same (λ v. is_term (coefficient_of (t ∷ ts) v)) (λ v. cond (t.variable == v) true (is_term (coefficient_of ts v))) n (λ v l. named (t.variable == v) v)
     ∙ count_more (λ v. is_term (coefficient_of ts v)) t.variable n (ap is_term (absent ts (suc t.variable) t.variable p.1 (omega arith))) (within t.variable n q.0)
     ∙ ap (λ m. 1 + m) (counted ts (suc t.variable) n p.1 q.1)
+    ∙ next_of (length ts)
   where
+    next_of : (m : ℕ) → 1 + m ≡ suc m
+    next_of m = omega arith
+
     named : (b : Bool) (v : ℕ) → is_term (cond b t.coefficient (coefficient_of ts v)) ≡ cond b true (is_term (coefficient_of ts v))
     named true v = t.present
     named false v = refl
@@ -138,7 +150,7 @@ counted (t ∷ ts) low n h k =
 row_counted : (n : ℕ) (r : Row) → list_all (λ x. nat_lt x n) (variables r.terms.items) ≡ true → affine_terms (plain_row n r) ≡ length r.terms.items
 row_counted n r h = count_map is_term (coefficient_of r.terms.items) (below n) ∙ counted r.terms.items 0 n r.increasing h
 
-rows_counted : (n : ℕ) (rs : List Row) → are_below n (map (λ r. variables r.terms.items) rs) ≡ true → sum_by affine_terms (map (plain_row n) rs) ≡ sum_by (λ (r : Row). length r.terms.items) rs
+rows_counted : (n : ℕ) (rs : List Row) → are_below n (map (λ r. variables r.terms.items) rs) ≡ true → sum_by affine_terms (map (plain_row n) rs) ≡ lengths rs
 rows_counted n [] h = refl
 rows_counted n (r ∷ rs) h =
     let p = and_parts (list_all (λ x. nat_lt x n) (variables r.terms.items)) (are_below n (map (λ q. variables q.terms.items) rs)) h in
@@ -147,5 +159,5 @@ rows_counted n (r ∷ rs) h =
     ∙ sym (sum_by-cons (λ (q : Row). length q.terms.items) r rs)
 
 -- the terms of the rows are those of the constraints
-pub system_counted : (s : System) (m n : ℕ) → m ≡ sum_by (λ (r : Row). length r.terms.items) s.equations.items → n ≡ sum_by (λ (r : Row). length r.terms.items) s.rows.items → m + n ≡ system_terms (plain_system s)
+pub system_counted : (s : System) (m n : ℕ) → m ≡ lengths s.equations.items → n ≡ lengths s.rows.items → m + n ≡ system_terms (plain_system s)
 system_counted s m n h k = ap₂ ◌+◌ (h ∙ sym (rows_counted s.vars s.equations.items s.equations_within)) (k ∙ sym (rows_counted s.vars s.rows.items s.rows_within))
