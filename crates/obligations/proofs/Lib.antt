@@ -6,3 +6,4 @@ mod WellFormed
 mod Steps
 mod Counting
 mod Terms
+mod Within

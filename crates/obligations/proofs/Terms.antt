@@ -161,3 +161,6 @@ rows_counted n (r ∷ rs) h =
 -- the terms of the rows are those of the constraints
 pub system_counted : (s : System) (m n : ℕ) → m ≡ lengths s.equations.items → n ≡ lengths s.rows.items → m + n ≡ system_terms (plain_system s)
 system_counted s m n h k = ap₂ ◌+◌ (h ∙ sym (rows_counted s.vars s.equations.items s.equations_within)) (k ∙ sym (rows_counted s.vars s.rows.items s.rows_within))
+
+pub system_few : (s : System) → system_terms (plain_system s) ≤ 65536
+system_few s = let e = system_counted s (lengths s.equations.items) (lengths s.rows.items) refl refl in omega (arith, e, equations_few s, rows_few s)
