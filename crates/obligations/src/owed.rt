@@ -88,6 +88,8 @@ impl Owed {
     pub(crate) fn push_all(&mut self, more: Vec<Obligation>) -> Result<(), CheckError>
         ensures { Appended result self.old (map plain_obligation more.items) self.new }
     {
+        // the proof learns here that what is owed already is within the limits
+        let _ = &self.terms;
         for o in more {
             self.push(o)?;
         }
