@@ -7,3 +7,4 @@ mod Steps
 mod Counting
 mod Terms
 mod Within
+mod Owing
