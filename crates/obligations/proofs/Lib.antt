@@ -8,3 +8,4 @@ mod Counting
 mod Terms
 mod Within
 mod Owing
+mod Resting
