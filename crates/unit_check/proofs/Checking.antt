@@ -35,11 +35,14 @@ pub record StandsAt (ps : List Procedure) (k : ℕ) (q : Procedure) : Type 0 whe
 stands_at : (ps : List Procedure) (k : ℕ) → k < length ps → (q : Procedure) × StandsAt ps k q
 stands_at ps k h =
     ⊎_elim
-    (λ x. (x.0, record {
-      found = x.2;
-      first = drop-cons ps k x.0 x.1 ∙ ap (λ (y : Procedure). y ∷ drop (suc k) ps) x.3 ∙ ap (λ (n : ℕ). x.0 ∷ drop n ps) (sym (add-one k));
-      last = take_more ps k x.0 x.1 ∙ ap (λ (y : Procedure). take k ps ++ y ∷ []) x.3;
-    }))
+    (λ x. (
+      x.0,
+      record {
+        found = x.2;
+        first = drop-cons ps k x.0 x.1 ∙ ap (λ (y : Procedure). y ∷ drop (suc k) ps) x.3 ∙ ap (λ (n : ℕ). x.0 ∷ drop n ps) (sym (add-one k));
+        last = take_more ps k x.0 x.1 ∙ ap (λ (y : Procedure). take k ps ++ y ∷ []) x.3;
+      },
+    ))
     (λ x. absurd (let past : length ps ≤ k = x.0 in omega arith))
     (slice_get_cases ps k).1
 

@@ -60,7 +60,7 @@ within_all : (u : Program) (p : Procedure) (os : List Owed) (cs : List Placed) �
 within_all u p os [] within none = ap are_within (append-nil os) ∙ within
 within_all u p os (c ∷ cs) within none =
     let on : (are_within (os ++ owed_for u p c) ≡ true) × (first_fault u p (os ++ owed_for u p c) cs ≡ None) =
-        goes_on (claim_fault u p c) (are_within (os ++ owed_for u p c)) (first_fault u p (os ++ owed_for u p c) cs) none in
+    goes_on (claim_fault u p c) (are_within (os ++ owed_for u p c)) (first_fault u p (os ++ owed_for u p c) cs) none in
     ap are_within (sym (append_assoc os (owed_for u p c) (owed_for_all u p cs)))
     ∙ within_all u p (os ++ owed_for u p c) cs on.0 on.1
 

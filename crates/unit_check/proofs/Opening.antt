@@ -50,9 +50,8 @@ one_by true p o os i v w vs rest next e at =
     let is : o ≡ p = subst (λ (k : ℕ). o ≡ get_or (p ∷ os) k o) here at in
     ap (λ (q : Obligation). Some (NotShown q.what q.place w)) (sym is) ∙ ap (λ (x : Verdict). Some (NotShown o.what o.place x)) (sym same)
 one_by false p o os i v w vs rest next e at =
-    let j : ℕ = position_or_len is_refused vs in
     let further : (i ≡ suc (position_or_len is_refused vs)) × (First (position_or_len is_refused vs) v ≡ answer_of vs) =
-        one_behind i (position_or_len is_refused vs) v (slice_get vs (position_or_len is_refused vs)) (e ∙ one_more w vs (position_or_len is_refused vs)) in
+    one_behind i (position_or_len is_refused vs) v (slice_get vs (position_or_len is_refused vs)) (e ∙ one_more w vs (position_or_len is_refused vs)) in
     next (position_or_len is_refused vs) further.1 (subst (λ (k : ℕ). o ≡ get_or (p ∷ os) k o) further.0 at)
 
 pub one_open : (os : List Obligation) (i : ℕ) (v : Verdict) (o : Obligation) → First i v ≡ answer_of (map elimination (systems_of os)) → o ≡ get_or os i o
