@@ -19,11 +19,11 @@ telling_of g = telling (program g.unit.now) (procedure g.proc.now)
 
 -- ---- one field
 
-module _ (tell : Telling) (f : ℕ) where
-  -- a value on which both ends of a branching statement agree, else one that the statement makes unknown
-  abbrev pub kept_value : Path → FieldValue → FieldValue → FieldValue
-  kept_value path v w = if same_value tell.agree v w then v else UnknownAt path
+-- a value on which both ends of a branching statement agree, else one that the statement makes unknown
+abbrev pub kept_value : Telling → Path → FieldValue → FieldValue → FieldValue
+kept_value tell path v w = if same_value tell.agree v w then v else UnknownAt path
 
+module _ (tell : Telling) (f : ℕ) where
   abbrev mutual
     -- after the statement at a path
     pub value_after : Path → Statement → FieldValue → FieldValue
@@ -31,7 +31,7 @@ module _ (tell : Telling) (f : ℕ) where
     value_after path (Reduce x is e) v = v
     value_after path (Config g a) v = if f == g then Known (tell.told a) else v
     value_after path Pass v = v
-    value_after path (If c a b) v = kept_value path (value_at_end path Main zero a v) (value_at_end path Else zero b v)
+    value_after path (If c a b) v = kept_value tell path (value_at_end path Main zero a v) (value_at_end path Else zero b v)
     value_after path (For i lo hi b) v = if writes_field tell.writes f b then UnknownAt path else v
     value_after path (Alloc x cell dims memory) v = v
     value_after path (View w x coords) v = v
