@@ -63,6 +63,11 @@ room_at n zero xs rest a e h = (room_for n a xs rest e h).0
 room_at n (suc k) [] rest a e h = cc
 room_at n (suc k) (x ∷ xs) rest a e h = room_at n k xs rest a e (room_for n x (x ∷ xs) xs refl h).1
 
+-- a path in a block that has a statement
+pub room_before : (n k : ℕ) (xs : List Statement) → k < length xs → n + levels (block xs) ≤ 32 → n < 32
+room_before n k [] l h = absurd (omega arith)
+room_before n k (x ∷ xs) l h = let r = (room_for n x (x ∷ xs) xs refl h).0 in omega arith
+
 -- a block of a statement
 pub record Inside (n : ℕ) (b : Block) : Type 0 where
   pub rules : block_keeps_rules b ≡ true
