@@ -3,3 +3,4 @@ pub mod Steps
 pub mod Rooms
 pub mod Openings
 pub mod Adding
+pub mod Ways
