@@ -4,3 +4,4 @@ pub mod Rooms
 pub mod Openings
 pub mod Adding
 pub mod Beginning
+pub mod Ways
