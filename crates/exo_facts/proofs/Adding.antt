@@ -26,7 +26,7 @@ and_true : (s : Bool) → (s && true) ≡ s
 and_true true = refl
 and_true false = refl
 
-told_same : (g : Ground) (known other : KnownFields) → SameBelow g.count known other → told (program g.unit.now).fields known ≡ told (program g.unit.now).fields other
+pub told_same : (g : Ground) (known other : KnownFields) → SameBelow g.count known other → told (program g.unit.now).fields known ≡ told (program g.unit.now).fields other
 told_same g known other h =
     let n = length (program g.unit.now).fields in
     let c : g.count ≡ n = g.counted in

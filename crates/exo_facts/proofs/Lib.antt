@@ -5,3 +5,4 @@ pub mod Openings
 pub mod Adding
 pub mod Beginning
 pub mod Ways
+pub mod Arrivals

@@ -18,8 +18,8 @@ returns-in_err-add_holds c =
     let known = entry_same c.args.ground.now.count (known_in c.args.known.now) c.requires.entry in
     let one = record { known = at_entry; fact = Holds (condition c.c-item.result) } ∷ [] in
     c.loop-c.invariant.rest c.from_residual.result c.add_holds.new.context
-      (part_refused c.from_residual.result c.args.ground.now _ one (known_first (map Holds rest)) c.loop-c.context _ _
-        (first_assert (condition c.c-item.result) _ rest read) c.from_residual.ensures.1 (c.in_err-add_holds.ensures at_entry known))
+    (part_refused c.from_residual.result c.args.ground.now _ one (known_first (map Holds rest)) c.loop-c.context _ _
+    (first_assert (condition c.c-item.result) _ rest read) c.from_residual.ensures.1 (c.in_err-add_holds.ensures at_entry known))
 
 pub loop-c-preserved : goal.loop-c-preserved
 loop-c-preserved c =
@@ -31,7 +31,7 @@ loop-c-preserved c =
     record {
       rest = λ r new more. c.loop-c.invariant.rest r new
           (parts_added r c.args.ground.now _ one (known_first (map Holds rest)) c.loop-c.context c.add_holds.new.context new
-            (first_assert (condition c.c-item.result) _ rest read) (c.in_ok-add_holds.ensures at_entry known) more);
+          (first_assert (condition c.c-item.result) _ rest read) (c.in_ok-add_holds.ensures at_entry known) more);
       rules = rest_keeps condition_keeps_rules (condition c.c-item.result) _ rest read c.loop-c.invariant.rules;
     }
 
