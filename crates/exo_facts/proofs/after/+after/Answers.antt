@@ -1,4 +1,4 @@
-use Rattle.std.proofs.Common.{◌<◌, if◌then◌else◌, arith, sym, ap, ◌∙◌}
+use Rattle.std.proofs.Common.{if◌then◌else◌, arith, sym, ap, ◌∙◌}
 use Rattle.exo_tree.specs.Tree.{block}
 use Rattle.exo_tree.specs.PlainStatement.{statement}
 use Rattle.exo_context.specs.KnownFields.{UnknownAt}
