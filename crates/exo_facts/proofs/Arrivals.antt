@@ -1,20 +1,18 @@
 -- The context of a place: of what the procedure begins with, and of the way.
 use Rattle.std.proofs.Common.{◌≡◌, zero, ◌<◌, ◌==◌, true, false, List, [], ◌∷◌, ◌++◌, length, map, Option, Some, None, arith, refl, sym, ap, ◌∙◌, subst, Result, Ok, Err, IsErrAnd, eqb-true}
-use Rattle.exo_tree.specs.Tree.{Block, Procedure, Program}
+use Rattle.exo_tree.specs.Tree.{Block, Procedure}
 use Rattle.exo_tree.specs.Places.{Branch, Main, Else, Path, Opened, opened, opened_in}
 use Rattle.exo_tree.specs.PlainPlace.{step_taken}
 use Rattle.exo_tree.specs.declared.place.Step as taken
 use Rattle.exo_tree.specs.PlainProcedure.{procedure}
 use Rattle.exo_tree.specs.PlainUnit.{program}
 use Rattle.exo_context.specs.KnownFields.{KnownFields}
-use Rattle.exo_context.specs.Facts.{Holds}
-use Rattle.exo_context.specs.Known.{params_facts}
 use Rattle.affine_forms.specs.declared.error.FormError.{FormError}
 use Rattle.affine_forms.specs.Formulas.{Formula}
 use Rattle.affine_forms.specs.Outcomes.{IsWide}
 use Rattle.affine_places.specs.Facts.{FieldFact}
 use Rattle.exo_facts.specs.Contexts.{formulas, all_fit, facts_at, facts_from, known_at_place, context_fits, IsPlaceOf, ContextMade}
-use Rattle.exo_facts.specs.Walks.{telling_of, SameBelow, head_facts, known_first, round_facts, place_of}
+use Rattle.exo_facts.specs.Walks.{telling_of, SameBelow, head_facts, round_facts, place_of}
 use Rattle.exo_facts.specs.declared.ground.Ground.{Ground}
 use Rattle.exo_facts.proofs.Adding.{Came, told_same}
 use Rattle.exo_facts.proofs.Ways.{Found, found}

@@ -1,12 +1,12 @@
 -- Formulas of parameters and assertions, where each field has its value at entry.
-use Rattle.std.proofs.Common.{◌≡◌, ℕ, suc, ◌+◌, ◌<◌, ◌≤◌, Bool, true, ◌&&◌, List, [], ◌∷◌, ◌++◌, map, length, drop, get_or, refl, sym, ap, ◌∙◌, subst, Result, Ok, Err, IsErrAnd, drop-cons, add-one}
+use Rattle.std.proofs.Common.{◌≡◌, ℕ, suc, ◌+◌, ◌<◌, Bool, true, List, [], ◌∷◌, ◌++◌, map, length, drop, get_or, sym, ap, ◌∙◌, subst, Result, IsErrAnd, drop-cons, add-one}
 use Rattle.std.specs.List.{list_all}
 use Rattle.std.proofs.lemmas.List.{map-append}
 use Rattle.std.specs.Prelude.{pos}
 use Rattle.exo_tree.specs.Tree.{Condition, Le, Lit, Var, Param}
 use Rattle.exo_tree.specs.PlainProcedure.{procedure}
 use Rattle.exo_tree.specs.PlainUnit.{program}
-use Rattle.exo_context.specs.Facts.{Fact, Holds}
+use Rattle.exo_context.specs.Facts.{Holds}
 use Rattle.exo_context.specs.Known.{param_facts, params_facts}
 use Rattle.exo_context.specs.KnownFields.{KnownFields, at_entry}
 use Rattle.exo_context.specs.PlaceFacts.{PlaceFact}

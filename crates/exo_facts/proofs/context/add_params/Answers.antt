@@ -1,4 +1,4 @@
-use Rattle.std.proofs.Common.{map, drop, ap, sym, refl, subst, Ok, arith}
+use Rattle.std.proofs.Common.{map, sym, refl, subst, Ok, arith}
 use Rattle.std.proofs.lemmas.List.{drop_all}
 use Rattle.exo_tree.specs.PlainParam.{parameter}
 use Rattle.exo_context.specs.Known.{params_facts}

@@ -1,4 +1,4 @@
-use Rattle.std.proofs.Common.{zero, map, ap, sym, subst, ◌∙◌}
+use Rattle.std.proofs.Common.{zero, ap, sym, subst, ◌∙◌}
 use Rattle.std.specs.Prelude.{OnOk}
 use Rattle.exo_tree.specs.Places.{Main, opened_in}
 use Rattle.exo_tree.specs.PlainProcedure.{procedure}
