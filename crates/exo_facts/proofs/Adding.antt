@@ -1,12 +1,11 @@
 -- Formulas of facts, one after the other.
-use Rattle.std.proofs.Common.{◌≡◌, ℕ, zero, suc, ◌+◌, ◌<◌, ◌≤◌, Bool, true, false, ◌&&◌, List, [], ◌∷◌, ◌++◌, map, length, append_assoc, arith, refl, sym, ap, ◌∙◌, subst, Result, Ok, Err, IsErrAnd}
-use Rattle.std.specs.List.{list_all}
+use Rattle.std.proofs.Common.{◌≡◌, Bool, true, false, ◌&&◌, List, [], ◌∷◌, ◌++◌, length, append_assoc, arith, refl, sym, ap, ◌∙◌, subst, Result, Ok, Err, IsErrAnd}
 use Rattle.std.proofs.lemmas.List.{map-append}
 use Rattle.exo_tree.specs.Tree.{Condition, Program, Procedure}
 use Rattle.exo_tree.specs.PlainProcedure.{procedure}
 use Rattle.exo_tree.specs.PlainUnit.{program}
 use Rattle.exo_context.specs.Facts.{Fact, Holds, Fails}
-use Rattle.exo_context.specs.KnownFields.{KnownFields, at_entry}
+use Rattle.exo_context.specs.KnownFields.{KnownFields}
 use Rattle.exo_context.specs.PlaceFacts.{PlaceFact}
 use Rattle.affine_forms.specs.declared.error.FormError.{FormError}
 use Rattle.affine_forms.specs.declared.error.FormError.TheVariants.{TooManyCases, SystemTooLarge, WideNumber, TooManySystems, Memory}
@@ -26,7 +25,7 @@ and_true : (s : Bool) → (s && true) ≡ s
 and_true true = refl
 and_true false = refl
 
-told_same : (g : Ground) (known other : KnownFields) → SameBelow g.count known other → told (program g.unit.now).fields known ≡ told (program g.unit.now).fields other
+pub told_same : (g : Ground) (known other : KnownFields) → SameBelow g.count known other → told (program g.unit.now).fields known ≡ told (program g.unit.now).fields other
 told_same g known other h =
     let n = length (program g.unit.now).fields in
     let c : g.count ≡ n = g.counted in

@@ -1,8 +1,8 @@
 -- What a procedure that may be walked says of its statements: rules, and lengths of paths.
-use Rattle.std.proofs.Common.{◌≡◌, ℕ, zero, suc, ◌+◌, ◌-◌, ◌<◌, ◌≤◌, ◌==◌, nat_lt, Bool, true, false, cond, ◌&&◌, List, [], ◌∷◌, ◌++◌, length, drop, arith, refl, sym, ap, ◌∙◌, length-append}
+use Rattle.std.proofs.Common.{◌≡◌, ℕ, zero, suc, ◌+◌, ◌<◌, ◌≤◌, nat_lt, Bool, true, false, cond, ◌&&◌, List, [], ◌∷◌, length, drop, arith, refl, sym, ap, ◌∙◌, length-append}
 use Rattle.std.specs.Prelude.{Some}
 use Rattle.std.proofs.lemmas.Bool.Decides.{nat_tests}
-use Rattle.exo_tree.specs.Tree.{Statement, If, For, Block, end, next, block, statements}
+use Rattle.exo_tree.specs.Tree.{Statement, If, For, Block, block, statements}
 use Rattle.exo_tree.specs.Places.{Branch, Main, Else, Path}
 use Rattle.exo_tree.specs.Branches.{branch_of}
 use Rattle.exo_meaning.specs.Units.{larger, levels, step_levels, is_short}

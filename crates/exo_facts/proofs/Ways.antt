@@ -35,11 +35,11 @@ no_head : (xs : List taken.Step) → None ≡ slice_get xs 0 → xs ≡ []
 no_head [] e = refl
 no_head (y ∷ ys) e = cc
 
-record Found (x : Option Opened) : Type 0 where
+pub record Found (x : Option Opened) : Type 0 where
   pub place : Opened
   pub is : x ≡ Some place
 
-found : (x : Option Opened) → IsSome x → Found x
+pub found : (x : Option Opened) → IsSome x → Found x
 found None h = cc
 found (Some o) h = record { place = o; is = refl }
 

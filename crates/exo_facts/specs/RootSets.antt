@@ -2,7 +2,7 @@
 use Rattle.std.specs.Prelude.{◌≡◌, ℕ, List, Option, Some, None}
 use Rattle.std.specs.Coded.{Coded, Coded-set, coded_ℕ, coded_list, coded_option, coded×, code_by}
 use Rattle.std.proofs.Common.{refl}
-use Rattle.std.proofs.Props.{props}
+use mathlib.Core.HLevel.{→_set}
 use Rattle.exo_tree.specs.Tree.{Control}
 use Rattle.exo_tree.specs.Codes.{index_code}
 use Rattle.affine_places.specs.Roots.{Layout, Dense, Strided, Rooted, Roots}
@@ -29,4 +29,4 @@ seen-set : IsSet (Option Rooted)
 seen-set = Coded-set (coded_option rooted_code)
 
 pub Roots-set : IsSet Roots
-Roots-set = Prim.hlevel (props, seen-set)
+Roots-set = →_set seen-set
