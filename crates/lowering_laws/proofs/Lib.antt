@@ -1,3 +1,5 @@
 pub mod Rules
 pub mod Good
 pub mod Spelling
+pub mod Free
+pub mod Apart

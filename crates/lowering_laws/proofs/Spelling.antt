@@ -99,20 +99,20 @@ split_between (a ∷ x) (b ∷ y) d e h k i =
 abbrev pub Small : ℕ → Type 0
 Small n = n < 2 ^ 64
 
-digits_of : (n : ℕ) → Small n → AllDigits 10 (decimal n)
+pub digits_of : (n : ℕ) → Small n → AllDigits 10 (decimal n)
 digits_of n h = (decimal_is_IsNumeral n h).0.1
 
-some_digit : (n : ℕ) → Small n → decimal n ≡ [] → ⊥
+pub some_digit : (n : ℕ) → Small n → decimal n ≡ [] → ⊥
 some_digit n h e = omega (arith, (decimal_is_IsNumeral n h).0.0, ap length e)
 
 assoc : (x y z : List ℕ) → (x ++ y) ++ z ≡ x ++ (y ++ z)
 assoc [] y z = refl
 assoc (a ∷ x) y z = ap (λ r. a ∷ r) (assoc x y z)
 
-abbrev open_form : Name → ℕ → Name
+abbrev pub open_form : Name → ℕ → Name
 open_form x k = x ++ 95 ∷ decimal k
 
-abbrev own_form : Name → ℕ → Name
+abbrev pub own_form : Name → ℕ → Name
 own_form x k = 118 ∷ (x ++ 95 ∷ (decimal k ++ 95 ∷ []))
 
 numbered_is : (x : Name) (k : ℕ) → numbered x k ≡ pick (is_own x) (own_form x k) (open_form x k)
@@ -120,10 +120,10 @@ numbered_is x k =
     ap (λ u. pick (is_own x) u (x ++ codes "_" ++ decimal k)) (assoc ((118 ∷ x) ++ 95 ∷ []) (decimal k) (95 ∷ []) ∙ assoc (118 ∷ x) (95 ∷ []) (decimal k ++ 95 ∷ []))
     ∙ ap (λ v. pick (is_own x) (own_form x k) v) (assoc x (95 ∷ []) (decimal k))
 
-numbered_open : (x : Name) (k : ℕ) → is_own x ≡ false → numbered x k ≡ open_form x k
+pub numbered_open : (x : Name) (k : ℕ) → is_own x ≡ false → numbered x k ≡ open_form x k
 numbered_open x k h = numbered_is x k ∙ ap (λ b. pick b (own_form x k) (open_form x k)) h
 
-numbered_own : (x : Name) (k : ℕ) → is_own x ≡ true → numbered x k ≡ own_form x k
+pub numbered_own : (x : Name) (k : ℕ) → is_own x ≡ true → numbered x k ≡ own_form x k
 numbered_own x k h = numbered_is x k ∙ ap (λ b. pick b (own_form x k) (open_form x k)) h
 
 -- the two forms end differently
