@@ -16,7 +16,7 @@ use Rattle.c_printer.specs.Lowered.{Naming, Form, NoForm, NumberForm, TensorForm
 use Rattle.c_printer.specs.LoweredUnit.{memory_of, in_control, in_condition, in_argument, in_statement, in_block}
 use Rattle.c_printer.specs.Simulation.{Declared, IsTensorName, AreGood, IsGoodDatum, IsGoodSetting, IsAlone, IsFresh, IsOfCells, IsGoodBlock, IsGoodStatement, with_bounds}
 use Rattle.lowering_laws.specs.SelfContained.{is_heap, is_value, is_alone, is_alone_block}
-use Rattle.lowering_laws.proofs.Rules.{Stands, Fits, access, good, all_good, good_datum, good_test, good_open, Covers, cover_left, cover_right}
+use Rattle.lowering_laws.proofs.Rules.{Stands, Fits, wider, access, good, all_good, good_datum, good_test, good_open, Covers, cover_left, cover_right}
 
 -- ---- binders in a list
 
@@ -47,13 +47,19 @@ pub record AreNamed (naming : Naming) (declared : Declared) (all : List Binder) 
   pub alone : (f : ℕ) → declared f ≡ true → IsAlone naming declared f
   pub stored : (x : ℕ) → naming.stored x ≡ true
 
-not_true : (b : Bool) → not b ≡ true → b ≡ false
+pub not_true : (b : Bool) → not b ≡ true → b ≡ false
 not_true true h = absurd (true≢false (sym h))
 not_true false h = refl
 
 or_false : (a b : Bool) → (a || b) ≡ false → (a ≡ false) × (b ≡ false)
 or_false true b h = absurd (true≢false h)
 or_false false b h = (refl, h)
+
+pub not_there : (scope : Scope) (i : Binder) → list_any (λ n. (i.id == n.binder.id) || is_text i.name n.binder.name) scope ≡ false → sort_in scope i.id ≡ None
+not_there [] i e = refl
+not_there (n ∷ scope) i e =
+    let parts = or_false _ _ e in
+    ap (λ t. cond t (Some n.sort) (sort_in scope i.id)) (or_false _ _ parts.0).0 ∙ not_there scope i parts.1
 
 either : (a b : Bool) → b ≡ true → (a || b) ≡ true
 either true b i = refl
@@ -85,12 +91,6 @@ module _ (naming : Naming) (declared : Declared) (all : List Binder) (names : Ar
   other_names [] i h k e x = inl refl
   other_names (n ∷ scope) i h k e x = let p = or_false _ _ e in one_more scope n i h.0 k (or_false _ _ p.0).1 x (other_names scope i h.1 k p.1 x)
 
-  not_there : (scope : Scope) (i : Binder) → list_any (λ n. (i.id == n.binder.id) || is_text i.name n.binder.name) scope ≡ false → sort_in scope i.id ≡ None
-  not_there [] i e = refl
-  not_there (n ∷ scope) i e =
-      let parts = or_false _ _ e in
-      ap (λ t. cond t (Some n.sort) (sort_in scope i.id)) (or_false _ _ parts.0).0 ∙ not_there scope i parts.1
-
   pub fresh : (scope : Scope) (forms : Forms) (i : Binder) → Fits scope forms → ScopeIn scope all → IsIn i all → is_new scope i ≡ true → IsFresh naming declared forms i.id
   fresh scope forms i stand h k e =
       let new = not_true _ e in
@@ -99,14 +99,6 @@ module _ (naming : Naming) (declared : Declared) (all : List Binder) (names : Ar
         other_name = λ x. ⊎_elim (λ d. inl (subst (λ o. Stands o (forms x)) d (stand x))) (λ d. inr d) (other_names scope i h k new x);
         no_field = names.no_field i k;
       }
-
-  -- a name more
-  pub wider : (scope : Scope) (forms : Forms) (i : Binder) (sort : Sort) (form : Form) → Fits scope forms → Stands (Some sort) form → Fits (with_name scope i sort) (updated forms i.id form)
-  wider scope forms i sort form stand h x = go (x == i.id)
-    where
-      go : (t : Bool) → Stands (cond t (Some sort) (sort_in scope x)) (cond t form (forms x))
-      go true = h
-      go false = stand x
 
   -- ---- statements
 

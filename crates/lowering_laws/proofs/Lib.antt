@@ -3,3 +3,5 @@ pub mod Good
 pub mod Spelling
 pub mod Free
 pub mod Apart
+pub mod UsedFields
+pub mod Params
