@@ -10,7 +10,7 @@ pub or_false : (a b : Bool) → (a || b) ≡ false → (a ≡ false) × (b ≡ f
 or_false true b h = absurd (true≢false h)
 or_false false b h = (refl, h)
 
-or_rest : (a b : Bool) → a ≡ false → (a || b) ≡ true → b ≡ true
+pub or_rest : (a b : Bool) → a ≡ false → (a || b) ≡ true → b ≡ true
 or_rest true b h k = absurd (true≢false h)
 or_rest false b h k = k
 

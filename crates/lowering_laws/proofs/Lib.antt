@@ -5,3 +5,4 @@ pub mod Free
 pub mod Apart
 pub mod UsedFields
 pub mod Params
+pub mod CNames
