@@ -13,13 +13,13 @@ use Rattle.c_names.specs.Clash.{clashing, first_clash}
 use Rattle.c_printer.specs.Lowered.{Naming}
 use Rattle.c_printer.specs.LoweredUnit.{Printing, field_name, named_field, or_none, naming_in, is_used, fields_from, fields_of, printed_names, global_names}
 use Rattle.c_printer.specs.Simulation.{Declared, IsAlone}
+use Rattle.lowering_laws.specs.Laws.{declared_in}
 use Rattle.lowering_laws.proofs.Spelling.{names_equal, same_self, differ}
 use Rattle.lowering_laws.proofs.Free.{or_false, or_rest, room}
 use Rattle.lowering_laws.proofs.Apart.{names_apart, no_global}
 use Rattle.lowering_laws.proofs.Good.{IsIn, AreIn, AreNamed}
 
 -- ---- lists of binders
-
 
 more_in : (bs all : List Binder) (y : Binder) → AreIn bs all → AreIn bs (y ∷ all)
 more_in [] all y h = tt
@@ -167,10 +167,6 @@ module _ (used : ℕ → Bool) where
       go false false p q = inl (grind arith)
 
 -- ---- a printed procedure
-
--- the fields of the unit that a printed procedure reads or writes
-abbrev pub declared_in : Program → List Printing → Declared
-declared_in program what f = is_used program what f && nat_lt f (length program.fields)
 
 module _ (program : Program) (what : List Printing) (p : Procedure) (distinct : are_distinct (bound_ids p) ≡ true) (clear : first_clash (global_names program what) ≡ None) (few : room (global_names program what) (names_of (all_binders p)) < 2 ^ 63) where
   abbrev globals : List Name

@@ -70,8 +70,8 @@ fewer [] f (suc n) h k = absurd (true≢false (sym (k 0 (omega arith))))
 fewer (y ∷ names) f (suc n) h k =
     ⊎_elim
     (λ e.
-      let others : (j : ℕ) → j < n → is_in names (f (skip e.0 j)) ≡ true = λ j b. or_rest (same_name y (f (skip e.0 j))) _ (apart e.0 e.1 e.2 j b) (k (skip e.0 j) (skip_below e.0 j n b)) in
-      let r = fewer names (λ j. f (skip e.0 j)) n (λ i j a b d. skip_injective e.0 i j (h (skip e.0 i) (skip e.0 j) (skip_below e.0 i n a) (skip_below e.0 j n b) d)) others in omega arith)
+    let others : (j : ℕ) → j < n → is_in names (f (skip e.0 j)) ≡ true = λ j b. or_rest (same_name y (f (skip e.0 j))) _ (apart e.0 e.1 e.2 j b) (k (skip e.0 j) (skip_below e.0 j n b)) in
+    let r = fewer names (λ j. f (skip e.0 j)) n (λ i j a b d. skip_injective e.0 i j (h (skip e.0 i) (skip e.0 j) (skip_below e.0 i n a) (skip_below e.0 j n b) d)) others in omega arith)
     (λ none. let r = fewer names f (suc n) h (λ i b. or_rest (same_name y (f i)) _ (none i b) (k i b)) in omega arith)
     (search y f (suc n))
   where

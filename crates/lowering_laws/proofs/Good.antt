@@ -15,7 +15,7 @@ use Rattle.c_printer.specs.Machine.{same_name}
 use Rattle.c_printer.specs.Lowered.{Naming, Form, NoForm, NumberForm, TensorForm, WindowForm, Forms, forms_after}
 use Rattle.c_printer.specs.LoweredUnit.{memory_of, in_control, in_condition, in_argument, in_statement, in_block}
 use Rattle.c_printer.specs.Simulation.{Declared, IsTensorName, AreGood, IsGoodDatum, IsGoodSetting, IsAlone, IsFresh, IsOfCells, IsGoodBlock, IsGoodStatement, with_bounds}
-use Rattle.lowering_laws.specs.SelfContained.{is_heap, is_value, is_alone, is_alone_block}
+use Rattle.c_lowering.specs.SelfContained.{is_heap, is_value, is_alone, is_alone_block}
 use Rattle.lowering_laws.proofs.Rules.{Stands, Fits, wider, access, good, all_good, good_datum, good_test, good_open, Covers, cover_left, cover_right}
 
 -- ---- binders in a list
@@ -145,9 +145,10 @@ module _ (naming : Naming) (declared : Declared) (all : List Binder) (names : Ar
           let p = and_parts (is_statement fields (length memories) callees scope root a) _ h in
           let q = and_parts (is_alone memories a) (is_alone_block memories b) v in
           let r = and_parts (is_narrow_statement memories most a) (is_narrow_block memories most b) k in
-          let own = front_in (binders_of a) (binders_in b) all binders in
-          (good_statement most scope forms root a stand inside own p.0 q.0 r.0 (λ g e. c g (ap (λ t. t || in_block g b) e)),
-          rest most scope forms a b stand inside own q.0 (λ later inner e fit within. good_block most later inner (roots_after a root) b fit within (rear_in (binders_of a) (binders_in b) all binders) (ap (λ z. is_block fields (length memories) callees z (roots_after a root) b) e ∙ p.1) q.1 r.1 (λ g d. c g (either (in_statement g a) (in_block g b) d))))
+          let own = front_in (binders_of a) (binders_in b) all binders in (
+            good_statement most scope forms root a stand inside own p.0 q.0 r.0 (λ g e. c g (ap (λ t. t || in_block g b) e)),
+            rest most scope forms a b stand inside own q.0 (λ later inner e fit within. good_block most later inner (roots_after a root) b fit within (rear_in (binders_of a) (binders_in b) all binders) (ap (λ z. is_block fields (length memories) callees z (roots_after a root) b) e ∙ p.1) q.1 r.1 (λ g d. c g (either (in_statement g a) (in_block g b) d))),
+          )
 
       good_statement : (most : ℕ → ℕ) (scope : Scope) (forms : Forms) (root : ℕ → ℕ) (a : Statement) → Fits scope forms → ScopeIn scope all → AreIn (binders_of a) all → is_statement fields (length memories) callees scope root a ≡ true → is_alone memories a ≡ true → is_narrow_statement memories most a ≡ true → ((g : ℕ) → in_statement g a ≡ true → declared g ≡ true) → IsGoodStatement naming declared forms most a
       good_statement most scope forms root (Assign x is e) stand inside own h v k c = store most scope forms stand x is e h k
@@ -162,21 +163,23 @@ module _ (naming : Naming) (declared : Declared) (all : List Binder) (names : Ar
           let q = and_parts (is_block fields (length memories) callees scope root a) (is_block fields (length memories) callees scope root b) blocks.1 in
           let r = and_parts (is_alone_block memories a) (is_alone_block memories b) v in
           let n = and_parts (is_narrow_test most d && is_narrow_block memories most a) (is_narrow_block memories most b) k in
-          let m = and_parts (is_narrow_test most d) (is_narrow_block memories most a) n.0 in
-          (good_test fields scope forms stand declared with_fields most d p.0 (λ g e. c g (ap (λ t. t || in_block g a || in_block g b) e)) m.0,
-          good_block most scope forms root a stand inside (front_in (binders_in a) (binders_in b) all own) q.0 r.0 m.1 (λ g e. c g (first_of (in_condition g d) (in_block g a) (in_block g b) e)),
-          good_block most scope forms root b stand inside (rear_in (binders_in a) (binders_in b) all own) q.1 r.1 n.1 (λ g e. c g (either (in_condition g d || in_block g a) (in_block g b) e)))
+          let m = and_parts (is_narrow_test most d) (is_narrow_block memories most a) n.0 in (
+            good_test fields scope forms stand declared with_fields most d p.0 (λ g e. c g (ap (λ t. t || in_block g a || in_block g b) e)) m.0,
+            good_block most scope forms root a stand inside (front_in (binders_in a) (binders_in b) all own) q.0 r.0 m.1 (λ g e. c g (first_of (in_condition g d) (in_block g a) (in_block g b) e)),
+            good_block most scope forms root b stand inside (rear_in (binders_in a) (binders_in b) all own) q.1 r.1 n.1 (λ g e. c g (either (in_condition g d || in_block g a) (in_block g b) e)),
+          )
       good_statement most scope forms root (For i lo hi b) stand inside own h v k c =
           let p = and_parts (is_new scope i) _ h in
           let q = and_parts (is_control fields plainly scope lo && is_control fields plainly scope hi) _ p.1 in
           let bounds = and_parts (is_control fields plainly scope lo) (is_control fields plainly scope hi) q.0 in
           let body = and_parts (not (is_empty b) && is_short b) _ q.1 in
           let n = and_parts (is_narrow most lo && is_narrow most hi) _ k in
-          let widths = and_parts (is_narrow most lo) (is_narrow most hi) n.0 in
-          (good fields scope forms stand most lo bounds.0 widths.0,
-          good fields scope forms stand most hi bounds.1 widths.1,
-          fresh scope forms i stand inside own.0 p.0,
-          good_block (with_bounds most i.id lo hi) (with_name scope i (ControlName Index)) (updated forms i.id NumberForm) root b (wider scope forms i (ControlName Index) NumberForm stand refl) (own.0, inside) own.1 body.1 v n.1 c)
+          let widths = and_parts (is_narrow most lo) (is_narrow most hi) n.0 in (
+            good fields scope forms stand most lo bounds.0 widths.0,
+            good fields scope forms stand most hi bounds.1 widths.1,
+            fresh scope forms i stand inside own.0 p.0,
+            good_block (with_bounds most i.id lo hi) (with_name scope i (ControlName Index)) (updated forms i.id NumberForm) root b (wider scope forms i (ControlName Index) NumberForm stand refl) (own.0, inside) own.1 body.1 v n.1 c,
+          )
       good_statement most scope forms root (Alloc x cell dims memory) stand inside own h v k c =
           let p = and_parts (is_new scope x) _ h in
           let q = and_parts (are_controls fields plainly scope dims) _ p.1 in

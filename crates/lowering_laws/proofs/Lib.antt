@@ -6,3 +6,4 @@ pub mod Apart
 pub mod UsedFields
 pub mod Params
 pub mod CNames
+pub mod Follows

@@ -12,7 +12,7 @@ use Rattle.c_printer.specs.Magnitude.{AreNarrow}
 use Rattle.c_printer.specs.Lowered.{Form, NoForm, NumberForm, TensorForm, WindowForm, Forms}
 use Rattle.c_printer.specs.SameInput.{form_of, param_forms, IsGoodParam, AreGoodParams}
 use Rattle.c_printer.specs.Simulation.{IsPlain, ArePlain}
-use Rattle.lowering_laws.specs.SelfContained.{is_no_window, are_no_windows}
+use Rattle.c_lowering.specs.SelfContained.{is_no_window, are_no_windows}
 use Rattle.lowering_laws.proofs.Rules.{Stands, Fits, wider, all_plain, all_narrow}
 use Rattle.lowering_laws.proofs.Good.{IsIn, AreIn, ScopeIn, not_there, not_true}
 
@@ -114,6 +114,10 @@ module _ (fields : ℕ → Option Kind) (memories : ℕ) where
   params_more f g m most [] h = tt
   params_more f g m most (p ∷ ps) h = (param_more f g m most p.kind h.0, params_more f g m most ps h.1)
 
+  -- what names stand for may be told in another way
+  pub params_alike : (f g : Forms) → ((x : ℕ) → f x ≡ g x) → (most : ℕ → ℕ) (ps : List Param) → AreGoodParams f most ps → AreGoodParams g most ps
+  params_alike f g same most ps h = params_more f g (λ x e. sym (same x) ∙ e) most ps h
+
   good_param : (scope : Scope) (forms : Forms) (most : ℕ → ℕ) (kind : ParamKind) → Fits scope forms → is_param_kind fields memories scope kind ≡ true → is_no_window kind ≡ true → has_narrow_dims most kind ≡ true → IsGoodParam forms most kind
   good_param scope forms most (ControlParam kind) stand h v k = tt
   good_param scope forms most (TensorParam cell dims memory) stand h v k = (all_plain fields scope forms stand dims (and_parts (are_controls fields plainly scope dims) _ h).0, all_narrow most dims k)
@@ -134,9 +138,10 @@ module _ (fields : ℕ → Option Kind) (memories : ℕ) where
       let w = and_parts (is_no_window p.kind) (are_no_windows ps) v in
       let n = and_parts (has_narrow_dims most p.kind) (have_narrow_dims most ps) k in
       let inner = updated forms p.binder.id (form_of p.kind) in
-      let rest = good_params ps (with_name scope p.binder (param_sort p.kind)) inner most (wider scope forms p.binder (param_sort p.kind) (form_of p.kind) stand (stands_param p.kind w.0)) r.1 w.1 n.1 in
-      (param_more forms (merged (p ∷ ps) forms) (numbers_stay scope forms (p ∷ ps) stand h) most p.kind (good_param scope forms most p.kind stand r.0 w.0 n.0),
-      params_more (merged ps inner) (merged (p ∷ ps) forms) (λ x e. sym (merged_first p ps scope forms r.1 x) ∙ e) most ps rest)
+      let rest = good_params ps (with_name scope p.binder (param_sort p.kind)) inner most (wider scope forms p.binder (param_sort p.kind) (form_of p.kind) stand (stands_param p.kind w.0)) r.1 w.1 n.1 in (
+        param_more forms (merged (p ∷ ps) forms) (numbers_stay scope forms (p ∷ ps) stand h) most p.kind (good_param scope forms most p.kind stand r.0 w.0 n.0),
+        params_more (merged ps inner) (merged (p ∷ ps) forms) (λ x e. sym (merged_first p ps scope forms r.1 x) ∙ e) most ps rest,
+      )
 
 -- ---- binders
 

@@ -1,1 +1,1 @@
-pub mod SelfContained
+pub mod Laws
