@@ -1,8 +1,8 @@
 -- Affine expressions: which are, and that scenes that agree on what they read give them the same number.
-use Rattle.std.proofs.Common.{◌≡◌, ℕ, ℤ, pos, neg_ℤ, ◌+ℤ◌, ◌-ℤ◌, ◌*ℤ◌, int_lt, int_le, Bool, true, false, ◌&&◌, ◌||◌, List, [], ◌∷◌, Option, refl, sym, ap, ap₂, ◌∙◌}
+use Rattle.std.proofs.Common.{◌≡◌, ℕ, ℤ, pos, neg_ℤ, ◌+ℤ◌, ◌-ℤ◌, ◌*ℤ◌, int_lt, int_le, true, ◌&&◌, ◌||◌, List, [], ◌∷◌, Option, refl, sym, ap, ap₂, ◌∙◌}
 use Rattle.std.specs.Int.{is_positive, int_div_euclid, int_rem_euclid}
 use Rattle.std.specs.Ordering.{int_eq}
-use Rattle.exo_tree.specs.Tree.{Kind, Control, Lit, Var, Field, StrideOf, Neg, Add, Sub, Mul, Div, Mod, Condition, True, False, Flag, FieldFlag, Lt, Le, Gt, Ge, Eq, And, Or, ConfigField}
+use Rattle.exo_tree.specs.Tree.{Kind, Control, Lit, Var, Field, StrideOf, Neg, Add, Sub, Mul, Div, Mod, Condition, True, False, Flag, FieldFlag, Lt, Le, Gt, Ge, Eq, And, Or}
 use Rattle.exo_meaning.specs.Scene.{Scene, number, numbers, holds, is_set, stride_at}
 use Rattle.exo_meaning.specs.Units as units
 use Rattle.exo_meaning.specs.Units.{Scope, Reads, with_both, sort_in, is_number, is_flag, has_dimension, is_of_literals, is_literal_number, is_control, are_controls, is_condition, field_kind}

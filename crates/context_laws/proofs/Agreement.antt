@@ -1,24 +1,24 @@
 -- Written values that agree have the same number in every scene in which names have the strides of their roots.
-use Rattle.std.proofs.Common.{◌≡◌, ℕ, ℤ, pos, ◌+ℤ◌, int_lt, int_le, ◌==◌, Bool, true, false, true≢false, ◌&&◌, ◌||◌, List, [], get_or, Option, Some, None, refl, sym, ap, ap₂, ◌∙◌, eqb-true}
+use Rattle.std.proofs.Common.{◌≡◌, ℕ, ℤ, pos, ◌+ℤ◌, int_lt, int_le, true, true≢false, ◌&&◌, ◌||◌, List, [], Option, Some, None, refl, sym, ap, ap₂, ◌∙◌, eqb-true}
 use Rattle.std.specs.Prelude.{IsSome}
 use Rattle.std.specs.Ordering.{int_eq}
-use Rattle.exo_tree.specs.Tree.{Control, Condition, True, False, Flag, FieldFlag, Lt, Le, Gt, Ge, Eq, And, Or, Argument, ControlArg, ConditionArg, Whole, Window, Procedure, Program}
-use Rattle.exo_meaning.specs.Scene.{Scene, number, holds, is_set, stride_at}
+use Rattle.exo_tree.specs.Tree.{Control, Condition, True, False, Flag, FieldFlag, Lt, Le, Gt, Ge, Eq, And, Or, ControlArg, ConditionArg, Whole, Window, Procedure, Program}
+use Rattle.exo_meaning.specs.Scene.{Scene, number, holds, is_set}
 use Rattle.exo_meaning.specs.Calls.{truth}
 use Rattle.exo_meaning.specs.Units as units
 use Rattle.exo_meaning.specs.Units.{Scope, field_kind}
-use Rattle.exo_context.specs.PlaceFacts.{argument_value, HasStrides, AgreeWell}
+use Rattle.exo_context.specs.PlaceFacts.{HasStrides, AgreeWell}
 use Rattle.affine_forms.specs.Atoms.{Valuation, Linear, value, same_terms, same_form}
-use Rattle.affine_forms.specs.Forms.{Allowed, Reading, is_affine, normal}
+use Rattle.affine_forms.specs.Forms.{Reading, is_affine, normal}
 use Rattle.affine_forms.specs.Formulas.{AllowedFlags, is_affine_condition}
 use Rattle.affine_forms.proofs.Values.{int_eq_same, same_terms_value}
 use Rattle.affine_places.specs.Roots.{Rooted, roots_of, has_extents}
 use Rattle.affine_places.specs.Readings.{entry_reading}
-use Rattle.affine_places.specs.Laws.{but_fields, but_flag_fields, stride_in, NormalAtPlace}
+use Rattle.affine_places.specs.Laws.{but_flag_fields, stride_in, NormalAtPlace}
 use Rattle.exo_places.specs.Agreement.{agree, agreement_fits, sides_agree, conditions_agree, conditions_fit}
 use Rattle.exo_facts.specs.Contexts.{values_agree}
 use Rattle.context_laws.proofs.Truths.{parts}
-use Rattle.context_laws.proofs.Affine.{Agrees, same_number}
+use Rattle.context_laws.proofs.Affine.{same_number}
 use Rattle.context_laws.proofs.Founded.{AllFounded}
 use Rattle.context_laws.proofs.Model.{model, model_is_made, model_sees, model_strides, strides}
 use Rattle.context_laws.proofs.Told.{is_rooted, allowed, may}

@@ -1,5 +1,5 @@
 -- Each root that the table tells is a parameter or an allocation, and its layout is told of it too.
-use Rattle.std.proofs.Common.{◌≡◌, ℕ, ℤ, pos, ◌==◌, Bool, true, false, not, ◌&&◌, ◌||◌, List, [], ◌∷◌, length, Option, Some, None, option_map, refl, sym, ap, ◌∙◌, subst, true≢false, eqb-true}
+use Rattle.std.proofs.Common.{◌≡◌, ℕ, pos, ◌==◌, Bool, true, false, not, ◌&&◌, ◌||◌, List, [], ◌∷◌, length, Some, refl, sym, ap, ◌∙◌, subst, true≢false, eqb-true}
 use Rattle.exo_tree.specs.Tree.{Control, Statement, Assign, Reduce, Config, Pass, If, For, Alloc, View, Call, Block, end, next, Param, ParamKind, ControlParam, TensorParam, WindowParam, Procedure}
 use Rattle.exo_meaning.specs.Scene.{Side, numbers, whole}
 use Rattle.exo_meaning.specs.Inputs.{is_buffer_of}
@@ -10,7 +10,7 @@ use Rattle.exo_context.specs.Scoped.{is_not, is_param, is_scoped, step_is_scoped
 use Rattle.affine_forms.specs.Strides.{all_affine}
 use Rattle.affine_places.specs.Roots.{Layout, Dense, Strided, Rooted, Roots, own_root, spanned, seen_through, roots_of, variables, are_extents, kind_has_extents, params_have_extents, block_has_extents, statement_has_extents, has_extents}
 use Rattle.affine_places.specs.Laws.{ranges}
-use Rattle.context_laws.proofs.Truths.{parts, one_of, on_left, on_right, self, none_some, some_injective}
+use Rattle.context_laws.proofs.Truths.{parts, one_of, none_some, some_injective}
 use Rattle.context_laws.proofs.Binders.{binds_less}
 use Rattle.context_laws.proofs.Rooted.{Agrees, StepAgrees, KindAgrees, ParamsAgree, no_root}
 use Rattle.context_laws.proofs.Sides.{map_gives, ranges_whole, thinned, ranges_thinned}

@@ -8,3 +8,5 @@ pub mod Founded
 pub mod Model
 pub mod Told
 pub mod Agreement
+pub mod Facts
+pub mod Hold

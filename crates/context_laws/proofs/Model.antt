@@ -1,8 +1,8 @@
 -- A scene in which every name that has a root is made, whatever the control values are.
-use Rattle.std.proofs.Common.{◌≡◌, ℕ, zero, suc, ℤ, pos, Bool, true, false, true≢false, List, [], ◌∷◌, get_or, Option, Some, None, option_map, slice_get, refl, sym, ap, ◌∙◌, subst}
+use Rattle.std.proofs.Common.{◌≡◌, ℕ, ℤ, pos, Bool, true, true≢false, List, [], get_or, Option, Some, None, option_map, slice_get, refl, sym, ap, ◌∙◌, subst}
 use Rattle.std.specs.Prelude.{IsSome}
 use Rattle.exo_tree.specs.Tree.{I8, Control}
-use Rattle.exo_meaning.specs.Scene.{Shape, Side, Seen, Scene, number, numbers, strides_of, strides_seen, stride_at}
+use Rattle.exo_meaning.specs.Scene.{Shape, Seen, Scene, numbers, strides_of, strides_seen, stride_at}
 use Rattle.exo_meaning.specs.Run.{tensor, row_major}
 use Rattle.affine_forms.specs.Strides.{all_affine}
 use Rattle.affine_places.specs.Roots.{Layout, Dense, Strided, Rooted, Roots, variables}

@@ -1,13 +1,13 @@
 -- The table of roots says of each name what its binder says.
 use Rattle.std.proofs.Common.{◌≡◌, ℕ, ◌==◌, Bool, true, false, cond, not, ◌&&◌, ◌||◌, List, [], ◌∷◌, ◌++◌, length, map, Option, Some, None, option_map, refl, sym, ap, ◌∙◌, true≢false, eqb-true}
 use Rattle.exo_tree.specs.Tree.{Coord, Statement, Assign, Reduce, Config, Pass, If, For, Alloc, View, Call, Block, end, next, Param, ParamKind, ControlParam, TensorParam, WindowParam, Procedure}
-use Rattle.exo_meaning.specs.Unseen.{in_control, in_controls, in_condition, in_coords}
+use Rattle.exo_meaning.specs.Unseen.{in_control, in_condition, in_coords}
 use Rattle.exo_meaning.specs.Binders.{binders}
 use Rattle.exo_meaning.specs.Units.{are_distinct}
 use Rattle.exo_meaning.specs.Inputs.{is_buffer_of}
 use Rattle.exo_context.specs.Sound.{binds}
 use Rattle.exo_context.specs.Scoped.{is_not, is_param, is_scoped, step_is_scoped, has_binder, step_has_binder}
-use Rattle.affine_places.specs.Roots.{Layout, Dense, Strided, Rooted, Roots, no_roots, own_root, with_root, with_kind, with_params, seen_through, with_view, with_block, with_statement, roots_of}
+use Rattle.affine_places.specs.Roots.{Dense, Strided, Rooted, Roots, no_roots, own_root, with_kind, with_params, seen_through, with_view, with_block, with_statement, roots_of}
 use Rattle.context_laws.proofs.Truths.{parts, neither, both_false, one_of, on_left, on_right, denied, contrary, self}
 use Rattle.context_laws.proofs.Binders.{IsApart, StepIsApart, apart_there, step_apart_there, binds_less, Among, split, not_bound, apart}
 
@@ -84,8 +84,8 @@ module _ (table : Roots) where
         let behind : ℕ → Bool = λ x. has_binder b x || later x in (
           step_agrees a bound behind roots s.0 apart.0 (λ x k. assoc (step_has_binder a x) (has_binder b x) (later x) (new x k)) (λ x k. none x (on_left (step_has_binder a x) (has_binder b x) k)) (λ x k. (let p = neither (has_binder b x) (later x) k in is x p.1 ∙ block_frame b (with_statement a roots) x p.0)),
           block_agrees b (λ y. binds a y || bound y) later (with_statement a roots) s.1 apart.1
-          (λ x k. one_of (binds a x) (bound x) k (λ j. step_apart_there behind a apart.0 x (binds_less a x j)) (λ j. (neither (step_has_binder a x) (has_binder b x || later x) (assoc (step_has_binder a x) (has_binder b x) (later x) (new x j))).1))
-          (λ x k. step_frame a roots x (contrary (step_has_binder a x) (λ j. true≢false (sym (on_left (has_binder b x) (later x) k) ∙ step_apart_there behind a apart.0 x j))) ∙ none x (on_right (step_has_binder a x) (has_binder b x) k)) is,
+              (λ x k. one_of (binds a x) (bound x) k (λ j. step_apart_there behind a apart.0 x (binds_less a x j)) (λ j. (neither (step_has_binder a x) (has_binder b x || later x) (assoc (step_has_binder a x) (has_binder b x) (later x) (new x j))).1))
+              (λ x k. step_frame a roots x (contrary (step_has_binder a x) (λ j. true≢false (sym (on_left (has_binder b x) (later x) k) ∙ step_apart_there behind a apart.0 x j))) ∙ none x (on_right (step_has_binder a x) (has_binder b x) k)) is,
         )
 
     step_agrees : (a : Statement) (bound later : ℕ → Bool) (roots : Roots) → step_is_scoped bound a ≡ true → StepIsApart later a → ((x : ℕ) → bound x ≡ true → (step_has_binder a x || later x) ≡ false) → ((x : ℕ) → step_has_binder a x ≡ true → roots x ≡ None) → ((x : ℕ) → later x ≡ false → table x ≡ with_statement a roots x) → StepAgrees a
@@ -98,15 +98,15 @@ module _ (table : Roots) where
         let behind : ℕ → Bool = λ x. has_binder b x || later x in (
           block_agrees a bound behind roots s.0 apart.0 (λ x k. assoc (has_binder a x) (has_binder b x) (later x) (new x k)) (λ x k. none x (on_left (has_binder a x) (has_binder b x) k)) (λ x k. (let p = neither (has_binder b x) (later x) k in same x p.1 ∙ block_frame b (with_block a roots) x p.0)),
           block_agrees b bound later (with_block a roots) s.1 apart.1 (λ x k. (neither (has_binder a x) (has_binder b x || later x) (assoc (has_binder a x) (has_binder b x) (later x) (new x k))).1)
-          (λ x k. block_frame a roots x (contrary (has_binder a x) (λ j. true≢false (sym (on_left (has_binder b x) (later x) k) ∙ apart_there behind a apart.0 x j))) ∙ none x (on_right (has_binder a x) (has_binder b x) k)) same,
+              (λ x k. block_frame a roots x (contrary (has_binder a x) (λ j. true≢false (sym (on_left (has_binder b x) (later x) k) ∙ apart_there behind a apart.0 x j))) ∙ none x (on_right (has_binder a x) (has_binder b x) k)) same,
         )
     step_agrees (For i lo hi b) bound later roots scoped apart new none same =
         let s = parts (not (in_control (is_not bound) lo || in_control (is_not bound) hi)) (is_scoped (λ y. (y == i.id) || bound y) b) (parts (not (bound i.id)) (not (in_control (is_not bound) lo || in_control (is_not bound) hi) && is_scoped (λ y. (y == i.id) || bound y) b) scoped).1 in
         let p = neither (has_binder b i.id) (later i.id) apart.0 in (
           same i.id p.1 ∙ block_frame b roots i.id p.0 ∙ none i.id (on_left (i.id == i.id) (has_binder b i.id) (self i.id)),
           block_agrees b (λ y. (y == i.id) || bound y) later roots s.1 apart.1
-          (λ x k. one_of (x == i.id) (bound x) k (λ j. ap (λ y. has_binder b y || later y) (eqb-true x i.id j) ∙ apart.0) (λ j. (let q = neither ((x == i.id) || has_binder b x) (later x) (new x j) in both_false (has_binder b x) (later x) (neither (x == i.id) (has_binder b x) q.0).1 q.1)))
-          (λ x k. none x (on_right (x == i.id) (has_binder b x) k)) same,
+              (λ x k. one_of (x == i.id) (bound x) k (λ j. ap (λ y. has_binder b y || later y) (eqb-true x i.id j) ∙ apart.0) (λ j. (let q = neither ((x == i.id) || has_binder b x) (later x) (new x j) in both_false (has_binder b x) (later x) (neither (x == i.id) (has_binder b x) q.0).1 q.1)))
+              (λ x k. none x (on_right (x == i.id) (has_binder b x) k)) same,
         )
     step_agrees (Alloc y cell es memory) bound later roots scoped apart new none same = same y.id apart ∙ ap (λ t. cond t (Some (own_root y.id (Dense es) (length es))) (roots y.id)) (self y.id)
     step_agrees (View w y coords) bound later roots scoped apart new none same =
@@ -136,8 +136,8 @@ module _ (table : Roots) where
       let own : table x ≡ with_kind x p.kind roots x = same x (on_left (x == x) (Among ids x) (self x)) ∙ params_frame ps (with_kind x p.kind roots) x (denied (Among ids x) d.0) in (
         kind_agrees x p.kind roots (none x (on_left (x == x) (Among ids x) (self x))) own,
         params_agree ps (with_kind x p.kind roots) d.1
-        (λ y k. kind_frame x p.kind roots y (contrary (y == x) (λ j. true≢false (sym k ∙ ap (Among ids) (eqb-true y x j) ∙ denied (Among ids x) d.0))) ∙ none y (on_right (y == x) (Among ids y) k))
-        (λ y k. same y (on_right (y == x) (Among ids y) k)),
+            (λ y k. kind_frame x p.kind roots y (contrary (y == x) (λ j. true≢false (sym k ∙ ap (Among ids) (eqb-true y x j) ∙ denied (Among ids x) d.0))) ∙ none y (on_right (y == x) (Among ids y) k))
+            (λ y k. same y (on_right (y == x) (Among ids y) k)),
       )
 
 param_among : (ps : List Param) (x : ℕ) → is_buffer_of x ps ≡ true → Among (map (λ p. p.binder.id) ps) x ≡ true

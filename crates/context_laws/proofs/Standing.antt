@@ -1,23 +1,21 @@
 -- In each state that a run comes to, the names in scope are made as their roots say.
-use Rattle.std.proofs.Common.{◌≡◌, ℕ, ℤ, pos, ◌==◌, Bool, true, false, cond, not, ◌&&◌, ◌||◌, List, [], ◌∷◌, length, Option, Some, None, option_map, refl, sym, ap, ◌∙◌, subst, true≢false, eqb-true}
-use Rattle.exo_tree.specs.Tree.{Binder, Kind, Index, Control, Coord, Statement, Assign, Reduce, Config, Pass, If, For, Alloc, View, Call, Block, next, Param, ParamKind, ControlParam, TensorParam, WindowParam, Procedure}
+use Rattle.std.proofs.Common.{◌≡◌, ℕ, ℤ, pos, ◌==◌, Bool, true, false, cond, not, ◌&&◌, ◌||◌, List, [], ◌∷◌, Option, Some, None, option_map, refl, sym, ap, ◌∙◌, subst, true≢false, eqb-true}
+use Rattle.exo_tree.specs.Tree.{Binder, Kind, Index, Control, Statement, Assign, Reduce, Config, Pass, If, For, Alloc, View, Call, Block, Param, ParamKind, ControlParam, TensorParam, WindowParam}
 use Rattle.exo_tree.specs.Context.{Context, Here, After, InLoop, InThen, InElse, fill}
-use Rattle.exo_meaning.specs.Scene.{Shape, Seen, Scene, numbers, narrowed, window, whole, then_do}
-use Rattle.exo_meaning.specs.State.{State}
+use Rattle.exo_meaning.specs.Scene.{Seen, Scene, numbers, narrowed, whole, then_do}
 use Rattle.exo_meaning.specs.Calls.{Callee}
 use Rattle.exo_meaning.specs.Run.{tensor, roots_after, row_major}
 use Rattle.exo_meaning.specs.Inputs.{AreArguments, IsArgument, is_buffer_of}
 use Rattle.exo_meaning.specs.Unseen.{in_control, in_condition, in_coords}
-use Rattle.exo_meaning.specs.Units.{Sort, ControlName, BufferName, Scope, sort_in, with_name, is_number, plainly, with_fields, is_control, are_controls, is_condition, is_new, is_rank, is_empty, is_short, is_block, is_statement, is_param_kind, are_params, param_sort, scope_after}
-use Rattle.exo_context.specs.Sound.{IsSameName, binds, on_way}
-use Rattle.exo_context.specs.Scoped.{is_not, is_param, is_scoped, step_is_scoped}
+use Rattle.exo_meaning.specs.Units.{Sort, ControlName, Scope, sort_in, with_name, is_number, plainly, with_fields, is_control, are_controls, is_condition, is_new, is_empty, is_short, is_block, is_statement, is_param_kind, are_params, param_sort, scope_after}
+use Rattle.exo_context.specs.Sound.{binds, on_way}
+use Rattle.exo_context.specs.Scoped.{is_not, is_scoped, step_is_scoped}
 use Rattle.exo_context.specs.Made as made
 use Rattle.affine_forms.specs.Forms.{Allowed}
-use Rattle.affine_forms.specs.Strides.{all_affine}
-use Rattle.affine_places.specs.Roots.{Layout, Dense, Strided, Rooted, Roots, own_root, seen_through, spanned}
-use Rattle.affine_places.specs.Laws.{ranges, IsDeclared, IsMade}
-use Rattle.context_laws.proofs.Truths.{parts, neither, one_of, on_left, on_right, self, none_some, some_injective}
-use Rattle.context_laws.proofs.Affine.{Agrees, Allows, same_numbers, all_are_affine}
+use Rattle.affine_places.specs.Roots.{Dense, Strided, Rooted, Roots, seen_through, spanned}
+use Rattle.affine_places.specs.Laws.{ranges, IsMade}
+use Rattle.context_laws.proofs.Truths.{parts, one_of, on_left, on_right, self, none_some}
+use Rattle.context_laws.proofs.Affine.{Allows, same_numbers, all_are_affine}
 use Rattle.context_laws.proofs.Rooted.{Agrees as TableAgrees, StepAgrees, KindAgrees, ParamsAgree}
 use Rattle.context_laws.proofs.Sides.{map_gives, ranges_whole, ranges_narrowed}
 

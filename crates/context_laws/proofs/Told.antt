@@ -1,7 +1,7 @@
 -- What a well-formed procedure writes into fields and asks of conditions is affine over names that have roots.
-use Rattle.std.proofs.Common.{◌≡◌, ◌≤ℤ◌, ℕ, zero, suc, ℤ, pos, ◌==◌, Bool, true, false, cond, not, ◌&&◌, ◌||◌, List, [], ◌∷◌, ◌++◌, map, Option, Some, None, option_map, refl, sym, ap, ap₂, ◌∙◌, subst, true≢false, eqb-true}
+use Rattle.std.proofs.Common.{◌≡◌, ◌≤ℤ◌, ℕ, zero, suc, pos, ◌==◌, Bool, true, false, cond, not, ◌&&◌, ◌||◌, List, [], ◌∷◌, ◌++◌, map, Option, Some, None, option_map, refl, sym, ap, ◌∙◌, subst, true≢false, eqb-true}
 use Rattle.std.specs.List.{list_all}
-use Rattle.exo_tree.specs.Tree.{Binder, Cell, Kind, Size, Index, Truth, Stride, Control, Var, Condition, Argument, ControlArg, ConditionArg, Whole, Window, Coord, Statement, Assign, Reduce, Config, Pass, If, For, Alloc, View, Call, Block, end, next, Param, ParamKind, ControlParam, TensorParam, WindowParam, ConfigField}
+use Rattle.exo_tree.specs.Tree.{Binder, Cell, Kind, Size, Index, Truth, Stride, Control, Condition, Argument, ControlArg, ConditionArg, Whole, Window, Coord, Statement, Assign, Reduce, Config, Pass, If, For, Alloc, View, Call, Block, end, next, Param, ParamKind, ControlParam, TensorParam, WindowParam, ConfigField}
 use Rattle.exo_tree.specs.Context.{Context, Here, After, InLoop, InThen, InElse, fill}
 use Rattle.exo_tree.specs.Places.{Branch, Main, Else, Path}
 use Rattle.exo_meaning.specs.Scene.{Scene}
@@ -15,14 +15,14 @@ use Rattle.exo_context.specs.Sound.{binds, on_way}
 use Rattle.exo_context.specs.Sorted.{scope_at}
 use Rattle.exo_context.specs.Facts.{Fact, Holds, Fails}
 use Rattle.exo_context.specs.Fields.{writes_field}
-use Rattle.exo_context.specs.Known.{kind_facts, param_facts, params_facts}
+use Rattle.exo_context.specs.Known.{param_facts, params_facts}
 use Rattle.exo_context.specs.KnownFields.{KnownFields, Telling, path_in, forgotten, after}
 use Rattle.exo_context.specs.PlaceFacts.{PlaceFact, facts_round, all_written, step_all_written}
-use Rattle.affine_forms.specs.Forms.{Allowed, is_affine}
+use Rattle.affine_forms.specs.Forms.{is_affine}
 use Rattle.affine_forms.specs.Formulas.{AllowedFlags, is_affine_condition}
 use Rattle.affine_places.specs.Roots.{Rooted, Roots, seen_through}
 use Rattle.affine_places.specs.Laws.{but_fields, but_flag_fields}
-use Rattle.context_laws.proofs.Truths.{parts, joined, one_of, on_left, on_right, self}
+use Rattle.context_laws.proofs.Truths.{parts, joined, one_of, on_left, on_right}
 use Rattle.context_laws.proofs.Affine.{Allows, affine, affine_condition}
 use Rattle.context_laws.proofs.Rooted.{Agrees, StepAgrees, KindAgrees, ParamsAgree}
 use Rattle.context_laws.proofs.Standing.{has_sort, Names, names_more, names_after}

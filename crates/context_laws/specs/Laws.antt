@@ -1,5 +1,5 @@
 -- What is known at a place of a procedure holds in each state that a run comes to there.
-use Rattle.std.specs.Prelude.{◌≡◌, ℕ, true, List, [], length, Option, Some, None}
+use Rattle.std.specs.Prelude.{◌≡◌, true, List, [], length, Option, Some, None}
 use Rattle.exo_tree.specs.Tree.{Control, Condition, Procedure, ConfigField, Program}
 use Rattle.exo_tree.specs.Places.{Path, Opened, opened}
 use Rattle.exo_meaning.specs.Scene.{number, holds}

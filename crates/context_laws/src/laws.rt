@@ -11,7 +11,6 @@ pub fn contexts_hold()
     exo_context::laws::names_stay_as_made();
     exo_context::laws::opened_blocks_are_there();
     exo_context::laws::well_formed_names_are_in_scope();
-    exo_context::laws::free_names_stand_for_nothing();
     exo_places::laws::well_formed_procedures_are_affine();
     affine_places::laws::normal_is_exact_at_places();
     affine_places::laws::formulas_are_exact_at_places();
