@@ -1,17 +1,16 @@
 -- What is owed by the claims of one place after the other.
-use Rattle.std.proofs.Common.{◌≡◌, ℕ, zero, suc, ◌+◌, ◌<◌, ◌≤◌, ◌==◌, Bool, true, false, not, cond, ◌&&◌, if◌then◌else◌, List, [], ◌∷◌, ◌++◌, map, length, take, get_or, slice_get, Option, Some, None, Result, Ok, Err, Vec, append-nil, append_assoc, refl, sym, ap, ap₂, ◌∙◌, subst, arith, true≢false}
+use Rattle.std.proofs.Common.{◌≡◌, ℕ, suc, ◌+◌, ◌<◌, ◌≤◌, ◌==◌, Bool, true, false, not, cond, ◌&&◌, List, [], ◌∷◌, ◌++◌, map, length, take, slice_get, Option, Some, None, Result, Ok, Err, Vec, append-nil, append_assoc, refl, sym, ap, ◌∙◌, subst, arith}
 use Rattle.std.specs.List.{list_all, position_or_len}
 use Rattle.std.specs.Result.{IsErrAnd}
 use Rattle.std.proofs.lemmas.Bool.{and_parts, and_from}
 use Rattle.std.proofs.lemmas.Bool.Decides.{nat_tests}
-use Rattle.std.proofs.lemmas.List.{map-append, length-map}
 use Rattle.std.proofs.lemmas.List.Folds.{list_all-append}
 use Rattle.std.proofs.lemmas.Grind.{flat_map-append}
 use Rattle.exo_tree.specs.Tree.{Procedure, Program}
 use Rattle.exo_tree.specs.Places.{Branch, Main, Else, Path}
 use Rattle.affine_forms.specs.declared.error.FormError.TheVariants as form
 use Rattle.affine_forms.specs.Formulas.{condition_keeps_rules}
-use Rattle.affine_systems.specs.Outcomes.{Owed, plain_obligation}
+use Rattle.affine_systems.specs.Outcomes.{Owed}
 use Rattle.affine_systems.specs.declared.obligation.Obligation.{Obligation}
 use Rattle.bounds_check.specs.Claim.{Placed}
 use Rattle.bounds_check.specs.Claims.{claims_of}

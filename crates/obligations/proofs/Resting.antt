@@ -6,7 +6,7 @@ use Rattle.std.proofs.lemmas.Bool.{and_parts}
 use Rattle.std.proofs.lemmas.Bool.Decides.{nat_tests}
 use Rattle.std.proofs.lemmas.List.{drop_all}
 use Rattle.exo_tree.specs.Tree.{Procedure, Program}
-use Rattle.exo_tree.specs.Places.{Branch, Main, Else, Step, Path}
+use Rattle.exo_tree.specs.Places.{Branch, Main, Else, Path}
 use Rattle.affine_forms.specs.declared.error.FormError.{FormError}
 use Rattle.affine_forms.specs.declared.error.FormError.TheVariants as form
 use Rattle.affine_forms.specs.Outcomes.{IsWide}

@@ -1,10 +1,9 @@
 -- Each claim of a well-formed procedure may be owed.
-use Rattle.std.proofs.Common.{◌≡◌, ℕ, zero, suc, ◌+◌, nat_lt, Bool, true, ◌&&◌, List, [], ◌∷◌, ◌++◌, length, Option, Some, slice_get, refl, sym, ap, ◌∙◌, subst, arith}
+use Rattle.std.proofs.Common.{◌≡◌, ℕ, zero, suc, ◌+◌, nat_lt, Bool, true, ◌&&◌, List, [], ◌∷◌, ◌++◌, length, Option, Some, slice_get, refl, ap, ◌∙◌, subst, arith}
 use Rattle.std.specs.List.{list_all}
-use Rattle.std.specs.Option.{is_some}
 use Rattle.std.proofs.lemmas.Bool.{and_parts, and_from}
 use Rattle.exo_tree.specs.Tree.{Kind, Procedure, ConfigField, Program}
-use Rattle.exo_tree.specs.Places.{Main, Path, opened_in}
+use Rattle.exo_tree.specs.Places.{Main, Path}
 use Rattle.exo_meaning.specs.Calls.{Callee}
 use Rattle.exo_meaning.specs.Run.{callee_in, world_of, kinds_of}
 use Rattle.exo_meaning.specs.Units.{scope_of, with_both, is_condition, is_short, levels, IsProcedure, AreProcedures, IsUnit, field_kind}
@@ -14,10 +13,9 @@ use Rattle.exo_places.specs.Rules.{block_keeps_rules, procedure_keeps_rules}
 use Rattle.exo_facts.specs.Contexts.{may_be_walked}
 use Rattle.exo_facts.specs.Laws.{WellFormedMayBeWalked}
 use Rattle.exo_show.specs.Words.{words_of}
-use Rattle.bounds_check.specs.Claim.{Placed}
 use Rattle.bounds_check.specs.Extents.{no_extents, with_params, extents_of}
 use Rattle.bounds_check.specs.Claims.{placed_at, param_claims, block_claims, claims_of}
-use Rattle.obligations.specs.Laws.{is_place_of, may_be_owed, ClaimsMayBeOwed}
+use Rattle.obligations.specs.Laws.{is_place_of, ClaimsMayBeOwed}
 use Rattle.obligations.proofs.Affine.{all_pass, condition_affine, params_affine}
 use Rattle.obligations.proofs.Affines.{claim_affine, appended, placed_affine, CalleeAffine, AreCalleesAffine, AreAffine, params_extents, params_claims, block_affine, block_extents}
 use Rattle.obligations.proofs.Places.{step, own_places, block_places}

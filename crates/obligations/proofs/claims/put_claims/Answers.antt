@@ -1,6 +1,5 @@
-use Rattle.std.proofs.Common.{◌≡◌, Some, slice_get, refl, sym, ap, ◌∙◌, subst}
+use Rattle.std.proofs.Common.{refl, subst}
 use Rattle.std.specs.Prelude.{IfSome, Ok, Err}
-use Rattle.exo_tree.specs.Tree.{Procedure}
 use Rattle.exo_tree.specs.PlainUnit.{program}
 use Rattle.affine_forms.specs.Formulas.{condition_keeps_rules}
 use Rattle.bounds_check.specs.PlainClaim.{placed}
