@@ -1,6 +1,5 @@
 -- Of lists of obligations.
-use Rattle.std.proofs.Common.{◌≡◌, ℕ, zero, suc, ◌+◌, ◌<◌, List, [], ◌∷◌, ◌++◌, length, map, refl, arith, All}
-use Rattle.std.specs.Prelude.{slice_index_or}
+use Rattle.std.proofs.Common.{suc, List, [], ◌∷◌, ◌++◌, map, arith, All}
 use Rattle.std.specs.List.{AllByRecursion}
 use Rattle.exo_meaning.specs.Orders.{Each}
 

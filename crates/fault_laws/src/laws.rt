@@ -9,7 +9,5 @@ pub fn shown_procedures_do_not_fault()
     claim_laws::laws::procedures_may_run();
     claim_laws::laws::claims_are_formed();
     claim_laws::laws::claims_suffice();
-    context_laws::laws::contexts_hold();
-    context_laws::laws::well_formed_is_allowed();
-    affine_systems::laws::shown_claims_hold();
+    context_laws::laws::shown_conditions_hold();
 }
