@@ -14,3 +14,7 @@ IsShown u k = (p : Procedure) → slice_get u.procedures k ≡ Some p → All (�
 -- in a well-formed unit, a procedure that is shown, with all that it calls, directly or not, never faults on an admissible input
 abbrev pub ShownProceduresDoNotFault : Type 0
 ShownProceduresDoNotFault = (u : Program) (k : ℕ) → IsUnit u → ((j : ℕ) → LeadsTo u k j → IsShown u j) → NeverFaults u k
+
+-- no admissible input makes any procedure of the unit fault
+abbrev pub NothingFaults : Program → Type 0
+NothingFaults u = (k : ℕ) → NeverFaults u k
