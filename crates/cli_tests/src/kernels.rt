@@ -22,13 +22,15 @@ fn answer<R: Threads + Sync + AllocGlobal>(
 
 /// Whether it is accepted with a C that ends so.
 fn ends_with(ran: &Outcome, text: &str) -> bool {
-    ran.status == Status::Ok && ran.err.bytes().len() == 0
+    ran.status == Status::Ok
+        && ran.err.bytes().len() == 0
         && ran.out.bytes().ends_with(text.as_bytes())
 }
 
 /// Whether it is refused with this message, and nothing is printed.
 fn refuses(ran: &Outcome, message: &str) -> bool {
-    ran.status == Status::Refused && ran.out.bytes().len() == 0
+    ran.status == Status::Refused
+        && ran.out.bytes().len() == 0
         && ran.err.bytes() == message.as_bytes()
 }
 
@@ -130,8 +132,7 @@ fn what_is_not_printed_is_named(rt: HostRuntime) -> Result<(), Fail> {
 }
 
 /// A procedure whose window parameter is not printed, beside one that is.
-const BESIDE: &str =
-    "@proc\ndef g(w: [i32][4]):\n    w[0] = 1\n@proc\ndef f(n: size):\n    pass\n";
+const BESIDE: &str = "@proc\ndef g(w: [i32][4]):\n    w[0] = 1\n@proc\ndef f(n: size):\n    pass\n";
 
 #[test]
 fn what_is_not_emitted_may_have_any_form(rt: HostRuntime) -> Result<(), Fail> {
@@ -148,11 +149,28 @@ const DEEP: &str =
 
 #[test]
 fn the_first_match_in_preorder_is_commuted(rt: HostRuntime) -> Result<(), Fail> {
-    let sum = answer(&rt, DEEP, "p = commute_expr(f, 'x[_] = _', '_ + _')\nemit(p)\n")?;
-    assert!(rt; ends_with(&sum, "\nvoid f(int64_t n, int32_t *y, int32_t *x) {\n    if ((1LL < n)) {\n        y[0LL] = (int32_t)(1u + 2u);\n    } else {\n        for (int64_t i = 0LL; i < n; i++) {\n            x[i] = (int32_t)((uint32_t)x[i] + (3u + 4u));\n            x[i] = (int32_t)(6u + 5u);\n        }\n    }\n    x[0LL] = (int32_t)(7u * 8u);\n}\n"));
-    let product = answer(&rt, DEEP, "p = commute_expr(f, 'x[_] = _', '_ * _')\nemit(p)\n")?;
+    let sum = answer(
+        &rt,
+        DEEP,
+        "p = commute_expr(f, 'x[_] = _', '_ + _')\nemit(p)\n",
+    )?;
+    assert!(rt;
+        ends_with(
+            &sum,
+            "\nvoid f(int64_t n, int32_t *y, int32_t *x) {\n    if ((1LL < n)) {\n        y[0LL] = (int32_t)(1u + 2u);\n    } else {\n        for (int64_t i = 0LL; i < n; i++) {\n            x[i] = (int32_t)((uint32_t)x[i] + (3u + 4u));\n            x[i] = (int32_t)(6u + 5u);\n        }\n    }\n    x[0LL] = (int32_t)(7u * 8u);\n}\n"
+        )
+    );
+    let product = answer(
+        &rt,
+        DEEP,
+        "p = commute_expr(f, 'x[_] = _', '_ * _')\nemit(p)\n",
+    )?;
     assert!(rt; refuses(&product, "exoc: s.py:1: commute_expr WrongShape\n"));
-    let none = answer(&rt, DEEP, "p = commute_expr(f, 'z[_] = _', '_ * _')\nemit(p)\n")?;
+    let none = answer(
+        &rt,
+        DEEP,
+        "p = commute_expr(f, 'z[_] = _', '_ * _')\nemit(p)\n",
+    )?;
     assert!(rt; refuses(&none, "exoc: s.py:1: commute_expr NoSuchPattern\n"));
     Ok(())
 }
@@ -166,8 +184,17 @@ const VIEWED: &str =
 
 #[test]
 fn a_name_stands_for_what_is_in_scope(rt: HostRuntime) -> Result<(), Fail> {
-    let ran = answer(&rt, INNER, "p = commute_expr(f, 't[_] = _', '_ + _')\nemit(p)\n")?;
-    assert!(rt; ends_with(&ran, "    } else {\n        int32_t t[1];\n        t[0LL] = (int32_t)(2u + 1u);\n        y[0LL] = (int32_t)(uint32_t)t[0LL];\n    }\n}\n"));
+    let ran = answer(
+        &rt,
+        INNER,
+        "p = commute_expr(f, 't[_] = _', '_ + _')\nemit(p)\n",
+    )?;
+    assert!(rt;
+        ends_with(
+            &ran,
+            "    } else {\n        int32_t t[1];\n        t[0LL] = (int32_t)(2u + 1u);\n        y[0LL] = (int32_t)(uint32_t)t[0LL];\n    }\n}\n"
+        )
+    );
     let view = answer(&rt, VIEWED, "p = commute_expr(f, 't[_] = _', '_ + _')\n")?;
     assert!(rt; refuses(&view, "exoc: s.py:1: commute_expr WrongShape\n"));
     Ok(())
