@@ -1,5 +1,5 @@
 -- The depth of the recursion, and what is known when the first statements of a block were looked at.
-use Rattle.std.proofs.Common.{◌≡◌, ◌+◌, ◌*◌}
+use Rattle.std.proofs.Common.{◌+◌, ◌*◌}
 use Rattle.exo_tree.specs.Nodes.{nodes, nodes_of}
 use Rattle.exo_tree.specs.PlainStatement.{statement}
 use Rattle.exo_cli.proofs.Commuting.{Looked}

@@ -1,5 +1,4 @@
 use Rattle.std.proofs.Common.{◌≡◌, sym, ap, ◌∙◌}
-use Rattle.exo_tree.specs.Tree.{block}
 use Rattle.exo_tree.specs.Plain.{procedure}
 use Rattle.exo_cli.specs.Commute.{Made, then_made, commuted_in, with_body, commute_expr}
 use Rattle.exo_cli.proofs.Kept.{commuted_refines}
