@@ -11,3 +11,4 @@ pub mod Agreement
 pub mod Facts
 pub mod Hold
 pub mod Shown
+pub mod Instances
