@@ -10,5 +10,6 @@ pub mod Built
 pub mod Rules
 pub mod Forwarding
 pub mod Unique
+pub mod Counted
 pub mod Headline
 pub mod Starting
