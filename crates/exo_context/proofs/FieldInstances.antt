@@ -13,7 +13,7 @@ use Rattle.exo_meaning.specs.Inputs.{IsAdmissible, IsOfKind}
 use Rattle.exo_context.specs.Context.{ComesTo}
 use Rattle.exo_context.specs.Sorted.{MayRun}
 use Rattle.exo_context.specs.KnownFields.{Known, UnknownAt, AtEntry, at_entry, Telling, after, known_fields}
-use Rattle.exo_context.specs.PlaceFacts.{Numbers, AreNumbers, AgreeWell, argument_value, unit_telling, place_facts}
+use Rattle.exo_context.specs.PlaceFacts.{Strides, StridesStand, Numbers, AreNumbers, AgreeWell, argument_value, unit_telling, place_facts}
 use Rattle.exo_context.proofs.Parts.{none_some, some_injective}
 use Rattle.exo_context.proofs.PlaceFacts.{place_facts_law, plain_telling}
 
@@ -197,35 +197,37 @@ literal_is (ConditionArg c) m h scene = absurd (none_some h)
 literal_is (Whole x) m h scene = absurd (none_some h)
 literal_is (Window x coords) m h scene = absurd (none_some h)
 
-literals_agree : AgreeWell same_literals
-literals_agree a b h scene = go (literal a) refl (literal b) refl h
-  where
-    same : (m n : ℤ) → int_eq m n ≡ true → m ≡ n
-    same m n k = grind (arith, ints)
+-- whatever the strides are
+module _ (steps : Strides) (stand : StridesStand world reader input steps) where
+  literals_agree : AgreeWell steps (λ f a. true) same_literals
+  literals_agree f a b one two h scene have = go (literal a) refl (literal b) refl h
+    where
+      same : (m n : ℤ) → int_eq m n ≡ true → m ≡ n
+      same m n k = grind (arith, ints)
 
-    go : (o : Option ℤ) → literal a ≡ o → (r : Option ℤ) → literal b ≡ r → same_number o r ≡ true → argument_value scene a ≡ argument_value scene b
-    go None i r j k = absurd (true≢false (sym k))
-    go (Some m) i None j k = absurd (true≢false (sym k))
-    go (Some m) i (Some n) j k = literal_is a m i scene ∙ same m n k ∙ sym (literal_is b n j scene)
+      go : (o : Option ℤ) → literal a ≡ o → (r : Option ℤ) → literal b ≡ r → same_number o r ≡ true → argument_value scene a ≡ argument_value scene b
+      go None i r j k = absurd (true≢false (sym k))
+      go (Some m) i None j k = absurd (true≢false (sym k))
+      go (Some m) i (Some n) j k = literal_is a m i scene ∙ same m n k ∙ sym (literal_is b n j scene)
 
-numbers_there : (v : Numbers) × AreNumbers world input at_store (known_fields tell there store) (place_facts tell reader there store) v
-numbers_there = place_facts_law fields 1 [] reader may (λ a. a) same_literals (plain_telling fields 1 [] reader may) literals_agree there store refl input at_store good comes
+  numbers_there : (v : Numbers) × AreNumbers world input at_store steps (λ f a. true) (known_fields tell there store) (place_facts tell reader there store) v
+  numbers_there = place_facts_law fields 1 [] reader may (λ a. a) same_literals (λ f a. true) (plain_telling fields 1 [] reader may) refl input steps good stand literals_agree there store at_store refl comes
 
-abbrev its : Numbers
-its = numbers_there.0
+  abbrev its : Numbers
+  its = numbers_there.0
 
--- the field is n + 1 there
-field_is_known : pos 3 ≡ its.scene.control 0 +ℤ pos 1
-field_is_known = numbers_there.1.fields 0
+  -- the field is n + 1 there
+  field_is_known : pos 3 ≡ its.scene.control 0 +ℤ pos 1
+  field_is_known = numbers_there.1.fields 0
 
--- the stride that an assertion speaks of
-stride_is_two : int_eq (stride_at its.scene (its.scene.views 1) 0) (pos 2) ≡ true
-stride_is_two = numbers_there.1.facts.1.0
+  -- the stride that an assertion speaks of
+  stride_is_two : int_eq (stride_at its.scene (its.scene.views 1) 0) (pos 2) ≡ true
+  stride_is_two = numbers_there.1.facts.1.0
 
--- the field that an assertion speaks of is the one at entry
-field_was_n : int_eq (its.scene.fields 0) (its.scene.control 0) ≡ true
-field_was_n = numbers_there.1.facts.1.1.0
+  -- the field that an assertion speaks of is the one at entry
+  field_was_n : int_eq (its.scene.fields 0) (its.scene.control 0) ≡ true
+  field_was_n = numbers_there.1.facts.1.1.0
 
--- the field that the condition speaks of is the one that the loop left
-field_was_less : int_lt (its.unknown 0 first) (its.scene.control 0) ≡ true
-field_was_less = numbers_there.1.facts.1.1.1.0
+  -- the field that the condition speaks of is the one that the loop left
+  field_was_less : int_lt (its.unknown 0 first) (its.scene.control 0) ≡ true
+  field_was_less = numbers_there.1.facts.1.1.1.0
