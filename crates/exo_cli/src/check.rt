@@ -8,8 +8,9 @@ ghost use Rattle.obligations.specs.Obligations.{Fault};
 ghost use Rattle.obligations.specs.Outcomes.{IsRefusal};
 ghost use Rattle.unit_check.specs.Checked.{Checked};
 ghost use Rattle.unit_check.specs.Outcomes.{IsRefused};
-ghost use Rattle.exo_cli.specs.Answer.{IsVerdict};
+ghost use Rattle.exo_cli.specs.Answer.{Rejected, IsVerdict};
 ghost use Rattle.exo_cli.specs.Checking.{IsChecked, fault_text, form_text, told, typed, well_formed, verdict_text};
+ghost use Rattle.exo_cli.specs.Messages.{unit_refused, not_shown};
 ghost use Rattle.exo_cli.specs.Replies.{plain};
 
 use crate::compile::{refuse_rule, refuse_text};
@@ -97,13 +98,41 @@ fn refuse_unit(
     ensures verdict { IfOk result (λ reply. IsVerdict (plain reply)) }
 {
     let line = line_of(unit, refused);
-    let message = match &refused.why {
-        Why::Memory => return Err(AllocError),
-        Why::Check(e) => messages::unit_refused(alloc, name, line, check_text(*e))?,
+    match &refused.why {
+        Why::Memory => Err(AllocError),
+        Why::Check(e) => refuse_listing(alloc, name, line, *e),
         Why::NotShown { what, verdict, .. } => {
-            messages::not_shown(alloc, name, line, what.as_str(), verdict_text(*verdict))?
+            refuse_claim(alloc, name, line, what.as_str(), *verdict)
         }
-    };
+    }
+}
+
+/// The obligations of the procedure whose `def` stands at that line can't be listed.
+fn refuse_listing(
+    alloc: Global,
+    name: &str,
+    line: u32,
+    error: CheckError,
+) -> Result<Reply, AllocError>
+    ensures answer { (f : Fault) → error ≢ CheckError.Memory → IsRefusal error (Some f) → IfOk result (λ reply. plain reply ≡ Rejected (unit_refused name.now line (fault_text f))) }
+    ensures verdict { IfOk result (λ reply. IsVerdict (plain reply)) }
+{
+    let message = messages::unit_refused(alloc, name, line, check_text(error))?;
+    Ok(Reply::Rejected(message))
+}
+
+/// What is owed at that line is not shown.
+fn refuse_claim(
+    alloc: Global,
+    name: &str,
+    line: u32,
+    what: &str,
+    verdict: Verdict,
+) -> Result<Reply, AllocError>
+    ensures answer { IfOk result (λ reply. plain reply ≡ Rejected (not_shown name.now line what.now (verdict_text verdict))) }
+    ensures verdict { IfOk result (λ reply. IsVerdict (plain reply)) }
+{
+    let message = messages::not_shown(alloc, name, line, what, verdict_text(verdict))?;
     Ok(Reply::Rejected(message))
 }
 
