@@ -90,11 +90,11 @@ module _ (law : ShownSystemsHaveNoPoint) where
 
   all_hold : (u : Program) (k n : ℕ) (ps : List Procedure) (count : ℕ) → checked_from u k n ps ≡ Shown count → AllByRecursion (Holds u) ps
   all_hold u k n [] count h = tt
-  all_hold u k n (p ∷ ps) count h = by_cause (cause_of u p) refl h
+  all_hold u k n (p ∷ ps) count h = by_cause (cause_of u p) refl (λ g. all_hold u (suc k) (n + length (obligations_of u p)) ps count g) h
     where
-      by_cause : (o : Option Cause) → cause_of u p ≡ o → elim o [ None ↦ checked_from u (suc k) (n + length (obligations_of u p)) ps | Some cause ↦ Refused k cause ] ≡ Shown count → AllByRecursion (Holds u) (p ∷ ps)
-      by_cause None e h = (holds u p e, all_hold u (suc k) (n + length (obligations_of u p)) ps count h)
-      by_cause (Some cause) e h = cc
+      by_cause : (o : Option Cause) → cause_of u p ≡ o → (checked_from u (suc k) (n + length (obligations_of u p)) ps ≡ Shown count → AllByRecursion (Holds u) ps) → elim o [ None ↦ checked_from u (suc k) (n + length (obligations_of u p)) ps | Some cause ↦ Refused k cause ] ≡ Shown count → AllByRecursion (Holds u) (p ∷ ps)
+      by_cause None e on h = (holds u p e, on h)
+      by_cause (Some cause) e on h = cc
 
 pub checked_units_do_not_fault : ShownSystemsHaveNoPoint → ShownProceduresDoNotFault → CheckedUnitsDoNotFault
 checked_units_do_not_fault shown_law fault_law u count is h =
