@@ -1,13 +1,12 @@
 -- What is replied to a unit that is refused.
-use Rattle.std.proofs.Common.{◌≡◌, ◌≢◌, ℕ, List, [], Option, Some, refl, sym, ap, ◌∙◌, subst, ⊎_elim, IfOk}
+use Rattle.std.proofs.Common.{◌≡◌, ◌≢◌, ℕ, List, [], Some, sym, ap, ◌∙◌, subst, ⊎_elim, IfOk}
 use Rattle.std.specs.Prelude.{Result, slice_get}
 use Rattle.std.specs.declared.alloc.AllocError.{AllocError}
 use Rattle.std.proofs.lemmas.Result.{IfOk-weaker}
 use Rattle.exo_tree.specs.Places.{Path}
-use Rattle.exo_tree.specs.Tree.{Procedure, Program}
+use Rattle.exo_tree.specs.Tree.{Program}
 use Rattle.exo_tree.specs.declared.lines.ProcLines.{ProcLines}
 use Rattle.affine_prover.specs.declared.answer.Verdict.{Verdict}
-use Rattle.affine_forms.specs.declared.error.FormError.TheVariants as form
 use Rattle.obligations.specs.Obligations.{Fault}
 use Rattle.obligations.specs.Outcomes.{IsRefusal}
 use Rattle.obligations.specs.declared.error.CheckError.{CheckError}
@@ -18,7 +17,7 @@ use Rattle.unit_check.specs.Preorder.{line_in}
 use Rattle.unit_check.specs.declared.refused.UnitRefused.{UnitRefused}
 use Rattle.unit_check.specs.declared.refused.Why.{Why}
 use Rattle.unit_check.specs.declared.refused.Why.TheVariants as why
-use Rattle.exo_cli.specs.Answer.{Answer, Rejected}
+use Rattle.exo_cli.specs.Answer.{Rejected}
 use Rattle.exo_cli.specs.Checking.{fault_text, verdict_text, refused, told}
 use Rattle.exo_cli.specs.Messages as messages
 use Rattle.exo_cli.specs.Replies.{plain}
