@@ -1,12 +1,11 @@
 -- Formulas of facts, one after the other.
-use Rattle.std.proofs.Common.{◌≡◌, ℕ, zero, suc, ◌+◌, ◌<◌, ◌≤◌, Bool, true, false, ◌&&◌, List, [], ◌∷◌, ◌++◌, map, length, append_assoc, arith, refl, sym, ap, ◌∙◌, subst, Result, Ok, Err}
-use Rattle.std.specs.List.{list_all}
+use Rattle.std.proofs.Common.{◌≡◌, Bool, true, false, ◌&&◌, List, [], ◌∷◌, ◌++◌, length, append_assoc, arith, refl, sym, ap, ◌∙◌, subst, Result, Ok, Err, IsErrAnd}
 use Rattle.std.proofs.lemmas.List.{map-append}
 use Rattle.exo_tree.specs.Tree.{Condition, Program, Procedure}
 use Rattle.exo_tree.specs.PlainProcedure.{procedure}
 use Rattle.exo_tree.specs.PlainUnit.{program}
 use Rattle.exo_context.specs.Facts.{Fact, Holds, Fails}
-use Rattle.exo_context.specs.KnownFields.{KnownFields, at_entry}
+use Rattle.exo_context.specs.KnownFields.{KnownFields}
 use Rattle.exo_context.specs.PlaceFacts.{PlaceFact}
 use Rattle.affine_forms.specs.declared.error.FormError.{FormError}
 use Rattle.affine_forms.specs.declared.error.FormError.TheVariants.{TooManyCases, SystemTooLarge, WideNumber, TooManySystems, Memory}
@@ -26,7 +25,7 @@ and_true : (s : Bool) → (s && true) ≡ s
 and_true true = refl
 and_true false = refl
 
-told_same : (g : Ground) (known other : KnownFields) → SameBelow g.count known other → told (program g.unit.now).fields known ≡ told (program g.unit.now).fields other
+pub told_same : (g : Ground) (known other : KnownFields) → SameBelow g.count known other → told (program g.unit.now).fields known ≡ told (program g.unit.now).fields other
 told_same g known other h =
     let n = length (program g.unit.now).fields in
     let c : g.count ≡ n = g.counted in
@@ -64,6 +63,11 @@ Came g es old new = (all_fit (program g.unit.now) (procedure g.proc.now) es ≡ 
 pub added_one : (g : Ground) (known first : KnownFields) (fact : Fact) (old new : List Formula) (f : Formula) → SameBelow g.count known first → fact_fits (program g.unit.now) (procedure g.proc.now) known fact ≡ true → f ≡ fact_formula (program g.unit.now) (procedure g.proc.now) known fact → new ≡ old ++ f ∷ [] → Came g (record { known = first; fact = fact } ∷ []) old new
 added_one g known first fact old new f h fits made pushed =
     (sym (fits_one g known first fact h) ∙ fits, pushed ∙ ap (λ k. old ++ k ∷ []) made ∙ ap (λ fs. old ++ fs) (formula_one g known first fact h))
+
+-- what a `?` returns
+pub left_early : {A : Type 0} (r : Result A FormError) (e : FormError) (g : Ground) (es : List PlaceFact) (old new : List Formula) → IsErrAnd r (λ x. x ≡ e) → IsWide e (all_fit (program g.unit.now) (procedure g.proc.now) es) → Added r g es old new
+left_early (Ok x) e g es old new is w = absurd is
+left_early (Err x) e g es old new is w = subst (λ y. IsWide y (all_fit (program g.unit.now) (procedure g.proc.now) es)) (sym is) w
 
 -- ---- more formulas
 

@@ -3,3 +3,6 @@ pub mod Steps
 pub mod Rooms
 pub mod Openings
 pub mod Adding
+pub mod Beginning
+pub mod Ways
+pub mod Arrivals

@@ -1,13 +1,13 @@
 -- A path opens a block a step at a time: past the first statements, and into a branch of the next one.
-use Rattle.std.proofs.Common.{◌≡◌, ℕ, zero, suc, ◌+◌, ◌<◌, List, [], ◌∷◌, ◌++◌, drop, length, Option, Some, None, arith, refl, sym, ap, ap₂, ◌∙◌}
+use Rattle.std.proofs.Common.{◌≡◌, ℕ, zero, suc, ◌+◌, ◌<◌, List, [], ◌∷◌, ◌++◌, drop, length, Option, Some, None, arith, refl, sym, ap, ◌∙◌}
 use Rattle.std.specs.Prelude.{option_map}
 use Rattle.exo_tree.specs.Tree.{Statement, If, For, Block, end, next, block}
 use Rattle.exo_tree.specs.Context.{Context, Here, After, InLoop, InThen, InElse, fill}
 use Rattle.exo_tree.specs.Places.{Branch, Main, Else, Step, Path, Opened, parted, past, into, opened_in}
 use Rattle.exo_tree.specs.Branches.{branch_of}
 use Rattle.exo_context.specs.Fields.{writes_field}
-use Rattle.exo_context.specs.KnownFields.{UnknownAt, KnownFields, Telling, path_in, after, forgotten, known_at}
-use Rattle.exo_context.specs.PlaceFacts.{PlaceFact, facts_round}
+use Rattle.exo_context.specs.KnownFields.{KnownFields, Telling, path_in, after, forgotten, known_at}
+use Rattle.exo_context.specs.PlaceFacts.{facts_round}
 use Rattle.exo_facts.specs.Walks.{passed, entered, known_inside}
 
 -- ---- what is opened is the block

@@ -1,8 +1,8 @@
 -- What a procedure that may be walked says of its statements: rules, and lengths of paths.
-use Rattle.std.proofs.Common.{◌≡◌, ℕ, zero, suc, ◌+◌, ◌-◌, ◌<◌, ◌≤◌, ◌==◌, nat_lt, Bool, true, false, cond, ◌&&◌, List, [], ◌∷◌, ◌++◌, length, drop, arith, refl, sym, ap, ◌∙◌, length-append}
+use Rattle.std.proofs.Common.{◌≡◌, ℕ, zero, suc, ◌+◌, ◌<◌, ◌≤◌, nat_lt, Bool, true, false, cond, ◌&&◌, List, [], ◌∷◌, length, drop, arith, refl, sym, ap, ◌∙◌, length-append}
 use Rattle.std.specs.Prelude.{Some}
 use Rattle.std.proofs.lemmas.Bool.Decides.{nat_tests}
-use Rattle.exo_tree.specs.Tree.{Statement, If, For, Block, end, next, block, statements}
+use Rattle.exo_tree.specs.Tree.{Statement, If, For, Block, block, statements}
 use Rattle.exo_tree.specs.Places.{Branch, Main, Else, Path}
 use Rattle.exo_tree.specs.Branches.{branch_of}
 use Rattle.exo_meaning.specs.Units.{larger, levels, step_levels, is_short}
@@ -62,6 +62,11 @@ pub room_at : (n k : ℕ) (xs rest : List Statement) (a : Statement) → drop k 
 room_at n zero xs rest a e h = (room_for n a xs rest e h).0
 room_at n (suc k) [] rest a e h = cc
 room_at n (suc k) (x ∷ xs) rest a e h = room_at n k xs rest a e (room_for n x (x ∷ xs) xs refl h).1
+
+-- a path in a block that has a statement
+pub room_before : (n k : ℕ) (xs : List Statement) → k < length xs → n + levels (block xs) ≤ 32 → n < 32
+room_before n k [] l h = absurd (omega arith)
+room_before n k (x ∷ xs) l h = let r = (room_for n x (x ∷ xs) xs refl h).0 in omega arith
 
 -- a block of a statement
 pub record Inside (n : ℕ) (b : Block) : Type 0 where

@@ -1,10 +1,10 @@
 -- What is known of a field after statements hangs on what was known of that field alone.
-use Rattle.std.proofs.Common.{◌≡◌, ℕ, zero, suc, ◌+◌, ◌-◌, ◌<◌, ◌≤◌, Bool, true, false, cond, ◌||◌, List, [], ◌∷◌, drop, length, arith, refl, sym, ap, ap₂, ◌∙◌, add-one}
+use Rattle.std.proofs.Common.{◌≡◌, ℕ, zero, suc, ◌+◌, ◌-◌, ◌<◌, ◌≤◌, Bool, cond, ◌||◌, List, ◌∷◌, drop, length, arith, refl, sym, ap, ap₂, ◌∙◌, add-one}
 use Rattle.std.proofs.lemmas.List.{drop_all}
 use Rattle.exo_tree.specs.Tree.{Statement, Assign, Reduce, Config, Pass, If, For, Alloc, View, Call, Block, end, next, block}
 use Rattle.exo_tree.specs.Places.{Branch, Main, Else, Path}
 use Rattle.exo_context.specs.Fields.{writes_field, step_writes_field}
-use Rattle.exo_context.specs.KnownFields.{FieldValue, Known, UnknownAt, KnownFields, Telling, same_value, path_in, after, at_end}
+use Rattle.exo_context.specs.KnownFields.{FieldValue, UnknownAt, KnownFields, Telling, same_value, path_in, after, at_end}
 use Rattle.exo_facts.specs.Walks.{value_after, value_at_end, SameBelow, passed}
 
 module _ (tell : Telling) (f : ℕ) where

@@ -1,5 +1,6 @@
 pub mod Contexts
 pub mod Values
 pub mod Tables
+pub mod RootSets
 pub mod Walks
 pub mod Laws

@@ -1,5 +1,5 @@
 -- What a table tells of fields.
-use Rattle.std.specs.Prelude.{Option, Some, None, nat_eq}
+use Rattle.std.specs.Prelude.{Some, None, nat_eq}
 use Rattle.indexmap.specs.IndexMap.{get}
 use Rattle.exo_context.specs.KnownFields.{AtEntry, KnownFields}
 use Rattle.exo_facts.specs.Values.{plain_value}

@@ -1,13 +1,14 @@
 -- What is known of fields while a procedure is gone through.
-use Rattle.std.specs.Prelude.{◌≡◌, ◌<◌, ◌++◌, ◌==◌, ℕ, zero, suc, Bool, true, if◌then◌else◌, List, [], ◌∷◌, map, Result, Ok, Err}
-use Rattle.exo_tree.specs.Tree.{Var, Le, Lt, Argument, Statement, Assign, Reduce, Config, Pass, If, For, Alloc, View, Call, Block, end, next}
-use Rattle.exo_tree.specs.Places.{Branch, Main, Else, Path}
+use Rattle.std.specs.Prelude.{◌≡◌, ◌<◌, ◌++◌, ◌==◌, ℕ, zero, suc, true, if◌then◌else◌, List, [], ◌∷◌, map, Option, Some, None, Result, Ok, Err}
+use Rattle.exo_tree.specs.Tree.{Var, Le, Lt, Statement, Assign, Reduce, Config, Pass, If, For, Alloc, View, Call, Block, end, next, Procedure}
+use Rattle.exo_tree.specs.Places.{Branch, Main, Else, Path, Opened, opened}
 use Rattle.exo_tree.specs.PlainProcedure.{procedure}
 use Rattle.exo_tree.specs.PlainUnit.{program}
 use Rattle.exo_context.specs.Facts.{Fact, Holds, Fails}
+use Rattle.exo_context.specs.Known.{params_facts}
 use Rattle.exo_context.specs.Fields.{writes_field}
 use Rattle.exo_context.specs.KnownFields.{FieldValue, Known, UnknownAt, KnownFields, at_entry, Telling, same_value, path_in, after}
-use Rattle.exo_context.specs.PlaceFacts.{PlaceFact}
+use Rattle.exo_context.specs.PlaceFacts.{PlaceFact, facts_round}
 use Rattle.affine_forms.specs.declared.error.FormError.{FormError}
 use Rattle.affine_forms.specs.Formulas.{Formula}
 use Rattle.affine_forms.specs.Outcomes.{IsWide}
@@ -19,11 +20,11 @@ telling_of g = telling (program g.unit.now) (procedure g.proc.now)
 
 -- ---- one field
 
-module _ (tell : Telling) (f : ℕ) where
-  -- a value on which both ends of a branching statement agree, else one that the statement makes unknown
-  abbrev pub kept_value : Path → FieldValue → FieldValue → FieldValue
-  kept_value path v w = if same_value tell.agree v w then v else UnknownAt path
+-- a value on which both ends of a branching statement agree, else one that the statement makes unknown
+abbrev pub kept_value : Telling → Path → FieldValue → FieldValue → FieldValue
+kept_value tell path v w = if same_value tell.agree v w then v else UnknownAt path
 
+module _ (tell : Telling) (f : ℕ) where
   abbrev mutual
     -- after the statement at a path
     pub value_after : Path → Statement → FieldValue → FieldValue
@@ -31,7 +32,7 @@ module _ (tell : Telling) (f : ℕ) where
     value_after path (Reduce x is e) v = v
     value_after path (Config g a) v = if f == g then Known (tell.told a) else v
     value_after path Pass v = v
-    value_after path (If c a b) v = kept_value path (value_at_end path Main zero a v) (value_at_end path Else zero b v)
+    value_after path (If c a b) v = kept_value tell path (value_at_end path Main zero a v) (value_at_end path Else zero b v)
     value_after path (For i lo hi b) v = if writes_field tell.writes f b then UnknownAt path else v
     value_after path (Alloc x cell dims memory) v = v
     value_after path (View w x coords) v = v
@@ -76,3 +77,15 @@ Added (Err e) g es old new = IsWide e (all_fit (program g.unit.now) (procedure g
 -- facts of the place before the body
 abbrev pub known_first : List Fact → List PlaceFact
 known_first facts = map (λ fact. record { known = at_entry; fact = fact }) facts
+
+-- of a procedure's parameters and assertions
+abbrev pub head_facts : Procedure → List PlaceFact
+head_facts p = known_first (params_facts p.params ++ map Holds p.asserts)
+
+-- of the loops and branches round a place; none where that is before the body
+abbrev pub round_facts : Telling → Option Opened → List PlaceFact
+round_facts tell None = []
+round_facts tell (Some o) = facts_round tell [] Main zero o.around o.piece at_entry
+
+abbrev pub place_of : Path → Ground → Option Opened
+place_of path g = opened 1 path (procedure g.proc.now).body

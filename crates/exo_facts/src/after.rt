@@ -39,7 +39,7 @@ fn kept<'a>(
     one: Value<'a>,
     other: &Value<'a>,
 ) -> Result<Value<'a>, AllocError>
-    ensures { IfOk result (λ v. plain_value v ≡ kept_value (telling_of ground.now) path.now (plain_value one) (plain_value other.now)) }
+    ensures { IfOk result (λ v. plain_value v ≡ kept_value (telling_of ground.now) path.now (plain_value one.entry) (plain_value other.now)) }
 {
     let at = AtEntry {
         fields: &ground.unit.fields,
@@ -54,7 +54,7 @@ fn kept<'a>(
 
 /// The value, or one that the statement at the path makes unknown, where it may write the field.
 fn unless_written<'a>(may: bool, path: &Path, value: Value<'a>) -> Value<'a>
-    ensures { plain_value result ≡ (if may then UnknownAt path.now else plain_value value) }
+    ensures { plain_value result ≡ (if may then UnknownAt path.now else plain_value value.entry) }
 {
     if may {
         Value::Unknown(path.duplicate())
@@ -76,7 +76,7 @@ pub(crate) fn after<'a>(
     requires field { f.0 < ground.now.count }
     requires rules { IsTrue (statement_keeps_rules (statement s.now)) }
     requires room { length path.now + step_levels (statement s.now) ≤ 32 }
-    ensures { IfOk result (λ v. plain_value v ≡ value_after (telling_of ground.now) f.0 path.now (statement s.now) (plain_value value)) }
+    ensures { IfOk result (λ v. plain_value v ≡ value_after (telling_of ground.now) f.0 path.now (statement s.now) (plain_value value.entry)) }
 {
     match s {
         Stmt::Config(g, a) => {
@@ -116,7 +116,7 @@ fn at_end<'a>(
     requires rules { IsTrue (block_keeps_rules (block b.now)) }
     requires short { IsTrue (is_short (block b.now)) }
     requires room { length outer.now + levels (block b.now) ≤ 32 }
-    ensures { IfOk result (λ v. plain_value v ≡ value_at_end (telling_of ground.now) f.0 outer.now (branch_taken branch) zero (block b.now) (plain_value value)) }
+    ensures { IfOk result (λ v. plain_value v ≡ value_at_end (telling_of ground.now) f.0 outer.now (branch_taken branch) zero (block b.now) (plain_value value.entry)) }
 {
     let mut now = value;
     for k in 0..b.len() {

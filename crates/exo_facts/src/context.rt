@@ -1,15 +1,16 @@
 //! The context and the facts of a place.
-ghost use Rattle.std.specs.Prelude.{◌≡◌, ◌<◌, IsTrue, IfSome, length, map, slice_get};
+ghost use Rattle.std.specs.Prelude.{◌≡◌, ◌<◌, IsTrue, IfSome, OnOk, length, map, slice_get};
 ghost use Rattle.std.specs.List.{list_all};
 ghost use Rattle.exo_tree.specs.PlainBinder.{control_kind};
+ghost use Rattle.exo_tree.specs.PlainProcedure.{procedure};
 ghost use Rattle.exo_tree.specs.PlainUnit.{program};
 ghost use Rattle.exo_context.specs.Facts.{Holds};
 ghost use Rattle.exo_context.specs.Known.{kind_facts, params_facts};
 ghost use Rattle.exo_context.specs.KnownFields.{at_entry};
 ghost use Rattle.affine_forms.specs.Formulas.{condition_keeps_rules};
-ghost use Rattle.exo_facts.specs.Contexts.{IsPlaceIn, may_be_walked, ContextMade};
+ghost use Rattle.exo_facts.specs.Contexts.{IsPlaceOf, IsPlaceIn, may_be_walked, known_at_place, ContextMade};
 ghost use Rattle.exo_facts.specs.Tables.{known_in};
-ghost use Rattle.exo_facts.specs.Walks.{Added, known_first};
+ghost use Rattle.exo_facts.specs.Walks.{telling_of, SameBelow, Added, known_first, head_facts, round_facts, place_of};
 
 use crate::enter::{add_at_most, add_holds};
 use crate::ground::Ground;
@@ -82,6 +83,69 @@ fn add_asserts(
     Ok(())
 }
 
+/// Adds the formulas of a procedure's parameters and assertions.
+fn add_first(
+    ground: &Ground<'_, '_>,
+    alloc: Global,
+    known: &Known<'_>,
+    context: &mut Context,
+) -> Result<(), FormError>
+    requires entry { known_in known.now ≡ at_entry }
+    requires rules { IsTrue (may_be_walked (procedure ground.now.proc.now)) }
+    ensures { Added result ground.now (head_facts (procedure ground.now.proc.now)) context.old context.new }
+{
+    add_params(ground, alloc, known, &ground.proc.params, context)?;
+    add_asserts(ground, alloc, known, &ground.proc.asserts, context)
+}
+
+/// Goes to the place: adds the formulas of the loops and branches around it, and finds what is known of fields there.
+fn go<'w>(
+    ground: &Ground<'w, '_>,
+    alloc: Global,
+    path: &Path,
+    known: &mut Known<'w>,
+    context: &mut Context,
+) -> Result<(), FormError>
+    requires entry { known_in known.old ≡ at_entry }
+    requires place { IsPlaceOf path.now (procedure ground.now.proc.now) }
+    requires rules { IsTrue (may_be_walked (procedure ground.now.proc.now)) }
+    ensures facts { Added result ground.now (round_facts (telling_of ground.now) (place_of path.now ground.now)) context.old context.new }
+    ensures known { OnOk result (SameBelow ground.now.count (known_in known.new) (known_at_place (program ground.now.unit.now) (procedure ground.now.proc.now) (place_of path.now ground.now))) }
+{
+    let steps = path.as_slice();
+    if steps.is_empty() {
+        return Ok(());
+    }
+    walk(
+        ground,
+        alloc,
+        &Path::new(),
+        Branch::Main,
+        &ground.proc.body,
+        steps,
+        known,
+        context,
+    )
+}
+
+/// The context and the facts of a place of the procedure.
+fn context_of(
+    ground: &Ground<'_, '_>,
+    alloc: Global,
+    path: &Path,
+) -> Result<(Context, Facts), FormError>
+    requires place { IsPlaceOf path.now (procedure ground.now.proc.now) }
+    requires rules { IsTrue (may_be_walked (procedure ground.now.proc.now)) }
+    ensures { ContextMade result (program ground.now.unit.now) (procedure ground.now.proc.now) path.now }
+{
+    let mut known = Known::new(alloc);
+    let mut context = Context::new(alloc);
+    add_first(ground, alloc, &known, &mut context)?;
+    go(ground, alloc, path, &mut known, &mut context)?;
+    let facts = known.facts(alloc, ground.count)?;
+    Ok((context, facts))
+}
+
 /// What holds before the statement at a path, or before the body where the path is empty, and what is known of fields there.
 ///
 /// The context has, in this order, a formula for each parameter of kind size and two for each of kind bool, one for each
@@ -112,23 +176,5 @@ pub fn context_at(
         writes: &writes,
         count: unit.fields.len() as u32,
     };
-    let mut known = Known::new(alloc);
-    let mut context = Context::new(alloc);
-    add_params(&ground, alloc, &known, &proc.params, &mut context)?;
-    add_asserts(&ground, alloc, &known, &proc.asserts, &mut context)?;
-    let steps = path.as_slice();
-    if !steps.is_empty() {
-        walk(
-            &ground,
-            alloc,
-            &Path::new(),
-            Branch::Main,
-            &proc.body,
-            steps,
-            &mut known,
-            &mut context,
-        )?;
-    }
-    let facts = known.facts(alloc, ground.count)?;
-    Ok((context, facts))
+    context_of(&ground, alloc, path)
 }

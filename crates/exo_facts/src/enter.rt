@@ -76,6 +76,23 @@ fn add_fails(
     Ok(())
 }
 
+/// Adds the formula of a condition that holds and that was made for this alone.
+fn add_made(
+    ground: &Ground<'_, '_>,
+    alloc: Global,
+    known: &Known<'_>,
+    c: Cond,
+    context: &mut Context,
+) -> Result<(), FormError>
+    requires { IsTrue (condition_keeps_rules (condition c)) }
+    ensures { (first : KnownFields) → SameBelow ground.now.count (known_in known.now) first → Added result ground.now (record { known = first; fact = Holds (condition c) } ∷ []) context.old context.new }
+{
+    let added = add_holds(ground, alloc, known, &c, context);
+    // In one call: at the end of the function each of its variants would be a way of its own to check.
+    drop(c);
+    added
+}
+
 /// Adds the formula that one expression is at most another.
 pub(crate) fn add_at_most(
     ground: &Ground<'_, '_>,
@@ -88,7 +105,7 @@ pub(crate) fn add_at_most(
     requires { IsTrue (keeps_rules (control a) && keeps_rules (control b)) }
     ensures { (first : KnownFields) → SameBelow ground.now.count (known_in known.now) first → Added result ground.now (record { known = first; fact = Holds (Le (control a) (control b)) } ∷ []) context.old context.new }
 {
-    add_holds(ground, alloc, known, &Cond::Le(a, b), context)
+    add_made(ground, alloc, known, Cond::Le(a, b), context)
 }
 
 /// Adds the formulas of a loop's bounds.
@@ -106,8 +123,8 @@ fn add_bounds(
 {
     let low = lo.duplicate(alloc)?;
     add_at_most(ground, alloc, known, low, Ctrl::Var(i), context)?;
-    let below = Cond::Lt(Ctrl::Var(i), hi.duplicate(alloc)?);
-    add_holds(ground, alloc, known, &below, context)
+    let high = hi.duplicate(alloc)?;
+    add_made(ground, alloc, known, Cond::Lt(Ctrl::Var(i), high), context)
 }
 
 /// Adds the formulas of a loop or branch into which the way goes.

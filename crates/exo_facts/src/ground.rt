@@ -6,6 +6,7 @@ ghost use Rattle.exo_context.specs.UnitFields.{unit_writes};
 ghost use Rattle.config_state.specs.FieldSets.{IsTable};
 ghost use Rattle.affine_places.specs.Roots.{roots_of};
 ghost use Rattle.affine_places.specs.Seen.{roots_in};
+ghost use Rattle.exo_facts.specs.RootSets.{Roots-set};
 
 use affine_places::Roots;
 use config_state::FieldTable;
@@ -19,7 +20,7 @@ pub(crate) struct Ground<'w, 'r> {
     pub(crate) roots: &'w Roots<'r>,
     pub(crate) writes: &'w FieldTable,
     pub(crate) count: u32,
-    pub(crate) ghost roots_are: { roots_in roots.now ≡ roots_of (procedure proc.now) },
+    pub(crate) ghost roots_are: { roots_in roots.now ≡ roots_of (procedure proc.now) } by { Roots-set (roots_in roots.now) (roots_of (procedure proc.now)) },
     pub(crate) ghost table: { IsTable count (unit_writes (program unit.now).procedures) writes.now },
     pub(crate) ghost counted: { count ≡ length (program unit.now).fields },
 }

@@ -39,7 +39,7 @@ impl<'a> Known<'a> {
     }
 
     pub(crate) fn set(&mut self, f: FieldId, value: Value<'a>) -> Result<(), AllocError>
-        ensures { OnOk result (known_in self.new ≡ updated (known_in self.old) f.0 (plain_value value)) }
+        ensures { OnOk result (known_in self.new ≡ updated (known_in self.old) f.0 (plain_value value.entry)) }
     {
         self.table.insert(f.0, value)?;
         Ok(())
@@ -48,7 +48,7 @@ impl<'a> Known<'a> {
 
 /// Puts the fact of a field before the others.
 fn put(alloc: Global, facts: &mut Facts, f: FieldId, value: Value<'_>) -> Result<(), AllocError>
-    ensures { OnOk result (facts.new ≡ with_value f.0 (plain_value value) facts.old) }
+    ensures { OnOk result (facts.new ≡ with_value f.0 (plain_value value.entry) facts.old) }
 {
     match value {
         Value::Entry => Ok(()),

@@ -4,6 +4,8 @@
 #[cfg(test)]
 mod contexts;
 #[cfg(test)]
+mod place;
+#[cfg(test)]
 mod shown;
 #[cfg(test)]
-mod units;
+mod unit;
