@@ -7,7 +7,6 @@ mod fields;
 mod headers;
 mod names;
 mod numbers;
-mod report;
 mod scope;
 mod self_contained;
 mod units;

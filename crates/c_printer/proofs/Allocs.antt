@@ -15,9 +15,10 @@ use Rattle.c_printer.specs.CTree.{Name, Number64, Literal, Single, Vector, CBloc
 use Rattle.c_printer.specs.Machine.{Outcome, Done, Fault, NoStore, after, where_good, Pointer, Thing, IsArray, Object, Setting, Machine, number64, same_name, named, with_thing, moved}
 use Rattle.c_printer.specs.CRun.{CWorld, run_c, step_c, at_most_48, storable, amount, made, make, with_object, freed, free_under}
 use Rattle.c_printer.specs.Lowered.{Naming, Forms, Form, NoForm, NumberForm, TensorForm, WindowForm, number_with, dims_of, product_of, product_from, alloc_of, allocated, is_empty, without_lanes, literals, forms_after}
-use Rattle.c_printer.specs.Simulation.{Follows, Layout, HasForm, IsCounter, IsTensor, Matches, Kept, Ends, IsHeld, IsPlain, ArePlain, AreGood, IsFresh, IsOnHeap, IsOutside, in_range, spot_of, dot}
+use Rattle.c_printer.specs.Simulation.{Follows, Declared, AreSameFields, Layout, HasForm, IsCounter, IsTensor, Matches, Kept, Ends, IsHeld, IsPlain, ArePlain, AreGood, IsFresh, IsOfCells, IsOutside, in_range, spot_of, dot}
 use Rattle.c_printer.specs.Magnitude.{IsNarrow, AreNarrow}
 use Rattle.c_printer.proofs.Numbers.{same_number}
+use Rattle.c_printer.proofs.Extents.{both_positive, positive_product, times_assoc}
 use Rattle.c_printer.proofs.Offsets.{injective}
 use Rattle.c_printer.proofs.Follow.{follows_weaken, nothing}
 use Rattle.c_printer.proofs.Scopes.{none_tensor, none_number, same_name_self, numbers_by_control}
@@ -49,21 +50,6 @@ product_amount s a b v w h k =
     (⊎_elim (λ f. inl (ap (λ o. after o (λ j. at_most_48 (v *ℤ w))) f))
     (λ f. subst (λ o. Amount (after o (λ j. at_most_48 (v *ℤ w))) (v *ℤ w)) (sym f.0) (at_most_is (v *ℤ w))) (at_most_is w))))
     h
-
-both_positive : (a b : ℤ) → int_le (pos 1) a ≡ true → int_le (pos 1) b ≡ true → int_le (pos 1) (a *ℤ b) ≡ true
-both_positive (pos a) (pos b) h k = let p : 1 ≤ a = grind arith in let q : 1 ≤ b = grind arith in let r : 1 * 1 ≤ a * b = mul-le _ _ _ _ p q in grind arith
-both_positive (negsuc a) b h k = absurd (true≢false (sym h))
-both_positive (pos a) (negsuc b) h k = absurd (true≢false (sym k))
-
-positive_product : (ds : List ℤ) → all_positive ds ≡ true → int_le (pos 1) (product ds) ≡ true
-positive_product [] h = refl
-positive_product (d ∷ ds) h = let p = and_parts (int_le (pos 1) d) (all_positive ds) h in both_positive d (product ds) p.0 (positive_product ds p.1)
-
-times_assoc : (x y z : ℤ) → int_le (pos 1) x ≡ true → int_le (pos 1) y ≡ true → int_le (pos 1) z ≡ true → (x *ℤ y) *ℤ z ≡ x *ℤ (y *ℤ z)
-times_assoc (pos x) (pos y) (pos z) h k l = let e : x * y * z ≡ x * (y * z) = omega arith in ap pos e
-times_assoc (negsuc x) y z h k l = absurd (true≢false (sym h))
-times_assoc (pos x) (negsuc y) z h k l = absurd (true≢false (sym k))
-times_assoc (pos x) (pos y) (negsuc z) h k l = absurd (true≢false (sym l))
 
 module _ (naming : Naming) (forms : Forms) (most : ℕ → ℕ) (layout : Layout) (scene : Scene) (setting : Setting) (match : (x : ℕ) → HasForm naming forms most layout scene setting x (forms x)) where
   value : (e : Control) → IsPlain forms e → IsNarrow most e → number64 setting (number_with naming (λ x k. Literal (pos 1)) e) ≡ Done (number scene e)
@@ -119,7 +105,7 @@ below_is a b h = grind arith
 below_more : (a b : ℕ) → nat_lt a b ≡ true → nat_lt a (suc b) ≡ true
 below_more a b h = grind arith
 
-module _ (naming : Naming) (forms : Forms) (most : ℕ → ℕ) (layout : Layout) (x : ℕ) (cell : Cell) (dims : List Control) (good : AreGood forms most dims) (fresh : IsFresh naming forms x) (s : State) (m : Machine) (match : Matches naming forms most layout s m) (fits : product (numbers s.scene dims) ≤ℤ pos 281474976710656) where
+module _ (naming : Naming) (declared : Declared) (forms : Forms) (most : ℕ → ℕ) (layout : Layout) (x : ℕ) (cell : Cell) (dims : List Control) (good : AreGood forms most dims) (fresh : IsFresh naming declared forms x) (s : State) (m : Machine) (match : Matches naming declared forms most layout s m) (above : all_positive (numbers s.scene dims) ≡ true) (fits : product (numbers s.scene dims) ≤ℤ pos 281474976710656) (heap : Bool) where
   abbrev extents : List ℤ
   extents = numbers s.scene dims
 
@@ -133,7 +119,7 @@ module _ (naming : Naming) (forms : Forms) (most : ℕ → ℕ) (layout : Layout
   new_state = with_contents x (λ at. Undefined) (on_scene (with_buffer x (tensor cell extents)) s)
 
   abbrev new_machine : Machine
-  new_machine = made true (Single cell) (naming.binder x) (product extents) m
+  new_machine = made heap (Single cell) (naming.binder x) (product extents) m
 
   abbrev New : ℕ → Form → Type 0
   New = HasForm naming wider most new_layout new_state.scene new_machine.setting
@@ -172,7 +158,7 @@ module _ (naming : Naming) (forms : Forms) (most : ℕ → ℕ) (layout : Layout
   old_layout y h = ap (λ t. cond t (record { object = m.setting.free; offset = pos 0 }) (layout y)) h
 
   old_object : (o : ℕ) → nat_lt o m.setting.free ≡ true → new_machine.setting.objects o ≡ m.setting.objects o
-  old_object o h = ap (λ t. cond t (Some (record { cell = cell; size = product extents *ℤ pos 1; heap = true })) (m.setting.objects o)) (below_is o m.setting.free h)
+  old_object o h = ap (λ t. cond t (Some (record { cell = cell; size = product extents *ℤ pos 1; heap = heap })) (m.setting.objects o)) (below_is o m.setting.free h)
 
   others_kept : (y : ℕ) (f : Form) → forms y ≡ f → (y == x) ≡ false → HasForm naming forms most layout s.scene m.setting y f → New y f
   others_kept y NoForm e d h = tt
@@ -188,6 +174,7 @@ module _ (naming : Naming) (forms : Forms) (most : ℕ → ℕ) (layout : Layout
         numbers_are = numbers_by_control forms new_state.scene s.scene refl ds h.plain ∙ h.numbers_are;
         shape = ap (λ t. cond t (Some (tensor cell extents)) (s.scene.buffers y)) d ∙ h.shape;
         view = ap (λ t. cond t (Some (record { buffer = x; sides = whole extents })) (s.scene.views y)) d ∙ h.view;
+        positive = h.positive;
         few = h.few;
         name = old_name y _ there h.name ∙ ap (λ p. Some (IsArray p)) (sym same);
         there = ap (λ p. new_machine.setting.objects p.object) same ∙ old_object (layout y).object (match.below y _ h.shape) ∙ h.there;
@@ -203,15 +190,16 @@ module _ (naming : Naming) (forms : Forms) (most : ℕ → ℕ) (layout : Layout
       let same : new_layout y ≡ record { object = m.setting.free; offset = pos 0 } = ap (λ t. cond t (record { object = m.setting.free; offset = pos 0 }) (layout y)) e in
       record {
         extents = extents;
-        object = record { cell = cell; size = product extents *ℤ pos 1; heap = true };
+        object = record { cell = cell; size = product extents *ℤ pos 1; heap = heap };
         plain = all_plain_wider dims good.0;
         narrow = good.1;
         numbers_are = numbers_by_control forms new_state.scene s.scene refl dims good.0;
         shape = ap (λ t. cond t (Some (tensor cell extents)) (s.scene.buffers y)) e;
         view = ap (λ t. cond t (Some (record { buffer = x; sides = whole extents })) (s.scene.views y)) e ∙ ap (λ z. Some (record { buffer = z; sides = whole extents })) (sym (eqb-true y x e));
+        positive = above;
         few = fits;
         name = ap (λ b. cond b (Some (IsArray (record { object = m.setting.free; offset = pos 0 }))) (m.setting.names (naming.binder y))) (subst (λ z. same_name (naming.binder y) (naming.binder z) ≡ true) (eqb-true y x e) (same_name_self (naming.binder y))) ∙ ap (λ p. Some (IsArray p)) (sym same);
-        there = ap (λ p. new_machine.setting.objects p.object) same ∙ ap (λ t. cond t (Some (record { cell = cell; size = product extents *ℤ pos 1; heap = true })) (m.setting.objects m.setting.free)) (eq-eqb m.setting.free m.setting.free refl);
+        there = ap (λ p. new_machine.setting.objects p.object) same ∙ ap (λ t. cond t (Some (record { cell = cell; size = product extents *ℤ pos 1; heap = heap })) (m.setting.objects m.setting.free)) (eq-eqb m.setting.free m.setting.free refl);
         same_cell = refl;
         above = subst (λ p. pos 0 ≤ℤ p.offset) (sym same) (omega (arith, ints));
         room = subst (λ p. (p.offset +ℤ product extents) ≤ℤ (product extents *ℤ pos 1)) (sym same) (omega (arith, ints));
@@ -299,20 +287,27 @@ module _ (naming : Naming) (forms : Forms) (most : ℕ → ℕ) (layout : Layout
           match.apart b c shape other_shape (new_buffer b shape g e) (new_buffer c other_shape h f) may at bt r q
           (sym (ap (λ p. moved p (dot at shape.strides)) (old_layout b g)) ∙ same ∙ ap (λ p. moved p (dot bt other_shape.strides)) (old_layout c h))
 
-  pub allocated_match : Matches naming wider most new_layout new_state new_machine
-  allocated_match = record { names = names_there; cells = cells_there; known = known_there; below = below_there; apart = apart_there }
+  fields_there : AreSameFields naming declared new_state.scene new_machine.setting
+  fields_there f h = record { name = ap (λ b. cond b (Some (IsArray (record { object = m.setting.free; offset = pos 0 }))) (m.setting.names (naming.field f))) (fresh.no_field f h) ∙ (match.fields f h).name; same = (match.fields f h).same; small = (match.fields f h).small }
+
+  pub allocated_match : Matches naming declared wider most new_layout new_state new_machine
+  allocated_match = record { names = names_there; fields = fields_there; cells = cells_there; known = known_there; below = below_there; apart = apart_there }
 
   -- ---- the end of the block
 
-  module _ (c_world : CWorld) (go : State → Option State) (c : CBlock) (rest : (after_layout : Layout) (t : State) (n : Machine) → Matches naming wider most after_layout t n → Follows (Ends naming wider after_layout t n) (go t) (run_c c_world c n)) where
+  module _ (c_world : CWorld) (go : State → Option State) (c : CBlock) (rest : (after_layout : Layout) (t : State) (n : Machine) → Matches naming declared wider most after_layout t n → Follows (Ends naming declared wider after_layout t n) (go t) (run_c c_world c n)) where
     abbrev pointer : Pointer
     pointer = record { object = m.setting.free; offset = pos 0 }
 
     abbrev object : Object
-    object = record { cell = cell; size = product extents *ℤ pos 1; heap = true }
+    object = record { cell = cell; size = product extents *ℤ pos 1; heap = heap }
 
-    abbrev without : Machine → Machine
-    without n = record n { setting = record n.setting { objects = λ k. cond (k == m.setting.free) None (n.setting.objects k) } }
+    abbrev with_objects : (ℕ → Option Object) → Machine → Machine
+    with_objects objects n = record n { setting = record n.setting { objects = objects } }
+
+    -- all but the new one
+    abbrev without : (ℕ → Option Object) → ℕ → Option Object
+    without objects k = cond (k == m.setting.free) None (objects k)
 
     name_there : new_machine.setting.names (naming.binder x) ≡ Some (IsArray pointer)
     name_there = ap (λ b. cond b (Some (IsArray pointer)) (m.setting.names (naming.binder x))) (same_name_self (naming.binder x))
@@ -326,22 +321,24 @@ module _ (naming : Naming) (forms : Forms) (most : ℕ → ℕ) (layout : Layout
     bound_there : wider x ≡ TensorForm cell dims zero
     bound_there = ap (λ t. cond t (TensorForm cell dims zero) (forms x)) (eq-eqb x x refl)
 
-    freed_is : (u : State) (p : Machine) → Ends naming wider new_layout new_state new_machine u p → run_c c_world (first (Free (naming.binder x)) stop) p ≡ Done (without p)
-    freed_is u p r =
+    freed_is : heap ≡ true → (u : State) (p : Machine) → Ends naming declared wider new_layout new_state new_machine u p → run_c c_world (first (Free (naming.binder x)) stop) p ≡ Done (with_objects (without p.setting.objects) p)
+    freed_is on_heap u p r =
         let name : p.setting.names (naming.binder x) ≡ Some (IsArray pointer) = ⊎_elim (λ e. absurd (none_tensor (sym e ∙ bound_there))) (λ e. e ∙ name_there) (r.names x) in
         let held : p.setting.objects m.setting.free ≡ Some object = r.kept.objects m.setting.free (at_free m.setting.free) ∙ object_there in
         ap (λ o. after (after (free_under o p.setting) (λ z. Done (record p { setting = z }))) (λ z. Done z)) name
         ∙ ap (λ o. after (after (freed pointer o p.setting) (λ z. Done (record p { setting = z }))) (λ z. Done z)) held
+        ∙ ap (λ b. after (after (where_good b (Done (record p.setting { objects = without p.setting.objects }))) (λ z. Done (record p { setting = z }))) (λ z. Done z)) on_heap
 
-    all_ends : (u : State) (p : Machine) → Ends naming wider new_layout new_state new_machine u p → Ends naming forms layout s m u (without p)
-    all_ends u p r = record {
+    all_ends : (u : State) (p : Machine) → Ends naming declared wider new_layout new_state new_machine u p → (objects : ℕ → Option Object) → ((o : ℕ) → nat_lt o m.setting.free ≡ true → objects o ≡ p.setting.objects o) → Ends naming declared forms layout s m u (with_objects objects p)
+    all_ends u p r objects same = record {
       kept = record {
         buffers = λ b shape e. r.kept.buffers b shape (kept_there.buffers b shape e);
-        objects = λ o h. ap (λ t. cond t None (p.setting.objects o)) (below_is o m.setting.free h) ∙ r.kept.objects o (below_more o m.setting.free h) ∙ old_object o h;
+        objects = λ o h. same o h ∙ r.kept.objects o (below_more o m.setting.free h) ∙ old_object o h;
         free = le_trans kept_there.free r.kept.free;
         untouched = λ o k h out. r.kept.untouched o k (below_more o m.setting.free h) (outside o k h out) ∙ new_contents o k h;
       };
       names = λ y. ⊎_elim (λ e. inl e) (λ f. ⊎_elim (λ e. inl (gone y e)) (λ e. inr (e ∙ ap (λ b. cond b (Some (IsArray pointer)) (m.setting.names (naming.binder y))) f)) (r.names y)) (fresh.other_name y);
+      fields = r.fields;
       cells = λ b shape e at q. subst (λ l. IsHeld (u.cells b at) (p.contents l.object (l.offset +ℤ dot at shape.strides))) (old_layout b (old_buffer b shape e)) (r.cells b shape (kept_there.buffers b shape e) at q);
     }
       where
@@ -362,52 +359,68 @@ module _ (naming : Naming) (forms : Forms) (most : ℕ → ℕ) (layout : Layout
             pick true d = absurd (none_tensor (sym h ∙ ap (λ t. cond t (TensorForm cell dims zero) (forms y)) d))
             pick false d = sym (ap (λ t. cond t (TensorForm cell dims zero) (forms y)) d) ∙ h
 
-    pub rest_ends : Follows (Ends naming forms layout s m) (go new_state) (after (run_c c_world c new_machine) (run_c c_world (first (Free (naming.binder x)) stop)))
-    rest_ends = finish (go new_state) (run_c c_world c new_machine) (rest new_layout new_state new_machine allocated_match)
+    -- of one that `malloc` made
+    pub freed_ends : heap ≡ true → Follows (Ends naming declared forms layout s m) (go new_state) (after (run_c c_world c new_machine) (run_c c_world (first (Free (naming.binder x)) stop)))
+    freed_ends on_heap = finish (go new_state) (run_c c_world c new_machine) (rest new_layout new_state new_machine allocated_match)
       where
-        finish : (o : Option State) (p : Outcome Machine) → Follows (Ends naming wider new_layout new_state new_machine) o p → Follows (Ends naming forms layout s m) o (after p (run_c c_world (first (Free (naming.binder x)) stop)))
+        finish : (o : Option State) (p : Outcome Machine) → Follows (Ends naming declared wider new_layout new_state new_machine) o p → Follows (Ends naming declared forms layout s m) o (after p (run_c c_world (first (Free (naming.binder x)) stop)))
         finish None p h = tt
-        finish (Some u) (Done p) h = subst (λ z. Follows (Ends naming forms layout s m) (Some u) z) (sym (freed_is u p h)) (all_ends u p h)
+        finish (Some u) (Done p) h = subst (λ z. Follows (Ends naming declared forms layout s m) (Some u) z) (sym (freed_is on_heap u p h)) (all_ends u p h (without p.setting.objects) (λ o k. ap (λ t. cond t None (p.setting.objects o)) (below_is o m.setting.free k)))
         finish (Some u) Fault h = absurd h
         finish (Some u) NoStore h = tt
 
+    -- of one that stands in place
+    pub left_ends : Follows (Ends naming declared forms layout s m) (go new_state) (run_c c_world c new_machine)
+    left_ends = follows_weaken (Ends naming declared wider new_layout new_state new_machine) (Ends naming declared forms layout s m) _ _ (rest new_layout new_state new_machine allocated_match) (λ u p h. all_ends u p h p.setting.objects (λ o k. refl))
+
 -- ---- the whole statement
 
-module _ (naming : Naming) (forms : Forms) (most : ℕ → ℕ) (layout : Layout) (x memory : ℕ) (cell : Cell) (dims : List Control) (good : AreGood forms most dims) (fresh : IsFresh naming forms x) (heap : IsOnHeap naming memory dims) (s : State) (m : Machine) (match : Matches naming forms most layout s m) (c_world : CWorld) (go : State → Option State) (c : CBlock) where
-  abbrev begun : State
-  begun = with_contents x (λ at. Undefined) (on_scene (with_buffer x (tensor cell (numbers s.scene dims))) s)
+module _ (naming : Naming) (declared : Declared) (forms : Forms) (most : ℕ → ℕ) (layout : Layout) (x memory : ℕ) (cell : Cell) (cells : IsOfCells naming memory) (fresh : IsFresh naming declared forms x) (s : State) (m : Machine) (match : Matches naming declared forms most layout s m) (c_world : CWorld) (go : State → Option State) (c : CBlock) where
+  abbrev begun : List Control → State
+  begun dims = with_contents x (λ at. Undefined) (on_scene (with_buffer x (tensor cell (numbers s.scene dims))) s)
 
-  abbrev made_here : Machine
-  made_here = made true (Single cell) (naming.binder x) (product (numbers s.scene dims)) m
+  abbrev made_here : List Control → Machine
+  made_here dims = made true (Single cell) (naming.binder x) (product (numbers s.scene dims)) m
 
   abbrev ending : CBlock
   ending = first (Free (naming.binder x)) stop
 
-  text_is : alloc_of naming x cell dims (naming.memory memory) c ≡ first (Malloc (Single cell) (naming.binder x) (product_of (dims_of naming dims))) (followed_by c ending)
-  text_is =
-      ap (λ l. allocated ((naming.memory memory).stack || is_empty dims) (cond (l == 0) (Single cell) (Vector (naming.memory memory).ctype l cell)) (naming.binder x) (literals (without_lanes l dims)) (product_of (dims_of naming (without_lanes l dims))) c) heap.no_lanes
-      ∙ ap (λ b. allocated b (Single cell) (naming.binder x) (literals dims) (product_of (dims_of naming dims)) c) heap.on_heap
+  text_is : (dims : List Control) → alloc_of naming x cell dims (naming.memory memory) c ≡ allocated (is_empty dims) (Single cell) (naming.binder x) (literals dims) (product_of (dims_of naming dims)) c
+  text_is dims =
+      ap (λ l. allocated ((naming.memory memory).stack || is_empty dims) (cond (l == 0) (Single cell) (Vector (naming.memory memory).ctype l cell)) (naming.binder x) (literals (without_lanes l dims)) (product_of (dims_of naming (without_lanes l dims))) c) cells.no_lanes
+      ∙ ap (λ b. allocated (b || is_empty dims) (Single cell) (naming.binder x) (literals dims) (product_of (dims_of naming dims)) c) cells.no_stack
 
-  abbrev Wider : Form → Type 0
-  Wider f = (after_layout : Layout) (t : State) (n : Machine) → Matches naming (updated forms x f) most after_layout t n → Follows (Ends naming (updated forms x f) after_layout t n) (go t) (run_c c_world c n)
+  abbrev Wider : List Control → ℕ → Type 0
+  Wider dims lanes = (after_layout : Layout) (t : State) (n : Machine) → Matches naming declared (updated forms x (TensorForm cell dims lanes)) most after_layout t n → Follows (Ends naming declared (updated forms x (TensorForm cell dims lanes)) after_layout t n) (go t) (run_c c_world c n)
 
-  pub alloc_follows : Wider (TensorForm cell dims (naming.memory memory).lanes) → Follows (Ends naming forms layout s m) (then_do (allocate x cell (numbers s.scene dims) s) go) (run_c c_world (alloc_of naming x cell dims (naming.memory memory) c) m)
-  alloc_follows rest =
-      subst (λ b. Follows (Ends naming forms layout s m) (then_do (allocate x cell (numbers s.scene dims) s) go) (run_c c_world b m)) (sym text_is) (cases (all_positive (numbers s.scene dims)) refl)
+  no_lanes : (dims : List Control) → Wider dims (naming.memory memory).lanes → Wider dims zero
+  no_lanes dims = subst (Wider dims) cells.no_lanes
+
+  -- in place
+  place_follows : Wider [] zero → Follows (Ends naming declared forms layout s m) (then_do (allocate x cell [] s) go) (run_c c_world (allocated true (Single cell) (naming.binder x) (literals []) (product_of []) c) m)
+  place_follows rest = left_ends naming declared forms most layout x cell [] (tt, tt) fresh s m match refl (omega (arith, ints)) false c_world go c rest
+
+  -- by `malloc`
+  heap_follows : (dims : List Control) → AreGood forms most dims → Wider dims zero → Follows (Ends naming declared forms layout s m) (then_do (allocate x cell (numbers s.scene dims) s) go) (run_c c_world (allocated false (Single cell) (naming.binder x) (literals dims) (product_of (dims_of naming dims)) c) m)
+  heap_follows dims good rest = cases (all_positive (numbers s.scene dims)) refl
     where
-      no_lanes : Wider (TensorForm cell dims zero)
-      no_lanes = subst (λ l. Wider (TensorForm cell dims l)) heap.no_lanes rest
+      ended : all_positive (numbers s.scene dims) ≡ true → product (numbers s.scene dims) ≤ℤ pos 281474976710656 → Follows (Ends naming declared forms layout s m) (go (begun dims)) (run_c c_world (followed_by c ending) (made_here dims))
+      ended above fits = subst (λ o. Follows (Ends naming declared forms layout s m) (go (begun dims)) o) (sym (runs_on c_world c ending (made_here dims))) (freed_ends naming declared forms most layout x cell dims good fresh s m match above fits true c_world go c rest refl)
 
-      ended : product (numbers s.scene dims) ≤ℤ pos 281474976710656 → Follows (Ends naming forms layout s m) (go begun) (run_c c_world (followed_by c ending) made_here)
-      ended fits = subst (λ o. Follows (Ends naming forms layout s m) (go begun) o) (sym (runs_on c_world c ending made_here)) (rest_ends naming forms most layout x cell dims good fresh s m match fits c_world go c no_lanes)
+      size_is : int_le (pos 1) (product (numbers s.scene dims)) ≡ true → (o : Outcome ℤ) → o ≡ Done (product (numbers s.scene dims)) → make true (Single cell) (naming.binder x) o m ≡ Done (made_here dims)
+      size_is h o e = ap (λ z. make true (Single cell) (naming.binder x) z m) e ∙ ap (λ b. where_good b (Done (made_here dims))) h
 
-      size_is : int_le (pos 1) (product (numbers s.scene dims)) ≡ true → (o : Outcome ℤ) → o ≡ Done (product (numbers s.scene dims)) → make true (Single cell) (naming.binder x) o m ≡ Done made_here
-      size_is h o e = ap (λ z. make true (Single cell) (naming.binder x) z m) e ∙ ap (λ b. where_good b (Done made_here)) h
-
-      cases : (b : Bool) → all_positive (numbers s.scene dims) ≡ b → Follows (Ends naming forms layout s m) (then_do (where_true b (Some begun)) go) (after (make true (Single cell) (naming.binder x) (amount m.setting (product_of (dims_of naming dims))) m) (run_c c_world (followed_by c ending)))
+      cases : (b : Bool) → all_positive (numbers s.scene dims) ≡ b → Follows (Ends naming declared forms layout s m) (then_do (where_true b (Some (begun dims))) go) (after (make true (Single cell) (naming.binder x) (amount m.setting (product_of (dims_of naming dims))) m) (run_c c_world (followed_by c ending)))
       cases false e = tt
       cases true e =
           ⊎_elim
-          (λ h. subst (λ o. Follows (Ends naming forms layout s m) (go begun) (after (make true (Single cell) (naming.binder x) o m) (run_c c_world (followed_by c ending)))) (sym h) (nothing (Ends naming forms layout s m) (go begun)))
-          (λ h. subst (λ o. Follows (Ends naming forms layout s m) (go begun) (after o (run_c c_world (followed_by c ending)))) (sym (size_is (positive_product (numbers s.scene dims) e) _ h.0)) (ended h.1))
+          (λ h. subst (λ o. Follows (Ends naming declared forms layout s m) (go (begun dims)) (after (make true (Single cell) (naming.binder x) o m) (run_c c_world (followed_by c ending)))) (sym h) (nothing (Ends naming declared forms layout s m) (go (begun dims))))
+          (λ h. subst (λ o. Follows (Ends naming declared forms layout s m) (go (begun dims)) (after o (run_c c_world (followed_by c ending)))) (sym (size_is (positive_product (numbers s.scene dims) e) _ h.0)) (ended e h.1))
           (dims_amount naming forms most layout s.scene m.setting match.names dims good.0 good.1 e)
+
+  either : (dims : List Control) → AreGood forms most dims → Wider dims zero → Follows (Ends naming declared forms layout s m) (then_do (allocate x cell (numbers s.scene dims) s) go) (run_c c_world (allocated (is_empty dims) (Single cell) (naming.binder x) (literals dims) (product_of (dims_of naming dims)) c) m)
+  either [] good rest = place_follows rest
+  either (d ∷ ds) good rest = heap_follows (d ∷ ds) good rest
+
+  pub alloc_follows : (dims : List Control) → AreGood forms most dims → Wider dims (naming.memory memory).lanes → Follows (Ends naming declared forms layout s m) (then_do (allocate x cell (numbers s.scene dims) s) go) (run_c c_world (alloc_of naming x cell dims (naming.memory memory) c) m)
+  alloc_follows dims good rest = subst (λ b. Follows (Ends naming declared forms layout s m) (then_do (allocate x cell (numbers s.scene dims) s) go) (run_c c_world b m)) (sym (text_is dims)) (either dims good (no_lanes dims rest))

@@ -1,16 +1,17 @@
 -- The same input matches.
 use Rattle.std.proofs.Common.{◌≡◌, ◌≤◌, ◌^◌, ℕ, zero, suc, ℤ, pos, ◌+ℤ◌, ◌≤ℤ◌, ◌==◌, ◌||◌, Bool, true, false, cond, List, [], ◌∷◌, Option, Some, None, refl, sym, ap, ap₂, ◌∙◌, subst, arith, true≢false, nat_lt, eqb-true}
 use Rattle.std.proofs.lemmas.Int.{ints}
+use Rattle.std.proofs.lemmas.Bool.{and_parts}
 use Rattle.std.proofs.Math.IntN.{+ℤ_idl}
 use Rattle.exo_tree.specs.Tree.{Cell, I8, I32, Control, Param, ParamKind, ControlParam, TensorParam, WindowParam, Procedure}
 use Rattle.exo_meaning.specs.Value.{Value, Undefined, Number, wrap, stored_as}
 use Rattle.exo_meaning.specs.Scene.{Shape, Scene, numbers, whole}
 use Rattle.exo_meaning.specs.State.{State}
 use Rattle.exo_meaning.specs.Run.{World, product, row_major, tensor}
-use Rattle.exo_meaning.specs.Inputs.{AreArguments, IsArgument, IsBuffer, is_buffer_of, FitsCell, IsAdmissible}
+use Rattle.exo_meaning.specs.Inputs.{AreArguments, IsArgument, IsBuffer, is_buffer_of, FitsCell, IsAdmissible, has_extents, all_have_extents}
 use Rattle.c_printer.specs.Machine.{Pointer, Thing, IsNumber, IsArray, Object, Machine, moved}
 use Rattle.c_printer.specs.Lowered.{Naming, Form, NoForm, NumberForm, TensorForm, WindowForm, Forms}
-use Rattle.c_printer.specs.Simulation.{Layout, HasForm, Matches, IsHeld, dot, in_range, spot_of}
+use Rattle.c_printer.specs.Simulation.{Declared, AreSameFields, Layout, HasForm, Matches, IsHeld, dot, in_range, spot_of}
 use Rattle.c_printer.specs.SameInput.{form_of, param_forms, IsSame, IsSameTensor, AreSame, IsGoodParam, AreGoodParams}
 use Rattle.c_printer.proofs.Data.{narrow_fits}
 use Rattle.c_printer.proofs.Offsets.{injective}
@@ -27,9 +28,9 @@ fits_held cell Undefined w h e = tt
 fits_held cell (Number n) w h e = (e, ap (wrap I32) (sym h) ∙ narrow_fits cell n ∙ h)
 
 module _ (naming : Naming) (most : ℕ → ℕ) (layout : Layout) (forms : Forms) (s : State) (m : Machine) where
-  form_here : (x : ℕ) (kind : ParamKind) → IsArgument s.scene x kind → IsSame naming most layout s m x kind → IsGoodParam forms most kind → HasForm naming forms most layout s.scene m.setting x (form_of kind)
-  form_here x (ControlParam kind) a h g = record { name = h.name; small = h.small }
-  form_here x (TensorParam cell dims memory) a h g = record {
+  form_here : (x : ℕ) (kind : ParamKind) → IsArgument s.scene x kind → IsSame naming most layout s m x kind → IsGoodParam forms most kind → has_extents s.scene kind ≡ true → HasForm naming forms most layout s.scene m.setting x (form_of kind)
+  form_here x (ControlParam kind) a h g e = record { name = h.name; small = h.small }
+  form_here x (TensorParam cell dims memory) a h g e = record {
     extents = numbers s.scene dims;
     object = h.object;
     plain = g.0;
@@ -37,6 +38,7 @@ module _ (naming : Naming) (most : ℕ → ℕ) (layout : Layout) (forms : Forms
     numbers_are = refl;
     shape = a.0;
     view = a.1;
+    positive = e;
     few = h.few;
     name = h.name;
     there = h.there;
@@ -44,14 +46,17 @@ module _ (naming : Naming) (most : ℕ → ℕ) (layout : Layout) (forms : Forms
     above = subst (λ z. pos 0 ≤ℤ z) (sym h.begins) (omega (arith, ints));
     room = subst (λ z. (z +ℤ product (numbers s.scene dims)) ≤ℤ h.object.size) (sym h.begins) (subst (λ z. (pos 0 +ℤ product (numbers s.scene dims)) ≤ℤ z) (sym h.size) (omega (arith, ints)));
   }
-  form_here x (WindowParam cell dims memory) a h g = absurd h
+  form_here x (WindowParam cell dims memory) a h g e = absurd h
 
-  names_here : (ps : List Param) → AreArguments s.scene ps → AreSame naming most layout s m ps → AreGoodParams forms most ps → (x : ℕ) → HasForm naming forms most layout s.scene m.setting x (param_forms ps x)
-  names_here [] a h g x = tt
-  names_here (p ∷ ps) a h g x = pick (x == p.binder.id) refl (names_here ps a.1 h.1 g.1 x)
+  names_here : (ps : List Param) → AreArguments s.scene ps → AreSame naming most layout s m ps → AreGoodParams forms most ps → all_have_extents s.scene ps ≡ true → (x : ℕ) → HasForm naming forms most layout s.scene m.setting x (param_forms ps x)
+  names_here [] a h g i x = tt
+  names_here (p ∷ ps) a h g i x = pick (x == p.binder.id) refl (names_here ps a.1 h.1 g.1 parts.1 x)
     where
+      parts : (has_extents s.scene p.kind ≡ true) × (all_have_extents s.scene ps ≡ true)
+      parts = and_parts (has_extents s.scene p.kind) (all_have_extents s.scene ps) i
+
       pick : (t : Bool) → (x == p.binder.id) ≡ t → HasForm naming forms most layout s.scene m.setting x (param_forms ps x) → HasForm naming forms most layout s.scene m.setting x (cond t (form_of p.kind) (param_forms ps x))
-      pick true e rest = subst (λ y. HasForm naming forms most layout s.scene m.setting y (form_of p.kind)) (sym (eqb-true x p.binder.id e)) (form_here p.binder.id p.kind a.0 h.0 g.0)
+      pick true e rest = subst (λ y. HasForm naming forms most layout s.scene m.setting y (form_of p.kind)) (sym (eqb-true x p.binder.id e)) (form_here p.binder.id p.kind a.0 h.0 g.0 parts.0)
       pick false e rest = rest
 
   -- what a buffer is
@@ -81,7 +86,7 @@ module _ (naming : Naming) (most : ℕ → ℕ) (layout : Layout) (forms : Forms
       pick false d j rest = more_params p ps b shape d (rest j e)
 
 -- an admissible input of a procedure, and the same for the C
-module _ (naming : Naming) (most : ℕ → ℕ) (layout : Layout) (world : World) (procedure : Procedure) (s : State) (m : Machine) (admissible : IsAdmissible world procedure s) (same : AreSame naming most layout s m procedure.params) (good : AreGoodParams (param_forms procedure.params) most procedure.params) (separate : (x y : ℕ) (shape other : Shape) → s.scene.buffers x ≡ Some shape → s.scene.buffers y ≡ Some other → (layout x).object ≡ (layout y).object → x ≡ y) where
+module _ (naming : Naming) (declared : Declared) (most : ℕ → ℕ) (layout : Layout) (world : World) (procedure : Procedure) (s : State) (m : Machine) (admissible : IsAdmissible world procedure s) (same : AreSame naming most layout s m procedure.params) (fields : AreSameFields naming declared s.scene m.setting) (good : AreGoodParams (param_forms procedure.params) most procedure.params) (separate : (x y : ℕ) (shape other : Shape) → s.scene.buffers x ≡ Some shape → s.scene.buffers y ≡ Some other → (layout x).object ≡ (layout y).object → x ≡ y) (extents : all_have_extents s.scene procedure.params ≡ true) where
   abbrev forms : Forms
   forms = param_forms procedure.params
 
@@ -111,9 +116,10 @@ module _ (naming : Naming) (most : ℕ → ℕ) (layout : Layout) (world : World
   no_tensor : {cell : Cell} {dims : List Control} {lanes : ℕ} → NoForm ≡ TensorForm cell dims lanes → ⊥
   no_tensor e = cc
 
-  pub begun : Matches naming forms most layout s m
+  pub begun : Matches naming declared forms most layout s m
   begun = record {
-    names = names_here naming most layout forms s m procedure.params admissible.arguments same good;
+    names = names_here naming most layout forms s m procedure.params admissible.arguments same good extents;
+    fields = fields;
     cells = cells_here;
     known = λ b shape e n. no_tensor (sym n ∙ (found b shape e).form);
     below = λ b shape e. (found b shape e).same.below;

@@ -18,7 +18,7 @@ use Rattle.c_printer.specs.Magnitude.{IsNarrow, AreNarrow}
 use Rattle.c_printer.specs.Lowered.{Naming, Forms, TensorForm, block_of, cell_in, cell_at_of, number32_of}
 use Rattle.c_printer.specs.LoweredUnit.{naming_in, function_of}
 use Rattle.c_printer.specs.SameInput.{param_forms, AreSame, AreGoodParams, IsGoodParam}
-use Rattle.c_printer.specs.Simulation.{Follows, Layout, Ends, IsHeld, IsGoodDatum, IsGoodBlock, IsGoodStatement, IsTensorName, AreGood}
+use Rattle.c_printer.specs.Simulation.{Follows, Declared, Layout, Ends, IsHeld, IsGoodDatum, IsGoodBlock, IsGoodStatement, IsTensorName, AreGood}
 use Rattle.c_printer.specs.FirstForm.{is_literal, extent, is_first_param, are_first_params, has_cell, is_first_access, is_first_datum, is_first_statement, is_first_block, is_first_form, is_nothing, is_none}
 use Rattle.c_printer.specs.Laws.{Agrees, AreSeparate, FirstFormsFollow}
 use Rattle.c_printer.proofs.FirstAccess.{IsFirstTensor, first_tensor, nothing_below}
@@ -27,6 +27,10 @@ use Rattle.c_printer.proofs.Sure.{Succeeds, Stored, succeeds_then, succeeds_map,
 
 abbrev none_most : ℕ → ℕ
 none_most x = 0
+
+-- it has no configuration fields
+abbrev nothing_declared : Declared
+nothing_declared f = false
 
 -- ---- it is in the part that is simulated
 
@@ -104,7 +108,7 @@ module _ (naming : Naming) (any : (x : ℕ) → naming.stored x ≡ true) (ps : 
       let m = and_parts (is_first_datum ps a) (is_first_datum ps b) l.0 in
       (good_datum a m.0, good_datum b m.1, good_datum c l.1, good_datum d k.1)
 
-  good_block : (b : Block) → is_first_block ps b ≡ true → IsGoodBlock naming forms none_most b
+  good_block : (b : Block) → is_first_block ps b ≡ true → IsGoodBlock naming nothing_declared forms none_most b
   good_block end h = tt
   good_block (next (Assign x is e) b) h =
       let k = and_parts (is_first_access ps x is && is_first_datum ps e) (is_first_block ps b) h in
@@ -241,12 +245,13 @@ first_forms_follow program table layout world c_world p s m h admissible same se
     let all = and_parts (are_first_params p.params && is_first_block p.params p.body && is_nothing p.asserts) (is_none p.template) h in
     let front = and_parts (are_first_params p.params && is_first_block p.params p.body) (is_nothing p.asserts) all.0 in
     let parts = and_parts (are_first_params p.params) (is_first_block p.params p.body) front.0 in
-    let follows = procedures_follow naming none_most layout world c_world p s m admissible same separate (good_params (param_forms p.params) p.params parts.0) (good_block naming (λ x. refl) p.params parts.0 p.body parts.1) in
-    let ends = both_end (Ends naming (param_forms p.params) layout s m) (IsKept s.scene) (IsSet m.setting) (run world p.body s) (run_c c_world (block_of naming (param_forms p.params) p.body) m)
+    let extents = first_extents s.scene p.params parts.0 in
+    let follows = subst (λ t. Follows (Ends naming nothing_declared (param_forms p.params) layout s m) (where_true t (run world p.body s)) (run_c c_world (block_of naming (param_forms p.params) p.body) m)) extents (procedures_follow naming nothing_declared none_most layout world c_world p s m admissible same (λ f e. absurd (true≢false (sym e))) separate (good_params (param_forms p.params) p.params parts.0) (good_block naming (λ x. refl) p.params parts.0 p.body parts.1)) in
+    let ends = both_end (Ends naming nothing_declared (param_forms p.params) layout s m) (IsKept s.scene) (IsSet m.setting) (run world p.body s) (run_c c_world (block_of naming (param_forms p.params) p.body) m)
     (block_succeeds world p.params p.body parts.1 s admissible.arguments) (stored_block naming (λ x. refl) p.params parts.0 c_world p.body parts.1 m) follows in (
       ends.source,
       ends.target,
-      ap (λ b. where_true b (run world p.body s)) (first_extents s.scene p.params parts.0) ∙ ends.source_is,
+      ap (λ b. where_true b (run world p.body s)) extents ∙ ends.source_is,
       ends.target_is,
       record {
         cells = λ b shape e at r. refined (ends.source.cells b at) _ (ends.related.cells b shape e at r);

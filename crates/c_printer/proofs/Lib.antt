@@ -5,8 +5,12 @@ pub mod Numbers
 pub mod Data
 pub mod Follow
 pub mod Places
+pub mod Extents
+pub mod Open
 pub mod Simulate
 pub mod Scopes
+pub mod Tests
+pub mod Settings
 pub mod Allocs
 pub mod Simulated
 pub mod Beginnings

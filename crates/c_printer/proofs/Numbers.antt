@@ -23,13 +23,13 @@ fits_small (negsuc n) h = grind (arith, ints)
 pub checked_small : (z : ℤ) → unsigned_abs z ≤ 2 ^ 62 → checked z ≡ Done z
 checked_small z h = ap (λ t. where_good t (Done z)) (fits_small z h)
 
-abs_add : (a b : ℤ) → unsigned_abs (a +ℤ b) ≤ unsigned_abs a + unsigned_abs b
+pub abs_add : (a b : ℤ) → unsigned_abs (a +ℤ b) ≤ unsigned_abs a + unsigned_abs b
 abs_add a b = grind (arith, ints)
 
-abs_sub : (a b : ℤ) → unsigned_abs (a -ℤ b) ≤ unsigned_abs a + unsigned_abs b
+pub abs_sub : (a b : ℤ) → unsigned_abs (a -ℤ b) ≤ unsigned_abs a + unsigned_abs b
 abs_sub a b = grind (arith, ints)
 
-abs_neg : (a : ℤ) → unsigned_abs (neg_ℤ a) ≡ unsigned_abs a
+pub abs_neg : (a : ℤ) → unsigned_abs (neg_ℤ a) ≡ unsigned_abs a
 abs_neg a = grind (arith, ints)
 
 abs_div : (a : ℤ) (c : ℕ) → 0 < c → unsigned_abs (int_div_euclid a (pos c)) ≤ rounded_up (unsigned_abs a) c
@@ -41,22 +41,22 @@ abs_rem (pos a) c h = let k = mod-lt a h in omega arith
 abs_rem (negsuc a) c h = omega arith
 
 -- a divisor
-positive : (c : ℤ) → pos 1 ≤ℤ c → (n : ℕ) × (c ≡ pos n) × (0 < n) × (int_le (pos 1) c ≡ true)
+pub positive : (c : ℤ) → pos 1 ≤ℤ c → (n : ℕ) × (c ≡ pos n) × (0 < n) × (int_le (pos 1) c ≡ true)
 positive (pos n) h = (n, refl, omega (arith, ints), grind (arith, ints))
 positive (negsuc n) h = absurd (omega (arith, ints))
 
 rounded_more : (m n c : ℕ) → 0 < c → m ≤ n → rounded_up m c ≤ rounded_up n c
 rounded_more m n c h k = let e = div-mul-le_self (m + (c - 1)) c in le-div (rounded_up m c) (n + (c - 1)) c h (omega arith)
 
-div_bounded : (a c : ℤ) (n : ℕ) → pos 1 ≤ℤ c → unsigned_abs a ≤ n → unsigned_abs (int_div_euclid a c) ≤ rounded_up n (unsigned_abs c)
+pub div_bounded : (a c : ℤ) (n : ℕ) → pos 1 ≤ℤ c → unsigned_abs a ≤ n → unsigned_abs (int_div_euclid a c) ≤ rounded_up n (unsigned_abs c)
 div_bounded a (pos c) n h k = let p = (positive (pos c) h) in let q : 0 < c = omega (arith, ints) in le_trans (abs_div a c q) (rounded_more (unsigned_abs a) n c q k)
 div_bounded a (negsuc c) n h k = absurd (omega (arith, ints))
 
-rem_bounded : (a c : ℤ) → pos 1 ≤ℤ c → unsigned_abs (int_rem_euclid a c) ≤ unsigned_abs c - 1
+pub rem_bounded : (a c : ℤ) → pos 1 ≤ℤ c → unsigned_abs (int_rem_euclid a c) ≤ unsigned_abs c - 1
 rem_bounded a (pos c) h = abs_rem a c (omega (arith, ints))
 rem_bounded a (negsuc c) h = absurd (omega (arith, ints))
 
-on_both_done : (f : ℤ → ℤ → ℤ) (o p : Outcome ℤ) (m n : ℤ) → o ≡ Done m → p ≡ Done n → unsigned_abs (f m n) ≤ 2 ^ 62 → on_both f o p ≡ Done (f m n)
+pub on_both_done : (f : ℤ → ℤ → ℤ) (o p : Outcome ℤ) (m n : ℤ) → o ≡ Done m → p ≡ Done n → unsigned_abs (f m n) ≤ 2 ^ 62 → on_both f o p ≡ Done (f m n)
 on_both_done f o p m n h k l = ap₂ (λ x y. on_both f x y) h k ∙ checked_small (f m n) l
 
 pub narrow : (most : ℕ → ℕ) (e : Control) → IsNarrow most e → magnitude most e ≤ 2 ^ 62

@@ -11,7 +11,7 @@ use Rattle.c_printer.specs.Machine.{Outcome, Done, after, where_good, checked, o
 use Rattle.c_printer.specs.CRun.{still_there, back_to, with_counter}
 use Rattle.c_printer.specs.Lowered.{Naming, Forms, Form, NoForm, NumberForm, TensorForm, WindowForm, number_with}
 use Rattle.c_printer.specs.Magnitude.{magnitude, rounded_up, IsNarrow, AreNarrow}
-use Rattle.c_printer.specs.Simulation.{Layout, HasForm, IsCounter, IsTensor, Matches, Kept, IsHeld, IsPlain, ArePlain, IsFresh, in_range, spot_of}
+use Rattle.c_printer.specs.Simulation.{Declared, AreSameFields, Layout, HasForm, IsCounter, IsTensor, Matches, Kept, IsHeld, IsPlain, ArePlain, IsFresh, in_range, spot_of}
 
 pub none_number : NoForm ≡ NumberForm → ⊥
 none_number e = cc
@@ -44,7 +44,7 @@ module _ (forms : Forms) (a b : Scene) (same : a.control ≡ b.control) where
 
 -- ---- a counter more
 
-module _ (naming : Naming) (forms : Forms) (i : ℕ) (fresh : IsFresh naming forms i) where
+module _ (naming : Naming) (declared : Declared) (forms : Forms) (i : ℕ) (fresh : IsFresh naming declared forms i) where
   abbrev wider : Forms
   wider = updated forms i NumberForm
 
@@ -144,7 +144,7 @@ module _ (naming : Naming) (forms : Forms) (i : ℕ) (fresh : IsFresh naming for
 
 -- ---- the match with a counter more
 
-module _ (naming : Naming) (forms : Forms) (most : ℕ → ℕ) (layout : Layout) (i : ℕ) (fresh : IsFresh naming forms i) (bound : ℕ) (n : ℤ) (small : unsigned_abs n ≤ bound) (s : State) (m : Machine) (match : Matches naming forms most layout s m) where
+module _ (naming : Naming) (declared : Declared) (forms : Forms) (most : ℕ → ℕ) (layout : Layout) (i : ℕ) (fresh : IsFresh naming declared forms i) (bound : ℕ) (n : ℤ) (small : unsigned_abs n ≤ bound) (s : State) (m : Machine) (match : Matches naming declared forms most layout s m) where
   abbrev inner_scene : Scene
   inner_scene = with_control i n s.scene
 
@@ -159,10 +159,10 @@ module _ (naming : Naming) (forms : Forms) (most : ℕ → ℕ) (layout : Layout
 
   counter_kept : (x : ℕ) → forms x ≡ NumberForm → IsCounter naming forms most layout s.scene m.setting x → IsCounter naming (updated forms i NumberForm) (updated most i bound) layout inner_scene inner_setting x
   counter_kept x h c =
-      let e = other naming forms i fresh x h in
+      let e = other naming declared forms i fresh x h in
       let value : inner_scene.control x ≡ s.scene.control x = ap (λ t. cond t n (s.scene.control x)) e in
       record {
-        name = other_name x _ (other_text naming forms i fresh x h) c.name ∙ ap (λ z. Some (IsNumber z)) (sym value);
+        name = other_name x _ (other_text naming declared forms i fresh x h) c.name ∙ ap (λ z. Some (IsNumber z)) (sym value);
         small = subst (λ z. unsigned_abs z ≤ updated most i bound x) (sym value) (subst (λ t. unsigned_abs (s.scene.control x) ≤ cond t bound (most x)) (sym e) c.small);
       }
 
@@ -170,11 +170,12 @@ module _ (naming : Naming) (forms : Forms) (most : ℕ → ℕ) (layout : Layout
   tensor_kept x cell dims h t = record {
     extents = t.extents;
     object = t.object;
-    plain = all_plain_wider naming forms i fresh dims t.plain;
-    narrow = all_narrow_wider naming forms i fresh most bound dims t.plain t.narrow;
-    numbers_are = numbers_wider naming forms i fresh s.scene n dims t.plain ∙ t.numbers_are;
+    plain = all_plain_wider naming declared forms i fresh dims t.plain;
+    narrow = all_narrow_wider naming declared forms i fresh most bound dims t.plain t.narrow;
+    numbers_are = numbers_wider naming declared forms i fresh s.scene n dims t.plain ∙ t.numbers_are;
     shape = t.shape;
     view = t.view;
+    positive = t.positive;
     few = t.few;
     name = other_name x _ h t.name;
     there = t.there;
@@ -213,12 +214,15 @@ module _ (naming : Naming) (forms : Forms) (most : ℕ → ℕ) (layout : Layout
       go true k = none_number (sym k)
       go false k = match.known b shape e k
 
-  pub counted : Matches naming (updated forms i NumberForm) (updated most i bound) layout (on_scene (with_control i n) s) (with_counter (naming.binder i) n m)
-  counted = record { names = names_inside; cells = match.cells; known = known_inside; below = match.below; apart = match.apart }
+  fields_inside : AreSameFields naming declared inner_scene inner_setting
+  fields_inside f h = record { name = ap (λ b. cond b (Some (IsNumber n)) (m.setting.names (naming.field f))) (fresh.no_field f h) ∙ (match.fields f h).name; same = (match.fields f h).same; small = (match.fields f h).small }
+
+  pub counted : Matches naming declared (updated forms i NumberForm) (updated most i bound) layout (on_scene (with_control i n) s) (with_counter (naming.binder i) n m)
+  counted = record { names = names_inside; fields = fields_inside; cells = match.cells; known = known_inside; below = match.below; apart = match.apart }
 
 -- ---- the end of a scope
 
-module _ (naming : Naming) (forms : Forms) (most : ℕ → ℕ) (layout : Layout) (s : State) (m : Machine) (match : Matches naming forms most layout s m) (t : State) (n : Machine) (since : Kept naming layout s m t n) (ended : (b : ℕ) (shape : Shape) → s.scene.buffers b ≡ Some shape → (at : List ℤ) → in_range at shape.dims ≡ true → IsHeld (t.cells b at) (n.contents (spot_of layout b shape at).object (spot_of layout b shape at).offset)) where
+module _ (naming : Naming) (declared : Declared) (forms : Forms) (most : ℕ → ℕ) (layout : Layout) (s : State) (m : Machine) (match : Matches naming declared forms most layout s m) (t : State) (n : Machine) (since : Kept naming layout s m t n) (ended : (b : ℕ) (shape : Shape) → s.scene.buffers b ≡ Some shape → (at : List ℤ) → in_range at shape.dims ≡ true → IsHeld (t.cells b at) (n.contents (spot_of layout b shape at).object (spot_of layout b shape at).offset)) (set : (f : ℕ) → declared f ≡ true → (n.setting.fields (naming.field f) ≡ t.scene.fields f) × (unsigned_abs (t.scene.fields f) ≤ 2 ^ 48)) where
   object_back : (o : ℕ) → nat_lt o m.setting.free ≡ true → (back_to m n).setting.objects o ≡ m.setting.objects o
   object_back o h = ap (λ b. still_there b (n.setting.objects o) None) h ∙ since.objects o h
 
@@ -233,6 +237,7 @@ module _ (naming : Naming) (forms : Forms) (most : ℕ → ℕ) (layout : Layout
     numbers_are = numbers_by_control forms (left s t).scene s.scene refl dims h.plain ∙ h.numbers_are;
     shape = h.shape;
     view = h.view;
+    positive = h.positive;
     few = h.few;
     name = h.name;
     there = object_back (layout x).object (match.below x _ h.shape) ∙ h.there;
@@ -249,5 +254,8 @@ module _ (naming : Naming) (forms : Forms) (most : ℕ → ℕ) (layout : Layout
       (subst (λ h. IsHeld (t.cells b at) (still_there h (n.contents (layout b).object) (λ k. Undefined) (spot_of layout b shape at).offset)) (sym (match.below b shape e))
       (ended b shape e at r))
 
-  pub closed : Matches naming forms most layout (left s t) (back_to m n)
-  closed = record { names = λ x. form_back x (forms x) (match.names x); cells = cell_back; known = match.known; below = match.below; apart = match.apart }
+  fields_back : AreSameFields naming declared (left s t).scene (back_to m n).setting
+  fields_back f h = record { name = (match.fields f h).name; same = (set f h).0; small = (set f h).1 }
+
+  pub closed : Matches naming declared forms most layout (left s t) (back_to m n)
+  closed = record { names = λ x. form_back x (forms x) (match.names x); fields = fields_back; cells = cell_back; known = match.known; below = match.below; apart = match.apart }

@@ -14,7 +14,7 @@ use Rattle.c_printer.specs.CTree.{Number64, CellRef, InArray, CBlock, stop, firs
 use Rattle.c_printer.specs.Machine.{Outcome, Done, Fault, NoStore, after, where_good, Pointer, Object, Setting, Machine, moved, number64, spot, number32, with_one, with_two, with_four, relu32, select32, as_unsigned, is_spot, with_change}
 use Rattle.c_printer.specs.CRun.{CWorld, run_c, step_c, store, add_to, put32, into_object}
 use Rattle.c_printer.specs.Lowered.{Naming, Forms, Form, TensorForm, NumberForm, numbers_of, dims_of, cell_ref, cell_at_of, cell_in, number32_of, block_of, before}
-use Rattle.c_printer.specs.Simulation.{Follows, Layout, HasForm, IsTensor, Matches, IsHeld, IsRead, dot, in_range, spot_of, IsTensorName, AreGood, IsGoodDatum, IsGoodBlock, IsGoodStatement, Ran, Kept, IsOutside}
+use Rattle.c_printer.specs.Simulation.{Follows, Declared, Layout, HasForm, IsTensor, Matches, IsHeld, IsRead, dot, in_range, spot_of, IsTensorName, AreGood, IsGoodDatum, IsGoodBlock, IsGoodStatement, Ran, Kept, IsOutside}
 use Rattle.std.proofs.Math.Nat.{le_refl}
 use Rattle.c_printer.proofs.Data.{sum_read, difference_read, product_read, negation_read, relu_read, select_read, literal_read, cell_read, stored_held}
 use Rattle.c_printer.proofs.Follow.{follows_then, follows_map, follows_none, follows_both}
@@ -58,15 +58,15 @@ cond_held : (t u : Bool) (a b c d : Value) → t ≡ u → IsHeld a b → IsHeld
 cond_held true u a b c d e h k = subst (λ v. IsHeld a (cond v b d)) e h
 cond_held false u a b c d e h k = subst (λ v. IsHeld c (cond v b d)) e k
 
-module _ (naming : Naming) (forms : Forms) (most : ℕ → ℕ) (layout : Layout) where
+module _ (naming : Naming) (declared : Declared) (forms : Forms) (most : ℕ → ℕ) (layout : Layout) where
   abbrev Match : State → Machine → Type 0
-  Match = Matches naming forms most layout
+  Match = Matches naming declared forms most layout
 
   -- ---- data
 
   module _ (s : State) (m : Machine) (match : Match s m) where
     abbrev Next : State → Machine → Type 0
-    Next = Ran naming forms most layout s m
+    Next = Ran naming declared forms most layout s m
 
     held_there : {root : ℕ} {cell : Cell} (p : Place) (q : Pointer) (one : AreOne layout s.scene m.setting root cell p q) → IsHeld (held s.cells p) (m.contents q.object q.offset)
     held_there p q one = subst (λ r. IsHeld (held s.cells p) (m.contents r.object r.offset)) one.lies (match.cells p.buffer one.shape one.buffer p.at one.in_buffer)
@@ -111,6 +111,7 @@ module _ (naming : Naming) (forms : Forms) (most : ℕ → ℕ) (layout : Layout
       kept : (f g : Value → Value) → ((u v : Value) → IsHeld u v → IsRead (f u) (g v)) → Match (record s { cells = changed s.cells p (λ old. stored_as one.shape.cell (f old)) }) (put32 m cell g q)
       kept f g k = record {
         names = match.names;
+        fields = match.fields;
         cells = λ b shape e at r. cond_held _ _ _ _ _ _ (same_place b shape at e r) (stored_there _ _ (k _ _ (match.cells b shape e at r))) (match.cells b shape e at r);
         known = match.known;
         below = match.below;

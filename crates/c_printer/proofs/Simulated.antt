@@ -1,10 +1,10 @@
 -- The C of a block follows its run.
-use Rattle.std.proofs.Common.{◌≡◌, ◌≤◌, ◌<◌, ◌+◌, ◌-◌, ◌^◌, ℕ, zero, suc, max, ℤ, pos, negsuc, ◌+ℤ◌, ◌-ℤ◌, ◌≤ℤ◌, Bool, true, false, ◌&&◌, ◌||◌, cond, List, [], ◌∷◌, Option, Some, None, option_map, refl, sym, ap, ap₂, ◌∙◌, subst, arith, true≢false, ◌⊎◌, ⊎_elim, inl, inr, int_lt, int_le, unsigned_abs, nat_lt}
+use Rattle.std.proofs.Common.{◌≡◌, ◌≤◌, ◌<◌, ◌+◌, ◌-◌, ◌^◌, ℕ, zero, suc, max, ℤ, pos, negsuc, ◌+ℤ◌, ◌-ℤ◌, ◌≤ℤ◌, Bool, true, false, not, ◌&&◌, ◌||◌, cond, List, [], ◌∷◌, Option, Some, None, option_map, refl, sym, ap, ap₂, ◌∙◌, subst, arith, true≢false, ◌⊎◌, ⊎_elim, inl, inr, int_lt, int_le, unsigned_abs, nat_lt}
 use Rattle.std.proofs.lemmas.Int.{ints}
 use Rattle.std.specs.Ordering.{int_eq}
 use Rattle.std.proofs.Math.Nat.{le_trans, le_refl}
 use Rattle.exo_tree.specs.Tree.{Cell, I32, Control, Condition, True, False, Flag, FieldFlag, Lt, Le, Gt, Ge, Eq, And, Or, Statement, Assign, Reduce, Config, Pass, If, For, Alloc, View, Call, Block, end, next}
-use Rattle.exo_meaning.specs.Scene.{then_do, Shape, Scene, numbers, number, holds, updated}
+use Rattle.exo_meaning.specs.Scene.{then_do, is_set, Shape, Scene, numbers, number, holds, updated}
 use Rattle.exo_meaning.specs.State.{State, Cells, left, scoped, on_scene, with_control}
 use Rattle.exo_meaning.specs.Value.{Undefined}
 use Rattle.exo_meaning.specs.Run.{World, run, step, assign, reduce, turn, turns, turns_of, range, count, choose}
@@ -14,9 +14,11 @@ use Rattle.c_printer.specs.CRun.{CWorld, run_c, step_c, in_scope, back_to, eithe
 use Rattle.c_printer.specs.Lowered.{Naming, Forms, Form, NoForm, TensorForm, NumberForm, number_of, test_of, block_of, before, forms_after, cell_in, cell_at_of, number32_of}
 use Rattle.c_printer.specs.Laws.{BlocksFollow}
 use Rattle.c_printer.specs.Magnitude.{magnitude}
-use Rattle.c_printer.specs.Simulation.{Follows, Layout, HasForm, Matches, Kept, Ran, Ends, IsOnHeap, IsGood, IsGoodTest, IsGoodBlock, IsGoodStatement, IsTensorName, AreGood, IsGoodDatum, IsFresh, with_bounds, IsPlain}
+use Rattle.c_printer.specs.Simulation.{Follows, Declared, IsSameField, AreSameFields, IsGoodOpen, IsGoodSetting, IsAlone, Layout, HasForm, Matches, Kept, Ran, Ends, IsGood, IsGoodTest, IsGoodBlock, IsGoodStatement, IsTensorName, AreGood, IsGoodDatum, IsFresh, with_bounds, IsPlain}
 use Rattle.c_printer.proofs.Follow.{follows_then, follows_map, follows_done, follows_weaken}
 use Rattle.c_printer.proofs.Numbers.{same_number, counter, bounded, narrow}
+use Rattle.c_printer.proofs.Tests.{test_is}
+use Rattle.c_printer.proofs.Settings.{setting_follows}
 use Rattle.c_printer.proofs.Simulate.{assign_follows, reduce_follows}
 use Rattle.c_printer.proofs.Allocs.{alloc_follows}
 use Rattle.c_printer.proofs.Scopes.{counted, closed, c_number_wider, number_by_control}
@@ -47,59 +49,30 @@ module _ (naming : Naming) (layout : Layout) where
     untouched = λ o i e out. ap (λ b. still_there b (n.contents o) (λ k. Undefined) i) e ∙ h.untouched o i e out;
   }
 
-pub ran_on : (naming : Naming) (forms : Forms) (most : ℕ → ℕ) (layout : Layout) (s : State) (m : Machine) (t : State) (n : Machine) (u : State) (p : Machine) → Ran naming forms most layout s m t n → Ran naming forms most layout t n u p → Ran naming forms most layout s m u p
-ran_on naming forms most layout s m t n u p h k = record { matches = k.matches; kept = kept_trans naming layout s m t n u p h.same_buffers h.kept k.kept; control = k.control ∙ h.control; names = k.names ∙ h.names; same_buffers = k.same_buffers ∙ h.same_buffers }
+pub ran_on : (naming : Naming) (declared : Declared) (forms : Forms) (most : ℕ → ℕ) (layout : Layout) (s : State) (m : Machine) (t : State) (n : Machine) (u : State) (p : Machine) → Ran naming declared forms most layout s m t n → Ran naming declared forms most layout t n u p → Ran naming declared forms most layout s m u p
+ran_on naming declared forms most layout s m t n u p h k = record { matches = k.matches; kept = kept_trans naming layout s m t n u p h.same_buffers h.kept k.kept; control = k.control ∙ h.control; names = k.names ∙ h.names; same_buffers = k.same_buffers ∙ h.same_buffers }
 
--- ---- tests
-
-module _ (naming : Naming) (forms : Forms) (most : ℕ → ℕ) (layout : Layout) (scene : Scene) (setting : Setting) (match : (x : ℕ) → HasForm naming forms most layout scene setting x (forms x)) where
-  number_is : (e : Control) → IsGood forms most e → number64 setting (number_of naming forms e) ≡ Done (number scene e)
-  number_is e h = same_number naming forms most layout scene setting match _ e h.0 h.1
-
-  compared_is : (f : ℤ → ℤ → Bool) (a b : Control) → IsGood forms most a → IsGood forms most b → compared f (number64 setting (number_of naming forms a)) (number64 setting (number_of naming forms b)) ≡ Done (f (number scene a) (number scene b))
-  compared_is f a b h k = ap₂ (compared f) (number_is a h) (number_is b k)
-
-  both_is : (t u : Bool) → unless_false t (Done u) ≡ Done (t && u)
-  both_is true u = refl
-  both_is false u = refl
-
-  either_is : (t u : Bool) → unless_true t (Done u) ≡ Done (t || u)
-  either_is true u = refl
-  either_is false u = refl
-
-  pub test_is : (c : Condition) → IsGoodTest forms most c → test setting (test_of naming forms c) ≡ Done (holds scene c)
-  test_is True h = refl
-  test_is False h = refl
-  test_is (Flag x) h = absurd h
-  test_is (FieldFlag f) h = absurd h
-  test_is (Lt a b) h = compared_is int_lt a b h.0 h.1
-  test_is (Le a b) h = compared_is int_le a b h.0 h.1
-  test_is (Gt a b) h = compared_is (λ m n. int_lt n m) a b h.0 h.1
-  test_is (Ge a b) h = compared_is (λ m n. int_le n m) a b h.0 h.1
-  test_is (Eq a b) h = compared_is int_eq a b h.0 h.1
-  test_is (And c d) h = ap₂ (λ o p. after o (λ t. unless_false t p)) (test_is c h.0) (test_is d h.1) ∙ both_is (holds scene c) (holds scene d)
-  test_is (Or c d) h = ap₂ (λ o p. after o (λ t. unless_true t p)) (test_is c h.0) (test_is d h.1) ∙ either_is (holds scene c) (holds scene d)
-
-pub ran_refl : (naming : Naming) (forms : Forms) (most : ℕ → ℕ) (layout : Layout) (s : State) (m : Machine) → Matches naming forms most layout s m → Ran naming forms most layout s m s m
-ran_refl naming forms most layout s m match = record { matches = match; kept = kept_refl naming layout s m; control = refl; names = refl; same_buffers = refl }
+pub ran_refl : (naming : Naming) (declared : Declared) (forms : Forms) (most : ℕ → ℕ) (layout : Layout) (s : State) (m : Machine) → Matches naming declared forms most layout s m → Ran naming declared forms most layout s m s m
+ran_refl naming declared forms most layout s m match = record { matches = match; kept = kept_refl naming layout s m; control = refl; names = refl; same_buffers = refl }
 
 -- ---- scopes
 
-ends_refl : (naming : Naming) (forms : Forms) (most : ℕ → ℕ) (layout : Layout) (s : State) (m : Machine) → Matches naming forms most layout s m → Ends naming forms layout s m s m
-ends_refl naming forms most layout s m match = record { kept = kept_refl naming layout s m; names = λ x. inr refl; cells = match.cells }
+ends_refl : (naming : Naming) (declared : Declared) (forms : Forms) (most : ℕ → ℕ) (layout : Layout) (s : State) (m : Machine) → Matches naming declared forms most layout s m → Ends naming declared forms layout s m s m
+ends_refl naming declared forms most layout s m match = record { kept = kept_refl naming layout s m; names = λ x. inr refl; fields = λ f h. ((match.fields f h).same, (match.fields f h).small); cells = match.cells }
 
 -- a statement, and then the rest of its block
-ends_on : (naming : Naming) (forms : Forms) (most : ℕ → ℕ) (layout : Layout) (s : State) (m : Machine) (t : State) (n : Machine) (u : State) (p : Machine) → Ran naming forms most layout s m t n → Ends naming forms layout t n u p → Ends naming forms layout s m u p
-ends_on naming forms most layout s m t n u p h k = record {
+ends_on : (naming : Naming) (declared : Declared) (forms : Forms) (most : ℕ → ℕ) (layout : Layout) (s : State) (m : Machine) (t : State) (n : Machine) (u : State) (p : Machine) → Ran naming declared forms most layout s m t n → Ends naming declared forms layout t n u p → Ends naming declared forms layout s m u p
+ends_on naming declared forms most layout s m t n u p h k = record {
   kept = kept_trans naming layout s m t n u p h.same_buffers h.kept k.kept;
   names = λ x. ⊎_elim (λ e. inl e) (λ e. inr (e ∙ ap (λ f. f (naming.binder x)) h.names)) (k.names x);
+  fields = k.fields;
   cells = λ b shape e at r. k.cells b shape (h.kept.buffers b shape e) at r;
 }
 
-module _ (naming : Naming) (forms inner : Forms) (most : ℕ → ℕ) (layout : Layout) where
-  scope_follows : (s : State) (m : Machine) → Matches naming forms most layout s m → (o : Option State) (p : Outcome Machine) → Follows (Ends naming inner layout s m) o p → Follows (Ran naming forms most layout s m) (option_map (left s) o) (after p (λ n. Done (back_to m n)))
-  scope_follows s m match o p h = follows_map (Ends naming inner layout s m) (Ran naming forms most layout s m) o p (left s) (back_to m) h (λ t n r. record {
-    matches = closed naming forms most layout s m match t n r.kept r.cells;
+module _ (naming : Naming) (declared : Declared) (forms inner : Forms) (most : ℕ → ℕ) (layout : Layout) where
+  scope_follows : (s : State) (m : Machine) → Matches naming declared forms most layout s m → (o : Option State) (p : Outcome Machine) → Follows (Ends naming declared inner layout s m) o p → Follows (Ran naming declared forms most layout s m) (option_map (left s) o) (after p (λ n. Done (back_to m n)))
+  scope_follows s m match o p h = follows_map (Ends naming declared inner layout s m) (Ran naming declared forms most layout s m) o p (left s) (back_to m) h (λ t n r. record {
+    matches = closed naming declared forms most layout s m match t n r.kept r.cells r.fields;
     kept = kept_closed naming layout s m t n r.kept;
     control = refl;
     names = refl;
@@ -107,6 +80,10 @@ module _ (naming : Naming) (forms inner : Forms) (most : ℕ → ℕ) (layout : 
   })
 
 -- ---- loops
+
+module _ (naming : Naming) (forms : Forms) (most : ℕ → ℕ) (layout : Layout) (scene : Scene) (setting : Setting) (match : (x : ℕ) → HasForm naming forms most layout scene setting x (forms x)) where
+  pub number_is : (e : Control) → IsGood forms most e → number64 setting (number_of naming forms e) ≡ Done (number scene e)
+  number_is e h = same_number naming forms most layout scene setting match _ e h.0 h.1
 
 between : (n a b : ℤ) → a ≤ℤ n → n ≤ℤ b → unsigned_abs n ≤ max (unsigned_abs a) (unsigned_abs b)
 between (pos n) (pos a) (pos b) h k = omega (arith, ints)
@@ -139,12 +116,12 @@ some_left n at top h = ⊎_elim (λ e. (is_less at top (omega (arith, ints)), om
     is_less : (a b : ℤ) → (a +ℤ pos 1) ≤ℤ b → int_lt a b ≡ true
     is_less a b k = grind (arith, ints)
 
-module _ (naming : Naming) (forms : Forms) (most : ℕ → ℕ) (layout : Layout) (i : ℕ) (lo hi : Control) (good_lo : IsGood forms most lo) (good_hi : IsGood forms most hi) (fresh : IsFresh naming forms i) where
+module _ (naming : Naming) (declared : Declared) (forms : Forms) (most : ℕ → ℕ) (layout : Layout) (i : ℕ) (lo hi : Control) (good_lo : IsGood forms most lo) (good_hi : IsGood forms most hi) (fresh : IsFresh naming declared forms i) where
   abbrev Match : State → Machine → Type 0
-  Match = Matches naming forms most layout
+  Match = Matches naming declared forms most layout
 
   abbrev Next : State → Machine → State → Machine → Type 0
-  Next = Ran naming forms most layout
+  Next = Ran naming declared forms most layout
 
   abbrev wider : Forms
   wider = updated forms i NumberForm
@@ -155,22 +132,22 @@ module _ (naming : Naming) (forms : Forms) (most : ℕ → ℕ) (layout : Layout
   abbrev wider_most : ℕ → ℕ
   wider_most = with_bounds most i lo hi
 
-  module _ (go : State → Option State) (c_go : Machine → Outcome Machine) (follow : (s : State) (m : Machine) → Matches naming wider wider_most layout s m → Follows (Ends naming wider layout s m) (go s) (c_go m)) where
+  module _ (go : State → Option State) (c_go : Machine → Outcome Machine) (follow : (s : State) (m : Machine) → Matches naming declared wider wider_most layout s m → Follows (Ends naming declared wider layout s m) (go s) (c_go m)) where
     turn_follows : (n : ℤ) → unsigned_abs n ≤ max (magnitude most lo) (magnitude most hi) → (s : State) (m : Machine) → Match s m → Follows (Next s m) (turn i go n s) (turn64 (naming.binder i) c_go n m)
     turn_follows n small s m match =
-        scope_follows naming forms nothing most layout s m match _ _
-        (follows_weaken (Ends naming wider layout (on_scene (with_control i n) s) (with_counter (naming.binder i) n m)) (Ends naming nothing layout s m) _ _ (follow (on_scene (with_control i n) s) (with_counter (naming.binder i) n m) (counted naming forms most layout i fresh _ n small s m match))
-        (λ t p r. record { kept = record { buffers = r.kept.buffers; objects = r.kept.objects; free = r.kept.free; untouched = r.kept.untouched }; names = λ x. inl refl; cells = r.cells }))
+        scope_follows naming declared forms nothing most layout s m match _ _
+        (follows_weaken (Ends naming declared wider layout (on_scene (with_control i n) s) (with_counter (naming.binder i) n m)) (Ends naming declared nothing layout s m) _ _ (follow (on_scene (with_control i n) s) (with_counter (naming.binder i) n m) (counted naming declared forms most layout i fresh _ n small s m match))
+        (λ t p r. record { kept = record { buffers = r.kept.buffers; objects = r.kept.objects; free = r.kept.free; untouched = r.kept.untouched }; names = λ x. inl refl; fields = r.fields; cells = r.cells }))
 
     upper_is : (at : ℤ) (s : State) (m : Machine) → Match s m → upper64 (naming.binder i) (number_of naming forms hi) at m ≡ Done (number s.scene hi)
-    upper_is at s m match = c_number_wider naming forms i fresh m.setting (IsNumber at) _ hi good_hi.0 ∙ number_is naming forms most layout s.scene m.setting match.names hi good_hi
+    upper_is at s m match = c_number_wider naming declared forms i fresh m.setting (IsNumber at) _ hi good_hi.0 ∙ number_is naming forms most layout s.scene m.setting match.names hi good_hi
 
     module _ (low top : ℤ) (low_small : unsigned_abs low ≤ magnitude most lo) (top_small : unsigned_abs top ≤ magnitude most hi) where
       turns_follow : (n fuel : ℕ) (at : ℤ) (s : State) (m : Machine) → Match s m → number s.scene hi ≡ top → low ≤ℤ at → Left n at top → n ≤ fuel → Follows (Next s m) (turns (turn i go) (range at n) s) (turns64 (turn64 (naming.binder i) c_go) (upper64 (naming.binder i) (number_of naming forms hi)) fuel at m)
-      turns_follow zero zero at s m match e l h k = follows_done (Next s m) (Some s) _ top _ (upper_is at s m match ∙ ap Done e) (ran_refl naming forms most layout s m match)
+      turns_follow zero zero at s m match e l h k = follows_done (Next s m) (Some s) _ top _ (upper_is at s m match ∙ ap Done e) (ran_refl naming declared forms most layout s m match)
       turns_follow zero (suc fuel) at s m match e l h k =
           follows_done (Next s m) (Some s) _ top _ (upper_is at s m match ∙ ap Done e)
-          (subst (λ b. Follows (Next s m) (Some s) (go_on b (λ p. after (turn64 (naming.binder i) c_go at p) (turns64 (turn64 (naming.binder i) c_go) (upper64 (naming.binder i) (number_of naming forms hi)) fuel (at +ℤ pos 1))) m)) (sym (none_left at top h)) (ran_refl naming forms most layout s m match))
+          (subst (λ b. Follows (Next s m) (Some s) (go_on b (λ p. after (turn64 (naming.binder i) c_go at p) (turns64 (turn64 (naming.binder i) c_go) (upper64 (naming.binder i) (number_of naming forms hi)) fuel (at +ℤ pos 1))) m)) (sym (none_left at top h)) (ran_refl naming declared forms most layout s m match))
       turns_follow (suc n) zero at s m match e l h k = absurd (omega arith)
       turns_follow (suc n) (suc fuel) at s m match e l h k =
           let more = some_left n at top h in
@@ -180,7 +157,7 @@ module _ (naming : Naming) (forms : Forms) (most : ℕ → ℕ) (layout : Layout
           (follows_then (Next s m) (Next s m) _ _ _ _ (turn_follows at small s m match) (λ t p r.
           follows_weaken (Next t p) (Next s m) _ _
           (turns_follow n fuel (at +ℤ pos 1) t p r.matches (number_by_control forms t.scene s.scene r.control hi good_hi.0 ∙ e) (omega (arith, ints)) (inl more.1) (omega arith))
-          (λ u q x. ran_on naming forms most layout s m t p u q r x))))
+          (λ u q x. ran_on naming declared forms most layout s m t p u q r x))))
 
     -- ---- the whole loop
 
@@ -211,51 +188,51 @@ module _ (naming : Naming) (forms : Forms) (most : ℕ → ℕ) (layout : Layout
 
 -- ---- trees
 
-module _ (naming : Naming) (world : World) (c_world : CWorld) where
+module _ (naming : Naming) (declared : Declared) (world : World) (c_world : CWorld) where
   cell_is : (forms : Forms) (x : ℕ) (h : IsTensorName forms x) → cell_in (forms x) I32 ≡ h.0
   cell_is forms x h = ap (λ f. cell_in f I32) h.2
 
-  branch_follows : (forms : Forms) (most : ℕ → ℕ) (layout : Layout) (c : Condition) → IsGoodTest forms most c → (s : State) (m : Machine) → Matches naming forms most layout s m → (f g : State → Option State) (c_f c_g : Machine → Outcome Machine) → Follows (Ends naming forms layout s m) (f s) (c_f m) → Follows (Ends naming forms layout s m) (g s) (c_g m) → Follows (Ran naming forms most layout s m) (scoped (choose (holds s.scene c) f g) s) (after (test m.setting (test_of naming forms c)) (λ t. in_scope (either_way t c_f c_g) m))
+  branch_follows : (forms : Forms) (most : ℕ → ℕ) (layout : Layout) (c : Condition) → IsGoodTest declared forms most c → (s : State) (m : Machine) → Matches naming declared forms most layout s m → (f g : State → Option State) (c_f c_g : Machine → Outcome Machine) → Follows (Ends naming declared forms layout s m) (f s) (c_f m) → Follows (Ends naming declared forms layout s m) (g s) (c_g m) → Follows (Ran naming declared forms most layout s m) (scoped (choose (holds s.scene c) f g) s) (after (test m.setting (test_of naming forms c)) (λ t. in_scope (either_way t c_f c_g) m))
   branch_follows forms most layout c good s m match f g c_f c_g h k =
-      follows_done (Ran naming forms most layout s m) _ _ (holds s.scene c) _ (test_is naming forms most layout s.scene m.setting match.names c good)
-      (scope_follows naming forms forms most layout s m match _ _ (chosen (holds s.scene c)))
+      follows_done (Ran naming declared forms most layout s m) _ _ (holds s.scene c) _ (test_is naming declared forms most layout s.scene m.setting match.names match.fields c good)
+      (scope_follows naming declared forms forms most layout s m match _ _ (chosen (holds s.scene c)))
     where
-      chosen : (t : Bool) → Follows (Ends naming forms layout s m) (choose t f g s) (either_way t c_f c_g m)
+      chosen : (t : Bool) → Follows (Ends naming declared forms layout s m) (choose t f g s) (either_way t c_f c_g m)
       chosen true = h
       chosen false = k
 
   -- the rest of a block, from wherever its first statement leads
   abbrev Rest : Forms → (ℕ → ℕ) → (State → Option State) → CBlock → Type 0
-  Rest forms most go c = (layout : Layout) (s : State) (m : Machine) → Matches naming forms most layout s m → Follows (Ends naming forms layout s m) (go s) (run_c c_world c m)
+  Rest forms most go c = (layout : Layout) (s : State) (m : Machine) → Matches naming declared forms most layout s m → Follows (Ends naming declared forms layout s m) (go s) (run_c c_world c m)
 
   -- a statement that binds nothing, and then the rest
-  and_rest : (forms : Forms) (most : ℕ → ℕ) (layout : Layout) (s : State) (m : Machine) (o : Option State) (p : Outcome Machine) (go : State → Option State) (c : CBlock) → Rest forms most go c → Follows (Ran naming forms most layout s m) o p → Follows (Ends naming forms layout s m) (then_do o go) (after p (run_c c_world c))
+  and_rest : (forms : Forms) (most : ℕ → ℕ) (layout : Layout) (s : State) (m : Machine) (o : Option State) (p : Outcome Machine) (go : State → Option State) (c : CBlock) → Rest forms most go c → Follows (Ran naming declared forms most layout s m) o p → Follows (Ends naming declared forms layout s m) (then_do o go) (after p (run_c c_world c))
   and_rest forms most layout s m o p go c k h =
-      follows_then (Ran naming forms most layout s m) (Ends naming forms layout s m) o p go (run_c c_world c) h
-      (λ t n r. follows_weaken (Ends naming forms layout t n) (Ends naming forms layout s m) _ _ (k layout t n r.matches) (λ u q x. ends_on naming forms most layout s m t n u q r x))
+      follows_then (Ran naming declared forms most layout s m) (Ends naming declared forms layout s m) o p go (run_c c_world c) h
+      (λ t n r. follows_weaken (Ends naming declared forms layout t n) (Ends naming declared forms layout s m) _ _ (k layout t n r.matches) (λ u q x. ends_on naming declared forms most layout s m t n u q r x))
 
   mutual
-    block_follows : (forms : Forms) (most : ℕ → ℕ) (layout : Layout) (b : Block) → IsGoodBlock naming forms most b → (s : State) (m : Machine) → Matches naming forms most layout s m → Follows (Ends naming forms layout s m) (run world b s) (run_c c_world (block_of naming forms b) m)
-    block_follows forms most layout end h s m match = ends_refl naming forms most layout s m match
+    block_follows : (forms : Forms) (most : ℕ → ℕ) (layout : Layout) (b : Block) → IsGoodBlock naming declared forms most b → (s : State) (m : Machine) → Matches naming declared forms most layout s m → Follows (Ends naming declared forms layout s m) (run world b s) (run_c c_world (block_of naming forms b) m)
+    block_follows forms most layout end h s m match = ends_refl naming declared forms most layout s m match
     block_follows forms most layout (next a b) h s m match =
         statement_follows forms most layout a h.0 s m match (run world b) (block_of naming (forms_after naming a forms) b) (λ after_layout t n r. block_follows (forms_after naming a forms) most after_layout b h.1 t n r)
 
-    statement_follows : (forms : Forms) (most : ℕ → ℕ) (layout : Layout) (a : Statement) → IsGoodStatement naming forms most a → (s : State) (m : Machine) → Matches naming forms most layout s m → (go : State → Option State) (c : CBlock) → Rest (forms_after naming a forms) most go c → Follows (Ends naming forms layout s m) (then_do (step world a s) go) (run_c c_world (before naming forms a c) m)
+    statement_follows : (forms : Forms) (most : ℕ → ℕ) (layout : Layout) (a : Statement) → IsGoodStatement naming declared forms most a → (s : State) (m : Machine) → Matches naming declared forms most layout s m → (go : State → Option State) (c : CBlock) → Rest (forms_after naming a forms) most go c → Follows (Ends naming declared forms layout s m) (then_do (step world a s) go) (run_c c_world (before naming forms a c) m)
     statement_follows forms most layout (Assign x is e) h s m match go c k =
-        subst (λ cell. Follows (Ends naming forms layout s m) (then_do (assign x is e s) go) (after (store cell (cell_at_of naming forms x is) (number32_of naming forms e) m) (run_c c_world c))) (sym (cell_is forms x h.0))
-        (and_rest forms most layout s m _ _ go c k (assign_follows naming forms most layout s m match x h.0 is e h.1 h.2 h.3))
+        subst (λ cell. Follows (Ends naming declared forms layout s m) (then_do (assign x is e s) go) (after (store cell (cell_at_of naming forms x is) (number32_of naming forms e) m) (run_c c_world c))) (sym (cell_is forms x h.0))
+        (and_rest forms most layout s m _ _ go c k (assign_follows naming declared forms most layout s m match x h.0 is e h.1 h.2 h.3))
     statement_follows forms most layout (Reduce x is e) h s m match go c k =
-        subst (λ cell. Follows (Ends naming forms layout s m) (then_do (reduce x is e s) go) (after (add_to cell (cell_at_of naming forms x is) (number32_of naming forms e) m) (run_c c_world c))) (sym (cell_is forms x h.0))
-        (and_rest forms most layout s m _ _ go c k (reduce_follows naming forms most layout s m match x h.0 is e h.1 h.2 h.3))
-    statement_follows forms most layout (Config f a) h s m match go c k = absurd h
+        subst (λ cell. Follows (Ends naming declared forms layout s m) (then_do (reduce x is e s) go) (after (add_to cell (cell_at_of naming forms x is) (number32_of naming forms e) m) (run_c c_world c))) (sym (cell_is forms x h.0))
+        (and_rest forms most layout s m _ _ go c k (reduce_follows naming declared forms most layout s m match x h.0 is e h.1 h.2 h.3))
+    statement_follows forms most layout (Config f a) h s m match go c k = and_rest forms most layout s m _ _ go c k (setting_follows naming declared forms most layout s m match world f h.1 h.2 a h.0)
     statement_follows forms most layout Pass h s m match go c k = k layout s m match
     statement_follows forms most layout (If d a b) h s m match go c k =
         and_rest forms most layout s m _ _ go c k (branch_follows forms most layout d h.0 s m match (run world a) (run world b) (run_c c_world (block_of naming forms a)) (run_c c_world (block_of naming forms b)) (block_follows forms most layout a h.1 s m match) (block_follows forms most layout b h.2 s m match))
     statement_follows forms most layout (For i lo hi b) h s m match go c k =
-        and_rest forms most layout s m _ _ go c k (loop_follows naming forms most layout i.id lo hi h.0 h.1 h.2 (run world b) (run_c c_world (block_of naming (updated forms i.id NumberForm) b)) (block_follows (updated forms i.id NumberForm) (with_bounds most i.id lo hi) layout b h.3) s m match)
-    statement_follows forms most layout (Alloc x cell dims memory) h s m match go c k = alloc_follows naming forms most layout x.id memory cell dims h.0 h.1 h.2 s m match c_world go c k
+        and_rest forms most layout s m _ _ go c k (loop_follows naming declared forms most layout i.id lo hi h.0 h.1 h.2 (run world b) (run_c c_world (block_of naming (updated forms i.id NumberForm) b)) (block_follows (updated forms i.id NumberForm) (with_bounds most i.id lo hi) layout b h.3) s m match)
+    statement_follows forms most layout (Alloc x cell dims memory) h s m match go c k = alloc_follows naming declared forms most layout x.id memory cell h.2 h.1 s m match c_world go c dims h.0 k
     statement_follows forms most layout (View w x coords) h s m match go c k = absurd h
     statement_follows forms most layout (Call j args) h s m match go c k = absurd h
 
 pub blocks_follow : BlocksFollow
-blocks_follow naming forms most layout world c_world b h s m match = block_follows naming world c_world forms most layout b h s m match
+blocks_follow naming declared forms most layout world c_world b h s m match = block_follows naming declared world c_world forms most layout b h s m match

@@ -14,11 +14,11 @@ use Rattle.c_printer.specs.Lowered.{Naming, Forms, block_of}
 use Rattle.c_printer.specs.LoweredUnit.{Printing, global_names, naming_in, function_of, lowered}
 use Rattle.c_printer.specs.FirstForm.{is_first_form, is_first_unit}
 use Rattle.c_printer.specs.SameInput.{param_forms, AreSame, AreGoodParams}
-use Rattle.c_printer.specs.Simulation.{Follows, Layout, Matches, Ends, IsGoodBlock, IsOutside, in_range, spot_of}
+use Rattle.c_printer.specs.Simulation.{Follows, Declared, AreSameFields, Layout, Matches, Ends, IsGoodBlock, IsOutside, in_range, spot_of}
 
 -- from matching beginnings the C of a block does not fault where the block does not, and ends holding the same
 abbrev pub BlocksFollow : Type 0
-BlocksFollow = (naming : Naming) (forms : Forms) (most : ℕ → ℕ) (layout : Layout) (world : World) (c_world : CWorld) (b : Block) → IsGoodBlock naming forms most b → (s : State) (m : Machine) → Matches naming forms most layout s m → Follows (Ends naming forms layout s m) (run world b s) (run_c c_world (block_of naming forms b) m)
+BlocksFollow = (naming : Naming) (declared : Declared) (forms : Forms) (most : ℕ → ℕ) (layout : Layout) (world : World) (c_world : CWorld) (b : Block) → IsGoodBlock naming declared forms most b → (s : State) (m : Machine) → Matches naming declared forms most layout s m → Follows (Ends naming declared forms layout s m) (run world b s) (run_c c_world (block_of naming forms b) m)
 
 -- different buffers have different objects
 abbrev pub AreSeparate : Layout → State → Type 0
@@ -26,7 +26,7 @@ AreSeparate layout s = (x y : ℕ) (shape other : Shape) → s.scene.buffers x �
 
 -- from the same input the C of a procedure does not fault where the procedure does not, and leaves cells that refine
 abbrev pub ProceduresFollow : Type 0
-ProceduresFollow = (naming : Naming) (most : ℕ → ℕ) (layout : Layout) (world : World) (c_world : CWorld) (p : Procedure) (s : State) (m : Machine) → IsAdmissible world p s → AreSame naming most layout s m p.params → AreSeparate layout s → AreGoodParams (param_forms p.params) most p.params → IsGoodBlock naming (param_forms p.params) most p.body → Follows (Ends naming (param_forms p.params) layout s m) (run world p.body s) (run_c c_world (block_of naming (param_forms p.params) p.body) m)
+ProceduresFollow = (naming : Naming) (declared : Declared) (most : ℕ → ℕ) (layout : Layout) (world : World) (c_world : CWorld) (p : Procedure) (s : State) (m : Machine) → IsAdmissible world p s → AreSame naming most layout s m p.params → AreSameFields naming declared s.scene m.setting → AreSeparate layout s → AreGoodParams (param_forms p.params) most p.params → IsGoodBlock naming declared (param_forms p.params) most p.body → Follows (Ends naming declared (param_forms p.params) layout s m) (run_procedure world p s) (run_c c_world (block_of naming (param_forms p.params) p.body) m)
 
 -- ---- the first form
 

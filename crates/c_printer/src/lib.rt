@@ -9,5 +9,5 @@ mod text;
 pub mod tree;
 
 pub use first_form::{is_first_unit, stands_alone};
-pub use lowering::{LowerError, Printed, lower};
+pub use lowering::{LowerError, Printed, lower, lower_report};
 pub use text::c_text;

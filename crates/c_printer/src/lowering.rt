@@ -314,8 +314,12 @@ fn report_line(alloc: Global, unit: &Unit, w: &Printed) -> Result<ReportLine, Al
     })
 }
 
-/// The report.
-fn lower_report(alloc: Global, unit: &Unit, what: &[Printed]) -> Result<Vec<ReportLine>, AllocError>
+/// The report at the head of a file: a line for each listed procedure.
+pub fn lower_report(
+    alloc: Global,
+    unit: &Unit,
+    what: &[Printed],
+) -> Result<Vec<ReportLine>, AllocError>
     ensures { IfOk result (λ v. map plain_line v.items ≡ map (λ w. line_of (program unit.now) (printing w)) what.now) }
 {
     let mut made = Vec::new(alloc);

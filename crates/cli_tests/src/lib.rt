@@ -6,6 +6,8 @@ mod checks;
 #[cfg(test)]
 mod examples;
 #[cfg(test)]
+mod kernels;
+#[cfg(test)]
 mod limits;
 #[cfg(test)]
 mod rules;

@@ -13,7 +13,8 @@ const STATEMENTS: [(&str, &str); 6] = [
     ("x[stride(x, 0)] = 1", "exoc: u.py:3:7: StridePlace\n"),
 ];
 
-/// A configuration field as an index; and the same call with a callee that writes neither parameter, which breaks no rule.
+/// A configuration field as an index; and the same call with a callee that writes neither parameter, which breaks no rule and
+/// is refused where it is printed.
 const UNITS: [(&str, &str); 2] = [
     (
         "@config\nclass Cfg:\n    w: size\n@proc\ndef f(n: size, x: i32[n]):\n    x[Cfg.w] = 1\n",
@@ -43,7 +44,12 @@ fn a_broken_rule_is_named(rt: HostRuntime) -> Result<(), Fail> {
 fn fields_and_calls_have_their_places(rt: HostRuntime) -> Result<(), Fail> {
     let alloc = rt.alloc();
     for (unit, message) in UNITS {
-        let ran = compile(&rt, unit.as_bytes().to_vec(alloc)?, Vec::new(alloc), &[])?;
+        let ran = compile(
+            &rt,
+            unit.as_bytes().to_vec(alloc)?,
+            b"emit(g)\n".to_vec(alloc)?,
+            &[],
+        )?;
         assert_eq!(rt; ran.status, Status::Refused);
         assert_eq!(rt; ran.err.bytes(), message.as_bytes());
     }

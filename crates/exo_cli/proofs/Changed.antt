@@ -1,79 +1,119 @@
--- The statements that commute_expr leaves, from those before: one assignment is another one.
-use Rattle.std.proofs.Common.{◌≡◌, ℕ, List, [], ◌∷◌, ◌++◌, Option, Some, None, Bool, true, false, ◌&&◌, if◌then◌else◌, refl, sym, ap, ◌∙◌}
-use Rattle.exo_tree.specs.Tree.{Control, Datum, Const, Read, Negated, Relu, Plus, Minus, Times, Select, Statement, Assign, block, statements, Param, Procedure}
-use Rattle.c_printer.specs.FirstForm.{is_first_access, is_first_datum, is_first_statement, is_first_block, are_first_params, is_first_form, is_nothing, is_none}
-use Rattle.exo_cli.specs.Commute.{Stepped, Made, NoSuchPattern, WrongShape, has, exchanged, assigns, changed_before, behind, commuted, parameter_of, with_body, commuted_at, commute_expr}
+-- The block that commute_expr leaves, from the one before: somewhere in it one assignment is another one.
+use Rattle.std.proofs.Common.{◌≡◌, ◌⊎◌, inl, inr, ⊎_elim, ℕ, List, Option, Bool, true, false, ◌&&◌, if◌then◌else◌, refl, sym, ap, ◌∙◌, subst}
+use Rattle.std.specs.Prelude.{bytes_eq}
+use Rattle.exo_tree.specs.Tree.{Control, Datum, Const, Read, Negated, Relu, Plus, Minus, Times, Select, Statement, Assign, Reduce, Config, Pass, If, For, Alloc, View, Call, Block, end, next, Procedure}
+use Rattle.exo_tree.specs.Context.{Context, Here, After, InLoop, InThen, InElse, fill}
+use Rattle.exo_cli.specs.Commute.{Stepped, Made, NoSuchPattern, WrongShape, then_made, or_in, has, exchanged, number_after, is_number, assignment, commuted, commuted_in, parameter_of, with_body, commute_expr}
 use Rattle.exo_cli.specs.declared.commute.Operation.{Operation}
 use Rattle.exo_cli.specs.declared.commute.Operation.TheVariants.{Sum, Product}
-use Rattle.exo_cli.proofs.Kept.{refused_is_not_made, misshapen_is_not_made, made_is, block_of_statements}
 
--- between the same statements, an assignment has the sides of a sum or product exchanged
-pub record IsChanged (o : Operation) (old new : List Statement) : Type 0 where
-  pub front : List Statement
+-- somewhere in a block, an assignment has the sides of a sum or product exchanged
+pub record IsChanged (o : Operation) (old new : Block) : Type 0 where
+  pub around : Context
   pub target : ℕ
   pub indices : List Control
   pub value : Datum
-  pub back : List Statement
-  pub before : front ++ Assign target indices value ∷ back ≡ old
-  pub after : front ++ Assign target indices (exchanged o value) ∷ back ≡ new
+  pub before : fill around (next (Assign target indices value) end) ≡ old
+  pub after : fill around (next (Assign target indices (exchanged o value)) end) ≡ new
 
-changed_here : (o : Operation) (a : Statement) (rest ts : List Statement) → changed_before o a rest ≡ Made ts → IsChanged o (a ∷ rest) ts
-changed_here o (Assign x is e) rest ts made = go (has o e) made
+-- ---- what is made
+
+abbrev unmatched : (T : Type 0) → Stepped T
+unmatched T = NoSuchPattern
+
+abbrev misshapen : (T : Type 0) → Stepped T
+misshapen T = WrongShape
+
+pub refused_is_not_made : {T : Type 0} (t : T) → unmatched T ≡ Made t → ⊥
+refused_is_not_made t e = cc
+
+pub misshapen_is_not_made : {T : Type 0} (t : T) → misshapen T ≡ Made t → ⊥
+misshapen_is_not_made t e = cc
+
+pub made_is : {T : Type 0} (t u : T) → Made t ≡ Made u → t ≡ u
+made_is t u e = cc
+
+-- what is made of the whole comes from what is made of the part
+pub made_of : {T U : Type 0} (f : T → U) (r : Stepped T) (u : U) → then_made f r ≡ Made u → (t : T) × (r ≡ Made t) × (f t ≡ u)
+made_of f (Made t) u e = (t, refl, made_is (f t) u e)
+made_of f NoSuchPattern u e = absurd (refused_is_not_made u e)
+made_of f WrongShape u e = absurd (misshapen_is_not_made u e)
+
+-- what is made is made of the first part, or of the rest
+pub made_in : {T : Type 0} (r rest : Stepped T) (t : T) → or_in r rest ≡ Made t → (r ≡ Made t) ⊎ (rest ≡ Made t)
+made_in (Made u) rest t e = inl e
+made_in NoSuchPattern rest t e = inr e
+made_in WrongShape rest t e = absurd (misshapen_is_not_made t e)
+
+-- ---- where it is changed
+
+-- a block that is changed within another one
+within : (o : Operation) (f : Context → Context) (g : Block → Block) → ((c : Context) (b : Block) → fill (f c) b ≡ g (fill c b)) → (b c : Block) → IsChanged o b c → IsChanged o (g b) (g c)
+within o f g fills b c is = record {
+  around = f is.around;
+  target = is.target;
+  indices = is.indices;
+  value = is.value;
+  before = fills is.around (next (Assign is.target is.indices is.value) end) ∙ ap g is.before;
+  after = fills is.around (next (Assign is.target is.indices (exchanged o is.value)) end) ∙ ap g is.after;
+}
+
+here : (o : Operation) (y : ℕ) (at : List Control) (e : Datum) (rest : Block) (c : Statement) → assignment o y at e ≡ Made c → IsChanged o (next (Assign y at e) rest) (next c rest)
+here o y at e rest c = go (has o e)
   where
-    go : (t : Bool) → (if t then Made (Assign x is (exchanged o e) ∷ rest) else WrongShape) ≡ Made ts → IsChanged o (Assign x is e ∷ rest) ts
-    go true h = record { front = []; target = x; indices = is; value = e; back = rest; before = refl; after = made_is _ ts h }
-    go false h = absurd (misshapen_is_not_made ts h)
-changed_here o a rest ts made = absurd (misshapen_is_not_made ts made)
+    go : (t : Bool) → (if t then Made (Assign y at (exchanged o e)) else WrongShape) ≡ Made c → IsChanged o (next (Assign y at e) rest) (next c rest)
+    go true h = record { around = Here rest; target = y; indices = at; value = e; before = refl; after = ap (λ a. next a rest) (made_is _ c h) }
+    go false h = absurd (misshapen_is_not_made c h)
 
-changed_behind : (o : Operation) (a : Statement) (rest ts : List Statement) (r : Stepped (List Statement)) → behind a r ≡ Made ts → ((us : List Statement) → r ≡ Made us → IsChanged o rest us) → IsChanged o (a ∷ rest) ts
-changed_behind o a rest ts (Made us) made later =
-    let is = later us refl in
-    record {
-      front = a ∷ is.front;
-      target = is.target;
-      indices = is.indices;
-      value = is.value;
-      back = is.back;
-      before = ap (λ l. a ∷ l) is.before;
-      after = ap (λ l. a ∷ l) is.after ∙ made_is (a ∷ us) ts made;
-    }
-changed_behind o a rest ts NoSuchPattern made later = absurd (refused_is_not_made ts made)
-changed_behind o a rest ts WrongShape made later = absurd (misshapen_is_not_made ts made)
+where_it_is : (o : Operation) (t : Bool) (y : ℕ) (at : List Control) (e : Datum) (rest : Block) (c : Statement) → (if t then assignment o y at e else NoSuchPattern) ≡ Made c
+    → IsChanged o (next (Assign y at e) rest) (next c rest)
+where_it_is o true y at e rest c h = here o y at e rest c h
+where_it_is o false y at e rest c h = absurd (refused_is_not_made c h)
 
-pub changed_in : (o : Operation) (x : ℕ) (ss ts : List Statement) → commuted x o ss ≡ Made ts → IsChanged o ss ts
-changed_in o x [] ts made = absurd (refused_is_not_made ts made)
-changed_in o x (a ∷ rest) ts made = go (assigns x a) (λ us h. changed_in o x rest us h) made
-  where
-    go : (t : Bool) → ((us : List Statement) → commuted x o rest ≡ Made us → IsChanged o rest us)
-        → (if t then changed_before o a rest else behind a (commuted x o rest)) ≡ Made ts → IsChanged o (a ∷ rest) ts
-    go true later h = changed_here o a rest ts h
-    go false later h = changed_behind o a rest ts (commuted x o rest) h later
+no_view : (t : Bool) (c : Statement) → (if t then misshapen Statement else NoSuchPattern) ≡ Made c → ⊥
+no_view true c h = misshapen_is_not_made c h
+no_view false c h = refused_is_not_made c h
+
+module _ (x : List ℕ) (o : Operation) where
+  mutual
+    pub changed_in : (found : Option ℕ) (b c : Block) → commuted_in x o found b ≡ Made c → IsChanged o b c
+    changed_in found end c h = absurd (refused_is_not_made c h)
+    changed_in found (next a b) c h =
+        ⊎_elim
+        (λ k. let d = made_of (λ s. next s b) (commuted x o found a) c k in subst (IsChanged o (next a b)) d.2 (changed_at found a d.0 b d.1))
+        (λ k. let d = made_of (next a) (commuted_in x o (number_after x found a) b) c k in
+        subst (IsChanged o (next a b)) d.2 (within o (After a) (next a) (λ f g. refl) b d.0 (changed_in (number_after x found a) b d.0 d.1)))
+        (made_in (then_made (λ s. next s b) (commuted x o found a)) (then_made (next a) (commuted_in x o (number_after x found a) b)) c h)
+
+    changed_at : (found : Option ℕ) (a c : Statement) (rest : Block) → commuted x o found a ≡ Made c → IsChanged o (next a rest) (next c rest)
+    changed_at found (Assign y at e) c rest h = where_it_is o (is_number found y) y at e rest c h
+    changed_at found (View y z coords) c rest h = absurd (no_view (bytes_eq y.name x) c h)
+    changed_at found (If t a b) c rest h =
+        ⊎_elim
+        (λ k. let d = made_of (λ e. If t e b) (commuted_in x o found a) c k in
+        subst (λ s. IsChanged o (next (If t a b) rest) (next s rest)) d.2 (within o (λ f. InThen t f b rest) (λ e. next (If t e b) rest) (λ f g. refl) a d.0 (changed_in found a d.0 d.1)))
+        (λ k. let d = made_of (If t a) (commuted_in x o found b) c k in
+        subst (λ s. IsChanged o (next (If t a b) rest) (next s rest)) d.2 (within o (λ f. InElse t a f rest) (λ e. next (If t a e) rest) (λ f g. refl) b d.0 (changed_in found b d.0 d.1)))
+        (made_in (then_made (λ e. If t e b) (commuted_in x o found a)) (then_made (If t a) (commuted_in x o found b)) c h)
+    changed_at found (For i lo hi b) c rest h =
+        let d = made_of (For i lo hi) (commuted_in x o found b) c h in
+        subst (λ s. IsChanged o (next (For i lo hi b) rest) (next s rest)) d.2 (within o (λ f. InLoop i lo hi f rest) (λ e. next (For i lo hi e) rest) (λ f g. refl) b d.0 (changed_in found b d.0 d.1))
+    changed_at found (Reduce y at e) c rest h = absurd (refused_is_not_made c h)
+    changed_at found (Config f a) c rest h = absurd (refused_is_not_made c h)
+    changed_at found Pass c rest h = absurd (refused_is_not_made c h)
+    changed_at found (Alloc y cell dims memory) c rest h = absurd (refused_is_not_made c h)
+    changed_at found (Call k args) c rest h = absurd (refused_is_not_made c h)
 
 -- the procedure is another one with its body changed
 pub record HasBody (o : Operation) (p q : Procedure) : Type 0 where
-  pub old : List Statement
-  pub new : List Statement
-  pub body : block old ≡ p.body
-  pub changed : IsChanged o old new
-  pub is : record p { body = block new } ≡ q
+  pub new : Block
+  pub changed : IsChanged o p.body new
+  pub is : with_body p new ≡ q
 
 pub commuted_body : (p q : Procedure) (x : List ℕ) (o : Operation) → commute_expr p x o ≡ Made q → HasBody o p q
-commuted_body p q x o made = at (parameter_of p.params x) made
-  where
-    of : (y : ℕ) (r : Stepped (List Statement)) → commuted y o (statements p.body) ≡ r → with_body p r ≡ Made q → HasBody o p q
-    of y NoSuchPattern is e = absurd (refused_is_not_made q e)
-    of y WrongShape is e = absurd (misshapen_is_not_made q e)
-    of y (Made ts) is e = record {
-      old = statements p.body;
-      new = ts;
-      body = block_of_statements p.body;
-      changed = changed_in o y (statements p.body) ts is;
-      is = made_is (record p { body = block ts }) q e;
-    }
-
-    at : (found : Option ℕ) → commuted_at p o found ≡ Made q → HasBody o p q
-    at None e = absurd (refused_is_not_made q e)
-    at (Some y) e = of y (commuted y o (statements p.body)) refl e
+commuted_body p q x o made =
+    let d = made_of (with_body p) (commuted_in x o (parameter_of p.params x) p.body) q made in
+    record { new = d.0; changed = changed_in x o (parameter_of p.params x) p.body d.0 d.1; is = d.2 }
 
 -- ---- a test on expressions that asks the same of both sides
 
@@ -128,35 +168,3 @@ module _ (t : Datum → Bool) where
   exchanged_same sides o (Select a b c d) =
       four_same Select sides.all_four sides.select (has o a) (has o b) (has o c) a b c d (exchanged o a) (exchanged o b) (exchanged o c) (exchanged o d)
       (exchanged_same sides o a) (exchanged_same sides o b) (exchanged_same sides o c) (exchanged_same sides o d)
-
--- ---- the first form
-
-pub first_datum_same : (ps : List Param) (o : Operation) (e : Datum) → is_first_datum ps (exchanged o e) ≡ is_first_datum ps e
-first_datum_same ps = exchanged_same (is_first_datum ps) (record {
-  negated = λ a. refl;
-  relu = λ a. refl;
-  plus = λ a b. refl;
-  minus = λ a b. refl;
-  times = λ a b. refl;
-  all_four = λ a b c d. a && b && c && d;
-  select = λ a b c d. refl;
-})
-
--- a test of blocks that asks of each statement alone is the same of them
-first_block_same : (ps : List Param) (front : List Statement) (a b : Statement) (back : List Statement) → is_first_statement ps b ≡ is_first_statement ps a
-    → is_first_block ps (block (front ++ b ∷ back)) ≡ is_first_block ps (block (front ++ a ∷ back))
-first_block_same ps [] a b back same = ap (λ t. t && is_first_block ps (block back)) same
-first_block_same ps (c ∷ front) a b back same = ap (λ t. is_first_statement ps c && t) (first_block_same ps front a b back same)
-
-pub changed_first : (ps : List Param) (o : Operation) (old new : List Statement) → IsChanged o old new → is_first_block ps (block new) ≡ is_first_block ps (block old)
-changed_first ps o old new c =
-    ap (λ l. is_first_block ps (block l)) (sym c.after)
-    ∙ first_block_same ps c.front (Assign c.target c.indices c.value) (Assign c.target c.indices (exchanged o c.value)) c.back (ap (λ t. is_first_access ps c.target c.indices && t) (first_datum_same ps o c.value))
-    ∙ ap (λ l. is_first_block ps (block l)) c.before
-
-pub commuted_first : (p q : Procedure) (x : List ℕ) (o : Operation) → commute_expr p x o ≡ Made q → is_first_form q ≡ is_first_form p
-commuted_first p q x o made =
-    let c = commuted_body p q x o made in
-    ap is_first_form (sym c.is)
-    ∙ ap (λ t. are_first_params p.params && t && is_nothing p.asserts && is_none p.template) (changed_first p.params o c.old c.new c.changed)
-    ∙ ap (λ b. are_first_params p.params && is_first_block p.params b && is_nothing p.asserts && is_none p.template) c.body

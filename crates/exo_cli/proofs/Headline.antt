@@ -7,10 +7,10 @@ use Rattle.exo_meaning.specs.Calls.{all_hold}
 use Rattle.exo_meaning.specs.State.{State}
 use Rattle.exo_meaning.specs.Run.{World}
 use Rattle.exo_meaning.specs.Inputs.{IsAdmissible, AreArguments, is_buffer_of}
-use Rattle.c_printer.specs.CTree.{Name}
-use Rattle.c_printer.specs.LoweredUnit.{Printing, name_of, printed_names}
-use Rattle.c_printer.specs.FirstForm.{is_first, are_first, is_first_unit}
-use Rattle.c_printer.proofs.FirstUnits.{all_first}
+use Rattle.c_printer.specs.LoweredUnit.{Printing, name_of}
+use Rattle.c_printer.specs.FirstForm.{is_first_unit}
+use Rattle.c_lowering.specs.SelfContained.{is_there_alone, are_self_contained}
+use Rattle.c_lowering.specs.Refusals.{too_wide, name_clash}
 use Rattle.c_printer.proofs.FirstUnitsFollow.{first_units_follow}
 use Rattle.phrases.specs.Text.{IsText}
 use Rattle.exo_lexer.specs.declared.place.Place.{Place}
@@ -26,8 +26,8 @@ use Rattle.exo_cli.specs.Messages.{usage, file_refused}
 use Rattle.exo_cli.specs.Words.{Command, Compile, command_of}
 use Rattle.exo_cli.specs.Work.{file_limit, Opens, AnswersTo, Answers, Moment, Ends}
 use Rattle.exo_cli.specs.Answer.{Answer, Accepted, Rejected, Unread, Misused, status_of, for_out, for_err}
-use Rattle.exo_cli.specs.Compiled.{IsCompiled, broken, not_built, typed, ended, scheduled, started, printing_of, printings, with_versions}
-use Rattle.exo_cli.specs.FirstUnits.{is_built}
+use Rattle.exo_cli.specs.Compiled.{IsCompiled, broken, not_built, typed, by_names, by_width, ended, scheduled, started, printing_of, printings, with_versions}
+use Rattle.exo_cli.specs.Built.{are_in_dram, are_built}
 use Rattle.exo_cli.specs.Lines as lines
 use Rattle.exo_cli.specs.Lines.{Versions, Outcome, run_lines}
 use Rattle.exo_cli.specs.ScheduleForm.{schedule_of}
@@ -35,16 +35,15 @@ use Rattle.exo_cli.specs.Kept.{IsVersionOf, HasOrigin, AreVersions}
 use Rattle.exo_cli.specs.Headline.{DoesWhat, IsPrinted, Promise, Promised}
 use Rattle.exo_cli.specs.declared.lines.Line.{Line}
 use Rattle.exo_cli.proofs.Kept.{nothing_there, some_is, index_is, runs_alike, schedules_run_alike}
-use Rattle.exo_cli.proofs.Built.{accepted_is_built}
 
--- each listed procedure is there and of the first form
-listed_is_first : (program : Program) (globals : List Name) (what : List Printing) (k : ℕ) (w : Printing) → are_first program globals what ≡ true → slice_get what k ≡ Some w
-    → is_first globals (slice_get program.procedures w.proc) ≡ true
-listed_is_first program globals [] zero w h e = absurd (nothing_there e)
-listed_is_first program globals [] (suc k) w h e = absurd (nothing_there e)
-listed_is_first program globals (u ∷ us) zero w h e =
-    subst (λ l. is_first globals (slice_get program.procedures l.proc) ≡ true) (some_is e) (and_parts (is_first globals (slice_get program.procedures u.proc)) (are_first program globals us) h).0
-listed_is_first program globals (u ∷ us) (suc k) w h e = listed_is_first program globals us k w (and_parts (is_first globals (slice_get program.procedures u.proc)) (are_first program globals us) h).1 e
+-- each listed procedure is there
+listed_is_there : (program : Program) (what : List Printing) (k : ℕ) (w : Printing) → are_self_contained program what ≡ true → slice_get what k ≡ Some w
+    → is_there_alone program.memories (slice_get program.procedures w.proc) ≡ true
+listed_is_there program [] zero w h e = absurd (nothing_there e)
+listed_is_there program [] (suc k) w h e = absurd (nothing_there e)
+listed_is_there program (u ∷ us) zero w h e =
+    subst (λ l. is_there_alone program.memories (slice_get program.procedures l.proc) ≡ true) (some_is e) (and_parts (is_there_alone program.memories (slice_get program.procedures u.proc)) (are_self_contained program us) h).0
+listed_is_there program (u ∷ us) (suc k) w h e = listed_is_there program us k w (and_parts (is_there_alone program.memories (slice_get program.procedures u.proc)) (are_self_contained program us) h).1 e
 
 -- a version has the admissible inputs of its origin
 admissible_too : (world : World) (p q : Procedure) (s : State) → IsVersionOf p q → IsAdmissible world p s → IsAdmissible world q s
@@ -57,18 +56,18 @@ admissible_too world p q s version good = record {
   asserts = ap (λ cs. all_hold s.scene cs) version.asserts ∙ good.asserts;
 }
 
-module _ (text : Program) (v : Versions) (h : is_first_unit (with_versions text v) (printings v) ≡ true) (are : AreVersions text.procedures v) where
+module _ (text : Program) (v : Versions) (built : are_self_contained (with_versions text v) (printings v) ≡ true) (are : AreVersions text.procedures v) where
   -- what is printed for a version comes from its origin
   version_does : (k n : ℕ) (q : Procedure) → slice_get (printings v) k ≡ Some (printing_of v n) → slice_get v.procedures n ≡ Some q → (o : HasOrigin text.procedures v n q)
-      → DoesWhat (with_versions text v) (printings v) k o.origin q
-  version_does k n q listed there o world c_world layout s m valid input =
+      → is_first_unit (with_versions text v) (printings v) ≡ true → DoesWhat (with_versions text v) (printings v) k o.origin q
+  version_does k n q listed there o h world c_world layout s m valid input =
       let follows = first_units_follow (with_versions text v) (printings v) k (printing_of v n) q layout world c_world s m h listed there (admissible_too world o.origin q s o.kept valid.admissible) input.same input.separate in
       (follows.0, follows.1, follows.2, follows.3, sym (runs_alike world o.origin q o.kept s) ∙ follows.4, follows.5, follows.6)
 
   version_printed : (k n : ℕ) (found : Option Procedure) → slice_get (printings v) k ≡ Some (printing_of v n) → slice_get v.procedures n ≡ found
-      → is_first (printed_names (with_versions text v) (printings v)) found ≡ true → IsPrinted text (with_versions text v) (printings v) k (printing_of v n)
-  version_printed k n None listed there first = absurd (true≢false (sym first))
-  version_printed k n (Some q) listed there first =
+      → is_there_alone text.memories found ≡ true → IsPrinted text (with_versions text v) (printings v) k (printing_of v n)
+  version_printed k n None listed there alone = absurd (true≢false (sym alone))
+  version_printed k n (Some q) listed there alone =
       let o = are.each n q there in
       record {
         version = q;
@@ -78,6 +77,7 @@ module _ (text : Program) (v : Versions) (h : is_first_unit (with_versions text 
         in_text = o.in_text;
         origin_named = ap (λ i. name_of (slice_get v.procedures i)) (index_is v.origins n o.from o.of) ∙ ap name_of (are.first o.from o.origin o.in_text);
         nothing_differs = refl;
+        alike = o.kept;
         kept = version_does k n q listed there o;
       }
 
@@ -90,8 +90,7 @@ module _ (text : Program) (v : Versions) (h : is_first_unit (with_versions text 
           let is = some_is e in
           let here = listed ∙ ap Some (sym is) in
           subst (IsPrinted text (with_versions text v) (printings v) k) is
-          (version_printed k n (slice_get v.procedures n) here refl
-          (listed_is_first (with_versions text v) (printed_names (with_versions text v) (printings v)) (printings v) k (printing_of v n) (all_first (with_versions text v) (printings v) h) here))
+          (version_printed k n (slice_get v.procedures n) here refl (listed_is_there (with_versions text v) (printings v) k (printing_of v n) built here))
 
 accepted_is_not : {text message : List ℕ} → Accepted text ≡ Rejected message → ⊥
 accepted_is_not e = cc
@@ -100,28 +99,45 @@ accepted_is : {text other : List ℕ} → Accepted text ≡ Accepted other → t
 accepted_is e = cc
 
 module _ (procs source schedule bytes text : List ℕ) (items : List Item) (spelled : IsText unit (tokens_of source) items) (keeps : unit_fault items ≡ None) where
-  by_run : is_built (unit_of items) ≡ true → (ls : List Line) (o : Outcome) → schedule_of bytes ≡ Some ls → run_lines ls (started (unit_of items).procedures) ≡ o
-      → Accepted text ≡ ended schedule (unit_of items) o → Promise source bytes text
-  by_run built ls (lines.Done v) read ran e = record {
-    items = items;
-    lines = ls;
-    versions = v;
-    spelled = spelled;
-    keeps = keeps;
-    read = read;
-    ran = ran;
-    text = accepted_is e;
-    each = each_printed (unit_of items) v (accepted_is_built (unit_of items) ls v built (bytes, read) ran) (schedules_run_alike (unit_of items).procedures ls v ran);
-  }
-  by_run built ls (lines.Stopped n operator why) read ran e = absurd (accepted_is_not e)
+  -- what is printed of the versions is built, narrow, and has names that C keeps
+  module _ (ls : List Line) (v : Versions) (read : schedule_of bytes ≡ Some ls) (ran : run_lines ls (started (unit_of items).procedures) ≡ lines.Done v) where
+    abbrev with_all : Program
+    with_all = with_versions (unit_of items) v
 
-  by_read : is_built (unit_of items) ≡ true → (o : Option (List Line)) → schedule_of bytes ≡ o → Accepted text ≡ scheduled schedule (unit_of items) o → Promise source bytes text
-  by_read built None read e = absurd (accepted_is_not e)
-  by_read built (Some ls) read e = by_run built ls (run_lines ls (started (unit_of items).procedures)) read refl e
+    by_name : are_built with_all (printings v) ≡ true → too_wide with_all (printings v) ≡ None → (o : Option (List ℕ)) → name_clash with_all (printings v) ≡ o
+        → Accepted text ≡ by_names procs with_all (printings v) o → Promise source bytes text
+    by_name built narrow None named e = record {
+      items = items;
+      lines = ls;
+      versions = v;
+      spelled = spelled;
+      keeps = keeps;
+      read = read;
+      ran = ran;
+      built = built;
+      narrow = narrow;
+      named = named;
+      text = accepted_is e;
+      each = each_printed (unit_of items) v (and_parts (are_self_contained with_all (printings v)) (are_in_dram with_all (printings v)) built).0 (schedules_run_alike (unit_of items).procedures ls v ran);
+    }
+    by_name built narrow (Some name) named e = absurd (accepted_is_not e)
 
-  by_form : (b : Bool) → is_built (unit_of items) ≡ b → Accepted text ≡ (if b then scheduled schedule (unit_of items) (schedule_of bytes) else not_built procs) → Promise source bytes text
-  by_form true built e = by_read built (schedule_of bytes) refl e
-  by_form false built e = absurd (accepted_is_not e)
+    by_size : are_built with_all (printings v) ≡ true → (o : Option ℕ) → too_wide with_all (printings v) ≡ o → Accepted text ≡ by_width procs with_all (printings v) o → Promise source bytes text
+    by_size built None narrow e = by_name built narrow (name_clash with_all (printings v)) refl e
+    by_size built (Some k) narrow e = absurd (accepted_is_not e)
+
+    by_form : (b : Bool) → are_built with_all (printings v) ≡ b → Accepted text ≡ (if b then by_width procs with_all (printings v) (too_wide with_all (printings v)) else not_built procs) → Promise source bytes text
+    by_form true built e = by_size built (too_wide with_all (printings v)) refl e
+    by_form false built e = absurd (accepted_is_not e)
+
+  by_run : (ls : List Line) (o : Outcome) → schedule_of bytes ≡ Some ls → run_lines ls (started (unit_of items).procedures) ≡ o
+      → Accepted text ≡ ended procs schedule (unit_of items) o → Promise source bytes text
+  by_run ls (lines.Done v) read ran e = by_form ls v read ran (are_built (with_versions (unit_of items) v) (printings v)) refl e
+  by_run ls (lines.Stopped n operator why) read ran e = absurd (accepted_is_not e)
+
+  by_read : (o : Option (List Line)) → schedule_of bytes ≡ o → Accepted text ≡ scheduled procs schedule (unit_of items) o → Promise source bytes text
+  by_read None read e = absurd (accepted_is_not e)
+  by_read (Some ls) read e = by_run ls (run_lines ls (started (unit_of items).procedures)) read refl e
 
 accepted_is_not_broken : {text : List ℕ} (procs : List ℕ) (place : Option Place) (f : Fault) → Accepted text ≡ broken procs place f.rule → ⊥
 accepted_is_not_broken procs None f e = accepted_is_not e
@@ -130,7 +146,7 @@ accepted_is_not_broken procs (Some place) f e = accepted_is_not e
 module _ (procs source schedule bytes text : List ℕ) where
   by_rules : (items : List Item) → IsText unit (tokens_of source) items → (o : Option Fault) → unit_fault items ≡ o
       → Accepted text ≡ typed procs schedule (schedule_of bytes) (places_of source) items o → Promise source bytes text
-  by_rules items spelled None keeps e = by_form procs source schedule bytes text items spelled keeps (is_built (unit_of items)) refl e
+  by_rules items spelled None keeps e = by_read procs source schedule bytes text items spelled keeps (schedule_of bytes) refl e
   by_rules items spelled (Some f) breaks e = absurd (accepted_is_not_broken procs (slice_get (places_of source) f.token) f e)
 
   -- an accepted text keeps the promise

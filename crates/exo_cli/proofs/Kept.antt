@@ -3,23 +3,27 @@ use Rattle.std.proofs.Common.{◌≡◌, ◌⊎◌, inl, inr, ⊎_elim, ℕ, zer
 use Rattle.std.specs.Prelude.{slice_get, slice_index}
 use Rattle.std.proofs.lemmas.Int.{ints}
 use Rattle.std.proofs.Math.IntN.{*ℤ_comm}
+use Rattle.std.proofs.Math.Path.{fun_ext}
 use Rattle.std.proofs.lemmas.List.{length-append}
-use Rattle.exo_tree.specs.Tree.{I32, Datum, Const, Read, Negated, Relu, Plus, Minus, Times, Select, Statement, Assign, Reduce, Config, Pass, If, For, Alloc, View, Call, Block, end, next, block, statements, Procedure}
+use Rattle.exo_tree.specs.Tree.{I32, Control, Datum, Const, Read, Negated, Relu, Plus, Minus, Times, Select, Statement, Assign, Block, end, next, Procedure}
+use Rattle.exo_tree.specs.Context.{Context, Here, After, InLoop, InThen, InElse, fill}
 use Rattle.exo_meaning.specs.Value.{Value, Undefined, Number, on_one, on_two, on_four, relu, selected, wrap, IsRefinedBy}
-use Rattle.exo_meaning.specs.Scene.{then_do, where_true}
-use Rattle.exo_meaning.specs.State.{State, value, place, put}
-use Rattle.exo_meaning.specs.Run.{World, run, step}
+use Rattle.exo_meaning.specs.Scene.{then_do, where_true, holds}
+use Rattle.exo_meaning.specs.State.{State, value, place, put, scoped}
+use Rattle.exo_meaning.specs.Run.{World, run, step, turn, turns, turns_of, choose}
 use Rattle.exo_meaning.specs.Inputs.{Refines, run_procedure, all_have_extents}
-use Rattle.exo_cli.specs.Commute.{Stepped, Made, NoSuchPattern, WrongShape, has, exchanged, assigns, changed_before, behind, commuted, parameter_of, with_body, commuted_at, commute_expr}
+use Rattle.exo_cli.specs.Commute.{Stepped, Made, NoSuchPattern, WrongShape, has, exchanged, commute_expr}
 use Rattle.exo_cli.specs.declared.commute.Operation.{Operation}
 use Rattle.exo_cli.specs.declared.commute.Operation.TheVariants.{Sum, Product}
-use Rattle.exo_cli.specs.Lines.{Versions, Progress, Went, Refused, Done, Stopped, held, adding, changing, changing_held, emitting, performed, operator_of, after, run_lines}
+use Rattle.exo_cli.specs.Lines.{Versions, Progress, Went, Refused, Done, Stopped, held, adding, changing, changing_held, has_template, emitting, performed, operator_of, after, run_lines}
 use Rattle.exo_cli.specs.declared.lines.Commute.{Commute}
 use Rattle.exo_cli.specs.declared.lines.Act.{Act}
 use Rattle.exo_cli.specs.declared.lines.Act.TheVariants as act
 use Rattle.exo_cli.specs.declared.lines.Line.{Line}
 use Rattle.exo_cli.specs.declared.session.Why.{Why}
+use Rattle.exo_cli.specs.declared.session.Why.TheVariants as why
 use Rattle.exo_cli.specs.Compiled.{started, numbers_from}
+use Rattle.exo_cli.proofs.Changed.{IsChanged, commuted_body}
 use Rattle.exo_cli.specs.Kept.{IsVersionOf, HasOrigin, AreVersions, CommutedRunsAlike, CommutedRefines, SchedulesRunAlike}
 
 -- ---- values
@@ -86,86 +90,37 @@ values_kept o s (Select a b c d) =
 
 -- ---- blocks
 
-then_alike : (o : Option State) (f g : State → Option State) → ((t : State) → f t ≡ g t) → then_do o f ≡ then_do o g
-then_alike None f g same = refl
-then_alike (Some t) f g same = same t
+-- one statement for another, anywhere in a block
+module _ (world : World) (old new : Statement) (same : step world new ≡ step world old) where
+  runs_in : (c : Context) → run world (fill c (next new end)) ≡ run world (fill c (next old end))
+  runs_in (Here rest) = fun_ext (λ s. ap (λ f. then_do (f s) (run world rest)) same)
+  runs_in (After a c) = fun_ext (λ s. ap (then_do (step world a s)) (runs_in c))
+  runs_in (InLoop i lo hi c rest) = fun_ext (λ s. ap (λ f. then_do (turns (turn i.id f) (turns_of s.scene lo hi) s) (run world rest)) (runs_in c))
+  runs_in (InThen t c other rest) = fun_ext (λ s. ap (λ f. then_do (scoped (choose (holds s.scene t) f (run world other)) s) (run world rest)) (runs_in c))
+  runs_in (InElse t other c rest) = fun_ext (λ s. ap (λ f. then_do (scoped (choose (holds s.scene t) (run world other) f) s) (run world rest)) (runs_in c))
 
-pub block_of_statements : (b : Block) → block (statements b) ≡ b
-block_of_statements end = refl
-block_of_statements (next a b) = ap (next a) (block_of_statements b)
+-- an assignment does the same with the sides exchanged
+assigns_alike : (world : World) (o : Operation) (x : ℕ) (is : List Control) (e : Datum) → step world (Assign x is (exchanged o e)) ≡ step world (Assign x is e)
+assigns_alike world o x is e = fun_ext (λ s. ap (λ r. then_do (place s.scene x is) (λ p. then_do r (λ v. put s (λ old. v) p))) (values_kept o s e))
 
-abbrev unmatched : (T : Type 0) → Stepped T
-unmatched T = NoSuchPattern
-
-abbrev misshapen : (T : Type 0) → Stepped T
-misshapen T = WrongShape
-
-pub refused_is_not_made : {T : Type 0} (t : T) → unmatched T ≡ Made t → ⊥
-refused_is_not_made t e = cc
-
-pub misshapen_is_not_made : {T : Type 0} (t : T) → misshapen T ≡ Made t → ⊥
-misshapen_is_not_made t e = cc
-
-pub made_is : {T : Type 0} (t u : T) → Made t ≡ Made u → t ≡ u
-made_is t u e = cc
-
-module _ (world : World) (o : Operation) where
-  changed_alike : (a : Statement) (rest ts : List Statement) → changed_before o a rest ≡ Made ts → (s : State) → run world (block ts) s ≡ run world (block (a ∷ rest)) s
-  changed_alike (Assign x is e) rest ts made s = go (has o e) made
-    where
-      same : run world (block (Assign x is (exchanged o e) ∷ rest)) s ≡ run world (block (Assign x is e ∷ rest)) s
-      same = ap (λ r. then_do (then_do (place s.scene x is) (λ p. then_do r (λ v. put s (λ old. v) p))) (run world (block rest))) (values_kept o s e)
-
-      go : (t : Bool) → (if t then Made (Assign x is (exchanged o e) ∷ rest) else WrongShape) ≡ Made ts → run world (block ts) s ≡ run world (block (Assign x is e ∷ rest)) s
-      go true e' = ap (λ us. run world (block us) s) (sym (made_is _ ts e')) ∙ same
-      go false e' = absurd (misshapen_is_not_made ts e')
-  changed_alike (Reduce x is e) rest ts made s = absurd (misshapen_is_not_made ts made)
-  changed_alike (Config f a) rest ts made s = absurd (misshapen_is_not_made ts made)
-  changed_alike Pass rest ts made s = absurd (misshapen_is_not_made ts made)
-  changed_alike (If c a b) rest ts made s = absurd (misshapen_is_not_made ts made)
-  changed_alike (For i lo hi b) rest ts made s = absurd (misshapen_is_not_made ts made)
-  changed_alike (Alloc x cell dims memory) rest ts made s = absurd (misshapen_is_not_made ts made)
-  changed_alike (View w x coords) rest ts made s = absurd (misshapen_is_not_made ts made)
-  changed_alike (Call k args) rest ts made s = absurd (misshapen_is_not_made ts made)
-
-  behind_alike : (a : Statement) (rest ts : List Statement) (r : Stepped (List Statement)) → behind a r ≡ Made ts
-      → ((us : List Statement) → r ≡ Made us → (s : State) → run world (block us) s ≡ run world (block rest) s)
-      → (s : State) → run world (block ts) s ≡ run world (block (a ∷ rest)) s
-  behind_alike a rest ts (Made us) made alike s =
-      ap (λ vs. run world (block vs) s) (sym (made_is (a ∷ us) ts made)) ∙ then_alike (step world a s) (run world (block us)) (run world (block rest)) (alike us refl)
-  behind_alike a rest ts NoSuchPattern made alike s = absurd (refused_is_not_made ts made)
-  behind_alike a rest ts WrongShape made alike s = absurd (misshapen_is_not_made ts made)
-
-  pub commuted_alike : (x : ℕ) (ss ts : List Statement) → commuted x o ss ≡ Made ts → (s : State) → run world (block ts) s ≡ run world (block ss) s
-  commuted_alike x [] ts made s = absurd (refused_is_not_made ts made)
-  commuted_alike x (a ∷ rest) ts made s = go (commuted_alike x rest) (assigns x a) made
-    where
-      go : ((us : List Statement) → commuted x o rest ≡ Made us → (s : State) → run world (block us) s ≡ run world (block rest) s) → (t : Bool)
-          → (if t then changed_before o a rest else behind a (commuted x o rest)) ≡ Made ts → run world (block ts) s ≡ run world (block (a ∷ rest)) s
-      go alike true e = changed_alike a rest ts e s
-      go alike false e = behind_alike a rest ts (commuted x o rest) e alike s
+changed_alike : (world : World) (o : Operation) (old new : Block) → IsChanged o old new → run world new ≡ run world old
+changed_alike world o old new c =
+    ap (run world) (sym c.after)
+    ∙ runs_in world (Assign c.target c.indices c.value) (Assign c.target c.indices (exchanged o c.value)) (assigns_alike world o c.target c.indices c.value) c.around
+    ∙ ap (run world) c.before
 
 -- ---- procedures
 
 pub commuted_runs_alike : CommutedRunsAlike
-commuted_runs_alike p q x o made = at (parameter_of p.params x) made
-  where
-    of : (y : ℕ) (r : Stepped (List Statement)) → r ≡ commuted y o (statements p.body) → with_body p r ≡ Made q → IsVersionOf p q
-    of y NoSuchPattern is e = absurd (refused_is_not_made q e)
-    of y WrongShape is e = absurd (misshapen_is_not_made q e)
-    of y (Made ts) is e =
-        let same = made_is (record p { body = block ts }) q e in
-        subst (IsVersionOf p) same (record {
-          name = refl;
-          params = refl;
-          asserts = refl;
-          template = refl;
-          runs = λ world s. commuted_alike world o y (statements p.body) ts (sym is) s ∙ ap (λ b. run world b s) (block_of_statements p.body);
-        })
-
-    at : (found : Option ℕ) → commuted_at p o found ≡ Made q → IsVersionOf p q
-    at None e = absurd (refused_is_not_made q e)
-    at (Some y) e = of y (commuted y o (statements p.body)) refl e
+commuted_runs_alike p q x o made =
+    let has = commuted_body p q x o made in
+    subst (IsVersionOf p) has.is (record {
+      name = refl;
+      params = refl;
+      asserts = refl;
+      template = refl;
+      runs = λ world s. ap (λ f. f s) (changed_alike world o p.body has.new has.changed);
+    })
 
 -- ---- refinement
 
@@ -302,12 +257,16 @@ changing_held_keeps text c v u (Some k) are e = changing_keeps text c k v u (sli
 
 emitting_keeps : (text : List Procedure) (o : Option ℕ) (v u : Versions) → AreVersions text v → emitting o v ≡ Went u → AreVersions text u
 emitting_keeps text None v u are e = absurd (refused_does_not_go _ u e)
-emitting_keeps text (Some k) v u are e = subst (AreVersions text) (went_is _ u e) (record { lengths = are.lengths; first = are.first; each = same })
+emitting_keeps text (Some k) v u are e = go (has_template (slice_get v.procedures k)) e
   where
     same : (j : ℕ) (q : Procedure) → slice_get v.procedures j ≡ Some q → HasOrigin text (record v { emitted = v.emitted ++ k ∷ [] }) j q
     same j q there =
         let o = are.each j q there in
         record { from = o.from; origin = o.origin; of = o.of; in_text = o.in_text; kept = o.kept }
+
+    go : (t : Bool) → (if t then Refused why.BadArguments else Went (record v { emitted = v.emitted ++ k ∷ [] })) ≡ Went u → AreVersions text u
+    go true e = absurd (refused_does_not_go _ u e)
+    go false e = subst (AreVersions text) (went_is _ u e) (record { lengths = are.lengths; first = are.first; each = same })
 
 performed_keeps : (text : List Procedure) (a : Act) (v u : Versions) → AreVersions text v → performed a v ≡ Went u → AreVersions text u
 performed_keeps text (act.Commute c) v u are e = changing_held_keeps text c v u (held v.names c.of) are e

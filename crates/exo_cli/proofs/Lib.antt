@@ -4,9 +4,8 @@ pub mod Endings
 pub mod Commuting
 pub mod Running
 pub mod Reading
-pub mod Kept
 pub mod Changed
-pub mod Built
+pub mod Kept
 pub mod Rules
 pub mod Forwarding
 pub mod Unique

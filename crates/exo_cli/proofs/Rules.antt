@@ -1,46 +1,78 @@
 -- A version with the sides of a sum or product exchanged keeps the rules of a unit.
-use Rattle.std.proofs.Common.{◌≡◌, ◌^◌, ℕ, zero, suc, nat_lt, List, [], ◌∷◌, ◌++◌, length, map, Option, Some, None, Bool, true, not, ◌&&◌, refl, sym, ap, ◌∙◌, subst, true≢false, arith}
+use Rattle.std.proofs.Common.{◌≡◌, ◌^◌, ℕ, zero, suc, nat_lt, List, [], ◌∷◌, ◌++◌, length, map, Option, Some, None, Bool, true, not, ◌&&◌, refl, sym, ap, ap₂, ◌∙◌, subst, true≢false, arith}
 use Rattle.std.specs.Prelude.{slice_get}
 use Rattle.std.specs.List.{list_all}
 use Rattle.std.proofs.lemmas.Bool.{and_parts, and_from}
 use Rattle.std.proofs.lemmas.List.{length-append}
-use Rattle.exo_tree.specs.Tree.{Kind, Index, Control, Datum, Statement, Assign, Reduce, Config, Pass, If, For, Alloc, View, Call, Block, end, next, block, statements, Param, Procedure, ConfigField, Program}
+use Rattle.exo_tree.specs.Tree.{Kind, Index, Control, Datum, Statement, Assign, Reduce, Config, Pass, If, For, Alloc, View, Call, Block, end, next, statements, Param, Procedure, ConfigField, Program}
 use Rattle.exo_meaning.specs.Binders.{binders, step_binders}
 use Rattle.exo_meaning.specs.Calls.{Callee}
 use Rattle.exo_meaning.specs.Run.{callees, callee_in, world_of, kinds_of, roots_after}
 use Rattle.exo_meaning.specs.Units.{Scope, ControlName, with_name, scope_of, scope_after, is_empty, is_short, plainly, with_fields, is_control, is_condition, is_access, is_datum, is_call, is_new, bound_ids, are_distinct, larger, levels, step_levels, is_block, is_statement, IsProcedure, field_kind, AreProcedures, IsUnit}
-use Rattle.exo_cli.specs.Commute.{exchanged}
+use Rattle.exo_tree.specs.Context.{Context, Here, After, InLoop, InThen, InElse, fill}
+use Rattle.exo_cli.specs.Commute.{exchanged, with_body}
 use Rattle.exo_cli.specs.declared.commute.Operation.{Operation}
 use Rattle.exo_cli.specs.Kept.{with_version, CommutedIsKept}
 use Rattle.exo_cli.proofs.Kept.{nothing_there, some_is, there_still, commuted_runs_alike}
 use Rattle.exo_cli.proofs.Changed.{HasBody, commuted_body, exchanged_same}
 
--- ---- one assignment among statements, with another right side
+-- ---- one assignment in a block, with another right side
 
-abbrev with_value : List Statement → ℕ → List Control → List Statement → Datum → Block
-with_value front x at back e = block (front ++ Assign x at e ∷ back)
+abbrev with_value : Context → ℕ → List Control → Datum → Block
+with_value c x at e = fill c (next (Assign x at e) end)
 
-module _ (x : ℕ) (at : List Control) (back : List Statement) (e d : Datum) where
-  binders_same : (front : List Statement) → binders (with_value front x at back d) ≡ binders (with_value front x at back e)
-  binders_same [] = refl
-  binders_same (a ∷ front) = ap (λ l. step_binders a ++ l) (binders_same front)
+module _ (x : ℕ) (at : List Control) (e d : Datum) where
+  binders_same : (c : Context) → binders (with_value c x at d) ≡ binders (with_value c x at e)
+  binders_same (Here rest) = refl
+  binders_same (After a c) = ap (λ l. step_binders a ++ l) (binders_same c)
+  binders_same (InLoop i lo hi c rest) = ap (λ l. (i.id ∷ l) ++ binders rest) (binders_same c)
+  binders_same (InThen t c other rest) = ap (λ l. (l ++ binders other) ++ binders rest) (binders_same c)
+  binders_same (InElse t other c rest) = ap (λ l. (binders other ++ l) ++ binders rest) (binders_same c)
 
-  levels_same : (front : List Statement) → levels (with_value front x at back d) ≡ levels (with_value front x at back e)
-  levels_same [] = refl
-  levels_same (a ∷ front) = ap (larger (suc (step_levels a))) (levels_same front)
+  levels_same : (c : Context) → levels (with_value c x at d) ≡ levels (with_value c x at e)
+  levels_same (Here rest) = refl
+  levels_same (After a c) = ap (larger (suc (step_levels a))) (levels_same c)
+  levels_same (InLoop i lo hi c rest) = ap (λ n. larger (suc n) (levels rest)) (levels_same c)
+  levels_same (InThen t c other rest) = ap (λ n. larger (suc (larger n (levels other))) (levels rest)) (levels_same c)
+  levels_same (InElse t other c rest) = ap (λ n. larger (suc (larger (levels other) n)) (levels rest)) (levels_same c)
 
-  length_same : (front : List Statement) → length (statements (with_value front x at back d)) ≡ length (statements (with_value front x at back e))
-  length_same [] = refl
-  length_same (a ∷ front) = ap suc (length_same front)
+  length_same : (c : Context) → length (statements (with_value c x at d)) ≡ length (statements (with_value c x at e))
+  length_same (Here rest) = refl
+  length_same (After a c) = ap suc (length_same c)
+  length_same (InLoop i lo hi c rest) = refl
+  length_same (InThen t c other rest) = refl
+  length_same (InElse t other c rest) = refl
 
-  filled_same : (front : List Statement) → (not (is_empty (with_value front x at back d)) && is_short (with_value front x at back d)) ≡ (not (is_empty (with_value front x at back e)) && is_short (with_value front x at back e))
-  filled_same [] = refl
-  filled_same (a ∷ front) = ap (λ n. nat_lt (suc n) (2 ^ 31)) (length_same front)
+  empty_same : (c : Context) → is_empty (with_value c x at d) ≡ is_empty (with_value c x at e)
+  empty_same (Here rest) = refl
+  empty_same (After a c) = refl
+  empty_same (InLoop i lo hi c rest) = refl
+  empty_same (InThen t c other rest) = refl
+  empty_same (InElse t other c rest) = refl
+
+  short_same : (c : Context) → is_short (with_value c x at d) ≡ is_short (with_value c x at e)
+  short_same c = ap (λ n. nat_lt n (2 ^ 31)) (length_same c)
+
+  filled_same : (c : Context) → (not (is_empty (with_value c x at d)) && is_short (with_value c x at d)) ≡ (not (is_empty (with_value c x at e)) && is_short (with_value c x at e))
+  filled_same c = ap₂ (λ t u. not t && u) (empty_same c) (short_same c)
 
   module _ (fields : ℕ → Option Kind) (memories : ℕ) (table : ℕ → Option Callee) (same : (scope : Scope) → is_datum fields scope d ≡ is_datum fields scope e) where
-    block_same : (scope : Scope) (root : ℕ → ℕ) (front : List Statement) → is_block fields memories table scope root (with_value front x at back d) ≡ is_block fields memories table scope root (with_value front x at back e)
-    block_same scope root [] = ap (λ t. (is_access fields scope x at && t) && is_block fields memories table scope root (block back)) (same scope)
-    block_same scope root (a ∷ front) = ap (λ t. is_statement fields memories table scope root a && t) (block_same (scope_after a scope) (roots_after a root) front)
+    block_same : (scope : Scope) (root : ℕ → ℕ) (c : Context) → is_block fields memories table scope root (with_value c x at d) ≡ is_block fields memories table scope root (with_value c x at e)
+    block_same scope root (Here rest) = ap (λ t. (is_access fields scope x at && t) && is_block fields memories table scope root rest) (same scope)
+    block_same scope root (After a c) = ap (λ t. is_statement fields memories table scope root a && t) (block_same (scope_after a scope) (roots_after a root) c)
+    block_same scope root (InLoop i lo hi c rest) =
+        let filled = filled_same c in
+        let body = block_same (with_name scope i (ControlName Index)) root c in
+        λ k. (is_new scope i && ((is_control fields plainly scope lo && is_control fields plainly scope hi) && (filled k && body k))) && is_block fields memories table scope root rest
+    block_same scope root (InThen t c other rest) =
+        let empty = empty_same c in
+        let short = short_same c in
+        let body = block_same scope root c in
+        λ k. (is_condition fields with_fields scope t && ((not (empty k) && (short k && is_short other)) && (body k && is_block fields memories table scope root other))) && is_block fields memories table scope root rest
+    block_same scope root (InElse t other c rest) =
+        let short = short_same c in
+        let body = block_same scope root c in
+        λ k. (is_condition fields with_fields scope t && ((not (is_empty other) && (is_short other && short k)) && (is_block fields memories table scope root other && body k))) && is_block fields memories table scope root rest
 
 datum_same : (fields : ℕ → Option Kind) (o : Operation) (e : Datum) (scope : Scope) → is_datum fields scope (exchanged o e) ≡ is_datum fields scope e
 datum_same fields o e scope = exchanged_same (is_datum fields scope) (record {
@@ -60,32 +92,31 @@ changed_ids o p q has =
     let c = has.changed in
     let ids = map (λ (r : Param). r.binder.id) p.params in
     ap bound_ids (sym has.is)
-    ∙ ap (λ l. ids ++ binders (block l)) (sym c.after)
-    ∙ ap (λ l. ids ++ l) (binders_same c.target c.indices c.back c.value (exchanged o c.value) c.front)
-    ∙ ap (λ l. ids ++ binders (block l)) c.before
-    ∙ ap (λ b. ids ++ binders b) has.body
+    ∙ ap (λ b. ids ++ binders b) (sym c.after)
+    ∙ ap (λ l. ids ++ l) (binders_same c.target c.indices c.value (exchanged o c.value) c.around)
+    ∙ ap (λ b. ids ++ binders b) c.before
 
 -- a fact on bodies that is the same with another right side
 of_body : (T : Block → Bool) (o : Operation) (p q : Procedure) → (has : HasBody o p q)
-    → ((front : List Statement) (x : ℕ) (at : List Control) (back : List Statement) (e : Datum) → T (with_value front x at back (exchanged o e)) ≡ T (with_value front x at back e))
-    → T (block has.new) ≡ T p.body
+    → ((c : Context) (x : ℕ) (at : List Control) (e : Datum) → T (with_value c x at (exchanged o e)) ≡ T (with_value c x at e))
+    → T has.new ≡ T p.body
 of_body T o p q has same =
     let c = has.changed in
-    ap (λ l. T (block l)) (sym c.after) ∙ same c.front c.target c.indices c.back c.value ∙ ap (λ l. T (block l)) c.before ∙ ap T has.body
+    ap T (sym c.after) ∙ same c.around c.target c.indices c.value ∙ ap T c.before
 
 changed_procedure : (fields : ℕ → Option Kind) (memories : ℕ) (table : ℕ → Option Callee) (o : Operation) (p q : Procedure) → HasBody o p q
     → IsProcedure fields memories table p → IsProcedure fields memories table q
 changed_procedure fields memories table o p q has r =
-    let ids : bound_ids (record p { body = block has.new }) ≡ bound_ids p = ap bound_ids has.is ∙ changed_ids o p q has in
+    let ids : bound_ids (with_body p has.new) ≡ bound_ids p = ap bound_ids has.is ∙ changed_ids o p q has in
     subst (IsProcedure fields memories table) has.is (record {
       params = r.params;
       asserts = r.asserts;
       body = of_body (is_block fields memories table (scope_of [] p.params) (λ x. x)) o p q has
-          (λ front x at back e. block_same x at back e (exchanged o e) fields memories table (λ scope. datum_same fields o e scope) (scope_of [] p.params) (λ x. x) front) ∙ r.body;
-      filled = of_body (λ b. not (is_empty b) && is_short b) o p q has (λ front x at back e. filled_same x at back e (exchanged o e) front) ∙ r.filled;
+          (λ c x at e. block_same x at e (exchanged o e) fields memories table (λ scope. datum_same fields o e scope) (scope_of [] p.params) (λ x. x) c) ∙ r.body;
+      filled = of_body (λ b. not (is_empty b) && is_short b) o p q has (λ c x at e. filled_same x at e (exchanged o e) c) ∙ r.filled;
       ids = ap (list_all (λ x. nat_lt x (2 ^ 31))) ids ∙ r.ids;
       distinct = ap are_distinct ids ∙ r.distinct;
-      paths = of_body (λ b. nat_lt (levels b) 33) o p q has (λ front x at back e. ap (λ n. nat_lt n 33) (levels_same x at back e (exchanged o e) front)) ∙ r.paths;
+      paths = of_body (λ b. nat_lt (levels b) 33) o p q has (λ c x at e. ap (λ n. nat_lt n 33) (levels_same x at e (exchanged o e) c)) ∙ r.paths;
       template = r.template;
     })
 

@@ -1,19 +1,48 @@
--- What is accepted is of the form that is printed.
-use Rattle.std.specs.Prelude.{◌≡◌, ℕ, true, List, Some}
-use Rattle.exo_tree.specs.Tree.{Program}
-use Rattle.c_printer.specs.FirstForm.{is_first_unit}
-use Rattle.exo_cli.specs.Compiled.{started, printings, with_versions}
-use Rattle.exo_cli.specs.FirstUnits.{is_built}
-use Rattle.exo_cli.specs.Lines.{Versions, Done, run_lines}
-use Rattle.exo_cli.specs.ScheduleForm.{schedule_of}
-use Rattle.exo_cli.specs.declared.lines.Line.{Line}
+-- Which procedures are printed today: no windows, no views and no calls, and each buffer in the memory `DRAM`.
+use Rattle.std.specs.Prelude.{ℕ, ◌==◌, Bool, true, false, ◌&&◌, List, [], ◌∷◌, Option, Some, None, slice_get}
+use Rattle.exo_tree.specs.Tree.{Statement, Assign, Reduce, Config, Pass, If, For, Alloc, View, Call, Block, end, next, Param, ParamKind, ControlParam, TensorParam, WindowParam, Procedure, Program}
+use Rattle.c_printer.specs.LoweredUnit.{Printing}
+use Rattle.c_lowering.specs.SelfContained.{are_self_contained}
 
--- a schedule of the first form has these lines
-abbrev pub AreRead : List Line → Type 0
-AreRead lines = (schedule : List ℕ) × (schedule_of schedule ≡ Some lines)
+-- the first memory of a unit is `DRAM`
+abbrev pub is_dram : ℕ → Bool
+is_dram memory = memory == 0
 
--- where a schedule of the form runs on procedures of the form to its end, what it emits is of the form of which the C is printed:
--- so a unit or a schedule that is not of its form is the only one that is not built
-abbrev pub AcceptedIsBuilt : Type 0
-AcceptedIsBuilt = (text : Program) (lines : List Line) (v : Versions) → is_built text ≡ true → AreRead lines → run_lines lines (started text.procedures) ≡ Done v
-    → is_first_unit (with_versions text v) (printings v) ≡ true
+abbrev pub is_param_in_dram : ParamKind → Bool
+is_param_in_dram (ControlParam kind) = true
+is_param_in_dram (TensorParam cell dims memory) = is_dram memory
+is_param_in_dram (WindowParam cell dims memory) = is_dram memory
+
+abbrev pub are_params_in_dram : List Param → Bool
+are_params_in_dram [] = true
+are_params_in_dram (p ∷ ps) = is_param_in_dram p.kind && are_params_in_dram ps
+
+-- each allocation is there
+abbrev mutual
+  pub is_block_in_dram : Block → Bool
+  is_block_in_dram end = true
+  is_block_in_dram (next a b) = is_statement_in_dram a && is_block_in_dram b
+
+  pub is_statement_in_dram : Statement → Bool
+  is_statement_in_dram (Assign x is e) = true
+  is_statement_in_dram (Reduce x is e) = true
+  is_statement_in_dram (Config f a) = true
+  is_statement_in_dram Pass = true
+  is_statement_in_dram (If c a b) = is_block_in_dram a && is_block_in_dram b
+  is_statement_in_dram (For i lo hi b) = is_block_in_dram b
+  is_statement_in_dram (Alloc x cell dims memory) = is_dram memory
+  is_statement_in_dram (View w x coords) = true
+  is_statement_in_dram (Call k args) = true
+
+abbrev pub is_in_dram : Option Procedure → Bool
+is_in_dram None = false
+is_in_dram (Some p) = are_params_in_dram p.params && is_block_in_dram p.body
+
+abbrev pub are_in_dram : Program → List Printing → Bool
+are_in_dram program [] = true
+are_in_dram program (w ∷ ws) = is_in_dram (slice_get program.procedures w.proc) && are_in_dram program ws
+
+-- Each listed procedure is one of which the C is printed. Of well-formed units, `DRAM` is a memory of cells on the heap, and fields
+-- are set to numbers and conditions: so this fails exactly for windows, views, calls and other memories.
+abbrev pub are_built : Program → List Printing → Bool
+are_built program what = are_self_contained program what && are_in_dram program what

@@ -1,5 +1,5 @@
--- The answer to the texts of a unit and of a schedule: the unit is read, then its rules are tested, then its form, and then
--- the schedule's lines run.
+-- The answer to the texts of a unit and of a schedule: the unit is read, then its rules are tested, then the schedule's lines run,
+-- and then what they emit is printed: its form is tested, its widths, and its names.
 use Rattle.std.specs.Prelude.{◌≡◌, ℕ, suc, ◌⊎◌, if◌then◌else◌, List, [], ◌∷◌, map, slice_get, slice_index, Option, Some, None, codes}
 use Rattle.phrases.specs.Text.{IsText}
 use Rattle.exo_tree.specs.Tree.{Procedure, Program}
@@ -14,11 +14,12 @@ use Rattle.exo_names.specs.declared.fault.Fault.{Fault}
 use Rattle.exo_names.specs.declared.error.TypeKind.{TypeKind}
 use Rattle.exo_names.specs.declared.error.TypeKind.TheVariants as rule
 use Rattle.exo_types.specs.UnitRules.{unit_fault, unit_of}
-use Rattle.exo_cli.specs.FirstUnits.{is_built}
+use Rattle.c_lowering.specs.Refusals.{too_wide, name_clash}
+use Rattle.exo_cli.specs.Built.{are_built}
 use Rattle.c_printer.specs.LoweredUnit.{Printing, name_of, lowered}
 use Rattle.c_printer.specs.CText.{text_of}
 use Rattle.exo_cli.specs.Answer.{Answer, Accepted, Rejected}
-use Rattle.exo_cli.specs.Messages.{file_refused, place_refused, line_refused}
+use Rattle.exo_cli.specs.Messages.{file_refused, name_refused, place_refused, line_refused}
 use Rattle.exo_cli.specs.Lines.{Versions, Outcome, Done, Stopped, run_lines}
 use Rattle.exo_cli.specs.ScheduleForm.{schedule_of}
 use Rattle.exo_cli.specs.declared.lines.Line.{Line}
@@ -32,6 +33,7 @@ not_built name = Rejected (file_refused name (codes "NotBuilt"))
 abbrev pub why_text : Why → List ℕ
 why_text why.Memory = codes "Memory"
 why_text why.UnknownProc = codes "UnknownProc"
+why_text why.BadArguments = codes "BadArguments"
 why_text why.NoSuchPattern = codes "NoSuchPattern"
 why_text why.WrongShape = codes "WrongShape"
 
@@ -59,14 +61,31 @@ printings v = map (printing_of v) v.emitted
 abbrev pub with_versions : Program → Versions → Program
 with_versions text v = record text { procedures = v.procedures }
 
--- the C of what is emitted
-abbrev pub ended : List ℕ → Program → Outcome → Answer
-ended schedule program (Done v) = Accepted (text_of (lowered (with_versions program v) (printings v)))
-ended schedule program (Stopped number operator why) = Rejected (line_refused schedule number operator (why_text why))
+-- ---- the C of the listed procedures
 
-abbrev pub scheduled : List ℕ → Program → Option (List Line) → Answer
-scheduled schedule program None = not_built schedule
-scheduled schedule program (Some lines) = ended schedule program (run_lines lines (started program.procedures))
+-- the name of a function or field that C cannot keep
+abbrev pub by_names : List ℕ → Program → List Printing → Option (List ℕ) → Answer
+by_names procs program what None = Accepted (text_of (lowered program what))
+by_names procs program what (Some name) = Rejected (name_refused procs name (codes "NameClash"))
+
+-- the procedure in whose tree a number may become too large
+abbrev pub by_width : List ℕ → Program → List Printing → Option ℕ → Answer
+by_width procs program what None = by_names procs program what (name_clash program what)
+by_width procs program what (Some k) = Rejected (name_refused procs (name_of (slice_get program.procedures k)) (codes "TooWide"))
+
+abbrev pub printed : List ℕ → Program → List Printing → Answer
+printed procs program what = if are_built program what then by_width procs program what (too_wide program what) else not_built procs
+
+-- ---- the schedule
+
+-- what its lines emit is printed, or a line is refused
+abbrev pub ended : List ℕ → List ℕ → Program → Outcome → Answer
+ended procs schedule program (Done v) = printed procs (with_versions program v) (printings v)
+ended procs schedule program (Stopped number operator why) = Rejected (line_refused schedule number operator (why_text why))
+
+abbrev pub scheduled : List ℕ → List ℕ → Program → Option (List Line) → Answer
+scheduled procs schedule program None = not_built schedule
+scheduled procs schedule program (Some lines) = ended procs schedule program (run_lines lines (started program.procedures))
 
 -- ---- the unit
 
@@ -90,17 +109,13 @@ rule_text rule.ConfigPlace = codes "ConfigPlace"
 rule_text rule.StridePlace = codes "StridePlace"
 rule_text rule.SharedArgument = codes "SharedArgument"
 
--- a well-formed unit, by its program
-abbrev pub printed : List ℕ → List ℕ → Option (List Line) → Program → Answer
-printed procs schedule lines program = if is_built program then scheduled schedule program lines else not_built procs
-
 -- a rule is broken at a token, which has this place
 abbrev pub broken : List ℕ → Option Place → TypeKind → Answer
 broken procs None broken_rule = not_built procs
 broken procs (Some place) broken_rule = Rejected (place_refused procs place.line place.column (rule_text broken_rule))
 
 abbrev pub typed : List ℕ → List ℕ → Option (List Line) → List Place → List Item → Option Fault → Answer
-typed procs schedule lines places items None = printed procs schedule lines (unit_of items)
+typed procs schedule lines places items None = scheduled procs schedule (unit_of items) lines
 typed procs schedule lines places items (Some f) = broken procs (slice_get places f.token) f.rule
 
 -- the text is no unit: the answer names the first token with which none goes on

@@ -1,5 +1,5 @@
 -- What the compiler promises of the C that it prints.
-use Rattle.std.specs.Prelude.{◌≡◌, ℕ, List, [], Option, Some, None, slice_get}
+use Rattle.std.specs.Prelude.{◌≡◌, ℕ, true, List, [], Option, Some, None, slice_get}
 use Rattle.exo_tree.specs.Tree.{Procedure, Program}
 use Rattle.exo_meaning.specs.State.{State}
 use Rattle.exo_meaning.specs.Run.{World}
@@ -12,6 +12,8 @@ use Rattle.c_printer.specs.Names.{c_names}
 use Rattle.c_printer.specs.Lowered.{Naming}
 use Rattle.c_printer.specs.LoweredUnit.{Printing, naming_in, global_names, lowered}
 use Rattle.c_printer.specs.SameInput.{AreSame}
+use Rattle.c_printer.specs.FirstForm.{is_first_unit}
+use Rattle.c_lowering.specs.Refusals.{too_wide, name_clash}
 use Rattle.c_printer.specs.Simulation.{Layout}
 use Rattle.c_printer.specs.Laws.{AreSeparate, Agrees}
 use Rattle.phrases.specs.Text.{IsText}
@@ -22,6 +24,8 @@ use Rattle.exo_types.specs.UnitRules.{unit_fault, unit_of}
 use Rattle.exo_cli.specs.Outside.{Folder, content_of, with_more}
 use Rattle.exo_cli.specs.Words.{Compile, command_of}
 use Rattle.exo_cli.specs.Answer.{Accepted}
+use Rattle.exo_cli.specs.Built.{are_built}
+use Rattle.exo_cli.specs.Kept.{IsVersionOf}
 use Rattle.exo_cli.specs.Compiled.{IsCompiled, started, printings, with_versions}
 use Rattle.exo_cli.specs.Lines.{Versions, Done as Ran, run_lines}
 use Rattle.exo_cli.specs.ScheduleForm.{schedule_of}
@@ -45,7 +49,9 @@ DoesWhat program what at p q = (world : World) (c_world : CWorld) (layout : Layo
     → (f : CFunction) × (t : State) × (n : Machine) × (slice_get (lowered program what).functions at ≡ Some f) × (run_procedure world p s ≡ Some t) × (run_c c_world f.body m ≡ Done n) × Agrees (naming_of program what q) layout s m t n
 
 -- The version of that number is printed: it comes from a procedure of the text, whose name the report gives, with no field that
--- may differ, and its C does what that procedure does. Program is that of the text with the versions, and what lists the versions printed.
+-- may differ, and runs like it. Program is that of the text with the versions, and what lists the versions printed.
+-- Where these are of the first form, the C does what that procedure does. For loops, conditions and buffers the C is that of its
+-- definition, and that it does what the version does is not proved yet.
 pub record IsPrinted (text program : Program) (what : List Printing) (at : ℕ) (w : Printing) : Type 0 where
   pub version : Procedure
   pub origin : Procedure
@@ -54,7 +60,8 @@ pub record IsPrinted (text program : Program) (what : List Printing) (at : ℕ) 
   pub in_text : slice_get text.procedures from ≡ Some origin
   pub origin_named : w.origin ≡ origin.name
   pub nothing_differs : w.fields ≡ []
-  pub kept : DoesWhat program what at origin version
+  pub alike : IsVersionOf origin version
+  pub kept : is_first_unit program what ≡ true → DoesWhat program what at origin version
 
 -- What stands behind the C that is printed for a unit and a schedule: the unit that the text spells, which keeps all rules, the
 -- program that it stands for, the versions that the schedule makes, and for each version that is printed the promise that its C does what a procedure of the text does.
@@ -66,6 +73,9 @@ pub record Promise (bytes schedule printed : List ℕ) : Type 0 where
   pub keeps : unit_fault items ≡ None
   pub read : schedule_of schedule ≡ Some lines
   pub ran : run_lines lines (started (unit_of items).procedures) ≡ Ran versions
+  pub built : are_built (with_versions (unit_of items) versions) (printings versions) ≡ true
+  pub narrow : too_wide (with_versions (unit_of items) versions) (printings versions) ≡ None
+  pub named : name_clash (with_versions (unit_of items) versions) (printings versions) ≡ None
   pub text : printed ≡ text_of (lowered (with_versions (unit_of items) versions) (printings versions))
   pub each : (k : ℕ) (w : Printing) → slice_get (printings versions) k ≡ Some w → IsPrinted (unit_of items) (with_versions (unit_of items) versions) (printings versions) k w
 

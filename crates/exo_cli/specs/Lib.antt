@@ -10,10 +10,9 @@ pub mod Refusals
 pub mod Lines
 pub mod ScheduleForm
 pub mod Sessions
-pub mod FirstUnits
+pub mod Built
 pub mod Compiled
 pub mod Checking
-pub mod Built
 pub mod Replies
 pub mod Work
 pub mod Kept

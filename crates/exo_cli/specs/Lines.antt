@@ -1,7 +1,8 @@
 -- What a schedule does: versions are made of versions, and names hold the latest ones.
-use Rattle.std.specs.Prelude.{ℕ, List, [], ◌∷◌, ◌++◌, length, slice_get, slice_index, Option, Some, None, if◌then◌else◌, codes}
+use Rattle.std.specs.Prelude.{ℕ, Bool, false, not, List, [], ◌∷◌, ◌++◌, length, slice_get, slice_index, Option, Some, None, if◌then◌else◌, codes}
 use Rattle.std.specs.Str.{bytes_eq}
 use Rattle.exo_tree.specs.Tree.{Procedure}
+use Rattle.c_printer.specs.FirstForm.{is_none}
 use Rattle.exo_cli.specs.Commute.{Stepped, Made, NoSuchPattern, WrongShape, commute_expr}
 use Rattle.exo_cli.specs.declared.lines.Commute.{Commute}
 use Rattle.exo_cli.specs.declared.lines.Act.{Act}
@@ -31,10 +32,15 @@ pub data Progress : Type 0 where
   Went : Versions → Progress
   Refused : Why → Progress
 
--- the version is to be printed
+abbrev pub has_template : Option Procedure → Bool
+has_template None = false
+has_template (Some p) = not (is_none p.template)
+
+-- the version is to be printed; an instruction is none to print
 abbrev pub emitting : Option ℕ → Versions → Progress
 emitting None v = Refused why.UnknownProc
-emitting (Some k) v = Went (record v { emitted = v.emitted ++ k ∷ [] })
+emitting (Some k) v =
+    if has_template (slice_get v.procedures k) then Refused why.BadArguments else Went (record v { emitted = v.emitted ++ k ∷ [] })
 
 -- the version that a step made of version k is put last, under this name, and comes of the same procedure
 abbrev pub adding : List ℕ → ℕ → Versions → Stepped Procedure → Progress

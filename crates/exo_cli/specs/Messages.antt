@@ -23,6 +23,10 @@ cannot_read name = line (codes "cannot read " ∷ name ∷ [])
 abbrev pub file_refused : List ℕ → List ℕ → List ℕ
 file_refused name why = line (name ∷ codes ": " ∷ why ∷ [])
 
+-- a name of the unit is refused: that of a procedure or of a field
+abbrev pub name_refused : List ℕ → List ℕ → List ℕ → List ℕ
+name_refused file name why = line (file ∷ codes ": " ∷ name ∷ codes ": " ∷ why ∷ [])
+
 -- a line of a schedule is refused: its number, its operator and why
 abbrev pub line_refused : List ℕ → ℕ → List ℕ → List ℕ → List ℕ
 line_refused name number operator why = line (name ∷ codes ":" ∷ decimal number ∷ codes ": " ∷ operator ∷ codes " " ∷ why ∷ [])

@@ -1,6 +1,7 @@
 -- Where a step takes the statements of a procedure, so that places of statements can be forwarded to the version that it makes.
 use Rattle.std.specs.Prelude.{◌≡◌, ◌⊎◌, List, ℕ, Option, Some}
-use Rattle.exo_tree.specs.Tree.{Statement, Assign, Procedure}
+use Rattle.exo_tree.specs.Tree.{Control, Datum, Statement, Assign, Block, end, next, Procedure}
+use Rattle.exo_tree.specs.Context.{Context, fill}
 use Rattle.exo_tree.specs.Places.{Path, statement_at}
 use Rattle.exo_cli.specs.Commute.{Made, commute_expr, exchanged}
 use Rattle.exo_cli.specs.declared.commute.Operation.{Operation}
@@ -20,10 +21,14 @@ pub record Forwards (move : Move) (IsImage : Statement → Statement → Type 0)
 abbrev pub commute_moves : Move
 commute_moves path = Some path
 
--- and as it is, but for the right side of an assignment
+-- in the block, one assignment has the sides of a sum or product exchanged on its right
+abbrev pub HasExchanged : Operation → Block → Block → Type 0
+HasExchanged o b c = (around : Context) × (x : ℕ) × (is : List Control) × (e : Datum)
+    × (b ≡ fill around (next (Assign x is e) end)) × (c ≡ fill around (next (Assign x is (exchanged o e)) end))
+
+-- and as it is, but for one such assignment, which it is or holds
 abbrev pub IsCommuted : Operation → Statement → Statement → Type 0
-IsCommuted o (Assign x is e) b = (b ≡ Assign x is e) ⊎ (b ≡ Assign x is (exchanged o e))
-IsCommuted o a b = b ≡ a
+IsCommuted o a b = (b ≡ a) ⊎ HasExchanged o (next a end) (next b end)
 
 abbrev pub CommutedForwards : Type 0
 CommutedForwards = (p q : Procedure) (x : List ℕ) (o : Operation) → commute_expr p x o ≡ Made q → Forwards commute_moves (IsCommuted o) p q

@@ -4,7 +4,7 @@ use Rattle.exo_cli.specs.Lines.{Versions, Progress, Refused, Stopped, run_lines,
 use Rattle.exo_cli.specs.declared.lines.Line.{Line}
 use Rattle.exo_cli.specs.declared.session.Session.{Session}
 use Rattle.exo_cli.specs.declared.session.Why.{Why}
-use Rattle.exo_cli.specs.declared.session.Why.TheVariants.{Memory, UnknownProc, NoSuchPattern, WrongShape}
+use Rattle.exo_cli.specs.declared.session.Why.TheVariants.{Memory, UnknownProc, BadArguments, NoSuchPattern, WrongShape}
 
 abbrev pub versions : Session → Versions
 versions s = record { procedures = s.procs; origins = s.origins.items; names = s.names.items; emitted = s.emitted.items }
@@ -13,6 +13,7 @@ versions s = record { procedures = s.procs; origins = s.origins.items; names = s
 abbrev pub RefusesLine : Progress → Why → Type 0
 RefusesLine progress Memory = Unit {0}
 RefusesLine progress UnknownProc = progress ≡ Refused UnknownProc
+RefusesLine progress BadArguments = progress ≡ Refused BadArguments
 RefusesLine progress NoSuchPattern = progress ≡ Refused NoSuchPattern
 RefusesLine progress WrongShape = progress ≡ Refused WrongShape
 

@@ -1,14 +1,15 @@
 // The step `commute_expr`: the sides of a sum or of a product change places.
-ghost use Rattle.std.specs.Prelude.{◌≡◌, ◌∷◌, ◌++◌, ◌+◌, ◌<◌, [], ℕ, length, take, drop, IfOk, MatchOption, IfErr, option_map};
+ghost use Rattle.std.specs.Prelude.{◌≡◌, ◌∷◌, ◌++◌, ◌+◌, ◌<◌, length, take, drop, bytes_eq, IfOk, IfErr};
+ghost use Rattle.exo_tree.specs.Tree as tree;
 ghost use Rattle.exo_tree.specs.Tree.{block};
-ghost use Rattle.exo_tree.specs.Plain.{datum, statement, procedure};
-ghost use Rattle.exo_cli.specs.Commute.{Made, WrongShape, assigns, changed_before, commute_expr, commuted, exchanged, has, parameter_of};
+ghost use Rattle.exo_tree.specs.Plain.{binding, control, condition, datum, statement, procedure};
+ghost use Rattle.exo_cli.specs.Commute.{Made, assignment, commute_expr, commuted, commuted_in, exchanged, has, is_number, number_after, parameter_of, then_made};
 ghost use Rattle.exo_cli.specs.Kept.{Keeps, MeansTheSame};
 ghost use Rattle.exo_cli.specs.Moves.{Forwards, commute_moves, IsCommuted};
 ghost use Rattle.exo_cli.specs.Refusals.{Refuses, Steps};
 ghost use Rattle.exo_cli.specs.declared.commute.StepRefusal.TheVariants.{Memory};
 
-use exo_tree::{Block, DataExpr, Id, Params, Proc, Stmt};
+use exo_tree::{Binder, Block, Cond, Ctrl, DataExpr, Id, Indices, Params, Proc, Stmt};
 use std::alloc::{AllocError, Global};
 use std::mem;
 
@@ -106,75 +107,206 @@ fn exchange(e: &mut DataExpr, which: Operation)
     }
 }
 
-/// Whether the statement assigns to the buffer of this number.
-fn assigns(s: &Stmt, x: Id) -> bool
-    ensures { result ≡ assigns x.0 (statement s.now) }
+/// Whether the binder has this name.
+fn is_named(b: &Binder, x: &[u8]) -> bool
+    ensures { result ≡ bytes_eq (binding b.now).name x.now }
+{
+    b.name.as_str().as_bytes() == x
+}
+
+/// The number that the name stands for behind the statement, by what it stood for before.
+fn number_after(s: &Stmt, x: &[u8], found: Option<u32>) -> Option<u32>
+    ensures { result ≡ number_after x.now found (statement s.now) }
 {
     match s {
-        Stmt::Assign(target, _, _) => target.0 == x.0,
-        _ => false,
+        Stmt::Alloc(y, _, _, _) | Stmt::View(y, _, _) => if is_named(y, x) {
+            Some(y.id.0)
+        } else {
+            found
+        },
+        _ => found,
     }
 }
 
-/// A block of the assignment alone, with the sides exchanged on its right; None where it has no such operation.
-fn changed(alloc: Global, s: &Stmt, which: Operation) -> Result<Option<Block>, AllocError>
-    ensures { IfOk result (λ made. MatchOption made (changed_before which (statement s.now) [] ≡ WrongShape)
-        (λ block. changed_before which (statement s.now) [] ≡ Made block)) }
+/// Whether this is the number that was found.
+fn is_number(found: Option<u32>, y: Id) -> bool
+    ensures { result ≡ is_number found y.0 }
 {
-    let Stmt::Assign(target, at, e) = s else {
-        return Ok(None);
-    };
+    match found {
+        Some(x) => y.0 == x,
+        None => false,
+    }
+}
+
+/// A copy of the assignment with the sides exchanged on its right.
+fn assignment(
+    alloc: Global,
+    y: Id,
+    at: &Indices,
+    e: &DataExpr,
+    which: Operation,
+) -> Result<Stmt, StepRefusal>
+    ensures { Steps (assignment which y.0 at.now (datum e.now)) (λ made. statement made) result }
+{
     if !has(e, which) {
-        return Ok(None);
+        return Err(StepRefusal::WrongShape);
     }
     let mut made = e.duplicate(alloc)?;
     exchange(&mut made, which);
     let indices = at.duplicate(alloc)?;
-    let block = Block::single(alloc, Stmt::Assign(*target, indices, made))?;
-    Ok(Some(block))
+    Ok(Stmt::Assign(y, indices, made))
 }
 
-/// A copy of the block in which this part stands in place of the statement at the index.
-fn with_part(alloc: Global, body: &Block, k: usize, part: Block) -> Result<Block, AllocError>
-    requires { k < length body.now }
-    ensures { IfOk result (λ made. made ≡ take k body.now ++ (part ++ drop (k + 1) body.now)) }
+/// A loop with this body.
+fn loop_with(
+    alloc: Global,
+    i: &Binder,
+    lo: &Ctrl,
+    hi: &Ctrl,
+    body: Block,
+) -> Result<Stmt, AllocError>
+    ensures { IfOk result (λ made. statement made ≡ tree.For (binding i.now) (control lo.now) (control hi.now) (block body)) }
 {
-    let mut made = body.piece(alloc, 0, k)?;
-    made.append(part)?;
-    made.append_part(alloc, body, k + 1, body.len())?;
+    let binder = i.duplicate(alloc)?;
+    let low = lo.duplicate(alloc)?;
+    let high = hi.duplicate(alloc)?;
+    Ok(Stmt::For(binder, low, high, body))
+}
+
+/// A branch with these blocks.
+fn branch_with(alloc: Global, c: &Cond, a: Block, b: Block) -> Result<Stmt, AllocError>
+    ensures { IfOk result (λ made. statement made ≡ tree.If (condition c.now) (block a) (block b)) }
+{
+    let test = c.duplicate(alloc)?;
+    Ok(Stmt::If(test, a, b))
+}
+
+/// A copy of the block with this statement in place of the one at the index.
+fn with_statement(alloc: Global, b: &Block, k: usize, s: Stmt) -> Result<Block, AllocError>
+    requires { k < length b.now }
+    ensures { IfOk result (λ made. made ≡ take k b.now ++ (statement s ∷ drop (k + 1) b.now)) }
+{
+    let mut made = b.piece(alloc, 0, k)?;
+    made.push(s)?;
+    made.append_part(alloc, b, k + 1, b.len())?;
     Ok(made)
 }
 
-/// A copy of the block with the first assignment to x changed.
-fn commuted(alloc: Global, body: &Block, x: Id, which: Operation) -> Result<Block, StepRefusal>
-    ensures { Steps (commuted x.0 which body.now) (λ block. block) result }
+/// A copy of the block with the first statement that matches changed, at any depth.
+#[cycle(commute)]
+fn commuted_in(
+    alloc: Global,
+    b: &Block,
+    x: &[u8],
+    which: Operation,
+    found: Option<u32>,
+) -> Result<Block, StepRefusal>
+    ensures { Steps (commuted_in x.now which found (block b.now)) (λ made. block made) result }
 {
-    for k in 0..body.len() {
-        let s = body.statement(k);
-        if assigns(s, x) {
-            let Some(part) = changed(alloc, s, which)? else {
-                return Err(StepRefusal::WrongShape);
-            };
-            return Ok(with_part(alloc, body, k, part)?);
+    let mut now = found;
+    for k in 0..b.len() {
+        let s = b.statement(k);
+        match commuted(alloc, s, x, which, now) {
+            Ok(made) => return Ok(with_statement(alloc, b, k, made)?),
+            Err(StepRefusal::NoSuchPattern) => now = number_after(s, x, now),
+            Err(StepRefusal::WrongShape) => return Err(StepRefusal::WrongShape),
+            Err(StepRefusal::Memory) => return Err(StepRefusal::Memory),
         }
     }
     Err(StepRefusal::NoSuchPattern)
 }
 
+/// A copy of the statement that is changed, or in which the first one that matches is.
+#[cycle(commute)]
+fn commuted(
+    alloc: Global,
+    s: &Stmt,
+    x: &[u8],
+    which: Operation,
+    found: Option<u32>,
+) -> Result<Stmt, StepRefusal>
+    ensures { Steps (commuted x.now which found (statement s.now)) (λ made. statement made) result }
+{
+    match s {
+        Stmt::Assign(y, at, e) => if is_number(found, *y) {
+            assignment(alloc, *y, at, e, which)
+        } else {
+            Err(StepRefusal::NoSuchPattern)
+        },
+        Stmt::View(y, _, _) => if is_named(y, x) {
+            Err(StepRefusal::WrongShape)
+        } else {
+            Err(StepRefusal::NoSuchPattern)
+        },
+        Stmt::If(c, a, b) => commuted_branches(alloc, c, a, b, x, which, found),
+        Stmt::For(i, lo, hi, b) => match commuted_in(alloc, b, x, which, found) {
+            Ok(body) => Ok(loop_with(alloc, i, lo, hi, body)?),
+            Err(refusal) => Err(refusal),
+        },
+        _ => Err(StepRefusal::NoSuchPattern),
+    }
+}
+
+/// The same of a branch: the first block goes before the second.
+#[cycle(commute)]
+fn commuted_branches(
+    alloc: Global,
+    c: &Cond,
+    a: &Block,
+    b: &Block,
+    x: &[u8],
+    which: Operation,
+    found: Option<u32>,
+) -> Result<Stmt, StepRefusal>
+    ensures { Steps (commuted x.now which found (tree.If (condition c.now) (block a.now) (block b.now))) (λ made. statement made) result }
+{
+    match commuted_in(alloc, a, x, which, found) {
+        Ok(first) => {
+            let second = b.duplicate(alloc)?;
+            Ok(branch_with(alloc, c, first, second)?)
+        }
+        Err(StepRefusal::NoSuchPattern) => commuted_second(alloc, c, a, b, x, which, found),
+        Err(refusal) => Err(refusal),
+    }
+}
+
+/// The same where nothing matches in the first block.
+#[cycle(commute)]
+fn commuted_second(
+    alloc: Global,
+    c: &Cond,
+    a: &Block,
+    b: &Block,
+    x: &[u8],
+    which: Operation,
+    found: Option<u32>,
+) -> Result<Stmt, StepRefusal>
+    ensures { Steps (then_made (tree.If (condition c.now) (block a.now)) (commuted_in x.now which found (block b.now))) (λ made. statement made) result }
+{
+    match commuted_in(alloc, b, x, which, found) {
+        Ok(second) => {
+            let first = a.duplicate(alloc)?;
+            Ok(branch_with(alloc, c, first, second)?)
+        }
+        Err(refusal) => Err(refusal),
+    }
+}
+
 /// The number of the first parameter of this name.
-fn parameter_of(params: &Params, name: &[u8]) -> Option<Id>
-    ensures { option_map (λ x. x.0) result ≡ parameter_of params.now name.now }
+fn parameter_of(params: &Params, name: &[u8]) -> Option<u32>
+    ensures { result ≡ parameter_of params.now name.now }
 {
     for p in params.as_slice() {
-        if p.binder.name.as_str().as_bytes() == name {
-            return Some(p.binder.id);
+        if is_named(&p.binder, name) {
+            return Some(p.binder.id.0);
         }
     }
     None
 }
 
-/// The step: in the first assignment to `x`, the sides of the first sum or product in preorder change places.
-/// `NoSuchPattern` where nothing is assigned to `x`, `WrongShape` where the right side has no such operation.
+/// The step: in the first assignment to `x`, at any depth, the sides of the first sum or product in preorder change places.
+/// `NoSuchPattern` where nothing is assigned to `x`, `WrongShape` where the right side has no such operation, or where a view
+/// is called `x` before.
 pub fn commute_expr(
     alloc: Global,
     p: &Proc,
@@ -187,11 +319,11 @@ pub fn commute_expr(
     ensures meaning { IfOk result (λ made. MeansTheSame (procedure p.now) (procedure made)) }
     ensures moves { IfOk result (λ made. Forwards commute_moves (IsCommuted which) (procedure p.now) (procedure made)) }
 {
-    let Some(id) = parameter_of(&p.params, x) else {
-        return Err(StepRefusal::NoSuchPattern);
-    };
-    let body = commuted(alloc, &p.body, id, which)?;
-    Ok(with_body(alloc, p, body)?)
+    let found = parameter_of(&p.params, x);
+    match commuted_in(alloc, &p.body, x, which, found) {
+        Ok(body) => Ok(with_body(alloc, p, body)?),
+        Err(refusal) => Err(refusal),
+    }
 }
 
 /// A copy of the procedure with another body.

@@ -1,31 +1,28 @@
 // From the texts of a unit and of a schedule to the text of C.
-ghost use Rattle.std.specs.Prelude.{◌≡◌, ◌≤◌, ◌≢◌, true, length, map, IfOk};
+ghost use Rattle.std.specs.Prelude.{◌≡◌, ◌≤◌, ◌≢◌, length, map, slice_get, codes, IfOk};
 ghost use Rattle.exo_tree.specs.Plain.{program};
 ghost use Rattle.c_printer.specs.PlainPrinted.{printing};
-ghost use Rattle.c_printer.specs.CText.{text_of};
-ghost use Rattle.c_printer.specs.FirstForm.{is_first_unit};
-ghost use Rattle.c_printer.specs.LoweredUnit.{lowered};
-ghost use Rattle.exo_cli.specs.Answer.{Accepted, Rejected, IsVerdict};
-ghost use Rattle.exo_cli.specs.Built.{AreRead};
+ghost use Rattle.c_printer.specs.LoweredUnit.{name_of};
+ghost use Rattle.exo_cli.specs.Answer.{Rejected, IsVerdict};
 ghost use Rattle.exo_cli.specs.Compiled.{IsCompiled, ended, kind_text, not_built, printed, rule_text, scheduled, started, typed, why_text};
-ghost use Rattle.exo_cli.specs.FirstUnits.{is_built};
 ghost use Rattle.exo_types.specs.Typed.{IsPlaced, items_of};
 ghost use Rattle.exo_types.specs.UnitRules.{unit_fault};
 ghost use Rattle.exo_cli.specs.Lines.{operator_of, run_lines};
-ghost use Rattle.exo_cli.specs.Messages.{line_refused, place_refused};
+ghost use Rattle.exo_cli.specs.Messages.{line_refused, name_refused, place_refused};
 ghost use Rattle.exo_cli.specs.Replies.{plain};
 ghost use Rattle.exo_cli.specs.ScheduleForm.{schedule_of};
 
-use crate::first::is_built;
+use crate::built::are_built;
 use crate::lines::{Act, Line};
 use crate::messages;
 use crate::reply::Reply;
 use crate::schedule::read_schedule;
 use crate::session::{Session, Why};
-use c_printer::{Printed, c_text, lower};
+use c_lowering::lower_unit;
+use c_printer::{LowerError, Printed, c_text};
 use exo_names::error::{TypeError, TypeKind};
 use exo_source::unit::{ReadError, ReadKind, Source, read_unit};
-use exo_tree::{Lines, Procs, Unit};
+use exo_tree::{Lines, Name, ProcId, Procs, Unit};
 use exo_types::laws::read_texts_are_placed;
 use exo_types::unit::check_types;
 use std::alloc::{AllocError, Global};
@@ -92,7 +89,7 @@ fn type_unit(
     ensures verdict { IfOk result (λ reply. IsVerdict (plain reply)) }
 {
     match check_types(alloc, source) {
-        Ok(unit) => print_unit(alloc, procs, &unit, schedule, lines),
+        Ok(unit) => schedule_unit(alloc, procs, &unit, schedule, lines),
         Err(e) => refuse_rule(alloc, procs, e),
     }
 }
@@ -127,24 +124,6 @@ pub(crate) fn refuse_rule(alloc: Global, name: &str, e: TypeError) -> Result<Rep
     Ok(Reply::Rejected(message))
 }
 
-/// Compiles a unit that keeps the rules.
-fn print_unit(
-    alloc: Global,
-    procs: &str,
-    unit: &Unit,
-    schedule: &str,
-    lines: &[u8],
-) -> Result<Reply, AllocError>
-    requires lines { length lines.now ≤ 1048576 }
-    ensures answer { IfOk result (λ reply. plain reply ≡ printed procs.now schedule.now (schedule_of lines.now) (program unit.now)) }
-    ensures verdict { IfOk result (λ reply. IsVerdict (plain reply)) }
-{
-    if !is_built(unit) {
-        return not_built(alloc, procs);
-    }
-    schedule_unit(alloc, unit, schedule, lines)
-}
-
 /// The file of this name is not of a form that is built.
 fn not_built(alloc: Global, name: &str) -> Result<Reply, AllocError>
     ensures answer { IfOk result (λ reply. plain reply ≡ not_built name.now) }
@@ -154,20 +133,20 @@ fn not_built(alloc: Global, name: &str) -> Result<Reply, AllocError>
     Ok(Reply::Rejected(message))
 }
 
-/// Runs the schedule on the unit, and prints what it says.
+/// Runs the schedule on a unit that keeps the rules, and prints what it says.
 fn schedule_unit(
     alloc: Global,
+    procs: &str,
     unit: &Unit,
     schedule: &str,
     lines: &[u8],
 ) -> Result<Reply, AllocError>
-    requires unit { is_built (program unit.now) ≡ true }
-    requires lines { length lines.now ≤ 1048576 }
-    ensures answer { IfOk result (λ reply. plain reply ≡ scheduled schedule.now (program unit.now) (schedule_of lines.now)) }
+    requires { length lines.now ≤ 1048576 }
+    ensures answer { IfOk result (λ reply. plain reply ≡ scheduled procs.now schedule.now (program unit.now) (schedule_of lines.now)) }
     ensures verdict { IfOk result (λ reply. IsVerdict (plain reply)) }
 {
     match read_schedule(alloc, lines)? {
-        Some(lines) => run_lines(alloc, unit, schedule, &lines),
+        Some(lines) => run_lines(alloc, procs, unit, schedule, &lines),
         None => not_built(alloc, schedule),
     }
 }
@@ -175,13 +154,12 @@ fn schedule_unit(
 /// Runs the lines on the unit, and prints what they say.
 fn run_lines(
     alloc: Global,
+    procs: &str,
     unit: &Unit,
     schedule: &str,
     lines: &[Line],
 ) -> Result<Reply, AllocError>
-    requires unit { is_built (program unit.now) ≡ true }
-    requires lines { AreRead lines.now }
-    ensures answer { IfOk result (λ reply. plain reply ≡ ended schedule.now (program unit.now) (run_lines lines.now (started unit.now.procs))) }
+    ensures answer { IfOk result (λ reply. plain reply ≡ ended procs.now schedule.now (program unit.now) (run_lines lines.now (started unit.now.procs))) }
     ensures verdict { IfOk result (λ reply. IsVerdict (plain reply)) }
 {
     let first = unit.procs.duplicate(alloc)?;
@@ -191,7 +169,7 @@ fn run_lines(
     }
     let what = session.printed(alloc)?;
     let made = with_procs(alloc, unit, session.into_procs())?;
-    print(alloc, &made, &what)
+    print(alloc, procs, &made, &what)
 }
 
 /// A unit with these procedures in place of its own.
@@ -225,6 +203,7 @@ fn why_text(why: Why) -> &'static str
     match why {
         Why::Memory => "Memory",
         Why::UnknownProc => "UnknownProc",
+        Why::BadArguments => "BadArguments",
         Why::NoSuchPattern => "NoSuchPattern",
         Why::WrongShape => "WrongShape",
     }
@@ -249,17 +228,49 @@ fn refuse_line(alloc: Global, schedule: &str, line: &Line, why: Why) -> Result<R
     Ok(Reply::Rejected(message))
 }
 
-/// The C of the listed procedures.
-fn print(alloc: Global, unit: &Unit, what: &[Printed]) -> Result<Reply, AllocError>
-    requires { is_first_unit (program unit.now) (map printing what.now) ≡ true }
-    ensures answer { IfOk result (λ reply. plain reply ≡ Accepted (text_of (lowered (program unit.now) (map printing what.now)))) }
+/// The name of a procedure; empty where the unit has none of that number.
+fn name_of(unit: &Unit, k: ProcId) -> &str
+    ensures { result.now ≡ name_of (slice_get unit.now.procs k.0) }
+{
+    match unit.procs.get(k.0 as usize) {
+        Some(p) => p.name.as_str(),
+        None => "",
+    }
+}
+
+/// A number in the tree of the procedure of that number may become too large.
+fn refuse_width(alloc: Global, procs: &str, unit: &Unit, k: ProcId) -> Result<Reply, AllocError>
+    ensures answer { IfOk result (λ reply. plain reply ≡ Rejected (name_refused procs.now (name_of (slice_get unit.now.procs k.0)) (codes "TooWide"))) }
     ensures verdict { IfOk result (λ reply. IsVerdict (plain reply)) }
 {
-    match lower(alloc, unit, what) {
+    let message = messages::name_refused(alloc, procs, name_of(unit, k), "TooWide")?;
+    Ok(Reply::Rejected(message))
+}
+
+/// C cannot keep the name.
+fn refuse_name(alloc: Global, procs: &str, name: &Name) -> Result<Reply, AllocError>
+    ensures answer { IfOk result (λ reply. plain reply ≡ Rejected (name_refused procs.now name.now (codes "NameClash"))) }
+    ensures verdict { IfOk result (λ reply. IsVerdict (plain reply)) }
+{
+    let message = messages::name_refused(alloc, procs, name.as_str(), "NameClash")?;
+    Ok(Reply::Rejected(message))
+}
+
+/// The C of the listed procedures, or why there is none.
+fn print(alloc: Global, procs: &str, unit: &Unit, what: &[Printed]) -> Result<Reply, AllocError>
+    ensures answer { IfOk result (λ reply. plain reply ≡ printed procs.now (program unit.now) (map printing what.now)) }
+    ensures verdict { IfOk result (λ reply. IsVerdict (plain reply)) }
+{
+    if !are_built(unit, what) {
+        return not_built(alloc, procs);
+    }
+    match lower_unit(alloc, unit, what) {
         Ok(c) => {
             let text = c_text(alloc, &c)?;
             Ok(Reply::Accepted(text))
         }
-        Err(_) => Err(AllocError),
+        Err(LowerError::TooWide(k)) => refuse_width(alloc, procs, unit, k),
+        Err(LowerError::NameClash(name)) => refuse_name(alloc, procs, &name),
+        Err(LowerError::Memory) => Err(AllocError),
     }
 }

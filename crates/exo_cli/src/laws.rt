@@ -1,6 +1,5 @@
 //! What schedules keep, each law the contract of a function with nothing to do.
 
-ghost use Rattle.exo_cli.specs.Built.{AcceptedIsBuilt};
 ghost use Rattle.exo_cli.specs.Headline.{AcceptedIsPromised};
 ghost use Rattle.exo_cli.specs.Kept.{CommutedIsKept, CommutedRunsAlike, CommutedRefines, SchedulesRunAlike};
 ghost use Rattle.exo_cli.specs.Moves.{CommutedForwards};
@@ -31,12 +30,8 @@ pub fn schedules_run_alike()
     ensures { SchedulesRunAlike }
 {}
 
-/// What a unit and a schedule of their forms lead to is of the form that is printed.
-pub fn accepted_texts_are_built()
-    ensures { AcceptedIsBuilt }
-{}
-
-/// The C that is printed does what the procedures of the text do.
+/// What stands behind the C that is printed: versions that run like procedures of the text; and where they are of the first form,
+/// the C does what these do.
 pub fn accepted_texts_are_promised()
     ensures { AcceptedIsPromised }
 {}

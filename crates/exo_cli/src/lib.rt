@@ -2,12 +2,12 @@
 //! what it writes.
 #![tactic(auto)]
 
+mod built;
 mod check;
 mod commute;
 mod compile;
 mod count;
 mod disk;
-mod first;
 pub mod laws;
 mod lines;
 mod memory;

@@ -1,6 +1,6 @@
 // The messages of the program, each a line.
 ghost use Rattle.std.specs.Prelude.{◌≡◌, string_bytes, IfOk};
-ghost use Rattle.exo_cli.specs.Messages.{usage, cannot_read, file_refused, place_refused, line_refused, unit_refused, not_shown, checked};
+ghost use Rattle.exo_cli.specs.Messages.{usage, cannot_read, file_refused, place_refused, name_refused, line_refused, unit_refused, not_shown, checked};
 
 use std::alloc::{AllocError, Global};
 
@@ -39,6 +39,18 @@ pub(crate) fn place_refused(
     ensures { IfOk result (λ text. string_bytes text ≡ place_refused name.now line column why.now) }
 {
     format!(in alloc; "exoc: {name}:{line}:{column}: {why}\n")
+}
+
+/// A name of the unit in this file is refused.
+pub(crate) fn name_refused(
+    alloc: Global,
+    file: &str,
+    name: &str,
+    why: &str,
+) -> Result<String, AllocError>
+    ensures { IfOk result (λ text. string_bytes text ≡ name_refused file.now name.now why.now) }
+{
+    format!(in alloc; "exoc: {file}: {name}: {why}\n")
 }
 
 /// A line of a schedule is refused: its number, its operator and why.

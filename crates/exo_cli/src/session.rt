@@ -2,7 +2,7 @@
 ghost use Rattle.std.specs.Prelude.{◌≡◌, Option, None, slice_get, slice_index, length, map, ◌<◌, MatchResult, OnOk, IfOk, IfErr};
 ghost use Rattle.exo_tree.specs.Plain.{procedure};
 ghost use Rattle.exo_cli.specs.Commute.{Made};
-ghost use Rattle.exo_cli.specs.Lines.{Went, Done, adding, changing, changing_held, emitting, held, performed, run_lines};
+ghost use Rattle.exo_cli.specs.Lines.{Went, Done, adding, changing, changing_held, emitting, has_template, held, performed, run_lines};
 ghost use Rattle.c_printer.specs.LoweredUnit.{name_of};
 ghost use Rattle.c_printer.specs.PlainPrinted.{printing};
 ghost use Rattle.exo_cli.specs.Compiled.{printings, started};
@@ -23,6 +23,8 @@ pub enum Why {
     Memory,
     /// The name holds no version.
     UnknownProc,
+    /// The version is an instruction, which is not printed.
+    BadArguments,
     /// No statement matches the pattern.
     NoSuchPattern,
     /// The statement that matches has not the shape that the step asks.
@@ -188,6 +190,16 @@ impl Session {
         }
     }
 
+    /// Whether version `k` is an instruction.
+    fn is_instruction(&self, k: u32) -> bool
+        ensures { result ≡ has_template (slice_get (versions self.now).procedures k) }
+    {
+        match self.procs.get(k as usize) {
+            Some(p) => p.template.is_some(),
+            None => false,
+        }
+    }
+
     /// Marks the version that the name holds to be printed.
     fn emit(&mut self, name: &Text) -> Result<(), Why>
         ensures { MatchResult result
@@ -197,6 +209,9 @@ impl Session {
         let Some(k) = self.held(name) else {
             return Err(Why::UnknownProc);
         };
+        if self.is_instruction(k) {
+            return Err(Why::BadArguments);
+        }
         self.emitted.push(k)?;
         Ok(())
     }

@@ -39,5 +39,6 @@ pub mod SameNumbers
 pub mod Apart
 pub mod KnownFields
 pub mod PlaceFacts
+pub mod Made
 pub mod FieldInstances
 pub mod RunInstances

@@ -1,5 +1,5 @@
 -- All facts at a place hold there, those that read fields and strides too.
-use Rattle.std.proofs.Common.{◌≡◌, ℕ, zero, ℤ, ◌==◌, Bool, true, false, true≢false, not, ◌&&◌, ◌||◌, List, [], ◌∷◌, ◌++◌, map, Option, Some, None, refl, sym, ap, ◌∙◌, subst}
+use Rattle.std.proofs.Common.{◌≡◌, ℕ, zero, ℤ, ◌==◌, Bool, true, false, true≢false, not, ◌&&◌, ◌||◌, List, [], ◌∷◌, ◌++◌, map, Option, Some, None, refl, sym, ap, ◌∙◌, subst, ap₂}
 use Rattle.std.proofs.Math.Path.{fun_ext}
 use Rattle.exo_tree.specs.Tree.{Binder, Kind, Control, Lit, Var, Field, StrideOf, Neg, Add, Sub, Mul, Div, Mod, Condition, True, False, Flag, FieldFlag, Lt, Le, Gt, Ge, Eq, And, Or, Argument, ControlArg, ConditionArg, Whole, Window, Statement, Config, If, For, Block, end, next, joined, Procedure}
 use Rattle.exo_tree.specs.Context.{Context, Here, After, InLoop, InThen, InElse, fill, rest_of}
@@ -18,7 +18,7 @@ use Rattle.exo_context.specs.Known.{params_facts}
 use Rattle.exo_context.specs.Live.{read_by_control, read_by_condition, read_by_argument}
 use Rattle.exo_context.specs.Scoped.{is_not, is_param, is_scoped, step_is_scoped, has_binder}
 use Rattle.exo_context.specs.KnownFields.{KnownFields, at_entry}
-use Rattle.exo_context.specs.PlaceFacts.{facts_round, Numbers, with_known, IsTrueIn, unit_telling, PlaceFactsLaw, PlainTelling}
+use Rattle.exo_context.specs.PlaceFacts.{PlaceFact, facts_round, Numbers, with_known, IsTrueIn, all_written, step_all_written, AreWritten, StridesAre, unit_telling, PlaceFactsLaw, PlainTelling}
 use Rattle.exo_context.proofs.Substitute.{and_parts}
 use Rattle.exo_context.proofs.Scoped.{not_true}
 use Rattle.exo_context.proofs.Copies.{admissible_sound}
@@ -27,7 +27,6 @@ use Rattle.exo_context.proofs.Sorted.{fits_at_law}
 use Rattle.exo_context.proofs.UnitFields.{unit_leaves}
 use Rattle.exo_context.proofs.WellFormed.{well_scoped}
 use Rattle.exo_context.proofs.Apart.{IsApart, body_apart}
-use Rattle.exo_context.proofs.SameNumbers.{name_strides}
 use Rattle.exo_context.proofs.KnownFields.{Ghost, Walks, Stands, condition_there, ahead_new, come_on, or_false}
 
 -- ---- one context in the hole of another
@@ -132,6 +131,22 @@ module _ (world : World) (p : Procedure) (first : State) where
   in_else : (bound : ℕ → Bool) (c : Condition) (a b rest : Block) (s : State) → Visits world p first bound (next (If c a b) rest) s → holds s.scene c ≡ false → Visits world p first bound b s
   in_else bound c a b rest s v e = deeper bound bound (next (If c a b) rest) b (InElse c a (Here end) rest) s s refl (ap (λ z. next (If c a z) rest) (sym (joined_end b))) (λ x. same_names (bound x)) v (e, refl)
 
+-- ---- what is written in a body is written in its blocks
+
+module _ (may : ℕ → Argument → Bool) where
+  joined_written : (b rest : Block) → all_written may (joined b rest) ≡ true → all_written may b ≡ true
+  joined_written end rest k = refl
+  joined_written (next a b) rest k =
+      let p = and_parts (step_all_written may a) (all_written may (joined b rest)) k in
+      ap₂ ◌&&◌ p.0 (joined_written b rest p.1)
+
+  written_in : (c : Context) (b : Block) → all_written may (fill c b) ≡ true → all_written may b ≡ true
+  written_in (Here rest) b k = joined_written b rest k
+  written_in (After a c) b k = written_in c b (and_parts (step_all_written may a) (all_written may (fill c b)) k).1
+  written_in (InLoop i lo hi c rest) b k = written_in c b (and_parts (all_written may (fill c b)) (all_written may rest) k).0
+  written_in (InThen t c other rest) b k = written_in c b (and_parts (all_written may (fill c b)) (all_written may other) (and_parts (all_written may (fill c b) && all_written may other) (all_written may rest) k).0).0
+  written_in (InElse t other c rest) b k = written_in c b (and_parts (all_written may other) (all_written may (fill c b)) (and_parts (all_written may other && all_written may (fill c b)) (all_written may rest) k).0).1
+
 -- ---- the law
 
 module _ (scene : Scene) where
@@ -143,50 +158,58 @@ module _ (scene : Scene) where
   asserts_hold t bound same [] names h = tt
   asserts_hold t bound same (c ∷ cs) names h = let q = and_parts (holds scene c) (all_hold scene cs) h in (same c names.0 ∙ q.0, asserts_hold t bound same cs names.1 q.1)
 
+at_entry_written : (may : ℕ → Argument → Bool) (xs : List Fact) → Each (λ (e : PlaceFact). AreWritten may e.known) (map (λ fact. record { known = at_entry; fact = fact }) xs)
+at_entry_written may [] = tt
+at_entry_written may (x ∷ xs) = (λ f. refl, at_entry_written may xs)
+
 pub place_facts_law : PlaceFactsLaw
-place_facts_law fields memories ps p may told agree tells well c old was s u good come =
+place_facts_law fields memories ps p may told agree set tells all s strides good are well c old u was come =
     let kinds = kinds_of fields in
     let world = unit_world kinds ps in
     let tell = unit_telling ps told agree in
     let V = Visits world p s in
-    let walks : Walks world tell V = record {
+    let walks : Walks world tell strides set V = record {
       on = behind world p s;
       turn_in = in_turn world p s;
       then_in = in_then world p s;
       else_in = in_else world p s;
       fit = λ bound b t v. (fits_at_law fields memories ps p v.around b may v.place s t good v.come).fields;
       written = λ bound f a b t v. (let w = tells v.around f a b v.place in record { named = subst (λ n. in_argument (is_not n) (told a) ≡ false) (sym (fun_ext v.names)) w.named; plain = w.plain; same = w.same s t good v.come });
+      steps_are = λ bound b t v. subst (λ n. StridesAre strides n t.scene) (sym (fun_ext v.names)) (are v.around b t v.place v.come);
+      all_are_written = λ bound b t v. written_in (λ f a. set f (told a)) v.around b (subst (λ z. all_written (λ f a. set f (told a)) z ≡ true) v.place all);
     } in
     let scoped = well_scoped (field_kind fields) memories world.callees p may.procedure in
     let entry = s.scene.fields in
     let nothing : ℕ → Bool = λ x. false in
-    let ghost : Ghost = record { strides = name_strides s.scene; unknown = λ f q. entry f } in
+    let ghost : Ghost = record { unknown = λ f q. entry f } in
     let b = fill c old in
     let body_scoped : is_scoped (is_param p) b ≡ true = subst (λ z. is_scoped (is_param p) z ≡ true) was scoped.0 in
-    let start : Stands world entry (is_param p) (λ x. has_binder b x || nothing x) (record { branch = Main; index = zero } ∷ []) ghost at_entry s = record {
+    let start : Stands world strides set entry (is_param p) (λ x. has_binder b x || nothing x) (record { branch = Main; index = zero } ∷ []) ghost at_entry s = record {
       sound = admissible_sound world p s good;
       free = λ x k. (let n = good.no_others x k in record { control = n.0; buffers = n.1; views = n.2 });
-      strides = λ x k. refl;
       kinds = λ f q. good.fields f;
+      told = λ f. refl;
       fields = λ v fits f. sym (fits.entries f);
     } in
     let visit : V (is_param p) b s = record { around = Here end; last = refl; place = was ∙ sym (joined_end b); come = refl; names = λ x. sym (same_names world p s (is_param p x)) } in
-    let found = come_on world tell (unit_leaves kinds ps) well entry V walks old c (is_param p) nothing [] Main zero ghost at_entry s u body_scoped (subst (IsApart nothing) was (body_apart (map (λ q. q.binder.id) p.params) p.body may.procedure.distinct)) (λ x k. absurd (true≢false (sym k))) visit start come in
-    let new = ahead_new world tell (unit_leaves kinds ps) well entry V walks (is_param p) nothing b body_scoped (λ x k. absurd (true≢false (sym k))) in
+    let found = come_on world tell strides set (unit_leaves kinds ps) well entry V walks old c (is_param p) nothing [] Main zero ghost at_entry s u body_scoped (subst (IsApart nothing) was (body_apart (map (λ q. q.binder.id) p.params) p.body may.procedure.distinct)) (λ x k. absurd (true≢false (sym k))) visit start come in
+    let new = ahead_new world tell strides set (unit_leaves kinds ps) well entry V walks (is_param p) nothing b body_scoped (λ x k. absurd (true≢false (sym k))) in
     let v = found.numbers in
     let first = with_known v at_entry in (
       v,
       record {
         control = found.control;
-        strides = found.strides;
+        strides = found.fits.strides;
         entry = found.fits.entries;
         kinds = found.kinds;
         fields = found.fields;
         facts = each_join (IsTrueIn v) (map (λ fact. record { known = at_entry; fact = fact }) (params_facts p.params ++ map Holds p.asserts)) (facts_round tell [] Main zero c old at_entry)
             (each_of_map s.scene v at_entry (params_facts p.params ++ map Holds p.asserts) (each_join (IsTrueAt first) (params_facts p.params) (map Holds p.asserts)
-            (params_true s.scene first p.params (λ x k. sym (found.fits.control x (new x k))) good.arguments)
-            (asserts_hold s.scene first (is_param p) (λ a k. condition_there world tell (unit_leaves kinds ps) well entry V walks (is_param p) (λ x. has_binder b x || nothing x) (record { branch = Main; index = zero } ∷ []) ghost at_entry s v start new found.fits a k) p.asserts scoped.1 good.asserts)))
+            (params_true s.scene first p.params (λ x k. sym {a = v.scene.control x} (found.fits.control x (new x k))) good.arguments)
+            (asserts_hold s.scene first (is_param p) (λ a k. condition_there world tell strides set (unit_leaves kinds ps) well entry V walks (is_param p) (λ x. has_binder b x || nothing x) (record { branch = Main; index = zero } ∷ []) ghost at_entry s v start (walks.steps_are (is_param p) b s visit) new found.fits a k) p.asserts scoped.1 good.asserts)))
             found.facts;
+        written = found.written;
+        facts_written = each_join (λ (e : PlaceFact). AreWritten set e.known) (map (λ fact. record { known = at_entry; fact = fact }) (params_facts p.params ++ map Holds p.asserts)) (facts_round tell [] Main zero c old at_entry) (at_entry_written set (params_facts p.params ++ map Holds p.asserts)) found.facts_written;
       },
     )
 

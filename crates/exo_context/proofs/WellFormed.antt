@@ -252,7 +252,7 @@ well_scoped fields memories callees p ok = (block_scoped fields memories callees
 
 -- ---- bounds
 
-plain_of : (fields : ℕ → Option Kind) (scope : Scope) (a : Control) → is_control fields plainly scope a ≡ true → is_plain a ≡ true
+pub plain_of : (fields : ℕ → Option Kind) (scope : Scope) (a : Control) → is_control fields plainly scope a ≡ true → is_plain a ≡ true
 plain_of fields scope (Lit n) k = refl
 plain_of fields scope (Var x) k = refl
 plain_of fields scope (Field f) k = k

@@ -21,3 +21,4 @@ pub mod Flags
 pub mod WellFormed
 pub mod KnownFields
 pub mod PlaceFacts
+pub mod Made

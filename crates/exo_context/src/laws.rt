@@ -47,6 +47,7 @@ ghost use Rattle.exo_context.specs.WellFormed.{WellKnown};
 ghost use Rattle.exo_context.specs.WellFormed.{CallsAreBelow};
 ghost use Rattle.exo_context.specs.PlaceFacts.{PlaceFactsLaw};
 ghost use Rattle.exo_context.specs.PlaceFacts.{PlainTelling};
+ghost use Rattle.exo_context.specs.Made.{MadeLaw};
 
 /// A procedure in which a block is replaced is refined by it, where the new block may replace the old one at each state that comes to it.
 pub fn replaced_refines()
@@ -274,7 +275,8 @@ pub fn well_formed_calls_are_below()
 {}
 
 /// In a well-formed unit each state that a run comes to has numbers for what is known of configuration fields there, and with them
-/// the bounds, conditions and assertions round the place are true, also those that read fields and strides.
+/// the bounds, conditions and assertions round the place are true, also those that read fields and strides. Strides are told by the
+/// control values, as the names in scope have them.
 pub fn place_facts_hold()
     ensures { PlaceFactsLaw }
 {}
@@ -282,4 +284,9 @@ pub fn place_facts_hold()
 /// The right side of a configuration write may be written down as it is.
 pub fn plain_writes_are_told()
     ensures { PlainTelling }
+{}
+
+/// Parameters stand for what they stood for at first, and the binders on the way to a place for what they make by the numbers there.
+pub fn names_stay_as_made()
+    ensures { MadeLaw }
 {}

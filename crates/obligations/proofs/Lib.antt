@@ -1,0 +1,12 @@
+mod Affine
+mod Under
+mod Affines
+mod Places
+mod WellFormed
+mod Steps
+mod Counting
+mod Terms
+mod Within
+mod Owing
+mod Resting
+mod Groups

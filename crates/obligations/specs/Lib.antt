@@ -3,3 +3,4 @@ pub mod Errors
 pub mod Limits
 pub mod Obligations
 pub mod Outcomes
+pub mod Laws

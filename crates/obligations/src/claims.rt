@@ -1,5 +1,5 @@
 //! The obligations of the claims of one place.
-ghost use Rattle.std.specs.Prelude.{◌≡◌, ◌<◌, ◌∷◌, [], true, IsTrue, Some, map, length, slice_get};
+ghost use Rattle.std.specs.Prelude.{◌≡◌, ◌<◌, ◌∷◌, [], true, IsTrue, Some, IfSome, map, length, slice_get};
 ghost use Rattle.std.specs.List.{list_all};
 ghost use Rattle.exo_tree.specs.Tree.{Procedure, Program};
 ghost use Rattle.exo_tree.specs.PlainUnit.{program};
@@ -58,10 +58,11 @@ pub(crate) fn put_claims(
 ) -> Result<(), CheckError>
     requires numbered { length (program site.now.unit.now).fields < 4294967296 }
     requires place { IsPlaceIn (program site.now.unit.now) site.now.p.0 place.now }
+    requires walked { IfSome (slice_get (program site.now.unit.now).procedures site.now.p.0) (λ q. IsTrue (may_be_walked q)) }
     requires some { 0 < length claims.now }
     requires here { list_all (λ c. same_path c.place place.now) (map placed claims.now) ≡ true }
     requires rules { IsTrue (list_all (λ c. condition_keeps_rules c.claim.says) (map placed claims.now)) }
-    ensures { (p : Procedure) → slice_get (program site.now.unit.now).procedures site.now.p.0 ≡ Some p → roots_in site.now.roots.now ≡ roots_of p → may_be_walked p ≡ true →
+    ensures { (p : Procedure) → slice_get (program site.now.unit.now).procedures site.now.p.0 ≡ Some p → roots_in site.now.roots.now ≡ roots_of p →
         Owes result (program site.now.unit.now) p (map placed claims.now) out.old out.new }
 {
     let (context, facts) = context_at(alloc, site.unit, site.p, place)?;

@@ -3,6 +3,7 @@
 
 mod claims;
 mod error;
+pub mod laws;
 mod list;
 mod owed;
 

@@ -1,5 +1,5 @@
 //! Obligations in their order, within the limits of a procedure.
-ghost use Rattle.std.specs.Prelude.{◌≡◌, ◌++◌, ◌∷◌, [], map, length};
+ghost use Rattle.std.specs.Prelude.{◌≡◌, ◌≤◌, ◌++◌, ◌∷◌, [], map, length};
 ghost use Rattle.std.specs.List.{sum_by};
 ghost use Rattle.affine_forms.specs.System.{plain_system};
 ghost use Rattle.affine_systems.specs.Outcomes.{plain_obligation};
@@ -38,8 +38,9 @@ impl Model for Owed {
     ghost invariant = { λ l. (l.terms ≡ terms_in (map plain_obligation l.items.items)) × (are_within (map plain_obligation l.items.items) ≡ true) };
 }
 
-/// The number of terms of rows: variables with their coefficients, not constants.
+/// The number of terms of rows: variables with their coefficients, not constants. A system has at most 512 rows of 64 terms.
 fn row_terms(rows: &[Row]) -> usize
+    requires { sum_by (λ r. length r.terms.items) rows.now ≤ 32768 }
     ensures { result ≡ sum_by (λ r. length r.terms.items) rows.now }
 {
     let mut count = 0;
@@ -85,8 +86,10 @@ impl Owed {
 
     /// Puts obligations last, in their order. `TooManyObligations` where one passes a limit.
     pub(crate) fn push_all(&mut self, more: Vec<Obligation>) -> Result<(), CheckError>
-        ensures { Appended result self.old (map plain_obligation more.entry.items) self.new }
+        ensures { Appended result self.old (map plain_obligation more.items) self.new }
     {
+        // the proof learns here that what is owed already is within the limits
+        let _ = &self.terms;
         for o in more {
             self.push(o)?;
         }

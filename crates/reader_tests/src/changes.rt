@@ -7,8 +7,9 @@
 // of the same line, `9:8` column 8 of line 9.
 //
 // A row of tallies is a line of the unit: how often a text with another byte in place of one of that line is read, for all 256 bytes
-// at each place, how often it is refused for each reason, then the sum of the lines and that of the columns of the refusals. A row of
-// sums is the same for one kind of change at each byte of a unit.
+// at each place, how often it is refused for each reason, then the sum of the lines and that of the columns of the refusals.
+//
+// `bench/reader_tables` makes the rows by a model of the grammar that was written apart from the code.
 
 use crate::tables;
 use exo_source::unit::{ReadError, ReadKind, read_unit};
@@ -226,23 +227,24 @@ fn row(
     Ok(runs.text)
 }
 
-/// The first row of a table that is otherwise, as it is found; empty where there is none.
+/// The first row of a table, among those from one on up to another, that is otherwise, as it is found; empty where there is none.
 fn first_difference(
     alloc: Global,
     unit: &[u8],
     items: usize,
     rows: &str,
+    part: (usize, usize),
 ) -> Result<String, AllocError> {
+    let (from, to) = part;
     let mut lines = rows.lines();
-    for (name, change) in CHANGES {
+    for (k, (name, change)) in CHANGES.into_iter().enumerate() {
+        let wanted = lines.next().unwrap_or("");
+        if k < from || k >= to {
+            continue;
+        }
         let found = row(alloc, unit, items, name, change)?;
-        match lines.next() {
-            Some(wanted) => {
-                if wanted != found.as_str() {
-                    return Ok(found);
-                }
-            }
-            None => return Ok(found),
+        if wanted != found.as_str() {
+            return Ok(found);
         }
     }
     Ok(String::new(alloc))
@@ -346,29 +348,6 @@ fn tallies(alloc: Global, unit: &[u8]) -> Result<String, AllocError> {
     Ok(out)
 }
 
-/// The sums of the first changes over a unit, a line for each.
-fn sums(alloc: Global, unit: &[u8], count: usize) -> Result<String, AllocError> {
-    let mut out = String::new(alloc);
-    for (name, change) in CHANGES.into_iter().take(count) {
-        out.push_str(&format!(in alloc; "{name} ")?)?;
-        out.push_str(&sum(alloc, unit, change)?)?;
-        out.push('\n')?;
-    }
-    Ok(out)
-}
-
-/// The sum of a change over a unit.
-fn sum(alloc: Global, unit: &[u8], change: Change) -> Result<String, AllocError> {
-    let mut tally = NOTHING;
-    for at in 0..unit.len() {
-        tally.count(alloc, unit, at, change)?;
-    }
-    if let Change::Cut = change {
-        tally.count(alloc, unit, unit.len(), change)?;
-    }
-    tally.shown(alloc)
-}
-
 #[test]
 fn changes_of_worked_units(rt: HostRuntime) -> Result<(), AllocError> {
     let units = [
@@ -400,11 +379,35 @@ fn changes_of_worked_units(rt: HostRuntime) -> Result<(), AllocError> {
         (tables::GENERATED, 1, tables::GENERATED_ROWS),
         (tables::COLLOAD_ALONE, 1, tables::COLLOAD_ALONE_ROWS),
         (tables::FORMS, 2, tables::FORMS_ROWS),
+        (tables::COLLOAD, 6, tables::COLLOAD_ROWS),
     ];
     for (unit, items, rows) in units {
-        let found = first_difference(rt.alloc(), unit, items, rows)?;
+        let found = first_difference(rt.alloc(), unit, items, rows, (0, 21))?;
         assert_eq!(rt; found.as_str(), "");
     }
+    Ok(())
+}
+
+/// The same for some rows of the unit with many assertions, which takes long.
+fn many_rows(alloc: Global, part: (usize, usize)) -> Result<String, AllocError> {
+    first_difference(alloc, tables::MANY_ROWS, 1, tables::MANY_ROWS_ROWS, part)
+}
+
+#[test]
+fn first_changes_of_many_rows(rt: HostRuntime) -> Result<(), AllocError> {
+    assert_eq!(rt; many_rows(rt.alloc(), (0, 7))?.as_str(), "");
+    Ok(())
+}
+
+#[test]
+fn further_changes_of_many_rows(rt: HostRuntime) -> Result<(), AllocError> {
+    assert_eq!(rt; many_rows(rt.alloc(), (7, 14))?.as_str(), "");
+    Ok(())
+}
+
+#[test]
+fn last_changes_of_many_rows(rt: HostRuntime) -> Result<(), AllocError> {
+    assert_eq!(rt; many_rows(rt.alloc(), (14, 21))?.as_str(), "");
     Ok(())
 }
 
@@ -445,19 +448,6 @@ fn all_bytes_at_each_place(rt: HostRuntime) -> Result<(), AllocError> {
     ];
     for (unit, wanted) in units {
         let found = tallies(rt.alloc(), unit)?;
-        assert_eq!(rt; found.as_str().trim_end(), wanted);
-    }
-    Ok(())
-}
-
-#[test]
-fn changes_of_large_units(rt: HostRuntime) -> Result<(), AllocError> {
-    let units = [
-        (tables::COLLOAD, 21, tables::COLLOAD_SUMS),
-        (tables::MANY_ROWS, 6, tables::MANY_ROWS_SUMS),
-    ];
-    for (unit, count, wanted) in units {
-        let found = sums(rt.alloc(), unit, count)?;
         assert_eq!(rt; found.as_str().trim_end(), wanted);
     }
     Ok(())

@@ -1,0 +1,6 @@
+pub mod Opening
+pub mod Listing
+pub mod Checking
+pub mod Found
+pub mod Numbered
+pub mod Placed

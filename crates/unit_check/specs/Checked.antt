@@ -1,5 +1,5 @@
 -- Whether the procedures of a unit show what they owe: in their order, and of each first whether its obligations can be listed.
-use Rattle.std.specs.Prelude.{ℕ, suc, ◌+◌, if◌then◌else◌, List, [], ◌∷◌, map, length, Option, Some, None, All}
+use Rattle.std.specs.Prelude.{ℕ, suc, ◌+◌, if◌then◌else◌, List, [], ◌∷◌, length, Option, Some, None, All}
 use Rattle.exo_tree.specs.Tree.{Procedure, Program}
 use Rattle.exo_tree.specs.Places.{Path}
 use Rattle.affine_forms.specs.Affine.{HasNoIntegerPoint}

@@ -1,8 +1,10 @@
 -- The text lines of statements: those of a procedure stand in preorder.
-use Rattle.std.specs.Prelude.{ℕ, suc, List, [], ◌∷◌, ◌++◌, Option, Some, None, slice_get, slice_index_or}
+use Rattle.std.specs.Prelude.{ℕ, zero, suc, ◌+◌, ◌-◌, ◌^◌, min, List, [], ◌∷◌, ◌++◌, Option, Some, None, option_map, slice_index_or}
 use Rattle.std.specs.List.{position_or_len}
 use Rattle.exo_tree.specs.Tree.{Statement, Assign, Reduce, Config, Pass, If, For, Alloc, View, Call, Block, end, next, Procedure}
+use Rattle.exo_tree.specs.Nodes.{nodes, nodes_in}
 use Rattle.exo_tree.specs.Places.{Branch, Main, Else, Path}
+use Rattle.exo_tree.specs.Branches.{branch_of}
 use Rattle.exo_tree.specs.declared.lines.ProcLines.{ProcLines}
 use Rattle.bounds_check.specs.Claims.{into}
 use Rattle.obligations.specs.Paths.{same_path}
@@ -37,3 +39,36 @@ line_of p lines (s ∷ path) = slice_index_or lines.statements (number_of p (s �
 abbrev pub line_in : Option Procedure → Option ProcLines → Path → ℕ
 line_in (Some p) (Some lines) path = line_of p lines path
 line_in p lines path = 0
+
+-- ---- the same by going down a path
+
+-- the greatest number of 64 bits in the place of a greater one: no procedure has so many lines
+abbrev pub capped : ℕ → ℕ
+capped n = min n (2 ^ 64 - 1)
+
+-- what is known of the statement behind the first so many, with how many statements stand before that
+abbrev pub past : (Statement → Option ℕ) → Block → ℕ → Option ℕ
+past f end k = None
+past f (next a b) zero = f a
+past f (next a b) (suc k) = option_map (λ n. nodes a + n) (past f b k)
+
+-- the statements inside a statement that stand before those of a branch
+abbrev pub before : Branch → Statement → ℕ
+before Main a = 0
+before Else (If c a b) = nodes_in a
+before Else a = 0
+
+-- where the rest of a path leads from a statement: to itself, or inside it
+abbrev pub inside : Path → Statement → Option ℕ
+inside [] a = Some 0
+inside (s ∷ rest) a = option_map (λ n. 1 + n) (elim (branch_of s.branch a) [ None ↦ None | Some b ↦ option_map (λ n. before s.branch a + n) (past (inside rest) b s.index) ])
+
+-- how many statements of a block stand before the one at a path into it, if there is one
+abbrev pub place_in : Path → Block → Option ℕ
+place_in [] b = None
+place_in (s ∷ rest) b = past (inside rest) b s.index
+
+-- of a procedure's body: the first step goes into it by its main branch
+abbrev pub place_of : Path → Block → Option ℕ
+place_of [] b = None
+place_of (s ∷ rest) b = elim s.branch [ Main ↦ place_in (s ∷ rest) b | Else ↦ None ]

@@ -1,5 +1,5 @@
 //! The check of a unit.
-ghost use Rattle.std.specs.Prelude.{◌≡◌, All, IfOk, Some, map, length, slice_get};
+ghost use Rattle.std.specs.Prelude.{◌≡◌, ◌≤◌, All, IfOk, Some, map, length, slice_get};
 ghost use Rattle.exo_tree.specs.Tree.{Procedure};
 ghost use Rattle.exo_tree.specs.PlainUnit.{program};
 ghost use Rattle.exo_meaning.specs.Units.{IsUnit};
@@ -36,7 +36,8 @@ fn out_of_memory(p: ProcId) -> UnitRefused
 
 /// The obligations of a procedure can't be listed.
 fn not_listed(p: ProcId, error: CheckError) -> UnitRefused
-    ensures { (f : Fault) → IsRefusal error (Some f) → IsOf result p.0 (NotListed f) }
+    ensures fault { (f : Fault) → IsRefusal error (Some f) → IsOf result p.0 (NotListed f) }
+    ensures memory { error ≡ CheckError.Memory → result.why ≡ Memory }
 {
     match error {
         CheckError::Memory => out_of_memory(p),
@@ -73,7 +74,8 @@ fn not_shown(
 /// What the answer on a procedure's obligations means.
 fn answered(alloc: Global, p: ProcId, obs: &[Obligation], answer: Answer) -> Result<(), UnitRefused>
     requires { answer ≡ answer_of (map elimination (systems_of obs.now)) }
-    ensures { Answers result p.0 (first_open (map plain_obligation obs.now)) }
+    ensures exact { Answers result p.0 (first_open (map plain_obligation obs.now)) }
+    ensures shown { IfOk result (λ _. answer ≡ Answer.AllShown) }
 {
     match answer {
         Answer::AllShown => Ok(()),
@@ -96,6 +98,7 @@ fn check_procedure<R: Threads + Sync, G: Gate>(
     requires { IsUnit (program unit.now) }
     ensures exact { (q : Procedure) → slice_get (program unit.now).procedures p.0 ≡ Some q → Answers result p.0 (cause_of (program unit.now) q) }
     ensures count { (q : Procedure) → slice_get (program unit.now).procedures p.0 ≡ Some q → IfOk result (λ n. n ≡ length (obligations_of (program unit.now) q)) }
+    ensures few { IfOk result (λ n. n ≤ 65536) }
     ensures shown { (q : Procedure) → slice_get (program unit.now).procedures p.0 ≡ Some q → IfOk result (λ n. All (λ o. HasNoIntegerPoint o.system) (obligations_of (program unit.now) q)) }
 {
     let obs = match obligations(alloc, unit, p) {

@@ -1,86 +1,132 @@
 //! The text line of what is refused.
-ghost use Rattle.std.specs.Prelude.{◌≡◌, ◌+◌, slice_get};
+ghost use Rattle.std.specs.Prelude.{◌≡◌, ◌≤◌, ℕ, [], length, map, option_map, slice_get, slice_index_or, take};
+ghost use Rattle.std.specs.List.{position_or_len};
 ghost use Rattle.exo_tree.specs.Tree.{block};
-ghost use Rattle.exo_tree.specs.Nodes.{nodes, nodes_in};
+ghost use Rattle.exo_tree.specs.Nodes.{nodes, nodes_in, nodes_of};
+ghost use Rattle.exo_tree.specs.Places.{Main};
+ghost use Rattle.exo_tree.specs.PlainPlace.{branch_taken, step_taken};
+ghost use Rattle.exo_tree.specs.PlainProcedure.{procedure};
 ghost use Rattle.exo_tree.specs.PlainStatement.{statement};
 ghost use Rattle.exo_tree.specs.PlainUnit.{program};
-ghost use Rattle.unit_check.specs.Preorder.{line_in};
+ghost use Rattle.obligations.specs.Paths.{same_path};
+ghost use Rattle.unit_check.specs.Preorder.{before, block_paths, capped, line_in, line_of, place_in, place_of};
 
 use crate::refused::UnitRefused;
-use exo_tree::{Block, Branch, Path, ProcId, Step, Stmt, Unit};
+use exo_tree::{Block, Branch, Path, Proc, ProcId, ProcLines, Step, Stmt, Unit};
+
+// Counts stop at the greatest number of 64 bits: no procedure has so many lines.
 
 /// The number of statements of a block, at every depth.
 #[cycle(count)]
 fn count(b: &Block) -> usize
-    ensures { result ≡ nodes_in (block b.now) }
+    ensures { result ≡ capped (nodes_in (block b.now)) }
 {
     count_first(b, b.len())
 }
 
 /// The number of the first `to` statements of a block and of those inside them.
 #[cycle(count)]
-fn count_first(b: &Block, to: usize) -> usize {
-    let mut all = 0;
-    for k in 0..to.min(b.len()) {
-        all += 1 + count_inside(b.statement(k));
+fn count_first(b: &Block, to: usize) -> usize
+    requires { to ≤ length b.now }
+    ensures { result ≡ capped (nodes_of (take to b.now)) }
+{
+    let mut all: usize = 0;
+    for k in 0..to {
+        all = all.saturating_add(count_one(b.statement(k)));
     }
     all
 }
 
-/// The number of statements inside a statement, at every depth.
+/// The number of a statement and of those inside it.
 #[cycle(count)]
-fn count_inside(s: &Stmt) -> usize
-    ensures { 1 + result ≡ nodes (statement s.now) }
+fn count_one(s: &Stmt) -> usize
+    ensures { result ≡ capped (nodes (statement s.now)) }
 {
     match s {
-        Stmt::If(_, a, b) => count(a) + count(b),
-        Stmt::For(_, _, _, b) => count(b),
-        _ => 0,
+        Stmt::If(_, a, b) => count(a).saturating_add(count(b)).saturating_add(1),
+        Stmt::For(_, _, _, b) => count(b).saturating_add(1),
+        _ => 1,
     }
 }
 
 /// The number of statements inside a statement before those of a branch.
-fn count_before(s: &Stmt, branch: Branch) -> usize {
+fn count_before(s: &Stmt, branch: Branch) -> usize
+    ensures { result ≡ capped (before (branch_taken branch) (statement s.now)) }
+{
     match (s, branch) {
         (Stmt::If(_, a, _), Branch::Else) => count(a),
         _ => 0,
     }
 }
 
-/// How many statements stand before the one at a path of the block, in preorder.
-fn place_in(b: &Block, steps: &[Step]) -> usize {
-    let Some((step, rest)) = steps.split_first() else {
-        return 0;
-    };
+/// How many statements stand before the one at a path of the block, in preorder; None where it has no such statement.
+fn place_in(b: &Block, steps: &[Step]) -> Option<usize>
+    ensures { result ≡ option_map capped (place_in (map step_taken steps.now) (block b.now)) }
+{
+    let (step, rest) = steps.split_first()?;
     let k = step.index as usize;
-    let before = count_first(b, k);
-    let Some(next) = rest.first() else {
-        return before;
-    };
-    let Some(s) = b.get(k) else {
-        return before;
-    };
-    match s.block(next.branch) {
-        None => before,
-        Some(inner) => before + 1 + count_before(s, next.branch) + place_in(inner, rest),
+    let s = b.get(k)?;
+    let outside = count_first(b, k);
+    match rest.first() {
+        None => Some(outside),
+        Some(next) => {
+            let inside = place_in(s.block(next.branch)?, rest)?;
+            let skipped = outside.saturating_add(count_before(s, next.branch));
+            Some(skipped.saturating_add(inside).saturating_add(1))
+        }
+    }
+}
+
+/// How many statements stand before the one at a path of a procedure's body; None where it has no such statement.
+fn place_of(body: &Block, steps: &[Step]) -> Option<usize>
+    ensures { result ≡ option_map capped (place_of (map step_taken steps.now) (block body.now)) }
+{
+    match steps.first()?.branch {
+        Branch::Main => place_in(body, steps),
+        Branch::Else => None,
+    }
+}
+
+/// The same number; that of all statements where there is no such statement.
+fn number_of(body: &Block, steps: &[Step]) -> usize
+    ensures { result ≡ capped (position_or_len (same_path (map step_taken steps.now)) (block_paths [] Main 0 (block body.now))) }
+{
+    match place_of(body, steps) {
+        Some(number) => number,
+        None => count(body),
+    }
+}
+
+/// The line of that number; 0 where there are not so many.
+fn numbered(lines: &[u32], number: usize) -> u32
+    ensures { (n : ℕ) → number ≡ capped n → result ≡ slice_index_or lines.now n 0 }
+{
+    if number < lines.len() {
+        lines[number]
+    } else {
+        0
     }
 }
 
 /// The text line of the statement at a path of the procedure; that of its `def` for the empty path; 0 where the text has no such line.
+fn line_in_procedure(proc: &Proc, lines: &ProcLines, path: &Path) -> u32
+    ensures { result ≡ line_of (procedure proc.now) lines.now path.now }
+{
+    let steps = path.as_slice();
+    if steps.is_empty() {
+        return lines.def;
+    }
+    numbered(lines.statements.as_slice(), number_of(&proc.body, steps))
+}
+
+/// The text line of the statement at a path of a procedure of the unit; 0 where it has no such procedure.
 fn line_at(unit: &Unit, p: ProcId, path: &Path) -> u32
     ensures { result ≡ line_in (slice_get (program unit.now).procedures p.0) (slice_get unit.now.lines p.0) path.now }
 {
     let k = p.0 as usize;
-    let (Some(proc), Some(lines)) = (unit.procs.get(k), unit.lines.get(k)) else {
-        return 0;
-    };
-    if path.as_slice().is_empty() {
-        return lines.def;
-    }
-    let place = place_in(&proc.body, path.as_slice());
-    match lines.statements.as_slice().get(place) {
-        Some(line) => *line,
-        None => 0,
+    match (unit.procs.get(k), unit.lines.get(k)) {
+        (Some(proc), Some(lines)) => line_in_procedure(proc, lines, path),
+        _ => 0,
     }
 }
 

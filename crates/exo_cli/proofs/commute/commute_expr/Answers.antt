@@ -1,27 +1,23 @@
-use Rattle.std.proofs.Common.{sym, ap, ◌∙◌, refl}
-use Rattle.std.proofs.lemmas.Result.{err_from_is_err_and}
+use Rattle.std.proofs.Common.{◌≡◌, sym, ap, ◌∙◌}
 use Rattle.exo_tree.specs.Plain.{procedure}
-use Rattle.exo_cli.specs.Commute.{Made, with_body, commuted}
-use Rattle.exo_cli.proofs.Commuting.{commute-at, refused-body}
+use Rattle.exo_cli.specs.Commute.{Made, then_made, commuted_in, with_body, commute_expr}
 use Rattle.exo_cli.proofs.Kept.{commuted_refines}
 use Rattle.exo_cli.proofs.Rules.{commuted_is_kept}
 use Rattle.exo_cli.proofs.Forwarding.{commuted_forwards}
 use Rattle.exo_cli.proofs.commute.commute_expr.Goals as goal
 
-pub returns-in_err-body-clause-refusal : goal.returns-in_err-body-clause-refusal
-returns-in_err-body-clause-refusal c =
-    let at = commute-at (procedure c.args.p.now) c.args.p.now.body c.args.x.now c.args.which c.in-Some.id.0 refl c.in-Some.ensures in
-    let p = err_from_is_err_and c.from_residual.result c.from_residual.ensures.1 in
-    rw (p.1, p.2, at) (refused-body (procedure c.args.p.now) (commuted c.in-Some.id.0 c.args.which c.args.p.now.body) c.in_err-body.field-0.0 c.in_err-body.ensures)
+made : (c : goal.In_ok-with_body-in-Ok) → commute_expr (procedure c.args.p.now) c.args.x.now c.args.which ≡ Made (procedure c.in_ok-with_body-in-Ok.field-0)
+made c =
+    let p = procedure c.args.p.now in
+    ap (λ found. then_made (with_body p) (commuted_in c.args.x.now c.args.which found p.body)) (sym c.parameter_of-found.ensures)
+    ∙ ap (then_made (with_body p)) c.in-Ok.ensures
+    ∙ ap Made (sym c.in_ok-with_body-in-Ok.ensures)
 
-pub returns : goal.returns
-returns c =
-    let at = commute-at (procedure c.args.p.now) c.args.p.now.body c.args.x.now c.args.which c.in-Some.id.0 refl c.in-Some.ensures in
-    let made = at ∙ ap (with_body (procedure c.args.p.now)) c.in_ok-body.ensures ∙ ap Made (sym c.in_ok-with_body.ensures) in
-    record {
-      refusal = tt;
-      result = made;
-      kept = commuted_is_kept (procedure c.args.p.now) _ c.args.x.now c.args.which made;
-      meaning = commuted_refines (procedure c.args.p.now) _ c.args.x.now c.args.which made;
-      moves = commuted_forwards (procedure c.args.p.now) _ c.args.x.now c.args.which made;
-    }
+pub returns-in_ok-with_body-in-Ok-clause-kept : goal.returns-in_ok-with_body-in-Ok-clause-kept
+returns-in_ok-with_body-in-Ok-clause-kept c = commuted_is_kept (procedure c.args.p.now) _ c.args.x.now c.args.which (made c)
+
+pub returns-in_ok-with_body-in-Ok-clause-meaning : goal.returns-in_ok-with_body-in-Ok-clause-meaning
+returns-in_ok-with_body-in-Ok-clause-meaning c = commuted_refines (procedure c.args.p.now) _ c.args.x.now c.args.which (made c)
+
+pub returns-in_ok-with_body-in-Ok-clause-moves : goal.returns-in_ok-with_body-in-Ok-clause-moves
+returns-in_ok-with_body-in-Ok-clause-moves c = commuted_forwards (procedure c.args.p.now) _ c.args.x.now c.args.which (made c)

@@ -4,7 +4,6 @@ use Rattle.c_printer.specs.PlainPrinted.{printing}
 use Rattle.exo_cli.specs.Compiled.{ended, started}
 use Rattle.exo_cli.specs.Lines.{run_lines}
 use Rattle.exo_cli.specs.Sessions.{versions}
-use Rattle.exo_cli.proofs.Built.{printed_is_built}
 use Rattle.exo_cli.proofs.Running.{if-both, stopped-line, printed-is}
 use Rattle.exo_cli.proofs.compile.run_lines.Goals as goal
 
@@ -12,18 +11,10 @@ pub returns-in-Err-clause-answer : goal.returns-in-Err-clause-answer
 returns-in-Err-clause-answer c =
     let begun = c.in_ok-session.ensures ∙ ap started c.in_ok-first.ensures in
     if-both c.refuse_line.result _ _ _ (λ reply answer cause.
-    answer ∙ ap (ended c.args.schedule.now (program c.args.unit.now))
+    answer ∙ ap (ended c.args.procs.now c.args.schedule.now (program c.args.unit.now))
     (sym (stopped-line c.args.lines.now (versions c.in_ok-session.session) (started c.args.unit.now.procs) c.in-Err.k c.index-lines-k.result c.in-Err.why
     cause begun c.in-Err.ensures.ran c.index-lines-k.is)))
     c.refuse_line.ensures.answer c.refuse_line.ensures.cause
-
-pub print-requires : goal.print-requires
-print-requires c =
-    let begun = c.in_ok-session.ensures ∙ ap started c.in_ok-first.ensures in
-    let ran = ap (run_lines c.args.lines.now) (sym begun) ∙ c.in_default.ensures.ran in
-    let made = c.in_ok-made.ensures ∙ ap (λ ps. record (program c.args.unit.now) { procedures = ps }) c.into_procs.ensures in
-    let what = ap (map printing) c.deref.ensures.value ∙ c.in_ok-what.ensures in
-    printed_is_built (program c.args.unit.now) c.args.lines.now (versions c.run.new.self) (program c.in_ok-made.made) (map printing c.deref.result.now) c.requires.unit c.requires.lines ran made what
 
 pub returns-clause-answer : goal.returns-clause-answer
 returns-clause-answer c =
@@ -32,5 +23,5 @@ returns-clause-answer c =
     let made = c.in_ok-made.ensures ∙ ap (λ ps. record (program c.args.unit.now) { procedures = ps }) c.into_procs.ensures in
     let what = ap (map printing) c.deref.ensures.value ∙ c.in_ok-what.ensures in
     if-both c.print.result _ _ _ (λ reply answer verdict.
-    answer ∙ printed-is c.args.schedule.now (program c.args.unit.now) c.args.lines.now (versions c.run.new.self) (program c.in_ok-made.made) (map printing c.deref.result.now) ran made what)
+    answer ∙ printed-is c.args.procs.now c.args.schedule.now (program c.args.unit.now) c.args.lines.now (versions c.run.new.self) (program c.in_ok-made.made) (map printing c.deref.result.now) ran made what)
     c.print.ensures.answer c.print.ensures.verdict

@@ -1,0 +1,17 @@
+mod Basics
+mod Seen
+mod Tables
+mod Kept
+mod Ways
+mod Blocks
+mod Starts
+mod Under
+mod Given
+mod Entered
+mod Calling
+mod Shapes
+mod Standing
+mod Formed
+mod FormedWalk
+mod Induction
+mod Examples

@@ -1,0 +1,4 @@
+//! What claims are good for: where they hold, nothing faults.
+#![tactic(auto)]
+
+pub mod laws;

@@ -1,0 +1,14 @@
+pub mod Truths
+pub mod Affine
+pub mod Binders
+pub mod Rooted
+pub mod Sides
+pub mod Standing
+pub mod Founded
+pub mod Model
+pub mod Told
+pub mod Agreement
+pub mod Facts
+pub mod Hold
+pub mod Shown
+pub mod Instances

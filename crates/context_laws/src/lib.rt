@@ -1,0 +1,4 @@
+//! What is known at a place of a procedure holds in every run that comes to it.
+#![tactic(auto)]
+
+pub mod laws;

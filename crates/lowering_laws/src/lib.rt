@@ -1,0 +1,4 @@
+//! The laws of lowered units, each the contract of a function with nothing to do.
+#![tactic(auto)]
+
+pub mod laws;

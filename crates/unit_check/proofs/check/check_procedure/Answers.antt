@@ -1,0 +1,26 @@
+use Rattle.std.proofs.Common.{◌≡◌, ◌≤◌, map, length, ap, ◌∙◌, subst, arith, Option, Global}
+use Rattle.std.specs.Prelude.{Err, slice_get}
+use Rattle.exo_tree.specs.PlainUnit.{program}
+use Rattle.exo_tree.specs.Tree.{Procedure}
+use Rattle.affine_systems.specs.Outcomes.{plain_obligation}
+use Rattle.obligations.specs.Obligations.{list_fault, obligations_of}
+use Rattle.obligations.specs.Outcomes.{AreObligationsIn}
+use Rattle.unit_check.proofs.Listing.{not_listed, listed, few_listed, holds_all}
+use Rattle.unit_check.proofs.check.check_procedure.Goals as goal
+
+pub returns-in-Err-clause-exact : goal.returns-in-Err-clause-exact
+returns-in-Err-clause-exact g c = λ q at.
+    not_listed c.in-Err.e c.not_listed.result c.args.p.0 (list_fault (program c.args.unit.now) q) (obligations_of (program c.args.unit.now) q) c.not_listed.ensures.fault c.not_listed.ensures.memory
+    (subst (λ (o : Option Procedure). AreObligationsIn {A = Global} (Err c.in-Err.e) (program c.args.unit.now) o) at c.in-Err.ensures)
+
+pub returns-clause-few : goal.returns-clause-few
+returns-clause-few g c =
+    let few : length c.in-Ok.list.items ≤ 65536 = few_listed (program c.args.unit.now) (slice_get (program c.args.unit.now).procedures c.args.p.0) c.in-Ok.list c.in-Ok.ensures in
+    omega (arith, c.len.ensures)
+
+pub returns-clause-shown : goal.returns-clause-shown
+returns-clause-shown g c = λ q at.
+    let same : c.deref.result.now ≡ c.in-Ok.list.items = cc in
+    holds_all c.deref.result.now (obligations_of (program c.args.unit.now) q)
+    (ap (map plain_obligation) same ∙ (listed (program c.args.unit.now) c.args.p.0 q c.in-Ok.list c.in-Ok.ensures at).1)
+    (c.in-Ok-discharge.ensures.shown c.in_ok-answered.ensures.shown)

@@ -1,0 +1,23 @@
+use Rattle.std.proofs.Common.{◌<◌, length, arith}
+use Rattle.std.proofs.lemmas.Result.{err_from_is_err_and}
+use Rattle.exo_tree.specs.PlainUnit.{program}
+use Rattle.unit_check.proofs.Checking.{went_on, stopped, more_hold, all_hold}
+use Rattle.unit_check.proofs.check.check_unit.Goals as goal
+
+pub returns-in_err-count-clause-exact : goal.returns-in_err-count-clause-exact
+returns-in_err-count-clause-exact g c =
+    let within : c.loop-k.k < length (program c.args.unit.now).procedures = omega (arith, c.len-k-end.ensures) in
+    let p = err_from_is_err_and c.from_residual.result c.from_residual.ensures.1 in
+    rw (p.1, p.2) (stopped (program c.args.unit.now) c.loop-k.k c.loop-k.count c.in_err-count.field-0.0 within c.loop-k.invariant.so_far c.in_err-count.ensures.exact)
+
+pub loop-k-preserved : goal.loop-k-preserved
+loop-k-preserved g c =
+    let within : c.loop-k.k < length (program c.args.unit.now).procedures = omega (arith, c.len-k-end.ensures) in
+    record {
+      so_far = went_on (program c.args.unit.now) c.loop-k.k c.loop-k.count c.in_ok-count.field-0 within c.loop-k.invariant.so_far c.in_ok-count.ensures.exact c.in_ok-count.ensures.count;
+      few = omega (arith, c.loop-k.invariant.few, c.in_ok-count.ensures.few);
+      shown = more_hold (program c.args.unit.now) c.loop-k.k within c.loop-k.invariant.shown c.in_ok-count.ensures.shown;
+    }
+
+pub returns-clause-shown : goal.returns-clause-shown
+returns-clause-shown g c = all_hold (program c.args.unit.now) c.loop-k.k (omega (arith, c.len-k-end.ensures)) c.loop-k.invariant.shown

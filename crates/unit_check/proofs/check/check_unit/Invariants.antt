@@ -1,0 +1,13 @@
+use Rattle.std.proofs.Common.{◌≡◌, ◌≤◌, ◌*◌, drop, take, All}
+use Rattle.exo_tree.specs.PlainUnit.{program}
+use Rattle.affine_forms.specs.Affine.{HasNoIntegerPoint}
+use Rattle.obligations.specs.Obligations.{obligations_of}
+use Rattle.unit_check.specs.Checked.{checked, checked_from}
+use Rattle.unit_check.proofs.check.check_unit.Given as goal
+
+abbrev pub invariant-loop-k : goal.invariant-loop-k
+invariant-loop-k g l = record {
+  so_far : checked (program l.unit) ≡ checked_from (program l.unit) l.k l.count (drop l.k (program l.unit).procedures);
+  few : l.count ≤ 65536 * l.k;
+  shown : All (λ p. All (λ o. HasNoIntegerPoint o.system) (obligations_of (program l.unit) p)) (take l.k (program l.unit).procedures);
+}

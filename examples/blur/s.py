@@ -1,0 +1,2 @@
+b = commute_expr(blur, 'y[_] = _', '_ * _')
+emit(b)
