@@ -33,6 +33,7 @@ use Rattle.exo_cli.specs.Lines.{Versions, Outcome, run_lines}
 use Rattle.exo_cli.specs.ScheduleForm.{schedule_of}
 use Rattle.exo_cli.specs.Kept.{IsVersionOf, HasOrigin, AreVersions}
 use Rattle.exo_cli.specs.Headline.{DoesWhat, IsPrinted, Promise, Promised}
+use Rattle.unit_check.specs.Laws.{CheckedUnitsDoNotFault}
 use Rattle.exo_cli.specs.Counted.{Counted}
 use Rattle.exo_cli.specs.declared.lines.Line.{Line}
 use Rattle.exo_cli.proofs.Kept.{nothing_there, some_is, index_is, runs_alike, schedules_run_alike}
@@ -157,7 +158,7 @@ module _ (procs source schedule bytes text : List ℕ) where
 
 -- ---- and so does what the program writes
 
-module _ (words : List (List ℕ)) (files : Folder) (before after : Option (List ℕ)) (text : List ℕ) (written : after ≡ with_more before text) where
+module _ (safe_law : CheckedUnitsDoNotFault) (words : List (List ℕ)) (files : Folder) (before after : Option (List ℕ)) (text : List ℕ) (written : after ≡ with_more before text) where
   by_schedule : (procs schedule unit : List ℕ) → command_of words ≡ Some (Compile procs schedule) → content_of files procs ≡ Some unit
       → (held : Option (List ℕ)) → content_of files schedule ≡ held → Opens held schedule (λ lines. IsCompiled procs unit schedule lines) (Accepted text) → Promised words files before after
   by_schedule procs schedule unit asked first None there e = absurd (accepted_is_not_unread e)
@@ -200,15 +201,15 @@ module _ (words : List (List ℕ)) (files : Folder) (before after : Option (List
       accepted_is_not_misused : {t m : List ℕ} → Accepted t ≡ Misused m → ⊥
       accepted_is_not_misused e = cc
   by_words (Some (Compile procs schedule)) is e = inl (by_unit procs schedule is (content_of files procs) refl e)
-  by_words (Some (Check procs)) is e = inr (counted words files before after text procs written is e)
+  by_words (Some (Check procs)) is e = inr (counted safe_law words files before after text procs written is e)
 
 -- an answer that ends well is accepted
-by_answer : (words : List (List ℕ)) (files : Folder) (before after : Option (List ℕ)) (answer : Answer) → Answers words files answer → Ok ≡ status_of answer → after ≡ with_more before (for_out answer)
+by_answer : CheckedUnitsDoNotFault → (words : List (List ℕ)) (files : Folder) (before after : Option (List ℕ)) (answer : Answer) → Answers words files answer → Ok ≡ status_of answer → after ≡ with_more before (for_out answer)
     → Promised words files before after ⊎ Counted words files before after
-by_answer words files before after (Accepted text) answers ok written = by_words words files before after text written (command_of words) refl answers
-by_answer words files before after (Rejected message) answers ok written = absurd (let e : Ok ≡ Refused = ok in cc)
-by_answer words files before after (Unread message) answers ok written = absurd (let e : Ok ≡ ReadFault = ok in cc)
-by_answer words files before after (Misused message) answers ok written = absurd (let e : Ok ≡ Usage = ok in cc)
+by_answer safe_law words files before after (Accepted text) answers ok written = by_words safe_law words files before after text written (command_of words) refl answers
+by_answer safe_law words files before after (Rejected message) answers ok written = absurd (let e : Ok ≡ Refused = ok in cc)
+by_answer safe_law words files before after (Unread message) answers ok written = absurd (let e : Ok ≡ ReadFault = ok in cc)
+by_answer safe_law words files before after (Misused message) answers ok written = absurd (let e : Ok ≡ Usage = ok in cc)
 
 not_memory : Ok ≢ Memory
 not_memory e = cc
@@ -220,12 +221,12 @@ not_write_fault : Ok ≢ WriteFault
 not_write_fault e = cc
 
 -- what the program writes where it ends well keeps the promise
-pub ends_promised : (words : List (List ℕ)) (before after : Moment) (status : Status) → Ends words before after status → status ≡ Ok
+pub ends_promised : CheckedUnitsDoNotFault → (words : List (List ℕ)) (before after : Moment) (status : Status) → Ends words before after status → status ≡ Ok
     → IfSome before.told (λ files. Promised words files before.out after.out ⊎ Counted words files before.out after.out)
-ends_promised words before after status ends ok = told before.told (subst (λ s. Ends words before after s) ok ends).told
+ends_promised safe_law words before after status ends ok = told before.told (subst (λ s. Ends words before after s) ok ends).told
   where
     told : (o : Option Folder) → (Ok ≢ Memory → Ok ≢ ReadFault → Ok ≢ WriteFault → IfSome o (λ files.
         (answer : Answer) × Answers words files answer × (Ok ≡ status_of answer) × (after.out ≡ with_more before.out (for_out answer)) × (after.err ≡ with_more before.err (for_err answer))))
         → IfSome o (λ files. Promised words files before.out after.out ⊎ Counted words files before.out after.out)
     told None h = tt
-    told (Some files) h = let a = h not_memory not_read_fault not_write_fault in by_answer words files before.out after.out a.0 a.1 a.2 a.3
+    told (Some files) h = let a = h not_memory not_read_fault not_write_fault in by_answer safe_law words files before.out after.out a.0 a.1 a.2 a.3

@@ -17,6 +17,7 @@ use crate::words::{Command, read_command};
 use ob_check::Gate;
 use std::alloc::{AllocError, Global};
 use std::thread::Threads;
+use unit_check::laws::checked_units_do_not_fault;
 
 /// The most bytes that a file may have.
 const FILE_LIMIT: usize = 1 << 20;
@@ -55,6 +56,7 @@ pub fn exoc<R: Threads + Sync, F: Files, O: Sink, E: Sink, G: Gate>(
     ensures promise { result ≡ Status.Ok → IfSome (F.told files.old) (λ folder.
         Promised (texts words.now) folder (O.taken out.old) (O.taken out.new) ⊎ Counted (texts words.now) folder (O.taken out.old) (O.taken out.new)) }
 {
+    checked_units_do_not_fault();
     match reply_to(rt, alloc, words, files, gate) {
         Ok(reply) => reply.deliver(out, err),
         Err(_) => Status::Memory,
