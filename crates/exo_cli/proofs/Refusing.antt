@@ -1,6 +1,7 @@
 -- What is replied to a unit that is refused.
 use Rattle.std.proofs.Common.{◌≡◌, ◌≢◌, ℕ, List, [], Option, Some, refl, sym, ap, ◌∙◌, subst, ⊎_elim, IfOk}
-use Rattle.std.specs.Prelude.{Result, AllocError, slice_get}
+use Rattle.std.specs.Prelude.{Result, slice_get}
+use Rattle.std.specs.declared.alloc.AllocError.{AllocError}
 use Rattle.std.proofs.lemmas.Result.{IfOk-weaker}
 use Rattle.exo_tree.specs.Places.{Path}
 use Rattle.exo_tree.specs.Tree.{Procedure, Program}

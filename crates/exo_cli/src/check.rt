@@ -2,7 +2,8 @@
 ghost use Rattle.std.specs.Prelude.{◌≡◌, ◌≢◌, ◌≤◌, length, IfOk, None, Some};
 ghost use Rattle.exo_tree.specs.PlainUnit.{program};
 ghost use Rattle.exo_meaning.specs.Units.{IsUnit};
-ghost use Rattle.exo_types.specs.Typed.{IsPlaced, items_of};
+ghost use Rattle.exo_source.specs.Texts.{ReadsUnit};
+ghost use Rattle.exo_types.specs.Typed.{IsPlaced, Types, items_of};
 ghost use Rattle.exo_types.specs.UnitRules.{unit_fault, unit_of};
 ghost use Rattle.obligations.specs.Obligations.{Fault};
 ghost use Rattle.obligations.specs.Outcomes.{IsRefusal};
@@ -19,7 +20,8 @@ use crate::reply::Reply;
 use affine_forms::FormError;
 use affine_prover::Verdict;
 use exo_formed::laws::read_units_are_formed;
-use exo_source::unit::{Source, read_unit};
+use exo_names::error::TypeError;
+use exo_source::unit::{ReadError, Source, read_unit};
 use exo_tree::Unit;
 use exo_types::laws::read_texts_are_placed;
 use exo_types::unit::check_types;
@@ -41,11 +43,24 @@ pub(crate) fn check<R: Threads + Sync, G: Gate>(
     ensures answer { IfOk result (λ reply. IsChecked name.now text.now (plain reply)) }
     ensures verdict { IfOk result (λ reply. IsVerdict (plain reply)) }
 {
+    match read_formed(alloc, text) {
+        Ok(source) => check_source(rt, alloc, name, &source, gate),
+        Err(e) => refuse_text(alloc, name, e),
+    }
+}
+
+/// Reads the unit of the text; where that keeps all rules, it is well formed.
+fn read_formed(alloc: Global, text: &[u8]) -> Result<Source, ReadError>
+    requires { length text.now ≤ 1048576 }
+    ensures reads { ReadsUnit text.now result }
+    ensures placed { IfOk result (λ source. IsPlaced source) }
+    ensures formed { IfOk result (λ source. unit_fault (items_of source) ≡ None → IsUnit (unit_of (items_of source))) }
+{
     read_texts_are_placed();
     read_units_are_formed();
     match read_unit(alloc, text) {
-        Ok(source) => check_source(rt, alloc, name, &source, gate),
-        Err(e) => refuse_text(alloc, name, e),
+        Ok(source) => Ok(source),
+        Err(e) => Err(e),
     }
 }
 
@@ -62,9 +77,22 @@ fn check_source<R: Threads + Sync, G: Gate>(
     ensures answer { IfOk result (λ reply. plain reply ≡ typed name.now source.now.places.items (items_of source.now) (unit_fault (items_of source.now))) }
     ensures verdict { IfOk result (λ reply. IsVerdict (plain reply)) }
 {
-    match check_types(alloc, source) {
+    match typed_unit(alloc, source) {
         Ok(unit) => check_typed(rt, alloc, name, &unit, gate),
         Err(e) => refuse_rule(alloc, name, e),
+    }
+}
+
+/// The unit that keeps the rules, which is well formed; else the first rule that is broken.
+fn typed_unit(alloc: Global, source: &Source) -> Result<Unit, TypeError>
+    requires placed { IsPlaced source.now }
+    requires formed { unit_fault (items_of source.now) ≡ None → IsUnit (unit_of (items_of source.now)) }
+    ensures types { Types source.now result }
+    ensures formed { IfOk result (λ unit. IsUnit (program unit)) }
+{
+    match check_types(alloc, source) {
+        Ok(unit) => Ok(unit),
+        Err(e) => Err(e),
     }
 }
 
