@@ -81,10 +81,10 @@ module _ (naming : Naming) (forms : Forms) (most : ℕ → ℕ) (layout : Layout
   tensor_stride : (x k : ℕ) (cell : Cell) (dims : List Control) → k < length dims → IsTensor naming forms most layout scene setting x cell dims → StrideIs x k (or_one (row_strides (dims_of naming dims)) k)
   tensor_stride x k cell dims below t =
       let seen : stride_at scene (scene.views x) k ≡ get_or (row_major (numbers scene dims)) k (pos 0) =
-          ap (λ o. stride_at scene o k) t.view
-          ∙ ap (λ o. get_or (elim o [ None ↦ [] | Some shape ↦ strides_of (whole t.extents) shape.strides ]) k (pos 0)) t.shape
-          ∙ ap (λ ts. get_or ts k (pos 0)) (whole_strides t.extents)
-          ∙ ap (λ ns. get_or (row_major ns) k (pos 0)) (sym t.numbers_are) in
+      ap (λ o. stride_at scene o k) t.view
+      ∙ ap (λ o. get_or (elim o [ None ↦ [] | Some shape ↦ strides_of (whole t.extents) shape.strides ]) k (pos 0)) t.shape
+      ∙ ap (λ ts. get_or ts k (pos 0)) (whole_strides t.extents)
+      ∙ ap (λ ns. get_or (row_major ns) k (pos 0)) (sym t.numbers_are) in
       let row = row_value dims k below t.plain t.narrow (ap all_positive t.numbers_are ∙ t.positive) (subst (λ ns. product ns ≤ℤ pos (2 ^ 48)) (sym t.numbers_are) t.few) in
       (row.0 ∙ ap Done (sym seen), subst (λ z. unsigned_abs z ≤ 2 ^ 48) (sym seen) row.1)
 

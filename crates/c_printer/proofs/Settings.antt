@@ -29,14 +29,18 @@ module _ (naming : Naming) (declared : Declared) (forms : Forms) (most : ℕ →
   IsSet a = (n : ℤ) × (argument_number s.scene a ≡ Some n) × (thing m.setting (text a) ≡ Done (IsNumber n)) × (unsigned_abs n ≤ 2 ^ 48)
 
   set_to : (a : Argument) → IsGoodSetting declared forms most a → IsSet a
-  set_to (ControlArg a) h =
-      (number s.scene a, refl,
-      ap (λ o. after o (λ n. Done (IsNumber n))) (open_number naming forms most layout s.scene m.setting match.names declared match.fields a h.0.0 h.0.1),
-      le_trans (open_bounded naming forms most layout s.scene m.setting match.names declared match.fields a h.0.0) h.1)
-  set_to (ConditionArg c) h =
-      (truth (holds s.scene c), refl,
-      ap (λ o. after o (λ b. Done (IsNumber (truth b)))) (test_is naming declared forms most layout s.scene m.setting match.names match.fields c h),
-      truth_small (holds s.scene c))
+  set_to (ControlArg a) h = (
+    number s.scene a,
+    refl,
+    ap (λ o. after o (λ n. Done (IsNumber n))) (open_number naming forms most layout s.scene m.setting match.names declared match.fields a h.0.0 h.0.1),
+    le_trans (open_bounded naming forms most layout s.scene m.setting match.names declared match.fields a h.0.0) h.1,
+  )
+  set_to (ConditionArg c) h = (
+    truth (holds s.scene c),
+    refl,
+    ap (λ o. after o (λ b. Done (IsNumber (truth b)))) (test_is naming declared forms most layout s.scene m.setting match.names match.fields c h),
+    truth_small (holds s.scene c),
+  )
   set_to (Whole x) h = absurd h
   set_to (Window x coords) h = absurd h
 

@@ -1,6 +1,7 @@
 -- What is told of fields at a place, as it is looked up.
 use Rattle.std.proofs.Common.{◌≡◌, ◌≤ℤ◌, ℕ, zero, suc, ◌+◌, ◌<◌, ◌≤◌, ℤ, pos, ◌==◌, Bool, true, false, true≢false, cond, List, [], ◌∷◌, length, Option, Some, None, arith, refl, sym, ap, ◌∙◌, subst, eq-eqb, eqb-true}
 use Rattle.std.proofs.lemmas.Bool.Decides.{nat_tests}
+use Rattle.std.proofs.lemmas.Int.{ints}
 use Rattle.exo_tree.specs.Tree.{Kind, Size, Index, Truth, Stride, ConfigField}
 use Rattle.exo_meaning.specs.Calls.{truth}
 use Rattle.exo_meaning.specs.Scene.{is_set}
@@ -9,6 +10,7 @@ use Rattle.exo_meaning.specs.Inputs.{IsOfKind}
 use Rattle.exo_meaning.specs.Units as units
 use Rattle.exo_meaning.specs.Units.{is_truth, field_kind}
 use Rattle.exo_context.specs.KnownFields.{FieldValue, AtEntry, Known, UnknownAt, KnownFields}
+use Rattle.affine_forms.specs.Atoms.{same_kind}
 use Rattle.affine_places.specs.Facts as facts
 use Rattle.affine_places.specs.Facts.{FieldFact, fact_of}
 use Rattle.exo_facts.specs.Contexts.{with_value, facts_from, told}
@@ -85,6 +87,34 @@ flag_field fields (Some Size) h = absurd (true≢false (sym h))
 flag_field fields (Some Index) h = absurd (true≢false (sym h))
 flag_field fields (Some Truth) h = refl
 flag_field fields (Some Stride) h = absurd (true≢false (sym h))
+
+-- what a field's kind is, told in two ways
+pub kinds_are_kind : (fields : List ConfigField) (f : ℕ) → kinds_of fields f ≡ facts.kind_of fields f
+kinds_are_kind [] f = refl
+kinds_are_kind (c ∷ cs) zero = refl
+kinds_are_kind (c ∷ cs) (suc f) = kinds_are_kind cs f
+
+-- a number of that kind: 1 where the field is of another
+abbrev pub fitted : Kind → Kind → ℤ → ℤ
+fitted own kind n = cond (same_kind own kind) n (pos 1)
+
+pub fitted_own : (kind : Kind) (n : ℤ) → fitted kind kind n ≡ n
+fitted_own Size n = refl
+fitted_own Index n = refl
+fitted_own Truth n = refl
+fitted_own Stride n = refl
+
+pub fitted_fits : (own kind : Kind) (n : ℤ) → IsOfKind own n → IsOfKind kind (fitted own kind n)
+fitted_fits Size Size n h = h
+fitted_fits Truth Truth n h = h
+fitted_fits own Index n h = tt
+fitted_fits own Stride n h = tt
+fitted_fits Index Size n h = let e : pos 1 ≤ℤ pos 1 = omega (arith, ints) in e
+fitted_fits Truth Size n h = let e : pos 1 ≤ℤ pos 1 = omega (arith, ints) in e
+fitted_fits Stride Size n h = let e : pos 1 ≤ℤ pos 1 = omega (arith, ints) in e
+fitted_fits Size Truth n h = (let e : pos 0 ≤ℤ pos 1 = omega (arith, ints) in e, let e : pos 1 ≤ℤ pos 1 = omega (arith, ints) in e)
+fitted_fits Index Truth n h = (let e : pos 0 ≤ℤ pos 1 = omega (arith, ints) in e, let e : pos 1 ≤ℤ pos 1 = omega (arith, ints) in e)
+fitted_fits Stride Truth n h = (let e : pos 0 ≤ℤ pos 1 = omega (arith, ints) in e, let e : pos 1 ≤ℤ pos 1 = omega (arith, ints) in e)
 
 pub truth_is_set : (t : Bool) → is_set (truth t) ≡ t
 truth_is_set true = refl

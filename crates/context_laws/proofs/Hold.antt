@@ -1,5 +1,5 @@
 -- The context of a place is met, and what is read there is what it is, in each state that a run comes to.
-use Rattle.std.proofs.Common.{◌≡◌, ◌≤ℤ◌, ℕ, zero, pos, true, false, true≢false, not, ◌&&◌, List, [], ◌∷◌, ◌++◌, length, map, Option, Some, None, refl, sym, ap, ap₂, ◌∙◌, subst}
+use Rattle.std.proofs.Common.{◌≡◌, ◌≤ℤ◌, ℕ, zero, ℤ, pos, true, false, true≢false, not, ◌&&◌, List, [], ◌∷◌, ◌++◌, length, map, Option, Some, None, refl, sym, ap, ap₂, ◌∙◌, subst}
 use Rattle.std.specs.Prelude.{get_or}
 use Rattle.exo_tree.specs.Tree.{Kind, Truth, Control, Condition, ControlArg, ConditionArg, Whole, Window, Block, end, next, joined, Procedure, Program}
 use Rattle.exo_tree.specs.Context.{Here, fill}
@@ -7,7 +7,7 @@ use Rattle.exo_tree.specs.Places.{Main, Path, Opened, opened}
 use Rattle.exo_meaning.specs.Scene.{Scene, number, holds, is_set, stride_at}
 use Rattle.exo_meaning.specs.State.{State}
 use Rattle.exo_meaning.specs.Run.{program_world}
-use Rattle.exo_meaning.specs.Inputs.{IsAdmissible, is_buffer_of}
+use Rattle.exo_meaning.specs.Inputs.{IsAdmissible, IsOfKind, is_buffer_of}
 use Rattle.exo_meaning.specs.Orders.{Each}
 use Rattle.exo_meaning.specs.Units as units
 use Rattle.exo_meaning.specs.Units.{Scope, sort_in, has_dimension, is_flag, scope_of, field_kind, is_block, IsProcedure}
@@ -24,8 +24,10 @@ use Rattle.exo_context.specs.Made.{MadeLaw}
 use Rattle.affine_forms.specs.Atoms.{Valuation, value}
 use Rattle.affine_forms.specs.Forms.{is_affine, normal}
 use Rattle.affine_forms.specs.Formulas.{AllowedFlags, is_affine_condition, is_met, all_met}
+use Rattle.affine_systems.specs.Systems.{KeepsKinds}
 use Rattle.affine_systems.proofs.Cases.{negation_met}
 use Rattle.affine_places.specs.Roots.{roots_of, has_extents}
+use Rattle.affine_places.specs.Facts.{kind_of}
 use Rattle.affine_places.specs.Readings.{entry_reading, place_reading}
 use Rattle.affine_places.specs.Laws.{but_fields, but_flag_fields, stride_in, IsTold, IsFlagTold, IsPlaceOfFlags, NormalAtPlace, FormulaAtPlace}
 use Rattle.exo_places.specs.Laws.{WellFormedIsAffine}
@@ -39,7 +41,7 @@ use Rattle.context_laws.proofs.Founded.{AllFounded, all_founded}
 use Rattle.context_laws.proofs.Model.{model, model_is_made, model_sees, model_strides, strides, standing_strides}
 use Rattle.context_laws.proofs.Told.{dimension_is_buffer, buffer_has_sort, flag_has_sort, named_params, flags_at_least, names_at, allowed, may, Covers, first_facts_allowed, block_written, around, params_are_covered, FactAllowed}
 use Rattle.context_laws.proofs.Agreement.{rooted_some, agree_well}
-use Rattle.context_laws.proofs.Facts.{fact_for, fact_is, kind_is, number_field, flag_field, truth_is_set, at_least}
+use Rattle.context_laws.proofs.Facts.{fact_for, fact_is, kind_is, kinds_are_kind, fitted, fitted_own, fitted_fits, number_field, flag_field, truth_is_set, at_least}
 
 -- the names of the parameters
 params_named : (p : Procedure) → Names (is_param p) (scope_of [] p.params)
@@ -68,11 +70,11 @@ module _ (normal_law : NormalAtPlace) (formula_law : FormulaAtPlace) (u : Progra
   abbrev steps : Strides
   steps = strides (roots_of p) own.founded first.scene
 
-  -- numbers whose unknown fields are of their kinds, and whose bools are 0 or more
+  -- numbers whose fields are of their kinds, and whose bools are 0 or more
   record Fit (v : Numbers) : Type 0 where
     strides : HasStrides steps v.scene
-    entry : (f : ℕ) → field_kind u.fields f ≡ Some Truth → pos 0 ≤ℤ v.scene.fields f
-    unknown : (f : ℕ) (path : Path) → field_kind u.fields f ≡ Some Truth → pos 0 ≤ℤ v.unknown f path
+    entry : (f : ℕ) → IsOfKind (kind_of u.fields f) (v.scene.fields f)
+    unknown : (f : ℕ) (path : Path) → IsOfKind (kind_of u.fields f) (v.unknown f path)
     flags : (x : ℕ) → is_flag (sort_in names x) ≡ true → pos 0 ≤ℤ v.scene.control x
 
   module _ (v : Numbers) (fit : Fit v) where
@@ -80,7 +82,13 @@ module _ (normal_law : NormalAtPlace) (formula_law : FormulaAtPlace) (u : Progra
     scene known = model (roots_of p) own.founded first.scene v.scene.control (λ f. field_number v f (known f))
 
     abbrev atoms : Valuation
-    atoms = record { variable = v.scene.control; entry = λ f kind. v.scene.fields f; unknown = λ f kind path. v.unknown f path; stride = stride_in (scene at_entry) }
+    atoms = record { variable = v.scene.control; entry = λ f kind. fitted (kind_of u.fields f) kind (v.scene.fields f); unknown = λ f kind path. fitted (kind_of u.fields f) kind (v.unknown f path); stride = stride_in (scene at_entry) }
+
+    atoms_fit : KeepsKinds atoms
+    atoms_fit = record { entry = λ f kind. fitted_fits (kind_of u.fields f) kind (v.scene.fields f) (fit.entry f); unknown = λ f kind path. fitted_fits (kind_of u.fields f) kind (v.unknown f path) (fit.unknown f path) }
+
+    bool_field : (f : ℕ) (n : ℤ) → field_kind u.fields f ≡ Some Truth → IsOfKind (kind_of u.fields f) n → pos 0 ≤ℤ n
+    bool_field f n h = at_least (kind_of u.fields f) n (sym (kinds_are_kind u.fields f) ∙ kind_is u.fields f Truth h)
 
     same_strides : (known : KnownFields) (x k : ℕ) → stride_at (scene known) ((scene known).views x) k ≡ stride_at v.scene (v.scene.views x) k
     same_strides known x k = model_strides (roots_of p) own.founded first.scene v.scene.control (λ f. field_number v f (known f)) x k ∙ sym (fit.strides x k)
@@ -90,7 +98,7 @@ module _ (normal_law : NormalAtPlace) (formula_law : FormulaAtPlace) (u : Progra
     written_agrees known = record { control = λ x k. refl; fields = λ f k. absurd (true≢false (sym k)); strides = λ x j k. same_strides known x j }
 
     number_told : (known : KnownFields) (f : ℕ) (kind : Kind) → units.is_number_field (field_kind u.fields) (field_kind u.fields f) ≡ true → (o : FieldValue) → known f ≡ o → is_written (may u.fields (roots_of p) names) f o ≡ true → IsTold u.fields all.numbers atoms (scene known) f (fact_for o)
-    number_told known f kind h AtEntry e w = sym (ap (field_number v f) e)
+    number_told known f kind h AtEntry e w = fitted_own (kind_of u.fields f) (v.scene.fields f) ∙ sym (ap (field_number v f) e)
     number_told known f kind h (Known (ControlArg a)) e w =
         let affine = (parts (units.is_number_field (field_kind u.fields) (field_kind u.fields f)) (is_affine (but_fields all.numbers) a) w).1 in
         (affine, same_number (but_fields all.numbers) (scene known) v.scene (written_agrees known) a affine ∙ sym (ap (field_number v f) e))
@@ -101,17 +109,17 @@ module _ (normal_law : NormalAtPlace) (formula_law : FormulaAtPlace) (u : Progra
         both (Some k) m n = true≢false (sym m ∙ ap not n)
     number_told known f kind h (Known (Whole x)) e w = absurd (true≢false (sym w))
     number_told known f kind h (Known (Window x cs)) e w = absurd (true≢false (sym w))
-    number_told known f kind h (UnknownAt path) e w = sym (ap (field_number v f) e)
+    number_told known f kind h (UnknownAt path) e w = fitted_own (kind_of u.fields f) (v.unknown f path) ∙ sym (ap (field_number v f) e)
 
     flag_told : (known : KnownFields) (f : ℕ) → field_kind u.fields f ≡ Some Truth → (o : FieldValue) → known f ≡ o → is_written (may u.fields (roots_of p) names) f o ≡ true → IsFlagTold u.fields all atoms (scene known) f (fact_for o)
-    flag_told known f h AtEntry e w = let is = ap (field_number v f) e in (sym is, subst (λ n. pos 0 ≤ℤ n) (sym is) (fit.entry f h))
+    flag_told known f h AtEntry e w = let is = ap (field_number v f) e in (fitted_own (kind_of u.fields f) (v.scene.fields f) ∙ sym is, subst (λ n. pos 0 ≤ℤ n) (sym is) (bool_field f (v.scene.fields f) h (fit.entry f)))
     flag_told known f h (Known (ControlArg a)) e w = absurd (true≢false (sym (parts (units.is_number_field (field_kind u.fields) (field_kind u.fields f)) (is_affine (but_fields all.numbers) a) w).0 ∙ ap (λ o. units.is_number_field (field_kind u.fields) o) h))
     flag_told known f h (Known (ConditionArg c)) e w =
         let affine = (parts (units.is_flag_field (field_kind u.fields) (field_kind u.fields f)) (is_affine_condition (but_flag_fields all) c) w).1 in
         (affine, same_truth (but_flag_fields all) (scene known) v.scene (written_agrees known) (λ x k. refl) (λ g k. absurd (true≢false (sym k))) c affine ∙ sym (truth_is_set (holds v.scene c)) ∙ sym (ap (λ z. is_set (field_number v f z)) e))
     flag_told known f h (Known (Whole x)) e w = absurd (true≢false (sym w))
     flag_told known f h (Known (Window x cs)) e w = absurd (true≢false (sym w))
-    flag_told known f h (UnknownAt path) e w = let is = ap (field_number v f) e in (sym is, subst (λ n. pos 0 ≤ℤ n) (sym is) (fit.unknown f path h))
+    flag_told known f h (UnknownAt path) e w = let is = ap (field_number v f) e in (fitted_own (kind_of u.fields f) (v.unknown f path) ∙ sym is, subst (λ n. pos 0 ≤ℤ n) (sym is) (bool_field f (v.unknown f path) h (fit.unknown f path)))
 
     is_place : (known : KnownFields) → AreWritten (may u.fields (roots_of p) names) known → IsPlaceOfFlags u.fields p (told u.fields known) all atoms (scene known)
     is_place known written = record {
@@ -171,6 +179,7 @@ module _ (normal_law : NormalAtPlace) (formula_law : FormulaAtPlace) (u : Progra
 
 -- what is asked of an opened place
 record At (u : Program) (p : Procedure) (o : Option Opened) (t : State) (v : Valuation) : Type 0 where
+  kinds : KeepsKinds v
   context : all_met v (formulas u p (facts_at u p o)) ≡ true
   numbers : (e : Control) → is_affine (allowed_in u.fields (scope_there p o)).numbers e ≡ true → value v (normal (place_reading u.fields (roots_of p) (told u.fields (known_at_place u p o))) e) ≡ number t.scene e
   conditions : (c : Condition) → is_affine_condition (allowed_in u.fields (scope_there p o)) c ≡ true → is_met v (condition_formula u p (known_at_place u p o) c) ≡ holds t.scene c
@@ -217,8 +226,8 @@ module _ (place_law : PlaceFactsLaw) (plain_law : PlainTelling) (made_law : Made
       let n = made_law fields memories world.callees world p c old s t keeps was good come in
       let fit : Fit normal_law formula_law u p own s t v = record {
         strides = is.strides;
-        entry = λ f h. subst (λ z. pos 0 ≤ℤ z) (sym (is.entry f)) (at_least (world.kinds f) (s.scene.fields f) (kind_is u.fields f Truth h) (good.fields f));
-        unknown = λ f path h. at_least (world.kinds f) (v.unknown f path) (kind_is u.fields f Truth h) (is.kinds f path);
+        entry = λ f. subst (λ k. IsOfKind k (v.scene.fields f)) (kinds_are_kind u.fields f) (subst (IsOfKind (world.kinds f)) (sym (is.entry f)) (good.fields f));
+        unknown = λ f path. subst (λ k. IsOfKind k (v.unknown f path)) (kinds_are_kind u.fields f) (is.kinds f path);
         flags = λ x h. subst (λ z. pos 0 ≤ℤ z) ((n.params x (flag_param p x h)).control ∙ sym (is.control x)) (flags_at_least s.scene p.params [] good.arguments (λ y j. absurd (true≢false (sym j))) x h);
       } in
       let round = around u.fields (roots_of p) scope memories world.callees (telling u p) old c [] Main zero at_entry scope (λ y. y) (subst (λ b. is_block fields memories world.callees scope (λ y. y) b ≡ true) was keeps.body) (subst (TableAgrees (roots_of p)) was body) covers in
@@ -227,6 +236,7 @@ module _ (place_law : PlaceFactsLaw) (plain_law : PlainTelling) (made_law : Made
       let steps_there = λ (x k : ℕ) (h : has_dimension k (sort_in (scope_at c scope) x) ≡ true). stand c old t was come v.scene.control (λ y j. is.control y) x k (there x (buffer_has_sort (sort_in (scope_at c scope) x) (dimension_is_buffer k (sort_in (scope_at c scope) x) h))) in (
         atoms normal_law formula_law u p own s t v fit,
         record {
+          kinds = atoms_fit normal_law formula_law u p own s t v fit;
           context = facts_met normal_law formula_law u p own s t v fit (place_facts (telling u p) p c old) is.facts is.facts_written (each_join (λ (e : PlaceFact). FactAllowed u.fields (roots_of p) scope e.fact) (map (λ fact. record { known = at_entry; fact = fact }) (params_facts p.params ++ map Holds p.asserts)) (facts_round (telling u p) [] Main zero c old at_entry) (first_facts_allowed u.fields (roots_of p) scope at_entry p.params scope covers p.asserts keeps.asserts) round.facts);
           numbers = number_there normal_law formula_law u p own s t v fit (scope_at c scope) round.covers known is.written is.control is.fields steps_there;
           conditions = condition_there normal_law formula_law u p own s t v fit (scope_at c scope) round.covers known is.written is.control is.fields steps_there;
@@ -236,10 +246,10 @@ module _ (place_law : PlaceFactsLaw) (plain_law : PlainTelling) (made_law : Made
   pub contexts_hold : ContextsHold
   contexts_hold u p may_run path s t good come =
       let found = go (opened 1 path p.body) refl come in
-      (found.0, record { context = found.1.context; numbers = found.1.numbers; conditions = found.1.conditions })
+      (found.0, record { kinds = found.1.kinds; context = found.1.context; numbers = found.1.numbers; conditions = found.1.conditions })
     where
       go : (o : Option Opened) → opened 1 path p.body ≡ o → ComesToPlace (program_world u) o s t → (v : Valuation) × At u p o t v
       go None e z =
           let found = at_context u p may_run (record { around = Here end; piece = p.body }) s t (sym (joined_end p.body)) good z in
-          (found.0, record { context = found.1.context; numbers = found.1.numbers; conditions = found.1.conditions })
+          (found.0, record { kinds = found.1.kinds; context = found.1.context; numbers = found.1.numbers; conditions = found.1.conditions })
       go (Some o) e z = at_context u p may_run o s t (sym (opened_law 1 path p.body o e)) good z

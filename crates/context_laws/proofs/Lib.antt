@@ -10,3 +10,5 @@ pub mod Told
 pub mod Agreement
 pub mod Facts
 pub mod Hold
+pub mod Shown
+pub mod Instances

@@ -13,6 +13,7 @@ use Rattle.exo_context.specs.Sorted.{MayRun, scope_at}
 use Rattle.affine_forms.specs.Atoms.{Valuation, value}
 use Rattle.affine_forms.specs.Forms.{is_affine, normal}
 use Rattle.affine_forms.specs.Formulas.{AllowedFlags, is_affine_condition, is_met, all_met}
+use Rattle.affine_systems.specs.Systems.{KeepsKinds, IsShown}
 use Rattle.affine_places.specs.Roots.{roots_of}
 use Rattle.affine_places.specs.Readings.{place_reading}
 use Rattle.exo_facts.specs.Contexts.{known_at_place, context_of, facts_of, condition_formula}
@@ -43,8 +44,10 @@ WellFormedIsAllowed = (fields : List ConfigField) (scope : Scope) → ((e : Cont
 
 -- ---- what holds there
 
--- with these numbers for the atoms, the context is met, and what is read of an expression or condition is what it is in the state
+-- with these numbers for the atoms, each field's of its kind, the context is met, and what is read of an expression or condition is what it
+-- is in the state
 pub record Describes (u : Program) (p : Procedure) (path : Path) (t : State) (v : Valuation) : Type 0 where
+  pub kinds : KeepsKinds v
   pub context : all_met v (context_of u p path) ≡ true
   pub numbers : (e : Control) → is_affine (allowed_in u.fields (scope_there p (opened 1 path p.body))).numbers e ≡ true → value v (normal (place_reading u.fields (roots_of p) (facts_of u p path)) e) ≡ number t.scene e
   pub conditions : (c : Condition) → is_affine_condition (allowed_in u.fields (scope_there p (opened 1 path p.body))) c ≡ true → is_met v (condition_formula u p (known_at_place u p (opened 1 path p.body)) c) ≡ holds t.scene c
@@ -52,3 +55,7 @@ pub record Describes (u : Program) (p : Procedure) (path : Path) (t : State) (v 
 -- in every run of a procedure of a well-formed unit on an admissible input, in each state in which it comes to the place
 abbrev pub ContextsHold : Type 0
 ContextsHold = (u : Program) (p : Procedure) → MayRun u.fields (length u.memories) u.procedures p → (path : Path) (s t : State) → IsAdmissible (program_world u) p s → ComesToPlace (program_world u) (opened 1 path p.body) s t → (v : Valuation) × Describes u p path t v
+
+-- a condition over the names there whose systems have no integer point holds there
+abbrev pub ShownConditionsHold : Type 0
+ShownConditionsHold = (u : Program) (p : Procedure) → MayRun u.fields (length u.memories) u.procedures p → (path : Path) (c : Condition) → is_condition (field_kind u.fields) with_both (scope_there p (opened 1 path p.body)) c ≡ true → IsShown (context_of u p path) (condition_formula u p (known_at_place u p (opened 1 path p.body)) c) → (s t : State) → IsAdmissible (program_world u) p s → ComesToPlace (program_world u) (opened 1 path p.body) s t → holds t.scene c ≡ true

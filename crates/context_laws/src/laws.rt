@@ -1,5 +1,5 @@
 //! The laws of contexts, each the contract of a function that does nothing.
-ghost use Rattle.context_laws.specs.Laws.{ContextsHold, WellFormedIsAllowed};
+ghost use Rattle.context_laws.specs.Laws.{ContextsHold, ShownConditionsHold, WellFormedIsAllowed};
 
 /// Wherever a run on an admissible input comes to, without fault, there are numbers for the atoms with which the context of the place
 /// is met, and each expression and condition over the names there has its number.
@@ -20,3 +20,12 @@ pub fn contexts_hold()
 pub fn well_formed_is_allowed()
     ensures { WellFormedIsAllowed }
 {}
+
+/// A condition over the names at a place whose systems there have no integer point holds in each state that such a run comes to.
+pub fn shown_conditions_hold()
+    ensures { ShownConditionsHold }
+{
+    contexts_hold();
+    well_formed_is_allowed();
+    affine_systems::laws::shown_claims_hold();
+}

@@ -205,7 +205,7 @@ place_facts_law fields memories ps p may told agree set tells all s strides good
         fields = found.fields;
         facts = each_join (IsTrueIn v) (map (λ fact. record { known = at_entry; fact = fact }) (params_facts p.params ++ map Holds p.asserts)) (facts_round tell [] Main zero c old at_entry)
             (each_of_map s.scene v at_entry (params_facts p.params ++ map Holds p.asserts) (each_join (IsTrueAt first) (params_facts p.params) (map Holds p.asserts)
-            (params_true s.scene first p.params (λ x k. sym (found.fits.control x (new x k))) good.arguments)
+            (params_true s.scene first p.params (λ x k. sym {a = v.scene.control x} (found.fits.control x (new x k))) good.arguments)
             (asserts_hold s.scene first (is_param p) (λ a k. condition_there world tell strides set (unit_leaves kinds ps) well entry V walks (is_param p) (λ x. has_binder b x || nothing x) (record { branch = Main; index = zero } ∷ []) ghost at_entry s v start (walks.steps_are (is_param p) b s visit) new found.fits a k) p.asserts scoped.1 good.asserts)))
             found.facts;
         written = found.written;

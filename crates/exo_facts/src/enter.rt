@@ -76,7 +76,7 @@ fn add_fails(
     Ok(())
 }
 
-/// The same of a condition that was made for it.
+/// Adds the formula of a condition that holds and that was made for this alone.
 fn add_made(
     ground: &Ground<'_, '_>,
     alloc: Global,
@@ -88,6 +88,7 @@ fn add_made(
     ensures { (first : KnownFields) → SameBelow ground.now.count (known_in known.now) first → Added result ground.now (record { known = first; fact = Holds (condition c) } ∷ []) context.old context.new }
 {
     let added = add_holds(ground, alloc, known, &c, context);
+    // In one call: at the end of the function each of its variants would be a way of its own to check.
     drop(c);
     added
 }

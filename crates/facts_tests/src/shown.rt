@@ -35,12 +35,7 @@ fn show_atom(alloc: Global, text: &mut String, atom: &Atom) -> Result<(), Fail> 
 }
 
 /// The constant, and then each atom with its coefficient.
-fn show_sum(
-    alloc: Global,
-    text: &mut String,
-    constant: i128,
-    terms: &Terms,
-) -> Result<(), Fail> {
+fn show_sum(alloc: Global, text: &mut String, constant: i128, terms: &Terms) -> Result<(), Fail> {
     let head = format!(in alloc; "{constant}")?;
     text.push_str(&head)?;
     for w in terms.as_slice() {

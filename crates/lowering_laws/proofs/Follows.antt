@@ -3,11 +3,9 @@ use Rattle.std.proofs.Common.{◌≡◌, ◌≤◌, ◌<◌, ◌+◌, ◌^◌, �
 use Rattle.std.specs.Prelude.{⊤}
 use Rattle.std.proofs.lemmas.Bool.{and_parts, and_from}
 use Rattle.exo_tree.specs.Tree.{Kind, Binder, Procedure, Program, MemoryKind, ConfigField}
-use Rattle.exo_meaning.specs.Calls.{Callee}
 use Rattle.exo_meaning.specs.Value.{Value, Undefined, Number, IsRefinedBy}
 use Rattle.exo_meaning.specs.Inputs.{run_procedure}
-use Rattle.exo_meaning.specs.Run.{world_of, callee_in, kinds_of}
-use Rattle.exo_meaning.specs.Units.{sort_in, scope_of, field_kind, IsProcedure, AreProcedures, IsUnit}
+use Rattle.exo_meaning.specs.Units.{sort_in, scope_of, field_kind}
 use Rattle.c_names.specs.Binders.{all_binders, param_binders, binders_in, c_names, names_of}
 use Rattle.c_widths.specs.Widths.{most_of, have_narrow_dims, are_narrow_tests, is_narrow_block, is_narrow_procedure}
 use Rattle.c_printer.specs.CTree.{Name}
@@ -20,7 +18,7 @@ use Rattle.c_printer.specs.Simulation.{Declared, Follows, IsHeld, Ends, IsGoodBl
 use Rattle.c_printer.specs.Laws.{ProceduresFollow}
 use Rattle.c_lowering.specs.SelfContained.{are_no_windows, is_alone_block, is_self_contained, is_there_alone, are_self_contained}
 use Rattle.c_lowering.specs.Refusals.{is_wide, or_else, too_wide}
-use Rattle.lowering_laws.specs.Laws.{declared_in, naming_of, AreLowered, IsSameStart, LeavesTheSame, UnitsFollow}
+use Rattle.lowering_laws.specs.Laws.{declared_in, naming_of, AreLowered, IsListed, IsSameStart, LeavesTheSame, UnitsFollow}
 use Rattle.lowering_laws.proofs.Rules.{Stands, Fits}
 use Rattle.lowering_laws.proofs.Good.{AreIn, AreNamed, front_in, rear_in, good_block}
 use Rattle.lowering_laws.proofs.UsedFields.{block_there, is_there}
@@ -35,14 +33,6 @@ some_none : {A : Type 0} {a : A} → None ≡ Some a → ⊥
 some_none e = cc
 
 -- ---- what holds of each listed procedure
-
-abbrev Rules : Program → Procedure → Type 0
-Rules program p = (callees : ℕ → Option Callee) × IsProcedure (field_kind program.fields) (length program.memories) callees p
-
-rules_at : (fields : List ConfigField) (memories : ℕ) (above : List Callee) (ps : List Procedure) (k : ℕ) (p : Procedure) → AreProcedures fields memories above ps → slice_get ps k ≡ Some p → (callees : ℕ → Option Callee) × IsProcedure (field_kind fields) memories callees p
-rules_at fields memories above [] k p h e = absurd (some_none e)
-rules_at fields memories above (q ∷ ps) zero p h e = (slice_get above, subst (IsProcedure (field_kind fields) memories (slice_get above)) (some_same e) h.0)
-rules_at fields memories above (q ∷ ps) (suc k) p h e = rules_at fields memories (above ++ callee_in (world_of (kinds_of fields) above) q ∷ []) ps k p h.1 e
 
 alone_at : (program : Program) (what : List Printing) (k : ℕ) (w : Printing) (p : Procedure) → are_self_contained program what ≡ true → slice_get what k ≡ Some w → slice_get program.procedures w.proc ≡ Some p → is_self_contained program.memories p ≡ true
 alone_at program [] k w p h e f = absurd (some_none e)
@@ -115,22 +105,25 @@ weaken R S (Some a) (Done b) h k = k a b h
 weaken R S (Some a) Fault h k = h
 weaken R S (Some a) NoStore h k = tt
 
-module _ (program : Program) (what : List Printing) (k : ℕ) (w : Printing) (p : Procedure) (lowers : AreLowered program what) (few : length what + length (all_binders p) < 2 ^ 62) (listed : slice_get what k ≡ Some w) (here : slice_get program.procedures w.proc ≡ Some p) where
+module _ (program : Program) (what : List Printing) (k : ℕ) (p : Procedure) (lowers : AreLowered program what) (place : IsListed program what k p) where
   abbrev naming : Naming
   naming = naming_of program what p
 
   abbrev declared : Declared
   declared = declared_in program what
 
-  rules : (callees : ℕ → Option Callee) × IsProcedure (field_kind program.fields) (length program.memories) callees p
-  rules = rules_at program.fields (length program.memories) [] program.procedures w.proc p lowers.unit.procedures here
+  abbrev fields : ℕ → Option Kind
+  fields = field_kind program.fields
+
+  abbrev memories : ℕ
+  memories = length program.memories
 
   alone : (are_no_windows p.params ≡ true) × (is_alone_block program.memories p.body ≡ true)
-  alone = and_parts (are_no_windows p.params) (is_alone_block program.memories p.body) (alone_at program what k w p lowers.alone listed here)
+  alone = and_parts (are_no_windows p.params) (is_alone_block program.memories p.body) (alone_at program what k place.printing p lowers.alone place.listed place.there)
 
   narrow : (have_narrow_dims (most_of p.params) p.params ≡ true) × (is_narrow_block program.memories (most_of p.params) p.body ≡ true)
   narrow =
-      let q = and_parts (have_narrow_dims (most_of p.params) p.params && are_narrow_tests (most_of p.params) p.asserts) (is_narrow_block program.memories (most_of p.params) p.body) (narrow_at program what k w p lowers.narrow listed here) in
+      let q = and_parts (have_narrow_dims (most_of p.params) p.params && are_narrow_tests (most_of p.params) p.asserts) (is_narrow_block program.memories (most_of p.params) p.body) (narrow_at program what k place.printing p lowers.narrow place.listed place.there) in
       ((and_parts (have_narrow_dims (most_of p.params) p.params) (are_narrow_tests (most_of p.params) p.asserts) q.0).0, q.1)
 
   small : room (global_names program what) (names_of (all_binders p)) < 2 ^ 63
@@ -139,30 +132,25 @@ module _ (program : Program) (what : List Printing) (k : ℕ) (w : Printing) (p 
       let b = printed_long program what in
       let c = few_fields (is_used program what) 0 program.fields in
       let d = names_long (all_binders p) in
-      let e = (and_parts (nat_lt (length program.procedures) (2 ^ 31)) _ lowers.unit.counts).1 in
-      let f = below (length program.fields) (and_parts (nat_lt (length program.fields) (2 ^ 31)) (nat_lt (length program.memories) (2 ^ 31)) e).0 in
-      omega arith
-    where
-      below : (n : ℕ) → nat_lt n (2 ^ 31) ≡ true → n < 2 ^ 31
-      below n h = grind arith
+      omega (arith, place.fields, place.few)
 
   named : AreNamed naming declared (all_binders p)
-  named = are_named program what p rules.1.distinct lowers.named small
+  named = are_named program what p place.rules.distinct lowers.named small
 
   stands_first : Fits [] none
   stands_first x = refl
 
   stands : Fits (scope_of [] p.params) (param_forms p.params)
-  stands x = subst (Stands (sort_in (scope_of [] p.params) x)) (merged_none p.params x) (params_fit (field_kind program.fields) (length program.memories) p.params [] none rules.1.params alone.0 stands_first x)
+  stands x = subst (Stands (sort_in (scope_of [] p.params) x)) (merged_none p.params x) (params_fit fields memories p.params [] none place.rules.params alone.0 stands_first x)
 
   good_dims : AreGoodParams (param_forms p.params) (most_of p.params) p.params
-  good_dims = params_alike (field_kind program.fields) (length program.memories) (merged p.params none) (param_forms p.params) (merged_none p.params) (most_of p.params) p.params (good_params (field_kind program.fields) (length program.memories) p.params [] none (most_of p.params) stands_first rules.1.params alone.0 narrow.0)
+  good_dims = params_alike fields memories (merged p.params none) (param_forms p.params) (merged_none p.params) (most_of p.params) p.params (good_params fields memories p.params [] none (most_of p.params) stands_first place.rules.params alone.0 narrow.0)
 
   covered : (g : ℕ) → in_block g p.body ≡ true → declared g ≡ true
   covered g u =
       and_from (is_used program what g) (nat_lt g (length program.fields))
-      (used_at program what k w p g listed here (late (in_conditions g p.asserts) u))
-      (is_there program.fields g (block_there (field_kind program.fields) g program.memories rules.0 (scope_of [] p.params) (λ x. x) p.body rules.1.body alone.1 u))
+      (used_at program what k place.printing p g place.listed place.there (late (in_conditions g p.asserts) u))
+      (is_there program.fields g (block_there fields g program.memories place.callees (scope_of [] p.params) (λ x. x) p.body place.rules.body alone.1 u))
     where
       late : (t : Bool) → in_block g p.body ≡ true → (t || in_block g p.body) ≡ true
       late true i = refl
@@ -171,17 +159,17 @@ module _ (program : Program) (what : List Printing) (k : ℕ) (w : Printing) (p 
   good_body : IsGoodBlock naming declared (param_forms p.params) (most_of p.params) p.body
   good_body =
       let inside = all_in (all_binders p) in
-      good_block naming declared (all_binders p) named (field_kind program.fields) program.memories rules.0 (λ m. refl) (most_of p.params) (scope_of [] p.params) (param_forms p.params) (λ x. x) p.body stands
+      good_block naming declared (all_binders p) named fields program.memories place.callees (λ m. refl) (most_of p.params) (scope_of [] p.params) (param_forms p.params) (λ x. x) p.body stands
       (params_in p.params [] (all_binders p) tt (front_in (param_binders p.params) (binders_in p.body) (all_binders p) inside)) (rear_in (param_binders p.params) (binders_in p.body) (all_binders p) inside)
-      rules.1.body alone.1 narrow.1 covered
+      place.rules.body alone.1 narrow.1 covered
 
 pub units_follow : ProceduresFollow → UnitsFollow
-units_follow law program what k w p layout world c_world s m lowers few listed here admissible same =
+units_follow law program what k p layout world c_world s m lowers place admissible same =
     let naming = naming_of program what p in
     let declared = declared_in program what in
-    let follows = law naming declared (most_of p.params) layout world c_world p s m admissible same.arguments same.fields same.separate (good_dims program what k w p lowers few listed here) (good_body program what k w p lowers few listed here) in (
+    let follows = law naming declared (most_of p.params) layout world c_world p s m admissible same.arguments same.fields same.separate (good_dims program what k p lowers place) (good_body program what k p lowers place) in (
       function_of naming p,
-      function_there program (global_names program what) what k w listed ∙ ap (λ o. Some (function_at program (global_names program what) o)) here,
+      function_there program (global_names program what) what k place.printing place.listed ∙ ap (λ o. Some (function_at program (global_names program what) o)) place.there,
       weaken (Ends naming declared (param_forms p.params) layout s m) (LeavesTheSame naming declared layout s m) _ _ follows (λ t n r. record {
         cells = λ b shape e at q. refined (t.cells b at) _ (r.cells b shape e at q);
         outside = r.kept.untouched;

@@ -6,7 +6,8 @@ use Rattle.exo_meaning.specs.Scene.{Shape}
 use Rattle.exo_meaning.specs.State.{State}
 use Rattle.exo_meaning.specs.Inputs.{IsAdmissible, run_procedure}
 use Rattle.exo_meaning.specs.Run.{World}
-use Rattle.exo_meaning.specs.Units.{IsUnit}
+use Rattle.exo_meaning.specs.Calls.{Callee}
+use Rattle.exo_meaning.specs.Units.{field_kind, IsProcedure}
 use Rattle.c_names.specs.Binders.{all_binders, c_names}
 use Rattle.c_widths.specs.Widths.{most_of}
 use Rattle.c_printer.specs.CTree.{CFunction}
@@ -30,10 +31,19 @@ naming_of program what p = naming_in program (c_names (global_names program what
 
 -- The listed procedures have a C: they stand by themselves, all numbers fit, and C keeps all names.
 pub record AreLowered (program : Program) (what : List Printing) : Type 0 where
-  pub unit : IsUnit program
   pub alone : are_self_contained program what ≡ true
   pub narrow : too_wide program what ≡ None
   pub named : name_clash program what ≡ None
+
+-- A procedure keeps the rules among the fields and memories of the program, and of names there are fewer than 2 ^ 62.
+pub record IsListed (program : Program) (what : List Printing) (k : ℕ) (p : Procedure) : Type 0 where
+  pub printing : Printing
+  pub listed : slice_get what k ≡ Some printing
+  pub there : slice_get program.procedures printing.proc ≡ Some p
+  pub callees : ℕ → Option Callee
+  pub rules : IsProcedure (field_kind program.fields) (length program.memories) callees p
+  pub fields : length program.fields < 2 ^ 31
+  pub few : length what + length (all_binders p) < 2 ^ 62
 
 -- One input for a procedure and for its C: each argument is an object of its own, dense and row-major, with the same cells, and each
 -- field that the C declares has the same number.
@@ -49,10 +59,9 @@ pub record LeavesTheSame (naming : Naming) (declared : Declared) (layout : Layou
   pub outside : (o : ℕ) (k : ℤ) → nat_lt o m.setting.free ≡ true → IsOutside naming layout s o k → n.contents o k ≡ m.contents o k
   pub fields : (f : ℕ) → declared f ≡ true → n.setting.fields (naming.field f) ≡ t.scene.fields f
 
--- From the same input the C does not fault where the procedure does not, and where it finds store for its allocations it ends and
--- leaves the same. Of names there are fewer than 2 ^ 62.
+-- From the same input the C of a listed procedure does not fault where the procedure does not, and where it finds store for its
+-- allocations it ends and leaves the same.
 abbrev pub UnitsFollow : Type 0
-UnitsFollow = (program : Program) (what : List Printing) (k : ℕ) (w : Printing) (p : Procedure) (layout : Layout) (world : World) (c_world : CWorld) (s : State) (m : Machine)
-    → AreLowered program what → length what + length (all_binders p) < 2 ^ 62 → slice_get what k ≡ Some w → slice_get program.procedures w.proc ≡ Some p
-    → IsAdmissible world p s → IsSameStart program what p layout s m
+UnitsFollow = (program : Program) (what : List Printing) (k : ℕ) (p : Procedure) (layout : Layout) (world : World) (c_world : CWorld) (s : State) (m : Machine)
+    → AreLowered program what → IsListed program what k p → IsAdmissible world p s → IsSameStart program what p layout s m
     → (f : CFunction) × (slice_get (lowered program what).functions k ≡ Some f) × Follows (LeavesTheSame (naming_of program what p) (declared_in program what) layout s m) (run_procedure world p s) (run_c c_world f.body m)

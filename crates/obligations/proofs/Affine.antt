@@ -1,10 +1,10 @@
 -- In a well-formed procedure all expressions are affine.
-use Rattle.std.proofs.Common.{◌≡◌, ℕ, pos, int_lt, nat_lt, ◌==◌, Bool, true, false, not, ◌&&◌, ◌||◌, List, [], ◌∷◌, length, Option, Some, None, refl, sym, ap, ap₂, ◌∙◌, true≢false}
+use Rattle.std.proofs.Common.{◌≡◌, ℕ, pos, int_lt, nat_lt, ◌==◌, Bool, true, not, ◌&&◌, ◌||◌, List, [], ◌∷◌, length, Option, refl, sym, ap₂, ◌∙◌, true≢false}
 use Rattle.std.specs.List.{list_all}
 use Rattle.std.specs.Int.{is_positive}
 use Rattle.std.proofs.lemmas.Bool.{and_parts, and_from}
 use Rattle.exo_tree.specs.Tree.{Cell, Kind, Control, Lit, Var, Field, StrideOf, Neg, Add, Sub, Mul, Div, Mod, Condition, True, False, Flag, FieldFlag, Lt, Le, Gt, Ge, Eq, And, Or, Coord, At, Span, Argument, ControlArg, ConditionArg, Whole, Window, Param, ParamKind, ControlParam, TensorParam, WindowParam}
-use Rattle.exo_meaning.specs.Units.{Scope, Reads, plainly, with_both, is_of_literals, is_literal_number, is_number_field, is_truth, sort_in, has_rank, has_cell, is_dense, spans, is_control, are_controls, is_condition, is_coord, is_window, is_of_kind, is_for_tensor, is_for_window, is_for, are_for, is_new, is_rank, is_param_kind, are_params, with_name, param_sort}
+use Rattle.exo_meaning.specs.Units.{Scope, Reads, plainly, with_both, is_of_literals, is_literal_number, is_truth, sort_in, has_rank, has_cell, spans, is_control, are_controls, is_condition, is_coord, is_window, is_of_kind, is_for_tensor, is_for_window, is_for, are_for, is_new, is_rank, is_param_kind, are_params, with_name, param_sort}
 use Rattle.affine_forms.specs.Forms.{is_literal, keeps_rules}
 use Rattle.affine_forms.specs.Formulas.{condition_keeps_rules}
 use Rattle.bounds_check.specs.Extents.{dims_of}

@@ -1,9 +1,9 @@
 -- The claims of well-formed statements are affine.
-use Rattle.std.proofs.Common.{◌≡◌, ℕ, zero, suc, pos, nat_lt, ◌==◌, Bool, true, false, not, ◌&&◌, if◌then◌else◌, List, [], ◌∷◌, ◌++◌, map, length, Option, Some, None, slice_get, refl, sym, ap, ap₂, ◌∙◌, true≢false}
+use Rattle.std.proofs.Common.{◌≡◌, ℕ, suc, nat_lt, ◌==◌, Bool, true, false, not, ◌&&◌, if◌then◌else◌, List, [], ◌∷◌, ◌++◌, map, length, Option, Some, None, slice_get, refl, sym, ◌∙◌, true≢false}
 use Rattle.std.specs.List.{list_all, flat_map}
 use Rattle.std.proofs.lemmas.Bool.{and_parts, and_from}
 use Rattle.std.proofs.lemmas.List.Folds.{list_all-append, list_all-map}
-use Rattle.exo_tree.specs.Tree.{Kind, Size, Index, Truth, Stride, Control, Lit, Condition, Le, Eq, Datum, Const, Read, Negated, Relu, Plus, Minus, Times, Select, Coord, At, Span, Argument, ControlArg, ConditionArg, Whole, Window, Statement, Assign, Reduce, Config, Pass, If, For, Alloc, View, Call, Block, end, next, Param, ParamKind, ControlParam, TensorParam, WindowParam, Procedure, Program}
+use Rattle.exo_tree.specs.Tree.{Kind, Size, Index, Truth, Stride, Control, Eq, Datum, Const, Read, Negated, Relu, Plus, Minus, Times, Select, Coord, At, Span, Argument, ControlArg, ConditionArg, Whole, Window, Statement, Assign, Reduce, Config, Pass, If, For, Alloc, View, Call, Block, end, next, Param, ParamKind, ControlParam, TensorParam, WindowParam, Procedure, Program}
 use Rattle.exo_tree.specs.Places.{Branch, Main, Else, Path}
 use Rattle.exo_meaning.specs.Calls.{Callee}
 use Rattle.exo_meaning.specs.Run.{roots_after}
@@ -14,9 +14,9 @@ use Rattle.exo_show.specs.Words.{Words, words_of}
 use Rattle.bounds_check.specs.Pairs.{flat_zip}
 use Rattle.bounds_check.specs.Claim.{Claim, Placed}
 use Rattle.bounds_check.specs.Extents.{Extents, with_extents, span_extent, span_extents, dims_of, with_params, with_block, with_statement}
-use Rattle.bounds_check.specs.Arguments.{control_under, condition_under}
+use Rattle.bounds_check.specs.Arguments.{control_under}
 use Rattle.bounds_check.specs.Claims.{asserted, as_shown, at_least_one, one_index, index_claims, coord_claims, window_claims, read_claims, store_claims, argument_window, given_claims, argument_size, argument_extents, equal_extents, passed_extents, call_claims, write_claims, own_claims, placed_at, into, block_claims, inner_claims, param_claims}
-use Rattle.obligations.proofs.Affine.{coord_keeps_rules, argument_keeps_rules, dims_keep_rules, all_pass, affine, condition_affine, all_affine, window_affine, given_affine, arguments_affine}
+use Rattle.obligations.proofs.Affine.{coord_keeps_rules, argument_keeps_rules, dims_keep_rules, all_pass, all_affine, window_affine, given_affine, arguments_affine}
 use Rattle.obligations.proofs.Under.{control_affine, condition_under_affine}
 
 -- ---- lists
@@ -155,7 +155,7 @@ module _ (w : Words) where
         let windows = flat_mapped argument_keeps_rules says_affine (argument_window w extents) argument_claims args h in
         let sizes = zipped dims_keep_rules argument_keeps_rules (argument_size w) (λ p a k l. kind_size p.kind a l) q.params args good.params h in
         let parts = zipped dims_keep_rules argument_keeps_rules (passed_extents w extents q.params args)
-            (λ p a k l. equal_claims (argument_extents w extents a) (map (control_under q.params args) (dims_of p.kind)) (passed_affine a l) (mapped keeps_rules keeps_rules (control_under q.params args) (control_affine q.params args h) (dims_of p.kind) k)) q.params args good.params h in
+        (λ p a k l. equal_claims (argument_extents w extents a) (map (control_under q.params args) (dims_of p.kind)) (passed_affine a l) (mapped keeps_rules keeps_rules (control_under q.params args) (control_affine q.params args h) (dims_of p.kind) k)) q.params args good.params h in
         let rest = mapped condition_keeps_rules says_affine (asserted (words_of u q) q.params args) (condition_under_affine q.params args h) q.asserts good.asserts in
         let first = flat_map (argument_window w extents) args in
         let second = flat_zip (argument_size w) q.params args in

@@ -9,3 +9,4 @@ mod Terms
 mod Within
 mod Owing
 mod Resting
+mod Groups

@@ -1,5 +1,5 @@
 -- What one claim owes, and why it is refused.
-use Rattle.std.proofs.Common.{◌≡◌, ℕ, nat_le, Bool, true, false, ◌&&◌, if◌then◌else◌, List, [], ◌∷◌, ◌++◌, map, length, Option, Some, None, Result, Ok, Err, append-nil, refl, sym, ap, ◌∙◌, subst}
+use Rattle.std.proofs.Common.{◌≡◌, ℕ, nat_le, Bool, true, false, ◌&&◌, if◌then◌else◌, List, [], ◌∷◌, ◌++◌, map, length, Some, None, Result, Ok, Err, append-nil, refl, sym, ap, ◌∙◌, subst}
 use Rattle.std.specs.List.{list_all}
 use Rattle.std.specs.Result.{IsErrAnd}
 use Rattle.exo_tree.specs.Tree.{Condition, Procedure, ConfigField, Program}
@@ -19,7 +19,7 @@ use Rattle.bounds_check.specs.Claim.{Placed}
 use Rattle.exo_facts.specs.Contexts.{context_of, context_fits, condition_fits, facts_of}
 use Rattle.obligations.specs.Errors.{error_of}
 use Rattle.obligations.specs.Limits.{are_within}
-use Rattle.obligations.specs.Obligations.{Fault, Wide, ManyCases, LargeSystem, ManyObligations, known_for, claim_formula, owed_for, claim_fits, claim_stated, stated_fault, unless_refused, claim_fault, first_fault}
+use Rattle.obligations.specs.Obligations.{Fault, Wide, ManyCases, LargeSystem, known_for, claim_formula, owed_for, claim_fits, claim_stated, stated_fault, unless_refused, claim_fault, first_fault}
 use Rattle.obligations.specs.Outcomes.{IsRefusal, Appended, Owes}
 use Rattle.obligations.specs.declared.error.CheckError.{CheckError}
 use Rattle.obligations.specs.declared.error.CheckError.TheVariants.{TooManyObligations, Form, Memory}

@@ -6,7 +6,7 @@ use Rattle.std.proofs.lemmas.Bool.{and_parts}
 use Rattle.std.proofs.lemmas.Bool.Decides.{nat_tests}
 use Rattle.std.proofs.lemmas.List.{drop_all}
 use Rattle.exo_tree.specs.Tree.{Procedure, Program}
-use Rattle.exo_tree.specs.Places.{Branch, Main, Else, Step, Path}
+use Rattle.exo_tree.specs.Places.{Branch, Main, Else, Path}
 use Rattle.affine_forms.specs.declared.error.FormError.{FormError}
 use Rattle.affine_forms.specs.declared.error.FormError.TheVariants as form
 use Rattle.affine_forms.specs.Outcomes.{IsWide}
@@ -99,7 +99,7 @@ exit {X} u p cs old new result e is h = go result is
 
 -- ---- claims of one place
 
-module _ (u : Program) (p : Procedure) (place : Path) (claims : Claims) (before : List Owed) where
+module _ (u : Program) (p : Procedure) (claims : Claims) (before : List Owed) where
   -- what is left gives the whole
   pub record Left (now : List Owed) (k : ℕ) : Type 0 where
     pub fault : first_fault u p now (map placed (drop k claims)) ≡ first_fault u p before (map placed claims)
@@ -108,7 +108,7 @@ module _ (u : Program) (p : Procedure) (place : Path) (claims : Claims) (before 
   pub left_all : Left before 0
   left_all = record { fault = refl; owed = refl }
 
-  module _ (now : List Owed) (k : ℕ) (c : declared.Placed) (e : c ≡ get_or claims k c) (l : k < length claims) (here : same_path c.place place ≡ true) (left : Left now k) where
+  module _ (now : List Owed) (k : ℕ) (c : declared.Placed) (e : c ≡ get_or claims k c) (l : k < length claims) (place : Path) (here : same_path c.place place ≡ true) (left : Left now k) where
     split : map placed (drop k claims) ≡ put_at place c ∷ map placed (drop (k + 1) claims)
     split = ap (map placed) (drop_read claims k c e l) ∙ ap (λ d. d ∷ map placed (drop (k + 1) claims)) (sym (at_place place c here))
 
@@ -143,8 +143,8 @@ module _ (u : Program) (p : Procedure) (place : Path) (claims : Claims) (before 
       (sym left.fault ∙ ap (λ cs. first_fault u p now (map placed cs)) none, sym (append-nil now) ∙ ap (λ cs. now ++ owed_for_all u p (map placed cs)) (sym none) ∙ left.owed)
 
   -- no context for them
-  pub left_unfit : {X : Type 0} (result : Result X CheckError) (e : FormError) (new : List Owed) → 0 < length claims → list_all (λ c. same_path c.place place) (map placed claims) ≡ true → IsErrAnd result (λ r. r ≡ error_of e) → IsWide e (context_fits u p place) → Owes result u p (map placed claims) before new
-  left_unfit result e new some here is h = exit u p (map placed claims) before new result (error_of e) is (by e h)
+  pub left_unfit : {X : Type 0} (result : Result X CheckError) (e : FormError) (new : List Owed) (place : Path) → 0 < length claims → list_all (λ c. same_path c.place place) (map placed claims) ≡ true → IsErrAnd result (λ r. r ≡ error_of e) → IsWide e (context_fits u p place) → Owes result u p (map placed claims) before new
+  left_unfit result e new place some here is h = exit u p (map placed claims) before new result (error_of e) is (by e h)
     where
       wide : (cs : Claims) → 0 < length cs → list_all (λ c. same_path c.place place) (map placed cs) ≡ true → context_fits u p place ≡ false → first_fault u p before (map placed cs) ≡ Some Wide
       wide [] s q w = absurd (omega (arith, s))

@@ -1,5 +1,5 @@
 -- Two paths are the same where their steps are equal one by one.
-use Rattle.std.proofs.Common.{◌≡◌, ◌==◌, Bool, ◌&&◌, List, [], ◌∷◌, map, refl, ap₂}
+use Rattle.std.proofs.Common.{◌≡◌, ◌==◌, ◌&&◌, List, [], ◌∷◌, map, refl, ap₂}
 use Rattle.std.specs.Cmp.Lexicographic.{pointwise}
 use Rattle.exo_tree.specs.declared.place.Branch.{Branch}
 use Rattle.exo_tree.specs.declared.place.Branch.TheVariants.{Main, Else}

@@ -1,19 +1,21 @@
 -- Each claim of a well-formed procedure may be owed.
-use Rattle.std.proofs.Common.{◌≡◌, ℕ, zero, suc, ◌+◌, Bool, true, ◌&&◌, List, [], ◌∷◌, ◌++◌, length, Option, Some, slice_get, refl, sym, ap, ◌∙◌, subst, arith}
+use Rattle.std.proofs.Common.{◌≡◌, ℕ, zero, suc, ◌+◌, nat_lt, Bool, true, ◌&&◌, List, [], ◌∷◌, ◌++◌, length, Option, Some, slice_get, refl, ap, ◌∙◌, subst, arith}
 use Rattle.std.specs.List.{list_all}
-use Rattle.std.specs.Option.{is_some}
 use Rattle.std.proofs.lemmas.Bool.{and_parts, and_from}
 use Rattle.exo_tree.specs.Tree.{Kind, Procedure, ConfigField, Program}
-use Rattle.exo_tree.specs.Places.{Main, Path, opened_in}
+use Rattle.exo_tree.specs.Places.{Main, Path}
 use Rattle.exo_meaning.specs.Calls.{Callee}
 use Rattle.exo_meaning.specs.Run.{callee_in, world_of, kinds_of}
-use Rattle.exo_meaning.specs.Units.{scope_of, with_both, is_condition, IsProcedure, AreProcedures, IsUnit, field_kind}
+use Rattle.exo_meaning.specs.Units.{scope_of, with_both, is_condition, is_short, levels, IsProcedure, AreProcedures, IsUnit, field_kind}
 use Rattle.affine_forms.specs.Formulas.{condition_keeps_rules}
+use Rattle.affine_places.specs.Roots.{has_extents}
+use Rattle.exo_places.specs.Rules.{block_keeps_rules, procedure_keeps_rules}
+use Rattle.exo_facts.specs.Contexts.{may_be_walked}
+use Rattle.exo_facts.specs.Laws.{WellFormedMayBeWalked}
 use Rattle.exo_show.specs.Words.{words_of}
-use Rattle.bounds_check.specs.Claim.{Placed}
 use Rattle.bounds_check.specs.Extents.{no_extents, with_params, extents_of}
 use Rattle.bounds_check.specs.Claims.{placed_at, param_claims, block_claims, claims_of}
-use Rattle.obligations.specs.Laws.{is_place_of, may_be_owed, ClaimsMayBeOwed}
+use Rattle.obligations.specs.Laws.{is_place_of, ClaimsMayBeOwed}
 use Rattle.obligations.proofs.Affine.{all_pass, condition_affine, params_affine}
 use Rattle.obligations.proofs.Affines.{claim_affine, appended, placed_affine, CalleeAffine, AreCalleesAffine, AreAffine, params_extents, params_claims, block_affine, block_extents}
 use Rattle.obligations.proofs.Places.{step, own_places, block_places}
@@ -81,3 +83,11 @@ claims_may_be_owed u k p h e =
     both_pass claim_affine (λ c. is_place_of c.place p) (claims_of u p)
     (claims_affine (field_kind u.fields) (length u.memories) (slice_get f.0) p f.1 u (callees_affine u h))
     (claims_placed u p)
+
+-- ---- what else is asked of a procedure
+
+pub walked : WellFormedMayBeWalked → (u : Program) (k : ℕ) (p : Procedure) → IsUnit u → slice_get u.procedures k ≡ Some p → may_be_walked p ≡ true
+walked law u k p h e = let f = unit_formed u k p h e in law (field_kind u.fields) (length u.memories) (slice_get f.0) p f.1
+
+pub extents_there : (p : Procedure) → may_be_walked p ≡ true → has_extents p ≡ true
+extents_there p h = (and_parts (has_extents p) (list_all condition_keeps_rules p.asserts && (is_short p.body && block_keeps_rules p.body)) (and_parts (procedure_keeps_rules p) (nat_lt (levels p.body) 33) h).0).0

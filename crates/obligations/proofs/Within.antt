@@ -1,5 +1,5 @@
 -- Lists of obligations within the limits, one obligation after the other.
-use Rattle.std.proofs.Common.{◌≡◌, ℕ, ◌+◌, ◌<◌, ◌≤◌, nat_le, Bool, true, false, ◌&&◌, List, [], ◌∷◌, ◌++◌, map, length, take, drop, get_or, Result, Ok, Err, length-append, append_assoc, refl, sym, ap, ◌∙◌, subst, true≢false, arith}
+use Rattle.std.proofs.Common.{◌≡◌, ℕ, ◌+◌, ◌<◌, ◌≤◌, nat_le, Bool, true, false, List, [], ◌∷◌, ◌++◌, map, length, take, drop, get_or, Result, Ok, Err, length-append, append_assoc, refl, sym, ap, ◌∙◌, subst, true≢false, arith}
 use Rattle.std.specs.Result.{IsErrAnd}
 use Rattle.std.proofs.lemmas.Bool.{and_parts, and_from}
 use Rattle.std.proofs.lemmas.Bool.Decides.{nat_tests}
@@ -50,11 +50,11 @@ module _ (old : List Owed) (all done : List Obligation) (o : Obligation) where
       let rest = drop (k + 1) all in
       let split : all ≡ done ++ o ∷ rest = sym (take-append-drop k all) ∙ ap (λ xs. xs ++ drop k all) (sym t) ∙ ap (λ xs. done ++ xs) (drop_read all k o g l) in
       let whole : old ++ map plain_obligation all ≡ (now ++ plain_obligation o ∷ []) ++ map plain_obligation rest =
-          ap (λ xs. old ++ map plain_obligation xs) split
-          ∙ ap (λ xs. old ++ xs) (map-append plain_obligation done (o ∷ rest))
-          ∙ sym (append_assoc old (map plain_obligation done) (plain_obligation o ∷ map plain_obligation rest))
-          ∙ ap (λ xs. xs ++ plain_obligation o ∷ map plain_obligation rest) (sym e)
-          ∙ sym (append_assoc now (plain_obligation o ∷ []) (map plain_obligation rest)) in
+      ap (λ xs. old ++ map plain_obligation xs) split
+      ∙ ap (λ xs. old ++ xs) (map-append plain_obligation done (o ∷ rest))
+      ∙ sym (append_assoc old (map plain_obligation done) (plain_obligation o ∷ map plain_obligation rest))
+      ∙ ap (λ xs. xs ++ plain_obligation o ∷ map plain_obligation rest) (sym e)
+      ∙ sym (append_assoc now (plain_obligation o ∷ []) (map plain_obligation rest)) in
       ap are_within whole ∙ over_front (now ++ plain_obligation o ∷ []) (map plain_obligation rest) h
 
 -- an error on the way is that of the whole

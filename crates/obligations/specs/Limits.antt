@@ -1,5 +1,5 @@
 -- How much a procedure may owe.
-use Rattle.std.specs.Prelude.{ℕ, ◌+◌, nat_le, ℤ, pos, Bool, not, ◌&&◌, List, length}
+use Rattle.std.specs.Prelude.{ℕ, ◌+◌, nat_le, pos, Bool, not, ◌&&◌, List, length}
 use Rattle.std.specs.List.{count_by, sum_by}
 use Rattle.std.specs.Ordering.{int_eq}
 use Rattle.affine_forms.specs.Affine.{Affine, Constraints}

@@ -1,10 +1,9 @@
 -- What a procedure owes: for each of its claims, in text order, a system for each case in which the context of its place holds and
 -- the claim does not. The claim holds where none of its systems has an integer point.
-use Rattle.std.specs.Prelude.{ℕ, Bool, true, false, ◌&&◌, if◌then◌else◌, List, [], ◌∷◌, ◌++◌, map, flat_map, Option, Some, None, slice_get}
+use Rattle.std.specs.Prelude.{Bool, true, false, ◌&&◌, if◌then◌else◌, List, [], ◌∷◌, ◌++◌, map, flat_map, Option, Some, None}
 use Rattle.exo_tree.specs.Tree.{Procedure, Program}
 use Rattle.exo_tree.specs.Places.{opened}
 use Rattle.exo_context.specs.KnownFields.{KnownFields}
-use Rattle.affine_forms.specs.Affine.{Constraints}
 use Rattle.affine_forms.specs.Formulas.{Formula}
 use Rattle.affine_systems.specs.Systems.{Stated, CasesPassed, SizePassed, Listed, systems, stated}
 use Rattle.affine_systems.specs.Outcomes.{Owed, owed}

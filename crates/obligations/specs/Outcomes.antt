@@ -1,5 +1,5 @@
 -- What the calls on a procedure's obligations answer.
-use Rattle.std.specs.Prelude.{◌≡◌, ℕ, ⊤, true, false, List, [], ◌++◌, map, Option, Some, None, Vec, Result, Ok, Err, slice_get}
+use Rattle.std.specs.Prelude.{◌≡◌, ⊤, true, false, List, [], ◌++◌, map, Option, Some, None, Vec, Result, Ok, Err}
 use Rattle.exo_tree.specs.Tree.{Procedure, Program}
 use Rattle.affine_forms.specs.declared.error.FormError.TheVariants as form
 use Rattle.affine_systems.specs.Outcomes.{Owed, plain_obligation}

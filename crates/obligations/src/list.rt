@@ -11,10 +11,12 @@ ghost use Rattle.obligations.specs.Outcomes.{AreObligations, AreObligationsIn};
 
 use crate::claims::{Site, put_claims};
 use crate::error::CheckError;
+use crate::laws::claims_may_be_owed;
 use crate::owed::Owed;
 use affine_places::Roots;
 use affine_systems::Obligation;
 use bounds_check::{Placed, claims_of};
+use exo_facts::laws::well_formed_procedures_may_be_walked;
 use exo_tree::{Path, Proc, ProcId, Unit};
 use std::alloc::Global;
 
@@ -50,6 +52,8 @@ fn obligations_of_claims(
     requires claims { map placed claims.now ≡ claims_of (program unit.now) (procedure proc.now) }
     ensures { AreObligations result (program unit.now) (procedure proc.now) }
 {
+    claims_may_be_owed();
+    well_formed_procedures_may_be_walked();
     let roots = Roots::of(alloc, proc)?;
     let site = Site {
         unit,
@@ -57,13 +61,11 @@ fn obligations_of_claims(
         roots: &roots,
     };
     let mut out = Owed::new(alloc);
-    let mut from = 0;
-    while from < claims.len() {
-        let rest = &claims[from..];
-        let place = &rest[0].place;
-        let count = count_at(rest, place);
-        put_claims(alloc, &site, place, &rest[..count], &mut out)?;
-        from += count;
+    let mut rest = claims;
+    while let Some(first) = rest.first() {
+        let (here, others) = rest.split_at(count_at(rest, &first.place));
+        put_claims(alloc, &site, &first.place, here, &mut out)?;
+        rest = others;
     }
     Ok(out.into_items())
 }

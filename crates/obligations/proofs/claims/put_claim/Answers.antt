@@ -1,6 +1,5 @@
-use Rattle.std.proofs.Common.{◌≡◌, true, ap, sym, ◌∙◌, subst}
+use Rattle.std.proofs.Common.{◌≡◌, true, sym, ◌∙◌, subst}
 use Rattle.exo_tree.specs.PlainControl.{condition}
-use Rattle.exo_tree.specs.Tree.{Procedure, Program}
 use Rattle.affine_forms.specs.PlainFormulas.{plain_formula}
 use Rattle.affine_places.specs.Seen.{roots_in}
 use Rattle.affine_systems.specs.Systems.{stated}

@@ -1,6 +1,4 @@
-use Rattle.std.proofs.Common.{◌≡◌, ◌≤◌, List, length, ap, ◌∙◌, subst, sym, arith}
-use Rattle.std.specs.List.{sum_by}
-use Rattle.affine_forms.specs.declared.system.Row.{Row}
+use Rattle.std.proofs.Common.{◌≤◌, ap, ◌∙◌, subst, sym, arith}
 use Rattle.obligations.proofs.Terms.{lengths, equations_few, rows_few, system_counted}
 use Rattle.obligations.proofs.owed.system_terms.Goals as goal
 
