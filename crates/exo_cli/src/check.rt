@@ -8,6 +8,7 @@ ghost use Rattle.obligations.specs.Obligations.{Fault};
 ghost use Rattle.obligations.specs.Outcomes.{IsRefusal};
 ghost use Rattle.unit_check.specs.Checked.{Checked};
 ghost use Rattle.unit_check.specs.Outcomes.{IsRefused};
+ghost use Rattle.unit_check.specs.declared.refused.Why.TheVariants.{Memory};
 ghost use Rattle.exo_cli.specs.Answer.{IsVerdict};
 ghost use Rattle.exo_cli.specs.Checking.{IsChecked, fault_text, form_text, told, typed, well_formed, verdict_text};
 ghost use Rattle.exo_cli.specs.Replies.{plain};
@@ -87,7 +88,7 @@ fn check_typed<R: Threads + Sync, G: Gate>(
 }
 
 /// The unit of this file is not shown.
-fn refuse_unit(
+pub(crate) fn refuse_unit(
     alloc: Global,
     name: &str,
     unit: &Unit,
@@ -95,6 +96,7 @@ fn refuse_unit(
 ) -> Result<Reply, AllocError>
     ensures answer { (c : Checked) → IsRefused refused.now c → IfOk result (λ reply. plain reply ≡ told name.now (program unit.now) unit.now.lines c) }
     ensures verdict { IfOk result (λ reply. IsVerdict (plain reply)) }
+    ensures cause { IfOk result (λ _. refused.now.why ≢ Memory) }
 {
     let line = line_of(unit, refused);
     let message = match &refused.why {
