@@ -4,8 +4,6 @@
 mod binders;
 mod clash;
 mod names;
-#[cfg(test)]
-mod tests;
 mod words;
 
 pub use binders::NameTable;

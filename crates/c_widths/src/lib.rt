@@ -6,8 +6,6 @@ pub mod laws;
 mod magnitudes;
 mod procedures;
 mod statements;
-#[cfg(test)]
-mod tests;
 
 pub use magnitudes::{Bound, magnitude};
 pub use procedures::is_narrow;

@@ -5,8 +5,6 @@ mod expression;
 mod piece;
 mod reading;
 mod set;
-#[cfg(test)]
-mod tests;
 mod writes;
 
 pub use reading::{add_read, read, read_table};

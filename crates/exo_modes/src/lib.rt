@@ -5,8 +5,6 @@ mod aliases;
 mod mode;
 mod row;
 mod table;
-#[cfg(test)]
-mod tests;
 mod walk;
 
 pub use mode::Modes;

@@ -1,9 +1,12 @@
 //! A procedure that sets one field to another.
-use crate::piece::piece_at;
-use crate::{read, written};
+ghost use Rattle.std.specs.Prelude.{IsTrue, IsSome};
+ghost use Rattle.exo_tree.specs.PlainUnit.{program};
+ghost use Rattle.config_state.specs.Pieces.{piece_at};
+
+use config_state::{read, written};
 use exo_tree::{
     Arg, Block, Branch, Conds, Ctrl, Field, FieldId, Fields, Kind, Lines, Memories, Name, Params,
-    Path, Proc, ProcId, Procs, Step, Stmt, Unit,
+    Path, Proc, ProcId, Procs, Step, Stmt, Unit, at,
 };
 use std::alloc::{AllocError, Global};
 use std::test::Fail;
@@ -41,6 +44,16 @@ fn sample(alloc: Global) -> Result<Unit, AllocError> {
     })
 }
 
+/// Whether a statement has a path.
+fn stands(unit: &Unit, p: ProcId, path: &Path) -> bool
+    ensures { IsTrue result → IsSome (piece_at (program unit.now) p.0 path.now 1) }
+{
+    match unit.procs.get(p.0 as usize) {
+        Some(found) => at(found, path).is_some(),
+        None => false,
+    }
+}
+
 fn is_only(fields: &[FieldId], f: u32) -> bool {
     fields.len() == 1 && fields[0].0 == f
 }
@@ -49,16 +62,16 @@ fn is_only(fields: &[FieldId], f: u32) -> bool {
 fn fields_of_a_write(rt: HostRuntime) -> Result<(), Fail> {
     let alloc = rt.alloc();
     let unit = sample(alloc)?;
-    let mut at = Path::new();
-    at.push(Step {
+    let mut path = Path::new();
+    path.push(Step {
         branch: Branch::Main,
         index: 0,
     });
     assert!(rt; unit.fields.len() == 2);
-    assert!(rt; piece_at(&unit, ProcId(0), &at, 1).is_some());
-    let writes = written(alloc, &unit, ProcId(0), &at, 1)?;
+    assert!(rt; stands(&unit, ProcId(0), &path));
+    let writes = written(alloc, &unit, ProcId(0), &path, 1)?;
     assert!(rt; is_only(writes.as_slice(), 0));
-    let reads = read(alloc, &unit, ProcId(0), &at, 1)?;
+    let reads = read(alloc, &unit, ProcId(0), &path, 1)?;
     assert!(rt; is_only(reads.as_slice(), 1));
     Ok(())
 }

@@ -1,6 +1,6 @@
 //! Names worked out by hand.
 
-use crate::{c_name, first_clash};
+use c_names::{c_name, first_clash};
 use exo_tree::Name;
 use std::alloc::{AllocError, Global};
 

@@ -1,6 +1,6 @@
 //! Magnitudes worked out by hand.
 
-use crate::{Bound, magnitude};
+use c_widths::{Bound, magnitude};
 use exo_tree::{Ctrl, FieldId, Id};
 use std::alloc::{AllocError, Global};
 
