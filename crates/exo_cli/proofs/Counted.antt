@@ -12,6 +12,7 @@ use Rattle.exo_source.specs.Texts.{tokens_of, places_of}
 use Rattle.exo_names.specs.declared.fault.Fault.{Fault}
 use Rattle.exo_types.specs.UnitRules.{unit_fault, unit_of}
 use Rattle.exo_types.specs.UnitLines.{lines_of}
+use Rattle.unit_check.specs.Preorder.{line_in}
 use Rattle.unit_check.specs.Checked.{Cause, NotListed, NotShown, Checked, Shown, Refused, checked}
 use Rattle.exo_cli.specs.Outside.{Folder, content_of, with_more}
 use Rattle.exo_cli.specs.Messages.{file_refused}
@@ -37,7 +38,7 @@ not_refused text name line (NotShown what path v) e = not_rejected e
 -- the number that an accepted check prints
 shown_count : (text name : List ℕ) (u : Program) (lines : List ProcLines) (c : Checked) → Accepted text ≡ told name u lines c → (count : ℕ) × (c ≡ Shown count) × (text ≡ messages.checked count)
 shown_count text name u lines (Shown count) e = (count, refl, cc)
-shown_count text name u lines (Refused k cause) e = absurd (not_refused text name _ cause e)
+shown_count text name u lines (Refused k cause) e = absurd (not_refused text name (line_in (slice_get u.procedures k) (slice_get lines k)) cause e)
 
 module _ (words : List (List ℕ)) (files : Folder) (before after : Option (List ℕ)) (text procs : List ℕ) (written : after ≡ with_more before text) (asked : command_of words ≡ Some (Check procs)) where
   by_rules : (bytes : List ℕ) (items : List Item) → content_of files procs ≡ Some bytes → IsText unit (tokens_of bytes) items → (o : Option Fault) → unit_fault items ≡ o

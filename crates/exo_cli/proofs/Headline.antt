@@ -28,6 +28,7 @@ use Rattle.exo_cli.specs.Work.{file_limit, Opens, AnswersTo, Answers, Moment, En
 use Rattle.exo_cli.specs.Answer.{Answer, Accepted, Rejected, Unread, Misused, status_of, for_out, for_err}
 use Rattle.exo_cli.specs.Compiling.{IsCompiled, owed, typed}
 use Rattle.exo_cli.specs.Checking.{refused}
+use Rattle.unit_check.specs.Preorder.{line_in}
 use Rattle.unit_check.specs.Checked.{Cause, NotListed, NotShown, Checked, Shown, Refused as Open, checked}
 use Rattle.exo_tree.specs.declared.lines.ProcLines.{ProcLines}
 use Rattle.exo_tree.specs.Places.{Path}
@@ -161,7 +162,7 @@ module _ (procs source schedule bytes text : List ℕ) where
   by_owed : (items : List Item) → IsText unit (tokens_of source) items → unit_fault items ≡ None → (c : Checked) → checked (unit_of items) ≡ c
       → Accepted text ≡ owed procs schedule (schedule_of bytes) (unit_of items) (lines_of (places_of source) items) c → Promise source bytes text
   by_owed items spelled keeps (Shown count) shown e = by_read procs source schedule bytes text items spelled keeps count shown (schedule_of bytes) refl e
-  by_owed items spelled keeps (Open k cause) shown e = absurd (accepted_is_not_refused text procs _ cause e)
+  by_owed items spelled keeps (Open k cause) shown e = absurd (accepted_is_not_refused text procs (line_in (slice_get (unit_of items).procedures k) (slice_get (lines_of (places_of source) items) k)) cause e)
 
   by_rules : (items : List Item) → IsText unit (tokens_of source) items → (o : Option Fault) → unit_fault items ≡ o
       → Accepted text ≡ typed procs schedule (schedule_of bytes) (places_of source) items o → Promise source bytes text
