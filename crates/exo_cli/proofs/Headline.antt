@@ -30,7 +30,6 @@ use Rattle.exo_cli.specs.Compiling.{IsCompiled, owed, typed}
 use Rattle.exo_cli.specs.Checking.{refused}
 use Rattle.unit_check.specs.Preorder.{line_in}
 use Rattle.unit_check.specs.Checked.{Cause, NotListed, NotShown, Checked, Shown, Refused as Open, checked}
-use Rattle.exo_tree.specs.declared.lines.ProcLines.{ProcLines}
 use Rattle.exo_tree.specs.Places.{Path}
 use Rattle.exo_types.specs.UnitLines.{lines_of}
 use Rattle.exo_cli.specs.Compiled.{broken, not_built, by_names, by_width, ended, scheduled, started, printing_of, printings, with_versions}

@@ -1,6 +1,6 @@
 -- What is answered to a unit by a schedule: the lines run, and then what they emit is printed: its form is tested, its widths, and
 -- its names. And what is answered to a text that is no unit, or breaks a rule.
-use Rattle.std.specs.Prelude.{◌≡◌, ℕ, suc, ◌⊎◌, if◌then◌else◌, List, [], ◌∷◌, map, slice_get, slice_index, Option, Some, None, codes}
+use Rattle.std.specs.Prelude.{◌≡◌, ℕ, suc, if◌then◌else◌, List, [], ◌∷◌, map, slice_get, slice_index, Option, Some, None, codes}
 use Rattle.exo_tree.specs.Tree.{Procedure, Program}
 use Rattle.exo_lexer.specs.declared.place.Place.{Place}
 use Rattle.exo_source.specs.Items.{unit}
@@ -17,7 +17,6 @@ use Rattle.c_printer.specs.CText.{text_of}
 use Rattle.exo_cli.specs.Answer.{Answer, Accepted, Rejected}
 use Rattle.exo_cli.specs.Messages.{file_refused, name_refused, place_refused, line_refused}
 use Rattle.exo_cli.specs.Lines.{Versions, Outcome, Done, Stopped, run_lines}
-use Rattle.exo_cli.specs.ScheduleForm.{schedule_of}
 use Rattle.exo_cli.specs.declared.lines.Line.{Line}
 use Rattle.exo_cli.specs.declared.session.Why.{Why}
 use Rattle.exo_cli.specs.declared.session.Why.TheVariants as why

@@ -1,5 +1,5 @@
 -- What the program promises of the number that it prints for a check.
-use Rattle.std.specs.Prelude.{◌≡◌, ℕ, ◌⊎◌, List, Option, Some, None}
+use Rattle.std.specs.Prelude.{◌≡◌, ℕ, List, Option, Some, None}
 use Rattle.phrases.specs.Text.{IsText}
 use Rattle.exo_source.specs.Source.{Item}
 use Rattle.exo_source.specs.Items.{unit}
