@@ -1,7 +1,7 @@
 -- The answer to the text of a unit that is to be checked: it is read, then its rules are tested, and then what its procedures owe.
-use Rattle.std.specs.Prelude.{◌≡◌, ℕ, ◌⊎◌, List, [], ◌∷◌, Option, Some, None, slice_get, codes}
+use Rattle.std.specs.Prelude.{◌≡◌, ℕ, ◌⊎◌, List, [], Option, Some, None, slice_get, codes}
 use Rattle.phrases.specs.Text.{IsText}
-use Rattle.exo_tree.specs.Tree.{Procedure, Program}
+use Rattle.exo_tree.specs.Tree.{Program}
 use Rattle.exo_tree.specs.Places.{Path}
 use Rattle.exo_tree.specs.declared.lines.ProcLines.{ProcLines}
 use Rattle.exo_meaning.specs.Units.{IsUnit}
