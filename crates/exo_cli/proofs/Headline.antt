@@ -26,7 +26,13 @@ use Rattle.exo_cli.specs.Messages.{usage, file_refused}
 use Rattle.exo_cli.specs.Words.{Command, Compile, Check, command_of}
 use Rattle.exo_cli.specs.Work.{file_limit, Opens, AnswersTo, Answers, Moment, Ends}
 use Rattle.exo_cli.specs.Answer.{Answer, Accepted, Rejected, Unread, Misused, status_of, for_out, for_err}
-use Rattle.exo_cli.specs.Compiled.{IsCompiled, broken, not_built, typed, by_names, by_width, ended, scheduled, started, printing_of, printings, with_versions}
+use Rattle.exo_cli.specs.Compiling.{IsCompiled, owed, typed}
+use Rattle.exo_cli.specs.Checking.{refused}
+use Rattle.unit_check.specs.Preorder.{line_in}
+use Rattle.unit_check.specs.Checked.{Cause, NotListed, NotShown, Checked, Shown, Refused as Open, checked}
+use Rattle.exo_tree.specs.Places.{Path}
+use Rattle.exo_types.specs.UnitLines.{lines_of}
+use Rattle.exo_cli.specs.Compiled.{broken, not_built, by_names, by_width, ended, scheduled, started, printing_of, printings, with_versions}
 use Rattle.exo_cli.specs.Built.{are_in_dram, are_built}
 use Rattle.exo_cli.specs.Lines as lines
 use Rattle.exo_cli.specs.Lines.{Versions, Outcome, run_lines}
@@ -101,7 +107,7 @@ accepted_is_not e = cc
 accepted_is : {text other : List ℕ} → Accepted text ≡ Accepted other → text ≡ other
 accepted_is e = cc
 
-module _ (procs source schedule bytes text : List ℕ) (items : List Item) (spelled : IsText unit (tokens_of source) items) (keeps : unit_fault items ≡ None) where
+module _ (procs source schedule bytes text : List ℕ) (items : List Item) (spelled : IsText unit (tokens_of source) items) (keeps : unit_fault items ≡ None) (count : ℕ) (shown : checked (unit_of items) ≡ Shown count) where
   -- what is printed of the versions is built, narrow, and has names that C keeps
   module _ (ls : List Line) (v : Versions) (read : schedule_of bytes ≡ Some ls) (ran : run_lines ls (started (unit_of items).procedures) ≡ lines.Done v) where
     abbrev with_all : Program
@@ -115,6 +121,8 @@ module _ (procs source schedule bytes text : List ℕ) (items : List Item) (spel
       versions = v;
       spelled = spelled;
       keeps = keeps;
+      count = count;
+      shown = shown;
       read = read;
       ran = ran;
       built = built;
@@ -146,10 +154,19 @@ accepted_is_not_broken : {text : List ℕ} (procs : List ℕ) (place : Option Pl
 accepted_is_not_broken procs None f e = accepted_is_not e
 accepted_is_not_broken procs (Some place) f e = accepted_is_not e
 
+accepted_is_not_refused : (text procs : List ℕ) (line : Path → ℕ) (c : Cause) → Accepted text ≡ refused procs line c → ⊥
+accepted_is_not_refused text procs line (NotListed f) e = accepted_is_not e
+accepted_is_not_refused text procs line (NotShown what path v) e = accepted_is_not e
+
 module _ (procs source schedule bytes text : List ℕ) where
+  by_owed : (items : List Item) → IsText unit (tokens_of source) items → unit_fault items ≡ None → (c : Checked) → checked (unit_of items) ≡ c
+      → Accepted text ≡ owed procs schedule (schedule_of bytes) (unit_of items) (lines_of (places_of source) items) c → Promise source bytes text
+  by_owed items spelled keeps (Shown count) shown e = by_read procs source schedule bytes text items spelled keeps count shown (schedule_of bytes) refl e
+  by_owed items spelled keeps (Open k cause) shown e = absurd (accepted_is_not_refused text procs (line_in (slice_get (unit_of items).procedures k) (slice_get (lines_of (places_of source) items) k)) cause e)
+
   by_rules : (items : List Item) → IsText unit (tokens_of source) items → (o : Option Fault) → unit_fault items ≡ o
       → Accepted text ≡ typed procs schedule (schedule_of bytes) (places_of source) items o → Promise source bytes text
-  by_rules items spelled None keeps e = by_read procs source schedule bytes text items spelled keeps (schedule_of bytes) refl e
+  by_rules items spelled None keeps e = by_owed items spelled keeps (checked (unit_of items)) refl e
   by_rules items spelled (Some f) breaks e = absurd (accepted_is_not_broken procs (slice_get (places_of source) f.token) f e)
 
   -- an accepted text keeps the promise

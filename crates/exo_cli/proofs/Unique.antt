@@ -12,7 +12,8 @@ use Rattle.exo_source.specs.Texts.{tokens_of, places_of}
 use Rattle.exo_source.specs.declared.unit.ReadError.{ReadError}
 use Rattle.exo_source.proofs.Eased.{texts_are_one}
 use Rattle.exo_types.specs.UnitRules.{unit_fault}
-use Rattle.exo_cli.specs.Compiled.{IsCompiled, IsUnread, kind_text, typed}
+use Rattle.exo_cli.specs.Compiled.{IsUnread, kind_text}
+use Rattle.exo_cli.specs.Compiling.{IsCompiled, typed}
 use Rattle.exo_cli.specs.Checking as checking
 use Rattle.exo_cli.specs.Checking.{IsChecked}
 use Rattle.exo_cli.specs.ScheduleForm.{schedule_of}

@@ -27,6 +27,3 @@ pub use outside::{Failed, FileFault, Files, Sink, write_all};
 pub use reply::Reply;
 pub use status::Status;
 pub use work::exoc;
-
-#[cfg(test)]
-mod tests;

@@ -75,18 +75,22 @@ fn reply_to<R: Threads + Sync, F: Files, G: Gate>(
         (F.last_fault files.new) (plain reply)) }
 {
     match read_command(words) {
-        Some(Command::Compile(procs, schedule)) => compile_files(alloc, procs, schedule, files),
+        Some(Command::Compile(procs, schedule)) => {
+            compile_files(rt, alloc, procs, schedule, files, gate)
+        }
         Some(Command::Check(procs)) => check_file(rt, alloc, procs, files, gate),
         None => Ok(Reply::Misused(messages::usage(alloc)?)),
     }
 }
 
 /// What is replied to the command to compile these files.
-fn compile_files<F: Files>(
+fn compile_files<R: Threads + Sync, F: Files, G: Gate>(
+    rt: &R,
     alloc: Global,
     procs: &str,
     schedule: &str,
     files: &mut F,
+    gate: &G,
 ) -> Result<Reply, AllocError>
     ensures { IfOk result (λ reply. IsAnswerTo (Compile procs.now schedule.now) (F.told files.old) (F.faults files.old)
         (F.faults files.new) (F.last_fault files.new) (plain reply)) }
@@ -99,7 +103,7 @@ fn compile_files<F: Files>(
         Ok(text) => text,
         Err(reply) => return Ok(reply),
     };
-    compile(alloc, procs, &unit, schedule, &lines)
+    compile(rt, alloc, procs, &unit, schedule, &lines, gate)
 }
 
 /// What is replied to the command to check this file.
