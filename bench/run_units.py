@@ -5,6 +5,7 @@
 The meaning here is written by itself, from docs/LANGUAGE.md; what a run does to cells is left out, since no fault depends on it.
 Of the units that are refused it counts those that some input does make fault: of a check that refused without cause none would.
 """
+import itertools
 import random
 import subprocess
 import sys
@@ -229,11 +230,14 @@ class Tally:
 
 def main(program, count="200", seed="1"):
     tally = Tally(seed)
-    made = units(int(seed))
+    wanted = int(count)
     with tempfile.TemporaryDirectory() as folder:
-        while tally.accepted < int(count) and not tally.wrong:
-            unit = next(made)
+        for unit in itertools.islice(units(int(seed)), 20 * wanted):
             tally.put(unit, answer(program, unit, folder))
+            if tally.accepted == wanted or tally.wrong:
+                break
+        else:
+            tally.wrong.append(f"of {20 * wanted} units {tally.accepted} are accepted")
     return tally.told()
 
 
