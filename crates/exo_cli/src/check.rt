@@ -9,9 +9,9 @@ ghost use Rattle.obligations.specs.Obligations.{Fault};
 ghost use Rattle.obligations.specs.Outcomes.{IsRefusal};
 ghost use Rattle.unit_check.specs.Checked.{Checked};
 ghost use Rattle.unit_check.specs.Outcomes.{IsRefused};
-ghost use Rattle.exo_cli.specs.Answer.{Rejected, IsVerdict};
+ghost use Rattle.unit_check.specs.declared.refused.Why.TheVariants.{Memory};
+ghost use Rattle.exo_cli.specs.Answer.{IsVerdict};
 ghost use Rattle.exo_cli.specs.Checking.{IsChecked, fault_text, form_text, told, typed, well_formed, verdict_text};
-ghost use Rattle.exo_cli.specs.Messages.{unit_refused, not_shown};
 ghost use Rattle.exo_cli.specs.Replies.{plain};
 
 use crate::compile::{refuse_rule, refuse_text};
@@ -116,7 +116,7 @@ fn check_typed<R: Threads + Sync, G: Gate>(
 }
 
 /// The unit of this file is not shown.
-fn refuse_unit(
+pub(crate) fn refuse_unit(
     alloc: Global,
     name: &str,
     unit: &Unit,
@@ -124,43 +124,16 @@ fn refuse_unit(
 ) -> Result<Reply, AllocError>
     ensures answer { (c : Checked) → IsRefused refused.now c → IfOk result (λ reply. plain reply ≡ told name.now (program unit.now) unit.now.lines c) }
     ensures verdict { IfOk result (λ reply. IsVerdict (plain reply)) }
+    ensures cause { IfOk result (λ _. refused.now.why ≢ Memory) }
 {
     let line = line_of(unit, refused);
-    match &refused.why {
-        Why::Memory => Err(AllocError),
-        Why::Check(e) => refuse_listing(alloc, name, line, *e),
+    let message = match &refused.why {
+        Why::Memory => return Err(AllocError),
+        Why::Check(e) => messages::unit_refused(alloc, name, line, check_text(*e))?,
         Why::NotShown { what, verdict, .. } => {
-            refuse_claim(alloc, name, line, what.as_str(), *verdict)
+            messages::not_shown(alloc, name, line, what.as_str(), verdict_text(*verdict))?
         }
-    }
-}
-
-/// The obligations of the procedure whose `def` stands at that line can't be listed.
-fn refuse_listing(
-    alloc: Global,
-    name: &str,
-    line: u32,
-    error: CheckError,
-) -> Result<Reply, AllocError>
-    ensures answer { (f : Fault) → error ≢ CheckError.Memory → IsRefusal error (Some f) → IfOk result (λ reply. plain reply ≡ Rejected (unit_refused name.now line (fault_text f))) }
-    ensures verdict { IfOk result (λ reply. IsVerdict (plain reply)) }
-{
-    let message = messages::unit_refused(alloc, name, line, check_text(error))?;
-    Ok(Reply::Rejected(message))
-}
-
-/// What is owed at that line is not shown.
-fn refuse_claim(
-    alloc: Global,
-    name: &str,
-    line: u32,
-    what: &str,
-    verdict: Verdict,
-) -> Result<Reply, AllocError>
-    ensures answer { IfOk result (λ reply. plain reply ≡ Rejected (not_shown name.now line what.now (verdict_text verdict))) }
-    ensures verdict { IfOk result (λ reply. IsVerdict (plain reply)) }
-{
-    let message = messages::not_shown(alloc, name, line, what, verdict_text(verdict))?;
+    };
     Ok(Reply::Rejected(message))
 }
 

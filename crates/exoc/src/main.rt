@@ -22,6 +22,14 @@ fn main(rt: HostRuntime) -> ExitCode {
     let mut files = DiskFiles::new(rt);
     let mut out = StdSink::new(rt.stdout());
     let mut err = StdSink::new(rt.stderr());
-    let status = exoc(&rt, rt.alloc(), &words, &mut files, &mut out, &mut err, &Free);
+    let status = exoc(
+        &rt,
+        rt.alloc(),
+        &words,
+        &mut files,
+        &mut out,
+        &mut err,
+        &Free,
+    );
     ExitCode::from(status.number())
 }

@@ -85,7 +85,7 @@ mutual
   step_ids (View w x coords) = refl
   step_ids (Call k args) = refl
 
-all_ids : (p : Procedure) → map (λ z. z.id) (all_binders p) ≡ bound_ids p
+pub all_ids : (p : Procedure) → map (λ z. z.id) (all_binders p) ≡ bound_ids p
 all_ids p = map_append (param_binders p.params) (binders_in p.body) ∙ ap (λ r. r ++ map (λ z. z.id) (binders_in p.body)) (param_ids p.params) ∙ ap (λ r. map (λ q. q.binder.id) p.params ++ r) (block_ids p.body)
 
 -- ---- names that don't clash

@@ -1,11 +1,13 @@
 -- The C of each printed procedure follows it.
-use Rattle.std.proofs.Common.{◌≡◌, ◌≤◌, ◌<◌, ◌+◌, ◌^◌, ◌++◌, ℕ, zero, suc, ℤ, nat_lt, Bool, true, false, not, ◌&&◌, ◌||◌, cond, List, [], ◌∷◌, length, Option, Some, None, slice_get, refl, sym, ap, ◌∙◌, subst, arith, true≢false}
-use Rattle.std.specs.Prelude.{⊤}
+use Rattle.std.proofs.Common.{◌≡◌, ◌≤◌, ◌<◌, ◌+◌, ◌^◌, ◌++◌, ℕ, zero, suc, ℤ, nat_lt, Bool, true, false, not, ◌&&◌, ◌||◌, cond, List, [], ◌∷◌, length, map, Option, Some, None, slice_get, refl, sym, ap, ◌∙◌, subst, arith, true≢false, eqb, eqb-true}
+use Rattle.std.specs.Prelude.{⊤, ◌==◌}
+use Rattle.std.specs.List.{list_any, list_all, IsDistinct, AllByRecursion}
+use Rattle.std.proofs.lemmas.Map.Steps.{length-le_from_distinct_below}
 use Rattle.std.proofs.lemmas.Bool.{and_parts, and_from}
 use Rattle.exo_tree.specs.Tree.{Kind, Binder, Procedure, Program, MemoryKind, ConfigField}
 use Rattle.exo_meaning.specs.Value.{Value, Undefined, Number, IsRefinedBy}
 use Rattle.exo_meaning.specs.Inputs.{run_procedure}
-use Rattle.exo_meaning.specs.Units.{sort_in, scope_of, field_kind}
+use Rattle.exo_meaning.specs.Units.{sort_in, scope_of, field_kind, bound_ids, are_distinct}
 use Rattle.c_names.specs.Binders.{all_binders, param_binders, binders_in, c_names, names_of}
 use Rattle.c_widths.specs.Widths.{most_of, have_narrow_dims, are_narrow_tests, is_narrow_block, is_narrow_procedure}
 use Rattle.c_printer.specs.CTree.{Name}
@@ -20,11 +22,11 @@ use Rattle.c_lowering.specs.SelfContained.{are_no_windows, is_alone_block, is_se
 use Rattle.c_lowering.specs.Refusals.{is_wide, or_else, too_wide}
 use Rattle.lowering_laws.specs.Laws.{declared_in, naming_of, AreLowered, IsListed, IsSameStart, LeavesTheSame, UnitsFollow}
 use Rattle.lowering_laws.proofs.Rules.{Stands, Fits}
-use Rattle.lowering_laws.proofs.Good.{AreIn, AreNamed, front_in, rear_in, good_block}
+use Rattle.lowering_laws.proofs.Good.{AreIn, AreNamed, not_true, front_in, rear_in, good_block}
 use Rattle.lowering_laws.proofs.UsedFields.{block_there, is_there}
 use Rattle.lowering_laws.proofs.Params.{merged, none, merged_none, params_fit, good_params, params_in, params_alike}
-use Rattle.lowering_laws.proofs.Free.{room}
-use Rattle.lowering_laws.proofs.CNames.{all_in, are_named}
+use Rattle.lowering_laws.proofs.Free.{room, or_false}
+use Rattle.lowering_laws.proofs.CNames.{all_in, all_ids, are_named}
 
 some_same : {A : Type 0} {a b : A} → Some a ≡ Some b → a ≡ b
 some_same e = cc
@@ -73,6 +75,29 @@ function_there program globals (v ∷ what) (suc k) w e = function_there program
 
 -- ---- how many names there are
 
+distinct_too : (xs : List ℕ) → are_distinct xs ≡ true → IsDistinct eqb xs
+unfolding IsDistinct
+distinct_too [] h = tt
+distinct_too (x ∷ xs) h = let p = and_parts (not (list_any (λ y. x == y) xs)) (are_distinct xs) h in (others xs (not_true _ p.0), distinct_too xs p.1)
+  where
+    others : (ys : List ℕ) → list_any (λ y. x == y) ys ≡ false → AllByRecursion (λ y. eqb x y ≡ false) ys
+    others [] e = tt
+    others (y ∷ ys) e = let q = or_false (x == y) _ e in (q.0, others ys q.1)
+
+below_all : (n : ℕ) (xs : List ℕ) → list_all (λ x. nat_lt x n) xs ≡ true → (q : ℕ) → list_any (eqb q) xs ≡ true → q < n
+below_all n [] h q k = absurd (true≢false (sym k))
+below_all n (x ∷ xs) h q k =
+    let p = and_parts (nat_lt x n) (list_all (λ y. nat_lt y n) xs) h in
+    go (eqb q x) refl k p.0 (below_all n xs p.1 q)
+  where
+    go : (t : Bool) → eqb q x ≡ t → (t || list_any (eqb q) xs) ≡ true → nat_lt x n ≡ true → (list_any (eqb q) xs ≡ true → q < n) → q < n
+    go true e i b rest = subst (λ z. z < n) (sym (eqb-true q x e)) (grind arith)
+    go false e i b rest = rest i
+
+-- ids of binders are apart and below 2 ^ 31, so there are no more of them
+few_ids : (xs : List ℕ) → are_distinct xs ≡ true → list_all (λ x. nat_lt x (2 ^ 31)) xs ≡ true → length xs ≤ 2 ^ 31
+few_ids xs d h = length-le_from_distinct_below xs (2 ^ 31) (distinct_too xs d) (below_all (2 ^ 31) xs h)
+
 few_fields : (used : ℕ → Bool) (k : ℕ) (fields : List ConfigField) → length (fields_from used k fields) ≤ length fields
 few_fields used k [] = omega arith
 few_fields used k (f ∷ fields) = go (used k) (few_fields used (suc k) fields)
@@ -94,6 +119,10 @@ long_both (x ∷ xs) ys = let r = long_both xs ys in omega arith
 refined : (u v : Value) → IsHeld u v → IsRefinedBy u v
 refined Undefined v h = tt
 refined (Number n) v h = sym h.0
+
+long_ids : (bs : List Binder) → length bs ≡ length (map (λ z. z.id) bs)
+long_ids [] = refl
+long_ids (b ∷ bs) = ap suc (long_ids bs)
 
 names_long : (bs : List Binder) → length (names_of bs) ≡ length bs
 names_long [] = refl
@@ -132,6 +161,8 @@ module _ (program : Program) (what : List Printing) (k : ℕ) (p : Procedure) (l
       let b = printed_long program what in
       let c = few_fields (is_used program what) 0 program.fields in
       let d = names_long (all_binders p) in
+      let e = long_ids (all_binders p) ∙ ap length (all_ids p) in
+      let f = few_ids (bound_ids p) place.rules.distinct place.rules.ids in
       omega (arith, place.fields, place.few)
 
   named : AreNamed naming declared (all_binders p)

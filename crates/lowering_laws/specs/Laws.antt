@@ -1,5 +1,5 @@
 -- The C of lowered procedures does what they do.
-use Rattle.std.specs.Prelude.{◌≡◌, ◌<◌, ◌+◌, ◌^◌, ℕ, ℤ, nat_lt, Bool, true, ◌&&◌, List, length, Option, Some, None, slice_get}
+use Rattle.std.specs.Prelude.{◌≡◌, ◌<◌, ◌^◌, ℕ, ℤ, nat_lt, Bool, true, ◌&&◌, List, length, Option, Some, None, slice_get}
 use Rattle.exo_tree.specs.Tree.{Procedure, Program}
 use Rattle.exo_meaning.specs.Value.{IsRefinedBy}
 use Rattle.exo_meaning.specs.Scene.{Shape}
@@ -8,7 +8,7 @@ use Rattle.exo_meaning.specs.Inputs.{IsAdmissible, run_procedure}
 use Rattle.exo_meaning.specs.Run.{World}
 use Rattle.exo_meaning.specs.Calls.{Callee}
 use Rattle.exo_meaning.specs.Units.{field_kind, IsProcedure}
-use Rattle.c_names.specs.Binders.{all_binders, c_names}
+use Rattle.c_names.specs.Binders.{c_names}
 use Rattle.c_widths.specs.Widths.{most_of}
 use Rattle.c_printer.specs.CTree.{CFunction}
 use Rattle.c_printer.specs.CRun.{CWorld, run_c}
@@ -35,7 +35,7 @@ pub record AreLowered (program : Program) (what : List Printing) : Type 0 where
   pub narrow : too_wide program what ≡ None
   pub named : name_clash program what ≡ None
 
--- A procedure keeps the rules among the fields and memories of the program, and of names there are fewer than 2 ^ 62.
+-- A procedure keeps the rules among the fields and memories of the program, and fewer than 2 ^ 31 are printed.
 pub record IsListed (program : Program) (what : List Printing) (k : ℕ) (p : Procedure) : Type 0 where
   pub printing : Printing
   pub listed : slice_get what k ≡ Some printing
@@ -43,7 +43,7 @@ pub record IsListed (program : Program) (what : List Printing) (k : ℕ) (p : Pr
   pub callees : ℕ → Option Callee
   pub rules : IsProcedure (field_kind program.fields) (length program.memories) callees p
   pub fields : length program.fields < 2 ^ 31
-  pub few : length what + length (all_binders p) < 2 ^ 62
+  pub few : length what < 2 ^ 31
 
 -- One input for a procedure and for its C: each argument is an object of its own, dense and row-major, with the same cells, and each
 -- field that the C declares has the same number.
