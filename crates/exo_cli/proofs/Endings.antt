@@ -6,9 +6,10 @@ use Rattle.exo_cli.specs.declared.status.Status.{Status}
 use Rattle.exo_cli.specs.declared.status.Status.TheVariants.{Ok, Usage, ReadFault, WriteFault, Memory}
 use Rattle.exo_cli.specs.Outside.{Folder, content_of, HasBytes, Rose, with_more, StopsWithin}
 use Rattle.exo_cli.specs.Messages.{usage, file_refused}
-use Rattle.exo_cli.specs.Words.{Command, Compile, command_of, files_of}
+use Rattle.exo_cli.specs.Words.{Command, Compile, Check, command_of, files_of}
 use Rattle.exo_cli.specs.Answer.{Answer, Accepted, Rejected, Unread, Misused, status_of, for_out, for_err, IsVerdict}
 use Rattle.exo_cli.specs.Compiled.{IsCompiled}
+use Rattle.exo_cli.specs.Checking.{IsChecked}
 use Rattle.exo_cli.specs.Work.{file_limit, Opens, AnswersTo, Answers, operands, IsReadFault, IsAnswerTo, IsAnswer, EndsAt, Moment, OutFails, ErrFails, Ends}
 use Rattle.exo_cli.proofs.Taking.{with_more-nothing}
 
@@ -64,6 +65,18 @@ compiled-answers (Some files) procs schedule unit lines before after last (Rejec
     (opened-within (content_of files schedule) schedule lines (λ l. IsCompiled procs unit schedule l) (Rejected message) also less compiled)
 compiled-answers told procs schedule unit lines before after last (Unread message) held short also less compiled verdict = absurd verdict
 compiled-answers told procs schedule unit lines before after last (Misused message) held short also less compiled verdict = absurd verdict
+
+-- the file to check is read
+pub checked-answers : (told : Option Folder) (procs text : List ℕ) (before after : ℕ) (last : Option (List ℕ)) (reply : Answer)
+    → HasBytes told procs text → length text ≤ file_limit → IsChecked procs text reply → IsVerdict reply → IsAnswerTo (Check procs) told before after last reply
+checked-answers None procs text before after last (Accepted out) held short checked verdict = tt
+checked-answers None procs text before after last (Rejected message) held short checked verdict = tt
+checked-answers (Some files) procs text before after last (Accepted out) held short checked verdict =
+    opened-within (content_of files procs) procs text (IsChecked procs) (Accepted out) held short checked
+checked-answers (Some files) procs text before after last (Rejected message) held short checked verdict =
+    opened-within (content_of files procs) procs text (IsChecked procs) (Rejected message) held short checked
+checked-answers told procs text before after last (Unread message) held short checked verdict = absurd verdict
+checked-answers told procs text before after last (Misused message) held short checked verdict = absurd verdict
 
 -- the words are no command
 pub misused : (asked : Option Command) (told : Option Folder) (before after : ℕ) (last : Option (List ℕ)) (message : List ℕ)

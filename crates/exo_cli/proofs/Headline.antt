@@ -1,5 +1,5 @@
 -- What stands behind the C that is printed.
-use Rattle.std.proofs.Common.{◌≡◌, ◌≢◌, MatchBool, MatchOption, IfSome, nat_lt, length, if◌then◌else◌, codes, ⊎_elim, ℕ, zero, suc, true, false, true≢false, Bool, List, [], ◌∷◌, slice_get, Option, Some, None, option_map, refl, sym, ap, ◌∙◌, subst}
+use Rattle.std.proofs.Common.{◌≡◌, ◌≢◌, MatchBool, MatchOption, IfSome, nat_lt, length, if◌then◌else◌, codes, ◌⊎◌, inl, inr, ⊎_elim, ℕ, zero, suc, true, false, true≢false, Bool, List, [], ◌∷◌, slice_get, Option, Some, None, option_map, refl, sym, ap, ◌∙◌, subst}
 use Rattle.std.proofs.lemmas.Option.{slice_get-map}
 use Rattle.std.proofs.lemmas.Bool.{and_parts}
 use Rattle.exo_tree.specs.Tree.{Procedure, Program}
@@ -23,7 +23,7 @@ use Rattle.exo_cli.specs.declared.status.Status.{Status}
 use Rattle.exo_cli.specs.declared.status.Status.TheVariants.{Ok, Refused, Usage, ReadFault, WriteFault, Memory}
 use Rattle.exo_cli.specs.Outside.{Folder, content_of, with_more}
 use Rattle.exo_cli.specs.Messages.{usage, file_refused}
-use Rattle.exo_cli.specs.Words.{Command, Compile, command_of}
+use Rattle.exo_cli.specs.Words.{Command, Compile, Check, command_of}
 use Rattle.exo_cli.specs.Work.{file_limit, Opens, AnswersTo, Answers, Moment, Ends}
 use Rattle.exo_cli.specs.Answer.{Answer, Accepted, Rejected, Unread, Misused, status_of, for_out, for_err}
 use Rattle.exo_cli.specs.Compiled.{IsCompiled, broken, not_built, typed, by_names, by_width, ended, scheduled, started, printing_of, printings, with_versions}
@@ -33,8 +33,10 @@ use Rattle.exo_cli.specs.Lines.{Versions, Outcome, run_lines}
 use Rattle.exo_cli.specs.ScheduleForm.{schedule_of}
 use Rattle.exo_cli.specs.Kept.{IsVersionOf, HasOrigin, AreVersions}
 use Rattle.exo_cli.specs.Headline.{DoesWhat, IsPrinted, Promise, Promised}
+use Rattle.exo_cli.specs.Counted.{Counted}
 use Rattle.exo_cli.specs.declared.lines.Line.{Line}
 use Rattle.exo_cli.proofs.Kept.{nothing_there, some_is, index_is, runs_alike, schedules_run_alike}
+use Rattle.exo_cli.proofs.Counted.{counted}
 
 -- each listed procedure is there
 listed_is_there : (program : Program) (what : List Printing) (k : ℕ) (w : Printing) → are_self_contained program what ≡ true → slice_get what k ≡ Some w
@@ -192,16 +194,17 @@ module _ (words : List (List ℕ)) (files : Folder) (before after : Option (List
       go true e = absurd (accepted_is_not e)
       go false e = by_schedule procs schedule bytes asked there (content_of files schedule) refl e
 
-  by_words : (asked : Option Command) → command_of words ≡ asked → MatchOption asked (Accepted text ≡ Misused usage) (λ command. AnswersTo command files (Accepted text)) → Promised words files before after
+  by_words : (asked : Option Command) → command_of words ≡ asked → MatchOption asked (Accepted text ≡ Misused usage) (λ command. AnswersTo command files (Accepted text)) → Promised words files before after ⊎ Counted words files before after
   by_words None is e = absurd (accepted_is_not_misused e)
     where
       accepted_is_not_misused : {t m : List ℕ} → Accepted t ≡ Misused m → ⊥
       accepted_is_not_misused e = cc
-  by_words (Some (Compile procs schedule)) is e = by_unit procs schedule is (content_of files procs) refl e
+  by_words (Some (Compile procs schedule)) is e = inl (by_unit procs schedule is (content_of files procs) refl e)
+  by_words (Some (Check procs)) is e = inr (counted words files before after text procs written is e)
 
 -- an answer that ends well is accepted
 by_answer : (words : List (List ℕ)) (files : Folder) (before after : Option (List ℕ)) (answer : Answer) → Answers words files answer → Ok ≡ status_of answer → after ≡ with_more before (for_out answer)
-    → Promised words files before after
+    → Promised words files before after ⊎ Counted words files before after
 by_answer words files before after (Accepted text) answers ok written = by_words words files before after text written (command_of words) refl answers
 by_answer words files before after (Rejected message) answers ok written = absurd (let e : Ok ≡ Refused = ok in cc)
 by_answer words files before after (Unread message) answers ok written = absurd (let e : Ok ≡ ReadFault = ok in cc)
@@ -218,11 +221,11 @@ not_write_fault e = cc
 
 -- what the program writes where it ends well keeps the promise
 pub ends_promised : (words : List (List ℕ)) (before after : Moment) (status : Status) → Ends words before after status → status ≡ Ok
-    → IfSome before.told (λ files. Promised words files before.out after.out)
+    → IfSome before.told (λ files. Promised words files before.out after.out ⊎ Counted words files before.out after.out)
 ends_promised words before after status ends ok = told before.told (subst (λ s. Ends words before after s) ok ends).told
   where
     told : (o : Option Folder) → (Ok ≢ Memory → Ok ≢ ReadFault → Ok ≢ WriteFault → IfSome o (λ files.
         (answer : Answer) × Answers words files answer × (Ok ≡ status_of answer) × (after.out ≡ with_more before.out (for_out answer)) × (after.err ≡ with_more before.err (for_err answer))))
-        → IfSome o (λ files. Promised words files before.out after.out)
+        → IfSome o (λ files. Promised words files before.out after.out ⊎ Counted words files before.out after.out)
     told None h = tt
     told (Some files) h = let a = h not_memory not_read_fault not_write_fault in by_answer words files before.out after.out a.0 a.1 a.2 a.3

@@ -9,5 +9,7 @@ pub mod Kept
 pub mod Rules
 pub mod Forwarding
 pub mod Unique
+pub mod Refusing
+pub mod Counted
 pub mod Headline
 pub mod Starting

@@ -11,6 +11,8 @@ use Rattle.exo_source.specs.Texts.{tokens_of, places_of}
 use Rattle.exo_names.specs.declared.fault.Fault.{Fault}
 use Rattle.exo_types.specs.UnitRules.{unit_fault, unit_of}
 use Rattle.exo_types.specs.UnitLines.{lines_of}
+use Rattle.affine_forms.specs.declared.error.FormError.{FormError}
+use Rattle.affine_forms.specs.declared.error.FormError.TheVariants as form
 use Rattle.affine_prover.specs.declared.answer.Verdict.{Verdict}
 use Rattle.affine_prover.specs.declared.answer.Verdict.TheVariants as verdict
 use Rattle.obligations.specs.Obligations as listed
@@ -19,6 +21,13 @@ use Rattle.unit_check.specs.Preorder.{line_in}
 use Rattle.exo_cli.specs.Answer.{Answer, Accepted, Rejected}
 use Rattle.exo_cli.specs.Messages as messages
 use Rattle.exo_cli.specs.Compiled.{IsUnread, broken}
+
+abbrev pub form_text : FormError → List ℕ
+form_text form.TooManyCases = codes "TooManyCases"
+form_text form.SystemTooLarge = codes "SystemTooLarge"
+form_text form.WideNumber = codes "WideNumber"
+form_text form.TooManySystems = codes "TooManySystems"
+form_text form.Memory = codes "Memory"
 
 abbrev pub fault_text : listed.Fault → List ℕ
 fault_text listed.Wide = codes "WideNumber"

@@ -18,3 +18,4 @@ pub mod Work
 pub mod Kept
 pub mod Moves
 pub mod Headline
+pub mod Counted

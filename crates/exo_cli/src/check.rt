@@ -1,10 +1,16 @@
 // From the text of a unit to whether its procedures show what they owe.
-ghost use Rattle.std.specs.Prelude.{◌≡◌, ◌≤◌, length, IfOk};
+ghost use Rattle.std.specs.Prelude.{◌≡◌, ◌≢◌, ◌≤◌, length, IfOk, None, Some};
 ghost use Rattle.exo_tree.specs.PlainUnit.{program};
 ghost use Rattle.exo_meaning.specs.Units.{IsUnit};
 ghost use Rattle.exo_types.specs.Typed.{IsPlaced, items_of};
-ghost use Rattle.exo_types.specs.UnitRules.{unit_fault};
-ghost use Rattle.exo_cli.specs.Checking.{IsChecked, typed, well_formed, verdict_text};
+ghost use Rattle.exo_types.specs.UnitRules.{unit_fault, unit_of};
+ghost use Rattle.obligations.specs.Obligations.{Fault};
+ghost use Rattle.obligations.specs.Outcomes.{IsRefusal};
+ghost use Rattle.unit_check.specs.Checked.{Checked};
+ghost use Rattle.unit_check.specs.Outcomes.{IsRefused};
+ghost use Rattle.exo_cli.specs.Answer.{Rejected, IsVerdict};
+ghost use Rattle.exo_cli.specs.Checking.{IsChecked, fault_text, form_text, told, typed, well_formed, verdict_text};
+ghost use Rattle.exo_cli.specs.Messages.{unit_refused, not_shown};
 ghost use Rattle.exo_cli.specs.Replies.{plain};
 
 use crate::compile::{refuse_rule, refuse_text};
@@ -12,8 +18,10 @@ use crate::messages;
 use crate::reply::Reply;
 use affine_forms::FormError;
 use affine_prover::Verdict;
+use exo_formed::laws::read_units_are_formed;
 use exo_source::unit::{Source, read_unit};
 use exo_tree::Unit;
+use exo_types::laws::read_texts_are_placed;
 use exo_types::unit::check_types;
 use ob_check::{Gate, new_cache};
 use obligations::CheckError;
@@ -30,8 +38,11 @@ pub(crate) fn check<R: Threads + Sync, G: Gate>(
     gate: &G,
 ) -> Result<Reply, AllocError>
     requires { length text.now ≤ 1048576 }
-    ensures { IfOk result (λ reply. IsChecked name.now text.now (plain reply)) }
+    ensures answer { IfOk result (λ reply. IsChecked name.now text.now (plain reply)) }
+    ensures verdict { IfOk result (λ reply. IsVerdict (plain reply)) }
 {
+    read_texts_are_placed();
+    read_units_are_formed();
     match read_unit(alloc, text) {
         Ok(source) => check_source(rt, alloc, name, &source, gate),
         Err(e) => refuse_text(alloc, name, e),
@@ -46,8 +57,10 @@ fn check_source<R: Threads + Sync, G: Gate>(
     source: &Source,
     gate: &G,
 ) -> Result<Reply, AllocError>
-    requires { IsPlaced source.now }
-    ensures { IfOk result (λ reply. plain reply ≡ typed name.now source.now.places.items (items_of source.now) (unit_fault (items_of source.now))) }
+    requires placed { IsPlaced source.now }
+    requires formed { unit_fault (items_of source.now) ≡ None → IsUnit (unit_of (items_of source.now)) }
+    ensures answer { IfOk result (λ reply. plain reply ≡ typed name.now source.now.places.items (items_of source.now) (unit_fault (items_of source.now))) }
+    ensures verdict { IfOk result (λ reply. IsVerdict (plain reply)) }
 {
     match check_types(alloc, source) {
         Ok(unit) => check_typed(rt, alloc, name, &unit, gate),
@@ -64,7 +77,8 @@ fn check_typed<R: Threads + Sync, G: Gate>(
     gate: &G,
 ) -> Result<Reply, AllocError>
     requires { IsUnit (program unit.now) }
-    ensures { IfOk result (λ reply. plain reply ≡ well_formed name.now (program unit.now) unit.now.lines) }
+    ensures answer { IfOk result (λ reply. plain reply ≡ well_formed name.now (program unit.now) unit.now.lines) }
+    ensures verdict { IfOk result (λ reply. IsVerdict (plain reply)) }
 {
     let mut cache = new_cache(alloc)?;
     match check_unit(rt, alloc, unit, &mut cache, gate) {
@@ -79,20 +93,53 @@ fn refuse_unit(
     name: &str,
     unit: &Unit,
     refused: &UnitRefused,
-) -> Result<Reply, AllocError> {
+) -> Result<Reply, AllocError>
+    ensures answer { (c : Checked) → IsRefused refused.now c → IfOk result (λ reply. plain reply ≡ told name.now (program unit.now) unit.now.lines c) }
+    ensures verdict { IfOk result (λ reply. IsVerdict (plain reply)) }
+{
     let line = line_of(unit, refused);
-    let message = match &refused.why {
-        Why::Memory => return Err(AllocError),
-        Why::Check(e) => messages::unit_refused(alloc, name, line, check_text(*e))?,
+    match &refused.why {
+        Why::Memory => Err(AllocError),
+        Why::Check(e) => refuse_listing(alloc, name, line, *e),
         Why::NotShown { what, verdict, .. } => {
-            messages::not_shown(alloc, name, line, what.as_str(), verdict_text(*verdict))?
+            refuse_claim(alloc, name, line, what.as_str(), *verdict)
         }
-    };
+    }
+}
+
+/// The obligations of the procedure whose `def` stands at that line can't be listed.
+fn refuse_listing(
+    alloc: Global,
+    name: &str,
+    line: u32,
+    error: CheckError,
+) -> Result<Reply, AllocError>
+    ensures answer { (f : Fault) → error ≢ CheckError.Memory → IsRefusal error (Some f) → IfOk result (λ reply. plain reply ≡ Rejected (unit_refused name.now line (fault_text f))) }
+    ensures verdict { IfOk result (λ reply. IsVerdict (plain reply)) }
+{
+    let message = messages::unit_refused(alloc, name, line, check_text(error))?;
+    Ok(Reply::Rejected(message))
+}
+
+/// What is owed at that line is not shown.
+fn refuse_claim(
+    alloc: Global,
+    name: &str,
+    line: u32,
+    what: &str,
+    verdict: Verdict,
+) -> Result<Reply, AllocError>
+    ensures answer { IfOk result (λ reply. plain reply ≡ Rejected (not_shown name.now line what.now (verdict_text verdict))) }
+    ensures verdict { IfOk result (λ reply. IsVerdict (plain reply)) }
+{
+    let message = messages::not_shown(alloc, name, line, what, verdict_text(verdict))?;
     Ok(Reply::Rejected(message))
 }
 
 /// The cause for which obligations can't be listed, as messages have it.
-fn check_text(error: CheckError) -> &'static str {
+fn check_text(error: CheckError) -> &'static str
+    ensures { (f : Fault) → error ≢ CheckError.Memory → IsRefusal error (Some f) → result.now ≡ fault_text f }
+{
     match error {
         CheckError::TooManyObligations => "TooManyObligations",
         CheckError::Form(form) => form_text(form),
@@ -101,7 +148,9 @@ fn check_text(error: CheckError) -> &'static str {
 }
 
 /// The cause for which a claim has no systems, as messages have it.
-fn form_text(error: FormError) -> &'static str {
+fn form_text(error: FormError) -> &'static str
+    ensures { result.now ≡ form_text error }
+{
     match error {
         FormError::TooManyCases => "TooManyCases",
         FormError::SystemTooLarge => "SystemTooLarge",

@@ -1,6 +1,7 @@
 // The order of the work: the words, the files, what their texts give, and then what is written.
-ghost use Rattle.std.specs.Prelude.{◌≡◌, ◌≤◌, IfOk, IfSome, MatchResult, length};
+ghost use Rattle.std.specs.Prelude.{◌≡◌, ◌≤◌, ◌⊎◌, IfOk, IfSome, MatchResult, length};
 ghost use Rattle.exo_cli.specs.Headline.{Promised};
+ghost use Rattle.exo_cli.specs.Counted.{Counted};
 ghost use Rattle.exo_cli.specs.Outside.{HasBytes};
 ghost use Rattle.exo_cli.specs.Words.{Compile, Check, texts};
 ghost use Rattle.exo_cli.specs.Replies.{plain};
@@ -51,7 +52,8 @@ pub fn exoc<R: Threads + Sync, F: Files, O: Sink, E: Sink, G: Gate>(
           err_faults = E.faults err.new;
         })
         result }
-    ensures promise { result ≡ Status.Ok → IfSome (F.told files.old) (λ folder. Promised (texts words.now) folder (O.taken out.old) (O.taken out.new)) }
+    ensures promise { result ≡ Status.Ok → IfSome (F.told files.old) (λ folder.
+        Promised (texts words.now) folder (O.taken out.old) (O.taken out.new) ⊎ Counted (texts words.now) folder (O.taken out.old) (O.taken out.new)) }
 {
     match reply_to(rt, alloc, words, files, gate) {
         Ok(reply) => reply.deliver(out, err),

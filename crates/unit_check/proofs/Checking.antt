@@ -3,13 +3,14 @@ use Rattle.std.proofs.Common.{◌≡◌, ℕ, suc, ◌+◌, ◌^◌, ◌<◌, �
 use Rattle.std.specs.Prelude.{Err, slice_get, nat_lt}
 use Rattle.std.proofs.lemmas.Bool.{and_parts, ltb-true}
 use Rattle.std.proofs.lemmas.List.{take_more, take_all}
-use Rattle.std.proofs.lemmas.Option.{slice_get_cases}
+use Rattle.std.proofs.lemmas.Option.{slice_get_cases, slice_get_within, get_or_from_slice_get}
 use Rattle.std.proofs.lemmas.List.Elements.{All-push}
 use Rattle.exo_tree.specs.Tree.{Procedure, Program}
 use Rattle.exo_meaning.specs.Units.{IsUnit}
 use Rattle.affine_forms.specs.Affine.{HasNoIntegerPoint}
 use Rattle.affine_systems.specs.Outcomes.{Owed}
 use Rattle.obligations.specs.Obligations.{obligations_of}
+use Rattle.fault_laws.specs.Laws.{ShownProceduresDoNotFault, NothingFaults}
 use Rattle.unit_check.specs.Checked.{Cause, Checked, Shown, Refused, cause_of, checked_from, checked}
 use Rattle.unit_check.specs.Outcomes.{IsRefused, Answers}
 use Rattle.unit_check.specs.declared.refused.UnitRefused.{UnitRefused}
@@ -91,3 +92,7 @@ more_hold u k h before holds =
 
 pub all_hold : (u : Program) (k : ℕ) → length u.procedures ≤ k → All (Holds u) (take k u.procedures) → All (Holds u) u.procedures
 all_hold u k h before = subst (All (Holds u)) (take_all k u.procedures h) before
+
+-- where nothing that is owed has an integer point, nothing faults
+pub nothing_faults : ShownProceduresDoNotFault → (u : Program) → IsUnit u → All (Holds u) u.procedures → NothingFaults u
+nothing_faults law u is hold k = law u k is (λ j leads p here. subst (Holds u) (get_or_from_slice_get u.procedures j p p here) (hold j p (slice_get_within u.procedures j p here)))

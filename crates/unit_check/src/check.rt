@@ -13,11 +13,13 @@ ghost use Rattle.unit_check.specs.declared.refused.Why.TheVariants.{Memory};
 ghost use Rattle.obligations.specs.Outcomes.{IsRefusal};
 ghost use Rattle.unit_check.specs.Checked.{NotShown, NotListed, first_open, cause_of, checked, AllHold};
 ghost use Rattle.unit_check.specs.Outcomes.{IsChecked, Answers, IsOf};
+ghost use Rattle.fault_laws.specs.Laws.{NothingFaults};
 
 use crate::refused::{UnitRefused, Why};
 use affine_prover::Verdict;
 use affine_systems::Obligation;
 use exo_tree::{Path, ProcId, Text, Unit};
+use fault_laws::laws::shown_procedures_do_not_fault;
 use ob_check::{Answer, Cache, Gate, discharge};
 use obligations::{CheckError, obligations};
 use std::alloc::{AllocError, Global};
@@ -117,6 +119,7 @@ fn check_procedure<R: Threads + Sync, G: Gate>(
 ///
 /// The first procedure that is refused ends the work: by `Check` where its obligations can't be listed, by `NotShown` with
 /// the first obligation whose system is not shown to have no integer point. What the cache held changes no answer.
+/// After Ok no admissible input makes any procedure of the unit fault.
 pub fn check_unit<R: Threads + Sync, G: Gate>(
     rt: &R,
     alloc: Global,
@@ -127,7 +130,9 @@ pub fn check_unit<R: Threads + Sync, G: Gate>(
     requires { IsUnit (program unit.now) }
     ensures exact { IsChecked result (checked (program unit.now)) }
     ensures shown { IfOk result (λ _. AllHold (program unit.now)) }
+    ensures no_fault { IfOk result (λ _. NothingFaults (program unit.now)) }
 {
+    shown_procedures_do_not_fault();
     let mut count = 0;
     for k in 0..unit.procs.len() {
         count += check_procedure(rt, alloc, unit, ProcId(k as u32), cache, gate)?;

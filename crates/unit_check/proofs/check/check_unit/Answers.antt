@@ -1,7 +1,7 @@
 use Rattle.std.proofs.Common.{◌<◌, length, arith}
 use Rattle.std.proofs.lemmas.Result.{err_from_is_err_and}
 use Rattle.exo_tree.specs.PlainUnit.{program}
-use Rattle.unit_check.proofs.Checking.{went_on, stopped, more_hold, all_hold}
+use Rattle.unit_check.proofs.Checking.{went_on, stopped, more_hold, all_hold, nothing_faults}
 use Rattle.unit_check.proofs.check.check_unit.Goals as goal
 
 pub returns-in_err-count-clause-exact : goal.returns-in_err-count-clause-exact
@@ -21,3 +21,8 @@ loop-k-preserved g c =
 
 pub returns-clause-shown : goal.returns-clause-shown
 returns-clause-shown g c = all_hold (program c.args.unit.now) c.loop-k.k (omega (arith, c.len-k-end.ensures)) c.loop-k.invariant.shown
+
+pub returns-clause-no_fault : goal.returns-clause-no_fault
+returns-clause-no_fault g c =
+    let all = all_hold (program c.args.unit.now) c.loop-k.k (omega (arith, c.len-k-end.ensures)) c.loop-k.invariant.shown in
+    nothing_faults c.shown_procedures_do_not_fault.ensures (program c.args.unit.now) c.requires all

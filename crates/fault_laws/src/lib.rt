@@ -1,0 +1,4 @@
+//! What is shown never faults.
+#![tactic(auto)]
+
+pub mod laws;
