@@ -38,62 +38,6 @@ use Rattle.exo_cli.specs.declared.lines.Line.{Line}
 use Rattle.exo_cli.proofs.Kept.{nothing_there, some_is, index_is, runs_alike, schedules_run_alike}
 use Rattle.exo_cli.proofs.Counted.{counted}
 
--- each listed procedure is there
-listed_is_there : (program : Program) (what : List Printing) (k : ℕ) (w : Printing) → are_self_contained program what ≡ true → slice_get what k ≡ Some w
-    → is_there_alone program.memories (slice_get program.procedures w.proc) ≡ true
-listed_is_there program [] zero w h e = absurd (nothing_there e)
-listed_is_there program [] (suc k) w h e = absurd (nothing_there e)
-listed_is_there program (u ∷ us) zero w h e =
-    subst (λ l. is_there_alone program.memories (slice_get program.procedures l.proc) ≡ true) (some_is e) (and_parts (is_there_alone program.memories (slice_get program.procedures u.proc)) (are_self_contained program us) h).0
-listed_is_there program (u ∷ us) (suc k) w h e = listed_is_there program us k w (and_parts (is_there_alone program.memories (slice_get program.procedures u.proc)) (are_self_contained program us) h).1 e
-
--- a version has the admissible inputs of its origin
-admissible_too : (world : World) (p q : Procedure) (s : State) → IsVersionOf p q → IsAdmissible world p s → IsAdmissible world q s
-admissible_too world p q s version good = record {
-  arguments = subst (λ ps. AreArguments s.scene ps) (sym version.params) good.arguments;
-  no_others = λ x k. good.no_others x (ap (λ ps. is_buffer_of x ps) (sym version.params) ∙ k);
-  cells = good.cells;
-  tidy = good.tidy;
-  fields = good.fields;
-  asserts = ap (λ cs. all_hold s.scene cs) version.asserts ∙ good.asserts;
-}
-
-module _ (text : Program) (v : Versions) (built : are_self_contained (with_versions text v) (printings v) ≡ true) (are : AreVersions text.procedures v) where
-  -- what is printed for a version comes from its origin
-  version_does : (k n : ℕ) (q : Procedure) → slice_get (printings v) k ≡ Some (printing_of v n) → slice_get v.procedures n ≡ Some q → (o : HasOrigin text.procedures v n q)
-      → is_first_unit (with_versions text v) (printings v) ≡ true → DoesWhat (with_versions text v) (printings v) k o.origin q
-  version_does k n q listed there o h world c_world layout s m valid input =
-      let follows = first_units_follow (with_versions text v) (printings v) k (printing_of v n) q layout world c_world s m h listed there (admissible_too world o.origin q s o.kept valid.admissible) input.same input.separate in
-      (follows.0, follows.1, follows.2, follows.3, sym (runs_alike world o.origin q o.kept s) ∙ follows.4, follows.5, follows.6)
-
-  version_printed : (k n : ℕ) (found : Option Procedure) → slice_get (printings v) k ≡ Some (printing_of v n) → slice_get v.procedures n ≡ found
-      → is_there_alone text.memories found ≡ true → IsPrinted text (with_versions text v) (printings v) k (printing_of v n)
-  version_printed k n None listed there alone = absurd (true≢false (sym alone))
-  version_printed k n (Some q) listed there alone =
-      let o = are.each n q there in
-      record {
-        version = q;
-        origin = o.origin;
-        from = o.from;
-        there = there;
-        in_text = o.in_text;
-        origin_named = ap (λ i. name_of (slice_get v.procedures i)) (index_is v.origins n o.from o.of) ∙ ap name_of (are.first o.from o.origin o.in_text);
-        nothing_differs = refl;
-        alike = o.kept;
-        kept = version_does k n q listed there o;
-      }
-
-  each_printed : (k : ℕ) (w : Printing) → slice_get (printings v) k ≡ Some w → IsPrinted text (with_versions text v) (printings v) k w
-  each_printed k w listed = go (slice_get v.emitted k) (sym (slice_get-map (printing_of v) v.emitted k) ∙ listed)
-    where
-      go : (o : Option ℕ) → option_map (printing_of v) o ≡ Some w → IsPrinted text (with_versions text v) (printings v) k w
-      go None e = absurd (nothing_there e)
-      go (Some n) e =
-          let is = some_is e in
-          let here = listed ∙ ap Some (sym is) in
-          subst (IsPrinted text (with_versions text v) (printings v) k) is
-          (version_printed k n (slice_get v.procedures n) here refl (listed_is_there (with_versions text v) (printings v) k (printing_of v n) built here))
-
 accepted_is_not : {text message : List ℕ} → Accepted text ≡ Rejected message → ⊥
 accepted_is_not e = cc
 

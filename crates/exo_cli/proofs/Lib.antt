@@ -11,5 +11,7 @@ pub mod Forwarding
 pub mod Unique
 pub mod Refusing
 pub mod Counted
+pub mod Growth
+pub mod Printed
 pub mod Headline
 pub mod Starting
