@@ -2,3 +2,4 @@ pub mod Shapes
 pub mod Elimination
 pub mod Settled
 pub mod Steps
+pub mod Laws

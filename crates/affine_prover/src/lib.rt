@@ -6,6 +6,7 @@ mod decide;
 mod dense;
 mod eliminate;
 mod equations;
+pub mod laws;
 mod list;
 mod normalize;
 mod number;

@@ -92,7 +92,14 @@ fn a_unit_may_be_empty_or_have_several_procedures(rt: HostRuntime) -> Result<(),
 
 #[test]
 fn what_is_refused_is_named(rt: HostRuntime) -> Result<(), Fail> {
+    let broken = "@proc\ndef add3(x: i32[4], y: i32[4]):\n    x[4] = 1\n";
     let cases = [
+        (broken, "", "exoc: u.py:3: NotShown 4 < 4 Open\n"),
+        (
+            broken,
+            "no schedule\n",
+            "exoc: u.py:3: NotShown 4 < 4 Open\n",
+        ),
         (
             "@proc\ndef f(n: size, x: i32[n]):\n    for i in seq(0, n",
             "",

@@ -8,7 +8,7 @@ use Rattle.exo_cli.specs.Outside.{Folder, content_of, HasBytes, Rose, with_more,
 use Rattle.exo_cli.specs.Messages.{usage, file_refused}
 use Rattle.exo_cli.specs.Words.{Command, Compile, Check, command_of, files_of}
 use Rattle.exo_cli.specs.Answer.{Answer, Accepted, Rejected, Unread, Misused, status_of, for_out, for_err, IsVerdict}
-use Rattle.exo_cli.specs.Compiled.{IsCompiled}
+use Rattle.exo_cli.specs.Compiling.{IsCompiled}
 use Rattle.exo_cli.specs.Checking.{IsChecked}
 use Rattle.exo_cli.specs.Work.{file_limit, Opens, AnswersTo, Answers, operands, IsReadFault, IsAnswerTo, IsAnswer, EndsAt, Moment, OutFails, ErrFails, Ends}
 use Rattle.exo_cli.proofs.Taking.{with_more-nothing}

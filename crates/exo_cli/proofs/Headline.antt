@@ -26,13 +26,20 @@ use Rattle.exo_cli.specs.Messages.{usage, file_refused}
 use Rattle.exo_cli.specs.Words.{Command, Compile, Check, command_of}
 use Rattle.exo_cli.specs.Work.{file_limit, Opens, AnswersTo, Answers, Moment, Ends}
 use Rattle.exo_cli.specs.Answer.{Answer, Accepted, Rejected, Unread, Misused, status_of, for_out, for_err}
-use Rattle.exo_cli.specs.Compiled.{IsCompiled, broken, not_built, typed, by_names, by_width, ended, scheduled, started, printing_of, printings, with_versions}
+use Rattle.exo_cli.specs.Compiling.{IsCompiled, owed, typed}
+use Rattle.exo_cli.specs.Checking.{refused}
+use Rattle.unit_check.specs.Preorder.{line_in}
+use Rattle.unit_check.specs.Checked.{Cause, NotListed, NotShown, Checked, Shown, Refused as Open, checked}
+use Rattle.exo_tree.specs.Places.{Path}
+use Rattle.exo_types.specs.UnitLines.{lines_of}
+use Rattle.exo_cli.specs.Compiled.{broken, not_built, by_names, by_width, ended, scheduled, started, printing_of, printings, with_versions}
 use Rattle.exo_cli.specs.Built.{are_in_dram, are_built}
 use Rattle.exo_cli.specs.Lines as lines
 use Rattle.exo_cli.specs.Lines.{Versions, Outcome, run_lines}
 use Rattle.exo_cli.specs.ScheduleForm.{schedule_of}
 use Rattle.exo_cli.specs.Kept.{IsVersionOf, HasOrigin, AreVersions}
 use Rattle.exo_cli.specs.Headline.{DoesWhat, IsPrinted, Promise, Promised}
+use Rattle.unit_check.specs.Laws.{CheckedUnitsDoNotFault}
 use Rattle.exo_cli.specs.Counted.{Counted}
 use Rattle.exo_cli.specs.declared.lines.Line.{Line}
 use Rattle.exo_cli.proofs.Kept.{nothing_there, some_is, index_is, runs_alike, schedules_run_alike}
@@ -44,7 +51,7 @@ accepted_is_not e = cc
 accepted_is : {text other : List ℕ} → Accepted text ≡ Accepted other → text ≡ other
 accepted_is e = cc
 
-module _ (procs source schedule bytes text : List ℕ) (items : List Item) (spelled : IsText unit (tokens_of source) items) (keeps : unit_fault items ≡ None) where
+module _ (procs source schedule bytes text : List ℕ) (items : List Item) (spelled : IsText unit (tokens_of source) items) (keeps : unit_fault items ≡ None) (count : ℕ) (shown : checked (unit_of items) ≡ Shown count) where
   -- what is printed of the versions is built, narrow, and has names that C keeps
   module _ (ls : List Line) (v : Versions) (read : schedule_of bytes ≡ Some ls) (ran : run_lines ls (started (unit_of items).procedures) ≡ lines.Done v) where
     abbrev with_all : Program
@@ -58,6 +65,8 @@ module _ (procs source schedule bytes text : List ℕ) (items : List Item) (spel
       versions = v;
       spelled = spelled;
       keeps = keeps;
+      count = count;
+      shown = shown;
       read = read;
       ran = ran;
       built = built;
@@ -89,10 +98,19 @@ accepted_is_not_broken : {text : List ℕ} (procs : List ℕ) (place : Option Pl
 accepted_is_not_broken procs None f e = accepted_is_not e
 accepted_is_not_broken procs (Some place) f e = accepted_is_not e
 
+accepted_is_not_refused : (text procs : List ℕ) (line : Path → ℕ) (c : Cause) → Accepted text ≡ refused procs line c → ⊥
+accepted_is_not_refused text procs line (NotListed f) e = accepted_is_not e
+accepted_is_not_refused text procs line (NotShown what path v) e = accepted_is_not e
+
 module _ (procs source schedule bytes text : List ℕ) where
+  by_owed : (items : List Item) → IsText unit (tokens_of source) items → unit_fault items ≡ None → (c : Checked) → checked (unit_of items) ≡ c
+      → Accepted text ≡ owed procs schedule (schedule_of bytes) (unit_of items) (lines_of (places_of source) items) c → Promise source bytes text
+  by_owed items spelled keeps (Shown count) shown e = by_read procs source schedule bytes text items spelled keeps count shown (schedule_of bytes) refl e
+  by_owed items spelled keeps (Open k cause) shown e = absurd (accepted_is_not_refused text procs (line_in (slice_get (unit_of items).procedures k) (slice_get (lines_of (places_of source) items) k)) cause e)
+
   by_rules : (items : List Item) → IsText unit (tokens_of source) items → (o : Option Fault) → unit_fault items ≡ o
       → Accepted text ≡ typed procs schedule (schedule_of bytes) (places_of source) items o → Promise source bytes text
-  by_rules items spelled None keeps e = by_read procs source schedule bytes text items spelled keeps (schedule_of bytes) refl e
+  by_rules items spelled None keeps e = by_owed items spelled keeps (checked (unit_of items)) refl e
   by_rules items spelled (Some f) breaks e = absurd (accepted_is_not_broken procs (slice_get (places_of source) f.token) f e)
 
   -- an accepted text keeps the promise
@@ -101,7 +119,7 @@ module _ (procs source schedule bytes text : List ℕ) where
 
 -- ---- and so does what the program writes
 
-module _ (words : List (List ℕ)) (files : Folder) (before after : Option (List ℕ)) (text : List ℕ) (written : after ≡ with_more before text) where
+module _ (safe_law : CheckedUnitsDoNotFault) (words : List (List ℕ)) (files : Folder) (before after : Option (List ℕ)) (text : List ℕ) (written : after ≡ with_more before text) where
   by_schedule : (procs schedule unit : List ℕ) → command_of words ≡ Some (Compile procs schedule) → content_of files procs ≡ Some unit
       → (held : Option (List ℕ)) → content_of files schedule ≡ held → Opens held schedule (λ lines. IsCompiled procs unit schedule lines) (Accepted text) → Promised words files before after
   by_schedule procs schedule unit asked first None there e = absurd (accepted_is_not_unread e)
@@ -144,15 +162,15 @@ module _ (words : List (List ℕ)) (files : Folder) (before after : Option (List
       accepted_is_not_misused : {t m : List ℕ} → Accepted t ≡ Misused m → ⊥
       accepted_is_not_misused e = cc
   by_words (Some (Compile procs schedule)) is e = inl (by_unit procs schedule is (content_of files procs) refl e)
-  by_words (Some (Check procs)) is e = inr (counted words files before after text procs written is e)
+  by_words (Some (Check procs)) is e = inr (counted safe_law words files before after text procs written is e)
 
 -- an answer that ends well is accepted
-by_answer : (words : List (List ℕ)) (files : Folder) (before after : Option (List ℕ)) (answer : Answer) → Answers words files answer → Ok ≡ status_of answer → after ≡ with_more before (for_out answer)
+by_answer : CheckedUnitsDoNotFault → (words : List (List ℕ)) (files : Folder) (before after : Option (List ℕ)) (answer : Answer) → Answers words files answer → Ok ≡ status_of answer → after ≡ with_more before (for_out answer)
     → Promised words files before after ⊎ Counted words files before after
-by_answer words files before after (Accepted text) answers ok written = by_words words files before after text written (command_of words) refl answers
-by_answer words files before after (Rejected message) answers ok written = absurd (let e : Ok ≡ Refused = ok in cc)
-by_answer words files before after (Unread message) answers ok written = absurd (let e : Ok ≡ ReadFault = ok in cc)
-by_answer words files before after (Misused message) answers ok written = absurd (let e : Ok ≡ Usage = ok in cc)
+by_answer safe_law words files before after (Accepted text) answers ok written = by_words safe_law words files before after text written (command_of words) refl answers
+by_answer safe_law words files before after (Rejected message) answers ok written = absurd (let e : Ok ≡ Refused = ok in cc)
+by_answer safe_law words files before after (Unread message) answers ok written = absurd (let e : Ok ≡ ReadFault = ok in cc)
+by_answer safe_law words files before after (Misused message) answers ok written = absurd (let e : Ok ≡ Usage = ok in cc)
 
 not_memory : Ok ≢ Memory
 not_memory e = cc
@@ -164,12 +182,12 @@ not_write_fault : Ok ≢ WriteFault
 not_write_fault e = cc
 
 -- what the program writes where it ends well keeps the promise
-pub ends_promised : (words : List (List ℕ)) (before after : Moment) (status : Status) → Ends words before after status → status ≡ Ok
+pub ends_promised : CheckedUnitsDoNotFault → (words : List (List ℕ)) (before after : Moment) (status : Status) → Ends words before after status → status ≡ Ok
     → IfSome before.told (λ files. Promised words files before.out after.out ⊎ Counted words files before.out after.out)
-ends_promised words before after status ends ok = told before.told (subst (λ s. Ends words before after s) ok ends).told
+ends_promised safe_law words before after status ends ok = told before.told (subst (λ s. Ends words before after s) ok ends).told
   where
     told : (o : Option Folder) → (Ok ≢ Memory → Ok ≢ ReadFault → Ok ≢ WriteFault → IfSome o (λ files.
         (answer : Answer) × Answers words files answer × (Ok ≡ status_of answer) × (after.out ≡ with_more before.out (for_out answer)) × (after.err ≡ with_more before.err (for_err answer))))
         → IfSome o (λ files. Promised words files before.out after.out ⊎ Counted words files before.out after.out)
     told None h = tt
-    told (Some files) h = let a = h not_memory not_read_fault not_write_fault in by_answer words files before.out after.out a.0 a.1 a.2 a.3
+    told (Some files) h = let a = h not_memory not_read_fault not_write_fault in by_answer safe_law words files before.out after.out a.0 a.1 a.2 a.3

@@ -9,7 +9,6 @@ pub mod Kept
 pub mod Rules
 pub mod Forwarding
 pub mod Unique
-pub mod Refusing
 pub mod Counted
 pub mod Growth
 pub mod Printed

@@ -1,5 +1,5 @@
 -- The words and the files have one answer.
-use Rattle.std.proofs.Common.{◌≡◌, ◌⊎◌, ⊎_elim, ℕ, List, Bool, true, false, Option, Some, None, length, nat_lt, codes, sym, ap, ◌∙◌, MatchBool, MatchOption}
+use Rattle.std.proofs.Common.{◌≡◌, ◌⊎◌, inl, inr, ⊎_elim, ℕ, List, Bool, true, false, Option, Some, None, length, nat_lt, codes, sym, ap, ◌∙◌, MatchBool, MatchOption}
 use Rattle.exo_cli.specs.Outside.{Folder, content_of}
 use Rattle.exo_cli.specs.Messages.{usage, file_refused, place_refused}
 use Rattle.exo_cli.specs.Words.{Command, Compile, Check, command_of}
@@ -12,7 +12,8 @@ use Rattle.exo_source.specs.Texts.{tokens_of, places_of}
 use Rattle.exo_source.specs.declared.unit.ReadError.{ReadError}
 use Rattle.exo_source.proofs.Eased.{texts_are_one}
 use Rattle.exo_types.specs.UnitRules.{unit_fault}
-use Rattle.exo_cli.specs.Compiled.{IsCompiled, IsUnread, kind_text, typed}
+use Rattle.exo_cli.specs.Compiled.{IsUnread, kind_text}
+use Rattle.exo_cli.specs.Compiling.{IsCompiled, typed}
 use Rattle.exo_cli.specs.Checking as checking
 use Rattle.exo_cli.specs.Checking.{IsChecked}
 use Rattle.exo_cli.specs.ScheduleForm.{schedule_of}
@@ -36,7 +37,13 @@ compiled_once : (procs source schedule lines : List ℕ) (a b : Answer) → IsCo
 compiled_once procs source schedule lines = read_once procs source (λ items. typed procs schedule (schedule_of lines) (places_of source) items (unit_fault items))
 
 checked_once : (procs source : List ℕ) (a b : Answer) → IsChecked procs source a → IsChecked procs source b → a ≡ b
-checked_once procs source = read_once procs source (λ items. checking.typed procs (places_of source) items (unit_fault items))
+checked_once procs source a b one other = read_once procs source given a b (plainly a one) (plainly b other)
+  where
+    given : List Item → Answer
+    given items = checking.typed procs (places_of source) items (unit_fault items)
+
+    plainly : (a : Answer) → IsChecked procs source a → IsUnread procs source a ⊎ ((items : List Item) × IsText unit (tokens_of source) items × (a ≡ given items))
+    plainly a h = ⊎_elim inl (λ t. inr (t.0, t.1, t.3)) h
 
 -- a file opens in one way
 opens_once : (held : Option (List ℕ)) (name : List ℕ) (next : List ℕ → Answer → Type 0) (a b : Answer) → ((bytes : List ℕ) → next bytes a → next bytes b → a ≡ b)

@@ -1,9 +1,10 @@
 -- The answer to the text of a unit that is to be checked: it is read, then its rules are tested, and then what its procedures owe.
-use Rattle.std.specs.Prelude.{◌≡◌, ℕ, ◌⊎◌, List, [], ◌∷◌, Option, Some, None, slice_get, codes}
+use Rattle.std.specs.Prelude.{◌≡◌, ℕ, ◌⊎◌, List, [], Option, Some, None, slice_get, codes}
 use Rattle.phrases.specs.Text.{IsText}
-use Rattle.exo_tree.specs.Tree.{Procedure, Program}
+use Rattle.exo_tree.specs.Tree.{Program}
 use Rattle.exo_tree.specs.Places.{Path}
 use Rattle.exo_tree.specs.declared.lines.ProcLines.{ProcLines}
+use Rattle.exo_meaning.specs.Units.{IsUnit}
 use Rattle.exo_lexer.specs.declared.place.Place.{Place}
 use Rattle.exo_source.specs.Source.{Item}
 use Rattle.exo_source.specs.Items.{unit}
@@ -58,9 +59,10 @@ abbrev pub typed : List ℕ → List Place → List Item → Option Fault → An
 typed name places items None = well_formed name (unit_of items) (lines_of places items)
 typed name places items (Some f) = broken name (slice_get places f.token) f.rule
 
--- the text is a unit
+-- the text is a unit, well formed where it breaks no rule
 abbrev pub IsTyped : List ℕ → List ℕ → Answer → Type 0
-IsTyped name text answer = (items : List Item) × IsText unit (tokens_of text) items × (answer ≡ typed name (places_of text) items (unit_fault items))
+IsTyped name text answer =
+    (items : List Item) × IsText unit (tokens_of text) items × (unit_fault items ≡ None → IsUnit (unit_of items)) × (answer ≡ typed name (places_of text) items (unit_fault items))
 
 -- This is the answer to the bytes of the file, whose name is given.
 abbrev pub IsChecked : List ℕ → List ℕ → Answer → Type 0

@@ -1,19 +1,15 @@
--- The answer to the texts of a unit and of a schedule: the unit is read, then its rules are tested, then the schedule's lines run,
--- and then what they emit is printed: its form is tested, its widths, and its names.
-use Rattle.std.specs.Prelude.{◌≡◌, ℕ, suc, ◌⊎◌, if◌then◌else◌, List, [], ◌∷◌, map, slice_get, slice_index, Option, Some, None, codes}
-use Rattle.phrases.specs.Text.{IsText}
+-- What is answered to a unit by a schedule: the lines run, and then what they emit is printed: its form is tested, its widths, and
+-- its names. And what is answered to a text that is no unit, or breaks a rule.
+use Rattle.std.specs.Prelude.{◌≡◌, ℕ, suc, if◌then◌else◌, List, [], ◌∷◌, map, slice_get, slice_index, Option, Some, None, codes}
 use Rattle.exo_tree.specs.Tree.{Procedure, Program}
 use Rattle.exo_lexer.specs.declared.place.Place.{Place}
-use Rattle.exo_source.specs.Source.{Item}
 use Rattle.exo_source.specs.Items.{unit}
 use Rattle.exo_source.specs.Texts.{tokens_of, places_of, IsFault}
 use Rattle.exo_source.specs.declared.unit.ReadKind.{ReadKind}
 use Rattle.exo_source.specs.declared.unit.ReadKind.TheVariants as kind
 use Rattle.exo_source.specs.declared.unit.ReadError.{ReadError}
-use Rattle.exo_names.specs.declared.fault.Fault.{Fault}
 use Rattle.exo_names.specs.declared.error.TypeKind.{TypeKind}
 use Rattle.exo_names.specs.declared.error.TypeKind.TheVariants as rule
-use Rattle.exo_types.specs.UnitRules.{unit_fault, unit_of}
 use Rattle.c_lowering.specs.Refusals.{too_wide, name_clash}
 use Rattle.exo_cli.specs.Built.{are_built}
 use Rattle.c_printer.specs.LoweredUnit.{Printing, name_of, lowered}
@@ -21,7 +17,6 @@ use Rattle.c_printer.specs.CText.{text_of}
 use Rattle.exo_cli.specs.Answer.{Answer, Accepted, Rejected}
 use Rattle.exo_cli.specs.Messages.{file_refused, name_refused, place_refused, line_refused}
 use Rattle.exo_cli.specs.Lines.{Versions, Outcome, Done, Stopped, run_lines}
-use Rattle.exo_cli.specs.ScheduleForm.{schedule_of}
 use Rattle.exo_cli.specs.declared.lines.Line.{Line}
 use Rattle.exo_cli.specs.declared.session.Why.{Why}
 use Rattle.exo_cli.specs.declared.session.Why.TheVariants as why
@@ -114,20 +109,7 @@ abbrev pub broken : List ℕ → Option Place → TypeKind → Answer
 broken procs None broken_rule = not_built procs
 broken procs (Some place) broken_rule = Rejected (place_refused procs place.line place.column (rule_text broken_rule))
 
-abbrev pub typed : List ℕ → List ℕ → Option (List Line) → List Place → List Item → Option Fault → Answer
-typed procs schedule lines places items None = scheduled procs schedule (unit_of items) lines
-typed procs schedule lines places items (Some f) = broken procs (slice_get places f.token) f.rule
-
 -- the text is no unit: the answer names the first token with which none goes on
 abbrev pub IsUnread : List ℕ → List ℕ → Answer → Type 0
 IsUnread procs text answer =
     (e : ReadError) × IsFault unit (tokens_of text) (places_of text) e × (answer ≡ Rejected (place_refused procs e.line e.column (kind_text e.kind)))
-
--- the text is a unit
-abbrev pub IsTyped : List ℕ → List ℕ → List ℕ → List ℕ → Answer → Type 0
-IsTyped procs text schedule lines answer =
-    (items : List Item) × IsText unit (tokens_of text) items × (answer ≡ typed procs schedule (schedule_of lines) (places_of text) items (unit_fault items))
-
--- This is the answer to the bytes of the two files, whose names are given.
-abbrev pub IsCompiled : List ℕ → List ℕ → List ℕ → List ℕ → Answer → Type 0
-IsCompiled procs text schedule lines answer = IsUnread procs text answer ⊎ IsTyped procs text schedule lines answer

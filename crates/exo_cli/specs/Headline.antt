@@ -26,7 +26,9 @@ use Rattle.exo_cli.specs.Words.{Compile, command_of}
 use Rattle.exo_cli.specs.Answer.{Accepted}
 use Rattle.exo_cli.specs.Built.{are_built}
 use Rattle.exo_cli.specs.Kept.{IsVersionOf}
-use Rattle.exo_cli.specs.Compiled.{IsCompiled, started, printings, with_versions}
+use Rattle.exo_cli.specs.Compiling.{IsCompiled}
+use Rattle.unit_check.specs.Checked.{Shown, checked}
+use Rattle.exo_cli.specs.Compiled.{started, printings, with_versions}
 use Rattle.exo_cli.specs.Lines.{Versions, Done as Ran, run_lines}
 use Rattle.exo_cli.specs.ScheduleForm.{schedule_of}
 use Rattle.exo_cli.specs.declared.lines.Line.{Line}
@@ -72,14 +74,16 @@ pub record IsPrinted (text program : Program) (what : List Printing) (at : ℕ) 
   pub kept : DoesWhat program what at origin version
   pub sure : is_first_unit program what ≡ true → SurelyDoesWhat program what at origin version
 
--- What stands behind the C that is printed for a unit and a schedule: the unit that the text spells, which keeps all rules, the
--- program that it stands for, the versions that the schedule makes, and for each version that is printed the promise that its C does what a procedure of the text does.
+-- What stands behind the C that is printed for a unit and a schedule: the unit that the text spells, which keeps all rules and shows
+-- what its procedures owe, the program that it stands for, the versions that the schedule makes, and for each version that is printed the promise that its C does what a procedure of the text does.
 pub record Promise (bytes schedule printed : List ℕ) : Type 0 where
   pub items : List Item
+  pub count : ℕ
   pub lines : List Line
   pub versions : Versions
   pub spelled : IsText unit (tokens_of bytes) items
   pub keeps : unit_fault items ≡ None
+  pub shown : checked (unit_of items) ≡ Shown count
   pub read : schedule_of schedule ≡ Some lines
   pub ran : run_lines lines (started (unit_of items).procedures) ≡ Ran versions
   pub built : are_built (with_versions (unit_of items) versions) (printings versions) ≡ true

@@ -13,6 +13,7 @@ pub mod Sessions
 pub mod Built
 pub mod Compiled
 pub mod Checking
+pub mod Compiling
 pub mod Replies
 pub mod Work
 pub mod Kept

@@ -41,7 +41,7 @@ unit_refused name row why = line (name ∷ codes ":" ∷ decimal row ∷ codes "
 
 -- what is owed at a line is not shown: the claim, and the verdict on it
 abbrev pub not_shown : List ℕ → ℕ → List ℕ → List ℕ → List ℕ
-not_shown name row what verdict = unit_refused name row (codes "NotShown " ++ what ++ codes " " ++ verdict)
+not_shown name row what verdict = line (name ∷ codes ":" ∷ decimal row ∷ codes ": NotShown " ∷ what ∷ codes " " ∷ verdict ∷ [])
 
 -- so many obligations, and all are shown
 abbrev pub checked : ℕ → List ℕ

@@ -7,7 +7,7 @@ use Rattle.exo_cli.specs.Outside.{Folder, content_of, IsLonger, Rose, with_more,
 use Rattle.exo_cli.specs.Messages.{usage, cannot_read, file_refused}
 use Rattle.exo_cli.specs.Words.{Command, Compile, Check, command_of, files_of}
 use Rattle.exo_cli.specs.Answer.{Answer, Accepted, Rejected, Unread, Misused, status_of, for_out, for_err}
-use Rattle.exo_cli.specs.Compiled.{IsCompiled}
+use Rattle.exo_cli.specs.Compiling.{IsCompiled}
 use Rattle.exo_cli.specs.Checking.{IsChecked}
 
 -- the most bytes that a file may have

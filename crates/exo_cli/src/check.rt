@@ -2,15 +2,16 @@
 ghost use Rattle.std.specs.Prelude.{◌≡◌, ◌≢◌, ◌≤◌, length, IfOk, None, Some};
 ghost use Rattle.exo_tree.specs.PlainUnit.{program};
 ghost use Rattle.exo_meaning.specs.Units.{IsUnit};
-ghost use Rattle.exo_types.specs.Typed.{IsPlaced, items_of};
+ghost use Rattle.exo_source.specs.Texts.{ReadsUnit};
+ghost use Rattle.exo_types.specs.Typed.{IsPlaced, Types, items_of};
 ghost use Rattle.exo_types.specs.UnitRules.{unit_fault, unit_of};
 ghost use Rattle.obligations.specs.Obligations.{Fault};
 ghost use Rattle.obligations.specs.Outcomes.{IsRefusal};
 ghost use Rattle.unit_check.specs.Checked.{Checked};
 ghost use Rattle.unit_check.specs.Outcomes.{IsRefused};
-ghost use Rattle.exo_cli.specs.Answer.{Rejected, IsVerdict};
+ghost use Rattle.unit_check.specs.declared.refused.Why.TheVariants.{Memory};
+ghost use Rattle.exo_cli.specs.Answer.{IsVerdict};
 ghost use Rattle.exo_cli.specs.Checking.{IsChecked, fault_text, form_text, told, typed, well_formed, verdict_text};
-ghost use Rattle.exo_cli.specs.Messages.{unit_refused, not_shown};
 ghost use Rattle.exo_cli.specs.Replies.{plain};
 
 use crate::compile::{refuse_rule, refuse_text};
@@ -19,7 +20,8 @@ use crate::reply::Reply;
 use affine_forms::FormError;
 use affine_prover::Verdict;
 use exo_formed::laws::read_units_are_formed;
-use exo_source::unit::{Source, read_unit};
+use exo_names::error::TypeError;
+use exo_source::unit::{ReadError, Source, read_unit};
 use exo_tree::Unit;
 use exo_types::laws::read_texts_are_placed;
 use exo_types::unit::check_types;
@@ -41,11 +43,24 @@ pub(crate) fn check<R: Threads + Sync, G: Gate>(
     ensures answer { IfOk result (λ reply. IsChecked name.now text.now (plain reply)) }
     ensures verdict { IfOk result (λ reply. IsVerdict (plain reply)) }
 {
+    match read_formed(alloc, text) {
+        Ok(source) => check_source(rt, alloc, name, &source, gate),
+        Err(e) => refuse_text(alloc, name, e),
+    }
+}
+
+/// Reads the unit of the text; where that keeps all rules, it is well formed.
+fn read_formed(alloc: Global, text: &[u8]) -> Result<Source, ReadError>
+    requires { length text.now ≤ 1048576 }
+    ensures reads { ReadsUnit text.now result }
+    ensures placed { IfOk result (λ source. IsPlaced source) }
+    ensures formed { IfOk result (λ source. unit_fault (items_of source) ≡ None → IsUnit (unit_of (items_of source))) }
+{
     read_texts_are_placed();
     read_units_are_formed();
     match read_unit(alloc, text) {
-        Ok(source) => check_source(rt, alloc, name, &source, gate),
-        Err(e) => refuse_text(alloc, name, e),
+        Ok(source) => Ok(source),
+        Err(e) => Err(e),
     }
 }
 
@@ -62,9 +77,22 @@ fn check_source<R: Threads + Sync, G: Gate>(
     ensures answer { IfOk result (λ reply. plain reply ≡ typed name.now source.now.places.items (items_of source.now) (unit_fault (items_of source.now))) }
     ensures verdict { IfOk result (λ reply. IsVerdict (plain reply)) }
 {
-    match check_types(alloc, source) {
+    match typed_unit(alloc, source) {
         Ok(unit) => check_typed(rt, alloc, name, &unit, gate),
         Err(e) => refuse_rule(alloc, name, e),
+    }
+}
+
+/// The unit that keeps the rules, which is well formed; else the first rule that is broken.
+fn typed_unit(alloc: Global, source: &Source) -> Result<Unit, TypeError>
+    requires placed { IsPlaced source.now }
+    requires formed { unit_fault (items_of source.now) ≡ None → IsUnit (unit_of (items_of source.now)) }
+    ensures types { Types source.now result }
+    ensures formed { IfOk result (λ unit. IsUnit (program unit)) }
+{
+    match check_types(alloc, source) {
+        Ok(unit) => Ok(unit),
+        Err(e) => Err(e),
     }
 }
 
@@ -88,7 +116,7 @@ fn check_typed<R: Threads + Sync, G: Gate>(
 }
 
 /// The unit of this file is not shown.
-fn refuse_unit(
+pub(crate) fn refuse_unit(
     alloc: Global,
     name: &str,
     unit: &Unit,
@@ -96,43 +124,16 @@ fn refuse_unit(
 ) -> Result<Reply, AllocError>
     ensures answer { (c : Checked) → IsRefused refused.now c → IfOk result (λ reply. plain reply ≡ told name.now (program unit.now) unit.now.lines c) }
     ensures verdict { IfOk result (λ reply. IsVerdict (plain reply)) }
+    ensures cause { IfOk result (λ _. refused.now.why ≢ Memory) }
 {
     let line = line_of(unit, refused);
-    match &refused.why {
-        Why::Memory => Err(AllocError),
-        Why::Check(e) => refuse_listing(alloc, name, line, *e),
+    let message = match &refused.why {
+        Why::Memory => return Err(AllocError),
+        Why::Check(e) => messages::unit_refused(alloc, name, line, check_text(*e))?,
         Why::NotShown { what, verdict, .. } => {
-            refuse_claim(alloc, name, line, what.as_str(), *verdict)
+            messages::not_shown(alloc, name, line, what.as_str(), verdict_text(*verdict))?
         }
-    }
-}
-
-/// The obligations of the procedure whose `def` stands at that line can't be listed.
-fn refuse_listing(
-    alloc: Global,
-    name: &str,
-    line: u32,
-    error: CheckError,
-) -> Result<Reply, AllocError>
-    ensures answer { (f : Fault) → error ≢ CheckError.Memory → IsRefusal error (Some f) → IfOk result (λ reply. plain reply ≡ Rejected (unit_refused name.now line (fault_text f))) }
-    ensures verdict { IfOk result (λ reply. IsVerdict (plain reply)) }
-{
-    let message = messages::unit_refused(alloc, name, line, check_text(error))?;
-    Ok(Reply::Rejected(message))
-}
-
-/// What is owed at that line is not shown.
-fn refuse_claim(
-    alloc: Global,
-    name: &str,
-    line: u32,
-    what: &str,
-    verdict: Verdict,
-) -> Result<Reply, AllocError>
-    ensures answer { IfOk result (λ reply. plain reply ≡ Rejected (not_shown name.now line what.now (verdict_text verdict))) }
-    ensures verdict { IfOk result (λ reply. IsVerdict (plain reply)) }
-{
-    let message = messages::not_shown(alloc, name, line, what, verdict_text(verdict))?;
+    };
     Ok(Reply::Rejected(message))
 }
 

@@ -1,18 +1,22 @@
 // From the texts of a unit and of a schedule to the text of C.
-ghost use Rattle.std.specs.Prelude.{◌≡◌, ◌≤◌, ◌≢◌, length, map, slice_get, codes, IfOk};
+ghost use Rattle.std.specs.Prelude.{◌≡◌, ◌≤◌, ◌≢◌, None, length, map, slice_get, codes, IfOk};
 ghost use Rattle.exo_tree.specs.Plain.{program};
 ghost use Rattle.c_printer.specs.PlainPrinted.{printing};
 ghost use Rattle.c_printer.specs.LoweredUnit.{name_of};
 ghost use Rattle.exo_cli.specs.Answer.{Rejected, IsVerdict};
-ghost use Rattle.exo_cli.specs.Compiled.{IsCompiled, ended, kind_text, not_built, printed, rule_text, scheduled, started, typed, why_text};
+ghost use Rattle.exo_cli.specs.Compiled.{ended, kind_text, not_built, printed, rule_text, scheduled, started, why_text};
+ghost use Rattle.exo_cli.specs.Compiling.{IsCompiled, owed, typed};
+ghost use Rattle.exo_meaning.specs.Units.{IsUnit};
+ghost use Rattle.unit_check.specs.Checked.{checked};
 ghost use Rattle.exo_types.specs.Typed.{IsPlaced, items_of};
-ghost use Rattle.exo_types.specs.UnitRules.{unit_fault};
+ghost use Rattle.exo_types.specs.UnitRules.{unit_fault, unit_of};
 ghost use Rattle.exo_cli.specs.Lines.{operator_of, run_lines};
 ghost use Rattle.exo_cli.specs.Messages.{line_refused, name_refused, place_refused};
 ghost use Rattle.exo_cli.specs.Replies.{plain};
 ghost use Rattle.exo_cli.specs.ScheduleForm.{schedule_of};
 
 use crate::built::are_built;
+use crate::check::refuse_unit;
 use crate::lines::{Act, Line};
 use crate::messages;
 use crate::reply::Reply;
@@ -20,20 +24,26 @@ use crate::schedule::read_schedule;
 use crate::session::{Session, Why};
 use c_lowering::lower_unit;
 use c_printer::{LowerError, Printed, c_text};
+use exo_formed::laws::read_units_are_formed;
 use exo_names::error::{TypeError, TypeKind};
 use exo_source::unit::{ReadError, ReadKind, Source, read_unit};
 use exo_tree::{Lines, Name, ProcId, Procs, Unit};
 use exo_types::laws::read_texts_are_placed;
 use exo_types::unit::check_types;
+use ob_check::{Gate, new_cache};
 use std::alloc::{AllocError, Global};
+use std::thread::Threads;
+use unit_check::check_unit;
 
 /// Compiles the unit by the schedule. The names are those of their files, for the messages.
-pub(crate) fn compile(
+pub(crate) fn compile<R: Threads + Sync, G: Gate>(
+    rt: &R,
     alloc: Global,
     procs: &str,
     unit: &[u8],
     schedule: &str,
     lines: &[u8],
+    gate: &G,
 ) -> Result<Reply, AllocError>
     requires unit { length unit.now ≤ 1048576 }
     requires lines { length lines.now ≤ 1048576 }
@@ -41,8 +51,9 @@ pub(crate) fn compile(
     ensures verdict { IfOk result (λ reply. IsVerdict (plain reply)) }
 {
     read_texts_are_placed();
+    read_units_are_formed();
     match read_unit(alloc, unit) {
-        Ok(source) => type_unit(alloc, procs, &source, schedule, lines),
+        Ok(source) => type_unit(rt, alloc, procs, &source, schedule, lines, gate),
         Err(e) => refuse_text(alloc, procs, e),
     }
 }
@@ -76,21 +87,46 @@ pub(crate) fn refuse_text(alloc: Global, name: &str, e: ReadError) -> Result<Rep
 }
 
 /// Tests the rules of the unit, and compiles what it stands for.
-fn type_unit(
+fn type_unit<R: Threads + Sync, G: Gate>(
+    rt: &R,
     alloc: Global,
     procs: &str,
     source: &Source,
     schedule: &str,
     lines: &[u8],
+    gate: &G,
 ) -> Result<Reply, AllocError>
-    requires source { IsPlaced source.now }
+    requires placed { IsPlaced source.now }
+    requires formed { unit_fault (items_of source.now) ≡ None → IsUnit (unit_of (items_of source.now)) }
     requires lines { length lines.now ≤ 1048576 }
     ensures answer { IfOk result (λ reply. plain reply ≡ typed procs.now schedule.now (schedule_of lines.now) source.now.places.items (items_of source.now) (unit_fault (items_of source.now))) }
     ensures verdict { IfOk result (λ reply. IsVerdict (plain reply)) }
 {
     match check_types(alloc, source) {
-        Ok(unit) => schedule_unit(alloc, procs, &unit, schedule, lines),
+        Ok(unit) => owe_unit(rt, alloc, procs, &unit, schedule, lines, gate),
         Err(e) => refuse_rule(alloc, procs, e),
+    }
+}
+
+/// Checks what the procedures of a unit that keeps the rules owe, and compiles it where all is shown.
+fn owe_unit<R: Threads + Sync, G: Gate>(
+    rt: &R,
+    alloc: Global,
+    procs: &str,
+    unit: &Unit,
+    schedule: &str,
+    lines: &[u8],
+    gate: &G,
+) -> Result<Reply, AllocError>
+    requires unit { IsUnit (program unit.now) }
+    requires lines { length lines.now ≤ 1048576 }
+    ensures answer { IfOk result (λ reply. plain reply ≡ owed procs.now schedule.now (schedule_of lines.now) (program unit.now) unit.now.lines (checked (program unit.now))) }
+    ensures verdict { IfOk result (λ reply. IsVerdict (plain reply)) }
+{
+    let mut cache = new_cache(alloc)?;
+    match check_unit(rt, alloc, unit, &mut cache, gate) {
+        Ok(_) => schedule_unit(alloc, procs, unit, schedule, lines),
+        Err(refused) => refuse_unit(alloc, procs, unit, &refused),
     }
 }
 
@@ -133,7 +169,7 @@ fn not_built(alloc: Global, name: &str) -> Result<Reply, AllocError>
     Ok(Reply::Rejected(message))
 }
 
-/// Runs the schedule on a unit that keeps the rules, and prints what it says.
+/// Runs the schedule on the unit, and prints what it says.
 fn schedule_unit(
     alloc: Global,
     procs: &str,

@@ -17,6 +17,7 @@ use crate::words::{Command, read_command};
 use ob_check::Gate;
 use std::alloc::{AllocError, Global};
 use std::thread::Threads;
+use unit_check::laws::checked_units_do_not_fault;
 
 /// The most bytes that a file may have.
 const FILE_LIMIT: usize = 1 << 20;
@@ -55,6 +56,7 @@ pub fn exoc<R: Threads + Sync, F: Files, O: Sink, E: Sink, G: Gate>(
     ensures promise { result ≡ Status.Ok → IfSome (F.told files.old) (λ folder.
         Promised (texts words.now) folder (O.taken out.old) (O.taken out.new) ⊎ Counted (texts words.now) folder (O.taken out.old) (O.taken out.new)) }
 {
+    checked_units_do_not_fault();
     match reply_to(rt, alloc, words, files, gate) {
         Ok(reply) => reply.deliver(out, err),
         Err(_) => Status::Memory,
@@ -73,18 +75,22 @@ fn reply_to<R: Threads + Sync, F: Files, G: Gate>(
         (F.last_fault files.new) (plain reply)) }
 {
     match read_command(words) {
-        Some(Command::Compile(procs, schedule)) => compile_files(alloc, procs, schedule, files),
+        Some(Command::Compile(procs, schedule)) => {
+            compile_files(rt, alloc, procs, schedule, files, gate)
+        }
         Some(Command::Check(procs)) => check_file(rt, alloc, procs, files, gate),
         None => Ok(Reply::Misused(messages::usage(alloc)?)),
     }
 }
 
 /// What is replied to the command to compile these files.
-fn compile_files<F: Files>(
+fn compile_files<R: Threads + Sync, F: Files, G: Gate>(
+    rt: &R,
     alloc: Global,
     procs: &str,
     schedule: &str,
     files: &mut F,
+    gate: &G,
 ) -> Result<Reply, AllocError>
     ensures { IfOk result (λ reply. IsAnswerTo (Compile procs.now schedule.now) (F.told files.old) (F.faults files.old)
         (F.faults files.new) (F.last_fault files.new) (plain reply)) }
@@ -97,7 +103,7 @@ fn compile_files<F: Files>(
         Ok(text) => text,
         Err(reply) => return Ok(reply),
     };
-    compile(alloc, procs, &unit, schedule, &lines)
+    compile(rt, alloc, procs, &unit, schedule, &lines, gate)
 }
 
 /// What is replied to the command to check this file.

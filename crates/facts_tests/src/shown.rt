@@ -1,4 +1,8 @@
 //! Contexts and facts as text.
+ghost use Rattle.std.specs.Prelude.{IsTrue};
+ghost use Rattle.exo_tree.specs.PlainArgument.{argument};
+ghost use Rattle.affine_places.specs.Facts.{Known, fact_keeps_rules};
+
 use affine_forms::{Atom, Formula, Terms, formula_of, normal_form};
 use affine_places::{AtEntry, Fact, Facts, Roots};
 use affine_systems::Context;
@@ -71,7 +75,9 @@ pub fn show_context(alloc: Global, context: &Context) -> Result<String, Fail> {
     Ok(text)
 }
 
-fn show_value(alloc: Global, text: &mut String, unit: &Unit, value: &Arg) -> Result<(), Fail> {
+fn show_value(alloc: Global, text: &mut String, unit: &Unit, value: &Arg) -> Result<(), Fail>
+    requires { IsTrue (fact_keeps_rules (Known (argument value.now))) }
+{
     let roots = Roots::new(alloc);
     let at = AtEntry {
         fields: &unit.fields,
@@ -91,7 +97,7 @@ fn show_value(alloc: Global, text: &mut String, unit: &Unit, value: &Arg) -> Res
 /// What is known of each field that has a fact: a path or a value.
 pub fn show_facts(alloc: Global, unit: &Unit, facts: &Facts) -> Result<String, Fail> {
     let mut text = String::new(alloc);
-    for f in 0..unit.fields.len() as u32 {
+    for f in 0..unit.fields.len().min(16) as u32 {
         let Some(fact) = facts.get(FieldId(f)) else {
             continue;
         };

@@ -1,3 +1,4 @@
 pub mod Checked
 pub mod Outcomes
 pub mod Preorder
+pub mod Laws

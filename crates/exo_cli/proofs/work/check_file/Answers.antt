@@ -9,7 +9,7 @@ use Rattle.exo_cli.proofs.work.check_file.Goals as goal
 pub returns : goal.returns
 returns g c =
     let told = g.F.Files.told c.args.files.now in
-    let first = rw c.in-Ok.is at c.in_ok-text.ensures.read in
+    let first = rw c.in-Ok.is at c.in_ok-bytes.ensures.read in
     let text = subst (λ (l : List ℕ). HasBytes told c.args.procs.now l × (length l ≤ file_limit)) (sym c.deref.ensures.value) first in
     if-both c.check.result _ _ _ (λ reply checked verdict.
     checked-answers told c.args.procs.now c.deref.result.now _ _ _ (plain reply) text.0 text.1 checked verdict)

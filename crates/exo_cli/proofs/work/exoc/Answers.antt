@@ -7,4 +7,4 @@ pub returns-in-Ok : goal.returns-in-Ok
 returns-in-Ok g c =
     let all = ends _ _ _ (plain c.in-Ok.reply) c.deliver.result c.in-Ok.ensures
     (record { ended = c.deliver.ensures.status; out = c.deliver.ensures.out; err = c.deliver.ensures.err; fault = c.deliver.ensures.fault }) in
-    record { ends = all; promise = λ ok. ends_promised _ _ _ _ all ok }
+    record { ends = all; promise = λ ok. ends_promised c.checked_units_do_not_fault.ensures _ _ _ _ all ok }
