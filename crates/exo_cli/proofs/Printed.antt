@@ -1,13 +1,13 @@
 -- What is printed for a version does what its origin does.
-use Rattle.std.proofs.Common.{◌≡◌, ◌≤◌, ◌<◌, ◌+◌, ◌^◌, nat_lt, length, ℕ, zero, suc, true, false, true≢false, Bool, ◌&&◌, List, [], ◌∷◌, ◌++◌, map, slice_get, Option, Some, None, option_map, refl, sym, ap, ◌∙◌, subst, arith}
+use Rattle.std.proofs.Common.{◌≡◌, ◌<◌, ◌^◌, nat_lt, length, ℕ, zero, suc, true, true≢false, List, [], ◌∷◌, map, slice_get, Option, Some, None, option_map, refl, sym, ap, ◌∙◌, subst, arith}
 use Rattle.std.proofs.lemmas.Option.{slice_get-map}
 use Rattle.std.proofs.lemmas.Bool.{and_parts}
-use Rattle.exo_tree.specs.Tree.{Procedure, Program, ConfigField}
-use Rattle.exo_meaning.specs.Calls.{Callee, all_hold}
+use Rattle.exo_tree.specs.Tree.{Procedure, Program}
+use Rattle.exo_meaning.specs.Calls.{all_hold}
 use Rattle.exo_meaning.specs.State.{State}
-use Rattle.exo_meaning.specs.Run.{World, world_of, callee_in, kinds_of}
+use Rattle.exo_meaning.specs.Run.{World}
 use Rattle.exo_meaning.specs.Inputs.{IsAdmissible, AreArguments, is_buffer_of}
-use Rattle.exo_meaning.specs.Units.{field_kind, IsProcedure, AreProcedures, IsUnit}
+use Rattle.exo_meaning.specs.Units.{IsUnit}
 use Rattle.c_printer.specs.CRun.{run_c}
 use Rattle.c_printer.specs.FirstForm.{is_first_unit}
 use Rattle.c_printer.specs.LoweredUnit.{Printing, name_of}
@@ -42,31 +42,24 @@ admissible_too world p q s version good = record {
   asserts = ap (λ cs. all_hold s.scene cs) version.asserts ∙ good.asserts;
 }
 
--- a procedure of a well-formed unit keeps the rules
-rules_at : (fields : List ConfigField) (memories : ℕ) (above : List Callee) (ps : List Procedure) (k : ℕ) (p : Procedure) → AreProcedures fields memories above ps → slice_get ps k ≡ Some p → (callees : ℕ → Option Callee) × IsProcedure (field_kind fields) memories callees p
-rules_at fields memories above [] zero p h e = absurd (nothing_there e)
-rules_at fields memories above [] (suc k) p h e = absurd (nothing_there e)
-rules_at fields memories above (q ∷ ps) zero p h e = (slice_get above, subst (IsProcedure (field_kind fields) memories (slice_get above)) (some_is e) h.0)
-rules_at fields memories above (q ∷ ps) (suc k) p h e = rules_at fields memories (above ++ callee_in (world_of (kinds_of fields) above) q ∷ []) ps k p h.1 e
-
 length_map : {A B : Type 0} (f : A → B) (xs : List A) → length (map f xs) ≡ length xs
 length_map f [] = refl
 length_map f (x ∷ xs) = ap suc (length_map f xs)
 
-module _ (text : Program) (v : Versions) (first : FirstUnitsFollow) (all : UnitsFollow) (lowers : AreLowered (with_versions text v) (printings v)) (good : Grown text 0 0 v) (are : AreVersions text.procedures v) where
+module _ (text : Program) (v : Versions) (first : FirstUnitsFollow) (all : UnitsFollow) (lowers : AreLowered (with_versions text v) (printings v)) (formed : IsUnit text) (good : Grown text 0 v) (are : AreVersions text.procedures v) where
   abbrev program : Program
   program = with_versions text v
 
   listed : (k n : ℕ) (q : Procedure) → slice_get (printings v) k ≡ Some (printing_of v n) → slice_get v.procedures n ≡ Some q → IsListed program (printings v) k q
   listed k n q here there =
-      let r = rules_at text.fields (length text.memories) [] v.procedures n q good.unit.procedures there in
+      let r = good.rules n q there in
       record {
         printing = printing_of v n;
         listed = here;
         there = there;
         callees = r.0;
         rules = r.1;
-        fields = below (length text.fields) (and_parts (nat_lt (length text.fields) (2 ^ 31)) (nat_lt (length text.memories) (2 ^ 31)) (and_parts (nat_lt (length v.procedures) (2 ^ 31)) _ good.unit.counts).1).0;
+        fields = below (length text.fields) (and_parts (nat_lt (length text.fields) (2 ^ 31)) (nat_lt (length text.memories) (2 ^ 31)) (and_parts (nat_lt (length text.procedures) (2 ^ 31)) _ formed.counts).1).0;
         few = let e = length_map (printing_of v) v.emitted in omega (arith, good.few);
       }
     where

@@ -1,5 +1,5 @@
 -- What the program promises of a check that ends well.
-use Rattle.std.specs.Prelude.{◌≡◌, ℕ, ◌⊎◌, List, Option, Some, None}
+use Rattle.std.specs.Prelude.{◌≡◌, ℕ, List, Option, Some, None}
 use Rattle.phrases.specs.Text.{IsText}
 use Rattle.exo_meaning.specs.Units.{IsUnit}
 use Rattle.exo_source.specs.Source.{Item}

@@ -3,6 +3,8 @@ use Rattle.std.specs.Prelude.{◌≡◌, ℕ, true, List, [], Option, Some, None
 use Rattle.exo_tree.specs.Tree.{Procedure, Program}
 use Rattle.exo_meaning.specs.State.{State}
 use Rattle.exo_meaning.specs.Run.{World}
+use Rattle.exo_meaning.specs.Units.{IsUnit}
+use Rattle.fault_laws.specs.Laws.{NothingFaults}
 use Rattle.exo_meaning.specs.Inputs.{IsValid, run_procedure}
 use Rattle.c_printer.specs.CTree.{CFunction}
 use Rattle.c_printer.specs.CText.{text_of}
@@ -75,7 +77,7 @@ pub record IsPrinted (text program : Program) (what : List Printing) (at : ℕ) 
   pub sure : is_first_unit program what ≡ true → SurelyDoesWhat program what at origin version
 
 -- What stands behind the C that is printed for a unit and a schedule: the unit that the text spells, which keeps all rules and shows
--- what its procedures owe, the program that it stands for, the versions that the schedule makes, and for each version that is printed the promise that its C does what a procedure of the text does.
+-- what its procedures owe, so that no admissible input makes any of them fault, the program that it stands for, the versions that the schedule makes, and for each version that is printed the promise that its C does what a procedure of the text does.
 pub record Promise (bytes schedule printed : List ℕ) : Type 0 where
   pub items : List Item
   pub count : ℕ
@@ -84,6 +86,8 @@ pub record Promise (bytes schedule printed : List ℕ) : Type 0 where
   pub spelled : IsText unit (tokens_of bytes) items
   pub keeps : unit_fault items ≡ None
   pub shown : checked (unit_of items) ≡ Shown count
+  pub formed : IsUnit (unit_of items)
+  pub no_fault : NothingFaults (unit_of items)
   pub read : schedule_of schedule ≡ Some lines
   pub ran : run_lines lines (started (unit_of items).procedures) ≡ Ran versions
   pub built : are_built (with_versions (unit_of items) versions) (printings versions) ≡ true
