@@ -1,19 +1,15 @@
 -- What stands behind the C that is printed.
-use Rattle.std.proofs.Common.{◌≡◌, ◌≢◌, MatchBool, MatchOption, IfSome, nat_lt, length, if◌then◌else◌, codes, ◌⊎◌, inl, inr, ⊎_elim, ℕ, zero, suc, true, false, true≢false, Bool, List, [], ◌∷◌, slice_get, Option, Some, None, option_map, refl, sym, ap, ◌∙◌, subst}
-use Rattle.std.proofs.lemmas.Option.{slice_get-map}
+use Rattle.std.proofs.Common.{◌≡◌, ◌≢◌, ◌&&◌, ◌++◌, nat_le, map, MatchBool, MatchOption, IfSome, nat_lt, length, if◌then◌else◌, codes, ◌⊎◌, inl, inr, ⊎_elim, ℕ, true, false, Bool, List, [], ◌∷◌, slice_get, Option, Some, None, refl, sym, ap, ◌∙◌, subst}
 use Rattle.std.proofs.lemmas.Bool.{and_parts}
-use Rattle.exo_tree.specs.Tree.{Procedure, Program}
-use Rattle.exo_meaning.specs.Calls.{all_hold}
-use Rattle.exo_meaning.specs.State.{State}
-use Rattle.exo_meaning.specs.Run.{World}
-use Rattle.exo_meaning.specs.Inputs.{IsAdmissible, AreArguments, is_buffer_of}
-use Rattle.c_printer.specs.LoweredUnit.{Printing, name_of}
-use Rattle.c_printer.specs.FirstForm.{is_first_unit}
-use Rattle.c_lowering.specs.SelfContained.{is_there_alone, are_self_contained}
+use Rattle.exo_tree.specs.Tree.{Program}
+use Rattle.exo_meaning.specs.Units.{IsUnit}
+use Rattle.c_lowering.specs.SelfContained.{are_self_contained}
 use Rattle.c_lowering.specs.Refusals.{too_wide, name_clash}
-use Rattle.c_printer.proofs.FirstUnitsFollow.{first_units_follow}
+use Rattle.c_printer.specs.Laws.{FirstUnitsFollow}
+use Rattle.lowering_laws.specs.Laws.{UnitsFollow}
 use Rattle.phrases.specs.Text.{IsText}
 use Rattle.exo_lexer.specs.declared.place.Place.{Place}
+use Rattle.exo_lexer.specs.Layout.{lexed, place_of, token_of, end_place}
 use Rattle.exo_source.specs.Source.{Item}
 use Rattle.exo_source.specs.Items.{unit}
 use Rattle.exo_source.specs.Texts.{tokens_of, places_of}
@@ -32,74 +28,37 @@ use Rattle.unit_check.specs.Preorder.{line_in}
 use Rattle.unit_check.specs.Checked.{Cause, NotListed, NotShown, Checked, Shown, Refused as Open, checked}
 use Rattle.exo_tree.specs.Places.{Path}
 use Rattle.exo_types.specs.UnitLines.{lines_of}
-use Rattle.exo_cli.specs.Compiled.{broken, not_built, by_names, by_width, ended, scheduled, started, printing_of, printings, with_versions}
+use Rattle.exo_cli.specs.Compiled.{broken, not_built, by_names, by_width, ended, scheduled, started, printings, with_versions}
 use Rattle.exo_cli.specs.Built.{are_in_dram, are_built}
 use Rattle.exo_cli.specs.Lines as lines
 use Rattle.exo_cli.specs.Lines.{Versions, Outcome, run_lines}
-use Rattle.exo_cli.specs.ScheduleForm.{schedule_of}
-use Rattle.exo_cli.specs.Kept.{IsVersionOf, HasOrigin, AreVersions}
-use Rattle.exo_cli.specs.Headline.{DoesWhat, IsPrinted, Promise, Promised}
+use Rattle.exo_cli.specs.ScheduleForm.{numbered, lines_in, emits, within, schedule_of}
+use Rattle.exo_cli.specs.Headline.{Promise, Promised}
 use Rattle.unit_check.specs.Laws.{CheckedUnitsDoNotFault}
 use Rattle.exo_cli.specs.Counted.{Counted}
 use Rattle.exo_cli.specs.declared.lines.Line.{Line}
-use Rattle.exo_cli.proofs.Kept.{nothing_there, some_is, index_is, runs_alike, schedules_run_alike}
+use Rattle.exo_cli.proofs.Kept.{nothing_there, some_is, schedules_run_alike}
+use Rattle.exo_cli.proofs.Growth.{grown, begins_grown}
+use Rattle.exo_cli.proofs.Printed.{each_printed}
 use Rattle.exo_cli.proofs.Counted.{counted}
 
--- each listed procedure is there
-listed_is_there : (program : Program) (what : List Printing) (k : ℕ) (w : Printing) → are_self_contained program what ≡ true → slice_get what k ≡ Some w
-    → is_there_alone program.memories (slice_get program.procedures w.proc) ≡ true
-listed_is_there program [] zero w h e = absurd (nothing_there e)
-listed_is_there program [] (suc k) w h e = absurd (nothing_there e)
-listed_is_there program (u ∷ us) zero w h e =
-    subst (λ l. is_there_alone program.memories (slice_get program.procedures l.proc) ≡ true) (some_is e) (and_parts (is_there_alone program.memories (slice_get program.procedures u.proc)) (are_self_contained program us) h).0
-listed_is_there program (u ∷ us) (suc k) w h e = listed_is_there program us k w (and_parts (is_there_alone program.memories (slice_get program.procedures u.proc)) (are_self_contained program us) h).1 e
+-- the laws of lower crates on which the promise rests
+pub record LawsBelow : Type 0 where
+  pub safe : CheckedUnitsDoNotFault
+  pub first : FirstUnitsFollow
+  pub all : UnitsFollow
 
--- a version has the admissible inputs of its origin
-admissible_too : (world : World) (p q : Procedure) (s : State) → IsVersionOf p q → IsAdmissible world p s → IsAdmissible world q s
-admissible_too world p q s version good = record {
-  arguments = subst (λ ps. AreArguments s.scene ps) (sym version.params) good.arguments;
-  no_others = λ x k. good.no_others x (ap (λ ps. is_buffer_of x ps) (sym version.params) ∙ k);
-  cells = good.cells;
-  tidy = good.tidy;
-  fields = good.fields;
-  asserts = ap (λ cs. all_hold s.scene cs) version.asserts ∙ good.asserts;
-}
-
-module _ (text : Program) (v : Versions) (built : are_self_contained (with_versions text v) (printings v) ≡ true) (are : AreVersions text.procedures v) where
-  -- what is printed for a version comes from its origin
-  version_does : (k n : ℕ) (q : Procedure) → slice_get (printings v) k ≡ Some (printing_of v n) → slice_get v.procedures n ≡ Some q → (o : HasOrigin text.procedures v n q)
-      → is_first_unit (with_versions text v) (printings v) ≡ true → DoesWhat (with_versions text v) (printings v) k o.origin q
-  version_does k n q listed there o h world c_world layout s m valid input =
-      let follows = first_units_follow (with_versions text v) (printings v) k (printing_of v n) q layout world c_world s m h listed there (admissible_too world o.origin q s o.kept valid.admissible) input.same input.separate in
-      (follows.0, follows.1, follows.2, follows.3, sym (runs_alike world o.origin q o.kept s) ∙ follows.4, follows.5, follows.6)
-
-  version_printed : (k n : ℕ) (found : Option Procedure) → slice_get (printings v) k ≡ Some (printing_of v n) → slice_get v.procedures n ≡ found
-      → is_there_alone text.memories found ≡ true → IsPrinted text (with_versions text v) (printings v) k (printing_of v n)
-  version_printed k n None listed there alone = absurd (true≢false (sym alone))
-  version_printed k n (Some q) listed there alone =
-      let o = are.each n q there in
-      record {
-        version = q;
-        origin = o.origin;
-        from = o.from;
-        there = there;
-        in_text = o.in_text;
-        origin_named = ap (λ i. name_of (slice_get v.procedures i)) (index_is v.origins n o.from o.of) ∙ ap name_of (are.first o.from o.origin o.in_text);
-        nothing_differs = refl;
-        alike = o.kept;
-        kept = version_does k n q listed there o;
-      }
-
-  each_printed : (k : ℕ) (w : Printing) → slice_get (printings v) k ≡ Some w → IsPrinted text (with_versions text v) (printings v) k w
-  each_printed k w listed = go (slice_get v.emitted k) (sym (slice_get-map (printing_of v) v.emitted k) ∙ listed)
-    where
-      go : (o : Option ℕ) → option_map (printing_of v) o ≡ Some w → IsPrinted text (with_versions text v) (printings v) k w
-      go None e = absurd (nothing_there e)
-      go (Some n) e =
-          let is = some_is e in
-          let here = listed ∙ ap Some (sym is) in
-          subst (IsPrinted text (with_versions text v) (printings v) k) is
-          (version_printed k n (slice_get v.procedures n) here refl (listed_is_there (with_versions text v) (printings v) k (printing_of v n) built here))
+-- at most one line of a schedule that is read prints
+schedule_is_short : (bytes : List ℕ) (ls : List Line) → schedule_of bytes ≡ Some ls → nat_le (emits ls) 1 ≡ true
+schedule_is_short bytes ls = short (lines_in (numbered (map token_of (lexed bytes)) (map place_of (lexed bytes) ++ end_place bytes ∷ [])))
+  where
+    short : (o : Option (List Line)) → within o ≡ Some ls → nat_le (emits ls) 1 ≡ true
+    short None e = absurd (nothing_there e)
+    short (Some ms) e = go (nat_le (length ms) 4096 && nat_le (emits ms) 1) refl e
+      where
+        go : (t : Bool) → (nat_le (length ms) 4096 && nat_le (emits ms) 1) ≡ t → (if t then Some ms else None) ≡ Some ls → nat_le (emits ls) 1 ≡ true
+        go true d f = ap (λ l. nat_le (emits l) 1) (sym (some_is f)) ∙ (and_parts (nat_le (length ms) 4096) (nat_le (emits ms) 1) d).1
+        go false d f = absurd (nothing_there f)
 
 accepted_is_not : {text message : List ℕ} → Accepted text ≡ Rejected message → ⊥
 accepted_is_not e = cc
@@ -107,7 +66,7 @@ accepted_is_not e = cc
 accepted_is : {text other : List ℕ} → Accepted text ≡ Accepted other → text ≡ other
 accepted_is e = cc
 
-module _ (procs source schedule bytes text : List ℕ) (items : List Item) (spelled : IsText unit (tokens_of source) items) (keeps : unit_fault items ≡ None) (count : ℕ) (shown : checked (unit_of items) ≡ Shown count) where
+module _ (procs source schedule bytes text : List ℕ) (items : List Item) (spelled : IsText unit (tokens_of source) items) (keeps : unit_fault items ≡ None) (count : ℕ) (shown : checked (unit_of items) ≡ Shown count) (formed : IsUnit (unit_of items)) (laws : LawsBelow) where
   -- what is printed of the versions is built, narrow, and has names that C keeps
   module _ (ls : List Line) (v : Versions) (read : schedule_of bytes ≡ Some ls) (ran : run_lines ls (started (unit_of items).procedures) ≡ lines.Done v) where
     abbrev with_all : Program
@@ -123,13 +82,15 @@ module _ (procs source schedule bytes text : List ℕ) (items : List Item) (spel
       keeps = keeps;
       count = count;
       shown = shown;
+      formed = formed;
+      no_fault = laws.safe (unit_of items) count formed shown;
       read = read;
       ran = ran;
       built = built;
       narrow = narrow;
       named = named;
       text = accepted_is e;
-      each = each_printed (unit_of items) v (and_parts (are_self_contained with_all (printings v)) (are_in_dram with_all (printings v)) built).0 (schedules_run_alike (unit_of items).procedures ls v ran);
+      each = each_printed (unit_of items) v laws.first laws.all (record { alone = (and_parts (are_self_contained with_all (printings v)) (are_in_dram with_all (printings v)) built).0; narrow = narrow; named = named }) formed (grown (unit_of items) ls (started (unit_of items).procedures) v (begins_grown (unit_of items) ls formed (schedule_is_short bytes ls read)) ran) (schedules_run_alike (unit_of items).procedures ls v ran);
     }
     by_name built narrow (Some name) named e = absurd (accepted_is_not e)
 
@@ -158,24 +119,24 @@ accepted_is_not_refused : (text procs : List ℕ) (line : Path → ℕ) (c : Cau
 accepted_is_not_refused text procs line (NotListed f) e = accepted_is_not e
 accepted_is_not_refused text procs line (NotShown what path v) e = accepted_is_not e
 
-module _ (procs source schedule bytes text : List ℕ) where
-  by_owed : (items : List Item) → IsText unit (tokens_of source) items → unit_fault items ≡ None → (c : Checked) → checked (unit_of items) ≡ c
+module _ (laws : LawsBelow) (procs source schedule bytes text : List ℕ) where
+  by_owed : (items : List Item) → IsText unit (tokens_of source) items → unit_fault items ≡ None → IsUnit (unit_of items) → (c : Checked) → checked (unit_of items) ≡ c
       → Accepted text ≡ owed procs schedule (schedule_of bytes) (unit_of items) (lines_of (places_of source) items) c → Promise source bytes text
-  by_owed items spelled keeps (Shown count) shown e = by_read procs source schedule bytes text items spelled keeps count shown (schedule_of bytes) refl e
-  by_owed items spelled keeps (Open k cause) shown e = absurd (accepted_is_not_refused text procs (line_in (slice_get (unit_of items).procedures k) (slice_get (lines_of (places_of source) items) k)) cause e)
+  by_owed items spelled keeps formed (Shown count) shown e = by_read procs source schedule bytes text items spelled keeps count shown formed laws (schedule_of bytes) refl e
+  by_owed items spelled keeps formed (Open k cause) shown e = absurd (accepted_is_not_refused text procs (line_in (slice_get (unit_of items).procedures k) (slice_get (lines_of (places_of source) items) k)) cause e)
 
-  by_rules : (items : List Item) → IsText unit (tokens_of source) items → (o : Option Fault) → unit_fault items ≡ o
+  by_rules : (items : List Item) → IsText unit (tokens_of source) items → (unit_fault items ≡ None → IsUnit (unit_of items)) → (o : Option Fault) → unit_fault items ≡ o
       → Accepted text ≡ typed procs schedule (schedule_of bytes) (places_of source) items o → Promise source bytes text
-  by_rules items spelled None keeps e = by_owed items spelled keeps (checked (unit_of items)) refl e
-  by_rules items spelled (Some f) breaks e = absurd (accepted_is_not_broken procs (slice_get (places_of source) f.token) f e)
+  by_rules items spelled formed None keeps e = by_owed items spelled keeps (formed keeps) (checked (unit_of items)) refl e
+  by_rules items spelled formed (Some f) breaks e = absurd (accepted_is_not_broken procs (slice_get (places_of source) f.token) f e)
 
   -- an accepted text keeps the promise
   pub accepted_is_promised : IsCompiled procs source schedule bytes (Accepted text) → Promise source bytes text
-  accepted_is_promised = ⊎_elim (λ h. absurd (accepted_is_not h.2)) (λ h. by_rules h.0 h.1 (unit_fault h.0) refl h.2)
+  accepted_is_promised = ⊎_elim (λ h. absurd (accepted_is_not h.2)) (λ h. by_rules h.0 h.1 h.2 (unit_fault h.0) refl h.3)
 
 -- ---- and so does what the program writes
 
-module _ (safe_law : CheckedUnitsDoNotFault) (words : List (List ℕ)) (files : Folder) (before after : Option (List ℕ)) (text : List ℕ) (written : after ≡ with_more before text) where
+module _ (laws : LawsBelow) (words : List (List ℕ)) (files : Folder) (before after : Option (List ℕ)) (text : List ℕ) (written : after ≡ with_more before text) where
   by_schedule : (procs schedule unit : List ℕ) → command_of words ≡ Some (Compile procs schedule) → content_of files procs ≡ Some unit
       → (held : Option (List ℕ)) → content_of files schedule ≡ held → Opens held schedule (λ lines. IsCompiled procs unit schedule lines) (Accepted text) → Promised words files before after
   by_schedule procs schedule unit asked first None there e = absurd (accepted_is_not_unread e)
@@ -196,7 +157,7 @@ module _ (safe_law : CheckedUnitsDoNotFault) (words : List (List ℕ)) (files : 
         unit_file = first;
         schedule_file = there;
         written = written;
-        kept = accepted_is_promised procs unit schedule bytes text e;
+        kept = accepted_is_promised laws procs unit schedule bytes text e;
       }
 
   by_unit : (procs schedule : List ℕ) → command_of words ≡ Some (Compile procs schedule) → (held : Option (List ℕ)) → content_of files procs ≡ held
@@ -218,15 +179,15 @@ module _ (safe_law : CheckedUnitsDoNotFault) (words : List (List ℕ)) (files : 
       accepted_is_not_misused : {t m : List ℕ} → Accepted t ≡ Misused m → ⊥
       accepted_is_not_misused e = cc
   by_words (Some (Compile procs schedule)) is e = inl (by_unit procs schedule is (content_of files procs) refl e)
-  by_words (Some (Check procs)) is e = inr (counted safe_law words files before after text procs written is e)
+  by_words (Some (Check procs)) is e = inr (counted laws.safe words files before after text procs written is e)
 
 -- an answer that ends well is accepted
-by_answer : CheckedUnitsDoNotFault → (words : List (List ℕ)) (files : Folder) (before after : Option (List ℕ)) (answer : Answer) → Answers words files answer → Ok ≡ status_of answer → after ≡ with_more before (for_out answer)
+by_answer : LawsBelow → (words : List (List ℕ)) (files : Folder) (before after : Option (List ℕ)) (answer : Answer) → Answers words files answer → Ok ≡ status_of answer → after ≡ with_more before (for_out answer)
     → Promised words files before after ⊎ Counted words files before after
-by_answer safe_law words files before after (Accepted text) answers ok written = by_words safe_law words files before after text written (command_of words) refl answers
-by_answer safe_law words files before after (Rejected message) answers ok written = absurd (let e : Ok ≡ Refused = ok in cc)
-by_answer safe_law words files before after (Unread message) answers ok written = absurd (let e : Ok ≡ ReadFault = ok in cc)
-by_answer safe_law words files before after (Misused message) answers ok written = absurd (let e : Ok ≡ Usage = ok in cc)
+by_answer laws words files before after (Accepted text) answers ok written = by_words laws words files before after text written (command_of words) refl answers
+by_answer laws words files before after (Rejected message) answers ok written = absurd (let e : Ok ≡ Refused = ok in cc)
+by_answer laws words files before after (Unread message) answers ok written = absurd (let e : Ok ≡ ReadFault = ok in cc)
+by_answer laws words files before after (Misused message) answers ok written = absurd (let e : Ok ≡ Usage = ok in cc)
 
 not_memory : Ok ≢ Memory
 not_memory e = cc
@@ -238,12 +199,12 @@ not_write_fault : Ok ≢ WriteFault
 not_write_fault e = cc
 
 -- what the program writes where it ends well keeps the promise
-pub ends_promised : CheckedUnitsDoNotFault → (words : List (List ℕ)) (before after : Moment) (status : Status) → Ends words before after status → status ≡ Ok
+pub ends_promised : LawsBelow → (words : List (List ℕ)) (before after : Moment) (status : Status) → Ends words before after status → status ≡ Ok
     → IfSome before.told (λ files. Promised words files before.out after.out ⊎ Counted words files before.out after.out)
-ends_promised safe_law words before after status ends ok = told before.told (subst (λ s. Ends words before after s) ok ends).told
+ends_promised laws words before after status ends ok = told before.told (subst (λ s. Ends words before after s) ok ends).told
   where
     told : (o : Option Folder) → (Ok ≢ Memory → Ok ≢ ReadFault → Ok ≢ WriteFault → IfSome o (λ files.
         (answer : Answer) × Answers words files answer × (Ok ≡ status_of answer) × (after.out ≡ with_more before.out (for_out answer)) × (after.err ≡ with_more before.err (for_err answer))))
         → IfSome o (λ files. Promised words files before.out after.out ⊎ Counted words files before.out after.out)
     told None h = tt
-    told (Some files) h = let a = h not_memory not_read_fault not_write_fault in by_answer safe_law words files before.out after.out a.0 a.1 a.2 a.3
+    told (Some files) h = let a = h not_memory not_read_fault not_write_fault in by_answer laws words files before.out after.out a.0 a.1 a.2 a.3

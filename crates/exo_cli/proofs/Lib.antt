@@ -10,5 +10,7 @@ pub mod Rules
 pub mod Forwarding
 pub mod Unique
 pub mod Counted
+pub mod Growth
+pub mod Printed
 pub mod Headline
 pub mod Starting

@@ -104,7 +104,7 @@ of_body T o p q has same =
     let c = has.changed in
     ap T (sym c.after) ∙ same c.around c.target c.indices c.value ∙ ap T c.before
 
-changed_procedure : (fields : ℕ → Option Kind) (memories : ℕ) (table : ℕ → Option Callee) (o : Operation) (p q : Procedure) → HasBody o p q
+pub changed_procedure : (fields : ℕ → Option Kind) (memories : ℕ) (table : ℕ → Option Callee) (o : Operation) (p q : Procedure) → HasBody o p q
     → IsProcedure fields memories table p → IsProcedure fields memories table q
 changed_procedure fields memories table o p q has r =
     let ids : bound_ids (with_body p has.new) ≡ bound_ids p = ap bound_ids has.is ∙ changed_ids o p q has in

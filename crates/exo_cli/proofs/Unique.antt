@@ -34,7 +34,13 @@ module _ (name source : List ℕ) (given : List Item → Answer) where
       one
 
 compiled_once : (procs source schedule lines : List ℕ) (a b : Answer) → IsCompiled procs source schedule lines a → IsCompiled procs source schedule lines b → a ≡ b
-compiled_once procs source schedule lines = read_once procs source (λ items. typed procs schedule (schedule_of lines) (places_of source) items (unit_fault items))
+compiled_once procs source schedule lines a b one other = read_once procs source given a b (plainly a one) (plainly b other)
+  where
+    given : List Item → Answer
+    given items = typed procs schedule (schedule_of lines) (places_of source) items (unit_fault items)
+
+    plainly : (a : Answer) → IsCompiled procs source schedule lines a → IsUnread procs source a ⊎ ((items : List Item) × IsText unit (tokens_of source) items × (a ≡ given items))
+    plainly a h = ⊎_elim inl (λ t. inr (t.0, t.1, t.3)) h
 
 checked_once : (procs source : List ℕ) (a b : Answer) → IsChecked procs source a → IsChecked procs source b → a ≡ b
 checked_once procs source a b one other = read_once procs source given a b (plainly a one) (plainly b other)

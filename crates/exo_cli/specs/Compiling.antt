@@ -5,6 +5,7 @@ use Rattle.phrases.specs.Text.{IsText}
 use Rattle.exo_tree.specs.Tree.{Program}
 use Rattle.exo_tree.specs.declared.lines.ProcLines.{ProcLines}
 use Rattle.exo_lexer.specs.declared.place.Place.{Place}
+use Rattle.exo_meaning.specs.Units.{IsUnit}
 use Rattle.exo_source.specs.Source.{Item}
 use Rattle.exo_source.specs.Items.{unit}
 use Rattle.exo_source.specs.Texts.{tokens_of, places_of}
@@ -28,10 +29,10 @@ abbrev pub typed : List ℕ → List ℕ → Option (List Line) → List Place �
 typed procs schedule lines places items None = owed procs schedule lines (unit_of items) (lines_of places items) (checked (unit_of items))
 typed procs schedule lines places items (Some f) = broken procs (slice_get places f.token) f.rule
 
--- the text is a unit
+-- the text is a unit, which is well formed where it keeps the rules
 abbrev pub IsTyped : List ℕ → List ℕ → List ℕ → List ℕ → Answer → Type 0
 IsTyped procs text schedule lines answer =
-    (items : List Item) × IsText unit (tokens_of text) items × (answer ≡ typed procs schedule (schedule_of lines) (places_of text) items (unit_fault items))
+    (items : List Item) × IsText unit (tokens_of text) items × (unit_fault items ≡ None → IsUnit (unit_of items)) × (answer ≡ typed procs schedule (schedule_of lines) (places_of text) items (unit_fault items))
 
 -- This is the answer to the bytes of the two files, whose names are given.
 abbrev pub IsCompiled : List ℕ → List ℕ → List ℕ → List ℕ → Answer → Type 0

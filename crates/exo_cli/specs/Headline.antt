@@ -3,18 +3,20 @@ use Rattle.std.specs.Prelude.{◌≡◌, ℕ, true, List, [], Option, Some, None
 use Rattle.exo_tree.specs.Tree.{Procedure, Program}
 use Rattle.exo_meaning.specs.State.{State}
 use Rattle.exo_meaning.specs.Run.{World}
+use Rattle.exo_meaning.specs.Units.{IsUnit}
+use Rattle.fault_laws.specs.Laws.{NothingFaults}
 use Rattle.exo_meaning.specs.Inputs.{IsValid, run_procedure}
 use Rattle.c_printer.specs.CTree.{CFunction}
 use Rattle.c_printer.specs.CText.{text_of}
 use Rattle.c_printer.specs.CRun.{CWorld, run_c}
 use Rattle.c_printer.specs.Machine.{Machine, Done}
-use Rattle.c_printer.specs.Names.{c_names}
 use Rattle.c_printer.specs.Lowered.{Naming}
-use Rattle.c_printer.specs.LoweredUnit.{Printing, naming_in, global_names, lowered}
+use Rattle.c_printer.specs.LoweredUnit.{Printing, lowered}
 use Rattle.c_printer.specs.SameInput.{AreSame}
 use Rattle.c_printer.specs.FirstForm.{is_first_unit}
 use Rattle.c_lowering.specs.Refusals.{too_wide, name_clash}
-use Rattle.c_printer.specs.Simulation.{Layout}
+use Rattle.c_printer.specs.Simulation.{Layout, Follows}
+use Rattle.lowering_laws.specs.Laws.{naming_of, declared_in, IsSameStart, LeavesTheSame}
 use Rattle.c_printer.specs.Laws.{AreSeparate, Agrees}
 use Rattle.phrases.specs.Text.{IsText}
 use Rattle.exo_source.specs.Source.{Item}
@@ -33,27 +35,35 @@ use Rattle.exo_cli.specs.Lines.{Versions, Done as Ran, run_lines}
 use Rattle.exo_cli.specs.ScheduleForm.{schedule_of}
 use Rattle.exo_cli.specs.declared.lines.Line.{Line}
 
--- the names that the binders of a version have in the C
-abbrev pub naming_of : Program → List Printing → Procedure → Naming
-naming_of program what q = naming_in program (c_names (global_names program what) q)
+-- ---- versions of the first form
 
 -- The C machine begins with the input of the procedure: each argument is an object of its own, dense and row-major, with the same cells.
 pub record IsSameInput (naming : Naming) (layout : Layout) (q : Procedure) (s : State) (m : Machine) : Type 0 where
   pub same : AreSame naming (λ x. 0) layout s m q.params
   pub separate : AreSeparate layout s
 
--- The C function at that place of the file, printed for the version q, does what the procedure p of the text does: on each valid input
--- of p and each input of the machine that is the same, p does not fault, the C does not fault, both end, each cell of an argument that
+-- The C function at that place of the file, printed for the version q, surely does what the procedure p of the text does: on each valid
+-- input of p and each input of the machine that is the same, p does not fault, the C does not fault, both end, each cell of an argument that
 -- p leaves defined has the same value after the C, every cell outside the arguments is as it was, and no configuration field differs.
-abbrev pub DoesWhat : Program → List Printing → ℕ → Procedure → Procedure → Type 0
-DoesWhat program what at p q = (world : World) (c_world : CWorld) (layout : Layout) (s : State) (m : Machine)
+abbrev pub SurelyDoesWhat : Program → List Printing → ℕ → Procedure → Procedure → Type 0
+SurelyDoesWhat program what at p q = (world : World) (c_world : CWorld) (layout : Layout) (s : State) (m : Machine)
     → IsValid world p s → IsSameInput (naming_of program what q) layout q s m
     → (f : CFunction) × (t : State) × (n : Machine) × (slice_get (lowered program what).functions at ≡ Some f) × (run_procedure world p s ≡ Some t) × (run_c c_world f.body m ≡ Done n) × Agrees (naming_of program what q) layout s m t n
 
+-- ---- versions
+
+-- The C function at that place of the file, printed for the version q, does what the procedure p of the text does: on each valid input
+-- of p and each input of the machine that is the same, the C does not fault where p does not, and where it finds store for its
+-- allocations it ends; then each cell of an argument that p leaves defined has the same value after the C, every cell outside the
+-- arguments is as it was, and each configuration field that the C declares has its number.
+abbrev pub DoesWhat : Program → List Printing → ℕ → Procedure → Procedure → Type 0
+DoesWhat program what at p q = (world : World) (c_world : CWorld) (layout : Layout) (s : State) (m : Machine)
+    → IsValid world p s → IsSameStart program what q layout s m
+    → (f : CFunction) × (slice_get (lowered program what).functions at ≡ Some f) × Follows (LeavesTheSame (naming_of program what q) (declared_in program what) layout s m) (run_procedure world p s) (run_c c_world f.body m)
+
 -- The version of that number is printed: it comes from a procedure of the text, whose name the report gives, with no field that
--- may differ, and runs like it. Program is that of the text with the versions, and what lists the versions printed.
--- Where these are of the first form, the C does what that procedure does. For loops, conditions and buffers the C is that of its
--- definition, and that it does what the version does is not proved yet.
+-- may differ, runs like it, and its C does what that procedure does; of the first form it surely does. Program is that of the text with
+-- the versions, and what lists the versions printed.
 pub record IsPrinted (text program : Program) (what : List Printing) (at : ℕ) (w : Printing) : Type 0 where
   pub version : Procedure
   pub origin : Procedure
@@ -63,10 +73,11 @@ pub record IsPrinted (text program : Program) (what : List Printing) (at : ℕ) 
   pub origin_named : w.origin ≡ origin.name
   pub nothing_differs : w.fields ≡ []
   pub alike : IsVersionOf origin version
-  pub kept : is_first_unit program what ≡ true → DoesWhat program what at origin version
+  pub kept : DoesWhat program what at origin version
+  pub sure : is_first_unit program what ≡ true → SurelyDoesWhat program what at origin version
 
 -- What stands behind the C that is printed for a unit and a schedule: the unit that the text spells, which keeps all rules and shows
--- what its procedures owe, the program that it stands for, the versions that the schedule makes, and for each version that is printed the promise that its C does what a procedure of the text does.
+-- what its procedures owe, so that no admissible input makes any of them fault, the program that it stands for, the versions that the schedule makes, and for each version that is printed the promise that its C does what a procedure of the text does.
 pub record Promise (bytes schedule printed : List ℕ) : Type 0 where
   pub items : List Item
   pub count : ℕ
@@ -75,6 +86,8 @@ pub record Promise (bytes schedule printed : List ℕ) : Type 0 where
   pub spelled : IsText unit (tokens_of bytes) items
   pub keeps : unit_fault items ≡ None
   pub shown : checked (unit_of items) ≡ Shown count
+  pub formed : IsUnit (unit_of items)
+  pub no_fault : NothingFaults (unit_of items)
   pub read : schedule_of schedule ≡ Some lines
   pub ran : run_lines lines (started (unit_of items).procedures) ≡ Ran versions
   pub built : are_built (with_versions (unit_of items) versions) (printings versions) ≡ true

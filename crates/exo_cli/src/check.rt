@@ -50,7 +50,7 @@ pub(crate) fn check<R: Threads + Sync, G: Gate>(
 }
 
 /// Reads the unit of the text; where that keeps all rules, it is well formed.
-fn read_formed(alloc: Global, text: &[u8]) -> Result<Source, ReadError>
+pub(crate) fn read_formed(alloc: Global, text: &[u8]) -> Result<Source, ReadError>
     requires { length text.now ≤ 1048576 }
     ensures reads { ReadsUnit text.now result }
     ensures placed { IfOk result (λ source. IsPlaced source) }

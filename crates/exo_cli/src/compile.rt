@@ -16,7 +16,7 @@ ghost use Rattle.exo_cli.specs.Replies.{plain};
 ghost use Rattle.exo_cli.specs.ScheduleForm.{schedule_of};
 
 use crate::built::are_built;
-use crate::check::refuse_unit;
+use crate::check::{read_formed, refuse_unit};
 use crate::lines::{Act, Line};
 use crate::messages;
 use crate::reply::Reply;
@@ -24,11 +24,9 @@ use crate::schedule::read_schedule;
 use crate::session::{Session, Why};
 use c_lowering::lower_unit;
 use c_printer::{LowerError, Printed, c_text};
-use exo_formed::laws::read_units_are_formed;
 use exo_names::error::{TypeError, TypeKind};
-use exo_source::unit::{ReadError, ReadKind, Source, read_unit};
+use exo_source::unit::{ReadError, ReadKind, Source};
 use exo_tree::{Lines, Name, ProcId, Procs, Unit};
-use exo_types::laws::read_texts_are_placed;
 use exo_types::unit::check_types;
 use ob_check::{Gate, new_cache};
 use std::alloc::{AllocError, Global};
@@ -50,9 +48,7 @@ pub(crate) fn compile<R: Threads + Sync, G: Gate>(
     ensures answer { IfOk result (λ reply. IsCompiled procs.now unit.now schedule.now lines.now (plain reply)) }
     ensures verdict { IfOk result (λ reply. IsVerdict (plain reply)) }
 {
-    read_texts_are_placed();
-    read_units_are_formed();
-    match read_unit(alloc, unit) {
+    match read_formed(alloc, unit) {
         Ok(source) => type_unit(rt, alloc, procs, &source, schedule, lines, gate),
         Err(e) => refuse_text(alloc, procs, e),
     }

@@ -5,6 +5,10 @@ ghost use Rattle.exo_cli.specs.Kept.{CommutedIsKept, CommutedRunsAlike, Commuted
 ghost use Rattle.exo_cli.specs.Moves.{CommutedForwards};
 ghost use Rattle.exo_cli.specs.Work.{AnswersAreUnique};
 
+use c_printer::laws::first_units_follow;
+use lowering_laws::laws::units_follow;
+use unit_check::laws::checked_units_do_not_fault;
+
 /// A version with the sides of a sum or of a product exchanged runs like the one that it is made of.
 pub fn commuted_versions_run_alike()
     ensures { CommutedRunsAlike }
@@ -30,11 +34,14 @@ pub fn schedules_run_alike()
     ensures { SchedulesRunAlike }
 {}
 
-/// What stands behind the C that is printed: versions that run like procedures of the text; and where they are of the first form,
-/// the C does what these do.
+/// The C that is printed does what procedures of the text do, and none of these faults.
 pub fn accepted_texts_are_promised()
     ensures { AcceptedIsPromised }
-{}
+{
+    checked_units_do_not_fault();
+    first_units_follow();
+    units_follow();
+}
 
 /// The words and the files have one answer.
 pub fn answers_are_unique()

@@ -14,6 +14,8 @@ use crate::outside::{FileFault, Files, Sink};
 use crate::reply::Reply;
 use crate::status::Status;
 use crate::words::{Command, read_command};
+use c_printer::laws::first_units_follow;
+use lowering_laws::laws::units_follow;
 use ob_check::Gate;
 use std::alloc::{AllocError, Global};
 use std::thread::Threads;
@@ -57,6 +59,8 @@ pub fn exoc<R: Threads + Sync, F: Files, O: Sink, E: Sink, G: Gate>(
         Promised (texts words.now) folder (O.taken out.old) (O.taken out.new) ⊎ Counted (texts words.now) folder (O.taken out.old) (O.taken out.new)) }
 {
     checked_units_do_not_fault();
+    first_units_follow();
+    units_follow();
     match reply_to(rt, alloc, words, files, gate) {
         Ok(reply) => reply.deliver(out, err),
         Err(_) => Status::Memory,

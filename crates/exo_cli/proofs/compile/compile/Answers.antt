@@ -1,11 +1,14 @@
-use Rattle.std.proofs.Common.{◌≤◌, length, subst}
+use Rattle.std.proofs.Common.{ap, ◌∙◌, inr}
 use Rattle.exo_types.specs.Typed.{items_of}
+use Rattle.exo_types.specs.UnitRules.{unit_fault}
+use Rattle.exo_cli.specs.Compiling.{typed}
+use Rattle.exo_cli.specs.ScheduleForm.{schedule_of}
+use Rattle.exo_cli.proofs.Running.{if-both}
 use Rattle.exo_cli.proofs.compile.compile.Goals as goal
 
-pub type_unit-requires-clause-placed : goal.type_unit-requires-clause-placed
-type_unit-requires-clause-placed g c ks lives = c.read_texts_are_placed.ensures c.args.unit.now c.in-Ok.source c.in-Ok.ensures.0 c.in-Ok.ensures.1 c.in-Ok.source.few
-
-pub type_unit-requires-clause-formed : goal.type_unit-requires-clause-formed
-type_unit-requires-clause-formed g c ks lives =
-    c.read_units_are_formed.ensures c.args.unit.now (items_of c.in-Ok.source) c.in-Ok.ensures.0
-    (subst (λ places. length places ≤ 0x100001) c.in-Ok.ensures.1 c.in-Ok.source.few)
+pub returns-in-Ok-clause-answer : goal.returns-in-Ok-clause-answer
+returns-in-Ok-clause-answer g c =
+    let items = items_of c.in-Ok.source in
+    if-both c.type_unit.result _ _ _ (λ reply given verdict.
+    inr (items, c.in-Ok.ensures.reads.0, c.in-Ok.ensures.formed, given ∙ ap (λ places. typed c.args.procs.now c.args.schedule.now (schedule_of c.args.lines.now) places items (unit_fault items)) c.in-Ok.ensures.reads.1))
+    c.type_unit.ensures.answer c.type_unit.ensures.verdict

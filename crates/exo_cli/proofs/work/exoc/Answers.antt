@@ -1,10 +1,11 @@
 use Rattle.exo_cli.specs.Replies.{plain}
 use Rattle.exo_cli.proofs.Endings.{ends}
-use Rattle.exo_cli.proofs.Headline.{ends_promised}
+use Rattle.exo_cli.proofs.Headline.{LawsBelow, ends_promised}
 use Rattle.exo_cli.proofs.work.exoc.Goals as goal
 
 pub returns-in-Ok : goal.returns-in-Ok
 returns-in-Ok g c =
     let all = ends _ _ _ (plain c.in-Ok.reply) c.deliver.result c.in-Ok.ensures
     (record { ended = c.deliver.ensures.status; out = c.deliver.ensures.out; err = c.deliver.ensures.err; fault = c.deliver.ensures.fault }) in
-    record { ends = all; promise = λ ok. ends_promised c.checked_units_do_not_fault.ensures _ _ _ _ all ok }
+    let laws : LawsBelow = record { safe = c.checked_units_do_not_fault.ensures; first = c.first_units_follow.ensures; all = c.units_follow.ensures } in
+    record { ends = all; promise = λ ok. ends_promised laws _ _ _ _ all ok }
