@@ -307,17 +307,17 @@ fn is_called<R: Threads + Sync + AllocGlobal>(
 fn a_reserved_word_is_renamed_as_a_binder(rt: HostRuntime) -> Result<(), Fail> {
     let alloc = rt.alloc();
     for word in WORDS {
-        let free = word == "stdint" || word == "i";
-        let called = if free {
-            String::from_str(alloc, word)?
-        } else {
-            format!(in alloc; "{word}_1")?
-        };
-        assert!(rt; is_called(&rt, word, called.as_str())?, "{word}");
+        let mut called = String::from_str(alloc, word)?;
+        if word != "stdint" && word != "i" {
+            called.push_str("_1")?;
+        }
+        assert!(rt; is_called(&rt, word, called.as_str())?);
     }
     for word in OWN {
-        let called = format!(in alloc; "v{word}_1_")?;
-        assert!(rt; is_called(&rt, word, called.as_str())?, "{word}");
+        let mut called = String::from_str(alloc, "v")?;
+        called.push_str(word)?;
+        called.push_str("_1_")?;
+        assert!(rt; is_called(&rt, word, called.as_str())?);
     }
     Ok(())
 }
