@@ -16,7 +16,7 @@ use Rattle.affine_places.specs.Roots.{roots_of}
 use Rattle.affine_places.specs.Readings.{place_reading, place_flags, field_formula_fits}
 use Rattle.exo_facts.specs.Contexts.{told, fact_formula, fact_fits, formulas, all_fit}
 use Rattle.exo_facts.specs.Walks.{SameBelow, Added}
-use Rattle.exo_facts.specs.declared.ground.Ground.{Ground}
+use Rattle.exo_facts.specs.declared.basis.Ground.{Ground}
 use Rattle.exo_facts.proofs.Fields.{facts_same}
 
 -- ---- one formula

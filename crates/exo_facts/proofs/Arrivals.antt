@@ -13,7 +13,7 @@ use Rattle.affine_forms.specs.Outcomes.{IsWide}
 use Rattle.affine_places.specs.Facts.{FieldFact}
 use Rattle.exo_facts.specs.Contexts.{formulas, all_fit, facts_at, facts_from, known_at_place, context_fits, IsPlaceOf, ContextMade}
 use Rattle.exo_facts.specs.Walks.{telling_of, SameBelow, head_facts, round_facts, place_of}
-use Rattle.exo_facts.specs.declared.ground.Ground.{Ground}
+use Rattle.exo_facts.specs.declared.basis.Ground.{Ground}
 use Rattle.exo_facts.proofs.Adding.{Came, told_same}
 use Rattle.exo_facts.proofs.Ways.{Found, found}
 

@@ -15,7 +15,7 @@ use Rattle.affine_forms.specs.Formulas.{Formula}
 use Rattle.affine_forms.specs.Outcomes.{IsWide}
 use Rattle.exo_facts.specs.Contexts.{all_fit}
 use Rattle.exo_facts.specs.Walks.{SameBelow, Added, known_first}
-use Rattle.exo_facts.specs.declared.ground.Ground.{Ground}
+use Rattle.exo_facts.specs.declared.basis.Ground.{Ground}
 use Rattle.exo_facts.proofs.Rooms.{parts}
 use Rattle.exo_facts.proofs.Adding.{Came, added_more, refused_first, left_early}
 

@@ -13,7 +13,7 @@ use Rattle.affine_forms.specs.declared.error.FormError.{FormError}
 use Rattle.affine_forms.specs.Formulas.{Formula}
 use Rattle.affine_forms.specs.Outcomes.{IsWide}
 use Rattle.exo_facts.specs.Contexts.{telling, formulas, all_fit}
-use Rattle.exo_facts.specs.declared.ground.Ground.{Ground}
+use Rattle.exo_facts.specs.declared.basis.Ground.{Ground}
 
 abbrev pub telling_of : Ground → Telling
 telling_of g = telling (program g.unit.now) (procedure g.proc.now)

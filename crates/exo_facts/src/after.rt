@@ -10,7 +10,7 @@ ghost use Rattle.exo_facts.specs.Values.{plain_value};
 ghost use Rattle.exo_facts.specs.Walks.{telling_of, kept_value, value_after, value_at_end};
 
 use crate::agreement::is_same_value;
-use crate::ground::Ground;
+use crate::basis::Ground;
 use crate::value::{Right, Value};
 use crate::writes::{call_writes, writes};
 use affine_places::AtEntry;
@@ -33,17 +33,17 @@ pub(crate) fn path_in(outer: &Path, branch: Branch, k: usize) -> Path
 
 /// A value on which the ends of two branches agree, else one that the statement at the path makes unknown.
 fn kept<'a>(
-    ground: &Ground<'_, '_>,
+    basis: &Ground<'_, '_>,
     alloc: Global,
     path: &Path,
     one: Value<'a>,
     other: &Value<'a>,
 ) -> Result<Value<'a>, AllocError>
-    ensures { IfOk result (λ v. plain_value v ≡ kept_value (telling_of ground.now) path.now (plain_value one.entry) (plain_value other.now)) }
+    ensures { IfOk result (λ v. plain_value v ≡ kept_value (telling_of basis.now) path.now (plain_value one.entry) (plain_value other.now)) }
 {
     let at = AtEntry {
-        fields: &ground.unit.fields,
-        roots: ground.roots,
+        fields: &basis.unit.fields,
+        roots: basis.roots,
     };
     if is_same_value(alloc, &at, &one, other)? {
         Ok(one)
@@ -66,17 +66,17 @@ fn unless_written<'a>(may: bool, path: &Path, value: Value<'a>) -> Value<'a>
 /// What is known of a field after the statement at a path.
 #[cycle(after)]
 pub(crate) fn after<'a>(
-    ground: &Ground<'_, '_>,
+    basis: &Ground<'_, '_>,
     alloc: Global,
     f: FieldId,
     path: &Path,
     s: &'a Stmt,
     value: Value<'a>,
 ) -> Result<Value<'a>, AllocError>
-    requires field { f.0 < ground.now.count }
+    requires field { f.0 < basis.now.count }
     requires rules { IsTrue (statement_keeps_rules (statement s.now)) }
     requires room { length path.now + step_levels (statement s.now) ≤ 32 }
-    ensures { IfOk result (λ v. plain_value v ≡ value_after (telling_of ground.now) f.0 path.now (statement s.now) (plain_value value.entry)) }
+    ensures { IfOk result (λ v. plain_value v ≡ value_after (telling_of basis.now) f.0 path.now (statement s.now) (plain_value value.entry)) }
 {
     match s {
         Stmt::Config(g, a) => {
@@ -87,12 +87,12 @@ pub(crate) fn after<'a>(
             }
         }
         Stmt::If(_, a, b) => {
-            let other = at_end(ground, alloc, f, path, Branch::Else, b, value.duplicate())?;
-            let one = at_end(ground, alloc, f, path, Branch::Main, a, value)?;
-            kept(ground, alloc, path, one, &other)
+            let other = at_end(basis, alloc, f, path, Branch::Else, b, value.duplicate())?;
+            let one = at_end(basis, alloc, f, path, Branch::Main, a, value)?;
+            kept(basis, alloc, path, one, &other)
         }
-        Stmt::For(_, _, _, b) => Ok(unless_written(writes(b, ground.writes, f), path, value)),
-        Stmt::Call(k, _) => Ok(unless_written(call_writes(*k, ground.writes, f), path, value)),
+        Stmt::For(_, _, _, b) => Ok(unless_written(writes(b, basis.writes, f), path, value)),
+        Stmt::Call(k, _) => Ok(unless_written(call_writes(*k, basis.writes, f), path, value)),
         Stmt::Assign(_, _, _) => Ok(value),
         Stmt::Reduce(_, _, _) => Ok(value),
         Stmt::Pass => Ok(value),
@@ -104,7 +104,7 @@ pub(crate) fn after<'a>(
 /// What is known of it at the end of a branch of the statement at a path.
 #[cycle(after)]
 fn at_end<'a>(
-    ground: &Ground<'_, '_>,
+    basis: &Ground<'_, '_>,
     alloc: Global,
     f: FieldId,
     outer: &Path,
@@ -112,16 +112,16 @@ fn at_end<'a>(
     b: &'a Block,
     value: Value<'a>,
 ) -> Result<Value<'a>, AllocError>
-    requires field { f.0 < ground.now.count }
+    requires field { f.0 < basis.now.count }
     requires rules { IsTrue (block_keeps_rules (block b.now)) }
     requires short { IsTrue (is_short (block b.now)) }
     requires room { length outer.now + levels (block b.now) ≤ 32 }
-    ensures { IfOk result (λ v. plain_value v ≡ value_at_end (telling_of ground.now) f.0 outer.now (branch_taken branch) zero (block b.now) (plain_value value.entry)) }
+    ensures { IfOk result (λ v. plain_value v ≡ value_at_end (telling_of basis.now) f.0 outer.now (branch_taken branch) zero (block b.now) (plain_value value.entry)) }
 {
     let mut now = value;
     for k in 0..b.len() {
         let path = path_in(outer, branch, k);
-        now = after(ground, alloc, f, &path, b.statement(k), now)?;
+        now = after(basis, alloc, f, &path, b.statement(k), now)?;
     }
     Ok(now)
 }

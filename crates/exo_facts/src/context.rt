@@ -12,8 +12,8 @@ ghost use Rattle.exo_facts.specs.Contexts.{IsPlaceOf, IsPlaceIn, may_be_walked, 
 ghost use Rattle.exo_facts.specs.Tables.{known_in};
 ghost use Rattle.exo_facts.specs.Walks.{telling_of, SameBelow, Added, known_first, head_facts, round_facts, place_of};
 
+use crate::basis::Ground;
 use crate::enter::{add_at_most, add_holds};
-use crate::ground::Ground;
 use crate::known::Known;
 use crate::walk::walk;
 use affine_forms::FormError;
@@ -25,7 +25,7 @@ use std::alloc::Global;
 
 /// Adds the formulas of a control parameter.
 fn add_kind(
-    ground: &Ground<'_, '_>,
+    basis: &Ground<'_, '_>,
     alloc: Global,
     known: &Known<'_>,
     x: Id,
@@ -33,13 +33,13 @@ fn add_kind(
     context: &mut Context,
 ) -> Result<(), FormError>
     requires { known_in known.now ≡ at_entry }
-    ensures { Added result ground.now (known_first (kind_facts x.0 (control_kind kind))) context.old context.new }
+    ensures { Added result basis.now (known_first (kind_facts x.0 (control_kind kind))) context.old context.new }
 {
     match kind {
-        Kind::Size => add_at_most(ground, alloc, known, Ctrl::Lit(1), Ctrl::Var(x), context),
+        Kind::Size => add_at_most(basis, alloc, known, Ctrl::Lit(1), Ctrl::Var(x), context),
         Kind::Bool => {
-            add_at_most(ground, alloc, known, Ctrl::Lit(0), Ctrl::Var(x), context)?;
-            add_at_most(ground, alloc, known, Ctrl::Var(x), Ctrl::Lit(1), context)
+            add_at_most(basis, alloc, known, Ctrl::Lit(0), Ctrl::Var(x), context)?;
+            add_at_most(basis, alloc, known, Ctrl::Var(x), Ctrl::Lit(1), context)
         }
         Kind::Index => Ok(()),
         Kind::Stride => Ok(()),
@@ -48,18 +48,18 @@ fn add_kind(
 
 /// Adds the formulas of a procedure's parameters.
 fn add_params(
-    ground: &Ground<'_, '_>,
+    basis: &Ground<'_, '_>,
     alloc: Global,
     known: &Known<'_>,
     params: &Params,
     context: &mut Context,
 ) -> Result<(), FormError>
     requires { known_in known.now ≡ at_entry }
-    ensures { Added result ground.now (known_first (params_facts params.now)) context.old context.new }
+    ensures { Added result basis.now (known_first (params_facts params.now)) context.old context.new }
 {
     for p in params.as_slice() {
         if let ParamKind::Ctrl(kind) = &p.kind {
-            add_kind(ground, alloc, known, p.binder.id, *kind, context)?;
+            add_kind(basis, alloc, known, p.binder.id, *kind, context)?;
         }
     }
     Ok(())
@@ -67,7 +67,7 @@ fn add_params(
 
 /// Adds the formulas of its assertions.
 fn add_asserts(
-    ground: &Ground<'_, '_>,
+    basis: &Ground<'_, '_>,
     alloc: Global,
     known: &Known<'_>,
     asserts: &Conds,
@@ -75,53 +75,53 @@ fn add_asserts(
 ) -> Result<(), FormError>
     requires entry { known_in known.now ≡ at_entry }
     requires rules { IsTrue (list_all condition_keeps_rules asserts.now) }
-    ensures { Added result ground.now (known_first (map Holds asserts.now)) context.old context.new }
+    ensures { Added result basis.now (known_first (map Holds asserts.now)) context.old context.new }
 {
     for c in asserts.as_slice() {
-        add_holds(ground, alloc, known, c, context)?;
+        add_holds(basis, alloc, known, c, context)?;
     }
     Ok(())
 }
 
 /// Adds the formulas of a procedure's parameters and assertions.
 fn add_first(
-    ground: &Ground<'_, '_>,
+    basis: &Ground<'_, '_>,
     alloc: Global,
     known: &Known<'_>,
     context: &mut Context,
 ) -> Result<(), FormError>
     requires entry { known_in known.now ≡ at_entry }
-    requires rules { IsTrue (may_be_walked (procedure ground.now.proc.now)) }
-    ensures { Added result ground.now (head_facts (procedure ground.now.proc.now)) context.old context.new }
+    requires rules { IsTrue (may_be_walked (procedure basis.now.proc.now)) }
+    ensures { Added result basis.now (head_facts (procedure basis.now.proc.now)) context.old context.new }
 {
-    add_params(ground, alloc, known, &ground.proc.params, context)?;
-    add_asserts(ground, alloc, known, &ground.proc.asserts, context)
+    add_params(basis, alloc, known, &basis.proc.params, context)?;
+    add_asserts(basis, alloc, known, &basis.proc.asserts, context)
 }
 
 /// Goes to the place: adds the formulas of the loops and branches around it, and finds what is known of fields there.
 fn go<'w>(
-    ground: &Ground<'w, '_>,
+    basis: &Ground<'w, '_>,
     alloc: Global,
     path: &Path,
     known: &mut Known<'w>,
     context: &mut Context,
 ) -> Result<(), FormError>
     requires entry { known_in known.old ≡ at_entry }
-    requires place { IsPlaceOf path.now (procedure ground.now.proc.now) }
-    requires rules { IsTrue (may_be_walked (procedure ground.now.proc.now)) }
-    ensures facts { Added result ground.now (round_facts (telling_of ground.now) (place_of path.now ground.now)) context.old context.new }
-    ensures known { OnOk result (SameBelow ground.now.count (known_in known.new) (known_at_place (program ground.now.unit.now) (procedure ground.now.proc.now) (place_of path.now ground.now))) }
+    requires place { IsPlaceOf path.now (procedure basis.now.proc.now) }
+    requires rules { IsTrue (may_be_walked (procedure basis.now.proc.now)) }
+    ensures facts { Added result basis.now (round_facts (telling_of basis.now) (place_of path.now basis.now)) context.old context.new }
+    ensures known { OnOk result (SameBelow basis.now.count (known_in known.new) (known_at_place (program basis.now.unit.now) (procedure basis.now.proc.now) (place_of path.now basis.now))) }
 {
     let steps = path.as_slice();
     if steps.is_empty() {
         return Ok(());
     }
     walk(
-        ground,
+        basis,
         alloc,
         &Path::new(),
         Branch::Main,
-        &ground.proc.body,
+        &basis.proc.body,
         steps,
         known,
         context,
@@ -130,19 +130,19 @@ fn go<'w>(
 
 /// The context and the facts of a place of the procedure.
 fn context_of(
-    ground: &Ground<'_, '_>,
+    basis: &Ground<'_, '_>,
     alloc: Global,
     path: &Path,
 ) -> Result<(Context, Facts), FormError>
-    requires place { IsPlaceOf path.now (procedure ground.now.proc.now) }
-    requires rules { IsTrue (may_be_walked (procedure ground.now.proc.now)) }
-    ensures { ContextMade result (program ground.now.unit.now) (procedure ground.now.proc.now) path.now }
+    requires place { IsPlaceOf path.now (procedure basis.now.proc.now) }
+    requires rules { IsTrue (may_be_walked (procedure basis.now.proc.now)) }
+    ensures { ContextMade result (program basis.now.unit.now) (procedure basis.now.proc.now) path.now }
 {
     let mut known = Known::new(alloc);
     let mut context = Context::new(alloc);
-    add_first(ground, alloc, &known, &mut context)?;
-    go(ground, alloc, path, &mut known, &mut context)?;
-    let facts = known.facts(alloc, ground.count)?;
+    add_first(basis, alloc, &known, &mut context)?;
+    go(basis, alloc, path, &mut known, &mut context)?;
+    let facts = known.facts(alloc, basis.count)?;
     Ok((context, facts))
 }
 
@@ -169,12 +169,12 @@ pub fn context_at(
     };
     let roots = Roots::of(alloc, proc)?;
     let writes = written_table(alloc, unit)?;
-    let ground = Ground {
+    let basis = Ground {
         unit,
         proc,
         roots: &roots,
         writes: &writes,
         count: unit.fields.len() as u32,
     };
-    context_of(&ground, alloc, path)
+    context_of(&basis, alloc, path)
 }

@@ -3,9 +3,9 @@
 
 mod after;
 mod agreement;
+mod basis;
 mod context;
 mod enter;
-mod ground;
 mod known;
 pub mod laws;
 mod value;

@@ -13,8 +13,8 @@ ghost use Rattle.exo_facts.specs.Tables.{known_in};
 ghost use Rattle.exo_facts.specs.Walks.{telling_of, SameBelow, passed, known_inside, Added};
 
 use crate::after::{after, path_in};
+use crate::basis::Ground;
 use crate::enter::enter;
-use crate::ground::Ground;
 use crate::known::Known;
 use affine_forms::FormError;
 use affine_systems::Context;
@@ -23,7 +23,7 @@ use std::alloc::{AllocError, Global};
 
 /// What is known of all fields after the statement at a path.
 fn all_after<'a>(
-    ground: &Ground<'_, '_>,
+    basis: &Ground<'_, '_>,
     alloc: Global,
     path: &Path,
     s: &'a Stmt,
@@ -31,10 +31,10 @@ fn all_after<'a>(
 ) -> Result<(), AllocError>
     requires rules { IsTrue (statement_keeps_rules (statement s.now)) }
     requires room { length path.now + step_levels (statement s.now) ≤ 32 }
-    ensures { OnOk result (SameBelow ground.now.count (known_in known.new) (after (telling_of ground.now) path.now (statement s.now) (known_in known.old))) }
+    ensures { OnOk result (SameBelow basis.now.count (known_in known.new) (after (telling_of basis.now) path.now (statement s.now) (known_in known.old))) }
 {
-    for f in 0..ground.count {
-        let value = after(ground, alloc, FieldId(f), path, s, known.get(FieldId(f)))?;
+    for f in 0..basis.count {
+        let value = after(basis, alloc, FieldId(f), path, s, known.get(FieldId(f)))?;
         known.set(FieldId(f), value)?;
     }
     Ok(())
@@ -42,7 +42,7 @@ fn all_after<'a>(
 
 /// What is known of them after the first statements of a branch of the statement at a path.
 fn pass<'a>(
-    ground: &Ground<'_, '_>,
+    basis: &Ground<'_, '_>,
     alloc: Global,
     outer: &Path,
     branch: Branch,
@@ -54,18 +54,18 @@ fn pass<'a>(
     requires rules { IsTrue (block_keeps_rules (block b.now)) }
     requires short { IsTrue (is_short (block b.now)) }
     requires room { length outer.now + levels (block b.now) ≤ 32 }
-    ensures { OnOk result (SameBelow ground.now.count (known_in known.new) (passed (telling_of ground.now) outer.now (branch_taken branch) zero to (block b.now) (known_in known.old))) }
+    ensures { OnOk result (SameBelow basis.now.count (known_in known.new) (passed (telling_of basis.now) outer.now (branch_taken branch) zero to (block b.now) (known_in known.old))) }
 {
     for k in 0..to {
         let path = path_in(outer, branch, k);
-        all_after(ground, alloc, &path, b.statement(k), known)?;
+        all_after(basis, alloc, &path, b.statement(k), known)?;
     }
     Ok(())
 }
 
 /// What is known of them at the head of a block of the statement at a path.
 fn step_inside<'a>(
-    ground: &Ground<'_, '_>,
+    basis: &Ground<'_, '_>,
     alloc: Global,
     path: &Path,
     s: &'a Stmt,
@@ -73,10 +73,10 @@ fn step_inside<'a>(
 ) -> Result<(), AllocError>
     requires rules { IsTrue (statement_keeps_rules (statement s.now)) }
     requires room { length path.now + step_levels (statement s.now) ≤ 32 }
-    ensures { OnOk result (SameBelow ground.now.count (known_in known.new) (known_inside (telling_of ground.now) path.now (statement s.now) (known_in known.old))) }
+    ensures { OnOk result (SameBelow basis.now.count (known_in known.new) (known_inside (telling_of basis.now) path.now (statement s.now) (known_in known.old))) }
 {
     match s {
-        Stmt::For(_, _, _, _) => all_after(ground, alloc, path, s, known),
+        Stmt::For(_, _, _, _) => all_after(basis, alloc, path, s, known),
         _ => Ok(()),
     }
 }
@@ -84,7 +84,7 @@ fn step_inside<'a>(
 /// Goes from a branch of the statement at a path down to a statement in it: adds the formulas of the loops and branches on
 /// the way, and what is known of fields becomes what is known before that statement.
 pub(crate) fn walk<'a>(
-    ground: &Ground<'_, '_>,
+    basis: &Ground<'_, '_>,
     alloc: Global,
     outer: &Path,
     branch: Branch,
@@ -97,26 +97,26 @@ pub(crate) fn walk<'a>(
     requires rules { IsTrue (block_keeps_rules (block b.now)) }
     requires short { IsTrue (is_short (block b.now)) }
     requires room { length outer.now + levels (block b.now) ≤ 32 }
-    ensures facts { (first : KnownFields) → SameBelow ground.now.count (known_in known.old) first → (o : places.Opened) → opened_in 1 (map step_taken steps.now) (block b.now) ≡ Some o → Added result ground.now (facts_round (telling_of ground.now) outer.now (branch_taken branch) zero o.around o.piece first) context.old context.new }
-    ensures known { (first : KnownFields) → SameBelow ground.now.count (known_in known.old) first → (o : places.Opened) → opened_in 1 (map step_taken steps.now) (block b.now) ≡ Some o → OnOk result (SameBelow ground.now.count (known_in known.new) (known_at (telling_of ground.now) outer.now (branch_taken branch) zero o.around o.piece first)) }
+    ensures facts { (first : KnownFields) → SameBelow basis.now.count (known_in known.old) first → (o : places.Opened) → opened_in 1 (map step_taken steps.now) (block b.now) ≡ Some o → Added result basis.now (facts_round (telling_of basis.now) outer.now (branch_taken branch) zero o.around o.piece first) context.old context.new }
+    ensures known { (first : KnownFields) → SameBelow basis.now.count (known_in known.old) first → (o : places.Opened) → opened_in 1 (map step_taken steps.now) (block b.now) ≡ Some o → OnOk result (SameBelow basis.now.count (known_in known.new) (known_at (telling_of basis.now) outer.now (branch_taken branch) zero o.around o.piece first)) }
 {
     let Some((step, rest)) = steps.split_first() else {
         return Ok(());
     };
     let k = step.index as usize;
-    pass(ground, alloc, outer, branch, b, k, known)?;
+    pass(basis, alloc, outer, branch, b, k, known)?;
     let Some(next) = rest.first() else {
         return Ok(());
     };
     let s = b.statement(k);
     let path = path_in(outer, branch, k);
-    enter(ground, alloc, known, next.branch, s, context)?;
-    step_inside(ground, alloc, &path, s, known)?;
+    enter(basis, alloc, known, next.branch, s, context)?;
+    step_inside(basis, alloc, &path, s, known)?;
     let Some(inner) = s.block(next.branch) else {
         return Ok(());
     };
     walk(
-        ground,
+        basis,
         alloc,
         &path,
         next.branch,

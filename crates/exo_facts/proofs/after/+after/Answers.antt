@@ -11,7 +11,7 @@ use Rattle.exo_facts.proofs.after.+after.Goals as goal
 
 pub after-returns-in-For : goal.after-returns-in-For
 after-returns-in-For t c =
-    let g = c.args.ground.now in
+    let g = c.args.basis.now in
     let same = writes_same (in_table g.writes.now) (telling_of g).writes c.args.f.0 (λ k. g.table k c.args.f.0 c.requires.field) (block c.in-For.b) in
     c.unless_written.ensures
     ∙ ap (λ may. if may then UnknownAt c.args.path.now else plain_value c.args.value) (c.writes.ensures ∙ same)

@@ -16,7 +16,7 @@ decreases-at_end l = goal.size-at_end l
 
 abbrev pub invariant-at_end-loop-k : goal.invariant-at_end-loop-k
 invariant-at_end-loop-k l = record {
-  value : value_at_end (telling_of l.ground) l.f.0 l.outer (branch_taken l.branch) l.k (block (drop l.k l.b)) (plain_value l.now) ≡ value_at_end (telling_of l.ground) l.f.0 l.outer (branch_taken l.branch) 0 (block l.b) (plain_value l.fn.value);
+  value : value_at_end (telling_of l.basis) l.f.0 l.outer (branch_taken l.branch) l.k (block (drop l.k l.b)) (plain_value l.now) ≡ value_at_end (telling_of l.basis) l.f.0 l.outer (branch_taken l.branch) 0 (block l.b) (plain_value l.fn.value);
   rules : block_keeps_rules (block (drop l.k l.b)) ≡ true;
   room : length l.outer + levels (block (drop l.k l.b)) ≤ 32;
 }

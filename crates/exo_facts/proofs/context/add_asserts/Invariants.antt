@@ -11,6 +11,6 @@ use Rattle.exo_facts.proofs.context.add_asserts.Given as goal
 -- what the rest adds is what all add to the context as it was
 abbrev pub invariant-loop-c : goal.invariant-loop-c
 invariant-loop-c l = record {
-  rest : (r : Result ⊤ FormError) (new : _) → Added r l.ground (known_first (map Holds (map condition (drop l.c-index l.c-items)))) l.context new → Added r l.ground (known_first (map Holds l.asserts)) l.initial.context new;
+  rest : (r : Result ⊤ FormError) (new : _) → Added r l.basis (known_first (map Holds (map condition (drop l.c-index l.c-items)))) l.context new → Added r l.basis (known_first (map Holds l.asserts)) l.initial.context new;
   rules : list_all condition_keeps_rules (map condition (drop l.c-index l.c-items)) ≡ true;
 }

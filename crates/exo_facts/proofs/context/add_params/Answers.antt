@@ -9,4 +9,4 @@ use Rattle.exo_facts.proofs.context.add_params.Goals as goal
 pub returns : goal.returns
 returns c =
     let none = drop_all c.loop-p.p-index c.as_slice-p-items.result.now (omega (arith, c.loop-p-test.false)) in
-    c.loop-p.invariant (Ok tt) c.loop-p.context (subst (λ ps. Came c.args.ground.now (known_first (params_facts (map parameter ps))) c.loop-p.context c.loop-p.context) (sym none) (none_added c.args.ground.now c.loop-p.context c.loop-p.context refl))
+    c.loop-p.invariant (Ok tt) c.loop-p.context (subst (λ ps. Came c.args.basis.now (known_first (params_facts (map parameter ps))) c.loop-p.context c.loop-p.context) (sym none) (none_added c.args.basis.now c.loop-p.context c.loop-p.context refl))

@@ -8,4 +8,4 @@ use Rattle.exo_facts.proofs.context.add_params.Given as goal
 
 -- what the rest adds is what all add to the context as it was
 abbrev pub invariant-loop-p : goal.invariant-loop-p
-invariant-loop-p l = (r : Result ⊤ FormError) (new : _) → Added r l.ground (known_first (params_facts (map parameter (drop l.p-index l.p-items)))) l.context new → Added r l.ground (known_first (params_facts l.params)) l.initial.context new
+invariant-loop-p l = (r : Result ⊤ FormError) (new : _) → Added r l.basis (known_first (params_facts (map parameter (drop l.p-index l.p-items)))) l.context new → Added r l.basis (known_first (params_facts l.params)) l.initial.context new

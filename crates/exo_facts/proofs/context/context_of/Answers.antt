@@ -8,7 +8,7 @@ use Rattle.exo_facts.proofs.context.context_of.Goals as goal
 
 pub returns : goal.returns
 returns c =
-    let g = c.args.ground.now in
+    let g = c.args.basis.now in
     let head = head_facts (procedure g.proc.now) in
     let round = round_facts (telling_of g) (place_of c.args.path.now g) in
     let middle = c.add_first.new.context in

@@ -14,13 +14,13 @@ use Rattle.exo_facts.proofs.context.go.Goals as goal
 
 pub returns-then-is_empty-clause-known : goal.returns-then-is_empty-clause-known
 returns-then-is_empty-clause-known c = λ f lt.
-    let p = procedure c.args.ground.now.proc.now in
+    let p = procedure c.args.basis.now.proc.now in
     let none = before_body c.args.path.now p.body (no_steps c.as_slice-steps.result.now c.args.path.now (sym c.is_empty.ensures ∙ c.if-is_empty.true) c.as_slice-steps.ensures.value) in
-    ap (λ known. known f) c.requires.entry ∙ sym (ap (λ o. known_at_place (program c.args.ground.now.unit.now) p o f) none)
+    ap (λ known. known f) c.requires.entry ∙ sym (ap (λ o. known_at_place (program c.args.basis.now.unit.now) p o f) none)
 
 pub returns-clause-facts : goal.returns-clause-facts
 returns-clause-facts c =
-    let g = c.args.ground.now in
+    let g = c.args.basis.now in
     let p = procedure g.proc.now in
     let w = there c.args.path.now p c.requires.place (some_steps c.as_slice-steps.result.now c.args.path.now (sym c.is_empty.ensures ∙ c.if-is_empty.false) c.as_slice-steps.ensures.value) in
     let e = ap (λ q. opened_in 1 q p.body) c.as_slice-steps.ensures.value ∙ opened_first c.args.path.now p.body w.place w.is in
@@ -30,7 +30,7 @@ returns-clause-facts c =
 
 pub returns-clause-known : goal.returns-clause-known
 returns-clause-known c =
-    let g = c.args.ground.now in
+    let g = c.args.basis.now in
     let p = procedure g.proc.now in
     let w = there c.args.path.now p c.requires.place (some_steps c.as_slice-steps.result.now c.args.path.now (sym c.is_empty.ensures ∙ c.if-is_empty.false) c.as_slice-steps.ensures.value) in
     let e = ap (λ q. opened_in 1 q p.body) c.as_slice-steps.ensures.value ∙ opened_first c.args.path.now p.body w.place w.is in

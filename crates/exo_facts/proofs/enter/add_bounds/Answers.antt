@@ -17,7 +17,7 @@ high_fact i first e = record { known = first; fact = Holds (Lt (Var i) e) }
 
 pub returns : goal.returns
 returns c = λ first h.
-    let g = c.args.ground.now in
+    let g = c.args.basis.now in
     let low = low_fact c.args.i.0 first in
     let high = high_fact c.args.i.0 first in
     let middle = c.add_at_most.new.context in

@@ -8,7 +8,7 @@ use Rattle.exo_facts.proofs.Adding.{refused_one, added_one, left_early}
 use Rattle.exo_facts.proofs.enter.add_fails.Goals as goal
 
 pub returns-in_err-f : goal.returns-in_err-f
-returns-in_err-f c = λ first h. left_early _ _ c.args.ground.now _ _ _ c.from_residual.ensures.1 (refused_one c.args.ground.now (known_in c.args.known.now) first (Fails (condition c.args.c.now)) _ h c.in_err-f.ensures)
+returns-in_err-f c = λ first h. left_early _ _ c.args.basis.now _ _ _ c.from_residual.ensures.1 (refused_one c.args.basis.now (known_in c.args.known.now) first (Fails (condition c.args.c.now)) _ h c.in_err-f.ensures)
 
 pub returns : goal.returns
-returns c = λ first h. added_one c.args.ground.now (known_in c.args.known.now) first (Fails (condition c.args.c.now)) _ _ (plain_formula c.in_ok-denied.denied) h c.in_ok-f.ensures.0 (c.in_ok-denied.ensures ∙ ap negation c.in_ok-f.ensures.1) c.in_ok-push.ensures.pushed
+returns c = λ first h. added_one c.args.basis.now (known_in c.args.known.now) first (Fails (condition c.args.c.now)) _ _ (plain_formula c.in_ok-denied.denied) h c.in_ok-f.ensures.0 (c.in_ok-denied.ensures ∙ ap negation c.in_ok-f.ensures.1) c.in_ok-push.ensures.pushed

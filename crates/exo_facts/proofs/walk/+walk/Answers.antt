@@ -19,13 +19,13 @@ pass-requires-clause-within t c =
 
 pub returns-in_default-first-clause-facts : goal.returns-in_default-first-clause-facts
 returns-in_default-first-clause-facts t c = λ first h o e.
-    let g = c.args.ground.now in
+    let g = c.args.basis.now in
     let w = ended (telling_of g) c.args.outer.now (branch_taken c.args.branch) g.count c.args.steps.now c.in-Some.rest.now c.in-Some.step.now c.args.b.now o (known_in c.args.known.now) first (known_in c.pass.new.known) c.in-Some.ensures.cases.0 c.in_default-first.ensures.value e h c.in_ok-pass.ensures in
     subst (λ es. Came g es c.args.context.now c.args.context.now) (sym w.facts) (none_added g c.args.context.now c.args.context.now refl)
 
 pub returns-in_default-first-clause-known : goal.returns-in_default-first-clause-known
 returns-in_default-first-clause-known t c = λ first h o e.
-    let g = c.args.ground.now in
+    let g = c.args.basis.now in
     (ended (telling_of g) c.args.outer.now (branch_taken c.args.branch) g.count c.args.steps.now c.in-Some.rest.now c.in-Some.step.now c.args.b.now o (known_in c.args.known.now) first (known_in c.pass.new.known) c.in-Some.ensures.cases.0 c.in_default-first.ensures.value e h c.in_ok-pass.ensures).known_there
 
 pub statement-s-requires : goal.statement-s-requires
@@ -43,7 +43,7 @@ enter-requires t c = rules_at c.in-Some.step.now.index c.args.b.now _ (statement
 
 pub returns-in_err-enter-clause-facts : goal.returns-in_err-enter-clause-facts
 returns-in_err-enter-clause-facts t c = λ first h o e.
-    let g = c.args.ground.now in
+    let g = c.args.basis.now in
     let tell = telling_of g in
     let outer = c.args.outer.now in
     let branch = branch_taken c.args.branch in
@@ -68,12 +68,12 @@ step_inside-requires-clause-room t c =
 
 pub returns-in_default-block-clause-facts : goal.returns-in_default-block-clause-facts
 returns-in_default-block-clause-facts t c = λ first h o e.
-    let w = onward (telling_of c.args.ground.now) c.args.outer.now (branch_taken c.args.branch) c.args.steps.now c.in-Some.rest.now c.in-Some.step.now c.in-Some-first.next.now c.args.b.now _ (statement c.statement-s.result.now) c.path_in-path.result o first c.in-Some.ensures.cases.0 c.in-Some-first.ensures.value c.statement-s.ensures.value c.path_in-path.ensures e in
+    let w = onward (telling_of c.args.basis.now) c.args.outer.now (branch_taken c.args.branch) c.args.steps.now c.in-Some.rest.now c.in-Some.step.now c.in-Some-first.next.now c.args.b.now _ (statement c.statement-s.result.now) c.path_in-path.result o first c.in-Some.ensures.cases.0 c.in-Some-first.ensures.value c.statement-s.ensures.value c.path_in-path.ensures e in
     absurd (no_block _ (c.in_default-block.ensures ∙ w.is_branch))
 
 pub returns-in_default-block-clause-known : goal.returns-in_default-block-clause-known
 returns-in_default-block-clause-known t c = λ first h o e.
-    let w = onward (telling_of c.args.ground.now) c.args.outer.now (branch_taken c.args.branch) c.args.steps.now c.in-Some.rest.now c.in-Some.step.now c.in-Some-first.next.now c.args.b.now _ (statement c.statement-s.result.now) c.path_in-path.result o first c.in-Some.ensures.cases.0 c.in-Some-first.ensures.value c.statement-s.ensures.value c.path_in-path.ensures e in
+    let w = onward (telling_of c.args.basis.now) c.args.outer.now (branch_taken c.args.branch) c.args.steps.now c.in-Some.rest.now c.in-Some.step.now c.in-Some-first.next.now c.args.b.now _ (statement c.statement-s.result.now) c.path_in-path.result o first c.in-Some.ensures.cases.0 c.in-Some-first.ensures.value c.statement-s.ensures.value c.path_in-path.ensures e in
     absurd (no_block _ (c.in_default-block.ensures ∙ w.is_branch))
 
 pub walk-requires : goal.walk-requires
@@ -85,12 +85,12 @@ walk-requires t c =
     let b = block c.in-Some-block.inner.now in
     let room = room_inside c.args.outer.now c.path_in-path.result (branch_taken c.args.branch) k _ c.path_in-path.ensures (room_at _ k c.args.b.now _ a e c.requires.room) in
     let i = inside _ (branch_taken c.in-Some-first.next.now.branch) a b (sym c.in-Some-block.ensures) (rules_at k c.args.b.now _ a e c.requires.rules) room in
-    let place = place_inside (telling_of c.args.ground.now) c.args.outer.now (branch_taken c.args.branch) c.args.steps.now c.in-Some.rest.now c.in-Some.step.now c.in-Some-first.next.now c.args.b.now _ a b c.in-Some.ensures.cases.0 c.in-Some-first.ensures.value e c.in-Some-block.ensures c.requires.place in
+    let place = place_inside (telling_of c.args.basis.now) c.args.outer.now (branch_taken c.args.branch) c.args.steps.now c.in-Some.rest.now c.in-Some.step.now c.in-Some-first.next.now c.args.b.now _ a b c.in-Some.ensures.cases.0 c.in-Some-first.ensures.value e c.in-Some-block.ensures c.requires.place in
     (omega arith, (place, (i.rules, (i.short, i.room))))
 
 pub returns-clause-facts : goal.returns-clause-facts
 returns-clause-facts t c = λ first h o e.
-    let g = c.args.ground.now in
+    let g = c.args.basis.now in
     let tell = telling_of g in
     let outer = c.args.outer.now in
     let branch = branch_taken c.args.branch in
@@ -109,7 +109,7 @@ returns-clause-facts t c = λ first h o e.
 
 pub returns-clause-known : goal.returns-clause-known
 returns-clause-known t c = λ first h o e.
-    let g = c.args.ground.now in
+    let g = c.args.basis.now in
     let tell = telling_of g in
     let outer = c.args.outer.now in
     let branch = branch_taken c.args.branch in

@@ -10,7 +10,7 @@ use Rattle.exo_facts.proofs.walk.all_after.Goals as goal
 
 pub loop-f-preserved : goal.loop-f-preserved
 loop-f-preserved c =
-    let tell = telling_of c.args.ground.now in
+    let tell = telling_of c.args.basis.now in
     let path = c.args.path.now in
     let a = statement c.args.s.now in
     let f = c.loop-f.f in

@@ -6,4 +6,4 @@ use Rattle.exo_facts.proofs.Fields.{UpTo}
 use Rattle.exo_facts.proofs.walk.all_after.Given as goal
 
 abbrev pub invariant-loop-f : goal.invariant-loop-f
-invariant-loop-f l = UpTo l.f (after (telling_of l.ground) l.path (statement l.s) (known_in l.initial.known)) (known_in l.initial.known) (known_in l.known)
+invariant-loop-f l = UpTo l.f (after (telling_of l.basis) l.path (statement l.s) (known_in l.initial.known)) (known_in l.initial.known) (known_in l.known)

@@ -28,7 +28,7 @@ loop-k-preserved c =
     let i = c.loop-k.invariant in
     let e = c.statement.ensures.value in
     record {
-      known = passed_on (telling_of c.args.ground.now) c.args.outer.now (branch_taken c.args.branch) c.args.ground.now.count c.loop-k.k c.args.to a rest xs (known_in c.loop-k.known) (known_in c.all_after.new.known) _ c.path_in-path.result c.loop-k-test.true c.path_in-path.ensures e c.in_ok-all_after.ensures i.known;
+      known = passed_on (telling_of c.args.basis.now) c.args.outer.now (branch_taken c.args.branch) c.args.basis.now.count c.loop-k.k c.args.to a rest xs (known_in c.loop-k.known) (known_in c.all_after.new.known) _ c.path_in-path.result c.loop-k-test.true c.path_in-path.ensures e c.in_ok-all_after.ensures i.known;
       rules = (rules_for a xs rest e i.rules).1;
       room = (room_for _ a xs rest e i.room).1;
     }

@@ -9,7 +9,7 @@ use Rattle.exo_facts.proofs.walk.pass.Given as goal
 
 abbrev pub invariant-loop-k : goal.invariant-loop-k
 invariant-loop-k l = record {
-  known : SameBelow l.ground.count (passed (telling_of l.ground) l.outer (branch_taken l.branch) l.k (l.to - l.k) (block (drop l.k l.b)) (known_in l.known)) (passed (telling_of l.ground) l.outer (branch_taken l.branch) 0 l.to (block l.b) (known_in l.initial.known));
+  known : SameBelow l.basis.count (passed (telling_of l.basis) l.outer (branch_taken l.branch) l.k (l.to - l.k) (block (drop l.k l.b)) (known_in l.known)) (passed (telling_of l.basis) l.outer (branch_taken l.branch) 0 l.to (block l.b) (known_in l.initial.known));
   rules : block_keeps_rules (block (drop l.k l.b)) ≡ true;
   room : length l.outer + levels (block (drop l.k l.b)) ≤ 32;
 }
