@@ -25,7 +25,7 @@ use Rattle.lowering_laws.proofs.Rules.{Stands, Fits}
 use Rattle.lowering_laws.proofs.Good.{AreIn, AreNamed, not_true, front_in, rear_in, good_block}
 use Rattle.lowering_laws.proofs.UsedFields.{block_there, is_there}
 use Rattle.lowering_laws.proofs.Params.{merged, none, merged_none, params_fit, good_params, params_in, params_alike}
-use Rattle.lowering_laws.proofs.Free.{room, or_false}
+use Rattle.lowering_laws.proofs.Free.{room, or_false, both_long}
 use Rattle.lowering_laws.proofs.CNames.{all_in, all_ids, are_named}
 
 some_same : {A : Type 0} {a b : A} → Some a ≡ Some b → a ≡ b
@@ -110,10 +110,6 @@ printed_long : (program : Program) (what : List Printing) → length (printed_na
 printed_long program [] = refl
 printed_long program (w ∷ what) = ap suc (printed_long program what)
 
-long_both : (xs ys : List Name) → length (xs ++ ys) ≡ length xs + length ys
-long_both [] ys = omega arith
-long_both (x ∷ xs) ys = let r = long_both xs ys in omega arith
-
 -- ---- the law
 
 refined : (u v : Value) → IsHeld u v → IsRefinedBy u v
@@ -157,7 +153,7 @@ module _ (program : Program) (what : List Printing) (k : ℕ) (p : Procedure) (l
 
   small : room (global_names program what) (names_of (all_binders p)) < 2 ^ 63
   small =
-      let a = long_both (printed_names program what) (fields_of program what) in
+      let a = both_long (printed_names program what) (fields_of program what) in
       let b = printed_long program what in
       let c = few_fields (is_used program what) 0 program.fields in
       let d = names_long (all_binders p) in

@@ -119,7 +119,7 @@ in_both : (xs ys : List Name) (y : Name) → (is_in xs y || is_in ys y) ≡ true
 in_both [] ys y h = h
 in_both (x ∷ xs) ys y h = in_either (same_name x y) (is_in xs y) (is_in ys y) (is_in (xs ++ ys) y) (in_both xs ys y) h
 
-both_long : (xs ys : List Name) → length (xs ++ ys) ≡ length xs + length ys
+pub both_long : (xs ys : List Name) → length (xs ++ ys) ≡ length xs + length ys
 both_long [] ys = omega arith
 both_long (x ∷ xs) ys = let r = both_long xs ys in omega arith
 

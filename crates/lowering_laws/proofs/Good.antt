@@ -16,6 +16,7 @@ use Rattle.c_printer.specs.Lowered.{Naming, Form, NoForm, NumberForm, TensorForm
 use Rattle.c_printer.specs.LoweredUnit.{memory_of, in_control, in_condition, in_argument, in_statement, in_block}
 use Rattle.c_printer.specs.Simulation.{Declared, IsTensorName, AreGood, IsGoodDatum, IsGoodSetting, IsAlone, IsFresh, IsOfCells, IsGoodBlock, IsGoodStatement, with_bounds}
 use Rattle.c_lowering.specs.SelfContained.{is_heap, is_value, is_alone, is_alone_block}
+use Rattle.lowering_laws.proofs.Free.{or_false}
 use Rattle.lowering_laws.proofs.Rules.{Stands, Fits, wider, access, good, all_good, good_datum, good_test, good_open, Covers, cover_left, cover_right}
 
 -- ---- binders in a list
@@ -50,10 +51,6 @@ pub record AreNamed (naming : Naming) (declared : Declared) (all : List Binder) 
 pub not_true : (b : Bool) → not b ≡ true → b ≡ false
 not_true true h = absurd (true≢false (sym h))
 not_true false h = refl
-
-or_false : (a b : Bool) → (a || b) ≡ false → (a ≡ false) × (b ≡ false)
-or_false true b h = absurd (true≢false h)
-or_false false b h = (refl, h)
 
 pub not_there : (scope : Scope) (i : Binder) → list_any (λ n. (i.id == n.binder.id) || is_text i.name n.binder.name) scope ≡ false → sort_in scope i.id ≡ None
 not_there [] i e = refl
