@@ -105,3 +105,7 @@ added_more (Ok t) g es fs old now new first h = (
 )
 added_more (Err e) g es fs old now new first h =
     subst (IsWide e) (sym (all_fit_joined g es fs ∙ ap (λ b. b && all_fit (program g.unit.now) (procedure g.proc.now) fs) first.0)) h
+
+-- a refusal among the others is one of all
+pub refused_second : (g : Ground) (es fs : List PlaceFact) (old now : List Formula) (e : FormError) → Came g es old now → IsWide e (all_fit (program g.unit.now) (procedure g.proc.now) fs) → IsWide e (all_fit (program g.unit.now) (procedure g.proc.now) (es ++ fs))
+refused_second g es fs old now e first h = subst (IsWide e) (sym (all_fit_joined g es fs ∙ ap (λ b. b && all_fit (program g.unit.now) (procedure g.proc.now) fs) first.0)) h

@@ -1,5 +1,6 @@
 -- What is known of the fields below a number, one by one.
-use Rattle.std.proofs.Common.{◌≡◌, ℕ, zero, suc, ◌+◌, ◌-◌, ◌<◌, ◌≤◌, ◌==◌, Bool, true, false, cond, List, [], arith, refl, sym, ap, subst, ◌∙◌, eqb-true}
+use Rattle.std.proofs.Common.{◌≡◌, ℕ, zero, suc, ◌+◌, ◌-◌, ◌<◌, ◌≤◌, ◌==◌, Bool, true, false, cond, List, [], arith, refl, sym, ap, subst, ◌∙◌, eqb-true, Result, Ok, Err}
+use Rattle.std.specs.Prelude.{OnOk}
 use Rattle.std.proofs.lemmas.Bool.Decides.{nat_tests}
 use Rattle.exo_meaning.specs.Scene.{updated}
 use Rattle.exo_context.specs.KnownFields.{FieldValue, KnownFields}
@@ -60,3 +61,8 @@ facts_end f count known old h e = let z : f ≡ 0 = omega arith in e ∙ ap (λ 
 pub facts_same : (f n count : ℕ) (known other : KnownFields) → f + n ≤ count → SameBelow count known other → facts_from f n known ≡ facts_from f n other
 facts_same f zero count known other h s = refl
 facts_same f (suc n) count known other h s = ap (λ v. with_value f v (facts_from (suc f) n known)) (s f (omega arith)) ∙ ap (with_value f (other f)) (facts_same (suc f) n count known other (omega arith) s)
+
+-- the same of each field
+pub all_same : {A E : Type 0} (r : Result A E) (count : ℕ) (known other : KnownFields) → OnOk r (known ≡ other) → OnOk r (SameBelow count known other)
+all_same (Ok x) count known other h = λ f lt. ap (λ k. k f) h
+all_same (Err e) count known other h = tt

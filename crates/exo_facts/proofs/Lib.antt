@@ -6,3 +6,4 @@ pub mod Adding
 pub mod Beginning
 pub mod Ways
 pub mod Arrivals
+pub mod Trails

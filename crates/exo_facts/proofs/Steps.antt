@@ -1,5 +1,5 @@
 -- What is known of a field after statements hangs on what was known of that field alone.
-use Rattle.std.proofs.Common.{◌≡◌, ℕ, zero, suc, ◌+◌, ◌-◌, ◌<◌, ◌≤◌, Bool, cond, ◌||◌, List, ◌∷◌, drop, length, arith, refl, sym, ap, ap₂, ◌∙◌, add-one}
+use Rattle.std.proofs.Common.{◌≡◌, ℕ, zero, suc, ◌+◌, ◌≤◌, Bool, cond, ◌||◌, List, [], ◌∷◌, drop, get_or, length, arith, refl, sym, ap, ap₂, ◌∙◌, add-one}
 use Rattle.std.proofs.lemmas.List.{drop_all}
 use Rattle.exo_tree.specs.Tree.{Statement, Assign, Reduce, Config, Pass, If, For, Alloc, View, Call, Block, end, next, block}
 use Rattle.exo_tree.specs.Places.{Branch, Main, Else, Path}
@@ -41,30 +41,33 @@ module _ (tell : Telling) (f : ℕ) where
 
 -- ---- the first statements of a block
 
+same_statement : (x a : Statement) (xs rest : List Statement) → x ∷ xs ≡ a ∷ rest → x ≡ a
+same_statement x a xs rest e = ap (λ ys. get_or ys 0 x) e
+
 module _ (tell : Telling) (outer : Path) (branch : Branch) where
-  passed_same : (n m : ℕ) (b : Block) (known other : KnownFields) (f : ℕ) → known f ≡ other f → passed tell outer branch n m b known f ≡ passed tell outer branch n m b other f
-  passed_same n zero b known other f h = h
-  passed_same n (suc m) end known other f h = h
-  passed_same n (suc m) (next a b) known other f h = passed_same (suc n) m b (after tell (path_in outer branch n) a known) (after tell (path_in outer branch n) a other) f (after_same tell f (path_in outer branch n) a known other h)
+  -- after one statement more
+  passed_more : (n k : ℕ) (xs rest : List Statement) (a : Statement) (known : KnownFields) → drop k xs ≡ a ∷ rest → passed tell outer branch n (suc k) (block xs) known ≡ after tell (path_in outer branch (n + k)) a (passed tell outer branch n k (block xs) known)
+  passed_more n k [] rest a known e = no k e
+    where
+      no : (k : ℕ) → drop k [] ≡ a ∷ rest → passed tell outer branch n (suc k) end known ≡ after tell (path_in outer branch (n + k)) a (passed tell outer branch n k end known)
+      no zero e = cc
+      no (suc k) e = cc
+  passed_more n zero (x ∷ xs) rest a known e =
+      let z : n ≡ n + zero = omega arith in
+      ap₂ (λ m y. after tell (path_in outer branch m) y known) z (same_statement x a xs rest e)
+  passed_more n (suc k) (x ∷ xs) rest a known e =
+      let new = after tell (path_in outer branch n) x known in
+      let m : suc n + k ≡ n + suc k = omega arith in
+      passed_more (suc n) k xs rest a new e ∙ ap (λ j. after tell (path_in outer branch j) a (passed tell outer branch (suc n) k (block xs) new)) m
 
-  pub passed_on : (count k to : ℕ) (a : Statement) (rest xs : List Statement) (old new whole : KnownFields) (path : Path) → k < to → path ≡ path_in outer branch k → xs ≡ a ∷ rest → SameBelow count new (after tell path a old) → SameBelow count (passed tell outer branch k (to - k) (block xs) old) whole → SameBelow count (passed tell outer branch (k + 1) (to - (k + 1)) (block rest) new) whole
-  passed_on count k to a rest xs old new whole path l p x h w = λ f lt.
-      let m : suc (to - (k + 1)) ≡ to - k = omega arith in
-      ap (λ n. passed tell outer branch n (to - (k + 1)) (block rest) new f) (add-one k)
-      ∙ passed_same (suc k) (to - (k + 1)) (block rest) new (after tell (path_in outer branch k) a old) f (h f lt ∙ ap (λ q. after tell q a old f) p)
-      ∙ ap (λ n. passed tell outer branch k n (next a (block rest)) old f) m
-      ∙ ap (λ ys. passed tell outer branch k (to - k) (block ys) old f) (sym x)
-      ∙ w f lt
-
-  pub passed_start : (count to : ℕ) (b : Block) (known : KnownFields) → SameBelow count (passed tell outer branch 0 (to - 0) b known) (passed tell outer branch 0 to b known)
-  passed_start count to b known = λ f lt. let n : to - 0 ≡ to = omega arith in ap (λ m. passed tell outer branch 0 m b known f) n
-
-  pub passed_end : (count k to : ℕ) (b : Block) (known whole : KnownFields) → to ≤ k → SameBelow count (passed tell outer branch k (to - k) b known) whole → SameBelow count known whole
-  passed_end count k to b known whole h w = λ f lt. let n : to - k ≡ 0 = omega arith in ap (λ m. passed tell outer branch k m b known f) (sym n) ∙ w f lt
-
-  -- from what is the same below a number of fields
-  pub passed_from : (count to : ℕ) (b : Block) (known new first : KnownFields) → SameBelow count new (passed tell outer branch 0 to b known) → SameBelow count known first → SameBelow count new (passed tell outer branch 0 to b first)
-  passed_from count to b known new first h s = λ f lt. h f lt ∙ passed_same 0 to b known first f (s f lt)
+  pub passed_next : (count k : ℕ) (xs rest : List Statement) (a : Statement) (path : Path) (old new first : KnownFields) → path ≡ path_in outer branch k → drop k xs ≡ a ∷ rest → SameBelow count new (after tell path a old) → SameBelow count old (passed tell outer branch zero k (block xs) first) → SameBelow count new (passed tell outer branch zero (k + 1) (block xs) first)
+  passed_next count k xs rest a path old new first p e h w = λ f lt.
+      let z : zero + k ≡ k = omega arith in
+      h f lt
+      ∙ after_same tell f path a old (passed tell outer branch zero k (block xs) first) (w f lt)
+      ∙ ap (λ q. after tell q a (passed tell outer branch zero k (block xs) first) f) (p ∙ ap (path_in outer branch) (sym z))
+      ∙ sym (ap (λ known. known f) (passed_more zero k xs rest a first e))
+      ∙ ap (λ n. passed tell outer branch zero n (block xs) first f) (sym (add-one k))
 
 -- ---- writes
 

@@ -4,4 +4,5 @@ pub mod Tables
 pub mod RootSets
 pub mod UnitCodes
 pub mod Walks
+pub mod Trails
 pub mod Laws

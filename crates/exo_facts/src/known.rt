@@ -5,6 +5,7 @@ ghost use Rattle.exo_context.specs.KnownFields.{at_entry};
 ghost use Rattle.exo_facts.specs.Contexts.{with_value, facts_from};
 ghost use Rattle.exo_facts.specs.Values.{plain_value};
 ghost use Rattle.exo_facts.specs.Tables.{known_in};
+ghost use Rattle.exo_facts.specs.Walks.{SameBelow};
 
 use crate::value::Value;
 use affine_places::{Fact, Facts};
@@ -43,6 +44,17 @@ impl<'a> Known<'a> {
     {
         self.table.insert(f.0, value)?;
         Ok(())
+    }
+
+    /// The same of the first `count` fields.
+    pub(crate) fn duplicate(&self, alloc: Global, count: u32) -> Result<Known<'a>, AllocError>
+        ensures { IfOk result (λ known. SameBelow count (known_in known) (known_in self.now)) }
+    {
+        let mut copied = Known::new(alloc);
+        for f in 0..count {
+            copied.set(FieldId(f), self.get(FieldId(f)))?;
+        }
+        Ok(copied)
     }
 }
 

@@ -9,6 +9,7 @@ mod cursor;
 mod enter;
 mod known;
 pub mod laws;
+mod level;
 mod value;
 mod walk;
 mod writes;

@@ -1,20 +1,16 @@
-use Rattle.std.proofs.Common.{◌≡◌, arith, sym, ap, ◌∙◌}
+use Rattle.std.proofs.Common.{◌≡◌, sym, subst}
+use Rattle.std.specs.Prelude.{OnOk}
 use Rattle.exo_tree.specs.PlainStatement.{statement}
 use Rattle.exo_context.specs.KnownFields.{after}
 use Rattle.exo_facts.specs.Tables.{known_in}
-use Rattle.exo_facts.specs.Values.{plain_value}
-use Rattle.exo_facts.specs.Walks.{telling_of, value_after}
-use Rattle.exo_facts.proofs.Fields.{changed_on}
-use Rattle.exo_facts.proofs.Steps.{after_value}
+use Rattle.exo_facts.specs.Walks.{telling_of}
+use Rattle.exo_facts.proofs.Fields.{all_same}
 use Rattle.exo_facts.proofs.walk.all_after.Goals as goal
 
-pub loop-f-preserved : goal.loop-f-preserved
-loop-f-preserved c =
+pub returns-in-Config : goal.returns-in-Config
+returns-in-Config c =
     let tell = telling_of c.args.basis.now in
     let path = c.args.path.now in
-    let a = statement c.args.s.now in
-    let f = c.loop-f.f in
-    let first = known_in c.args.known.now in
-    let had : plain_value c.get.result ≡ first f = c.get.ensures ∙ c.loop-f.invariant.above f (omega arith) in
-    let value = c.in_ok-value.ensures ∙ ap (value_after tell f path a) had ∙ sym (after_value tell f path a first) in
-    changed_on f (after tell path a first) first (known_in c.loop-f.known) (known_in c.set.new.self) (plain_value c.in_ok-value.value) c.in_ok-set.ensures value c.loop-f.invariant
+    let old = known_in c.args.known.now in
+    let new = known_in c.set.new.self in
+    all_same c.set.result c.args.basis.now.count new (after tell path (statement c.args.s.now) old) (subst (λ s. OnOk c.set.result (new ≡ after tell path (statement s) old)) (sym c.in-Config.is) c.set.ensures)
