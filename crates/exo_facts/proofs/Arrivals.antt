@@ -1,6 +1,6 @@
 -- The context of a place: of what the procedure begins with, and of the way.
 use Rattle.std.proofs.Common.{◌≡◌, ℕ, zero, suc, List, [], ◌∷◌, ◌++◌, length, map, Option, Some, None, arith, refl, sym, ap, ◌∙◌, subst, Result, Ok, Err, IsErrAnd}
-use Rattle.exo_tree.specs.Tree.{Block, Procedure}
+use Rattle.exo_tree.specs.Tree.{Block}
 use Rattle.exo_tree.specs.Places.{Branch, Main, Else, Step, Path, Opened, into, past, opened, opened_in}
 use Rattle.exo_tree.specs.PlainPlace.{step_taken}
 use Rattle.exo_tree.specs.declared.place.Step as taken

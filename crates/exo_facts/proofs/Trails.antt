@@ -1,5 +1,5 @@
 -- Levels of a trail: taken, brought on and put back.
-use Rattle.std.proofs.Common.{◌≡◌, ℕ, zero, suc, List, [], ◌∷◌, ◌++◌, drop, length, reverse, Option, Some, None, sym, ap, ap₂, ◌∙◌, subst}
+use Rattle.std.proofs.Common.{◌≡◌, ℕ, zero, suc, List, [], ◌∷◌, ◌++◌, drop, reverse, Option, Some, None, sym, ap, ap₂, ◌∙◌, subst}
 use Rattle.std.specs.Prelude.{IfSome, slice_get}
 use Rattle.std.proofs.lemmas.List.{reverse-append}
 use Rattle.exo_tree.specs.Tree.{Statement, Block, block, statements}

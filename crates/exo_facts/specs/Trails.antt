@@ -30,14 +30,14 @@ module _ (g : Ground) where
   abbrev pub Stand : Path → (Branch → Option Block) → KnownFields → List Level → Type 0
   Stand outer blocks first [] = ⊤
   Stand outer blocks first (l ∷ ls) = IfSome (blocks (branch_taken l.branch)) (λ b.
-    let path = path_in outer (branch_taken l.branch) l.index in
-    let now = passed (telling_of g) outer (branch_taken l.branch) zero l.index b first in
-    SameBelow g.count (known_in l.known) now × IfSome (slice_get (statements b) l.index) (λ a. Stand path (λ t. branch_of t a) (known_inside (telling_of g) path a now) ls))
+      let path = path_in outer (branch_taken l.branch) l.index in
+      let now = passed (telling_of g) outer (branch_taken l.branch) zero l.index b first in
+      SameBelow g.count (known_in l.known) now × IfSome (slice_get (statements b) l.index) (λ a. Stand path (λ t. branch_of t a) (known_inside (telling_of g) path a now) ls))
 
   -- levels on the way from the blocks of the statement of that number
   abbrev pub StandInside : Path → Branch → Block → ℕ → KnownFields → List Level → Type 0
   StandInside outer branch b k first ls = IfSome (slice_get (statements b) k) (λ a.
-    Stand (path_in outer branch k) (λ t. branch_of t a) (known_inside (telling_of g) (path_in outer branch k) a (passed (telling_of g) outer branch zero k b first)) ls)
+      Stand (path_in outer branch k) (λ t. branch_of t a) (known_inside (telling_of g) (path_in outer branch k) a (passed (telling_of g) outer branch zero k b first)) ls)
 
   -- a level of a block, and others inside its statement
   abbrev pub StandIn : Path → Block → KnownFields → Level → List Level → Type 0

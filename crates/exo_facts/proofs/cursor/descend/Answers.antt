@@ -1,6 +1,6 @@
 use Rattle.std.proofs.Common.{◌≡◌, ◌<◌, zero, [], ◌∷◌, length, map, arith, sym, ap, ◌∙◌, subst}
 use Rattle.std.specs.Prelude.{IfOk, OnOk}
-use Rattle.exo_tree.specs.Places.{Main, opened}
+use Rattle.exo_tree.specs.Places.{opened}
 use Rattle.exo_tree.specs.PlainPlace.{branch_taken, step_taken}
 use Rattle.exo_tree.specs.PlainProcedure.{procedure}
 use Rattle.exo_tree.specs.PlainUnit.{program}

@@ -1,10 +1,11 @@
-use Rattle.std.proofs.Common.{◌≡◌, ◌<◌, zero, [], ◌∷◌, length, map, arith, refl, sym, ap, ◌∙◌, subst, Some, Ok}
+use Rattle.std.proofs.Common.{◌≡◌, ◌<◌, ◌+◌, zero, ◌∷◌, drop, length, map, arith, refl, sym, ap, ◌∙◌, subst, Some, Ok}
 use Rattle.std.specs.Prelude.{IsSome, is_some}
 use Rattle.exo_tree.specs.Tree.{block}
-use Rattle.exo_tree.specs.Places.{Step, Opened, opened_in}
+use Rattle.exo_tree.specs.Places.{Opened, opened_in}
 use Rattle.exo_tree.specs.Branches.{branch_of}
 use Rattle.exo_tree.specs.PlainPlace.{branch_taken, step_taken}
 use Rattle.exo_tree.specs.PlainStatement.{statement}
+use Rattle.exo_meaning.specs.Units.{step_levels}
 use Rattle.exo_context.specs.KnownFields.{at_entry, known_at}
 use Rattle.exo_context.specs.PlaceFacts.{facts_round}
 use Rattle.affine_forms.specs.Outcomes.{IsWide}
@@ -50,7 +51,7 @@ path_in-path-requires-clause-number t c =
     omega arith
 
 pub enter-requires : goal.enter-requires
-enter-requires t c = rules_at c.args.level.index c.args.b.now _ (statement c.statement-s.result.now) c.statement-s.ensures.value c.requires.rules
+enter-requires t c = rules_at c.args.level.index c.args.b.now (drop (c.args.level.index + 1) c.args.b.now) (statement c.statement-s.result.now) c.statement-s.ensures.value c.requires.rules
 
 pub returns-in_err-enter-clause-facts : goal.returns-in_err-enter-clause-facts
 returns-in_err-enter-clause-facts t c = λ first h o e.
@@ -61,12 +62,13 @@ returns-in_err-enter-clause-facts t c = λ first h o e.
     let branch = branch_taken l.branch in
     let xs = c.args.b.now in
     let a = statement c.statement-s.result.now in
+    let others = drop (l.index + 1) xs in
     let path = c.path_in-path.result in
     let n = step_taken c.in-Some.next.now in
     let rest = map step_taken c.in-Some.rest.now in
     let way = sym (ap (λ q. opened_in 1 (step_to l ∷ map step_taken q) (block xs)) c.in-Some.ensures.cases.0) in
     let now = passed tell outer branch zero l.index (block xs) first in
-    let w = onward tell outer branch (step_to l) n rest xs _ a path o first c.statement-s.ensures.value c.path_in-path.ensures (way ∙ e) in
+    let w = onward tell outer branch (step_to l) n rest xs others a path o first c.statement-s.ensures.value c.path_in-path.ensures (way ∙ e) in
     subst (λ es. Added c.from_residual-in_err-enter.result g es c.args.context.now c.enter.new.context) (sym w.facts)
     (left_early _ _ g _ _ _ c.from_residual-in_err-enter.ensures.1 (refused_first g (entered n.branch a now) (facts_round tell path n.branch zero w.inner.around w.inner.piece (known_inside tell path a now)) _ (c.in_err-enter.ensures now h.0)))
 
@@ -79,21 +81,22 @@ unreachable-requires t c =
     let branch = branch_taken l.branch in
     let xs = c.args.b.now in
     let a = statement c.statement-s.result.now in
+    let others = drop (l.index + 1) xs in
     let path = c.path_in-path.result in
     let n = step_taken c.in-Some.next.now in
     let rest = map step_taken c.in-Some.rest.now in
     let way = sym (ap (λ q. opened_in 1 (step_to l ∷ map step_taken q) (block xs)) c.in-Some.ensures.cases.0) in
     let p = found (opened_in 1 (step_to l ∷ map step_taken c.args.steps.now) (block xs)) c.requires.place in
-    let w = onward tell outer branch (step_to l) n rest xs _ a path p.place at_entry c.statement-s.ensures.value c.path_in-path.ensures (way ∙ p.is) in
+    let w = onward tell outer branch (step_to l) n rest xs others a path p.place at_entry c.statement-s.ensures.value c.path_in-path.ensures (way ∙ p.is) in
     no_block w.block_inside (c.in_default-block.ensures ∙ w.is_branch)
 
 pub level_inside-requires-clause-rules : goal.level_inside-requires-clause-rules
-level_inside-requires-clause-rules t c = rules_at c.args.level.index c.args.b.now _ (statement c.statement-s.result.now) c.statement-s.ensures.value c.requires.rules
+level_inside-requires-clause-rules t c = rules_at c.args.level.index c.args.b.now (drop (c.args.level.index + 1) c.args.b.now) (statement c.statement-s.result.now) c.statement-s.ensures.value c.requires.rules
 
 pub level_inside-requires-clause-room : goal.level_inside-requires-clause-room
 level_inside-requires-clause-room t c =
     let a = statement c.statement-s.result.now in
-    room_inside c.args.outer.now c.path_in-path.result (branch_taken c.args.level.branch) c.args.level.index _ c.path_in-path.ensures (room_at _ c.args.level.index c.args.b.now _ a c.statement-s.ensures.value c.requires.room)
+    room_inside c.args.outer.now c.path_in-path.result (branch_taken c.args.level.branch) c.args.level.index (step_levels a) c.path_in-path.ensures (room_at (length c.args.outer.now) c.args.level.index c.args.b.now (drop (c.args.level.index + 1) c.args.b.now) a c.statement-s.ensures.value c.requires.room)
 
 pub bring-requires-clause-within : goal.bring-requires-clause-within
 bring-requires-clause-within t c =
@@ -104,13 +107,14 @@ bring-requires-clause-within t c =
     let branch = branch_taken l.branch in
     let xs = c.args.b.now in
     let a = statement c.statement-s.result.now in
+    let others = drop (l.index + 1) xs in
     let path = c.path_in-path.result in
     let n = step_taken c.in-Some.next.now in
     let rest = map step_taken c.in-Some.rest.now in
     let way = sym (ap (λ q. opened_in 1 (step_to l ∷ map step_taken q) (block xs)) c.in-Some.ensures.cases.0) in
     let p = found (opened_in 1 (step_to l ∷ map step_taken c.args.steps.now) (block xs)) c.requires.place in
     let inner = block c.in-Some-block.inner.now in
-    let there = place_inside tell outer branch (step_to l) n rest xs _ a inner c.statement-s.ensures.value c.in-Some-block.ensures (ap is_some (way ∙ p.is)) in
+    let there = place_inside tell outer branch (step_to l) n rest xs others a inner c.statement-s.ensures.value c.in-Some-block.ensures (ap is_some (way ∙ p.is)) in
     let k : c.in-Some.next.now.index < length c.in-Some-block.inner.now = within n rest c.in-Some-block.inner.now there in
     omega arith
 
@@ -118,22 +122,22 @@ pub bring-requires-clause-rules : goal.bring-requires-clause-rules
 bring-requires-clause-rules t c =
     let a = statement c.statement-s.result.now in
     let e = c.statement-s.ensures.value in
-    let room = room_inside c.args.outer.now c.path_in-path.result (branch_taken c.args.level.branch) c.args.level.index _ c.path_in-path.ensures (room_at _ c.args.level.index c.args.b.now _ a e c.requires.room) in
-    (inside _ (branch_taken c.in-Some.next.now.branch) a (block c.in-Some-block.inner.now) (sym c.in-Some-block.ensures) (rules_at c.args.level.index c.args.b.now _ a e c.requires.rules) room).rules
+    let room = room_inside c.args.outer.now c.path_in-path.result (branch_taken c.args.level.branch) c.args.level.index (step_levels a) c.path_in-path.ensures (room_at (length c.args.outer.now) c.args.level.index c.args.b.now (drop (c.args.level.index + 1) c.args.b.now) a e c.requires.room) in
+    (inside (length c.path_in-path.result) (branch_taken c.in-Some.next.now.branch) a (block c.in-Some-block.inner.now) (sym c.in-Some-block.ensures) (rules_at c.args.level.index c.args.b.now (drop (c.args.level.index + 1) c.args.b.now) a e c.requires.rules) room).rules
 
 pub bring-requires-clause-short : goal.bring-requires-clause-short
 bring-requires-clause-short t c =
     let a = statement c.statement-s.result.now in
     let e = c.statement-s.ensures.value in
-    let room = room_inside c.args.outer.now c.path_in-path.result (branch_taken c.args.level.branch) c.args.level.index _ c.path_in-path.ensures (room_at _ c.args.level.index c.args.b.now _ a e c.requires.room) in
-    (inside _ (branch_taken c.in-Some.next.now.branch) a (block c.in-Some-block.inner.now) (sym c.in-Some-block.ensures) (rules_at c.args.level.index c.args.b.now _ a e c.requires.rules) room).short
+    let room = room_inside c.args.outer.now c.path_in-path.result (branch_taken c.args.level.branch) c.args.level.index (step_levels a) c.path_in-path.ensures (room_at (length c.args.outer.now) c.args.level.index c.args.b.now (drop (c.args.level.index + 1) c.args.b.now) a e c.requires.room) in
+    (inside (length c.path_in-path.result) (branch_taken c.in-Some.next.now.branch) a (block c.in-Some-block.inner.now) (sym c.in-Some-block.ensures) (rules_at c.args.level.index c.args.b.now (drop (c.args.level.index + 1) c.args.b.now) a e c.requires.rules) room).short
 
 pub bring-requires-clause-room : goal.bring-requires-clause-room
 bring-requires-clause-room t c =
     let a = statement c.statement-s.result.now in
     let e = c.statement-s.ensures.value in
-    let room = room_inside c.args.outer.now c.path_in-path.result (branch_taken c.args.level.branch) c.args.level.index _ c.path_in-path.ensures (room_at _ c.args.level.index c.args.b.now _ a e c.requires.room) in
-    (inside _ (branch_taken c.in-Some.next.now.branch) a (block c.in-Some-block.inner.now) (sym c.in-Some-block.ensures) (rules_at c.args.level.index c.args.b.now _ a e c.requires.rules) room).room
+    let room = room_inside c.args.outer.now c.path_in-path.result (branch_taken c.args.level.branch) c.args.level.index (step_levels a) c.path_in-path.ensures (room_at (length c.args.outer.now) c.args.level.index c.args.b.now (drop (c.args.level.index + 1) c.args.b.now) a e c.requires.room) in
+    (inside (length c.path_in-path.result) (branch_taken c.in-Some.next.now.branch) a (block c.in-Some-block.inner.now) (sym c.in-Some-block.ensures) (rules_at c.args.level.index c.args.b.now (drop (c.args.level.index + 1) c.args.b.now) a e c.requires.rules) room).room
 
 pub walk-requires : goal.walk-requires
 walk-requires t c =
@@ -145,15 +149,16 @@ walk-requires t c =
     let branch = branch_taken l.branch in
     let xs = c.args.b.now in
     let a = statement c.statement-s.result.now in
+    let others = drop (l.index + 1) xs in
     let path = c.path_in-path.result in
     let n = step_taken c.in-Some.next.now in
     let rest = map step_taken c.in-Some.rest.now in
     let way = sym (ap (λ q. opened_in 1 (step_to l ∷ map step_taken q) (block xs)) c.in-Some.ensures.cases.0) in
     let p = found (opened_in 1 (step_to l ∷ map step_taken c.args.steps.now) (block xs)) c.requires.place in
     let inner = block c.in-Some-block.inner.now in
-    let there = place_inside tell outer branch (step_to l) n rest xs _ a inner c.statement-s.ensures.value c.in-Some-block.ensures (ap is_some (way ∙ p.is)) in
-    let room = room_inside outer path branch l.index _ c.path_in-path.ensures (room_at _ l.index xs _ a c.statement-s.ensures.value c.requires.room) in
-    let i = inside _ n.branch a inner (sym c.in-Some-block.ensures) (rules_at l.index xs _ a c.statement-s.ensures.value c.requires.rules) room in
+    let there = place_inside tell outer branch (step_to l) n rest xs others a inner c.statement-s.ensures.value c.in-Some-block.ensures (ap is_some (way ∙ p.is)) in
+    let room = room_inside outer path branch l.index (step_levels a) c.path_in-path.ensures (room_at (length outer) l.index xs others a c.statement-s.ensures.value c.requires.room) in
+    let i = inside (length path) n.branch a inner (sym c.in-Some-block.ensures) (rules_at l.index xs others a c.statement-s.ensures.value c.requires.rules) room in
     let same = step_same c.in_ok-below.below c.in-Some.next.now (c.in_ok-below.ensures.branch ∙ c.in_ok-found.ensures.branch) c.in_ok-below.ensures.index in
     (omega arith, (subst (λ s. IsSome (opened_in 1 (s ∷ rest) inner)) (sym same) there, (i.rules, (i.short, i.room))))
 
@@ -166,6 +171,7 @@ returns-in_err-facts-2-clause-facts t c = λ first h o e.
     let branch = branch_taken l.branch in
     let xs = c.args.b.now in
     let a = statement c.statement-s.result.now in
+    let others = drop (l.index + 1) xs in
     let path = c.path_in-path.result in
     let n = step_taken c.in-Some.next.now in
     let rest = map step_taken c.in-Some.rest.now in
@@ -174,12 +180,12 @@ returns-in_err-facts-2-clause-facts t c = λ first h o e.
     let head = known_inside tell path a now in
     let inner = block c.in-Some-block.inner.now in
     let found = c.in_ok-found.found in
-    let was = stand_inside g outer path branch l.index xs _ a first (levels_of c.args.trail.now) c.path_in-path.ensures c.statement-s.ensures.value h.1 in
+    let was = stand_inside g outer path branch l.index xs others a first (levels_of c.args.trail.now) c.path_in-path.ensures c.statement-s.ensures.value h.1 in
     let block_found = ap (λ v. branch_of (branch_taken v) a) c.in_ok-found.ensures.branch ∙ sym c.in-Some-block.ensures in
     let stands = stand_in g path (λ u. branch_of u a) inner head found (levels_of c.level_inside.new.trail) block_found (c.in_ok-found.ensures.stand now h.0 was) in
     let below = c.in_ok-below.ensures.stand head stands in
     let same = step_same c.in_ok-below.below c.in-Some.next.now (c.in_ok-below.ensures.branch ∙ c.in_ok-found.ensures.branch) c.in_ok-below.ensures.index in
-    let w = onward tell outer branch (step_to l) n rest xs _ a path o first c.statement-s.ensures.value c.path_in-path.ensures (way ∙ e) in
+    let w = onward tell outer branch (step_to l) n rest xs others a path o first c.statement-s.ensures.value c.path_in-path.ensures (way ∙ e) in
     let there = onward_in tell outer branch n.branch (n ∷ rest) path a inner o first now c.in-Some-block.ensures w in
     let wide = subst (λ s. (p : Opened) → opened_in 1 (s ∷ rest) inner ≡ Some p → IsWide c.in_err-facts-2.field-0.0 (all_fit (program g.unit.now) (procedure g.proc.now) (facts_round tell path s.branch zero p.around p.piece head))) same (c.in_err-facts-2.ensures.facts head below) w.inner there in
     subst (λ es. Added c.from_residual-in_err-facts-2.result g es c.args.context.now c.walk.new.context) (sym w.facts)
@@ -194,6 +200,7 @@ returns-clause-facts t c = λ first h o e.
     let branch = branch_taken l.branch in
     let xs = c.args.b.now in
     let a = statement c.statement-s.result.now in
+    let others = drop (l.index + 1) xs in
     let path = c.path_in-path.result in
     let n = step_taken c.in-Some.next.now in
     let rest = map step_taken c.in-Some.rest.now in
@@ -202,12 +209,12 @@ returns-clause-facts t c = λ first h o e.
     let head = known_inside tell path a now in
     let inner = block c.in-Some-block.inner.now in
     let found = c.in_ok-found.found in
-    let was = stand_inside g outer path branch l.index xs _ a first (levels_of c.args.trail.now) c.path_in-path.ensures c.statement-s.ensures.value h.1 in
+    let was = stand_inside g outer path branch l.index xs others a first (levels_of c.args.trail.now) c.path_in-path.ensures c.statement-s.ensures.value h.1 in
     let block_found = ap (λ v. branch_of (branch_taken v) a) c.in_ok-found.ensures.branch ∙ sym c.in-Some-block.ensures in
     let stands = stand_in g path (λ u. branch_of u a) inner head found (levels_of c.level_inside.new.trail) block_found (c.in_ok-found.ensures.stand now h.0 was) in
     let below = c.in_ok-below.ensures.stand head stands in
     let same = step_same c.in_ok-below.below c.in-Some.next.now (c.in_ok-below.ensures.branch ∙ c.in_ok-found.ensures.branch) c.in_ok-below.ensures.index in
-    let w = onward tell outer branch (step_to l) n rest xs _ a path o first c.statement-s.ensures.value c.path_in-path.ensures (way ∙ e) in
+    let w = onward tell outer branch (step_to l) n rest xs others a path o first c.statement-s.ensures.value c.path_in-path.ensures (way ∙ e) in
     let there = onward_in tell outer branch n.branch (n ∷ rest) path a inner o first now c.in-Some-block.ensures w in
     let came = subst (λ s. (p : Opened) → opened_in 1 (s ∷ rest) inner ≡ Some p → Came g (facts_round tell path s.branch zero p.around p.piece head) c.enter.new.context c.walk.new.context) same (c.in_ok-facts-2.ensures.facts head below) w.inner there in
     subst (λ es. Came g es c.args.context.now c.walk.new.context) (sym w.facts)
@@ -222,6 +229,7 @@ returns-clause-known t c = λ first h o e.
     let branch = branch_taken l.branch in
     let xs = c.args.b.now in
     let a = statement c.statement-s.result.now in
+    let others = drop (l.index + 1) xs in
     let path = c.path_in-path.result in
     let n = step_taken c.in-Some.next.now in
     let rest = map step_taken c.in-Some.rest.now in
@@ -230,12 +238,12 @@ returns-clause-known t c = λ first h o e.
     let head = known_inside tell path a now in
     let inner = block c.in-Some-block.inner.now in
     let found = c.in_ok-found.found in
-    let was = stand_inside g outer path branch l.index xs _ a first (levels_of c.args.trail.now) c.path_in-path.ensures c.statement-s.ensures.value h.1 in
+    let was = stand_inside g outer path branch l.index xs others a first (levels_of c.args.trail.now) c.path_in-path.ensures c.statement-s.ensures.value h.1 in
     let block_found = ap (λ v. branch_of (branch_taken v) a) c.in_ok-found.ensures.branch ∙ sym c.in-Some-block.ensures in
     let stands = stand_in g path (λ u. branch_of u a) inner head found (levels_of c.level_inside.new.trail) block_found (c.in_ok-found.ensures.stand now h.0 was) in
     let below = c.in_ok-below.ensures.stand head stands in
     let same = step_same c.in_ok-below.below c.in-Some.next.now (c.in_ok-below.ensures.branch ∙ c.in_ok-found.ensures.branch) c.in_ok-below.ensures.index in
-    let w = onward tell outer branch (step_to l) n rest xs _ a path o first c.statement-s.ensures.value c.path_in-path.ensures (way ∙ e) in
+    let w = onward tell outer branch (step_to l) n rest xs others a path o first c.statement-s.ensures.value c.path_in-path.ensures (way ∙ e) in
     let there = onward_in tell outer branch n.branch (n ∷ rest) path a inner o first now c.in-Some-block.ensures w in
     let told = subst (λ s. (p : Opened) → opened_in 1 (s ∷ rest) inner ≡ Some p → c.in_ok-facts-2.facts ≡ facts_from zero g.count (known_at tell path s.branch zero p.around p.piece head)) same (c.in_ok-facts-2.ensures.known head below) w.inner there in
     told ∙ ap (facts_from zero g.count) (sym w.known_there)
@@ -249,6 +257,7 @@ returns-clause-stand t c = λ first h blocks e.
     let branch = branch_taken l.branch in
     let xs = c.args.b.now in
     let a = statement c.statement-s.result.now in
+    let others = drop (l.index + 1) xs in
     let path = c.path_in-path.result in
     let n = step_taken c.in-Some.next.now in
     let rest = map step_taken c.in-Some.rest.now in
@@ -257,11 +266,11 @@ returns-clause-stand t c = λ first h blocks e.
     let head = known_inside tell path a now in
     let inner = block c.in-Some-block.inner.now in
     let found = c.in_ok-found.found in
-    let was = stand_inside g outer path branch l.index xs _ a first (levels_of c.args.trail.now) c.path_in-path.ensures c.statement-s.ensures.value h.1 in
+    let was = stand_inside g outer path branch l.index xs others a first (levels_of c.args.trail.now) c.path_in-path.ensures c.statement-s.ensures.value h.1 in
     let block_found = ap (λ v. branch_of (branch_taken v) a) c.in_ok-found.ensures.branch ∙ sym c.in-Some-block.ensures in
     let stands = stand_in g path (λ u. branch_of u a) inner head found (levels_of c.level_inside.new.trail) block_found (c.in_ok-found.ensures.stand now h.0 was) in
     let below = c.in_ok-below.ensures.stand head stands in
     let block_below = ap (λ v. branch_of (branch_taken v) a) (c.in_ok-below.ensures.branch ∙ c.in_ok-found.ensures.branch) ∙ sym c.in-Some-block.ensures in
     let is = c.in_ok-facts-2.ensures.stand head below (λ u. branch_of u a) block_below in
-    let back = stand_outside g outer path branch l.index xs _ a first (levels_of c.walk.new.trail) c.path_in-path.ensures c.statement-s.ensures.value is in
+    let back = stand_outside g outer path branch l.index xs others a first (levels_of c.walk.new.trail) c.path_in-path.ensures c.statement-s.ensures.value is in
     subst (Stand g outer blocks first) (sym c.in_ok-put-2.ensures) (stand_out g outer blocks (block xs) first l (levels_of c.walk.new.trail) e (h.0, back))

@@ -1,4 +1,4 @@
-use Rattle.std.proofs.Common.{zero, ◌+◌, drop, arith, ◌≡◌, subst}
+use Rattle.std.proofs.Common.{zero, arith, ◌≡◌, subst}
 use Rattle.exo_tree.specs.Tree.{block}
 use Rattle.exo_tree.specs.PlainPlace.{branch_taken}
 use Rattle.exo_tree.specs.PlainStatement.{statement}
