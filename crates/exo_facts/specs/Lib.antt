@@ -2,5 +2,6 @@ pub mod Contexts
 pub mod Values
 pub mod Tables
 pub mod RootSets
+pub mod UnitCodes
 pub mod Walks
 pub mod Laws

@@ -5,6 +5,7 @@ mod after;
 mod agreement;
 mod basis;
 mod context;
+mod cursor;
 mod enter;
 mod known;
 pub mod laws;
@@ -12,4 +13,4 @@ mod value;
 mod walk;
 mod writes;
 
-pub use context::context_at;
+pub use cursor::{Cursor, context_at};

@@ -10,7 +10,7 @@ use Rattle.exo_facts.specs.Tables.{known_in}
 use Rattle.exo_facts.specs.Walks.{telling_of, SameBelow, Added, round_facts}
 use Rattle.exo_facts.proofs.Beginning.{entry_same}
 use Rattle.exo_facts.proofs.Arrivals.{opened_first, there, no_steps, some_steps, before_body}
-use Rattle.exo_facts.proofs.context.go.Goals as goal
+use Rattle.exo_facts.proofs.cursor.go.Goals as goal
 
 pub returns-then-is_empty-clause-known : goal.returns-then-is_empty-clause-known
 returns-then-is_empty-clause-known c = λ f lt.

@@ -4,7 +4,7 @@ use Rattle.exo_facts.specs.Tables.{known_in}
 use Rattle.exo_facts.specs.Walks.{telling_of, head_facts, round_facts, place_of}
 use Rattle.exo_facts.proofs.Adding.{Came, added_more}
 use Rattle.exo_facts.proofs.Arrivals.{context_made}
-use Rattle.exo_facts.proofs.context.context_of.Goals as goal
+use Rattle.exo_facts.proofs.cursor.context_of.Goals as goal
 
 pub returns : goal.returns
 returns c =
