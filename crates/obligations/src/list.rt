@@ -1,5 +1,5 @@
 //! The obligations of a procedure.
-ghost use Rattle.std.specs.Prelude.{◌≡◌, ◌<◌, IsTrue, true, length, map, not, slice_get};
+ghost use Rattle.std.specs.Prelude.{◌≡◌, ◌<◌, IsTrue, length, map, not, slice_get};
 ghost use Rattle.std.specs.List.{list_all, position_or_len};
 ghost use Rattle.exo_tree.specs.PlainProcedure.{procedure};
 ghost use Rattle.exo_tree.specs.PlainUnit.{program};
@@ -57,7 +57,7 @@ fn obligations_of_claims(
     requires table { IsTable (length (program unit.now).fields) (unit_writes (program unit.now).procedures) writes.now }
     requires walked { IsTrue (may_be_walked (procedure proc.now)) }
     requires claims { map placed claims.now ≡ claims_of (program unit.now) (procedure proc.now) }
-    requires owable { list_all (may_be_owed (procedure proc.now)) (map placed claims.now) ≡ true }
+    requires owable { IsTrue (list_all (may_be_owed (procedure proc.now)) (claims_of (program unit.now) (procedure proc.now))) }
     ensures { AreObligations result (program unit.now) (procedure proc.now) }
 {
     let roots = Roots::of(alloc, proc)?;

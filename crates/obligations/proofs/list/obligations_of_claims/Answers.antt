@@ -1,4 +1,4 @@
-use Rattle.std.proofs.Common.{◌≡◌, ◌++◌, map, sym, ap, ◌∙◌, subst, arith}
+use Rattle.std.proofs.Common.{◌≡◌, ◌++◌, map, Ok, Err, sym, ap, ◌∙◌, subst, arith}
 use Rattle.std.proofs.lemmas.List.{map-append}
 use Rattle.exo_tree.specs.PlainProcedure.{procedure}
 use Rattle.exo_tree.specs.PlainUnit.{program}
@@ -17,7 +17,7 @@ of-requires c = extents_there (procedure c.args.proc.now) c.requires.walked
 
 pub loop-first-init : goal.loop-first-init
 loop-first-init c = record {
-  goes = c.new.ensures;
+  goes = c.new-cursor.ensures;
   left = onward_all (program c.args.unit.now) (procedure c.args.proc.now) c.new-out.result (map placed c.args.claims.now) c.new-out.ensures c.requires.claims c.requires.owable;
 }
 
@@ -57,7 +57,7 @@ returns-in_err-put_claims c =
     let others = c.split_at.result.1.now in
     let split : map placed c.loop-first.rest.now ≡ map placed here ++ map placed others = ap (map placed) c.split_at.ensures.by_index.0 ∙ map-append placed here others in
     onward_refused (program c.args.unit.now) (procedure c.args.proc.now) c.loop-first.out (map placed c.loop-first.rest.now) (map placed here) (map placed others) c.loop-first.invariant.left split c.from_residual-in_err-put_claims.result c.in_err-put_claims.field-0.0 c.from_residual-in_err-put_claims.ensures.1
-    (subst (λ it. Owes c.put_claims.result it.0 it.1 (map placed here) c.loop-first.out c.put_claims.new.out) c.loop-first.invariant.goes c.in_err-put_claims.ensures.owes)
+    (subst (λ it. Owes {A = Unit {0}} (Err c.in_err-put_claims.field-0.0) it.0 it.1 (map placed here) c.loop-first.out c.put_claims.new.out) c.loop-first.invariant.goes c.in_err-put_claims.ensures.owes)
 
 pub loop-first-smaller : goal.loop-first-smaller
 loop-first-smaller c =
@@ -74,7 +74,7 @@ loop-first-preserved c =
       goes = c.in_ok-put_claims.ensures.same ∙ c.loop-first.invariant.goes;
       left =
           onward_more (program c.args.unit.now) (procedure c.args.proc.now) c.loop-first.out (map placed c.loop-first.rest.now) (map placed here) (map placed others) c.loop-first.invariant.left split c.put_claims.new.out
-          (subst (λ it. Owes c.put_claims.result it.0 it.1 (map placed here) c.loop-first.out c.put_claims.new.out) c.loop-first.invariant.goes c.in_ok-put_claims.ensures.owes);
+          (subst (λ it. Owes (Ok (tt {0})) it.0 it.1 (map placed here) c.loop-first.out c.put_claims.new.out) c.loop-first.invariant.goes c.in_ok-put_claims.ensures.owes);
     }
 
 pub returns : goal.returns
