@@ -1,4 +1,3 @@
-use Rattle.std.proofs.Common.{refl}
 use Rattle.affine_forms.specs.Formulas.{condition_keeps_rules}
 use Rattle.bounds_check.specs.PlainClaim.{placed}
 use Rattle.obligations.specs.Paths.{same_path}

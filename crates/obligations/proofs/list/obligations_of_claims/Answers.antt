@@ -4,7 +4,6 @@ use Rattle.exo_tree.specs.PlainProcedure.{procedure}
 use Rattle.exo_tree.specs.PlainUnit.{program}
 use Rattle.exo_facts.specs.Contexts.{IsPlaceOf}
 use Rattle.affine_places.specs.Roots.{roots_of}
-use Rattle.affine_places.specs.Seen.{roots_in}
 use Rattle.bounds_check.specs.PlainClaim.{placed}
 use Rattle.obligations.specs.Outcomes.{Owes}
 use Rattle.obligations.specs.Paths.{same_path}
