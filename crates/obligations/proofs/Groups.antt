@@ -14,7 +14,7 @@ use Rattle.affine_systems.specs.Outcomes.{Owed}
 use Rattle.affine_systems.specs.declared.obligation.Obligation.{Obligation}
 use Rattle.bounds_check.specs.Claim.{Placed}
 use Rattle.bounds_check.specs.Claims.{claims_of}
-use Rattle.exo_facts.specs.Contexts.{IsPlaceOf, IsPlaceIn}
+use Rattle.exo_facts.specs.Contexts.{IsPlaceOf}
 use Rattle.obligations.specs.Paths.{same_branch, same_path}
 use Rattle.obligations.specs.Limits.{are_within}
 use Rattle.obligations.specs.Laws.{is_place_of, may_be_owed}
@@ -173,19 +173,6 @@ place_of_first {A} f p (y ∷ xs) x e h = subst (λ z. IsPlaceOf (f z).place p) 
   where
     some_is : (a b : A) → Some a ≡ Some b → a ≡ b
     some_is a b k = cc
-
-abbrev IsThere : Path → Option Procedure → Type 0
-IsThere path o = elim o [ None ↦ ⊥ | Some q ↦ IsPlaceOf path q ]
-
-pub place_in : (u : Program) (k : ℕ) (p : Procedure) (path : Path) → slice_get u.procedures k ≡ Some p → IsPlaceOf path p → IsPlaceIn u k path
-place_in u k p path e h = go (slice_get u.procedures k) e
-  where
-    some_is : (a b : Procedure) → Some a ≡ Some b → a ≡ b
-    some_is a b w = cc
-
-    go : (o : Option Procedure) → o ≡ Some p → IsThere path o
-    go None w = cc
-    go (Some q) w = subst (IsPlaceOf path) (sym (some_is q p w)) h
 
 pub none_left : {A : Type 0} (xs : List A) → slice_get xs 0 ≡ None → xs ≡ []
 none_left [] h = refl

@@ -1,13 +1,12 @@
 //! The obligations of the claims of one place.
-ghost use Rattle.std.specs.Prelude.{◌≡◌, ◌<◌, ◌∷◌, [], true, IsTrue, Some, IfSome, map, length, slice_get};
+ghost use Rattle.std.specs.Prelude.{◌≡◌, ◌<◌, ◌∷◌, [], true, IsTrue, map, length};
 ghost use Rattle.std.specs.List.{list_all};
 ghost use Rattle.exo_tree.specs.Tree.{Procedure, Program};
-ghost use Rattle.exo_tree.specs.PlainUnit.{program};
 ghost use Rattle.affine_forms.specs.Formulas.{condition_keeps_rules};
 ghost use Rattle.affine_places.specs.Roots.{roots_of};
 ghost use Rattle.affine_places.specs.Seen.{roots_in};
 ghost use Rattle.bounds_check.specs.PlainClaim.{claim, placed};
-ghost use Rattle.exo_facts.specs.Contexts.{IsPlaceIn, may_be_walked, context_of, context_fits, facts_of};
+ghost use Rattle.exo_facts.specs.Contexts.{IsPlaceOf, context_of, context_fits, facts_of};
 ghost use Rattle.obligations.specs.Paths.{same_path};
 ghost use Rattle.obligations.specs.Outcomes.{Owes};
 
@@ -17,15 +16,14 @@ use affine_forms::formula_of;
 use affine_places::{AtPlace, Roots};
 use affine_systems::{Context, systems};
 use bounds_check::{Claim, Placed};
-use exo_facts::context_at;
-use exo_tree::{Path, ProcId, Text, Unit};
+use exo_facts::Cursor;
+use exo_tree::{Fields, Path, Text};
 use std::alloc::Global;
 
-/// A procedure of a unit, with the roots of its names.
+/// The fields of a unit, with the roots of the names of one of its procedures.
 #[derive(Drop)]
 pub(crate) struct Site<'s, 'a> {
-    pub(crate) unit: &'a Unit,
-    pub(crate) p: ProcId,
+    pub(crate) fields: &'s Fields,
     pub(crate) roots: &'s Roots<'a>,
 }
 
@@ -52,22 +50,23 @@ fn put_claim(
 pub(crate) fn put_claims(
     alloc: Global,
     site: &Site<'_, '_>,
+    cursor: &mut Cursor<'_, '_>,
     place: &Path,
     claims: &[Placed],
     out: &mut Owed,
 ) -> Result<(), CheckError>
-    requires numbered { length (program site.now.unit.now).fields < 4294967296 }
-    requires place { IsPlaceIn (program site.now.unit.now) site.now.p.0 place.now }
-    requires walked { IfSome (slice_get (program site.now.unit.now).procedures site.now.p.0) (λ q. IsTrue (may_be_walked q)) }
+    requires fields { cursor.old.0.fields ≡ site.now.fields.now }
+    requires roots { roots_in site.now.roots.now ≡ roots_of cursor.old.1 }
+    requires place { IsPlaceOf place.now cursor.old.1 }
     requires some { 0 < length claims.now }
     requires here { list_all (λ c. same_path c.place place.now) (map placed claims.now) ≡ true }
     requires rules { IsTrue (list_all (λ c. condition_keeps_rules c.claim.says) (map placed claims.now)) }
-    ensures { (p : Procedure) → slice_get (program site.now.unit.now).procedures site.now.p.0 ≡ Some p → roots_in site.now.roots.now ≡ roots_of p →
-        Owes result (program site.now.unit.now) p (map placed claims.now) out.old out.new }
+    ensures owes { Owes result cursor.old.0 cursor.old.1 (map placed claims.now) out.old out.new }
+    ensures same { cursor.new ≡ cursor.old }
 {
-    let (context, facts) = context_at(alloc, site.unit, site.p, place)?;
+    let (context, facts) = cursor.at(alloc, place)?;
     let at = AtPlace {
-        fields: &site.unit.fields,
+        fields: site.fields,
         roots: site.roots,
         facts: &facts,
     };

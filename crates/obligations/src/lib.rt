@@ -8,4 +8,4 @@ mod list;
 mod owed;
 
 pub use error::CheckError;
-pub use list::obligations;
+pub use list::{obligations, obligations_with_writes};

@@ -1,12 +1,16 @@
 //! The obligations of a procedure.
-ghost use Rattle.std.specs.Prelude.{◌≡◌, Some, map, not, slice_get};
-ghost use Rattle.std.specs.List.{position_or_len};
+ghost use Rattle.std.specs.Prelude.{◌≡◌, ◌<◌, IsTrue, length, map, not, slice_get};
+ghost use Rattle.std.specs.List.{list_all, position_or_len};
 ghost use Rattle.exo_tree.specs.PlainProcedure.{procedure};
 ghost use Rattle.exo_tree.specs.PlainUnit.{program};
 ghost use Rattle.exo_meaning.specs.Units.{IsUnit};
+ghost use Rattle.exo_context.specs.UnitFields.{unit_writes};
+ghost use Rattle.config_state.specs.FieldSets.{IsTable};
 ghost use Rattle.bounds_check.specs.PlainClaim.{placed};
 ghost use Rattle.bounds_check.specs.Claims.{claims_of};
+ghost use Rattle.exo_facts.specs.Contexts.{may_be_walked};
 ghost use Rattle.obligations.specs.Paths.{same_path};
+ghost use Rattle.obligations.specs.Laws.{may_be_owed};
 ghost use Rattle.obligations.specs.Outcomes.{AreObligations, AreObligationsIn};
 
 use crate::claims::{Site, put_claims};
@@ -16,6 +20,8 @@ use crate::owed::Owed;
 use affine_places::Roots;
 use affine_systems::Obligation;
 use bounds_check::{Placed, claims_of};
+use config_state::{FieldTable, written_table};
+use exo_facts::Cursor;
 use exo_facts::laws::well_formed_procedures_may_be_walked;
 use exo_tree::{Path, Proc, ProcId, Unit};
 use std::alloc::Global;
@@ -39,35 +45,57 @@ fn count_at(claims: &[Placed], place: &Path) -> usize
     claims.len()
 }
 
-/// The obligations of claims of a procedure.
+/// The obligations of claims of a procedure. The table says which fields each procedure of the unit may write.
 fn obligations_of_claims(
     alloc: Global,
     unit: &Unit,
-    p: ProcId,
+    writes: &FieldTable,
     proc: &Proc,
     claims: &[Placed],
 ) -> Result<Vec<Obligation>, CheckError>
-    requires unit { IsUnit (program unit.now) }
-    requires found { slice_get (program unit.now).procedures p.0 ≡ Some (procedure proc.now) }
+    requires numbered { length (program unit.now).fields < 4294967296 }
+    requires table { IsTable (length (program unit.now).fields) (unit_writes (program unit.now).procedures) writes.now }
+    requires walked { IsTrue (may_be_walked (procedure proc.now)) }
     requires claims { map placed claims.now ≡ claims_of (program unit.now) (procedure proc.now) }
+    requires owable { IsTrue (list_all (may_be_owed (procedure proc.now)) (claims_of (program unit.now) (procedure proc.now))) }
     ensures { AreObligations result (program unit.now) (procedure proc.now) }
 {
-    claims_may_be_owed();
-    well_formed_procedures_may_be_walked();
     let roots = Roots::of(alloc, proc)?;
     let site = Site {
-        unit,
-        p,
+        fields: &unit.fields,
         roots: &roots,
     };
+    let mut cursor = Cursor::new(alloc, unit, proc, &roots, writes);
     let mut out = Owed::new(alloc);
     let mut rest = claims;
     while let Some(first) = rest.first() {
         let (here, others) = rest.split_at(count_at(rest, &first.place));
-        put_claims(alloc, &site, &first.place, here, &mut out)?;
+        put_claims(alloc, &site, &mut cursor, &first.place, here, &mut out)?;
         rest = others;
     }
     Ok(out.into_items())
+}
+
+/// The same as `obligations`, with the table of the fields that each procedure of the unit may write.
+pub fn obligations_with_writes(
+    alloc: Global,
+    unit: &Unit,
+    writes: &FieldTable,
+    p: ProcId,
+) -> Result<Vec<Obligation>, CheckError>
+    requires unit { IsUnit (program unit.now) }
+    requires table { IsTable (length (program unit.now).fields) (unit_writes (program unit.now).procedures) writes.now }
+    ensures { AreObligationsIn result (program unit.now) (slice_get (program unit.now).procedures p.0) }
+{
+    claims_may_be_owed();
+    well_formed_procedures_may_be_walked();
+    match unit.procs.get(p.0 as usize) {
+        None => Ok(Vec::new(alloc)),
+        Some(proc) => {
+            let claims = claims_of(alloc, unit, p)?;
+            obligations_of_claims(alloc, unit, writes, proc, &claims)
+        }
+    }
 }
 
 /// What the procedure `p` of the unit owes: for each of its claims, in text order, a system for each case in which the
@@ -80,11 +108,6 @@ pub fn obligations(alloc: Global, unit: &Unit, p: ProcId) -> Result<Vec<Obligati
     requires { IsUnit (program unit.now) }
     ensures { AreObligationsIn result (program unit.now) (slice_get (program unit.now).procedures p.0) }
 {
-    match unit.procs.get(p.0 as usize) {
-        None => Ok(Vec::new(alloc)),
-        Some(proc) => {
-            let claims = claims_of(alloc, unit, p)?;
-            obligations_of_claims(alloc, unit, p, proc, &claims)
-        }
-    }
+    let writes = written_table(alloc, unit)?;
+    obligations_with_writes(alloc, unit, &writes, p)
 }

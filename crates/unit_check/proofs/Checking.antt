@@ -54,7 +54,7 @@ goes_on u k count n q rest none is =
     ∙ ap (λ (m : ℕ). checked_from u (suc k) (count + m) rest) (sym is)
     ∙ ap (λ (m : ℕ). checked_from u m (count + n) rest) (sym (add-one k))
 
-memory_stops : (r : UnitRefused) (c : Checked) → r.why ≡ why.Memory → IsRefused r c
+pub memory_stops : (r : UnitRefused) (c : Checked) → r.why ≡ why.Memory → IsRefused r c
 memory_stops r (Shown count) h = h
 memory_stops r (Refused k cause) h = inl h
 

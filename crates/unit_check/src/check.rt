@@ -3,6 +3,8 @@ ghost use Rattle.std.specs.Prelude.{◌≡◌, ◌≤◌, All, IfOk, Some, map, 
 ghost use Rattle.exo_tree.specs.Tree.{Procedure};
 ghost use Rattle.exo_tree.specs.PlainUnit.{program};
 ghost use Rattle.exo_meaning.specs.Units.{IsUnit};
+ghost use Rattle.exo_context.specs.UnitFields.{unit_writes};
+ghost use Rattle.config_state.specs.FieldSets.{IsTable};
 ghost use Rattle.affine_forms.specs.Affine.{HasNoIntegerPoint};
 ghost use Rattle.affine_systems.specs.Outcomes.{plain_obligation};
 ghost use Rattle.affine_prover.specs.Elimination.{elimination};
@@ -18,10 +20,11 @@ ghost use Rattle.fault_laws.specs.Laws.{NothingFaults};
 use crate::refused::{UnitRefused, Why};
 use affine_prover::Verdict;
 use affine_systems::Obligation;
+use config_state::{FieldTable, written_table};
 use exo_tree::{Path, ProcId, Text, Unit};
 use fault_laws::laws::shown_procedures_do_not_fault;
 use ob_check::{Answer, Cache, Gate, discharge};
-use obligations::{CheckError, obligations};
+use obligations::{CheckError, obligations_with_writes};
 use std::alloc::{AllocError, Global};
 use std::thread::Threads;
 
@@ -88,22 +91,24 @@ fn answered(alloc: Global, p: ProcId, obs: &[Obligation], answer: Answer) -> Res
     }
 }
 
-/// Discharges the obligations of a procedure, and counts them.
+/// Discharges the obligations of a procedure, and counts them. The table says which fields each procedure may write.
 fn check_procedure<R: Threads + Sync, G: Gate>(
     rt: &R,
     alloc: Global,
     unit: &Unit,
+    writes: &FieldTable,
     p: ProcId,
     cache: &mut Cache,
     gate: &G,
 ) -> Result<u64, UnitRefused>
-    requires { IsUnit (program unit.now) }
+    requires unit { IsUnit (program unit.now) }
+    requires table { IsTable (length (program unit.now).fields) (unit_writes (program unit.now).procedures) writes.now }
     ensures exact { (q : Procedure) → slice_get (program unit.now).procedures p.0 ≡ Some q → Answers result p.0 (cause_of (program unit.now) q) }
     ensures count { (q : Procedure) → slice_get (program unit.now).procedures p.0 ≡ Some q → IfOk result (λ n. n ≡ length (obligations_of (program unit.now) q)) }
     ensures few { IfOk result (λ n. n ≤ 65536) }
     ensures shown { (q : Procedure) → slice_get (program unit.now).procedures p.0 ≡ Some q → IfOk result (λ n. All (λ o. HasNoIntegerPoint o.system) (obligations_of (program unit.now) q)) }
 {
-    let obs = match obligations(alloc, unit, p) {
+    let obs = match obligations_with_writes(alloc, unit, writes, p) {
         Ok(list) => list,
         Err(e) => return Err(not_listed(p, e)),
     };
@@ -133,9 +138,13 @@ pub fn check_unit<R: Threads + Sync, G: Gate>(
     ensures no_fault { IfOk result (λ _. NothingFaults (program unit.now)) }
 {
     shown_procedures_do_not_fault();
+    let writes = match written_table(alloc, unit) {
+        Ok(table) => table,
+        Err(_) => return Err(out_of_memory(ProcId(0))),
+    };
     let mut count = 0;
     for k in 0..unit.procs.len() {
-        count += check_procedure(rt, alloc, unit, ProcId(k as u32), cache, gate)?;
+        count += check_procedure(rt, alloc, unit, &writes, ProcId(k as u32), cache, gate)?;
     }
     Ok(count)
 }

@@ -1,4 +1,4 @@
-use Rattle.std.proofs.Common.{map, length}
+use Rattle.std.proofs.Common.{◌≡◌, map, length}
 use Rattle.exo_tree.specs.PlainProcedure.{procedure}
 use Rattle.exo_tree.specs.PlainUnit.{program}
 use Rattle.bounds_check.specs.PlainClaim.{placed}
@@ -6,7 +6,10 @@ use Rattle.obligations.proofs.Groups.{Onward}
 use Rattle.obligations.proofs.list.obligations_of_claims.Given as goal
 
 abbrev pub invariant-loop-first : goal.invariant-loop-first
-invariant-loop-first l = Onward (program l.unit) (procedure l.proc) l.out (map placed l.rest)
+invariant-loop-first l = record {
+  goes : l.cursor ≡ (program l.unit, procedure l.proc);
+  left : Onward (program l.unit) (procedure l.proc) l.out (map placed l.rest);
+}
 
 abbrev pub decreases-loop-first : goal.decreases-loop-first
 decreases-loop-first l = length l.rest

@@ -1,8 +1,12 @@
 use Rattle.std.proofs.Common.{◌<◌, length, arith}
 use Rattle.std.proofs.lemmas.Result.{err_from_is_err_and}
 use Rattle.exo_tree.specs.PlainUnit.{program}
-use Rattle.unit_check.proofs.Checking.{went_on, stopped, more_hold, all_hold, nothing_faults}
+use Rattle.unit_check.specs.Checked.{checked}
+use Rattle.unit_check.proofs.Checking.{memory_stops, went_on, stopped, more_hold, all_hold, nothing_faults}
 use Rattle.unit_check.proofs.check.check_unit.Goals as goal
+
+pub returns-in-Err-clause-exact : goal.returns-in-Err-clause-exact
+returns-in-Err-clause-exact g c = memory_stops c.out_of_memory.result (checked (program c.args.unit.now)) c.out_of_memory.ensures
 
 pub returns-in_err-count-clause-exact : goal.returns-in_err-count-clause-exact
 returns-in_err-count-clause-exact g c =
