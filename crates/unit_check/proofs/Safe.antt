@@ -20,7 +20,7 @@ use Rattle.bounds_check.specs.Claims.{claims_of}
 use Rattle.exo_facts.specs.Contexts.{context_of}
 use Rattle.obligations.specs.Obligations.{Fault, claim_formula, owed_for_all, obligations_of, list_fault}
 use Rattle.fault_laws.specs.Laws.{ShownProceduresDoNotFault}
-use Rattle.unit_check.specs.Checked.{Cause, NotShown, Checked, Shown, Refused, first_open, cause_from, cause_of, checked_from}
+use Rattle.unit_check.specs.Checked.{Cause, NotShown, Shown, Refused, first_open, cause_from, cause_of, checked_from}
 use Rattle.unit_check.specs.Laws.{CheckedUnitsDoNotFault}
 use Rattle.unit_check.proofs.Checking.{Holds, nothing_faults}
 
