@@ -166,23 +166,29 @@ const PLACES: [&[i32]; 16] = [
     &[4, -1],
 ];
 
-/// Whether one cursor tells at those places, one after the other, what each is told to have by itself.
-fn same_in_turn(rt: HostRuntime, unit: &Unit, places: &[&[i32]]) -> Result<(), Fail>
+/// That one cursor tells at those places, one after the other, what is told at each by itself.
+fn same_in_turn(alloc: Global, unit: &Unit, places: &[&[i32]]) -> Result<(), Fail>
     requires { IsUnit (program unit.now) }
 {
-    let mut paths = Vec::new(rt.alloc());
+    let mut paths = Vec::new(alloc);
     for at in places {
         paths.push(path_of(at))?;
     }
-    let told = told_in_turn(rt.alloc(), unit, ProcId(1), &paths)?;
-    assert_eq!(rt; told.len(), places.len());
+    let told = told_in_turn(alloc, unit, ProcId(1), &paths)?;
+    if told.len() != places.len() {
+        return Err(Fail::new("another number of places"));
+    }
     for (both, at) in told.iter().zip(places) {
         let Some((context, facts)) = both else {
             return Err(Fail::new("no place"));
         };
-        let wanted = answer(rt.alloc(), unit, 1, at)?;
-        assert_eq!(rt; show_context(rt.alloc(), context)?, wanted.0, "context at {at:?}");
-        assert_eq!(rt; show_facts(rt.alloc(), unit, facts)?, wanted.1, "facts at {at:?}");
+        let wanted = answer(alloc, unit, 1, at)?;
+        if show_context(alloc, context)? != wanted.0 {
+            return Err(Fail::new("another context"));
+        }
+        if show_facts(alloc, unit, facts)? != wanted.1 {
+            return Err(Fail::new("other facts"));
+        }
     }
     Ok(())
 }
@@ -191,10 +197,10 @@ fn same_in_turn(rt: HostRuntime, unit: &Unit, places: &[&[i32]]) -> Result<(), F
 fn in_any_order(rt: HostRuntime) -> Result<(), Fail> {
     let unit = unit_of(rt.alloc(), TEXT)?;
     let mut places = PLACES;
-    same_in_turn(rt, &unit, &places)?;
+    same_in_turn(rt.alloc(), &unit, &places)?;
     places.reverse();
-    same_in_turn(rt, &unit, &places)?;
+    same_in_turn(rt.alloc(), &unit, &places)?;
     places.swap(0, 9);
     places.swap(4, 12);
-    same_in_turn(rt, &unit, &places)
+    same_in_turn(rt.alloc(), &unit, &places)
 }

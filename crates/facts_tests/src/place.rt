@@ -9,8 +9,8 @@ use affine_forms::FormError;
 use affine_places::{Facts, Roots};
 use affine_systems::Context;
 use config_state::written_table;
-use exo_facts::{Cursor, context_at};
 use exo_facts::laws::well_formed_procedures_may_be_walked;
+use exo_facts::{Cursor, context_at};
 use exo_tree::{Path, Proc, ProcId, Unit, at};
 use std::alloc::Global;
 
@@ -77,7 +77,9 @@ pub fn told_in_turn(
     let mut cursor = Cursor::new(alloc, unit, proc, &roots, &writes);
     for path in paths {
         let both = tell(alloc, &mut cursor, proc, path)?;
-        told.push(both)?;
+        if told.push(both).is_err() {
+            return Err(FormError::Memory);
+        }
     }
     Ok(told)
 }
