@@ -2,7 +2,7 @@
 ghost use Rattle.exo_tree.specs.PlainUnit.{program};
 ghost use Rattle.exo_meaning.specs.Units.{IsUnit};
 
-use crate::place::{context_of, told_in_turn};
+use crate::place::context_of;
 use crate::shown::{show_context, show_facts};
 use crate::unit::unit_of;
 use affine_forms::FormError;
@@ -144,63 +144,4 @@ fn wide_assertions(rt: HostRuntime) -> Result<(), Fail> {
         assert_eq!(rt; found.0.as_str(), "WideNumber", "at {at:?}");
     }
     Ok(())
-}
-
-/// Each place of the second procedure, in text order.
-const PLACES: [&[i32]; 16] = [
-    &[],
-    &[0],
-    &[1],
-    &[2],
-    &[2, 0],
-    &[2, 1],
-    &[2, -1],
-    &[2, -2],
-    &[3],
-    &[3, 0],
-    &[3, 1],
-    &[3, 2],
-    &[3, 2, 0],
-    &[4],
-    &[4, 0],
-    &[4, -1],
-];
-
-/// That one cursor tells at those places, one after the other, what is told at each by itself.
-fn same_in_turn(alloc: Global, unit: &Unit, places: &[&[i32]]) -> Result<(), Fail>
-    requires { IsUnit (program unit.now) }
-{
-    let mut paths = Vec::new(alloc);
-    for at in places {
-        paths.push(path_of(at))?;
-    }
-    let told = told_in_turn(alloc, unit, ProcId(1), &paths)?;
-    if told.len() != places.len() {
-        return Err(Fail::new("another number of places"));
-    }
-    for (both, at) in told.iter().zip(places) {
-        let Some((context, facts)) = both else {
-            return Err(Fail::new("no place"));
-        };
-        let wanted = answer(alloc, unit, 1, at)?;
-        if show_context(alloc, context)? != wanted.0 {
-            return Err(Fail::new("another context"));
-        }
-        if show_facts(alloc, unit, facts)? != wanted.1 {
-            return Err(Fail::new("other facts"));
-        }
-    }
-    Ok(())
-}
-
-#[test]
-fn in_any_order(rt: HostRuntime) -> Result<(), Fail> {
-    let unit = unit_of(rt.alloc(), TEXT)?;
-    let mut places = PLACES;
-    same_in_turn(rt.alloc(), &unit, &places)?;
-    places.reverse();
-    same_in_turn(rt.alloc(), &unit, &places)?;
-    places.swap(0, 9);
-    places.swap(4, 12);
-    same_in_turn(rt.alloc(), &unit, &places)
 }
