@@ -2,7 +2,7 @@
 ghost use Rattle.exo_tree.specs.PlainUnit.{program};
 ghost use Rattle.exo_meaning.specs.Units.{IsUnit};
 
-use crate::place::{context_of, told_in_turn};
+use crate::place::context_of;
 use crate::shown::{show_context, show_facts};
 use crate::unit::unit_of;
 use affine_forms::FormError;
@@ -144,57 +144,4 @@ fn wide_assertions(rt: HostRuntime) -> Result<(), Fail> {
         assert_eq!(rt; found.0.as_str(), "WideNumber", "at {at:?}");
     }
     Ok(())
-}
-
-/// Each place of the second procedure, in text order.
-const PLACES: [&[i32]; 16] = [
-    &[],
-    &[0],
-    &[1],
-    &[2],
-    &[2, 0],
-    &[2, 1],
-    &[2, -1],
-    &[2, -2],
-    &[3],
-    &[3, 0],
-    &[3, 1],
-    &[3, 2],
-    &[3, 2, 0],
-    &[4],
-    &[4, 0],
-    &[4, -1],
-];
-
-/// Whether one cursor tells at those places, one after the other, what each is told to have by itself.
-fn same_in_turn(rt: HostRuntime, unit: &Unit, places: &[&[i32]]) -> Result<(), Fail>
-    requires { IsUnit (program unit.now) }
-{
-    let mut paths = Vec::new(rt.alloc());
-    for at in places {
-        paths.push(path_of(at))?;
-    }
-    let told = told_in_turn(rt.alloc(), unit, ProcId(1), &paths)?;
-    assert_eq!(rt; told.len(), places.len());
-    for (both, at) in told.iter().zip(places) {
-        let Some((context, facts)) = both else {
-            return Err(Fail::new("no place"));
-        };
-        let wanted = answer(rt.alloc(), unit, 1, at)?;
-        assert_eq!(rt; show_context(rt.alloc(), context)?, wanted.0, "context at {at:?}");
-        assert_eq!(rt; show_facts(rt.alloc(), unit, facts)?, wanted.1, "facts at {at:?}");
-    }
-    Ok(())
-}
-
-#[test]
-fn in_any_order(rt: HostRuntime) -> Result<(), Fail> {
-    let unit = unit_of(rt.alloc(), TEXT)?;
-    let mut places = PLACES;
-    same_in_turn(rt, &unit, &places)?;
-    places.reverse();
-    same_in_turn(rt, &unit, &places)?;
-    places.swap(0, 9);
-    places.swap(4, 12);
-    same_in_turn(rt, &unit, &places)
 }

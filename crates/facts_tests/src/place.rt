@@ -6,10 +6,9 @@ ghost use Rattle.exo_meaning.specs.Units.{IsUnit};
 ghost use Rattle.exo_facts.specs.Contexts.{IsPlaceOf};
 
 use affine_forms::FormError;
-use affine_places::{Facts, Roots};
+use affine_places::Facts;
 use affine_systems::Context;
-use config_state::written_table;
-use exo_facts::{Cursor, context_at};
+use exo_facts::context_at;
 use exo_facts::laws::well_formed_procedures_may_be_walked;
 use exo_tree::{Path, Proc, ProcId, Unit, at};
 use std::alloc::Global;
@@ -39,45 +38,4 @@ pub fn context_of(
     }
     let both = context_at(alloc, unit, p, path)?;
     Ok(Some(both))
-}
-
-/// What a cursor tells at a place of its procedure; None where that has no such place.
-fn tell(
-    alloc: Global,
-    cursor: &mut Cursor<'_, '_>,
-    proc: &Proc,
-    path: &Path,
-) -> Result<Option<(Context, Facts)>, FormError>
-    requires { cursor.old.1 ≡ procedure proc.now }
-    ensures { cursor.new ≡ cursor.old }
-{
-    if !is_place(proc, path) {
-        return Ok(None);
-    }
-    let both = cursor.at(alloc, path)?;
-    Ok(Some(both))
-}
-
-/// What one cursor tells at those places of a procedure of the unit, one after the other.
-pub fn told_in_turn(
-    alloc: Global,
-    unit: &Unit,
-    p: ProcId,
-    paths: &[Path],
-) -> Result<Vec<Option<(Context, Facts)>>, FormError>
-    requires { IsUnit (program unit.now) }
-{
-    well_formed_procedures_may_be_walked();
-    let mut told = Vec::new(alloc);
-    let Some(proc) = unit.procs.get(p.0 as usize) else {
-        return Ok(told);
-    };
-    let roots = Roots::of(alloc, proc)?;
-    let writes = written_table(alloc, unit)?;
-    let mut cursor = Cursor::new(alloc, unit, proc, &roots, &writes);
-    for path in paths {
-        let both = tell(alloc, &mut cursor, proc, path)?;
-        told.push(both)?;
-    }
-    Ok(told)
 }
