@@ -1,9 +1,6 @@
-pub mod Pairs
-pub mod Extents
-pub mod Arguments
-pub mod Claim
-pub mod ClaimCodes
-pub mod PlainClaim
-pub mod Claims
-pub mod Short
-pub mod Seen
+pub mod Paths
+pub mod Errors
+pub mod Limits
+pub mod Obligations
+pub mod Outcomes
+pub mod Laws

@@ -1,13 +1,11 @@
-//! What a procedure has to show so that no run of it faults.
+//! What a procedure has to show, as systems of linear constraints that must have no integer point.
 #![tactic(auto)]
 
-mod arguments;
-mod bounds;
-mod call;
-mod claim;
-mod extents;
+mod claims;
+mod error;
+pub mod laws;
 mod list;
-mod walk;
+mod owed;
 
-pub use claim::{Claim, Placed};
-pub use walk::claims_of;
+pub use error::CheckError;
+pub use list::{obligations, obligations_with_writes};

@@ -1,156 +1,113 @@
-//! Lists of claims.
-ghost use Rattle.std.specs.Prelude.{◌≡◌, [], ◌∷◌, ◌++◌, map, OnOk};
-ghost use Rattle.exo_tree.specs.Tree as tree;
-ghost use Rattle.exo_tree.specs.PlainControl.{control, condition};
-ghost use Rattle.exo_show.specs.ControlText.{condition_text};
-ghost use Rattle.exo_show.specs.Seen.{words_in};
-ghost use Rattle.bounds_check.specs.PlainClaim.{claim, placed};
-ghost use Rattle.bounds_check.specs.Claims.{as_shown, at_least_one, not_negative, placed_at};
+//! The obligations of a procedure.
+ghost use Rattle.std.specs.Prelude.{◌≡◌, ◌<◌, IsTrue, length, map, not, slice_get};
+ghost use Rattle.std.specs.List.{list_all, position_or_len};
+ghost use Rattle.exo_tree.specs.PlainProcedure.{procedure};
+ghost use Rattle.exo_tree.specs.PlainUnit.{program};
+ghost use Rattle.exo_meaning.specs.Units.{IsUnit};
+ghost use Rattle.meaning_laws.specs.UnitFields.{unit_writes};
+ghost use Rattle.config_state.specs.FieldSets.{IsTable};
+ghost use Rattle.check_claims.specs.PlainClaim.{placed};
+ghost use Rattle.check_claims.specs.Claims.{claims_of};
+ghost use Rattle.check_facts.specs.Contexts.{may_be_walked};
+ghost use Rattle.bounds_check.specs.Paths.{same_path};
+ghost use Rattle.bounds_check.specs.Laws.{may_be_owed};
+ghost use Rattle.bounds_check.specs.Outcomes.{AreObligations, AreObligationsIn};
 
-use crate::claim::{Claim, Placed};
-use exo_show::{Words, put_condition};
-use exo_tree::{Cond, Ctrl, Path};
-use std::alloc::{AllocError, Global};
-use std::marker::Model;
+use crate::claims::{Site, put_claims};
+use crate::error::CheckError;
+use crate::laws::claims_may_be_owed;
+use crate::owed::Owed;
+use affine_places::Roots;
+use affine_systems::Obligation;
+use check_claims::{Placed, claims_of};
+use check_facts::Cursor;
+use check_facts::laws::well_formed_procedures_may_be_walked;
+use config_state::{FieldTable, written_table};
+use exo_tree::{Path, Proc, ProcId, Unit};
+use std::alloc::Global;
 
-/// Claims in their order.
-#[derive(Drop)]
-pub(crate) struct Claims {
-    items: Vec<Claim>,
+/// Whether two paths are the same.
+fn same_path(a: &Path, b: &Path) -> bool
+    ensures { result ≡ same_path a.now b.now }
+{
+    a.as_slice() == b.as_slice()
 }
 
-impl Model for Claims {
-    ghost use Rattle.std.specs.Prelude.{List, map};
-    ghost use Rattle.std.specs.Coded.{coded_list};
-    ghost use Rattle.bounds_check.specs.Claim.{Claim};
-    ghost use Rattle.bounds_check.specs.ClaimCodes.{claim_code};
-    ghost use Rattle.bounds_check.specs.PlainClaim.{claim};
-
-    ghost Value = { List Claim };
-
-    ghost coded = { coded_list claim_code };
-
-    ghost view = { λ l. map claim l.items.items };
-}
-
-impl Claims {
-    pub(crate) fn new(alloc: Global) -> Claims
-        ensures { result ≡ [] }
-    {
-        Claims {
-            items: Vec::new(alloc),
+/// How many claims come before the first of another place.
+fn count_at(claims: &[Placed], place: &Path) -> usize
+    ensures { result ≡ position_or_len (λ c. not (same_path c.place place.now)) (map placed claims.now) }
+{
+    for (k, c) in claims.iter().enumerate() {
+        if !same_path(&c.place, place) {
+            return k;
         }
     }
+    claims.len()
+}
 
-    /// Puts a claim last.
-    fn push(&mut self, item: Claim) -> Result<(), AllocError>
-        ensures { OnOk result (self.new ≡ self.old ++ claim item ∷ []) }
-    {
-        self.items.push(item)?;
-        Ok(())
+/// The obligations of claims of a procedure. The table says which fields each procedure of the unit may write.
+fn obligations_of_claims(
+    alloc: Global,
+    unit: &Unit,
+    writes: &FieldTable,
+    proc: &Proc,
+    claims: &[Placed],
+) -> Result<Vec<Obligation>, CheckError>
+    requires numbered { length (program unit.now).fields < 4294967296 }
+    requires table { IsTable (length (program unit.now).fields) (unit_writes (program unit.now).procedures) writes.now }
+    requires walked { IsTrue (may_be_walked (procedure proc.now)) }
+    requires claims { map placed claims.now ≡ claims_of (program unit.now) (procedure proc.now) }
+    requires owable { IsTrue (list_all (may_be_owed (procedure proc.now)) (claims_of (program unit.now) (procedure proc.now))) }
+    ensures { AreObligations result (program unit.now) (procedure proc.now) }
+{
+    let roots = Roots::of(alloc, proc)?;
+    let site = Site {
+        fields: &unit.fields,
+        roots: &roots,
+    };
+    let mut cursor = Cursor::new(alloc, unit, proc, &roots, writes);
+    let mut out = Owed::new(alloc);
+    let mut rest = claims;
+    while let Some(first) = rest.first() {
+        let (here, others) = rest.split_at(count_at(rest, &first.place));
+        put_claims(alloc, &site, &mut cursor, &first.place, here, &mut out)?;
+        rest = others;
     }
+    Ok(out.into_items())
+}
 
-    /// Puts last that a condition holds, with the text of another condition in its words.
-    pub(crate) fn push_quoted(
-        &mut self,
-        alloc: Global,
-        says: Cond,
-        words: &Words,
-        quoted: &Cond,
-    ) -> Result<(), AllocError>
-        ensures { OnOk result (self.new ≡ self.old ++ record { says = condition says; text = condition_text (words_in words.now) (condition quoted.now) } ∷ []) }
-    {
-        let mut text = String::new(alloc);
-        put_condition(&mut text, words, quoted)?;
-        self.push(Claim { says, text })
-    }
-
-    /// Puts last that a condition holds.
-    pub(crate) fn push_shown(
-        &mut self,
-        alloc: Global,
-        words: &Words,
-        says: Cond,
-    ) -> Result<(), AllocError>
-        ensures { OnOk result (self.new ≡ self.old ++ as_shown (words_in words.now) (condition says) ∷ []) }
-    {
-        let mut text = String::new(alloc);
-        put_condition(&mut text, words, &says)?;
-        self.push(Claim { says, text })
-    }
-
-    /// `1 <= d`
-    pub(crate) fn push_at_least_one(
-        &mut self,
-        alloc: Global,
-        words: &Words,
-        d: &Ctrl,
-    ) -> Result<(), AllocError>
-        ensures { OnOk result (self.new ≡ self.old ++ at_least_one (words_in words.now) (control d.now) ∷ []) }
-    {
-        let size = d.duplicate(alloc)?;
-        self.push_shown(alloc, words, Cond::Le(Ctrl::Lit(1), size))
-    }
-
-    /// `0 <= e`
-    pub(crate) fn push_not_negative(
-        &mut self,
-        alloc: Global,
-        words: &Words,
-        e: &Ctrl,
-    ) -> Result<(), AllocError>
-        ensures { OnOk result (self.new ≡ self.old ++ not_negative (words_in words.now) (control e.now) ∷ []) }
-    {
-        let index = e.duplicate(alloc)?;
-        self.push_shown(alloc, words, Cond::Le(Ctrl::Lit(0), index))
-    }
-
-    /// `a < b`
-    pub(crate) fn push_below(
-        &mut self,
-        alloc: Global,
-        words: &Words,
-        a: &Ctrl,
-        b: &Ctrl,
-    ) -> Result<(), AllocError>
-        ensures { OnOk result (self.new ≡ self.old ++ as_shown (words_in words.now) (tree.Lt (control a.now) (control b.now)) ∷ []) }
-    {
-        let left = a.duplicate(alloc)?;
-        let right = b.duplicate(alloc)?;
-        self.push_shown(alloc, words, Cond::Lt(left, right))
-    }
-
-    /// `a <= b`
-    pub(crate) fn push_at_most(
-        &mut self,
-        alloc: Global,
-        words: &Words,
-        a: &Ctrl,
-        b: &Ctrl,
-    ) -> Result<(), AllocError>
-        ensures { OnOk result (self.new ≡ self.old ++ as_shown (words_in words.now) (tree.Le (control a.now) (control b.now)) ∷ []) }
-    {
-        let left = a.duplicate(alloc)?;
-        let right = b.duplicate(alloc)?;
-        self.push_shown(alloc, words, Cond::Le(left, right))
-    }
-
-    /// Moves the claims to the end of `out`, each with that place.
-    pub(crate) fn place(self, out: &mut Vec<Placed>, path: &Path) -> Result<(), AllocError>
-        ensures { OnOk result (map placed out.new.items ≡ map placed out.old.items ++ placed_at path.now self) }
-    {
-        let Claims { items } = self;
-        place_each(out, path, items)
+/// The same as `obligations`, with the table of the fields that each procedure of the unit may write.
+pub fn obligations_with_writes(
+    alloc: Global,
+    unit: &Unit,
+    writes: &FieldTable,
+    p: ProcId,
+) -> Result<Vec<Obligation>, CheckError>
+    requires unit { IsUnit (program unit.now) }
+    requires table { IsTable (length (program unit.now).fields) (unit_writes (program unit.now).procedures) writes.now }
+    ensures { AreObligationsIn result (program unit.now) (slice_get (program unit.now).procedures p.0) }
+{
+    claims_may_be_owed();
+    well_formed_procedures_may_be_walked();
+    match unit.procs.get(p.0 as usize) {
+        None => Ok(Vec::new(alloc)),
+        Some(proc) => {
+            let claims = claims_of(alloc, unit, p)?;
+            obligations_of_claims(alloc, unit, writes, proc, &claims)
+        }
     }
 }
 
-/// Moves claims to the end of `out`, each with that place.
-fn place_each(out: &mut Vec<Placed>, path: &Path, claims: Vec<Claim>) -> Result<(), AllocError>
-    ensures { OnOk result (map placed out.new.items ≡ map placed out.old.items ++ placed_at path.now (map claim claims.items)) }
+/// What the procedure `p` of the unit owes: for each of its claims, in text order, a system for each case in which the
+/// context of its place holds and the claim does not. The procedure does not fault if no system has an integer point.
+///
+/// `Form` where a claim has no systems within the limits: `WideNumber` where a normal form of it or of its context is too
+/// wide, else `TooManyCases` where it has more than 64 cases, else `SystemTooLarge`. `TooManyObligations` where the list
+/// passes 65,536 obligations or 4,194,304 terms. The first claim that is refused decides, and of it `Form` comes first.
+pub fn obligations(alloc: Global, unit: &Unit, p: ProcId) -> Result<Vec<Obligation>, CheckError>
+    requires { IsUnit (program unit.now) }
+    ensures { AreObligationsIn result (program unit.now) (slice_get (program unit.now).procedures p.0) }
 {
-    for claim in claims {
-        let place = path.duplicate();
-        out.push(Placed { place, claim })?;
-    }
-    Ok(())
+    let writes = written_table(alloc, unit)?;
+    obligations_with_writes(alloc, unit, &writes, p)
 }

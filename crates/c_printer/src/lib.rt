@@ -1,13 +1,15 @@
-//! C: its trees, their text, and how a procedure becomes one.
+//! The C of procedures without calls and windows.
 #![tactic(auto)]
 
-mod first_form;
-pub mod laws;
-mod lowering;
-mod show;
-mod text;
-pub mod tree;
+mod blocks;
+mod expressions;
+mod fields;
+mod headers;
+mod names;
+mod numbers;
+mod scope;
+mod self_contained;
+mod units;
 
-pub use first_form::{is_first_unit, stands_alone};
-pub use lowering::{LowerError, Printed, lower, lower_report};
-pub use text::c_text;
+pub use self_contained::{are_self_contained, is_self_contained};
+pub use units::lower_unit;

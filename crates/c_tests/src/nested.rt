@@ -1,7 +1,7 @@
 //! A worked text. Whole files are tested with the program.
 
-use c_printer::c_text;
-use c_printer::tree::{CBlock, CFunction, CNumber, CStatement, CTest, CType, CUnit};
+use c_tree::c_text;
+use c_tree::tree::{CBlock, CFunction, CNumber, CStatement, CTest, CType, CUnit};
 use std::alloc::{AllocError, Global};
 
 /// The two lines of a report's end, the headers and the helpers.

@@ -3,7 +3,7 @@ ghost use Rattle.exo_tree.specs.PlainUnit.{program};
 ghost use Rattle.exo_meaning.specs.Units.{IsUnit};
 
 use crate::unit::unit_of;
-use bounds_check::claims_of;
+use check_claims::claims_of;
 use exo_tree::{Branch, Cond, Ctrl, Path, ProcId, Unit};
 use std::alloc::{AllocError, Global};
 

@@ -3,7 +3,7 @@ use Rattle.std.proofs.Common.{◌≡◌, ◌<◌, ◌≤◌, ℕ, zero, suc, ◌
 use Rattle.std.proofs.lemmas.List.{drop_all}
 use Rattle.std.specs.Prelude.{map, drop, take, slice_range, replicate}
 use Rattle.exo_tree.specs.Tree.{Statement, Block, end, next, block, Coord, At, Span}
-use Rattle.exo_context.specs.Live.{read_by_control, read_by_coords}
+use Rattle.meaning_laws.specs.Live.{read_by_control, read_by_coords}
 use Rattle.config_state.specs.FieldSets.{contains, Marked, fields_from, fields_where}
 
 -- ---- members in order

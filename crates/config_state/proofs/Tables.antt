@@ -2,10 +2,10 @@
 use Rattle.std.proofs.Common.{◌≡◌, ◌<◌, ℕ, zero, suc, Bool, true, false, ◌||◌, List, [], ◌∷◌, ◌++◌, length, Option, Some, None, refl, sym, ap, ap₂, ◌∙◌, arith}
 use Rattle.std.specs.Prelude.{replicate, slice_get}
 use Rattle.exo_tree.specs.Tree.{Statement, Assign, Reduce, Config, Pass, If, For, Alloc, View, Call, Block, end, next, Procedure}
-use Rattle.exo_context.specs.Fields.{writes_field, step_writes_field}
-use Rattle.exo_context.specs.UnitFields.{written_at, written_by, all_written}
-use Rattle.exo_context.specs.Live.{read_by_control, read_by_condition, read_by_arguments}
-use Rattle.exo_context.specs.UnitFields.{read_by_params, read_by_conditions}
+use Rattle.meaning_laws.specs.Fields.{writes_field, step_writes_field}
+use Rattle.meaning_laws.specs.UnitFields.{written_at, written_by, all_written}
+use Rattle.meaning_laws.specs.Live.{read_by_control, read_by_condition, read_by_arguments}
+use Rattle.meaning_laws.specs.UnitFields.{read_by_params, read_by_conditions}
 use Rattle.config_state.specs.Reads.{reads_field, step_reads_field, read_by, read_at, all_read}
 use Rattle.config_state.specs.FieldSets.{contains, Marked, in_table, fields_where}
 use Rattle.config_state.proofs.Sets.{fields_same}

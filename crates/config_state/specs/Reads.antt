@@ -1,8 +1,8 @@
 -- Fields that statements and procedures may read, directly or by calls.
 use Rattle.std.specs.Prelude.{◌||◌, ◌++◌, ℕ, Bool, false, List, [], ◌∷◌, Some, None, slice_get}
 use Rattle.exo_tree.specs.Tree.{Statement, Assign, Reduce, Config, Pass, If, For, Alloc, View, Call, Block, end, next, Procedure}
-use Rattle.exo_context.specs.Live.{read_by_controls, read_by_control, read_by_condition, read_by_datum, read_by_coords, read_by_argument, read_by_arguments}
-use Rattle.exo_context.specs.UnitFields.{read_by_params, read_by_conditions}
+use Rattle.meaning_laws.specs.Live.{read_by_controls, read_by_control, read_by_condition, read_by_datum, read_by_coords, read_by_argument, read_by_arguments}
+use Rattle.meaning_laws.specs.UnitFields.{read_by_params, read_by_conditions}
 
 -- whether a field may be read, where `calls` says it of each callee
 module _ (calls : ℕ → ℕ → Bool) (f : ℕ) where

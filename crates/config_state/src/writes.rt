@@ -3,8 +3,8 @@ ghost use Rattle.std.specs.Prelude.{◌≡◌, ◌<◌, ◌≤◌, IfOk, IfSome,
 ghost use Rattle.exo_tree.specs.Tree.{block};
 ghost use Rattle.exo_tree.specs.PlainStatement.{statement};
 ghost use Rattle.exo_tree.specs.PlainUnit.{program};
-ghost use Rattle.exo_context.specs.Fields.{writes_field, step_writes_field};
-ghost use Rattle.exo_context.specs.UnitFields.{unit_writes};
+ghost use Rattle.meaning_laws.specs.Fields.{writes_field, step_writes_field};
+ghost use Rattle.meaning_laws.specs.UnitFields.{unit_writes};
 ghost use Rattle.config_state.specs.Pieces.{piece_at};
 ghost use Rattle.config_state.specs.FieldSets.{in_table, IsTable, Marked, fields_where};
 

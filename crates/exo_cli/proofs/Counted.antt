@@ -1,16 +1,16 @@
 -- What is accepted by a check is counted.
 use Rattle.std.proofs.Common.{◌≡◌, ℕ, List, Bool, true, false, Option, Some, None, length, nat_lt, codes, refl, ap, ◌∙◌, ⊎_elim, MatchBool}
 use Rattle.std.specs.Prelude.{slice_get}
-use Rattle.phrases.specs.Text.{IsText}
+use Rattle.text_phrases.specs.Text.{IsText}
 use Rattle.exo_tree.specs.declared.lines.ProcLines.{ProcLines}
 use Rattle.exo_tree.specs.Places.{Path}
 use Rattle.exo_tree.specs.Tree.{Program}
 use Rattle.exo_meaning.specs.Units.{IsUnit}
-use Rattle.exo_lexer.specs.declared.place.Place.{Place}
-use Rattle.exo_source.specs.Source.{Item}
-use Rattle.exo_source.specs.Items.{unit}
-use Rattle.exo_source.specs.Texts.{tokens_of, places_of}
-use Rattle.exo_names.specs.declared.fault.Fault.{Fault}
+use Rattle.text_lexer.specs.declared.place.Place.{Place}
+use Rattle.exo_reader.specs.Source.{Item}
+use Rattle.exo_reader.specs.Items.{unit}
+use Rattle.exo_reader.specs.Texts.{tokens_of, places_of}
+use Rattle.rules_names.specs.declared.fault.Fault.{Fault}
 use Rattle.exo_types.specs.UnitRules.{unit_fault, unit_of}
 use Rattle.exo_types.specs.UnitLines.{lines_of}
 use Rattle.unit_check.specs.Laws.{CheckedUnitsDoNotFault}

@@ -3,17 +3,17 @@ use Rattle.std.proofs.Common.{◌≡◌, ◌≢◌, ◌&&◌, ◌++◌, nat_le, 
 use Rattle.std.proofs.lemmas.Bool.{and_parts}
 use Rattle.exo_tree.specs.Tree.{Program}
 use Rattle.exo_meaning.specs.Units.{IsUnit}
-use Rattle.c_lowering.specs.SelfContained.{are_self_contained}
-use Rattle.c_lowering.specs.Refusals.{too_wide, name_clash}
-use Rattle.c_printer.specs.Laws.{FirstUnitsFollow}
-use Rattle.lowering_laws.specs.Laws.{UnitsFollow}
-use Rattle.phrases.specs.Text.{IsText}
-use Rattle.exo_lexer.specs.declared.place.Place.{Place}
-use Rattle.exo_lexer.specs.Layout.{lexed, place_of, token_of, end_place}
-use Rattle.exo_source.specs.Source.{Item}
-use Rattle.exo_source.specs.Items.{unit}
-use Rattle.exo_source.specs.Texts.{tokens_of, places_of}
-use Rattle.exo_names.specs.declared.fault.Fault.{Fault}
+use Rattle.c_printer.specs.SelfContained.{are_self_contained}
+use Rattle.c_printer.specs.Refusals.{too_wide, name_clash}
+use Rattle.c_tree.specs.Laws.{FirstUnitsFollow}
+use Rattle.c_laws.specs.Laws.{UnitsFollow}
+use Rattle.text_phrases.specs.Text.{IsText}
+use Rattle.text_lexer.specs.declared.place.Place.{Place}
+use Rattle.text_lexer.specs.Layout.{lexed, place_of, token_of, end_place}
+use Rattle.exo_reader.specs.Source.{Item}
+use Rattle.exo_reader.specs.Items.{unit}
+use Rattle.exo_reader.specs.Texts.{tokens_of, places_of}
+use Rattle.rules_names.specs.declared.fault.Fault.{Fault}
 use Rattle.exo_types.specs.UnitRules.{unit_fault, unit_of}
 use Rattle.exo_cli.specs.declared.status.Status.{Status}
 use Rattle.exo_cli.specs.declared.status.Status.TheVariants.{Ok, Refused, Usage, ReadFault, WriteFault, Memory}

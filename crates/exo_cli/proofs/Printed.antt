@@ -8,13 +8,13 @@ use Rattle.exo_meaning.specs.State.{State}
 use Rattle.exo_meaning.specs.Run.{World}
 use Rattle.exo_meaning.specs.Inputs.{IsAdmissible, AreArguments, is_buffer_of}
 use Rattle.exo_meaning.specs.Units.{IsUnit}
-use Rattle.c_printer.specs.CRun.{run_c}
-use Rattle.c_printer.specs.FirstForm.{is_first_unit}
-use Rattle.c_printer.specs.LoweredUnit.{Printing, name_of}
-use Rattle.c_printer.specs.Laws.{FirstUnitsFollow}
-use Rattle.c_printer.specs.Simulation.{Follows}
-use Rattle.c_lowering.specs.SelfContained.{is_there_alone, are_self_contained}
-use Rattle.lowering_laws.specs.Laws.{naming_of, declared_in, AreLowered, IsListed, LeavesTheSame, UnitsFollow}
+use Rattle.c_tree.specs.CRun.{run_c}
+use Rattle.c_tree.specs.FirstForm.{is_first_unit}
+use Rattle.c_tree.specs.LoweredUnit.{Printing, name_of}
+use Rattle.c_tree.specs.Laws.{FirstUnitsFollow}
+use Rattle.c_tree.specs.Simulation.{Follows}
+use Rattle.c_printer.specs.SelfContained.{is_there_alone, are_self_contained}
+use Rattle.c_laws.specs.Laws.{naming_of, declared_in, AreLowered, IsListed, LeavesTheSame, UnitsFollow}
 use Rattle.exo_cli.specs.Compiled.{printing_of, printings, with_versions}
 use Rattle.exo_cli.specs.Lines.{Versions}
 use Rattle.exo_cli.specs.Kept.{IsVersionOf, HasOrigin, AreVersions}

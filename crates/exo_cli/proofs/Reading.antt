@@ -2,8 +2,8 @@
 use Rattle.std.proofs.Common.{◌≡◌, ◌<◌, ℕ, zero, suc, ◌+◌, List, [], ◌∷◌, ◌++◌, take, drop, length, Option, Some, None, option_map, Bool, true, false, if◌then◌else◌, refl, ap, sym, ◌∙◌, arith, append_assoc, ◌≤◌, length-drop}
 use Rattle.std.proofs.lemmas.List.{append-nil}
 use Rattle.exo_cli.proofs.Lists.{drop-all, drop-both}
-use Rattle.exo_lexer.specs.declared.place.Place.{Place}
-use Rattle.exo_lexer.specs.declared.token.Token.{Token}
+use Rattle.text_lexer.specs.declared.place.Place.{Place}
+use Rattle.text_lexer.specs.declared.token.Token.{Token}
 use Rattle.exo_cli.specs.ScheduleForm.{ends_line, first_number, begun, numbered, width_of, with_line, lines_in, act_in}
 use Rattle.exo_cli.specs.declared.lines.Act.{Act}
 use Rattle.exo_cli.specs.declared.lines.Line.{Line}

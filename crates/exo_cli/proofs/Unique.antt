@@ -4,13 +4,13 @@ use Rattle.exo_cli.specs.Outside.{Folder, content_of}
 use Rattle.exo_cli.specs.Messages.{usage, file_refused, place_refused}
 use Rattle.exo_cli.specs.Words.{Command, Compile, Check, command_of}
 use Rattle.exo_cli.specs.Answer.{Answer, Rejected, Misused}
-use Rattle.phrases.specs.Limits.{in_size}
-use Rattle.phrases.specs.Text.{IsText}
-use Rattle.exo_source.specs.Source.{Item}
-use Rattle.exo_source.specs.Items.{unit}
-use Rattle.exo_source.specs.Texts.{tokens_of, places_of}
-use Rattle.exo_source.specs.declared.unit.ReadError.{ReadError}
-use Rattle.exo_source.proofs.Eased.{texts_are_one}
+use Rattle.text_phrases.specs.Limits.{in_size}
+use Rattle.text_phrases.specs.Text.{IsText}
+use Rattle.exo_reader.specs.Source.{Item}
+use Rattle.exo_reader.specs.Items.{unit}
+use Rattle.exo_reader.specs.Texts.{tokens_of, places_of}
+use Rattle.exo_reader.specs.declared.unit.ReadError.{ReadError}
+use Rattle.exo_reader.proofs.Eased.{texts_are_one}
 use Rattle.exo_types.specs.UnitRules.{unit_fault}
 use Rattle.exo_cli.specs.Compiled.{IsUnread, kind_text}
 use Rattle.exo_cli.specs.Compiling.{IsCompiled, typed}

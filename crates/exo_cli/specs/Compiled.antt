@@ -2,18 +2,18 @@
 -- its names. And what is answered to a text that is no unit, or breaks a rule.
 use Rattle.std.specs.Prelude.{◌≡◌, ℕ, suc, if◌then◌else◌, List, [], ◌∷◌, map, slice_get, slice_index, Option, Some, None, codes}
 use Rattle.exo_tree.specs.Tree.{Procedure, Program}
-use Rattle.exo_lexer.specs.declared.place.Place.{Place}
-use Rattle.exo_source.specs.Items.{unit}
-use Rattle.exo_source.specs.Texts.{tokens_of, places_of, IsFault}
-use Rattle.exo_source.specs.declared.unit.ReadKind.{ReadKind}
-use Rattle.exo_source.specs.declared.unit.ReadKind.TheVariants as kind
-use Rattle.exo_source.specs.declared.unit.ReadError.{ReadError}
-use Rattle.exo_names.specs.declared.error.TypeKind.{TypeKind}
-use Rattle.exo_names.specs.declared.error.TypeKind.TheVariants as rule
-use Rattle.c_lowering.specs.Refusals.{too_wide, name_clash}
+use Rattle.text_lexer.specs.declared.place.Place.{Place}
+use Rattle.exo_reader.specs.Items.{unit}
+use Rattle.exo_reader.specs.Texts.{tokens_of, places_of, IsFault}
+use Rattle.exo_reader.specs.declared.unit.ReadKind.{ReadKind}
+use Rattle.exo_reader.specs.declared.unit.ReadKind.TheVariants as kind
+use Rattle.exo_reader.specs.declared.unit.ReadError.{ReadError}
+use Rattle.rules_names.specs.declared.error.TypeKind.{TypeKind}
+use Rattle.rules_names.specs.declared.error.TypeKind.TheVariants as rule
+use Rattle.c_printer.specs.Refusals.{too_wide, name_clash}
 use Rattle.exo_cli.specs.Built.{are_built}
-use Rattle.c_printer.specs.LoweredUnit.{Printing, name_of, lowered}
-use Rattle.c_printer.specs.CText.{text_of}
+use Rattle.c_tree.specs.LoweredUnit.{Printing, name_of, lowered}
+use Rattle.c_tree.specs.CText.{text_of}
 use Rattle.exo_cli.specs.Answer.{Answer, Accepted, Rejected}
 use Rattle.exo_cli.specs.Messages.{file_refused, name_refused, place_refused, line_refused}
 use Rattle.exo_cli.specs.Lines.{Versions, Outcome, Done, Stopped, run_lines}

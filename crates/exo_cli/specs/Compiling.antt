@@ -1,15 +1,15 @@
 -- The answer to the texts of a unit and of a schedule: the unit is read, then its rules are tested, then what its procedures owe is
 -- shown, and then the schedule runs.
 use Rattle.std.specs.Prelude.{◌≡◌, ℕ, ◌⊎◌, List, Option, Some, None, slice_get}
-use Rattle.phrases.specs.Text.{IsText}
+use Rattle.text_phrases.specs.Text.{IsText}
 use Rattle.exo_tree.specs.Tree.{Program}
 use Rattle.exo_tree.specs.declared.lines.ProcLines.{ProcLines}
-use Rattle.exo_lexer.specs.declared.place.Place.{Place}
+use Rattle.text_lexer.specs.declared.place.Place.{Place}
 use Rattle.exo_meaning.specs.Units.{IsUnit}
-use Rattle.exo_source.specs.Source.{Item}
-use Rattle.exo_source.specs.Items.{unit}
-use Rattle.exo_source.specs.Texts.{tokens_of, places_of}
-use Rattle.exo_names.specs.declared.fault.Fault.{Fault}
+use Rattle.exo_reader.specs.Source.{Item}
+use Rattle.exo_reader.specs.Items.{unit}
+use Rattle.exo_reader.specs.Texts.{tokens_of, places_of}
+use Rattle.rules_names.specs.declared.fault.Fault.{Fault}
 use Rattle.exo_types.specs.UnitRules.{unit_fault, unit_of}
 use Rattle.exo_types.specs.UnitLines.{lines_of}
 use Rattle.unit_check.specs.Checked.{Checked, Shown, Refused, checked}

@@ -1,10 +1,10 @@
 -- What the program promises of a check that ends well.
 use Rattle.std.specs.Prelude.{◌≡◌, ℕ, List, Option, Some, None}
-use Rattle.phrases.specs.Text.{IsText}
+use Rattle.text_phrases.specs.Text.{IsText}
 use Rattle.exo_meaning.specs.Units.{IsUnit}
-use Rattle.exo_source.specs.Source.{Item}
-use Rattle.exo_source.specs.Items.{unit}
-use Rattle.exo_source.specs.Texts.{tokens_of}
+use Rattle.exo_reader.specs.Source.{Item}
+use Rattle.exo_reader.specs.Items.{unit}
+use Rattle.exo_reader.specs.Texts.{tokens_of}
 use Rattle.exo_types.specs.UnitRules.{unit_fault, unit_of}
 use Rattle.fault_laws.specs.Laws.{NothingFaults}
 use Rattle.unit_check.specs.Checked.{Shown, checked}

@@ -6,22 +6,22 @@ use Rattle.exo_meaning.specs.Run.{World}
 use Rattle.exo_meaning.specs.Units.{IsUnit}
 use Rattle.fault_laws.specs.Laws.{NothingFaults}
 use Rattle.exo_meaning.specs.Inputs.{IsValid, run_procedure}
-use Rattle.c_printer.specs.CTree.{CFunction}
-use Rattle.c_printer.specs.CText.{text_of}
-use Rattle.c_printer.specs.CRun.{CWorld, run_c}
-use Rattle.c_printer.specs.Machine.{Machine, Done}
-use Rattle.c_printer.specs.Lowered.{Naming}
-use Rattle.c_printer.specs.LoweredUnit.{Printing, lowered}
-use Rattle.c_printer.specs.SameInput.{AreSame}
-use Rattle.c_printer.specs.FirstForm.{is_first_unit}
-use Rattle.c_lowering.specs.Refusals.{too_wide, name_clash}
-use Rattle.c_printer.specs.Simulation.{Layout, Follows}
-use Rattle.lowering_laws.specs.Laws.{naming_of, declared_in, IsSameStart, LeavesTheSame}
-use Rattle.c_printer.specs.Laws.{AreSeparate, Agrees}
-use Rattle.phrases.specs.Text.{IsText}
-use Rattle.exo_source.specs.Source.{Item}
-use Rattle.exo_source.specs.Items.{unit}
-use Rattle.exo_source.specs.Texts.{tokens_of}
+use Rattle.c_tree.specs.CTree.{CFunction}
+use Rattle.c_tree.specs.CText.{text_of}
+use Rattle.c_tree.specs.CRun.{CWorld, run_c}
+use Rattle.c_tree.specs.Machine.{Machine, Done}
+use Rattle.c_tree.specs.Lowered.{Naming}
+use Rattle.c_tree.specs.LoweredUnit.{Printing, lowered}
+use Rattle.c_tree.specs.SameInput.{AreSame}
+use Rattle.c_tree.specs.FirstForm.{is_first_unit}
+use Rattle.c_printer.specs.Refusals.{too_wide, name_clash}
+use Rattle.c_tree.specs.Simulation.{Layout, Follows}
+use Rattle.c_laws.specs.Laws.{naming_of, declared_in, IsSameStart, LeavesTheSame}
+use Rattle.c_tree.specs.Laws.{AreSeparate, Agrees}
+use Rattle.text_phrases.specs.Text.{IsText}
+use Rattle.exo_reader.specs.Source.{Item}
+use Rattle.exo_reader.specs.Items.{unit}
+use Rattle.exo_reader.specs.Texts.{tokens_of}
 use Rattle.exo_types.specs.UnitRules.{unit_fault, unit_of}
 use Rattle.exo_cli.specs.Outside.{Folder, content_of, with_more}
 use Rattle.exo_cli.specs.Words.{Compile, command_of}

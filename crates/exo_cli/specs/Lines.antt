@@ -2,7 +2,7 @@
 use Rattle.std.specs.Prelude.{ℕ, Bool, false, not, List, [], ◌∷◌, ◌++◌, length, slice_get, slice_index, Option, Some, None, if◌then◌else◌, codes}
 use Rattle.std.specs.Str.{bytes_eq}
 use Rattle.exo_tree.specs.Tree.{Procedure}
-use Rattle.c_printer.specs.FirstForm.{is_none}
+use Rattle.c_tree.specs.FirstForm.{is_none}
 use Rattle.exo_cli.specs.Commute.{Stepped, Made, NoSuchPattern, WrongShape, commute_expr}
 use Rattle.exo_cli.specs.declared.lines.Commute.{Commute}
 use Rattle.exo_cli.specs.declared.lines.Act.{Act}

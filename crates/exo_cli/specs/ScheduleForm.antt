@@ -2,11 +2,11 @@
 use Rattle.std.specs.Prelude.{ℕ, suc, ◌+◌, Bool, true, false, ◌&&◌, if◌then◌else◌, nat_eq, nat_le, List, [], ◌∷◌, ◌++◌, drop, map, length, Option, Some, None, option_map, codes}
 use Rattle.std.specs.List.{list_any}
 use Rattle.std.specs.Str.{bytes_eq}
-use Rattle.exo_lexer.specs.Layout.{lexed, line_tokens, place_of, token_of, end_place}
-use Rattle.exo_lexer.specs.declared.place.Place.{Place}
-use Rattle.exo_lexer.specs.declared.token.Token.{Token}
-use Rattle.exo_lexer.specs.declared.token.Token.TheVariants.{Name, Str, Sign, NewLine}
-use Rattle.exo_lexer.specs.declared.token.Sign.TheVariants.{Open, Close, OpenBracket, CloseBracket, Comma, Assign, Plus, Times, Any}
+use Rattle.text_lexer.specs.Layout.{lexed, line_tokens, place_of, token_of, end_place}
+use Rattle.text_lexer.specs.declared.place.Place.{Place}
+use Rattle.text_lexer.specs.declared.token.Token.{Token}
+use Rattle.text_lexer.specs.declared.token.Token.TheVariants.{Name, Str, Sign, NewLine}
+use Rattle.text_lexer.specs.declared.token.Sign.TheVariants.{Open, Close, OpenBracket, CloseBracket, Comma, Assign, Plus, Times, Any}
 use Rattle.exo_cli.specs.declared.commute.Operation.{Operation}
 use Rattle.exo_cli.specs.declared.commute.Operation.TheVariants.{Sum, Product}
 use Rattle.exo_cli.specs.declared.lines.Act.{Act}

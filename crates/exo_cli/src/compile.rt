@@ -1,8 +1,8 @@
 // From the texts of a unit and of a schedule to the text of C.
 ghost use Rattle.std.specs.Prelude.{◌≡◌, ◌≤◌, ◌≢◌, None, length, map, slice_get, codes, IfOk};
 ghost use Rattle.exo_tree.specs.Plain.{program};
-ghost use Rattle.c_printer.specs.PlainPrinted.{printing};
-ghost use Rattle.c_printer.specs.LoweredUnit.{name_of};
+ghost use Rattle.c_tree.specs.PlainPrinted.{printing};
+ghost use Rattle.c_tree.specs.LoweredUnit.{name_of};
 ghost use Rattle.exo_cli.specs.Answer.{Rejected, IsVerdict};
 ghost use Rattle.exo_cli.specs.Compiled.{ended, kind_text, not_built, printed, rule_text, scheduled, started, why_text};
 ghost use Rattle.exo_cli.specs.Compiling.{IsCompiled, owed, typed};
@@ -22,13 +22,13 @@ use crate::messages;
 use crate::reply::Reply;
 use crate::schedule::read_schedule;
 use crate::session::{Session, Why};
-use c_lowering::lower_unit;
-use c_printer::{LowerError, Printed, c_text};
-use exo_names::error::{TypeError, TypeKind};
-use exo_source::unit::{ReadError, ReadKind, Source};
+use c_printer::lower_unit;
+use c_tree::{LowerError, Printed, c_text};
+use exo_reader::unit::{ReadError, ReadKind, Source};
 use exo_tree::{Lines, Name, ProcId, Procs, Unit};
 use exo_types::unit::check_types;
 use ob_check::{Gate, new_cache};
+use rules_names::error::{TypeError, TypeKind};
 use std::alloc::{AllocError, Global};
 use std::thread::Threads;
 use unit_check::check_unit;

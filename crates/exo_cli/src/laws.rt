@@ -5,8 +5,8 @@ ghost use Rattle.exo_cli.specs.Kept.{CommutedIsKept, CommutedRunsAlike, Commuted
 ghost use Rattle.exo_cli.specs.Moves.{CommutedForwards};
 ghost use Rattle.exo_cli.specs.Work.{AnswersAreUnique};
 
-use c_printer::laws::first_units_follow;
-use lowering_laws::laws::units_follow;
+use c_laws::laws::units_follow;
+use c_tree::laws::first_units_follow;
 use unit_check::laws::checked_units_do_not_fault;
 
 /// A version with the sides of a sum or of a product exchanged runs like the one that it is made of.

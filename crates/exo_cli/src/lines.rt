@@ -1,6 +1,6 @@
 // The lines of a schedule.
 use crate::commute::Operation;
-use exo_lexer::text::Text;
+use text_lexer::text::Text;
 
 /// A line that changes a version: `bind = commute_expr(of, 'target[_] = _', ..)`.
 #[derive(Drop)]

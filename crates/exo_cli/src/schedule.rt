@@ -4,12 +4,12 @@ ghost use Rattle.exo_cli.specs.ScheduleForm.{act_in, behind_index, behind_string
 
 use crate::commute::Operation;
 use crate::lines::{Act, Commute, Line};
-use exo_lexer::lexer::lex;
-use exo_lexer::line::line_tokens;
-use exo_lexer::place::Place;
-use exo_lexer::text::Text;
-use exo_lexer::token::{Sign, Token};
 use std::alloc::{AllocError, Global};
+use text_lexer::lexer::lex;
+use text_lexer::line::line_tokens;
+use text_lexer::place::Place;
+use text_lexer::text::Text;
+use text_lexer::token::{Sign, Token};
 
 /// The tokens of a pattern; none where it holds a comment.
 fn pattern_tokens(alloc: Global, text: &[u8]) -> Result<Vec<Token>, AllocError>

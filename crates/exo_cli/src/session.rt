@@ -3,18 +3,18 @@ ghost use Rattle.std.specs.Prelude.{◌≡◌, Option, None, slice_get, slice_in
 ghost use Rattle.exo_tree.specs.Plain.{procedure};
 ghost use Rattle.exo_cli.specs.Commute.{Made};
 ghost use Rattle.exo_cli.specs.Lines.{Went, Done, adding, changing, changing_held, emitting, has_template, held, performed, run_lines};
-ghost use Rattle.c_printer.specs.LoweredUnit.{name_of};
-ghost use Rattle.c_printer.specs.PlainPrinted.{printing};
+ghost use Rattle.c_tree.specs.LoweredUnit.{name_of};
+ghost use Rattle.c_tree.specs.PlainPrinted.{printing};
 ghost use Rattle.exo_cli.specs.Compiled.{printings, started};
 ghost use Rattle.exo_cli.specs.Sessions.{versions, RefusesLine, StopsLine};
 ghost use Rattle.exo_cli.specs.declared.session.Why.TheVariants.{Memory};
 
 use crate::commute::{StepRefusal, commute_expr};
 use crate::lines::{Act, Commute, Line};
-use c_printer::Printed;
-use exo_lexer::text::Text;
+use c_tree::Printed;
 use exo_tree::{Name, Proc, ProcId, Procs};
 use std::alloc::{AllocError, AllocFailed, Global};
+use text_lexer::text::Text;
 
 /// Why a line is refused.
 #[derive(Clone, Copy, Debug, PartialEq, Eq)]

@@ -5,7 +5,7 @@ use Rattle.std.proofs.lemmas.Option.{slice_get-map, slice_get_past}
 use Rattle.exo_tree.specs.Tree.{Kind, Argument, Procedure, Program}
 use Rattle.exo_meaning.specs.Calls.{Callee}
 use Rattle.exo_meaning.specs.Run.{callees, callee_in, world_of, kinds_of}
-use Rattle.exo_context.specs.Touched.{Mode, Modes, call_has, no_modes, modes_at, modes_in, all_modes}
+use Rattle.meaning_laws.specs.Touched.{Mode, Modes, call_has, no_modes, modes_at, modes_in, all_modes}
 use Rattle.exo_modes.specs.Marks.{argument_marks, call_marks, callable}
 
 get_taken : (ps : List Procedure) (n k : ℕ) → k < n → slice_get (take n ps) k ≡ slice_get ps k

@@ -4,7 +4,7 @@ use Rattle.std.proofs.Math.Bool.{or_assoc}
 use Rattle.std.proofs.lemmas.List.{drop_all}
 use Rattle.exo_tree.specs.Tree.{Binder, Cell, Control, Condition, Datum, Statement, Assign, Reduce, If, Alloc, Block, block, Program}
 use Rattle.exo_meaning.specs.Run.{roots_after}
-use Rattle.exo_context.specs.Touched.{Mode, Reading, Writing, Reducing, Modes, picked, reads_from}
+use Rattle.meaning_laws.specs.Touched.{Mode, Reading, Writing, Reducing, Modes, picked, reads_from}
 use Rattle.exo_modes.specs.Marks.{together, used, reads, block_marks, step_marks}
 use Rattle.exo_modes.proofs.Unions.{same_modes, or_false, nothing_more, more}
 

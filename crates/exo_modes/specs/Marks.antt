@@ -3,7 +3,7 @@ use Rattle.std.specs.Prelude.{ℕ, ◌==◌, ◌||◌, ◌&&◌, Bool, false, Li
 use Rattle.exo_tree.specs.Tree.{Datum, Argument, Block, Statement, Program, Param}
 use Rattle.exo_meaning.specs.Calls.{Callee}
 use Rattle.exo_meaning.specs.Run.{callees, kinds_of, call_writes}
-use Rattle.exo_context.specs.Touched.{Mode, Modes, picked, reads_from, call_has, modes_at, has_mode, step_has_mode, all_modes, unit_modes}
+use Rattle.meaning_laws.specs.Touched.{Mode, Modes, picked, reads_from, call_has, modes_at, has_mode, step_has_mode, all_modes, unit_modes}
 
 -- what either says
 abbrev pub together : Modes → Modes → Modes

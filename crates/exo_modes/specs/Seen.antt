@@ -1,8 +1,8 @@
 -- What the values of this crate say.
 use Rattle.std.specs.Prelude.{ℕ, Bool, false, List, map, Some, None, nat_eq}
 use Rattle.indexmap.specs.IndexMap.{get}
-use Rattle.exo_context.specs.Touched as touched
-use Rattle.exo_context.specs.Touched.{Mode, picked}
+use Rattle.meaning_laws.specs.Touched as touched
+use Rattle.meaning_laws.specs.Touched.{Mode, picked}
 use Rattle.exo_modes.specs.Marks as marks
 use Rattle.exo_modes.specs.declared.mode.Modes.{Modes}
 use Rattle.exo_modes.specs.declared.row.Row.{Row}

@@ -1,6 +1,6 @@
 //! Three ways to touch a buffer.
 ghost use Rattle.std.specs.Prelude.{◌≡◌, ◌||◌};
-ghost use Rattle.exo_context.specs.Touched.{Mode};
+ghost use Rattle.meaning_laws.specs.Touched.{Mode};
 ghost use Rattle.exo_modes.specs.Seen.{says};
 
 /// How a buffer is touched.

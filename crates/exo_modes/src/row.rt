@@ -1,6 +1,6 @@
 //! The buffers that a procedure touches.
 ghost use Rattle.std.specs.Prelude.{◌≡◌, OnOk, false};
-ghost use Rattle.exo_context.specs.Touched.{Mode, no_modes};
+ghost use Rattle.meaning_laws.specs.Touched.{Mode, no_modes};
 ghost use Rattle.exo_modes.specs.Marks.{together, used};
 ghost use Rattle.exo_modes.specs.Seen.{says, row_says};
 

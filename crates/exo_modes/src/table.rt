@@ -2,7 +2,7 @@
 ghost use Rattle.std.specs.Prelude.{◌≡◌, ◌++◌, ◌+◌, [], map, take, length, OnOk, IfOk};
 ghost use Rattle.exo_tree.specs.PlainUnit.{program};
 ghost use Rattle.exo_meaning.specs.Run.{kinds_of};
-ghost use Rattle.exo_context.specs.Touched.{Mode, modes_at, all_modes};
+ghost use Rattle.meaning_laws.specs.Touched.{Mode, modes_at, all_modes};
 ghost use Rattle.exo_modes.specs.Marks.{modes_of, param_modes};
 ghost use Rattle.exo_modes.specs.Seen.{says, row_says, table_says};
 

@@ -1,9 +1,15 @@
-pub mod Signs
-pub mod Sizes
-pub mod Words
-pub mod Chains
-pub mod Atoms
-pub mod Indices
-pub mod Productions
-pub mod Made
-pub mod Returns
+mod Optional
+mod Parts
+mod Lists
+mod Parameters
+mod Made
+mod Windows
+mod Coordinates
+mod Arguments
+mod Statements
+mod Neighbours
+mod Items
+mod Units
+pub mod Eased
+mod Widths
+mod Strings

@@ -1,6 +1,8 @@
-pub mod Fixed
-pub mod Values
-pub mod Expression
-pub mod Rooms
-pub mod Chain
+pub mod Source
+pub mod Parts
+pub mod Statements
+pub mod Items
 pub mod Views
+pub mod Windows
+pub mod Texts
+pub mod Strings

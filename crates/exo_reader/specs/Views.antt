@@ -1,40 +1,92 @@
 -- Source trees without where they lie in memory.
-use Rattle.std.specs.Prelude.{◌≡◌, List, [], ◌∷◌, map, Bool}
-use Rattle.exo_reader.specs.Expression.{Tree, number, truth, variable, access, field, stride, relu, select, negative, parens, binary, trees, depth, deepest, nodes}
-use Rattle.exo_lexer.specs.declared.token.Literal.TheVariants.{Value}
-use Rattle.exo_reader.specs.declared.source.SourceExpr.{SourceExpr}
-use Rattle.exo_reader.specs.declared.source.SourceExpr.TheOpen.{SourceExpr-F, Int, Truth, Name, Access, Field, Stride, Relu, Select, Negative, Parens, Binary}
-use Rattle.exo_reader.specs.declared.source.SourceExpr.TheFolds.{fold-SourceExpr}
-use Rattle.exo_reader.specs.declared.expression.Measured.{Measured}
-use Rattle.exo_reader.specs.declared.expression.Indices.{Indices}
+use Rattle.std.specs.Prelude.{ℕ, List, map, Bool}
+use Rattle.text_expressions.specs.Views.{tree_of}
+use Rattle.text_lexer.specs.declared.token.Literal.TheVariants.{Value}
+use Rattle.exo_reader.specs.Source as tree
+use Rattle.exo_reader.specs.Source.{Coordinate, Argument, TypeName, Statement, block_of, Form, Parameter, Definition, ConfigField, Setting, Attribute, Item}
+use Rattle.exo_reader.specs.declared.source.SourceCoord.{SourceCoord}
+use Rattle.exo_reader.specs.declared.source.SourceCoord.TheVariants.{Point, Span}
+use Rattle.exo_reader.specs.declared.source.SourceArg.{SourceArg}
+use Rattle.exo_reader.specs.declared.source.SourceArg.TheVariants as a
+use Rattle.exo_reader.specs.declared.source.SourceArgs.{SourceArgs}
+use Rattle.exo_reader.specs.declared.source.SourceWindow.{SourceWindow}
+use Rattle.exo_reader.specs.declared.source.SourceKind.{SourceKind}
+use Rattle.exo_reader.specs.declared.source.SourceKind.TheVariants.{Stride, Named}
+use Rattle.exo_reader.specs.declared.source.SourceStmt.{SourceStmt}
+use Rattle.exo_reader.specs.declared.source.SourceStmt.TheOpen.{SourceStmt-F, Pass, If, For, Alloc, Call, Config, Assign, Reduce, View}
+use Rattle.exo_reader.specs.declared.source.SourceStmt.TheFolds.{fold-SourceStmt}
+use Rattle.exo_reader.specs.declared.source.SourceType.{SourceType}
+use Rattle.exo_reader.specs.declared.source.SourceType.TheVariants as f
+use Rattle.exo_reader.specs.declared.source.SourceParam.{SourceParam}
+use Rattle.exo_reader.specs.declared.source.SourceParams.{SourceParams}
+use Rattle.exo_reader.specs.declared.source.SourceDef.{SourceDef}
+use Rattle.exo_reader.specs.declared.source.SourceField.{SourceField}
+use Rattle.exo_reader.specs.declared.source.SourceValue.{SourceValue}
+use Rattle.exo_reader.specs.declared.source.SourceValue.TheVariants.{Strings, Int, Yes, No}
+use Rattle.exo_reader.specs.declared.source.SourceAttribute.{SourceAttribute}
+use Rattle.exo_reader.specs.declared.source.SourceItem.{SourceItem}
+use Rattle.exo_reader.specs.declared.source.SourceItem.TheVariants.{Procedure, Instruction, Configuration, Memory}
 
--- an expression, with those in it in their places
-abbrev pub tree_step : SourceExpr-F Tree → Tree
-tree_step (Int n) = number (Value n)
-tree_step (Truth b) = truth b
-tree_step (Name x) = variable x
-tree_step (Access x list) = access x (trees list.items)
-tree_step (Field x f) = field x f
-tree_step (Stride x n) = stride x (Value n)
-tree_step (Relu inner) = relu inner.value
-tree_step (Select a b c d) = select a.value b.value c.value d.value
-tree_step (Negative inner) = negative inner.value
-tree_step (Parens inner) = parens inner.value
-tree_step (Binary operator left right) = binary operator left.value right.value
+abbrev pub plain_coordinate : SourceCoord → Coordinate
+plain_coordinate (Point e) = tree.point (tree_of e)
+plain_coordinate (Span a b) = tree.span (tree_of a) (tree_of b)
 
-abbrev pub tree_of : SourceExpr → Tree
-tree_of = fold-SourceExpr Tree tree_step
+abbrev pub plain_argument : SourceArg → Argument
+plain_argument (a.Value e) = tree.value (tree_of e)
+plain_argument (a.Window x cs) = tree.window x (map plain_coordinate cs.items)
 
--- the depth and the number of nodes are right
-pub record IsMeasured (m : Measured) : Type 0 where
-  pub depth : m.depth ≡ depth (tree_of m.tree)
-  pub nodes : m.nodes ≡ nodes (tree_of m.tree)
+abbrev pub plain_arguments : SourceArgs → List Argument × Bool
+plain_arguments l = (map plain_argument l.items.items, l.trailing)
 
--- the depth of the deepest index is right
-pub record AreMeasured (l : Indices) : Type 0 where
-  pub depth : l.depth ≡ deepest (trees (map tree_of l.items.items))
+abbrev pub plain_window : SourceWindow → List ℕ × List Coordinate
+plain_window w = (w.name, map plain_coordinate w.coords.items)
 
--- an expression without parts
-pub record IsLeaf (t : Tree) : Type 0 where
-  pub depth : depth t ≡ 1
-  pub nodes : nodes t ≡ 1
+abbrev pub plain_kind : SourceKind → TypeName
+plain_kind Stride = tree.stride
+plain_kind (Named x) = tree.named x
+
+-- a statement, with those in it in their places
+abbrev pub statement_step : SourceStmt-F Statement → Statement
+statement_step Pass = tree.pass
+statement_step (If c a b) = tree.branch (tree_of c) (block_of a.items) (block_of b.items)
+statement_step (For i low high a) = tree.loop i (tree_of low) (tree_of high) (block_of a.items)
+statement_step (Alloc x kind ds m) = tree.allocate x (plain_kind kind) (map tree_of ds.items) m
+statement_step (Call f l) = tree.call f (map plain_argument l.items.items) l.trailing
+statement_step (Config c f e) = tree.configure c f (tree_of e)
+statement_step (Assign x ds e) = tree.assign x (map tree_of ds.items) (tree_of e)
+statement_step (Reduce x ds e) = tree.reduce x (map tree_of ds.items) (tree_of e)
+statement_step (View y x cs) = tree.view y x (map plain_coordinate cs.items)
+
+abbrev pub plain_statement : SourceStmt → Statement
+plain_statement = fold-SourceStmt Statement statement_step
+
+abbrev pub plain_form : SourceType → Form
+plain_form (f.Plain kind ds) = tree.plain (plain_kind kind) (map tree_of ds.items)
+plain_form (f.Window kind ds) = tree.strided (plain_kind kind) (map tree_of ds.items)
+
+abbrev pub plain_parameter : SourceParam → Parameter
+plain_parameter p = record { name = p.name; form = plain_form p.form; memory = p.memory }
+
+abbrev pub plain_parameters : SourceParams → List Parameter × Bool
+plain_parameters l = (map plain_parameter l.items.items, l.trailing)
+
+abbrev pub plain_definition : SourceDef → Definition
+plain_definition p = record { name = p.name; params = map plain_parameter p.params.items.items; trailing = p.params.trailing; asserts = map tree_of p.asserts.items; body = map plain_statement p.body.items }
+
+abbrev pub plain_field : SourceField → ConfigField
+plain_field f = record { name = f.name; kind = plain_kind f.kind }
+
+abbrev pub plain_setting : SourceValue → Setting
+plain_setting (Strings pieces) = tree.strings pieces.items
+plain_setting (Int n) = tree.int (Value n)
+plain_setting Yes = tree.yes
+plain_setting No = tree.no
+
+abbrev pub plain_attribute : SourceAttribute → Attribute
+plain_attribute a = record { name = a.name; value = plain_setting a.value }
+
+abbrev pub plain_item : SourceItem → Item
+plain_item (Procedure p) = tree.procedure (plain_definition p)
+plain_item (Instruction template p) = tree.instruction template.items (plain_definition p)
+plain_item (Configuration x list) = tree.configuration x (map plain_field list.items)
+plain_item (Memory x list) = tree.memory x (map plain_attribute list.items)

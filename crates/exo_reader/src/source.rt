@@ -1,56 +1,133 @@
-// Source trees of expressions: a text as it is written, without names resolved.
+// Source trees of units: a text as it is written, without names resolved.
 
-use exo_lexer::text::Text;
+use text_expressions::source::SourceExpr;
+use text_lexer::text::Text;
 
-/// An operator between two expressions.
-#[derive(Clone, Copy, Debug, PartialEq, Eq)]
-pub enum Operator {
-    /// `or`
-    Or,
-    /// `and`
-    And,
-    /// `<`
-    Lt,
-    /// `<=`
-    Le,
-    /// `>`
-    Gt,
-    /// `>=`
-    Ge,
-    /// `==`
-    Eq,
-    /// `+`
-    Add,
-    /// `-`
-    Sub,
-    /// `*`
-    Mul,
-    /// `/`
-    Div,
-    /// `%`
-    Mod,
+/// One coordinate of a window.
+#[derive(Drop)]
+pub enum SourceCoord {
+    Point(SourceExpr),
+    /// `a:b`, from the lower end up to the end that it does not reach.
+    Span(SourceExpr, SourceExpr),
 }
 
-/// An expression as it is written.
+/// An argument of a call, or the right side of a `=`.
 #[derive(Drop)]
-pub enum SourceExpr {
-    /// A literal, below 2^31.
+pub enum SourceArg {
+    Value(SourceExpr),
+    /// `x[..]` with at least one span.
+    Window(Text, Vec<SourceCoord>),
+}
+
+/// The arguments between the parentheses.
+#[derive(Drop)]
+pub struct SourceArgs {
+    pub items: Vec<SourceArg>,
+    /// Whether a comma stands behind the last one.
+    pub trailing: bool,
+}
+
+/// A window `x[..]` with at least one span.
+#[derive(Drop)]
+pub struct SourceWindow {
+    pub name: Text,
+    pub coords: Vec<SourceCoord>,
+}
+
+/// What stands where a type must stand. The word `stride` is a type there, and no name elsewhere.
+#[derive(Drop)]
+pub enum SourceKind {
+    Stride,
+    Named(Text),
+}
+
+/// A statement as it is written. A list of dimensions or indices is empty where none are written.
+#[derive(Drop)]
+pub enum SourceStmt {
+    Pass,
+    /// A condition with its branches; the second is empty where there is no `else`.
+    If(SourceExpr, Vec<SourceStmt>, Vec<SourceStmt>),
+    /// A loop over a name, from its lower bound up to the upper one.
+    For(Text, SourceExpr, SourceExpr, Vec<SourceStmt>),
+    /// `x : TYPE[..] @ MEMORY`
+    Alloc(Text, SourceKind, Vec<SourceExpr>, Option<Text>),
+    Call(Text, SourceArgs),
+    /// `C.f = e`
+    Config(Text, Text, SourceExpr),
+    /// `x[..] = e`
+    Assign(Text, Vec<SourceExpr>, SourceExpr),
+    /// `x[..] += e`
+    Reduce(Text, Vec<SourceExpr>, SourceExpr),
+    /// `w = x[..]` with at least one span.
+    View(Text, Text, Vec<SourceCoord>),
+}
+
+/// The type of a parameter.
+#[derive(Drop)]
+pub enum SourceType {
+    /// `TYPE` or `TYPE[..]`; without dimensions the list is empty.
+    Plain(SourceKind, Vec<SourceExpr>),
+    /// `[TYPE][..]`
+    Window(SourceKind, Vec<SourceExpr>),
+}
+
+/// A parameter `x: TYPE @ MEMORY`.
+#[derive(Drop)]
+pub struct SourceParam {
+    pub name: Text,
+    pub form: SourceType,
+    pub memory: Option<Text>,
+}
+
+/// The parameters between the parentheses, at most 32.
+#[derive(Drop)]
+pub struct SourceParams {
+    pub items: Vec<SourceParam>,
+    /// Whether a comma stands behind the last one.
+    pub trailing: bool,
+}
+
+/// What stands below `@proc` or `@instr`.
+#[derive(Drop)]
+pub struct SourceDef {
+    pub name: Text,
+    pub params: SourceParams,
+    pub asserts: Vec<SourceExpr>,
+    pub body: Vec<SourceStmt>,
+}
+
+/// A field of a configuration, `NAME : TYPE`.
+#[derive(Drop)]
+pub struct SourceField {
+    pub name: Text,
+    pub kind: SourceKind,
+}
+
+/// The value of an attribute.
+#[derive(Drop)]
+pub enum SourceValue {
+    /// Neighbouring strings, which are joined.
+    Strings(Vec<Text>),
     Int(u32),
-    /// `True` or `False`
-    Truth(bool),
-    Name(Text),
-    /// A cell, `x[e, ..]`, with at least one index and at most 8.
-    Access(Text, Vec<SourceExpr>),
-    /// A field of a configuration, `C.f`.
-    Field(Text, Text),
-    /// The stride of a tensor in a dimension, `stride(x, 0)`.
-    Stride(Text, u32),
-    /// `relu(e)`
-    Relu(Box<SourceExpr>),
-    /// `select(a, b, c, d)`
-    Select(Box<SourceExpr>, Box<SourceExpr>, Box<SourceExpr>, Box<SourceExpr>),
-    Negative(Box<SourceExpr>),
-    /// An expression in parentheses.
-    Parens(Box<SourceExpr>),
-    Binary(Operator, Box<SourceExpr>, Box<SourceExpr>),
+    Yes,
+    No,
+}
+
+/// An attribute of a memory, `NAME = VALUE`.
+#[derive(Drop)]
+pub struct SourceAttribute {
+    pub name: Text,
+    pub value: SourceValue,
+}
+
+/// What stands at the top level of a text.
+#[derive(Drop)]
+pub enum SourceItem {
+    Procedure(SourceDef),
+    /// The neighbouring strings of its template, and what it does.
+    Instruction(Vec<Text>, SourceDef),
+    /// A configuration with its fields.
+    Configuration(Text, Vec<SourceField>),
+    /// A class of memories with its attributes.
+    Memory(Text, Vec<SourceAttribute>),
 }

@@ -9,12 +9,12 @@ use Rattle.exo_tree.specs.PlainUnit.{program}
 use Rattle.exo_tree.specs.PlainProcedure as plain
 use Rattle.exo_meaning.specs.Run.{world_of, callee_in, kinds_of}
 use Rattle.exo_meaning.specs.Units.{is_text}
-use Rattle.exo_source.specs.Source.{Definition, block_of}
-use Rattle.exo_names.specs.declared.fault.Fault.{Fault}
-use Rattle.exo_names.specs.Faults.{least, unless}
-use Rattle.exo_names.specs.declared.error.TypeKind.TheVariants.{Redefined}
-use Rattle.exo_names.specs.Names.{name_number}
-use Rattle.exo_lexer.specs.declared.place.Place.{Place}
+use Rattle.exo_reader.specs.Source.{Definition, block_of}
+use Rattle.rules_names.specs.declared.fault.Fault.{Fault}
+use Rattle.rules_names.specs.Faults.{least, unless}
+use Rattle.rules_names.specs.declared.error.TypeKind.TheVariants.{Redefined}
+use Rattle.rules_names.specs.Names.{name_number}
+use Rattle.text_lexer.specs.declared.place.Place.{Place}
 use Rattle.exo_writes.specs.declared.written.Row.{Row}
 use Rattle.exo_writes.specs.Written.{row_says, rows_say, callee_by, callees_by, block_marks}
 use Rattle.exo_types.specs.declared.context.Context.{Context}

@@ -1,11 +1,11 @@
 -- The attributes of a memory, one by one.
 use Rattle.std.proofs.Common.{◌≡◌, ℕ, zero, suc, ◌+◌, ◌<◌, true, false, List, [], ◌∷◌, ◌++◌, Option, Some, None, length, map, drop, take, get_or, refl, ap, sym, ◌∙◌, add-one, arith}
 use Rattle.std.specs.Option.{is_some}
-use Rattle.exo_source.specs.Views.{plain_attribute}
-use Rattle.exo_source.specs.declared.source.SourceAttribute.{SourceAttribute}
-use Rattle.exo_names.specs.declared.fault.Fault.{Fault}
-use Rattle.exo_names.specs.declared.fault.Charge.{Charge}
-use Rattle.exo_names.specs.Faults.{charged, least, or_else}
+use Rattle.exo_reader.specs.Views.{plain_attribute}
+use Rattle.exo_reader.specs.declared.source.SourceAttribute.{SourceAttribute}
+use Rattle.rules_names.specs.declared.fault.Fault.{Fault}
+use Rattle.rules_names.specs.declared.fault.Charge.{Charge}
+use Rattle.rules_names.specs.Faults.{charged, least, or_else}
 use Rattle.exo_types.specs.MemoryRules.{attribute_faults, attributes_fault, attribute_width, attributes_width}
 use Rattle.exo_types.proofs.Lists.{drop_read}
 

@@ -5,14 +5,14 @@ use Rattle.exo_tree.specs.Tree as tree
 use Rattle.exo_meaning.specs.Scene.{updated}
 use Rattle.exo_meaning.specs.Units as units
 use Rattle.exo_meaning.specs.Units.{Scope, Named, Sort, BufferName, with_name, view_sort, sort_in}
-use Rattle.exo_reader.specs.Expression.{Tree}
-use Rattle.exo_source.specs.Source.{TypeName, Coordinate, allocate, view}
-use Rattle.exo_names.specs.declared.fault.Fault.{Fault}
-use Rattle.exo_names.specs.Faults.{or_else}
-use Rattle.exo_names.specs.Names.{named_in, sort_of, id_in}
-use Rattle.exo_names.specs.ExpressionRules.{is_buffer, name_faults}
-use Rattle.exo_names.specs.Resolved.{controls_of}
-use Rattle.exo_names.specs.WindowRules.{coordinates_of, window_faults}
+use Rattle.text_expressions.specs.Expression.{Tree}
+use Rattle.exo_reader.specs.Source.{TypeName, Coordinate, allocate, view}
+use Rattle.rules_names.specs.declared.fault.Fault.{Fault}
+use Rattle.rules_names.specs.Faults.{or_else}
+use Rattle.rules_names.specs.Names.{named_in, sort_of, id_in}
+use Rattle.rules_names.specs.ExpressionRules.{is_buffer, name_faults}
+use Rattle.rules_names.specs.Resolved.{controls_of}
+use Rattle.rules_names.specs.WindowRules.{coordinates_of, window_faults}
 use Rattle.exo_writes.specs.Written.{roots_in}
 use Rattle.exo_types.specs.declared.context.Context.{Context}
 use Rattle.exo_types.specs.declared.context.Walk.{Walk}

@@ -1,6 +1,6 @@
 -- A statement has more tokens than it binds names.
 use Rattle.std.proofs.Common.{◌+◌, ◌≤◌, arith}
-use Rattle.exo_source.specs.Source.{Statement, Block, pass, branch, loop, allocate, call, configure, assign, reduce, view, end, next}
+use Rattle.exo_reader.specs.Source.{Statement, Block, pass, branch, loop, allocate, call, configure, assign, reduce, view, end, next}
 use Rattle.exo_types.specs.StatementRules.{statement_width, block_width, else_width, bound, bound_in}
 
 mutual

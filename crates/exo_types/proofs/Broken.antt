@@ -2,11 +2,11 @@
 use Rattle.std.proofs.Common.{◌≡◌, ℕ, Bool, true, false, not, List, [], ◌∷◌, ◌++◌, Option, Some, None, Result, Ok, Err, MatchResult, if◌then◌else◌, refl, ap, sym, subst, ◌∙◌}
 use Rattle.std.specs.Result.{IsErrAnd}
 use Rattle.exo_meaning.specs.Units.{Named, Scope}
-use Rattle.exo_names.specs.declared.fault.Fault.{Fault}
-use Rattle.exo_names.specs.declared.fault.Charge.{Charge}
-use Rattle.exo_names.specs.Faults.{charged, least, earlier, is_before, or_else, unless}
-use Rattle.exo_names.specs.declared.error.TypeKind.TheVariants.{Redefined}
-use Rattle.exo_names.specs.Names.{named_in}
+use Rattle.rules_names.specs.declared.fault.Fault.{Fault}
+use Rattle.rules_names.specs.declared.fault.Charge.{Charge}
+use Rattle.rules_names.specs.Faults.{charged, least, earlier, is_before, or_else, unless}
+use Rattle.rules_names.specs.declared.error.TypeKind.TheVariants.{Redefined}
+use Rattle.rules_names.specs.Names.{named_in}
 use Rattle.exo_types.specs.Refusals.{Refuses}
 use Rattle.exo_types.specs.TypeRules.{binder_faults}
 use Rattle.exo_types.specs.declared.refusal.Refusal.{Refusal}

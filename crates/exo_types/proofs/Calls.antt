@@ -3,11 +3,11 @@ use Rattle.std.proofs.Common.{◌≡◌, ℕ, zero, suc, ◌+◌, ◌<◌, ◌�
 use Rattle.std.proofs.lemmas.List.{drop_all}
 use Rattle.exo_tree.specs.Tree.{ConfigField, Param}
 use Rattle.exo_meaning.specs.Units.{Scope, root_of, field_kind}
-use Rattle.exo_source.specs.Source.{Argument}
-use Rattle.exo_names.specs.declared.fault.Fault.{Fault}
+use Rattle.exo_reader.specs.Source.{Argument}
+use Rattle.rules_names.specs.declared.fault.Fault.{Fault}
 use Rattle.exo_types.specs.ArgumentRules.{argument_of, arguments_of, argument_faults, arguments_faults, is_passed, spaced_width, argument_width}
-use Rattle.exo_names.specs.declared.error.TypeKind.TheVariants.{SharedArgument}
-use Rattle.exo_names.specs.Faults.{unless}
+use Rattle.rules_names.specs.declared.error.TypeKind.TheVariants.{SharedArgument}
+use Rattle.rules_names.specs.Faults.{unless}
 use Rattle.exo_types.specs.declared.call.Passed.{Passed}
 use Rattle.exo_types.proofs.Lists.{drop_read}
 

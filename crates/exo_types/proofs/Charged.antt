@@ -4,20 +4,20 @@ use Rattle.std.proofs.Common.{◌≡◌, ℕ, suc, ◌+◌, ◌≤◌, ◌<◌, 
 use Rattle.std.proofs.lemmas.List.{length-append}
 use Rattle.exo_tree.specs.Tree.{Kind, Cell, ConfigField, Param, ParamKind, ControlParam, TensorParam, WindowParam}
 use Rattle.exo_meaning.specs.Units.{Sort, ControlName, BufferName, Scope, Reads, plainly, with_both, is_truth, is_number, is_flag, has_cell, root_of, field_kind}
-use Rattle.exo_lexer.specs.declared.token.Literal.{Literal}
-use Rattle.exo_lexer.specs.declared.token.Token.TheVariants as t
-use Rattle.exo_lexer.specs.declared.token.Sign.TheVariants as s
-use Rattle.exo_reader.specs.declared.source.Operator.{Operator}
-use Rattle.exo_reader.specs.declared.source.Operator.TheVariants as o
-use Rattle.exo_reader.specs.Expression.{Tree, Trees, number, truth, variable, access, field, stride, relu, select, negative, parens, binary, end, next, spelling, spelling_list, spelling_more}
-use Rattle.exo_source.specs.Source.{Coordinate, point, span, Argument, value, window, TypeName}
-use Rattle.exo_names.specs.declared.error.TypeKind.{TypeKind}
-use Rattle.exo_names.specs.declared.error.TypeKind.TheVariants as k
-use Rattle.exo_names.specs.declared.fault.Fault.{Fault}
-use Rattle.exo_names.specs.Faults.{fault, unless, earlier, least, or_else, is_before, any_hides, parts_then_whole}
-use Rattle.exo_names.specs.Names.{named_in, sort_of, field_in, name_number}
-use Rattle.exo_names.specs.ExpressionRules.{width, commas_width, closed_width, is_arithmetic, is_quotient, joins_conditions, may_be_control, may_be_condition, may_be_data, has_variables, is_divisor, name_faults, is_buffer, rank_faults, is_below, dimension_faults, field_faults, affine_faults, no_such_field, list_of, unknown_first, wrong_form, control_faults, controls_faults, condition_faults, read_faults, data_faults}
-use Rattle.exo_names.specs.WindowRules.{coordinate_width, coordinates_width, coordinate_faults, coordinates_faults, window_faults}
+use Rattle.text_lexer.specs.declared.token.Literal.{Literal}
+use Rattle.text_lexer.specs.declared.token.Token.TheVariants as t
+use Rattle.text_lexer.specs.declared.token.Sign.TheVariants as s
+use Rattle.text_expressions.specs.declared.source.Operator.{Operator}
+use Rattle.text_expressions.specs.declared.source.Operator.TheVariants as o
+use Rattle.text_expressions.specs.Expression.{Tree, Trees, number, truth, variable, access, field, stride, relu, select, negative, parens, binary, end, next, spelling, spelling_list, spelling_more}
+use Rattle.exo_reader.specs.Source.{Coordinate, point, span, Argument, value, window, TypeName}
+use Rattle.rules_names.specs.declared.error.TypeKind.{TypeKind}
+use Rattle.rules_names.specs.declared.error.TypeKind.TheVariants as k
+use Rattle.rules_names.specs.declared.fault.Fault.{Fault}
+use Rattle.rules_names.specs.Faults.{fault, unless, earlier, least, or_else, is_before, any_hides, parts_then_whole}
+use Rattle.rules_names.specs.Names.{named_in, sort_of, field_in, name_number}
+use Rattle.rules_names.specs.ExpressionRules.{width, commas_width, closed_width, is_arithmetic, is_quotient, joins_conditions, may_be_control, may_be_condition, may_be_data, has_variables, is_divisor, name_faults, is_buffer, rank_faults, is_below, dimension_faults, field_faults, affine_faults, no_such_field, list_of, unknown_first, wrong_form, control_faults, controls_faults, condition_faults, read_faults, data_faults}
+use Rattle.rules_names.specs.WindowRules.{coordinate_width, coordinates_width, coordinate_faults, coordinates_faults, window_faults}
 use Rattle.exo_types.specs.declared.call.Passed.{Passed}
 use Rattle.exo_types.specs.TypeRules.{cell_named, kind_named, no_cell_faults, cell_faults, no_kind_faults, kind_faults, is_taken, binder_faults, named_memory_faults, memory_faults, memory_width}
 use Rattle.exo_types.specs.ArgumentRules as rules

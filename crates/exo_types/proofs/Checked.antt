@@ -1,11 +1,11 @@
 -- What the check of a text tells, by what its items are refused for.
 use Rattle.std.proofs.Common.{◌≡◌, List, length, slice_get, ap, sym, ◌∙◌, subst, arith}
-use Rattle.exo_lexer.specs.declared.place.Place.{Place}
-use Rattle.exo_source.specs.declared.unit.Source.{Source}
+use Rattle.text_lexer.specs.declared.place.Place.{Place}
+use Rattle.exo_reader.specs.declared.unit.Source.{Source}
 use Rattle.exo_tree.specs.declared.unit.Unit as tree
-use Rattle.exo_names.specs.declared.error.TypeKind.{TypeKind}
-use Rattle.exo_names.specs.declared.error.TypeKind.TheVariants as k
-use Rattle.exo_names.specs.declared.error.TypeError.{TypeError}
+use Rattle.rules_names.specs.declared.error.TypeKind.{TypeKind}
+use Rattle.rules_names.specs.declared.error.TypeKind.TheVariants as k
+use Rattle.rules_names.specs.declared.error.TypeError.{TypeError}
 use Rattle.exo_types.specs.declared.refusal.Refusal.{Refusal}
 use Rattle.exo_types.specs.declared.refusal.Refusal.TheVariants.{Memory, Broken}
 use Rattle.exo_types.specs.Refusals.{Refuses}

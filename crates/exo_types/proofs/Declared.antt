@@ -5,14 +5,14 @@ use Rattle.std.proofs.lemmas.List.{append-nil, length-append, length-map, map-ap
 use Rattle.exo_tree.specs.Tree.{MemoryKind}
 use Rattle.exo_tree.specs.PlainUnit.{program}
 use Rattle.exo_meaning.specs.Units.{is_text}
-use Rattle.exo_source.specs.Source as source
-use Rattle.exo_source.specs.Source.{Attribute, Setting, configuration, memory}
-use Rattle.exo_lexer.specs.declared.place.Place.{Place}
-use Rattle.exo_names.specs.declared.fault.Fault.{Fault}
-use Rattle.exo_names.specs.declared.fault.Charge.{Charge}
-use Rattle.exo_names.specs.declared.error.TypeKind.TheVariants.{Redefined}
-use Rattle.exo_names.specs.Faults.{charged, or_else, least, unless}
-use Rattle.exo_names.specs.Names.{name_number}
+use Rattle.exo_reader.specs.Source as source
+use Rattle.exo_reader.specs.Source.{Attribute, Setting, configuration, memory}
+use Rattle.text_lexer.specs.declared.place.Place.{Place}
+use Rattle.rules_names.specs.declared.fault.Fault.{Fault}
+use Rattle.rules_names.specs.declared.fault.Charge.{Charge}
+use Rattle.rules_names.specs.declared.error.TypeKind.TheVariants.{Redefined}
+use Rattle.rules_names.specs.Faults.{charged, or_else, least, unless}
+use Rattle.rules_names.specs.Names.{name_number}
 use Rattle.exo_writes.specs.Written.{rows_say}
 use Rattle.exo_types.specs.declared.attribute.Trait.{Trait}
 use Rattle.exo_types.specs.declared.attribute.Trait.TheVariants.{Ctype, Lanes, CellType, MayRead, MayWrite, MayReduce, Header}

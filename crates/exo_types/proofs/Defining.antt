@@ -4,11 +4,11 @@ use Rattle.std.proofs.lemmas.List.{append-nil}
 use Rattle.exo_tree.specs.Tree as tree
 use Rattle.exo_tree.specs.Tree.{ConfigField, Param}
 use Rattle.exo_meaning.specs.Units.{Scope, scope_of, with_name, param_sort}
-use Rattle.exo_source.specs.Source.{Parameter, Definition, block_of}
-use Rattle.exo_names.specs.declared.fault.Fault.{Fault}
-use Rattle.exo_names.specs.Faults.{or_else}
-use Rattle.exo_names.specs.ExpressionRules.{width}
-use Rattle.exo_names.specs.Resolved.{condition_of}
+use Rattle.exo_reader.specs.Source.{Parameter, Definition, block_of}
+use Rattle.rules_names.specs.declared.fault.Fault.{Fault}
+use Rattle.rules_names.specs.Faults.{or_else}
+use Rattle.rules_names.specs.ExpressionRules.{width}
+use Rattle.rules_names.specs.Resolved.{condition_of}
 use Rattle.exo_writes.specs.Written.{roots_in}
 use Rattle.exo_types.specs.declared.context.Context.{Context}
 use Rattle.exo_types.specs.declared.context.Walk.{Walk}

@@ -1,14 +1,14 @@
 -- Source expressions that stand for parts of buffers: their trees, and how many tokens they have.
 use Rattle.std.proofs.Common.{◌≡◌, ℕ, suc, List, [], ◌∷◌, length, map, refl, sym, ap, ◌∙◌, arith}
 use Rattle.std.proofs.lemmas.List.{length-append}
-use Rattle.exo_lexer.specs.declared.token.Token.TheVariants as t
-use Rattle.exo_lexer.specs.declared.token.Sign.TheVariants as s
-use Rattle.exo_reader.specs.Expression.{Tree, variable, access, parens, trees, spelling, spelling_list, spelling_more}
-use Rattle.exo_reader.specs.Views.{tree_of, tree_step}
-use Rattle.exo_reader.specs.declared.source.SourceExpr.{SourceExpr}
-use Rattle.exo_reader.specs.declared.source.SourceExpr.TheVariants.{Name, Access, Parens, rolls-Name, rolls-Access, rolls-Parens}
-use Rattle.exo_reader.specs.declared.source.SourceExpr.TheFolds.{fold-roll-SourceExpr}
-use Rattle.exo_names.specs.ExpressionRules.{width, commas_width, closed_width, list_of}
+use Rattle.text_lexer.specs.declared.token.Token.TheVariants as t
+use Rattle.text_lexer.specs.declared.token.Sign.TheVariants as s
+use Rattle.text_expressions.specs.Expression.{Tree, variable, access, parens, trees, spelling, spelling_list, spelling_more}
+use Rattle.text_expressions.specs.Views.{tree_of, tree_step}
+use Rattle.text_expressions.specs.declared.source.SourceExpr.{SourceExpr}
+use Rattle.text_expressions.specs.declared.source.SourceExpr.TheVariants.{Name, Access, Parens, rolls-Name, rolls-Access, rolls-Parens}
+use Rattle.text_expressions.specs.declared.source.SourceExpr.TheFolds.{fold-roll-SourceExpr}
+use Rattle.rules_names.specs.ExpressionRules.{width, commas_width, closed_width, list_of}
 
 -- an expression of each form is this tree
 pub is_name : (e : SourceExpr) (x : List ℕ) → e ≡ Name x → tree_of e ≡ variable x

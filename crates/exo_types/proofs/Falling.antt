@@ -2,7 +2,7 @@
 use Rattle.std.proofs.Common.{◌≡◌, ℕ, ◌==◌, ◌<◌, ◌≤◌, Bool, true, false, List, [], ◌∷◌, Some, None, if◌then◌else◌, ap, sym, ◌∙◌, arith}
 use Rattle.std.proofs.lemmas.Bool.{eq-eqb, ne_eqb}
 use Rattle.exo_meaning.specs.Units.{Named, Scope, is_text, sort_in}
-use Rattle.exo_names.specs.Names.{named_in, sort_of, id_in}
+use Rattle.rules_names.specs.Names.{named_in, sort_of, id_in}
 use Rattle.exo_types.specs.Walks.{Falls}
 
 -- a larger bound

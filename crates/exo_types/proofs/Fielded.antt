@@ -4,10 +4,10 @@ use Rattle.std.specs.List.{list_any}
 use Rattle.std.proofs.lemmas.List.{append-nil, length-append, length-map}
 use Rattle.exo_tree.specs.Tree.{ConfigField}
 use Rattle.exo_meaning.specs.Units.{is_text, same_field}
-use Rattle.exo_source.specs.Source as source
-use Rattle.exo_names.specs.declared.fault.Fault.{Fault}
-use Rattle.exo_names.specs.declared.error.TypeKind.TheVariants.{Redefined}
-use Rattle.exo_names.specs.Faults.{or_else, least, unless}
+use Rattle.exo_reader.specs.Source as source
+use Rattle.rules_names.specs.declared.fault.Fault.{Fault}
+use Rattle.rules_names.specs.declared.error.TypeKind.TheVariants.{Redefined}
+use Rattle.rules_names.specs.Faults.{or_else, least, unless}
 use Rattle.exo_types.specs.declared.refusal.Refusal.{Refusal}
 use Rattle.exo_types.specs.Refusals.{Refuses}
 use Rattle.exo_types.specs.TypeRules.{kind_faults}

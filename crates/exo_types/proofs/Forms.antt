@@ -1,13 +1,13 @@
 -- The plain form of each kind of statement.
 use Rattle.std.proofs.Common.{◌≡◌, List, sym, ap, ◌∙◌, map}
-use Rattle.exo_reader.specs.Views.{tree_of}
-use Rattle.exo_reader.specs.declared.source.SourceExpr.{SourceExpr}
-use Rattle.exo_source.specs.Source.{Statement, block_of, pass, branch, loop, allocate, call, configure, assign, reduce, view}
-use Rattle.exo_source.specs.Views.{plain_coordinate, plain_argument, plain_kind, statement_step, plain_statement}
-use Rattle.exo_source.specs.declared.source.SourceCoord.{SourceCoord}
-use Rattle.exo_source.specs.declared.source.SourceStmt.{SourceStmt}
-use Rattle.exo_source.specs.declared.source.SourceStmt.TheVariants.{Pass, If, For, Alloc, Call, Config, Assign, Reduce, View, rolls-Pass, rolls-If, rolls-For, rolls-Alloc, rolls-Call, rolls-Config, rolls-Assign, rolls-Reduce, rolls-View}
-use Rattle.exo_source.specs.declared.source.SourceStmt.TheFolds.{fold-roll-SourceStmt}
+use Rattle.text_expressions.specs.Views.{tree_of}
+use Rattle.text_expressions.specs.declared.source.SourceExpr.{SourceExpr}
+use Rattle.exo_reader.specs.Source.{Statement, block_of, pass, branch, loop, allocate, call, configure, assign, reduce, view}
+use Rattle.exo_reader.specs.Views.{plain_coordinate, plain_argument, plain_kind, statement_step, plain_statement}
+use Rattle.exo_reader.specs.declared.source.SourceCoord.{SourceCoord}
+use Rattle.exo_reader.specs.declared.source.SourceStmt.{SourceStmt}
+use Rattle.exo_reader.specs.declared.source.SourceStmt.TheVariants.{Pass, If, For, Alloc, Call, Config, Assign, Reduce, View, rolls-Pass, rolls-If, rolls-For, rolls-Alloc, rolls-Call, rolls-Config, rolls-Assign, rolls-Reduce, rolls-View}
+use Rattle.exo_reader.specs.declared.source.SourceStmt.TheFolds.{fold-roll-SourceStmt}
 
 pub is_pass : (s : SourceStmt) → s ≡ Pass → plain_statement s ≡ pass
 is_pass s p = ap plain_statement p ∙ ap plain_statement (sym rolls-Pass) ∙ fold-roll-SourceStmt Statement statement_step _

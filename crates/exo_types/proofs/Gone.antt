@@ -1,9 +1,9 @@
 -- What has been charged, and what is left to charge.
 use Rattle.std.proofs.Common.{◌≡◌, List, [], ◌++◌, append_assoc, ap, sym, refl, ◌∙◌}
 use Rattle.std.proofs.lemmas.List.{append-nil}
-use Rattle.exo_names.specs.Faults.{charged}
-use Rattle.exo_names.specs.declared.fault.Fault.{Fault}
-use Rattle.exo_names.specs.declared.fault.Charge.{Charge}
+use Rattle.rules_names.specs.Faults.{charged}
+use Rattle.rules_names.specs.declared.fault.Fault.{Fault}
+use Rattle.rules_names.specs.declared.fault.Charge.{Charge}
 
 -- the charge is that of the first of the faults, before the rest
 pub record Gone (sum : Charge) (rest whole : List Fault) : Type 0 where

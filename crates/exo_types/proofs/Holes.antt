@@ -5,7 +5,7 @@ use Rattle.std.proofs.lemmas.List.{take_more, get_or-drop, length-drop}
 use Rattle.std.specs.List.{list_any}
 use Rattle.exo_tree.specs.Tree.{Kind, ConfigField, Param}
 use Rattle.exo_meaning.specs.Units.{Scope, is_text, data_ending, is_hole_of, Plain, InHole, holes_fit}
-use Rattle.exo_source.specs.Source.{Form, plain, strided, Parameter}
+use Rattle.exo_reader.specs.Source.{Form, plain, strided, Parameter}
 use Rattle.exo_types.specs.TypeRules.{kind_named}
 use Rattle.exo_types.specs.ItemRules.{scalar_of, form_of, param_of, with_param, params_from}
 use Rattle.exo_types.specs.HoleRules.{is_control, is_written_hole, HaveHoles}

@@ -1,10 +1,10 @@
 -- Items one after another: what has been added, and what is left.
 use Rattle.std.proofs.Common.{◌≡◌, ℕ, ◌+◌, List, [], ◌∷◌, ◌++◌, Option, None, refl, ap, sym, ◌∙◌, append_assoc, arith}
 use Rattle.std.proofs.lemmas.List.{append-nil}
-use Rattle.exo_source.specs.Source.{Item}
-use Rattle.exo_lexer.specs.declared.place.Place.{Place}
-use Rattle.exo_names.specs.declared.fault.Fault.{Fault}
-use Rattle.exo_names.specs.Faults.{or_else}
+use Rattle.exo_reader.specs.Source.{Item}
+use Rattle.text_lexer.specs.declared.place.Place.{Place}
+use Rattle.rules_names.specs.declared.fault.Fault.{Fault}
+use Rattle.rules_names.specs.Faults.{or_else}
 use Rattle.exo_types.specs.declared.refusal.Refusal.{Refusal}
 use Rattle.exo_types.specs.declared.typed.Typed.{Typed}
 use Rattle.exo_types.specs.Refusals.{Refuses}

@@ -6,8 +6,8 @@ use Rattle.std.proofs.lemmas.List.{append-nil}
 use Rattle.std.proofs.lemmas.List.Folds.{list_any-append}
 use Rattle.exo_tree.specs.Tree.{ConfigField}
 use Rattle.exo_meaning.specs.Units.{is_text, same_field}
-use Rattle.exo_source.specs.Source as source
-use Rattle.exo_names.specs.Names.{number_from, name_number, field_from, field_in}
+use Rattle.exo_reader.specs.Source as source
+use Rattle.rules_names.specs.Names.{number_from, name_number, field_from, field_in}
 use Rattle.exo_types.specs.ItemRules.{field_of}
 
 if_some : {A : Type 0} (b : Bool) (a : A) (o : Option A) → is_some (if b then Some a else o) ≡ (b || is_some o)

@@ -6,11 +6,11 @@ use Rattle.std.proofs.Math.Seq.{take-length}
 use Rattle.exo_tree.specs.Tree as tree
 use Rattle.exo_tree.specs.Tree.{Index}
 use Rattle.exo_meaning.specs.Units.{Scope, ControlName, with_name}
-use Rattle.exo_reader.specs.Expression.{Tree}
-use Rattle.exo_source.specs.Source.{Statement, Block, end, next, branch, loop}
-use Rattle.exo_source.specs.Source as source
-use Rattle.exo_names.specs.ExpressionRules.{width}
-use Rattle.exo_names.specs.Resolved.{control_of, condition_of}
+use Rattle.text_expressions.specs.Expression.{Tree}
+use Rattle.exo_reader.specs.Source.{Statement, Block, end, next, branch, loop}
+use Rattle.exo_reader.specs.Source as source
+use Rattle.rules_names.specs.ExpressionRules.{width}
+use Rattle.rules_names.specs.Resolved.{control_of, condition_of}
 use Rattle.exo_writes.specs.Written.{roots_in}
 use Rattle.exo_types.specs.declared.refusal.Refusal.{Refusal}
 use Rattle.exo_types.specs.declared.context.Context.{Context}

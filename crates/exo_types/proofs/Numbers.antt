@@ -1,7 +1,7 @@
 -- The number of a name is below how many names there are.
 use Rattle.std.proofs.Common.{◌≡◌, ℕ, suc, ◌+◌, ◌<◌, Bool, true, false, List, [], ◌∷◌, Option, Some, length, if◌then◌else◌, arith}
 use Rattle.exo_meaning.specs.Units.{is_text}
-use Rattle.exo_names.specs.Names.{number_from, name_number}
+use Rattle.rules_names.specs.Names.{number_from, name_number}
 
 below_if : (n k m : ℕ) (b : Bool) (o : Option ℕ) → (o ≡ Some k → k < n + 1 + m) → (if b then Some n else o) ≡ Some k → k < n + suc m
 below_if n k m true o f h = let e : n ≡ k = cc in omega (arith, e)

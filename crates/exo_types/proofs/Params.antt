@@ -3,9 +3,9 @@ use Rattle.std.proofs.Common.{◌≡◌, ℕ, ◌+◌, List, [], ◌∷◌, ◌+
 use Rattle.exo_tree.specs.Tree as tree
 use Rattle.exo_tree.specs.Tree.{ConfigField}
 use Rattle.exo_meaning.specs.Units.{Scope, Sort, plainly, with_name, param_sort}
-use Rattle.exo_reader.specs.Expression.{Tree}
-use Rattle.exo_source.specs.Source.{TypeName, plain, Parameter}
-use Rattle.exo_names.specs.ExpressionRules.{controls_faults}
+use Rattle.text_expressions.specs.Expression.{Tree}
+use Rattle.exo_reader.specs.Source.{TypeName, plain, Parameter}
+use Rattle.rules_names.specs.ExpressionRules.{controls_faults}
 use Rattle.exo_types.specs.declared.context.Context.{Context}
 use Rattle.exo_types.specs.declared.context.Walk.{Walk}
 use Rattle.exo_types.specs.TypeRules.{binder, cell_faults, memory_faults}

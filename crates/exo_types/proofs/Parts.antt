@@ -4,11 +4,11 @@ use Rattle.std.proofs.Common.{◌≡◌, ◌==◌, ℕ, suc, true, false, arith,
 use Rattle.std.proofs.lemmas.List.{length-map}
 use Rattle.exo_tree.specs.Tree.{ConfigField}
 use Rattle.exo_meaning.specs.Units.{Sort, Scope, Reads, plainly}
-use Rattle.exo_reader.specs.Expression.{Tree}
-use Rattle.exo_source.specs.Source.{point}
-use Rattle.exo_names.specs.Names.{named_in, sort_of}
-use Rattle.exo_names.specs.ExpressionRules.{width, closed_width, name_faults, rank_faults, control_faults, controls_faults}
-use Rattle.exo_names.specs.WindowRules.{coordinates_faults, window_faults}
+use Rattle.text_expressions.specs.Expression.{Tree}
+use Rattle.exo_reader.specs.Source.{point}
+use Rattle.rules_names.specs.Names.{named_in, sort_of}
+use Rattle.rules_names.specs.ExpressionRules.{width, closed_width, name_faults, rank_faults, control_faults, controls_faults}
+use Rattle.rules_names.specs.WindowRules.{coordinates_faults, window_faults}
 use Rattle.exo_types.specs.ArgumentRules.{points, dims_width}
 
 module _ (fields : List ConfigField) where

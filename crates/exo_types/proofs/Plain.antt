@@ -7,14 +7,14 @@ use Rattle.exo_tree.specs.Tree as tree
 use Rattle.exo_tree.specs.Tree.{Kind}
 use Rattle.exo_meaning.specs.Run.{roots_after}
 use Rattle.exo_meaning.specs.Units.{scope_after}
-use Rattle.exo_reader.specs.Expression.{Tree}
-use Rattle.exo_source.specs.Source as source
-use Rattle.exo_source.specs.Source.{Statement, pass, call, configure, assign, reduce}
-use Rattle.exo_names.specs.declared.fault.Fault.{Fault}
-use Rattle.exo_names.specs.declared.error.TypeKind.TheVariants.{RankMismatch}
-use Rattle.exo_names.specs.Faults.{or_else, least, unless}
-use Rattle.exo_names.specs.Names.{id_in, name_number, field_in, no_id}
-use Rattle.exo_names.specs.Resolved.{controls_of, datum_of, field_number}
+use Rattle.text_expressions.specs.Expression.{Tree}
+use Rattle.exo_reader.specs.Source as source
+use Rattle.exo_reader.specs.Source.{Statement, pass, call, configure, assign, reduce}
+use Rattle.rules_names.specs.declared.fault.Fault.{Fault}
+use Rattle.rules_names.specs.declared.error.TypeKind.TheVariants.{RankMismatch}
+use Rattle.rules_names.specs.Faults.{or_else, least, unless}
+use Rattle.rules_names.specs.Names.{id_in, name_number, field_in, no_id}
+use Rattle.rules_names.specs.Resolved.{controls_of, datum_of, field_number}
 use Rattle.exo_writes.specs.Written.{roots_in}
 use Rattle.exo_types.specs.declared.context.Context.{Context}
 use Rattle.exo_types.specs.declared.context.Walk.{Walk}

@@ -1,10 +1,10 @@
 -- Procedures and instructions as items.
 use Rattle.std.proofs.Common.{◌≡◌, ℕ, ◌+◌, ◌≤◌, List, [], ◌∷◌, ◌++◌, Some, None, Result, Ok, Err, MatchResult, length, ap, sym, ◌∙◌, subst, arith}
 use Rattle.std.proofs.lemmas.List.{length-map}
-use Rattle.exo_lexer.specs.declared.place.Place.{Place}
-use Rattle.exo_source.specs.Source.{Definition, procedure, instruction}
-use Rattle.exo_source.specs.Items.{joined}
-use Rattle.exo_names.specs.Faults.{least}
+use Rattle.text_lexer.specs.declared.place.Place.{Place}
+use Rattle.exo_reader.specs.Source.{Definition, procedure, instruction}
+use Rattle.exo_reader.specs.Items.{joined}
+use Rattle.rules_names.specs.Faults.{least}
 use Rattle.exo_types.specs.declared.refusal.Refusal.{Refusal}
 use Rattle.exo_types.specs.declared.typed.Typed.{Typed}
 use Rattle.exo_types.specs.Refusals.{Refuses}

@@ -3,8 +3,8 @@ use Rattle.std.proofs.Common.{◌≡◌, suc, List, [], ◌∷◌, refl, ap}
 use Rattle.exo_tree.specs.Tree.{ConfigField}
 use Rattle.exo_meaning.specs.Units as units
 use Rattle.exo_meaning.specs.Units.{Scope}
-use Rattle.exo_source.specs.Source.{Coordinate, point, span}
-use Rattle.exo_names.specs.WindowRules.{coordinates_of}
+use Rattle.exo_reader.specs.Source.{Coordinate, point, span}
+use Rattle.rules_names.specs.WindowRules.{coordinates_of}
 use Rattle.exo_types.specs.ArgumentRules.{spans}
 
 pub same_spans : (fields : List ConfigField) (scope : Scope) (cs : List Coordinate) → spans cs ≡ units.spans (coordinates_of fields scope cs)

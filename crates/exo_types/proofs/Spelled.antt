@@ -1,22 +1,22 @@
 -- How many tokens the phrases of a unit have: each is spelled by as many as its width says.
 use Rattle.std.proofs.Common.{◌≡◌, ℕ, suc, ◌+◌, ◌*◌, List, [], ◌∷◌, ◌++◌, length, Option, Some, None, Bool, true, false, refl, ap, arith}
 use Rattle.std.proofs.lemmas.List.{length-append}
-use Rattle.phrases.specs.Limits.{Limits, unlimited}
-use Rattle.phrases.specs.Sequence.{AllFit, spell_all}
-use Rattle.phrases.specs.Commas.{spell_more, spell_listing}
-use Rattle.exo_lexer.specs.declared.token.Token.{Token}
-use Rattle.exo_lexer.specs.declared.token.Token.TheVariants.{Sign, NewLine, Indent, Dedent}
-use Rattle.exo_lexer.specs.declared.token.Sign.TheVariants as s
-use Rattle.exo_reader.specs.Expression.{Tree, spelling, control}
-use Rattle.exo_source.specs.Source as source
-use Rattle.exo_source.specs.Source.{Coordinate, point, span, Argument, value, window, TypeName, named, Form, plain, strided, Parameter, Definition, Statement, pass, branch, loop, allocate, call, configure, assign, reduce, view, Block, end, next, block_of, Setting, strings, int, yes, no, Attribute, Item, procedure, instruction, configuration, memory}
-use Rattle.exo_source.specs.Parts.{spell_enclosed, dims, maybe_dims, type_name, maybe_memory, form, parameter, parameters}
-use Rattle.exo_source.specs.Statements as st
-use Rattle.exo_source.specs.Statements.{HasSpan, coordinate, coordinates, argument, arguments, indented, spelling_all, spelling_else, StatementFits, BlockFits, statement, body}
-use Rattle.exo_source.specs.Items as phrase
-use Rattle.exo_source.specs.Items.{neighbours, setting, attribute, assertion, assertions, definition, item, unit}
-use Rattle.exo_names.specs.ExpressionRules.{width, commas_width, closed_width}
-use Rattle.exo_names.specs.WindowRules.{coordinate_width, coordinates_width}
+use Rattle.text_phrases.specs.Limits.{Limits, unlimited}
+use Rattle.text_phrases.specs.Sequence.{AllFit, spell_all}
+use Rattle.text_phrases.specs.Commas.{spell_more, spell_listing}
+use Rattle.text_lexer.specs.declared.token.Token.{Token}
+use Rattle.text_lexer.specs.declared.token.Token.TheVariants.{Sign, NewLine, Indent, Dedent}
+use Rattle.text_lexer.specs.declared.token.Sign.TheVariants as s
+use Rattle.text_expressions.specs.Expression.{Tree, spelling, control}
+use Rattle.exo_reader.specs.Source as source
+use Rattle.exo_reader.specs.Source.{Coordinate, point, span, Argument, value, window, TypeName, named, Form, plain, strided, Parameter, Definition, Statement, pass, branch, loop, allocate, call, configure, assign, reduce, view, Block, end, next, block_of, Setting, strings, int, yes, no, Attribute, Item, procedure, instruction, configuration, memory}
+use Rattle.exo_reader.specs.Parts.{spell_enclosed, dims, maybe_dims, type_name, maybe_memory, form, parameter, parameters}
+use Rattle.exo_reader.specs.Statements as st
+use Rattle.exo_reader.specs.Statements.{HasSpan, coordinate, coordinates, argument, arguments, indented, spelling_all, spelling_else, StatementFits, BlockFits, statement, body}
+use Rattle.exo_reader.specs.Items as phrase
+use Rattle.exo_reader.specs.Items.{neighbours, setting, attribute, assertion, assertions, definition, item, unit}
+use Rattle.rules_names.specs.ExpressionRules.{width, commas_width, closed_width}
+use Rattle.rules_names.specs.WindowRules.{coordinate_width, coordinates_width}
 use Rattle.exo_types.specs.TypeRules.{memory_width}
 use Rattle.exo_types.specs.ArgumentRules.{dims_width, argument_width, spaced_width, arguments_width, comma_width}
 use Rattle.exo_types.specs.StatementRules.{statement_width, block_width, else_width}

@@ -4,14 +4,14 @@ use Rattle.std.specs.List.{list_any}
 use Rattle.exo_tree.specs.Tree.{Kind, Index, ConfigField, MemoryKind}
 use Rattle.exo_meaning.specs.Units.{Scope, ControlName, plainly, with_fields, with_strides, with_both, with_name, scope_of, scope_after, is_template, is_memory, is_text, same_field}
 use Rattle.exo_meaning.specs.Run.{roots_after}
-use Rattle.exo_reader.specs.Expression.{Tree}
-use Rattle.exo_source.specs.Source as source
-use Rattle.exo_source.specs.Source.{TypeName, Form, plain, strided, Parameter, Definition, Statement, pass, branch, loop, allocate, call, configure, assign, reduce, view, Block, end, next, Attribute, Setting, Item, procedure, instruction, configuration, memory}
-use Rattle.exo_source.specs.Items.{joined}
-use Rattle.exo_names.specs.declared.error.TypeKind.TheVariants as k
-use Rattle.exo_names.specs.declared.fault.Fault.{Fault}
-use Rattle.exo_names.specs.Names.{field_in}
-use Rattle.exo_names.specs.ExpressionRules.{width, is_buffer, closed_width}
+use Rattle.text_expressions.specs.Expression.{Tree}
+use Rattle.exo_reader.specs.Source as source
+use Rattle.exo_reader.specs.Source.{TypeName, Form, plain, strided, Parameter, Definition, Statement, pass, branch, loop, allocate, call, configure, assign, reduce, view, Block, end, next, Attribute, Setting, Item, procedure, instruction, configuration, memory}
+use Rattle.exo_reader.specs.Items.{joined}
+use Rattle.rules_names.specs.declared.error.TypeKind.TheVariants as k
+use Rattle.rules_names.specs.declared.fault.Fault.{Fault}
+use Rattle.rules_names.specs.Names.{field_in}
+use Rattle.rules_names.specs.ExpressionRules.{width, is_buffer, closed_width}
 use Rattle.exo_types.specs.declared.attribute.Trait.{Trait}
 use Rattle.exo_types.specs.TypeRules.{kind_named, memory_width, binder}
 use Rattle.exo_types.specs.ArgumentRules.{Signature, dims_width, points}

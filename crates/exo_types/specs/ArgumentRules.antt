@@ -6,16 +6,16 @@ use Rattle.exo_tree.specs.Tree as tree
 use Rattle.exo_tree.specs.Tree.{Kind, Cell, ConfigField, Param, ParamKind, ControlParam, TensorParam, WindowParam}
 use Rattle.exo_meaning.specs.Calls.{Callee}
 use Rattle.exo_meaning.specs.Units.{Sort, Scope, Reads, with_both, is_truth, has_cell, is_dense, root_of, field_kind}
-use Rattle.exo_reader.specs.Expression.{Tree, variable, access, parens}
-use Rattle.exo_source.specs.Source.{Coordinate, point, span, Argument, value, window}
-use Rattle.exo_names.specs.declared.error.TypeKind.TheVariants.{UnknownName, RankMismatch, SharedArgument}
-use Rattle.exo_names.specs.declared.fault.Fault.{Fault}
-use Rattle.exo_names.specs.Faults.{fault, unless}
-use Rattle.exo_names.specs.Names.{named_in, sort_of, id_in, no_id}
-use Rattle.exo_names.specs.ExpressionRules.{width, closed_width, name_faults, rank_faults, wrong_form, control_faults, condition_faults, list_of}
+use Rattle.text_expressions.specs.Expression.{Tree, variable, access, parens}
+use Rattle.exo_reader.specs.Source.{Coordinate, point, span, Argument, value, window}
+use Rattle.rules_names.specs.declared.error.TypeKind.TheVariants.{UnknownName, RankMismatch, SharedArgument}
+use Rattle.rules_names.specs.declared.fault.Fault.{Fault}
+use Rattle.rules_names.specs.Faults.{fault, unless}
+use Rattle.rules_names.specs.Names.{named_in, sort_of, id_in, no_id}
+use Rattle.rules_names.specs.ExpressionRules.{width, closed_width, name_faults, rank_faults, wrong_form, control_faults, condition_faults, list_of}
 use Rattle.exo_types.specs.declared.call.Passed.{Passed}
-use Rattle.exo_names.specs.WindowRules.{coordinates_width, window_faults, coordinates_of}
-use Rattle.exo_names.specs.Resolved.{control_of, condition_of}
+use Rattle.rules_names.specs.WindowRules.{coordinates_width, window_faults, coordinates_of}
+use Rattle.rules_names.specs.Resolved.{control_of, condition_of}
 
 -- ---- how many tokens there are
 

@@ -5,12 +5,12 @@ use Rattle.exo_tree.specs.declared.control.Cond.{Cond}
 use Rattle.exo_tree.specs.PlainControl.{condition}
 use Rattle.exo_tree.specs.PlainProcedure as plain
 use Rattle.exo_meaning.specs.Units.{Scope, scope_of, with_both}
-use Rattle.exo_reader.specs.Expression.{Tree}
-use Rattle.exo_source.specs.Source.{Parameter, Definition, block_of}
-use Rattle.exo_names.specs.declared.fault.Fault.{Fault}
-use Rattle.exo_names.specs.Faults.{least}
-use Rattle.exo_names.specs.ExpressionRules.{condition_faults}
-use Rattle.exo_names.specs.Resolved.{condition_of}
+use Rattle.text_expressions.specs.Expression.{Tree}
+use Rattle.exo_reader.specs.Source.{Parameter, Definition, block_of}
+use Rattle.rules_names.specs.declared.fault.Fault.{Fault}
+use Rattle.rules_names.specs.Faults.{least}
+use Rattle.rules_names.specs.ExpressionRules.{condition_faults}
+use Rattle.rules_names.specs.Resolved.{condition_of}
 use Rattle.exo_types.specs.declared.context.Context.{Context}
 use Rattle.exo_types.specs.declared.context.Walk.{Walk}
 use Rattle.exo_types.specs.declared.definition.Defined.{Defined}

@@ -4,7 +4,7 @@ use Rattle.std.specs.List.{list_any}
 use Rattle.exo_tree.specs.Tree.{Param}
 use Rattle.exo_meaning.specs.Units as units
 use Rattle.exo_meaning.specs.Units.{is_text, data_ending, is_hole_of, holes_fit}
-use Rattle.exo_source.specs.Source.{Form, plain, strided, Parameter}
+use Rattle.exo_reader.specs.Source.{Form, plain, strided, Parameter}
 use Rattle.exo_types.specs.declared.template.Reading.{Reading}
 use Rattle.exo_types.specs.declared.template.Reading.TheVariants.{Plain, Opened, Closed, InHole}
 use Rattle.exo_types.specs.TypeRules.{kind_named}

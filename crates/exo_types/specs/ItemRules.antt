@@ -3,14 +3,14 @@ use Rattle.std.specs.Prelude.{ℕ, suc, ◌+◌, not, List, [], ◌∷◌, ◌++
 use Rattle.std.specs.List.{list_any}
 use Rattle.exo_tree.specs.Tree.{Kind, ConfigField, Procedure, Param, ParamKind, ControlParam, TensorParam, WindowParam}
 use Rattle.exo_meaning.specs.Units.{Scope, with_name, scope_of, param_sort, plainly, with_both, same_field}
-use Rattle.exo_reader.specs.Expression.{Tree}
-use Rattle.exo_source.specs.Source as source
-use Rattle.exo_source.specs.Source.{TypeName, Form, plain, strided, Parameter, Definition}
-use Rattle.exo_names.specs.declared.error.TypeKind.TheVariants.{Redefined, KindMismatch}
-use Rattle.exo_names.specs.declared.fault.Fault.{Fault}
-use Rattle.exo_names.specs.Faults.{fault, unless, least, or_else}
-use Rattle.exo_names.specs.ExpressionRules.{width, closed_width, controls_faults, condition_faults}
-use Rattle.exo_names.specs.Resolved.{controls_of, condition_of}
+use Rattle.text_expressions.specs.Expression.{Tree}
+use Rattle.exo_reader.specs.Source as source
+use Rattle.exo_reader.specs.Source.{TypeName, Form, plain, strided, Parameter, Definition}
+use Rattle.rules_names.specs.declared.error.TypeKind.TheVariants.{Redefined, KindMismatch}
+use Rattle.rules_names.specs.declared.fault.Fault.{Fault}
+use Rattle.rules_names.specs.Faults.{fault, unless, least, or_else}
+use Rattle.rules_names.specs.ExpressionRules.{width, closed_width, controls_faults, condition_faults}
+use Rattle.rules_names.specs.Resolved.{controls_of, condition_of}
 use Rattle.exo_types.specs.TypeRules.{kind_named, cell_faults, kind_faults, cell_of, kind_of, binder, binder_faults, memory_faults, memory_of, memory_width}
 use Rattle.exo_types.specs.ArgumentRules.{Signature, dims_width, comma_width}
 use Rattle.exo_types.specs.StatementRules.{block_width, block_of, block_fault}

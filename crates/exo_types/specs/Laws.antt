@@ -1,14 +1,14 @@
 -- Laws of widths, of what procedures write, and of texts that are read.
 use Rattle.std.specs.Prelude.{◌≡◌, ℕ, ◌≤◌, List, length, map}
-use Rattle.phrases.specs.Limits.{Limits}
-use Rattle.phrases.specs.Text.{IsText}
+use Rattle.text_phrases.specs.Limits.{Limits}
+use Rattle.text_phrases.specs.Text.{IsText}
 use Rattle.exo_tree.specs.Tree.{Kind, Procedure}
 use Rattle.exo_meaning.specs.Calls.{Callee}
 use Rattle.exo_meaning.specs.Run.{world_of, callee_in}
-use Rattle.exo_source.specs.Source.{Item}
-use Rattle.exo_source.specs.Items.{unit}
-use Rattle.exo_source.specs.Texts.{tokens_of, places_of}
-use Rattle.exo_source.specs.declared.unit.Source.{Source}
+use Rattle.exo_reader.specs.Source.{Item}
+use Rattle.exo_reader.specs.Items.{unit}
+use Rattle.exo_reader.specs.Texts.{tokens_of, places_of}
+use Rattle.exo_reader.specs.declared.unit.Source.{Source}
 use Rattle.exo_types.specs.ArgumentRules.{signature_of}
 use Rattle.exo_types.specs.Typed.{IsPlaced, items_of}
 use Rattle.exo_types.specs.UnitRules.{items_width}

@@ -3,12 +3,12 @@ use Rattle.std.specs.Prelude.{ℕ, ◌+◌, nat_le, Bool, true, false, not, ◌&
 use Rattle.std.specs.List.{list_any}
 use Rattle.exo_tree.specs.Tree.{MemoryKind}
 use Rattle.exo_meaning.specs.Units.{is_text, is_memory}
-use Rattle.exo_lexer.specs.declared.token.Literal.TheVariants.{Value, TooLarge}
-use Rattle.exo_source.specs.Source.{Setting, strings, int, yes, no, Attribute}
-use Rattle.exo_source.specs.Items.{joined}
-use Rattle.exo_names.specs.declared.error.TypeKind.TheVariants.{UnknownName, Redefined, KindMismatch}
-use Rattle.exo_names.specs.declared.fault.Fault.{Fault}
-use Rattle.exo_names.specs.Faults.{fault, unless, least, or_else}
+use Rattle.text_lexer.specs.declared.token.Literal.TheVariants.{Value, TooLarge}
+use Rattle.exo_reader.specs.Source.{Setting, strings, int, yes, no, Attribute}
+use Rattle.exo_reader.specs.Items.{joined}
+use Rattle.rules_names.specs.declared.error.TypeKind.TheVariants.{UnknownName, Redefined, KindMismatch}
+use Rattle.rules_names.specs.declared.fault.Fault.{Fault}
+use Rattle.rules_names.specs.Faults.{fault, unless, least, or_else}
 use Rattle.exo_types.specs.declared.attribute.Trait.{Trait}
 use Rattle.exo_types.specs.declared.attribute.Trait.TheVariants.{Ctype, Lanes, CellType, Place, MayRead, MayWrite, MayReduce, Header}
 use Rattle.exo_types.specs.TypeRules.{cell_of_text}

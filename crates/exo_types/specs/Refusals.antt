@@ -1,6 +1,6 @@
 -- What a refusal says.
 use Rattle.std.specs.Prelude.{◌≡◌, Option, Some}
-use Rattle.exo_names.specs.declared.fault.Fault.{Fault}
+use Rattle.rules_names.specs.declared.fault.Fault.{Fault}
 use Rattle.exo_types.specs.declared.refusal.Refusal.{Refusal}
 use Rattle.exo_types.specs.declared.refusal.Refusal.TheVariants.{Memory, Broken}
 

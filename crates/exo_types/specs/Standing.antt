@@ -7,13 +7,13 @@ use Rattle.exo_tree.specs.declared.unit.Unit as tree
 use Rattle.exo_tree.specs.PlainUnit.{program}
 use Rattle.exo_tree.specs.PlainProcedure as plain
 use Rattle.exo_meaning.specs.Units.{is_text}
-use Rattle.exo_lexer.specs.declared.place.Place.{Place}
-use Rattle.exo_source.specs.Source as source
-use Rattle.exo_source.specs.Source.{Definition, Item, block_of}
-use Rattle.exo_names.specs.declared.fault.Fault.{Fault}
-use Rattle.exo_names.specs.declared.error.TypeKind.TheVariants.{Redefined}
-use Rattle.exo_names.specs.Faults.{unless, least}
-use Rattle.exo_names.specs.Names.{name_number, field_in}
+use Rattle.text_lexer.specs.declared.place.Place.{Place}
+use Rattle.exo_reader.specs.Source as source
+use Rattle.exo_reader.specs.Source.{Definition, Item, block_of}
+use Rattle.rules_names.specs.declared.fault.Fault.{Fault}
+use Rattle.rules_names.specs.declared.error.TypeKind.TheVariants.{Redefined}
+use Rattle.rules_names.specs.Faults.{unless, least}
+use Rattle.rules_names.specs.Names.{name_number, field_in}
 use Rattle.exo_writes.specs.declared.written.Row.{Row}
 use Rattle.exo_writes.specs.Written.{rows_say}
 use Rattle.exo_types.specs.declared.definition.Defined.{Defined}

@@ -5,15 +5,15 @@ use Rattle.exo_tree.specs.Tree as tree
 use Rattle.exo_tree.specs.Tree.{Kind, Index, ConfigField}
 use Rattle.exo_meaning.specs.Run.{roots_after}
 use Rattle.exo_meaning.specs.Units.{ControlName, Scope, with_name, scope_after, plainly, with_fields, with_strides}
-use Rattle.exo_reader.specs.Expression.{Tree}
-use Rattle.exo_source.specs.Source.{Statement, pass, branch, loop, allocate, call, configure, assign, reduce, view, Block, end, next}
-use Rattle.exo_names.specs.declared.error.TypeKind.TheVariants.{UnknownName}
-use Rattle.exo_names.specs.declared.fault.Fault.{Fault}
-use Rattle.exo_names.specs.Faults.{fault, least, or_else}
-use Rattle.exo_names.specs.Names.{id_in, field_in, name_number, no_id}
-use Rattle.exo_names.specs.ExpressionRules.{width, is_buffer, control_faults, controls_faults, condition_faults, data_faults}
-use Rattle.exo_names.specs.WindowRules.{coordinates_width, window_faults, coordinates_of}
-use Rattle.exo_names.specs.Resolved.{control_of, condition_of, controls_of, datum_of, field_number}
+use Rattle.text_expressions.specs.Expression.{Tree}
+use Rattle.exo_reader.specs.Source.{Statement, pass, branch, loop, allocate, call, configure, assign, reduce, view, Block, end, next}
+use Rattle.rules_names.specs.declared.error.TypeKind.TheVariants.{UnknownName}
+use Rattle.rules_names.specs.declared.fault.Fault.{Fault}
+use Rattle.rules_names.specs.Faults.{fault, least, or_else}
+use Rattle.rules_names.specs.Names.{id_in, field_in, name_number, no_id}
+use Rattle.rules_names.specs.ExpressionRules.{width, is_buffer, control_faults, controls_faults, condition_faults, data_faults}
+use Rattle.rules_names.specs.WindowRules.{coordinates_width, window_faults, coordinates_of}
+use Rattle.rules_names.specs.Resolved.{control_of, condition_of, controls_of, datum_of, field_number}
 use Rattle.exo_types.specs.TypeRules.{cell_faults, cell_of, binder, binder_faults, memory_faults, memory_of, memory_width, number_or}
 use Rattle.exo_types.specs.ArgumentRules.{Signature, dims_width, arguments_width, comma_width, points, kind_faults, kind_value_of, arguments_of, call_faults, params_of}
 

@@ -3,11 +3,11 @@ use Rattle.std.specs.Prelude.{ℕ, ◌+◌, Bool, not, if◌then◌else◌, List
 use Rattle.std.specs.Option.{is_some}
 use Rattle.exo_tree.specs.Tree.{Kind, Size, Index, Truth, Stride, Cell, I8, I32, Binder}
 use Rattle.exo_meaning.specs.Units.{Scope, is_text}
-use Rattle.exo_source.specs.Source.{TypeName, stride, named}
-use Rattle.exo_names.specs.declared.error.TypeKind.TheVariants.{UnknownName, Redefined, KindMismatch}
-use Rattle.exo_names.specs.declared.fault.Fault.{Fault}
-use Rattle.exo_names.specs.Faults.{fault, unless}
-use Rattle.exo_names.specs.Names.{named_in, name_number}
+use Rattle.exo_reader.specs.Source.{TypeName, stride, named}
+use Rattle.rules_names.specs.declared.error.TypeKind.TheVariants.{UnknownName, Redefined, KindMismatch}
+use Rattle.rules_names.specs.declared.fault.Fault.{Fault}
+use Rattle.rules_names.specs.Faults.{fault, unless}
+use Rattle.rules_names.specs.Names.{named_in, name_number}
 
 -- ---- types
 

@@ -1,17 +1,17 @@
 -- What it means to check a unit's names and types: exactly the unit that its text stands for, or exactly the first broken rule.
 use Rattle.std.specs.Prelude.{◌≡◌, ℕ, ◌+◌, ◌<◌, ◌≤◌, List, length, map, slice_get, Some, None, Result, MatchResult}
-use Rattle.phrases.specs.Limits.{Limits}
+use Rattle.text_phrases.specs.Limits.{Limits}
 use Rattle.exo_tree.specs.declared.unit.Unit as tree
 use Rattle.exo_tree.specs.PlainUnit.{program}
-use Rattle.exo_lexer.specs.declared.place.Place.{Place}
-use Rattle.exo_source.specs.Source.{Item}
-use Rattle.exo_source.specs.Items.{unit}
-use Rattle.exo_source.specs.Views.{plain_item}
-use Rattle.exo_source.specs.declared.unit.Source.{Source}
-use Rattle.exo_names.specs.declared.error.TypeKind.{TypeKind}
-use Rattle.exo_names.specs.declared.error.TypeKind.TheVariants.{Memory}
-use Rattle.exo_names.specs.declared.error.TypeError.{TypeError}
-use Rattle.exo_names.specs.declared.fault.Fault.{Fault}
+use Rattle.text_lexer.specs.declared.place.Place.{Place}
+use Rattle.exo_reader.specs.Source.{Item}
+use Rattle.exo_reader.specs.Items.{unit}
+use Rattle.exo_reader.specs.Views.{plain_item}
+use Rattle.exo_reader.specs.declared.unit.Source.{Source}
+use Rattle.rules_names.specs.declared.error.TypeKind.{TypeKind}
+use Rattle.rules_names.specs.declared.error.TypeKind.TheVariants.{Memory}
+use Rattle.rules_names.specs.declared.error.TypeError.{TypeError}
+use Rattle.rules_names.specs.declared.fault.Fault.{Fault}
 use Rattle.exo_types.specs.declared.refusal.Refusal.{Refusal}
 use Rattle.exo_types.specs.declared.refusal.Refusal.TheVariants as r
 use Rattle.exo_types.specs.UnitRules.{unit_fault, unit_of}

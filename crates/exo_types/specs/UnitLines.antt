@@ -1,11 +1,11 @@
 -- The text lines of a unit's procedures and statements.
 use Rattle.std.specs.Prelude.{ℕ, ◌+◌, List, [], ◌∷◌, ◌++◌, length, map, slice_get, Option, Some, None}
 use Rattle.exo_tree.specs.declared.lines.ProcLines.{ProcLines}
-use Rattle.exo_lexer.specs.declared.place.Place.{Place}
-use Rattle.exo_source.specs.Source as source
-use Rattle.exo_source.specs.Source.{Statement, pass, branch, loop, allocate, call, configure, assign, reduce, view, Block, end, next, Definition, Item, procedure, instruction, configuration, memory}
+use Rattle.text_lexer.specs.declared.place.Place.{Place}
+use Rattle.exo_reader.specs.Source as source
+use Rattle.exo_reader.specs.Source.{Statement, pass, branch, loop, allocate, call, configure, assign, reduce, view, Block, end, next, Definition, Item, procedure, instruction, configuration, memory}
 use Rattle.exo_types.specs.UnitRules.{item_width}
-use Rattle.exo_names.specs.ExpressionRules.{width}
+use Rattle.rules_names.specs.ExpressionRules.{width}
 use Rattle.exo_types.specs.StatementRules.{statement_width, block_width}
 use Rattle.exo_types.specs.ItemRules.{body_start}
 

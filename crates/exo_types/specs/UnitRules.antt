@@ -5,12 +5,12 @@ use Rattle.exo_tree.specs.Tree.{Procedure, Program}
 use Rattle.exo_meaning.specs.Calls.{Callee}
 use Rattle.exo_meaning.specs.Run.{world_of, callee_in, kinds_of}
 use Rattle.exo_meaning.specs.Units.{is_text, is_template}
-use Rattle.exo_source.specs.Source as source
-use Rattle.exo_source.specs.Source.{Definition, Item, procedure, instruction, configuration, memory}
-use Rattle.exo_source.specs.Items.{joined}
-use Rattle.exo_names.specs.declared.error.TypeKind.TheVariants.{UnknownName, Redefined}
-use Rattle.exo_names.specs.declared.fault.Fault.{Fault}
-use Rattle.exo_names.specs.Faults.{unless, least, or_else}
+use Rattle.exo_reader.specs.Source as source
+use Rattle.exo_reader.specs.Source.{Definition, Item, procedure, instruction, configuration, memory}
+use Rattle.exo_reader.specs.Items.{joined}
+use Rattle.rules_names.specs.declared.error.TypeKind.TheVariants.{UnknownName, Redefined}
+use Rattle.rules_names.specs.declared.fault.Fault.{Fault}
+use Rattle.rules_names.specs.Faults.{unless, least, or_else}
 use Rattle.exo_types.specs.ArgumentRules.{Signature, signature_of}
 use Rattle.exo_types.specs.StatementRules.{bound_in}
 use Rattle.exo_types.specs.ItemRules.{definition_end, definition_of, definition_fault, field_of, fields_fault}

@@ -6,9 +6,9 @@ use Rattle.exo_tree.specs.PlainStatement as plain
 use Rattle.exo_tree.specs.declared.block.Stmt.{Stmt}
 use Rattle.exo_meaning.specs.Run.{roots_after}
 use Rattle.exo_meaning.specs.Units.{Scope, scope_after}
-use Rattle.exo_source.specs.Source.{Statement, Block}
-use Rattle.exo_names.specs.declared.fault.Fault.{Fault}
-use Rattle.exo_names.specs.Faults.{least}
+use Rattle.exo_reader.specs.Source.{Statement, Block}
+use Rattle.rules_names.specs.declared.fault.Fault.{Fault}
+use Rattle.rules_names.specs.Faults.{least}
 use Rattle.exo_writes.specs.Written.{roots_in, rows_say}
 use Rattle.exo_types.specs.declared.context.Context.{Context}
 use Rattle.exo_types.specs.declared.context.Walk.{Walk}

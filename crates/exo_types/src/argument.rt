@@ -4,30 +4,30 @@ ghost use Rattle.exo_tree.specs.PlainBinder.{cell_type, control_kind};
 ghost use Rattle.exo_tree.specs.PlainParam.{parameter_kind};
 ghost use Rattle.exo_tree.specs.PlainArgument.{argument};
 ghost use Rattle.exo_meaning.specs.Units as units;
-ghost use Rattle.exo_reader.specs.Views.{tree_of};
-ghost use Rattle.exo_source.specs.Views.{plain_coordinate, plain_argument};
-ghost use Rattle.exo_names.specs.Faults.{charged};
-ghost use Rattle.exo_names.specs.Names.{named_in, sort_of};
-ghost use Rattle.exo_names.specs.Tests.{sort_seen, reads, most_tokens};
-ghost use Rattle.exo_names.specs.ExpressionRules.{width, closed_width};
-ghost use Rattle.exo_names.specs.WindowRules.{window_faults, coordinates_width, coordinates_of};
+ghost use Rattle.text_expressions.specs.Views.{tree_of};
+ghost use Rattle.exo_reader.specs.Views.{plain_coordinate, plain_argument};
+ghost use Rattle.rules_names.specs.Faults.{charged};
+ghost use Rattle.rules_names.specs.Names.{named_in, sort_of};
+ghost use Rattle.rules_names.specs.Tests.{sort_seen, reads, most_tokens};
+ghost use Rattle.rules_names.specs.ExpressionRules.{width, closed_width};
+ghost use Rattle.rules_names.specs.WindowRules.{window_faults, coordinates_width, coordinates_of};
 ghost use Rattle.exo_writes.specs.Written.{roots_in};
 ghost use Rattle.exo_types.specs.ArgumentRules as rules;
 
-use exo_lexer::text::Text;
-use exo_names::control::{test_condition, test_control, test_controls, test_wrong_form};
-use exo_names::error::TypeKind;
-use exo_names::fault::Charge;
-use exo_names::resolved::{NO_ID, condition_of, control_of, coordinates_of, id_in};
-use exo_names::scope::Sort;
-use exo_names::tested::{Names, PLAINLY, Reads, Tested, WITH_BOTH, name_charge, rank_charge};
-use exo_names::width::end_of;
-use exo_names::window::test_window;
-use exo_reader::source::SourceExpr;
-use exo_source::source::{SourceArg, SourceCoord};
+use exo_reader::source::{SourceArg, SourceCoord};
 use exo_tree::{Arg, Cell, Coord, Coords, Kind, ParamKind};
 use exo_writes::roots::{Alias, root};
+use rules_names::control::{test_condition, test_control, test_controls, test_wrong_form};
+use rules_names::error::TypeKind;
+use rules_names::fault::Charge;
+use rules_names::resolved::{NO_ID, condition_of, control_of, coordinates_of, id_in};
+use rules_names::scope::Sort;
+use rules_names::tested::{Names, PLAINLY, Reads, Tested, WITH_BOTH, name_charge, rank_charge};
+use rules_names::width::end_of;
+use rules_names::window::test_window;
 use std::alloc::{AllocError, Global};
+use text_expressions::source::SourceExpr;
+use text_lexer::text::Text;
 
 /// How many coordinates are spans.
 pub fn spans(coords: &[SourceCoord]) -> usize

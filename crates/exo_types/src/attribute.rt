@@ -3,19 +3,19 @@ ghost use Rattle.std.specs.Prelude.{◌≡◌, ◌≤◌, ◌+◌, [], None, IfO
 ghost use Rattle.std.specs.List.{list_any};
 ghost use Rattle.exo_tree.specs.PlainTables.{memory_kind};
 ghost use Rattle.exo_meaning.specs.Units.{is_text, is_memory};
-ghost use Rattle.exo_source.specs.Items.{joined};
-ghost use Rattle.exo_names.specs.Tests.{most_tokens};
-ghost use Rattle.exo_source.specs.Views.{plain_setting, plain_attribute};
-ghost use Rattle.exo_names.specs.Faults.{charged};
+ghost use Rattle.exo_reader.specs.Items.{joined};
+ghost use Rattle.rules_names.specs.Tests.{most_tokens};
+ghost use Rattle.exo_reader.specs.Views.{plain_setting, plain_attribute};
+ghost use Rattle.rules_names.specs.Faults.{charged};
 ghost use Rattle.exo_types.specs.MemoryRules.{plain_memory, trait_named, text_of, is_strings, is_truth_value, is_cell_word, is_place_word, is_lane_count, has_form, trait_faults, attribute_faults, attribute_width, attributes_width, attributes_fault, lanes_faults, count_of, truth_of, with_trait, with_attributes};
 
 use crate::types::{cell_of_text, is_same};
-use exo_lexer::text as lexer;
-use exo_names::error::TypeKind;
-use exo_names::fault::{Charge, Fault};
-use exo_source::source::{SourceAttribute, SourceValue};
+use exo_reader::source::{SourceAttribute, SourceValue};
 use exo_tree::{MemoryClass, Name, Text};
+use rules_names::error::TypeKind;
+use rules_names::fault::{Charge, Fault};
 use std::alloc::{AllocError, Global};
+use text_lexer::text as lexer;
 
 /// What an attribute says.
 #[derive(Clone, Copy, Debug, PartialEq, Eq)]

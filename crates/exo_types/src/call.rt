@@ -1,21 +1,21 @@
 //! Calls of procedures that stand above.
 ghost use Rattle.std.specs.Prelude.{◌≡◌, ◌+◌, ◌≤◌, ◌||◌, [], map, length, option_map, IfOk};
 ghost use Rattle.exo_tree.specs.PlainParam.{parameter};
-ghost use Rattle.exo_source.specs.Views.{plain_argument};
-ghost use Rattle.exo_names.specs.Faults.{charged};
-ghost use Rattle.exo_names.specs.Tests.{most_tokens};
+ghost use Rattle.exo_reader.specs.Views.{plain_argument};
+ghost use Rattle.rules_names.specs.Faults.{charged};
+ghost use Rattle.rules_names.specs.Tests.{most_tokens};
 ghost use Rattle.exo_writes.specs.Written.{roots_in};
 ghost use Rattle.exo_types.specs.ArgumentRules as rules;
 ghost use Rattle.exo_types.specs.Seen.{signature};
 
 use crate::argument::{argument_of, root_of, test_argument};
-use exo_names::error::TypeKind;
-use exo_names::fault::Charge;
-use exo_names::tested::Names;
-use exo_source::source::SourceArg;
+use exo_reader::source::SourceArg;
 use exo_tree::{Args, Param, Params};
 use exo_writes::roots::Alias;
 use exo_writes::written::Row;
+use rules_names::error::TypeKind;
+use rules_names::fault::Charge;
+use rules_names::tested::Names;
 use std::alloc::{AllocError, Global};
 
 /// A procedure as a call sees it.

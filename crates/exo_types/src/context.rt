@@ -2,8 +2,8 @@
 ghost use Rattle.std.specs.Prelude.{◌≡◌, ◌+◌, ◌<◌, None, option_map, slice_get, take, length, IfOk, OnOk};
 ghost use Rattle.exo_meaning.specs.Scene.{updated};
 ghost use Rattle.exo_meaning.specs.Units.{with_name};
-ghost use Rattle.exo_names.specs.Names.{named_in, name_number};
-ghost use Rattle.exo_names.specs.Tables.{sort_meant};
+ghost use Rattle.rules_names.specs.Names.{named_in, name_number};
+ghost use Rattle.rules_names.specs.Tables.{sort_meant};
 ghost use Rattle.exo_writes.specs.Written.{roots_in};
 ghost use Rattle.exo_types.specs.Seen.{signature};
 ghost use Rattle.exo_types.specs.TypeRules.{binder};
@@ -11,14 +11,14 @@ ghost use Rattle.exo_types.specs.UnitLines.{line_at};
 ghost use Rattle.exo_types.specs.Walks.{signatures_in};
 
 use crate::call::Callee;
-use exo_lexer::place::Place;
-use exo_lexer::text::Text;
-use exo_names::scope::{Meant, Scope, Sort};
-use exo_names::table::{FieldTable, NameTable};
 use exo_tree::{Id, StatementLines};
 use exo_writes::roots::{Alias, root, set_root};
 use exo_writes::written::Above;
+use rules_names::scope::{Meant, Scope, Sort};
+use rules_names::table::{FieldTable, NameTable};
 use std::alloc::{AllocError, Global};
+use text_lexer::place::Place;
+use text_lexer::text::Text;
 
 /// What stands above a procedure.
 #[derive(Clone, Copy)]

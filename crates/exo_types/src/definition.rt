@@ -3,12 +3,12 @@ ghost use Rattle.std.specs.Prelude.{◌≡◌, ◌+◌, ◌≤◌, ◌<◌, [], 
 ghost use Rattle.exo_tree.specs.Tree.{ConfigField};
 ghost use Rattle.exo_tree.specs.PlainParam.{parameter, parameter_kind};
 ghost use Rattle.exo_meaning.specs.Units as units;
-ghost use Rattle.exo_reader.specs.Views.{tree_of};
-ghost use Rattle.exo_source.specs.Views.{plain_kind, plain_form, plain_parameter, plain_definition};
-ghost use Rattle.exo_names.specs.Faults.{charged};
-ghost use Rattle.exo_names.specs.Tables.{sort_meant};
-ghost use Rattle.exo_names.specs.Tests.{most_tokens};
-ghost use Rattle.exo_names.specs.ExpressionRules.{width};
+ghost use Rattle.text_expressions.specs.Views.{tree_of};
+ghost use Rattle.exo_reader.specs.Views.{plain_kind, plain_form, plain_parameter, plain_definition};
+ghost use Rattle.rules_names.specs.Faults.{charged};
+ghost use Rattle.rules_names.specs.Tables.{sort_meant};
+ghost use Rattle.rules_names.specs.Tests.{most_tokens};
+ghost use Rattle.rules_names.specs.ExpressionRules.{width};
 ghost use Rattle.exo_types.specs.TypeRules.{memory_width, kind_named};
 ghost use Rattle.exo_types.specs.ItemRules as rules;
 ghost use Rattle.exo_types.specs.ItemRules.{form_width, parameter_width, params_width, asserts_width};
@@ -22,21 +22,21 @@ use crate::part::{binder_charge, comma_width, end_of_memory, memory_charge, memo
 use crate::refusal::{Refusal, keep};
 use crate::statement::block_of;
 use crate::types::{cell_charge, cell_of, kind_named};
-use exo_lexer::text::Text;
-use exo_names::control::{test_condition, test_controls};
-use exo_names::error::TypeKind;
-use exo_names::fault::Charge;
-use exo_names::resolved::{condition_of, indices_of};
-use exo_names::scope::{Scope, Sort};
-use exo_names::table::NameTable;
-use exo_names::tested::{Names, PLAINLY, WITH_BOTH};
-use exo_reader::source::SourceExpr;
-use exo_source::source::{SourceDef, SourceKind, SourceParam, SourceType};
+use exo_reader::source::{SourceDef, SourceKind, SourceParam, SourceType};
 use exo_tree::{
     Binder, Cond, Conds, Indices, Name, Param, ParamKind, Params, Proc, StatementLines,
     Text as Template,
 };
+use rules_names::control::{test_condition, test_controls};
+use rules_names::error::TypeKind;
+use rules_names::fault::Charge;
+use rules_names::resolved::{condition_of, indices_of};
+use rules_names::scope::{Scope, Sort};
+use rules_names::table::NameTable;
+use rules_names::tested::{Names, PLAINLY, WITH_BOTH};
 use std::alloc::{AllocError, Global};
+use text_expressions::source::SourceExpr;
+use text_lexer::text::Text;
 
 /// The charge of a memory that stands behind a control parameter; its `@` is token `n`.
 fn no_memory_charge(memories: &NameTable, n: usize, memory: &Option<Text>) -> Charge

@@ -1,25 +1,25 @@
 //! Parts of parameters and statements: binders, memories, dimensions, and what is stored.
 ghost use Rattle.std.specs.Prelude.{◌≡◌, ◌+◌, ◌≤◌, ◌<◌, map, length};
 ghost use Rattle.exo_meaning.specs.Units.{plainly};
-ghost use Rattle.exo_reader.specs.Views.{tree_of};
-ghost use Rattle.exo_names.specs.Faults.{charged};
-ghost use Rattle.exo_names.specs.Tests.{most_tokens};
-ghost use Rattle.exo_names.specs.ExpressionRules.{width, is_buffer, controls_faults};
-ghost use Rattle.exo_names.specs.WindowRules.{window_faults};
+ghost use Rattle.text_expressions.specs.Views.{tree_of};
+ghost use Rattle.rules_names.specs.Faults.{charged};
+ghost use Rattle.rules_names.specs.Tests.{most_tokens};
+ghost use Rattle.rules_names.specs.ExpressionRules.{width, is_buffer, controls_faults};
+ghost use Rattle.rules_names.specs.WindowRules.{window_faults};
 ghost use Rattle.exo_types.specs.TypeRules.{binder_faults, memory_faults, memory_width, memory_of};
 ghost use Rattle.exo_types.specs.ArgumentRules.{dims_width, comma_width, points};
 ghost use Rattle.exo_types.specs.StatementRules.{store_faults};
 
-use exo_lexer::text::Text;
-use exo_names::control::test_controls;
-use exo_names::datum::test_data;
-use exo_names::error::TypeKind;
-use exo_names::fault::Charge;
-use exo_names::scope::Scope;
-use exo_names::table::NameTable;
-use exo_names::tested::{Names, PLAINLY, is_buffer, name_charge, rank_charge};
-use exo_reader::source::SourceExpr;
 use exo_tree::MemId;
+use rules_names::control::test_controls;
+use rules_names::datum::test_data;
+use rules_names::error::TypeKind;
+use rules_names::fault::Charge;
+use rules_names::scope::Scope;
+use rules_names::table::NameTable;
+use rules_names::tested::{Names, PLAINLY, is_buffer, name_charge, rank_charge};
+use text_expressions::source::SourceExpr;
+use text_lexer::text::Text;
 
 /// The charge of a name that is given already in its procedure.
 pub fn binder_charge(scope: &Scope, name: &Text, n: usize) -> Charge

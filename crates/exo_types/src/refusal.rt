@@ -1,11 +1,11 @@
 //! Why a part of a unit is refused.
 ghost use Rattle.std.specs.Prelude.{◌≡◌, MatchResult, None};
-ghost use Rattle.exo_names.specs.declared.error.TypeKind.TheVariants.{UnknownName};
-ghost use Rattle.exo_names.specs.Faults.{fault, least};
+ghost use Rattle.rules_names.specs.declared.error.TypeKind.TheVariants.{UnknownName};
+ghost use Rattle.rules_names.specs.Faults.{fault, least};
 ghost use Rattle.exo_types.specs.Refusals.{Refuses};
 
-use exo_names::error::{TypeError, TypeKind};
-use exo_names::fault::{Charge, Fault};
+use rules_names::error::{TypeError, TypeKind};
+use rules_names::fault::{Charge, Fault};
 use std::alloc::AllocError;
 
 /// A rule is broken, or there was no memory.

@@ -1,14 +1,14 @@
 //! Statements and blocks.
 ghost use Rattle.std.specs.Prelude.{◌≡◌, ◌+◌, ◌≤◌, map, length, IfOk};
 ghost use Rattle.exo_meaning.specs.Units as units;
-ghost use Rattle.exo_reader.specs.Views.{tree_of};
-ghost use Rattle.exo_source.specs.Source.{branch, loop, allocate, call, configure, assign, reduce, view, block_of};
-ghost use Rattle.exo_source.specs.Source as source;
-ghost use Rattle.exo_source.specs.Views.{plain_coordinate, plain_argument, plain_kind, plain_statement};
-ghost use Rattle.exo_names.specs.Faults.{charged};
-ghost use Rattle.exo_names.specs.Tables.{sort_meant};
-ghost use Rattle.exo_names.specs.Tests.{sort_seen, most_tokens};
-ghost use Rattle.exo_names.specs.ExpressionRules.{width};
+ghost use Rattle.text_expressions.specs.Views.{tree_of};
+ghost use Rattle.exo_reader.specs.Source.{branch, loop, allocate, call, configure, assign, reduce, view, block_of};
+ghost use Rattle.exo_reader.specs.Source as source;
+ghost use Rattle.exo_reader.specs.Views.{plain_coordinate, plain_argument, plain_kind, plain_statement};
+ghost use Rattle.rules_names.specs.Faults.{charged};
+ghost use Rattle.rules_names.specs.Tables.{sort_meant};
+ghost use Rattle.rules_names.specs.Tests.{sort_seen, most_tokens};
+ghost use Rattle.rules_names.specs.ExpressionRules.{width};
 ghost use Rattle.exo_types.specs.StatementRules.{statement_width, block_width, else_width};
 ghost use Rattle.exo_types.specs.Walks as walks;
 ghost use Rattle.exo_types.specs.Walks.{HasRoom, Makes, MakesBlock};
@@ -21,16 +21,16 @@ use crate::part::{
 };
 use crate::refusal::{Refusal, keep, unknown_name};
 use crate::types::{cell_charge, cell_of};
-use exo_lexer::text::Text;
-use exo_names::control::{test_condition, test_control};
-use exo_names::fault::Charge;
-use exo_names::resolved::{condition_of, control_of, coordinates_of, data_of, id_in, indices_of};
-use exo_names::scope::Sort;
-use exo_names::tested::{Names, PLAINLY, WITH_FIELDS, WITH_STRIDES, is_buffer};
-use exo_names::window::test_window;
-use exo_reader::source::SourceExpr;
-use exo_source::source::{SourceArgs, SourceCoord, SourceKind, SourceStmt};
+use exo_reader::source::{SourceArgs, SourceCoord, SourceKind, SourceStmt};
 use exo_tree::{Binder, Block, Cell, Kind, Name, ProcId, Stmt};
+use rules_names::control::{test_condition, test_control};
+use rules_names::fault::Charge;
+use rules_names::resolved::{condition_of, control_of, coordinates_of, data_of, id_in, indices_of};
+use rules_names::scope::Sort;
+use rules_names::tested::{Names, PLAINLY, WITH_FIELDS, WITH_STRIDES, is_buffer};
+use rules_names::window::test_window;
+use text_expressions::source::SourceExpr;
+use text_lexer::text::Text;
 
 /// An assignment whose first token is `n`, and the number of the token behind it.
 fn assign_of(

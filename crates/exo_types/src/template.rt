@@ -4,11 +4,11 @@ ghost use Rattle.std.specs.List.{list_any};
 ghost use Rattle.exo_tree.specs.Tree.{Param};
 ghost use Rattle.exo_meaning.specs.Units as units;
 ghost use Rattle.exo_meaning.specs.Units.{is_text, data_ending};
-ghost use Rattle.exo_source.specs.Views.{plain_form, plain_parameter};
+ghost use Rattle.exo_reader.specs.Views.{plain_form, plain_parameter};
 ghost use Rattle.exo_types.specs.HoleRules.{is_control, is_written_hole, HaveHoles, IsBegun, fits_from};
 
 use crate::types::{is_same, kind_named};
-use exo_source::source::{SourceParam, SourceType};
+use exo_reader::source::{SourceParam, SourceType};
 
 /// Where the reading of a template stands.
 #[derive(Clone, Copy, Debug, PartialEq, Eq)]

@@ -2,14 +2,14 @@
 ghost use Rattle.std.specs.Prelude.{◌≡◌, option_map};
 ghost use Rattle.exo_tree.specs.PlainBinder.{cell_type, control_kind};
 ghost use Rattle.exo_meaning.specs.Units.{is_text};
-ghost use Rattle.exo_source.specs.Views.{plain_kind};
-ghost use Rattle.exo_names.specs.Faults.{charged};
+ghost use Rattle.exo_reader.specs.Views.{plain_kind};
+ghost use Rattle.rules_names.specs.Faults.{charged};
 ghost use Rattle.exo_types.specs.TypeRules.{cell_of_text, cell_named, kind_of_text, kind_named, cell_faults, kind_faults, cell_of, kind_of};
 
-use exo_names::error::TypeKind;
-use exo_names::fault::Charge;
-use exo_source::source::SourceKind;
+use exo_reader::source::SourceKind;
 use exo_tree::{Cell, Kind};
+use rules_names::error::TypeKind;
+use rules_names::fault::Charge;
 
 /// Whether the texts are the same.
 pub fn is_same(one: &[u8], other: &[u8]) -> bool

@@ -1,6 +1,6 @@
 //! Units: all items of a text.
 ghost use Rattle.std.specs.Prelude.{◌≡◌, ◌<◌, Some, map, length, MatchResult};
-ghost use Rattle.exo_source.specs.Views.{plain_item};
+ghost use Rattle.exo_reader.specs.Views.{plain_item};
 ghost use Rattle.exo_types.specs.Refusals.{Refuses};
 ghost use Rattle.exo_types.specs.UnitRules.{unit_fault, items_width};
 ghost use Rattle.exo_types.specs.Standing.{HasPlaces, IsUnitOf};
@@ -8,12 +8,12 @@ ghost use Rattle.exo_types.specs.Typed.{IsPlaced, Types, IsErrorOf, IsInPlace};
 
 use crate::refusal::{Refusal, no_memory};
 use crate::typed::Typed;
-use exo_lexer::place::Place;
-use exo_names::error::TypeError;
-use exo_source::source::SourceItem;
-use exo_source::unit::Source;
+use exo_reader::source::SourceItem;
+use exo_reader::unit::Source;
 use exo_tree::Unit;
+use rules_names::error::TypeError;
 use std::alloc::Global;
+use text_lexer::place::Place;
 
 /// The unit of items.
 fn unit_of(alloc: Global, places: &[Place], items: &[SourceItem]) -> Result<Unit, Refusal>

@@ -4,8 +4,8 @@ use Rattle.std.specs.Prelude.{IfSome, IsTrue, slice_get}
 use Rattle.exo_tree.specs.Tree.{ConfigField, Procedure, Program}
 use Rattle.exo_meaning.specs.Calls.{Callee}
 use Rattle.exo_meaning.specs.Units.{IsProcedure, AreProcedures, IsUnit, field_kind}
-use Rattle.exo_facts.specs.Contexts.{may_be_walked}
-use Rattle.exo_facts.specs.Laws.{WellFormedMayBeWalked}
+use Rattle.check_facts.specs.Contexts.{may_be_walked}
+use Rattle.check_facts.specs.Laws.{WellFormedMayBeWalked}
 
 same_procedure : (p q : Procedure) → Some p ≡ Some q → p ≡ q
 same_procedure p q e = ap (λ (o : Option Procedure). elim o [ None ↦ p | Some r ↦ r ]) e

@@ -3,13 +3,13 @@ ghost use Rattle.std.specs.Prelude.{◌≡◌, true};
 ghost use Rattle.exo_tree.specs.PlainProcedure.{procedure};
 ghost use Rattle.exo_tree.specs.PlainUnit.{program};
 ghost use Rattle.exo_meaning.specs.Units.{IsUnit};
-ghost use Rattle.exo_facts.specs.Contexts.{IsPlaceOf};
+ghost use Rattle.check_facts.specs.Contexts.{IsPlaceOf};
 
 use affine_forms::FormError;
 use affine_places::Facts;
 use affine_systems::Context;
-use exo_facts::context_at;
-use exo_facts::laws::well_formed_procedures_may_be_walked;
+use check_facts::context_at;
+use check_facts::laws::well_formed_procedures_may_be_walked;
 use exo_tree::{Path, Proc, ProcId, Unit, at};
 use std::alloc::Global;
 

@@ -8,17 +8,17 @@ use Rattle.exo_meaning.specs.Run.{program_world}
 use Rattle.exo_meaning.specs.Inputs.{IsAdmissible}
 use Rattle.exo_meaning.specs.Orders.{Each}
 use Rattle.exo_meaning.specs.Units.{Scope, field_kind, with_both, is_condition}
-use Rattle.exo_context.specs.Sorted.{MayRun}
+use Rattle.meaning_laws.specs.Sorted.{MayRun}
 use Rattle.affine_forms.specs.Affine.{HasNoIntegerPoint}
 use Rattle.affine_systems.specs.Systems.{IsShown as HasNoPoint, systems}
 use Rattle.affine_systems.specs.Outcomes.{Owed, owed}
-use Rattle.bounds_check.specs.Claim.{Placed}
-use Rattle.bounds_check.specs.Claims.{claims_of}
-use Rattle.exo_facts.specs.Contexts.{context_of}
-use Rattle.obligations.specs.Obligations.{claim_formula, owed_for, owed_for_all}
-use Rattle.claim_laws.specs.Holding.{HoldsAtPlace, ClaimHolds, ClaimIsFormed, names_at}
-use Rattle.claim_laws.specs.Laws.{ProceduresMayRun, ClaimsAreFormed, ClaimsSuffice}
-use Rattle.context_laws.specs.Laws.{ComesToPlace, scope_there, ShownConditionsHold}
+use Rattle.check_claims.specs.Claim.{Placed}
+use Rattle.check_claims.specs.Claims.{claims_of}
+use Rattle.check_facts.specs.Contexts.{context_of}
+use Rattle.bounds_check.specs.Obligations.{claim_formula, owed_for, owed_for_all}
+use Rattle.check_claims_laws.specs.Holding.{HoldsAtPlace, ClaimHolds, ClaimIsFormed, names_at}
+use Rattle.check_claims_laws.specs.Laws.{ProceduresMayRun, ClaimsAreFormed, ClaimsSuffice}
+use Rattle.check_facts_laws.specs.Laws.{ComesToPlace, scope_there, ShownConditionsHold}
 use Rattle.fault_laws.specs.Laws.{ShownProceduresDoNotFault}
 use Rattle.fault_laws.proofs.Listed.{each_of_all, each_front, each_back, all_of_images}
 

@@ -3,9 +3,9 @@ use Rattle.std.specs.Prelude.{◌≡◌, ℕ, Some, All, slice_get}
 use Rattle.exo_tree.specs.Tree.{Procedure, Program}
 use Rattle.exo_meaning.specs.Units.{IsUnit}
 use Rattle.affine_forms.specs.Affine.{HasNoIntegerPoint}
-use Rattle.obligations.specs.Obligations.{obligations_of}
-use Rattle.claim_laws.specs.Holding.{LeadsTo}
-use Rattle.claim_laws.specs.Laws.{NeverFaults}
+use Rattle.bounds_check.specs.Obligations.{obligations_of}
+use Rattle.check_claims_laws.specs.Holding.{LeadsTo}
+use Rattle.check_claims_laws.specs.Laws.{NeverFaults}
 
 -- no system that the procedure of that number owes has an integer point
 abbrev pub IsShown : Program → ℕ → Type 0

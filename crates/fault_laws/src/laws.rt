@@ -6,8 +6,8 @@ ghost use Rattle.fault_laws.specs.Laws.{ShownProceduresDoNotFault};
 pub fn shown_procedures_do_not_fault()
     ensures { ShownProceduresDoNotFault }
 {
-    claim_laws::laws::procedures_may_run();
-    claim_laws::laws::claims_are_formed();
-    claim_laws::laws::claims_suffice();
-    context_laws::laws::shown_conditions_hold();
+    check_claims_laws::laws::procedures_may_run();
+    check_claims_laws::laws::claims_are_formed();
+    check_claims_laws::laws::claims_suffice();
+    check_facts_laws::laws::shown_conditions_hold();
 }

@@ -1,7 +1,7 @@
 // Procedures whose C was worked out by hand.
 
-use c_lowering::{are_self_contained, lower_unit};
-use c_printer::{LowerError, Printed, c_text};
+use c_printer::{are_self_contained, lower_unit};
+use c_tree::{LowerError, Printed, c_text};
 use exo_tree::{
     Arg, Binder, Block, Cell, Cond, Conds, Ctrl, DataExpr, Field, FieldId, Fields, Id, Indices,
     Kind, Lines, MemId, Memories, Name, Param, ParamKind, Params, Proc, ProcId, Procs, Stmt, Unit,

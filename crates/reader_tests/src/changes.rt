@@ -12,7 +12,7 @@
 // `bench/reader_tables` makes the rows by a model of the grammar that was written apart from the code.
 
 use crate::tables;
-use exo_source::unit::{ReadError, ReadKind, read_unit};
+use exo_reader::unit::{ReadError, ReadKind, read_unit};
 use std::alloc::{AllocError, Global};
 
 /// One change of a text at a byte.

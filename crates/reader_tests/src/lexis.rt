@@ -1,10 +1,10 @@
 // Texts and their tokens.
 
-use exo_lexer::lexer::lex;
-use exo_lexer::place::Place;
-use exo_lexer::text::Text;
-use exo_lexer::token::{Literal, Token};
 use std::alloc::{AllocError, Global};
+use text_lexer::lexer::lex;
+use text_lexer::place::Place;
+use text_lexer::text::Text;
+use text_lexer::token::{Literal, Token};
 
 /// The bytes as characters.
 fn put_bytes(out: &mut String, text: &Text) -> Result<(), AllocError> {

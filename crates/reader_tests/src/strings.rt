@@ -1,7 +1,7 @@
 // Expressions and windows in texts of one line.
 
-use exo_source::string::{read_expr, read_window};
-use exo_source::unit::ReadError;
+use exo_reader::string::{read_expr, read_window};
+use exo_reader::unit::ReadError;
 use std::alloc::{AllocError, Global};
 
 /// Where a text is wrong and why.

@@ -1,6 +1,6 @@
 // Texts of units, and where and why a text is none.
 
-use exo_source::unit::read_unit;
+use exo_reader::unit::read_unit;
 use std::alloc::{AllocError, Global};
 
 /// How many items a text has, or where it is wrong and why.

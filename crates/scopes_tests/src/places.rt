@@ -3,9 +3,9 @@ ghost use Rattle.exo_tree.specs.PlainUnit.{program};
 ghost use Rattle.exo_meaning.specs.Units.{IsUnit};
 
 use crate::unit::unit_of;
-use exo_scopes::{cond_at, ctrl_at, window_at};
-use exo_source::string::{read_expr, read_window};
+use exo_reader::string::{read_expr, read_window};
 use exo_tree::{Branch, Cond, Ctrl, Path, ProcId, Step, Unit};
+use rules_scopes::{cond_at, ctrl_at, window_at};
 use std::alloc::{AllocError, Global};
 
 /// A procedure whose binders have these ids, in this order: n 0, x 1, i 2, t 3, j 4, w 5.

@@ -3,11 +3,11 @@ ghost use Rattle.std.specs.Prelude.{◌≤◌, length, IfOk};
 ghost use Rattle.exo_tree.specs.PlainUnit.{program};
 ghost use Rattle.exo_meaning.specs.Units.{IsUnit};
 
-use exo_formed::laws::read_units_are_formed;
-use exo_source::unit::read_unit;
+use exo_reader::unit::read_unit;
 use exo_tree::Unit;
 use exo_types::laws::read_texts_are_placed;
 use exo_types::unit::check_types;
+use exo_types_laws::laws::read_units_are_formed;
 use std::alloc::{AllocError, Global};
 
 /// The unit of a text that breaks no rule.

@@ -1,6 +1,5 @@
 //! Texts of worked trees. Expressions are built from postfix strings: `ab+c*` is the product of a sum and `c`.
 
-use exo_show::{Words, put_condition, put_control, put_datum, show};
 use exo_tree::{
     Arg, Args, Binder, Block, Cell, Cond, Conds, Coord, Coords, Ctrl, DataExpr, Field, FieldId,
     Fields, Id, Indices, Kind, Lines, MemId, Memories, MemoryClass, Name, Param, ParamKind, Params,
@@ -8,6 +7,7 @@ use exo_tree::{
 };
 use std::alloc::{AllocError, Global};
 use std::test::Fail;
+use text_show::{Words, put_condition, put_control, put_datum, show};
 
 /// The id of a letter, which is its place in the alphabet.
 fn id(letter: u8) -> Id {

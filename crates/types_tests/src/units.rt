@@ -1,6 +1,6 @@
 // Units, and the first rule that each breaks with its place.
 
-use exo_source::unit::read_unit;
+use exo_reader::unit::read_unit;
 use exo_types::laws::read_texts_are_placed;
 use exo_types::unit::check_types;
 use std::alloc::{AllocError, Global};

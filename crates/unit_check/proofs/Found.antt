@@ -5,8 +5,8 @@ use Rattle.std.specs.List.{position_or_len}
 use Rattle.exo_tree.specs.Tree.{Statement, Assign, Reduce, Config, Pass, If, For, Alloc, View, Call, Block, end, next}
 use Rattle.exo_tree.specs.Nodes.{nodes, nodes_in}
 use Rattle.exo_tree.specs.Places.{Branch, Main, Else, Step, Path}
-use Rattle.bounds_check.specs.Claims.{into}
-use Rattle.obligations.specs.Paths.{same_branch, same_path}
+use Rattle.check_claims.specs.Claims.{into}
+use Rattle.bounds_check.specs.Paths.{same_branch, same_path}
 use Rattle.unit_check.specs.Preorder.{block_paths, inner_paths}
 
 -- ---- the first that passes a test

@@ -11,14 +11,14 @@ use Rattle.affine_forms.specs.Affine.{HasNoIntegerPoint}
 use Rattle.affine_forms.specs.declared.error.FormError.TheVariants as form
 use Rattle.affine_systems.specs.Outcomes.{Owed, plain_obligation}
 use Rattle.affine_systems.specs.declared.obligation.Obligation.{Obligation}
-use Rattle.bounds_check.specs.Claim.{Placed}
-use Rattle.bounds_check.specs.Claims.{claims_of}
+use Rattle.check_claims.specs.Claim.{Placed}
+use Rattle.check_claims.specs.Claims.{claims_of}
 use Rattle.ob_check.specs.Systems.{systems_of}
-use Rattle.obligations.specs.Limits.{are_within, terms_in}
-use Rattle.obligations.specs.Obligations.{Fault, owed_for, owed_for_all, obligations_of, claim_fault, unless_refused, first_fault, list_fault}
-use Rattle.obligations.specs.Outcomes.{IsRefusal, AreObligationsIn}
-use Rattle.obligations.specs.declared.error.CheckError.{CheckError}
-use Rattle.obligations.specs.declared.error.CheckError.TheVariants as error
+use Rattle.bounds_check.specs.Limits.{are_within, terms_in}
+use Rattle.bounds_check.specs.Obligations.{Fault, owed_for, owed_for_all, obligations_of, claim_fault, unless_refused, first_fault, list_fault}
+use Rattle.bounds_check.specs.Outcomes.{IsRefusal, AreObligationsIn}
+use Rattle.bounds_check.specs.declared.error.CheckError.{CheckError}
+use Rattle.bounds_check.specs.declared.error.CheckError.TheVariants as error
 use Rattle.unit_check.specs.Checked.{Cause, NotListed, first_open, cause_from, cause_of}
 use Rattle.unit_check.specs.Outcomes.{IsOf, Answers}
 use Rattle.unit_check.specs.declared.refused.UnitRefused.{UnitRefused}

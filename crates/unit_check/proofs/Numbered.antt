@@ -6,8 +6,8 @@ use Rattle.exo_tree.specs.Tree.{Statement, Assign, Reduce, Config, Pass, If, For
 use Rattle.exo_tree.specs.Nodes.{nodes, nodes_in}
 use Rattle.exo_tree.specs.Places.{Branch, Main, Else, Step, Path}
 use Rattle.exo_tree.specs.Branches.{branch_of}
-use Rattle.bounds_check.specs.Claims.{into}
-use Rattle.obligations.specs.Paths.{same_branch, same_path}
+use Rattle.check_claims.specs.Claims.{into}
+use Rattle.bounds_check.specs.Paths.{same_branch, same_path}
 use Rattle.unit_check.specs.Preorder.{block_paths, inner_paths, past, before, inside, place_of}
 use Rattle.unit_check.proofs.Found.{found, or_all, position_found, not_first, is_first, stay, skip, further, at_once, begins, not_same, begins_under, same_under, absent, absent_inner, how_many, how_many_inside}
 

@@ -15,10 +15,10 @@ use Rattle.affine_prover.specs.declared.answer.Verdict.TheVariants as verdict
 use Rattle.affine_prover.specs.Elimination.{elimination}
 use Rattle.affine_prover.specs.Laws.{ShownSystemsHaveNoPoint}
 use Rattle.ob_check.specs.Answers.{is_refused}
-use Rattle.bounds_check.specs.Claim.{Placed}
-use Rattle.bounds_check.specs.Claims.{claims_of}
-use Rattle.exo_facts.specs.Contexts.{context_of}
-use Rattle.obligations.specs.Obligations.{Fault, claim_formula, owed_for_all, obligations_of, list_fault}
+use Rattle.check_claims.specs.Claim.{Placed}
+use Rattle.check_claims.specs.Claims.{claims_of}
+use Rattle.check_facts.specs.Contexts.{context_of}
+use Rattle.bounds_check.specs.Obligations.{Fault, claim_formula, owed_for_all, obligations_of, list_fault}
 use Rattle.fault_laws.specs.Laws.{ShownProceduresDoNotFault}
 use Rattle.unit_check.specs.Checked.{Cause, NotShown, Shown, Refused, first_open, cause_from, cause_of, checked_from}
 use Rattle.unit_check.specs.Laws.{CheckedUnitsDoNotFault}

@@ -7,7 +7,7 @@ use Rattle.affine_systems.specs.Outcomes.{Owed}
 use Rattle.affine_prover.specs.Elimination.{elimination}
 use Rattle.affine_prover.specs.declared.answer.Verdict.{Verdict}
 use Rattle.ob_check.specs.Answers.{is_refused}
-use Rattle.obligations.specs.Obligations.{Fault, obligations_of, list_fault}
+use Rattle.bounds_check.specs.Obligations.{Fault, obligations_of, list_fault}
 
 -- why a procedure is refused: its obligations can't be listed, or one is not shown: its claim as it is written, the place that owes
 -- it, and the verdict on its system

@@ -1,8 +1,8 @@
 -- What the check of a unit answers.
 use Rattle.std.specs.Prelude.{◌≡◌, ◌⊎◌, ℕ, [], Option, Some, None, Result, Ok, Err}
 use Rattle.exo_tree.specs.Places.{Path}
-use Rattle.obligations.specs.Outcomes.{IsRefusal}
-use Rattle.obligations.specs.declared.error.CheckError.TheVariants as error
+use Rattle.bounds_check.specs.Outcomes.{IsRefusal}
+use Rattle.bounds_check.specs.declared.error.CheckError.TheVariants as error
 use Rattle.unit_check.specs.Checked.{Cause, NotListed, NotShown, Checked, Shown, Refused}
 use Rattle.unit_check.specs.declared.refused.Why.{Why}
 use Rattle.unit_check.specs.declared.refused.Why.TheVariants as why

@@ -6,8 +6,8 @@ use Rattle.exo_tree.specs.Nodes.{nodes, nodes_in}
 use Rattle.exo_tree.specs.Places.{Branch, Main, Else, Path}
 use Rattle.exo_tree.specs.Branches.{branch_of}
 use Rattle.exo_tree.specs.declared.lines.ProcLines.{ProcLines}
-use Rattle.bounds_check.specs.Claims.{into}
-use Rattle.obligations.specs.Paths.{same_path}
+use Rattle.check_claims.specs.Claims.{into}
+use Rattle.bounds_check.specs.Paths.{same_path}
 
 -- the paths of the statements of a block, the first of which has that number, in preorder
 abbrev mutual

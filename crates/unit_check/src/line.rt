@@ -8,7 +8,7 @@ ghost use Rattle.exo_tree.specs.PlainPlace.{branch_taken, step_taken};
 ghost use Rattle.exo_tree.specs.PlainProcedure.{procedure};
 ghost use Rattle.exo_tree.specs.PlainStatement.{statement};
 ghost use Rattle.exo_tree.specs.PlainUnit.{program};
-ghost use Rattle.obligations.specs.Paths.{same_path};
+ghost use Rattle.bounds_check.specs.Paths.{same_path};
 ghost use Rattle.unit_check.specs.Preorder.{before, block_paths, capped, line_in, line_of, place_in, place_of};
 
 use crate::refused::UnitRefused;

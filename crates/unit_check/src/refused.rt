@@ -1,7 +1,7 @@
 //! Why a unit is refused.
 use affine_prover::Verdict;
+use bounds_check::CheckError;
 use exo_tree::{Path, ProcId, Text};
-use obligations::CheckError;
 
 /// Why a unit is refused.
 #[derive(Drop)]

@@ -1,6 +1,6 @@
 use Rattle.std.proofs.Common.{refl, subst}
 use Rattle.exo_tree.specs.PlainArgument.{argument}
-use Rattle.exo_context.specs.Live.{read_by_argument, read_by_arguments}
+use Rattle.meaning_laws.specs.Live.{read_by_argument, read_by_arguments}
 use Rattle.config_state.specs.FieldSets.{Marked}
 use Rattle.config_state.proofs.Sets.{items_marked, items_end}
 use Rattle.config_state.proofs.expression.add_arguments.Goals as goal

@@ -1,6 +1,6 @@
 use Rattle.std.proofs.Common.{refl, subst}
 use Rattle.exo_tree.specs.PlainControl.{control}
-use Rattle.exo_context.specs.Live.{read_by_controls, read_by_control}
+use Rattle.meaning_laws.specs.Live.{read_by_controls, read_by_control}
 use Rattle.config_state.specs.FieldSets.{Marked}
 use Rattle.config_state.proofs.Sets.{items_marked, items_end}
 use Rattle.config_state.proofs.expression.add_controls.Goals as goal

@@ -1,6 +1,6 @@
 use Rattle.std.proofs.Common.{◌∷◌, [], refl, subst}
 use Rattle.exo_tree.specs.PlainControl.{coordinate}
-use Rattle.exo_context.specs.Live.{read_by_coords}
+use Rattle.meaning_laws.specs.Live.{read_by_coords}
 use Rattle.config_state.specs.FieldSets.{Marked}
 use Rattle.config_state.proofs.Sets.{items_marked, items_end, coords_split}
 use Rattle.config_state.proofs.expression.add_coordinates.Goals as goal

@@ -1,6 +1,6 @@
 use Rattle.std.proofs.Common.{refl, subst}
 use Rattle.exo_tree.specs.PlainParam.{parameter}
-use Rattle.exo_context.specs.UnitFields.{read_by_params, read_by_kind}
+use Rattle.meaning_laws.specs.UnitFields.{read_by_params, read_by_kind}
 use Rattle.config_state.specs.FieldSets.{Marked}
 use Rattle.config_state.proofs.Sets.{items_marked, items_end}
 use Rattle.config_state.proofs.expression.add_params.Goals as goal

@@ -1,7 +1,7 @@
 use Rattle.std.proofs.Common.{refl}
 use Rattle.exo_tree.specs.Tree.{block}
 use Rattle.exo_tree.specs.PlainStatement.{statement}
-use Rattle.exo_context.specs.Fields.{writes_field, step_writes_field}
+use Rattle.meaning_laws.specs.Fields.{writes_field, step_writes_field}
 use Rattle.config_state.specs.FieldSets.{in_table}
 use Rattle.config_state.proofs.Sets.{block_marked}
 use Rattle.config_state.proofs.writes.+written.Goals as goal

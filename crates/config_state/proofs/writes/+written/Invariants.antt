@@ -1,6 +1,6 @@
 use Rattle.std.proofs.Common.{drop}
 use Rattle.exo_tree.specs.Tree.{block}
-use Rattle.exo_context.specs.Fields.{writes_field}
+use Rattle.meaning_laws.specs.Fields.{writes_field}
 use Rattle.config_state.specs.FieldSets.{in_table, Marked}
 use Rattle.config_state.proofs.writes.+written.Given as goal
 

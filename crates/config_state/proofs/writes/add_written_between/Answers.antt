@@ -2,7 +2,7 @@ use Rattle.std.proofs.Common.{◌≡◌, refl, sym, ap, subst, false, [], arith}
 use Rattle.std.specs.Prelude.{slice_range}
 use Rattle.exo_tree.specs.Tree.{block}
 use Rattle.exo_tree.specs.PlainStatement.{statement}
-use Rattle.exo_context.specs.Fields.{writes_field, step_writes_field}
+use Rattle.meaning_laws.specs.Fields.{writes_field, step_writes_field}
 use Rattle.config_state.specs.FieldSets.{in_table, Marked}
 use Rattle.config_state.proofs.Sets.{marked_none, range_marked, range_end}
 use Rattle.config_state.proofs.writes.add_written_between.Goals as goal

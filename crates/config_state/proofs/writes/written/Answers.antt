@@ -3,8 +3,8 @@ use Rattle.std.specs.Prelude.{IfSome, replicate, slice_range}
 use Rattle.exo_tree.specs.Tree.{block}
 use Rattle.exo_tree.specs.declared.number.FieldId.{FieldId}
 use Rattle.exo_tree.specs.PlainUnit.{program}
-use Rattle.exo_context.specs.Fields.{writes_field}
-use Rattle.exo_context.specs.UnitFields.{unit_writes}
+use Rattle.meaning_laws.specs.Fields.{writes_field}
+use Rattle.meaning_laws.specs.UnitFields.{unit_writes}
 use Rattle.config_state.specs.FieldSets.{in_table, Marked, fields_where}
 use Rattle.config_state.specs.Pieces.{piece_at}
 use Rattle.config_state.proofs.Sets.{if_ok}

@@ -3,7 +3,7 @@ use Rattle.std.specs.Prelude.{replicate}
 use Rattle.std.proofs.lemmas.List.{drop_all}
 use Rattle.exo_tree.specs.Tree.{block, Procedure}
 use Rattle.exo_tree.specs.PlainProcedure.{procedure}
-use Rattle.exo_context.specs.Fields.{writes_field}
+use Rattle.meaning_laws.specs.Fields.{writes_field}
 use Rattle.config_state.specs.FieldSets.{in_table, Marked}
 use Rattle.config_state.proofs.Sets.{drop_item}
 use Rattle.config_state.proofs.Tables.{Written, written_start, written_next, written_all}

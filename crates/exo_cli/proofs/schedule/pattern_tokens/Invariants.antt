@@ -1,5 +1,5 @@
 use Rattle.std.proofs.Common.{◌≡◌, map}
-use Rattle.exo_lexer.specs.Layout.{token_of}
+use Rattle.text_lexer.specs.Layout.{token_of}
 use Rattle.exo_cli.proofs.schedule.pattern_tokens.Given as goal
 
 abbrev pub invariant-loop-placed : goal.invariant-loop-placed

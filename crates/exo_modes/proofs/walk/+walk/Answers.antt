@@ -5,7 +5,7 @@ use Rattle.exo_tree.specs.PlainControl.{condition}
 use Rattle.exo_tree.specs.PlainDatum.{datum}
 use Rattle.exo_tree.specs.PlainStatement.{statement}
 use Rattle.exo_tree.specs.PlainUnit.{program}
-use Rattle.exo_context.specs.Touched.{picked}
+use Rattle.meaning_laws.specs.Touched.{picked}
 use Rattle.exo_modes.specs.Marks.{together, used, reads, block_marks, step_marks}
 use Rattle.exo_modes.specs.Seen.{row_says, rows_say, roots_in}
 use Rattle.exo_modes.proofs.Walks.{assigned, reduced, made, branched, walked_on, walked_off, kept_on}

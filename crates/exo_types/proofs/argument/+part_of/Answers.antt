@@ -1,8 +1,8 @@
 use Rattle.std.proofs.Common.{ap, sym, ◌∙◌, map}
 use Rattle.exo_tree.specs.Tree.{Window}
-use Rattle.exo_reader.specs.Views.{tree_of}
-use Rattle.exo_names.specs.Names.{id_in}
-use Rattle.exo_names.specs.WindowRules.{coordinates_of}
+use Rattle.text_expressions.specs.Views.{tree_of}
+use Rattle.rules_names.specs.Names.{id_in}
+use Rattle.rules_names.specs.WindowRules.{coordinates_of}
 use Rattle.exo_types.specs.ArgumentRules.{points, part_of}
 use Rattle.exo_types.proofs.Exprs.{listed, is_access}
 use Rattle.exo_types.proofs.argument.+part_of.Goals as goal

@@ -1,5 +1,5 @@
-use Rattle.exo_reader.specs.Views.{tree_of}
-use Rattle.exo_names.specs.ExpressionRules.{width}
+use Rattle.text_expressions.specs.Views.{tree_of}
+use Rattle.rules_names.specs.ExpressionRules.{width}
 use Rattle.exo_types.proofs.argument.+test_strided.Given as goal
 
 abbrev pub decreases-test_strided : goal.decreases-test_strided

@@ -1,10 +1,10 @@
 use Rattle.std.proofs.Common.{ap, sym, ◌∙◌, map, arith}
-use Rattle.exo_reader.specs.Views.{tree_of}
-use Rattle.exo_names.specs.ExpressionRules.{width, closed_width}
+use Rattle.text_expressions.specs.Views.{tree_of}
+use Rattle.rules_names.specs.ExpressionRules.{width, closed_width}
 use Rattle.exo_tree.specs.PlainBinder.{cell_type}
-use Rattle.exo_names.specs.Faults.{charged}
-use Rattle.exo_names.specs.Names.{named_in, sort_of}
-use Rattle.exo_names.specs.WindowRules.{window_faults}
+use Rattle.rules_names.specs.Faults.{charged}
+use Rattle.rules_names.specs.Names.{named_in, sort_of}
+use Rattle.rules_names.specs.WindowRules.{window_faults}
 use Rattle.exo_types.specs.ArgumentRules.{points, cell_takes, tensor_faults}
 use Rattle.exo_types.proofs.Exprs.{listed, is_access, is_parens, width_access, width_parens}
 use Rattle.exo_types.proofs.argument.+test_tensor.Goals as goal

@@ -1,7 +1,7 @@
 -- The points so far, and those of the rest.
 use Rattle.std.proofs.Common.{◌≡◌, ◌++◌, drop, map}
-use Rattle.exo_reader.specs.Views.{tree_of}
-use Rattle.exo_names.specs.WindowRules.{coordinates_of}
+use Rattle.text_expressions.specs.Views.{tree_of}
+use Rattle.rules_names.specs.WindowRules.{coordinates_of}
 use Rattle.exo_types.specs.ArgumentRules.{points}
 use Rattle.exo_types.proofs.argument.points_of.Given as goal
 

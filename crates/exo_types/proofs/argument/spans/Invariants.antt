@@ -1,6 +1,6 @@
 -- The spans so far, and those of the rest.
 use Rattle.std.proofs.Common.{◌≡◌, ◌+◌, ◌≤◌, drop, map}
-use Rattle.exo_source.specs.Views.{plain_coordinate}
+use Rattle.exo_reader.specs.Views.{plain_coordinate}
 use Rattle.exo_types.specs.ArgumentRules.{spans}
 use Rattle.exo_types.proofs.argument.spans.Given as goal
 

@@ -1,9 +1,9 @@
 use Rattle.std.proofs.Common.{ap, sym, ◌∙◌, map, length}
 use Rattle.std.proofs.lemmas.List.{length-map}
-use Rattle.exo_reader.specs.Views.{tree_of}
-use Rattle.exo_names.specs.Faults.{charged}
-use Rattle.exo_names.specs.Names.{named_in, sort_of}
-use Rattle.exo_names.specs.ExpressionRules.{name_faults, rank_faults}
+use Rattle.text_expressions.specs.Views.{tree_of}
+use Rattle.rules_names.specs.Faults.{charged}
+use Rattle.rules_names.specs.Names.{named_in, sort_of}
+use Rattle.rules_names.specs.ExpressionRules.{name_faults, rank_faults}
 use Rattle.exo_types.proofs.Parts.{cell_faults}
 use Rattle.exo_types.proofs.argument.test_cell.Goals as goal
 

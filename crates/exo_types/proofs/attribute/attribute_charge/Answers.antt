@@ -1,9 +1,9 @@
 use Rattle.std.proofs.Common.{not, map, ap, ◌∙◌}
 use Rattle.std.specs.List.{list_any}
 use Rattle.exo_meaning.specs.Units.{is_text}
-use Rattle.exo_source.specs.Views.{plain_setting}
-use Rattle.exo_names.specs.declared.error.TypeKind.TheVariants.{Redefined}
-use Rattle.exo_names.specs.Faults.{charged, unless}
+use Rattle.exo_reader.specs.Views.{plain_setting}
+use Rattle.rules_names.specs.declared.error.TypeKind.TheVariants.{Redefined}
+use Rattle.rules_names.specs.Faults.{charged, unless}
 use Rattle.exo_types.specs.MemoryRules.{trait_named, trait_faults}
 use Rattle.exo_types.proofs.attribute.attribute_charge.Goals as goal
 

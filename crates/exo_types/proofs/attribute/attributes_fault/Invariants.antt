@@ -1,6 +1,6 @@
 -- The attributes that are left decide.
 use Rattle.std.proofs.Common.{◌≡◌, ◌+◌, [], drop, take, map}
-use Rattle.exo_source.specs.Views.{plain_attribute}
+use Rattle.exo_reader.specs.Views.{plain_attribute}
 use Rattle.exo_types.specs.MemoryRules.{attributes_fault, attributes_width}
 use Rattle.exo_types.proofs.attribute.attributes_fault.Given as goal
 

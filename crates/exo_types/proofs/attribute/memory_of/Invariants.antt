@@ -1,7 +1,7 @@
 -- The attributes that are left make the rest.
 use Rattle.std.proofs.Common.{◌≡◌, drop, map}
 use Rattle.exo_tree.specs.PlainTables.{memory_kind}
-use Rattle.exo_source.specs.Views.{plain_attribute}
+use Rattle.exo_reader.specs.Views.{plain_attribute}
 use Rattle.exo_types.specs.MemoryRules.{plain_memory, with_attributes}
 use Rattle.exo_types.proofs.attribute.memory_of.Given as goal
 

@@ -1,7 +1,7 @@
 use Rattle.std.proofs.Common.{◌≤◌, ◌++◌, min, length, map, ap, sym, ◌∙◌, arith}
 use Rattle.std.proofs.lemmas.List.{append-nil, length-map, drop-map}
 use Rattle.exo_tree.specs.PlainParam.{parameter}
-use Rattle.exo_source.specs.Views.{plain_argument}
+use Rattle.exo_reader.specs.Views.{plain_argument}
 use Rattle.exo_types.specs.ArgumentRules.{arguments_of}
 use Rattle.exo_types.proofs.Calls.{none_left}
 use Rattle.exo_types.proofs.call.arguments_of.Goals as goal

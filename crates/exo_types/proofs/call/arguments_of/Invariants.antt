@@ -1,7 +1,7 @@
 -- The arguments so far, and those that are left.
 use Rattle.std.proofs.Common.{◌≡◌, ◌++◌, drop, map}
 use Rattle.exo_tree.specs.PlainParam.{parameter}
-use Rattle.exo_source.specs.Views.{plain_argument}
+use Rattle.exo_reader.specs.Views.{plain_argument}
 use Rattle.exo_types.specs.ArgumentRules.{arguments_of}
 use Rattle.exo_types.proofs.call.arguments_of.Given as goal
 

@@ -1,9 +1,9 @@
 use Rattle.std.proofs.Common.{◌≤◌, ◌<◌, ◌+◌, ◌++◌, [], not, min, length, map, drop, refl, ap, sym, ◌∙◌, arith}
 use Rattle.std.proofs.lemmas.List.{length-map, drop-map}
 use Rattle.exo_tree.specs.PlainParam.{parameter}
-use Rattle.exo_source.specs.Views.{plain_argument}
-use Rattle.exo_names.specs.declared.error.TypeKind.TheVariants.{SharedArgument}
-use Rattle.exo_names.specs.Faults.{charged, unless}
+use Rattle.exo_reader.specs.Views.{plain_argument}
+use Rattle.rules_names.specs.declared.error.TypeKind.TheVariants.{SharedArgument}
+use Rattle.rules_names.specs.Faults.{charged, unless}
 use Rattle.exo_writes.specs.Written.{roots_in, row_says}
 use Rattle.exo_types.specs.ArgumentRules.{argument_faults, arguments_faults, is_passed}
 use Rattle.exo_types.proofs.Calls.{none_broken, one_more, spaced_read, nothing_spaced}

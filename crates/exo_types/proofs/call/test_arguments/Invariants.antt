@@ -1,6 +1,6 @@
 -- What the arguments so far break, and what is left.
 use Rattle.std.proofs.Common.{◌≡◌, ◌+◌, [], drop, map}
-use Rattle.exo_source.specs.Views.{plain_argument}
+use Rattle.exo_reader.specs.Views.{plain_argument}
 use Rattle.exo_writes.specs.Written.{roots_in, row_says}
 use Rattle.exo_types.specs.ArgumentRules.{arguments_faults, spaced_width}
 use Rattle.exo_types.proofs.Gone.{Gone}

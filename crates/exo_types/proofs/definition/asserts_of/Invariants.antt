@@ -1,7 +1,7 @@
 -- What has been made, and what is left.
 use Rattle.std.proofs.Common.{◌≡◌, ◌+◌, ◌++◌, drop, map}
-use Rattle.exo_reader.specs.Views.{tree_of}
-use Rattle.exo_names.specs.Resolved.{condition_of}
+use Rattle.text_expressions.specs.Views.{tree_of}
+use Rattle.rules_names.specs.Resolved.{condition_of}
 use Rattle.exo_types.specs.Definitions.{asserts_fault}
 use Rattle.exo_types.specs.ItemRules.{asserts_width}
 use Rattle.exo_types.proofs.definition.asserts_of.Given as goal

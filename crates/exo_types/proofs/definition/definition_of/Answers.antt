@@ -1,10 +1,10 @@
 use Rattle.std.proofs.Common.{◌≡◌, ◌+◌, List, map, ap, sym, refl, subst, ◌∙◌}
-use Rattle.exo_reader.specs.Views.{tree_of}
-use Rattle.exo_reader.specs.declared.source.SourceExpr.{SourceExpr}
-use Rattle.exo_source.specs.Source.{block_of}
-use Rattle.exo_source.specs.Views.{plain_parameter, plain_definition, plain_statement}
-use Rattle.exo_source.specs.declared.source.SourceParam.{SourceParam}
-use Rattle.exo_source.specs.declared.source.SourceStmt.{SourceStmt}
+use Rattle.text_expressions.specs.Views.{tree_of}
+use Rattle.text_expressions.specs.declared.source.SourceExpr.{SourceExpr}
+use Rattle.exo_reader.specs.Source.{block_of}
+use Rattle.exo_reader.specs.Views.{plain_parameter, plain_definition, plain_statement}
+use Rattle.exo_reader.specs.declared.source.SourceParam.{SourceParam}
+use Rattle.exo_reader.specs.declared.source.SourceStmt.{SourceStmt}
 use Rattle.exo_types.specs.StatementRules.{block_width}
 use Rattle.exo_types.specs.ItemRules.{params_width, asserts_width, asserts_start, body_start, definition_end}
 use Rattle.exo_types.specs.Walks.{HasRoom, IsBlock, block_fault}

@@ -1,8 +1,8 @@
 use Rattle.std.proofs.Common.{◌≡◌, [], length, ap, sym, ◌∙◌, arith}
 use Rattle.std.proofs.lemmas.Bool.Decides.{nat_tests}
-use Rattle.exo_reader.specs.Views.{tree_of}
-use Rattle.exo_source.specs.Source.{plain}
-use Rattle.exo_source.specs.Views.{plain_kind, plain_form}
+use Rattle.text_expressions.specs.Views.{tree_of}
+use Rattle.exo_reader.specs.Source.{plain}
+use Rattle.exo_reader.specs.Views.{plain_kind, plain_form}
 use Rattle.exo_types.specs.ItemRules as rules
 use Rattle.exo_types.proofs.Params.{no_dims}
 use Rattle.exo_types.proofs.definition.form_of.Goals as goal

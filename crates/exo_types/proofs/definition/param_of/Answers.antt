@@ -1,7 +1,7 @@
 use Rattle.std.proofs.Common.{ap, ◌∙◌}
 use Rattle.exo_tree.specs.PlainParam.{parameter_kind}
-use Rattle.exo_source.specs.Views.{plain_parameter}
-use Rattle.exo_names.specs.Names.{named_in}
+use Rattle.exo_reader.specs.Views.{plain_parameter}
+use Rattle.rules_names.specs.Names.{named_in}
 use Rattle.exo_types.proofs.Broken.{exit, kept_none, kept_err, is_free}
 use Rattle.exo_types.proofs.Params.{is_param}
 use Rattle.exo_types.proofs.definition.param_of.Goals as goal

@@ -1,7 +1,7 @@
 use Rattle.std.proofs.Common.{List, drop, map, ap, subst, ◌+◌}
 use Rattle.exo_tree.specs.PlainParam.{parameter}
-use Rattle.exo_source.specs.Source.{Parameter}
-use Rattle.exo_source.specs.Views.{plain_parameter}
+use Rattle.exo_reader.specs.Source.{Parameter}
+use Rattle.exo_reader.specs.Views.{plain_parameter}
 use Rattle.exo_types.proofs.Lists.{drop_read}
 use Rattle.exo_types.proofs.Defining.{SoFar, so_on}
 use Rattle.exo_types.proofs.definition.params_of.Goals as goal

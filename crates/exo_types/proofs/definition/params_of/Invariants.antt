@@ -1,6 +1,6 @@
 -- What has been made, and what is left.
 use Rattle.std.proofs.Common.{drop, map}
-use Rattle.exo_source.specs.Views.{plain_parameter}
+use Rattle.exo_reader.specs.Views.{plain_parameter}
 use Rattle.exo_types.proofs.Defining.{SoFar}
 use Rattle.exo_types.proofs.definition.params_of.Given as goal
 

@@ -2,11 +2,11 @@ use Rattle.std.proofs.Common.{◌≡◌, ◌+◌, [], length, map, ap, sym, ◌�
 use Rattle.std.proofs.lemmas.Bool.Decides.{nat_tests}
 use Rattle.std.proofs.lemmas.List.{length-map}
 use Rattle.exo_meaning.specs.Units.{plainly}
-use Rattle.exo_reader.specs.Views.{tree_of}
-use Rattle.exo_source.specs.Source.{plain}
-use Rattle.exo_source.specs.Views.{plain_kind, plain_form}
-use Rattle.exo_names.specs.Faults.{charged}
-use Rattle.exo_names.specs.ExpressionRules.{controls_faults, closed_width}
+use Rattle.text_expressions.specs.Views.{tree_of}
+use Rattle.exo_reader.specs.Source.{plain}
+use Rattle.exo_reader.specs.Views.{plain_kind, plain_form}
+use Rattle.rules_names.specs.Faults.{charged}
+use Rattle.rules_names.specs.ExpressionRules.{controls_faults, closed_width}
 use Rattle.exo_types.specs.TypeRules.{memory_faults}
 use Rattle.exo_types.specs.ArgumentRules.{dims_width}
 use Rattle.exo_types.specs.ItemRules.{form_faults}

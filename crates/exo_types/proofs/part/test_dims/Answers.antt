@@ -1,7 +1,7 @@
 use Rattle.std.proofs.Common.{◌+◌, ap, sym, ◌∙◌, arith}
 use Rattle.exo_meaning.specs.Units.{plainly}
-use Rattle.exo_reader.specs.Views.{tree_of}
-use Rattle.exo_names.specs.Faults.{charged}
+use Rattle.text_expressions.specs.Views.{tree_of}
+use Rattle.rules_names.specs.Faults.{charged}
 use Rattle.exo_types.proofs.Parts.{some_width, no_width, no_controls}
 use Rattle.exo_types.proofs.part.test_dims.Goals as goal
 

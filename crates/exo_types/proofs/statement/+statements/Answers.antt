@@ -2,10 +2,10 @@ use Rattle.std.proofs.Common.{◌≡◌, ◌+◌, ◌-◌, [], ◌∷◌, ◌++�
 use Rattle.std.proofs.lemmas.List.{drop_all}
 use Rattle.exo_tree.specs.Tree as tree
 use Rattle.exo_tree.specs.PlainStatement.{statement}
-use Rattle.exo_reader.specs.Views.{tree_of}
-use Rattle.exo_source.specs.Source.{block_of}
-use Rattle.exo_source.specs.Views.{plain_statement}
-use Rattle.exo_names.specs.Names.{named_in}
+use Rattle.text_expressions.specs.Views.{tree_of}
+use Rattle.exo_reader.specs.Source.{block_of}
+use Rattle.exo_reader.specs.Views.{plain_statement}
+use Rattle.rules_names.specs.Names.{named_in}
 use Rattle.exo_types.specs.TypeRules.{binder}
 use Rattle.exo_types.specs.StatementRules.{statement_width, else_width}
 use Rattle.exo_types.specs.Walks.{HasRoom, Makes, IsStatement}

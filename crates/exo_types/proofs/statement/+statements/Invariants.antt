@@ -1,8 +1,8 @@
 -- The tokens that are left fall; a walk through a block has gone from its first statement to the one at hand.
 use Rattle.std.proofs.Common.{◌+◌, ◌*◌, drop, map}
-use Rattle.exo_reader.specs.Views.{tree_of}
-use Rattle.exo_source.specs.Source.{branch, loop, block_of}
-use Rattle.exo_source.specs.Views.{plain_statement}
+use Rattle.text_expressions.specs.Views.{tree_of}
+use Rattle.exo_reader.specs.Source.{branch, loop, block_of}
+use Rattle.exo_reader.specs.Views.{plain_statement}
 use Rattle.exo_types.specs.StatementRules.{statement_width, block_width}
 use Rattle.exo_types.proofs.Walked.{SoFar}
 use Rattle.exo_types.proofs.statement.+statements.Given as goal

@@ -2,9 +2,9 @@ use Rattle.std.proofs.Common.{true, length, map, ap, sym, ◌∙◌}
 use Rattle.std.proofs.lemmas.List.{length-map}
 use Rattle.exo_tree.specs.PlainBinder.{cell_type}
 use Rattle.exo_meaning.specs.Units.{BufferName, with_name}
-use Rattle.exo_reader.specs.Views.{tree_of}
-use Rattle.exo_source.specs.Views.{plain_kind}
-use Rattle.exo_names.specs.Names.{named_in}
+use Rattle.text_expressions.specs.Views.{tree_of}
+use Rattle.exo_reader.specs.Views.{plain_kind}
+use Rattle.rules_names.specs.Names.{named_in}
 use Rattle.exo_types.specs.TypeRules.{binder}
 use Rattle.exo_types.proofs.Broken.{exit, refuses_first, kept_none, kept_err, is_free}
 use Rattle.exo_types.proofs.Bound.{allocated}

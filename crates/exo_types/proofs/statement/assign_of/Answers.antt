@@ -1,6 +1,6 @@
 use Rattle.std.proofs.Common.{ap, ◌∙◌, map}
-use Rattle.exo_reader.specs.Views.{tree_of}
-use Rattle.exo_names.specs.Names.{id_in}
+use Rattle.text_expressions.specs.Views.{tree_of}
+use Rattle.rules_names.specs.Names.{id_in}
 use Rattle.exo_types.proofs.Broken.{exit, refuses_first, kept_none, kept_err}
 use Rattle.exo_types.proofs.Plain.{assigned}
 use Rattle.exo_types.proofs.statement.assign_of.Goals as goal

@@ -1,7 +1,7 @@
 use Rattle.std.proofs.Common.{length, map, option_map, ap, sym, ◌∙◌, arith}
 use Rattle.std.proofs.lemmas.List.{length-map}
-use Rattle.exo_source.specs.Views.{plain_argument}
-use Rattle.exo_names.specs.Faults.{charged, least}
+use Rattle.exo_reader.specs.Views.{plain_argument}
+use Rattle.rules_names.specs.Faults.{charged, least}
 use Rattle.exo_writes.specs.Written.{roots_in}
 use Rattle.exo_types.specs.Seen.{signature}
 use Rattle.exo_types.specs.ArgumentRules.{arguments_width, call_faults, arguments_of}

@@ -1,8 +1,8 @@
 use Rattle.std.proofs.Common.{◌+◌, option_map, ap, sym, ◌∙◌}
-use Rattle.exo_reader.specs.Views.{tree_of}
-use Rattle.exo_names.specs.Faults.{charged, least}
-use Rattle.exo_names.specs.Names.{field_in}
-use Rattle.exo_names.specs.Tables.{found_field}
+use Rattle.text_expressions.specs.Views.{tree_of}
+use Rattle.rules_names.specs.Faults.{charged, least}
+use Rattle.rules_names.specs.Names.{field_in}
+use Rattle.rules_names.specs.Tables.{found_field}
 use Rattle.exo_types.specs.StatementRules.{write_faults}
 use Rattle.exo_types.proofs.Broken.{exit, refuses_first, refuses_same, kept_none, kept_err}
 use Rattle.exo_types.proofs.Plain.{configured}

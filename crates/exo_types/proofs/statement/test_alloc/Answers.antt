@@ -1,8 +1,8 @@
 use Rattle.std.proofs.Common.{◌≡◌, ◌+◌, map, ap, ◌∙◌, arith}
 use Rattle.exo_meaning.specs.Units.{plainly}
-use Rattle.exo_reader.specs.Views.{tree_of}
-use Rattle.exo_names.specs.Faults.{charged}
-use Rattle.exo_names.specs.ExpressionRules.{controls_faults}
+use Rattle.text_expressions.specs.Views.{tree_of}
+use Rattle.rules_names.specs.Faults.{charged}
+use Rattle.rules_names.specs.ExpressionRules.{controls_faults}
 use Rattle.exo_types.specs.TypeRules.{memory_faults}
 use Rattle.exo_types.proofs.statement.test_alloc.Goals as goal
 

@@ -1,9 +1,9 @@
 use Rattle.std.proofs.Common.{◌+◌, map, ap, sym, ◌∙◌}
-use Rattle.exo_source.specs.Views.{plain_coordinate}
-use Rattle.exo_names.specs.Faults.{charged}
-use Rattle.exo_names.specs.WindowRules.{window_faults}
-use Rattle.exo_names.specs.Names.{named_in, sort_of}
-use Rattle.exo_names.specs.ExpressionRules.{is_buffer}
+use Rattle.exo_reader.specs.Views.{plain_coordinate}
+use Rattle.rules_names.specs.Faults.{charged}
+use Rattle.rules_names.specs.WindowRules.{window_faults}
+use Rattle.rules_names.specs.Names.{named_in, sort_of}
+use Rattle.rules_names.specs.ExpressionRules.{is_buffer}
 use Rattle.exo_types.proofs.statement.test_view.Goals as goal
 
 pub returns-clause-charge : goal.returns-clause-charge

@@ -1,7 +1,7 @@
 -- The parameters that are left decide.
 use Rattle.std.proofs.Common.{◌≡◌, drop, map}
 use Rattle.std.specs.List.{list_any}
-use Rattle.exo_source.specs.Views.{plain_parameter}
+use Rattle.exo_reader.specs.Views.{plain_parameter}
 use Rattle.exo_types.specs.HoleRules.{is_written_hole}
 use Rattle.exo_types.proofs.template.is_hole.Given as goal
 

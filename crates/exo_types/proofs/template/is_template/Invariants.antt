@@ -1,7 +1,7 @@
 -- What is left of the template decides.
 use Rattle.std.proofs.Common.{◌≡◌, List, Some, map}
 use Rattle.exo_tree.specs.Tree.{Param}
-use Rattle.exo_source.specs.Views.{plain_parameter}
+use Rattle.exo_reader.specs.Views.{plain_parameter}
 use Rattle.exo_meaning.specs.Units as units
 use Rattle.exo_types.specs.HoleRules.{HaveHoles, IsBegun, fits_from}
 use Rattle.exo_types.proofs.template.is_template.Given as goal

@@ -1,7 +1,7 @@
 use Rattle.std.proofs.Common.{◌≡◌, not, is_some, ap, ◌∙◌}
-use Rattle.exo_names.specs.Faults.{charged, unless}
-use Rattle.exo_names.specs.Names.{field_in}
-use Rattle.exo_names.specs.declared.error.TypeKind.TheVariants.{Redefined}
+use Rattle.rules_names.specs.Faults.{charged, unless}
+use Rattle.rules_names.specs.Names.{field_in}
+use Rattle.rules_names.specs.declared.error.TypeKind.TheVariants.{Redefined}
 use Rattle.exo_types.proofs.Broken.{exit, kept_none, kept_err}
 use Rattle.exo_types.proofs.Named.{nothing_found}
 use Rattle.exo_types.proofs.Added.{not_given}

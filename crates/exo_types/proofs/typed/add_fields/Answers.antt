@@ -1,6 +1,6 @@
 use Rattle.std.proofs.Common.{List, ◌+◌, drop, map, ap, refl, subst}
-use Rattle.exo_source.specs.Source as source
-use Rattle.exo_source.specs.Views.{plain_field}
+use Rattle.exo_reader.specs.Source as source
+use Rattle.exo_reader.specs.Views.{plain_field}
 use Rattle.exo_types.proofs.Lists.{drop_read}
 use Rattle.exo_types.proofs.Broken.{exit}
 use Rattle.exo_types.proofs.Fielded.{Given, one_given, field_refused}

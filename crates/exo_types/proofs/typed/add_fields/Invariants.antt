@@ -1,6 +1,6 @@
 -- The fields that were given, and those that are left.
 use Rattle.std.proofs.Common.{drop, map}
-use Rattle.exo_source.specs.Views.{plain_field}
+use Rattle.exo_reader.specs.Views.{plain_field}
 use Rattle.exo_types.proofs.Fielded.{Given}
 use Rattle.exo_types.proofs.typed.add_fields.Given as goal
 

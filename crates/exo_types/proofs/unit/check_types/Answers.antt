@@ -1,6 +1,6 @@
 use Rattle.std.proofs.Common.{List, map, sym, subst}
-use Rattle.exo_source.specs.Views.{plain_item}
-use Rattle.exo_source.specs.declared.source.SourceItem.{SourceItem}
+use Rattle.exo_reader.specs.Views.{plain_item}
+use Rattle.exo_reader.specs.declared.source.SourceItem.{SourceItem}
 use Rattle.exo_types.specs.Refusals.{Refuses}
 use Rattle.exo_types.specs.UnitRules.{unit_fault, items_width}
 use Rattle.exo_types.specs.Standing.{HasPlaces, IsUnitOf}

@@ -1,7 +1,7 @@
 use Rattle.std.proofs.Common.{List, drop, map, ap, subst, ◌+◌, arith}
 use Rattle.std.proofs.lemmas.List.{drop_all}
-use Rattle.exo_source.specs.Source.{Item}
-use Rattle.exo_source.specs.Views.{plain_item}
+use Rattle.exo_reader.specs.Source.{Item}
+use Rattle.exo_reader.specs.Views.{plain_item}
 use Rattle.exo_types.proofs.Lists.{drop_read}
 use Rattle.exo_types.proofs.Broken.{exit}
 use Rattle.exo_types.proofs.Items.{Below, one_added, item_refused, all_added}

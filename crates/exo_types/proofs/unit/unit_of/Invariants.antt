@@ -1,6 +1,6 @@
 -- What has been added, and what is left.
 use Rattle.std.proofs.Common.{drop, map}
-use Rattle.exo_source.specs.Views.{plain_item}
+use Rattle.exo_reader.specs.Views.{plain_item}
 use Rattle.exo_types.proofs.Items.{Below}
 use Rattle.exo_types.proofs.unit.unit_of.Given as goal
 

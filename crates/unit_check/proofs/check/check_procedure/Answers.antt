@@ -3,8 +3,8 @@ use Rattle.std.specs.Prelude.{Err, slice_get}
 use Rattle.exo_tree.specs.PlainUnit.{program}
 use Rattle.exo_tree.specs.Tree.{Procedure}
 use Rattle.affine_systems.specs.Outcomes.{plain_obligation}
-use Rattle.obligations.specs.Obligations.{list_fault, obligations_of}
-use Rattle.obligations.specs.Outcomes.{AreObligationsIn}
+use Rattle.bounds_check.specs.Obligations.{list_fault, obligations_of}
+use Rattle.bounds_check.specs.Outcomes.{AreObligationsIn}
 use Rattle.unit_check.proofs.Listing.{not_listed, listed, few_listed, holds_all}
 use Rattle.unit_check.proofs.check.check_procedure.Goals as goal
 

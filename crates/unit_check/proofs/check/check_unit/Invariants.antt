@@ -1,7 +1,7 @@
 use Rattle.std.proofs.Common.{◌≡◌, ◌≤◌, ◌*◌, drop, take, All}
 use Rattle.exo_tree.specs.PlainUnit.{program}
 use Rattle.affine_forms.specs.Affine.{HasNoIntegerPoint}
-use Rattle.obligations.specs.Obligations.{obligations_of}
+use Rattle.bounds_check.specs.Obligations.{obligations_of}
 use Rattle.unit_check.specs.Checked.{checked, checked_from}
 use Rattle.unit_check.proofs.check.check_unit.Given as goal
 

@@ -1,9 +1,9 @@
 use Rattle.std.proofs.Common.{◌≡◌, ◌+◌, ◌*◌, ◌==◌, not, [], ◌∷◌, ◌++◌, if◌then◌else◌, length, map, ap, sym, refl, ◌∙◌, arith}
 use Rattle.std.proofs.lemmas.List.{length-map}
-use Rattle.exo_source.specs.Views.{plain_field}
+use Rattle.exo_reader.specs.Views.{plain_field}
 use Rattle.exo_types.proofs.Broken.{exit, refuses_same, refuses_first, refuses_second, kept_none, kept_err}
-use Rattle.exo_names.specs.Faults.{least}
-use Rattle.exo_names.specs.Names.{name_number}
+use Rattle.rules_names.specs.Faults.{least}
+use Rattle.rules_names.specs.Names.{name_number}
 use Rattle.exo_types.proofs.Named.{configurations_after}
 use Rattle.exo_types.proofs.Added.{not_given_alone, new_fields, new_configuration, same_name_faults}
 use Rattle.exo_types.proofs.Declared.{configuration_added}

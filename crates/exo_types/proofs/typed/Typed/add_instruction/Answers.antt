@@ -1,8 +1,8 @@
 use Rattle.std.proofs.Common.{◌+◌, [], List, Some, None, map, ap, sym, subst, ◌∙◌, arith}
-use Rattle.exo_source.specs.Source.{Parameter}
-use Rattle.exo_source.specs.Views.{plain_parameter, plain_definition}
-use Rattle.exo_names.specs.Faults.{charged, unless}
-use Rattle.exo_names.specs.declared.error.TypeKind.TheVariants.{UnknownName}
+use Rattle.exo_reader.specs.Source.{Parameter}
+use Rattle.exo_reader.specs.Views.{plain_parameter, plain_definition}
+use Rattle.rules_names.specs.Faults.{charged, unless}
+use Rattle.rules_names.specs.declared.error.TypeKind.TheVariants.{UnknownName}
 use Rattle.exo_meaning.specs.Units.{is_template}
 use Rattle.exo_types.specs.HoleRules.{HaveHoles}
 use Rattle.exo_types.specs.UnitRules.{procedure_here, memory_names}

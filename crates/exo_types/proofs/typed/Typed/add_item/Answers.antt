@@ -1,6 +1,6 @@
 use Rattle.std.proofs.Common.{◌≡◌, MatchResult, map, ap, sym, subst, ◌∙◌}
-use Rattle.exo_source.specs.Source.{Item, memory}
-use Rattle.exo_source.specs.Views.{plain_attribute, plain_item}
+use Rattle.exo_reader.specs.Source.{Item, memory}
+use Rattle.exo_reader.specs.Views.{plain_attribute, plain_item}
 use Rattle.exo_types.specs.Refusals.{Refuses}
 use Rattle.exo_types.specs.UnitRules.{item_fault}
 use Rattle.exo_types.specs.Standing.{IsAdded}

@@ -1,8 +1,8 @@
 use Rattle.std.proofs.Common.{◌+◌, [], ◌∷◌, ◌++◌, map, ap, sym, refl, ◌∙◌}
 use Rattle.exo_tree.specs.PlainTables.{memory_kind}
-use Rattle.exo_source.specs.Views.{plain_attribute}
-use Rattle.exo_names.specs.Faults.{or_else}
-use Rattle.exo_names.specs.Names.{name_number}
+use Rattle.exo_reader.specs.Views.{plain_attribute}
+use Rattle.rules_names.specs.Faults.{or_else}
+use Rattle.rules_names.specs.Names.{name_number}
 use Rattle.exo_types.specs.MemoryRules.{plain_memory, with_attributes, attributes_fault}
 use Rattle.exo_types.proofs.Broken.{exit, refuses_same, refuses_first, kept_none}
 use Rattle.exo_types.proofs.Added.{not_given, new_memory}

@@ -1,9 +1,9 @@
 use Rattle.std.proofs.Common.{ℕ, ◌+◌, List, ap, sym, refl, subst, ◌∙◌, arith}
-use Rattle.exo_source.specs.Views.{plain_definition}
+use Rattle.exo_reader.specs.Views.{plain_definition}
 use Rattle.exo_tree.specs.declared.lines.ProcLines.{ProcLines}
 use Rattle.exo_tree.specs.PlainProcedure as plain
-use Rattle.exo_names.specs.Faults.{least}
-use Rattle.exo_names.specs.Names.{name_number}
+use Rattle.rules_names.specs.Faults.{least}
+use Rattle.rules_names.specs.Names.{name_number}
 use Rattle.exo_types.specs.Standing.{IsPushed}
 use Rattle.exo_types.proofs.Broken.{exit, refuses_same, refuses_first, refuses_second, kept_none, kept_err}
 use Rattle.exo_types.proofs.Added.{same_name_faults, not_given_alone, new_procedure, few_ids, procedure_added}

@@ -1,7 +1,7 @@
 use Rattle.std.proofs.Common.{ap, refl}
 use Rattle.exo_writes.specs.Written.{rows_say}
 use Rattle.exo_types.specs.Walks.{signatures_by}
-use Rattle.exo_source.specs.Views.{plain_definition}
+use Rattle.exo_reader.specs.Views.{plain_definition}
 use Rattle.exo_types.proofs.Added.{here}
 use Rattle.exo_types.proofs.Procedures.{few_memories, few_procedures}
 use Rattle.exo_types.proofs.typed.Typed.defined.Goals as goal

@@ -1,9 +1,0 @@
--- The extents that the rest of a block gives.
-use Rattle.std.proofs.Common.{◌≡◌, drop}
-use Rattle.exo_tree.specs.Tree.{block}
-use Rattle.bounds_check.specs.Extents.{with_block}
-use Rattle.bounds_check.specs.Seen.{extents_in}
-use Rattle.bounds_check.proofs.extents.Extents.+insert.Given as goal
-
-abbrev pub invariant-insert_block-loop-k : goal.invariant-insert_block-loop-k
-invariant-insert_block-loop-k l = with_block (block (drop l.k l.b)) (extents_in l.self) ≡ with_block (block l.b) (extents_in l.initial.self)

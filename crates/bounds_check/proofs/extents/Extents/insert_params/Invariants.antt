@@ -1,9 +1,0 @@
--- The extents that the other parameters give.
-use Rattle.std.proofs.Common.{◌≡◌, drop, map}
-use Rattle.exo_tree.specs.PlainParam.{parameter}
-use Rattle.bounds_check.specs.Extents.{with_params}
-use Rattle.bounds_check.specs.Seen.{extents_in}
-use Rattle.bounds_check.proofs.extents.Extents.insert_params.Given as goal
-
-abbrev pub invariant-loop-p : goal.invariant-loop-p
-invariant-loop-p l = with_params (map parameter (drop l.p-index l.p-items)) (extents_in l.self) ≡ with_params l.params (extents_in l.initial.self)

@@ -1,8 +1,0 @@
--- The extents so far, and those of the other coordinates.
-use Rattle.std.proofs.Common.{◌≡◌, ◌++◌, drop, map}
-use Rattle.exo_tree.specs.PlainControl.{coordinate}
-use Rattle.bounds_check.specs.Extents.{span_extents}
-use Rattle.bounds_check.proofs.extents.span_extents.Given as goal
-
-abbrev pub invariant-loop-c : goal.invariant-loop-c
-invariant-loop-c l = l.extents ++ span_extents (map coordinate (drop l.c-index l.coords)) ≡ span_extents (map coordinate l.coords)

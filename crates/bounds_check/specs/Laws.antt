@@ -1,0 +1,23 @@
+-- The laws of claims, each the contract of a function.
+use Rattle.std.specs.Prelude.{◌≡◌, ℕ, Bool, true, ◌&&◌, [], ◌∷◌, Some, slice_get}
+use Rattle.std.specs.List.{list_all}
+use Rattle.std.specs.Option.{is_some}
+use Rattle.exo_tree.specs.Tree.{Procedure, Program}
+use Rattle.exo_tree.specs.Places.{Path, opened}
+use Rattle.exo_meaning.specs.Units.{IsUnit}
+use Rattle.affine_forms.specs.Formulas.{condition_keeps_rules}
+use Rattle.check_claims.specs.Claim.{Placed}
+use Rattle.check_claims.specs.Claims.{claims_of}
+
+-- a path is empty or names a statement of the procedure
+abbrev pub is_place_of : Path → Procedure → Bool
+is_place_of [] p = true
+is_place_of (s ∷ path) p = is_some (opened 1 (s ∷ path) p.body)
+
+-- a claim has a formula and a context: its condition is affine, and its place is one of the procedure's
+abbrev pub may_be_owed : Procedure → Placed → Bool
+may_be_owed p c = condition_keeps_rules c.claim.says && is_place_of c.place p
+
+-- so has each claim of a well-formed procedure
+abbrev pub ClaimsMayBeOwed : Type 0
+ClaimsMayBeOwed = (u : Program) (k : ℕ) (p : Procedure) → IsUnit u → slice_get u.procedures k ≡ Some p → list_all (may_be_owed p) (claims_of u p) ≡ true

@@ -1,6 +1,0 @@
-pub mod Frames
-pub mod Scopes
-pub mod Offsets
-pub mod Parameters
-pub mod Widths
-pub mod Maps

@@ -1,0 +1,58 @@
+use Rattle.std.proofs.Common.{◌≡◌, ◌∙◌, ◌+◌, ap, ap₂, map, length, take, drop, string_bytes, arith}
+use Rattle.std.proofs.lemmas.List.{drop_all, take_all}
+use Rattle.exo_tree.specs.Tree.{block}
+use Rattle.exo_tree.specs.PlainControl.{control}
+use Rattle.exo_tree.specs.PlainStatement.{statement}
+use Rattle.exo_tree.specs.PlainUnit.{program}
+use Rattle.exo_meaning.specs.Scene.{updated}
+use Rattle.c_tree.specs.CTree.{Loop, cblock, followed_by}
+use Rattle.c_tree.specs.Lowered.{NumberForm, number_of, block_of}
+use Rattle.c_tree.specs.Plain.{plain_number, plain_statement}
+use Rattle.c_printer.specs.Scope.{forms_in}
+use Rattle.c_printer.specs.Naming.{naming_of}
+use Rattle.c_printer.specs.Heads.{scope_after, frees}
+use Rattle.c_printer.proofs.Frames.{followed_by_stop, still_alone, next_made, all_made}
+use Rattle.c_printer.proofs.Scopes.{still_kept}
+use Rattle.c_printer.proofs.blocks.+lower.Goals as goal
+
+pub lower_loop-returns-clause-value : goal.lower_loop-returns-clause-value
+lower_loop-returns-clause-value t c =
+    let naming = naming_of c.args.names.now in
+    let forms = forms_in c.args.scope.now.items in
+    let counter : string_bytes c.in_ok-counter.counter ≡ naming.binder c.args.i.now.id.0 = c.in_ok-counter.ensures in
+    let low : plain_number c.in_ok-low.low ≡ number_of naming forms (control c.args.lo.now) = c.in_ok-low.ensures ∙ ap (λ es. number_of naming (forms_in es) (control c.args.lo.now)) c.deref.ensures.value in
+    let high : plain_number c.in_ok-high.high ≡ number_of naming forms (control c.args.hi.now) = c.in_ok-high.ensures ∙ ap (λ es. number_of naming (forms_in es) (control c.args.hi.now)) c.deref-2.ensures.value in
+    let body : cblock c.in_ok-body.body ≡ block_of naming (updated forms c.args.i.now.id.0 NumberForm) (block c.args.body.now) = c.in_ok-body.ensures.value ∙ ap (λ f. block_of naming f (block c.args.body.now)) c.in_ok-enter.ensures.forms in
+    λ j. Loop (counter j) (low j) (high j) (body j)
+
+pub lower_block-loop-k-init : goal.lower_block-loop-k-init
+lower_block-loop-k-init t c =
+    let naming = naming_of c.args.names.now in
+    let whole = block_of naming (forms_in c.args.scope.now.items) (block c.args.b.now) in
+    record {
+      left = c.requires;
+      whole = ap₂ (λ made xs. followed_by (cblock made) (followed_by whole (frees naming (map (λ x. x.0) xs)))) c.new-made.ensures c.new-buffers.ensures.items ∙ followed_by_stop whole;
+      kept = take_all (length c.args.scope.now.items) c.args.scope.now.items (omega arith);
+    }
+
+pub lower_block-loop-k-preserved : goal.lower_block-loop-k-preserved
+lower_block-loop-k-preserved t c =
+    let unit = program c.args.names.now.unit.now in
+    let b = c.args.b.now in
+    let a = statement c.statement-s.result.now in
+    let alone = still_alone unit.memories a (drop (c.loop-k.k + 1) b) (drop c.loop-k.k b) c.statement-s.ensures.value c.loop-k.invariant.left in
+    let scope = c.in_ok-open_buffer.ensures.forms ∙ ap (λ es. scope_after a (forms_in es)) c.in_ok-lower_statement.ensures.scope in
+    let kept = ap (take (length c.args.scope.now.items)) c.in_ok-lower_statement.ensures.scope ∙ c.loop-k.invariant.kept in
+    record {
+      left = alone.1;
+      whole = next_made unit c.args.names.now.binders.now (forms_in c.loop-k.scope.items) (forms_in c.open_buffer.new.scope.items) a (drop (c.loop-k.k + 1) b) (drop c.loop-k.k b) c.loop-k.made c.push.new.self (plain_statement c.in_ok-lower_statement.field-0) (map (λ x. x.0) c.loop-k.buffers.items) (map (λ x. x.0) c.open_buffer.new.buffers.items) _ c.statement-s.ensures.value alone.0 c.in_ok-lower_statement.ensures.value c.in_ok-push.ensures.pushed scope c.in_ok-open_buffer.ensures.buffers c.loop-k.invariant.whole;
+      kept = still_kept c.args.scope.now.items c.lower_statement.new.scope.items c.open_buffer.new.scope.items kept c.in_ok-open_buffer.ensures.kept;
+    }
+
+pub lower_block-returns-clause-value : goal.lower_block-returns-clause-value
+lower_block-returns-clause-value t c =
+    let naming = naming_of c.args.names.now in
+    let none_left = drop_all c.loop-k.k c.args.b.now (omega (arith, c.len-k-end.ensures, c.loop-k-test.false)) in
+    c.in_ok-put_frees.ensures
+    ∙ ap (λ xs. followed_by (cblock c.loop-k.made) (frees naming (map (λ x. x.0) xs))) c.deref.ensures.value
+    ∙ all_made naming (forms_in c.loop-k.scope.items) (drop c.loop-k.k c.args.b.now) (cblock c.loop-k.made) (map (λ x. x.0) c.loop-k.buffers.items) _ none_left c.loop-k.invariant.whole

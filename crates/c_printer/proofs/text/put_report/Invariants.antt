@@ -1,8 +1,0 @@
--- What is written and what is left make the whole.
-use Rattle.std.proofs.Common.{◌≡◌, [], ◌++◌, drop, map, string_bytes}
-use Rattle.c_printer.specs.CText.{each, margin, report_text, include_text, field_text, function_text}
-use Rattle.c_printer.specs.Plain.{plain_line, plain_function}
-use Rattle.c_printer.proofs.text.put_report.Given as goal
-
-abbrev pub invariant-loop-r : goal.invariant-loop-r
-invariant-loop-r l = string_bytes l.out ++ each report_text (map plain_line (drop l.r-index l.report)) ≡ string_bytes l.initial.out ++ each report_text (map plain_line l.report)

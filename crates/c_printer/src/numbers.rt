@@ -1,0 +1,239 @@
+//! The C of control expressions.
+ghost use Rattle.std.specs.Prelude.{◌≡◌, ◌+◌, map, drop, IfOk};
+ghost use Rattle.exo_tree.specs.PlainControl.{control};
+ghost use Rattle.c_tree.specs.CTree.{Sum, Product};
+ghost use Rattle.c_tree.specs.Plain.{plain_number};
+ghost use Rattle.c_tree.specs.Lowered.{number_of, numbers_of, dims_of, product_from, product_of, row_strides, or_one, strides_in, horner, offset};
+ghost use Rattle.c_printer.specs.Scope.{forms_in};
+ghost use Rattle.c_printer.specs.Naming.{naming_of, extent_of};
+ghost use Rattle.c_printer.specs.Heads.{offset_behind};
+
+use crate::names::Names;
+use crate::scope::{Entry, Form, find};
+use c_tree::tree::CNumber;
+use exo_tree::{Ctrl, Id, Indices};
+use std::alloc::{AllocError, Global};
+
+/// The product of two numbers.
+fn times(alloc: Global, a: CNumber, b: CNumber) -> Result<CNumber, AllocError>
+    ensures { IfOk result (λ n. plain_number n ≡ Product (plain_number a) (plain_number b)) }
+{
+    let left = Box::new(alloc, a)?;
+    Ok(CNumber::Product(left, Box::new(alloc, b)?))
+}
+
+/// The sum of two numbers.
+fn plus(alloc: Global, a: CNumber, b: CNumber) -> Result<CNumber, AllocError>
+    ensures { IfOk result (λ n. plain_number n ≡ Sum (plain_number a) (plain_number b)) }
+{
+    let left = Box::new(alloc, a)?;
+    Ok(CNumber::Sum(left, Box::new(alloc, b)?))
+}
+
+/// The C of a dimension, which holds no stride.
+fn lower_extent(alloc: Global, names: &Names<'_>, e: &Ctrl) -> Result<CNumber, AllocError>
+    ensures { IfOk result (λ n. plain_number n ≡ extent_of (naming_of names.now) (control e.now)) }
+{
+    match e {
+        Ctrl::Lit(n) => Ok(CNumber::Literal(*n)),
+        Ctrl::Var(x) => Ok(CNumber::Named(names.binder(alloc, *x)?)),
+        Ctrl::Field(f) => Ok(CNumber::Named(names.field(alloc, *f)?)),
+        Ctrl::Stride(_, _) => Ok(CNumber::Literal(1)),
+        Ctrl::Neg(a) => Ok(CNumber::Opposite(Box::new(alloc, lower_extent(alloc, names, a)?)?)),
+        Ctrl::Add(a, b) => {
+            let left = Box::new(alloc, lower_extent(alloc, names, a)?)?;
+            Ok(CNumber::Sum(left, Box::new(alloc, lower_extent(alloc, names, b)?)?))
+        }
+        Ctrl::Sub(a, b) => {
+            let left = Box::new(alloc, lower_extent(alloc, names, a)?)?;
+            Ok(CNumber::Difference(left, Box::new(alloc, lower_extent(alloc, names, b)?)?))
+        }
+        Ctrl::Mul(a, b) => {
+            let left = Box::new(alloc, lower_extent(alloc, names, a)?)?;
+            Ok(CNumber::Product(left, Box::new(alloc, lower_extent(alloc, names, b)?)?))
+        }
+        Ctrl::Div(a, n) => {
+            let left = Box::new(alloc, lower_extent(alloc, names, a)?)?;
+            Ok(CNumber::Quotient(left, *n))
+        }
+        Ctrl::Mod(a, n) => {
+            let left = Box::new(alloc, lower_extent(alloc, names, a)?)?;
+            Ok(CNumber::Remainder(left, *n))
+        }
+    }
+}
+
+/// The product of a number and dimensions, each multiplied on the right.
+fn times_extents(
+    alloc: Global,
+    names: &Names<'_>,
+    product: CNumber,
+    dims: &[Ctrl],
+) -> Result<CNumber, AllocError>
+    ensures { IfOk result (λ n. plain_number n ≡ product_from (plain_number product) (dims_of (naming_of names.now) (map control dims.now))) }
+{
+    let Some((d, rest)) = dims.split_first() else {
+        return Ok(product);
+    };
+    let extent = lower_extent(alloc, names, d)?;
+    let more = times(alloc, product, extent)?;
+    let whole = times_extents(alloc, names, more, rest)?;
+    Ok(whole)
+}
+
+/// The product of dimensions; 1 where there is none.
+pub(crate) fn lower_product(
+    alloc: Global,
+    names: &Names<'_>,
+    dims: &[Ctrl],
+) -> Result<CNumber, AllocError>
+    ensures { IfOk result (λ n. plain_number n ≡ product_of (dims_of (naming_of names.now) (map control dims.now))) }
+{
+    let Some((d, rest)) = dims.split_first() else {
+        return Ok(CNumber::Literal(1));
+    };
+    let first = lower_extent(alloc, names, d)?;
+    let whole = times_extents(alloc, names, first, rest)?;
+    Ok(whole)
+}
+
+/// The dimensions after that one.
+fn later(dims: &[Ctrl], k: u32) -> &[Ctrl]
+    ensures { map control result.now ≡ drop (k + 1) (map control dims.now) }
+{
+    let from = (k as usize + 1).min(dims.len());
+    &dims[from..]
+}
+
+/// The stride of a dimension of a buffer of these dimensions: the product of the later ones.
+fn dense_stride(
+    alloc: Global,
+    names: &Names<'_>,
+    dims: &Indices,
+    k: u32,
+) -> Result<CNumber, AllocError>
+    ensures { IfOk result (λ n. plain_number n ≡ or_one (row_strides (dims_of (naming_of names.now) dims.now)) k) }
+{
+    let rest = later(dims.as_slice(), k);
+    let stride = lower_product(alloc, names, rest)?;
+    Ok(stride)
+}
+
+/// The stride of a dimension of a name; 1 for what is no buffer.
+fn lower_stride(
+    alloc: Global,
+    names: &Names<'_>,
+    scope: &[Entry],
+    x: Id,
+    k: u32,
+) -> Result<CNumber, AllocError>
+    ensures { IfOk result (λ n. plain_number n ≡ or_one (strides_in (naming_of names.now) x.0 (forms_in scope.now x.0)) k) }
+{
+    match find(scope, x) {
+        Some(Form::Tensor(_, dims)) => {
+            let stride = dense_stride(alloc, names, dims, k)?;
+            Ok(stride)
+        }
+        Some(Form::Number) => Ok(CNumber::Literal(1)),
+        None => Ok(CNumber::Literal(1)),
+    }
+}
+
+/// The C of a control expression.
+pub(crate) fn lower_number(
+    alloc: Global,
+    names: &Names<'_>,
+    scope: &[Entry],
+    e: &Ctrl,
+) -> Result<CNumber, AllocError>
+    ensures { IfOk result (λ n. plain_number n ≡ number_of (naming_of names.now) (forms_in scope.now) (control e.now)) }
+{
+    match e {
+        Ctrl::Lit(n) => Ok(CNumber::Literal(*n)),
+        Ctrl::Var(x) => Ok(CNumber::Named(names.binder(alloc, *x)?)),
+        Ctrl::Field(f) => Ok(CNumber::Named(names.field(alloc, *f)?)),
+        Ctrl::Stride(x, k) => Ok(lower_stride(alloc, names, scope, *x, *k)?),
+        Ctrl::Neg(a) => Ok(CNumber::Opposite(Box::new(
+            alloc,
+            lower_number(alloc, names, scope, a)?,
+        )?)),
+        Ctrl::Add(a, b) => {
+            let a = Box::new(alloc, lower_number(alloc, names, scope, a)?)?;
+            Ok(CNumber::Sum(a, Box::new(alloc, lower_number(alloc, names, scope, b)?)?))
+        }
+        Ctrl::Sub(a, b) => {
+            let a = Box::new(alloc, lower_number(alloc, names, scope, a)?)?;
+            Ok(CNumber::Difference(a, Box::new(alloc, lower_number(alloc, names, scope, b)?)?))
+        }
+        Ctrl::Mul(a, b) => {
+            let a = Box::new(alloc, lower_number(alloc, names, scope, a)?)?;
+            Ok(CNumber::Product(a, Box::new(alloc, lower_number(alloc, names, scope, b)?)?))
+        }
+        Ctrl::Div(a, n) => {
+            let a = Box::new(alloc, lower_number(alloc, names, scope, a)?)?;
+            Ok(CNumber::Quotient(a, *n))
+        }
+        Ctrl::Mod(a, n) => {
+            let a = Box::new(alloc, lower_number(alloc, names, scope, a)?)?;
+            Ok(CNumber::Remainder(a, *n))
+        }
+    }
+}
+
+/// An offset by the later indices: `((at * d) + e)` and so on.
+fn add_rows(
+    alloc: Global,
+    names: &Names<'_>,
+    scope: &[Entry],
+    at: CNumber,
+    is: &[Ctrl],
+    dims: &[Ctrl],
+) -> Result<CNumber, AllocError>
+    ensures { IfOk result (λ n. plain_number n ≡ horner (plain_number at) (numbers_of (naming_of names.now) (forms_in scope.now) (map control is.now)) (dims_of (naming_of names.now) (map control dims.now))) }
+{
+    let Some((i, inner)) = is.split_first() else {
+        return Ok(at);
+    };
+    let Some((d, rest)) = dims.split_first() else {
+        return Ok(at);
+    };
+    let extent = lower_extent(alloc, names, d)?;
+    let row = times(alloc, at, extent)?;
+    let index = lower_number(alloc, names, scope, i)?;
+    let next = plus(alloc, row, index)?;
+    let whole = add_rows(alloc, names, scope, next, inner, rest)?;
+    Ok(whole)
+}
+
+/// The offset of a cell by its indices and the dimensions behind the first.
+fn rows_offset(
+    alloc: Global,
+    names: &Names<'_>,
+    scope: &[Entry],
+    is: &[Ctrl],
+    rest: &[Ctrl],
+) -> Result<CNumber, AllocError>
+    ensures { IfOk result (λ n. plain_number n ≡ offset_behind (numbers_of (naming_of names.now) (forms_in scope.now) (map control is.now)) (dims_of (naming_of names.now) (map control rest.now))) }
+{
+    let Some((i, inner)) = is.split_first() else {
+        return Ok(CNumber::Literal(0));
+    };
+    let first = lower_number(alloc, names, scope, i)?;
+    let whole = add_rows(alloc, names, scope, first, inner, rest)?;
+    Ok(whole)
+}
+
+/// The offset of a cell in a dense, row-major buffer of these dimensions.
+pub(crate) fn lower_offset(
+    alloc: Global,
+    names: &Names<'_>,
+    scope: &[Entry],
+    is: &Indices,
+    dims: &Indices,
+) -> Result<CNumber, AllocError>
+    ensures { IfOk result (λ n. plain_number n ≡ offset (numbers_of (naming_of names.now) (forms_in scope.now) is.now) (dims_of (naming_of names.now) dims.now)) }
+{
+    let rest = later(dims.as_slice(), 0);
+    let offset = rows_offset(alloc, names, scope, is.as_slice(), rest)?;
+    Ok(offset)
+}

@@ -1,0 +1,87 @@
+-- The plain trees of the program's trees of C.
+use Rattle.std.specs.Prelude.{List, [], map, string_bytes}
+use Rattle.exo_tree.specs.Tree.{Cell, I8, I32}
+use Rattle.c_tree.specs.CTree as c
+use Rattle.c_tree.specs.declared.tree.CType.{CType}
+use Rattle.c_tree.specs.declared.tree.CType.TheVariants.{Int8, Int32}
+use Rattle.c_tree.specs.declared.tree.CNumber.{CNumber, Literal, Named, Opposite', Sum', Difference', Product', Quotient', Remainder'}
+use Rattle.c_tree.specs.declared.tree.CTest.{CTest, Always, Never, IsSet, Less, LessEqual, More, MoreEqual, Equal, Both', Either'}
+use Rattle.c_tree.specs.declared.tree.CCell.{CCell}
+use Rattle.c_tree.specs.declared.tree.CData as d
+use Rattle.c_tree.specs.declared.tree.CValue.{CValue}
+use Rattle.c_tree.specs.declared.tree.CValue.TheVariants as v
+use Rattle.c_tree.specs.declared.tree.CStatement.{CStatement}
+use Rattle.c_tree.specs.declared.tree.CStatement.TheVariants as s
+use Rattle.c_tree.specs.declared.tree.CParam.{CParam}
+use Rattle.c_tree.specs.declared.tree.CParam.TheVariants as p
+use Rattle.c_tree.specs.declared.tree.CFunction.{CFunction}
+use Rattle.c_tree.specs.declared.tree.ReportLine.{ReportLine}
+use Rattle.c_tree.specs.declared.tree.CUnit.{CUnit}
+
+abbrev pub plain_type : CType → Cell
+plain_type Int8 = I8
+plain_type Int32 = I32
+
+abbrev pub plain_number : CNumber → c.Number64
+plain_number (Literal n) = c.Literal n
+plain_number (Named x) = c.Named (string_bytes x)
+plain_number (Opposite' p a) = c.Opposite (plain_number a)
+plain_number (Sum' p a q b) = c.Sum (plain_number a) (plain_number b)
+plain_number (Difference' p a q b) = c.Difference (plain_number a) (plain_number b)
+plain_number (Product' p a q b) = c.Product (plain_number a) (plain_number b)
+plain_number (Quotient' p a n) = c.Quotient (plain_number a) n
+plain_number (Remainder' p a n) = c.Remainder (plain_number a) n
+
+abbrev pub plain_test : CTest → c.Test
+plain_test Always = c.Always
+plain_test Never = c.Never
+plain_test (IsSet x) = c.IsSet (string_bytes x)
+plain_test (Less a b) = c.Less (plain_number a) (plain_number b)
+plain_test (LessEqual a b) = c.LessEqual (plain_number a) (plain_number b)
+plain_test (More a b) = c.More (plain_number a) (plain_number b)
+plain_test (MoreEqual a b) = c.MoreEqual (plain_number a) (plain_number b)
+plain_test (Equal a b) = c.Equal (plain_number a) (plain_number b)
+plain_test (Both' p a q b) = c.Both (plain_test a) (plain_test b)
+plain_test (Either' p a q b) = c.Either (plain_test a) (plain_test b)
+
+abbrev pub plain_cell : CCell → c.CellRef
+plain_cell x = c.InArray (string_bytes x.array) (plain_number x.offset)
+
+abbrev pub plain_data : d.CData → c.Number32
+plain_data (d.Literal n) = c.Literal32 n
+plain_data (d.Read x) = c.Read32 (plain_cell x)
+plain_data (d.Opposite' p a) = c.Opposite32 (plain_data a)
+plain_data (d.Relu' p a) = c.Relu32 (plain_data a)
+plain_data (d.Sum' p a q b) = c.Sum32 (plain_data a) (plain_data b)
+plain_data (d.Difference' p a q b) = c.Difference32 (plain_data a) (plain_data b)
+plain_data (d.Product' p a q b) = c.Product32 (plain_data a) (plain_data b)
+plain_data (d.Select' p a q b r x s y) = c.Select32 (plain_data a) (plain_data b) (plain_data x) (plain_data y)
+
+abbrev pub plain_value : CValue → c.Actual
+plain_value (v.Number a) = c.Control64 (plain_number a)
+plain_value (v.Test t) = c.Tested (plain_test t)
+
+-- one level, since a block is already seen as a list of plain statements
+abbrev pub plain_statement : CStatement → c.CStatement
+plain_statement (s.Store t x e) = c.Store (plain_type t) (plain_cell x) (plain_data e)
+plain_statement (s.AddTo t x e) = c.AddTo (plain_type t) (plain_cell x) (plain_data e)
+plain_statement (s.SetField x a) = c.SetField (string_bytes x) (plain_value a)
+plain_statement s.Empty = c.Empty
+plain_statement (s.Branch t a b) = c.Branch (plain_test t) (c.cblock a) (c.cblock b)
+plain_statement (s.Loop x lo hi b) = c.Loop (string_bytes x) (plain_number lo) (plain_number hi) (c.cblock b)
+plain_statement (s.Array t x n) = c.Array (c.Single (plain_type t)) (string_bytes x) n
+plain_statement (s.Malloc t x n) = c.Malloc (c.Single (plain_type t)) (string_bytes x) (plain_number n)
+plain_statement (s.Free x) = c.Free (string_bytes x)
+
+abbrev pub plain_param : CParam → c.Formal
+plain_param (p.Number x) = c.Number64Param (string_bytes x)
+plain_param (p.Array t x) = c.ArrayParam (plain_type t) (string_bytes x)
+
+abbrev pub plain_function : CFunction → c.CFunction
+plain_function f = record { name = string_bytes f.name; formals = map plain_param f.params.items; body = c.cblock f.body }
+
+abbrev pub plain_line : ReportLine → c.ReportLine
+plain_line r = record { name = string_bytes r.name; origin = string_bytes r.origin; differs = map string_bytes r.differs.items }
+
+abbrev pub plain_unit : CUnit → c.CUnit
+plain_unit u = record { report = map plain_line u.report.items; includes = map string_bytes u.includes.items; structs = []; fields = map string_bytes u.fields.items; functions = map plain_function u.functions.items }

@@ -1,0 +1,197 @@
+//! Trees of C, with one form for each kind of C text that a procedure becomes.
+ghost use Rattle.std.specs.Prelude.{◌≡◌, ◌≤◌, ◌<◌, ◌+◌, ◌==◌, [], ◌∷◌, ◌++◌, length, drop, OnOk, OnErr};
+ghost use Rattle.c_tree.specs.Sizes.{nodes, nodes_of};
+ghost use Rattle.c_tree.specs.Plain.{plain_statement};
+
+use std::alloc::{AllocError, Global};
+use std::marker::Model;
+
+/// A signed integer type of a cell: `int8_t` or `int32_t`.
+#[derive(Clone, Copy)]
+pub enum CType {
+    Int8,
+    Int32,
+}
+
+/// An expression over 64-bit numbers. A quotient and a remainder are by a literal, and round towards minus infinity.
+#[derive(Drop)]
+pub enum CNumber {
+    Literal(i64),
+    Named(String),
+    Opposite(Box<CNumber>),
+    Sum(Box<CNumber>, Box<CNumber>),
+    Difference(Box<CNumber>, Box<CNumber>),
+    Product(Box<CNumber>, Box<CNumber>),
+    Quotient(Box<CNumber>, i64),
+    Remainder(Box<CNumber>, i64),
+}
+
+/// A condition.
+#[derive(Drop)]
+pub enum CTest {
+    Always,
+    Never,
+    /// The number of that name is not 0.
+    IsSet(String),
+    Less(CNumber, CNumber),
+    LessEqual(CNumber, CNumber),
+    More(CNumber, CNumber),
+    MoreEqual(CNumber, CNumber),
+    Equal(CNumber, CNumber),
+    Both(Box<CTest>, Box<CTest>),
+    Either(Box<CTest>, Box<CTest>),
+}
+
+/// The cell of an array at an offset.
+#[derive(Drop)]
+pub struct CCell {
+    pub array: String,
+    pub offset: CNumber,
+}
+
+/// An expression over unsigned 32-bit numbers.
+#[derive(Drop)]
+pub enum CData {
+    Literal(i64),
+    Read(CCell),
+    Opposite(Box<CData>),
+    Relu(Box<CData>),
+    Sum(Box<CData>, Box<CData>),
+    Difference(Box<CData>, Box<CData>),
+    Product(Box<CData>, Box<CData>),
+    /// The third where the first is below the second as signed numbers, else the fourth.
+    Select(Box<CData>, Box<CData>, Box<CData>, Box<CData>),
+}
+
+/// What a configuration field is set to.
+#[derive(Drop)]
+pub enum CValue {
+    Number(CNumber),
+    Test(CTest),
+}
+
+/// A statement.
+#[cycle(ctree)]
+#[derive(Drop)]
+pub enum CStatement {
+    /// The cell gets the number, converted to the type.
+    Store(CType, CCell, CData),
+    /// The cell gets the sum of what it holds and the number, converted to the type.
+    AddTo(CType, CCell, CData),
+    SetField(String, CValue),
+    Empty,
+    Branch(CTest, CBlock, CBlock),
+    /// A counter from the first number up to the second, which it does not reach.
+    Loop(String, CNumber, CNumber, CBlock),
+    /// An array on the stack, of so many cells.
+    Array(CType, String, i64),
+    /// An array on the heap, of so many cells.
+    Malloc(CType, String, CNumber),
+    Free(String),
+}
+
+/// Statements in order.
+#[cycle(ctree)]
+#[derive(Drop)]
+pub struct CBlock {
+    statements: Vec<CStatement>,
+}
+
+impl Model for CBlock {
+    ghost use Rattle.std.specs.Prelude.{List};
+    ghost use Rattle.std.specs.Coded.{coded_list};
+    ghost use Rattle.c_tree.specs.CTree.{CStatement};
+    ghost use Rattle.c_tree.specs.Code.{statement_code};
+    ghost use Rattle.c_tree.specs.Sizes.{nodes_of};
+
+    ghost Value = { List CStatement };
+
+    ghost coded = { coded_list statement_code };
+
+    ghost use Rattle.std.specs.Prelude.{map};
+    ghost use Rattle.c_tree.specs.Plain.{plain_statement};
+
+    ghost view = { λ b. map plain_statement b.statements.items };
+
+    ghost size = { nodes_of };
+
+    ghost use Rattle.std.proofs.Common.{arith};
+    ghost use Rattle.c_tree.specs.Falls.{depth_le-nodes};
+
+    ghost size_decreases = { λ a h. omega (arith, depth_le-nodes a.statements.items) };
+}
+
+impl CBlock {
+    /// The empty block.
+    pub fn new(alloc: Global) -> CBlock
+        ensures { result ≡ [] }
+    {
+        CBlock {
+            statements: Vec::new(alloc),
+        }
+    }
+
+    /// The statement goes last; after want of memory the block is unchanged.
+    pub fn push(&mut self, s: CStatement) -> Result<(), AllocError>
+        ensures pushed { OnOk result (self.new ≡ self.old ++ plain_statement s ∷ []) }
+        ensures unchanged { OnErr result (self.new ≡ self.old) }
+    {
+        self.statements.push(s)?;
+        Ok(())
+    }
+
+    /// How many statements there are.
+    pub fn len(&self) -> usize
+        ensures { result ≡ length self.now }
+    {
+        self.statements.len()
+    }
+
+    /// Whether there is no statement.
+    pub fn is_empty(&self) -> bool
+        ensures { result ≡ (length self.now == 0) }
+    {
+        self.statements.is_empty()
+    }
+
+    /// The statement at a place.
+    pub fn statement(&self, k: usize) -> &CStatement
+        requires { k < length self.now }
+        ensures value { drop k self.now ≡ plain_statement result.now ∷ drop (k + 1) self.now }
+        ensures smaller { nodes (plain_statement result.now) ≤ nodes_of self.now }
+    {
+        &self.statements[k]
+    }
+}
+
+/// A parameter of a function: a 64-bit number, or the first cell of an array.
+#[derive(Drop)]
+pub enum CParam {
+    Number(String),
+    Array(CType, String),
+}
+
+/// A function that returns nothing.
+#[derive(Drop)]
+pub struct CFunction {
+    pub name: String,
+    pub params: Vec<CParam>,
+    pub body: CBlock,
+}
+
+/// What the report says of a function: which procedure of the text it comes from, and which fields it may leave different.
+#[derive(Drop)]
+pub struct ReportLine {
+    pub name: String,
+    pub origin: String,
+    pub differs: Vec<String>,
+}
+
+/// A file of C: the report, further headers, the names of the configuration fields, the functions.
+#[derive(Drop)]
+pub struct CUnit {
+    pub report: Vec<ReportLine>,
+    pub includes: Vec<String>,
+    pub fields: Vec<String>,
+    pub functions: Vec<CFunction>,
+}

@@ -1,0 +1,9 @@
+pub mod Pairs
+pub mod Extents
+pub mod Arguments
+pub mod Claim
+pub mod ClaimCodes
+pub mod PlainClaim
+pub mod Claims
+pub mod Short
+pub mod Seen

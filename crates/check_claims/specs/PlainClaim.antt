@@ -1,0 +1,12 @@
+-- The plain forms of claims.
+use Rattle.std.specs.Prelude.{string_bytes}
+use Rattle.exo_tree.specs.PlainControl.{condition}
+use Rattle.check_claims.specs.Claim as plain
+use Rattle.check_claims.specs.declared.claim.Claim.{Claim}
+use Rattle.check_claims.specs.declared.claim.Placed.{Placed}
+
+abbrev pub claim : Claim → plain.Claim
+claim c = record { says = condition c.says; text = string_bytes c.text }
+
+abbrev pub placed : Placed → plain.Placed
+placed p = record { place = p.place; claim = claim p.claim }

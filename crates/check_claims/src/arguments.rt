@@ -1,0 +1,179 @@
+//! Expressions of a callee under the arguments of a call.
+ghost use Rattle.std.specs.Prelude.{◌≡◌, ◌≤◌, length, map, IfOk, option_map};
+ghost use Rattle.std.specs.Option.{option_copied};
+ghost use Rattle.exo_tree.specs.PlainControl.{control, condition, coordinate};
+ghost use Rattle.exo_tree.specs.PlainParam.{parameter};
+ghost use Rattle.exo_tree.specs.PlainArgument.{argument};
+ghost use Rattle.check_claims.specs.Arguments.{passed_for, number_for, truth_for, is_span, span_place, window_stride, stride_for, control_under, condition_under};
+
+use exo_tree::{Arg, Args, Cond, Coord, Ctrl, Id, Param, Params};
+use std::alloc::{AllocError, Global};
+
+/// The parameters of a callee, and what a call passes for them.
+#[derive(Clone, Copy)]
+pub(crate) struct Passed<'a> {
+    pub(crate) params: &'a Params,
+    pub(crate) args: &'a Args,
+}
+
+/// What is passed for a parameter; None where the id is that of no parameter.
+fn argument_for<'a>(params: &[Param], args: &'a [Arg], x: Id) -> Option<&'a Arg>
+    ensures { option_map argument (option_copied result) ≡ passed_for (map parameter params.now) (map argument args.now) x.0 }
+{
+    for k in 0..params.len().min(args.len()) {
+        if params[k].binder.id.0 == x.0 {
+            return Some(&args[k]);
+        }
+    }
+    None
+}
+
+fn is_span(c: &Coord) -> bool
+    ensures { result ≡ is_span (coordinate c.now) }
+{
+    match c {
+        Coord::At(_) => false,
+        Coord::Span(_, _) => true,
+    }
+}
+
+/// The number of the coordinate that is the span of that number; that of coordinates where there are not so many spans.
+fn span_place(coords: &[Coord], k: u32) -> u32
+    requires { length coords.now ≤ 8 }
+    ensures { result ≡ span_place k (map coordinate coords.now) }
+{
+    let mut place = 0;
+    let mut left = k;
+    for c in coords {
+        if is_span(c) {
+            if left == 0 {
+                return place;
+            }
+            left -= 1;
+        }
+        place += 1;
+    }
+    place
+}
+
+/// The stride of a window's dimension.
+fn window_stride(y: Id, coords: &[Coord], k: u32) -> Ctrl
+    ensures { control result ≡ window_stride y.0 k (map coordinate coords.now) }
+{
+    let rank = coords.len().min(8);
+    Ctrl::Stride(y, span_place(&coords[..rank], k))
+}
+
+impl<'a> Passed<'a> {
+    fn get(&self, x: Id) -> Option<&'a Arg>
+        ensures { option_map argument (option_copied result) ≡ passed_for self.now.params.now self.now.args.now x.0 }
+    {
+        argument_for(self.params.as_slice(), self.args.as_slice(), x)
+    }
+
+    /// What stands for a control value of the callee.
+    fn number(&self, alloc: Global, x: Id) -> Result<Ctrl, AllocError>
+        ensures { IfOk result (λ e. control e ≡ number_for x.0 (passed_for self.now.params.now self.now.args.now x.0)) }
+    {
+        match self.get(x) {
+            None => Ok(Ctrl::Var(x)),
+            Some(Arg::Ctrl(a)) => a.duplicate(alloc),
+            Some(Arg::Cond(_)) => Ok(Ctrl::Var(x)),
+            Some(Arg::Whole(_)) => Ok(Ctrl::Var(x)),
+            Some(Arg::Window(_, _)) => Ok(Ctrl::Var(x)),
+        }
+    }
+
+    /// What stands for a bool of the callee.
+    fn flag(&self, alloc: Global, x: Id) -> Result<Cond, AllocError>
+        ensures { IfOk result (λ c. condition c ≡ truth_for x.0 (passed_for self.now.params.now self.now.args.now x.0)) }
+    {
+        match self.get(x) {
+            None => Ok(Cond::Var(x)),
+            Some(Arg::Ctrl(_)) => Ok(Cond::Var(x)),
+            Some(Arg::Cond(c)) => c.duplicate(alloc),
+            Some(Arg::Whole(_)) => Ok(Cond::Var(x)),
+            Some(Arg::Window(_, _)) => Ok(Cond::Var(x)),
+        }
+    }
+
+    /// What stands for the stride of a dimension of the callee's parameter.
+    fn stride(&self, x: Id, k: u32) -> Ctrl
+        ensures { control result ≡ stride_for x.0 k (passed_for self.now.params.now self.now.args.now x.0) }
+    {
+        match self.get(x) {
+            None => Ctrl::Stride(x, k),
+            Some(Arg::Ctrl(_)) => Ctrl::Stride(x, k),
+            Some(Arg::Cond(_)) => Ctrl::Stride(x, k),
+            Some(Arg::Whole(y)) => Ctrl::Stride(*y, k),
+            Some(Arg::Window(y, coords)) => window_stride(*y, coords.as_slice(), k),
+        }
+    }
+}
+
+/// An expression of the callee under the arguments.
+pub(crate) fn control_under(alloc: Global, passed: &Passed, e: &Ctrl) -> Result<Ctrl, AllocError>
+    ensures { IfOk result (λ c. control c ≡ control_under passed.now.params.now passed.now.args.now (control e.now)) }
+{
+    match e {
+        Ctrl::Lit(n) => Ok(Ctrl::Lit(*n)),
+        Ctrl::Var(x) => passed.number(alloc, *x),
+        Ctrl::Field(f) => Ok(Ctrl::Field(*f)),
+        Ctrl::Stride(x, k) => Ok(passed.stride(*x, *k)),
+        Ctrl::Neg(a) => Ok(Ctrl::Neg(Box::new(alloc, control_under(alloc, passed, a)?)?)),
+        Ctrl::Add(a, b) => {
+            let left = Box::new(alloc, control_under(alloc, passed, a)?)?;
+            Ok(Ctrl::Add(left, Box::new(alloc, control_under(alloc, passed, b)?)?))
+        }
+        Ctrl::Sub(a, b) => {
+            let left = Box::new(alloc, control_under(alloc, passed, a)?)?;
+            Ok(Ctrl::Sub(left, Box::new(alloc, control_under(alloc, passed, b)?)?))
+        }
+        Ctrl::Mul(a, b) => {
+            let left = Box::new(alloc, control_under(alloc, passed, a)?)?;
+            Ok(Ctrl::Mul(left, Box::new(alloc, control_under(alloc, passed, b)?)?))
+        }
+        Ctrl::Div(a, n) => Ok(Ctrl::Div(Box::new(alloc, control_under(alloc, passed, a)?)?, *n)),
+        Ctrl::Mod(a, n) => Ok(Ctrl::Mod(Box::new(alloc, control_under(alloc, passed, a)?)?, *n)),
+    }
+}
+
+/// A condition of the callee under the arguments.
+pub(crate) fn condition_under(alloc: Global, passed: &Passed, c: &Cond) -> Result<Cond, AllocError>
+    ensures { IfOk result (λ d. condition d ≡ condition_under passed.now.params.now passed.now.args.now (condition c.now)) }
+{
+    match c {
+        Cond::True => Ok(Cond::True),
+        Cond::False => Ok(Cond::False),
+        Cond::Var(x) => passed.flag(alloc, *x),
+        Cond::Field(f) => Ok(Cond::Field(*f)),
+        Cond::Lt(a, b) => {
+            let left = control_under(alloc, passed, a)?;
+            Ok(Cond::Lt(left, control_under(alloc, passed, b)?))
+        }
+        Cond::Le(a, b) => {
+            let left = control_under(alloc, passed, a)?;
+            Ok(Cond::Le(left, control_under(alloc, passed, b)?))
+        }
+        Cond::Gt(a, b) => {
+            let left = control_under(alloc, passed, a)?;
+            Ok(Cond::Gt(left, control_under(alloc, passed, b)?))
+        }
+        Cond::Ge(a, b) => {
+            let left = control_under(alloc, passed, a)?;
+            Ok(Cond::Ge(left, control_under(alloc, passed, b)?))
+        }
+        Cond::Eq(a, b) => {
+            let left = control_under(alloc, passed, a)?;
+            Ok(Cond::Eq(left, control_under(alloc, passed, b)?))
+        }
+        Cond::And(a, b) => {
+            let left = Box::new(alloc, condition_under(alloc, passed, a)?)?;
+            Ok(Cond::And(left, Box::new(alloc, condition_under(alloc, passed, b)?)?))
+        }
+        Cond::Or(a, b) => {
+            let left = Box::new(alloc, condition_under(alloc, passed, a)?)?;
+            Ok(Cond::Or(left, Box::new(alloc, condition_under(alloc, passed, b)?)?))
+        }
+    }
+}

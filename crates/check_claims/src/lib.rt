@@ -1,0 +1,13 @@
+//! What a procedure has to show so that no run of it faults.
+#![tactic(auto)]
+
+mod arguments;
+mod bounds;
+mod call;
+mod claim;
+mod extents;
+mod list;
+mod walk;
+
+pub use claim::{Claim, Placed};
+pub use walk::claims_of;

@@ -1,0 +1,59 @@
+-- Where claims hold, and which procedures a run comes to.
+use Rattle.std.specs.Prelude.{◌≡◌, ◌==◌, ℕ, Bool, true, false, ◌||◌, [], Option, Some, None, slice_get}
+use Rattle.exo_tree.specs.Tree.{Condition, Statement, Assign, Reduce, Config, Pass, If, For, Alloc, View, Call, Block, end, next, Procedure, Program}
+use Rattle.exo_tree.specs.Places.{Opened, opened}
+use Rattle.exo_meaning.specs.Scene.{holds}
+use Rattle.exo_meaning.specs.State.{State}
+use Rattle.exo_meaning.specs.Run.{World, program_world}
+use Rattle.exo_meaning.specs.Inputs.{IsAdmissible}
+use Rattle.exo_meaning.specs.Orders.{Each}
+use Rattle.exo_meaning.specs.Units.{Scope, scope_of, with_both, is_condition, field_kind}
+use Rattle.meaning_laws.specs.Copies.{HoldsAt}
+use Rattle.meaning_laws.specs.Sorted.{scope_at}
+use Rattle.check_claims.specs.Claim.{Placed}
+use Rattle.check_claims.specs.Claims.{claims_of}
+
+-- a condition holds wherever a run of the procedure on an admissible input comes to the place; the place of no statement is the one
+-- before the body, where the input itself is
+abbrev pub HoldsAtPlace : World → Procedure → Option Opened → Condition → Type 0
+HoldsAtPlace world p None c = (s : State) → IsAdmissible world p s → holds s.scene c ≡ true
+HoldsAtPlace world p (Some o) c = HoldsAt world p o.piece o.around c
+
+-- what has to be shown at a place holds there
+abbrev pub ClaimHolds : World → Procedure → Placed → Type 0
+ClaimHolds world p c = HoldsAtPlace world p (opened 1 c.place p.body) c.claim.says
+
+-- all claims of the procedure of that number
+abbrev pub ClaimsHold : Program → ℕ → Type 0
+ClaimsHold u k = (p : Procedure) → slice_get u.procedures k ≡ Some p → Each (ClaimHolds (program_world u) p) (claims_of u p)
+
+-- the names in scope at a place
+abbrev pub names_at : Procedure → Option Opened → Scope
+names_at p None = scope_of [] p.params
+names_at p (Some o) = scope_at o.around (scope_of [] p.params)
+
+-- what has to be shown is a condition over the names in scope at its place
+abbrev pub ClaimIsFormed : Program → Procedure → Placed → Type 0
+ClaimIsFormed u p c = is_condition (field_kind u.fields) with_both (names_at p (opened 1 c.place p.body)) c.claim.says ≡ true
+
+-- whether a block calls the procedure of that number
+abbrev mutual
+  pub calls : Block → ℕ → Bool
+  calls end k = false
+  calls (next a b) k = step_calls a k || calls b k
+
+  pub step_calls : Statement → ℕ → Bool
+  step_calls (Assign x is e) k = false
+  step_calls (Reduce x is e) k = false
+  step_calls (Config f a) k = false
+  step_calls Pass k = false
+  step_calls (If c a b) k = calls a k || calls b k
+  step_calls (For i lo hi b) k = calls b k
+  step_calls (Alloc x cell dims memory) k = false
+  step_calls (View w x coords) k = false
+  step_calls (Call j args) k = k == j
+
+-- from one procedure of the unit to another: the procedure itself, and what it calls, directly or not
+pub data LeadsTo (u : Program) : ℕ → ℕ → Type 0 where
+  itself : {k : ℕ} → LeadsTo u k k
+  by_call : {k j i : ℕ} {p : Procedure} → slice_get u.procedures k ≡ Some p → calls p.body j ≡ true → LeadsTo u j i → LeadsTo u k i

@@ -1,0 +1,74 @@
+use Rattle.std.proofs.Common.{◌≡◌, ◌<◌, zero, [], ◌∷◌, length, map, arith, sym, ap, ◌∙◌, subst}
+use Rattle.std.specs.Prelude.{IfOk, OnOk}
+use Rattle.exo_tree.specs.Places.{opened}
+use Rattle.exo_tree.specs.PlainPlace.{branch_taken, step_taken}
+use Rattle.exo_tree.specs.PlainProcedure.{procedure}
+use Rattle.exo_tree.specs.PlainUnit.{program}
+use Rattle.meaning_laws.specs.KnownFields.{at_entry, known_at}
+use Rattle.meaning_laws.specs.PlaceFacts.{facts_round}
+use Rattle.check_facts.specs.Contexts.{facts_from, known_at_place}
+use Rattle.check_facts.specs.Trails.{levels_of, step_to, body_in, Stand, StandIn}
+use Rattle.check_facts.specs.Walks.{telling_of, round_facts, Added}
+use Rattle.check_facts.proofs.Arrivals.{opened_first, any_branch}
+use Rattle.check_facts.proofs.Openings.{opened_within}
+use Rattle.check_facts.proofs.Ways.{found}
+use Rattle.check_facts.proofs.cursor.descend.Goals as goal
+
+pub bring-requires-clause-within : goal.bring-requires-clause-within
+bring-requires-clause-within c =
+    let body = c.args.basis.now.proc.now.body in
+    let s = step_taken c.args.first in
+    let rest = map step_taken c.args.steps.now in
+    let w = found (opened 1 (s ∷ rest) (procedure c.args.basis.now.proc.now).body) c.requires.place in
+    let k : c.args.first.index < length body = opened_within s rest body w.place (opened_first s rest (procedure c.args.basis.now.proc.now).body w.place w.is) in
+    omega arith
+
+pub returns-clause-facts : goal.returns-clause-facts
+returns-clause-facts c =
+    let g = c.args.basis.now in
+    let tell = telling_of g in
+    let p = procedure g.proc.now in
+    let s = step_taken c.args.first in
+    let rest = map step_taken c.args.steps.now in
+    let l = c.in_ok-level.level in
+    let main = ap branch_taken c.in_ok-level.ensures.branch ∙ c.first_level-found.ensures.branch in
+    let found_in = subst (λ q. StandIn g q p.body at_entry c.first_level-found.result (levels_of c.first_level-found.new.trail)) (sym c.new-outer.ensures) (c.first_level-found.ensures.stand g p.body c.requires.stand) in
+    let stands = c.in_ok-level.ensures.stand at_entry found_in in
+    let w = found (opened 1 (s ∷ rest) p.body) c.requires.place in
+    let there = any_branch (step_to l) s rest p.body c.in_ok-level.ensures.index ∙ opened_first s rest p.body w.place w.is in
+    let given = c.walk.ensures.facts at_entry stands w.place there in
+    subst (λ o. Added c.walk.result g (round_facts tell o) c.args.context.now c.walk.new.context) (sym w.is)
+    (subst (λ t. Added c.walk.result g (facts_round tell [] t zero w.place.around w.place.piece at_entry) c.args.context.now c.walk.new.context) main
+    (subst (λ q. Added c.walk.result g (facts_round tell q (branch_taken l.branch) zero w.place.around w.place.piece at_entry) c.args.context.now c.walk.new.context) c.new-outer.ensures given))
+
+pub returns-clause-known : goal.returns-clause-known
+returns-clause-known c =
+    let g = c.args.basis.now in
+    let tell = telling_of g in
+    let p = procedure g.proc.now in
+    let s = step_taken c.args.first in
+    let rest = map step_taken c.args.steps.now in
+    let l = c.in_ok-level.level in
+    let main = ap branch_taken c.in_ok-level.ensures.branch ∙ c.first_level-found.ensures.branch in
+    let found_in = subst (λ q. StandIn g q p.body at_entry c.first_level-found.result (levels_of c.first_level-found.new.trail)) (sym c.new-outer.ensures) (c.first_level-found.ensures.stand g p.body c.requires.stand) in
+    let stands = c.in_ok-level.ensures.stand at_entry found_in in
+    let w = found (opened 1 (s ∷ rest) p.body) c.requires.place in
+    let there = any_branch (step_to l) s rest p.body c.in_ok-level.ensures.index ∙ opened_first s rest p.body w.place w.is in
+    let given = c.walk.ensures.known at_entry stands w.place there in
+    subst (λ o. IfOk c.walk.result (λ facts. facts ≡ facts_from zero g.count (known_at_place (program g.unit.now) p o))) (sym w.is)
+    (subst (λ t. IfOk c.walk.result (λ facts. facts ≡ facts_from zero g.count (known_at tell [] t zero w.place.around w.place.piece at_entry))) main
+    (subst (λ q. IfOk c.walk.result (λ facts. facts ≡ facts_from zero g.count (known_at tell q (branch_taken l.branch) zero w.place.around w.place.piece at_entry))) c.new-outer.ensures given))
+
+pub returns-clause-stand : goal.returns-clause-stand
+returns-clause-stand c =
+    let g = c.args.basis.now in
+    let tell = telling_of g in
+    let p = procedure g.proc.now in
+    let s = step_taken c.args.first in
+    let rest = map step_taken c.args.steps.now in
+    let l = c.in_ok-level.level in
+    let main = ap branch_taken c.in_ok-level.ensures.branch ∙ c.first_level-found.ensures.branch in
+    let found_in = subst (λ q. StandIn g q p.body at_entry c.first_level-found.result (levels_of c.first_level-found.new.trail)) (sym c.new-outer.ensures) (c.first_level-found.ensures.stand g p.body c.requires.stand) in
+    let stands = c.in_ok-level.ensures.stand at_entry found_in in
+    subst (λ q. OnOk c.walk.result (Stand g q (body_in p.body) at_entry (levels_of c.walk.new.trail))) c.new-outer.ensures
+    (c.walk.ensures.stand at_entry stands (body_in p.body) (ap (body_in p.body) main))

@@ -1,5 +1,0 @@
-use Rattle.claim_laws.proofs.Standing.{procedures_may_run}
-use Rattle.claim_laws.proofs.laws.procedures_may_run.Goals as goal
-
-pub returns : goal.returns
-returns c = procedures_may_run

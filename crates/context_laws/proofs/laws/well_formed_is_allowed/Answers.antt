@@ -1,5 +1,0 @@
-use Rattle.context_laws.proofs.Affine.{well_formed_is_allowed}
-use Rattle.context_laws.proofs.laws.well_formed_is_allowed.Goals as goal
-
-pub returns : goal.returns
-returns c = well_formed_is_allowed

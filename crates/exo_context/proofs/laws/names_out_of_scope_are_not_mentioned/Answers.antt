@@ -1,5 +1,0 @@
-use Rattle.exo_context.proofs.Unmentioned.{unmentioned_law}
-use Rattle.exo_context.proofs.laws.names_out_of_scope_are_not_mentioned.Goals as goal
-
-pub returns : goal.returns
-returns c = unmentioned_law

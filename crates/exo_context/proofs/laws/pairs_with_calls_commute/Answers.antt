@@ -1,5 +1,0 @@
-use Rattle.exo_context.proofs.UnitFootprints.{pairs_with_calls_commute}
-use Rattle.exo_context.proofs.laws.pairs_with_calls_commute.Goals as goal
-
-pub returns : goal.returns
-returns c = pairs_with_calls_commute

@@ -1,5 +1,0 @@
-use Rattle.exo_context.proofs.UnitFootprints.{modes_cover}
-use Rattle.exo_context.proofs.laws.parameters_are_touched_in_their_modes.Goals as goal
-
-pub returns : goal.returns
-returns c = modes_cover

@@ -1,5 +1,0 @@
-use Rattle.exo_context.proofs.UnitFootprints.{runs_go_by_footprint}
-use Rattle.exo_context.proofs.laws.runs_go_by_footprint.Goals as goal
-
-pub returns : goal.returns
-returns c = runs_go_by_footprint

@@ -1,5 +1,0 @@
-use Rattle.exo_context.proofs.UnitFootprints.{turns_with_calls_commute}
-use Rattle.exo_context.proofs.laws.turns_with_calls_commute.Goals as goal
-
-pub returns : goal.returns
-returns c = turns_with_calls_commute

@@ -1,5 +1,0 @@
-use Rattle.exo_context.proofs.WellFormed.{calls_are_below}
-use Rattle.exo_context.proofs.laws.well_formed_calls_are_below.Goals as goal
-
-pub returns : goal.returns
-returns c = calls_are_below

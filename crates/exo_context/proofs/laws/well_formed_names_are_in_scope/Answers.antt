@@ -1,5 +1,0 @@
-use Rattle.exo_context.proofs.WellFormed.{well_scoped}
-use Rattle.exo_context.proofs.laws.well_formed_names_are_in_scope.Goals as goal
-
-pub returns : goal.returns
-returns c = well_scoped

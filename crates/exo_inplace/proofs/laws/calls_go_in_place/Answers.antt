@@ -1,5 +1,0 @@
-use Rattle.exo_inplace.proofs.CallInPlace.{call_in_place}
-use Rattle.exo_inplace.proofs.laws.calls_go_in_place.Goals as goal
-
-pub returns : goal.returns
-returns c = call_in_place

@@ -1,5 +1,0 @@
-use Rattle.exo_inplace.proofs.Inline.{wider_law}
-use Rattle.exo_inplace.proofs.laws.wider_worlds_do_the_same.Goals as goal
-
-pub returns : goal.returns
-returns c = wider_law

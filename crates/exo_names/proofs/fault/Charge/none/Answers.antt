@@ -1,7 +1,0 @@
-use Rattle.std.proofs.Common.{rules}
-use Rattle.exo_names.specs.Faults.{charged}
-use Rattle.exo_names.proofs.fault.Charge.none.Goals as goal
-
-pub returns : goal.returns
-unfolding charged
-returns c = search rules

@@ -1,8 +1,0 @@
-use Rattle.std.proofs.Common.{rules, arith}
-use Rattle.std.proofs.lemmas.Grind.{common_steps}
-use Rattle.exo_names.specs.Faults.{charged}
-use Rattle.exo_names.proofs.fault.Charge.of.Goals as goal
-
-pub returns : goal.returns
-unfolding charged
-returns c = grind (arith, common_steps)

@@ -1,5 +1,0 @@
-use Rattle.exo_names.proofs.Kept.{scope_kept}
-use Rattle.exo_names.proofs.laws.scopes_keep_ids.Goals as goal
-
-pub returns : goal.returns
-returns c = scope_kept

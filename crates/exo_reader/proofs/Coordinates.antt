@@ -1,0 +1,181 @@
+-- The coordinates of windows.
+use Rattle.std.proofs.Common.{◌≡◌, ℕ, ◌<◌, ◌≤◌, max, List, [], ◌∷◌, ◌++◌, Option, Some, true, false, ◌||◌, length, refl, sym, ap, ◌∙◌, append_assoc, subst, arith, map}
+use Rattle.std.proofs.lemmas.List.{length-append, length-map}
+use Rattle.text_phrases.specs.Limits.{Limits, in_depth, Cause, passed, too_long}
+use Rattle.text_phrases.specs.Phrase.{first, Taken, Refused}
+use Rattle.text_phrases.specs.Answers.{Refuses}
+use Rattle.text_phrases.specs.declared.Refusal.{Refusal}
+use Rattle.text_phrases.proofs.Phrases.{goes_along, taken_rest}
+use Rattle.text_phrases.proofs.Exits.{refuses_along}
+use Rattle.text_phrases.proofs.Sequences.{Back, Step}
+use Rattle.text_phrases.proofs.Commas.{CommaApart, Listed, listing_refused_first, listing_refused, listing_full, listing_done}
+use Rattle.text_expressions.specs.Expression.{Tree, trees, number, truth, variable, access, field, stride, relu, select, negative, parens, binary, sign, deepest, spelling, FollowsOperand, control, FewDimensions, EndsList}
+use Rattle.text_expressions.specs.Views.{tree_of, tree_step}
+use Rattle.text_expressions.specs.declared.source.SourceExpr.TheVariants.{Access, rolls-Access}
+use Rattle.text_expressions.specs.declared.source.SourceExpr.TheFolds.{fold-roll-SourceExpr}
+use Rattle.text_lexer.specs.declared.token.Token.{Token}
+use Rattle.text_lexer.specs.declared.token.Token.TheVariants.{Name, Int, Sign, Word}
+use Rattle.text_lexer.specs.declared.token.Sign.TheVariants.{Open, CloseBracket, Comma, Colon, Minus}
+use Rattle.text_lexer.specs.declared.token.Word.TheVariants as w
+use Rattle.exo_reader.specs.Source.{Coordinate, point, span}
+use Rattle.exo_reader.specs.Statements.{FollowsCoordinate, coordinate, coordinates}
+use Rattle.exo_reader.specs.Windows.{low_of, low_depth, lowest, is_span, has_span}
+use Rattle.exo_reader.specs.Views.{plain_coordinate}
+use Rattle.exo_reader.specs.declared.source.SourceCoord.{SourceCoord}
+use Rattle.exo_reader.proofs.Parts.{zero, control_zero}
+use Rattle.exo_reader.proofs.Lists.{map_snoc}
+
+-- the plain form of a cell
+pub made_access : (x list : _) → tree_of (Access x list) ≡ access x (trees (map tree_of list.items))
+made_access x list = ap tree_of (sym (rolls-Access x list)) ∙ fold-roll-SourceExpr Tree tree_step _
+
+follows_coordinate : (o : Option Token) → FollowsCoordinate o → FollowsOperand 0 o
+follows_coordinate (Some (Sign Comma)) follows = tt
+follows_coordinate (Some (Sign CloseBracket)) follows = tt
+follows_coordinate other follows = absurd follows
+
+-- a point
+
+point_only : (tokens rest : List Token) (low : Tree) (limits : Limits) (other : Coordinate) (x y : List Token) → Taken control tokens low rest → (first rest ≡ Some (Sign Colon) → ⊥) → first rest ≡ first x → coordinate.Fits limits other → FollowsCoordinate (first y) → spelling low ++ x ≡ coordinate.spell other ++ y → other ≡ point low
+point_only tokens rest low limits (point e) x y taken none same fits follows equal = ap point (taken.only limits e x y same fits (follows_coordinate (first y) follows) equal)
+point_only tokens rest low limits (span a b) x y taken none same fits follows equal =
+    let e : spelling low ++ x ≡ spelling a ++ (Sign Colon ∷ (spelling b ++ y)) = equal ∙ append_assoc (spelling a) (Sign Colon ∷ spelling b) y in
+    absurd (none (same ∙ ap first (taken_rest taken limits a x (Sign Colon ∷ (spelling b ++ y)) same fits.0 tt e)))
+
+pub point_taken : (tokens rest : List Token) (low : Tree) → Taken control tokens low rest → (first rest ≡ Some (Sign Colon) → ⊥) → Taken coordinate tokens (point low) rest
+point_taken tokens rest low taken none = record {
+  fits = taken.fits;
+  whole = taken.whole;
+  only = λ limits other x y same fits follows equal. point_only tokens rest low limits other x y taken none same fits follows equal;
+}
+
+coordinate_stuck : {cause : Cause} (tokens : List Token) (last : ℕ) (other : Coordinate) (x y : List Token) → (refused : Refused control cause tokens last) → first refused.rest ≡ first x → coordinate.Fits (passed cause) other → FollowsCoordinate (first y) → refused.before ++ x ≡ coordinate.spell other ++ y → ⊥
+coordinate_stuck tokens last (point e) x y refused same fits follows equal = refused.stuck e x y same fits (follows_coordinate (first y) follows) equal
+coordinate_stuck tokens last (span a b) x y refused same fits follows equal =
+    refused.stuck a x (Sign Colon ∷ (spelling b ++ y)) same fits.0 tt (equal ∙ append_assoc (spelling a) (Sign Colon ∷ spelling b) y)
+
+coordinate_refused : {cause : Cause} (tokens : List Token) (last : ℕ) → Refused control cause tokens last → Refused coordinate cause tokens last
+coordinate_refused {cause = cause} tokens last refused = record {
+  before = refused.before;
+  rest = refused.rest;
+  whole = refused.whole;
+  count = refused.count;
+  begins = record { tree = point refused.begins.tree; more = refused.begins.more; fits = refused.begins.fits; spelled = refused.begins.spelled };
+  goes = goes_along control coordinate cause refused.before refused.rest refused.before refused.rest
+      (λ limits on. record { tree = point on.tree; token = on.token; more = on.more; next = on.next; fits = on.fits; spelled = on.spelled }) refused.goes;
+  stuck = λ other x y same fits follows equal. coordinate_stuck tokens last other x y refused same fits follows equal;
+}
+
+pub coordinate_err : (tokens : List Token) (e : Refusal) → Refuses control tokens e → Refuses coordinate tokens e
+coordinate_err tokens e refuses = refuses_along control tokens coordinate tokens e (λ cause last refused. coordinate_refused tokens last refused) refuses
+
+-- a span
+
+span_back : (tokens after : List Token) (low : Tree) (limits : Limits) (other : Coordinate) (x y : List Token) → Taken control tokens low (Sign Colon ∷ after) → coordinate.Fits limits other → FollowsCoordinate (first y) → spelling low ++ (Sign Colon ∷ x) ≡ coordinate.spell other ++ y → Back control (span low) limits other x y
+span_back tokens after low limits (point e) x y taken fits follows equal =
+    let f : Sign Colon ∷ x ≡ y = taken_rest taken limits e (Sign Colon ∷ x) y refl fits (follows_coordinate (first y) follows) equal in
+    absurd (subst FollowsCoordinate (sym (ap first f)) follows)
+span_back tokens after low limits (span a b) x y taken fits follows equal =
+    let e : spelling low ++ (Sign Colon ∷ x) ≡ spelling a ++ (Sign Colon ∷ (spelling b ++ y)) = equal ∙ append_assoc (spelling a) (Sign Colon ∷ spelling b) y in
+    let f : Sign Colon ∷ x ≡ Sign Colon ∷ (spelling b ++ y) = taken_rest taken limits a (Sign Colon ∷ x) (Sign Colon ∷ (spelling b ++ y)) refl fits.0 tt e in
+    record {
+      tree = b;
+      fits = fits.1;
+      is = ap (λ l. span l b) (taken.only limits a (Sign Colon ∷ x) (Sign Colon ∷ (spelling b ++ y)) refl fits.0 tt e);
+      equal = (let g : x ≡ spelling b ++ y = cc (f) in g);
+      follows = follows_coordinate (first y) follows;
+    }
+
+pub step_span : (tokens rest after : List Token) (low : Tree) → Taken control tokens low rest → rest ≡ Sign Colon ∷ after → Step coordinate control (span low) tokens after
+step_span tokens rest after low read colon =
+    let taken : Taken control tokens low (Sign Colon ∷ after) = subst (λ (r : List Token). Taken control tokens low r) colon read in
+    record {
+      front = spelling low ++ (Sign Colon ∷ []);
+      split = taken.whole ∙ sym (append_assoc (spelling low) (Sign Colon ∷ []) after);
+      fits = λ limits b fits. (taken.fits limits, fits);
+      spelled = λ b. sym (append_assoc (spelling low) (Sign Colon ∷ []) (spelling b));
+      back = λ limits other x y same fits follows equal. span_back tokens after low limits other x y taken fits follows (sym (append_assoc (spelling low) (Sign Colon ∷ []) x) ∙ equal);
+    }
+
+-- no coordinate begins with the bracket that ends them
+
+no_close : (e : Tree) (y : List Token) → first (spelling e ++ y) ≡ Some (Sign CloseBracket) → ⊥
+no_close (number n) y same = let e : Int n ≡ Sign CloseBracket = cc (same) in cc (e)
+no_close (truth true) y same = let e : Word w.True ≡ Sign CloseBracket = cc (same) in cc (e)
+no_close (truth false) y same = let e : Word w.False ≡ Sign CloseBracket = cc (same) in cc (e)
+no_close (variable x) y same = let e : Name x ≡ Sign CloseBracket = cc (same) in cc (e)
+no_close (access x list) y same = let e : Name x ≡ Sign CloseBracket = cc (same) in cc (e)
+no_close (field x f) y same = let e : Name x ≡ Sign CloseBracket = cc (same) in cc (e)
+no_close (stride x n) y same = let e : Word w.Stride ≡ Sign CloseBracket = cc (same) in cc (e)
+no_close (relu a) y same = let e : Word w.Relu ≡ Sign CloseBracket = cc (same) in cc (e)
+no_close (select a b c d) y same = let e : Word w.Select ≡ Sign CloseBracket = cc (same) in cc (e)
+no_close (negative a) y same = let e : Sign Minus ≡ Sign CloseBracket = cc (same) in cc (e)
+no_close (parens a) y same = let e : Sign Open ≡ Sign CloseBracket = cc (same) in cc (e)
+no_close (binary o a b) y same = no_close a (sign o ∷ (spelling b ++ y)) (sym (ap first (append_assoc (spelling a) (sign o ∷ spelling b) y)) ∙ same)
+
+coordinate_apart : (c : Coordinate) (y : List Token) → first (coordinate.spell c ++ y) ≡ Some (Sign CloseBracket) → ⊥
+coordinate_apart (point e) y same = no_close e y same
+coordinate_apart (span a b) y same = no_close a (Sign Colon ∷ (spelling b ++ y)) (sym (ap first (append_assoc (spelling a) (Sign Colon ∷ spelling b) y)) ∙ same)
+
+pub coords_apart : CommaApart coordinate (Sign Comma) EndsList
+coords_apart = record {
+  comma_goes_on = λ ends. cc (ends);
+  comma_follows = tt;
+  begins = λ limits c y fits ends. coordinate_apart c y ends;
+  last = λ o ends. subst FollowsCoordinate (sym ends) tt;
+}
+
+-- lists of coordinates
+
+one_coordinate : (c : Coordinate) → FewDimensions (c ∷ [])
+one_coordinate c = omega arith
+
+pub coords_err_first : (tokens : List Token) (e : Refusal) → Refuses coordinate tokens e → Refuses coordinates tokens e
+coords_err_first tokens e refuses =
+    refuses_along coordinate tokens coordinates tokens e (λ cause last refused. listing_refused_first coordinate (Sign Comma) FewDimensions EndsList tokens last coords_apart one_coordinate refused) refuses
+
+one_more : (list : List SourceCoord) (c : Coordinate) → length list < 8 → FewDimensions (map plain_coordinate list ++ (c ∷ []))
+one_more list c less = omega (arith, less, length-append (map plain_coordinate list) (c ∷ []), length-map list plain_coordinate)
+
+pub coords_err_next : (tokens rest after : List Token) (list : List SourceCoord) (e : Refusal) → Listed coordinate (Sign Comma) EndsList tokens (map plain_coordinate list) rest → rest ≡ Sign Comma ∷ after → length list < 8 → Refuses coordinate after e → Refuses coordinates tokens e
+coords_err_next tokens rest after list e listed comma less refuses =
+    refuses_along coordinate after coordinates tokens e
+    (λ cause last refused. listing_refused coordinate (Sign Comma) FewDimensions EndsList tokens rest after (map plain_coordinate list) last coords_apart listed comma (λ c. one_more list c less) refused) refuses
+
+few_plain : (list : List SourceCoord) → length list ≤ 8 → FewDimensions (map plain_coordinate list)
+few_plain list few = omega (arith, few, length-map list plain_coordinate)
+
+too_many : (list : List SourceCoord) (c : Coordinate) (more : List Coordinate) → 8 ≤ length list → FewDimensions (map plain_coordinate list ++ (c ∷ more)) → ⊥
+too_many list c more full few = omega (arith, full, few, length-append (map plain_coordinate list) (c ∷ more), length-map list plain_coordinate)
+
+pub coords_full : (tokens rest after : List Token) (list : List SourceCoord) → Listed coordinate (Sign Comma) EndsList tokens (map plain_coordinate list) rest → rest ≡ Sign Comma ∷ after → length list ≤ 8 → 8 ≤ length list → Refused coordinates too_long tokens (length rest)
+coords_full tokens rest after list listed comma few full =
+    listing_full coordinate (Sign Comma) FewDimensions EndsList tokens rest after (map plain_coordinate list) (point zero) coords_apart listed comma (few_plain list few) (control_zero in_depth) (λ c more. too_many list c more full)
+
+pub coords_done : (tokens rest : List Token) (list : List SourceCoord) → Listed coordinate (Sign Comma) EndsList tokens (map plain_coordinate list) rest → length list ≤ 8 → (first rest ≡ Some (Sign Comma) → ⊥) → Taken coordinates tokens (map plain_coordinate list) rest
+coords_done tokens rest list listed few none = listing_done coordinate (Sign Comma) FewDimensions EndsList tokens rest (map plain_coordinate list) coords_apart listed (few_plain list few) none
+
+-- depths and spans
+
+pub lowest_one : (c : Coordinate) → lowest (c ∷ []) ≡ low_depth c
+lowest_one c = omega arith
+
+pub low_deepest : (list : List Coordinate) → deepest (trees (map low_of list)) ≡ lowest list
+low_deepest [] = refl
+low_deepest (c ∷ list) = ap (λ d. max (low_depth c) d) (low_deepest list)
+
+pub lowest_snoc : (list : List Coordinate) (c : Coordinate) → lowest (list ++ (c ∷ [])) ≡ max (lowest list) (low_depth c)
+lowest_snoc [] c = omega arith
+lowest_snoc (d ∷ list) c = omega (arith, lowest_snoc list c)
+
+pub span_one : (c : Coordinate) → has_span (c ∷ []) ≡ is_span c
+span_one (point e) = refl
+span_one (span a b) = refl
+
+pub span_snoc : (list : List Coordinate) (c : Coordinate) → has_span (list ++ (c ∷ [])) ≡ has_span list || is_span c
+span_snoc [] c = span_one c
+span_snoc (point e ∷ list) c = span_snoc list c
+span_snoc (span a b ∷ list) c = refl
+
+pub plain_snoc : (list : List SourceCoord) (c : SourceCoord) → map plain_coordinate (list ++ (c ∷ [])) ≡ map plain_coordinate list ++ (plain_coordinate c ∷ [])
+plain_snoc list c = map_snoc plain_coordinate list c

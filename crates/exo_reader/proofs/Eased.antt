@@ -1,0 +1,193 @@
+-- A unit that keeps limits keeps fewer of them; so a text has one unit, or is refused at one token for one cause.
+use Rattle.std.proofs.Common.{◌≡◌, ℕ, ◌+◌, List, [], ◌∷◌, Option, Some, None, Bool, true, false, refl, sym, ap, ap₂, ◌∙◌, subst}
+use Rattle.text_phrases.specs.Limits.{Limits, Cause, syntax, too_deep, too_long, too_large}
+use Rattle.text_phrases.specs.Phrase.{Phrase}
+use Rattle.text_phrases.specs.Sequence.{AllFit, carried}
+use Rattle.text_phrases.proofs.Eased.{Eases, eased, keeps_eased, all_eased, maybe_eased, commas_ease, listing_eases, one_fault, no_fault}
+use Rattle.text_expressions.specs.Values.{name, literal}
+use Rattle.text_expressions.specs.Expression.{Tree, operand, control, datum, control_room, data_room, most_depth, FewDimensions, EndsList}
+use Rattle.text_expressions.specs.declared.expression.Room.{Room}
+use Rattle.text_lexer.specs.declared.token.Token.{Token}
+use Rattle.text_lexer.specs.declared.token.Token.TheVariants.{Sign, Str, Dedent}
+use Rattle.text_lexer.specs.declared.token.Sign.TheVariants.{Close, Comma}
+use Rattle.exo_reader.specs.Source.{TypeName, stride, named, Form, plain, strided, Coordinate, point, span, Argument, value, window, Statement, pass, branch, loop, allocate, call, configure, assign, reduce, view, Block, end, next, block_of, Setting, strings, int, yes, no, Item, procedure, instruction, configuration, memory}
+use Rattle.exo_reader.specs.Parts as parts
+use Rattle.exo_reader.specs.Parts.{Is, some_of, enclosed, dims, maybe_dims, type_name, maybe_memory, form, parameter, parameters, FewParameters}
+use Rattle.exo_reader.specs.Statements.{coordinate, coordinates, argument_of, argument, arguments, right, AnyNumber, StatementFits, BlockFits, statement, body}
+use Rattle.exo_reader.specs.Items.{neighbours, setting, attribute, field, assertion, assertions, definition, class_header, fields, attributes, item, unit}
+use Rattle.text_lexer.specs.declared.place.Place.{Place}
+use Rattle.exo_reader.specs.Texts.{first_kind, IsKindBy, IsKind, column_at, place_left, IsFault, TextsAreOne}
+use Rattle.exo_reader.specs.declared.unit.ReadKind.{ReadKind}
+use Rattle.exo_reader.specs.declared.unit.ReadKind.TheVariants as kind
+use Rattle.exo_reader.specs.declared.unit.ReadError.{ReadError}
+
+-- ---- values and expressions
+
+name_eases : Eases name
+name_eases limits x fits = keeps_eased limits _ _ _ fits
+
+literal_eases : Eases literal
+literal_eases limits n fits = keeps_eased limits _ _ _ fits
+
+operand_eases : (level : ℕ) (room : Room) → Eases (operand level room)
+operand_eases level room limits e fits = (fits.0, keeps_eased limits _ _ _ fits.1)
+
+control_eases : Eases control
+control_eases = operand_eases 0 (control_room most_depth)
+
+datum_eases : Eases datum
+datum_eases = operand_eases 0 data_room
+
+-- ---- parts
+
+enclosed_eases : {T : Type 0} (P : Phrase Token T) (Short : List T → Type 0) → Eases P → Eases (enclosed P Short)
+enclosed_eases P Short eases limits ([], true) fits = absurd fits
+enclosed_eases P Short eases limits ([], false) fits = tt
+enclosed_eases P Short eases limits (a ∷ more, trailing) fits = (eases limits a fits.0, commas_ease P (Sign Comma) Short (Is (Sign Close)) eases limits (more, trailing) fits.1)
+
+dims_ease : Eases dims
+dims_ease = listing_eases control (Sign Comma) FewDimensions EndsList control_eases
+
+maybe_dims_ease : Eases maybe_dims
+maybe_dims_ease limits [] fits = tt
+maybe_dims_ease limits (d ∷ more) fits = dims_ease limits (d ∷ more) fits
+
+type_name_eases : Eases type_name
+type_name_eases limits stride fits = tt
+type_name_eases limits (named x) fits = name_eases limits x fits
+
+maybe_memory_eases : Eases maybe_memory
+maybe_memory_eases limits o fits = maybe_eased parts.memory name_eases limits o fits
+
+form_eases : Eases form
+form_eases limits (plain kind ds) fits = (type_name_eases limits kind fits.0, maybe_dims_ease limits ds fits.1)
+form_eases limits (strided kind ds) fits = (type_name_eases limits kind fits.0, dims_ease limits ds fits.1)
+
+parameter_eases : Eases parameter
+parameter_eases limits p fits = (name_eases limits p.name fits.0, form_eases limits p.form fits.1, maybe_memory_eases limits p.memory fits.2)
+
+parameters_ease : Eases parameters
+parameters_ease = enclosed_eases parameter FewParameters parameter_eases
+
+-- ---- statements
+
+coordinate_eases : Eases coordinate
+coordinate_eases limits (point e) fits = control_eases limits e fits
+coordinate_eases limits (span a b) fits = (control_eases limits a fits.0, control_eases limits b fits.1)
+
+argument_eases : (P : Phrase Token Tree) → Eases P → Eases (argument_of P)
+argument_eases P eases limits (value e) fits = eases limits e fits
+argument_eases P eases limits (window x cs) fits = (name_eases limits x fits.0, listing_eases coordinate (Sign Comma) FewDimensions EndsList coordinate_eases limits cs fits.1, fits.2)
+
+arguments_ease : Eases arguments
+arguments_ease = enclosed_eases argument AnyNumber (argument_eases control control_eases)
+
+mutual
+  statement_eases : (limits : Limits) (nesting : ℕ) (s : Statement) → StatementFits limits nesting s → StatementFits (eased limits) nesting s
+  statement_eases limits nesting pass fits = tt
+  statement_eases limits nesting (branch c a b) fits =
+      (keeps_eased limits _ _ _ fits.0, control_eases limits c fits.1, fits.2, block_eases limits (nesting + 1) a fits.3, block_eases limits (nesting + 1) b fits.4)
+  statement_eases limits nesting (loop i low high a) fits =
+      (keeps_eased limits _ _ _ fits.0, name_eases limits i fits.1, control_eases limits low fits.2, control_eases limits high fits.3, fits.4, block_eases limits (nesting + 1) a fits.5)
+  statement_eases limits nesting (allocate x kind ds m) fits =
+      (name_eases limits x fits.0, type_name_eases limits kind fits.1, maybe_dims_ease limits ds fits.2, maybe_memory_eases limits m fits.3)
+  statement_eases limits nesting (call f list trailing) fits = (name_eases limits f fits.0, arguments_ease limits (list, trailing) fits.1)
+  statement_eases limits nesting (configure c f e) fits = (name_eases limits c fits.0, name_eases limits f fits.1, control_eases limits e fits.2)
+  statement_eases limits nesting (assign x ds e) fits = (name_eases limits x fits.0, maybe_dims_ease limits ds fits.1, datum_eases limits e fits.2)
+  statement_eases limits nesting (reduce x ds e) fits = (name_eases limits x fits.0, maybe_dims_ease limits ds fits.1, datum_eases limits e fits.2)
+  statement_eases limits nesting (view y x cs) fits = (name_eases limits y fits.0, argument_eases datum datum_eases limits (window x cs) fits.1)
+
+  block_eases : (limits : Limits) (nesting : ℕ) (b : Block) → BlockFits limits nesting b → BlockFits (eased limits) nesting b
+  block_eases limits nesting end fits = tt
+  block_eases limits nesting (next s more) fits = (statement_eases limits nesting s fits.0, block_eases limits nesting more fits.1)
+
+some_ease : {T : Type 0} (P : Phrase Token T) (ends : Option Token → Type 0) → Eases P → Eases (some_of P ends)
+some_ease P ends eases limits ts fits = (all_eased P eases limits ts fits.0, fits.1)
+
+-- ---- items
+
+neighbours_ease : Eases neighbours
+neighbours_ease limits pieces fits = ((strings_ease limits pieces fits.0.0, keeps_eased limits _ _ _ fits.0.1), fits.1)
+  where
+    strings_ease : (limits : Limits) (pieces : List (List ℕ)) → AllFit (carried Str) limits pieces → AllFit (carried Str) (eased limits) pieces
+    strings_ease = all_eased (carried Str) (λ limits x fits. tt)
+
+setting_eases : Eases setting
+setting_eases limits (strings pieces) fits = neighbours_ease limits pieces fits
+setting_eases limits (int n) fits = literal_eases limits n fits
+setting_eases limits yes fits = tt
+setting_eases limits no fits = tt
+
+attribute_eases : Eases attribute
+attribute_eases limits a fits = (name_eases limits a.name fits.0, setting_eases limits a.value fits.1)
+
+field_eases : Eases field
+field_eases limits f fits = (name_eases limits f.name fits.0, type_name_eases limits f.kind fits.1)
+
+definition_eases : Eases definition
+definition_eases limits p fits = (
+  name_eases limits p.name fits.0,
+  parameters_ease limits (p.params, p.trailing) fits.1,
+  all_eased assertion control_eases limits p.asserts fits.2,
+  (some_ease (statement 1) (Is Dedent) (λ l s f. statement_eases l 1 s f) limits p.body fits.3.0, tt),
+)
+
+item_eases : Eases item
+item_eases limits (procedure p) fits = definition_eases limits p fits
+item_eases limits (instruction template p) fits = (neighbours_ease limits template fits.0, definition_eases limits p fits.1)
+item_eases limits (configuration x list) fits = (name_eases limits x fits.0, (some_ease field (Is Dedent) field_eases limits list fits.1.0, tt))
+item_eases limits (memory x list) fits = (name_eases limits x fits.0, (some_ease attribute (Is Dedent) attribute_eases limits list fits.1.0, tt))
+
+unit_eases : Eases unit
+unit_eases limits items fits = all_eased item item_eases limits items fits
+
+-- ---- errors
+
+-- what stands there says one kind
+kinds_by : (o : Option ReadKind) (before rest : List Token) (a b : ReadKind) → IsKindBy o before rest a → IsKindBy o before rest b → a ≡ b
+kinds_by (Some wanted) before rest a b h k = h ∙ sym k
+kinds_by None before rest kind.BadIndent kind.BadIndent h k = refl
+kinds_by None before rest kind.BadIndent kind.Syntax h k = absurd (h.1 (k h.0))
+kinds_by None before rest kind.Syntax kind.BadIndent h k = absurd (k.1 (h k.0))
+kinds_by None before rest kind.Syntax kind.Syntax h k = refl
+kinds_by None before rest kind.Memory b h k = absurd h
+kinds_by None before rest kind.BadByte b h k = absurd h
+kinds_by None before rest kind.TooDeep b h k = absurd h
+kinds_by None before rest kind.TooLong b h k = absurd h
+kinds_by None before rest kind.LiteralTooLarge b h k = absurd h
+kinds_by None before rest a kind.Memory h k = absurd k
+kinds_by None before rest a kind.BadByte h k = absurd k
+kinds_by None before rest a kind.TooDeep h k = absurd k
+kinds_by None before rest a kind.TooLong h k = absurd k
+kinds_by None before rest a kind.LiteralTooLarge h k = absurd k
+
+kinds : (c : Cause) (before rest : List Token) (a b : ReadKind) → IsKind c before rest a → IsKind c before rest b → a ≡ b
+kinds syntax before rest a b h k = kinds_by (first_kind rest) before rest a b h k
+kinds too_deep before rest a b h k = h ∙ sym k
+kinds too_long before rest a b h k = h ∙ sym k
+kinds too_large before rest a b h k = h ∙ sym k
+
+same_error : (a b : ReadError) → a.line ≡ b.line → a.column ≡ b.column → a.kind ≡ b.kind → a ≡ b
+same_error a b l c k = ap₂ (λ x y. record { line = x; column = y; kind = a.kind }) l c ∙ ap (λ x. record { line = b.line; column = b.column; kind = x }) k
+
+same_place : {p q : Place} → Some p ≡ Some q → p ≡ q
+same_place e = cc
+
+one_error : (tokens : List Token) (places : List Place) (a b : ReadError) → IsFault unit tokens places a → IsFault unit tokens places b → a ≡ b
+one_error tokens places a b f g =
+    let one = one_fault unit unit_eases f.cause g.cause tokens f.last g.last f.fault g.fault in
+    let same : a.kind ≡ b.kind =
+    kinds g.cause g.fault.before g.fault.rest a.kind b.kind
+    (subst (λ r. IsKind g.cause g.fault.before r a.kind) one.3 (subst (λ w. IsKind g.cause w f.fault.rest a.kind) one.2 (subst (λ c. IsKind c f.fault.before f.fault.rest a.kind) one.0 f.why)))
+    g.why in
+    let place : f.placed.place ≡ g.placed.place = same_place (sym f.placed.there ∙ ap (place_left places) one.1 ∙ g.placed.there) in
+    same_error a b
+    (f.placed.line ∙ ap (λ (p : Place). p.line) place ∙ sym g.placed.line)
+    (f.placed.column ∙ ap₂ column_at place same ∙ sym g.placed.column)
+    same
+
+pub texts_are_one : TextsAreOne
+texts_are_one = record {
+  error = one_error;
+  no_error = λ tokens places items e text f. no_fault unit f.cause tokens items f.last text f.fault;
+}

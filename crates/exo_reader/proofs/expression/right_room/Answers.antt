@@ -1,6 +1,0 @@
-use Rattle.std.proofs.Common.{arith}
-use Rattle.exo_reader.proofs.Returns.{rights}
-use Rattle.exo_reader.proofs.expression.right_room.Goals as goal
-
-pub returns : goal.returns
-returns c = rights _ _ _ c.requires.measured c.under.ensures (omega arith) (omega arith)

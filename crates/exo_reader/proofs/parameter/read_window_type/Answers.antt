@@ -1,0 +1,17 @@
+use Rattle.text_phrases.proofs.Exits.{exit}
+use Rattle.text_phrases.proofs.Sequences.{step_taken}
+use Rattle.text_phrases.proofs.Joints.{whole_err, now, later, both}
+use Rattle.exo_reader.proofs.Parameters.{step_window, window1, window2}
+use Rattle.exo_reader.proofs.parameter.read_window_type.Goals as goal
+
+pub returns-in_err-kind : goal.returns-in_err-kind
+returns-in_err-kind c = exit _ _ _ _ _ _ c.from_residual.ensures.1 (whole_err _ _ _ _ _ _ (step_window _) (now window1 _ _ c.in_err-kind.ensures))
+
+pub returns-in_err-before_dims : goal.returns-in_err-before_dims
+returns-in_err-before_dims c = exit _ _ _ _ _ _ c.from_residual-in_err-before_dims.ensures.1 (whole_err _ _ _ _ _ _ (step_window _) (later window1 c.in_ok-kind.ensures _ (now window2 _ _ c.in_err-before_dims.ensures)))
+
+pub returns-in_err-list : goal.returns-in_err-list
+returns-in_err-list c = exit _ _ _ _ _ _ c.from_residual-in_err-list.ensures.1 (whole_err _ _ _ _ _ _ (step_window _) (later window1 c.in_ok-kind.ensures _ (later window2 c.in_ok-before_dims.ensures _ c.in_err-list.ensures)))
+
+pub returns : goal.returns
+returns c = step_taken _ _ _ _ _ _ _ (step_window _) (both window1 c.in_ok-kind.ensures (both window2 c.in_ok-before_dims.ensures c.in_ok-list.ensures))

@@ -1,0 +1,13 @@
+use Rattle.text_phrases.proofs.Exits.{exit}
+use Rattle.text_phrases.proofs.Joints.{now, later, both}
+use Rattle.exo_reader.proofs.Parts.{control_words}
+use Rattle.exo_reader.proofs.part.read_control_and.Goals as goal
+
+pub returns-in_err-value : goal.returns-in_err-value
+returns-in_err-value c = exit _ _ _ _ _ _ c.from_residual.ensures.1 (now (control_words _ c.requires) _ _ c.in_err-value.ensures)
+
+pub returns-in_err-rest : goal.returns-in_err-rest
+returns-in_err-rest c = exit _ _ _ _ _ _ c.from_residual-in_err-rest.ensures.1 (later (control_words _ c.requires) c.in_ok-value.ensures _ c.in_err-rest.ensures)
+
+pub returns : goal.returns
+returns c = both (control_words _ c.requires) c.in_ok-value.ensures c.in_ok-rest.ensures

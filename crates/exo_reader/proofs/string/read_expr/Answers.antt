@@ -1,0 +1,9 @@
+use Rattle.std.proofs.Common.{◌∙◌}
+use Rattle.text_expressions.specs.Expression.{control}
+use Rattle.exo_reader.proofs.Units.{refusal_in}
+use Rattle.exo_reader.proofs.string.read_expr.Goals as goal
+
+pub returns : goal.returns
+returns c =
+    refusal_in control _ _ _ _ _ _ _ (c.as_slice.ensures.value ∙ c.in-Ok.ensures.tokens) (c.as_slice-in-Err.ensures.value ∙ c.in-Ok.ensures.tokens) (c.as_slice-in-Err-2.ensures.value ∙ c.in-Ok.ensures.places)
+    c.in-Err.ensures c.error_of.ensures

@@ -1,0 +1,108 @@
+// Parameters.
+
+ghost use Rattle.std.specs.Prelude.{◌≡◌, ◌∷◌, List, map, length, IsTrue, ◌↔◌};
+ghost use Rattle.text_phrases.specs.Phrase.{Taken, Refused};
+ghost use Rattle.text_phrases.specs.Answers.{Reads, Refuses};
+ghost use Rattle.exo_reader.specs.Parts.{form, parameter, parameters, StartsWithName, RefusesParameter};
+ghost use Rattle.exo_reader.specs.Views.{plain_form, plain_parameter, plain_parameters};
+ghost use Rattle.text_lexer.specs.declared.token.Token.{Token};
+
+use crate::part::{read_dims, read_kind, read_memory, read_name_and, read_optional_dims};
+use crate::source::{SourceParam, SourceParams, SourceType};
+use std::alloc::Global;
+use text_expressions::front::{Fixed, behind, expect_all, stands_first};
+use text_lexer::token::{Sign, Token, next};
+use text_phrases::Refusal;
+
+/// The most parameters.
+pub const PARAMETERS: usize = 32;
+
+/// The type of a window parameter, behind its bracket.
+fn read_window_type(alloc: Global, after: &[Token]) -> Result<(SourceType, &[Token]), Refusal>
+    ensures { Reads form (Token.Sign Sign.OpenBracket ∷ after.now) (λ x. plain_form x.0) (λ x. x.1.now) result }
+{
+    let (kind, behind_kind) = read_kind(after)?;
+    let before_dims = expect_all(behind_kind, &[Fixed::Sign(Sign::CloseBracket)])?;
+    let (list, rest) = read_dims(alloc, before_dims)?;
+    Ok((SourceType::Window(kind, list), rest))
+}
+
+/// The type of a parameter.
+pub fn read_type(alloc: Global, tokens: &[Token]) -> Result<(SourceType, &[Token]), Refusal>
+    ensures { Reads form tokens.now (λ x. plain_form x.0) (λ x. x.1.now) result }
+{
+    if let Some(after) = behind(tokens, Fixed::Sign(Sign::OpenBracket)) {
+        return read_window_type(alloc, after);
+    }
+    let (kind, behind_kind) = read_kind(tokens)?;
+    let (list, rest) = read_optional_dims(alloc, behind_kind)?;
+    Ok((SourceType::Plain(kind, list), rest))
+}
+
+/// A parameter.
+pub fn read_parameter(alloc: Global, tokens: &[Token]) -> Result<(SourceParam, &[Token]), Refusal>
+    ensures { Reads parameter tokens.now (λ x. plain_parameter x.0) (λ x. x.1.now) result }
+{
+    let (name, after) = read_name_and(tokens, &[Fixed::Sign(Sign::Colon)])?;
+    let (form, behind_form) = read_type(alloc, after)?;
+    let (memory, rest) = read_memory(behind_form)?;
+    Ok((SourceParam { name, form, memory }, rest))
+}
+
+/// Whether a name of any length stands first.
+pub fn name_stands_first(tokens: &[Token]) -> bool
+    ensures { IsTrue result ↔ StartsWithName tokens.now }
+{
+    match next(tokens) {
+        Some((Token::Name(_), _)) => true,
+        _ => false,
+    }
+}
+
+/// Why no parameter stands there, where there are as many as may be.
+fn refuse_parameter(tokens: &[Token]) -> Refusal
+    ensures { RefusesParameter tokens.now result }
+{
+    if name_stands_first(tokens) {
+        Refusal::TooLong(tokens.len())
+    } else {
+        Refusal::Syntax(tokens.len())
+    }
+}
+
+/// The parameters before a closing parenthesis, at most 32.
+pub fn read_parameters(alloc: Global, tokens: &[Token]) -> Result<(SourceParams, &[Token]), Refusal>
+    ensures { Reads parameters tokens.now (λ x. plain_parameters x.0) (λ x. x.1.now) result }
+{
+    let mut items = Vec::new(alloc);
+    if stands_first(tokens, Fixed::Sign(Sign::Close)) {
+        let params = SourceParams {
+            items,
+            trailing: false,
+        };
+        return Ok((params, tokens));
+    }
+    let (first, behind_first) = read_parameter(alloc, tokens)?;
+    items.push(first)?;
+    let mut rest = behind_first;
+    'more: while let Some(after) = behind(rest, Fixed::Sign(Sign::Comma)) {
+        if stands_first(after, Fixed::Sign(Sign::Close)) {
+            let params = SourceParams {
+                items,
+                trailing: true,
+            };
+            return Ok((params, after));
+        }
+        if items.len() >= PARAMETERS {
+            return Err(refuse_parameter(after));
+        }
+        let (param, found) = read_parameter(alloc, after)?;
+        items.push(param)?;
+        rest = found;
+    }
+    let params = SourceParams {
+        items,
+        trailing: false,
+    };
+    Ok((params, rest))
+}

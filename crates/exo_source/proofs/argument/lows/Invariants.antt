@@ -1,8 +1,0 @@
-use Rattle.std.proofs.Common.{◌≡◌, map}
-use Rattle.exo_reader.specs.Views.{tree_of}
-use Rattle.exo_source.specs.Windows.{low_of}
-use Rattle.exo_source.specs.Views.{plain_coordinate}
-use Rattle.exo_source.proofs.argument.lows.Given as goal
-
-abbrev pub invariant-loop-coord : goal.invariant-loop-coord
-invariant-loop-coord l = map tree_of l.list.items ≡ map low_of (map plain_coordinate l.yielded)

@@ -1,7 +1,0 @@
-use Rattle.phrases.proofs.Exits.{exit}
-use Rattle.phrases.proofs.Joints.{whole_err}
-use Rattle.exo_source.proofs.Parts.{step_named}
-use Rattle.exo_source.proofs.part.read_kind.Goals as goal
-
-pub returns-in_err-found : goal.returns-in_err-found
-returns-in_err-found c = exit _ _ _ _ _ _ c.from_residual.ensures.1 (whole_err _ _ _ _ _ _ (step_named _ c.in_default.ensures) c.in_err-found.ensures)

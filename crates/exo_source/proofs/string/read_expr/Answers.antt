@@ -1,9 +1,0 @@
-use Rattle.std.proofs.Common.{◌∙◌}
-use Rattle.exo_reader.specs.Expression.{control}
-use Rattle.exo_source.proofs.Units.{refusal_in}
-use Rattle.exo_source.proofs.string.read_expr.Goals as goal
-
-pub returns : goal.returns
-returns c =
-    refusal_in control _ _ _ _ _ _ _ (c.as_slice.ensures.value ∙ c.in-Ok.ensures.tokens) (c.as_slice-in-Err.ensures.value ∙ c.in-Ok.ensures.tokens) (c.as_slice-in-Err-2.ensures.value ∙ c.in-Ok.ensures.places)
-    c.in-Err.ensures c.error_of.ensures

@@ -1,5 +1,0 @@
-use Rattle.lowering_laws.proofs.Follows.{units_follow}
-use Rattle.lowering_laws.proofs.laws.units_follow.Goals as goal
-
-pub returns : goal.returns
-returns c = units_follow c.procedures_follow.ensures

@@ -1,6 +1,0 @@
-pub mod Paths
-pub mod Errors
-pub mod Limits
-pub mod Obligations
-pub mod Outcomes
-pub mod Laws

@@ -1,0 +1,82 @@
+//! The strings of a schedule as trees, with their names resolved at a place.
+ghost use Rattle.std.specs.Prelude.{◌≡◌, map};
+ghost use Rattle.exo_tree.specs.PlainUnit.{program};
+ghost use Rattle.exo_meaning.specs.Units.{IsUnit};
+ghost use Rattle.text_expressions.specs.Views.{tree_of};
+ghost use Rattle.exo_reader.specs.Views.{plain_coordinate};
+ghost use Rattle.rules_scopes.specs.Resolved.{IsControlAt, IsConditionAt, IsWindowAt};
+
+use crate::tables::table_of;
+use crate::walk::scope_at;
+use exo_reader::source::SourceWindow;
+use exo_tree::{Cond, Coords, Ctrl, Id, Path, ProcId, Unit};
+use rules_names::argument::{ArgError, condition_argument, control_argument, window_argument};
+use rules_names::scope::Scope;
+use rules_names::table::FieldTable;
+use rules_names::tested::Names;
+use std::alloc::Global;
+use text_expressions::source::SourceExpr;
+
+/// What names stand for at a place.
+fn names_of<'n>(fields: &'n FieldTable, scope: &'n Scope) -> Names<'n>
+    ensures fields { result.fields.now ≡ fields.now }
+    ensures scope { result.scope.now ≡ scope.now }
+{
+    Names { fields, scope }
+}
+
+/// The control value of a string at a place: before the statement at the path, or with `after` behind it; at the empty path
+/// only the parameters are in scope. A name that is not in scope stands for the id 4294967295. `NotOfForm` where the string
+/// is of no control value's form, else `UnknownName` where a field in it is none of the unit.
+pub fn ctrl_at(
+    alloc: Global,
+    unit: &Unit,
+    p: ProcId,
+    path: &Path,
+    after: bool,
+    e: &SourceExpr,
+) -> Result<Ctrl, ArgError>
+    requires { IsUnit (program unit.now) }
+    ensures { IsControlAt (program unit.now) p.0 path.now after (tree_of e.now) result }
+{
+    let fields = table_of(alloc, &unit.fields)?;
+    let scope = scope_at(alloc, unit, p, path, after)?;
+    let names = names_of(&fields, &scope);
+    control_argument(alloc, &names, e)
+}
+
+/// The condition of a string at a place, as `ctrl_at` does it.
+pub fn cond_at(
+    alloc: Global,
+    unit: &Unit,
+    p: ProcId,
+    path: &Path,
+    after: bool,
+    e: &SourceExpr,
+) -> Result<Cond, ArgError>
+    requires { IsUnit (program unit.now) }
+    ensures { IsConditionAt (program unit.now) p.0 path.now after (tree_of e.now) result }
+{
+    let fields = table_of(alloc, &unit.fields)?;
+    let scope = scope_at(alloc, unit, p, path, after)?;
+    let names = names_of(&fields, &scope);
+    condition_argument(alloc, &names, e)
+}
+
+/// The buffer or view and the coordinates of a window in a string at a place, as `ctrl_at` does it.
+pub fn window_at(
+    alloc: Global,
+    unit: &Unit,
+    p: ProcId,
+    path: &Path,
+    after: bool,
+    w: &SourceWindow,
+) -> Result<(Id, Coords), ArgError>
+    requires { IsUnit (program unit.now) }
+    ensures { IsWindowAt (program unit.now) p.0 path.now after w.now.name (map plain_coordinate w.now.coords.items) result }
+{
+    let fields = table_of(alloc, &unit.fields)?;
+    let scope = scope_at(alloc, unit, p, path, after)?;
+    let names = names_of(&fields, &scope);
+    window_argument(alloc, &names, w.name.as_str(), w.coords.as_slice())
+}

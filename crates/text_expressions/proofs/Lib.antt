@@ -1,0 +1,9 @@
+pub mod Signs
+pub mod Sizes
+pub mod Words
+pub mod Chains
+pub mod Atoms
+pub mod Indices
+pub mod Productions
+pub mod Made
+pub mod Returns

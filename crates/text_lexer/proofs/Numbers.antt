@@ -1,0 +1,17 @@
+-- Decimal literals.
+use Rattle.std.proofs.Common.{◌≡◌, ℕ, suc, ◌+◌, ◌*◌, ◌-◌, ◌<◌, ◌≤◌, List, [], ◌∷◌, drop, length, get_or, arith, refl, ap, ◌∙◌, drop-cons, le-ltb}
+use Rattle.text_lexer.specs.Piece.{decimal, literal}
+use Rattle.text_lexer.specs.declared.token.Literal.TheVariants.{TooLarge}
+
+-- more digits write no smaller number
+pub decimal-le : (n : ℕ) (digits : List ℕ) → n ≤ decimal n digits
+decimal-le n [] = omega arith
+decimal-le n (d ∷ digits) = omega (arith, decimal-le (n * 10 + (d - 0x30)) digits)
+
+-- the first digits write too large a number already
+pub too_large : (digits : List ℕ) (value i next : ℕ) → i < length digits → decimal 0 digits ≡ decimal value (drop i digits) → next ≡ value * 10 + (get_or digits i 0 - 0x30) → 0x80000000 ≤ next → TooLarge ≡ literal digits
+too_large digits value i next h so_far is big =
+    let d : drop i digits ≡ get_or digits i 0 ∷ drop (suc i) digits = drop-cons digits i 0 h in
+    let e : decimal 0 digits ≡ decimal (value * 10 + (get_or digits i 0 - 0x30)) (drop (suc i) digits) = so_far ∙ ap (decimal value) d in
+    let le : 0x80000000 ≤ decimal 0 digits = omega (arith, decimal-le (value * 10 + (get_or digits i 0 - 0x30)) (drop (suc i) digits)) in
+    rw (le-ltb (decimal 0 digits) 0x80000000 le) refl

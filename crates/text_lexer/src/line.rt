@@ -1,0 +1,54 @@
+// The tokens of one line.
+
+ghost use Rattle.std.specs.Prelude.{◌≡◌, ◌+◌, ◌≤◌, ◌<◌, length, IfOk};
+ghost use Rattle.text_lexer.specs.Layout.{line_tokens, is_fault};
+
+use crate::piece::piece_of;
+use crate::place::{Place, Placed};
+use crate::token::Token;
+use std::alloc::{AllocError, Global};
+
+/// Whether a token is a fault.
+pub fn is_fault(token: &Token) -> bool
+    ensures { result ≡ is_fault token.now }
+{
+    match token {
+        Token::Bad(_) => true,
+        _ => false,
+    }
+}
+
+/// The tokens of a line, up to a fault, with their places.
+pub fn line_tokens(alloc: Global, line: u32, bytes: &[u8]) -> Result<Vec<Placed>, AllocError>
+    requires { length bytes.now ≤ 0x100000 }
+    ensures value { IfOk result (λ tokens. tokens.items ≡ line_tokens line bytes.now) }
+    ensures bound { IfOk result (λ tokens. length tokens.items ≤ length bytes.now) }
+{
+    let mut tokens = Vec::new(alloc);
+    let mut start = 0;
+    while start < bytes.len() {
+        let byte = bytes[start];
+        if byte == b' ' {
+            start += 1;
+            continue;
+        }
+        if byte == b'#' {
+            break;
+        }
+        let piece = piece_of(alloc, &bytes[start..])?;
+        let place = Place {
+            line,
+            column: start as u32 + 1,
+        };
+        let fault = is_fault(&piece.token);
+        tokens.push(Placed {
+            place,
+            token: piece.token,
+        })?;
+        if fault {
+            break;
+        }
+        start += piece.width;
+    }
+    Ok(tokens)
+}

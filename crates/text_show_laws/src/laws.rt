@@ -1,0 +1,52 @@
+//! What the shown text of a procedure is read as, each law the contract of a function with nothing to do.
+
+ghost use Rattle.text_show_laws.specs.Laws.{ControlsAreSpelled, ConditionsAreSpelled, DataAreSpelled, ProceduresAreSpelled, WrittenFits, ShownIsRead};
+ghost use Rattle.text_show_laws.specs.Again.{ShownIsTheSame};
+ghost use Rattle.text_show_laws.specs.Below.{ShownIsReadBelow, ShownStandsAgain};
+
+/// The text of an expression over control values has the tokens of its source tree.
+pub fn controls_are_spelled()
+    ensures { ControlsAreSpelled }
+{}
+
+/// So has the text of a condition.
+pub fn conditions_are_spelled()
+    ensures { ConditionsAreSpelled }
+{}
+
+/// So has the text of an expression over cells.
+pub fn data_are_spelled()
+    ensures { DataAreSpelled }
+{}
+
+/// So has the text of a whole procedure, to its last line.
+pub fn procedures_are_spelled()
+    ensures { ProceduresAreSpelled }
+{}
+
+/// The source tree of a procedure within the limits of the grammar is of the grammar.
+pub fn written_fits()
+    ensures { WrittenFits }
+{}
+
+/// So a procedure within the limits of the grammar is read as its source tree.
+pub fn shown_is_read()
+    ensures { ShownIsRead }
+{}
+
+/// And below items that hold what it names, this source tree keeps all rules and stands for the procedure itself, but for the ids of
+/// its binders.
+pub fn shown_is_the_same()
+    ensures { ShownIsTheSame }
+{}
+
+/// Behind the text of other items, a procedure within the limits is read as its source tree.
+pub fn shown_is_read_below()
+    ensures { ShownIsReadBelow }
+{}
+
+/// And where these items hold what it names, the whole text keeps all rules and stands for what they stand for, and behind that for
+/// the procedure itself, but for the ids of its binders.
+pub fn shown_stands_again()
+    ensures { ShownStandsAgain }
+{}
