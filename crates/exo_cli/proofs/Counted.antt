@@ -16,7 +16,7 @@ use Rattle.exo_types.specs.UnitLines.{lines_of}
 use Rattle.unit_check.specs.Laws.{CheckedUnitsDoNotFault}
 use Rattle.unit_check.specs.Checked.{Cause, NotListed, NotShown, Checked, Shown, Refused, checked}
 use Rattle.unit_check.specs.Preorder.{line_in}
-use Rattle.exo_cli.specs.Outside.{Folder, content_of, with_more}
+use Rattle.cli_outside.specs.Outside.{Folder, content_of, with_more}
 use Rattle.exo_cli.specs.Messages.{file_refused}
 use Rattle.exo_cli.specs.Messages as messages
 use Rattle.exo_cli.specs.Words.{Check, command_of}

@@ -4,14 +4,14 @@ use Rattle.std.proofs.lemmas.Bool.{ltb-true, ltb-false}
 use Rattle.std.specs.Option.{option_map_or}
 use Rattle.exo_cli.specs.declared.status.Status.{Status}
 use Rattle.exo_cli.specs.declared.status.Status.TheVariants.{Ok, Usage, ReadFault, WriteFault, Memory}
-use Rattle.exo_cli.specs.Outside.{Folder, content_of, HasBytes, Rose, with_more, StopsWithin}
+use Rattle.cli_outside.specs.Outside.{Folder, content_of, HasBytes, Rose, with_more, StopsWithin}
 use Rattle.exo_cli.specs.Messages.{usage, file_refused}
 use Rattle.exo_cli.specs.Words.{Command, Compile, Check, command_of, files_of}
 use Rattle.exo_cli.specs.Answer.{Answer, Accepted, Rejected, Unread, Misused, status_of, for_out, for_err, IsVerdict}
 use Rattle.exo_cli.specs.Compiling.{IsCompiled}
 use Rattle.exo_cli.specs.Checking.{IsChecked}
 use Rattle.exo_cli.specs.Work.{file_limit, Opens, AnswersTo, Answers, operands, IsReadFault, IsAnswerTo, IsAnswer, EndsAt, Moment, OutFails, ErrFails, Ends}
-use Rattle.exo_cli.proofs.Taking.{with_more-nothing}
+use Rattle.cli_outside.proofs.Taking.{with_more-nothing}
 
 -- a file that is told and short enough is handed on
 pub opened-within : (held : Option (List ℕ)) (name bytes : List ℕ) (next : List ℕ → Answer → Type 0) (reply : Answer)

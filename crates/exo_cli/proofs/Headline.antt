@@ -17,7 +17,7 @@ use Rattle.rules_names.specs.declared.fault.Fault.{Fault}
 use Rattle.exo_types.specs.UnitRules.{unit_fault, unit_of}
 use Rattle.exo_cli.specs.declared.status.Status.{Status}
 use Rattle.exo_cli.specs.declared.status.Status.TheVariants.{Ok, Refused, Usage, ReadFault, WriteFault, Memory}
-use Rattle.exo_cli.specs.Outside.{Folder, content_of, with_more}
+use Rattle.cli_outside.specs.Outside.{Folder, content_of, with_more}
 use Rattle.exo_cli.specs.Messages.{usage, file_refused}
 use Rattle.exo_cli.specs.Words.{Command, Compile, Check, command_of}
 use Rattle.exo_cli.specs.Work.{file_limit, Opens, AnswersTo, Answers, Moment, Ends}
@@ -28,17 +28,19 @@ use Rattle.unit_check.specs.Preorder.{line_in}
 use Rattle.unit_check.specs.Checked.{Cause, NotListed, NotShown, Checked, Shown, Refused as Open, checked}
 use Rattle.exo_tree.specs.Places.{Path}
 use Rattle.exo_types.specs.UnitLines.{lines_of}
-use Rattle.exo_cli.specs.Compiled.{broken, not_built, by_names, by_width, ended, scheduled, started, printings, with_versions}
+use Rattle.exo_cli.specs.Compiled.{broken, not_built, by_names, by_width, ended, scheduled}
+use Rattle.schedule_run.specs.Versions.{started, printings, with_versions}
 use Rattle.exo_cli.specs.Built.{are_in_dram, are_built}
-use Rattle.exo_cli.specs.Lines as lines
-use Rattle.exo_cli.specs.Lines.{Versions, Outcome, run_lines}
-use Rattle.exo_cli.specs.ScheduleForm.{numbered, lines_in, emits, within, schedule_of}
+use Rattle.schedule_run.specs.Lines as lines
+use Rattle.schedule_run.specs.Lines.{Versions, Outcome, run_lines}
+use Rattle.schedule_run.specs.ScheduleForm.{numbered, lines_in, emits, within, schedule_of}
 use Rattle.exo_cli.specs.Headline.{Promise, Promised}
 use Rattle.unit_check.specs.Laws.{CheckedUnitsDoNotFault}
 use Rattle.exo_cli.specs.Counted.{Counted}
-use Rattle.exo_cli.specs.declared.lines.Line.{Line}
-use Rattle.exo_cli.proofs.Kept.{nothing_there, some_is, schedules_run_alike}
-use Rattle.exo_cli.proofs.Growth.{grown, begins_grown}
+use Rattle.schedule_run.specs.declared.lines.Line.{Line}
+use Rattle.proc_rewrites.proofs.Kept.{nothing_there, some_is}
+use Rattle.schedule_run.proofs.Versions.{schedules_run_alike}
+use Rattle.schedule_run.proofs.Growth.{grown, begins_grown}
 use Rattle.exo_cli.proofs.Printed.{each_printed}
 use Rattle.exo_cli.proofs.Counted.{counted}
 

@@ -1,16 +1,6 @@
-pub mod Lists
-pub mod Taking
 pub mod Endings
-pub mod Commuting
 pub mod Running
-pub mod Reading
-pub mod Changed
-pub mod Kept
-pub mod Rules
-pub mod Forwarding
 pub mod Unique
 pub mod Counted
-pub mod Growth
 pub mod Printed
 pub mod Headline
-pub mod Starting

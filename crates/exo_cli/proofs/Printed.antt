@@ -15,12 +15,13 @@ use Rattle.c_tree.specs.Laws.{FirstUnitsFollow}
 use Rattle.c_tree.specs.Simulation.{Follows}
 use Rattle.c_printer.specs.SelfContained.{is_there_alone, are_self_contained}
 use Rattle.c_laws.specs.Laws.{naming_of, declared_in, AreLowered, IsListed, LeavesTheSame, UnitsFollow}
-use Rattle.exo_cli.specs.Compiled.{printing_of, printings, with_versions}
-use Rattle.exo_cli.specs.Lines.{Versions}
-use Rattle.exo_cli.specs.Kept.{IsVersionOf, HasOrigin, AreVersions}
+use Rattle.schedule_run.specs.Versions.{printing_of, printings, with_versions}
+use Rattle.schedule_run.specs.Lines.{Versions}
+use Rattle.proc_rewrites.specs.Kept.{IsVersionOf}
+use Rattle.schedule_run.specs.Versions.{HasOrigin, AreVersions}
 use Rattle.exo_cli.specs.Headline.{DoesWhat, SurelyDoesWhat, IsPrinted}
-use Rattle.exo_cli.proofs.Kept.{nothing_there, some_is, index_is, runs_alike}
-use Rattle.exo_cli.proofs.Growth.{Grown}
+use Rattle.proc_rewrites.proofs.Kept.{nothing_there, some_is, index_is, runs_alike}
+use Rattle.schedule_run.proofs.Growth.{Grown}
 
 -- each listed procedure is there
 listed_is_there : (program : Program) (what : List Printing) (k : ℕ) (w : Printing) → are_self_contained program what ≡ true → slice_get what k ≡ Some w

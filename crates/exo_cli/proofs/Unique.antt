@@ -1,6 +1,6 @@
 -- The words and the files have one answer.
 use Rattle.std.proofs.Common.{◌≡◌, ◌⊎◌, inl, inr, ⊎_elim, ℕ, List, Bool, true, false, Option, Some, None, length, nat_lt, codes, sym, ap, ◌∙◌, MatchBool, MatchOption}
-use Rattle.exo_cli.specs.Outside.{Folder, content_of}
+use Rattle.cli_outside.specs.Outside.{Folder, content_of}
 use Rattle.exo_cli.specs.Messages.{usage, file_refused, place_refused}
 use Rattle.exo_cli.specs.Words.{Command, Compile, Check, command_of}
 use Rattle.exo_cli.specs.Answer.{Answer, Rejected, Misused}
@@ -16,7 +16,7 @@ use Rattle.exo_cli.specs.Compiled.{IsUnread, kind_text}
 use Rattle.exo_cli.specs.Compiling.{IsCompiled, typed}
 use Rattle.exo_cli.specs.Checking as checking
 use Rattle.exo_cli.specs.Checking.{IsChecked}
-use Rattle.exo_cli.specs.ScheduleForm.{schedule_of}
+use Rattle.schedule_run.specs.ScheduleForm.{schedule_of}
 use Rattle.exo_cli.specs.Work.{file_limit, Opens, AnswersTo, AnswersAreUnique}
 
 -- A text is one unit, or has one error: so it has one answer, whatever is answered to a unit.

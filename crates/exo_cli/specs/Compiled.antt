@@ -16,10 +16,11 @@ use Rattle.c_tree.specs.LoweredUnit.{Printing, name_of, lowered}
 use Rattle.c_tree.specs.CText.{text_of}
 use Rattle.exo_cli.specs.Answer.{Answer, Accepted, Rejected}
 use Rattle.exo_cli.specs.Messages.{file_refused, name_refused, place_refused, line_refused}
-use Rattle.exo_cli.specs.Lines.{Versions, Outcome, Done, Stopped, run_lines}
-use Rattle.exo_cli.specs.declared.lines.Line.{Line}
-use Rattle.exo_cli.specs.declared.session.Why.{Why}
-use Rattle.exo_cli.specs.declared.session.Why.TheVariants as why
+use Rattle.schedule_run.specs.Lines.{Outcome, Done, Stopped, run_lines}
+use Rattle.schedule_run.specs.Versions.{started, printings, with_versions}
+use Rattle.schedule_run.specs.declared.lines.Line.{Line}
+use Rattle.schedule_run.specs.declared.session.Why.{Why}
+use Rattle.schedule_run.specs.declared.session.Why.TheVariants as why
 
 -- the file is not of a form that is built
 abbrev pub not_built : List ℕ → Answer
@@ -31,30 +32,6 @@ why_text why.UnknownProc = codes "UnknownProc"
 why_text why.BadArguments = codes "BadArguments"
 why_text why.NoSuchPattern = codes "NoSuchPattern"
 why_text why.WrongShape = codes "WrongShape"
-
--- the numbers of procedures, and their names with their numbers, from this number on
-abbrev pub numbers_from : ℕ → List Procedure → List ℕ
-numbers_from k [] = []
-numbers_from k (p ∷ ps) = k ∷ numbers_from (suc k) ps
-
-abbrev pub names_from : ℕ → List Procedure → List (List ℕ × ℕ)
-names_from k [] = []
-names_from k (p ∷ ps) = (p.name, k) ∷ names_from (suc k) ps
-
--- before the first line, each procedure of the text comes of itself and is held under its name
-abbrev pub started : List Procedure → Versions
-started procedures = record { procedures = procedures; origins = numbers_from 0 procedures; names = names_from 0 procedures; emitted = [] }
-
--- a version to print, with the name of the procedure of the text from which it comes; no field differs
-abbrev pub printing_of : Versions → ℕ → Printing
-printing_of v k = record { proc = k; origin = name_of (slice_get v.procedures (slice_index v.origins k)); fields = [] }
-
-abbrev pub printings : Versions → List Printing
-printings v = map (printing_of v) v.emitted
-
--- the program of the text with the versions that the schedule made
-abbrev pub with_versions : Program → Versions → Program
-with_versions text v = record text { procedures = v.procedures }
 
 -- ---- the C of the listed procedures
 

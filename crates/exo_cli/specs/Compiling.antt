@@ -17,8 +17,8 @@ use Rattle.unit_check.specs.Preorder.{line_in}
 use Rattle.exo_cli.specs.Answer.{Answer}
 use Rattle.exo_cli.specs.Checking.{refused}
 use Rattle.exo_cli.specs.Compiled.{IsUnread, broken, scheduled}
-use Rattle.exo_cli.specs.ScheduleForm.{schedule_of}
-use Rattle.exo_cli.specs.declared.lines.Line.{Line}
+use Rattle.schedule_run.specs.ScheduleForm.{schedule_of}
+use Rattle.schedule_run.specs.declared.lines.Line.{Line}
 
 -- a well-formed unit, by what its procedures owe
 abbrev pub owed : List ℕ → List ℕ → Option (List Line) → Program → List ProcLines → Checked → Answer

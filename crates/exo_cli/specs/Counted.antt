@@ -8,7 +8,7 @@ use Rattle.exo_reader.specs.Texts.{tokens_of}
 use Rattle.exo_types.specs.UnitRules.{unit_fault, unit_of}
 use Rattle.fault_laws.specs.Laws.{NothingFaults}
 use Rattle.unit_check.specs.Checked.{Shown, checked}
-use Rattle.exo_cli.specs.Outside.{Folder, content_of, with_more}
+use Rattle.cli_outside.specs.Outside.{Folder, content_of, with_more}
 use Rattle.exo_cli.specs.Words.{Check, command_of}
 use Rattle.exo_cli.specs.Messages as messages
 

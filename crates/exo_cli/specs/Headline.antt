@@ -23,17 +23,17 @@ use Rattle.exo_reader.specs.Source.{Item}
 use Rattle.exo_reader.specs.Items.{unit}
 use Rattle.exo_reader.specs.Texts.{tokens_of}
 use Rattle.exo_types.specs.UnitRules.{unit_fault, unit_of}
-use Rattle.exo_cli.specs.Outside.{Folder, content_of, with_more}
+use Rattle.cli_outside.specs.Outside.{Folder, content_of, with_more}
 use Rattle.exo_cli.specs.Words.{Compile, command_of}
 use Rattle.exo_cli.specs.Answer.{Accepted}
 use Rattle.exo_cli.specs.Built.{are_built}
-use Rattle.exo_cli.specs.Kept.{IsVersionOf}
+use Rattle.proc_rewrites.specs.Kept.{IsVersionOf}
 use Rattle.exo_cli.specs.Compiling.{IsCompiled}
 use Rattle.unit_check.specs.Checked.{Shown, checked}
-use Rattle.exo_cli.specs.Compiled.{started, printings, with_versions}
-use Rattle.exo_cli.specs.Lines.{Versions, Done as Ran, run_lines}
-use Rattle.exo_cli.specs.ScheduleForm.{schedule_of}
-use Rattle.exo_cli.specs.declared.lines.Line.{Line}
+use Rattle.schedule_run.specs.Versions.{started, printings, with_versions}
+use Rattle.schedule_run.specs.Lines.{Versions, Done as Ran, run_lines}
+use Rattle.schedule_run.specs.ScheduleForm.{schedule_of}
+use Rattle.schedule_run.specs.declared.lines.Line.{Line}
 
 -- ---- versions of the first form
 

@@ -1,11 +1,11 @@
 // What the program replies, and how it is delivered.
 ghost use Rattle.std.specs.Prelude.{◌≡◌, ◌≢◌, ◌≤◌, ◌⊎◌, is_ok, if◌then◌else◌};
-ghost use Rattle.exo_cli.specs.Outside.{Rose, with_more, StopsWithin};
+ghost use Rattle.cli_outside.specs.Outside.{Rose, with_more, StopsWithin};
 ghost use Rattle.exo_cli.specs.Answer.{status_of, for_out, for_err};
 ghost use Rattle.exo_cli.specs.Replies.{plain};
 
-use crate::outside::{Failed, Sink, write_all};
 use crate::status::Status;
+use cli_outside::{Failed, Sink, write_all};
 
 /// What the program replies.
 #[derive(Drop)]

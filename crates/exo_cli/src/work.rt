@@ -2,7 +2,7 @@
 ghost use Rattle.std.specs.Prelude.{◌≡◌, ◌≤◌, ◌⊎◌, IfOk, IfSome, MatchResult, length};
 ghost use Rattle.exo_cli.specs.Headline.{Promised};
 ghost use Rattle.exo_cli.specs.Counted.{Counted};
-ghost use Rattle.exo_cli.specs.Outside.{HasBytes};
+ghost use Rattle.cli_outside.specs.Outside.{HasBytes};
 ghost use Rattle.exo_cli.specs.Words.{Compile, Check, texts};
 ghost use Rattle.exo_cli.specs.Replies.{plain};
 ghost use Rattle.exo_cli.specs.Work.{Ends, EndsAt, IsAnswer, IsAnswerTo, file_limit};
@@ -10,12 +10,12 @@ ghost use Rattle.exo_cli.specs.Work.{Ends, EndsAt, IsAnswer, IsAnswerTo, file_li
 use crate::check::check;
 use crate::compile::compile;
 use crate::messages;
-use crate::outside::{FileFault, Files, Sink};
 use crate::reply::Reply;
 use crate::status::Status;
 use crate::words::{Command, read_command};
 use c_laws::laws::units_follow;
 use c_tree::laws::first_units_follow;
+use cli_outside::{FileFault, Files, Sink};
 use ob_check::Gate;
 use std::alloc::{AllocError, Global};
 use std::thread::Threads;

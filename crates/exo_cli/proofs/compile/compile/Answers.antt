@@ -2,7 +2,7 @@ use Rattle.std.proofs.Common.{ap, ◌∙◌, inr}
 use Rattle.exo_types.specs.Typed.{items_of}
 use Rattle.exo_types.specs.UnitRules.{unit_fault}
 use Rattle.exo_cli.specs.Compiling.{typed}
-use Rattle.exo_cli.specs.ScheduleForm.{schedule_of}
+use Rattle.schedule_run.specs.ScheduleForm.{schedule_of}
 use Rattle.exo_cli.proofs.Running.{if-both}
 use Rattle.exo_cli.proofs.compile.compile.Goals as goal
 

@@ -1,10 +1,12 @@
 use Rattle.std.proofs.Common.{map, ap, sym, ◌∙◌}
 use Rattle.exo_tree.specs.Plain.{program}
 use Rattle.c_tree.specs.PlainPrinted.{printing}
-use Rattle.exo_cli.specs.Compiled.{ended, started}
-use Rattle.exo_cli.specs.Lines.{run_lines}
-use Rattle.exo_cli.specs.Sessions.{versions}
-use Rattle.exo_cli.proofs.Running.{if-both, stopped-line, printed-is}
+use Rattle.exo_cli.specs.Compiled.{ended}
+use Rattle.schedule_run.specs.Versions.{started}
+use Rattle.schedule_run.specs.Lines.{run_lines}
+use Rattle.schedule_run.specs.Sessions.{versions}
+use Rattle.exo_cli.proofs.Running.{if-both, printed-is}
+use Rattle.schedule_run.proofs.Running.{stopped-line}
 use Rattle.exo_cli.proofs.compile.run_lines.Goals as goal
 
 pub returns-in-Err-clause-answer : goal.returns-in-Err-clause-answer

@@ -1,5 +1,5 @@
 use Rattle.std.proofs.Common.{ℕ, ◌≤◌, List, length, sym, subst}
-use Rattle.exo_cli.specs.Outside.{HasBytes}
+use Rattle.cli_outside.specs.Outside.{HasBytes}
 use Rattle.exo_cli.specs.Replies.{plain}
 use Rattle.exo_cli.specs.Work.{file_limit}
 use Rattle.exo_cli.proofs.Endings.{second-ends, compiled-answers}

@@ -1,0 +1,4 @@
+pub mod Commute
+pub mod Refusals
+pub mod Kept
+pub mod Moves

@@ -1,0 +1,4 @@
+pub mod Lines
+pub mod ScheduleForm
+pub mod Sessions
+pub mod Versions
