@@ -17,5 +17,6 @@ pub mod Branches
 pub mod Heights
 pub mod PlainPlace
 pub mod Plain
+pub mod Mapped
 pub mod Substitution
 pub mod Renaming
