@@ -1,9 +1,9 @@
 -- The procedures that may be called, and what a call of one touches.
-use Rattle.std.proofs.Common.{◌≡◌, ℕ, zero, suc, ◌+◌, ◌<◌, ◌≤◌, Bool, List, [], ◌∷◌, ◌++◌, Option, Some, None, option_map, slice_get, get_or, length, take, map, refl, ap, sym, ◌∙◌, add-one, subst, arith}
+use Rattle.std.proofs.Common.{◌≡◌, ℕ, zero, suc, ◌+◌, ◌<◌, ◌≤◌, List, [], ◌∷◌, ◌++◌, Option, Some, None, option_map, slice_get, get_or, length, take, map, refl, ap, sym, ◌∙◌, add-one, subst, arith}
 use Rattle.exo_tree.specs.Tree.{Argument, Procedure}
 use Rattle.exo_meaning.specs.Calls.{Callee}
 use Rattle.exo_meaning.specs.Modes.{Mode, Modes, call_has, no_modes, modes_at}
-use Rattle.exo_modes.specs.Marks.{argument_marks, call_marks, callee_by, callees_by, callable, writing}
+use Rattle.exo_modes.specs.Marks.{argument_marks, call_marks, callable}
 
 -- the procedure of that number, if there is a row of it
 pub listed_at : List Procedure → List Modes → ℕ → Option Procedure

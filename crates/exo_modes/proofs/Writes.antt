@@ -2,8 +2,8 @@
 use Rattle.std.proofs.Common.{◌≡◌, ℕ, zero, suc, ◌||◌, ◌&&◌, ◌==◌, Bool, true, false, List, [], ◌∷◌, map, slice_get, refl, ap, sym, ◌∙◌}
 use Rattle.exo_tree.specs.Tree.{Argument, Param, Statement, Assign, Reduce, Config, Pass, If, For, Alloc, View, Call, Block, end, next, Procedure}
 use Rattle.exo_meaning.specs.Run.{is_root, roots_after, call_writes, call_to_writes, writes, step_writes}
-use Rattle.exo_meaning.specs.Modes.{Writing, Reducing, Modes, call_has, modes_at}
-use Rattle.exo_modes.specs.Marks.{block_marks, step_marks, call_marks, callees_by, callable, writing}
+use Rattle.exo_meaning.specs.Modes.{Writing, Reducing, Modes}
+use Rattle.exo_modes.specs.Marks.{block_marks, step_marks, call_marks, callees_by, writing}
 use Rattle.exo_modes.specs.Written.{world_by, block_writes}
 use Rattle.exo_modes.specs.declared.row.Row.{Row}
 use Rattle.exo_modes.specs.Seen.{row_writes, rows_write, rows_say}
