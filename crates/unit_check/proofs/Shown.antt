@@ -1,5 +1,5 @@
 -- The claims of a procedure that is shown hold, one by one.
-use Rattle.std.proofs.Common.{◌≡◌, true, List, [], ◌∷◌, length, Option, Some, None, refl, subst}
+use Rattle.std.proofs.Common.{◌≡◌, true, List, [], ◌∷◌, length, Option, Some, None, refl}
 use Rattle.exo_tree.specs.Tree.{Procedure, Program}
 use Rattle.exo_tree.specs.Places.{Opened, opened}
 use Rattle.exo_meaning.specs.Scene.{holds}
@@ -7,7 +7,6 @@ use Rattle.exo_meaning.specs.State.{State}
 use Rattle.exo_meaning.specs.Run.{program_world}
 use Rattle.exo_meaning.specs.Inputs.{IsAdmissible}
 use Rattle.exo_meaning.specs.Orders.{Each}
-use Rattle.exo_meaning.specs.Units.{Scope, field_kind, with_both, is_condition}
 use Rattle.meaning_laws.specs.Sorted.{MayRun}
 use Rattle.affine_forms.specs.Affine.{HasNoIntegerPoint}
 use Rattle.affine_systems.specs.Systems.{IsShown as HasNoPoint, systems}
@@ -16,19 +15,15 @@ use Rattle.check_claims.specs.Claim.{Placed}
 use Rattle.check_claims.specs.Claims.{claims_of}
 use Rattle.check_facts.specs.Contexts.{context_of}
 use Rattle.bounds_check.specs.Obligations.{claim_formula, owed_for, owed_for_all}
-use Rattle.check_claims_laws.specs.Holding.{HoldsAtPlace, ClaimHolds, ClaimIsFormed, names_at}
+use Rattle.check_claims_laws.specs.Holding.{HoldsAtPlace, ClaimHolds, ClaimIsFormed}
 use Rattle.check_claims_laws.specs.Laws.{ProceduresMayRun, ClaimsAreFormed, ClaimsSuffice}
-use Rattle.check_facts_laws.specs.Laws.{ComesToPlace, scope_there, ShownConditionsHold}
-use Rattle.fault_laws.specs.Laws.{ShownProceduresDoNotFault}
-use Rattle.fault_laws.proofs.Listed.{each_of_all, each_front, each_back, all_of_images}
+use Rattle.check_facts_laws.specs.Laws.{ComesToPlace, ShownConditionsHold}
+use Rattle.unit_check.specs.Faults.{ShownProceduresDoNotFault}
+use Rattle.unit_check.proofs.Listed.{each_of_all, each_front, each_back, all_of_images}
 
 -- no system of it has an integer point
 abbrev IsClosed : Owed → Type 0
 IsClosed o = HasNoIntegerPoint o.system
-
-same_names : (p : Procedure) (o : Option Opened) → names_at p o ≡ scope_there p o
-same_names p None = refl
-same_names p (Some o) = refl
 
 -- what holds in each state in which a run comes to a place holds there
 holds_at : (u : Program) (p : Procedure) (c : Placed) (o : Option Opened) → ((s t : State) → IsAdmissible (program_world u) p s → ComesToPlace (program_world u) o s t → holds t.scene c.claim.says ≡ true) → HoldsAtPlace (program_world u) p o c.claim.says
@@ -39,8 +34,7 @@ module _ (shown_law : ShownConditionsHold) (u : Program) (p : Procedure) (may_ru
   claim_holds : (c : Placed) → ClaimIsFormed u p c → HasNoPoint (context_of u p c.place) (claim_formula u p c) → ClaimHolds (program_world u) p c
   claim_holds c formed shown =
       let place = opened 1 c.place p.body in
-      let there = subst (λ (scope : Scope). is_condition (field_kind u.fields) with_both scope c.claim.says ≡ true) (same_names p place) formed in
-      holds_at u p c place (shown_law u p may_run c.place c.claim.says there shown)
+      holds_at u p c place (shown_law u p may_run c.place c.claim.says formed shown)
 
   claims_hold : (cs : List Placed) → Each (ClaimIsFormed u p) cs → Each IsClosed (owed_for_all u p cs) → Each (ClaimHolds (program_world u) p) cs
   claims_hold [] formed closed = tt

@@ -37,33 +37,42 @@ and_halves d = elim d [ And x y ↦ Some (x, y) | _ ↦ None ]
 abbrev pub or_halves : Condition → Option (Condition × Condition)
 or_halves d = elim d [ Or x y ↦ Some (x, y) | _ ↦ None ]
 
--- conditions agree where they are the same tree of connectives, comparisons, names and fields, and the sides of their comparisons agree
+-- comparisons agree where they are of one kind and their sides agree
+abbrev pub comparisons_agree : Reading → Condition → Condition → Bool
+comparisons_agree at (Lt a b) d = elim d [ Lt x y ↦ sides_agree at a b x y | _ ↦ false ]
+comparisons_agree at (Le a b) d = elim d [ Le x y ↦ sides_agree at a b x y | _ ↦ false ]
+comparisons_agree at (Gt a b) d = elim d [ Gt x y ↦ sides_agree at a b x y | _ ↦ false ]
+comparisons_agree at (Ge a b) d = elim d [ Ge x y ↦ sides_agree at a b x y | _ ↦ false ]
+comparisons_agree at (Eq a b) d = elim d [ Eq x y ↦ sides_agree at a b x y | _ ↦ false ]
+comparisons_agree at c d = false
+
+-- conditions agree where they are the same tree of connectives, comparisons, names and fields, and their comparisons agree
 abbrev pub conditions_agree : Reading → Condition → Condition → Bool
 conditions_agree at True d = is_true d
 conditions_agree at False d = is_false d
 conditions_agree at (Flag x) d = is_flag x d
 conditions_agree at (FieldFlag f) d = is_field_flag f d
-conditions_agree at (Lt a b) d = elim d [ Lt x y ↦ sides_agree at a b x y | _ ↦ false ]
-conditions_agree at (Le a b) d = elim d [ Le x y ↦ sides_agree at a b x y | _ ↦ false ]
-conditions_agree at (Gt a b) d = elim d [ Gt x y ↦ sides_agree at a b x y | _ ↦ false ]
-conditions_agree at (Ge a b) d = elim d [ Ge x y ↦ sides_agree at a b x y | _ ↦ false ]
-conditions_agree at (Eq a b) d = elim d [ Eq x y ↦ sides_agree at a b x y | _ ↦ false ]
-conditions_agree at (And a b) d = elim (and_halves d) [ None ↦ false | Some p ↦ conditions_agree at a p.0 && conditions_agree at b p.1 ]
-conditions_agree at (Or a b) d = elim (or_halves d) [ None ↦ false | Some p ↦ conditions_agree at a p.0 && conditions_agree at b p.1 ]
+conditions_agree at (And a b) d =
+    elim (and_halves d) [ None ↦ false | Some p ↦ conditions_agree at a p.0 && conditions_agree at b p.1 ]
+conditions_agree at (Or a b) d =
+    elim (or_halves d) [ None ↦ false | Some p ↦ conditions_agree at a p.0 && conditions_agree at b p.1 ]
+conditions_agree at c d = comparisons_agree at c d
 
 -- the normal forms that are compared can be written down
+abbrev pub comparisons_fit : Reading → Condition → Condition → Bool
+comparisons_fit at (Lt a b) d = elim d [ Lt x y ↦ sides_fit at a b x y | _ ↦ true ]
+comparisons_fit at (Le a b) d = elim d [ Le x y ↦ sides_fit at a b x y | _ ↦ true ]
+comparisons_fit at (Gt a b) d = elim d [ Gt x y ↦ sides_fit at a b x y | _ ↦ true ]
+comparisons_fit at (Ge a b) d = elim d [ Ge x y ↦ sides_fit at a b x y | _ ↦ true ]
+comparisons_fit at (Eq a b) d = elim d [ Eq x y ↦ sides_fit at a b x y | _ ↦ true ]
+comparisons_fit at c d = true
+
 abbrev pub conditions_fit : Reading → Condition → Condition → Bool
-conditions_fit at True d = true
-conditions_fit at False d = true
-conditions_fit at (Flag x) d = true
-conditions_fit at (FieldFlag f) d = true
-conditions_fit at (Lt a b) d = elim d [ Lt x y ↦ sides_fit at a b x y | _ ↦ true ]
-conditions_fit at (Le a b) d = elim d [ Le x y ↦ sides_fit at a b x y | _ ↦ true ]
-conditions_fit at (Gt a b) d = elim d [ Gt x y ↦ sides_fit at a b x y | _ ↦ true ]
-conditions_fit at (Ge a b) d = elim d [ Ge x y ↦ sides_fit at a b x y | _ ↦ true ]
-conditions_fit at (Eq a b) d = elim d [ Eq x y ↦ sides_fit at a b x y | _ ↦ true ]
-conditions_fit at (And a b) d = elim (and_halves d) [ None ↦ true | Some p ↦ conditions_fit at a p.0 && conditions_fit at b p.1 ]
-conditions_fit at (Or a b) d = elim (or_halves d) [ None ↦ true | Some p ↦ conditions_fit at a p.0 && conditions_fit at b p.1 ]
+conditions_fit at (And a b) d =
+    elim (and_halves d) [ None ↦ true | Some p ↦ conditions_fit at a p.0 && conditions_fit at b p.1 ]
+conditions_fit at (Or a b) d =
+    elim (or_halves d) [ None ↦ true | Some p ↦ conditions_fit at a p.0 && conditions_fit at b p.1 ]
+conditions_fit at c d = comparisons_fit at c d
 
 -- a test is answered exactly where the forms that it needs can be written down
 abbrev pub Tested : Result Bool FormError → Bool → Bool → Type 0

@@ -7,29 +7,17 @@ use Rattle.exo_meaning.specs.Calls.{Callee}
 use Rattle.exo_meaning.specs.Run.{roots_after}
 use Rattle.exo_meaning.specs.Units as units
 use Rattle.exo_meaning.specs.Units.{Scope, ControlName, Reads, plainly, with_fields, with_strides, with_both, is_of_literals, is_literal_number, is_truth, is_control, are_controls, is_condition, is_of_kind, is_write, is_rank, is_new, is_empty, is_short, scope_of, scope_after, with_name, param_sort, is_param_kind, are_params, is_block, is_statement, IsProcedure}
-use Rattle.affine_forms.specs.Forms.{Allowed, is_literal, is_affine, anything, keeps_rules}
+use Rattle.affine_forms.specs.Forms.{Allowed, is_affine, anything, keeps_rules}
 use Rattle.affine_forms.specs.Formulas.{condition_keeps_rules}
 use Rattle.affine_forms.specs.Strides.{all_affine}
 use Rattle.affine_forms.proofs.Values.{and_parts}
 use Rattle.affine_places.specs.Facts.{fact_keeps_rules, Known}
 use Rattle.affine_places.specs.Roots.{variables, are_extents, kind_has_extents, params_have_extents, block_has_extents, statement_has_extents, has_extents}
-use Rattle.exo_places.specs.Rules.{block_keeps_rules, statement_keeps_rules}
-use Rattle.exo_places.specs.Laws.{WellFormedIsAffine}
+use Rattle.affine_places.specs.Rules.{block_keeps_rules, statement_keeps_rules}
+use Rattle.affine_places.specs.Laws.{WellFormedIsAffine}
 
 both_true : (a b : Bool) → a ≡ true → b ≡ true → a && b ≡ true
 both_true a b h k = ap₂ ◌&&◌ h k
-
-same_literals : (e : Control) → is_of_literals e ≡ is_literal e
-same_literals (Lit n) = refl
-same_literals (Var x) = refl
-same_literals (Field f) = refl
-same_literals (StrideOf x k) = refl
-same_literals (Neg a) = same_literals a
-same_literals (Add a b) = ap₂ ◌&&◌ (same_literals a) (same_literals b)
-same_literals (Sub a b) = ap₂ ◌&&◌ (same_literals a) (same_literals b)
-same_literals (Mul a b) = ap₂ ◌&&◌ (same_literals a) (same_literals b)
-same_literals (Div a c) = same_literals a
-same_literals (Mod a c) = same_literals a
 
 -- ---- expressions
 
@@ -51,7 +39,7 @@ module _ (fields : ℕ → Option Kind) (may : Reads) (allowed : Allowed) (reads
   affine (Mul a b) h =
       let p = and_parts (is_control fields may scope a && is_control fields may scope b) (is_of_literals a || is_of_literals b) h in
       let q = and_parts (is_control fields may scope a) (is_control fields may scope b) p.0 in
-      both_true (is_literal a || is_literal b) (is_affine allowed a && is_affine allowed b) (sym (ap₂ ◌||◌ (same_literals a) (same_literals b)) ∙ p.1) (both_true (is_affine allowed a) (is_affine allowed b) (affine a q.0) (affine b q.1))
+      both_true (is_of_literals a || is_of_literals b) (is_affine allowed a && is_affine allowed b) p.1 (both_true (is_affine allowed a) (is_affine allowed b) (affine a q.0) (affine b q.1))
   affine (Div a c) h = let p = and_parts (is_control fields may scope a) (is_literal_number c && int_lt (pos 0) c) h in both_true (is_positive c) (is_affine allowed a) (and_parts (is_literal_number c) (int_lt (pos 0) c) p.1).1 (affine a p.0)
   affine (Mod a c) h = let p = and_parts (is_control fields may scope a) (is_literal_number c && int_lt (pos 0) c) h in both_true (is_positive c) (is_affine allowed a) (and_parts (is_literal_number c) (int_lt (pos 0) c) p.1).1 (affine a p.0)
 

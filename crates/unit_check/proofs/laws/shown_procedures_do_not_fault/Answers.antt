@@ -1,5 +1,5 @@
-use Rattle.fault_laws.proofs.Shown.{shown_procedures_do_not_fault}
-use Rattle.fault_laws.proofs.laws.shown_procedures_do_not_fault.Goals as goal
+use Rattle.unit_check.proofs.Shown.{shown_procedures_do_not_fault}
+use Rattle.unit_check.proofs.laws.shown_procedures_do_not_fault.Goals as goal
 
 pub returns : goal.returns
 returns c =
