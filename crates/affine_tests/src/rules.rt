@@ -4,7 +4,7 @@ ghost use Rattle.exo_tree.specs.PlainControl.{control, condition};
 ghost use Rattle.affine_forms.specs.Forms.{keeps_rules};
 ghost use Rattle.affine_forms.specs.Formulas.{condition_keeps_rules};
 
-use affine_forms::is_literal;
+use affine_forms::is_of_literals;
 use exo_tree::{Cond, Ctrl};
 
 /// Whether each product has a side of literals, and each divisor is at least 1.
@@ -20,7 +20,7 @@ pub fn keeps_rules(e: &Ctrl) -> bool
         Ctrl::Add(a, b) => keeps_rules(a) && keeps_rules(b),
         Ctrl::Sub(a, b) => keeps_rules(a) && keeps_rules(b),
         Ctrl::Mul(a, b) => {
-            (is_literal(a) || is_literal(b)) && (keeps_rules(a) && keeps_rules(b))
+            (is_of_literals(a) || is_of_literals(b)) && (keeps_rules(a) && keeps_rules(b))
         }
         Ctrl::Div(a, by) => *by > 0 && keeps_rules(a),
         Ctrl::Mod(a, by) => *by > 0 && keeps_rules(a),

@@ -4,7 +4,7 @@ use Rattle.exo_tree.specs.Tree.{Procedure, Program}
 use Rattle.exo_meaning.specs.State.{State}
 use Rattle.exo_meaning.specs.Run.{World}
 use Rattle.exo_meaning.specs.Units.{IsUnit}
-use Rattle.fault_laws.specs.Laws.{NothingFaults}
+use Rattle.unit_check.specs.Faults.{NothingFaults}
 use Rattle.exo_meaning.specs.Inputs.{IsValid, run_procedure}
 use Rattle.c_tree.specs.CTree.{CFunction}
 use Rattle.c_tree.specs.CText.{text_of}
