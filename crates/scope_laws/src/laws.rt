@@ -1,0 +1,176 @@
+// Laws of scopes, each the contract of a function with nothing to do.
+
+ghost use Rattle.scope_laws.specs.Scopes.{OpenScope};
+ghost use Rattle.scope_laws.specs.Scopes.{OpenScopes};
+ghost use Rattle.scope_laws.specs.Scopes.{JoinScopes};
+ghost use Rattle.scope_laws.specs.Scopes.{ScopeTwice};
+ghost use Rattle.scope_laws.specs.Scopes.{ScopeInTurn};
+ghost use Rattle.scope_laws.specs.Scopes.{BranchIsScope};
+ghost use Rattle.scope_laws.specs.Scopes.{SplitTurn};
+ghost use Rattle.scope_laws.specs.Opened.{BlockMayOpen};
+ghost use Rattle.scope_laws.specs.Opened.{BlockMayClose};
+ghost use Rattle.scope_laws.specs.Opened.{BlocksMayOpen};
+ghost use Rattle.scope_laws.specs.Opened.{BlocksMayClose};
+ghost use Rattle.scope_laws.specs.Opened.{BranchMayStand};
+ghost use Rattle.scope_laws.specs.Opened.{SplitMayStand};
+ghost use Rattle.scope_laws.specs.Opened.{MayLeaveLaw};
+ghost use Rattle.scope_laws.specs.Opened.{LeavingRefines};
+ghost use Rattle.scope_laws.specs.Unrolled.{TurnsAreScopes};
+ghost use Rattle.scope_laws.specs.Unrolled.{CopiesAreTurns};
+ghost use Rattle.scope_laws.specs.Unrolled.{CopiesMayStand};
+ghost use Rattle.scope_laws.specs.Copied.{RenamedMentions};
+ghost use Rattle.scope_laws.specs.Copied.{RenamedLeaves};
+ghost use Rattle.scope_laws.specs.Copied.{SubstitutedLeaves};
+ghost use Rattle.scope_laws.specs.Copied.{CopyAvoids};
+ghost use Rattle.scope_laws.specs.Copied.{ApartLaw};
+ghost use Rattle.scope_laws.specs.Turns.{SplitTurns};
+ghost use Rattle.scope_laws.specs.Turns.{ScopeOfNone};
+ghost use Rattle.scope_laws.specs.Turns.{SteadyInLoop};
+ghost use Rattle.scope_laws.specs.Turns.{LiftBranch};
+ghost use Rattle.scope_laws.specs.Turns.{LiftThen};
+ghost use Rattle.scope_laws.specs.Turns.{SwapBranches};
+
+/// A block in a scope of its own and the same block opened differ at its top binders alone.
+pub fn open_scope()
+    ensures { OpenScope }
+{}
+
+/// So do several blocks in a row, each in a scope of its own against all of them joined.
+pub fn open_scopes()
+    ensures { OpenScopes }
+{}
+
+/// Within a scope they do exactly the same.
+pub fn join_scopes()
+    ensures { JoinScopes }
+{}
+
+/// A scope that is all of a scope is of no account.
+pub fn scope_twice()
+    ensures { ScopeTwice }
+{}
+
+/// Nor is one that is all of a turn.
+pub fn scope_in_turn()
+    ensures { ScopeInTurn }
+{}
+
+/// A branch is a block in a scope of its own.
+pub fn branch_is_scope()
+    ensures { BranchIsScope }
+{}
+
+/// A turn of two blocks is a turn of the first and then one of the second.
+pub fn split_turn()
+    ensures { SplitTurn }
+{}
+
+/// A block opened may stand for what is refined by it in a scope.
+pub fn block_may_open()
+    ensures { BlockMayOpen }
+{}
+
+/// What refines a block in a scope may stand for this block opened.
+pub fn block_may_close()
+    ensures { BlockMayClose }
+{}
+
+/// Several blocks opened may stand for what is refined by them in scopes.
+pub fn blocks_may_open()
+    ensures { BlocksMayOpen }
+{}
+
+/// What refines several blocks in scopes may stand for these blocks opened.
+pub fn blocks_may_close()
+    ensures { BlocksMayClose }
+{}
+
+/// The branch that is taken may stand for a condition.
+pub fn branch_may_stand()
+    ensures { BranchMayStand }
+{}
+
+/// A condition with a block and a copy of it as branches may stand for the block.
+pub fn split_may_stand()
+    ensures { SplitMayStand }
+{}
+
+/// What stands at a place may leave new names and those of scopes within the old block.
+pub fn names_may_be_left()
+    ensures { MayLeaveLaw }
+{}
+
+/// What may stand for a block wherever a run comes to it may be put in its place.
+pub fn leaving_refines()
+    ensures { LeavingRefines }
+{}
+
+/// The turns of a loop are blocks in scopes of their own, where each does the same as its turn.
+pub fn turns_are_scopes()
+    ensures { TurnsAreScopes }
+{}
+
+/// Copies of the body with the number of the turn for the variable do the same as the turns.
+pub fn copies_are_turns()
+    ensures { CopiesAreTurns }
+{}
+
+/// Such copies may stand for the loop, one after the other.
+pub fn copies_may_stand()
+    ensures { CopiesMayStand }
+{}
+
+/// Under other ids a block mentions what it mentioned, under these ids.
+pub fn renamed_mentions()
+    ensures { RenamedMentions }
+{}
+
+/// It leaves what it left, under these ids.
+pub fn renamed_leaves()
+    ensures { RenamedLeaves }
+{}
+
+/// With an expression for a variable a block leaves the same names.
+pub fn substituted_leaves()
+    ensures { SubstitutedLeaves }
+{}
+
+/// A copy mentions no name that another copy leaves, where the ids of the two are apart.
+pub fn copies_avoid_each_other()
+    ensures { CopyAvoids }
+{}
+
+/// Blocks are apart where none mentions what one before it leaves.
+pub fn blocks_are_apart()
+    ensures { ApartLaw }
+{}
+
+/// Turns of two blocks are turns of the first, each followed by one of the second.
+pub fn split_turns()
+    ensures { SplitTurns }
+{}
+
+/// A block that leaves no name does the same in a scope of its own.
+pub fn scope_of_none()
+    ensures { ScopeOfNone }
+{}
+
+/// A condition stays as it is in the turns of a loop that lacks its variable and writes no field that it reads.
+pub fn steady_in_loop()
+    ensures { SteadyInLoop }
+{}
+
+/// A condition that is all of a loop may stand round a loop over each branch.
+pub fn lift_branch()
+    ensures { LiftBranch }
+{}
+
+/// There a branch that is missing stays missing.
+pub fn lift_then()
+    ensures { LiftThen }
+{}
+
+/// Two conditions of which the one is all of the other may change places.
+pub fn swap_branches()
+    ensures { SwapBranches }
+{}
