@@ -171,9 +171,9 @@ pub may_leave_law : MayLeaveLaw
 may_leave_law fields memories callees p c old hidden ok was names = record {
   free = λ x k. (each x k).free;
   unused = unused hidden old (shows hidden (top_binders old) (λ x k. (each x k).top)) c (is_param p) scoped
-    (shows hidden (is_param p) (λ x k. (each x k).free.0))
-    (shows hidden (on_way c) (λ x k. (each x k).free.1))
-    (shows hidden (has_binder (rest_of c)) (λ x k. (each x k).later));
+      (shows hidden (is_param p) (λ x k. (each x k).free.0))
+      (shows hidden (on_way c) (λ x k. (each x k).free.1))
+      (shows hidden (has_binder (rest_of c)) (λ x k. (each x k).later));
 }
   where
     scoped : is_scoped (is_param p) (fill c old) ≡ true

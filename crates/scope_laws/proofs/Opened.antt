@@ -41,16 +41,16 @@ module _ (world : World) (hidden : ℕ → Bool) (u : State) (none : HasNone hid
   opened old new both refines = record {
     fresh = λ x k. (none.unbound x k).buffers;
     runs = λ a b i j.
-      let m = both_back (LeftBut hidden) o (run world new u) b j both in
-      through hidden a m.0 b (refines a m.0 i m.1) m.2.alike;
+        let m = both_back (LeftBut hidden) o (run world new u) b j both in
+        through hidden a m.0 b (refines a m.0 i m.1) m.2.alike;
   }
 
   shut : (old new : Block) → Both (LeftBut hidden) o (run world old u) → ((m b : State) → o ≡ Some m → run world new u ≡ Some b → StateRefined m b) → MayReplace world hidden old new u
   shut old new both refines = record {
     fresh = λ x k. (none.unbound x k).buffers;
     runs = λ a b i j.
-      let m = both_back (LeftBut hidden) o (run world old u) a i both in
-      closed hidden a m.0 b m.2.alike (refines m.0 b m.1 j);
+        let m = both_back (LeftBut hidden) o (run world old u) a i both in
+        closed hidden a m.0 b m.2.alike (refines m.0 b m.1 j);
   }
 
 pub block_may_open : BlockMayOpen

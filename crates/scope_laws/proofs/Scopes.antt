@@ -25,9 +25,9 @@ pub run_names : (world : World) (b : Block) (s : State) → IfSome (run world b 
 run_names world end s = λ x e. name_same x s
 run_names world (next a b) s =
     if_then (Others (binds a) s) (Others (top_binders (next a b)) s) (step world a s) (run world b) (step_names world a s) (λ t h.
-      if_weaken (Others (top_binders b) t) (Others (top_binders (next a b)) s) (run world b t) (run_names world b t) (λ u k x e.
-        let p = or_parts (binds a x) (top_binders b x) e in
-        name_on x s t u (h x p.0) (k x p.1)))
+    if_weaken (Others (top_binders b) t) (Others (top_binders (next a b)) s) (run world b t) (run_names world b t) (λ u k x e.
+    let p = or_parts (binds a x) (top_binders b x) e in
+    name_on x s t u (h x p.0) (k x p.1)))
 
 or_assoc : (a b c : Bool) → (a || (b || c)) ≡ ((a || b) || c)
 or_assoc true b c = refl

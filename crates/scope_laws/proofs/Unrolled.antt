@@ -58,5 +58,5 @@ copies_may_stand world i lo hi b bs u apart none free copies =
     let old = next (For i lo hi b) end in
     let ns = turns_of u.scene lo hi in
     blocks_may_open world old bs u apart none (same_refines (run world old) (scopes world bs) u (
-      then_some (turns (turn i.id (run world b)) ns u)
-      ∙ turns_are_scopes_law world i.id b ns bs u none.sound (copies_are_turns_law world i.id b ns bs u free copies)))
+    then_some (turns (turn i.id (run world b)) ns u)
+    ∙ turns_are_scopes_law world i.id b ns bs u none.sound (copies_are_turns_law world i.id b ns bs u free copies)))

@@ -1,5 +1,14 @@
-// Laws of scopes, each the contract of a function with nothing to do.
+// Laws of places and scopes, each the contract of a function with nothing to do.
 
+ghost use Rattle.scope_laws.specs.SamePlace.{SameHole};
+ghost use Rattle.scope_laws.specs.SamePlace.{SamePlace};
+ghost use Rattle.scope_laws.specs.SamePlace.{FirstPlace};
+ghost use Rattle.scope_laws.specs.PlacesCompose.{HolesCompose};
+ghost use Rattle.scope_laws.specs.PlacesCompose.{PlacesCompose};
+ghost use Rattle.scope_laws.specs.BehindBlocks.{HolesBehindBlocks};
+ghost use Rattle.scope_laws.specs.BehindBlocks.{OpenedBehind};
+ghost use Rattle.scope_laws.specs.WellAtPlace.{WellAtPlace};
+ghost use Rattle.scope_laws.specs.WellAtPlace.{WellPutAtPlace};
 ghost use Rattle.scope_laws.specs.Scopes.{OpenScope};
 ghost use Rattle.scope_laws.specs.Scopes.{OpenScopes};
 ghost use Rattle.scope_laws.specs.Scopes.{JoinScopes};
@@ -18,17 +27,66 @@ ghost use Rattle.scope_laws.specs.Opened.{LeavingRefines};
 ghost use Rattle.scope_laws.specs.Unrolled.{TurnsAreScopes};
 ghost use Rattle.scope_laws.specs.Unrolled.{CopiesAreTurns};
 ghost use Rattle.scope_laws.specs.Unrolled.{CopiesMayStand};
-ghost use Rattle.scope_laws.specs.Copied.{RenamedMentions};
-ghost use Rattle.scope_laws.specs.Copied.{RenamedLeaves};
-ghost use Rattle.scope_laws.specs.Copied.{SubstitutedLeaves};
-ghost use Rattle.scope_laws.specs.Copied.{CopyAvoids};
-ghost use Rattle.scope_laws.specs.Copied.{ApartLaw};
+ghost use Rattle.scope_laws.specs.Apart.{RenamedMentions};
+ghost use Rattle.scope_laws.specs.Apart.{RenamedLeaves};
+ghost use Rattle.scope_laws.specs.Apart.{SubstitutedLeaves};
+ghost use Rattle.scope_laws.specs.Apart.{CopyAvoids};
+ghost use Rattle.scope_laws.specs.Apart.{ApartLaw};
 ghost use Rattle.scope_laws.specs.Turns.{SplitTurns};
 ghost use Rattle.scope_laws.specs.Turns.{ScopeOfNone};
 ghost use Rattle.scope_laws.specs.Turns.{SteadyInLoop};
 ghost use Rattle.scope_laws.specs.Turns.{LiftBranch};
 ghost use Rattle.scope_laws.specs.Turns.{LiftThen};
 ghost use Rattle.scope_laws.specs.Turns.{SwapBranches};
+
+// ---- places
+
+/// A hole with more or less of what follows in it is at the same place.
+pub fn holes_are_at_one_place()
+    ensures { SameHole }
+{}
+
+/// At a path with so many statements there are as well any fewer, at the same place.
+pub fn first_statements_are_at_one_place()
+    ensures { SamePlace }
+{}
+
+/// A piece of one statement and more is at the place of its first statement.
+pub fn pieces_are_at_their_first_statement()
+    ensures { FirstPlace }
+{}
+
+/// A hole in a hole is a hole: a run comes there by way of the first.
+pub fn holes_compose()
+    ensures { HolesCompose }
+{}
+
+/// What is opened in a piece is opened at a longer path, and a run comes there by way of the piece.
+pub fn places_compose()
+    ensures { PlacesCompose }
+{}
+
+/// A run comes to a hole behind a block where it runs the block.
+pub fn runs_come_behind_blocks()
+    ensures { HolesBehindBlocks }
+{}
+
+/// What is opened behind the first statements of a block has those before it.
+pub fn openings_are_behind_blocks()
+    ensures { OpenedBehind }
+{}
+
+/// At each place of a well-formed procedure the rules of blocks hold.
+pub fn rules_hold_at_places()
+    ensures { WellAtPlace }
+{}
+
+/// A block that keeps the rules at a place may stand there.
+pub fn rules_hold_with_other_blocks()
+    ensures { WellPutAtPlace }
+{}
+
+// ---- scopes
 
 /// A block in a scope of its own and the same block opened differ at its top binders alone.
 pub fn open_scope()

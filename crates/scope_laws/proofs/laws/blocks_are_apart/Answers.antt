@@ -1,4 +1,4 @@
-use Rattle.scope_laws.proofs.Copied.{apart_law}
+use Rattle.scope_laws.proofs.Apart.{apart_law}
 use Rattle.scope_laws.proofs.laws.blocks_are_apart.Goals as goal
 
 pub returns : goal.returns

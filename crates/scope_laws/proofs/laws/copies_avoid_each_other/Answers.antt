@@ -1,4 +1,4 @@
-use Rattle.scope_laws.proofs.Copied.{copy_avoids}
+use Rattle.scope_laws.proofs.Apart.{copy_avoids}
 use Rattle.scope_laws.proofs.laws.copies_avoid_each_other.Goals as goal
 
 pub returns : goal.returns

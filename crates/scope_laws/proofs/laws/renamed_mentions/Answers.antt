@@ -1,4 +1,4 @@
-use Rattle.scope_laws.proofs.Copied.{renamed_mentions}
+use Rattle.scope_laws.proofs.Apart.{renamed_mentions}
 use Rattle.scope_laws.proofs.laws.renamed_mentions.Goals as goal
 
 pub returns : goal.returns

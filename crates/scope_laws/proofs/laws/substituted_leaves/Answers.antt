@@ -1,4 +1,4 @@
-use Rattle.scope_laws.proofs.Copied.{substituted_leaves}
+use Rattle.scope_laws.proofs.Apart.{substituted_leaves}
 use Rattle.scope_laws.proofs.laws.substituted_leaves.Goals as goal
 
 pub returns : goal.returns

@@ -9,7 +9,7 @@ use Rattle.meaning_laws.specs.Sound.{binds}
 use Rattle.meaning_laws.specs.Substitute.{in_statement as substituted_in}
 use Rattle.meaning_laws.proofs.Scoped.{both_false}
 use Rattle.exo_meaning.proofs.Frame.{or_parts}
-use Rattle.scope_laws.specs.Copied.{RenamedMentions, RenamedLeaves, SubstitutedLeaves, CopyAvoids, ApartLaw}
+use Rattle.scope_laws.specs.Apart.{RenamedMentions, RenamedLeaves, SubstitutedLeaves, CopyAvoids, ApartLaw}
 use Rattle.scope_laws.specs.Scopes.{top_binders, joined_all}
 
 -- ---- what is mentioned

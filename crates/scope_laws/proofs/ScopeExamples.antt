@@ -137,9 +137,12 @@ written_out = at_turn 3 (pos 0) ∷ at_turn 4 (pos 1) ∷ []
 
 copies_may_be : MayReplace world (top_binders (joined_all written_out)) looped (joined_all written_out) start
 copies_may_be = copies_may_stand world (binder 1) (Lit (pos 0)) (Lit (pos 2)) (turned 2) written_out start (refl, (refl, tt)) (none_there (top_binders (joined_all written_out)) refl) (λ n. refl) (
-  record { to = swap 2 3; moves = swap_moves 2 3 (IsUnbound start) (nothing_else 2 refl) (nothing_else 3 refl); is = refl }, (
-  record { to = swap 2 4; moves = swap_moves 2 4 (IsUnbound start) (nothing_else 2 refl) (nothing_else 4 refl); is = refl },
-  tt))
+  record { to = swap 2 3; moves = swap_moves 2 3 (IsUnbound start) (nothing_else 2 refl) (nothing_else 3 refl); is = refl },
+  (
+    record { to = swap 2 4; moves = swap_moves 2 4 (IsUnbound start) (nothing_else 2 refl) (nothing_else 4 refl); is = refl },
+    tt,
+  ),
+)
 
 turned_cell : seen (pos 1) (run world looped start) ≡ Number (pos 8)
 unfolding int_wrap
@@ -220,6 +223,9 @@ adds_written_out : Refines (unit_world (λ f. Size) []) adds (record adds { body
 adds_written_out = leaving_refines (λ f. Size) [] (Here end) named_loop (joined_all named_turns) adds (record adds { body = joined_all named_turns }) (top_binders (joined_all named_turns)) refl refl they_may_be_left (λ s u good come none.
     let t = unbound_law (unit_world (λ f. Size) []) adds named_loop (Here end) s u good come 2 (refl, refl) in
     copies_may_stand (unit_world (λ f. Size) []) (named 1 105) (Lit (pos 0)) (Lit (pos 2)) named_body named_turns u (refl, (refl, tt)) none (λ n. refl) (
-      record { to = swap 2 3; moves = swap_moves 2 3 (IsUnbound u) t (none.unbound 3 refl); is = refl }, (
-      record { to = swap 2 4; moves = swap_moves 2 4 (IsUnbound u) t (none.unbound 4 refl); is = refl },
-      tt)))
+      record { to = swap 2 3; moves = swap_moves 2 3 (IsUnbound u) t (none.unbound 3 refl); is = refl },
+      (
+        record { to = swap 2 4; moves = swap_moves 2 4 (IsUnbound u) t (none.unbound 4 refl); is = refl },
+        tt,
+      ),
+    ))
