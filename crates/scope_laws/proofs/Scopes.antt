@@ -98,6 +98,23 @@ same_left hidden s t u v h same =
         ap (λ o. kept o (u.cells b)) none ∙ sym (ap (λ o. kept o (v.cells b)) none)
     go b false e = ap (kept (s.scene.buffers b)) (same.cells b e)
 
+-- the end of a scope takes away what is hidden and was not there
+pub left_same_but : (hidden : ℕ → Bool) (s : State)
+    → ((x : ℕ) → hidden x ≡ true → s.scene.buffers x ≡ None) → (o p : Option State)
+    → Both (SameBut hidden) o p → option_map (left s) o ≡ option_map (left s) p
+left_same_but hidden s gone None None h = refl
+left_same_but hidden s gone None (Some t) h = absurd h
+left_same_but hidden s gone (Some t) None h = absurd h
+left_same_but hidden s gone (Some t) (Some u) h =
+    ap₂ (λ f (c : Cells). Some (record { scene = record s.scene { fields = f }; cells = c }))
+    h.fields (fun_ext (λ x. fun_ext (λ at. go x at (hidden x) refl)))
+  where
+    go : (x : ℕ) (at : List ℤ) (b : Bool) → hidden x ≡ b
+        → kept (s.scene.buffers x) (t.cells x) at ≡ kept (s.scene.buffers x) (u.cells x) at
+    go x at true e = ap (λ o. kept o (t.cells x) at) (gone x e)
+        ∙ sym (ap (λ o. kept o (u.cells x) at) (gone x e))
+    go x at false e = ap (λ c. kept (s.scene.buffers x) c at) (h.cells x e)
+
 rest_left : (hidden : ℕ → Bool) (s t : State) (o p : Option State) → HasNone hidden s → Both (SameBut hidden) o p → option_map (left (left s t)) o ≡ option_map (left s) p
 rest_left hidden s t None None h k = refl
 rest_left hidden s t None (Some v) h k = absurd k

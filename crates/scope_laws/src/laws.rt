@@ -9,6 +9,8 @@ ghost use Rattle.scope_laws.specs.BehindBlocks.{HolesBehindBlocks};
 ghost use Rattle.scope_laws.specs.BehindBlocks.{OpenedBehind};
 ghost use Rattle.scope_laws.specs.WellAtPlace.{WellAtPlace};
 ghost use Rattle.scope_laws.specs.WellAtPlace.{WellPutAtPlace};
+ghost use Rattle.scope_laws.specs.Roots.{RootsCome};
+ghost use Rattle.scope_laws.specs.Roots.{RootsLaw};
 ghost use Rattle.scope_laws.specs.Scopes.{OpenScope};
 ghost use Rattle.scope_laws.specs.Scopes.{OpenScopes};
 ghost use Rattle.scope_laws.specs.Scopes.{JoinScopes};
@@ -84,6 +86,16 @@ pub fn rules_hold_at_places()
 /// A block that keeps the rules at a place may stand there.
 pub fn rules_hold_with_other_blocks()
     ensures { WellPutAtPlace }
+{}
+
+/// The root of each name comes along to a hole.
+pub fn roots_come_along()
+    ensures { RootsCome }
+{}
+
+/// Wherever a run of a well-formed procedure comes to, each name sees a part of its root.
+pub fn names_have_roots()
+    ensures { RootsLaw }
 {}
 
 // ---- scopes
