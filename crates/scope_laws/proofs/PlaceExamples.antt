@@ -1,18 +1,31 @@
 -- The laws at a small procedure.
-use Rattle.std.proofs.Common.{◌≡◌, ℕ, pos, true, [], ◌∷◌, Some, None, refl}
-use Rattle.exo_tree.specs.Tree.{Binder, I8, Index, Lit, Var, Const, Read, Lt, Assign, For, If, Alloc, Pass, Block, end, next, TensorParam, Procedure}
+use Rattle.std.proofs.Common.{◌≡◌, ℕ, pos, true, [], ◌∷◌, Some, None, refl, arith, ◌==◌, Bool, false, cond, sym, ap}
+use Rattle.exo_tree.specs.Tree.{Binder, I8, Index, Lit, Var, Const, Read, Lt, Assign, For, If, Alloc, Pass, Block, end, next, TensorParam, Procedure, I32}
 use Rattle.exo_tree.specs.Context.{Context, Here, After, InLoop, InThen, fill}
 use Rattle.exo_tree.specs.Places.{Main, Step, Path, Opened, opened, opened_in}
 use Rattle.exo_meaning.specs.Units.{is_block, scope_of, sort_in, BufferName, ControlName}
 use Rattle.meaning_laws.specs.Sorted.{MayRun, scope_at}
-use Rattle.scope_laws.specs.Holes.{behind, roots_at}
-use Rattle.scope_laws.specs.SamePlace.{IsSameHole, BeginsWith}
-use Rattle.scope_laws.specs.PlacesCompose.{IsOnward, onward}
+use Rattle.exo_meaning.specs.Value.{Undefined}
+use Rattle.exo_meaning.specs.Scene.{Seen, whole}
+use Rattle.exo_meaning.specs.State.{State, on_scene, with_buffer, with_contents}
+use Rattle.exo_meaning.specs.Run.{tensor, unit_world, kinds_of}
+use Rattle.exo_meaning.specs.Inputs.{IsAdmissible}
+use Rattle.exo_meaning.specs.Laws.{HasRoots}
+use Rattle.exo_meaning.proofs.Examples.{binder, start, world}
+use Rattle.meaning_laws.specs.Context.{ComesTo}
+use Rattle.meaning_laws.proofs.Parts.{none_some, some_injective}
+use Rattle.scope_laws.proofs.Within.{holes_compose}
+use Rattle.scope_laws.proofs.Roots.{names_have_roots, roots_come}
+use Rattle.scope_laws.specs.BehindBlocks.{IsBehind}
+use Rattle.scope_laws.specs.Roots.{own_roots_at}
+use Rattle.scope_laws.specs.Holes.{behind, roots_at, within}
+use Rattle.scope_laws.specs.SamePlace.{IsSameHole, BeginsWith, IsStart}
+use Rattle.scope_laws.specs.PlacesCompose.{IsOnward, onward, IsWithin}
 use Rattle.scope_laws.specs.WellAtPlace.{IsWellAt}
 use Rattle.scope_laws.proofs.SameHole.{same_hole}
-use Rattle.scope_laws.proofs.SamePlace.{first_place}
+use Rattle.scope_laws.proofs.SamePlace.{first_place, same_place}
 use Rattle.scope_laws.proofs.PlacesCompose.{places_compose}
-use Rattle.scope_laws.proofs.BehindBlocks.{opened_behind}
+use Rattle.scope_laws.proofs.BehindBlocks.{opened_behind, holes_behind_blocks}
 use Rattle.scope_laws.proofs.WellAtPlace.{well_at_place, well_put}
 
 abbrev pub named : ℕ → ℕ → Binder
@@ -102,3 +115,55 @@ store_y = next (Assign 0 (Var 1 ∷ []) (Read 2 (Lit (pos 0) ∷ []))) end
 
 well_with_other : is_block (λ f. None) 1 (λ k. None) (scope_of [] three.params) (λ x. x) (fill around store_y) ≡ true
 well_with_other = well_put (λ f. None) 1 (λ k. None) three around last_two store_y may_run.procedure refl refl refl
+
+-- ---- holes
+
+-- the first of two statements, at the place of both
+one_of_two : (p : Block × Block) × IsStart 1 there body_of piece p
+one_of_two = same_place 1 2 there body_of piece (omega arith) refl
+
+-- the second store in the hole of the loop
+store_within : IsWithin second.piece around second.around
+store_within = holes_compose second.piece around second.around
+
+store_in_scope :
+    sort_in (scope_at (within around second.around) (scope_of [] three.params)) 1
+    ≡ Some (ControlName Index)
+store_in_scope = refl
+
+-- the pass behind the branch
+pass_behind : IsBehind first.piece (next Pass end) (Here end)
+pass_behind = holes_behind_blocks first.piece (next Pass end) (Here end)
+
+-- ---- roots
+
+roots_in_three :
+    (s u : State)
+    → IsAdmissible (unit_world (kinds_of []) []) three s
+    → ComesTo (unit_world (kinds_of []) []) last_two around s u
+    → HasRoots (own_roots_at around) u.scene
+roots_in_three s u = names_have_roots [] 1 [] three around last_two s u may_run
+
+-- y: i32[1], behind which y sees its own buffer
+abbrev made_y : State
+made_y =
+    with_contents 2 (λ at. Undefined) (on_scene (with_buffer 2 (tensor I32 (pos 1 ∷ []))) start)
+
+abbrev behind_y : Context
+behind_y = After (Alloc (binder 2) I32 (Lit (pos 1) ∷ []) 0) (Here end)
+
+run_comes : ComesTo world end behind_y start made_y
+run_comes = (made_y, refl, refl)
+
+roots_behind_y : HasRoots (roots_at behind_y (λ x. 0)) made_y.scene
+roots_behind_y = roots_come world end behind_y (λ x. 0) start made_y run_comes start_roots
+  where
+    start_roots : HasRoots (λ x. 0) start.scene
+    start_roots x seen e = go (x == 0) e
+      where
+        go : (t : Bool) → cond t (Some (record { buffer = 0; sides = whole (pos 8 ∷ []) })) None ≡ Some seen → seen.buffer ≡ 0
+        go true k = ap (λ (z : Seen). z.buffer) (some_injective seen (record { buffer = 0; sides = whole (pos 8 ∷ []) }) (sym k))
+        go false k = absurd (none_some k)
+
+root_of_y : roots_at behind_y (λ x. 0) 2 ≡ 2
+root_of_y = refl

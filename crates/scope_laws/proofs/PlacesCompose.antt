@@ -134,9 +134,10 @@ pub places_compose : PlacesCompose
 places_compose m n path t q body o i e z = record {
   piece = whole;
   there = from_body_inside m t q path (opened_in n path body) (opened_in m (onward path t q) body) o (inside o i) (λ k. opened_inside m t q n path body o i k z) e;
-  comes = λ world s u. let law = (holes_compose i.piece o.around i.around).comes world s u in
-      ((λ w. law.0 (record { middle = w.middle; first = subst (λ b. ComesTo world b o.around s w.middle) (sym whole) w.first; second = w.second })),
-       (λ w. let v = law.1 w in record { middle = v.middle; first = subst (λ b. ComesTo world b o.around s v.middle) whole v.first; second = v.second }));
+  comes = λ world s u. let law = (holes_compose i.piece o.around i.around).comes world s u in (
+    (λ w. law.0 (record { middle = w.middle; first = subst (λ b. ComesTo world b o.around s w.middle) (sym whole) w.first; second = w.second })),
+    (λ w. let v = law.1 w in record { middle = v.middle; first = subst (λ b. ComesTo world b o.around s v.middle) whole v.first; second = v.second }),
+  );
 }
   where
     whole : fill i.around i.piece ≡ o.piece

@@ -1,5 +1,5 @@
 -- The buffer of each name, wherever a run comes to.
-use Rattle.std.proofs.Common.{◌≡◌, ℕ, Bool, true, false, [], Option, Some, None, IfSome, refl, sym, ap, ◌∙◌, subst}
+use Rattle.std.proofs.Common.{◌≡◌, ℕ, Bool, true, false, [], Option, Some, IfSome, refl, sym, ap, ◌∙◌, subst}
 use Rattle.exo_tree.specs.Tree.{Kind, Statement, Assign, Reduce, Config, Pass, If, For, Alloc, View, Call, Block, ParamKind, ControlParam, TensorParam, WindowParam, Procedure}
 use Rattle.exo_tree.specs.Context.{Context, Here, After, InLoop, InThen, InElse, fill}
 use Rattle.exo_meaning.specs.Value.{Undefined}
@@ -95,4 +95,4 @@ pub names_have_roots : RootsLaw
 names_have_roots fields memories ps p c old s u may good come =
     let world = unit_world (kinds_of fields) ps in
     come_roots world old c (λ x. x) s u come
-        (own_roots world p s good (field_kind fields) memories may.procedure.params)
+    (own_roots world p s good (field_kind fields) memories may.procedure.params)

@@ -90,12 +90,14 @@ from_body_starts m (s ∷ path) found there o h e = go s.branch e
 
 pub same_place : SamePlace
 same_place m n path body o h e =
-    let s = from_body_starts m path (opened_in n path body) (opened_in m path body) o (starts_in m n path h body o) e in
-    (s.0, record {
-      parts = s.1;
-      there = s.2;
-      same = same_hole o.around o.piece s.0.0 (joined s.0.1 (rest_of o.around)) (sym (joined_assoc s.0.0 s.0.1 (rest_of o.around)) ∙ ap (λ b. joined b (rest_of o.around)) (parted_joined m o.piece s.0 s.1));
-    })
+    let s = from_body_starts m path (opened_in n path body) (opened_in m path body) o (starts_in m n path h body o) e in (
+      s.0,
+      record {
+        parts = s.1;
+        there = s.2;
+        same = same_hole o.around o.piece s.0.0 (joined s.0.1 (rest_of o.around)) (sym (joined_assoc s.0.0 s.0.1 (rest_of o.around)) ∙ ap (λ b. joined b (rest_of o.around)) (parted_joined m o.piece s.0 s.1));
+      },
+    )
 
 first_parted : (b : Block) (p : Block × Block) → parted 1 b ≡ Some p → first_of p.0 ≡ first_of b
 first_parted end p e = absurd (none_some e)

@@ -2,12 +2,18 @@
 use Rattle.std.proofs.Common.{◌≡◌, inl, ◌||◌, ℕ, ℤ, pos, ◌==◌, Bool, true, false, cond, List, [], ◌∷◌, Option, Some, None, refl, sym, ap, ◌∙◌, subst, true≢false, eqb-true}
 use Rattle.std.specs.Prelude.{IsSome}
 use Rattle.std.specs.Int.{int_wrap}
-use Rattle.exo_tree.specs.Tree.{Binder, Size, TensorParam, Procedure, Condition, Lt, Block, end, next, joined, Assign, Reduce, If, For, Alloc, Const, Read, Lit, Var, I32}
+use Rattle.exo_tree.specs.Tree.{Binder, Size, TensorParam, Procedure, Condition, Lt, Block, end, next, joined, Assign, Reduce, If, For, Alloc, Const, Read, Lit, Var, I32, Field}
 use Rattle.exo_tree.specs.Context.{Here}
+use Rattle.meaning_laws.specs.Fresh.{swapped}
+use Rattle.meaning_laws.specs.Substitute.{in_block as substituted}
+use Rattle.scope_laws.specs.Turns.{IsSteadyIn}
+use Rattle.scope_laws.specs.Unrolled.{AreTurns}
+use Rattle.scope_laws.proofs.Apart.{renamed_mentions, renamed_leaves, substituted_leaves, copy_avoids, apart_law}
+use Rattle.exo_meaning.specs.Renaming.{re_block}
 use Rattle.exo_meaning.specs.Value.{Value, Undefined, Number}
 use Rattle.exo_meaning.specs.Scene.{then_do, Shape, Seen, whole}
 use Rattle.exo_meaning.specs.State.{State, scoped}
-use Rattle.exo_meaning.specs.Run.{unit_world, run, turn, tensor}
+use Rattle.exo_meaning.specs.Run.{unit_world, run, turn, tensor, turns}
 use Rattle.exo_meaning.specs.Inputs.{Refines}
 use Rattle.exo_meaning.specs.Units.{IsProcedure}
 use Rattle.exo_meaning.specs.Refines.{Both}
@@ -21,11 +27,11 @@ use Rattle.meaning_laws.proofs.Scoped.{or_elim}
 use Rattle.meaning_laws.proofs.Swaps.{swap, swap_moves}
 use Rattle.scope_laws.specs.Opened.{MayLeave, IsNew}
 use Rattle.scope_laws.specs.Scopes.{top_binders, HasNone, LeftBut, joined_all, scopes, AreApart}
-use Rattle.scope_laws.proofs.Scopes.{open_scopes_law, split_turn_law}
-use Rattle.scope_laws.proofs.Opened.{leaving_refines}
+use Rattle.scope_laws.proofs.Scopes.{open_scopes_law, split_turn_law, open_scope_law, join_scopes_law, scope_twice_law, scope_in_turn_law, branch_is_scope_law}
+use Rattle.scope_laws.proofs.Opened.{leaving_refines, same_refines, block_may_open, block_may_close, blocks_may_open, blocks_may_close, branch_may_stand, split_may_stand}
 use Rattle.scope_laws.proofs.MayLeave.{may_leave_law}
-use Rattle.scope_laws.proofs.Turns.{lift_then_law}
-use Rattle.scope_laws.proofs.Unrolled.{copies_may_stand}
+use Rattle.scope_laws.proofs.Turns.{lift_then_law, scope_of_none_law, split_turns_law, steady_in_loop_law, lift_branch_law, swap_branches_law}
+use Rattle.scope_laws.proofs.Unrolled.{copies_may_stand, copies_are_turns_law, turns_are_scopes_law}
 
 -- t: i32[1]; t[0] = n; x[1] += t[0], with number y for t
 abbrev through : ℕ → ℤ → Block
@@ -182,6 +188,163 @@ lifted = lift_then_law world (binder 1) (Lit (pos 0)) (Lit (pos 2)) always (turn
 lifted_cell : seen (pos 1) (run world round_loop start) ≡ Number (pos 8)
 unfolding int_wrap
 lifted_cell = refl
+
+-- ---- each law of a scope there
+
+abbrev one : Block
+one = through 2 (pos 5)
+
+one_differs : Both (LeftBut (top_binders one)) (scoped (run world one) start) (run world one start)
+one_differs = open_scope_law world one start (none_there (top_binders one) refl)
+
+two_joined : scopes world two start ≡ scoped (run world (joined_all two)) start
+two_joined =
+    join_scopes_law world two start two_are_apart (none_there (top_binders (joined_all two)) refl)
+
+closed_twice : scoped (scoped (run world one)) start ≡ scoped (run world one) start
+closed_twice = scope_twice_law (run world one) start
+
+closed_in_turn :
+    turn 1 (scoped (run world (turned 2))) (pos 1) start ≡ turn 1 (run world (turned 2)) (pos 1) start
+closed_in_turn = scope_in_turn_law 1 (run world (turned 2)) (pos 1) start
+
+abbrev branch : Block → Block
+branch b = next (If always b end) end
+
+one_in_branch : run world (branch one) start ≡ scoped (run world one) start
+one_in_branch = branch_is_scope_law world always one end start
+
+two_in_branch : run world (branch (joined_all two)) start ≡ scopes world two start
+two_in_branch = branch_is_scope_law world always (joined_all two) end start ∙ sym two_joined
+
+loop_is_closed : scoped (run world looped) start ≡ run world looped start
+loop_is_closed = scope_of_none_law world looped start start_sound (λ x. refl)
+
+turns_split :
+    turns (turn 1 (run world (joined (turned 2) (turned 3)))) (pos 0 ∷ pos 1 ∷ []) start
+    ≡ turns (λ n t. then_do (turn 1 (run world (turned 2)) n t) (turn 1 (run world (turned 3)) n))
+    (pos 0 ∷ pos 1 ∷ []) start
+turns_split =
+    split_turns_law world 1 (turned 2) (turned 3) (pos 0 ∷ pos 1 ∷ []) start refl refl
+    (none_there (top_binders (turned 2)) refl)
+
+-- ---- blocks that may stand for one another there
+
+one_may_open : MayReplace world (top_binders one) (branch one) one start
+one_may_open =
+    block_may_open world (branch one) one start (none_there (top_binders one) refl)
+    (same_refines (run world (branch one)) (scoped (run world one)) start one_in_branch)
+
+one_may_close : MayReplace world (top_binders one) one (branch one) start
+one_may_close =
+    block_may_close world one (branch one) start (none_there (top_binders one) refl)
+    (same_refines (scoped (run world one)) (run world (branch one)) start (sym one_in_branch))
+
+two_may_open :
+    MayReplace world (top_binders (joined_all two)) (branch (joined_all two)) (joined_all two) start
+two_may_open =
+    blocks_may_open world (branch (joined_all two)) two start two_are_apart
+    (none_there (top_binders (joined_all two)) refl)
+    (same_refines (run world (branch (joined_all two))) (scopes world two) start two_in_branch)
+
+two_may_close :
+    MayReplace world (top_binders (joined_all two)) (joined_all two) (branch (joined_all two)) start
+two_may_close =
+    blocks_may_close world two (branch (joined_all two)) start two_are_apart
+    (none_there (top_binders (joined_all two)) refl)
+    (same_refines (scopes world two) (run world (branch (joined_all two))) start (sym two_in_branch))
+
+-- the branch that is not taken leaves z
+taken_may_stand :
+    MayReplace world (top_binders one) (next (If always one (through 3 (pos 7))) end) one start
+taken_may_stand =
+    branch_may_stand world always one (through 3 (pos 7)) start (none_there (top_binders one) refl)
+
+copied_may_stand :
+    MayReplace world (top_binders one) one (next (If always one (through 3 (pos 5))) end) start
+copied_may_stand =
+    split_may_stand world always (swap 2 3) one start (none_there (top_binders one) refl)
+    (swap_moves 2 3 (IsUnbound start) (nothing_else 2 refl) (nothing_else 3 refl))
+
+-- ---- the turns of the loop, written out
+
+they_are_turns : AreTurns world 1 (turned 2) start (pos 0 ∷ pos 1 ∷ []) written_out
+they_are_turns =
+    copies_are_turns_law world 1 (turned 2) (pos 0 ∷ pos 1 ∷ []) written_out start (λ n. refl) (
+      record {
+        to = swap 2 3;
+        moves = swap_moves 2 3 (IsUnbound start) (nothing_else 2 refl) (nothing_else 3 refl);
+        is = refl;
+      },
+      (
+        record {
+          to = swap 2 4;
+          moves = swap_moves 2 4 (IsUnbound start) (nothing_else 2 refl) (nothing_else 4 refl);
+          is = refl;
+        },
+        tt,
+      ),
+    )
+
+turns_in_scopes :
+    turns (turn 1 (run world (turned 2))) (pos 0 ∷ pos 1 ∷ []) start ≡ scopes world written_out start
+turns_in_scopes =
+    turns_are_scopes_law world 1 (turned 2) (pos 0 ∷ pos 1 ∷ []) written_out start start_sound
+    they_are_turns
+
+-- ---- what copies leave and mention
+
+abbrev third : ℕ → Bool
+third x = x == 3
+
+copy_mentions : in_block third (re_block (swap 2 3) one) ≡ in_block (λ x. third (swapped 2 3 x)) one
+copy_mentions = renamed_mentions third (swap 2 3) one
+
+it_mentions : in_block third (re_block (swap 2 3) one) ≡ true
+it_mentions = refl
+
+copy_leaves : top_binders (re_block (swap 2 3) one) 3 ≡ top_binders one 2
+copy_leaves = renamed_leaves (swap 2 3) one 3
+
+number_leaves : top_binders (substituted 1 (Lit (pos 7)) (turned 2)) 2 ≡ top_binders (turned 2) 2
+number_leaves = substituted_leaves 1 (Lit (pos 7)) (turned 2) 2
+
+copies_avoid :
+    in_block (top_binders (re_block (swap 2 3) one)) (re_block (swap 2 4) (turned 2)) ≡ false
+copies_avoid = copy_avoids (swap 2 3) (swap 2 4) one (turned 2) refl
+
+copies_are_apart : AreApart written_out
+copies_are_apart = apart_law written_out ((refl, tt), (tt, tt))
+
+-- ---- a condition that reads a field, and the loop
+
+-- C.f < 2, which is so of 1
+abbrev by_field : Condition
+by_field = Lt (Field 0) (Lit (pos 2))
+
+abbrev loop_of : Block → Block
+loop_of b = next (For (binder 1) (Lit (pos 0)) (Lit (pos 2)) b) end
+
+abbrev in_turns : Block
+in_turns = next (If by_field (turned 2) (turned 3)) end
+
+field_is_steady :
+    IsSteadyIn world (binder 1) (Lit (pos 0)) (Lit (pos 2)) in_turns by_field start
+field_is_steady =
+    steady_in_loop_law world (λ k f. false) (binder 1) (Lit (pos 0)) (Lit (pos 2)) in_turns by_field
+    start (λ k f e as' s. tt) refl (λ f k. refl)
+
+branches_lifted :
+    run world (loop_of in_turns) start
+    ≡ run world (next (If by_field (loop_of (turned 2)) (loop_of (turned 3))) end) start
+branches_lifted =
+    lift_branch_law world (binder 1) (Lit (pos 0)) (Lit (pos 2)) by_field (turned 2) (turned 3) start
+    start_sound field_is_steady
+
+branches_swapped :
+    run world (branch (next (If by_field one end) end)) start
+    ≡ run world (next (If by_field (branch one) end) end) start
+branches_swapped = swap_branches_law world always by_field one start
 
 -- ---- the loop in a procedure, written out there
 

@@ -18,8 +18,8 @@ pub record IsBehind (a old : Block) (c : Context) : Type 0 where
   pub body : fill (behind a c) old ≡ joined a (fill c old)
   pub rest : rest_of (behind a c) ≡ rest_of c
   pub comes :
-    (world : World) (s u : State)
-    → RunsOn world a old c s u ↔ ComesTo world old (behind a c) s u
+      (world : World) (s u : State)
+      → RunsOn world a old c s u ↔ ComesTo world old (behind a c) s u
 
 abbrev pub HolesBehindBlocks : Type 0
 HolesBehindBlocks = (a old : Block) (c : Context) → IsBehind a old c

@@ -21,8 +21,8 @@ pub record ComesThrough (world : World) (old : Block) (c d : Context) (s u : Sta
 pub record IsWithin (old : Block) (c d : Context) : Type 0 where
   pub body : fill (within c d) old ≡ fill c (fill d old)
   pub comes :
-    (world : World) (s u : State)
-    → ComesThrough world old c d s u ↔ ComesTo world old (within c d) s u
+      (world : World) (s u : State)
+      → ComesThrough world old c d s u ↔ ComesTo world old (within c d) s u
   pub scope : (scope : Scope) → scope_at (within c d) scope ≡ scope_at d (scope_at c scope)
   pub roots : (root : ℕ → ℕ) → roots_at (within c d) root ≡ roots_at d (roots_at c root)
   pub bound : (x : ℕ) → on_way (within c d) x ≡ (on_way c x || on_way d x)
@@ -51,8 +51,8 @@ pub record IsOnward (m : ℕ) (path : Path) (body : Block) (o i : Opened) : Type
   pub piece : fill i.around i.piece ≡ o.piece
   pub there : opened m path body ≡ Some (inside o i)
   pub comes :
-    (world : World) (s u : State)
-    → ComesOn world o i s u ↔ ComesTo world i.piece (within o.around i.around) s u
+      (world : World) (s u : State)
+      → ComesOn world o i s u ↔ ComesTo world i.piece (within o.around i.around) s u
 
 -- what is opened in a piece is opened in the body at the longer path
 abbrev pub PlacesCompose : Type 0

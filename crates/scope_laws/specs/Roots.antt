@@ -29,6 +29,6 @@ RootsLaw =
     (c : Context) (old : Block) (s u : State)
     → MayRun fields memories ps p
     → let world = unit_world (kinds_of fields) ps in
-      IsAdmissible world p s
+    IsAdmissible world p s
     → ComesTo world old c s u
     → HasRoots (own_roots_at c) u.scene

@@ -26,7 +26,7 @@ pub record IsSameHole (old : Block) (c : Context) (new : Block) (d : Context) : 
   pub facts_round : facts d ≡ facts c
   pub known : (tell : Telling) → known_fields tell d new ≡ known_fields tell c old
   pub facts_there :
-    (tell : Telling) (p : Procedure) → place_facts tell p d new ≡ place_facts tell p c old
+      (tell : Telling) (p : Procedure) → place_facts tell p d new ≡ place_facts tell p c old
 
 -- so it is where as much of what follows is put into the hole, or left behind it
 abbrev pub SameHole : Type 0
@@ -44,7 +44,7 @@ start_of o p = record {
 
 -- the first m statements of an opening are what is opened there with count m
 pub record IsStart (m : ℕ) (path : Path) (body : Block) (o : Opened) (p : Block × Block)
-  : Type 0 where
+    : Type 0 where
   pub parts : parted m o.piece ≡ Some p
   pub there : opened m path body ≡ Some (start_of o p)
   pub same : IsSameHole o.piece o.around p.0 (start_of o p).around

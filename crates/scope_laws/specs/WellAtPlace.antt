@@ -63,5 +63,5 @@ WellPutAtPlace =
     → p.body ≡ fill c old
     → branches_fit c new ≡ true
     → let scope = scope_of [] p.params in
-      keeps_at fields memories callees scope (λ x. x) c (joined new (rest_of c)) ≡ true
+    keeps_at fields memories callees scope (λ x. x) c (joined new (rest_of c)) ≡ true
     → is_block fields memories callees scope (λ x. x) (fill c new) ≡ true
