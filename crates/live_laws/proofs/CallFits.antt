@@ -1,9 +1,9 @@
 -- From one first state both callees run, and what they leave is copied back.
 use Rattle.std.proofs.Common.{◌≡◌, ℕ, ℤ, pos, Bool, true, false, true≢false, cond, ◌&&◌, ◌||◌, List, [], ◌∷◌, Option, Some, None, IfSome, option_map, not, refl, sym, ap, ap₂, ◌∙◌, subst, ◌==◌, eqb-true, eq-eqb}
 use Rattle.std.specs.Prelude.{IsSome, Contains}
-use Rattle.exo_tree.specs.Tree.{Kind, Argument, Param, ParamKind, ControlParam, TensorParam, WindowParam, ControlArg, ConditionArg, Whole, Window, Procedure, ConfigField}
+use Rattle.exo_tree.specs.Tree.{Kind, Argument, Param, ParamKind, ControlParam, TensorParam, WindowParam, ControlArg, ConditionArg, Whole, Window, ConfigField}
 use Rattle.exo_meaning.specs.Value.{Value, IsRefinedBy}
-use Rattle.exo_meaning.specs.Scene.{Scene, Seen, where_true, then_do, numbers, index_of, extents, strides_seen, window, whole}
+use Rattle.exo_meaning.specs.Scene.{Scene, Seen, where_true, then_do, numbers, index_of, extents, strides_seen, window}
 use Rattle.exo_meaning.specs.State.{State, Cells, same_index, on_scene, with_buffer, with_contents}
 use Rattle.exo_meaning.specs.Calls.{Callee, Given, GivenNumber, GivenView, given, all_given, contents, held_at, entered, bind_numbers, bind_buffer, bind_buffers, copy_in, bare, returned, run_asserted, all_hold, all_positive, copy_back, copied_back, value_or, call}
 use Rattle.exo_meaning.specs.Run.{World, run, kinds_of}
@@ -22,7 +22,6 @@ use Rattle.meaning_laws.proofs.Refined.{refined_same}
 use Rattle.meaning_laws.proofs.Replace.{where_gives}
 use Rattle.meaning_laws.proofs.WellFormed.{plain_of}
 use Rattle.meaning_laws.proofs.FirstState.{not_true, Differ, params_differ, AllMatch, Matches, all_match, first_state_law}
-use Rattle.meaning_laws.proofs.Sorted.{found}
 use Rattle.scope_laws.proofs.Roots.{own_roots}
 use Rattle.live_laws.specs.CallFits.{IsCalled, IsVersion, CallFits}
 

@@ -1,21 +1,15 @@
 -- At each state that a run comes to with fields that fit, the call is well formed.
-use Rattle.std.proofs.Common.{◌≡◌, ℕ, ℤ, true, false, not, ◌&&◌, List, [], ◌∷◌, Option, Some, IfSome, refl, sym, ap, ◌∙◌, subst}
-use Rattle.exo_tree.specs.Tree.{Kind, Index, Argument, Statement, Assign, Reduce, Config, Pass, If, For, Alloc, View, Call, Block}
-use Rattle.exo_tree.specs.Context.{Context, Here, After, InLoop, InThen, InElse, fill}
-use Rattle.exo_meaning.specs.Value.{Undefined}
-use Rattle.exo_meaning.specs.Scene.{numbers, window, whole, updated}
-use Rattle.exo_meaning.specs.State.{State, left, on_scene, with_control, with_buffer, with_contents}
-use Rattle.exo_meaning.specs.Calls.{Callee, all_positive}
-use Rattle.exo_meaning.specs.Run.{World, run, step, turn, turns_of, call_to, tensor, roots_after, unit_world, kinds_of}
-use Rattle.exo_meaning.specs.Laws.{HasRoots}
-use Rattle.exo_meaning.specs.Units.{Scope, ControlName, with_name, with_fields, plainly, scope_after, scope_of, is_new, is_control, is_condition, is_empty, is_short, is_block, is_statement, is_call, field_kind}
-use Rattle.exo_meaning.proofs.Frame.{if_then, if_where, if_weaken, window_root, more_roots}
-use Rattle.meaning_laws.specs.Context.{ComesToTurn, now, later, ComesTo}
+use Rattle.std.proofs.Common.{◌≡◌, ℕ, ℤ, true, List, [], Option, Some, refl, sym, ap, ◌∙◌, subst}
+use Rattle.exo_tree.specs.Tree.{Kind, Argument}
+use Rattle.exo_tree.specs.Context.{Context, fill}
+use Rattle.exo_meaning.specs.State.{State}
+use Rattle.exo_meaning.specs.Calls.{Callee}
+use Rattle.exo_meaning.specs.Run.{World, run, call_to, unit_world, kinds_of}
+use Rattle.exo_meaning.specs.Units.{Scope, scope_of, is_block, is_call, field_kind}
 use Rattle.meaning_laws.specs.Live.{live_behind, refield}
-use Rattle.meaning_laws.specs.Sound.{IsSound, IsSameName}
+use Rattle.meaning_laws.specs.Sound.{IsSound}
 use Rattle.meaning_laws.specs.Sorted.{FieldsFit, IsSorted, scope_at}
-use Rattle.meaning_laws.proofs.Parts.{then_gives, map_gives}
-use Rattle.meaning_laws.proofs.Names.{if_gives, step_names}
+use Rattle.meaning_laws.proofs.Parts.{then_gives}
 use Rattle.meaning_laws.proofs.Substitute.{and_parts}
 use Rattle.meaning_laws.proofs.Copies.{sound_law}
 use Rattle.meaning_laws.proofs.Sorted.{fits_at_law, unit_good}

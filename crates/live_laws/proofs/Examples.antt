@@ -1,14 +1,14 @@
 -- A closed unit: a field of sizes that is not live still has a number of at least 1.
 use Rattle.std.proofs.Common.{◌≡◌, ℕ, ℤ, pos, List, [], ◌∷◌, Option, Some, None, Bool, true, false, true≢false, cond, ◌==◌, ◌<◌, zero, suc, arith, eqb-true, option_map, refl, sym, ap, ◌∙◌, subst}
-use Rattle.exo_tree.specs.Tree.{Size, Truth, Lit, Field, Condition, True, False, Le, Config, If, ControlArg, ConditionArg, Block, end, next, Procedure, ConfigField}
+use Rattle.exo_tree.specs.Tree.{Size, Truth, Lit, Field, Condition, True, False, Le, Config, If, ControlArg, ConditionArg, Block, end, next, Procedure, ConfigField, Kind, Index, Stride, Binder, I8, TensorParam, For, Assign, Const, Pass, Whole}
 use Rattle.exo_tree.specs.Context.{Context, Here, fill}
 use Rattle.exo_meaning.specs.Value.{Undefined, IsRefinedBy}
 use Rattle.exo_meaning.specs.Scene.{then_do}
 use Rattle.exo_meaning.specs.State.{State, left, scoped, on_scene, with_field}
-use Rattle.exo_meaning.specs.Run.{World, run, choose, kinds_of, unit_world}
-use Rattle.exo_meaning.specs.Inputs.{Refines}
-use Rattle.exo_meaning.specs.Units.{AreProcedures}
-use Rattle.std.specs.Prelude.{Contains, slice_index_or}
+use Rattle.exo_meaning.specs.Run.{World, run, choose, kinds_of, unit_world, callee_in, callees, writes}
+use Rattle.exo_meaning.specs.Inputs.{Refines, IsOfKind}
+use Rattle.exo_meaning.specs.Units.{AreProcedures, IsProcedure, field_kind}
+use Rattle.std.specs.Prelude.{Contains, slice_index_or, slice_get}
 use Rattle.exo_meaning.proofs.Windows.{one_value}
 use Rattle.meaning_laws.specs.Live.{RefinedLive, refield, live_behind}
 use Rattle.meaning_laws.specs.Sorted.{FieldsFit, MayRun}
@@ -17,7 +17,13 @@ use Rattle.meaning_laws.proofs.Facts.{le_holds}
 use Rattle.meaning_laws.proofs.Live.{same_live}
 use Rattle.meaning_laws.proofs.Refined.{state_same, refined_same}
 use Rattle.meaning_laws.proofs.UnitFields.{unit_forgets}
-use Rattle.live_laws.specs.CallVersion.{called}
+use Rattle.std.proofs.lemmas.Int.{ints}
+use Rattle.exo_meaning.specs.Calls.{Callee, call}
+use Rattle.meaning_laws.proofs.Parts.{none_some}
+use Rattle.live_laws.proofs.UnitCallees.{callees_are_made}
+use Rattle.live_laws.proofs.CallFits.{call_fits}
+use Rattle.live_laws.specs.CallFits.{IsCalled, IsVersion}
+use Rattle.live_laws.specs.CallVersion.{called, IsMadeIn}
 use Rattle.live_laws.proofs.LiveFits.{live_fits}
 use Rattle.live_laws.proofs.CallVersion.{call_version}
 
@@ -165,3 +171,136 @@ truths_agree = (refl, refl)
 -- right after the call they do not
 truths_differ : (truth_after (run unit (called 0 []) input) ≡ Some (pos 1)) × (truth_after (run unit (called 1 []) input) ≡ Some (pos 0))
 truths_differ = (refl, refl)
+
+-- ---- the callees themselves, and a call at one state
+
+abbrev first_callee : Callee
+first_callee = callee_in (unit_world (kinds_of two_fields) []) first_one
+
+abbrev other_callee : Callee
+other_callee =
+    callee_in (unit_world (kinds_of two_fields) (first_one ∷ [])) other_one
+
+made_in_unit : IsMadeIn unit other_callee
+made_in_unit = callees_are_made two_fields 1 both are_procedures 1 other_callee refl
+
+-- c.n alone
+abbrev sizes : ℕ → Bool
+sizes f = f == 0
+
+is_called : IsCalled two_fields 1 [] (λ x. x) first_callee [] input
+is_called = record { params = refl; call = refl; roots = λ x seen e. absurd (none_some e) }
+
+is_version : IsVersion unit first_callee other_callee (1 ∷ [])
+is_version = record {
+  params = refl;
+  asserts = refl;
+  writes = λ x e. e;
+  above = made_in_unit.above;
+  made = made_in_unit.made;
+  old_run = (callees_are_made two_fields 1 both are_procedures 0 first_callee refl).runs;
+  new_run = made_in_unit.runs;
+  refines = ones_refine;
+}
+
+other_may_be_called :
+    (a b : State)
+    → call first_callee [] input ≡ Some a
+    → call other_callee [] input ≡ Some b
+    → RefinedLive sizes a b
+other_may_be_called =
+    call_fits two_fields 1 unit [] (λ x. x) first_callee other_callee [] (1 ∷ []) sizes input refl
+    (record { tidy = λ b e at. refl; seen = λ x seen e. absurd (none_some e) })
+    (record {
+      buffers = λ b shape e. absurd (none_some e);
+      views = λ x cell rank dense seen i e. absurd (none_some e);
+      cells = λ b shape e. absurd (none_some e);
+      fields = fields_fit;
+    })
+    is_called is_version (λ f e c. true≢false (sym e ∙ ap sizes (only_one f c)))
+  where
+    -- 1 is of each kind
+    fits : (kind : Kind) → IsOfKind kind (pos 1)
+    fits Size = omega (arith, ints)
+    fits Index = tt
+    fits Truth = (omega (arith, ints), omega (arith, ints))
+    fits Stride = tt
+
+    fields_fit : (f : ℕ) → IsOfKind (kinds_of two_fields f) (pos 1)
+    fields_fit f = fits (kinds_of two_fields f)
+
+-- ---- a version that writes less: it leaves a parameter alone which the first one may write
+
+abbrev named : ℕ → ℕ → Binder
+named n letter = record { id = n; name = letter ∷ [] }
+
+-- x: i8[1]
+abbrev with_x : Block → Procedure
+with_x b = record {
+  name = [];
+  template = None;
+  params = record { binder = named 0 120; kind = TensorParam I8 (Lit (pos 1) ∷ []) 0 } ∷ [];
+  asserts = [];
+  body = b;
+}
+
+-- for i in seq(0, 0): x[0] = 5
+abbrev writes_none : Procedure
+writes_none =
+    with_x (next (For (named 1 105) (Lit (pos 0)) (Lit (pos 0))
+    (next (Assign 0 (Lit (pos 0) ∷ []) (Const (pos 5))) end)) end)
+
+abbrev only_pass : Procedure
+only_pass = with_x (next Pass end)
+
+abbrev quiet : List Procedure
+quiet = writes_none ∷ only_pass ∷ []
+
+abbrev quiet_unit : World
+quiet_unit = unit_world (kinds_of []) quiet
+
+-- the one may write x, the other does not
+it_writes : (writes quiet_unit (λ x. x) writes_none.body 0 ≡ true) × (writes quiet_unit (λ x. x) only_pass.body 0 ≡ false)
+it_writes = (refl, refl)
+
+quiet_refines : Refines quiet_unit writes_none only_pass []
+quiet_refines = record {
+  cells = λ s t u good i j b there at.
+      subst (λ (z : State). IsRefinedBy (t.cells b at) (z.cells b at)) (one_value t u (sym i ∙ j))
+      (refined_same (t.cells b at));
+  fields = λ s t u good i j f k.
+      ap (λ (z : State). z.scene.fields f) (one_value t u (sym i ∙ j));
+}
+
+abbrev no_fields : List ℕ
+no_fields = []
+
+abbrev passing : ℕ → Procedure
+passing k = with_x (fill (Here end) (called k (Whole 0 ∷ [])))
+
+quiet_procedures : AreProcedures [] 1 [] quiet
+quiet_procedures = (record { params = refl; asserts = refl; body = refl; filled = refl; ids = refl; distinct = refl; paths = refl; template = refl }, (record { params = refl; asserts = refl; body = refl; filled = refl; ids = refl; distinct = refl; paths = refl; template = refl }, tt))
+
+may_pass : (k : ℕ) → IsProcedure (field_kind []) 1 (slice_get (callees (kinds_of []) [] quiet)) (passing k) → MayRun [] 1 quiet (passing k)
+may_pass k is = record { unit = quiet_procedures; procedure = is }
+
+quiet_is_called : Refines quiet_unit (passing 0) (passing 1) []
+quiet_is_called =
+    call_version [] 1 quiet (unit_live quiet) (Here end) 0 1 (Whole 0 ∷ []) (passing 0) (passing 1)
+    _ _ no_fields (λ f. true) [] (unit_forgets (kinds_of []) quiet) (record { old = refl; new = refl })
+    (may_pass 0 (record { params = refl; asserts = refl; body = refl; filled = refl; ids = refl; distinct = refl; paths = refl; template = refl }))
+    (may_pass 1 (record { params = refl; asserts = refl; body = refl; filled = refl; ids = refl; distinct = refl; paths = refl; template = refl }))
+    refl refl
+    (record {
+      params = refl;
+      asserts = refl;
+      writes = λ x e. absurd (true≢false (sym e));
+      refines = quiet_refines;
+    })
+    (record { others = λ f k. refl }) none
+  where
+    none : (f : ℕ) → live_behind (unit_live quiet) f (called 0 (Whole 0 ∷ [])) (Here end) true ≡ true → Contains no_fields f → ⊥
+    none f e c = no c.0 c.1
+      where
+        no : (k : ℕ) → k < 0 → ⊥
+        no k h = omega arith
