@@ -2,8 +2,9 @@
 use Rattle.std.proofs.Common.{◌≡◌, ℕ, ◌==◌, Bool, true, false, ◌||◌, List, [], ◌∷◌, refl, sym, ap, ap₂, ◌∙◌, true≢false, eqb-true, eq-eqb}
 use Rattle.std.proofs.Math.Path.{fun_ext}
 use Rattle.exo_tree.specs.Tree.{Control, Lit, Var, Field, StrideOf, Neg, Add, Sub, Mul, Div, Mod, Condition, True, False, Flag, FieldFlag, Lt, Le, Gt, Ge, Eq, And, Or, Datum, Const, Read, Negated, Relu, Plus, Minus, Times, Select, Coord, At, Span, Argument, ControlArg, ConditionArg, Whole, Window, Statement, Assign, Reduce, Config, Pass, If, For, Alloc, View, Call, Block, end, next, joined}
+use Rattle.exo_tree.specs.Renaming as code
 use Rattle.exo_meaning.specs.Orders.{Each}
-use Rattle.exo_meaning.specs.Renaming.{Renaming, re_control, re_controls, re_condition, re_datum, re_coords, re_argument, re_arguments, re_statement, re_block}
+use Rattle.exo_meaning.specs.Renaming.{Renaming, re_statement, re_block}
 use Rattle.exo_meaning.specs.Unseen.{in_control, in_controls, in_condition, in_datum, in_coords, in_argument, in_arguments, in_statement, in_block}
 use Rattle.meaning_laws.specs.Sound.{binds}
 use Rattle.meaning_laws.specs.Substitute.{in_statement as substituted_in}
@@ -14,11 +15,11 @@ use Rattle.scope_laws.specs.Scopes.{top_binders, joined_all}
 
 -- ---- what is mentioned
 
-module _ (hidden : ℕ → Bool) (r : Renaming) where
+module _ (hidden : ℕ → Bool) (to : ℕ → ℕ) where
   abbrev moved : ℕ → Bool
-  moved x = hidden (r.to x)
+  moved x = hidden (to x)
 
-  control : (a : Control) → in_control hidden (re_control r a) ≡ in_control moved a
+  control : (a : Control) → in_control hidden (code.re_control to a) ≡ in_control moved a
   control (Lit n) = refl
   control (Var x) = refl
   control (Field f) = refl
@@ -30,11 +31,11 @@ module _ (hidden : ℕ → Bool) (r : Renaming) where
   control (Div a c) = control a
   control (Mod a c) = control a
 
-  controls : (as' : List Control) → in_controls hidden (re_controls r as') ≡ in_controls moved as'
+  controls : (as' : List Control) → in_controls hidden (code.re_controls to as') ≡ in_controls moved as'
   controls [] = refl
   controls (a ∷ as') = ap₂ ◌||◌ (control a) (controls as')
 
-  condition : (c : Condition) → in_condition hidden (re_condition r c) ≡ in_condition moved c
+  condition : (c : Condition) → in_condition hidden (code.re_condition to c) ≡ in_condition moved c
   condition True = refl
   condition False = refl
   condition (Flag x) = refl
@@ -47,7 +48,7 @@ module _ (hidden : ℕ → Bool) (r : Renaming) where
   condition (And c d) = ap₂ ◌||◌ (condition c) (condition d)
   condition (Or c d) = ap₂ ◌||◌ (condition c) (condition d)
 
-  datum : (d : Datum) → in_datum hidden (re_datum r d) ≡ in_datum moved d
+  datum : (d : Datum) → in_datum hidden (code.re_datum to d) ≡ in_datum moved d
   datum (Const n) = refl
   datum (Read x is) = ap (λ t. moved x || t) (controls is)
   datum (Negated a) = datum a
@@ -57,27 +58,27 @@ module _ (hidden : ℕ → Bool) (r : Renaming) where
   datum (Times a b) = ap₂ ◌||◌ (datum a) (datum b)
   datum (Select a b c d) = ap₂ ◌||◌ (datum a) (ap₂ ◌||◌ (datum b) (ap₂ ◌||◌ (datum c) (datum d)))
 
-  coords : (cs : List Coord) → in_coords hidden (re_coords r cs) ≡ in_coords moved cs
+  coords : (cs : List Coord) → in_coords hidden (code.re_coords to cs) ≡ in_coords moved cs
   coords [] = refl
   coords (At a ∷ cs) = ap₂ ◌||◌ (control a) (coords cs)
   coords (Span a b ∷ cs) = ap₂ ◌||◌ (control a) (ap₂ ◌||◌ (control b) (coords cs))
 
-  argument : (a : Argument) → in_argument hidden (re_argument r a) ≡ in_argument moved a
+  argument : (a : Argument) → in_argument hidden (code.re_argument to a) ≡ in_argument moved a
   argument (ControlArg a) = control a
   argument (ConditionArg c) = condition c
   argument (Whole x) = refl
   argument (Window x cs) = ap (λ t. moved x || t) (coords cs)
 
-  arguments : (as' : List Argument) → in_arguments hidden (re_arguments r as') ≡ in_arguments moved as'
+  arguments : (as' : List Argument) → in_arguments hidden (code.re_arguments to as') ≡ in_arguments moved as'
   arguments [] = refl
   arguments (a ∷ as') = ap₂ ◌||◌ (argument a) (arguments as')
 
   mutual
-    block : (b : Block) → in_block hidden (re_block r b) ≡ in_block moved b
+    pub block : (b : Block) → in_block hidden (code.re_block to b) ≡ in_block moved b
     block end = refl
     block (next a b) = ap₂ ◌||◌ (statement a) (block b)
 
-    statement : (a : Statement) → in_statement hidden (re_statement r a) ≡ in_statement moved a
+    statement : (a : Statement) → in_statement hidden (code.re_statement to a) ≡ in_statement moved a
     statement (Assign x is e) = ap (λ t. moved x || t) (ap₂ ◌||◌ (controls is) (datum e))
     statement (Reduce x is e) = ap (λ t. moved x || t) (ap₂ ◌||◌ (controls is) (datum e))
     statement (Config f a) = argument a
@@ -88,8 +89,14 @@ module _ (hidden : ℕ → Bool) (r : Renaming) where
     statement (View w x cs) = ap (λ t. moved w.id || (moved x || t)) (coords cs)
     statement (Call k args) = arguments args
 
+-- a map of ids, whether or not it is a renaming
+pub map_mentions :
+    (hidden : ℕ → Bool) (to : ℕ → ℕ) (b : Block)
+    → in_block hidden (code.re_block to b) ≡ in_block (λ x. hidden (to x)) b
+map_mentions hidden to b = block hidden to b
+
 pub renamed_mentions : RenamedMentions
-renamed_mentions hidden r b = block hidden r b
+renamed_mentions hidden r b = block hidden r.to b
 
 -- ---- what is left
 

@@ -56,7 +56,7 @@ module _ (hidden : ℕ → Bool) where
 
 -- ---- binders of a block, and of what follows it
 
-top_has : (b : Block) (x : ℕ) → has_binder b x ≡ false → top_binders b x ≡ false
+pub top_has : (b : Block) (x : ℕ) → has_binder b x ≡ false → top_binders b x ≡ false
 top_has end x h = refl
 top_has (next a b) x h =
     let p = or_parts (step_has_binder a x) (has_binder b x) h in
