@@ -50,13 +50,13 @@ module _ (n : ℕ) (b : Block) (s : State) (may : MayCopy n b s) where
       (λ x e. may.own x (sym (block_among b x) ∙ e))
       (λ x e. may.given x (sym (given_alike b n x) ∙ e))
 
-  abbrev ids : Renaming
+  abbrev pub ids : Renaming
   ids = exchanging (binders b) n
 
-  numbered : IsFresh b n ids
+  pub numbered : IsFresh b n ids
   numbered = record { to = λ x. refl; from = λ x. refl }
 
-  moved : Moves ids (IsUnbound s)
+  pub moved : Moves ids (IsUnbound s)
   moved = exchanging_moves (IsUnbound s) (binders b) n free
 
 pub copies_run_alike : CopiesRunAlike

@@ -59,7 +59,7 @@ module _ (n m k : ℕ) (first : n ≤ m) where
         (λ x h. other_number (code.binders d) l x behind h) d low
 
 -- a copy leaves new numbers alone
-copy_leaves : (m : ℕ) (d : Block) (x : ℕ) → is_given m d x ≡ false → top_binders (fresh m d) x ≡ false
+pub copy_leaves : (m : ℕ) (d : Block) (x : ℕ) → is_given m d x ≡ false → top_binders (fresh m d) x ≡ false
 copy_leaves m d x h =
     top_has (fresh m d) x
     (false_by (has_binder (fresh m d) x)

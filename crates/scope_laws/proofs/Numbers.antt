@@ -76,6 +76,10 @@ pub false_by : (t : Bool) → (t ≡ true → ⊥) → t ≡ false
 false_by true h = absurd (h refl)
 false_by false h = refl
 
+pub true_by : (t : Bool) → (t ≡ false → ⊥) → t ≡ true
+true_by true h = refl
+true_by false h = absurd (h refl)
+
 pub not_both : (t : Bool) → t ≡ true → t ≡ false → ⊥
 not_both t h k = true≢false (sym h ∙ k)
 

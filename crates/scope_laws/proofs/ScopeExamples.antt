@@ -3,21 +3,26 @@ use Rattle.std.proofs.Common.{◌≡◌, inl, ◌||◌, ℕ, ℤ, pos, ◌==◌,
 use Rattle.std.specs.Prelude.{IsSome}
 use Rattle.std.specs.Int.{int_wrap}
 use Rattle.exo_tree.specs.Tree.{Binder, Size, TensorParam, Procedure, Condition, Lt, Block, end, next, joined, Assign, Reduce, If, For, Alloc, Const, Read, Lit, Var, I32, Field}
-use Rattle.exo_tree.specs.Context.{Here}
+use Rattle.exo_tree.specs.Context.{Here, fill}
 use Rattle.meaning_laws.specs.Fresh.{swapped}
 use Rattle.meaning_laws.specs.Substitute.{in_block as substituted}
+use Rattle.meaning_laws.specs.Scoped.{has_binder}
+use Rattle.meaning_laws.specs.Sorted.{MayRun}
+use Rattle.scope_laws.proofs.UnrollLoop.{made_copies_are_copies, unroll_law}
+use Rattle.scope_laws.specs.UnrollLoop.{unrolled}
+use Rattle.scope_laws.specs.Copies.{MayCopy, is_given}
 use Rattle.scope_laws.specs.Turns.{IsSteadyIn}
-use Rattle.scope_laws.specs.Unrolled.{AreTurns}
+use Rattle.scope_laws.specs.Unrolled.{AreTurns, AreCopies}
 use Rattle.scope_laws.proofs.Apart.{renamed_mentions, renamed_leaves, substituted_leaves, copy_avoids, apart_law}
 use Rattle.exo_meaning.specs.Renaming.{re_block}
 use Rattle.exo_meaning.specs.Value.{Value, Undefined, Number}
 use Rattle.exo_meaning.specs.Scene.{then_do, Shape, Seen, whole}
 use Rattle.exo_meaning.specs.State.{State, scoped}
-use Rattle.exo_meaning.specs.Run.{unit_world, run, turn, tensor, turns}
+use Rattle.exo_meaning.specs.Run.{unit_world, run, turn, tensor, turns, kinds_of}
 use Rattle.exo_meaning.specs.Inputs.{Refines}
 use Rattle.exo_meaning.specs.Units.{IsProcedure}
 use Rattle.exo_meaning.specs.Refines.{Both}
-use Rattle.exo_meaning.specs.Unseen.{in_block}
+use Rattle.exo_meaning.specs.Unseen.{in_block, in_block as mentions}
 use Rattle.exo_meaning.proofs.Examples.{binder, start, world, seen}
 use Rattle.meaning_laws.specs.Context.{MayReplace}
 use Rattle.meaning_laws.specs.Sound.{IsSound, IsUnbound}
@@ -392,3 +397,36 @@ adds_written_out = leaving_refines (λ f. Size) [] (Here end) named_loop (joined
         tt,
       ),
     ))
+
+-- ---- and written out by the law, with copies as they are made
+
+made_turns : unrolled 3 1 named_body (pos 0 ∷ pos 1 ∷ []) ≡ joined_all named_turns
+made_turns = refl
+
+may_run_adds : MayRun [] 1 [] adds
+may_run_adds = record {
+  unit = tt;
+  procedure = record { params = refl; asserts = refl; body = refl; filled = refl; ids = refl; distinct = refl; paths = refl; template = refl };
+}
+
+adds_unrolled :
+    Refines (unit_world (kinds_of []) []) adds
+    (record adds { body = fill (Here end) (unrolled 3 1 named_body (pos 0 ∷ pos 1 ∷ [])) }) []
+adds_unrolled =
+    unroll_law [] 1 [] adds (Here end) (named 1 105) (Lit (pos 0)) (Lit (pos 2)) named_body
+    (pos 0 ∷ pos 1 ∷ []) 3 may_run_adds refl (record { scoped = refl; below = refl }) (λ n. refl)
+    (λ s u good come. refl)
+
+-- at one state: the bodies may be copied, so their copies are copies for the turns
+may_be_copied_from : (n : ℕ) (k : ℤ) → has_binder (at_turn 2 k) 0 ≡ false → is_given n (at_turn 2 k) 0 ≡ false → mentions (is_given n (at_turn 2 k)) (at_turn 2 k) ≡ false → MayCopy n (at_turn 2 k) start
+may_be_copied_from n k own given unused = record {
+  sound = start_sound;
+  own = (none_there (has_binder (at_turn 2 k)) own).unbound;
+  given = (none_there (is_given n (at_turn 2 k)) given).unbound;
+  unused = unused;
+}
+
+copies_for_turns : AreCopies (IsUnbound start) 1 (turned 2) (pos 0 ∷ pos 1 ∷ []) written_out
+copies_for_turns =
+    made_copies_are_copies 1 (turned 2) (pos 0 ∷ pos 1 ∷ []) 3 start
+    (may_be_copied_from 3 (pos 0) refl refl refl, (may_be_copied_from 4 (pos 1) refl refl refl, tt))

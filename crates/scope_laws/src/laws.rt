@@ -61,6 +61,8 @@ ghost use Rattle.scope_laws.specs.CopiesAtPlaces.{OldIsMade};
 ghost use Rattle.scope_laws.specs.CopiesAtPlaces.{SubstitutedIsMade};
 ghost use Rattle.scope_laws.specs.CopiesAtPlaces.{PlacesMayCopyAll};
 ghost use Rattle.scope_laws.specs.CopiesAtPlaces.{MadeCopiesAreApart};
+ghost use Rattle.scope_laws.specs.UnrollLoop.{MadeCopiesAreCopies};
+ghost use Rattle.scope_laws.specs.UnrollLoop.{UnrollLaw};
 
 // ---- places
 
@@ -371,4 +373,14 @@ pub fn all_blocks_may_be_copied_at_places()
 /// Of such copies none mentions a name that one before it leaves.
 pub fn made_copies_are_apart()
     ensures { MadeCopiesAreApart }
+{}
+
+/// Copies of the body with the numbers of the turns are copies for the turns.
+pub fn made_copies_are_copies()
+    ensures { MadeCopiesAreCopies }
+{}
+
+/// A loop whose turns are known may be written out, its binders numbered from a number on that the procedure does not reach.
+pub fn loops_are_unrolled()
+    ensures { UnrollLaw }
 {}
