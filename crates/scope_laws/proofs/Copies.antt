@@ -94,7 +94,7 @@ closed_names world (next a b) s h =
     if_then (λ t. (x : ℕ) → binds a x ≡ false → IsSameName x s t) (λ u. (x : ℕ) → IsSameName x s u) (step world a s)
     (run world b) (step_names world a s)
     (λ t k. if_weaken (λ u. (x : ℕ) → IsSameName x t u) (λ u. (x : ℕ) → IsSameName x s u) (run world b t)
-      (closed_names world b t p.1) (λ u l x. name_on x s t u (k x (nothing_bound a x p.0)) (l x)))
+    (closed_names world b t p.1) (λ u l x. name_on x s t u (k x (nothing_bound a x p.0)) (l x)))
 
 pub closed_copies_are_same : ClosedCopiesAreSame
 closed_copies_are_same world n b s may closed =

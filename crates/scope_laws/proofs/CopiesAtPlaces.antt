@@ -107,7 +107,7 @@ places_may_copy world p c old b n u is_below at own unused = record {
   given = λ x e.
       let from = given_from n (length (code.binders b)) x e in
       there x (fresh_law p c old x (no_param n p is_below.below x from)
-        (ap (λ d. has_binder d x) (sym at.body) ∙ no_binder n p is_below.below x from));
+      (ap (λ d. has_binder d x) (sym at.body) ∙ no_binder n p is_below.below x from));
   unused = unused;
 }
   where
@@ -136,9 +136,9 @@ old_is_made p c old n is_below was = record { own = λ x e. e; low = low }
     low =
         in_hole (nat_le n) c old
         (ap (mentions (nat_le n)) (sym was)
-          ∙ unmentioned_law (is_param p) (nat_le n) p.body is_below.scoped
-            (λ x e. low_name x (λ k. not_both (is_param p x) e (no_param n p is_below.below x k)))
-            (λ x e. low_name x (λ k. not_both (has_binder p.body x) e (no_binder n p is_below.below x k))))
+        ∙ unmentioned_law (is_param p) (nat_le n) p.body is_below.scoped
+        (λ x e. low_name x (λ k. not_both (is_param p x) e (no_param n p is_below.below x k)))
+        (λ x e. low_name x (λ k. not_both (has_binder p.body x) e (no_binder n p is_below.below x k))))
 
 pub old_may_be_copied : OldMayBeCopied
 old_may_be_copied world p c old n u is_below at =
@@ -161,7 +161,7 @@ module _ (world : World) (p : Procedure) (c : Context) (old : Block) (n : ℕ) (
   all_copied m [] behind is_below at made = tt
   all_copied m (d ∷ ds) behind is_below at made = (
     places_may_copy world p c old d m u (below_more n m p behind is_below) at made.0.own
-      (given_unused n m d behind made.0.low),
+        (given_unused n m d behind made.0.low),
     all_copied (m + length (code.binders d)) ds (omega arith) is_below at made.1,
   )
 
@@ -191,11 +191,11 @@ names_behind world (next a b) s =
     (λ u. (x : ℕ) → (step_has_binder a x || has_binder b x) ≡ false → IsSameName x s u) (step world a s) (run world b)
     (step_names world a s)
     (λ t k. if_weaken (λ u. (x : ℕ) → has_binder b x ≡ false → IsSameName x t u)
-      (λ u. (x : ℕ) → (step_has_binder a x || has_binder b x) ≡ false → IsSameName x s u) (run world b t)
-      (names_behind world b t)
-      (λ u l x h.
-        let p = or_parts (step_has_binder a x) (has_binder b x) h in
-        name_on x s t u (k x (step_binds a x p.0)) (l x p.1)))
+    (λ u. (x : ℕ) → (step_has_binder a x || has_binder b x) ≡ false → IsSameName x s u) (run world b t)
+    (names_behind world b t)
+    (λ u l x h.
+    let p = or_parts (step_has_binder a x) (has_binder b x) h in
+    name_on x s t u (k x (step_binds a x p.0)) (l x p.1)))
 
 pub may_copy_behind : MayCopyBehind
 may_copy_behind world n b d s may none =
@@ -230,14 +230,14 @@ may_copy_in_turn n b s i m may none = record {
         differs x e =
             false_by (x == i)
             (λ h. not_both (has_binder b x || is_given n b x) e
-              (ap (λ y. has_binder b y || is_given n b y) (eqb-true x i h) ∙ none))
+            (ap (λ y. has_binder b y || is_given n b y) (eqb-true x i h) ∙ none))
 
 -- with an expression for a variable
 binds_same : (i : ℕ) (e : Control) (b : Block) (x : ℕ) → has_binder (substituted i e b) x ≡ has_binder b x
 binds_same i e b x =
     sym (block_among (substituted i e b) x)
     ∙ ap (λ is. among is x)
-      (sym (one_list (substituted i e b)) ∙ substitution_keeps_binders i e b ∙ one_list b)
+    (sym (one_list (substituted i e b)) ∙ substitution_keeps_binders i e b ∙ one_list b)
     ∙ block_among b x
 
 pub substituted_is_made : SubstitutedIsMade
@@ -252,8 +252,8 @@ may_copy_substituted n b s i e may none = record {
   own = λ x h. may.own x (sym (binds_same i e b x) ∙ h);
   given = λ x h. may.given x (sym (given_same x) ∙ h);
   unused =
-    subst (λ hidden. mentions hidden (substituted i e b) ≡ false) (sym (fun_ext given_same))
-    (substitution_mentions_no_more (is_given n b) i e b none may.unused);
+      subst (λ hidden. mentions hidden (substituted i e b) ≡ false) (sym (fun_ext given_same))
+      (substitution_mentions_no_more (is_given n b) i e b none may.unused);
 }
   where
     same : code.binders (substituted i e b) ≡ code.binders b
@@ -335,6 +335,6 @@ may_copy_next world n m b d s same behind may may_next = may_copy_behind world m
         ap₂ ◌||◌
         (false_by (has_binder b x) (λ e. not_both (is_given n b x) new (binder_seen (is_given n b) x b may.unused e)))
         (false_by (is_given m b x) (λ e.
-          let below = given_below n (length (code.binders b)) x new in
-          let above = given_from m (length (code.binders b)) x e in
-          omega arith))
+        let below = given_below n (length (code.binders b)) x new in
+        let above = given_from m (length (code.binders b)) x e in
+        omega arith))

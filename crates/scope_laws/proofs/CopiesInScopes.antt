@@ -38,11 +38,11 @@ scoped_copies_are_same world n (d ∷ ds) s may =
     let k : Stays s s = record { sound = may.0.sound; names = λ x. record { control = refl; buffers = refl; views = refl } } in
     ap (λ o. then_do o (scopes world (copies_from (n + length (binders d)) ds))) (copies_run_alike world n d s may.0).in_scope
     ∙ go (scoped (run world d) s) (scope_stays world d s k)
-      (λ t j. scoped_copies_are_same world (n + length (binders d)) ds t (all_stay (n + length (binders d)) ds s t j may.1))
+    (λ t j. scoped_copies_are_same world (n + length (binders d)) ds t (all_stay (n + length (binders d)) ds s t j may.1))
   where
     go : (o : Option State) → IfSome o (Stays s)
         → ((t : State) → Stays s t
-          → scopes world (copies_from (n + length (binders d)) ds) t ≡ scopes world ds t)
+        → scopes world (copies_from (n + length (binders d)) ds) t ≡ scopes world ds t)
         → then_do o (scopes world (copies_from (n + length (binders d)) ds)) ≡ then_do o (scopes world ds)
     go None k same = refl
     go (Some t) k same = same t k

@@ -29,8 +29,8 @@ exchanging_moves Free (i ∷ is) n h x =
     let y = exchanged_back is (suc n) x in
     ⊎_elim
     (λ e. ⊎_elim
-      (λ k. inl (ap (swapped i n) e ∙ k))
-      (λ k. inr (k.0, subst (λ z. Free (swapped i n z)) (sym e) k.1))
-      (swap_moves i n Free h.0 h.1 x))
+    (λ k. inl (ap (swapped i n) e ∙ k))
+    (λ k. inr (k.0, subst (λ z. Free (swapped i n z)) (sym e) k.1))
+    (swap_moves i n Free h.0 h.1 x))
     (λ f. ⊎_elim (λ k. inr (f.0, subst Free (sym k) f.1)) (λ k. inr (f.0, k.1)) (swap_moves i n Free h.0 h.1 y))
     (exchanging_moves Free is (suc n) h.2 x)

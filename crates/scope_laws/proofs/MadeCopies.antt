@@ -1,6 +1,6 @@
 -- Copies that are numbered one behind the other are apart.
-use Rattle.std.proofs.Common.{◌≡◌, ℕ, ◌+◌, ◌<◌, ◌≤◌, ◌==◌, Bool, true, false, cond, ◌||◌, List, [], ◌∷◌, length}
-use Rattle.std.proofs.Common.{nat_le, refl, sym, ap, ◌∙◌, arith, add-one, le-leb}
+use Rattle.std.proofs.Common.{◌≡◌, ℕ, ◌+◌, ◌<◌, ◌≤◌, ◌==◌, Bool, true, false, cond, List, [], ◌∷◌, length}
+use Rattle.std.proofs.Common.{nat_le, refl, sym, ap, ◌∙◌, arith, le-leb}
 use Rattle.exo_tree.specs.Tree.{Block}
 use Rattle.exo_tree.specs.Renaming.{fresh_id, fresh}
 use Rattle.exo_tree.specs.Renaming as code
@@ -56,14 +56,14 @@ module _ (n m k : ℕ) (first : n ≤ m) where
       let ids = fresh_id (code.binders d) l in
       map_mentions (is_within m k) ids d
       ∙ fewer.block (nat_le n) (λ x. is_within m k (ids x))
-        (λ x h. other_number (code.binders d) l x behind h) d low
+      (λ x h. other_number (code.binders d) l x behind h) d low
 
 -- a copy leaves new numbers alone
 pub copy_leaves : (m : ℕ) (d : Block) (x : ℕ) → is_given m d x ≡ false → top_binders (fresh m d) x ≡ false
 copy_leaves m d x h =
     top_has (fresh m d) x
     (false_by (has_binder (fresh m d) x)
-      (λ e. not_both (is_given m d x) (copies_bind_new_numbers m d x e) h))
+    (λ e. not_both (is_given m d x) (copies_bind_new_numbers m d x e) h))
 
 module _ (old : Block) (n : ℕ) where
   -- none of the copies from l on mentions what the copy from m on leaves
@@ -76,7 +76,7 @@ module _ (old : Block) (n : ℕ) where
   all_avoid m l d [] first behind made = tt
   all_avoid m l d (e ∷ ds) first behind made = (
     fewer.block (is_given m d) (top_binders (fresh m d)) (copy_leaves m d) (fresh l e)
-      (later_avoids n m (length (code.binders d)) first l e behind made.0.low),
+        (later_avoids n m (length (code.binders d)) first l e behind made.0.low),
     all_avoid m (l + length (code.binders e)) d ds first (omega arith) made.1,
   )
 

@@ -1,9 +1,9 @@
 -- A loop written out: a copy of its body for each turn.
-use Rattle.std.proofs.Common.{◌≡◌, inl, ℕ, ℤ, ◌+◌, ◌≤◌, ◌==◌, Bool, true, false, true≢false, ◌||◌, List, [], ◌∷◌, length}
+use Rattle.std.proofs.Common.{◌≡◌, inl, ℕ, ℤ, ◌+◌, ◌≤◌, ◌==◌, true, false, true≢false, ◌||◌, List, [], ◌∷◌, length}
 use Rattle.std.proofs.Common.{refl, sym, ◌∙◌, subst, arith}
 use Rattle.std.specs.Prelude.{nat_le, slice_get}
-use Rattle.exo_tree.specs.Tree.{Binder, Control, Lit, For, Block, Procedure, ConfigField}
-use Rattle.exo_tree.specs.Context.{Context, fill}
+use Rattle.exo_tree.specs.Tree.{Binder, Control, Lit, For, Block, Procedure}
+use Rattle.exo_tree.specs.Context.{fill}
 use Rattle.exo_tree.specs.Renaming.{fresh}
 use Rattle.exo_tree.specs.Renaming as code
 use Rattle.exo_tree.specs.Substitution.{in_block as substituted}
@@ -36,13 +36,14 @@ use Rattle.scope_laws.proofs.Unrolled.{copies_may_stand}
 pub made_copies_are_copies : MadeCopiesAreCopies
 made_copies_are_copies i b [] first s may = tt
 made_copies_are_copies i b (n ∷ ns) first s may =
-    let d = substituted i (Lit n) b in
-    (record {
-      to = ids first d s may.0;
-      moves = moved first d s may.0;
-      is = copy_is_renaming d first (ids first d s may.0) (numbered first d s may.0) may.0.unused;
-    },
-    made_copies_are_copies i b ns (first + length (code.binders d)) s may.1)
+    let d = substituted i (Lit n) b in (
+      record {
+        to = ids first d s may.0;
+        moves = moved first d s may.0;
+        is = copy_is_renaming d first (ids first d s may.0) (numbered first d s may.0) may.0.unused;
+      },
+      made_copies_are_copies i b ns (first + length (code.binders d)) s may.1,
+    )
 
 -- they leave new numbers alone
 copies_leave :
@@ -108,10 +109,10 @@ unroll_law fields memories ps p c i lo hi b ns first may was below free turns =
     let bs = copies_from first ds in
     let hidden = top_binders (joined_all bs) in
     let made = bodies_are_made first i lo hi b ns
-        (body_is_made first i lo hi b (old_is_made p c old first below was)) in
+    (body_is_made first i lo hi b (old_is_made p c old first below was)) in
     let left = may_leave_law (field_kind fields) memories
-        (slice_get (callees (kinds_of fields) [] ps)) p c old hidden may.procedure was
-        (λ x h. inl (copies_are_new first p below ds x h)) in
+    (slice_get (callees (kinds_of fields) [] ps)) p c old hidden may.procedure was
+    (λ x h. inl (copies_are_new first p below ds x h)) in
     leaving_refines (kinds_of fields) ps c old (joined_all bs) p
     (record p { body = fill c (joined_all bs) }) hidden was refl left (λ s u good come none.
     copies_may_stand world i lo hi b bs u (made_copies_are_apart old ds first made) none free

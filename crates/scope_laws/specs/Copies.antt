@@ -1,6 +1,6 @@
 -- The copies that code makes do the same.
 use Rattle.std.specs.Prelude.{◌≡◌, ℕ, ℤ, ◌+◌, ◌≤◌, nat_le, nat_lt, Bool, true, false, ◌&&◌, ◌||◌}
-use Rattle.std.specs.Prelude.{⊤, List, [], ◌∷◌, length, Option, option_map, IfSome}
+use Rattle.std.specs.Prelude.{⊤, List, [], ◌∷◌, length, option_map, IfSome}
 use Rattle.exo_tree.specs.Tree.{Statement, Assign, Reduce, Config, Pass, If, For, Alloc, View, Call}
 use Rattle.exo_tree.specs.Tree.{Control, Block, end, next}
 use Rattle.exo_tree.specs.Renaming.{binders, fresh}

@@ -49,7 +49,7 @@ UnrollLaw =
     (fields : List ConfigField) (memories : ℕ) (ps : List Procedure) (p : Procedure) (c : Context)
     (i : Binder) (lo hi : Control) (b : Block) (ns : List ℤ) (first : ℕ)
     → let world = unit_world (kinds_of fields) ps in
-      MayRun fields memories ps p
+    MayRun fields memories ps p
     → p.body ≡ fill c (only_loop i lo hi b)
     → IsBelow first p
     → ((n : ℤ) → catches i.id (Lit n) b ≡ false)
