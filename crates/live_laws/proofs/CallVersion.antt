@@ -37,26 +37,40 @@ module _
 
 -- ---- the call
 
-one_call : (world : World) (k : ℕ) (args : List Argument) (c : Callee) (s a : State) → world.callees k ≡ Some c → run world (called k args) s ≡ Some a → call_to (Some c) args s ≡ Some a
+one_call : (world : World) (k : ℕ) (args : List Argument) (c : Callee) (s a : State)
+    → world.callees k ≡ Some c → run world (called k args) s ≡ Some a
+    → call_to (Some c) args s ≡ Some a
 one_call world k args c s a e i =
     let p = then_gives (call_to (world.callees k) args s) (λ t. Some t) a i in
     ap (λ o. call_to o args s) (sym e) ∙ p.1 ∙ p.2
 
-with_fields_sorted : (kinds : ℕ → Kind) (scope : Scope) (u : State) (g : ℕ → ℤ) → IsSorted kinds scope u → FieldsFit kinds (refield g u) → IsSorted kinds scope (refield g u)
-with_fields_sorted kinds scope u g h fit = record { buffers = h.buffers; views = h.views; cells = h.cells; fields = fit }
+with_fields_sorted : (kinds : ℕ → Kind) (scope : Scope) (u : State) (g : ℕ → ℤ)
+    → IsSorted kinds scope u → FieldsFit kinds (refield g u) → IsSorted kinds scope (refield g u)
+with_fields_sorted kinds scope u g h fit =
+    record { buffers = h.buffers; views = h.views; cells = h.cells; fields = fit }
 
 pub call_version : CallVersionLaw
-call_version fields memories ps calls c k j args p q one two differing out but forget alike old_ok new_ok is_one is_two version exit apart =
-    live_fits fields memories ps calls c (called k args) (called j args) p q out but forget alike.old alike.new new_ok exit (λ s u good come g fit agree a b i h.
-    call_fits fields memories (unit_world (kinds_of fields) ps) (scope_at c (scope_of [] p.params)) (roots_at c (λ x. x)) one two args differing (λ f. live_behind calls f (called k args) c (out f)) (refield g u) refl
+call_version fields memories ps calls c k j args p q one two differing out but forget alike old_ok
+    new_ok is_one is_two version exit apart =
+    live_fits fields memories ps calls c (called k args) (called j args) p q out but forget
+    alike.old alike.new new_ok exit (λ s u good come g fit agree a b i h.
+    call_fits fields memories (unit_world (kinds_of fields) ps) (scope_at c (scope_of [] p.params))
+    (roots_at c (λ x. x)) one two args differing (λ f. live_behind calls f (called k args) c
+    (out f)) (refield g u) refl
     (sound (sound_law (unit_world (kinds_of fields) ps) p (called k args) c s u good come) g)
-    (with_fields_sorted (kinds_of fields) (scope_at c (scope_of [] p.params)) u g (fits_at_law fields memories ps p c (called k args) old_ok alike.old s u good come) fit)
+    (with_fields_sorted (kinds_of fields) (scope_at c (scope_of [] p.params)) u g
+    (fits_at_law fields memories ps p c (called k args) old_ok alike.old s u good come) fit)
     (record {
       params = (unit_good fields memories ps old_ok.unit k one is_one).0;
-      call = subst (λ o. is_call (field_kind fields) (scope_at c (scope_of [] p.params)) (roots_at c (λ x. x)) o args ≡ true) is_one (call_at (field_kind fields) memories (unit_world (kinds_of fields) ps).callees k args c (scope_of [] p.params) (λ x. x) (subst (λ b. is_block (field_kind fields) memories (unit_world (kinds_of fields) ps).callees (scope_of [] p.params) (λ x. x) b ≡ true) alike.old old_ok.procedure.body));
+      call = subst (λ o. is_call (field_kind fields) (scope_at c (scope_of [] p.params))
+          (roots_at c (λ x. x)) o args ≡ true) is_one (call_at (field_kind fields) memories
+          (unit_world (kinds_of fields) ps).callees k args c (scope_of [] p.params) (λ x. x)
+          (subst (λ b. is_block (field_kind fields) memories (unit_world (kinds_of fields)
+          ps).callees (scope_of [] p.params) (λ x. x) b ≡ true) alike.old old_ok.procedure.body));
       roots = names_have_roots fields memories ps p c (called k args) s u old_ok good come;
     })
-    is_version apart a b (one_call (unit_world (kinds_of fields) ps) k args one (refield g u) a is_one i) (one_call (unit_world (kinds_of fields) ps) j args two (refield g u) b is_two h))
+    is_version apart a b (one_call (unit_world (kinds_of fields) ps) k args one (refield g u) a
+    is_one i) (one_call (unit_world (kinds_of fields) ps) j args two (refield g u) b is_two h))
   where
     sound : {u : State} → IsSound u → (g : ℕ → ℤ) → IsSound (refield g u)
     sound h g = record { tidy = h.tidy; seen = h.seen }
@@ -65,4 +79,14 @@ call_version fields memories ps calls c k j args p q one two differing out but f
     is_version =
         let first = callees_are_made fields memories ps old_ok.unit k one is_one in
         let second = callees_are_made fields memories ps old_ok.unit j two is_two in
-        record { params = version.params; asserts = version.asserts; writes = version.writes; above = second.above; made = second.made; old_run = first.runs; new_run = second.runs; refines = version.refines }
+        record {
+          params = version.params;
+          asserts = version.asserts;
+          writes = version.writes;
+          above = second.above;
+          made = second.made;
+          old_run = first.runs;
+          new_run =
+              second.runs;
+          refines = version.refines;
+        }

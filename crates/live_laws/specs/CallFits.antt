@@ -33,8 +33,14 @@ pub record IsVersion (world : World) (c d : Callee) (but : List ℕ) : Type 0 wh
 abbrev pub CallFits : Type 0
 CallFits =
     (fields : List ConfigField) (memories : ℕ) (world : World) (scope : Scope) (root : ℕ → ℕ)
-    (c d : Callee) (args : List Argument) (but : List ℕ) (behind : ℕ → Bool) (s : State) →
-    world.kinds ≡ kinds_of fields → IsSound s → IsSorted world.kinds scope s →
-    IsCalled fields memories scope root c args s → IsVersion world c d but →
-    ((f : ℕ) → behind f ≡ true → Contains but f → ⊥) →
-    (a b : State) → call c args s ≡ Some a → call d args s ≡ Some b → RefinedLive behind a b
+    (c d : Callee) (args : List Argument) (but : List ℕ) (behind : ℕ → Bool) (s : State)
+    → world.kinds ≡ kinds_of fields
+    → IsSound s
+    → IsSorted world.kinds scope s
+    → IsCalled fields memories scope root c args s
+    → IsVersion world c d but
+    → ((f : ℕ) → behind f ≡ true → Contains but f → ⊥)
+    → (a b : State)
+    → call c args s ≡ Some a
+    → call d args s ≡ Some b
+    → RefinedLive behind a b

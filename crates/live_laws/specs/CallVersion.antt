@@ -18,9 +18,12 @@ pub record IsMadeIn (world : World) (c : Callee) : Type 0 where
 
 abbrev pub CalleesAreMade : Type 0
 CalleesAreMade =
-    (fields : List ConfigField) (memories : ℕ) (ps : List Procedure) →
-    AreProcedures fields memories [] ps → let world = unit_world (kinds_of fields) ps in
-    (k : ℕ) (c : Callee) → world.callees k ≡ Some c → IsMadeIn world c
+    (fields : List ConfigField) (memories : ℕ) (ps : List Procedure)
+    → AreProcedures fields memories [] ps
+    → let world = unit_world (kinds_of fields) ps in
+    (k : ℕ) (c : Callee)
+    → world.callees k ≡ Some c
+    → IsMadeIn world c
 
 -- d takes what c does, writes no more of it, and c is refined by it but for some fields
 pub record MayStandForCallee (world : World) (c d : Callee) (but : List ℕ) : Type 0 where
@@ -41,14 +44,18 @@ pub record AreAlike (k j : ℕ) (args : List Argument) (c : Context) (p q : Proc
 -- fields alone that are not live at their ends
 abbrev pub CallVersionLaw : Type 0
 CallVersionLaw =
-    (fields : List ConfigField) (memories : ℕ) (ps : List Procedure)
-    (calls : ℕ → ℕ → Bool → Bool) (c : Context) (k j : ℕ) (args : List Argument) (p q : Procedure)
-    (one two : Callee) (differing : List ℕ) (out : ℕ → Bool) (but : List ℕ) →
-    let world = unit_world (kinds_of fields) ps in
+    (fields : List ConfigField) (memories : ℕ) (ps : List Procedure) (calls : ℕ → ℕ → Bool → Bool)
+    (c : Context) (k j : ℕ) (args : List Argument) (p q : Procedure) (one two : Callee)
+    (differing : List ℕ) (out : ℕ → Bool) (but : List ℕ)
+    → let world = unit_world (kinds_of fields) ps in
     let behind = λ (f : ℕ). live_behind calls f (called k args) c (out f) in
-    CallsForget world calls → AreAlike k j args c p q →
-    MayRun fields memories ps p → MayRun fields memories ps q →
-    world.callees k ≡ Some one → world.callees j ≡ Some two →
-    MayStandForCallee world one two differing → LiveAtEnd but out →
-    ((f : ℕ) → behind f ≡ true → Contains differing f → ⊥) →
-    Refines world p q but
+    CallsForget world calls
+    → AreAlike k j args c p q
+    → MayRun fields memories ps p
+    → MayRun fields memories ps q
+    → world.callees k ≡ Some one
+    → world.callees j ≡ Some two
+    → MayStandForCallee world one two differing
+    → LiveAtEnd but out
+    → ((f : ℕ) → behind f ≡ true → Contains differing f → ⊥)
+    → Refines world p q but

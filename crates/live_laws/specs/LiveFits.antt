@@ -13,9 +13,13 @@ use Rattle.meaning_laws.specs.Sorted.{FieldsFit, MayRun}
 -- what old leaves but for fields that are not live behind it
 abbrev pub MayReplaceLive : World → (before behind : ℕ → Bool) → Block → Block → State → Type 0
 MayReplaceLive world before behind old new u =
-    (g : ℕ → ℤ) → FieldsFit world.kinds (refield g u) → Agree before u.scene.fields g →
-    (a b : State) → run world old (refield g u) ≡ Some a → run world new (refield g u) ≡ Some b →
-    RefinedLive behind a b
+    (g : ℕ → ℤ)
+    → FieldsFit world.kinds (refield g u)
+    → Agree before u.scene.fields g
+    → (a b : State)
+    → run world old (refield g u) ≡ Some a
+    → run world new (refield g u) ≡ Some b
+    → RefinedLive behind a b
 
 -- the fields that are live at the end of a procedure, all but those listed among them
 pub record LiveAtEnd (but : List ℕ) (out : ℕ → Bool) : Type 0 where
@@ -24,14 +28,18 @@ pub record LiveAtEnd (but : List ℕ) (out : ℕ → Bool) : Type 0 where
 -- where the new procedure is well formed, its block may leave other numbers in such fields
 abbrev pub LiveFits : Type 0
 LiveFits =
-    (fields : List ConfigField) (memories : ℕ) (ps : List Procedure)
-    (calls : ℕ → ℕ → Bool → Bool) (c : Context) (old new : Block) (p q : Procedure)
-    (out : ℕ → Bool) (but : List ℕ) →
-    let world = unit_world (kinds_of fields) ps in
+    (fields : List ConfigField) (memories : ℕ) (ps : List Procedure) (calls : ℕ → ℕ → Bool → Bool)
+    (c : Context) (old new : Block) (p q : Procedure) (out : ℕ → Bool) (but : List ℕ)
+    → let world = unit_world (kinds_of fields) ps in
     let behind = λ (f : ℕ). live_behind calls f old c (out f) in
     let before = λ (f : ℕ). live calls f old (behind f) in
-    CallsForget world calls → p.body ≡ fill c old → q ≡ record p { body = fill c new } →
-    MayRun fields memories ps q → LiveAtEnd but out →
-    ((s u : State) → IsAdmissible world p s → ComesTo world old c s u →
-    MayReplaceLive world before behind old new u) →
-    Refines world p q but
+    CallsForget world calls
+    → p.body ≡ fill c old
+    → q ≡ record p { body = fill c new }
+    → MayRun fields memories ps q
+    → LiveAtEnd but out
+    → ((s u : State)
+    → IsAdmissible world p s
+    → ComesTo world old c s u
+    → MayReplaceLive world before behind old new u)
+    → Refines world p q but

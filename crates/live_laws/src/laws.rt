@@ -5,12 +5,14 @@ ghost use Rattle.live_laws.specs.CallFits.{CallFits};
 ghost use Rattle.live_laws.specs.CallVersion.{CalleesAreMade};
 ghost use Rattle.live_laws.specs.CallVersion.{CallVersionLaw};
 
-/// A block may be replaced by one that leaves other numbers in fields that are not live behind it, where all fields are of their kinds.
+/// A block may be replaced by one that leaves other numbers in fields that are not live behind
+/// it, where all fields are of their kinds.
 pub fn replaced_where_fields_fit()
     ensures { LiveFits }
 {}
 
-/// A procedure may be called in place of one that is refined by it but for fields that are not live behind the call.
+/// A procedure may be called in place of one that is refined by it but for fields that are not
+/// live behind the call.
 pub fn versions_may_be_called()
     ensures { CallFits }
 {}
@@ -20,7 +22,8 @@ pub fn callees_are_made()
     ensures { CalleesAreMade }
 {}
 
-/// A procedure is refined by one that calls a version of its callee, but for fields that are not live.
+/// A procedure is refined by one that calls a version of its callee, but for fields that are
+/// not live.
 pub fn calls_of_versions_refine()
     ensures { CallVersionLaw }
 {}

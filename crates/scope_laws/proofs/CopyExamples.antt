@@ -1,5 +1,6 @@
 -- The laws at small blocks.
-use Rattle.std.proofs.Common.{◌≡◌, ℕ, pos, true, false, [], ◌∷◌, Option, Some, None, refl, arith, nat_le, IfSome, sym, true≢false}
+use Rattle.std.proofs.Common.{◌≡◌, ℕ, pos, true, false, [], ◌∷◌, Option, Some, None, refl, arith}
+use Rattle.std.proofs.Common.{nat_le, IfSome, sym, true≢false}
 use Rattle.std.specs.Int.{int_wrap}
 use Rattle.exo_tree.specs.Tree.{I8, Lit, Var, Add, Const, Plus, For, Alloc, Block, end, next}
 use Rattle.exo_tree.specs.Context.{Here}
@@ -9,26 +10,33 @@ use Rattle.exo_meaning.specs.Value.{Value, Undefined, Number}
 use Rattle.exo_meaning.specs.State.{State, on_scene, with_control}
 use Rattle.exo_meaning.specs.Run.{run}
 use Rattle.exo_meaning.specs.Unseen.{in_block as mentions}
-use Rattle.meaning_laws.proofs.Examples.{binder, stored, three, input, world, is_admissible, body, three_commutes}
+use Rattle.meaning_laws.proofs.Examples.{binder, stored, three, input, world, is_admissible, body}
+use Rattle.meaning_laws.proofs.Examples.{three_commutes}
 use Rattle.exo_meaning.specs.Binders.{binders as binders_of}
 use Rattle.exo_meaning.specs.Renaming.{re_block}
 use Rattle.exo_meaning.specs.Inputs.{Refines}
-use Rattle.scope_laws.proofs.Substitution.{substitution_keeps_binders, substitution_mentions_no_more}
+use Rattle.scope_laws.proofs.Substitution.{substitution_keeps_binders}
+use Rattle.scope_laws.proofs.Substitution.{substitution_mentions_no_more}
 use Rattle.scope_laws.proofs.Numbers.{one_list_of_binders}
 use Rattle.scope_laws.proofs.MadeCopies.{made_copies_are_apart}
 use Rattle.scope_laws.proofs.Exchanged.{exchanging}
 use Rattle.scope_laws.proofs.CopiesInScopes.{scoped_copies_are_same}
 use Rattle.scope_laws.specs.Bare.{bare}
 use Rattle.scope_laws.specs.Scopes.{scopes, AreApart}
-use Rattle.scope_laws.specs.Copies.{copies_from, is_given, is_closed, MayCopy, RunsAlike, AllMayBeCopied}
+use Rattle.scope_laws.specs.Copies.{copies_from, is_given, is_closed, MayCopy, RunsAlike}
+use Rattle.scope_laws.specs.Copies.{AllMayBeCopied}
 use Rattle.scope_laws.specs.CopiesAtPlaces.{IsBelow, StandsAt, IsMadeOf}
 use Rattle.scope_laws.proofs.Bare.{same_but_for_names, names_ignored, names_keep_refinement}
 use Rattle.scope_laws.proofs.Copies.{closed_copies_are_same, copy_is_renaming, copies_run_alike}
-use Rattle.scope_laws.proofs.CopiesAtPlaces.{old_may_be_copied, copies_bind_new_numbers, may_copy_behind, may_copy_next, may_copy_in_turn, may_copy_substituted, places_may_copy, old_is_made, substituted_is_made, places_may_copy_all}
+use Rattle.scope_laws.proofs.CopiesAtPlaces.{old_may_be_copied, copies_bind_new_numbers}
+use Rattle.scope_laws.proofs.CopiesAtPlaces.{may_copy_behind, may_copy_next, may_copy_in_turn}
+use Rattle.scope_laws.proofs.CopiesAtPlaces.{may_copy_substituted, places_may_copy, old_is_made}
+use Rattle.scope_laws.proofs.CopiesAtPlaces.{substituted_is_made, places_may_copy_all}
 
 -- for i in seq(0, 16): x[i] = 1 + 2, with the variable under this number
 abbrev loop : ℕ → Block
-loop i = next (For (binder i) (Lit (pos 0)) (Lit (pos 16)) (stored 0 (Var i ∷ []) (Plus (Const (pos 1)) (Const (pos 2))))) end
+loop i = next (For (binder i) (Lit (pos 0)) (Lit (pos 16))
+    (stored 0 (Var i ∷ []) (Plus (Const (pos 1)) (Const (pos 2))))) end
 
 copied : fresh 5 (loop 1) ≡ loop 5
 copied = refl
@@ -46,7 +54,8 @@ all_of_it = record { body = refl; first = input; good = is_admissible; comes = r
 the_copy_is_same : run world (fresh 5 (loop 1)) input ≡ run world (loop 1) input
 the_copy_is_same =
     closed_copies_are_same world 5 (loop 1) input
-    (old_may_be_copied world three (Here end) (loop 1) 5 input (record { scoped = refl; below = refl }) all_of_it) refl
+    (old_may_be_copied world three (Here end) (loop 1) 5 input
+    (record { scoped = refl; below = refl }) all_of_it) refl
 
 abbrev cell : Option State → Value
 cell None = Undefined
@@ -60,9 +69,11 @@ it_runs = refl
 
 -- a number that the block has already is caught: here a free name of it
 abbrev catching : Block
-catching = next (For (binder 1) (Lit (pos 0)) (Lit (pos 16)) (stored 0 (Var 7 ∷ []) (Const (pos 3)))) end
+catching = next (For (binder 1) (Lit (pos 0)) (Lit (pos 16))
+    (stored 0 (Var 7 ∷ []) (Const (pos 3)))) end
 
-caught : fresh 7 catching ≡ next (For (binder 7) (Lit (pos 0)) (Lit (pos 16)) (stored 0 (Var 7 ∷ []) (Const (pos 3)))) end
+caught : fresh 7 catching ≡ next (For (binder 7) (Lit (pos 0)) (Lit (pos 16))
+    (stored 0 (Var 7 ∷ []) (Const (pos 3)))) end
 caught = refl
 
 its_number_is_used : mentions (is_given 7 catching) catching ≡ true
@@ -77,12 +88,14 @@ it_is_open = refl
 
 -- ---- substitution, and names
 
-put : substituted 1 (Add (Var 1) (Lit (pos 1))) (stored 0 (Var 1 ∷ []) (Const (pos 3))) ≡ stored 0 (Add (Var 1) (Lit (pos 1)) ∷ []) (Const (pos 3))
+put : substituted 1 (Add (Var 1) (Lit (pos 1))) (stored 0 (Var 1 ∷ []) (Const (pos 3)))
+    ≡ stored 0 (Add (Var 1) (Lit (pos 1)) ∷ []) (Const (pos 3))
 put = refl
 
 -- the loop over `j`
 abbrev named : Block
-named = next (For (record { id = 1; name = 106 ∷ [] }) (Lit (pos 0)) (Lit (pos 16)) (stored 0 (Var 1 ∷ []) (Plus (Const (pos 1)) (Const (pos 2))))) end
+named = next (For (record { id = 1; name = 106 ∷ [] }) (Lit (pos 0)) (Lit (pos 16))
+    (stored 0 (Var 1 ∷ []) (Plus (Const (pos 1)) (Const (pos 2))))) end
 
 its_name_is_not_seen : run world named ≡ run world (loop 1)
 its_name_is_not_seen = same_but_for_names world named (loop 1) refl
@@ -109,7 +122,8 @@ abbrev fills : ℕ → ℕ → Block
 fills t j =
     next (Alloc (binder t) I8 (Lit (pos 4) ∷ []) 0) (stored t (Var j ∷ []) (Const (pos 3)))
 
-with_number : substituted 3 (Lit (pos 2)) (fills 2 3) ≡ next (Alloc (binder 2) I8 (Lit (pos 4) ∷ []) 0) (stored 2 (Lit (pos 2) ∷ []) (Const (pos 3)))
+with_number : substituted 3 (Lit (pos 2)) (fills 2 3) ≡ next (Alloc (binder 2) I8 (Lit (pos 4) ∷ [])
+    0) (stored 2 (Lit (pos 2) ∷ []) (Const (pos 3)))
 with_number = refl
 
 its_binders : binders (substituted 3 (Lit (pos 2)) (fills 2 3)) ≡ binders (fills 2 3)
@@ -142,7 +156,8 @@ loop_runs_alike = copies_run_alike world 5 (loop 1) input (may_copy_from 5 below
 five_is_given : is_given 5 (loop 1) 5 ≡ true
 five_is_given = copies_bind_new_numbers 5 (loop 1) 5 refl
 
-behind_store : IfSome (run world (stored 0 (Lit (pos 0) ∷ []) (Const (pos 3))) input) (MayCopy 5 (loop 1))
+behind_store : IfSome (run world (stored 0 (Lit (pos 0) ∷ []) (Const (pos 3))) input)
+    (MayCopy 5 (loop 1))
 behind_store =
     may_copy_behind world 5 (loop 1) (stored 0 (Lit (pos 0) ∷ []) (Const (pos 3))) input
     (may_copy_from 5 below_five) (λ x h. absurd (true≢false (sym h)))

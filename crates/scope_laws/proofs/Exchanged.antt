@@ -1,5 +1,6 @@
 -- Ids that change places, as a renaming.
-use Rattle.std.proofs.Common.{◌≡◌, inl, inr, ⊎_elim, ℕ, suc, List, [], ◌∷◌, refl, sym, ap, ◌∙◌, subst}
+use Rattle.std.proofs.Common.{◌≡◌, inl, inr, ⊎_elim, ℕ, suc, List, [], ◌∷◌, refl, sym, ap, ◌∙◌}
+use Rattle.std.proofs.Common.{subst}
 use Rattle.exo_meaning.specs.Renaming.{Renaming}
 use Rattle.meaning_laws.specs.Copies.{Moves}
 use Rattle.meaning_laws.specs.Fresh.{swapped, exchanged, exchanged_back, AreFree}
@@ -13,7 +14,8 @@ there_and_back (i ∷ is) n x =
 pub back_and_there : (is : List ℕ) (n x : ℕ) → exchanged is n (exchanged_back is n x) ≡ x
 back_and_there [] n x = refl
 back_and_there (i ∷ is) n x =
-    ap (exchanged is (suc n)) (swapped_twice i n (exchanged_back is (suc n) x)) ∙ back_and_there is (suc n) x
+    ap (exchanged is (suc n)) (swapped_twice i n (exchanged_back is (suc n) x))
+    ∙ back_and_there is (suc n) x
 
 abbrev pub exchanging : List ℕ → ℕ → Renaming
 exchanging is n = record {
@@ -23,7 +25,8 @@ exchanging is n = record {
   from_to = there_and_back is n;
 }
 
-pub exchanging_moves : (Free : ℕ → Type 0) (is : List ℕ) (n : ℕ) → AreFree Free is n → Moves (exchanging is n) Free
+pub exchanging_moves : (Free : ℕ → Type 0) (is : List ℕ) (n : ℕ) → AreFree Free is n
+    → Moves (exchanging is n) Free
 exchanging_moves Free [] n h x = inl refl
 exchanging_moves Free (i ∷ is) n h x =
     let y = exchanged_back is (suc n) x in
@@ -32,5 +35,6 @@ exchanging_moves Free (i ∷ is) n h x =
     (λ k. inl (ap (swapped i n) e ∙ k))
     (λ k. inr (k.0, subst (λ z. Free (swapped i n z)) (sym e) k.1))
     (swap_moves i n Free h.0 h.1 x))
-    (λ f. ⊎_elim (λ k. inr (f.0, subst Free (sym k) f.1)) (λ k. inr (f.0, k.1)) (swap_moves i n Free h.0 h.1 y))
+    (λ f. ⊎_elim (λ k. inr (f.0, subst Free (sym k) f.1)) (λ k. inr (f.0, k.1))
+    (swap_moves i n Free h.0 h.1 y))
     (exchanging_moves Free is (suc n) h.2 x)

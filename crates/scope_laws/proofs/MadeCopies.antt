@@ -1,5 +1,6 @@
 -- Copies that are numbered one behind the other are apart.
-use Rattle.std.proofs.Common.{◌≡◌, ℕ, ◌+◌, ◌<◌, ◌≤◌, ◌==◌, Bool, true, false, cond, List, [], ◌∷◌, length}
+use Rattle.std.proofs.Common.{◌≡◌, ℕ, ◌+◌, ◌<◌, ◌≤◌, ◌==◌, Bool, true, false, cond, List, [], ◌∷◌}
+use Rattle.std.proofs.Common.{length}
 use Rattle.std.proofs.Common.{nat_le, refl, sym, ap, ◌∙◌, arith, le-leb}
 use Rattle.exo_tree.specs.Tree.{Block}
 use Rattle.exo_tree.specs.Renaming.{fresh_id, fresh}
@@ -13,7 +14,8 @@ use Rattle.scope_laws.specs.Copies.{is_within, is_given, copies_from}
 use Rattle.scope_laws.specs.CopiesAtPlaces.{IsMadeOf, MadeCopiesAreApart}
 use Rattle.scope_laws.specs.Scopes.{top_binders}
 use Rattle.scope_laws.proofs.Apart.{map_mentions, apart_law}
-use Rattle.scope_laws.proofs.CopiesAtPlaces.{given_from, given_below, fresh_within, copies_bind_new_numbers}
+use Rattle.scope_laws.proofs.CopiesAtPlaces.{given_from, given_below, fresh_within}
+use Rattle.scope_laws.proofs.CopiesAtPlaces.{copies_bind_new_numbers}
 use Rattle.scope_laws.proofs.Fewer as fewer
 use Rattle.scope_laws.proofs.MayLeave.{top_has}
 use Rattle.scope_laws.proofs.Numbers.{among, false_by, not_both}
@@ -59,7 +61,8 @@ module _ (n m k : ℕ) (first : n ≤ m) where
       (λ x h. other_number (code.binders d) l x behind h) d low
 
 -- a copy leaves new numbers alone
-pub copy_leaves : (m : ℕ) (d : Block) (x : ℕ) → is_given m d x ≡ false → top_binders (fresh m d) x ≡ false
+pub copy_leaves : (m : ℕ) (d : Block) (x : ℕ) → is_given m d x ≡ false
+    → top_binders (fresh m d) x ≡ false
 copy_leaves m d x h =
     top_has (fresh m d) x
     (false_by (has_binder (fresh m d) x)

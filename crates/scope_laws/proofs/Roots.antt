@@ -1,12 +1,16 @@
 -- The buffer of each name, wherever a run comes to.
-use Rattle.std.proofs.Common.{◌≡◌, ℕ, Bool, true, false, [], Option, Some, IfSome, refl, sym, ap, ◌∙◌, subst}
-use Rattle.exo_tree.specs.Tree.{Kind, Statement, Assign, Reduce, Config, Pass, If, For, Alloc, View, Call, Block, ParamKind, ControlParam, TensorParam, WindowParam, Procedure}
+use Rattle.std.proofs.Common.{◌≡◌, ℕ, Bool, true, false, [], Option, Some, IfSome, refl, sym, ap}
+use Rattle.std.proofs.Common.{◌∙◌, subst}
+use Rattle.exo_tree.specs.Tree.{Kind, Statement, Assign, Reduce, Config, Pass, If, For, Alloc, View}
+use Rattle.exo_tree.specs.Tree.{Call, Block, ParamKind, ControlParam, TensorParam, WindowParam}
+use Rattle.exo_tree.specs.Tree.{Procedure}
 use Rattle.exo_tree.specs.Context.{Context, Here, After, InLoop, InThen, InElse, fill}
 use Rattle.exo_meaning.specs.Value.{Undefined}
 use Rattle.exo_meaning.specs.Scene.{Seen, numbers, window, whole, updated}
 use Rattle.exo_meaning.specs.State.{State, on_scene, with_buffer, with_contents}
 use Rattle.exo_meaning.specs.Calls.{all_positive}
-use Rattle.exo_meaning.specs.Run.{World, run, step, turns_of, tensor, roots_after, unit_world, kinds_of}
+use Rattle.exo_meaning.specs.Run.{World, run, step, turns_of, tensor, roots_after, unit_world}
+use Rattle.exo_meaning.specs.Run.{kinds_of}
 use Rattle.exo_meaning.specs.Inputs.{IsAdmissible, IsArgument, is_buffer_of}
 use Rattle.exo_meaning.specs.Laws.{HasRoots}
 use Rattle.exo_meaning.specs.Units.{are_params, field_kind}

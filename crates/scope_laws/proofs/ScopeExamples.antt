@@ -1,8 +1,12 @@
 -- The laws of scopes at small blocks: both sides compute.
-use Rattle.std.proofs.Common.{◌≡◌, inl, ◌||◌, ℕ, ℤ, pos, ◌==◌, Bool, true, false, cond, List, [], ◌∷◌, Option, Some, None, refl, sym, ap, ◌∙◌, subst, true≢false, eqb-true}
+use Rattle.std.proofs.Common.{◌≡◌, inl, ◌||◌, ℕ, ℤ, pos, ◌==◌, Bool, true, false, cond, List, []}
+use Rattle.std.proofs.Common.{◌∷◌, Option, Some, None, refl, sym, ap, ◌∙◌, subst, true≢false}
+use Rattle.std.proofs.Common.{eqb-true}
 use Rattle.std.specs.Prelude.{IsSome}
 use Rattle.std.specs.Int.{int_wrap}
-use Rattle.exo_tree.specs.Tree.{Binder, Size, TensorParam, Procedure, Condition, Lt, Block, end, next, joined, Assign, Reduce, If, For, Alloc, Const, Read, Lit, Var, I32, Field}
+use Rattle.exo_tree.specs.Tree.{Binder, Size, TensorParam, Procedure, Condition, Lt, Block, end}
+use Rattle.exo_tree.specs.Tree.{next, joined, Assign, Reduce, If, For, Alloc, Const, Read, Lit, Var}
+use Rattle.exo_tree.specs.Tree.{I32, Field}
 use Rattle.exo_tree.specs.Context.{Here, fill}
 use Rattle.meaning_laws.specs.Fresh.{swapped}
 use Rattle.meaning_laws.specs.Substitute.{in_block as substituted}
@@ -13,7 +17,8 @@ use Rattle.scope_laws.specs.UnrollLoop.{unrolled}
 use Rattle.scope_laws.specs.Copies.{MayCopy, is_given}
 use Rattle.scope_laws.specs.Turns.{IsSteadyIn}
 use Rattle.scope_laws.specs.Unrolled.{AreTurns, AreCopies}
-use Rattle.scope_laws.proofs.Apart.{renamed_mentions, renamed_leaves, substituted_leaves, copy_avoids, apart_law}
+use Rattle.scope_laws.proofs.Apart.{renamed_mentions, renamed_leaves, substituted_leaves}
+use Rattle.scope_laws.proofs.Apart.{copy_avoids, apart_law}
 use Rattle.exo_meaning.specs.Renaming.{re_block}
 use Rattle.exo_meaning.specs.Value.{Value, Undefined, Number}
 use Rattle.exo_meaning.specs.Scene.{then_do, Shape, Seen, whole}
@@ -32,10 +37,15 @@ use Rattle.meaning_laws.proofs.Scoped.{or_elim}
 use Rattle.meaning_laws.proofs.Swaps.{swap, swap_moves}
 use Rattle.scope_laws.specs.Opened.{MayLeave, IsNew}
 use Rattle.scope_laws.specs.Scopes.{top_binders, HasNone, LeftBut, joined_all, scopes, AreApart}
-use Rattle.scope_laws.proofs.Scopes.{open_scopes_law, split_turn_law, open_scope_law, join_scopes_law, scope_twice_law, scope_in_turn_law, branch_is_scope_law}
-use Rattle.scope_laws.proofs.Opened.{leaving_refines, same_refines, block_may_open, block_may_close, blocks_may_open, blocks_may_close, branch_may_stand, split_may_stand}
+use Rattle.scope_laws.proofs.Scopes.{open_scopes_law, split_turn_law, open_scope_law}
+use Rattle.scope_laws.proofs.Scopes.{join_scopes_law, scope_twice_law, scope_in_turn_law}
+use Rattle.scope_laws.proofs.Scopes.{branch_is_scope_law}
+use Rattle.scope_laws.proofs.Opened.{leaving_refines, same_refines, block_may_open, block_may_close}
+use Rattle.scope_laws.proofs.Opened.{blocks_may_open, blocks_may_close, branch_may_stand}
+use Rattle.scope_laws.proofs.Opened.{split_may_stand}
 use Rattle.scope_laws.proofs.MayLeave.{may_leave_law}
-use Rattle.scope_laws.proofs.Turns.{lift_then_law, scope_of_none_law, split_turns_law, steady_in_loop_law, lift_branch_law, swap_branches_law}
+use Rattle.scope_laws.proofs.Turns.{lift_then_law, scope_of_none_law, split_turns_law}
+use Rattle.scope_laws.proofs.Turns.{steady_in_loop_law, lift_branch_law, swap_branches_law}
 use Rattle.scope_laws.proofs.Unrolled.{copies_may_stand, copies_are_turns_law, turns_are_scopes_law}
 
 -- t: i32[1]; t[0] = n; x[1] += t[0], with number y for t
@@ -105,24 +115,35 @@ nothing_else y k = record {
 start_sound : IsSound start
 start_sound = record { tidy = λ y e at. none (y == 0) at e; seen = λ y z e. there (y == 0) z e }
   where
-    none : (t : Bool) (at : List ℤ) → cond t (Some (tensor I32 (pos 8 ∷ []))) None ≡ None → cond {A = List ℤ → Value} t (λ at. Number (pos 3)) (λ at. Undefined) at ≡ Undefined
+    none : (t : Bool) (at : List ℤ) → cond t (Some (tensor I32 (pos 8 ∷ []))) None ≡ None
+        → cond {A = List ℤ → Value} t (λ at. Number (pos 3)) (λ at. Undefined) at ≡ Undefined
     none true at e = absurd (none_some (sym e))
     none false at e = refl
 
-    there : (t : Bool) (z : Seen) → cond t (Some (record { buffer = 0; sides = whole (pos 8 ∷ []) })) None ≡ Some z → IsSome (cond {A = Option Shape} (z.buffer == 0) (Some (tensor I32 (pos 8 ∷ []))) None)
-    there true z e = subst (λ (w : Seen). IsSome (cond {A = Option Shape} (w.buffer == 0) (Some (tensor I32 (pos 8 ∷ []))) None)) (some_injective (record { buffer = 0; sides = whole (pos 8 ∷ []) }) z e) refl
+    there : (t : Bool) (z : Seen) → cond t
+        (Some (record { buffer = 0; sides = whole (pos 8 ∷ []) })) None ≡ Some z
+        → IsSome (cond {A = Option Shape} (z.buffer == 0) (Some (tensor I32 (pos 8 ∷ []))) None)
+    there true z e = subst (λ (w : Seen). IsSome (cond {A = Option Shape} (w.buffer == 0)
+        (Some (tensor I32 (pos 8 ∷ []))) None))
+        (some_injective (record { buffer = 0; sides = whole (pos 8 ∷ []) }) z e) refl
     there false z e = absurd (none_some e)
 
 -- so none of the names that a block leaves is, where it does not leave x
 none_there : (hidden : ℕ → Bool) → hidden 0 ≡ false → HasNone hidden start
-none_there hidden out = record { sound = start_sound; unbound = λ y k. nothing_else y (not_x y (y == 0) refl k) }
+none_there hidden out = record {
+  sound = start_sound;
+  unbound = λ y k. nothing_else y
+      (not_x y (y == 0) refl k);
+}
   where
     not_x : (y : ℕ) (t : Bool) → (y == 0) ≡ t → hidden y ≡ true → (y == 0) ≡ false
     not_x y true e k = absurd (true≢false (sym k ∙ ap hidden (eqb-true y 0 e) ∙ out))
     not_x y false e k = e
 
-two_differ : Both (LeftBut (top_binders (joined_all two))) (scopes world two start) (run world (joined_all two) start)
-two_differ = open_scopes_law world two start two_are_apart (none_there (top_binders (joined_all two)) refl)
+two_differ : Both (LeftBut (top_binders (joined_all two))) (scopes world two start)
+    (run world (joined_all two) start)
+two_differ = open_scopes_law world two start two_are_apart
+    (none_there (top_binders (joined_all two)) refl)
 
 -- ---- a loop of two turns
 
@@ -146,14 +167,26 @@ at_turn y n =
 abbrev written_out : List Block
 written_out = at_turn 3 (pos 0) ∷ at_turn 4 (pos 1) ∷ []
 
-copies_may_be : MayReplace world (top_binders (joined_all written_out)) looped (joined_all written_out) start
-copies_may_be = copies_may_stand world (binder 1) (Lit (pos 0)) (Lit (pos 2)) (turned 2) written_out start (refl, (refl, tt)) (none_there (top_binders (joined_all written_out)) refl) (λ n. refl) (
-  record { to = swap 2 3; moves = swap_moves 2 3 (IsUnbound start) (nothing_else 2 refl) (nothing_else 3 refl); is = refl },
-  (
-    record { to = swap 2 4; moves = swap_moves 2 4 (IsUnbound start) (nothing_else 2 refl) (nothing_else 4 refl); is = refl },
-    tt,
-  ),
-)
+copies_may_be : MayReplace world (top_binders (joined_all written_out)) looped
+    (joined_all written_out) start
+copies_may_be = copies_may_stand world (binder 1) (Lit (pos 0)) (Lit (pos 2)) (turned 2) written_out
+    start (refl, (refl, tt)) (none_there (top_binders (joined_all written_out)) refl) (λ n. refl) (
+      record {
+        to = swap 2 3;
+        moves = swap_moves 2 3 (IsUnbound start) (nothing_else 2 refl)
+            (nothing_else 3 refl);
+        is = refl;
+      },
+      (
+        record {
+          to = swap 2 4;
+          moves = swap_moves 2 4 (IsUnbound start) (nothing_else 2 refl)
+              (nothing_else 4 refl);
+          is = refl;
+        },
+        tt,
+      ),
+    )
 
 turned_cell : seen (pos 1) (run world looped start) ≡ Number (pos 8)
 unfolding int_wrap
@@ -166,14 +199,18 @@ same_written_out = refl
 -- ---- turns and branches
 
 -- a turn of two blocks, and two turns
-split_turned : turn 1 (run world (joined (turned 2) (turned 3))) (pos 1) start ≡ then_do (turn 1 (run world (turned 2)) (pos 1) start) (turn 1 (run world (turned 3)) (pos 1))
-split_turned = split_turn_law world 1 (turned 2) (turned 3) (pos 1) start refl refl (none_there (top_binders (turned 2)) refl)
+split_turned : turn 1 (run world (joined (turned 2) (turned 3))) (pos 1) start
+    ≡ then_do (turn 1 (run world (turned 2)) (pos 1) start) (turn 1 (run world (turned 3)) (pos 1))
+split_turned = split_turn_law world 1 (turned 2) (turned 3) (pos 1) start refl refl
+    (none_there (top_binders (turned 2)) refl)
 
-both_added : seen (pos 1) (turn 1 (run world (joined (turned 2) (turned 3))) (pos 1) start) ≡ Number (pos 13)
+both_added : seen (pos 1) (turn 1 (run world (joined (turned 2) (turned 3))) (pos 1) start)
+    ≡ Number (pos 13)
 unfolding int_wrap
 both_added = refl
 
-added_in_turn : seen (pos 1) (then_do (turn 1 (run world (turned 2)) (pos 1) start) (turn 1 (run world (turned 3)) (pos 1))) ≡ Number (pos 13)
+added_in_turn : seen (pos 1) (then_do (turn 1 (run world (turned 2)) (pos 1) start)
+    (turn 1 (run world (turned 3)) (pos 1))) ≡ Number (pos 13)
 unfolding int_wrap
 added_in_turn = refl
 
@@ -182,13 +219,15 @@ abbrev always : Condition
 always = Lt (Lit (pos 0)) (Lit (pos 1))
 
 abbrev in_loop : Block
-in_loop = next (For (binder 1) (Lit (pos 0)) (Lit (pos 2)) (next (If always (turned 2) end) end)) end
+in_loop = next (For (binder 1) (Lit (pos 0)) (Lit (pos 2)) (next (If always (turned 2) end) end))
+    end
 
 abbrev round_loop : Block
 round_loop = next (If always looped end) end
 
 lifted : run world in_loop start ≡ run world round_loop start
-lifted = lift_then_law world (binder 1) (Lit (pos 0)) (Lit (pos 2)) always (turned 2) start start_sound (λ n u come. refl)
+lifted = lift_then_law world (binder 1) (Lit (pos 0)) (Lit (pos 2)) always (turned 2) start
+    start_sound (λ n u come. refl)
 
 lifted_cell : seen (pos 1) (run world round_loop start) ≡ Number (pos 8)
 unfolding int_wrap
@@ -210,7 +249,8 @@ closed_twice : scoped (scoped (run world one)) start ≡ scoped (run world one) 
 closed_twice = scope_twice_law (run world one) start
 
 closed_in_turn :
-    turn 1 (scoped (run world (turned 2))) (pos 1) start ≡ turn 1 (run world (turned 2)) (pos 1) start
+    turn 1 (scoped (run world (turned 2))) (pos 1) start ≡ turn 1 (run world (turned 2)) (pos 1)
+    start
 closed_in_turn = scope_in_turn_law 1 (run world (turned 2)) (pos 1) start
 
 abbrev branch : Block → Block
@@ -257,7 +297,8 @@ two_may_close :
 two_may_close =
     blocks_may_close world two (branch (joined_all two)) start two_are_apart
     (none_there (top_binders (joined_all two)) refl)
-    (same_refines (scopes world two) (run world (branch (joined_all two))) start (sym two_in_branch))
+    (same_refines (scopes world two) (run world (branch (joined_all two))) start
+    (sym two_in_branch))
 
 -- the branch that is not taken leaves z
 taken_may_stand :
@@ -292,7 +333,8 @@ they_are_turns =
     )
 
 turns_in_scopes :
-    turns (turn 1 (run world (turned 2))) (pos 0 ∷ pos 1 ∷ []) start ≡ scopes world written_out start
+    turns (turn 1 (run world (turned 2))) (pos 0 ∷ pos 1 ∷ []) start ≡ scopes world written_out
+    start
 turns_in_scopes =
     turns_are_scopes_law world 1 (turned 2) (pos 0 ∷ pos 1 ∷ []) written_out start start_sound
     they_are_turns
@@ -343,7 +385,8 @@ branches_lifted :
     run world (loop_of in_turns) start
     ≡ run world (next (If by_field (loop_of (turned 2)) (loop_of (turned 3))) end) start
 branches_lifted =
-    lift_branch_law world (binder 1) (Lit (pos 0)) (Lit (pos 2)) by_field (turned 2) (turned 3) start
+    lift_branch_law world (binder 1) (Lit (pos 0)) (Lit (pos 2)) by_field (turned 2) (turned 3)
+    start
     start_sound field_is_steady
 
 branches_swapped :
@@ -376,24 +419,60 @@ abbrev named_turns : List Block
 named_turns = named_turn 3 (pos 0) ∷ named_turn 4 (pos 1) ∷ []
 
 abbrev adds : Procedure
-adds = record { name = []; template = None; params = record { binder = named 0 120; kind = TensorParam I32 (Lit (pos 8) ∷ []) 0 } ∷ []; asserts = []; body = named_loop }
+adds = record {
+  name = [];
+  template = None;
+  params = record {
+    binder = named 0 120;
+    kind =
+        TensorParam I32 (Lit (pos 8) ∷ []) 0;
+  } ∷ [];
+  asserts = [];
+  body = named_loop;
+}
 
 adds_is_well : IsProcedure (λ f. None) 1 (λ k. None) adds
-adds_is_well = record { params = refl; asserts = refl; body = refl; filled = refl; ids = refl; distinct = refl; paths = refl; template = refl }
+adds_is_well = record {
+  params = refl;
+  asserts = refl;
+  body = refl;
+  filled = refl;
+  ids = refl;
+  distinct = refl;
+  paths = refl;
+  template = refl;
+}
 
 they_may_be_left : MayLeave adds (Here end) (top_binders (joined_all named_turns))
-they_may_be_left = may_leave_law (λ f. None) 1 (λ k. None) adds (Here end) named_loop (top_binders (joined_all named_turns)) adds_is_well refl (λ y k.
+they_may_be_left = may_leave_law (λ f. None) 1 (λ k. None) adds (Here end) named_loop
+    (top_binders (joined_all named_turns)) adds_is_well refl (λ y k.
     or_elim (y == 3) ((y == 4) || false) k
     (λ e. inl (subst (λ z. IsNew adds z) (sym (eqb-true y 3 e)) (refl, refl)))
-    (λ j. or_elim (y == 4) false j (λ e. inl (subst (λ z. IsNew adds z) (sym (eqb-true y 4 e)) (refl, refl))) (λ e. absurd (true≢false (sym e)))))
+    (λ j. or_elim (y == 4) false j (λ e. inl (subst (λ z. IsNew adds z) (sym (eqb-true y 4 e))
+    (refl, refl))) (λ e. absurd (true≢false (sym e)))))
 
-adds_written_out : Refines (unit_world (λ f. Size) []) adds (record adds { body = joined_all named_turns }) []
-adds_written_out = leaving_refines (λ f. Size) [] (Here end) named_loop (joined_all named_turns) adds (record adds { body = joined_all named_turns }) (top_binders (joined_all named_turns)) refl refl they_may_be_left (λ s u good come none.
-    let t = unbound_law (unit_world (λ f. Size) []) adds named_loop (Here end) s u good come 2 (refl, refl) in
-    copies_may_stand (unit_world (λ f. Size) []) (named 1 105) (Lit (pos 0)) (Lit (pos 2)) named_body named_turns u (refl, (refl, tt)) none (λ n. refl) (
-      record { to = swap 2 3; moves = swap_moves 2 3 (IsUnbound u) t (none.unbound 3 refl); is = refl },
+adds_written_out : Refines (unit_world (λ f. Size) []) adds
+    (record adds { body = joined_all named_turns }) []
+adds_written_out = leaving_refines (λ f. Size) [] (Here end) named_loop (joined_all named_turns)
+    adds (record adds { body = joined_all named_turns }) (top_binders (joined_all named_turns)) refl
+    refl they_may_be_left (λ s u good come none.
+    let t = unbound_law (unit_world (λ f. Size) []) adds named_loop (Here end) s u good come 2
+    (refl, refl) in
+    copies_may_stand (unit_world (λ f. Size) []) (named 1 105) (Lit (pos 0)) (Lit (pos 2))
+    named_body named_turns u (refl, (refl, tt)) none (λ n. refl) (
+      record {
+        to = swap 2 3;
+        moves = swap_moves 2 3 (IsUnbound u) t (none.unbound 3 refl);
+        is =
+            refl;
+      },
       (
-        record { to = swap 2 4; moves = swap_moves 2 4 (IsUnbound u) t (none.unbound 4 refl); is = refl },
+        record {
+          to = swap 2 4;
+          moves = swap_moves 2 4 (IsUnbound u) t (none.unbound 4 refl);
+          is =
+              refl;
+        },
         tt,
       ),
     ))
@@ -406,7 +485,16 @@ made_turns = refl
 may_run_adds : MayRun [] 1 [] adds
 may_run_adds = record {
   unit = tt;
-  procedure = record { params = refl; asserts = refl; body = refl; filled = refl; ids = refl; distinct = refl; paths = refl; template = refl };
+  procedure = record {
+    params = refl;
+    asserts = refl;
+    body = refl;
+    filled = refl;
+    ids = refl;
+    distinct = refl;
+    paths = refl;
+    template = refl;
+  };
 }
 
 adds_unrolled :
@@ -418,7 +506,9 @@ adds_unrolled =
     (λ s u good come. refl)
 
 -- at one state: the bodies may be copied, so their copies are copies for the turns
-may_be_copied_from : (n : ℕ) (k : ℤ) → has_binder (at_turn 2 k) 0 ≡ false → is_given n (at_turn 2 k) 0 ≡ false → mentions (is_given n (at_turn 2 k)) (at_turn 2 k) ≡ false → MayCopy n (at_turn 2 k) start
+may_be_copied_from : (n : ℕ) (k : ℤ) → has_binder (at_turn 2 k) 0 ≡ false
+    → is_given n (at_turn 2 k) 0 ≡ false → mentions (is_given n (at_turn 2 k)) (at_turn 2 k) ≡ false
+    → MayCopy n (at_turn 2 k) start
 may_be_copied_from n k own given unused = record {
   sound = start_sound;
   own = (none_there (has_binder (at_turn 2 k)) own).unbound;

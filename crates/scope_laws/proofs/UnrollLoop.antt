@@ -1,5 +1,6 @@
 -- A loop written out: a copy of its body for each turn.
-use Rattle.std.proofs.Common.{◌≡◌, inl, ℕ, ℤ, ◌+◌, ◌≤◌, ◌==◌, true, false, true≢false, ◌||◌, List, [], ◌∷◌, length}
+use Rattle.std.proofs.Common.{◌≡◌, inl, ℕ, ℤ, ◌+◌, ◌≤◌, ◌==◌, true, false, true≢false, ◌||◌, List}
+use Rattle.std.proofs.Common.{[], ◌∷◌, length}
 use Rattle.std.proofs.Common.{refl, sym, ◌∙◌, subst, arith}
 use Rattle.std.specs.Prelude.{nat_le, slice_get}
 use Rattle.exo_tree.specs.Tree.{Binder, Control, Lit, For, Block, Procedure}
@@ -23,7 +24,8 @@ use Rattle.scope_laws.specs.Scopes.{top_binders, joined_all}
 use Rattle.scope_laws.specs.UnrollLoop.{MadeCopiesAreCopies, UnrollLaw, bodies_of, only_loop}
 use Rattle.scope_laws.specs.Unrolled.{AreCopies}
 use Rattle.scope_laws.proofs.Copies.{ids, numbered, moved, copy_is_renaming}
-use Rattle.scope_laws.proofs.CopiesAtPlaces.{given_from, no_param, no_binder, old_is_made, substituted_is_made, places_may_copy_all}
+use Rattle.scope_laws.proofs.CopiesAtPlaces.{given_from, no_param, no_binder, old_is_made}
+use Rattle.scope_laws.proofs.CopiesAtPlaces.{substituted_is_made, places_may_copy_all}
 use Rattle.scope_laws.proofs.MadeCopies.{copy_leaves, made_copies_are_apart}
 use Rattle.scope_laws.proofs.MayLeave.{may_leave_law}
 use Rattle.scope_laws.proofs.Numbers.{true_by}
@@ -69,14 +71,17 @@ copies_leave (d ∷ ds) m x h =
 -- ---- what they are made of
 
 module _ (first : ℕ) (i : Binder) (lo hi : Control) (b : Block) where
-  body_is_made : IsMadeOf first (only_loop i lo hi b) (only_loop i lo hi b) → IsMadeOf first (only_loop i lo hi b) b
+  body_is_made : IsMadeOf first (only_loop i lo hi b) (only_loop i lo hi b)
+      → IsMadeOf first (only_loop i lo hi b) b
   body_is_made made =
       let hidden = nat_le first in
       let loop = or_parts (in_statement hidden (For i lo hi b)) false made.low in
-      let p = or_parts (hidden i.id) (in_control hidden lo || (in_control hidden hi || mentions hidden b)) loop.0 in
+      let p = or_parts (hidden i.id) (in_control hidden lo || (in_control hidden hi
+      || mentions hidden b)) loop.0 in
       let q = or_parts (in_control hidden lo) (in_control hidden hi || mentions hidden b) p.1 in
       record {
-        own = λ x h. or_left ((x == i.id) || has_binder b x) false (or_right (x == i.id) (has_binder b x) h);
+        own = λ x h. or_left ((x == i.id) || has_binder b x) false
+            (or_right (x == i.id) (has_binder b x) h);
         low = (or_parts (in_control hidden hi) (mentions hidden b) q.1).1;
       }
 

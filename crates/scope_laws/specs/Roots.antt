@@ -25,8 +25,8 @@ own_roots_at c = roots_at c (λ x. x)
 -- each name sees a part of its root, wherever a run comes to
 abbrev pub RootsLaw : Type 0
 RootsLaw =
-    (fields : List ConfigField) (memories : ℕ) (ps : List Procedure) (p : Procedure)
-    (c : Context) (old : Block) (s u : State)
+    (fields : List ConfigField) (memories : ℕ) (ps : List Procedure) (p : Procedure) (c : Context)
+    (old : Block) (s u : State)
     → MayRun fields memories ps p
     → let world = unit_world (kinds_of fields) ps in
     IsAdmissible world p s

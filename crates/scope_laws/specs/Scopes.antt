@@ -27,8 +27,10 @@ pub record LeftBut (hidden : ℕ → Bool) (s t : State) : Type 0 where
 
 -- a block in a scope of its own and the same block opened differ at its top binders alone
 abbrev pub OpenScope : Type 0
-OpenScope = (world : World) (b : Block) (s : State) → HasNone (top_binders b) s →
-    Both (LeftBut (top_binders b)) (scoped (run world b) s) (run world b s)
+OpenScope =
+    (world : World) (b : Block) (s : State)
+    → HasNone (top_binders b) s
+    → Both (LeftBut (top_binders b)) (scoped (run world b) s) (run world b s)
 
 -- ---- blocks in a row
 
@@ -47,15 +49,19 @@ AreApart (b ∷ bs) = (in_block (top_binders b) (joined_all bs) ≡ false) × Ar
 
 -- scopes within a scope are of no account
 abbrev pub JoinScopes : Type 0
-JoinScopes = (world : World) (bs : List Block) (s : State) → AreApart bs →
-    HasNone (top_binders (joined_all bs)) s →
-    scopes world bs s ≡ scoped (run world (joined_all bs)) s
+JoinScopes =
+    (world : World) (bs : List Block) (s : State)
+    → AreApart bs
+    → HasNone (top_binders (joined_all bs)) s
+    → scopes world bs s ≡ scoped (run world (joined_all bs)) s
 
 -- blocks each in a scope of its own and all of them opened differ at their top binders alone
 abbrev pub OpenScopes : Type 0
-OpenScopes = (world : World) (bs : List Block) (s : State) → AreApart bs →
-    HasNone (top_binders (joined_all bs)) s →
-    Both (LeftBut (top_binders (joined_all bs))) (scopes world bs s) (run world (joined_all bs) s)
+OpenScopes =
+    (world : World) (bs : List Block) (s : State)
+    → AreApart bs
+    → HasNone (top_binders (joined_all bs)) s
+    → Both (LeftBut (top_binders (joined_all bs))) (scopes world bs s) (run world (joined_all bs) s)
 
 -- ---- a branch, and the turn of a loop
 
@@ -65,17 +71,22 @@ ScopeTwice = (body : State → Option State) (s : State) → scoped (scoped body
 
 -- nor is one that is all of a turn
 abbrev pub ScopeInTurn : Type 0
-ScopeInTurn = (i : ℕ) (body : State → Option State) (n : ℤ) (s : State) →
-    turn i (scoped body) n s ≡ turn i body n s
+ScopeInTurn =
+    (i : ℕ) (body : State → Option State) (n : ℤ) (s : State)
+    → turn i (scoped body) n s ≡ turn i body n s
 
 -- a branch is a block in a scope of its own
 abbrev pub BranchIsScope : Type 0
-BranchIsScope = (world : World) (test : Condition) (a b : Block) (s : State) →
-    run world (next (If test a b) end) s ≡ scoped (run world (cond (holds s.scene test) a b)) s
+BranchIsScope =
+    (world : World) (test : Condition) (a b : Block) (s : State)
+    → run world (next (If test a b) end) s ≡ scoped (run world (cond (holds s.scene test) a b)) s
 
 -- a turn of two blocks is a turn of the first and then one of the second
 abbrev pub SplitTurn : Type 0
-SplitTurn = (world : World) (i : ℕ) (a b : Block) (n : ℤ) (s : State) →
-    in_block (top_binders a) b ≡ false → top_binders a i ≡ false → HasNone (top_binders a) s →
-    turn i (run world (joined a b)) n s
+SplitTurn =
+    (world : World) (i : ℕ) (a b : Block) (n : ℤ) (s : State)
+    → in_block (top_binders a) b ≡ false
+    → top_binders a i ≡ false
+    → HasNone (top_binders a) s
+    → turn i (run world (joined a b)) n s
     ≡ then_do (turn i (run world a) n s) (turn i (run world b) n)

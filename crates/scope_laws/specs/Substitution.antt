@@ -8,7 +8,8 @@ use Rattle.exo_meaning.specs.Unseen.{in_control as uses, in_block as mentions}
 -- the binders stay
 abbrev pub SubstitutionKeepsBinders : Type 0
 SubstitutionKeepsBinders =
-    (i : ℕ) (e : Control) (b : Block) → binders (substituted i e b) ≡ binders b
+    (i : ℕ) (e : Control) (b : Block)
+    → binders (substituted i e b) ≡ binders b
 
 -- no name is mentioned but those of b and of e
 abbrev pub SubstitutionMentionsNoMore : Type 0

@@ -27,8 +27,10 @@ AreTurns world i b s (n ∷ ns) (c ∷ cs) =
 -- the turns do what these blocks do, each in a scope of its own
 abbrev pub TurnsAreScopes : Type 0
 TurnsAreScopes =
-    (world : World) (i : ℕ) (b : Block) (ns : List ℤ) (bs : List Block) (s : State) →
-    IsSound s → AreTurns world i b s ns bs → turns (turn i (run world b)) ns s ≡ scopes world bs s
+    (world : World) (i : ℕ) (b : Block) (ns : List ℤ) (bs : List Block) (s : State)
+    → IsSound s
+    → AreTurns world i b s ns bs
+    → turns (turn i (run world b)) ns s ≡ scopes world bs s
 
 -- the body with the number of the turn for the variable, under other ids
 pub record IsCopyFor (Free : ℕ → Type 0) (i : ℕ) (b : Block) (n : ℤ) (c : Block) : Type 0 where
@@ -45,15 +47,18 @@ AreCopies Free i b (n ∷ ns) (c ∷ cs) = IsCopyFor Free i b n c × AreCopies F
 -- copies of the body do the same as the turns
 abbrev pub CopiesAreTurns : Type 0
 CopiesAreTurns =
-    (world : World) (i : ℕ) (b : Block) (ns : List ℤ) (bs : List Block) (s : State) →
-    ((n : ℤ) → catches i (Lit n) b ≡ false) → AreCopies (IsUnbound s) i b ns bs →
-    AreTurns world i b s ns bs
+    (world : World) (i : ℕ) (b : Block) (ns : List ℤ) (bs : List Block) (s : State)
+    → ((n : ℤ) → catches i (Lit n) b ≡ false)
+    → AreCopies (IsUnbound s) i b ns bs
+    → AreTurns world i b s ns bs
 
 -- so they may stand for the loop, one after the other
 abbrev pub CopiesMayStand : Type 0
 CopiesMayStand =
-    (world : World) (i : Binder) (lo hi : Control) (b : Block) (bs : List Block) (u : State) →
-    let hidden = top_binders (joined_all bs) in AreApart bs → HasNone hidden u →
-    ((n : ℤ) → catches i.id (Lit n) b ≡ false) →
-    AreCopies (IsUnbound u) i.id b (turns_of u.scene lo hi) bs →
-    MayReplace world hidden (next (For i lo hi b) end) (joined_all bs) u
+    (world : World) (i : Binder) (lo hi : Control) (b : Block) (bs : List Block) (u : State)
+    → let hidden = top_binders (joined_all bs) in
+    AreApart bs
+    → HasNone hidden u
+    → ((n : ℤ) → catches i.id (Lit n) b ≡ false)
+    → AreCopies (IsUnbound u) i.id b (turns_of u.scene lo hi) bs
+    → MayReplace world hidden (next (For i lo hi b) end) (joined_all bs) u

@@ -248,7 +248,8 @@ pub fn scope_of_none()
     ensures { ScopeOfNone }
 {}
 
-/// A condition stays as it is in the turns of a loop that lacks its variable and writes no field that it reads.
+/// A condition stays as it is in the turns of a loop that lacks its variable and writes no
+/// field that it reads.
 pub fn steady_in_loop()
     ensures { SteadyInLoop }
 {}
@@ -275,7 +276,8 @@ pub fn substitution_keeps_binders()
     ensures { SubstitutionKeepsBinders }
 {}
 
-/// A block with an expression for a variable mentions no name but its own and those of the expression.
+/// A block with an expression for a variable mentions no name but its own and those of the
+/// expression.
 pub fn substitution_mentions_no_more()
     ensures { SubstitutionMentionsNoMore }
 {}
@@ -285,12 +287,14 @@ pub fn binders_are_one_list()
     ensures { OneListOfBinders }
 {}
 
-/// A copy that is numbered from a number on is a renaming, where the block has none of the new numbers.
+/// A copy that is numbered from a number on is a renaming, where the block has none of the new
+/// numbers.
 pub fn copies_are_renamings()
     ensures { CopyIsRenaming }
 {}
 
-/// A copy does what the block does, in each state in which the new numbers and the binders stand for nothing.
+/// A copy does what the block does, in each state in which the new numbers and the binders
+/// stand for nothing.
 pub fn copies_run_alike()
     ensures { CopiesRunAlike }
 {}
@@ -325,7 +329,8 @@ pub fn substituted_blocks_may_be_copied()
     ensures { MayCopySubstituted }
 {}
 
-/// A block whose binders are those of what stands in a hole may be copied there, from a number on that the procedure does not reach.
+/// A block whose binders are those of what stands in a hole may be copied there, from a number
+/// on that the procedure does not reach.
 pub fn blocks_may_be_copied_at_places()
     ensures { PlacesMayCopy }
 {}
@@ -345,7 +350,8 @@ pub fn blocks_with_other_names_do_the_same()
     ensures { SameButForNames }
 {}
 
-/// Copies of blocks, numbered one behind the other, do the same as the blocks, each in a scope of its own.
+/// Copies of blocks, numbered one behind the other, do the same as the blocks, each in a scope
+/// of its own.
 pub fn scoped_copies_are_same()
     ensures { ScopedCopiesAreSame }
 {}
@@ -365,7 +371,8 @@ pub fn substituted_blocks_are_made_of_them()
     ensures { SubstitutedIsMade }
 {}
 
-/// Any number of blocks that are made of what stands in a hole may be copied there, one behind the other.
+/// Any number of blocks that are made of what stands in a hole may be copied there, one behind
+/// the other.
 pub fn all_blocks_may_be_copied_at_places()
     ensures { PlacesMayCopyAll }
 {}
@@ -380,7 +387,8 @@ pub fn made_copies_are_copies()
     ensures { MadeCopiesAreCopies }
 {}
 
-/// A loop whose turns are known may be written out, its binders numbered from a number on that the procedure does not reach.
+/// A loop whose turns are known may be written out, its binders numbered from a number on that
+/// the procedure does not reach.
 pub fn loops_are_unrolled()
     ensures { UnrollLaw }
 {}
