@@ -135,7 +135,7 @@ places_may_copy world p c old b n u is_below at own unused = record {
     there x free = place_unbound world p old c at.first u at.good at.comes x free
 
 -- what a block has of the new numbers is from n on
-given_unused : (n m : ℕ) (b : Block) → n ≤ m → mentions (nat_le n) b ≡ false
+pub given_unused : (n m : ℕ) (b : Block) → n ≤ m → mentions (nat_le n) b ≡ false
     → mentions (is_given m b) b ≡ false
 given_unused n m b behind low = fewer.block (nat_le n) (is_given m b) less b low
   where

@@ -63,6 +63,10 @@ ghost use Rattle.scope_laws.specs.CopiesAtPlaces.{PlacesMayCopyAll};
 ghost use Rattle.scope_laws.specs.CopiesAtPlaces.{MadeCopiesAreApart};
 ghost use Rattle.scope_laws.specs.UnrollLoop.{MadeCopiesAreCopies};
 ghost use Rattle.scope_laws.specs.UnrollLoop.{UnrollLaw};
+ghost use Rattle.scope_laws.specs.BranchesAtPlaces.{TakenBranchLaw};
+ghost use Rattle.scope_laws.specs.BranchesAtPlaces.{LoopOfNone};
+ghost use Rattle.scope_laws.specs.BranchesAtPlaces.{SpecializeLaw};
+ghost use Rattle.scope_laws.specs.BranchesAtPlaces.{LiftLaw};
 
 // ---- places
 
@@ -391,4 +395,26 @@ pub fn made_copies_are_copies()
 /// the procedure does not reach.
 pub fn loops_are_unrolled()
     ensures { UnrollLaw }
+{}
+
+// ---- branches at a place
+
+/// Where it is known which way a condition goes, the branch that is taken may stand for it.
+pub fn taken_branches_stay()
+    ensures { TakenBranchLaw }
+{}
+
+/// A loop that has no turn may be left out.
+pub fn loops_of_none_go()
+    ensures { LoopOfNone }
+{}
+
+/// A condition with a block and a copy of it may stand for the block.
+pub fn blocks_are_specialized()
+    ensures { SpecializeLaw }
+{}
+
+/// A condition that stays in a loop may stand round a loop over each branch, the second a copy.
+pub fn branches_are_lifted()
+    ensures { LiftLaw }
 {}
