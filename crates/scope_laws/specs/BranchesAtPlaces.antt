@@ -34,7 +34,7 @@ TakenBranchLaw =
     (fields : List ConfigField) (memories : ℕ) (ps : List Procedure) (p : Procedure) (c : Context)
     (test : Condition) (a b : Block) (taken : Bool)
     → let world = unit_world (kinds_of fields) ps in
-      MayRun fields memories ps p
+    MayRun fields memories ps p
     → p.body ≡ fill c (only_branch test a b)
     → IsKnown world p c (only_branch test a b) test taken
     → Refines world p (record p { body = fill c (cond taken a b) }) []
@@ -76,6 +76,6 @@ LiftLaw =
     → IsBelow first p
     → in_condition (λ x. x == i.id) test ≡ false
     → ((f : ℕ)
-      → read_by_condition f test ≡ true
-      → writes_field calls f (only_branch test a b) ≡ false)
+    → read_by_condition f test ≡ true
+    → writes_field calls f (only_branch test a b) ≡ false)
     → Refines world p (record p { body = fill c (lifted first i lo hi test a b) }) []
