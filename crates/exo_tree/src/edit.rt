@@ -1,16 +1,21 @@
 //! Procedures with some statements replaced.
 ghost use Rattle.std.specs.Prelude.{◌≡◌, ◌∷◌, ◌++◌, ◌+◌, ◌<◌, ◌≤◌, ◌↔◌, length, map, take, drop, slice_get, option_map, option_and_then, Some, None, IfOk, IsErrOf, IsTrue, MatchOption, IsSomeAnd};
 ghost use Rattle.std.specs.Option.{option_copied};
+ghost use Rattle.exo_tree.specs.Tree as tree;
 ghost use Rattle.exo_tree.specs.Tree.{Statement, block};
 ghost use Rattle.exo_tree.specs.Context.{fill};
 ghost use Rattle.exo_tree.specs.Places.{opened_in, replaced};
 ghost use Rattle.exo_tree.specs.Branches.{branch_of, with_branch};
 ghost use Rattle.exo_tree.specs.Heights.{height, height_below};
+ghost use Rattle.exo_tree.specs.PlainBinder.{binding};
+ghost use Rattle.exo_tree.specs.PlainControl.{control, condition};
 ghost use Rattle.exo_tree.specs.PlainPlace.{branch_taken, step_taken};
 ghost use Rattle.exo_tree.specs.PlainStatement.{statement};
 ghost use Rattle.exo_tree.specs.PlainProcedure.{procedure};
 
-use crate::block::{Block, Stmt, branch_of, loop_of};
+use crate::binder::Binder;
+use crate::block::{Block, Stmt};
+use crate::control::{Cond, Ctrl};
 use crate::copy_unit::copied_template;
 use crate::place::{Branch, Path, Step};
 use crate::procedure::Proc;
@@ -220,4 +225,25 @@ fn with_body(alloc: Global, p: &Proc, body: Block) -> Result<Proc, AllocError>
         body,
         template: copied_template(alloc, &p.template)?,
     })
+}
+
+/// A loop with a copied head.
+fn loop_of(alloc: Global, b: &Binder, lo: &Ctrl, hi: &Ctrl, body: Block) -> Result<Stmt, AllocError>
+    ensures { IfOk result (λ s. statement s ≡ tree.For (binding b.now) (control lo.now) (control hi.now) (block body)) }
+{
+    let binder = b.duplicate(alloc)?;
+    let low = lo.duplicate(alloc)?;
+    Ok(Stmt::For(binder, low, hi.duplicate(alloc)?, body))
+}
+
+/// A branch with a copied condition.
+fn branch_of(
+    alloc: Global,
+    c: &Cond,
+    then_part: Block,
+    else_part: Block,
+) -> Result<Stmt, AllocError>
+    ensures { IfOk result (λ s. statement s ≡ tree.If (condition c.now) (block then_part) (block else_part)) }
+{
+    Ok(Stmt::If(c.duplicate(alloc)?, then_part, else_part))
 }
