@@ -22,7 +22,7 @@ use crate::procedure::Proc;
 use std::alloc::{AllocError, Global};
 
 /// Why statements cannot be replaced.
-#[derive(Debug, Drop)]
+#[derive(Drop)]
 pub enum EditError {
     /// They are not there.
     NoPlace,
