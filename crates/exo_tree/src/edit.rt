@@ -16,7 +16,6 @@ ghost use Rattle.exo_tree.specs.PlainProcedure.{procedure};
 use crate::binder::Binder;
 use crate::block::{Block, Stmt};
 use crate::control::{Cond, Ctrl};
-use crate::copy_unit::copied_template;
 use crate::place::{Branch, Path, Step};
 use crate::procedure::Proc;
 use std::alloc::{AllocError, Global};
@@ -192,7 +191,7 @@ pub fn replace_at(
     if !with.fits(33 - path.len() as u32) {
         return Err(EditError::TooDeep);
     }
-    Ok(with_body(alloc, p, body)?)
+    Ok(p.with_body(alloc, body)?)
 }
 
 /// The body with `with` in place of the `count` statements from a path on; None exactly where they are not there.
@@ -212,19 +211,6 @@ fn replaced_body(
             .replaced_in(alloc, steps, count as usize, with),
         _ => Ok(None),
     }
-}
-
-/// The procedure with another body.
-fn with_body(alloc: Global, p: &Proc, body: Block) -> Result<Proc, AllocError>
-    ensures { IfOk result (λ q. procedure q ≡ record (procedure p.now) { body = block body }) }
-{
-    Ok(Proc {
-        name: p.name.duplicate(alloc)?,
-        params: p.params.duplicate(alloc)?,
-        asserts: p.asserts.duplicate(alloc)?,
-        body,
-        template: copied_template(alloc, &p.template)?,
-    })
 }
 
 /// A loop with a copied head.

@@ -65,7 +65,7 @@ impl Ctrl {
     }
 
     /// Copies of this expression and another.
-    pub(crate) fn mapped_with<L: Leaves>(
+    fn mapped_with<L: Leaves>(
         &self,
         alloc: Global,
         leaves: &L,

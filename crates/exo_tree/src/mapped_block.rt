@@ -120,8 +120,9 @@ fn loop_over<L: Leaves>(
 ) -> Result<Stmt, AllocError>
     ensures { IfOk result (λ s. statement s ≡ tree.For ((L.leaves leaves.now).binder (binding i.now)) (mapped_control (L.leaves leaves.now) (control lo.now)) (mapped_control (L.leaves leaves.now) (control hi.now)) (block body)) }
 {
-    let (low, high) = lo.mapped_with(alloc, leaves, hi)?;
-    Ok(Stmt::For(leaves.binder(alloc, i)?, low, high, body))
+    let binder = leaves.binder(alloc, i)?;
+    let low = lo.mapped(alloc, leaves)?;
+    Ok(Stmt::For(binder, low, hi.mapped(alloc, leaves)?, body))
 }
 
 fn allocation<L: Leaves>(

@@ -1,5 +1,5 @@
 -- A block and its copy under fresh ids.
-use Rattle.std.proofs.Common.{◌≡◌, ℕ, true, false, true≢false, length, Option, Some, None, IfSome, option_map, refl, sym, ap, ◌∙◌}
+use Rattle.std.proofs.Common.{◌≡◌, ℕ, true, false, true≢false, Option, Some, None, IfSome, option_map, refl, sym, ap, ◌∙◌}
 use Rattle.exo_tree.specs.Tree.{Statement, Assign, Reduce, Config, Pass, If, For, Alloc, View, Call, Block, end, next}
 use Rattle.exo_tree.specs.Renaming.{fresh_id, fresh}
 use Rattle.exo_meaning.specs.Binders.{binders}
@@ -15,7 +15,7 @@ use Rattle.meaning_laws.proofs.Copies.{re_same, moves_on, unbound_on, Stays, if_
 use Rattle.meaning_laws.proofs.Names.{name_same, name_on, step_names}
 use Rattle.meaning_laws.proofs.Sound.{run_sound}
 use Rattle.meaning_laws.proofs.Substitute.{and_parts}
-use Rattle.meaning_laws.specs.FreshCopies.{is_within, is_given, CopyIsRenaming, MayCopy, CopiesRunAlike}
+use Rattle.meaning_laws.specs.FreshCopies.{is_given, CopyIsRenaming, MayCopy, CopiesRunAlike}
 use Rattle.meaning_laws.specs.FreshCopies.{is_closed_statement, is_closed, ClosedCopiesAreSame}
 use Rattle.meaning_laws.proofs.SameIds as same_ids
 use Rattle.meaning_laws.proofs.Fresh.{exchanging, exchanging_moves}

@@ -49,3 +49,4 @@ pub mod Substituted
 pub mod FreshCopies
 pub mod CopiesAtPlaces
 pub mod ScopedCopies
+pub mod CopyInstances

@@ -31,7 +31,9 @@ is_given n b = is_within n (length (binders b))
 -- a copy numbered from n on is a renaming, where the block has none of these numbers
 abbrev pub CopyIsRenaming : Type 0
 CopyIsRenaming =
-    (b : Block) (n : ℕ) (r : Renaming) → IsFresh b n r → mentions (is_given n b) b ≡ false
+    (b : Block) (n : ℕ) (r : Renaming)
+    → IsFresh b n r
+    → mentions (is_given n b) b ≡ false
     → fresh n b ≡ re_block r b
 
 -- in s neither the binders of b nor the numbers of its copy stand for anything, and b has none of
@@ -53,7 +55,9 @@ pub record RunsAlike (world : World) (n : ℕ) (b : Block) (s : State) : Type 0 
 
 abbrev pub CopiesRunAlike : Type 0
 CopiesRunAlike =
-    (world : World) (n : ℕ) (b : Block) (s : State) → MayCopy n b s → RunsAlike world n b s
+    (world : World) (n : ℕ) (b : Block) (s : State)
+    → MayCopy n b s
+    → RunsAlike world n b s
 
 -- no name is bound behind the block: it has allocations and windows in loops and branches alone
 abbrev pub is_closed_statement : Statement → Bool
@@ -74,13 +78,17 @@ is_closed (next a b) = is_closed_statement a && is_closed b
 -- then the copy does exactly the same: so does that of a loop or of a condition
 abbrev pub ClosedCopiesAreSame : Type 0
 ClosedCopiesAreSame =
-    (world : World) (n : ℕ) (b : Block) (s : State) → MayCopy n b s → is_closed b ≡ true
+    (world : World) (n : ℕ) (b : Block) (s : State)
+    → MayCopy n b s
+    → is_closed b ≡ true
     → run world (fresh n b) s ≡ run world b s
 
 -- a copy has the new numbers as binders and no other
 abbrev pub CopiesBindNewNumbers : Type 0
 CopiesBindNewNumbers =
-    (n : ℕ) (b : Block) (x : ℕ) → has_binder (fresh n b) x ≡ true → is_given n b x ≡ true
+    (n : ℕ) (b : Block) (x : ℕ)
+    → has_binder (fresh n b) x ≡ true
+    → is_given n b x ≡ true
 
 -- the block d binds neither a binder of b nor a number of its copy
 abbrev pub BindsNoneOf : Block → ℕ → Block → Type 0
@@ -89,15 +97,20 @@ BindsNoneOf d n b = (x : ℕ) → has_binder d x ≡ true → (has_binder b x ||
 -- what may be copied may be copied behind such a block, as behind another copy
 abbrev pub MayCopyBehind : Type 0
 MayCopyBehind =
-    (world : World) (n : ℕ) (b d : Block) (s : State) → MayCopy n b s → BindsNoneOf d n b
+    (world : World) (n : ℕ) (b d : Block) (s : State)
+    → MayCopy n b s
+    → BindsNoneOf d n b
     → IfSome (run world d s) (MayCopy n b)
 
 -- so copies of one block, and of blocks with its binders, may stand one behind the other, each with
 -- numbers behind those of the one before
 abbrev pub MayCopyNext : Type 0
 MayCopyNext =
-    (world : World) (n m : ℕ) (b d : Block) (s : State) → binders d ≡ binders b
-    → n + length (binders b) ≤ m → MayCopy n b s → MayCopy m b s
+    (world : World) (n m : ℕ) (b d : Block) (s : State)
+    → binders d ≡ binders b
+    → n + length (binders b) ≤ m
+    → MayCopy n b s
+    → MayCopy m b s
     → IfSome (run world (fresh n d) s) (MayCopy m b)
 
 -- copies of these blocks, numbered from n on one behind the other
@@ -116,20 +129,25 @@ each_in_scope world = turns (λ d. scoped (run world d))
 -- then they do the same in scopes of their own
 abbrev pub ScopedCopiesAreSame : Type 0
 ScopedCopiesAreSame =
-    (world : World) (n : ℕ) (ds : List Block) (s : State) → AllMayBeCopied n ds s
+    (world : World) (n : ℕ) (ds : List Block) (s : State)
+    → AllMayBeCopied n ds s
     → each_in_scope world (copies_from n ds) s ≡ each_in_scope world ds s
 
 -- and a block may be copied in a turn of a loop over another variable
 abbrev pub MayCopyInTurn : Type 0
 MayCopyInTurn =
-    (n : ℕ) (b : Block) (s : State) (i : ℕ) (m : ℤ) → MayCopy n b s
-    → (has_binder b i || is_given n b i) ≡ false → MayCopy n b (on_scene (with_control i m) s)
+    (n : ℕ) (b : Block) (s : State) (i : ℕ) (m : ℤ)
+    → MayCopy n b s
+    → (has_binder b i || is_given n b i) ≡ false
+    → MayCopy n b (on_scene (with_control i m) s)
 
 -- and it may be copied with an expression for a variable
 abbrev pub MayCopySubstituted : Type 0
 MayCopySubstituted =
-    (n : ℕ) (b : Block) (s : State) (i : ℕ) (e : Control) → MayCopy n b s
-    → uses (is_given n b) e ≡ false → MayCopy n (put_in_block i e b) s
+    (n : ℕ) (b : Block) (s : State) (i : ℕ) (e : Control)
+    → MayCopy n b s
+    → uses (is_given n b) e ≡ false
+    → MayCopy n (put_in_block i e b) s
 
 -- ---- at a place
 
@@ -150,15 +168,20 @@ pub record StandsAt (world : World) (p : Procedure) (c : Context) (old : Block) 
 -- the new numbers
 abbrev pub PlacesMayCopy : Type 0
 PlacesMayCopy =
-    (world : World) (p : Procedure) (c : Context) (old b : Block) (n : ℕ) (u : State) → IsBelow n p
-    → StandsAt world p c old u → ((x : ℕ) → has_binder b x ≡ true → has_binder old x ≡ true)
-    → mentions (is_given n b) b ≡ false → MayCopy n b u
+    (world : World) (p : Procedure) (c : Context) (old b : Block) (n : ℕ) (u : State)
+    → IsBelow n p
+    → StandsAt world p c old u
+    → ((x : ℕ) → has_binder b x ≡ true → has_binder old x ≡ true)
+    → mentions (is_given n b) b ≡ false
+    → MayCopy n b u
 
 -- as what stands in the hole has none of them
 abbrev pub OldMayBeCopied : Type 0
 OldMayBeCopied =
-    (world : World) (p : Procedure) (c : Context) (old : Block) (n : ℕ) (u : State) → IsBelow n p
-    → StandsAt world p c old u → MayCopy n old u
+    (world : World) (p : Procedure) (c : Context) (old : Block) (n : ℕ) (u : State)
+    → IsBelow n p
+    → StandsAt world p c old u
+    → MayCopy n old u
 
 -- ---- several copies at a place
 
@@ -170,17 +193,25 @@ pub record IsMadeOf (n : ℕ) (old d : Block) : Type 0 where
 -- so is what stands in the hole
 abbrev pub OldIsMade : Type 0
 OldIsMade =
-    (p : Procedure) (c : Context) (old : Block) (n : ℕ) → IsBelow n p → p.body ≡ fill c old
+    (p : Procedure) (c : Context) (old : Block) (n : ℕ)
+    → IsBelow n p
+    → p.body ≡ fill c old
     → IsMadeOf n old old
 
 -- and such a block with an expression for a variable
 abbrev pub SubstitutedIsMade : Type 0
 SubstitutedIsMade =
-    (n : ℕ) (old d : Block) (i : ℕ) (e : Control) → IsMadeOf n old d → uses (nat_le n) e ≡ false
+    (n : ℕ) (old d : Block) (i : ℕ) (e : Control)
+    → IsMadeOf n old d
+    → uses (nat_le n) e ≡ false
     → IsMadeOf n old (put_in_block i e d)
 
 -- any number of such blocks may be copied from n on
 abbrev pub PlacesMayCopyAll : Type 0
 PlacesMayCopyAll =
     (world : World) (p : Procedure) (c : Context) (old : Block) (ds : List Block) (n : ℕ)
-    (u : State) → IsBelow n p → StandsAt world p c old u → Each (IsMadeOf n old) ds → AllMayBeCopied n ds u
+    (u : State)
+    → IsBelow n p
+    → StandsAt world p c old u
+    → Each (IsMadeOf n old) ds
+    → AllMayBeCopied n ds u

@@ -1,5 +1,5 @@
 -- What is known of configuration fields at a place of a procedure.
-use Rattle.std.specs.Prelude.{◌==◌, ◌&&◌, ◌++◌, ℕ, zero, suc, Bool, true, false, if◌then◌else◌, [], ◌∷◌}
+use Rattle.std.specs.Prelude.{◌++◌, ℕ, zero, suc, Bool, true, false, if◌then◌else◌, [], ◌∷◌}
 use Rattle.exo_tree.specs.Tree.{Argument, Statement, Assign, Reduce, Config, Pass, If, For, Alloc, View, Call, Block, end, next}
 use Rattle.exo_tree.specs.Context.{Context, Here, After, InLoop, InThen, InElse, fill}
 use Rattle.exo_tree.specs.Places.{Branch, Main, Else, Path}

@@ -1,4 +1,4 @@
-use Rattle.std.proofs.Common.{ℕ, ◌+◌, ◌*◌, max}
+use Rattle.std.proofs.Common.{◌+◌, ◌*◌, max}
 use Rattle.exo_tree.proofs.data.DataExpr.TheLaws.{the_size}
 use Rattle.exo_tree.proofs.data.DataExpr.+mapped.Given as goal
 
