@@ -1,0 +1,17 @@
+pub mod Unwritten
+pub mod Statements
+pub mod Reorder
+pub mod StatementExamples
+pub mod TurnsOfTwo
+pub mod Caught
+pub mod PartedLoops
+pub mod PartedPlaces
+pub mod WrittenFirst
+pub mod TurnExamples
+pub mod PartedExamples
+pub mod Overwrite
+pub mod Written
+pub mod Repeat
+pub mod Unread
+pub mod RemoveLoop
+pub mod OverwriteExamples
