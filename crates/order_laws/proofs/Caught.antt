@@ -62,11 +62,11 @@ module _ (fields : ℕ → Option Kind) (memories : ℕ) (callees : ℕ → Opti
   no_flag may scope there (And c d) ok =
       let p = and_parts (is_condition fields may scope c) (is_condition fields may scope d) ok in
       neither (has_flag i c) (has_flag i d) (no_flag may scope there c p.0)
-          (no_flag may scope there d p.1)
+      (no_flag may scope there d p.1)
   no_flag may scope there (Or c d) ok =
       let p = and_parts (is_condition fields may scope c) (is_condition fields may scope d) ok in
       neither (has_flag i c) (has_flag i d) (no_flag may scope there c p.0)
-          (no_flag may scope there d p.1)
+      (no_flag may scope there d p.1)
 
   no_flag_of : (may : Reads) (scope : Scope) → InScope scope → (k : Kind) (a : Argument)
       → is_of_kind fields may scope k a ≡ true → argument_has_flag i a ≡ false
@@ -98,7 +98,7 @@ module _ (fields : ℕ → Option Kind) (memories : ℕ) (callees : ℕ → Opti
   no_flags_for scope there (p ∷ ps) (a ∷ args) ok =
       let q = and_parts (is_for fields scope p.kind a) (are_for fields scope ps args) ok in
       neither (argument_has_flag i a) (arguments_have_flag i args)
-          (no_flag_for scope there p.kind a q.0) (no_flags_for scope there ps args q.1)
+      (no_flag_for scope there p.kind a q.0) (no_flags_for scope there ps args q.1)
 
   no_flags_in_call : (scope : Scope) → InScope scope
       → (root : ℕ → ℕ) (o : Option Callee) (args : List Argument)
@@ -148,10 +148,10 @@ module _ (fields : ℕ → Option Kind) (memories : ℕ) (callees : ℕ → Opti
         let p = and_parts (is_statement fields memories callees scope root a) _ ok in
         neither (step_catches i e a) (catches i e b)
         (step_catches_none a scope root p.0 there
-            (λ x h. misses x (or_left (step_has_binder a x) (has_binder b x) h)))
+        (λ x h. misses x (or_left (step_has_binder a x) (has_binder b x) h)))
         (block_catches b (scope_after a scope) (roots_after a root) p.1
-            (in_after a scope root p.0 there)
-            (λ x h. misses x (or_right (step_has_binder a x) (has_binder b x) h)))
+        (in_after a scope root p.0 there)
+        (λ x h. misses x (or_right (step_has_binder a x) (has_binder b x) h)))
 
     step_catches_none : (a : Statement) (scope : Scope) (root : ℕ → ℕ)
         → is_statement fields memories callees scope root a ≡ true → InScope scope
@@ -165,25 +165,25 @@ module _ (fields : ℕ → Option Kind) (memories : ℕ) (callees : ℕ → Opti
         let p = and_parts (is_condition fields with_fields scope c) _ ok in
         let q = and_parts (not (is_empty a) && (is_short a && is_short b)) _ p.1 in
         let r = and_parts (is_block fields memories callees scope root a)
-            (is_block fields memories callees scope root b) q.1 in
+        (is_block fields memories callees scope root b) q.1 in
         neither (has_flag i c) (catches i e a || catches i e b)
-            (no_flag with_fields scope there c p.0) (neither (catches i e a) (catches i e b)
-          (block_catches a scope root r.0 there
-              (λ x h. misses x (or_left (has_binder a x) (has_binder b x) h)))
-          (block_catches b scope root r.1 there
-              (λ x h. misses x (or_right (has_binder a x) (has_binder b x) h))))
+        (no_flag with_fields scope there c p.0) (neither (catches i e a) (catches i e b)
+        (block_catches a scope root r.0 there
+        (λ x h. misses x (or_left (has_binder a x) (has_binder b x) h)))
+        (block_catches b scope root r.1 there
+        (λ x h. misses x (or_right (has_binder a x) (has_binder b x) h))))
     step_catches_none (For x lo hi b) scope root ok there misses =
         let p = and_parts (is_new scope x) _ ok in
         let q = and_parts (is_control fields plainly scope lo && is_control fields plainly scope hi)
-            _ p.1 in
+        _ p.1 in
         let r = and_parts (not (is_empty b) && is_short b) _ q.1 in
         neither (x.id == i) (has_variable e x.id || catches i e b)
-            (turned i x.id (is_other scope x p.0 i (ControlName kind) there))
+        (turned i x.id (is_other scope x p.0 i (ControlName kind) there))
         (neither (has_variable e x.id) (catches i e b)
-          (misses x.id (or_left (x.id == x.id) (has_binder b x.id) (eq-eqb x.id x.id refl)))
-          (block_catches b (with_name scope x (ControlName Index)) root r.1
-              (in_more scope x (ControlName Index) p.0 there)
-              (λ y h. misses y (or_right (y == x.id) (has_binder b y) h))))
+        (misses x.id (or_left (x.id == x.id) (has_binder b x.id) (eq-eqb x.id x.id refl)))
+        (block_catches b (with_name scope x (ControlName Index)) root r.1
+        (in_more scope x (ControlName Index) p.0 there)
+        (λ y h. misses y (or_right (y == x.id) (has_binder b y) h))))
     step_catches_none (Alloc x cell dims memory) scope root ok there misses = refl
     step_catches_none (View w x coords) scope root ok there misses = refl
     step_catches_none (Call k args) scope root ok there misses =
@@ -211,7 +211,7 @@ module _ (hidden : ℕ → Bool) where
     binders_are_shown (next a b) k y h =
         let p = or_parts (step_mentions hidden a) (mentions hidden b) k in
         either (step_has_binder a y) (has_binder b y) _ h (step_binders_are_shown a p.0 y)
-            (binders_are_shown b p.1 y)
+        (binders_are_shown b p.1 y)
 
     step_binders_are_shown : (a : Statement) → step_mentions hidden a ≡ false → (y : ℕ)
         → step_has_binder a y ≡ true → hidden y ≡ false
@@ -223,11 +223,11 @@ module _ (hidden : ℕ → Bool) where
         let p = or_parts (condition_mentions hidden c) (mentions hidden a || mentions hidden b) k in
         let q = or_parts (mentions hidden a) (mentions hidden b) p.1 in
         either (has_binder a y) (has_binder b y) _ h (binders_are_shown a q.0 y)
-            (binders_are_shown b q.1 y)
+        (binders_are_shown b q.1 y)
     step_binders_are_shown (For x lo hi b) k y h =
         let p = or_parts (hidden x.id) _ k in
         let q = or_parts (control_mentions hidden lo)
-            (control_mentions hidden hi || mentions hidden b) p.1 in
+        (control_mentions hidden hi || mentions hidden b) p.1 in
         let r = or_parts (control_mentions hidden hi) (mentions hidden b) q.1 in
         either (y == x.id) (has_binder b y) _ h (λ e. own x.id y e p.0) (binders_are_shown b r.1 y)
     step_binders_are_shown (Alloc x cell dims memory) k y h =

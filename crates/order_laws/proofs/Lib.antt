@@ -7,6 +7,7 @@ pub mod Caught
 pub mod PartedLoops
 pub mod PartedPlaces
 pub mod WrittenFirst
+pub mod WrittenPlaces
 pub mod TurnExamples
 pub mod PartedExamples
 pub mod Overwrite

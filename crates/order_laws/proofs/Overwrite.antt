@@ -31,9 +31,8 @@ use Rattle.exo_meaning.specs.Units.{field_kind, AreProcedures}
 use Rattle.exo_meaning.proofs.Both.{both_then, both_map}
 use Rattle.exo_meaning.proofs.Cells.{there_is}
 use Rattle.exo_meaning.proofs.Frame.{if_then, if_map, if_where, any, if_weaken, or_parts}
-use Rattle.exo_meaning.proofs.Frame.{updated_other, root_of, place_root, window_root, more_roots}
+use Rattle.exo_meaning.proofs.Frame.{updated_other, root_of, place_root, window_root}
 use Rattle.exo_meaning.proofs.Windows.{cell_at_index}
-use Rattle.meaning_laws.specs.Sound.{IsSameName}
 use Rattle.meaning_laws.specs.Live.{read_by_control, read_by_controls, read_by_condition}
 use Rattle.meaning_laws.specs.Live.{read_by_datum, read_by_coords, read_by_argument}
 use Rattle.meaning_laws.specs.Live.{read_by_arguments, live, live_step, Agree}
@@ -43,12 +42,12 @@ use Rattle.meaning_laws.specs.Touched.{Mode, Reading, Reducing, Modes, reads_fro
 use Rattle.meaning_laws.specs.Touched.{has_mode, step_has_mode, modes_at, modes_in, all_modes}
 use Rattle.meaning_laws.specs.Touched.{unit_modes}
 use Rattle.meaning_laws.proofs.Parts.{none_some, some_injective}
-use Rattle.meaning_laws.proofs.Names.{if_gives, step_names}
+use Rattle.meaning_laws.proofs.Names.{if_gives}
 use Rattle.meaning_laws.proofs.Facts.{or_left, or_right}
 use Rattle.meaning_laws.proofs.FirstState.{Differ, params_differ}
 use Rattle.meaning_laws.proofs.Live.{fewer, left_of, right_of, number_live, numbers_live, two_live}
 use Rattle.meaning_laws.proofs.Live.{holds_live, window_live, place_live, argument_live}
-use Rattle.scope_laws.proofs.Roots.{same_roots, roots_next}
+use Rattle.scope_laws.proofs.Roots.{roots_next}
 use Rattle.order_laws.specs.Overwrite.{SetOrKept, AreSet, AreKept, DifferIn, SetAlike, OverwriteLaw}
 
 -- ---- set or kept
@@ -93,13 +92,13 @@ redone g d s = record { scene = record s.scene { fields = g }; cells = d }
 
 -- from fields f and cells c, and from g and d
 record Done (out : ℕ → Bool) (f : ℕ → ℤ) (c : Cells) (g : ℕ → ℤ) (d : Cells) (t w : State) : Type 0
-    where
-  fields : ℕ → ℤ
-  values : Cells
-  same : w ≡ redone fields values t
-  agree : Agree out t.scene.fields fields
-  numbers : (z : ℕ) → SetOrKept (f z) (g z) (t.scene.fields z) (fields z)
-  cells : (x : ℕ) (at : List ℤ) → SetOrKept (c x at) (d x at) (t.cells x at) (values x at)
+  where
+    fields : ℕ → ℤ
+    values : Cells
+    same : w ≡ redone fields values t
+    agree : Agree out t.scene.fields fields
+    numbers : (z : ℕ) → SetOrKept (f z) (g z) (t.scene.fields z) (fields z)
+    cells : (x : ℕ) (at : List ℤ) → SetOrKept (c x at) (d x at) (t.cells x at) (values x at)
 
 both_goes : {A B : Type 0} (R S : A → B → Type 0) (o : Option A) (p : Option B) → Both R o p
     → ((a : A) (b : B) → R a b → S a b) → Both S o p
@@ -142,9 +141,9 @@ module _ (hidden : ℕ → Bool) where
     then_done (Some t) (Some w) k h j =
         subst (λ z. Both (Done out f c g d) (k t) (k z)) (sym h.same)
         (both_goes (Done out t.scene.fields t.cells h.fields h.values) (Done out f c g d) (k t)
-            (k (redone h.fields h.values t)) (j t h.fields h.values refl h.agree
-            (off_after c d t.cells h.values off h.cells))
-            (λ a b n. onward mid out f c g d t w a b h n))
+        (k (redone h.fields h.values t)) (j t h.fields h.values refl h.agree
+        (off_after c d t.cells h.values off h.cells))
+        (λ a b n. onward mid out f c g d t w a b h n))
 
 module _ (out : ℕ → Bool) (s : State) (g : ℕ → ℤ) (d : Cells) where
   abbrev DoneFrom : State → State → Type 0
@@ -165,13 +164,13 @@ module _ (out : ℕ → Bool) (s : State) (g : ℕ → ℤ) (d : Cells) where
       → Both DoneFrom (option_map (left s) o) (option_map (left (redone g d s)) p)
   left_done o p h = both_map DoneFrom DoneFrom o p (left s) (left (redone g d s)) h
       (λ a b n. record {
-    fields = n.fields;
-    values = λ x. kept (s.scene.buffers x) (n.values x);
-    same = ap (left (redone g d s)) n.same;
-    agree = n.agree;
-    numbers = n.numbers;
-    cells = λ x at. go x at a b n (s.scene.buffers x);
-  })
+        fields = n.fields;
+        values = λ x. kept (s.scene.buffers x) (n.values x);
+        same = ap (left (redone g d s)) n.same;
+        agree = n.agree;
+        numbers = n.numbers;
+        cells = λ x at. go x at a b n (s.scene.buffers x);
+      })
     where
       go : (x : ℕ) (at : List ℤ) (a b : State) (n : DoneFrom a b) (o : Option Shape)
           → SetOrKept (s.cells x at) (d x at) (kept o (a.cells x) at) (kept o (n.values x) at)
@@ -205,8 +204,15 @@ module _ (out : ℕ → Bool) (s : State) (g : ℕ → ℤ) (d : Cells) where
 
       go : (t : Bool) → Both DoneFrom (where_true t (Some (on_scene (with_field z n) s)))
           (where_true t (Some (on_scene (with_field z n) (redone g d s))))
-      go true = record { fields = updated g z n; values = d; same = refl; agree = λ f k. agree f
-          (f == z) refl k; numbers = λ f. set f (f == z); cells = λ x at. AreKept refl refl }
+      go true = record {
+        fields = updated g z n;
+        values = d;
+        same = refl;
+        agree = λ f k. agree f
+            (f == z) refl k;
+        numbers = λ f. set f (f == z);
+        cells = λ x at. AreKept refl refl;
+      }
       go false = tt
 
   allocated_done : (x : ℕ) (cell : Cell) (dims : List ℤ) → Agree out s.scene.fields g → (t : Bool)
@@ -323,13 +329,13 @@ module _ (hidden : ℕ → Bool) (root : ℕ → ℕ) (s : State) (roots : HasRo
         let p = two (root_reads a) in_bce (field_reads a) of_bce h in
         let q = two (root_reads b) in_ce (field_reads b) of_ce p in
         ap₂ (λ o w. then_do o (λ x. then_do w (λ v. then_do (value (redone g d s) c)
-            (λ y. option_map (on_four selected x v y) (value (redone g d s) e)))))
-            (value_done a (one (root_reads a) in_bce (field_reads a) of_bce h))
-            (value_done b (one (root_reads b) in_ce (field_reads b) of_ce p))
+        (λ y. option_map (on_four selected x v y) (value (redone g d s) e)))))
+        (value_done a (one (root_reads a) in_bce (field_reads a) of_bce h))
+        (value_done b (one (root_reads b) in_ce (field_reads b) of_ce p))
         ∙ ap₂ (λ o w. then_do (value s a) (λ x. then_do (value s b)
-            (λ v. then_do o (λ y. option_map (on_four selected x v y) w))))
-            (value_done c (one (root_reads c) (root_reads e) (field_reads c) (field_reads e) q))
-            (value_done e (two (root_reads c) (root_reads e) (field_reads c) (field_reads e) q))
+        (λ v. then_do o (λ y. option_map (on_four selected x v y) w))))
+        (value_done c (one (root_reads c) (root_reads e) (field_reads c) (field_reads e) q))
+        (value_done e (two (root_reads c) (root_reads e) (field_reads c) (field_reads e) q))
 
   -- a whole assignment or reduction
   store_done : (out : ℕ → Bool) (g : ℕ → ℤ) (k : Value → Value → Value) (x : ℕ) (is : List Control)
@@ -343,20 +349,23 @@ module _ (hidden : ℕ → Bool) (root : ℕ → ℕ) (s : State) (roots : HasRo
   store_done out g k x is e h st a =
       let reads = left_of g s.scene (λ f. read_by_controls f is || read_by_datum f e) out a in
       subst (λ o. Both (Done out s.scene.fields s.cells g d)
-          (then_do (place s.scene x is) (λ p. then_do (value s e) (λ v. put s (k v) p)))
-          (then_do o (λ p. then_do (value (redone g d s) e) (λ v. put (redone g d s) (k v) p))))
-          (sym (place_live g s.scene x is (left_of g s.scene (λ f. read_by_controls f is)
-          (λ f. read_by_datum f e) reads)))
+      (then_do (place s.scene x is) (λ p. then_do (value s e) (λ v. put s (k v) p)))
+      (then_do o (λ p. then_do (value (redone g d s) e) (λ v. put (redone g d s) (k v) p))))
+      (sym (place_live g s.scene x is (left_of g s.scene (λ f. read_by_controls f is)
+      (λ f. read_by_datum f e) reads)))
       (subst (λ q. Both (Done out s.scene.fields s.cells g d)
-          (then_do (place s.scene x is) (λ p. then_do (value s e) (λ v. put s (k v) p)))
-          (then_do (place s.scene x is) (λ p. then_do q (λ v. put (redone g d s) (k v) p))))
-          (sym (value_done g e (h, right_of g s.scene (λ f. read_by_controls f is)
-          (λ f. read_by_datum f e) reads)))
+      (then_do (place s.scene x is) (λ p. then_do (value s e) (λ v. put s (k v) p)))
+      (then_do (place s.scene x is) (λ p. then_do q (λ v. put (redone g d s) (k v) p))))
+      (sym (value_done g e (
+        h,
+        right_of g s.scene (λ f. read_by_controls f is)
+            (λ f. read_by_datum f e) reads,
+      )))
       (stored_done out s g d k (value s e) (right_of g s.scene
-          (λ f. read_by_controls f is || read_by_datum f e) out a) (place s.scene x is)
+      (λ f. read_by_controls f is || read_by_datum f e) out a) (place s.scene x is)
       (if_weaken (λ p. p.buffer ≡ root x) (λ p. (v : Value) (at : List ℤ)
-          → k v (s.cells p.buffer at) ≡ k v (d p.buffer at)) (place s.scene x is)
-          (place_root root s.scene roots x is) (λ p r. st p.buffer r))))
+      → k v (s.cells p.buffer at) ≡ k v (d p.buffer at)) (place s.scene x is)
+      (place_root root s.scene roots x is) (λ p r. st p.buffer r))))
 
 -- ---- loops
 
@@ -371,12 +380,12 @@ module _ (hidden : ℕ → Bool) (root : ℕ → ℕ) (out : ℕ → Bool) (i : 
   turns_done [] = λ s g d r h off. unchanged out s g d s refl refl h
   turns_done (n ∷ ns) = λ s g d r h off.
       then_done hidden out out s.scene.fields s.cells g d off (turn i body n s)
-          (turn i body n (redone g d s)) (turns (turn i body) ns)
+      (turn i body n (redone g d s)) (turns (turn i body) ns)
       (left_done out s g d (body (on_scene (with_control i n) s))
-          (body (on_scene (with_control i n) (redone g d s)))
-          (ok (on_scene (with_control i n) s) g d r h off))
+      (body (on_scene (with_control i n) (redone g d s)))
+      (ok (on_scene (with_control i n) s) g d r h off))
       (λ t z e is k o. turns_done ns t z e (if_gives (λ (t : State). HasRoots root t.scene)
-          (turn i body n s) t (left_roots root s (on_scene (with_control i n) s) body r) is) k o)
+      (turn i body n s) t (left_roots root s (on_scene (with_control i n) s) body r) is) k o)
 
 -- ---- arguments
 
@@ -427,11 +436,12 @@ module _ (hidden : ℕ → Bool) where
       → ((x : ℕ) → hides ps gs x ≡ true → inner x ≡ true) → AllHidden inner ps gs
   all_hidden inner [] gs h = tt
   all_hidden inner (p ∷ ps) [] h = tt
-  all_hidden inner (p ∷ ps) (g ∷ gs) h =
-      (λ k. h p.binder.id (or_left ((p.binder.id == p.binder.id) && sees g)
-          (hides ps gs p.binder.id) (ap₂ (λ a b. a && b) (eq-eqb p.binder.id p.binder.id refl) k)),
-      all_hidden inner ps gs (λ x k. h x (or_right ((x == p.binder.id) && sees g) (hides ps gs x)
-          k)))
+  all_hidden inner (p ∷ ps) (g ∷ gs) h = (
+    λ k. h p.binder.id (or_left ((p.binder.id == p.binder.id) && sees g)
+        (hides ps gs p.binder.id) (ap₂ (λ a b. a && b) (eq-eqb p.binder.id p.binder.id refl) k)),
+    all_hidden inner ps gs (λ x k. h x (or_right ((x == p.binder.id) && sees g) (hides ps gs x)
+        k)),
+  )
 
   module _ (root : ℕ → ℕ) (scene : Scene) (roots : HasRoots root scene) (mode : ℕ → Bool) where
     seen_free : (x r : ℕ) (b : ℕ) → b ≡ r → Free hidden (λ y. mode x && (y == r)) → hidden b ≡ true
@@ -462,14 +472,14 @@ module _ (hidden : ℕ → Bool) where
     all_free (p ∷ ps) [] h = λ x k. absurd (true≢false (sym k))
     all_free (p ∷ ps) (a ∷ args) h =
         if_then (λ g. sees g ≡ true → mode p.binder.id ≡ false)
-            (λ gs. Free (hides (p ∷ ps) gs) mode) (given scene a) _
-            (one_free p.binder.id a (first_free hidden (λ y. mode p.binder.id && is_root root y a)
-            (λ y. call_writes mode root y ps args) h)) (λ g one.
+        (λ gs. Free (hides (p ∷ ps) gs) mode) (given scene a) _
+        (one_free p.binder.id a (first_free hidden (λ y. mode p.binder.id && is_root root y a)
+        (λ y. call_writes mode root y ps args) h)) (λ g one.
         if_map (λ gs. Free (hides ps gs) mode) (λ gs. Free (hides (p ∷ ps) gs) mode)
-            (all_given scene args) (λ gs. g ∷ gs)
-            (all_free ps args (rest_free hidden (λ y. mode p.binder.id && is_root root y a)
-            (λ y. call_writes mode root y ps args) h))
-            (λ gs rest x k. go g one gs rest x (x == p.binder.id) (eqb-true x p.binder.id) k))
+        (all_given scene args) (λ gs. g ∷ gs)
+        (all_free ps args (rest_free hidden (λ y. mode p.binder.id && is_root root y a)
+        (λ y. call_writes mode root y ps args) h))
+        (λ gs rest x k. go g one gs rest x (x == p.binder.id) (eqb-true x p.binder.id) k))
       where
         go : (g : Given) → (sees g ≡ true → mode p.binder.id ≡ false) → (gs : List Given)
             → Free (hides ps gs) mode → (x : ℕ) (t : Bool) → (t ≡ true → x ≡ p.binder.id)
@@ -504,95 +514,96 @@ own_root scene x shape h y seen e = go (y == x) (eqb-true y x) e
     go false same k = h y seen k
 
 module _ (hidden inner : ℕ → Bool) (s : State) (g : ℕ → ℤ) (d : Cells) (off : Off hidden s.cells d)
-    where
-  abbrev Enters : State → State → Type 0
-  Enters = Entered inner s.scene.fields g
+  where
+    abbrev Enters : State → State → Type 0
+    Enters = Entered inner s.scene.fields g
 
-  same_contents : (z : Seen) → hidden z.buffer ≡ false → contents d z ≡ contents s.cells z
-  same_contents z h = fun_ext (λ is. ap (λ (y : List ℤ → Value). held_at y (cell_at z.sides is))
-      (off z.buffer h))
+    same_contents : (z : Seen) → hidden z.buffer ≡ false → contents d z ≡ contents s.cells z
+    same_contents z h = fun_ext (λ is. ap (λ (y : List ℤ → Value). held_at y (cell_at z.sides is))
+        (off z.buffer h))
 
-  module _ (t : State) (e : Cells) (k : Off inner t.cells e) (roots : HasRoots (λ x. x) t.scene)
-      (first : t.scene.fields ≡ s.scene.fields) where
-    copy_done : (x : ℕ) (cell : Cell) (ds : List ℤ) (y : Given)
-        → (sees hidden y ≡ true → inner x ≡ true)
-        → Both Enters (copy_in s x cell ds y t) (copy_in (redone g d s) x cell ds y (redone g e t))
-    copy_done x cell ds (GivenNumber n) h = tt
-    copy_done x cell ds (GivenView z) h = go (same_index ds (extents z.sides) && all_positive ds)
-      where
-        shape : Shape
-        shape = record { cell = cell; dims = ds; strides = strides_seen s.scene z }
+    module _ (t : State) (e : Cells) (k : Off inner t.cells e) (roots : HasRoots (λ x. x) t.scene)
+        (first : t.scene.fields ≡ s.scene.fields) where
+      copy_done : (x : ℕ) (cell : Cell) (ds : List ℤ) (y : Given)
+          → (sees hidden y ≡ true → inner x ≡ true)
+          → Both Enters (copy_in s x cell ds y t)
+          (copy_in (redone g d s) x cell ds y (redone g e t))
+      copy_done x cell ds (GivenNumber n) h = tt
+      copy_done x cell ds (GivenView z) h = go (same_index ds (extents z.sides) && all_positive ds)
+        where
+          shape : Shape
+          shape = record { cell = cell; dims = ds; strides = strides_seen s.scene z }
 
-        look : (t : Bool) → hidden z.buffer ≡ t → inner x ≡ false
-            → contents d z ≡ contents s.cells z
-        look true e k = absurd (true≢false (sym (h e) ∙ k))
-        look false e k = same_contents z e
+          look : (t : Bool) → hidden z.buffer ≡ t → inner x ≡ false
+              → contents d z ≡ contents s.cells z
+          look true e k = absurd (true≢false (sym (h e) ∙ k))
+          look false e k = same_contents z e
 
-        at_name : (b : ℕ) (q : Bool) → (q ≡ true → b ≡ x) → inner b ≡ false
-            → cond {A = List ℤ → Value} q (contents d z) (e b) ≡ cond q (contents s.cells z)
-            (t.cells b)
-        at_name b false same j = k b j
-        at_name b true same j = look (hidden z.buffer) refl (ap inner (sym (same refl)) ∙ j)
+          at_name : (b : ℕ) (q : Bool) → (q ≡ true → b ≡ x) → inner b ≡ false
+              → cond {A = List ℤ → Value} q (contents d z) (e b) ≡ cond q (contents s.cells z)
+              (t.cells b)
+          at_name b false same j = k b j
+          at_name b true same j = look (hidden z.buffer) refl (ap inner (sym (same refl)) ∙ j)
 
-        go : (test : Bool) → Both Enters (where_true test
-            (Some (with_contents x (contents s.cells z) (on_scene (with_buffer x shape) t))))
-            (where_true test (Some (with_contents x (contents d z)
-            (on_scene (with_buffer x shape) (redone g e t)))))
-        go false = tt
-        go true = record {
-          values = updated e x (contents d z);
-          same = refl;
-          off = λ b j. at_name b (b == x) (eqb-true b x) j;
-          roots = own_root t.scene x shape roots;
-          first = first;
-        }
+          go : (test : Bool) → Both Enters (where_true test
+              (Some (with_contents x (contents s.cells z) (on_scene (with_buffer x shape) t))))
+              (where_true test (Some (with_contents x (contents d z)
+              (on_scene (with_buffer x shape) (redone g e t)))))
+          go false = tt
+          go true = record {
+            values = updated e x (contents d z);
+            same = refl;
+            off = λ b j. at_name b (b == x) (eqb-true b x) j;
+            roots = own_root t.scene x shape roots;
+            first = first;
+          }
 
-    bound_done : (x : ℕ) (kind : ParamKind) (y : Given) → (sees hidden y ≡ true → inner x ≡ true)
-        → Agree (λ f. read_by_kind f kind) s.scene.fields g
-        → Both Enters (bind_buffer s x kind y t)
-        (bind_buffer (redone g d s) x kind y (redone g e t))
-    bound_done x (ControlParam kind) y h a = record
+      bound_done : (x : ℕ) (kind : ParamKind) (y : Given) → (sees hidden y ≡ true → inner x ≡ true)
+          → Agree (λ f. read_by_kind f kind) s.scene.fields g
+          → Both Enters (bind_buffer s x kind y t)
+          (bind_buffer (redone g d s) x kind y (redone g e t))
+      bound_done x (ControlParam kind) y h a = record
+          { values = e; same = refl; off = k; roots = roots; first = first }
+      bound_done x (TensorParam cell dims memory) y h a = subst
+          (λ ds. Both Enters (bind_buffer s x (TensorParam cell dims memory) y t)
+          (copy_in (redone g d s) x cell ds y (redone g e t)))
+          (sym (numbers_live g t.scene dims (subst (λ q. Agree (λ f. read_by_controls f dims) q g)
+          (sym first) a))) (copy_done x cell (numbers t.scene dims) y h)
+      bound_done x (WindowParam cell dims memory) y h a = subst
+          (λ ds. Both Enters (bind_buffer s x (WindowParam cell dims memory) y t)
+          (copy_in (redone g d s) x cell ds y (redone g e t)))
+          (sym (numbers_live g t.scene dims (subst (λ q. Agree (λ f. read_by_controls f dims) q g)
+          (sym first) a))) (copy_done x cell (numbers t.scene dims) y h)
+
+    all_bound_done : (ps : List Param) (gs : List Given) → AllHidden hidden inner ps gs
+        → Agree (λ f. read_by_params f ps) s.scene.fields g → (t : State) (e : Cells)
+        → Off inner t.cells e → HasRoots (λ x. x) t.scene → t.scene.fields ≡ s.scene.fields
+        → Both Enters (bind_buffers s ps gs t) (bind_buffers (redone g d s) ps gs (redone g e t))
+    all_bound_done [] gs h a t e k roots first = record
         { values = e; same = refl; off = k; roots = roots; first = first }
-    bound_done x (TensorParam cell dims memory) y h a = subst
-        (λ ds. Both Enters (bind_buffer s x (TensorParam cell dims memory) y t)
-        (copy_in (redone g d s) x cell ds y (redone g e t)))
-        (sym (numbers_live g t.scene dims (subst (λ q. Agree (λ f. read_by_controls f dims) q g)
-        (sym first) a))) (copy_done x cell (numbers t.scene dims) y h)
-    bound_done x (WindowParam cell dims memory) y h a = subst
-        (λ ds. Both Enters (bind_buffer s x (WindowParam cell dims memory) y t)
-        (copy_in (redone g d s) x cell ds y (redone g e t)))
-        (sym (numbers_live g t.scene dims (subst (λ q. Agree (λ f. read_by_controls f dims) q g)
-        (sym first) a))) (copy_done x cell (numbers t.scene dims) y h)
+    all_bound_done (p ∷ ps) [] h a t e k roots first = tt
+    all_bound_done (p ∷ ps) (y ∷ gs) h a t e k roots first =
+        both_then Enters Enters (bind_buffer s p.binder.id p.kind y t)
+        (bind_buffer (redone g d s) p.binder.id p.kind y (redone g e t)) (bind_buffers s ps gs)
+        (bind_buffers (redone g d s) ps gs)
+        (bound_done t e k roots first p.binder.id p.kind y h.0
+        (left_of g s.scene (λ f. read_by_kind f p.kind) (λ f. read_by_params f ps) a))
+        (λ u w n. subst (λ z. Both Enters (bind_buffers s ps gs u)
+        (bind_buffers (redone g d s) ps gs z)) (sym n.same)
+        (all_bound_done ps gs h.1 (right_of g s.scene (λ f. read_by_kind f p.kind)
+        (λ f. read_by_params f ps) a) u n.values n.off n.roots n.first))
 
-  all_bound_done : (ps : List Param) (gs : List Given) → AllHidden hidden inner ps gs
-      → Agree (λ f. read_by_params f ps) s.scene.fields g → (t : State) (e : Cells)
-      → Off inner t.cells e → HasRoots (λ x. x) t.scene → t.scene.fields ≡ s.scene.fields
-      → Both Enters (bind_buffers s ps gs t) (bind_buffers (redone g d s) ps gs (redone g e t))
-  all_bound_done [] gs h a t e k roots first = record
-      { values = e; same = refl; off = k; roots = roots; first = first }
-  all_bound_done (p ∷ ps) [] h a t e k roots first = tt
-  all_bound_done (p ∷ ps) (y ∷ gs) h a t e k roots first =
-      both_then Enters Enters (bind_buffer s p.binder.id p.kind y t)
-          (bind_buffer (redone g d s) p.binder.id p.kind y (redone g e t)) (bind_buffers s ps gs)
-          (bind_buffers (redone g d s) ps gs)
-      (bound_done t e k roots first p.binder.id p.kind y h.0
-          (left_of g s.scene (λ f. read_by_kind f p.kind) (λ f. read_by_params f ps) a))
-      (λ u w n. subst (λ z. Both Enters (bind_buffers s ps gs u)
-          (bind_buffers (redone g d s) ps gs z)) (sym n.same)
-          (all_bound_done ps gs h.1 (right_of g s.scene (λ f. read_by_kind f p.kind)
-          (λ f. read_by_params f ps) a) u n.values n.off n.roots n.first))
-
-  entered_done : (ps : List Param) (gs : List Given) → AllHidden hidden inner ps gs
-      → Agree (λ f. read_by_params f ps) s.scene.fields g
-      → Both Enters (entered ps gs s) (entered ps gs (redone g d s))
-  entered_done ps gs h a = go (bind_numbers ps gs (λ x. pos 0))
-    where
-      go : (o : Option (ℕ → ℤ)) → Both Enters (then_do o
-          (λ control. bind_buffers s ps gs (bare control s.scene.fields)))
-          (then_do o (λ control. bind_buffers (redone g d s) ps gs (bare control g)))
-      go None = tt
-      go (Some c) = all_bound_done ps gs h a (bare c s.scene.fields) (λ b at. Undefined)
-          (λ x k. refl) (λ x seen e. absurd (none_some e)) refl
+    entered_done : (ps : List Param) (gs : List Given) → AllHidden hidden inner ps gs
+        → Agree (λ f. read_by_params f ps) s.scene.fields g
+        → Both Enters (entered ps gs s) (entered ps gs (redone g d s))
+    entered_done ps gs h a = go (bind_numbers ps gs (λ x. pos 0))
+      where
+        go : (o : Option (ℕ → ℤ)) → Both Enters (then_do o
+            (λ control. bind_buffers s ps gs (bare control s.scene.fields)))
+            (then_do o (λ control. bind_buffers (redone g d s) ps gs (bare control g)))
+        go None = tt
+        go (Some c) = all_bound_done ps gs h a (bare c s.scene.fields) (λ b at. Undefined)
+            (λ x k. refl) (λ x seen e. absurd (none_some e)) refl
 
 -- ---- what the copies hold
 
@@ -651,17 +662,31 @@ module _ (s : State) where
       (OneCopied x (TensorParam cell dims memory) (GivenView z) t)
       (same_index (numbers t.scene dims) (extents z.sides) && all_positive (numbers t.scene dims))
       (Some (with_contents x (contents s.cells z)
-      (on_scene (with_buffer x (record { cell = cell; dims = numbers t.scene dims; strides =
-      strides_seen s.scene z })) t))) (λ b e. updated_other t.cells x (contents s.cells z) b e, ap
-      (λ q. cond {A = List ℤ → Value} q (contents s.cells z) (t.cells x)) (eq-eqb x x refl))
+      (on_scene (with_buffer x (record {
+        cell = cell;
+        dims = numbers t.scene dims;
+        strides =
+            strides_seen s.scene z;
+      })) t))) (
+        λ b e. updated_other t.cells x (contents s.cells z) b e,
+        ap
+            (λ q. cond {A = List ℤ → Value} q (contents s.cells z) (t.cells x)) (eq-eqb x x refl),
+      )
   one_copied x (WindowParam cell dims memory) (GivenNumber n) t = tt
   one_copied x (WindowParam cell dims memory) (GivenView z) t = if_where
       (OneCopied x (WindowParam cell dims memory) (GivenView z) t)
       (same_index (numbers t.scene dims) (extents z.sides) && all_positive (numbers t.scene dims))
       (Some (with_contents x (contents s.cells z)
-      (on_scene (with_buffer x (record { cell = cell; dims = numbers t.scene dims; strides =
-      strides_seen s.scene z })) t))) (λ b e. updated_other t.cells x (contents s.cells z) b e, ap
-      (λ q. cond {A = List ℤ → Value} q (contents s.cells z) (t.cells x)) (eq-eqb x x refl))
+      (on_scene (with_buffer x (record {
+        cell = cell;
+        dims = numbers t.scene dims;
+        strides =
+            strides_seen s.scene z;
+      })) t))) (
+        λ b e. updated_other t.cells x (contents s.cells z) b e,
+        ap
+            (λ q. cond {A = List ℤ → Value} q (contents s.cells z) (t.cells x)) (eq-eqb x x refl),
+      )
 
   abbrev Copied : List Param → List Given → State → State → Type 0
   Copied ps gs t u = ((b : ℕ) → is_buffer_of b ps ≡ false → u.cells b ≡ t.cells b) × AreCopies ps gs
@@ -673,12 +698,14 @@ module _ (s : State) where
   all_copied (p ∷ ps) [] t df = tt
   all_copied (p ∷ ps) (g ∷ gs) t df =
       if_then (OneCopied p.binder.id p.kind g t) (Copied (p ∷ ps) (g ∷ gs) t)
-          (bind_buffer s p.binder.id p.kind g t) (bind_buffers s ps gs)
-          (one_copied p.binder.id p.kind g t) (λ u k.
+      (bind_buffer s p.binder.id p.kind g t) (bind_buffers s ps gs)
+      (one_copied p.binder.id p.kind g t) (λ u k.
       if_weaken (Copied ps gs u) (Copied (p ∷ ps) (g ∷ gs) t) (bind_buffers s ps gs u)
-          (all_copied ps gs u df.1) (λ w l.
-      (λ b e. let q = or_parts (b == p.binder.id) (is_buffer_of b ps) e in l.0 b q.1
-          ∙ k.0 b q.0, (subst (IsCopy p.kind g) (sym (l.0 p.binder.id df.0)) k.1, l.1))))
+      (all_copied ps gs u df.1) (λ w l. (
+        λ b e. let q = or_parts (b == p.binder.id) (is_buffer_of b ps) e in l.0 b q.1
+            ∙ k.0 b q.0,
+        (subst (IsCopy p.kind g) (sym (l.0 p.binder.id df.0)) k.1, l.1),
+      )))
 
   entered_copied : (ps : List Param) (gs : List Given) → Differ ps
       → IfSome (entered ps gs s) (λ inner. AllFit ps gs × AreCopies ps gs inner.cells)
@@ -710,7 +737,7 @@ module _ (s : State) (g : ℕ → ℤ) (d : Cells) (u w t v : Cells) (ends : All
   copied_cell kind x z fit k l at is e =
       subst (λ q. SetOrKept q (d z.buffer at) (t x is) (v x is)) (held kind s (u x) fit k)
       (subst (λ q. SetOrKept (u x is) q (t x is) (v x is)) (held kind (redone g d s) (w x) fit l)
-          (ends x is))
+      (ends x is))
     where
       held : (kind : ParamKind) (q : State) (f : List ℤ → Value) → Fits kind (GivenView z)
           → IsCopy q kind (GivenView z) f → f is ≡ q.cells z.buffer at
@@ -778,16 +805,16 @@ module _ (hidden : ℕ → Bool) (c : Callee) (modes : Modes) (before : ℕ → 
         (option_map (returned c gs (redone g d s)) p)
     at_end o p h = both_map (Done out inner.scene.fields inner.cells g n.values) Returns o p
         (returned c gs s) (returned c gs (redone g d s)) h (λ t v m. record {
-      fields = m.fields;
-      values = copied_back c.writes c.procedure.params gs m.values d;
-      same = ap (returned c gs (redone g d s)) m.same;
-      agree = m.agree;
-      numbers = λ z. subst (λ q. SetOrKept (q z) (g z) (t.scene.fields z) (m.fields z)) n.first
-          (m.numbers z);
-      cells = all_back s g d inner.cells n.values t.cells m.values m.cells c.writes
-          c.procedure.params gs fit k (subst (λ (q : State). AreCopies (redone g d s)
-          c.procedure.params gs q.cells) n.same l) s.cells d (λ x at. AreKept refl refl);
-    })
+          fields = m.fields;
+          values = copied_back c.writes c.procedure.params gs m.values d;
+          same = ap (returned c gs (redone g d s)) m.same;
+          agree = m.agree;
+          numbers = λ z. subst (λ q. SetOrKept (q z) (g z) (t.scene.fields z) (m.fields z)) n.first
+              (m.numbers z);
+          cells = all_back s g d inner.cells n.values t.cells m.values m.cells c.writes
+              c.procedure.params gs fit k (subst (λ (q : State). AreCopies (redone g d s)
+              c.procedure.params gs q.cells) n.same l) s.cells d (λ x at. AreKept refl refl);
+        })
 
     ends : Free (hides hidden c.procedure.params gs) (modes Reading)
         → Free (hides hidden c.procedure.params gs) (modes Reducing)
@@ -795,17 +822,17 @@ module _ (hidden : ℕ → Bool) (c : Callee) (modes : Modes) (before : ℕ → 
         (option_map (returned c gs (redone g d s)) (run_asserted c w))
     ends reads reduces =
         let known : Agree (λ f. before f (out f)) inner.scene.fields g = subst
-            (λ q. Agree (λ f. before f (out f)) q g) (sym n.first) alive in
+        (λ q. Agree (λ f. before f (out f)) q g) (sym n.first) alive in
         subst (λ z. Both Returns (option_map (returned c gs s) (run_asserted c inner))
-            (option_map (returned c gs (redone g d s)) (run_asserted c z))) (sym n.same)
+        (option_map (returned c gs (redone g d s)) (run_asserted c z))) (sym n.same)
         (subst (λ q. Both Returns (option_map (returned c gs s) (run_asserted c inner))
-            (option_map (returned c gs (redone g d s))
-            (where_true q (c.run (redone g n.values inner)))))
-            (sym (all_hold_done g inner.scene c.procedure.asserts
-            (λ f e. known f (well.asserts f (out f) e))))
+        (option_map (returned c gs (redone g d s))
+        (where_true q (c.run (redone g n.values inner)))))
+        (sym (all_hold_done g inner.scene c.procedure.asserts
+        (λ f e. known f (well.asserts f (out f) e))))
         (go (all_hold inner.scene c.procedure.asserts)
-            (well.runs (hides hidden c.procedure.params gs) reads reduces out inner g n.values
-            n.roots known n.off)))
+        (well.runs (hides hidden c.procedure.params gs) reads reduces out inner g n.values
+        n.roots known n.off)))
       where
         go : (q : Bool) → Both (Done out inner.scene.fields inner.cells g n.values) (c.run inner)
             (c.run (redone g n.values inner)) → Both Returns
@@ -829,15 +856,15 @@ module _ (hidden : ℕ → Bool) (c : Callee) (modes : Modes) (before : ℕ → 
       let P = λ (u : State). AllFit ps gs × AreCopies s ps gs u.cells in
       let Q = λ (u : State). AllFit ps gs × AreCopies (redone g d s) ps gs u.cells in
       both_then (λ u w. Entered inner s.scene.fields g u w × (P u × Q w)) Returns (entered ps gs s)
-          (entered ps gs (redone g d s)) (λ inner. option_map (returned c gs s)
-          (run_asserted c inner)) (λ inner. option_map (returned c gs (redone g d s))
-          (run_asserted c inner))
+      (entered ps gs (redone g d s)) (λ inner. option_map (returned c gs s)
+      (run_asserted c inner)) (λ inner. option_map (returned c gs (redone g d s))
+      (run_asserted c inner))
       (both_with (Entered inner s.scene.fields g) P Q (entered ps gs s)
-          (entered ps gs (redone g d s))
-        (entered_done hidden inner s g d off ps gs (all_hidden hidden inner ps gs (λ x e. e))
-            (λ f e. alive f (well.params f (out f) e)))
-        (entered_copied s ps gs well.differ)
-        (entered_copied (redone g d s) ps gs well.differ))
+      (entered ps gs (redone g d s))
+      (entered_done hidden inner s g d off ps gs (all_hidden hidden inner ps gs (λ x e. e))
+      (λ f e. alive f (well.params f (out f) e)))
+      (entered_copied s ps gs well.differ)
+      (entered_copied (redone g d s) ps gs well.differ))
       (λ u w n. ends gs u w n.0 n.1.0.0 n.1.0.1 n.1.1.1 h k)
 
 call_done : (hidden : ℕ → Bool) (o : Option Callee) (modes : Modes) (before : ℕ → Bool → Bool)
@@ -850,13 +877,13 @@ call_done hidden None modes before well root args reads reduces out s g d roots 
 call_done hidden (Some c) modes before well root args reads reduces out s g d roots alive off =
     let ps = c.procedure.params in
     subst (λ q. Both (Done out s.scene.fields s.cells g d) (call_to (Some c) args s)
-        (then_do q (λ gs. then_do (entered ps gs (redone g d s))
-        (λ inner. option_map (returned c gs (redone g d s)) (run_asserted c inner)))))
-        (sym (all_given_done g d s args (left_of g s.scene (λ f. read_by_arguments f args)
-        (λ f. before f (out f)) alive)))
+    (then_do q (λ gs. then_do (entered ps gs (redone g d s))
+    (λ inner. option_map (returned c gs (redone g d s)) (run_asserted c inner)))))
+    (sym (all_given_done g d s args (left_of g s.scene (λ f. read_by_arguments f args)
+    (λ f. before f (out f)) alive)))
     (with_givens hidden c modes before (well c refl) out s g d off
-        (right_of g s.scene (λ f. read_by_arguments f args) (λ f. before f (out f)) alive)
-        (all_given s.scene args)
+    (right_of g s.scene (λ f. read_by_arguments f args) (λ f. before f (out f)) alive)
+    (all_given s.scene args)
     (all_free hidden root s.scene roots (modes Reading) ps args reads)
     (all_free hidden root s.scene roots (modes Reducing) ps args reduces))
 
@@ -886,9 +913,14 @@ module _ (world : World) (modes : ℕ → Modes) (calls : ℕ → ℕ → Bool �
   fewer_done : (more out : ℕ → Bool) → ((f : ℕ) → out f ≡ true → more f ≡ true)
       → (f : ℕ → ℤ) (c : Cells) (g : ℕ → ℤ) (d : Cells) (t w : State) → Done more f c g d t w
       → Done out f c g d t w
-  fewer_done more out k f c g d t w n = record
-      { fields = n.fields; values = n.values; same = n.same; agree = λ z e. n.agree z (k z e);
-      numbers = n.numbers; cells = n.cells }
+  fewer_done more out k f c g d t w n = record {
+    fields = n.fields;
+    values = n.values;
+    same = n.same;
+    agree = λ z e. n.agree z (k z e);
+    numbers = n.numbers;
+    cells = n.cells;
+  }
 
   mutual
     run_done : (b : Block) (root : ℕ → ℕ) → Free hidden (mode Reading root b)
@@ -899,15 +931,15 @@ module _ (world : World) (modes : ℕ → Modes) (calls : ℕ → ℕ → Bool �
         let after = roots_after a root in
         let mid = λ (f : ℕ). live calls f b (out f) in
         then_done hidden mid out s.scene.fields s.cells g d off (step world a s)
-            (step world a (redone g d s)) (run world b)
+        (step world a (redone g d s)) (run world b)
         (step_done a root (first_free hidden (step_mode Reading root a) (mode Reading after b)
-            reads) (first_free hidden (step_mode Reducing root a) (mode Reducing after b) reduces)
-            mid s g d roots h off)
+        reads) (first_free hidden (step_mode Reducing root a) (mode Reducing after b) reduces)
+        mid s g d roots h off)
         (λ t z e is k o. run_done b after (rest_free hidden (step_mode Reading root a)
-            (mode Reading after b) reads) (rest_free hidden (step_mode Reducing root a)
-            (mode Reducing after b) reduces) out t z e
-            (if_gives (λ (t : State). HasRoots after t.scene) (step world a s) t
-            (roots_next world a root s roots) is) k o)
+        (mode Reading after b) reads) (rest_free hidden (step_mode Reducing root a)
+        (mode Reducing after b) reduces) out t z e
+        (if_gives (λ (t : State). HasRoots after t.scene) (step world a s) t
+        (roots_next world a root s roots) is) k o)
 
     step_done : (a : Statement) (root : ℕ → ℕ) → Free hidden (step_mode Reading root a)
         → Free hidden (step_mode Reducing root a) → (out : ℕ → Bool)
@@ -920,63 +952,63 @@ module _ (world : World) (modes : ℕ → Modes) (calls : ℕ → ℕ → Bool �
         (sym (off b (not_hidden hidden b (root x) k reduces)))) h
     step_done (Config z a) root reads reduces out = λ s g d roots h off.
         subst (λ o. Both (Done out s.scene.fields s.cells g d) (step world (Config z a) s)
-            (then_do o (λ n. where_true (suits (world.kinds z) n)
-            (Some (on_scene (with_field z n) (redone g d s))))))
-            (sym (argument_live g s.scene a (left_of g s.scene (λ f. read_by_argument f a)
-            (λ f. cond (f == z) false (out f)) h)))
+        (then_do o (λ n. where_true (suits (world.kinds z) n)
+        (Some (on_scene (with_field z n) (redone g d s))))))
+        (sym (argument_live g s.scene a (left_of g s.scene (λ f. read_by_argument f a)
+        (λ f. cond (f == z) false (out f)) h)))
         (configured_done out s g d world z (right_of g s.scene (λ f. read_by_argument f a)
-            (λ f. cond (f == z) false (out f)) h) (argument_number s.scene a))
+        (λ f. cond (f == z) false (out f)) h) (argument_number s.scene a))
     step_done Pass root reads reduces out = λ s g d roots h off. unchanged out s g d s refl refl h
     step_done (If c a b) root reads reduces out = λ s g d roots h off.
         let in_a = λ (f : ℕ). live calls f a (out f) in
         let in_b = λ (f : ℕ). live calls f b (out f) in
         let rest = right_of g s.scene (λ f. read_by_condition f c)
-            (λ f. live calls f a (out f) || live calls f b (out f)) h in
+        (λ f. live calls f a (out f) || live calls f b (out f)) h in
         subst (λ t. Both (Done out s.scene.fields s.cells g d) (step world (If c a b) s)
-            (scoped (choose t (run world a) (run world b)) (redone g d s)))
-            (sym (holds_live g s.scene c (left_of g s.scene (λ f. read_by_condition f c)
-            (λ f. live calls f a (out f) || live calls f b (out f)) h)))
+        (scoped (choose t (run world a) (run world b)) (redone g d s)))
+        (sym (holds_live g s.scene c (left_of g s.scene (λ f. read_by_condition f c)
+        (λ f. live calls f a (out f) || live calls f b (out f)) h)))
         (chosen_done out s g d (run world a) (run world b)
         (run_done a root (first_free hidden (mode Reading root a) (mode Reading root b) reads)
-            (first_free hidden (mode Reducing root a) (mode Reducing root b) reduces) out s g d
-            roots (left_of g s.scene in_a in_b rest) off)
+        (first_free hidden (mode Reducing root a) (mode Reducing root b) reduces) out s g d
+        roots (left_of g s.scene in_a in_b rest) off)
         (run_done b root (rest_free hidden (mode Reading root a) (mode Reading root b) reads)
-            (rest_free hidden (mode Reducing root a) (mode Reducing root b) reduces) out s g d roots
-            (right_of g s.scene in_a in_b rest) off)
+        (rest_free hidden (mode Reducing root a) (mode Reducing root b) reduces) out s g d roots
+        (right_of g s.scene in_a in_b rest) off)
         (holds s.scene c))
     step_done (For i lo hi b) root reads reduces out = λ s g d roots h off.
         let bounds = left_of g s.scene (λ f. read_by_control f lo || read_by_control f hi)
-            (at_head b out) h in
+        (at_head b out) h in
         let rest = right_of g s.scene (λ f. read_by_control f lo || read_by_control f hi)
-            (at_head b out) h in
+        (at_head b out) h in
         let ns = turns_of s.scene lo hi in
         subst (λ ns. Both (Done out s.scene.fields s.cells g d) (step world (For i lo hi b) s)
-            (turns (turn i.id (run world b)) ns (redone g d s)))
-            (sym (two_live g s.scene (λ m n. range m (count (n -ℤ m))) lo hi bounds))
+        (turns (turn i.id (run world b)) ns (redone g d s)))
+        (sym (two_live g s.scene (λ m n. range m (count (n -ℤ m))) lo hi bounds))
         (both_goes (Done (at_head b out) s.scene.fields s.cells g d)
-            (Done out s.scene.fields s.cells g d) (turns (turn i.id (run world b)) ns s)
-            (turns (turn i.id (run world b)) ns (redone g d s))
+        (Done out s.scene.fields s.cells g d) (turns (turn i.id (run world b)) ns s)
+        (turns (turn i.id (run world b)) ns (redone g d s))
         (turns_done hidden root (at_head b out) i.id (run world b)
-            (λ t k e r j o. run_done b root reads reduces (at_head b out) t k e r
-            (fewer (λ f. live calls f b (at_head b out f)) (at_head b out) (head_live b out)
-            t.scene.fields k j) o) ns s g d roots rest off)
+        (λ t k e r j o. run_done b root reads reduces (at_head b out) t k e r
+        (fewer (λ f. live calls f b (at_head b out f)) (at_head b out) (head_live b out)
+        t.scene.fields k j) o) ns s g d roots rest off)
         (fewer_done (at_head b out) out (λ f k. or_left (out f) (live calls f b false) k)
-            s.scene.fields s.cells g d))
+        s.scene.fields s.cells g d))
     step_done (Alloc x cell dims memory) root reads reduces out = λ s g d roots h off.
         subst (λ ds. Both (Done out s.scene.fields s.cells g d)
-            (step world (Alloc x cell dims memory) s) (allocate x.id cell ds (redone g d s)))
-            (sym (numbers_live g s.scene dims (left_of g s.scene (λ f. read_by_controls f dims) out
-            h)))
+        (step world (Alloc x cell dims memory) s) (allocate x.id cell ds (redone g d s)))
+        (sym (numbers_live g s.scene dims (left_of g s.scene (λ f. read_by_controls f dims) out
+        h)))
         (allocated_done out s g d x.id cell (numbers s.scene dims)
-            (right_of g s.scene (λ f. read_by_controls f dims) out h)
-            (all_positive (numbers s.scene dims)))
+        (right_of g s.scene (λ f. read_by_controls f dims) out h)
+        (all_positive (numbers s.scene dims)))
     step_done (View w x coords) root reads reduces out = λ s g d roots h off.
         subst (λ o. Both (Done out s.scene.fields s.cells g d) (step world (View w x coords) s)
-            (then_do o (λ seen. Some (on_scene (with_view w.id seen) (redone g d s)))))
-            (sym (window_live g s.scene x coords
-            (left_of g s.scene (λ f. read_by_coords f coords) out h)))
+        (then_do o (λ seen. Some (on_scene (with_view w.id seen) (redone g d s)))))
+        (sym (window_live g s.scene x coords
+        (left_of g s.scene (λ f. read_by_coords f coords) out h)))
         (viewed_done out s g d w.id (right_of g s.scene (λ f. read_by_coords f coords) out h)
-            (window s.scene x coords))
+        (window s.scene x coords))
     step_done (Call k args) root reads reduces out = λ s g d roots h off. call_done hidden
         (world.callees k) (modes k) (calls k) (well k) root args reads reduces out s g d roots h off
 
@@ -1039,8 +1071,8 @@ all_sets fields memories above ms ls (p ∷ ps) h unit =
     let m = modes_in (world_of kinds above) (modes_at ms) p in
     let l = live_before (live_at ls) p in
     all_sets fields memories (above ++ c ∷ []) (ms ++ m ∷ []) (ls ++ l ∷ []) ps
-        (sets_more above ms ls c m l h (procedure_sets kinds above ms ls p
-        (params_differ (field_kind fields) memories p.params [] unit.0.params) h)) unit.1
+    (sets_more above ms ls c m l h (procedure_sets kinds above ms ls p
+    (params_differ (field_kind fields) memories p.params [] unit.0.params) h)) unit.1
 
 pub blocks_overwrite : OverwriteLaw
 blocks_overwrite fields memories ps root b buffers out s t away roots differ =
@@ -1049,16 +1081,21 @@ blocks_overwrite fields memories ps root b buffers out s t away roots differ =
     let well = all_sets fields memories [] [] [] ps tt away.unit in
     let off : Off buffers s.cells t.cells = differ.cells in
     let is : redone t.scene.fields t.cells s ≡ t = ap
-        (λ scene. record { scene = scene; cells = t.cells }) (sym differ.names) in
+    (λ scene. record { scene = scene; cells = t.cells }) (sym differ.names) in
     subst (λ z. Both (λ u v. SetAlike s t u v × DifferIn out buffers u v) (run world b s)
-        (run world b z)) is
+    (run world b z)) is
     (both_goes (Done out s.scene.fields s.cells t.scene.fields t.cells)
-        (λ u v. SetAlike s t u v × DifferIn out buffers u v) (run world b s)
-        (run world b (redone t.scene.fields t.cells s))
+    (λ u v. SetAlike s t u v × DifferIn out buffers u v) (run world b s)
+    (run world b (redone t.scene.fields t.cells s))
     (run_done world (unit_modes kinds ps) (unit_live ps)
-        (sets_at (callees kinds [] ps) (all_modes kinds [] [] ps) (all_live [] ps) well) buffers b
-        root away.reads away.reduces out s t.scene.fields t.cells roots differ.fields off)
-    (λ u v n. subst (λ v. SetAlike s t u v × DifferIn out buffers u v) (sym n.same)
-        (record { names = refl; fields = n.numbers; cells = n.cells }, record
-        { names = refl; fields = n.agree; cells = off_after buffers s.cells t.cells u.cells n.values
-        off n.cells })))
+    (sets_at (callees kinds [] ps) (all_modes kinds [] [] ps) (all_live [] ps) well) buffers b
+    root away.reads away.reduces out s t.scene.fields t.cells roots differ.fields off)
+    (λ u v n. subst (λ v. SetAlike s t u v × DifferIn out buffers u v) (sym n.same) (
+      record { names = refl; fields = n.numbers; cells = n.cells },
+      record {
+        names = refl;
+        fields = n.agree;
+        cells = off_after buffers s.cells t.cells u.cells n.values
+            off n.cells;
+      },
+    )))

@@ -102,8 +102,8 @@ nine = record first { cells = cells }
     cells (suc x) at = Undefined
 
 pub alike : let b = next set end in
-  Both (λ u v. SetAlike first nine u v × DifferIn (λ f. true) (λ y. y == 0) u v)
-  (run world b first) (run world b nine)
+    Both (λ u v. SetAlike first nine u v × DifferIn (λ f. true) (λ y. y == 0) u v)
+    (run world b first) (run world b nine)
 alike = blocks_overwrite [] 0 [] (λ x. x) (next set end) (λ y. y == 0) (λ f. true) first nine
     (record { unit = tt; reads = λ y h. refl; reduces = λ y h. refl }) may.roots
     (record { names = refl; fields = λ f h. refl; cells = same })
@@ -114,7 +114,7 @@ alike = blocks_overwrite [] 0 [] (λ x. x) (next set end) (λ y. y == 0) (λ f. 
 
 -- a second run of the body changes nothing
 pub again : let once = scoped (run world (next set end)) in
-  IfSome (once first) (λ t. once t ≡ Some t)
+    IfSome (once first) (λ t. once t ≡ Some t)
 again = turns_repeat [] 0 [] (λ x. x) (next set end) first may
 
 -- the loop is its body, and its cell holds 7

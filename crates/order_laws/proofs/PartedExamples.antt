@@ -1,24 +1,23 @@
 -- A loop of a procedure in two, and two loops in one, where no call is made.
-use Rattle.std.proofs.Common.{◌≡◌, ◌++◌, ℕ, ℤ, pos, ◌+ℤ◌, ◌<ℤ◌, ◌≤ℤ◌, ◌==◌, ◌||◌, Bool, true}
+use Rattle.std.proofs.Common.{◌≡◌, ◌++◌, ℕ, ℤ, pos, ◌+ℤ◌, ◌==◌, ◌||◌, Bool, true}
 use Rattle.std.proofs.Common.{false, true≢false, List, [], ◌∷◌, Option, Some, None, refl, sym, ap}
 use Rattle.std.proofs.Common.{◌∙◌, subst, eqb-true, IfSome, option_map}
 use Rattle.std.proofs.lemmas.List.{append-nil}
 use Rattle.std.proofs.Math.Path.{fun_ext}
-use Rattle.exo_tree.specs.Tree.{Index, Control, Lit, Var, Add, Const, For, Block, end, next}
-use Rattle.exo_tree.specs.Tree.{joined, Procedure}
+use Rattle.exo_tree.specs.Tree.{Index, Lit, Var, Add, Const, For, Block, end, next}
+use Rattle.exo_tree.specs.Tree.{Procedure, ConfigField, StrideOf, Argument, ControlArg}
 use Rattle.exo_tree.specs.Context.{Here}
 use Rattle.exo_meaning.specs.Scene.{Scene, Seen, then_do, cell_at}
-use Rattle.exo_meaning.specs.State.{State, Place}
-use Rattle.exo_meaning.specs.Run.{World, run, turns, turns_of, kinds_of, unit_world}
+use Rattle.exo_meaning.specs.State.{State}
+use Rattle.exo_meaning.specs.Run.{World, turns, kinds_of, unit_world}
 use Rattle.exo_meaning.specs.Inputs.{Refines}
 use Rattle.exo_meaning.specs.Footprint.{Entry, IsTidy, further, written}
 use Rattle.exo_meaning.specs.Nests.{IsAt}
 use Rattle.exo_meaning.proofs.Together.{turns_commute}
-use Rattle.exo_meaning.specs.Units.{ControlName, with_name}
+use Rattle.exo_meaning.specs.Units.{ControlName, with_name, field_kind}
 use Rattle.exo_meaning.specs.Unseen.{in_block as mentions}
 use Rattle.meaning_laws.specs.Copies.{IsFree}
 use Rattle.meaning_laws.specs.Substitute.{catches}
-use Rattle.meaning_laws.specs.Scoped.{has_binder, step_has_binder}
 use Rattle.meaning_laws.specs.Fields.{HasField}
 use Rattle.meaning_laws.specs.UnitFields.{unit_writes}
 use Rattle.meaning_laws.specs.NestsWithin.{IsBefore}
@@ -29,10 +28,13 @@ use Rattle.meaning_laws.specs.Touched.{unit_modes, turn_touched}
 use Rattle.meaning_laws.proofs.Swaps.{swap, swap_moves}
 use Rattle.meaning_laws.proofs.Examples.{stored, all_of_it, input, is_admissible, no_fields}
 use Rattle.meaning_laws.proofs.UnitInstances.{three_named, input_is_sound}
-use Rattle.order_laws.specs.TurnsOfTwo.{Loop, whole, in_a_row, in_turn, halves, turn_of}
+use Rattle.order_laws.specs.TurnsOfTwo.{Loop, in_a_row, in_turn, halves, turn_of}
 use Rattle.order_laws.specs.TurnsOfTwo.{HalvesAreClear, HalvesExchange, GoInTurn}
 use Rattle.order_laws.specs.PartedLoops.{with_body, of_both, alone, parted, fused, bound_by}
-use Rattle.order_laws.specs.PartedPlaces.{HasLoops, Wherever}
+use Rattle.order_laws.specs.PartedPlaces.{HasLoops}
+use Rattle.order_laws.specs.WrittenFirst.{writing, HasWrite}
+use Rattle.order_laws.proofs.WrittenPlaces.{writes_read_none, written_first_refines}
+use Rattle.meaning_laws.specs.Live.{read_by_argument}
 use Rattle.order_laws.proofs.TurnsOfTwo.{turns_of_two}
 use Rattle.order_laws.proofs.Caught.{nothing_is_caught}
 use Rattle.order_laws.proofs.PartedLoops.{second_is_apart, turn_by_turn, split_halves}
@@ -58,8 +60,9 @@ nested = next (For second.binder (Lit (pos 0)) (Var 1) (stored 0 (Var 2 ∷ []) 
 
 -- i + 1 may stand for i there
 none_caught : catches 1 (Add (Var 1) (Lit (pos 1))) nested ≡ false
-none_caught = nothing_is_caught [] 1 ps (with_name scope first.binder (ControlName Index)) (λ x. x) 1
-    Index (Add (Var 1) (Lit (pos 1))) nested refl refl refl (λ x h. go x (x == 2) refl h)
+none_caught =
+    nothing_is_caught [] 1 ps (with_name scope first.binder (ControlName Index)) (λ x. x) 1 Index
+    (Add (Var 1) (Lit (pos 1))) nested refl refl refl (λ x h. go x (x == 2) refl h)
   where
     go : (x : ℕ) (t : Bool) → (x == 2) ≡ t → ((t || false) || false) ≡ true
         → ((x == 1) || false) ≡ false
@@ -93,13 +96,13 @@ they_swap : HalvesExchange (IsAt input) (IsBefore input.scene first.lo first.hi)
     (halves plain first other)
 they_swap m n before t h =
     let here : t ≡ record { scene = input.scene; cells = t.cells } =
-        ap {B = State} (λ (z : Scene). record { scene = z; cells = t.cells }) h.0 in
+    ap {B = State} (λ (z : Scene). record { scene = z; cells = t.cells }) h.0 in
     subst (λ a. Swap a n t) (sym (is_zero m n before.0 before.1 before.2))
     (subst (λ b. Swap (pos 0) b t) (sym (is_one m n before.0 before.1 before.2))
     (subst (λ (u : State). Swap (pos 0) (pos 1) u) (sym here)
     (turns_commute (λ f. Index) 2 1 (ahead 2) stores (pos 0) (pos 1)
-        (record { scene = input.scene; cells = t.cells }) (subst IsTidy here h.1) refl refl
-        ((λ u. refl), tt) ((λ u. refl), tt))))
+    (record { scene = input.scene; cells = t.cells }) (subst IsTidy here h.1) refl refl
+    ((λ u. refl), tt) ((λ u. refl), tt))))
 
 in_turn_or_not : GoInTurn plain first other input
 in_turn_or_not = turns_of_two plain first other input is_admissible.tidy
@@ -152,14 +155,14 @@ clear_of : (l : Loop) → TouchesAhead l → (u : State) → u.scene.views 0 ≡
 clear_of l by u sees t m n e before =
     let views : t.scene.views 0 ≡ Some all_of_it = ap (λ (z : Scene). z.views 0) e ∙ sees in
     subst (λ a. AreClear t.scene (touches l a t) (touches first n t))
-        (sym (is_zero m n before.0 before.1 before.2))
+    (sym (is_zero m n before.0 before.1 before.2))
     (subst (λ b. AreClear t.scene (touches l (pos 0) t) (touches first b t))
-        (sym (is_one m n before.0 before.1 before.2))
+    (sym (is_one m n before.0 before.1 before.2))
     (subst (λ xs. AreClear t.scene xs (touches first (pos 1) t)) (sym (by (pos 0) t))
     (subst (λ ys. AreClear t.scene (cell_of (t.scene.views 0) (pos 8)) ys)
-        (sym (first_touches (pos 1) t))
+    (sym (first_touches (pos 1) t))
     (subst (λ o. AreClear t.scene (cell_of o (pos 8)) (cell_of o (pos 1))) (sym views)
-        (((λ v. refl), tt), ((λ v. refl), tt))))))
+    (((λ v. refl), tt), ((λ v. refl), tt))))))
 
 -- ---- the procedures
 
@@ -173,8 +176,19 @@ other_leaves i s t e = fun_ext (λ f. subst (λ o. IfSome o (HasField f s)) e
 
 two_have : HasLoops spot two (Here end) (in_a_row first other) first other
 two_have = record {
-  may = record { unit = is_unit; procedure = record { params = refl; asserts = refl; body = refl;
-      filled = refl; ids = refl; distinct = refl; paths = refl; template = refl } };
+  may = record {
+    unit = is_unit;
+    procedure = record {
+      params = refl;
+      asserts = refl;
+      body = refl;
+      filled = refl;
+      ids = refl;
+      distinct = refl;
+      paths = refl;
+      template = refl;
+    };
+  };
   is_there = refl;
   scope = refl;
   root = refl;
@@ -187,7 +201,7 @@ fuse : Refines world two (record two { body = alone (fused first other) }) []
 fuse = fuse_refines spot two (Here end) first other two_have are_apart
     (λ s u good come. (refl, refl))
     (λ s u good come. clear_of other other_touches u
-      (ap (λ (t : State). t.scene.views 0) come ∙ good.arguments.0.1))
+    (ap (λ (t : State). t.scene.views 0) come ∙ good.arguments.0.1))
 
 -- def one(x: i8[16]): a loop with both bodies
 abbrev one : Procedure
@@ -196,8 +210,19 @@ one = record three_named { body = alone (of_both first (ahead 1)) }
 one_has : HasLoops spot one (Here end) (alone (of_both first (ahead 1))) first
     (with_body first (ahead 1))
 one_has = record {
-  may = record { unit = is_unit; procedure = record { params = refl; asserts = refl; body = refl;
-      filled = refl; ids = refl; distinct = refl; paths = refl; template = refl } };
+  may = record {
+    unit = is_unit;
+    procedure = record {
+      params = refl;
+      asserts = refl;
+      body = refl;
+      filled = refl;
+      ids = refl;
+      distinct = refl;
+      paths = refl;
+      template = refl;
+    };
+  };
   is_there = refl;
   scope = refl;
   root = refl;
@@ -210,4 +235,46 @@ part : Refines world one (record one { body = parted first (ahead 1) (swap 1 2) 
 part = fission_refines spot one (Here end) first (ahead 1) (swap 1 2) one_has refl
     (swap_moves 1 2 (IsFree one (Here end)) (refl, refl) (refl, refl))
     (λ s u good come. clear_of (with_body first (ahead 1)) part_touches u
-      (ap (λ (t : State). t.scene.views 0) come ∙ good.arguments.0.1))
+    (ap (λ (t : State). t.scene.views 0) come ∙ good.arguments.0.1))
+
+-- ---- a field that is written first
+
+abbrev one_field : List ConfigField
+one_field = record { config = 67 ∷ []; name = 102 ∷ []; kind = Index } ∷ []
+
+-- C.f = stride(x, 0) + 7
+abbrev right : Argument
+right = ControlArg (Add (StrideOf 0 0) (Lit (pos 7)))
+
+it_reads_none : read_by_argument 0 right ≡ false
+it_reads_none = writes_read_none (field_kind one_field) scope (Some Index) right 0 refl
+
+-- def set(x: i8[16]): for i in seq(0, 2): C.f = stride(x, 0) + 7; x[i + 8] = 5
+abbrev set : Procedure
+set = record three_named { body = alone (of_both (writing first 0 right) (ahead 1)) }
+
+set_has : HasWrite one_field 1 [] set (Here end) first 0 right (ahead 1)
+set_has = record {
+  may = record {
+    unit = tt;
+    procedure = record {
+      params = refl;
+      asserts = refl;
+      body = refl;
+      filled = refl;
+      ids = refl;
+      distinct = refl;
+      paths = refl;
+      template = refl;
+    };
+  };
+  is_there = refl;
+  free = (refl, refl);
+  steady = refl;
+  unwritten = refl;
+}
+
+part_write : Refines (unit_world (kinds_of one_field) []) set
+    (record set { body = parted (writing first 0 right) (ahead 1) (swap 1 2) }) []
+part_write = written_first_refines one_field 1 [] set (Here end) first 0 right (ahead 1) (swap 1 2)
+    set_has (swap_moves 1 2 (IsFree set (Here end)) (refl, refl) (refl, refl))

@@ -8,10 +8,9 @@ use Rattle.exo_tree.specs.Tree.{Binder, Cell, Kind, Index, Var, Statement, Assig
 use Rattle.exo_tree.specs.Tree.{Pass, If, For, Alloc, View, Call, Block, end, next, joined}
 use Rattle.exo_tree.specs.Tree.{Procedure, ConfigField}
 use Rattle.exo_meaning.specs.Scene.{Shape, Seen, then_do}
-use Rattle.exo_meaning.specs.State.{State, Cells, kept, left, on_scene, with_control}
+use Rattle.exo_meaning.specs.State.{State, kept, left, on_scene, with_control}
 use Rattle.exo_meaning.specs.Run.{World, run, step, turn, turns, turns_of, roots_after, kinds_of}
 use Rattle.exo_meaning.specs.Run.{unit_world}
-use Rattle.exo_meaning.specs.Refines.{Both}
 use Rattle.exo_meaning.specs.Renaming.{re_statement}
 use Rattle.exo_meaning.specs.Unseen.{in_block as mentions, SameBut}
 use Rattle.exo_meaning.specs.Units.{Sort, ControlName, BufferName, Scope, sort_in, with_name}
@@ -36,7 +35,7 @@ use Rattle.meaning_laws.specs.Sorted.{Sees, IsSorted}
 use Rattle.meaning_laws.specs.Substitute.{catches, in_block}
 use Rattle.meaning_laws.specs.Pairs.{LeavesFields}
 use Rattle.meaning_laws.proofs.Parts.{none_some}
-use Rattle.meaning_laws.proofs.Names.{Others, SameControl, name_same, name_on, step_names}
+use Rattle.meaning_laws.proofs.Names.{Others, SameControl, name_same, name_on}
 use Rattle.meaning_laws.proofs.Names.{step_control, turn_names}
 use Rattle.meaning_laws.proofs.Sound.{run_sound, turn_sound}
 use Rattle.meaning_laws.proofs.Substitute.{and_parts, substitution_law}
@@ -62,7 +61,7 @@ run_control world (next a b) s =
     if_then (SameControl s) (SameControl s) (step world a s) (run world b) (step_control world a s)
     (λ t h.
     if_weaken (SameControl t) (SameControl s) (run world b t) (run_control world b t)
-        (λ u k x. k x ∙ h x))
+    (λ u k x. k x ∙ h x))
 
 abbrev AreGone : (ℕ → Bool) → State → Type 0
 AreGone hidden s = (x : ℕ) → hidden x ≡ true → s.scene.buffers x ≡ None
@@ -97,15 +96,15 @@ module _ (world : World) (k l : Loop) (d : Block) (hidden : ℕ → Bool)
     parts_same : (u : State) → IsSound u → Others (top_binders k.body) deep u → SameControl deep u
         → SameBut hidden (second_at u) (second_at (left s u))
     parts_same u good names control = record {
-        control = λ x z. ap (λ m. cond (x == l.binder.id) n m) (control x)
-            ∙ keeps x (s.scene.control x) n z;
-        buffers = λ x z. sym (names x (covers x z)).buffers;
-        views = λ x z. sym (names x (covers x z)).views;
-        fields = refl;
-        cells = λ x z. fun_ext (λ at. cell x (covers x z) at (s.scene.buffers x) refl);
-        seen = λ x w z e. sees w (hidden w.buffer) refl
-            (sound.seen x w ((names x (covers x z)).views ∙ e));
-      }
+      control = λ x z. ap (λ m. cond (x == l.binder.id) n m) (control x)
+          ∙ keeps x (s.scene.control x) n z;
+      buffers = λ x z. sym (names x (covers x z)).buffers;
+      views = λ x z. sym (names x (covers x z)).views;
+      fields = refl;
+      cells = λ x z. fun_ext (λ at. cell x (covers x z) at (s.scene.buffers x) refl);
+      seen = λ x w z e. sees w (hidden w.buffer) refl
+          (sound.seen x w ((names x (covers x z)).views ∙ e));
+    }
       where
         cell : (x : ℕ) → top_binders k.body x ≡ false → (at : List ℤ) (o : Option Shape)
             → s.scene.buffers x ≡ o → u.cells x at ≡ kept o (u.cells x) at
@@ -136,9 +135,9 @@ module _ (world : World) (k l : Loop) (d : Block) (hidden : ℕ → Bool)
         go (Some u) h names control =
             does s u n (control k.binder.id ∙ at_own)
             ∙ left_same_but hidden s gone (run world l.body (second_at u))
-                (run world l.body (second_at (left s u)))
-                (run_alike hidden world l.body unused (second_at u) (second_at (left s u))
-                (parts_same u h names control))
+            (run world l.body (second_at (left s u)))
+            (run_alike hidden world l.body unused (second_at u) (second_at (left s u))
+            (parts_same u h names control))
 
   pub all_in_turn : (s : State) → AreGone hidden s → (ns : List ℤ) (t : State) → Stays s t
       → turns one ns t ≡ turns (halves world k l) (in_turn ns) t
@@ -146,12 +145,12 @@ module _ (world : World) (k l : Loop) (d : Block) (hidden : ℕ → Bool)
   all_in_turn s gone (n ∷ ns) t h =
       let gone_t : AreGone hidden t = λ x z. sym (h.names x).buffers ∙ gone x z in
       then_cong_if (Stays t) (one n t) (turns one ns) (turns (halves world k l) (in_turn ns))
-          (turn_stays k.binder.id (run world (joined k.body d)) n t h.sound)
-          (λ v z. all_in_turn s gone ns v
-          (record { sound = z.sound; names = λ x. name_on x s t v (h.names x) (z.names x) }))
+      (turn_stays k.binder.id (run world (joined k.body d)) n t h.sound)
+      (λ v z. all_in_turn s gone ns v
+      (record { sound = z.sound; names = λ x. name_on x s t v (h.names x) (z.names x) }))
       ∙ ap (λ o. then_do o (turns (halves world k l) (in_turn ns))) (one_turn n t h.sound gone_t)
       ∙ then_assoc (turn k.binder.id (run world k.body) n t) (turn l.binder.id (run world l.body) n)
-          (turns (halves world k l) (in_turn ns))
+      (turns (halves world k l) (in_turn ns))
 
 -- ---- turns of both, and both in turn
 
@@ -160,9 +159,9 @@ turn_by_turn world k l [] s = refl
 turn_by_turn world k l (n ∷ ns) s =
     then_assoc (turn_of world k n s) (turn_of world l n) (turns both ns)
     ∙ then_cong (turn_of world k n s) (λ u. then_do (turn_of world l n u) (turns both ns))
-        (λ u. then_do (turn_of world l n u) (turns (halves world k l) (in_turn ns)))
-        (λ u. then_cong (turn_of world l n u) (turns both ns)
-        (turns (halves world k l) (in_turn ns)) (turn_by_turn world k l ns))
+    (λ u. then_do (turn_of world l n u) (turns (halves world k l) (in_turn ns)))
+    (λ u. then_cong (turn_of world l n u) (turns both ns)
+    (turns (halves world k l) (in_turn ns)) (turn_by_turn world k l ns))
   where
     both : ℤ → State → Option State
     both m t = then_do (turn_of world k m t) (turn_of world l m)
@@ -180,8 +179,12 @@ one_more : (kinds : ℕ → Kind) (scope : Scope) (x : Binder) (sort : Sort) (s 
     → IsSorted kinds (with_name scope x sort) s
 one_more kinds scope x sort s new gone h = record {
   buffers = λ b shape e. let z =
-      h.buffers b shape e in (z.0, z.1, ap (λ t. cond t (Some sort) (sort_in scope b))
-      (is_other scope x new b _ z.2) ∙ z.2);
+      h.buffers b shape e in (
+        z.0,
+        z.1,
+        ap (λ t. cond t (Some sort) (sort_in scope b))
+            (is_other scope x new b _ z.2) ∙ z.2,
+      );
   views = λ y c r dense z is v shape b. go y c r dense z shape (y == x.id) (eqb-true y x.id) is v b;
   cells = h.cells;
   fields = h.fields;
@@ -230,7 +233,7 @@ module _ (fields : List ConfigField) (memories : ℕ) (ps : List Procedure) wher
   first_part end c scope root ok = refl
   first_part (next a b) c scope root ok =
       let p = and_parts (is_statement (field_kind fields) memories world.callees scope root a) _
-          ok in
+      ok in
       ap₂ ◌&&◌ p.0 (first_part b c (scope_after a scope) (roots_after a root) p.1)
 
   -- the second part is well formed behind the first, also where the first one's names are unbound
@@ -243,11 +246,11 @@ module _ (fields : List ConfigField) (memories : ℕ) (ps : List Procedure) wher
       record { scope = scope; root = root; block = ok; sorted = sorted; leaves = leaves }
   second_part i s (next a b) c scope root ok gone sorted leaves =
       let p = and_parts (is_statement (field_kind fields) memories world.callees scope root a) _
-          ok in
+      ok in
       second_part i s b c (scope_after a scope) (roots_after a root) p.1
-          (λ x e. gone x (or_right (binds a x) (top_binders b x) e))
-          (λ n. sorted_behind a scope root (on_scene (with_control i n) s) p.0
-          (λ x e. gone x (or_left (binds a x) (top_binders b x) e)) (sorted n)) leaves
+      (λ x e. gone x (or_right (binds a x) (top_binders b x) e))
+      (λ n. sorted_behind a scope root (on_scene (with_control i n) s) p.0
+      (λ x e. gone x (or_left (binds a x) (top_binders b x) e)) (sorted n)) leaves
 
 -- ---- one loop in two
 
@@ -277,33 +280,39 @@ fission_law at k c r s may moves clear =
     let l = with_body k c in
     let ns = turns_of s.scene k.lo k.hi in
     let o = and_parts (is_statement kind_of memories world.callees scope root (whole (of_both k c)))
-        _ may.start.block in
+    _ may.start.block in
     let p = and_parts (is_new scope k.binder) _ o.0 in
     let q = and_parts (is_control kind_of plainly scope k.lo && is_control kind_of plainly scope
-        k.hi) _ p.1 in
+    k.hi) _ p.1 in
     let ok = (and_parts (not (is_empty (joined k.body c)) && is_short (joined k.body c)) _ q.1).1 in
     let inner = with_name scope k.binder (ControlName Index) in
     let sorted = λ (n : ℤ). inside (kinds_of fields) scope k.binder n s p.0 may.start.sorted in
     let first : IsBody fields memories ps k.binder.id k.body s =
-        record { scope = inner; root = root; block =
-        first_part fields memories ps k.body c inner root ok; sorted = sorted; leaves =
-        may.turns.first } in
+    record {
+      scope = inner;
+      root = root;
+      block =
+          first_part fields memories ps k.body c inner root ok;
+      sorted = sorted;
+      leaves =
+          may.turns.first;
+    } in
     let second = second_part fields memories ps k.binder.id s k.body c inner root ok
-        (λ x e. (may.unbound x e).views) sorted may.turns.second in
+    (λ x e. (may.unbound x e).views) sorted may.turns.second in
     let ends : Option State → Option State = λ z. then_do z (λ t. Some t) in
     let start : Stays s s = record { sound = sound; names = λ x. name_same x s } in
     ap ends (all_in_turn world k l c (top_binders k.body) may.unused (λ x e. e)
-      (λ x m n e. twice (x == k.binder.id) m n)
-      (λ t u n e. ap (λ v. option_map (left t) (run world c v)) (own_number k.binder.id n u e))
-      s (λ x e. (may.unbound x e).buffers) ns s start)
+    (λ x m n e. twice (x == k.binder.id) m n)
+    (λ t u n e. ap (λ v. option_map (left t) (run world c v)) (own_number k.binder.id n u e))
+    s (λ x e. (may.unbound x e).buffers) ns s start)
     ∙ ap ends (in_turn_or_apart fields memories ps may.start.unit s sound k l first second
-        may.turns.agree clear may.start.sorted.cells)
+    may.turns.agree clear may.start.sorted.cells)
     ∙ then_some (run world (next (whole k) (next (whole l) end)) s)
     ∙ then_cong_if (Stays s) (step world (whole k) s) (run world (next (whole l) end))
-        (run world (next (re_statement r (whole l)) end))
-        (turns_stay_so k.binder.id (run world k.body) ns s sound) (λ t h.
-      ap ends (sym (copy_law r world k.binder k.lo k.hi c t h.sound
-          (moves_on r (IsUnbound s) (IsUnbound t) (λ x z. unbound_on s t x (h.names x) z) moves))))
+    (run world (next (re_statement r (whole l)) end))
+    (turns_stay_so k.binder.id (run world k.body) ns s sound) (λ t h.
+    ap ends (sym (copy_law r world k.binder k.lo k.hi c t h.sound
+    (moves_on r (IsUnbound s) (IsUnbound t) (λ x z. unbound_on s t x (h.names x) z) moves))))
 
 -- ---- two loops in one
 
@@ -343,14 +352,14 @@ second_catches_nothing fields memories ps scope root k l ok unused =
     let kind_of = field_kind fields in
     let p = and_parts (is_new scope l.binder) _ ok in
     let q = and_parts (is_control kind_of plainly scope l.lo && is_control kind_of plainly scope
-        l.hi) _ p.1 in
+    l.hi) _ p.1 in
     let r = and_parts (not (is_empty l.body) && is_short l.body) _ q.1 in
     nothing_is_caught fields memories ps (with_name scope l.binder (ControlName Index)) root
-        l.binder.id Index (Var k.binder.id) l.body r.1
+    l.binder.id Index (Var k.binder.id) l.body r.1
     (ap (λ t. cond t (Some (ControlName Index)) (sort_in scope l.binder.id))
-        (eq-eqb l.binder.id l.binder.id refl)) refl
+    (eq-eqb l.binder.id l.binder.id refl)) refl
     (λ x h. (or_parts (x == k.binder.id) (top_binders k.body x)
-        (binders_are_shown (bound_by k) l.body unused x h)).0)
+    (binders_are_shown (bound_by k) l.body unused x h)).0)
 
 pub fuse_law : FuseLaw
 fuse_law at k l s may clear =
@@ -366,7 +375,7 @@ fuse_law at k l s may clear =
     let j = l.binder.id in
     let d = in_block j (Var i) l.body in
     let o = and_parts (is_statement kind_of memories world.callees scope root (whole k)) _
-        may.start.block in
+    may.start.block in
     let p = and_parts (is_new scope k.binder) _ o.0 in
     let q = and_parts (is_statement kind_of memories world.callees scope root (whole l)) _ o.1 in
     let free = second_catches_nothing fields memories ps scope root k l q.0 may.unused in
@@ -374,11 +383,11 @@ fuse_law at k l s may clear =
     let start : Stays s s = record { sound = may.start.sound; names = λ x. name_same x s } in
     sym (turns_from_footprints at k l s may.start may.turns clear)
     ∙ sym (all_in_turn world k l d (bound_by k) may.unused
-      (λ x e. (or_parts (x == i) (top_binders k.body x) e).1)
-      (λ x m n e. ap (λ t. cond (x == j) n (cond t n m))
-          (or_parts (x == i) (top_binders k.body x) e).0)
-      (substituted world i j l.body free)
-      s (λ x e. gone x gone_i (x == i) (eqb-true x i) e) ns s start)
+    (λ x e. (or_parts (x == i) (top_binders k.body x) e).1)
+    (λ x m n e. ap (λ t. cond (x == j) n (cond t n m))
+    (or_parts (x == i) (top_binders k.body x) e).0)
+    (substituted world i j l.body free)
+    s (λ x e. gone x gone_i (x == i) (eqb-true x i) e) ns s start)
     ∙ sym (then_some (turns (turn i (run world (joined k.body d))) ns s))
   where
     gone : (x : ℕ) → s.scene.buffers k.binder.id ≡ None → (t : Bool) → (t ≡ true → x ≡ k.binder.id)
@@ -391,15 +400,15 @@ fuse_law at k l s may clear =
 pub second_is_apart : SecondIsApart
 second_is_apart bound k l scoped distinct =
     let first = and_parts (step_is_scoped bound (whole k)) (step_is_scoped bound (whole l) && true)
-        scoped in
+    scoped in
     let second = and_parts (step_is_scoped bound (whole l)) true first.1 in
     let p = and_parts (not (bound l.binder.id)) _ second.0 in
     let q = and_parts (not (in_control (is_not bound) l.lo || in_control (is_not bound) l.hi)) _
-        p.1 in
+    p.1 in
     unmentioned_law (λ y. (y == l.binder.id) || bound y) (bound_by k) l.body q.1
     (λ x h. apart x (or_elim (x == l.binder.id) (bound x) h
-        (λ e. in_second x (or_left (x == l.binder.id) (has_binder l.body x) e))
-        (λ e. not_in_first x first.0 e)))
+    (λ e. in_second x (or_left (x == l.binder.id) (has_binder l.body x) e))
+    (λ e. not_in_first x first.0 e)))
     (λ x h. apart x (in_second x (or_right (x == l.binder.id) (has_binder l.body x) h)))
   where
     by_cases : (t : Bool) → (t ≡ true → ⊥) → t ≡ false

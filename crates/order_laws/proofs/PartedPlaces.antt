@@ -35,12 +35,12 @@ module _ (at : Spot) (p : Procedure) (o : Context) (old : Block) (k l : Loop)
         subst (λ z. Is z at.root) (sym has.scope)
         (subst (Is (scope_at o (scope_of [] p.params))) (sym has.root)
         (well_at_place (field_kind at.fields) at.memories (world_at at).callees p o old
-            has.may.procedure has.is_there).piece);
+        has.may.procedure has.is_there).piece);
     sound = place_sound (world_at at) p old o s u good come;
     sorted =
         subst (λ (z : Scope). IsSorted (kinds_of at.fields) z u) (sym has.scope)
         (fits_at_law at.fields at.memories at.procedures p o old has.may has.is_there s u good
-            come);
+        come);
   }
 
   unbound : (x : ℕ) → IsFree p o x → IsUnbound u x

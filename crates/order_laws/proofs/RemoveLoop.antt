@@ -1,24 +1,14 @@
 -- Loops whose turns all do the same, at a place of a well-formed procedure.
-use Rattle.std.proofs.Common.{◌≡◌, ℕ, Bool, true, false, true≢false, [], Option, Some, None, refl}
-use Rattle.std.proofs.Common.{sym, ap, ◌∙◌, subst}
+use Rattle.std.proofs.Common.{◌≡◌, ℕ, Bool, true, false, true≢false, Option, Some, None, refl}
+use Rattle.std.proofs.Common.{sym, ◌∙◌, subst}
 use Rattle.std.specs.Prelude.{IsSome}
-use Rattle.exo_tree.specs.Tree.{Kind, For, Block, end, next, ParamKind, ControlParam, TensorParam}
-use Rattle.exo_tree.specs.Tree.{WindowParam, Procedure}
-use Rattle.exo_tree.specs.Context.{Context, Here, After, InLoop, InThen, InElse, fill}
-use Rattle.exo_meaning.specs.Scene.{Seen, then_do, numbers, whole}
-use Rattle.exo_meaning.specs.State.{State}
-use Rattle.exo_meaning.specs.Run.{World, run, step, turns_of, roots_after, kinds_of, unit_world}
-use Rattle.exo_meaning.specs.Inputs.{IsAdmissible, IsArgument, is_buffer_of}
-use Rattle.exo_meaning.specs.Laws.{HasRoots}
-use Rattle.exo_meaning.specs.Units.{are_params, field_kind}
+use Rattle.exo_tree.specs.Tree.{For, end, next}
+use Rattle.exo_meaning.specs.Scene.{then_do}
+use Rattle.exo_meaning.specs.Run.{step, kinds_of, unit_world}
+use Rattle.exo_meaning.specs.Inputs.{is_buffer_of}
 use Rattle.exo_meaning.proofs.Frame.{or_parts}
-use Rattle.meaning_laws.specs.Context.{ComesTo}
 use Rattle.meaning_laws.specs.Sound.{on_way}
 use Rattle.meaning_laws.specs.Copies.{IsFree}
-use Rattle.meaning_laws.proofs.Parts.{none_some, some_injective}
-use Rattle.meaning_laws.proofs.Names.{if_gives, come_to_turn_names}
-use Rattle.meaning_laws.proofs.FirstState.{params_differ}
-use Rattle.meaning_laws.proofs.Sorted.{found}
 use Rattle.meaning_laws.proofs.Copies.{sound_law, unbound_law}
 use Rattle.scope_laws.specs.Roots.{own_roots_at}
 use Rattle.scope_laws.proofs.Roots.{names_have_roots}
@@ -35,7 +25,7 @@ loops_are_removed_at fields memories ps p c i lo hi b s u may is less good come 
     let world = unit_world (kinds_of fields) ps in
     let old = next (For i lo hi b) end in
     let gone = λ (x : ℕ) (h : IsFree p c x). (unbound_law world p old c s u good come x h).buffers
-        in
+    in
     then_some (step world (For i lo hi b) u)
     ∙ loops_are_removed fields memories ps (own_roots_at c) i lo hi b u (record {
       unit = may.unit;

@@ -1,17 +1,14 @@
 -- Two neighbouring statements of a procedure in the other order.
-use Rattle.std.proofs.Common.{◌≡◌, ℕ, ◌==◌, Bool, true, false, not, ◌&&◌, ◌||◌, List, [], Option}
+use Rattle.std.proofs.Common.{◌≡◌, ℕ, ◌==◌, Bool, true, false, not, ◌&&◌, ◌||◌, List, []}
 use Rattle.std.proofs.Common.{refl, sym, ap, ◌∙◌}
-use Rattle.exo_tree.specs.Tree.{Kind, Index, Statement, For, If, Block, end, next, Procedure}
+use Rattle.exo_tree.specs.Tree.{Statement, For, If, Block, end, next, Procedure}
 use Rattle.exo_tree.specs.Tree.{ConfigField}
 use Rattle.exo_tree.specs.Context.{Context, Here, After, InLoop, InThen, InElse, fill}
 use Rattle.exo_meaning.specs.State.{State}
-use Rattle.exo_meaning.specs.Calls.{Callee}
-use Rattle.exo_meaning.specs.Run.{World, run, roots_after, kinds_of, unit_world}
+use Rattle.exo_meaning.specs.Run.{World, run, kinds_of, unit_world}
 use Rattle.exo_meaning.specs.Inputs.{IsAdmissible}
 use Rattle.exo_meaning.specs.Unseen.{in_control, in_condition, in_statement}
-use Rattle.exo_meaning.specs.Units.{Scope, ControlName, is_new, with_name, with_fields, plainly}
-use Rattle.exo_meaning.specs.Units.{is_control, is_condition, is_empty, is_short, scope_after}
-use Rattle.exo_meaning.specs.Units.{scope_of, field_kind, is_block, is_statement}
+use Rattle.exo_meaning.specs.Units.{scope_of, field_kind, is_statement}
 use Rattle.exo_meaning.proofs.Frame.{or_parts}
 use Rattle.meaning_laws.specs.Context.{ComesTo}
 use Rattle.meaning_laws.specs.Sound.{binds}
@@ -47,14 +44,14 @@ module _ (a b : Statement) where
       → in_statement (binds a) b ≡ false
   unmentioned_there bound rest h k =
       let p = and_parts (step_is_scoped bound a) (is_scoped (λ y. binds a y || bound y)
-          (next b rest)) h in
+      (next b rest)) h in
       let q = and_parts (step_is_scoped (λ y. binds a y || bound y) b)
-          (is_scoped (λ y. binds b y || (binds a y || bound y)) rest) p.1 in
+      (is_scoped (λ y. binds b y || (binds a y || bound y)) rest) p.1 in
       (or_parts (in_statement (binds a) b) false (unmentioned_law bound (binds a) (next b end)
-          (and_true (step_is_scoped bound b) k)
-        (λ x e. binders_new bound a x p.0 e)
-        (λ x e. (or_parts (binds a x) (bound x) (step_binder_new (λ y. binds a y || bound y) b x q.0
-            (or_false (step_has_binder b x) e))).0))).0
+      (and_true (step_is_scoped bound b) k)
+      (λ x e. binders_new bound a x p.0 e)
+      (λ x e. (or_parts (binds a x) (bound x) (step_binder_new (λ y. binds a y || bound y) b x q.0
+      (or_false (step_has_binder b x) e))).0))).0
 
   unmentioned_at : (c : Context) (bound : ℕ → Bool) → is_scoped bound (fill c (pair a b)) ≡ true
       → is_scoped bound (fill c (pair b a)) ≡ true → in_statement (binds a) b ≡ false
@@ -75,11 +72,11 @@ module _ (a b : Statement) where
           → is_scoped (λ y. (y == i.id) || bound y) (fill c old) ≡ true
       inner old h =
           let p = and_parts (step_is_scoped bound (For i lo hi (fill c old)))
-              (is_scoped (λ y. binds (For i lo hi (fill c old)) y || bound y) rest) h in
+          (is_scoped (λ y. binds (For i lo hi (fill c old)) y || bound y) rest) h in
           let q = and_parts (not (bound i.id)) (not (in_control (is_not bound) lo || in_control
-              (is_not bound) hi) && is_scoped (λ y. (y == i.id) || bound y) (fill c old)) p.0 in
+          (is_not bound) hi) && is_scoped (λ y. (y == i.id) || bound y) (fill c old)) p.0 in
           (and_parts (not (in_control (is_not bound) lo || in_control (is_not bound) hi))
-              (is_scoped (λ y. (y == i.id) || bound y) (fill c old)) q.1).1
+          (is_scoped (λ y. (y == i.id) || bound y) (fill c old)) q.1).1
   unmentioned_at (InThen t c other rest) bound h k =
       unmentioned_at c bound (inner (pair a b) h) (inner (pair b a) k)
     where
@@ -87,9 +84,9 @@ module _ (a b : Statement) where
           → is_scoped bound (fill c old) ≡ true
       inner old h =
           let p = and_parts (step_is_scoped bound (If t (fill c old) other))
-              (is_scoped (λ y. binds (If t (fill c old) other) y || bound y) rest) h in
+          (is_scoped (λ y. binds (If t (fill c old) other) y || bound y) rest) h in
           let q = and_parts (not (in_condition (is_not bound) t)) (is_scoped bound (fill c old)
-              && is_scoped bound other) p.0 in
+          && is_scoped bound other) p.0 in
           (and_parts (is_scoped bound (fill c old)) (is_scoped bound other) q.1).0
   unmentioned_at (InElse t other c rest) bound h k =
       unmentioned_at c bound (inner (pair a b) h) (inner (pair b a) k)
@@ -98,9 +95,9 @@ module _ (a b : Statement) where
           → is_scoped bound (fill c old) ≡ true
       inner old h =
           let p = and_parts (step_is_scoped bound (If t other (fill c old)))
-              (is_scoped (λ y. binds (If t other (fill c old)) y || bound y) rest) h in
+          (is_scoped (λ y. binds (If t other (fill c old)) y || bound y) rest) h in
           let q = and_parts (not (in_condition (is_not bound) t)) (is_scoped bound other
-              && is_scoped bound (fill c old)) p.0 in
+          && is_scoped bound (fill c old)) p.0 in
           (and_parts (is_scoped bound other) (is_scoped bound (fill c old)) q.1).1
 
 pub orders_apart : OrdersApart
@@ -130,22 +127,30 @@ module _ (fields : List ConfigField) (memories : ℕ) (ps : List Procedure) (p :
       let kinds = field_kind fields in
       let scope = scope_of [] p.params in
       let old = well_at_place kinds memories world.callees p c (pair a b) may.before.procedure
-          may.there in
+      may.there in
       let new = well_at_place kinds memories world.callees (exchanged p c a b) c (pair b a)
-          may.after.procedure refl in
+      may.after.procedure refl in
       let scoped = ap (is_scoped (is_param p)) (sym may.there)
-          ∙ (well_scoped kinds memories world.callees p may.before.procedure).0 in
+      ∙ (well_scoped kinds memories world.callees p may.before.procedure).0 in
       let names = orders_apart (is_param p) c a b scoped (well_scoped kinds memories world.callees
-          (exchanged p c a b) may.after.procedure).0 in
+      (exchanged p c a b) may.after.procedure).0 in
       let sound = sound_law world p (pair a b) c s u good come in
       let sorted = fits_at_law fields memories ps p c (pair a b) may.before may.there s u good
-          come in
+      come in
       statements_commute fields memories ps (scope_at c scope) (roots_at c (λ y. y)) a b end u
-          (record {
-        first = record { unit = may.before.unit; block = first_of a b old.piece;
-            sound = sound; sorted = sorted };
-        second = record { unit = may.before.unit; block = first_of b a new.piece;
-            sound = sound; sorted = sorted };
+      (record {
+        first = record {
+          unit = may.before.unit;
+          block = first_of a b old.piece;
+          sound = sound;
+          sorted = sorted;
+        };
+        second = record {
+          unit = may.before.unit;
+          block = first_of b a new.piece;
+          sound = sound;
+          sorted = sorted;
+        };
         to_second = record { names = names.0; fields = may.to_second };
         to_first = record { names = names.1; fields = may.to_first };
         clear = clear s u good come;

@@ -41,110 +41,124 @@ again (AreSet e) k = sym e
 again (AreKept a b) k = b ∙ k
 
 module _ (fields : List ConfigField) (memories : ℕ) (ps : List Procedure) (root : ℕ → ℕ) (b : Block)
-    where
-  abbrev world : World
-  world = unit_world (kinds_of fields) ps
+  where
+    abbrev world : World
+    world = unit_world (kinds_of fields) ps
 
-  abbrev body : State → Option State
-  body = run world b
+    abbrev body : State → Option State
+    body = run world b
 
-  abbrev May : State → Type 0
-  May = MayRepeat fields memories ps root b
+    abbrev May : State → Type 0
+    May = MayRepeat fields memories ps root b
 
-  -- all of it goes by the names
-  may_again : (s t : State) → May s → May (left s t)
-  may_again s t h = record { unit = h.unit; sound = left_sound s t h.sound; roots = h.roots;
-      reduces = h.reduces; reads = h.reads; dead = h.dead }
+    -- all of it goes by the names
+    may_again : (s t : State) → May s → May (left s t)
+    may_again s t h = record {
+      unit = h.unit;
+      sound = left_sound s t h.sound;
+      roots = h.roots;
+      reduces = h.reduces;
+      reads = h.reads;
+      dead = h.dead;
+    }
 
-  module _ (s : State) (may : May s) (u : State) (is : body s ≡ Some u) where
-    abbrev ended : State
-    ended = left s u
+    module _ (s : State) (may : May s) (u : State) (is : body s ≡ Some u) where
+      abbrev ended : State
+      ended = left s u
 
-    -- the buffers from outside that the block writes
-    abbrev buffers : ℕ → Bool
-    buffers y = there (s.scene.buffers y) && writes world root b y
+      -- the buffers from outside that the block writes
+      abbrev buffers : ℕ → Bool
+      buffers y = there (s.scene.buffers y) && writes world root b y
 
-    abbrev out : ℕ → Bool
-    out f = cond (writes_field (unit_writes ps) f b) false true
+      abbrev out : ℕ → Bool
+      out f = cond (writes_field (unit_writes ps) f b) false true
 
-    written : (y : ℕ) → buffers y ≡ true → IsSome (s.scene.buffers y) ×
-        (touches fields ps Writing root b y ≡ true)
-    written y h = go (s.scene.buffers y) refl (writes world root b y) refl h
+      written : (y : ℕ) → buffers y ≡ true → IsSome (s.scene.buffers y) ×
+          (touches fields ps Writing root b y ≡ true)
+      written y h = go (s.scene.buffers y) refl (writes world root b y) refl h
+        where
+          by_mode : IsSome (s.scene.buffers y) → writes world root b y ≡ true
+              → touches fields ps Writing root b y ≡ true
+          by_mode i w = pick (touches fields ps Writing root b y)
+              (touches fields ps Reducing root b y) (may.reduces y i)
+              (unit_block_is (kinds_of fields) ps b root y w)
+            where
+              pick : (m n : Bool) → n ≡ false → (m || n) ≡ true → m ≡ true
+              pick true n e h = refl
+              pick false n e h = absurd (true≢false (sym h ∙ e))
+
+          go : (o : Option Shape) → s.scene.buffers y ≡ o → (w : Bool) → writes world root b y ≡ w
+              → (there o && w) ≡ true → IsSome (s.scene.buffers y) ×
+              (touches fields ps Writing root b y ≡ true)
+          go None e w i h = absurd (true≢false (sym h))
+          go (Some shape) e false i h = absurd (true≢false (sym h))
+          go (Some shape) e true i h =
+              let k : IsSome (s.scene.buffers y) = subst IsSome (sym e) refl in
+              (k, by_mode k i)
+
+      away : LooksAway fields memories ps root b buffers
+      away = record {
+        unit = may.unit;
+        reads = λ y h. let w = written y h in may.reads y w.0 w.1;
+        reduces = λ y h. may.reduces y (written y h).0;
+      }
+
+      left_alone : (x : ℕ) → buffers x ≡ false → ended.cells x ≡ s.cells x
+      left_alone x h = fun_ext (λ at. go (s.scene.buffers x) refl at)
+        where
+          go : (o : Option Shape) → s.scene.buffers x ≡ o → (at : List ℤ)
+              → kept o (u.cells x) at ≡ s.cells x at
+          go None e at = sym (may.sound.tidy x e at)
+          go (Some shape) e at = ap (λ (y : List ℤ → Value). y at)
+              (if_gives (IsKept x s) (body s) u (others_are_kept world root b x s may.roots
+              (subst IsSome (sym e) refl) (sym (ap (λ o. there o && writes world root b x) e) ∙ h))
+              is).cells
+
+      same_field : (f : ℕ) → writes_field (unit_writes ps) f b ≡ false
+          → u.scene.fields f ≡ s.scene.fields f
+      same_field f h = if_gives (HasField f s) (body s) u
+          (fields_are_kept world (unit_writes ps) (unit_leaves (kinds_of fields) ps) f b h s) is
+
+      known : (f : ℕ) (t : Bool) → writes_field (unit_writes ps) f b ≡ t
+          → live (unit_live ps) f b (cond t false true) ≡ true → s.scene.fields f ≡ u.scene.fields f
+      known f true e h = absurd (true≢false (sym h ∙ may.dead f e))
+      known f false e h = sym (same_field f e)
+
+      differ : DifferIn (λ f. live (unit_live ps) f b (out f)) buffers s ended
+      differ = record {
+        names = refl;
+        fields = λ f h. known f (writes_field (unit_writes ps) f b) refl
+            h;
+        cells = left_alone;
+      }
+
+      ends : (v : State) → SetAlike s ended u v → left ended v ≡ ended
+      ends v h = ap₂ (λ fs cells. record { scene = record s.scene { fields = fs }; cells = cells })
+          (fun_ext (λ f. again (h.fields f) refl))
+          (fun_ext (λ x. fun_ext (λ at. go x at (s.scene.buffers x) refl)))
+        where
+          go : (x : ℕ) (at : List ℤ) (o : Option Shape) → s.scene.buffers x ≡ o
+              → kept o (v.cells x) at ≡ kept o (u.cells x) at
+          go x at None e = refl
+          go x at (Some shape) e = again (h.cells x at) (ap (λ o. kept o (u.cells x) at) e)
+
+      second : option_map (left ended) (body ended) ≡ Some ended
+      second = go (body ended) (subst (λ o. Both
+          (λ u v. SetAlike s ended u v × DifferIn out buffers u v) o (body ended)) is
+          (blocks_overwrite fields memories ps root b buffers out s ended away may.roots differ))
+        where
+          go : (o : Option State) → Both (λ u v. SetAlike s ended u v × DifferIn out buffers u v)
+              (Some u) o → option_map (left ended) o ≡ Some ended
+          go None h = absurd h
+          go (Some v) h = ap Some (ends v h.0)
+
+    repeats : (s : State) → May s → IfSome (scoped body s) (λ t. scoped body t ≡ Some t)
+    repeats s may = go (body s) refl
       where
-        by_mode : IsSome (s.scene.buffers y) → writes world root b y ≡ true
-            → touches fields ps Writing root b y ≡ true
-        by_mode i w = pick (touches fields ps Writing root b y)
-            (touches fields ps Reducing root b y) (may.reduces y i)
-            (unit_block_is (kinds_of fields) ps b root y w)
-          where
-            pick : (m n : Bool) → n ≡ false → (m || n) ≡ true → m ≡ true
-            pick true n e h = refl
-            pick false n e h = absurd (true≢false (sym h ∙ e))
-
-        go : (o : Option Shape) → s.scene.buffers y ≡ o → (w : Bool) → writes world root b y ≡ w
-            → (there o && w) ≡ true → IsSome (s.scene.buffers y) ×
-            (touches fields ps Writing root b y ≡ true)
-        go None e w i h = absurd (true≢false (sym h))
-        go (Some shape) e false i h = absurd (true≢false (sym h))
-        go (Some shape) e true i h = let k : IsSome (s.scene.buffers y) = subst IsSome (sym e) refl
-            in (k, by_mode k i)
-
-    away : LooksAway fields memories ps root b buffers
-    away = record { unit = may.unit; reads = λ y h. let w = written y h in may.reads y w.0 w.1;
-        reduces = λ y h. may.reduces y (written y h).0 }
-
-    left_alone : (x : ℕ) → buffers x ≡ false → ended.cells x ≡ s.cells x
-    left_alone x h = fun_ext (λ at. go (s.scene.buffers x) refl at)
-      where
-        go : (o : Option Shape) → s.scene.buffers x ≡ o → (at : List ℤ)
-            → kept o (u.cells x) at ≡ s.cells x at
-        go None e at = sym (may.sound.tidy x e at)
-        go (Some shape) e at = ap (λ (y : List ℤ → Value). y at)
-            (if_gives (IsKept x s) (body s) u (others_are_kept world root b x s may.roots
-            (subst IsSome (sym e) refl) (sym (ap (λ o. there o && writes world root b x) e) ∙ h))
-            is).cells
-
-    same_field : (f : ℕ) → writes_field (unit_writes ps) f b ≡ false
-        → u.scene.fields f ≡ s.scene.fields f
-    same_field f h = if_gives (HasField f s) (body s) u
-        (fields_are_kept world (unit_writes ps) (unit_leaves (kinds_of fields) ps) f b h s) is
-
-    known : (f : ℕ) (t : Bool) → writes_field (unit_writes ps) f b ≡ t
-        → live (unit_live ps) f b (cond t false true) ≡ true → s.scene.fields f ≡ u.scene.fields f
-    known f true e h = absurd (true≢false (sym h ∙ may.dead f e))
-    known f false e h = sym (same_field f e)
-
-    differ : DifferIn (λ f. live (unit_live ps) f b (out f)) buffers s ended
-    differ = record { names = refl; fields = λ f h. known f (writes_field (unit_writes ps) f b) refl
-        h; cells = left_alone }
-
-    ends : (v : State) → SetAlike s ended u v → left ended v ≡ ended
-    ends v h = ap₂ (λ fs cells. record { scene = record s.scene { fields = fs }; cells = cells })
-        (fun_ext (λ f. again (h.fields f) refl))
-        (fun_ext (λ x. fun_ext (λ at. go x at (s.scene.buffers x) refl)))
-      where
-        go : (x : ℕ) (at : List ℤ) (o : Option Shape) → s.scene.buffers x ≡ o
-            → kept o (v.cells x) at ≡ kept o (u.cells x) at
-        go x at None e = refl
-        go x at (Some shape) e = again (h.cells x at) (ap (λ o. kept o (u.cells x) at) e)
-
-    second : option_map (left ended) (body ended) ≡ Some ended
-    second = go (body ended) (subst (λ o. Both
-        (λ u v. SetAlike s ended u v × DifferIn out buffers u v) o (body ended)) is
-        (blocks_overwrite fields memories ps root b buffers out s ended away may.roots differ))
-      where
-        go : (o : Option State) → Both (λ u v. SetAlike s ended u v × DifferIn out buffers u v)
-            (Some u) o → option_map (left ended) o ≡ Some ended
-        go None h = absurd h
-        go (Some v) h = ap Some (ends v h.0)
-
-  repeats : (s : State) → May s → IfSome (scoped body s) (λ t. scoped body t ≡ Some t)
-  repeats s may = go (body s) refl
-    where
-      go : (o : Option State) → body s ≡ o → IfSome (option_map (left s) o)
-          (λ t. scoped body t ≡ Some t)
-      go None e = tt
-      go (Some u) e = second s may u e
+        go : (o : Option State) → body s ≡ o → IfSome (option_map (left s) o)
+            (λ t. scoped body t ≡ Some t)
+        go None e = tt
+        go (Some u) e = second s may u e
 
 pub turns_repeat : RepeatLaw
 turns_repeat fields memories ps root b s may = repeats fields memories ps root b s may
@@ -229,9 +243,9 @@ loops_are_removed fields memories ps root i lo hi b s may lacks free less =
     let k = some_turns m (number s.scene hi) less in
     ap (λ c. turns (turn i.id (run world b)) (range m c) s) k.1
     ∙ ap (λ o. then_do o (turns (turn i.id (run world b)) (range (m +ℤ pos 1) k.0)))
-        (turn_is_body world i.id b lacks s may.sound free m)
+    (turn_is_body world i.id b lacks s may.sound free m)
     ∙ go (range (m +ℤ pos 1) k.0) (run world b s) refl
-        (turns_repeat fields memories ps root b s may)
+    (turns_repeat fields memories ps root b s may)
   where
     go : (ns : List ℤ) → let world = unit_world (kinds_of fields) ps in (o : Option State)
         → run world b s ≡ o → IfSome (option_map (left s) o) (λ t. scoped (run world b) t ≡ Some t)

@@ -58,10 +58,20 @@ neither_writes ps a b none f k = absurd (true≢false (sym k ∙ none f))
 made_or_filled : run named_unit (next make (next fill_it copy)) input ≡ run named_unit
     (next fill_it (next make copy)) input
 made_or_filled = statements_commute [] 1 above scope (λ x. x) make fill_it copy input (record {
-  first = record { unit = are_procedures; block = refl; sound = input_is_sound; sorted =
-      input_is_sorted };
-  second = record { unit = are_procedures; block = refl; sound = input_is_sound; sorted =
-      input_is_sorted };
+  first = record {
+    unit = are_procedures;
+    block = refl;
+    sound = input_is_sound;
+    sorted =
+        input_is_sorted;
+  };
+  second = record {
+    unit = are_procedures;
+    block = refl;
+    sound = input_is_sound;
+    sorted =
+        input_is_sorted;
+  };
   to_second = record { names = refl; fields = neither_writes above make fill_it (λ f. refl) };
   to_first = record { names = refl; fields = neither_writes above fill_it make (λ f. refl) };
   clear = ((refl, tt), ((λ u. refl), ((λ u. refl), tt)));
@@ -81,8 +91,13 @@ abbrev world : World
 world = unit_world (kinds_of one_field) []
 
 sorted : IsSorted (kinds_of one_field) scope input
-sorted = record { buffers = input_is_sorted.buffers; views = input_is_sorted.views; cells =
-    input_is_sorted.cells; fields = fit }
+sorted = record {
+  buffers = input_is_sorted.buffers;
+  views = input_is_sorted.views;
+  cells =
+      input_is_sorted.cells;
+  fields = fit;
+}
   where
     fit : FieldsFit (kinds_of one_field) input
     fit zero = tt
@@ -98,8 +113,10 @@ made_or_set = statements_commute one_field 1 [] scope (λ x. x) make set end inp
   first = record { unit = tt; block = refl; sound = input_is_sound; sorted = sorted };
   second = record { unit = tt; block = refl; sound = input_is_sound; sorted = sorted };
   to_second = record { names = refl; fields = neither_writes [] make set (λ f. refl) };
-  to_first = record { names = refl; fields = λ f k. record { not_written = refl; not_read = refl }
-      };
+  to_first = record {
+    names = refl;
+    fields = λ f k. record { not_written = refl; not_read = refl };
+  };
   clear = ((refl, tt), tt);
 })
 
@@ -148,12 +165,12 @@ seen_or_stored : run world (next see (next store_if through_view)) input
     ≡ run world (next store_if (next see through_view)) input
 seen_or_stored = statements_commute one_field 1 [] scope (λ x. x) see store_if through_view input
     (record {
-  first = record { unit = tt; block = refl; sound = input_is_sound; sorted = sorted };
-  second = record { unit = tt; block = refl; sound = input_is_sound; sorted = sorted };
-  to_second = record { names = refl; fields = neither_writes [] see store_if (λ f. refl) };
-  to_first = record { names = refl; fields = neither_writes [] store_if see (λ f. refl) };
-  clear = (tt, ((λ u. refl), tt));
-})
+      first = record { unit = tt; block = refl; sound = input_is_sound; sorted = sorted };
+      second = record { unit = tt; block = refl; sound = input_is_sound; sorted = sorted };
+      to_second = record { names = refl; fields = neither_writes [] see store_if (λ f. refl) };
+      to_first = record { names = refl; fields = neither_writes [] store_if see (λ f. refl) };
+      clear = (tt, ((λ u. refl), tt));
+    })
 
 seen_through : cell_of 5 (pos 0) (run world (next store_if (next see through_view)) input)
     ≡ Some (Number (pos 9))
@@ -168,10 +185,32 @@ makes = record three_named { body = pair make set }
 may_reorder : MayReorder one_field 1 [] makes (Here end) make set
 may_reorder = record {
   there = refl;
-  before = record { unit = tt; procedure = record { params = refl; asserts = refl; body = refl;
-      filled = refl; ids = refl; distinct = refl; paths = refl; template = refl } };
-  after = record { unit = tt; procedure = record { params = refl; asserts = refl; body = refl;
-      filled = refl; ids = refl; distinct = refl; paths = refl; template = refl } };
+  before = record {
+    unit = tt;
+    procedure = record {
+      params = refl;
+      asserts = refl;
+      body = refl;
+      filled = refl;
+      ids = refl;
+      distinct = refl;
+      paths = refl;
+      template = refl;
+    };
+  };
+  after = record {
+    unit = tt;
+    procedure = record {
+      params = refl;
+      asserts = refl;
+      body = refl;
+      filled = refl;
+      ids = refl;
+      distinct = refl;
+      paths = refl;
+      template = refl;
+    };
+  };
   to_second = neither_writes [] make set (λ f. refl);
   to_first = λ f k. record { not_written = refl; not_read = refl };
 }

@@ -96,9 +96,9 @@ bound_empty world (If c a b) x k s sound none = absurd (true≢false (sym k))
 bound_empty world (For i lo hi b) x k s sound none = absurd (true≢false (sym k))
 bound_empty world (Alloc z cell dims memory) x k s sound none =
     if_where (λ t. (at : List ℤ) → t.cells x at ≡ Undefined) (all_positive (numbers s.scene dims))
-        (Some (with_contents z.id (λ at. Undefined)
-        (on_scene (with_buffer z.id (tensor cell (numbers s.scene dims))) s)))
-        (λ at. ap (λ t. cond {A = List ℤ → Value} t (λ at. Undefined) (s.cells x) at) k)
+    (Some (with_contents z.id (λ at. Undefined)
+    (on_scene (with_buffer z.id (tensor cell (numbers s.scene dims))) s)))
+    (λ at. ap (λ t. cond {A = List ℤ → Value} t (λ at. Undefined) (s.cells x) at) k)
 bound_empty world (View w z coords) x k s sound none =
     if_then (λ seen. Unit {0}) (λ t. (at : List ℤ) → t.cells x at ≡ Undefined)
     (window s.scene z coords) _ (any (window s.scene z coords)) (λ seen u at. sound.tidy x none at)
@@ -210,8 +210,14 @@ module _ (fields : List ConfigField) (memories : ℕ) (ps : List Procedure) (sco
       changes =
           let c = left_changes (entries a s) s s t may.sound.tidy refl refl goes_by in
           record {
-            changes = record { change = c.changes.change; cells = kept_cells ∙ c.changes.cells;
-                idle = c.changes.idle; sums = c.changes.sums; shapes = λ p h. refl; tidy = empty };
+            changes = record {
+              change = c.changes.change;
+              cells = kept_cells ∙ c.changes.cells;
+              idle = c.changes.idle;
+              sums = c.changes.sums;
+              shapes = λ p h. refl;
+              tidy = empty;
+            };
             dead = c.dead;
             buffers = refl;
           }
@@ -324,12 +330,12 @@ module _ (fields : List ConfigField) (memories : ℕ) (ps : List Procedure) (sco
               ∙ i) at
           go (Some shape) i =
               let same = if_gives (IsKept x t) (run world (one b) t) w
-                  (others_are_kept world seen_root (one b) x t has_roots
-                  (subst (λ o. IsSome o) (sym i) refl) (unwritten (binds a) x k world (one b)
-                  seen_root (roots_differ x k) (ap (λ r. r || false) blind.names)))
-                  (then_some (step world b t) ∙ ew) in
+              (others_are_kept world seen_root (one b) x t has_roots
+              (subst (λ o. IsSome o) (sym i) refl) (unwritten (binds a) x k world (one b)
+              seen_root (roots_differ x k) (ap (λ r. r || false) blind.names)))
+              (then_some (step world b t) ∙ ew) in
               ap (λ (c : List ℤ → Value). c at) same.cells
-                  ∙ empty a s may t e x (bound_absent a s may x k) at
+              ∙ empty a s may t e x (bound_absent a s may x k) at
 
       joins : (m : State) → SameLive out z m → SameBut (binds a) m w
           → Joins (binds a) (written_by a) t z w
@@ -399,10 +405,18 @@ module _ (fields : List ConfigField) (memories : ℕ) (ps : List Procedure) (sco
   scene_of : (c d : Scene) → c.control ≡ d.control → c.buffers ≡ d.buffers → c.views ≡ d.views
       → c.fields ≡ d.fields → c ≡ d
   scene_of c d e f g h =
-      ap₂ (λ (x : ℕ → ℤ) (y : ℕ → Option Shape). record { control = x; buffers = y; views = c.views;
-          fields = c.fields }) e f
-      ∙ ap₂ (λ (x : ℕ → Option Seen) (y : ℕ → ℤ). record { control = d.control; buffers = d.buffers;
-          views = x; fields = y }) g h
+      ap₂ (λ (x : ℕ → ℤ) (y : ℕ → Option Shape). record {
+        control = x;
+        buffers = y;
+        views = c.views;
+        fields = c.fields;
+      }) e f
+      ∙ ap₂ (λ (x : ℕ → Option Seen) (y : ℕ → ℤ). record {
+        control = d.control;
+        buffers = d.buffers;
+        views = x;
+        fields = y;
+      }) g h
 
   -- the scene does not depend on the cells
   scene_same : (b : Statement) (s t u z : State) → step world b s ≡ Some u
@@ -413,89 +427,88 @@ module _ (fields : List ConfigField) (memories : ℕ) (ps : List Procedure) (sco
       (on_cells s t) (record { scene = refl; cells = λ x at. tt }))).scene
 
   module _ (a b : Statement) (s : State) (may : MayChangePlaces fields memories ps scope root a b s)
-      where
-    cells_commute : then_do (cells_alone (step world a) s) (cells_alone (step world b))
-        ≡ then_do (cells_alone (step world b) s) (cells_alone (step world a))
-    cells_commute = either_order (cells_alone (step world a)) (cells_alone (step world b))
-        (entries a s) (entries b s) s may.clear.0 may.clear.1
-        (exchanges a s may.first) (exchanges b s may.second)
-        (cells_alone (step world a) s) (cells_alone (step world b) s) refl refl
-        (all_changes a s may.first) (all_changes b s may.second)
-        (all_stay a s may.first) (all_stay b s may.second)
+    where
+      cells_commute : then_do (cells_alone (step world a) s) (cells_alone (step world b))
+          ≡ then_do (cells_alone (step world b) s) (cells_alone (step world a))
+      cells_commute = either_order (cells_alone (step world a)) (cells_alone (step world b))
+          (entries a s) (entries b s) s may.clear.0 may.clear.1
+          (exchanges a s may.first) (exchanges b s may.second)
+          (cells_alone (step world a) s) (cells_alone (step world b) s) refl refl
+          (all_changes a s may.first) (all_changes b s may.second)
+          (all_stay a s may.first) (all_stay b s may.second)
 
-
-    module _ (t u : State) (et : step world a s ≡ Some t) (eu : step world b s ≡ Some u) where
-      same_end : (z w y v : State) → step world b (on_cells s t) ≡ Some z
-          → step world a (on_cells s u) ≡ Some y → Joins (binds a) (written_by a) t z w
-          → Joins (binds b) (written_by b) u y v → SameCells z y → w ≡ v
-      same_end z w y v ez ey h k c =
-          ap₂ (λ (x : Scene) (d : Cells). record { scene = x; cells = d })
-          (scene_of w.scene v.scene
+      module _ (t u : State) (et : step world a s ≡ Some t) (eu : step world b s ≡ Some u) where
+        same_end : (z w y v : State) → step world b (on_cells s t) ≡ Some z
+            → step world a (on_cells s u) ≡ Some y → Joins (binds a) (written_by a) t z w
+            → Joins (binds b) (written_by b) u y v → SameCells z y → w ≡ v
+        same_end z w y v ez ey h k c =
+            ap₂ (λ (x : Scene) (d : Cells). record { scene = x; cells = d })
+            (scene_of w.scene v.scene
             (fun_ext (λ x. h.control x ∙ after_control a s may.first t et x
-                ∙ sym (after_control b s may.second u eu x) ∙ sym (k.control x)))
+            ∙ sym (after_control b s may.second u eu x) ∙ sym (k.control x)))
             (fun_ext (λ x. pick (s.scene.buffers x) (t.scene.buffers x) (u.scene.buffers x)
-                (z.scene.buffers x) (y.scene.buffers x) (w.scene.buffers x) (v.scene.buffers x)
-                (binds a x) (binds b x) (not_both (binds a) b may.to_second.names x) (h.buffers x)
-                (h.own_buffers x) (k.buffers x) (k.own_buffers x) (ap (λ (q : Scene). q.buffers x)
-                zu) (ap (λ (q : Scene). q.buffers x) yt)
-                (λ e. (after_names a s may.first t et x e).buffers)
-                (λ e. (after_names b s may.second u eu x e).buffers)))
+            (z.scene.buffers x) (y.scene.buffers x) (w.scene.buffers x) (v.scene.buffers x)
+            (binds a x) (binds b x) (not_both (binds a) b may.to_second.names x) (h.buffers x)
+            (h.own_buffers x) (k.buffers x) (k.own_buffers x) (ap (λ (q : Scene). q.buffers x)
+            zu) (ap (λ (q : Scene). q.buffers x) yt)
+            (λ e. (after_names a s may.first t et x e).buffers)
+            (λ e. (after_names b s may.second u eu x e).buffers)))
             (fun_ext (λ x. pick (s.scene.views x) (t.scene.views x) (u.scene.views x)
-                (z.scene.views x) (y.scene.views x) (w.scene.views x) (v.scene.views x) (binds a x)
-                (binds b x) (not_both (binds a) b may.to_second.names x) (h.views x) (h.own_views x)
-                (k.views x) (k.own_views x) (ap (λ (q : Scene). q.views x) zu)
-                (ap (λ (q : Scene). q.views x) yt) (λ e. (after_names a s may.first t et x e).views)
-                (λ e. (after_names b s may.second u eu x e).views)))
+            (z.scene.views x) (y.scene.views x) (w.scene.views x) (v.scene.views x) (binds a x)
+            (binds b x) (not_both (binds a) b may.to_second.names x) (h.views x) (h.own_views x)
+            (k.views x) (k.own_views x) (ap (λ (q : Scene). q.views x) zu)
+            (ap (λ (q : Scene). q.views x) yt) (λ e. (after_names a s may.first t et x e).views)
+            (λ e. (after_names b s may.second u eu x e).views)))
             (fun_ext (λ f. pick (s.scene.fields f) (t.scene.fields f) (u.scene.fields f)
-                (z.scene.fields f) (y.scene.fields f) (w.scene.fields f) (v.scene.fields f)
-                (written_by a f) (written_by b f) (λ e. (may.to_second.fields f e).not_written)
-                (h.other_fields f) (h.own_fields f) (k.other_fields f) (k.own_fields f)
-                (ap (λ (q : Scene). q.fields f) zu) (ap (λ (q : Scene). q.fields f) yt)
-                (λ e. sym (written_else a s t et f e)) (λ e. sym (written_else b s u eu f e)))))
-          (h.cells ∙ c ∙ sym k.cells)
-        where
-          zu : z.scene ≡ u.scene
-          zu = scene_same b s t u z eu ez
+            (z.scene.fields f) (y.scene.fields f) (w.scene.fields f) (v.scene.fields f)
+            (written_by a f) (written_by b f) (λ e. (may.to_second.fields f e).not_written)
+            (h.other_fields f) (h.own_fields f) (k.other_fields f) (k.own_fields f)
+            (ap (λ (q : Scene). q.fields f) zu) (ap (λ (q : Scene). q.fields f) yt)
+            (λ e. sym (written_else a s t et f e)) (λ e. sym (written_else b s u eu f e)))))
+            (h.cells ∙ c ∙ sym k.cells)
+          where
+            zu : z.scene ≡ u.scene
+            zu = scene_same b s t u z eu ez
 
-          yt : y.scene ≡ t.scene
-          yt = scene_same a s u t y et ey
+            yt : y.scene ≡ t.scene
+            yt = scene_same a s u t y et ey
 
-      both_end : (o q r p : Option State) → step world b (on_cells s t) ≡ o
-          → step world a (on_cells s u) ≡ r → Both (Joins (binds a) (written_by a) t) o q
-          → Both (Joins (binds b) (written_by b) u) r p → Both SameCells o r → q ≡ p
-      both_end None (Some w) r p eo er h k c = absurd h
-      both_end (Some z) None r p eo er h k c = absurd h
-      both_end None None None None eo er h k c = refl
-      both_end None None None (Some v) eo er h k c = absurd k
-      both_end None None (Some y) p eo er h k c = absurd c
-      both_end (Some z) (Some w) None p eo er h k c = absurd c
-      both_end (Some z) (Some w) (Some y) None eo er h k c = absurd k
-      both_end (Some z) (Some w) (Some y) (Some v) eo er h k c =
-          ap Some (same_end z w y v eo er h k c)
+        both_end : (o q r p : Option State) → step world b (on_cells s t) ≡ o
+            → step world a (on_cells s u) ≡ r → Both (Joins (binds a) (written_by a) t) o q
+            → Both (Joins (binds b) (written_by b) u) r p → Both SameCells o r → q ≡ p
+        both_end None (Some w) r p eo er h k c = absurd h
+        both_end (Some z) None r p eo er h k c = absurd h
+        both_end None None None None eo er h k c = refl
+        both_end None None None (Some v) eo er h k c = absurd k
+        both_end None None (Some y) p eo er h k c = absurd c
+        both_end (Some z) (Some w) None p eo er h k c = absurd c
+        both_end (Some z) (Some w) (Some y) None eo er h k c = absurd k
+        both_end (Some z) (Some w) (Some y) (Some v) eo er h k c =
+            ap Some (same_end z w y v eo er h k c)
 
-    either : (o r : Option State) → step world a s ≡ o → step world b s ≡ r
-        → then_do (option_map (on_cells s) o) (cells_alone (step world b)) ≡ then_do
-        (option_map (on_cells s) r) (cells_alone (step world a))
-        → then_do o (step world b) ≡ then_do r (step world a)
-    either None None e i c = refl
-    either None (Some u) e i c = none_follows (Joins (binds b) (written_by b) u)
-        (on_cells (on_cells s u)) (step world a (on_cells s u)) (step world a u)
-        (follows b a s may.second may.to_first u i) c
-    either (Some t) None e i c = sym (none_follows (Joins (binds a) (written_by a) t)
-        (on_cells (on_cells s t)) (step world b (on_cells s t)) (step world b t)
-        (follows a b s may.first may.to_second t e) (sym c))
-    either (Some t) (Some u) e i c =
-        both_end t u e i (step world b (on_cells s t)) (step world b t)
-            (step world a (on_cells s u)) (step world a u) refl refl
-        (follows a b s may.first may.to_second t e) (follows b a s may.second may.to_first u i)
-        (cells_of (on_cells s t) (on_cells s u) (step world b (on_cells s t))
-            (step world a (on_cells s u)) c)
+      either : (o r : Option State) → step world a s ≡ o → step world b s ≡ r
+          → then_do (option_map (on_cells s) o) (cells_alone (step world b)) ≡ then_do
+          (option_map (on_cells s) r) (cells_alone (step world a))
+          → then_do o (step world b) ≡ then_do r (step world a)
+      either None None e i c = refl
+      either None (Some u) e i c = none_follows (Joins (binds b) (written_by b) u)
+          (on_cells (on_cells s u)) (step world a (on_cells s u)) (step world a u)
+          (follows b a s may.second may.to_first u i) c
+      either (Some t) None e i c = sym (none_follows (Joins (binds a) (written_by a) t)
+          (on_cells (on_cells s t)) (step world b (on_cells s t)) (step world b t)
+          (follows a b s may.first may.to_second t e) (sym c))
+      either (Some t) (Some u) e i c =
+          both_end t u e i (step world b (on_cells s t)) (step world b t)
+          (step world a (on_cells s u)) (step world a u) refl refl
+          (follows a b s may.first may.to_second t e) (follows b a s may.second may.to_first u i)
+          (cells_of (on_cells s t) (on_cells s u) (step world b (on_cells s t))
+          (step world a (on_cells s u)) c)
 
 pub statements_commute : StatementsCommute
 statements_commute fields memories ps scope root a b rest s may =
     let world = unit_world (kinds_of fields) ps in
     sym (then_assoc (step world a s) (step world b) (run world rest))
     ∙ ap (λ o. then_do o (run world rest)) (either fields memories ps scope root a b s may
-        (step world a s) (step world b s) refl refl (cells_commute fields memories ps scope root a b
-        s may))
+    (step world a s) (step world b s) refl refl (cells_commute fields memories ps scope root a b
+    s may))
     ∙ then_assoc (step world b s) (step world a) (run world rest)

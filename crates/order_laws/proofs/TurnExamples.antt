@@ -42,8 +42,11 @@ abbrev pub world : World
 world = unit_world (kinds_of []) ps
 
 abbrev pub params : List Param
-params = record { binder = record { id = 0; name = 120 ∷ [] }; kind =
-    TensorParam I8 (Lit (pos 16) ∷ []) 0 } ∷ []
+params = record {
+  binder = record { id = 0; name = 120 ∷ [] };
+  kind =
+      TensorParam I8 (Lit (pos 16) ∷ []) 0;
+} ∷ []
 
 abbrev pub scope : Scope
 scope = with_name [] (record { id = 0; name = 120 ∷ [] }) (BufferName I8 1 true)
@@ -61,30 +64,49 @@ fills i = next (Call 0 (ControlArg (Lit (pos 1)) ∷ Window 0
 
 -- for i in seq(0, 2): x[i] = 3
 abbrev pub first : Loop
-first = record { binder = record { id = 1; name = 105 ∷ [] }; lo = Lit (pos 0); hi = Lit (pos 2);
-    body = stores }
+first = record {
+  binder = record { id = 1; name = 105 ∷ [] };
+  lo = Lit (pos 0);
+  hi = Lit (pos 2);
+  body = stores;
+}
 
 -- for j in seq(0, 2): fill(1, x[j + 8:j + 9])
 abbrev pub second : Loop
-second = record { binder = record { id = 2; name = 106 ∷ [] }; lo = Lit (pos 0); hi = Lit (pos 2);
-    body = fills 2 }
+second = record {
+  binder = record { id = 2; name = 106 ∷ [] };
+  lo = Lit (pos 0);
+  hi = Lit (pos 2);
+  body = fills 2;
+}
 
 abbrev pub holder : Procedure
 holder = record { name = []; template = None; params = params; asserts = []; body = end }
 
 pub admissible : IsAdmissible world holder input
-admissible = record { arguments = is_admissible.arguments; no_others = is_admissible.no_others;
-    cells = is_admissible.cells; tidy = is_admissible.tidy; fields = is_admissible.fields; asserts =
-    refl }
+admissible = record {
+  arguments = is_admissible.arguments;
+  no_others = is_admissible.no_others;
+  cells = is_admissible.cells;
+  tidy = is_admissible.tidy;
+  fields = is_admissible.fields;
+  asserts =
+      refl;
+}
 
 pub is_unit : AreProcedures [] 1 [] ps
 is_unit = (may_run.procedure, tt)
 
 may_touch : (b : Block) → is_block (field_kind []) 1 world.callees scope (λ x. x) b ≡ true
     → MayTouch [] 1 ps scope (λ x. x) b input
-may_touch b ok = record { unit = is_unit; block = ok; sound =
-    admissible_sound world holder input admissible; sorted =
-    admissible_sorted (kinds_of []) (field_kind []) 1 world refl holder refl input admissible }
+may_touch b ok = record {
+  unit = is_unit;
+  block = ok;
+  sound =
+      admissible_sound world holder input admissible;
+  sorted =
+      admissible_sorted (kinds_of []) (field_kind []) 1 world refl holder refl input admissible;
+}
 
 pub stores_leave : LeavesFields world stores
 stores_leave s t e = fun_ext
@@ -113,14 +135,14 @@ by_turns : (l : Loop) → ((c : Cells)
 by_turns l clear t m n e before =
     let modes = unit_modes (kinds_of []) ps in
     let here : t ≡ record { scene = input.scene; cells = t.cells } =
-        ap {B = State} (λ (z : Scene). record { scene = z; cells = t.cells }) e in
+    ap {B = State} (λ (z : Scene). record { scene = z; cells = t.cells }) e in
     let at_turns : AreClear input.scene (touches l m t.cells) (touches first n t.cells) =
-        subst (λ a. AreClear input.scene (touches l a t.cells) (touches first n t.cells))
-        (sym (is_zero m n before.0 before.1 before.2))
-        (subst (λ b. AreClear input.scene (touches l (pos 0) t.cells) (touches first b t.cells))
-        (sym (is_one m n before.0 before.1 before.2)) (clear t.cells)) in
+    subst (λ a. AreClear input.scene (touches l a t.cells) (touches first n t.cells))
+    (sym (is_zero m n before.0 before.1 before.2))
+    (subst (λ b. AreClear input.scene (touches l (pos 0) t.cells) (touches first b t.cells))
+    (sym (is_one m n before.0 before.1 before.2)) (clear t.cells)) in
     subst (λ (u : State). AreClear u.scene (turn_touched world modes l.binder l.body m u)
-        (turn_touched world modes first.binder first.body n u)) (sym here) at_turns
+    (turn_touched world modes first.binder first.body n u)) (sym here) at_turns
 
 -- turn 0 fills x[8], turn 1 stores in x[1]
 they_are_apart : (c : Cells)
@@ -155,8 +177,12 @@ abbrev one : Loop
 one = of_both first (fills 1)
 
 nothing : (x : ℕ) → (x == 0) ≡ false → IsUnbound input x
-nothing x e = record { control = refl; buffers = ap (λ t. cond t (Some shape) None) e; views =
-    ap (λ t. cond t (Some all_of_it) None) e }
+nothing x e = record {
+  control = refl;
+  buffers = ap (λ t. cond t (Some shape) None) e;
+  views =
+      ap (λ t. cond t (Some all_of_it) None) e;
+}
 
 may_part : MayPart spot first (fills 1) input
 may_part = record {

@@ -48,8 +48,8 @@ pub halves_part : (Good : State → Type 0) (Before : ℤ → ℤ → Type 0)
     → turns go (in_turn ns) s ≡ turns go (apart ns) s
 halves_part Good Before go stays commute ns ascends s good =
     sym (turns_reorder (Crosses Comes Before) Good go stays
-        (λ x y c. exchange x.0 y.0 x.1 y.1 c.0 c.1) (apart ns) (in_turn ns)
-        (transposed Comes Before both ns ((tt, tt), (tt, tt)) ascends) s good)
+    (λ x y c. exchange x.0 y.0 x.1 y.1 c.0 c.1) (apart ns) (in_turn ns)
+    (transposed Comes Before both ns ((tt, tt), (tt, tt)) ascends) s good)
   where
     exchange : (v w : Which) (m n : ℤ) → Comes v w → Before n m → Exchange Good go (v, m) (w, n)
     exchange First First m n c r = absurd c
@@ -94,20 +94,20 @@ module _ (world : World) (k l : Loop) (s : State) (Good : State → Type 0)
       turns_append go (row First ns) (row Second ns ++ []) s
       ∙ ap (λ o. then_do o (turns go (row Second ns ++ []))) (sym (turns_half go First ns s))
       ∙ then_cong (turns first ns s) (turns go (row Second ns ++ [])) then_second (λ u.
-        turns_append go (row Second ns) [] u
-            ∙ ap (λ o. then_do o (λ v. Some v)) (sym (turns_half go Second ns u)))
+      turns_append go (row Second ns) [] u
+      ∙ ap (λ o. then_do o (λ v. Some v)) (sym (turns_half go Second ns u)))
 
   pub rows_of_two : turns go (in_turn ns) s ≡ run world (in_a_row k l) s
   rows_of_two =
       halves_part Good (IsBefore s.scene k.lo k.hi) go stays exchange ns
-          (turns_ascend (number s.scene k.lo) (number s.scene k.hi)) s good
+      (turns_ascend (number s.scene k.lo) (number s.scene k.hi)) s good
       ∙ all_apart
       ∙ then_cong_if Good (turns first ns s) then_second
-          (run world (next (For l.binder l.lo l.hi l.body) end))
-          (turns_stay Good first (λ n. stays (First, n)) ns s good) (λ u h.
-        ap (λ ms. then_do (turns second ms u) (λ v. Some v))
-            (sym (ap (λ z. turns_of z l.lo l.hi) (has_scene u h)
-            ∙ ap₂ (λ m n. range m (count (n -ℤ m))) agree.0 agree.1)))
+      (run world (next (For l.binder l.lo l.hi l.body) end))
+      (turns_stay Good first (λ n. stays (First, n)) ns s good) (λ u h.
+      ap (λ ms. then_do (turns second ms u) (λ v. Some v))
+      (sym (ap (λ z. turns_of z l.lo l.hi) (has_scene u h)
+      ∙ ap₂ (λ m n. range m (count (n -ℤ m))) agree.0 agree.1)))
 
 -- ---- in any world
 
@@ -116,13 +116,13 @@ turn_at : (world : World) (i : ℕ) (b : Block) (s : State) → LeavesFields wor
 turn_at world i b s leaves n t h =
     let deep = on_scene (with_control i n) t in
     if_map (λ v. run world b deep ≡ Some v) (IsAt s) (run world b deep) (left t)
-        (here (run world b deep))
-        (λ v e. (ap (λ f. record t.scene { fields = f }) (leaves deep v e) ∙ h.0, left_tidy t v))
+    (here (run world b deep))
+    (λ v e. (ap (λ f. record t.scene { fields = f }) (leaves deep v e) ∙ h.0, left_tidy t v))
 
 pub turns_of_two : TurnsOfTwo
 turns_of_two world k l s tidy may exchange =
     rows_of_two world k l s (IsAt s) (λ t h. h.0) (λ x t h. which x.0 x.1 t h) may.agree exchange
-        (refl, tidy)
+    (refl, tidy)
   where
     which : (w : Which) (n : ℤ) (t : State) → IsAt s t → IfSome (halves world k l (w, n) t) (IsAt s)
     which First n t h = turn_at world k.binder.id k.body s may.first n t h
@@ -164,12 +164,17 @@ module _ (fields : List ConfigField) (memories : ℕ) (ps : List Procedure)
     touch =
         let sorted = body.sorted n in
         let there : IsSound (on_scene (with_control i n)
-            (record { scene = s.scene; cells = t.cells })) =
-            record { tidy = subst IsTidy at_scene k.1.0; seen = sound.seen } in
+        (record { scene = s.scene; cells = t.cells })) =
+        record { tidy = subst IsTidy at_scene k.1.0; seen = sound.seen } in
         let fits : IsSorted kinds body.scope
-            (on_scene (with_control i n) (record { scene = s.scene; cells = t.cells })) =
-            record { buffers = sorted.buffers; views = sorted.views; cells =
-            subst CellsFit at_scene k.1.1; fields = sorted.fields } in
+        (on_scene (with_control i n) (record { scene = s.scene; cells = t.cells })) =
+        record {
+          buffers = sorted.buffers;
+          views = sorted.views;
+          cells =
+              subst CellsFit at_scene k.1.1;
+          fields = sorted.fields;
+        } in
         record {
           unit = unit;
           block = body.block;
@@ -187,15 +192,18 @@ module _ (fields : List ConfigField) (memories : ℕ) (ps : List Procedure)
     turn_fit : IfSome (turn i (run world b) n t) (IsFitAt s)
     turn_fit =
         let ends = run_ends kinds (field_kind fields) (agrees fields) memories world refl
-            (unit_good fields memories ps unit) b body.scope body.root body.block deep touch.sound
-            touch.sorted in
+        (unit_good fields memories ps unit) b body.scope body.root body.block deep touch.sound
+        touch.sorted in
         let fits : IfSome (turn i (run world b) n t) (λ u. IsTidy u × CellsFit u) =
-            if_map (Ends kinds deep) (λ u. IsTidy u × CellsFit u) (run world b deep) (left t) ends
-            (λ u e. (left_tidy t u, λ x shape h at.
-            subst (λ o. FitsCell shape.cell (kept o (u.cells x) at)) (sym h)
-            (e.cells x shape (e.kept x shape h) at))) in
+        if_map (Ends kinds deep) (λ u. IsTidy u × CellsFit u) (run world b deep) (left t) ends
+        (λ u e. (
+          left_tidy t u,
+          λ x shape h at.
+              subst (λ o. FitsCell shape.cell (kept o (u.cells x) at)) (sym h)
+              (e.cells x shape (e.kept x shape h) at),
+        )) in
         if_both (HasScene t.scene) (λ u. IsTidy u × CellsFit u) (IsFitAt s)
-            (turn i (run world b) n t) same_scene fits (λ u a e. (a ∙ k.0, e))
+        (turn i (run world b) n t) same_scene fits (λ u a e. (a ∙ k.0, e))
 
   halves_commute : (i j : ℕ) (b c : Block) → IsBody fields memories ps i b s
       → IsBody fields memories ps j c s → (m n : ℤ) (t : State) → IsFitAt s t
@@ -210,16 +218,16 @@ module _ (fields : List ConfigField) (memories : ℕ) (ps : List Procedure)
       let may_b = touch i b first m t k in
       let may_c = touch j c second n t k in
       either_order (turn i (run world b) m) (turn j (run world c) n) (touched world modes b in_b)
-          (touched world modes c in_c) t clear.0 clear.1
+      (touched world modes c in_c) t clear.0 clear.1
       (λ d l p. scoped_exchanges d (run world b) t in_b l
-          (runs_exchange fields memories ps first.scope first.root b in_b may_b d l p))
+      (runs_exchange fields memories ps first.scope first.root b in_b may_b d l p))
       (λ d l p. scoped_exchanges d (run world c) t in_c l
-          (runs_exchange fields memories ps second.scope second.root c in_c may_c d l p))
+      (runs_exchange fields memories ps second.scope second.root c in_c may_c d l p))
       (turn i (run world b) m t) (turn j (run world c) n t) refl refl
       (scoped_changes (touched world modes b in_b) (run world b) t in_b k.1.0 refl refl
-          (runs_go_by_footprint fields memories ps first.scope first.root b in_b may_b))
+      (runs_go_by_footprint fields memories ps first.scope first.root b in_b may_b))
       (scoped_changes (touched world modes c in_c) (run world c) t in_c k.1.0 refl refl
-          (runs_go_by_footprint fields memories ps second.scope second.root c in_c may_c))
+      (runs_go_by_footprint fields memories ps second.scope second.root c in_c may_c))
       (same_scene i b first m t k) (same_scene j c second n t k)
 
   pub in_turn_or_apart : (k l : Loop) → IsBody fields memories ps k.binder.id k.body s
@@ -230,8 +238,8 @@ module _ (fields : List ConfigField) (memories : ℕ) (ps : List Procedure)
       (in_a_row k l) s
   in_turn_or_apart k l first second agree clear cells =
       rows_of_two world k l s (IsFitAt s) (λ t h. h.0) (λ x t h. which x.0 x.1 t h) agree
-          (λ m n before t h. halves_commute l.binder.id k.binder.id l.body k.body second first m n t
-          h (clear t m n h.0 before)) (refl, (sound.tidy, cells))
+      (λ m n before t h. halves_commute l.binder.id k.binder.id l.body k.body second first m n t
+      h (clear t m n h.0 before)) (refl, (sound.tidy, cells))
     where
       which : (w : Which) (n : ℤ) (t : State) → IsFitAt s t
           → IfSome (halves world k l (w, n) t) (IsFitAt s)
@@ -248,21 +256,26 @@ pub loop_body : (fields : List ConfigField) (memories : ℕ) (ps : List Procedur
 loop_body fields memories ps scope root k s ok sorted leaves =
     let p = and_parts (is_new scope k.binder) _ ok in
     let q = and_parts (is_control (field_kind fields) plainly scope k.lo && is_control
-        (field_kind fields) plainly scope k.hi) _ p.1 in
+    (field_kind fields) plainly scope k.hi) _ p.1 in
     let r = and_parts (not (is_empty k.body) && is_short k.body) _ q.1 in
-    record { scope = with_name scope k.binder (ControlName Index); root = root; block = r.1;
-        sorted = λ n. inside (kinds_of fields) scope k.binder n s p.0 sorted; leaves = leaves }
+    record {
+      scope = with_name scope k.binder (ControlName Index);
+      root = root;
+      block = r.1;
+      sorted = λ n. inside (kinds_of fields) scope k.binder n s p.0 sorted;
+      leaves = leaves;
+    }
 
 pub turns_from_footprints : TurnsFromFootprints
 turns_from_footprints at k l s start may clear =
     let callees = (world_at at).callees in
     let kind_of = field_kind at.fields in
     let p = and_parts (is_statement kind_of at.memories callees at.scope at.root (whole k)) _
-        start.block in
+    start.block in
     let q = and_parts (is_statement kind_of at.memories callees at.scope at.root (whole l)) _ p.1 in
     let first = loop_body at.fields at.memories at.procedures at.scope at.root k s p.0 start.sorted
-        may.first in
+    may.first in
     let second = loop_body at.fields at.memories at.procedures at.scope at.root l s q.0 start.sorted
-        may.second in
+    may.second in
     in_turn_or_apart at.fields at.memories at.procedures start.unit s start.sound k l first second
-        may.agree clear start.sorted.cells
+    may.agree clear start.sorted.cells

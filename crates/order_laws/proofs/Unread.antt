@@ -32,7 +32,7 @@ module _ (reads : ℕ → ℕ → Bool) (calls : ℕ → ℕ → Bool → Bool) 
     step_unread Pass h = refl
     step_unread (If c a b) h =
         let p = or_parts (read_by_condition f c) (reads_field reads f a || reads_field reads f b) h
-            in
+        in
         let q = or_parts (reads_field reads f a) (reads_field reads f b) p.1 in
         ap₂ (λ t u. t || u) p.0 (ap₂ (λ t u. t || u) (block_unread a q.0) (block_unread b q.1))
     step_unread (For i lo hi b) h =
@@ -75,10 +75,10 @@ procedure_unread : (rs : List (ℕ → Bool)) (ls : List (ℕ → Bool → Bool)
     → live_before (live_at ls) p f false ≡ false
 procedure_unread rs ls h p f e =
     let s = or_parts (read_by_params f p.params)
-        (read_by_conditions f p.asserts || reads_field (read_at rs) f p.body) e in
+    (read_by_conditions f p.asserts || reads_field (read_at rs) f p.body) e in
     let t = or_parts (read_by_conditions f p.asserts) (reads_field (read_at rs) f p.body) s.1 in
     ap₂ (λ x y. x || y) s.0 (ap₂ (λ x y. x || y) t.0
-        (block_unread (read_at rs) (live_at ls) f (unread_at rs ls h f) p.body t.1))
+    (block_unread (read_at rs) (live_at ls) f (unread_at rs ls h f) p.body t.1))
 
 all_unread : (rs : List (ℕ → Bool)) (ls : List (ℕ → Bool → Bool)) (ps : List Procedure)
     → AllUnread rs ls → AllUnread (all_read rs ps) (all_live ls ps)

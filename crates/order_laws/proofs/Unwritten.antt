@@ -49,7 +49,7 @@ module _ (hidden : ℕ → Bool) (x : ℕ) where
     call_unwritten w (p ∷ ps) (a ∷ args) k =
         let q = or_parts (in_argument hidden a) (in_arguments hidden args) k in
         ap₂ (λ t u. t || u) (and_false (w p.binder.id) (is_root root x a) (no_root a q.0))
-            (call_unwritten w ps args q.1)
+        (call_unwritten w ps args q.1)
 
     callee_unwritten : (o : Option Callee) (args : List Argument) → in_arguments hidden args ≡ false
         → call_to_writes o root x args ≡ false
@@ -81,7 +81,7 @@ module _ (hidden : ℕ → Bool) (x : ℕ) where
         unwritten (next a b) root h k =
             let p = or_parts (in_statement hidden a) (in_block hidden b) k in
             ap₂ (λ t u. t || u) (step_unwritten a root h p.0) (unwritten b (roots_after a root)
-                (roots_step a root h p.0) p.1)
+            (roots_step a root h p.0) p.1)
 
         step_unwritten : (a : Statement) (root : ℕ → ℕ) → Roots root → in_statement hidden a ≡ false
             → step_writes world root a x ≡ false
@@ -97,9 +97,9 @@ module _ (hidden : ℕ → Bool) (x : ℕ) where
             ap₂ (λ t u. t || u) (unwritten a root h q.0) (unwritten b root h q.1)
         step_unwritten (For i lo hi b) root h k =
             let p = or_parts (hidden i.id) (in_control hidden lo || (in_control hidden hi
-                || in_block hidden b)) k in
+            || in_block hidden b)) k in
             let q = or_parts (in_control hidden lo) (in_control hidden hi || in_block hidden b)
-                p.1 in
+            p.1 in
             unwritten b root h (or_parts (in_control hidden hi) (in_block hidden b) q.1).1
         step_unwritten (Alloc z cell dims memory) root h k =
             differs at_x z.id (or_parts (hidden z.id) (in_controls hidden dims) k).0

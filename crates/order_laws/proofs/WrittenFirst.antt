@@ -144,21 +144,33 @@ module _ (world : World) (k : Loop) (f : ℕ) (a : Argument) (c : Block) (s : St
       go x false same = refl
 
   set_has : (m : ℤ) (t : State) → Stays s t → Has m (on_scene (with_field f m) t)
-  set_has m t h = record { stays =
-      record { sound = record { tidy = h.sound.tidy; seen = h.sound.seen }; names = λ x.
-      record { control = (h.names x).control; buffers = (h.names x).buffers; views =
-      (h.names x).views } }; field = ap (λ q. cond q m (t.scene.fields f)) (eq-eqb f f refl) }
+  set_has m t h = record {
+    stays =
+        record {
+          sound = record { tidy = h.sound.tidy; seen = h.sound.seen };
+          names = λ x.
+              record {
+                control = (h.names x).control;
+                buffers = (h.names x).buffers;
+                views =
+                    (h.names x).views;
+              };
+        };
+    field = ap (λ q. cond q m (t.scene.fields f)) (eq-eqb f f refl);
+  }
 
   second_has : (m n : ℤ) (t : State) → Has m t → IfSome (second n t) (Has m)
   second_has m n t h =
       let deep = on_scene (with_control i n) t in
       if_both (Stays t) (HasField f t) (Has m) (second n t)
-          (turn_stays i (run world c) n t h.stays.sound)
+      (turn_stays i (run world c) n t h.stays.sound)
       (if_map (HasField f deep) (HasField f t) (run world c deep) (left t) (may.leaves deep)
-          (λ u e. e))
-      (λ u z e. record { stays =
-          record { sound = z.sound; names = λ x. name_on x s t u (h.stays.names x) (z.names x) };
-          field = e ∙ h.field })
+      (λ u e. e))
+      (λ u z e. record {
+        stays =
+            record { sound = z.sound; names = λ x. name_on x s t u (h.stays.names x) (z.names x) };
+        field = e ∙ h.field;
+      })
 
   module _ (m : ℤ) (is : (t : State)
       → written (argument_number s.scene a) t ≡ Some (on_scene (with_field f m) t)) where
@@ -184,9 +196,9 @@ module _ (world : World) (k : Loop) (f : ℕ) (a : Argument) (c : Block) (s : St
         let has = set_has m s h in
         ap (λ o. then_do o (turns one ns)) (one_is n s h ∙ ap (λ o. then_do o (second n)) (is s))
         ∙ then_cong_if (Has m) (second n set) (turns one ns) (turns second ns)
-            (second_has m n set has) (ones ns)
+        (second_has m n set has) (ones ns)
         ∙ sym (ap (λ o. then_do o (turns second (n ∷ ns)))
-            (ap (λ o. then_do o (turns first ns)) (first_is n s h ∙ is s) ∙ firsts ns set has))
+        (ap (λ o. then_do o (turns first ns)) (first_is n s h ∙ is s) ∙ firsts ns set has))
 
   all_turns : (ns : List ℤ) → turns one ns s ≡ then_do (turns first ns s) (turns second ns)
   all_turns [] = refl
@@ -199,9 +211,9 @@ module _ (world : World) (k : Loop) (f : ℕ) (a : Argument) (c : Block) (s : St
           → turns one (n ∷ ns) s ≡ then_do (turns first (n ∷ ns) s) (turns second (n ∷ ns))
       faults is =
           ap (λ o. then_do o (turns one ns))
-              (one_is n s start ∙ ap (λ o. then_do o (second n)) (is s))
+          (one_is n s start ∙ ap (λ o. then_do o (second n)) (is s))
           ∙ sym (ap (λ o. then_do (then_do o (turns first ns)) (turns second (n ∷ ns)))
-              (first_is n s start ∙ is s))
+          (first_is n s start ∙ is s))
 
       at_kind : (m : ℤ) → argument_number s.scene a ≡ Some m → (q : Bool)
           → suits (world.kinds f) m ≡ q
@@ -227,12 +239,12 @@ written_first_law world k f a c r s may moves =
     then_some (turns (turn i (run world (next (Config f a) c))) ns s)
     ∙ all_turns world k f a c s may ns
     ∙ then_cong_if (Stays s) firsts (turns (turn i (run world c)) ns)
-        (run world (next (re_statement r (For k.binder k.lo k.hi c)) end))
-        (turns_stay_so i (run world (next (Config f a) end)) ns s may.sound) (λ t h.
-      let lo_is = plain_same k.lo t.scene s.scene plain.0 (λ x e. sym (h.names x).control) in
-      let hi_is = plain_same k.hi t.scene s.scene plain.1 (λ x e. sym (h.names x).control) in
-      ap (λ ms. turns (turn i (run world c)) ms t)
-          (sym (ap₂ (λ m n. range m (count (n -ℤ m))) lo_is hi_is))
-      ∙ sym (then_some (step world (re_statement r (For k.binder k.lo k.hi c)) t)
-          ∙ copy_law r world k.binder k.lo k.hi c t h.sound
-          (moves_on r (IsUnbound s) (IsUnbound t) (λ x z. unbound_on s t x (h.names x) z) moves)))
+    (run world (next (re_statement r (For k.binder k.lo k.hi c)) end))
+    (turns_stay_so i (run world (next (Config f a) end)) ns s may.sound) (λ t h.
+    let lo_is = plain_same k.lo t.scene s.scene plain.0 (λ x e. sym (h.names x).control) in
+    let hi_is = plain_same k.hi t.scene s.scene plain.1 (λ x e. sym (h.names x).control) in
+    ap (λ ms. turns (turn i (run world c)) ms t)
+    (sym (ap₂ (λ m n. range m (count (n -ℤ m))) lo_is hi_is))
+    ∙ sym (then_some (step world (re_statement r (For k.binder k.lo k.hi c)) t)
+    ∙ copy_law r world k.binder k.lo k.hi c t h.sound
+    (moves_on r (IsUnbound s) (IsUnbound t) (λ x z. unbound_on s t x (h.names x) z) moves)))

@@ -30,9 +30,9 @@ pub record DifferIn (alive buffers : ℕ → Bool) (s t : State) : Type 0 where
 pub record SetAlike (s t u v : State) : Type 0 where
   pub names : v.scene ≡ record u.scene { fields = v.scene.fields }
   pub fields : (f : ℕ)
-    → SetOrKept (s.scene.fields f) (t.scene.fields f) (u.scene.fields f) (v.scene.fields f)
+      → SetOrKept (s.scene.fields f) (t.scene.fields f) (u.scene.fields f) (v.scene.fields f)
   pub cells : (x : ℕ) (at : List ℤ)
-    → SetOrKept (s.cells x at) (t.cells x at) (u.cells x at) (v.cells x at)
+      → SetOrKept (s.cells x at) (t.cells x at) (u.cells x at) (v.cells x at)
 
 -- buffer y is touched in that mode, calls included
 abbrev pub touches : List ConfigField → List Procedure → Mode → (ℕ → ℕ) → Block → ℕ → Bool
@@ -50,10 +50,10 @@ pub record LooksAway (fields : List ConfigField) (memories : ℕ) (ps : List Pro
 -- what such a block sets does not depend on what these buffers and the dead fields held
 abbrev pub OverwriteLaw : Type 0
 OverwriteLaw = (fields : List ConfigField) (memories : ℕ) (ps : List Procedure)
-  (root : ℕ → ℕ) (b : Block) (buffers out : ℕ → Bool) (s t : State)
-  → LooksAway fields memories ps root b buffers → HasRoots root s.scene
-  → DifferIn (λ f. live (unit_live ps) f b (out f)) buffers s t
-  → let world = unit_world (kinds_of fields) ps in
+    (root : ℕ → ℕ) (b : Block) (buffers out : ℕ → Bool) (s t : State)
+    → LooksAway fields memories ps root b buffers → HasRoots root s.scene
+    → DifferIn (λ f. live (unit_live ps) f b (out f)) buffers s t
+    → let world = unit_world (kinds_of fields) ps in
     Both (λ u v. SetAlike s t u v × DifferIn out buffers u v) (run world b s) (run world b t)
 
 -- ---- a turn that is run again
@@ -66,26 +66,26 @@ pub record MayRepeat (fields : List ConfigField) (memories : ℕ) (ps : List Pro
   pub sound : IsSound s
   pub roots : HasRoots root s.scene
   pub reduces : (y : ℕ) → IsSome (s.scene.buffers y)
-    → touches fields ps Reducing root b y ≡ false
+      → touches fields ps Reducing root b y ≡ false
   pub reads : (y : ℕ) → IsSome (s.scene.buffers y)
-    → touches fields ps Writing root b y ≡ true → touches fields ps Reading root b y ≡ false
+      → touches fields ps Writing root b y ≡ true → touches fields ps Reading root b y ≡ false
   pub dead : (f : ℕ) → writes_field (unit_writes ps) f b ≡ true
-    → live (unit_live ps) f b false ≡ false
+      → live (unit_live ps) f b false ≡ false
 
 -- a second run in a scope of its own, from the state that the first one left, changes nothing
 abbrev pub RepeatLaw : Type 0
 RepeatLaw = (fields : List ConfigField) (memories : ℕ) (ps : List Procedure)
-  (root : ℕ → ℕ) (b : Block) (s : State)
-  → MayRepeat fields memories ps root b s
-  → let once = scoped (run (unit_world (kinds_of fields) ps) b) in
+    (root : ℕ → ℕ) (b : Block) (s : State)
+    → MayRepeat fields memories ps root b s
+    → let once = scoped (run (unit_world (kinds_of fields) ps) b) in
     IfSome (once s) (λ t. once t ≡ Some t)
 
 -- a loop with turns, whose body lacks the variable, is its body in a scope of its own
 abbrev pub RemoveLoopLaw : Type 0
 RemoveLoopLaw = (fields : List ConfigField) (memories : ℕ) (ps : List Procedure)
-  (root : ℕ → ℕ) (i : Binder) (lo hi : Control) (b : Block) (s : State)
-  → MayRepeat fields memories ps root b s
-  → in_block (λ x. x == i.id) b ≡ false → s.scene.buffers i.id ≡ None
-  → holds s.scene (Lt lo hi) ≡ true
-  → let world = unit_world (kinds_of fields) ps in
+    (root : ℕ → ℕ) (i : Binder) (lo hi : Control) (b : Block) (s : State)
+    → MayRepeat fields memories ps root b s
+    → in_block (λ x. x == i.id) b ≡ false → s.scene.buffers i.id ≡ None
+    → holds s.scene (Lt lo hi) ≡ true
+    → let world = unit_world (kinds_of fields) ps in
     step world (For i lo hi b) s ≡ scoped (run world b) s

@@ -6,7 +6,7 @@ use Rattle.exo_meaning.specs.Scene.{then_do}
 use Rattle.exo_meaning.specs.Run.{World, run, turns}
 use Rattle.exo_meaning.specs.Renaming.{Renaming, re_statement}
 use Rattle.exo_meaning.specs.Unseen.{in_block as mentions}
-use Rattle.meaning_laws.specs.Sound.{IsUnbound, binds}
+use Rattle.meaning_laws.specs.Sound.{IsUnbound}
 use Rattle.meaning_laws.specs.Scoped.{is_scoped, step_has_binder}
 use Rattle.meaning_laws.specs.Substitute.{in_block}
 use Rattle.meaning_laws.specs.Copies.{Moves}
@@ -57,7 +57,7 @@ abbrev pub TurnByTurn : Type 0
 TurnByTurn =
     (world : World) (k l : Loop) (ns : List ℤ) (s : State)
     → turns (λ n t. then_do (turn_of world k n t) (turn_of world l n)) ns s
-      ≡ turns (halves world k l) (in_turn ns) s
+    ≡ turns (halves world k l) (in_turn ns) s
 
 -- so are the turns of a loop with both parts, where the second uses no name of the first
 abbrev pub SplitHalves : Type 0
@@ -67,7 +67,7 @@ SplitHalves =
     → top_binders k.body k.binder.id ≡ false
     → HasNone (top_binders k.body) s
     → turns (turn_of world (of_both k c)) ns s
-      ≡ turns (halves world k (with_body k c)) (in_turn ns) s
+    ≡ turns (halves world k (with_body k c)) (in_turn ns) s
 
 -- ---- two loops in one
 

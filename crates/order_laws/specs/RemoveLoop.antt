@@ -1,11 +1,10 @@
 -- Loops whose turns all do the same, at a place of a well-formed procedure.
 use Rattle.std.specs.Prelude.{◌≡◌, ◌==◌, ◌||◌, ℕ, Bool, true, false, List}
 use Rattle.exo_tree.specs.Tree.{Binder, Control, Lt, For, Block, end, next, Procedure, ConfigField}
-use Rattle.exo_tree.specs.Context.{Context, Here, After, InLoop, InThen, InElse}
+use Rattle.exo_tree.specs.Context.{Context}
 use Rattle.exo_meaning.specs.State.{State, scoped}
-use Rattle.exo_meaning.specs.Run.{run, roots_after, kinds_of, unit_world}
+use Rattle.exo_meaning.specs.Run.{run, kinds_of, unit_world}
 use Rattle.exo_meaning.specs.Inputs.{IsAdmissible, is_buffer_of}
-use Rattle.exo_meaning.specs.Laws.{HasRoots}
 use Rattle.exo_meaning.specs.Unseen.{in_block}
 use Rattle.meaning_laws.specs.Context.{ComesTo}
 use Rattle.meaning_laws.specs.Sound.{on_way}
@@ -29,19 +28,19 @@ pub record IsIdempotent (fields : List ConfigField) (ps : List Procedure) (p : P
   pub fresh : IsFree p c i.id
   pub lacks : in_block (λ x. x == i.id) b ≡ false
   pub reduces : (y : ℕ) → is_outside p c y ≡ true
-    → touches fields ps Reducing (own_roots_at c) b y ≡ false
+      → touches fields ps Reducing (own_roots_at c) b y ≡ false
   pub reads : (y : ℕ) → is_outside p c y ≡ true
-    → touches fields ps Writing (own_roots_at c) b y ≡ true
-    → touches fields ps Reading (own_roots_at c) b y ≡ false
+      → touches fields ps Writing (own_roots_at c) b y ≡ true
+      → touches fields ps Reading (own_roots_at c) b y ≡ false
   pub unread : (f : ℕ) → writes_field (unit_writes ps) f b ≡ true
-    → reads_field (unit_reads ps) f b ≡ false
+      → reads_field (unit_reads ps) f b ≡ false
 
 -- where it has turns, such a loop is its body in a scope of its own, faults included
 abbrev pub RemoveLoopAtLaw : Type 0
 RemoveLoopAtLaw = (fields : List ConfigField) (memories : ℕ) (ps : List Procedure) (p : Procedure)
-  (c : Context) (i : Binder) (lo hi : Control) (b : Block) (s u : State)
-  → MayRun fields memories ps p → IsIdempotent fields ps p c i b
-  → let world = unit_world (kinds_of fields) ps in
+    (c : Context) (i : Binder) (lo hi : Control) (b : Block) (s u : State)
+    → MayRun fields memories ps p → IsIdempotent fields ps p c i b
+    → let world = unit_world (kinds_of fields) ps in
     let old = next (For i lo hi b) end in
     HoldsAt world p old c (Lt lo hi) → IsAdmissible world p s → ComesTo world old c s u
     → run world old u ≡ scoped (run world b) u

@@ -39,9 +39,9 @@ pub record MayChangePlaces
   pub to_second : IsBlindTo ps a b
   pub to_first : IsBlindTo ps b a
   pub clear :
-    let world = unit_world (kinds_of fields) ps in
-    let modes = unit_modes (kinds_of fields) ps in
-    AreClear s.scene (touched world modes (one a) s) (touched world modes (one b) s)
+      let world = unit_world (kinds_of fields) ps in
+      let modes = unit_modes (kinds_of fields) ps in
+      AreClear s.scene (touched world modes (one a) s) (touched world modes (one b) s)
 
 -- such statements may be run in either order, faults included
 abbrev pub StatementsCommute : Type 0

@@ -15,6 +15,8 @@ ghost use Rattle.order_laws.specs.PartedLoops.{SplitHalves};
 ghost use Rattle.order_laws.specs.PartedPlaces.{FissionRefines};
 ghost use Rattle.order_laws.specs.PartedPlaces.{FuseRefines};
 ghost use Rattle.order_laws.specs.WrittenFirst.{WrittenFirstLaw};
+ghost use Rattle.order_laws.specs.WrittenFirst.{WritesReadNone};
+ghost use Rattle.order_laws.specs.WrittenFirst.{WrittenFirstRefines};
 ghost use Rattle.order_laws.specs.Overwrite.{OverwriteLaw};
 ghost use Rattle.order_laws.specs.Overwrite.{RepeatLaw};
 ghost use Rattle.order_laws.specs.Overwrite.{RemoveLoopLaw};
@@ -75,6 +77,16 @@ pub fn loops_fuse()
 /// A loop may be parted where the first part is one write of a field, the same in each turn.
 pub fn fields_are_written_first()
     ensures { WrittenFirstLaw }
+{}
+
+/// In a well-formed write of a field what is written depends on no field.
+pub fn writes_read_no_field()
+    ensures { WritesReadNone }
+{}
+
+/// A procedure is refined by itself with such a loop parted.
+pub fn written_first_refines()
+    ensures { WrittenFirstRefines }
 {}
 
 /// In a well-formed block nothing catches an expression that stands for a number in scope.

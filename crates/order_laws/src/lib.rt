@@ -1,4 +1,4 @@
-//! The order in which statements, turns and loops go: when it may change, and which turns only repeat.
+//! The order of statements, turns and loops: when it may change, and which turns only repeat.
 #![tactic(auto)]
 
 pub mod laws;

@@ -72,7 +72,7 @@ module _ (hidden blind : ℕ → Bool) (world : World) (y : ℕ) (is_hidden : hi
   no_call root h w (p ∷ ps) (a ∷ rest) k =
       let q = or_parts (in_argument hidden blind a) (in_arguments hidden blind rest) k in
       neither (is_root root y a) (w p.binder.id) (call_writes w root y ps rest)
-          (no_argument root h a q.0) (no_call root h w ps rest q.1)
+      (no_argument root h a q.0) (no_call root h w ps rest q.1)
 
   no_call_to : (root : ℕ → ℕ) → NoRoot root → (o : Option Callee) (args : List Argument)
       → in_arguments hidden blind args ≡ false → call_to_writes o root y args ≡ false
@@ -87,7 +87,7 @@ module _ (hidden blind : ℕ → Bool) (world : World) (y : ℕ) (is_hidden : hi
     unwritten (next a b) root h k =
         let q = or_parts (in_statement hidden blind a) (in_block hidden blind b) k in
         ap₂ ◌||◌ (unwritten_by a root h q.0) (unwritten b (roots_after a root)
-            (no_root_after a root h q.0) q.1)
+        (no_root_after a root h q.0) q.1)
 
     unwritten_by : (a : Statement) (root : ℕ → ℕ) → NoRoot root
         → in_statement hidden blind a ≡ false → step_writes world root a y ≡ false
@@ -99,8 +99,8 @@ module _ (hidden blind : ℕ → Bool) (world : World) (y : ℕ) (is_hidden : hi
     unwritten_by Pass root h k = refl
     unwritten_by (If c a b) root h k =
         let q = or_parts (in_block hidden blind a) (in_block hidden blind b)
-            (or_parts (in_condition hidden blind c) (in_block hidden blind a || in_block hidden
-            blind b) k).1 in
+        (or_parts (in_condition hidden blind c) (in_block hidden blind a || in_block hidden
+        blind b) k).1 in
         ap₂ ◌||◌ (unwritten a root h q.0) (unwritten b root h q.1)
     unwritten_by (For i lo hi b) root h k =
         unwritten b root h (or_parts (in_control hidden blind hi) (in_block hidden blind b)

@@ -38,20 +38,20 @@ run_names world (next a b) s t x e k =
     let q = or_parts (step_has_binder a x) (has_binder b x) k in
     let g = then_gives (step world a s) (run world b) t e in
     name_on x s g.0 t (of_some (λ u. (y : ℕ) → binds a y ≡ false → IsSameName y s u)
-        (step world a s) g.0 (step_names world a s) g.1 x (binds_less a x q.0))
-        (run_names world b g.0 t x g.2 q.1)
+    (step world a s) g.0 (step_names world a s) g.1 x (binds_less a x q.0))
+    (run_names world b g.0 t x g.2 q.1)
 
 pub behind_law : BehindLaw
 behind_law world a x seen coords ls b s t sound h between e over =
     let names : (y : ℕ) → has_binder b y ≡ false → IsSameName y s t =
-        λ y k. run_names world b s t y e k in
+    λ y k. run_names world b s t y e k in
     let before : window s.scene x coords ≡ Some seen =
-        subst (λ z. window z x coords ≡ Some seen) (set_none ls s.scene)
-        (at_all ls (λ z. window z x coords ≡ Some seen) s.scene h.window []) in
+    subst (λ z. window z x coords ≡ Some seen) (set_none ls s.scene)
+    (at_all ls (λ z. window z x coords ≡ Some seen) s.scene h.window []) in
     let here : window t.scene x coords ≡ Some seen =
-        sym (view_kept x (Window x coords) between.plain (Window x coords) s.scene t.scene
-        between.plain (names x between.name).views
-        (λ y k. (names y (between.variables y k)).control)) ∙ before in
+    sym (view_kept x (Window x coords) between.plain (Window x coords) s.scene t.scene
+    between.plain (names x between.name).views
+    (λ y k. (names y (between.variables y k)).control)) ∙ before in
     let turns = spans_law x coords ls t.scene over in
     record {
       tidy = (of_some IsSound (run world b s) t (run_sound world b s sound) e).tidy;
@@ -67,8 +67,11 @@ behind_law world a x seen coords ls b s t sound h between e over =
 
 module _ (a : ℕ) (seen : Seen) (to : Shape) (s : State) (sound : IsSound s) where
   pub staged_sound : IsSound (staged a seen to s)
-  staged_sound = record { tidy = λ y e at. tidy y at (y == a) e; seen = λ y z e. there y z (y == a)
-      e }
+  staged_sound = record {
+    tidy = λ y e at. tidy y at (y == a) e;
+    seen = λ y z e. there y z (y == a)
+        e;
+  }
     where
       tidy : (y : ℕ) (at : List ℤ) (t : Bool)
           → cond {A = Option Shape} t (Some (tensor to.cell (extents seen.sides)))
@@ -84,14 +87,16 @@ module _ (a : ℕ) (seen : Seen) (to : Shape) (s : State) (sound : IsSound s) wh
       still z false i = i
 
       there : (y : ℕ) (z : Seen) (t : Bool)
-          → cond {A = Option Seen} t (Some (record { buffer = a; sides = whole (extents seen.sides)
+          → cond {A = Option Seen} t (Some (record {
+            buffer = a;
+            sides = whole (extents seen.sides);
           })) (s.scene.views y) ≡ Some z → IsSome ((staged a seen to s).scene.buffers z.buffer)
       there y z true e =
           subst (λ (o : Seen). IsSome ((staged a seen to s).scene.buffers o.buffer))
-              (one_value (record { buffer = a; sides = whole (extents seen.sides) }) z e)
+          (one_value (record { buffer = a; sides = whole (extents seen.sides) }) z e)
           (subst (λ t. IsSome (cond {A = Option Shape} t
-              (Some (tensor to.cell (extents seen.sides))) (s.scene.buffers a)))
-              (sym (eq-eqb a a refl)) refl)
+          (Some (tensor to.cell (extents seen.sides))) (s.scene.buffers a)))
+          (sym (eq-eqb a a refl)) refl)
       there y z false e = still z.buffer (z.buffer == a) (sound.seen y z e)
 
 pub round_law : RoundLaw
@@ -108,10 +113,13 @@ round_law blind world root a dims memory x seen to coords ls b s alone h =
       over = h.before.over;
     } in
     stage_law (has_root (updated root a.id a.id) seen.buffer) blind world (updated root a.id a.id) a
-        dims memory x seen to coords ls b s may (record {
+    dims memory x seen to coords ls b s may (record {
       sizes = h.sizes;
       before = h.before;
       fit = h.fit;
-      behind = λ t e. (behind_law world a.id x seen coords ls b (staged a.id seen to s) t sound
-          first h.between e (h.behind t e).0, (h.behind t e).1);
+      behind = λ t e. (
+        behind_law world a.id x seen coords ls b (staged a.id seen to s) t sound
+            first h.between e (h.behind t e).0,
+        (h.behind t e).1,
+      );
     })

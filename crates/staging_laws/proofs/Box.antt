@@ -36,18 +36,21 @@ narrowed_box scene (Range lo n ∷ sides) [] ts e = absurd (none_is_some e)
 narrowed_box scene (Range lo n ∷ sides) (At a ∷ cs) ts e =
     let i = number scene a in
     let w = where_parts (is_below i n) (option_map (λ rest. Point (lo +ℤ i) ∷ rest)
-        (narrowed scene sides cs)) ts e in
+    (narrowed scene sides cs)) ts e in
     let m = map_parts (λ rest. Point (lo +ℤ i) ∷ rest) (narrowed scene sides cs) ts w.1 in
     subst (IsBox scene (At a ∷ cs)) m.2 (narrowed_box scene sides cs m.0 m.1)
 narrowed_box scene (Range lo n ∷ sides) (Span a b ∷ cs) ts e =
     let i = number scene a in
     let j = number scene b in
     let w = where_parts (int_le (pos 0) i && int_lt i j && int_le j n)
-        (option_map (λ rest. Range (lo +ℤ i) (j -ℤ i) ∷ rest) (narrowed scene sides cs)) ts e in
+    (option_map (λ rest. Range (lo +ℤ i) (j -ℤ i) ∷ rest) (narrowed scene sides cs)) ts e in
     let m = map_parts (λ rest. Range (lo +ℤ i) (j -ℤ i) ∷ rest) (narrowed scene sides cs) ts w.1 in
     let h = narrowed_box scene sides cs m.0 m.1 in
-    subst (IsBox scene (Span a b ∷ cs)) m.2 (ap (λ r. (j -ℤ i) ∷ r) h.0, ap₂ ◌&&◌
-        (is_positive i j n w.0) h.1)
+    subst (IsBox scene (Span a b ∷ cs)) m.2 (
+      ap (λ r. (j -ℤ i) ∷ r) h.0,
+      ap₂ ◌&&◌
+          (is_positive i j n w.0) h.1,
+    )
 
 pub box_law : BoxLaw
 box_law scene x coords seen e = let u =
@@ -62,12 +65,12 @@ module _ (world : World) (root : ℕ → ℕ) (a : ℕ) (seen : Seen) (to : Shap
       t.cells ≡ t.cells
   same_back t k l =
       let held : t.cells a ≡ contents s.cells seen = k.cells
-          ∙ ap (λ q. cond {A = List ℤ → Value} q (contents s.cells seen) (s.cells a))
-          (eq-eqb a a refl) in
+      ∙ ap (λ q. cond {A = List ℤ → Value} q (contents s.cells seen) (s.cells a))
+      (eq-eqb a a refl) in
       let left : t.cells seen.buffer ≡ s.cells seen.buffer = l.cells
-          ∙ updated_other s.cells a (contents s.cells seen) seen.buffer other in
+      ∙ updated_other s.cells a (contents s.cells seen) seen.buffer other in
       ap (λ c. copy_back true (GivenView seen) c t.cells)
-          (held ∙ ap (λ (d : List ℤ → Value). λ is. held_at d (cell_at seen.sides is)) (sym left))
+      (held ∙ ap (λ (d : List ℤ → Value). λ is. held_at d (cell_at seen.sides is)) (sym left))
       ∙ copy_is_same seen t.cells
 
   both_left : (o : Option State) → IfSome o (IsKept a (staged a seen to s))
@@ -90,6 +93,6 @@ pub no_store_law : NoStoreLaw
 no_store_law world root a seen to b s roots there other w v =
     both_left world root a seen to b s other (run world b (staged a seen to s))
     (others_are_kept world root b a (staged a seen to s) roots (own_there world root a seen to b s
-        other) w)
+    other) w)
     (others_are_kept world root b seen.buffer (staged a seen to s) roots (root_there world root a
-        seen to b s other there) v)
+    seen to b s other there) v)

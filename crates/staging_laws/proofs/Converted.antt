@@ -41,7 +41,7 @@ use Rattle.inplace_laws.specs.Windows.{in_argument as argument_with, in_block as
 use Rattle.inplace_laws.specs.Windows.{in_arguments as arguments_with}
 use Rattle.inplace_laws.specs.Windows.{in_statement as statement_with}
 use Rattle.inplace_laws.proofs.Along.{along_law}
-use Rattle.staging_laws.specs.Converted.{indices_on, coords_on, name_on, indices_at, coords_at}
+use Rattle.staging_laws.specs.Converted.{indices_on, coords_on, name_on}
 use Rattle.staging_laws.specs.Converted.{converted_datum, converted_argument, converted_arguments}
 use Rattle.staging_laws.specs.Converted.{converted_statement, converted, IndicesFit, CoordsFit}
 use Rattle.staging_laws.specs.Converted.{IndicesAt, CoordsAt, DatumFits, ArgumentFits, ArgumentsFit}
@@ -74,16 +74,16 @@ module _ (scene : Scene) where
   narrowed_same (Range lo n ∷ sides) (c ∷ cs) [] h = absurd h
   narrowed_same (Range lo n ∷ sides) (At e ∷ cs) (At f ∷ ds) h =
       ap₂ (λ i o. where_true (is_below i n) (option_map (λ rest. Point (lo +ℤ i) ∷ rest) o))
-          h.0 (narrowed_same sides cs ds h.1)
+      h.0 (narrowed_same sides cs ds h.1)
   narrowed_same (Range lo n ∷ sides) (At e ∷ cs) (Span f g ∷ ds) h = absurd h
   narrowed_same (Range lo n ∷ sides) (Span e f ∷ cs) (At g ∷ ds) h = absurd h
   narrowed_same (Range lo n ∷ sides) (Span e f ∷ cs) (Span g k ∷ ds) h =
       ap (λ i. where_true (int_le (pos 0) i && int_lt i (number scene f)
-          && int_le (number scene f) n) (option_map (λ rest. Range (lo +ℤ i)
-          (number scene f -ℤ i) ∷ rest) (narrowed scene sides cs))) h.0
+      && int_le (number scene f) n) (option_map (λ rest. Range (lo +ℤ i)
+      (number scene f -ℤ i) ∷ rest) (narrowed scene sides cs))) h.0
       ∙ ap₂ (λ j o. where_true (int_le (pos 0) (number scene g) && int_lt (number scene g) j
-          && int_le j n) (option_map (λ rest. Range (lo +ℤ number scene g)
-          (j -ℤ number scene g) ∷ rest) o)) h.1 (narrowed_same sides cs ds h.2)
+      && int_le j n) (option_map (λ rest. Range (lo +ℤ number scene g)
+      (j -ℤ number scene g) ∷ rest) o)) h.1 (narrowed_same sides cs ds h.2)
 
   window_same : (y : ℕ) (cs ds : List Coord) → SameCoords cs ds
       → window scene y cs ≡ window scene y ds
@@ -120,7 +120,8 @@ module _ (a x : ℕ) (coords : List Coord) where
   control_same (Div e c) h = ap (λ z. Div z c) (control_same e h)
   control_same (Mod e c) h = ap (λ z. Mod z c) (control_same e h)
 
-  pub controls_same : (is : List Control) → controls_mention new is ≡ false → controls_with a t is ≡ is
+  pub controls_same : (is : List Control) → controls_mention new is ≡ false
+      → controls_with a t is ≡ is
   controls_same [] h = refl
   controls_same (e ∷ is) h =
       let p = or_parts (control_mentions new e) (controls_mention new is) h in
@@ -156,7 +157,7 @@ module _ (a x : ℕ) (coords : List Coord) where
       ap₂ (λ f cs. At f ∷ cs) (control_same e p.0) (coords_same ds p.1)
   coords_same (Span e f ∷ ds) h =
       let p = or_parts (control_mentions new e) (control_mentions new f || coords_mention new ds)
-          h in
+      h in
       let q = or_parts (control_mentions new f) (coords_mention new ds) p.1 in
       ap₂ (λ g cs. Span g (control_with a t f) ∷ cs) (control_same e p.0) (coords_same ds q.1)
       ∙ ap (λ g. Span e g ∷ ds) (control_same f q.0)
@@ -171,7 +172,7 @@ module _ (a x : ℕ) (coords : List Coord) where
         → number scene (Add u (Sub (control_with a t e) (control_with a t u))) ≡ number scene e
     under u e h k =
         ap₂ (λ (p q : Control). number scene u +ℤ (number scene p -ℤ number scene q))
-            (control_same e k) (control_same u h)
+        (control_same e k) (control_same u h)
         ∙ back (number scene u) (number scene e)
 
     numbers_back : (cs : List Coord) (is : List Control) → coords_mention new cs ≡ false
@@ -187,7 +188,7 @@ module _ (a x : ℕ) (coords : List Coord) where
         ap₂ ◌∷◌ (sym fit.0) (numbers_back cs is p.1 q.1 fit.1)
     numbers_back (Span u v ∷ cs) (e ∷ is) h k fit =
         let p = or_parts (control_mentions new u)
-            (control_mentions new v || coords_mention new cs) h in
+        (control_mentions new v || coords_mention new cs) h in
         let o = or_parts (control_mentions new v) (coords_mention new cs) p.1 in
         let q = or_parts (control_mentions new e) (controls_mention new is) k in
         ap₂ ◌∷◌ (under u e p.0 q.0) (numbers_back cs is o.1 q.1 fit)
@@ -206,16 +207,16 @@ module _ (a x : ℕ) (coords : List Coord) where
     coords_back (At u ∷ cs) (Span e f ∷ ds) h k fit = absurd fit
     coords_back (Span u v ∷ cs) (At e ∷ ds) h k fit =
         let p = or_parts (control_mentions new u)
-            (control_mentions new v || coords_mention new cs) h in
+        (control_mentions new v || coords_mention new cs) h in
         let o = or_parts (control_mentions new v) (coords_mention new cs) p.1 in
         let q = or_parts (control_mentions new e) (coords_mention new ds) k in
         (under u e p.0 q.0, coords_back cs ds o.1 q.1 fit)
     coords_back (Span u v ∷ cs) (Span e f ∷ ds) h k fit =
         let p = or_parts (control_mentions new u)
-            (control_mentions new v || coords_mention new cs) h in
+        (control_mentions new v || coords_mention new cs) h in
         let o = or_parts (control_mentions new v) (coords_mention new cs) p.1 in
         let q = or_parts (control_mentions new e)
-            (control_mentions new f || coords_mention new ds) k in
+        (control_mentions new f || coords_mention new ds) k in
         let r = or_parts (control_mentions new f) (coords_mention new ds) q.1 in
         (under u e p.0 q.0, under u f p.0 r.0, coords_back cs ds o.1 r.1 fit)
 
@@ -239,12 +240,12 @@ module _ (a x : ℕ) (coords : List Coord) where
           go : (b : Bool) → (y == x) ≡ b → place_of b y is ≡ place scene y is
           go true e =
               ap (λ r. place scene (cond r x a) (shifted (cond r coords [])
-                  (controls_with a t (indices_on coords is)))) (eq-eqb a a refl)
+              (controls_with a t (indices_on coords is)))) (eq-eqb a a refl)
               ∙ ap (place_by x) (numbers_back scene coords is spots unused (fit e))
               ∙ ap (λ z. place scene z is) (sym (eqb-true y x e))
           go false e =
               ap (λ r. place scene (cond r x y) (shifted (cond r coords []) (controls_with a t is)))
-                  other
+              other
               ∙ ap (place scene y) (controls_same is unused)
 
       abbrev window_of : Bool → ℕ → List Coord → Option Seen
@@ -259,19 +260,19 @@ module _ (a x : ℕ) (coords : List Coord) where
           go : (b : Bool) → (y == x) ≡ b → window_of b y ds ≡ window scene y ds
           go true e =
               ap (λ r. window scene (cond r x a) (joined_coords (cond r coords [])
-                  (coords_with a t (coords_on coords ds)))) (eq-eqb a a refl)
+              (coords_with a t (coords_on coords ds)))) (eq-eqb a a refl)
               ∙ window_same scene x
-                  (joined_coords coords (coords_with a t (coords_on coords ds))) ds
-                  (coords_back scene coords ds spots unused (fit e))
+              (joined_coords coords (coords_with a t (coords_on coords ds))) ds
+              (coords_back scene coords ds spots unused (fit e))
               ∙ ap (λ z. window scene z ds) (sym (eqb-true y x e))
           go false e =
               ap (λ r. window scene (cond r x y) (joined_coords (cond r coords [])
-                  (coords_with a t ds))) other
+              (coords_with a t ds))) other
               ∙ ap (window scene y) (coords_same ds unused)
 
       number_back : (g : Argument) → argument_mentions new g ≡ false
           → argument_number scene (argument_with a t (converted_argument a x coords g))
-            ≡ argument_number scene g
+          ≡ argument_number scene g
       number_back (ControlArg e) h = ap (λ z. Some (number scene z)) (control_same e h)
       number_back (ConditionArg c) h = ap (λ z. Some (truth (holds scene z))) (condition_same c h)
       number_back (Whole y) h = go (name_on a x coords y == a)
@@ -293,7 +294,7 @@ module _ (a x : ℕ) (coords : List Coord) where
         where
           go : (b : Bool) → (y == x) ≡ b
               → given scene (cond (cond b a y == a) t (Whole (cond b a y)))
-                ≡ option_map GivenView (scene.views y)
+              ≡ option_map GivenView (scene.views y)
           go true e =
               ap (λ r. given scene (cond r t (Whole a))) (eq-eqb a a refl)
               ∙ ap (option_map GivenView) (fit e)
@@ -306,12 +307,12 @@ module _ (a x : ℕ) (coords : List Coord) where
       all_back : (gs : List Argument) → arguments_mention new gs ≡ false
           → ArgumentsFit x coords scene gs
           → all_given scene (arguments_with a t (converted_arguments a x coords gs))
-            ≡ all_given scene gs
+          ≡ all_given scene gs
       all_back [] h fit = refl
       all_back (g ∷ gs) h fit =
           let p = or_parts (argument_mentions new g) (arguments_mention new gs) h in
           ap₂ (λ o r. then_do o (λ z. option_map (λ zs. z ∷ zs) r)) (given_back g p.0 fit.0)
-              (all_back gs p.1 fit.1)
+          (all_back gs p.1 fit.1)
 
     module _ (s : State) where
       value_back : (d : Datum) → datum_mentions new d ≡ false → DatumFits x coords s.scene d
@@ -326,27 +327,27 @@ module _ (a x : ℕ) (coords : List Coord) where
       value_back (Plus d e) h fit =
           let p = or_parts (datum_mentions new d) (datum_mentions new e) h in
           ap₂ (λ m n. then_do m (λ u. option_map (on_two ◌+ℤ◌ u) n)) (value_back d p.0 fit.0)
-              (value_back e p.1 fit.1)
+          (value_back e p.1 fit.1)
       value_back (Minus d e) h fit =
           let p = or_parts (datum_mentions new d) (datum_mentions new e) h in
           ap₂ (λ m n. then_do m (λ u. option_map (on_two ◌-ℤ◌ u) n)) (value_back d p.0 fit.0)
-              (value_back e p.1 fit.1)
+          (value_back e p.1 fit.1)
       value_back (Times d e) h fit =
           let p = or_parts (datum_mentions new d) (datum_mentions new e) h in
           ap₂ (λ m n. then_do m (λ u. option_map (on_two ◌*ℤ◌ u) n)) (value_back d p.0 fit.0)
-              (value_back e p.1 fit.1)
+          (value_back e p.1 fit.1)
       value_back (Select d e f g) h fit =
           let p = or_parts (datum_mentions new d) _ h in
           let q = or_parts (datum_mentions new e) _ p.1 in
           let r = or_parts (datum_mentions new f) (datum_mentions new g) q.1 in
           ap₂ (λ (m n : Option Value). then_do m (λ u. then_do n (λ v.
-              then_do (value s (datum_with a t (converted_datum a x coords f))) (λ w.
-              option_map (on_four selected u v w)
-              (value s (datum_with a t (converted_datum a x coords g)))))))
-              (value_back d p.0 fit.0) (value_back e q.0 fit.1)
+          then_do (value s (datum_with a t (converted_datum a x coords f))) (λ w.
+          option_map (on_four selected u v w)
+          (value s (datum_with a t (converted_datum a x coords g)))))))
+          (value_back d p.0 fit.0) (value_back e q.0 fit.1)
           ∙ ap₂ (λ (m n : Option Value). then_do (value s d) (λ u. then_do (value s e) (λ v.
-              then_do m (λ w. option_map (on_four selected u v w) n))))
-              (value_back f r.0 fit.2) (value_back g r.1 fit.3)
+          then_do m (λ w. option_map (on_four selected u v w) n))))
+          (value_back f r.0 fit.2) (value_back g r.1 fit.3)
 
     -- ---- statements
 
@@ -355,7 +356,7 @@ module _ (a x : ℕ) (coords : List Coord) where
     calls_same None gs hs s e = refl
     calls_same (Some callee) gs hs s e =
         ap (λ z. then_do z (λ ns. then_do (entered callee.procedure.params ns s) (λ inner.
-            option_map (returned callee ns s) (run_asserted callee inner)))) e
+        option_map (returned callee ns s) (run_asserted callee inner)))) e
 
     module _ (world : World) where
       abbrev Fits : Block → State → Type 0
@@ -368,7 +369,7 @@ module _ (a x : ℕ) (coords : List Coord) where
         along (next d b) s h fit =
             let p = or_parts (statement_mentions new d) (mentions new b) h in
             both_next (there d b s p.0 fit) (λ u e. along b u p.1
-                (λ c f v same come. fit (After d c) f v (ap (next d) same) (u, e, come)))
+            (λ c f v same come. fit (After d c) f v (ap (next d) same) (u, e, come)))
 
         there : (d : Statement) (rest : Block) (s : State) → statement_mentions new d ≡ false
             → Fits (next d rest) s
@@ -378,50 +379,54 @@ module _ (a x : ℕ) (coords : List Coord) where
             let q = or_parts (controls_mention new is) (datum_mentions new d) p.1 in
             let here = fit (Here rest) (Assign y is d) s refl refl in
             at_once (sym (ap₂ (λ (o : Option Place) (r : Option Value). then_do o (λ z.
-                then_do r (λ v. put s (λ old. v) z)))
-                (place_back s.scene y is p.0 q.0 here.0) (value_back s d q.1 here.1)))
+            then_do r (λ v. put s (λ old. v) z)))
+            (place_back s.scene y is p.0 q.0 here.0) (value_back s d q.1 here.1)))
         there (Reduce y is d) rest s h fit =
             let p = or_parts (new y) (controls_mention new is || datum_mentions new d) h in
             let q = or_parts (controls_mention new is) (datum_mentions new d) p.1 in
             let here = fit (Here rest) (Reduce y is d) s refl refl in
             at_once (sym (ap₂ (λ (o : Option Place) (r : Option Value). then_do o (λ z.
-                then_do r (λ v. put s (λ old. on_two ◌+ℤ◌ old v) z)))
-                (place_back s.scene y is p.0 q.0 here.0) (value_back s d q.1 here.1)))
+            then_do r (λ v. put s (λ old. on_two ◌+ℤ◌ old v) z)))
+            (place_back s.scene y is p.0 q.0 here.0) (value_back s d q.1 here.1)))
         there (Config f g) rest s h fit =
             at_once (sym (ap (λ o. then_do o (λ n. where_true (suits (world.kinds f) n)
-                (Some (on_scene (with_field f n) s)))) (number_back s.scene g h)))
+            (Some (on_scene (with_field f n) s)))) (number_back s.scene g h)))
         there Pass rest s h fit = at_once refl
         there (If c b d) rest s h fit =
             let p = or_parts (condition_mentions new c) (mentions new b || mentions new d) h in
             let q = or_parts (mentions new b) (mentions new d) p.1 in
             in_branches (ap (holds s.scene) (sym (condition_same c p.0)))
-                (λ i. along b s q.0 (λ k f v same come. fit (InThen c k d rest) f v
-                (ap (λ z. next (If c z d) rest) same) (i, come)))
-                (λ i. along d s q.1 (λ k f v same come. fit (InElse c b k rest) f v
-                (ap (λ z. next (If c b z) rest) same) (i, come)))
+            (λ i. along b s q.0 (λ k f v same come. fit (InThen c k d rest) f v
+            (ap (λ z. next (If c z d) rest) same) (i, come)))
+            (λ i. along d s q.1 (λ k f v same come. fit (InElse c b k rest) f v
+            (ap (λ z. next (If c b z) rest) same) (i, come)))
         there (For i lo hi b) rest s h fit =
             let p = or_parts (new i.id) _ h in
             let q = or_parts (control_mentions new lo) _ p.1 in
             let r = or_parts (control_mentions new hi) (mentions new b) q.1 in
             in_turns (ap (number s.scene) (sym (control_same lo q.0)))
-                (ap (number s.scene) (sym (control_same hi r.0)))
-                (λ n u come. along b (on_scene (with_control i.id n) u) r.1
-                (λ k f v same z. fit (InLoop i lo hi k rest) f v
-                (ap (λ w. next (For i lo hi w) rest) same)
-                (n, u, subst (λ w. ComesToTurn (turn i.id (run world w)) (turns_of s.scene lo hi) s
-                n u) same come, z)))
+            (ap (number s.scene) (sym (control_same hi r.0)))
+            (λ n u come. along b (on_scene (with_control i.id n) u) r.1
+            (λ k f v same z. fit (InLoop i lo hi k rest) f v
+            (ap (λ w. next (For i lo hi w) rest) same) (
+              n,
+              u,
+              subst (λ w. ComesToTurn (turn i.id (run world w)) (turns_of s.scene lo hi) s
+                  n u) same come,
+              z,
+            )))
         there (Alloc y cell dims memory) rest s h fit =
             at_once (ap (λ ds. step world (Alloc y cell ds memory) s)
-                (sym (controls_same dims (or_parts (new y.id) (controls_mention new dims) h).1)))
+            (sym (controls_same dims (or_parts (new y.id) (controls_mention new dims) h).1)))
         there (View w y ds) rest s h fit =
             let p = or_parts (new w.id) (new y || coords_mention new ds) h in
             let q = or_parts (new y) (coords_mention new ds) p.1 in
             at_once (sym (ap (λ o. then_do o (λ z. Some (on_scene (with_view w.id z) s)))
-                (window_back s.scene y ds q.0 q.1 (fit (Here rest) (View w y ds) s refl refl))))
+            (window_back s.scene y ds q.0 q.1 (fit (Here rest) (View w y ds) s refl refl))))
         there (Call k gs) rest s h fit =
             at_once (sym (calls_same (world.callees k)
-                (arguments_with a t (converted_arguments a x coords gs)) gs s
-                (all_back s.scene gs h (fit (Here rest) (Call k gs) s refl refl))))
+            (arguments_with a t (converted_arguments a x coords gs)) gs s
+            (all_back s.scene gs h (fit (Here rest) (Call k gs) s refl refl))))
 
 -- ---- what the accesses keep, by the way of the block
 

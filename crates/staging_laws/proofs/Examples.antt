@@ -57,10 +57,15 @@ all_of b = record { buffer = b; sides = Range (pos 0) (pos 8) ∷ [] }
 -- x is number 10, t is number 1, and t holds 7 in each cell
 abbrev s : State
 s = record {
-  scene = record { control = λ y. pos 0; buffers = λ b. cond (b == 10) (Some eight)
-      (cond (b == 1) (Some eight) None); views =
-      λ y. cond (y == 10) (Some (all_of 10)) (cond (y == 1) (Some (all_of 1)) None); fields =
-      λ f. pos 0 };
+  scene = record {
+    control = λ y. pos 0;
+    buffers = λ b. cond (b == 10) (Some eight)
+        (cond (b == 1) (Some eight) None);
+    views =
+        λ y. cond (y == 10) (Some (all_of 10)) (cond (y == 1) (Some (all_of 1)) None);
+    fields =
+        λ f. pos 0;
+  };
   cells = λ b at. cond (b == 1) (Number (pos 7)) Undefined;
 }
 
@@ -116,8 +121,13 @@ by_the_copy = refl
 
 abbrev first : State
 first = record {
-  scene = record { control = λ y. pos 0; buffers = λ b. cond (b == 10) (Some eight) None; views =
-      λ y. cond (y == 10) (Some (all_of 10)) None; fields = λ f. pos 0 };
+  scene = record {
+    control = λ y. pos 0;
+    buffers = λ b. cond (b == 10) (Some eight) None;
+    views =
+        λ y. cond (y == 10) (Some (all_of 10)) None;
+    fields = λ f. pos 0;
+  };
   cells = λ b at. cond (b == 10) (Number (pos 3)) Undefined;
 }
 
@@ -129,7 +139,7 @@ halves t = next (For (binder 2) (Lit (pos 0)) (Lit (pos 4))
 abbrev all_of_it : Option State
 all_of_it =
     then_do (run world (next (Alloc (binder 1) I32 (Lit (pos 8) ∷ []) 0)
-        (load_nest 1 10 coords loops)) first)
+    (load_nest 1 10 coords loops)) first)
     (λ t. then_do (run world (halves 1) t) (run world (store_nest 1 10 coords loops)))
 
 even_cells : cell_of 10 (pos 2) all_of_it ≡ Some (Number (pos 7))
@@ -219,9 +229,9 @@ fits_held (Some at) = fits_three
 abbrev halved : List ℤ → Value
 halved at =
     cond (same_index at (pos 6 ∷ [])) (Number (pos 7)) (cond (same_index at (pos 4 ∷ []))
-        (Number (pos 7))
+    (Number (pos 7))
     (cond (same_index at (pos 2 ∷ [])) (Number (pos 7)) (cond (same_index at (pos 0 ∷ []))
-        (Number (pos 7))
+    (Number (pos 7))
     (held_at (λ to. Number (pos 3)) (cell_at (Range (pos 0) (pos 8) ∷ []) at)))))
 
 halved_fits : (at : List ℤ) → Fits (halved at)
@@ -249,10 +259,19 @@ may_go_round = record {
   };
   fit = λ to at e. subst (λ (z : Shape). stored_as z.cell (Number (pos 3)) ≡ Number (pos 3))
       (one_value eight to e) fits_three;
-  between = record { own = refl; name = refl; root = refl; plain = refl; variables = λ y e. absurd
-      (true≢false (sym e)) };
-  behind = λ t e. (record { apart = λ y e. absurd (true≢false (sym e)); equal = λ n. refl }, fits t
-      e);
+  between = record {
+    own = refl;
+    name = refl;
+    root = refl;
+    plain = refl;
+    variables = λ y e. absurd
+        (true≢false (sym e));
+  };
+  behind = λ t e. (
+    record { apart = λ y e. absurd (true≢false (sym e)); equal = λ n. refl },
+    fits t
+        e,
+  );
 }
   where
     tidy : (at : List ℤ) (r t : Bool)
@@ -267,9 +286,9 @@ may_go_round = record {
         → FitInto t 1 10
     fits t e to at k =
         let same : eight ≡ to = one_value eight to
-            (ap (λ o. elim o [ None ↦ None | Some u ↦ u.scene.buffers 10 ]) e ∙ k) in
+        (ap (λ o. elim o [ None ↦ None | Some u ↦ u.scene.buffers 10 ]) e ∙ k) in
         subst (λ (z : Shape). stored_as z.cell (t.cells 1 at) ≡ t.cells 1 at) same
-            (subst Fits (sym (halved_is t e at)) (halved_fits at))
+        (subst Fits (sym (halved_is t e at)) (halved_fits at))
 
 -- ---- each of the laws there
 
@@ -366,7 +385,7 @@ nothing_to_store = no_store_law world (updated (λ y. y) 1 1) 1 (all_of 10) eigh
 
 read_through : Both (AreAlike first)
     (then_do (run world (next (Alloc (binder 1) I32 (Lit (pos 8) ∷ []) 0)
-        (load_nest 1 10 coords loops)) first) (run world (reader 1)))
+    (load_nest 1 10 coords loops)) first) (run world (reader 1)))
     (run world (reader 1) (on_scene (with_view 1 (all_of 10)) first))
 read_through = reader_law (has_root (updated (λ y. y) 1 1) 10) (λ y. y == 1) world
     (updated (λ y. y) 1 1) (binder 1) (Lit (pos 8) ∷ []) 0 10 (all_of 10) eight coords loops
@@ -414,8 +433,13 @@ unfolding int_wrap
 on_t_is t e at = ap (λ o. elim o [ None ↦ Undefined | Some u ↦ u.cells 1 at ]) (sym e)
 
 between_on_t : IsBetween 1 10 (all_of 10) coords on_t
-between_on_t = record { own = refl; name = refl; root = refl; plain = refl;
-    variables = λ y e. absurd (true≢false (sym e)) }
+between_on_t = record {
+  own = refl;
+  name = refl;
+  root = refl;
+  plain = refl;
+  variables = λ y e. absurd (true≢false (sym e));
+}
 
 goes_on_t : MayGoRound world (binder 1) (Lit (pos 8) ∷ []) 10 (all_of 10) eight coords loops on_t
     first
@@ -424,17 +448,19 @@ goes_on_t = record {
   before = may_go_round.before;
   fit = may_go_round.fit;
   between = between_on_t;
-  behind = λ t e. (record { apart = λ y k. absurd (true≢false (sym k)); equal = λ n. refl },
-      fits t e);
+  behind = λ t e. (
+    record { apart = λ y k. absurd (true≢false (sym k)); equal = λ n. refl },
+    fits t e,
+  );
 }
   where
     fits : (t : State) → run world on_t (staged 1 (all_of 10) eight first) ≡ Some t
         → FitInto t 1 10
     fits t e to at k =
         let same : eight ≡ to = one_value eight to
-            (ap (λ o. elim o [ None ↦ None | Some u ↦ u.scene.buffers 10 ]) e ∙ k) in
+        (ap (λ o. elim o [ None ↦ None | Some u ↦ u.scene.buffers 10 ]) e ∙ k) in
         subst (λ (z : Shape). stored_as z.cell (t.cells 1 at) ≡ t.cells 1 at) same
-            (subst Fits (sym (on_t_is t e at)) (halved_fits at))
+        (subst Fits (sym (on_t_is t e at)) (halved_fits at))
 
 may_convert : MayConvert world 1 10 (all_of 10) coords (halves 10) first
 may_convert = record {
@@ -452,8 +478,8 @@ on_a_view = viewed_law world 1 10 (all_of 10) coords (halves 10) first may_conve
 
 between_nests : IfSome
     (then_do (run world (next (Alloc (binder 1) I32 (Lit (pos 8) ∷ []) 0)
-        (load_nest 1 10 coords loops)) first)
-      (λ t. then_do (run world on_t t) (run world (store_nest 1 10 coords loops))))
+    (load_nest 1 10 coords loops)) first)
+    (λ t. then_do (run world on_t t) (run world (store_nest 1 10 coords loops))))
     (Follows (λ t u. AreAlike first u t) world (halves 10) first)
 between_nests = staged_block_law (λ y. y == 1) world (λ y. y) (binder 1) (Lit (pos 8) ∷ []) 0 10
     (all_of 10) eight coords loops (halves 10) first may_convert (alone_if on_t refl refl) goes_on_t
@@ -467,13 +493,18 @@ may_convert_reader = record {
   new = record { block = refl; spots = refl };
   fit = fits_law world 10 coords (reader 10) first
       (tt, tt, λ u e. ((λ k. absurd (true≢false (sym k)), λ k. tt), tt, λ v k. tt));
-  between = record { own = refl; name = refl; root = refl; plain = refl;
-      variables = λ y e. absurd (true≢false (sym e)) };
+  between = record {
+    own = refl;
+    name = refl;
+    root = refl;
+    plain = refl;
+    variables = λ y e. absurd (true≢false (sym e));
+  };
 }
 
 behind_loads : IfSome
     (then_do (run world (next (Alloc (binder 1) I32 (Lit (pos 8) ∷ []) 0)
-        (load_nest 1 10 coords loops)) first) (run world (converted 1 10 coords (reader 10))))
+    (load_nest 1 10 coords loops)) first) (run world (converted 1 10 coords (reader 10))))
     (Follows (λ t u. AreAlike first u t) world (reader 10) first)
 behind_loads = staged_reader_law (λ y. y == 1) world (λ y. y) (binder 1) (Lit (pos 8) ∷ []) 0 10
     (all_of 10) eight coords loops (reader 10) first may_convert_reader

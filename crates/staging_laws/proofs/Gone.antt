@@ -5,7 +5,8 @@ use Rattle.exo_tree.specs.Tree.{Control, Coord, At, Span, Datum, Const, Read, Ne
 use Rattle.exo_tree.specs.Tree.{Minus, Times, Select, Argument, ControlArg, ConditionArg, Whole}
 use Rattle.exo_tree.specs.Tree.{Window, Condition, Statement, Assign, Reduce, Config, Pass, If, For}
 use Rattle.exo_tree.specs.Tree.{Alloc, View, Call, Block, end, next}
-use Rattle.exo_meaning.specs.Unseen.{in_control as control_mentions, in_controls as controls_mention}
+use Rattle.exo_meaning.specs.Unseen.{in_control as control_mentions}
+use Rattle.exo_meaning.specs.Unseen.{in_controls as controls_mention}
 use Rattle.exo_meaning.specs.Unseen.{in_condition as condition_mentions, in_datum as datum_mentions}
 use Rattle.exo_meaning.specs.Unseen.{in_coords as coords_mention, in_argument as argument_mentions}
 use Rattle.exo_meaning.specs.Unseen.{in_arguments as arguments_mention, in_block as mentions}
@@ -42,7 +43,7 @@ module _ (new : ℕ → Bool) where
       (or_parts (control_mentions new e) (controls_mention new is) k).1
   indices_free (Span u v ∷ cs) (e ∷ is) h k =
       let p = or_parts (control_mentions new u) (control_mentions new v || coords_mention new cs)
-          h in
+      h in
       let o = or_parts (control_mentions new v) (coords_mention new cs) p.1 in
       let q = or_parts (control_mentions new e) (controls_mention new is) k in
       ap₂ ◌||◌ (ap₂ ◌||◌ q.0 p.0) (indices_free cs is o.1 q.1)
@@ -56,21 +57,21 @@ module _ (new : ℕ → Bool) where
       (or_parts (control_mentions new e) (coords_mention new ds) k).1
   coords_free (At u ∷ cs) (Span e f ∷ ds) h k =
       let q = or_parts (control_mentions new e) (control_mentions new f || coords_mention new ds)
-          k in
+      k in
       coords_free cs ds (or_parts (control_mentions new u) (coords_mention new cs) h).1
       (or_parts (control_mentions new f) (coords_mention new ds) q.1).1
   coords_free (Span u v ∷ cs) (At e ∷ ds) h k =
       let p = or_parts (control_mentions new u) (control_mentions new v || coords_mention new cs)
-          h in
+      h in
       let o = or_parts (control_mentions new v) (coords_mention new cs) p.1 in
       let q = or_parts (control_mentions new e) (coords_mention new ds) k in
       ap₂ ◌||◌ (ap₂ ◌||◌ q.0 p.0) (coords_free cs ds o.1 q.1)
   coords_free (Span u v ∷ cs) (Span e f ∷ ds) h k =
       let p = or_parts (control_mentions new u) (control_mentions new v || coords_mention new cs)
-          h in
+      h in
       let o = or_parts (control_mentions new v) (coords_mention new cs) p.1 in
       let q = or_parts (control_mentions new e) (control_mentions new f || coords_mention new ds)
-          k in
+      k in
       let r = or_parts (control_mentions new f) (coords_mention new ds) q.1 in
       ap₂ ◌||◌ (ap₂ ◌||◌ q.0 p.0) (ap₂ ◌||◌ (ap₂ ◌||◌ r.0 p.0) (coords_free cs ds o.1 r.1))
 
@@ -83,7 +84,7 @@ module _ (new : ℕ → Bool) where
   shifted_free (Span u v ∷ cs) [] h k = refl
   shifted_free (Span u v ∷ cs) (e ∷ is) h k =
       let p = or_parts (control_mentions new u) (control_mentions new v || coords_mention new cs)
-          h in
+      h in
       let o = or_parts (control_mentions new v) (coords_mention new cs) p.1 in
       let q = or_parts (control_mentions new e) (controls_mention new is) k in
       ap₂ ◌||◌ (ap₂ ◌||◌ p.0 q.0) (shifted_free cs is o.1 q.1)
@@ -96,16 +97,16 @@ module _ (new : ℕ → Bool) where
   joined_free (Span u v ∷ cs) [] h k = refl
   joined_free (Span u v ∷ cs) (At e ∷ ds) h k =
       let p = or_parts (control_mentions new u) (control_mentions new v || coords_mention new cs)
-          h in
+      h in
       let o = or_parts (control_mentions new v) (coords_mention new cs) p.1 in
       let q = or_parts (control_mentions new e) (coords_mention new ds) k in
       ap₂ ◌||◌ (ap₂ ◌||◌ p.0 q.0) (joined_free cs ds o.1 q.1)
   joined_free (Span u v ∷ cs) (Span e f ∷ ds) h k =
       let p = or_parts (control_mentions new u) (control_mentions new v || coords_mention new cs)
-          h in
+      h in
       let o = or_parts (control_mentions new v) (coords_mention new cs) p.1 in
       let q = or_parts (control_mentions new e) (control_mentions new f || coords_mention new ds)
-          k in
+      k in
       let r = or_parts (control_mentions new f) (coords_mention new ds) q.1 in
       ap₂ ◌||◌ (ap₂ ◌||◌ p.0 q.0) (ap₂ ◌||◌ (ap₂ ◌||◌ p.0 r.0) (joined_free cs ds o.1 r.1))
 
@@ -144,32 +145,32 @@ module _ (a x : ℕ) (coords : List Coord) (other : (x == a) ≡ false)
 
   indices_gone : (y : ℕ) (is : List Control) → new y ≡ false → controls_mention new is ≡ false
       → controls_mention new (shifted (spots_of a t (name_on a x coords y))
-        (controls_with a t (indices_at a x coords y is))) ≡ false
+      (controls_with a t (indices_at a x coords y is))) ≡ false
   indices_gone y is h k = go (y == x)
     where
       go : (b : Bool) → controls_mention new (shifted (spots_of a t (cond b a y))
           (controls_with a t (cond b (indices_on coords is) is))) ≡ false
       go true =
           ap (λ r. controls_mention new (shifted (cond r coords [])
-              (controls_with a t (indices_on coords is)))) (eq-eqb a a refl)
+          (controls_with a t (indices_on coords is)))) (eq-eqb a a refl)
           ∙ shifted_free new coords (controls_with a t (indices_on coords is)) spots
-              (controls_gone (indices_on coords is) (indices_free new coords is spots k))
+          (controls_gone (indices_on coords is) (indices_free new coords is spots k))
       go false =
           ap (λ r. controls_mention new (shifted (cond r coords []) (controls_with a t is))) h
           ∙ controls_gone is k
 
   parts_gone : (y : ℕ) (ds : List Coord) → new y ≡ false → coords_mention new ds ≡ false
       → coords_mention new (joined_coords (spots_of a t (name_on a x coords y))
-        (coords_with a t (coords_at a x coords y ds))) ≡ false
+      (coords_with a t (coords_at a x coords y ds))) ≡ false
   parts_gone y ds h k = go (y == x)
     where
       go : (b : Bool) → coords_mention new (joined_coords (spots_of a t (cond b a y))
           (coords_with a t (cond b (coords_on coords ds) ds))) ≡ false
       go true =
           ap (λ r. coords_mention new (joined_coords (cond r coords [])
-              (coords_with a t (coords_on coords ds)))) (eq-eqb a a refl)
+          (coords_with a t (coords_on coords ds)))) (eq-eqb a a refl)
           ∙ joined_free new coords (coords_with a t (coords_on coords ds)) spots
-              (coords_gone (coords_on coords ds) (coords_free new coords ds spots k))
+          (coords_gone (coords_on coords ds) (coords_free new coords ds spots k))
       go false =
           ap (λ r. coords_mention new (joined_coords (cond r coords []) (coords_with a t ds))) h
           ∙ coords_gone ds k
@@ -196,7 +197,7 @@ module _ (a x : ℕ) (coords : List Coord) (other : (x == a) ≡ false)
       let q = or_parts (datum_mentions new e) _ p.1 in
       let r = or_parts (datum_mentions new f) (datum_mentions new g) q.1 in
       ap₂ ◌||◌ (datum_gone d p.0) (ap₂ ◌||◌ (datum_gone e q.0)
-          (ap₂ ◌||◌ (datum_gone f r.0) (datum_gone g r.1)))
+      (ap₂ ◌||◌ (datum_gone f r.0) (datum_gone g r.1)))
 
   argument_gone : (g : Argument) → argument_mentions new g ≡ false
       → argument_mentions new (argument_with a t (converted_argument a x coords g)) ≡ false
@@ -250,7 +251,7 @@ module _ (a x : ℕ) (coords : List Coord) (other : (x == a) ≡ false)
         let q = or_parts (control_mentions new lo) _ p.1 in
         let r = or_parts (control_mentions new hi) (mentions new b) q.1 in
         ap₂ ◌||◌ p.0 (ap₂ ◌||◌ (control_gone lo q.0)
-            (ap₂ ◌||◌ (control_gone hi r.0) (gone b r.1)))
+        (ap₂ ◌||◌ (control_gone hi r.0) (gone b r.1)))
     step_gone (Alloc y cell dims memory) h =
         let p = or_parts (new y.id) (controls_mention new dims) h in
         ap₂ ◌||◌ p.0 (controls_gone dims p.1)

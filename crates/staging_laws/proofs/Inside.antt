@@ -80,16 +80,16 @@ module _ (i : ℕ) (n : ℤ) (scene : Scene) where
   narrowed_step (Range lo m ∷ sides) (At a ∷ cs) k =
       let p = or_parts (has_variable a i) (coords_have cs i) k in
       ap₂ (λ j o. where_true (is_below j m) (option_map (λ rest. Point (lo +ℤ j) ∷ rest) o))
-          (number_step a p.0) (narrowed_step sides cs p.1)
+      (number_step a p.0) (narrowed_step sides cs p.1)
   narrowed_step (Range lo m ∷ sides) (Span a b ∷ cs) k =
       let p = or_parts (has_variable a i) (has_variable b i || coords_have cs i) k in
       let q = or_parts (has_variable b i) (coords_have cs i) p.1 in
       ap₂ (λ j o. where_true (int_le (pos 0) j && int_lt j (number there b)
-          && int_le (number there b) m) (option_map (λ rest. Range (lo +ℤ j) (number there b -ℤ j)
-          ∷ rest) o)) (number_step a p.0) (narrowed_step sides cs q.1)
+      && int_le (number there b) m) (option_map (λ rest. Range (lo +ℤ j) (number there b -ℤ j)
+      ∷ rest) o)) (number_step a p.0) (narrowed_step sides cs q.1)
       ∙ ap (λ l. where_true (int_le (pos 0) (number scene a) && int_lt (number scene a) l
-          && int_le l m) (option_map (λ rest. Range (lo +ℤ number scene a) (l -ℤ number scene a)
-          ∷ rest) (narrowed scene sides cs))) (number_step b q.0)
+      && int_le l m) (option_map (λ rest. Range (lo +ℤ number scene a) (l -ℤ number scene a)
+      ∷ rest) (narrowed scene sides cs))) (number_step b q.0)
 
   window_step : (x : ℕ) (cs : List Coord) → coords_have cs i ≡ false
       → window there x cs ≡ window scene x cs
@@ -165,13 +165,19 @@ run_over (l ∷ ls) ds scene h =
         (with_control l.binder.id n scene) → RunOver ls ds (with_control l.binder.id n scene))
         → RunOver (l ∷ ls) ds scene
     go [] e h more = absurd (true≢false (sym (ap is_empty e)))
-    go (d ∷ ds) e h more = (ap head_of e, λ n. more ds n
-        (any_map ls (λ z. numbers z (extents_of (l ∷ ls)) ≡ d ∷ ds) (λ z. numbers z (extents_of ls)
-        ≡ ds) (with_control l.binder.id n scene) (λ z. ap tail_of) (h n)))
+    go (d ∷ ds) e h more = (
+      ap head_of e,
+      λ n. more ds n
+          (any_map ls (λ z. numbers z (extents_of (l ∷ ls)) ≡ d ∷ ds)
+          (λ z. numbers z (extents_of ls) ≡ ds) (with_control l.binder.id n scene) (λ z. ap tail_of) (h n)),
+    )
 
 pub spans_law : SpansLaw
-spans_law x cs ls scene h = (run_over ls (numbers scene (spans cs)) scene
-    (spans_first (extents_of ls) cs ls scene h.apart h.equal), steady x cs ls scene h.apart)
+spans_law x cs ls scene h = (
+  run_over ls (numbers scene (spans cs)) scene
+      (spans_first (extents_of ls) cs ls scene h.apart h.equal),
+  steady x cs ls scene h.apart,
+)
 
 -- ---- a nest that does not fault comes to all of its box
 
@@ -203,9 +209,11 @@ turn_shows : (P : Scene → Type 0) (i : ℕ) (f : State → Option State) (n : 
     → Shows (λ z. P (with_control i n z)) (turn i f n)
 turn_shows P i f n h u v e =
     let m = map_parts (left u) (f (on_scene (with_control i n) u)) v e in
-    let k = h (on_scene (with_control i n) u) m.0 m.1 in
-    (ap (λ (w : State). w.scene) (sym m.2)
-        ∙ ap (λ (z : Scene). record u.scene { fields = z.fields }) k.0, k.1)
+    let k = h (on_scene (with_control i n) u) m.0 m.1 in (
+      ap (λ (w : State). w.scene) (sym m.2)
+          ∙ ap (λ (z : Scene). record u.scene { fields = z.fields }) k.0,
+      k.1,
+    )
 
 turns_show : (P : Scene → Type 0) (i : ℕ) (f : State → Option State) (ns : List ℤ) → Shows P f
     → Shows (λ z. AllOf (λ n. P (with_control i n z)) ns) (turns (turn i f) ns)
@@ -228,7 +236,7 @@ nest_shows world a P h (l ∷ ls) u v e =
     let ns = range (pos 0) (count (number u.scene l.extent -ℤ pos 0)) in
     let g = then_gives (turns (turn l.binder.id f) ns u) (λ w. Some w) v e in
     let k = turns_show (λ z. (at : List ℤ) → InBox ls at z → P (set_all ls at z)) l.binder.id f ns
-        (nest_shows world a P h ls) u g.0 g.1 in
+    (nest_shows world a P h ls) u g.0 g.1 in
     (ap (λ (w : State). w.scene) (sym (one_value g.0 v g.2)) ∙ k.0, go k.1)
   where
     same : number u.scene l.extent -ℤ pos 0 ≡ number u.scene l.extent
@@ -241,13 +249,13 @@ nest_shows world a P h (l ∷ ls) u v e =
     go k [] b = absurd b
     go k (i ∷ at) (j, e, m, b) =
         subst (λ n. (at : List ℤ) → InBox ls at (with_control l.binder.id n u.scene)
-            → P (set_all ls at (with_control l.binder.id n u.scene))) (sym e)
+        → P (set_all ls at (with_control l.binder.id n u.scene))) (sym e)
         (in_range (λ n. (at : List ℤ) → InBox ls at (with_control l.binder.id n u.scene)
-            → P (set_all ls at (with_control l.binder.id n u.scene))) 0
-            (count (number u.scene l.extent)) j
-            (subst (λ d. AllOf (λ n. (at : List ℤ) → InBox ls at (with_control l.binder.id n
-            u.scene) → P (set_all ls at (with_control l.binder.id n u.scene)))
-            (range (pos 0) (count d))) same k) (omega arith) (omega arith)) at b
+        → P (set_all ls at (with_control l.binder.id n u.scene))) 0
+        (count (number u.scene l.extent)) j
+        (subst (λ d. AllOf (λ n. (at : List ℤ) → InBox ls at (with_control l.binder.id n
+        u.scene) → P (set_all ls at (with_control l.binder.id n u.scene)))
+        (range (pos 0) (count d))) same k) (omega arith) (omega arith)) at b
 
 -- ---- the window's corners
 
@@ -310,42 +318,46 @@ module _ (scene : Scene) where
   corners [] (Span a b ∷ cs) p q h e k = absurd (none_is_some e)
   corners (Point r ∷ sides) cs p q h e k =
       let m = map_parts (λ at. r ∷ at)
-          (cell_at sides (moved cs (firsts (numbers scene (spans cs))))) p e in
+      (cell_at sides (moved cs (firsts (numbers scene (spans cs))))) p e in
       let l = map_parts (λ at. r ∷ at) (cell_at sides (moved cs (lasts (numbers scene (spans cs)))))
-          q k in
+      q k in
       let t = corners sides cs m.0 l.0 h m.1 l.1 in
       (Point r ∷ t.0, ap (option_map (λ rest. Point r ∷ rest)) t.1)
   corners (Range lo n ∷ sides) [] p q h e k = absurd (none_is_some e)
   corners (Range lo n ∷ sides) (At a ∷ cs) p q h e k =
       let i = number scene a in
       let v = where_parts (is_below i n) (option_map (λ at. (lo +ℤ i) ∷ at)
-          (cell_at sides (moved cs (firsts (numbers scene (spans cs)))))) p e in
+      (cell_at sides (moved cs (firsts (numbers scene (spans cs)))))) p e in
       let w = where_parts (is_below i n) (option_map (λ at. (lo +ℤ i) ∷ at)
-          (cell_at sides (moved cs (lasts (numbers scene (spans cs)))))) q k in
+      (cell_at sides (moved cs (lasts (numbers scene (spans cs)))))) q k in
       let m = map_parts (λ at. (lo +ℤ i) ∷ at)
-          (cell_at sides (moved cs (firsts (numbers scene (spans cs))))) p v.1 in
+      (cell_at sides (moved cs (firsts (numbers scene (spans cs))))) p v.1 in
       let l = map_parts (λ at. (lo +ℤ i) ∷ at)
-          (cell_at sides (moved cs (lasts (numbers scene (spans cs))))) q w.1 in
-      let t = corners sides cs m.0 l.0 h m.1 l.1 in
-      (Point (lo +ℤ i) ∷ t.0, ap₂ (λ t o. where_true t (option_map (λ rest. Point (lo +ℤ i) ∷ rest)
-          o)) v.0 t.1)
+      (cell_at sides (moved cs (lasts (numbers scene (spans cs))))) q w.1 in
+      let t = corners sides cs m.0 l.0 h m.1 l.1 in (
+        Point (lo +ℤ i) ∷ t.0,
+        ap₂ (λ t o. where_true t (option_map (λ rest. Point (lo +ℤ i) ∷ rest)
+            o)) v.0 t.1,
+      )
   corners (Range lo n ∷ sides) (Span a b ∷ cs) p q h e k =
       let i = number scene a in
       let j = number scene b in
       let d = j -ℤ i in
       let g = and_parts (int_le (pos 1) d) (all_positive (numbers scene (spans cs))) h in
       let v = where_parts (is_below (i +ℤ pos 0) n) (option_map (λ at. (lo +ℤ (i +ℤ pos 0)) ∷ at)
-          (cell_at sides (moved cs (firsts (numbers scene (spans cs)))))) p e in
+      (cell_at sides (moved cs (firsts (numbers scene (spans cs)))))) p e in
       let w = where_parts (is_below (i +ℤ (d -ℤ pos 1)) n)
-          (option_map (λ at. (lo +ℤ (i +ℤ (d -ℤ pos 1))) ∷ at)
-          (cell_at sides (moved cs (lasts (numbers scene (spans cs)))))) q k in
+      (option_map (λ at. (lo +ℤ (i +ℤ (d -ℤ pos 1))) ∷ at)
+      (cell_at sides (moved cs (lasts (numbers scene (spans cs)))))) q k in
       let m = map_parts (λ at. (lo +ℤ (i +ℤ pos 0)) ∷ at)
-          (cell_at sides (moved cs (firsts (numbers scene (spans cs))))) p v.1 in
+      (cell_at sides (moved cs (firsts (numbers scene (spans cs))))) p v.1 in
       let l = map_parts (λ at. (lo +ℤ (i +ℤ (d -ℤ pos 1))) ∷ at)
-          (cell_at sides (moved cs (lasts (numbers scene (spans cs))))) q w.1 in
-      let t = corners sides cs m.0 l.0 g.1 m.1 l.1 in
-      (Range (lo +ℤ i) d ∷ t.0, ap₂ (λ t o. where_true t (option_map (λ rest. Range (lo +ℤ i) d
-          ∷ rest) o)) {v = Some t.0} (low_inside i j n g.0 v.0 w.0) t.1)
+      (cell_at sides (moved cs (lasts (numbers scene (spans cs))))) q w.1 in
+      let t = corners sides cs m.0 l.0 g.1 m.1 l.1 in (
+        Range (lo +ℤ i) d ∷ t.0,
+        ap₂ (λ t o. where_true t (option_map (λ rest. Range (lo +ℤ i) d
+            ∷ rest) o)) {v = Some t.0} (low_inside i j n g.0 v.0 w.0) t.1,
+      )
 
 -- the indices on the root, from the numbers of the variables
 moved_step : (i : ℕ) (n : ℤ) (scene : Scene) (cs : List Coord) (at : List ℤ)
@@ -358,7 +370,7 @@ moved_step i n scene (Span a b ∷ cs) [] k = refl
 moved_step i n scene (Span a b ∷ cs) (j ∷ at) k =
     let p = or_parts (has_variable a i) (has_variable b i || coords_have cs i) k in
     ap₂ ◌∷◌ (ap (λ z. z +ℤ j) (number_step i n scene a p.0)) (moved_step i n scene cs at
-        (or_parts (has_variable b i) (coords_have cs i) p.1).1)
+    (or_parts (has_variable b i) (coords_have cs i) p.1).1)
 
 moved_all : (ls : List Loop) (to : List ℤ) (scene : Scene) (cs : List Coord) (at : List ℤ)
     → Apart ls cs → moved (set_all ls to scene) cs at ≡ moved scene cs at
@@ -397,17 +409,17 @@ module _ (world : World) (x : ℕ) (cs : List Coord) (ls : List Loop) (a : State
       let z = set_all ls at s.scene in
       let b = in_box at e in
       let shown : IsSome (place z x (shifted cs (vars ls))) =
-          subst (λ v. IsSome (place z x (shifted cs v))) (vars_same ls)
-          ((nest_shows world a (λ z. IsSome (place z x (shifted cs (variables ls)))) uses ls s t
-          runs).1 at b) in
+      subst (λ v. IsSome (place z x (shifted cs v))) (vars_same ls)
+      ((nest_shows world a (λ z. IsSome (place z x (shifted cs (variables ls)))) uses ls s t
+      runs).1 at b) in
       let views : z.views x ≡ Some r = ap (λ f. f x) (same_views ls at s.scene) ∙ k in
       let indices : numbers z (shifted cs (vars ls)) ≡ moved s.scene cs at =
-          shifted_is z cs (vars ls) ∙ ap (moved z cs) (vars_are ls at s.scene (are_new ls new) b)
-          ∙ moved_all ls at s.scene cs at over.apart in
+      shifted_is z cs (vars ls) ∙ ap (moved z cs) (vars_are ls at s.scene (are_new ls new) b)
+      ∙ moved_all ls at s.scene cs at over.apart in
       found (cell_at r.sides (moved s.scene cs at)) refl
-          (subst IsSome (ap (λ o. then_do o (λ y. option_map (spot y.buffer)
-          (cell_at y.sides (numbers z (shifted cs (vars ls)))))) views
-          ∙ ap (λ l. option_map (spot r.buffer) (cell_at r.sides l)) indices) shown)
+      (subst IsSome (ap (λ o. then_do o (λ y. option_map (spot y.buffer)
+      (cell_at y.sides (numbers z (shifted cs (vars ls)))))) views
+      ∙ ap (λ l. option_map (spot r.buffer) (cell_at r.sides l)) indices) shown)
     where
       found : (o : Option (List ℤ)) → cell_at r.sides (moved s.scene cs at) ≡ o
           → IsSome (option_map (spot r.buffer) o)
@@ -421,10 +433,10 @@ module _ (world : World) (x : ℕ) (cs : List Coord) (ls : List Loop) (a : State
       let at = firsts ds in
       let b = in_box at (firsts_there ds positive) in
       named (s.scene.views x) refl (subst (λ (f : ℕ → Option Seen). IsSome
-          (then_do (f x) (λ y. option_map (spot y.buffer)
-          (cell_at y.sides (numbers (set_all ls at s.scene) (shifted cs (variables ls)))))))
-          (same_views ls at s.scene) ((nest_shows world a
-          (λ z. IsSome (place z x (shifted cs (variables ls)))) uses ls s t runs).1 at b))
+      (then_do (f x) (λ y. option_map (spot y.buffer)
+      (cell_at y.sides (numbers (set_all ls at s.scene) (shifted cs (variables ls)))))))
+      (same_views ls at s.scene) ((nest_shows world a
+      (λ z. IsSome (place z x (shifted cs (variables ls)))) uses ls s t runs).1 at b))
     where
       named : (o : Option Seen) → s.scene.views x ≡ o
           → IsSome (then_do o (λ y. option_map (spot y.buffer)
@@ -440,7 +452,7 @@ module _ (world : World) (x : ℕ) (cs : List Coord) (ls : List Loop) (a : State
       let q = has_cell (lasts ds) (lasts_there ds positive) r.0 r.1 in
       let n = corners s.scene r.0.sides cs p.0 q.0 positive p.1 q.1 in
       subst IsSome (sym (ap (λ o. then_do o (λ y. option_map (seen_on y.buffer)
-          (narrowed s.scene y.sides cs))) r.1 ∙ ap (option_map (seen_on r.0.buffer)) n.1)) refl
+      (narrowed s.scene y.sides cs))) r.1 ∙ ap (option_map (seen_on r.0.buffer)) n.1)) refl
 
 pub inside_law : InsideLaw
 inside_law world x cs ls a s t new over positive uses runs =

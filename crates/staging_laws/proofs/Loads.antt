@@ -61,17 +61,20 @@ module _ (world : World) (a x : ℕ) (cell : Cell) (seen : Seen) (coords : List 
   steady at =
       let z = set_all ls at s.scene in
       let u = under z x coords seen (at_all ls (λ z. window z x coords ≡ Some seen) s.scene h.window
-          at) in
+      at) in
       ap (λ (r : Seen). narrowed z r.sides coords) (one_value at_root.root u.root (sym at_root.name
-          ∙ ap (λ f. f x) (sym (same_views ls at s.scene)) ∙ u.name)) ∙ u.sides
+      ∙ ap (λ f. f x) (sym (same_views ls at s.scene)) ∙ u.name)) ∙ u.sides
 
   load : run world (nest ls (Assign a (vars ls) (Read x (shifted coords (vars ls))))) s
       ≡ Some (with_contents a (contents s.cells seen) s)
   load =
       loads world s.scene s.cells a x (tensor cell (extents seen.sides)) seen at_root.root coords ls
-          h.name there at_root.name at_root.same h.other (are_new ls h.distinct) steady
-      (λ at b. (in_whole ls (extents seen.sides) s.scene at h.over b, in_sides ls seen.sides s.scene
-          at h.over b))
+      h.name there at_root.name at_root.same h.other (are_new ls h.distinct) steady
+      (λ at b. (
+        in_whole ls (extents seen.sides) s.scene at h.over b,
+        in_sides ls seen.sides s.scene
+            at h.over b,
+      ))
       (λ at q e. box_covers ls seen.sides s.scene at q h.over e)
       (λ q. fit (tensor cell (extents seen.sides)) q there) h.tidy empty
 
@@ -105,8 +108,8 @@ module _ (a : ℕ) (seen : Seen) (to : Shape) (s : State) (other : (seen.buffer 
   fits_own there fit z at e =
       let same : tensor to.cell dims ≡ z = one_value (tensor to.cell dims) z (sym own_there ∙ e) in
       subst (λ (c : List ℤ → Value). stored_as z.cell (c at) ≡ c at) (sym root_same)
-          (subst (λ (y : Shape). stored_as y.cell (s.cells seen.buffer at) ≡ s.cells seen.buffer at)
-          same (fit to at there))
+      (subst (λ (y : Shape). stored_as y.cell (s.cells seen.buffer at) ≡ s.cells seen.buffer at)
+      same (fit to at there))
 
   pub staged_is : with_contents a (contents nothing seen) (emptied a to.cell dims s) ≡ staged a seen
       to s
@@ -126,10 +129,10 @@ stage_in_law world a ds memory x seen to coords ls s numbers_are there h fit =
     let fits = fits_own a.id seen to s h.other there fit in
     let none = nothing_there a.id seen to s h.other in
     let positive = (box_law inner.scene x coords seen (here world a.id x to.cell seen coords ls
-        inner h fits own none)).1 in
+    inner h fits own none)).1 in
     ap (λ ds. then_do (allocate a.id to.cell ds s) (run world (load_nest a.id x coords ls)))
-        numbers_are
+    numbers_are
     ∙ ap (λ t. then_do (where_true t (Some inner)) (run world (load_nest a.id x coords ls)))
-        positive
+    positive
     ∙ loads_law world a.id x to.cell seen coords ls inner h fits own none
     ∙ ap Some (staged_is a.id seen to s h.other)

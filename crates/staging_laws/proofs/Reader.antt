@@ -34,16 +34,19 @@ module _ (a : ℕ) (seen : Seen) (s : State) where
   read None None h k = tt
   read None (Some u) h k = absurd h
   read (Some t) None h k = absurd h
-  read (Some t) (Some u) h k = record { fields = h.fields; cells = λ y at i. ap (λ c. c y at)
-      (sym k) ∙ h.cells y at i }
+  read (Some t) (Some u) h k = record {
+    fields = h.fields;
+    cells = λ y at i. ap (λ c. c y at)
+        (sym k) ∙ h.cells y at i;
+  }
 
 pub reader_law : ReaderLaw
 reader_law hidden blind world root a dims memory x seen to coords ls b s may sizes before fit w =
     subst (λ o. Both (AreAlike s) (then_do o (run world b))
-        (run world b (on_scene (with_view a.id seen) s)))
+    (run world b (on_scene (with_view a.id seen) s)))
     (sym (stage_in_law world a dims memory x seen to coords ls s sizes may.there before fit))
     (read a.id seen s (run world b (staged a.id seen to s))
-        (run world b (on_scene (with_view a.id seen) s)) (staged_law hidden blind world root a.id
-        seen to b s may)
+    (run world b (on_scene (with_view a.id seen) s)) (staged_law hidden blind world root a.id
+    seen to b s may)
     (no_store_law world root a.id seen to b s may.roots (subst IsSome (sym may.there) refl)
-        before.other w may.not_written))
+    before.other w may.not_written))

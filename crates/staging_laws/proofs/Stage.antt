@@ -24,8 +24,10 @@ some_is o a e = subst IsSome (sym e) refl
 
 put_keeps : (s t : State) (f : Value → Value) (p : Place) → put s f p ≡ Some t → t.scene ≡ s.scene
 put_keeps s t f p e =
-    let m = map_parts (λ (z : Shape). record s { cells = changed s.cells p (λ old. stored_as z.cell
-        (f old)) }) (s.scene.buffers p.buffer) t e in
+    let m = map_parts (λ (z : Shape). record s {
+      cells = changed s.cells p (λ old. stored_as z.cell
+          (f old));
+    }) (s.scene.buffers p.buffer) t e in
     ap (λ (w : State). w.scene) (sym m.2)
 
 stores_use : (x : ℕ) (is : List Control) (e : Datum) (f : Value → Value → Value) (u v : State)
@@ -33,9 +35,12 @@ stores_use : (x : ℕ) (is : List Control) (e : Datum) (f : Value → Value → 
     → (v.scene ≡ u.scene) × IsSome (place u.scene x is) × IsSome (value u e)
 stores_use x is e f u v k =
     let p = then_gives (place u.scene x is) (λ p. then_do (value u e) (λ n. put u (f n) p)) v k in
-    let n = then_gives (value u e) (λ n. put u (f n) p.0) v p.2 in
-    (put_keeps u v (f n.0) p.0 n.2, some_is (place u.scene x is) p.0 p.1, some_is (value u e) n.0
-        n.1)
+    let n = then_gives (value u e) (λ n. put u (f n) p.0) v p.2 in (
+      put_keeps u v (f n.0) p.0 n.2,
+      some_is (place u.scene x is) p.0 p.1,
+      some_is (value u e) n.0
+          n.1,
+    )
 
 pub uses_law : UsesLaw
 uses_law world a x is js e = (loaded, stored, reduced)
@@ -69,14 +74,14 @@ module _ (world : World) (a : Binder) (x : ℕ) (seen : Seen) (coords : List Coo
   behind (Some t) (Some u) h k =
       let w = k t refl in
       subst (λ o. Both (AreAlike s) o (Some u)) (sym (stores_law world a.id x seen coords ls t w.0
-          w.1)) (record { fields = h.fields; cells = h.cells })
+      w.1)) (record { fields = h.fields; cells = h.cells })
 
 pub stage_law : StageLaw
 stage_law hidden blind world root a dims memory x seen to coords ls b s may n =
     subst (λ o. Both (AreAlike s) (then_do o (λ t. then_do (run world b t)
-        (run world (store_nest a.id x coords ls))))
-        (run world b (on_scene (with_view a.id seen) s)))
+    (run world (store_nest a.id x coords ls))))
+    (run world b (on_scene (with_view a.id seen) s)))
     (sym (stage_in_law world a dims memory x seen to coords ls s n.sizes may.there n.before n.fit))
     (behind world a x seen coords ls s (run world b (staged a.id seen to s))
-        (run world b (on_scene (with_view a.id seen) s)) (staged_law hidden blind world root a.id
-        seen to b s may) n.behind)
+    (run world b (on_scene (with_view a.id seen) s)) (staged_law hidden blind world root a.id
+    seen to b s may) n.behind)

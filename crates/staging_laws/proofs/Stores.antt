@@ -66,7 +66,7 @@ in_whole (l ∷ ls) [] scene at o b = absurd o
 in_whole (l ∷ ls) (d ∷ ds) scene [] o b = absurd b
 in_whole (l ∷ ls) (d ∷ ds) scene (i ∷ at) (e, o) (j, k, m, b) =
     ap₂ (λ t r. where_true t (option_map (λ at. (pos 0 +ℤ i) ∷ at) r)) (below_extent l i d scene e j
-        k m) (in_whole ls ds (with_control l.binder.id i scene) at (o i) b)
+    k m) (in_whole ls ds (with_control l.binder.id i scene) at (o i) b)
     ∙ ap (λ z. Some (z ∷ at)) (zero_plus i)
 
 -- and one of the window
@@ -81,9 +81,11 @@ in_sides ls (Point p ∷ sides) scene at o b = let q =
 in_sides [] (Range lo n ∷ sides) scene at o b = absurd o
 in_sides (l ∷ ls) (Range lo n ∷ sides) scene [] o b = absurd b
 in_sides (l ∷ ls) (Range lo n ∷ sides) scene (i ∷ at) (e, o) (j, k, m, b) =
-    let q = in_sides ls sides (with_control l.binder.id i scene) at (o i) b in
-    ((lo +ℤ i) ∷ q.0, ap₂ (λ t r. where_true t (option_map (λ at. (lo +ℤ i) ∷ at) r))
-        (below_extent l i n scene e j k m) q.1)
+    let q = in_sides ls sides (with_control l.binder.id i scene) at (o i) b in (
+      (lo +ℤ i) ∷ q.0,
+      ap₂ (λ t r. where_true t (option_map (λ at. (lo +ℤ i) ∷ at) r))
+          (below_extent l i n scene e j k m) q.1,
+    )
 
 -- no other index list is one of the window
 pub box_covers : (ls : List Loop) (sides : List Side) (scene : Scene) (at q : List ℤ)
@@ -97,10 +99,14 @@ box_covers [] (Range lo n ∷ sides) scene at q o e = absurd o
 box_covers (l ∷ ls) (Range lo n ∷ sides) scene [] q o e = absurd (none_is_some e)
 box_covers (l ∷ ls) (Range lo n ∷ sides) scene (pos j ∷ at) q (k, o) e =
     let w = where_parts (is_below (pos j) n) (option_map (λ r. (lo +ℤ pos j) ∷ r)
-        (cell_at sides at)) q e in
-    let m = map_parts (λ r. (lo +ℤ pos j) ∷ r) (cell_at sides at) q w.1 in
-    (j, refl, count_below j (number scene l.extent) (ap (is_below (pos j)) k ∙ w.0), box_covers ls
-        sides (with_control l.binder.id (pos j) scene) at m.0 (o (pos j)) m.1)
+    (cell_at sides at)) q e in
+    let m = map_parts (λ r. (lo +ℤ pos j) ∷ r) (cell_at sides at) q w.1 in (
+      j,
+      refl,
+      count_below j (number scene l.extent) (ap (is_below (pos j)) k ∙ w.0),
+      box_covers ls
+          sides (with_control l.binder.id (pos j) scene) at m.0 (o (pos j)) m.1,
+    )
 box_covers (l ∷ ls) (Range lo n ∷ sides) scene (negsuc j ∷ at) q o e = absurd (none_is_some e)
 
 -- ---- at the turns
@@ -141,12 +147,17 @@ pub under : (scene : Scene) (x : ℕ) (coords : List Coord) (seen : Seen)
     → window scene x coords ≡ Some seen → Under scene x coords seen
 under scene x coords seen e =
     let r = then_gives (scene.views x)
-        (λ r. option_map (λ sides. record { buffer = r.buffer; sides = sides })
-        (narrowed scene r.sides coords)) seen e in
+    (λ r. option_map (λ sides. record { buffer = r.buffer; sides = sides })
+    (narrowed scene r.sides coords)) seen e in
     let m = map_parts (λ sides. record { buffer = r.0.buffer; sides = sides })
-        (narrowed scene r.0.sides coords) seen r.2 in
-    record { root = r.0; name = r.1; same = ap (λ (z : Seen). z.buffer) m.2; sides = m.1
-        ∙ ap (λ (z : Seen). Some z.sides) m.2 }
+    (narrowed scene r.0.sides coords) seen r.2 in
+    record {
+      root = r.0;
+      name = r.1;
+      same = ap (λ (z : Seen). z.buffer) m.2;
+      sides = m.1
+          ∙ ap (λ (z : Seen). Some z.sides) m.2;
+    }
 
 -- ---- one store
 
@@ -178,9 +189,9 @@ module _ (cells : Cells) (a : ℕ) (seen : Seen) where
     place_x =
         let u = under scene x coords seen seen_there in
         ap (λ o. then_do o (λ z. option_map (spot z.buffer)
-            (cell_at z.sides (numbers scene (shifted coords is))))) u.name
+        (cell_at z.sides (numbers scene (shifted coords is))))) u.name
         ∙ ap (option_map (spot u.root.buffer)) (place_on scene u.root.sides seen.sides coords is q
-            u.sides sees) ∙ ap (λ b. Some (spot b q)) u.same
+        u.sides sees) ∙ ap (λ b. Some (spot b q)) u.same
 
     hit : (c : Cells) → changed c (spot seen.buffer q) (λ old. cells a (numbers scene is)) ≡ filled
         seen.buffer goal (λ at. same_index at q) c
@@ -208,11 +219,11 @@ module _ (cells : Cells) (a : ℕ) (seen : Seen) where
         (hit_at (cell_at seen.sides (numbers scene is)))
     store_one c k =
         ap₂ (λ o v. then_do o (λ p. then_do (option_map (held c) v) (λ v. put (at_cells scene c)
-            (λ old. v) p))) place_x place_a
+        (λ old. v) p))) place_x place_a
         ∙ ap (λ o. option_map (λ (z : Shape). at_cells scene (changed c (spot seen.buffer q)
-            (λ old. stored_as z.cell (c a (numbers scene is))))) o) there
+        (λ old. stored_as z.cell (c a (numbers scene is))))) o) there
         ∙ ap (λ d. Some (at_cells scene (changed c (spot seen.buffer q) (λ old. stored_as to.cell
-            (d (numbers scene is)))))) (k a not_here)
+        (d (numbers scene is)))))) (k a not_here)
         ∙ ap (λ v. Some (at_cells scene (changed c (spot seen.buffer q) (λ old. v)))) fits
         ∙ ap (λ d. Some (at_cells scene d)) (hit c)
         ∙ ap (λ o. Some (at_cells scene (filled seen.buffer goal (hit_at o) c))) (sym sees)
@@ -233,11 +244,11 @@ module _ (world : World) (a x : ℕ) (seen : Seen) (coords : List Coord) (ls : L
       let q = in_sides ls seen.sides s.scene at h.over b in
       store_one s.cells a seen world z x h.there.0 coords (vars ls) q.0
       (ap (λ f. f a) (same_views ls at s.scene) ∙ h.name) (ap (λ f. f seen.buffer)
-          (same_buffers ls at s.scene) ∙ h.there.1) h.other (at_any ls (λ z. window z x coords
-          ≡ Some seen) s.scene h.window at b)
+      (same_buffers ls at s.scene) ∙ h.there.1) h.other (at_any ls (λ z. window z x coords
+      ≡ Some seen) s.scene h.window at b)
       (ap (cell_at (whole (extents seen.sides))) v ∙ in_whole ls (extents seen.sides) s.scene at
-          h.over b ∙ ap Some (sym v)) (ap (cell_at seen.sides) v
-          ∙ q.1) (fit h.there.0 (numbers z (vars ls)) h.there.1)
+      h.over b ∙ ap Some (sym v)) (ap (cell_at seen.sides) v
+      ∙ q.1) (fit h.there.0 (numbers z (vars ls)) h.there.1)
 
   hits : List ℤ → Bool
   hits = nest_hits ls one_hit s.scene
@@ -248,8 +259,8 @@ module _ (world : World) (a x : ℕ) (seen : Seen) (coords : List Coord) (ls : L
   is_hit at js e =
       let b = box_covers ls seen.sides s.scene js at h.over e in
       comes_to_box ls one_hit s.scene js at b (ap (λ l. hit_at (cell_at seen.sides l) at)
-          (vars_are ls js s.scene (are_new ls h.distinct) b) ∙ ap (λ o. hit_at o at) e
-          ∙ (signed_items at at).1 refl)
+      (vars_are ls js s.scene (are_new ls h.distinct) b) ∙ ap (λ o. hit_at o at) e
+      ∙ (signed_items at at).1 refl)
 
   all_back : filled seen.buffer (goal s.cells a seen) hits s.cells ≡ copy_back true (GivenView seen)
       (s.cells a) s.cells
@@ -269,8 +280,8 @@ module _ (world : World) (a x : ℕ) (seen : Seen) (coords : List Coord) (ls : L
       go b at false e = refl
       go b at true e =
           subst (λ y. cond (hits at) (goal s.cells a seen at) (s.cells y at)
-              ≡ value_or (index_of seen.sides at) (s.cells a) (s.cells y at))
-              (sym (eqb-true b seen.buffer e))
+          ≡ value_or (index_of seen.sides at) (s.cells a) (s.cells y at))
+          (sym (eqb-true b seen.buffer e))
           (in_window at (index_of seen.sides at) refl (hits at) refl)
 
   stores : run world (nest ls (Assign x (shifted coords (vars ls)) (Read a (vars ls)))) s
@@ -278,11 +289,11 @@ module _ (world : World) (a x : ℕ) (seen : Seen) (coords : List Coord) (ls : L
   unfolding hits
   stores =
       nest_fills seen.buffer (goal s.cells a seen) s.cells world ls
-          (Assign x (shifted coords (vars ls)) (Read a (vars ls))) one_hit s.scene
-          (subst IsSome (sym h.there.1) refl) h.tidy
+      (Assign x (shifted coords (vars ls)) (Read a (vars ls))) one_hit s.scene
+      (subst IsSome (sym h.there.1) refl) h.tidy
       (each_in_box ls (λ z. Fills seen.buffer (goal s.cells a seen) s.cells z
-          (step world (Assign x (shifted coords (vars ls)) (Read a (vars ls)))) (one_hit z)) s.scene
-          at_turn) s.cells (λ b e. refl)
+      (step world (Assign x (shifted coords (vars ls)) (Read a (vars ls)))) (one_hit z)) s.scene
+      at_turn) s.cells (λ b e. refl)
       ∙ ap (λ c. Some (at_cells s.scene c)) all_back
 
 pub stores_law : StoresLaw

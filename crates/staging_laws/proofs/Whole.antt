@@ -1,6 +1,7 @@
 -- A block that is staged, from the block as it stands.
 use Rattle.std.proofs.Common.{◌≡◌, ℕ, ◌==◌, Bool, true, false, true≢false, cond, List, Option, Some}
-use Rattle.std.proofs.Common.{None, IfSome, IsSome, option_map, refl, sym, ap, ◌∙◌, subst, eqb-true, eq-eqb}
+use Rattle.std.proofs.Common.{None, IfSome, IsSome, option_map, refl, sym, ap, ◌∙◌, subst, eqb-true}
+use Rattle.std.proofs.Common.{eq-eqb}
 use Rattle.exo_tree.specs.Tree.{Coord, Window, Block}
 use Rattle.exo_meaning.specs.Scene.{Seen, then_do, narrowed, window}
 use Rattle.exo_meaning.specs.State.{State, on_scene, with_view}
@@ -108,10 +109,14 @@ module _ (world : World) (a x : ℕ) (seen : Seen) (coords : List Coord) (b : Bl
   pub from_view : (o p : Option State) → Both (AreAlike s) o p → IfSome p Ends → IfSome o Result
   from_view None p h k = tt
   from_view (Some u) None h k = absurd h
-  from_view (Some u) (Some v) h k = (k.0, k.1, record {
-    fields = h.fields ∙ k.2.fields;
-    cells = λ y at i. h.cells y at i ∙ ap (λ c. c at) (k.2.cells y (not_a y i (y == a) refl));
-  })
+  from_view (Some u) (Some v) h k = (
+    k.0,
+    k.1,
+    record {
+      fields = h.fields ∙ k.2.fields;
+      cells = λ y at i. h.cells y at i ∙ ap (λ c. c at) (k.2.cells y (not_a y i (y == a) refl));
+    },
+  )
 
 pub viewed_law : ViewedLaw
 viewed_law = viewed_ends
@@ -122,7 +127,7 @@ pub staged_block_law : StagedBlockLaw
 staged_block_law blind world root a dims memory x seen to coords ls b s may alone round =
     from_view world a.id x seen coords b s may _ _
     (round_law blind world root a dims memory x seen to coords ls (converted a.id x coords b) s
-        alone round)
+    alone round)
     (viewed_ends world a.id x seen coords b s may)
 
 pub staged_reader_law : StagedReaderLaw
@@ -131,6 +136,6 @@ staged_reader_law blind world root a dims memory x seen to coords ls b s may alo
     let inner = converted a.id x coords b in
     from_view world a.id x seen coords b s may _ _
     (reader_law (has_root (updated root a.id a.id) seen.buffer) blind world
-        (updated root a.id a.id) a dims memory x seen to coords ls inner s
-        (alone_law blind world root a.id seen to inner s alone) sizes before fit w)
+    (updated root a.id a.id) a dims memory x seen to coords ls inner s
+    (alone_law blind world root a.id seen to inner s alone) sizes before fit w)
     (viewed_ends world a.id x seen coords b s may)

@@ -41,7 +41,7 @@ pub record MayGoRound (world : World) (a : Binder) (dims : List Control) (x : �
   pub fit : FitInto s seen.buffer seen.buffer
   pub between : IsBetween a.id x seen coords b
   pub behind : (t : State) → run world b (staged a.id seen to s) ≡ Some t →
-    AreOverSpans ls coords t.scene × FitInto t a.id seen.buffer
+      AreOverSpans ls coords t.scene × FitInto t a.id seen.buffer
 
 -- StageLaw for a block that uses no other name of the window's root
 abbrev pub RoundLaw : Type 0
@@ -52,6 +52,6 @@ RoundLaw =
     IsAlone blind root a.id seen to b s →
     MayGoRound world a dims x seen to coords ls b s →
     Both (AreAlike s)
-      (then_do (run world (next (Alloc a to.cell dims memory) (load_nest a.id x coords ls)) s)
-        (λ t. then_do (run world b t) (run world (store_nest a.id x coords ls))))
-      (run world b (on_scene (with_view a.id seen) s))
+    (then_do (run world (next (Alloc a to.cell dims memory) (load_nest a.id x coords ls)) s)
+    (λ t. then_do (run world b t) (run world (store_nest a.id x coords ls))))
+    (run world b (on_scene (with_view a.id seen) s))

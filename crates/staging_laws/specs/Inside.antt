@@ -27,7 +27,7 @@ SpansLaw =
     AreOverSpans ls coords scene →
     RunOver ls (numbers scene (spans coords)) scene
     × ((seen : Seen) → window scene x coords ≡ Some seen →
-      AtAny ls (λ z. window z x coords ≡ Some seen) scene)
+    AtAny ls (λ z. window z x coords ≡ Some seen) scene)
 
 -- ---- windows that are there
 

@@ -28,6 +28,6 @@ ReaderLaw =
     IsStaging a.id x seen coords ls (emptied a.id to.cell (extents seen.sides) s) →
     FitInto s seen.buffer seen.buffer → writes world root b a.id ≡ false →
     Both (AreAlike s)
-      (then_do (run world (next (Alloc a to.cell dims memory) (load_nest a.id x coords ls)) s)
-        (run world b))
-      (run world b (on_scene (with_view a.id seen) s))
+    (then_do (run world (next (Alloc a to.cell dims memory) (load_nest a.id x coords ls)) s)
+    (run world b))
+    (run world b (on_scene (with_view a.id seen) s))

@@ -30,7 +30,7 @@ pub record MayNest (world : World) (a : Binder) (dims : List Control) (x : ℕ) 
   pub before : IsStaging a.id x seen coords ls (emptied a.id to.cell (extents seen.sides) s)
   pub fit : FitInto s seen.buffer seen.buffer
   pub behind : (t : State) → run world b (staged a.id seen to s) ≡ Some t →
-    IsStaging a.id x seen coords ls t × FitInto t a.id seen.buffer
+      IsStaging a.id x seen coords ls t × FitInto t a.id seen.buffer
 
 -- allocation, load nest, block and store nest do what the block does on a view of the window
 abbrev pub StageLaw : Type 0
@@ -41,6 +41,6 @@ StageLaw =
     MayStage hidden blind world root a.id seen to b s →
     MayNest world a dims x seen to coords ls b s →
     Both (AreAlike s)
-      (then_do (run world (next (Alloc a to.cell dims memory) (load_nest a.id x coords ls)) s)
-        (λ t. then_do (run world b t) (run world (store_nest a.id x coords ls))))
-      (run world b (on_scene (with_view a.id seen) s))
+    (then_do (run world (next (Alloc a to.cell dims memory) (load_nest a.id x coords ls)) s)
+    (λ t. then_do (run world b t) (run world (store_nest a.id x coords ls))))
+    (run world b (on_scene (with_view a.id seen) s))

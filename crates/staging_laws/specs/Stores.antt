@@ -133,4 +133,4 @@ NoStoreLaw =
     IsSome (s.scene.buffers seen.buffer) → (seen.buffer == a) ≡ false →
     writes world root b a ≡ false → writes world root b seen.buffer ≡ false →
     IfSome (run world b (staged a seen to s)) (λ t.
-      copy_back true (GivenView seen) (t.cells a) t.cells ≡ t.cells)
+    copy_back true (GivenView seen) (t.cells a) t.cells ≡ t.cells)

@@ -1,5 +1,5 @@
 -- A block that is staged, from the block as it stands.
-use Rattle.std.specs.Prelude.{◌≡◌, ◌==◌, ℕ, Bool, true, false, List, Some, IfSome}
+use Rattle.std.specs.Prelude.{◌≡◌, ◌==◌, ℕ, Bool, false, List, Some, IfSome}
 use Rattle.exo_tree.specs.Tree.{Binder, Control, Coord, Alloc, Block, next}
 use Rattle.exo_meaning.specs.Scene.{Shape, Seen, numbers, extents, window, then_do}
 use Rattle.exo_meaning.specs.State.{State, on_scene, with_view}
@@ -35,7 +35,7 @@ ViewedLaw =
     (world : World) (a x : ℕ) (seen : Seen) (coords : List Coord) (b : Block) (s : State)
     → MayConvert world a x seen coords b s
     → IfSome (run world (converted a x coords b) (on_scene (with_view a seen) s))
-        (Follows (λ t u. SameBut (λ y. y == a) u t) world b s)
+    (Follows (λ t u. SameBut (λ y. y == a) u t) world b s)
 
 -- where allocation, load nest, converted block and store nest run, the block runs to an end with
 -- the same fields and the same cells in all buffers of before
@@ -45,13 +45,13 @@ StagedBlockLaw =
     (memory x : ℕ) (seen : Seen) (to : Shape) (coords : List Coord) (ls : List Loop) (b : Block)
     (s : State)
     → let inner = converted a.id x coords b in
-      MayConvert world a.id x seen coords b s
+    MayConvert world a.id x seen coords b s
     → IsAlone blind root a.id seen to inner s
     → MayGoRound world a dims x seen to coords ls inner s
     → let loads = next (Alloc a to.cell dims memory) (load_nest a.id x coords ls) in
-      let stores = store_nest a.id x coords ls in
-      IfSome (then_do (run world loads s) (λ t. then_do (run world inner t) (run world stores)))
-        (Follows (λ t u. AreAlike s u t) world b s)
+    let stores = store_nest a.id x coords ls in
+    IfSome (then_do (run world loads s) (λ t. then_do (run world inner t) (run world stores)))
+    (Follows (λ t u. AreAlike s u t) world b s)
 
 -- the same without the store nest, of a block that does not write a
 abbrev pub StagedReaderLaw : Type 0
@@ -60,12 +60,12 @@ StagedReaderLaw =
     (memory x : ℕ) (seen : Seen) (to : Shape) (coords : List Coord) (ls : List Loop) (b : Block)
     (s : State)
     → let inner = converted a.id x coords b in
-      MayConvert world a.id x seen coords b s
+    MayConvert world a.id x seen coords b s
     → IsAlone blind root a.id seen to inner s
     → numbers s.scene dims ≡ extents seen.sides
     → IsStaging a.id x seen coords ls (emptied a.id to.cell (extents seen.sides) s)
     → FitInto s seen.buffer seen.buffer
     → writes world (updated root a.id a.id) inner a.id ≡ false
     → let loads = next (Alloc a to.cell dims memory) (load_nest a.id x coords ls) in
-      IfSome (then_do (run world loads s) (run world inner))
-        (Follows (λ t u. AreAlike s u t) world b s)
+    IfSome (then_do (run world loads s) (run world inner))
+    (Follows (λ t u. AreAlike s u t) world b s)
