@@ -10,9 +10,9 @@ use Rattle.c_names.specs.Words.{Name, same_name, is_in, is_word}
 use Rattle.c_names.specs.Names.{c_name}
 use Rattle.c_names.specs.Binders.{binders_in, binders_of, param_binders, all_binders, names_of, called, c_names, name_in}
 use Rattle.c_names.specs.Clash.{clashing, first_clash}
-use Rattle.c_tree.specs.Lowered.{Naming}
-use Rattle.c_tree.specs.LoweredUnit.{Printing, field_name, named_field, or_none, naming_in, is_used, fields_from, fields_of, printed_names, global_names}
-use Rattle.c_tree.specs.Simulation.{Declared, IsAlone}
+use Rattle.c_printer.specs.Lowered.{Naming}
+use Rattle.c_printer.specs.LoweredUnit.{Printing, field_name, named_field, or_none, naming_in, is_used, fields_from, fields_of, printed_names, global_names}
+use Rattle.c_laws.specs.Simulation.{Declared, IsAlone}
 use Rattle.c_laws.specs.Laws.{declared_in}
 use Rattle.c_laws.proofs.Spelling.{names_equal, same_self, differ}
 use Rattle.c_laws.proofs.Free.{or_false, or_rest, room}

@@ -1,1 +1,4 @@
+pub mod Magnitude
+pub mod Simulation
+pub mod SameInput
 pub mod Laws

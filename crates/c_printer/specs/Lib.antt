@@ -1,3 +1,6 @@
+pub mod Lowered
+pub mod LoweredUnit
+pub mod PlainPrinted
 pub mod SelfContained
 pub mod Scope
 pub mod Naming

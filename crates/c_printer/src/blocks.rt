@@ -8,7 +8,7 @@ ghost use Rattle.exo_tree.specs.PlainArgument.{argument};
 ghost use Rattle.exo_tree.specs.PlainStatement.{statement};
 ghost use Rattle.c_tree.specs.CTree.{cblock, followed_by};
 ghost use Rattle.c_tree.specs.Plain.{plain_type, plain_cell, plain_data, plain_statement};
-ghost use Rattle.c_tree.specs.Lowered.{cell_in, cell_at_of, number32_of, block_of};
+ghost use Rattle.c_printer.specs.Lowered.{cell_in, cell_at_of, number32_of, block_of};
 ghost use Rattle.c_printer.specs.Scope.{forms_in};
 ghost use Rattle.c_printer.specs.Naming.{naming_of};
 ghost use Rattle.c_printer.specs.Heads.{allocation, buffer_of, head_of, scope_after, heaped, frees};

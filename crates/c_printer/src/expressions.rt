@@ -6,7 +6,7 @@ ghost use Rattle.exo_tree.specs.PlainDatum.{datum};
 ghost use Rattle.exo_tree.specs.PlainArgument.{argument};
 ghost use Rattle.c_tree.specs.CTree.{InArray};
 ghost use Rattle.c_tree.specs.Plain.{plain_number, plain_test, plain_cell, plain_data, plain_value};
-ghost use Rattle.c_tree.specs.Lowered.{number_of, test_of, cell_at_of, number32_of, actual_of};
+ghost use Rattle.c_printer.specs.Lowered.{number_of, test_of, cell_at_of, number32_of, actual_of};
 ghost use Rattle.c_printer.specs.Scope.{forms_in};
 ghost use Rattle.c_printer.specs.Naming.{naming_of};
 ghost use Rattle.c_printer.specs.SelfContained.{is_value};

@@ -3,7 +3,7 @@ ghost use Rattle.std.specs.Prelude.{◌≡◌, ◌+◌, map, drop, IfOk};
 ghost use Rattle.exo_tree.specs.PlainControl.{control};
 ghost use Rattle.c_tree.specs.CTree.{Sum, Product};
 ghost use Rattle.c_tree.specs.Plain.{plain_number};
-ghost use Rattle.c_tree.specs.Lowered.{number_of, numbers_of, dims_of, product_from, product_of, row_strides, or_one, strides_in, horner, offset};
+ghost use Rattle.c_printer.specs.Lowered.{number_of, numbers_of, dims_of, product_from, product_of, row_strides, or_one, strides_in, horner, offset};
 ghost use Rattle.c_printer.specs.Scope.{forms_in};
 ghost use Rattle.c_printer.specs.Naming.{naming_of, extent_of};
 ghost use Rattle.c_printer.specs.Heads.{offset_behind};

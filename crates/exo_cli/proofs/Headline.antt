@@ -5,7 +5,7 @@ use Rattle.exo_tree.specs.Tree.{Program}
 use Rattle.exo_meaning.specs.Units.{IsUnit}
 use Rattle.c_printer.specs.SelfContained.{are_self_contained}
 use Rattle.c_printer.specs.Refusals.{too_wide, name_clash}
-use Rattle.c_tree.specs.Laws.{FirstUnitsFollow}
+use Rattle.c_laws.specs.Laws.{FirstUnitsFollow}
 use Rattle.c_laws.specs.Laws.{UnitsFollow}
 use Rattle.text_phrases.specs.Text.{IsText}
 use Rattle.text_lexer.specs.declared.place.Place.{Place}

@@ -8,11 +8,11 @@ use Rattle.exo_meaning.specs.State.{State}
 use Rattle.exo_meaning.specs.Run.{World}
 use Rattle.exo_meaning.specs.Inputs.{IsAdmissible, AreArguments, is_buffer_of}
 use Rattle.exo_meaning.specs.Units.{IsUnit}
-use Rattle.c_tree.specs.CRun.{run_c}
+use Rattle.c_machine.specs.CRun.{run_c}
 use Rattle.c_tree.specs.FirstForm.{is_first_unit}
-use Rattle.c_tree.specs.LoweredUnit.{Printing, name_of}
-use Rattle.c_tree.specs.Laws.{FirstUnitsFollow}
-use Rattle.c_tree.specs.Simulation.{Follows}
+use Rattle.c_printer.specs.LoweredUnit.{Printing, name_of}
+use Rattle.c_laws.specs.Laws.{FirstUnitsFollow}
+use Rattle.c_laws.specs.Simulation.{Follows}
 use Rattle.c_printer.specs.SelfContained.{is_there_alone, are_self_contained}
 use Rattle.c_laws.specs.Laws.{naming_of, declared_in, AreLowered, IsListed, LeavesTheSame, UnitsFollow}
 use Rattle.exo_cli.specs.Compiled.{printing_of, printings, with_versions}

@@ -8,16 +8,16 @@ use Rattle.fault_laws.specs.Laws.{NothingFaults}
 use Rattle.exo_meaning.specs.Inputs.{IsValid, run_procedure}
 use Rattle.c_tree.specs.CTree.{CFunction}
 use Rattle.c_tree.specs.CText.{text_of}
-use Rattle.c_tree.specs.CRun.{CWorld, run_c}
-use Rattle.c_tree.specs.Machine.{Machine, Done}
-use Rattle.c_tree.specs.Lowered.{Naming}
-use Rattle.c_tree.specs.LoweredUnit.{Printing, lowered}
-use Rattle.c_tree.specs.SameInput.{AreSame}
+use Rattle.c_machine.specs.CRun.{CWorld, run_c}
+use Rattle.c_machine.specs.Machine.{Machine, Done}
+use Rattle.c_printer.specs.Lowered.{Naming}
+use Rattle.c_printer.specs.LoweredUnit.{Printing, lowered}
+use Rattle.c_laws.specs.SameInput.{AreSame}
 use Rattle.c_tree.specs.FirstForm.{is_first_unit}
 use Rattle.c_printer.specs.Refusals.{too_wide, name_clash}
-use Rattle.c_tree.specs.Simulation.{Layout, Follows}
+use Rattle.c_laws.specs.Simulation.{Layout, Follows}
 use Rattle.c_laws.specs.Laws.{naming_of, declared_in, IsSameStart, LeavesTheSame}
-use Rattle.c_tree.specs.Laws.{AreSeparate, Agrees}
+use Rattle.c_laws.specs.Laws.{AreSeparate, Agrees}
 use Rattle.text_phrases.specs.Text.{IsText}
 use Rattle.exo_reader.specs.Source.{Item}
 use Rattle.exo_reader.specs.Items.{unit}

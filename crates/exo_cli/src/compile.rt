@@ -1,8 +1,8 @@
 // From the texts of a unit and of a schedule to the text of C.
 ghost use Rattle.std.specs.Prelude.{◌≡◌, ◌≤◌, ◌≢◌, None, length, map, slice_get, codes, IfOk};
 ghost use Rattle.exo_tree.specs.Plain.{program};
-ghost use Rattle.c_tree.specs.PlainPrinted.{printing};
-ghost use Rattle.c_tree.specs.LoweredUnit.{name_of};
+ghost use Rattle.c_printer.specs.PlainPrinted.{printing};
+ghost use Rattle.c_printer.specs.LoweredUnit.{name_of};
 ghost use Rattle.exo_cli.specs.Answer.{Rejected, IsVerdict};
 ghost use Rattle.exo_cli.specs.Compiled.{ended, kind_text, not_built, printed, rule_text, scheduled, started, why_text};
 ghost use Rattle.exo_cli.specs.Compiling.{IsCompiled, owed, typed};

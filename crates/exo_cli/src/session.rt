@@ -3,8 +3,8 @@ ghost use Rattle.std.specs.Prelude.{◌≡◌, Option, None, slice_get, slice_in
 ghost use Rattle.exo_tree.specs.Plain.{procedure};
 ghost use Rattle.exo_cli.specs.Commute.{Made};
 ghost use Rattle.exo_cli.specs.Lines.{Went, Done, adding, changing, changing_held, emitting, has_template, held, performed, run_lines};
-ghost use Rattle.c_tree.specs.LoweredUnit.{name_of};
-ghost use Rattle.c_tree.specs.PlainPrinted.{printing};
+ghost use Rattle.c_printer.specs.LoweredUnit.{name_of};
+ghost use Rattle.c_printer.specs.PlainPrinted.{printing};
 ghost use Rattle.exo_cli.specs.Compiled.{printings, started};
 ghost use Rattle.exo_cli.specs.Sessions.{versions, RefusesLine, StopsLine};
 ghost use Rattle.exo_cli.specs.declared.session.Why.TheVariants.{Memory};

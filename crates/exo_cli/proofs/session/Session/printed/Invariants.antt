@@ -1,5 +1,5 @@
 use Rattle.std.proofs.Common.{◌≡◌, map, take}
-use Rattle.c_tree.specs.PlainPrinted.{printing}
+use Rattle.c_printer.specs.PlainPrinted.{printing}
 use Rattle.exo_cli.specs.Compiled.{printing_of}
 use Rattle.exo_cli.specs.Sessions.{versions}
 use Rattle.exo_cli.proofs.session.Session.printed.Given as goal
