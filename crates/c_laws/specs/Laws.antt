@@ -33,7 +33,7 @@ BlocksFollow =
     → (s : State) (m : Machine)
     → Matches naming declared forms most layout s m
     → Follows (AllocatesFew world b s) (Ends naming declared forms layout s m)
-      (run world b s) (run_c c_world (block_of naming forms b) m)
+    (run world b s) (run_c c_world (block_of naming forms b) m)
 
 -- different buffers have different objects
 abbrev pub AreSeparate : Layout → State → Type 0
@@ -56,7 +56,7 @@ ProceduresFollow =
     → AreGoodParams (param_forms p.params) most p.params
     → IsGoodBlock naming declared (param_forms p.params) most p.body
     → Follows (AllocatesFew world p.body s) (Ends naming declared (param_forms p.params) layout s m)
-      (run_procedure world p s) (run_c c_world (block_of naming (param_forms p.params) p.body) m)
+    (run_procedure world p s) (run_c c_world (block_of naming (param_forms p.params) p.body) m)
 
 -- ---- printed procedures
 
@@ -97,17 +97,17 @@ pub record IsSameStart (program : Program) (what : List Printing) (p : Procedure
 pub record LeavesTheSame (naming : Naming) (declared : Declared) (layout : Layout)
     (s : State) (m : Machine) (t : State) (n : Machine) : Type 0 where
   pub cells :
-    (b : ℕ) (shape : Shape)
-    → s.scene.buffers b ≡ Some shape
-    → (at : List ℤ)
-    → in_range at shape.dims ≡ true
-    → let spot = spot_of layout b shape at in
+      (b : ℕ) (shape : Shape)
+      → s.scene.buffers b ≡ Some shape
+      → (at : List ℤ)
+      → in_range at shape.dims ≡ true
+      → let spot = spot_of layout b shape at in
       IsRefinedBy (t.cells b at) (n.contents spot.object spot.offset)
   pub outside :
-    (o : ℕ) (k : ℤ)
-    → nat_lt o m.setting.free ≡ true
-    → IsOutside naming layout s o k
-    → n.contents o k ≡ m.contents o k
+      (o : ℕ) (k : ℤ)
+      → nat_lt o m.setting.free ≡ true
+      → IsOutside naming layout s o k
+      → n.contents o k ≡ m.contents o k
   pub fields : (f : ℕ) → declared f ≡ true → n.setting.fields (naming.field f) ≡ t.scene.fields f
 
 -- A run of the C ends well: it does not fault, where it is done it leaves what it is to leave, and where no allocation
@@ -131,5 +131,5 @@ UnitsFollow =
     → (f : CFunction)
     × (slice_get (lowered program what).functions k ≡ Some f)
     × EndsWell (AllocatesFew world p.body s)
-      (LeavesTheSame (naming_of program what p) (declared_in program what) layout s m t)
-      (run_c c_world f.body m)
+    (LeavesTheSame (naming_of program what p) (declared_in program what) layout s m t)
+    (run_c c_world f.body m)

@@ -6,3 +6,4 @@ pub mod Scope
 pub mod Naming
 pub mod Heads
 pub mod Refusals
+pub mod Operations

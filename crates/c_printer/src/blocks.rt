@@ -90,9 +90,9 @@ fn lower_branch(
     ensures value { IfOk result (λ s. plain_statement s ≡ head_of (naming_of names.now) (forms_in scope.old.items) (If (condition c.now) (block a.now) (block b.now))) }
     ensures scope { OnOk result (scope.new.items ≡ scope.old.items) }
 {
-    let test = lower_test(alloc, names, scope, c)?;
     let main = lower_block(alloc, names, scope, a)?;
     let other = lower_block(alloc, names, scope, b)?;
+    let test = lower_test(alloc, names, scope, c)?;
     Ok(CStatement::Branch(test, main, other))
 }
 

@@ -7,8 +7,8 @@ ghost use Rattle.exo_tree.specs.PlainUnit.{program};
 ghost use Rattle.c_printer.specs.PlainPrinted.{printing};
 ghost use Rattle.c_printer.specs.LoweredUnit.{stands_in, is_made_in, stands_in_procedure, is_filled, is_new, headers_from, headers_of};
 
-use c_names::is_in;
 use crate::report::Printed;
+use c_names::is_in;
 use exo_tree::{Block, MemoryClass, Name, ProcId, Stmt, Unit};
 use std::alloc::{AllocError, Global};
 

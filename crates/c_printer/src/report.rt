@@ -103,4 +103,3 @@ pub(crate) fn lower_report(
     }
     Ok(made)
 }
-

@@ -1,2 +1,3 @@
 pub mod Blocks
 pub mod Appends
+pub mod Maps

@@ -22,8 +22,7 @@ use crate::messages;
 use crate::reply::Reply;
 use crate::schedule::read_schedule;
 use crate::session::{Session, Why};
-use c_printer::lower_unit;
-use c_tree::{LowerError, Printed, c_text};
+use c_printer::{LowerError, Printed, c_text, lower};
 use exo_reader::unit::{ReadError, ReadKind, Source};
 use exo_tree::{Lines, Name, ProcId, Procs, Unit};
 use exo_types::unit::check_types;
@@ -296,7 +295,7 @@ fn print(alloc: Global, procs: &str, unit: &Unit, what: &[Printed]) -> Result<Re
     if !are_built(unit, what) {
         return not_built(alloc, procs);
     }
-    match lower_unit(alloc, unit, what) {
+    match lower(alloc, unit, what) {
         Ok(c) => {
             let text = c_text(alloc, &c)?;
             Ok(Reply::Accepted(text))

@@ -6,7 +6,6 @@ ghost use Rattle.exo_cli.specs.Moves.{CommutedForwards};
 ghost use Rattle.exo_cli.specs.Work.{AnswersAreUnique};
 
 use c_laws::laws::units_follow;
-use c_tree::laws::first_units_follow;
 use unit_check::laws::checked_units_do_not_fault;
 
 /// A version with the sides of a sum or of a product exchanged runs like the one that it is made of.
@@ -39,7 +38,6 @@ pub fn accepted_texts_are_promised()
     ensures { AcceptedIsPromised }
 {
     checked_units_do_not_fault();
-    first_units_follow();
     units_follow();
 }
 

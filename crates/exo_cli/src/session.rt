@@ -11,7 +11,7 @@ ghost use Rattle.exo_cli.specs.declared.session.Why.TheVariants.{Memory};
 
 use crate::commute::{StepRefusal, commute_expr};
 use crate::lines::{Act, Commute, Line};
-use c_tree::Printed;
+use c_printer::Printed;
 use exo_tree::{Name, Proc, ProcId, Procs};
 use std::alloc::{AllocError, AllocFailed, Global};
 use text_lexer::text::Text;

@@ -1,6 +1,6 @@
 use Rattle.std.proofs.Common.{◌≡◌, ◌∙◌, ap, sym, map, string_bytes, slice_get}
 use Rattle.c_printer.specs.LoweredUnit.{named_field, field_word, name_of}
-use Rattle.c_printer.proofs.Maps.{map_of_map}
+use Rattle.c_tree.proofs.Maps.{map_of_map}
 use Rattle.c_printer.proofs.report.report_line.Goals as goal
 
 pub returns : goal.returns

@@ -3,7 +3,7 @@ use Rattle.exo_tree.specs.PlainUnit.{program}
 use Rattle.c_printer.specs.LoweredUnit.{line_of, headers_of, fields_of, functions_of, printed_names, global_names}
 use Rattle.c_tree.specs.Plain.{plain_line, plain_function}
 use Rattle.c_printer.specs.PlainPrinted.{printing}
-use Rattle.c_printer.proofs.Maps.{map_of_map}
+use Rattle.c_tree.proofs.Maps.{map_of_map}
 use Rattle.c_printer.proofs.units.lower.Goals as goal
 
 pub returns-clause-value : goal.returns-clause-value

@@ -2,7 +2,7 @@ use Rattle.std.proofs.Common.{◌∙◌, sym, ap, map}
 use Rattle.std.proofs.lemmas.List.{take_all}
 use Rattle.c_tree.specs.CText.{formal_text}
 use Rattle.c_tree.specs.Plain.{plain_param}
-use Rattle.c_printer.proofs.Maps.{map_of_map}
+use Rattle.c_tree.proofs.Maps.{map_of_map}
 use Rattle.c_tree.proofs.text.param_texts.Goals as goal
 
 pub returns : goal.returns
