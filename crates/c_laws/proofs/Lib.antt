@@ -22,3 +22,4 @@ pub mod UsedFields
 pub mod Params
 pub mod CNames
 pub mod Units
+pub mod Instance

@@ -2,3 +2,4 @@ pub mod Magnitude
 pub mod Simulation
 pub mod SameInput
 pub mod Laws
+pub mod Instance

@@ -1,7 +1,7 @@
 //! The C of control expressions.
 ghost use Rattle.std.specs.Prelude.{◌≡◌, ◌+◌, map, drop, IfOk};
 ghost use Rattle.exo_tree.specs.PlainControl.{control};
-ghost use Rattle.c_tree.specs.CTree.{Sum, Product};
+ghost use Rattle.c_tree.specs.CTree.{Named, Sum, Product};
 ghost use Rattle.c_tree.specs.Plain.{plain_number};
 ghost use Rattle.c_printer.specs.Lowered.{number_of, numbers_of, dims_of, product_from, product_of, row_strides, or_one, strides_in, horner, offset};
 ghost use Rattle.c_printer.specs.Scope.{forms_in};
@@ -12,7 +12,7 @@ ghost use Rattle.c_printer.specs.Operations.{of_one, of_two};
 use crate::names::Names;
 use crate::scope::{Entry, Form, find};
 use c_tree::tree::CNumber;
-use exo_tree::{Ctrl, Id, Indices};
+use exo_tree::{Ctrl, FieldId, Id, Indices};
 use std::alloc::{AllocError, Global};
 
 /// The product of two numbers.
@@ -29,6 +29,20 @@ fn plus(alloc: Global, a: CNumber, b: CNumber) -> Result<CNumber, AllocError>
 {
     let left = Box::new(alloc, a)?;
     Ok(CNumber::Sum(left, Box::new(alloc, b)?))
+}
+
+/// The number that a control name holds.
+fn binder_number(alloc: Global, names: &Names<'_>, x: Id) -> Result<CNumber, AllocError>
+    ensures { IfOk result (λ n. plain_number n ≡ Named ((naming_of names.now).binder x.0)) }
+{
+    Ok(CNumber::Named(names.binder(alloc, x)?))
+}
+
+/// The number that a configuration field holds.
+fn field_number(alloc: Global, names: &Names<'_>, f: FieldId) -> Result<CNumber, AllocError>
+    ensures { IfOk result (λ n. plain_number n ≡ Named ((naming_of names.now).field f.0)) }
+{
+    Ok(CNumber::Named(names.field(alloc, f)?))
 }
 
 /// A negation, quotient or remainder, as the expression is one, of the C of its part.
@@ -60,8 +74,8 @@ fn lower_extent(alloc: Global, names: &Names<'_>, e: &Ctrl) -> Result<CNumber, A
 {
     match e {
         Ctrl::Lit(n) => Ok(CNumber::Literal(*n)),
-        Ctrl::Var(x) => Ok(CNumber::Named(names.binder(alloc, *x)?)),
-        Ctrl::Field(f) => Ok(CNumber::Named(names.field(alloc, *f)?)),
+        Ctrl::Var(x) => binder_number(alloc, names, *x),
+        Ctrl::Field(f) => field_number(alloc, names, *f),
         Ctrl::Stride(_, _) => Ok(CNumber::Literal(1)),
         Ctrl::Neg(a) | Ctrl::Div(a, _) | Ctrl::Mod(a, _) => {
             let part = boxed_extent(alloc, names, a)?;
@@ -172,8 +186,8 @@ pub(crate) fn lower_number(
 {
     match e {
         Ctrl::Lit(n) => Ok(CNumber::Literal(*n)),
-        Ctrl::Var(x) => Ok(CNumber::Named(names.binder(alloc, *x)?)),
-        Ctrl::Field(f) => Ok(CNumber::Named(names.field(alloc, *f)?)),
+        Ctrl::Var(x) => binder_number(alloc, names, *x),
+        Ctrl::Field(f) => field_number(alloc, names, *f),
         Ctrl::Stride(x, k) => lower_stride(alloc, names, scope, *x, *k),
         Ctrl::Neg(a) | Ctrl::Div(a, _) | Ctrl::Mod(a, _) => {
             let part = boxed_number(alloc, names, scope, a)?;
