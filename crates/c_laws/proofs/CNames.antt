@@ -100,14 +100,6 @@ clash_parts x xs h = go (is_word x || is_in xs x) refl h
     go true e k = absurd (some_none k)
     go false e k = let p = or_false (is_word x) (is_in xs x) e in (p.0, p.1, k)
 
-no_word : (xs : List Name) (g : Name) → first_clash xs ≡ None → is_in xs g ≡ true → is_word g ≡ false
-no_word [] g h k = absurd (true≢false (sym k))
-no_word (x ∷ xs) g h k = let p = clash_parts x xs h in go (same_name x g) refl p.0 (no_word xs g p.2)
-  where
-    go : (t : Bool) → same_name x g ≡ t → is_word x ≡ false → (is_in xs g ≡ true → is_word g ≡ false) → is_word g ≡ false
-    go true e w rest = ap is_word (sym (names_equal x g e)) ∙ w
-    go false e w rest = rest (or_rest (same_name x g) (is_in xs g) e k)
-
 rear_clash : (xs ys : List Name) → first_clash (xs ++ ys) ≡ None → first_clash ys ≡ None
 rear_clash [] ys h = h
 rear_clash (x ∷ xs) ys h = rear_clash xs ys (clash_parts x (xs ++ ys) h).2
@@ -196,7 +188,7 @@ module _ (program : Program) (what : List Printing) (p : Procedure) (distinct : 
   pub are_named : AreNamed naming (declared_in program what) all
   are_named = record {
     apart = λ a b h k e. differ _ _ (λ same. names_apart globals (names_of all) few a.name b.name (name_there a all h) (name_there b all k) (no_text a b e) (sym (own_name a h) ∙ same ∙ own_name b k));
-    no_field = λ b h f d. differ _ _ (λ same. no_global globals (names_of all) few (naming.field f) b.name (field_there f d) (no_word globals (naming.field f) clear (field_there f d)) (same ∙ own_name b h));
+    no_field = λ b h f d. differ _ _ (λ same. no_global globals (names_of all) few (naming.field f) b.name (field_there f d) (same ∙ own_name b h));
     alone = λ f d g e. let q = parts f d in let r = parts g e in used_apart (is_used program what) program.fields f g q.1 r.1 q.0 r.0 (rear_clash (printed_names program what) (fields_of program what) clear);
     stored = λ x. refl;
   }
