@@ -1,7 +1,6 @@
 // Procedures whose C was worked out by hand.
 
-use c_printer::{are_self_contained, lower_unit};
-use c_tree::{LowerError, Printed, c_text};
+use c_printer::{LowerError, Printed, are_self_contained, c_text, lower};
 use exo_tree::{
     Arg, Binder, Block, Cell, Cond, Conds, Ctrl, DataExpr, Field, FieldId, Fields, Id, Indices,
     Kind, Lines, MemId, Memories, Name, Param, ParamKind, Params, Proc, ProcId, Procs, Stmt, Unit,
@@ -66,7 +65,7 @@ fn answer(alloc: Global, unit: &Unit, name: &str) -> Result<String, AllocError> 
     if !are_self_contained(unit, &what) {
         return String::from_str(alloc, "NotBuilt");
     }
-    match lower_unit(alloc, unit, &what) {
+    match lower(alloc, unit, &what) {
         Ok(c) => c_text(alloc, &c),
         Err(LowerError::TooWide(_)) => String::from_str(alloc, "TooWide"),
         Err(LowerError::NameClash(name)) => format!(in alloc; "NameClash {}", name.as_str()),
