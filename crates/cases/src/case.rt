@@ -6,7 +6,7 @@ use std::alloc::{AllocError, Global};
 #[derive(Drop)]
 pub struct Wanted {
     /// The exit status.
-    pub status: u8,
+    pub status: u16,
     /// The output, or its end.
     pub out: Vec<u8>,
     /// Whether only the end of the output is told.
@@ -31,11 +31,12 @@ pub struct Case {
     /// The words of the command.
     pub words: Vec<String>,
     /// The exit status that is wanted.
-    pub status: u8,
+    pub status: u16,
     /// How many bytes the standard output takes.
     pub room: usize,
-    /// The numbers of the reads that fail, and of the puts to the standard output.
+    /// The numbers of the reads that fail, from 0.
     pub reads: Vec<u64>,
+    /// The numbers of the puts to the standard output that fail, from 0.
     pub puts: Vec<u64>,
     /// The files, what is wanted, and the changes.
     pub parts: Vec<Part>,
@@ -109,7 +110,7 @@ impl Case {
             return Ok(());
         };
         match key {
-            "status" => self.status = number as u8,
+            "status" => self.status = number,
             "room" => self.room = number as usize,
             "fail read" => self.reads.push(number as u64)?,
             "fail put" => self.puts.push(number as u64)?,

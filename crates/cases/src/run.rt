@@ -8,7 +8,7 @@ use std::thread::Threads;
 /// What a run left: its status, and what the two sinks took.
 #[derive(Drop)]
 pub struct Outcome {
-    status: u8,
+    status: u16,
     out: MemSink,
     err: MemSink,
 }
@@ -63,7 +63,7 @@ pub fn run<R: Threads + Sync + AllocGlobal>(
         &Free,
     );
     Ok(Outcome {
-        status: status.number(),
+        status: u16::from(status.number()),
         out,
         err,
     })
@@ -91,7 +91,7 @@ impl Outcome {
     }
 
     /// The exit status.
-    pub fn status(&self) -> u8 {
+    pub fn status(&self) -> u16 {
         self.status
     }
 
