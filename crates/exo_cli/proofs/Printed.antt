@@ -13,7 +13,7 @@ use Rattle.c_machine.specs.CRun.{run_c}
 use Rattle.c_printer.specs.LoweredUnit.{Printing, name_of}
 use Rattle.c_printer.specs.SelfContained.{is_there_alone, are_self_contained}
 use Rattle.c_laws.specs.Laws.{naming_of, declared_in, AreLowered, IsListed, LeavesTheSame, EndsWell, UnitsFollow}
-use Rattle.fault_laws.specs.Laws.{NothingFaults}
+use Rattle.unit_check.specs.Faults.{NothingFaults}
 use Rattle.schedule_run.specs.Versions.{printing_of, printings, with_versions}
 use Rattle.schedule_run.specs.Lines.{Versions}
 use Rattle.proc_rewrites.specs.Kept.{IsVersionOf}
