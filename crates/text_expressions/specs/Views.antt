@@ -27,8 +27,8 @@ tree_of = fold-SourceExpr Tree tree_step
 
 -- the depth and the number of nodes are right
 pub record IsMeasured (m : Measured) : Type 0 where
-  pub depth : m.depth ≡ depth (tree_of m.tree)
-  pub nodes : m.nodes ≡ nodes (tree_of m.tree)
+  pub depth : m.depth ≡ depth (tree_of m.tree.value)
+  pub nodes : m.nodes ≡ nodes (tree_of m.tree.value)
 
 -- the depth of the deepest index is right
 pub record AreMeasured (l : Indices) : Type 0 where

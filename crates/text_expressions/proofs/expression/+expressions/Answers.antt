@@ -2,6 +2,7 @@ use Rattle.std.proofs.Common.{[], ◌∷◌, arith, ap, refl, length, subst, ◌
 use Rattle.text_phrases.proofs.Exits.{exit}
 use Rattle.text_phrases.proofs.Phrases.{taken_shorter}
 use Rattle.text_phrases.proofs.Sequences.{step_taken}
+use Rattle.text_phrases.proofs.Commas.{listed_first}
 use Rattle.text_phrases.proofs.Joints.{whole_err, now, later, both, now_by, later_by, both_by}
 use Rattle.std.proofs.lemmas.List.{length-append}
 use Rattle.text_expressions.proofs.Chains.{taken_of_begun}
@@ -207,11 +208,11 @@ read_access-accessed-requires-clause-shallow t c =
 
 pub read_access-returns-clause-reads : goal.read_access-returns-clause-reads
 read_access-returns-clause-reads t c =
-    renamed c.accessed.ensures.same (cell_ok _ _ _ _ _ _ _ _ c.requires.place c.requires.short c.in_ok-inside.ensures.1 c.in_ok-inside.ensures.0 c.requires.front c.in_ok-indices.ensures.reads c.in_ok-rest.ensures)
+    renamed c.in_ok-cell.ensures.same (cell_ok _ _ _ _ _ _ _ _ c.requires.place c.requires.short c.in_ok-inside.ensures.1 c.in_ok-inside.ensures.0 c.requires.front c.in_ok-indices.ensures.reads c.in_ok-rest.ensures)
 
 pub read_named-returns-clause-reads : goal.read_named-returns-clause-reads
 read_named-returns-clause-reads t c =
-    variable_ok _ _ _ _ _ _ c.requires.place c.requires.front c.in_ok-copy.ensures (c.if-not-is_short.ensures.0 refl) c.in_default.ensures c.in_default-behind.ensures (c.leaf.ensures.same ∙ made_name _)
+    c.leaf.ensures.reads _ _ (variable_ok _ _ _ _ _ _ c.requires.place c.requires.front c.in_ok-copy.ensures (c.if-not-is_short.ensures.0 refl) c.in_default.ensures c.in_default-behind.ensures (made_name _))
 
 pub read_indices-returns-in_err-first-clause-reads : goal.read_indices-returns-in_err-first-clause-reads
 read_indices-returns-in_err-first-clause-reads t c =
@@ -225,13 +226,22 @@ pub read_indices-returns-in_err-index-clause-reads : goal.read_indices-returns-i
 read_indices-returns-in_err-index-clause-reads t c =
     exit _ _ _ _ _ _ c.from_residual-in_err-index.ensures.1 (indices_err _ _ _ _ _ _ c.more.invariant.read c.in-Some.ensures (omega (arith, c.len.ensures)) c.in_err-index.ensures.reads)
 
+pub read_indices-more-init : goal.read_indices-more-init
+read_indices-more-init t c =
+    record {
+      shorter = omega (arith, taken_shorter c.in_ok-first.ensures.reads);
+      few = rw (c.in_ok-push.ensures.items, c.new-items.ensures.items) (omega arith);
+      deepest = rw (c.in_ok-push.ensures.items, c.new-items.ensures.items, c.into_inner.ensures) (omega (arith, c.in_ok-first.ensures.measured.depth));
+      read = rw (c.in_ok-push.ensures.items, c.new-items.ensures.items, c.into_inner.ensures) (listed_first _ _ _ _ _ _ c.in_ok-first.ensures.reads);
+    }
+
 pub read_indices-more-preserved : goal.read_indices-more-preserved
 read_indices-more-preserved t c =
     record {
       shorter = omega (arith, c.more.invariant.shorter, taken_shorter c.in_ok-index.ensures.reads, ap length c.in-Some.ensures);
-      few = omega (arith, ap length c.in_ok-push-2.ensures.items, length-append c.more.items.items (c.in_ok-index.index.tree ∷ []), c.len.ensures);
-      deepest = rw c.in_ok-push-2.ensures.items (c.max-deepest.ensures ∙ deepest_next _ _ _ _ c.more.invariant.deepest c.in_ok-index.ensures.measured.depth);
-      read = rw c.in_ok-push-2.ensures.items (indices_next _ _ _ _ _ _ _ c.more.invariant.read c.in-Some.ensures c.in_ok-index.ensures.reads);
+      few = omega (arith, ap length c.in_ok-push-2.ensures.items, length-append c.more.items.items (c.into_inner-in-Some.result ∷ []), c.len.ensures);
+      deepest = rw (c.in_ok-push-2.ensures.items, c.into_inner-in-Some.ensures) (c.max-deepest.ensures ∙ deepest_next _ _ _ _ c.more.invariant.deepest c.in_ok-index.ensures.measured.depth);
+      read = rw (c.in_ok-push-2.ensures.items, c.into_inner-in-Some.ensures) (indices_next _ _ _ _ _ _ _ c.more.invariant.read c.in-Some.ensures c.in_ok-index.ensures.reads);
     }
 
 pub read_indices-returns-clause-reads : goal.read_indices-returns-clause-reads
@@ -255,41 +265,41 @@ read_select-returns-in_err-a-clause-reads t c =
 pub read_select-returns-in_err-rest-2-clause-reads : goal.read_select-returns-in_err-rest-2-clause-reads
 read_select-returns-in_err-rest-2-clause-reads t c =
     exit _ _ _ _ _ _ c.from_residual-in_err-rest-2.ensures.1
-    (fronted_err _ _ _ _ c.requires.front (whole_err _ _ _ _ _ _ (step_select _ _ c.in_ok-inside.ensures.1) (later (choice0 c.args.room (subst HasPlace c.in_ok-inside.ensures.0 c.in_ok-inside.ensures.3)) c.in_ok-rest.ensures _ (later_by (choice1 c.args.room) (roomed c.in_ok-inside.ensures.0 c.in_ok-a.ensures.reads) _ (now (comma1 c.args.room (tree_of c.in_ok-a.a.tree) (roomed c.in_ok-inside.ensures.0 c.in_ok-a.ensures.reads).fits) _ _ c.in_err-rest-2.ensures)))))
+    (fronted_err _ _ _ _ c.requires.front (whole_err _ _ _ _ _ _ (step_select _ _ c.in_ok-inside.ensures.1) (later (choice0 c.args.room (subst HasPlace c.in_ok-inside.ensures.0 c.in_ok-inside.ensures.3)) c.in_ok-rest.ensures _ (later_by (choice1 c.args.room) (roomed c.in_ok-inside.ensures.0 c.in_ok-a.ensures.reads) _ (now (comma1 c.args.room (tree_of c.in_ok-a.a.tree.value) (roomed c.in_ok-inside.ensures.0 c.in_ok-a.ensures.reads).fits) _ _ c.in_err-rest-2.ensures)))))
 
 pub read_select-returns-in_err-b-clause-reads : goal.read_select-returns-in_err-b-clause-reads
 read_select-returns-in_err-b-clause-reads t c =
     exit _ _ _ _ _ _ c.from_residual-in_err-b.ensures.1
-    (fronted_err _ _ _ _ c.requires.front (whole_err _ _ _ _ _ _ (step_select _ _ c.in_ok-inside.ensures.1) (later (choice0 c.args.room (subst HasPlace c.in_ok-inside.ensures.0 c.in_ok-inside.ensures.3)) c.in_ok-rest.ensures _ (later_by (choice1 c.args.room) (roomed c.in_ok-inside.ensures.0 c.in_ok-a.ensures.reads) _ (later (comma1 c.args.room (tree_of c.in_ok-a.a.tree) (roomed c.in_ok-inside.ensures.0 c.in_ok-a.ensures.reads).fits) c.in_ok-rest-2.ensures _ (now_by (choice2 c.args.room (tree_of c.in_ok-a.a.tree)) c.in_ok-rest-2.rest.now _ (roomed_err 0 _ _ _ _ (c.under.ensures ∙ same_two c.args.room _ (tree_of c.in_ok-a.a.tree) c.in_ok-a.ensures.measured.nodes) c.in_err-b.ensures.reads)))))))
+    (fronted_err _ _ _ _ c.requires.front (whole_err _ _ _ _ _ _ (step_select _ _ c.in_ok-inside.ensures.1) (later (choice0 c.args.room (subst HasPlace c.in_ok-inside.ensures.0 c.in_ok-inside.ensures.3)) c.in_ok-rest.ensures _ (later_by (choice1 c.args.room) (roomed c.in_ok-inside.ensures.0 c.in_ok-a.ensures.reads) _ (later (comma1 c.args.room (tree_of c.in_ok-a.a.tree.value) (roomed c.in_ok-inside.ensures.0 c.in_ok-a.ensures.reads).fits) c.in_ok-rest-2.ensures _ (now_by (choice2 c.args.room (tree_of c.in_ok-a.a.tree.value)) c.in_ok-rest-2.rest.now _ (roomed_err 0 _ _ _ _ (c.under.ensures ∙ same_two c.args.room _ (tree_of c.in_ok-a.a.tree.value) c.in_ok-a.ensures.measured.nodes) c.in_err-b.ensures.reads)))))))
 
 pub read_select-returns-in_err-rest-3-clause-reads : goal.read_select-returns-in_err-rest-3-clause-reads
 read_select-returns-in_err-rest-3-clause-reads t c =
     exit _ _ _ _ _ _ c.from_residual-in_err-rest-3.ensures.1
-    (fronted_err _ _ _ _ c.requires.front (whole_err _ _ _ _ _ _ (step_select _ _ c.in_ok-inside.ensures.1) (later (choice0 c.args.room (subst HasPlace c.in_ok-inside.ensures.0 c.in_ok-inside.ensures.3)) c.in_ok-rest.ensures _ (later_by (choice1 c.args.room) (roomed c.in_ok-inside.ensures.0 c.in_ok-a.ensures.reads) _ (later (comma1 c.args.room (tree_of c.in_ok-a.a.tree) (roomed c.in_ok-inside.ensures.0 c.in_ok-a.ensures.reads).fits) c.in_ok-rest-2.ensures _ (later_by (choice2 c.args.room (tree_of c.in_ok-a.a.tree)) (roomed (c.under.ensures ∙ same_two c.args.room _ (tree_of c.in_ok-a.a.tree) c.in_ok-a.ensures.measured.nodes) c.in_ok-b.ensures.reads) _ (now (comma2 c.args.room (tree_of c.in_ok-a.a.tree) (tree_of c.in_ok-b.b.tree) (roomed (c.under.ensures ∙ same_two c.args.room _ (tree_of c.in_ok-a.a.tree) c.in_ok-a.ensures.measured.nodes) c.in_ok-b.ensures.reads).fits) _ _ c.in_err-rest-3.ensures)))))))
+    (fronted_err _ _ _ _ c.requires.front (whole_err _ _ _ _ _ _ (step_select _ _ c.in_ok-inside.ensures.1) (later (choice0 c.args.room (subst HasPlace c.in_ok-inside.ensures.0 c.in_ok-inside.ensures.3)) c.in_ok-rest.ensures _ (later_by (choice1 c.args.room) (roomed c.in_ok-inside.ensures.0 c.in_ok-a.ensures.reads) _ (later (comma1 c.args.room (tree_of c.in_ok-a.a.tree.value) (roomed c.in_ok-inside.ensures.0 c.in_ok-a.ensures.reads).fits) c.in_ok-rest-2.ensures _ (later_by (choice2 c.args.room (tree_of c.in_ok-a.a.tree.value)) (roomed (c.under.ensures ∙ same_two c.args.room _ (tree_of c.in_ok-a.a.tree.value) c.in_ok-a.ensures.measured.nodes) c.in_ok-b.ensures.reads) _ (now (comma2 c.args.room (tree_of c.in_ok-a.a.tree.value) (tree_of c.in_ok-b.b.tree.value) (roomed (c.under.ensures ∙ same_two c.args.room _ (tree_of c.in_ok-a.a.tree.value) c.in_ok-a.ensures.measured.nodes) c.in_ok-b.ensures.reads).fits) _ _ c.in_err-rest-3.ensures)))))))
 
 pub read_select-returns-in_err-c-clause-reads : goal.read_select-returns-in_err-c-clause-reads
 read_select-returns-in_err-c-clause-reads t c =
     exit _ _ _ _ _ _ c.from_residual-in_err-c.ensures.1
-    (fronted_err _ _ _ _ c.requires.front (whole_err _ _ _ _ _ _ (step_select _ _ c.in_ok-inside.ensures.1) (later (choice0 c.args.room (subst HasPlace c.in_ok-inside.ensures.0 c.in_ok-inside.ensures.3)) c.in_ok-rest.ensures _ (later_by (choice1 c.args.room) (roomed c.in_ok-inside.ensures.0 c.in_ok-a.ensures.reads) _ (later (comma1 c.args.room (tree_of c.in_ok-a.a.tree) (roomed c.in_ok-inside.ensures.0 c.in_ok-a.ensures.reads).fits) c.in_ok-rest-2.ensures _ (later_by (choice2 c.args.room (tree_of c.in_ok-a.a.tree)) (roomed (c.under.ensures ∙ same_two c.args.room _ (tree_of c.in_ok-a.a.tree) c.in_ok-a.ensures.measured.nodes) c.in_ok-b.ensures.reads) _ (later (comma2 c.args.room (tree_of c.in_ok-a.a.tree) (tree_of c.in_ok-b.b.tree) (roomed (c.under.ensures ∙ same_two c.args.room _ (tree_of c.in_ok-a.a.tree) c.in_ok-a.ensures.measured.nodes) c.in_ok-b.ensures.reads).fits) c.in_ok-rest-3.ensures _ (now_by (choice3 c.args.room (tree_of c.in_ok-a.a.tree) (tree_of c.in_ok-b.b.tree)) c.in_ok-rest-3.rest.now _ (roomed_err 0 _ _ _ _ (c.under-2.ensures ∙ same_three c.args.room _ _ (tree_of c.in_ok-a.a.tree) (tree_of c.in_ok-b.b.tree) c.in_ok-a.ensures.measured.nodes c.in_ok-b.ensures.measured.nodes) c.in_err-c.ensures.reads)))))))))
+    (fronted_err _ _ _ _ c.requires.front (whole_err _ _ _ _ _ _ (step_select _ _ c.in_ok-inside.ensures.1) (later (choice0 c.args.room (subst HasPlace c.in_ok-inside.ensures.0 c.in_ok-inside.ensures.3)) c.in_ok-rest.ensures _ (later_by (choice1 c.args.room) (roomed c.in_ok-inside.ensures.0 c.in_ok-a.ensures.reads) _ (later (comma1 c.args.room (tree_of c.in_ok-a.a.tree.value) (roomed c.in_ok-inside.ensures.0 c.in_ok-a.ensures.reads).fits) c.in_ok-rest-2.ensures _ (later_by (choice2 c.args.room (tree_of c.in_ok-a.a.tree.value)) (roomed (c.under.ensures ∙ same_two c.args.room _ (tree_of c.in_ok-a.a.tree.value) c.in_ok-a.ensures.measured.nodes) c.in_ok-b.ensures.reads) _ (later (comma2 c.args.room (tree_of c.in_ok-a.a.tree.value) (tree_of c.in_ok-b.b.tree.value) (roomed (c.under.ensures ∙ same_two c.args.room _ (tree_of c.in_ok-a.a.tree.value) c.in_ok-a.ensures.measured.nodes) c.in_ok-b.ensures.reads).fits) c.in_ok-rest-3.ensures _ (now_by (choice3 c.args.room (tree_of c.in_ok-a.a.tree.value) (tree_of c.in_ok-b.b.tree.value)) c.in_ok-rest-3.rest.now _ (roomed_err 0 _ _ _ _ (c.under-2.ensures ∙ same_three c.args.room _ _ (tree_of c.in_ok-a.a.tree.value) (tree_of c.in_ok-b.b.tree.value) c.in_ok-a.ensures.measured.nodes c.in_ok-b.ensures.measured.nodes) c.in_err-c.ensures.reads)))))))))
 
 pub read_select-returns-in_err-rest-4-clause-reads : goal.read_select-returns-in_err-rest-4-clause-reads
 read_select-returns-in_err-rest-4-clause-reads t c =
     exit _ _ _ _ _ _ c.from_residual-in_err-rest-4.ensures.1
-    (fronted_err _ _ _ _ c.requires.front (whole_err _ _ _ _ _ _ (step_select _ _ c.in_ok-inside.ensures.1) (later (choice0 c.args.room (subst HasPlace c.in_ok-inside.ensures.0 c.in_ok-inside.ensures.3)) c.in_ok-rest.ensures _ (later_by (choice1 c.args.room) (roomed c.in_ok-inside.ensures.0 c.in_ok-a.ensures.reads) _ (later (comma1 c.args.room (tree_of c.in_ok-a.a.tree) (roomed c.in_ok-inside.ensures.0 c.in_ok-a.ensures.reads).fits) c.in_ok-rest-2.ensures _ (later_by (choice2 c.args.room (tree_of c.in_ok-a.a.tree)) (roomed (c.under.ensures ∙ same_two c.args.room _ (tree_of c.in_ok-a.a.tree) c.in_ok-a.ensures.measured.nodes) c.in_ok-b.ensures.reads) _ (later (comma2 c.args.room (tree_of c.in_ok-a.a.tree) (tree_of c.in_ok-b.b.tree) (roomed (c.under.ensures ∙ same_two c.args.room _ (tree_of c.in_ok-a.a.tree) c.in_ok-a.ensures.measured.nodes) c.in_ok-b.ensures.reads).fits) c.in_ok-rest-3.ensures _ (later_by (choice3 c.args.room (tree_of c.in_ok-a.a.tree) (tree_of c.in_ok-b.b.tree)) (roomed (c.under-2.ensures ∙ same_three c.args.room _ _ (tree_of c.in_ok-a.a.tree) (tree_of c.in_ok-b.b.tree) c.in_ok-a.ensures.measured.nodes c.in_ok-b.ensures.measured.nodes) c.in_ok-c.ensures.reads) _ (now (comma3 c.args.room (tree_of c.in_ok-a.a.tree) (tree_of c.in_ok-b.b.tree) (tree_of c.in_ok-c.c.tree) (roomed (c.under-2.ensures ∙ same_three c.args.room _ _ (tree_of c.in_ok-a.a.tree) (tree_of c.in_ok-b.b.tree) c.in_ok-a.ensures.measured.nodes c.in_ok-b.ensures.measured.nodes) c.in_ok-c.ensures.reads).fits) _ _ c.in_err-rest-4.ensures)))))))))
+    (fronted_err _ _ _ _ c.requires.front (whole_err _ _ _ _ _ _ (step_select _ _ c.in_ok-inside.ensures.1) (later (choice0 c.args.room (subst HasPlace c.in_ok-inside.ensures.0 c.in_ok-inside.ensures.3)) c.in_ok-rest.ensures _ (later_by (choice1 c.args.room) (roomed c.in_ok-inside.ensures.0 c.in_ok-a.ensures.reads) _ (later (comma1 c.args.room (tree_of c.in_ok-a.a.tree.value) (roomed c.in_ok-inside.ensures.0 c.in_ok-a.ensures.reads).fits) c.in_ok-rest-2.ensures _ (later_by (choice2 c.args.room (tree_of c.in_ok-a.a.tree.value)) (roomed (c.under.ensures ∙ same_two c.args.room _ (tree_of c.in_ok-a.a.tree.value) c.in_ok-a.ensures.measured.nodes) c.in_ok-b.ensures.reads) _ (later (comma2 c.args.room (tree_of c.in_ok-a.a.tree.value) (tree_of c.in_ok-b.b.tree.value) (roomed (c.under.ensures ∙ same_two c.args.room _ (tree_of c.in_ok-a.a.tree.value) c.in_ok-a.ensures.measured.nodes) c.in_ok-b.ensures.reads).fits) c.in_ok-rest-3.ensures _ (later_by (choice3 c.args.room (tree_of c.in_ok-a.a.tree.value) (tree_of c.in_ok-b.b.tree.value)) (roomed (c.under-2.ensures ∙ same_three c.args.room _ _ (tree_of c.in_ok-a.a.tree.value) (tree_of c.in_ok-b.b.tree.value) c.in_ok-a.ensures.measured.nodes c.in_ok-b.ensures.measured.nodes) c.in_ok-c.ensures.reads) _ (now (comma3 c.args.room (tree_of c.in_ok-a.a.tree.value) (tree_of c.in_ok-b.b.tree.value) (tree_of c.in_ok-c.c.tree.value) (roomed (c.under-2.ensures ∙ same_three c.args.room _ _ (tree_of c.in_ok-a.a.tree.value) (tree_of c.in_ok-b.b.tree.value) c.in_ok-a.ensures.measured.nodes c.in_ok-b.ensures.measured.nodes) c.in_ok-c.ensures.reads).fits) _ _ c.in_err-rest-4.ensures)))))))))
 
 pub read_select-returns-in_err-d-clause-reads : goal.read_select-returns-in_err-d-clause-reads
 read_select-returns-in_err-d-clause-reads t c =
     exit _ _ _ _ _ _ c.from_residual-in_err-d.ensures.1
-    (fronted_err _ _ _ _ c.requires.front (whole_err _ _ _ _ _ _ (step_select _ _ c.in_ok-inside.ensures.1) (later (choice0 c.args.room (subst HasPlace c.in_ok-inside.ensures.0 c.in_ok-inside.ensures.3)) c.in_ok-rest.ensures _ (later_by (choice1 c.args.room) (roomed c.in_ok-inside.ensures.0 c.in_ok-a.ensures.reads) _ (later (comma1 c.args.room (tree_of c.in_ok-a.a.tree) (roomed c.in_ok-inside.ensures.0 c.in_ok-a.ensures.reads).fits) c.in_ok-rest-2.ensures _ (later_by (choice2 c.args.room (tree_of c.in_ok-a.a.tree)) (roomed (c.under.ensures ∙ same_two c.args.room _ (tree_of c.in_ok-a.a.tree) c.in_ok-a.ensures.measured.nodes) c.in_ok-b.ensures.reads) _ (later (comma2 c.args.room (tree_of c.in_ok-a.a.tree) (tree_of c.in_ok-b.b.tree) (roomed (c.under.ensures ∙ same_two c.args.room _ (tree_of c.in_ok-a.a.tree) c.in_ok-a.ensures.measured.nodes) c.in_ok-b.ensures.reads).fits) c.in_ok-rest-3.ensures _ (later_by (choice3 c.args.room (tree_of c.in_ok-a.a.tree) (tree_of c.in_ok-b.b.tree)) (roomed (c.under-2.ensures ∙ same_three c.args.room _ _ (tree_of c.in_ok-a.a.tree) (tree_of c.in_ok-b.b.tree) c.in_ok-a.ensures.measured.nodes c.in_ok-b.ensures.measured.nodes) c.in_ok-c.ensures.reads) _ (later (comma3 c.args.room (tree_of c.in_ok-a.a.tree) (tree_of c.in_ok-b.b.tree) (tree_of c.in_ok-c.c.tree) (roomed (c.under-2.ensures ∙ same_three c.args.room _ _ (tree_of c.in_ok-a.a.tree) (tree_of c.in_ok-b.b.tree) c.in_ok-a.ensures.measured.nodes c.in_ok-b.ensures.measured.nodes) c.in_ok-c.ensures.reads).fits) c.in_ok-rest-4.ensures _ (now (close_joint _) c.in_ok-rest-4.rest.now _ (roomed_err 0 _ _ _ _ (c.under-3.ensures ∙ same_four c.args.room _ _ _ (tree_of c.in_ok-a.a.tree) (tree_of c.in_ok-b.b.tree) (tree_of c.in_ok-c.c.tree) c.in_ok-a.ensures.measured.nodes c.in_ok-b.ensures.measured.nodes c.in_ok-c.ensures.measured.nodes) c.in_err-d.ensures.reads)))))))))))
+    (fronted_err _ _ _ _ c.requires.front (whole_err _ _ _ _ _ _ (step_select _ _ c.in_ok-inside.ensures.1) (later (choice0 c.args.room (subst HasPlace c.in_ok-inside.ensures.0 c.in_ok-inside.ensures.3)) c.in_ok-rest.ensures _ (later_by (choice1 c.args.room) (roomed c.in_ok-inside.ensures.0 c.in_ok-a.ensures.reads) _ (later (comma1 c.args.room (tree_of c.in_ok-a.a.tree.value) (roomed c.in_ok-inside.ensures.0 c.in_ok-a.ensures.reads).fits) c.in_ok-rest-2.ensures _ (later_by (choice2 c.args.room (tree_of c.in_ok-a.a.tree.value)) (roomed (c.under.ensures ∙ same_two c.args.room _ (tree_of c.in_ok-a.a.tree.value) c.in_ok-a.ensures.measured.nodes) c.in_ok-b.ensures.reads) _ (later (comma2 c.args.room (tree_of c.in_ok-a.a.tree.value) (tree_of c.in_ok-b.b.tree.value) (roomed (c.under.ensures ∙ same_two c.args.room _ (tree_of c.in_ok-a.a.tree.value) c.in_ok-a.ensures.measured.nodes) c.in_ok-b.ensures.reads).fits) c.in_ok-rest-3.ensures _ (later_by (choice3 c.args.room (tree_of c.in_ok-a.a.tree.value) (tree_of c.in_ok-b.b.tree.value)) (roomed (c.under-2.ensures ∙ same_three c.args.room _ _ (tree_of c.in_ok-a.a.tree.value) (tree_of c.in_ok-b.b.tree.value) c.in_ok-a.ensures.measured.nodes c.in_ok-b.ensures.measured.nodes) c.in_ok-c.ensures.reads) _ (later (comma3 c.args.room (tree_of c.in_ok-a.a.tree.value) (tree_of c.in_ok-b.b.tree.value) (tree_of c.in_ok-c.c.tree.value) (roomed (c.under-2.ensures ∙ same_three c.args.room _ _ (tree_of c.in_ok-a.a.tree.value) (tree_of c.in_ok-b.b.tree.value) c.in_ok-a.ensures.measured.nodes c.in_ok-b.ensures.measured.nodes) c.in_ok-c.ensures.reads).fits) c.in_ok-rest-4.ensures _ (now (close_joint _) c.in_ok-rest-4.rest.now _ (roomed_err 0 _ _ _ _ (c.under-3.ensures ∙ same_four c.args.room _ _ _ (tree_of c.in_ok-a.a.tree.value) (tree_of c.in_ok-b.b.tree.value) (tree_of c.in_ok-c.c.tree.value) c.in_ok-a.ensures.measured.nodes c.in_ok-b.ensures.measured.nodes c.in_ok-c.ensures.measured.nodes) c.in_err-d.ensures.reads)))))))))))
 
 pub read_select-returns-in_err-rest-5-clause-reads : goal.read_select-returns-in_err-rest-5-clause-reads
 read_select-returns-in_err-rest-5-clause-reads t c =
     exit _ _ _ _ _ _ c.from_residual-in_err-rest-5.ensures.1
-    (fronted_err _ _ _ _ c.requires.front (whole_err _ _ _ _ _ _ (step_select _ _ c.in_ok-inside.ensures.1) (later (choice0 c.args.room (subst HasPlace c.in_ok-inside.ensures.0 c.in_ok-inside.ensures.3)) c.in_ok-rest.ensures _ (later_by (choice1 c.args.room) (roomed c.in_ok-inside.ensures.0 c.in_ok-a.ensures.reads) _ (later (comma1 c.args.room (tree_of c.in_ok-a.a.tree) (roomed c.in_ok-inside.ensures.0 c.in_ok-a.ensures.reads).fits) c.in_ok-rest-2.ensures _ (later_by (choice2 c.args.room (tree_of c.in_ok-a.a.tree)) (roomed (c.under.ensures ∙ same_two c.args.room _ (tree_of c.in_ok-a.a.tree) c.in_ok-a.ensures.measured.nodes) c.in_ok-b.ensures.reads) _ (later (comma2 c.args.room (tree_of c.in_ok-a.a.tree) (tree_of c.in_ok-b.b.tree) (roomed (c.under.ensures ∙ same_two c.args.room _ (tree_of c.in_ok-a.a.tree) c.in_ok-a.ensures.measured.nodes) c.in_ok-b.ensures.reads).fits) c.in_ok-rest-3.ensures _ (later_by (choice3 c.args.room (tree_of c.in_ok-a.a.tree) (tree_of c.in_ok-b.b.tree)) (roomed (c.under-2.ensures ∙ same_three c.args.room _ _ (tree_of c.in_ok-a.a.tree) (tree_of c.in_ok-b.b.tree) c.in_ok-a.ensures.measured.nodes c.in_ok-b.ensures.measured.nodes) c.in_ok-c.ensures.reads) _ (later (comma3 c.args.room (tree_of c.in_ok-a.a.tree) (tree_of c.in_ok-b.b.tree) (tree_of c.in_ok-c.c.tree) (roomed (c.under-2.ensures ∙ same_three c.args.room _ _ (tree_of c.in_ok-a.a.tree) (tree_of c.in_ok-b.b.tree) c.in_ok-a.ensures.measured.nodes c.in_ok-b.ensures.measured.nodes) c.in_ok-c.ensures.reads).fits) c.in_ok-rest-4.ensures _ (later (close_joint _) (roomed (c.under-3.ensures ∙ same_four c.args.room _ _ _ (tree_of c.in_ok-a.a.tree) (tree_of c.in_ok-b.b.tree) (tree_of c.in_ok-c.c.tree) c.in_ok-a.ensures.measured.nodes c.in_ok-b.ensures.measured.nodes c.in_ok-c.ensures.measured.nodes) c.in_ok-d.ensures.reads) _ (c.in_err-rest-5.ensures)))))))))))
+    (fronted_err _ _ _ _ c.requires.front (whole_err _ _ _ _ _ _ (step_select _ _ c.in_ok-inside.ensures.1) (later (choice0 c.args.room (subst HasPlace c.in_ok-inside.ensures.0 c.in_ok-inside.ensures.3)) c.in_ok-rest.ensures _ (later_by (choice1 c.args.room) (roomed c.in_ok-inside.ensures.0 c.in_ok-a.ensures.reads) _ (later (comma1 c.args.room (tree_of c.in_ok-a.a.tree.value) (roomed c.in_ok-inside.ensures.0 c.in_ok-a.ensures.reads).fits) c.in_ok-rest-2.ensures _ (later_by (choice2 c.args.room (tree_of c.in_ok-a.a.tree.value)) (roomed (c.under.ensures ∙ same_two c.args.room _ (tree_of c.in_ok-a.a.tree.value) c.in_ok-a.ensures.measured.nodes) c.in_ok-b.ensures.reads) _ (later (comma2 c.args.room (tree_of c.in_ok-a.a.tree.value) (tree_of c.in_ok-b.b.tree.value) (roomed (c.under.ensures ∙ same_two c.args.room _ (tree_of c.in_ok-a.a.tree.value) c.in_ok-a.ensures.measured.nodes) c.in_ok-b.ensures.reads).fits) c.in_ok-rest-3.ensures _ (later_by (choice3 c.args.room (tree_of c.in_ok-a.a.tree.value) (tree_of c.in_ok-b.b.tree.value)) (roomed (c.under-2.ensures ∙ same_three c.args.room _ _ (tree_of c.in_ok-a.a.tree.value) (tree_of c.in_ok-b.b.tree.value) c.in_ok-a.ensures.measured.nodes c.in_ok-b.ensures.measured.nodes) c.in_ok-c.ensures.reads) _ (later (comma3 c.args.room (tree_of c.in_ok-a.a.tree.value) (tree_of c.in_ok-b.b.tree.value) (tree_of c.in_ok-c.c.tree.value) (roomed (c.under-2.ensures ∙ same_three c.args.room _ _ (tree_of c.in_ok-a.a.tree.value) (tree_of c.in_ok-b.b.tree.value) c.in_ok-a.ensures.measured.nodes c.in_ok-b.ensures.measured.nodes) c.in_ok-c.ensures.reads).fits) c.in_ok-rest-4.ensures _ (later (close_joint _) (roomed (c.under-3.ensures ∙ same_four c.args.room _ _ _ (tree_of c.in_ok-a.a.tree.value) (tree_of c.in_ok-b.b.tree.value) (tree_of c.in_ok-c.c.tree.value) c.in_ok-a.ensures.measured.nodes c.in_ok-b.ensures.measured.nodes c.in_ok-c.ensures.measured.nodes) c.in_ok-d.ensures.reads) _ (c.in_err-rest-5.ensures)))))))))))
 
 pub read_select-returns-clause-reads : goal.read_select-returns-clause-reads
 read_select-returns-clause-reads t c =
-    fronted c.requires.front (renamed c.in_ok-select.ensures.0 (step_taken _ _ _ _ _ _ _ (step_select _ _ c.in_ok-inside.ensures.1) (both (choice0 c.args.room (subst HasPlace c.in_ok-inside.ensures.0 c.in_ok-inside.ensures.3)) c.in_ok-rest.ensures (both_by (choice1 c.args.room) (roomed c.in_ok-inside.ensures.0 c.in_ok-a.ensures.reads) (both (comma1 c.args.room (tree_of c.in_ok-a.a.tree) (roomed c.in_ok-inside.ensures.0 c.in_ok-a.ensures.reads).fits) c.in_ok-rest-2.ensures (both_by (choice2 c.args.room (tree_of c.in_ok-a.a.tree)) (roomed (c.under.ensures ∙ same_two c.args.room _ (tree_of c.in_ok-a.a.tree) c.in_ok-a.ensures.measured.nodes) c.in_ok-b.ensures.reads) (both (comma2 c.args.room (tree_of c.in_ok-a.a.tree) (tree_of c.in_ok-b.b.tree) (roomed (c.under.ensures ∙ same_two c.args.room _ (tree_of c.in_ok-a.a.tree) c.in_ok-a.ensures.measured.nodes) c.in_ok-b.ensures.reads).fits) c.in_ok-rest-3.ensures (both_by (choice3 c.args.room (tree_of c.in_ok-a.a.tree) (tree_of c.in_ok-b.b.tree)) (roomed (c.under-2.ensures ∙ same_three c.args.room _ _ (tree_of c.in_ok-a.a.tree) (tree_of c.in_ok-b.b.tree) c.in_ok-a.ensures.measured.nodes c.in_ok-b.ensures.measured.nodes) c.in_ok-c.ensures.reads) (both (comma3 c.args.room (tree_of c.in_ok-a.a.tree) (tree_of c.in_ok-b.b.tree) (tree_of c.in_ok-c.c.tree) (roomed (c.under-2.ensures ∙ same_three c.args.room _ _ (tree_of c.in_ok-a.a.tree) (tree_of c.in_ok-b.b.tree) c.in_ok-a.ensures.measured.nodes c.in_ok-b.ensures.measured.nodes) c.in_ok-c.ensures.reads).fits) c.in_ok-rest-4.ensures (both (close_joint _) (roomed (c.under-3.ensures ∙ same_four c.args.room _ _ _ (tree_of c.in_ok-a.a.tree) (tree_of c.in_ok-b.b.tree) (tree_of c.in_ok-c.c.tree) c.in_ok-a.ensures.measured.nodes c.in_ok-b.ensures.measured.nodes c.in_ok-c.ensures.measured.nodes) c.in_ok-d.ensures.reads) c.in_ok-rest-5.ensures))))))))))
+    fronted c.requires.front (renamed c.in_ok-select.ensures.0 (step_taken _ _ _ _ _ _ _ (step_select _ _ c.in_ok-inside.ensures.1) (both (choice0 c.args.room (subst HasPlace c.in_ok-inside.ensures.0 c.in_ok-inside.ensures.3)) c.in_ok-rest.ensures (both_by (choice1 c.args.room) (roomed c.in_ok-inside.ensures.0 c.in_ok-a.ensures.reads) (both (comma1 c.args.room (tree_of c.in_ok-a.a.tree.value) (roomed c.in_ok-inside.ensures.0 c.in_ok-a.ensures.reads).fits) c.in_ok-rest-2.ensures (both_by (choice2 c.args.room (tree_of c.in_ok-a.a.tree.value)) (roomed (c.under.ensures ∙ same_two c.args.room _ (tree_of c.in_ok-a.a.tree.value) c.in_ok-a.ensures.measured.nodes) c.in_ok-b.ensures.reads) (both (comma2 c.args.room (tree_of c.in_ok-a.a.tree.value) (tree_of c.in_ok-b.b.tree.value) (roomed (c.under.ensures ∙ same_two c.args.room _ (tree_of c.in_ok-a.a.tree.value) c.in_ok-a.ensures.measured.nodes) c.in_ok-b.ensures.reads).fits) c.in_ok-rest-3.ensures (both_by (choice3 c.args.room (tree_of c.in_ok-a.a.tree.value) (tree_of c.in_ok-b.b.tree.value)) (roomed (c.under-2.ensures ∙ same_three c.args.room _ _ (tree_of c.in_ok-a.a.tree.value) (tree_of c.in_ok-b.b.tree.value) c.in_ok-a.ensures.measured.nodes c.in_ok-b.ensures.measured.nodes) c.in_ok-c.ensures.reads) (both (comma3 c.args.room (tree_of c.in_ok-a.a.tree.value) (tree_of c.in_ok-b.b.tree.value) (tree_of c.in_ok-c.c.tree.value) (roomed (c.under-2.ensures ∙ same_three c.args.room _ _ (tree_of c.in_ok-a.a.tree.value) (tree_of c.in_ok-b.b.tree.value) c.in_ok-a.ensures.measured.nodes c.in_ok-b.ensures.measured.nodes) c.in_ok-c.ensures.reads).fits) c.in_ok-rest-4.ensures (both (close_joint _) (roomed (c.under-3.ensures ∙ same_four c.args.room _ _ _ (tree_of c.in_ok-a.a.tree.value) (tree_of c.in_ok-b.b.tree.value) (tree_of c.in_ok-c.c.tree.value) c.in_ok-a.ensures.measured.nodes c.in_ok-b.ensures.measured.nodes c.in_ok-c.ensures.measured.nodes) c.in_ok-d.ensures.reads) c.in_ok-rest-5.ensures))))))))))
 
 pub read_select-overflow_add-a : goal.read_select-overflow_add-a
 read_select-overflow_add-a t c =
@@ -353,11 +363,11 @@ read_signed-returns-in_default t c =
 
 pub read_word-returns-in-True-clause-reads : goal.read_word-returns-in-True-clause-reads
 read_word-returns-in-True-clause-reads t c =
-    true_ok _ _ _ _ _ c.requires.place c.requires.front c.in-True.is (c.leaf.ensures.same ∙ made_truth _)
+    c.leaf.ensures.reads _ _ (true_ok _ _ _ _ _ c.requires.place c.requires.front c.in-True.is (made_truth _))
 
 pub read_word-returns-in-False-clause-reads : goal.read_word-returns-in-False-clause-reads
 read_word-returns-in-False-clause-reads t c =
-    false_ok _ _ _ _ _ c.requires.place c.requires.front c.in-False.is (c.leaf-in-False.ensures.same ∙ made_truth _)
+    c.leaf-in-False.ensures.reads _ _ (false_ok _ _ _ _ _ c.requires.place c.requires.front c.in-False.is (made_truth _))
 
 pub read_word-returns-in_default : goal.read_word-returns-in_default
 read_word-returns-in_default t c =

@@ -54,7 +54,7 @@ abbrev pub invariant-read_chain-loop-operator : goal.invariant-read_chain-loop-o
 invariant-read_chain-loop-operator l = record {
   shorter : length l.rest ≤ length l.fn.tail;
   measured : IsMeasured l.left;
-  begun : (tokens : List Token) → Begun l.level l.room tokens (tree_of l.fn.leftmost.tree) l.fn.tail → Begun l.level l.room tokens (tree_of l.left.tree) l.rest;
+  begun : (tokens : List Token) → Begun l.level l.room tokens (tree_of l.fn.leftmost.tree.value) l.fn.tail → Begun l.level l.room tokens (tree_of l.left.tree.value) l.rest;
 }
 
 abbrev pub decreases-read_chain-loop-operator : goal.decreases-read_chain-loop-operator
