@@ -7,7 +7,7 @@ use Rattle.text_phrases.specs.declared.Refusal.{Refusal}
 use Rattle.text_phrases.specs.declared.Refusal.TheVariants.{Memory, Syntax, TooDeep, TooLong, TooLarge}
 use Rattle.text_phrases.proofs.Exits.{refuses_along}
 use Rattle.text_expressions.specs.Values.{IsShortName}
-use Rattle.text_expressions.specs.Expression.{Tree, number, truth, variable, access, binary, operand, level_of, left_level, sign, Stands, NoSign, HasPlace, under, depth, deepest, nodes, trees, indices, control_room, FewDimensions, EndsList}
+use Rattle.text_expressions.specs.Expression.{Tree, number, truth, variable, access, binary, operand, ended_by, level_of, left_level, sign, Stands, NoSign, HasPlace, under, depth, deepest, nodes, trees, indices, control_room, FewDimensions, EndsList}
 use Rattle.text_expressions.specs.Rooms.{IsFull, Right}
 use Rattle.text_expressions.specs.Views.{tree_of, IsMeasured}
 use Rattle.text_expressions.specs.Chain.{Begun}
@@ -51,6 +51,12 @@ fronted {kind = kind} {rest = rest} {t = t} same taken = subst (λ w. Taken kind
 
 pub fronted_err : {A T : Type 0} (kind : Phrase A T) (tokens front : List A) (e : Refusal) → tokens ≡ front → Refuses kind front e → Refuses kind tokens e
 fronted_err kind tokens front e same refuses = subst (λ w. Refuses kind w e) (sym same) refuses
+
+pub ended : {x : AnySign} {room inner : Room} {tokens rest : List Token} {t : Tree × (Unit {0})} → inner ≡ room → Taken (ended_by x inner) tokens t rest → Taken (ended_by x room) tokens t rest
+ended {x = x} {tokens = tokens} {rest = rest} {t = t} same taken = subst (λ (r : Room). Taken (ended_by x r) tokens t rest) same taken
+
+pub ended_err : (x : AnySign) (room inner : Room) (tokens : List Token) (e : Refusal) → inner ≡ room → Refuses (ended_by x inner) tokens e → Refuses (ended_by x room) tokens e
+ended_err x room inner tokens e same refuses = subst (λ (r : Room). Refuses (ended_by x r) tokens e) same refuses
 
 -- leaves
 
@@ -200,6 +206,12 @@ left_of {t = t} room n same taken = omega (arith, long_of (roomed same taken), n
 
 pub deep_left : {level : ℕ} {inner : Room} {tokens rest : List Token} {t : Tree} (room : Room) (n : ℕ) → inner ≡ under n room → Taken (operand level inner) tokens t rest → depth t + 1 ≤ room.depth
 deep_left {t = t} room n same taken = omega (arith, deep_of (roomed same taken), depth_some t)
+
+pub ended_left : {x : AnySign} {inner : Room} {tokens rest : List Token} {t : Tree × (Unit {0})} (room : Room) (n : ℕ) → inner ≡ under n room → Taken (ended_by x inner) tokens t rest → nodes t.0 + n ≤ room.nodes
+ended_left {t = t} room n same taken = omega (arith, ((ended same taken).fits in_size).0.1.1.0, nodes_some t.0)
+
+pub ended_deep : {x : AnySign} {inner : Room} {tokens rest : List Token} {t : Tree × (Unit {0})} (room : Room) (n : ℕ) → inner ≡ under n room → Taken (ended_by x inner) tokens t rest → depth t.0 + 1 ≤ room.depth
+ended_deep {t = t} room n same taken = omega (arith, ((ended same taken).fits in_size).0.1.0, depth_some t.0)
 
 pub place_under : (room inner : Room) (n : ℕ) → inner ≡ under n room → 1 < room.depth → n < room.nodes → HasPlace inner
 place_under room inner n same deep long = subst HasPlace (sym same) (record { depth = omega arith; nodes = omega arith })

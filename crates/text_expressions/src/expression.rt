@@ -4,7 +4,7 @@ ghost use Rattle.std.specs.Prelude.{◌≡◌, ◌≢◌, ◌≤◌, ◌<◌, �
 ghost use Rattle.text_phrases.specs.Phrase.{first, Taken, Refused};
 ghost use Rattle.text_phrases.specs.Answers.{Reads};
 ghost use Rattle.text_expressions.specs.Values.{IsShortName};
-ghost use Rattle.text_expressions.specs.Expression.{Tree, operand, relu, select, negative, parens, access, binary, trees, HasPlace, level_of, joins, joins_by_sign, joins_by_word, sign, NoSign, under, control, datum, indices, most_depth};
+ghost use Rattle.text_expressions.specs.Expression.{Tree, operand, relu, select, negative, parens, access, binary, trees, HasPlace, ended_by, FollowsOperand, level_of, joins, joins_by_sign, joins_by_word, sign, NoSign, under, control, datum, indices, most_depth};
 ghost use Rattle.text_expressions.specs.Views.{tree_of, IsMeasured, AreMeasured, IsLeaf};
 ghost use Rattle.text_expressions.specs.Chain.{Begun};
 ghost use Rattle.text_expressions.specs.Rooms.{IsFull, Right};
@@ -290,6 +290,24 @@ pub fn read_operand(
     read_from(alloc, atom, rest, level, room)
 }
 
+/// A whole expression within the room, and the sign that ends it.
+#[cycle(expressions)]
+fn read_ended(
+    alloc: Global,
+    tokens: &[Token],
+    sign: Sign,
+    room: Room,
+) -> Result<(Measured, &[Token]), Refusal>
+    requires ends { FollowsOperand 0 (Some (Token.Sign sign)) }
+    requires place { HasPlace room }
+    ensures measured { IfOk result (λ x. IsMeasured x.0) }
+    ensures reads { Reads (ended_by sign room) tokens.now (λ x. (tree_of x.0.tree.value, tt)) (λ x. x.1.now) result }
+{
+    let (inner, after) = read_operand(alloc, tokens, 0, room)?;
+    let rest = expect_all(after, &[Fixed::Sign(sign)])?;
+    Ok((inner, rest))
+}
+
 /// An operand of a level whose first part has been read.
 #[cycle(expressions)]
 pub fn read_from(
@@ -460,8 +478,7 @@ fn read_relu<'a>(
 {
     let inside = room.below(1, 1, tokens.len())?;
     let rest = expect_all(rest, &[Fixed::Sign(Sign::Open)])?;
-    let (inner, rest) = read_operand(alloc, rest, 0, inside)?;
-    let rest = expect_all(rest, &[Fixed::Sign(Sign::Close)])?;
+    let (inner, rest) = read_ended(alloc, rest, Sign::Close, inside)?;
     let relu = rectified(alloc, inner)?;
     Ok((relu, rest))
 }
@@ -479,17 +496,15 @@ fn read_select<'a>(
     ensures measured { IfOk result (λ x. IsMeasured x.0) }
     ensures reads { Reads (operand 5 room) tokens.now (λ x. tree_of x.0.tree.value) (λ x. x.1.now) result }
 {
-    let comma = [Fixed::Sign(Sign::Comma)];
     let inside = room.below(1, 4, tokens.len())?;
     let rest = expect_all(rest, &[Fixed::Sign(Sign::Open)])?;
-    let (a, rest) = read_operand(alloc, rest, 0, inside)?;
-    let rest = expect_all(rest, &comma)?;
-    let (b, rest) = read_operand(alloc, rest, 0, room.under(a.nodes + 3))?;
-    let rest = expect_all(rest, &comma)?;
-    let (c, rest) = read_operand(alloc, rest, 0, room.under(a.nodes + b.nodes + 2))?;
-    let rest = expect_all(rest, &comma)?;
-    let (d, rest) = read_operand(alloc, rest, 0, room.under(a.nodes + b.nodes + c.nodes + 1))?;
-    let rest = expect_all(rest, &[Fixed::Sign(Sign::Close)])?;
+    let (a, rest) = read_ended(alloc, rest, Sign::Comma, inside)?;
+    let behind_a = room.under(a.nodes + 3);
+    let (b, rest) = read_ended(alloc, rest, Sign::Comma, behind_a)?;
+    let behind_b = room.under(a.nodes + b.nodes + 2);
+    let (c, rest) = read_ended(alloc, rest, Sign::Comma, behind_b)?;
+    let behind_c = room.under(a.nodes + b.nodes + c.nodes + 1);
+    let (d, rest) = read_ended(alloc, rest, Sign::Close, behind_c)?;
     let select = selected(alloc, a, b, c, d)?;
     Ok((select, rest))
 }
@@ -548,8 +563,7 @@ fn read_parens<'a>(
     ensures reads { Reads (operand 5 room) tokens.now (λ x. tree_of x.0.tree.value) (λ x. x.1.now) result }
 {
     let inside = room.below(1, 0, tokens.len())?;
-    let (inner, rest) = read_operand(alloc, rest, 0, inside)?;
-    let rest = expect_all(rest, &[Fixed::Sign(Sign::Close)])?;
+    let (inner, rest) = read_ended(alloc, rest, Sign::Close, inside)?;
     let parens = enclosed(alloc, inner)?;
     Ok((parens, rest))
 }

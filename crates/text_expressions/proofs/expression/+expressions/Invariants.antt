@@ -38,6 +38,9 @@ decreases-read_comparison l = 16 * length l.rest.now + 1
 abbrev pub decreases-read_operand : goal.decreases-read_operand
 decreases-read_operand l = 16 * length l.tokens.now + 10
 
+abbrev pub decreases-read_ended : goal.decreases-read_ended
+decreases-read_ended l = 16 * length l.tokens.now + 11
+
 abbrev pub decreases-read_unary : goal.decreases-read_unary
 decreases-read_unary l = 16 * length l.tokens.now + 4
 
