@@ -1,4 +1,4 @@
-// Arguments: expressions and windows.
+//! Arguments: expressions and windows.
 
 ghost use Rattle.std.specs.Prelude.{◌≡◌, ◌≤◌, ◌<◌, ◌+◌, ◌∷◌, List, Some, ◌||◌, map, IfOk, MatchOption};
 ghost use Rattle.text_phrases.specs.Phrase.{first, Taken, Refused};

@@ -1,4 +1,4 @@
-// What stands at the top level of a text.
+//! What stands at the top level of a text.
 
 ghost use Rattle.std.specs.Prelude.{◌≡◌, ◌∷◌, ◌++◌, List, [], map};
 ghost use Rattle.text_phrases.specs.Phrase.{Taken, Refused};

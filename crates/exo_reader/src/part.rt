@@ -1,4 +1,4 @@
-// Parts of parameters and statements.
+//! Parts of parameters and statements.
 
 ghost use Rattle.std.specs.Prelude.{◌≡◌, List, map, MatchOption};
 ghost use Rattle.text_phrases.specs.Phrase.{Taken, Refused};

@@ -1,4 +1,4 @@
-// Statements and blocks.
+//! Statements and blocks.
 
 ghost use Rattle.std.specs.Prelude.{◌≡◌, ◌≤◌, ◌<◌, ◌∷◌, ◌++◌, ℕ, List, Some, suc, map, length};
 ghost use Rattle.text_phrases.specs.Phrase.{first, Taken, Refused};
@@ -70,11 +70,17 @@ fn read_config(
 {
     let (field, behind_field) = read_name_and(after, &[Fixed::Sign(Sign::Assign)])?;
     let (value, rest) = read_control_and(alloc, behind_field, &[Fixed::NewLine])?;
-    Ok((SourceStmt::Config(name, field, Box::into_inner(value)), rest))
+    Ok((
+        SourceStmt::Config(name, field, Box::into_inner(value)),
+        rest,
+    ))
 }
 
 /// `=` or `+=`, what is stored, and the end of the line. The first part says whether it is `+=`.
-fn read_store(alloc: Global, tokens: &[Token]) -> Result<((bool, Box<SourceExpr>), &[Token]), Refusal>
+fn read_store(
+    alloc: Global,
+    tokens: &[Token],
+) -> Result<((bool, Box<SourceExpr>), &[Token]), Refusal>
     ensures { Reads store tokens.now (λ x. (x.0.0, tree_of x.0.1.value)) (λ x. x.1.now) result }
 {
     if let Some(after) = behind(tokens, Fixed::Sign(Sign::Reduce)) {
@@ -87,12 +93,7 @@ fn read_store(alloc: Global, tokens: &[Token]) -> Result<((bool, Box<SourceExpr>
 }
 
 /// A store in a cell, or a reduction into one.
-fn stored(
-    name: Text,
-    list: Vec<SourceExpr>,
-    reduces: bool,
-    value: Box<SourceExpr>,
-) -> SourceStmt
+fn stored(name: Text, list: Vec<SourceExpr>, reduces: bool, value: Box<SourceExpr>) -> SourceStmt
     ensures { plain_statement result ≡ stored_by name (map tree_of list.items) reduces (tree_of value.value) }
 {
     let value = Box::into_inner(value);
@@ -222,7 +223,10 @@ fn read_if<'a>(
     let (condition, behind_condition) = read_control(alloc, after)?;
     let (inside, behind_block) = read_block(alloc, behind_condition, nesting + 1)?;
     let (other, rest) = read_else(alloc, behind_block, nesting + 1)?;
-    Ok((SourceStmt::If(Box::into_inner(condition), inside, other), rest))
+    Ok((
+        SourceStmt::If(Box::into_inner(condition), inside, other),
+        rest,
+    ))
 }
 
 /// The block of an `else`, or an empty one.

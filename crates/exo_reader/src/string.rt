@@ -1,4 +1,4 @@
-// Expressions and windows in texts of one line.
+//! Expressions and windows in texts of one line.
 
 ghost use Rattle.std.specs.Prelude.{◌≤◌, length, map, MatchResult};
 ghost use Rattle.text_phrases.specs.Text.{IsText, Faults};

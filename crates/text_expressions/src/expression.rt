@@ -1,4 +1,4 @@
-// Reading expressions from the front of a list of tokens.
+//! Reading expressions from the front of a list of tokens.
 
 ghost use Rattle.std.specs.Prelude.{◌≡◌, ◌≢◌, ◌≤◌, ◌<◌, ◌+◌, ◌-◌, ◌⊎◌, Some, [], ◌∷◌, ℕ, List, length, map, IfOk, MatchResult, MatchOption};
 ghost use Rattle.text_phrases.specs.Phrase.{first, Taken, Refused};
@@ -18,7 +18,7 @@ use text_lexer::token::{Literal, Sign, Token, Word, next};
 use text_phrases::Refusal;
 
 /// How deep an expression may be, and how many nodes it may have.
-#[derive(Clone, Copy, Debug)]
+#[derive(Clone, Copy)]
 pub struct Room {
     pub depth: u32,
     pub nodes: u32,

@@ -21,7 +21,7 @@ pub read_if-returns-in_err-other : goal.read_if-returns-in_err-other
 read_if-returns-in_err-other t c = exit _ _ _ _ _ _ c.from_residual-in_err-other.ensures.1 (whole_err _ _ _ _ _ _ (step_if _ _ _ (omega arith) c.requires.front) (later (if1 _) c.in_ok-condition.ensures _ (later (if2 _) c.in_ok-inside.ensures _ c.in_err-other.ensures)))
 
 pub read_if-returns : goal.read_if-returns
-read_if-returns t c = rw (made_branch _ _ _) (step_taken _ _ _ _ _ _ _ (step_if _ _ _ (omega arith) c.requires.front) (both (if1 _) c.in_ok-condition.ensures (both (if2 _) c.in_ok-inside.ensures c.in_ok-other.ensures)))
+read_if-returns t c = rw (made_branch _ _ _, c.into_inner.ensures) (step_taken _ _ _ _ _ _ _ (step_if _ _ _ (omega arith) c.requires.front) (both (if1 _) c.in_ok-condition.ensures (both (if2 _) c.in_ok-inside.ensures c.in_ok-other.ensures)))
 
 pub read_else-returns-in_default : goal.read_else-returns-in_default
 read_else-returns-in_default t c = rw c.new.ensures.items (nothing_taken (optional_else _) _ c.in_default.ensures)
@@ -54,7 +54,7 @@ pub read_for-returns-in_err-inside : goal.read_for-returns-in_err-inside
 read_for-returns-in_err-inside t c = exit _ _ _ _ _ _ c.from_residual-in_err-inside.ensures.1 (whole_err _ _ _ _ _ _ (step_for _ _ _ (omega arith) c.requires.front) (later (for1 _) c.in_ok-name.ensures _ (later (for2 _) c.in_ok-low.ensures _ (later (for3 _) c.in_ok-before_high.ensures _ (later (for4 _) c.in_ok-high.ensures _ (later (for5 _) c.in_ok-before_block.ensures _ c.in_err-inside.ensures))))))
 
 pub read_for-returns : goal.read_for-returns
-read_for-returns t c = rw (made_loop _ _ _ _) (step_taken _ _ _ _ _ _ _ (step_for _ _ _ (omega arith) c.requires.front) (both (for1 _) c.in_ok-name.ensures (both (for2 _) c.in_ok-low.ensures (both (for3 _) c.in_ok-before_high.ensures (both (for4 _) c.in_ok-high.ensures (both (for5 _) c.in_ok-before_block.ensures c.in_ok-inside.ensures))))))
+read_for-returns t c = rw (made_loop _ _ _ _, c.into_inner.ensures, c.into_inner-2.ensures) (step_taken _ _ _ _ _ _ _ (step_for _ _ _ (omega arith) c.requires.front) (both (for1 _) c.in_ok-name.ensures (both (for2 _) c.in_ok-low.ensures (both (for3 _) c.in_ok-before_high.ensures (both (for4 _) c.in_ok-high.ensures (both (for5 _) c.in_ok-before_block.ensures c.in_ok-inside.ensures))))))
 
 pub read_block-returns-in_err-after : goal.read_block-returns-in_err-after
 read_block-returns-in_err-after t c = exit _ _ _ _ _ _ c.from_residual.ensures.1 (whole_err _ _ _ _ _ _ (step_block _ _) (now (block1 _) _ _ c.in_err-after.ensures))
