@@ -269,10 +269,8 @@ fn read_for<'a>(
             Fixed::Sign(Sign::Open),
         ],
     )?;
-    let (low, behind_low) = read_control(alloc, behind_name)?;
-    let before_high = expect_all(behind_low, &[Fixed::Sign(Sign::Comma)])?;
-    let (high, behind_high) = read_control(alloc, before_high)?;
-    let before_block = expect_all(behind_high, &[Fixed::Sign(Sign::Close)])?;
+    let (low, before_high) = read_control_and(alloc, behind_name, &[Fixed::Sign(Sign::Comma)])?;
+    let (high, before_block) = read_control_and(alloc, before_high, &[Fixed::Sign(Sign::Close)])?;
     let (inside, rest) = read_block(alloc, before_block, nesting + 1)?;
     let made = SourceStmt::For(name, Box::into_inner(low), Box::into_inner(high), inside);
     Ok((made, rest))

@@ -14,4 +14,4 @@ pub returns-in_err-high-clause-reads : goal.returns-in_err-high-clause-reads
 returns-in_err-high-clause-reads c = exit _ _ _ _ _ _ c.from_residual-in_err-high.ensures.1 (whole_err _ _ _ _ _ _ (step_span _ _ _ _ c.in_ok-low.ensures.reads c.in-Some.ensures) c.in_err-high.ensures)
 
 pub returns-clause-reads : goal.returns-clause-reads
-returns-clause-reads c = rw (c.into_inner-in-Some.ensures, c.into_inner-in-Some-2.ensures) (step_taken _ _ _ _ _ _ _ (step_span _ _ _ _ c.in_ok-low.ensures.reads c.in-Some.ensures) c.in_ok-high.ensures)
+returns-clause-reads c = rw (c.into_inner-2.ensures, c.into_inner-3.ensures) (step_taken _ _ _ _ _ _ _ (step_span _ _ _ _ c.in_ok-low.ensures.reads c.in-Some.ensures) c.in_ok-high.ensures)
