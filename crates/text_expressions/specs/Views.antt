@@ -1,5 +1,5 @@
 -- Source trees without where they lie in memory.
-use Rattle.std.specs.Prelude.{◌≡◌, List, [], ◌∷◌, map, Bool}
+use Rattle.std.specs.Prelude.{◌≡◌, map}
 use Rattle.text_expressions.specs.Expression.{Tree, number, truth, variable, access, field, stride, relu, select, negative, parens, binary, trees, depth, deepest, nodes}
 use Rattle.text_lexer.specs.declared.token.Literal.TheVariants.{Value}
 use Rattle.text_expressions.specs.declared.source.SourceExpr.{SourceExpr}
