@@ -66,4 +66,6 @@ module _ (r : Renaming) where
 
 -- a run under other ids is the run, under other ids
 abbrev pub RunsRename : Type 0
-RunsRename = (r : Renaming) (world : World) (b : Block) (s : State) → run world (re_block r b) (re_state r s) ≡ option_map (re_state r) (run world b s)
+RunsRename =
+    (r : Renaming) (world : World) (b : Block) (s : State)
+    → run world (re_block r b) (re_state r s) ≡ option_map (re_state r) (run world b s)

@@ -6,7 +6,8 @@ use Rattle.exo_tree.specs.Tree.{Datum, Const, Read, Negated, Relu, Plus, Minus, 
 use Rattle.exo_tree.specs.Tree.{Coord, At, Span, Argument, ControlArg, ConditionArg, Whole, Window}
 use Rattle.exo_tree.specs.Tree.{Statement, Assign, Reduce, Config, Pass, If, For, Alloc, View, Call, Block, end, next}
 
--- what stands for a control variable, for any other use of an id (a truth value, a buffer, a view), and for a binder
+-- what stands for a control variable, for any other use of an id (a truth value, a buffer or a
+-- view), and for a binder
 pub record Leaves : Type 0 where
   pub variable : ℕ → Control
   pub name : ℕ → ℕ

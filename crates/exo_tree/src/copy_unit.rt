@@ -56,7 +56,8 @@ fn copied_template(alloc: Global, template: &Option<Text>) -> Result<Option<Text
 impl Proc {
     /// A copy with another body.
     pub(crate) fn with_body(&self, alloc: Global, body: Block) -> Result<Proc, AllocError>
-        ensures { IfOk result (λ q. procedure q ≡ record (procedure self.now) { body = block body }) }
+        ensures { IfOk result (λ q. procedure q
+            ≡ record (procedure self.now) { body = block body }) }
     {
         Ok(Proc {
             name: self.name.duplicate(alloc)?,

@@ -72,8 +72,8 @@ impl Stmt {
     }
 }
 
-/// The block with its binders, and the uses of them, numbered from `next` on in preorder. `next` moves by the number of
-/// the binders; after want of memory it is unchanged.
+/// The block with its binders, and the uses of them, numbered from `next` on in preorder. `next` moves
+/// by the number of the binders; after want of memory it is unchanged.
 pub fn fresh_copy(alloc: Global, b: &Block, next: &mut u32) -> Result<Block, AllocError>
     requires { next.old + length (binders (block b.now)) ≤ 4294967295 }
     ensures copy { IfOk result (λ c. block c ≡ fresh next.old (block b.now)) }

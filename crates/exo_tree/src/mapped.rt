@@ -3,7 +3,8 @@ ghost use Rattle.std.specs.Prelude.{◌≡◌, map, IfOk};
 ghost use Rattle.exo_tree.specs.PlainControl.{control, condition, coordinate};
 ghost use Rattle.exo_tree.specs.PlainDatum.{datum};
 ghost use Rattle.exo_tree.specs.PlainArgument.{argument};
-ghost use Rattle.exo_tree.specs.Mapped.{mapped_control, mapped_condition, mapped_datum, mapped_coord, mapped_argument};
+ghost use Rattle.exo_tree.specs.Mapped.{mapped_control, mapped_condition, mapped_datum};
+ghost use Rattle.exo_tree.specs.Mapped.{mapped_coord, mapped_argument};
 
 use crate::argument::{Arg, Args};
 use crate::control::{Cond, Coord, Ctrl};
@@ -16,7 +17,8 @@ impl Ctrl {
     /// A copy with what stands for its names.
     #[cycle(mapped)]
     pub fn mapped<L: Leaves>(&self, alloc: Global, leaves: &L) -> Result<Ctrl, AllocError>
-        ensures { IfOk result (λ e. control e ≡ mapped_control (L.leaves leaves.now) (control self.now)) }
+        ensures { IfOk result (λ e. control e
+            ≡ mapped_control (L.leaves leaves.now) (control self.now)) }
     {
         match self {
             Ctrl::Lit(n) => Ok(Ctrl::Lit(*n)),
@@ -44,7 +46,8 @@ impl Ctrl {
     /// The same in a box.
     #[cycle(mapped)]
     fn boxed<L: Leaves>(&self, alloc: Global, leaves: &L) -> Result<Box<Ctrl>, AllocError>
-        ensures { IfOk result (λ e. control e.value ≡ mapped_control (L.leaves leaves.now) (control self.now)) }
+        ensures { IfOk result (λ e. control e.value
+            ≡ mapped_control (L.leaves leaves.now) (control self.now)) }
     {
         Ok(Box::new(alloc, self.mapped(alloc, leaves)?)?)
     }
@@ -57,8 +60,10 @@ impl Ctrl {
         leaves: &L,
         other: &Ctrl,
     ) -> Result<(Box<Ctrl>, Box<Ctrl>), AllocError>
-        ensures first { IfOk result (λ p. control p.0.value ≡ mapped_control (L.leaves leaves.now) (control self.now)) }
-        ensures second { IfOk result (λ p. control p.1.value ≡ mapped_control (L.leaves leaves.now) (control other.now)) }
+        ensures first { IfOk result (λ p. control p.0.value
+            ≡ mapped_control (L.leaves leaves.now) (control self.now)) }
+        ensures second { IfOk result (λ p. control p.1.value
+            ≡ mapped_control (L.leaves leaves.now) (control other.now)) }
     {
         let first = self.boxed(alloc, leaves)?;
         Ok((first, other.boxed(alloc, leaves)?))
@@ -71,8 +76,10 @@ impl Ctrl {
         leaves: &L,
         other: &Ctrl,
     ) -> Result<(Ctrl, Ctrl), AllocError>
-        ensures first { IfOk result (λ p. control p.0 ≡ mapped_control (L.leaves leaves.now) (control self.now)) }
-        ensures second { IfOk result (λ p. control p.1 ≡ mapped_control (L.leaves leaves.now) (control other.now)) }
+        ensures first { IfOk result (λ p. control p.0
+            ≡ mapped_control (L.leaves leaves.now) (control self.now)) }
+        ensures second { IfOk result (λ p. control p.1
+            ≡ mapped_control (L.leaves leaves.now) (control other.now)) }
     {
         let first = self.mapped(alloc, leaves)?;
         Ok((first, other.mapped(alloc, leaves)?))
@@ -83,7 +90,8 @@ impl Cond {
     /// A copy with what stands for its names.
     #[cycle(mapped)]
     pub fn mapped<L: Leaves>(&self, alloc: Global, leaves: &L) -> Result<Cond, AllocError>
-        ensures { IfOk result (λ c. condition c ≡ mapped_condition (L.leaves leaves.now) (condition self.now)) }
+        ensures { IfOk result (λ c. condition c
+            ≡ mapped_condition (L.leaves leaves.now) (condition self.now)) }
     {
         match self {
             Cond::True => Ok(Cond::True),
@@ -124,7 +132,8 @@ impl Cond {
     /// The same in a box.
     #[cycle(mapped)]
     fn boxed<L: Leaves>(&self, alloc: Global, leaves: &L) -> Result<Box<Cond>, AllocError>
-        ensures { IfOk result (λ c. condition c.value ≡ mapped_condition (L.leaves leaves.now) (condition self.now)) }
+        ensures { IfOk result (λ c. condition c.value
+            ≡ mapped_condition (L.leaves leaves.now) (condition self.now)) }
     {
         Ok(Box::new(alloc, self.mapped(alloc, leaves)?)?)
     }
@@ -137,8 +146,10 @@ impl Cond {
         leaves: &L,
         other: &Cond,
     ) -> Result<(Box<Cond>, Box<Cond>), AllocError>
-        ensures first { IfOk result (λ p. condition p.0.value ≡ mapped_condition (L.leaves leaves.now) (condition self.now)) }
-        ensures second { IfOk result (λ p. condition p.1.value ≡ mapped_condition (L.leaves leaves.now) (condition other.now)) }
+        ensures first { IfOk result (λ p. condition p.0.value
+            ≡ mapped_condition (L.leaves leaves.now) (condition self.now)) }
+        ensures second { IfOk result (λ p. condition p.1.value
+            ≡ mapped_condition (L.leaves leaves.now) (condition other.now)) }
     {
         let first = self.boxed(alloc, leaves)?;
         Ok((first, other.boxed(alloc, leaves)?))
@@ -148,7 +159,8 @@ impl Cond {
 impl Coord {
     /// A copy with what stands for its names.
     pub fn mapped<L: Leaves>(&self, alloc: Global, leaves: &L) -> Result<Coord, AllocError>
-        ensures { IfOk result (λ c. coordinate c ≡ mapped_coord (L.leaves leaves.now) (coordinate self.now)) }
+        ensures { IfOk result (λ c. coordinate c
+            ≡ mapped_coord (L.leaves leaves.now) (coordinate self.now)) }
     {
         match self {
             Coord::At(a) => Ok(Coord::At(a.mapped(alloc, leaves)?)),
@@ -194,7 +206,8 @@ impl DataExpr {
     /// The same in a box.
     #[cycle(mapped)]
     fn boxed<L: Leaves>(&self, alloc: Global, leaves: &L) -> Result<Box<DataExpr>, AllocError>
-        ensures { IfOk result (λ e. datum e.value ≡ mapped_datum (L.leaves leaves.now) (datum self.now)) }
+        ensures { IfOk result (λ e. datum e.value
+            ≡ mapped_datum (L.leaves leaves.now) (datum self.now)) }
     {
         Ok(Box::new(alloc, self.mapped(alloc, leaves)?)?)
     }
@@ -207,8 +220,10 @@ impl DataExpr {
         leaves: &L,
         other: &DataExpr,
     ) -> Result<(Box<DataExpr>, Box<DataExpr>), AllocError>
-        ensures first { IfOk result (λ p. datum p.0.value ≡ mapped_datum (L.leaves leaves.now) (datum self.now)) }
-        ensures second { IfOk result (λ p. datum p.1.value ≡ mapped_datum (L.leaves leaves.now) (datum other.now)) }
+        ensures first { IfOk result (λ p. datum p.0.value
+            ≡ mapped_datum (L.leaves leaves.now) (datum self.now)) }
+        ensures second { IfOk result (λ p. datum p.1.value
+            ≡ mapped_datum (L.leaves leaves.now) (datum other.now)) }
     {
         let first = self.boxed(alloc, leaves)?;
         Ok((first, other.boxed(alloc, leaves)?))
@@ -218,7 +233,8 @@ impl DataExpr {
 impl Arg {
     /// A copy with what stands for its names.
     pub fn mapped<L: Leaves>(&self, alloc: Global, leaves: &L) -> Result<Arg, AllocError>
-        ensures { IfOk result (λ a. argument a ≡ mapped_argument (L.leaves leaves.now) (argument self.now)) }
+        ensures { IfOk result (λ a. argument a
+            ≡ mapped_argument (L.leaves leaves.now) (argument self.now)) }
     {
         match self {
             Arg::Ctrl(a) => Ok(Arg::Ctrl(a.mapped(alloc, leaves)?)),

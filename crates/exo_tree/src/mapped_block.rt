@@ -6,7 +6,8 @@ ghost use Rattle.exo_tree.specs.PlainBinder.{cell_type, binding};
 ghost use Rattle.exo_tree.specs.PlainControl.{control, condition};
 ghost use Rattle.exo_tree.specs.PlainDatum.{datum};
 ghost use Rattle.exo_tree.specs.PlainStatement.{statement};
-ghost use Rattle.exo_tree.specs.Mapped.{mapped_control, mapped_condition, mapped_datum, mapped_coord, mapped_statement, mapped_block};
+ghost use Rattle.exo_tree.specs.Mapped.{mapped_control, mapped_condition};
+ghost use Rattle.exo_tree.specs.Mapped.{mapped_statement, mapped_block};
 
 use crate::binder::Binder;
 use crate::block::{Block, Stmt};
@@ -35,7 +36,8 @@ impl Stmt {
     /// A copy with what stands for its names.
     #[cycle(mapped)]
     pub fn mapped<L: Leaves>(&self, alloc: Global, leaves: &L) -> Result<Stmt, AllocError>
-        ensures { IfOk result (λ s. statement s ≡ mapped_statement (L.leaves leaves.now) (statement self.now)) }
+        ensures { IfOk result (λ s. statement s
+            ≡ mapped_statement (L.leaves leaves.now) (statement self.now)) }
     {
         match self {
             Stmt::Assign(x, at, e) => assignment(alloc, leaves, *x, at, e),
@@ -71,7 +73,8 @@ fn assignment<L: Leaves>(
     at: &Indices,
     e: &DataExpr,
 ) -> Result<Stmt, AllocError>
-    ensures { IfOk result (λ s. statement s ≡ mapped_statement (L.leaves leaves.now) (tree.Assign x.0 at.now (datum e.now))) }
+    ensures { IfOk result (λ s. statement s
+        ≡ mapped_statement (L.leaves leaves.now) (tree.Assign x.0 at.now (datum e.now))) }
 {
     Ok(Stmt::Assign(
         leaves.name(x),
@@ -87,7 +90,8 @@ fn reduction<L: Leaves>(
     at: &Indices,
     e: &DataExpr,
 ) -> Result<Stmt, AllocError>
-    ensures { IfOk result (λ s. statement s ≡ mapped_statement (L.leaves leaves.now) (tree.Reduce x.0 at.now (datum e.now))) }
+    ensures { IfOk result (λ s. statement s
+        ≡ mapped_statement (L.leaves leaves.now) (tree.Reduce x.0 at.now (datum e.now))) }
 {
     Ok(Stmt::Reduce(
         leaves.name(x),
@@ -104,7 +108,9 @@ fn branches<L: Leaves>(
     then_part: Block,
     else_part: Block,
 ) -> Result<Stmt, AllocError>
-    ensures { IfOk result (λ s. statement s ≡ tree.If (mapped_condition (L.leaves leaves.now) (condition c.now)) (block then_part) (block else_part)) }
+    ensures { IfOk result (λ s. statement s
+        ≡ tree.If (mapped_condition (L.leaves leaves.now) (condition c.now)) (block then_part)
+        (block else_part)) }
 {
     Ok(Stmt::If(c.mapped(alloc, leaves)?, then_part, else_part))
 }
@@ -118,7 +124,10 @@ fn loop_over<L: Leaves>(
     hi: &Ctrl,
     body: Block,
 ) -> Result<Stmt, AllocError>
-    ensures { IfOk result (λ s. statement s ≡ tree.For ((L.leaves leaves.now).binder (binding i.now)) (mapped_control (L.leaves leaves.now) (control lo.now)) (mapped_control (L.leaves leaves.now) (control hi.now)) (block body)) }
+    ensures { IfOk result (λ s. statement s
+        ≡ tree.For ((L.leaves leaves.now).binder (binding i.now))
+        (mapped_control (L.leaves leaves.now) (control lo.now))
+        (mapped_control (L.leaves leaves.now) (control hi.now)) (block body)) }
 {
     let binder = leaves.binder(alloc, i)?;
     let low = lo.mapped(alloc, leaves)?;
@@ -133,7 +142,9 @@ fn allocation<L: Leaves>(
     dims: &Indices,
     m: MemId,
 ) -> Result<Stmt, AllocError>
-    ensures { IfOk result (λ s. statement s ≡ mapped_statement (L.leaves leaves.now) (tree.Alloc (binding b.now) (cell_type t) dims.now m.0)) }
+    ensures { IfOk result (λ s. statement s
+        ≡ mapped_statement (L.leaves leaves.now)
+        (tree.Alloc (binding b.now) (cell_type t) dims.now m.0)) }
 {
     Ok(Stmt::Alloc(leaves.binder(alloc, b)?, t, dims.mapped(alloc, leaves)?, m))
 }
@@ -145,7 +156,8 @@ fn view<L: Leaves>(
     x: Id,
     at: &Coords,
 ) -> Result<Stmt, AllocError>
-    ensures { IfOk result (λ s. statement s ≡ mapped_statement (L.leaves leaves.now) (tree.View (binding b.now) x.0 at.now)) }
+    ensures { IfOk result (λ s. statement s
+        ≡ mapped_statement (L.leaves leaves.now) (tree.View (binding b.now) x.0 at.now)) }
 {
     Ok(Stmt::View(
         leaves.binder(alloc, b)?,

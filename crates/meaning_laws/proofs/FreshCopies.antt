@@ -1,7 +1,7 @@
 -- A block and its copy under fresh ids.
 use Rattle.std.proofs.Common.{◌≡◌, ℕ, true, false, true≢false, Option, Some, None, IfSome, option_map, refl, sym, ap, ◌∙◌}
 use Rattle.exo_tree.specs.Tree.{Statement, Assign, Reduce, Config, Pass, If, For, Alloc, View, Call, Block, end, next}
-use Rattle.exo_tree.specs.Renaming.{fresh_id, fresh}
+use Rattle.exo_tree.specs.Renaming.{fresh_id}
 use Rattle.exo_meaning.specs.Binders.{binders}
 use Rattle.exo_meaning.specs.State.{State, scoped}
 use Rattle.exo_meaning.specs.Run.{World, run, step}
