@@ -20,15 +20,16 @@ use Rattle.meaning_laws.proofs.SameRuns.{same_runs_refine}
 use Rattle.meaning_laws.proofs.Scoped.{both_false, or_elim}
 use Rattle.scope_laws.specs.BranchesAtPlaces.{only_branch, TakenBranchLaw, LoopOfNone}
 use Rattle.scope_laws.specs.BranchesAtPlaces.{specialized, SpecializeLaw, lifted, LiftLaw}
-use Rattle.scope_laws.specs.Copies.{MayCopy}
-use Rattle.scope_laws.specs.CopiesAtPlaces.{IsMadeOf}
+use Rattle.meaning_laws.specs.FreshCopies.{MayCopy}
+use Rattle.meaning_laws.specs.FreshCopies.{IsMadeOf}
 use Rattle.scope_laws.specs.Scopes.{HasNone, top_binders}
 use Rattle.scope_laws.specs.UnrollLoop.{only_loop}
-use Rattle.scope_laws.proofs.Copies.{ids, numbered, moved, copy_is_renaming, closed_copies_are_same}
-use Rattle.scope_laws.proofs.CopiesAtPlaces.{given_unused, old_is_made, old_may_be_copied}
-use Rattle.scope_laws.proofs.CopiesAtPlaces.{places_may_copy}
+use Rattle.meaning_laws.proofs.FreshCopies.{copies_run_alike, closed_copies_are_same}
+use Rattle.meaning_laws.proofs.CopiesAtPlaces.{old_is_made, old_may_be_copied}
+use Rattle.scope_laws.proofs.MadeCopies.{given_unused}
+use Rattle.meaning_laws.proofs.CopiesAtPlaces.{places_may_copy}
 use Rattle.scope_laws.proofs.MayLeave.{may_leave_law, top_has}
-use Rattle.scope_laws.proofs.Numbers.{true_by}
+use Rattle.scope_laws.proofs.MadeCopies.{true_by}
 use Rattle.scope_laws.proofs.Opened.{leaving_refines, branch_may_stand, split_may_stand}
 use Rattle.scope_laws.proofs.Scopes.{branch_is_scope_law}
 use Rattle.scope_laws.proofs.Turns.{lift_branch_law, steady_in_loop_law}
@@ -84,10 +85,9 @@ specialize_law kinds ps p c test old first was below unused =
     (λ s u good come none.
     let may = old_may_be_copied world p c old first u below
     (record { body = was; first = s; good = good; comes = come }) in
-    let r = ids first old u may in
-    subst (λ d. MayReplace world hidden old (only_branch test old d) u)
-    (sym (copy_is_renaming old first r (numbered first old u may) may.unused))
-    (split_may_stand world test r old u none (moved first old u may)))
+    let alike = copies_run_alike world first old u may in
+    subst (λ d. MayReplace world hidden old (only_branch test old d) u) (sym alike.is_copy)
+    (split_may_stand world test alike.ids old u none alike.moves))
 
 -- ---- a condition out of a loop
 

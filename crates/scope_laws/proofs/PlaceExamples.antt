@@ -19,7 +19,8 @@ use Rattle.meaning_laws.specs.Context.{now}
 use Rattle.meaning_laws.specs.Context.{ComesTo}
 use Rattle.meaning_laws.proofs.Parts.{none_some, some_injective}
 use Rattle.meaning_laws.proofs.Examples.{input, is_admissible, store_three}
-use Rattle.meaning_laws.proofs.UnitInstances.{letter, three_named, above, named_unit, are_procedures}
+use Rattle.meaning_laws.proofs.UnitInstances.{letter, three_named, above, named_unit}
+use Rattle.meaning_laws.proofs.UnitInstances.{are_procedures}
 use Rattle.scope_laws.proofs.Within.{holes_compose}
 use Rattle.scope_laws.proofs.Roots.{names_have_roots, roots_come}
 use Rattle.scope_laws.specs.BehindBlocks.{IsBehind}

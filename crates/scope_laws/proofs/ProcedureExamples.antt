@@ -10,7 +10,7 @@ use Rattle.meaning_laws.specs.Sorted.{MayRun}
 use Rattle.scope_laws.proofs.BranchesAtPlaces.{taken_branch_law, loop_of_none, specialize_law}
 use Rattle.scope_laws.proofs.BranchesAtPlaces.{lift_law}
 use Rattle.scope_laws.specs.BranchesAtPlaces.{only_branch, specialized, lifted}
-use Rattle.scope_laws.specs.CopiesAtPlaces.{IsBelow}
+use Rattle.meaning_laws.specs.FreshCopies.{IsBelow}
 use Rattle.scope_laws.proofs.UnrollLoop.{unroll_law}
 use Rattle.scope_laws.specs.UnrollLoop.{only_loop}
 use Rattle.scope_laws.specs.UnrollLoop.{unrolled}

@@ -11,7 +11,7 @@ use Rattle.meaning_laws.specs.Fresh.{swapped}
 use Rattle.meaning_laws.specs.Substitute.{in_block as substituted}
 use Rattle.meaning_laws.specs.Scoped.{has_binder}
 use Rattle.scope_laws.proofs.UnrollLoop.{made_copies_are_copies}
-use Rattle.scope_laws.specs.Copies.{MayCopy, is_given}
+use Rattle.meaning_laws.specs.FreshCopies.{MayCopy, is_given}
 use Rattle.scope_laws.specs.Turns.{IsSteadyIn}
 use Rattle.scope_laws.specs.Unrolled.{AreTurns, AreCopies}
 use Rattle.scope_laws.proofs.Apart.{renamed_mentions, renamed_leaves, substituted_leaves}

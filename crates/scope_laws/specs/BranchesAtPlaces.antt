@@ -13,7 +13,7 @@ use Rattle.meaning_laws.specs.Context.{ComesTo}
 use Rattle.meaning_laws.specs.Fields.{CallsLeave, writes_field}
 use Rattle.meaning_laws.specs.Live.{read_by_condition}
 use Rattle.meaning_laws.specs.Sorted.{MayRun}
-use Rattle.scope_laws.specs.CopiesAtPlaces.{IsBelow}
+use Rattle.meaning_laws.specs.FreshCopies.{IsBelow}
 use Rattle.scope_laws.specs.Scopes.{top_binders}
 use Rattle.scope_laws.specs.UnrollLoop.{HasTurns, only_loop}
 
