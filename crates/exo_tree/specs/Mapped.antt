@@ -12,6 +12,10 @@ pub record Leaves : Type 0 where
   pub name : ℕ → ℕ
   pub binder : Binder → Binder
 
+-- each name stands for itself
+abbrev pub unchanged : Leaves
+unchanged = record { variable = λ x. Var x; name = λ x. x; binder = λ b. b }
+
 module _ (leaves : Leaves) where
   abbrev pub mapped_control : Control → Control
   mapped_control (Lit n) = Lit n

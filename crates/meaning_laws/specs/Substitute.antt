@@ -1,6 +1,6 @@
 -- A control expression in the place of a control variable.
-use Rattle.std.specs.Prelude.{◌≡◌, ℕ, Bool, true, false, ◌==◌, ◌||◌, ◌&&◌, cond, List, [], ◌∷◌, option_map}
-use Rattle.exo_tree.specs.Tree.{Control, Lit, Var, Field, StrideOf, Neg, Add, Sub, Mul, Div, Mod, Condition, True, False, Flag, FieldFlag, Lt, Le, Gt, Ge, Eq, And, Or, Datum, Const, Read, Negated, Relu, Plus, Minus, Times, Select, Coord, At, Span, Argument, ControlArg, ConditionArg, Whole, Window, Statement, Assign, Reduce, Config, Pass, If, For, Alloc, View, Call, Block, end, next}
+use Rattle.std.specs.Prelude.{◌≡◌, ℕ, Bool, true, false, ◌==◌, ◌||◌, ◌&&◌, List, [], ◌∷◌, option_map}
+use Rattle.exo_tree.specs.Tree.{Control, Lit, Var, Field, StrideOf, Neg, Add, Sub, Mul, Div, Mod, Condition, True, False, Flag, FieldFlag, Lt, Le, Gt, Ge, Eq, And, Or, Argument, ControlArg, ConditionArg, Whole, Window, Statement, Assign, Reduce, Config, Pass, If, For, Alloc, View, Call, Block, end, next}
 pub use Rattle.exo_tree.specs.Substitution.{in_control, in_controls, in_condition, in_datum, in_coord, in_coords, in_argument, in_arguments, in_statement, in_block}
 use Rattle.exo_meaning.specs.Scene.{number}
 use Rattle.exo_meaning.specs.State.{State, on_scene, with_control}
@@ -81,4 +81,8 @@ abbrev mutual
 
 -- a run of b with i bound to the number of e is a run of b with e for i
 abbrev pub SubstitutionLaw : Type 0
-SubstitutionLaw = (world : World) (i : ℕ) (e : Control) (b : Block) (s : State) → is_plain e ≡ true → catches i e b ≡ false → run world b (bound i e s) ≡ option_map (bound i e) (run world (in_block i e b) s)
+SubstitutionLaw =
+    (world : World) (i : ℕ) (e : Control) (b : Block) (s : State)
+    → is_plain e ≡ true
+    → catches i e b ≡ false
+    → run world b (bound i e s) ≡ option_map (bound i e) (run world (in_block i e b) s)

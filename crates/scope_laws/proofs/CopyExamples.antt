@@ -1,96 +1,43 @@
 -- The laws at small blocks.
-use Rattle.std.proofs.Common.{◌≡◌, ℕ, pos, true, false, [], ◌∷◌, Option, Some, None, refl, arith}
+use Rattle.std.proofs.Common.{◌≡◌, ℕ, pos, true, false, [], ◌∷◌, refl, arith}
 use Rattle.std.proofs.Common.{nat_le, IfSome, sym, true≢false}
-use Rattle.std.specs.Int.{int_wrap}
-use Rattle.exo_tree.specs.Tree.{I8, Lit, Var, Add, Const, Plus, For, Alloc, Block, end, next}
+use Rattle.exo_tree.specs.Tree.{I8, Lit, Var, Const, Plus, For, Alloc, Block, end, next}
 use Rattle.exo_tree.specs.Context.{Here}
 use Rattle.exo_tree.specs.Renaming.{fresh, binders}
 use Rattle.exo_tree.specs.Substitution.{in_block as substituted}
-use Rattle.exo_meaning.specs.Value.{Value, Undefined, Number}
-use Rattle.exo_meaning.specs.State.{State, on_scene, with_control}
+use Rattle.exo_meaning.specs.State.{on_scene, with_control}
 use Rattle.exo_meaning.specs.Run.{run}
 use Rattle.exo_meaning.specs.Unseen.{in_block as mentions}
 use Rattle.meaning_laws.proofs.Examples.{binder, stored, three, input, world, is_admissible, body}
 use Rattle.meaning_laws.proofs.Examples.{three_commutes}
-use Rattle.exo_meaning.specs.Binders.{binders as binders_of}
 use Rattle.exo_meaning.specs.Renaming.{re_block}
 use Rattle.exo_meaning.specs.Inputs.{Refines}
-use Rattle.scope_laws.proofs.Substitution.{substitution_keeps_binders}
-use Rattle.scope_laws.proofs.Substitution.{substitution_mentions_no_more}
-use Rattle.scope_laws.proofs.Numbers.{one_list_of_binders}
+use Rattle.meaning_laws.proofs.Substituted.{substitution_keeps_binders}
+use Rattle.meaning_laws.proofs.Substituted.{substitution_mentions_no_more}
 use Rattle.scope_laws.proofs.MadeCopies.{made_copies_are_apart}
-use Rattle.scope_laws.proofs.Exchanged.{exchanging}
-use Rattle.scope_laws.proofs.CopiesInScopes.{scoped_copies_are_same}
+use Rattle.meaning_laws.proofs.Fresh.{exchanging}
+use Rattle.meaning_laws.proofs.ScopedCopies.{scoped_copies_are_same}
 use Rattle.scope_laws.specs.Bare.{bare}
-use Rattle.scope_laws.specs.Scopes.{scopes, AreApart}
-use Rattle.scope_laws.specs.Copies.{copies_from, is_given, is_closed, MayCopy, RunsAlike}
-use Rattle.scope_laws.specs.Copies.{AllMayBeCopied}
-use Rattle.scope_laws.specs.CopiesAtPlaces.{IsBelow, StandsAt, IsMadeOf}
+use Rattle.scope_laws.specs.Scopes.{AreApart}
+use Rattle.meaning_laws.specs.FreshCopies.{copies_from, is_given, MayCopy, RunsAlike}
+use Rattle.meaning_laws.specs.FreshCopies.{AllMayBeCopied, each_in_scope}
+use Rattle.meaning_laws.specs.FreshCopies.{IsBelow, StandsAt, IsMadeOf}
 use Rattle.scope_laws.proofs.Bare.{same_but_for_names, names_ignored, names_keep_refinement}
-use Rattle.scope_laws.proofs.Copies.{closed_copies_are_same, copy_is_renaming, copies_run_alike}
-use Rattle.scope_laws.proofs.CopiesAtPlaces.{old_may_be_copied, copies_bind_new_numbers}
-use Rattle.scope_laws.proofs.CopiesAtPlaces.{may_copy_behind, may_copy_next, may_copy_in_turn}
-use Rattle.scope_laws.proofs.CopiesAtPlaces.{may_copy_substituted, places_may_copy, old_is_made}
-use Rattle.scope_laws.proofs.CopiesAtPlaces.{substituted_is_made, places_may_copy_all}
+use Rattle.meaning_laws.proofs.FreshCopies.{copies_run_alike, copy_is_renaming}
+use Rattle.meaning_laws.proofs.CopiesAtPlaces.{old_may_be_copied, copies_bind_new_numbers}
+use Rattle.meaning_laws.proofs.CopiesAtPlaces.{may_copy_behind, may_copy_next, may_copy_in_turn}
+use Rattle.meaning_laws.proofs.CopiesAtPlaces.{may_copy_substituted, places_may_copy, old_is_made}
+use Rattle.meaning_laws.proofs.CopiesAtPlaces.{substituted_is_made, places_may_copy_all}
 
 -- for i in seq(0, 16): x[i] = 1 + 2, with the variable under this number
 abbrev loop : ℕ → Block
 loop i = next (For (binder i) (Lit (pos 0)) (Lit (pos 16))
     (stored 0 (Var i ∷ []) (Plus (Const (pos 1)) (Const (pos 2))))) end
 
-copied : fresh 5 (loop 1) ≡ loop 5
-copied = refl
-
-copied_twice : copies_from 5 (loop 1 ∷ loop 1 ∷ []) ≡ loop 5 ∷ loop 6 ∷ []
-copied_twice = refl
-
--- what a procedure is made of, from the first free number on
-all_below : IsBelow 2 three
-all_below = record { scoped = refl; below = refl }
-
 all_of_it : StandsAt world three (Here end) (loop 1) input
 all_of_it = record { body = refl; first = input; good = is_admissible; comes = refl }
 
-the_copy_is_same : run world (fresh 5 (loop 1)) input ≡ run world (loop 1) input
-the_copy_is_same =
-    closed_copies_are_same world 5 (loop 1) input
-    (old_may_be_copied world three (Here end) (loop 1) 5 input
-    (record { scoped = refl; below = refl }) all_of_it) refl
-
-abbrev cell : Option State → Value
-cell None = Undefined
-cell (Some t) = t.cells 0 (pos 15 ∷ [])
-
-it_runs : cell (run world (fresh 5 (loop 1)) input) ≡ Number (pos 3)
-unfolding int_wrap
-it_runs = refl
-
--- ---- the premises are needed
-
--- a number that the block has already is caught: here a free name of it
-abbrev catching : Block
-catching = next (For (binder 1) (Lit (pos 0)) (Lit (pos 16))
-    (stored 0 (Var 7 ∷ []) (Const (pos 3)))) end
-
-caught : fresh 7 catching ≡ next (For (binder 7) (Lit (pos 0)) (Lit (pos 16))
-    (stored 0 (Var 7 ∷ []) (Const (pos 3)))) end
-caught = refl
-
-its_number_is_used : mentions (is_given 7 catching) catching ≡ true
-its_number_is_used = refl
-
--- a block that binds a name behind it is not closed
-abbrev made : Block
-made = next (Alloc (binder 1) I8 (Lit (pos 4) ∷ []) 0) end
-
-it_is_open : is_closed made ≡ false
-it_is_open = refl
-
--- ---- substitution, and names
-
-put : substituted 1 (Add (Var 1) (Lit (pos 1))) (stored 0 (Var 1 ∷ []) (Const (pos 3)))
-    ≡ stored 0 (Add (Var 1) (Lit (pos 1)) ∷ []) (Const (pos 3))
-put = refl
+-- ---- names
 
 -- the loop over `j`
 abbrev named : Block
@@ -115,7 +62,7 @@ turned_refines =
     (record three { body = body (Plus (Const (pos 2)) (Const (pos 1))) }) turned [] refl
     (three_commutes world)
 
--- ---- each law of a copy there
+-- ---- the laws of copies there
 
 -- t: i8[4]; t[j] = 3
 abbrev fills : ℕ → ℕ → Block
@@ -132,12 +79,9 @@ its_binders = substitution_keeps_binders 3 (Lit (pos 2)) (fills 2 3)
 none_from_five : mentions (nat_le 5) (substituted 3 (Lit (pos 2)) (fills 2 3)) ≡ false
 none_from_five = substitution_mentions_no_more (nat_le 5) 3 (Lit (pos 2)) (fills 2 3) refl refl
 
-one_list : binders (fills 2 3) ≡ binders_of (fills 2 3)
-one_list = one_list_of_binders (fills 2 3)
-
-loop_is_renamed : fresh 5 (loop 1) ≡ re_block (exchanging (binders_of (loop 1)) 5) (loop 1)
+loop_is_renamed : fresh 5 (loop 1) ≡ re_block (exchanging (binders (loop 1)) 5) (loop 1)
 loop_is_renamed =
-    copy_is_renaming (loop 1) 5 (exchanging (binders_of (loop 1)) 5)
+    copy_is_renaming (loop 1) 5 (exchanging (binders (loop 1)) 5)
     (record { to = λ x. refl; from = λ x. refl }) refl
 
 -- from any number above its own
@@ -192,8 +136,8 @@ all_may =
     all_of_it (made_of_itself, (made_of_itself, tt))
 
 copies_are_same :
-    scopes world (copies_from 5 (loop 1 ∷ loop 1 ∷ [])) input
-    ≡ scopes world (loop 1 ∷ loop 1 ∷ []) input
+    each_in_scope world (copies_from 5 (loop 1 ∷ loop 1 ∷ [])) input
+    ≡ each_in_scope world (loop 1 ∷ loop 1 ∷ []) input
 copies_are_same = scoped_copies_are_same world 5 (loop 1 ∷ loop 1 ∷ []) input all_may
 
 -- two copies of a block that leaves t

@@ -1,7 +1,9 @@
 -- Copies that are numbered one behind the other are apart.
-use Rattle.std.proofs.Common.{◌≡◌, ℕ, ◌+◌, ◌<◌, ◌≤◌, ◌==◌, Bool, true, false, cond, List, [], ◌∷◌}
+use Rattle.std.proofs.Common.{◌≡◌, ℕ, suc, ◌+◌, ◌<◌, ◌≤◌, ◌==◌, Bool, true, false, true≢false, cond}
+use Rattle.std.proofs.Common.{◌||◌, List, [], ◌∷◌}
 use Rattle.std.proofs.Common.{length}
-use Rattle.std.proofs.Common.{nat_le, refl, sym, ap, ◌∙◌, arith, le-leb}
+use Rattle.std.proofs.Common.{nat_le, nat_lt, refl, sym, ap, ◌∙◌, arith, add-one, le-leb, leb-true}
+use Rattle.std.proofs.Common.{ltb-true}
 use Rattle.exo_tree.specs.Tree.{Block}
 use Rattle.exo_tree.specs.Renaming.{fresh_id, fresh}
 use Rattle.exo_tree.specs.Renaming as code
@@ -9,16 +11,55 @@ use Rattle.exo_meaning.specs.Orders.{Each}
 use Rattle.exo_meaning.specs.Unseen.{in_block as mentions}
 use Rattle.exo_meaning.proofs.Frame.{or_parts}
 use Rattle.meaning_laws.specs.Scoped.{has_binder}
+use Rattle.meaning_laws.proofs.Substitute.{and_parts}
 use Rattle.scope_laws.specs.Apart.{EachIsApart}
-use Rattle.scope_laws.specs.Copies.{is_within, is_given, copies_from}
-use Rattle.scope_laws.specs.CopiesAtPlaces.{IsMadeOf, MadeCopiesAreApart}
+use Rattle.meaning_laws.specs.FreshCopies.{is_within, is_given, copies_from}
+use Rattle.meaning_laws.specs.FreshCopies.{IsMadeOf}
+use Rattle.scope_laws.specs.MadeCopies.{MadeCopiesAreApart}
 use Rattle.scope_laws.specs.Scopes.{top_binders}
 use Rattle.scope_laws.proofs.Apart.{map_mentions, apart_law}
-use Rattle.scope_laws.proofs.CopiesAtPlaces.{given_from, given_below, fresh_within}
-use Rattle.scope_laws.proofs.CopiesAtPlaces.{copies_bind_new_numbers}
-use Rattle.scope_laws.proofs.Fewer as fewer
+use Rattle.meaning_laws.proofs.CopiesAtPlaces.{copies_bind_new_numbers}
+use Rattle.meaning_laws.proofs.Fewer as fewer
 use Rattle.scope_laws.proofs.MayLeave.{top_has}
-use Rattle.scope_laws.proofs.Numbers.{among, false_by, not_both}
+use Rattle.meaning_laws.proofs.Numbers.{among, false_by, not_both, within_first, within_next}
+
+pub true_by : (t : Bool) → (t ≡ false → ⊥) → t ≡ true
+true_by true h = refl
+true_by false h = absurd (h refl)
+
+-- ---- numbers of copies
+
+pub given_from : (n k x : ℕ) → is_within n k x ≡ true → n ≤ x
+given_from n k x h = leb-true n x (and_parts (nat_le n x) (nat_lt x (n + k)) h).0
+
+pub given_below : (n k x : ℕ) → is_within n k x ≡ true → x < n + k
+given_below n k x h = ltb-true x (n + k) (and_parts (nat_le n x) (nat_lt x (n + k)) h).1
+
+pub given_unused : (n m : ℕ) (b : Block) → n ≤ m → mentions (nat_le n) b ≡ false
+    → mentions (is_given m b) b ≡ false
+given_unused n m b behind low = fewer.block (nat_le n) (is_given m b) less b low
+  where
+    less : (x : ℕ) → nat_le n x ≡ false → is_given m b x ≡ false
+    less x h =
+        false_by (is_given m b x)
+        (λ e. let from = given_from m (length (code.binders b)) x e in not_both (nat_le n x)
+        (le-leb n x (omega arith)) h)
+
+-- the new number of an id of the list
+pub fresh_within : (is : List ℕ) (n x : ℕ) → among is x ≡ true
+    → is_within n (length is) (fresh_id is n x) ≡ true
+fresh_within [] n x h = absurd (true≢false (sym h))
+fresh_within (i ∷ is) n x h = go (x == i) refl h (fresh_within is (suc n) x)
+  where
+    go : (t : Bool) → (x == i) ≡ t → (t || among is x) ≡ true
+        → (among is x ≡ true → is_within (suc n) (length is) (fresh_id is (suc n) x) ≡ true)
+        → is_within n (suc (length is)) (fresh_id (i ∷ is) n x) ≡ true
+    go true e k below = ap (λ t. is_within n (suc (length is)) (cond t n (fresh_id is (n + 1) x))) e
+        ∙ within_first n (length is)
+    go false e k below =
+        ap (λ t. is_within n (suc (length is)) (cond t n (fresh_id is (n + 1) x))) e
+        ∙ ap (λ m. is_within n (suc (length is)) (fresh_id is m x)) (add-one n)
+        ∙ within_next n (length is) (fresh_id is (suc n) x) (below k)
 
 -- an id that is no binder keeps its number
 fresh_other : (is : List ℕ) (n x : ℕ) → among is x ≡ false → fresh_id is n x ≡ x

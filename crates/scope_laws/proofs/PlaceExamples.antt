@@ -9,13 +9,18 @@ use Rattle.exo_meaning.specs.Units.{is_block, scope_of, sort_in, BufferName, Con
 use Rattle.meaning_laws.specs.Sorted.{MayRun, scope_at}
 use Rattle.exo_meaning.specs.Value.{Undefined}
 use Rattle.exo_meaning.specs.Scene.{Seen, whole}
+use Rattle.exo_meaning.specs.State.{with_control}
 use Rattle.exo_meaning.specs.State.{State, on_scene, with_buffer, with_contents}
 use Rattle.exo_meaning.specs.Run.{tensor, unit_world, kinds_of}
 use Rattle.exo_meaning.specs.Inputs.{IsAdmissible}
 use Rattle.exo_meaning.specs.Laws.{HasRoots}
 use Rattle.exo_meaning.proofs.Examples.{binder, start, world}
+use Rattle.meaning_laws.specs.Context.{now}
 use Rattle.meaning_laws.specs.Context.{ComesTo}
 use Rattle.meaning_laws.proofs.Parts.{none_some, some_injective}
+use Rattle.meaning_laws.proofs.Examples.{input, is_admissible, store_three}
+use Rattle.meaning_laws.proofs.UnitInstances.{letter, three_named, above, named_unit}
+use Rattle.meaning_laws.proofs.UnitInstances.{are_procedures}
 use Rattle.scope_laws.proofs.Within.{holes_compose}
 use Rattle.scope_laws.proofs.Roots.{names_have_roots, roots_come}
 use Rattle.scope_laws.specs.BehindBlocks.{IsBehind}
@@ -183,6 +188,42 @@ roots_in_three :
     → ComesTo (unit_world (kinds_of []) []) last_two around s u
     → HasRoots (own_roots_at around) u.scene
 roots_in_three s u = names_have_roots [] 1 [] three around last_two s u may_run
+
+-- for i in seq(0, 16): .., in its first turn on one input
+abbrev in_loop : Context
+in_loop = InLoop (letter 1 105) (Lit (pos 0)) (Lit (pos 16)) (Here end) end
+
+abbrev first_turn : State
+first_turn = on_scene (with_control 1 (pos 0)) input
+
+comes_to_turn : ComesTo named_unit store_three in_loop input first_turn
+comes_to_turn = (pos 0, input, now, refl)
+
+roots_in_turn : HasRoots (own_roots_at in_loop) first_turn.scene
+roots_in_turn =
+    names_have_roots [] 1 above three_named in_loop store_three input first_turn
+    (record {
+      unit = are_procedures;
+      procedure = record {
+        params = refl;
+        asserts = refl;
+        body = refl;
+        filled = refl;
+        ids = refl;
+        distinct = refl;
+        paths = refl;
+        template = refl;
+      };
+    })
+    (record {
+      arguments = ((refl, refl), tt);
+      no_others = is_admissible.no_others;
+      cells = is_admissible.cells;
+      tidy = is_admissible.tidy;
+      fields = λ f. tt;
+      asserts = refl;
+    })
+    comes_to_turn
 
 -- y: i32[1], behind which y sees its own buffer
 abbrev made_y : State

@@ -1,20 +1,17 @@
 -- The laws of scopes at small blocks: both sides compute.
-use Rattle.std.proofs.Common.{◌≡◌, inl, ◌||◌, ℕ, ℤ, pos, ◌==◌, Bool, true, false, cond, List, []}
+use Rattle.std.proofs.Common.{◌≡◌, ℕ, ℤ, pos, ◌==◌, Bool, true, false, cond, List, []}
 use Rattle.std.proofs.Common.{◌∷◌, Option, Some, None, refl, sym, ap, ◌∙◌, subst, true≢false}
 use Rattle.std.proofs.Common.{eqb-true}
 use Rattle.std.specs.Prelude.{IsSome}
 use Rattle.std.specs.Int.{int_wrap}
-use Rattle.exo_tree.specs.Tree.{Binder, Size, TensorParam, Procedure, Condition, Lt, Block, end}
+use Rattle.exo_tree.specs.Tree.{Condition, Lt, Block, end}
 use Rattle.exo_tree.specs.Tree.{next, joined, Assign, Reduce, If, For, Alloc, Const, Read, Lit, Var}
 use Rattle.exo_tree.specs.Tree.{I32, Field}
-use Rattle.exo_tree.specs.Context.{Here, fill}
 use Rattle.meaning_laws.specs.Fresh.{swapped}
 use Rattle.meaning_laws.specs.Substitute.{in_block as substituted}
 use Rattle.meaning_laws.specs.Scoped.{has_binder}
-use Rattle.meaning_laws.specs.Sorted.{MayRun}
-use Rattle.scope_laws.proofs.UnrollLoop.{made_copies_are_copies, unroll_law}
-use Rattle.scope_laws.specs.UnrollLoop.{unrolled}
-use Rattle.scope_laws.specs.Copies.{MayCopy, is_given}
+use Rattle.scope_laws.proofs.UnrollLoop.{made_copies_are_copies}
+use Rattle.meaning_laws.specs.FreshCopies.{MayCopy, is_given}
 use Rattle.scope_laws.specs.Turns.{IsSteadyIn}
 use Rattle.scope_laws.specs.Unrolled.{AreTurns, AreCopies}
 use Rattle.scope_laws.proofs.Apart.{renamed_mentions, renamed_leaves, substituted_leaves}
@@ -23,27 +20,21 @@ use Rattle.exo_meaning.specs.Renaming.{re_block}
 use Rattle.exo_meaning.specs.Value.{Value, Undefined, Number}
 use Rattle.exo_meaning.specs.Scene.{then_do, Shape, Seen, whole}
 use Rattle.exo_meaning.specs.State.{State, scoped}
-use Rattle.exo_meaning.specs.Run.{unit_world, run, turn, tensor, turns, kinds_of}
-use Rattle.exo_meaning.specs.Inputs.{Refines}
-use Rattle.exo_meaning.specs.Units.{IsProcedure}
+use Rattle.exo_meaning.specs.Run.{run, turn, tensor, turns}
 use Rattle.exo_meaning.specs.Refines.{Both}
 use Rattle.exo_meaning.specs.Unseen.{in_block, in_block as mentions}
 use Rattle.exo_meaning.proofs.Examples.{binder, start, world, seen}
 use Rattle.meaning_laws.specs.Context.{MayReplace}
 use Rattle.meaning_laws.specs.Sound.{IsSound, IsUnbound}
 use Rattle.meaning_laws.proofs.Parts.{none_some, some_injective}
-use Rattle.meaning_laws.proofs.Copies.{unbound_law}
-use Rattle.meaning_laws.proofs.Scoped.{or_elim}
 use Rattle.meaning_laws.proofs.Swaps.{swap, swap_moves}
-use Rattle.scope_laws.specs.Opened.{MayLeave, IsNew}
 use Rattle.scope_laws.specs.Scopes.{top_binders, HasNone, LeftBut, joined_all, scopes, AreApart}
 use Rattle.scope_laws.proofs.Scopes.{open_scopes_law, split_turn_law, open_scope_law}
 use Rattle.scope_laws.proofs.Scopes.{join_scopes_law, scope_twice_law, scope_in_turn_law}
 use Rattle.scope_laws.proofs.Scopes.{branch_is_scope_law}
-use Rattle.scope_laws.proofs.Opened.{leaving_refines, same_refines, block_may_open, block_may_close}
+use Rattle.scope_laws.proofs.Opened.{same_refines, block_may_open, block_may_close}
 use Rattle.scope_laws.proofs.Opened.{blocks_may_open, blocks_may_close, branch_may_stand}
 use Rattle.scope_laws.proofs.Opened.{split_may_stand}
-use Rattle.scope_laws.proofs.MayLeave.{may_leave_law}
 use Rattle.scope_laws.proofs.Turns.{lift_then_law, scope_of_none_law, split_turns_law}
 use Rattle.scope_laws.proofs.Turns.{steady_in_loop_law, lift_branch_law, swap_branches_law}
 use Rattle.scope_laws.proofs.Unrolled.{copies_may_stand, copies_are_turns_law, turns_are_scopes_law}
@@ -215,7 +206,7 @@ unfolding int_wrap
 added_in_turn = refl
 
 -- 0 < 1, in a loop and round it
-abbrev always : Condition
+abbrev pub always : Condition
 always = Lt (Lit (pos 0)) (Lit (pos 1))
 
 abbrev in_loop : Block
@@ -339,6 +330,22 @@ turns_in_scopes =
     turns_are_scopes_law world 1 (turned 2) (pos 0 ∷ pos 1 ∷ []) written_out start start_sound
     they_are_turns
 
+-- at one state: the bodies may be copied, so their copies are copies for the turns
+may_be_copied_from : (n : ℕ) (k : ℤ) → has_binder (at_turn 2 k) 0 ≡ false
+    → is_given n (at_turn 2 k) 0 ≡ false → mentions (is_given n (at_turn 2 k)) (at_turn 2 k) ≡ false
+    → MayCopy n (at_turn 2 k) start
+may_be_copied_from n k own given unused = record {
+  sound = start_sound;
+  own = (none_there (has_binder (at_turn 2 k)) own).unbound;
+  given = (none_there (is_given n (at_turn 2 k)) given).unbound;
+  unused = unused;
+}
+
+copies_for_turns : AreCopies (IsUnbound start) 1 (turned 2) (pos 0 ∷ pos 1 ∷ []) written_out
+copies_for_turns =
+    made_copies_are_copies 1 (turned 2) (pos 0 ∷ pos 1 ∷ []) 3 start
+    (may_be_copied_from 3 (pos 0) refl refl refl, (may_be_copied_from 4 (pos 1) refl refl refl, tt))
+
 -- ---- what copies leave and mention
 
 abbrev third : ℕ → Bool
@@ -393,130 +400,3 @@ branches_swapped :
     run world (branch (next (If by_field one end) end)) start
     ≡ run world (next (If by_field (branch one) end) end) start
 branches_swapped = swap_branches_law world always by_field one start
-
--- ---- the loop in a procedure, written out there
-
-abbrev named : ℕ → ℕ → Binder
-named n c = record { id = n; name = c ∷ [] }
-
--- for i in seq(0, 2): t: i32[1]; t[0] = 5; x[i] += t[0], with these names
-abbrev named_body : Block
-named_body =
-    next (Alloc (named 2 116) I32 (Lit (pos 1) ∷ []) 0)
-    (next (Assign 2 (Lit (pos 0) ∷ []) (Const (pos 5)))
-    (next (Reduce 0 (Var 1 ∷ []) (Read 2 (Lit (pos 0) ∷ []))) end))
-
-abbrev named_loop : Block
-named_loop = next (For (named 1 105) (Lit (pos 0)) (Lit (pos 2)) named_body) end
-
-abbrev named_turn : ℕ → ℤ → Block
-named_turn y n =
-    next (Alloc (named y 116) I32 (Lit (pos 1) ∷ []) 0)
-    (next (Assign y (Lit (pos 0) ∷ []) (Const (pos 5)))
-    (next (Reduce 0 (Lit n ∷ []) (Read y (Lit (pos 0) ∷ []))) end))
-
-abbrev named_turns : List Block
-named_turns = named_turn 3 (pos 0) ∷ named_turn 4 (pos 1) ∷ []
-
-abbrev adds : Procedure
-adds = record {
-  name = [];
-  template = None;
-  params = record {
-    binder = named 0 120;
-    kind =
-        TensorParam I32 (Lit (pos 8) ∷ []) 0;
-  } ∷ [];
-  asserts = [];
-  body = named_loop;
-}
-
-adds_is_well : IsProcedure (λ f. None) 1 (λ k. None) adds
-adds_is_well = record {
-  params = refl;
-  asserts = refl;
-  body = refl;
-  filled = refl;
-  ids = refl;
-  distinct = refl;
-  paths = refl;
-  template = refl;
-}
-
-they_may_be_left : MayLeave adds (Here end) (top_binders (joined_all named_turns))
-they_may_be_left = may_leave_law (λ f. None) 1 (λ k. None) adds (Here end) named_loop
-    (top_binders (joined_all named_turns)) adds_is_well refl (λ y k.
-    or_elim (y == 3) ((y == 4) || false) k
-    (λ e. inl (subst (λ z. IsNew adds z) (sym (eqb-true y 3 e)) (refl, refl)))
-    (λ j. or_elim (y == 4) false j (λ e. inl (subst (λ z. IsNew adds z) (sym (eqb-true y 4 e))
-    (refl, refl))) (λ e. absurd (true≢false (sym e)))))
-
-adds_written_out : Refines (unit_world (λ f. Size) []) adds
-    (record adds { body = joined_all named_turns }) []
-adds_written_out = leaving_refines (λ f. Size) [] (Here end) named_loop (joined_all named_turns)
-    adds (record adds { body = joined_all named_turns }) (top_binders (joined_all named_turns)) refl
-    refl they_may_be_left (λ s u good come none.
-    let t = unbound_law (unit_world (λ f. Size) []) adds named_loop (Here end) s u good come 2
-    (refl, refl) in
-    copies_may_stand (unit_world (λ f. Size) []) (named 1 105) (Lit (pos 0)) (Lit (pos 2))
-    named_body named_turns u (refl, (refl, tt)) none (λ n. refl) (
-      record {
-        to = swap 2 3;
-        moves = swap_moves 2 3 (IsUnbound u) t (none.unbound 3 refl);
-        is =
-            refl;
-      },
-      (
-        record {
-          to = swap 2 4;
-          moves = swap_moves 2 4 (IsUnbound u) t (none.unbound 4 refl);
-          is =
-              refl;
-        },
-        tt,
-      ),
-    ))
-
--- ---- and written out by the law, with copies as they are made
-
-made_turns : unrolled 3 1 named_body (pos 0 ∷ pos 1 ∷ []) ≡ joined_all named_turns
-made_turns = refl
-
-may_run_adds : MayRun [] 1 [] adds
-may_run_adds = record {
-  unit = tt;
-  procedure = record {
-    params = refl;
-    asserts = refl;
-    body = refl;
-    filled = refl;
-    ids = refl;
-    distinct = refl;
-    paths = refl;
-    template = refl;
-  };
-}
-
-adds_unrolled :
-    Refines (unit_world (kinds_of []) []) adds
-    (record adds { body = fill (Here end) (unrolled 3 1 named_body (pos 0 ∷ pos 1 ∷ [])) }) []
-adds_unrolled =
-    unroll_law [] 1 [] adds (Here end) (named 1 105) (Lit (pos 0)) (Lit (pos 2)) named_body
-    (pos 0 ∷ pos 1 ∷ []) 3 may_run_adds refl (record { scoped = refl; below = refl }) (λ n. refl)
-    (λ s u good come. refl)
-
--- at one state: the bodies may be copied, so their copies are copies for the turns
-may_be_copied_from : (n : ℕ) (k : ℤ) → has_binder (at_turn 2 k) 0 ≡ false
-    → is_given n (at_turn 2 k) 0 ≡ false → mentions (is_given n (at_turn 2 k)) (at_turn 2 k) ≡ false
-    → MayCopy n (at_turn 2 k) start
-may_be_copied_from n k own given unused = record {
-  sound = start_sound;
-  own = (none_there (has_binder (at_turn 2 k)) own).unbound;
-  given = (none_there (is_given n (at_turn 2 k)) given).unbound;
-  unused = unused;
-}
-
-copies_for_turns : AreCopies (IsUnbound start) 1 (turned 2) (pos 0 ∷ pos 1 ∷ []) written_out
-copies_for_turns =
-    made_copies_are_copies 1 (turned 2) (pos 0 ∷ pos 1 ∷ []) 3 start
-    (may_be_copied_from 3 (pos 0) refl refl refl, (may_be_copied_from 4 (pos 1) refl refl refl, tt))

@@ -3,13 +3,13 @@ use Rattle.std.proofs.Common.{◌≡◌, inl, ℕ, ℤ, ◌+◌, ◌≤◌, ◌=
 use Rattle.std.proofs.Common.{[], ◌∷◌, length}
 use Rattle.std.proofs.Common.{refl, sym, ◌∙◌, subst, arith}
 use Rattle.std.specs.Prelude.{nat_le, slice_get}
-use Rattle.exo_tree.specs.Tree.{Binder, Control, Lit, For, Block, Procedure}
+use Rattle.exo_tree.specs.Tree.{Index, Binder, Control, Lit, For, Block, Procedure}
 use Rattle.exo_tree.specs.Context.{fill}
 use Rattle.exo_tree.specs.Renaming.{fresh}
 use Rattle.exo_tree.specs.Renaming as code
 use Rattle.exo_tree.specs.Substitution.{in_block as substituted}
 use Rattle.exo_meaning.specs.Orders.{Each}
-use Rattle.exo_meaning.specs.Run.{callees, kinds_of, unit_world}
+use Rattle.exo_meaning.specs.Run.{callees, kinds_of, unit_world, world_of}
 use Rattle.exo_meaning.specs.Units.{field_kind}
 use Rattle.exo_meaning.specs.Unseen.{in_control, in_statement, in_block as mentions}
 use Rattle.exo_meaning.proofs.Frame.{or_parts}
@@ -17,18 +17,19 @@ use Rattle.meaning_laws.specs.Scoped.{has_binder}
 use Rattle.meaning_laws.specs.Sound.{IsUnbound}
 use Rattle.meaning_laws.proofs.Facts.{or_left, or_right}
 use Rattle.meaning_laws.proofs.Scoped.{or_elim}
-use Rattle.scope_laws.specs.Copies.{is_given, copies_from}
-use Rattle.scope_laws.specs.CopiesAtPlaces.{IsMadeOf, IsBelow}
+use Rattle.meaning_laws.specs.FreshCopies.{is_given, copies_from}
+use Rattle.meaning_laws.specs.FreshCopies.{IsMadeOf, IsBelow}
 use Rattle.scope_laws.specs.Opened.{IsNew}
 use Rattle.scope_laws.specs.Scopes.{top_binders, joined_all}
 use Rattle.scope_laws.specs.UnrollLoop.{MadeCopiesAreCopies, UnrollLaw, bodies_of, only_loop}
 use Rattle.scope_laws.specs.Unrolled.{AreCopies}
-use Rattle.scope_laws.proofs.Copies.{ids, numbered, moved, copy_is_renaming}
-use Rattle.scope_laws.proofs.CopiesAtPlaces.{given_from, no_param, no_binder, old_is_made}
-use Rattle.scope_laws.proofs.CopiesAtPlaces.{substituted_is_made, places_may_copy_all}
+use Rattle.meaning_laws.proofs.FreshCopies.{copies_run_alike}
+use Rattle.meaning_laws.proofs.CopiesAtPlaces.{no_param, no_binder, old_is_made}
+use Rattle.scope_laws.proofs.MadeCopies.{given_from}
+use Rattle.meaning_laws.proofs.CopiesAtPlaces.{substituted_is_made, places_may_copy_all}
 use Rattle.scope_laws.proofs.MadeCopies.{copy_leaves, made_copies_are_apart}
 use Rattle.scope_laws.proofs.MayLeave.{may_leave_law}
-use Rattle.scope_laws.proofs.Numbers.{true_by}
+use Rattle.scope_laws.proofs.MadeCopies.{true_by}
 use Rattle.scope_laws.proofs.Opened.{leaving_refines}
 use Rattle.scope_laws.proofs.Scopes.{joined_binders}
 use Rattle.scope_laws.proofs.Unrolled.{copies_may_stand}
@@ -38,12 +39,9 @@ use Rattle.scope_laws.proofs.Unrolled.{copies_may_stand}
 pub made_copies_are_copies : MadeCopiesAreCopies
 made_copies_are_copies i b [] first s may = tt
 made_copies_are_copies i b (n ∷ ns) first s may =
-    let d = substituted i (Lit n) b in (
-      record {
-        to = ids first d s may.0;
-        moves = moved first d s may.0;
-        is = copy_is_renaming d first (ids first d s may.0) (numbered first d s may.0) may.0.unused;
-      },
+    let d = substituted i (Lit n) b in
+    let alike = copies_run_alike (world_of (λ f. Index) []) first d s may.0 in (
+      record { to = alike.ids; moves = alike.moves; is = alike.is_copy },
       made_copies_are_copies i b ns (first + length (code.binders d)) s may.1,
     )
 

@@ -10,8 +10,8 @@ use Rattle.meaning_laws.specs.Context.{ComesTo}
 use Rattle.meaning_laws.specs.Sorted.{MayRun}
 use Rattle.meaning_laws.specs.Sound.{IsUnbound}
 use Rattle.meaning_laws.specs.Substitute.{catches}
-use Rattle.scope_laws.specs.Copies.{AllMayBeCopied, copies_from}
-use Rattle.scope_laws.specs.CopiesAtPlaces.{IsBelow}
+use Rattle.meaning_laws.specs.FreshCopies.{AllMayBeCopied, copies_from}
+use Rattle.meaning_laws.specs.FreshCopies.{IsBelow}
 use Rattle.scope_laws.specs.Scopes.{joined_all}
 use Rattle.scope_laws.specs.Unrolled.{AreCopies}
 

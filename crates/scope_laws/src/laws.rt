@@ -40,29 +40,16 @@ ghost use Rattle.scope_laws.specs.Turns.{SteadyInLoop};
 ghost use Rattle.scope_laws.specs.Turns.{LiftBranch};
 ghost use Rattle.scope_laws.specs.Turns.{LiftThen};
 ghost use Rattle.scope_laws.specs.Turns.{SwapBranches};
-ghost use Rattle.scope_laws.specs.Substitution.{SubstitutionKeepsBinders};
-ghost use Rattle.scope_laws.specs.Substitution.{SubstitutionMentionsNoMore};
-ghost use Rattle.scope_laws.specs.Copies.{OneListOfBinders};
-ghost use Rattle.scope_laws.specs.Copies.{CopyIsRenaming};
-ghost use Rattle.scope_laws.specs.Copies.{CopiesRunAlike};
-ghost use Rattle.scope_laws.specs.Copies.{ClosedCopiesAreSame};
-ghost use Rattle.scope_laws.specs.Copies.{CopiesBindNewNumbers};
-ghost use Rattle.scope_laws.specs.Copies.{MayCopyBehind};
-ghost use Rattle.scope_laws.specs.Copies.{MayCopyNext};
-ghost use Rattle.scope_laws.specs.Copies.{MayCopyInTurn};
-ghost use Rattle.scope_laws.specs.Copies.{MayCopySubstituted};
-ghost use Rattle.scope_laws.specs.CopiesAtPlaces.{PlacesMayCopy};
-ghost use Rattle.scope_laws.specs.CopiesAtPlaces.{OldMayBeCopied};
 ghost use Rattle.scope_laws.specs.Bare.{NamesIgnored};
 ghost use Rattle.scope_laws.specs.Bare.{SameButForNames};
-ghost use Rattle.scope_laws.specs.Copies.{ScopedCopiesAreSame};
 ghost use Rattle.scope_laws.specs.Bare.{NamesKeepRefinement};
-ghost use Rattle.scope_laws.specs.CopiesAtPlaces.{OldIsMade};
-ghost use Rattle.scope_laws.specs.CopiesAtPlaces.{SubstitutedIsMade};
-ghost use Rattle.scope_laws.specs.CopiesAtPlaces.{PlacesMayCopyAll};
-ghost use Rattle.scope_laws.specs.CopiesAtPlaces.{MadeCopiesAreApart};
+ghost use Rattle.scope_laws.specs.MadeCopies.{MadeCopiesAreApart};
 ghost use Rattle.scope_laws.specs.UnrollLoop.{MadeCopiesAreCopies};
 ghost use Rattle.scope_laws.specs.UnrollLoop.{UnrollLaw};
+ghost use Rattle.scope_laws.specs.BranchesAtPlaces.{TakenBranchLaw};
+ghost use Rattle.scope_laws.specs.BranchesAtPlaces.{LoopOfNone};
+ghost use Rattle.scope_laws.specs.BranchesAtPlaces.{SpecializeLaw};
+ghost use Rattle.scope_laws.specs.BranchesAtPlaces.{LiftLaw};
 
 // ---- places
 
@@ -271,75 +258,6 @@ pub fn swap_branches()
 
 // ---- copies
 
-/// A block with an expression for a variable has the binders that it had.
-pub fn substitution_keeps_binders()
-    ensures { SubstitutionKeepsBinders }
-{}
-
-/// A block with an expression for a variable mentions no name but its own and those of the
-/// expression.
-pub fn substitution_mentions_no_more()
-    ensures { SubstitutionMentionsNoMore }
-{}
-
-/// The binders of a block are the same for code and for the laws.
-pub fn binders_are_one_list()
-    ensures { OneListOfBinders }
-{}
-
-/// A copy that is numbered from a number on is a renaming, where the block has none of the new
-/// numbers.
-pub fn copies_are_renamings()
-    ensures { CopyIsRenaming }
-{}
-
-/// A copy does what the block does, in each state in which the new numbers and the binders
-/// stand for nothing.
-pub fn copies_run_alike()
-    ensures { CopiesRunAlike }
-{}
-
-/// A copy of a block that binds no name behind it does exactly the same.
-pub fn closed_copies_are_same()
-    ensures { ClosedCopiesAreSame }
-{}
-
-/// The binders of a copy have the new numbers.
-pub fn copies_bind_new_numbers()
-    ensures { CopiesBindNewNumbers }
-{}
-
-/// A block that may be copied may be copied behind one that binds none of the ids concerned.
-pub fn blocks_may_be_copied_behind_others()
-    ensures { MayCopyBehind }
-{}
-
-/// Copies of one block, and of blocks with its binders, may stand one behind the other.
-pub fn copies_may_follow_copies()
-    ensures { MayCopyNext }
-{}
-
-/// A block that may be copied may be copied in a turn of a loop over another variable.
-pub fn blocks_may_be_copied_in_turns()
-    ensures { MayCopyInTurn }
-{}
-
-/// A block that may be copied may be copied with an expression for a variable.
-pub fn substituted_blocks_may_be_copied()
-    ensures { MayCopySubstituted }
-{}
-
-/// A block whose binders are those of what stands in a hole may be copied there, from a number
-/// on that the procedure does not reach.
-pub fn blocks_may_be_copied_at_places()
-    ensures { PlacesMayCopy }
-{}
-
-/// What stands in a hole may be copied there, from a number on that the procedure does not reach.
-pub fn old_blocks_may_be_copied()
-    ensures { OldMayBeCopied }
-{}
-
 /// A run does not see the names of binders.
 pub fn names_are_not_seen()
     ensures { NamesIgnored }
@@ -350,34 +268,12 @@ pub fn blocks_with_other_names_do_the_same()
     ensures { SameButForNames }
 {}
 
-/// Copies of blocks, numbered one behind the other, do the same as the blocks, each in a scope
-/// of its own.
-pub fn scoped_copies_are_same()
-    ensures { ScopedCopiesAreSame }
-{}
-
 /// What refines a procedure refines it under other names of binders.
 pub fn names_keep_refinement()
     ensures { NamesKeepRefinement }
 {}
 
-/// What stands in a hole has no number that the procedure does not reach.
-pub fn old_blocks_are_made_of_themselves()
-    ensures { OldIsMade }
-{}
-
-/// A block with an expression for a variable is made of what the block is made of.
-pub fn substituted_blocks_are_made_of_them()
-    ensures { SubstitutedIsMade }
-{}
-
-/// Any number of blocks that are made of what stands in a hole may be copied there, one behind
-/// the other.
-pub fn all_blocks_may_be_copied_at_places()
-    ensures { PlacesMayCopyAll }
-{}
-
-/// Of such copies none mentions a name that one before it leaves.
+/// Of copies that are numbered one behind the other none mentions a name that one before it leaves.
 pub fn made_copies_are_apart()
     ensures { MadeCopiesAreApart }
 {}
@@ -391,4 +287,26 @@ pub fn made_copies_are_copies()
 /// the procedure does not reach.
 pub fn loops_are_unrolled()
     ensures { UnrollLaw }
+{}
+
+// ---- branches at a place
+
+/// Where it is known which way a condition goes, the branch that is taken may stand for it.
+pub fn taken_branches_stay()
+    ensures { TakenBranchLaw }
+{}
+
+/// A loop that has no turn may be left out.
+pub fn loops_of_none_go()
+    ensures { LoopOfNone }
+{}
+
+/// A condition with a block and a copy of it may stand for the block.
+pub fn blocks_are_specialized()
+    ensures { SpecializeLaw }
+{}
+
+/// A condition that stays in a loop may stand round a loop over each branch, the second a copy.
+pub fn branches_are_lifted()
+    ensures { LiftLaw }
 {}

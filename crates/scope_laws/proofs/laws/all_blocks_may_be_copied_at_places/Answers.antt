@@ -1,5 +1,0 @@
-use Rattle.scope_laws.proofs.CopiesAtPlaces.{places_may_copy_all}
-use Rattle.scope_laws.proofs.laws.all_blocks_may_be_copied_at_places.Goals as goal
-
-pub returns : goal.returns
-returns c = places_may_copy_all

@@ -1,5 +1,0 @@
-use Rattle.scope_laws.proofs.Copies.{copy_is_renaming}
-use Rattle.scope_laws.proofs.laws.copies_are_renamings.Goals as goal
-
-pub returns : goal.returns
-returns c = copy_is_renaming

@@ -1,5 +1,0 @@
-use Rattle.scope_laws.proofs.CopiesAtPlaces.{may_copy_next}
-use Rattle.scope_laws.proofs.laws.copies_may_follow_copies.Goals as goal
-
-pub returns : goal.returns
-returns c = may_copy_next

@@ -1,5 +1,0 @@
-use Rattle.scope_laws.proofs.CopiesAtPlaces.{old_is_made}
-use Rattle.scope_laws.proofs.laws.old_blocks_are_made_of_themselves.Goals as goal
-
-pub returns : goal.returns
-returns c = old_is_made

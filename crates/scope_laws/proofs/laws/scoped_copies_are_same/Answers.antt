@@ -1,5 +1,0 @@
-use Rattle.scope_laws.proofs.CopiesInScopes.{scoped_copies_are_same}
-use Rattle.scope_laws.proofs.laws.scoped_copies_are_same.Goals as goal
-
-pub returns : goal.returns
-returns c = scoped_copies_are_same

@@ -1,5 +1,0 @@
-use Rattle.scope_laws.proofs.CopiesAtPlaces.{may_copy_substituted}
-use Rattle.scope_laws.proofs.laws.substituted_blocks_may_be_copied.Goals as goal
-
-pub returns : goal.returns
-returns c = may_copy_substituted
