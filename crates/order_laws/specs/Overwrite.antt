@@ -49,9 +49,11 @@ pub record LooksAway (fields : List ConfigField) (memories : ℕ) (ps : List Pro
 
 -- what such a block sets does not depend on what these buffers and the dead fields held
 abbrev pub OverwriteLaw : Type 0
-OverwriteLaw = (fields : List ConfigField) (memories : ℕ) (ps : List Procedure)
-    (root : ℕ → ℕ) (b : Block) (buffers out : ℕ → Bool) (s t : State)
-    → LooksAway fields memories ps root b buffers → HasRoots root s.scene
+OverwriteLaw =
+    (fields : List ConfigField) (memories : ℕ) (ps : List Procedure) (root : ℕ → ℕ) (b : Block)
+    (buffers out : ℕ → Bool) (s t : State)
+    → LooksAway fields memories ps root b buffers
+    → HasRoots root s.scene
     → DifferIn (λ f. live (unit_live ps) f b (out f)) buffers s t
     → let world = unit_world (kinds_of fields) ps in
     Both (λ u v. SetAlike s t u v × DifferIn out buffers u v) (run world b s) (run world b t)
@@ -74,18 +76,21 @@ pub record MayRepeat (fields : List ConfigField) (memories : ℕ) (ps : List Pro
 
 -- a second run in a scope of its own, from the state that the first one left, changes nothing
 abbrev pub RepeatLaw : Type 0
-RepeatLaw = (fields : List ConfigField) (memories : ℕ) (ps : List Procedure)
-    (root : ℕ → ℕ) (b : Block) (s : State)
+RepeatLaw =
+    (fields : List ConfigField) (memories : ℕ) (ps : List Procedure) (root : ℕ → ℕ) (b : Block)
+    (s : State)
     → MayRepeat fields memories ps root b s
     → let once = scoped (run (unit_world (kinds_of fields) ps) b) in
     IfSome (once s) (λ t. once t ≡ Some t)
 
 -- a loop with turns, whose body lacks the variable, is its body in a scope of its own
 abbrev pub RemoveLoopLaw : Type 0
-RemoveLoopLaw = (fields : List ConfigField) (memories : ℕ) (ps : List Procedure)
-    (root : ℕ → ℕ) (i : Binder) (lo hi : Control) (b : Block) (s : State)
+RemoveLoopLaw =
+    (fields : List ConfigField) (memories : ℕ) (ps : List Procedure) (root : ℕ → ℕ) (i : Binder)
+    (lo hi : Control) (b : Block) (s : State)
     → MayRepeat fields memories ps root b s
-    → in_block (λ x. x == i.id) b ≡ false → s.scene.buffers i.id ≡ None
+    → in_block (λ x. x == i.id) b ≡ false
+    → s.scene.buffers i.id ≡ None
     → holds s.scene (Lt lo hi) ≡ true
     → let world = unit_world (kinds_of fields) ps in
     step world (For i lo hi b) s ≡ scoped (run world b) s

@@ -37,10 +37,14 @@ pub record IsIdempotent (fields : List ConfigField) (ps : List Procedure) (p : P
 
 -- where it has turns, such a loop is its body in a scope of its own, faults included
 abbrev pub RemoveLoopAtLaw : Type 0
-RemoveLoopAtLaw = (fields : List ConfigField) (memories : ℕ) (ps : List Procedure) (p : Procedure)
-    (c : Context) (i : Binder) (lo hi : Control) (b : Block) (s u : State)
-    → MayRun fields memories ps p → IsIdempotent fields ps p c i b
+RemoveLoopAtLaw =
+    (fields : List ConfigField) (memories : ℕ) (ps : List Procedure) (p : Procedure) (c : Context)
+    (i : Binder) (lo hi : Control) (b : Block) (s u : State)
+    → MayRun fields memories ps p
+    → IsIdempotent fields ps p c i b
     → let world = unit_world (kinds_of fields) ps in
     let old = next (For i lo hi b) end in
-    HoldsAt world p old c (Lt lo hi) → IsAdmissible world p s → ComesTo world old c s u
+    HoldsAt world p old c (Lt lo hi)
+    → IsAdmissible world p s
+    → ComesTo world old c s u
     → run world old u ≡ scoped (run world b) u

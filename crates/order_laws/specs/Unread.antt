@@ -6,5 +6,7 @@ use Rattle.meaning_laws.specs.UnitFields.{unit_live}
 use Rattle.config_state.specs.Reads.{reads_field, unit_reads}
 
 abbrev pub UnreadLaw : Type 0
-UnreadLaw = (ps : List Procedure) (f : ℕ) (b : Block)
-    → reads_field (unit_reads ps) f b ≡ false → live (unit_live ps) f b false ≡ false
+UnreadLaw =
+    (ps : List Procedure) (f : ℕ) (b : Block)
+    → reads_field (unit_reads ps) f b ≡ false
+    → live (unit_live ps) f b false ≡ false

@@ -1,11 +1,12 @@
 -- half(x: i32[8]) sets each even cell to 7, and is staged.
-use Rattle.std.proofs.Common.{◌∙◌, ap, ◌≡◌, ℕ, ℤ, pos, ◌==◌, Bool, true, false, cond, List, [], ◌∷◌}
+use Rattle.std.proofs.Common.{◌||◌, ◌∙◌, ap, ◌≡◌, ℕ, ℤ, pos, ◌==◌, Bool, true, false, cond, List}
+use Rattle.std.proofs.Common.{[], ◌∷◌}
 use Rattle.std.proofs.Common.{Option, Some, None, IfSome, IsSome, option_map, refl, sym, subst}
 use Rattle.std.proofs.Common.{true≢false}
 use Rattle.std.proofs.Common.{eqb-true}
 use Rattle.std.specs.Int.{int_wrap}
 use Rattle.exo_tree.specs.Tree.{Binder, I32, Index, Lit, Var, Sub, Mul, Const, Read, Coord, Span}
-use Rattle.exo_tree.specs.Tree.{Window, Alloc}
+use Rattle.exo_tree.specs.Tree.{Window, Alloc, Pass}
 use Rattle.exo_tree.specs.Tree.{Assign, For, Block, end, next}
 use Rattle.exo_meaning.specs.Value.{Value, Undefined, Number, stored_as}
 use Rattle.exo_meaning.specs.Scene.{Seen, Shape, Range, then_do, numbers, updated, window, cell_at}
@@ -23,6 +24,10 @@ use Rattle.staging_laws.specs.Alone.{IsAlone, has_root}
 use Rattle.staging_laws.specs.Inside.{AreOverSpans}
 use Rattle.staging_laws.specs.Converted.{converted, FitsWithin, IsNewName}
 use Rattle.staging_laws.specs.Whole.{MayConvert, Follows}
+use Rattle.staging_laws.specs.Replaced.{Hides, between}
+use Rattle.staging_laws.proofs.Replaced.{alike_replaces, staged_replaces}
+use Rattle.meaning_laws.specs.Context.{MayReplace}
+use Rattle.meaning_laws.specs.Sound.{IsUnbound}
 use Rattle.staging_laws.proofs.Whole.{viewed_law, staged_block_law, staged_reader_law}
 use Rattle.staging_laws.proofs.Converted.{fits_law, converted_along, converted_law}
 use Rattle.staging_laws.proofs.Box.{box_law, no_store_law}
@@ -510,3 +515,69 @@ behind_loads = staged_reader_law (λ y. y == 1) world (λ y. y) (binder 1) (Lit 
     (all_of 10) eight coords loops (reader 10) first may_convert_reader
     (alone_if (converted 1 10 coords (reader 10)) refl refl) refl may_go_round.before
     may_go_round.fit refl
+
+-- ---- and in the place of the block
+
+they_hide : Hides (λ y. y == 1) (halves 10)
+    (between (binder 1) (Lit (pos 8) ∷ []) 0 10 eight coords loops on_t) first
+they_hide = record {
+  none = record {
+    sound = alone.sound;
+    unbound = λ y e. subst (IsUnbound first)
+        (sym (eqb-true y 1 e)) alone.new;
+  };
+  of_old = λ y e. absurd (true≢false (sym e));
+  of_new = λ y e. either (y == 1) e;
+}
+  where
+    either : (t : Bool) → (t || false) ≡ true → t ≡ true
+    either true e = refl
+    either false e = e
+
+it_may_stand : MayReplace world (λ y. y == 1) (halves 10)
+    (between (binder 1) (Lit (pos 8) ∷ []) 0 10 eight coords loops on_t) first
+it_may_stand = staged_replaces (λ y. y == 1) (λ y. y == 1) world (λ y. y) (binder 1)
+    (Lit (pos 8) ∷ []) 0 10 (all_of 10) eight coords loops (halves 10) first may_convert
+    (alone_if on_t refl refl) goes_on_t they_hide
+
+-- a block that does nothing may stand for one that allocates y: both leave all of before
+by_alike_ends : MayReplace world (λ y. y == 5) (next (Alloc (binder 5) I32 [] 0) end)
+    (next Pass end)
+    first
+by_alike_ends = alike_replaces world (λ y. y == 5) (next (Alloc (binder 5) I32 [] 0) end)
+    (next Pass end) first (record {
+      none = record {
+        sound = alone.sound;
+        unbound = λ y e. subst (IsUnbound first)
+            (sym (eqb-true y 5 e)) (record { control = refl; buffers = refl; views = refl });
+      };
+      of_old = λ y e. either (y == 5) e;
+      of_new = λ y e. absurd (true≢false (sym e));
+    })
+    (λ t u e f. record {
+      fields = ap (λ (v : State). v.scene.fields) (one_value u first (sym f))
+          ∙ ap (λ o. fields_of o) e;
+      cells = λ y at i. ap (λ (v : State). v.cells y at) (one_value u first (sym f))
+          ∙ sym (unmade y at i (y == 5) refl) ∙ ap (λ o. cells_of o y at) e;
+    })
+  where
+    either : (t : Bool) → (t || false) ≡ true → t ≡ true
+    either true e = refl
+    either false e = e
+
+    fields_of : Option State → ℕ → ℤ
+    fields_of None = first.scene.fields
+    fields_of (Some v) = v.scene.fields
+
+    cells_of : Option State → ℕ → List ℤ → Value
+    cells_of None = first.cells
+    cells_of (Some v) = v.cells
+
+    not_there : (y : ℕ) → IsSome (first.scene.buffers y) → (y == 5) ≡ true → ⊥
+    not_there y i e =
+        true≢false (sym (subst (λ z. IsSome (first.scene.buffers z)) (eqb-true y 5 e) i))
+
+    unmade : (y : ℕ) (at : List ℤ) → IsSome (first.scene.buffers y) → (r : Bool) → (y == 5) ≡ r
+        → cond {A = List ℤ → Value} r (λ to. Undefined) (first.cells y) at ≡ first.cells y at
+    unmade y at i false e = refl
+    unmade y at i true e = absurd (not_there y i e)

@@ -169,7 +169,8 @@ run_over (l ∷ ls) ds scene h =
       ap head_of e,
       λ n. more ds n
           (any_map ls (λ z. numbers z (extents_of (l ∷ ls)) ≡ d ∷ ds)
-          (λ z. numbers z (extents_of ls) ≡ ds) (with_control l.binder.id n scene) (λ z. ap tail_of) (h n)),
+          (λ z. numbers z (extents_of ls) ≡ ds) (with_control l.binder.id n scene) (λ z. ap tail_of)
+          (h n)),
     )
 
 pub spans_law : SpansLaw

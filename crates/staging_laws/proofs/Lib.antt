@@ -9,4 +9,5 @@ pub mod Behind
 pub mod Converted
 pub mod Gone
 pub mod Whole
+pub mod Replaced
 pub mod Examples

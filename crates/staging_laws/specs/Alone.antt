@@ -15,9 +15,11 @@ use Rattle.inplace_laws.specs.Staged.{MayStage}
 -- where no name that is not hidden has the root y, a block without hidden names does not write y
 abbrev pub UnwrittenLaw : Type 0
 UnwrittenLaw =
-    (hidden blind : ℕ → Bool) (world : World) (root : ℕ → ℕ) (b : Block) (y : ℕ) →
-    hidden y ≡ true → ((x : ℕ) → hidden x ≡ false → (y == root x) ≡ false) →
-    in_block hidden blind b ≡ false → writes world root b y ≡ false
+    (hidden blind : ℕ → Bool) (world : World) (root : ℕ → ℕ) (b : Block) (y : ℕ)
+    → hidden y ≡ true
+    → ((x : ℕ) → hidden x ≡ false → (y == root x) ≡ false)
+    → in_block hidden blind b ≡ false
+    → writes world root b y ≡ false
 
 -- ---- a block on a staged buffer
 
@@ -44,6 +46,7 @@ pub record IsAlone (blind : ℕ → Bool) (root : ℕ → ℕ) (a : ℕ) (seen :
 abbrev pub AloneLaw : Type 0
 AloneLaw =
     (blind : ℕ → Bool) (world : World) (root : ℕ → ℕ) (a : ℕ) (seen : Seen) (to : Shape)
-    (b : Block) (s : State) →
-    IsAlone blind root a seen to b s →
-    MayStage (has_root (updated root a a) seen.buffer) blind world (updated root a a) a seen to b s
+    (b : Block) (s : State)
+    → IsAlone blind root a seen to b s
+    → let roots = updated root a a in
+    MayStage (has_root roots seen.buffer) blind world roots a seen to b s

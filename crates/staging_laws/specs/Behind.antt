@@ -27,10 +27,13 @@ pub record IsBetween (a x : ℕ) (seen : Seen) (coords : List Coord) (b : Block)
 abbrev pub BehindLaw : Type 0
 BehindLaw =
     (world : World) (a x : ℕ) (seen : Seen) (coords : List Coord) (ls : List Loop) (b : Block)
-    (s t : State) →
-    IsSound s → IsStaging a x seen coords ls s → IsBetween a x seen coords b →
-    run world b s ≡ Some t → AreOverSpans ls coords t.scene →
-    IsStaging a x seen coords ls t
+    (s t : State)
+    → IsSound s
+    → IsStaging a x seen coords ls s
+    → IsBetween a x seen coords b
+    → run world b s ≡ Some t
+    → AreOverSpans ls coords t.scene
+    → IsStaging a x seen coords ls t
 
 -- ---- the whole, from what is known at the place
 
@@ -48,10 +51,11 @@ abbrev pub RoundLaw : Type 0
 RoundLaw =
     (blind : ℕ → Bool) (world : World) (root : ℕ → ℕ) (a : Binder) (dims : List Control)
     (memory x : ℕ) (seen : Seen) (to : Shape) (coords : List Coord) (ls : List Loop) (b : Block)
-    (s : State) →
-    IsAlone blind root a.id seen to b s →
-    MayGoRound world a dims x seen to coords ls b s →
+    (s : State)
+    → IsAlone blind root a.id seen to b s
+    → MayGoRound world a dims x seen to coords ls b s
+    → let loads = next (Alloc a to.cell dims memory) (load_nest a.id x coords ls) in
+    let stores = store_nest a.id x coords ls in
     Both (AreAlike s)
-    (then_do (run world (next (Alloc a to.cell dims memory) (load_nest a.id x coords ls)) s)
-    (λ t. then_do (run world b t) (run world (store_nest a.id x coords ls))))
+    (then_do (run world loads s) (λ t. then_do (run world b t) (run world stores)))
     (run world b (on_scene (with_view a.id seen) s))

@@ -23,11 +23,12 @@ pub record AreOverSpans (ls : List Loop) (coords : List Coord) (scene : Scene) :
 -- they run over the spans' numbers, and see the same window at all turns
 abbrev pub SpansLaw : Type 0
 SpansLaw =
-    (x : ℕ) (coords : List Coord) (ls : List Loop) (scene : Scene) →
-    AreOverSpans ls coords scene →
-    RunOver ls (numbers scene (spans coords)) scene
-    × ((seen : Seen) → window scene x coords ≡ Some seen →
-    AtAny ls (λ z. window z x coords ≡ Some seen) scene)
+    (x : ℕ) (coords : List Coord) (ls : List Loop) (scene : Scene)
+    → AreOverSpans ls coords scene
+    → RunOver ls (numbers scene (spans coords)) scene
+    × ((seen : Seen)
+    → window scene x coords ≡ Some seen
+    → AtAny ls (λ z. window z x coords ≡ Some seen) scene)
 
 -- ---- windows that are there
 
@@ -40,8 +41,10 @@ Uses world x is a =
 -- the window is there
 abbrev pub InsideLaw : Type 0
 InsideLaw =
-    (world : World) (x : ℕ) (coords : List Coord) (ls : List Loop) (a : Statement) (s t : State) →
-    AreDistinct ls → AreOverSpans ls coords s.scene →
-    all_positive (numbers s.scene (spans coords)) ≡ true →
-    Uses world x (shifted coords (variables ls)) a →
-    run world (nest ls a) s ≡ Some t → IsSome (window s.scene x coords)
+    (world : World) (x : ℕ) (coords : List Coord) (ls : List Loop) (a : Statement) (s t : State)
+    → AreDistinct ls
+    → AreOverSpans ls coords s.scene
+    → all_positive (numbers s.scene (spans coords)) ≡ true
+    → Uses world x (shifted coords (variables ls)) a
+    → run world (nest ls a) s ≡ Some t
+    → IsSome (window s.scene x coords)

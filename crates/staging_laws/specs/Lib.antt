@@ -6,3 +6,4 @@ pub mod Reader
 pub mod Behind
 pub mod Converted
 pub mod Whole
+pub mod Replaced

@@ -14,20 +14,23 @@ use Rattle.staging_laws.specs.Stage.{AreAlike}
 -- where all cells fit their types, those of a buffer fit into one of the same type
 abbrev pub FitIntoLaw : Type 0
 FitIntoLaw =
-    (s : State) (b c : ℕ) (shape : Shape) → CellsFit s → s.scene.buffers b ≡ Some shape →
-    ((to : Shape) → s.scene.buffers c ≡ Some to → to.cell ≡ shape.cell) → FitInto s b c
+    (s : State) (b c : ℕ) (shape : Shape)
+    → CellsFit s
+    → s.scene.buffers b ≡ Some shape
+    → ((to : Shape) → s.scene.buffers c ≡ Some to → to.cell ≡ shape.cell)
+    → FitInto s b c
 
 -- without a store nest, for a block that does not write the staged buffer
 abbrev pub ReaderLaw : Type 0
 ReaderLaw =
     (hidden blind : ℕ → Bool) (world : World) (root : ℕ → ℕ) (a : Binder) (dims : List Control)
     (memory x : ℕ) (seen : Seen) (to : Shape) (coords : List Coord) (ls : List Loop) (b : Block)
-    (s : State) →
-    MayStage hidden blind world root a.id seen to b s →
-    numbers s.scene dims ≡ extents seen.sides →
-    IsStaging a.id x seen coords ls (emptied a.id to.cell (extents seen.sides) s) →
-    FitInto s seen.buffer seen.buffer → writes world root b a.id ≡ false →
-    Both (AreAlike s)
-    (then_do (run world (next (Alloc a to.cell dims memory) (load_nest a.id x coords ls)) s)
-    (run world b))
+    (s : State)
+    → MayStage hidden blind world root a.id seen to b s
+    → numbers s.scene dims ≡ extents seen.sides
+    → IsStaging a.id x seen coords ls (emptied a.id to.cell (extents seen.sides) s)
+    → FitInto s seen.buffer seen.buffer
+    → writes world root b a.id ≡ false
+    → let loads = next (Alloc a to.cell dims memory) (load_nest a.id x coords ls) in
+    Both (AreAlike s) (then_do (run world loads s) (run world b))
     (run world b (on_scene (with_view a.id seen) s))

@@ -14,8 +14,9 @@ use Rattle.staging_laws.specs.Inside.{Uses}
 -- the statement of each nest uses x
 abbrev pub UsesLaw : Type 0
 UsesLaw =
-    (world : World) (a x : ℕ) (is js : List Control) (e : Datum) →
-    Uses world x is (Assign a js (Read x is)) × Uses world x is (Assign x is e)
+    (world : World) (a x : ℕ) (is js : List Control) (e : Datum)
+    → Uses world x is (Assign a js (Read x is))
+    × Uses world x is (Assign x is e)
     × Uses world x is (Reduce x is e)
 
 -- the same fields, and the same cells in the buffers of before
@@ -37,10 +38,11 @@ abbrev pub StageLaw : Type 0
 StageLaw =
     (hidden blind : ℕ → Bool) (world : World) (root : ℕ → ℕ) (a : Binder) (dims : List Control)
     (memory x : ℕ) (seen : Seen) (to : Shape) (coords : List Coord) (ls : List Loop) (b : Block)
-    (s : State) →
-    MayStage hidden blind world root a.id seen to b s →
-    MayNest world a dims x seen to coords ls b s →
+    (s : State)
+    → MayStage hidden blind world root a.id seen to b s
+    → MayNest world a dims x seen to coords ls b s
+    → let loads = next (Alloc a to.cell dims memory) (load_nest a.id x coords ls) in
+    let stores = store_nest a.id x coords ls in
     Both (AreAlike s)
-    (then_do (run world (next (Alloc a to.cell dims memory) (load_nest a.id x coords ls)) s)
-    (λ t. then_do (run world b t) (run world (store_nest a.id x coords ls))))
+    (then_do (run world loads s) (λ t. then_do (run world b t) (run world stores)))
     (run world b (on_scene (with_view a.id seen) s))

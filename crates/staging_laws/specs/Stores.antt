@@ -73,20 +73,22 @@ FitInto s b c =
 -- the store nest copies the staged buffer back into the window
 abbrev pub StoresLaw : Type 0
 StoresLaw =
-    (world : World) (a x : ℕ) (seen : Seen) (coords : List Coord) (ls : List Loop) (s : State) →
-    IsStaging a x seen coords ls s → FitInto s a seen.buffer →
-    run world (store_nest a x coords ls) s
+    (world : World) (a x : ℕ) (seen : Seen) (coords : List Coord) (ls : List Loop) (s : State)
+    → IsStaging a x seen coords ls s
+    → FitInto s a seen.buffer
+    → run world (store_nest a x coords ls) s
     ≡ Some (record s { cells = copy_back true (GivenView seen) (s.cells a) s.cells })
 
 -- the load nest gives an empty buffer of the window's extents the window's contents
 abbrev pub LoadsLaw : Type 0
 LoadsLaw =
     (world : World) (a x : ℕ) (cell : Cell) (seen : Seen) (coords : List Coord) (ls : List Loop)
-    (s : State) →
-    IsStaging a x seen coords ls s → FitInto s seen.buffer a →
-    s.scene.buffers a ≡ Some (tensor cell (extents seen.sides)) →
-    ((at : List ℤ) → s.cells a at ≡ Undefined) →
-    run world (load_nest a x coords ls) s ≡ Some (with_contents a (contents s.cells seen) s)
+    (s : State)
+    → IsStaging a x seen coords ls s
+    → FitInto s seen.buffer a
+    → s.scene.buffers a ≡ Some (tensor cell (extents seen.sides))
+    → ((at : List ℤ) → s.cells a at ≡ Undefined)
+    → run world (load_nest a x coords ls) s ≡ Some (with_contents a (contents s.cells seen) s)
 
 -- ---- the box
 
@@ -99,9 +101,9 @@ spans (Span u v ∷ cs) = Sub v u ∷ spans cs
 -- the spans' extents are those of the window, and each is at least 1
 abbrev pub BoxLaw : Type 0
 BoxLaw =
-    (scene : Scene) (x : ℕ) (coords : List Coord) (seen : Seen) →
-    window scene x coords ≡ Some seen →
-    (numbers scene (spans coords) ≡ extents seen.sides)
+    (scene : Scene) (x : ℕ) (coords : List Coord) (seen : Seen)
+    → window scene x coords ≡ Some seen
+    → (numbers scene (spans coords) ≡ extents seen.sides)
     × (all_positive (extents seen.sides) ≡ true)
 
 -- ---- the way in
@@ -115,12 +117,12 @@ emptied a cell dims s =
 abbrev pub StageInLaw : Type 0
 StageInLaw =
     (world : World) (a : Binder) (dims : List Control) (memory x : ℕ) (seen : Seen) (to : Shape)
-    (coords : List Coord) (ls : List Loop) (s : State) →
-    numbers s.scene dims ≡ extents seen.sides →
-    s.scene.buffers seen.buffer ≡ Some to →
-    IsStaging a.id x seen coords ls (emptied a.id to.cell (extents seen.sides) s) →
-    FitInto s seen.buffer seen.buffer →
-    run world (next (Alloc a to.cell dims memory) (load_nest a.id x coords ls)) s
+    (coords : List Coord) (ls : List Loop) (s : State)
+    → numbers s.scene dims ≡ extents seen.sides
+    → s.scene.buffers seen.buffer ≡ Some to
+    → IsStaging a.id x seen coords ls (emptied a.id to.cell (extents seen.sides) s)
+    → FitInto s seen.buffer seen.buffer
+    → run world (next (Alloc a to.cell dims memory) (load_nest a.id x coords ls)) s
     ≡ Some (staged a.id seen to s)
 
 -- ---- a block that only reads
@@ -128,9 +130,11 @@ StageInLaw =
 -- nothing has to be copied back
 abbrev pub NoStoreLaw : Type 0
 NoStoreLaw =
-    (world : World) (root : ℕ → ℕ) (a : ℕ) (seen : Seen) (to : Shape) (b : Block) (s : State) →
-    HasRoots root (staged a seen to s).scene →
-    IsSome (s.scene.buffers seen.buffer) → (seen.buffer == a) ≡ false →
-    writes world root b a ≡ false → writes world root b seen.buffer ≡ false →
-    IfSome (run world b (staged a seen to s)) (λ t.
-    copy_back true (GivenView seen) (t.cells a) t.cells ≡ t.cells)
+    (world : World) (root : ℕ → ℕ) (a : ℕ) (seen : Seen) (to : Shape) (b : Block) (s : State)
+    → HasRoots root (staged a seen to s).scene
+    → IsSome (s.scene.buffers seen.buffer)
+    → (seen.buffer == a) ≡ false
+    → writes world root b a ≡ false
+    → writes world root b seen.buffer ≡ false
+    → IfSome (run world b (staged a seen to s))
+    (λ t. copy_back true (GivenView seen) (t.cells a) t.cells ≡ t.cells)

@@ -21,6 +21,8 @@ ghost use Rattle.staging_laws.specs.Converted.{ConvertedLaw};
 ghost use Rattle.staging_laws.specs.Whole.{ViewedLaw};
 ghost use Rattle.staging_laws.specs.Whole.{StagedBlockLaw};
 ghost use Rattle.staging_laws.specs.Whole.{StagedReaderLaw};
+ghost use Rattle.staging_laws.specs.Replaced.{AlikeReplaces};
+ghost use Rattle.staging_laws.specs.Replaced.{StagedReplaces};
 
 /// The store nest copies the staged buffer back into the window.
 pub fn stores_copy_back()
@@ -125,4 +127,14 @@ pub fn blocks_may_be_staged()
 /// A block that only reads is staged without a store nest.
 pub fn reading_blocks_may_be_staged()
     ensures { StagedReaderLaw }
+{}
+
+/// A block may stand for another that ends with the same fields and cells, but for hidden names.
+pub fn blocks_with_alike_ends_may_be_replaced()
+    ensures { AlikeReplaces }
+{}
+
+/// The converted block between the two nests may stand for the block.
+pub fn staged_blocks_may_stand()
+    ensures { StagedReplaces }
 {}
