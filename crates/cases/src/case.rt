@@ -42,17 +42,19 @@ pub struct Case {
     pub parts: Vec<Part>,
     /// Whether each line is one that a case may have.
     pub is_clear: bool,
+    /// Whether it has begun.
+    pub has_begun: bool,
 }
 
 /// How many bytes a sink takes where a case does not say.
 pub const ROOM: usize = 65536;
 
 impl Case {
-    /// A case of that name without words and files.
-    pub fn new(alloc: Global, name: &str) -> Result<Case, AllocError> {
-        Ok(Case {
+    /// A case that has not begun.
+    pub fn new(alloc: Global) -> Case {
+        Case {
             alloc,
-            name: String::from_str(alloc, name)?,
+            name: String::new(alloc),
             words: Vec::new(alloc),
             status: 0,
             room: ROOM,
@@ -60,7 +62,23 @@ impl Case {
             puts: Vec::new(alloc),
             parts: Vec::new(alloc),
             is_clear: true,
-        })
+            has_begun: false,
+        }
+    }
+
+    /// Begins a case of that name, without words and files.
+    pub fn begin(&mut self, name: &str) -> Result<(), AllocError> {
+        self.name.clear();
+        self.name.push_str(name)?;
+        self.words.clear();
+        self.status = 0;
+        self.room = ROOM;
+        self.reads.clear();
+        self.puts.clear();
+        self.parts.clear();
+        self.is_clear = true;
+        self.has_begun = true;
+        Ok(())
     }
 
     /// Takes a line of the case.

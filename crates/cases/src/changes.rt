@@ -5,7 +5,7 @@
 // it stands the place: that of the byte where none is written, `+` the byte behind it, `8` column 8 of its line, `9:8` column 8 of line
 // 9. `12*S` is the answer `S` at twelve bytes in a row; `/` ends a line of the text, and counts for nothing.
 use crate::case::{Case, Wanted};
-use crate::run::run;
+use crate::run::has_left;
 use std::alloc::{AllocError, Global};
 use std::thread::Threads;
 
@@ -19,33 +19,41 @@ enum Change {
     Replace(u8),
 }
 
+/// The bytes that replace one, by the names of the changes.
+const REPLACED: [(&str, u8); 18] = [
+    ("dollar", b'$'),
+    ("tab", b'\t'),
+    ("line-end", b'\n'),
+    ("return", b'\r'),
+    ("blank", b' '),
+    ("zero", b'0'),
+    ("nine", b'9'),
+    ("letter", b'a'),
+    ("underscore", b'_'),
+    ("open", b'('),
+    ("close", b']'),
+    ("colon", b':'),
+    ("equals", b'='),
+    ("less", b'<'),
+    ("comment", b'#'),
+    ("quote", b'"'),
+    ("delete", 0x7F),
+    ("foreign", 0x80),
+];
+
 /// The change of that name.
 fn change_of(name: &str) -> Option<Change> {
-    let byte = match name {
-        "cut" => return Some(Change::Cut),
-        "deleted" => return Some(Change::Delete),
-        "doubled" => return Some(Change::Double),
-        "dollar" => b'$',
-        "tab" => b'\t',
-        "line-end" => b'\n',
-        "return" => b'\r',
-        "blank" => b' ',
-        "zero" => b'0',
-        "nine" => b'9',
-        "letter" => b'a',
-        "underscore" => b'_',
-        "open" => b'(',
-        "close" => b']',
-        "colon" => b':',
-        "equals" => b'=',
-        "less" => b'<',
-        "comment" => b'#',
-        "quote" => b'"',
-        "delete" => 0x7F,
-        "foreign" => 0x80,
-        _ => return None,
-    };
-    Some(Change::Replace(byte))
+    for (word, byte) in REPLACED {
+        if word == name {
+            return Some(Change::Replace(byte));
+        }
+    }
+    match name {
+        "cut" => Some(Change::Cut),
+        "deleted" => Some(Change::Delete),
+        "doubled" => Some(Change::Double),
+        _ => None,
+    }
 }
 
 /// The text after a change at a byte.
@@ -148,6 +156,13 @@ fn message_of(alloc: Global, file: &str, answer: &str, spot: Spot) -> Result<Str
     Ok(String::new(alloc))
 }
 
+/// Adds to the report where a change was.
+fn push_place(alloc: Global, spot: Spot, report: &mut String) -> Result<(), AllocError> {
+    let line = spot.line;
+    let column = spot.column;
+    report.push_str(&format!(in alloc; " at {line}:{column}")?)
+}
+
 /// A case whose first file is changed.
 #[derive(Drop)]
 pub struct Sweep<'a> {
@@ -173,28 +188,32 @@ impl<'a> Sweep<'a> {
         })
     }
 
-    /// What is otherwise than an answer says, where the text is changed at a byte.
-    fn difference<R: Threads + Sync + AllocGlobal>(
+    /// What is wanted where an answer is a refusal.
+    fn refusal(&self, alloc: Global, answer: &str, spot: Spot) -> Result<Wanted, AllocError> {
+        let message = message_of(alloc, self.file, answer, spot)?;
+        Ok(Wanted {
+            status: 1,
+            out: Vec::new(alloc),
+            only_end: false,
+            err: message.into_bytes(),
+        })
+    }
+
+    /// Whether the program answers so where the text is changed at a byte; else the report says what it answered.
+    fn answers<R: Threads + Sync + AllocGlobal>(
         &self,
         rt: &R,
         change: Change,
         answer: &str,
         spot: Spot,
-    ) -> Result<Option<&'static str>, AllocError> {
-        let alloc = rt.alloc();
-        let text = changed(alloc, self.text, spot.at, change)?;
-        let outcome = run(rt, self.case, Some(&text))?;
+        report: &mut String,
+    ) -> Result<bool, AllocError> {
+        let text = changed(rt.alloc(), self.text, spot.at, change)?;
         if answer == "." {
-            return Ok(outcome.difference(&self.unchanged));
+            return has_left(rt, self.case, Some(&text), &self.unchanged, report);
         }
-        let message = message_of(alloc, self.file, answer, spot)?;
-        let refused = Wanted {
-            status: 1,
-            out: Vec::new(alloc),
-            only_end: false,
-            err: message.as_bytes().to_vec(alloc)?,
-        };
-        Ok(outcome.difference(&refused))
+        let refused = self.refusal(rt.alloc(), answer, spot)?;
+        has_left(rt, self.case, Some(&text), &refused, report)
     }
 
     /// Runs a change at so many bytes in a row, and adds to the report where it gives something else than the answer.
@@ -212,10 +231,8 @@ impl<'a> Sweep<'a> {
         };
         let mut spot = from;
         for _ in 0..count {
-            if let Some(what) = self.difference(rt, change, answer, spot)? {
-                let line = spot.line;
-                let column = spot.column;
-                report.push_str(&format!(in rt.alloc(); " {line}:{column} {what}")?)?;
+            if !self.answers(rt, change, answer, spot, report)? {
+                push_place(rt.alloc(), spot, report)?;
             }
             spot = spot.next(self.text);
         }

@@ -20,7 +20,7 @@ mod text;
 
 use crate::case::Case;
 use crate::changes::Sweep;
-use crate::run::run;
+use crate::run::has_left;
 use exo_cli::{DiskFiles, Files};
 use std::alloc::{AllocError, Global};
 use std::io;
@@ -63,22 +63,18 @@ fn run_rows<R: Threads + Sync + AllocGlobal>(
     Ok(())
 }
 
-/// What is otherwise than the case says; empty where nothing is.
-fn difference<R: Threads + Sync + AllocGlobal>(rt: &R, case: &Case) -> Result<String, AllocError> {
-    let alloc = rt.alloc();
-    let mut report = String::new(alloc);
+/// Adds to the report what is otherwise than the case says.
+fn push_differences<R: Threads + Sync + AllocGlobal>(
+    rt: &R,
+    case: &Case,
+    report: &mut String,
+) -> Result<(), AllocError> {
     if !case.is_clear {
         report.push_str(" a line that no case has")?;
     }
     let wanted = case.wanted()?;
-    let outcome = run(rt, case, None)?;
-    if let Some(what) = outcome.difference(&wanted) {
-        let status = outcome.status();
-        let message = outcome.message();
-        report.push_str(&format!(in alloc; " {what}; status {status} {message}")?)?;
-    }
-    run_rows(rt, case, &mut report)?;
-    Ok(report)
+    has_left(rt, case, None, &wanted, report)?;
+    run_rows(rt, case, report)
 }
 
 /// Runs a case of a file.
@@ -89,13 +85,14 @@ fn run_case<R: Threads + Sync + AllocGlobal>(
     report: &mut Report,
 ) -> Result<(), AllocError> {
     report.count = report.count.saturating_add(1);
-    let found = difference(rt, case)?;
-    if !found.is_empty() {
-        let name = case.name.as_str();
-        let line = format!(in rt.alloc(); "{file}: {name}:{found}\n")?;
-        report.text.push_str(&line)?;
+    let mut found = String::new(rt.alloc());
+    push_differences(rt, case, &mut found)?;
+    if found.is_empty() {
+        return Ok(());
     }
-    Ok(())
+    let name = case.name.as_str();
+    let line = format!(in rt.alloc(); "{file}: {name}:{found}\n")?;
+    report.text.push_str(&line)
 }
 
 /// Runs the cases of a file.
@@ -103,22 +100,38 @@ fn run_cases<R: Threads + Sync + AllocGlobal>(
     rt: &R,
     file: &str,
     text: &str,
+    case: &mut Case,
     report: &mut Report,
 ) -> Result<(), AllocError> {
-    let mut case = None;
     for line in text.lines() {
         if let Some(name) = line.strip_prefix("== ") {
-            if let Some(ended) = &case {
-                run_case(rt, file, ended, report)?;
+            if case.has_begun {
+                run_case(rt, file, case, report)?;
             }
-            case = Some(Case::new(rt.alloc(), name)?);
-        } else if let Some(open) = &mut case {
-            open.push_line(line)?;
+            case.begin(name)?;
+        } else if case.has_begun {
+            case.push_line(line)?;
         }
     }
-    match &case {
-        Some(last) => run_case(rt, file, last, report),
-        None => Ok(()),
+    if case.has_begun {
+        run_case(rt, file, case, report)?;
+    }
+    Ok(())
+}
+
+/// Runs the cases of a file with these bytes.
+fn run_bytes<R: Threads + Sync + AllocGlobal>(
+    rt: &R,
+    file: &str,
+    bytes: &[u8],
+    report: &mut Report,
+) -> Result<(), AllocError> {
+    match str::from_utf8(bytes) {
+        Ok(text) => {
+            let mut case = Case::new(rt.alloc());
+            run_cases(rt, file, text, &mut case, report)
+        }
+        Err(_) => report.text.push_str("a file is no text\n"),
     }
 }
 
@@ -127,33 +140,39 @@ fn run_files<R: Threads + Sync + AllocGlobal, F: Files>(
     rt: &R,
     files: &mut F,
     names: &str,
+    bytes: &mut Vec<u8>,
     report: &mut Report,
 ) -> Result<(), AllocError> {
-    let mut bytes = Vec::new(rt.alloc());
     for name in names.lines() {
-        let is_read = files.read_file(name, LIMIT, &mut bytes).is_ok();
-        match str::from_utf8(&bytes) {
-            Ok(text) if is_read => run_cases(rt, name, text, report)?,
-            _ => report
-                .text
-                .push_str(&format!(in rt.alloc(); "{name} is not read\n")?)?,
+        match files.read_file(name, LIMIT, bytes) {
+            Ok(()) => run_bytes(rt, name, bytes, report)?,
+            Err(_) => report.text.push_str("a file is not read\n")?,
         }
     }
     Ok(())
 }
 
+/// Runs the cases of the files that `files` names.
+fn run_all<R: Threads + Sync + AllocGlobal, F: Files>(
+    rt: &R,
+    files: &mut F,
+    report: &mut Report,
+) -> Result<(), AllocError> {
+    let mut names = Vec::new(rt.alloc());
+    let is_read = files.read_file("files", LIMIT, &mut names).is_ok();
+    let mut bytes = Vec::new(rt.alloc());
+    match str::from_utf8(&names) {
+        Ok(names) if is_read => run_files(rt, files, names, &mut bytes, report),
+        _ => report.text.push_str("the list of files is not read\n"),
+    }
+}
+
 fn main(rt: HostRuntime) -> io::Result<()> {
-    let mut files = DiskFiles::new(rt);
     let mut report = Report {
         text: String::new(rt.alloc()),
         count: 0,
     };
-    let mut names = Vec::new(rt.alloc());
-    let is_read = files.read_file("files", LIMIT, &mut names).is_ok();
-    match str::from_utf8(&names) {
-        Ok(names) if is_read => run_files(&rt, &mut files, names, &mut report)?,
-        _ => report.text.push_str("files is not read\n")?,
-    }
+    run_all(&rt, &mut DiskFiles::new(rt), &mut report)?;
     print!(rt; "{}", report.text)?;
     println!(rt; "{} cases", report.count)
 }
