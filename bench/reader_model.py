@@ -1,6 +1,6 @@
 """A model of the reader of units, written apart from its code: what a text is read as, or where and why it is refused.
 
-`bench/reader_tables` makes and checks tables of crates/reader_tests with it.
+`bench/reader_tables` checks tables of the reader and makes cases with it.
 
 The model goes all ways at once that the grammar leaves open. A thread is such a way: the limits that it has passed so far, the kind
 of token that it waits for, and what stands behind that token. A token is refused where no thread goes on with it within all limits.

@@ -1,5 +1,5 @@
 -- The extents after a dimension.
-use Rattle.std.proofs.Common.{◌≡◌, ℕ, zero, suc, ◌+◌, ◌-◌, ◌<◌, Bool, true, false, cond, ◌&&◌, List, [], ◌∷◌, map, length, take, drop, Result, arith, refl, sym, ap, ap₂, ◌∙◌, add-one, true≢false}
+use Rattle.std.proofs.Common.{◌≡◌, ℕ, zero, suc, ◌+◌, ◌-◌, ◌<◌, Bool, true, false, cond, List, [], ◌∷◌, map, length, take, drop, Result, arith, refl, sym, ap, ◌∙◌, add-one, true≢false}
 use Rattle.std.proofs.lemmas.List.{take_all}
 use Rattle.exo_tree.specs.Tree.{Control}
 use Rattle.exo_tree.specs.PlainControl.{control}

@@ -7,7 +7,8 @@ use Rattle.std.specs.Int.{int_div_euclid, int_rem_euclid, is_positive}
 use Rattle.exo_tree.specs.Tree.{Control, Lit, Var, Field, StrideOf, Neg, Add, Sub, Mul, Div, Mod}
 use Rattle.exo_meaning.specs.Scene.{Scene, number}
 use Rattle.affine_forms.specs.Atoms.{Terms, none, term, Linear, Valuation, atom_value, terms_value, value, terms_added, terms_scaled, scaled, divides, divided, undivided, quotient_of, quotient}
-use Rattle.affine_forms.specs.Forms.{Reading, is_literal, Allowed, is_affine, times, form}
+use Rattle.exo_meaning.specs.Units.{is_of_literals}
+use Rattle.affine_forms.specs.Forms.{Reading, Allowed, is_affine, times, form}
 use Rattle.affine_forms.specs.Laws.{ReadsAt, NormalLaw}
 use Rattle.affine_forms.proofs.Integers.{times-add, times_assoc}
 use Rattle.affine_forms.proofs.Values.{and_parts, int_eq_same, terms_added_value, added_value, scaled_value, negated_value, subtracted_value, present_value, shifted}
@@ -59,28 +60,28 @@ module _ (v : Valuation) (g : ℕ) (h : 0 < g) where
 -- ---- expressions
 
 -- what is built of literals alone has no terms
-pub literal_terms : (at : Reading) (e : Control) → is_literal e ≡ true → (form at e).terms ≡ none
+pub literal_terms : (at : Reading) (e : Control) → is_of_literals e ≡ true → (form at e).terms ≡ none
 literal_terms at (Lit n) h = refl
 literal_terms at (Var x) h = absurd (true≢false (sym h))
 literal_terms at (Field f) h = absurd (true≢false (sym h))
 literal_terms at (StrideOf x k) h = absurd (true≢false (sym h))
 literal_terms at (Neg a) h = ap (terms_scaled (negsuc 0)) (literal_terms at a h)
-literal_terms at (Add a b) h = let k = and_parts (is_literal a) (is_literal b) h in ap₂ terms_added (literal_terms at a k.0) (literal_terms at b k.1)
-literal_terms at (Sub a b) h = let k = and_parts (is_literal a) (is_literal b) h in ap₂ (λ s t. terms_added s (terms_scaled (negsuc 0) t)) (literal_terms at a k.0) (literal_terms at b k.1)
-literal_terms at (Mul a b) h = let k = and_parts (is_literal a) (is_literal b) h in ap (λ t. (times t (form at a) (form at b)).terms) k.0 ∙ ap (terms_scaled (form at a).constant) (literal_terms at b k.1)
+literal_terms at (Add a b) h = let k = and_parts (is_of_literals a) (is_of_literals b) h in ap₂ terms_added (literal_terms at a k.0) (literal_terms at b k.1)
+literal_terms at (Sub a b) h = let k = and_parts (is_of_literals a) (is_of_literals b) h in ap₂ (λ s t. terms_added s (terms_scaled (negsuc 0) t)) (literal_terms at a k.0) (literal_terms at b k.1)
+literal_terms at (Mul a b) h = let k = and_parts (is_of_literals a) (is_of_literals b) h in ap (λ t. (times t (form at a) (form at b)).terms) k.0 ∙ ap (terms_scaled (form at a).constant) (literal_terms at b k.1)
 literal_terms at (Div a c) h = ap (λ ts. terms_added (divided c ts) (quotient_of (int_rem_euclid (form at a).constant c) (undivided c ts) c)) (literal_terms at a h)
 literal_terms at (Mod a c) h = ap (λ ts. terms_added ts (terms_scaled (negsuc 0) (terms_scaled c (terms_added (divided c ts) (quotient_of (int_rem_euclid (form at a).constant c) (undivided c ts) c))))) (literal_terms at a h)
 
 module _ (may : Allowed) (v : Valuation) (at : Reading) (scene : Scene) (reads : ReadsAt may v at scene) where
-  constant_value : (e : Control) → is_literal e ≡ true → value v (form at e) ≡ (form at e).constant
+  constant_value : (e : Control) → is_of_literals e ≡ true → value v (form at e) ≡ (form at e).constant
   constant_value e h =
       let none_left : terms_value v (form at e).terms ≡ pos 0 = ap (terms_value v) (literal_terms at e h) in
       omega (arith, ints, none_left)
 
-  times_value : (a b : Control) → (is_literal a || is_literal b) ≡ true → value v (times (is_literal a) (form at a) (form at b)) ≡ value v (form at a) *ℤ value v (form at b)
-  times_value a b h = go (is_literal a) refl h
+  times_value : (a b : Control) → (is_of_literals a || is_of_literals b) ≡ true → value v (times (is_of_literals a) (form at a) (form at b)) ≡ value v (form at a) *ℤ value v (form at b)
+  times_value a b h = go (is_of_literals a) refl h
     where
-      go : (t : Bool) → is_literal a ≡ t → (t || is_literal b) ≡ true → value v (times t (form at a) (form at b)) ≡ value v (form at a) *ℤ value v (form at b)
+      go : (t : Bool) → is_of_literals a ≡ t → (t || is_of_literals b) ≡ true → value v (times t (form at a) (form at b)) ≡ value v (form at a) *ℤ value v (form at b)
       go true e k = scaled_value v (form at a).constant (form at b) ∙ ap (λ z. z *ℤ value v (form at b)) (sym (constant_value a e))
       go false e k = scaled_value v (form at b).constant (form at a) ∙ *ℤ_comm (form at b).constant (value v (form at a)) ∙ ap (λ z. value v (form at a) *ℤ z) (sym (constant_value b k))
 
@@ -106,7 +107,7 @@ module _ (may : Allowed) (v : Valuation) (at : Reading) (scene : Scene) (reads :
   form_value (Add a b) h = let k = and_parts (is_affine may a) (is_affine may b) h in added_value v (form at a) (form at b) ∙ ap₂ ◌+ℤ◌ (form_value a k.0) (form_value b k.1)
   form_value (Sub a b) h = let k = and_parts (is_affine may a) (is_affine may b) h in subtracted_value v (form at a) (form at b) ∙ ap₂ ◌-ℤ◌ (form_value a k.0) (form_value b k.1)
   form_value (Mul a b) h =
-      let k = and_parts (is_literal a || is_literal b) (is_affine may a && is_affine may b) h in
+      let k = and_parts (is_of_literals a || is_of_literals b) (is_affine may a && is_affine may b) h in
       let j = and_parts (is_affine may a) (is_affine may b) k.1 in
       times_value a b k.0 ∙ ap₂ ◌*ℤ◌ (form_value a j.0) (form_value b j.1)
   form_value (Div a c) h = let k = and_parts (is_positive c) (is_affine may a) h in div_value a c k.0 ∙ ap (λ z. int_div_euclid z c) (form_value a k.1)

@@ -1,18 +1,18 @@
 -- The form of a product of extents has its value.
-use Rattle.std.proofs.Common.{◌≡◌, ℤ, pos, ◌+ℤ◌, ◌*ℤ◌, Bool, true, false, cond, ◌&&◌, List, [], ◌∷◌, arith, refl, sym, ap, ap₂, ◌∙◌, true≢false}
+use Rattle.std.proofs.Common.{◌≡◌, pos, ◌*ℤ◌, Bool, true, false, cond, List, [], ◌∷◌, arith, refl, sym, ap, ap₂, ◌∙◌, true≢false}
 use Rattle.std.proofs.lemmas.Int.{ints}
 use Rattle.std.proofs.Math.IntN.{*ℤ_comm}
 use Rattle.exo_tree.specs.Tree.{Control, Lit, Var, Field, StrideOf, Neg, Add, Sub, Mul, Div, Mod}
-use Rattle.exo_meaning.specs.Scene.{Scene, number}
-use Rattle.affine_forms.specs.Atoms.{Terms, none, Linear, Valuation, terms_value, value, terms_scaled}
+use Rattle.exo_meaning.specs.Scene.{Scene}
+use Rattle.affine_forms.specs.Atoms.{none, Linear, Valuation, terms_value, value, terms_scaled}
 use Rattle.affine_forms.specs.Forms.{Reading, Allowed, is_affine, times, form}
 use Rattle.affine_forms.specs.Strides.{is_number, are_numbers, is_one_open, product_form, all_affine, product_of}
 use Rattle.affine_forms.specs.Laws.{ReadsAt, StrideLaw}
 use Rattle.affine_forms.proofs.Values.{and_parts, scaled_value}
 use Rattle.affine_forms.proofs.NormalForm.{form_value, literal_terms}
-use Rattle.affine_forms.specs.Forms.{is_literal}
+use Rattle.exo_meaning.specs.Units.{is_of_literals}
 
-number_is_literal : (e : Control) → is_number e ≡ true → is_literal e ≡ true
+number_is_literal : (e : Control) → is_number e ≡ true → is_of_literals e ≡ true
 number_is_literal (Lit n) h = refl
 number_is_literal (Var x) h = absurd (true≢false (sym h))
 number_is_literal (Field f) h = absurd (true≢false (sym h))

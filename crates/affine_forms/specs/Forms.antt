@@ -2,6 +2,7 @@
 use Rattle.std.specs.Prelude.{ℕ, ℤ, negsuc, ◌^◌, nat_le, unsigned_abs, Bool, true, false, ◌&&◌, ◌||◌}
 use Rattle.std.specs.Int.{is_positive}
 use Rattle.exo_tree.specs.Tree.{Control, Lit, Var, Field, StrideOf, Neg, Add, Sub, Mul, Div, Mod}
+use Rattle.exo_meaning.specs.Units.{is_of_literals}
 use Rattle.affine_forms.specs.Atoms.{Terms, none, term, Linear, constantly, scaled, added, subtracted, quotient, present}
 
 -- what stands for a variable, a field and a stride at a place, and which fields and strides can be written down there
@@ -11,19 +12,6 @@ pub record Reading : Type 0 where
   pub stride : ℕ → ℕ → Linear
   pub field_fits : ℕ → Bool
   pub stride_fits : ℕ → ℕ → Bool
-
--- built of literals alone
-abbrev pub is_literal : Control → Bool
-is_literal (Lit n) = true
-is_literal (Var x) = false
-is_literal (Field f) = false
-is_literal (StrideOf x k) = false
-is_literal (Neg a) = is_literal a
-is_literal (Add a b) = is_literal a && is_literal b
-is_literal (Sub a b) = is_literal a && is_literal b
-is_literal (Mul a b) = is_literal a && is_literal b
-is_literal (Div a c) = is_literal a
-is_literal (Mod a c) = is_literal a
 
 -- the variables, fields and strides that may stand in an expression
 pub record Allowed : Type 0 where
@@ -40,7 +28,7 @@ is_affine may (StrideOf x k) = may.stride x k
 is_affine may (Neg a) = is_affine may a
 is_affine may (Add a b) = is_affine may a && is_affine may b
 is_affine may (Sub a b) = is_affine may a && is_affine may b
-is_affine may (Mul a b) = (is_literal a || is_literal b) && (is_affine may a && is_affine may b)
+is_affine may (Mul a b) = (is_of_literals a || is_of_literals b) && (is_affine may a && is_affine may b)
 is_affine may (Div a c) = is_positive c && is_affine may a
 is_affine may (Mod a c) = is_positive c && is_affine may a
 
@@ -58,7 +46,7 @@ form at (StrideOf x k) = at.stride x k
 form at (Neg a) = scaled (negsuc 0) (form at a)
 form at (Add a b) = added (form at a) (form at b)
 form at (Sub a b) = subtracted (form at a) (form at b)
-form at (Mul a b) = times (is_literal a) (form at a) (form at b)
+form at (Mul a b) = times (is_of_literals a) (form at a) (form at b)
 form at (Div a c) = quotient (form at a) c
 form at (Mod a c) = subtracted (form at a) (scaled c (quotient (form at a) c))
 

@@ -39,19 +39,7 @@ fn less<R: Reader>(alloc: Global, reader: &R, a: &Ctrl, b: &Ctrl) -> Result<Form
 {
     let left = normal_form(alloc, reader, a)?;
     let right = normal_form(alloc, reader, b)?;
-    let f = Formula::less(alloc, &left, &right)?;
-    Ok(f)
-}
-
-/// The formula that the left side is greater than the right.
-fn greater<R: Reader>(alloc: Global, reader: &R, a: &Ctrl, b: &Ctrl) -> Result<Formula, FormError>
-    requires { IsTrue (keeps_rules (control a.now) && keeps_rules (control b.now)) }
-    ensures { FormulaMade result (is_writable (R.reading reader.now) (control a.now) && is_writable (R.reading reader.now) (control b.now)) (less (forms.normal (R.reading reader.now) (control b.now)) (forms.normal (R.reading reader.now) (control a.now))) }
-{
-    let left = normal_form(alloc, reader, a)?;
-    let right = normal_form(alloc, reader, b)?;
-    let f = Formula::less(alloc, &right, &left)?;
-    Ok(f)
+    Ok(Formula::less(alloc, &left, &right)?)
 }
 
 /// The formula that the left side is at most the right.
@@ -61,19 +49,7 @@ fn at_most<R: Reader>(alloc: Global, reader: &R, a: &Ctrl, b: &Ctrl) -> Result<F
 {
     let left = normal_form(alloc, reader, a)?;
     let right = normal_form(alloc, reader, b)?;
-    let f = Formula::at_most(alloc, &left, &right)?;
-    Ok(f)
-}
-
-/// The formula that the left side is at least the right.
-fn at_least<R: Reader>(alloc: Global, reader: &R, a: &Ctrl, b: &Ctrl) -> Result<Formula, FormError>
-    requires { IsTrue (keeps_rules (control a.now) && keeps_rules (control b.now)) }
-    ensures { FormulaMade result (is_writable (R.reading reader.now) (control a.now) && is_writable (R.reading reader.now) (control b.now)) (at_most (forms.normal (R.reading reader.now) (control b.now)) (forms.normal (R.reading reader.now) (control a.now))) }
-{
-    let left = normal_form(alloc, reader, a)?;
-    let right = normal_form(alloc, reader, b)?;
-    let f = Formula::at_most(alloc, &right, &left)?;
-    Ok(f)
+    Ok(Formula::at_most(alloc, &left, &right)?)
 }
 
 /// The formula that the sides have one value.
@@ -83,8 +59,7 @@ fn equal<R: Reader>(alloc: Global, reader: &R, a: &Ctrl, b: &Ctrl) -> Result<For
 {
     let left = normal_form(alloc, reader, a)?;
     let right = normal_form(alloc, reader, b)?;
-    let f = Formula::equal(alloc, &left, &right)?;
-    Ok(f)
+    Ok(Formula::equal(alloc, &left, &right)?)
 }
 
 /// The formula of a condition.
@@ -99,20 +74,18 @@ pub fn formula_of<R: FlagReader>(alloc: Global, reader: &R, c: &Cond) -> Result<
         Cond::Field(f) => reader.field_flag(alloc, *f),
         Cond::Lt(a, b) => less(alloc, reader, a, b),
         Cond::Le(a, b) => at_most(alloc, reader, a, b),
-        Cond::Gt(a, b) => greater(alloc, reader, a, b),
-        Cond::Ge(a, b) => at_least(alloc, reader, a, b),
+        Cond::Gt(a, b) => less(alloc, reader, b, a),
+        Cond::Ge(a, b) => at_most(alloc, reader, b, a),
         Cond::Eq(a, b) => equal(alloc, reader, a, b),
         Cond::And(c, d) => {
             let left = formula_of(alloc, reader, c)?;
             let right = formula_of(alloc, reader, d)?;
-            let f = Formula::both(alloc, left, right)?;
-            Ok(f)
+            Ok(Formula::both(alloc, left, right)?)
         }
         Cond::Or(c, d) => {
             let left = formula_of(alloc, reader, c)?;
             let right = formula_of(alloc, reader, d)?;
-            let f = Formula::either(alloc, left, right)?;
-            Ok(f)
+            Ok(Formula::either(alloc, left, right)?)
         }
     }
 }

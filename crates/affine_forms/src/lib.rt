@@ -17,7 +17,7 @@ pub use condition::{FlagReader, formula_of};
 pub use error::FormError;
 pub use formula::Formula;
 pub use linear::{Draft, Linear};
-pub use reader::{Reader, form, is_literal, normal_form};
+pub use reader::{Reader, form, is_of_literals, normal_form};
 pub use stride::{dense_stride, extent_product};
 pub use sum::{Equation, Sum};
 pub use system::{Row, System, Term, is_narrow};

@@ -3,7 +3,8 @@ ghost use Rattle.std.specs.Prelude.{◌≡◌, ◌&&◌, IsTrue};
 ghost use Rattle.std.specs.Int.{is_positive};
 ghost use Rattle.affine_forms.specs.Atoms.{scaled, subtracted, quotient};
 ghost use Rattle.affine_forms.specs.Forms as forms;
-ghost use Rattle.affine_forms.specs.Forms.{is_literal, is_short_form, keeps_rules, form, is_writable, normal};
+ghost use Rattle.exo_meaning.specs.Units.{is_of_literals};
+ghost use Rattle.affine_forms.specs.Forms.{is_short_form, keeps_rules, form, is_writable, normal};
 ghost use Rattle.affine_forms.specs.Outcomes.{Formed};
 ghost use Rattle.exo_tree.specs.PlainControl.{control};
 
@@ -32,20 +33,20 @@ pub trait Reader {
 }
 
 /// Whether the expression is built of literals alone.
-pub fn is_literal(e: &Ctrl) -> bool
-    ensures { result ≡ is_literal (control e.now) }
+pub fn is_of_literals(e: &Ctrl) -> bool
+    ensures { result ≡ is_of_literals (control e.now) }
 {
     match e {
         Ctrl::Lit(_) => true,
         Ctrl::Var(_) => false,
         Ctrl::Field(_) => false,
         Ctrl::Stride(_, _) => false,
-        Ctrl::Neg(a) => is_literal(a),
-        Ctrl::Add(a, b) => is_literal(a) && is_literal(b),
-        Ctrl::Sub(a, b) => is_literal(a) && is_literal(b),
-        Ctrl::Mul(a, b) => is_literal(a) && is_literal(b),
-        Ctrl::Div(a, _) => is_literal(a),
-        Ctrl::Mod(a, _) => is_literal(a),
+        Ctrl::Neg(a) => is_of_literals(a),
+        Ctrl::Add(a, b) => is_of_literals(a) && is_of_literals(b),
+        Ctrl::Sub(a, b) => is_of_literals(a) && is_of_literals(b),
+        Ctrl::Mul(a, b) => is_of_literals(a) && is_of_literals(b),
+        Ctrl::Div(a, _) => is_of_literals(a),
+        Ctrl::Mod(a, _) => is_of_literals(a),
     }
 }
 
@@ -97,7 +98,7 @@ pub fn form<R: Reader>(alloc: Global, reader: &R, e: &Ctrl) -> Result<Draft, For
         Ctrl::Mul(a, b) => {
             let left = form(alloc, reader, a)?;
             let right = form(alloc, reader, b)?;
-            times(alloc, is_literal(a), &left, &right)
+            times(alloc, is_of_literals(a), &left, &right)
         }
         Ctrl::Div(a, by) => {
             let l = form(alloc, reader, a)?;

@@ -4,3 +4,4 @@ pub mod Dimensions
 pub mod PlainRoots
 pub mod StrideValues
 pub mod PlaceValues
+pub mod WellFormed

@@ -3,7 +3,8 @@ use Rattle.std.proofs.Common.{◌≡◌, Bool, true, ◌&&◌, ◌||◌, List, [
 use Rattle.std.specs.Int.{is_positive}
 use Rattle.exo_tree.specs.Tree.{Control, Lit, Var, Field, StrideOf, Neg, Add, Sub, Mul, Div, Mod}
 use Rattle.exo_meaning.specs.Units.{is_rank}
-use Rattle.affine_forms.specs.Forms.{Allowed, is_literal, is_affine, keeps_rules}
+use Rattle.exo_meaning.specs.Units.{is_of_literals}
+use Rattle.affine_forms.specs.Forms.{Allowed, is_affine, keeps_rules}
 use Rattle.affine_forms.specs.Strides.{all_affine, all_keep_rules}
 use Rattle.affine_forms.proofs.Values.{and_parts}
 use Rattle.affine_places.specs.Roots.{variables, are_extents}
@@ -20,7 +21,7 @@ module _ (may : Allowed) where
   rules_kept (Neg a) h = rules_kept a h
   rules_kept (Add a b) h = both (is_affine may a) (is_affine may b) (keeps_rules a) (keeps_rules b) (rules_kept a) (rules_kept b) h
   rules_kept (Sub a b) h = both (is_affine may a) (is_affine may b) (keeps_rules a) (keeps_rules b) (rules_kept a) (rules_kept b) h
-  rules_kept (Mul a b) h = both (is_literal a || is_literal b) (is_affine may a && is_affine may b) (is_literal a || is_literal b) (keeps_rules a && keeps_rules b) (λ p. p) (both (is_affine may a) (is_affine may b) (keeps_rules a) (keeps_rules b) (rules_kept a) (rules_kept b)) h
+  rules_kept (Mul a b) h = both (is_of_literals a || is_of_literals b) (is_affine may a && is_affine may b) (is_of_literals a || is_of_literals b) (keeps_rules a && keeps_rules b) (λ p. p) (both (is_affine may a) (is_affine may b) (keeps_rules a) (keeps_rules b) (rules_kept a) (rules_kept b)) h
   rules_kept (Div a c) h = both (is_positive c) (is_affine may a) (is_positive c) (keeps_rules a) (λ p. p) (rules_kept a) h
   rules_kept (Mod a c) h = both (is_positive c) (is_affine may a) (is_positive c) (keeps_rules a) (λ p. p) (rules_kept a) h
 

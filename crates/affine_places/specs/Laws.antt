@@ -1,14 +1,17 @@
--- The laws of normal forms and formulas at a place, each the contract of a function.
+-- The laws of places, each the contract of a function: normal forms and formulas are exact, and well-formed procedures affine.
 use Rattle.std.specs.Prelude.{◌≡◌, ◌≤ℤ◌, ℕ, zero, suc, ℤ, pos, true, false, List, [], ◌∷◌, map, get_or, Option, Some, None, IsSome}
-use Rattle.exo_tree.specs.Tree.{Control, Condition, ControlArg, ConditionArg, Whole, Window, ConfigField, Procedure}
+use Rattle.exo_tree.specs.Tree.{Kind, Control, Condition, ControlArg, ConditionArg, Whole, Window, ConfigField, Procedure}
 use Rattle.exo_meaning.specs.Scene.{Shape, Side, Point, Range, Seen, Scene, number, numbers, is_set, holds}
+use Rattle.exo_meaning.specs.Calls.{Callee}
 use Rattle.exo_meaning.specs.Run.{row_major}
+use Rattle.exo_meaning.specs.Units.{IsProcedure}
 use Rattle.affine_forms.specs.Atoms.{Valuation, value}
 use Rattle.affine_forms.specs.Forms.{Allowed, is_affine, normal}
 use Rattle.affine_forms.specs.Formulas.{AllowedFlags, is_affine_condition, formula, is_met}
 use Rattle.affine_places.specs.Roots.{Layout, Dense, Strided, Rooted, Roots, roots_of, has_extents}
 use Rattle.affine_places.specs.Facts.{Fact, Known, UnknownAt, FieldFact, fact_of, kind_of}
 use Rattle.affine_places.specs.Readings.{place_reading, place_flags}
+use Rattle.affine_places.specs.Rules.{procedure_keeps_rules}
 
 -- ---- buffers and views as a procedure's binders make them
 
@@ -88,3 +91,12 @@ pub record IsPlaceOfFlags (fields : List ConfigField) (p : Procedure) (facts : L
 -- the formula at a place is met where its condition holds, and nowhere else
 abbrev pub FormulaAtPlace : Type 0
 FormulaAtPlace = (fields : List ConfigField) (p : Procedure) (facts : List FieldFact) (may : AllowedFlags) (v : Valuation) (scene : Scene) (c : Condition) → has_extents p ≡ true → IsPlaceOfFlags fields p facts may v scene → is_affine_condition may c ≡ true → is_met v (formula (place_reading fields (roots_of p) facts) (place_flags fields (roots_of p) facts) c) ≡ holds scene c
+
+-- ---- well-formed procedures
+
+-- in a well-formed procedure extents, conditions, bounds and written values are affine
+abbrev pub WellFormedIsAffine : Type 0
+WellFormedIsAffine =
+    (fields : ℕ → Option Kind) (memories : ℕ) (callees : ℕ → Option Callee) (p : Procedure)
+    → IsProcedure fields memories callees p
+    → procedure_keeps_rules p ≡ true

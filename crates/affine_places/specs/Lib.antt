@@ -4,4 +4,6 @@ pub mod FactCodes
 pub mod PlainFacts
 pub mod Readings
 pub mod Seen
+pub mod Rules
+pub mod Agreement
 pub mod Laws

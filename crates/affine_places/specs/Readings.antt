@@ -123,9 +123,3 @@ place_flags fields roots facts = record {
 
 abbrev pub unit_reading : Program → ℕ → List FieldFact → Reading
 unit_reading u p facts = place_reading u.fields (unit_roots u p) facts
-
-abbrev pub unit_flags : Program → ℕ → List FieldFact → Flags
-unit_flags u p facts = place_flags u.fields (unit_roots u p) facts
-
-abbrev pub unit_flag_fits : Program → ℕ → List FieldFact → ℕ → Bool
-unit_flag_fits u p facts f = field_formula_fits u.fields (unit_roots u p) (fact_of facts f)

@@ -10,7 +10,7 @@ ghost use Rattle.affine_forms.specs.Forms.{is_affine};
 ghost use Rattle.affine_forms.specs.Strides.{all_affine};
 ghost use Rattle.affine_places.specs.Roots.{variables, are_extents, kind_has_extents, params_have_extents, block_has_extents, statement_has_extents, has_extents, unit_has_extents};
 
-use affine_forms::is_literal;
+use affine_forms::is_of_literals;
 use exo_tree::{Block, Ctrl, Indices, ParamKind, Params, Proc, ProcId, Stmt, Unit};
 
 /// The most dimensions of a buffer.
@@ -29,7 +29,8 @@ fn is_over_variables(e: &Ctrl) -> bool
         Ctrl::Add(a, b) => is_over_variables(a) && is_over_variables(b),
         Ctrl::Sub(a, b) => is_over_variables(a) && is_over_variables(b),
         Ctrl::Mul(a, b) => {
-            (is_literal(a) || is_literal(b)) && (is_over_variables(a) && is_over_variables(b))
+            (is_of_literals(a) || is_of_literals(b))
+                && (is_over_variables(a) && is_over_variables(b))
         }
         Ctrl::Div(a, by) => *by > 0 && is_over_variables(a),
         Ctrl::Mod(a, by) => *by > 0 && is_over_variables(a),

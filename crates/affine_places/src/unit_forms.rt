@@ -1,20 +1,18 @@
-//! Normal forms and formulas at a place of a procedure.
+//! Normal forms at a place of a procedure.
 ghost use Rattle.std.specs.Prelude.{IsTrue};
-ghost use Rattle.exo_tree.specs.PlainControl.{control, condition};
+ghost use Rattle.exo_tree.specs.PlainControl.{control};
 ghost use Rattle.exo_tree.specs.PlainUnit.{program};
 ghost use Rattle.affine_forms.specs.Forms as forms;
 ghost use Rattle.affine_forms.specs.Forms.{keeps_rules, is_writable};
-ghost use Rattle.affine_forms.specs.Formulas.{formula, is_writable_condition, condition_keeps_rules};
 ghost use Rattle.affine_forms.specs.Outcomes.{Formed};
-ghost use Rattle.affine_forms.specs.PlainFormulas.{FormulaMade};
 ghost use Rattle.affine_places.specs.Roots.{unit_has_extents};
-ghost use Rattle.affine_places.specs.Readings.{unit_reading, unit_flags, unit_flag_fits};
+ghost use Rattle.affine_places.specs.Readings.{unit_reading};
 
 use crate::facts::Facts;
 use crate::place::AtPlace;
 use crate::roots::Roots;
-use affine_forms::{FormError, Formula, Linear, formula_of, normal_form};
-use exo_tree::{Cond, Ctrl, ProcId, Unit};
+use affine_forms::{FormError, Linear, normal_form};
+use exo_tree::{Ctrl, ProcId, Unit};
 use std::alloc::Global;
 
 /// The normal form of an expression at a place of the procedure `p` of the unit at which these facts of fields are known.
@@ -38,25 +36,4 @@ pub fn normal(
         facts,
     };
     normal_form(alloc, &at, e)
-}
-
-/// The formula of a condition at such a place.
-pub fn formula_at(
-    alloc: Global,
-    unit: &Unit,
-    p: ProcId,
-    facts: &Facts,
-    c: &Cond,
-) -> Result<Formula, FormError>
-    requires extents { IsTrue (unit_has_extents (program unit.now) p.0) }
-    requires rules { IsTrue (condition_keeps_rules (condition c.now)) }
-    ensures { FormulaMade result (is_writable_condition (unit_reading (program unit.now) p.0 facts.now) (unit_flag_fits (program unit.now) p.0 facts.now) (condition c.now)) (formula (unit_reading (program unit.now) p.0 facts.now) (unit_flags (program unit.now) p.0 facts.now) (condition c.now)) }
-{
-    let roots = Roots::of_unit(alloc, unit, p)?;
-    let at = AtPlace {
-        fields: &unit.fields,
-        roots: &roots,
-        facts,
-    };
-    formula_of(alloc, &at, c)
 }

@@ -8,7 +8,7 @@ use Rattle.std.proofs.lemmas.Nat.Gcd.{mod-eq-zero_of_dvd}
 use Rattle.std.proofs.Math.IntN.{zero-*ℤ}
 use Rattle.affine_forms.specs.Affine.{Affine, value}
 use Rattle.affine_prover.specs.Elimination.{gcd, weighed, weighed_lists, combined, coefficient, without, combination, lower_factor, upper_factor, is_lower_bound, is_upper_bound, is_free, following}
-use Rattle.affine_prover.proofs.Integers.{times_natural}
+use Rattle.affine_forms.proofs.Integers.{times_natural}
 use Rattle.affine_prover.proofs.Values.{value-combined, value-without}
 use Rattle.affine_prover.proofs.Divisors.{gcd-is}
 use Rattle.affine_prover.proofs.Everywhere.{everywhere-append, everywhere-map, everywhere-flat_map, everywhere-filter}

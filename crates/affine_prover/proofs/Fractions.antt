@@ -5,7 +5,7 @@ use Rattle.std.proofs.lemmas.Int.{ints}
 use Rattle.std.proofs.Math.IntN.{*ℤ-zero, *ℤ_comm}
 use Rattle.affine_forms.specs.Affine.{Affine, dot, value_over}
 use Rattle.affine_prover.specs.Elimination.{weighed, weighed_lists, combined, without, coefficient}
-use Rattle.affine_prover.proofs.Integers.{times-add, times_assoc, times_natural, natural_from_times}
+use Rattle.affine_forms.proofs.Integers.{times-add, times_assoc, times_natural, natural_from_times}
 use Rattle.affine_prover.proofs.Values.{dot-weighed_lists}
 use Rattle.affine_prover.proofs.Widths.{IsWide, length-remove}
 

@@ -1,4 +1,3 @@
-pub mod Integers
 pub mod Values
 pub mod Divisors
 pub mod Everywhere

@@ -7,7 +7,7 @@ use Rattle.std.proofs.lemmas.Int.{ints}
 use Rattle.std.proofs.lemmas.Bool.Decides.{nat_tests}
 use Rattle.affine_forms.specs.Affine.{Affine, dot, value_over}
 use Rattle.affine_prover.specs.Elimination.{is_constant, is_false, tightened, joined, merged, same_list, normalized, gcd_of}
-use Rattle.affine_prover.proofs.Integers.{times-add, times_natural}
+use Rattle.affine_forms.proofs.Integers.{times-add, times_natural}
 use Rattle.affine_prover.proofs.Divisors.{gcd_of-divides, quotient-floor}
 use Rattle.affine_prover.proofs.Tightening.{dot-divided}
 use Rattle.affine_prover.proofs.Everywhere.{everywhere-both, everywhere-like}

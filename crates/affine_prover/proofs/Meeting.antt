@@ -12,7 +12,7 @@ use Rattle.affine_prover.specs.declared.answer.Verdict.TheVariants.{Shown, Open,
 use Rattle.affine_forms.specs.Affine.{Affine, Constraints, dot, value, HasNoIntegerPoint}
 use Rattle.affine_prover.specs.Elimination.{gcd_of, weighed, weighed_lists, combined, coefficient, tightened, is_constant, is_impossible, is_unit, has_unit, unit_place, solving_factor, substituted, is_narrow_substituted, negated, put_in, round_of, round_on, reduced, round, verdict_on, elimination, verdict_on_rows, Round}
 use Rattle.affine_prover.specs.Elimination.Round.{Finished, Solved, Unsolved}
-use Rattle.affine_prover.proofs.Integers.{times-add, neg-times}
+use Rattle.affine_forms.proofs.Integers.{times-add, neg-times}
 use Rattle.affine_prover.proofs.Values.{value-combined, value-without}
 use Rattle.affine_prover.proofs.Divisors.{gcd_of-divides, quotient-exact}
 use Rattle.affine_prover.proofs.Tightening.{dot-divided}

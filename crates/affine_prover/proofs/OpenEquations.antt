@@ -13,7 +13,7 @@ use Rattle.affine_prover.specs.declared.answer.Verdict.TheVariants.{Open, TooWid
 use Rattle.affine_forms.specs.Affine.{Affine, Constraints, dot, value_over, HasRationalPoint}
 use Rattle.affine_prover.specs.Elimination.{gcd, gcd_of, coefficient, without, tightened, is_constant, is_impossible, is_unit, has_unit, unit_place, solving_factor, substituted, is_narrow_substituted, negated, put_in, round_of, round_on, reduced, round, verdict_on, verdict_on_rows, elimination, Round}
 use Rattle.affine_prover.specs.Elimination.Round.{Finished, Solved, Unsolved}
-use Rattle.affine_prover.proofs.Integers.{times-add, neg-times, times_assoc}
+use Rattle.affine_forms.proofs.Integers.{times-add, neg-times, times_assoc}
 use Rattle.affine_prover.proofs.Divisors.{gcd_of-divides, quotient-exact}
 use Rattle.affine_prover.proofs.Tightening.{dot-divided}
 use Rattle.affine_prover.proofs.Everywhere.{everywhere-both, everywhere-like, everywhere-filter, everywhere-map, both}

@@ -10,7 +10,7 @@ use Rattle.std.proofs.lemmas.Nat.Gcd.{mod-eq-zero_of_dvd}
 use Rattle.std.proofs.Math.IntN.{zero-*ℤ, *ℤ_comm, pos-*ℤ-pos}
 use Rattle.affine_forms.specs.Affine.{Affine, value_over}
 use Rattle.affine_prover.specs.Elimination.{gcd, coefficient, without, combination, lower_factor, upper_factor, is_lower_bound, is_upper_bound, is_free, following}
-use Rattle.affine_prover.proofs.Integers.{times-add, times_assoc, times_natural, neg-times}
+use Rattle.affine_forms.proofs.Integers.{times-add, times_assoc, times_natural, neg-times}
 use Rattle.affine_prover.proofs.Divisors.{gcd-is}
 use Rattle.affine_prover.proofs.Everywhere.{everywhere-both, everywhere-like}
 use Rattle.affine_prover.proofs.Widths.{IsWide}

@@ -8,7 +8,7 @@ use Rattle.std.proofs.lemmas.Bool.Decides.{nat_tests}
 use Rattle.std.proofs.Math.IntN.{*ℤ-zero}
 use Rattle.affine_forms.specs.Affine.{Affine, dot, value}
 use Rattle.affine_prover.specs.Elimination.{gcd_of, tightened}
-use Rattle.affine_prover.proofs.Integers.{times-add, times_assoc, natural_from_times}
+use Rattle.affine_forms.proofs.Integers.{times-add, times_assoc, natural_from_times}
 use Rattle.affine_prover.proofs.Divisors.{gcd_of-divides, quotient-floor, quotient-exact}
 
 pub dot-divided : (g : ℕ) → 0 < g → (cs ps : List ℤ) → AllByRecursion (λ c. g ∣ unsigned_abs c) cs → dot cs ps ≡ pos g *ℤ dot (map (λ c. int_div_euclid c (pos g)) cs) ps

@@ -5,7 +5,7 @@ use Rattle.std.proofs.lemmas.Int.{ints}
 use Rattle.std.proofs.Math.IntN.{*ℤ-zero}
 use Rattle.affine_forms.specs.Affine.{Affine, dot, value}
 use Rattle.affine_prover.specs.Elimination.{weighed_lists, combined, without, coefficient}
-use Rattle.affine_prover.proofs.Integers.{add-times, times-add, times_assoc}
+use Rattle.affine_forms.proofs.Integers.{add-times, times-add, times_assoc}
 
 -- the value of a list of weighed sums
 pub dot-weighed_lists : (f : ℤ) (xs : List ℤ) (g : ℤ) (ys ps : List ℤ) → length xs ≡ length ys → dot (weighed_lists f xs g ys) ps ≡ f *ℤ dot xs ps +ℤ g *ℤ dot ys ps

@@ -5,7 +5,7 @@ use Rattle.std.specs.Int.{is_positive}
 use Rattle.std.proofs.lemmas.Bool.{and_parts, and_from}
 use Rattle.exo_tree.specs.Tree.{Cell, Kind, Control, Lit, Var, Field, StrideOf, Neg, Add, Sub, Mul, Div, Mod, Condition, True, False, Flag, FieldFlag, Lt, Le, Gt, Ge, Eq, And, Or, Coord, At, Span, Argument, ControlArg, ConditionArg, Whole, Window, Param, ParamKind, ControlParam, TensorParam, WindowParam}
 use Rattle.exo_meaning.specs.Units.{Scope, Reads, plainly, with_both, is_of_literals, is_literal_number, is_truth, sort_in, has_rank, has_cell, spans, is_control, are_controls, is_condition, is_coord, is_window, is_of_kind, is_for_tensor, is_for_window, is_for, are_for, is_new, is_rank, is_param_kind, are_params, with_name, param_sort}
-use Rattle.affine_forms.specs.Forms.{is_literal, keeps_rules}
+use Rattle.affine_forms.specs.Forms.{keeps_rules}
 use Rattle.affine_forms.specs.Formulas.{condition_keeps_rules}
 use Rattle.check_claims.specs.Extents.{dims_of}
 
@@ -23,18 +23,6 @@ argument_keeps_rules (Window x coords) = list_all coord_keeps_rules coords
 
 abbrev pub dims_keep_rules : Param → Bool
 dims_keep_rules p = list_all keeps_rules (dims_of p.kind)
-
-same_literals : (e : Control) → is_of_literals e ≡ is_literal e
-same_literals (Lit n) = refl
-same_literals (Var x) = refl
-same_literals (Field f) = refl
-same_literals (StrideOf x k) = refl
-same_literals (Neg a) = same_literals a
-same_literals (Add a b) = ap₂ ◌&&◌ (same_literals a) (same_literals b)
-same_literals (Sub a b) = ap₂ ◌&&◌ (same_literals a) (same_literals b)
-same_literals (Mul a b) = ap₂ ◌&&◌ (same_literals a) (same_literals b)
-same_literals (Div a c) = same_literals a
-same_literals (Mod a c) = same_literals a
 
 -- what passes one test of a list passes another
 pub all_pass : {X : Type 0} (f g : X → Bool) → ((x : X) → f x ≡ true → g x ≡ true) → (xs : List X) → list_all f xs ≡ true → list_all g xs ≡ true
@@ -54,7 +42,7 @@ module _ (fields : ℕ → Option Kind) where
     affine (Mul a b) h =
         let p = and_parts (is_control fields may scope a && is_control fields may scope b) (is_of_literals a || is_of_literals b) h in
         let q = and_parts (is_control fields may scope a) (is_control fields may scope b) p.0 in
-        and_from (is_literal a || is_literal b) (keeps_rules a && keeps_rules b) (sym (ap₂ ◌||◌ (same_literals a) (same_literals b)) ∙ p.1) (and_from (keeps_rules a) (keeps_rules b) (affine a q.0) (affine b q.1))
+        and_from (is_of_literals a || is_of_literals b) (keeps_rules a && keeps_rules b) p.1 (and_from (keeps_rules a) (keeps_rules b) (affine a q.0) (affine b q.1))
     affine (Div a c) h = let p = and_parts (is_control fields may scope a) (is_literal_number c && int_lt (pos 0) c) h in and_from (is_positive c) (keeps_rules a) (and_parts (is_literal_number c) (int_lt (pos 0) c) p.1).1 (affine a p.0)
     affine (Mod a c) h = let p = and_parts (is_control fields may scope a) (is_literal_number c && int_lt (pos 0) c) h in and_from (is_positive c) (keeps_rules a) (and_parts (is_literal_number c) (int_lt (pos 0) c) p.1).1 (affine a p.0)
 

@@ -4,7 +4,8 @@ use Rattle.std.specs.List.{list_all}
 use Rattle.std.specs.Int.{is_positive}
 use Rattle.std.proofs.lemmas.Bool.{and_parts, and_from}
 use Rattle.exo_tree.specs.Tree.{Control, Lit, Var, Field, StrideOf, Neg, Add, Sub, Mul, Div, Mod, Condition, True, False, Flag, FieldFlag, Lt, Le, Gt, Ge, Eq, And, Or, Argument, ControlArg, ConditionArg, Whole, Window, Param}
-use Rattle.affine_forms.specs.Forms.{is_literal, keeps_rules}
+use Rattle.exo_meaning.specs.Units.{is_of_literals}
+use Rattle.affine_forms.specs.Forms.{keeps_rules}
 use Rattle.affine_forms.specs.Formulas.{condition_keeps_rules}
 use Rattle.check_claims.specs.Arguments.{passed_for, number_for, truth_for, stride_for, control_under, condition_under}
 use Rattle.bounds_check.proofs.Affine.{argument_keeps_rules}
@@ -56,15 +57,15 @@ both_kept : (a b c d : Bool) → (a ≡ true → c ≡ true) → (b ≡ true →
 both_kept a b c d f g h = let p = and_parts a b h in and_from c d (f p.0) (g p.1)
 
 module _ (ps : List Param) (args : List Argument) where
-  literal_under : (e : Control) → is_literal e ≡ true → is_literal (control_under ps args e) ≡ true
+  literal_under : (e : Control) → is_of_literals e ≡ true → is_of_literals (control_under ps args e) ≡ true
   literal_under (Lit n) h = refl
   literal_under (Var x) h = absurd (true≢false (sym h))
   literal_under (Field f) h = absurd (true≢false (sym h))
   literal_under (StrideOf x k) h = absurd (true≢false (sym h))
   literal_under (Neg a) h = literal_under a h
-  literal_under (Add a b) h = let p = and_parts (is_literal a) (is_literal b) h in and_from (is_literal (control_under ps args a)) (is_literal (control_under ps args b)) (literal_under a p.0) (literal_under b p.1)
-  literal_under (Sub a b) h = let p = and_parts (is_literal a) (is_literal b) h in and_from (is_literal (control_under ps args a)) (is_literal (control_under ps args b)) (literal_under a p.0) (literal_under b p.1)
-  literal_under (Mul a b) h = let p = and_parts (is_literal a) (is_literal b) h in and_from (is_literal (control_under ps args a)) (is_literal (control_under ps args b)) (literal_under a p.0) (literal_under b p.1)
+  literal_under (Add a b) h = let p = and_parts (is_of_literals a) (is_of_literals b) h in and_from (is_of_literals (control_under ps args a)) (is_of_literals (control_under ps args b)) (literal_under a p.0) (literal_under b p.1)
+  literal_under (Sub a b) h = let p = and_parts (is_of_literals a) (is_of_literals b) h in and_from (is_of_literals (control_under ps args a)) (is_of_literals (control_under ps args b)) (literal_under a p.0) (literal_under b p.1)
+  literal_under (Mul a b) h = let p = and_parts (is_of_literals a) (is_of_literals b) h in and_from (is_of_literals (control_under ps args a)) (is_of_literals (control_under ps args b)) (literal_under a p.0) (literal_under b p.1)
   literal_under (Div a c) h = literal_under a h
   literal_under (Mod a c) h = literal_under a h
 
@@ -78,9 +79,9 @@ module _ (ps : List Param) (args : List Argument) where
     control_affine (Add a b) h = both_kept (keeps_rules a) (keeps_rules b) (keeps_rules (control_under ps args a)) (keeps_rules (control_under ps args b)) (control_affine a) (control_affine b) h
     control_affine (Sub a b) h = both_kept (keeps_rules a) (keeps_rules b) (keeps_rules (control_under ps args a)) (keeps_rules (control_under ps args b)) (control_affine a) (control_affine b) h
     control_affine (Mul a b) h =
-        let p = and_parts (is_literal a || is_literal b) (keeps_rules a && keeps_rules b) h in
-        and_from (is_literal (control_under ps args a) || is_literal (control_under ps args b)) (keeps_rules (control_under ps args a) && keeps_rules (control_under ps args b))
-        (either_kept (is_literal a) (is_literal b) (is_literal (control_under ps args a)) (is_literal (control_under ps args b)) (literal_under a) (literal_under b) p.0)
+        let p = and_parts (is_of_literals a || is_of_literals b) (keeps_rules a && keeps_rules b) h in
+        and_from (is_of_literals (control_under ps args a) || is_of_literals (control_under ps args b)) (keeps_rules (control_under ps args a) && keeps_rules (control_under ps args b))
+        (either_kept (is_of_literals a) (is_of_literals b) (is_of_literals (control_under ps args a)) (is_of_literals (control_under ps args b)) (literal_under a) (literal_under b) p.0)
         (both_kept (keeps_rules a) (keeps_rules b) (keeps_rules (control_under ps args a)) (keeps_rules (control_under ps args b)) (control_affine a) (control_affine b) p.1)
     control_affine (Div a c) h = let p = and_parts (is_positive c) (keeps_rules a) h in and_from (is_positive c) (keeps_rules (control_under ps args a)) p.0 (control_affine a p.1)
     control_affine (Mod a c) h = let p = and_parts (is_positive c) (keeps_rules a) h in and_from (is_positive c) (keeps_rules (control_under ps args a)) p.0 (control_affine a p.1)

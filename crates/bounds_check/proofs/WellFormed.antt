@@ -9,7 +9,7 @@ use Rattle.exo_meaning.specs.Run.{callee_in, world_of, kinds_of}
 use Rattle.exo_meaning.specs.Units.{scope_of, with_both, is_condition, is_short, levels, IsProcedure, AreProcedures, IsUnit, field_kind}
 use Rattle.affine_forms.specs.Formulas.{condition_keeps_rules}
 use Rattle.affine_places.specs.Roots.{has_extents}
-use Rattle.exo_places.specs.Rules.{block_keeps_rules, procedure_keeps_rules}
+use Rattle.affine_places.specs.Rules.{block_keeps_rules, procedure_keeps_rules}
 use Rattle.check_facts.specs.Contexts.{may_be_walked}
 use Rattle.check_facts.specs.Laws.{WellFormedMayBeWalked}
 use Rattle.text_show.specs.Words.{words_of}

@@ -7,7 +7,7 @@ use Rattle.std.proofs.lemmas.Str.Parse.{digit_from_value}
 use Rattle.std.proofs.lemmas.Bool.{and_parts}
 use Rattle.c_names.specs.Words.{Name, same_name, is_in, is_own, is_word, type_keywords, statement_keywords, other_keywords, library_words, exact_types, least_types, fast_types, greatest_types}
 use Rattle.c_names.specs.Names.{is_reserved, pick, numbered, is_taken, c_name}
-use Rattle.c_laws.proofs.Spelling.{Small, names_equal, differ, numbered_injective, open_form, own_form, numbered_open, numbered_own, digits_of, some_digit}
+use Rattle.c_laws.proofs.Spelling.{Small, names_equal, differ, numbered_injective, open_form, own_form, is_own_stem, numbered_open, numbered_own, digits_of, some_digit}
 use Rattle.c_laws.proofs.Free.{or_false, room, number_of, number_below, free}
 
 -- ---- no word ends as a numbered name does
@@ -46,13 +46,13 @@ unmarked (w ∷ words) h y k =
     not_both false e f = true≢false (sym f)
 
 numbered_marked : (x : Name) (k : ℕ) → Small k → is_mark (last_of (numbered x k)) ≡ true
-numbered_marked x k h = go (is_own x) refl
+numbered_marked x k h = go (is_own_stem x) refl
   where
     digits_mark : (d : List ℕ) → AllDigits 10 d → (d ≡ [] → ⊥) → is_mark (last_of (95 ∷ d)) ≡ true
     digits_mark [] a n = absurd (n refl)
     digits_mark (c ∷ d) a n = digit_last c d a
 
-    go : (t : Bool) → is_own x ≡ t → is_mark (last_of (numbered x k)) ≡ true
+    go : (t : Bool) → is_own_stem x ≡ t → is_mark (last_of (numbered x k)) ≡ true
     go false e = ap (λ y. is_mark (last_of y)) (numbered_open x k e) ∙ ap is_mark (last_behind x 95 (decimal k)) ∙ digits_mark (decimal k) (digits_of k h) (some_digit k h)
     go true e = ap (λ y. is_mark (last_of y)) (numbered_own x k e) ∙ ap is_mark (last_behind (118 ∷ x) 95 (decimal k ++ 95 ∷ []) ∙ last_behind (95 ∷ decimal k) 95 [])
 
@@ -72,20 +72,24 @@ word_if_own y h = only (is_own y) _ _ _ _ _ _ _ _ (unmarked type_keywords refl y
     only o a b c d e f true i p q r s t u v w = absurd (true≢false v)
     only o a b c d e f g true p q r s t u v w = absurd (true≢false w)
 
--- whether it begins as a word of this program's own does not hang on the number
-open_alike : (x : Name) (k j : ℕ) → is_own (open_form x k) ≡ is_own (open_form x j)
-open_alike [] k j = refl
-open_alike (a ∷ []) k j = refl
-open_alike (a ∷ (b ∷ [])) k j = refl
-open_alike (a ∷ (b ∷ (c ∷ []))) k j = refl
-open_alike (a ∷ (b ∷ (c ∷ (d ∷ x)))) k j = refl
+-- whether a name begins as an own one does not hang on what stands behind its line
+open_alike : (x : Name) (d : List ℕ) → is_own (x ++ 95 ∷ d) ≡ is_own_stem x
+open_alike [] d = refl
+open_alike (a ∷ []) d = refl
+open_alike (a ∷ (b ∷ [])) d = refl
+open_alike (a ∷ (b ∷ (c ∷ []))) d = refl
+open_alike (a ∷ (b ∷ (c ∷ (e ∷ x)))) d = refl
 
-own_alike : (x : Name) (k j : ℕ) → is_own (numbered x k) ≡ is_own (numbered x j)
-own_alike x k j = go (is_own x) refl
+numbered_not_own : (x : Name) (k : ℕ) → is_own (numbered x k) ≡ false
+numbered_not_own x k = go (is_own_stem x) refl
   where
-    go : (t : Bool) → is_own x ≡ t → is_own (numbered x k) ≡ is_own (numbered x j)
-    go false e = ap is_own (numbered_open x k e) ∙ open_alike x k j ∙ sym (ap is_own (numbered_open x j e))
-    go true e = ap is_own (numbered_own x k e) ∙ sym (ap is_own (numbered_own x j e))
+    go : (t : Bool) → is_own_stem x ≡ t → is_own (numbered x k) ≡ false
+    go false e = ap is_own (numbered_open x k e) ∙ open_alike x (decimal k) ∙ e
+    go true e = ap is_own (numbered_own x k e)
+
+-- so no name with a number is a word of C
+numbered_no_word : (x : Name) (k : ℕ) → Small k → is_word (numbered x k) ≡ false
+numbered_no_word x k h = word_if_own (numbered x k) (numbered_marked x k h) ∙ numbered_not_own x k
 
 module _ (globals binders : List Name) (small : room globals binders < 2 ^ 63) where
   abbrev number_for : Name → ℕ
@@ -94,16 +98,9 @@ module _ (globals binders : List Name) (small : room globals binders < 2 ^ 63) w
   small_number : (x : Name) → Small (number_for x)
   small_number x = let r = number_below (is_taken globals binders) x (room globals binders) 1 in omega arith
 
-  -- a renamed binder's name is a word of C, or nothing has it
-  renamed : (x : Name) → (is_word (numbered x (number_for x)) ≡ true) ⊎ (is_taken globals binders (numbered x (number_for x)) ≡ false)
-  renamed x = go (is_word (numbered x (number_for x))) refl
-    where
-      same_word : (k : ℕ) → Small k → is_word (numbered x k) ≡ is_word (numbered x (number_for x))
-      same_word k h = word_if_own (numbered x k) (numbered_marked x k h) ∙ own_alike x k (number_for x) ∙ sym (word_if_own (numbered x (number_for x)) (numbered_marked x (number_for x) (small_number x)))
-
-      go : (t : Bool) → is_word (numbered x (number_for x)) ≡ t → (is_word (numbered x (number_for x)) ≡ true) ⊎ (is_taken globals binders (numbered x (number_for x)) ≡ false)
-      go true e = inl e
-      go false e = inr (free globals binders x small (λ k h. same_word k h ∙ e))
+  -- nothing has the name of a renamed binder
+  renamed : (x : Name) → is_taken globals binders (numbered x (number_for x)) ≡ false
+  renamed x = free globals binders x small (numbered_no_word x)
 
   kept_name : (x : Name) → is_reserved globals x ≡ false → c_name globals binders x ≡ x
   kept_name x h = ap (λ b. pick b (numbered x (number_for x)) x) h
@@ -113,10 +110,7 @@ module _ (globals binders : List Name) (small : room globals binders < 2 ^ 63) w
 
   renamed_and_kept : (a b : Name) → is_in binders b ≡ true → is_reserved globals b ≡ false → numbered a (number_for a) ≡ b → ⊥
   renamed_and_kept a b i r e =
-      ⊎_elim
-      (λ w. true≢false (sym (ap is_word (sym e) ∙ w) ∙ (or_false (is_word b) (is_in globals b) r).0))
-      (λ t. true≢false (sym i ∙ ap (is_in binders) (sym e) ∙ (or_false _ (is_in binders (numbered a (number_for a))) t).1))
-      (renamed a)
+      true≢false (sym i ∙ ap (is_in binders) (sym e) ∙ (or_false _ (is_in binders (numbered a (number_for a))) (renamed a)).1)
 
   pub names_apart : (a b : Name) → is_in binders a ≡ true → is_in binders b ≡ true → (a ≡ b → ⊥) → c_name globals binders a ≡ c_name globals binders b → ⊥
   names_apart a b i j n e = go (is_reserved globals a) (is_reserved globals b) refl refl
@@ -127,15 +121,12 @@ module _ (globals binders : List Name) (small : room globals binders < 2 ^ 63) w
       go false true h k = renamed_and_kept b a i h (sym (new_name b k) ∙ sym e ∙ kept_name a h)
       go true true h k = n (numbered_injective a b (number_for a) (number_for b) (small_number a) (small_number b) (sym (new_name a h) ∙ e ∙ new_name b k)).0
 
-  -- a global name that is no word of C
-  pub no_global : (g x : Name) → is_in globals g ≡ true → is_word g ≡ false → g ≡ c_name globals binders x → ⊥
-  no_global g x i w e = go (is_reserved globals x) refl
+  -- no binder has a global name
+  pub no_global : (g x : Name) → is_in globals g ≡ true → g ≡ c_name globals binders x → ⊥
+  no_global g x i e = go (is_reserved globals x) refl
     where
       go : (t : Bool) → is_reserved globals x ≡ t → ⊥
       go false h = true≢false (sym i ∙ ap (is_in globals) (e ∙ kept_name x h) ∙ (or_false (is_word x) (is_in globals x) h).1)
       go true h =
-          let same = e ∙ new_name x h in
-          ⊎_elim
-          (λ d. true≢false (sym (ap is_word same ∙ d) ∙ w))
-          (λ t. true≢false (sym i ∙ ap (is_in globals) same ∙ (or_false (is_word (numbered x (number_for x))) (is_in globals (numbered x (number_for x))) (or_false (is_reserved globals (numbered x (number_for x))) _ t).0).1))
-          (renamed x)
+          let y = numbered x (number_for x) in
+          true≢false (sym i ∙ ap (is_in globals) (e ∙ new_name x h) ∙ (or_false (is_word y) (is_in globals y) (or_false (is_reserved globals y) _ (renamed x)).0).1)

@@ -10,9 +10,9 @@ use Rattle.c_names.specs.Words.{Name, same_name, is_in, is_word}
 use Rattle.c_names.specs.Names.{c_name}
 use Rattle.c_names.specs.Binders.{binders_in, binders_of, param_binders, all_binders, names_of, called, c_names, name_in}
 use Rattle.c_names.specs.Clash.{clashing, first_clash}
-use Rattle.c_tree.specs.Lowered.{Naming}
-use Rattle.c_tree.specs.LoweredUnit.{Printing, field_name, named_field, or_none, naming_in, is_used, fields_from, fields_of, printed_names, global_names}
-use Rattle.c_tree.specs.Simulation.{Declared, IsAlone}
+use Rattle.c_printer.specs.Lowered.{Naming}
+use Rattle.c_printer.specs.LoweredUnit.{Printing, field_name, named_field, or_none, naming_in, is_used, fields_from, fields_of, printed_names, global_names}
+use Rattle.c_laws.specs.Simulation.{Declared, IsAlone}
 use Rattle.c_laws.specs.Laws.{declared_in}
 use Rattle.c_laws.proofs.Spelling.{names_equal, same_self, differ}
 use Rattle.c_laws.proofs.Free.{or_false, or_rest, room}
@@ -99,14 +99,6 @@ clash_parts x xs h = go (is_word x || is_in xs x) refl h
     go : (t : Bool) → (is_word x || is_in xs x) ≡ t → clashing t x (first_clash xs) ≡ None → (is_word x ≡ false) × (is_in xs x ≡ false) × (first_clash xs ≡ None)
     go true e k = absurd (some_none k)
     go false e k = let p = or_false (is_word x) (is_in xs x) e in (p.0, p.1, k)
-
-no_word : (xs : List Name) (g : Name) → first_clash xs ≡ None → is_in xs g ≡ true → is_word g ≡ false
-no_word [] g h k = absurd (true≢false (sym k))
-no_word (x ∷ xs) g h k = let p = clash_parts x xs h in go (same_name x g) refl p.0 (no_word xs g p.2)
-  where
-    go : (t : Bool) → same_name x g ≡ t → is_word x ≡ false → (is_in xs g ≡ true → is_word g ≡ false) → is_word g ≡ false
-    go true e w rest = ap is_word (sym (names_equal x g e)) ∙ w
-    go false e w rest = rest (or_rest (same_name x g) (is_in xs g) e k)
 
 rear_clash : (xs ys : List Name) → first_clash (xs ++ ys) ≡ None → first_clash ys ≡ None
 rear_clash [] ys h = h
@@ -196,7 +188,7 @@ module _ (program : Program) (what : List Printing) (p : Procedure) (distinct : 
   pub are_named : AreNamed naming (declared_in program what) all
   are_named = record {
     apart = λ a b h k e. differ _ _ (λ same. names_apart globals (names_of all) few a.name b.name (name_there a all h) (name_there b all k) (no_text a b e) (sym (own_name a h) ∙ same ∙ own_name b k));
-    no_field = λ b h f d. differ _ _ (λ same. no_global globals (names_of all) few (naming.field f) b.name (field_there f d) (no_word globals (naming.field f) clear (field_there f d)) (same ∙ own_name b h));
+    no_field = λ b h f d. differ _ _ (λ same. no_global globals (names_of all) few (naming.field f) b.name (field_there f d) (same ∙ own_name b h));
     alone = λ f d g e. let q = parts f d in let r = parts g e in used_apart (is_used program what) program.fields f g q.1 r.1 q.0 r.0 (rear_clash (printed_names program what) (fields_of program what) clear);
     stored = λ x. refl;
   }

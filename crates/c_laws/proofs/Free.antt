@@ -1,4 +1,4 @@
--- A renamed binder gets a name that nothing else has, unless every numbered name is a word of C.
+-- Where no numbered name is a word of C, a renamed binder gets a name that nothing else has.
 use Rattle.std.proofs.Common.{◌≡◌, ◌≤◌, ◌<◌, ◌+◌, ◌^◌, ◌==◌, ◌++◌, ℕ, zero, suc, nat_lt, Bool, true, false, not, ◌&&◌, ◌||◌, cond, List, [], ◌∷◌, length, refl, sym, ap, ◌∙◌, subst, arith, true≢false, codes, eqb-true, eq-eqb, ◌⊎◌, ⊎_elim, inl, inr}
 use Rattle.std.specs.Fmt.{decimal}
 use Rattle.std.proofs.lemmas.Bool.{and_parts, and_from}

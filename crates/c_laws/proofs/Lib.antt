@@ -1,3 +1,18 @@
+pub mod Steps
+pub mod Offsets
+pub mod Numbers
+pub mod Data
+pub mod Places
+pub mod Extents
+pub mod Open
+pub mod Simulate
+pub mod Scopes
+pub mod Tests
+pub mod Settings
+pub mod Allocs
+pub mod Simulated
+pub mod Beginnings
+pub mod Procedures
 pub mod Rules
 pub mod Good
 pub mod Spelling
@@ -6,4 +21,5 @@ pub mod Apart
 pub mod UsedFields
 pub mod Params
 pub mod CNames
-pub mod Follows
+pub mod Units
+pub mod Instance

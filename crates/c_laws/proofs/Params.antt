@@ -8,10 +8,11 @@ use Rattle.exo_meaning.specs.Scene.{updated}
 use Rattle.exo_meaning.specs.Units.{Sort, Named, Scope, sort_in, is_text, is_new, with_name, param_sort, scope_of, plainly, are_controls, is_rank, is_param_kind, are_params}
 use Rattle.c_names.specs.Binders.{param_binders}
 use Rattle.c_widths.specs.Widths.{are_narrow, has_narrow_dims, have_narrow_dims}
-use Rattle.c_tree.specs.Magnitude.{AreNarrow}
-use Rattle.c_tree.specs.Lowered.{Form, NoForm, NumberForm, TensorForm, WindowForm, Forms}
-use Rattle.c_tree.specs.SameInput.{form_of, param_forms, IsGoodParam, AreGoodParams}
-use Rattle.c_tree.specs.Simulation.{IsPlain, ArePlain}
+use Rattle.c_laws.specs.Magnitude.{AreNarrow}
+use Rattle.c_printer.specs.Lowered.{Form, NoForm, NumberForm, TensorForm, WindowForm, Forms}
+use Rattle.c_printer.specs.Lowered.{form_of, param_forms}
+use Rattle.c_laws.specs.SameInput.{IsGoodParam, AreGoodParams}
+use Rattle.c_laws.specs.Simulation.{IsPlain, ArePlain}
 use Rattle.c_printer.specs.SelfContained.{is_no_window, are_no_windows}
 use Rattle.c_laws.proofs.Rules.{Stands, Fits, wider, all_plain, all_narrow}
 use Rattle.c_laws.proofs.Good.{IsIn, AreIn, ScopeIn, not_there, not_true}

@@ -10,10 +10,10 @@ use Rattle.exo_meaning.specs.Scene.{updated}
 use Rattle.exo_meaning.specs.Units.{Sort, ControlName, BufferName, Scope, sort_in, with_name, is_number, is_flag, is_truth, has_rank, has_dimension, Reads, plainly, is_literal_number, is_of_literals, is_control, are_controls, is_condition, is_access, is_datum}
 use Rattle.c_widths.specs.Magnitude.{magnitude, fits, is_narrow}
 use Rattle.c_widths.specs.Widths.{are_narrow, is_narrow_test, is_narrow_datum}
-use Rattle.c_tree.specs.Magnitude.{IsNarrow, AreNarrow}
-use Rattle.c_tree.specs.Lowered.{Form, NoForm, NumberForm, TensorForm, Forms}
-use Rattle.c_tree.specs.LoweredUnit.{in_control, in_condition}
-use Rattle.c_tree.specs.Simulation.{Declared, HasStride, IsPlain, ArePlain, IsOpen, IsTensorName, IsGood, AreGood, IsGoodOpen, IsGoodDatum, IsGoodTest}
+use Rattle.c_laws.specs.Magnitude.{IsNarrow, AreNarrow}
+use Rattle.c_printer.specs.Lowered.{Form, NoForm, NumberForm, TensorForm, Forms}
+use Rattle.c_printer.specs.LoweredUnit.{in_control, in_condition}
+use Rattle.c_laws.specs.Simulation.{Declared, HasStride, IsPlain, ArePlain, IsOpen, IsTensorName, IsGood, AreGood, IsGoodOpen, IsGoodDatum, IsGoodTest}
 
 -- ---- widths
 

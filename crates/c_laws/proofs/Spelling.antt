@@ -112,18 +112,22 @@ assoc (a ∷ x) y z = ap (λ r. a ∷ r) (assoc x y z)
 abbrev pub open_form : Name → ℕ → Name
 open_form x k = x ++ 95 ∷ decimal k
 
+-- whether the name begins as an own one once a number is behind it
+abbrev pub is_own_stem : Name → Bool
+is_own_stem x = is_own (x ++ 95 ∷ [])
+
 abbrev pub own_form : Name → ℕ → Name
 own_form x k = 118 ∷ (x ++ 95 ∷ (decimal k ++ 95 ∷ []))
 
-numbered_is : (x : Name) (k : ℕ) → numbered x k ≡ pick (is_own x) (own_form x k) (open_form x k)
+numbered_is : (x : Name) (k : ℕ) → numbered x k ≡ pick (is_own_stem x) (own_form x k) (open_form x k)
 numbered_is x k =
-    ap (λ u. pick (is_own x) u (x ++ codes "_" ++ decimal k)) (assoc ((118 ∷ x) ++ 95 ∷ []) (decimal k) (95 ∷ []) ∙ assoc (118 ∷ x) (95 ∷ []) (decimal k ++ 95 ∷ []))
-    ∙ ap (λ v. pick (is_own x) (own_form x k) v) (assoc x (95 ∷ []) (decimal k))
+    ap (λ u. pick (is_own_stem x) u (x ++ codes "_" ++ decimal k)) (assoc ((118 ∷ x) ++ 95 ∷ []) (decimal k) (95 ∷ []) ∙ assoc (118 ∷ x) (95 ∷ []) (decimal k ++ 95 ∷ []))
+    ∙ ap (λ v. pick (is_own_stem x) (own_form x k) v) (assoc x (95 ∷ []) (decimal k))
 
-pub numbered_open : (x : Name) (k : ℕ) → is_own x ≡ false → numbered x k ≡ open_form x k
+pub numbered_open : (x : Name) (k : ℕ) → is_own_stem x ≡ false → numbered x k ≡ open_form x k
 numbered_open x k h = numbered_is x k ∙ ap (λ b. pick b (own_form x k) (open_form x k)) h
 
-pub numbered_own : (x : Name) (k : ℕ) → is_own x ≡ true → numbered x k ≡ own_form x k
+pub numbered_own : (x : Name) (k : ℕ) → is_own_stem x ≡ true → numbered x k ≡ own_form x k
 numbered_own x k h = numbered_is x k ∙ ap (λ b. pick b (own_form x k) (open_form x k)) h
 
 -- the two forms end differently
@@ -131,12 +135,12 @@ forms_differ : (x y : Name) (k j : ℕ) → Small k → Small j → open_form x 
 forms_differ x y k j p q e = some_digit k p (split x (118 ∷ (y ++ 95 ∷ decimal j)) (decimal k) [] (digits_of k p) tt (e ∙ ap (λ r. 118 ∷ r) (sym (assoc y (95 ∷ decimal j) (95 ∷ []))))).1
 
 pub numbered_injective : (x y : Name) (k j : ℕ) → Small k → Small j → numbered x k ≡ numbered y j → (x ≡ y) × (k ≡ j)
-numbered_injective x y k j p q e = go (is_own x) (is_own y) refl refl
+numbered_injective x y k j p q e = go (is_own_stem x) (is_own_stem y) refl refl
   where
     numbers : (x ≡ y) × (decimal k ≡ decimal j) → (x ≡ y) × (k ≡ j)
     numbers r = (r.0, decimal_injective k j p q r.1)
 
-    go : (s t : Bool) → is_own x ≡ s → is_own y ≡ t → (x ≡ y) × (k ≡ j)
+    go : (s t : Bool) → is_own_stem x ≡ s → is_own_stem y ≡ t → (x ≡ y) × (k ≡ j)
     go false false h i = numbers (split x y (decimal k) (decimal j) (digits_of k p) (digits_of j q) (sym (numbered_open x k h) ∙ e ∙ numbered_open y j i))
     go true true h i = numbers (split_between x y (decimal k) (decimal j) (digits_of k p) (digits_of j q) (rest_is 118 118 _ _ (sym (numbered_own x k h) ∙ e ∙ numbered_own y j i)))
     go false true h i = absurd (forms_differ x y k j p q (sym (numbered_open x k h) ∙ e ∙ numbered_own y j i))

@@ -7,7 +7,7 @@ use Rattle.exo_tree.specs.Tree.{Kind, Control, Lit, Var, Field, StrideOf, Neg, A
 use Rattle.exo_meaning.specs.Calls.{Callee}
 use Rattle.exo_meaning.specs.Run.{roots_after}
 use Rattle.exo_meaning.specs.Units.{Scope, Reads, plainly, with_fields, with_strides, is_truth, is_literal_number, is_of_literals, is_number_field, is_flag_field, is_control, is_condition, is_of_kind, is_write, is_new, is_empty, is_short, scope_after, is_block, is_statement, field_kind}
-use Rattle.c_tree.specs.LoweredUnit.{in_control, in_condition, in_argument, in_statement, in_block}
+use Rattle.c_printer.specs.LoweredUnit.{in_control, in_condition, in_argument, in_statement, in_block}
 use Rattle.c_printer.specs.SelfContained.{is_alone, is_alone_block}
 
 -- a field of that number is there

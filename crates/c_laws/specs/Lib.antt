@@ -1,1 +1,5 @@
+pub mod Magnitude
+pub mod Simulation
+pub mod SameInput
 pub mod Laws
+pub mod Instance

@@ -1,4 +1,4 @@
-//! The laws of lowered units, each the contract of a function with nothing to do.
+//! The C of a printed procedure does what the procedure does: laws alone.
 #![tactic(auto)]
 
 pub mod laws;

@@ -10,9 +10,9 @@ abbrev pub pick : {A : Type 0} → Bool → A → A → A
 pick true a b = a
 pick false a b = b
 
--- the name with the number k
+-- the name with the number k; an own name, or one that would be own with a line behind it, gets another beginning
 abbrev pub numbered : Name → ℕ → Name
-numbered x k = pick (is_own x) (codes "v" ++ x ++ codes "_" ++ decimal k ++ codes "_") (x ++ codes "_" ++ decimal k)
+numbered x k = pick (is_own (x ++ codes "_")) (codes "v" ++ x ++ codes "_" ++ decimal k ++ codes "_") (x ++ codes "_" ++ decimal k)
 
 -- the first number from k on whose name is not taken, of at most so many
 abbrev pub first_free : (Name → Bool) → Name → ℕ → ℕ → ℕ
@@ -22,6 +22,6 @@ first_free taken x (suc n) k = let later = first_free taken x n (suc k) in pick 
 abbrev pub is_taken : List Name → List Name → Name → Bool
 is_taken globals binders y = is_reserved globals y || is_in binders y
 
--- the name itself, or with the least number from 1 on where it is reserved; so many numbers are enough, since each taken name has one number
+-- the name itself, or with the least number from 1 on where it is reserved; so many numbers are enough, since no name with a number is a word, and each taken name has one number
 abbrev pub c_name : List Name → List Name → Name → Name
 c_name globals binders x = pick (is_reserved globals x) (numbered x (first_free (is_taken globals binders) x (suc (length globals + length binders)) 1)) x

@@ -33,7 +33,15 @@ fn is_taken(globals: &[Name], binders: &[Name], x: &str) -> bool
     is_reserved(globals, x) || is_in(binders, x)
 }
 
-/// A name that begins with `_` or `exo_`, with a number.
+/// Whether the name begins with `_` or `exo_` once a number is put behind it: so does `exo`.
+fn is_own_stem(alloc: Global, x: &str) -> Result<bool, AllocError>
+    ensures { IfOk result (λ own. own ≡ words.is_own (x.now ++ codes "_")) }
+{
+    let stem = format!(in alloc; "{x}_")?;
+    Ok(is_own(stem.as_str()))
+}
+
+/// Such a name, with a number.
 fn own_numbered(alloc: Global, x: &str, k: usize) -> Result<Name, AllocError>
     ensures { IfOk result (λ n. n ≡ codes "v" ++ x.now ++ codes "_" ++ decimal k ++ codes "_") }
 {
@@ -53,7 +61,8 @@ fn other_numbered(alloc: Global, x: &str, k: usize) -> Result<Name, AllocError>
 fn numbered(alloc: Global, x: &str, k: usize) -> Result<Name, AllocError>
     ensures { IfOk result (λ n. n ≡ names.numbered x.now k) }
 {
-    if is_own(x) {
+    let own = is_own_stem(alloc, x)?;
+    if own {
         return own_numbered(alloc, x, k);
     }
     other_numbered(alloc, x, k)
@@ -75,7 +84,7 @@ fn renamed(alloc: Global, globals: &[Name], binders: &[Name], x: &str) -> Result
 
 /// What a binder with the name `x` is called in a procedure whose binders have the names `binders`, beside functions and
 /// fields with the names `globals`: the name itself where it is not reserved, else `x_k`, or `vx_k_` where it begins with `_` or
-/// `exo_`, with the least number k from 1 on for which that is neither reserved nor a binder's name.
+/// `exo_` or is `exo`, with the least number k from 1 on for which that is neither reserved nor a binder's name.
 pub fn c_name(
     alloc: Global,
     globals: &[Name],

@@ -6,8 +6,8 @@ use Rattle.exo_tree.specs.declared.number.Id.{Id}
 use Rattle.exo_tree.specs.Tree.{Binder, Cell, Control, Statement, Assign, Reduce, Config, Pass, If, For, Alloc, View, Call, block, MemoryKind, Program}
 use Rattle.exo_meaning.specs.Scene.{updated}
 use Rattle.c_tree.specs.CTree.{Name, Number64, Element, Single, Vector, CStatement, Array, Malloc, Free, CBlock, stop, first, followed_by, cblock}
-use Rattle.c_tree.specs.Lowered.{Naming, Forms, TensorForm, Memory, allocated, before, block_of, forms_after, dims_of, product_of, literals, without_lanes, is_empty}
-use Rattle.c_tree.specs.LoweredUnit.{memory_of, naming_in}
+use Rattle.c_printer.specs.Lowered.{Naming, Forms, TensorForm, Memory, allocated, before, block_of, forms_after, dims_of, product_of, literals, without_lanes, is_empty}
+use Rattle.c_printer.specs.LoweredUnit.{memory_of, naming_in}
 use Rattle.c_printer.specs.SelfContained.{is_heap, is_alone, is_alone_block}
 use Rattle.c_printer.specs.Heads.{is_on_stack, made, allocation, buffer_of, head_of, freed, end_of, scope_after, heaped, frees}
 

@@ -3,4 +3,3 @@ pub mod Scopes
 pub mod Offsets
 pub mod Parameters
 pub mod Widths
-pub mod Maps

@@ -5,16 +5,15 @@ use Rattle.std.proofs.lemmas.Bool.{and_parts}
 use Rattle.exo_tree.specs.PlainParam.{parameter, parameter_kind}
 use Rattle.exo_tree.specs.declared.param.Param.{Param}
 use Rattle.exo_meaning.specs.Scene.{updated}
-use Rattle.c_tree.specs.Lowered as lowered
-use Rattle.c_tree.specs.SameInput as input
-use Rattle.c_tree.specs.SameInput.{param_forms}
+use Rattle.c_printer.specs.Lowered as lowered
+use Rattle.c_printer.specs.Lowered.{param_forms}
 use Rattle.c_printer.specs.SelfContained.{is_no_window, are_no_windows}
 
-param_first : (p : Param) (ps : List Param) → updated (param_forms (map parameter ps)) p.binder.id.0 (input.form_of (parameter_kind p.kind)) ≡ param_forms (map parameter (p ∷ ps))
-param_first p ps = let same : (x : ℕ) → updated (param_forms (map parameter ps)) p.binder.id.0 (input.form_of (parameter_kind p.kind)) x ≡ param_forms (map parameter (p ∷ ps)) x = λ x. refl in λ i x. same x i
+param_first : (p : Param) (ps : List Param) → updated (param_forms (map parameter ps)) p.binder.id.0 (lowered.form_of (parameter_kind p.kind)) ≡ param_forms (map parameter (p ∷ ps))
+param_first p ps = let same : (x : ℕ) → updated (param_forms (map parameter ps)) p.binder.id.0 (lowered.form_of (parameter_kind p.kind)) x ≡ param_forms (map parameter (p ∷ ps)) x = λ x. refl in λ i x. same x i
 
 -- one parameter more
-pub param_more : (ps : List Param) (k : ℕ) (p : Param) (forms more : lowered.Forms) (form : lowered.Form) → k < length ps → p ≡ get_or ps (length ps - 1 - k) p → form ≡ input.form_of (parameter_kind p.kind) → more ≡ updated forms p.binder.id.0 form → forms ≡ param_forms (map parameter (drop (length ps - k) ps)) → more ≡ param_forms (map parameter (drop (length ps - (k + 1)) ps))
+pub param_more : (ps : List Param) (k : ℕ) (p : Param) (forms more : lowered.Forms) (form : lowered.Form) → k < length ps → p ≡ get_or ps (length ps - 1 - k) p → form ≡ lowered.form_of (parameter_kind p.kind) → more ≡ updated forms p.binder.id.0 form → forms ≡ param_forms (map parameter (drop (length ps - k) ps)) → more ≡ param_forms (map parameter (drop (length ps - (k + 1)) ps))
 param_more ps k p forms more form h is form_is entered so_far =
     let at = length ps - 1 - k in
     let inside : at < length ps = omega (arith, h) in

@@ -3,7 +3,7 @@ use Rattle.std.specs.Prelude.{ℕ, pos, Bool, true, false, ◌||◌, List, [], �
 use Rattle.exo_tree.specs.Tree.{Binder, Cell, I32, Index, Control, Statement, Assign, Reduce, Config, Pass, If, For, Alloc, View, Call, ControlParam}
 use Rattle.exo_meaning.specs.Scene.{updated}
 use Rattle.c_tree.specs.CTree.{Name, Number64, Literal, Single, CStatement, Store, AddTo, SetField, Empty, Branch, Loop, Array, Malloc, Free, CBlock, stop, first, followed_by}
-use Rattle.c_tree.specs.Lowered.{Naming, Forms, NumberForm, TensorForm, cell_in, cell_at_of, number32_of, number_of, test_of, actual_of, actuals_of, window_of, bind_of, call_of, dims_of, product_of, without_lanes, literals, element_of, is_empty, block_of, horner}
+use Rattle.c_printer.specs.Lowered.{Naming, Forms, NumberForm, TensorForm, cell_in, cell_at_of, number32_of, number_of, test_of, actual_of, actuals_of, window_of, bind_of, call_of, dims_of, product_of, without_lanes, literals, element_of, is_empty, block_of, horner}
 
 -- whether an allocation is on the stack: where its memory is, or where it is one cell
 abbrev pub is_on_stack : Naming → ℕ → List Control → Bool

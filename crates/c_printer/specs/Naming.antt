@@ -3,8 +3,8 @@ use Rattle.std.specs.Prelude.{pos}
 use Rattle.exo_tree.specs.Tree.{Control}
 use Rattle.exo_tree.specs.PlainUnit.{program}
 use Rattle.c_tree.specs.CTree.{Number64, Literal}
-use Rattle.c_tree.specs.Lowered.{Naming, number_with}
-use Rattle.c_tree.specs.LoweredUnit.{naming_in}
+use Rattle.c_printer.specs.Lowered.{Naming, number_with}
+use Rattle.c_printer.specs.LoweredUnit.{naming_in}
 use Rattle.c_printer.specs.declared.names.Names.{Names}
 
 abbrev pub naming_of : Names → Naming

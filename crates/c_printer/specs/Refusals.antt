@@ -4,9 +4,9 @@ use Rattle.exo_tree.specs.Tree.{Procedure, MemoryKind, Program}
 use Rattle.c_widths.specs.Widths.{is_narrow_procedure}
 use Rattle.c_names.specs.Words.{Name}
 use Rattle.c_names.specs.Clash.{first_clash}
-use Rattle.c_tree.specs.LoweredUnit.{Printing, global_names}
-use Rattle.c_tree.specs.declared.lowering.LowerError.{LowerError}
-use Rattle.c_tree.specs.declared.lowering.LowerError.TheVariants.{TooWide, NameClash, Memory}
+use Rattle.c_printer.specs.LoweredUnit.{Printing, global_names}
+use Rattle.c_printer.specs.declared.report.LowerError.{LowerError}
+use Rattle.c_printer.specs.declared.report.LowerError.TheVariants.{TooWide, NameClash, Memory}
 
 -- a magnitude in the procedure's own tree passes its bound
 abbrev pub is_wide : List MemoryKind → Option Procedure → Bool

@@ -1,8 +1,8 @@
 -- What the names in scope are in C, as the program keeps them.
 use Rattle.std.specs.Prelude.{ℕ, ◌==◌, if◌then◌else◌, List, [], ◌∷◌, Option, Some, None}
 use Rattle.exo_tree.specs.PlainBinder.{cell_type}
-use Rattle.c_tree.specs.Lowered as lowered
-use Rattle.c_tree.specs.Lowered.{Forms, NoForm, NumberForm, TensorForm}
+use Rattle.c_printer.specs.Lowered as lowered
+use Rattle.c_printer.specs.Lowered.{Forms, NoForm, NumberForm, TensorForm}
 use Rattle.c_printer.specs.declared.scope.Form.{Form}
 use Rattle.c_printer.specs.declared.scope.Form.TheVariants.{Number, Tensor}
 use Rattle.c_printer.specs.declared.scope.Entry.{Entry}

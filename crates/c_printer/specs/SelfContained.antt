@@ -1,7 +1,7 @@
 -- Procedures that stand by themselves: no windows, no views, no calls, and no allocation but in cells on the heap.
 use Rattle.std.specs.Prelude.{◌==◌, Bool, true, false, not, ◌&&◌, List, [], ◌∷◌, Option, Some, None, slice_get}
 use Rattle.exo_tree.specs.Tree.{Argument, ControlArg, ConditionArg, Whole, Window, Statement, Assign, Reduce, Config, Pass, If, For, Alloc, View, Call, Block, end, next, Param, ParamKind, ControlParam, TensorParam, WindowParam, Procedure, MemoryKind, Program}
-use Rattle.c_tree.specs.LoweredUnit.{Printing}
+use Rattle.c_printer.specs.LoweredUnit.{Printing}
 
 -- a memory of cells on the heap, as `DRAM` is: not of vectors, and not on the stack
 abbrev pub is_heap : Option MemoryKind → Bool

@@ -8,7 +8,7 @@ ghost use Rattle.exo_tree.specs.PlainArgument.{argument};
 ghost use Rattle.exo_tree.specs.PlainStatement.{statement};
 ghost use Rattle.c_tree.specs.CTree.{cblock, followed_by};
 ghost use Rattle.c_tree.specs.Plain.{plain_type, plain_cell, plain_data, plain_statement};
-ghost use Rattle.c_tree.specs.Lowered.{cell_in, cell_at_of, number32_of, block_of};
+ghost use Rattle.c_printer.specs.Lowered.{cell_in, cell_at_of, number32_of, block_of};
 ghost use Rattle.c_printer.specs.Scope.{forms_in};
 ghost use Rattle.c_printer.specs.Naming.{naming_of};
 ghost use Rattle.c_printer.specs.Heads.{allocation, buffer_of, head_of, scope_after, heaped, frees};
@@ -90,9 +90,9 @@ fn lower_branch(
     ensures value { IfOk result (λ s. plain_statement s ≡ head_of (naming_of names.now) (forms_in scope.old.items) (If (condition c.now) (block a.now) (block b.now))) }
     ensures scope { OnOk result (scope.new.items ≡ scope.old.items) }
 {
-    let test = lower_test(alloc, names, scope, c)?;
     let main = lower_block(alloc, names, scope, a)?;
     let other = lower_block(alloc, names, scope, b)?;
+    let test = lower_test(alloc, names, scope, c)?;
     Ok(CStatement::Branch(test, main, other))
 }
 

@@ -6,9 +6,10 @@ ghost use Rattle.exo_tree.specs.PlainDatum.{datum};
 ghost use Rattle.exo_tree.specs.PlainArgument.{argument};
 ghost use Rattle.c_tree.specs.CTree.{InArray};
 ghost use Rattle.c_tree.specs.Plain.{plain_number, plain_test, plain_cell, plain_data, plain_value};
-ghost use Rattle.c_tree.specs.Lowered.{number_of, test_of, cell_at_of, number32_of, actual_of};
+ghost use Rattle.c_printer.specs.Lowered.{number_of, test_of, cell_at_of, number32_of, actual_of};
 ghost use Rattle.c_printer.specs.Scope.{forms_in};
 ghost use Rattle.c_printer.specs.Naming.{naming_of};
+ghost use Rattle.c_printer.specs.Operations.{data_of_one, data_of_two, compared, connected};
 ghost use Rattle.c_printer.specs.SelfContained.{is_value};
 
 use crate::names::Names;
@@ -34,7 +35,31 @@ fn lower_sides(
     Ok((left, right))
 }
 
+/// A comparison, as the condition is one, of the C of its sides.
+fn compared(c: &Cond, left: CNumber, right: CNumber) -> CTest
+    ensures { plain_test result ≡ compared (condition c.now) (plain_number left) (plain_number right) }
+{
+    match c {
+        Cond::Lt(_, _) => CTest::Less(left, right),
+        Cond::Le(_, _) => CTest::LessEqual(left, right),
+        Cond::Gt(_, _) => CTest::More(left, right),
+        Cond::Ge(_, _) => CTest::MoreEqual(left, right),
+        _ => CTest::Equal(left, right),
+    }
+}
+
+/// Both or either, as the condition is one, of the C of its sides.
+fn connected(c: &Cond, left: Box<CTest>, right: Box<CTest>) -> CTest
+    ensures { plain_test result ≡ connected (condition c.now) (plain_test left.value) (plain_test right.value) }
+{
+    match c {
+        Cond::And(_, _) => CTest::Both(left, right),
+        _ => CTest::Either(left, right),
+    }
+}
+
 /// The C of a condition.
+#[cycle(test)]
 pub(crate) fn lower_test(
     alloc: Global,
     names: &Names<'_>,
@@ -48,35 +73,30 @@ pub(crate) fn lower_test(
         Cond::False => Ok(CTest::Never),
         Cond::Var(x) => Ok(CTest::IsSet(names.binder(alloc, *x)?)),
         Cond::Field(f) => Ok(CTest::IsSet(names.field(alloc, *f)?)),
-        Cond::Lt(a, b) => {
+        Cond::Lt(a, b) | Cond::Le(a, b) | Cond::Gt(a, b) | Cond::Ge(a, b) | Cond::Eq(a, b) => {
             let (left, right) = lower_sides(alloc, names, scope, a, b)?;
-            Ok(CTest::Less(left, right))
+            Ok(compared(c, left, right))
         }
-        Cond::Le(a, b) => {
-            let (left, right) = lower_sides(alloc, names, scope, a, b)?;
-            Ok(CTest::LessEqual(left, right))
-        }
-        Cond::Gt(a, b) => {
-            let (left, right) = lower_sides(alloc, names, scope, a, b)?;
-            Ok(CTest::More(left, right))
-        }
-        Cond::Ge(a, b) => {
-            let (left, right) = lower_sides(alloc, names, scope, a, b)?;
-            Ok(CTest::MoreEqual(left, right))
-        }
-        Cond::Eq(a, b) => {
-            let (left, right) = lower_sides(alloc, names, scope, a, b)?;
-            Ok(CTest::Equal(left, right))
-        }
-        Cond::And(a, b) => {
-            let left = Box::new(alloc, lower_test(alloc, names, scope, a)?)?;
-            Ok(CTest::Both(left, Box::new(alloc, lower_test(alloc, names, scope, b)?)?))
-        }
-        Cond::Or(a, b) => {
-            let left = Box::new(alloc, lower_test(alloc, names, scope, a)?)?;
-            Ok(CTest::Either(left, Box::new(alloc, lower_test(alloc, names, scope, b)?)?))
+        Cond::And(a, b) | Cond::Or(a, b) => {
+            let left = boxed_test(alloc, names, scope, a)?;
+            let right = boxed_test(alloc, names, scope, b)?;
+            Ok(connected(c, left, right))
         }
     }
+}
+
+/// The C of a part of a condition.
+#[cycle(test)]
+fn boxed_test(
+    alloc: Global,
+    names: &Names<'_>,
+    scope: &[Entry],
+    c: &Cond,
+) -> Result<Box<CTest>, AllocError>
+    ensures { IfOk result (λ t. plain_test t.value ≡ test_of (naming_of names.now) (forms_in scope.now) (condition c.now)) }
+{
+    let test = lower_test(alloc, names, scope, c)?;
+    Ok(Box::new(alloc, test)?)
 }
 
 /// The offset of a cell of a name: 0 where it is no buffer.
@@ -114,7 +134,29 @@ pub(crate) fn lower_cell(
     Ok(CCell { array, offset })
 }
 
+/// A negation or `relu`, as the expression is one, of the C of its part.
+fn of_one(e: &DataExpr, part: Box<CData>) -> CData
+    ensures { plain_data result ≡ data_of_one (datum e.now) (plain_data part.value) }
+{
+    match e {
+        DataExpr::Relu(_) => CData::Relu(part),
+        _ => CData::Opposite(part),
+    }
+}
+
+/// A sum, difference or product, as the expression is one, of the C of its sides.
+fn of_two(e: &DataExpr, left: Box<CData>, right: Box<CData>) -> CData
+    ensures { plain_data result ≡ data_of_two (datum e.now) (plain_data left.value) (plain_data right.value) }
+{
+    match e {
+        DataExpr::Sub(_, _) => CData::Difference(left, right),
+        DataExpr::Mul(_, _) => CData::Product(left, right),
+        _ => CData::Sum(left, right),
+    }
+}
+
 /// The C of a data expression.
+#[cycle(data)]
 pub(crate) fn lower_data(
     alloc: Global,
     names: &Names<'_>,
@@ -126,35 +168,37 @@ pub(crate) fn lower_data(
     match e {
         DataExpr::Lit(n) => Ok(CData::Literal(*n)),
         DataExpr::Read(x, is) => Ok(CData::Read(lower_cell(alloc, names, scope, *x, is)?)),
-        DataExpr::Neg(a) => Ok(CData::Opposite(Box::new(
-            alloc,
-            lower_data(alloc, names, scope, a)?,
-        )?)),
-        DataExpr::Relu(a) => Ok(CData::Relu(Box::new(alloc, lower_data(alloc, names, scope, a)?)?)),
-        DataExpr::Add(a, b) => {
-            let left = Box::new(alloc, lower_data(alloc, names, scope, a)?)?;
-            Ok(CData::Sum(left, Box::new(alloc, lower_data(alloc, names, scope, b)?)?))
+        DataExpr::Neg(a) | DataExpr::Relu(a) => {
+            let part = boxed_data(alloc, names, scope, a)?;
+            Ok(of_one(e, part))
         }
-        DataExpr::Sub(a, b) => {
-            let left = Box::new(alloc, lower_data(alloc, names, scope, a)?)?;
-            Ok(CData::Difference(left, Box::new(alloc, lower_data(alloc, names, scope, b)?)?))
-        }
-        DataExpr::Mul(a, b) => {
-            let left = Box::new(alloc, lower_data(alloc, names, scope, a)?)?;
-            Ok(CData::Product(left, Box::new(alloc, lower_data(alloc, names, scope, b)?)?))
+        DataExpr::Add(a, b) | DataExpr::Sub(a, b) | DataExpr::Mul(a, b) => {
+            let left = boxed_data(alloc, names, scope, a)?;
+            let right = boxed_data(alloc, names, scope, b)?;
+            Ok(of_two(e, left, right))
         }
         DataExpr::Select(x, v, y, z) => {
-            let x = Box::new(alloc, lower_data(alloc, names, scope, x)?)?;
-            let v = Box::new(alloc, lower_data(alloc, names, scope, v)?)?;
-            let y = Box::new(alloc, lower_data(alloc, names, scope, y)?)?;
-            Ok(CData::Select(
-                x,
-                v,
-                y,
-                Box::new(alloc, lower_data(alloc, names, scope, z)?)?,
-            ))
+            let x = boxed_data(alloc, names, scope, x)?;
+            let v = boxed_data(alloc, names, scope, v)?;
+            let y = boxed_data(alloc, names, scope, y)?;
+            let z = boxed_data(alloc, names, scope, z)?;
+            Ok(CData::Select(x, v, y, z))
         }
     }
+}
+
+/// The C of a part of a data expression.
+#[cycle(data)]
+fn boxed_data(
+    alloc: Global,
+    names: &Names<'_>,
+    scope: &[Entry],
+    e: &DataExpr,
+) -> Result<Box<CData>, AllocError>
+    ensures { IfOk result (λ d. plain_data d.value ≡ number32_of (naming_of names.now) (forms_in scope.now) (datum e.now)) }
+{
+    let number = lower_data(alloc, names, scope, e)?;
+    Ok(Box::new(alloc, number)?)
 }
 
 /// The C of what a field is set to.

@@ -6,11 +6,11 @@ ghost use Rattle.exo_tree.specs.PlainArgument.{argument};
 ghost use Rattle.exo_tree.specs.PlainStatement.{statement};
 ghost use Rattle.exo_tree.specs.PlainTables.{config_field};
 ghost use Rattle.exo_tree.specs.PlainUnit.{program};
-ghost use Rattle.c_tree.specs.PlainPrinted.{printing};
-ghost use Rattle.c_tree.specs.LoweredUnit.{in_control, in_condition, in_conditions, in_argument, in_arguments, in_block, in_statement, in_procedure, is_used, fields_from, fields_of};
+ghost use Rattle.c_printer.specs.PlainPrinted.{printing};
+ghost use Rattle.c_printer.specs.LoweredUnit.{in_control, in_condition, in_conditions, in_argument, in_arguments, in_block, in_statement, in_procedure, is_used, fields_from, fields_of};
 
 use crate::names::field_name;
-use c_tree::Printed;
+use crate::report::Printed;
 use exo_tree::{Arg, Args, Block, Cond, Conds, Ctrl, Field, Name, ProcId, Stmt, Unit};
 use std::alloc::{AllocError, Global};
 

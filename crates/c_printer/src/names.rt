@@ -1,7 +1,7 @@
 //! The C names of a procedure's binders and of configuration fields.
 ghost use Rattle.std.specs.Prelude.{◌≡◌, ◌++◌, codes, IfOk, string_bytes};
 ghost use Rattle.exo_tree.specs.PlainTables.{config_field};
-ghost use Rattle.c_tree.specs.LoweredUnit.{field_name};
+ghost use Rattle.c_printer.specs.LoweredUnit.{field_name};
 ghost use Rattle.c_printer.specs.Naming.{naming_of};
 
 use c_names::NameTable;

@@ -1,17 +1,18 @@
 //! The C of control expressions.
 ghost use Rattle.std.specs.Prelude.{◌≡◌, ◌+◌, map, drop, IfOk};
 ghost use Rattle.exo_tree.specs.PlainControl.{control};
-ghost use Rattle.c_tree.specs.CTree.{Sum, Product};
+ghost use Rattle.c_tree.specs.CTree.{Named, Sum, Product};
 ghost use Rattle.c_tree.specs.Plain.{plain_number};
-ghost use Rattle.c_tree.specs.Lowered.{number_of, numbers_of, dims_of, product_from, product_of, row_strides, or_one, strides_in, horner, offset};
+ghost use Rattle.c_printer.specs.Lowered.{number_of, numbers_of, dims_of, product_from, product_of, row_strides, or_one, strides_in, horner, offset};
 ghost use Rattle.c_printer.specs.Scope.{forms_in};
 ghost use Rattle.c_printer.specs.Naming.{naming_of, extent_of};
 ghost use Rattle.c_printer.specs.Heads.{offset_behind};
+ghost use Rattle.c_printer.specs.Operations.{of_one, of_two};
 
 use crate::names::Names;
 use crate::scope::{Entry, Form, find};
 use c_tree::tree::CNumber;
-use exo_tree::{Ctrl, Id, Indices};
+use exo_tree::{Ctrl, FieldId, Id, Indices};
 use std::alloc::{AllocError, Global};
 
 /// The product of two numbers.
@@ -30,37 +31,71 @@ fn plus(alloc: Global, a: CNumber, b: CNumber) -> Result<CNumber, AllocError>
     Ok(CNumber::Sum(left, Box::new(alloc, b)?))
 }
 
+/// The number that a control name holds.
+fn binder_number(alloc: Global, names: &Names<'_>, x: Id) -> Result<CNumber, AllocError>
+    ensures { IfOk result (λ n. plain_number n ≡ Named ((naming_of names.now).binder x.0)) }
+{
+    Ok(CNumber::Named(names.binder(alloc, x)?))
+}
+
+/// The number that a configuration field holds.
+fn field_number(alloc: Global, names: &Names<'_>, f: FieldId) -> Result<CNumber, AllocError>
+    ensures { IfOk result (λ n. plain_number n ≡ Named ((naming_of names.now).field f.0)) }
+{
+    Ok(CNumber::Named(names.field(alloc, f)?))
+}
+
+/// A negation, quotient or remainder, as the expression is one, of the C of its part.
+fn of_one(e: &Ctrl, part: Box<CNumber>) -> CNumber
+    ensures { plain_number result ≡ of_one (control e.now) (plain_number part.value) }
+{
+    match e {
+        Ctrl::Div(_, n) => CNumber::Quotient(part, *n),
+        Ctrl::Mod(_, n) => CNumber::Remainder(part, *n),
+        _ => CNumber::Opposite(part),
+    }
+}
+
+/// A sum, difference or product, as the expression is one, of the C of its sides.
+fn of_two(e: &Ctrl, left: Box<CNumber>, right: Box<CNumber>) -> CNumber
+    ensures { plain_number result ≡ of_two (control e.now) (plain_number left.value) (plain_number right.value) }
+{
+    match e {
+        Ctrl::Sub(_, _) => CNumber::Difference(left, right),
+        Ctrl::Mul(_, _) => CNumber::Product(left, right),
+        _ => CNumber::Sum(left, right),
+    }
+}
+
 /// The C of a dimension, which holds no stride.
+#[cycle(extent)]
 fn lower_extent(alloc: Global, names: &Names<'_>, e: &Ctrl) -> Result<CNumber, AllocError>
     ensures { IfOk result (λ n. plain_number n ≡ extent_of (naming_of names.now) (control e.now)) }
 {
     match e {
         Ctrl::Lit(n) => Ok(CNumber::Literal(*n)),
-        Ctrl::Var(x) => Ok(CNumber::Named(names.binder(alloc, *x)?)),
-        Ctrl::Field(f) => Ok(CNumber::Named(names.field(alloc, *f)?)),
+        Ctrl::Var(x) => binder_number(alloc, names, *x),
+        Ctrl::Field(f) => field_number(alloc, names, *f),
         Ctrl::Stride(_, _) => Ok(CNumber::Literal(1)),
-        Ctrl::Neg(a) => Ok(CNumber::Opposite(Box::new(alloc, lower_extent(alloc, names, a)?)?)),
-        Ctrl::Add(a, b) => {
-            let left = Box::new(alloc, lower_extent(alloc, names, a)?)?;
-            Ok(CNumber::Sum(left, Box::new(alloc, lower_extent(alloc, names, b)?)?))
+        Ctrl::Neg(a) | Ctrl::Div(a, _) | Ctrl::Mod(a, _) => {
+            let part = boxed_extent(alloc, names, a)?;
+            Ok(of_one(e, part))
         }
-        Ctrl::Sub(a, b) => {
-            let left = Box::new(alloc, lower_extent(alloc, names, a)?)?;
-            Ok(CNumber::Difference(left, Box::new(alloc, lower_extent(alloc, names, b)?)?))
-        }
-        Ctrl::Mul(a, b) => {
-            let left = Box::new(alloc, lower_extent(alloc, names, a)?)?;
-            Ok(CNumber::Product(left, Box::new(alloc, lower_extent(alloc, names, b)?)?))
-        }
-        Ctrl::Div(a, n) => {
-            let left = Box::new(alloc, lower_extent(alloc, names, a)?)?;
-            Ok(CNumber::Quotient(left, *n))
-        }
-        Ctrl::Mod(a, n) => {
-            let left = Box::new(alloc, lower_extent(alloc, names, a)?)?;
-            Ok(CNumber::Remainder(left, *n))
+        Ctrl::Add(a, b) | Ctrl::Sub(a, b) | Ctrl::Mul(a, b) => {
+            let left = boxed_extent(alloc, names, a)?;
+            let right = boxed_extent(alloc, names, b)?;
+            Ok(of_two(e, left, right))
         }
     }
+}
+
+/// The C of a part of a dimension.
+#[cycle(extent)]
+fn boxed_extent(alloc: Global, names: &Names<'_>, e: &Ctrl) -> Result<Box<CNumber>, AllocError>
+    ensures { IfOk result (λ n. plain_number n.value ≡ extent_of (naming_of names.now) (control e.now)) }
+{
+    let extent = lower_extent(alloc, names, e)?;
+    Ok(Box::new(alloc, extent)?)
 }
 
 /// The product of a number and dimensions, each multiplied on the right.
@@ -140,6 +175,7 @@ fn lower_stride(
 }
 
 /// The C of a control expression.
+#[cycle(number)]
 pub(crate) fn lower_number(
     alloc: Global,
     names: &Names<'_>,
@@ -150,34 +186,33 @@ pub(crate) fn lower_number(
 {
     match e {
         Ctrl::Lit(n) => Ok(CNumber::Literal(*n)),
-        Ctrl::Var(x) => Ok(CNumber::Named(names.binder(alloc, *x)?)),
-        Ctrl::Field(f) => Ok(CNumber::Named(names.field(alloc, *f)?)),
-        Ctrl::Stride(x, k) => Ok(lower_stride(alloc, names, scope, *x, *k)?),
-        Ctrl::Neg(a) => Ok(CNumber::Opposite(Box::new(
-            alloc,
-            lower_number(alloc, names, scope, a)?,
-        )?)),
-        Ctrl::Add(a, b) => {
-            let a = Box::new(alloc, lower_number(alloc, names, scope, a)?)?;
-            Ok(CNumber::Sum(a, Box::new(alloc, lower_number(alloc, names, scope, b)?)?))
+        Ctrl::Var(x) => binder_number(alloc, names, *x),
+        Ctrl::Field(f) => field_number(alloc, names, *f),
+        Ctrl::Stride(x, k) => lower_stride(alloc, names, scope, *x, *k),
+        Ctrl::Neg(a) | Ctrl::Div(a, _) | Ctrl::Mod(a, _) => {
+            let part = boxed_number(alloc, names, scope, a)?;
+            Ok(of_one(e, part))
         }
-        Ctrl::Sub(a, b) => {
-            let a = Box::new(alloc, lower_number(alloc, names, scope, a)?)?;
-            Ok(CNumber::Difference(a, Box::new(alloc, lower_number(alloc, names, scope, b)?)?))
-        }
-        Ctrl::Mul(a, b) => {
-            let a = Box::new(alloc, lower_number(alloc, names, scope, a)?)?;
-            Ok(CNumber::Product(a, Box::new(alloc, lower_number(alloc, names, scope, b)?)?))
-        }
-        Ctrl::Div(a, n) => {
-            let a = Box::new(alloc, lower_number(alloc, names, scope, a)?)?;
-            Ok(CNumber::Quotient(a, *n))
-        }
-        Ctrl::Mod(a, n) => {
-            let a = Box::new(alloc, lower_number(alloc, names, scope, a)?)?;
-            Ok(CNumber::Remainder(a, *n))
+        Ctrl::Add(a, b) | Ctrl::Sub(a, b) | Ctrl::Mul(a, b) => {
+            let left = boxed_number(alloc, names, scope, a)?;
+            let right = boxed_number(alloc, names, scope, b)?;
+            Ok(of_two(e, left, right))
         }
     }
+}
+
+/// The C of a part of a control expression.
+#[cycle(number)]
+fn boxed_number(
+    alloc: Global,
+    names: &Names<'_>,
+    scope: &[Entry],
+    e: &Ctrl,
+) -> Result<Box<CNumber>, AllocError>
+    ensures { IfOk result (λ n. plain_number n.value ≡ number_of (naming_of names.now) (forms_in scope.now) (control e.now)) }
+{
+    let number = lower_number(alloc, names, scope, e)?;
+    Ok(Box::new(alloc, number)?)
 }
 
 /// An offset by the later indices: `((at * d) + e)` and so on.

@@ -5,7 +5,7 @@ ghost use Rattle.exo_tree.specs.Tree.{I32};
 ghost use Rattle.exo_tree.specs.PlainBinder.{cell_type};
 ghost use Rattle.exo_meaning.specs.Scene.{updated};
 ghost use Rattle.c_tree.specs.Plain.{plain_type};
-ghost use Rattle.c_tree.specs.Lowered.{cell_in};
+ghost use Rattle.c_printer.specs.Lowered.{cell_in};
 ghost use Rattle.c_printer.specs.Scope.{form_of, or_no_form, forms_in};
 
 use c_tree::tree::CType;

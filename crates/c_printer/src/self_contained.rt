@@ -6,10 +6,10 @@ ghost use Rattle.exo_tree.specs.PlainStatement.{statement};
 ghost use Rattle.exo_tree.specs.PlainParam.{parameter_kind};
 ghost use Rattle.exo_tree.specs.PlainProcedure.{procedure};
 ghost use Rattle.exo_tree.specs.PlainUnit.{program};
-ghost use Rattle.c_tree.specs.PlainPrinted.{printing};
+ghost use Rattle.c_printer.specs.PlainPrinted.{printing};
 ghost use Rattle.c_printer.specs.SelfContained as alone;
 
-use c_tree::Printed;
+use crate::report::Printed;
 use exo_tree::{Arg, Block, MemId, Memories, ParamKind, Params, Proc, ProcId, Stmt, Unit};
 
 /// Whether a memory has cells on the heap.

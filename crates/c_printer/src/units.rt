@@ -4,10 +4,10 @@ ghost use Rattle.exo_tree.specs.PlainParam.{parameter, parameter_kind};
 ghost use Rattle.exo_tree.specs.PlainProcedure.{procedure};
 ghost use Rattle.exo_tree.specs.PlainUnit.{program};
 ghost use Rattle.c_tree.specs.Plain.{plain_param, plain_function, plain_unit};
-ghost use Rattle.c_tree.specs.PlainPrinted.{printing};
-ghost use Rattle.c_tree.specs.SameInput.{param_forms};
-ghost use Rattle.c_tree.specs.SameInput as input;
-ghost use Rattle.c_tree.specs.LoweredUnit.{formal_of, formals_of, function_at, functions_of, name_of, printed_names, lowered};
+ghost use Rattle.c_printer.specs.PlainPrinted.{printing};
+ghost use Rattle.c_printer.specs.Lowered.{param_forms};
+ghost use Rattle.c_printer.specs.Lowered as kinds;
+ghost use Rattle.c_printer.specs.LoweredUnit.{formal_of, formals_of, function_at, functions_of, name_of, printed_names, lowered};
 ghost use Rattle.c_printer.specs.Scope.{form_of, forms_in};
 ghost use Rattle.c_printer.specs.Naming.{naming_of};
 ghost use Rattle.c_printer.specs.SelfContained.{is_no_window, are_no_windows, is_self_contained, is_there_alone, are_self_contained};
@@ -17,10 +17,10 @@ use crate::blocks::lower_block;
 use crate::fields::lower_fields;
 use crate::headers::lower_headers;
 use crate::names::Names;
+use crate::report::{LowerError, Printed, lower_report};
 use crate::scope::{Entry, Form, c_type, enter};
 use c_names::{NameTable, first_clash};
 use c_tree::tree::{CFunction, CParam, CUnit};
-use c_tree::{LowerError, Printed, lower_report};
 use c_widths::is_narrow;
 use exo_tree::{Name, Param, ParamKind, Proc, ProcId, Unit};
 use std::alloc::{AllocError, Global};
@@ -57,7 +57,7 @@ fn lower_params(
 /// What a parameter is in the body.
 fn form_of(alloc: Global, kind: &ParamKind) -> Result<Form, AllocError>
     requires { is_no_window (parameter_kind kind.now) ≡ true }
-    ensures { IfOk result (λ f. form_of f ≡ input.form_of (parameter_kind kind.now)) }
+    ensures { IfOk result (λ f. form_of f ≡ kinds.form_of (parameter_kind kind.now)) }
 {
     match kind {
         ParamKind::Ctrl(_) => Ok(Form::Number),
@@ -212,7 +212,7 @@ fn texts(alloc: Global, names: &[Name]) -> Result<Vec<String>, AllocError>
 /// The C of the listed procedures, which stand by themselves, each once and in the order of the unit.
 /// `TooWide` comes exactly where a magnitude in the tree of one of them passes its bound, with the greatest such number; else
 /// `NameClash` exactly where the name of a function or field is a word of C or is given twice, with the first such name.
-pub fn lower_unit(alloc: Global, unit: &Unit, what: &[Printed]) -> Result<CUnit, LowerError>
+pub fn lower(alloc: Global, unit: &Unit, what: &[Printed]) -> Result<CUnit, LowerError>
     requires { are_self_contained (program unit.now) (map printing what.now) ≡ true }
     ensures narrow { IfOk result (λ c. too_wide (program unit.now) (map printing what.now) ≡ None) }
     ensures names { IfOk result (λ c. name_clash (program unit.now) (map printing what.now) ≡ None) }

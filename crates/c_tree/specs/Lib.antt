@@ -4,14 +4,3 @@ pub mod Sizes
 pub mod Plain
 pub mod Falls
 pub mod CText
-pub mod Names
-pub mod Magnitude
-pub mod Lowered
-pub mod Machine
-pub mod CRun
-pub mod SameInput
-pub mod Simulation
-pub mod Laws
-pub mod LoweredUnit
-pub mod FirstForm
-pub mod PlainPrinted

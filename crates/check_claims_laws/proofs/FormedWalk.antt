@@ -9,12 +9,12 @@ use Rattle.exo_meaning.specs.Calls.{Callee}
 use Rattle.exo_meaning.specs.Run.{roots_after, kinds_of, callee_in, unit_world, program_world}
 use Rattle.exo_meaning.specs.Orders.{Each}
 use Rattle.exo_meaning.specs.Units.{Sort, ControlName, BufferName, Scope, sort_in, with_name, scope_of, scope_after, param_sort, view_sort, is_new, is_empty, is_short, has_rank, is_rank, plainly, with_fields, with_strides, with_both, is_control, are_controls, is_condition, is_coord, is_window, is_write, are_for, is_call, is_param_kind, are_params, spans, is_block, is_statement, field_kind}
-use Rattle.meaning_laws.specs.Sorted.{scope_at, MayRun}
+use Rattle.meaning_laws.specs.Sorted.{scope_at, scope_there, MayRun}
 use Rattle.text_show.specs.Words.{Words, words_of}
 use Rattle.check_claims.specs.Claim.{Claim}
 use Rattle.check_claims.specs.Extents.{Extents, span_extents, dims_of, extents_of}
 use Rattle.check_claims.specs.Claims.{at_least_one, call_claims, write_claims, own_claims, placed_at, into, block_claims, inner_claims, param_claims}
-use Rattle.check_claims_laws.specs.Holding.{names_at, ClaimIsFormed}
+use Rattle.check_claims_laws.specs.Holding.{ClaimIsFormed}
 use Rattle.check_claims_laws.specs.Laws.{ClaimsAreFormed}
 use Rattle.check_claims_laws.proofs.Basics.{and_parts, no_test, by_test, some_injective, append_assoc}
 use Rattle.check_claims_laws.proofs.Tables.{Agrees, StepAgrees, ParamsAgree, table_agrees}
@@ -29,17 +29,17 @@ use Rattle.check_claims_laws.proofs.Standing.{standing, entry, table_entry}
 module _ (p : Procedure) where
   -- at each place in the block are the names that its way brings into scope
   abbrev Opens : Path → Branch → ℕ → Block → Scope → Type 0
-  Opens outer branch n b scope = (k m : ℕ) → n + k ≡ m → (rest : Path) (o : Opened) → opened_in 1 (at_step branch k rest) b ≡ Some o → names_at p (opened 1 (outer ++ at_step branch m rest) p.body) ≡ scope_at o.around scope
+  Opens outer branch n b scope = (k m : ℕ) → n + k ≡ m → (rest : Path) (o : Opened) → opened_in 1 (at_step branch k rest) b ≡ Some o → scope_there p (opened 1 (outer ++ at_step branch m rest) p.body) ≡ scope_at o.around scope
 
-  opens_here : (outer : Path) (branch : Branch) (n : ℕ) (a : Statement) (b : Block) (scope : Scope) → Opens outer branch n (next a b) scope → names_at p (opened 1 (into outer branch n) p.body) ≡ scope
+  opens_here : (outer : Path) (branch : Branch) (n : ℕ) (a : Statement) (b : Block) (scope : Scope) → Opens outer branch n (next a b) scope → scope_there p (opened 1 (into outer branch n) p.body) ≡ scope
   opens_here outer branch n a b scope o = o 0 n (same_zero n) [] (record { around = Here b; piece = next a end }) refl
 
   opens_next : (outer : Path) (branch : Branch) (n : ℕ) (a : Statement) (b : Block) (scope : Scope) → Opens outer branch n (next a b) scope → Opens outer branch (suc n) b (scope_after a scope)
   opens_next outer branch n a b scope f k m e rest o is = f (suc k) m (shifted n k m e) rest (record { around = After a o.around; piece = o.piece }) (opened_next branch k rest a b o is)
 
-  inside : (outer : Path) (branch inner : Branch) (n k m : ℕ) (rest : Path) (scope : Scope) → 0 + k ≡ m → names_at p (opened 1 (outer ++ at_step branch n (at_step inner k rest)) p.body) ≡ scope → names_at p (opened 1 (into outer branch n ++ at_step inner m rest) p.body) ≡ scope
+  inside : (outer : Path) (branch inner : Branch) (n k m : ℕ) (rest : Path) (scope : Scope) → 0 + k ≡ m → scope_there p (opened 1 (outer ++ at_step branch n (at_step inner k rest)) p.body) ≡ scope → scope_there p (opened 1 (into outer branch n ++ at_step inner m rest) p.body) ≡ scope
   inside outer branch inner n k m rest scope e r =
-      subst (λ path. names_at p (opened 1 path p.body) ≡ scope) (ap (λ i. outer ++ at_step branch n (at_step inner i rest)) (from_zero k m e) ∙ sym (append_assoc outer (at_step branch n []) (at_step inner m rest))) r
+      subst (λ path. scope_there p (opened 1 path p.body) ≡ scope) (ap (λ i. outer ++ at_step branch n (at_step inner i rest)) (from_zero k m e) ∙ sym (append_assoc outer (at_step branch n []) (at_step inner m rest))) r
 
   module _ (outer : Path) (branch : Branch) (n : ℕ) (rest : Block) (scope : Scope) where
     opens_then : (c : Condition) (a b : Block) → Opens outer branch n (next (If c a b) rest) scope → Opens (into outer branch n) Main 0 a scope
@@ -52,7 +52,7 @@ module _ (p : Procedure) where
     opens_loop i lo hi b f k m e path o is = inside outer branch Main n k m path (scope_at o.around (with_name scope i (ControlName Index))) e (f 0 n (same_zero n) (at_step Main k path) (record { around = InLoop i lo hi o.around rest; piece = o.piece }) (ap (option_map (λ (o : Opened). record { around = InLoop i lo hi o.around rest; piece = o.piece })) is))
 
   opens_body : Opens [] Main 0 p.body (scope_of [] p.params)
-  opens_body k m e rest o is = ap (names_at p) (subst (λ i. opened 1 (at_step Main i rest) p.body ≡ Some o) (from_zero k m e) is)
+  opens_body k m e rest o is = ap (scope_there p) (subst (λ i. opened 1 (at_step Main i rest) p.body ≡ Some o) (from_zero k m e) is)
 
 -- ---- tables
 
@@ -168,7 +168,7 @@ module _ (u : Program) (p : Procedure) (may : MayRun u.fields (length u.memories
   abbrev Fits : Scope → List Claim → Type 0
   Fits scope cs = AreFormed w fields table scope cs
 
-  placed_formed : (path : Path) (scope : Scope) → names_at p (opened 1 path p.body) ≡ scope → (cs : List Claim) → Fits scope cs → Each (ClaimIsFormed u p) (placed_at path cs)
+  placed_formed : (path : Path) (scope : Scope) → scope_there p (opened 1 path p.body) ≡ scope → (cs : List Claim) → Fits scope cs → Each (ClaimIsFormed u p) (placed_at path cs)
   placed_formed path scope e [] h = tt
   placed_formed path scope e (c ∷ cs) h = (subst (λ z. is_condition fields with_both z c.says ≡ true) (sym e) h.0, placed_formed path scope e cs h.1)
 

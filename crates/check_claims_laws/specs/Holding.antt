@@ -9,7 +9,7 @@ use Rattle.exo_meaning.specs.Inputs.{IsAdmissible}
 use Rattle.exo_meaning.specs.Orders.{Each}
 use Rattle.exo_meaning.specs.Units.{Scope, scope_of, with_both, is_condition, field_kind}
 use Rattle.meaning_laws.specs.Copies.{HoldsAt}
-use Rattle.meaning_laws.specs.Sorted.{scope_at}
+use Rattle.meaning_laws.specs.Sorted.{scope_there}
 use Rattle.check_claims.specs.Claim.{Placed}
 use Rattle.check_claims.specs.Claims.{claims_of}
 
@@ -27,14 +27,9 @@ ClaimHolds world p c = HoldsAtPlace world p (opened 1 c.place p.body) c.claim.sa
 abbrev pub ClaimsHold : Program → ℕ → Type 0
 ClaimsHold u k = (p : Procedure) → slice_get u.procedures k ≡ Some p → Each (ClaimHolds (program_world u) p) (claims_of u p)
 
--- the names in scope at a place
-abbrev pub names_at : Procedure → Option Opened → Scope
-names_at p None = scope_of [] p.params
-names_at p (Some o) = scope_at o.around (scope_of [] p.params)
-
 -- what has to be shown is a condition over the names in scope at its place
 abbrev pub ClaimIsFormed : Program → Procedure → Placed → Type 0
-ClaimIsFormed u p c = is_condition (field_kind u.fields) with_both (names_at p (opened 1 c.place p.body)) c.claim.says ≡ true
+ClaimIsFormed u p c = is_condition (field_kind u.fields) with_both (scope_there p (opened 1 c.place p.body)) c.claim.says ≡ true
 
 -- whether a block calls the procedure of that number
 abbrev mutual

@@ -9,7 +9,7 @@ use Rattle.exo_meaning.specs.Units.{larger, levels, step_levels, is_short}
 use Rattle.meaning_laws.specs.KnownFields.{path_in}
 use Rattle.affine_forms.specs.Forms.{keeps_rules}
 use Rattle.affine_forms.specs.Formulas.{condition_keeps_rules}
-use Rattle.exo_places.specs.Rules.{block_keeps_rules, statement_keeps_rules}
+use Rattle.affine_places.specs.Rules.{block_keeps_rules, statement_keeps_rules}
 
 pub parts : (s t : Bool) → (s && t) ≡ true → (s ≡ true) × (t ≡ true)
 parts true t h = (refl, h)

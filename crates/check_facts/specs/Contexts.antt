@@ -16,8 +16,8 @@ use Rattle.affine_places.specs.Facts as facts
 use Rattle.affine_places.specs.Facts.{FieldFact}
 use Rattle.affine_places.specs.Roots.{roots_of}
 use Rattle.affine_places.specs.Readings.{entry_reading, place_reading, place_flags, field_formula_fits}
-use Rattle.exo_places.specs.Agreement.{agree, agreement_fits, conditions_agree, conditions_fit}
-use Rattle.exo_places.specs.Rules.{procedure_keeps_rules}
+use Rattle.affine_places.specs.Agreement.{agree, agreement_fits, conditions_agree, conditions_fit}
+use Rattle.affine_places.specs.Rules.{procedure_keeps_rules}
 
 -- ---- known values
 

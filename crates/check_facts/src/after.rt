@@ -5,7 +5,7 @@ ghost use Rattle.exo_tree.specs.PlainPlace.{branch_taken};
 ghost use Rattle.exo_tree.specs.PlainStatement.{statement};
 ghost use Rattle.exo_meaning.specs.Units.{levels, step_levels, is_short};
 ghost use Rattle.meaning_laws.specs.KnownFields.{UnknownAt, path_in};
-ghost use Rattle.exo_places.specs.Rules.{block_keeps_rules, statement_keeps_rules};
+ghost use Rattle.affine_places.specs.Rules.{block_keeps_rules, statement_keeps_rules};
 ghost use Rattle.check_facts.specs.Values.{plain_value};
 ghost use Rattle.check_facts.specs.Walks.{telling_of, kept_value, value_after, value_at_end};
 

@@ -5,14 +5,14 @@ ghost use Rattle.exo_tree.specs.PlainPlace.{branch_taken, step_taken};
 ghost use Rattle.meaning_laws.specs.KnownFields.{same_branch, same_step, same_path, same_value};
 ghost use Rattle.affine_places.specs.Readings.{entry_reading};
 ghost use Rattle.affine_places.specs.Seen.{roots_in};
-ghost use Rattle.exo_places.specs.Agreement.{Tested};
+ghost use Rattle.affine_places.specs.Agreement.{Tested};
 ghost use Rattle.check_facts.specs.Contexts.{values_agree};
 ghost use Rattle.check_facts.specs.Values.{plain_value};
 
 use crate::value::{Right, Value};
 use affine_forms::FormError;
 use affine_places::AtEntry;
-use exo_places::{agree, conditions_agree};
+use affine_places::{agree, conditions_agree};
 use exo_tree::{Arg, Branch, Step};
 use std::alloc::{AllocError, Global};
 

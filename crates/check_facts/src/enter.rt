@@ -11,7 +11,7 @@ ghost use Rattle.meaning_laws.specs.KnownFields.{KnownFields};
 ghost use Rattle.affine_forms.specs.Forms.{keeps_rules};
 ghost use Rattle.affine_forms.specs.Formulas.{condition_keeps_rules};
 ghost use Rattle.affine_forms.specs.PlainFormulas.{FormulaMade};
-ghost use Rattle.exo_places.specs.Rules.{statement_keeps_rules};
+ghost use Rattle.affine_places.specs.Rules.{statement_keeps_rules};
 ghost use Rattle.check_facts.specs.Contexts.{condition_formula, condition_fits};
 ghost use Rattle.check_facts.specs.Tables.{known_in};
 ghost use Rattle.check_facts.specs.Walks.{SameBelow, Added, entered};

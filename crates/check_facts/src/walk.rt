@@ -10,7 +10,7 @@ ghost use Rattle.exo_tree.specs.PlainStatement.{statement};
 ghost use Rattle.exo_meaning.specs.Units.{levels, step_levels, is_short};
 ghost use Rattle.meaning_laws.specs.KnownFields.{KnownFields, after, known_at};
 ghost use Rattle.meaning_laws.specs.PlaceFacts.{facts_round};
-ghost use Rattle.exo_places.specs.Rules.{block_keeps_rules, statement_keeps_rules};
+ghost use Rattle.affine_places.specs.Rules.{block_keeps_rules, statement_keeps_rules};
 ghost use Rattle.check_facts.specs.Contexts.{facts_from};
 ghost use Rattle.check_facts.specs.Tables.{known_in};
 ghost use Rattle.check_facts.specs.Trails.{levels_of, step_to, Stand, StandIn};

@@ -6,7 +6,7 @@ use Rattle.exo_tree.specs.Tree.{Kind, Control, Lit, Var, Field, StrideOf, Neg, A
 use Rattle.exo_meaning.specs.Scene.{Scene, number, numbers, holds, is_set, stride_at}
 use Rattle.exo_meaning.specs.Units as units
 use Rattle.exo_meaning.specs.Units.{Scope, Reads, with_both, sort_in, is_number, is_flag, has_dimension, is_of_literals, is_literal_number, is_control, are_controls, is_condition, field_kind}
-use Rattle.affine_forms.specs.Forms.{Allowed, is_literal, is_affine}
+use Rattle.affine_forms.specs.Forms.{Allowed, is_affine}
 use Rattle.affine_forms.specs.Formulas.{AllowedFlags, is_affine_condition}
 use Rattle.affine_forms.specs.Strides.{all_affine}
 use Rattle.check_facts_laws.specs.Laws.{allowed_in, WellFormedIsAllowed}
@@ -31,7 +31,7 @@ module _ (may : Allowed) (s t : Scene) (same : Agrees may s t) where
   same_number (Neg a) h = ap neg_ℤ (same_number a h)
   same_number (Add a b) h = two ◌+ℤ◌ a b h (same_number a) (same_number b)
   same_number (Sub a b) h = two ◌-ℤ◌ a b h (same_number a) (same_number b)
-  same_number (Mul a b) h = two ◌*ℤ◌ a b (parts (is_literal a || is_literal b) (is_affine may a && is_affine may b) h).1 (same_number a) (same_number b)
+  same_number (Mul a b) h = two ◌*ℤ◌ a b (parts (is_of_literals a || is_of_literals b) (is_affine may a && is_affine may b) h).1 (same_number a) (same_number b)
   same_number (Div a c) h = ap (λ n. int_div_euclid n c) (same_number a (parts (is_positive c) (is_affine may a) h).1)
   same_number (Mod a c) h = ap (λ n. int_rem_euclid n c) (same_number a (parts (is_positive c) (is_affine may a) h).1)
 
@@ -73,9 +73,9 @@ module _ (may more : Allowed) (grows : Grows may more) where
   more_affine (Add a b) h = let p = parts (is_affine may a) (is_affine may b) h in joined (is_affine more a) (is_affine more b) (more_affine a p.0) (more_affine b p.1)
   more_affine (Sub a b) h = let p = parts (is_affine may a) (is_affine may b) h in joined (is_affine more a) (is_affine more b) (more_affine a p.0) (more_affine b p.1)
   more_affine (Mul a b) h =
-      let q = parts (is_literal a || is_literal b) (is_affine may a && is_affine may b) h in
+      let q = parts (is_of_literals a || is_of_literals b) (is_affine may a && is_affine may b) h in
       let p = parts (is_affine may a) (is_affine may b) q.1 in
-      joined (is_literal a || is_literal b) (is_affine more a && is_affine more b) q.0 (joined (is_affine more a) (is_affine more b) (more_affine a p.0) (more_affine b p.1))
+      joined (is_of_literals a || is_of_literals b) (is_affine more a && is_affine more b) q.0 (joined (is_affine more a) (is_affine more b) (more_affine a p.0) (more_affine b p.1))
   more_affine (Div a c) h = let p = parts (is_positive c) (is_affine may a) h in joined (is_positive c) (is_affine more a) p.0 (more_affine a p.1)
   more_affine (Mod a c) h = let p = parts (is_positive c) (is_affine may a) h in joined (is_positive c) (is_affine more a) p.0 (more_affine a p.1)
 
@@ -98,18 +98,6 @@ module _ (may more : AllowedFlags) (grows : Grows may.numbers more.numbers) (fla
 
 -- ---- well-formed expressions are affine
 
-same_literals : (e : Control) → is_of_literals e ≡ is_literal e
-same_literals (Lit n) = refl
-same_literals (Var x) = refl
-same_literals (Field f) = refl
-same_literals (StrideOf x k) = refl
-same_literals (Neg a) = same_literals a
-same_literals (Add a b) = ap₂ ◌&&◌ (same_literals a) (same_literals b)
-same_literals (Sub a b) = ap₂ ◌&&◌ (same_literals a) (same_literals b)
-same_literals (Mul a b) = ap₂ ◌&&◌ (same_literals a) (same_literals b)
-same_literals (Div a c) = same_literals a
-same_literals (Mod a c) = same_literals a
-
 -- all that a scope lets an expression read is allowed
 pub record Allows (fields : ℕ → Option Kind) (reads : Reads) (scope : Scope) (may : Allowed) : Type 0 where
   pub variables : (x : ℕ) → is_number (sort_in scope x) ≡ true → may.variable x ≡ true
@@ -128,7 +116,7 @@ module _ (fields : ℕ → Option Kind) (reads : Reads) (scope : Scope) (may : A
   affine (Mul a b) h =
       let q = parts (is_control fields reads scope a && is_control fields reads scope b) (is_of_literals a || is_of_literals b) h in
       let p = parts (is_control fields reads scope a) (is_control fields reads scope b) q.0 in
-      joined (is_literal a || is_literal b) (is_affine may a && is_affine may b) (sym (ap₂ ◌||◌ (same_literals a) (same_literals b)) ∙ q.1) (joined (is_affine may a) (is_affine may b) (affine a p.0) (affine b p.1))
+      joined (is_of_literals a || is_of_literals b) (is_affine may a && is_affine may b) q.1 (joined (is_affine may a) (is_affine may b) (affine a p.0) (affine b p.1))
   affine (Div a c) h = let p = parts (is_control fields reads scope a) (is_literal_number c && int_lt (pos 0) c) h in joined (is_positive c) (is_affine may a) (parts (is_literal_number c) (int_lt (pos 0) c) p.1).1 (affine a p.0)
   affine (Mod a c) h = let p = parts (is_control fields reads scope a) (is_literal_number c && int_lt (pos 0) c) h in joined (is_positive c) (is_affine may a) (parts (is_literal_number c) (int_lt (pos 0) c) p.1).1 (affine a p.0)
 

@@ -15,7 +15,7 @@ use Rattle.affine_forms.proofs.Values.{int_eq_same, same_terms_value}
 use Rattle.affine_places.specs.Roots.{Rooted, roots_of, has_extents}
 use Rattle.affine_places.specs.Readings.{entry_reading}
 use Rattle.affine_places.specs.Laws.{but_flag_fields, stride_in, NormalAtPlace}
-use Rattle.exo_places.specs.Agreement.{agree, agreement_fits, sides_agree, conditions_agree, conditions_fit}
+use Rattle.affine_places.specs.Agreement.{agree, agreement_fits, sides_agree, conditions_agree, conditions_fit}
 use Rattle.check_facts.specs.Contexts.{values_agree}
 use Rattle.check_facts_laws.proofs.Truths.{parts}
 use Rattle.check_facts_laws.proofs.Affine.{same_number}

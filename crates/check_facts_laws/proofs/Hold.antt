@@ -13,7 +13,7 @@ use Rattle.exo_meaning.specs.Units as units
 use Rattle.exo_meaning.specs.Units.{Scope, sort_in, has_dimension, is_flag, scope_of, field_kind, is_block, IsProcedure}
 use Rattle.meaning_laws.specs.Context.{ComesTo}
 use Rattle.meaning_laws.specs.Scoped.{is_param, is_scoped}
-use Rattle.meaning_laws.specs.Sorted.{MayRun, scope_at}
+use Rattle.meaning_laws.specs.Sorted.{MayRun, scope_at, scope_there}
 use Rattle.meaning_laws.specs.Facts.{Fact, Holds, Fails}
 use Rattle.meaning_laws.specs.Known.{params_facts}
 use Rattle.meaning_laws.specs.KnownFields.{FieldValue, AtEntry, Known, UnknownAt, KnownFields, at_entry, known_fields}
@@ -30,9 +30,9 @@ use Rattle.affine_places.specs.Roots.{roots_of, has_extents}
 use Rattle.affine_places.specs.Facts.{kind_of}
 use Rattle.affine_places.specs.Readings.{entry_reading, place_reading}
 use Rattle.affine_places.specs.Laws.{but_fields, but_flag_fields, stride_in, IsTold, IsFlagTold, IsPlaceOfFlags, NormalAtPlace, FormulaAtPlace}
-use Rattle.exo_places.specs.Laws.{WellFormedIsAffine}
+use Rattle.affine_places.specs.Laws.{WellFormedIsAffine}
 use Rattle.check_facts.specs.Contexts.{values_agree, telling, told, condition_formula, fact_formula, formulas, facts_at, known_at_place}
-use Rattle.check_facts_laws.specs.Laws.{ComesToPlace, scope_there, allowed_in, ContextsHold}
+use Rattle.check_facts_laws.specs.Laws.{ComesToPlace, allowed_in, ContextsHold}
 use Rattle.check_facts_laws.proofs.Truths.{parts, one_of}
 use Rattle.check_facts_laws.proofs.Affine.{Agrees, Grows, same_number, same_truth, more_affine, more_affine_condition}
 use Rattle.check_facts_laws.proofs.Rooted.{Agrees as TableAgrees, ParamsAgree, block_is_told, params_are_told}

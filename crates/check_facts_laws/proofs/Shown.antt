@@ -3,7 +3,8 @@ use Rattle.std.proofs.Common.{sym, ◌∙◌}
 use Rattle.exo_tree.specs.Places.{opened}
 use Rattle.affine_systems.specs.Laws.{ShownLaw}
 use Rattle.check_facts.specs.Contexts.{known_at_place, context_of, condition_formula}
-use Rattle.check_facts_laws.specs.Laws.{scope_there, ContextsHold, ShownConditionsHold, WellFormedIsAllowed}
+use Rattle.meaning_laws.specs.Sorted.{scope_there}
+use Rattle.check_facts_laws.specs.Laws.{ContextsHold, ShownConditionsHold, WellFormedIsAllowed}
 
 pub conditions_hold : ContextsHold → WellFormedIsAllowed → ShownLaw → ShownConditionsHold
 conditions_hold context_law allowed shown u p may_run path c formed none s t good come =

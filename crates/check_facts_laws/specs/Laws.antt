@@ -9,7 +9,7 @@ use Rattle.exo_meaning.specs.Inputs.{IsAdmissible}
 use Rattle.exo_meaning.specs.Units as units
 use Rattle.exo_meaning.specs.Units.{Scope, sort_in, has_dimension, is_flag, scope_of, field_kind, with_both, is_control, is_condition}
 use Rattle.meaning_laws.specs.Context.{ComesTo}
-use Rattle.meaning_laws.specs.Sorted.{MayRun, scope_at}
+use Rattle.meaning_laws.specs.Sorted.{MayRun, scope_there}
 use Rattle.affine_forms.specs.Atoms.{Valuation, value}
 use Rattle.affine_forms.specs.Forms.{is_affine, normal}
 use Rattle.affine_forms.specs.Formulas.{AllowedFlags, is_affine_condition, is_met, all_met}
@@ -24,11 +24,6 @@ use Rattle.check_facts.specs.Contexts.{known_at_place, context_of, facts_of, con
 abbrev pub ComesToPlace : World → Option Opened → State → State → Type 0
 ComesToPlace world None s t = t ≡ s
 ComesToPlace world (Some o) s t = ComesTo world o.piece o.around s t
-
--- the names in scope there
-abbrev pub scope_there : Procedure → Option Opened → Scope
-scope_there p None = scope_of [] p.params
-scope_there p (Some o) = scope_at o.around (scope_of [] p.params)
 
 -- what may stand in an expression or condition there: strides of buffers and bools in scope, and fields of the unit as their kinds are
 abbrev pub allowed_in : List ConfigField → Scope → AllowedFlags

@@ -11,7 +11,7 @@ pub fn contexts_hold()
     meaning_laws::laws::names_stay_as_made();
     meaning_laws::laws::opened_blocks_are_there();
     meaning_laws::laws::well_formed_names_are_in_scope();
-    exo_places::laws::well_formed_procedures_are_affine();
+    affine_places::laws::well_formed_procedures_are_affine();
     affine_places::laws::normal_is_exact_at_places();
     affine_places::laws::formulas_are_exact_at_places();
 }

@@ -5,7 +5,6 @@ use Rattle.exo_tree.specs.Tree.{Program}
 use Rattle.exo_meaning.specs.Units.{IsUnit}
 use Rattle.c_printer.specs.SelfContained.{are_self_contained}
 use Rattle.c_printer.specs.Refusals.{too_wide, name_clash}
-use Rattle.c_tree.specs.Laws.{FirstUnitsFollow}
 use Rattle.c_laws.specs.Laws.{UnitsFollow}
 use Rattle.text_phrases.specs.Text.{IsText}
 use Rattle.text_lexer.specs.declared.place.Place.{Place}
@@ -47,7 +46,6 @@ use Rattle.exo_cli.proofs.Counted.{counted}
 -- the laws of lower crates on which the promise rests
 pub record LawsBelow : Type 0 where
   pub safe : CheckedUnitsDoNotFault
-  pub first : FirstUnitsFollow
   pub all : UnitsFollow
 
 -- at most one line of a schedule that is read prints
@@ -92,7 +90,7 @@ module _ (procs source schedule bytes text : List ℕ) (items : List Item) (spel
       narrow = narrow;
       named = named;
       text = accepted_is e;
-      each = each_printed (unit_of items) v laws.first laws.all (record { alone = (and_parts (are_self_contained with_all (printings v)) (are_in_dram with_all (printings v)) built).0; narrow = narrow; named = named }) formed (grown (unit_of items) ls (started (unit_of items).procedures) v (begins_grown (unit_of items) ls formed (schedule_is_short bytes ls read)) ran) (schedules_run_alike (unit_of items).procedures ls v ran);
+      each = each_printed (unit_of items) v (laws.safe (unit_of items) count formed shown) laws.all (record { alone = (and_parts (are_self_contained with_all (printings v)) (are_in_dram with_all (printings v)) built).0; narrow = narrow; named = named }) formed (grown (unit_of items) ls (started (unit_of items).procedures) v (begins_grown (unit_of items) ls formed (schedule_is_short bytes ls read)) ran) (schedules_run_alike (unit_of items).procedures ls v ran);
     }
     by_name built narrow (Some name) named e = absurd (accepted_is_not e)
 

@@ -1,25 +1,24 @@
 -- What is printed for a version does what its origin does.
 use Rattle.std.proofs.Common.{◌≡◌, ◌<◌, ◌^◌, nat_lt, length, ℕ, zero, suc, true, true≢false, List, [], ◌∷◌, map, slice_get, Option, Some, None, option_map, refl, sym, ap, ◌∙◌, subst, arith}
+use Rattle.std.specs.Option.{IsSome}
 use Rattle.std.proofs.lemmas.Option.{slice_get-map}
 use Rattle.std.proofs.lemmas.Bool.{and_parts}
 use Rattle.exo_tree.specs.Tree.{Procedure, Program}
 use Rattle.exo_meaning.specs.Calls.{all_hold}
 use Rattle.exo_meaning.specs.State.{State}
-use Rattle.exo_meaning.specs.Run.{World}
-use Rattle.exo_meaning.specs.Inputs.{IsAdmissible, AreArguments, is_buffer_of}
+use Rattle.exo_meaning.specs.Run.{World, program_world}
+use Rattle.exo_meaning.specs.Inputs.{IsAdmissible, AreArguments, is_buffer_of, run_procedure}
 use Rattle.exo_meaning.specs.Units.{IsUnit}
-use Rattle.c_tree.specs.CRun.{run_c}
-use Rattle.c_tree.specs.FirstForm.{is_first_unit}
-use Rattle.c_tree.specs.LoweredUnit.{Printing, name_of}
-use Rattle.c_tree.specs.Laws.{FirstUnitsFollow}
-use Rattle.c_tree.specs.Simulation.{Follows}
+use Rattle.c_machine.specs.CRun.{run_c}
+use Rattle.c_printer.specs.LoweredUnit.{Printing, name_of}
 use Rattle.c_printer.specs.SelfContained.{is_there_alone, are_self_contained}
-use Rattle.c_laws.specs.Laws.{naming_of, declared_in, AreLowered, IsListed, LeavesTheSame, UnitsFollow}
+use Rattle.c_laws.specs.Laws.{naming_of, declared_in, AreLowered, IsListed, LeavesTheSame, EndsWell, UnitsFollow}
+use Rattle.unit_check.specs.Faults.{NothingFaults}
 use Rattle.schedule_run.specs.Versions.{printing_of, printings, with_versions}
 use Rattle.schedule_run.specs.Lines.{Versions}
 use Rattle.proc_rewrites.specs.Kept.{IsVersionOf}
 use Rattle.schedule_run.specs.Versions.{HasOrigin, AreVersions}
-use Rattle.exo_cli.specs.Headline.{DoesWhat, SurelyDoesWhat, IsPrinted}
+use Rattle.exo_cli.specs.Headline.{DoesWhat, IsPrinted}
 use Rattle.proc_rewrites.proofs.Kept.{nothing_there, some_is, index_is, runs_alike}
 use Rattle.schedule_run.proofs.Growth.{Grown}
 
@@ -47,7 +46,11 @@ length_map : {A B : Type 0} (f : A → B) (xs : List A) → length (map f xs) �
 length_map f [] = refl
 length_map f (x ∷ xs) = ap suc (length_map f xs)
 
-module _ (text : Program) (v : Versions) (first : FirstUnitsFollow) (all : UnitsFollow) (lowers : AreLowered (with_versions text v) (printings v)) (formed : IsUnit text) (good : Grown text 0 v) (are : AreVersions text.procedures v) where
+some_of : {A : Type 0} (o : Option A) → IsSome o → (a : A) × (o ≡ Some a)
+some_of None h = absurd (true≢false (sym h))
+some_of (Some a) h = (a, refl)
+
+module _ (text : Program) (v : Versions) (safe : NothingFaults text) (all : UnitsFollow) (lowers : AreLowered (with_versions text v) (printings v)) (formed : IsUnit text) (good : Grown text 0 v) (are : AreVersions text.procedures v) where
   abbrev program : Program
   program = with_versions text v
 
@@ -67,17 +70,13 @@ module _ (text : Program) (v : Versions) (first : FirstUnitsFollow) (all : Units
       below : (n : ℕ) → nat_lt n (2 ^ 31) ≡ true → n < 2 ^ 31
       below n h = grind arith
 
-  -- what is printed for a version comes from its origin
-  version_does : (k n : ℕ) (q : Procedure) → slice_get (printings v) k ≡ Some (printing_of v n) → slice_get v.procedures n ≡ Some q → (o : HasOrigin text.procedures v n q) → DoesWhat program (printings v) k o.origin q
-  version_does k n q here there o world c_world layout s m valid input =
-      let follows = all program (printings v) k q layout world c_world s m lowers (listed k n q here there) (admissible_too world o.origin q s o.kept valid.admissible) input in
-      (follows.0, follows.1, subst (λ r. Follows (LeavesTheSame (naming_of program (printings v) q) (declared_in program (printings v)) layout s m) r (run_c c_world follows.0.body m)) (runs_alike world o.origin q o.kept s) follows.2)
-
-  version_surely_does : (k n : ℕ) (q : Procedure) → slice_get (printings v) k ≡ Some (printing_of v n) → slice_get v.procedures n ≡ Some q → (o : HasOrigin text.procedures v n q)
-      → is_first_unit program (printings v) ≡ true → SurelyDoesWhat program (printings v) k o.origin q
-  version_surely_does k n q here there o h world c_world layout s m valid input =
-      let follows = first program (printings v) k (printing_of v n) q layout world c_world s m h here there (admissible_too world o.origin q s o.kept valid.admissible) input.same input.separate in
-      (follows.0, follows.1, follows.2, follows.3, sym (runs_alike world o.origin q o.kept s) ∙ follows.4, follows.5, follows.6)
+  -- what is printed for a version does what its origin does
+  version_does : (k n : ℕ) (q : Procedure) → slice_get (printings v) k ≡ Some (printing_of v n) → slice_get v.procedures n ≡ Some q → (o : HasOrigin text.procedures v n q) → DoesWhat text program (printings v) k o.origin q
+  version_does k n q here there o c_world layout s m valid input =
+      let world = program_world text in
+      let ends = some_of (run_procedure world o.origin s) (safe o.from o.origin o.in_text s valid.admissible) in
+      let follows = all program (printings v) k q layout world c_world s ends.0 m lowers (listed k n q here there) (admissible_too world o.origin q s o.kept valid.admissible) input (runs_alike world o.origin q o.kept s ∙ ends.1) in
+      (follows.0, ends.0, follows.1, ends.1, follows.2)
 
   version_printed : (k n : ℕ) (found : Option Procedure) → slice_get (printings v) k ≡ Some (printing_of v n) → slice_get v.procedures n ≡ found
       → is_there_alone text.memories found ≡ true → IsPrinted text program (printings v) k (printing_of v n)
@@ -94,7 +93,6 @@ module _ (text : Program) (v : Versions) (first : FirstUnitsFollow) (all : Units
         nothing_differs = refl;
         alike = o.kept;
         kept = version_does k n q here there o;
-        sure = version_surely_does k n q here there o;
       }
 
   pub each_printed : (k : ℕ) (w : Printing) → slice_get (printings v) k ≡ Some w → IsPrinted text program (printings v) k w

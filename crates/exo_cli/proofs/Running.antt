@@ -3,7 +3,7 @@ use Rattle.std.proofs.Common.{◌≡◌, ◌<◌, ℕ, suc, List, ◌∷◌, dro
 use Rattle.std.specs.Prelude.{Result}
 use Rattle.std.proofs.lemmas.Option.{slice_get_read, get_or_from_slice_get}
 use Rattle.exo_tree.specs.Tree.{Program}
-use Rattle.c_tree.specs.LoweredUnit.{Printing, lowered}
+use Rattle.c_printer.specs.LoweredUnit.{Printing, lowered}
 use Rattle.c_tree.specs.CText.{text_of}
 use Rattle.c_printer.specs.Refusals.{too_wide, name_clash}
 use Rattle.exo_cli.specs.Answer.{Accepted}

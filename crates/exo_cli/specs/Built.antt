@@ -1,7 +1,7 @@
 -- Which procedures are printed today: no windows, no views and no calls, and each buffer in the memory `DRAM`.
 use Rattle.std.specs.Prelude.{ℕ, ◌==◌, Bool, true, false, ◌&&◌, List, [], ◌∷◌, Option, Some, None, slice_get}
 use Rattle.exo_tree.specs.Tree.{Statement, Assign, Reduce, Config, Pass, If, For, Alloc, View, Call, Block, end, next, Param, ParamKind, ControlParam, TensorParam, WindowParam, Procedure, Program}
-use Rattle.c_tree.specs.LoweredUnit.{Printing}
+use Rattle.c_printer.specs.LoweredUnit.{Printing}
 use Rattle.c_printer.specs.SelfContained.{are_self_contained}
 
 -- the first memory of a unit is `DRAM`

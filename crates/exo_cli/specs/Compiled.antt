@@ -12,7 +12,7 @@ use Rattle.rules_names.specs.declared.error.TypeKind.{TypeKind}
 use Rattle.rules_names.specs.declared.error.TypeKind.TheVariants as rule
 use Rattle.c_printer.specs.Refusals.{too_wide, name_clash}
 use Rattle.exo_cli.specs.Built.{are_built}
-use Rattle.c_tree.specs.LoweredUnit.{Printing, name_of, lowered}
+use Rattle.c_printer.specs.LoweredUnit.{Printing, name_of, lowered}
 use Rattle.c_tree.specs.CText.{text_of}
 use Rattle.exo_cli.specs.Answer.{Answer, Accepted, Rejected}
 use Rattle.exo_cli.specs.Messages.{file_refused, name_refused, place_refused, line_refused}

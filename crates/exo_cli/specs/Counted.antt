@@ -6,7 +6,7 @@ use Rattle.exo_reader.specs.Source.{Item}
 use Rattle.exo_reader.specs.Items.{unit}
 use Rattle.exo_reader.specs.Texts.{tokens_of}
 use Rattle.exo_types.specs.UnitRules.{unit_fault, unit_of}
-use Rattle.fault_laws.specs.Laws.{NothingFaults}
+use Rattle.unit_check.specs.Faults.{NothingFaults}
 use Rattle.unit_check.specs.Checked.{Shown, checked}
 use Rattle.cli_outside.specs.Outside.{Folder, content_of, with_more}
 use Rattle.exo_cli.specs.Words.{Check, command_of}

@@ -2,22 +2,19 @@
 use Rattle.std.specs.Prelude.{◌≡◌, ℕ, true, List, [], Option, Some, None, slice_get}
 use Rattle.exo_tree.specs.Tree.{Procedure, Program}
 use Rattle.exo_meaning.specs.State.{State}
-use Rattle.exo_meaning.specs.Run.{World}
+use Rattle.exo_meaning.specs.Run.{program_world}
 use Rattle.exo_meaning.specs.Units.{IsUnit}
-use Rattle.fault_laws.specs.Laws.{NothingFaults}
+use Rattle.unit_check.specs.Faults.{NothingFaults}
 use Rattle.exo_meaning.specs.Inputs.{IsValid, run_procedure}
+use Rattle.c_laws.specs.Laws.{AllocatesFew}
 use Rattle.c_tree.specs.CTree.{CFunction}
 use Rattle.c_tree.specs.CText.{text_of}
-use Rattle.c_tree.specs.CRun.{CWorld, run_c}
-use Rattle.c_tree.specs.Machine.{Machine, Done}
-use Rattle.c_tree.specs.Lowered.{Naming}
-use Rattle.c_tree.specs.LoweredUnit.{Printing, lowered}
-use Rattle.c_tree.specs.SameInput.{AreSame}
-use Rattle.c_tree.specs.FirstForm.{is_first_unit}
+use Rattle.c_machine.specs.CRun.{CWorld, run_c}
+use Rattle.c_machine.specs.Machine.{Machine}
+use Rattle.c_printer.specs.LoweredUnit.{Printing, lowered}
 use Rattle.c_printer.specs.Refusals.{too_wide, name_clash}
-use Rattle.c_tree.specs.Simulation.{Layout, Follows}
-use Rattle.c_laws.specs.Laws.{naming_of, declared_in, IsSameStart, LeavesTheSame}
-use Rattle.c_tree.specs.Laws.{AreSeparate, Agrees}
+use Rattle.c_laws.specs.Simulation.{Layout}
+use Rattle.c_laws.specs.Laws.{naming_of, declared_in, IsSameStart, LeavesTheSame, EndsWell}
 use Rattle.text_phrases.specs.Text.{IsText}
 use Rattle.exo_reader.specs.Source.{Item}
 use Rattle.exo_reader.specs.Items.{unit}
@@ -35,35 +32,29 @@ use Rattle.schedule_run.specs.Lines.{Versions, Done as Ran, run_lines}
 use Rattle.schedule_run.specs.ScheduleForm.{schedule_of}
 use Rattle.schedule_run.specs.declared.lines.Line.{Line}
 
--- ---- versions of the first form
-
--- The C machine begins with the input of the procedure: each argument is an object of its own, dense and row-major, with the same cells.
-pub record IsSameInput (naming : Naming) (layout : Layout) (q : Procedure) (s : State) (m : Machine) : Type 0 where
-  pub same : AreSame naming (λ x. 0) layout s m q.params
-  pub separate : AreSeparate layout s
-
--- The C function at that place of the file, printed for the version q, surely does what the procedure p of the text does: on each valid
--- input of p and each input of the machine that is the same, p does not fault, the C does not fault, both end, each cell of an argument that
--- p leaves defined has the same value after the C, every cell outside the arguments is as it was, and no configuration field differs.
-abbrev pub SurelyDoesWhat : Program → List Printing → ℕ → Procedure → Procedure → Type 0
-SurelyDoesWhat program what at p q = (world : World) (c_world : CWorld) (layout : Layout) (s : State) (m : Machine)
-    → IsValid world p s → IsSameInput (naming_of program what q) layout q s m
-    → (f : CFunction) × (t : State) × (n : Machine) × (slice_get (lowered program what).functions at ≡ Some f) × (run_procedure world p s ≡ Some t) × (run_c c_world f.body m ≡ Done n) × Agrees (naming_of program what q) layout s m t n
-
 -- ---- versions
 
--- The C function at that place of the file, printed for the version q, does what the procedure p of the text does: on each valid input
--- of p and each input of the machine that is the same, the C does not fault where p does not, and where it finds store for its
--- allocations it ends; then each cell of an argument that p leaves defined has the same value after the C, every cell outside the
--- arguments is as it was, and each configuration field that the C declares has its number.
-abbrev pub DoesWhat : Program → List Printing → ℕ → Procedure → Procedure → Type 0
-DoesWhat program what at p q = (world : World) (c_world : CWorld) (layout : Layout) (s : State) (m : Machine)
-    → IsValid world p s → IsSameStart program what q layout s m
-    → (f : CFunction) × (slice_get (lowered program what).functions at ≡ Some f) × Follows (LeavesTheSame (naming_of program what q) (declared_in program what) layout s m) (run_procedure world p s) (run_c c_world f.body m)
+-- The C function at that place of the file, printed for the version q, does what the procedure p of the text does: on
+-- each valid input of p, and each input of the machine that is the same, p does not fault, nor does the C; where it is
+-- done, each cell of an argument that p leaves defined has the same value after the C, every cell outside the
+-- arguments is as it was, and each configuration field that the C declares has its number; and it is done where no
+-- allocation of the run passes 2 ^ 48 cells.
+abbrev pub DoesWhat : Program → Program → List Printing → ℕ → Procedure → Procedure → Type 0
+DoesWhat text program what at p q =
+    (c_world : CWorld) (layout : Layout) (s : State) (m : Machine)
+    → IsValid (program_world text) p s
+    → IsSameStart program what q layout s m
+    → (f : CFunction)
+    × (t : State)
+    × (slice_get (lowered program what).functions at ≡ Some f)
+    × (run_procedure (program_world text) p s ≡ Some t)
+    × EndsWell (AllocatesFew (program_world text) q.body s)
+    (LeavesTheSame (naming_of program what q) (declared_in program what) layout s m t)
+    (run_c c_world f.body m)
 
--- The version of that number is printed: it comes from a procedure of the text, whose name the report gives, with no field that
--- may differ, runs like it, and its C does what that procedure does; of the first form it surely does. Program is that of the text with
--- the versions, and what lists the versions printed.
+-- The version of that number is printed: it comes from a procedure of the text, whose name the report gives, with no
+-- field that may differ, runs like it, and its C does what that procedure does. Program is that of the text with the
+-- versions, and what lists the versions printed.
 pub record IsPrinted (text program : Program) (what : List Printing) (at : ℕ) (w : Printing) : Type 0 where
   pub version : Procedure
   pub origin : Procedure
@@ -73,8 +64,7 @@ pub record IsPrinted (text program : Program) (what : List Printing) (at : ℕ) 
   pub origin_named : w.origin ≡ origin.name
   pub nothing_differs : w.fields ≡ []
   pub alike : IsVersionOf origin version
-  pub kept : DoesWhat program what at origin version
-  pub sure : is_first_unit program what ≡ true → SurelyDoesWhat program what at origin version
+  pub kept : DoesWhat text program what at origin version
 
 -- What stands behind the C that is printed for a unit and a schedule: the unit that the text spells, which keeps all rules and shows
 -- what its procedures owe, so that no admissible input makes any of them fault, the program that it stands for, the versions that the schedule makes, and for each version that is printed the promise that its C does what a procedure of the text does.

@@ -2,11 +2,10 @@
 ghost use Rattle.std.specs.Prelude.{◌≡◌, map, slice_get};
 ghost use Rattle.exo_tree.specs.Tree.{block};
 ghost use Rattle.exo_tree.specs.Plain.{parameter_kind, statement, program};
-ghost use Rattle.c_tree.specs.PlainPrinted.{printing};
+ghost use Rattle.c_printer.specs.PlainPrinted.{printing};
 ghost use Rattle.exo_cli.specs.Built.{is_dram, is_param_in_dram, are_params_in_dram, is_block_in_dram, is_statement_in_dram, is_in_dram, are_in_dram, are_built};
 
-use c_printer::are_self_contained;
-use c_tree::Printed;
+use c_printer::{Printed, are_self_contained};
 use exo_tree::{Block, MemId, ParamKind, Params, ProcId, Stmt, Unit};
 
 /// Whether the memory is `DRAM`, the first of each unit.

@@ -1,8 +1,8 @@
 // From the texts of a unit and of a schedule to the text of C.
 ghost use Rattle.std.specs.Prelude.{◌≡◌, ◌≤◌, ◌≢◌, None, length, map, slice_get, codes, IfOk};
 ghost use Rattle.exo_tree.specs.Plain.{program};
-ghost use Rattle.c_tree.specs.PlainPrinted.{printing};
-ghost use Rattle.c_tree.specs.LoweredUnit.{name_of};
+ghost use Rattle.c_printer.specs.PlainPrinted.{printing};
+ghost use Rattle.c_printer.specs.LoweredUnit.{name_of};
 ghost use Rattle.exo_cli.specs.Answer.{Rejected, IsVerdict};
 ghost use Rattle.exo_cli.specs.Compiled.{ended, kind_text, not_built, printed, rule_text, scheduled, why_text};
 ghost use Rattle.schedule_run.specs.Versions.{started};
@@ -20,8 +20,7 @@ use crate::built::are_built;
 use crate::check::{read_formed, refuse_unit};
 use crate::messages;
 use crate::reply::Reply;
-use c_printer::lower_unit;
-use c_tree::{LowerError, Printed, c_text};
+use c_printer::{LowerError, Printed, c_text, lower};
 use exo_reader::unit::{ReadError, ReadKind, Source};
 use exo_tree::{Lines, Name, ProcId, Procs, Unit};
 use exo_types::unit::check_types;
@@ -295,7 +294,7 @@ fn print(alloc: Global, procs: &str, unit: &Unit, what: &[Printed]) -> Result<Re
     if !are_built(unit, what) {
         return not_built(alloc, procs);
     }
-    match lower_unit(alloc, unit, what) {
+    match lower(alloc, unit, what) {
         Ok(c) => {
             let text = c_text(alloc, &c)?;
             Ok(Reply::Accepted(text))

@@ -4,7 +4,6 @@ ghost use Rattle.exo_cli.specs.Headline.{AcceptedIsPromised};
 ghost use Rattle.exo_cli.specs.Work.{AnswersAreUnique};
 
 use c_laws::laws::units_follow;
-use c_tree::laws::first_units_follow;
 use unit_check::laws::checked_units_do_not_fault;
 
 /// The C that is printed does what procedures of the text do, and none of these faults.
@@ -12,7 +11,6 @@ pub fn accepted_texts_are_promised()
     ensures { AcceptedIsPromised }
 {
     checked_units_do_not_fault();
-    first_units_follow();
     units_follow();
 }
 

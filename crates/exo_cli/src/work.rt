@@ -14,7 +14,6 @@ use crate::reply::Reply;
 use crate::status::Status;
 use crate::words::{Command, read_command};
 use c_laws::laws::units_follow;
-use c_tree::laws::first_units_follow;
 use cli_outside::{FileFault, Files, Sink};
 use ob_check::Gate;
 use std::alloc::{AllocError, Global};
@@ -59,7 +58,6 @@ pub fn exoc<R: Threads + Sync, F: Files, O: Sink, E: Sink, G: Gate>(
         Promised (texts words.now) folder (O.taken out.old) (O.taken out.new) ⊎ Counted (texts words.now) folder (O.taken out.old) (O.taken out.new)) }
 {
     checked_units_do_not_fault();
-    first_units_follow();
     units_follow();
     match reply_to(rt, alloc, words, files, gate) {
         Ok(reply) => reply.deliver(out, err),

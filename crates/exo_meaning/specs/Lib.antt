@@ -7,6 +7,7 @@ pub mod Refines
 pub mod Laws
 pub mod Orders
 pub mod Inputs
+pub mod Modes
 pub mod Footprint
 pub mod Renaming
 pub mod Unseen

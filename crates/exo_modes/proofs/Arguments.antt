@@ -3,7 +3,7 @@ use Rattle.std.proofs.Common.{◌≡◌, ℕ, zero, suc, ◌+◌, ◌<◌, ◌�
 use Rattle.std.proofs.Math.Bool.{or_assoc}
 use Rattle.exo_tree.specs.Tree.{Param, Argument}
 use Rattle.exo_meaning.specs.Run.{is_root}
-use Rattle.meaning_laws.specs.Touched.{Modes, no_modes}
+use Rattle.exo_meaning.specs.Modes.{Modes, no_modes}
 use Rattle.exo_modes.specs.Marks.{together, argument_marks}
 use Rattle.exo_modes.proofs.Unions.{same_modes, nothing_more}
 

@@ -1,64 +1,73 @@
--- The procedures above one, and their modes.
-use Rattle.std.proofs.Common.{◌≡◌, ℕ, zero, suc, ◌+◌, ◌<◌, ◌≤◌, List, [], ◌∷◌, ◌++◌, Option, Some, None, option_map, slice_get, get_or, length, take, map, refl, ap, sym, ◌∙◌, append_assoc, add-one, subst, arith}
-use Rattle.std.proofs.lemmas.List.{append-nil, map-append}
-use Rattle.std.proofs.lemmas.Option.{slice_get-map, slice_get_past}
-use Rattle.exo_tree.specs.Tree.{Kind, Argument, Procedure, Program}
+-- The procedures that may be called, and what a call of one touches.
+use Rattle.std.proofs.Common.{◌≡◌, ℕ, zero, suc, ◌+◌, ◌<◌, ◌≤◌, List, [], ◌∷◌, ◌++◌, Option, Some, None, option_map, slice_get, get_or, length, take, map, refl, ap, sym, ◌∙◌, add-one, subst, arith}
+use Rattle.exo_tree.specs.Tree.{Argument, Procedure}
 use Rattle.exo_meaning.specs.Calls.{Callee}
-use Rattle.exo_meaning.specs.Run.{callees, callee_in, world_of, kinds_of}
-use Rattle.meaning_laws.specs.Touched.{Mode, Modes, call_has, no_modes, modes_at, modes_in, all_modes}
+use Rattle.exo_meaning.specs.Modes.{Mode, Modes, call_has, no_modes, modes_at}
 use Rattle.exo_modes.specs.Marks.{argument_marks, call_marks, callable}
 
-get_taken : (ps : List Procedure) (n k : ℕ) → k < n → slice_get (take n ps) k ≡ slice_get ps k
-get_taken ps zero k h = absurd (omega arith)
-get_taken [] (suc n) k h = refl
-get_taken (p ∷ ps) (suc n) zero h = refl
-get_taken (p ∷ ps) (suc n) (suc k) h = get_taken ps n k (omega arith)
+-- the procedure of that number, if there is a row of it
+pub listed_at : List Procedure → List Modes → ℕ → Option Procedure
+listed_at [] ms k = None
+listed_at (p ∷ ps) [] k = None
+listed_at (p ∷ ps) (m ∷ ms) zero = Some p
+listed_at (p ∷ ps) (m ∷ ms) (suc k) = listed_at ps ms k
 
-length_taken : (ps : List Procedure) (n : ℕ) → length (take n ps) ≤ n
-length_taken ps zero = omega arith
-length_taken [] (suc n) = omega arith
-length_taken (p ∷ ps) (suc n) = omega (arith, length_taken ps n)
+pub can_call : (ps : List Procedure) (ms : List Modes) (k : ℕ) → option_map (λ c. c.procedure) (callable ps ms k) ≡ listed_at ps ms k
+unfolding listed_at
+can_call [] ms k = refl
+can_call (p ∷ ps) [] k = refl
+can_call (p ∷ ps) (m ∷ ms) zero = refl
+can_call (p ∷ ps) (m ∷ ms) (suc k) = can_call ps ms k
 
-procedures_are : (kinds : ℕ → Kind) (above : List Callee) (qs : List Procedure) → map (λ c. c.procedure) (callees kinds above qs) ≡ map (λ c. c.procedure) above ++ qs
-procedures_are kinds above [] = sym (append-nil (map (λ c. c.procedure) above))
-procedures_are kinds above (q ∷ qs) =
-    let last = callee_in (world_of kinds above) q in
-    procedures_are kinds (above ++ last ∷ []) qs ∙ ap (λ ps. ps ++ qs) (map-append (λ c. c.procedure) above (last ∷ [])) ∙ append_assoc (map (λ c. c.procedure) above) (q ∷ []) qs
+pub listed_taken : (ps : List Procedure) (ms : List Modes) (k : ℕ) → listed_at ps ms k ≡ slice_get (take (length ms) ps) k
+unfolding listed_at
+listed_taken [] [] k = refl
+listed_taken [] (m ∷ ms) k = refl
+listed_taken (p ∷ ps) [] k = refl
+listed_taken (p ∷ ps) (m ∷ ms) zero = refl
+listed_taken (p ∷ ps) (m ∷ ms) (suc k) = listed_taken ps ms k
 
-can_call : (program : Program) (n k : ℕ) → option_map (λ c. c.procedure) (callable program n k) ≡ slice_get (take n program.procedures) k
-can_call program n k =
-    let above = callees (kinds_of program.fields) [] (take n program.procedures) in
-    sym (slice_get-map (λ c. c.procedure) above k) ∙ ap (λ ps. slice_get ps k) (procedures_are (kinds_of program.fields) [] (take n program.procedures))
+listed_above : (ps : List Procedure) (ms : List Modes) (k : ℕ) → k < length ms → listed_at ps ms k ≡ slice_get ps k
+unfolding listed_at
+listed_above [] ms k h = refl
+listed_above (p ∷ ps) [] k h = absurd (omega (arith, h))
+listed_above (p ∷ ps) (m ∷ ms) zero h = refl
+listed_above (p ∷ ps) (m ∷ ms) (suc k) h = listed_above ps ms k (omega (arith, h))
 
-abbrev call_by : Option Procedure → Modes → (ℕ → ℕ) → List Argument → Modes
+listed_below : (ps : List Procedure) (ms : List Modes) (k : ℕ) → length ms ≤ k → listed_at ps ms k ≡ None
+unfolding listed_at
+listed_below [] ms k h = refl
+listed_below (p ∷ ps) [] k h = refl
+listed_below (p ∷ ps) (m ∷ ms) zero h = absurd (omega (arith, h))
+listed_below (p ∷ ps) (m ∷ ms) (suc k) h = listed_below ps ms k (omega (arith, h))
+
+-- what a call touches depends on the callee's procedure alone
+pub call_by : Option Procedure → Modes → (ℕ → ℕ) → List Argument → Modes
 call_by None given root args = no_modes
 call_by (Some p) given root args = argument_marks given root p.params args
 
-call_of : (c : Option Callee) (given : Modes) (root : ℕ → ℕ) (args : List Argument) → (λ (m : Mode) (y : ℕ). call_has c (given m) root y args) ≡ call_by (option_map (λ x. x.procedure) c) given root args
+pub call_of : (c : Option Callee) (given : Modes) (root : ℕ → ℕ) (args : List Argument) → (λ (m : Mode) (y : ℕ). call_has c (given m) root y args) ≡ call_by (option_map (λ x. x.procedure) c) given root args
+unfolding call_by
 call_of None given root args = refl
 call_of (Some c) given root args = refl
 
-call_is : (program : Program) (above : List Modes) (n k : ℕ) (root : ℕ → ℕ) (args : List Argument) → call_marks program above n root k args ≡ call_by (slice_get (take n program.procedures) k) (modes_at above k) root args
-call_is program above n k root args = call_of (callable program n k) (modes_at above k) root args ∙ ap (λ o. call_by o (modes_at above k) root args) (can_call program n k)
+call_is : (ps : List Procedure) (ms : List Modes) (k : ℕ) (root : ℕ → ℕ) (args : List Argument) (o : Option Procedure) → listed_at ps ms k ≡ o → call_marks ps ms root k args ≡ call_by o (modes_at ms k) root args
+call_is ps ms k root args o e =
+    call_of (callable ps ms k) (modes_at ms k) root args ∙ ap (λ o. call_by o (modes_at ms k) root args) (can_call ps ms k ∙ e)
 
 -- a call of a procedure above
-pub call_above : (program : Program) (above : List Modes) (n k : ℕ) (root : ℕ → ℕ) (args : List Argument) (p : Procedure) → k < n → slice_get program.procedures k ≡ Some p → call_marks program above n root k args ≡ argument_marks (modes_at above k) root p.params args
-call_above program above n k root args p h e = call_is program above n k root args ∙ ap (λ o. call_by o (modes_at above k) root args) (get_taken program.procedures n k h ∙ e)
+pub call_above : (ps : List Procedure) (ms : List Modes) (k : ℕ) (root : ℕ → ℕ) (args : List Argument) (p : Procedure) → k < length ms → slice_get ps k ≡ Some p → call_marks ps ms root k args ≡ argument_marks (modes_at ms k) root p.params args
+unfolding call_by
+call_above ps ms k root args p h e = call_is ps ms k root args (Some p) (listed_above ps ms k h ∙ e)
 
 -- no procedure of that number is above
-pub call_below : (program : Program) (above : List Modes) (n k : ℕ) (root : ℕ → ℕ) (args : List Argument) → n ≤ k → call_marks program above n root k args ≡ no_modes
-call_below program above n k root args h = call_is program above n k root args ∙ ap (λ o. call_by o (modes_at above k) root args) (slice_get_past (take n program.procedures) k (omega (arith, length_taken program.procedures n)))
+pub call_below : (ps : List Procedure) (ms : List Modes) (k : ℕ) (root : ℕ → ℕ) (args : List Argument) → length ms ≤ k → call_marks ps ms root k args ≡ no_modes
+unfolding call_by
+call_below ps ms k root args h = call_is ps ms k root args None (listed_below ps ms k h)
 
-pub call_nowhere : (program : Program) (above : List Modes) (n k : ℕ) (root : ℕ → ℕ) (args : List Argument) → k < n → slice_get program.procedures k ≡ None → call_marks program above n root k args ≡ no_modes
-call_nowhere program above n k root args h e = call_is program above n k root args ∙ ap (λ o. call_by o (modes_at above k) root args) (get_taken program.procedures n k h ∙ e)
-
--- the modes of one procedure more
-modes_split : (kinds : ℕ → Kind) (above : List Callee) (ms : List Modes) (qs rs : List Procedure) → all_modes kinds above ms (qs ++ rs) ≡ all_modes kinds (callees kinds above qs) (all_modes kinds above ms qs) rs
-modes_split kinds above ms [] rs = refl
-modes_split kinds above ms (q ∷ qs) rs = modes_split kinds (above ++ callee_in (world_of kinds above) q ∷ []) (ms ++ modes_in (world_of kinds above) (modes_at ms) q ∷ []) qs rs
-
-pub one_more : (kinds : ℕ → Kind) (ps qs : List Procedure) (p : Procedure) → ps ≡ qs ++ p ∷ [] → all_modes kinds [] [] ps ≡ all_modes kinds [] [] qs ++ modes_in (world_of kinds (callees kinds [] qs)) (modes_at (all_modes kinds [] [] qs)) p ∷ []
-one_more kinds ps qs p e = ap (all_modes kinds [] []) e ∙ modes_split kinds [] [] qs (p ∷ [])
+pub call_nowhere : (ps : List Procedure) (ms : List Modes) (k : ℕ) (root : ℕ → ℕ) (args : List Argument) → k < length ms → slice_get ps k ≡ None → call_marks ps ms root k args ≡ no_modes
+unfolding call_by
+call_nowhere ps ms k root args h e = call_is ps ms k root args None (listed_above ps ms k h ∙ e)
 
 -- the modes that a row says
 pub modes_of_read : {X : Type 0} (f : X → Modes) (xs : List X) (k : ℕ) (x : X) → x ≡ get_or xs k x → k < length xs → modes_at (map f xs) k ≡ f x

@@ -3,3 +3,5 @@ pub mod Roots
 pub mod Walks
 pub mod Arguments
 pub mod Callees
+pub mod Procedures
+pub mod Writes

@@ -2,7 +2,7 @@
 use Rattle.std.proofs.Common.{◌≡◌, ℕ, ◌||◌, Bool, true, false, refl, ap, sym, ◌∙◌}
 use Rattle.std.proofs.Math.Bool.{or_assoc}
 use Rattle.exo_tree.specs.Tree.{Datum, Plus, Select}
-use Rattle.meaning_laws.specs.Touched.{Mode, Reading, Writing, Reducing, Modes, picked, no_modes, reads_from}
+use Rattle.exo_meaning.specs.Modes.{Mode, Reading, Writing, Reducing, Modes, picked, no_modes, reads_from}
 use Rattle.exo_modes.specs.Marks.{together, reads}
 
 pub same_modes : (f g : Modes) → ((m : Mode) (y : ℕ) → f m y ≡ g m y) → f ≡ g

@@ -2,15 +2,15 @@
 use Rattle.std.proofs.Common.{◌≡◌, ℕ, zero, suc, arith, ◌||◌, ◌&&◌, ◌==◌, ◌≤◌, Bool, true, false, List, [], ◌∷◌, length, drop, take, refl, ap, sym, ◌∙◌}
 use Rattle.std.proofs.Math.Bool.{or_assoc}
 use Rattle.std.proofs.lemmas.List.{drop_all}
-use Rattle.exo_tree.specs.Tree.{Binder, Cell, Control, Condition, Datum, Statement, Assign, Reduce, If, Alloc, Block, block, Program}
+use Rattle.exo_tree.specs.Tree.{Binder, Cell, Control, Condition, Datum, Statement, Assign, Reduce, If, Alloc, Block, block, Procedure}
 use Rattle.exo_meaning.specs.Run.{roots_after}
-use Rattle.meaning_laws.specs.Touched.{Mode, Reading, Writing, Reducing, Modes, picked, reads_from}
+use Rattle.exo_meaning.specs.Modes.{Mode, Reading, Writing, Reducing, Modes, picked, reads_from}
 use Rattle.exo_modes.specs.Marks.{together, used, reads, block_marks, step_marks}
 use Rattle.exo_modes.proofs.Unions.{same_modes, or_false, nothing_more, more}
 
-module _ (program : Program) (above : List Modes) (n : ℕ) (root : ℕ → ℕ) where
+module _ (ps : List Procedure) (ms : List Modes) (root : ℕ → ℕ) where
   abbrev step : Statement → Modes
-  step = step_marks program above n root
+  step = step_marks ps ms root
 
   write_at : (m : Mode) (r t : Bool) → (picked m r false false || (picked m false true false && t)) ≡ picked m r t false
   write_at Reading r t = or_false r
@@ -36,22 +36,22 @@ module _ (program : Program) (above : List Modes) (n : ℕ) (root : ℕ → ℕ)
   pub made : (x : Binder) (cell : Cell) (dims : List Control) (memory : ℕ) (o t : Modes) → t ≡ together o (used (λ m. picked m false true false) x.id) → t ≡ together o (step (Alloc x cell dims memory))
   made x cell dims memory o t h = h ∙ ap (together o) (same_modes _ _ (λ m y. made_at m (y == x.id)))
 
-  pub branched : (c : Condition) (a b : Block) (o p t : Modes) → p ≡ together o (block_marks program above n root a) → t ≡ together p (block_marks program above n root b) → t ≡ together o (step (If c a b))
+  pub branched : (c : Condition) (a b : Block) (o p t : Modes) → p ≡ together o (block_marks ps ms root a) → t ≡ together p (block_marks ps ms root b) → t ≡ together o (step (If c a b))
   branched c a b o p t h i = more o _ _ p t h i
 
   -- one more statement
-  pub walked_on : (after : ℕ → ℕ) (row new whole : Modes) (s : Statement) (ss rest : List Statement) → ss ≡ s ∷ rest → new ≡ together row (step s) → after ≡ roots_after s root → together row (block_marks program above n root (block ss)) ≡ whole → together new (block_marks program above n after (block rest)) ≡ whole
+  pub walked_on : (after : ℕ → ℕ) (row new whole : Modes) (s : Statement) (ss rest : List Statement) → ss ≡ s ∷ rest → new ≡ together row (step s) → after ≡ roots_after s root → together row (block_marks ps ms root (block ss)) ≡ whole → together new (block_marks ps ms after (block rest)) ≡ whole
   walked_on after row new whole s ss rest d h r w =
-      ap (λ f. together f (block_marks program above n after (block rest))) h
-      ∙ ap (λ f. together (together row (step s)) (block_marks program above n f (block rest))) r
-      ∙ same_modes _ _ (λ m y. or_assoc (row m y) (step s m y) (block_marks program above n (roots_after s root) (block rest) m y))
-      ∙ ap (λ ts. together row (block_marks program above n root (block ts))) (sym d)
+      ap (λ f. together f (block_marks ps ms after (block rest))) h
+      ∙ ap (λ f. together (together row (step s)) (block_marks ps ms f (block rest))) r
+      ∙ same_modes _ _ (λ m y. or_assoc (row m y) (step s m y) (block_marks ps ms (roots_after s root) (block rest) m y))
+      ∙ ap (λ ts. together row (block_marks ps ms root (block ts))) (sym d)
       ∙ w
 
   -- no statement is left
-  pub walked_off : (row whole : Modes) (ss : List Statement) (k : ℕ) → length ss ≤ k → together row (block_marks program above n root (block (drop k ss))) ≡ whole → row ≡ whole
+  pub walked_off : (row whole : Modes) (ss : List Statement) (k : ℕ) → length ss ≤ k → together row (block_marks ps ms root (block (drop k ss))) ≡ whole → row ≡ whole
   walked_off row whole ss k l w =
-      sym (nothing_more row) ∙ ap (λ ts. together row (block_marks program above n root (block ts))) (sym (drop_all k ss l)) ∙ w
+      sym (nothing_more row) ∙ ap (λ ts. together row (block_marks ps ms root (block ts))) (sym (drop_all k ss l)) ∙ w
 
 take_shorter : {X : Type 0} (k n : ℕ) (ys : List X) → k ≤ n → take k (take n ys) ≡ take k ys
 take_shorter zero n ys h = refl

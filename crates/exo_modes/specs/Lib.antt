@@ -1,2 +1,4 @@
+pub mod Aliases
 pub mod Marks
+pub mod Written
 pub mod Seen

@@ -1,4 +1,4 @@
-//! Which parameters a procedure reads, writes or reduces: directly, through a view, or through a call.
+//! Which buffers a procedure reads, writes or reduces: directly, through a view, or through a call.
 #![tactic(auto)]
 
 mod aliases;
@@ -7,5 +7,8 @@ mod row;
 mod table;
 mod walk;
 
+pub use aliases::{Alias, root, set_root};
 pub use mode::Modes;
+pub use row::Row;
 pub use table::{ModeTable, modes};
+pub use walk::{Above, row_of};

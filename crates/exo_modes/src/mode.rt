@@ -1,10 +1,10 @@
 //! Three ways to touch a buffer.
 ghost use Rattle.std.specs.Prelude.{◌≡◌, ◌||◌};
-ghost use Rattle.meaning_laws.specs.Touched.{Mode};
+ghost use Rattle.exo_meaning.specs.Modes.{Mode};
 ghost use Rattle.exo_modes.specs.Seen.{says};
 
 /// How a buffer is touched.
-#[derive(Clone, Copy, Debug, PartialEq, Eq)]
+#[derive(Clone, Copy, PartialEq, Eq)]
 pub struct Modes {
     pub read: bool,
     pub write: bool,

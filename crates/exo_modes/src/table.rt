@@ -2,7 +2,7 @@
 ghost use Rattle.std.specs.Prelude.{◌≡◌, ◌++◌, ◌+◌, [], map, take, length, OnOk, IfOk};
 ghost use Rattle.exo_tree.specs.PlainUnit.{program};
 ghost use Rattle.exo_meaning.specs.Run.{kinds_of};
-ghost use Rattle.meaning_laws.specs.Touched.{Mode, modes_at, all_modes};
+ghost use Rattle.exo_meaning.specs.Modes.{Mode, modes_at, all_modes};
 ghost use Rattle.exo_modes.specs.Marks.{modes_of, param_modes};
 ghost use Rattle.exo_modes.specs.Seen.{says, row_says, table_says};
 
@@ -29,10 +29,10 @@ impl ModeTable {
         };
         for p in unit.procs.as_slice() {
             let above = Above {
-                unit,
+                procs: &unit.procs,
                 rows: &table.rows,
             };
-            let row = row_of(alloc, &above, p)?;
+            let row = row_of(alloc, &above, &p.body)?;
             table.rows.push(row)?;
         }
         Ok(table)
@@ -43,7 +43,7 @@ impl ModeTable {
         ensures { (m : Mode) → says result m ≡ modes_at (table_says self.now) p.0 m x.0 }
     {
         match self.rows.get(p.0 as usize) {
-            Some(row) => row.get(x),
+            Some(row) => row.get(x.0),
             None => Modes::NONE,
         }
     }

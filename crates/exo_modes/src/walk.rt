@@ -5,22 +5,23 @@ ghost use Rattle.exo_tree.specs.PlainDatum.{datum};
 ghost use Rattle.exo_tree.specs.PlainParam.{parameter};
 ghost use Rattle.exo_tree.specs.PlainArgument.{argument};
 ghost use Rattle.exo_tree.specs.PlainStatement.{statement};
-ghost use Rattle.exo_tree.specs.PlainUnit.{program};
 ghost use Rattle.exo_meaning.specs.Run.{roots_after, is_root};
 ghost use Rattle.exo_modes.specs.Marks.{together, reads, argument_marks, call_marks, block_marks, step_marks};
-ghost use Rattle.exo_modes.specs.Seen.{row_says, rows_say, roots_in};
+ghost use Rattle.exo_modes.specs.Aliases.{roots_in};
+ghost use Rattle.exo_modes.specs.Written.{block_writes};
+ghost use Rattle.exo_modes.specs.Seen.{row_says, rows_say, row_writes, rows_write};
 
 use crate::aliases::{Alias, root, set_root};
 use crate::mode::Modes;
 use crate::row::Row;
-use exo_tree::{Arg, Args, Block, DataExpr, Param, Proc, ProcId, Stmt, Unit};
+use exo_tree::{Arg, Args, Block, DataExpr, Param, ProcId, Procs, Stmt};
 use std::alloc::{AllocError, Global};
 
-/// The procedures that may be called: the first of the unit, with what they touch.
+/// The procedures that may be called: the first ones, as many as there are rows, with what each touches.
 #[derive(Clone, Copy)]
-pub(crate) struct Above<'a> {
-    pub(crate) unit: &'a Unit,
-    pub(crate) rows: &'a [Row],
+pub struct Above<'a> {
+    pub procs: &'a Procs,
+    pub rows: &'a [Row],
 }
 
 /// Marks what an expression reads.
@@ -29,7 +30,7 @@ fn mark_reads(row: &mut Row, aliases: &[Alias], e: &DataExpr) -> Result<(), Allo
 {
     match e {
         DataExpr::Lit(_) => Ok(()),
-        DataExpr::Read(x, _) => row.insert(root(aliases, *x), Modes::READ),
+        DataExpr::Read(x, _) => row.insert(root(aliases, x.0), Modes::READ),
         DataExpr::Neg(a) => mark_reads(row, aliases, a),
         DataExpr::Relu(a) => mark_reads(row, aliases, a),
         DataExpr::Add(a, b) => {
@@ -68,8 +69,8 @@ fn mark_argument(
     ensures { OnOk result (row_says row.new ≡ together (row_says row.old) (λ m y. row_says callee.now m p.now.binder.id.0 && is_root (roots_in aliases.now) y (argument a.now))) }
 {
     match a {
-        Arg::Whole(x) => row.insert(root(aliases, *x), callee.get(p.binder.id)),
-        Arg::Window(x, _) => row.insert(root(aliases, *x), callee.get(p.binder.id)),
+        Arg::Whole(x) => row.insert(root(aliases, x.0), callee.get(p.binder.id.0)),
+        Arg::Window(x, _) => row.insert(root(aliases, x.0), callee.get(p.binder.id.0)),
         _ => Ok(()),
     }
 }
@@ -98,13 +99,13 @@ fn mark_call(
     k: ProcId,
     args: &Args,
 ) -> Result<(), AllocError>
-    ensures { OnOk result (row_says row.new ≡ together (row_says row.old) (call_marks (program above.now.unit.now) (rows_say above.now.rows.now) (length above.now.rows.now) (roots_in aliases.now) k.0 args.now)) }
+    ensures { OnOk result (row_says row.new ≡ together (row_says row.old) (call_marks above.now.procs.now (rows_say above.now.rows.now) (roots_in aliases.now) k.0 args.now)) }
 {
     let index = k.0 as usize;
     if above.rows.len() <= index {
         return Ok(());
     }
-    if let Some(p) = above.unit.procs.get(index) {
+    if let Some(p) = above.procs.get(index) {
         let callee = &above.rows[index];
         mark_arguments(row, aliases, callee, p.params.as_slice(), args.as_slice())?;
     }
@@ -119,19 +120,19 @@ fn walk_statement(
     aliases: &mut Vec<Alias>,
     s: &Stmt,
 ) -> Result<(), AllocError>
-    ensures marks { OnOk result (row_says row.new ≡ together (row_says row.old) (step_marks (program above.now.unit.now) (rows_say above.now.rows.now) (length above.now.rows.now) (roots_in aliases.old.items) (statement s.now))) }
+    ensures marks { OnOk result (row_says row.new ≡ together (row_says row.old) (step_marks above.now.procs.now (rows_say above.now.rows.now) (roots_in aliases.old.items) (statement s.now))) }
     ensures roots { OnOk result (roots_in aliases.new.items ≡ roots_after (statement s.now) (roots_in aliases.old.items)) }
     ensures kept { OnOk result (take (length aliases.old.items) aliases.new.items ≡ aliases.old.items) }
 {
     match s {
         Stmt::Assign(x, _, e) => {
             mark_reads(row, aliases, e)?;
-            row.insert(root(aliases, *x), Modes::WRITE)?;
+            row.insert(root(aliases, x.0), Modes::WRITE)?;
             Ok(())
         }
         Stmt::Reduce(x, _, e) => {
             mark_reads(row, aliases, e)?;
-            row.insert(root(aliases, *x), Modes::REDUCE)?;
+            row.insert(root(aliases, x.0), Modes::REDUCE)?;
             Ok(())
         }
         Stmt::If(_, a, b) => {
@@ -141,13 +142,13 @@ fn walk_statement(
         }
         Stmt::For(_, _, _, b) => walk_block(above, row, aliases, b),
         Stmt::Alloc(x, _, _, _) => {
-            row.insert(x.id, Modes::WRITE)?;
-            set_root(aliases, x.id, x.id)?;
+            row.insert(x.id.0, Modes::WRITE)?;
+            set_root(aliases, x.id.0, x.id.0)?;
             Ok(())
         }
         Stmt::View(w, x, _) => {
-            let buffer = root(aliases, *x);
-            set_root(aliases, w.id, buffer)
+            let buffer = root(aliases, x.0);
+            set_root(aliases, w.id.0, buffer)
         }
         Stmt::Call(k, args) => mark_call(above, row, aliases, *k, args),
         _ => Ok(()),
@@ -156,13 +157,13 @@ fn walk_statement(
 
 /// Marks what a block touches. Its names end with it.
 #[cycle(walk)]
-pub(crate) fn walk_block(
+fn walk_block(
     above: &Above,
     row: &mut Row,
     aliases: &mut Vec<Alias>,
     b: &Block,
 ) -> Result<(), AllocError>
-    ensures marks { OnOk result (row_says row.new ≡ together (row_says row.old) (block_marks (program above.now.unit.now) (rows_say above.now.rows.now) (length above.now.rows.now) (roots_in aliases.old.items) (block b.now))) }
+    ensures marks { OnOk result (row_says row.new ≡ together (row_says row.old) (block_marks above.now.procs.now (rows_say above.now.rows.now) (roots_in aliases.old.items) (block b.now))) }
     ensures kept { OnOk result (aliases.new.items ≡ aliases.old.items) }
 {
     let known = aliases.len();
@@ -173,12 +174,13 @@ pub(crate) fn walk_block(
     Ok(())
 }
 
-/// What the body of a procedure touches.
-pub(crate) fn row_of(alloc: Global, above: &Above, p: &Proc) -> Result<Row, AllocError>
-    ensures { IfOk result (λ r. row_says r ≡ block_marks (program above.now.unit.now) (rows_say above.now.rows.now) (length above.now.rows.now) (λ y. y) (block p.now.body)) }
+/// What the body of a procedure touches that calls those above.
+pub fn row_of(alloc: Global, above: &Above, body: &Block) -> Result<Row, AllocError>
+    ensures says { IfOk result (λ r. row_says r ≡ block_marks above.now.procs.now (rows_say above.now.rows.now) (λ y. y) (block body.now)) }
+    ensures writes { IfOk result (λ r. row_writes r ≡ block_writes above.now.procs.now (rows_write above.now.rows.now) (λ y. y) (block body.now)) }
 {
     let mut row = Row::new(alloc);
     let mut aliases = Vec::new(alloc);
-    walk_block(above, &mut row, &mut aliases, &p.body)?;
+    walk_block(above, &mut row, &mut aliases, body)?;
     Ok(row)
 }

@@ -10,9 +10,6 @@ use Rattle.text_phrases.proofs.Exits.{refuses_along}
 use Rattle.text_phrases.proofs.Sequences.{Back, Step}
 use Rattle.text_phrases.proofs.Commas.{CommaApart, Listed, listing_refused_first, listing_refused, listing_full, listing_done}
 use Rattle.text_expressions.specs.Expression.{Tree, trees, number, truth, variable, access, field, stride, relu, select, negative, parens, binary, sign, deepest, spelling, FollowsOperand, control, FewDimensions, EndsList}
-use Rattle.text_expressions.specs.Views.{tree_of, tree_step}
-use Rattle.text_expressions.specs.declared.source.SourceExpr.TheVariants.{Access, rolls-Access}
-use Rattle.text_expressions.specs.declared.source.SourceExpr.TheFolds.{fold-roll-SourceExpr}
 use Rattle.text_lexer.specs.declared.token.Token.{Token}
 use Rattle.text_lexer.specs.declared.token.Token.TheVariants.{Name, Int, Sign, Word}
 use Rattle.text_lexer.specs.declared.token.Sign.TheVariants.{Open, CloseBracket, Comma, Colon, Minus}
@@ -24,10 +21,6 @@ use Rattle.exo_reader.specs.Views.{plain_coordinate}
 use Rattle.exo_reader.specs.declared.source.SourceCoord.{SourceCoord}
 use Rattle.exo_reader.proofs.Parts.{zero, control_zero}
 use Rattle.exo_reader.proofs.Lists.{map_snoc}
-
--- the plain form of a cell
-pub made_access : (x list : _) → tree_of (Access x list) ≡ access x (trees (map tree_of list.items))
-made_access x list = ap tree_of (sym (rolls-Access x list)) ∙ fold-roll-SourceExpr Tree tree_step _
 
 follows_coordinate : (o : Option Token) → FollowsCoordinate o → FollowsOperand 0 o
 follows_coordinate (Some (Sign Comma)) follows = tt

@@ -1,5 +1,5 @@
 -- A unit that keeps limits keeps fewer of them; so a text has one unit, or is refused at one token for one cause.
-use Rattle.std.proofs.Common.{◌≡◌, ℕ, ◌+◌, List, [], ◌∷◌, Option, Some, None, Bool, true, false, refl, sym, ap, ap₂, ◌∙◌, subst}
+use Rattle.std.proofs.Common.{◌≡◌, ℕ, ◌+◌, List, [], ◌∷◌, Option, Some, None, true, false, refl, sym, ap, ap₂, ◌∙◌, subst}
 use Rattle.text_phrases.specs.Limits.{Limits, Cause, syntax, too_deep, too_long, too_large}
 use Rattle.text_phrases.specs.Phrase.{Phrase}
 use Rattle.text_phrases.specs.Sequence.{AllFit, carried}
@@ -10,11 +10,11 @@ use Rattle.text_expressions.specs.declared.expression.Room.{Room}
 use Rattle.text_lexer.specs.declared.token.Token.{Token}
 use Rattle.text_lexer.specs.declared.token.Token.TheVariants.{Sign, Str, Dedent}
 use Rattle.text_lexer.specs.declared.token.Sign.TheVariants.{Close, Comma}
-use Rattle.exo_reader.specs.Source.{TypeName, stride, named, Form, plain, strided, Coordinate, point, span, Argument, value, window, Statement, pass, branch, loop, allocate, call, configure, assign, reduce, view, Block, end, next, block_of, Setting, strings, int, yes, no, Item, procedure, instruction, configuration, memory}
+use Rattle.exo_reader.specs.Source.{stride, named, plain, strided, point, span, value, window, Statement, pass, branch, loop, allocate, call, configure, assign, reduce, view, Block, end, next, strings, int, yes, no, procedure, instruction, configuration, memory}
 use Rattle.exo_reader.specs.Parts as parts
 use Rattle.exo_reader.specs.Parts.{Is, some_of, enclosed, dims, maybe_dims, type_name, maybe_memory, form, parameter, parameters, FewParameters}
-use Rattle.exo_reader.specs.Statements.{coordinate, coordinates, argument_of, argument, arguments, right, AnyNumber, StatementFits, BlockFits, statement, body}
-use Rattle.exo_reader.specs.Items.{neighbours, setting, attribute, field, assertion, assertions, definition, class_header, fields, attributes, item, unit}
+use Rattle.exo_reader.specs.Statements.{coordinate, argument_of, argument, arguments, AnyNumber, StatementFits, BlockFits, statement}
+use Rattle.exo_reader.specs.Items.{neighbours, setting, attribute, field, assertion, definition, item, unit}
 use Rattle.text_lexer.specs.declared.place.Place.{Place}
 use Rattle.exo_reader.specs.Texts.{first_kind, IsKindBy, IsKind, column_at, place_left, IsFault, TextsAreOne}
 use Rattle.exo_reader.specs.declared.unit.ReadKind.{ReadKind}

@@ -1,5 +1,5 @@
 -- The productions of statements and blocks.
-use Rattle.std.proofs.Common.{◌≡◌, ℕ, ◌+◌, ◌<◌, ◌≤◌, List, [], ◌∷◌, ◌++◌, Option, Some, None, Bool, true, false, length, refl, sym, ap, ◌∙◌, subst, arith, ◌⊎◌, inl, inr}
+use Rattle.std.proofs.Common.{◌≡◌, ℕ, ◌+◌, ◌<◌, ◌≤◌, List, [], ◌∷◌, ◌++◌, Option, Some, None, Bool, true, false, length, refl, sym, ap, ◌∙◌, append_assoc, subst, arith, ◌⊎◌, inl, inr}
 use Rattle.std.proofs.lemmas.List.{length-append}
 use Rattle.text_phrases.specs.Limits.{Limits, unlimited, in_depth, in_length, syntax, too_deep, too_long}
 use Rattle.text_phrases.specs.Phrase.{first, Phrase, Taken, Refused}
@@ -464,44 +464,35 @@ step_if nesting tokens after less whole = record {
 abbrev pub in_seq : List Token
 in_seq = Word w.In ∷ Word w.Seq ∷ Sign Open ∷ []
 
-abbrev pub For5T : Type 0
-For5T = (Unit {0}) × List Statement
+abbrev pub For3 : ℕ → Phrase Token ((Tree × (Unit {0})) × List Statement)
+For3 inner = then (then control (exactly (Sign Close ∷ []))) (block inner)
 
-abbrev pub For5 : ℕ → Phrase Token For5T
-For5 inner = then (exactly (Sign Close ∷ [])) (block inner)
-
-abbrev pub For4 : ℕ → Phrase Token (Tree × For5T)
-For4 inner = then control (For5 inner)
-
-abbrev pub For3 : ℕ → Phrase Token ((Unit {0}) × (Tree × For5T))
-For3 inner = then (exactly (Sign Comma ∷ [])) (For4 inner)
-
-abbrev pub For2 : ℕ → Phrase Token (Tree × ((Unit {0}) × (Tree × For5T)))
-For2 inner = then control (For3 inner)
+abbrev pub For2 : ℕ → Phrase Token ((Tree × (Unit {0})) × ((Tree × (Unit {0})) × List Statement))
+For2 inner = then (then control (exactly (Sign Comma ∷ []))) (For3 inner)
 
 abbrev pub For1T : Type 0
-For1T = (List ℕ × (Unit {0})) × (Tree × ((Unit {0}) × (Tree × For5T)))
+For1T = (List ℕ × (Unit {0})) × ((Tree × (Unit {0})) × ((Tree × (Unit {0})) × List Statement))
 
 abbrev pub For1 : ℕ → Phrase Token For1T
 For1 inner = then (then name (exactly in_seq)) (For2 inner)
 
 pub for1 : (inner : ℕ) → Joint (then name (exactly in_seq)) (For2 inner)
-for1 inner = record { may = record { may = λ limits q y fits follows. tt }; some = (zero, (tt, (zero, (tt, pass ∷ [])))); fits = λ limits. (control_zero limits, (tt, (control_zero limits, (tt, (tt, (tt, tt)))))) }
+for1 inner = record { may = record { may = λ limits q y fits follows. tt }; some = ((zero, tt), ((zero, tt), pass ∷ [])); fits = λ limits. ((control_zero limits, tt), ((control_zero limits, tt), (tt, (tt, tt)))) }
 
-pub for2 : (inner : ℕ) → Joint control (For3 inner)
-for2 inner = record { may = record { may = λ limits q y fits follows. tt }; some = (tt, (zero, (tt, pass ∷ []))); fits = λ limits. (tt, (control_zero limits, (tt, (tt, (tt, tt))))) }
+pub for2 : (inner : ℕ) → Joint (then control (exactly (Sign Comma ∷ []))) (For3 inner)
+for2 inner = record { may = record { may = λ limits q y fits follows. tt }; some = ((zero, tt), pass ∷ []); fits = λ limits. ((control_zero limits, tt), (tt, (tt, tt))) }
 
-pub for3 : (inner : ℕ) → Joint (exactly (Sign Comma ∷ [])) (For4 inner)
-for3 inner = record { may = record { may = λ limits q y fits follows. tt }; some = (zero, (tt, pass ∷ [])); fits = λ limits. (control_zero limits, (tt, (tt, (tt, tt)))) }
-
-pub for4 : (inner : ℕ) → Joint control (For5 inner)
-for4 inner = record { may = record { may = λ limits q y fits follows. tt }; some = (tt, pass ∷ []); fits = λ limits. (tt, (tt, (tt, tt))) }
-
-pub for5 : (inner : ℕ) → Joint (exactly (Sign Close ∷ [])) (block inner)
-for5 inner = record { may = record { may = λ limits q y fits follows. tt }; some = pass ∷ []; fits = λ limits. (tt, (tt, tt)) }
+pub for3 : (inner : ℕ) → Joint (then control (exactly (Sign Close ∷ []))) (block inner)
+for3 inner = record { may = record { may = λ limits q y fits follows. tt }; some = pass ∷ []; fits = λ limits. (tt, (tt, tt)) }
 
 abbrev pub loop_of : For1T → Statement
-loop_of s = loop s.0.0 s.1.0 s.1.1.1.0 (block_of s.1.1.1.1.1)
+loop_of s = loop s.0.0 s.1.0.0 s.1.1.0.0 (block_of s.1.1.1)
+
+-- the spelling of the bounds, one by one
+bounds_of : (low high : Tree) (more : List Token) → control.spell low ++ (Sign Comma ∷ (control.spell high ++ (Sign Close ∷ more))) ≡ (control.spell low ++ (Sign Comma ∷ [])) ++ ((control.spell high ++ (Sign Close ∷ [])) ++ more)
+bounds_of low high more =
+    sym (append_assoc (control.spell low) (Sign Comma ∷ []) (control.spell high ++ (Sign Close ∷ more)))
+    ∙ ap (λ w. (control.spell low ++ (Sign Comma ∷ [])) ++ w) (sym (append_assoc (control.spell high) (Sign Close ∷ []) more))
 
 back_for : (nesting : ℕ) (limits : Limits) (other : Statement) (x y : List Token) → StatementFits limits nesting other → Word w.For ∷ x ≡ spelling other ++ y → Back (For1 (nesting + 1)) loop_of limits other x y
 back_for nesting limits pass x y fits equal = absurd (let e : Word w.For ≡ Word w.Pass = cc in cc)
@@ -511,10 +502,11 @@ back_for nesting limits (loop i low high a) x y fits equal =
     let again : StatementFits limits nesting (loop i low high (block_of (statements a))) = subst (λ (k : Statement). StatementFits limits nesting k) is fits in
     let same : Word w.For ∷ x ≡ spelling (loop i low high (block_of (statements a))) ++ y = equal ∙ ap (λ k. spelling k ++ y) is in
     record {
-      tree = ((i, tt), (low, (tt, (high, (tt, statements a)))));
-      fits = ((again.1, tt), (again.2, (tt, (again.3, (tt, (again.4, again.5))))));
+      tree = ((i, tt), ((low, tt), ((high, tt), statements a)));
+      fits = ((again.1, tt), ((again.2, tt), ((again.3, tt), (again.4, again.5))));
       is = is;
-      equal = (let e : x ≡ (For1 (nesting + 1)).spell ((i, tt), (low, (tt, (high, (tt, statements a))))) ++ y = cc in e);
+      equal = (let e : x ≡ (Name i ∷ Word w.In ∷ Word w.Seq ∷ Sign Open ∷ (control.spell low ++ (Sign Comma ∷ (control.spell high ++ (Sign Close ∷ (block (nesting + 1)).spell (statements a)))))) ++ y = cc in
+          e ∙ ap (λ k. (Name i ∷ Word w.In ∷ Word w.Seq ∷ Sign Open ∷ k) ++ y) (bounds_of low high ((block (nesting + 1)).spell (statements a))));
       follows = tt;
     }
 back_for nesting limits (allocate m kind ds k) x y fits equal = absurd (let e : Word w.For ≡ Name m = cc in cc)
@@ -530,8 +522,8 @@ pub step_for : (nesting : ℕ) (tokens after : List Token) → nesting < 24 → 
 step_for nesting tokens after less whole = record {
   front = Word w.For ∷ [];
   split = whole;
-  fits = λ limits s fits. (nests limits nesting less, fits.0.0, fits.1.0, fits.1.1.1.0, fits.1.1.1.1.1.0, fits.1.1.1.1.1.1);
-  spelled = λ s. refl;
+  fits = λ limits s fits. (nests limits nesting less, fits.0.0, fits.1.0.0, fits.1.1.0.0, fits.1.1.1.0, fits.1.1.1.1);
+  spelled = λ s. ap (λ k. Word w.For ∷ Name s.0.0 ∷ Word w.In ∷ Word w.Seq ∷ Sign Open ∷ k) (bounds_of s.1.0.0 s.1.1.0.0 ((block (nesting + 1)).spell s.1.1.1));
   back = λ limits other x y same fits follows equal. back_for nesting limits other x y fits equal;
 }
 

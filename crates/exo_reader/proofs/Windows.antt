@@ -14,7 +14,7 @@ use Rattle.text_expressions.specs.Expression.{Tree, Trees, end, next, trees, num
 use Rattle.text_expressions.specs.declared.source.Operator.{Operator}
 use Rattle.text_expressions.specs.declared.source.Operator.TheVariants as o
 use Rattle.text_expressions.specs.declared.expression.Room.{Room}
-use Rattle.text_expressions.proofs.Signs.{low_level}
+use Rattle.text_expressions.proofs.Levels.{level_at_most_four}
 use Rattle.text_lexer.specs.declared.token.Literal.TheVariants.{Value}
 use Rattle.text_lexer.specs.declared.token.Token.{Token}
 use Rattle.text_lexer.specs.declared.token.Token.TheVariants.{Name, Int, Sign, Word}
@@ -556,7 +556,7 @@ access_only room n inside after cs limits (relu a) x y full taken none fits foll
 access_only room n inside after cs limits (select a b c d) x y full taken none fits follows equal = absurd (let e : Name n ≡ Word w.Select = cc (equal) in cc (e))
 access_only room n inside after cs limits (negative a) x y full taken none fits follows equal = absurd (let e : Name n ≡ Sign Minus = cc (equal) in cc (e))
 access_only room n inside after cs limits (parens a) x y full taken none fits follows equal = absurd (let e : Name n ≡ Sign Open = cc (equal) in cc (e))
-access_only room n inside after cs limits (binary op l r) x y full taken none fits follows equal = absurd (omega (arith, low_level op, fits.0.0))
+access_only room n inside after cs limits (binary op l r) x y full taken none fits follows equal = absurd (omega (arith, level_at_most_four op, fits.0.0))
 
 cell_shift : (n : List ℕ) (cs : List Coordinate) (x : List Token) → has_span cs ≡ false → spelling (access n (indices_of cs)) ++ x ≡ Name n ∷ Sign OpenBracket ∷ (coordinates.spell cs ++ (Sign CloseBracket ∷ x))
 cell_shift n cs x none = ap (λ v. v ++ x) (sym (cell_spelled n cs none)) ∙ shift n (coordinates.spell cs) x

@@ -1,4 +1,4 @@
-// Arguments: expressions and windows.
+//! Arguments: expressions and windows.
 
 ghost use Rattle.std.specs.Prelude.{◌≡◌, ◌≤◌, ◌<◌, ◌+◌, ◌∷◌, List, Some, ◌||◌, map, IfOk, MatchOption};
 ghost use Rattle.text_phrases.specs.Phrase.{first, Taken, Refused};
@@ -14,8 +14,8 @@ ghost use Rattle.text_lexer.specs.declared.token.Token.{Token};
 use crate::source::{SourceArg, SourceArgs, SourceCoord};
 use std::alloc::{AllocError, Global};
 use text_expressions::expression::{
-    CONTROL_NODES, DATA_NODES, DEPTH, DIMENSIONS, Measured, Room, read_control, read_from,
-    read_operand,
+    CONTROL_NODES, DATA_NODES, DEPTH, DIMENSIONS, Indices, Measured, Room, accessed, read_control,
+    read_from, read_operand,
 };
 use text_expressions::front::{Fixed, behind, expect, is_short, stands_first};
 use text_expressions::source::SourceExpr;
@@ -54,7 +54,7 @@ fn read_coordinate(alloc: Global, tokens: &[Token]) -> Result<(NotedCoord, &[Tok
     let depth = low.depth;
     let Some(after) = behind(behind_low, Fixed::Sign(Sign::Colon)) else {
         let point = NotedCoord {
-            coord: SourceCoord::Point(low.tree),
+            coord: SourceCoord::Point(Box::into_inner(low.tree)),
             depth,
             spans: false,
         };
@@ -62,18 +62,11 @@ fn read_coordinate(alloc: Global, tokens: &[Token]) -> Result<(NotedCoord, &[Tok
     };
     let (high, rest) = read_control(alloc, after)?;
     let span = NotedCoord {
-        coord: SourceCoord::Span(low.tree, high),
+        coord: SourceCoord::Span(Box::into_inner(low.tree), Box::into_inner(high)),
         depth,
         spans: true,
     };
     Ok((span, rest))
-}
-
-/// Whether one of them holds.
-fn either(one: bool, other: bool) -> bool
-    ensures { result ≡ one || other }
-{
-    one || other
 }
 
 /// The coordinates before a bracket, at most 8.
@@ -93,7 +86,7 @@ pub fn read_coordinates(alloc: Global, tokens: &[Token]) -> Result<(NotedCoords,
         }
         let (next, found) = read_coordinate(alloc, after)?;
         depth = depth.max(next.depth);
-        spans = either(spans, next.spans);
+        spans |= next.spans;
         items.push(next.coord)?;
         rest = found;
     }
@@ -130,16 +123,12 @@ fn lows(alloc: Global, coords: Vec<SourceCoord>) -> Result<Vec<SourceExpr>, Allo
 fn cell_at(alloc: Global, name: Text, coords: NotedCoords) -> Result<Measured, AllocError>
     requires noted { AreNoted coords }
     requires shallow { coords.depth < 4294967295 }
-    ensures same { IfOk result (λ m. tree_of m.tree ≡ access name (trees (map low_of (map plain_coordinate coords.items.items)))) }
+    ensures same { IfOk result (λ m. tree_of m.tree.value ≡ access name (trees (map low_of (map plain_coordinate coords.items.items)))) }
     ensures measured { IfOk result (λ m. IsMeasured m) }
 {
-    let depth = coords.depth + 1;
-    let list = lows(alloc, coords.items)?;
-    Ok(Measured {
-        tree: SourceExpr::Access(name, list),
-        depth,
-        nodes: 1,
-    })
+    let items = lows(alloc, coords.items)?;
+    let depth = coords.depth;
+    accessed(alloc, name, Indices { items, depth })
 }
 
 /// The tokens behind a bracket that stands first, if the name before it is short.
@@ -189,7 +178,7 @@ fn read_bracketed(
     }
     let cell = cell_at(alloc, name, coords)?;
     let (value, rest) = read_from(alloc, cell, after, 0, room)?;
-    Ok((SourceArg::Value(value.tree), rest))
+    Ok((SourceArg::Value(Box::into_inner(value.tree)), rest))
 }
 
 /// An expression in a room, or a window.
@@ -203,7 +192,7 @@ fn read_in(alloc: Global, tokens: &[Token], room: Room) -> Result<(SourceArg, &[
         return read_bracketed(alloc, copy, inside, room);
     }
     let (value, rest) = read_operand(alloc, tokens, 0, room)?;
-    Ok((SourceArg::Value(value.tree), rest))
+    Ok((SourceArg::Value(Box::into_inner(value.tree)), rest))
 }
 
 /// An argument of a call: an expression or a window.

@@ -1,4 +1,4 @@
-// What stands at the top level of a text.
+//! What stands at the top level of a text.
 
 ghost use Rattle.std.specs.Prelude.{◌≡◌, ◌∷◌, ◌++◌, List, [], map};
 ghost use Rattle.text_phrases.specs.Phrase.{Taken, Refused};
@@ -28,7 +28,7 @@ fn read_asserts(alloc: Global, tokens: &[Token]) -> Result<(Vec<SourceExpr>, &[T
     let mut rest = tokens;
     'more: while let Some(after) = behind(rest, Fixed::Word(Word::Assert)) {
         let (condition, found) = read_control_and(alloc, after, &[Fixed::NewLine])?;
-        asserts.push(condition)?;
+        asserts.push(Box::into_inner(condition))?;
         rest = found;
     }
     Ok((asserts, rest))

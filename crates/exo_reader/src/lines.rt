@@ -1,4 +1,4 @@
-// Strings that stand beside one another.
+//! Strings that stand beside one another.
 
 ghost use Rattle.std.specs.Prelude.{◌≡◌, ◌∷◌, ◌+◌, ◌≤◌, ℕ, length, List, Some, IsTrue, ◌↔◌, MatchOption};
 ghost use Rattle.text_phrases.specs.Phrase.{first, Taken, Refused};

@@ -1,4 +1,4 @@
-// Parameters.
+//! Parameters.
 
 ghost use Rattle.std.specs.Prelude.{◌≡◌, ◌∷◌, List, map, length, IsTrue, ◌↔◌};
 ghost use Rattle.text_phrases.specs.Phrase.{Taken, Refused};

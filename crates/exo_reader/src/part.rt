@@ -1,4 +1,4 @@
-// Parts of parameters and statements.
+//! Parts of parameters and statements.
 
 ghost use Rattle.std.specs.Prelude.{◌≡◌, List, map, MatchOption};
 ghost use Rattle.text_phrases.specs.Phrase.{Taken, Refused};
@@ -37,9 +37,9 @@ pub fn read_control_and<'a>(
     alloc: Global,
     tokens: &'a [Token],
     words: &[Fixed],
-) -> Result<(SourceExpr, &'a [Token]), Refusal>
+) -> Result<(Box<SourceExpr>, &'a [Token]), Refusal>
     requires { ClosesFirst (map token_of words.now) }
-    ensures { Reads (then control (exactly (map token_of words.now))) tokens.now (λ x. (tree_of x.0, tt)) (λ x. x.1.now) result }
+    ensures { Reads (then control (exactly (map token_of words.now))) tokens.now (λ x. (tree_of x.0.value, tt)) (λ x. x.1.now) result }
 {
     let (value, after) = read_control(alloc, tokens)?;
     let rest = expect_all(after, words)?;
@@ -51,9 +51,9 @@ pub fn read_data_and<'a>(
     alloc: Global,
     tokens: &'a [Token],
     words: &[Fixed],
-) -> Result<(SourceExpr, &'a [Token]), Refusal>
+) -> Result<(Box<SourceExpr>, &'a [Token]), Refusal>
     requires { ClosesFirst (map token_of words.now) }
-    ensures { Reads (then datum (exactly (map token_of words.now))) tokens.now (λ x. (tree_of x.0, tt)) (λ x. x.1.now) result }
+    ensures { Reads (then datum (exactly (map token_of words.now))) tokens.now (λ x. (tree_of x.0.value, tt)) (λ x. x.1.now) result }
 {
     let (value, after) = read_data(alloc, tokens)?;
     let rest = expect_all(after, words)?;

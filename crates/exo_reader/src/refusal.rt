@@ -1,4 +1,4 @@
-// Where and why a text is refused.
+//! Where and why a text is refused.
 
 ghost use Rattle.std.specs.Prelude.{◌≡◌, ◌+◌, ◌<◌, length, IsTrue, ◌↔◌, None};
 ghost use Rattle.exo_reader.specs.Texts.{EndsHeader, IsAtEnd, bad_token, first_kind, IsKindBy, IsSyntaxKind, column_at, IsPlaced, IsLeft, Says};

@@ -1,4 +1,4 @@
-// Source trees of units: a text as it is written, without names resolved.
+//! Source trees of units: a text as it is written, without names resolved.
 
 use text_expressions::source::SourceExpr;
 use text_lexer::text::Text;

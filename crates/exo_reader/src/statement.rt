@@ -1,4 +1,4 @@
-// Statements and blocks.
+//! Statements and blocks.
 
 ghost use Rattle.std.specs.Prelude.{◌≡◌, ◌≤◌, ◌<◌, ◌∷◌, ◌++◌, ℕ, List, Some, suc, map, length};
 ghost use Rattle.text_phrases.specs.Phrase.{first, Taken, Refused};
@@ -70,12 +70,18 @@ fn read_config(
 {
     let (field, behind_field) = read_name_and(after, &[Fixed::Sign(Sign::Assign)])?;
     let (value, rest) = read_control_and(alloc, behind_field, &[Fixed::NewLine])?;
-    Ok((SourceStmt::Config(name, field, value), rest))
+    Ok((
+        SourceStmt::Config(name, field, Box::into_inner(value)),
+        rest,
+    ))
 }
 
 /// `=` or `+=`, what is stored, and the end of the line. The first part says whether it is `+=`.
-fn read_store(alloc: Global, tokens: &[Token]) -> Result<((bool, SourceExpr), &[Token]), Refusal>
-    ensures { Reads store tokens.now (λ x. (x.0.0, tree_of x.0.1)) (λ x. x.1.now) result }
+fn read_store(
+    alloc: Global,
+    tokens: &[Token],
+) -> Result<((bool, Box<SourceExpr>), &[Token]), Refusal>
+    ensures { Reads store tokens.now (λ x. (x.0.0, tree_of x.0.1.value)) (λ x. x.1.now) result }
 {
     if let Some(after) = behind(tokens, Fixed::Sign(Sign::Reduce)) {
         let (value, rest) = read_data_and(alloc, after, &[Fixed::NewLine])?;
@@ -87,9 +93,10 @@ fn read_store(alloc: Global, tokens: &[Token]) -> Result<((bool, SourceExpr), &[
 }
 
 /// A store in a cell, or a reduction into one.
-fn stored(name: Text, list: Vec<SourceExpr>, reduces: bool, value: SourceExpr) -> SourceStmt
-    ensures { plain_statement result ≡ stored_by name (map tree_of list.items) reduces (tree_of value) }
+fn stored(name: Text, list: Vec<SourceExpr>, reduces: bool, value: Box<SourceExpr>) -> SourceStmt
+    ensures { plain_statement result ≡ stored_by name (map tree_of list.items) reduces (tree_of value.value) }
 {
+    let value = Box::into_inner(value);
     if reduces {
         SourceStmt::Reduce(name, list, value)
     } else {
@@ -216,7 +223,10 @@ fn read_if<'a>(
     let (condition, behind_condition) = read_control(alloc, after)?;
     let (inside, behind_block) = read_block(alloc, behind_condition, nesting + 1)?;
     let (other, rest) = read_else(alloc, behind_block, nesting + 1)?;
-    Ok((SourceStmt::If(condition, inside, other), rest))
+    Ok((
+        SourceStmt::If(Box::into_inner(condition), inside, other),
+        rest,
+    ))
 }
 
 /// The block of an `else`, or an empty one.
@@ -259,12 +269,11 @@ fn read_for<'a>(
             Fixed::Sign(Sign::Open),
         ],
     )?;
-    let (low, behind_low) = read_control(alloc, behind_name)?;
-    let before_high = expect_all(behind_low, &[Fixed::Sign(Sign::Comma)])?;
-    let (high, behind_high) = read_control(alloc, before_high)?;
-    let before_block = expect_all(behind_high, &[Fixed::Sign(Sign::Close)])?;
+    let (low, before_high) = read_control_and(alloc, behind_name, &[Fixed::Sign(Sign::Comma)])?;
+    let (high, before_block) = read_control_and(alloc, before_high, &[Fixed::Sign(Sign::Close)])?;
     let (inside, rest) = read_block(alloc, before_block, nesting + 1)?;
-    Ok((SourceStmt::For(name, low, high, inside), rest))
+    let made = SourceStmt::For(name, Box::into_inner(low), Box::into_inner(high), inside);
+    Ok((made, rest))
 }
 
 /// A colon, and the block of this nesting behind it.

@@ -1,4 +1,4 @@
-// Expressions and windows in texts of one line.
+//! Expressions and windows in texts of one line.
 
 ghost use Rattle.std.specs.Prelude.{◌≤◌, length, map, MatchResult};
 ghost use Rattle.text_phrases.specs.Text.{IsText, Faults};
@@ -22,8 +22,8 @@ use text_lexer::token::{Sign, Token, next};
 use text_phrases::Refusal;
 
 /// The expression that the tokens are, all of them.
-fn read_whole_expr(alloc: Global, tokens: &[Token]) -> Result<SourceExpr, Refusal>
-    ensures { MatchResult result (λ e. IsText control tokens.now (tree_of e)) (λ e. Faults control tokens.now e) }
+fn read_whole_expr(alloc: Global, tokens: &[Token]) -> Result<Box<SourceExpr>, Refusal>
+    ensures { MatchResult result (λ e. IsText control tokens.now (tree_of e.value)) (λ e. Faults control tokens.now e) }
 {
     let (tree, rest) = read_control(alloc, tokens)?;
     match next(rest) {
@@ -75,7 +75,7 @@ pub fn read_expr(alloc: Global, bytes: &[u8]) -> Result<SourceExpr, ReadError>
     let tokens = lexed.tokens;
     let places = lexed.places;
     match read_whole_expr(alloc, tokens.as_slice()) {
-        Ok(tree) => Ok(tree),
+        Ok(tree) => Ok(Box::into_inner(tree)),
         Err(refusal) => Err(error_of(refusal, tokens.as_slice(), places.as_slice())),
     }
 }

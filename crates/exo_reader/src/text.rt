@@ -1,4 +1,4 @@
-// Units: all tokens of a text.
+//! Units: all tokens of a text.
 
 ghost use Rattle.std.specs.Prelude.{◌≤◌, length, map, MatchResult};
 ghost use Rattle.text_phrases.specs.Text.{IsText, Faults};

@@ -1,4 +1,4 @@
-// What a text of a unit is read to.
+//! What a text of a unit is read to.
 
 ghost use Rattle.std.specs.Prelude.{◌≤◌, length};
 

@@ -3,22 +3,10 @@ use Rattle.std.specs.Prelude.{◌≡◌, ℕ, Bool, List, Option}
 use Rattle.std.specs.Coded.{Coded, coded_list, coded_ℕ, coded_ℤ, coded_bool, coded_option, coded×, code_by}
 use Rattle.std.proofs.Common.{ap, arith, refl}
 use base.Stored.{Gv, gnil, gnum, gcons, num}
+pub use Rattle.exo_tree.specs.CodeParts.{left, right, tag}
 use Rattle.exo_tree.specs.Tree as tree
 use Rattle.exo_tree.specs.Places as place
 use Rattle.exo_tree.specs.Tree.{Cell, Kind, Control, Condition, Datum, Coord, Argument, Statement, Block, Binder, ParamKind, Param, Procedure, ConfigField, MemoryKind, end, next}
-
-abbrev pub left : Gv → Gv
-left gnil = gnil
-left (gnum n) = gnil
-left (gcons a b) = a
-
-abbrev pub right : Gv → Gv
-right gnil = gnil
-right (gnum n) = gnil
-right (gcons a b) = b
-
-abbrev pub tag : Gv → ℕ
-tag g = num (left g)
 
 abbrev pub name_code : Coded (List ℕ)
 name_code = coded_list coded_ℕ

@@ -2,7 +2,10 @@ pub mod Tree
 pub mod Context
 pub mod Places
 pub mod Nodes
+pub mod CodeParts
 pub mod Codes
+pub mod Spans
+pub mod Calls
 pub mod PlainBinder
 pub mod PlainControl
 pub mod PlainDatum
@@ -17,5 +20,6 @@ pub mod Branches
 pub mod Heights
 pub mod PlainPlace
 pub mod Plain
+pub mod Mapped
 pub mod Substitution
 pub mod Renaming

@@ -1,5 +1,5 @@
 -- Places of statements: a path leads to a context with a hole and to the statements that stand there.
-use Rattle.std.specs.Prelude.{ℕ, zero, suc, List, [], ◌∷◌, Option, Some, None, option_map, option_and_then}
+use Rattle.std.specs.Prelude.{ℕ, zero, suc, Bool, true, false, ◌==◌, ◌&&◌, List, [], ◌∷◌, Option, Some, None, option_map, option_and_then}
 use Rattle.exo_tree.specs.Tree.{Statement, If, For, Block, end, next}
 use Rattle.exo_tree.specs.Context.{Context, Here, After, InLoop, InThen, InElse, fill}
 
@@ -14,6 +14,21 @@ pub record Step : Type 0 where
 
 abbrev pub Path : Type 0
 Path = List Step
+
+abbrev pub same_branch : Branch → Branch → Bool
+same_branch Main Main = true
+same_branch Else Else = true
+same_branch Main Else = false
+same_branch Else Main = false
+
+abbrev pub same_step : Step → Step → Bool
+same_step s t = same_branch s.branch t.branch && (s.index == t.index)
+
+abbrev pub same_path : Path → Path → Bool
+same_path [] [] = true
+same_path [] (t ∷ q) = false
+same_path (s ∷ p) [] = false
+same_path (s ∷ p) (t ∷ q) = same_step s t && same_path p q
 
 -- some statements of a block, and what is round them
 pub record Opened : Type 0 where

@@ -1,5 +1,5 @@
 //! Arguments of calls.
-ghost use Rattle.std.specs.Prelude.{◌≡◌, [], ◌∷◌, ◌++◌, length, map, IfOk, OnOk, OnErr, slice_get, option_map};
+ghost use Rattle.std.specs.Prelude.{◌≡◌, [], ◌∷◌, ◌++◌, length, map, OnOk, OnErr, slice_get, option_map};
 ghost use Rattle.std.specs.Option.{option_copied};
 ghost use Rattle.exo_tree.specs.PlainArgument.{argument};
 
@@ -75,15 +75,5 @@ impl Args {
         ensures { map argument result.now ≡ self.now }
     {
         self.items.as_slice()
-    }
-
-    pub fn duplicate(&self, alloc: Global) -> Result<Args, AllocError>
-        ensures { IfOk result (λ l. l ≡ self.now) }
-    {
-        let mut copied = Args::new(alloc);
-        for item in &self.items {
-            copied.push(item.duplicate(alloc)?)?;
-        }
-        Ok(copied)
     }
 }

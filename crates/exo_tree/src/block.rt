@@ -1,13 +1,7 @@
 //! Statements and blocks.
 ghost use Rattle.std.specs.Prelude.{◌≡◌, [], ◌∷◌, ◌++◌, ◌+◌, ◌<◌, ◌≤◌, length, drop, slice_range, OnOk, OnErr, IfOk, slice_get, option_map};
 ghost use Rattle.std.specs.Option.{option_copied};
-ghost use Rattle.exo_tree.specs.Tree as tree;
-ghost use Rattle.exo_tree.specs.Tree.{block};
 ghost use Rattle.exo_tree.specs.Nodes.{nodes, nodes_of};
-ghost use Rattle.exo_tree.specs.PlainBinder.{binding, cell_type};
-ghost use Rattle.exo_tree.specs.PlainControl.{control, condition};
-ghost use Rattle.exo_tree.specs.PlainDatum.{datum};
-ghost use Rattle.exo_tree.specs.PlainArgument.{argument};
 ghost use Rattle.exo_tree.specs.PlainStatement.{statement};
 
 use crate::argument::{Arg, Args};
@@ -158,105 +152,4 @@ impl Block {
         made.append_part(alloc, self, from, from + count)?;
         Ok(made)
     }
-
-    #[cycle(duplicate)]
-    pub fn duplicate(&self, alloc: Global) -> Result<Block, AllocError>
-        ensures { IfOk result (λ b. b ≡ self.now) }
-    {
-        let mut copied = Block::new(alloc);
-        for s in &self.statements {
-            copied.push(s.duplicate(alloc)?)?;
-        }
-        Ok(copied)
-    }
-}
-
-impl Stmt {
-    #[cycle(duplicate)]
-    pub fn duplicate(&self, alloc: Global) -> Result<Stmt, AllocError>
-        ensures { IfOk result (λ s. statement s ≡ statement self.now) }
-    {
-        match self {
-            Stmt::Assign(x, at, e) => assign_of(alloc, *x, at, e),
-            Stmt::Reduce(x, at, e) => reduce_of(alloc, *x, at, e),
-            Stmt::Config(f, a) => Ok(Stmt::Config(*f, a.duplicate(alloc)?)),
-            Stmt::Pass => Ok(Stmt::Pass),
-            Stmt::If(c, a, b) => branch_of(alloc, c, a.duplicate(alloc)?, b.duplicate(alloc)?),
-            Stmt::For(b, lo, hi, body) => loop_of(alloc, b, lo, hi, body.duplicate(alloc)?),
-            Stmt::Alloc(b, t, dims, m) => alloc_of(alloc, b, *t, dims, *m),
-            Stmt::View(b, x, at) => view_of(alloc, b, *x, at),
-            Stmt::Call(p, args) => Ok(Stmt::Call(*p, args.duplicate(alloc)?)),
-        }
-    }
-}
-
-/// An assignment of these parts.
-pub(crate) fn assign_of(
-    alloc: Global,
-    x: Id,
-    at: &Indices,
-    e: &DataExpr,
-) -> Result<Stmt, AllocError>
-    ensures { IfOk result (λ s. statement s ≡ tree.Assign x.0 at.now (datum e.now)) }
-{
-    Ok(Stmt::Assign(x, at.duplicate(alloc)?, e.duplicate(alloc)?))
-}
-
-/// A reduction of these parts.
-pub(crate) fn reduce_of(
-    alloc: Global,
-    x: Id,
-    at: &Indices,
-    e: &DataExpr,
-) -> Result<Stmt, AllocError>
-    ensures { IfOk result (λ s. statement s ≡ tree.Reduce x.0 at.now (datum e.now)) }
-{
-    Ok(Stmt::Reduce(x, at.duplicate(alloc)?, e.duplicate(alloc)?))
-}
-
-/// A loop with a copied head.
-pub(crate) fn loop_of(
-    alloc: Global,
-    b: &Binder,
-    lo: &Ctrl,
-    hi: &Ctrl,
-    body: Block,
-) -> Result<Stmt, AllocError>
-    ensures { IfOk result (λ s. statement s ≡ tree.For (binding b.now) (control lo.now) (control hi.now) (block body)) }
-{
-    let binder = b.duplicate(alloc)?;
-    let low = lo.duplicate(alloc)?;
-    Ok(Stmt::For(binder, low, hi.duplicate(alloc)?, body))
-}
-
-/// A branch with a copied condition.
-pub(crate) fn branch_of(
-    alloc: Global,
-    c: &Cond,
-    then_part: Block,
-    else_part: Block,
-) -> Result<Stmt, AllocError>
-    ensures { IfOk result (λ s. statement s ≡ tree.If (condition c.now) (block then_part) (block else_part)) }
-{
-    Ok(Stmt::If(c.duplicate(alloc)?, then_part, else_part))
-}
-
-/// An allocation of these parts.
-pub(crate) fn alloc_of(
-    alloc: Global,
-    b: &Binder,
-    t: Cell,
-    dims: &Indices,
-    m: MemId,
-) -> Result<Stmt, AllocError>
-    ensures { IfOk result (λ s. statement s ≡ tree.Alloc (binding b.now) (cell_type t) dims.now m.0) }
-{
-    Ok(Stmt::Alloc(b.duplicate(alloc)?, t, dims.duplicate(alloc)?, m))
-}
-
-/// A view of these parts.
-pub(crate) fn view_of(alloc: Global, b: &Binder, x: Id, at: &Coords) -> Result<Stmt, AllocError>
-    ensures { IfOk result (λ s. statement s ≡ tree.View (binding b.now) x.0 at.now) }
-{
-    Ok(Stmt::View(b.duplicate(alloc)?, x, at.duplicate(alloc)?))
 }

@@ -1,9 +1,11 @@
 //! Copies of procedures and of what units list. A copy is the same plain tree.
 ghost use Rattle.std.specs.Prelude.{◌≡◌, IfOk};
+ghost use Rattle.exo_tree.specs.Tree.{block};
 ghost use Rattle.exo_tree.specs.PlainParam.{parameter_kind, parameter};
 ghost use Rattle.exo_tree.specs.PlainProcedure.{procedure};
 ghost use Rattle.exo_tree.specs.PlainTables.{config_field, memory_kind};
 
+use crate::block::Block;
 use crate::param::{Param, ParamKind};
 use crate::procedure::Proc;
 use crate::text::Text;
@@ -42,10 +44,7 @@ impl Param {
 }
 
 /// A copy of a template, where there is one.
-pub(crate) fn copied_template(
-    alloc: Global,
-    template: &Option<Text>,
-) -> Result<Option<Text>, AllocError>
+fn copied_template(alloc: Global, template: &Option<Text>) -> Result<Option<Text>, AllocError>
     ensures { IfOk result (λ t. t ≡ template.now) }
 {
     match template {
@@ -55,16 +54,25 @@ pub(crate) fn copied_template(
 }
 
 impl Proc {
-    pub fn duplicate(&self, alloc: Global) -> Result<Proc, AllocError>
-        ensures { IfOk result (λ p. procedure p ≡ procedure self.now) }
+    /// A copy with another body.
+    pub(crate) fn with_body(&self, alloc: Global, body: Block) -> Result<Proc, AllocError>
+        ensures { IfOk result (λ q. procedure q
+            ≡ record (procedure self.now) { body = block body }) }
     {
         Ok(Proc {
             name: self.name.duplicate(alloc)?,
             params: self.params.duplicate(alloc)?,
             asserts: self.asserts.duplicate(alloc)?,
-            body: self.body.duplicate(alloc)?,
+            body,
             template: copied_template(alloc, &self.template)?,
         })
+    }
+
+    pub fn duplicate(&self, alloc: Global) -> Result<Proc, AllocError>
+        ensures { IfOk result (λ p. procedure p ≡ procedure self.now) }
+    {
+        let body = self.body.duplicate(alloc)?;
+        self.with_body(alloc, body)
     }
 }
 

@@ -1,23 +1,27 @@
 //! Procedures with some statements replaced.
 ghost use Rattle.std.specs.Prelude.{◌≡◌, ◌∷◌, ◌++◌, ◌+◌, ◌<◌, ◌≤◌, ◌↔◌, length, map, take, drop, slice_get, option_map, option_and_then, Some, None, IfOk, IsErrOf, IsTrue, MatchOption, IsSomeAnd};
 ghost use Rattle.std.specs.Option.{option_copied};
+ghost use Rattle.exo_tree.specs.Tree as tree;
 ghost use Rattle.exo_tree.specs.Tree.{Statement, block};
 ghost use Rattle.exo_tree.specs.Context.{fill};
 ghost use Rattle.exo_tree.specs.Places.{opened_in, replaced};
 ghost use Rattle.exo_tree.specs.Branches.{branch_of, with_branch};
 ghost use Rattle.exo_tree.specs.Heights.{height, height_below};
+ghost use Rattle.exo_tree.specs.PlainBinder.{binding};
+ghost use Rattle.exo_tree.specs.PlainControl.{control, condition};
 ghost use Rattle.exo_tree.specs.PlainPlace.{branch_taken, step_taken};
 ghost use Rattle.exo_tree.specs.PlainStatement.{statement};
 ghost use Rattle.exo_tree.specs.PlainProcedure.{procedure};
 
-use crate::block::{Block, Stmt, branch_of, loop_of};
-use crate::copy_unit::copied_template;
+use crate::binder::Binder;
+use crate::block::{Block, Stmt};
+use crate::control::{Cond, Ctrl};
 use crate::place::{Branch, Path, Step};
 use crate::procedure::Proc;
 use std::alloc::{AllocError, Global};
 
 /// Why statements cannot be replaced.
-#[derive(Debug, Drop)]
+#[derive(Drop)]
 pub enum EditError {
     /// They are not there.
     NoPlace,
@@ -187,7 +191,7 @@ pub fn replace_at(
     if !with.fits(33 - path.len() as u32) {
         return Err(EditError::TooDeep);
     }
-    Ok(with_body(alloc, p, body)?)
+    Ok(p.with_body(alloc, body)?)
 }
 
 /// The body with `with` in place of the `count` statements from a path on; None exactly where they are not there.
@@ -209,15 +213,23 @@ fn replaced_body(
     }
 }
 
-/// The procedure with another body.
-fn with_body(alloc: Global, p: &Proc, body: Block) -> Result<Proc, AllocError>
-    ensures { IfOk result (λ q. procedure q ≡ record (procedure p.now) { body = block body }) }
+/// A loop with a copied head.
+fn loop_of(alloc: Global, b: &Binder, lo: &Ctrl, hi: &Ctrl, body: Block) -> Result<Stmt, AllocError>
+    ensures { IfOk result (λ s. statement s ≡ tree.For (binding b.now) (control lo.now) (control hi.now) (block body)) }
 {
-    Ok(Proc {
-        name: p.name.duplicate(alloc)?,
-        params: p.params.duplicate(alloc)?,
-        asserts: p.asserts.duplicate(alloc)?,
-        body,
-        template: copied_template(alloc, &p.template)?,
-    })
+    let binder = b.duplicate(alloc)?;
+    let low = lo.duplicate(alloc)?;
+    Ok(Stmt::For(binder, low, hi.duplicate(alloc)?, body))
+}
+
+/// A branch with a copied condition.
+fn branch_of(
+    alloc: Global,
+    c: &Cond,
+    then_part: Block,
+    else_part: Block,
+) -> Result<Stmt, AllocError>
+    ensures { IfOk result (λ s. statement s ≡ tree.If (condition c.now) (block then_part) (block else_part)) }
+{
+    Ok(Stmt::If(c.duplicate(alloc)?, then_part, else_part))
 }

@@ -4,9 +4,34 @@ ghost use Rattle.exo_tree.specs.Tree.{block};
 ghost use Rattle.exo_tree.specs.Renaming.{binders, binders_below, fresh};
 ghost use Rattle.exo_tree.specs.PlainStatement.{statement};
 
+use crate::binder::Binder;
 use crate::block::{Block, Stmt};
+use crate::control::Ctrl;
 use crate::ids::{Ids, Renaming};
+use crate::leaves::Leaves;
+use crate::number::Id;
 use std::alloc::{AllocError, Global};
+
+impl Leaves for Renaming {
+    ghost use Rattle.exo_tree.specs.Renaming.{renaming, fresh_id};
+
+    ghost leaves = { λ r. renaming (fresh_id r.binders r.next) };
+
+    fn variable(&self, _alloc: Global, x: Id) -> Result<Ctrl, AllocError> {
+        Ok(Ctrl::Var(self.id(x)))
+    }
+
+    fn name(&self, x: Id) -> Id {
+        self.id(x)
+    }
+
+    fn binder(&self, alloc: Global, b: &Binder) -> Result<Binder, AllocError> {
+        Ok(Binder {
+            id: self.id(b.id),
+            name: b.name.duplicate(alloc)?,
+        })
+    }
+}
 
 impl Block {
     /// Appends the ids of the binders in preorder.
@@ -47,8 +72,8 @@ impl Stmt {
     }
 }
 
-/// The block with its binders, and the uses of them, numbered from `next` on in preorder. `next` moves by the number of
-/// the binders; after want of memory it is unchanged.
+/// The block with its binders, and the uses of them, numbered from `next` on in preorder. `next` moves
+/// by the number of the binders; after want of memory it is unchanged.
 pub fn fresh_copy(alloc: Global, b: &Block, next: &mut u32) -> Result<Block, AllocError>
     requires { next.old + length (binders (block b.now)) ≤ 4294967295 }
     ensures copy { IfOk result (λ c. block c ≡ fresh next.old (block b.now)) }
@@ -61,7 +86,7 @@ pub fn fresh_copy(alloc: Global, b: &Block, next: &mut u32) -> Result<Block, All
         binders: ids,
         next: *next,
     };
-    let copy = b.renamed(alloc, &to)?;
+    let copy = b.mapped(alloc, &to)?;
     *next += to.binders.as_slice().len() as u32;
     Ok(copy)
 }

@@ -63,16 +63,6 @@ impl Indices {
     {
         self.items.as_slice()
     }
-
-    pub fn duplicate(&self, alloc: Global) -> Result<Indices, AllocError>
-        ensures { IfOk result (λ l. l ≡ self.now) }
-    {
-        let mut copied = Indices::new(alloc);
-        for item in &self.items {
-            copied.push(item.duplicate(alloc)?)?;
-        }
-        Ok(copied)
-    }
 }
 
 /// The assertions of a procedure.
@@ -198,15 +188,5 @@ impl Coords {
         ensures { map coordinate result.now ≡ self.now }
     {
         self.items.as_slice()
-    }
-
-    pub fn duplicate(&self, alloc: Global) -> Result<Coords, AllocError>
-        ensures { IfOk result (λ l. l ≡ self.now) }
-    {
-        let mut copied = Coords::new(alloc);
-        for item in &self.items {
-            copied.push(item.duplicate(alloc)?)?;
-        }
-        Ok(copied)
     }
 }

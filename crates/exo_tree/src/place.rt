@@ -20,7 +20,7 @@ pub enum Branch {
 }
 
 /// Into a branch, and there to the statement of that index. The first step of a path goes into the procedure's body.
-#[derive(Clone, Copy, Debug, PartialEq, Eq)]
+#[derive(Clone, Copy, PartialEq, Eq)]
 pub struct Step {
     pub branch: Branch,
     pub index: u32,

@@ -15,8 +15,10 @@ use Rattle.rules_names.specs.Faults.{least, unless}
 use Rattle.rules_names.specs.declared.error.TypeKind.TheVariants.{Redefined}
 use Rattle.rules_names.specs.Names.{name_number}
 use Rattle.text_lexer.specs.declared.place.Place.{Place}
-use Rattle.exo_writes.specs.declared.written.Row.{Row}
-use Rattle.exo_writes.specs.Written.{row_says, rows_say, callee_by, callees_by, block_marks}
+use Rattle.exo_modes.specs.declared.row.Row.{Row}
+use Rattle.exo_modes.specs.Seen.{row_writes, rows_write}
+use Rattle.exo_modes.specs.Marks.{callee_by, callees_by}
+use Rattle.exo_modes.specs.Written.{block_writes}
 use Rattle.exo_types.specs.declared.context.Context.{Context}
 use Rattle.exo_types.specs.declared.definition.Defined.{Defined}
 use Rattle.exo_types.specs.declared.refusal.Refusal.{Refusal}
@@ -109,7 +111,7 @@ module _ (t : Typed) (above : Above) (a : Agrees t) (s : Stands t above) where
     pub fields : c.fields.now ≡ t.fields
     pub memories : c.memories.now ≡ t.memories
     pub procedures : c.procedures.now ≡ t.procedures
-    pub signatures : signatures_in c ≡ signatures_by t.unit.procs (rows_say t.rows.items)
+    pub signatures : signatures_in c ≡ signatures_by t.unit.procs (rows_write t.rows.items)
 
   pub here_refused : (c : Context) (places : List Place) (n : ℕ) (d : Definition) (e : Refusal) → IsContext c places → Refuses e (definitions.definition_fault c t.next_id n d) → Refuses e (here_fault above n d)
   here_refused c places n d e k r =
@@ -143,15 +145,15 @@ signatures_more (q ∷ ps) [] p w h = absurd (omega (arith, h))
 signatures_more (q ∷ ps) (v ∷ ws) p w h = ap (λ l. record { params = q.params; writes = v } ∷ l) (signatures_more ps ws p w (omega (arith, h)))
 
 -- the signatures with a procedure more
-new_signatures : (t : Typed) (above : Above) (d : Definition) (p : Procedure) (row : Row) → Agrees t → Stands t above → row_says row ≡ block_marks t.unit.procs (rows_say t.rows.items) (λ y. y) p.body → signatures_by (t.unit.procs ++ p ∷ []) (rows_say (t.rows.items ++ row ∷ [])) ≡ signatures (with_procedure above d p)
+new_signatures : (t : Typed) (above : Above) (d : Definition) (p : Procedure) (row : Row) → Agrees t → Stands t above → row_writes row ≡ block_writes t.unit.procs (rows_write t.rows.items) (λ y. y) p.body → signatures_by (t.unit.procs ++ p ∷ []) (rows_write (t.rows.items ++ row ∷ [])) ≡ signatures (with_procedure above d p)
 new_signatures t above d p row a s w =
     let ps = t.unit.procs in
-    let ws = rows_say t.rows.items in
+    let ws = rows_write t.rows.items in
     let kinds = kinds_of above.program.fields in
     let same = sym (by_callees ps ws) ∙ s.signatures in
-    ap (signatures_by (ps ++ p ∷ [])) (map-append row_says t.rows.items (row ∷ []))
-    ∙ signatures_more ps ws p (row_says row) (length-map t.rows.items row_says ∙ a.rows)
-    ∙ (λ i. s.signatures i ++ sym (signature_is kinds ps ws above.callees p (row_says row) same w) i ∷ [])
+    ap (signatures_by (ps ++ p ∷ [])) (map-append row_writes t.rows.items (row ∷ []))
+    ∙ signatures_more ps ws p (row_writes row) (length-map t.rows.items row_writes ∙ a.rows)
+    ∙ (λ i. s.signatures i ++ sym (signature_is kinds ps ws above.callees p (row_writes row) same w) i ∷ [])
     ∙ sym (map-append signature_of above.callees (callee_in (world_of kinds above.callees) p ∷ []))
 
 -- a procedure has more tokens than it binds names
@@ -160,7 +162,7 @@ few_ids n d = let a = params_few d.params in let b = few_bound_in (block_of d.bo
 
 -- what stands above the next item
 module _ (t pushed after : Typed) (above : Above) (places : List Place) (template : Option (List ℕ)) (n : ℕ) (d : Definition) (made : Defined) (row : Row) (lines : ProcLines) where
-  pub procedure_added : (end : ℕ) → Agrees t → IsFew t n → Stands t above → least (unless (not (is_given (program t.unit) d.name)) Redefined (n + 1)) ≡ None → IsHere above places template n made d → row_says row ≡ block_marks t.unit.procs (rows_say t.rows.items) (λ y. y) (tree.block made.procedure.body) → lines ≡ record { def = line_at places n; statements = made.lines } → IsPushed t pushed d.name (plain.procedure made.procedure) row lines → after.unit ≡ pushed.unit → after.procedures ≡ pushed.procedures → after.memories ≡ pushed.memories → after.configurations ≡ pushed.configurations → after.fields ≡ pushed.fields → after.rows.items ≡ pushed.rows.items → after.next_id ≡ made.next_id → end ≡ made.end → IsProcedure above places t after template n end d
+  pub procedure_added : (end : ℕ) → Agrees t → IsFew t n → Stands t above → least (unless (not (is_given (program t.unit) d.name)) Redefined (n + 1)) ≡ None → IsHere above places template n made d → row_writes row ≡ block_writes t.unit.procs (rows_write t.rows.items) (λ y. y) (tree.block made.procedure.body) → lines ≡ record { def = line_at places n; statements = made.lines } → IsPushed t pushed d.name (plain.procedure made.procedure) row lines → after.unit ≡ pushed.unit → after.procedures ≡ pushed.procedures → after.memories ≡ pushed.memories → after.configurations ≡ pushed.configurations → after.fields ≡ pushed.fields → after.rows.items ≡ pushed.rows.items → after.next_id ≡ made.next_id → end ≡ made.end → IsProcedure above places t after template n end d
   procedure_added end a few s name here w is_lines p unit procedures memories configurations fields rows next_id is_end =
       let q = plain.procedure made.procedure in
       let procs : after.unit.procs ≡ t.unit.procs ++ q ∷ [] = ap (λ u. u.procs) unit ∙ p.procedures in
@@ -180,7 +182,7 @@ module _ (t pushed after : Typed) (above : Above) (places : List Place) (templat
             memories = (old_memories ∙ ap (λ g. g.memories) s.program) i;
           };
           signatures =
-              (λ i. signatures_by (procs i) (rows_say (all_rows i)))
+              (λ i. signatures_by (procs i) (rows_write (all_rows i)))
               ∙ new_signatures t above d q row a s w
               ∙ ap (λ g. signatures (with_procedure above d g)) here.procedure;
           next_id = ids;

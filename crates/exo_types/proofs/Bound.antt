@@ -13,7 +13,7 @@ use Rattle.rules_names.specs.Names.{named_in, sort_of, id_in}
 use Rattle.rules_names.specs.ExpressionRules.{is_buffer, name_faults}
 use Rattle.rules_names.specs.Resolved.{controls_of}
 use Rattle.rules_names.specs.WindowRules.{coordinates_of, window_faults}
-use Rattle.exo_writes.specs.Written.{roots_in}
+use Rattle.exo_modes.specs.Aliases.{roots_in}
 use Rattle.exo_types.specs.declared.context.Context.{Context}
 use Rattle.exo_types.specs.declared.context.Walk.{Walk}
 use Rattle.exo_types.specs.TypeRules.{binder, binder_faults, cell_of, memory_of}

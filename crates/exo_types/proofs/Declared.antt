@@ -13,7 +13,7 @@ use Rattle.rules_names.specs.declared.fault.Charge.{Charge}
 use Rattle.rules_names.specs.declared.error.TypeKind.TheVariants.{Redefined}
 use Rattle.rules_names.specs.Faults.{charged, or_else, least, unless}
 use Rattle.rules_names.specs.Names.{name_number}
-use Rattle.exo_writes.specs.Written.{rows_say}
+use Rattle.exo_modes.specs.Seen.{rows_write}
 use Rattle.exo_types.specs.declared.attribute.Trait.{Trait}
 use Rattle.exo_types.specs.declared.attribute.Trait.TheVariants.{Ctype, Lanes, CellType, MayRead, MayWrite, MayReduce, Header}
 use Rattle.exo_types.specs.declared.attribute.Trait.TheVariants as traits
@@ -55,8 +55,8 @@ pub record KeepsProcedures (t after : Typed) : Type 0 where
   pub next_id : after.next_id ≡ t.next_id
 
 module _ (t after : Typed) (above : Above) (places : List Place) (n end : ℕ) (a : Agrees t) (few : IsFew t n) (s : Stands t above) (k : KeepsProcedures t after) where
-  same_signatures : signatures_by after.unit.procs (rows_say after.rows.items) ≡ signatures_by t.unit.procs (rows_say t.rows.items)
-  same_signatures = λ i. signatures_by (k.procs i) (rows_say (k.rows i))
+  same_signatures : signatures_by after.unit.procs (rows_write after.rows.items) ≡ signatures_by t.unit.procs (rows_write t.rows.items)
+  same_signatures = λ i. signatures_by (k.procs i) (rows_write (k.rows i))
 
   pub memory_added : (x : List ℕ) (settings : List Attribute) (m : MemoryKind) → attributes_fault [] (n + 7) settings ≡ None → least (item_name_faults above (n + 3) x ++ lanes_faults (attributes_fault [] (n + 7) settings) (n + 3) (with_attributes (plain_memory x) settings)) ≡ None → m ≡ with_attributes (plain_memory x) settings → end ≡ n + 7 + attributes_width settings + 1 → after.unit.memories ≡ t.unit.memories ++ m ∷ [] → after.unit.fields ≡ t.unit.fields → after.memories ≡ t.memories ++ x ∷ [] → after.configurations ≡ t.configurations → after.fields ≡ t.fields → IsAdded above places t after n end (memory x settings)
   memory_added x settings m own name is_m is_end memories fields names configurations table =

@@ -9,7 +9,7 @@ use Rattle.rules_names.specs.declared.fault.Fault.{Fault}
 use Rattle.rules_names.specs.Faults.{or_else}
 use Rattle.rules_names.specs.ExpressionRules.{width}
 use Rattle.rules_names.specs.Resolved.{condition_of}
-use Rattle.exo_writes.specs.Written.{roots_in}
+use Rattle.exo_modes.specs.Aliases.{roots_in}
 use Rattle.exo_types.specs.declared.context.Context.{Context}
 use Rattle.exo_types.specs.declared.context.Walk.{Walk}
 use Rattle.exo_types.specs.declared.definition.Defined.{Defined}

@@ -11,7 +11,7 @@ use Rattle.exo_reader.specs.Source.{Statement, Block, end, next, branch, loop}
 use Rattle.exo_reader.specs.Source as source
 use Rattle.rules_names.specs.ExpressionRules.{width}
 use Rattle.rules_names.specs.Resolved.{control_of, condition_of}
-use Rattle.exo_writes.specs.Written.{roots_in}
+use Rattle.exo_modes.specs.Aliases.{roots_in}
 use Rattle.exo_types.specs.declared.refusal.Refusal.{Refusal}
 use Rattle.exo_types.specs.declared.context.Context.{Context}
 use Rattle.exo_types.specs.declared.context.Walk.{Walk}

@@ -15,7 +15,7 @@ use Rattle.rules_names.specs.declared.error.TypeKind.TheVariants.{RankMismatch}
 use Rattle.rules_names.specs.Faults.{or_else, least, unless}
 use Rattle.rules_names.specs.Names.{id_in, name_number, field_in, no_id}
 use Rattle.rules_names.specs.Resolved.{controls_of, datum_of, field_number}
-use Rattle.exo_writes.specs.Written.{roots_in}
+use Rattle.exo_modes.specs.Aliases.{roots_in}
 use Rattle.exo_types.specs.declared.context.Context.{Context}
 use Rattle.exo_types.specs.declared.context.Walk.{Walk}
 use Rattle.exo_types.specs.TypeRules.{number_or}

@@ -9,7 +9,7 @@ use Rattle.exo_meaning.specs.Units.{Scope, Named, scope_after}
 use Rattle.exo_reader.specs.Source.{Statement, pass, branch, loop, allocate, call, configure, assign, reduce, view, Block, end, next}
 use Rattle.rules_names.specs.declared.fault.Fault.{Fault}
 use Rattle.rules_names.specs.Faults.{or_else}
-use Rattle.exo_writes.specs.Written.{roots_in}
+use Rattle.exo_modes.specs.Aliases.{roots_in}
 use Rattle.exo_types.specs.declared.context.Context.{Context}
 use Rattle.exo_types.specs.declared.context.Walk.{Walk}
 use Rattle.exo_types.specs.ArgumentRules.{Signature}

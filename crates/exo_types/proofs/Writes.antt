@@ -4,7 +4,8 @@ use Rattle.std.proofs.Common.{◌≡◌, ℕ, zero, suc, ◌||◌, Bool, false, 
 use Rattle.exo_tree.specs.Tree.{Kind, Index, Argument, Procedure, Statement, Assign, Reduce, Config, Pass, If, For, Alloc, View, Call, Block, end, next}
 use Rattle.exo_meaning.specs.Calls.{Callee}
 use Rattle.exo_meaning.specs.Run.{world_of, callee_in, roots_after, call_writes, call_to_writes, writes, step_writes}
-use Rattle.exo_writes.specs.Written.{callees_by, world_by, block_marks}
+use Rattle.exo_modes.specs.Marks.{callees_by}
+use Rattle.exo_modes.specs.Written.{world_by, block_writes}
 use Rattle.exo_types.specs.ArgumentRules.{Signature, signature_of}
 
 -- what a call writes, by what is known of its callee
@@ -67,10 +68,10 @@ writes_by kinds ps ws cs same root b = λ i y. writes_same (λ f. Index) kinds (
 
 -- so the row of a procedure is what it writes as a callee
 pub row_is_written : (kinds : ℕ → Kind) (ps : List Procedure) (ws : List (ℕ → Bool)) (cs : List Callee) (p : Procedure) (row : ℕ → Bool) → map signature_of (callees_by ps ws) ≡ map signature_of cs
-    → row ≡ block_marks ps ws (λ y. y) p.body → row ≡ (callee_in (world_of kinds cs) p).writes
+    → row ≡ block_writes ps ws (λ y. y) p.body → row ≡ (callee_in (world_of kinds cs) p).writes
 row_is_written kinds ps ws cs p row same r = r ∙ writes_by kinds ps ws cs same (λ y. y) p.body
 
 -- and its signature is that of its parameters and its row
 pub signature_is : (kinds : ℕ → Kind) (ps : List Procedure) (ws : List (ℕ → Bool)) (cs : List Callee) (p : Procedure) (row : ℕ → Bool) → map signature_of (callees_by ps ws) ≡ map signature_of cs
-    → row ≡ block_marks ps ws (λ y. y) p.body → signature_of (callee_in (world_of kinds cs) p) ≡ record { params = p.params; writes = row }
+    → row ≡ block_writes ps ws (λ y. y) p.body → signature_of (callee_in (world_of kinds cs) p) ≡ record { params = p.params; writes = row }
 signature_is kinds ps ws cs p row same r = λ i. record { params = p.params; writes = sym (row_is_written kinds ps ws cs p row same r) i }

@@ -14,8 +14,8 @@ use Rattle.rules_names.specs.declared.fault.Fault.{Fault}
 use Rattle.rules_names.specs.declared.error.TypeKind.TheVariants.{Redefined}
 use Rattle.rules_names.specs.Faults.{unless, least}
 use Rattle.rules_names.specs.Names.{name_number, field_in}
-use Rattle.exo_writes.specs.declared.written.Row.{Row}
-use Rattle.exo_writes.specs.Written.{rows_say}
+use Rattle.exo_modes.specs.declared.row.Row.{Row}
+use Rattle.exo_modes.specs.Seen.{rows_write}
 use Rattle.exo_types.specs.declared.definition.Defined.{Defined}
 use Rattle.exo_types.specs.declared.typed.Typed.{Typed}
 use Rattle.exo_types.specs.TypeRules.{kind_faults}
@@ -43,7 +43,7 @@ pub record IsFew (t : Typed) (n : ℕ) : Type 0 where
 -- the unit so far is that above, and its procedures have these signatures
 pub record Stands (t : Typed) (above : Above) : Type 0 where
   pub program : program t.unit ≡ above.program
-  pub signatures : signatures_by t.unit.procs (rows_say t.rows.items) ≡ signatures above
+  pub signatures : signatures_by t.unit.procs (rows_write t.rows.items) ≡ signatures above
   pub next_id : t.next_id ≡ above.next_id
 
 -- there is a place for each token up to this one

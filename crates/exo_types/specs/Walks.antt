@@ -9,7 +9,8 @@ use Rattle.exo_meaning.specs.Units.{Scope, scope_after}
 use Rattle.exo_reader.specs.Source.{Statement, Block}
 use Rattle.rules_names.specs.declared.fault.Fault.{Fault}
 use Rattle.rules_names.specs.Faults.{least}
-use Rattle.exo_writes.specs.Written.{roots_in, rows_say}
+use Rattle.exo_modes.specs.Aliases.{roots_in}
+use Rattle.exo_modes.specs.Seen.{rows_write}
 use Rattle.exo_types.specs.declared.context.Context.{Context}
 use Rattle.exo_types.specs.declared.context.Walk.{Walk}
 use Rattle.exo_types.specs.declared.refusal.Refusal.{Refusal}
@@ -28,7 +29,7 @@ signatures_by (p ∷ ps) [] = []
 signatures_by (p ∷ ps) (w ∷ ws) = record { params = p.params; writes = w } ∷ signatures_by ps ws
 
 abbrev pub signatures_in : Context → List Signature
-signatures_in c = signatures_by c.above.procs.now (rows_say c.above.rows.now)
+signatures_in c = signatures_by c.above.procs.now (rows_write c.above.rows.now)
 
 -- ---- what a walk needs
 

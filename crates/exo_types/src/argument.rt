@@ -11,12 +11,12 @@ ghost use Rattle.rules_names.specs.Names.{named_in, sort_of};
 ghost use Rattle.rules_names.specs.Tests.{sort_seen, reads, most_tokens};
 ghost use Rattle.rules_names.specs.ExpressionRules.{width, closed_width};
 ghost use Rattle.rules_names.specs.WindowRules.{window_faults, coordinates_width, coordinates_of};
-ghost use Rattle.exo_writes.specs.Written.{roots_in};
+ghost use Rattle.exo_modes.specs.Aliases.{roots_in};
 ghost use Rattle.exo_types.specs.ArgumentRules as rules;
 
+use exo_modes::{Alias, root};
 use exo_reader::source::{SourceArg, SourceCoord};
 use exo_tree::{Arg, Cell, Coord, Coords, Kind, ParamKind};
-use exo_writes::roots::{Alias, root};
 use rules_names::control::{test_condition, test_control, test_controls, test_wrong_form};
 use rules_names::error::TypeKind;
 use rules_names::fault::Charge;

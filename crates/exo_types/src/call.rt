@@ -4,15 +4,14 @@ ghost use Rattle.exo_tree.specs.PlainParam.{parameter};
 ghost use Rattle.exo_reader.specs.Views.{plain_argument};
 ghost use Rattle.rules_names.specs.Faults.{charged};
 ghost use Rattle.rules_names.specs.Tests.{most_tokens};
-ghost use Rattle.exo_writes.specs.Written.{roots_in};
+ghost use Rattle.exo_modes.specs.Aliases.{roots_in};
 ghost use Rattle.exo_types.specs.ArgumentRules as rules;
 ghost use Rattle.exo_types.specs.Seen.{signature};
 
 use crate::argument::{argument_of, root_of, test_argument};
+use exo_modes::{Alias, Row};
 use exo_reader::source::SourceArg;
 use exo_tree::{Args, Param, Params};
-use exo_writes::roots::Alias;
-use exo_writes::written::Row;
 use rules_names::error::TypeKind;
 use rules_names::fault::Charge;
 use rules_names::tested::Names;
@@ -78,7 +77,7 @@ fn test_arguments(
         let given = &arguments[k];
         let now = Passed {
             root: root_of(names, aliases, &param.kind, given),
-            written: callee.writes.has(param.binder.id.0),
+            written: callee.writes.has_write(param.binder.id.0),
         };
         let (own, end) = test_argument(names, &param.kind, next, given);
         let shared = is_passed(&passed, now);

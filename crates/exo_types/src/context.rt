@@ -4,16 +4,15 @@ ghost use Rattle.exo_meaning.specs.Scene.{updated};
 ghost use Rattle.exo_meaning.specs.Units.{with_name};
 ghost use Rattle.rules_names.specs.Names.{named_in, name_number};
 ghost use Rattle.rules_names.specs.Tables.{sort_meant};
-ghost use Rattle.exo_writes.specs.Written.{roots_in};
+ghost use Rattle.exo_modes.specs.Aliases.{roots_in};
 ghost use Rattle.exo_types.specs.Seen.{signature};
 ghost use Rattle.exo_types.specs.TypeRules.{binder};
 ghost use Rattle.exo_types.specs.UnitLines.{line_at};
 ghost use Rattle.exo_types.specs.Walks.{signatures_in};
 
 use crate::call::Callee;
+use exo_modes::{Above, Alias, root, set_root};
 use exo_tree::{Id, StatementLines};
-use exo_writes::roots::{Alias, root, set_root};
-use exo_writes::written::Above;
 use rules_names::scope::{Meant, Scope, Sort};
 use rules_names::table::{FieldTable, NameTable};
 use std::alloc::{AllocError, Global};

@@ -11,7 +11,8 @@ ghost use Rattle.exo_reader.specs.Source as source;
 ghost use Rattle.rules_names.specs.Faults.{charged, unless};
 ghost use Rattle.rules_names.specs.Names.{name_number};
 ghost use Rattle.rules_names.specs.Tests.{most_tokens};
-ghost use Rattle.exo_writes.specs.Written.{row_says, rows_say, block_marks};
+ghost use Rattle.exo_modes.specs.Seen.{row_writes, rows_write};
+ghost use Rattle.exo_modes.specs.Written.{block_writes};
 ghost use Rattle.exo_types.specs.Refusals.{Refuses};
 ghost use Rattle.exo_types.specs.ItemRules.{definition_end, field_of, fields_fault};
 ghost use Rattle.exo_types.specs.UnitRules as rules;
@@ -25,9 +26,9 @@ use crate::definition::{Defined, definition_of};
 use crate::refusal::{Refusal, keep};
 use crate::template::is_template;
 use crate::types::{kind_charge, kind_of};
+use exo_modes::{Above, Row, row_of};
 use exo_reader::source::{SourceAttribute, SourceDef, SourceField, SourceItem};
 use exo_tree::{Block, Field, Fields, Lines, Memories, Name, Proc, ProcLines, Procs, Text, Unit};
-use exo_writes::written::{Above, Row, written_by};
 use rules_names::error::TypeKind;
 use rules_names::fault::Charge;
 use rules_names::table::{FieldTable, NameTable};
@@ -205,13 +206,13 @@ impl<'c> Typed<'c> {
 
     /// What the body of a procedure writes or reduces that calls those above.
     fn row_of(&self, alloc: Global, body: &Block) -> Result<Row, AllocError>
-        ensures { IfOk result (λ r. row_says r ≡ block_marks self.now.unit.procs (rows_say self.now.rows.items) (λ y. y) (block body.now)) }
+        ensures { IfOk result (λ r. row_writes r ≡ block_writes self.now.unit.procs (rows_write self.now.rows.items) (λ y. y) (block body.now)) }
     {
         let above = Above {
             procs: &self.unit.procs,
             rows: &self.rows,
         };
-        written_by(alloc, &above, body)
+        row_of(alloc, &above, body)
     }
 
     /// Puts a procedure last, with what it writes and with its lines.

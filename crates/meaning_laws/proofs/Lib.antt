@@ -42,3 +42,11 @@ pub mod PlaceFacts
 pub mod Made
 pub mod FieldInstances
 pub mod RunInstances
+pub mod SameIds
+pub mod Fewer
+pub mod Numbers
+pub mod Substituted
+pub mod FreshCopies
+pub mod CopiesAtPlaces
+pub mod ScopedCopies
+pub mod CopyInstances

@@ -1,8 +1,9 @@
 -- What is known of configuration fields at a place of a procedure.
-use Rattle.std.specs.Prelude.{◌==◌, ◌&&◌, ◌++◌, ℕ, zero, suc, Bool, true, false, if◌then◌else◌, [], ◌∷◌}
+use Rattle.std.specs.Prelude.{◌++◌, ℕ, zero, suc, Bool, true, false, if◌then◌else◌, [], ◌∷◌}
 use Rattle.exo_tree.specs.Tree.{Argument, Statement, Assign, Reduce, Config, Pass, If, For, Alloc, View, Call, Block, end, next}
 use Rattle.exo_tree.specs.Context.{Context, Here, After, InLoop, InThen, InElse, fill}
-use Rattle.exo_tree.specs.Places.{Branch, Main, Else, Step, Path}
+use Rattle.exo_tree.specs.Places.{Branch, Main, Else, Path}
+pub use Rattle.exo_tree.specs.Places.{same_branch, same_step, same_path}
 use Rattle.exo_meaning.specs.Scene.{updated}
 use Rattle.meaning_laws.specs.Fields.{writes_field}
 
@@ -26,21 +27,6 @@ pub record Telling : Type 0 where
   pub agree : Argument → Argument → Bool
 
 -- ---- paths
-
-abbrev pub same_branch : Branch → Branch → Bool
-same_branch Main Main = true
-same_branch Else Else = true
-same_branch Main Else = false
-same_branch Else Main = false
-
-abbrev pub same_step : Step → Step → Bool
-same_step s t = same_branch s.branch t.branch && (s.index == t.index)
-
-abbrev pub same_path : Path → Path → Bool
-same_path [] [] = true
-same_path [] (t ∷ q) = false
-same_path (s ∷ p) [] = false
-same_path (s ∷ p) (t ∷ q) = same_step s t && same_path p q
 
 -- the statement of that number in a branch of the statement at a path
 abbrev pub path_in : Path → Branch → ℕ → Path

@@ -22,3 +22,5 @@ pub mod WellFormed
 pub mod KnownFields
 pub mod PlaceFacts
 pub mod Made
+pub mod Substituted
+pub mod FreshCopies

@@ -1,6 +1,7 @@
 -- What the cells, fields and names of a state hold in a well-formed unit.
-use Rattle.std.specs.Prelude.{◌≡◌, ℕ, Bool, true, List, [], Some, IfSome, slice_get}
+use Rattle.std.specs.Prelude.{◌≡◌, ℕ, Bool, true, List, [], Option, Some, None, IfSome, slice_get}
 use Rattle.exo_tree.specs.Tree.{Cell, Kind, Index, Argument, Block, Procedure, ConfigField}
+use Rattle.exo_tree.specs.Places.{Opened}
 use Rattle.exo_tree.specs.Context.{Context, Here, After, InLoop, InThen, InElse, fill}
 use Rattle.exo_meaning.specs.Scene.{Shape, Seen, whole}
 use Rattle.exo_meaning.specs.State.{State}
@@ -59,6 +60,11 @@ scope_at (After a c) scope = scope_at c (scope_after a scope)
 scope_at (InLoop i lo hi c rest) scope = scope_at c (with_name scope i (ControlName Index))
 scope_at (InThen t c other rest) scope = scope_at c scope
 scope_at (InElse t other c rest) scope = scope_at c scope
+
+-- the names in scope at a place of a procedure; the place of no statement is where the body begins
+abbrev pub scope_there : Procedure → Option Opened → Scope
+scope_there p None = scope_of [] p.params
+scope_there p (Some o) = scope_at o.around (scope_of [] p.params)
 
 -- so do all states that a run comes to
 abbrev pub FitsAtLaw : Type 0

@@ -1,6 +1,7 @@
 -- A control expression in the place of a control variable.
-use Rattle.std.specs.Prelude.{◌≡◌, ℕ, Bool, true, false, ◌==◌, ◌||◌, ◌&&◌, cond, List, [], ◌∷◌, option_map}
-use Rattle.exo_tree.specs.Tree.{Control, Lit, Var, Field, StrideOf, Neg, Add, Sub, Mul, Div, Mod, Condition, True, False, Flag, FieldFlag, Lt, Le, Gt, Ge, Eq, And, Or, Datum, Const, Read, Negated, Relu, Plus, Minus, Times, Select, Coord, At, Span, Argument, ControlArg, ConditionArg, Whole, Window, Statement, Assign, Reduce, Config, Pass, If, For, Alloc, View, Call, Block, end, next}
+use Rattle.std.specs.Prelude.{◌≡◌, ℕ, Bool, true, false, ◌==◌, ◌||◌, ◌&&◌, List, [], ◌∷◌, option_map}
+use Rattle.exo_tree.specs.Tree.{Control, Lit, Var, Field, StrideOf, Neg, Add, Sub, Mul, Div, Mod, Condition, True, False, Flag, FieldFlag, Lt, Le, Gt, Ge, Eq, And, Or, Argument, ControlArg, ConditionArg, Whole, Window, Statement, Assign, Reduce, Config, Pass, If, For, Alloc, View, Call, Block, end, next}
+pub use Rattle.exo_tree.specs.Substitution.{in_control, in_controls, in_condition, in_datum, in_coord, in_coords, in_argument, in_arguments, in_statement, in_block}
 use Rattle.exo_meaning.specs.Scene.{number}
 use Rattle.exo_meaning.specs.State.{State, on_scene, with_control}
 use Rattle.exo_meaning.specs.Run.{World, run}
@@ -31,76 +32,6 @@ has_variable (Div a c) y = has_variable a y
 has_variable (Mod a c) y = has_variable a y
 
 module _ (i : ℕ) (e : Control) where
-  abbrev pub in_control : Control → Control
-  in_control (Lit n) = Lit n
-  in_control (Var x) = cond (x == i) e (Var x)
-  in_control (Field f) = Field f
-  in_control (StrideOf x k) = StrideOf x k
-  in_control (Neg a) = Neg (in_control a)
-  in_control (Add a b) = Add (in_control a) (in_control b)
-  in_control (Sub a b) = Sub (in_control a) (in_control b)
-  in_control (Mul a b) = Mul (in_control a) (in_control b)
-  in_control (Div a c) = Div (in_control a) c
-  in_control (Mod a c) = Mod (in_control a) c
-
-  abbrev pub in_controls : List Control → List Control
-  in_controls [] = []
-  in_controls (a ∷ rest) = in_control a ∷ in_controls rest
-
-  abbrev pub in_condition : Condition → Condition
-  in_condition True = True
-  in_condition False = False
-  in_condition (Flag x) = Flag x
-  in_condition (FieldFlag f) = FieldFlag f
-  in_condition (Lt a b) = Lt (in_control a) (in_control b)
-  in_condition (Le a b) = Le (in_control a) (in_control b)
-  in_condition (Gt a b) = Gt (in_control a) (in_control b)
-  in_condition (Ge a b) = Ge (in_control a) (in_control b)
-  in_condition (Eq a b) = Eq (in_control a) (in_control b)
-  in_condition (And c d) = And (in_condition c) (in_condition d)
-  in_condition (Or c d) = Or (in_condition c) (in_condition d)
-
-  abbrev pub in_datum : Datum → Datum
-  in_datum (Const n) = Const n
-  in_datum (Read x is) = Read x (in_controls is)
-  in_datum (Negated a) = Negated (in_datum a)
-  in_datum (Relu a) = Relu (in_datum a)
-  in_datum (Plus a b) = Plus (in_datum a) (in_datum b)
-  in_datum (Minus a b) = Minus (in_datum a) (in_datum b)
-  in_datum (Times a b) = Times (in_datum a) (in_datum b)
-  in_datum (Select a b c d) = Select (in_datum a) (in_datum b) (in_datum c) (in_datum d)
-
-  abbrev pub in_coords : List Coord → List Coord
-  in_coords [] = []
-  in_coords (At a ∷ rest) = At (in_control a) ∷ in_coords rest
-  in_coords (Span a b ∷ rest) = Span (in_control a) (in_control b) ∷ in_coords rest
-
-  abbrev pub in_argument : Argument → Argument
-  in_argument (ControlArg a) = ControlArg (in_control a)
-  in_argument (ConditionArg c) = ConditionArg (in_condition c)
-  in_argument (Whole x) = Whole x
-  in_argument (Window x coords) = Window x (in_coords coords)
-
-  abbrev pub in_arguments : List Argument → List Argument
-  in_arguments [] = []
-  in_arguments (a ∷ rest) = in_argument a ∷ in_arguments rest
-
-  abbrev mutual
-    pub in_statement : Statement → Statement
-    in_statement (Assign x is d) = Assign x (in_controls is) (in_datum d)
-    in_statement (Reduce x is d) = Reduce x (in_controls is) (in_datum d)
-    in_statement (Config f a) = Config f (in_argument a)
-    in_statement Pass = Pass
-    in_statement (If c a b) = If (in_condition c) (in_block a) (in_block b)
-    in_statement (For x lo hi b) = For x (in_control lo) (in_control hi) (in_block b)
-    in_statement (Alloc x cell dims memory) = Alloc x cell (in_controls dims) memory
-    in_statement (View w x coords) = View w x (in_coords coords)
-    in_statement (Call k args) = Call k (in_arguments args)
-
-    pub in_block : Block → Block
-    in_block end = end
-    in_block (next a b) = next (in_statement a) (in_block b)
-
   -- the state in which i has the number of e
   abbrev pub bound : State → State
   bound s = on_scene (with_control i (number s.scene e)) s
@@ -150,4 +81,8 @@ abbrev mutual
 
 -- a run of b with i bound to the number of e is a run of b with e for i
 abbrev pub SubstitutionLaw : Type 0
-SubstitutionLaw = (world : World) (i : ℕ) (e : Control) (b : Block) (s : State) → is_plain e ≡ true → catches i e b ≡ false → run world b (bound i e s) ≡ option_map (bound i e) (run world (in_block i e b) s)
+SubstitutionLaw =
+    (world : World) (i : ℕ) (e : Control) (b : Block) (s : State)
+    → is_plain e ≡ true
+    → catches i e b ≡ false
+    → run world b (bound i e s) ≡ option_map (bound i e) (run world (in_block i e b) s)

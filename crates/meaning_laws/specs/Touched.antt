@@ -1,64 +1,19 @@
 -- What a call touches, and what a block with calls touches.
-use Rattle.std.specs.Prelude.{◌≡◌, ◌==◌, ◌||◌, ◌++◌, ℕ, ℤ, Bool, true, false, List, [], ◌∷◌, map, Option, Some, None, IfSome, slice_get}
-use Rattle.exo_tree.specs.Tree.{Binder, Kind, Index, Cell, Datum, Const, Read, Negated, Relu, Plus, Minus, Times, Select, Argument, Statement, Assign, Reduce, Config, Pass, If, For, Alloc, View, Call, Block, end, next, Param, ParamKind, ControlParam, TensorParam, WindowParam, Procedure, ConfigField}
+use Rattle.std.specs.Prelude.{◌≡◌, ◌++◌, ℕ, ℤ, Bool, true, List, [], ◌∷◌, map, Option, Some, None, IfSome}
+use Rattle.exo_tree.specs.Tree.{Binder, Index, Cell, Argument, Block, Param, ParamKind, ControlParam, TensorParam, WindowParam, Procedure, ConfigField}
 use Rattle.exo_meaning.specs.Scene.{Side, Point, Range, Seen, then_do}
 use Rattle.exo_meaning.specs.State.{State, Place, on_scene, with_control}
 use Rattle.exo_meaning.specs.Calls.{Callee, Given, GivenNumber, GivenView, all_given}
-use Rattle.exo_meaning.specs.Run.{World, run, turn, range, count, roots_after, call_writes, world_of, callee_in, callees, kinds_of, unit_world}
+use Rattle.exo_meaning.specs.Run.{World, run, turn, range, count, callees, kinds_of, unit_world}
 use Rattle.exo_meaning.specs.Footprint.{Entry, Reads, Writes, Reduces, Made, chosen, footprint, IsClear, Change, Passes, LeavesOthers, Exchanges, ChangesBy}
 use Rattle.exo_meaning.specs.Inputs.{IsAdmissible}
+pub use Rattle.exo_meaning.specs.Modes.{Mode, Reading, Writing, Reducing, Modes, picked, reads_from, call_has, has_mode, step_has_mode, no_modes, modes_at, modes_in, all_modes, unit_modes}
 use Rattle.exo_meaning.specs.Nests.{both_turns}
 use Rattle.meaning_laws.specs.Pairs.{LeavesFields, AreClear}
 use Rattle.exo_meaning.specs.Orders.{Each, HasScene}
 use Rattle.exo_meaning.specs.Units.{Scope, Sort, ControlName, BufferName, sort_in, scope_of, with_name, is_new, is_block, field_kind, AreProcedures}
 use Rattle.meaning_laws.specs.Sound.{IsSound}
 use Rattle.meaning_laws.specs.Sorted.{IsSorted, MayRun}
-
--- a parameter is read, written or reduced where a body does so directly, through a view, or through a call
-pub data Mode : Type 0 where
-  Reading Writing Reducing : Mode
-
-abbrev pub Modes : Type 0
-Modes = Mode → ℕ → Bool
-
-abbrev pub picked : Mode → Bool → Bool → Bool → Bool
-picked Reading r w d = r
-picked Writing r w d = w
-picked Reducing r w d = d
-
-abbrev pub reads_from : (ℕ → ℕ) → Datum → ℕ → Bool
-reads_from root (Const n) y = false
-reads_from root (Read x is) y = y == root x
-reads_from root (Negated a) y = reads_from root a y
-reads_from root (Relu a) y = reads_from root a y
-reads_from root (Plus a b) y = reads_from root a y || reads_from root b y
-reads_from root (Minus a b) y = reads_from root a y || reads_from root b y
-reads_from root (Times a b) y = reads_from root a y || reads_from root b y
-reads_from root (Select a b c d) y = reads_from root a y || (reads_from root b y || (reads_from root c y || reads_from root d y))
-
--- some argument is a part of y whose parameter has the mode
-abbrev pub call_has : Option Callee → (ℕ → Bool) → (ℕ → ℕ) → ℕ → List Argument → Bool
-call_has None mode root y args = false
-call_has (Some callee) mode root y args = call_writes mode root y callee.procedure.params args
-
--- modes: those of each procedure that can be called
-module _ (callees : ℕ → Option Callee) (modes : ℕ → Modes) (m : Mode) where
-  -- buffer y is touched so, by the buffer of each name; a buffer that is made counts as written
-  abbrev mutual
-    pub has_mode : (ℕ → ℕ) → Block → ℕ → Bool
-    has_mode root end y = false
-    has_mode root (next a b) y = step_has_mode root a y || has_mode (roots_after a root) b y
-
-    pub step_has_mode : (ℕ → ℕ) → Statement → ℕ → Bool
-    step_has_mode root (Assign x is e) y = picked m (reads_from root e y) (y == root x) false
-    step_has_mode root (Reduce x is e) y = picked m (reads_from root e y) false (y == root x)
-    step_has_mode root (Config f a) y = false
-    step_has_mode root Pass y = false
-    step_has_mode root (If c a b) y = has_mode root a y || has_mode root b y
-    step_has_mode root (For i lo hi b) y = has_mode root b y
-    step_has_mode root (Alloc x cell dims memory) y = picked m false (y == x.id) false
-    step_has_mode root (View w x coords) y = false
-    step_has_mode root (Call k args) y = call_has (callees k) (modes k m) root y args
 
 -- ---- the entries of a call
 
@@ -105,24 +60,6 @@ call_entries callees modes k args s = entries_to (callees k) (modes k) args s
 -- all that a run of a block touches, calls included
 abbrev pub touched : World → (ℕ → Modes) → Block → State → List Entry
 touched world modes b s = footprint world (call_entries world.callees modes) b s
-
--- ---- the modes of a unit's procedures
-
-abbrev pub no_modes : Modes
-no_modes m x = false
-
-abbrev pub modes_at : List Modes → ℕ → Modes
-modes_at ms k = elim (slice_get ms k) [ None ↦ no_modes | Some f ↦ f ]
-
-abbrev pub modes_in : World → (ℕ → Modes) → Procedure → Modes
-modes_in world modes p m x = has_mode world.callees modes m (λ y. y) p.body x
-
-abbrev pub all_modes : (ℕ → Kind) → List Callee → List Modes → List Procedure → List Modes
-all_modes kinds above ms [] = ms
-all_modes kinds above ms (p ∷ ps) = all_modes kinds (above ++ callee_in (world_of kinds above) p ∷ []) (ms ++ modes_in (world_of kinds above) (modes_at ms) p ∷ []) ps
-
-abbrev pub unit_modes : (ℕ → Kind) → List Procedure → ℕ → Modes
-unit_modes kinds ps = modes_at (all_modes kinds [] [] ps)
 
 -- ---- what the modes say
 

@@ -48,6 +48,22 @@ ghost use Rattle.meaning_laws.specs.WellFormed.{CallsAreBelow};
 ghost use Rattle.meaning_laws.specs.PlaceFacts.{PlaceFactsLaw};
 ghost use Rattle.meaning_laws.specs.PlaceFacts.{PlainTelling};
 ghost use Rattle.meaning_laws.specs.Made.{MadeLaw};
+ghost use Rattle.meaning_laws.specs.FreshCopies.{CopyIsRenaming};
+ghost use Rattle.meaning_laws.specs.FreshCopies.{CopiesRunAlike};
+ghost use Rattle.meaning_laws.specs.FreshCopies.{ClosedCopiesAreSame};
+ghost use Rattle.meaning_laws.specs.FreshCopies.{CopiesBindNewNumbers};
+ghost use Rattle.meaning_laws.specs.FreshCopies.{MayCopyBehind};
+ghost use Rattle.meaning_laws.specs.FreshCopies.{MayCopyNext};
+ghost use Rattle.meaning_laws.specs.FreshCopies.{MayCopyInTurn};
+ghost use Rattle.meaning_laws.specs.FreshCopies.{MayCopySubstituted};
+ghost use Rattle.meaning_laws.specs.FreshCopies.{PlacesMayCopy};
+ghost use Rattle.meaning_laws.specs.FreshCopies.{OldMayBeCopied};
+ghost use Rattle.meaning_laws.specs.FreshCopies.{ScopedCopiesAreSame};
+ghost use Rattle.meaning_laws.specs.FreshCopies.{OldIsMade};
+ghost use Rattle.meaning_laws.specs.FreshCopies.{SubstitutedIsMade};
+ghost use Rattle.meaning_laws.specs.FreshCopies.{PlacesMayCopyAll};
+ghost use Rattle.meaning_laws.specs.Substituted.{SubstitutionKeepsBinders};
+ghost use Rattle.meaning_laws.specs.Substituted.{SubstitutionMentionsNoMore};
 
 /// A procedure in which a block is replaced is refined by it, where the new block may replace the old one at each state that comes to it.
 pub fn replaced_refines()
@@ -289,4 +305,84 @@ pub fn plain_writes_are_told()
 /// Parameters stand for what they stood for at first, and the binders on the way to a place for what they make by the numbers there.
 pub fn names_stay_as_made()
     ensures { MadeLaw }
+{}
+
+/// A block with an expression for a variable has the binders that it had.
+pub fn substitution_keeps_binders()
+    ensures { SubstitutionKeepsBinders }
+{}
+
+/// A block with an expression for a variable mentions no name but its own and those of the expression.
+pub fn substitution_mentions_no_more()
+    ensures { SubstitutionMentionsNoMore }
+{}
+
+/// A copy that is numbered from a number on is a renaming, where the block has none of the new numbers.
+pub fn copies_are_renamings()
+    ensures { CopyIsRenaming }
+{}
+
+/// A copy does what the block does, in each state in which the new numbers and the binders stand for nothing.
+pub fn copies_run_alike()
+    ensures { CopiesRunAlike }
+{}
+
+/// A copy of a block that binds no name behind it does exactly the same.
+pub fn closed_copies_are_same()
+    ensures { ClosedCopiesAreSame }
+{}
+
+/// The binders of a copy have the new numbers.
+pub fn copies_bind_new_numbers()
+    ensures { CopiesBindNewNumbers }
+{}
+
+/// A block that may be copied may be copied behind one that binds none of the ids concerned.
+pub fn blocks_may_be_copied_behind_others()
+    ensures { MayCopyBehind }
+{}
+
+/// Copies of one block, and of blocks with its binders, may stand one behind the other.
+pub fn copies_may_follow_copies()
+    ensures { MayCopyNext }
+{}
+
+/// A block that may be copied may be copied in a turn of a loop over another variable.
+pub fn blocks_may_be_copied_in_turns()
+    ensures { MayCopyInTurn }
+{}
+
+/// A block that may be copied may be copied with an expression for a variable.
+pub fn substituted_blocks_may_be_copied()
+    ensures { MayCopySubstituted }
+{}
+
+/// A block whose binders are those of what stands in a hole may be copied there, from a number on that the procedure does not reach.
+pub fn blocks_may_be_copied_at_places()
+    ensures { PlacesMayCopy }
+{}
+
+/// What stands in a hole may be copied there, from a number on that the procedure does not reach.
+pub fn old_blocks_may_be_copied()
+    ensures { OldMayBeCopied }
+{}
+
+/// Copies of blocks, numbered one behind the other, do the same as the blocks, each in a scope of its own.
+pub fn scoped_copies_are_same()
+    ensures { ScopedCopiesAreSame }
+{}
+
+/// What stands in a hole has no number that the procedure does not reach.
+pub fn old_blocks_are_made_of_themselves()
+    ensures { OldIsMade }
+{}
+
+/// A block with an expression for a variable is made of what the block is made of.
+pub fn substituted_blocks_are_made_of_them()
+    ensures { SubstitutedIsMade }
+{}
+
+/// Any number of blocks that are made of what stands in a hole may be copied there, one behind the other.
+pub fn all_blocks_may_be_copied_at_places()
+    ensures { PlacesMayCopyAll }
 {}

@@ -1,8 +1,8 @@
 -- What a schedule does: versions are made of versions, and names hold the latest ones.
-use Rattle.std.specs.Prelude.{ℕ, Bool, false, not, List, [], ◌∷◌, ◌++◌, length, slice_get, slice_index, Option, Some, None, if◌then◌else◌, codes}
+use Rattle.std.specs.Prelude.{ℕ, Bool, false, List, [], ◌∷◌, ◌++◌, length, slice_get, slice_index, Option, Some, None, if◌then◌else◌, codes}
+use Rattle.std.specs.Option.{is_some}
 use Rattle.std.specs.Str.{bytes_eq}
 use Rattle.exo_tree.specs.Tree.{Procedure}
-use Rattle.c_tree.specs.FirstForm.{is_none}
 use Rattle.proc_rewrites.specs.Commute.{Stepped, Made, NoSuchPattern, WrongShape, commute_expr}
 use Rattle.schedule_run.specs.declared.lines.Commute.{Commute}
 use Rattle.schedule_run.specs.declared.lines.Act.{Act}
@@ -34,7 +34,7 @@ pub data Progress : Type 0 where
 
 abbrev pub has_template : Option Procedure → Bool
 has_template None = false
-has_template (Some p) = not (is_none p.template)
+has_template (Some p) = is_some p.template
 
 -- the version is to be printed; an instruction is none to print
 abbrev pub emitting : Option ℕ → Versions → Progress

@@ -1,7 +1,7 @@
 -- The versions of a schedule: those before the first line, those that are printed, and what each comes from.
 use Rattle.std.specs.Prelude.{◌≡◌, ℕ, suc, List, [], ◌∷◌, length, map, Some, slice_get, slice_index}
 use Rattle.exo_tree.specs.Tree.{Procedure, Program}
-use Rattle.c_tree.specs.LoweredUnit.{Printing, name_of}
+use Rattle.c_printer.specs.LoweredUnit.{Printing, name_of}
 use Rattle.proc_rewrites.specs.Kept.{IsVersionOf}
 use Rattle.schedule_run.specs.Lines.{Versions, Done, run_lines}
 use Rattle.schedule_run.specs.declared.lines.Line.{Line}

@@ -3,14 +3,14 @@ ghost use Rattle.std.specs.Prelude.{◌≡◌, Option, None, slice_get, slice_in
 ghost use Rattle.exo_tree.specs.Plain.{procedure};
 ghost use Rattle.proc_rewrites.specs.Commute.{Made};
 ghost use Rattle.schedule_run.specs.Lines.{Went, Done, adding, changing, changing_held, emitting, has_template, held, performed, run_lines};
-ghost use Rattle.c_tree.specs.LoweredUnit.{name_of};
-ghost use Rattle.c_tree.specs.PlainPrinted.{printing};
+ghost use Rattle.c_printer.specs.LoweredUnit.{name_of};
+ghost use Rattle.c_printer.specs.PlainPrinted.{printing};
 ghost use Rattle.schedule_run.specs.Versions.{printings, started};
 ghost use Rattle.schedule_run.specs.Sessions.{versions, RefusesLine, StopsLine};
 ghost use Rattle.schedule_run.specs.declared.session.Why.TheVariants.{Memory};
 
 use crate::lines::{Act, Commute, Line};
-use c_tree::Printed;
+use c_printer::Printed;
 use exo_tree::{Name, Proc, ProcId, Procs};
 use proc_rewrites::{StepRefusal, commute_expr};
 use std::alloc::{AllocError, AllocFailed, Global};

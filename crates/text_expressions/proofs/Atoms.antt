@@ -17,7 +17,8 @@ use Rattle.text_lexer.specs.declared.token.Word.TheVariants.{True, False, Stride
 use Rattle.text_lexer.specs.declared.token.Sign.TheVariants.{Open, Close, OpenBracket, CloseBracket, Comma, Dot, Minus}
 use Rattle.text_expressions.specs.declared.expression.Room.{Room}
 use Rattle.std.proofs.Math.Nat.{le-max_left}
-use Rattle.text_expressions.proofs.Signs.{low_level, headed}
+use Rattle.text_expressions.proofs.Levels.{level_at_most_four}
+use Rattle.text_expressions.proofs.Signs.{headed}
 use Rattle.text_expressions.proofs.Sizes.{depth_some, nodes_some, zero_within}
 
 -- what begins with a name: the name alone, a cell, or a field
@@ -94,7 +95,7 @@ goes t (parens inner) x y stands equal =
     let h : t ≡ Sign Open = cc in
     let e : x ≡ (spelling inner ++ (Sign Close ∷ [])) ++ y = cc in
     subst (λ (u : Token). Goes u (parens inner) x y) (sym h) (inner, refl, stands, e ∙ append_assoc (spelling inner) (Sign Close ∷ []) y)
-goes t (binary o l r) x y stands equal = absurd (omega (arith, low_level o, stands.0))
+goes t (binary o l r) x y stands equal = absurd (omega (arith, level_at_most_four o, stands.0))
 
 -- what can begin an operand
 abbrev pub Starts : Option Token → Type 0

@@ -1,3 +1,4 @@
+pub mod Levels
 pub mod Signs
 pub mod Sizes
 pub mod Words

@@ -9,11 +9,12 @@ use Rattle.text_phrases.proofs.Sequences.{Back, Step, JointBy}
 use Rattle.text_phrases.proofs.Commas.{CommaApart}
 use Rattle.text_phrases.proofs.Joints.{Joint}
 use Rattle.text_expressions.specs.Values.{IsShortName, name, literal}
-use Rattle.text_expressions.specs.Expression.{Tree, number, access, field, stride, relu, select, negative, parens, trees, spelling, spelling_list, FollowsOperand, operand, Within, under, HasPlace, depth, nodes, IsShort, IsSmall, indices, control_room, EndsList}
+use Rattle.text_expressions.specs.Expression.{Tree, number, access, field, stride, relu, select, negative, parens, trees, spelling, spelling_list, FollowsOperand, operand, ended_by, Within, under, HasPlace, depth, nodes, IsShort, IsSmall, indices, control_room, EndsList}
 use Rattle.text_lexer.specs.declared.token.Token.{Token}
 use Rattle.text_lexer.specs.declared.token.Token.TheVariants.{Name, Word, Sign}
 use Rattle.text_lexer.specs.declared.token.Literal.{Literal}
 use Rattle.text_lexer.specs.declared.token.Literal.TheVariants.{Value}
+use Rattle.text_lexer.specs.declared.token.Sign.{Sign as AnySign}
 use Rattle.text_lexer.specs.declared.token.Word.TheVariants.{Stride, Relu, Select}
 use Rattle.text_lexer.specs.declared.token.Sign.TheVariants.{Open, Close, OpenBracket, CloseBracket, Comma, Dot, Minus}
 use Rattle.text_expressions.specs.declared.expression.Room.{Room}
@@ -28,11 +29,11 @@ zero = number (Value 0)
 pub zero_fits : (limits : Limits) (level : ℕ) (room : Room) → HasPlace room → (operand level room).Fits limits zero
 zero_fits limits level room place = (tt, zero_within limits room place)
 
--- a bracket or a comma stands behind an expression
-pub close_joint : (room : Room) → Joint (operand 0 room) (exactly (Sign Close ∷ []))
-close_joint room = record { may = record { may = λ limits q y fits follows. tt }; some = tt; fits = λ limits. tt }
+-- a sign that ends an expression stands behind it
+pub ended_joint : (x : AnySign) (room : Room) → FollowsOperand 0 (Some (Sign x)) → Joint (operand 0 room) (exactly (Sign x ∷ []))
+ended_joint x room ends = record { may = record { may = λ limits q y fits follows. ends }; some = tt; fits = λ limits. tt }
 
-pub open_joint : (room : Room) → HasPlace room → Joint (exactly (Sign Open ∷ [])) (then (operand 0 room) (exactly (Sign Close ∷ [])))
+pub open_joint : (room : Room) → HasPlace room → Joint (exactly (Sign Open ∷ [])) (ended_by Close room)
 open_joint room place = record { may = record { may = λ limits q y fits follows. tt }; some = (zero, tt); fits = λ limits. (zero_fits limits 0 room place, tt) }
 
 -- an unary minus
@@ -56,7 +57,7 @@ step_negative room after deep long = record {
 
 -- parentheses
 
-pub step_parens : (room : Room) (after : List Token) → 1 < room.depth → Step (operand 5 room) (then (operand 0 (under 0 room)) (exactly (Sign Close ∷ []))) (λ p. parens p.0) (Sign Open ∷ after) after
+pub step_parens : (room : Room) (after : List Token) → 1 < room.depth → Step (operand 5 room) (ended_by Close (under 0 room)) (λ p. parens p.0) (Sign Open ∷ after) after
 step_parens room after deep = record {
   front = Sign Open ∷ [];
   split = refl;
@@ -76,7 +77,7 @@ step_parens room after deep = record {
 -- the function of one argument
 
 abbrev pub Argument : Room → Phrase Token ((Unit {0}) × (Tree × (Unit {0})))
-Argument room = then (exactly (Sign Open ∷ [])) (then (operand 0 (under 1 room)) (exactly (Sign Close ∷ [])))
+Argument room = then (exactly (Sign Open ∷ [])) (ended_by Close (under 1 room))
 
 pub step_relu : (room : Room) (after : List Token) → 1 < room.depth → 1 < room.nodes → Step (operand 5 room) (Argument room) (λ p. relu p.1.0) (Word Relu ∷ after) after
 step_relu room after deep long = record {
@@ -215,83 +216,82 @@ abbrev Any : Option Token → Type 0
 Any o = Unit {0}
 
 abbrev pub Choice4 : Room → Tree → Tree → Tree → Phrase Token (Tree × (Unit {0}))
-Choice4 room a b c = then (operand 0 (under (nodes a + nodes b + nodes c + 1) room)) (exactly (Sign Close ∷ []))
+Choice4 room a b c = ended_by Close (under (nodes a + nodes b + nodes c + 1) room)
 
-abbrev pub Choice3 : Room → Tree → Tree → Phrase Token (Tree × ((Unit {0}) × (Tree × (Unit {0}))))
-Choice3 room a b = then_by (operand 0 (under (nodes a + nodes b + 2) room)) (λ c. then (exactly (Sign Comma ∷ [])) (Choice4 room a b c)) Any
+abbrev pub Choice3 : Room → Tree → Tree → Phrase Token ((Tree × (Unit {0})) × (Tree × (Unit {0})))
+Choice3 room a b = then_by (ended_by Comma (under (nodes a + nodes b + 2) room)) (λ c. Choice4 room a b c.0) Any
 
-abbrev pub Choice2 : Room → Tree → Phrase Token (Tree × ((Unit {0}) × (Tree × ((Unit {0}) × (Tree × (Unit {0}))))))
-Choice2 room a = then_by (operand 0 (under (nodes a + 3) room)) (λ b. then (exactly (Sign Comma ∷ [])) (Choice3 room a b)) Any
+abbrev pub Choice2 : Room → Tree → Phrase Token ((Tree × (Unit {0})) × ((Tree × (Unit {0})) × (Tree × (Unit {0}))))
+Choice2 room a = then_by (ended_by Comma (under (nodes a + 3) room)) (λ b. Choice3 room a b.0) Any
 
-abbrev pub Choice1 : Room → Phrase Token (Tree × ((Unit {0}) × (Tree × ((Unit {0}) × (Tree × ((Unit {0}) × (Tree × (Unit {0}))))))))
-Choice1 room = then_by (operand 0 (under 4 room)) (λ a. then (exactly (Sign Comma ∷ [])) (Choice2 room a)) Any
+abbrev pub Choice1 : Room → Phrase Token ((Tree × (Unit {0})) × ((Tree × (Unit {0})) × ((Tree × (Unit {0})) × (Tree × (Unit {0})))))
+Choice1 room = then_by (ended_by Comma (under 4 room)) (λ a. Choice2 room a.0) Any
 
-abbrev pub Choice0 : Room → Phrase Token ((Unit {0}) × (Tree × ((Unit {0}) × (Tree × ((Unit {0}) × (Tree × ((Unit {0}) × (Tree × (Unit {0})))))))))
+abbrev pub Choice0 : Room → Phrase Token ((Unit {0}) × ((Tree × (Unit {0})) × ((Tree × (Unit {0})) × ((Tree × (Unit {0})) × (Tree × (Unit {0}))))))
 Choice0 room = then (exactly (Sign Open ∷ [])) (Choice1 room)
 
 pub choice0 : (room : Room) → HasPlace (under 4 room) → Joint (exactly (Sign Open ∷ [])) (Choice1 room)
 choice0 room place = record {
   may = record { may = λ limits q y fits follows. tt };
-  some = (zero, (tt, (zero, (tt, (zero, (tt, (zero, tt)))))));
-  fits = λ limits. (zero_fits limits 0 (under 4 room) place, (tt, (zero_fits limits 0 (under 4 room) place, (tt, (zero_fits limits 0 (under 4 room) place, (tt, (zero_fits limits 0 (under 4 room) place, tt)))))));
+  some = ((zero, tt), ((zero, tt), ((zero, tt), (zero, tt))));
+  fits = λ limits. (
+    (zero_fits limits 0 (under 4 room) place, tt),
+    ((zero_fits limits 0 (under 4 room) place, tt), ((zero_fits limits 0 (under 4 room) place, tt), (zero_fits limits 0 (under 4 room) place, tt))),
+  );
 }
 
 -- literals fit behind what is read
 
-after_one : (limits : Limits) (room : Room) (a : Tree) → (operand 0 (under 4 room)).Fits limits a → (Choice2 room a).Fits limits (zero, (tt, (zero, (tt, (zero, tt)))))
+after_one : (limits : Limits) (room : Room) (a : Tree) → (operand 0 (under 4 room)).Fits limits a → (Choice2 room a).Fits limits ((zero, tt), ((zero, tt), (zero, tt)))
 after_one limits room a fits = (
-  (tt, zero_beside limits room a 4 (nodes a + 3) (λ few. omega (arith, few, nodes_some a)) fits.1),
+  ((tt, zero_beside limits room a 4 (nodes a + 3) (λ few. omega (arith, few, nodes_some a)) fits.1), tt),
   (
-    tt,
-    (
-      (tt, zero_beside limits room a 4 (nodes a + 1 + 2) (λ few. omega (arith, few, nodes_some a)) fits.1),
-      (tt, ((tt, zero_beside limits room a 4 (nodes a + 1 + 1 + 1) (λ few. omega (arith, few, nodes_some a)) fits.1), tt)),
-    ),
+    ((tt, zero_beside limits room a 4 (nodes a + 1 + 2) (λ few. omega (arith, few, nodes_some a)) fits.1), tt),
+    ((tt, zero_beside limits room a 4 (nodes a + 1 + 1 + 1) (λ few. omega (arith, few, nodes_some a)) fits.1), tt),
   ),
 )
 
-after_two : (limits : Limits) (room : Room) (a b : Tree) → (operand 0 (under (nodes a + 3) room)).Fits limits b → (Choice3 room a b).Fits limits (zero, (tt, (zero, tt)))
+after_two : (limits : Limits) (room : Room) (a b : Tree) → (operand 0 (under (nodes a + 3) room)).Fits limits b → (Choice3 room a b).Fits limits ((zero, tt), (zero, tt))
 after_two limits room a b fits = (
-  (tt, zero_beside limits room b (nodes a + 3) (nodes a + nodes b + 2) (λ few. omega (arith, few, nodes_some b)) fits.1),
-  (tt, ((tt, zero_beside limits room b (nodes a + 3) (nodes a + nodes b + 1 + 1) (λ few. omega (arith, few, nodes_some b)) fits.1), tt)),
+  ((tt, zero_beside limits room b (nodes a + 3) (nodes a + nodes b + 2) (λ few. omega (arith, few, nodes_some b)) fits.1), tt),
+  ((tt, zero_beside limits room b (nodes a + 3) (nodes a + nodes b + 1 + 1) (λ few. omega (arith, few, nodes_some b)) fits.1), tt),
 )
 
 after_three : (limits : Limits) (room : Room) (a b c : Tree) → (operand 0 (under (nodes a + nodes b + 2) room)).Fits limits c → (Choice4 room a b c).Fits limits (zero, tt)
 after_three limits room a b c fits =
     ((tt, zero_beside limits room c (nodes a + nodes b + 2) (nodes a + nodes b + nodes c + 1) (λ few. omega (arith, few, nodes_some c)) fits.1), tt)
 
-pub choice1 : (room : Room) → JointBy (operand 0 (under 4 room)) (λ a. then (exactly (Sign Comma ∷ [])) (Choice2 room a)) Any
+pub choice1 : (room : Room) → JointBy (ended_by Comma (under 4 room)) (λ a. Choice2 room a.0) Any
 choice1 room = record {
   may = λ limits t q y fits ends. tt;
   follows = λ t o ends. tt;
-  some = (tt, (zero, (tt, (zero, (tt, (zero, tt))))));
-  fits = λ limits a fits. (tt, after_one limits room a fits);
+  some = ((zero, tt), ((zero, tt), (zero, tt)));
+  fits = λ limits a fits. after_one limits room a.0 fits.0;
 }
 
-pub comma1 : (room : Room) (a : Tree) → ((limits : Limits) → (operand 0 (under 4 room)).Fits limits a) → Joint (exactly (Sign Comma ∷ [])) (Choice2 room a)
-comma1 room a fits = record { may = record { may = λ limits q y f follows. tt }; some = (zero, (tt, (zero, (tt, (zero, tt))))); fits = λ limits. after_one limits room a (fits limits) }
-
-pub choice2 : (room : Room) (a : Tree) → JointBy (operand 0 (under (nodes a + 3) room)) (λ b. then (exactly (Sign Comma ∷ [])) (Choice3 room a b)) Any
+pub choice2 : (room : Room) (a : Tree) → JointBy (ended_by Comma (under (nodes a + 3) room)) (λ b. Choice3 room a b.0) Any
 choice2 room a = record {
   may = λ limits t q y fits ends. tt;
   follows = λ t o ends. tt;
-  some = (tt, (zero, (tt, (zero, tt))));
-  fits = λ limits b fits. (tt, after_two limits room a b fits);
+  some = ((zero, tt), (zero, tt));
+  fits = λ limits b fits. after_two limits room a b.0 fits.0;
 }
 
-pub comma2 : (room : Room) (a b : Tree) → ((limits : Limits) → (operand 0 (under (nodes a + 3) room)).Fits limits b) → Joint (exactly (Sign Comma ∷ [])) (Choice3 room a b)
-comma2 room a b fits = record { may = record { may = λ limits q y f follows. tt }; some = (zero, (tt, (zero, tt))); fits = λ limits. after_two limits room a b (fits limits) }
-
-pub choice3 : (room : Room) (a b : Tree) → JointBy (operand 0 (under (nodes a + nodes b + 2) room)) (λ c. then (exactly (Sign Comma ∷ [])) (Choice4 room a b c)) Any
+pub choice3 : (room : Room) (a b : Tree) → JointBy (ended_by Comma (under (nodes a + nodes b + 2) room)) (λ c. Choice4 room a b c.0) Any
 choice3 room a b = record {
   may = λ limits t q y fits ends. tt;
   follows = λ t o ends. tt;
-  some = (tt, (zero, tt));
-  fits = λ limits c fits. (tt, after_three limits room a b c fits);
+  some = (zero, tt);
+  fits = λ limits c fits. after_three limits room a b c.0 fits.0;
 }
 
-pub comma3 : (room : Room) (a b c : Tree) → ((limits : Limits) → (operand 0 (under (nodes a + nodes b + 2) room)).Fits limits c) → Joint (exactly (Sign Comma ∷ [])) (Choice4 room a b c)
-comma3 room a b c fits = record { may = record { may = λ limits q y f follows. tt }; some = (zero, tt); fits = λ limits. after_three limits room a b c (fits limits) }
+-- the spelling of the arguments, one by one
+arguments_of : (a b c d : Tree) → spelling a ++ (Sign Comma ∷ (spelling b ++ (Sign Comma ∷ (spelling c ++ (Sign Comma ∷ (spelling d ++ (Sign Close ∷ []))))))) ≡ (spelling a ++ (Sign Comma ∷ [])) ++ ((spelling b ++ (Sign Comma ∷ [])) ++ ((spelling c ++ (Sign Comma ∷ [])) ++ (spelling d ++ (Sign Close ∷ []))))
+arguments_of a b c d =
+    sym (append_assoc (spelling a) (Sign Comma ∷ []) (spelling b ++ (Sign Comma ∷ (spelling c ++ (Sign Comma ∷ (spelling d ++ (Sign Close ∷ [])))))))
+    ∙ ap (λ w. (spelling a ++ (Sign Comma ∷ [])) ++ w)
+    (sym (append_assoc (spelling b) (Sign Comma ∷ []) (spelling c ++ (Sign Comma ∷ (spelling d ++ (Sign Close ∷ [])))))
+    ∙ ap (λ w. (spelling b ++ (Sign Comma ∷ [])) ++ w) (sym (append_assoc (spelling c) (Sign Comma ∷ []) (spelling d ++ (Sign Close ∷ [])))))
 
 around_select : (limits : Limits) (room : Room) (a b c d : Tree) → 1 < room.depth → Within limits (under 4 room) a → Within limits (under (nodes a + 3) room) b → Within limits (under (nodes a + nodes b + 2) room) c → Within limits (under (nodes a + nodes b + nodes c + 1) room) d → Within limits room (select a b c d)
 around_select limits room a b c d deep wa wb wc wd =
@@ -309,15 +309,15 @@ inside_select : (limits : Limits) (room : Room) (a b c d t : Tree) (taken : ℕ)
 inside_select limits room a b c d t taken deep few short small within =
     keeps_map limits {E = depth t ≤ room.depth - 1} (λ w. omega (arith, w, deep)) (λ w. (few w.0, short w.1)) (λ w. small w) within
 
-pub step_select : (room : Room) (after : List Token) → 1 < room.depth → Step (operand 5 room) (Choice0 room) (λ p. select p.1.0 p.1.1.1.0 p.1.1.1.1.1.0 p.1.1.1.1.1.1.1.0) (Word Select ∷ after) after
+pub step_select : (room : Room) (after : List Token) → 1 < room.depth → Step (operand 5 room) (Choice0 room) (λ p. select p.1.0.0 p.1.1.0.0 p.1.1.1.0.0 p.1.1.1.1.0) (Word Select ∷ after) after
 step_select room after deep = record {
   front = Word Select ∷ [];
   split = refl;
   fits = λ limits p f. (
-    (f.1.0.0, f.1.1.1.0.0, f.1.1.1.1.1.0.0, f.1.1.1.1.1.1.1.0.0),
-    around_select limits room p.1.0 p.1.1.1.0 p.1.1.1.1.1.0 p.1.1.1.1.1.1.1.0 deep f.1.0.1 f.1.1.1.0.1 f.1.1.1.1.1.0.1 f.1.1.1.1.1.1.1.0.1,
+    (f.1.0.0.0, f.1.1.0.0.0, f.1.1.1.0.0.0, f.1.1.1.1.0.0),
+    around_select limits room p.1.0.0 p.1.1.0.0 p.1.1.1.0.0 p.1.1.1.1.0 deep f.1.0.0.1 f.1.1.0.0.1 f.1.1.1.0.0.1 f.1.1.1.1.0.1,
   );
-  spelled = λ p. refl;
+  spelled = λ p. ap (λ w. Word Select ∷ Sign Open ∷ w) (arguments_of p.1.0.0 p.1.1.0.0 p.1.1.1.0.0 p.1.1.1.1.0);
   back = λ limits other x y same fits follows equal.
       let found : Goes (Word Select) other x y = goes (Word Select) other x y fits.0 equal in
       let a : Tree = found.0 in
@@ -328,28 +328,22 @@ step_select room after deep = record {
       let left : max (depth a) (depth b) ≤ max (max (depth a) (depth b)) (max (depth c) (depth d)) = le-max_left (max (depth a) (depth b)) (max (depth c) (depth d)) in
       let right : max (depth c) (depth d) ≤ max (max (depth a) (depth b)) (max (depth c) (depth d)) = le-max_right (max (depth a) (depth b)) (max (depth c) (depth d)) in
       record {
-        tree = (tt, (a, (tt, (b, (tt, (c, (tt, (d, tt))))))));
+        tree = (tt, ((a, tt), ((b, tt), ((c, tt), (d, tt)))));
         fits = (
           tt,
           (
-            (found.5.0, inside_select limits room a b c d a 4 (omega (arith, left, le-max_left (depth a) (depth b))) (λ w. omega (arith, w, nodes_some b, nodes_some c, nodes_some d)) (λ w. w.0) (λ w. w.0) within),
+            ((found.5.0, inside_select limits room a b c d a 4 (omega (arith, left, le-max_left (depth a) (depth b))) (λ w. omega (arith, w, nodes_some b, nodes_some c, nodes_some d)) (λ w. w.0) (λ w. w.0) within), tt),
             (
-              tt,
+              ((found.5.1, inside_select limits room a b c d b (nodes a + 3) (omega (arith, left, le-max_right (depth a) (depth b))) (λ w. omega (arith, w, nodes_some c, nodes_some d)) (λ w. w.1) (λ w. w.1) within), tt),
               (
-                (found.5.1, inside_select limits room a b c d b (nodes a + 3) (omega (arith, left, le-max_right (depth a) (depth b))) (λ w. omega (arith, w, nodes_some c, nodes_some d)) (λ w. w.1) (λ w. w.1) within),
-                (
-                  tt,
-                  (
-                    (found.5.2, inside_select limits room a b c d c (nodes a + nodes b + 2) (omega (arith, right, le-max_left (depth c) (depth d))) (λ w. omega (arith, w, nodes_some d)) (λ w. w.2) (λ w. w.2) within),
-                    (tt, ((found.5.3, inside_select limits room a b c d d (nodes a + nodes b + nodes c + 1) (omega (arith, right, le-max_right (depth c) (depth d))) (λ w. omega (arith, w)) (λ w. w.3) (λ w. w.3) within), tt)),
-                  ),
-                ),
+                ((found.5.2, inside_select limits room a b c d c (nodes a + nodes b + 2) (omega (arith, right, le-max_left (depth c) (depth d))) (λ w. omega (arith, w, nodes_some d)) (λ w. w.2) (λ w. w.2) within), tt),
+                ((found.5.3, inside_select limits room a b c d d (nodes a + nodes b + nodes c + 1) (omega (arith, right, le-max_right (depth c) (depth d))) (λ w. omega (arith, w)) (λ w. w.3) (λ w. w.3) within), tt),
               ),
             ),
           ),
         );
         is = found.4;
-        equal = found.6 ∙ ap (λ w. Sign Open ∷ w) (sym (four a b c d y));
+        equal = found.6 ∙ ap (λ w. Sign Open ∷ w) (sym (four a b c d y) ∙ ap (λ w. w ++ y) (arguments_of a b c d));
         follows = tt;
       };
 }

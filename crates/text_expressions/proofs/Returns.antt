@@ -7,7 +7,7 @@ use Rattle.text_phrases.specs.declared.Refusal.{Refusal}
 use Rattle.text_phrases.specs.declared.Refusal.TheVariants.{Memory, Syntax, TooDeep, TooLong, TooLarge}
 use Rattle.text_phrases.proofs.Exits.{refuses_along}
 use Rattle.text_expressions.specs.Values.{IsShortName}
-use Rattle.text_expressions.specs.Expression.{Tree, number, truth, variable, access, binary, operand, level_of, left_level, sign, Stands, NoSign, HasPlace, under, depth, deepest, nodes, trees, indices, control_room, FewDimensions, EndsList}
+use Rattle.text_expressions.specs.Expression.{Tree, number, truth, variable, access, binary, operand, ended_by, level_of, left_level, sign, Stands, NoSign, HasPlace, under, depth, deepest, nodes, trees, indices, control_room, FewDimensions, EndsList}
 use Rattle.text_expressions.specs.Rooms.{IsFull, Right}
 use Rattle.text_expressions.specs.Views.{tree_of, IsMeasured}
 use Rattle.text_expressions.specs.Chain.{Begun}
@@ -51,6 +51,12 @@ fronted {kind = kind} {rest = rest} {t = t} same taken = subst (λ w. Taken kind
 
 pub fronted_err : {A T : Type 0} (kind : Phrase A T) (tokens front : List A) (e : Refusal) → tokens ≡ front → Refuses kind front e → Refuses kind tokens e
 fronted_err kind tokens front e same refuses = subst (λ w. Refuses kind w e) (sym same) refuses
+
+pub ended : {x : AnySign} {room inner : Room} {tokens rest : List Token} {t : Tree × (Unit {0})} → inner ≡ room → Taken (ended_by x inner) tokens t rest → Taken (ended_by x room) tokens t rest
+ended {x = x} {tokens = tokens} {rest = rest} {t = t} same taken = subst (λ (r : Room). Taken (ended_by x r) tokens t rest) same taken
+
+pub ended_err : (x : AnySign) (room inner : Room) (tokens : List Token) (e : Refusal) → inner ≡ room → Refuses (ended_by x inner) tokens e → Refuses (ended_by x room) tokens e
+ended_err x room inner tokens e same refuses = subst (λ (r : Room). Refuses (ended_by x r) tokens e) same refuses
 
 -- leaves
 
@@ -129,18 +135,18 @@ ready o level left here ne stands = subst (λ (k : ℕ). Stands k left) (sym (le
 compared : (o : Operator) (left : Tree) → level_of o ≡ 2 → Stands 3 left → Stands (left_level o) left
 compared o left here stands = subst (λ (k : ℕ). Stands k left) (sym (compared_left o here)) stands
 
-full_right : (level : ℕ) (room : Room) (tokens after : List Token) (m : Measured) (operator : Operator) (e : Refusal) → IsMeasured m → Begun level room tokens (tree_of m.tree) (sign operator ∷ after) → level_of operator ≡ level → Stands (left_level operator) (tree_of m.tree) → IsFull room m.depth (m.nodes + 1) (length (sign operator ∷ after)) e → Refuses (operand level room) tokens e
+full_right : (level : ℕ) (room : Room) (tokens after : List Token) (m : Measured) (operator : Operator) (e : Refusal) → IsMeasured m → Begun level room tokens (tree_of m.tree.value) (sign operator ∷ after) → level_of operator ≡ level → Stands (left_level operator) (tree_of m.tree.value) → IsFull room m.depth (m.nodes + 1) (length (sign operator ∷ after)) e → Refuses (operand level room) tokens e
 full_right level room tokens after m operator Memory measured begun here stands full = tt
 full_right level room tokens after m operator (Syntax last) measured begun here stands full = absurd full
 full_right level room tokens after m operator (TooDeep last) measured begun here stands full =
-    subst (Refused (operand level room) too_deep tokens) (sym full.0) (deep_operator level room tokens (tree_of m.tree) after operator begun here stands (omega (arith, full.1, measured.depth)))
+    subst (Refused (operand level room) too_deep tokens) (sym full.0) (deep_operator level room tokens (tree_of m.tree.value) after operator begun here stands (omega (arith, full.1, measured.depth)))
 full_right level room tokens after m operator (TooLong last) measured begun here stands full =
-    subst (Refused (operand level room) too_long tokens) (sym full.0) (long_operator level room tokens (tree_of m.tree) after operator begun here stands (omega (arith, full.1, measured.depth)) (omega (arith, full.2, measured.nodes)))
+    subst (Refused (operand level room) too_long tokens) (sym full.0) (long_operator level room tokens (tree_of m.tree.value) after operator begun here stands (omega (arith, full.1, measured.depth)) (omega (arith, full.2, measured.nodes)))
 full_right level room tokens after m operator (TooLarge last) measured begun here stands full = absurd full
 
-pub full_err : (level : ℕ) (room : Room) (tokens rest after : List Token) (m : Measured) (operator : Operator) (e : Refusal) → IsMeasured m → Begun level room tokens (tree_of m.tree) rest → (rest ≡ sign operator ∷ after) × (level_of operator ≡ level) → (level ≡ 2 → ⊥) → IsFull room m.depth (m.nodes + 1) (length rest) e → Refuses (operand level room) tokens e
+pub full_err : (level : ℕ) (room : Room) (tokens rest after : List Token) (m : Measured) (operator : Operator) (e : Refusal) → IsMeasured m → Begun level room tokens (tree_of m.tree.value) rest → (rest ≡ sign operator ∷ after) × (level_of operator ≡ level) → (level ≡ 2 → ⊥) → IsFull room m.depth (m.nodes + 1) (length rest) e → Refuses (operand level room) tokens e
 full_err level room tokens rest after m operator e measured begun here ne full =
-    full_right level room tokens after m operator e measured (subst (Begun level room tokens (tree_of m.tree)) here.0 begun) here.1 (ready operator level (tree_of m.tree) here.1 ne (begun.fits in_size).0)
+    full_right level room tokens after m operator e measured (subst (Begun level room tokens (tree_of m.tree.value)) here.0 begun) here.1 (ready operator level (tree_of m.tree.value) here.1 ne (begun.fits in_size).0)
     (subst (λ (r : List Token). IsFull room m.depth (m.nodes + 1) (length r) e) here.0 full)
 
 pub first_err : (level : ℕ) (room : Room) (tokens : List Token) (e : Refusal) → Refuses (operand (level + 1) room) tokens e → Refuses (operand level room) tokens e
@@ -162,9 +168,9 @@ chain_next level room inner tokens rest after behind left right tree operator be
 pub compare_none : (room : Room) (tokens rest : List Token) (left : Tree) → Taken (operand 3 room) tokens left rest → NoSign 2 rest → Taken (operand 2 room) tokens left rest
 compare_none room tokens rest left taken none = taken_of_begun 2 room tokens left rest (begun_of_taken 2 room tokens left rest taken) none
 
-pub compare_full : (room : Room) (tokens rest after : List Token) (m : Measured) (operator : Operator) (e : Refusal) → IsMeasured m → Taken (operand 3 room) tokens (tree_of m.tree) rest → (rest ≡ sign operator ∷ after) × (level_of operator ≡ 2) → IsFull room m.depth (m.nodes + 1) (length rest) e → Refuses (operand 2 room) tokens e
+pub compare_full : (room : Room) (tokens rest after : List Token) (m : Measured) (operator : Operator) (e : Refusal) → IsMeasured m → Taken (operand 3 room) tokens (tree_of m.tree.value) rest → (rest ≡ sign operator ∷ after) × (level_of operator ≡ 2) → IsFull room m.depth (m.nodes + 1) (length rest) e → Refuses (operand 2 room) tokens e
 compare_full room tokens rest after m operator e measured taken here full =
-    full_right 2 room tokens after m operator e measured (subst (Begun 2 room tokens (tree_of m.tree)) here.0 (begun_of_taken 2 room tokens (tree_of m.tree) rest taken)) here.1 (compared operator (tree_of m.tree) here.1 (taken.fits in_size).0)
+    full_right 2 room tokens after m operator e measured (subst (Begun 2 room tokens (tree_of m.tree.value)) here.0 (begun_of_taken 2 room tokens (tree_of m.tree.value) rest taken)) here.1 (compared operator (tree_of m.tree.value) here.1 (taken.fits in_size).0)
     (subst (λ (r : List Token). IsFull room m.depth (m.nodes + 1) (length r) e) here.0 full)
 
 pub compare_err : (room inner : Room) (tokens rest after : List Token) (left : Tree) (operator : Operator) (e : Refusal) → Taken (operand 3 room) tokens left rest → (rest ≡ sign operator ∷ after) × (level_of operator ≡ 2) → Right room inner left → Refuses (operand 3 inner) after e → Refuses (operand 2 room) tokens e
@@ -200,6 +206,12 @@ left_of {t = t} room n same taken = omega (arith, long_of (roomed same taken), n
 
 pub deep_left : {level : ℕ} {inner : Room} {tokens rest : List Token} {t : Tree} (room : Room) (n : ℕ) → inner ≡ under n room → Taken (operand level inner) tokens t rest → depth t + 1 ≤ room.depth
 deep_left {t = t} room n same taken = omega (arith, deep_of (roomed same taken), depth_some t)
+
+pub ended_left : {x : AnySign} {inner : Room} {tokens rest : List Token} {t : Tree × (Unit {0})} (room : Room) (n : ℕ) → inner ≡ under n room → Taken (ended_by x inner) tokens t rest → nodes t.0 + n ≤ room.nodes
+ended_left {t = t} room n same taken = omega (arith, ((ended same taken).fits in_size).0.1.1.0, nodes_some t.0)
+
+pub ended_deep : {x : AnySign} {inner : Room} {tokens rest : List Token} {t : Tree × (Unit {0})} (room : Room) (n : ℕ) → inner ≡ under n room → Taken (ended_by x inner) tokens t rest → depth t.0 + 1 ≤ room.depth
+ended_deep {t = t} room n same taken = omega (arith, ((ended same taken).fits in_size).0.1.0, depth_some t.0)
 
 pub place_under : (room inner : Room) (n : ℕ) → inner ≡ under n room → 1 < room.depth → n < room.nodes → HasPlace inner
 place_under room inner n same deep long = subst HasPlace (sym same) (record { depth = omega arith; nodes = omega arith })
@@ -259,14 +271,14 @@ pub deep_indices : {level : ℕ} {tokens rest : List Token} {list : List Tree} �
 deep_indices {level = level} {list = list} taken = deepest_of level list (taken.fits in_size)
 
 -- the room at the right of an operator
-pub rights : (room inner : Room) (m : Measured) → IsMeasured m → inner ≡ under (m.nodes + 1) room → m.depth < room.depth → m.nodes + 1 < room.nodes → Right room inner (tree_of m.tree) × HasPlace inner
+pub rights : (room inner : Room) (m : Measured) → IsMeasured m → inner ≡ under (m.nodes + 1) room → m.depth < room.depth → m.nodes + 1 < room.nodes → Right room inner (tree_of m.tree.value) × HasPlace inner
 rights room inner m measured same shallow few = (
   record {
     is = same ∙ ap (λ k. under (k + 1) room) measured.nodes;
     shallow = omega (arith, shallow, measured.depth);
     few = omega (arith, few, measured.nodes);
   },
-  place_under room inner (m.nodes + 1) same (omega (arith, shallow, measured.depth, depth_some (tree_of m.tree))) few,
+  place_under room inner (m.nodes + 1) same (omega (arith, shallow, measured.depth, depth_some (tree_of m.tree.value))) few,
 )
 
 -- cells

@@ -20,20 +20,6 @@ joins-sign Mul = refl
 joins-sign Div = refl
 joins-sign Mod = refl
 
-pub low_level : (o : Operator) → level_of o ≤ 4
-low_level Or = omega arith
-low_level And = omega arith
-low_level Lt = omega arith
-low_level Le = omega arith
-low_level Gt = omega arith
-low_level Ge = omega arith
-low_level Eq = omega arith
-low_level Add = omega arith
-low_level Sub = omega arith
-low_level Mul = omega arith
-low_level Div = omega arith
-low_level Mod = omega arith
-
 pub left_low : (o : Operator) → level_of o ≤ left_level o
 left_low Or = omega arith
 left_low And = omega arith

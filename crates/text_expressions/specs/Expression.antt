@@ -2,6 +2,7 @@
 use Rattle.std.specs.Prelude.{◌≡◌, ℕ, suc, ◌+◌, ◌-◌, ◌≤◌, ◌<◌, max, Bool, true, false, List, [], ◌∷◌, ◌++◌, length, Option, Some, None}
 use Rattle.text_phrases.specs.Limits.{Limits, Keeps}
 use Rattle.text_phrases.specs.Phrase.{first, Phrase}
+use Rattle.text_phrases.specs.Sequence.{exactly, then}
 use Rattle.text_phrases.specs.Commas.{listing}
 use Rattle.text_expressions.specs.Values.{IsShortName, IsValue}
 use Rattle.text_expressions.specs.declared.source.Operator.{Operator}
@@ -273,6 +274,10 @@ Within limits room tree = Keeps limits (depth tree ≤ room.depth) ((nodes tree 
 -- an operand of a level within a room: level 0 is a whole expression, and 5 what no operator splits
 abbrev pub operand : ℕ → Room → Phrase Token Tree
 operand level room = record { Fits = λ limits tree. Stands level tree × Within limits room tree; spell = spelling; Follows = FollowsOperand level }
+
+-- a whole expression within a room, and the sign that ends it
+abbrev pub ended_by : Sign → Room → Phrase Token (Tree × (Unit {0}))
+ended_by sign room = then (operand 0 room) (exactly (t.Sign sign ∷ []))
 
 -- the room one level below, where so many nodes are taken
 abbrev pub under : ℕ → Room → Room

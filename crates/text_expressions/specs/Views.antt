@@ -1,5 +1,5 @@
 -- Source trees without where they lie in memory.
-use Rattle.std.specs.Prelude.{◌≡◌, List, [], ◌∷◌, map, Bool}
+use Rattle.std.specs.Prelude.{◌≡◌, map}
 use Rattle.text_expressions.specs.Expression.{Tree, number, truth, variable, access, field, stride, relu, select, negative, parens, binary, trees, depth, deepest, nodes}
 use Rattle.text_lexer.specs.declared.token.Literal.TheVariants.{Value}
 use Rattle.text_expressions.specs.declared.source.SourceExpr.{SourceExpr}
@@ -27,8 +27,8 @@ tree_of = fold-SourceExpr Tree tree_step
 
 -- the depth and the number of nodes are right
 pub record IsMeasured (m : Measured) : Type 0 where
-  pub depth : m.depth ≡ depth (tree_of m.tree)
-  pub nodes : m.nodes ≡ nodes (tree_of m.tree)
+  pub depth : m.depth ≡ depth (tree_of m.tree.value)
+  pub nodes : m.nodes ≡ nodes (tree_of m.tree.value)
 
 -- the depth of the deepest index is right
 pub record AreMeasured (l : Indices) : Type 0 where

@@ -1,10 +1,10 @@
-// Reading expressions from the front of a list of tokens.
+//! Reading expressions from the front of a list of tokens.
 
 ghost use Rattle.std.specs.Prelude.{◌≡◌, ◌≢◌, ◌≤◌, ◌<◌, ◌+◌, ◌-◌, ◌⊎◌, Some, [], ◌∷◌, ℕ, List, length, map, IfOk, MatchResult, MatchOption};
 ghost use Rattle.text_phrases.specs.Phrase.{first, Taken, Refused};
 ghost use Rattle.text_phrases.specs.Answers.{Reads};
 ghost use Rattle.text_expressions.specs.Values.{IsShortName};
-ghost use Rattle.text_expressions.specs.Expression.{Tree, operand, relu, select, negative, parens, access, binary, trees, HasPlace, level_of, joins, joins_by_sign, joins_by_word, sign, NoSign, under, control, datum, indices, most_depth};
+ghost use Rattle.text_expressions.specs.Expression.{Tree, operand, relu, select, negative, parens, access, binary, trees, HasPlace, ended_by, FollowsOperand, level_of, joins, joins_by_sign, joins_by_word, sign, NoSign, under, control, datum, indices, most_depth};
 ghost use Rattle.text_expressions.specs.Views.{tree_of, IsMeasured, AreMeasured, IsLeaf};
 ghost use Rattle.text_expressions.specs.Chain.{Begun};
 ghost use Rattle.text_expressions.specs.Rooms.{IsFull, Right};
@@ -18,7 +18,7 @@ use text_lexer::token::{Literal, Sign, Token, Word, next};
 use text_phrases::Refusal;
 
 /// How deep an expression may be, and how many nodes it may have.
-#[derive(Clone, Copy, Debug)]
+#[derive(Clone, Copy)]
 pub struct Room {
     pub depth: u32,
     pub nodes: u32,
@@ -27,7 +27,7 @@ pub struct Room {
 /// An expression with its depth and its number of nodes.
 #[derive(Drop)]
 pub struct Measured {
-    pub tree: SourceExpr,
+    pub tree: Box<SourceExpr>,
     pub depth: u32,
     pub nodes: u32,
 }
@@ -140,24 +140,25 @@ impl Room {
     }
 }
 
-/// An expression that is one token or a few.
-fn leaf(tree: SourceExpr) -> Measured
+/// An expression that is one token or a few, which are read.
+fn leaf(alloc: Global, tree: SourceExpr, rest: &[Token]) -> Result<(Measured, &[Token]), Refusal>
     requires { IsLeaf (tree_of tree) }
-    ensures same { tree_of result.tree ≡ tree_of tree }
-    ensures measured { IsMeasured result }
+    ensures measured { IfOk result (λ x. IsMeasured x.0) }
+    ensures reads { (room : Room) (tokens : List Token) → Taken (operand 5 room) tokens (tree_of tree) rest.now → Reads (operand 5 room) tokens (λ x. tree_of x.0.tree.value) (λ x. x.1.now) result }
 {
-    Measured {
-        tree,
+    let measured = Measured {
+        tree: Box::new(alloc, tree)?,
         depth: 1,
         nodes: 1,
-    }
+    };
+    Ok((measured, rest))
 }
 
 /// The room for the right side of an operator with which so many tokens are left. Else the limit that it passes.
 fn right_room(left: &Measured, room: Room, remaining: usize) -> Result<Room, Refusal>
     requires place { HasPlace room }
     requires measured { IsMeasured left.now }
-    ensures { MatchResult result (λ inner. Right room inner (tree_of left.now.tree) × HasPlace inner) (λ e. IsFull room left.now.depth (left.now.nodes + 1) remaining e) }
+    ensures { MatchResult result (λ inner. Right room inner (tree_of left.now.tree.value) × HasPlace inner) (λ e. IsFull room left.now.depth (left.now.nodes + 1) remaining e) }
 {
     if room.depth <= left.depth {
         return Err(Refusal::TooDeep(remaining));
@@ -178,15 +179,11 @@ fn joined(
     requires measured { IsMeasured left × IsMeasured right }
     requires shallow { (left.depth < 4294967295) × (right.depth < 4294967295) }
     requires few { left.nodes + right.nodes < 4294967295 }
-    ensures { IfOk result (λ m. (tree_of m.tree ≡ binary operator (tree_of left.tree) (tree_of right.tree)) × IsMeasured m) }
+    ensures { IfOk result (λ m. (tree_of m.tree.value ≡ binary operator (tree_of left.tree.value) (tree_of right.tree.value)) × IsMeasured m) }
 {
     let depth = left.depth.max(right.depth) + 1;
     let nodes = left.nodes + right.nodes + 1;
-    let tree = SourceExpr::Binary(
-        operator,
-        Box::new(alloc, left.tree)?,
-        Box::new(alloc, right.tree)?,
-    );
+    let tree = Box::new(alloc, SourceExpr::Binary(operator, left.tree, right.tree))?;
     Ok(Measured { tree, depth, nodes })
 }
 
@@ -195,9 +192,9 @@ fn negated(alloc: Global, inner: Measured) -> Result<Measured, AllocError>
     requires measured { IsMeasured inner }
     requires shallow { inner.depth < 4294967295 }
     requires few { inner.nodes < 4294967295 }
-    ensures { IfOk result (λ m. (tree_of m.tree ≡ negative (tree_of inner.tree)) × IsMeasured m) }
+    ensures { IfOk result (λ m. (tree_of m.tree.value ≡ negative (tree_of inner.tree.value)) × IsMeasured m) }
 {
-    let tree = SourceExpr::Negative(Box::new(alloc, inner.tree)?);
+    let tree = Box::new(alloc, SourceExpr::Negative(inner.tree))?;
     Ok(Measured {
         tree,
         depth: inner.depth + 1,
@@ -210,9 +207,9 @@ fn rectified(alloc: Global, inner: Measured) -> Result<Measured, AllocError>
     requires measured { IsMeasured inner }
     requires shallow { inner.depth < 4294967295 }
     requires few { inner.nodes < 4294967295 }
-    ensures { IfOk result (λ m. (tree_of m.tree ≡ relu (tree_of inner.tree)) × IsMeasured m) }
+    ensures { IfOk result (λ m. (tree_of m.tree.value ≡ relu (tree_of inner.tree.value)) × IsMeasured m) }
 {
-    let tree = SourceExpr::Relu(Box::new(alloc, inner.tree)?);
+    let tree = Box::new(alloc, SourceExpr::Relu(inner.tree))?;
     Ok(Measured {
         tree,
         depth: inner.depth + 1,
@@ -231,16 +228,12 @@ fn selected(
     requires measured { IsMeasured a × IsMeasured b × IsMeasured c × IsMeasured d }
     requires shallow { (a.depth < 4294967295) × (b.depth < 4294967295) × (c.depth < 4294967295) × (d.depth < 4294967295) }
     requires few { a.nodes + b.nodes + c.nodes + d.nodes < 4294967295 }
-    ensures { IfOk result (λ m. (tree_of m.tree ≡ select (tree_of a.tree) (tree_of b.tree) (tree_of c.tree) (tree_of d.tree)) × IsMeasured m) }
+    ensures { IfOk result (λ m. (tree_of m.tree.value ≡ select (tree_of a.tree.value) (tree_of b.tree.value) (tree_of c.tree.value) (tree_of d.tree.value)) × IsMeasured m) }
 {
     let depth = a.depth.max(b.depth).max(c.depth.max(d.depth)) + 1;
     let nodes = a.nodes + b.nodes + c.nodes + d.nodes + 1;
-    let tree = SourceExpr::Select(
-        Box::new(alloc, a.tree)?,
-        Box::new(alloc, b.tree)?,
-        Box::new(alloc, c.tree)?,
-        Box::new(alloc, d.tree)?,
-    );
+    let choice = SourceExpr::Select(a.tree, b.tree, c.tree, d.tree);
+    let tree = Box::new(alloc, choice)?;
     Ok(Measured { tree, depth, nodes })
 }
 
@@ -248,9 +241,9 @@ fn selected(
 fn enclosed(alloc: Global, inner: Measured) -> Result<Measured, AllocError>
     requires measured { IsMeasured inner }
     requires shallow { inner.depth < 4294967295 }
-    ensures { IfOk result (λ m. (tree_of m.tree ≡ parens (tree_of inner.tree)) × IsMeasured m) }
+    ensures { IfOk result (λ m. (tree_of m.tree.value ≡ parens (tree_of inner.tree.value)) × IsMeasured m) }
 {
-    let tree = SourceExpr::Parens(Box::new(alloc, inner.tree)?);
+    let tree = Box::new(alloc, SourceExpr::Parens(inner.tree))?;
     Ok(Measured {
         tree,
         depth: inner.depth + 1,
@@ -266,17 +259,18 @@ pub struct Indices {
 }
 
 /// A cell of a name.
-fn accessed(name: Text, indices: Indices) -> Measured
+pub fn accessed(alloc: Global, name: Text, indices: Indices) -> Result<Measured, AllocError>
     requires measured { AreMeasured indices }
     requires shallow { indices.depth < 4294967295 }
-    ensures same { tree_of result.tree ≡ access name (trees (map tree_of indices.items.items)) }
-    ensures measured { IsMeasured result }
+    ensures same { IfOk result (λ m. tree_of m.tree.value ≡ access name (trees (map tree_of indices.items.items))) }
+    ensures measured { IfOk result (λ m. IsMeasured m) }
 {
-    Measured {
-        tree: SourceExpr::Access(name, indices.items),
+    let tree = Box::new(alloc, SourceExpr::Access(name, indices.items))?;
+    Ok(Measured {
+        tree,
         depth: indices.depth + 1,
         nodes: 1,
-    }
+    })
 }
 
 /// An operand of a level, within the room: level 0 is a whole expression.
@@ -290,10 +284,28 @@ pub fn read_operand(
     requires levels { level ≤ 5 }
     requires place { HasPlace room }
     ensures measured { IfOk result (λ x. IsMeasured x.0) }
-    ensures reads { Reads (operand level room) tokens.now (λ x. tree_of x.0.tree) (λ x. x.1.now) result }
+    ensures reads { Reads (operand level room) tokens.now (λ x. tree_of x.0.tree.value) (λ x. x.1.now) result }
 {
     let (atom, rest) = read_unary(alloc, tokens, room)?;
     read_from(alloc, atom, rest, level, room)
+}
+
+/// A whole expression within the room, and the sign that ends it.
+#[cycle(expressions)]
+fn read_ended(
+    alloc: Global,
+    tokens: &[Token],
+    sign: Sign,
+    room: Room,
+) -> Result<(Measured, &[Token]), Refusal>
+    requires ends { FollowsOperand 0 (Some (Token.Sign sign)) }
+    requires place { HasPlace room }
+    ensures measured { IfOk result (λ x. IsMeasured x.0) }
+    ensures reads { Reads (ended_by sign room) tokens.now (λ x. (tree_of x.0.tree.value, tt)) (λ x. x.1.now) result }
+{
+    let (inner, after) = read_operand(alloc, tokens, 0, room)?;
+    let rest = expect_all(after, &[Fixed::Sign(sign)])?;
+    Ok((inner, rest))
 }
 
 /// An operand of a level whose first part has been read.
@@ -310,7 +322,7 @@ pub fn read_from(
     requires measured { IsMeasured atom }
     ensures shorter { IfOk result (λ x. length x.1.now ≤ length rest.now) }
     ensures measured { IfOk result (λ x. IsMeasured x.0) }
-    ensures reads { (tokens : List Token) → Taken (operand 5 room) tokens (tree_of atom.tree) rest.now → Reads (operand level room) tokens (λ x. tree_of x.0.tree) (λ x. x.1.now) result }
+    ensures reads { (tokens : List Token) → Taken (operand 5 room) tokens (tree_of atom.tree.value) rest.now → Reads (operand level room) tokens (λ x. tree_of x.0.tree.value) (λ x. x.1.now) result }
 {
     if level == 5 {
         return Ok((atom, rest));
@@ -335,7 +347,7 @@ fn read_comparison(
     requires measured { IsMeasured left }
     ensures shorter { IfOk result (λ x. length x.1.now ≤ length rest.now) }
     ensures measured { IfOk result (λ x. IsMeasured x.0) }
-    ensures reads { (tokens : List Token) → Taken (operand 3 room) tokens (tree_of left.tree) rest.now → Reads (operand 2 room) tokens (λ x. tree_of x.0.tree) (λ x. x.1.now) result }
+    ensures reads { (tokens : List Token) → Taken (operand 3 room) tokens (tree_of left.tree.value) rest.now → Reads (operand 2 room) tokens (λ x. tree_of x.0.tree.value) (λ x. x.1.now) result }
 {
     let Some((operator, after)) = operator_at(rest, 2) else {
         return Ok((left, rest));
@@ -361,7 +373,7 @@ fn read_chain(
     requires measured { IsMeasured leftmost }
     ensures shorter { IfOk result (λ x. length x.1.now ≤ length tail.now) }
     ensures measured { IfOk result (λ x. IsMeasured x.0) }
-    ensures reads { (tokens : List Token) → Begun level room tokens (tree_of leftmost.tree) tail.now → Reads (operand level room) tokens (λ x. tree_of x.0.tree) (λ x. x.1.now) result }
+    ensures reads { (tokens : List Token) → Begun level room tokens (tree_of leftmost.tree.value) tail.now → Reads (operand level room) tokens (λ x. tree_of x.0.tree.value) (λ x. x.1.now) result }
 {
     let mut left = leftmost;
     let mut rest = tail;
@@ -380,13 +392,13 @@ fn read_chain(
 fn read_unary(alloc: Global, tokens: &[Token], room: Room) -> Result<(Measured, &[Token]), Refusal>
     requires place { HasPlace room }
     ensures measured { IfOk result (λ x. IsMeasured x.0) }
-    ensures reads { Reads (operand 5 room) tokens.now (λ x. tree_of x.0.tree) (λ x. x.1.now) result }
+    ensures reads { Reads (operand 5 room) tokens.now (λ x. tree_of x.0.tree.value) (λ x. x.1.now) result }
 {
     let Some((token, rest)) = next(tokens) else {
         return Err(Refusal::Syntax(0));
     };
     match token {
-        Token::Int(literal) => read_number(tokens, *literal, rest, room),
+        Token::Int(literal) => read_number(alloc, tokens, *literal, rest, room),
         Token::Name(name) => read_named(alloc, tokens, name, rest, room),
         Token::Word(word) => read_word(alloc, tokens, *word, rest, room),
         Token::Sign(sign) => read_signed(alloc, tokens, *sign, rest, room),
@@ -396,6 +408,7 @@ fn read_unary(alloc: Global, tokens: &[Token], room: Room) -> Result<(Measured, 
 
 /// A literal that stands first.
 fn read_number<'a>(
+    alloc: Global,
     tokens: &[Token],
     literal: Literal,
     rest: &'a [Token],
@@ -404,10 +417,10 @@ fn read_number<'a>(
     requires place { HasPlace room }
     requires front { tokens.now ≡ Token.Int literal ∷ rest.now }
     ensures measured { IfOk result (λ x. IsMeasured x.0) }
-    ensures reads { Reads (operand 5 room) tokens.now (λ x. tree_of x.0.tree) (λ x. x.1.now) result }
+    ensures reads { Reads (operand 5 room) tokens.now (λ x. tree_of x.0.tree.value) (λ x. x.1.now) result }
 {
     match literal {
-        Literal::Value(value) => Ok((leaf(SourceExpr::Int(value)), rest)),
+        Literal::Value(value) => leaf(alloc, SourceExpr::Int(value), rest),
         Literal::TooLarge => Err(Refusal::TooLarge(tokens.len())),
     }
 }
@@ -424,12 +437,12 @@ fn read_word<'a>(
     requires place { HasPlace room }
     requires front { tokens.now ≡ Token.Word word ∷ rest.now }
     ensures measured { IfOk result (λ x. IsMeasured x.0) }
-    ensures reads { Reads (operand 5 room) tokens.now (λ x. tree_of x.0.tree) (λ x. x.1.now) result }
+    ensures reads { Reads (operand 5 room) tokens.now (λ x. tree_of x.0.tree.value) (λ x. x.1.now) result }
 {
     match word {
-        Word::True => Ok((leaf(SourceExpr::Truth(true)), rest)),
-        Word::False => Ok((leaf(SourceExpr::Truth(false)), rest)),
-        Word::Stride => read_stride(rest, room),
+        Word::True => leaf(alloc, SourceExpr::Truth(true), rest),
+        Word::False => leaf(alloc, SourceExpr::Truth(false), rest),
+        Word::Stride => read_stride(alloc, rest, room),
         Word::Relu => read_relu(alloc, tokens, rest, room),
         Word::Select => read_select(alloc, tokens, rest, room),
         _ => Err(Refusal::Syntax(tokens.len())),
@@ -437,17 +450,17 @@ fn read_word<'a>(
 }
 
 /// What comes behind `stride`.
-fn read_stride(rest: &[Token], room: Room) -> Result<(Measured, &[Token]), Refusal>
+fn read_stride(alloc: Global, rest: &[Token], room: Room) -> Result<(Measured, &[Token]), Refusal>
     requires place { HasPlace room }
     ensures measured { IfOk result (λ x. IsMeasured x.0) }
-    ensures reads { Reads (operand 5 room) (Token.Word Word.Stride ∷ rest.now) (λ x. tree_of x.0.tree) (λ x. x.1.now) result }
+    ensures reads { Reads (operand 5 room) (Token.Word Word.Stride ∷ rest.now) (λ x. tree_of x.0.tree.value) (λ x. x.1.now) result }
 {
     let rest = expect_all(rest, &[Fixed::Sign(Sign::Open)])?;
     let (name, rest) = read_name(rest)?;
     let rest = expect_all(rest, &[Fixed::Sign(Sign::Comma)])?;
     let (dimension, rest) = read_literal(rest)?;
     let rest = expect_all(rest, &[Fixed::Sign(Sign::Close)])?;
-    Ok((leaf(SourceExpr::Stride(name, dimension)), rest))
+    leaf(alloc, SourceExpr::Stride(name, dimension), rest)
 }
 
 /// What comes behind `relu`.
@@ -461,12 +474,11 @@ fn read_relu<'a>(
     requires place { HasPlace room }
     requires front { tokens.now ≡ Token.Word Word.Relu ∷ rest.now }
     ensures measured { IfOk result (λ x. IsMeasured x.0) }
-    ensures reads { Reads (operand 5 room) tokens.now (λ x. tree_of x.0.tree) (λ x. x.1.now) result }
+    ensures reads { Reads (operand 5 room) tokens.now (λ x. tree_of x.0.tree.value) (λ x. x.1.now) result }
 {
     let inside = room.below(1, 1, tokens.len())?;
     let rest = expect_all(rest, &[Fixed::Sign(Sign::Open)])?;
-    let (inner, rest) = read_operand(alloc, rest, 0, inside)?;
-    let rest = expect_all(rest, &[Fixed::Sign(Sign::Close)])?;
+    let (inner, rest) = read_ended(alloc, rest, Sign::Close, inside)?;
     let relu = rectified(alloc, inner)?;
     Ok((relu, rest))
 }
@@ -482,19 +494,17 @@ fn read_select<'a>(
     requires place { HasPlace room }
     requires front { tokens.now ≡ Token.Word Word.Select ∷ rest.now }
     ensures measured { IfOk result (λ x. IsMeasured x.0) }
-    ensures reads { Reads (operand 5 room) tokens.now (λ x. tree_of x.0.tree) (λ x. x.1.now) result }
+    ensures reads { Reads (operand 5 room) tokens.now (λ x. tree_of x.0.tree.value) (λ x. x.1.now) result }
 {
-    let comma = [Fixed::Sign(Sign::Comma)];
     let inside = room.below(1, 4, tokens.len())?;
     let rest = expect_all(rest, &[Fixed::Sign(Sign::Open)])?;
-    let (a, rest) = read_operand(alloc, rest, 0, inside)?;
-    let rest = expect_all(rest, &comma)?;
-    let (b, rest) = read_operand(alloc, rest, 0, room.under(a.nodes + 3))?;
-    let rest = expect_all(rest, &comma)?;
-    let (c, rest) = read_operand(alloc, rest, 0, room.under(a.nodes + b.nodes + 2))?;
-    let rest = expect_all(rest, &comma)?;
-    let (d, rest) = read_operand(alloc, rest, 0, room.under(a.nodes + b.nodes + c.nodes + 1))?;
-    let rest = expect_all(rest, &[Fixed::Sign(Sign::Close)])?;
+    let (a, rest) = read_ended(alloc, rest, Sign::Comma, inside)?;
+    let behind_a = room.under(a.nodes + 3);
+    let (b, rest) = read_ended(alloc, rest, Sign::Comma, behind_a)?;
+    let behind_b = room.under(a.nodes + b.nodes + 2);
+    let (c, rest) = read_ended(alloc, rest, Sign::Comma, behind_b)?;
+    let behind_c = room.under(a.nodes + b.nodes + c.nodes + 1);
+    let (d, rest) = read_ended(alloc, rest, Sign::Close, behind_c)?;
     let select = selected(alloc, a, b, c, d)?;
     Ok((select, rest))
 }
@@ -511,7 +521,7 @@ fn read_signed<'a>(
     requires place { HasPlace room }
     requires front { tokens.now ≡ Token.Sign sign ∷ rest.now }
     ensures measured { IfOk result (λ x. IsMeasured x.0) }
-    ensures reads { Reads (operand 5 room) tokens.now (λ x. tree_of x.0.tree) (λ x. x.1.now) result }
+    ensures reads { Reads (operand 5 room) tokens.now (λ x. tree_of x.0.tree.value) (λ x. x.1.now) result }
 {
     match sign {
         Sign::Minus => read_negative(alloc, tokens, rest, room),
@@ -531,7 +541,7 @@ fn read_negative<'a>(
     requires place { HasPlace room }
     requires front { tokens.now ≡ Token.Sign Sign.Minus ∷ rest.now }
     ensures measured { IfOk result (λ x. IsMeasured x.0) }
-    ensures reads { Reads (operand 5 room) tokens.now (λ x. tree_of x.0.tree) (λ x. x.1.now) result }
+    ensures reads { Reads (operand 5 room) tokens.now (λ x. tree_of x.0.tree.value) (λ x. x.1.now) result }
 {
     let inside = room.below(1, 1, tokens.len())?;
     let (inner, rest) = read_unary(alloc, rest, inside)?;
@@ -550,11 +560,10 @@ fn read_parens<'a>(
     requires place { HasPlace room }
     requires front { tokens.now ≡ Token.Sign Sign.Open ∷ rest.now }
     ensures measured { IfOk result (λ x. IsMeasured x.0) }
-    ensures reads { Reads (operand 5 room) tokens.now (λ x. tree_of x.0.tree) (λ x. x.1.now) result }
+    ensures reads { Reads (operand 5 room) tokens.now (λ x. tree_of x.0.tree.value) (λ x. x.1.now) result }
 {
     let inside = room.below(1, 0, tokens.len())?;
-    let (inner, rest) = read_operand(alloc, rest, 0, inside)?;
-    let rest = expect_all(rest, &[Fixed::Sign(Sign::Close)])?;
+    let (inner, rest) = read_ended(alloc, rest, Sign::Close, inside)?;
     let parens = enclosed(alloc, inner)?;
     Ok((parens, rest))
 }
@@ -571,30 +580,35 @@ fn read_named<'a>(
     requires place { HasPlace room }
     requires front { tokens.now ≡ Token.Name name.now ∷ rest.now }
     ensures measured { IfOk result (λ x. IsMeasured x.0) }
-    ensures reads { Reads (operand 5 room) tokens.now (λ x. tree_of x.0.tree) (λ x. x.1.now) result }
+    ensures reads { Reads (operand 5 room) tokens.now (λ x. tree_of x.0.tree.value) (λ x. x.1.now) result }
 {
     if !is_short(name) {
         return Err(Refusal::TooLong(tokens.len()));
     }
     let copy = name.clone()?;
     if let Some(after) = behind(rest, Fixed::Sign(Sign::Dot)) {
-        return read_field(copy, after, room);
+        return read_field(alloc, copy, after, room);
     }
     if let Some(after) = behind(rest, Fixed::Sign(Sign::OpenBracket)) {
         return read_access(alloc, copy, rest, after, room);
     }
-    Ok((leaf(SourceExpr::Name(copy)), rest))
+    leaf(alloc, SourceExpr::Name(copy), rest)
 }
 
 /// What comes behind the dot of a field.
-fn read_field(name: Text, rest: &[Token], room: Room) -> Result<(Measured, &[Token]), Refusal>
+fn read_field(
+    alloc: Global,
+    name: Text,
+    rest: &[Token],
+    room: Room,
+) -> Result<(Measured, &[Token]), Refusal>
     requires place { HasPlace room }
     requires short { IsShortName name }
     ensures measured { IfOk result (λ x. IsMeasured x.0) }
-    ensures reads { Reads (operand 5 room) (Token.Name name ∷ Token.Sign Sign.Dot ∷ rest.now) (λ x. tree_of x.0.tree) (λ x. x.1.now) result }
+    ensures reads { Reads (operand 5 room) (Token.Name name ∷ Token.Sign Sign.Dot ∷ rest.now) (λ x. tree_of x.0.tree.value) (λ x. x.1.now) result }
 {
     let (field, rest) = read_name(rest)?;
-    Ok((leaf(SourceExpr::Field(name, field)), rest))
+    leaf(alloc, SourceExpr::Field(name, field), rest)
 }
 
 /// What comes behind the name of a cell and its bracket.
@@ -610,12 +624,13 @@ fn read_access<'a>(
     requires short { IsShortName name }
     requires front { tokens.now ≡ Token.Sign Sign.OpenBracket ∷ rest.now }
     ensures measured { IfOk result (λ x. IsMeasured x.0) }
-    ensures reads { Reads (operand 5 room) (Token.Name name ∷ tokens.now) (λ x. tree_of x.0.tree) (λ x. x.1.now) result }
+    ensures reads { Reads (operand 5 room) (Token.Name name ∷ tokens.now) (λ x. tree_of x.0.tree.value) (λ x. x.1.now) result }
 {
     let inside = room.below(1, 0, tokens.len())?;
     let (indices, rest) = read_indices(alloc, rest, inside.depth)?;
     let rest = expect_all(rest, &[Fixed::Sign(Sign::CloseBracket)])?;
-    Ok((accessed(name, indices), rest))
+    let cell = accessed(alloc, name, indices)?;
+    Ok((cell, rest))
 }
 
 /// The indices before a bracket, at most so deep and at most 8.
@@ -637,14 +652,14 @@ pub fn read_indices(
     let (first, behind_first) = read_operand(alloc, tokens, 0, room)?;
     let mut deepest = first.depth;
     let mut rest = behind_first;
-    items.push(first.tree)?;
+    items.push(Box::into_inner(first.tree))?;
     'more: while let Some(after) = behind(rest, Fixed::Sign(Sign::Comma)) {
         if items.len() >= DIMENSIONS {
             return Err(Refusal::TooLong(rest.len()));
         }
         let (index, found) = read_operand(alloc, after, 0, room)?;
         deepest = deepest.max(index.depth);
-        items.push(index.tree)?;
+        items.push(Box::into_inner(index.tree))?;
         rest = found;
     }
     let indices = Indices {
@@ -655,8 +670,8 @@ pub fn read_indices(
 }
 
 /// An index, a bound, a dimension or a condition.
-pub fn read_control(alloc: Global, tokens: &[Token]) -> Result<(SourceExpr, &[Token]), Refusal>
-    ensures { Reads control tokens.now (λ x. tree_of x.0) (λ x. x.1.now) result }
+pub fn read_control(alloc: Global, tokens: &[Token]) -> Result<(Box<SourceExpr>, &[Token]), Refusal>
+    ensures { Reads control tokens.now (λ x. tree_of x.0.value) (λ x. x.1.now) result }
 {
     let room = Room {
         depth: DEPTH,
@@ -667,8 +682,8 @@ pub fn read_control(alloc: Global, tokens: &[Token]) -> Result<(SourceExpr, &[To
 }
 
 /// What is stored in a cell.
-pub fn read_data(alloc: Global, tokens: &[Token]) -> Result<(SourceExpr, &[Token]), Refusal>
-    ensures { Reads datum tokens.now (λ x. tree_of x.0) (λ x. x.1.now) result }
+pub fn read_data(alloc: Global, tokens: &[Token]) -> Result<(Box<SourceExpr>, &[Token]), Refusal>
+    ensures { Reads datum tokens.now (λ x. tree_of x.0.value) (λ x. x.1.now) result }
 {
     let room = Room {
         depth: DEPTH,

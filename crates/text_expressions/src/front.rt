@@ -1,4 +1,4 @@
-// Reading single tokens from the front of a list.
+//! Reading single tokens from the front of a list.
 
 ghost use Rattle.std.specs.Prelude.{◌≡◌, ◌∷◌, Some, IsTrue, ◌↔◌, MatchOption, MatchResult, List, length, map};
 ghost use Rattle.text_phrases.specs.Phrase.{first};
@@ -14,7 +14,7 @@ use text_lexer::token::{Decorator, Literal, Sign, Token, Word, next};
 use text_phrases::Refusal;
 
 /// A token that carries neither a name nor a number nor a string.
-#[derive(Clone, Copy, Debug, PartialEq, Eq)]
+#[derive(Clone, Copy)]
 pub enum Fixed {
     Word(Word),
     Sign(Sign),

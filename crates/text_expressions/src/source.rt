@@ -1,9 +1,9 @@
-// Source trees of expressions: a text as it is written, without names resolved.
+//! Source trees of expressions: a text as it is written, without names resolved.
 
 use text_lexer::text::Text;
 
 /// An operator between two expressions.
-#[derive(Clone, Copy, Debug, PartialEq, Eq)]
+#[derive(Clone, Copy)]
 pub enum Operator {
     /// `or`
     Or,

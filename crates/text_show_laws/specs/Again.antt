@@ -1,7 +1,8 @@
 -- A shown procedure, read and typed below items that hold what it names, is itself again, but for the ids of its binders. That its
 -- text is read as its source tree stands in Laws; this says what that tree stands for.
-use Rattle.std.specs.Prelude.{◌≡◌, ℕ, ◌==◌, Bool, true, false, ◌||◌, List, [], ◌∷◌, ◌++◌, map, Some, None, slice_get}
-use Rattle.exo_tree.specs.Tree.{Statement, Assign, Reduce, Config, Pass, If, For, Alloc, View, Call, Block, end, next, ParamKind, ControlParam, TensorParam, WindowParam, Param, Procedure, Program}
+use Rattle.std.specs.Prelude.{◌≡◌, ℕ, Bool, true, false, List, [], ◌∷◌, ◌++◌, map, Some, None, slice_get}
+pub use Rattle.exo_tree.specs.Calls.{calls, is_call_of}
+use Rattle.exo_tree.specs.Tree.{ParamKind, ControlParam, TensorParam, WindowParam, Param, Procedure, Program}
 use Rattle.exo_meaning.specs.Renaming.{Renaming, re_controls, re_condition, re_binder, re_block}
 use Rattle.exo_meaning.specs.Units.{IsUnit}
 use Rattle.exo_reader.specs.Source.{Item}
@@ -24,22 +25,6 @@ module _ (r : Renaming) where
   re_procedure p = record { name = p.name; params = map re_param p.params; asserts = map (re_condition r) p.asserts; body = re_block r p.body; template = p.template }
 
 -- ---- what is called
-
-abbrev mutual
-  pub calls : ℕ → Block → Bool
-  calls k end = false
-  calls k (next a b) = is_call_of k a || calls k b
-
-  pub is_call_of : ℕ → Statement → Bool
-  is_call_of k (Assign x is e) = false
-  is_call_of k (Reduce x is e) = false
-  is_call_of k (Config f a) = false
-  is_call_of k Pass = false
-  is_call_of k (If c a b) = calls k a || calls k b
-  is_call_of k (For i lo hi b) = calls k b
-  is_call_of k (Alloc x cell dims memory) = false
-  is_call_of k (View w x coords) = false
-  is_call_of k (Call callee args) = k == callee
 
 -- A program holds what a procedure of another one names: the same fields and memories, and under the same numbers the procedures that
 -- it calls and all that these stand on, since what they write is theirs to say. Each name that it calls is given to nothing else, and

@@ -10,7 +10,7 @@ use Rattle.exo_meaning.specs.Units.{IsUnit}
 use Rattle.affine_forms.specs.Affine.{HasNoIntegerPoint}
 use Rattle.affine_systems.specs.Outcomes.{Owed}
 use Rattle.bounds_check.specs.Obligations.{obligations_of}
-use Rattle.fault_laws.specs.Laws.{ShownProceduresDoNotFault, NothingFaults}
+use Rattle.unit_check.specs.Faults.{ShownProceduresDoNotFault, NothingFaults}
 use Rattle.unit_check.specs.Checked.{Cause, Checked, Shown, Refused, cause_of, checked_from, checked}
 use Rattle.unit_check.specs.Outcomes.{IsRefused, Answers}
 use Rattle.unit_check.specs.declared.refused.UnitRefused.{UnitRefused}

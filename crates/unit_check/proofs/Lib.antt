@@ -1,3 +1,5 @@
+pub mod Listed
+pub mod Shown
 pub mod Opening
 pub mod Listing
 pub mod Checking

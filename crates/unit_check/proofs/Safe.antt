@@ -19,7 +19,7 @@ use Rattle.check_claims.specs.Claim.{Placed}
 use Rattle.check_claims.specs.Claims.{claims_of}
 use Rattle.check_facts.specs.Contexts.{context_of}
 use Rattle.bounds_check.specs.Obligations.{Fault, claim_formula, owed_for_all, obligations_of, list_fault}
-use Rattle.fault_laws.specs.Laws.{ShownProceduresDoNotFault}
+use Rattle.unit_check.specs.Faults.{ShownProceduresDoNotFault}
 use Rattle.unit_check.specs.Checked.{Cause, NotShown, Shown, Refused, first_open, cause_from, cause_of, checked_from}
 use Rattle.unit_check.specs.Laws.{CheckedUnitsDoNotFault}
 use Rattle.unit_check.proofs.Checking.{Holds, nothing_faults}

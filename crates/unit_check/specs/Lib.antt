@@ -1,3 +1,4 @@
+pub mod Faults
 pub mod Checked
 pub mod Outcomes
 pub mod Preorder

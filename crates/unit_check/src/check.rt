@@ -15,7 +15,7 @@ ghost use Rattle.unit_check.specs.declared.refused.Why.TheVariants.{Memory};
 ghost use Rattle.bounds_check.specs.Outcomes.{IsRefusal};
 ghost use Rattle.unit_check.specs.Checked.{NotShown, NotListed, first_open, cause_of, checked, AllHold};
 ghost use Rattle.unit_check.specs.Outcomes.{IsChecked, Answers, IsOf};
-ghost use Rattle.fault_laws.specs.Laws.{NothingFaults};
+ghost use Rattle.unit_check.specs.Faults.{NothingFaults};
 
 use crate::refused::{UnitRefused, Why};
 use affine_prover::Verdict;
@@ -23,7 +23,7 @@ use affine_systems::Obligation;
 use bounds_check::{CheckError, obligations_with_writes};
 use config_state::{FieldTable, written_table};
 use exo_tree::{Path, ProcId, Text, Unit};
-use fault_laws::laws::shown_procedures_do_not_fault;
+use crate::laws::shown_procedures_do_not_fault;
 use ob_check::{Answer, Cache, Gate, discharge};
 use std::alloc::{AllocError, Global};
 use std::thread::Threads;

@@ -1,10 +1,22 @@
-//! The law of checked units, the contract of a function with nothing to do.
+//! What is shown never faults: laws, each the contract of a function with nothing to do.
+ghost use Rattle.unit_check.specs.Faults.{ShownProceduresDoNotFault};
 ghost use Rattle.unit_check.specs.Laws.{CheckedUnitsDoNotFault};
+
+/// In a well-formed unit no admissible input makes a procedure fault that is shown, with all that it calls: no system that one of
+/// them owes has an integer point.
+pub fn shown_procedures_do_not_fault()
+    ensures { ShownProceduresDoNotFault }
+{
+    check_claims_laws::laws::procedures_may_run();
+    check_claims_laws::laws::claims_are_formed();
+    check_claims_laws::laws::claims_suffice();
+    check_facts_laws::laws::shown_conditions_hold();
+}
 
 /// No admissible input makes any procedure of a well-formed unit fault where all that it owes is shown.
 pub fn checked_units_do_not_fault()
     ensures { CheckedUnitsDoNotFault }
 {
     affine_prover::laws::shown_systems_have_no_point();
-    fault_laws::laws::shown_procedures_do_not_fault();
+    shown_procedures_do_not_fault();
 }

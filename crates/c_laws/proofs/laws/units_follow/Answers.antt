@@ -1,5 +1,5 @@
-use Rattle.c_laws.proofs.Follows.{units_follow}
+use Rattle.c_laws.proofs.Units.{units_follow}
 use Rattle.c_laws.proofs.laws.units_follow.Goals as goal
 
 pub returns : goal.returns
-returns c = units_follow c.procedures_follow.ensures
+returns c = units_follow

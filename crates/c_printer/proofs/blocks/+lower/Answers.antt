@@ -6,7 +6,7 @@ use Rattle.exo_tree.specs.PlainStatement.{statement}
 use Rattle.exo_tree.specs.PlainUnit.{program}
 use Rattle.exo_meaning.specs.Scene.{updated}
 use Rattle.c_tree.specs.CTree.{Loop, cblock, followed_by}
-use Rattle.c_tree.specs.Lowered.{NumberForm, number_of, block_of}
+use Rattle.c_printer.specs.Lowered.{NumberForm, number_of, block_of}
 use Rattle.c_tree.specs.Plain.{plain_number, plain_statement}
 use Rattle.c_printer.specs.Scope.{forms_in}
 use Rattle.c_printer.specs.Naming.{naming_of}

@@ -3,7 +3,7 @@ use Rattle.std.proofs.Common.{◌≡◌, ◌+◌, ◌*◌, drop}
 use Rattle.exo_tree.specs.Tree.{block}
 use Rattle.exo_tree.specs.Nodes.{nodes, nodes_of}
 use Rattle.exo_tree.specs.PlainStatement.{statement}
-use Rattle.c_tree.specs.LoweredUnit.{in_block}
+use Rattle.c_printer.specs.LoweredUnit.{in_block}
 use Rattle.c_printer.proofs.fields.+used.Given as goal
 
 abbrev pub decreases-in_block : goal.decreases-in_block

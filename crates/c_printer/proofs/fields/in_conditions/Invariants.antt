@@ -1,7 +1,7 @@
 -- What is left decides.
 use Rattle.std.proofs.Common.{◌≡◌, drop, map}
 use Rattle.exo_tree.specs.PlainControl.{condition}
-use Rattle.c_tree.specs.LoweredUnit.{in_conditions}
+use Rattle.c_printer.specs.LoweredUnit.{in_conditions}
 use Rattle.c_printer.proofs.fields.in_conditions.Given as goal
 
 abbrev pub invariant-loop-c : goal.invariant-loop-c

@@ -1,8 +1,8 @@
 -- What is left decides.
 use Rattle.std.proofs.Common.{◌≡◌, drop, map}
 use Rattle.exo_tree.specs.PlainUnit.{program}
-use Rattle.c_tree.specs.PlainPrinted.{printing}
-use Rattle.c_tree.specs.LoweredUnit.{is_used}
+use Rattle.c_printer.specs.PlainPrinted.{printing}
+use Rattle.c_printer.specs.LoweredUnit.{is_used}
 use Rattle.c_printer.proofs.fields.is_used.Given as goal
 
 abbrev pub invariant-loop-w : goal.invariant-loop-w

@@ -2,8 +2,8 @@
 use Rattle.std.proofs.Common.{◌≡◌, ◌++◌, drop, map}
 use Rattle.exo_tree.specs.PlainTables.{config_field}
 use Rattle.exo_tree.specs.PlainUnit.{program}
-use Rattle.c_tree.specs.PlainPrinted.{printing}
-use Rattle.c_tree.specs.LoweredUnit.{is_used, fields_from}
+use Rattle.c_printer.specs.PlainPrinted.{printing}
+use Rattle.c_printer.specs.LoweredUnit.{is_used, fields_from}
 use Rattle.c_printer.proofs.fields.used_fields.Given as goal
 
 abbrev pub invariant-loop-k : goal.invariant-loop-k

@@ -1,6 +1,6 @@
 use Rattle.std.proofs.Common.{◌∙◌, map}
 use Rattle.exo_tree.specs.PlainControl.{control}
-use Rattle.c_tree.specs.Lowered.{numbers_of}
+use Rattle.c_printer.specs.Lowered.{numbers_of}
 use Rattle.c_printer.specs.Scope.{forms_in}
 use Rattle.c_printer.specs.Naming.{naming_of}
 use Rattle.c_printer.proofs.Offsets.{offset_is}

@@ -1,8 +1,8 @@
 -- The names so far, and what is left.
 use Rattle.std.proofs.Common.{◌≡◌, ◌++◌, drop, map}
 use Rattle.exo_tree.specs.PlainUnit.{program}
-use Rattle.c_tree.specs.PlainPrinted.{printing}
-use Rattle.c_tree.specs.LoweredUnit.{printed_names}
+use Rattle.c_printer.specs.PlainPrinted.{printing}
+use Rattle.c_printer.specs.LoweredUnit.{printed_names}
 use Rattle.c_printer.proofs.units.global_names.Given as goal
 
 abbrev pub invariant-loop-field : goal.invariant-loop-field

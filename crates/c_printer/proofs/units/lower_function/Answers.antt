@@ -4,10 +4,10 @@ use Rattle.exo_tree.specs.PlainProcedure.{procedure}
 use Rattle.exo_tree.specs.PlainUnit.{program}
 use Rattle.c_names.specs.Binders.{c_names}
 use Rattle.c_tree.specs.CTree.{cblock}
-use Rattle.c_tree.specs.Lowered.{block_of}
-use Rattle.c_tree.specs.LoweredUnit.{naming_in, formals_of}
+use Rattle.c_printer.specs.Lowered.{block_of}
+use Rattle.c_printer.specs.LoweredUnit.{naming_in, formals_of}
 use Rattle.c_tree.specs.Plain.{plain_param}
-use Rattle.c_tree.specs.SameInput.{param_forms}
+use Rattle.c_printer.specs.Lowered.{param_forms}
 use Rattle.c_printer.proofs.units.lower_function.Goals as goal
 
 pub returns : goal.returns

@@ -1,7 +1,7 @@
 -- What is made, and then the C of what is left, is the C of the whole.
 use Rattle.std.proofs.Common.{◌≡◌, ◌++◌, true, drop, map}
 use Rattle.exo_tree.specs.PlainParam.{parameter}
-use Rattle.c_tree.specs.LoweredUnit.{formals_of}
+use Rattle.c_printer.specs.LoweredUnit.{formals_of}
 use Rattle.c_tree.specs.Plain.{plain_param}
 use Rattle.c_printer.specs.Naming.{naming_of}
 use Rattle.c_printer.specs.SelfContained.{are_no_windows}

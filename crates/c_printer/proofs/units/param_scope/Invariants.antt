@@ -1,7 +1,7 @@
 -- The parameters from the last on.
 use Rattle.std.proofs.Common.{◌≡◌, ◌-◌, length, drop, map}
 use Rattle.exo_tree.specs.PlainParam.{parameter}
-use Rattle.c_tree.specs.SameInput.{param_forms}
+use Rattle.c_printer.specs.Lowered.{param_forms}
 use Rattle.c_printer.specs.Scope.{forms_in}
 use Rattle.c_printer.proofs.units.param_scope.Given as goal
 

@@ -1,7 +1,7 @@
 -- What the rest gives, or else what was found.
 use Rattle.std.proofs.Common.{◌≡◌, drop, map, option_map}
 use Rattle.exo_tree.specs.PlainUnit.{program}
-use Rattle.c_tree.specs.PlainPrinted.{printing}
+use Rattle.c_printer.specs.PlainPrinted.{printing}
 use Rattle.c_printer.specs.Refusals.{too_wide}
 use Rattle.c_printer.proofs.Widths.{or_found}
 use Rattle.c_printer.proofs.units.too_wide.Given as goal

@@ -3,7 +3,7 @@ use Rattle.std.proofs.Common.{◌≡◌, ◌≤◌, ◌+◌, true, drop, length}
 use Rattle.exo_tree.specs.Tree.{block}
 use Rattle.exo_tree.specs.PlainPlace.{branch_taken}
 use Rattle.exo_meaning.specs.Units.{levels}
-use Rattle.exo_places.specs.Rules.{block_keeps_rules}
+use Rattle.affine_places.specs.Rules.{block_keeps_rules}
 use Rattle.check_facts.specs.Values.{plain_value}
 use Rattle.check_facts.specs.Walks.{telling_of, value_at_end}
 use Rattle.check_facts.proofs.after.+after.Given as goal

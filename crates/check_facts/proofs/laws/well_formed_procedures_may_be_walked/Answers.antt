@@ -1,6 +1,6 @@
 use Rattle.std.proofs.Common.{nat_lt}
 use Rattle.exo_meaning.specs.Units.{levels}
-use Rattle.exo_places.specs.Rules.{procedure_keeps_rules}
+use Rattle.affine_places.specs.Rules.{procedure_keeps_rules}
 use Rattle.check_facts.proofs.Rooms.{both_hold}
 use Rattle.check_facts.proofs.laws.well_formed_procedures_may_be_walked.Goals as goal
 

@@ -1,7 +1,7 @@
 -- What is left decides.
 use Rattle.std.proofs.Common.{◌≡◌, drop, map}
 use Rattle.exo_tree.specs.PlainUnit.{program}
-use Rattle.c_tree.specs.PlainPrinted.{printing}
+use Rattle.c_printer.specs.PlainPrinted.{printing}
 use Rattle.exo_cli.specs.Built.{are_in_dram}
 use Rattle.exo_cli.proofs.built.are_in_dram.Given as goal
 

@@ -1,6 +1,6 @@
 use Rattle.std.proofs.Common.{map, ap, sym, ◌∙◌}
 use Rattle.exo_tree.specs.Plain.{program}
-use Rattle.c_tree.specs.PlainPrinted.{printing}
+use Rattle.c_printer.specs.PlainPrinted.{printing}
 use Rattle.exo_cli.specs.Compiled.{ended}
 use Rattle.schedule_run.specs.Versions.{started}
 use Rattle.schedule_run.specs.Lines.{run_lines}

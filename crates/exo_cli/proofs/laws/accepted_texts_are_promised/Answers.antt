@@ -2,4 +2,4 @@ use Rattle.exo_cli.proofs.Headline.{accepted_is_promised}
 use Rattle.exo_cli.proofs.laws.accepted_texts_are_promised.Goals as goal
 
 pub returns : goal.returns
-returns c = accepted_is_promised (record { safe = c.checked_units_do_not_fault.ensures; first = c.first_units_follow.ensures; all = c.units_follow.ensures })
+returns c = accepted_is_promised (record { safe = c.checked_units_do_not_fault.ensures; all = c.units_follow.ensures })

@@ -2,7 +2,8 @@ use Rattle.std.proofs.Common.{refl, ap, sym, ◌∙◌}
 use Rattle.exo_tree.specs.Tree.{Plus, Minus, Times, Select}
 use Rattle.exo_tree.specs.PlainDatum.{datum}
 use Rattle.exo_modes.specs.Marks.{together, reads}
-use Rattle.exo_modes.specs.Seen.{row_says, roots_in}
+use Rattle.exo_modes.specs.Aliases.{roots_in}
+use Rattle.exo_modes.specs.Seen.{row_says}
 use Rattle.exo_modes.proofs.Unions.{read_both, read_all}
 use Rattle.exo_modes.proofs.walk.+mark_reads.Goals as goal
 

@@ -3,7 +3,8 @@ use Rattle.std.proofs.lemmas.List.{length-map, drop-map}
 use Rattle.exo_tree.specs.PlainParam.{parameter}
 use Rattle.exo_tree.specs.PlainArgument.{argument}
 use Rattle.exo_modes.specs.Marks.{together, argument_marks}
-use Rattle.exo_modes.specs.Seen.{row_says, roots_in}
+use Rattle.exo_modes.specs.Aliases.{roots_in}
+use Rattle.exo_modes.specs.Seen.{row_says}
 use Rattle.exo_modes.proofs.Arguments.{drop_read, argued_on, argued_off}
 use Rattle.exo_modes.proofs.walk.mark_arguments.Goals as goal
 

@@ -19,4 +19,4 @@ pub returns-in_err-value : goal.returns-in_err-value
 returns-in_err-value c = exit _ _ _ _ _ _ c.from_residual-in_err-value.ensures.1 (cell_err _ _ _ _ _ _ _ c.in_ok-coords.ensures.reads c.in_ok-after.ensures (sym c.in_ok-coords.ensures.noted.spans ∙ c.if-coords.false) (cell_taken _ _ _ _ _ _ c.requires.place c.requires.depth c.requires.short c.in_ok-coords.ensures.reads c.in_ok-after.ensures (sym c.in_ok-coords.ensures.noted.spans ∙ c.if-coords.false) (omega (arith, c.in_ok-coords.ensures.noted.depth))) (c.in_err-value.ensures.reads _ (cell_made _ _ _ _ _ _ _ c.in_ok-cell.ensures.same c.requires.place c.requires.depth c.requires.short c.in_ok-coords.ensures.reads c.in_ok-after.ensures (sym c.in_ok-coords.ensures.noted.spans ∙ c.if-coords.false) (omega (arith, c.in_ok-coords.ensures.noted.depth)))))
 
 pub returns : goal.returns
-returns c = cell_value _ _ _ _ _ _ _ _ c.in_ok-coords.ensures.reads c.in_ok-after.ensures (sym c.in_ok-coords.ensures.noted.spans ∙ c.if-coords.false) (cell_taken _ _ _ _ _ _ c.requires.place c.requires.depth c.requires.short c.in_ok-coords.ensures.reads c.in_ok-after.ensures (sym c.in_ok-coords.ensures.noted.spans ∙ c.if-coords.false) (omega (arith, c.in_ok-coords.ensures.noted.depth))) (c.in_ok-value.ensures.reads _ (cell_made _ _ _ _ _ _ _ c.in_ok-cell.ensures.same c.requires.place c.requires.depth c.requires.short c.in_ok-coords.ensures.reads c.in_ok-after.ensures (sym c.in_ok-coords.ensures.noted.spans ∙ c.if-coords.false) (omega (arith, c.in_ok-coords.ensures.noted.depth))))
+returns c = rw c.into_inner.ensures (cell_value _ _ _ _ _ _ _ _ c.in_ok-coords.ensures.reads c.in_ok-after.ensures (sym c.in_ok-coords.ensures.noted.spans ∙ c.if-coords.false) (cell_taken _ _ _ _ _ _ c.requires.place c.requires.depth c.requires.short c.in_ok-coords.ensures.reads c.in_ok-after.ensures (sym c.in_ok-coords.ensures.noted.spans ∙ c.if-coords.false) (omega (arith, c.in_ok-coords.ensures.noted.depth))) (c.in_ok-value.ensures.reads _ (cell_made _ _ _ _ _ _ _ c.in_ok-cell.ensures.same c.requires.place c.requires.depth c.requires.short c.in_ok-coords.ensures.reads c.in_ok-after.ensures (sym c.in_ok-coords.ensures.noted.spans ∙ c.if-coords.false) (omega (arith, c.in_ok-coords.ensures.noted.depth)))))

@@ -32,7 +32,7 @@ more-preserved c = record {
   listed = rw (c.in_ok-push-2.ensures.items, plain_snoc c.more.items.items c.in_ok-next.next.coord) (listed_next _ _ _ _ _ _ _ _ _ coords_apart c.more.invariant.listed c.in-Some.ensures c.in_ok-next.ensures.reads);
   few = rw c.in_ok-push-2.ensures.items (omega (arith, length-append c.more.items.items (c.in_ok-next.next.coord ∷ [])));
   depth = rw (c.in_ok-push-2.ensures.items, plain_snoc c.more.items.items c.in_ok-next.next.coord) (omega (arith, c.more.invariant.depth, c.in_ok-next.ensures.noted.0, lowest_snoc (map plain_coordinate c.more.items.items) (plain_coordinate c.in_ok-next.next.coord)));
-  spans = rw (c.in_ok-push-2.ensures.items, plain_snoc c.more.items.items c.in_ok-next.next.coord) (c.either-spans.ensures ∙ ap (λ b. b || c.in_ok-next.next.spans) c.more.invariant.spans ∙ ap (λ b. has_span (map plain_coordinate c.more.items.items) || b) c.in_ok-next.ensures.noted.1 ∙ sym (span_snoc (map plain_coordinate c.more.items.items) (plain_coordinate c.in_ok-next.next.coord)));
+  spans = rw (c.in_ok-push-2.ensures.items, plain_snoc c.more.items.items c.in_ok-next.next.coord) (ap (λ b. b || c.in_ok-next.next.spans) c.more.invariant.spans ∙ ap (λ b. has_span (map plain_coordinate c.more.items.items) || b) c.in_ok-next.ensures.noted.1 ∙ sym (span_snoc (map plain_coordinate c.more.items.items) (plain_coordinate c.in_ok-next.next.coord)));
 }
 
 pub returns-clause-noted : goal.returns-clause-noted

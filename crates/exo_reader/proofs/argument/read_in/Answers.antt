@@ -10,4 +10,4 @@ pub returns-in_err-value : goal.returns-in_err-value
 returns-in_err-value c = exit _ _ _ _ _ _ c.from_residual-in_err-value.ensures.1 (value_err _ _ _ c.requires.place c.in_default.ensures c.in_err-value.ensures.reads)
 
 pub returns : goal.returns
-returns c = value_taken _ _ _ _ c.in_default.ensures c.in_ok-value.ensures.reads
+returns c = rw c.into_inner.ensures (value_taken _ _ _ _ c.in_default.ensures c.in_ok-value.ensures.reads)

@@ -15,7 +15,7 @@ pub more-init : goal.more-init
 more-init c = rw c.new-asserts.ensures.items (items_none _ _ _)
 
 pub more-preserved : goal.more-preserved
-more-preserved c = rw c.in_ok-push.ensures.items (many_next _ _ _ _ _ _ _ _ assertions_apart c.more.invariant (rw c.in-Some.ensures (step_taken _ _ _ _ _ _ _ (step_assertion _) c.in_ok-condition.ensures)))
+more-preserved c = rw (c.in_ok-push.ensures.items, c.into_inner.ensures) (many_next _ _ _ _ _ _ _ _ assertions_apart c.more.invariant (rw c.in-Some.ensures (step_taken _ _ _ _ _ _ _ (step_assertion _) c.in_ok-condition.ensures)))
 
 pub more-smaller : goal.more-smaller
 more-smaller c = omega (arith, ap length c.in-Some.ensures, taken_shorter c.in_ok-condition.ensures)

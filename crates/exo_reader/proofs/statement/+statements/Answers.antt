@@ -3,7 +3,7 @@ use Rattle.text_phrases.proofs.Exits.{exit}
 use Rattle.text_phrases.proofs.Sequences.{step_taken}
 use Rattle.text_phrases.proofs.Joints.{whole_err, now, later, both}
 use Rattle.exo_reader.proofs.Made.{made_branch, made_loop}
-use Rattle.exo_reader.proofs.Statements.{step_block, block1, step_else, optional_else, if1, if2, step_if, for1, for2, for3, for4, for5, step_for, if_deep, for_deep, apart, body1, statement_shorter}
+use Rattle.exo_reader.proofs.Statements.{step_block, block1, step_else, optional_else, if1, if2, step_if, for1, for2, for3, step_for, if_deep, for_deep, apart, body1, statement_shorter}
 use Rattle.exo_reader.proofs.Lists.{some_first, some_next, some_done, some_err_first, some_err}
 use Rattle.exo_reader.proofs.Optional.{something_err, something_taken, nothing_taken}
 use Rattle.exo_reader.proofs.statement.+statements.Goals as goal
@@ -21,7 +21,7 @@ pub read_if-returns-in_err-other : goal.read_if-returns-in_err-other
 read_if-returns-in_err-other t c = exit _ _ _ _ _ _ c.from_residual-in_err-other.ensures.1 (whole_err _ _ _ _ _ _ (step_if _ _ _ (omega arith) c.requires.front) (later (if1 _) c.in_ok-condition.ensures _ (later (if2 _) c.in_ok-inside.ensures _ c.in_err-other.ensures)))
 
 pub read_if-returns : goal.read_if-returns
-read_if-returns t c = rw (made_branch _ _ _) (step_taken _ _ _ _ _ _ _ (step_if _ _ _ (omega arith) c.requires.front) (both (if1 _) c.in_ok-condition.ensures (both (if2 _) c.in_ok-inside.ensures c.in_ok-other.ensures)))
+read_if-returns t c = rw (made_branch _ _ _, c.into_inner.ensures) (step_taken _ _ _ _ _ _ _ (step_if _ _ _ (omega arith) c.requires.front) (both (if1 _) c.in_ok-condition.ensures (both (if2 _) c.in_ok-inside.ensures c.in_ok-other.ensures)))
 
 pub read_else-returns-in_default : goal.read_else-returns-in_default
 read_else-returns-in_default t c = rw c.new.ensures.items (nothing_taken (optional_else _) _ c.in_default.ensures)
@@ -41,20 +41,14 @@ read_for-returns-in_err-name t c = exit _ _ _ _ _ _ c.from_residual.ensures.1 (w
 pub read_for-returns-in_err-low : goal.read_for-returns-in_err-low
 read_for-returns-in_err-low t c = exit _ _ _ _ _ _ c.from_residual-in_err-low.ensures.1 (whole_err _ _ _ _ _ _ (step_for _ _ _ (omega arith) c.requires.front) (later (for1 _) c.in_ok-name.ensures _ (now (for2 _) _ _ c.in_err-low.ensures)))
 
-pub read_for-returns-in_err-before_high : goal.read_for-returns-in_err-before_high
-read_for-returns-in_err-before_high t c = exit _ _ _ _ _ _ c.from_residual-in_err-before_high.ensures.1 (whole_err _ _ _ _ _ _ (step_for _ _ _ (omega arith) c.requires.front) (later (for1 _) c.in_ok-name.ensures _ (later (for2 _) c.in_ok-low.ensures _ (now (for3 _) _ _ c.in_err-before_high.ensures))))
-
 pub read_for-returns-in_err-high : goal.read_for-returns-in_err-high
-read_for-returns-in_err-high t c = exit _ _ _ _ _ _ c.from_residual-in_err-high.ensures.1 (whole_err _ _ _ _ _ _ (step_for _ _ _ (omega arith) c.requires.front) (later (for1 _) c.in_ok-name.ensures _ (later (for2 _) c.in_ok-low.ensures _ (later (for3 _) c.in_ok-before_high.ensures _ (now (for4 _) _ _ c.in_err-high.ensures)))))
-
-pub read_for-returns-in_err-before_block : goal.read_for-returns-in_err-before_block
-read_for-returns-in_err-before_block t c = exit _ _ _ _ _ _ c.from_residual-in_err-before_block.ensures.1 (whole_err _ _ _ _ _ _ (step_for _ _ _ (omega arith) c.requires.front) (later (for1 _) c.in_ok-name.ensures _ (later (for2 _) c.in_ok-low.ensures _ (later (for3 _) c.in_ok-before_high.ensures _ (later (for4 _) c.in_ok-high.ensures _ (now (for5 _) _ _ c.in_err-before_block.ensures))))))
+read_for-returns-in_err-high t c = exit _ _ _ _ _ _ c.from_residual-in_err-high.ensures.1 (whole_err _ _ _ _ _ _ (step_for _ _ _ (omega arith) c.requires.front) (later (for1 _) c.in_ok-name.ensures _ (later (for2 _) c.in_ok-low.ensures _ (now (for3 _) _ _ c.in_err-high.ensures))))
 
 pub read_for-returns-in_err-inside : goal.read_for-returns-in_err-inside
-read_for-returns-in_err-inside t c = exit _ _ _ _ _ _ c.from_residual-in_err-inside.ensures.1 (whole_err _ _ _ _ _ _ (step_for _ _ _ (omega arith) c.requires.front) (later (for1 _) c.in_ok-name.ensures _ (later (for2 _) c.in_ok-low.ensures _ (later (for3 _) c.in_ok-before_high.ensures _ (later (for4 _) c.in_ok-high.ensures _ (later (for5 _) c.in_ok-before_block.ensures _ c.in_err-inside.ensures))))))
+read_for-returns-in_err-inside t c = exit _ _ _ _ _ _ c.from_residual-in_err-inside.ensures.1 (whole_err _ _ _ _ _ _ (step_for _ _ _ (omega arith) c.requires.front) (later (for1 _) c.in_ok-name.ensures _ (later (for2 _) c.in_ok-low.ensures _ (later (for3 _) c.in_ok-high.ensures _ c.in_err-inside.ensures))))
 
 pub read_for-returns : goal.read_for-returns
-read_for-returns t c = rw (made_loop _ _ _ _) (step_taken _ _ _ _ _ _ _ (step_for _ _ _ (omega arith) c.requires.front) (both (for1 _) c.in_ok-name.ensures (both (for2 _) c.in_ok-low.ensures (both (for3 _) c.in_ok-before_high.ensures (both (for4 _) c.in_ok-high.ensures (both (for5 _) c.in_ok-before_block.ensures c.in_ok-inside.ensures))))))
+read_for-returns t c = rw (made_loop _ _ _ _, c.into_inner.ensures, c.into_inner-2.ensures) (step_taken _ _ _ _ _ _ _ (step_for _ _ _ (omega arith) c.requires.front) (both (for1 _) c.in_ok-name.ensures (both (for2 _) c.in_ok-low.ensures (both (for3 _) c.in_ok-high.ensures c.in_ok-inside.ensures))))
 
 pub read_block-returns-in_err-after : goal.read_block-returns-in_err-after
 read_block-returns-in_err-after t c = exit _ _ _ _ _ _ c.from_residual.ensures.1 (whole_err _ _ _ _ _ _ (step_block _ _) (now (block1 _) _ _ c.in_err-after.ensures))

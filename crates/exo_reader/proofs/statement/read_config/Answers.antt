@@ -12,4 +12,4 @@ pub returns-in_err-value : goal.returns-in_err-value
 returns-in_err-value c = λ nesting. exit _ _ _ _ _ _ c.from_residual-in_err-value.ensures.1 (whole_err _ _ _ _ _ _ (step_configuring nesting _ _ c.requires) (later config1 c.in_ok-field.ensures _ c.in_err-value.ensures))
 
 pub returns : goal.returns
-returns c = λ nesting. rw (made_configure _ _ _) (step_taken _ _ _ _ _ _ _ (step_configuring nesting _ _ c.requires) (both config1 c.in_ok-field.ensures c.in_ok-value.ensures))
+returns c = λ nesting. rw (made_configure _ _ _, c.into_inner.ensures) (step_taken _ _ _ _ _ _ _ (step_configuring nesting _ _ c.requires) (both config1 c.in_ok-field.ensures c.in_ok-value.ensures))

@@ -2,7 +2,7 @@ use Rattle.std.proofs.Common.{length, map, option_map, ap, sym, ◌∙◌, arith
 use Rattle.std.proofs.lemmas.List.{length-map}
 use Rattle.exo_reader.specs.Views.{plain_argument}
 use Rattle.rules_names.specs.Faults.{charged, least}
-use Rattle.exo_writes.specs.Written.{roots_in}
+use Rattle.exo_modes.specs.Aliases.{roots_in}
 use Rattle.exo_types.specs.Seen.{signature}
 use Rattle.exo_types.specs.ArgumentRules.{arguments_width, call_faults, arguments_of}
 use Rattle.exo_types.proofs.Broken.{exit, refuses_first, refuses_same, kept_none, kept_err}

@@ -2,13 +2,14 @@ use Rattle.std.proofs.Common.{[], ◌∷◌, arith, ap, refl, length, subst, ◌
 use Rattle.text_phrases.proofs.Exits.{exit}
 use Rattle.text_phrases.proofs.Phrases.{taken_shorter}
 use Rattle.text_phrases.proofs.Sequences.{step_taken}
+use Rattle.text_phrases.proofs.Commas.{listed_first}
 use Rattle.text_phrases.proofs.Joints.{whole_err, now, later, both, now_by, later_by, both_by}
 use Rattle.std.proofs.lemmas.List.{length-append}
 use Rattle.text_expressions.proofs.Chains.{taken_of_begun}
 use Rattle.text_expressions.proofs.Atoms.{wide_minus, wide_open, wide_relu, wide_select}
 use Rattle.text_expressions.proofs.Made.{made_truth, made_name}
-use Rattle.text_expressions.proofs.Productions.{step_negative, step_parens, close_joint, step_relu, open_joint, step_select, choice0, choice1, choice2, choice3, comma1, comma2, comma3}
-use Rattle.text_expressions.proofs.Returns.{renamed, roomed, roomed_err, fronted, fronted_err, true_ok, false_ok, variable_ok, long_err, full_front, full_cell, word_err, sign_err, start_err, end_err, full_err, first_err, begun_first, chain_err, chain_next, compare_none, compare_full, compare_err, compare_ok, all_err, left_of, deep_left, place_under, same_two, same_three, same_four, deep_indices, deep_inside, cell_err, bracket_err, cell_ok, indices_err_first, indices_full, indices_err, indices_next, deepest_next, indices_ok}
+use Rattle.text_expressions.proofs.Productions.{step_negative, step_parens, ended_joint, step_relu, open_joint, step_select, choice0, choice1, choice2, choice3}
+use Rattle.text_expressions.proofs.Returns.{renamed, roomed, roomed_err, fronted, fronted_err, true_ok, false_ok, variable_ok, long_err, full_front, full_cell, word_err, sign_err, start_err, end_err, full_err, first_err, begun_first, chain_err, chain_next, compare_none, compare_full, compare_err, compare_ok, all_err, left_of, deep_left, place_under, same_two, same_three, same_four, ended, ended_err, ended_left, ended_deep, deep_indices, deep_inside, cell_err, bracket_err, cell_ok, indices_err_first, indices_full, indices_err, indices_next, deepest_next, indices_ok}
 use Rattle.text_expressions.specs.Expression.{HasPlace}
 use Rattle.text_expressions.specs.Views.{tree_of}
 use Rattle.text_expressions.proofs.expression.+expressions.Goals as goal
@@ -90,16 +91,11 @@ read_parens-returns-in_err-inside-clause-reads t c =
 pub read_parens-returns-in_err-inner-clause-reads : goal.read_parens-returns-in_err-inner-clause-reads
 read_parens-returns-in_err-inner-clause-reads t c =
     exit _ _ _ _ _ _ c.from_residual-in_err-inner.ensures.1
-    (fronted_err _ _ _ _ c.requires.front (whole_err _ _ _ _ _ _ (step_parens _ _ c.in_ok-inside.ensures.1) (now (close_joint _) _ _ (roomed_err _ _ _ _ _ c.in_ok-inside.ensures.0 c.in_err-inner.ensures.reads))))
-
-pub read_parens-returns-in_err-rest-clause-reads : goal.read_parens-returns-in_err-rest-clause-reads
-read_parens-returns-in_err-rest-clause-reads t c =
-    exit _ _ _ _ _ _ c.from_residual-in_err-rest.ensures.1
-    (fronted_err _ _ _ _ c.requires.front (whole_err _ _ _ _ _ _ (step_parens _ _ c.in_ok-inside.ensures.1) (later (close_joint _) (roomed c.in_ok-inside.ensures.0 c.in_ok-inner.ensures.reads) _ c.in_err-rest.ensures)))
+    (fronted_err _ _ _ _ c.requires.front (whole_err _ _ _ _ _ _ (step_parens _ _ c.in_ok-inside.ensures.1) (ended_err _ _ _ _ _ c.in_ok-inside.ensures.0 c.in_err-inner.ensures.reads)))
 
 pub read_parens-returns-clause-reads : goal.read_parens-returns-clause-reads
 read_parens-returns-clause-reads t c =
-    fronted c.requires.front (renamed c.in_ok-parens.ensures.0 (step_taken _ _ _ _ _ _ _ (step_parens _ _ c.in_ok-inside.ensures.1) (both (close_joint _) (roomed c.in_ok-inside.ensures.0 c.in_ok-inner.ensures.reads) c.in_ok-rest.ensures)))
+    fronted c.requires.front (renamed c.in_ok-parens.ensures.0 (step_taken _ _ _ _ _ _ _ (step_parens _ _ c.in_ok-inside.ensures.1) (ended c.in_ok-inside.ensures.0 c.in_ok-inner.ensures.reads)))
 
 -- the function of one argument
 
@@ -117,18 +113,12 @@ pub read_relu-returns-in_err-inner-clause-reads : goal.read_relu-returns-in_err-
 read_relu-returns-in_err-inner-clause-reads t c =
     exit _ _ _ _ _ _ c.from_residual-in_err-inner.ensures.1
     (fronted_err _ _ _ _ c.requires.front (whole_err _ _ _ _ _ _ (step_relu _ _ c.in_ok-inside.ensures.1 c.in_ok-inside.ensures.2)
-    (later (open_joint _ (subst HasPlace c.in_ok-inside.ensures.0 c.in_ok-inside.ensures.3)) c.in_ok-rest.ensures _ (now (close_joint _) _ _ (roomed_err _ _ _ _ _ c.in_ok-inside.ensures.0 c.in_err-inner.ensures.reads)))))
-
-pub read_relu-returns-in_err-rest-2-clause-reads : goal.read_relu-returns-in_err-rest-2-clause-reads
-read_relu-returns-in_err-rest-2-clause-reads t c =
-    exit _ _ _ _ _ _ c.from_residual-in_err-rest-2.ensures.1
-    (fronted_err _ _ _ _ c.requires.front (whole_err _ _ _ _ _ _ (step_relu _ _ c.in_ok-inside.ensures.1 c.in_ok-inside.ensures.2)
-    (later (open_joint _ (subst HasPlace c.in_ok-inside.ensures.0 c.in_ok-inside.ensures.3)) c.in_ok-rest.ensures _ (later (close_joint _) (roomed c.in_ok-inside.ensures.0 c.in_ok-inner.ensures.reads) _ c.in_err-rest-2.ensures))))
+    (later (open_joint _ (subst HasPlace c.in_ok-inside.ensures.0 c.in_ok-inside.ensures.3)) c.in_ok-rest.ensures _ (ended_err _ _ _ _ _ c.in_ok-inside.ensures.0 c.in_err-inner.ensures.reads))))
 
 pub read_relu-returns-clause-reads : goal.read_relu-returns-clause-reads
 read_relu-returns-clause-reads t c =
     fronted c.requires.front (renamed c.in_ok-relu.ensures.0 (step_taken _ _ _ _ _ _ _ (step_relu _ _ c.in_ok-inside.ensures.1 c.in_ok-inside.ensures.2)
-    (both (open_joint _ (subst HasPlace c.in_ok-inside.ensures.0 c.in_ok-inside.ensures.3)) c.in_ok-rest.ensures (both (close_joint _) (roomed c.in_ok-inside.ensures.0 c.in_ok-inner.ensures.reads) c.in_ok-rest-2.ensures))))
+    (both (open_joint _ (subst HasPlace c.in_ok-inside.ensures.0 c.in_ok-inside.ensures.3)) c.in_ok-rest.ensures (ended c.in_ok-inside.ensures.0 c.in_ok-inner.ensures.reads))))
 
 -- names
 
@@ -183,15 +173,15 @@ read_negative-negated-requires-clause-few t c =
 
 pub read_parens-enclosed-requires-clause-shallow : goal.read_parens-enclosed-requires-clause-shallow
 read_parens-enclosed-requires-clause-shallow t c =
-    omega (arith, c.in_ok-inner.ensures.measured.depth, deep_left _ _ c.in_ok-inside.ensures.0 c.in_ok-inner.ensures.reads)
+    omega (arith, c.in_ok-inner.ensures.measured.depth, ended_deep _ _ c.in_ok-inside.ensures.0 c.in_ok-inner.ensures.reads)
 
 pub read_relu-rectified-requires-clause-shallow : goal.read_relu-rectified-requires-clause-shallow
 read_relu-rectified-requires-clause-shallow t c =
-    omega (arith, c.in_ok-inner.ensures.measured.depth, deep_left _ _ c.in_ok-inside.ensures.0 c.in_ok-inner.ensures.reads)
+    omega (arith, c.in_ok-inner.ensures.measured.depth, ended_deep _ _ c.in_ok-inside.ensures.0 c.in_ok-inner.ensures.reads)
 
 pub read_relu-rectified-requires-clause-few : goal.read_relu-rectified-requires-clause-few
 read_relu-rectified-requires-clause-few t c =
-    omega (arith, c.in_ok-inner.ensures.measured.nodes, left_of _ _ c.in_ok-inside.ensures.0 c.in_ok-inner.ensures.reads)
+    omega (arith, c.in_ok-inner.ensures.measured.nodes, ended_left _ _ c.in_ok-inside.ensures.0 c.in_ok-inner.ensures.reads)
 
 pub read_access-returns-in_err-indices-clause-reads : goal.read_access-returns-in_err-indices-clause-reads
 read_access-returns-in_err-indices-clause-reads t c =
@@ -207,11 +197,11 @@ read_access-accessed-requires-clause-shallow t c =
 
 pub read_access-returns-clause-reads : goal.read_access-returns-clause-reads
 read_access-returns-clause-reads t c =
-    renamed c.accessed.ensures.same (cell_ok _ _ _ _ _ _ _ _ c.requires.place c.requires.short c.in_ok-inside.ensures.1 c.in_ok-inside.ensures.0 c.requires.front c.in_ok-indices.ensures.reads c.in_ok-rest.ensures)
+    renamed c.in_ok-cell.ensures.same (cell_ok _ _ _ _ _ _ _ _ c.requires.place c.requires.short c.in_ok-inside.ensures.1 c.in_ok-inside.ensures.0 c.requires.front c.in_ok-indices.ensures.reads c.in_ok-rest.ensures)
 
 pub read_named-returns-clause-reads : goal.read_named-returns-clause-reads
 read_named-returns-clause-reads t c =
-    variable_ok _ _ _ _ _ _ c.requires.place c.requires.front c.in_ok-copy.ensures (c.if-not-is_short.ensures.0 refl) c.in_default.ensures c.in_default-behind.ensures (c.leaf.ensures.same ∙ made_name _)
+    c.leaf.ensures.reads _ _ (variable_ok _ _ _ _ _ _ c.requires.place c.requires.front c.in_ok-copy.ensures (c.if-not-is_short.ensures.0 refl) c.in_default.ensures c.in_default-behind.ensures (made_name _))
 
 pub read_indices-returns-in_err-first-clause-reads : goal.read_indices-returns-in_err-first-clause-reads
 read_indices-returns-in_err-first-clause-reads t c =
@@ -225,13 +215,22 @@ pub read_indices-returns-in_err-index-clause-reads : goal.read_indices-returns-i
 read_indices-returns-in_err-index-clause-reads t c =
     exit _ _ _ _ _ _ c.from_residual-in_err-index.ensures.1 (indices_err _ _ _ _ _ _ c.more.invariant.read c.in-Some.ensures (omega (arith, c.len.ensures)) c.in_err-index.ensures.reads)
 
+pub read_indices-more-init : goal.read_indices-more-init
+read_indices-more-init t c =
+    record {
+      shorter = omega (arith, taken_shorter c.in_ok-first.ensures.reads);
+      few = rw (c.in_ok-push.ensures.items, c.new-items.ensures.items) (omega arith);
+      deepest = rw (c.in_ok-push.ensures.items, c.new-items.ensures.items, c.into_inner.ensures) (omega (arith, c.in_ok-first.ensures.measured.depth));
+      read = rw (c.in_ok-push.ensures.items, c.new-items.ensures.items, c.into_inner.ensures) (listed_first _ _ _ _ _ _ c.in_ok-first.ensures.reads);
+    }
+
 pub read_indices-more-preserved : goal.read_indices-more-preserved
 read_indices-more-preserved t c =
     record {
       shorter = omega (arith, c.more.invariant.shorter, taken_shorter c.in_ok-index.ensures.reads, ap length c.in-Some.ensures);
-      few = omega (arith, ap length c.in_ok-push-2.ensures.items, length-append c.more.items.items (c.in_ok-index.index.tree ∷ []), c.len.ensures);
-      deepest = rw c.in_ok-push-2.ensures.items (c.max-deepest.ensures ∙ deepest_next _ _ _ _ c.more.invariant.deepest c.in_ok-index.ensures.measured.depth);
-      read = rw c.in_ok-push-2.ensures.items (indices_next _ _ _ _ _ _ _ c.more.invariant.read c.in-Some.ensures c.in_ok-index.ensures.reads);
+      few = omega (arith, ap length c.in_ok-push-2.ensures.items, length-append c.more.items.items (c.into_inner-in-Some.result ∷ []), c.len.ensures);
+      deepest = rw (c.in_ok-push-2.ensures.items, c.into_inner-in-Some.ensures) (c.max-deepest.ensures ∙ deepest_next _ _ _ _ c.more.invariant.deepest c.in_ok-index.ensures.measured.depth);
+      read = rw (c.in_ok-push-2.ensures.items, c.into_inner-in-Some.ensures) (indices_next _ _ _ _ _ _ _ c.more.invariant.read c.in-Some.ensures c.in_ok-index.ensures.reads);
     }
 
 pub read_indices-returns-clause-reads : goal.read_indices-returns-clause-reads
@@ -250,102 +249,87 @@ read_select-returns-in_err-rest-clause-reads t c =
 pub read_select-returns-in_err-a-clause-reads : goal.read_select-returns-in_err-a-clause-reads
 read_select-returns-in_err-a-clause-reads t c =
     exit _ _ _ _ _ _ c.from_residual-in_err-a.ensures.1
-    (fronted_err _ _ _ _ c.requires.front (whole_err _ _ _ _ _ _ (step_select _ _ c.in_ok-inside.ensures.1) (later (choice0 c.args.room (subst HasPlace c.in_ok-inside.ensures.0 c.in_ok-inside.ensures.3)) c.in_ok-rest.ensures _ (now_by (choice1 c.args.room) c.in_ok-rest.rest.now _ (roomed_err 0 _ _ _ _ c.in_ok-inside.ensures.0 c.in_err-a.ensures.reads)))))
-
-pub read_select-returns-in_err-rest-2-clause-reads : goal.read_select-returns-in_err-rest-2-clause-reads
-read_select-returns-in_err-rest-2-clause-reads t c =
-    exit _ _ _ _ _ _ c.from_residual-in_err-rest-2.ensures.1
-    (fronted_err _ _ _ _ c.requires.front (whole_err _ _ _ _ _ _ (step_select _ _ c.in_ok-inside.ensures.1) (later (choice0 c.args.room (subst HasPlace c.in_ok-inside.ensures.0 c.in_ok-inside.ensures.3)) c.in_ok-rest.ensures _ (later_by (choice1 c.args.room) (roomed c.in_ok-inside.ensures.0 c.in_ok-a.ensures.reads) _ (now (comma1 c.args.room (tree_of c.in_ok-a.a.tree) (roomed c.in_ok-inside.ensures.0 c.in_ok-a.ensures.reads).fits) _ _ c.in_err-rest-2.ensures)))))
+    (fronted_err _ _ _ _ c.requires.front (whole_err _ _ _ _ _ _ (step_select _ _ c.in_ok-inside.ensures.1)
+    (later (choice0 c.args.room (subst HasPlace c.in_ok-inside.ensures.0 c.in_ok-inside.ensures.3)) c.in_ok-rest.ensures _ (now_by (choice1 c.args.room) c.in_ok-rest.rest.now _ (ended_err _ _ _ _ _ c.in_ok-inside.ensures.0 c.in_err-a.ensures.reads)))))
 
 pub read_select-returns-in_err-b-clause-reads : goal.read_select-returns-in_err-b-clause-reads
 read_select-returns-in_err-b-clause-reads t c =
     exit _ _ _ _ _ _ c.from_residual-in_err-b.ensures.1
-    (fronted_err _ _ _ _ c.requires.front (whole_err _ _ _ _ _ _ (step_select _ _ c.in_ok-inside.ensures.1) (later (choice0 c.args.room (subst HasPlace c.in_ok-inside.ensures.0 c.in_ok-inside.ensures.3)) c.in_ok-rest.ensures _ (later_by (choice1 c.args.room) (roomed c.in_ok-inside.ensures.0 c.in_ok-a.ensures.reads) _ (later (comma1 c.args.room (tree_of c.in_ok-a.a.tree) (roomed c.in_ok-inside.ensures.0 c.in_ok-a.ensures.reads).fits) c.in_ok-rest-2.ensures _ (now_by (choice2 c.args.room (tree_of c.in_ok-a.a.tree)) c.in_ok-rest-2.rest.now _ (roomed_err 0 _ _ _ _ (c.under.ensures ∙ same_two c.args.room _ (tree_of c.in_ok-a.a.tree) c.in_ok-a.ensures.measured.nodes) c.in_err-b.ensures.reads)))))))
-
-pub read_select-returns-in_err-rest-3-clause-reads : goal.read_select-returns-in_err-rest-3-clause-reads
-read_select-returns-in_err-rest-3-clause-reads t c =
-    exit _ _ _ _ _ _ c.from_residual-in_err-rest-3.ensures.1
-    (fronted_err _ _ _ _ c.requires.front (whole_err _ _ _ _ _ _ (step_select _ _ c.in_ok-inside.ensures.1) (later (choice0 c.args.room (subst HasPlace c.in_ok-inside.ensures.0 c.in_ok-inside.ensures.3)) c.in_ok-rest.ensures _ (later_by (choice1 c.args.room) (roomed c.in_ok-inside.ensures.0 c.in_ok-a.ensures.reads) _ (later (comma1 c.args.room (tree_of c.in_ok-a.a.tree) (roomed c.in_ok-inside.ensures.0 c.in_ok-a.ensures.reads).fits) c.in_ok-rest-2.ensures _ (later_by (choice2 c.args.room (tree_of c.in_ok-a.a.tree)) (roomed (c.under.ensures ∙ same_two c.args.room _ (tree_of c.in_ok-a.a.tree) c.in_ok-a.ensures.measured.nodes) c.in_ok-b.ensures.reads) _ (now (comma2 c.args.room (tree_of c.in_ok-a.a.tree) (tree_of c.in_ok-b.b.tree) (roomed (c.under.ensures ∙ same_two c.args.room _ (tree_of c.in_ok-a.a.tree) c.in_ok-a.ensures.measured.nodes) c.in_ok-b.ensures.reads).fits) _ _ c.in_err-rest-3.ensures)))))))
+    (fronted_err _ _ _ _ c.requires.front (whole_err _ _ _ _ _ _ (step_select _ _ c.in_ok-inside.ensures.1)
+    (later (choice0 c.args.room (subst HasPlace c.in_ok-inside.ensures.0 c.in_ok-inside.ensures.3)) c.in_ok-rest.ensures _ (later_by (choice1 c.args.room) (ended c.in_ok-inside.ensures.0 c.in_ok-a.ensures.reads) _ (now_by (choice2 c.args.room (tree_of c.in_ok-a.a.tree.value)) c.in_ok-a.rest.now _ (ended_err _ _ _ _ _ (c.under-behind_a.ensures ∙ same_two c.args.room _ (tree_of c.in_ok-a.a.tree.value) c.in_ok-a.ensures.measured.nodes) c.in_err-b.ensures.reads))))))
 
 pub read_select-returns-in_err-c-clause-reads : goal.read_select-returns-in_err-c-clause-reads
 read_select-returns-in_err-c-clause-reads t c =
     exit _ _ _ _ _ _ c.from_residual-in_err-c.ensures.1
-    (fronted_err _ _ _ _ c.requires.front (whole_err _ _ _ _ _ _ (step_select _ _ c.in_ok-inside.ensures.1) (later (choice0 c.args.room (subst HasPlace c.in_ok-inside.ensures.0 c.in_ok-inside.ensures.3)) c.in_ok-rest.ensures _ (later_by (choice1 c.args.room) (roomed c.in_ok-inside.ensures.0 c.in_ok-a.ensures.reads) _ (later (comma1 c.args.room (tree_of c.in_ok-a.a.tree) (roomed c.in_ok-inside.ensures.0 c.in_ok-a.ensures.reads).fits) c.in_ok-rest-2.ensures _ (later_by (choice2 c.args.room (tree_of c.in_ok-a.a.tree)) (roomed (c.under.ensures ∙ same_two c.args.room _ (tree_of c.in_ok-a.a.tree) c.in_ok-a.ensures.measured.nodes) c.in_ok-b.ensures.reads) _ (later (comma2 c.args.room (tree_of c.in_ok-a.a.tree) (tree_of c.in_ok-b.b.tree) (roomed (c.under.ensures ∙ same_two c.args.room _ (tree_of c.in_ok-a.a.tree) c.in_ok-a.ensures.measured.nodes) c.in_ok-b.ensures.reads).fits) c.in_ok-rest-3.ensures _ (now_by (choice3 c.args.room (tree_of c.in_ok-a.a.tree) (tree_of c.in_ok-b.b.tree)) c.in_ok-rest-3.rest.now _ (roomed_err 0 _ _ _ _ (c.under-2.ensures ∙ same_three c.args.room _ _ (tree_of c.in_ok-a.a.tree) (tree_of c.in_ok-b.b.tree) c.in_ok-a.ensures.measured.nodes c.in_ok-b.ensures.measured.nodes) c.in_err-c.ensures.reads)))))))))
-
-pub read_select-returns-in_err-rest-4-clause-reads : goal.read_select-returns-in_err-rest-4-clause-reads
-read_select-returns-in_err-rest-4-clause-reads t c =
-    exit _ _ _ _ _ _ c.from_residual-in_err-rest-4.ensures.1
-    (fronted_err _ _ _ _ c.requires.front (whole_err _ _ _ _ _ _ (step_select _ _ c.in_ok-inside.ensures.1) (later (choice0 c.args.room (subst HasPlace c.in_ok-inside.ensures.0 c.in_ok-inside.ensures.3)) c.in_ok-rest.ensures _ (later_by (choice1 c.args.room) (roomed c.in_ok-inside.ensures.0 c.in_ok-a.ensures.reads) _ (later (comma1 c.args.room (tree_of c.in_ok-a.a.tree) (roomed c.in_ok-inside.ensures.0 c.in_ok-a.ensures.reads).fits) c.in_ok-rest-2.ensures _ (later_by (choice2 c.args.room (tree_of c.in_ok-a.a.tree)) (roomed (c.under.ensures ∙ same_two c.args.room _ (tree_of c.in_ok-a.a.tree) c.in_ok-a.ensures.measured.nodes) c.in_ok-b.ensures.reads) _ (later (comma2 c.args.room (tree_of c.in_ok-a.a.tree) (tree_of c.in_ok-b.b.tree) (roomed (c.under.ensures ∙ same_two c.args.room _ (tree_of c.in_ok-a.a.tree) c.in_ok-a.ensures.measured.nodes) c.in_ok-b.ensures.reads).fits) c.in_ok-rest-3.ensures _ (later_by (choice3 c.args.room (tree_of c.in_ok-a.a.tree) (tree_of c.in_ok-b.b.tree)) (roomed (c.under-2.ensures ∙ same_three c.args.room _ _ (tree_of c.in_ok-a.a.tree) (tree_of c.in_ok-b.b.tree) c.in_ok-a.ensures.measured.nodes c.in_ok-b.ensures.measured.nodes) c.in_ok-c.ensures.reads) _ (now (comma3 c.args.room (tree_of c.in_ok-a.a.tree) (tree_of c.in_ok-b.b.tree) (tree_of c.in_ok-c.c.tree) (roomed (c.under-2.ensures ∙ same_three c.args.room _ _ (tree_of c.in_ok-a.a.tree) (tree_of c.in_ok-b.b.tree) c.in_ok-a.ensures.measured.nodes c.in_ok-b.ensures.measured.nodes) c.in_ok-c.ensures.reads).fits) _ _ c.in_err-rest-4.ensures)))))))))
+    (fronted_err _ _ _ _ c.requires.front (whole_err _ _ _ _ _ _ (step_select _ _ c.in_ok-inside.ensures.1)
+    (later (choice0 c.args.room (subst HasPlace c.in_ok-inside.ensures.0 c.in_ok-inside.ensures.3)) c.in_ok-rest.ensures _ (later_by (choice1 c.args.room) (ended c.in_ok-inside.ensures.0 c.in_ok-a.ensures.reads) _ (later_by (choice2 c.args.room (tree_of c.in_ok-a.a.tree.value)) (ended (c.under-behind_a.ensures ∙ same_two c.args.room _ (tree_of c.in_ok-a.a.tree.value) c.in_ok-a.ensures.measured.nodes) c.in_ok-b.ensures.reads) _ (now_by (choice3 c.args.room (tree_of c.in_ok-a.a.tree.value) (tree_of c.in_ok-b.b.tree.value)) c.in_ok-b.rest.now _ (ended_err _ _ _ _ _ (c.under-behind_b.ensures ∙ same_three c.args.room _ _ (tree_of c.in_ok-a.a.tree.value) (tree_of c.in_ok-b.b.tree.value) c.in_ok-a.ensures.measured.nodes c.in_ok-b.ensures.measured.nodes) c.in_err-c.ensures.reads)))))))
 
 pub read_select-returns-in_err-d-clause-reads : goal.read_select-returns-in_err-d-clause-reads
 read_select-returns-in_err-d-clause-reads t c =
     exit _ _ _ _ _ _ c.from_residual-in_err-d.ensures.1
-    (fronted_err _ _ _ _ c.requires.front (whole_err _ _ _ _ _ _ (step_select _ _ c.in_ok-inside.ensures.1) (later (choice0 c.args.room (subst HasPlace c.in_ok-inside.ensures.0 c.in_ok-inside.ensures.3)) c.in_ok-rest.ensures _ (later_by (choice1 c.args.room) (roomed c.in_ok-inside.ensures.0 c.in_ok-a.ensures.reads) _ (later (comma1 c.args.room (tree_of c.in_ok-a.a.tree) (roomed c.in_ok-inside.ensures.0 c.in_ok-a.ensures.reads).fits) c.in_ok-rest-2.ensures _ (later_by (choice2 c.args.room (tree_of c.in_ok-a.a.tree)) (roomed (c.under.ensures ∙ same_two c.args.room _ (tree_of c.in_ok-a.a.tree) c.in_ok-a.ensures.measured.nodes) c.in_ok-b.ensures.reads) _ (later (comma2 c.args.room (tree_of c.in_ok-a.a.tree) (tree_of c.in_ok-b.b.tree) (roomed (c.under.ensures ∙ same_two c.args.room _ (tree_of c.in_ok-a.a.tree) c.in_ok-a.ensures.measured.nodes) c.in_ok-b.ensures.reads).fits) c.in_ok-rest-3.ensures _ (later_by (choice3 c.args.room (tree_of c.in_ok-a.a.tree) (tree_of c.in_ok-b.b.tree)) (roomed (c.under-2.ensures ∙ same_three c.args.room _ _ (tree_of c.in_ok-a.a.tree) (tree_of c.in_ok-b.b.tree) c.in_ok-a.ensures.measured.nodes c.in_ok-b.ensures.measured.nodes) c.in_ok-c.ensures.reads) _ (later (comma3 c.args.room (tree_of c.in_ok-a.a.tree) (tree_of c.in_ok-b.b.tree) (tree_of c.in_ok-c.c.tree) (roomed (c.under-2.ensures ∙ same_three c.args.room _ _ (tree_of c.in_ok-a.a.tree) (tree_of c.in_ok-b.b.tree) c.in_ok-a.ensures.measured.nodes c.in_ok-b.ensures.measured.nodes) c.in_ok-c.ensures.reads).fits) c.in_ok-rest-4.ensures _ (now (close_joint _) c.in_ok-rest-4.rest.now _ (roomed_err 0 _ _ _ _ (c.under-3.ensures ∙ same_four c.args.room _ _ _ (tree_of c.in_ok-a.a.tree) (tree_of c.in_ok-b.b.tree) (tree_of c.in_ok-c.c.tree) c.in_ok-a.ensures.measured.nodes c.in_ok-b.ensures.measured.nodes c.in_ok-c.ensures.measured.nodes) c.in_err-d.ensures.reads)))))))))))
-
-pub read_select-returns-in_err-rest-5-clause-reads : goal.read_select-returns-in_err-rest-5-clause-reads
-read_select-returns-in_err-rest-5-clause-reads t c =
-    exit _ _ _ _ _ _ c.from_residual-in_err-rest-5.ensures.1
-    (fronted_err _ _ _ _ c.requires.front (whole_err _ _ _ _ _ _ (step_select _ _ c.in_ok-inside.ensures.1) (later (choice0 c.args.room (subst HasPlace c.in_ok-inside.ensures.0 c.in_ok-inside.ensures.3)) c.in_ok-rest.ensures _ (later_by (choice1 c.args.room) (roomed c.in_ok-inside.ensures.0 c.in_ok-a.ensures.reads) _ (later (comma1 c.args.room (tree_of c.in_ok-a.a.tree) (roomed c.in_ok-inside.ensures.0 c.in_ok-a.ensures.reads).fits) c.in_ok-rest-2.ensures _ (later_by (choice2 c.args.room (tree_of c.in_ok-a.a.tree)) (roomed (c.under.ensures ∙ same_two c.args.room _ (tree_of c.in_ok-a.a.tree) c.in_ok-a.ensures.measured.nodes) c.in_ok-b.ensures.reads) _ (later (comma2 c.args.room (tree_of c.in_ok-a.a.tree) (tree_of c.in_ok-b.b.tree) (roomed (c.under.ensures ∙ same_two c.args.room _ (tree_of c.in_ok-a.a.tree) c.in_ok-a.ensures.measured.nodes) c.in_ok-b.ensures.reads).fits) c.in_ok-rest-3.ensures _ (later_by (choice3 c.args.room (tree_of c.in_ok-a.a.tree) (tree_of c.in_ok-b.b.tree)) (roomed (c.under-2.ensures ∙ same_three c.args.room _ _ (tree_of c.in_ok-a.a.tree) (tree_of c.in_ok-b.b.tree) c.in_ok-a.ensures.measured.nodes c.in_ok-b.ensures.measured.nodes) c.in_ok-c.ensures.reads) _ (later (comma3 c.args.room (tree_of c.in_ok-a.a.tree) (tree_of c.in_ok-b.b.tree) (tree_of c.in_ok-c.c.tree) (roomed (c.under-2.ensures ∙ same_three c.args.room _ _ (tree_of c.in_ok-a.a.tree) (tree_of c.in_ok-b.b.tree) c.in_ok-a.ensures.measured.nodes c.in_ok-b.ensures.measured.nodes) c.in_ok-c.ensures.reads).fits) c.in_ok-rest-4.ensures _ (later (close_joint _) (roomed (c.under-3.ensures ∙ same_four c.args.room _ _ _ (tree_of c.in_ok-a.a.tree) (tree_of c.in_ok-b.b.tree) (tree_of c.in_ok-c.c.tree) c.in_ok-a.ensures.measured.nodes c.in_ok-b.ensures.measured.nodes c.in_ok-c.ensures.measured.nodes) c.in_ok-d.ensures.reads) _ (c.in_err-rest-5.ensures)))))))))))
+    (fronted_err _ _ _ _ c.requires.front (whole_err _ _ _ _ _ _ (step_select _ _ c.in_ok-inside.ensures.1)
+    (later (choice0 c.args.room (subst HasPlace c.in_ok-inside.ensures.0 c.in_ok-inside.ensures.3)) c.in_ok-rest.ensures _ (later_by (choice1 c.args.room) (ended c.in_ok-inside.ensures.0 c.in_ok-a.ensures.reads) _ (later_by (choice2 c.args.room (tree_of c.in_ok-a.a.tree.value)) (ended (c.under-behind_a.ensures ∙ same_two c.args.room _ (tree_of c.in_ok-a.a.tree.value) c.in_ok-a.ensures.measured.nodes) c.in_ok-b.ensures.reads) _ (later_by (choice3 c.args.room (tree_of c.in_ok-a.a.tree.value) (tree_of c.in_ok-b.b.tree.value)) (ended (c.under-behind_b.ensures ∙ same_three c.args.room _ _ (tree_of c.in_ok-a.a.tree.value) (tree_of c.in_ok-b.b.tree.value) c.in_ok-a.ensures.measured.nodes c.in_ok-b.ensures.measured.nodes) c.in_ok-c.ensures.reads) _ (ended_err _ _ _ _ _ (c.under-behind_c.ensures ∙ same_four c.args.room _ _ _ (tree_of c.in_ok-a.a.tree.value) (tree_of c.in_ok-b.b.tree.value) (tree_of c.in_ok-c.c.tree.value) c.in_ok-a.ensures.measured.nodes c.in_ok-b.ensures.measured.nodes c.in_ok-c.ensures.measured.nodes) c.in_err-d.ensures.reads)))))))
 
 pub read_select-returns-clause-reads : goal.read_select-returns-clause-reads
 read_select-returns-clause-reads t c =
-    fronted c.requires.front (renamed c.in_ok-select.ensures.0 (step_taken _ _ _ _ _ _ _ (step_select _ _ c.in_ok-inside.ensures.1) (both (choice0 c.args.room (subst HasPlace c.in_ok-inside.ensures.0 c.in_ok-inside.ensures.3)) c.in_ok-rest.ensures (both_by (choice1 c.args.room) (roomed c.in_ok-inside.ensures.0 c.in_ok-a.ensures.reads) (both (comma1 c.args.room (tree_of c.in_ok-a.a.tree) (roomed c.in_ok-inside.ensures.0 c.in_ok-a.ensures.reads).fits) c.in_ok-rest-2.ensures (both_by (choice2 c.args.room (tree_of c.in_ok-a.a.tree)) (roomed (c.under.ensures ∙ same_two c.args.room _ (tree_of c.in_ok-a.a.tree) c.in_ok-a.ensures.measured.nodes) c.in_ok-b.ensures.reads) (both (comma2 c.args.room (tree_of c.in_ok-a.a.tree) (tree_of c.in_ok-b.b.tree) (roomed (c.under.ensures ∙ same_two c.args.room _ (tree_of c.in_ok-a.a.tree) c.in_ok-a.ensures.measured.nodes) c.in_ok-b.ensures.reads).fits) c.in_ok-rest-3.ensures (both_by (choice3 c.args.room (tree_of c.in_ok-a.a.tree) (tree_of c.in_ok-b.b.tree)) (roomed (c.under-2.ensures ∙ same_three c.args.room _ _ (tree_of c.in_ok-a.a.tree) (tree_of c.in_ok-b.b.tree) c.in_ok-a.ensures.measured.nodes c.in_ok-b.ensures.measured.nodes) c.in_ok-c.ensures.reads) (both (comma3 c.args.room (tree_of c.in_ok-a.a.tree) (tree_of c.in_ok-b.b.tree) (tree_of c.in_ok-c.c.tree) (roomed (c.under-2.ensures ∙ same_three c.args.room _ _ (tree_of c.in_ok-a.a.tree) (tree_of c.in_ok-b.b.tree) c.in_ok-a.ensures.measured.nodes c.in_ok-b.ensures.measured.nodes) c.in_ok-c.ensures.reads).fits) c.in_ok-rest-4.ensures (both (close_joint _) (roomed (c.under-3.ensures ∙ same_four c.args.room _ _ _ (tree_of c.in_ok-a.a.tree) (tree_of c.in_ok-b.b.tree) (tree_of c.in_ok-c.c.tree) c.in_ok-a.ensures.measured.nodes c.in_ok-b.ensures.measured.nodes c.in_ok-c.ensures.measured.nodes) c.in_ok-d.ensures.reads) c.in_ok-rest-5.ensures))))))))))
+    fronted c.requires.front (renamed c.in_ok-select.ensures.0 (step_taken _ _ _ _ _ _ _ (step_select _ _ c.in_ok-inside.ensures.1)
+    (both (choice0 c.args.room (subst HasPlace c.in_ok-inside.ensures.0 c.in_ok-inside.ensures.3)) c.in_ok-rest.ensures (both_by (choice1 c.args.room) (ended c.in_ok-inside.ensures.0 c.in_ok-a.ensures.reads) (both_by (choice2 c.args.room (tree_of c.in_ok-a.a.tree.value)) (ended (c.under-behind_a.ensures ∙ same_two c.args.room _ (tree_of c.in_ok-a.a.tree.value) c.in_ok-a.ensures.measured.nodes) c.in_ok-b.ensures.reads) (both_by (choice3 c.args.room (tree_of c.in_ok-a.a.tree.value) (tree_of c.in_ok-b.b.tree.value)) (ended (c.under-behind_b.ensures ∙ same_three c.args.room _ _ (tree_of c.in_ok-a.a.tree.value) (tree_of c.in_ok-b.b.tree.value) c.in_ok-a.ensures.measured.nodes c.in_ok-b.ensures.measured.nodes) c.in_ok-c.ensures.reads) (ended (c.under-behind_c.ensures ∙ same_four c.args.room _ _ _ (tree_of c.in_ok-a.a.tree.value) (tree_of c.in_ok-b.b.tree.value) (tree_of c.in_ok-c.c.tree.value) c.in_ok-a.ensures.measured.nodes c.in_ok-b.ensures.measured.nodes c.in_ok-c.ensures.measured.nodes) c.in_ok-d.ensures.reads)))))))
 
 pub read_select-overflow_add-a : goal.read_select-overflow_add-a
 read_select-overflow_add-a t c =
-    omega (arith, c.in_ok-a.ensures.measured.nodes, left_of _ _ c.in_ok-inside.ensures.0 c.in_ok-a.ensures.reads)
+    omega (arith, c.in_ok-a.ensures.measured.nodes, ended_left _ _ c.in_ok-inside.ensures.0 c.in_ok-a.ensures.reads)
 
 pub read_select-overflow_add-a-2 : goal.read_select-overflow_add-a-2
 read_select-overflow_add-a-2 t c =
-    omega (arith, c.in_ok-a.ensures.measured.nodes, left_of _ _ c.in_ok-inside.ensures.0 c.in_ok-a.ensures.reads, c.in_ok-b.ensures.measured.nodes, left_of _ _ c.under.ensures c.in_ok-b.ensures.reads)
+    omega (arith, c.in_ok-a.ensures.measured.nodes, ended_left _ _ c.in_ok-inside.ensures.0 c.in_ok-a.ensures.reads, c.in_ok-b.ensures.measured.nodes, ended_left _ _ c.under-behind_a.ensures c.in_ok-b.ensures.reads)
 
 pub read_select-overflow_add-a-3 : goal.read_select-overflow_add-a-3
 read_select-overflow_add-a-3 t c =
-    omega (arith, c.in_ok-a.ensures.measured.nodes, left_of _ _ c.in_ok-inside.ensures.0 c.in_ok-a.ensures.reads, c.in_ok-b.ensures.measured.nodes, left_of _ _ c.under.ensures c.in_ok-b.ensures.reads)
+    omega (arith, c.in_ok-a.ensures.measured.nodes, ended_left _ _ c.in_ok-inside.ensures.0 c.in_ok-a.ensures.reads, c.in_ok-b.ensures.measured.nodes, ended_left _ _ c.under-behind_a.ensures c.in_ok-b.ensures.reads)
 
 pub read_select-overflow_add-a-4 : goal.read_select-overflow_add-a-4
 read_select-overflow_add-a-4 t c =
-    omega (arith, c.in_ok-a.ensures.measured.nodes, left_of _ _ c.in_ok-inside.ensures.0 c.in_ok-a.ensures.reads, c.in_ok-b.ensures.measured.nodes, left_of _ _ c.under.ensures c.in_ok-b.ensures.reads, c.in_ok-c.ensures.measured.nodes, left_of _ _ c.under-2.ensures c.in_ok-c.ensures.reads)
+    omega (arith, c.in_ok-a.ensures.measured.nodes, ended_left _ _ c.in_ok-inside.ensures.0 c.in_ok-a.ensures.reads, c.in_ok-b.ensures.measured.nodes, ended_left _ _ c.under-behind_a.ensures c.in_ok-b.ensures.reads, c.in_ok-c.ensures.measured.nodes, ended_left _ _ c.under-behind_b.ensures c.in_ok-c.ensures.reads)
 
 pub read_select-overflow_add-a-5 : goal.read_select-overflow_add-a-5
 read_select-overflow_add-a-5 t c =
-    omega (arith, c.in_ok-a.ensures.measured.nodes, left_of _ _ c.in_ok-inside.ensures.0 c.in_ok-a.ensures.reads, c.in_ok-b.ensures.measured.nodes, left_of _ _ c.under.ensures c.in_ok-b.ensures.reads, c.in_ok-c.ensures.measured.nodes, left_of _ _ c.under-2.ensures c.in_ok-c.ensures.reads)
+    omega (arith, c.in_ok-a.ensures.measured.nodes, ended_left _ _ c.in_ok-inside.ensures.0 c.in_ok-a.ensures.reads, c.in_ok-b.ensures.measured.nodes, ended_left _ _ c.under-behind_a.ensures c.in_ok-b.ensures.reads, c.in_ok-c.ensures.measured.nodes, ended_left _ _ c.under-behind_b.ensures c.in_ok-c.ensures.reads)
 
 pub read_select-overflow_add-a-6 : goal.read_select-overflow_add-a-6
 read_select-overflow_add-a-6 t c =
-    omega (arith, c.in_ok-a.ensures.measured.nodes, left_of _ _ c.in_ok-inside.ensures.0 c.in_ok-a.ensures.reads, c.in_ok-b.ensures.measured.nodes, left_of _ _ c.under.ensures c.in_ok-b.ensures.reads, c.in_ok-c.ensures.measured.nodes, left_of _ _ c.under-2.ensures c.in_ok-c.ensures.reads)
+    omega (arith, c.in_ok-a.ensures.measured.nodes, ended_left _ _ c.in_ok-inside.ensures.0 c.in_ok-a.ensures.reads, c.in_ok-b.ensures.measured.nodes, ended_left _ _ c.under-behind_a.ensures c.in_ok-b.ensures.reads, c.in_ok-c.ensures.measured.nodes, ended_left _ _ c.under-behind_b.ensures c.in_ok-c.ensures.reads)
 
-pub read_select-under-requires-clause-long : goal.read_select-under-requires-clause-long
-read_select-under-requires-clause-long t c =
-    omega (arith, c.in_ok-a.ensures.measured.nodes, left_of _ _ c.in_ok-inside.ensures.0 c.in_ok-a.ensures.reads)
+pub read_select-under-behind_a-requires-clause-long : goal.read_select-under-behind_a-requires-clause-long
+read_select-under-behind_a-requires-clause-long t c =
+    omega (arith, c.in_ok-a.ensures.measured.nodes, ended_left _ _ c.in_ok-inside.ensures.0 c.in_ok-a.ensures.reads)
 
-pub read_select-under-requires-2-clause-long : goal.read_select-under-requires-2-clause-long
-read_select-under-requires-2-clause-long t c =
-    omega (arith, c.in_ok-a.ensures.measured.nodes, left_of _ _ c.in_ok-inside.ensures.0 c.in_ok-a.ensures.reads, c.in_ok-b.ensures.measured.nodes, left_of _ _ c.under.ensures c.in_ok-b.ensures.reads)
+pub read_select-under-behind_b-requires-clause-long : goal.read_select-under-behind_b-requires-clause-long
+read_select-under-behind_b-requires-clause-long t c =
+    omega (arith, c.in_ok-a.ensures.measured.nodes, ended_left _ _ c.in_ok-inside.ensures.0 c.in_ok-a.ensures.reads, c.in_ok-b.ensures.measured.nodes, ended_left _ _ c.under-behind_a.ensures c.in_ok-b.ensures.reads)
 
-pub read_select-under-requires-3-clause-long : goal.read_select-under-requires-3-clause-long
-read_select-under-requires-3-clause-long t c =
-    omega (arith, c.in_ok-a.ensures.measured.nodes, left_of _ _ c.in_ok-inside.ensures.0 c.in_ok-a.ensures.reads, c.in_ok-b.ensures.measured.nodes, left_of _ _ c.under.ensures c.in_ok-b.ensures.reads, c.in_ok-c.ensures.measured.nodes, left_of _ _ c.under-2.ensures c.in_ok-c.ensures.reads)
+pub read_select-under-behind_c-requires-clause-long : goal.read_select-under-behind_c-requires-clause-long
+read_select-under-behind_c-requires-clause-long t c =
+    omega (arith, c.in_ok-a.ensures.measured.nodes, ended_left _ _ c.in_ok-inside.ensures.0 c.in_ok-a.ensures.reads, c.in_ok-b.ensures.measured.nodes, ended_left _ _ c.under-behind_a.ensures c.in_ok-b.ensures.reads, c.in_ok-c.ensures.measured.nodes, ended_left _ _ c.under-behind_b.ensures c.in_ok-c.ensures.reads)
 
-pub read_select-read_operand-requires-2 : goal.read_select-read_operand-requires-2
-read_select-read_operand-requires-2 t c =
-    (omega (arith, taken_shorter c.in_ok-rest.ensures, taken_shorter c.in_ok-a.ensures.reads, taken_shorter c.in_ok-rest-2.ensures), (omega arith, place_under _ _ _ c.under.ensures c.in_ok-inside.ensures.1 (omega (arith, c.in_ok-a.ensures.measured.nodes, left_of _ _ c.in_ok-inside.ensures.0 c.in_ok-a.ensures.reads))))
+pub read_select-read_ended-requires-2 : goal.read_select-read_ended-requires-2
+read_select-read_ended-requires-2 t c =
+    (omega (arith, taken_shorter c.in_ok-rest.ensures, taken_shorter c.in_ok-a.ensures.reads), (tt, place_under _ _ _ c.under-behind_a.ensures c.in_ok-inside.ensures.1 (omega (arith, c.in_ok-a.ensures.measured.nodes, ended_left _ _ c.in_ok-inside.ensures.0 c.in_ok-a.ensures.reads))))
 
-pub read_select-read_operand-requires-3 : goal.read_select-read_operand-requires-3
-read_select-read_operand-requires-3 t c =
-    (omega (arith, taken_shorter c.in_ok-rest.ensures, taken_shorter c.in_ok-a.ensures.reads, taken_shorter c.in_ok-rest-2.ensures, taken_shorter c.in_ok-b.ensures.reads, taken_shorter c.in_ok-rest-3.ensures), (omega arith, place_under _ _ _ c.under-2.ensures c.in_ok-inside.ensures.1 (omega (arith, c.in_ok-a.ensures.measured.nodes, left_of _ _ c.in_ok-inside.ensures.0 c.in_ok-a.ensures.reads, c.in_ok-b.ensures.measured.nodes, left_of _ _ c.under.ensures c.in_ok-b.ensures.reads))))
+pub read_select-read_ended-requires-3 : goal.read_select-read_ended-requires-3
+read_select-read_ended-requires-3 t c =
+    (omega (arith, taken_shorter c.in_ok-rest.ensures, taken_shorter c.in_ok-a.ensures.reads, taken_shorter c.in_ok-b.ensures.reads), (tt, place_under _ _ _ c.under-behind_b.ensures c.in_ok-inside.ensures.1 (omega (arith, c.in_ok-a.ensures.measured.nodes, ended_left _ _ c.in_ok-inside.ensures.0 c.in_ok-a.ensures.reads, c.in_ok-b.ensures.measured.nodes, ended_left _ _ c.under-behind_a.ensures c.in_ok-b.ensures.reads))))
 
-pub read_select-read_operand-requires-4 : goal.read_select-read_operand-requires-4
-read_select-read_operand-requires-4 t c =
-    (omega (arith, taken_shorter c.in_ok-rest.ensures, taken_shorter c.in_ok-a.ensures.reads, taken_shorter c.in_ok-rest-2.ensures, taken_shorter c.in_ok-b.ensures.reads, taken_shorter c.in_ok-rest-3.ensures, taken_shorter c.in_ok-c.ensures.reads, taken_shorter c.in_ok-rest-4.ensures), (omega arith, place_under _ _ _ c.under-3.ensures c.in_ok-inside.ensures.1 (omega (arith, c.in_ok-a.ensures.measured.nodes, left_of _ _ c.in_ok-inside.ensures.0 c.in_ok-a.ensures.reads, c.in_ok-b.ensures.measured.nodes, left_of _ _ c.under.ensures c.in_ok-b.ensures.reads, c.in_ok-c.ensures.measured.nodes, left_of _ _ c.under-2.ensures c.in_ok-c.ensures.reads))))
+pub read_select-read_ended-requires-4 : goal.read_select-read_ended-requires-4
+read_select-read_ended-requires-4 t c =
+    (omega (arith, taken_shorter c.in_ok-rest.ensures, taken_shorter c.in_ok-a.ensures.reads, taken_shorter c.in_ok-b.ensures.reads, taken_shorter c.in_ok-c.ensures.reads), (tt, place_under _ _ _ c.under-behind_c.ensures c.in_ok-inside.ensures.1 (omega (arith, c.in_ok-a.ensures.measured.nodes, ended_left _ _ c.in_ok-inside.ensures.0 c.in_ok-a.ensures.reads, c.in_ok-b.ensures.measured.nodes, ended_left _ _ c.under-behind_a.ensures c.in_ok-b.ensures.reads, c.in_ok-c.ensures.measured.nodes, ended_left _ _ c.under-behind_b.ensures c.in_ok-c.ensures.reads))))
 
 pub read_select-selected-requires-clause-shallow : goal.read_select-selected-requires-clause-shallow
 read_select-selected-requires-clause-shallow t c =
-    (omega (arith, c.in_ok-a.ensures.measured.depth, deep_left _ _ c.in_ok-inside.ensures.0 c.in_ok-a.ensures.reads), omega (arith, c.in_ok-b.ensures.measured.depth, deep_left _ _ c.under.ensures c.in_ok-b.ensures.reads), omega (arith, c.in_ok-c.ensures.measured.depth, deep_left _ _ c.under-2.ensures c.in_ok-c.ensures.reads), omega (arith, c.in_ok-d.ensures.measured.depth, deep_left _ _ c.under-3.ensures c.in_ok-d.ensures.reads))
+    (omega (arith, c.in_ok-a.ensures.measured.depth, ended_deep _ _ c.in_ok-inside.ensures.0 c.in_ok-a.ensures.reads), omega (arith, c.in_ok-b.ensures.measured.depth, ended_deep _ _ c.under-behind_a.ensures c.in_ok-b.ensures.reads), omega (arith, c.in_ok-c.ensures.measured.depth, ended_deep _ _ c.under-behind_b.ensures c.in_ok-c.ensures.reads), omega (arith, c.in_ok-d.ensures.measured.depth, ended_deep _ _ c.under-behind_c.ensures c.in_ok-d.ensures.reads))
 
 pub read_select-selected-requires-clause-few : goal.read_select-selected-requires-clause-few
 read_select-selected-requires-clause-few t c =
-    omega (arith, c.in_ok-a.ensures.measured.nodes, left_of _ _ c.in_ok-inside.ensures.0 c.in_ok-a.ensures.reads, c.in_ok-b.ensures.measured.nodes, left_of _ _ c.under.ensures c.in_ok-b.ensures.reads, c.in_ok-c.ensures.measured.nodes, left_of _ _ c.under-2.ensures c.in_ok-c.ensures.reads, c.in_ok-d.ensures.measured.nodes, left_of _ _ c.under-3.ensures c.in_ok-d.ensures.reads)
+    omega (arith, c.in_ok-a.ensures.measured.nodes, ended_left _ _ c.in_ok-inside.ensures.0 c.in_ok-a.ensures.reads, c.in_ok-b.ensures.measured.nodes, ended_left _ _ c.under-behind_a.ensures c.in_ok-b.ensures.reads, c.in_ok-c.ensures.measured.nodes, ended_left _ _ c.under-behind_b.ensures c.in_ok-c.ensures.reads, c.in_ok-d.ensures.measured.nodes, ended_left _ _ c.under-behind_c.ensures c.in_ok-d.ensures.reads)
 
 pub read_signed-returns-in_default : goal.read_signed-returns-in_default
 read_signed-returns-in_default t c =
@@ -353,12 +337,24 @@ read_signed-returns-in_default t c =
 
 pub read_word-returns-in-True-clause-reads : goal.read_word-returns-in-True-clause-reads
 read_word-returns-in-True-clause-reads t c =
-    true_ok _ _ _ _ _ c.requires.place c.requires.front c.in-True.is (c.leaf.ensures.same ∙ made_truth _)
+    c.leaf.ensures.reads _ _ (true_ok _ _ _ _ _ c.requires.place c.requires.front c.in-True.is (made_truth _))
 
 pub read_word-returns-in-False-clause-reads : goal.read_word-returns-in-False-clause-reads
 read_word-returns-in-False-clause-reads t c =
-    false_ok _ _ _ _ _ c.requires.place c.requires.front c.in-False.is (c.leaf-in-False.ensures.same ∙ made_truth _)
+    c.leaf-in-False.ensures.reads _ _ (false_ok _ _ _ _ _ c.requires.place c.requires.front c.in-False.is (made_truth _))
 
 pub read_word-returns-in_default : goal.read_word-returns-in_default
 read_word-returns-in_default t c =
     record { measured = tt; reads = word_err _ _ _ _ c.requires.place c.requires.front c.in_default.not-True c.in_default.not-False c.in_default.not-Stride c.in_default.not-Relu c.in_default.not-Select }
+
+pub read_ended-returns-in_err-inner-clause-reads : goal.read_ended-returns-in_err-inner-clause-reads
+read_ended-returns-in_err-inner-clause-reads t c =
+    exit _ _ _ _ _ _ c.from_residual.ensures.1 (now (ended_joint _ _ c.requires.ends) _ _ c.in_err-inner.ensures.reads)
+
+pub read_ended-returns-in_err-rest-clause-reads : goal.read_ended-returns-in_err-rest-clause-reads
+read_ended-returns-in_err-rest-clause-reads t c =
+    exit _ _ _ _ _ _ c.from_residual-in_err-rest.ensures.1 (later (ended_joint _ _ c.requires.ends) c.in_ok-inner.ensures.reads _ c.in_err-rest.ensures)
+
+pub read_ended-returns-clause-reads : goal.read_ended-returns-clause-reads
+read_ended-returns-clause-reads t c =
+    both (ended_joint _ _ c.requires.ends) c.in_ok-inner.ensures.reads c.in_ok-rest.ensures

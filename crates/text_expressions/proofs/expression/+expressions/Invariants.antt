@@ -38,6 +38,9 @@ decreases-read_comparison l = 16 * length l.rest.now + 1
 abbrev pub decreases-read_operand : goal.decreases-read_operand
 decreases-read_operand l = 16 * length l.tokens.now + 10
 
+abbrev pub decreases-read_ended : goal.decreases-read_ended
+decreases-read_ended l = 16 * length l.tokens.now + 11
+
 abbrev pub decreases-read_unary : goal.decreases-read_unary
 decreases-read_unary l = 16 * length l.tokens.now + 4
 
@@ -54,7 +57,7 @@ abbrev pub invariant-read_chain-loop-operator : goal.invariant-read_chain-loop-o
 invariant-read_chain-loop-operator l = record {
   shorter : length l.rest ≤ length l.fn.tail;
   measured : IsMeasured l.left;
-  begun : (tokens : List Token) → Begun l.level l.room tokens (tree_of l.fn.leftmost.tree) l.fn.tail → Begun l.level l.room tokens (tree_of l.left.tree) l.rest;
+  begun : (tokens : List Token) → Begun l.level l.room tokens (tree_of l.fn.leftmost.tree.value) l.fn.tail → Begun l.level l.room tokens (tree_of l.left.tree.value) l.rest;
 }
 
 abbrev pub decreases-read_chain-loop-operator : goal.decreases-read_chain-loop-operator

@@ -1,4 +1,3 @@
-use Rattle.std.proofs.Common.{◌∙◌}
 use Rattle.text_phrases.proofs.Exits.{exit}
 use Rattle.text_phrases.proofs.Sequences.{step_taken}
 use Rattle.text_phrases.proofs.Joints.{whole_err}
@@ -11,4 +10,4 @@ pub returns-in_err-field-clause-reads : goal.returns-in_err-field-clause-reads
 returns-in_err-field-clause-reads c = exit _ _ _ _ _ _ c.from_residual.ensures.1 (whole_err _ _ _ _ _ _ (step_field _ _ _ c.requires.place c.requires.short) c.in_err-field.ensures)
 
 pub returns-clause-reads : goal.returns-clause-reads
-returns-clause-reads c = renamed (c.leaf.ensures.same ∙ made_field _ _) (step_taken _ _ _ _ _ _ _ (step_field _ _ _ c.requires.place c.requires.short) c.in_ok-field.ensures)
+returns-clause-reads c = c.leaf.ensures.reads _ _ (renamed (made_field _ _) (step_taken _ _ _ _ _ _ _ (step_field _ _ _ c.requires.place c.requires.short) c.in_ok-field.ensures))

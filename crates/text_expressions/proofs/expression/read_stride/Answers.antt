@@ -1,4 +1,3 @@
-use Rattle.std.proofs.Common.{◌∙◌}
 use Rattle.text_phrases.proofs.Exits.{exit}
 use Rattle.text_phrases.proofs.Sequences.{step_taken}
 use Rattle.text_phrases.proofs.Joints.{whole_err, now, later, both}
@@ -23,4 +22,4 @@ pub returns-in_err-rest-3-clause-reads : goal.returns-in_err-rest-3-clause-reads
 returns-in_err-rest-3-clause-reads c = exit _ _ _ _ _ _ c.from_residual-in_err-rest-3.ensures.1 (whole_err _ _ _ _ _ _ (step_stride _ _ c.requires.place) (later stride0 c.in_ok-rest.ensures _ (later stride1 c.in_ok-name.ensures _ (later stride2 c.in_ok-rest-2.ensures _ (later stride3 c.in_ok-dimension.ensures _ c.in_err-rest-3.ensures)))))
 
 pub returns-clause-reads : goal.returns-clause-reads
-returns-clause-reads c = renamed (c.leaf.ensures.same ∙ made_stride _ _) (step_taken _ _ _ _ _ _ _ (step_stride _ _ c.requires.place) (both stride0 c.in_ok-rest.ensures (both stride1 c.in_ok-name.ensures (both stride2 c.in_ok-rest-2.ensures (both stride3 c.in_ok-dimension.ensures c.in_ok-rest-3.ensures)))))
+returns-clause-reads c = c.leaf.ensures.reads _ _ (renamed (made_stride _ _) (step_taken _ _ _ _ _ _ _ (step_stride _ _ c.requires.place) (both stride0 c.in_ok-rest.ensures (both stride1 c.in_ok-name.ensures (both stride2 c.in_ok-rest-2.ensures (both stride3 c.in_ok-dimension.ensures c.in_ok-rest-3.ensures))))))

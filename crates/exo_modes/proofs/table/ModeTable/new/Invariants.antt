@@ -1,7 +1,7 @@
 -- The modes of the procedures so far.
 use Rattle.std.proofs.Common.{◌≡◌, [], take, length}
 use Rattle.exo_meaning.specs.Run.{kinds_of}
-use Rattle.meaning_laws.specs.Touched.{all_modes}
+use Rattle.exo_meaning.specs.Modes.{all_modes}
 use Rattle.exo_modes.specs.Seen.{rows_say}
 use Rattle.exo_modes.proofs.table.ModeTable.new.Given as goal
 

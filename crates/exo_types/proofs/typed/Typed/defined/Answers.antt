@@ -1,5 +1,5 @@
 use Rattle.std.proofs.Common.{ap, refl}
-use Rattle.exo_writes.specs.Written.{rows_say}
+use Rattle.exo_modes.specs.Seen.{rows_write}
 use Rattle.exo_types.specs.Walks.{signatures_by}
 use Rattle.exo_reader.specs.Views.{plain_definition}
 use Rattle.exo_types.proofs.Added.{here}
@@ -20,4 +20,4 @@ definition_of-requires c =
 pub returns : goal.returns
 returns c = λ above s.
     here c.args.self.now above c.requires.agrees s _ c.args.places.now c.args.template c.args.n (plain_definition c.args.definition.now) _ c.definition_of.ensures
-    (record { all_places = refl; fields = refl; memories = refl; procedures = refl; signatures = ap (λ r. signatures_by c.args.self.now.unit.procs (rows_say r)) c.deref.ensures.value })
+    (record { all_places = refl; fields = refl; memories = refl; procedures = refl; signatures = ap (λ r. signatures_by c.args.self.now.unit.procs (rows_write r)) c.deref.ensures.value })

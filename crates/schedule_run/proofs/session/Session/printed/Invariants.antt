@@ -1,5 +1,5 @@
 use Rattle.std.proofs.Common.{◌≡◌, map, take}
-use Rattle.c_tree.specs.PlainPrinted.{printing}
+use Rattle.c_printer.specs.PlainPrinted.{printing}
 use Rattle.schedule_run.specs.Versions.{printing_of}
 use Rattle.schedule_run.specs.Sessions.{versions}
 use Rattle.schedule_run.proofs.session.Session.printed.Given as goal

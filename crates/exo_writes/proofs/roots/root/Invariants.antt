@@ -1,7 +1,0 @@
--- The aliases that are left decide.
-use Rattle.std.proofs.Common.{◌≡◌, drop}
-use Rattle.exo_writes.specs.Written.{root_among, roots_in}
-use Rattle.exo_writes.proofs.roots.root.Given as goal
-
-abbrev pub invariant-loop-alias : goal.invariant-loop-alias
-invariant-loop-alias l = root_among (drop l.alias-index l.aliases) l.name l.root ≡ roots_in l.aliases l.name

@@ -1,4 +1,0 @@
-//! What is shown never faults.
-#![tactic(auto)]
-
-pub mod laws;

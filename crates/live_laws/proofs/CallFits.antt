@@ -1,0 +1,540 @@
+-- From one first state both callees run, and what they leave is copied back.
+use Rattle.std.proofs.Common.{◌≡◌, ℕ, ℤ, pos, Bool, true, false, true≢false, cond, ◌&&◌, ◌||◌, List}
+use Rattle.std.proofs.Common.{[], ◌∷◌, Option, Some, None, IfSome, option_map, not, refl, sym, ap}
+use Rattle.std.proofs.Common.{ap₂, ◌∙◌, subst, ◌==◌, eqb-true, eq-eqb}
+use Rattle.std.specs.Prelude.{IsSome, Contains}
+use Rattle.exo_tree.specs.Tree.{Kind, Argument, Param, ParamKind, ControlParam, TensorParam}
+use Rattle.exo_tree.specs.Tree.{WindowParam, ControlArg, ConditionArg, Whole, Window, ConfigField}
+use Rattle.exo_meaning.specs.Value.{Value, IsRefinedBy}
+use Rattle.exo_meaning.specs.Scene.{Scene, Seen, where_true, then_do, numbers, index_of, extents}
+use Rattle.exo_meaning.specs.Scene.{strides_seen, window}
+use Rattle.exo_meaning.specs.State.{State, Cells, same_index, on_scene, with_buffer, with_contents}
+use Rattle.exo_meaning.specs.Calls.{Callee, Given, GivenNumber, GivenView, given, all_given}
+use Rattle.exo_meaning.specs.Calls.{contents, held_at, entered, bind_numbers, bind_buffer}
+use Rattle.exo_meaning.specs.Calls.{bind_buffers, copy_in, bare, returned, run_asserted, all_hold}
+use Rattle.exo_meaning.specs.Calls.{all_positive, copy_back, copied_back, value_or, call}
+use Rattle.exo_meaning.specs.Run.{World, run, kinds_of}
+use Rattle.exo_meaning.specs.Inputs.{IsAdmissible, IsArgument, AreArguments, has_extents}
+use Rattle.exo_meaning.specs.Inputs.{all_have_extents, is_buffer_of}
+use Rattle.exo_meaning.specs.Units.{Scope, plainly, with_name, param_sort, is_new, is_param_kind}
+use Rattle.exo_meaning.specs.Units.{are_params, are_controls, are_for, field_kind, root_of}
+use Rattle.exo_meaning.specs.Units.{same_root, is_shared, share_nothing_written}
+use Rattle.exo_meaning.specs.Laws.{HasRoots, IsKept}
+use Rattle.exo_meaning.proofs.Windows.{one_value, cell_at_index}
+use Rattle.exo_meaning.proofs.Frame.{window_root, others_are_kept, or_parts, if_then, if_where}
+use Rattle.exo_meaning.proofs.Frame.{if_weaken, any, updated_other}
+use Rattle.meaning_laws.specs.Live.{RefinedLive, refield}
+use Rattle.meaning_laws.specs.Sound.{IsSound}
+use Rattle.meaning_laws.specs.Sorted.{IsSorted}
+use Rattle.meaning_laws.proofs.Parts.{none_some, some_injective, then_gives, map_gives}
+use Rattle.meaning_laws.proofs.Names.{if_gives}
+use Rattle.meaning_laws.proofs.Substitute.{and_parts, plain_same}
+use Rattle.meaning_laws.proofs.Refined.{refined_same}
+use Rattle.meaning_laws.proofs.Replace.{where_gives}
+use Rattle.meaning_laws.proofs.WellFormed.{plain_of}
+use Rattle.meaning_laws.proofs.FirstState.{not_true, Differ, params_differ, AllMatch, Matches}
+use Rattle.meaning_laws.proofs.FirstState.{all_match, first_state_law}
+use Rattle.scope_laws.proofs.Roots.{own_roots}
+use Rattle.live_laws.specs.CallFits.{IsCalled, IsVersion, CallFits}
+
+where_holds : {A : Type 0} (t : Bool) (o : Option A) (a : A) → where_true t o ≡ Some a → t ≡ true
+where_holds true o a e = refl
+where_holds false o a e = absurd (none_some e)
+
+-- ---- the first state has the extents that the way in tests
+
+module _ (fields : ℕ → Option Kind) (memories : ℕ) (outer : State) where
+  numbers_same : (scope : Scope) (a b : Scene) → a.control ≡ b.control → (es : List _)
+      → are_controls fields plainly scope es ≡ true → numbers a es ≡ numbers b es
+  numbers_same scope a b same [] h = refl
+  numbers_same scope a b same (e ∷ es) h =
+      let p = and_parts _ (are_controls fields plainly scope es) h in
+      ap₂ (λ n ns. n ∷ ns) (plain_same e a b (plain_of fields scope e p.0)
+      (λ x k. ap (λ f. f x) same)) (numbers_same scope a b same es p.1)
+
+  copied_in : (x : ℕ) (cell : _) (dims : List ℤ) (g : Given) (t u : State)
+      → copy_in outer x cell dims g t ≡ Some u
+      → (all_positive dims ≡ true) × (u.scene.control ≡ t.scene.control)
+  copied_in x cell dims (GivenNumber n) t u e = absurd (none_some e)
+  copied_in x cell dims (GivenView z) t u e =
+      let k = where_holds (same_index dims (extents z.sides) && all_positive dims) _ u e in (
+        (and_parts (same_index dims (extents z.sides)) (all_positive dims) k).1,
+        ap
+            (λ (v : State). v.scene.control)
+            (sym (some_injective _ u (where_gives (same_index dims (extents z.sides) && all_positive
+            dims) _ u e))),
+      )
+
+  one_in : (x : ℕ) (kind : ParamKind) (g : Given) (t u : State)
+      → bind_buffer outer x kind g t ≡ Some u → (has_extents t.scene kind ≡ true)
+      × (u.scene.control ≡ t.scene.control)
+  one_in x (ControlParam kind) g t u e =
+      (refl, ap (λ (v : State). v.scene.control) (sym (some_injective t u e)))
+  one_in x (TensorParam cell dims memory) g t u e = copied_in x cell (numbers t.scene dims) g t u e
+  one_in x (WindowParam cell dims memory) g t u e = copied_in x cell (numbers t.scene dims) g t u e
+
+  extents_same : (scope : Scope) (kind : ParamKind) (a b : Scene) → a.control ≡ b.control
+      → is_param_kind fields memories scope kind ≡ true → has_extents a kind ≡ has_extents b kind
+  extents_same scope (ControlParam kind) a b same h = refl
+  extents_same scope (TensorParam cell dims memory) a b same h =
+      ap all_positive (numbers_same scope a b same dims
+      (and_parts (are_controls fields plainly scope dims) _ h).0)
+  extents_same scope (WindowParam cell dims memory) a b same h =
+      ap all_positive (numbers_same scope a b same dims
+      (and_parts (are_controls fields plainly scope dims) _ h).0)
+
+  and_true : (a b : Bool) → a ≡ true → b ≡ true → (a && b) ≡ true
+  and_true true b h k = k
+  and_true false b h k = absurd (true≢false (sym h))
+
+  all_in : (ps : List Param) (scope : Scope) → are_params fields memories scope ps ≡ true
+      → (gs : List Given) (t u : State) → bind_buffers outer ps gs t ≡ Some u
+      → (all_have_extents u.scene ps ≡ true) × (u.scene.control ≡ t.scene.control)
+  all_in [] scope ok gs t u e = (
+    refl,
+    ap (λ (v : State). v.scene.control)
+        (sym (some_injective t u e)),
+  )
+  all_in (p ∷ ps) scope ok [] t u e = absurd (none_some e)
+  all_in (p ∷ ps) scope ok (g ∷ gs) t u e =
+      let inner : Scope = with_name scope p.binder (param_sort p.kind) in
+      let q = and_parts (is_new scope p.binder) (is_param_kind fields memories scope p.kind
+      && are_params fields memories inner ps) ok in
+      let r = and_parts (is_param_kind fields memories scope p.kind) (are_params fields memories
+      inner ps) q.1 in
+      let m = then_gives (bind_buffer outer p.binder.id p.kind g t) (bind_buffers outer ps gs) u
+      e in
+      let one = one_in p.binder.id p.kind g t m.0 m.1 in
+      let rest = all_in ps inner r.1 gs m.0 u m.2 in
+      let same : u.scene.control ≡ t.scene.control = rest.1 ∙ one.1 in (
+        and_true (has_extents u.scene p.kind) (all_have_extents u.scene ps)
+            (extents_same scope p.kind u.scene t.scene same r.0 ∙ one.0) rest.0,
+        same,
+      )
+
+  pub entered_has_extents : (ps : List Param) (gs : List Given)
+      → are_params fields memories [] ps ≡ true → (inner : State) → entered ps gs outer ≡ Some inner
+      → all_have_extents inner.scene ps ≡ true
+  entered_has_extents ps gs ok inner e =
+      let m = then_gives (bind_numbers ps gs (λ x. _)) (λ control. bind_buffers outer ps gs
+      (bare control outer.scene.fields)) inner e in
+      (all_in ps [] ok gs (bare m.0 outer.scene.fields) inner m.2).0
+
+-- ---- what is copied back is refined
+
+back_one : (t : Bool) (g : Given) (e f : List ℤ → Value) (c d : Cells)
+    → ((z : Seen) → g ≡ GivenView z → (at : List ℤ) → IsRefinedBy (e at) (f at))
+    → ((b : ℕ) (at : List ℤ) → IsRefinedBy (c b at) (d b at)) → (b : ℕ) (at : List ℤ)
+    → IsRefinedBy (copy_back t g e c b at) (copy_back t g f d b at)
+back_one false g e f c d h k b at = k b at
+back_one true (GivenNumber n) e f c d h k b at = k b at
+back_one true (GivenView z) e f c d h k b at = go (b == z.buffer) (index_of z.sides at)
+  where
+    go : (t : Bool) (o : Option (List ℤ)) → IsRefinedBy (cond t (value_or o e (c b at)) (c b at))
+        (cond t (value_or o f (d b at)) (d b at))
+    go false o = k b at
+    go true None = k b at
+    go true (Some is) = h z refl is
+
+-- what is left of a window may be copied back or not
+back_none : (s : State) (z : Seen) (e : List ℤ → Value) (c d : Cells)
+    → ((is : List ℤ) → IsRefinedBy (e is) (contents s.cells z is)) → d z.buffer ≡ s.cells z.buffer
+    → ((b : ℕ) (at : List ℤ) → IsRefinedBy (c b at) (d b at)) → (b : ℕ) (at : List ℤ)
+    → IsRefinedBy (copy_back true (GivenView z) e c b at) (d b at)
+back_none s z e c d h still k b at = go (b == z.buffer) (eqb-true b z.buffer) (index_of z.sides at)
+    refl
+  where
+    go : (t : Bool) → (t ≡ true → b ≡ z.buffer) → (o : Option (List ℤ)) → index_of z.sides at ≡ o
+        → IsRefinedBy (cond t (value_or o e (c b at)) (c b at)) (d b at)
+    go false same o i = k b at
+    go true same None i = k b at
+    go true same (Some is) i =
+        let cell : contents s.cells z is ≡ d b at =
+        ap (held_at (s.cells z.buffer)) (cell_at_index z.sides at is i)
+        ∙ ap (λ (f : List ℤ → Value). f at) (sym still) ∙ ap (λ x. d x at) (sym (same refl)) in
+        subst (IsRefinedBy (e is)) cell (h is)
+
+there : {A : Type 0} (o : Option A) (a : A) → o ≡ Some a → IsSome o
+there o a k = subst IsSome (sym k) refl
+
+-- as in CallChanges, where these names are not pub
+module _ (s : State) where
+  abbrev IsCopy : ParamKind → Given → (List ℤ → Value) → Type 0
+  IsCopy (ControlParam kind) g f = Unit {0}
+  IsCopy (TensorParam cell dims memory) (GivenNumber n) f = Unit {0}
+  IsCopy (TensorParam cell dims memory) (GivenView z) f = f ≡ contents s.cells z
+  IsCopy (WindowParam cell dims memory) (GivenNumber n) f = Unit {0}
+  IsCopy (WindowParam cell dims memory) (GivenView z) f = f ≡ contents s.cells z
+
+  abbrev AreCopies : List Param → List Given → Cells → Type 0
+  AreCopies [] gs c = Unit {0}
+  AreCopies (p ∷ ps) [] c = Unit {0}
+  AreCopies (p ∷ ps) (g ∷ gs) c = IsCopy p.kind g (c p.binder.id) × AreCopies ps gs c
+
+  abbrev OneCopied : ℕ → ParamKind → Given → State → State → Type 0
+  OneCopied x kind g t u = ((b : ℕ) → (b == x) ≡ false → u.cells b ≡ t.cells b) × IsCopy kind g
+      (u.cells x)
+
+  one_copied : (x : ℕ) (kind : ParamKind) (g : Given) (t : State)
+      → IfSome (bind_buffer s x kind g t) (OneCopied x kind g t)
+  one_copied x (ControlParam kind) g t = (λ b e. refl, tt)
+  one_copied x (TensorParam cell dims memory) (GivenNumber n) t = tt
+  one_copied x (TensorParam cell dims memory) (GivenView z) t =
+      if_where (OneCopied x (TensorParam cell dims memory) (GivenView z) t)
+      (same_index (numbers t.scene dims) (extents z.sides) && all_positive (numbers t.scene dims))
+      (Some (with_contents x (contents s.cells z)
+      (on_scene (with_buffer x (record {
+        cell = cell;
+        dims = numbers t.scene dims;
+        strides =
+            strides_seen s.scene z;
+      })) t))) (
+        λ b e. updated_other t.cells x (contents s.cells z) b e,
+        ap
+            (λ q. cond {A = List ℤ → Value} q (contents s.cells z) (t.cells x)) (eq-eqb x x refl),
+      )
+  one_copied x (WindowParam cell dims memory) (GivenNumber n) t = tt
+  one_copied x (WindowParam cell dims memory) (GivenView z) t =
+      if_where (OneCopied x (WindowParam cell dims memory) (GivenView z) t)
+      (same_index (numbers t.scene dims) (extents z.sides) && all_positive (numbers t.scene dims))
+      (Some (with_contents x (contents s.cells z)
+      (on_scene (with_buffer x (record {
+        cell = cell;
+        dims = numbers t.scene dims;
+        strides =
+            strides_seen s.scene z;
+      })) t))) (
+        λ b e. updated_other t.cells x (contents s.cells z) b e,
+        ap
+            (λ q. cond {A = List ℤ → Value} q (contents s.cells z) (t.cells x)) (eq-eqb x x refl),
+      )
+
+  kept_copy : (kind : ParamKind) (g : Given) (f h : List ℤ → Value) → h ≡ f → IsCopy kind g f
+      → IsCopy kind g h
+  kept_copy kind g f h e k = subst (IsCopy kind g) (sym e) k
+
+  abbrev Copied : List Param → List Given → State → State → Type 0
+  Copied ps gs t u = ((b : ℕ) → is_buffer_of b ps ≡ false → u.cells b ≡ t.cells b) × AreCopies ps gs
+      u.cells
+
+  all_copied : (ps : List Param) (gs : List Given) (t : State) → Differ ps
+      → IfSome (bind_buffers s ps gs t) (Copied ps gs t)
+  all_copied [] gs t df = (λ b e. refl, tt)
+  all_copied (p ∷ ps) [] t df = tt
+  all_copied (p ∷ ps) (g ∷ gs) t df =
+      if_then (OneCopied p.binder.id p.kind g t) (Copied (p ∷ ps) (g ∷ gs) t)
+      (bind_buffer s p.binder.id p.kind g t) (bind_buffers s ps gs) (one_copied p.binder.id
+      p.kind g t) (λ u k.
+      if_weaken (Copied ps gs u) (Copied (p ∷ ps) (g ∷ gs) t) (bind_buffers s ps gs u)
+      (all_copied ps gs u df.1) (λ w l. (
+        λ b e. let q = or_parts (b == p.binder.id) (is_buffer_of b ps) e in l.0 b q.1
+            ∙ k.0 b q.0,
+        (
+          kept_copy p.kind g (u.cells p.binder.id) (w.cells p.binder.id)
+              (l.0 p.binder.id df.0) k.1,
+          l.1,
+        ),
+      )))
+
+  entered_copies : (ps : List Param) (gs : List Given) → Differ ps
+      → IfSome (entered ps gs s) (λ inner. AreCopies ps gs inner.cells)
+  entered_copies ps gs df = if_then (λ c. Unit {0}) (λ (inner : State). AreCopies ps gs inner.cells)
+      (bind_numbers ps gs (λ x. pos 0)) _ (any (bind_numbers ps gs (λ x. pos 0)))
+      (λ c u. if_weaken (Copied ps gs (bare c s.scene.fields)) (λ (inner : State). AreCopies ps gs
+      inner.cells) (bind_buffers s ps gs (bare c s.scene.fields))
+      (all_copied ps gs (bare c s.scene.fields) df) (λ inner k. k.1))
+
+not_empty : {A : Type 0} {x : A} {l : List A} → [] ≡ (x ∷ l) → ⊥
+not_empty e = cc
+
+first_is : {A : Type 0} {x y : A} {l m : List A} → (x ∷ l) ≡ (y ∷ m) → x ≡ y
+first_is e = cc
+
+rest_is : {A : Type 0} {x y : A} {l m : List A} → (x ∷ l) ≡ (y ∷ m) → l ≡ m
+rest_is e = cc
+
+given_parts : (scene : Scene) (a : Argument) (args : List Argument) (g : Given) (gs : List Given)
+    → all_given scene (a ∷ args) ≡ Some (g ∷ gs)
+    → (given scene a ≡ Some g) × (all_given scene args ≡ Some gs)
+given_parts scene a args g gs k =
+    let m = then_gives (given scene a) (λ g. option_map (λ gs. g ∷ gs) (all_given scene args))
+    (g ∷ gs) k in
+    let n = map_gives (all_given scene args) (λ gs. m.0 ∷ gs) (g ∷ gs) m.2 in
+    (m.1 ∙ ap Some (first_is n.2), n.1 ∙ ap Some (rest_is n.2))
+
+view_is : (g : Given) (z y : Seen) → g ≡ GivenView z → g ≡ GivenView y → z ≡ y
+view_is g z y i j = cc
+
+number_view : (n : ℤ) (z : Seen) → GivenNumber n ≡ GivenView z → ⊥
+number_view n z e = cc
+
+module _ (fields : ℕ → Option Kind) (root : ℕ → ℕ) (s : State) (roots : HasRoots root s.scene) where
+  -- the buffer of an argument
+  buffer_is : (a : Argument) (z : Seen) → given s.scene a ≡ Some (GivenView z)
+      → root_of fields root a ≡ Some z.buffer
+  buffer_is (ControlArg e) z k = absurd (number_view _ z (one_value _ _ k))
+  buffer_is (ConditionArg e) z k = absurd (number_view _ z (one_value _ _ k))
+  buffer_is (Whole x) z k =
+      let m = map_gives (s.scene.views x) GivenView (GivenView z) k in
+      ap Some (sym (roots x z (m.1 ∙ ap Some (view_is (GivenView z) m.0 z (sym m.2) refl))))
+  buffer_is (Window x coords) z k =
+      let m = map_gives (window s.scene x coords) GivenView (GivenView z) k in
+      ap Some (sym (if_gives (λ seen. seen.buffer ≡ root x) (window s.scene x coords) z
+      (window_root root s.scene roots x coords)
+      (m.1 ∙ ap Some (view_is (GivenView z) m.0 z (sym m.2) refl))))
+
+  -- the buffers of windows hold what they held
+  abbrev Still : List Param → List Given → Cells → Type 0
+  Still [] gs d = Unit {0}
+  Still (p ∷ ps) [] d = Unit {0}
+  Still (p ∷ ps) (g ∷ gs) d = ((z : Seen) → g ≡ GivenView z → d z.buffer ≡ s.cells z.buffer)
+      × Still ps gs d
+
+  still_there : (ps : List Param) (gs : List Given) → Still ps gs s.cells
+  still_there [] gs = tt
+  still_there (p ∷ ps) [] = tt
+  still_there (p ∷ ps) (g ∷ gs) = (λ z e. refl, still_there ps gs)
+
+  -- those that share no buffer with this one
+  still_apart : (w : ℕ → Bool) (p : Param) (z : Seen) (r : Option ℕ) → r ≡ Some z.buffer
+      → w p.binder.id ≡ true → (f : List ℤ → Value) (d : Cells) (ps : List Param)
+      (args : List Argument) (gs : List Given) → all_given s.scene args ≡ Some gs
+      → is_shared fields w root p r ps args ≡ false → Still ps gs d
+      → Still ps gs (copy_back true (GivenView z) f d)
+  still_apart w p z r is on f d [] args gs k apart h = tt
+  still_apart w p z r is on f d (q ∷ qs) args [] k apart h = tt
+  still_apart w p z r is on f d (q ∷ qs) [] (g ∷ gs) k apart h =
+      absurd (not_empty (one_value [] (g ∷ gs) k))
+  still_apart w p z r is on f d (q ∷ qs) (a ∷ args) (g ∷ gs) k apart h =
+      let l = given_parts s.scene a args g gs k in
+      let o = or_parts (same_root fields r (root_of fields root a)
+      && (w p.binder.id || w q.binder.id)) (is_shared fields w root p r qs args) apart in (
+        λ y e. one y (buffer_is a y (l.0 ∙ ap Some e)) o.0 (h.0 y e),
+        still_apart w p z r is on f d
+            qs args gs l.1 o.1 h.1,
+      )
+    where
+      one : (y : Seen) → root_of fields root a ≡ Some y.buffer
+          → (same_root fields r (root_of fields root a) && (w p.binder.id || w q.binder.id)) ≡ false
+          → d y.buffer ≡ s.cells y.buffer → copy_back true (GivenView z) f d y.buffer ≡ s.cells
+          y.buffer
+      one y e m k = go (y.buffer == z.buffer) other k
+        where
+          go : (t : Bool) → t ≡ false → d y.buffer ≡ s.cells y.buffer
+              → (λ (at : List ℤ). cond t (value_or (index_of z.sides at) f (d y.buffer at))
+              (d y.buffer at)) ≡ s.cells y.buffer
+          go true i k = absurd (true≢false i)
+          go false i k = k
+
+          apart_by : (t : Bool) → w p.binder.id ≡ t → t ≡ true → (x : Bool)
+              → (x && (t || w q.binder.id)) ≡ false → x ≡ false
+          apart_by true i j true v = v
+          apart_by true i j false v = refl
+          apart_by false i j x v = absurd (true≢false (sym j))
+
+          differ : (z.buffer == y.buffer) ≡ false
+          differ = ap (λ o. same_root fields (Some z.buffer) o) (sym e)
+              ∙ ap (λ o. same_root fields o (root_of fields root a)) (sym is)
+              ∙ apart_by (w p.binder.id) refl on (same_root fields r (root_of fields root a)) m
+
+          by_same : (t : Bool) → (t ≡ true → y.buffer ≡ z.buffer) → t ≡ false
+          by_same true same = absurd (true≢false (sym (eq-eqb z.buffer y.buffer (sym (same refl)))
+              ∙ differ))
+          by_same false same = refl
+
+          other : (y.buffer == z.buffer) ≡ false
+          other = by_same (y.buffer == z.buffer) (eqb-true y.buffer z.buffer)
+
+  module _ (kinds : ℕ → Kind) (scope : Scope) (sorted : IsSorted kinds scope s) (inner : Scene)
+      (first e f : Cells) (near : (b : ℕ) → IsSome (inner.buffers b) → (at : List ℤ) → IsRefinedBy
+      (e b at) (f b at)) (w v : ℕ → Bool) (more : (x : ℕ) → v x ≡ true
+      → w x ≡ true) (keeps : (x : ℕ) → v x ≡ false → IsSome (inner.buffers x) → f x ≡ first x) where
+    back_all : (ps : List Param) (args : List Argument) (gs : List Given) → AreArguments inner ps
+        → AllMatch fields kinds scope s sorted ps gs → AreCopies s ps gs first
+        → all_given s.scene args ≡ Some gs → share_nothing_written fields w root ps args ≡ true
+        → (c d : Cells) → Still ps gs d → ((b : ℕ) (at : List ℤ) → IsRefinedBy (c b at) (d b at))
+        → (b : ℕ) (at : List ℤ) → IsRefinedBy (copied_back w ps gs e c b at)
+        (copied_back v ps gs f d b at)
+    back_all [] args gs a m z i apart c d still k = k
+    back_all (p ∷ ps) args [] a m z i apart c d still k = absurd m
+    back_all (p ∷ ps) [] (g ∷ gs) a m z i apart c d still k =
+        absurd (not_empty (one_value [] (g ∷ gs) i))
+    back_all (p ∷ ps) (x ∷ args) (g ∷ gs) a m z i apart c d still k =
+        let l = given_parts s.scene x args g gs i in
+        let o = and_parts (not (is_shared fields w root p (root_of fields root x) ps args))
+        (share_nothing_written fields w root ps args) apart in
+        back_all ps args gs a.1 m.1 z.1 l.1 o.1 (copy_back (w p.binder.id) g (e p.binder.id) c)
+        (copy_back (v p.binder.id) g (f p.binder.id) d)
+        (still_next (v p.binder.id) refl g l.0
+        (not_true (is_shared fields w root p (root_of fields root x) ps args) o.0) l.1)
+        (one (w p.binder.id) (v p.binder.id) refl (more p.binder.id) p.kind g a.0 m.0 z.0 still.0)
+      where
+        still_next : (t : Bool) → v p.binder.id ≡ t → (g : Given) → given s.scene x ≡ Some g
+            → is_shared fields w root p (root_of fields root x) ps args ≡ false
+            → all_given s.scene args ≡ Some gs → Still ps gs (copy_back t g (f p.binder.id) d)
+        still_next false j g l o r = still.1
+        still_next true j (GivenNumber n) l o r = still.1
+        still_next true j (GivenView y) l o r =
+            still_apart w p y (root_of fields root x) (buffer_is x y l) (more p.binder.id j)
+            (f p.binder.id) d ps args gs r o still.1
+
+        view_there : (kind : ParamKind) (y : Seen) → IsArgument inner p.binder.id kind
+            → Matches fields kinds scope s sorted kind (GivenView y)
+            → IsSome (inner.buffers p.binder.id)
+        view_there (ControlParam kind) y a m = absurd m
+        view_there (TensorParam cell dims memory) y a m = there (inner.buffers p.binder.id) _ a.0
+        view_there (WindowParam cell dims memory) y a m = there (inner.buffers p.binder.id) _ a.1.0
+
+        is_copy : (kind : ParamKind) (y : Seen)
+            → Matches fields kinds scope s sorted kind (GivenView y)
+            → IsCopy s kind (GivenView y) (first p.binder.id)
+            → first p.binder.id ≡ contents s.cells y
+        is_copy (ControlParam kind) y m z = absurd m
+        is_copy (TensorParam cell dims memory) y m z = z
+        is_copy (WindowParam cell dims memory) y m z = z
+
+        one : (t u : Bool) → v p.binder.id ≡ u → (u ≡ true → t ≡ true)
+            → (kind : ParamKind) (g : Given) → IsArgument inner p.binder.id kind
+            → Matches fields kinds scope s sorted kind g → IsCopy s kind g (first p.binder.id)
+            → ((y : Seen) → g ≡ GivenView y → d y.buffer ≡ s.cells y.buffer) → (b : ℕ) (at : List ℤ)
+            → IsRefinedBy (copy_back t g (e p.binder.id) c b at) (copy_back u g (f p.binder.id) d b
+            at)
+        one t true j more kind g a m z still =
+            subst (λ t. (b : ℕ) (at : List ℤ) → IsRefinedBy (copy_back t g (e p.binder.id) c b at)
+            (copy_back true g (f p.binder.id) d b at)) (sym (more refl))
+            (back_one true g (e p.binder.id) (f p.binder.id) c d (λ y i at. near p.binder.id
+            (view_there kind y a (subst (Matches fields kinds scope s sorted kind) i m)) at) k)
+        one false false j more kind g a m z still = k
+        one true false j more kind (GivenNumber n) a m z still = k
+        one true false j more kind (GivenView y) a m z still =
+            let here = view_there kind y a m in
+            back_none s y (e p.binder.id) c d (λ is. subst (λ (h : List ℤ → Value). IsRefinedBy
+            (e p.binder.id is) (h is)) (keeps p.binder.id j here ∙ is_copy kind y m z)
+            (near p.binder.id here is)) (still y refl) k
+
+-- ---- calls
+
+-- a call in parts
+pub record Parts (c : Callee) (args : List Argument) (s a : State) : Type 0 where
+  pub given : List Given
+  pub first : State
+  pub last : State
+  pub is_given : all_given s.scene args ≡ Some given
+  pub is_first : entered c.procedure.params given s ≡ Some first
+  pub hold : all_hold first.scene c.procedure.asserts ≡ true
+  pub runs : c.run first ≡ Some last
+  pub is_after : returned c given s last ≡ a
+
+parts : (c : Callee) (args : List Argument) (s a : State) → call c args s ≡ Some a
+    → Parts c args s a
+parts c args s a i =
+    let l = then_gives (all_given s.scene args) (λ gs. then_do (entered c.procedure.params gs s)
+    (λ v. option_map (returned c gs s) (run_asserted c v))) a i in
+    let m = then_gives (entered c.procedure.params l.0 s) (λ v. option_map (returned c l.0 s)
+    (run_asserted c v)) a l.2 in
+    let n = map_gives (run_asserted c m.0) (returned c l.0 s) a m.2 in
+    record {
+      given = l.0;
+      first = m.0;
+      last = n.0;
+      is_given = l.1;
+      is_first = m.1;
+      hold = where_holds (all_hold m.0.scene c.procedure.asserts) (c.run m.0) n.0 n.1;
+      runs = where_gives (all_hold m.0.scene c.procedure.asserts) (c.run m.0) n.0 n.1;
+      is_after = n.2;
+    }
+
+where_is : {A : Type 0} (t : Bool) (o : Option A) (a : A) → t ≡ true → o ≡ Some a
+    → where_true t o ≡ Some a
+where_is true o a e k = k
+where_is false o a e k = absurd (true≢false (sym e))
+
+module _ (fields : List ConfigField) (memories : ℕ) (world : World) (scope : Scope) (root : ℕ → ℕ)
+    (c d : Callee) (args : List Argument) (but : List ℕ) (behind : ℕ → Bool) (s : State)
+    (same : world.kinds ≡ kinds_of fields) (sound : IsSound s) (sorted : IsSorted world.kinds scope
+    s) (called : IsCalled fields memories scope root c args s) (version : IsVersion world c d but)
+    (apart : (f : ℕ) → behind f ≡ true → Contains but f → ⊥) where
+  abbrev ps : List Param
+  ps = c.procedure.params
+
+  abbrev kind : ℕ → Option Kind
+  kind = field_kind fields
+
+  -- what a callee leaves
+  abbrev left_by : (ℕ → Bool) → List Given → State → State
+  left_by w gs t = record {
+    scene = record s.scene { fields = t.scene.fields };
+    cells = copied_back
+        w ps gs t.cells s.cells;
+  }
+
+  returned_is : (gs : List Given) (t : State) → returned d gs s t ≡ left_by d.writes gs t
+  returned_is gs t = ap (λ l. record {
+    scene = record s.scene { fields = t.scene.fields };
+    cells =
+        copied_back d.writes l gs t.cells s.cells;
+  }) version.params
+
+  -- what the new callee does not write stays
+  keeps : (v w : State) → IsAdmissible world c.procedure v → d.run v ≡ Some w → (x : ℕ)
+      → d.writes x ≡ false → IsSome (v.scene.buffers x) → w.cells x ≡ v.cells x
+  keeps v w good new x off there =
+      let roots = own_roots world c.procedure v good kind memories called.params in
+      let not_written = ap (λ (z : Callee). z.writes x) (sym version.made) ∙ off in
+      let runs = ap (λ (z : Callee). z.run v) (sym version.made) ∙ new in
+      (if_gives (IsKept x v) (run version.above d.procedure.body v) w (others_are_kept version.above
+      (λ y. y) d.procedure.body x v roots there not_written) runs).cells
+
+  from_one : (gs : List Given) (v t w : State) → all_given s.scene args ≡ Some gs
+      → entered ps gs s ≡ Some v → all_hold v.scene c.procedure.asserts ≡ true → c.run v ≡ Some t
+      → d.run v ≡ Some w → RefinedLive behind (left_by c.writes gs t) (left_by d.writes gs w)
+  from_one gs v t w given_is first_is hold old new =
+      let good = first_state_law fields memories world scope root s v c args gs same sound sorted
+      called.params called.call given_is first_is hold in
+      let fit = and_parts (are_for kind scope ps args) (share_nothing_written kind c.writes root ps
+      args) called.call in
+      let match = if_gives (AllMatch kind world.kinds scope s sorted ps) (all_given s.scene args) gs
+      (all_match kind world.kinds scope s sorted ps args fit.0) given_is in
+      let wide = entered_has_extents kind memories s ps gs called.params v first_is in
+      let copies = if_gives (λ (z : State). AreCopies s ps gs z.cells) (entered ps gs s) v
+      (entered_copies s ps gs (params_differ kind memories ps [] called.params)) first_is in
+      let i = where_is (all_have_extents v.scene ps) (run world c.procedure.body v) t wide
+      (ap (λ (f : State → Option State). f v) (sym version.old_run) ∙ old) in
+      let j = where_is (all_have_extents v.scene d.procedure.params) (run world d.procedure.body v)
+      w (ap (all_have_extents v.scene) version.params ∙ wide)
+      (ap (λ (f : State → Option State). f v) (sym version.new_run) ∙ new) in
+      record {
+        middle = refield w.scene.fields (left_by c.writes gs t);
+        live = record {
+          fields = w.scene.fields;
+          agree = λ f k. version.refines.fields v t w good i
+              j f (apart f k);
+          same = refl;
+        };
+        refined = record {
+          scene = refl;
+          cells = back_all kind root s called.roots world.kinds scope
+              sorted v.scene v.cells t.cells w.cells (version.refines.cells v t w good i j) c.writes
+              d.writes version.writes (keeps v w good new) ps args gs good.arguments match copies
+              given_is fit.1 s.cells s.cells (still_there kind root s called.roots ps gs)
+              (λ x at. refined_same (s.cells x at));
+        };
+      }
+
+  both_calls : (a b : State) → call c args s ≡ Some a → call d args s ≡ Some b
+      → RefinedLive behind a b
+  both_calls a b i j =
+      let p = parts c args s a i in
+      let q = parts d args s b j in
+      let gs = one_value q.given p.given (sym q.is_given ∙ p.is_given) in
+      let first = one_value q.first p.first (sym q.is_first ∙ ap (λ l. entered l q.given s)
+      version.params ∙ ap (λ l. entered ps l s) gs ∙ p.is_first) in
+      let new = ap d.run (sym first) ∙ q.runs in
+      let after = ap (λ l. left_by d.writes l q.last) (sym gs) ∙ sym (returned_is q.given q.last)
+      ∙ q.is_after in
+      subst (λ z. RefinedLive behind z b) p.is_after
+      (subst (RefinedLive behind (left_by c.writes p.given p.last)) after
+      (from_one p.given p.first p.last q.last p.is_given p.is_first p.hold p.runs new))
+
+pub call_fits : CallFits
+call_fits = both_calls

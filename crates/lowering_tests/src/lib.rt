@@ -1,5 +1,0 @@
-//! Procedures with loops, conditions, buffers and fields, and their C.
-#![tactic(auto)]
-
-#[cfg(test)]
-mod worked;

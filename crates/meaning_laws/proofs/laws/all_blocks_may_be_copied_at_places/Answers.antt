@@ -1,0 +1,5 @@
+use Rattle.meaning_laws.proofs.CopiesAtPlaces.{places_may_copy_all}
+use Rattle.meaning_laws.proofs.laws.all_blocks_may_be_copied_at_places.Goals as goal
+
+pub returns : goal.returns
+returns c = places_may_copy_all

@@ -1,0 +1,10 @@
+pub mod Statements
+pub mod Reorder
+pub mod TurnsOfTwo
+pub mod Caught
+pub mod PartedLoops
+pub mod PartedPlaces
+pub mod WrittenFirst
+pub mod Unread
+pub mod Overwrite
+pub mod RemoveLoop

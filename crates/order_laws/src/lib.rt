@@ -1,0 +1,4 @@
+//! The order of statements, turns and loops: when it may change, and which turns only repeat.
+#![tactic(auto)]
+
+pub mod laws;

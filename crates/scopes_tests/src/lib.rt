@@ -1,7 +1,0 @@
-//! Tables of strings at places of a procedure.
-#![tactic(auto)]
-
-#[cfg(test)]
-mod places;
-#[cfg(test)]
-mod unit;

@@ -1,5 +1,0 @@
-//! Worked trees and their texts.
-#![tactic(auto)]
-
-#[cfg(test)]
-mod texts;

@@ -1,0 +1,13 @@
+pub mod Stores
+pub mod Box
+pub mod Loads
+pub mod Alone
+pub mod Inside
+pub mod Stage
+pub mod Reader
+pub mod Behind
+pub mod Converted
+pub mod Gone
+pub mod Whole
+pub mod Replaced
+pub mod Examples

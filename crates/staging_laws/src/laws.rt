@@ -1,0 +1,140 @@
+// Laws of staged buffers, each the contract of a function with nothing to do.
+
+ghost use Rattle.staging_laws.specs.Stores.{StoresLaw};
+ghost use Rattle.staging_laws.specs.Stores.{LoadsLaw};
+ghost use Rattle.staging_laws.specs.Stores.{BoxLaw};
+ghost use Rattle.staging_laws.specs.Stores.{StageInLaw};
+ghost use Rattle.staging_laws.specs.Stores.{NoStoreLaw};
+ghost use Rattle.staging_laws.specs.Alone.{UnwrittenLaw};
+ghost use Rattle.staging_laws.specs.Alone.{AloneLaw};
+ghost use Rattle.staging_laws.specs.Inside.{SpansLaw};
+ghost use Rattle.staging_laws.specs.Inside.{InsideLaw};
+ghost use Rattle.staging_laws.specs.Stage.{UsesLaw};
+ghost use Rattle.staging_laws.specs.Stage.{StageLaw};
+ghost use Rattle.staging_laws.specs.Behind.{BehindLaw};
+ghost use Rattle.staging_laws.specs.Behind.{RoundLaw};
+ghost use Rattle.staging_laws.specs.Reader.{FitIntoLaw};
+ghost use Rattle.staging_laws.specs.Reader.{ReaderLaw};
+ghost use Rattle.staging_laws.specs.Converted.{FitsLaw};
+ghost use Rattle.staging_laws.specs.Converted.{ConvertedAlong};
+ghost use Rattle.staging_laws.specs.Converted.{ConvertedLaw};
+ghost use Rattle.staging_laws.specs.Whole.{ViewedLaw};
+ghost use Rattle.staging_laws.specs.Whole.{StagedBlockLaw};
+ghost use Rattle.staging_laws.specs.Whole.{StagedReaderLaw};
+ghost use Rattle.staging_laws.specs.Replaced.{AlikeReplaces};
+ghost use Rattle.staging_laws.specs.Replaced.{StagedReplaces};
+
+/// The store nest copies the staged buffer back into the window.
+pub fn stores_copy_back()
+    ensures { StoresLaw }
+{}
+
+/// The load nest copies the window into the staged buffer.
+pub fn loads_copy_in()
+    ensures { LoadsLaw }
+{}
+
+/// The spans' extents are those of the window, and each is at least 1.
+pub fn spans_are_the_box()
+    ensures { BoxLaw }
+{}
+
+/// An allocation and the load nest make the staged buffer.
+pub fn buffers_are_staged()
+    ensures { StageInLaw }
+{}
+
+/// After a block that only reads, nothing has to be copied back.
+pub fn readers_need_no_store()
+    ensures { NoStoreLaw }
+{}
+
+/// A block without hidden names does not write a hidden buffer.
+pub fn hidden_buffers_are_not_written()
+    ensures { UnwrittenLaw }
+{}
+
+/// A block that uses no other name of the window's root may be staged.
+pub fn lone_blocks_may_be_staged()
+    ensures { AloneLaw }
+{}
+
+/// Loops over the spans run over their numbers, and see one window.
+pub fn loops_run_over_spans()
+    ensures { SpansLaw }
+{}
+
+/// Where a nest over the spans does not fault, the window is there.
+pub fn windows_are_there()
+    ensures { InsideLaw }
+{}
+
+/// The statement of each nest uses the window's name at the nest's indices.
+pub fn nests_use_the_window()
+    ensures { UsesLaw }
+{}
+
+/// Allocation, load nest, block and store nest do what the block does on a view of the window.
+pub fn staging_does_the_same()
+    ensures { StageLaw }
+{}
+
+/// The nest behind a block finds what the nest before it found.
+pub fn nests_stand_behind()
+    ensures { BehindLaw }
+{}
+
+/// A block that uses no other name of the window's root may be staged, with both nests.
+pub fn lone_blocks_go_round()
+    ensures { RoundLaw }
+{}
+
+/// Cells that fit their type fit into a buffer of the same type.
+pub fn cells_fit_into()
+    ensures { FitIntoLaw }
+{}
+
+/// A staged block that only reads needs no store nest.
+pub fn readers_do_the_same()
+    ensures { ReaderLaw }
+{}
+
+/// What accesses keep by the way of a block they keep wherever a run comes to in it.
+pub fn accesses_fit_within()
+    ensures { FitsLaw }
+{}
+
+/// A block does along the way what it does with a buffer's name for the window that it uses.
+pub fn converted_blocks_are_same_along()
+    ensures { ConvertedAlong }
+{}
+
+/// So both run alike, faults included.
+pub fn converted_blocks_do_the_same()
+    ensures { ConvertedLaw }
+{}
+
+/// Where a converted block runs with a view of the window, the block runs to the same end.
+pub fn converted_blocks_run_on_views()
+    ensures { ViewedLaw }
+{}
+
+/// Where a converted block runs between the two nests, the block runs to the same end.
+pub fn blocks_may_be_staged()
+    ensures { StagedBlockLaw }
+{}
+
+/// A block that only reads is staged without a store nest.
+pub fn reading_blocks_may_be_staged()
+    ensures { StagedReaderLaw }
+{}
+
+/// A block may stand for another that ends with the same fields and cells, but for hidden names.
+pub fn blocks_with_alike_ends_may_be_replaced()
+    ensures { AlikeReplaces }
+{}
+
+/// The converted block between the two nests may stand for the block.
+pub fn staged_blocks_may_stand()
+    ensures { StagedReplaces }
+{}
