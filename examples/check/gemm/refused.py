@@ -1,6 +1,0 @@
-@proc
-def gemm(M: size, N: size, K: size, A: i32[M, K], B: i32[K, N], C: i32[M, N]):
-    for i in seq(0, M):
-        for j in seq(0, N):
-            for k in seq(0, K + 1):
-                C[i, j] += A[i, k] * B[k, j]

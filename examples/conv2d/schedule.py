@@ -1,0 +1,1 @@
+emit(conv2d)
