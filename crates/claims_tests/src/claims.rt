@@ -160,7 +160,7 @@ fn an_assertion_of_a_callee(rt: HostRuntime) -> Result<(), AllocError> {
     let Some(last) = claims.last() else {
         return Err(AllocError);
     };
-    let (x, k) = match &last.claim.says {
+    let (x, k) = match &*last.claim.says {
         Cond::Eq(Ctrl::Stride(x, k), Ctrl::Lit(1)) => (x.0, *k),
         _ => return Err(AllocError),
     };
