@@ -1,4 +1,4 @@
-use Rattle.std.proofs.Common.{ℕ, ◌+◌, ◌*◌, max}
+use Rattle.std.proofs.Common.{◌+◌, ◌*◌, max}
 use Rattle.exo_tree.proofs.control.Cond.TheLaws.{the_size}
 use Rattle.check_claims.proofs.arguments.+condition_under.Given as goal
 

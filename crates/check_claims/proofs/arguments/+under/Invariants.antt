@@ -1,4 +1,4 @@
-use Rattle.std.proofs.Common.{ℕ, ◌+◌, ◌*◌, max}
+use Rattle.std.proofs.Common.{◌+◌, ◌*◌, max}
 use Rattle.exo_tree.proofs.control.Ctrl.TheLaws.{the_size}
 use Rattle.check_claims.proofs.arguments.+under.Given as goal
 
