@@ -1,13 +1,11 @@
-use Rattle.std.proofs.Common.{◌≡◌, ◌∙◌, ◌+◌, ap, ap₂, map, length, take, drop, string_bytes, arith}
+use Rattle.std.proofs.Common.{◌∙◌, ◌+◌, ap, ap₂, map, length, take, drop, arith}
 use Rattle.std.proofs.lemmas.List.{drop_all, take_all}
 use Rattle.exo_tree.specs.Tree.{block}
-use Rattle.exo_tree.specs.PlainControl.{control}
 use Rattle.exo_tree.specs.PlainStatement.{statement}
 use Rattle.exo_tree.specs.PlainUnit.{program}
-use Rattle.exo_meaning.specs.Scene.{updated}
-use Rattle.c_tree.specs.CTree.{Loop, cblock, followed_by}
-use Rattle.c_printer.specs.Lowered.{NumberForm, number_of, block_of}
-use Rattle.c_tree.specs.Plain.{plain_number, plain_statement}
+use Rattle.c_tree.specs.CTree.{cblock, followed_by}
+use Rattle.c_printer.specs.Lowered.{block_of}
+use Rattle.c_tree.specs.Plain.{plain_statement}
 use Rattle.c_printer.specs.Scope.{forms_in}
 use Rattle.c_printer.specs.Naming.{naming_of}
 use Rattle.c_printer.specs.Heads.{scope_after, frees}
