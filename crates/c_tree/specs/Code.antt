@@ -1,5 +1,5 @@
 -- Trees of C as codes, by which a proof tells them apart: the number of a form, and then the codes of its parts.
-use Rattle.std.specs.Prelude.{◌≡◌, ℕ, List}
+use Rattle.std.specs.Prelude.{◌≡◌, List}
 use Rattle.std.specs.Coded.{Coded, coded_ℕ, coded_ℤ, coded_list}
 use Rattle.std.proofs.Common.{ap, arith}
 use base.Stored.{Gv, gnil, gnum, gcons, num}
