@@ -2,7 +2,7 @@
 ghost use Rattle.std.specs.Prelude.{◌≡◌, IfOk, map};
 ghost use Rattle.exo_tree.specs.PlainControl.{control, condition, coordinate};
 ghost use Rattle.exo_tree.specs.PlainDatum.{datum};
-ghost use Rattle.text_expressions.specs.Expression.{select};
+ghost use Rattle.text_expressions.specs.Expression.{binary, select};
 ghost use Rattle.text_expressions.specs.Views.{tree_of};
 ghost use Rattle.exo_reader.specs.Views.{plain_coordinate};
 ghost use Rattle.rules_names.specs.Names.{id_in, field_in};
@@ -72,6 +72,22 @@ fn boxed_control(alloc: Global, names: &Names, e: &SourceExpr) -> Result<Box<Ctr
     Ok(Box::new(alloc, value)?)
 }
 
+/// The control value of an operator between two expressions.
+#[cycle(controls)]
+fn arithmetic_of(
+    alloc: Global,
+    names: &Names,
+    operator: Operator,
+    l: &SourceExpr,
+    r: &SourceExpr,
+) -> Result<Ctrl, AllocError>
+    ensures { IfOk result (λ c. control c ≡ control_of names.now.fields.now names.now.scope.now (binary operator (tree_of l.now) (tree_of r.now))) }
+{
+    let left = boxed_control(alloc, names, l)?;
+    let right = boxed_control(alloc, names, r)?;
+    Ok(joined(operator, left, right, divisor_of(r)))
+}
+
 /// The control value that an expression stands for. What breaks a rule stands for some value.
 #[cycle(controls)]
 pub fn control_of(alloc: Global, names: &Names, e: &SourceExpr) -> Result<Ctrl, AllocError>
@@ -87,11 +103,7 @@ pub fn control_of(alloc: Global, names: &Names, e: &SourceExpr) -> Result<Ctrl, 
             Ok(Ctrl::Neg(value))
         }
         SourceExpr::Parens(inner) => control_of(alloc, names, inner),
-        SourceExpr::Binary(operator, l, r) => {
-            let left = boxed_control(alloc, names, l)?;
-            let right = boxed_control(alloc, names, r)?;
-            Ok(joined(*operator, left, right, divisor_of(r)))
-        }
+        SourceExpr::Binary(operator, l, r) => arithmetic_of(alloc, names, *operator, l, r),
         _ => Ok(Ctrl::Lit(0)),
     }
 }
@@ -152,6 +164,22 @@ fn boxed_condition(alloc: Global, names: &Names, e: &SourceExpr) -> Result<Box<C
     Ok(Box::new(alloc, value)?)
 }
 
+/// The condition of an operator between the conditions that two expressions stand for.
+#[cycle(conditions)]
+fn junction_of(
+    alloc: Global,
+    names: &Names,
+    operator: Operator,
+    l: &SourceExpr,
+    r: &SourceExpr,
+) -> Result<Cond, AllocError>
+    ensures { IfOk result (λ c. condition c ≡ joined_conditions operator (condition_of names.now.fields.now names.now.scope.now (tree_of l.now)) (condition_of names.now.fields.now names.now.scope.now (tree_of r.now))) }
+{
+    let left = boxed_condition(alloc, names, l)?;
+    let right = boxed_condition(alloc, names, r)?;
+    Ok(joined_conditions(operator, left, right))
+}
+
 /// The condition that an expression stands for. What breaks a rule stands for some condition.
 #[cycle(conditions)]
 pub fn condition_of(alloc: Global, names: &Names, e: &SourceExpr) -> Result<Cond, AllocError>
@@ -163,9 +191,7 @@ pub fn condition_of(alloc: Global, names: &Names, e: &SourceExpr) -> Result<Cond
         SourceExpr::Field(c, x) => Ok(Cond::Field(field_in(names, c.as_str(), x.as_str()))),
         SourceExpr::Parens(inner) => condition_of(alloc, names, inner),
         SourceExpr::Binary(operator, l, r) if is_joint(*operator) => {
-            let left = boxed_condition(alloc, names, l)?;
-            let right = boxed_condition(alloc, names, r)?;
-            Ok(joined_conditions(*operator, left, right))
+            junction_of(alloc, names, *operator, l, r)
         }
         SourceExpr::Binary(operator, l, r) => comparison_of(alloc, names, *operator, l, r),
         _ => Ok(Cond::False),
@@ -223,6 +249,22 @@ fn choice_of(
     Ok(DataExpr::Select(first, second, third, fourth))
 }
 
+/// The value of cells of an operator between two expressions.
+#[cycle(data)]
+fn operation_of(
+    alloc: Global,
+    names: &Names,
+    operator: Operator,
+    l: &SourceExpr,
+    r: &SourceExpr,
+) -> Result<DataExpr, AllocError>
+    ensures { IfOk result (λ d. datum d ≡ datum_of names.now.fields.now names.now.scope.now (binary operator (tree_of l.now) (tree_of r.now))) }
+{
+    let left = boxed_data(alloc, names, l)?;
+    let right = boxed_data(alloc, names, r)?;
+    Ok(joined_data(operator, left, right))
+}
+
 /// The value of cells that an expression stands for. What breaks a rule stands for some value.
 #[cycle(data)]
 pub fn data_of(alloc: Global, names: &Names, e: &SourceExpr) -> Result<DataExpr, AllocError>
@@ -245,11 +287,7 @@ pub fn data_of(alloc: Global, names: &Names, e: &SourceExpr) -> Result<DataExpr,
             Ok(DataExpr::Neg(value))
         }
         SourceExpr::Parens(inner) => data_of(alloc, names, inner),
-        SourceExpr::Binary(operator, l, r) => {
-            let left = boxed_data(alloc, names, l)?;
-            let right = boxed_data(alloc, names, r)?;
-            Ok(joined_data(*operator, left, right))
-        }
+        SourceExpr::Binary(operator, l, r) => operation_of(alloc, names, *operator, l, r),
         _ => Ok(DataExpr::Lit(0)),
     }
 }

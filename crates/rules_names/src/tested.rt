@@ -6,7 +6,7 @@ ghost use Rattle.text_expressions.specs.Views.{tree_of};
 ghost use Rattle.rules_names.specs.Faults.{charged};
 ghost use Rattle.rules_names.specs.Tables.{found_field};
 ghost use Rattle.rules_names.specs.Tests.{sort_seen};
-ghost use Rattle.rules_names.specs.ExpressionRules.{is_buffer, is_arithmetic, is_quotient, joins_conditions, is_divisor, name_faults, rank_faults, dimension_faults, field_faults, no_such_field, affine_faults};
+ghost use Rattle.rules_names.specs.ExpressionRules.{is_buffer, is_arithmetic, joins_conditions, is_divisor, name_faults, rank_faults, dimension_faults, field_faults, no_such_field, affine_faults};
 
 use crate::error::TypeKind;
 use crate::fault::Charge;
@@ -16,7 +16,7 @@ use exo_tree::{FieldId, Kind};
 use text_expressions::source::{Operator, SourceExpr};
 
 /// What an expression may read at its place.
-#[derive(Clone, Copy, Debug, PartialEq, Eq)]
+#[derive(Clone, Copy)]
 pub struct Reads {
     /// Fields of configurations.
     pub fields: bool,
@@ -56,7 +56,7 @@ pub struct Names<'n> {
 }
 
 /// What the test of an expression tells.
-#[derive(Clone, Copy, Debug, PartialEq, Eq)]
+#[derive(Clone, Copy)]
 pub struct Tested {
     /// The first rule that it breaks, and whether one that it breaks hides those of what it is a part of.
     pub charge: Charge,
@@ -167,16 +167,6 @@ pub fn is_arithmetic(operator: Operator) -> bool
 {
     match operator {
         Operator::Add | Operator::Sub | Operator::Mul | Operator::Div | Operator::Mod => true,
-        _ => false,
-    }
-}
-
-/// Quotients and remainders.
-pub fn is_quotient(operator: Operator) -> bool
-    ensures { result ≡ is_quotient operator }
-{
-    match operator {
-        Operator::Div | Operator::Mod => true,
         _ => false,
     }
 }

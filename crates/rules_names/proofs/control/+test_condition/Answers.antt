@@ -1,12 +1,12 @@
-use Rattle.std.proofs.Common.{◌≡◌, ◌+◌, sym, ap, refl, ◌∙◌, arith, map, false}
-use Rattle.text_expressions.specs.Expression.{parens, binary}
+use Rattle.std.proofs.Common.{◌≡◌, sym, ap, ◌∙◌, arith, false}
+use Rattle.text_expressions.specs.Expression.{parens}
 use Rattle.text_expressions.specs.Views.{tree_of}
 use Rattle.rules_names.specs.Faults.{fault}
 use Rattle.rules_names.specs.declared.error.TypeKind.TheVariants.{KindMismatch}
 use Rattle.rules_names.specs.Tests.{reads}
 use Rattle.rules_names.specs.ExpressionRules.{is_arithmetic, joins_conditions, condition_faults, may_be_condition}
 use Rattle.rules_names.proofs.Seen.{seen_truth, seen_parens, sides}
-use Rattle.rules_names.proofs.Wide.{wide, wide_truth, wide_name, wide_field, wide_parens, wide_binary}
+use Rattle.rules_names.proofs.Wide.{wide, wide_name, wide_field, wide_parens, wide_binary}
 use Rattle.rules_names.proofs.Widths.{width_truth}
 use Rattle.rules_names.proofs.Told.{tells_as, told_parens}
 use Rattle.rules_names.proofs.Controls.{told_condition, told_comparison}

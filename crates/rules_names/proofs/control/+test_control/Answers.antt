@@ -1,5 +1,5 @@
-use Rattle.std.proofs.Common.{◌≡◌, ◌+◌, sym, ap, refl, ◌∙◌, arith, map}
-use Rattle.text_expressions.specs.Expression.{negative, parens, binary}
+use Rattle.std.proofs.Common.{sym, ap, ◌∙◌, arith}
+use Rattle.text_expressions.specs.Expression.{negative, parens}
 use Rattle.text_expressions.specs.Views.{tree_of}
 use Rattle.text_lexer.specs.declared.token.Literal.TheVariants.{Value}
 use Rattle.rules_names.specs.Faults.{fault}
@@ -7,7 +7,7 @@ use Rattle.rules_names.specs.declared.error.TypeKind.TheVariants.{KindMismatch}
 use Rattle.rules_names.specs.Tests.{reads}
 use Rattle.rules_names.specs.ExpressionRules.{is_divisor, unknown_first, control_faults, may_be_control}
 use Rattle.rules_names.proofs.Seen.{seen_int, seen_negative, seen_parens, sides}
-use Rattle.rules_names.proofs.Wide.{wide, wide_int, wide_name, wide_field, wide_stride, wide_negative, wide_parens, wide_binary}
+use Rattle.rules_names.proofs.Wide.{wide, wide_name, wide_field, wide_stride, wide_negative, wide_parens, wide_binary}
 use Rattle.rules_names.proofs.Widths.{width_number}
 use Rattle.rules_names.proofs.Told.{tells_as, varies_as, varies_parens, varies_wrong, told_negative, told_parens}
 use Rattle.rules_names.proofs.Controls.{told_arithmetic}

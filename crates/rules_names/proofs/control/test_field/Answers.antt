@@ -1,4 +1,4 @@
-use Rattle.std.proofs.Common.{◌≡◌, ◌+◌, sym, ap, ◌∙◌, arith}
+use Rattle.std.proofs.Common.{ap, ◌∙◌, arith}
 use Rattle.rules_names.specs.Faults.{charged}
 use Rattle.rules_names.specs.Names.{field_in}
 use Rattle.rules_names.specs.ExpressionRules.{field_faults}

@@ -1,4 +1,4 @@
-use Rattle.std.proofs.Common.{◌≡◌, ◌+◌, sym, ap, ◌∙◌, arith}
+use Rattle.std.proofs.Common.{sym, ap, ◌∙◌, arith}
 use Rattle.exo_meaning.specs.Units.{is_number}
 use Rattle.rules_names.specs.Faults.{charged}
 use Rattle.rules_names.specs.Names.{named_in, sort_of}

@@ -1,12 +1,12 @@
-use Rattle.std.proofs.Common.{◌≡◌, ◌+◌, ◌++◌, sym, ap, refl, ◌∙◌, arith, map}
+use Rattle.std.proofs.Common.{sym, ap, ◌∙◌, arith, map}
 use Rattle.text_lexer.specs.declared.token.Literal.TheVariants.{Value}
-use Rattle.text_expressions.specs.Expression.{access, relu, select, negative, parens, binary, trees}
+use Rattle.text_expressions.specs.Expression.{access, relu, negative, parens, trees}
 use Rattle.text_expressions.specs.Views.{tree_of}
 use Rattle.rules_names.specs.Faults.{fault}
 use Rattle.rules_names.specs.declared.error.TypeKind.TheVariants.{KindMismatch}
 use Rattle.rules_names.specs.ExpressionRules.{width, closed_width, read_faults, data_faults, may_be_data}
 use Rattle.rules_names.proofs.Seen.{seen_int, seen_name, seen_access, seen_relu, seen_negative, seen_parens, sides, choices}
-use Rattle.rules_names.proofs.Wide.{wide, wide_int, wide_name, wide_access, wide_relu, wide_select, wide_negative, wide_parens, wide_binary}
+use Rattle.rules_names.proofs.Wide.{wide, wide_name, wide_access, wide_relu, wide_negative, wide_parens, wide_binary}
 use Rattle.rules_names.proofs.Widths.{width_number, width_variable, width_select}
 use Rattle.rules_names.proofs.Told.{tells_as, told_access, told_relu, told_select, told_negative, told_parens}
 use Rattle.rules_names.proofs.Controls.{told_sum}

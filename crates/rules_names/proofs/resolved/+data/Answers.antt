@@ -1,4 +1,4 @@
-use Rattle.std.proofs.Common.{◌≡◌, ◌+◌, ◌*◌, ap, sym, ◌∙◌, arith, map}
+use Rattle.std.proofs.Common.{ap, sym, ◌∙◌, arith, map}
 use Rattle.exo_tree.specs.Tree.{Read}
 use Rattle.text_expressions.specs.Views.{tree_of}
 use Rattle.rules_names.specs.ExpressionRules.{width}
@@ -27,13 +27,9 @@ pub data_of-data_of-requires : goal.data_of-data_of-requires
 data_of-data_of-requires t c =
     let w = wide_parens _ _ c.in-Parens.is in let v = ap wide c.deref-in-Parens.ensures in (omega arith, tt)
 
-pub data_of-boxed_data-requires-in-Binary : goal.data_of-boxed_data-requires-in-Binary
-data_of-boxed_data-requires-in-Binary t c =
-    let w = wide_binary _ _ _ _ c.in-Binary.is in let v = ap wide c.deref-in-Binary.ensures in (omega arith, tt)
-
-pub data_of-boxed_data-requires-in-Binary-2 : goal.data_of-boxed_data-requires-in-Binary-2
-data_of-boxed_data-requires-in-Binary-2 t c =
-    let w = wide_binary _ _ _ _ c.in-Binary.is in let v = ap wide c.deref-in-Binary-2.ensures in (omega arith, tt)
+pub data_of-operation_of-requires : goal.data_of-operation_of-requires
+data_of-operation_of-requires t c =
+    let w = wide_binary _ _ _ _ c.in-Binary.is in let v = ap wide c.deref-in-Binary.ensures in let u = ap wide c.deref-in-Binary-2.ensures in (omega arith, tt)
 
 pub data_of-returns-in_ok-indices-in-Access : goal.data_of-returns-in_ok-indices-in-Access
 data_of-returns-in_ok-indices-in-Access t c =
