@@ -1,67 +1,7 @@
-use Rattle.std.proofs.Common.{◌≡◌, ◌+◌, List, map, ap, sym, refl, subst, ◌∙◌}
-use Rattle.text_expressions.specs.Views.{tree_of}
-use Rattle.text_expressions.specs.declared.source.SourceExpr.{SourceExpr}
-use Rattle.exo_reader.specs.Source.{block_of}
-use Rattle.exo_reader.specs.Views.{plain_parameter, plain_definition, plain_statement}
-use Rattle.exo_reader.specs.declared.source.SourceParam.{SourceParam}
-use Rattle.exo_reader.specs.declared.source.SourceStmt.{SourceStmt}
-use Rattle.exo_types.specs.StatementRules.{block_width}
-use Rattle.exo_types.specs.ItemRules.{params_width, asserts_width, asserts_start, body_start, definition_end}
-use Rattle.exo_types.specs.Walks.{HasRoom, IsBlock, block_fault}
-use Rattle.exo_types.specs.Definitions.{AreParams, AreAsserts}
+use Rattle.std.proofs.Common.{◌≡◌, subst}
+use Rattle.exo_reader.specs.Views.{plain_definition}
+use Rattle.exo_types.specs.Walks.{HasRoom}
 use Rattle.exo_types.specs.Refusals.{Refuses}
+use Rattle.exo_types.specs.Definitions.{HasSpace, IsDefined, definition_fault}
 use Rattle.exo_types.proofs.Broken.{exit}
-use Rattle.exo_types.proofs.Defining.{IsFirst, behind, room_behind, refused_body, defined}
 use Rattle.exo_types.proofs.definition.definition_of.Goals as goal
-
-pub block_of-requires : goal.block_of-requires
-block_of-requires c =
-    let context = c.args.context.now in
-    let id = c.args.first_id in
-    let n = c.args.n in
-    let d = plain_definition c.args.definition.now in
-    let walk = c.params_of.new.walk in
-    let first : IsFirst context c.first_walk-walk.result id = record { scope = c.first_walk-walk.ensures.scope; aliases = c.first_walk-walk.ensures.aliases; ids = c.first_walk-walk.ensures.ids; lines = c.first_walk-walk.ensures.lines } in
-    let made = subst (λ (l : List SourceParam). AreParams context c.first_walk-walk.result walk c.in_ok-params.params (n + 3) (map plain_parameter l)) c.deref.ensures.value c.in_ok-params.ensures.made in
-    let b = behind context c.first_walk-walk.result walk c.in_ok-params.params id n d first made in
-    let closed : c.in_ok-params.closed ≡ n + 3 + params_width d.params = c.in_ok-params.ensures.end ∙ ap (λ l. n + 3 + params_width (map plain_parameter l)) c.deref.ensures.value in
-    let start : c.in_ok-params.closed + c.comma_width.result + 3 ≡ asserts_start n d = λ i. closed i + c.comma_width.ensures i + 3 in
-    let asserts = subst (λ (l : List SourceExpr). AreAsserts context walk.scope (c.in_ok-params.closed + c.comma_width.result + 3) c.in_ok-asserts.asserts (map tree_of l)) c.deref-2.ensures.value c.in_ok-asserts.ensures.made in
-    let middle : c.in_ok-asserts.middle ≡ body_start n d = c.in_ok-asserts.ensures.end ∙ (λ i. start i + asserts_width (map tree_of (c.deref-2.ensures.value i))) in
-    subst (λ (l : List SourceStmt). HasRoom context walk c.in_ok-asserts.middle (block_width (block_of (map plain_statement l)))) (sym c.deref-3.ensures.value) (room_behind context walk c.in_ok-params.params id n c.in_ok-asserts.middle d c.requires b middle)
-
-pub returns-in_err-body : goal.returns-in_err-body
-returns-in_err-body c =
-    let context = c.args.context.now in
-    let id = c.args.first_id in
-    let n = c.args.n in
-    let d = plain_definition c.args.definition.now in
-    let walk = c.params_of.new.walk in
-    let first : IsFirst context c.first_walk-walk.result id = record { scope = c.first_walk-walk.ensures.scope; aliases = c.first_walk-walk.ensures.aliases; ids = c.first_walk-walk.ensures.ids; lines = c.first_walk-walk.ensures.lines } in
-    let made = subst (λ (l : List SourceParam). AreParams context c.first_walk-walk.result walk c.in_ok-params.params (n + 3) (map plain_parameter l)) c.deref.ensures.value c.in_ok-params.ensures.made in
-    let b = behind context c.first_walk-walk.result walk c.in_ok-params.params id n d first made in
-    let closed : c.in_ok-params.closed ≡ n + 3 + params_width d.params = c.in_ok-params.ensures.end ∙ ap (λ l. n + 3 + params_width (map plain_parameter l)) c.deref.ensures.value in
-    let start : c.in_ok-params.closed + c.comma_width.result + 3 ≡ asserts_start n d = λ i. closed i + c.comma_width.ensures i + 3 in
-    let asserts = subst (λ (l : List SourceExpr). AreAsserts context walk.scope (c.in_ok-params.closed + c.comma_width.result + 3) c.in_ok-asserts.asserts (map tree_of l)) c.deref-2.ensures.value c.in_ok-asserts.ensures.made in
-    let middle : c.in_ok-asserts.middle ≡ body_start n d = c.in_ok-asserts.ensures.end ∙ (λ i. start i + asserts_width (map tree_of (c.deref-2.ensures.value i))) in
-    let refused = subst (λ (l : List SourceStmt). Refuses c.in_err-body.field-0.0 (block_fault context walk c.in_ok-asserts.middle (block_of (map plain_statement l)))) c.deref-3.ensures.value c.in_err-body.ensures.made in
-    exit _ _ _ _ c.from_residual-in_err-body.ensures.1 (refused_body context walk c.in_ok-params.params id n _ c.in_ok-asserts.middle d c.in_ok-asserts.asserts _ b start asserts middle refused)
-
-pub returns : goal.returns
-returns c =
-    let context = c.args.context.now in
-    let id = c.args.first_id in
-    let n = c.args.n in
-    let d = plain_definition c.args.definition.now in
-    let walk = c.params_of.new.walk in
-    let first : IsFirst context c.first_walk-walk.result id = record { scope = c.first_walk-walk.ensures.scope; aliases = c.first_walk-walk.ensures.aliases; ids = c.first_walk-walk.ensures.ids; lines = c.first_walk-walk.ensures.lines } in
-    let made = subst (λ (l : List SourceParam). AreParams context c.first_walk-walk.result walk c.in_ok-params.params (n + 3) (map plain_parameter l)) c.deref.ensures.value c.in_ok-params.ensures.made in
-    let b = behind context c.first_walk-walk.result walk c.in_ok-params.params id n d first made in
-    let closed : c.in_ok-params.closed ≡ n + 3 + params_width d.params = c.in_ok-params.ensures.end ∙ ap (λ l. n + 3 + params_width (map plain_parameter l)) c.deref.ensures.value in
-    let start : c.in_ok-params.closed + c.comma_width.result + 3 ≡ asserts_start n d = λ i. closed i + c.comma_width.ensures i + 3 in
-    let asserts = subst (λ (l : List SourceExpr). AreAsserts context walk.scope (c.in_ok-params.closed + c.comma_width.result + 3) c.in_ok-asserts.asserts (map tree_of l)) c.deref-2.ensures.value c.in_ok-asserts.ensures.made in
-    let middle : c.in_ok-asserts.middle ≡ body_start n d = c.in_ok-asserts.ensures.end ∙ (λ i. start i + asserts_width (map tree_of (c.deref-2.ensures.value i))) in
-    let after = c.block_of.new.walk in
-    let block = subst (λ (l : List SourceStmt). IsBlock context walk after c.in_ok-body.body c.in_ok-asserts.middle (block_of (map plain_statement l))) c.deref-3.ensures.value c.in_ok-body.ensures.made in
-    let last : c.in_ok-body.end + 1 ≡ definition_end n d = (λ i. c.in_ok-body.ensures.end i + 1) ∙ (λ i. middle i + block_width (block_of (map plain_statement (c.deref-3.ensures.value i))) + 1) in
-    defined context walk after id n _ c.in_ok-asserts.middle c.args.template d _ b start asserts middle block (c.in_ok-name.ensures ∙ c.as_str.ensures) refl refl refl last

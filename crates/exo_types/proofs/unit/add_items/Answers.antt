@@ -5,7 +5,7 @@ use Rattle.exo_reader.specs.Views.{plain_item}
 use Rattle.exo_types.proofs.Lists.{drop_read}
 use Rattle.exo_types.proofs.Broken.{exit}
 use Rattle.exo_types.proofs.Items.{Below, one_added, item_refused, all_added}
-use Rattle.exo_types.proofs.unit.unit_of.Goals as goal
+use Rattle.exo_types.proofs.unit.add_items.Goals as goal
 
 pub loop-item-preserved : goal.loop-item-preserved
 loop-item-preserved c =
