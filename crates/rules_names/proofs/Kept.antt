@@ -163,7 +163,7 @@ module _ (fields : List ConfigField) (may : Reads) (scope : Scope) (keeps : Keep
   literals_kept n (relu e) h v = absurd (wrong_none fields scope n (relu e) h)
   literals_kept n (select a b c d) h v = absurd (wrong_none fields scope n (select a b c d) h)
   literals_kept n (negative e) h v = literals_kept (n + 1) e h v
-  literals_kept n (parens e) h v = inner_kept n e (may_be_control e) (is_of_literals (control_of fields scope e) ≡ true) h (λ p. literals_kept (n + 1) e p v)
+  literals_kept n (parens e) h v = inner_kept n e (may_be_control fields scope e) (is_of_literals (control_of fields scope e) ≡ true) h (λ p. literals_kept (n + 1) e p v)
   literals_kept n (binary o.Or l r) h v = absurd (wrong_none fields scope n (binary o.Or l r) h)
   literals_kept n (binary o.And l r) h v = absurd (wrong_none fields scope n (binary o.And l r) h)
   literals_kept n (binary o.Lt l r) h v = absurd (wrong_none fields scope n (binary o.Lt l r) h)
@@ -203,7 +203,7 @@ module _ (fields : List ConfigField) (may : Reads) (scope : Scope) (keeps : Keep
   control_kept n (relu e) f h = absurd (wrong_none fields scope n (relu e) h)
   control_kept n (select a b c d) f h = absurd (wrong_none fields scope n (select a b c d) h)
   control_kept n (negative e) f h = control_kept (n + 1) e f h
-  control_kept n (parens e) f h = inner_kept n e (may_be_control e) (is_control (field_kind fields) may scope (control_of fields scope e) ≡ true) h (control_kept (n + 1) e f)
+  control_kept n (parens e) f h = inner_kept n e (may_be_control fields scope e) (is_control (field_kind fields) may scope (control_of fields scope e) ≡ true) h (control_kept (n + 1) e f)
   control_kept n (binary o.Or l r) f h = absurd (wrong_none fields scope n (binary o.Or l r) h)
   control_kept n (binary o.And l r) f h = absurd (wrong_none fields scope n (binary o.And l r) h)
   control_kept n (binary o.Lt l r) f h = absurd (wrong_none fields scope n (binary o.Lt l r) h)
@@ -255,7 +255,7 @@ module _ (fields : List ConfigField) (may : Reads) (scope : Scope) (keeps : Keep
   condition_kept n (relu e) f h = absurd (wrong_none fields scope n (relu e) h)
   condition_kept n (select a b c d) f h = absurd (wrong_none fields scope n (select a b c d) h)
   condition_kept n (negative e) f h = absurd (wrong_none fields scope n (negative e) h)
-  condition_kept n (parens e) f h = inner_condition n e (may_be_condition e) (is_condition (field_kind fields) may scope (condition_of fields scope e) ≡ true) h (condition_kept (n + 1) e f)
+  condition_kept n (parens e) f h = inner_condition n e (may_be_condition fields scope e) (is_condition (field_kind fields) may scope (condition_of fields scope e) ≡ true) h (condition_kept (n + 1) e f)
   condition_kept n (binary o.Or l r) f h =
       let s = both (fit l) (fit r) f in
       pair _ _ (condition_kept n l s.0 (left_none (condition_faults fields may scope n l) _ h)) (condition_kept (n + width l + 1) r s.1 (right_none (condition_faults fields may scope n l) _ h))
@@ -335,7 +335,7 @@ module _ (fields : List ConfigField) (scope : Scope) (keeps : KeepsIds scope) wh
       (pair _ _ (data_kept (n + 2) a u.0 (left_none (data_faults fields scope (n + 2) a) _ h)) (data_kept second b u.1 (left_none (data_faults fields scope second b) _ p)))
       (pair _ _ (data_kept third c v.0 (left_none (data_faults fields scope third c) _ q)) (data_kept fourth d v.1 (right_none (data_faults fields scope third c) _ q)))
   data_kept n (negative e) f h = data_kept (n + 1) e f h
-  data_kept n (parens e) f h = inner_data n e (may_be_data e) (is_datum (field_kind fields) scope (datum_of fields scope e) ≡ true) h (data_kept (n + 1) e f)
+  data_kept n (parens e) f h = inner_data n e (may_be_data fields scope e) (is_datum (field_kind fields) scope (datum_of fields scope e) ≡ true) h (data_kept (n + 1) e f)
   data_kept n (binary o.Or l r) f h = absurd (wrong_none fields scope n (binary o.Or l r) h)
   data_kept n (binary o.And l r) f h = absurd (wrong_none fields scope n (binary o.And l r) h)
   data_kept n (binary o.Lt l r) f h = absurd (wrong_none fields scope n (binary o.Lt l r) h)
