@@ -305,7 +305,10 @@ fn branch_of<'c>(
     let condition = boxed_condition(context.alloc, &names, c)?;
     let (then_part, end) = block_of(context, walk, tested.end + 3, a)?;
     let (else_part, next) = else_of(context, walk, end + 1, b)?;
-    Ok((Stmt::If(Box::into_inner(condition), then_part, else_part), next))
+    Ok((
+        Stmt::If(Box::into_inner(condition), then_part, else_part),
+        next,
+    ))
 }
 
 /// The block of an `else`, which is token `n`, or an empty one, and the number of the token behind it.

@@ -157,7 +157,11 @@ fn truth_of(b: bool) -> Cond
 
 /// The condition that an expression stands for, in a box.
 #[cycle(conditions)]
-pub fn boxed_condition(alloc: Global, names: &Names, e: &SourceExpr) -> Result<Box<Cond>, AllocError>
+pub fn boxed_condition(
+    alloc: Global,
+    names: &Names,
+    e: &SourceExpr,
+) -> Result<Box<Cond>, AllocError>
     ensures { IfOk result (λ c. condition c.value ≡ condition_of names.now.fields.now names.now.scope.now (tree_of e.now)) }
 {
     let value = condition_of(alloc, names, e)?;
