@@ -14,9 +14,9 @@ ghost use Rattle.rules_names.specs.ExpressionRules.{width, closed_width, is_divi
 use crate::error::TypeKind;
 use crate::fault::Charge;
 use crate::tested::{
-    Names, Reads, Tested, affine_charge, all_of, any_of, dimension_charge, field_charge, field_suits,
-    is_arithmetic, is_buffer, is_divisor, is_flag, is_number, joins_conditions, missing_field,
-    name_charge, suits,
+    Names, Reads, Tested, affine_charge, all_of, any_of, dimension_charge, field_charge,
+    field_suits, is_arithmetic, is_buffer, is_divisor, is_flag, is_number, joins_conditions,
+    missing_field, name_charge, suits,
 };
 use crate::width::end_of;
 use text_expressions::source::{Operator, SourceExpr};

@@ -47,7 +47,11 @@ fn test_cell(names: &Names, n: usize, x: &Text) -> Tested
     let sort = names.scope.sort(x.as_str());
     let fits = is_buffer(sort);
     let parts = name_charge(sort, fits, n);
-    named(parts.then_whole(rank_charge(sort, 0, n)), n + 1, suits(sort, fits))
+    named(
+        parts.then_whole(rank_charge(sort, 0, n)),
+        n + 1,
+        suits(sort, fits),
+    )
 }
 
 /// The test of a cell with its indices.

@@ -8,7 +8,9 @@ use Rattle.exo_meaning.specs.Renaming.{Renaming, re_coords, re_argument}
 use Rattle.text_expressions.specs.Expression.{Tree, trees}
 use Rattle.exo_reader.specs.Source as source
 use Rattle.exo_reader.specs.Source.{point, span}
+use Rattle.rules_names.specs.declared.error.TypeKind.TheVariants.{RankMismatch}
 use Rattle.rules_names.specs.declared.fault.Fault.{Fault}
+use Rattle.rules_names.specs.Faults.{unless}
 use Rattle.rules_names.specs.Names.{id_in, named_in, sort_of}
 use Rattle.rules_names.specs.ExpressionRules.{width, name_faults, rank_faults, control_faults, controls_faults, condition_faults, list_of}
 use Rattle.rules_names.specs.Resolved.{control_of, condition_of}
@@ -149,6 +151,9 @@ module _ (w : Words) (fields : List ConfigField) (r : Renaming) (scope : Scope) 
       parts_fine _ _ (joined_fine _ _ (front_none (name_faults test sort n) _ h) (points_faults (n + 2) es ∙ back_none (rank_faults sort (length (points es)) n) _ behind))
       (joined_fine _ _ (ap (λ k. rank_faults sort k n) (sym (length-map es point)) ∙ front_none (rank_faults sort (length (points es)) n) _ behind) m)
 
+  low_part : (test : Option Sort → Bool) (x : ℕ) (c : Coord) (cs : List Coord) → test None ≡ false → test (sort_in scope x) ≡ true → has_span (c ∷ cs) ≡ false → is_window kinds scope x (c ∷ cs) ≡ true → (n : ℕ) (more : List Fault) → more ≡ [] → part_faults fields test there n (w.name x) (list_of (trees (map (written.low_tree w fields) (c ∷ cs)))) more ≡ []
+  low_part test x c cs absent t none h n more m = part_fine test n (w.name x) (list_of (trees (map (written.low_tree w fields) (c ∷ cs)))) more (low_fine test x c cs absent t none h n) m
+
   tensor_fine : (cell : Cell) (dims : List Control) (memory x : ℕ) (cs : List Coord) → HasSome cs → is_for kinds scope (TensorParam cell dims memory) (Window x cs) ≡ true → (n : ℕ) → argument_faults fields there (TensorParam cell dims memory) n (written.window_of w fields (w.name x) cs) ≡ []
   tensor_fine cell dims memory x [] some h n = absurd some
   tensor_fine cell dims memory x (c ∷ cs) some h n = by (has_span (c ∷ cs)) refl
@@ -170,7 +175,7 @@ module _ (w : Words) (fields : List ConfigField) (r : Renaming) (scope : Scope) 
 
       by : (t : Bool) → has_span (c ∷ cs) ≡ t → argument_faults fields there (TensorParam cell dims memory) n (if t then source.window (w.name x) (map (written.coordinate_of w fields) (c ∷ cs)) else source.value (access_tree (w.name x) (map (written.low_tree w fields) (c ∷ cs)))) ≡ []
       by true p = joined_fine _ _ (window_fine w fields r scope finds finds_fields (cell_takes cell (length dims)) x (c ∷ cs) refl takes inner.0 n) (unless_fine _ _ n same_spans)
-      by false p = part_fine (cell_takes cell (length dims)) n (w.name x) _ [] (low_fine (cell_takes cell (length dims)) x c cs refl takes p inner.0 n) refl
+      by false p = low_part (cell_takes cell (length dims)) x c cs refl takes p inner.0 n [] refl
 
   strided_fine : (cell : Cell) (dims : List Control) (memory x : ℕ) (cs : List Coord) → HasSome cs → is_for kinds scope (WindowParam cell dims memory) (Window x cs) ≡ true → (n : ℕ) → argument_faults fields there (WindowParam cell dims memory) n (written.window_of w fields (w.name x) cs) ≡ []
   strided_fine cell dims memory x [] some h n = absurd some
@@ -187,7 +192,7 @@ module _ (w : Words) (fields : List ConfigField) (r : Renaming) (scope : Scope) 
           joined_fine _ _ (window_fine w fields r scope finds finds_fields (has_cell cell) x (c ∷ cs) refl has.0 inner.0 n)
           (unless_fine _ _ n (eq-eqb _ _ (spans_same (c ∷ cs) ∙ sym (eqb-true _ _ inner.1))))
       by false p =
-          part_fine (has_cell cell) n (w.name x) _ _ (low_fine (has_cell cell) x c cs refl has.0 p inner.0 n)
+          low_part (has_cell cell) x c cs refl has.0 p inner.0 n (unless ((length dims) == 0) RankMismatch n)
           (unless_fine _ _ n (eq-eqb _ _ (eqb-true _ _ inner.1 ∙ no_spans (c ∷ cs) p)))
 
   pub argument_fine : (kind : ParamKind) (a : Argument) → is_for kinds scope kind a ≡ true → HasCoords a → (n : ℕ) → argument_faults fields there kind n (written.argument_of w fields a) ≡ []
