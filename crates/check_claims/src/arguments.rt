@@ -4,7 +4,8 @@ ghost use Rattle.std.specs.Option.{option_copied};
 ghost use Rattle.exo_tree.specs.PlainControl.{control, condition, coordinate};
 ghost use Rattle.exo_tree.specs.PlainParam.{parameter};
 ghost use Rattle.exo_tree.specs.PlainArgument.{argument};
-ghost use Rattle.check_claims.specs.Arguments.{passed_for, number_for, truth_for, is_span, span_place, window_stride, stride_for, control_under, condition_under};
+ghost use Rattle.exo_tree.specs.Spans.{is_span};
+ghost use Rattle.check_claims.specs.Arguments.{passed_for, number_for, truth_for, span_place, window_stride, stride_for, control_under, condition_under};
 
 use exo_tree::{Arg, Args, Cond, Coord, Ctrl, Id, Param, Params};
 use std::alloc::{AllocError, Global};
