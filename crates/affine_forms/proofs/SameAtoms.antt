@@ -5,7 +5,8 @@ use Rattle.std.proofs.lemmas.Bool.Decides.{nat_tests}
 use Rattle.std.specs.Ordering.{int_eq}
 use Rattle.exo_tree.specs.Tree.{Kind, Size, Index, Truth, Stride}
 use Rattle.exo_tree.specs.Places.{Branch, Main, Else, Step, Path}
-use Rattle.affine_forms.specs.Atoms.{same_branch, same_step, same_kind, same_path, Atom, Variable, EntryField, UnknownField, OpaqueStride, Quotient, Terms, none, term, taken, same_atom, same_terms}
+use Rattle.exo_tree.specs.Places.{same_branch, same_step, same_path}
+use Rattle.affine_forms.specs.Atoms.{same_kind, Atom, Variable, EntryField, UnknownField, OpaqueStride, Quotient, Terms, none, term, taken, same_atom, same_terms}
 use Rattle.affine_forms.proofs.Values.{some_injective, none_some, and_parts, int_eq_same, same_kind_is, same_path_is}
 
 int_eq_sym : (a b : ℤ) → int_eq a b ≡ int_eq b a

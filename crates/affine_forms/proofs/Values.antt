@@ -6,7 +6,8 @@ use Rattle.std.proofs.Math.IntN.{*ℤ-zero}
 use Rattle.std.specs.Int.{int_div_euclid}
 use Rattle.std.specs.Ordering.{int_eq}
 use Rattle.exo_tree.specs.Tree.{Kind, Size, Index, Truth, Stride}
-use Rattle.affine_forms.specs.Atoms.{same_branch, same_step, same_kind, same_path, Atom, Variable, EntryField, UnknownField, OpaqueStride, Quotient, Terms, none, term, Linear, Valuation, atom_value, terms_value, value, taken, same_atom, same_terms, with_term, terms_added, added, terms_scaled, scaled, subtracted, present}
+use Rattle.exo_tree.specs.Places.{same_branch, same_step, same_path}
+use Rattle.affine_forms.specs.Atoms.{same_kind, Atom, Variable, EntryField, UnknownField, OpaqueStride, Quotient, Terms, none, term, Linear, Valuation, atom_value, terms_value, value, taken, same_atom, same_terms, with_term, terms_added, added, terms_scaled, scaled, subtracted, present}
 use Rattle.exo_tree.specs.Places.{Branch, Main, Else, Step, Path}
 use Rattle.affine_forms.proofs.Integers.{add-times, times-add, times_assoc}
 

@@ -3,22 +3,10 @@ use Rattle.std.specs.Prelude.{◌≡◌, ◌+◌, ℕ, ℤ, [], ◌∷◌}
 use Rattle.std.specs.Coded.{Coded, coded_ℤ, coded×, code_by}
 use Rattle.std.proofs.Common.{ap, arith, refl}
 use base.Stored.{Gv, gnil, gnum, gcons, num}
+use Rattle.exo_tree.specs.CodeParts.{left, right, tag}
 use Rattle.exo_tree.specs.Tree.{Kind, Size, Index, Truth, Stride}
 use Rattle.exo_tree.specs.Places.{Branch, Main, Else, Step, Path}
 use Rattle.affine_forms.specs.Atoms.{Atom, Variable, EntryField, UnknownField, OpaqueStride, Quotient, Terms, none, term, Linear}
-
-abbrev pub left : Gv → Gv
-left gnil = gnil
-left (gnum n) = gnil
-left (gcons a b) = a
-
-abbrev pub right : Gv → Gv
-right gnil = gnil
-right (gnum n) = gnil
-right (gcons a b) = b
-
-abbrev pub tag : Gv → ℕ
-tag g = num (left g)
 
 abbrev pub code_kind : Kind → Gv
 code_kind Size = gnum 0

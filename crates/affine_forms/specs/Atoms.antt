@@ -4,7 +4,7 @@ use Rattle.std.specs.Prelude.{ℕ, ℤ, pos, negsuc, ◌+ℤ◌, ◌*ℤ◌, ◌
 use Rattle.std.specs.Int.{int_div_euclid, int_rem_euclid}
 use Rattle.std.specs.Ordering.{int_eq}
 use Rattle.exo_tree.specs.Tree.{Kind, Size, Index, Truth, Stride}
-use Rattle.exo_tree.specs.Places.{Branch, Main, Else, Step, Path}
+use Rattle.exo_tree.specs.Places.{Path, same_path}
 
 mutual
   -- a variable; a configuration field at entry, and one whose value some statement made unknown, each with the field's kind;
@@ -50,21 +50,6 @@ abbrev pub value : Valuation → Linear → ℤ
 value v l = l.constant +ℤ terms_value v l.terms
 
 -- ---- equal atoms, and sums that are equal in any order
-
-abbrev pub same_branch : Branch → Branch → Bool
-same_branch Main Main = true
-same_branch Else Else = true
-same_branch Main Else = false
-same_branch Else Main = false
-
-abbrev pub same_step : Step → Step → Bool
-same_step s t = same_branch s.branch t.branch && (s.index == t.index)
-
-abbrev pub same_path : Path → Path → Bool
-same_path [] [] = true
-same_path [] (t ∷ q) = false
-same_path (s ∷ p) [] = false
-same_path (s ∷ p) (t ∷ q) = same_step s t && same_path p q
 
 abbrev pub same_kind : Kind → Kind → Bool
 same_kind Size k = elim k [ Size ↦ true | Index ↦ false | Truth ↦ false | Stride ↦ false ]

@@ -220,16 +220,6 @@ impl Linear {
         })
     }
 
-    /// The form as one to go on with.
-    pub fn draft(&self, alloc: Global) -> Result<Draft, AllocError>
-        ensures { IfOk result (λ l. l ≡ self.now) }
-    {
-        Ok(Draft {
-            constant: self.constant,
-            terms: self.terms.duplicate(alloc)?,
-        })
-    }
-
     /// An atom alone.
     pub fn only(alloc: Global, atom: Atom) -> Result<Linear, AllocError>
         requires { IsTrue (is_kept_atom (plain_atom atom)) }

@@ -1,5 +1,5 @@
 -- A well-formed procedure keeps the rules of affine ones.
-use Rattle.std.proofs.Common.{◌≡◌, ℕ, pos, int_lt, nat_lt, Bool, true, not, ◌&&◌, ◌||◌, List, [], ◌∷◌, length, Option, Some, None, refl, sym, ap₂, ◌∙◌, true≢false}
+use Rattle.std.proofs.Common.{◌≡◌, ℕ, pos, int_lt, nat_lt, Bool, true, not, ◌&&◌, ◌||◌, List, [], ◌∷◌, length, Option, Some, None, refl, sym, ap₂, true≢false}
 use Rattle.std.specs.List.{list_all}
 use Rattle.std.specs.Int.{is_positive}
 use Rattle.exo_tree.specs.Tree.{Kind, Index, Control, Lit, Var, Field, StrideOf, Neg, Add, Sub, Mul, Div, Mod, Condition, True, False, Flag, FieldFlag, Lt, Le, Gt, Ge, Eq, And, Or, Argument, ControlArg, ConditionArg, Whole, Window, Statement, Assign, Reduce, Config, Pass, If, For, Alloc, View, Call, Block, end, next, Param, ParamKind, ControlParam, TensorParam, WindowParam}

@@ -4,7 +4,8 @@ use Rattle.std.specs.Coded.{Coded, coded_ℕ, coded×, code_by}
 use Rattle.std.proofs.Common.{ap, arith, refl}
 use base.Stored.{Gv, gnum, gcons}
 use Rattle.exo_tree.specs.Codes.{argument_code}
-use Rattle.affine_forms.specs.AtomCodes.{right, tag, code_path, same_path}
+use Rattle.exo_tree.specs.CodeParts.{right, tag}
+use Rattle.affine_forms.specs.AtomCodes.{code_path, same_path}
 use Rattle.affine_places.specs.Facts.{Fact, Known, UnknownAt, FieldFact}
 
 abbrev pub code_fact : Fact → Gv

@@ -1,6 +1,7 @@
 -- Which root each name of a procedure stands for, and over which dimension of the root each coordinate of the name runs.
 use Rattle.std.specs.Prelude.{ℕ, Bool, true, false, ◌&&◌, List, [], ◌∷◌, length, slice_get, if◌then◌else◌, Option, Some, None}
 use Rattle.std.specs.List.{range_with_len}
+use Rattle.exo_tree.specs.Spans.{is_span}
 use Rattle.exo_tree.specs.Tree.{Control, Coord, At, Span, Statement, Assign, Reduce, Config, Pass, If, For, Alloc, View, Call, Block, end, next, Param, ParamKind, ControlParam, TensorParam, WindowParam, Procedure, Program}
 use Rattle.exo_meaning.specs.Scene.{updated}
 use Rattle.exo_meaning.specs.Units.{is_rank}
@@ -40,10 +41,6 @@ with_kind x (WindowParam cell extents memory) roots = with_root x (own_root x St
 abbrev pub with_params : List Param → Roots → Roots
 with_params [] roots = roots
 with_params (p ∷ ps) roots = with_params ps (with_kind p.binder.id p.kind roots)
-
-abbrev pub is_span : Coord → Bool
-is_span (At a) = false
-is_span (Span a b) = true
 
 -- a span keeps the dimension over which it runs, a point drops it
 abbrev pub spanned : List Coord → List ℕ → List ℕ

@@ -2,7 +2,8 @@
 ghost use Rattle.std.specs.Prelude.{◌≡◌, ◌++◌, IfOk, map};
 ghost use Rattle.std.specs.List.{range_with_len};
 ghost use Rattle.exo_tree.specs.PlainControl.{coordinate};
-ghost use Rattle.affine_places.specs.Roots.{own_root, seen_through, is_span, spanned};
+ghost use Rattle.exo_tree.specs.Spans.{is_span};
+ghost use Rattle.affine_places.specs.Roots.{own_root, seen_through, spanned};
 ghost use Rattle.affine_places.specs.Seen.{plain_layout, plain_root};
 
 use crate::layout::Layout;

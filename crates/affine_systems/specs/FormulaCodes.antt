@@ -3,7 +3,8 @@ use Rattle.std.specs.Prelude.{◌≡◌}
 use Rattle.std.specs.Coded.{Coded}
 use Rattle.std.proofs.Common.{ap, ap₂, arith}
 use base.Stored.{Gv, gnum, gcons}
-use Rattle.affine_forms.specs.AtomCodes.{left, right, tag, linear_code}
+use Rattle.exo_tree.specs.CodeParts.{left, right, tag}
+use Rattle.affine_forms.specs.AtomCodes.{linear_code}
 use Rattle.affine_forms.specs.Formulas.{Constraint, AtLeastZero, IsZero, Formula, Says, Both, Either}
 
 abbrev pub code_constraint : Constraint → Gv

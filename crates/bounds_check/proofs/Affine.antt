@@ -1,5 +1,5 @@
 -- In a well-formed procedure all expressions are affine.
-use Rattle.std.proofs.Common.{◌≡◌, ℕ, pos, int_lt, nat_lt, ◌==◌, Bool, true, not, ◌&&◌, ◌||◌, List, [], ◌∷◌, length, Option, refl, sym, ap₂, ◌∙◌, true≢false}
+use Rattle.std.proofs.Common.{◌≡◌, ℕ, pos, int_lt, nat_lt, ◌==◌, Bool, true, not, ◌&&◌, ◌||◌, List, [], ◌∷◌, length, Option, refl, sym, true≢false}
 use Rattle.std.specs.List.{list_all}
 use Rattle.std.specs.Int.{is_positive}
 use Rattle.std.proofs.lemmas.Bool.{and_parts, and_from}

@@ -1,21 +1,21 @@
 -- An allocation, the rest of its block, and the end of its object.
-use Rattle.std.proofs.Common.{◌≡◌, ◌≢◌, ◌≤◌, ◌<◌, ◌+◌, ◌*◌, ◌^◌, ℕ, zero, suc, ℤ, pos, negsuc, ◌+ℤ◌, ◌*ℤ◌, ◌≤ℤ◌, Bool, true, false, ◌&&◌, ◌||◌, ◌==◌, cond, List, [], ◌∷◌, Option, Some, None, refl, sym, ap, ap₂, ◌∙◌, subst, arith, true≢false, int_lt, int_le, ◌⊎◌, ⊎_elim, inl, inr, eqb-true, eq-eqb, nat_lt, unsigned_abs}
+use Rattle.std.proofs.Common.{◌≡◌, ◌≤◌, ◌<◌, ◌*◌, ◌^◌, ℕ, zero, suc, ℤ, pos, negsuc, ◌+ℤ◌, ◌*ℤ◌, ◌≤ℤ◌, Bool, true, false, ◌&&◌, ◌||◌, ◌==◌, cond, List, [], ◌∷◌, Option, Some, None, refl, sym, ap, ap₂, ◌∙◌, subst, arith, true≢false, int_le, ◌⊎◌, ⊎_elim, inl, inr, eqb-true, eq-eqb, nat_lt, unsigned_abs}
 use Rattle.std.proofs.Math.IntN.{+ℤ_idl, *ℤ_comm}
 use Rattle.std.proofs.lemmas.Int.{ints, unsigned_abs-mul}
-use Rattle.std.proofs.lemmas.Bool.{and_parts, and_from}
+use Rattle.std.proofs.lemmas.Bool.{and_parts}
 use Rattle.std.proofs.Math.Nat.{le_trans, le_refl}
 use Rattle.std.proofs.lemmas.Nat.{mul-le}
 use Rattle.exo_tree.specs.Tree.{Cell, Control, Lit, Var, Field, StrideOf, Neg, Add, Sub, Mul, Div, Mod}
-use Rattle.exo_meaning.specs.Value.{Value, Undefined, Number}
-use Rattle.exo_meaning.specs.Scene.{then_do, where_true, Shape, Seen, Scene, numbers, number, updated, whole}
-use Rattle.exo_meaning.specs.State.{State, Cells, with_contents, on_scene, with_buffer}
+use Rattle.exo_meaning.specs.Value.{Undefined}
+use Rattle.exo_meaning.specs.Scene.{then_do, where_true, Shape, Scene, numbers, number, updated, whole}
+use Rattle.exo_meaning.specs.State.{State, with_contents, on_scene, with_buffer}
 use Rattle.exo_meaning.specs.Calls.{all_positive}
 use Rattle.exo_meaning.specs.Run.{product, row_major, tensor, allocate}
-use Rattle.c_tree.specs.CTree.{Name, Number64, Literal, Single, Vector, CBlock, stop, first, CStatement, Malloc, Free, followed_by, Product}
-use Rattle.c_machine.specs.Machine.{Outcome, Done, Fault, NoStore, after, where_good, Pointer, Thing, IsArray, Object, Setting, Machine, number64, same_name, named, with_thing, moved}
-use Rattle.c_machine.specs.CRun.{CWorld, run_c, step_c, at_most_48, storable, amount, made, make, with_object, freed, free_under}
-use Rattle.c_printer.specs.Lowered.{Naming, Forms, Form, NoForm, NumberForm, TensorForm, WindowForm, number_with, dims_of, product_of, product_from, alloc_of, allocated, is_empty, without_lanes, literals, forms_after}
-use Rattle.c_laws.specs.Simulation.{Follows, Declared, AreSameFields, Layout, HasForm, IsCounter, IsTensor, Matches, Kept, Ends, IsHeld, IsPlain, ArePlain, AreGood, IsFresh, IsOfCells, IsOutside, in_range, spot_of, dot}
+use Rattle.c_tree.specs.CTree.{Number64, Literal, Single, Vector, CBlock, stop, first, Free, followed_by, Product}
+use Rattle.c_machine.specs.Machine.{Outcome, Done, Fault, NoStore, after, where_good, Pointer, Thing, IsArray, Object, Setting, Machine, number64, same_name, moved}
+use Rattle.c_machine.specs.CRun.{CWorld, run_c, step_c, at_most_48, storable, amount, made, make, freed, free_under}
+use Rattle.c_printer.specs.Lowered.{Naming, Forms, Form, NoForm, NumberForm, TensorForm, WindowForm, number_with, dims_of, product_of, product_from, alloc_of, allocated, is_empty, without_lanes, literals}
+use Rattle.c_laws.specs.Simulation.{Follows, Declared, AreSameFields, Layout, HasForm, IsTensor, Matches, Kept, Ends, IsHeld, IsPlain, ArePlain, AreGood, IsFresh, IsOfCells, IsOutside, in_range, spot_of, dot}
 use Rattle.c_laws.specs.Magnitude.{IsNarrow, AreNarrow}
 use Rattle.c_laws.proofs.Numbers.{same_number}
 use Rattle.c_laws.proofs.Extents.{both_positive, positive_product, times_assoc}

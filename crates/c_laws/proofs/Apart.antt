@@ -1,5 +1,5 @@
 -- Different binders have different C names, and none has the name of a function or a field.
-use Rattle.std.proofs.Common.{◌≡◌, ◌≤◌, ◌<◌, ◌+◌, ◌^◌, ◌==◌, ◌++◌, ℕ, zero, suc, nat_le, nat_lt, Bool, true, false, not, ◌&&◌, ◌||◌, cond, List, [], ◌∷◌, length, refl, sym, ap, ◌∙◌, subst, arith, true≢false, codes, ◌⊎◌, ⊎_elim, inl, inr}
+use Rattle.std.proofs.Common.{◌≡◌, ◌<◌, ◌^◌, ◌==◌, ◌++◌, ℕ, nat_le, Bool, true, false, not, ◌&&◌, ◌||◌, List, [], ◌∷◌, refl, sym, ap, ◌∙◌, arith, true≢false}
 use Rattle.std.specs.List.{list_all}
 use Rattle.std.specs.Fmt.{decimal}
 use Rattle.std.specs.Str.Parse.{AllDigits}
@@ -7,7 +7,7 @@ use Rattle.std.proofs.lemmas.Str.Parse.{digit_from_value}
 use Rattle.std.proofs.lemmas.Bool.{and_parts}
 use Rattle.c_names.specs.Words.{Name, same_name, is_in, is_own, is_word, type_keywords, statement_keywords, other_keywords, library_words, exact_types, least_types, fast_types, greatest_types}
 use Rattle.c_names.specs.Names.{is_reserved, pick, numbered, is_taken, c_name}
-use Rattle.c_laws.proofs.Spelling.{Small, names_equal, differ, numbered_injective, open_form, own_form, is_own_stem, numbered_open, numbered_own, digits_of, some_digit}
+use Rattle.c_laws.proofs.Spelling.{Small, differ, numbered_injective, is_own_stem, numbered_open, numbered_own, digits_of, some_digit}
 use Rattle.c_laws.proofs.Free.{or_false, room, number_of, number_below, free}
 
 -- ---- no word ends as a numbered name does

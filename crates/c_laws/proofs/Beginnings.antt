@@ -1,16 +1,16 @@
 -- The same input matches.
-use Rattle.std.proofs.Common.{◌≡◌, ◌≤◌, ◌^◌, ℕ, zero, suc, ℤ, pos, ◌+ℤ◌, ◌≤ℤ◌, ◌==◌, ◌||◌, Bool, true, false, cond, List, [], ◌∷◌, Option, Some, None, refl, sym, ap, ap₂, ◌∙◌, subst, arith, true≢false, nat_lt, eqb-true}
+use Rattle.std.proofs.Common.{◌≡◌, ℕ, ℤ, pos, ◌+ℤ◌, ◌≤ℤ◌, ◌==◌, ◌||◌, Bool, true, false, cond, List, [], ◌∷◌, Some, None, refl, sym, ap, ap₂, ◌∙◌, subst, arith, true≢false, eqb-true}
 use Rattle.std.proofs.lemmas.Int.{ints}
 use Rattle.std.proofs.lemmas.Bool.{and_parts}
 use Rattle.std.proofs.Math.IntN.{+ℤ_idl}
-use Rattle.exo_tree.specs.Tree.{Cell, I8, I32, Control, Param, ParamKind, ControlParam, TensorParam, WindowParam, Procedure}
-use Rattle.exo_meaning.specs.Value.{Value, Undefined, Number, wrap, stored_as}
-use Rattle.exo_meaning.specs.Scene.{Shape, Scene, numbers, whole}
+use Rattle.exo_tree.specs.Tree.{Cell, I32, Control, Param, ParamKind, ControlParam, TensorParam, WindowParam, Procedure}
+use Rattle.exo_meaning.specs.Value.{Value, Undefined, Number, wrap}
+use Rattle.exo_meaning.specs.Scene.{Shape, numbers}
 use Rattle.exo_meaning.specs.State.{State}
 use Rattle.exo_meaning.specs.Run.{World, product, row_major, tensor}
-use Rattle.exo_meaning.specs.Inputs.{AreArguments, IsArgument, IsBuffer, is_buffer_of, FitsCell, IsAdmissible, has_extents, all_have_extents}
-use Rattle.c_machine.specs.Machine.{Pointer, Thing, IsNumber, IsArray, Object, Machine, moved}
-use Rattle.c_printer.specs.Lowered.{Naming, Form, NoForm, NumberForm, TensorForm, WindowForm, Forms}
+use Rattle.exo_meaning.specs.Inputs.{AreArguments, IsArgument, is_buffer_of, FitsCell, IsAdmissible, has_extents, all_have_extents}
+use Rattle.c_machine.specs.Machine.{Machine}
+use Rattle.c_printer.specs.Lowered.{Naming, NoForm, TensorForm, Forms}
 use Rattle.c_laws.specs.Simulation.{Declared, AreSameFields, Layout, HasForm, Matches, IsHeld, dot, in_range, spot_of}
 use Rattle.c_printer.specs.Lowered.{form_of, param_forms}
 use Rattle.c_laws.specs.SameInput.{IsSame, IsSameTensor, AreSame, IsGoodParam, AreGoodParams}

@@ -1,8 +1,7 @@
 -- What the binders and fields of a printed procedure are called in C.
-use Rattle.std.proofs.Common.{◌≡◌, ◌≤◌, ◌<◌, ◌+◌, ◌^◌, ◌==◌, ◌++◌, ℕ, zero, suc, nat_lt, Bool, true, false, not, ◌&&◌, ◌||◌, cond, List, [], ◌∷◌, length, map, Option, Some, None, option_map, slice_get, refl, sym, ap, ◌∙◌, subst, arith, true≢false, eqb-true, eq-eqb, ◌⊎◌, ⊎_elim, inl, inr}
-use Rattle.std.specs.Prelude.{⊤}
+use Rattle.std.proofs.Common.{◌≡◌, ◌<◌, ◌+◌, ◌^◌, ◌==◌, ◌++◌, ℕ, zero, suc, nat_lt, Bool, true, false, not, ◌||◌, cond, List, [], ◌∷◌, length, map, Some, None, refl, sym, ap, ◌∙◌, subst, arith, true≢false, eqb-true, eq-eqb, ◌⊎◌, ⊎_elim, inl, inr}
 use Rattle.std.specs.List.{list_any}
-use Rattle.std.proofs.lemmas.Bool.{and_parts, and_from}
+use Rattle.std.proofs.lemmas.Bool.{and_parts}
 use Rattle.exo_tree.specs.Tree.{Binder, Param, Statement, Assign, Reduce, Config, Pass, If, For, Alloc, View, Call, Block, end, next, Procedure, ConfigField, Program}
 use Rattle.exo_meaning.specs.Binders.{binders, step_binders}
 use Rattle.exo_meaning.specs.Units.{is_text, bound_ids, are_distinct}
@@ -11,11 +10,10 @@ use Rattle.c_names.specs.Names.{c_name}
 use Rattle.c_names.specs.Binders.{binders_in, binders_of, param_binders, all_binders, names_of, called, c_names, name_in}
 use Rattle.c_names.specs.Clash.{clashing, first_clash}
 use Rattle.c_printer.specs.Lowered.{Naming}
-use Rattle.c_printer.specs.LoweredUnit.{Printing, field_name, named_field, or_none, naming_in, is_used, fields_from, fields_of, printed_names, global_names}
-use Rattle.c_laws.specs.Simulation.{Declared, IsAlone}
+use Rattle.c_printer.specs.LoweredUnit.{Printing, field_name, named_field, naming_in, is_used, fields_from, fields_of, printed_names, global_names}
 use Rattle.c_laws.specs.Laws.{declared_in}
-use Rattle.c_laws.proofs.Spelling.{names_equal, same_self, differ}
-use Rattle.c_laws.proofs.Free.{or_false, or_rest, room}
+use Rattle.c_laws.proofs.Spelling.{same_self, differ}
+use Rattle.c_laws.proofs.Free.{or_false, room}
 use Rattle.c_laws.proofs.Apart.{names_apart, no_global}
 use Rattle.c_laws.proofs.Good.{IsIn, AreIn, AreNamed}
 

@@ -1,7 +1,7 @@
 -- 32-bit arithmetic of the C against the source's.
 use Rattle.std.proofs.Math.Nat.{mod-eq_of_lt}
-use Rattle.std.proofs.Common.{◌≡◌, ◌≤◌, ◌<◌, ◌+◌, ◌-◌, ◌*◌, ◌/◌, ◌%◌, ◌^◌, ℕ, zero, suc, ℤ, pos, negsuc, neg_ℤ, ◌+ℤ◌, ◌-ℤ◌, ◌*ℤ◌, ◌≤ℤ◌, Bool, true, false, cond, Option, Some, None, refl, sym, ap, ap₂, ◌∙◌, subst, arith, unsigned_abs, int_lt, mod-lt}
-use Rattle.std.specs.Int.{Width, w8, w32, int_wrap, int_rem_euclid, cast_signed}
+use Rattle.std.proofs.Common.{◌≡◌, ◌<◌, ◌-◌, ◌%◌, ℤ, pos, negsuc, neg_ℤ, ◌+ℤ◌, ◌-ℤ◌, ◌*ℤ◌, Bool, true, false, cond, refl, sym, ap, ap₂, ◌∙◌, subst, arith, unsigned_abs, int_lt, mod-lt}
+use Rattle.std.specs.Int.{w8, w32, int_wrap, cast_signed}
 use Rattle.std.proofs.lemmas.Int.{ints, int_wrap-add_right, int_wrap-add_left, int_wrap-sub_right, int_wrap-mul_right, int_wrap-mul_left, int_wrap_fits, SFits-int_wrap}
 use Rattle.exo_tree.specs.Tree.{Cell, I8, I32}
 use Rattle.exo_meaning.specs.Value.{Value, Undefined, Number, width, wrap, stored_as, on_one, on_two, on_four, relu, selected}

@@ -1,10 +1,8 @@
 -- Where no numbered name is a word of C, a renamed binder gets a name that nothing else has.
-use Rattle.std.proofs.Common.{◌≡◌, ◌≤◌, ◌<◌, ◌+◌, ◌^◌, ◌==◌, ◌++◌, ℕ, zero, suc, nat_lt, Bool, true, false, not, ◌&&◌, ◌||◌, cond, List, [], ◌∷◌, length, refl, sym, ap, ◌∙◌, subst, arith, true≢false, codes, eqb-true, eq-eqb, ◌⊎◌, ⊎_elim, inl, inr}
-use Rattle.std.specs.Fmt.{decimal}
-use Rattle.std.proofs.lemmas.Bool.{and_parts, and_from}
+use Rattle.std.proofs.Common.{◌≡◌, ◌≤◌, ◌<◌, ◌+◌, ◌^◌, ◌==◌, ◌++◌, ℕ, zero, suc, nat_lt, Bool, true, false, ◌||◌, cond, List, [], ◌∷◌, length, refl, sym, ap, ◌∙◌, subst, arith, true≢false, eqb-true, ◌⊎◌, ⊎_elim, inl, inr}
 use Rattle.c_names.specs.Words.{Name, same_name, is_in, is_word}
-use Rattle.c_names.specs.Names.{is_reserved, pick, numbered, first_free, is_taken, c_name}
-use Rattle.c_laws.proofs.Spelling.{Small, names_equal, same_self, numbered_injective}
+use Rattle.c_names.specs.Names.{pick, numbered, first_free, is_taken}
+use Rattle.c_laws.proofs.Spelling.{Small, names_equal, numbered_injective}
 
 pub or_false : (a b : Bool) → (a || b) ≡ false → (a ≡ false) × (b ≡ false)
 or_false true b h = absurd (true≢false h)

@@ -1,23 +1,23 @@
 -- Statements that keep the rules, fit and stand by themselves are in the part of the language whose C is followed.
-use Rattle.std.proofs.Common.{◌≡◌, ◌≤◌, ◌<◌, ◌^◌, ◌==◌, ◌++◌, ℕ, zero, suc, max, nat_le, nat_lt, Bool, true, false, not, ◌&&◌, ◌||◌, cond, List, [], ◌∷◌, length, Option, Some, None, refl, sym, ap, ◌∙◌, subst, arith, true≢false, ◌⊎◌, ⊎_elim, inl, inr, eqb-true, eq-eqb, slice_get}
+use Rattle.std.proofs.Common.{◌≡◌, ◌^◌, ◌==◌, ◌++◌, ℕ, nat_le, Bool, true, false, not, ◌&&◌, ◌||◌, cond, List, [], ◌∷◌, length, Option, Some, None, refl, sym, ap, ◌∙◌, subst, arith, true≢false, ◌⊎◌, ⊎_elim, inl, inr, eqb-true, eq-eqb, slice_get}
 use Rattle.std.specs.Prelude.{⊤}
 use Rattle.std.specs.List.{list_any}
-use Rattle.std.proofs.lemmas.Bool.{and_parts, and_from}
-use Rattle.exo_tree.specs.Tree.{Cell, Kind, Index, Binder, Control, Datum, Argument, ControlArg, ConditionArg, Whole, Window, Statement, Assign, Reduce, Config, Pass, If, For, Alloc, View, Call, Block, end, next, Param, ParamKind, ControlParam, TensorParam, WindowParam, MemoryKind}
+use Rattle.std.proofs.lemmas.Bool.{and_parts}
+use Rattle.exo_tree.specs.Tree.{Kind, Index, Binder, Control, Datum, Argument, ControlArg, ConditionArg, Whole, Window, Statement, Assign, Reduce, Config, Pass, If, For, Alloc, View, Call, Block, end, next, MemoryKind}
 use Rattle.exo_meaning.specs.Calls.{Callee}
 use Rattle.exo_meaning.specs.Scene.{updated}
 use Rattle.exo_meaning.specs.Run.{roots_after}
-use Rattle.exo_meaning.specs.Units.{Sort, ControlName, BufferName, Named, Scope, sort_in, is_text, is_new, with_name, is_truth, Reads, plainly, with_fields, with_strides, is_control, are_controls, is_condition, is_access, is_datum, is_of_kind, is_write, is_empty, is_short, is_rank, scope_after, is_block, is_statement}
+use Rattle.exo_meaning.specs.Units.{ControlName, BufferName, Named, Scope, sort_in, is_text, is_new, with_name, is_truth, plainly, with_fields, with_strides, is_control, are_controls, is_condition, is_access, is_datum, is_write, is_empty, is_short, scope_after, is_block, is_statement}
 use Rattle.c_names.specs.Binders.{binders_in, binders_of}
 use Rattle.c_widths.specs.Magnitude.{magnitude, is_narrow}
 use Rattle.c_widths.specs.Widths.{are_narrow, is_narrow_test, is_narrow_datum, is_narrow_setting, is_narrow_block, is_narrow_statement, fits_stack, with_bounds}
 use Rattle.c_machine.specs.Machine.{same_name}
-use Rattle.c_printer.specs.Lowered.{Naming, Form, NoForm, NumberForm, TensorForm, WindowForm, Forms, forms_after}
-use Rattle.c_printer.specs.LoweredUnit.{memory_of, in_control, in_condition, in_argument, in_statement, in_block}
+use Rattle.c_printer.specs.Lowered.{Naming, NumberForm, TensorForm, Forms, forms_after}
+use Rattle.c_printer.specs.LoweredUnit.{memory_of, in_condition, in_argument, in_statement, in_block}
 use Rattle.c_laws.specs.Simulation.{Declared, IsTensorName, AreGood, IsGoodDatum, IsGoodSetting, IsAlone, IsFresh, IsOfCells, IsGoodBlock, IsGoodStatement}
 use Rattle.c_printer.specs.SelfContained.{is_heap, is_value, is_alone, is_alone_block}
 use Rattle.c_laws.proofs.Free.{or_false}
-use Rattle.c_laws.proofs.Rules.{Stands, Fits, wider, access, good, all_good, good_datum, good_test, good_open, Covers, cover_left, cover_right}
+use Rattle.c_laws.proofs.Rules.{Stands, Fits, wider, access, good, all_good, good_datum, good_test, good_open}
 
 -- ---- binders in a list
 

@@ -1,5 +1,5 @@
 -- The closed instance.
-use Rattle.std.proofs.Common.{◌≡◌, ◌≤◌, ℕ, pos, true, false, [], ◌∷◌, Option, Some, None, refl, sym, arith, true≢false, inl}
+use Rattle.std.proofs.Common.{◌≡◌, pos, [], ◌∷◌, Some, None, refl, sym, arith, true≢false, inl}
 use Rattle.std.specs.Int.{int_wrap}
 use Rattle.std.proofs.lemmas.Int.{ints}
 use Rattle.exo_tree.specs.Tree.{I32, Lit}

@@ -1,21 +1,20 @@
 -- 64-bit arithmetic that does not overflow.
-use Rattle.std.proofs.Common.{◌≡◌, ◌≤◌, ◌<◌, ◌+◌, ◌-◌, ◌*◌, ◌/◌, ◌%◌, ◌^◌, ℕ, zero, suc, ℤ, pos, negsuc, neg_ℤ, ◌+ℤ◌, ◌-ℤ◌, ◌*ℤ◌, ◌≤ℤ◌, Bool, true, false, ◌&&◌, cond, List, [], ◌∷◌, drop, Option, Some, None, refl, sym, ap, ap₂, ◌∙◌, subst, arith, true≢false, unsigned_abs, mod-lt, int_lt, int_le}
+use Rattle.std.proofs.Common.{◌≡◌, ◌≤◌, ◌<◌, ◌+◌, ◌-◌, ◌*◌, ◌/◌, ◌^◌, ℕ, suc, ℤ, pos, negsuc, neg_ℤ, ◌+ℤ◌, ◌-ℤ◌, ◌*ℤ◌, ◌≤ℤ◌, true, List, [], ◌∷◌, refl, sym, ap, ap₂, ◌∙◌, subst, arith, true≢false, unsigned_abs, mod-lt, int_le}
 use Rattle.std.specs.Int.{int_div_euclid, int_rem_euclid}
 use Rattle.std.proofs.lemmas.Int.{ints, unsigned_abs-mul}
-use Rattle.std.proofs.lemmas.Bool.{and_parts, and_from}
+use Rattle.std.proofs.lemmas.Bool.{and_parts}
 use Rattle.std.proofs.lemmas.Nat.{le-div, mul-le}
-use Rattle.std.proofs.Math.Nat.{div-mul-le_self, mul-le-mul_left, mul-le-mul_right, le_trans, le_refl}
+use Rattle.std.proofs.Math.Nat.{div-mul-le_self, le_trans, le_refl}
 use Rattle.exo_tree.specs.Tree.{Control, Lit, Var, Field, StrideOf, Neg, Add, Sub, Mul, Div, Mod}
 use Rattle.exo_meaning.specs.Scene.{is_below, Scene, number, numbers}
-use Rattle.exo_meaning.specs.State.{State}
 use Rattle.exo_meaning.specs.Run.{product, row_major}
-use Rattle.c_tree.specs.CTree.{Number64, Literal, Named, Opposite, Sum, Difference, Product, Quotient, Remainder}
-use Rattle.c_machine.specs.Machine.{Outcome, Done, Fault, NoStore, after, where_good, fits64, checked, on_both, number64, number_under, Setting, Machine}
-use Rattle.c_printer.specs.Lowered.{Naming, Forms, NumberForm, number_with, numbers_with, horner, offset, product_of, product_from}
+use Rattle.c_tree.specs.CTree.{Number64, Sum, Product}
+use Rattle.c_machine.specs.Machine.{Outcome, Done, after, where_good, fits64, checked, on_both, number64, number_under, Setting}
+use Rattle.c_printer.specs.Lowered.{Naming, Forms, NumberForm, number_with, numbers_with, horner, offset}
 use Rattle.c_widths.specs.Magnitude.{magnitude, rounded_up}
 use Rattle.c_laws.specs.Magnitude.{IsNarrow, AreNarrow}
 use Rattle.c_laws.specs.Simulation.{dot, in_range, HaveNumbers, IsPlain, ArePlain, IsCounter, HasForm, Layout}
-use Rattle.c_laws.proofs.Offsets.{Index, index_of, Flat, flat, pos_of}
+use Rattle.c_laws.proofs.Offsets.{index_of, flat, pos_of}
 
 pub fits_small : (z : ℤ) → unsigned_abs z ≤ 2 ^ 62 → fits64 z ≡ true
 fits_small (pos n) h = grind (arith, ints)

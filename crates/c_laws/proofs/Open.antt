@@ -1,17 +1,17 @@
 -- Control expressions that may read fields and strides have the same number on both sides.
-use Rattle.std.proofs.Common.{◌≡◌, ◌≤◌, ◌<◌, ◌+◌, ◌*◌, ◌^◌, ℕ, zero, suc, ℤ, pos, negsuc, neg_ℤ, ◌+ℤ◌, ◌-ℤ◌, ◌*ℤ◌, ◌≤ℤ◌, Bool, true, false, ◌&&◌, List, [], ◌∷◌, length, get_or, Option, Some, None, refl, sym, ap, ap₂, ◌∙◌, subst, arith, int_le, unsigned_abs}
+use Rattle.std.proofs.Common.{◌≡◌, ◌≤◌, ◌<◌, ◌^◌, ℕ, zero, suc, ℤ, pos, neg_ℤ, ◌+ℤ◌, ◌-ℤ◌, ◌*ℤ◌, ◌≤ℤ◌, true, List, [], ◌∷◌, length, get_or, Some, None, refl, sym, ap, ◌∙◌, subst, arith, int_le, unsigned_abs}
 use Rattle.std.specs.Int.{int_div_euclid, int_rem_euclid}
 use Rattle.std.proofs.lemmas.Int.{ints, unsigned_abs-mul}
 use Rattle.std.proofs.lemmas.Bool.{and_parts}
 use Rattle.std.proofs.lemmas.Nat.{mul-le}
 use Rattle.std.proofs.Math.Nat.{le_trans}
 use Rattle.exo_tree.specs.Tree.{Cell, Control, Lit, Var, Field, StrideOf, Neg, Add, Sub, Mul, Div, Mod}
-use Rattle.exo_meaning.specs.Scene.{Shape, Seen, Scene, number, numbers, whole, strides_of, strides_seen, stride_at}
+use Rattle.exo_meaning.specs.Scene.{Scene, number, numbers, whole, strides_of, stride_at}
 use Rattle.exo_meaning.specs.Calls.{all_positive}
 use Rattle.exo_meaning.specs.Run.{product, row_major}
 use Rattle.c_tree.specs.CTree.{Number64, Literal, Product}
-use Rattle.c_machine.specs.Machine.{Outcome, Done, after, where_good, checked, on_both, number64, number_under, Setting}
-use Rattle.c_printer.specs.Lowered.{Naming, Forms, TensorForm, number_with, number_of, numbers_with, dims_of, product_of, product_from, row_strides, strides_in, or_one}
+use Rattle.c_machine.specs.Machine.{Done, after, where_good, checked, number64, number_under, Setting}
+use Rattle.c_printer.specs.Lowered.{Naming, Forms, number_with, number_of, dims_of, product_of, product_from, row_strides, strides_in, or_one}
 use Rattle.c_widths.specs.Magnitude.{magnitude}
 use Rattle.c_laws.specs.Magnitude.{IsNarrow, AreNarrow}
 use Rattle.c_laws.specs.Simulation.{Declared, AreSameFields, HasForm, IsTensor, HasStride, IsPlain, ArePlain, IsOpen, Layout}

@@ -1,21 +1,18 @@
 -- Parameters that keep the rules and fit.
-use Rattle.std.proofs.Common.{◌≡◌, ◌==◌, ℕ, zero, suc, Bool, true, false, not, ◌&&◌, ◌||◌, cond, List, [], ◌∷◌, length, Option, Some, None, refl, sym, ap, ◌∙◌, subst, arith, true≢false, eqb-true, eq-eqb}
-use Rattle.std.specs.Prelude.{⊤}
-use Rattle.std.specs.List.{list_any}
+use Rattle.std.proofs.Common.{◌≡◌, ◌==◌, ℕ, Bool, true, false, cond, List, [], ◌∷◌, Option, Some, None, refl, sym, ap, ◌∙◌, subst, true≢false, eqb-true, eq-eqb}
 use Rattle.std.proofs.lemmas.Bool.{and_parts}
-use Rattle.exo_tree.specs.Tree.{Cell, Kind, Binder, Control, Lit, Var, Field, StrideOf, Neg, Add, Sub, Mul, Div, Mod, Param, ParamKind, ControlParam, TensorParam, WindowParam}
+use Rattle.exo_tree.specs.Tree.{Kind, Binder, Control, Lit, Var, Field, StrideOf, Neg, Add, Sub, Mul, Div, Mod, Param, ParamKind, ControlParam, TensorParam, WindowParam}
 use Rattle.exo_meaning.specs.Scene.{updated}
-use Rattle.exo_meaning.specs.Units.{Sort, Named, Scope, sort_in, is_text, is_new, with_name, param_sort, scope_of, plainly, are_controls, is_rank, is_param_kind, are_params}
+use Rattle.exo_meaning.specs.Units.{Sort, Scope, sort_in, is_new, with_name, param_sort, scope_of, plainly, are_controls, is_param_kind, are_params}
 use Rattle.c_names.specs.Binders.{param_binders}
-use Rattle.c_widths.specs.Widths.{are_narrow, has_narrow_dims, have_narrow_dims}
-use Rattle.c_laws.specs.Magnitude.{AreNarrow}
-use Rattle.c_printer.specs.Lowered.{Form, NoForm, NumberForm, TensorForm, WindowForm, Forms}
+use Rattle.c_widths.specs.Widths.{has_narrow_dims, have_narrow_dims}
+use Rattle.c_printer.specs.Lowered.{NoForm, NumberForm, Forms}
 use Rattle.c_printer.specs.Lowered.{form_of, param_forms}
 use Rattle.c_laws.specs.SameInput.{IsGoodParam, AreGoodParams}
 use Rattle.c_laws.specs.Simulation.{IsPlain, ArePlain}
 use Rattle.c_printer.specs.SelfContained.{is_no_window, are_no_windows}
 use Rattle.c_laws.proofs.Rules.{Stands, Fits, wider, all_plain, all_narrow}
-use Rattle.c_laws.proofs.Good.{IsIn, AreIn, ScopeIn, not_there, not_true}
+use Rattle.c_laws.proofs.Good.{AreIn, ScopeIn, not_there, not_true}
 
 -- what parameters add to what names stand for
 abbrev pub merged : List Param → Forms → Forms

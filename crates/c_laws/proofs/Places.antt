@@ -1,17 +1,17 @@
 -- Cells of the source and of the C.
-use Rattle.std.proofs.Common.{◌≡◌, ◌≤◌, ◌<◌, ◌+◌, ◌*◌, ◌^◌, ℕ, zero, suc, ℤ, pos, negsuc, ◌+ℤ◌, ◌*ℤ◌, ◌≤ℤ◌, Bool, true, false, ◌&&◌, cond, List, [], ◌∷◌, Option, Some, None, option_map, refl, sym, ap, ap₂, ◌∙◌, subst, arith, true≢false, int_lt, int_le, ◌⊎◌, ⊎_elim, inl, inr}
+use Rattle.std.proofs.Common.{◌≡◌, ℕ, zero, ℤ, pos, ◌+ℤ◌, ◌≤ℤ◌, Bool, true, false, ◌&&◌, List, [], ◌∷◌, Some, None, option_map, refl, sym, ap, ◌∙◌, subst, arith, int_lt, int_le, ◌⊎◌, ⊎_elim, inl, inr}
 use Rattle.std.proofs.lemmas.Int.{ints}
-use Rattle.std.proofs.lemmas.Bool.{and_parts, and_from}
+use Rattle.std.proofs.lemmas.Bool.{and_from}
 use Rattle.std.proofs.Math.IntN.{+ℤ_idl}
-use Rattle.exo_tree.specs.Tree.{Cell, I32, Control}
-use Rattle.exo_meaning.specs.Scene.{then_do, where_true, Shape, Seen, Side, Range, Scene, is_below, whole, cell_at, numbers}
-use Rattle.exo_meaning.specs.State.{State, Place, place}
+use Rattle.exo_tree.specs.Tree.{Cell, Control}
+use Rattle.exo_meaning.specs.Scene.{then_do, where_true, Shape, Scene, is_below, whole, cell_at, numbers}
+use Rattle.exo_meaning.specs.State.{Place, place}
 use Rattle.exo_meaning.specs.Run.{product, row_major, tensor}
-use Rattle.c_tree.specs.CTree.{Number64, CellRef, InArray}
-use Rattle.c_machine.specs.Machine.{Outcome, Done, Fault, NoStore, after, where_good, Pointer, Thing, IsArray, Object, Setting, Machine, moved, number64, spot, from_array, inside, in_object}
-use Rattle.c_printer.specs.Lowered.{Naming, Forms, Form, TensorForm, NumberForm, numbers_of, dims_of, cell_ref, cell_at_of, offset}
+use Rattle.c_tree.specs.CTree.{InArray}
+use Rattle.c_machine.specs.Machine.{Done, after, where_good, Pointer, Object, Setting, moved, spot, from_array, inside, in_object}
+use Rattle.c_printer.specs.Lowered.{Naming, Forms, TensorForm, numbers_of, dims_of, cell_ref, cell_at_of, offset}
 use Rattle.c_laws.specs.Simulation.{Follows, Layout, HasForm, IsTensor, dot, in_range, spot_of, IsTensorName, AreGood, HaveNumbers}
-use Rattle.c_laws.proofs.Offsets.{Flat, flat}
+use Rattle.c_laws.proofs.Offsets.{flat}
 use Rattle.c_laws.proofs.Steps.{follows_none, follows_both}
 use Rattle.c_laws.proofs.Numbers.{same_numbers, offset_value}
 

@@ -1,13 +1,12 @@
 -- Expressions that keep the rules and fit are in the part of the language whose C is followed.
-use Rattle.std.proofs.Common.{◌≡◌, ◌≤◌, ◌<◌, ◌^◌, ◌==◌, ℕ, zero, suc, ℤ, pos, negsuc, ◌≤ℤ◌, int_le, int_lt, nat_le, nat_lt, Bool, true, false, not, ◌&&◌, ◌||◌, cond, List, [], ◌∷◌, length, Option, Some, None, refl, sym, ap, ◌∙◌, subst, arith, true≢false, unsigned_abs}
+use Rattle.std.proofs.Common.{◌≡◌, ◌≤◌, ◌<◌, ◌^◌, ◌==◌, ℕ, zero, ℤ, pos, ◌≤ℤ◌, int_le, int_lt, Bool, true, false, ◌&&◌, ◌||◌, cond, List, [], ◌∷◌, length, Option, Some, None, refl, sym, ap, subst, arith, true≢false}
 use Rattle.std.proofs.lemmas.Int.{ints, int_wrap_fits, fits_signed_from_abs}
 use Rattle.std.specs.Int.{w32}
-use Rattle.std.specs.List.{list_all}
 use Rattle.std.proofs.lemmas.Bool.{and_parts}
 use Rattle.exo_tree.specs.Tree.{Cell, I32, Kind, Binder, Control, Lit, Var, Field, StrideOf, Neg, Add, Sub, Mul, Div, Mod, Condition, True, False, Flag, FieldFlag, Lt, Le, Gt, Ge, Eq, And, Or, Datum, Const, Read, Negated, Relu, Plus, Minus, Times, Select}
 use Rattle.exo_meaning.specs.Value.{wrap}
 use Rattle.exo_meaning.specs.Scene.{updated}
-use Rattle.exo_meaning.specs.Units.{Sort, ControlName, BufferName, Scope, sort_in, with_name, is_number, is_flag, is_truth, has_rank, has_dimension, Reads, plainly, is_literal_number, is_of_literals, is_control, are_controls, is_condition, is_access, is_datum}
+use Rattle.exo_meaning.specs.Units.{Sort, ControlName, BufferName, Scope, sort_in, with_name, is_number, is_flag, has_rank, has_dimension, Reads, plainly, is_literal_number, is_of_literals, is_control, are_controls, is_condition, is_access, is_datum}
 use Rattle.c_widths.specs.Magnitude.{magnitude, fits, is_narrow}
 use Rattle.c_widths.specs.Widths.{are_narrow, is_narrow_test, is_narrow_datum}
 use Rattle.c_laws.specs.Magnitude.{IsNarrow, AreNarrow}

@@ -1,13 +1,13 @@
 -- A binder more in scope, and the end of a scope.
-use Rattle.std.proofs.Common.{◌≡◌, ◌≢◌, ◌≤◌, ◌<◌, ◌+◌, ◌*◌, ◌^◌, ℕ, zero, suc, max, ℤ, pos, negsuc, neg_ℤ, ◌+ℤ◌, ◌-ℤ◌, ◌*ℤ◌, ◌≤ℤ◌, Bool, true, false, ◌&&◌, ◌==◌, cond, List, [], ◌∷◌, Option, Some, None, refl, sym, ap, ap₂, ◌∙◌, subst, arith, true≢false, int_lt, int_le, ◌⊎◌, ⊎_elim, inl, inr, eqb-true, eq-eqb, unsigned_abs, nat_lt}
+use Rattle.std.proofs.Common.{◌≡◌, ◌≤◌, ◌+◌, ◌*◌, ◌^◌, ℕ, zero, suc, ℤ, pos, neg_ℤ, ◌+ℤ◌, ◌-ℤ◌, ◌*ℤ◌, Bool, true, false, ◌==◌, cond, List, [], ◌∷◌, Option, Some, None, refl, sym, ap, ap₂, ◌∙◌, subst, int_le, ⊎_elim, eqb-true, eq-eqb, unsigned_abs, nat_lt}
 use Rattle.std.specs.Int.{int_div_euclid, int_rem_euclid}
-use Rattle.std.proofs.lemmas.Bool.{and_parts, and_from}
+use Rattle.std.proofs.lemmas.Bool.{and_from}
 use Rattle.exo_tree.specs.Tree.{Cell, Control, Lit, Var, Field, StrideOf, Neg, Add, Sub, Mul, Div, Mod}
-use Rattle.exo_meaning.specs.Value.{Value, Undefined, Number}
-use Rattle.exo_meaning.specs.Scene.{Shape, Seen, Scene, numbers, number, updated}
+use Rattle.exo_meaning.specs.Value.{Undefined}
+use Rattle.exo_meaning.specs.Scene.{Shape, Scene, numbers, number, updated}
 use Rattle.exo_meaning.specs.State.{State, left, kept, on_scene, with_control}
 use Rattle.c_tree.specs.CTree.{Name, Number64}
-use Rattle.c_machine.specs.Machine.{Outcome, Done, after, where_good, checked, on_both, Thing, IsNumber, Object, Setting, Machine, number64, number_under, same_name, named, with_thing}
+use Rattle.c_machine.specs.Machine.{after, where_good, checked, on_both, Thing, IsNumber, Setting, Machine, number64, number_under, same_name, with_thing}
 use Rattle.c_machine.specs.CRun.{still_there, back_to, with_counter}
 use Rattle.c_printer.specs.Lowered.{Naming, Forms, Form, NoForm, NumberForm, TensorForm, WindowForm, number_with}
 use Rattle.c_widths.specs.Magnitude.{magnitude, rounded_up}

@@ -1,17 +1,17 @@
 -- The C of a field that is set.
-use Rattle.std.proofs.Common.{◌≡◌, ◌≤◌, ◌^◌, ℕ, zero, suc, ℤ, pos, Bool, true, false, ◌==◌, cond, List, Option, Some, None, refl, sym, ap, ◌∙◌, subst, arith, true≢false, eqb-true, eq-eqb, unsigned_abs, ◌⊎◌, ⊎_elim, inl, inr}
+use Rattle.std.proofs.Common.{◌≡◌, ◌≤◌, ◌^◌, ℕ, zero, suc, ℤ, Bool, true, false, ◌==◌, cond, Some, refl, sym, ap, ◌∙◌, subst, arith, true≢false, eqb-true, eq-eqb, unsigned_abs, ⊎_elim}
 use Rattle.std.proofs.Math.Nat.{le_refl, le_trans}
-use Rattle.exo_tree.specs.Tree.{Index, Argument, ControlArg, ConditionArg, Whole, Window, ControlParam, Control}
+use Rattle.exo_tree.specs.Tree.{Index, Argument, ControlArg, ConditionArg, Whole, Window, ControlParam}
 use Rattle.exo_meaning.specs.Calls.{truth, suits}
-use Rattle.exo_meaning.specs.Scene.{then_do, where_true, Scene, number, holds, updated}
+use Rattle.exo_meaning.specs.Scene.{then_do, where_true, number, holds}
 use Rattle.exo_meaning.specs.State.{State, on_scene, with_field}
 use Rattle.exo_meaning.specs.Run.{World, argument_number, configure}
 use Rattle.c_tree.specs.CTree.{Actual}
-use Rattle.c_machine.specs.Machine.{Outcome, Done, Fault, NoStore, after, Thing, IsNumber, IsField, Setting, Machine, named, same_name}
+use Rattle.c_machine.specs.Machine.{Done, after, IsNumber, Machine, named, same_name}
 use Rattle.c_machine.specs.CRun.{thing, set_field, set_under}
 use Rattle.c_printer.specs.Lowered.{Naming, Forms, Form, NoForm, NumberForm, TensorForm, WindowForm, actual_of}
 use Rattle.c_laws.specs.Simulation.{Follows, Declared, IsSameField, AreSameFields, Layout, HasForm, Matches, Ran, IsGoodSetting, IsAlone}
-use Rattle.c_laws.proofs.Steps.{follows_both, follows_none}
+use Rattle.c_laws.proofs.Steps.{follows_both}
 use Rattle.c_laws.proofs.Open.{open_number, open_bounded}
 use Rattle.c_laws.proofs.Scopes.{same_name_self, numbers_by_control}
 use Rattle.c_laws.proofs.Tests.{test_is}

@@ -1,23 +1,21 @@
 -- The C of blocks follows their runs.
-use Rattle.std.proofs.Common.{◌≡◌, ◌≤◌, ◌<◌, ◌+◌, ◌*◌, ◌^◌, ℕ, zero, suc, ℤ, pos, negsuc, ◌+ℤ◌, ◌-ℤ◌, ◌*ℤ◌, ◌≤ℤ◌, Bool, true, false, ◌&&◌, ◌==◌, cond, List, [], ◌∷◌, Option, Some, None, option_map, refl, sym, ap, ap₂, ◌∙◌, subst, arith, true≢false, int_lt, int_le, nat_lt, ◌⊎◌, ⊎_elim, inl, inr, eqb-true, eq-eqb}
+use Rattle.std.proofs.Common.{◌≡◌, ℕ, ℤ, ◌+ℤ◌, Bool, true, false, ◌==◌, cond, List, Some, option_map, refl, sym, ap, ap₂, ◌∙◌, subst, nat_lt, eqb-true, eq-eqb}
 use Rattle.std.specs.Ordering.{int_eq}
-use Rattle.std.proofs.lemmas.Int.{ints}
 use Rattle.std.proofs.lemmas.Bool.{and_parts, and_from}
 use Rattle.std.specs.Cmp.Rules.{signed_items}
 use Rattle.std.specs.Cmp.{signed_Decides}
-use Rattle.exo_tree.specs.Tree.{Cell, I32, Control, Condition, Datum, Const, Read, Negated, Relu, Plus, Minus, Times, Select, Statement, Assign, Reduce, Config, Pass, If, For, Alloc, View, Call, Block, end, next}
-use Rattle.exo_meaning.specs.Value.{Value, Undefined, Number, stored_as, on_one, on_two, on_four, relu, selected}
-use Rattle.exo_meaning.specs.Scene.{then_do, where_true, Shape, Seen, Scene, numbers, number, holds}
-use Rattle.exo_meaning.specs.State.{State, Cells, Place, place, held, is_there, changed, put, value, same_index}
-use Rattle.exo_meaning.specs.Run.{World, run, step, assign, reduce}
-use Rattle.c_tree.specs.CTree.{Number64, CellRef, InArray, CBlock, stop, first, Store, AddTo, Empty, Branch, Loop}
-use Rattle.c_machine.specs.Machine.{Outcome, Done, Fault, NoStore, after, where_good, Pointer, Object, Setting, Machine, moved, number64, spot, number32, with_one, with_two, with_four, relu32, select32, as_unsigned, is_spot, with_change}
-use Rattle.c_machine.specs.CRun.{CWorld, run_c, step_c, store, add_to, put32, into_object}
-use Rattle.c_printer.specs.Lowered.{Naming, Forms, Form, TensorForm, NumberForm, numbers_of, dims_of, cell_ref, cell_at_of, cell_in, number32_of, block_of, before}
-use Rattle.c_laws.specs.Simulation.{Follows, Declared, Layout, HasForm, IsTensor, Matches, IsHeld, IsRead, dot, in_range, spot_of, IsTensorName, AreGood, IsGoodDatum, IsGoodBlock, IsGoodStatement, Ran, Kept, IsOutside}
+use Rattle.exo_tree.specs.Tree.{Cell, Control, Datum, Const, Read, Negated, Relu, Plus, Minus, Times, Select}
+use Rattle.exo_meaning.specs.Value.{Value, stored_as, on_two}
+use Rattle.exo_meaning.specs.Scene.{Shape}
+use Rattle.exo_meaning.specs.State.{State, Place, held, is_there, changed, put, value, same_index}
+use Rattle.exo_meaning.specs.Run.{assign, reduce}
+use Rattle.c_machine.specs.Machine.{Done, Pointer, Machine, number32, with_two, as_unsigned, is_spot}
+use Rattle.c_machine.specs.CRun.{store, add_to, put32, into_object}
+use Rattle.c_printer.specs.Lowered.{Naming, Forms, cell_at_of, number32_of}
+use Rattle.c_laws.specs.Simulation.{Follows, Declared, Layout, Matches, IsHeld, IsRead, in_range, spot_of, IsTensorName, AreGood, IsGoodDatum, Ran, IsOutside}
 use Rattle.std.proofs.Math.Nat.{le_refl}
 use Rattle.c_laws.proofs.Data.{sum_read, difference_read, product_read, negation_read, relu_read, select_read, literal_read, cell_read, stored_held}
-use Rattle.c_laws.proofs.Steps.{follows_then, follows_map, follows_none, follows_both}
+use Rattle.c_laws.proofs.Steps.{follows_then, follows_map, follows_both}
 use Rattle.c_laws.proofs.Places.{AreOne, cell_follows}
 
 -- ---- one change on both sides

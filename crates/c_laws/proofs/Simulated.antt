@@ -1,24 +1,23 @@
 -- The C of a block follows its run.
-use Rattle.std.proofs.Common.{◌≡◌, ◌≤◌, ◌<◌, ◌+◌, ◌-◌, ◌^◌, ℕ, zero, suc, max, ℤ, pos, negsuc, ◌+ℤ◌, ◌-ℤ◌, ◌≤ℤ◌, Bool, true, false, not, ◌&&◌, ◌||◌, cond, List, [], ◌∷◌, Option, Some, None, option_map, refl, sym, ap, ap₂, ◌∙◌, subst, arith, true≢false, ◌⊎◌, ⊎_elim, inl, inr, int_lt, int_le, unsigned_abs, nat_lt}
+use Rattle.std.proofs.Common.{◌≡◌, ◌≤◌, ◌^◌, ℕ, zero, suc, max, ℤ, pos, negsuc, ◌+ℤ◌, ◌-ℤ◌, ◌≤ℤ◌, Bool, true, false, Option, Some, None, option_map, refl, sym, ap, ◌∙◌, subst, arith, ◌⊎◌, ⊎_elim, inl, inr, int_lt, unsigned_abs, nat_lt}
 use Rattle.std.proofs.lemmas.Int.{ints}
-use Rattle.std.specs.Ordering.{int_eq}
 use Rattle.std.proofs.Math.Nat.{le_trans, le_refl}
-use Rattle.exo_tree.specs.Tree.{Cell, I32, Control, Condition, True, False, Flag, FieldFlag, Lt, Le, Gt, Ge, Eq, And, Or, Statement, Assign, Reduce, Config, Pass, If, For, Alloc, View, Call, Block, end, next}
-use Rattle.exo_meaning.specs.Scene.{then_do, is_set, Shape, Scene, numbers, number, holds, updated}
-use Rattle.exo_meaning.specs.State.{State, Cells, left, scoped, on_scene, with_control}
+use Rattle.exo_tree.specs.Tree.{I32, Control, Condition, Statement, Assign, Reduce, Config, Pass, If, For, Alloc, View, Call, Block, end, next}
+use Rattle.exo_meaning.specs.Scene.{then_do, Scene, number, holds, updated}
+use Rattle.exo_meaning.specs.State.{State, left, scoped, on_scene, with_control}
 use Rattle.exo_meaning.specs.Value.{Undefined}
 use Rattle.exo_meaning.specs.Run.{World, run, step, assign, reduce, turn, turns, turns_of, range, count, choose}
-use Rattle.c_tree.specs.CTree.{Number64, CBlock, stop, first, CStatement, Store, AddTo, Empty, Branch, Loop, Test}
-use Rattle.c_machine.specs.Machine.{Outcome, Done, Fault, NoStore, after, Machine, Setting, number64, test, compared, unless_false, unless_true, number_under, IsNumber, with_thing}
-use Rattle.c_machine.specs.CRun.{CWorld, run_c, step_c, in_scope, back_to, either_way, turns64, turn64, upper64, go_on, with_counter, still_there, store, add_to}
-use Rattle.c_printer.specs.Lowered.{Naming, Forms, Form, NoForm, TensorForm, NumberForm, number_of, test_of, block_of, before, forms_after, cell_in, cell_at_of, number32_of}
+use Rattle.c_tree.specs.CTree.{CBlock}
+use Rattle.c_machine.specs.Machine.{Outcome, Done, after, Machine, Setting, number64, test, IsNumber}
+use Rattle.c_machine.specs.CRun.{CWorld, run_c, in_scope, back_to, either_way, turns64, turn64, upper64, go_on, with_counter, still_there, store, add_to}
+use Rattle.c_printer.specs.Lowered.{Naming, Forms, NoForm, NumberForm, number_of, test_of, block_of, before, forms_after, cell_in, cell_at_of, number32_of}
 use Rattle.c_laws.specs.Laws.{BlocksFollow}
 use Rattle.c_widths.specs.Magnitude.{magnitude}
 use Rattle.c_widths.specs.Widths.{with_bounds}
 use Rattle.c_widths.specs.Laws.{EachTurn, AllocatesFew, StatementAllocatesFew}
-use Rattle.c_laws.specs.Simulation.{Follows, Declared, IsSameField, AreSameFields, IsGoodOpen, IsGoodSetting, IsAlone, Layout, HasForm, Matches, Kept, Ran, Ends, IsGood, IsGoodTest, IsGoodBlock, IsGoodStatement, IsTensorName, AreGood, IsGoodDatum, IsFresh, IsPlain}
+use Rattle.c_laws.specs.Simulation.{Follows, Declared, Layout, HasForm, Matches, Kept, Ran, Ends, IsGood, IsGoodTest, IsGoodBlock, IsGoodStatement, IsTensorName, IsFresh}
 use Rattle.c_laws.proofs.Steps.{follows_then, follows_map, follows_done, follows_weaken}
-use Rattle.c_laws.proofs.Numbers.{same_number, counter, bounded, narrow}
+use Rattle.c_laws.proofs.Numbers.{same_number, bounded, narrow}
 use Rattle.c_laws.proofs.Tests.{test_is}
 use Rattle.c_laws.proofs.Settings.{setting_follows}
 use Rattle.c_laws.proofs.Simulate.{assign_follows, reduce_follows}

@@ -1,5 +1,5 @@
 -- Steps that follow each other.
-use Rattle.std.proofs.Common.{◌≡◌, Option, Some, None, option_map, refl, sym, ap, subst}
+use Rattle.std.proofs.Common.{◌≡◌, Option, Some, None, option_map, refl, sym, subst}
 use Rattle.exo_meaning.specs.Scene.{then_do}
 use Rattle.c_machine.specs.Machine.{Outcome, Done, Fault, NoStore, after}
 use Rattle.c_laws.specs.Simulation.{Follows}

@@ -3,7 +3,7 @@ use Rattle.std.proofs.Common.{◌≡◌, ℕ, ℤ, pos, Bool, true, false, not, 
 use Rattle.std.specs.Ordering.{int_eq}
 use Rattle.exo_tree.specs.Tree.{Control, Condition, True, False, Flag, FieldFlag, Lt, Le, Gt, Ge, Eq, And, Or}
 use Rattle.exo_meaning.specs.Scene.{Scene, is_set, number, holds}
-use Rattle.c_machine.specs.Machine.{Outcome, Done, after, Setting, number64, test, compared, unless_false, unless_true, number_under}
+use Rattle.c_machine.specs.Machine.{Done, after, Setting, number64, test, compared, unless_false, unless_true, number_under}
 use Rattle.c_printer.specs.Lowered.{Naming, Forms, number_of, test_of}
 use Rattle.c_laws.specs.Simulation.{Declared, AreSameFields, Layout, HasForm, IsGoodOpen, IsGoodTest}
 use Rattle.c_laws.proofs.Numbers.{counter}

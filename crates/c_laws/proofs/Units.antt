@@ -1,32 +1,32 @@
 -- The C of each printed procedure follows it.
-use Rattle.std.proofs.Common.{◌≡◌, ◌≤◌, ◌<◌, ◌+◌, ◌^◌, ◌++◌, ℕ, zero, suc, ℤ, nat_lt, Bool, true, false, not, ◌&&◌, ◌||◌, cond, List, [], ◌∷◌, length, map, Option, Some, None, slice_get, refl, sym, ap, ◌∙◌, subst, arith, true≢false, eqb, eqb-true}
-use Rattle.std.specs.Prelude.{⊤, ◌==◌}
+use Rattle.std.proofs.Common.{◌≡◌, ◌≤◌, ◌<◌, ◌^◌, ℕ, zero, suc, nat_lt, Bool, true, false, not, ◌&&◌, ◌||◌, cond, List, [], ◌∷◌, length, map, Option, Some, None, slice_get, refl, sym, ap, ◌∙◌, subst, arith, true≢false, eqb, eqb-true}
+use Rattle.std.specs.Prelude.{◌==◌}
 use Rattle.std.specs.List.{list_any, list_all, IsDistinct, AllByRecursion}
 use Rattle.std.proofs.lemmas.Map.Steps.{length-le_from_distinct_below}
 use Rattle.std.proofs.lemmas.Bool.{and_parts, and_from}
-use Rattle.exo_tree.specs.Tree.{Kind, Binder, Procedure, Program, MemoryKind, ConfigField}
+use Rattle.exo_tree.specs.Tree.{Kind, Binder, Procedure, Program, ConfigField}
 use Rattle.exo_meaning.specs.Value.{Value, Undefined, Number, IsRefinedBy}
 use Rattle.exo_meaning.specs.State.{State}
 use Rattle.exo_meaning.specs.Inputs.{run_procedure}
 use Rattle.exo_meaning.specs.Units.{sort_in, scope_of, field_kind, bound_ids, are_distinct}
-use Rattle.c_names.specs.Binders.{all_binders, param_binders, binders_in, c_names, names_of}
+use Rattle.c_names.specs.Binders.{all_binders, param_binders, binders_in, names_of}
 use Rattle.c_widths.specs.Laws.{AllocatesFew}
 use Rattle.c_widths.specs.Widths.{most_of, have_narrow_dims, are_narrow_tests, is_narrow_block, is_narrow_procedure}
 use Rattle.c_tree.specs.CTree.{Name}
 use Rattle.c_machine.specs.CRun.{run_c}
 use Rattle.c_machine.specs.Machine.{Machine, Outcome, Done, Fault, NoStore}
-use Rattle.c_printer.specs.Lowered.{Naming, Forms, NoForm, block_of}
+use Rattle.c_printer.specs.Lowered.{Naming, block_of}
 use Rattle.c_printer.specs.LoweredUnit.{Printing, in_procedure, in_block, in_conditions, is_used, printed_names, field_name, fields_from, fields_of, global_names, function_of, function_at, functions_of}
 use Rattle.c_printer.specs.Lowered.{param_forms}
 use Rattle.c_laws.specs.SameInput.{AreGoodParams}
 use Rattle.c_laws.specs.Simulation.{Declared, Follows, IsHeld, Ends, IsGoodBlock}
 use Rattle.c_printer.specs.SelfContained.{are_no_windows, is_alone_block, is_self_contained, is_there_alone, are_self_contained}
 use Rattle.c_printer.specs.Refusals.{is_wide, or_else, too_wide}
-use Rattle.c_laws.specs.Laws.{declared_in, naming_of, AreLowered, IsListed, IsSameStart, LeavesTheSame, EndsWell, UnitsFollow}
+use Rattle.c_laws.specs.Laws.{declared_in, naming_of, AreLowered, IsListed, LeavesTheSame, EndsWell, UnitsFollow}
 use Rattle.c_laws.proofs.Procedures.{procedures_follow}
 use Rattle.c_laws.proofs.Steps.{follows_weaken}
 use Rattle.c_laws.proofs.Rules.{Stands, Fits}
-use Rattle.c_laws.proofs.Good.{AreIn, AreNamed, not_true, front_in, rear_in, good_block}
+use Rattle.c_laws.proofs.Good.{AreNamed, not_true, front_in, rear_in, good_block}
 use Rattle.c_laws.proofs.UsedFields.{block_there, is_there}
 use Rattle.c_laws.proofs.Params.{merged, none, merged_none, params_fit, good_params, params_in, params_alike}
 use Rattle.c_laws.proofs.Free.{room, or_false, both_long}

@@ -1,12 +1,11 @@
 -- A field that a procedure by itself reads or writes is there.
-use Rattle.std.proofs.Common.{◌≡◌, ◌≤◌, ◌<◌, ◌==◌, ℕ, zero, suc, nat_lt, Bool, true, false, not, ◌&&◌, ◌||◌, List, [], ◌∷◌, length, Option, Some, None, refl, sym, ap, ◌∙◌, subst, arith, true≢false, eqb-true, slice_get, ◌⊎◌, ⊎_elim, inl, inr}
-use Rattle.std.specs.Prelude.{get_or}
+use Rattle.std.proofs.Common.{◌≡◌, ◌<◌, ◌==◌, ℕ, nat_lt, Bool, true, false, not, ◌&&◌, ◌||◌, List, length, Option, Some, None, refl, sym, ap, ◌∙◌, arith, true≢false, eqb-true, ⊎_elim}
 use Rattle.std.proofs.lemmas.Option.{slice_get_cases}
 use Rattle.std.proofs.lemmas.Bool.{and_parts}
 use Rattle.exo_tree.specs.Tree.{Kind, Control, Lit, Var, Field, StrideOf, Neg, Add, Sub, Mul, Div, Mod, Condition, True, False, Flag, FieldFlag, Lt, Le, Gt, Ge, Eq, And, Or, Argument, ControlArg, ConditionArg, Whole, Window, Statement, Assign, Reduce, Config, Pass, If, For, Alloc, View, Call, Block, end, next, MemoryKind, ConfigField}
 use Rattle.exo_meaning.specs.Calls.{Callee}
 use Rattle.exo_meaning.specs.Run.{roots_after}
-use Rattle.exo_meaning.specs.Units.{Scope, Reads, plainly, with_fields, with_strides, is_truth, is_literal_number, is_of_literals, is_number_field, is_flag_field, is_control, is_condition, is_of_kind, is_write, is_new, is_empty, is_short, scope_after, is_block, is_statement, field_kind}
+use Rattle.exo_meaning.specs.Units.{Scope, Reads, plainly, with_fields, with_strides, is_truth, is_of_literals, is_number_field, is_flag_field, is_control, is_condition, is_of_kind, is_write, is_new, is_empty, is_short, scope_after, is_block, is_statement, field_kind}
 use Rattle.c_printer.specs.LoweredUnit.{in_control, in_condition, in_argument, in_statement, in_block}
 use Rattle.c_printer.specs.SelfContained.{is_alone, is_alone_block}
 

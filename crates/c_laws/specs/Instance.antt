@@ -1,12 +1,12 @@
 -- A closed instance: a block that allocates two cells and stores into one of them meets what the law on blocks asks.
-use Rattle.std.specs.Prelude.{◌≡◌, ℕ, pos, Bool, false, true, [], ◌∷◌, codes, None}
+use Rattle.std.specs.Prelude.{◌≡◌, ℕ, pos, false, true, [], ◌∷◌, codes, None}
 use Rattle.std.specs.Option.{IsSome}
 use Rattle.exo_tree.specs.Tree.{Size, I32, Lit, Const, Assign, Alloc, Block, end, next}
 use Rattle.exo_meaning.specs.Value.{Undefined}
 use Rattle.exo_meaning.specs.State.{State}
 use Rattle.exo_meaning.specs.Run.{World, run}
 use Rattle.c_widths.specs.Laws.{AllocatesFew}
-use Rattle.c_machine.specs.Machine.{Outcome, Done, Fault, NoStore, Machine}
+use Rattle.c_machine.specs.Machine.{Done, Machine}
 use Rattle.c_machine.specs.CRun.{run_c}
 use Rattle.c_machine.specs.Examples.{bare, alone}
 use Rattle.c_printer.specs.Lowered.{Naming, Forms, NoForm, block_of}

@@ -1,5 +1,5 @@
 -- The C of lowered procedures does what they do.
-use Rattle.std.specs.Prelude.{◌≡◌, ◌<◌, ◌^◌, ℕ, ℤ, nat_lt, Bool, true, ◌&&◌, List, length, Option, Some, None, slice_get}
+use Rattle.std.specs.Prelude.{◌≡◌, ◌<◌, ◌^◌, ℕ, ℤ, nat_lt, true, ◌&&◌, List, length, Option, Some, None, slice_get}
 use Rattle.exo_tree.specs.Tree.{Block, Procedure, Program}
 use Rattle.exo_meaning.specs.Value.{IsRefinedBy}
 use Rattle.exo_meaning.specs.Scene.{Shape}

@@ -1,13 +1,12 @@
 -- One input for the source and for the C. Windows are left out.
-use Rattle.std.specs.Prelude.{◌≡◌, ◌≤◌, ◌^◌, ℕ, zero, ℤ, pos, ◌≤ℤ◌, nat_lt, true, List, [], ◌∷◌, Some, None, unsigned_abs, ⊤}
-use Rattle.exo_tree.specs.Tree.{Cell, Control, Param, ParamKind, ControlParam, TensorParam, WindowParam}
-use Rattle.exo_meaning.specs.Value.{Value, Undefined, Number, wrap}
-use Rattle.exo_meaning.specs.Scene.{Shape, numbers}
+use Rattle.std.specs.Prelude.{◌≡◌, ◌≤◌, ◌^◌, ℕ, ℤ, pos, ◌≤ℤ◌, nat_lt, true, List, [], ◌∷◌, Some, None, unsigned_abs, ⊤}
+use Rattle.exo_tree.specs.Tree.{Cell, Param, ParamKind, ControlParam, TensorParam, WindowParam}
+use Rattle.exo_meaning.specs.Scene.{numbers}
 use Rattle.exo_meaning.specs.State.{State}
 use Rattle.exo_meaning.specs.Run.{product, row_major}
-use Rattle.c_machine.specs.Machine.{Pointer, IsNumber, IsArray, Object, Machine}
+use Rattle.c_machine.specs.Machine.{IsNumber, IsArray, Object, Machine}
 use Rattle.c_printer.specs.Lowered.{Naming, Forms}
-use Rattle.c_laws.specs.Simulation.{Layout, dot, in_range, ArePlain, AreGood}
+use Rattle.c_laws.specs.Simulation.{Layout, dot, in_range, AreGood}
 
 module _ (naming : Naming) (most : ℕ → ℕ) (layout : Layout) (s : State) (m : Machine) where
   pub record IsSameNumber (x : ℕ) : Type 0 where

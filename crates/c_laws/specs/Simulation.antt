@@ -1,13 +1,13 @@
 -- When a C run follows a run of the source.
-use Rattle.std.specs.Prelude.{◌≡◌, ◌≤◌, ◌^◌, ℕ, zero, suc, ℤ, pos, ◌+ℤ◌, ◌*ℤ◌, ◌≤ℤ◌, Bool, true, false, ◌&&◌, ◌||◌, ◌<◌, List, [], ◌∷◌, length, Option, Some, None, unsigned_abs, nat_lt, max, ◌⊎◌, ⊤}
+use Rattle.std.specs.Prelude.{◌≡◌, ◌≤◌, ◌^◌, ℕ, zero, suc, ℤ, pos, ◌+ℤ◌, ◌*ℤ◌, ◌≤ℤ◌, Bool, true, false, ◌&&◌, ◌<◌, List, [], ◌∷◌, length, Option, Some, None, unsigned_abs, nat_lt, ◌⊎◌, ⊤}
 use Rattle.exo_tree.specs.Tree.{Cell, I32, Control, Lit, Var, Field, StrideOf, Neg, Add, Sub, Mul, Div, Mod, Condition, True, False, Flag, FieldFlag, Lt, Le, Gt, Ge, Eq, And, Or, Datum, Const, Read, Negated, Relu, Plus, Minus, Times, Select, Statement, Assign, Reduce, Config, Pass, If, For, Alloc, View, Call, Argument, ControlArg, ConditionArg, Whole, Window, Block, end, next}
 use Rattle.exo_meaning.specs.Value.{Value, Undefined, Number, wrap}
-use Rattle.exo_meaning.specs.Scene.{Scene, Shape, Seen, is_below, whole, numbers, updated}
+use Rattle.exo_meaning.specs.Scene.{Scene, Shape, is_below, whole, numbers, updated}
 use Rattle.exo_meaning.specs.State.{State}
 use Rattle.exo_meaning.specs.Calls.{all_positive}
-use Rattle.exo_meaning.specs.Run.{product, row_major, tensor}
-use Rattle.c_tree.specs.CTree.{Name, Number64}
-use Rattle.c_machine.specs.Machine.{Outcome, Done, Fault, NoStore, Pointer, Thing, IsNumber, IsField, IsArray, Object, Setting, Machine, moved, number64, same_name}
+use Rattle.exo_meaning.specs.Run.{product, tensor}
+use Rattle.c_tree.specs.CTree.{Number64}
+use Rattle.c_machine.specs.Machine.{Outcome, Done, Fault, NoStore, Pointer, IsNumber, IsField, IsArray, Object, Setting, Machine, moved, number64, same_name}
 use Rattle.c_widths.specs.Magnitude.{magnitude}
 use Rattle.c_widths.specs.Widths.{with_bounds}
 use Rattle.c_laws.specs.Magnitude.{IsNarrow, AreNarrow}

@@ -1,12 +1,12 @@
 -- Runs of C blocks.
-use Rattle.std.specs.Prelude.{ℕ, zero, suc, ◌+◌, ℤ, pos, negsuc, ◌+ℤ◌, ◌-ℤ◌, ◌*ℤ◌, int_lt, int_le, ◌==◌, nat_lt, Bool, true, false, ◌&&◌, if◌then◌else◌, List, [], ◌∷◌, Option, Some, None}
-use Rattle.std.specs.Int.{int_div_euclid, int_rem_euclid}
+-- The program makes no windows, calls and instructions yet: what is said of these is there for calls.
+use Rattle.std.specs.Prelude.{ℕ, zero, suc, ℤ, pos, negsuc, ◌+ℤ◌, ◌-ℤ◌, ◌*ℤ◌, int_lt, int_le, ◌==◌, nat_lt, Bool, true, false, ◌&&◌, if◌then◌else◌, List, [], ◌∷◌, Option, Some, None}
 use Rattle.exo_tree.specs.Tree.{Cell}
-use Rattle.exo_meaning.specs.Value.{Value, Undefined, Number, stored_as}
+use Rattle.exo_meaning.specs.Value.{Value, Undefined, stored_as}
 use Rattle.exo_meaning.specs.Calls.{truth}
 use Rattle.exo_meaning.specs.Run.{count}
-use Rattle.c_tree.specs.CTree.{Name, Element, Single, Vector, Number64, Literal, Product, Test, CellRef, InArray, InWindow, Number32, Actual, Control64, Tested, Alone, Address, WindowOf, CStatement, Store, AddTo, SetField, Empty, Branch, Loop, Array, Malloc, Free, Bind, CallOf, Instruction, CBlock, stop, first, Formal, Number64Param, ArrayParam, WindowParamOf, CFunction}
-use Rattle.c_machine.specs.Machine.{Outcome, Done, Fault, NoStore, after, where_good, Pointer, Thing, IsNumber, IsField, IsArray, IsVectors, IsWindow, Object, Setting, Machine, named, with_thing, checked, number64, all_numbers64, test, spot, with_change, number32, with_two, as_unsigned}
+use Rattle.c_tree.specs.CTree.{Name, Element, Single, Vector, Number64, Product, CellRef, Number32, Actual, Control64, Tested, Alone, Address, WindowOf, CStatement, Store, AddTo, SetField, Empty, Branch, Loop, Array, Malloc, Free, Bind, CallOf, Instruction, CBlock, stop, first, Formal, Number64Param, ArrayParam, WindowParamOf}
+use Rattle.c_machine.specs.Machine.{Outcome, Done, Fault, NoStore, after, where_good, Pointer, Thing, IsNumber, IsField, IsArray, IsVectors, IsWindow, Object, Setting, Machine, named, with_thing, number64, all_numbers64, test, spot, with_change, number32, with_two, as_unsigned}
 
 -- a function with the run of its body
 pub record Behaviour : Type 0 where

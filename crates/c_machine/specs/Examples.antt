@@ -1,9 +1,9 @@
 -- Closed runs, by which the rules of the machine can be read off.
-use Rattle.std.specs.Prelude.{◌≡◌, ℕ, ℤ, pos, negsuc, false, [], ◌∷◌, codes, None}
-use Rattle.exo_tree.specs.Tree.{I8, I32}
+use Rattle.std.specs.Prelude.{◌≡◌, ℤ, pos, negsuc, codes, None}
+use Rattle.exo_tree.specs.Tree.{I8}
 use Rattle.exo_meaning.specs.Value.{Value, Undefined, Number}
 use Rattle.c_tree.specs.CTree.{Name, Single, Number64, Literal, Sum, Quotient, Remainder, InArray, Literal32, CStatement, Store, Array, Malloc, Free, CBlock, stop, first}
-use Rattle.c_machine.specs.Machine.{Outcome, Done, Fault, NoStore, after, Setting, Machine, number64}
+use Rattle.c_machine.specs.Machine.{Outcome, Done, Fault, NoStore, after, Machine, number64}
 use Rattle.c_machine.specs.CRun.{CWorld, run_c}
 
 -- no names, no objects, no functions

@@ -1,8 +1,8 @@
 -- The C of a procedure.
-use Rattle.std.specs.Prelude.{◌≡◌, ℕ, zero, suc, ◌+◌, ℤ, pos, ◌*ℤ◌, ◌==◌, Bool, true, false, ◌||◌, if◌then◌else◌, List, [], ◌∷◌, ◌++◌, map, length, drop, Option, Some, None}
-use Rattle.exo_tree.specs.Tree.{Cell, I32, Index, Control, Lit, Var, Field, StrideOf, Neg, Add, Sub, Mul, Div, Mod, Condition, True, False, Flag, FieldFlag, Lt, Le, Gt, Ge, Eq, And, Or, Datum, Const, Read, Negated, Relu, Plus, Minus, Times, Select, Coord, At, Span, Argument, ControlArg, ConditionArg, Whole, Window, Statement, Assign, Reduce, Config, Pass, If, For, Alloc, View, Call, Block, end, next, Param, ParamKind, ControlParam, TensorParam, WindowParam, Procedure}
+use Rattle.std.specs.Prelude.{◌≡◌, ℕ, zero, suc, ℤ, pos, ◌*ℤ◌, ◌==◌, Bool, true, false, ◌||◌, if◌then◌else◌, List, [], ◌∷◌, map, length, drop, Option, Some, None}
+use Rattle.exo_tree.specs.Tree.{Cell, I32, Index, Control, Lit, Var, Field, StrideOf, Neg, Add, Sub, Mul, Div, Mod, Condition, True, False, Flag, FieldFlag, Lt, Le, Gt, Ge, Eq, And, Or, Datum, Const, Read, Negated, Relu, Plus, Minus, Times, Select, Coord, At, Span, Argument, ControlArg, ConditionArg, Whole, Window, Statement, Assign, Reduce, Config, Pass, If, For, Alloc, View, Call, Block, end, next, Param, ParamKind, ControlParam, TensorParam, WindowParam}
 use Rattle.exo_meaning.specs.Scene.{updated}
-use Rattle.c_tree.specs.CTree.{Name, Element, Single, Vector, Number64, Literal, Named, StrideIn, Opposite, Sum, Difference, Product, Quotient, Remainder, Test, Always, Never, IsSet, Less, LessEqual, More, MoreEqual, Equal, Both, Either, CellRef, InArray, InWindow, Number32, Literal32, Read32, Opposite32, Relu32, Sum32, Difference32, Product32, Select32, Actual, Control64, Tested, Alone, Address, WindowOf, Piece, CStatement, Store, AddTo, SetField, Empty, Branch, Loop, Array, Malloc, Free, Bind, CallOf, Instruction, CBlock, stop, first, followed_by, Formal, Number64Param, ArrayParam, WindowParamOf, CFunction}
+use Rattle.c_tree.specs.CTree.{Name, Element, Single, Vector, Number64, Literal, Named, StrideIn, Opposite, Sum, Difference, Product, Quotient, Remainder, Test, Always, Never, IsSet, Less, LessEqual, More, MoreEqual, Equal, Both, Either, CellRef, InArray, InWindow, Number32, Literal32, Read32, Opposite32, Relu32, Sum32, Difference32, Product32, Select32, Actual, Control64, Tested, Alone, Address, WindowOf, Piece, CStatement, Store, AddTo, SetField, Empty, Branch, Loop, Array, Malloc, Free, Bind, CallOf, Instruction, CBlock, stop, first, followed_by}
 
 pub record Memory : Type 0 where
   pub ctype : Name

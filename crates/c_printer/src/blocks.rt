@@ -6,17 +6,18 @@ ghost use Rattle.exo_tree.specs.PlainControl.{control, condition};
 ghost use Rattle.exo_tree.specs.PlainDatum.{datum};
 ghost use Rattle.exo_tree.specs.PlainArgument.{argument};
 ghost use Rattle.exo_tree.specs.PlainStatement.{statement};
+ghost use Rattle.exo_meaning.specs.Scene.{updated};
 ghost use Rattle.c_tree.specs.CTree.{cblock, followed_by};
 ghost use Rattle.c_tree.specs.Plain.{plain_type, plain_cell, plain_data, plain_statement};
-ghost use Rattle.c_printer.specs.Lowered.{cell_in, cell_at_of, number32_of, block_of};
+ghost use Rattle.c_printer.specs.Lowered.{NumberForm, cell_in, cell_at_of, number32_of, block_of};
 ghost use Rattle.c_printer.specs.Scope.{forms_in};
 ghost use Rattle.c_printer.specs.Naming.{naming_of};
 ghost use Rattle.c_printer.specs.Heads.{allocation, buffer_of, head_of, scope_after, heaped, frees};
 ghost use Rattle.c_printer.specs.SelfContained.{is_heap, is_value, is_alone, is_alone_block};
 
-use crate::expressions::{lower_cell, lower_data, lower_test, lower_value};
+use crate::expressions::{lower_cell, lower_data, lower_sides, lower_test, lower_value};
 use crate::names::Names;
-use crate::numbers::{lower_number, lower_product};
+use crate::numbers::lower_product;
 use crate::scope::{Entry, Form, c_type, cell_type, enter};
 use c_tree::tree::{CBlock, CCell, CData, CStatement, CType};
 use exo_tree::{Arg, Binder, Block, Cell, Cond, Ctrl, DataExpr, FieldId, Id, Indices, MemId, Stmt};
@@ -96,6 +97,26 @@ fn lower_branch(
     Ok(CStatement::Branch(test, main, other))
 }
 
+/// The C of a loop's body, in which its variable is in scope.
+#[cycle(lower)]
+fn lower_body(
+    alloc: Global,
+    names: &Names<'_>,
+    scope: &mut Vec<Entry>,
+    i: Id,
+    body: &Block,
+) -> Result<CBlock, AllocError>
+    requires { is_alone_block names.now.unit.now.memories (block body.now) ≡ true }
+    ensures value { IfOk result (λ c. cblock c ≡ block_of (naming_of names.now) (updated (forms_in scope.old.items) i.0 NumberForm) (block body.now)) }
+    ensures scope { OnOk result (scope.new.items ≡ scope.old.items) }
+{
+    let depth = scope.len();
+    enter(scope, i, Form::Number)?;
+    let body = lower_block(alloc, names, scope, body)?;
+    scope.truncate(depth);
+    Ok(body)
+}
+
 /// The C of a loop.
 #[cycle(lower)]
 fn lower_loop(
@@ -111,13 +132,9 @@ fn lower_loop(
     ensures value { IfOk result (λ s. plain_statement s ≡ head_of (naming_of names.now) (forms_in scope.old.items) (For (binding i.now) (control lo.now) (control hi.now) (block body.now))) }
     ensures scope { OnOk result (scope.new.items ≡ scope.old.items) }
 {
+    let body = lower_body(alloc, names, scope, i.id, body)?;
     let counter = names.binder(alloc, i.id)?;
-    let low = lower_number(alloc, names, scope, lo)?;
-    let high = lower_number(alloc, names, scope, hi)?;
-    let depth = scope.len();
-    enter(scope, i.id, Form::Number)?;
-    let body = lower_block(alloc, names, scope, body)?;
-    scope.truncate(depth);
+    let (low, high) = lower_sides(alloc, names, scope, lo, hi)?;
     Ok(CStatement::Loop(counter, low, high, body))
 }
 

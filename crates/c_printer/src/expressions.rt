@@ -4,7 +4,7 @@ ghost use Rattle.exo_tree.specs.Tree.{Index, ControlParam};
 ghost use Rattle.exo_tree.specs.PlainControl.{control, condition};
 ghost use Rattle.exo_tree.specs.PlainDatum.{datum};
 ghost use Rattle.exo_tree.specs.PlainArgument.{argument};
-ghost use Rattle.c_tree.specs.CTree.{InArray};
+ghost use Rattle.c_tree.specs.CTree.{IsSet, InArray};
 ghost use Rattle.c_tree.specs.Plain.{plain_number, plain_test, plain_cell, plain_data, plain_value};
 ghost use Rattle.c_printer.specs.Lowered.{number_of, test_of, cell_at_of, number32_of, actual_of};
 ghost use Rattle.c_printer.specs.Scope.{forms_in};
@@ -16,11 +16,11 @@ use crate::names::Names;
 use crate::numbers::{lower_number, lower_offset};
 use crate::scope::{Entry, Form, find};
 use c_tree::tree::{CCell, CData, CNumber, CTest, CValue};
-use exo_tree::{Arg, Cond, Ctrl, DataExpr, Id, Indices};
+use exo_tree::{Arg, Cond, Ctrl, DataExpr, FieldId, Id, Indices};
 use std::alloc::{AllocError, Global};
 
-/// The C of a comparison's sides.
-fn lower_sides(
+/// The C of a comparison's sides, or of a loop's bounds.
+pub(crate) fn lower_sides(
     alloc: Global,
     names: &Names<'_>,
     scope: &[Entry],
@@ -33,6 +33,20 @@ fn lower_sides(
     let left = lower_number(alloc, names, scope, a)?;
     let right = lower_number(alloc, names, scope, b)?;
     Ok((left, right))
+}
+
+/// Whether a control name holds another number than 0.
+fn binder_test(alloc: Global, names: &Names<'_>, x: Id) -> Result<CTest, AllocError>
+    ensures { IfOk result (λ t. plain_test t ≡ IsSet ((naming_of names.now).binder x.0)) }
+{
+    Ok(CTest::IsSet(names.binder(alloc, x)?))
+}
+
+/// Whether a configuration field holds another number than 0.
+fn field_test(alloc: Global, names: &Names<'_>, f: FieldId) -> Result<CTest, AllocError>
+    ensures { IfOk result (λ t. plain_test t ≡ IsSet ((naming_of names.now).field f.0)) }
+{
+    Ok(CTest::IsSet(names.field(alloc, f)?))
 }
 
 /// A comparison, as the condition is one, of the C of its sides.
@@ -71,8 +85,8 @@ pub(crate) fn lower_test(
     match c {
         Cond::True => Ok(CTest::Always),
         Cond::False => Ok(CTest::Never),
-        Cond::Var(x) => Ok(CTest::IsSet(names.binder(alloc, *x)?)),
-        Cond::Field(f) => Ok(CTest::IsSet(names.field(alloc, *f)?)),
+        Cond::Var(x) => binder_test(alloc, names, *x),
+        Cond::Field(f) => field_test(alloc, names, *f),
         Cond::Lt(a, b) | Cond::Le(a, b) | Cond::Gt(a, b) | Cond::Ge(a, b) | Cond::Eq(a, b) => {
             let (left, right) = lower_sides(alloc, names, scope, a, b)?;
             Ok(compared(c, left, right))

@@ -215,6 +215,23 @@ fn boxed_number(
     Ok(Box::new(alloc, number)?)
 }
 
+/// The offset by one index more: `((at * d) + i)`.
+fn next_row(
+    alloc: Global,
+    names: &Names<'_>,
+    scope: &[Entry],
+    at: CNumber,
+    i: &Ctrl,
+    d: &Ctrl,
+) -> Result<CNumber, AllocError>
+    ensures { IfOk result (λ n. plain_number n ≡ Sum (Product (plain_number at) (extent_of (naming_of names.now) (control d.now))) (number_of (naming_of names.now) (forms_in scope.now) (control i.now))) }
+{
+    let extent = lower_extent(alloc, names, d)?;
+    let row = times(alloc, at, extent)?;
+    let index = lower_number(alloc, names, scope, i)?;
+    plus(alloc, row, index)
+}
+
 /// An offset by the later indices: `((at * d) + e)` and so on.
 fn add_rows(
     alloc: Global,
@@ -232,10 +249,7 @@ fn add_rows(
     let Some((d, rest)) = dims.split_first() else {
         return Ok(at);
     };
-    let extent = lower_extent(alloc, names, d)?;
-    let row = times(alloc, at, extent)?;
-    let index = lower_number(alloc, names, scope, i)?;
-    let next = plus(alloc, row, index)?;
+    let next = next_row(alloc, names, scope, at, i, d)?;
     let whole = add_rows(alloc, names, scope, next, inner, rest)?;
     Ok(whole)
 }

@@ -7,7 +7,7 @@ ghost use Rattle.c_tree.specs.Plain.{plain_param, plain_function, plain_unit};
 ghost use Rattle.c_printer.specs.PlainPrinted.{printing};
 ghost use Rattle.c_printer.specs.Lowered.{param_forms};
 ghost use Rattle.c_printer.specs.Lowered as kinds;
-ghost use Rattle.c_printer.specs.LoweredUnit.{formal_of, formals_of, function_at, functions_of, name_of, printed_names, lowered};
+ghost use Rattle.c_printer.specs.LoweredUnit.{formal_of, formals_of, function_at, functions_of, name_of, fields_of, global_names, printed_names, lowered};
 ghost use Rattle.c_printer.specs.Scope.{form_of, forms_in};
 ghost use Rattle.c_printer.specs.Naming.{naming_of};
 ghost use Rattle.c_printer.specs.SelfContained.{is_no_window, are_no_windows, is_self_contained, is_there_alone, are_self_contained};
@@ -209,6 +209,33 @@ fn texts(alloc: Global, names: &[Name]) -> Result<Vec<String>, AllocError>
     Ok(made)
 }
 
+/// The C of the listed procedures, which stand by themselves, by the names of the fields that they use and by those of all
+/// functions and fields.
+fn lower_file(
+    alloc: Global,
+    unit: &Unit,
+    globals: &[Name],
+    fields: &[Name],
+    what: &[Printed],
+) -> Result<CUnit, AllocError>
+    requires alone { are_self_contained (program unit.now) (map printing what.now) ≡ true }
+    requires fields { fields.now ≡ fields_of (program unit.now) (map printing what.now) }
+    requires globals { globals.now ≡ global_names (program unit.now) (map printing what.now) }
+    ensures { IfOk result (λ c. plain_unit c ≡ lowered (program unit.now) (map printing what.now)) }
+{
+    let report = lower_report(alloc, unit, what)?;
+    let headers = lower_headers(alloc, unit, what)?;
+    let includes = texts(alloc, &headers)?;
+    let functions = lower_functions(alloc, unit, globals, what)?;
+    let fields = texts(alloc, fields)?;
+    Ok(CUnit {
+        report,
+        includes,
+        fields,
+        functions,
+    })
+}
+
 /// The C of the listed procedures, which stand by themselves, each once and in the order of the unit.
 /// `TooWide` comes exactly where a magnitude in the tree of one of them passes its bound, with the greatest such number; else
 /// `NameClash` exactly where the name of a function or field is a word of C or is given twice, with the first such name.
@@ -228,15 +255,6 @@ pub fn lower(alloc: Global, unit: &Unit, what: &[Printed]) -> Result<CUnit, Lowe
         let name = name.duplicate(alloc)?;
         return Err(LowerError::NameClash(name));
     }
-    let report = lower_report(alloc, unit, what)?;
-    let headers = lower_headers(alloc, unit, what)?;
-    let includes = texts(alloc, &headers)?;
-    let functions = lower_functions(alloc, unit, &globals, what)?;
-    let fields = texts(alloc, &fields)?;
-    Ok(CUnit {
-        report,
-        includes,
-        fields,
-        functions,
-    })
+    let file = lower_file(alloc, unit, &globals, &fields, what)?;
+    Ok(file)
 }

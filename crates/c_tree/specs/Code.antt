@@ -1,20 +1,11 @@
 -- Trees of C as codes, by which a proof tells them apart: the number of a form, and then the codes of its parts.
-use Rattle.std.specs.Prelude.{◌≡◌, ℕ, List}
+use Rattle.std.specs.Prelude.{◌≡◌, List}
 use Rattle.std.specs.Coded.{Coded, coded_ℕ, coded_ℤ, coded_list}
 use Rattle.std.proofs.Common.{ap, arith}
 use base.Stored.{Gv, gnil, gnum, gcons, num}
+use Rattle.exo_tree.specs.CodeParts.{left, right}
 use Rattle.exo_tree.specs.Tree.{Cell, I8, I32}
 use Rattle.c_tree.specs.CTree.{Name, Element, Single, Vector, Number64, Literal, Named, StrideIn, Opposite, Sum, Difference, Product, Quotient, Remainder, Test, Always, Never, IsSet, Less, LessEqual, More, MoreEqual, Equal, Both, Either, CellRef, InArray, InWindow, Number32, Literal32, Read32, Opposite32, Relu32, Sum32, Difference32, Product32, Select32, Actual, Control64, Tested, Alone, Address, WindowOf, Piece, Plain, Filled, CStatement, Store, AddTo, SetField, Empty, Branch, Loop, Array, Malloc, Free, Bind, CallOf, Instruction, CBlock, stop, first}
-
-abbrev pub left : Gv → Gv
-left gnil = gnil
-left (gnum n) = gnil
-left (gcons a b) = a
-
-abbrev pub right : Gv → Gv
-right gnil = gnil
-right (gnum n) = gnil
-right (gcons a b) = b
 
 abbrev pub name_code : Coded Name
 name_code = coded_list coded_ℕ

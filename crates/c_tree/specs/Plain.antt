@@ -1,5 +1,5 @@
 -- The plain trees of the program's trees of C.
-use Rattle.std.specs.Prelude.{List, [], map, string_bytes}
+use Rattle.std.specs.Prelude.{[], map, string_bytes}
 use Rattle.exo_tree.specs.Tree.{Cell, I8, I32}
 use Rattle.c_tree.specs.CTree as c
 use Rattle.c_tree.specs.declared.tree.CType.{CType}

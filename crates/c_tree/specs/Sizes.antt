@@ -1,6 +1,6 @@
 -- How many statements there are at every depth.
 use Rattle.std.specs.Prelude.{ℕ, ◌+◌, List}
-use Rattle.c_tree.specs.CTree.{CStatement, Store, AddTo, SetField, Empty, Branch, Loop, Array, Malloc, Free, Bind, CallOf, Instruction, CBlock, stop, first, cblock}
+use Rattle.c_tree.specs.CTree.{CStatement, Branch, Loop, CBlock, stop, first, cblock}
 
 abbrev mutual
   pub nodes : CStatement → ℕ

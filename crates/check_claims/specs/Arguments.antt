@@ -1,6 +1,7 @@
 -- The expressions of a callee under the arguments of a call: each parameter is what is passed for it, and the stride of a buffer
 -- parameter is that of the dimension of the buffer that is passed.
 use Rattle.std.specs.Prelude.{ℕ, zero, suc, ◌-◌, ◌==◌, Bool, true, false, if◌then◌else◌, List, [], ◌∷◌, take, Option, Some, None}
+use Rattle.exo_tree.specs.Spans.{is_span}
 use Rattle.exo_tree.specs.Tree.{Control, Lit, Var, Field, StrideOf, Neg, Add, Sub, Mul, Div, Mod, Condition, True, False, Flag, FieldFlag, Lt, Le, Gt, Ge, Eq, And, Or, Coord, At, Span, Argument, ControlArg, ConditionArg, Whole, Window, Param}
 
 -- what is passed for a parameter
@@ -22,10 +23,6 @@ truth_for x (Some (ControlArg a)) = Flag x
 truth_for x (Some (ConditionArg c)) = c
 truth_for x (Some (Whole y)) = Flag x
 truth_for x (Some (Window y coords)) = Flag x
-
-abbrev pub is_span : Coord → Bool
-is_span (At a) = false
-is_span (Span a b) = true
 
 -- the number of the coordinate that is the span of that number; that of coordinates where there are not so many spans
 abbrev pub span_place : ℕ → List Coord → ℕ

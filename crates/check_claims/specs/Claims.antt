@@ -150,11 +150,14 @@ module _ (w : Words) where
   abbrev pub param_claims : List Param → List Claim
   param_claims ps = flat_map (λ p. map (at_least_one w) (dims_of p.kind)) ps
 
+  -- of the parameters of a procedure, and of its body
+  abbrev pub procedure_claims : Program → Extents → Procedure → List Placed
+  procedure_claims u extents p =
+      placed_at [] (param_claims p.params) ++ block_claims u extents [] Main 0 p.body
+
 -- of a procedure
 abbrev pub claims_of : Program → Procedure → List Placed
-claims_of u p =
-    let w = words_of u p in
-    placed_at [] (param_claims w p.params) ++ block_claims w u (extents_of p) [] Main 0 p.body
+claims_of u p = procedure_claims (words_of u p) u (extents_of p) p
 
 -- of the procedure of that number; none where there is no such procedure
 abbrev pub unit_claims : Program → ℕ → List Placed

@@ -6,7 +6,7 @@ use Rattle.check_claims.specs.declared.claim.Claim.{Claim}
 use Rattle.check_claims.specs.declared.claim.Placed.{Placed}
 
 abbrev pub claim : Claim → plain.Claim
-claim c = record { says = condition c.says; text = string_bytes c.text }
+claim c = record { says = condition c.says.value; text = string_bytes c.text }
 
 abbrev pub placed : Placed → plain.Placed
 placed p = record { place = p.place; claim = claim p.claim }

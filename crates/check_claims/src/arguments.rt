@@ -4,7 +4,8 @@ ghost use Rattle.std.specs.Option.{option_copied};
 ghost use Rattle.exo_tree.specs.PlainControl.{control, condition, coordinate};
 ghost use Rattle.exo_tree.specs.PlainParam.{parameter};
 ghost use Rattle.exo_tree.specs.PlainArgument.{argument};
-ghost use Rattle.check_claims.specs.Arguments.{passed_for, number_for, truth_for, is_span, span_place, window_stride, stride_for, control_under, condition_under};
+ghost use Rattle.exo_tree.specs.Spans.{is_span};
+ghost use Rattle.check_claims.specs.Arguments.{passed_for, number_for, truth_for, span_place, window_stride, stride_for, control_under, condition_under};
 
 use exo_tree::{Arg, Args, Cond, Coord, Ctrl, Id, Param, Params};
 use std::alloc::{AllocError, Global};
@@ -112,6 +113,7 @@ impl<'a> Passed<'a> {
 }
 
 /// An expression of the callee under the arguments.
+#[cycle(under)]
 pub(crate) fn control_under(alloc: Global, passed: &Passed, e: &Ctrl) -> Result<Ctrl, AllocError>
     ensures { IfOk result (λ c. control c ≡ control_under passed.now.params.now passed.now.args.now (control e.now)) }
 {
@@ -120,25 +122,63 @@ pub(crate) fn control_under(alloc: Global, passed: &Passed, e: &Ctrl) -> Result<
         Ctrl::Var(x) => passed.number(alloc, *x),
         Ctrl::Field(f) => Ok(Ctrl::Field(*f)),
         Ctrl::Stride(x, k) => Ok(passed.stride(*x, *k)),
-        Ctrl::Neg(a) => Ok(Ctrl::Neg(Box::new(alloc, control_under(alloc, passed, a)?)?)),
+        Ctrl::Neg(a) => Ok(Ctrl::Neg(boxed_under(alloc, passed, a)?)),
         Ctrl::Add(a, b) => {
-            let left = Box::new(alloc, control_under(alloc, passed, a)?)?;
-            Ok(Ctrl::Add(left, Box::new(alloc, control_under(alloc, passed, b)?)?))
+            let (left, right) = boxes_under(alloc, passed, a, b)?;
+            Ok(Ctrl::Add(left, right))
         }
         Ctrl::Sub(a, b) => {
-            let left = Box::new(alloc, control_under(alloc, passed, a)?)?;
-            Ok(Ctrl::Sub(left, Box::new(alloc, control_under(alloc, passed, b)?)?))
+            let (left, right) = boxes_under(alloc, passed, a, b)?;
+            Ok(Ctrl::Sub(left, right))
         }
         Ctrl::Mul(a, b) => {
-            let left = Box::new(alloc, control_under(alloc, passed, a)?)?;
-            Ok(Ctrl::Mul(left, Box::new(alloc, control_under(alloc, passed, b)?)?))
+            let (left, right) = boxes_under(alloc, passed, a, b)?;
+            Ok(Ctrl::Mul(left, right))
         }
-        Ctrl::Div(a, n) => Ok(Ctrl::Div(Box::new(alloc, control_under(alloc, passed, a)?)?, *n)),
-        Ctrl::Mod(a, n) => Ok(Ctrl::Mod(Box::new(alloc, control_under(alloc, passed, a)?)?, *n)),
+        Ctrl::Div(a, n) => Ok(Ctrl::Div(boxed_under(alloc, passed, a)?, *n)),
+        Ctrl::Mod(a, n) => Ok(Ctrl::Mod(boxed_under(alloc, passed, a)?, *n)),
     }
 }
 
+/// The same in a box.
+#[cycle(under)]
+fn boxed_under(alloc: Global, passed: &Passed, e: &Ctrl) -> Result<Box<Ctrl>, AllocError>
+    ensures { IfOk result (λ c. control c.value ≡ control_under passed.now.params.now passed.now.args.now (control e.now)) }
+{
+    Ok(Box::new(alloc, control_under(alloc, passed, e)?)?)
+}
+
+/// The same of two expressions.
+#[cycle(under)]
+fn boxes_under(
+    alloc: Global,
+    passed: &Passed,
+    a: &Ctrl,
+    b: &Ctrl,
+) -> Result<(Box<Ctrl>, Box<Ctrl>), AllocError>
+    ensures first { IfOk result (λ r. control r.0.value ≡ control_under passed.now.params.now passed.now.args.now (control a.now)) }
+    ensures second { IfOk result (λ r. control r.1.value ≡ control_under passed.now.params.now passed.now.args.now (control b.now)) }
+{
+    let left = boxed_under(alloc, passed, a)?;
+    Ok((left, boxed_under(alloc, passed, b)?))
+}
+
+/// The sides of a comparison of the callee under the arguments.
+fn sides_under(
+    alloc: Global,
+    passed: &Passed,
+    a: &Ctrl,
+    b: &Ctrl,
+) -> Result<(Ctrl, Ctrl), AllocError>
+    ensures first { IfOk result (λ r. control r.0 ≡ control_under passed.now.params.now passed.now.args.now (control a.now)) }
+    ensures second { IfOk result (λ r. control r.1 ≡ control_under passed.now.params.now passed.now.args.now (control b.now)) }
+{
+    let left = control_under(alloc, passed, a)?;
+    Ok((left, control_under(alloc, passed, b)?))
+}
+
 /// A condition of the callee under the arguments.
+#[cycle(condition_under)]
 pub(crate) fn condition_under(alloc: Global, passed: &Passed, c: &Cond) -> Result<Cond, AllocError>
     ensures { IfOk result (λ d. condition d ≡ condition_under passed.now.params.now passed.now.args.now (condition c.now)) }
 {
@@ -148,32 +188,55 @@ pub(crate) fn condition_under(alloc: Global, passed: &Passed, c: &Cond) -> Resul
         Cond::Var(x) => passed.flag(alloc, *x),
         Cond::Field(f) => Ok(Cond::Field(*f)),
         Cond::Lt(a, b) => {
-            let left = control_under(alloc, passed, a)?;
-            Ok(Cond::Lt(left, control_under(alloc, passed, b)?))
+            let (left, right) = sides_under(alloc, passed, a, b)?;
+            Ok(Cond::Lt(left, right))
         }
         Cond::Le(a, b) => {
-            let left = control_under(alloc, passed, a)?;
-            Ok(Cond::Le(left, control_under(alloc, passed, b)?))
+            let (left, right) = sides_under(alloc, passed, a, b)?;
+            Ok(Cond::Le(left, right))
         }
         Cond::Gt(a, b) => {
-            let left = control_under(alloc, passed, a)?;
-            Ok(Cond::Gt(left, control_under(alloc, passed, b)?))
+            let (left, right) = sides_under(alloc, passed, a, b)?;
+            Ok(Cond::Gt(left, right))
         }
         Cond::Ge(a, b) => {
-            let left = control_under(alloc, passed, a)?;
-            Ok(Cond::Ge(left, control_under(alloc, passed, b)?))
+            let (left, right) = sides_under(alloc, passed, a, b)?;
+            Ok(Cond::Ge(left, right))
         }
         Cond::Eq(a, b) => {
-            let left = control_under(alloc, passed, a)?;
-            Ok(Cond::Eq(left, control_under(alloc, passed, b)?))
+            let (left, right) = sides_under(alloc, passed, a, b)?;
+            Ok(Cond::Eq(left, right))
         }
         Cond::And(a, b) => {
-            let left = Box::new(alloc, condition_under(alloc, passed, a)?)?;
-            Ok(Cond::And(left, Box::new(alloc, condition_under(alloc, passed, b)?)?))
+            let (left, right) = halves_under(alloc, passed, a, b)?;
+            Ok(Cond::And(left, right))
         }
         Cond::Or(a, b) => {
-            let left = Box::new(alloc, condition_under(alloc, passed, a)?)?;
-            Ok(Cond::Or(left, Box::new(alloc, condition_under(alloc, passed, b)?)?))
+            let (left, right) = halves_under(alloc, passed, a, b)?;
+            Ok(Cond::Or(left, right))
         }
     }
+}
+
+/// The same in a box.
+#[cycle(condition_under)]
+fn half_under(alloc: Global, passed: &Passed, c: &Cond) -> Result<Box<Cond>, AllocError>
+    ensures { IfOk result (λ d. condition d.value ≡ condition_under passed.now.params.now passed.now.args.now (condition c.now)) }
+{
+    Ok(Box::new(alloc, condition_under(alloc, passed, c)?)?)
+}
+
+/// The same of two conditions.
+#[cycle(condition_under)]
+fn halves_under(
+    alloc: Global,
+    passed: &Passed,
+    a: &Cond,
+    b: &Cond,
+) -> Result<(Box<Cond>, Box<Cond>), AllocError>
+    ensures first { IfOk result (λ r. condition r.0.value ≡ condition_under passed.now.params.now passed.now.args.now (condition a.now)) }
+    ensures second { IfOk result (λ r. condition r.1.value ≡ condition_under passed.now.params.now passed.now.args.now (condition b.now)) }
+{
+    let left = half_under(alloc, passed, a)?;
+    Ok((left, half_under(alloc, passed, b)?))
 }

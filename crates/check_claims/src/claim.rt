@@ -5,7 +5,7 @@ use exo_tree::{Cond, Path};
 /// A condition that has to hold, and how it is quoted where it is not shown.
 #[derive(Drop)]
 pub struct Claim {
-    pub says: Cond,
+    pub says: Box<Cond>,
     pub text: String,
 }
 

@@ -60,6 +60,7 @@ impl Claims {
     ) -> Result<(), AllocError>
         ensures { OnOk result (self.new ≡ self.old ++ record { says = condition says; text = condition_text (words_in words.now) (condition quoted.now) } ∷ []) }
     {
+        let says = Box::new(alloc, says)?;
         let mut text = String::new(alloc);
         put_condition(&mut text, words, quoted)?;
         self.push(Claim { says, text })
@@ -74,6 +75,7 @@ impl Claims {
     ) -> Result<(), AllocError>
         ensures { OnOk result (self.new ≡ self.old ++ as_shown (words_in words.now) (condition says) ∷ []) }
     {
+        let says = Box::new(alloc, says)?;
         let mut text = String::new(alloc);
         put_condition(&mut text, words, &says)?;
         self.push(Claim { says, text })

@@ -9,7 +9,7 @@ ghost use Rattle.exo_tree.specs.PlainProcedure.{procedure};
 ghost use Rattle.exo_tree.specs.PlainUnit.{program};
 ghost use Rattle.exo_meaning.specs.Units.{field_kind, is_short, levels, step_levels, IsUnit};
 ghost use Rattle.text_show.specs.Seen.{words_in};
-ghost use Rattle.check_claims.specs.Claims.{write_claims, own_claims, into, block_claims, inner_claims, param_claims, claims_of, unit_claims};
+ghost use Rattle.check_claims.specs.Claims.{write_claims, own_claims, into, block_claims, inner_claims, param_claims, procedure_claims, claims_of, unit_claims};
 ghost use Rattle.check_claims.specs.PlainClaim.{placed};
 ghost use Rattle.check_claims.specs.Seen.{extents_in};
 ghost use Rattle.check_claims.specs.Short.{is_short_inside, step_is_short};
@@ -142,6 +142,25 @@ pub(crate) fn put_params(
     Ok(())
 }
 
+/// Puts the claims of a procedure of the unit last: those of its parameters, then those of its body.
+fn put_procedure(
+    alloc: Global,
+    out: &mut Vec<Placed>,
+    site: &Site,
+    p: &Proc,
+) -> Result<(), AllocError>
+    requires short { is_short (block p.now.body) ≡ true }
+    requires inside { is_short_inside (block p.now.body) ≡ true }
+    requires levels { levels (block p.now.body) < 33 }
+    ensures { OnOk result (map placed out.new.items ≡ map placed out.old.items ++ procedure_claims (words_in site.now.words.now) (program site.now.unit.now) (extents_in site.now.extents.now) (procedure p.now)) }
+{
+    let top = Path::new();
+    let mut own = Claims::new(alloc);
+    put_params(alloc, &mut own, site.words, p.params.as_slice())?;
+    own.place(out, &top)?;
+    put_block(alloc, out, site, &top, Branch::Main, &p.body)
+}
+
 /// The claims of a procedure of the unit.
 fn claims_in(alloc: Global, unit: &Unit, p: &Proc) -> Result<Vec<Placed>, AllocError>
     requires short { is_short (block p.now.body) ≡ true }
@@ -156,12 +175,8 @@ fn claims_in(alloc: Global, unit: &Unit, p: &Proc) -> Result<Vec<Placed>, AllocE
         words: &words,
         extents: &extents,
     };
-    let top = Path::new();
     let mut out = Vec::new(alloc);
-    let mut own = Claims::new(alloc);
-    put_params(alloc, &mut own, &words, p.params.as_slice())?;
-    own.place(&mut out, &top)?;
-    put_block(alloc, &mut out, &site, &top, Branch::Main, &p.body)?;
+    put_procedure(alloc, &mut out, &site, p)?;
     Ok(out)
 }
 

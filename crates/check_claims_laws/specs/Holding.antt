@@ -1,5 +1,5 @@
 -- Where claims hold, and which procedures a run comes to.
-use Rattle.std.specs.Prelude.{◌≡◌, ◌==◌, ℕ, Bool, true, false, ◌||◌, [], Option, Some, None, slice_get}
+use Rattle.std.specs.Prelude.{◌≡◌, ◌==◌, ℕ, Bool, true, false, ◌||◌, Option, Some, None, slice_get}
 use Rattle.exo_tree.specs.Tree.{Condition, Statement, Assign, Reduce, Config, Pass, If, For, Alloc, View, Call, Block, end, next, Procedure, Program}
 use Rattle.exo_tree.specs.Places.{Opened, opened}
 use Rattle.exo_meaning.specs.Scene.{holds}
@@ -7,7 +7,7 @@ use Rattle.exo_meaning.specs.State.{State}
 use Rattle.exo_meaning.specs.Run.{World, program_world}
 use Rattle.exo_meaning.specs.Inputs.{IsAdmissible}
 use Rattle.exo_meaning.specs.Orders.{Each}
-use Rattle.exo_meaning.specs.Units.{Scope, scope_of, with_both, is_condition, field_kind}
+use Rattle.exo_meaning.specs.Units.{with_both, is_condition, field_kind}
 use Rattle.meaning_laws.specs.Copies.{HoldsAt}
 use Rattle.meaning_laws.specs.Sorted.{scope_there}
 use Rattle.check_claims.specs.Claim.{Placed}

@@ -11,8 +11,7 @@ ghost use Rattle.check_facts.specs.Values.{plain_value};
 
 use crate::value::{Right, Value};
 use affine_forms::FormError;
-use affine_places::AtEntry;
-use affine_places::{agree, conditions_agree};
+use affine_places::{AtEntry, agree, conditions_agree};
 use exo_tree::{Arg, Branch, Step};
 use std::alloc::{AllocError, Global};
 

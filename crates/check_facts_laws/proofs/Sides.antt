@@ -4,7 +4,8 @@ use Rattle.std.specs.List.{range_with_len}
 use Rattle.std.proofs.lemmas.Option.{slice_get-map}
 use Rattle.exo_tree.specs.Tree.{Control, Coord, At, Span}
 use Rattle.exo_meaning.specs.Scene.{Scene, Side, Point, Range, number, numbers, where_true, is_below, narrowed, strides_of, whole}
-use Rattle.affine_places.specs.Roots.{is_span, spanned}
+use Rattle.exo_tree.specs.Spans.{is_span}
+use Rattle.affine_places.specs.Roots.{spanned}
 use Rattle.affine_places.specs.Laws.{ranges}
 use Rattle.check_facts_laws.proofs.Truths.{none_some, some_injective}
 

@@ -1,5 +1,5 @@
 -- What is known at a place of a procedure holds in each state that a run comes to there.
-use Rattle.std.specs.Prelude.{◌≡◌, true, List, [], length, Option, Some, None}
+use Rattle.std.specs.Prelude.{◌≡◌, true, List, length, Option, Some, None}
 use Rattle.exo_tree.specs.Tree.{Control, Condition, Procedure, ConfigField, Program}
 use Rattle.exo_tree.specs.Places.{Path, Opened, opened}
 use Rattle.exo_meaning.specs.Scene.{number, holds}
@@ -7,7 +7,7 @@ use Rattle.exo_meaning.specs.State.{State}
 use Rattle.exo_meaning.specs.Run.{World, program_world}
 use Rattle.exo_meaning.specs.Inputs.{IsAdmissible}
 use Rattle.exo_meaning.specs.Units as units
-use Rattle.exo_meaning.specs.Units.{Scope, sort_in, has_dimension, is_flag, scope_of, field_kind, with_both, is_control, is_condition}
+use Rattle.exo_meaning.specs.Units.{Scope, sort_in, has_dimension, is_flag, field_kind, with_both, is_control, is_condition}
 use Rattle.meaning_laws.specs.Context.{ComesTo}
 use Rattle.meaning_laws.specs.Sorted.{MayRun, scope_there}
 use Rattle.affine_forms.specs.Atoms.{Valuation, value}

@@ -9,10 +9,9 @@ use Rattle.exo_meaning.specs.State.{State}
 use Rattle.exo_meaning.specs.Run.{World, program_world}
 use Rattle.exo_meaning.specs.Inputs.{IsAdmissible, AreArguments, is_buffer_of, run_procedure}
 use Rattle.exo_meaning.specs.Units.{IsUnit}
-use Rattle.c_machine.specs.CRun.{run_c}
 use Rattle.c_printer.specs.LoweredUnit.{Printing, name_of}
 use Rattle.c_printer.specs.SelfContained.{is_there_alone, are_self_contained}
-use Rattle.c_laws.specs.Laws.{naming_of, declared_in, AreLowered, IsListed, LeavesTheSame, EndsWell, UnitsFollow}
+use Rattle.c_laws.specs.Laws.{AreLowered, IsListed, UnitsFollow}
 use Rattle.unit_check.specs.Faults.{NothingFaults}
 use Rattle.schedule_run.specs.Versions.{printing_of, printings, with_versions}
 use Rattle.schedule_run.specs.Lines.{Versions}

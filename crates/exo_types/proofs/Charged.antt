@@ -21,7 +21,7 @@ use Rattle.rules_names.specs.WindowRules.{coordinate_width, coordinates_width, c
 use Rattle.exo_types.specs.declared.call.Passed.{Passed}
 use Rattle.exo_types.specs.TypeRules.{cell_named, kind_named, no_cell_faults, cell_faults, no_kind_faults, kind_faults, is_taken, binder_faults, named_memory_faults, memory_faults, memory_width}
 use Rattle.exo_types.specs.ArgumentRules as rules
-use Rattle.exo_types.specs.ArgumentRules.{Signature, dims_width, argument_width, spaced_width, arguments_width, spans, points, may_be_part, is_passed, tensor_takes, cell_takes, whole_faults, tensor_faults, strided_faults, value_faults, view_faults, argument_faults, argument_of, arguments_faults, call_faults}
+use Rattle.exo_types.specs.ArgumentRules.{Signature, dims_width, argument_width, spaced_width, arguments_width, spans, points, may_be_tensor, may_be_strided, part_faults, is_passed, tensor_takes, cell_takes, whole_faults, tensor_faults, strided_faults, value_faults, view_faults, argument_faults, argument_of, arguments_faults, call_faults}
 
 -- ---- lists of broken rules before a token
 
@@ -233,7 +233,7 @@ module _ (fields : List ConfigField) (hi : ℕ) where
   control_within may scope n (relu e) h = wrong_within scope n (relu e) h
   control_within may scope n (select a b c d) h = wrong_within scope n (select a b c d) h
   control_within may scope n (negative e) h = control_within may scope (n + 1) e (omega (arith, h, width_negative e))
-  control_within may scope n (parens e) h = either (may_be_control e) (control_within may scope (n + 1) e (omega (arith, h, width_parens e))) (wrong_within scope n (parens e) h)
+  control_within may scope n (parens e) h = either (may_be_control fields scope e) (control_within may scope (n + 1) e (omega (arith, h, width_parens e))) (wrong_within scope n (parens e) h)
   control_within may scope n (binary operator l r) h =
       let left : n + width l ≤ hi = omega (arith, h, width_binary operator l r) in
       let right : n + width l + 1 + width r ≤ hi = omega (arith, h, width_binary operator l r) in
@@ -256,7 +256,7 @@ module _ (fields : List ConfigField) (hi : ℕ) where
   condition_within may scope n (relu e) h = wrong_within scope n (relu e) h
   condition_within may scope n (select a b c d) h = wrong_within scope n (select a b c d) h
   condition_within may scope n (negative e) h = wrong_within scope n (negative e) h
-  condition_within may scope n (parens e) h = either (may_be_condition e) (condition_within may scope (n + 1) e (omega (arith, h, width_parens e))) (wrong_within scope n (parens e) h)
+  condition_within may scope n (parens e) h = either (may_be_condition fields scope e) (condition_within may scope (n + 1) e (omega (arith, h, width_parens e))) (wrong_within scope n (parens e) h)
   condition_within may scope n (binary operator l r) h =
       let left : n + width l ≤ hi = omega (arith, h, width_binary operator l r) in
       let right : n + width l + 1 + width r ≤ hi = omega (arith, h, width_binary operator l r) in
@@ -286,7 +286,7 @@ module _ (fields : List ConfigField) (hi : ℕ) where
       (also (data_within scope (n + 2 + width a + 1) b (omega (arith, h, width_select a b c d)))
       (also (data_within scope (n + 2 + width a + 1 + width b + 1) c (omega (arith, h, width_select a b c d))) (data_within scope (n + 2 + width a + 1 + width b + 1 + width c + 1) d (omega (arith, h, width_select a b c d)))))
   data_within scope n (negative e) h = data_within scope (n + 1) e (omega (arith, h, width_negative e))
-  data_within scope n (parens e) h = either (may_be_data e) (data_within scope (n + 1) e (omega (arith, h, width_parens e))) (wrong_within scope n (parens e) h)
+  data_within scope n (parens e) h = either (may_be_data fields scope e) (data_within scope (n + 1) e (omega (arith, h, width_parens e))) (wrong_within scope n (parens e) h)
   data_within scope n (binary operator l r) h =
       either (is_arithmetic operator && not (is_quotient operator))
       (also (data_within scope n l (omega (arith, h, width_binary operator l r))) (data_within scope (n + width l + 1) r (omega (arith, h, width_binary operator l r))))
@@ -312,33 +312,37 @@ module _ (fields : List ConfigField) (hi : ℕ) where
   whole_within : (fits : Option Sort → Bool) (scope : Scope) (n : ℕ) (x : List ℕ) (rank : ℕ) → n < hi → Within hi (whole_faults fields fits scope n x rank)
   whole_within fits scope n x rank h = also (name_within fits (sort_of (named_in scope x)) n h) (rank_within (sort_of (named_in scope x)) rank n h)
 
-  part_within : (fits : Option Sort → Bool) (scope : Scope) (n : ℕ) (x : List ℕ) (is : Trees) → n + width (access x is) ≤ hi → Within hi (window_faults fields fits scope n x (points (list_of is)))
-  part_within fits scope n x is h = window_within fits scope n x (points (list_of is)) (omega (arith, h, width_access x is, points_width (list_of is), commas_most (list_of is)))
+  part_within : (fits : Option Sort → Bool) (scope : Scope) (n : ℕ) (x : List ℕ) (is : Trees) (more : List Fault) → Within hi more → n + width (access x is) ≤ hi → Within hi (part_faults fields fits scope n x (list_of is) more)
+  part_within fits scope n x is more m h =
+      let l : n < hi = omega (arith, h, some_width (access x is)) in
+      in_parts
+      (also (name_within fits (sort_of (named_in scope x)) n l) (controls_within plainly scope (n + 2) (list_of is) (omega (arith, h, width_access x is, commas_most (list_of is)))))
+      (also (rank_within (sort_of (named_in scope x)) (length (list_of is)) n l) m)
 
   tensor_within : (scope : Scope) (cell : Cell) (rank n : ℕ) (e : Tree) → n + width e ≤ hi → Within hi (tensor_faults fields scope cell rank n e)
   tensor_within scope cell rank n (number k) h = wrong_within scope n (number k) h
   tensor_within scope cell rank n (truth b) h = wrong_within scope n (truth b) h
   tensor_within scope cell rank n (variable x) h = whole_within (tensor_takes cell rank) scope n x rank (omega (arith, h, width_leaf x))
-  tensor_within scope cell rank n (access x is) h = part_within (cell_takes cell rank) scope n x is h
+  tensor_within scope cell rank n (access x is) h = part_within (cell_takes cell rank) scope n x is [] none h
   tensor_within scope cell rank n (field c x) h = wrong_within scope n (field c x) h
   tensor_within scope cell rank n (stride x k) h = wrong_within scope n (stride x k) h
   tensor_within scope cell rank n (relu e) h = wrong_within scope n (relu e) h
   tensor_within scope cell rank n (select a b c d) h = wrong_within scope n (select a b c d) h
   tensor_within scope cell rank n (negative e) h = wrong_within scope n (negative e) h
-  tensor_within scope cell rank n (parens e) h = either (may_be_part e) (tensor_within scope cell rank (n + 1) e (omega (arith, h, width_parens e))) (wrong_within scope n (parens e) h)
+  tensor_within scope cell rank n (parens e) h = either (may_be_tensor scope cell rank e) (tensor_within scope cell rank (n + 1) e (omega (arith, h, width_parens e))) (wrong_within scope n (parens e) h)
   tensor_within scope cell rank n (binary operator l r) h = wrong_within scope n (binary operator l r) h
 
   strided_within : (scope : Scope) (cell : Cell) (rank first n : ℕ) (e : Tree) → first < hi → n + width e ≤ hi → Within hi (strided_faults fields scope cell rank first n e)
   strided_within scope cell rank first n (number k) l h = wrong_within scope n (number k) h
   strided_within scope cell rank first n (truth b) l h = wrong_within scope n (truth b) h
   strided_within scope cell rank first n (variable x) l h = whole_within (has_cell cell) scope n x rank (omega (arith, h, width_leaf x))
-  strided_within scope cell rank first n (access x is) l h = also (part_within (has_cell cell) scope n x is h) (tested (rank == 0) k.RankMismatch first l)
+  strided_within scope cell rank first n (access x is) l h = part_within (has_cell cell) scope n x is _ (tested (rank == 0) k.RankMismatch first l) h
   strided_within scope cell rank first n (field c x) l h = wrong_within scope n (field c x) h
   strided_within scope cell rank first n (stride x k) l h = wrong_within scope n (stride x k) h
   strided_within scope cell rank first n (relu e) l h = wrong_within scope n (relu e) h
   strided_within scope cell rank first n (select a b c d) l h = wrong_within scope n (select a b c d) h
   strided_within scope cell rank first n (negative e) l h = wrong_within scope n (negative e) h
-  strided_within scope cell rank first n (parens e) l h = either (may_be_part e) (strided_within scope cell rank first (n + 1) e l (omega (arith, h, width_parens e))) (wrong_within scope n (parens e) h)
+  strided_within scope cell rank first n (parens e) l h = either (may_be_strided scope cell e) (strided_within scope cell rank first (n + 1) e l (omega (arith, h, width_parens e))) (wrong_within scope n (parens e) h)
   strided_within scope cell rank first n (binary operator l r) m h = wrong_within scope n (binary operator l r) h
 
   pub kind_within : (may : Reads) (scope : Scope) (kind : Kind) (n : ℕ) (e : Tree) → n + width e ≤ hi → Within hi (rules.kind_faults fields may scope kind n e)

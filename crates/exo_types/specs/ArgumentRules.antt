@@ -5,14 +5,14 @@ use Rattle.std.specs.List.{list_any}
 use Rattle.exo_tree.specs.Tree as tree
 use Rattle.exo_tree.specs.Tree.{Kind, Cell, ConfigField, Param, ParamKind, ControlParam, TensorParam, WindowParam}
 use Rattle.exo_meaning.specs.Calls.{Callee}
-use Rattle.exo_meaning.specs.Units.{Sort, Scope, Reads, with_both, is_truth, has_cell, is_dense, root_of, field_kind}
+use Rattle.exo_meaning.specs.Units.{Sort, Scope, Reads, plainly, with_both, is_truth, has_cell, is_dense, root_of, field_kind}
 use Rattle.text_expressions.specs.Expression.{Tree, variable, access, parens}
 use Rattle.exo_reader.specs.Source.{Coordinate, point, span, Argument, value, window}
 use Rattle.rules_names.specs.declared.error.TypeKind.TheVariants.{UnknownName, RankMismatch, SharedArgument}
 use Rattle.rules_names.specs.declared.fault.Fault.{Fault}
-use Rattle.rules_names.specs.Faults.{fault, unless}
+use Rattle.rules_names.specs.Faults.{fault, unless, parts_then_whole}
 use Rattle.rules_names.specs.Names.{named_in, sort_of, id_in, no_id}
-use Rattle.rules_names.specs.ExpressionRules.{width, closed_width, name_faults, rank_faults, wrong_form, control_faults, condition_faults, list_of}
+use Rattle.rules_names.specs.ExpressionRules.{width, closed_width, suits, name_faults, rank_faults, wrong_form, control_faults, controls_faults, condition_faults, list_of}
 use Rattle.exo_types.specs.declared.call.Passed.{Passed}
 use Rattle.rules_names.specs.WindowRules.{coordinates_width, window_faults, coordinates_of}
 use Rattle.rules_names.specs.Resolved.{control_of, condition_of}
@@ -53,13 +53,6 @@ spans (span a b ∷ cs) = suc (spans cs)
 abbrev pub points : List Tree → List Coordinate
 points es = map point es
 
--- an expression that is a name or a cell; parentheses are looked through
-abbrev pub may_be_part : Tree → Bool
-may_be_part (variable x) = true
-may_be_part (access x is) = true
-may_be_part (parens e) = may_be_part e
-may_be_part other = false
-
 -- ---- callees
 
 -- what a call asks of its callee: its parameters, and which of them it writes or reduces
@@ -88,6 +81,22 @@ tensor_takes cell rank sort = has_cell cell sort && ((rank == 0) || is_dense sor
 abbrev pub cell_takes : Cell → ℕ → Option Sort → Bool
 cell_takes cell rank sort = has_cell cell sort && (rank == 0)
 
+-- ---- what may stand in parentheses
+
+-- a name or a cell for a tensor, of the kind that is asked
+abbrev pub may_be_tensor : Scope → Cell → ℕ → Tree → Bool
+may_be_tensor scope cell rank (variable x) = suits (tensor_takes cell rank) (sort_of (named_in scope x))
+may_be_tensor scope cell rank (access x is) = suits (cell_takes cell rank) (sort_of (named_in scope x))
+may_be_tensor scope cell rank (parens e) = may_be_tensor scope cell rank e
+may_be_tensor scope cell rank other = false
+
+-- and for a window
+abbrev pub may_be_strided : Scope → Cell → Tree → Bool
+may_be_strided scope cell (variable x) = suits (has_cell cell) (sort_of (named_in scope x))
+may_be_strided scope cell (access x is) = suits (has_cell cell) (sort_of (named_in scope x))
+may_be_strided scope cell (parens e) = may_be_strided scope cell e
+may_be_strided scope cell other = false
+
 module _ (fields : List ConfigField) where
   -- a whole buffer of a rank
   abbrev pub whole_faults : (Option Sort → Bool) → Scope → ℕ → List ℕ → ℕ → List Fault
@@ -95,21 +104,27 @@ module _ (fields : List ConfigField) where
       let sort = sort_of (named_in scope x) in
       name_faults fits sort n ++ rank_faults sort rank n
 
+  -- A cell as a part of a buffer is an expression: its name and its indices are tested, and then its rank, with what else the
+  -- whole breaks.
+  abbrev pub part_faults : (Option Sort → Bool) → Scope → ℕ → List ℕ → List Tree → List Fault → List Fault
+  part_faults fits scope n x is whole =
+      let sort = sort_of (named_in scope x) in
+      parts_then_whole (name_faults fits sort n ++ controls_faults fields plainly scope (n + 2) is) (rank_faults sort (length is) n ++ whole)
+
   -- ---- arguments
 
   -- first is the number of the argument's first token, with parentheses around it
   abbrev pub tensor_faults : Scope → Cell → ℕ → ℕ → Tree → List Fault
   tensor_faults scope cell rank n (variable x) = whole_faults (tensor_takes cell rank) scope n x rank
-  tensor_faults scope cell rank n (access x is) = window_faults fields (cell_takes cell rank) scope n x (points (list_of is))
-  tensor_faults scope cell rank n (parens e) = if may_be_part e then tensor_faults scope cell rank (n + 1) e else wrong_form fields scope n (parens e)
+  tensor_faults scope cell rank n (access x is) = part_faults (cell_takes cell rank) scope n x (list_of is) []
+  tensor_faults scope cell rank n (parens e) = if may_be_tensor scope cell rank e then tensor_faults scope cell rank (n + 1) e else wrong_form fields scope n (parens e)
   tensor_faults scope cell rank n other = wrong_form fields scope n other
 
   -- a window takes a whole buffer or view of its rank and cell type, or a window with as many spans as its rank
   abbrev pub strided_faults : Scope → Cell → ℕ → ℕ → ℕ → Tree → List Fault
   strided_faults scope cell rank first n (variable x) = whole_faults (has_cell cell) scope n x rank
-  strided_faults scope cell rank first n (access x is) =
-      window_faults fields (has_cell cell) scope n x (points (list_of is)) ++ unless (rank == 0) RankMismatch first
-  strided_faults scope cell rank first n (parens e) = if may_be_part e then strided_faults scope cell rank first (n + 1) e else wrong_form fields scope n (parens e)
+  strided_faults scope cell rank first n (access x is) = part_faults (has_cell cell) scope n x (list_of is) (unless (rank == 0) RankMismatch first)
+  strided_faults scope cell rank first n (parens e) = if may_be_strided scope cell e then strided_faults scope cell rank first (n + 1) e else wrong_form fields scope n (parens e)
   strided_faults scope cell rank first n other = wrong_form fields scope n other
 
   -- a control value of a kind: a condition for `bool`, an affine expression for the others

@@ -1,5 +1,5 @@
 //! Arguments of calls.
-ghost use Rattle.std.specs.Prelude.{◌≡◌, ◌+◌, ◌≤◌, ◌==◌, ◌&&◌, Bool, Option, None, Some, map, IfOk};
+ghost use Rattle.std.specs.Prelude.{◌≡◌, ◌+◌, ◌≤◌, ◌==◌, ◌&&◌, Bool, List, Option, None, Some, map, IfOk};
 ghost use Rattle.exo_tree.specs.PlainBinder.{cell_type, control_kind};
 ghost use Rattle.exo_tree.specs.PlainParam.{parameter_kind};
 ghost use Rattle.exo_tree.specs.PlainArgument.{argument};
@@ -7,10 +7,11 @@ ghost use Rattle.exo_meaning.specs.Units as units;
 ghost use Rattle.text_expressions.specs.Views.{tree_of};
 ghost use Rattle.exo_reader.specs.Views.{plain_coordinate, plain_argument};
 ghost use Rattle.rules_names.specs.Faults.{charged};
+ghost use Rattle.rules_names.specs.declared.fault.Fault.{Fault};
 ghost use Rattle.rules_names.specs.Names.{named_in, sort_of};
 ghost use Rattle.rules_names.specs.Tests.{sort_seen, reads, most_tokens};
 ghost use Rattle.rules_names.specs.ExpressionRules.{width, closed_width};
-ghost use Rattle.rules_names.specs.WindowRules.{window_faults, coordinates_width, coordinates_of};
+ghost use Rattle.rules_names.specs.WindowRules.{coordinates_width, coordinates_of};
 ghost use Rattle.exo_modes.specs.Aliases.{roots_in};
 ghost use Rattle.exo_types.specs.ArgumentRules as rules;
 
@@ -22,7 +23,9 @@ use rules_names::error::TypeKind;
 use rules_names::fault::Charge;
 use rules_names::resolved::{NO_ID, condition_of, control_of, coordinates_of, id_in};
 use rules_names::scope::Sort;
-use rules_names::tested::{Names, PLAINLY, Reads, Tested, WITH_BOTH, name_charge, rank_charge};
+use rules_names::tested::{
+    Names, PLAINLY, Reads, Tested, WITH_BOTH, name_charge, rank_charge, suits,
+};
 use rules_names::width::end_of;
 use rules_names::window::test_window;
 use std::alloc::{AllocError, Global};
@@ -76,13 +79,38 @@ fn takes_cell(cell: Cell, rank: usize, sort: Option<Sort>) -> bool
     has_cell(cell, sort) && rank == 0
 }
 
-/// Whether an expression is a name or a cell; parentheses are looked through.
-fn may_be_part(e: &SourceExpr) -> bool
-    ensures { result ≡ rules.may_be_part (tree_of e.now) }
+/// Whether an expression in parentheses may stand where a tensor is asked: a name or a cell alone, of the kind that is asked.
+fn may_be_tensor(names: &Names, cell: Cell, rank: usize, e: &SourceExpr) -> bool
+    ensures { result ≡ rules.may_be_tensor names.now.scope.now (cell_type cell) rank (tree_of e.now) }
 {
     match e {
-        SourceExpr::Name(_) | SourceExpr::Access(_, _) => true,
-        SourceExpr::Parens(inner) => may_be_part(inner),
+        SourceExpr::Name(x) => {
+            let sort = names.scope.sort(x.as_str());
+            suits(sort, takes_whole(cell, rank, sort))
+        }
+        SourceExpr::Access(x, _) => {
+            let sort = names.scope.sort(x.as_str());
+            suits(sort, takes_cell(cell, rank, sort))
+        }
+        SourceExpr::Parens(inner) => may_be_tensor(names, cell, rank, inner),
+        _ => false,
+    }
+}
+
+/// Whether an expression in parentheses may stand where a window is asked: a name or a cell alone, of the kind that is asked.
+fn may_be_strided(names: &Names, cell: Cell, e: &SourceExpr) -> bool
+    ensures { result ≡ rules.may_be_strided names.now.scope.now (cell_type cell) (tree_of e.now) }
+{
+    match e {
+        SourceExpr::Name(x) => {
+            let sort = names.scope.sort(x.as_str());
+            suits(sort, has_cell(cell, sort))
+        }
+        SourceExpr::Access(x, _) => {
+            let sort = names.scope.sort(x.as_str());
+            suits(sort, has_cell(cell, sort))
+        }
+        SourceExpr::Parens(inner) => may_be_strided(names, cell, inner),
         _ => false,
     }
 }
@@ -95,16 +123,23 @@ fn test_whole(names: &Names, fits: bool, n: usize, x: &Text, rank: usize) -> Cha
     name_charge(sort, fits, n).and(rank_charge(sort, rank, n))
 }
 
-/// The charge of a cell with its indices where a part of a buffer is asked.
-fn test_cell(names: &Names, fits: bool, n: usize, x: &Text, indices: &[SourceExpr]) -> Charge
+/// The charge of a cell with its indices where a part of a buffer is asked, with what else the whole breaks.
+fn test_cell(
+    names: &Names,
+    fits: bool,
+    n: usize,
+    x: &Text,
+    indices: &[SourceExpr],
+    whole: Charge,
+) -> Charge
     requires { n + 2 + closed_width (map tree_of indices.now) ≤ most_tokens }
-    ensures { (test : Option units.Sort → Bool) → test (sort_of (named_in names.now.scope.now x.now)) ≡ fits → result ≡ charged (window_faults names.now.fields.now test names.now.scope.now n x.now (rules.points (map tree_of indices.now))) }
+    ensures { (test : Option units.Sort → Bool) (more : List Fault) → test (sort_of (named_in names.now.scope.now x.now)) ≡ fits → whole ≡ charged more → result ≡ charged (rules.part_faults names.now.fields.now test names.now.scope.now n x.now (map tree_of indices.now) more) }
 {
     let sort = names.scope.sort(x.as_str());
     let name = name_charge(sort, fits, n);
     let rank = rank_charge(sort, indices.len(), n);
     let (parts, _end) = test_controls(names, PLAINLY, n + 2, indices);
-    name.and(rank.and(parts))
+    name.and(parts).then_whole(rank.and(whole))
 }
 
 /// The charge of an expression where a tensor is asked: a whole dense tensor, or a single cell for one of rank 0.
@@ -119,9 +154,10 @@ fn test_tensor(names: &Names, cell: Cell, rank: usize, n: usize, e: &SourceExpr)
         }
         SourceExpr::Access(x, indices) => {
             let sort = names.scope.sort(x.as_str());
-            test_cell(names, takes_cell(cell, rank, sort), n, x, indices)
+            let fits = takes_cell(cell, rank, sort);
+            test_cell(names, fits, n, x, indices, Charge::none())
         }
-        SourceExpr::Parens(inner) if may_be_part(inner) => {
+        SourceExpr::Parens(inner) if may_be_tensor(names, cell, rank, inner) => {
             test_tensor(names, cell, rank, n + 1, inner)
         }
         _ => test_wrong_form(names, n, e).charge,
@@ -147,10 +183,10 @@ fn test_strided(
         }
         SourceExpr::Access(x, indices) => {
             let sort = names.scope.sort(x.as_str());
-            let part = test_cell(names, has_cell(cell, sort), n, x, indices);
-            part.and(Charge::unless(rank == 0, TypeKind::RankMismatch, first))
+            let spans = Charge::unless(rank == 0, TypeKind::RankMismatch, first);
+            test_cell(names, has_cell(cell, sort), n, x, indices, spans)
         }
-        SourceExpr::Parens(inner) if may_be_part(inner) => {
+        SourceExpr::Parens(inner) if may_be_strided(names, cell, inner) => {
             test_strided(names, cell, rank, first, n + 1, inner)
         }
         _ => test_wrong_form(names, n, e).charge,

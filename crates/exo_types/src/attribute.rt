@@ -18,7 +18,7 @@ use std::alloc::{AllocError, Global};
 use text_lexer::text as lexer;
 
 /// What an attribute says.
-#[derive(Clone, Copy, Debug, PartialEq, Eq)]
+#[derive(Clone, Copy)]
 pub enum Trait {
     Ctype,
     Lanes,

@@ -177,7 +177,6 @@ fn param_of<'c>(
 {
     let (charge, end) = test_param(context, walk, n, param);
     keep(charge)?;
-    let name = Name::new(context.alloc, param.name.as_str())?;
     let names = Names {
         fields: context.fields,
         scope: &walk.scope,
@@ -190,6 +189,7 @@ fn param_of<'c>(
         &param.memory,
     )?;
     let id = walk.bind(param.name.as_str(), param_sort(&kind))?;
+    let name = Name::new(context.alloc, param.name.as_str())?;
     let binder = Binder { id, name };
     Ok((Param { binder, kind }, end))
 }
@@ -283,6 +283,35 @@ fn first_walk<'c>(alloc: Global, first_id: u32) -> Walk<'c>
     }
 }
 
+/// The procedure of a definition whose `def` is token `n`, and the number of the token behind it. No name is given yet.
+fn procedure_of<'c>(
+    context: &Context<'c>,
+    walk: &mut Walk<'c>,
+    n: usize,
+    template: Option<Template>,
+    definition: &'c SourceDef,
+) -> Result<(Proc, usize), Refusal>
+    requires scope { walk.old.scope ≡ [] }
+    requires aliases { walk.old.aliases.items ≡ [] }
+    requires lines { walk.old.lines ≡ [] }
+    requires space { HasSpace context.now walk.old.next_id n (plain_definition definition.now) }
+    ensures { MatchResult result (λ r. IsDefined context.now walk.old.next_id template n (record { procedure = r.0; lines = walk.new.lines; next_id = walk.new.next_id; end = r.1 }) (plain_definition definition.now)) (λ e. Refuses e (definitions.definition_fault context.now walk.old.next_id n (plain_definition definition.now))) }
+{
+    let name = Name::new(context.alloc, definition.name.as_str())?;
+    let (params, closed) = params_of(context, walk, n + 3, &definition.params.items)?;
+    let start = closed + comma_width(definition.params.trailing) + 3;
+    let (asserts, middle) = asserts_of(context, &walk.scope, start, &definition.asserts)?;
+    let (body, end) = block_of(context, walk, middle, &definition.body)?;
+    let made = Proc {
+        name,
+        params,
+        asserts,
+        body,
+        template,
+    };
+    Ok((made, end + 1))
+}
+
 /// The procedure of a definition whose `def` is token `n`, and whose first binder gets that id.
 pub fn definition_of<'c>(
     context: &Context<'c>,
@@ -294,23 +323,12 @@ pub fn definition_of<'c>(
     requires { HasSpace context.now first_id n (plain_definition definition.now) }
     ensures { MatchResult result (λ r. IsDefined context.now first_id template n r (plain_definition definition.now)) (λ e. Refuses e (definitions.definition_fault context.now first_id n (plain_definition definition.now))) }
 {
-    let alloc = context.alloc;
-    let name = Name::new(alloc, definition.name.as_str())?;
-    let mut walk = first_walk(alloc, first_id);
-    let (params, closed) = params_of(context, &mut walk, n + 3, &definition.params.items)?;
-    let start = closed + comma_width(definition.params.trailing) + 3;
-    let (asserts, middle) = asserts_of(context, &walk.scope, start, &definition.asserts)?;
-    let (body, end) = block_of(context, &mut walk, middle, &definition.body)?;
+    let mut walk = first_walk(context.alloc, first_id);
+    let (procedure, end) = procedure_of(context, &mut walk, n, template, definition)?;
     Ok(Defined {
-        procedure: Proc {
-            name,
-            params,
-            asserts,
-            body,
-            template,
-        },
+        procedure,
         lines: walk.lines,
         next_id: walk.next_id,
-        end: end + 1,
+        end,
     })
 }

@@ -9,7 +9,7 @@ use rules_names::fault::{Charge, Fault};
 use std::alloc::AllocError;
 
 /// A rule is broken, or there was no memory.
-#[derive(Clone, Copy, Debug, PartialEq, Eq)]
+#[derive(Clone, Copy)]
 pub enum Refusal {
     Memory,
     Broken(Fault),

@@ -1,6 +1,8 @@
 //! Statements and blocks.
 ghost use Rattle.std.specs.Prelude.{◌≡◌, ◌+◌, ◌≤◌, map, length, IfOk};
 ghost use Rattle.exo_meaning.specs.Units as units;
+ghost use Rattle.exo_tree.specs.PlainControl.{control};
+ghost use Rattle.rules_names.specs.Resolved.{control_of};
 ghost use Rattle.text_expressions.specs.Views.{tree_of};
 ghost use Rattle.exo_reader.specs.Source.{branch, loop, allocate, call, configure, assign, reduce, view, block_of};
 ghost use Rattle.exo_reader.specs.Source as source;
@@ -22,13 +24,16 @@ use crate::part::{
 use crate::refusal::{Refusal, keep, unknown_name};
 use crate::types::{cell_charge, cell_of};
 use exo_reader::source::{SourceArgs, SourceCoord, SourceKind, SourceStmt};
-use exo_tree::{Binder, Block, Cell, Kind, Name, ProcId, Stmt};
+use exo_tree::{Binder, Block, Cell, Ctrl, Kind, Name, ProcId, Stmt};
 use rules_names::control::{test_condition, test_control};
 use rules_names::fault::Charge;
-use rules_names::resolved::{condition_of, control_of, coordinates_of, data_of, id_in, indices_of};
-use rules_names::scope::Sort;
+use rules_names::resolved::{
+    boxed_condition, control_of, coordinates_of, data_of, id_in, indices_of,
+};
+use rules_names::scope::{Scope, Sort};
 use rules_names::tested::{Names, PLAINLY, WITH_FIELDS, WITH_STRIDES, is_buffer};
 use rules_names::window::test_window;
+use std::alloc::AllocError;
 use text_expressions::source::SourceExpr;
 use text_lexer::text::Text;
 
@@ -183,10 +188,10 @@ fn alloc_of<'c>(
         scope: &walk.scope,
     };
     let indices = indices_of(context.alloc, &names, dims)?;
-    let name = Name::new(context.alloc, x.as_str())?;
     let cell = cell_of(kind);
     let home = memory_of(context.memories, memory);
     let id = walk.bind_buffer(x.as_str(), Sort::Buffer(cell, dims.len(), true))?;
+    let name = Name::new(context.alloc, x.as_str())?;
     Ok((Stmt::Alloc(Binder { id, name }, cell, indices, home), end))
 }
 
@@ -245,8 +250,8 @@ fn view_of<'c>(
     let of = id_in(&names, x.as_str());
     let sort = view_sort(names.scope.sort(x.as_str()), spans(coords));
     let made = coordinates_of(context.alloc, &names, coords)?;
-    let name = Name::new(context.alloc, w.as_str())?;
     let id = walk.bind_view(w.as_str(), of, sort)?;
+    let name = Name::new(context.alloc, w.as_str())?;
     Ok((Stmt::View(Binder { id, name }, of, made), end))
 }
 
@@ -297,10 +302,13 @@ fn branch_of<'c>(
     };
     let tested = test_condition(&names, WITH_FIELDS, n + 1, c);
     keep(tested.charge)?;
-    let condition = condition_of(context.alloc, &names, c)?;
+    let condition = boxed_condition(context.alloc, &names, c)?;
     let (then_part, end) = block_of(context, walk, tested.end + 3, a)?;
     let (else_part, next) = else_of(context, walk, end + 1, b)?;
-    Ok((Stmt::If(condition, then_part, else_part), next))
+    Ok((
+        Stmt::If(Box::into_inner(condition), then_part, else_part),
+        next,
+    ))
 }
 
 /// The block of an `else`, which is token `n`, or an empty one, and the number of the token behind it.
@@ -345,6 +353,36 @@ fn test_loop(
     (name.and(first.charge.and(second.charge)), second.end)
 }
 
+/// What stands in the first line of a loop: the name of its variable, and its bounds.
+#[derive(Drop)]
+pub struct LoopHead {
+    pub name: Name,
+    pub from: Ctrl,
+    pub to: Ctrl,
+}
+
+/// The first line of a loop. Its bounds are of names in scope before the loop.
+fn head_of(
+    context: &Context,
+    scope: &Scope,
+    i: &Text,
+    low: &SourceExpr,
+    high: &SourceExpr,
+) -> Result<Box<LoopHead>, AllocError>
+    ensures name { IfOk result (λ h. h.value.name ≡ i.now) }
+    ensures from { IfOk result (λ h. control h.value.from ≡ control_of context.now.fields.now scope.now (tree_of low.now)) }
+    ensures to { IfOk result (λ h. control h.value.to ≡ control_of context.now.fields.now scope.now (tree_of high.now)) }
+{
+    let names = Names {
+        fields: context.fields,
+        scope,
+    };
+    let name = Name::new(context.alloc, i.as_str())?;
+    let from = control_of(context.alloc, &names, low)?;
+    let to = control_of(context.alloc, &names, high)?;
+    Ok(Box::new(context.alloc, LoopHead { name, from, to })?)
+}
+
 /// A loop whose first token is `n`, and the number of the token behind it. Its bounds do not see its variable.
 #[cycle(statements)]
 fn loop_of<'c>(
@@ -362,17 +400,12 @@ fn loop_of<'c>(
 {
     let (charge, bounds_end) = test_loop(context, walk, n, i, low, high);
     keep(charge)?;
-    let names = Names {
-        fields: context.fields,
-        scope: &walk.scope,
-    };
-    let from = control_of(context.alloc, &names, low)?;
-    let to = control_of(context.alloc, &names, high)?;
-    let name = Name::new(context.alloc, i.as_str())?;
+    let head = head_of(context, &walk.scope, i, low, high)?;
     let known = walk.scope.len();
     let id = walk.bind(i.as_str(), Sort::Control(Kind::Index))?;
     let (inside, end) = block_of(context, walk, bounds_end + 4, a)?;
     walk.scope.truncate(known);
+    let LoopHead { name, from, to } = Box::into_inner(head);
     Ok((Stmt::For(Binder { id, name }, from, to, inside), end + 1))
 }
 

@@ -11,7 +11,7 @@ use crate::types::{is_same, kind_named};
 use exo_reader::source::{SourceParam, SourceType};
 
 /// Where the reading of a template stands.
-#[derive(Clone, Copy, Debug, PartialEq, Eq)]
+#[derive(Clone, Copy, PartialEq, Eq)]
 pub enum Reading {
     /// In plain text.
     Plain,

@@ -1,9 +1,9 @@
 //! Units: all items of a text.
-ghost use Rattle.std.specs.Prelude.{◌≡◌, ◌<◌, Some, map, length, MatchResult};
+ghost use Rattle.std.specs.Prelude.{◌≡◌, ◌<◌, [], Some, map, length, MatchResult};
 ghost use Rattle.exo_reader.specs.Views.{plain_item};
 ghost use Rattle.exo_types.specs.Refusals.{Refuses};
-ghost use Rattle.exo_types.specs.UnitRules.{unit_fault, items_width};
-ghost use Rattle.exo_types.specs.Standing.{HasPlaces, IsUnitOf};
+ghost use Rattle.exo_types.specs.UnitRules.{nothing_above, unit_fault, items_width};
+ghost use Rattle.exo_types.specs.Standing.{Agrees, HasPlaces, IsFew, IsUnitOf, Stands};
 ghost use Rattle.exo_types.specs.Typed.{IsPlaced, Types, IsErrorOf, IsInPlace};
 
 use crate::refusal::{Refusal, no_memory};
@@ -15,16 +15,34 @@ use rules_names::error::TypeError;
 use std::alloc::Global;
 use text_lexer::place::Place;
 
+/// Adds all items of a text, where nothing stands above them but the memory that is always there.
+fn add_items<'c>(
+    alloc: Global,
+    places: &[Place],
+    typed: &mut Typed<'c>,
+    items: &'c [SourceItem],
+) -> Result<(), Refusal>
+    requires agrees { Agrees typed.old }
+    requires few { IsFew typed.old 0 }
+    requires stands { Stands typed.old nothing_above }
+    requires lines { typed.old.unit.lines ≡ [] }
+    requires places { HasPlaces places.now (items_width (map plain_item items.now)) }
+    ensures { MatchResult result (λ x. IsUnitOf places.now (map plain_item items.now) typed.new.unit) (λ e. Refuses e (unit_fault (map plain_item items.now))) }
+{
+    let mut next = 0;
+    for item in items {
+        next = typed.add_item(alloc, places, next, item)?;
+    }
+    Ok(())
+}
+
 /// The unit of items.
 fn unit_of(alloc: Global, places: &[Place], items: &[SourceItem]) -> Result<Unit, Refusal>
     requires { HasPlaces places.now (items_width (map plain_item items.now)) }
     ensures { MatchResult result (IsUnitOf places.now (map plain_item items.now)) (λ e. Refuses e (unit_fault (map plain_item items.now))) }
 {
     let mut typed = Typed::new(alloc)?;
-    let mut next = 0;
-    for item in items {
-        next = typed.add_item(alloc, places, next, item)?;
-    }
+    add_items(alloc, places, &mut typed, items)?;
     Ok(typed.unit)
 }
 

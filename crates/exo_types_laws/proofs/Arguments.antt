@@ -7,17 +7,17 @@ use Rattle.text_phrases.specs.Limits.{in_size}
 use Rattle.exo_tree.specs.Tree as tree
 use Rattle.exo_tree.specs.Tree.{Kind, Size, Index, Truth, Stride, Cell, ConfigField, Param, ParamKind, ControlParam, TensorParam, WindowParam}
 use Rattle.exo_meaning.specs.Units as units
-use Rattle.exo_meaning.specs.Units.{Scope, Reads, Sort, ControlName, BufferName, sort_in, field_kind, with_both, has_cell, has_rank, is_dense, is_window, is_of_kind, is_for_tensor, is_for_window, is_for, are_for}
+use Rattle.exo_meaning.specs.Units.{Scope, Reads, plainly, Sort, ControlName, BufferName, sort_in, field_kind, with_both, has_cell, has_rank, is_dense, is_window, is_of_kind, is_for_tensor, is_for_window, is_for, are_for}
 use Rattle.text_expressions.specs.Expression.{Tree, Trees, number, truth, variable, access, field, stride, relu, select, negative, parens, binary, end, next, Stands, HasIndex}
 use Rattle.exo_reader.specs.Source.{Coordinate, point, span, Argument, value, window}
 use Rattle.exo_reader.specs.Statements.{HasSpan, argument}
 use Rattle.rules_names.specs.declared.fault.Fault.{Fault}
 use Rattle.rules_names.specs.Names.{named_in, sort_of, id_in}
-use Rattle.rules_names.specs.ExpressionRules.{is_buffer, name_faults, rank_faults, wrong_form, unknown_first, list_of}
+use Rattle.rules_names.specs.ExpressionRules.{width, is_buffer, name_faults, rank_faults, wrong_form, unknown_first, list_of, control_faults, controls_faults}
 use Rattle.rules_names.specs.WindowRules.{window_faults, coordinates_faults, coordinate_of, coordinates_of}
 use Rattle.rules_names.specs.Laws.{KeepsIds, fit, coordinate_fits}
-use Rattle.exo_types.specs.ArgumentRules.{spans, points, may_be_part, tensor_takes, cell_takes, whole_faults, tensor_faults, strided_faults, kind_faults, value_faults, view_faults, argument_faults, part_of, kind_value_of, value_of, argument_of}
-use Rattle.exo_types_laws.proofs.Unbroken.{both, pair, negated, turned, left_none, right_none, fault_none, unless_none}
+use Rattle.exo_types.specs.ArgumentRules.{spans, points, may_be_tensor, may_be_strided, part_faults, tensor_takes, cell_takes, whole_faults, tensor_faults, strided_faults, kind_faults, value_faults, view_faults, argument_faults, part_of, kind_value_of, value_of, argument_of}
+use Rattle.exo_types_laws.proofs.Unbroken.{both, pair, negated, turned, left_none, right_none, parts_none, fault_none, unless_none}
 use Rattle.exo_types_laws.proofs.Scopes.{named_kept, buffer_kept}
 use Rattle.exo_types_laws.proofs.Texts.{Text, fits_in, window_fits, points_fit, indices_fit}
 use Rattle.exo_types_laws.proofs.Leaves.{Laws, control_formed, condition_formed, window_formed}
@@ -88,6 +88,20 @@ module _ (laws : Laws) (fields : List ConfigField) (F : ℕ → Option Kind) (mo
   wrong_part : (n : ℕ) (e : Tree) → wrong_form fields scope n e ≡ [] → ⊥
   wrong_part n e h = fault_none _ n (right_none (unknown_first fields scope n e) _ h)
 
+  -- a cell that breaks no rule breaks none as a window of points
+  points_faults : (n : ℕ) (es : List Tree) → coordinates_faults fields scope n (points es) ≡ controls_faults fields plainly scope n es
+  points_faults n [] = refl
+  points_faults n (e ∷ es) = ap (λ l. control_faults fields plainly scope n e ++ l) (points_faults (n + width e + 1) es)
+
+  part_whole : (fits : Option Sort → Bool) (n : ℕ) (x : List ℕ) (es : List Tree) (more : List Fault) → part_faults fields fits scope n x es more ≡ [] → (window_faults fields fits scope n x (points es) ≡ []) × (more ≡ [])
+  part_whole fits n x es more h =
+      let sort = sort_of (named_in scope x) in
+      let p = parts_none (name_faults fits sort n ++ controls_faults fields plainly scope (n + 2) es) (rank_faults sort (length es) n ++ more) h in
+      let name = left_none (name_faults fits sort n) _ p.0 in
+      let indices = points_faults (n + 2) es ∙ right_none (name_faults fits sort n) _ p.0 in
+      let rank = ap (λ k. rank_faults sort k n) (length-map es point) ∙ left_none (rank_faults sort (length es) n) _ p.1 in
+      ((λ i. name i ++ (rank i ++ indices i)), right_none (rank_faults sort (length es) n) _ p.1)
+
   -- ---- whole buffers and windows of a tensor
 
   whole_tensor : (cell : Cell) (rank n : ℕ) (x : List ℕ) → whole_faults fields (tensor_takes cell rank) scope n x rank ≡ [] → is_for_tensor F scope cell rank (tree.Whole (id_in scope x)) ≡ true
@@ -114,14 +128,14 @@ module _ (laws : Laws) (fields : List ConfigField) (F : ℕ → Option Kind) (mo
   tensor_formed level cell rank n (truth b) st f h = absurd (wrong_part n (truth b) h)
   tensor_formed level cell rank n (variable x) st f h = whole_tensor cell rank n x h
   tensor_formed level cell rank n (access x is) st f h =
-      window_tensor cell rank n x (points (list_of is)) (points_fit (list_of is) (indices_fit is f)) (indexed is st.0) (λ z. ap (λ k. k == 0) (points_span (list_of is))) h
+      window_tensor cell rank n x (points (list_of is)) (points_fit (list_of is) (indices_fit is f)) (indexed is st.0) (λ z. ap (λ k. k == 0) (points_span (list_of is))) (part_whole (cell_takes cell rank) n x (list_of is) [] h).0
   tensor_formed level cell rank n (field c x) st f h = absurd (wrong_part n (field c x) h)
   tensor_formed level cell rank n (stride x k) st f h = absurd (wrong_part n (stride x k) h)
   tensor_formed level cell rank n (relu e) st f h = absurd (wrong_part n (relu e) h)
   tensor_formed level cell rank n (select a b c d) st f h = absurd (wrong_part n (select a b c d) h)
   tensor_formed level cell rank n (negative e) st f h = absurd (wrong_part n (negative e) h)
   tensor_formed level cell rank n (parens e) st f h =
-      part_tensor cell rank n e (may_be_part e) (is_for_tensor F scope cell rank (part_of fields scope e) ≡ true) h (tensor_formed 0 cell rank (n + 1) e st f)
+      part_tensor cell rank n e (may_be_tensor scope cell rank e) (is_for_tensor F scope cell rank (part_of fields scope e) ≡ true) h (tensor_formed 0 cell rank (n + 1) e st f)
   tensor_formed level cell rank n (binary o l r) st f h = absurd (wrong_part n (binary o l r) h)
 
   -- ---- and of a window
@@ -147,16 +161,16 @@ module _ (laws : Laws) (fields : List ConfigField) (F : ℕ → Option Kind) (mo
   strided_formed cell rank first n (truth b) f h = absurd (wrong_part n (truth b) h)
   strided_formed cell rank first n (variable x) f h = whole_strided cell rank n x h
   strided_formed cell rank first n (access x is) f h =
-      let faults : List Fault = window_faults fields (has_cell cell) scope n x (points (list_of is)) in
-      let none = unless_none (rank == 0) _ first (right_none faults _ h) in
-      window_strided cell rank n x (points (list_of is)) (points_fit (list_of is) (indices_fit is f)) (ap (λ k. rank == k) (points_span (list_of is)) ∙ none) (left_none faults _ h)
+      let part = part_whole (has_cell cell) n x (list_of is) _ h in
+      let none = unless_none (rank == 0) _ first part.1 in
+      window_strided cell rank n x (points (list_of is)) (points_fit (list_of is) (indices_fit is f)) (ap (λ k. rank == k) (points_span (list_of is)) ∙ none) part.0
   strided_formed cell rank first n (field c x) f h = absurd (wrong_part n (field c x) h)
   strided_formed cell rank first n (stride x k) f h = absurd (wrong_part n (stride x k) h)
   strided_formed cell rank first n (relu e) f h = absurd (wrong_part n (relu e) h)
   strided_formed cell rank first n (select a b c d) f h = absurd (wrong_part n (select a b c d) h)
   strided_formed cell rank first n (negative e) f h = absurd (wrong_part n (negative e) h)
   strided_formed cell rank first n (parens e) f h =
-      part_strided cell rank first n e (may_be_part e) (is_for_window F scope cell rank (part_of fields scope e) ≡ true) h (strided_formed cell rank first (n + 1) e f)
+      part_strided cell rank first n e (may_be_strided scope cell e) (is_for_window F scope cell rank (part_of fields scope e) ≡ true) h (strided_formed cell rank first (n + 1) e f)
   strided_formed cell rank first n (binary o l r) f h = absurd (wrong_part n (binary o l r) h)
 
   -- ---- arguments

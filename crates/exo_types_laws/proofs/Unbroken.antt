@@ -5,7 +5,7 @@ use Rattle.std.proofs.lemmas.List.Folds.{list_any-append, list_all-append}
 use Rattle.std.proofs.lemmas.Bool.Decides.{Decides-eqb}
 use Rattle.rules_names.specs.declared.error.TypeKind.{TypeKind}
 use Rattle.rules_names.specs.declared.fault.Fault.{Fault}
-use Rattle.rules_names.specs.Faults.{fault, unless, earlier, least, is_before, or_else}
+use Rattle.rules_names.specs.Faults.{fault, unless, earlier, least, is_before, or_else, parts_then_whole}
 
 -- ---- tests
 
@@ -68,6 +68,10 @@ left_none (x ∷ xs) ys h = cc
 pub right_none : (xs ys : List Fault) → xs ++ ys ≡ [] → ys ≡ []
 right_none [] ys h = h
 right_none (x ∷ xs) ys h = cc
+
+pub parts_none : (parts whole : List Fault) → parts_then_whole parts whole ≡ [] → (parts ≡ []) × (whole ≡ [])
+parts_none [] whole h = (refl, h)
+parts_none (x ∷ parts) whole h = cc
 
 pub fault_none : (rule : TypeKind) (n : ℕ) → fault rule n ≡ [] → ⊥
 fault_none rule n h = cc

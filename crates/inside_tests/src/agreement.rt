@@ -1,8 +1,7 @@
 //! Which expressions and conditions agree.
 use crate::rules::{condition_keeps_rules, keeps_rules};
 use crate::unit::{condition, unit_of, value};
-use affine_places::{AtEntry, Roots};
-use affine_places::{agree, conditions_agree};
+use affine_places::{AtEntry, Roots, agree, conditions_agree};
 use exo_tree::{Cond, Ctrl, Unit};
 use std::alloc::Global;
 use std::test::Fail;

@@ -149,7 +149,7 @@ fn an_assertion_of_a_callee(rt: HostRuntime) -> Result<(), Fail> {
     let Some(last) = claims.last() else {
         return Err(Fail::new("another claim"));
     };
-    let (x, k) = match &last.claim.says {
+    let (x, k) = match &*last.claim.says {
         Cond::Eq(Ctrl::Stride(x, k), Ctrl::Lit(1)) => (x.0, *k),
         _ => return Err(Fail::new("another claim")),
     };

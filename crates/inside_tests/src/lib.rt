@@ -5,8 +5,6 @@
 #[cfg(test)]
 mod agreement;
 #[cfg(test)]
-mod c_text;
-#[cfg(test)]
 mod changes;
 #[cfg(test)]
 mod claims;

@@ -18,7 +18,7 @@ fn names(alloc: Global, words: &[&str]) -> Result<Vec<Name>, AllocError> {
 #[test]
 fn reserved_binders_are_renamed(rt: HostRuntime) -> Result<(), AllocError> {
     let alloc = rt.alloc();
-    let globals = names(alloc, &["f", "Cfg_w"])?;
+    let globals = names(alloc, &["f", "Cfg_w", "exo"])?;
     let binders = names(
         alloc,
         &[
@@ -34,6 +34,7 @@ fn reserved_binders_are_renamed(rt: HostRuntime) -> Result<(), AllocError> {
         ("exo_div", "vexo_div_1_"),
         ("Cfg_w", "Cfg_w_1"),
         ("uint_fast16_t", "uint_fast16_t_1"),
+        ("exo", "vexo_1_"),
         ("exot", "exot"),
     ];
     for (x, want) in cases {

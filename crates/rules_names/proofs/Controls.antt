@@ -1,5 +1,5 @@
 -- What the tests of control values and conditions tell, from the tests of their sides; and lists of control values.
-use Rattle.std.proofs.Common.{◌≡◌, ℕ, suc, ◌+◌, ◌==◌, ◌<◌, Bool, true, false, not, ◌&&◌, ◌||◌, List, [], ◌∷◌, ◌++◌, map, drop, length, get_or, append_assoc, refl, sym, ap, subst, ◌∙◌, arith, if◌then◌else◌}
+use Rattle.std.proofs.Common.{◌≡◌, ℕ, ◌+◌, ◌==◌, ◌<◌, Bool, true, false, not, ◌&&◌, List, [], ◌∷◌, ◌++◌, map, drop, length, get_or, append_assoc, refl, sym, ap, ◌∙◌, arith, if◌then◌else◌}
 use Rattle.std.proofs.lemmas.List.{append-nil as append_nil}
 use Rattle.std.proofs.lemmas.Bool.Decides.{nat_tests}
 use Rattle.exo_tree.specs.Tree.{ConfigField}
@@ -43,7 +43,7 @@ module _ (fields : List ConfigField) (may : Reads) (scope : Scope) where
   pub told_arithmetic : (t left right : Tested) (f g : Bool) (n : ℕ) (o : Operator) (l r : Tree) → is_arithmetic o ≡ true
       → t.charge ≡ charged (parts_then_whole (control_faults fields may scope n l ++ control_faults fields may scope (left.end + 1) r) (affine_faults o n (left.end + 1) (has_variables l && has_variables r) (is_divisor r)))
       → t.end ≡ right.end → t.fits ≡ true → Tells left (control_faults fields may scope n l) f n l → Tells right (control_faults fields may scope (left.end + 1) r) g (left.end + 1) r
-      → Tells t (control_faults fields may scope n (binary o l r)) (may_be_control (binary o l r)) n (binary o l r)
+      → Tells t (control_faults fields may scope n (binary o l r)) (may_be_control fields scope (binary o l r)) n (binary o l r)
   told_arithmetic t left right f g n o l r h p q s x y = record {
     charge =
         p
@@ -56,7 +56,7 @@ module _ (fields : List ConfigField) (may : Reads) (scope : Scope) where
   pub told_condition : (t left right : Tested) (f g : Bool) (n : ℕ) (o : Operator) (l r : Tree) → joins_conditions o ≡ true
       → t.charge ≡ charged (condition_faults fields may scope n l ++ condition_faults fields may scope (left.end + 1) r)
       → t.end ≡ right.end → t.fits ≡ true → Tells left (condition_faults fields may scope n l) f n l → Tells right (condition_faults fields may scope (left.end + 1) r) g (left.end + 1) r
-      → Tells t (condition_faults fields may scope n (binary o l r)) (may_be_condition (binary o l r)) n (binary o l r)
+      → Tells t (condition_faults fields may scope n (binary o l r)) (may_be_condition fields scope (binary o l r)) n (binary o l r)
   told_condition t left right f g n o l r h p q s x y =
       let apart = joins_no_arithmetic o h in
       record {
@@ -70,7 +70,7 @@ module _ (fields : List ConfigField) (may : Reads) (scope : Scope) where
   pub told_comparison : (t left right : Tested) (f g : Bool) (n : ℕ) (o : Operator) (l r : Tree) → joins_conditions o ≡ false → is_arithmetic o ≡ false
       → t.charge ≡ charged (control_faults fields may scope n l ++ control_faults fields may scope (left.end + 1) r)
       → t.end ≡ right.end → t.fits ≡ true → Tells left (control_faults fields may scope n l) f n l → Tells right (control_faults fields may scope (left.end + 1) r) g (left.end + 1) r
-      → Tells t (condition_faults fields may scope n (binary o l r)) (may_be_condition (binary o l r)) n (binary o l r)
+      → Tells t (condition_faults fields may scope n (binary o l r)) (may_be_condition fields scope (binary o l r)) n (binary o l r)
   told_comparison t left right f g n o l r h apart p q s x y = record {
     charge =
         p ∙ ap (λ k. charged (control_faults fields may scope n l ++ control_faults fields may scope k r)) (behind left _ f n l x)
@@ -94,7 +94,7 @@ module _ (fields : List ConfigField) (may : Reads) (scope : Scope) where
 pub told_sum : (fields : List ConfigField) (scope : Scope) (t left right : Tested) (f g : Bool) (n : ℕ) (o : Operator) (l r : Tree) → (is_arithmetic o && not (is_quotient o)) ≡ true
     → t.charge ≡ charged (data_faults fields scope n l ++ data_faults fields scope (left.end + 1) r)
     → t.end ≡ right.end → t.fits ≡ true → Tells left (data_faults fields scope n l) f n l → Tells right (data_faults fields scope (left.end + 1) r) g (left.end + 1) r
-    → Tells t (data_faults fields scope n (binary o l r)) (may_be_data (binary o l r)) n (binary o l r)
+    → Tells t (data_faults fields scope n (binary o l r)) (may_be_data fields scope (binary o l r)) n (binary o l r)
 told_sum fields scope t left right f g n o l r h p q s x y = record {
   charge =
       p ∙ ap (λ k. charged (data_faults fields scope n l ++ data_faults fields scope k r)) (behind left _ f n l x)

@@ -1,25 +1,23 @@
 -- What breaks no rule keeps the rules of a well-formed unit.
-use Rattle.std.proofs.Common.{◌≡◌, ℕ, suc, pos, ◌+◌, ◌==◌, nat_lt, Bool, true, false, not, ◌&&◌, ◌||◌, List, [], ◌∷◌, ◌++◌, length, map, Option, Some, None, slice_get, refl, sym, ap, subst, ◌∙◌, true≢false, arith, if◌then◌else◌}
+use Rattle.std.proofs.Common.{◌≡◌, ℕ, suc, pos, ◌+◌, ◌==◌, nat_lt, Bool, true, false, not, ◌&&◌, ◌||◌, List, [], ◌∷◌, ◌++◌, length, Option, Some, None, refl, sym, ap, ◌∙◌, true≢false, arith, if◌then◌else◌}
 use Rattle.std.specs.List.{list_all, list_any}
 use Rattle.std.proofs.lemmas.List.{length-map}
 use Rattle.exo_reader.specs.Source.{Coordinate, point, span}
 use Rattle.rules_names.specs.WindowRules.{coordinate_width, coordinate_faults, coordinates_faults, window_faults, coordinate_of, coordinates_of}
 use Rattle.std.proofs.Math.Dec.{leb-zero}
-use Rattle.std.proofs.lemmas.Bool.Decides.{nat_tests, Decides-eqb}
-use Rattle.std.proofs.lemmas.Slice.Eq.{bytes_eq-Decides}
+use Rattle.std.proofs.lemmas.Bool.Decides.{Decides-eqb}
 use Rattle.exo_tree.specs.Tree as tree
 use Rattle.exo_tree.specs.Tree.{Kind, Binder, ConfigField, Coord}
 use Rattle.exo_meaning.specs.Units.{Named, Scope, Reads, Sort, ControlName, BufferName, sort_in, plainly, is_truth, is_number, is_flag, is_text, is_of_literals, is_control, are_controls, is_condition, is_datum, is_access, is_window, is_coord, has_rank, has_dimension, field_kind, is_number_field, is_flag_field, is_new, with_name}
 use Rattle.text_lexer.specs.declared.token.Literal.{Literal}
 use Rattle.text_lexer.specs.declared.token.Literal.TheVariants.{Value, TooLarge}
-use Rattle.text_expressions.specs.declared.source.Operator.{Operator}
 use Rattle.text_expressions.specs.declared.source.Operator.TheVariants as o
 use Rattle.text_expressions.specs.Expression.{Tree, Trees, number, truth, variable, access, field, stride, relu, select, negative, parens, binary, end, next}
 use Rattle.rules_names.specs.declared.error.TypeKind.{TypeKind}
 use Rattle.rules_names.specs.declared.fault.Fault.{Fault}
-use Rattle.rules_names.specs.Faults.{fault, unless, earlier, least, any_hides, is_before, parts_then_whole}
+use Rattle.rules_names.specs.Faults.{fault, unless, earlier, least, is_before, parts_then_whole}
 use Rattle.rules_names.specs.Names.{named_in, sort_of, id_in, id_of, field_from, field_in}
-use Rattle.rules_names.specs.ExpressionRules.{width, is_arithmetic, is_quotient, joins_conditions, may_be_control, may_be_condition, may_be_data, has_variables, is_divisor, name_faults, rank_faults, dimension_faults, is_below, is_buffer, field_faults, affine_faults, unknown_first, wrong_form, list_of, control_faults, controls_faults, condition_faults, read_faults, data_faults}
+use Rattle.rules_names.specs.ExpressionRules.{width, may_be_control, may_be_condition, may_be_data, has_variables, is_divisor, name_faults, rank_faults, dimension_faults, is_buffer, field_faults, unknown_first, wrong_form, list_of, control_faults, controls_faults, condition_faults, read_faults, data_faults}
 use Rattle.rules_names.specs.Resolved.{number_of, field_number, divisor_of, truth_of, control_of, controls_of, condition_of, datum_of}
 use Rattle.rules_names.specs.Laws.{KeepsIds, is_small, fit, all_fit, coordinate_fits}
 
@@ -165,7 +163,7 @@ module _ (fields : List ConfigField) (may : Reads) (scope : Scope) (keeps : Keep
   literals_kept n (relu e) h v = absurd (wrong_none fields scope n (relu e) h)
   literals_kept n (select a b c d) h v = absurd (wrong_none fields scope n (select a b c d) h)
   literals_kept n (negative e) h v = literals_kept (n + 1) e h v
-  literals_kept n (parens e) h v = inner_kept n e (may_be_control e) (is_of_literals (control_of fields scope e) ≡ true) h (λ p. literals_kept (n + 1) e p v)
+  literals_kept n (parens e) h v = inner_kept n e (may_be_control fields scope e) (is_of_literals (control_of fields scope e) ≡ true) h (λ p. literals_kept (n + 1) e p v)
   literals_kept n (binary o.Or l r) h v = absurd (wrong_none fields scope n (binary o.Or l r) h)
   literals_kept n (binary o.And l r) h v = absurd (wrong_none fields scope n (binary o.And l r) h)
   literals_kept n (binary o.Lt l r) h v = absurd (wrong_none fields scope n (binary o.Lt l r) h)
@@ -205,7 +203,7 @@ module _ (fields : List ConfigField) (may : Reads) (scope : Scope) (keeps : Keep
   control_kept n (relu e) f h = absurd (wrong_none fields scope n (relu e) h)
   control_kept n (select a b c d) f h = absurd (wrong_none fields scope n (select a b c d) h)
   control_kept n (negative e) f h = control_kept (n + 1) e f h
-  control_kept n (parens e) f h = inner_kept n e (may_be_control e) (is_control (field_kind fields) may scope (control_of fields scope e) ≡ true) h (control_kept (n + 1) e f)
+  control_kept n (parens e) f h = inner_kept n e (may_be_control fields scope e) (is_control (field_kind fields) may scope (control_of fields scope e) ≡ true) h (control_kept (n + 1) e f)
   control_kept n (binary o.Or l r) f h = absurd (wrong_none fields scope n (binary o.Or l r) h)
   control_kept n (binary o.And l r) f h = absurd (wrong_none fields scope n (binary o.And l r) h)
   control_kept n (binary o.Lt l r) f h = absurd (wrong_none fields scope n (binary o.Lt l r) h)
@@ -257,7 +255,7 @@ module _ (fields : List ConfigField) (may : Reads) (scope : Scope) (keeps : Keep
   condition_kept n (relu e) f h = absurd (wrong_none fields scope n (relu e) h)
   condition_kept n (select a b c d) f h = absurd (wrong_none fields scope n (select a b c d) h)
   condition_kept n (negative e) f h = absurd (wrong_none fields scope n (negative e) h)
-  condition_kept n (parens e) f h = inner_condition n e (may_be_condition e) (is_condition (field_kind fields) may scope (condition_of fields scope e) ≡ true) h (condition_kept (n + 1) e f)
+  condition_kept n (parens e) f h = inner_condition n e (may_be_condition fields scope e) (is_condition (field_kind fields) may scope (condition_of fields scope e) ≡ true) h (condition_kept (n + 1) e f)
   condition_kept n (binary o.Or l r) f h =
       let s = both (fit l) (fit r) f in
       pair _ _ (condition_kept n l s.0 (left_none (condition_faults fields may scope n l) _ h)) (condition_kept (n + width l + 1) r s.1 (right_none (condition_faults fields may scope n l) _ h))
@@ -337,7 +335,7 @@ module _ (fields : List ConfigField) (scope : Scope) (keeps : KeepsIds scope) wh
       (pair _ _ (data_kept (n + 2) a u.0 (left_none (data_faults fields scope (n + 2) a) _ h)) (data_kept second b u.1 (left_none (data_faults fields scope second b) _ p)))
       (pair _ _ (data_kept third c v.0 (left_none (data_faults fields scope third c) _ q)) (data_kept fourth d v.1 (right_none (data_faults fields scope third c) _ q)))
   data_kept n (negative e) f h = data_kept (n + 1) e f h
-  data_kept n (parens e) f h = inner_data n e (may_be_data e) (is_datum (field_kind fields) scope (datum_of fields scope e) ≡ true) h (data_kept (n + 1) e f)
+  data_kept n (parens e) f h = inner_data n e (may_be_data fields scope e) (is_datum (field_kind fields) scope (datum_of fields scope e) ≡ true) h (data_kept (n + 1) e f)
   data_kept n (binary o.Or l r) f h = absurd (wrong_none fields scope n (binary o.Or l r) h)
   data_kept n (binary o.And l r) f h = absurd (wrong_none fields scope n (binary o.And l r) h)
   data_kept n (binary o.Lt l r) f h = absurd (wrong_none fields scope n (binary o.Lt l r) h)

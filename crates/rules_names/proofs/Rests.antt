@@ -1,5 +1,5 @@
 -- What is left of a list in a loop over it.
-use Rattle.std.proofs.Common.{◌≡◌, ℕ, suc, ◌+◌, ◌<◌, List, [], ◌∷◌, map, drop, get_or, length, sym, ap, ◌∙◌, add-one, drop-cons, refl, arith, ◌==◌, ◌≤◌, true, false, Bool}
+use Rattle.std.proofs.Common.{◌≡◌, ℕ, suc, ◌+◌, ◌<◌, List, [], ◌∷◌, map, drop, get_or, length, sym, ap, ◌∙◌, add-one, drop-cons, refl, arith, ◌==◌, ◌≤◌, true, false}
 use Rattle.std.proofs.lemmas.Bool.Decides.{nat_tests}
 use Rattle.std.proofs.Math.ListN.{drop_of_length-le}
 use Rattle.text_expressions.specs.Views.{tree_of}

@@ -1,5 +1,5 @@
 -- A table of names, each inserted once, is a scope.
-use Rattle.std.proofs.Common.{◌≡◌, ℕ, ◌-◌, ◌≤◌, Bool, true, false, cond, ◌||◌, List, [], ◌∷◌, ◌++◌, length, map, reverse, take, drop, Option, Some, None, option_map, refl, sym, ap, subst, ◌∙◌, true≢false, arith, if◌then◌else◌, Bor}
+use Rattle.std.proofs.Common.{◌≡◌, ℕ, ◌-◌, Bool, true, false, cond, List, [], ◌∷◌, ◌++◌, length, map, reverse, take, drop, Option, Some, None, option_map, refl, sym, ap, ◌∙◌, arith, if◌then◌else◌, Bor}
 use Rattle.std.specs.List.{IsDistinct, AllByRecursion}
 use Rattle.std.specs.Map.{lookup, keys_of}
 use Rattle.std.specs.Str.{bytes_eq}

@@ -1,5 +1,5 @@
 -- What tables of fields and of names find is what stands in their lists.
-use Rattle.std.proofs.Common.{◌≡◌, ℕ, suc, ◌+◌, Bool, true, false, cond, ◌&&◌, ◌||◌, List, [], ◌∷◌, ◌++◌, map, position, Option, Some, None, option_map, refl, sym, ap, ◌∙◌, arith, if◌then◌else◌, Bor, add-one}
+use Rattle.std.proofs.Common.{◌≡◌, ℕ, ◌+◌, Bool, true, false, cond, ◌&&◌, ◌||◌, List, [], ◌∷◌, map, position, Option, Some, None, refl, sym, ap, ◌∙◌, if◌then◌else◌, Bor}
 use Rattle.std.specs.List.{list_any, position_from}
 use Rattle.std.proofs.lemmas.Iterator.Adapters.{position_from-zero}
 use Rattle.std.specs.Map.{lookup, keys_of}
@@ -7,7 +7,6 @@ use Rattle.std.specs.Str.{bytes_eq}
 use Rattle.exo_tree.specs.Tree as tree
 use Rattle.exo_tree.specs.declared.number.Kind.{Kind}
 use Rattle.exo_tree.specs.PlainBinder.{control_kind}
-use Rattle.exo_meaning.specs.Units.{is_text}
 use Rattle.rules_names.specs.Names.{field_from, number_from, name_number}
 use Rattle.rules_names.specs.Tables.{field_entry}
 use Rattle.rules_names.proofs.Scopes.{text_turned}

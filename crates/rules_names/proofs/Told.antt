@@ -1,6 +1,6 @@
 -- What the test of an expression tells, from the tests of its parts.
-use Rattle.std.proofs.Common.{◌≡◌, ℕ, suc, ◌+◌, ◌<◌, ◌≤◌, Bool, true, false, ◌&&◌, ◌||◌, List, [], ◌∷◌, ◌++◌, Option, Some, None, refl, sym, ap, subst, ◌∙◌, arith, if◌then◌else◌, true≢false}
-use Rattle.text_expressions.specs.Expression.{Tree, number, truth, variable, access, field, stride, relu, select, negative, parens, binary, trees}
+use Rattle.std.proofs.Common.{◌≡◌, ℕ, ◌+◌, Bool, true, false, ◌&&◌, ◌||◌, List, [], ◌++◌, refl, sym, ap, subst, ◌∙◌, arith, if◌then◌else◌, true≢false}
+use Rattle.text_expressions.specs.Expression.{Tree, access, relu, select, negative, parens, binary, trees}
 use Rattle.text_expressions.specs.Views.{tree_of}
 use Rattle.text_expressions.specs.declared.source.Operator.{Operator}
 use Rattle.text_expressions.specs.declared.source.SourceExpr.{SourceExpr}
@@ -9,7 +9,7 @@ use Rattle.rules_names.specs.declared.fault.Fault.{Fault}
 use Rattle.rules_names.specs.declared.fault.Charge.{Charge}
 use Rattle.rules_names.specs.declared.tested.Tested.{Tested}
 use Rattle.rules_names.specs.Faults.{fault, charged, any_hides, parts_then_whole}
-use Rattle.rules_names.specs.Tests.{Tells, Varies, Joined}
+use Rattle.rules_names.specs.Tests.{Tells, Varies}
 use Rattle.rules_names.specs.ExpressionRules.{width, closed_width, list_of, has_variables, is_divisor, affine_faults}
 use Rattle.rules_names.proofs.Charges.{any_hides_append, hides_of}
 use Rattle.rules_names.proofs.Seen.{listed}

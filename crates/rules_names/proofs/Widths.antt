@@ -1,12 +1,11 @@
 -- How many tokens expressions have, form by form.
-use Rattle.std.proofs.Common.{◌≡◌, ℕ, suc, ◌+◌, ◌<◌, ◌≤◌, Bool, true, false, List, [], ◌∷◌, ◌++◌, length, map, refl, sym, ap, ◌∙◌, arith}
+use Rattle.std.proofs.Common.{◌≡◌, ℕ, suc, ◌+◌, Bool, true, false, List, [], ◌∷◌, ◌++◌, length, refl, arith}
 use Rattle.std.proofs.lemmas.List.{length-append}
 use Rattle.text_lexer.specs.declared.token.Literal.{Literal}
-use Rattle.text_lexer.specs.declared.token.Token.{Token}
 use Rattle.text_lexer.specs.declared.token.Token.TheVariants as t
 use Rattle.text_lexer.specs.declared.token.Sign.TheVariants as s
 use Rattle.text_expressions.specs.declared.source.Operator.{Operator}
-use Rattle.text_expressions.specs.Expression.{Tree, Trees, number, truth, variable, access, field, stride, relu, select, negative, parens, binary, trees, end, next, spelling, spelling_list, spelling_more}
+use Rattle.text_expressions.specs.Expression.{Tree, number, truth, variable, access, field, stride, relu, select, negative, parens, binary, trees, spelling, spelling_list, spelling_more}
 use Rattle.rules_names.specs.ExpressionRules.{width, commas_width, closed_width}
 
 pub width_number : (k : Literal) → width (number k) ≡ 1

@@ -1,11 +1,10 @@
 -- The forms of expressions in the strings of a schedule, and what refuses such a string.
-use Rattle.std.specs.Prelude.{◌≡◌, ℕ, nat_lt, Bool, true, false, ◌&&◌, List, Option, Some, None, is_some}
+use Rattle.std.specs.Prelude.{◌≡◌, nat_lt, Bool, true, false, ◌&&◌, List, is_some}
 use Rattle.exo_tree.specs.Tree.{ConfigField}
-use Rattle.text_lexer.specs.declared.token.Literal.{Literal}
-use Rattle.text_lexer.specs.declared.token.Literal.TheVariants.{Value, TooLarge}
+use Rattle.text_lexer.specs.declared.token.Literal.TheVariants.{Value}
 use Rattle.text_expressions.specs.declared.source.Operator.{Operator}
 use Rattle.text_expressions.specs.declared.source.Operator.TheVariants as o
-use Rattle.text_expressions.specs.Expression.{Tree, number, truth, variable, access, field, stride, relu, select, negative, parens, binary}
+use Rattle.text_expressions.specs.Expression.{Tree, number, truth, variable, field, stride, negative, parens, binary}
 use Rattle.exo_reader.specs.Source.{Coordinate, point, span}
 use Rattle.rules_names.specs.declared.argument.ArgError.{ArgError}
 use Rattle.rules_names.specs.declared.argument.ArgError.TheVariants.{Memory, NotOfForm, UnknownName}

@@ -1,5 +1,6 @@
 -- The rules on expressions. An expression whose outermost form cannot be of the kind that its place asks is charged at its first
--- token, whatever stands inside; else its parts are tested, and then the whole. Parentheses are looked through for the form.
+-- token, whatever stands inside; else its parts are tested, and then the whole. Parentheses are looked through for the form, and
+-- a name or a field of a wrong kind in parentheses is charged at the outermost one.
 use Rattle.std.specs.Prelude.{ℕ, suc, ◌+◌, ◌==◌, nat_lt, Bool, true, false, not, ◌&&◌, ◌||◌, if◌then◌else◌, List, [], ◌∷◌, ◌++◌, length, Option, Some, None}
 use Rattle.exo_tree.specs.Tree.{Kind, ConfigField}
 use Rattle.exo_meaning.specs.Units.{Sort, ControlName, BufferName, Scope, Reads, plainly, is_truth, is_number, is_flag}
@@ -53,48 +54,6 @@ joins_conditions Or = true
 joins_conditions And = true
 joins_conditions other = false
 
--- an expression of this form can be a control value
-abbrev pub may_be_control : Tree → Bool
-may_be_control (number n) = true
-may_be_control (truth b) = false
-may_be_control (variable x) = true
-may_be_control (access x is) = false
-may_be_control (field c x) = true
-may_be_control (stride x k) = true
-may_be_control (relu e) = false
-may_be_control (select a b c d) = false
-may_be_control (negative e) = true
-may_be_control (parens e) = may_be_control e
-may_be_control (binary operator l r) = is_arithmetic operator
-
--- an expression of this form can be a condition
-abbrev pub may_be_condition : Tree → Bool
-may_be_condition (number n) = false
-may_be_condition (truth b) = true
-may_be_condition (variable x) = true
-may_be_condition (access x is) = false
-may_be_condition (field c x) = true
-may_be_condition (stride x k) = false
-may_be_condition (relu e) = false
-may_be_condition (select a b c d) = false
-may_be_condition (negative e) = false
-may_be_condition (parens e) = may_be_condition e
-may_be_condition (binary operator l r) = not (is_arithmetic operator)
-
--- an expression of this form can be a value of cells
-abbrev pub may_be_data : Tree → Bool
-may_be_data (number n) = true
-may_be_data (truth b) = false
-may_be_data (variable x) = true
-may_be_data (access x is) = true
-may_be_data (field c x) = false
-may_be_data (stride x k) = false
-may_be_data (relu e) = true
-may_be_data (select a b c d) = true
-may_be_data (negative e) = true
-may_be_data (parens e) = may_be_data e
-may_be_data (binary operator l r) = is_arithmetic operator && not (is_quotient operator)
-
 -- variables, fields and strides all count as variables
 abbrev pub has_variables : Tree → Bool
 has_variables (number n) = false
@@ -122,6 +81,11 @@ abbrev pub name_faults : (Option Sort → Bool) → Option Sort → ℕ → List
 name_faults fits None n = fault UnknownName n
 name_faults fits (Some sort) n = unless (fits (Some sort)) KindMismatch n
 
+-- a name that is not in scope, or that passes such a test
+abbrev pub suits : (Option Sort → Bool) → Option Sort → Bool
+suits fits None = true
+suits fits (Some sort) = fits (Some sort)
+
 abbrev pub is_buffer : Option Sort → Bool
 is_buffer None = false
 is_buffer (Some (ControlName kind)) = false
@@ -148,6 +112,12 @@ abbrev pub field_faults : Bool → Bool → Option (ℕ × Kind) → ℕ → Lis
 field_faults wants_truth may None n = fault UnknownName n
 field_faults true may (Some f) n = unless (is_truth f.1) KindMismatch n ++ unless may ConfigPlace n
 field_faults false may (Some f) n = unless (not (is_truth f.1)) KindMismatch n ++ unless may ConfigPlace n
+
+-- a field that there is none of, or one of the kind that is asked
+abbrev pub field_suits : Bool → Option (ℕ × Kind) → Bool
+field_suits wants_truth None = true
+field_suits true (Some f) = is_truth f.1
+field_suits false (Some f) = not (is_truth f.1)
 
 -- a list of indices as a list
 abbrev pub list_of : Trees → List Tree
@@ -188,6 +158,50 @@ module _ (fields : List ConfigField) where
   abbrev pub wrong_form : Scope → ℕ → Tree → List Fault
   wrong_form scope n e = unknown_first scope n e ++ fault KindMismatch n
 
+  -- ---- what may stand in parentheses
+
+  -- An expression can be a control value by its form, and a name or a field alone by what it stands for.
+  abbrev pub may_be_control : Scope → Tree → Bool
+  may_be_control scope (number n) = true
+  may_be_control scope (truth b) = false
+  may_be_control scope (variable x) = suits is_number (sort_of (named_in scope x))
+  may_be_control scope (access x is) = false
+  may_be_control scope (field c x) = field_suits false (field_in fields c x)
+  may_be_control scope (stride x k) = true
+  may_be_control scope (relu e) = false
+  may_be_control scope (select a b c d) = false
+  may_be_control scope (negative e) = true
+  may_be_control scope (parens e) = may_be_control scope e
+  may_be_control scope (binary operator l r) = is_arithmetic operator
+
+  -- and a condition
+  abbrev pub may_be_condition : Scope → Tree → Bool
+  may_be_condition scope (number n) = false
+  may_be_condition scope (truth b) = true
+  may_be_condition scope (variable x) = suits is_flag (sort_of (named_in scope x))
+  may_be_condition scope (access x is) = false
+  may_be_condition scope (field c x) = field_suits true (field_in fields c x)
+  may_be_condition scope (stride x k) = false
+  may_be_condition scope (relu e) = false
+  may_be_condition scope (select a b c d) = false
+  may_be_condition scope (negative e) = false
+  may_be_condition scope (parens e) = may_be_condition scope e
+  may_be_condition scope (binary operator l r) = not (is_arithmetic operator)
+
+  -- and a value of cells
+  abbrev pub may_be_data : Scope → Tree → Bool
+  may_be_data scope (number n) = true
+  may_be_data scope (truth b) = false
+  may_be_data scope (variable x) = suits is_buffer (sort_of (named_in scope x))
+  may_be_data scope (access x is) = true
+  may_be_data scope (field c x) = false
+  may_be_data scope (stride x k) = false
+  may_be_data scope (relu e) = true
+  may_be_data scope (select a b c d) = true
+  may_be_data scope (negative e) = true
+  may_be_data scope (parens e) = may_be_data scope e
+  may_be_data scope (binary operator l r) = is_arithmetic operator && not (is_quotient operator)
+
   -- ---- expressions: the rules that each breaks; n is the number of its first token
 
   -- where a control value is asked
@@ -203,7 +217,7 @@ module _ (fields : List ConfigField) where
   control_faults may scope n (relu e) = wrong_form scope n (relu e)
   control_faults may scope n (select a b c d) = wrong_form scope n (select a b c d)
   control_faults may scope n (negative e) = control_faults may scope (n + 1) e
-  control_faults may scope n (parens e) = if may_be_control e then control_faults may scope (n + 1) e else wrong_form scope n (parens e)
+  control_faults may scope n (parens e) = if may_be_control scope e then control_faults may scope (n + 1) e else wrong_form scope n (parens e)
   control_faults may scope n (binary operator l r) =
       let right = n + width l + 1 in
       if is_arithmetic operator
@@ -226,7 +240,7 @@ module _ (fields : List ConfigField) where
   condition_faults may scope n (relu e) = wrong_form scope n (relu e)
   condition_faults may scope n (select a b c d) = wrong_form scope n (select a b c d)
   condition_faults may scope n (negative e) = wrong_form scope n (negative e)
-  condition_faults may scope n (parens e) = if may_be_condition e then condition_faults may scope (n + 1) e else wrong_form scope n (parens e)
+  condition_faults may scope n (parens e) = if may_be_condition scope e then condition_faults may scope (n + 1) e else wrong_form scope n (parens e)
   condition_faults may scope n (binary operator l r) =
       let right = n + width l + 1 in
       if is_arithmetic operator then wrong_form scope n (binary operator l r)
@@ -256,7 +270,7 @@ module _ (fields : List ConfigField) where
       let fourth = third + width c + 1 in
       data_faults scope first a ++ (data_faults scope second b ++ (data_faults scope third c ++ data_faults scope fourth d))
   data_faults scope n (negative e) = data_faults scope (n + 1) e
-  data_faults scope n (parens e) = if may_be_data e then data_faults scope (n + 1) e else wrong_form scope n (parens e)
+  data_faults scope n (parens e) = if may_be_data scope e then data_faults scope (n + 1) e else wrong_form scope n (parens e)
   data_faults scope n (binary operator l r) =
       if is_arithmetic operator && not (is_quotient operator)
       then data_faults scope n l ++ data_faults scope (n + width l + 1) r

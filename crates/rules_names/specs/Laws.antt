@@ -1,8 +1,8 @@
 -- What breaks no rule keeps, as a tree, the rules of a well-formed unit.
-use Rattle.std.specs.Prelude.{◌≡◌, ◌^◌, ℕ, nat_lt, Bool, true, false, ◌&&◌, List, [], ◌∷◌, length, map, Option, Some, None}
+use Rattle.std.specs.Prelude.{◌≡◌, ◌^◌, ℕ, nat_lt, Bool, true, false, ◌&&◌, List, Option, Some, None}
 use Rattle.std.specs.List.{list_all}
-use Rattle.exo_tree.specs.Tree.{ConfigField, Coord}
-use Rattle.exo_meaning.specs.Units.{Named, Scope, Reads, Sort, sort_in, plainly, is_control, are_controls, is_condition, is_datum, is_access, is_window, is_coord, has_rank, field_kind, is_new, with_name}
+use Rattle.exo_tree.specs.Tree.{ConfigField}
+use Rattle.exo_meaning.specs.Units.{Named, Scope, Reads, Sort, sort_in, is_control, are_controls, is_condition, is_datum, is_window, field_kind, is_new, with_name}
 use Rattle.exo_tree.specs.Tree.{Binder}
 use Rattle.text_lexer.specs.declared.token.Literal.{Literal}
 use Rattle.text_lexer.specs.declared.token.Literal.TheVariants.{Value, TooLarge}

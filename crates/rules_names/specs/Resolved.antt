@@ -1,6 +1,6 @@
 -- Source trees with their names resolved: what an expression of a text is as a tree of a procedure. Parentheses are gone.
 -- What the rules on expressions refuse stands for some tree here, which nobody sees.
-use Rattle.std.specs.Prelude.{ℕ, pos, Bool, true, false, if◌then◌else◌, List, [], ◌∷◌, map, Option, Some, None}
+use Rattle.std.specs.Prelude.{ℕ, pos, Bool, true, false, if◌then◌else◌, List, [], map, Option, Some, None}
 use Rattle.exo_tree.specs.Tree as tree
 use Rattle.exo_tree.specs.Tree.{Kind, ConfigField, Control, Condition, Datum}
 use Rattle.exo_meaning.specs.Units.{Scope}
@@ -8,7 +8,7 @@ use Rattle.text_lexer.specs.declared.token.Literal.{Literal}
 use Rattle.text_lexer.specs.declared.token.Literal.TheVariants.{Value, TooLarge}
 use Rattle.text_expressions.specs.declared.source.Operator.{Operator}
 use Rattle.text_expressions.specs.declared.source.Operator.TheVariants as o
-use Rattle.text_expressions.specs.Expression.{Tree, Trees, number, truth, variable, access, field, stride, relu, select, negative, parens, binary}
+use Rattle.text_expressions.specs.Expression.{Tree, number, truth, variable, access, field, stride, relu, select, negative, parens, binary}
 use Rattle.rules_names.specs.Names.{id_in, field_in, no_id}
 use Rattle.rules_names.specs.ExpressionRules.{joins_conditions, list_of}
 

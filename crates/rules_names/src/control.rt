@@ -9,14 +9,14 @@ ghost use Rattle.rules_names.specs.declared.fault.Fault.{Fault};
 ghost use Rattle.exo_meaning.specs.Units.{is_number, is_flag};
 ghost use Rattle.rules_names.specs.Names.{named_in, sort_of, field_in};
 ghost use Rattle.rules_names.specs.Tests.{Tells, Varies, Joined, reads, most_tokens};
-ghost use Rattle.rules_names.specs.ExpressionRules.{width, closed_width, is_divisor, has_variables, affine_faults, name_faults, field_faults, may_be_control, may_be_condition, unknown_first, wrong_form, control_faults, controls_faults, condition_faults};
+ghost use Rattle.rules_names.specs.ExpressionRules.{width, closed_width, is_divisor, has_variables, affine_faults, suits, name_faults, field_suits, field_faults, may_be_control, may_be_condition, unknown_first, wrong_form, control_faults, controls_faults, condition_faults};
 
 use crate::error::TypeKind;
 use crate::fault::Charge;
 use crate::tested::{
     Names, Reads, Tested, affine_charge, all_of, any_of, dimension_charge, field_charge,
-    is_arithmetic, is_buffer, is_divisor, is_flag, is_number, joins_conditions, missing_field,
-    name_charge,
+    field_suits, is_arithmetic, is_buffer, is_divisor, is_flag, is_number, joins_conditions,
+    missing_field, name_charge, suits,
 };
 use crate::width::end_of;
 use text_expressions::source::{Operator, SourceExpr};
@@ -63,6 +63,21 @@ fn fitting(charge: Charge, end: usize, variables: bool) -> Tested
     }
 }
 
+/// The test of a name or a field of so many tokens.
+pub(crate) fn named(charge: Charge, end: usize, fits: bool) -> Tested
+    ensures charge { result.charge ≡ charge }
+    ensures end { result.end ≡ end }
+    ensures form { result.fits ≡ fits }
+    ensures variables { result.variables ≡ true }
+{
+    Tested {
+        charge,
+        end,
+        fits,
+        variables: true,
+    }
+}
+
 /// The test of an expression behind a minus.
 pub(crate) fn negated(inner: Tested) -> Tested
     ensures charge { result.charge ≡ inner.charge }
@@ -79,30 +94,33 @@ pub(crate) fn negated(inner: Tested) -> Tested
 /// The test of a name where a number is asked.
 fn test_number(names: &Names, n: usize, x: &Text) -> Tested
     requires { n + 1 ≤ most_tokens }
-    ensures tells { Tells result (name_faults is_number (sort_of (named_in names.now.scope.now x.now)) n) true n (variable x.now) }
+    ensures tells { Tells result (name_faults is_number (sort_of (named_in names.now.scope.now x.now)) n) (suits is_number (sort_of (named_in names.now.scope.now x.now))) n (variable x.now) }
     ensures variables { result.variables ≡ true }
 {
     let sort = names.scope.sort(x.as_str());
-    fitting(name_charge(sort, is_number(sort), n), n + 1, true)
+    let fits = is_number(sort);
+    named(name_charge(sort, fits, n), n + 1, suits(sort, fits))
 }
 
 /// The test of a name where a bool is asked.
 fn test_flag(names: &Names, n: usize, x: &Text) -> Tested
     requires { n + 1 ≤ most_tokens }
-    ensures { Tells result (name_faults is_flag (sort_of (named_in names.now.scope.now x.now)) n) true n (variable x.now) }
+    ensures { Tells result (name_faults is_flag (sort_of (named_in names.now.scope.now x.now)) n) (suits is_flag (sort_of (named_in names.now.scope.now x.now))) n (variable x.now) }
 {
     let sort = names.scope.sort(x.as_str());
-    fitting(name_charge(sort, is_flag(sort), n), n + 1, true)
+    let fits = is_flag(sort);
+    named(name_charge(sort, fits, n), n + 1, suits(sort, fits))
 }
 
 /// The test of a field where a bool is asked, or a number.
 fn test_field(names: &Names, wants_truth: bool, may: bool, n: usize, c: &Text, x: &Text) -> Tested
     requires { n + 3 ≤ most_tokens }
-    ensures tells { Tells result (field_faults wants_truth may (field_in names.now.fields.now c.now x.now) n) true n (field c.now x.now) }
+    ensures tells { Tells result (field_faults wants_truth may (field_in names.now.fields.now c.now x.now) n) (field_suits wants_truth (field_in names.now.fields.now c.now x.now)) n (field c.now x.now) }
     ensures variables { result.variables ≡ true }
 {
     let found = names.fields.get(c.as_str(), x.as_str());
-    fitting(field_charge(found, wants_truth, may, n), n + 3, true)
+    let suits = field_suits(found, wants_truth);
+    named(field_charge(found, wants_truth, may, n), n + 3, suits)
 }
 
 /// The test of an expression in parentheses, whose form is that of what stands inside.
@@ -161,7 +179,7 @@ fn joined(
 /// The test of an expression that stands where a control value is asked: a number.
 pub fn test_control(names: &Names, may: Reads, n: usize, e: &SourceExpr) -> Tested
     requires { n + width (tree_of e.now) ≤ most_tokens }
-    ensures tells { Tells result (control_faults names.now.fields.now (reads may) names.now.scope.now n (tree_of e.now)) (may_be_control (tree_of e.now)) n (tree_of e.now) }
+    ensures tells { Tells result (control_faults names.now.fields.now (reads may) names.now.scope.now n (tree_of e.now)) (may_be_control names.now.fields.now names.now.scope.now (tree_of e.now)) n (tree_of e.now) }
     ensures variables { Varies result (tree_of e.now) }
 {
     match e {
@@ -193,7 +211,7 @@ fn both(left: Tested, right: Tested) -> Tested
 /// The test of an expression that stands where a condition is asked.
 pub fn test_condition(names: &Names, may: Reads, n: usize, e: &SourceExpr) -> Tested
     requires { n + width (tree_of e.now) ≤ most_tokens }
-    ensures { Tells result (condition_faults names.now.fields.now (reads may) names.now.scope.now n (tree_of e.now)) (may_be_condition (tree_of e.now)) n (tree_of e.now) }
+    ensures { Tells result (condition_faults names.now.fields.now (reads may) names.now.scope.now n (tree_of e.now)) (may_be_condition names.now.fields.now names.now.scope.now (tree_of e.now)) n (tree_of e.now) }
 {
     match e {
         SourceExpr::Truth(_) => fitting(Charge::none(), n + 1, true),

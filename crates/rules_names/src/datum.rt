@@ -3,12 +3,13 @@ ghost use Rattle.std.specs.Prelude.{◌≡◌, ◌+◌, ◌≤◌, ◌&&◌, not
 ghost use Rattle.text_expressions.specs.Expression.{select};
 ghost use Rattle.text_expressions.specs.Views.{tree_of};
 ghost use Rattle.rules_names.specs.Faults.{charged};
+ghost use Rattle.rules_names.specs.Names.{named_in, sort_of};
 ghost use Rattle.rules_names.specs.Tests.{Tells, most_tokens};
-ghost use Rattle.rules_names.specs.ExpressionRules.{width, closed_width, is_arithmetic, is_quotient, may_be_data, data_faults, read_faults};
+ghost use Rattle.rules_names.specs.ExpressionRules.{width, closed_width, is_arithmetic, is_quotient, is_buffer, suits, may_be_data, data_faults, read_faults};
 
-use crate::control::{enclosed, negated, test_controls, test_wrong_form};
+use crate::control::{enclosed, named, negated, test_controls, test_wrong_form};
 use crate::fault::Charge;
-use crate::tested::{Names, PLAINLY, Tested, is_buffer, name_charge, rank_charge};
+use crate::tested::{Names, PLAINLY, Tested, is_buffer, name_charge, rank_charge, suits};
 use text_expressions::source::{Operator, SourceExpr};
 use text_lexer::text::Text;
 
@@ -41,11 +42,16 @@ fn test_cell(names: &Names, n: usize, x: &Text) -> Tested
     requires { n + 1 ≤ most_tokens }
     ensures charge { result.charge ≡ charged (read_faults names.now.fields.now names.now.scope.now n x.now []) }
     ensures end { result.end ≡ n + 1 }
-    ensures form { result.fits ≡ true }
+    ensures form { result.fits ≡ suits is_buffer (sort_of (named_in names.now.scope.now x.now)) }
 {
     let sort = names.scope.sort(x.as_str());
-    let parts = name_charge(sort, is_buffer(sort), n);
-    value(parts.then_whole(rank_charge(sort, 0, n)), n + 1)
+    let fits = is_buffer(sort);
+    let parts = name_charge(sort, fits, n);
+    named(
+        parts.then_whole(rank_charge(sort, 0, n)),
+        n + 1,
+        suits(sort, fits),
+    )
 }
 
 /// The test of a cell with its indices.
@@ -87,7 +93,7 @@ fn test_select(
 #[cycle(data)]
 pub fn test_data(names: &Names, n: usize, e: &SourceExpr) -> Tested
     requires { n + width (tree_of e.now) ≤ most_tokens }
-    ensures { Tells result (data_faults names.now.fields.now names.now.scope.now n (tree_of e.now)) (may_be_data (tree_of e.now)) n (tree_of e.now) }
+    ensures { Tells result (data_faults names.now.fields.now names.now.scope.now n (tree_of e.now)) (may_be_data names.now.fields.now names.now.scope.now (tree_of e.now)) n (tree_of e.now) }
 {
     match e {
         SourceExpr::Int(_) => value(Charge::none(), n + 1),

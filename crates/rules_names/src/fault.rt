@@ -6,14 +6,14 @@ ghost use Rattle.rules_names.specs.declared.fault.Fault.{Fault};
 use crate::error::TypeKind;
 
 /// A rule that is broken, and the number of the token at which it is.
-#[derive(Clone, Copy, PartialEq, Eq, Debug)]
+#[derive(Clone, Copy)]
 pub struct Fault {
     pub token: usize,
     pub rule: TypeKind,
 }
 
 /// The first rule that something breaks, and whether one that it breaks hides the rules of what it is a part of.
-#[derive(Clone, Copy, PartialEq, Eq, Debug)]
+#[derive(Clone, Copy)]
 pub struct Charge {
     pub first: Option<Fault>,
     pub hides: bool,

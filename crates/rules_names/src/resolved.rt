@@ -2,7 +2,7 @@
 ghost use Rattle.std.specs.Prelude.{◌≡◌, IfOk, map};
 ghost use Rattle.exo_tree.specs.PlainControl.{control, condition, coordinate};
 ghost use Rattle.exo_tree.specs.PlainDatum.{datum};
-ghost use Rattle.exo_tree.specs.Tree.{Neg, Negated, Relu, Select};
+ghost use Rattle.text_expressions.specs.Expression.{binary, select};
 ghost use Rattle.text_expressions.specs.Views.{tree_of};
 ghost use Rattle.exo_reader.specs.Views.{plain_coordinate};
 ghost use Rattle.rules_names.specs.Names.{id_in, field_in};
@@ -50,34 +50,46 @@ fn divisor_of(e: &SourceExpr) -> u32
 }
 
 /// Two control values with an operator between; what divides is a literal.
-fn joined(
-    alloc: Global,
-    operator: Operator,
-    left: Ctrl,
-    right: Ctrl,
-    divisor: u32,
-) -> Result<Ctrl, AllocError>
-    ensures { IfOk result (λ e. control e ≡ joined operator (control left) (control right) divisor) }
+fn joined(operator: Operator, left: Box<Ctrl>, right: Box<Ctrl>, divisor: u32) -> Ctrl
+    ensures { control result ≡ joined operator (control left.value) (control right.value) divisor }
 {
-    let left = Box::new(alloc, left)?;
     match operator {
-        Operator::Add => Ok(Ctrl::Add(left, Box::new(alloc, right)?)),
-        Operator::Sub => Ok(Ctrl::Sub(left, Box::new(alloc, right)?)),
-        Operator::Mul => Ok(Ctrl::Mul(left, Box::new(alloc, right)?)),
-        Operator::Div => Ok(Ctrl::Div(left, i64::from(divisor))),
-        Operator::Mod => Ok(Ctrl::Mod(left, i64::from(divisor))),
-        _ => Ok(Ctrl::Lit(0)),
+        Operator::Add => Ctrl::Add(left, right),
+        Operator::Sub => Ctrl::Sub(left, right),
+        Operator::Mul => Ctrl::Mul(left, right),
+        Operator::Div => Ctrl::Div(left, i64::from(divisor)),
+        Operator::Mod => Ctrl::Mod(left, i64::from(divisor)),
+        _ => Ctrl::Lit(0),
     }
 }
 
-/// A control value behind a minus.
-fn negated(alloc: Global, value: Ctrl) -> Result<Ctrl, AllocError>
-    ensures { IfOk result (λ e. control e ≡ Neg (control value)) }
+/// The control value that an expression stands for, in a box.
+#[cycle(controls)]
+fn boxed_control(alloc: Global, names: &Names, e: &SourceExpr) -> Result<Box<Ctrl>, AllocError>
+    ensures { IfOk result (λ c. control c.value ≡ control_of names.now.fields.now names.now.scope.now (tree_of e.now)) }
 {
-    Ok(Ctrl::Neg(Box::new(alloc, value)?))
+    let value = control_of(alloc, names, e)?;
+    Ok(Box::new(alloc, value)?)
+}
+
+/// The control value of an operator between two expressions.
+#[cycle(controls)]
+fn arithmetic_of(
+    alloc: Global,
+    names: &Names,
+    operator: Operator,
+    l: &SourceExpr,
+    r: &SourceExpr,
+) -> Result<Ctrl, AllocError>
+    ensures { IfOk result (λ c. control c ≡ control_of names.now.fields.now names.now.scope.now (binary operator (tree_of l.now) (tree_of r.now))) }
+{
+    let left = boxed_control(alloc, names, l)?;
+    let right = boxed_control(alloc, names, r)?;
+    Ok(joined(operator, left, right, divisor_of(r)))
 }
 
 /// The control value that an expression stands for. What breaks a rule stands for some value.
+#[cycle(controls)]
 pub fn control_of(alloc: Global, names: &Names, e: &SourceExpr) -> Result<Ctrl, AllocError>
     ensures { IfOk result (λ c. control c ≡ control_of names.now.fields.now names.now.scope.now (tree_of e.now)) }
 {
@@ -87,15 +99,11 @@ pub fn control_of(alloc: Global, names: &Names, e: &SourceExpr) -> Result<Ctrl, 
         SourceExpr::Field(c, x) => Ok(Ctrl::Field(field_in(names, c.as_str(), x.as_str()))),
         SourceExpr::Stride(x, k) => Ok(Ctrl::Stride(id_in(names, x.as_str()), *k)),
         SourceExpr::Negative(inner) => {
-            let value = control_of(alloc, names, inner)?;
-            negated(alloc, value)
+            let value = boxed_control(alloc, names, inner)?;
+            Ok(Ctrl::Neg(value))
         }
         SourceExpr::Parens(inner) => control_of(alloc, names, inner),
-        SourceExpr::Binary(operator, l, r) => {
-            let left = control_of(alloc, names, l)?;
-            let right = control_of(alloc, names, r)?;
-            joined(alloc, *operator, left, right, divisor_of(r))
-        }
+        SourceExpr::Binary(operator, l, r) => arithmetic_of(alloc, names, *operator, l, r),
         _ => Ok(Ctrl::Lit(0)),
     }
 }
@@ -114,22 +122,30 @@ fn compared(operator: Operator, left: Ctrl, right: Ctrl) -> Cond
     }
 }
 
-/// Two conditions that are joined.
-fn joined_conditions(
+/// The comparison of the control values that two expressions stand for.
+fn comparison_of(
     alloc: Global,
+    names: &Names,
     operator: Operator,
-    left: Cond,
-    right: Cond,
+    l: &SourceExpr,
+    r: &SourceExpr,
 ) -> Result<Cond, AllocError>
-    ensures { IfOk result (λ c. condition c ≡ joined_conditions operator (condition left) (condition right)) }
+    ensures { IfOk result (λ c. condition c ≡ compared operator (control_of names.now.fields.now names.now.scope.now (tree_of l.now)) (control_of names.now.fields.now names.now.scope.now (tree_of r.now))) }
 {
-    let left = Box::new(alloc, left)?;
-    let right = Box::new(alloc, right)?;
-    Ok(match operator {
+    let left = control_of(alloc, names, l)?;
+    let right = control_of(alloc, names, r)?;
+    Ok(compared(operator, left, right))
+}
+
+/// Two conditions that are joined.
+fn joined_conditions(operator: Operator, left: Box<Cond>, right: Box<Cond>) -> Cond
+    ensures { condition result ≡ joined_conditions operator (condition left.value) (condition right.value) }
+{
+    match operator {
         Operator::Or => Cond::Or(left, right),
         Operator::And => Cond::And(left, right),
         _ => Cond::False,
-    })
+    }
 }
 
 /// `True` or `False`.
@@ -139,7 +155,37 @@ fn truth_of(b: bool) -> Cond
     if b { Cond::True } else { Cond::False }
 }
 
+/// The condition that an expression stands for, in a box.
+#[cycle(conditions)]
+pub fn boxed_condition(
+    alloc: Global,
+    names: &Names,
+    e: &SourceExpr,
+) -> Result<Box<Cond>, AllocError>
+    ensures { IfOk result (λ c. condition c.value ≡ condition_of names.now.fields.now names.now.scope.now (tree_of e.now)) }
+{
+    let value = condition_of(alloc, names, e)?;
+    Ok(Box::new(alloc, value)?)
+}
+
+/// The condition of an operator between the conditions that two expressions stand for.
+#[cycle(conditions)]
+fn junction_of(
+    alloc: Global,
+    names: &Names,
+    operator: Operator,
+    l: &SourceExpr,
+    r: &SourceExpr,
+) -> Result<Cond, AllocError>
+    ensures { IfOk result (λ c. condition c ≡ joined_conditions operator (condition_of names.now.fields.now names.now.scope.now (tree_of l.now)) (condition_of names.now.fields.now names.now.scope.now (tree_of r.now))) }
+{
+    let left = boxed_condition(alloc, names, l)?;
+    let right = boxed_condition(alloc, names, r)?;
+    Ok(joined_conditions(operator, left, right))
+}
+
 /// The condition that an expression stands for. What breaks a rule stands for some condition.
+#[cycle(conditions)]
 pub fn condition_of(alloc: Global, names: &Names, e: &SourceExpr) -> Result<Cond, AllocError>
     ensures { IfOk result (λ c. condition c ≡ condition_of names.now.fields.now names.now.scope.now (tree_of e.now)) }
 {
@@ -149,15 +195,9 @@ pub fn condition_of(alloc: Global, names: &Names, e: &SourceExpr) -> Result<Cond
         SourceExpr::Field(c, x) => Ok(Cond::Field(field_in(names, c.as_str(), x.as_str()))),
         SourceExpr::Parens(inner) => condition_of(alloc, names, inner),
         SourceExpr::Binary(operator, l, r) if is_joint(*operator) => {
-            let left = condition_of(alloc, names, l)?;
-            let right = condition_of(alloc, names, r)?;
-            joined_conditions(alloc, *operator, left, right)
+            junction_of(alloc, names, *operator, l, r)
         }
-        SourceExpr::Binary(operator, l, r) => {
-            let left = control_of(alloc, names, l)?;
-            let right = control_of(alloc, names, r)?;
-            Ok(compared(*operator, left, right))
-        }
+        SourceExpr::Binary(operator, l, r) => comparison_of(alloc, names, *operator, l, r),
         _ => Ok(Cond::False),
     }
 }
@@ -174,57 +214,63 @@ pub fn indices_of(alloc: Global, names: &Names, list: &[SourceExpr]) -> Result<I
 }
 
 /// Two values of cells with an operator between.
-fn joined_data(
-    alloc: Global,
-    operator: Operator,
-    left: DataExpr,
-    right: DataExpr,
-) -> Result<DataExpr, AllocError>
-    ensures { IfOk result (λ e. datum e ≡ joined_data operator (datum left) (datum right)) }
+fn joined_data(operator: Operator, left: Box<DataExpr>, right: Box<DataExpr>) -> DataExpr
+    ensures { datum result ≡ joined_data operator (datum left.value) (datum right.value) }
 {
-    let left = Box::new(alloc, left)?;
-    let right = Box::new(alloc, right)?;
-    Ok(match operator {
+    match operator {
         Operator::Add => DataExpr::Add(left, right),
         Operator::Sub => DataExpr::Sub(left, right),
         Operator::Mul => DataExpr::Mul(left, right),
         _ => DataExpr::Lit(0),
-    })
+    }
 }
 
-/// A value of cells behind a minus.
-fn negated_data(alloc: Global, value: DataExpr) -> Result<DataExpr, AllocError>
-    ensures { IfOk result (λ e. datum e ≡ Negated (datum value)) }
+/// The value of cells that an expression stands for, in a box.
+#[cycle(data)]
+fn boxed_data(alloc: Global, names: &Names, e: &SourceExpr) -> Result<Box<DataExpr>, AllocError>
+    ensures { IfOk result (λ d. datum d.value ≡ datum_of names.now.fields.now names.now.scope.now (tree_of e.now)) }
 {
-    Ok(DataExpr::Neg(Box::new(alloc, value)?))
+    let value = data_of(alloc, names, e)?;
+    Ok(Box::new(alloc, value)?)
 }
 
-/// A value of cells where it is above 0.
-fn rectified(alloc: Global, value: DataExpr) -> Result<DataExpr, AllocError>
-    ensures { IfOk result (λ e. datum e ≡ Relu (datum value)) }
-{
-    Ok(DataExpr::Relu(Box::new(alloc, value)?))
-}
-
-/// A choice between values of cells.
-fn selected(
+/// The choice between the values of cells that expressions stand for.
+#[cycle(data)]
+fn choice_of(
     alloc: Global,
-    first: DataExpr,
-    second: DataExpr,
-    third: DataExpr,
-    fourth: DataExpr,
+    names: &Names,
+    a: &SourceExpr,
+    b: &SourceExpr,
+    c: &SourceExpr,
+    d: &SourceExpr,
 ) -> Result<DataExpr, AllocError>
-    ensures { IfOk result (λ e. datum e ≡ Select (datum first) (datum second) (datum third) (datum fourth)) }
+    ensures { IfOk result (λ e. datum e ≡ datum_of names.now.fields.now names.now.scope.now (select (tree_of a.now) (tree_of b.now) (tree_of c.now) (tree_of d.now))) }
 {
-    Ok(DataExpr::Select(
-        Box::new(alloc, first)?,
-        Box::new(alloc, second)?,
-        Box::new(alloc, third)?,
-        Box::new(alloc, fourth)?,
-    ))
+    let first = boxed_data(alloc, names, a)?;
+    let second = boxed_data(alloc, names, b)?;
+    let third = boxed_data(alloc, names, c)?;
+    let fourth = boxed_data(alloc, names, d)?;
+    Ok(DataExpr::Select(first, second, third, fourth))
+}
+
+/// The value of cells of an operator between two expressions.
+#[cycle(data)]
+fn operation_of(
+    alloc: Global,
+    names: &Names,
+    operator: Operator,
+    l: &SourceExpr,
+    r: &SourceExpr,
+) -> Result<DataExpr, AllocError>
+    ensures { IfOk result (λ d. datum d ≡ datum_of names.now.fields.now names.now.scope.now (binary operator (tree_of l.now) (tree_of r.now))) }
+{
+    let left = boxed_data(alloc, names, l)?;
+    let right = boxed_data(alloc, names, r)?;
+    Ok(joined_data(operator, left, right))
 }
 
 /// The value of cells that an expression stands for. What breaks a rule stands for some value.
+#[cycle(data)]
 pub fn data_of(alloc: Global, names: &Names, e: &SourceExpr) -> Result<DataExpr, AllocError>
     ensures { IfOk result (λ d. datum d ≡ datum_of names.now.fields.now names.now.scope.now (tree_of e.now)) }
 {
@@ -236,26 +282,16 @@ pub fn data_of(alloc: Global, names: &Names, e: &SourceExpr) -> Result<DataExpr,
             Ok(DataExpr::Read(id_in(names, x.as_str()), indices))
         }
         SourceExpr::Relu(inner) => {
-            let value = data_of(alloc, names, inner)?;
-            rectified(alloc, value)
+            let value = boxed_data(alloc, names, inner)?;
+            Ok(DataExpr::Relu(value))
         }
-        SourceExpr::Select(a, b, c, d) => {
-            let first = data_of(alloc, names, a)?;
-            let second = data_of(alloc, names, b)?;
-            let third = data_of(alloc, names, c)?;
-            let fourth = data_of(alloc, names, d)?;
-            selected(alloc, first, second, third, fourth)
-        }
+        SourceExpr::Select(a, b, c, d) => choice_of(alloc, names, a, b, c, d),
         SourceExpr::Negative(inner) => {
-            let value = data_of(alloc, names, inner)?;
-            negated_data(alloc, value)
+            let value = boxed_data(alloc, names, inner)?;
+            Ok(DataExpr::Neg(value))
         }
         SourceExpr::Parens(inner) => data_of(alloc, names, inner),
-        SourceExpr::Binary(operator, l, r) => {
-            let left = data_of(alloc, names, l)?;
-            let right = data_of(alloc, names, r)?;
-            joined_data(alloc, *operator, left, right)
-        }
+        SourceExpr::Binary(operator, l, r) => operation_of(alloc, names, *operator, l, r),
         _ => Ok(DataExpr::Lit(0)),
     }
 }

@@ -10,7 +10,7 @@ use std::alloc::{AllocError, Global};
 use std::marker::Model;
 
 /// What sort of thing a name stands for.
-#[derive(Clone, Copy, Debug, PartialEq, Eq)]
+#[derive(Clone, Copy)]
 pub enum Sort {
     Control(Kind),
     /// A buffer or view with its cell type and rank, and whether it is a whole dense tensor.
@@ -18,7 +18,7 @@ pub enum Sort {
 }
 
 /// What a name stands for: its id and its sort.
-#[derive(Clone, Copy, Debug, PartialEq, Eq)]
+#[derive(Clone, Copy)]
 pub struct Meant {
     pub id: Id,
     pub sort: Sort,

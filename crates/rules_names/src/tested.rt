@@ -6,7 +6,7 @@ ghost use Rattle.text_expressions.specs.Views.{tree_of};
 ghost use Rattle.rules_names.specs.Faults.{charged};
 ghost use Rattle.rules_names.specs.Tables.{found_field};
 ghost use Rattle.rules_names.specs.Tests.{sort_seen};
-ghost use Rattle.rules_names.specs.ExpressionRules.{is_buffer, is_arithmetic, is_quotient, joins_conditions, is_divisor, name_faults, rank_faults, dimension_faults, field_faults, no_such_field, affine_faults};
+ghost use Rattle.rules_names.specs.ExpressionRules.{is_buffer, is_arithmetic, joins_conditions, is_divisor, suits, name_faults, rank_faults, dimension_faults, field_suits, field_faults, no_such_field, affine_faults};
 
 use crate::error::TypeKind;
 use crate::fault::Charge;
@@ -16,7 +16,7 @@ use exo_tree::{FieldId, Kind};
 use text_expressions::source::{Operator, SourceExpr};
 
 /// What an expression may read at its place.
-#[derive(Clone, Copy, Debug, PartialEq, Eq)]
+#[derive(Clone, Copy)]
 pub struct Reads {
     /// Fields of configurations.
     pub fields: bool,
@@ -56,7 +56,7 @@ pub struct Names<'n> {
 }
 
 /// What the test of an expression tells.
-#[derive(Clone, Copy, Debug, PartialEq, Eq)]
+#[derive(Clone, Copy)]
 pub struct Tested {
     /// The first rule that it breaks, and whether one that it breaks hides those of what it is a part of.
     pub charge: Charge,
@@ -108,6 +108,16 @@ pub fn name_charge(sort: Option<Sort>, fits: bool, n: usize) -> Charge
     }
 }
 
+/// Whether a name is not in scope, or what it stands for fits.
+pub fn suits(sort: Option<Sort>, fits: bool) -> bool
+    ensures { (test : Option units.Sort → Bool) → test (sort_seen sort) ≡ fits → result ≡ suits test (sort_seen sort) }
+{
+    match sort {
+        None => true,
+        Some(_) => fits,
+    }
+}
+
 /// The charge of so many indices or coordinates of a name.
 pub fn rank_charge(sort: Option<Sort>, rank: usize, n: usize) -> Charge
     ensures { result ≡ charged (rank_faults (sort_seen sort) rank n) }
@@ -151,6 +161,16 @@ pub fn field_charge(
     }
 }
 
+/// Whether there is no such field, or it is of the kind that is asked.
+pub fn field_suits(field: Option<(FieldId, Kind)>, wants_truth: bool) -> bool
+    ensures { result ≡ field_suits wants_truth (option_map found_field field) }
+{
+    match field {
+        None => true,
+        Some((_, kind)) => (kind == Kind::Bool) == wants_truth,
+    }
+}
+
 /// The charge of a field that there is none of.
 pub fn missing_field(field: Option<(FieldId, Kind)>, n: usize) -> Charge
     ensures { result ≡ charged (no_such_field (option_map found_field field) n) }
@@ -167,16 +187,6 @@ pub fn is_arithmetic(operator: Operator) -> bool
 {
     match operator {
         Operator::Add | Operator::Sub | Operator::Mul | Operator::Div | Operator::Mod => true,
-        _ => false,
-    }
-}
-
-/// Quotients and remainders.
-pub fn is_quotient(operator: Operator) -> bool
-    ensures { result ≡ is_quotient operator }
-{
-    match operator {
-        Operator::Div | Operator::Mod => true,
         _ => false,
     }
 }

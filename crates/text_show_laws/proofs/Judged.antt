@@ -18,7 +18,7 @@ use Rattle.text_show_laws.specs.Written as written
 use Rattle.text_show_laws.specs.Written.{literal_tree, placed, access_tree, config_of, field_of, config_word, field_word, control_tree, condition_tree, datum_tree}
 use Rattle.text_show_laws.proofs.Scoped.{Finds, re_scope, both, id_found, sort_found}
 use Rattle.exo_types.specs.ArgumentRules.{points}
-use Rattle.text_show_laws.proofs.Resolved.{unless_fine, joined_fine, parts_fine, rank_fine, ranked_buffer, listed_again, FindsFields, field_is, name_fine, control_same, control_fine, controls_same, controls_fine}
+use Rattle.text_show_laws.proofs.Resolved.{front_none, parts_none, suits_kept, field_kept, unless_fine, joined_fine, parts_fine, rank_fine, ranked_buffer, listed_again, FindsFields, field_is, name_fine, control_same, control_fine, controls_same, controls_fine}
 
 four_same : {a b c d e f g h : Datum} → a ≡ e → b ≡ f → c ≡ g → d ≡ h → Select a b c d ≡ Select e f g h
 four_same {a = a} {b = b} {g = g} {h = h} p q s t = ap₂ (λ x y. Select a b x y) s t ∙ ap₂ (λ x y. Select x y g h) p q
@@ -44,19 +44,6 @@ module _ (w : Words) (fields : List ConfigField) (r : Renaming) (scope : Scope) 
   condition_by : (q : Bool) (e : Tree) → condition_of fields there (if q then parens e else e) ≡ condition_of fields there e
   condition_by true e = refl
   condition_by false e = refl
-
-  condition_form : (c : Condition) → may_be_condition (of_condition c) ≡ true
-  condition_form tree.True = refl
-  condition_form tree.False = refl
-  condition_form (Flag x) = refl
-  condition_form (FieldFlag f) = refl
-  condition_form (Lt a b) = refl
-  condition_form (Le a b) = refl
-  condition_form (Gt a b) = refl
-  condition_form (Ge a b) = refl
-  condition_form (Eq a b) = refl
-  condition_form (And a b) = refl
-  condition_form (Or a b) = refl
 
   module _ (may : Reads) where
     flag_fields : (f : ℕ) → is_flag_field kinds (field_kind fields f) ≡ true → (k : Kind) × (field_kind fields f ≡ Some k) × (is_truth k ≡ true)
@@ -85,12 +72,25 @@ module _ (w : Words) (fields : List ConfigField) (r : Renaming) (scope : Scope) 
     condition_same (And a b) h = ap₂ And (condition_by _ (of_condition a) ∙ condition_same a (both _ _ h).0) (condition_by _ (of_condition b) ∙ condition_same b (both (is_condition kinds may scope a) _ h).1)
     condition_same (Or a b) h = ap₂ Or (condition_by _ (of_condition a) ∙ condition_same a (both _ _ h).0) (condition_by _ (of_condition b) ∙ condition_same b (both (is_condition kinds may scope a) _ h).1)
 
-    condition_in : (q : Bool) (n : ℕ) (e : Tree) → may_be_condition e ≡ true → ((m : ℕ) → condition_faults fields may there m e ≡ []) → condition_faults fields may there n (if q then parens e else e) ≡ []
+    condition_form : (c : Condition) → ((m : ℕ) → condition_faults fields may there m (of_condition c) ≡ []) → may_be_condition fields there (of_condition c) ≡ true
+    condition_form tree.True fine = refl
+    condition_form tree.False fine = refl
+    condition_form (Flag x) fine = suits_kept is_flag _ 0 (fine 0)
+    condition_form (FieldFlag f) fine = field_kept true may.fields _ 0 (fine 0)
+    condition_form (Lt a b) fine = refl
+    condition_form (Le a b) fine = refl
+    condition_form (Gt a b) fine = refl
+    condition_form (Ge a b) fine = refl
+    condition_form (Eq a b) fine = refl
+    condition_form (And a b) fine = refl
+    condition_form (Or a b) fine = refl
+
+    condition_in : (q : Bool) (n : ℕ) (e : Tree) → may_be_condition fields there e ≡ true → ((m : ℕ) → condition_faults fields may there m e ≡ []) → condition_faults fields may there n (if q then parens e else e) ≡ []
     condition_in true n e form fine = ap (λ t. if t then condition_faults fields may there (n + 1) e else wrong_form fields there n (parens e)) form ∙ fine (n + 1)
     condition_in false n e form fine = fine n
 
     part_fine : (place : ℕ) (n : ℕ) (c : Condition) → ((m : ℕ) → condition_faults fields may there m (of_condition c) ≡ []) → condition_faults fields may there n (placed place (condition_precedence c) (of_condition c)) ≡ []
-    part_fine place n c fine = condition_in (nat_lt (condition_precedence c) place) n (of_condition c) (condition_form c) fine
+    part_fine place n c fine = condition_in (nat_lt (condition_precedence c) place) n (of_condition c) (condition_form c fine) fine
 
     pub condition_fine : (c : Condition) → is_condition kinds may scope c ≡ true → (n : ℕ) → condition_faults fields may there n (of_condition c) ≡ []
     condition_fine tree.True h n = refl
@@ -114,17 +114,17 @@ module _ (w : Words) (fields : List ConfigField) (r : Renaming) (scope : Scope) 
   datum_by true e = refl
   datum_by false e = refl
 
-  datum_form : (e : Datum) → may_be_data (of_datum e) ≡ true
-  datum_form (Const (pos n)) = refl
-  datum_form (Const (negsuc n)) = refl
-  datum_form (Read x []) = refl
-  datum_form (Read x (i ∷ is)) = refl
-  datum_form (Negated a) = refl
-  datum_form (Relu a) = refl
-  datum_form (Plus a b) = refl
-  datum_form (Minus a b) = refl
-  datum_form (Times a b) = refl
-  datum_form (Select a b c d) = refl
+  datum_form : (e : Datum) → ((m : ℕ) → data_faults fields there m (of_datum e) ≡ []) → may_be_data fields there (of_datum e) ≡ true
+  datum_form (Const (pos n)) fine = refl
+  datum_form (Const (negsuc n)) fine = refl
+  datum_form (Read x []) fine = suits_kept is_buffer _ 0 (front_none _ _ (parts_none _ _ (fine 0)))
+  datum_form (Read x (i ∷ is)) fine = refl
+  datum_form (Negated a) fine = refl
+  datum_form (Relu a) fine = refl
+  datum_form (Plus a b) fine = refl
+  datum_form (Minus a b) fine = refl
+  datum_form (Times a b) fine = refl
+  datum_form (Select a b c d) fine = refl
 
   indices_same : (is : List Control) → are_controls kinds plainly scope is ≡ true → controls_of fields there (map (control_tree w fields) is) ≡ re_controls r is
   indices_same is h = controls_same w fields r scope finds finds_fields plainly is h
@@ -164,12 +164,12 @@ module _ (w : Words) (fields : List ConfigField) (r : Renaming) (scope : Scope) 
       let s = both (is_datum kinds scope c) _ p.1 in
       four_same (datum_same a q.0) (datum_same b q.1) (datum_same c s.0) (datum_same d s.1)
 
-  datum_in : (q : Bool) (n : ℕ) (e : Tree) → may_be_data e ≡ true → ((m : ℕ) → data_faults fields there m e ≡ []) → data_faults fields there n (if q then parens e else e) ≡ []
+  datum_in : (q : Bool) (n : ℕ) (e : Tree) → may_be_data fields there e ≡ true → ((m : ℕ) → data_faults fields there m e ≡ []) → data_faults fields there n (if q then parens e else e) ≡ []
   datum_in true n e form fine = ap (λ t. if t then data_faults fields there (n + 1) e else wrong_form fields there n (parens e)) form ∙ fine (n + 1)
   datum_in false n e form fine = fine n
 
   datum_part : (place : ℕ) (n : ℕ) (e : Datum) → ((m : ℕ) → data_faults fields there m (of_datum e) ≡ []) → data_faults fields there n (placed place (datum_precedence e) (of_datum e)) ≡ []
-  datum_part place n e fine = datum_in (nat_lt (datum_precedence e) place) n (of_datum e) (datum_form e) fine
+  datum_part place n e fine = datum_in (nat_lt (datum_precedence e) place) n (of_datum e) (datum_form e fine) fine
 
   pub datum_fine : (e : Datum) → is_datum kinds scope e ≡ true → (n : ℕ) → data_faults fields there n (of_datum e) ≡ []
   datum_fine (Const (pos k)) h n = refl

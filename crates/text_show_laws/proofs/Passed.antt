@@ -1,23 +1,27 @@
 -- Written arguments with their names resolved are themselves, under other ids, and break no rule.
-use Rattle.std.proofs.Common.{◌≡◌, ℕ, suc, ◌==◌, Bool, true, false, not, ◌&&◌, if◌then◌else◌, List, [], ◌∷◌, length, map, Option, None, refl, sym, ap, ap₂, ◌∙◌, true≢false, eqb-true, eq-eqb}
+use Rattle.std.proofs.Common.{◌≡◌, ℕ, suc, ◌+◌, ◌==◌, Bool, true, false, not, ◌&&◌, if◌then◌else◌, List, [], ◌∷◌, ◌++◌, length, map, Option, None, refl, sym, ap, ap₂, ◌∙◌, true≢false, eqb-true, eq-eqb}
+use Rattle.std.proofs.lemmas.List.{length-map}
 use Rattle.exo_tree.specs.Tree.{Kind, Cell, ConfigField, Control, Coord, At, Span, Argument, ControlArg, ConditionArg, Whole, Window, ParamKind, ControlParam, TensorParam, WindowParam}
 use Rattle.exo_meaning.specs.Units as units
-use Rattle.exo_meaning.specs.Units.{Scope, Sort, Reads, with_both, sort_in, is_truth, has_rank, has_cell, is_dense, is_control, is_condition, is_window, is_of_kind, is_for, field_kind}
+use Rattle.exo_meaning.specs.Units.{Scope, Sort, Reads, plainly, with_both, sort_in, is_truth, has_rank, has_cell, is_dense, is_control, is_condition, is_window, is_of_kind, is_for, field_kind}
 use Rattle.exo_meaning.specs.Renaming.{Renaming, re_coords, re_argument}
-use Rattle.text_expressions.specs.Expression.{trees}
+use Rattle.text_expressions.specs.Expression.{Tree, trees}
 use Rattle.exo_reader.specs.Source as source
 use Rattle.exo_reader.specs.Source.{point, span}
-use Rattle.rules_names.specs.Names.{id_in}
-use Rattle.rules_names.specs.ExpressionRules.{rank_faults, control_faults, condition_faults, list_of}
+use Rattle.rules_names.specs.declared.error.TypeKind.TheVariants.{RankMismatch}
+use Rattle.rules_names.specs.declared.fault.Fault.{Fault}
+use Rattle.rules_names.specs.Faults.{unless}
+use Rattle.rules_names.specs.Names.{id_in, named_in, sort_of}
+use Rattle.rules_names.specs.ExpressionRules.{width, name_faults, rank_faults, control_faults, controls_faults, condition_faults, list_of}
 use Rattle.rules_names.specs.Resolved.{control_of, condition_of}
-use Rattle.rules_names.specs.WindowRules.{window_faults, coordinates_of}
+use Rattle.rules_names.specs.WindowRules.{coordinates_faults, window_faults, coordinates_of}
 use Rattle.text_show.specs.Words.{Words}
-use Rattle.exo_types.specs.ArgumentRules.{spans, points, tensor_takes, cell_takes, whole_faults, kind_faults, argument_faults, part_of, kind_value_of, argument_of}
+use Rattle.exo_types.specs.ArgumentRules.{spans, points, tensor_takes, cell_takes, whole_faults, part_faults, kind_faults, argument_faults, part_of, kind_value_of, argument_of}
 use Rattle.text_show_laws.specs.Written as written
 use Rattle.text_show_laws.specs.Written.{access_tree, has_span, control_tree, condition_tree}
 use Rattle.text_show_laws.specs.Writable.{HasSome}
 use Rattle.text_show_laws.proofs.Scoped.{Finds, re_scope, both, denied, id_found, sort_found}
-use Rattle.text_show_laws.proofs.Resolved.{FindsFields, unless_fine, joined_fine, rank_fine, listed_again, name_fine, control_same, control_fine}
+use Rattle.text_show_laws.proofs.Resolved.{FindsFields, front_none, back_none, unless_fine, joined_fine, parts_fine, rank_fine, listed_again, name_fine, control_same, control_fine}
 use Rattle.text_show_laws.proofs.Judged.{condition_same, condition_fine, coordinates_same, window_fine}
 
 -- a window has a coordinate
@@ -136,6 +140,20 @@ module _ (w : Words) (fields : List ConfigField) (r : Renaming) (scope : Scope) 
       ∙ ap (window_faults fields test there n (w.name x)) (points_low (c ∷ cs) none)
       ∙ window_fine w fields r scope finds finds_fields test x (c ∷ cs) absent t h n
 
+  points_faults : (n : ℕ) (es : List Tree) → controls_faults fields plainly there n es ≡ coordinates_faults fields there n (points es)
+  points_faults n [] = refl
+  points_faults n (e ∷ es) = ap (λ l. control_faults fields plainly there n e ++ l) (points_faults (n + width e + 1) es)
+
+  part_fine : (test : Option Sort → Bool) (n : ℕ) (x : List ℕ) (es : List Tree) (more : List Fault) → window_faults fields test there n x (points es) ≡ [] → more ≡ [] → part_faults fields test there n x es more ≡ []
+  part_fine test n x es more h m =
+      let sort = sort_of (named_in there x) in
+      let behind = back_none (name_faults test sort n) _ h in
+      parts_fine _ _ (joined_fine _ _ (front_none (name_faults test sort n) _ h) (points_faults (n + 2) es ∙ back_none (rank_faults sort (length (points es)) n) _ behind))
+      (joined_fine _ _ (ap (λ k. rank_faults sort k n) (sym (length-map es point)) ∙ front_none (rank_faults sort (length (points es)) n) _ behind) m)
+
+  low_part : (test : Option Sort → Bool) (x : ℕ) (c : Coord) (cs : List Coord) → test None ≡ false → test (sort_in scope x) ≡ true → has_span (c ∷ cs) ≡ false → is_window kinds scope x (c ∷ cs) ≡ true → (n : ℕ) (more : List Fault) → more ≡ [] → part_faults fields test there n (w.name x) (list_of (trees (map (written.low_tree w fields) (c ∷ cs)))) more ≡ []
+  low_part test x c cs absent t none h n more m = part_fine test n (w.name x) (list_of (trees (map (written.low_tree w fields) (c ∷ cs)))) more (low_fine test x c cs absent t none h n) m
+
   tensor_fine : (cell : Cell) (dims : List Control) (memory x : ℕ) (cs : List Coord) → HasSome cs → is_for kinds scope (TensorParam cell dims memory) (Window x cs) ≡ true → (n : ℕ) → argument_faults fields there (TensorParam cell dims memory) n (written.window_of w fields (w.name x) cs) ≡ []
   tensor_fine cell dims memory x [] some h n = absurd some
   tensor_fine cell dims memory x (c ∷ cs) some h n = by (has_span (c ∷ cs)) refl
@@ -157,7 +175,7 @@ module _ (w : Words) (fields : List ConfigField) (r : Renaming) (scope : Scope) 
 
       by : (t : Bool) → has_span (c ∷ cs) ≡ t → argument_faults fields there (TensorParam cell dims memory) n (if t then source.window (w.name x) (map (written.coordinate_of w fields) (c ∷ cs)) else source.value (access_tree (w.name x) (map (written.low_tree w fields) (c ∷ cs)))) ≡ []
       by true p = joined_fine _ _ (window_fine w fields r scope finds finds_fields (cell_takes cell (length dims)) x (c ∷ cs) refl takes inner.0 n) (unless_fine _ _ n same_spans)
-      by false p = low_fine (cell_takes cell (length dims)) x c cs refl takes p inner.0 n
+      by false p = low_part (cell_takes cell (length dims)) x c cs refl takes p inner.0 n [] refl
 
   strided_fine : (cell : Cell) (dims : List Control) (memory x : ℕ) (cs : List Coord) → HasSome cs → is_for kinds scope (WindowParam cell dims memory) (Window x cs) ≡ true → (n : ℕ) → argument_faults fields there (WindowParam cell dims memory) n (written.window_of w fields (w.name x) cs) ≡ []
   strided_fine cell dims memory x [] some h n = absurd some
@@ -174,7 +192,7 @@ module _ (w : Words) (fields : List ConfigField) (r : Renaming) (scope : Scope) 
           joined_fine _ _ (window_fine w fields r scope finds finds_fields (has_cell cell) x (c ∷ cs) refl has.0 inner.0 n)
           (unless_fine _ _ n (eq-eqb _ _ (spans_same (c ∷ cs) ∙ sym (eqb-true _ _ inner.1))))
       by false p =
-          joined_fine _ _ (low_fine (has_cell cell) x c cs refl has.0 p inner.0 n)
+          low_part (has_cell cell) x c cs refl has.0 p inner.0 n (unless ((length dims) == 0) RankMismatch n)
           (unless_fine _ _ n (eq-eqb _ _ (eqb-true _ _ inner.1 ∙ no_spans (c ∷ cs) p)))
 
   pub argument_fine : (kind : ParamKind) (a : Argument) → is_for kinds scope kind a ≡ true → HasCoords a → (n : ℕ) → argument_faults fields there kind n (written.argument_of w fields a) ≡ []

@@ -9,7 +9,7 @@ use Rattle.rules_names.specs.declared.error.TypeKind.{TypeKind}
 use Rattle.rules_names.specs.declared.fault.Fault.{Fault}
 use Rattle.rules_names.specs.Faults.{unless, parts_then_whole}
 use Rattle.rules_names.specs.Names.{named_in, sort_of, field_in}
-use Rattle.rules_names.specs.ExpressionRules.{may_be_control, has_variables, name_faults, rank_faults, dimension_faults, is_buffer, field_faults, wrong_form, list_of, control_faults, controls_faults}
+use Rattle.rules_names.specs.ExpressionRules.{suits, field_suits, may_be_control, has_variables, name_faults, rank_faults, dimension_faults, is_buffer, field_faults, wrong_form, list_of, control_faults, controls_faults}
 use Rattle.rules_names.specs.Resolved.{field_number, control_of, controls_of}
 use Rattle.text_show.specs.Words.{Words}
 use Rattle.text_show.specs.ControlText.{precedence_of}
@@ -26,6 +26,35 @@ joined_fine a b p q = ap₂ ◌++◌ p q
 
 pub parts_fine : (parts whole : List Fault) → parts ≡ [] → whole ≡ [] → parts_then_whole parts whole ≡ []
 parts_fine parts whole p q = ap₂ parts_then_whole p q
+
+-- ---- what breaks no rule is of its kind
+
+pub front_none : (a b : List Fault) → a ++ b ≡ [] → a ≡ []
+front_none [] b h = refl
+front_none (x ∷ a) b h = cc
+
+pub back_none : (a b : List Fault) → a ++ b ≡ [] → b ≡ []
+back_none [] b h = h
+back_none (x ∷ a) b h = cc
+
+pub parts_none : (parts whole : List Fault) → parts_then_whole parts whole ≡ [] → parts ≡ []
+parts_none [] whole h = refl
+parts_none (x ∷ parts) whole h = cc
+
+unless_kept : (b : Bool) (rule : TypeKind) (n : ℕ) → unless b rule n ≡ [] → b ≡ true
+unless_kept true rule n h = refl
+unless_kept false rule n h = cc
+
+pub suits_kept : (test : Option Sort → Bool) (s : Option Sort) (n : ℕ) → name_faults test s n ≡ [] → suits test s ≡ true
+suits_kept test None n h = refl
+suits_kept test (Some s) n h = unless_kept (test (Some s)) _ n h
+
+pub field_kept : (truth may : Bool) (f : Option (ℕ × Kind)) (n : ℕ) → field_faults truth may f n ≡ [] → field_suits truth f ≡ true
+field_kept truth may None n h = refl
+field_kept true may (Some f) n h = unless_kept (is_truth f.1) _ n (front_none _ _ h)
+field_kept false may (Some f) n h = unless_kept (not (is_truth f.1)) _ n (front_none _ _ h)
+
+-- ---- names and ranks
 
 pub name_by : (test : Option Sort → Bool) (s : Option Sort) (n : ℕ) → test None ≡ false → test s ≡ true → name_faults test s n ≡ []
 name_by test None n absent h = absurd (true≢false (sym h ∙ absent))
@@ -105,23 +134,23 @@ module _ (w : Words) (fields : List ConfigField) (r : Renaming) (scope : Scope) 
   variables_by true e = refl
   variables_by false e = refl
 
-  pub control_form : (e : Control) → may_be_control (of_control e) ≡ true
-  control_form (Lit (pos n)) = refl
-  control_form (Lit (negsuc n)) = refl
-  control_form (Var x) = refl
-  control_form (Field f) = refl
-  control_form (StrideOf x k) = refl
-  control_form (Neg a) = refl
-  control_form (Add a b) = refl
-  control_form (Sub a b) = refl
-  control_form (Mul a b) = refl
-  control_form (Div a n) = refl
-  control_form (Mod a n) = refl
-
   -- ---- control values
 
   module _ (may : Reads) where
-    control_in : (q : Bool) (n : ℕ) (e : Tree) → may_be_control e ≡ true → ((m : ℕ) → control_faults fields may there m e ≡ []) → control_faults fields may there n (if q then parens e else e) ≡ []
+    control_form : (e : Control) → ((m : ℕ) → control_faults fields may there m (of_control e) ≡ []) → may_be_control fields there (of_control e) ≡ true
+    control_form (Lit (pos n)) fine = refl
+    control_form (Lit (negsuc n)) fine = refl
+    control_form (Var x) fine = suits_kept is_number _ 0 (fine 0)
+    control_form (Field f) fine = field_kept false may.fields _ 0 (fine 0)
+    control_form (StrideOf x k) fine = refl
+    control_form (Neg a) fine = refl
+    control_form (Add a b) fine = refl
+    control_form (Sub a b) fine = refl
+    control_form (Mul a b) fine = refl
+    control_form (Div a n) fine = refl
+    control_form (Mod a n) fine = refl
+
+    control_in : (q : Bool) (n : ℕ) (e : Tree) → may_be_control fields there e ≡ true → ((m : ℕ) → control_faults fields may there m e ≡ []) → control_faults fields may there n (if q then parens e else e) ≡ []
     control_in true n e form fine = ap (λ t. if t then control_faults fields may there (n + 1) e else wrong_form fields there n (parens e)) form ∙ fine (n + 1)
     control_in false n e form fine = fine n
 
@@ -166,7 +195,7 @@ module _ (w : Words) (fields : List ConfigField) (r : Renaming) (scope : Scope) 
     variables_of (Mod a (negsuc n)) = ap (λ t. t || false) (variables_by _ (of_control a) ∙ variables_of a) ∙ or_false _
 
     part_fine : (place : ℕ) (n : ℕ) (e : Control) → ((m : ℕ) → control_faults fields may there m (of_control e) ≡ []) → control_faults fields may there n (placed place (precedence_of e) (of_control e)) ≡ []
-    part_fine place n e fine = control_in (nat_lt (precedence_of e) place) n (of_control e) (control_form e) fine
+    part_fine place n e fine = control_in (nat_lt (precedence_of e) place) n (of_control e) (control_form e fine) fine
 
     pub control_fine : (e : Control) → is_control (field_kind fields) may scope e ≡ true → (n : ℕ) → control_faults fields may there n (of_control e) ≡ []
     control_fine (Lit (pos k)) h n = refl

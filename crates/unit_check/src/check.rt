@@ -17,13 +17,13 @@ ghost use Rattle.unit_check.specs.Checked.{NotShown, NotListed, first_open, caus
 ghost use Rattle.unit_check.specs.Outcomes.{IsChecked, Answers, IsOf};
 ghost use Rattle.unit_check.specs.Faults.{NothingFaults};
 
+use crate::laws::shown_procedures_do_not_fault;
 use crate::refused::{UnitRefused, Why};
 use affine_prover::Verdict;
 use affine_systems::Obligation;
 use bounds_check::{CheckError, obligations_with_writes};
 use config_state::{FieldTable, written_table};
 use exo_tree::{Path, ProcId, Text, Unit};
-use crate::laws::shown_procedures_do_not_fault;
 use ob_check::{Answer, Cache, Gate, discharge};
 use std::alloc::{AllocError, Global};
 use std::thread::Threads;

@@ -1,13 +1,11 @@
-use Rattle.std.proofs.Common.{◌≡◌, ◌∙◌, ◌+◌, ap, ap₂, map, length, take, drop, string_bytes, arith}
+use Rattle.std.proofs.Common.{◌∙◌, ◌+◌, ap, ap₂, map, length, take, drop, arith}
 use Rattle.std.proofs.lemmas.List.{drop_all, take_all}
 use Rattle.exo_tree.specs.Tree.{block}
-use Rattle.exo_tree.specs.PlainControl.{control}
 use Rattle.exo_tree.specs.PlainStatement.{statement}
 use Rattle.exo_tree.specs.PlainUnit.{program}
-use Rattle.exo_meaning.specs.Scene.{updated}
-use Rattle.c_tree.specs.CTree.{Loop, cblock, followed_by}
-use Rattle.c_printer.specs.Lowered.{NumberForm, number_of, block_of}
-use Rattle.c_tree.specs.Plain.{plain_number, plain_statement}
+use Rattle.c_tree.specs.CTree.{cblock, followed_by}
+use Rattle.c_printer.specs.Lowered.{block_of}
+use Rattle.c_tree.specs.Plain.{plain_statement}
 use Rattle.c_printer.specs.Scope.{forms_in}
 use Rattle.c_printer.specs.Naming.{naming_of}
 use Rattle.c_printer.specs.Heads.{scope_after, frees}
@@ -15,15 +13,9 @@ use Rattle.c_printer.proofs.Frames.{followed_by_stop, still_alone, next_made, al
 use Rattle.c_printer.proofs.Scopes.{still_kept}
 use Rattle.c_printer.proofs.blocks.+lower.Goals as goal
 
-pub lower_loop-returns-clause-value : goal.lower_loop-returns-clause-value
-lower_loop-returns-clause-value t c =
-    let naming = naming_of c.args.names.now in
-    let forms = forms_in c.args.scope.now.items in
-    let counter : string_bytes c.in_ok-counter.counter ≡ naming.binder c.args.i.now.id.0 = c.in_ok-counter.ensures in
-    let low : plain_number c.in_ok-low.low ≡ number_of naming forms (control c.args.lo.now) = c.in_ok-low.ensures ∙ ap (λ es. number_of naming (forms_in es) (control c.args.lo.now)) c.deref.ensures.value in
-    let high : plain_number c.in_ok-high.high ≡ number_of naming forms (control c.args.hi.now) = c.in_ok-high.ensures ∙ ap (λ es. number_of naming (forms_in es) (control c.args.hi.now)) c.deref-2.ensures.value in
-    let body : cblock c.in_ok-body.body ≡ block_of naming (updated forms c.args.i.now.id.0 NumberForm) (block c.args.body.now) = c.in_ok-body.ensures.value ∙ ap (λ f. block_of naming f (block c.args.body.now)) c.in_ok-enter.ensures.forms in
-    λ j. Loop (counter j) (low j) (high j) (body j)
+pub lower_body-returns-clause-value : goal.lower_body-returns-clause-value
+lower_body-returns-clause-value t c =
+    c.in_ok-body.ensures.value ∙ ap (λ f. block_of (naming_of c.args.names.now) f (block c.args.body.now)) c.in_ok-enter.ensures.forms
 
 pub lower_block-loop-k-init : goal.lower_block-loop-k-init
 lower_block-loop-k-init t c =

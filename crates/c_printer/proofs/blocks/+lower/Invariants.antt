@@ -12,16 +12,19 @@ use Rattle.c_printer.specs.SelfContained.{is_alone_block}
 use Rattle.c_printer.proofs.blocks.+lower.Given as goal
 
 abbrev pub decreases-lower_branch : goal.decreases-lower_branch
-decreases-lower_branch l = 3 * (nodes_of l.a.now + nodes_of l.b.now) + 2
+decreases-lower_branch l = 4 * (nodes_of l.a.now + nodes_of l.b.now) + 2
 
 abbrev pub decreases-lower_loop : goal.decreases-lower_loop
-decreases-lower_loop l = 3 * nodes_of l.body.now + 2
+decreases-lower_loop l = 4 * nodes_of l.body.now + 3
+
+abbrev pub decreases-lower_body : goal.decreases-lower_body
+decreases-lower_body l = 4 * nodes_of l.body.now + 2
 
 abbrev pub decreases-lower_statement : goal.decreases-lower_statement
-decreases-lower_statement l = 3 * nodes (statement l.s.now)
+decreases-lower_statement l = 4 * nodes (statement l.s.now)
 
 abbrev pub decreases-lower_block : goal.decreases-lower_block
-decreases-lower_block l = 3 * nodes_of l.b.now + 1
+decreases-lower_block l = 4 * nodes_of l.b.now + 1
 
 abbrev pub invariant-lower_block-loop-k : goal.invariant-lower_block-loop-k
 invariant-lower_block-loop-k l = record {

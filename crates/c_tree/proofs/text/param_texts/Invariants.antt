@@ -1,5 +1,5 @@
 -- The texts of the parameters so far.
-use Rattle.std.proofs.Common.{◌≡◌, ◌++◌, take, map, string_bytes}
+use Rattle.std.proofs.Common.{◌≡◌, take, map, string_bytes}
 use Rattle.c_tree.specs.CText.{formal_text}
 use Rattle.c_tree.specs.Plain.{plain_param}
 use Rattle.c_tree.proofs.text.param_texts.Given as goal

@@ -1,7 +1,7 @@
 -- What is written and what is left make the whole.
 use Rattle.std.proofs.Common.{◌≡◌, [], ◌++◌, drop, map, string_bytes}
-use Rattle.c_tree.specs.CText.{each, margin, report_text, include_text, field_text, function_text}
-use Rattle.c_tree.specs.Plain.{plain_line, plain_function}
+use Rattle.c_tree.specs.CText.{each, margin, function_text}
+use Rattle.c_tree.specs.Plain.{plain_function}
 use Rattle.c_tree.proofs.text.put_functions.Given as goal
 
 abbrev pub invariant-loop-f : goal.invariant-loop-f

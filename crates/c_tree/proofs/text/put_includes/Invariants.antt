@@ -1,7 +1,6 @@
 -- What is written and what is left make the whole.
-use Rattle.std.proofs.Common.{◌≡◌, [], ◌++◌, drop, map, string_bytes}
-use Rattle.c_tree.specs.CText.{each, margin, report_text, include_text, field_text, function_text}
-use Rattle.c_tree.specs.Plain.{plain_line, plain_function}
+use Rattle.std.proofs.Common.{◌≡◌, ◌++◌, drop, map, string_bytes}
+use Rattle.c_tree.specs.CText.{each, include_text}
 use Rattle.c_tree.proofs.text.put_includes.Given as goal
 
 abbrev pub invariant-loop-header : goal.invariant-loop-header

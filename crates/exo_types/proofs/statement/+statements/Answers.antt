@@ -1,6 +1,7 @@
 use Rattle.std.proofs.Common.{◌≡◌, ◌+◌, ◌-◌, [], ◌∷◌, ◌++◌, IfOk, refl, vec_len, length, map, take, drop, ap, sym, subst, ◌∙◌, arith}
 use Rattle.std.proofs.lemmas.List.{drop_all}
 use Rattle.exo_tree.specs.Tree as tree
+use Rattle.exo_tree.specs.PlainControl.{control, condition}
 use Rattle.exo_tree.specs.PlainStatement.{statement}
 use Rattle.text_expressions.specs.Views.{tree_of}
 use Rattle.exo_reader.specs.Source.{block_of}
@@ -88,7 +89,7 @@ branch_of-returns-in_err-else_part-clause-made t c =
 
 pub branch_of-returns-clause-made : goal.branch_of-returns-clause-made
 branch_of-returns-clause-made t c =
-    branched c.args.context.now c.args.walk.now c.block_of.new.walk c.else_of.new.walk c.args.n (c.test_condition-tested.result.end + 3) (c.in_ok-then_part.end + 1 + 4) (tree_of c.args.c.now) _ _ _ _ _ (kept_none _ _ c.test_condition-tested.ensures.charge c.in_ok-keep.ensures) c.in_ok-condition.ensures (ap (λ x. x + 3) c.test_condition-tested.ensures.end) c.in_ok-then_part.ensures.made (omega (arith, c.in_ok-then_part.ensures.end)) c.in_ok-else_part.ensures.made
+    branched c.args.context.now c.args.walk.now c.block_of.new.walk c.else_of.new.walk c.args.n (c.test_condition-tested.result.end + 3) (c.in_ok-then_part.end + 1 + 4) (tree_of c.args.c.now) _ _ _ _ _ (kept_none _ _ c.test_condition-tested.ensures.charge c.in_ok-keep.ensures) (ap condition c.into_inner.ensures ∙ c.in_ok-condition.ensures) (ap (λ x. x + 3) c.test_condition-tested.ensures.end) c.in_ok-then_part.ensures.made (omega (arith, c.in_ok-then_part.ensures.end)) c.in_ok-else_part.ensures.made
 
 pub else_of-returns-then-is_empty-clause-made : goal.else_of-returns-then-is_empty-clause-made
 else_of-returns-then-is_empty-clause-made t c = no_block c.args.context.now c.args.walk.now _ _ _ c.new.ensures (no_statements plain_statement c.args.b.now (sym c.is_empty.ensures ∙ c.if-is_empty.true))
@@ -120,19 +121,19 @@ loop_of-returns-in_err-keep-clause-made t c = exit _ _ _ _ c.from_residual.ensur
 
 pub loop_of-bind-requires-clause-new : goal.loop_of-bind-requires-clause-new
 loop_of-bind-requires-clause-new t c =
-    ap (named_in c.args.walk.now.scope) c.as_str-2.ensures
+    ap (named_in c.args.walk.now.scope) c.as_str.ensures
     ∙ is_free c.args.walk.now.scope (c.args.n + 1) c.args.i.now _ (kept_none _ _ c.test_loop-bounds_end.ensures.charge c.in_ok-keep.ensures)
 
 pub loop_of-block_of-requires : goal.loop_of-block_of-requires
 loop_of-block_of-requires t c =
-    let scope = c.in_ok-id.ensures.scope ∙ ap (inside c.args.context.now c.args.walk.now) c.as_str-2.ensures in
+    let scope = c.in_ok-id.ensures.scope ∙ ap (inside c.args.context.now c.args.walk.now) c.as_str.ensures in
     let start = ap (λ x. x + 4) c.test_loop-bounds_end.ensures.end in
     (omega arith, room_inside c.args.context.now c.args.walk.now c.bind.new.self c.args.n _ c.args.i.now (tree_of c.args.low.now) (tree_of c.args.high.now) _ c.requires scope c.in_ok-id.ensures.next start)
 
 pub loop_of-returns-in_err-inside-clause-made : goal.loop_of-returns-in_err-inside-clause-made
 loop_of-returns-in_err-inside-clause-made t c =
     let own = kept_none _ _ c.test_loop-bounds_end.ensures.charge c.in_ok-keep.ensures in
-    let scope = c.in_ok-id.ensures.scope ∙ ap (inside c.args.context.now c.args.walk.now) c.as_str-2.ensures in
+    let scope = c.in_ok-id.ensures.scope ∙ ap (inside c.args.context.now c.args.walk.now) c.as_str.ensures in
     let start = ap (λ x. x + 4) c.test_loop-bounds_end.ensures.end in
     exit _ _ _ _ c.from_residual-in_err-inside.ensures.1
     (inside_refused c.args.context.now c.args.walk.now c.bind.new.self c.args.n _ c.args.i.now (tree_of c.args.low.now) (tree_of c.args.high.now) (block_of (map plain_statement c.args.a.now)) _ own scope c.in_ok-id.ensures.next c.in_ok-id.ensures.aliases start c.in_err-inside.ensures.made)
@@ -140,12 +141,13 @@ loop_of-returns-in_err-inside-clause-made t c =
 pub loop_of-returns-clause-made : goal.loop_of-returns-clause-made
 loop_of-returns-clause-made t c =
     let own = kept_none _ _ c.test_loop-bounds_end.ensures.charge c.in_ok-keep.ensures in
-    let scope = c.in_ok-id.ensures.scope ∙ ap (inside c.args.context.now c.args.walk.now) c.as_str-2.ensures in
+    let scope = c.in_ok-id.ensures.scope ∙ ap (inside c.args.context.now c.args.walk.now) c.as_str.ensures in
     let start = ap (λ x. x + 4) c.test_loop-bounds_end.ensures.end in
-    let name = c.in_ok-name.ensures ∙ c.as_str.ensures in
+    let head = c.into_inner-name.ensures in
+    let name = ap (λ h. h.name) head ∙ c.in_ok-head.ensures.name in
     let made = c.in_ok-inside.ensures.made in
     looped c.args.context.now c.args.walk.now c.bind.new.self c.block_of.new.walk _ c.args.n _ c.args.i.now (tree_of c.args.low.now) (tree_of c.args.high.now) _ _ _ _ _ own scope c.in_ok-id.ensures.next c.in_ok-id.ensures.aliases c.in_ok-id.ensures.lines start made
-    (λ j. binder (c.in_ok-id.ensures.id j) (name j)) c.in_ok-from.ensures c.in_ok-to.ensures
+    (λ j. binder (c.in_ok-id.ensures.id j) (name j)) (ap (λ h. control h.from) head ∙ c.in_ok-head.ensures.from) (ap (λ h. control h.to) head ∙ c.in_ok-head.ensures.to)
     (c.truncate.ensures ∙ ap (λ k. drop (length c.block_of.new.walk.scope - k) c.block_of.new.walk.scope) c.len-known.ensures ∙ taken_out c.args.walk.now.scope c.block_of.new.walk.scope (over_one _ _ _ (made.scope ∙ scope)))
     refl refl refl
 

@@ -1,8 +1,8 @@
-use Rattle.std.proofs.Common.{◌≡◌, ap, sym, ◌∙◌, ◌&&◌}
+use Rattle.std.proofs.Common.{ap, sym, ◌∙◌, ◌&&◌}
 use Rattle.text_expressions.specs.Views.{tree_of}
-use Rattle.rules_names.specs.Arguments.{is_count, sides_form, is_control_form, condition_sides, is_condition_form, knows_fields}
-use Rattle.rules_names.proofs.Seen.{seen_negative, seen_parens, sides}
-use Rattle.rules_names.proofs.Trees.{two, three}
+use Rattle.rules_names.specs.Arguments.{is_control_form, condition_sides, is_condition_form}
+use Rattle.rules_names.proofs.Seen.{seen_parens, sides}
+use Rattle.rules_names.proofs.Trees.{two}
 use Rattle.rules_names.proofs.argument.+is_condition_form.Goals as goal
 
 pub returns-in-Parens : goal.returns-in-Parens

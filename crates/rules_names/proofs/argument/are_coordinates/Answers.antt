@@ -1,7 +1,7 @@
 use Rattle.std.proofs.Common.{◌≡◌, ap, sym, ◌∙◌, ◌+◌, ◌&&◌, map, drop, true, false}
 use Rattle.std.specs.List.{list_all}
 use Rattle.exo_reader.specs.Views.{plain_coordinate}
-use Rattle.rules_names.specs.Arguments.{is_coordinate_form, knows_coordinate}
+use Rattle.rules_names.specs.Arguments.{is_coordinate_form}
 use Rattle.rules_names.proofs.Rests.{rest_of, empty_rest}
 use Rattle.rules_names.proofs.argument.are_coordinates.Goals as goal
 

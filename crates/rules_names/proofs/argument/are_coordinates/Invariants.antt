@@ -1,7 +1,7 @@
 use Rattle.std.proofs.Common.{◌≡◌, map, drop}
 use Rattle.std.specs.List.{list_all}
 use Rattle.exo_reader.specs.Views.{plain_coordinate}
-use Rattle.rules_names.specs.Arguments.{is_coordinate_form, knows_coordinate}
+use Rattle.rules_names.specs.Arguments.{is_coordinate_form}
 use Rattle.rules_names.proofs.argument.are_coordinates.Given as goal
 
 abbrev pub invariant-loop-c : goal.invariant-loop-c

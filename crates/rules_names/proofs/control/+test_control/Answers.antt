@@ -1,5 +1,5 @@
-use Rattle.std.proofs.Common.{◌≡◌, ◌+◌, sym, ap, refl, ◌∙◌, arith, map}
-use Rattle.text_expressions.specs.Expression.{negative, parens, binary}
+use Rattle.std.proofs.Common.{sym, ap, ◌∙◌, arith}
+use Rattle.text_expressions.specs.Expression.{negative, parens}
 use Rattle.text_expressions.specs.Views.{tree_of}
 use Rattle.text_lexer.specs.declared.token.Literal.TheVariants.{Value}
 use Rattle.rules_names.specs.Faults.{fault}
@@ -7,7 +7,7 @@ use Rattle.rules_names.specs.declared.error.TypeKind.TheVariants.{KindMismatch}
 use Rattle.rules_names.specs.Tests.{reads}
 use Rattle.rules_names.specs.ExpressionRules.{is_divisor, unknown_first, control_faults, may_be_control}
 use Rattle.rules_names.proofs.Seen.{seen_int, seen_negative, seen_parens, sides}
-use Rattle.rules_names.proofs.Wide.{wide, wide_int, wide_name, wide_field, wide_stride, wide_negative, wide_parens, wide_binary}
+use Rattle.rules_names.proofs.Wide.{wide, wide_name, wide_field, wide_stride, wide_negative, wide_parens, wide_binary}
 use Rattle.rules_names.proofs.Widths.{width_number}
 use Rattle.rules_names.proofs.Told.{tells_as, varies_as, varies_parens, varies_wrong, told_negative, told_parens}
 use Rattle.rules_names.proofs.Controls.{told_arithmetic}
@@ -48,18 +48,18 @@ test_control-r-requires t c =
 
 pub returns-in-Int-clause-tells : goal.returns-in-Int-clause-tells
 returns-in-Int-clause-tells t c =
-    tells_as (control_faults c.args.names.now.fields.now (reads c.args.may) c.args.names.now.scope.now c.args.n) may_be_control _ _ _ _ (ap tree_of c.in-Int.is ∙ seen_int _)
+    tells_as (control_faults c.args.names.now.fields.now (reads c.args.may) c.args.names.now.scope.now c.args.n) (may_be_control c.args.names.now.fields.now c.args.names.now.scope.now) _ _ _ _ (ap tree_of c.in-Int.is ∙ seen_int _)
     (record { charge = c.fitting.ensures.charge ∙ c.none.ensures; end = let e = c.fitting.ensures.end in let w = width_number (Value c.in-Int.field-0) in omega arith; form = c.fitting.ensures.form })
 
 pub returns-in-Negative-clause-tells : goal.returns-in-Negative-clause-tells
 returns-in-Negative-clause-tells t c =
-    tells_as (control_faults c.args.names.now.fields.now (reads c.args.may) c.args.names.now.scope.now c.args.n) may_be_control _ _ _ _
+    tells_as (control_faults c.args.names.now.fields.now (reads c.args.may) c.args.names.now.scope.now c.args.n) (may_be_control c.args.names.now.fields.now c.args.names.now.scope.now) _ _ _ _
     (ap tree_of c.in-Negative.is ∙ seen_negative _ ∙ ap (λ e. negative (tree_of e)) (sym c.deref.ensures))
     (told_negative _ _ _ _ _ _ c.negated.ensures.charge c.negated.ensures.end c.negated.ensures.form c.test_control.ensures.tells)
 
 pub returns-in-Parens-clause-tells : goal.returns-in-Parens-clause-tells
 returns-in-Parens-clause-tells t c =
-    tells_as (control_faults c.args.names.now.fields.now (reads c.args.may) c.args.names.now.scope.now c.args.n) may_be_control _ _ _ _
+    tells_as (control_faults c.args.names.now.fields.now (reads c.args.may) c.args.names.now.scope.now c.args.n) (may_be_control c.args.names.now.fields.now c.args.names.now.scope.now) _ _ _ _
     (ap tree_of c.in-Parens.is ∙ seen_parens _ ∙ ap (λ e. parens (tree_of e)) (sym c.deref-in-Parens.ensures))
     (told_parens _ _ _ (fault KindMismatch c.args.n) _ _ _ c.enclosed.ensures.charge c.enclosed.ensures.end c.enclosed.ensures.form c.test_control-in-Parens.ensures.tells)
 
@@ -70,7 +70,7 @@ returns-in-Binary-clause-tells t c =
     let r = c.test_control-r.ensures.tells in
     let d = c.is_divisor.ensures ∙ ap (λ e. is_divisor (tree_of e)) (c.deref-in-Binary-3.ensures ∙ sym c.deref-in-Binary-2.ensures) in
     let j = c.joined.ensures.joined _ _ (tree_of c.deref-in-Binary.result.now) (tree_of c.deref-in-Binary-2.result.now) l.charge r.charge c.test_control-l.ensures.variables c.test_control-r.ensures.variables d in
-    tells_as (control_faults c.args.names.now.fields.now (reads c.args.may) c.args.names.now.scope.now c.args.n) may_be_control _ _ _ _
+    tells_as (control_faults c.args.names.now.fields.now (reads c.args.may) c.args.names.now.scope.now c.args.n) (may_be_control c.args.names.now.fields.now c.args.names.now.scope.now) _ _ _ _
     (sides _ _ _ _ _ _ c.in-Binary.is c.deref-in-Binary.ensures c.deref-in-Binary-2.ensures)
     (told_arithmetic _ _ _ _ c.test_control-l.result c.test_control-r.result _ _ _ c.in-Binary.operator _ _ (sym c.is_arithmetic.ensures ∙ c.if-is_arithmetic.true) j.charge c.joined.ensures.end c.joined.ensures.form l r)
 

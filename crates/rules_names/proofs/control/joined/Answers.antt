@@ -1,6 +1,6 @@
-use Rattle.std.proofs.Common.{◌≡◌, sym, ap, ◌∙◌, ◌++◌, ◌&&◌, ◌||◌}
-use Rattle.rules_names.specs.Faults.{charged, parts_then_whole}
-use Rattle.rules_names.specs.ExpressionRules.{has_variables, is_divisor, affine_faults}
+use Rattle.std.proofs.Common.{ap, ◌∙◌, ◌++◌, ◌||◌}
+use Rattle.rules_names.specs.Faults.{charged}
+use Rattle.rules_names.specs.ExpressionRules.{has_variables, affine_faults}
 use Rattle.rules_names.proofs.Told.{joined_charge, joined_varies, shows_parts}
 use Rattle.rules_names.proofs.control.joined.Goals as goal
 

@@ -1,4 +1,4 @@
-use Rattle.std.proofs.Common.{◌≡◌, ◌+◌, ◌++◌, sym, ap, ◌∙◌, arith}
+use Rattle.std.proofs.Common.{◌+◌, ◌++◌, sym, ap, ◌∙◌, arith}
 use Rattle.text_lexer.specs.declared.token.Literal.TheVariants.{Value}
 use Rattle.rules_names.specs.declared.error.TypeKind.TheVariants.{StridePlace}
 use Rattle.rules_names.specs.Faults.{charged, unless, parts_then_whole}

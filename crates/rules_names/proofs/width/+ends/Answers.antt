@@ -1,4 +1,4 @@
-use Rattle.std.proofs.Common.{◌≡◌, ap, sym, ◌∙◌, arith, map}
+use Rattle.std.proofs.Common.{ap, sym, ◌∙◌, arith, map}
 use Rattle.text_expressions.specs.Views.{tree_of}
 use Rattle.rules_names.specs.ExpressionRules.{closed_width}
 use Rattle.rules_names.proofs.Rests.{rest_width, closed_some, closed_none, rest_none}

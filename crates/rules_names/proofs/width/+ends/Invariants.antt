@@ -1,6 +1,5 @@
 use Rattle.std.proofs.Common.{◌≡◌, ◌+◌, ◌≤◌, map, drop}
 use Rattle.text_expressions.specs.Views.{tree_of}
-use Rattle.rules_names.specs.Tests.{most_tokens}
 use Rattle.rules_names.specs.ExpressionRules.{width, commas_width, closed_width}
 use Rattle.rules_names.proofs.width.+ends.Given as goal
 

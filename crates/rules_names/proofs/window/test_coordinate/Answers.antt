@@ -1,9 +1,9 @@
-use Rattle.std.proofs.Common.{◌≡◌, ◌+◌, ◌++◌, suc, sym, ap, ◌∙◌, arith}
+use Rattle.std.proofs.Common.{◌++◌, sym, ap, ◌∙◌, arith}
 use Rattle.exo_meaning.specs.Units.{plainly}
 use Rattle.text_expressions.specs.Views.{tree_of}
 use Rattle.exo_reader.specs.Views.{plain_coordinate}
 use Rattle.rules_names.specs.Faults.{charged}
-use Rattle.rules_names.specs.ExpressionRules.{width, control_faults}
+use Rattle.rules_names.specs.ExpressionRules.{control_faults}
 use Rattle.rules_names.specs.WindowRules.{coordinate_width, coordinate_faults}
 use Rattle.rules_names.proofs.Told.{behind}
 use Rattle.rules_names.proofs.window.test_coordinate.Goals as goal

@@ -1,7 +1,7 @@
-use Rattle.std.proofs.Common.{◌≡◌, ◌+◌, ◌++◌, suc, sym, ap, refl, ◌∙◌, arith, map, drop}
+use Rattle.std.proofs.Common.{◌+◌, ◌++◌, sym, ap, refl, ◌∙◌, arith, map, drop}
 use Rattle.exo_reader.specs.Views.{plain_coordinate}
 use Rattle.rules_names.specs.Faults.{charged}
-use Rattle.rules_names.specs.WindowRules.{coordinate_width, coordinates_width, coordinate_faults, coordinates_faults}
+use Rattle.rules_names.specs.WindowRules.{coordinates_width, coordinate_faults, coordinates_faults}
 use Rattle.rules_names.proofs.Rests.{rest_of, empty_rest}
 use Rattle.rules_names.proofs.Controls.{gone_first, gone_next, gone_all}
 use Rattle.rules_names.proofs.window.test_coordinates.Goals as goal

@@ -1,4 +1,4 @@
-use Rattle.std.proofs.Common.{◌≡◌, ap, sym, ◌∙◌}
+use Rattle.std.proofs.Common.{ap, sym, ◌∙◌}
 use Rattle.rules_names.specs.Faults.{charged}
 use Rattle.rules_names.proofs.Charges.{hides_of, whole_hidden, whole_shown}
 use Rattle.rules_names.proofs.fault.Charge.then_whole.Goals as goal

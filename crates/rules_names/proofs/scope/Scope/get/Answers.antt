@@ -1,4 +1,4 @@
-use Rattle.std.proofs.Common.{◌≡◌, sym, ap, ◌∙◌, option_map}
+use Rattle.std.proofs.Common.{sym, ap, ◌∙◌, option_map}
 use Rattle.rules_names.specs.Names.{named_in}
 use Rattle.rules_names.specs.Tables.{named}
 use Rattle.rules_names.proofs.Scopes.{found_in}

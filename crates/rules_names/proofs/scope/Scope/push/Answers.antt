@@ -1,4 +1,4 @@
-use Rattle.std.proofs.Common.{◌≡◌, sym, ap, ◌∙◌, ◌∷◌}
+use Rattle.std.proofs.Common.{ap, ◌∙◌, ◌∷◌}
 use Rattle.indexmap.proofs.CallerLemmas.{insert_entry-new}
 use Rattle.std.specs.Str.{bytes_eq}
 use Rattle.rules_names.specs.Names.{named_in}

@@ -1,4 +1,4 @@
-use Rattle.std.proofs.Common.{◌≡◌, sym, ap, ◌∙◌, ◌-◌, drop, length}
+use Rattle.std.proofs.Common.{ap, ◌∙◌, ◌-◌, drop, length}
 use Rattle.rules_names.proofs.Scopes.{seen, seen_take}
 use Rattle.rules_names.proofs.scope.Scope.truncate.Goals as goal
 

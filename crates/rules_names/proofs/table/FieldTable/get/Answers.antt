@@ -1,6 +1,5 @@
-use Rattle.std.proofs.Common.{◌≡◌, ℕ, sym, ap, ◌∙◌, Option, Some, None, option_map, position, Bor}
+use Rattle.std.proofs.Common.{sym, ap, ◌∙◌, Some, option_map, position}
 use Rattle.std.specs.Map.{lookup, keys_of}
-use Rattle.exo_tree.specs.declared.number.Kind.{Kind}
 use Rattle.rules_names.specs.Names.{field_in}
 use Rattle.rules_names.specs.Tables.{found_field}
 use Rattle.rules_names.proofs.Tables.{field_found, placed, is_field}

@@ -1,4 +1,4 @@
-use Rattle.std.proofs.Common.{◌≡◌, sym, ap, ◌∙◌}
+use Rattle.std.proofs.Common.{sym, ap, ◌∙◌}
 use Rattle.rules_names.specs.Names.{name_number}
 use Rattle.rules_names.proofs.Tables.{name_found}
 use Rattle.rules_names.proofs.table.NameTable.get.Goals as goal

@@ -1,4 +1,4 @@
-use Rattle.std.proofs.Common.{◌≡◌, sym, ap, ◌∙◌, map, ◌++◌, [], ◌∷◌, if◌then◌else◌}
+use Rattle.std.proofs.Common.{ap, ◌∙◌, map, ◌++◌, [], ◌∷◌, if◌then◌else◌}
 use Rattle.std.proofs.lemmas.List.{map-append}
 use Rattle.rules_names.specs.Names.{name_number}
 use Rattle.rules_names.proofs.Tables.{no_name}

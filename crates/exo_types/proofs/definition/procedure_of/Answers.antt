@@ -12,34 +12,34 @@ use Rattle.exo_types.specs.Definitions.{AreParams, AreAsserts}
 use Rattle.exo_types.specs.Refusals.{Refuses}
 use Rattle.exo_types.proofs.Broken.{exit}
 use Rattle.exo_types.proofs.Defining.{IsFirst, behind, room_behind, refused_body, defined}
-use Rattle.exo_types.proofs.definition.definition_of.Goals as goal
+use Rattle.exo_types.proofs.definition.procedure_of.Goals as goal
 
 pub block_of-requires : goal.block_of-requires
 block_of-requires c =
     let context = c.args.context.now in
-    let id = c.args.first_id in
+    let id = c.args.walk.now.next_id in
     let n = c.args.n in
     let d = plain_definition c.args.definition.now in
     let walk = c.params_of.new.walk in
-    let first : IsFirst context c.first_walk-walk.result id = record { scope = c.first_walk-walk.ensures.scope; aliases = c.first_walk-walk.ensures.aliases; ids = c.first_walk-walk.ensures.ids; lines = c.first_walk-walk.ensures.lines } in
-    let made = subst (λ (l : List SourceParam). AreParams context c.first_walk-walk.result walk c.in_ok-params.params (n + 3) (map plain_parameter l)) c.deref.ensures.value c.in_ok-params.ensures.made in
-    let b = behind context c.first_walk-walk.result walk c.in_ok-params.params id n d first made in
+    let first : IsFirst context c.args.walk.now id = record { scope = c.requires.scope; aliases = c.requires.aliases; ids = refl; lines = c.requires.lines } in
+    let made = subst (λ (l : List SourceParam). AreParams context c.args.walk.now walk c.in_ok-params.params (n + 3) (map plain_parameter l)) c.deref.ensures.value c.in_ok-params.ensures.made in
+    let b = behind context c.args.walk.now walk c.in_ok-params.params id n d first made in
     let closed : c.in_ok-params.closed ≡ n + 3 + params_width d.params = c.in_ok-params.ensures.end ∙ ap (λ l. n + 3 + params_width (map plain_parameter l)) c.deref.ensures.value in
     let start : c.in_ok-params.closed + c.comma_width.result + 3 ≡ asserts_start n d = λ i. closed i + c.comma_width.ensures i + 3 in
     let asserts = subst (λ (l : List SourceExpr). AreAsserts context walk.scope (c.in_ok-params.closed + c.comma_width.result + 3) c.in_ok-asserts.asserts (map tree_of l)) c.deref-2.ensures.value c.in_ok-asserts.ensures.made in
     let middle : c.in_ok-asserts.middle ≡ body_start n d = c.in_ok-asserts.ensures.end ∙ (λ i. start i + asserts_width (map tree_of (c.deref-2.ensures.value i))) in
-    subst (λ (l : List SourceStmt). HasRoom context walk c.in_ok-asserts.middle (block_width (block_of (map plain_statement l)))) (sym c.deref-3.ensures.value) (room_behind context walk c.in_ok-params.params id n c.in_ok-asserts.middle d c.requires b middle)
+    subst (λ (l : List SourceStmt). HasRoom context walk c.in_ok-asserts.middle (block_width (block_of (map plain_statement l)))) (sym c.deref-3.ensures.value) (room_behind context walk c.in_ok-params.params id n c.in_ok-asserts.middle d c.requires.space b middle)
 
 pub returns-in_err-body : goal.returns-in_err-body
 returns-in_err-body c =
     let context = c.args.context.now in
-    let id = c.args.first_id in
+    let id = c.args.walk.now.next_id in
     let n = c.args.n in
     let d = plain_definition c.args.definition.now in
     let walk = c.params_of.new.walk in
-    let first : IsFirst context c.first_walk-walk.result id = record { scope = c.first_walk-walk.ensures.scope; aliases = c.first_walk-walk.ensures.aliases; ids = c.first_walk-walk.ensures.ids; lines = c.first_walk-walk.ensures.lines } in
-    let made = subst (λ (l : List SourceParam). AreParams context c.first_walk-walk.result walk c.in_ok-params.params (n + 3) (map plain_parameter l)) c.deref.ensures.value c.in_ok-params.ensures.made in
-    let b = behind context c.first_walk-walk.result walk c.in_ok-params.params id n d first made in
+    let first : IsFirst context c.args.walk.now id = record { scope = c.requires.scope; aliases = c.requires.aliases; ids = refl; lines = c.requires.lines } in
+    let made = subst (λ (l : List SourceParam). AreParams context c.args.walk.now walk c.in_ok-params.params (n + 3) (map plain_parameter l)) c.deref.ensures.value c.in_ok-params.ensures.made in
+    let b = behind context c.args.walk.now walk c.in_ok-params.params id n d first made in
     let closed : c.in_ok-params.closed ≡ n + 3 + params_width d.params = c.in_ok-params.ensures.end ∙ ap (λ l. n + 3 + params_width (map plain_parameter l)) c.deref.ensures.value in
     let start : c.in_ok-params.closed + c.comma_width.result + 3 ≡ asserts_start n d = λ i. closed i + c.comma_width.ensures i + 3 in
     let asserts = subst (λ (l : List SourceExpr). AreAsserts context walk.scope (c.in_ok-params.closed + c.comma_width.result + 3) c.in_ok-asserts.asserts (map tree_of l)) c.deref-2.ensures.value c.in_ok-asserts.ensures.made in
@@ -50,13 +50,13 @@ returns-in_err-body c =
 pub returns : goal.returns
 returns c =
     let context = c.args.context.now in
-    let id = c.args.first_id in
+    let id = c.args.walk.now.next_id in
     let n = c.args.n in
     let d = plain_definition c.args.definition.now in
     let walk = c.params_of.new.walk in
-    let first : IsFirst context c.first_walk-walk.result id = record { scope = c.first_walk-walk.ensures.scope; aliases = c.first_walk-walk.ensures.aliases; ids = c.first_walk-walk.ensures.ids; lines = c.first_walk-walk.ensures.lines } in
-    let made = subst (λ (l : List SourceParam). AreParams context c.first_walk-walk.result walk c.in_ok-params.params (n + 3) (map plain_parameter l)) c.deref.ensures.value c.in_ok-params.ensures.made in
-    let b = behind context c.first_walk-walk.result walk c.in_ok-params.params id n d first made in
+    let first : IsFirst context c.args.walk.now id = record { scope = c.requires.scope; aliases = c.requires.aliases; ids = refl; lines = c.requires.lines } in
+    let made = subst (λ (l : List SourceParam). AreParams context c.args.walk.now walk c.in_ok-params.params (n + 3) (map plain_parameter l)) c.deref.ensures.value c.in_ok-params.ensures.made in
+    let b = behind context c.args.walk.now walk c.in_ok-params.params id n d first made in
     let closed : c.in_ok-params.closed ≡ n + 3 + params_width d.params = c.in_ok-params.ensures.end ∙ ap (λ l. n + 3 + params_width (map plain_parameter l)) c.deref.ensures.value in
     let start : c.in_ok-params.closed + c.comma_width.result + 3 ≡ asserts_start n d = λ i. closed i + c.comma_width.ensures i + 3 in
     let asserts = subst (λ (l : List SourceExpr). AreAsserts context walk.scope (c.in_ok-params.closed + c.comma_width.result + 3) c.in_ok-asserts.asserts (map tree_of l)) c.deref-2.ensures.value c.in_ok-asserts.ensures.made in

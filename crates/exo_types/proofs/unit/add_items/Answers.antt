@@ -5,7 +5,7 @@ use Rattle.exo_reader.specs.Views.{plain_item}
 use Rattle.exo_types.proofs.Lists.{drop_read}
 use Rattle.exo_types.proofs.Broken.{exit}
 use Rattle.exo_types.proofs.Items.{Below, one_added, item_refused, all_added}
-use Rattle.exo_types.proofs.unit.unit_of.Goals as goal
+use Rattle.exo_types.proofs.unit.add_items.Goals as goal
 
 pub loop-item-preserved : goal.loop-item-preserved
 loop-item-preserved c =
@@ -27,7 +27,7 @@ returns-in_err-next c =
     let more = map plain_item (drop (l.item-index + 1) items) in
     let read = ap (map plain_item) (drop_read items l.item-index c.item-item.result c.item-item.is c.loop-item-test.true) in
     let b = subst (λ (r : List Item). Below places l.typed l.next (map plain_item items) r) read l.invariant in
-    exit _ _ _ _ c.from_residual-in_err-next.ensures.1 (item_refused places l.typed l.next (map plain_item items) i more _ b (c.in_err-next.ensures b.above b.stands))
+    exit _ _ _ _ c.from_residual.ensures.1 (item_refused places l.typed l.next (map plain_item items) i more _ b (c.in_err-next.ensures b.above b.stands))
 
 pub returns : goal.returns
 returns c =
