@@ -73,7 +73,7 @@ fn connected(c: &Cond, left: Box<CTest>, right: Box<CTest>) -> CTest
 }
 
 /// The C of a condition.
-#[cycle(test)]
+#[cycle(lower_test)]
 pub(crate) fn lower_test(
     alloc: Global,
     names: &Names<'_>,
@@ -100,7 +100,7 @@ pub(crate) fn lower_test(
 }
 
 /// The C of a part of a condition.
-#[cycle(test)]
+#[cycle(lower_test)]
 fn boxed_test(
     alloc: Global,
     names: &Names<'_>,
