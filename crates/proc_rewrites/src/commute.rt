@@ -186,8 +186,17 @@ fn with_statement(alloc: Global, b: &Block, k: usize, s: Stmt) -> Result<Block, 
     requires { k < length b.now }
     ensures { IfOk result (λ made. made ≡ take k b.now ++ (statement s ∷ drop (k + 1) b.now)) }
 {
+    let one = Block::single(alloc, s)?;
+    spliced(alloc, b, k, one)
+}
+
+/// A copy of the block with these statements in place of the one at the index.
+fn spliced(alloc: Global, b: &Block, k: usize, middle: Block) -> Result<Block, AllocError>
+    requires { k < length b.now }
+    ensures { IfOk result (λ made. made ≡ take k b.now ++ (middle ++ drop (k + 1) b.now)) }
+{
     let mut made = b.piece(alloc, 0, k)?;
-    made.push(s)?;
+    made.append(middle)?;
     made.append_part(alloc, b, k + 1, b.len())?;
     Ok(made)
 }
