@@ -6,7 +6,7 @@ use Rattle.exo_meaning.specs.Run.{program_world}
 use Rattle.exo_meaning.specs.Units.{IsUnit}
 use Rattle.unit_check.specs.Faults.{NothingFaults}
 use Rattle.exo_meaning.specs.Inputs.{IsValid, run_procedure}
-use Rattle.c_laws.specs.Laws.{AllocatesFew}
+use Rattle.c_widths.specs.Laws.{AllocatesFew}
 use Rattle.c_tree.specs.CTree.{CFunction}
 use Rattle.c_tree.specs.CText.{text_of}
 use Rattle.c_machine.specs.CRun.{CWorld, run_c}
