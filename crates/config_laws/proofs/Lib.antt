@@ -1,0 +1,11 @@
+pub mod Exits
+pub mod AtEnd
+pub mod Holes
+pub mod Bind
+pub mod Derived
+pub mod Called
+pub mod PutBack
+pub mod Proposed
+pub mod RuleExamples
+pub mod Rules
+pub mod LawExamples
