@@ -1,11 +1,8 @@
 -- The fields that are live at the end where some may differ there.
-use Rattle.std.proofs.Common.{◌≡◌, ◌==◌, ◌<◌, ℕ, Bool, true, false, ◌&&◌, ◌||◌, not, cond, List, []}
-use Rattle.std.proofs.Common.{◌∷◌, refl, sym, ap, ◌∙◌, subst, true≢false, eqb-true, arith}
+use Rattle.std.proofs.Common.{◌≡◌, ◌==◌, ◌<◌, ℕ, Bool, true, false, ◌||◌, not, List, []}
+use Rattle.std.proofs.Common.{◌∷◌, refl, sym, ap, ◌∙◌, true≢false, eqb-true, arith}
 use Rattle.std.specs.Prelude.{Contains, if◌then◌else◌, length}
 use Rattle.std.proofs.lemmas.List.Elements.{Contains-append_right}
-use Rattle.exo_tree.specs.Tree.{Block}
-use Rattle.exo_tree.specs.Context.{Context}
-use Rattle.meaning_laws.specs.Live.{live, live_behind}
 use Rattle.live_laws.specs.LiveFits.{LiveAtEnd}
 use Rattle.config_laws.specs.FieldRule.{is_listed, not_again}
 use Rattle.config_laws.specs.Exits.{by_exit}

@@ -1,21 +1,20 @@
 -- An argument that is written into a field before the call.
-use Rattle.std.proofs.Common.{◌≡◌, ◌==◌, ℕ, ℤ, Bool, true, false, cond, ◌&&◌, ◌||◌, List, [], ◌∷◌}
+use Rattle.std.proofs.Common.{◌≡◌, ℕ, ℤ, Bool, true, false, cond, ◌||◌, List, [], ◌∷◌}
 use Rattle.std.proofs.Common.{Option, Some, None, option_map, refl, sym, ap, ap₂, ◌∙◌, subst}
 use Rattle.std.proofs.Common.{true≢false, eq-eqb}
 use Rattle.std.specs.Prelude.{if◌then◌else◌}
 use Rattle.std.specs.Str.{bytes_eq}
 use Rattle.exo_tree.specs.Tree.{Control, Lit, Var, Field, StrideOf, Neg, Add, Sub, Mul, Div, Mod}
 use Rattle.exo_tree.specs.Tree.{Condition, True, False, Flag, FieldFlag, Lt, Le, Gt, Ge, Eq, And, Or}
-use Rattle.exo_tree.specs.Tree.{Argument, ControlArg, ConditionArg, Whole, Window, Param, Call}
-use Rattle.exo_tree.specs.Tree.{Block, end, next, Procedure}
+use Rattle.exo_tree.specs.Tree.{Argument, ControlArg, ConditionArg, Whole, Window, Param}
+use Rattle.exo_tree.specs.Tree.{Procedure}
 use Rattle.exo_tree.specs.Context.{Context}
-use Rattle.exo_meaning.specs.Scene.{Scene, then_do, number, holds, updated, is_set}
+use Rattle.exo_meaning.specs.Scene.{Scene, then_do, number, holds, is_set}
 use Rattle.exo_meaning.specs.State.{State, on_scene, with_field}
-use Rattle.exo_meaning.specs.Calls.{Callee, Given, GivenNumber, given, all_given, truth}
+use Rattle.exo_meaning.specs.Calls.{Callee, GivenNumber, given, all_given, truth}
 use Rattle.exo_meaning.specs.Calls.{entered, returned, run_asserted}
 use Rattle.exo_meaning.specs.Run.{World, run, argument_number, configure, call_to}
 use Rattle.exo_meaning.specs.Run.{unit_world, kinds_of}
-use Rattle.exo_meaning.specs.Refines.{Both}
 use Rattle.meaning_laws.specs.Live.{read_by_control, read_by_condition, live, live_behind, refield}
 use Rattle.meaning_laws.specs.Live.{Agree, SameLive, RefinedLive, CallsForget}
 use Rattle.meaning_laws.specs.UnitFields.{unit_live}
@@ -208,11 +207,11 @@ module _ (world : World) (calls : ℕ → ℕ → Bool → Bool) (forget : Calls
       let w = write_gives world f d.value s p.0 p.1 in
       let t = on_scene (with_field f w.0) s in
       let runs : run world (called k d.args) t ≡ Some b =
-          ap (run world (called k d.args)) w.2 ∙ p.2 in
+      ap (run world (called k d.args)) w.2 ∙ p.2 in
       let same = called_alike (world.callees k) d.args args t
-          (alike f w.0 s.scene name params args d is w.1) in
+      (alike f w.0 s.scene name params args d is w.1) in
       let old : run world (called k args) t ≡ Some b =
-          ap (λ o. then_do o (λ z. Some z)) (sym same) ∙ runs in
+      ap (λ o. then_do o (λ z. Some z)) (sym same) ∙ runs in
       record {
         middle = b;
         live = both_some (SameLive behind) (run world (called k args) s)

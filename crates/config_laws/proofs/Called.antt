@@ -1,24 +1,23 @@
 -- Calls of versions.
 use Rattle.std.proofs.Common.{◌≡◌, ◌==◌, ℕ, zero, suc, Bool, true, false, ◌||◌, List, [], ◌∷◌}
-use Rattle.std.proofs.Common.{◌++◌, Option, Some, None, option_map, refl, sym, ap, ◌∙◌, subst}
+use Rattle.std.proofs.Common.{◌++◌, Option, Some, None, option_map, refl, sym, ap, ◌∙◌}
 use Rattle.std.proofs.Common.{true≢false, eqb-true}
 use Rattle.std.specs.Prelude.{Contains, slice_get}
-use Rattle.exo_tree.specs.Tree.{Kind, Argument, Procedure, Program}
-use Rattle.exo_tree.specs.Context.{Context}
+use Rattle.exo_tree.specs.Tree.{Kind, Procedure, Program}
 use Rattle.exo_meaning.specs.Calls.{Callee}
-use Rattle.exo_meaning.specs.Run.{World, world_of, callee_in, callees, kinds_of, unit_world}
+use Rattle.exo_meaning.specs.Run.{world_of, callee_in, callees, kinds_of, unit_world}
 use Rattle.exo_meaning.specs.Run.{program_world}
 use Rattle.meaning_laws.specs.Live.{live_behind}
 use Rattle.meaning_laws.specs.UnitFields.{unit_live}
-use Rattle.meaning_laws.proofs.Parts.{none_some, some_injective, map_gives}
+use Rattle.meaning_laws.proofs.Parts.{some_injective, map_gives}
 use Rattle.meaning_laws.proofs.UnitFields.{unit_forgets}
-use Rattle.live_laws.specs.CallVersion.{called, MayStandForCallee}
+use Rattle.live_laws.specs.CallVersion.{called}
 use Rattle.live_laws.proofs.CallVersion.{call_version}
 use Rattle.config_laws.specs.Surely.{surely_behind, unit_surely}
 use Rattle.config_laws.specs.Exits.{by_exit}
 use Rattle.config_laws.specs.FieldRule.{not_again}
-use Rattle.config_laws.specs.Differing.{Origin, parent_in, from_parent, descends, is_descendant}
-use Rattle.config_laws.specs.Differing.{differing, AreVersions, DescendantsMayBeCalled}
+use Rattle.config_laws.specs.Differing.{Origin, parent_in, from_parent, descends}
+use Rattle.config_laws.specs.Differing.{AreVersions, DescendantsMayBeCalled}
 use Rattle.config_laws.specs.Holes.{VersionRefines}
 use Rattle.config_laws.proofs.Exits.{holes_go_by_exit, units_go_by_exit}
 use Rattle.config_laws.proofs.AtEnd.{lives_at_end, at_end, not_live}
@@ -68,7 +67,7 @@ callee_of : (kinds : ℕ → Kind) (ps : List Procedure) (k : ℕ) (p : Procedur
     → slice_get ps k ≡ Some p → (c : Callee) × ((unit_world kinds ps).callees k ≡ Some c)
 callee_of kinds ps k p e =
     let m = map_gives ((unit_world kinds ps).callees k) (λ (c : Callee). c.procedure) p
-        (sym (callees_are_procedures kinds ps k) ∙ e) in
+    (sym (callees_are_procedures kinds ps k) ∙ e) in
     (m.0, m.1)
 
 -- ---- descendants
@@ -84,7 +83,7 @@ module _ (unit : Program) (os : List Origin) (versions : AreVersions (program_wo
           → (program_world unit).callees k ≡ Some d → d.writes x ≡ true → c.writes x ≡ true
       itself k d h e w =
           let same : d ≡ c = some_injective d c
-              (sym e ∙ ap (program_world unit).callees (eqb-true k from h) ∙ is) in
+          (sym e ∙ ap (program_world unit).callees (eqb-true k from h) ∙ is) in
           ap (λ (z : Callee). z.writes x) (sym same) ∙ w
   writes_no_more (suc n) k q d h i e w =
       go (k == from) refl (parent_in os k) refl h (λ j. writes_no_more n j)
@@ -97,7 +96,7 @@ module _ (unit : Program) (os : List Origin) (versions : AreVersions (program_wo
           → c.writes x ≡ true
       go true a o b h up =
           let same : d ≡ c = some_injective d c
-              (sym e ∙ ap (program_world unit).callees (eqb-true k from a) ∙ is) in
+          (sym e ∙ ap (program_world unit).callees (eqb-true k from a) ∙ is) in
           ap (λ (z : Callee). z.writes x) (sym same) ∙ w
       go false a None b h up = absurd (true≢false (sym h))
       go false a (Some j) b h up =
@@ -112,7 +111,7 @@ descendants_may_be_called unit os from k c d versions h i j =
     let at_from = procedure_of kinds unit.procedures from c i in
     let at_k = procedure_of kinds unit.procedures k d j in
     let kept = all_keep (program_world unit) unit os versions from c.procedure at_from k
-        d.procedure h at_k in
+    d.procedure h at_k in
     record {
       params = sym kept.head.0;
       asserts = sym kept.head.1;

@@ -4,23 +4,21 @@ use Rattle.std.proofs.Common.{List, [], ◌∷◌, ◌++◌, length, Option, Som
 use Rattle.std.proofs.Common.{◌⊎◌, inl, inr, subst, true≢false, eqb-true, eq-eqb, arith}
 use Rattle.std.specs.Prelude.{Contains, slice_get, slice_index_or, if◌then◌else◌}
 use Rattle.std.proofs.lemmas.List.Elements.{Contains-append_right, Contains-append_cases}
-use Rattle.exo_tree.specs.Tree.{Kind, Procedure, Program}
+use Rattle.exo_tree.specs.Tree.{Procedure, Program}
 use Rattle.exo_meaning.specs.Value.{IsRefinedBy}
 use Rattle.exo_meaning.specs.State.{State}
-use Rattle.exo_meaning.specs.Calls.{Callee}
-use Rattle.exo_meaning.specs.Run.{World, world_of, callee_in, callees, kinds_of, program_world}
+use Rattle.exo_meaning.specs.Run.{World, program_world}
 use Rattle.exo_meaning.specs.Inputs.{Refines}
 use Rattle.exo_meaning.proofs.Windows.{one_value}
 use Rattle.meaning_laws.specs.Chain.{HasHead}
 use Rattle.meaning_laws.proofs.Chain.{chain_law}
-use Rattle.meaning_laws.proofs.Parts.{none_some, some_injective}
+use Rattle.meaning_laws.proofs.Parts.{some_injective}
 use Rattle.meaning_laws.proofs.Refined.{refined_same}
-use Rattle.live_laws.specs.CallVersion.{MayStandForCallee}
 use Rattle.config_laws.specs.FieldSets.{fields_from, fields_where}
 use Rattle.config_laws.specs.FieldRule.{is_listed}
 use Rattle.config_laws.specs.Differing.{Origin, parent_in, step_fields, from_parent, descends}
-use Rattle.config_laws.specs.Differing.{fields_since, is_descendant, differing, IsStep}
-use Rattle.config_laws.specs.Differing.{AreVersions, DescendantsRefine, DescendantsMayBeCalled}
+use Rattle.config_laws.specs.Differing.{fields_since, is_descendant, differing}
+use Rattle.config_laws.specs.Differing.{AreVersions, DescendantsRefine}
 
 -- ---- lists of fields
 
@@ -127,7 +125,7 @@ module _ (world : World) (unit : Program) (os : List Origin) (versions : AreVers
   itself : (k : ℕ) (q : Procedure) → (k == from) ≡ true → slice_get ps k ≡ Some q → Keeps k q []
   itself k q e i =
       let same : p ≡ q = some_injective p q
-          (sym is ∙ ap (slice_get ps) (sym (eqb-true k from e)) ∙ i) in
+      (sym is ∙ ap (slice_get ps) (sym (eqb-true k from e)) ∙ i) in
       subst (λ z. Keeps k z []) same
       (record { head = (refl, refl); refines = refines_itself world p })
 

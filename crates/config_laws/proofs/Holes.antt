@@ -1,17 +1,17 @@
 -- Configuration writes in a hole.
-use Rattle.std.proofs.Common.{◌≡◌, ◌==◌, ℕ, ℤ, Bool, true, false, cond, ◌||◌, List, [], ◌∷◌}
-use Rattle.std.proofs.Common.{Option, Some, None, refl, sym, ap, ◌∙◌, subst, true≢false, eqb-true}
+use Rattle.std.proofs.Common.{◌≡◌, ◌==◌, ℕ, ℤ, Bool, true, false, ◌||◌, List, [], ◌∷◌}
+use Rattle.std.proofs.Common.{Some, refl, sym, ap, ◌∙◌, subst, true≢false, eqb-true}
 use Rattle.std.proofs.Common.{eq-eqb}
-use Rattle.std.specs.Prelude.{if◌then◌else◌, Contains}
-use Rattle.exo_tree.specs.Tree.{Argument, Config, Pass, Call, Block, end, next, Procedure}
-use Rattle.exo_tree.specs.Context.{Context, fill, rest_of}
+use Rattle.std.specs.Prelude.{if◌then◌else◌}
+use Rattle.exo_tree.specs.Tree.{Argument, Pass, Block, end, next, Procedure}
+use Rattle.exo_tree.specs.Context.{Context, rest_of}
 use Rattle.exo_meaning.specs.State.{State, on_scene, with_field}
-use Rattle.exo_meaning.specs.Scene.{Scene, updated}
+use Rattle.exo_meaning.specs.Scene.{updated}
 use Rattle.exo_meaning.specs.Calls.{suits}
 use Rattle.exo_meaning.specs.Run.{World, run, argument_number, configure, unit_world, kinds_of}
 use Rattle.exo_meaning.proofs.Frame.{updated_other}
 use Rattle.exo_meaning.proofs.Nested.{then_some}
-use Rattle.meaning_laws.specs.Live.{live_behind, refield, Agree, SameLive, RefinedLive}
+use Rattle.meaning_laws.specs.Live.{live_behind, refield, Agree, RefinedLive}
 use Rattle.meaning_laws.specs.UnitFields.{unit_live}
 use Rattle.meaning_laws.proofs.Parts.{then_gives, some_injective}
 use Rattle.meaning_laws.proofs.Refined.{state_same}
@@ -33,9 +33,12 @@ pub write_gives : (world : World) (f : ℕ) (e : Argument) (s t : State)
     → configure world f e s ≡ Some t
     → (n : ℤ) × (argument_number s.scene e ≡ Some n) × (on_scene (with_field f n) s ≡ t)
 write_gives world f e s t h =
-    let p = then_gives (argument_number s.scene e) _ t h in
-    (p.0, p.1, some_injective (on_scene (with_field f p.0) s) t
-    (where_gives (suits (world.kinds f) p.0) (Some (on_scene (with_field f p.0) s)) t p.2))
+    let p = then_gives (argument_number s.scene e) _ t h in (
+      p.0,
+      p.1,
+      some_injective (on_scene (with_field f p.0) s) t
+          (where_gives (suits (world.kinds f) p.0) (Some (on_scene (with_field f p.0) s)) t p.2),
+    )
 
 pub one_write : (world : World) (f : ℕ) (e : Argument) (s t : State)
     → run world (written f e) s ≡ Some t → configure world f e s ≡ Some t

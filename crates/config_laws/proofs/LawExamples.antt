@@ -1,28 +1,23 @@
 -- The laws on closed units.
-use Rattle.std.proofs.Common.{◌≡◌, ◌<◌, ℕ, zero, suc, ℤ, pos, Bool, true, false, List, [], ◌∷◌}
-use Rattle.std.proofs.Common.{Option, Some, None, refl, sym, ap, ◌∙◌, subst, arith}
-use Rattle.std.specs.Prelude.{Contains, IsSome, slice_get, slice_index_or, length}
-use Rattle.exo_tree.specs.Tree.{Lit, Config, Call, ControlArg, Whole, Block, end, next, Procedure}
+use Rattle.std.proofs.Common.{◌≡◌, ◌<◌, ℕ, zero, suc, pos, true, false, List, [], ◌∷◌}
+use Rattle.std.proofs.Common.{Some, refl, sym, subst, arith}
+use Rattle.std.specs.Prelude.{Contains, IsSome, slice_get, slice_index_or}
+use Rattle.exo_tree.specs.Tree.{Lit, Config, ControlArg, end, next, Procedure}
 use Rattle.exo_tree.specs.Tree.{Program}
-use Rattle.exo_tree.specs.Context.{Here}
 use Rattle.exo_meaning.specs.State.{State}
 use Rattle.exo_meaning.specs.Calls.{Callee}
-use Rattle.exo_meaning.specs.Run.{World, run, unit_world, kinds_of, program_world, callees}
+use Rattle.exo_meaning.specs.Run.{World, unit_world, kinds_of, program_world, callees}
 use Rattle.exo_meaning.specs.Inputs.{IsAdmissible, Refines, run_procedure}
 use Rattle.exo_meaning.specs.Units.{AreProcedures, IsProcedure, field_kind}
-use Rattle.meaning_laws.specs.Live.{live, live_behind}
+use Rattle.meaning_laws.specs.Live.{live}
 use Rattle.meaning_laws.specs.Sorted.{MayRun}
 use Rattle.meaning_laws.specs.UnitFields.{unit_live}
 use Rattle.meaning_laws.proofs.Parts.{none_some, some_injective}
-use Rattle.config_laws.specs.Surely.{surely_writes, surely_behind, unit_surely}
-use Rattle.config_laws.specs.Exits.{by_exit}
+use Rattle.config_laws.specs.Surely.{unit_surely}
 use Rattle.config_laws.specs.FieldRule.{Before, Behind}
 use Rattle.config_laws.specs.Differing.{Origin, parent_in, step_fields, IsStep, AreVersions}
-use Rattle.config_laws.proofs.Exits.{blocks_go_by_exit, holes_go_by_exit, units_go_by_exit}
-use Rattle.config_laws.proofs.Holes.{written_refines, left_out_refines}
-use Rattle.config_laws.proofs.Bind.{bound_refines}
+use Rattle.config_laws.proofs.Exits.{blocks_go_by_exit, units_go_by_exit}
 use Rattle.config_laws.proofs.Derived.{descendants_refine}
-use Rattle.config_laws.proofs.Called.{descendants_may_be_called, version_refines}
 use Rattle.config_laws.proofs.Rules.{write_config_refines, delete_config_refines}
 use Rattle.config_laws.proofs.Rules.{bind_config_refines, call_eqv_refines}
 use Rattle.config_laws.proofs.RuleExamples.{one_field, unit_of, at, of_text, stepping_unit, stepping}

@@ -1,12 +1,10 @@
 -- How a proposal comes about.
-use Rattle.std.proofs.Common.{◌≡◌, ◌≤◌, ℕ, zero, suc, Bool, true, false, ◌||◌, [], ◌∷◌, List, Option}
-use Rattle.std.proofs.Common.{Some, None, refl, sym, ap, ◌∙◌, subst, true≢false, arith}
+use Rattle.std.proofs.Common.{◌≡◌, ◌≤◌, ℕ, Bool, true, false, List, Option}
+use Rattle.std.proofs.Common.{Some, None, refl, sym, ap, ◌∙◌, true≢false, arith}
 use Rattle.std.proofs.Math.Path.{fun_ext}
-use Rattle.exo_tree.specs.Tree.{Statement, Block, end, next, joined, Procedure}
-use Rattle.exo_tree.specs.Context.{Context, fill, rest_of}
+use Rattle.exo_tree.specs.Tree.{Statement, Block, end, next, Procedure}
 use Rattle.exo_tree.specs.Places.{Path, Opened, parted, opened}
 use Rattle.meaning_laws.proofs.Parts.{none_some, some_injective}
-use Rattle.meaning_laws.proofs.Places.{opened_law}
 use Rattle.scope_laws.specs.SamePlace.{start_of}
 use Rattle.scope_laws.proofs.SamePlace.{same_place}
 use Rattle.config_laws.specs.Surely.{surely_behind, unit_surely}
@@ -64,10 +62,10 @@ pub is_proposed : (rule : FieldRule) (p : Procedure) (at : Path) (m : Proposed)
 is_proposed rule p at m e =
     let piece = try_gives (rule.piece p at) _ m e in
     let opens = try_gives (opened_or_wrong (opened piece.0.count piece.0.path p.body)) _ m
-        piece.2 in
+    piece.2 in
     let made = try_gives (rule.draft p opens.0) _ m opens.2 in
     let last = unless_gives (rule.refusal p opens.0)
-        (with_fields rule p piece.0 opens.0 made.0) m made.2 in
+    (with_fields rule p piece.0 opens.0 made.0) m made.2 in
     record {
       piece = piece.0;
       opens = opens.0;
@@ -129,8 +127,8 @@ pub from_point : (ps : List Procedure) (body : Block) (at : Path) (side : Side) 
     → surely_from ps body at side f ≡ surely_behind (unit_surely ps) f o.around
 from_point ps body at side f o e =
     ap (λ (z : Option Opened). elim z as (λ z. Bool) [
-      None ↦ false |
-      Some o ↦ surely_behind (unit_surely ps) f o.around
+      | None ↦ false
+      | Some o ↦ surely_behind (unit_surely ps) f o.around
     ]) e
 
 pub fields_same : (v w : ℕ → Bool) (fs : List ℕ) → ((f : ℕ) → v f ≡ w f)

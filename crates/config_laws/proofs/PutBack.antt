@@ -1,17 +1,16 @@
 -- What is put into a hole is opened there, and so is the place behind its first statement.
 use Rattle.std.proofs.Common.{◌≡◌, ℕ, zero, suc, Bool, true, false, ◌||◌, [], ◌∷◌, Option, Some, None}
-use Rattle.std.proofs.Common.{option_map, refl, sym, ap, ◌∙◌, subst, arith}
+use Rattle.std.proofs.Common.{option_map, refl, sym, ap, ◌∙◌, subst}
 use Rattle.exo_tree.specs.Tree.{Statement, If, For, Block, end, next, joined}
 use Rattle.exo_tree.specs.Context.{Context, Here, After, InLoop, InThen, InElse, fill, rest_of}
 use Rattle.exo_tree.specs.Places.{Branch, Main, Else, Path, Opened, parted, past, into, opened_in}
 use Rattle.exo_tree.specs.Places.{from_body, opened}
 use Rattle.meaning_laws.proofs.Parts.{none_some, map_gives}
-use Rattle.scope_laws.specs.Holes.{with_rest, followed, within}
-use Rattle.scope_laws.specs.SamePlace.{start_of}
+use Rattle.scope_laws.specs.Holes.{with_rest, within}
 use Rattle.scope_laws.proofs.SamePlace.{here, with_first}
 use Rattle.scope_laws.proofs.PlacesCompose.{places_compose}
 use Rattle.config_laws.specs.Surely.{surely_writes, step_surely_writes, surely_behind}
-use Rattle.config_laws.specs.FieldRule.{Side, Behind, gap}
+use Rattle.config_laws.specs.FieldRule.{Behind, gap}
 
 -- ---- the hole
 
@@ -48,7 +47,7 @@ module _ (w : Block) where
   past_back (suc k) f g h end o e = absurd (none_some e)
   past_back (suc k) f g h (next a b) o e =
       let after : Opened → Opened =
-          λ o. record { around = After a o.around; piece = o.piece } in
+      λ o. record { around = After a o.around; piece = o.piece } in
       let q = map_gives (past k f b) after o e in
       subst (There (past (suc k) g)) q.2 (ap (option_map after) (past_back k f g h b q.0 q.1))
 
@@ -56,17 +55,17 @@ module _ (w : Block) where
       → PutsBack (into branch f) (into branch g) w
   into_back Main f g h (next (For i lo hi b) rest) o e =
       let inside : Opened → Opened =
-          λ o. record { around = InLoop i lo hi o.around rest; piece = o.piece } in
+      λ o. record { around = InLoop i lo hi o.around rest; piece = o.piece } in
       let q = map_gives (f b) inside o e in
       subst (There (into Main g)) q.2 (ap (option_map inside) (h b q.0 q.1))
   into_back Main f g h (next (If c a b) rest) o e =
       let inside : Opened → Opened =
-          λ o. record { around = InThen c o.around b rest; piece = o.piece } in
+      λ o. record { around = InThen c o.around b rest; piece = o.piece } in
       let q = map_gives (f a) inside o e in
       subst (There (into Main g)) q.2 (ap (option_map inside) (h a q.0 q.1))
   into_back Else f g h (next (If c a b) rest) o e =
       let inside : Opened → Opened =
-          λ o. record { around = InElse c a o.around rest; piece = o.piece } in
+      λ o. record { around = InElse c a o.around rest; piece = o.piece } in
       let q = map_gives (f b) inside o e in
       subst (There (into Else g)) q.2 (ap (option_map inside) (h b q.0 q.1))
   into_back branch f g h b o e = absurd (none_some e)

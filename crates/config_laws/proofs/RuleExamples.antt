@@ -1,12 +1,12 @@
 -- The rules, computed on closed units.
-use Rattle.std.proofs.Common.{◌≡◌, ℕ, ℤ, pos, List, [], ◌∷◌, Option, Some, None, refl}
+use Rattle.std.proofs.Common.{◌≡◌, ℕ, ℤ, pos, List, [], ◌∷◌, Some, None, refl}
 use Rattle.exo_tree.specs.Tree.{Size, Lit, Var, Field, Eq, Config, Assign, Const, Call, For, Pass}
-use Rattle.exo_tree.specs.Tree.{ControlArg, Whole, Window, Coord, Span, I32, Binder, Block, end, next}
+use Rattle.exo_tree.specs.Tree.{ControlArg, Whole, Window, Span, I32, Binder, Block, end, next}
 use Rattle.exo_tree.specs.Tree.{Condition, Param, ControlParam, TensorParam, WindowParam, Procedure}
 use Rattle.exo_tree.specs.Tree.{ConfigField, Program}
-use Rattle.exo_tree.specs.Places.{Main, Step, Path}
-use Rattle.config_laws.specs.FieldRule.{Tried, Got, Not, WrongShape, ConfigLive, NotDescendant}
-use Rattle.config_laws.specs.FieldRule.{Before, Behind, Proposed, proposed, fields_at_end}
+use Rattle.exo_tree.specs.Places.{Main, Path}
+use Rattle.config_laws.specs.FieldRule.{Got, Not, WrongShape, ConfigLive, NotDescendant}
+use Rattle.config_laws.specs.FieldRule.{Before, Behind, proposed, fields_at_end}
 use Rattle.config_laws.specs.WriteConfig.{write_config}
 use Rattle.config_laws.specs.DeleteConfig.{delete_config}
 use Rattle.config_laws.specs.BindConfig.{bind_config}

@@ -1,50 +1,49 @@
 -- What each rule keeps.
-use Rattle.std.proofs.Common.{◌≡◌, ◌<◌, ◌≤◌, ℕ, zero, suc, ◌+◌, Bool, true, false, ◌&&◌, ◌||◌, List, [], ◌∷◌}
+use Rattle.std.proofs.Common.{◌≡◌, ◌<◌, ◌≤◌, ℕ, zero, suc, ◌+◌, Bool, true, false, ◌||◌, List, [], ◌∷◌}
 use Rattle.std.proofs.Common.{Option, Some, None, option_map, refl, sym, ap, ◌∙◌, subst, true≢false, arith}
-use Rattle.std.specs.Prelude.{if◌then◌else◌, Contains, slice_get, slice_index_or, length}
+use Rattle.std.specs.Prelude.{if◌then◌else◌, slice_get, slice_index_or, length}
 use Rattle.std.specs.Prelude.{option_and_then}
 use Rattle.exo_tree.specs.Tree.{Argument, Statement, Assign, Reduce, Config, Pass, If, For, Alloc}
 use Rattle.exo_tree.specs.Tree.{View, Call, Block, end, next, joined, Procedure, ConfigField, Program}
 use Rattle.exo_tree.specs.Context.{Context, fill, rest_of}
-use Rattle.exo_tree.specs.Places.{Main, Step, Path, Opened, opened, statement_at, first_of}
+use Rattle.exo_tree.specs.Places.{Step, Path, Opened, opened, statement_at, first_of}
 use Rattle.exo_meaning.specs.Calls.{Callee}
-use Rattle.exo_meaning.specs.Run.{World, unit_world, kinds_of, program_world}
+use Rattle.exo_meaning.specs.Run.{unit_world, kinds_of}
 use Rattle.exo_meaning.specs.Inputs.{Refines}
-use Rattle.exo_meaning.specs.Units.{Scope, scope_of, is_call, field_kind}
+use Rattle.exo_meaning.specs.Units.{scope_of, is_call, field_kind}
 use Rattle.meaning_laws.specs.Live.{live, live_behind}
 use Rattle.meaning_laws.specs.Sorted.{MayRun, scope_at}
 use Rattle.meaning_laws.specs.UnitFields.{unit_live}
 use Rattle.meaning_laws.proofs.Parts.{none_some, some_injective, map_gives}
 use Rattle.meaning_laws.proofs.Places.{opened_law}
 use Rattle.meaning_laws.proofs.Substitute.{and_parts}
-use Rattle.scope_laws.specs.Holes.{roots_at, within, with_rest}
-use Rattle.scope_laws.specs.PlacesCompose.{onward}
+use Rattle.scope_laws.specs.Holes.{roots_at, with_rest}
 use Rattle.scope_laws.specs.SamePlace.{start_of}
 use Rattle.scope_laws.proofs.SamePlace.{same_place}
 use Rattle.scope_laws.proofs.WellAtPlace.{well_at_place}
 use Rattle.live_laws.specs.CallVersion.{called}
 use Rattle.config_laws.specs.Surely.{surely_writes, surely_behind, unit_surely}
-use Rattle.config_laws.specs.FieldRule.{Cause, Tried, Got, Not, WrongShape, ConfigLive, NotDescendant}
+use Rattle.config_laws.specs.FieldRule.{Got, Not, WrongShape, ConfigLive, NotDescendant}
 use Rattle.config_laws.specs.FieldRule.{Piece, Side, Before, Behind, FieldRule, Proposed, with_fields}
-use Rattle.config_laws.specs.FieldRule.{or_pass, is_first, is_end, is_live, any_live, refused_if, gap}
+use Rattle.config_laws.specs.FieldRule.{or_pass, is_first, is_end, is_live, any_live, gap}
 use Rattle.config_laws.specs.FieldRule.{surely_from, not_again, fields_at_end, proposed}
 use Rattle.config_laws.specs.WriteConfig.{written, gap_at, write_config}
 use Rattle.config_laws.specs.Holes.{with_block}
-use Rattle.config_laws.specs.Keeps.{KeepsMeaning, WriteConfigRefines, DeleteConfigRefines}
+use Rattle.config_laws.specs.Keeps.{WriteConfigRefines, DeleteConfigRefines}
 use Rattle.config_laws.specs.Keeps.{BindConfigRefines, CallEqvRefines}
 use Rattle.config_laws.specs.DeleteConfig.{write_piece, step_back, previous, where_it_was}
 use Rattle.config_laws.specs.DeleteConfig.{behind_or_before}
 use Rattle.config_laws.specs.DeleteConfig.{delete_config}
-use Rattle.config_laws.specs.BindConfig.{Bound, bound_in, bound_by, number_of, bound_call}
+use Rattle.config_laws.specs.BindConfig.{Bound, bound_in, bound_by, bound_call}
 use Rattle.config_laws.specs.BindConfig.{write_and_call, bound_piece, bind_config}
-use Rattle.config_laws.specs.Differing.{Origin, is_descendant, differing, AreVersions}
+use Rattle.config_laws.specs.Differing.{Origin, is_descendant, differing}
 use Rattle.config_laws.specs.CallEqv.{version_piece, call_eqv}
 use Rattle.config_laws.proofs.Holes.{written_refines, left_out_refines}
 use Rattle.config_laws.proofs.Bind.{bound_refines}
 use Rattle.config_laws.proofs.Called.{descendants_may_be_called, version_refines}
 use Rattle.config_laws.proofs.PutBack.{put_back, put_behind, within_surely, ahead_surely}
-use Rattle.config_laws.proofs.Proposed.{not_got, got_injective, passed, IsProposed, is_proposed}
-use Rattle.config_laws.proofs.Proposed.{opened_none, IsOne, opened_one, from_point, fields_same}
+use Rattle.config_laws.proofs.Proposed.{not_got, got_injective, passed, is_proposed}
+use Rattle.config_laws.proofs.Proposed.{opened_none, opened_one, from_point, fields_same}
 
 module _ (fields : List ConfigField) (memories : ℕ) (ps : List Procedure) (p : Procedure) where
   -- what is to be shown of a proposal
@@ -78,8 +77,8 @@ no_statements : (side : Side) (p : Procedure) (at : Path) (piece : Piece)
 no_statements side p at piece e = go (statement_at at p.body) e
   where
     go : (o : Option Statement) → elim o [
-      None ↦ Not WrongShape |
-      Some a ↦ Got (record { path = gap at side; count = 0 })
+      | None ↦ Not WrongShape
+      | Some a ↦ Got (record { path = gap at side; count = 0 })
     ] ≡ Got piece → piece.count ≡ 0
     go None e = absurd (not_got e)
     go (Some a) e =
@@ -92,14 +91,14 @@ write_config_refines fields memories ps side f e p at m h =
     let o = x.opens in
     let made : written f e ≡ x.made = got_injective (written f e) x.made x.drafted in
     let there : opened 0 x.piece.path p.body ≡ Some o =
-        subst (λ n. opened n x.piece.path p.body ≡ Some o)
-        (no_statements side p at x.piece x.shape) x.there in
+    subst (λ n. opened n x.piece.path p.body ≡ Some o)
+    (no_statements side p at x.piece x.shape) x.there in
     let empty = opened_none x.piece.path p.body o there in
     let body : p.body ≡ fill o.around end =
-        sym (opened_law 0 x.piece.path p.body o there) ∙ ap (fill o.around) empty in
+    sym (opened_law 0 x.piece.path p.body o there) ∙ ap (fill o.around) empty in
     let dead : live_behind (unit_live ps) f end o.around false ≡ false =
-        subst (λ b. live_behind (unit_live ps) f b o.around false ≡ false) empty
-        (passed (is_live ps f o) ConfigLive x.accepted) in
+    subst (λ b. live_behind (unit_live ps) f b o.around false ≡ false) empty
+    (passed (is_live ps f o) ConfigLive x.accepted) in
     subst (Kept fields memories ps p) x.result
     (subst (λ b. Kept fields memories ps p (with_fields (write_config ps side f e) p x.piece o b))
     made (λ old_ok new_ok.
@@ -135,14 +134,14 @@ module _ (fields : List ConfigField) (memories : ℕ) (ps : List Procedure) (p :
       let c = x.opens.around in
       let one : one_at ≡ x.piece = shape x.piece x.shape in
       let there : opened 1 at p.body ≡ Some x.opens =
-          subst (λ (z : Piece). opened z.count z.path p.body ≡ Some x.opens) (sym one) x.there in
+      subst (λ (z : Piece). opened z.count z.path p.body ≡ Some x.opens) (sym one) x.there in
       let single = opened_one at p.body x.opens there in
       let a = single.statement in
       let same : x.opens ≡ alone c a =
-          ap (λ (b : Block). record { around = c; piece = b }) single.same in
+      ap (λ (b : Block). record { around = c; piece = b }) single.same in
       let is : statement_at at p.body ≡ Some a =
-          ap (option_and_then (λ (o : Opened). first_of o.piece)) there
-          ∙ ap (λ (o : Opened). first_of o.piece) same in
+      ap (option_and_then (λ (o : Opened). first_of o.piece)) there
+      ∙ ap (λ (o : Opened). first_of o.piece) same in
       subst (Kept fields memories ps p) x.result
       (subst (λ z. Kept fields memories ps p (with_fields rule p z x.opens x.made)) one
       (subst (λ z. Kept fields memories ps p (with_fields rule p one_at z x.made)) (sym same)
@@ -213,9 +212,9 @@ module _ (ps : List Procedure) (p : Procedure) (at : Path) (o : Opened)
       let new : Opened = record { around = o.around; piece = next Pass end } in
       let body = fill o.around (next Pass end) in
       let s = same_place 0 1 at body new least
-          (put_back 1 at p.body o (next Pass end) there) in
+      (put_back 1 at p.body o (next Pass end) there) in
       let same : s.0.1 ≡ next Pass end =
-          ap (λ (q : Block × Block). q.1) (sym (some_injective (end, next Pass end) s.0 s.1.parts))
+      ap (λ (q : Block × Block). q.1) (sym (some_injective (end, next Pass end) s.0 s.1.parts))
       in
       from_point ps body at Before f (start_of new s.0) s.1.there
       ∙ ap (λ b. surely_behind (unit_surely ps) f (with_rest o.around
@@ -282,7 +281,7 @@ delete_config_refines fields memories ps p at =
     config c f e made t =
         let o : Opened = record { around = c; piece = written f e } in
         let dead : live_behind (unit_live ps) f (written f e) c false ≡ false =
-            sym (or_none (is_live ps f o)) ∙ passed (is_live ps f o || false) ConfigLive t.accepted
+        sym (or_none (is_live ps f o)) ∙ passed (is_live ps f o || false) ConfigLive t.accepted
         in
         subst (λ b. Kept fields memories ps p (with_fields (delete_config ps) p
         (record { path = at; count = 1 }) (record { around = c; piece = written f e }) b))
@@ -300,7 +299,7 @@ delete_config_refines fields memories ps p at =
         (record { around = c; piece = next a end }) made)
     keeps c a made t =
         let w = field_written at (record { path = at; count = 1 }) a
-            (ap (write_piece at) t.is ∙ t.shape) in
+        (ap (write_piece at) t.is ∙ t.shape) in
         subst (λ b. IsThere fields memories ps p (delete_config ps) at c b made
         → Kept fields memories ps p (with_fields (delete_config ps) p (record { path = at; count = 1 })
         (record { around = c; piece = next b end }) made)) w.2
@@ -353,9 +352,9 @@ bind_config_refines fields memories ps name f p at =
         let d = draft_gives ps name f k (bound_by ps name f (Some (Call k args))) made t.drafted in
         let b = d.0 in
         let q = and_then_gives (λ (q : Procedure). bound_in f name q.params args) (slice_get ps k)
-            b d.1 in
+        b d.1 in
         let dead = passed (live (unit_live ps) f (called k args)
-            (live_behind (unit_live ps) f (called k args) c false)) ConfigLive t.accepted in
+        (live_behind (unit_live ps) f (called k args) c false)) ConfigLive t.accepted in
         let again = λ (g : ℕ). unit_surely ps k g || surely_behind (unit_surely ps) g c in
         subst (λ z. Kept fields memories ps p (with_fields (bind_config ps name f) p
         (record { path = at; count = 1 }) (record { around = c; piece = called k args }) z)) d.2
@@ -375,7 +374,7 @@ bind_config_refines fields memories ps name f p at =
         (record { around = c; piece = next a end }) made)
     keeps c a made t =
         let w = is_bound ps name f at (record { path = at; count = 1 }) a
-            (ap (λ o. bound_piece ps name f at (bound_by ps name f o)) t.is ∙ t.shape) in
+        (ap (λ o. bound_piece ps name f at (bound_by ps name f o)) t.is ∙ t.shape) in
         subst (λ b. IsThere fields memories ps p (bind_config ps name f) at c b made
         → Kept fields memories ps p (with_fields (bind_config ps name f) p (record { path = at; count = 1 })
         (record { around = c; piece = next b end }) made)) w.2
@@ -467,16 +466,16 @@ call_eqv_refines unit os j versions p at =
     call c k args made is t =
         let fs = differing unit os j k in
         let body : p.body ≡ fill c (called k args) = sym (opened_law 1 at p.body
-            (record { around = c; piece = called k args }) t.there) in
+        (record { around = c; piece = called k args }) t.there) in
         let free = passed (any_live unit.procedures (record { around = c; piece = called k args }) fs) ConfigLive
-            t.accepted in
+        t.accepted in
         subst (λ z. Kept unit.fields (length unit.memories) unit.procedures p (with_fields (call_eqv unit os j) p
         (record { path = at; count = 1 }) (record { around = c; piece = called k args }) z))
         (got_injective (called j args) made t.drafted)
         (λ old_ok new_ok.
         let one = callee_there unit.fields (length unit.memories) unit.procedures p c k args old_ok body in
         let two = callee_there unit.fields (length unit.memories) unit.procedures (with_block p c (called j args)) c j args
-            new_ok refl in
+        new_ok refl in
         at_point unit.fields (length unit.memories) unit.procedures p (fill c (called j args)) at Behind fs
         (λ g. surely_behind (unit_surely unit.procedures) g c) (with_block p c (called j args))
         (behind_first unit.fields (length unit.memories) unit.procedures p 1 at
@@ -493,7 +492,7 @@ call_eqv_refines unit os j versions p at =
         (record { around = c; piece = next a end }) made)
     keeps c a made t =
         let w = takes_call unit os j at (record { path = at; count = 1 }) a
-            (ap (version_piece unit os j at) t.is ∙ t.shape) in
+        (ap (version_piece unit os j at) t.is ∙ t.shape) in
         subst (λ b. IsThere unit.fields (length unit.memories) unit.procedures p (call_eqv unit os j) at c b made
         → Kept unit.fields (length unit.memories) unit.procedures p (with_fields (call_eqv unit os j) p (record { path = at; count = 1 })
         (record { around = c; piece = next b end }) made)) w.is

@@ -1,7 +1,7 @@
 -- A call of a version in the place of a call of a procedure that it was made from.
 use Rattle.std.specs.Prelude.{ℕ, if◌then◌else◌, List, [], Option, Some}
-use Rattle.exo_tree.specs.Tree.{Statement, Argument, Call, Block, end, next, Procedure, Program}
-use Rattle.exo_tree.specs.Places.{Path, Opened, statement_at, first_of}
+use Rattle.exo_tree.specs.Tree.{Statement, Call, Block, end, next, Program}
+use Rattle.exo_tree.specs.Places.{Path, statement_at, first_of}
 use Rattle.config_laws.specs.FieldRule.{FieldRule, Tried, Got, Not, Piece, Behind}
 use Rattle.config_laws.specs.FieldRule.{WrongShape, ConfigLive, NotDescendant, any_live, refused_if}
 use Rattle.config_laws.specs.Differing.{Origin, is_descendant, differing}

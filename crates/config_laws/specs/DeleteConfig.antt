@@ -1,8 +1,8 @@
 -- A configuration write is left out, where its field is not live behind it.
 use Rattle.std.specs.Prelude.{ℕ, zero, suc, List, [], ◌∷◌, Option, Some, None, option_map}
-use Rattle.exo_tree.specs.Tree.{Statement, Argument, Config, Block, end, next, Procedure}
+use Rattle.exo_tree.specs.Tree.{Statement, Config, Block, end, next, Procedure}
 use Rattle.exo_tree.specs.Context.{rest_of}
-use Rattle.exo_tree.specs.Places.{Step, Path, Opened, statement_at, first_of}
+use Rattle.exo_tree.specs.Places.{Step, Path, statement_at, first_of}
 use Rattle.config_laws.specs.FieldRule.{FieldRule, Tried, Got, Not, WrongShape, ConfigLive, Piece}
 use Rattle.config_laws.specs.FieldRule.{Side, Before, Behind, any_live, refused_if}
 

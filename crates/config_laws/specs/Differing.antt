@@ -25,10 +25,10 @@ parent_in os k = elim (slice_get os k) [ None ↦ None | Some o ↦ o.parent ]
 -- the fields of one step that are not written again
 abbrev pub step_fields : List Procedure → List Origin → ℕ → List ℕ
 step_fields ps os k = elim (slice_get os k) [
-  None ↦ [] |
-  Some o ↦ elim (slice_get ps k) [
-    None ↦ [] |
-    Some q ↦ fields_at_end ps q.body o.place o.side o.fields
+  | None ↦ []
+  | Some o ↦ elim (slice_get ps k) [
+    | None ↦ []
+    | Some q ↦ fields_at_end ps q.body o.place o.side o.fields
   ]
 ]
 

@@ -1,7 +1,7 @@
 -- What a rewrite of configuration writes says of itself, on plain trees.
-use Rattle.std.specs.Prelude.{◌+◌, ◌==◌, ◌||◌, ℕ, suc, Bool, true, false, if◌then◌else◌}
-use Rattle.std.specs.Prelude.{List, [], ◌∷◌, Option, Some, None, option_map}
-use Rattle.exo_tree.specs.Tree.{Argument, Config, Pass, Block, end, next, Procedure}
+use Rattle.std.specs.Prelude.{◌==◌, ◌||◌, ℕ, Bool, true, false, if◌then◌else◌}
+use Rattle.std.specs.Prelude.{List, [], ◌∷◌, Option, Some, None}
+use Rattle.exo_tree.specs.Tree.{Pass, Block, end, next, Procedure}
 use Rattle.exo_tree.specs.Context.{Context, Here, After, InLoop, InThen, InElse, fill, rest_of}
 use Rattle.exo_tree.specs.Places.{Main, Path, Opened, opened}
 use Rattle.meaning_laws.specs.Live.{live_behind}
@@ -112,8 +112,8 @@ gap path Behind = onward path (record { branch = Main; index = 1 }) []
 -- written on every way from that place to the end
 abbrev pub surely_from : List Procedure → Block → Path → Side → ℕ → Bool
 surely_from ps body at side f = elim (opened 0 (gap at side) body) [
-  None ↦ false |
-  Some o ↦ surely_behind (unit_surely ps) f o.around
+  | None ↦ false
+  | Some o ↦ surely_behind (unit_surely ps) f o.around
 ]
 
 abbrev pub is_listed : ℕ → List ℕ → Bool

@@ -1,15 +1,15 @@
 -- What configuration writes change, by the hole that they stand in.
-use Rattle.std.specs.Prelude.{◌≡◌, ◌||◌, ℕ, Bool, true, false, List, [], ◌∷◌, Some, Contains}
+use Rattle.std.specs.Prelude.{◌≡◌, ◌||◌, ℕ, false, List, [], ◌∷◌, Some, Contains}
 use Rattle.exo_tree.specs.Tree.{Argument, Block, end, Param, Procedure, ConfigField}
 use Rattle.exo_tree.specs.Context.{Context, fill}
 use Rattle.exo_meaning.specs.Calls.{Callee}
-use Rattle.exo_meaning.specs.Run.{World, unit_world, kinds_of}
+use Rattle.exo_meaning.specs.Run.{unit_world, kinds_of}
 use Rattle.exo_meaning.specs.Inputs.{Refines}
 use Rattle.meaning_laws.specs.Live.{live, live_behind}
 use Rattle.meaning_laws.specs.Sorted.{MayRun}
 use Rattle.meaning_laws.specs.UnitFields.{unit_live}
 use Rattle.live_laws.specs.CallVersion.{AreAlike, MayStandForCallee, called}
-use Rattle.config_laws.specs.Surely.{surely_writes, surely_behind, unit_surely}
+use Rattle.config_laws.specs.Surely.{surely_behind, unit_surely}
 use Rattle.config_laws.specs.FieldRule.{or_pass, not_again}
 use Rattle.config_laws.specs.WriteConfig.{written}
 use Rattle.config_laws.specs.BindConfig.{Bound, bound_in, write_and_call}

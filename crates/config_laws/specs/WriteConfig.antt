@@ -1,5 +1,5 @@
 -- A configuration write is put into a gap, where its field is not live.
-use Rattle.std.specs.Prelude.{ℕ, List, [], ◌∷◌, Option, Some, None}
+use Rattle.std.specs.Prelude.{ℕ, List, [], ◌∷◌, Some, None}
 use Rattle.exo_tree.specs.Tree.{Argument, Config, Block, end, next, Procedure}
 use Rattle.exo_tree.specs.Places.{Path, statement_at}
 use Rattle.config_laws.specs.FieldRule.{FieldRule, Tried, Got, Not, WrongShape, ConfigLive, Piece}
@@ -11,8 +11,8 @@ written f e = next (Config f e) end
 -- the gap before or behind a statement that is there
 abbrev pub gap_at : Side → Procedure → Path → Tried Piece
 gap_at side p at = elim (statement_at at p.body) [
-  None ↦ Not WrongShape |
-  Some a ↦ Got (record { path = gap at side; count = 0 })
+  | None ↦ Not WrongShape
+  | Some a ↦ Got (record { path = gap at side; count = 0 })
 ]
 
 abbrev pub write_config : List Procedure → Side → ℕ → Argument → FieldRule
