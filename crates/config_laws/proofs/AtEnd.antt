@@ -5,16 +5,15 @@ use Rattle.std.specs.Prelude.{Contains, if◌then◌else◌, length}
 use Rattle.std.proofs.lemmas.List.Elements.{Contains-append_right}
 use Rattle.live_laws.specs.LiveFits.{LiveAtEnd}
 use Rattle.config_laws.specs.FieldRule.{is_listed, not_again}
+use Rattle.config_laws.specs.Surely.{surely_behind}
 use Rattle.config_laws.specs.Exits.{by_exit}
+use Rattle.config_laws.specs.AtEnd.{lives_at_end, OthersLiveAtEnd, ListedStayDead}
+use Rattle.config_laws.proofs.Exits.{holes_go_by_exit}
 
 first_of : (f : ℕ) (fs : List ℕ) (g : ℕ) → g ≡ f → Contains (f ∷ fs) g
 first_of f fs g e = (0, let less : 0 < length (f ∷ fs) = omega arith in less, sym e)
 
 module _ (again : ℕ → Bool) where
-  -- all but those listed, and of these all that are written again
-  abbrev pub lives_at_end : List ℕ → ℕ → Bool
-  lives_at_end fs g = not (is_listed g fs) || again g
-
   stays : (fs : List ℕ) (g : ℕ) → is_listed g fs ≡ true → again g ≡ false
       → Contains (not_again again fs) g
   stays [] g h k = absurd (true≢false (sym h))
@@ -30,7 +29,7 @@ module _ (again : ℕ → Bool) where
       go false e h false v rest =
           Contains-append_right (f ∷ []) (not_again again fs) g (rest h)
 
-  pub at_end : (fs : List ℕ) → LiveAtEnd (not_again again fs) (lives_at_end fs)
+  pub at_end : (fs : List ℕ) → LiveAtEnd (not_again again fs) (lives_at_end again fs)
   at_end fs = record { others = λ g k. go g k (is_listed g fs) refl (again g) refl }
     where
       go : (g : ℕ) → (Contains (not_again again fs) g → ⊥) → (l : Bool) → is_listed g fs ≡ l
@@ -41,10 +40,21 @@ module _ (again : ℕ → Bool) where
 
   -- a listed field that is not read before it is written is not live before its end
   pub not_live : (fs : List ℕ) (g : ℕ) → is_listed g fs ≡ true
-      → by_exit false (again g) (lives_at_end fs g) ≡ false
+      → by_exit false (again g) (lives_at_end again fs g) ≡ false
   not_live fs g h =
       ap (λ l. by_exit false (again g) (not l || again g)) h ∙ go (again g)
     where
       go : (w : Bool) → by_exit false w (false || w) ≡ false
       go true = refl
       go false = refl
+
+pub others_live_at_end : OthersLiveAtEnd
+others_live_at_end again fs = at_end again fs
+
+pub listed_stay_dead : ListedStayDead
+listed_stay_dead calls sure f old c fs goes is dead =
+    holes_go_by_exit calls sure goes f old c (lives_at_end again fs f)
+    ∙ ap (λ r. by_exit r (again f) (lives_at_end again fs f)) dead ∙ not_live again fs f is
+  where
+    again : ℕ → Bool
+    again g = surely_behind sure g c

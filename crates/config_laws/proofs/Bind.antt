@@ -5,7 +5,8 @@ use Rattle.std.proofs.Common.{true≢false, eq-eqb}
 use Rattle.std.specs.Prelude.{if◌then◌else◌}
 use Rattle.std.specs.Str.{bytes_eq}
 use Rattle.exo_tree.specs.Tree.{Control, Lit, Var, Field, StrideOf, Neg, Add, Sub, Mul, Div, Mod}
-use Rattle.exo_tree.specs.Tree.{Condition, True, False, Flag, FieldFlag, Lt, Le, Gt, Ge, Eq, And, Or}
+use Rattle.exo_tree.specs.Tree.{Condition, True, False, Flag, FieldFlag, Lt, Le, Gt, Ge, Eq, And}
+use Rattle.exo_tree.specs.Tree.{Or}
 use Rattle.exo_tree.specs.Tree.{Argument, ControlArg, ConditionArg, Whole, Window, Param}
 use Rattle.exo_tree.specs.Tree.{Procedure}
 use Rattle.exo_tree.specs.Context.{Context}
@@ -30,8 +31,10 @@ use Rattle.config_laws.specs.FieldRule.{is_listed, not_again}
 use Rattle.config_laws.specs.BindConfig.{reads_any, asks_any, Bound, bound_here, is_control}
 use Rattle.config_laws.specs.BindConfig.{behind_argument, bound_in, write_and_call}
 use Rattle.config_laws.specs.Holes.{with_block, BoundRefines}
-use Rattle.config_laws.proofs.Exits.{blocks_go_by_exit, holes_go_by_exit, units_go_by_exit, in_order}
-use Rattle.config_laws.proofs.AtEnd.{lives_at_end, at_end, not_live}
+use Rattle.config_laws.proofs.Exits.{blocks_go_by_exit, holes_go_by_exit, units_go_by_exit}
+use Rattle.config_laws.proofs.Exits.{in_order}
+use Rattle.config_laws.specs.AtEnd.{lives_at_end}
+use Rattle.config_laws.proofs.AtEnd.{at_end, not_live}
 use Rattle.config_laws.proofs.Holes.{write_gives, not_seen}
 
 -- ---- what reads no field
@@ -200,7 +203,7 @@ module _ (world : World) (calls : ℕ → ℕ → Bool → Bool) (forget : Calls
   abbrev before : ℕ → Bool
   before g = live calls g (called k args) (behind g)
 
-  binds_alike : (s a b : State) → run world (called k args) s ≡ Some a
+  pub binds_alike : (s a b : State) → run world (called k args) s ≡ Some a
       → run world (write_and_call f k d) s ≡ Some b → RefinedLive behind a b
   binds_alike s a b i j =
       let p = then_gives (configure world f d.value s) (run world (called k d.args)) b j in

@@ -14,13 +14,13 @@ use Rattle.meaning_laws.proofs.UnitFields.{unit_forgets}
 use Rattle.live_laws.specs.CallVersion.{called}
 use Rattle.live_laws.proofs.CallVersion.{call_version}
 use Rattle.config_laws.specs.Surely.{surely_behind, unit_surely}
-use Rattle.config_laws.specs.Exits.{by_exit}
 use Rattle.config_laws.specs.FieldRule.{not_again}
 use Rattle.config_laws.specs.Differing.{Origin, parent_in, from_parent, descends}
 use Rattle.config_laws.specs.Differing.{AreVersions, DescendantsMayBeCalled}
 use Rattle.config_laws.specs.Holes.{VersionRefines}
-use Rattle.config_laws.proofs.Exits.{holes_go_by_exit, units_go_by_exit}
-use Rattle.config_laws.proofs.AtEnd.{lives_at_end, at_end, not_live}
+use Rattle.config_laws.proofs.Exits.{units_go_by_exit}
+use Rattle.config_laws.specs.AtEnd.{lives_at_end}
+use Rattle.config_laws.proofs.AtEnd.{at_end, listed_stay_dead}
 use Rattle.config_laws.proofs.Derived.{all_keep, listed}
 
 -- ---- the callees of a unit are its procedures
@@ -134,10 +134,8 @@ version_refines fields memories ps c k j args p q one two differ alike old_ok ne
     dies : (f : ℕ) → Contains differ f
         → live_behind (unit_live ps) f (called k args) c (lives_at_end again differ f) ≡ false
     dies f i =
-        holes_go_by_exit (unit_live ps) (unit_surely ps) (units_go_by_exit ps) f (called k args) c
-        (lives_at_end again differ f)
-        ∙ ap (λ r. by_exit r (again f) (lives_at_end again differ f)) (dead f i)
-        ∙ not_live again differ f (listed differ f i.0 i.1 i.2)
+        listed_stay_dead (unit_live ps) (unit_surely ps) f (called k args) c differ
+        (units_go_by_exit ps) (listed differ f i.0 i.1 i.2) (dead f i)
 
     apart : (f : ℕ)
         → live_behind (unit_live ps) f (called k args) c (lives_at_end again differ f) ≡ true

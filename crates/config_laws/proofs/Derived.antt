@@ -14,7 +14,7 @@ use Rattle.meaning_laws.specs.Chain.{HasHead}
 use Rattle.meaning_laws.proofs.Chain.{chain_law}
 use Rattle.meaning_laws.proofs.Parts.{some_injective}
 use Rattle.meaning_laws.proofs.Refined.{refined_same}
-use Rattle.config_laws.specs.FieldSets.{fields_from, fields_where}
+use Rattle.config_state.specs.FieldSets.{fields_from, fields_where}
 use Rattle.config_laws.specs.FieldRule.{is_listed}
 use Rattle.config_laws.specs.Differing.{Origin, parent_in, step_fields, from_parent, descends}
 use Rattle.config_laws.specs.Differing.{fields_since, is_descendant, differing}

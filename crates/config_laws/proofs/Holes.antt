@@ -19,12 +19,12 @@ use Rattle.meaning_laws.proofs.Replace.{where_gives}
 use Rattle.meaning_laws.proofs.UnitFields.{unit_forgets}
 use Rattle.live_laws.proofs.LiveFits.{live_fits}
 use Rattle.config_laws.specs.Surely.{surely_behind, unit_surely}
-use Rattle.config_laws.specs.Exits.{by_exit}
 use Rattle.config_laws.specs.FieldRule.{or_pass, is_first, is_end, is_listed, not_again}
 use Rattle.config_laws.specs.WriteConfig.{written}
 use Rattle.config_laws.specs.Holes.{with_block, WrittenRefines, LeftOutRefines}
-use Rattle.config_laws.proofs.Exits.{holes_go_by_exit, units_go_by_exit}
-use Rattle.config_laws.proofs.AtEnd.{lives_at_end, at_end, not_live}
+use Rattle.config_laws.proofs.Exits.{units_go_by_exit}
+use Rattle.config_laws.specs.AtEnd.{lives_at_end}
+use Rattle.config_laws.proofs.AtEnd.{at_end, listed_stay_dead}
 
 -- ---- what a write gives
 
@@ -44,7 +44,7 @@ pub one_write : (world : World) (f : ℕ) (e : Argument) (s t : State)
     → run world (written f e) s ≡ Some t → configure world f e s ≡ Some t
 one_write world f e s t h = sym (then_some _) ∙ h
 
-left_out : (world : World) (s : State) (x y : Bool)
+pub left_out : (world : World) (s : State) (x y : Bool)
     → run world (if x then (if y then next Pass end else end) else end) s ≡ Some s
 left_out world s true true = refl
 left_out world s true false = refl
@@ -110,8 +110,8 @@ module _ (ps : List Procedure) (f : ℕ) (old : Block) (c : Context) where
 
   dead_behind : live_behind (unit_live ps) f old c false ≡ false → lives f ≡ false
   dead_behind h =
-      holes_go_by_exit (unit_live ps) (unit_surely ps) (units_go_by_exit ps) f old c (out f)
-      ∙ ap (λ r. by_exit r (again f) (out f)) h ∙ not_live again (f ∷ []) f listed
+      listed_stay_dead (unit_live ps) (unit_surely ps) f old c (f ∷ []) (units_go_by_exit ps) listed
+      h
 
 pub written_refines : WrittenRefines
 written_refines fields memories ps p c f e was fine dead =

@@ -20,7 +20,8 @@ use Rattle.config_laws.proofs.Exits.{blocks_go_by_exit, units_go_by_exit}
 use Rattle.config_laws.proofs.Derived.{descendants_refine}
 use Rattle.config_laws.proofs.Rules.{write_config_refines, delete_config_refines}
 use Rattle.config_laws.proofs.Rules.{bind_config_refines, call_eqv_refines}
-use Rattle.config_laws.proofs.RuleExamples.{one_field, unit_of, at, of_text, stepping_unit, stepping}
+use Rattle.config_laws.proofs.RuleExamples.{one_field, unit_of, at, of_text, stepping_unit}
+use Rattle.config_laws.proofs.RuleExamples.{stepping}
 use Rattle.config_laws.proofs.RuleExamples.{stepping_then_sets, write_behind_is_accepted, fills}
 use Rattle.config_laws.proofs.RuleExamples.{filling, filling_bound, it_is_bound, setting, storing}
 use Rattle.config_laws.proofs.RuleExamples.{set_twice, it_is_left_out, it_is_put_in, loud, quiet}
@@ -119,7 +120,7 @@ may_set = may_fill setting (record {
   template = refl;
 })
 
-abbrev fills_world : World
+abbrev pub fills_world : World
 fills_world = unit_world (kinds_of one_field) fills
 
 -- before another write of the field nothing differs
@@ -179,14 +180,14 @@ binds =
 -- ---- versions
 
 -- one that writes the field, and one made from it that does not
-abbrev small : Program
+abbrev pub small : Program
 small = unit_of (loud ∷ quiet ∷ [])
 
-abbrev small_origins : List Origin
+abbrev pub small_origins : List Origin
 small_origins =
     of_text ∷ record { parent = Some 0; place = at 0; side = Before; fields = 0 ∷ [] } ∷ []
 
-abbrev small_world : World
+abbrev pub small_world : World
 small_world = program_world small
 
 are_small : AreProcedures one_field 0 [] small.procedures
@@ -257,7 +258,7 @@ only_first f (suc k) h e = absurd (no h)
 no_field : (k : ℕ) → k < 0 → ⊥
 no_field k h = omega arith
 
-are_versions : AreVersions small_world small small_origins
+pub are_versions : AreVersions small_world small small_origins
 are_versions = record { safe = safe; steps = steps; fields = fields }
   where
     safe : (k : ℕ) (q : Procedure) → slice_get small.procedures k ≡ Some q
@@ -302,10 +303,11 @@ are_versions = record { safe = safe; steps = steps; fields = fields }
 
 -- along the derivation
 descendant_refines : Refines small_world loud quiet (0 ∷ [])
-descendant_refines = descendants_refine small small_origins 0 1 loud quiet are_versions refl refl refl
+descendant_refines =
+    descendants_refine small small_origins 0 1 loud quiet are_versions refl refl refl
 
 -- and in a call, behind which the field is written again
-abbrev caller : ℕ → Procedure
+abbrev pub caller : ℕ → Procedure
 caller k = calls_it k (next (Config 0 (ControlArg (Lit (pos 2)))) end)
 
 version_may_be_called : Refines small_world (caller 0) (caller 1) []

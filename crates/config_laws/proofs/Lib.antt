@@ -2,6 +2,7 @@ pub mod Exits
 pub mod AtEnd
 pub mod Holes
 pub mod Bind
+pub mod Local
 pub mod Derived
 pub mod Called
 pub mod PutBack
@@ -9,3 +10,4 @@ pub mod Proposed
 pub mod RuleExamples
 pub mod Rules
 pub mod LawExamples
+pub mod HoleExamples

@@ -45,7 +45,7 @@ window n = record { binder = named n 120; kind = WindowParam I32 (Lit (pos 8) �
 abbrev size : ℕ → Param
 size n = record { binder = named n 110; kind = ControlParam Size }
 
-abbrev sets : ℤ → Block → Block
+abbrev pub sets : ℤ → Block → Block
 sets n rest = next (Config 0 (ControlArg (Lit n))) rest
 
 -- x[0] = 1
@@ -110,7 +110,7 @@ no_gap = refl
 -- ---- an argument is bound
 
 -- for l in seq(0, n): x[l] = 5
-abbrev fill_n : Procedure
+abbrev pub fill_n : Procedure
 fill_n =
     procedure (size 0 ∷ window 1 ∷ []) []
     (next (For (named 2 108) (Lit (pos 0)) (Var 0)

@@ -1,14 +1,17 @@
 -- What each rule keeps.
-use Rattle.std.proofs.Common.{◌≡◌, ◌<◌, ◌≤◌, ℕ, zero, suc, ◌+◌, Bool, true, false, ◌||◌, List, [], ◌∷◌}
-use Rattle.std.proofs.Common.{Option, Some, None, option_map, refl, sym, ap, ◌∙◌, subst, true≢false, arith}
+use Rattle.std.proofs.Common.{◌≡◌, ◌<◌, ◌≤◌, ℕ, zero, suc, ◌+◌, Bool, true, false, ◌||◌, List, []}
+use Rattle.std.proofs.Common.{◌∷◌}
+use Rattle.std.proofs.Common.{Option, Some, None, option_map, refl, sym, ap, ◌∙◌, subst, true≢false}
+use Rattle.std.proofs.Common.{arith}
 use Rattle.std.specs.Prelude.{if◌then◌else◌, slice_get, slice_index_or, length}
 use Rattle.std.specs.Prelude.{option_and_then}
 use Rattle.exo_tree.specs.Tree.{Argument, Statement, Assign, Reduce, Config, Pass, If, For, Alloc}
-use Rattle.exo_tree.specs.Tree.{View, Call, Block, end, next, joined, Procedure, ConfigField, Program}
+use Rattle.exo_tree.specs.Tree.{View, Call, Block, end, next, joined, Procedure, ConfigField}
+use Rattle.exo_tree.specs.Tree.{Program}
 use Rattle.exo_tree.specs.Context.{Context, fill, rest_of}
 use Rattle.exo_tree.specs.Places.{Step, Path, Opened, opened, statement_at, first_of}
 use Rattle.exo_meaning.specs.Calls.{Callee}
-use Rattle.exo_meaning.specs.Run.{unit_world, kinds_of}
+use Rattle.exo_meaning.specs.Run.{unit_world, kinds_of, program_world}
 use Rattle.exo_meaning.specs.Inputs.{Refines}
 use Rattle.exo_meaning.specs.Units.{scope_of, is_call, field_kind}
 use Rattle.meaning_laws.specs.Live.{live, live_behind}
@@ -24,7 +27,8 @@ use Rattle.scope_laws.proofs.WellAtPlace.{well_at_place}
 use Rattle.live_laws.specs.CallVersion.{called}
 use Rattle.config_laws.specs.Surely.{surely_writes, surely_behind, unit_surely}
 use Rattle.config_laws.specs.FieldRule.{Got, Not, WrongShape, ConfigLive, NotDescendant}
-use Rattle.config_laws.specs.FieldRule.{Piece, Side, Before, Behind, FieldRule, Proposed, with_fields}
+use Rattle.config_laws.specs.FieldRule.{Piece, Side, Before, Behind, FieldRule, Proposed}
+use Rattle.config_laws.specs.FieldRule.{with_fields}
 use Rattle.config_laws.specs.FieldRule.{or_pass, is_first, is_end, is_live, any_live, gap}
 use Rattle.config_laws.specs.FieldRule.{surely_from, not_again, fields_at_end, proposed}
 use Rattle.config_laws.specs.WriteConfig.{written, gap_at, write_config}
@@ -36,7 +40,7 @@ use Rattle.config_laws.specs.DeleteConfig.{behind_or_before}
 use Rattle.config_laws.specs.DeleteConfig.{delete_config}
 use Rattle.config_laws.specs.BindConfig.{Bound, bound_in, bound_by, bound_call}
 use Rattle.config_laws.specs.BindConfig.{write_and_call, bound_piece, bind_config}
-use Rattle.config_laws.specs.Differing.{Origin, is_descendant, differing}
+use Rattle.config_laws.specs.Differing.{AreVersions, Origin, is_descendant, differing}
 use Rattle.config_laws.specs.CallEqv.{version_piece, call_eqv}
 use Rattle.config_laws.proofs.Holes.{written_refines, left_out_refines}
 use Rattle.config_laws.proofs.Bind.{bound_refines}
@@ -125,9 +129,22 @@ module _ (fields : List ConfigField) (memories : ℕ) (ps : List Procedure) (p :
     drafted : rule.draft p (alone c a) ≡ Got made
     accepted : rule.refusal p (alone c a) ≡ None
 
+  abbrev Made : Context → Statement → Block → Type 0
+  Made c a made = Kept fields memories ps p (with_fields rule p one_at (alone c a) made)
+
+  abbrev KeepsOne : Context → Statement → Block → Type 0
+  KeepsOne c a made = IsThere c a made → Made c a made
+
+  made_is : (c : Context) (a : Statement) (made other : Block) → made ≡ other → Made c a made
+      → Made c a other
+  made_is c a made other e h = subst (Made c a) e h
+
+  keeps_same : (c : Context) (a b : Statement) (made : Block) → a ≡ b → KeepsOne c a made
+      → KeepsOne c b made
+  keeps_same c a b made e h = subst (λ z. KeepsOne c z made) e h
+
   kept_one : ((piece : Piece) → rule.piece p at ≡ Got piece → one_at ≡ piece)
-      → ((c : Context) (a : Statement) (made : Block) → IsThere c a made
-      → Kept fields memories ps p (with_fields rule p one_at (alone c a) made))
+      → ((c : Context) (a : Statement) (made : Block) → KeepsOne c a made)
       → (m : Proposed) → proposed rule p at ≡ Got m → Kept fields memories ps p m
   kept_one shape keeps m h =
       let x = is_proposed rule p at m h in
@@ -275,35 +292,28 @@ delete_config_refines fields memories ps p at =
     (λ piece e. write_shape at piece (statement_at at p.body) e) keeps
   where
     config : (c : Context) (f : ℕ) (e : Argument) (made : Block)
-        → IsThere fields memories ps p (delete_config ps) at c (Config f e) made
-        → Kept fields memories ps p (with_fields (delete_config ps) p (record { path = at; count = 1 })
-        (record { around = c; piece = written f e }) made)
+        → KeepsOne fields memories ps p (delete_config ps) at c (Config f e) made
     config c f e made t =
         let o : Opened = record { around = c; piece = written f e } in
+        let body : p.body ≡ fill c (written f e) = sym (opened_law 1 at p.body o t.there) in
         let dead : live_behind (unit_live ps) f (written f e) c false ≡ false =
-        sym (or_none (is_live ps f o)) ∙ passed (is_live ps f o || false) ConfigLive t.accepted
+            sym (or_none (is_live ps f o)) ∙ passed (is_live ps f o || false) ConfigLive t.accepted
         in
-        subst (λ b. Kept fields memories ps p (with_fields (delete_config ps) p
-        (record { path = at; count = 1 }) (record { around = c; piece = written f e }) b))
+        let point = where_it_was at (rest_of c) in
+        made_is fields memories ps p (delete_config ps) at c (Config f e) end made
         (got_injective end made t.drafted) (λ old_ok new_ok.
-        at_point fields memories ps p (fill c (or_pass c end)) (where_it_was at (rest_of c)).0
-        (where_it_was at (rest_of c)).1 (f ∷ []) (λ g. surely_behind (unit_surely ps) g c)
-        (with_block p c (or_pass c end))
-        (λ g. where_left ps p at (record { around = c; piece = written f e }) t.there g (rest_of c))
-        (left_out_refines fields memories ps p c f e (sym (opened_law 1 at p.body
-        (record { around = c; piece = written f e }) t.there)) new_ok dead))
+        at_point fields memories ps p (fill c (or_pass c end)) point.0 point.1 (f ∷ [])
+        (λ g. surely_behind (unit_surely ps) g c) (with_block p c (or_pass c end))
+        (λ g. where_left ps p at o t.there g (rest_of c))
+        (left_out_refines fields memories ps p c f e body new_ok dead))
 
     keeps : (c : Context) (a : Statement) (made : Block)
-        → IsThere fields memories ps p (delete_config ps) at c a made
-        → Kept fields memories ps p (with_fields (delete_config ps) p (record { path = at; count = 1 })
-        (record { around = c; piece = next a end }) made)
+        → KeepsOne fields memories ps p (delete_config ps) at c a made
     keeps c a made t =
         let w = field_written at (record { path = at; count = 1 }) a
-        (ap (write_piece at) t.is ∙ t.shape) in
-        subst (λ b. IsThere fields memories ps p (delete_config ps) at c b made
-        → Kept fields memories ps p (with_fields (delete_config ps) p (record { path = at; count = 1 })
-        (record { around = c; piece = next b end }) made)) w.2
-        (λ t. config c w.0 w.1 made t) t
+            (ap (write_piece at) t.is ∙ t.shape) in
+        keeps_same fields memories ps p (delete_config ps) at c (Config w.0 w.1) a made w.2
+        (config c w.0 w.1 made) t
 
 -- ---- bind_config
 
@@ -345,40 +355,34 @@ bind_config_refines fields memories ps name f p at =
     (λ piece e. bind_shape ps name f at piece (bound_by ps name f (statement_at at p.body)) e) keeps
   where
     call : (c : Context) (k : ℕ) (args : List Argument) (made : Block)
-        → IsThere fields memories ps p (bind_config ps name f) at c (Call k args) made
-        → Kept fields memories ps p (with_fields (bind_config ps name f) p (record { path = at; count = 1 })
-        (record { around = c; piece = called k args }) made)
+        → KeepsOne fields memories ps p (bind_config ps name f) at c (Call k args) made
     call c k args made t =
+        let o : Opened = record { around = c; piece = called k args } in
+        let body : p.body ≡ fill c (called k args) = sym (opened_law 1 at p.body o t.there) in
         let d = draft_gives ps name f k (bound_by ps name f (Some (Call k args))) made t.drafted in
         let b = d.0 in
         let q = and_then_gives (λ (q : Procedure). bound_in f name q.params args) (slice_get ps k)
-        b d.1 in
+            b d.1 in
         let dead = passed (live (unit_live ps) f (called k args)
-        (live_behind (unit_live ps) f (called k args) c false)) ConfigLive t.accepted in
+            (live_behind (unit_live ps) f (called k args) c false)) ConfigLive t.accepted in
         let again = λ (g : ℕ). unit_surely ps k g || surely_behind (unit_surely ps) g c in
-        subst (λ z. Kept fields memories ps p (with_fields (bind_config ps name f) p
-        (record { path = at; count = 1 }) (record { around = c; piece = called k args }) z)) d.2
+        made_is fields memories ps p (bind_config ps name f) at c (Call k args)
+        (write_and_call f k b) made d.2
         (λ old_ok new_ok.
         at_point fields memories ps p (fill c (write_and_call f k b)) at Behind (f ∷ []) again
         (with_block p c (write_and_call f k b))
-        (λ g. behind_first fields memories ps p 1 at
-        (record { around = c; piece = called k args }) (Config f b.value)
+        (λ g. behind_first fields memories ps p 1 at o (Config f b.value)
         (next (Call k b.args) end) t.there g
         ∙ ap (λ z. z || surely_behind (unit_surely ps) g c) (or_none (unit_surely ps k g)))
-        (bound_refines fields memories ps p c f k args name q.0.params b (sym (opened_law 1 at
-        p.body (record { around = c; piece = called k args }) t.there)) q.1 new_ok dead))
+        (bound_refines fields memories ps p c f k args name q.0.params b body q.1 new_ok dead))
 
     keeps : (c : Context) (a : Statement) (made : Block)
-        → IsThere fields memories ps p (bind_config ps name f) at c a made
-        → Kept fields memories ps p (with_fields (bind_config ps name f) p (record { path = at; count = 1 })
-        (record { around = c; piece = next a end }) made)
+        → KeepsOne fields memories ps p (bind_config ps name f) at c a made
     keeps c a made t =
         let w = is_bound ps name f at (record { path = at; count = 1 }) a
-        (ap (λ o. bound_piece ps name f at (bound_by ps name f o)) t.is ∙ t.shape) in
-        subst (λ b. IsThere fields memories ps p (bind_config ps name f) at c b made
-        → Kept fields memories ps p (with_fields (bind_config ps name f) p (record { path = at; count = 1 })
-        (record { around = c; piece = next b end }) made)) w.2
-        (λ t. call c w.0 w.1 made t) t
+            (ap (λ o. bound_piece ps name f at (bound_by ps name f o)) t.is ∙ t.shape) in
+        keeps_same fields memories ps p (bind_config ps name f) at c (Call w.0 w.1) a made w.2
+        (call c w.0 w.1 made) t
 
 -- ---- call_eqv
 
@@ -453,47 +457,48 @@ callee_there fields memories ps p c k args ok body =
     go None h = absurd (true≢false (sym h))
     go (Some d) h = (d, refl)
 
+module _ (unit : Program) (os : List Origin) (j : ℕ) (p : Procedure) (at : Path) where
+  abbrev there_are : List Procedure
+  there_are = unit.procedures
+
+  abbrev memory_count : ℕ
+  memory_count = length unit.memories
+
+  abbrev KeepsCall : Context → Statement → Block → Type 0
+  KeepsCall c a made =
+      KeepsOne unit.fields memory_count there_are p (call_eqv unit os j) at c a made
+
+  call_kept : AreVersions (program_world unit) unit os → (c : Context) (k : ℕ)
+      (args : List Argument) (made : Block) → is_descendant os j k ≡ true
+      → KeepsCall c (Call k args) made
+  call_kept versions c k args made is t =
+      let o : Opened = record { around = c; piece = called k args } in
+      let q : Procedure = with_block p c (called j args) in
+      let fs = differing unit os j k in
+      let body : p.body ≡ fill c (called k args) = sym (opened_law 1 at p.body o t.there) in
+      let free = passed (any_live there_are o fs) ConfigLive t.accepted in
+      made_is unit.fields memory_count there_are p (call_eqv unit os j) at c (Call k args)
+      (called j args) made (got_injective (called j args) made t.drafted)
+      (λ old_ok new_ok.
+      let one = callee_there unit.fields memory_count there_are p c k args old_ok body in
+      let two = callee_there unit.fields memory_count there_are q c j args new_ok refl in
+      at_point unit.fields memory_count there_are p (fill c (called j args)) at Behind fs
+      (λ g. surely_behind (unit_surely there_are) g c) q
+      (behind_first unit.fields memory_count there_are p 1 at o (Call j args) end t.there)
+      (version_refines unit.fields memory_count there_are c k j args p q one.0 two.0 fs
+      (record { old = body; new = refl }) old_ok new_ok one.1 two.1
+      (descendants_may_be_called unit os k j one.0 two.0 versions is one.1 two.1)
+      (λ f i. none_live there_are o fs f i.0 free i.1 i.2)))
+
 pub call_eqv_refines : CallEqvRefines
 call_eqv_refines unit os j versions p at =
     kept_one unit.fields (length unit.memories) unit.procedures p (call_eqv unit os j) at
     (λ piece e. version_shape unit os j at piece (statement_at at p.body) e) keeps
   where
-    call : (c : Context) (k : ℕ) (args : List Argument) (made : Block)
-        → is_descendant os j k ≡ true
-        → IsThere unit.fields (length unit.memories) unit.procedures p (call_eqv unit os j) at c (Call k args) made
-        → Kept unit.fields (length unit.memories) unit.procedures p (with_fields (call_eqv unit os j) p (record { path = at; count = 1 })
-        (record { around = c; piece = called k args }) made)
-    call c k args made is t =
-        let fs = differing unit os j k in
-        let body : p.body ≡ fill c (called k args) = sym (opened_law 1 at p.body
-        (record { around = c; piece = called k args }) t.there) in
-        let free = passed (any_live unit.procedures (record { around = c; piece = called k args }) fs) ConfigLive
-        t.accepted in
-        subst (λ z. Kept unit.fields (length unit.memories) unit.procedures p (with_fields (call_eqv unit os j) p
-        (record { path = at; count = 1 }) (record { around = c; piece = called k args }) z))
-        (got_injective (called j args) made t.drafted)
-        (λ old_ok new_ok.
-        let one = callee_there unit.fields (length unit.memories) unit.procedures p c k args old_ok body in
-        let two = callee_there unit.fields (length unit.memories) unit.procedures (with_block p c (called j args)) c j args
-        new_ok refl in
-        at_point unit.fields (length unit.memories) unit.procedures p (fill c (called j args)) at Behind fs
-        (λ g. surely_behind (unit_surely unit.procedures) g c) (with_block p c (called j args))
-        (behind_first unit.fields (length unit.memories) unit.procedures p 1 at
-        (record { around = c; piece = called k args }) (Call j args) end t.there)
-        (version_refines unit.fields (length unit.memories) unit.procedures c k j args p (with_block p c (called j args)) one.0
-        two.0 fs (record { old = body; new = refl }) old_ok new_ok one.1 two.1
-        (descendants_may_be_called unit os k j one.0 two.0 versions is one.1 two.1)
-        (λ f i. none_live unit.procedures (record { around = c; piece = called k args }) fs f i.0 free i.1
-        i.2)))
-
-    keeps : (c : Context) (a : Statement) (made : Block)
-        → IsThere unit.fields (length unit.memories) unit.procedures p (call_eqv unit os j) at c a made
-        → Kept unit.fields (length unit.memories) unit.procedures p (with_fields (call_eqv unit os j) p (record { path = at; count = 1 })
-        (record { around = c; piece = next a end }) made)
+    keeps : (c : Context) (a : Statement) (made : Block) → KeepsCall unit os j p at c a made
     keeps c a made t =
         let w = takes_call unit os j at (record { path = at; count = 1 }) a
-        (ap (version_piece unit os j at) t.is ∙ t.shape) in
-        subst (λ b. IsThere unit.fields (length unit.memories) unit.procedures p (call_eqv unit os j) at c b made
-        → Kept unit.fields (length unit.memories) unit.procedures p (with_fields (call_eqv unit os j) p (record { path = at; count = 1 })
-        (record { around = c; piece = next b end }) made)) w.is
-        (λ t. call c w.k w.args made w.descends t) t
+            (ap (version_piece unit os j at) t.is ∙ t.shape) in
+        keeps_same unit.fields (length unit.memories) unit.procedures p (call_eqv unit os j) at c
+        (Call w.k w.args) a made w.is
+        (call_kept unit os j p at versions c w.k w.args made w.descends) t

@@ -3,7 +3,8 @@ use Rattle.std.specs.Prelude.{◌||◌, ℕ, Bool, true, false, if◌then◌else
 use Rattle.std.specs.Prelude.{Option, Some, None, option_and_then, slice_get}
 use Rattle.std.specs.Str.{bytes_eq}
 use Rattle.exo_tree.specs.Tree.{Control, Lit, Var, Field, StrideOf, Neg, Add, Sub, Mul, Div, Mod}
-use Rattle.exo_tree.specs.Tree.{Condition, True, False, Flag, FieldFlag, Lt, Le, Gt, Ge, Eq, And, Or}
+use Rattle.exo_tree.specs.Tree.{Condition, True, False, Flag, FieldFlag, Lt, Le, Gt, Ge, Eq, And}
+use Rattle.exo_tree.specs.Tree.{Or}
 use Rattle.exo_tree.specs.Tree.{Argument, ControlArg, ConditionArg, Whole, Window}
 use Rattle.exo_tree.specs.Tree.{Statement, Config, Call, Block, end, next, Procedure}
 use Rattle.exo_tree.specs.Tree.{Param, ParamKind, ControlParam, TensorParam, WindowParam}
@@ -104,7 +105,8 @@ module _ (ps : List Procedure) (x : List ℕ) (f : ℕ) where
 
   -- the arguments that stay may read the field, and so may the callee
   abbrev pub is_live_before : Opened → Bool
-  is_live_before o = live (unit_live ps) f o.piece (live_behind (unit_live ps) f o.piece o.around false)
+  is_live_before o =
+      live (unit_live ps) f o.piece (live_behind (unit_live ps) f o.piece o.around false)
 
   abbrev pub bind_config : FieldRule
   bind_config = record {

@@ -1,13 +1,14 @@
 -- The fields in which a version may differ from one that it was made from.
 use Rattle.std.specs.Prelude.{◌≡◌, ◌==◌, ◌<◌, ◌||◌, ◌++◌, ℕ, zero, suc, Bool, true, false}
-use Rattle.std.specs.Prelude.{if◌then◌else◌, List, [], length, Option, Some, None, slice_get, Contains}
+use Rattle.std.specs.Prelude.{if◌then◌else◌, List, [], length, Option, Some, None, slice_get}
+use Rattle.std.specs.Prelude.{Contains}
 use Rattle.exo_tree.specs.Tree.{Procedure, Program}
 use Rattle.exo_tree.specs.Places.{Path}
 use Rattle.exo_meaning.specs.Calls.{Callee}
 use Rattle.exo_meaning.specs.Run.{World, program_world}
 use Rattle.exo_meaning.specs.Inputs.{Refines}
 use Rattle.meaning_laws.specs.Chain.{HasHead, NeverFaults}
-use Rattle.config_laws.specs.FieldSets.{fields_where}
+use Rattle.config_state.specs.FieldSets.{fields_where}
 use Rattle.live_laws.specs.CallVersion.{MayStandForCallee}
 use Rattle.config_laws.specs.FieldRule.{Side, fields_at_end, is_listed}
 

@@ -1,4 +1,3 @@
-pub mod FieldSets
 pub mod Surely
 pub mod Exits
 pub mod FieldRule
@@ -9,3 +8,5 @@ pub mod Holes
 pub mod Differing
 pub mod CallEqv
 pub mod Keeps
+pub mod AtEnd
+pub mod Local

@@ -3,6 +3,11 @@
 ghost use Rattle.config_laws.specs.Exits.{BlocksGoByExit};
 ghost use Rattle.config_laws.specs.Exits.{HolesGoByExit};
 ghost use Rattle.config_laws.specs.Exits.{UnitsGoByExit};
+ghost use Rattle.config_laws.specs.AtEnd.{OthersLiveAtEnd};
+ghost use Rattle.config_laws.specs.AtEnd.{ListedStayDead};
+ghost use Rattle.config_laws.specs.Local.{WritesMayBePutIn};
+ghost use Rattle.config_laws.specs.Local.{WritesMayBeLeftOut};
+ghost use Rattle.config_laws.specs.Local.{ArgumentsMayBeBound};
 ghost use Rattle.config_laws.specs.Holes.{WrittenRefines};
 ghost use Rattle.config_laws.specs.Holes.{LeftOutRefines};
 ghost use Rattle.config_laws.specs.Holes.{BoundRefines};
@@ -28,6 +33,32 @@ pub fn holes_go_by_exit()
 /// So it is before a call, in each unit.
 pub fn units_go_by_exit()
     ensures { UnitsGoByExit }
+{}
+
+/// Only listed fields that are not written again may differ at the end.
+pub fn others_live_at_end()
+    ensures { OthersLiveAtEnd }
+{}
+
+/// A listed field that is not live behind a hole is not live there where the others are live at
+/// the end.
+pub fn listed_stay_dead()
+    ensures { ListedStayDead }
+{}
+
+/// At each state a write of a field that is not live behind it may be put in.
+pub fn writes_may_be_put_in()
+    ensures { WritesMayBePutIn }
+{}
+
+/// At each state a write of a field that is not live behind it may be left out.
+pub fn writes_may_be_left_out()
+    ensures { WritesMayBeLeftOut }
+{}
+
+/// At each state an argument may be written into a field that is not live before the call.
+pub fn arguments_may_be_bound()
+    ensures { ArgumentsMayBeBound }
 {}
 
 /// A configuration write may be put in where its field is not live, but for that field.
