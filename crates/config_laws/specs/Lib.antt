@@ -10,3 +10,4 @@ pub mod CallEqv
 pub mod Keeps
 pub mod AtEnd
 pub mod Local
+pub mod Grown

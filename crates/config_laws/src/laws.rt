@@ -14,6 +14,9 @@ ghost use Rattle.config_laws.specs.Holes.{BoundRefines};
 ghost use Rattle.config_laws.specs.Holes.{VersionRefines};
 ghost use Rattle.config_laws.specs.Differing.{DescendantsRefine};
 ghost use Rattle.config_laws.specs.Differing.{DescendantsMayBeCalled};
+ghost use Rattle.config_laws.specs.Grown.{SurelyGrown};
+ghost use Rattle.config_laws.specs.Grown.{SurelyBehindGrown};
+ghost use Rattle.config_laws.specs.Grown.{StepFieldsGrown};
 ghost use Rattle.config_laws.specs.Keeps.{WriteConfigRefines};
 ghost use Rattle.config_laws.specs.Keeps.{DeleteConfigRefines};
 ghost use Rattle.config_laws.specs.Keeps.{BindConfigRefines};
@@ -91,6 +94,21 @@ pub fn descendants_refine()
 /// So a descendant takes what the procedure takes and writes no more of it.
 pub fn descendants_may_be_called()
     ensures { DescendantsMayBeCalled }
+{}
+
+/// What a block surely writes stays the same as the unit grows.
+pub fn surely_grown()
+    ensures { SurelyGrown }
+{}
+
+/// So does what is surely written behind a hole.
+pub fn surely_behind_grown()
+    ensures { SurelyBehindGrown }
+{}
+
+/// So do the fields of a step.
+pub fn step_fields_grown()
+    ensures { StepFieldsGrown }
 {}
 
 /// `write_config` keeps the meaning but for the field, where that is not written again.
