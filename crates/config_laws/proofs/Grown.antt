@@ -14,8 +14,8 @@ use Rattle.meaning_laws.proofs.Places.{opened_law}
 use Rattle.meaning_laws.proofs.Substitute.{and_parts}
 use Rattle.config_laws.specs.Surely.{surely_writes, step_surely_writes, surely_behind, surely_by}
 use Rattle.config_laws.specs.Surely.{all_surely, unit_surely}
-use Rattle.config_laws.specs.FieldRule.{Side, gap, surely_from, not_again, fields_at_end}
-use Rattle.config_laws.specs.Differing.{Origin, step_fields}
+use Rattle.config_laws.specs.FieldRule.{Side, gap, surely_from, fields_at_end}
+use Rattle.config_laws.specs.Differing.{Origin}
 use Rattle.config_laws.specs.Grown.{SurelyGrown, SurelyBehindGrown, StepFieldsGrown}
 use Rattle.config_laws.proofs.Proposed.{fields_same}
 
@@ -128,15 +128,15 @@ module _ (ps more : List Procedure) (f : ℕ) where
       ap₂ ◌||◌ (grown_behind c old p.0) (grown rest p.1)
   grown_behind (InThen t c other rest) old h =
       let p = and_parts (calls_below (length ps) (fill c old) && calls_below (length ps) other)
-          (calls_below (length ps) rest) h in
+      (calls_below (length ps) rest) h in
       let q = and_parts (calls_below (length ps) (fill c old)) (calls_below (length ps) other)
-          p.0 in
+      p.0 in
       ap₂ ◌||◌ (grown_behind c old q.0) (grown rest p.1)
   grown_behind (InElse t other c rest) old h =
       let p = and_parts (calls_below (length ps) other && calls_below (length ps) (fill c old))
-          (calls_below (length ps) rest) h in
+      (calls_below (length ps) rest) h in
       let q = and_parts (calls_below (length ps) other) (calls_below (length ps) (fill c old))
-          p.0 in
+      p.0 in
       ap₂ ◌||◌ (grown_behind c old q.1) (grown rest p.1)
 
   from_grown : (body : Block) (at : Path) (side : Side) → Below body
@@ -171,29 +171,29 @@ step_fields_grown ps more os k q there below = go (slice_get os k)
   where
     go : (s : Option Origin)
         → elim s as (λ s. List ℕ) [
-          None ↦ [] |
-          Some o ↦ elim (slice_get (ps ++ more) k) as (λ r. List ℕ) [
-            None ↦ [] |
-            Some q ↦ fields_at_end (ps ++ more) q.body o.place o.side o.fields
+          | None ↦ []
+          | Some o ↦ elim (slice_get (ps ++ more) k) as (λ r. List ℕ) [
+            | None ↦ []
+            | Some q ↦ fields_at_end (ps ++ more) q.body o.place o.side o.fields
           ]
         ]
         ≡ elim s as (λ s. List ℕ) [
-          None ↦ [] |
-          Some o ↦ elim (slice_get ps k) as (λ r. List ℕ) [
-            None ↦ [] |
-            Some q ↦ fields_at_end ps q.body o.place o.side o.fields
+          | None ↦ []
+          | Some o ↦ elim (slice_get ps k) as (λ r. List ℕ) [
+            | None ↦ []
+            | Some q ↦ fields_at_end ps q.body o.place o.side o.fields
           ]
         ]
     go None = refl
     go (Some o) =
         ap (λ (r : Option Procedure). elim r as (λ r. List ℕ) [
-          None ↦ [] |
-          Some q ↦ fields_at_end (ps ++ more) q.body o.place o.side o.fields
+          | None ↦ []
+          | Some q ↦ fields_at_end (ps ++ more) q.body o.place o.side o.fields
         ]) (first_ones ps more k q there)
         ∙ fields_same (surely_from (ps ++ more) q.body o.place o.side)
         (surely_from ps q.body o.place o.side) o.fields
         (λ f. from_grown ps more f q.body o.place o.side below)
         ∙ sym (ap (λ (r : Option Procedure). elim r as (λ r. List ℕ) [
-          None ↦ [] |
-          Some q ↦ fields_at_end ps q.body o.place o.side o.fields
+          | None ↦ []
+          | Some q ↦ fields_at_end ps q.body o.place o.side o.fields
         ]) there)

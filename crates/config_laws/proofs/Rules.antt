@@ -297,7 +297,7 @@ delete_config_refines fields memories ps p at =
         let o : Opened = record { around = c; piece = written f e } in
         let body : p.body ≡ fill c (written f e) = sym (opened_law 1 at p.body o t.there) in
         let dead : live_behind (unit_live ps) f (written f e) c false ≡ false =
-            sym (or_none (is_live ps f o)) ∙ passed (is_live ps f o || false) ConfigLive t.accepted
+        sym (or_none (is_live ps f o)) ∙ passed (is_live ps f o || false) ConfigLive t.accepted
         in
         let point = where_it_was at (rest_of c) in
         made_is fields memories ps p (delete_config ps) at c (Config f e) end made
@@ -311,7 +311,7 @@ delete_config_refines fields memories ps p at =
         → KeepsOne fields memories ps p (delete_config ps) at c a made
     keeps c a made t =
         let w = field_written at (record { path = at; count = 1 }) a
-            (ap (write_piece at) t.is ∙ t.shape) in
+        (ap (write_piece at) t.is ∙ t.shape) in
         keeps_same fields memories ps p (delete_config ps) at c (Config w.0 w.1) a made w.2
         (config c w.0 w.1 made) t
 
@@ -362,9 +362,9 @@ bind_config_refines fields memories ps name f p at =
         let d = draft_gives ps name f k (bound_by ps name f (Some (Call k args))) made t.drafted in
         let b = d.0 in
         let q = and_then_gives (λ (q : Procedure). bound_in f name q.params args) (slice_get ps k)
-            b d.1 in
+        b d.1 in
         let dead = passed (live (unit_live ps) f (called k args)
-            (live_behind (unit_live ps) f (called k args) c false)) ConfigLive t.accepted in
+        (live_behind (unit_live ps) f (called k args) c false)) ConfigLive t.accepted in
         let again = λ (g : ℕ). unit_surely ps k g || surely_behind (unit_surely ps) g c in
         made_is fields memories ps p (bind_config ps name f) at c (Call k args)
         (write_and_call f k b) made d.2
@@ -380,7 +380,7 @@ bind_config_refines fields memories ps name f p at =
         → KeepsOne fields memories ps p (bind_config ps name f) at c a made
     keeps c a made t =
         let w = is_bound ps name f at (record { path = at; count = 1 }) a
-            (ap (λ o. bound_piece ps name f at (bound_by ps name f o)) t.is ∙ t.shape) in
+        (ap (λ o. bound_piece ps name f at (bound_by ps name f o)) t.is ∙ t.shape) in
         keeps_same fields memories ps p (bind_config ps name f) at c (Call w.0 w.1) a made w.2
         (call c w.0 w.1 made) t
 
@@ -498,7 +498,7 @@ call_eqv_refines unit os j versions p at =
     keeps : (c : Context) (a : Statement) (made : Block) → KeepsCall unit os j p at c a made
     keeps c a made t =
         let w = takes_call unit os j at (record { path = at; count = 1 }) a
-            (ap (version_piece unit os j at) t.is ∙ t.shape) in
+        (ap (version_piece unit os j at) t.is ∙ t.shape) in
         keeps_same unit.fields (length unit.memories) unit.procedures p (call_eqv unit os j) at c
         (Call w.k w.args) a made w.is
         (call_kept unit os j p at versions c w.k w.args made w.descends) t
