@@ -18,7 +18,6 @@ use Rattle.exo_tree.specs.Context.{Context, Here, After, InLoop, InThen, InElse,
 use Rattle.meaning_laws.specs.Context.{ComesToTurn, now, later, ComesTo}
 use Rattle.meaning_laws.specs.Live.{read_by_control, read_by_condition, live, live_step}
 use Rattle.meaning_laws.specs.Live.{live_behind, refield, Agree, SameLive, RefinedLive, CallsForget}
-use Rattle.meaning_laws.specs.Live.{LiveLaw}
 use Rattle.meaning_laws.proofs.Parts.{then_gives, map_gives, both_some, both_back, both_through}
 use Rattle.meaning_laws.proofs.Refined.{state_same, state_on}
 use Rattle.meaning_laws.proofs.Replace.{left_refined, all_refined, unit_respects, where_gives}
@@ -342,8 +341,3 @@ module _ (kinds : ℕ → Kind) (ps : List Procedure) (calls : ℕ → ℕ → B
           r.live.agree f (exit f k) ∙ sym (ap (λ (z : State). z.scene.fields f) r.live.same)
           ∙ ap (λ (z : Scene). z.fields f) r.refined.scene;
     }
-
-pub live_law : LiveLaw
-live_law kinds ps calls c old new p q out but forget was is exit may =
-    live_along kinds ps calls c old new p q out but forget was is exit
-    (λ s good u v come go g agree near. may s u good come g agree)

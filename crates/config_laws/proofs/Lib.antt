@@ -1,0 +1,14 @@
+pub mod Exits
+pub mod AtEnd
+pub mod Holes
+pub mod Bind
+pub mod Local
+pub mod Derived
+pub mod Called
+pub mod PutBack
+pub mod Proposed
+pub mod Grown
+pub mod RuleExamples
+pub mod Rules
+pub mod LawExamples
+pub mod HoleExamples

@@ -1,0 +1,13 @@
+pub mod Surely
+pub mod Exits
+pub mod FieldRule
+pub mod WriteConfig
+pub mod DeleteConfig
+pub mod BindConfig
+pub mod Holes
+pub mod Differing
+pub mod CallEqv
+pub mod Keeps
+pub mod AtEnd
+pub mod Local
+pub mod Grown
