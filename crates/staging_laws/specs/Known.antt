@@ -1,0 +1,72 @@
+-- What has to be known of a block at a place, so that it may be staged there.
+use Rattle.std.specs.Prelude.{◌≡◌, ◌==◌, ℕ, Bool, true, false, List, Some}
+use Rattle.exo_tree.specs.Tree.{Cell, Binder, Control, Coord, Block}
+use Rattle.exo_meaning.specs.Scene.{Shape, Seen, Scene, numbers, updated, window}
+use Rattle.exo_meaning.specs.State.{State}
+use Rattle.exo_meaning.specs.Laws.{HasRoots}
+use Rattle.exo_meaning.specs.Run.{World, run}
+use Rattle.meaning_laws.specs.Scoped.{has_binder}
+use Rattle.meaning_laws.specs.Sorted.{CellsFit}
+use Rattle.meaning_laws.specs.Sound.{IsSound, IsUnbound}
+use Rattle.inplace_laws.specs.Filled.{Loop}
+use Rattle.inplace_laws.specs.InPlace.{makes}
+use Rattle.inplace_laws.specs.Staged.{staged}
+use Rattle.inplace_laws.specs.Uses.{in_block}
+use Rattle.inplace_laws.specs.Windows.{are_plain, coords_have}
+use Rattle.staging_laws.specs.Stores.{is_variable, AreDistinct, spans}
+use Rattle.staging_laws.specs.Inside.{extents_of}
+use Rattle.staging_laws.specs.Alone.{has_root, AreRoots}
+use Rattle.staging_laws.specs.Converted.{converted, FitsWithin, IsNewName}
+use Rattle.staging_laws.specs.Replaced.{between, IsStaged}
+
+-- loops over the spans of a window, in any scene
+pub record AreOver (ls : List Loop) (coords : List Coord) : Type 0 where
+  pub distinct : AreDistinct ls
+  pub apart : (y : ℕ) → coords_have coords y ≡ true → is_variable y ls ≡ false
+  pub equal : (scene : Scene) → numbers scene (extents_of ls) ≡ numbers scene (spans coords)
+
+-- tests on the trees of the step
+pub record AreMade (blind : ℕ → Bool) (root : ℕ → ℕ) (a : Binder) (dims : List Control) (x : ℕ)
+    (coords : List Coord) (ls ks : List Loop) (b : Block) : Type 0 where
+  pub new : IsNewName a.id coords b
+  pub other : (x == a.id) ≡ false
+  pub plain : are_plain coords ≡ true
+  pub sizes : (scene : Scene) → numbers scene dims ≡ numbers scene (spans coords)
+  pub loads : AreOver ls coords
+  pub stores : AreOver ks coords
+  pub blinds : blind a.id ≡ true
+  pub names : in_block (has_root (updated root a.id a.id) (root x)) blind
+      (converted a.id x coords b) ≡ false
+  pub not_made : makes (converted a.id x coords b) a.id ≡ false
+  pub own : has_binder (converted a.id x coords b) a.id ≡ false
+  pub name : has_binder (converted a.id x coords b) x ≡ false
+  pub root_name : has_binder (converted a.id x coords b) (root x) ≡ false
+  pub variables : (y : ℕ) → coords_have coords y ≡ true
+      → has_binder (converted a.id x coords b) y ≡ false
+
+-- what is known of a state there; the cells that the converted block leaves fit their types
+pub record IsKnown (world : World) (root : ℕ → ℕ) (a : Binder) (cell : Cell) (x : ℕ)
+    (coords : List Coord) (b : Block) (s : State) : Type 0 where
+  pub sound : IsSound s
+  pub cells : CellsFit s
+  pub unbound : IsUnbound s a.id
+  pub roots : HasRoots root s.scene
+  pub own_roots : AreRoots root s
+  pub cell_is : (z : Seen) (to : Shape) → s.scene.views x ≡ Some z
+      → s.scene.buffers z.buffer ≡ Some to → to.cell ≡ cell
+  pub fit : FitsWithin world x coords b s
+  pub behind : (z : Seen) (to : Shape) (t : State)
+      → window s.scene x coords ≡ Some z
+      → s.scene.buffers z.buffer ≡ Some to
+      → run world (converted a.id x coords b) (staged a.id z to s) ≡ Some t → CellsFit t
+
+-- then the staged block does the same; that the window is there, its load nest shows
+abbrev pub KnownLaw : Type 0
+KnownLaw =
+    (blind : ℕ → Bool) (world : World) (root : ℕ → ℕ) (a : Binder) (cell : Cell)
+    (dims : List Control) (memory x : ℕ) (coords : List Coord) (ls ks : List Loop) (b : Block)
+    (s u : State)
+    → AreMade blind root a dims x coords ls ks b
+    → IsKnown world root a cell x coords b s
+    → run world (between a cell dims memory x coords ls ks (converted a.id x coords b)) s ≡ Some u
+    → IsStaged blind world root a cell dims x coords ls ks b s
