@@ -5,19 +5,21 @@ use Rattle.std.proofs.Common.{Option, Some, None, IfSome, IsSome, option_map, re
 use Rattle.std.proofs.Common.{true≢false}
 use Rattle.std.proofs.Common.{eqb-true}
 use Rattle.std.specs.Int.{int_wrap}
-use Rattle.exo_tree.specs.Tree.{Binder, I32, Index, Lit, Var, Sub, Mul, Const, Read, Coord, Span}
+use Rattle.exo_tree.specs.Tree.{Binder, Cell, I32, Index, Lit, Var, Sub, Mul, Const, Read, Coord, Span}
 use Rattle.exo_tree.specs.Tree.{Window, Alloc, Pass}
 use Rattle.exo_tree.specs.Tree.{Assign, For, Block, end, next, Procedure}
 use Rattle.exo_tree.specs.Context.{Here}
 use Rattle.exo_meaning.specs.Value.{Value, Undefined, Number, stored_as}
 use Rattle.exo_meaning.specs.Scene.{Seen, Shape, Scene, Range, then_do, numbers, updated, window}
-use Rattle.exo_meaning.specs.Scene.{cell_at}
+use Rattle.exo_meaning.specs.Scene.{cell_at, whole}
 use Rattle.exo_meaning.specs.State.{State, same_index, on_scene, with_view, with_contents}
 use Rattle.exo_meaning.specs.Calls.{GivenView, contents, copy_back, all_positive, held_at}
 use Rattle.exo_meaning.specs.Inputs.{FitsCell, Refines}
 use Rattle.exo_meaning.specs.Unseen.{SameBut}
-use Rattle.meaning_laws.specs.Sorted.{CellsFit}
-use Rattle.exo_meaning.specs.Run.{World, run, writes, world_of, unit_world}
+use Rattle.meaning_laws.specs.Sorted.{CellsFit, IsSorted, Sees}
+use Rattle.exo_meaning.specs.Run.{World, run, writes, world_of, unit_world, kinds_of}
+use Rattle.exo_meaning.specs.Run.{row_major}
+use Rattle.exo_meaning.specs.Units.{Scope, Sort, BufferName, with_name, sort_in}
 use Rattle.exo_meaning.proofs.Windows.{none_is_some, one_value}
 use Rattle.inplace_laws.specs.Filled.{Loop, nest}
 use Rattle.staging_laws.specs.Stores.{load_nest, store_nest, IsStaging, spans, variables, FitInto}
@@ -27,8 +29,9 @@ use Rattle.staging_laws.specs.Inside.{AreOverSpans, extents_of}
 use Rattle.staging_laws.specs.Converted.{converted, FitsWithin, IsNewName}
 use Rattle.staging_laws.specs.Whole.{MayConvert, Follows}
 use Rattle.staging_laws.specs.Replaced.{Hides, between, IsStaged}
-use Rattle.staging_laws.specs.Known.{AreOver, AreMade, IsKnown}
-use Rattle.staging_laws.proofs.Known.{known_law}
+use Rattle.staging_laws.specs.Known.{AreOver, AreMade, IsKnown, FitsBehind}
+use Rattle.staging_laws.specs.Known.{up_to_store}
+use Rattle.staging_laws.proofs.Known.{known_law, fits_behind_law}
 use Rattle.staging_laws.proofs.Replaced.{alike_replaces, staged_replaces, staged_refines}
 use Rattle.meaning_laws.specs.Context.{MayReplace}
 use Rattle.meaning_laws.specs.Sound.{IsUnbound}
@@ -53,7 +56,7 @@ use Rattle.staging_laws.specs.Behind.{IsBetween, MayGoRound}
 use Rattle.staging_laws.proofs.Behind.{behind_law, staged_sound, round_law}
 
 abbrev binder : ℕ → Binder
-binder n = record { id = n; name = [] }
+binder n = record { id = n; name = n ∷ [] }
 
 abbrev world : World
 world = world_of (λ f. Index) []
@@ -731,15 +734,69 @@ is_known = record {
   cell_is = λ z to i k. ap (λ (q : Shape). q.cell) (one_value to eight (sym k
       ∙ ap (λ (w : Seen). first.scene.buffers w.buffer) (sym (one_value (all_of 10) z i))));
   fit = they_fit;
-  behind = λ z to t i k e. cells_fit_behind t (subst (λ w. run world on_t (staged 1 w eight first)
-      ≡ Some t) (sym (one_value (all_of 10) z i)) (subst (λ q. run world on_t (staged 1 z q first)
-      ≡ Some t) (one_value to eight (sym k ∙ ap (λ (w : Seen). first.scene.buffers w.buffer)
-      (sym (one_value (all_of 10) z i)))) e));
 }
+
+fits_there : FitsBehind world (binder 1) 10 coords (halves 10) first
+fits_there z to t i k e = cells_fit_behind t (subst (λ w. run world on_t (staged 1 w eight first)
+    ≡ Some t) (sym (one_value (all_of 10) z i)) (subst (λ q. run world on_t (staged 1 z q first)
+    ≡ Some t) (one_value to eight (sym k ∙ ap (λ (w : Seen). first.scene.buffers w.buffer)
+    (sym (one_value (all_of 10) z i)))) e))
 
 -- it runs, so it is staged
 it_is_staged : (u : State) → run world (between (binder 1) I32 (Lit (pos 8) ∷ []) 0 10 coords loops
     back on_t) first ≡ Some u → IsStaged (λ y. y == 1) world (λ y. y) (binder 1) I32
     (Lit (pos 8) ∷ []) 10 coords loops back (halves 10) first
 it_is_staged u e = known_law (λ y. y == 1) world (λ y. y) (binder 1) I32 (Lit (pos 8) ∷ []) 0 10
-    coords loops back (halves 10) first u are_made is_known e
+    coords loops back (halves 10) first u are_made is_known fits_there
+    e
+
+-- x is in scope as a tensor, and what is made keeps the rules
+abbrev x_there : Scope
+x_there = with_name [] (binder 10) (BufferName I32 1 true)
+
+first_sorted : IsSorted (kinds_of []) x_there first
+first_sorted = record {
+  buffers = λ b shape e. buffers b shape (b == 10) refl e;
+  views = λ y c r d z sort v shape e. sees c r d z shape (y == 10) sort v e;
+  cells = cells_fit;
+  fields = λ f. tt;
+}
+  where
+    buffers : (b : ℕ) (shape : Shape) (t : Bool) → (b == 10) ≡ t
+        → cond {A = Option Shape} t (Some eight) None ≡ Some shape
+        → (rank : ℕ) × (dense : Bool) × (sort_in x_there b ≡ Some (BufferName shape.cell rank dense))
+    buffers b shape true i e = (1, true, ap (λ t. cond t (Some (BufferName I32 1 true)) None) i
+        ∙ ap (λ (z : Shape). Some (BufferName z.cell 1 true)) (one_value eight shape e))
+    buffers b shape false i e = absurd (none_is_some e)
+
+    sees : (c : Cell) (r : ℕ) (d : Bool) (z : Seen) (shape : Shape) (t : Bool)
+        → cond {A = Option Sort} t (Some (BufferName I32 1 true)) None ≡ Some (BufferName c r d)
+        → cond {A = Option Seen} t (Some (all_of 10)) None ≡ Some z
+        → first.scene.buffers z.buffer ≡ Some shape → Sees c d z shape
+    sees c r d z shape false sort v e = absurd (none_is_some v)
+    sees c r d z shape true sort v e =
+        let same : all_of 10 ≡ z = one_value (all_of 10) z v in
+        let has : eight ≡ shape = one_value eight shape
+        (ap (λ (w : Seen). first.scene.buffers w.buffer) same ∙ e) in
+        record {
+          cell_is = cell_of_sort ∙ ap (λ (q : Shape). q.cell) has;
+          all = λ k. (sym (ap (λ (w : Seen). w.sides) same)
+              ∙ ap (λ (q : Shape). whole q.dims) has,
+            ap (λ (q : Shape). q.strides) (sym has) ∙ ap (λ (q : Shape). row_major q.dims) has);
+        }
+      where
+        cell_of_sort : c ≡ I32
+        cell_of_sort = cc
+
+fits_by_rules : FitsBehind (unit_world (kinds_of []) []) (binder 1) 10 coords (halves 10) first
+fits_by_rules = fits_behind_law [] 1 [] x_there (λ y. y == 1) (λ y. y) (λ y. y) (binder 1) I32
+    (Lit (pos 8) ∷ []) 0 10 coords loops back (halves 10) first tt are_made (record {
+      sound = alone.sound;
+      cells = cells_fit;
+      unbound = alone.new;
+      roots = alone.roots;
+      own_roots = alone.own;
+      cell_is = is_known.cell_is;
+      fit = fits_law (unit_world (kinds_of []) []) 10 coords (halves 10) first
+          (tt, λ n u come. (((λ e. tt), tt), tt, λ v e. tt), λ v e. tt);
+    }) first_sorted refl

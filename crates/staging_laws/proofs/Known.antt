@@ -10,13 +10,17 @@ use Rattle.exo_meaning.specs.Scene.{then_do, updated, where_true}
 use Rattle.exo_meaning.specs.State.{State, with_control, with_contents, on_scene, with_buffer}
 use Rattle.exo_meaning.specs.Calls.{all_positive}
 use Rattle.exo_meaning.specs.Footprint.{IsTidy}
-use Rattle.exo_meaning.specs.Run.{World, run, step, tensor, allocate}
+use Rattle.exo_meaning.specs.Run.{World, run, step, tensor, kinds_of, unit_world}
+use Rattle.exo_meaning.specs.Units.{field_kind}
 use Rattle.exo_meaning.proofs.Compose.{compose}
 use Rattle.exo_meaning.proofs.Frame.{updated_other}
 use Rattle.exo_meaning.proofs.Windows.{none_is_some, one_value, map_parts}
 use Rattle.meaning_laws.specs.Scoped.{has_binder}
+use Rattle.meaning_laws.specs.Sorted.{Ends}
 use Rattle.meaning_laws.specs.Substitute.{is_plain}
+use Rattle.meaning_laws.proofs.Names.{if_gives}
 use Rattle.meaning_laws.proofs.Parts.{then_gives, some_injective}
+use Rattle.meaning_laws.proofs.Sorted.{run_ends, agrees, unit_good}
 use Rattle.meaning_laws.proofs.Substitute.{and_parts, plain_same}
 use Rattle.inplace_laws.specs.Filled.{Loop, nest}
 use Rattle.inplace_laws.specs.Staged.{staged}
@@ -30,9 +34,11 @@ use Rattle.staging_laws.specs.Alone.{has_root}
 use Rattle.staging_laws.specs.Behind.{IsBetween}
 use Rattle.staging_laws.specs.Converted.{converted}
 use Rattle.staging_laws.specs.Replaced.{between, IsStaged}
-use Rattle.staging_laws.specs.Known.{AreOver, AreMade, IsKnown, KnownLaw}
+use Rattle.staging_laws.specs.Known.{AreOver, AreMade, IsKnown, FitsBehind, KnownLaw}
+use Rattle.staging_laws.specs.Known.{up_to_store, FitsBehindLaw}
 use Rattle.staging_laws.proofs.Behind.{run_names}
 use Rattle.staging_laws.proofs.Box.{box_law}
+use Rattle.staging_laws.proofs.Loads.{stage_in_law}
 use Rattle.staging_laws.proofs.Inside.{inside_law, spans_law}
 use Rattle.staging_laws.proofs.Reader.{fit_into_law}
 use Rattle.staging_laws.proofs.Stage.{uses_law}
@@ -115,6 +121,9 @@ module _ (blind : ℕ → Bool) (world : World) (root : ℕ → ℕ) (a : Binder
       ∙ spans_same coords s.scene empty.scene made.plain (λ y. refl)) p)
       (uses_law world a.id x (shifted coords (variables ls)) (variables ls)
       (Read x (shifted coords (variables ls)))).0 e)
+
+  abbrev first_part : Block
+  first_part = next (Alloc a cell dims memory) (load_nest a.id x coords ls)
 
   abbrev rest : Block
   rest = joined inner (store_nest a.id x coords ks)
@@ -208,20 +217,34 @@ module _ (blind : ℕ → Bool) (world : World) (root : ℕ → ℕ) (a : Binder
         variables = made.variables;
       }
 
-      fits_behind : (t : State) → run world inner (staged a.id seen to s) ≡ Some t
-          → FitInto t a.id seen.buffer
-      fits_behind t e =
+      -- what the load nest makes, and the block after it
+      run_from : (t : State) → run world inner (staged a.id seen to s) ≡ Some t
+          → run world (up_to_store a cell dims memory x coords ls b) s ≡ Some t
+      run_from t e = compose world first_part inner s
+          ∙ ap (λ o. then_do o (run world inner))
+          (subst (λ k. run world (next (Alloc a k dims memory) (load_nest a.id x coords ls)) s
+          ≡ Some (staged a.id seen to s)) same_cell
+          (stage_in_law world a dims memory x seen to coords ls s
+          (made.sizes s.scene ∙ (box_law s.scene x coords seen there).0) has
+          (staging ls made.loads)
+          (fit_into_law s seen.buffer seen.buffer to known.cells has
+          (λ w k. ap (λ (q : Shape). q.cell) (one_value w to (sym k ∙ has)))))) ∙ e
+
+      fits_behind : FitsBehind world a x coords b s → (t : State)
+          → run world inner (staged a.id seen to s) ≡ Some t → FitInto t a.id seen.buffer
+      fits_behind fits t e =
           let mine = (run_names world inner (staged a.id seen to s) t a.id e made.own).buffers in
           let its = (run_names world inner (staged a.id seen to s) t seen.buffer e
           lies_between.root).buffers in
           fit_into_law t a.id seen.buffer (tensor to.cell (extents seen.sides))
-          (known.behind seen to t there has e)
+          (fits seen to t there has e)
           (sym mine ∙ updated_own s.scene.buffers a.id _)
           (λ w k. ap (λ (q : Shape). q.cell) (one_value w to (sym k ∙ sym its
           ∙ updated_other s.scene.buffers a.id _ seen.buffer other_buffer ∙ has)))
 
-      is_staged : IsStaged blind world root a cell dims x coords ls ks b s
-      is_staged = record {
+      is_staged : FitsBehind world a x coords b s
+          → IsStaged blind world root a cell dims x coords ls ks b s
+      is_staged fits = record {
         seen = seen;
         to = to;
         cell_is = same_cell;
@@ -251,12 +274,12 @@ module _ (blind : ℕ → Bool) (world : World) (root : ℕ → ℕ) (a : Binder
           fit = fit_into_law s seen.buffer seen.buffer to known.cells has
               (λ w k. ap (λ (q : Shape). q.cell) (one_value w to (sym k ∙ has)));
           between = lies_between;
-          behind = λ t e. (over_spans ks coords made.stores t.scene, fits_behind t e);
+          behind = λ t e. (over_spans ks coords made.stores t.scene, fits_behind fits t e);
         };
       }
 
 pub known_law : KnownLaw
-known_law blind world root a cell dims memory x coords ls ks b s u made known e =
+known_law blind world root a cell dims memory x coords ls ks b s u made known fits e =
     go (window s.scene x coords) refl
     (shows blind world root a cell dims memory x coords ls ks b s made known u e)
   where
@@ -266,3 +289,16 @@ known_law blind world root a cell dims memory x coords ls ks b s u made known e 
     go (Some seen) k i =
         let to = shaped blind world root a cell dims memory x coords ls ks b s made known seen k in
         is_staged blind world root a cell dims memory x coords ls ks b s made known seen k to.0 to.1
+        fits
+
+pub fits_behind_law : FitsBehindLaw
+fits_behind_law fields memories ps scope blind rules root a cell dims memory x coords ls ks b s unit
+    made known sorted ok z to t there has e =
+    let kinds = kinds_of fields in
+    let world = unit_world kinds ps in
+    let new = up_to_store a cell dims memory x coords ls b in
+    (if_gives (Ends kinds s) (run world new s) t
+    (run_ends kinds (field_kind fields) (agrees fields) memories world refl
+    (unit_good fields memories ps unit) new scope rules ok s known.sound sorted)
+    (run_from blind world root a cell dims memory x coords ls ks b s made known z there to has t
+    e)).cells

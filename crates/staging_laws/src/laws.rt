@@ -25,6 +25,7 @@ ghost use Rattle.staging_laws.specs.Replaced.{AlikeReplaces};
 ghost use Rattle.staging_laws.specs.Replaced.{StagedReplaces};
 ghost use Rattle.staging_laws.specs.Replaced.{StagedRefines};
 ghost use Rattle.staging_laws.specs.Known.{KnownLaw};
+ghost use Rattle.staging_laws.specs.Known.{FitsBehindLaw};
 
 /// The store nest copies the staged buffer back into the window.
 pub fn stores_copy_back()
@@ -149,4 +150,9 @@ pub fn staged_blocks_refine()
 /// What tests on the trees and the types give is enough for a block to be staged.
 pub fn known_blocks_are_staged()
     ensures { KnownLaw }
+{}
+
+/// Where the blocks that are made keep the rules, the cells that they leave fit their types.
+pub fn cells_fit_behind()
+    ensures { FitsBehindLaw }
 {}
