@@ -1,24 +1,23 @@
 -- A part of an expression, stored in a buffer of one cell before it is used.
-use Rattle.std.proofs.Common.{◌≡◌, ◌==◌, ℕ, ℤ, pos, ◌+ℤ◌, ◌-ℤ◌, ◌*ℤ◌, Bool, true, false, cond}
+use Rattle.std.proofs.Common.{◌≡◌, ℕ, ℤ, pos, ◌+ℤ◌, ◌-ℤ◌, ◌*ℤ◌, Bool, true, false, cond}
 use Rattle.std.proofs.Common.{true≢false}
-use Rattle.std.proofs.Common.{◌||◌, ◌&&◌, List, [], ◌∷◌, Option, Some, None, option_map}
+use Rattle.std.proofs.Common.{◌||◌, ◌&&◌, List, [], Option, Some, None, option_map}
 use Rattle.std.proofs.Common.{refl, sym, ap, ap₂, ◌∙◌, subst, eq-eqb}
 use Rattle.std.specs.Int.{int_wrap}
 use Rattle.std.specs.Prelude.{IsSome}
 use Rattle.std.proofs.lemmas.Int.{int_wrap_fits, SFits-int_wrap}
 use Rattle.exo_tree.specs.Tree.{Cell, I32, Control, Datum, Const, Read, Negated, Relu, Plus}
-use Rattle.exo_tree.specs.Tree.{Minus, Times, Select, Statement, Assign, Reduce, Block, end, next}
+use Rattle.exo_tree.specs.Tree.{Minus, Times, Select, Assign, Block, next}
 use Rattle.exo_tree.specs.Context.{fill}
 use Rattle.exo_meaning.specs.Value.{Value, Undefined, Number, width, stored_as, on_one, on_two}
 use Rattle.exo_meaning.specs.Value.{on_four, relu, selected}
-use Rattle.exo_meaning.specs.Scene.{Shape, Seen, Scene, then_do, cell_at, numbers, whole}
+use Rattle.exo_meaning.specs.Scene.{Shape, Seen, then_do, cell_at, numbers, whole}
 use Rattle.exo_meaning.specs.State.{State, Place, place, held, value, put, changed, same_index}
 use Rattle.exo_meaning.specs.Inputs.{FitsCell}
 use Rattle.exo_meaning.specs.Run.{World, run, step, unit_world}
 use Rattle.exo_meaning.specs.Unseen.{SameBut, in_datum, in_controls, in_statement as mentions}
 use Rattle.exo_meaning.proofs.Frame.{or_parts}
 use Rattle.exo_meaning.proofs.Ignored.{numbers_same, run_alike}
-use Rattle.meaning_laws.specs.Context.{RefinedBut}
 use Rattle.meaning_laws.proofs.Parts.{then_gives, map_gives, some_injective, both_some}
 use Rattle.meaning_laws.proofs.Refined.{state_same, through}
 use Rattle.scope_laws.proofs.Opened.{leaving_refines}

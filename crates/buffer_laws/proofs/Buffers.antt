@@ -1,13 +1,13 @@
 -- Allocations: another memory for one, and one that is not used taken away.
-use Rattle.std.proofs.Common.{◌≡◌, ◌==◌, ℕ, Bool, true, false, true≢false, cond, Option, Some, None, IsSome}
-use Rattle.std.proofs.Common.{refl, sym, ap, ◌∙◌, subst, eqb-true, eq-eqb}
+use Rattle.std.proofs.Common.{◌≡◌, ℕ, Bool, true, false, true≢false, cond, Some, IsSome}
+use Rattle.std.proofs.Common.{refl, sym, ap, ◌∙◌, subst, eq-eqb}
 use Rattle.exo_tree.specs.Tree.{end}
 use Rattle.exo_tree.specs.Context.{fill}
 use Rattle.exo_meaning.specs.Value.{Undefined}
-use Rattle.exo_meaning.specs.Scene.{Shape, Seen, numbers, updated}
+use Rattle.exo_meaning.specs.Scene.{Shape, numbers, updated}
 use Rattle.exo_meaning.specs.State.{State, with_contents, on_scene, with_buffer}
 use Rattle.exo_meaning.specs.Calls.{all_positive}
-use Rattle.exo_meaning.specs.Run.{World, run, step, tensor, unit_world}
+use Rattle.exo_meaning.specs.Run.{World, step, tensor, unit_world}
 use Rattle.exo_meaning.specs.Unseen.{SameBut}
 use Rattle.exo_meaning.proofs.Frame.{updated_other}
 use Rattle.meaning_laws.specs.Context.{RefinedBut, MayReplace}
@@ -90,7 +90,7 @@ deleted world x s none = record {
 pub delete_law : DeleteLaw
 delete_law fields memories callees kinds ps p c x ok was unused =
     let scoped = ap (is_scoped (is_param p)) (sym was)
-        ∙ (well_scoped fields memories callees p ok).0 in
+    ∙ (well_scoped fields memories callees p ok).0 in
     leaving_refines kinds ps c (only_buffer x) end p (record p { body = fill c end })
     (is_buffer x) was refl (record {
       free = λ y h. binders_law p c (only_buffer x) y scoped (or_left (is_buffer x y) false h);

@@ -1,15 +1,14 @@
 -- Steps on buffers at closed blocks, and what they make by computation.
-use Rattle.std.proofs.Common.{◌≡◌, ◌==◌, ℕ, ℤ, pos, ◌+ℤ◌, Bool, true, false, true≢false, cond}
-use Rattle.std.proofs.Common.{List, [], ◌∷◌, Option, Some, None, IsSome, refl, sym, ap, subst}
+use Rattle.std.proofs.Common.{◌≡◌, ◌==◌, ℕ, ℤ, pos, ◌+ℤ◌, Bool, false}
+use Rattle.std.proofs.Common.{[], ◌∷◌, Some, None, refl, subst}
 use Rattle.std.proofs.Common.{arith}
 use Rattle.std.proofs.lemmas.Int.{ints}
 use Rattle.std.specs.Int.{int_wrap}
-use Rattle.exo_tree.specs.Tree.{Binder, Cell, I32, Index, Control, Lit, Var, StrideOf, Add, Mul}
-use Rattle.exo_tree.specs.Tree.{Datum, Const, Read, Plus, Times, Whole, Window, At, Assign, Reduce, Pass}
-use Rattle.exo_tree.specs.Tree.{For, Alloc, Call, Block, end, next, Procedure}
+use Rattle.exo_tree.specs.Tree.{Binder, I32, Index, Control, Lit, Var, StrideOf, Add}
+use Rattle.exo_tree.specs.Tree.{Datum, Const, Read, Plus, Times, Whole, Window, At, Assign, Pass}
+use Rattle.exo_tree.specs.Tree.{Alloc, Call, Block, end, next, Procedure}
 use Rattle.exo_tree.specs.Context.{Here, fill}
-use Rattle.exo_meaning.specs.Value.{Value, Undefined, Number}
-use Rattle.exo_meaning.specs.Scene.{Seen, Shape}
+use Rattle.exo_meaning.specs.Value.{Value, Number}
 use Rattle.exo_meaning.specs.State.{State, value}
 use Rattle.exo_meaning.specs.Calls.{bare}
 use Rattle.exo_meaning.specs.Inputs.{Refines, FitsCell}
@@ -18,7 +17,6 @@ use Rattle.exo_meaning.specs.Run.{World, run, unit_world}
 use Rattle.exo_meaning.proofs.Windows.{none_is_some, one_value}
 use Rattle.meaning_laws.specs.Context.{MayReplace}
 use Rattle.meaning_laws.specs.Sorted.{CellsFit}
-use Rattle.meaning_laws.specs.Sound.{IsSound}
 use Rattle.meaning_laws.proofs.Replace.{unit_respects}
 use Rattle.inplace_laws.specs.Along.{SameAlong}
 use Rattle.scope_laws.specs.Scopes.{HasNone}

@@ -1,11 +1,11 @@
 -- An allocation in a loop, put before it.
-use Rattle.std.proofs.Common.{◌≡◌, ◌==◌, ℕ, ℤ, ◌-ℤ◌, ◌+ℤ◌, ◌*ℤ◌, neg_ℤ, Bool, true, false, cond, ◌||◌}
+use Rattle.std.proofs.Common.{◌≡◌, ◌==◌, ℕ, ℤ, ◌-ℤ◌, ◌+ℤ◌, ◌*ℤ◌, neg_ℤ, Bool, true, false, cond}
 use Rattle.std.proofs.Common.{List, [], ◌∷◌, Option, Some, None, refl, sym, ap, ap₂, ◌∙◌, subst}
 use Rattle.std.proofs.Common.{true≢false, eqb-true, eq-eqb}
 use Rattle.std.specs.Int.{int_div_euclid, int_rem_euclid}
 use Rattle.std.proofs.Math.Path.{fun_ext}
-use Rattle.exo_tree.specs.Tree.{Binder, Control, Lit, Var, Field, StrideOf, Neg, Add, Sub, Mul}
-use Rattle.exo_tree.specs.Tree.{Div, Mod, For, Block, end, next, joined}
+use Rattle.exo_tree.specs.Tree.{Control, Lit, Var, Field, StrideOf, Neg, Add, Sub, Mul}
+use Rattle.exo_tree.specs.Tree.{Div, Mod, For, Block, next, joined}
 use Rattle.exo_tree.specs.Context.{fill}
 use Rattle.exo_meaning.specs.Value.{Value, Undefined, IsRefinedBy}
 use Rattle.exo_meaning.specs.Scene.{Scene, Shape, Seen, number, numbers, whole}
@@ -19,24 +19,24 @@ use Rattle.exo_meaning.proofs.Frame.{or_parts}
 use Rattle.exo_meaning.proofs.Ignored.{number_same}
 use Rattle.exo_meaning.proofs.Windows.{none_is_some}
 use Rattle.exo_meaning.proofs.Monotone.{run_respects, refined_closed}
-use Rattle.meaning_laws.specs.Context.{RefinedBut, MayReplace}
+use Rattle.meaning_laws.specs.Context.{RefinedBut}
 use Rattle.meaning_laws.specs.Scoped.{has_binder}
 use Rattle.meaning_laws.specs.Sound.{IsSameName}
 use Rattle.meaning_laws.specs.Substitute.{is_plain}
 use Rattle.meaning_laws.proofs.Names.{if_gives, Others}
 use Rattle.meaning_laws.proofs.Numbers.{binder_seen}
 use Rattle.meaning_laws.proofs.Parts.{then_gives, map_gives, some_injective, both_some}
-use Rattle.meaning_laws.proofs.Refined.{state_same, through, run_keeps_refined, refined_same}
+use Rattle.meaning_laws.proofs.Refined.{state_same, through, run_keeps_refined}
 use Rattle.meaning_laws.proofs.Replace.{unit_respects}
 use Rattle.meaning_laws.proofs.Scoped.{both_false}
 use Rattle.meaning_laws.proofs.Substitute.{and_parts}
-use Rattle.scope_laws.specs.Scopes.{HasNone, top_binders}
+use Rattle.scope_laws.specs.Scopes.{top_binders}
 use Rattle.scope_laws.proofs.MayLeave.{top_has}
 use Rattle.scope_laws.proofs.Opened.{leaving_refines}
 use Rattle.scope_laws.proofs.Scopes.{run_names}
 use Rattle.buffer_laws.specs.Buffers.{Buffer, allocation, is_buffer}
 use Rattle.buffer_laws.specs.Lifted.{are_plain, loop_with, lifted_from_loop, with_buffer_in}
-use Rattle.buffer_laws.specs.Lifted.{MayLift, LiftFromLoop, LiftLaw}
+use Rattle.buffer_laws.specs.Lifted.{LiftFromLoop, LiftLaw}
 use Rattle.buffer_laws.proofs.Buffers.{shape_of, behind, is_behind, beside, updated_own}
 
 -- ---- numbers of dimensions

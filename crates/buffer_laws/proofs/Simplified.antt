@@ -1,5 +1,5 @@
 -- Accesses of some names with simpler indices.
-use Rattle.std.proofs.Common.{◌≡◌, ℕ, ℤ, pos, ◌+ℤ◌, ◌-ℤ◌, ◌*ℤ◌, int_le, int_lt, Bool, true, false}
+use Rattle.std.proofs.Common.{◌≡◌, ℕ, pos, ◌+ℤ◌, ◌-ℤ◌, ◌*ℤ◌, int_le, int_lt, Bool, true, false}
 use Rattle.std.proofs.Common.{cond, ◌&&◌, List, [], ◌∷◌, Option, Some, None, option_map, refl, sym}
 use Rattle.std.proofs.Common.{ap, ap₂, ◌∙◌}
 use Rattle.exo_tree.specs.Tree.{Control, Coord, At, Span, Datum, Const, Read, Negated, Relu, Plus}
@@ -12,7 +12,7 @@ use Rattle.exo_meaning.specs.Scene.{where_true, is_below, cell_at, narrowed, win
 use Rattle.exo_meaning.specs.State.{State, place, held, value, put, on_scene, with_view, with_control}
 use Rattle.exo_meaning.specs.Calls.{given, all_given, GivenView, Callee, entered, returned}
 use Rattle.exo_meaning.specs.Calls.{run_asserted}
-use Rattle.exo_meaning.specs.Run.{World, run, step, call_to}
+use Rattle.exo_meaning.specs.Run.{World, step, call_to}
 use Rattle.meaning_laws.specs.Substitute.{is_plain}
 use Rattle.inplace_laws.specs.Along.{SameAlong, both_end, both_next, SameThere, at_once}
 use Rattle.inplace_laws.specs.Along.{in_branches, in_turns}

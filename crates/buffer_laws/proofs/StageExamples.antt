@@ -1,18 +1,18 @@
 -- half(x: i32[8]) is refined by itself with its loop staged on x[0:8].
-use Rattle.std.proofs.Common.{◌≡◌, ◌==◌, ◌||◌, ℕ, pos, Bool, true, false, true≢false, List, []}
-use Rattle.std.proofs.Common.{◌∷◌, Option, Some, None, refl, sym, subst, eqb-true}
-use Rattle.exo_tree.specs.Tree.{Binder, Cell, I32, Control, Lit, Coord, Span, TensorParam, Block}
+use Rattle.std.proofs.Common.{◌≡◌, ◌==◌, ◌||◌, pos, Bool, true, false, true≢false, List, []}
+use Rattle.std.proofs.Common.{◌∷◌, None, refl, sym, subst, eqb-true}
+use Rattle.exo_tree.specs.Tree.{Binder, I32, Control, Lit, Coord, Span, TensorParam, Block}
 use Rattle.exo_tree.specs.Tree.{end, next, Procedure}
 use Rattle.exo_tree.specs.Context.{Here}
 use Rattle.exo_meaning.specs.Inputs.{IsAdmissible, Refines}
 use Rattle.exo_meaning.specs.State.{State}
 use Rattle.exo_meaning.specs.Run.{World, run, unit_world, kinds_of}
 use Rattle.meaning_laws.specs.Context.{ComesTo}
-use Rattle.meaning_laws.specs.Sorted.{MayRun, IsSorted, scope_at}
+use Rattle.meaning_laws.specs.Sorted.{MayRun, IsSorted}
 use Rattle.meaning_laws.specs.Sound.{IsUnbound}
 use Rattle.meaning_laws.proofs.Copies.{sound_law, unbound_law}
 use Rattle.meaning_laws.proofs.Sorted.{fits_at_law}
-use Rattle.exo_meaning.specs.Units.{Scope, scope_of}
+use Rattle.exo_meaning.specs.Units.{scope_of}
 use Rattle.scope_laws.proofs.Within.{holes_compose}
 use Rattle.scope_laws.proofs.Roots.{names_have_roots}
 use Rattle.staging_laws.specs.Known.{AreOver, AreMade, IsKnown, FitsBehind}

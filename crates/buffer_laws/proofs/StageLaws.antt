@@ -1,5 +1,5 @@
 -- A block staged on a window, at a place of a procedure.
-use Rattle.std.proofs.Common.{◌≡◌, ℕ, Bool, true, false, ◌==◌, List, [], ◌∷◌, option_map, refl}
+use Rattle.std.proofs.Common.{◌≡◌, ℕ, Bool, true, ◌==◌, List, [], ◌∷◌, option_map, refl}
 use Rattle.std.proofs.Common.{sym, ap, ◌∙◌, subst}
 use Rattle.exo_tree.specs.Tree.{Cell, Binder, Control, Coord, Statement, Assign, Read, Alloc, Block}
 use Rattle.exo_tree.specs.Tree.{end, next, joined}
@@ -67,46 +67,46 @@ module _ (world : World) (simple : Control → Control) (is : IsSimplifier simpl
       then_do (value u (Read a vs)) (λ v. put u (λ old. v) p))) (place_same u x es)
 
   module _ (cell : Cell) (memory base x : ℕ) (coords : List Coord) (name : List ℕ) (b : Block)
-      where
-    abbrev w : Staging
-    w = staging_of x coords name
+    where
+      abbrev w : Staging
+      w = staging_of x coords name
 
-    abbrev ls : List Loop
-    ls = loads simple w cell memory base
+      abbrev ls : List Loop
+      ls = loads simple w cell memory base
 
-    abbrev ks : List Loop
-    ks = stores simple w cell memory base
+      abbrev ks : List Loop
+      ks = stores simple w cell memory base
 
-    abbrev made_first : Statement
-    made_first = Alloc (record { id = base; name = name }) cell (sizes simple w cell memory base)
-        memory
+      abbrev made_first : Statement
+      made_first = Alloc (record { id = base; name = name }) cell (sizes simple w cell memory base)
+          memory
 
-    first_same : (u : State) → run world (next made_first (load_nest base x coords ls)) u
-        ≡ run world (next made_first (nest ls (loading simple w cell memory base))) u
-    first_same u = then_cong (step world made_first u) (run world (load_nest base x coords ls))
-        (run world (nest ls (loading simple w cell memory base)))
-        (nest_same world ls (Assign base (variables ls) (Read x (shifted coords (variables ls))))
-        (loading simple w cell memory base)
-        (load_same base x (variables ls) (shifted coords (variables ls))))
+      first_same : (u : State) → run world (next made_first (load_nest base x coords ls)) u
+          ≡ run world (next made_first (nest ls (loading simple w cell memory base))) u
+      first_same u = then_cong (step world made_first u) (run world (load_nest base x coords ls))
+          (run world (nest ls (loading simple w cell memory base)))
+          (nest_same world ls (Assign base (variables ls) (Read x (shifted coords (variables ls))))
+          (loading simple w cell memory base)
+          (load_same base x (variables ls) (shifted coords (variables ls))))
 
-    last_same : (u : State) → run world (store_nest base x coords ks) u
-        ≡ run world (nest ks (storing simple w cell memory base)) u
-    last_same = nest_same world ks
-        (Assign x (shifted coords (variables ks)) (Read base (variables ks)))
-        (storing simple w cell memory base)
-        (store_same base x (variables ks) (shifted coords (variables ks)))
+      last_same : (u : State) → run world (store_nest base x coords ks) u
+          ≡ run world (nest ks (storing simple w cell memory base)) u
+      last_same = nest_same world ks
+          (Assign x (shifted coords (variables ks)) (Read base (variables ks)))
+          (storing simple w cell memory base)
+          (store_same base x (variables ks) (shifted coords (variables ks)))
 
-    draft_same : (s : State) → run world (as_made simple cell memory base x coords name b) s
-        ≡ run world (with_simpler simple cell memory base x coords name b) s
-    draft_same = joined_same world (next made_first (load_nest base x coords ls))
-        (joined (converted base x coords b) (store_nest base x coords ks))
-        (next made_first (nest ls (loading simple w cell memory base)))
-        (joined (on_buffer simple w cell memory base b)
-        (nest ks (storing simple w cell memory base))) first_same
-        (joined_same world (converted base x coords b) (store_nest base x coords ks)
-        (on_buffer simple w cell memory base b) (nest ks (storing simple w cell memory base))
-        (λ u. simplified_law world simple (λ y. y == base) (converted base x coords b) u is)
-        last_same)
+      draft_same : (s : State) → run world (as_made simple cell memory base x coords name b) s
+          ≡ run world (with_simpler simple cell memory base x coords name b) s
+      draft_same = joined_same world (next made_first (load_nest base x coords ls))
+          (joined (converted base x coords b) (store_nest base x coords ks))
+          (next made_first (nest ls (loading simple w cell memory base)))
+          (joined (on_buffer simple w cell memory base b)
+          (nest ks (storing simple w cell memory base))) first_same
+          (joined_same world (converted base x coords b) (store_nest base x coords ks)
+          (on_buffer simple w cell memory base b) (nest ks (storing simple w cell memory base))
+          (λ u. simplified_law world simple (λ y. y == base) (converted base x coords b) u is)
+          last_same)
 
 pub draft_law : DraftLaw
 draft_law world simple cell memory base x coords name b s is =

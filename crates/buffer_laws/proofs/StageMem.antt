@@ -1,7 +1,7 @@
 -- half(x: i32[8]) sets each even cell to 7: what is made of its loop on x[0:8], and what is asked.
-use Rattle.std.proofs.Common.{◌≡◌, ◌==◌, ℕ, zero, pos, Bool, true, false, List, [], ◌∷◌, None, refl}
-use Rattle.exo_tree.specs.Tree.{Binder, I32, Control, Lit, Var, Field, StrideOf, Neg, Add, Sub, Mul}
-use Rattle.exo_tree.specs.Tree.{Div, Mod, Lt, Le, Span, Const, Read, Assign, Reduce, For, Alloc}
+use Rattle.std.proofs.Common.{◌≡◌, ℕ, zero, pos, Bool, true, false, List, [], ◌∷◌, None, refl}
+use Rattle.exo_tree.specs.Tree.{Binder, I32, Control, Lit, Var, Add, Sub, Mul}
+use Rattle.exo_tree.specs.Tree.{Lt, Le, Span, Const, Read, Assign, For, Alloc}
 use Rattle.exo_tree.specs.Tree.{Block, end, next}
 use Rattle.exo_tree.specs.Places.{Main}
 use Rattle.exo_meaning.specs.Modes.{has_mode, no_modes}

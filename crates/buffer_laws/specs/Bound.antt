@@ -1,5 +1,5 @@
 -- A part of an expression, stored in a buffer of one cell before it is used.
-use Rattle.std.specs.Prelude.{◌≡◌, ◌==◌, cond, ℕ, ℤ, Bool, false, List, [], ◌∷◌, Some}
+use Rattle.std.specs.Prelude.{◌≡◌, cond, ℕ, ℤ, Bool, false, List, [], Some}
 use Rattle.exo_tree.specs.Tree.{Cell, I32, Control, Datum, Const, Read, Negated, Relu, Plus}
 use Rattle.exo_tree.specs.Tree.{Minus, Times, Select, Statement, Assign, Reduce, Block, end, next}
 use Rattle.exo_tree.specs.Tree.{Kind, Procedure}

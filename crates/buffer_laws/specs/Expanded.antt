@@ -1,5 +1,5 @@
 -- A new first dimension for a buffer, of which its uses take one point.
-use Rattle.std.specs.Prelude.{◌==◌, ◌&&◌, ◌||◌, not, ℕ, Bool, false, List, [], ◌∷◌, length}
+use Rattle.std.specs.Prelude.{◌==◌, ◌||◌, not, ℕ, Bool, false, List, [], ◌∷◌, length}
 use Rattle.exo_tree.specs.Tree.{Control, At, Argument, ControlArg, ConditionArg, Whole, Window}
 use Rattle.exo_tree.specs.Tree.{Statement, Assign, Reduce, Config, Pass, If, For, Alloc, View, Call}
 use Rattle.exo_tree.specs.Tree.{Block, end, next}

@@ -1,14 +1,14 @@
 -- An allocation in a loop or branch, put before it.
-use Rattle.std.specs.Prelude.{◌≡◌, ◌==◌, ◌&&◌, ◌||◌, ℕ, Bool, true, false, List, [], ◌∷◌}
-use Rattle.exo_tree.specs.Tree.{Binder, Control, Condition, If, For, Block, end, next, joined}
+use Rattle.std.specs.Prelude.{◌≡◌, ◌==◌, ◌&&◌, ℕ, Bool, true, false, List, [], ◌∷◌}
+use Rattle.exo_tree.specs.Tree.{Binder, Control, For, Block, end, next, joined}
 use Rattle.exo_tree.specs.Tree.{Kind, Procedure}
-use Rattle.exo_tree.specs.Context.{Context, fill, rest_of}
+use Rattle.exo_tree.specs.Context.{Context, fill}
 use Rattle.exo_meaning.specs.State.{State}
 use Rattle.exo_meaning.specs.Refines.{StateRefined, CalleesRespect}
-use Rattle.exo_meaning.specs.Inputs.{IsAdmissible, Refines}
+use Rattle.exo_meaning.specs.Inputs.{Refines}
 use Rattle.exo_meaning.specs.Run.{World, unit_world}
-use Rattle.exo_meaning.specs.Unseen.{in_control, in_controls, in_condition, in_block as mentions}
-use Rattle.meaning_laws.specs.Context.{ComesTo, MayReplace}
+use Rattle.exo_meaning.specs.Unseen.{in_control, in_controls, in_block as mentions}
+use Rattle.meaning_laws.specs.Context.{MayReplace}
 use Rattle.meaning_laws.specs.Substitute.{is_plain}
 use Rattle.scope_laws.specs.Opened.{MayLeave}
 use Rattle.scope_laws.specs.Scopes.{HasNone, top_binders}

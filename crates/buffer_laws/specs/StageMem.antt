@@ -1,13 +1,12 @@
 -- A block on a buffer of its own for a window: what is made, what is asked, and when it is refused.
-use Rattle.std.specs.Prelude.{◌==◌, ◌+◌, ◌&&◌, ◌||◌, not, cond, ℕ, zero, suc, pos, Bool, true}
-use Rattle.std.specs.Prelude.{false, List, [], ◌∷◌, ◌++◌, length, Option, Some, None}
-use Rattle.exo_tree.specs.Tree.{Binder, Cell, Control, Lit, Sub, Condition, Lt, Le, Eq, Coord, At}
+use Rattle.std.specs.Prelude.{◌==◌, ◌+◌, ◌&&◌, not, cond, ℕ, zero, suc, pos, Bool, true}
+use Rattle.std.specs.Prelude.{false, List, [], ◌∷◌, ◌++◌, length}
+use Rattle.exo_tree.specs.Tree.{Cell, Control, Lit, Condition, Lt, Le, Eq, Coord, At}
 use Rattle.exo_tree.specs.Tree.{Span, Datum, Const, Read, Negated, Relu, Plus, Minus, Times, Select}
 use Rattle.exo_tree.specs.Tree.{Argument, ControlArg, ConditionArg, Whole, Window, Statement, Assign}
 use Rattle.exo_tree.specs.Tree.{Reduce, Config, Pass, If, For, Alloc, View, Call, Block, end, next}
 use Rattle.exo_tree.specs.Tree.{joined}
 use Rattle.exo_tree.specs.Places.{Path, Branch, Main, Else}
-use Rattle.exo_meaning.specs.Run.{roots_after}
 use Rattle.exo_meaning.specs.Modes.{Mode, Reading, Writing}
 use Rattle.exo_meaning.specs.Unseen.{in_block as mentions}
 use Rattle.meaning_laws.specs.Scoped.{has_binder}
@@ -16,7 +15,7 @@ use Rattle.inplace_laws.specs.Windows.{shifted}
 use Rattle.staging_laws.specs.Stores.{spans, variables}
 use Rattle.staging_laws.specs.Converted.{converted}
 use Rattle.buffer_laws.specs.Buffers.{Buffer, allocation}
-use Rattle.buffer_laws.specs.Simplified.{simpler, all_simpler, simplified}
+use Rattle.buffer_laws.specs.Simplified.{all_simpler, simplified}
 
 -- the window of x at these coordinates, and the new buffer's name
 pub record Staging : Type 0 where

@@ -631,15 +631,18 @@ in_unit = unit_world (λ f. Index) []
 it_refines : Refines in_unit does_nothing (record does_nothing { body = for_nothing }) []
 it_refines = staged_refines (λ f. Index) [] does_nothing (Here end) (λ y. y == 1) (λ y. y == 1)
     (λ y. y) (binder 1) I32 (Lit (pos 0) ∷ []) 0 10 coords loops back (next Pass end) refl refl
-    (λ s u good come. (record {
-      none = record {
-        sound = sound_law in_unit does_nothing (next Pass end) (Here end) s u good come;
-        unbound = λ y e. unbound_law in_unit does_nothing (next Pass end) (Here end) s u good come
-            y (refl, refl);
-      };
-      of_old = λ y e. absurd (true≢false (sym e));
-      of_new = λ y e. either (y == 1) e;
-    }, λ v e. absurd (none_is_some e)))
+    (λ s u good come. (
+      record {
+        none = record {
+          sound = sound_law in_unit does_nothing (next Pass end) (Here end) s u good come;
+          unbound = λ y e. unbound_law in_unit does_nothing (next Pass end) (Here end) s u good come
+              y (refl, refl);
+        };
+        of_old = λ y e. absurd (true≢false (sym e));
+        of_new = λ y e. either (y == 1) e;
+      },
+      λ v e. absurd (none_is_some e),
+    ))
   where
     either : (t : Bool) → (t || false) ≡ true → t ≡ true
     either true e = refl
@@ -765,8 +768,12 @@ first_sorted = record {
     buffers : (b : ℕ) (shape : Shape) (t : Bool) → (b == 10) ≡ t
         → cond {A = Option Shape} t (Some eight) None ≡ Some shape
         → (rank : ℕ) × (dense : Bool) × (sort_in x_there b ≡ Some (BufferName shape.cell rank dense))
-    buffers b shape true i e = (1, true, ap (λ t. cond t (Some (BufferName I32 1 true)) None) i
-        ∙ ap (λ (z : Shape). Some (BufferName z.cell 1 true)) (one_value eight shape e))
+    buffers b shape true i e = (
+      1,
+      true,
+      ap (λ t. cond t (Some (BufferName I32 1 true)) None) i
+          ∙ ap (λ (z : Shape). Some (BufferName z.cell 1 true)) (one_value eight shape e),
+    )
     buffers b shape false i e = absurd (none_is_some e)
 
     sees : (c : Cell) (r : ℕ) (d : Bool) (z : Seen) (shape : Shape) (t : Bool)
@@ -780,9 +787,11 @@ first_sorted = record {
         (ap (λ (w : Seen). first.scene.buffers w.buffer) same ∙ e) in
         record {
           cell_is = cell_of_sort ∙ ap (λ (q : Shape). q.cell) has;
-          all = λ k. (sym (ap (λ (w : Seen). w.sides) same)
-              ∙ ap (λ (q : Shape). whole q.dims) has,
-            ap (λ (q : Shape). q.strides) (sym has) ∙ ap (λ (q : Shape). row_major q.dims) has);
+          all = λ k. (
+            sym (ap (λ (w : Seen). w.sides) same)
+                ∙ ap (λ (q : Shape). whole q.dims) has,
+            ap (λ (q : Shape). q.strides) (sym has) ∙ ap (λ (q : Shape). row_major q.dims) has,
+          );
         }
       where
         cell_of_sort : c ≡ I32

@@ -60,7 +60,7 @@ StagedReplaces =
     → let new = between a cell dims memory x coords ls ks (converted a.id x coords b) in
     Hides hidden b new s
     → ((u : State) → run world new s ≡ Some u →
-      IsStaged blind world root a cell dims x coords ls ks b s)
+    IsStaged blind world root a cell dims x coords ls ks b s)
     → MayReplace world hidden b new s
 
 -- and the procedure with it refines the procedure
@@ -74,7 +74,7 @@ StagedRefines =
     p.body ≡ fill c b
     → mentions hidden (rest_of c) ≡ false
     → ((s u : State) → IsAdmissible world p s → ComesTo world b c s u →
-      Hides hidden b new u
-      × ((v : State) → run world new u ≡ Some v →
-        IsStaged blind world root a cell dims x coords ls ks b u))
+    Hides hidden b new u
+    × ((v : State) → run world new u ≡ Some v →
+    IsStaged blind world root a cell dims x coords ls ks b u))
     → Refines world p (record p { body = fill c new }) []
