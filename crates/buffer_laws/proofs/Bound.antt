@@ -80,7 +80,8 @@ module _ (hidden : ℕ → Bool) (s t : State) (h : SameBut hidden s t) where
       let q = or_parts (in_datum hidden b) (in_datum hidden c || in_datum hidden d) p.1 in
       let z = or_parts (in_datum hidden c) (in_datum hidden d) q.1 in
       ap₂ (λ o w. then_do o (λ x. then_do w (λ v. then_do (value s c)
-      (λ y. option_map (on_four selected x v y) (value s d))))) (value_same a p.0) (value_same b q.0)
+      (λ y. option_map (on_four selected x v y) (value s d))))) (value_same a p.0)
+      (value_same b q.0)
       ∙ ap₂ (λ o w. then_do (value t a) (λ x. then_do (value t b) (λ v. then_do o
       (λ y. option_map (on_four selected x v y) w)))) (value_same c z.0) (value_same d z.1)
 

@@ -9,7 +9,8 @@ use Rattle.exo_tree.specs.Tree.{View, Call, Block, end, next}
 use Rattle.exo_meaning.specs.Value.{on_one, on_two, on_four, relu, selected}
 use Rattle.exo_meaning.specs.Scene.{Scene, Seen, Side, Point, Range, number, numbers, then_do}
 use Rattle.exo_meaning.specs.Scene.{where_true, is_below, cell_at, narrowed, window}
-use Rattle.exo_meaning.specs.State.{State, place, held, value, put, on_scene, with_view, with_control}
+use Rattle.exo_meaning.specs.State.{State, place, held, value, put, on_scene, with_view}
+use Rattle.exo_meaning.specs.State.{with_control}
 use Rattle.exo_meaning.specs.Calls.{given, all_given, GivenView, Callee, entered, returned}
 use Rattle.exo_meaning.specs.Calls.{run_asserted}
 use Rattle.exo_meaning.specs.Run.{World, step, call_to}
@@ -33,7 +34,8 @@ module _ (simple : Control → Control) (names : ℕ → Bool) (is : IsSimplifie
         go true k = sym (is e scene k)
         go false k = refl
 
-    pub numbers_same : (es : List Control) → numbers scene es ≡ numbers scene (all_simpler simple es)
+    pub numbers_same : (es : List Control)
+        → numbers scene es ≡ numbers scene (all_simpler simple es)
     numbers_same [] = refl
     numbers_same (e ∷ es) = ap₂ ◌∷◌ (number_same e) (numbers_same es)
 
@@ -135,7 +137,8 @@ module _ (simple : Control → Control) (names : ℕ → Bool) (is : IsSimplifie
         → step world (Call k gs) s ≡ step world (Call k (simplified_arguments simple names gs)) s
     call_same k gs s = go (world.callees k)
       where
-        go : (o : Option Callee) → call_to o gs s ≡ call_to o (simplified_arguments simple names gs) s
+        go : (o : Option Callee)
+            → call_to o gs s ≡ call_to o (simplified_arguments simple names gs) s
         go None = refl
         go (Some c) = ap (λ q. then_do q (λ given. then_do (entered c.procedure.params given s)
             (λ inner. option_map (returned c given s) (run_asserted c inner))))
@@ -155,7 +158,8 @@ module _ (simple : Control → Control) (names : ℕ → Bool) (is : IsSimplifie
       there (Config f g) s = at_once refl
       there Pass s = at_once refl
       there (If c b d) s = in_branches refl (λ e. along b s) (λ e. along d s)
-      there (For i lo hi b) s = in_turns refl refl (λ n u come. along b (on_scene (with_control i.id n) u))
+      there (For i lo hi b) s = in_turns refl refl (λ n u come.
+          along b (on_scene (with_control i.id n) u))
       there (Alloc y cell dims memory) s = at_once refl
       there (View w y cs) s = at_once (ap (λ o. then_do o (λ (seen : Seen).
           Some (on_scene (with_view w.id seen) s))) (window_same s.scene y cs))

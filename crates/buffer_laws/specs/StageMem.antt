@@ -3,7 +3,8 @@ use Rattle.std.specs.Prelude.{◌==◌, ◌+◌, ◌&&◌, not, cond, ℕ, zero,
 use Rattle.std.specs.Prelude.{false, List, [], ◌∷◌, ◌++◌, length}
 use Rattle.exo_tree.specs.Tree.{Cell, Control, Lit, Condition, Lt, Le, Eq, Coord, At}
 use Rattle.exo_tree.specs.Tree.{Span, Datum, Const, Read, Negated, Relu, Plus, Minus, Times, Select}
-use Rattle.exo_tree.specs.Tree.{Argument, ControlArg, ConditionArg, Whole, Window, Statement, Assign}
+use Rattle.exo_tree.specs.Tree.{Argument, ControlArg, ConditionArg, Whole, Window, Statement}
+use Rattle.exo_tree.specs.Tree.{Assign}
 use Rattle.exo_tree.specs.Tree.{Reduce, Config, Pass, If, For, Alloc, View, Call, Block, end, next}
 use Rattle.exo_tree.specs.Tree.{joined}
 use Rattle.exo_tree.specs.Places.{Path, Branch, Main, Else}

@@ -1,11 +1,13 @@
 -- half(x: i32[8]) sets each even cell to 7, and is staged.
-use Rattle.std.proofs.Common.{◌||◌, ◌∙◌, ap, ap₂, ◌≡◌, ℕ, ℤ, pos, ◌==◌, Bool, true, false, cond, List}
+use Rattle.std.proofs.Common.{◌||◌, ◌∙◌, ap, ap₂, ◌≡◌, ℕ, ℤ, pos, ◌==◌, Bool, true, false, cond}
+use Rattle.std.proofs.Common.{List}
 use Rattle.std.proofs.Common.{[], ◌∷◌}
 use Rattle.std.proofs.Common.{Option, Some, None, IfSome, IsSome, option_map, refl, sym, subst}
 use Rattle.std.proofs.Common.{true≢false}
 use Rattle.std.proofs.Common.{eqb-true}
 use Rattle.std.specs.Int.{int_wrap}
-use Rattle.exo_tree.specs.Tree.{Binder, Cell, I32, Index, Lit, Var, Sub, Mul, Const, Read, Coord, Span}
+use Rattle.exo_tree.specs.Tree.{Binder, Cell, I32, Index, Lit, Var, Sub, Mul, Const, Read, Coord}
+use Rattle.exo_tree.specs.Tree.{Span}
 use Rattle.exo_tree.specs.Tree.{Window, Alloc, Pass}
 use Rattle.exo_tree.specs.Tree.{Assign, For, Block, end, next, Procedure}
 use Rattle.exo_tree.specs.Context.{Here}
@@ -30,7 +32,6 @@ use Rattle.staging_laws.specs.Converted.{converted, FitsWithin, IsNewName}
 use Rattle.staging_laws.specs.Whole.{MayConvert, Follows}
 use Rattle.staging_laws.specs.Replaced.{Hides, between, IsStaged}
 use Rattle.staging_laws.specs.Known.{AreOver, AreMade, IsKnown, FitsBehind}
-use Rattle.staging_laws.specs.Known.{up_to_store}
 use Rattle.staging_laws.proofs.Known.{known_law, fits_behind_law}
 use Rattle.staging_laws.proofs.Replaced.{alike_replaces, staged_replaces, staged_refines}
 use Rattle.meaning_laws.specs.Context.{MayReplace}
@@ -767,7 +768,8 @@ first_sorted = record {
   where
     buffers : (b : ℕ) (shape : Shape) (t : Bool) → (b == 10) ≡ t
         → cond {A = Option Shape} t (Some eight) None ≡ Some shape
-        → (rank : ℕ) × (dense : Bool) × (sort_in x_there b ≡ Some (BufferName shape.cell rank dense))
+        → (rank : ℕ) × (dense : Bool)
+        × (sort_in x_there b ≡ Some (BufferName shape.cell rank dense))
     buffers b shape true i e = (
       1,
       true,

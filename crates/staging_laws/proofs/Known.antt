@@ -1,13 +1,15 @@
 -- What has to be known of a block at a place, so that it may be staged there.
-use Rattle.std.proofs.Common.{◌≡◌, ◌==◌, ℕ, ℤ, ◌-ℤ◌, ◌&&◌, Bool, true, false, true≢false, cond, List}
-use Rattle.std.proofs.Common.{[], ◌∷◌, Option, Some, None, option_map, IsSome, refl, sym, ap, ap₂, ◌∙◌, subst}
+use Rattle.std.proofs.Common.{◌≡◌, ◌==◌, ℕ, ℤ, ◌-ℤ◌, ◌&&◌, Bool, true, false, true≢false, cond}
+use Rattle.std.proofs.Common.{List}
+use Rattle.std.proofs.Common.{[], ◌∷◌, Option, Some, None, option_map, IsSome, refl, sym, ap, ap₂}
+use Rattle.std.proofs.Common.{◌∙◌, subst}
 use Rattle.std.proofs.Common.{eqb-true, eq-eqb}
 use Rattle.exo_tree.specs.Tree.{Cell, Binder, Control, Coord, At, Span, Window, Alloc, Assign, Read}
 use Rattle.exo_tree.specs.Tree.{Block, next, joined}
 use Rattle.exo_meaning.specs.Value.{Value, Undefined}
-use Rattle.exo_meaning.specs.Scene.{Shape, Side, Seen, Scene, number, numbers, narrowed, window, extents}
+use Rattle.exo_meaning.specs.Scene.{Shape, Side, Seen, Scene, numbers, narrowed, window, extents}
 use Rattle.exo_meaning.specs.Scene.{then_do, updated, where_true}
-use Rattle.exo_meaning.specs.State.{State, with_control, with_contents, on_scene, with_buffer}
+use Rattle.exo_meaning.specs.State.{State, with_control}
 use Rattle.exo_meaning.specs.Calls.{all_positive}
 use Rattle.exo_meaning.specs.Footprint.{IsTidy}
 use Rattle.exo_meaning.specs.Run.{World, run, step, tensor, kinds_of, unit_world}
@@ -25,7 +27,7 @@ use Rattle.meaning_laws.proofs.Substitute.{and_parts, plain_same}
 use Rattle.inplace_laws.specs.Filled.{Loop, nest}
 use Rattle.inplace_laws.specs.Staged.{staged}
 use Rattle.inplace_laws.specs.Uses.{in_block}
-use Rattle.inplace_laws.specs.Windows.{are_plain, coords_have, shifted}
+use Rattle.inplace_laws.specs.Windows.{are_plain, shifted}
 use Rattle.inplace_laws.proofs.Windows.{view_kept}
 use Rattle.staging_laws.specs.Stores.{load_nest, store_nest, variables, AtAny, RunOver, spans}
 use Rattle.staging_laws.specs.Stores.{IsStaging, FitInto, emptied}
