@@ -24,7 +24,7 @@ use Rattle.meaning_laws.proofs.Names.{if_gives}
 use Rattle.meaning_laws.proofs.Parts.{then_gives, some_injective}
 use Rattle.meaning_laws.proofs.Sorted.{run_ends, agrees, unit_good}
 use Rattle.meaning_laws.proofs.Substitute.{and_parts, plain_same}
-use Rattle.inplace_laws.specs.Filled.{Loop, nest}
+use Rattle.inplace_laws.specs.Filled.{Loop}
 use Rattle.inplace_laws.specs.Staged.{staged}
 use Rattle.inplace_laws.specs.Uses.{in_block}
 use Rattle.inplace_laws.specs.Windows.{are_plain, shifted}
