@@ -1,4 +1,5 @@
 -- Steps on buffers at closed blocks, and what they make by computation.
+use Rattle.std.proofs.Common.{true}
 use Rattle.std.proofs.Common.{◌≡◌, ◌==◌, ℕ, ℤ, pos, ◌+ℤ◌, Bool, false}
 use Rattle.std.proofs.Common.{[], ◌∷◌, Some, None, refl, subst}
 use Rattle.std.proofs.Common.{arith}
@@ -13,6 +14,7 @@ use Rattle.exo_meaning.specs.State.{State, value}
 use Rattle.exo_meaning.specs.Calls.{bare}
 use Rattle.exo_meaning.specs.Inputs.{Refines, FitsCell}
 use Rattle.exo_meaning.specs.Units.{IsProcedure}
+use Rattle.exo_meaning.specs.Unseen.{in_controls}
 use Rattle.exo_meaning.specs.Run.{World, run, unit_world}
 use Rattle.exo_meaning.proofs.Windows.{none_is_some, one_value}
 use Rattle.meaning_laws.specs.Context.{MayReplace}
@@ -20,7 +22,7 @@ use Rattle.meaning_laws.specs.Sorted.{CellsFit}
 use Rattle.meaning_laws.proofs.Replace.{unit_respects}
 use Rattle.inplace_laws.specs.Along.{SameAlong}
 use Rattle.scope_laws.specs.Scopes.{HasNone}
-use Rattle.buffer_laws.specs.Buffers.{Buffer, only_buffer, in_memory, is_buffer}
+use Rattle.buffer_laws.specs.Buffers.{Buffer, is_still_used, only_buffer, in_memory, is_buffer}
 use Rattle.buffer_laws.specs.Lifted.{loop_with, with_buffer_in, lifted_from_loop}
 use Rattle.buffer_laws.specs.Bound.{Hole, Top, PlusIn, stores, only_statement, filled, bound}
 use Rattle.buffer_laws.specs.Simplified.{IsSimplifier, simplified}
@@ -194,3 +196,13 @@ expanded_cell = refl
 
 not_expanded : may_expand four (next (Call 0 (Whole 2 ∷ [])) end) ≡ false
 not_expanded = refl
+
+-- ---- refusals
+
+-- t : i32[4]; t[i] = 7: it is still used
+used_still : is_still_used four (Here set_cell) ≡ true
+used_still = refl
+
+-- for i in ..: t : i32[i]: its dimension is not in scope before the loop
+not_in_scope : in_controls (λ y. y == 1) (Var 1 ∷ []) ≡ true
+not_in_scope = refl

@@ -2,9 +2,10 @@
 use Rattle.std.proofs.Common.{◌≡◌, ℕ, zero, pos, Bool, true, false, List, [], ◌∷◌, None, refl}
 use Rattle.exo_tree.specs.Tree.{Binder, I32, Control, Lit, Var, Add, Sub, Mul}
 use Rattle.exo_tree.specs.Tree.{Lt, Le, Span, Const, Read, Assign, For, Alloc}
-use Rattle.exo_tree.specs.Tree.{Block, end, next}
+use Rattle.exo_tree.specs.Tree.{View, Block, end, next}
 use Rattle.exo_tree.specs.Places.{Main}
 use Rattle.exo_meaning.specs.Modes.{has_mode, no_modes}
+use Rattle.buffer_laws.specs.StageMem.{is_view_used}
 use Rattle.buffer_laws.specs.StageMem.{Staging, staged_block, asked_in, is_aliased, is_only_reduced}
 
 abbrev pub named : ℕ → List ℕ → Binder
@@ -58,3 +59,9 @@ not_aliased = refl
 not_only_reduced : is_only_reduced
     (λ m y. has_mode (λ k. None) (λ k. no_modes) m (λ z. z) sevens y) 0 ≡ false
 not_only_reduced = refl
+
+-- w = x[0:4], and w[0] = 1 after it: the shape is wrong
+used_after : is_view_used (λ y. y) 0
+    (next (View (named 1 (119 ∷ [])) 0 (Span (Lit (pos 0)) (Lit (pos 4)) ∷ [])) end)
+    (next (Assign 1 (Lit (pos 0) ∷ []) (Const (pos 1))) end) ≡ true
+used_after = refl

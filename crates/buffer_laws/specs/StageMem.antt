@@ -8,9 +8,11 @@ use Rattle.exo_tree.specs.Tree.{Assign}
 use Rattle.exo_tree.specs.Tree.{Reduce, Config, Pass, If, For, Alloc, View, Call, Block, end, next}
 use Rattle.exo_tree.specs.Tree.{joined}
 use Rattle.exo_tree.specs.Places.{Path, Branch, Main, Else}
+use Rattle.exo_meaning.specs.Run.{roots_after}
 use Rattle.exo_meaning.specs.Modes.{Mode, Reading, Writing}
 use Rattle.exo_meaning.specs.Unseen.{in_block as mentions}
 use Rattle.meaning_laws.specs.Scoped.{has_binder}
+use Rattle.scope_laws.specs.Scopes.{top_binders}
 use Rattle.inplace_laws.specs.Filled.{Loop, nest}
 use Rattle.inplace_laws.specs.Windows.{shifted}
 use Rattle.staging_laws.specs.Stores.{spans, variables}
@@ -171,6 +173,16 @@ module _ (x : ℕ) (dims : List Control) (coords : List Coord) where
     asked_at path (Alloc y cell ds memory) = []
     asked_at path (View v y ds) = all_at path (asked_of_statement (View v y ds))
     asked_at path (Call k gs) = all_at path (asked_of_statement (Call k gs))
+
+-- ---- shape: no view of x that the block leaves is used after it
+
+abbrev pub roots_behind : Block → (ℕ → ℕ) → ℕ → ℕ
+roots_behind end root = root
+roots_behind (next a b) root = roots_behind b (roots_after a root)
+
+abbrev pub is_view_used : (ℕ → ℕ) → ℕ → Block → Block → Bool
+is_view_used root x b rest =
+    mentions (λ y. top_binders b y && (roots_behind b root y == root x)) rest
 
 -- ---- refusals, in order
 
