@@ -31,7 +31,7 @@ of_some P None a h e = absurd (none_is_some e)
 of_some P (Some b) a h e = subst P (one_value b a e) h
 
 -- a name that a block does not bind stands for the same
-run_names : (world : World) (b : Block) (s t : State) (x : ℕ) → run world b s ≡ Some t
+pub run_names : (world : World) (b : Block) (s t : State) (x : ℕ) → run world b s ≡ Some t
     → has_binder b x ≡ false → IsSameName x s t
 run_names world end s t x e k = subst (λ u. IsSameName x s u) (one_value s t e) (name_same x s)
 run_names world (next a b) s t x e k =
@@ -100,25 +100,25 @@ module _ (a : ℕ) (seen : Seen) (to : Shape) (s : State) (sound : IsSound s) wh
       there y z false e = still z.buffer (z.buffer == a) (sound.seen y z e)
 
 pub round_law : RoundLaw
-round_law blind world root a dims memory x seen to coords ls b s alone h =
+round_law blind world root a dims memory x seen to coords ls ks b s alone h =
     let may = alone_law blind world root a.id seen to b s alone in
     let sound = staged_sound a.id seen to s alone.sound in
-    let first : IsStaging a.id x seen coords ls (staged a.id seen to s) = record {
+    let first : IsStaging a.id x seen coords ks (staged a.id seen to s) = record {
       tidy = sound.tidy;
-      name = h.before.name;
-      there = h.before.there;
-      other = h.before.other;
-      window = h.before.window;
-      distinct = h.before.distinct;
-      over = h.before.over;
+      name = h.again.name;
+      there = h.again.there;
+      other = h.again.other;
+      window = h.again.window;
+      distinct = h.again.distinct;
+      over = h.again.over;
     } in
     stage_law (has_root (updated root a.id a.id) seen.buffer) blind world (updated root a.id a.id) a
-    dims memory x seen to coords ls b s may (record {
+    dims memory x seen to coords ls ks b s may (record {
       sizes = h.sizes;
       before = h.before;
       fit = h.fit;
       behind = λ t e. (
-        behind_law world a.id x seen coords ls b (staged a.id seen to s) t sound
+        behind_law world a.id x seen coords ks b (staged a.id seen to s) t sound
             first h.between e (h.behind t e).0,
         (h.behind t e).1,
       );

@@ -1,33 +1,42 @@
 -- half(x: i32[8]) sets each even cell to 7, and is staged.
-use Rattle.std.proofs.Common.{◌||◌, ◌∙◌, ap, ◌≡◌, ℕ, ℤ, pos, ◌==◌, Bool, true, false, cond, List}
+use Rattle.std.proofs.Common.{◌||◌, ◌∙◌, ap, ap₂, ◌≡◌, ℕ, ℤ, pos, ◌==◌, Bool, true, false, cond}
+use Rattle.std.proofs.Common.{List}
 use Rattle.std.proofs.Common.{[], ◌∷◌}
 use Rattle.std.proofs.Common.{Option, Some, None, IfSome, IsSome, option_map, refl, sym, subst}
 use Rattle.std.proofs.Common.{true≢false}
 use Rattle.std.proofs.Common.{eqb-true}
 use Rattle.std.specs.Int.{int_wrap}
-use Rattle.exo_tree.specs.Tree.{Binder, I32, Index, Lit, Var, Sub, Mul, Const, Read, Coord, Span}
+use Rattle.exo_tree.specs.Tree.{Binder, Cell, I32, Index, Lit, Var, Sub, Mul, Const, Read, Coord}
+use Rattle.exo_tree.specs.Tree.{Span}
 use Rattle.exo_tree.specs.Tree.{Window, Alloc, Pass}
-use Rattle.exo_tree.specs.Tree.{Assign, For, Block, end, next}
+use Rattle.exo_tree.specs.Tree.{Assign, For, Block, end, next, Procedure}
+use Rattle.exo_tree.specs.Context.{Here}
 use Rattle.exo_meaning.specs.Value.{Value, Undefined, Number, stored_as}
-use Rattle.exo_meaning.specs.Scene.{Seen, Shape, Range, then_do, numbers, updated, window, cell_at}
+use Rattle.exo_meaning.specs.Scene.{Seen, Shape, Scene, Range, then_do, numbers, updated, window}
+use Rattle.exo_meaning.specs.Scene.{cell_at, whole}
 use Rattle.exo_meaning.specs.State.{State, same_index, on_scene, with_view, with_contents}
 use Rattle.exo_meaning.specs.Calls.{GivenView, contents, copy_back, all_positive, held_at}
-use Rattle.exo_meaning.specs.Inputs.{FitsCell}
+use Rattle.exo_meaning.specs.Inputs.{FitsCell, Refines}
 use Rattle.exo_meaning.specs.Unseen.{SameBut}
-use Rattle.meaning_laws.specs.Sorted.{CellsFit}
-use Rattle.exo_meaning.specs.Run.{World, run, writes, world_of}
+use Rattle.meaning_laws.specs.Sorted.{CellsFit, IsSorted, Sees}
+use Rattle.exo_meaning.specs.Run.{World, run, writes, world_of, unit_world, kinds_of}
+use Rattle.exo_meaning.specs.Run.{row_major}
+use Rattle.exo_meaning.specs.Units.{Scope, Sort, BufferName, with_name, sort_in}
 use Rattle.exo_meaning.proofs.Windows.{none_is_some, one_value}
 use Rattle.inplace_laws.specs.Filled.{Loop, nest}
 use Rattle.staging_laws.specs.Stores.{load_nest, store_nest, IsStaging, spans, variables, FitInto}
-use Rattle.staging_laws.specs.Stores.{RunOver, emptied}
+use Rattle.staging_laws.specs.Stores.{RunOver, AreDistinct, emptied}
 use Rattle.staging_laws.specs.Alone.{IsAlone, has_root}
-use Rattle.staging_laws.specs.Inside.{AreOverSpans}
+use Rattle.staging_laws.specs.Inside.{AreOverSpans, extents_of}
 use Rattle.staging_laws.specs.Converted.{converted, FitsWithin, IsNewName}
 use Rattle.staging_laws.specs.Whole.{MayConvert, Follows}
-use Rattle.staging_laws.specs.Replaced.{Hides, between}
-use Rattle.staging_laws.proofs.Replaced.{alike_replaces, staged_replaces}
+use Rattle.staging_laws.specs.Replaced.{Hides, between, IsStaged}
+use Rattle.staging_laws.specs.Known.{AreOver, AreMade, IsKnown, FitsBehind}
+use Rattle.staging_laws.proofs.Known.{known_law, fits_behind_law}
+use Rattle.staging_laws.proofs.Replaced.{alike_replaces, staged_replaces, staged_refines}
 use Rattle.meaning_laws.specs.Context.{MayReplace}
 use Rattle.meaning_laws.specs.Sound.{IsUnbound}
+use Rattle.meaning_laws.proofs.Copies.{sound_law, unbound_law}
 use Rattle.staging_laws.proofs.Whole.{viewed_law, staged_block_law, staged_reader_law}
 use Rattle.staging_laws.proofs.Converted.{fits_law, converted_along, converted_law}
 use Rattle.staging_laws.proofs.Box.{box_law, no_store_law}
@@ -48,7 +57,7 @@ use Rattle.staging_laws.specs.Behind.{IsBetween, MayGoRound}
 use Rattle.staging_laws.proofs.Behind.{behind_law, staged_sound, round_law}
 
 abbrev binder : ℕ → Binder
-binder n = record { id = n; name = [] }
+binder n = record { id = n; name = n ∷ [] }
 
 abbrev world : World
 world = world_of (λ f. Index) []
@@ -81,6 +90,10 @@ coords = Span (Lit (pos 0)) (Lit (pos 8)) ∷ []
 -- for i0 in seq(0, 8)
 abbrev loops : List Loop
 loops = record { binder = binder 3; extent = Lit (pos 8) } ∷ []
+
+-- and again, behind the block
+abbrev back : List Loop
+back = record { binder = binder 4; extent = Lit (pos 8) } ∷ []
 
 is_staging : IsStaging 1 10 (all_of 10) coords loops s
 is_staging = record {
@@ -145,7 +158,7 @@ abbrev all_of_it : Option State
 all_of_it =
     then_do (run world (next (Alloc (binder 1) I32 (Lit (pos 8) ∷ []) 0)
     (load_nest 1 10 coords loops)) first)
-    (λ t. then_do (run world (halves 1) t) (run world (store_nest 1 10 coords loops)))
+    (λ t. then_do (run world (halves 1) t) (run world (store_nest 1 10 coords back)))
 
 even_cells : cell_of 10 (pos 2) all_of_it ≡ Some (Number (pos 7))
 unfolding int_wrap
@@ -250,10 +263,19 @@ unfolding int_wrap
 halved_is t e at = ap (λ o. elim o [ None ↦ Undefined | Some u ↦ u.cells 1 at ]) (sym e)
 
 may_go_round : MayGoRound world (binder 1) (Lit (pos 8) ∷ []) 10 (all_of 10) eight coords loops
-    (halves 1) first
+    back (halves 1) first
 may_go_round = record {
   sizes = refl;
   before = record {
+    tidy = λ b e at. tidy at (b == 1) (b == 10) e;
+    name = refl;
+    there = (eight, refl);
+    other = refl;
+    window = λ n. refl;
+    distinct = (refl, tt);
+    over = (refl, λ n. tt);
+  };
+  again = record {
     tidy = λ b e at. tidy at (b == 1) (b == 10) e;
     name = refl;
     there = (eight, refl);
@@ -339,8 +361,8 @@ fit_back = fit_into_law first 10 10 eight cells_fit refl
 
 -- behind the block
 behind : (t : State) → run world (halves 1) (staged 1 (all_of 10) eight first) ≡ Some t
-    → IsStaging 1 10 (all_of 10) coords loops t
-behind t e = behind_law world 1 10 (all_of 10) coords loops (halves 1)
+    → IsStaging 1 10 (all_of 10) coords back t
+behind t e = behind_law world 1 10 (all_of 10) coords back (halves 1)
     (staged 1 (all_of 10) eight first) t (staged_sound 1 (all_of 10) eight first alone.sound)
     (record {
       tidy = (staged_sound 1 (all_of 10) eight first alone.sound).tidy;
@@ -360,7 +382,7 @@ staged_by_nests : Both (AreAlike first) all_of_it
     (run world (halves 1) (on_scene (with_view 1 (all_of 10)) first))
 staged_by_nests = stage_law (has_root (updated (λ y. y) 1 1) 10) (λ y. y == 1) world
     (updated (λ y. y) 1 1) (binder 1) (Lit (pos 8) ∷ []) 0 10 (all_of 10) eight coords loops
-    (halves 1) first may_stage (record {
+    back (halves 1) first may_stage (record {
       sizes = refl;
       before = may_go_round.before;
       fit = may_go_round.fit;
@@ -401,7 +423,7 @@ read_through = reader_law (has_root (updated (λ y. y) 1 1) 10) (λ y. y == 1) w
 halves_are_staged : Both (AreAlike first) all_of_it
     (run world (halves 1) (on_scene (with_view 1 (all_of 10)) first))
 halves_are_staged = round_law (λ y. y == 1) world (λ y. y) (binder 1) (Lit (pos 8) ∷ []) 0 10
-    (all_of 10) eight coords loops (halves 1) first alone may_go_round
+    (all_of 10) eight coords loops back (halves 1) first alone may_go_round
 
 -- ---- the block of x and the block of t
 
@@ -446,11 +468,12 @@ between_on_t = record {
   variables = λ y e. absurd (true≢false (sym e));
 }
 
-goes_on_t : MayGoRound world (binder 1) (Lit (pos 8) ∷ []) 10 (all_of 10) eight coords loops on_t
-    first
+goes_on_t : MayGoRound world (binder 1) (Lit (pos 8) ∷ []) 10 (all_of 10) eight coords loops
+    back on_t first
 goes_on_t = record {
   sizes = refl;
   before = may_go_round.before;
+  again = may_go_round.again;
   fit = may_go_round.fit;
   between = between_on_t;
   behind = λ t e. (
@@ -484,10 +507,11 @@ on_a_view = viewed_law world 1 10 (all_of 10) coords (halves 10) first may_conve
 between_nests : IfSome
     (then_do (run world (next (Alloc (binder 1) I32 (Lit (pos 8) ∷ []) 0)
     (load_nest 1 10 coords loops)) first)
-    (λ t. then_do (run world on_t t) (run world (store_nest 1 10 coords loops))))
+    (λ t. then_do (run world on_t t) (run world (store_nest 1 10 coords back))))
     (Follows (λ t u. AreAlike first u t) world (halves 10) first)
 between_nests = staged_block_law (λ y. y == 1) world (λ y. y) (binder 1) (Lit (pos 8) ∷ []) 0 10
-    (all_of 10) eight coords loops (halves 10) first may_convert (alone_if on_t refl refl) goes_on_t
+    (all_of 10) eight coords loops back (halves 10) first may_convert (alone_if on_t refl refl)
+    goes_on_t
 
 -- y: i32; y = x[3], which is y = t[3 - 0]
 may_convert_reader : MayConvert world 1 10 (all_of 10) coords (reader 10) first
@@ -519,7 +543,7 @@ behind_loads = staged_reader_law (λ y. y == 1) world (λ y. y) (binder 1) (Lit 
 -- ---- and in the place of the block
 
 they_hide : Hides (λ y. y == 1) (halves 10)
-    (between (binder 1) (Lit (pos 8) ∷ []) 0 10 eight coords loops on_t) first
+    (between (binder 1) I32 (Lit (pos 8) ∷ []) 0 10 coords loops back on_t) first
 they_hide = record {
   none = record {
     sound = alone.sound;
@@ -535,10 +559,16 @@ they_hide = record {
     either false e = e
 
 it_may_stand : MayReplace world (λ y. y == 1) (halves 10)
-    (between (binder 1) (Lit (pos 8) ∷ []) 0 10 eight coords loops on_t) first
-it_may_stand = staged_replaces (λ y. y == 1) (λ y. y == 1) world (λ y. y) (binder 1)
-    (Lit (pos 8) ∷ []) 0 10 (all_of 10) eight coords loops (halves 10) first may_convert
-    (alone_if on_t refl refl) goes_on_t they_hide
+    (between (binder 1) I32 (Lit (pos 8) ∷ []) 0 10 coords loops back on_t) first
+it_may_stand = staged_replaces (λ y. y == 1) (λ y. y == 1) world (λ y. y) (binder 1) I32
+    (Lit (pos 8) ∷ []) 0 10 coords loops back (halves 10) first they_hide (λ u e. record {
+      seen = all_of 10;
+      to = eight;
+      cell_is = refl;
+      may = may_convert;
+      alone = alone_if on_t refl refl;
+      round = goes_on_t;
+    })
 
 -- a block that does nothing may stand for one that allocates y: both leave all of before
 by_alike_ends : MayReplace world (λ y. y == 5) (next (Alloc (binder 5) I32 [] 0) end)
@@ -581,3 +611,203 @@ by_alike_ends = alike_replaces world (λ y. y == 5) (next (Alloc (binder 5) I32 
         → cond {A = List ℤ → Value} r (λ to. Undefined) (first.cells y) at ≡ first.cells y at
     unmade y at i false e = refl
     unmade y at i true e = absurd (not_there y i e)
+
+-- ---- and at a place of a procedure: a `pass` for which nothing is made, since t has no cell
+
+abbrev does_nothing : Procedure
+does_nothing = record {
+  name = 102 ∷ [];
+  params = [];
+  asserts = [];
+  body = next Pass end;
+  template = None;
+}
+
+abbrev for_nothing : Block
+for_nothing = between (binder 1) I32 (Lit (pos 0) ∷ []) 0 10 coords loops back (next Pass end)
+
+abbrev in_unit : World
+in_unit = unit_world (λ f. Index) []
+
+it_refines : Refines in_unit does_nothing (record does_nothing { body = for_nothing }) []
+it_refines = staged_refines (λ f. Index) [] does_nothing (Here end) (λ y. y == 1) (λ y. y == 1)
+    (λ y. y) (binder 1) I32 (Lit (pos 0) ∷ []) 0 10 coords loops back (next Pass end) refl refl
+    (λ s u good come. (
+      record {
+        none = record {
+          sound = sound_law in_unit does_nothing (next Pass end) (Here end) s u good come;
+          unbound = λ y e. unbound_law in_unit does_nothing (next Pass end) (Here end) s u good come
+              y (refl, refl);
+        };
+        of_old = λ y e. absurd (true≢false (sym e));
+        of_new = λ y e. either (y == 1) e;
+      },
+      λ v e. absurd (none_is_some e),
+    ))
+  where
+    either : (t : Bool) → (t || false) ≡ true → t ≡ true
+    either true e = refl
+    either false e = e
+
+-- ---- the whole from what is known
+
+fits_seven_in : FitsCell I32 (Number (pos 7))
+unfolding int_wrap
+fits_seven_in = refl
+
+in_if : (t : Bool) (v : Value) → FitsCell I32 v → FitsCell I32 (cond t (Number (pos 7)) v)
+in_if true v h = fits_seven_in
+in_if false v h = h
+
+in_held : (o : Option (List ℤ)) → FitsCell I32 (held_at (λ at. Number (pos 3)) o)
+in_held None = tt
+in_held (Some at) = fits_three_in
+
+in_halved : (at : List ℤ) → FitsCell I32 (halved at)
+in_halved at = in_if (same_index at (pos 6 ∷ [])) _ (in_if (same_index at (pos 4 ∷ [])) _
+    (in_if (same_index at (pos 2 ∷ [])) _ (in_if (same_index at (pos 0 ∷ [])) _
+    (in_held (cell_at (Range (pos 0) (pos 8) ∷ []) at)))))
+
+x_is_kept : (t : State) → run world on_t (staged 1 (all_of 10) eight first) ≡ Some t
+    → (at : List ℤ) → t.cells 10 at ≡ Number (pos 3)
+x_is_kept t e at = ap (λ o. elim o [ None ↦ Number (pos 3) | Some u ↦ u.cells 10 at ]) (sym e)
+
+abbrev shape_if : Bool → Bool → Option Shape
+shape_if p q = cond p (Some eight) (cond q (Some eight) None)
+
+shape_is : (t : State) → run world on_t (staged 1 (all_of 10) eight first) ≡ Some t → (b : ℕ)
+    → t.scene.buffers b ≡ shape_if (b == 1) (b == 10)
+shape_is t e b = ap (λ o. elim o [ None ↦ None | Some u ↦ u.scene.buffers b ]) (sym e)
+
+cells_fit_behind : (t : State) → run world on_t (staged 1 (all_of 10) eight first) ≡ Some t
+    → CellsFit t
+cells_fit_behind t e b shape k at = go (b == 1) (b == 10) refl refl
+  where
+    words : (p q : Bool) → shape_if p q ≡ Some shape → shape.cell ≡ I32
+    words true q i = ap (λ (z : Shape). z.cell) (sym (one_value eight shape i))
+    words false true i = ap (λ (z : Shape). z.cell) (sym (one_value eight shape i))
+    words false false i = absurd (none_is_some i)
+
+    is_word : shape.cell ≡ I32
+    is_word = words (b == 1) (b == 10) (sym (shape_is t e b) ∙ k)
+
+    at_number : (n : ℕ) → b ≡ n → FitsCell I32 (t.cells n at) → FitsCell shape.cell (t.cells b at)
+    at_number n i h = subst (λ c. FitsCell c (t.cells b at)) (sym is_word)
+        (subst (λ m. FitsCell I32 (t.cells m at)) (sym i) h)
+
+    go : (p q : Bool) → (b == 1) ≡ p → (b == 10) ≡ q → FitsCell shape.cell (t.cells b at)
+    go true q i j = at_number 1 (eqb-true b 1 i)
+        (subst (FitsCell I32) (sym (on_t_is t e at)) (in_halved at))
+    go false true i j = at_number 10 (eqb-true b 10 j)
+        (subst (FitsCell I32) (sym (x_is_kept t e at)) fits_three_in)
+    go false false i j = absurd (none_is_some (sym (ap₂ shape_if i j) ∙ sym (shape_is t e b) ∙ k))
+
+eight_spans : (ls : List Loop) → AreDistinct ls
+    → ((z : Scene) → numbers z (extents_of ls) ≡ pos 8 ∷ []) → AreOver ls coords
+eight_spans ls new equal = record {
+  distinct = new;
+  apart = λ y e. absurd (true≢false (sym e));
+  equal = equal;
+}
+
+are_made : AreMade (λ y. y == 1) (λ y. y) (binder 1) (Lit (pos 8) ∷ []) 10 coords loops back
+    (halves 10)
+are_made = record {
+  new = new_name;
+  other = refl;
+  plain = refl;
+  sizes = λ z. refl;
+  loads = eight_spans loops (refl, tt) (λ z. refl);
+  stores = eight_spans back (refl, tt) (λ z. refl);
+  blinds = refl;
+  names = refl;
+  not_made = refl;
+  own = refl;
+  name = refl;
+  root_name = refl;
+  variables = λ y e. absurd (true≢false (sym e));
+}
+
+is_known : IsKnown world (λ y. y) (binder 1) I32 10 coords (halves 10) first
+is_known = record {
+  sound = alone.sound;
+  cells = cells_fit;
+  unbound = alone.new;
+  roots = alone.roots;
+  own_roots = alone.own;
+  cell_is = λ z to i k. ap (λ (q : Shape). q.cell) (one_value to eight (sym k
+      ∙ ap (λ (w : Seen). first.scene.buffers w.buffer) (sym (one_value (all_of 10) z i))));
+  fit = they_fit;
+}
+
+fits_there : FitsBehind world (binder 1) 10 coords (halves 10) first
+fits_there z to t i k e = cells_fit_behind t (subst (λ w. run world on_t (staged 1 w eight first)
+    ≡ Some t) (sym (one_value (all_of 10) z i)) (subst (λ q. run world on_t (staged 1 z q first)
+    ≡ Some t) (one_value to eight (sym k ∙ ap (λ (w : Seen). first.scene.buffers w.buffer)
+    (sym (one_value (all_of 10) z i)))) e))
+
+-- it runs, so it is staged
+it_is_staged : (u : State) → run world (between (binder 1) I32 (Lit (pos 8) ∷ []) 0 10 coords loops
+    back on_t) first ≡ Some u → IsStaged (λ y. y == 1) world (λ y. y) (binder 1) I32
+    (Lit (pos 8) ∷ []) 10 coords loops back (halves 10) first
+it_is_staged u e = known_law (λ y. y == 1) world (λ y. y) (binder 1) I32 (Lit (pos 8) ∷ []) 0 10
+    coords loops back (halves 10) first u are_made is_known fits_there
+    e
+
+-- x is in scope as a tensor, and what is made keeps the rules
+abbrev x_there : Scope
+x_there = with_name [] (binder 10) (BufferName I32 1 true)
+
+first_sorted : IsSorted (kinds_of []) x_there first
+first_sorted = record {
+  buffers = λ b shape e. buffers b shape (b == 10) refl e;
+  views = λ y c r d z sort v shape e. sees c r d z shape (y == 10) sort v e;
+  cells = cells_fit;
+  fields = λ f. tt;
+}
+  where
+    buffers : (b : ℕ) (shape : Shape) (t : Bool) → (b == 10) ≡ t
+        → cond {A = Option Shape} t (Some eight) None ≡ Some shape
+        → (rank : ℕ) × (dense : Bool)
+        × (sort_in x_there b ≡ Some (BufferName shape.cell rank dense))
+    buffers b shape true i e = (
+      1,
+      true,
+      ap (λ t. cond t (Some (BufferName I32 1 true)) None) i
+          ∙ ap (λ (z : Shape). Some (BufferName z.cell 1 true)) (one_value eight shape e),
+    )
+    buffers b shape false i e = absurd (none_is_some e)
+
+    sees : (c : Cell) (r : ℕ) (d : Bool) (z : Seen) (shape : Shape) (t : Bool)
+        → cond {A = Option Sort} t (Some (BufferName I32 1 true)) None ≡ Some (BufferName c r d)
+        → cond {A = Option Seen} t (Some (all_of 10)) None ≡ Some z
+        → first.scene.buffers z.buffer ≡ Some shape → Sees c d z shape
+    sees c r d z shape false sort v e = absurd (none_is_some v)
+    sees c r d z shape true sort v e =
+        let same : all_of 10 ≡ z = one_value (all_of 10) z v in
+        let has : eight ≡ shape = one_value eight shape
+        (ap (λ (w : Seen). first.scene.buffers w.buffer) same ∙ e) in
+        record {
+          cell_is = cell_of_sort ∙ ap (λ (q : Shape). q.cell) has;
+          all = λ k. (
+            sym (ap (λ (w : Seen). w.sides) same)
+                ∙ ap (λ (q : Shape). whole q.dims) has,
+            ap (λ (q : Shape). q.strides) (sym has) ∙ ap (λ (q : Shape). row_major q.dims) has,
+          );
+        }
+      where
+        cell_of_sort : c ≡ I32
+        cell_of_sort = cc
+
+fits_by_rules : FitsBehind (unit_world (kinds_of []) []) (binder 1) 10 coords (halves 10) first
+fits_by_rules = fits_behind_law [] 1 [] x_there (λ y. y == 1) (λ y. y) (λ y. y) (binder 1) I32
+    (Lit (pos 8) ∷ []) 0 10 coords loops back (halves 10) first tt are_made (record {
+      sound = alone.sound;
+      cells = cells_fit;
+      unbound = alone.new;
+      roots = alone.roots;
+      own_roots = alone.own;
+      cell_is = is_known.cell_is;
+      fit = fits_law (unit_world (kinds_of []) []) 10 coords (halves 10) first
+          (tt, λ n u come. (((λ e. tt), tt), tt, λ v e. tt), λ v e. tt);
+    }) first_sorted refl

@@ -10,4 +10,5 @@ pub mod Converted
 pub mod Gone
 pub mod Whole
 pub mod Replaced
+pub mod Known
 pub mod Examples

@@ -1,11 +1,12 @@
 -- A staged block in the place of the block.
 use Rattle.std.proofs.Common.{◌≡◌, ℕ, ℤ, Bool, true, false, true≢false, List, Option, Some, None}
 use Rattle.std.proofs.Common.{IsSome, refl, sym, ◌∙◌, subst}
-use Rattle.exo_tree.specs.Tree.{Alloc, Block, next, joined}
+use Rattle.exo_tree.specs.Tree.{Binder, Control, Coord, Alloc, Block, next, joined}
+use Rattle.exo_tree.specs.Context.{fill}
 use Rattle.exo_meaning.specs.Value.{IsRefinedBy}
-use Rattle.exo_meaning.specs.Scene.{Shape, then_do}
+use Rattle.exo_meaning.specs.Scene.{Shape, Seen, then_do}
 use Rattle.exo_meaning.specs.State.{State}
-use Rattle.exo_meaning.specs.Run.{World, run}
+use Rattle.exo_meaning.specs.Run.{World, run, unit_world}
 use Rattle.exo_meaning.proofs.Compose.{compose, then_cong}
 use Rattle.exo_meaning.proofs.Windows.{one_value}
 use Rattle.meaning_laws.specs.Context.{RefinedBut}
@@ -13,13 +14,18 @@ use Rattle.meaning_laws.specs.Sound.{IsSound, IsSameName}
 use Rattle.meaning_laws.proofs.Sound.{run_sound}
 use Rattle.meaning_laws.proofs.Names.{if_gives, Others}
 use Rattle.meaning_laws.proofs.Refined.{refined_same}
+use Rattle.meaning_laws.proofs.Replace.{context_law}
+use Rattle.inplace_laws.specs.Filled.{Loop}
 use Rattle.scope_laws.specs.Scopes.{top_binders}
 use Rattle.scope_laws.proofs.Scopes.{run_names}
 use Rattle.staging_laws.specs.Stores.{load_nest, store_nest}
+use Rattle.staging_laws.specs.Alone.{IsAlone}
+use Rattle.staging_laws.specs.Behind.{MayGoRound}
 use Rattle.staging_laws.specs.Stage.{AreAlike}
 use Rattle.staging_laws.specs.Converted.{converted}
-use Rattle.staging_laws.specs.Whole.{Follows}
-use Rattle.staging_laws.specs.Replaced.{Hides, AlikeReplaces, StagedReplaces}
+use Rattle.staging_laws.specs.Whole.{MayConvert, Follows}
+use Rattle.staging_laws.specs.Replaced.{Hides, AlikeReplaces, StagedReplaces, StagedRefines}
+use Rattle.staging_laws.specs.Replaced.{between}
 use Rattle.staging_laws.proofs.Whole.{staged_block_law}
 
 module _ (world : World) (hidden : ℕ → Bool) (old new : Block) (s : State)
@@ -78,29 +84,53 @@ alike_replaces world hidden old new s hides alike = record {
   runs = λ t u e f. refined world hidden old new s hides t u e f (alike t u e f);
 }
 
+module _ (hidden blind : ℕ → Bool) (world : World) (root : ℕ → ℕ) (a : Binder)
+    (dims : List Control) (memory x : ℕ) (seen : Seen) (to : Shape) (coords : List Coord)
+    (ls ks : List Loop) (b : Block) (s : State)
+    (may : MayConvert world a.id x seen coords b s)
+    (alone : IsAlone blind root a.id seen to (converted a.id x coords b) s)
+    (round : MayGoRound world a dims x seen to coords ls ks (converted a.id x coords b) s) where
+  abbrev inner : Block
+  inner = converted a.id x coords b
+
+  abbrev loads : Block
+  loads = next (Alloc a to.cell dims memory) (load_nest a.id x coords ls)
+
+  abbrev stores : Block
+  stores = store_nest a.id x coords ks
+
+  abbrev in_turn : State → Option State
+  in_turn v = then_do (run world inner v) (run world stores)
+
+  both : run world (joined loads (joined inner stores)) s ≡ then_do (run world loads s) in_turn
+  both = compose world loads (joined inner stores) s
+      ∙ then_cong (run world loads s) (run world (joined inner stores)) in_turn
+      (compose world inner stores)
+
+  ends_alike : (t u : State) → run world b s ≡ Some t
+      → run world (joined loads (joined inner stores)) s ≡ Some u → AreAlike s u t
+  ends_alike t u e f =
+      let follows = if_gives (Follows (λ v w. AreAlike s w v) world b s)
+      (then_do (run world loads s) in_turn) u
+      (staged_block_law blind world root a dims memory x seen to coords ls ks b s may alone round)
+      (sym both ∙ f) in
+      subst (AreAlike s u) (one_value follows.0 t (sym follows.1 ∙ e)) follows.2
+
 pub staged_replaces : StagedReplaces
-staged_replaces hidden blind world root a dims memory x seen to coords ls b s may alone round
-    hides =
-    alike_replaces world hidden b (joined loads (joined inner stores)) s hides (λ t u e f.
-    let follows = if_gives (Follows (λ v w. AreAlike s w v) world b s)
-    (then_do (run world loads s) in_turn) u
-    (staged_block_law blind world root a dims memory x seen to coords ls b s may alone round)
-    (sym both ∙ f) in
-    subst (AreAlike s u) (one_value follows.0 t (sym follows.1 ∙ e)) follows.2)
-  where
-    inner : Block
-    inner = converted a.id x coords b
+staged_replaces hidden blind world root a cell dims memory x coords ls ks b s hides known =
+    alike_replaces world hidden b
+    (between a cell dims memory x coords ls ks (converted a.id x coords b)) s hides (λ t u e f.
+    let k = known u f in
+    ends_alike hidden blind world root a dims memory x k.seen k.to coords ls ks b s k.may k.alone
+    k.round t u e
+    (subst (λ z. run world (between a z dims memory x coords ls ks (converted a.id x coords b)) s
+    ≡ Some u) (sym k.cell_is) f))
 
-    loads : Block
-    loads = next (Alloc a to.cell dims memory) (load_nest a.id x coords ls)
-
-    stores : Block
-    stores = store_nest a.id x coords ls
-
-    in_turn : State → Option State
-    in_turn v = then_do (run world inner v) (run world stores)
-
-    both : run world (joined loads (joined inner stores)) s ≡ then_do (run world loads s) in_turn
-    both = compose world loads (joined inner stores) s
-        ∙ then_cong (run world loads s) (run world (joined inner stores)) in_turn
-        (compose world inner stores)
+pub staged_refines : StagedRefines
+staged_refines kinds ps p c hidden blind root a cell dims memory x coords ls ks b was unused known =
+    let new = between a cell dims memory x coords ls ks (converted a.id x coords b) in
+    context_law kinds ps hidden c b new p (record p { body = fill c new }) was refl unused
+    (λ s u good come.
+    let k = known s u good come in
+    staged_replaces hidden blind (unit_world kinds ps) root a cell dims memory x coords ls ks b u
+    k.0 k.1)

@@ -77,11 +77,11 @@ module _ (world : World) (a : Binder) (x : ℕ) (seen : Seen) (coords : List Coo
       w.1)) (record { fields = h.fields; cells = h.cells })
 
 pub stage_law : StageLaw
-stage_law hidden blind world root a dims memory x seen to coords ls b s may n =
+stage_law hidden blind world root a dims memory x seen to coords ls ks b s may n =
     subst (λ o. Both (AreAlike s) (then_do o (λ t. then_do (run world b t)
-    (run world (store_nest a.id x coords ls))))
+    (run world (store_nest a.id x coords ks))))
     (run world b (on_scene (with_view a.id seen) s)))
     (sym (stage_in_law world a dims memory x seen to coords ls s n.sizes may.there n.before n.fit))
-    (behind world a x seen coords ls s (run world b (staged a.id seen to s))
+    (behind world a x seen coords ks s (run world b (staged a.id seen to s))
     (run world b (on_scene (with_view a.id seen) s)) (staged_law hidden blind world root a.id
     seen to b s may) n.behind)

@@ -124,9 +124,9 @@ viewed_law = viewed_ends
 -- ---- between the nests
 
 pub staged_block_law : StagedBlockLaw
-staged_block_law blind world root a dims memory x seen to coords ls b s may alone round =
+staged_block_law blind world root a dims memory x seen to coords ls ks b s may alone round =
     from_view world a.id x seen coords b s may _ _
-    (round_law blind world root a dims memory x seen to coords ls (converted a.id x coords b) s
+    (round_law blind world root a dims memory x seen to coords ls ks (converted a.id x coords b) s
     alone round)
     (viewed_ends world a.id x seen coords b s may)
 

@@ -38,24 +38,25 @@ BehindLaw =
 -- ---- the whole, from what is known at the place
 
 pub record MayGoRound (world : World) (a : Binder) (dims : List Control) (x : ℕ) (seen : Seen)
-    (to : Shape) (coords : List Coord) (ls : List Loop) (b : Block) (s : State) : Type 0 where
+    (to : Shape) (coords : List Coord) (ls ks : List Loop) (b : Block) (s : State) : Type 0 where
   pub sizes : numbers s.scene dims ≡ extents seen.sides
   pub before : IsStaging a.id x seen coords ls (emptied a.id to.cell (extents seen.sides) s)
+  pub again : IsStaging a.id x seen coords ks (emptied a.id to.cell (extents seen.sides) s)
   pub fit : FitInto s seen.buffer seen.buffer
   pub between : IsBetween a.id x seen coords b
   pub behind : (t : State) → run world b (staged a.id seen to s) ≡ Some t →
-      AreOverSpans ls coords t.scene × FitInto t a.id seen.buffer
+      AreOverSpans ks coords t.scene × FitInto t a.id seen.buffer
 
 -- StageLaw for a block that uses no other name of the window's root
 abbrev pub RoundLaw : Type 0
 RoundLaw =
     (blind : ℕ → Bool) (world : World) (root : ℕ → ℕ) (a : Binder) (dims : List Control)
-    (memory x : ℕ) (seen : Seen) (to : Shape) (coords : List Coord) (ls : List Loop) (b : Block)
-    (s : State)
+    (memory x : ℕ) (seen : Seen) (to : Shape) (coords : List Coord) (ls ks : List Loop)
+    (b : Block) (s : State)
     → IsAlone blind root a.id seen to b s
-    → MayGoRound world a dims x seen to coords ls b s
+    → MayGoRound world a dims x seen to coords ls ks b s
     → let loads = next (Alloc a to.cell dims memory) (load_nest a.id x coords ls) in
-    let stores = store_nest a.id x coords ls in
+    let stores = store_nest a.id x coords ks in
     Both (AreAlike s)
     (then_do (run world loads s) (λ t. then_do (run world b t) (run world stores)))
     (run world b (on_scene (with_view a.id seen) s))

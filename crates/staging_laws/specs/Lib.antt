@@ -7,3 +7,4 @@ pub mod Behind
 pub mod Converted
 pub mod Whole
 pub mod Replaced
+pub mod Known

@@ -1,10 +1,14 @@
 -- A staged block in the place of the block.
-use Rattle.std.specs.Prelude.{◌≡◌, ℕ, Bool, true, List, Some}
-use Rattle.exo_tree.specs.Tree.{Binder, Control, Coord, Alloc, Block, next, joined}
+use Rattle.std.specs.Prelude.{◌≡◌, ℕ, Bool, true, false, List, [], Some}
+use Rattle.exo_tree.specs.Tree.{Kind, Cell, Binder, Control, Coord, Alloc, Block, next, joined}
+use Rattle.exo_tree.specs.Tree.{Procedure}
+use Rattle.exo_tree.specs.Context.{Context, fill, rest_of}
 use Rattle.exo_meaning.specs.Scene.{Shape, Seen}
 use Rattle.exo_meaning.specs.State.{State}
-use Rattle.exo_meaning.specs.Run.{World, run}
-use Rattle.meaning_laws.specs.Context.{MayReplace}
+use Rattle.exo_meaning.specs.Run.{World, run, unit_world}
+use Rattle.exo_meaning.specs.Inputs.{IsAdmissible, Refines}
+use Rattle.exo_meaning.specs.Unseen.{in_block as mentions}
+use Rattle.meaning_laws.specs.Context.{ComesTo, MayReplace}
 use Rattle.inplace_laws.specs.Filled.{Loop}
 use Rattle.scope_laws.specs.Scopes.{HasNone, top_binders}
 use Rattle.staging_laws.specs.Stores.{load_nest, store_nest}
@@ -29,21 +33,48 @@ AlikeReplaces =
     → MayReplace world hidden old new s
 
 -- allocation, load nest, block and store nest
-abbrev pub between : Binder → List Control → ℕ → ℕ → Shape → List Coord → List Loop → Block → Block
-between a dims memory x to coords ls inner =
-    joined (next (Alloc a to.cell dims memory) (load_nest a.id x coords ls))
-    (joined inner (store_nest a.id x coords ls))
+abbrev pub between : Binder → Cell → List Control → ℕ → ℕ → List Coord → List Loop → List Loop
+    → Block → Block
+between a cell dims memory x coords ls ks inner =
+    joined (next (Alloc a cell dims memory) (load_nest a.id x coords ls))
+    (joined inner (store_nest a.id x coords ks))
 
--- so the converted block between the nests may stand for the block
+-- what is known in a state in which the block is staged
+pub record IsStaged (blind : ℕ → Bool) (world : World) (root : ℕ → ℕ) (a : Binder) (cell : Cell)
+    (dims : List Control) (x : ℕ) (coords : List Coord) (ls ks : List Loop) (b : Block)
+    (s : State) : Type 0 where
+  pub seen : Seen
+  pub to : Shape
+  pub cell_is : to.cell ≡ cell
+  pub may : MayConvert world a.id x seen coords b s
+  pub alone : IsAlone blind root a.id seen to (converted a.id x coords b) s
+  pub round : MayGoRound world a dims x seen to coords ls ks (converted a.id x coords b) s
+
+-- so the converted block between the nests may stand for the block; what is known may be shown
+-- where the nests and the block run
 abbrev pub StagedReplaces : Type 0
 StagedReplaces =
-    (hidden blind : ℕ → Bool) (world : World) (root : ℕ → ℕ) (a : Binder) (dims : List Control)
-    (memory x : ℕ) (seen : Seen) (to : Shape) (coords : List Coord) (ls : List Loop) (b : Block)
+    (hidden blind : ℕ → Bool) (world : World) (root : ℕ → ℕ) (a : Binder) (cell : Cell)
+    (dims : List Control) (memory x : ℕ) (coords : List Coord) (ls ks : List Loop) (b : Block)
     (s : State)
-    → let inner = converted a.id x coords b in
-    let new = between a dims memory x to coords ls inner in
-    MayConvert world a.id x seen coords b s
-    → IsAlone blind root a.id seen to inner s
-    → MayGoRound world a dims x seen to coords ls inner s
-    → Hides hidden b new s
+    → let new = between a cell dims memory x coords ls ks (converted a.id x coords b) in
+    Hides hidden b new s
+    → ((u : State) → run world new s ≡ Some u →
+    IsStaged blind world root a cell dims x coords ls ks b s)
     → MayReplace world hidden b new s
+
+-- and the procedure with it refines the procedure
+abbrev pub StagedRefines : Type 0
+StagedRefines =
+    (kinds : ℕ → Kind) (ps : List Procedure) (p : Procedure) (c : Context)
+    (hidden blind : ℕ → Bool) (root : ℕ → ℕ) (a : Binder) (cell : Cell) (dims : List Control)
+    (memory x : ℕ) (coords : List Coord) (ls ks : List Loop) (b : Block)
+    → let world = unit_world kinds ps in
+    let new = between a cell dims memory x coords ls ks (converted a.id x coords b) in
+    p.body ≡ fill c b
+    → mentions hidden (rest_of c) ≡ false
+    → ((s u : State) → IsAdmissible world p s → ComesTo world b c s u →
+    Hides hidden b new u
+    × ((v : State) → run world new u ≡ Some v →
+    IsStaged blind world root a cell dims x coords ls ks b u))
+    → Refines world p (record p { body = fill c new }) []

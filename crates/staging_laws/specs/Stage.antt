@@ -24,25 +24,25 @@ pub record AreAlike (s t u : State) : Type 0 where
   pub fields : t.scene.fields ≡ u.scene.fields
   pub cells : (y : ℕ) (at : List ℤ) → IsSome (s.scene.buffers y) → t.cells y at ≡ u.cells y at
 
--- what the nests need before the block, and behind it
+-- what the nests need before the block, and behind it, each with loops of its own
 pub record MayNest (world : World) (a : Binder) (dims : List Control) (x : ℕ) (seen : Seen)
-    (to : Shape) (coords : List Coord) (ls : List Loop) (b : Block) (s : State) : Type 0 where
+    (to : Shape) (coords : List Coord) (ls ks : List Loop) (b : Block) (s : State) : Type 0 where
   pub sizes : numbers s.scene dims ≡ extents seen.sides
   pub before : IsStaging a.id x seen coords ls (emptied a.id to.cell (extents seen.sides) s)
   pub fit : FitInto s seen.buffer seen.buffer
   pub behind : (t : State) → run world b (staged a.id seen to s) ≡ Some t →
-      IsStaging a.id x seen coords ls t × FitInto t a.id seen.buffer
+      IsStaging a.id x seen coords ks t × FitInto t a.id seen.buffer
 
 -- allocation, load nest, block and store nest do what the block does on a view of the window
 abbrev pub StageLaw : Type 0
 StageLaw =
     (hidden blind : ℕ → Bool) (world : World) (root : ℕ → ℕ) (a : Binder) (dims : List Control)
-    (memory x : ℕ) (seen : Seen) (to : Shape) (coords : List Coord) (ls : List Loop) (b : Block)
-    (s : State)
+    (memory x : ℕ) (seen : Seen) (to : Shape) (coords : List Coord) (ls ks : List Loop)
+    (b : Block) (s : State)
     → MayStage hidden blind world root a.id seen to b s
-    → MayNest world a dims x seen to coords ls b s
+    → MayNest world a dims x seen to coords ls ks b s
     → let loads = next (Alloc a to.cell dims memory) (load_nest a.id x coords ls) in
-    let stores = store_nest a.id x coords ls in
+    let stores = store_nest a.id x coords ks in
     Both (AreAlike s)
     (then_do (run world loads s) (λ t. then_do (run world b t) (run world stores)))
     (run world b (on_scene (with_view a.id seen) s))

@@ -42,14 +42,14 @@ ViewedLaw =
 abbrev pub StagedBlockLaw : Type 0
 StagedBlockLaw =
     (blind : ℕ → Bool) (world : World) (root : ℕ → ℕ) (a : Binder) (dims : List Control)
-    (memory x : ℕ) (seen : Seen) (to : Shape) (coords : List Coord) (ls : List Loop) (b : Block)
-    (s : State)
+    (memory x : ℕ) (seen : Seen) (to : Shape) (coords : List Coord) (ls ks : List Loop)
+    (b : Block) (s : State)
     → let inner = converted a.id x coords b in
     MayConvert world a.id x seen coords b s
     → IsAlone blind root a.id seen to inner s
-    → MayGoRound world a dims x seen to coords ls inner s
+    → MayGoRound world a dims x seen to coords ls ks inner s
     → let loads = next (Alloc a to.cell dims memory) (load_nest a.id x coords ls) in
-    let stores = store_nest a.id x coords ls in
+    let stores = store_nest a.id x coords ks in
     IfSome (then_do (run world loads s) (λ t. then_do (run world inner t) (run world stores)))
     (Follows (λ t u. AreAlike s u t) world b s)
 

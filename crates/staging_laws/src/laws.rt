@@ -23,6 +23,9 @@ ghost use Rattle.staging_laws.specs.Whole.{StagedBlockLaw};
 ghost use Rattle.staging_laws.specs.Whole.{StagedReaderLaw};
 ghost use Rattle.staging_laws.specs.Replaced.{AlikeReplaces};
 ghost use Rattle.staging_laws.specs.Replaced.{StagedReplaces};
+ghost use Rattle.staging_laws.specs.Replaced.{StagedRefines};
+ghost use Rattle.staging_laws.specs.Known.{KnownLaw};
+ghost use Rattle.staging_laws.specs.Known.{FitsBehindLaw};
 
 /// The store nest copies the staged buffer back into the window.
 pub fn stores_copy_back()
@@ -137,4 +140,19 @@ pub fn blocks_with_alike_ends_may_be_replaced()
 /// The converted block between the two nests may stand for the block.
 pub fn staged_blocks_may_stand()
     ensures { StagedReplaces }
+{}
+
+/// So the procedure with it refines the procedure.
+pub fn staged_blocks_refine()
+    ensures { StagedRefines }
+{}
+
+/// What tests on the trees and the types give is enough for a block to be staged.
+pub fn known_blocks_are_staged()
+    ensures { KnownLaw }
+{}
+
+/// Where the blocks that are made keep the rules, the cells that they leave fit their types.
+pub fn cells_fit_behind()
+    ensures { FitsBehindLaw }
 {}

@@ -1,0 +1,208 @@
+-- Steps on buffers at closed blocks, and what they make by computation.
+use Rattle.std.proofs.Common.{true}
+use Rattle.std.proofs.Common.{◌≡◌, ◌==◌, ℕ, ℤ, pos, ◌+ℤ◌, Bool, false}
+use Rattle.std.proofs.Common.{[], ◌∷◌, Some, None, refl, subst}
+use Rattle.std.proofs.Common.{arith}
+use Rattle.std.proofs.lemmas.Int.{ints}
+use Rattle.std.specs.Int.{int_wrap}
+use Rattle.exo_tree.specs.Tree.{Binder, I32, Index, Control, Lit, Var, StrideOf, Add}
+use Rattle.exo_tree.specs.Tree.{Datum, Const, Read, Plus, Times, Whole, Window, At, Assign, Pass}
+use Rattle.exo_tree.specs.Tree.{Alloc, Call, Block, end, next, Procedure}
+use Rattle.exo_tree.specs.Context.{Here, fill}
+use Rattle.exo_meaning.specs.Value.{Value, Number}
+use Rattle.exo_meaning.specs.State.{State, value}
+use Rattle.exo_meaning.specs.Calls.{bare}
+use Rattle.exo_meaning.specs.Inputs.{Refines, FitsCell}
+use Rattle.exo_meaning.specs.Units.{IsProcedure}
+use Rattle.exo_meaning.specs.Unseen.{in_controls}
+use Rattle.exo_meaning.specs.Run.{World, run, unit_world}
+use Rattle.exo_meaning.proofs.Windows.{none_is_some, one_value}
+use Rattle.meaning_laws.specs.Context.{MayReplace}
+use Rattle.meaning_laws.specs.Sorted.{CellsFit}
+use Rattle.meaning_laws.proofs.Replace.{unit_respects}
+use Rattle.inplace_laws.specs.Along.{SameAlong}
+use Rattle.scope_laws.specs.Scopes.{HasNone}
+use Rattle.buffer_laws.specs.Buffers.{Buffer, is_still_used, only_buffer, in_memory, is_buffer}
+use Rattle.buffer_laws.specs.Lifted.{loop_with, with_buffer_in, lifted_from_loop}
+use Rattle.buffer_laws.specs.Bound.{Hole, Top, PlusIn, stores, only_statement, filled, bound}
+use Rattle.buffer_laws.specs.Simplified.{IsSimplifier, simplified}
+use Rattle.buffer_laws.specs.Expanded.{expanded, may_expand}
+use Rattle.buffer_laws.proofs.Buffers.{memory_law, delete_law}
+use Rattle.buffer_laws.proofs.Lifted.{lift_from_loop, lift_law}
+use Rattle.buffer_laws.proofs.Bound.{values_fit, bind_law, bind_refines}
+use Rattle.buffer_laws.proofs.Simplified.{simplified_along, simplified_law}
+
+abbrev named : ℕ → Binder
+named n = record { id = n; name = 97 ∷ n ∷ [] }
+
+abbrev world : World
+world = unit_world (λ f. Index) []
+
+-- t : i32[4]
+abbrev four : Buffer
+four = record { binder = named 2; cell = I32; dims = Lit (pos 4) ∷ []; memory = 0 }
+
+abbrev with_body : Block → Procedure
+with_body b = record { name = 102 ∷ []; params = []; asserts = []; body = b; template = None }
+
+-- ---- memories
+
+moved : Refines world (with_body (only_buffer four)) (with_body (only_buffer (in_memory 1 four))) []
+moved = memory_law world (with_body (only_buffer four)) (Here end) four 1 refl
+
+-- ---- an allocation taken away: `t : i32[4]` before a `pass`
+
+abbrev unused : Block
+unused = fill (Here (next Pass end)) (only_buffer four)
+
+unused_is_well : IsProcedure (λ f. None) 1 (λ k. None) (with_body unused)
+unused_is_well = record {
+  params = refl;
+  asserts = refl;
+  body = refl;
+  filled = refl;
+  ids = refl;
+  distinct = refl;
+  paths = refl;
+  template = refl;
+}
+
+deleted : Refines world (with_body unused) (with_body (next Pass end)) []
+deleted = delete_law (λ f. None) 1 (λ k. None) (λ f. Index) [] (with_body unused)
+    (Here (next Pass end)) four unused_is_well refl refl
+
+-- ---- out of a loop
+
+abbrev nothing : State
+nothing = bare (λ x. pos 0) (λ f. pos 0)
+
+has_none : (hidden : ℕ → Bool) → HasNone hidden nothing
+has_none hidden = record {
+  sound = record { tidy = λ b e at. refl; seen = λ x z e. absurd (none_is_some e) };
+  unbound = λ x e. record { control = refl; buffers = refl; views = refl };
+}
+
+-- t[i] = 7
+abbrev set_cell : Block
+set_cell = next (Assign 2 (Var 1 ∷ []) (Const (pos 7))) end
+
+-- for i in seq(0, 2): pass; t : i32[4]; t[i] = 7
+lifted : MayReplace world (is_buffer four)
+    (loop_with (named 1) (Lit (pos 0)) (Lit (pos 2)) (with_buffer_in (next Pass end) four set_cell))
+    (lifted_from_loop (named 1) (Lit (pos 0)) (Lit (pos 2)) (next Pass end) four set_cell) nothing
+lifted = lift_from_loop world (named 1) (Lit (pos 0)) (Lit (pos 2)) (next Pass end) four set_cell
+    nothing (unit_respects (λ f. Index) []) (record {
+      none = has_none (is_buffer four);
+      unused = refl;
+      plain = refl;
+      kept = refl;
+      made = refl;
+    }) refl refl
+
+lifted_at : Refines world (with_body (loop_with (named 1) (Lit (pos 0)) (Lit (pos 2))
+    (with_buffer_in (next Pass end) four set_cell)))
+    (with_body (lifted_from_loop (named 1) (Lit (pos 0)) (Lit (pos 2)) (next Pass end) four
+    set_cell)) []
+lifted_at = lift_law (λ f. Index) [] (with_body (loop_with (named 1) (Lit (pos 0)) (Lit (pos 2))
+    (with_buffer_in (next Pass end) four set_cell))) (Here end) (named 1) (Lit (pos 0))
+    (Lit (pos 2)) (next Pass end) four set_cell refl
+    (record { free = λ x e. (refl, refl); unused = refl }) refl refl refl refl refl refl
+
+-- ---- a part of an expression
+
+-- y = 1 + 2 * 3, with 2 * 3 in a buffer of its own
+abbrev product : Datum
+product = Times (Const (pos 2)) (Const (pos 3))
+
+abbrev in_sum : Hole
+in_sum = PlusIn (Const (pos 1)) Top
+
+abbrev one_cell : Buffer
+one_cell = record { binder = named 3; cell = I32; dims = []; memory = 0 }
+
+no_cells : CellsFit nothing
+no_cells b shape e at = absurd (none_is_some e)
+
+product_fits : (v : Value) → value nothing product ≡ Some v → FitsCell I32 v
+product_fits v e = values_fit (λ y. I32) nothing product v (has_none (λ y. false)).sound no_cells
+    (λ y z shape i k. absurd (none_is_some k)) (λ n k. absurd (not_const n k)) e
+  where
+    not_const : (n : ℤ) → product ≡ Const n → ⊥
+    not_const n k = cc
+
+bound_in_sum : MayReplace world (is_buffer one_cell)
+    (only_statement (stores false 5 [] (filled in_sum product)))
+    (bound one_cell false 5 [] in_sum product) nothing
+bound_in_sum = bind_law world one_cell false 5 [] in_sum product nothing (record {
+  none = has_none (is_buffer one_cell);
+  dims = refl;
+  unused = refl;
+  fits = product_fits;
+})
+
+product_is : (u : State) (v : Value) → value u product ≡ Some v → FitsCell I32 v
+unfolding int_wrap
+product_is u v e = subst (FitsCell I32) (one_value (Number (pos 6)) v e) refl
+
+bound_at : Refines world (with_body (only_statement (stores false 5 [] (filled in_sum product))))
+    (with_body (bound one_cell false 5 [] in_sum product)) []
+bound_at = bind_refines (λ f. Index) []
+    (with_body (only_statement (stores false 5 [] (filled in_sum product)))) (Here end) one_cell
+    false 5 [] in_sum product refl (record { free = λ x e. (refl, refl); unused = refl }) refl refl
+    (λ s u v good come e. product_is u v e)
+
+-- x : i32; x = 2 * 3; y = 1 + x
+it_is_bound : bound one_cell false 5 [] in_sum product ≡ next (Alloc (named 3) I32 [] 0)
+    (next (Assign 3 [] product) (next (Assign 5 [] (Plus (Const (pos 1)) (Read 3 []))) end))
+it_is_bound = refl
+
+-- ---- simpler indices: 0 + e for e
+
+abbrev longer : Control → Control
+longer e = Add (Lit (pos 0)) e
+
+zero_more : (n : ℤ) → pos 0 +ℤ n ≡ n
+zero_more n = omega (arith, ints)
+
+is_longer : IsSimplifier longer
+is_longer e scene plain = zero_more _
+
+along : SameAlong world set_cell (simplified longer (λ y. y == 2) set_cell) nothing
+along = simplified_along world longer (λ y. y == 2) set_cell nothing is_longer
+
+alike : run world set_cell nothing ≡ run world (simplified longer (λ y. y == 2) set_cell) nothing
+alike = simplified_law world longer (λ y. y == 2) set_cell nothing is_longer
+
+it_is_longer : simplified longer (λ y. y == 2) set_cell
+    ≡ next (Assign 2 (Add (Lit (pos 0)) (Var 1) ∷ []) (Const (pos 7))) end
+it_is_longer = refl
+
+-- ---- a new dimension
+
+-- t : i32[4]; t[j] = t[stride(t, 0)]; f(t[j]), with the point i of 8
+expanded_text : expanded (Lit (pos 8)) (Var 1) four
+    (next (Assign 2 (Var 4 ∷ []) (Read 2 (StrideOf 2 0 ∷ []))) (next (Call 0 (Window 2
+    (At (Var 4) ∷ []) ∷ [])) end))
+    ≡ next (Alloc (named 2) I32 (Lit (pos 8) ∷ Lit (pos 4) ∷ []) 0)
+    (next (Assign 2 (Var 1 ∷ Var 4 ∷ []) (Read 2 (Var 1 ∷ StrideOf 2 1 ∷ [])))
+    (next (Call 0 (Window 2 (At (Var 1) ∷ At (Var 4) ∷ []) ∷ [])) end))
+expanded_text = refl
+
+-- a whole use of a buffer of one cell is one of its point; one with dimensions is not passed whole
+expanded_cell : expanded (Lit (pos 8)) (Var 1) one_cell (next (Call 0 (Whole 3 ∷ [])) end)
+    ≡ next (Alloc (named 3) I32 (Lit (pos 8) ∷ []) 0)
+    (next (Call 0 (Window 3 (At (Var 1) ∷ []) ∷ [])) end)
+expanded_cell = refl
+
+not_expanded : may_expand four (next (Call 0 (Whole 2 ∷ [])) end) ≡ false
+not_expanded = refl
+
+-- ---- refusals
+
+-- t : i32[4]; t[i] = 7: it is still used
+used_still : is_still_used four (Here set_cell) ≡ true
+used_still = refl
+
+-- for i in ..: t : i32[i]: its dimension is not in scope before the loop
+not_in_scope : in_controls (λ y. y == 1) (Var 1 ∷ []) ≡ true
+not_in_scope = refl

@@ -1,0 +1,8 @@
+pub mod Buffers
+pub mod Lifted
+pub mod Bound
+pub mod Simplified
+pub mod StageMem
+pub mod StageLaws
+pub mod Examples
+pub mod StageExamples

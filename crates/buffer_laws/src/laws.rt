@@ -1,0 +1,74 @@
+// Laws of steps on buffers, each the contract of a function with nothing to do.
+
+ghost use Rattle.buffer_laws.specs.Buffers.{MemoryLaw};
+ghost use Rattle.buffer_laws.specs.Buffers.{DeleteLaw};
+ghost use Rattle.buffer_laws.specs.Lifted.{LiftFromLoop};
+ghost use Rattle.buffer_laws.specs.Lifted.{LiftLaw};
+ghost use Rattle.buffer_laws.specs.Bound.{ValuesFit};
+ghost use Rattle.buffer_laws.specs.Bound.{BindLaw};
+ghost use Rattle.buffer_laws.specs.Bound.{BindRefines};
+ghost use Rattle.buffer_laws.specs.Simplified.{SimplifiedAlong};
+ghost use Rattle.buffer_laws.specs.Simplified.{SimplifiedLaw};
+ghost use Rattle.buffer_laws.specs.StageLaws.{DraftLaw};
+ghost use Rattle.buffer_laws.specs.StageLaws.{StageMemLaw};
+ghost use Rattle.buffer_laws.specs.StageLaws.{FitsAtPlaces};
+
+/// An allocation may have another memory.
+pub fn memories_are_not_seen()
+    ensures { MemoryLaw }
+{}
+
+/// An allocation that is not used may be taken away.
+pub fn unused_buffers_are_deleted()
+    ensures { DeleteLaw }
+{}
+
+/// An allocation in a loop may stand before it.
+pub fn buffers_are_lifted()
+    ensures { LiftFromLoop }
+{}
+
+/// So it may at a place of a procedure.
+pub fn buffers_are_lifted_at()
+    ensures { LiftLaw }
+{}
+
+/// A value fits the cell type that is made for it.
+pub fn values_fit_their_cells()
+    ensures { ValuesFit }
+{}
+
+/// A part of an expression may be stored before it is used.
+pub fn parts_are_bound()
+    ensures { BindLaw }
+{}
+
+/// So it may at a place of a procedure.
+pub fn parts_are_bound_at()
+    ensures { BindRefines }
+{}
+
+/// A block with simpler indices does the same along the way.
+pub fn indices_are_simplified_along()
+    ensures { SimplifiedAlong }
+{}
+
+/// So both run alike, faults included.
+pub fn indices_are_simplified()
+    ensures { SimplifiedLaw }
+{}
+
+/// The staged block with simpler indices runs as the one with the indices as they are made.
+pub fn drafts_run_alike()
+    ensures { DraftLaw }
+{}
+
+/// A procedure is refined by itself with a block staged on a window.
+pub fn windows_may_be_staged()
+    ensures { StageMemLaw }
+{}
+
+/// What accesses keep at each place of a procedure they keep in a run of the block.
+pub fn accesses_fit_at_places()
+    ensures { FitsAtPlaces }
+{}

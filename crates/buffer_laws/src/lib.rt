@@ -1,0 +1,4 @@
+//! Steps that move, mark, make and remove buffers.
+#![tactic(auto)]
+
+pub mod laws;
