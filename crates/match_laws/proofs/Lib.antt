@@ -1,0 +1,3 @@
+pub mod RenamedCallee
+pub mod Matched
+pub mod Instances
