@@ -221,10 +221,13 @@ whole_tensors_fit = refl
 
 -- ---- the laws
 
-two_arguments : length {Argument} (Window 9 (lanes ∷ []) ∷ Window 5 (At (Var 6) ∷ tile ∷ []) ∷ []) ≡ 2
+abbrev loaded : List Argument
+loaded = Window 9 (lanes ∷ []) ∷ Window 5 (At (Var 6) ∷ tile ∷ []) ∷ []
+
+two_arguments : length loaded ≡ 2
 two_arguments = one_for_each own product
     (loop 11 (lit 8) (Assign 9 (Var 11 ∷ []) (Read 5 (Var 6 ∷ at_lane ∷ [])))) copy8
-    (Window 9 (lanes ∷ []) ∷ Window 5 (At (Var 6) ∷ tile ∷ []) ∷ []) loads
+    loaded loads
 
 abbrev world : World
 world = unit_world (λ f. Index) []

@@ -10,10 +10,16 @@ use Rattle.match_laws.specs.Matched.{first_undetermined, first_difference, param
 use Rattle.match_laws.specs.Matched.{by_walk, argument_for, arguments_for, with_strides, moving, to}
 use Rattle.match_laws.specs.Matched.{given_to, matched, OneForEach}
 
-err_ok : (p : Path) (a : List Argument) → Err {List Argument} {Path} p ≡ Ok a → ⊥
+abbrev failed : Path → Result (List Argument) Path
+failed p = Err p
+
+abbrev answered : List Argument → Result (List Argument) Path
+answered a = Ok a
+
+err_ok : (p : Path) (a : List Argument) → failed p ≡ answered a → ⊥
 err_ok p a e = cc
 
-same_ok : (a b : List Argument) → Ok {List Argument} {Path} a ≡ Ok b → a ≡ b
+same_ok : (a b : List Argument) → answered a ≡ answered b → a ≡ b
 same_ok a b e = cc
 
 same_arguments : (a b : List Argument) → Arguments a ≡ Arguments b → a ≡ b

@@ -123,13 +123,15 @@ module _ (r : Renaming) where
   numbers_bound (p ∷ ps) [] c = refl
   numbers_bound (p ∷ ps) (g ∷ gs) c =
       ap (λ o. then_do o (bind_numbers (re_params r ps) gs)) (number_bound p.binder.id p.kind g c)
-      ∙ go (bind_number p.binder.id p.kind g c)
+      ∙ go (λ d. numbers_bound ps gs d) (bind_number p.binder.id p.kind g c)
     where
-      go : (o : Option (ℕ → ℤ))
+      go : ((d : ℕ → ℤ) → bind_numbers (re_params r ps) gs (re_numbers d)
+          ≡ option_map re_numbers (bind_numbers ps gs d))
+          → (o : Option (ℕ → ℤ))
           → then_do (option_map re_numbers o) (bind_numbers (re_params r ps) gs)
           ≡ option_map re_numbers (then_do o (bind_numbers ps gs))
-      go None = refl
-      go (Some d) = numbers_bound ps gs d
+      go again None = refl
+      go again (Some d) = again d
 
   made_re : (x : ℕ) (shape : Shape) (held : List ℤ → Value) (s : State)
       → with_contents (r.to x) held (on_scene (with_buffer (r.to x) shape) (re_state r s))
@@ -198,13 +200,15 @@ module _ (r : Renaming) where
     buffers_bound (p ∷ ps) (g ∷ gs) s =
         ap (λ o. then_do o (bind_buffers outer (re_params r ps) gs))
         (buffer_bound p.binder.id p.kind g s)
-        ∙ go (bind_buffer outer p.binder.id p.kind g s)
+        ∙ go (λ t. buffers_bound ps gs t) (bind_buffer outer p.binder.id p.kind g s)
       where
-        go : (o : Option State)
+        go : ((t : State) → bind_buffers outer (re_params r ps) gs (re_state r t)
+            ≡ option_map (re_state r) (bind_buffers outer ps gs t))
+            → (o : Option State)
             → then_do (option_map (re_state r) o) (bind_buffers outer (re_params r ps) gs)
             ≡ option_map (re_state r) (then_do o (bind_buffers outer ps gs))
-        go None = refl
-        go (Some t) = buffers_bound ps gs t
+        go again None = refl
+        go again (Some t) = again t
 
     entered_re : (ps : List Param) (gs : List Given)
         → entered (re_params r ps) gs outer ≡ option_map (re_state r) (entered ps gs outer)

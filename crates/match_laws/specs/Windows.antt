@@ -150,13 +150,18 @@ module _ (at : Reading) (m : Moving) (bound : ℕ → Bool) where
   all_of_name y (u ∷ us) = (u.name == y) && all_of_name y us
 
   -- all accesses are of one name, which the block does not bind
+  abbrev pub argument_among :
+      Bool → ℕ → Use → List Use → Option Buffer → Option (List Control) → Option Argument
+  argument_among whole rank u us None ds = None
+  argument_among whole rank u us (Some b) None = None
+  argument_among whole rank u us (Some b) (Some ds) =
+      if not (bound u.name) && all_of_name u.name us
+      then first_fitting whole b ds u us (choices (length b.extents) rank)
+      else None
+
+  -- None is that no list fits
   abbrev pub argument_of :
       Bool → List Control → (ℕ → Option Buffer) → List Use → Option Argument
   argument_of whole dims theirs [] = None
   argument_of whole dims theirs (u ∷ us) =
-      elim (both (λ b ds. (b, ds)) (theirs u.name) (all_moved dims)) [
-        None ↦ None
-        | Some p ↦ if not (bound u.name) && all_of_name u.name us
-            then first_fitting whole p.0 p.1 u us (choices (length p.0.extents) (length dims))
-            else None
-      ]
+      argument_among whole (length dims) u us (theirs u.name) (all_moved dims)
