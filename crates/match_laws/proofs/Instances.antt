@@ -1,21 +1,27 @@
 -- Blocks that are matched, and renamed callees.
-use Rattle.std.proofs.Common.{◌≡◌, ℕ, ℤ, pos, true, List, [], ◌∷◌, None, Some, refl, length}
+use Rattle.std.proofs.Common.{◌≡◌, ℕ, ℤ, pos, ◌+ℤ◌, ◌*ℤ◌, true, List, [], ◌∷◌, None, Some, refl}
+use Rattle.std.proofs.Common.{length, arith}
+use Rattle.std.proofs.lemmas.Int.{ints}
 use Rattle.exo_tree.specs.Tree.{Cell, I8, I32, Index, Size, Binder, Control, Lit, Var, Add, Mul, Mod}
 use Rattle.exo_tree.specs.Tree.{Datum, Const, Read, Times, Coord, At, Span, Argument, ControlArg}
 use Rattle.exo_tree.specs.Tree.{Whole, Window, ParamKind, ControlParam, TensorParam, WindowParam}
 use Rattle.exo_tree.specs.Tree.{Param, Statement, Assign, Reduce, For, Alloc, Block, end, next}
-use Rattle.exo_tree.specs.Tree.{Procedure}
+use Rattle.exo_tree.specs.Tree.{Procedure, Lt}
 use Rattle.exo_tree.specs.Places.{Path, Step, Main}
+use Rattle.exo_meaning.specs.Scene.{Scene, number, holds}
 use Rattle.exo_meaning.specs.State.{State}
 use Rattle.exo_meaning.specs.Run.{World, call_to, callee_in, unit_world}
 use Rattle.exo_meaning.specs.Renaming.{Renaming}
 use Rattle.affine_forms.specs.Atoms.{Variable, EntryField, OpaqueStride, only}
-use Rattle.affine_forms.specs.Forms.{Reading}
+use Rattle.affine_forms.specs.Forms.{Reading, Allowed, anything}
+use Rattle.affine_forms.specs.Laws.{ReadsAt}
+use Rattle.simplify_laws.specs.Simplified.{values_in}
 use Rattle.match_laws.specs.Names.{Names, names_of}
 use Rattle.match_laws.specs.Matched.{Matched, Arguments, NoMatch, Undetermined, matched}
 use Rattle.match_laws.specs.RenamedCallee.{re_procedure}
 use Rattle.match_laws.proofs.RenamedCallee.{renamed_callee}
 use Rattle.match_laws.proofs.Matched.{one_for_each}
+use Rattle.match_laws.proofs.Agree.{agree_law, conditions_agree_law}
 
 -- each variable, field and stride is read as itself
 abbrev own : Reading
@@ -236,3 +242,25 @@ copies_by_any_ids : (r : Renaming) (args : List Argument) (s : State)
     → call_to (Some (callee_in world (re_procedure r copy8))) args s
     ≡ call_to (Some (callee_in world copy8)) args s
 copies_by_any_ids r args s = renamed_callee r world copy8 args s
+
+itself : (n : ℤ) → pos 0 +ℤ ((pos 1 *ℤ n) +ℤ pos 0) ≡ n
+itself n = omega (arith, ints)
+
+reads : (may : Allowed) (scene : Scene) → ReadsAt may (values_in scene) own scene
+reads may scene = record {
+  variables = λ x h. itself (scene.control x);
+  fields = λ f h. itself (scene.fields f);
+  strides = λ x d h. itself ((values_in scene).stride x d);
+}
+
+sums_agree : (scene : Scene)
+    → number scene (Add (Var 1) (Var 2)) ≡ number scene (Add (Var 2) (Var 1))
+sums_agree scene = agree_law anything own scene (Add (Var 1) (Var 2)) (Add (Var 2) (Var 1))
+    (reads anything scene) refl refl refl
+
+bounds_agree : (scene : Scene) → holds scene (Lt (Add (Var 1) (lit 1)) (Var 2))
+    ≡ holds scene (Lt (Add (lit 1) (Var 1)) (Var 2))
+bounds_agree scene = conditions_agree_law
+    (record { numbers = anything; variable = λ x. true; field = λ f. true }) own scene
+    (Lt (Add (Var 1) (lit 1)) (Var 2)) (Lt (Add (lit 1) (Var 1)) (Var 2))
+    (reads anything scene) refl refl refl

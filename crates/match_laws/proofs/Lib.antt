@@ -1,3 +1,4 @@
 pub mod RenamedCallee
+pub mod Agree
 pub mod Matched
 pub mod Instances

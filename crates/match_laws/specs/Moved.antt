@@ -1,9 +1,13 @@
 -- Expressions of a callee, in the names of the block that it is matched with.
-use Rattle.std.specs.Prelude.{ℕ, Bool, true, false, ◌&&◌, ◌==◌, if◌then◌else◌, Option, Some, None}
+use Rattle.std.specs.Prelude.{◌≡◌, ℕ, Bool, true, false, ◌&&◌, ◌==◌, if◌then◌else◌, Option, Some, None}
 use Rattle.exo_tree.specs.Tree.{Control, Lit, Var, Field, StrideOf, Neg, Add, Sub, Mul, Div, Mod}
 use Rattle.exo_tree.specs.Tree.{Condition, True, False, Flag, FieldFlag, Lt, Le, Gt, Ge, Eq, And, Or}
 use Rattle.affine_forms.specs.Atoms.{same_form}
-use Rattle.affine_forms.specs.Forms.{Reading, normal}
+use Rattle.exo_meaning.specs.Scene.{Scene, number, holds}
+use Rattle.affine_forms.specs.Forms.{Reading, Allowed, is_affine, normal}
+use Rattle.affine_forms.specs.Formulas.{AllowedFlags, is_affine_condition}
+use Rattle.affine_forms.specs.Laws.{ReadsAt}
+use Rattle.simplify_laws.specs.Simplified.{values_in}
 
 -- what stands for a variable, a bool and a stride; None is not known yet
 pub record Moving : Type 0 where
@@ -65,3 +69,23 @@ conditions_agree at (Eq a b) (Eq c d) = agree at a c && agree at b d
 conditions_agree at (And a b) (And c d) = conditions_agree at a c && conditions_agree at b d
 conditions_agree at (Or a b) (Or c d) = conditions_agree at a c && conditions_agree at b d
 conditions_agree at a b = false
+
+-- where what is read has its numbers, expressions that agree have one number
+abbrev pub AgreeLaw : Type 0
+AgreeLaw =
+    (may : Allowed) (at : Reading) (scene : Scene) (a b : Control)
+    → ReadsAt may (values_in scene) at scene
+    → is_affine may a ≡ true
+    → is_affine may b ≡ true
+    → agree at a b ≡ true
+    → number scene a ≡ number scene b
+
+-- and conditions that agree hold together
+abbrev pub ConditionsAgreeLaw : Type 0
+ConditionsAgreeLaw =
+    (may : AllowedFlags) (at : Reading) (scene : Scene) (c d : Condition)
+    → ReadsAt may.numbers (values_in scene) at scene
+    → is_affine_condition may c ≡ true
+    → is_affine_condition may d ≡ true
+    → conditions_agree at c d ≡ true
+    → holds scene c ≡ holds scene d

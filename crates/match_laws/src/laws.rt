@@ -2,6 +2,8 @@
 
 ghost use Rattle.match_laws.specs.RenamedCallee.{RenamedCallee};
 ghost use Rattle.match_laws.specs.Matched.{OneForEach};
+ghost use Rattle.match_laws.specs.Moved.{AgreeLaw};
+ghost use Rattle.match_laws.specs.Moved.{ConditionsAgreeLaw};
 
 /// A call of a callee with other ids is a call of the callee.
 pub fn callees_may_be_renamed()
@@ -11,4 +13,14 @@ pub fn callees_may_be_renamed()
 /// A match gives one argument for each parameter.
 pub fn matches_give_one_for_each()
     ensures { OneForEach }
+{}
+
+/// Expressions that agree have one number.
+pub fn expressions_that_agree_are_equal()
+    ensures { AgreeLaw }
+{}
+
+/// Conditions that agree hold together.
+pub fn conditions_that_agree_are_equal()
+    ensures { ConditionsAgreeLaw }
 {}

@@ -1,9 +1,9 @@
 -- Expressions and blocks that are simplified, and the laws at small ones.
-use Rattle.std.proofs.Common.{◌≡◌, ℕ, ℤ, pos, ◌+ℤ◌, ◌*ℤ◌, Bool, true, false, true≢false, List, []}
+use Rattle.std.proofs.Common.{◌≡◌, ℕ, ℤ, pos, ◌+ℤ◌, ◌*ℤ◌, Bool, true, false, true≢false, []}
 use Rattle.std.proofs.Common.{◌∷◌, None, refl, ap, subst, arith}
 use Rattle.std.proofs.lemmas.Int.{ints}
 use Rattle.exo_tree.specs.Tree.{Binder, I32, Index, Control, Lit, Var, Field, StrideOf, Neg, Add, Sub}
-use Rattle.exo_tree.specs.Tree.{Mul, Div, Mod, Const, TensorParam, Param, Procedure, Statement}
+use Rattle.exo_tree.specs.Tree.{Mul, Div, Mod, Const, TensorParam, Procedure, Statement}
 use Rattle.exo_tree.specs.Tree.{Assign, Reduce, Config, Pass, If, For, Alloc, View, Call, Block, end}
 use Rattle.exo_tree.specs.Tree.{next}
 use Rattle.exo_tree.specs.Context.{Context, Here, After, InLoop, InThen, InElse, fill}
@@ -59,6 +59,19 @@ the_constant_last = refl
 
 offsets_cancel : simplified own (Sub (Add (Mul (number_of 8) i) j) j) ≡ Mul (number_of 8) i
 offsets_cancel = refl
+
+-- N - 1 stays, and 2 * (0 + 3) is 6
+ends_stay : simplified own (Sub k (number_of 1)) ≡ Sub k (number_of 1)
+ends_stay = refl
+
+turns_are_numbers : simplified own (Mul (number_of 2) (Add (number_of 0) (number_of 3)))
+    ≡ number_of 6
+turns_are_numbers = refl
+
+-- 8 * i + 8
+tiles_stay : simplified own (Add (Mul (number_of 8) i) (number_of 8))
+    ≡ Add (Mul (number_of 8) i) (number_of 8)
+tiles_stay = refl
 
 nothing_is_left : simplified own (Sub k k) ≡ number_of 0
 nothing_is_left = refl

@@ -17,7 +17,7 @@ use Rattle.exo_meaning.specs.State.{State, Place, place, held, put, value, on_sc
 use Rattle.exo_meaning.specs.State.{with_field, with_view}
 use Rattle.exo_meaning.specs.Calls.{Callee, GivenNumber, GivenView, given, all_given, truth, suits}
 use Rattle.exo_meaning.specs.Calls.{entered, returned, run_asserted}
-use Rattle.exo_meaning.specs.Run.{World, run, step, argument_number, turn, turns_of, call_to}
+use Rattle.exo_meaning.specs.Run.{World, run, argument_number, turn, turns_of, call_to}
 use Rattle.exo_meaning.specs.Run.{allocate}
 use Rattle.meaning_laws.specs.Context.{ComesToTurn}
 use Rattle.inplace_laws.specs.Along.{SameAlong, both_end, both_next, SameThere, at_once}
@@ -25,7 +25,7 @@ use Rattle.inplace_laws.specs.Along.{in_branches, in_turns}
 use Rattle.simplify_laws.specs.SameControls.{in_controls, in_condition, in_datum, in_coords}
 use Rattle.simplify_laws.specs.SameControls.{in_argument, in_arguments, in_statement, in_block}
 use Rattle.simplify_laws.specs.SameControls.{OfControls, OfCondition, OfDatum, OfCoords, OfArgument}
-use Rattle.simplify_laws.specs.SameControls.{OfArguments, OfStatement, OfEach, HasSameNumber}
+use Rattle.simplify_laws.specs.SameControls.{OfArguments, OfEach, HasSameNumber}
 use Rattle.simplify_laws.specs.SameControls.{SameControlsAlong}
 
 module _ (f : Control → Control) where

@@ -8,8 +8,7 @@ use Rattle.exo_tree.specs.Tree.{Control, Lit, Var, Field, StrideOf, Neg, Add, Su
 use Rattle.exo_meaning.specs.Scene.{Scene, number}
 use Rattle.exo_meaning.specs.Units.{is_of_literals}
 use Rattle.affine_forms.specs.Atoms.{Atom, Variable, EntryField, UnknownField, OpaqueStride}
-use Rattle.affine_forms.specs.Atoms.{Quotient, Terms, none, term, Linear, atom_value, terms_value}
-use Rattle.affine_forms.specs.Atoms.{value}
+use Rattle.affine_forms.specs.Atoms.{Quotient, Terms, none, term, atom_value, terms_value}
 use Rattle.affine_forms.specs.Forms.{Reading, Allowed, is_affine, normal}
 use Rattle.affine_forms.specs.Laws.{ReadsAt}
 use Rattle.affine_forms.proofs.Integers.{add-times}

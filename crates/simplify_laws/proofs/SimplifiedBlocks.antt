@@ -1,22 +1,20 @@
 -- A simplified block does along any run what the block does.
-use Rattle.std.proofs.Common.{◌≡◌, List, [], ◌∷◌, Some, refl, sym, ap, ◌∙◌, subst}
+use Rattle.std.proofs.Common.{◌≡◌, List, [], ◌∷◌, Some, sym, ap, ◌∙◌, subst}
 use Rattle.exo_tree.specs.Tree.{Control, Condition, True, False, Flag, FieldFlag, Lt, Le, Gt, Ge}
 use Rattle.exo_tree.specs.Tree.{Eq, And, Or, Datum, Const, Read, Negated, Relu, Plus, Minus, Times}
 use Rattle.exo_tree.specs.Tree.{Select, Coord, At, Span, Argument, ControlArg, ConditionArg, Whole}
 use Rattle.exo_tree.specs.Tree.{Window, Statement, Assign, Reduce, Config, Pass, If, For, Alloc}
-use Rattle.exo_tree.specs.Tree.{View, Call, Procedure}
+use Rattle.exo_tree.specs.Tree.{View, Call}
 use Rattle.exo_meaning.specs.Value.{IsRefinedBy}
 use Rattle.exo_meaning.specs.Scene.{where_true}
 use Rattle.exo_meaning.specs.State.{State}
-use Rattle.exo_meaning.specs.Run.{World}
 use Rattle.exo_meaning.specs.Inputs.{IsAdmissible, run_procedure, all_have_extents}
 use Rattle.meaning_laws.proofs.Parts.{some_injective}
 use Rattle.meaning_laws.proofs.Refined.{refined_same}
-use Rattle.affine_forms.specs.Forms.{Reading}
 use Rattle.inplace_laws.proofs.Along.{along_law}
-use Rattle.simplify_laws.specs.Simplified.{simplified, values_in}
+use Rattle.simplify_laws.specs.Simplified.{simplified}
 use Rattle.simplify_laws.specs.SameControls.{OfControls, OfCondition, OfDatum, OfCoords, OfArgument}
-use Rattle.simplify_laws.specs.SameControls.{OfArguments, OfStatement, OfEach}
+use Rattle.simplify_laws.specs.SameControls.{OfArguments, OfStatement}
 use Rattle.simplify_laws.specs.SimplifiedBlocks.{simplified_block, standing, IsRead}
 use Rattle.simplify_laws.specs.SimplifiedBlocks.{simplified_procedure, SimplifiedAlong}
 use Rattle.simplify_laws.specs.SimplifiedBlocks.{SimplifiedRunLaw, SimplifyRefines}
