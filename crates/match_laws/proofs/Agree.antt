@@ -1,12 +1,12 @@
 -- Expressions that agree have one number, and conditions that agree hold together.
-use Rattle.std.proofs.Common.{◌≡◌, ◌+ℤ◌, ◌==◌, int_lt, int_le, true, ◌&&◌, ◌||◌, refl, sym, ap, ap₂}
+use Rattle.std.proofs.Common.{◌≡◌, ◌+ℤ◌, int_lt, int_le, true, ◌&&◌, ◌||◌, refl, sym, ap, ap₂}
 use Rattle.std.proofs.Common.{◌∙◌, true≢false, eqb-true}
 use Rattle.std.specs.Ordering.{int_eq}
 use Rattle.exo_tree.specs.Tree.{Control, Condition, True, False, Flag, FieldFlag, Lt, Le, Gt, Ge}
 use Rattle.exo_tree.specs.Tree.{Eq, And, Or}
 use Rattle.exo_meaning.specs.Scene.{Scene, number, holds, is_set}
 use Rattle.affine_forms.specs.Atoms.{Linear, value, same_terms, same_form}
-use Rattle.affine_forms.specs.Forms.{Reading, Allowed, is_affine, normal}
+use Rattle.affine_forms.specs.Forms.{Reading, is_affine, normal}
 use Rattle.affine_forms.specs.Formulas.{AllowedFlags, is_affine_condition}
 use Rattle.affine_forms.specs.Laws.{ReadsAt}
 use Rattle.affine_forms.proofs.Values.{and_parts, int_eq_same, same_terms_value}

@@ -2,12 +2,13 @@
 use Rattle.std.proofs.Common.{◌≡◌, ℕ, ℤ, pos, ◌+ℤ◌, ◌*ℤ◌, true, List, [], ◌∷◌, None, Some, refl}
 use Rattle.std.proofs.Common.{length, arith}
 use Rattle.std.proofs.lemmas.Int.{ints}
-use Rattle.exo_tree.specs.Tree.{Cell, I8, I32, Index, Size, Binder, Control, Lit, Var, Add, Mul, Mod}
-use Rattle.exo_tree.specs.Tree.{Datum, Const, Read, Times, Coord, At, Span, Argument, ControlArg}
+use Rattle.exo_tree.specs.Tree.{Cell, I8, I32, Index, Size, Binder, Control, Lit, Var, Add, Mul}
+use Rattle.exo_tree.specs.Tree.{Mod}
+use Rattle.exo_tree.specs.Tree.{Const, Read, Times, Coord, At, Span, Argument, ControlArg}
 use Rattle.exo_tree.specs.Tree.{Whole, Window, ParamKind, ControlParam, TensorParam, WindowParam}
 use Rattle.exo_tree.specs.Tree.{Param, Statement, Assign, Reduce, For, Alloc, Block, end, next}
 use Rattle.exo_tree.specs.Tree.{Procedure, Lt}
-use Rattle.exo_tree.specs.Places.{Path, Step, Main}
+use Rattle.exo_tree.specs.Places.{Step, Main}
 use Rattle.exo_meaning.specs.Scene.{Scene, number, holds}
 use Rattle.exo_meaning.specs.State.{State}
 use Rattle.exo_meaning.specs.Run.{World, call_to, callee_in, unit_world}
@@ -17,7 +18,7 @@ use Rattle.affine_forms.specs.Forms.{Reading, Allowed, anything}
 use Rattle.affine_forms.specs.Laws.{ReadsAt}
 use Rattle.simplify_laws.specs.Simplified.{values_in}
 use Rattle.match_laws.specs.Names.{Names, names_of}
-use Rattle.match_laws.specs.Matched.{Matched, Arguments, NoMatch, Undetermined, matched}
+use Rattle.match_laws.specs.Matched.{Arguments, NoMatch, Undetermined, matched}
 use Rattle.match_laws.specs.RenamedCallee.{re_procedure}
 use Rattle.match_laws.proofs.RenamedCallee.{renamed_callee}
 use Rattle.match_laws.proofs.Matched.{one_for_each}
@@ -134,7 +135,8 @@ copy_n = named (size 0 ∷ vector 1 I32 (Var 0) ∷ vector 2 I32 (Var 0) ∷ [])
 
 -- A[i, j] = B[j] for j in seq(0, m), of A: i32[n, m] and B: i32[m]
 abbrev rows : Names
-rows = names_of (named (size 0 ∷ size 1 ∷ tensor 2 (Var 0 ∷ Var 1 ∷ []) ∷ tensor 3 (Var 1 ∷ []) ∷ [])
+rows = names_of (named (size 0 ∷ size 1 ∷ tensor 2 (Var 0 ∷ Var 1 ∷ [])
+    ∷ tensor 3 (Var 1 ∷ []) ∷ [])
     end)
 
 rows_are_copied : matched own rows
@@ -180,7 +182,8 @@ bytes_are_summed = refl
 
 -- cell types are compared at each access
 words_are_not : matched own rows
-    (loop 5 (lit 4) (Reduce 3 (lit 0 ∷ []) (Times (Read 3 (Var 5 ∷ [])) (Read 3 (Var 5 ∷ []))))) dot4
+    (loop 5 (lit 4) (Reduce 3 (lit 0 ∷ [])
+    (Times (Read 3 (Var 5 ∷ [])) (Read 3 (Var 5 ∷ []))))) dot4
     ≡ NoMatch (step 0 ∷ step 0 ∷ [])
 words_are_not = refl
 

@@ -1,14 +1,15 @@
 -- A match gives one argument for each parameter.
-use Rattle.std.proofs.Common.{◌≡◌, ℕ, suc, List, [], ◌∷◌, length, Option, Some, None, Result, Ok, Err}
+use Rattle.std.proofs.Common.{◌≡◌, ℕ, suc, List, [], ◌∷◌, length, Option, Some, None, Result, Ok}
+use Rattle.std.proofs.Common.{Err}
 use Rattle.std.proofs.Common.{refl, sym, ap, ◌∙◌}
 use Rattle.exo_tree.specs.Tree.{Argument, Param, Block, Procedure}
 use Rattle.exo_tree.specs.Places.{Path}
 use Rattle.affine_forms.specs.Forms.{Reading}
-use Rattle.match_laws.specs.Names.{Names, names_of}
-use Rattle.match_laws.specs.Matched.{Matched, Arguments, NoMatch, Undetermined, with_first}
+use Rattle.match_laws.specs.Names.{Names}
+use Rattle.match_laws.specs.Matched.{Arguments, NoMatch, Undetermined, with_first}
 use Rattle.match_laws.specs.Matched.{first_undetermined, first_difference, params, own_pairs, walk}
 use Rattle.match_laws.specs.Matched.{by_walk, argument_for, arguments_for, with_strides, moving, to}
-use Rattle.match_laws.specs.Matched.{given_to, matched, OneForEach}
+use Rattle.match_laws.specs.Matched.{given_to, OneForEach}
 
 abbrev failed : Path → Result (List Argument) Path
 failed p = Err p
@@ -68,7 +69,7 @@ module _ (at : Reading) (theirs : Names) (block : Block) (q : Procedure) where
 
   by_difference : (o : Option Path) (args : List Argument)
       → elim o [
-        Some p ↦ NoMatch p
+        | Some p ↦ NoMatch p
         | None ↦ with_strides at theirs block q (found q.params)
       ] ≡ Arguments args → length args ≡ length q.params
   by_difference None args e =
@@ -77,11 +78,11 @@ module _ (at : Reading) (theirs : Names) (block : Block) (q : Procedure) where
 
   by_own : (o : Option ℕ) (args : List Argument)
       → elim o [
-        Some x ↦ Undetermined x
+        | Some x ↦ Undetermined x
         | None ↦ elim (first_difference at (by_walk at theirs block q) (walk at theirs block q)) [
-            Some p ↦ NoMatch p
-            | None ↦ with_strides at theirs block q (found q.params)
-          ]
+          | Some p ↦ NoMatch p
+          | None ↦ with_strides at theirs block q (found q.params)
+        ]
       ] ≡ Arguments args → length args ≡ length q.params
   by_own None args e = by_difference
       (first_difference at (by_walk at theirs block q) (walk at theirs block q)) args e

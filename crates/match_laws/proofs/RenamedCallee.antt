@@ -7,12 +7,14 @@ use Rattle.std.specs.Bool.{one_answer}
 use Rattle.std.specs.Ordering.{int_eq}
 use Rattle.std.specs.Int.{int_div_euclid, int_rem_euclid}
 use Rattle.exo_tree.specs.Tree.{Cell, Control, Lit, Var, Field, StrideOf, Neg, Add, Sub, Mul, Div}
-use Rattle.exo_tree.specs.Tree.{Mod, Condition, True, False, Flag, FieldFlag, Lt, Le, Gt, Ge, Eq, And}
+use Rattle.exo_tree.specs.Tree.{Mod, Condition, True, False, Flag, FieldFlag, Lt, Le, Gt, Ge, Eq}
+use Rattle.exo_tree.specs.Tree.{And}
 use Rattle.exo_tree.specs.Tree.{Or, Argument, ControlArg, ConditionArg, Whole, Window, Statement}
-use Rattle.exo_tree.specs.Tree.{Assign, Reduce, Config, Pass, If, For, Alloc, View, Call, Block, end}
+use Rattle.exo_tree.specs.Tree.{Assign, Reduce, Config, Pass, If, For, Alloc, View, Call, Block}
+use Rattle.exo_tree.specs.Tree.{end}
 use Rattle.exo_tree.specs.Tree.{next, ParamKind, ControlParam, TensorParam, WindowParam, Param}
 use Rattle.exo_tree.specs.Tree.{Procedure}
-use Rattle.exo_meaning.specs.Value.{Value, Undefined}
+use Rattle.exo_meaning.specs.Value.{Value}
 use Rattle.exo_meaning.specs.Scene.{is_set, Shape, Seen, Scene, then_do, number, numbers, holds}
 use Rattle.exo_meaning.specs.Scene.{stride_at, strides_seen, where_true, updated, whole, extents}
 use Rattle.exo_meaning.specs.State.{State, Cells, same_index, on_scene, with_contents, with_buffer}
@@ -26,7 +28,7 @@ use Rattle.exo_meaning.specs.Renaming.{Renaming, re_control, re_controls, re_con
 use Rattle.exo_meaning.specs.Renaming.{re_arguments, re_statement, re_block, re_seen, re_scene}
 use Rattle.exo_meaning.specs.Renaming.{re_state}
 use Rattle.exo_meaning.proofs.Renamed.{runs_rename}
-use Rattle.match_laws.specs.RenamedCallee.{re_kind, re_param, re_params, re_conditions}
+use Rattle.match_laws.specs.RenamedCallee.{re_kind, re_params, re_conditions}
 use Rattle.match_laws.specs.RenamedCallee.{re_procedure, RenamedCallee}
 
 module _ (r : Renaming) where
@@ -176,7 +178,7 @@ module _ (r : Renaming) where
           strides = strides_seen outer.scene seen;
         } in
         let made : State =
-            with_contents x (contents outer.cells seen) (on_scene (with_buffer x shape) s) in
+        with_contents x (contents outer.cells seen) (on_scene (with_buffer x shape) s) in
         ap (λ z. where_true (same_index dims (extents seen.sides) && all_positive dims) (Some z))
         (made_re x shape (contents outer.cells seen) s)
         ∙ where_re (re_state r) (same_index dims (extents seen.sides) && all_positive dims) made
@@ -213,7 +215,8 @@ module _ (r : Renaming) where
     entered_re : (ps : List Param) (gs : List Given)
         → entered (re_params r ps) gs outer ≡ option_map (re_state r) (entered ps gs outer)
     entered_re ps gs =
-        ap (λ o. then_do o (λ c. bind_buffers outer (re_params r ps) gs (bare c outer.scene.fields)))
+        ap (λ o. then_do o
+        (λ c. bind_buffers outer (re_params r ps) gs (bare c outer.scene.fields)))
         (numbers_bound ps gs (λ x. pos 0))
         ∙ go (bind_numbers ps gs (λ x. pos 0))
       where

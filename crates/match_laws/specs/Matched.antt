@@ -1,4 +1,5 @@
--- The match of a block with a callee's body: the arguments of the call that may stand for the block.
+-- The match of a block with a callee's body: the arguments of the call that may stand for the
+-- block.
 use Rattle.std.specs.Prelude.{◌≡◌, ℕ, ◌==◌, nat_lt, Bool, true, false, ◌&&◌, ◌||◌, not, List, []}
 use Rattle.std.specs.Prelude.{◌∷◌, length, if◌then◌else◌, Option, Some, None, Result, Ok, Err}
 use Rattle.exo_tree.specs.Tree.{Control, Var, StrideOf}
@@ -61,7 +62,7 @@ abbrev pub argument_in : (ℕ → Bool) → List Pair → ℕ → Option Argumen
 argument_in params [] x = None
 argument_in params (a ∷ pairs) x =
     elim (argument_if x (known_by params a)) [
-      None ↦ argument_in params pairs x
+      | None ↦ argument_in params pairs x
       | Some argument ↦ Some argument
     ]
 
@@ -208,7 +209,7 @@ with_first (Ok a) (Ok args) = Ok (a ∷ args)
 abbrev pub is_undetermined : (ℕ → Bool) → List Pair → Param → Bool
 is_undetermined params own p =
     elim p.kind [
-      ControlParam kind ↦ elim (argument_in params own p.binder.id) [ None ↦ true | Some a ↦ false ]
+      | ControlParam kind ↦ elim (argument_in params own p.binder.id) [ None ↦ true | Some a ↦ false ]
       | TensorParam cell dims memory ↦ length (uses_of p.binder.id own) == 0
       | WindowParam cell dims memory ↦ length (uses_of p.binder.id own) == 0
     ]
@@ -265,18 +266,18 @@ module _ (at : Reading) (theirs : Names) (block : Block) (q : Procedure) where
   with_strides (Err p) = NoMatch p
   with_strides (Ok args) =
       elim (first_difference at (moving params to (given_to q.params args)) walk) [
-        None ↦ Arguments args
+        | None ↦ Arguments args
         | Some p ↦ NoMatch p
       ]
 
   abbrev pub matched : Matched
   matched =
       elim (first_undetermined params own_pairs q.params) [
-        Some x ↦ Undetermined x
+        | Some x ↦ Undetermined x
         | None ↦ elim (first_difference at by_walk walk) [
-            Some p ↦ NoMatch p
-            | None ↦ with_strides (arguments_for q.params)
-          ]
+          | Some p ↦ NoMatch p
+          | None ↦ with_strides (arguments_for q.params)
+        ]
       ]
 
 abbrev pub OneForEach : Type 0

@@ -1,11 +1,12 @@
 -- What is known of the names of a procedure.
-use Rattle.std.specs.Prelude.{ℕ, ℤ, pos, Bool, true, false, List, [], ◌∷◌, Option, Some, None}
+use Rattle.std.specs.Prelude.{ℕ, pos, Bool, true, false, List, [], ◌∷◌, Option, Some, None}
 use Rattle.exo_tree.specs.Tree.{Cell, Control, Lit, Sub, Coord, At, Span, ParamKind, ControlParam}
 use Rattle.exo_tree.specs.Tree.{TensorParam, WindowParam, Param, Statement, Assign, Reduce, Config}
 use Rattle.exo_tree.specs.Tree.{Pass, If, For, Alloc, View, Call, Block, end, next, Procedure}
 use Rattle.exo_meaning.specs.Scene.{updated}
 
--- a buffer or a view: its cell type and its extents; a tensor parameter or an allocation is a tensor
+-- a buffer or a view: its cell type and its extents; a tensor parameter or an allocation is a
+-- tensor
 pub record Buffer : Type 0 where
   pub cell : Cell
   pub extents : List Control

@@ -1,10 +1,12 @@
 -- What stands against what, where a callee's body and a block are walked together in preorder.
-use Rattle.std.specs.Prelude.{ℕ, suc, ℤ, ◌==◌, Bool, true, false, ◌&&◌, ◌||◌, not, List, [], ◌∷◌}
-use Rattle.std.specs.Prelude.{◌++◌, map, if◌then◌else◌, Option, Some, None}
+use Rattle.std.specs.Prelude.{ℕ, suc, ◌==◌, Bool, true, false, ◌&&◌, List, [], ◌∷◌}
+use Rattle.std.specs.Prelude.{◌++◌, if◌then◌else◌, Option, Some, None}
 use Rattle.std.specs.Ordering.{int_eq}
-use Rattle.exo_tree.specs.Tree.{Cell, I8, I32, Control, Condition, Datum, Const, Read, Negated, Relu}
+use Rattle.exo_tree.specs.Tree.{Cell, I8, I32, Control, Condition, Datum, Const, Read, Negated}
+use Rattle.exo_tree.specs.Tree.{Relu}
 use Rattle.exo_tree.specs.Tree.{Plus, Minus, Times, Select, Coord, At, Span, Argument, ControlArg}
-use Rattle.exo_tree.specs.Tree.{ConditionArg, Whole, Window, Statement, Assign, Reduce, Config, Pass}
+use Rattle.exo_tree.specs.Tree.{ConditionArg, Whole, Window, Statement, Assign, Reduce, Config}
+use Rattle.exo_tree.specs.Tree.{Pass}
 use Rattle.exo_tree.specs.Tree.{If, For, Alloc, View, Call, Block, end, next}
 use Rattle.exo_tree.specs.Places.{Branch, Main, Else, Path}
 use Rattle.match_laws.specs.Names.{Buffer, Names, extents_of, whole_of}
@@ -39,7 +41,8 @@ abbrev pub points : List Control → List Coord
 points [] = []
 points (e ∷ es) = At e ∷ points es
 
--- params: the callee's parameters; ours, theirs: the names of the callee and of the block's procedure
+-- params: the callee's parameters; ours, theirs: the names of the callee and of the block's
+-- procedure
 module _ (params : ℕ → Bool) (ours theirs : Names) where
   abbrev pub controls_paired : Path → List Control → List Control → List Pair
   controls_paired p [] [] = []

@@ -43,7 +43,8 @@ choices (suc n) (suc r) =
 pub data Spot : Type 0 where
   Offset Point : Control → Spot
 
--- at: what the block reads; m: the callee's expressions in the block's names; bound: the block's own names
+-- at: what the block reads; m: the callee's expressions in the block's names; bound: the block's
+-- own names
 module _ (at : Reading) (m : Moving) (bound : ℕ → Bool) where
   abbrev pub offset : Control → Control → Option Spot
   offset e g = one (λ f. Offset (Sub g f)) (moved m e)
@@ -97,7 +98,7 @@ module _ (at : Reading) (m : Moving) (bound : ℕ → Bool) where
   abbrev pub fitting : List Bool → Use → List Use → Option (List Spot)
   fitting listed u us =
       elim (spots listed u.ours u.theirs) [
-        None ↦ None
+        | None ↦ None
         | Some ss ↦ if are_free ss && all_as listed ss us then Some ss else None
       ]
 
@@ -138,11 +139,11 @@ module _ (at : Reading) (m : Moving) (bound : ℕ → Bool) where
   first_fitting whole b ds u us [] = None
   first_fitting whole b ds u us (listed ∷ more) =
       elim (fitting listed u us) [
-        None ↦ first_fitting whole b ds u us more
+        | None ↦ first_fitting whole b ds u us more
         | Some ss ↦ elim (argument_from whole b u.name ds ss) [
-            None ↦ first_fitting whole b ds u us more
-            | Some a ↦ Some a
-          ]
+          | None ↦ first_fitting whole b ds u us more
+          | Some a ↦ Some a
+        ]
       ]
 
   abbrev pub all_of_name : ℕ → List Use → Bool

@@ -2,9 +2,11 @@
 use Rattle.std.proofs.Common.{◌≡◌, ℕ, ℤ, pos, ◌+ℤ◌, ◌*ℤ◌, Bool, true, false, true≢false, []}
 use Rattle.std.proofs.Common.{◌∷◌, None, refl, ap, subst, arith}
 use Rattle.std.proofs.lemmas.Int.{ints}
-use Rattle.exo_tree.specs.Tree.{Binder, I32, Index, Control, Lit, Var, Field, StrideOf, Neg, Add, Sub}
+use Rattle.exo_tree.specs.Tree.{Binder, I32, Index, Control, Lit, Var, Field, StrideOf, Neg, Add}
+use Rattle.exo_tree.specs.Tree.{Sub}
 use Rattle.exo_tree.specs.Tree.{Mul, Div, Mod, Const, TensorParam, Procedure, Statement}
-use Rattle.exo_tree.specs.Tree.{Assign, Reduce, Config, Pass, If, For, Alloc, View, Call, Block, end}
+use Rattle.exo_tree.specs.Tree.{Assign, Reduce, Config, Pass, If, For, Alloc, View, Call, Block}
+use Rattle.exo_tree.specs.Tree.{end}
 use Rattle.exo_tree.specs.Tree.{next}
 use Rattle.exo_tree.specs.Context.{Context, Here, After, InLoop, InThen, InElse, fill}
 use Rattle.exo_meaning.specs.Scene.{Scene, number}
@@ -111,7 +113,8 @@ filled n a b = next (For (binder 0) (number_of 0) n
     (next (Assign 4 (a ∷ b ∷ []) (Const (pos 5))) end)) end
 
 fill_is_simplified : simplified_block own
-    (filled (Add (number_of 0) (number_of 4)) (Add (number_of 0) i) (Sub (number_of 8) (number_of 1)))
+    (filled (Add (number_of 0) (number_of 4)) (Add (number_of 0) i)
+    (Sub (number_of 8) (number_of 1)))
     ≡ filled (number_of 4) i (number_of 7)
 fill_is_simplified = refl
 
@@ -178,7 +181,8 @@ never_end (InElse t other c rest) d = refl
 only_store : (c : Context) (d : Statement) → alone ≡ fill c (next d end) → store ≡ d
 only_store (Here rest) d same = ap first_of same
 only_store (After a c) d same =
-    absurd (true≢false (subst (λ b. true ≡ b) (never_end c d) (ap (λ b. is_end (rest_after b)) same)))
+    absurd (true≢false (subst (λ b. true ≡ b) (never_end c d)
+    (ap (λ b. is_end (rest_after b)) same)))
 only_store (InLoop x lo hi c rest) d same =
     absurd (true≢false (ap (λ b. is_store (first_of b)) same))
 only_store (InThen t c other rest) d same =
