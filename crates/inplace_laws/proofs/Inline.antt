@@ -334,8 +334,10 @@ module _ (world above : World) (q : Procedure) (args : List Argument) (own : ℕ
   back : (a d : State) → call_to (Some (callee_in above q)) args u ≡ Some a → run world new u ≡ Some d → RefinedBut own d a
   back a d i j = let e = runs a d i j in subst (RefinedBut own d) e.call (ends_back e.inner e.inside d e.same e.alike j)
 
-called : (world : World) (k : ℕ) (args : List Argument) (c : Callee) (u a : State) → world.callees k ≡ Some c → run world (next (Call k args) end) u ≡ Some a → call_to (Some c) args u ≡ Some a
-called world k args c u a e i = ap (λ o. call_to o args u) (sym e) ∙ sym (then_some (call_to (world.callees k) args u)) ∙ i
+called : (world : World) (k : ℕ) (args : List Argument) (c : Callee) (u a : State)
+    → ((s : State) → call_to (world.callees k) args s ≡ call_to (Some c) args s)
+    → run world (next (Call k args) end) u ≡ Some a → call_to (Some c) args u ≡ Some a
+called world k args c u a e i = sym (e u) ∙ sym (then_some (call_to (world.callees k) args u)) ∙ i
 
 pub inline_refines : InlineRefines
 inline_refines kinds ps p q c k args above own was may =

@@ -141,7 +141,7 @@ call = next (Call 0 []) end
 
 may_inline : (b : Block) → MayInline above_it empty (λ x. false) (plain b) (plain sets) (Here end) b 0 []
 may_inline b = record {
-  callee = refl;
+  callee = λ s. refl;
   wider = (above_law (λ f. Index) [] (plain sets) []).0;
   call = λ s u good come gs e. record {
     sound = sound_law above_it (plain b) b (Here end) s u good come;

@@ -4,7 +4,7 @@ use Rattle.std.specs.Prelude.{◌≡◌, not, ℕ, Bool, true, false, List, [], 
 use Rattle.exo_tree.specs.Tree.{Kind, Argument, ControlArg, ConditionArg, Whole, Window, ParamKind, ControlParam, TensorParam, WindowParam, Param, Call, Block, end, next, Procedure}
 use Rattle.exo_meaning.specs.State.{State}
 use Rattle.exo_meaning.specs.Calls.{Callee, Given, all_given}
-use Rattle.exo_meaning.specs.Run.{World, run, callee_in}
+use Rattle.exo_meaning.specs.Run.{World, run, call_to, callee_in}
 use Rattle.exo_meaning.specs.Run.{unit_world}
 use Rattle.exo_meaning.specs.Inputs.{IsAdmissible, Refines, is_buffer_of}
 use Rattle.exo_meaning.specs.Unseen.{in_block as mentions}
@@ -71,7 +71,9 @@ abbrev pub not_own : (ℕ → Bool) → ℕ → Bool
 not_own own x = not (own x)
 
 pub record MayInline (world above : World) (own : ℕ → Bool) (p q : Procedure) (c : Context) (old : Block) (k : ℕ) (args : List Argument) : Type 0 where
-  pub callee : world.callees k ≡ Some (callee_in above q)
+  -- the callee, or one that is called alike, as the callee with other ids
+  pub callee : (s : State)
+      → call_to (world.callees k) args s ≡ call_to (Some (callee_in above q)) args s
   pub wider : IsWider above world
   pub call : (s u : State) → IsAdmissible world p s → ComesTo world old c s u → (gs : List Given) → all_given u.scene args ≡ Some gs → MayRunInPlace (not_own own) above q gs u
   pub takes : TakesAll (is_param q) q.params args q.body

@@ -1,0 +1,4 @@
+pub mod RenamedCallee
+pub mod Agree
+pub mod Matched
+pub mod Instances

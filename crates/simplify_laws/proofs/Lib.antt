@@ -1,0 +1,4 @@
+pub mod Simplified
+pub mod SameControls
+pub mod SimplifiedBlocks
+pub mod Instances

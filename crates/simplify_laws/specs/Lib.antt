@@ -1,0 +1,3 @@
+pub mod Simplified
+pub mod SameControls
+pub mod SimplifiedBlocks
