@@ -1,7 +1,7 @@
 // The same text with a change at each of its bytes in turn, and what comes of each.
 //
 // A row is the name of a change and then, for each byte from the first one of a line on, what comes of the change at that byte; of a cut
-// also for the end. Answers are separated by blanks: `.` is what is wanted of the case itself, and a letter a refusal of the reader. Behind
+// also for the end. Answers are separated by blanks: `.` is what is wanted of the case itself, and a letter a refusal (`KINDS`). Behind
 // it stands the place: that of the byte where none is written, `+` the byte behind it, `8` column 8 of its line, `9:8` column 8 of line
 // 9. `12*S` is the answer `S` at twelve bytes in a row; `/` ends a line of the text, and counts for nothing.
 use crate::case::{Case, Wanted};
@@ -121,14 +121,15 @@ fn line_start(text: &[u8], line: u32) -> Spot {
     spot
 }
 
-/// The refusals of the reader, by their letters.
-const KINDS: [(char, &str); 6] = [
+/// Refusals by their letters: those of the reader, and the rule of names.
+const KINDS: [(char, &str); 7] = [
     ('B', "BadByte"),
     ('I', "BadIndent"),
     ('S', "Syntax"),
     ('D', "TooDeep"),
     ('L', "TooLong"),
     ('N', "LiteralTooLarge"),
+    ('U', "UnknownName"),
 ];
 
 fn number(text: &str) -> u32 {
