@@ -1,0 +1,7 @@
+mod Meanings
+mod Parts
+mod Statements
+mod Expressions
+mod Faults
+mod Names
+pub mod Unique
