@@ -1,4 +1,3 @@
-use Rattle.std.proofs.Common.{◌≡◌}
 use Rattle.schedule_patterns.proofs.Names.{reads_name, reads_no_name}
 use Rattle.schedule_patterns.proofs.name.read_name.Goals as goal
 
@@ -6,4 +5,4 @@ pub returns-in-Name : goal.returns-in-Name
 returns-in-Name c = reads_name _ _ _ _ c.in-Ok.ensures.value c.in-Name.is c.read_found.ensures
 
 pub returns : goal.returns
-returns c = rw (c.error_in.ensures, c.kind_at.ensures) (reads_no_name _ _ c.in-Ok.ensures.value c.in_default-token.not-Name)
+returns c = rw (c.error_in.ensures, c.kind_at.ensures) (reads_no_name c.args.bytes.now _ c.in-Ok.ensures.value c.in_default-token.not-Name)
