@@ -5,3 +5,4 @@ mod Expressions
 mod Faults
 mod Names
 pub mod Unique
+mod Instance

@@ -7,7 +7,7 @@ ghost use Rattle.schedule_patterns.specs.Grammar.{IsEnd, index, after_name, expr
 ghost use Rattle.schedule_patterns.specs.Texts.{ReadsAs, ReadsWhole};
 ghost use Rattle.cursor_patterns.specs.PlainPattern.{plain_form};
 
-use crate::slot::read_name_or_any;
+use crate::part::read_name_or_any;
 use cursor_patterns::ExprForm;
 use exo_tree::Name;
 use std::alloc::Global;

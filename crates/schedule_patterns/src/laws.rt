@@ -1,5 +1,6 @@
 //! What is true of all texts, each law the contract of a function with nothing to do.
 ghost use Rattle.schedule_patterns.specs.Grammar.{statement, meant, expression, form_meant};
+ghost use Rattle.schedule_patterns.specs.Instance.{TextInstance};
 ghost use Rattle.schedule_patterns.specs.Names.{NamesAreOne};
 ghost use Rattle.schedule_patterns.specs.Texts.{PatternsAreOne};
 
@@ -16,4 +17,9 @@ pub fn expr_patterns_are_one()
 /// A text is one name, or there is one error.
 pub fn names_are_one()
     ensures { NamesAreOne }
+{}
+
+/// Texts of each kind, and some that are none.
+pub fn text_instance()
+    ensures { TextInstance }
 {}

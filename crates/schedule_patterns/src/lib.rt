@@ -5,7 +5,7 @@ mod expression;
 pub mod laws;
 mod name;
 mod number;
-mod slot;
+mod part;
 mod statement;
 mod text;
 

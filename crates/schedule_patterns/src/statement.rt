@@ -7,7 +7,7 @@ ghost use Rattle.schedule_patterns.specs.Told.{told_change, told, maybe_told, me
 ghost use Rattle.schedule_patterns.specs.Texts.{ReadsAs, ReadsWhole};
 ghost use Rattle.cursor_patterns.specs.PlainPattern.{plain_pattern};
 
-use crate::slot::{read_name_and, read_name_or_any};
+use crate::part::{read_name_and, read_name_or_any};
 use cursor_patterns::Pattern;
 use exo_tree::Name;
 use std::alloc::Global;

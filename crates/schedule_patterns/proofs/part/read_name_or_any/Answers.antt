@@ -2,7 +2,7 @@ use Rattle.text_phrases.proofs.Exits.{exit}
 use Rattle.text_phrases.proofs.Sequences.{step_taken}
 use Rattle.text_phrases.proofs.Joints.{whole_err}
 use Rattle.schedule_patterns.proofs.Parts.{taken_any, step_name}
-use Rattle.schedule_patterns.proofs.slot.read_name_or_any.Goals as goal
+use Rattle.schedule_patterns.proofs.part.read_name_or_any.Goals as goal
 
 pub returns-in-Some : goal.returns-in-Some
 returns-in-Some c = taken_any _ _ c.in-Some.ensures

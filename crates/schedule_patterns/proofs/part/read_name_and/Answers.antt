@@ -1,7 +1,7 @@
 use Rattle.text_phrases.proofs.Exits.{exit}
 use Rattle.text_phrases.proofs.Joints.{now, later, both}
 use Rattle.schedule_patterns.proofs.Parts.{name_words}
-use Rattle.schedule_patterns.proofs.slot.read_name_and.Goals as goal
+use Rattle.schedule_patterns.proofs.part.read_name_and.Goals as goal
 
 pub returns-in_err-name : goal.returns-in_err-name
 returns-in_err-name c = exit _ _ _ _ _ _ c.from_residual.ensures.1 (now (name_words _) _ _ c.in_err-name.ensures)
