@@ -42,17 +42,6 @@ memory_or k.TooDeep along claim = along claim
 memory_or k.TooLong along claim = along claim
 memory_or k.LiteralTooLarge along claim = along claim
 
-left_of : {T : Type 0} {cause : Cause} (kind : Phrase Token T) (tokens : List Token) (last : ℕ) → FaultAt kind cause tokens last → last ≤ length tokens
-left_of kind tokens last fault = omega (arith, ap length fault.whole, length-append fault.before fault.rest, fault.count)
-
--- no more tokens are left at a refusal than there are
-pub left_in : {T : Type 0} (kind : Phrase Token T) (tokens : List Token) (e : Refusal) → Faults kind tokens e → IsLeft tokens e
-left_in kind tokens r.Memory faults = tt
-left_in kind tokens (r.Syntax last) faults = left_of kind tokens last faults
-left_in kind tokens (r.TooDeep last) faults = left_of kind tokens last faults
-left_in kind tokens (r.TooLong last) faults = left_of kind tokens last faults
-left_in kind tokens (r.TooLarge last) faults = left_of kind tokens last faults
-
 cut_at : (tokens before rest : List Token) (last : ℕ) → tokens ≡ before ++ rest → length rest ≡ last → length tokens - last ≡ length before
 cut_at tokens before rest last whole count = omega (arith, ap length whole, length-append before rest, count)
 
@@ -81,10 +70,6 @@ pub refusal_in : {T : Type 0} (kind : Phrase Token T) (tokens read sliced : List
 refusal_in kind tokens read sliced places listed refusal e one two three faults says =
     refusal_of kind tokens places refusal e (subst (λ (ts : List Token). Faults kind ts refusal) one faults)
     (subst (λ (ps : List Place). Says tokens ps refusal e) three (subst (λ (ts : List Token). Says ts listed refusal e) two says))
-
--- a text has one place more than tokens
-pub line_places_more : (text : List ℕ) → length (line_places_of text) ≡ length (line_tokens_of text) + 1
-line_places_more text = omega (arith, length-append (map place_of (line_lexed text)) (end_place text ∷ []), length-map (line_lexed text) place_of, length-map (line_lexed text) token_of)
 
 -- what a `?` returns
 pub error_exit : {X : Type 0} (good : X → Type 0) (bad : ReadError → Type 0) (result : Result X ReadError) (e : ReadError) → IsErrAnd result (λ r. r ≡ e) → bad e → MatchResult result good bad

@@ -4,5 +4,5 @@ mod Statements
 mod Expressions
 mod Faults
 mod Names
-pub mod Unique
+mod Unique
 mod Instance

@@ -1,5 +1,5 @@
 -- Texts that are names.
-use Rattle.std.proofs.Common.{◌≡◌, ℕ, ◌+◌, ◌≤◌, ◌<◌, List, [], ◌∷◌, ◌++◌, Option, Some, None, Bool, true, false, if◌then◌else◌, nat_lt, nat_eq, length, take, drop, Result, Ok, Err, MatchResult, refl, sym, ap, ◌∙◌, subst, arith}
+use Rattle.std.proofs.Common.{◌≡◌, ℕ, ◌+◌, ◌≤◌, ◌<◌, List, [], ◌∷◌, ◌++◌, Option, Some, None, Bool, true, false, if◌then◌else◌, nat_lt, nat_eq, length, take, drop, Result, Ok, Err, refl, sym, ap, ◌∙◌, subst, arith}
 use Rattle.std.specs.Prelude.{take_while, bytes_eq, codes}
 use Rattle.std.specs.List.{prefix_len}
 use Rattle.std.specs.Char.{is_ascii_digit}
@@ -21,7 +21,7 @@ use Rattle.text_lexer.specs.declared.piece.Piece.{Piece}
 use Rattle.exo_reader.specs.declared.unit.ReadError.{ReadError}
 use Rattle.schedule_patterns.specs.Errors.{kind_at, error_in, UnlessMemory}
 use Rattle.schedule_patterns.proofs.Faults.{memory_or, unless_memory}
-use Rattle.schedule_patterns.specs.Names.{begins, IsName, left_over, fault_by, name_fault, ReadsName, NamesAreOne}
+use Rattle.schedule_patterns.specs.Names.{begins, IsName, left_over, fault_by, name_fault, ReadsFound, ReadsName, NamesAreOne}
 
 -- ---- pieces that are no names
 
@@ -166,7 +166,7 @@ pub no_name : (text : List ℕ) (t : Token) → (piece_of text).token ≡ t → 
 no_name text t is none = fault_is text _ t is (other_fault t (piece_of text).width text none)
 
 -- what is said of the first token is said of the text
-pub reads_name : (text x : List ℕ) (piece : Piece) (result : Result (List ℕ) ReadError) → piece ≡ piece_of text → piece.token ≡ token.Name x → MatchResult result (λ y. (y ≡ x) × (fault_by (token.Name x) piece.width text ≡ None)) (λ e. UnlessMemory e.kind (fault_by (token.Name x) piece.width text ≡ Some e)) → ReadsName text result
+pub reads_name : (text x : List ℕ) (piece : Piece) (result : Result (List ℕ) ReadError) → piece ≡ piece_of text → piece.token ≡ token.Name x → ReadsFound x piece.width text result → ReadsName text result
 reads_name text x piece (Ok y) one is m =
     let here : (piece_of text).token ≡ token.Name x = ap (λ (q : Piece). q.token) (sym one) ∙ is in
     let none : fault_by (token.Name x) (piece_of text).width text ≡ None = subst (λ (q : Piece). fault_by (token.Name x) q.width text ≡ None) one m.1 in

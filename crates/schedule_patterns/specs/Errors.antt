@@ -6,7 +6,8 @@ use Rattle.exo_reader.specs.declared.unit.ReadError.{ReadError}
 use Rattle.exo_reader.specs.declared.unit.ReadKind.{ReadKind}
 use Rattle.exo_reader.specs.declared.unit.ReadKind.TheVariants.{Memory, Syntax, BadByte}
 
--- why bytes may not stand where nothing does: a byte that no text has, or else the end of a line or a byte of a text
+-- why bytes may not stand where nothing does: a byte that no text has, or else the end of a line
+-- or a byte of a text
 abbrev pub kind_at : List ℕ → ReadKind
 kind_at [] = Syntax
 kind_at (b ∷ rest) =

@@ -85,7 +85,8 @@ WrittenFits limits other = Unit {0}
 abbrev pub spell_written : Written → List Token
 spell_written skip = Word w.Pass ∷ []
 spell_written branch = Word w.If ∷ Sign Any ∷ Sign Colon ∷ Sign Any ∷ []
-spell_written (loop i) = Word w.For ∷ (spell_name i ++ (Word w.In ∷ Sign Any ∷ Sign Colon ∷ Sign Any ∷ []))
+spell_written (loop i) =
+    Word w.For ∷ (spell_name i ++ (Word w.In ∷ Sign Any ∷ Sign Colon ∷ Sign Any ∷ []))
 spell_written (named x told) = spell_name x ++ maybe_behind.spell told
 
 abbrev pub statement : Phrase Token Written
@@ -110,7 +111,8 @@ meant (named x (Some (cell true))) = p.Reduce x
 abbrev pub index : Phrase Token (Unit {0})
 index = exactly (Sign OpenBracket ∷ Sign Any ∷ Sign CloseBracket ∷ [])
 
--- what may stand behind the first name of an expression's pattern: `[_]`; and behind `_`, an operator and `_`
+-- what may stand behind the first name of an expression's pattern: `[_]`; and behind `_`, an
+-- operator and `_`
 pub data After : Type 0 where
   indexed : After
   added : After

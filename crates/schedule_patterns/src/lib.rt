@@ -1,4 +1,8 @@
-//! The strings of schedules that are names and patterns: from bytes to names, and to patterns of statements and expressions.
+//! The strings of schedules that are names or patterns, read from their bytes.
+//!
+//! A pattern is a form on one line, whose tokens spell a phrase of the grammar, and maybe a number
+//! behind a `#`, which is cut off before the form is cut into tokens: elsewhere a `#` begins a
+//! comment, and a pattern has none.
 #![tactic(auto)]
 
 mod expression;

@@ -1,8 +1,7 @@
 //! Names as strings.
 
-ghost use Rattle.std.specs.Prelude.{◌≡◌, ◌≤◌, length, None, Some, MatchResult};
-ghost use Rattle.schedule_patterns.specs.Errors.{UnlessMemory};
-ghost use Rattle.schedule_patterns.specs.Names.{fault_by, ReadsName};
+ghost use Rattle.std.specs.Prelude.{◌≤◌, length};
+ghost use Rattle.schedule_patterns.specs.Names.{ReadsFound, ReadsName};
 
 use crate::number::{error_in, kind_at};
 use exo_reader::refusal::without_memory;
@@ -15,15 +14,10 @@ use text_lexer::text::Text;
 use text_lexer::token::Token;
 
 /// A name that stands first, if nothing stands behind the bytes that it takes.
-fn read_found(
-    alloc: Global,
-    found: &Text,
-    width: usize,
-    text: &[u8],
-) -> Result<Name, ReadError>
+fn read_found(alloc: Global, found: &Text, width: usize, text: &[u8]) -> Result<Name, ReadError>
     requires few { length text.now ≤ 0x100000 }
     requires within { width ≤ length text.now }
-    ensures { MatchResult result (λ x. (x ≡ found.now) × (fault_by (Token.Name found.now) width text.now ≡ None)) (λ e. UnlessMemory e.kind (fault_by (Token.Name found.now) width text.now ≡ Some e)) }
+    ensures { ReadsFound found.now width text.now result }
 {
     if !is_short(found) {
         return Err(error_in(1, ReadKind::TooLong));

@@ -1,8 +1,8 @@
 //! The number at the end of a pattern.
 
-ghost use Rattle.std.specs.Prelude.{◌≡◌, ◌≤◌, ◌+◌, ◌-◌, length, take_while, MatchResult, Ok, Err};
-ghost use Rattle.schedule_patterns.specs.Errors.{kind_at, error_in, UnlessMemory};
-ghost use Rattle.schedule_patterns.specs.Numbers.{is_blank, form_in, ends_blank, behind_blanks, ended, counted, number_of};
+ghost use Rattle.std.specs.Prelude.{◌≡◌, ◌≤◌, ◌+◌, ◌-◌, length, take_while};
+ghost use Rattle.schedule_patterns.specs.Errors.{kind_at, error_in};
+ghost use Rattle.schedule_patterns.specs.Numbers.{is_blank, form_in, ends_blank, behind_blanks, ended, counted, ReadsNumber};
 
 use exo_reader::refusal::without_memory;
 use exo_reader::unit::{ReadError, ReadKind};
@@ -102,7 +102,7 @@ fn counted(token: &Token, column: u32, size: usize, bytes: &[u8]) -> Result<u32,
 /// The number of a pattern, 0 where it has none, or what is wrong from its first `#` on.
 pub(crate) fn read_number(alloc: Global, text: &[u8]) -> Result<u32, ReadError>
     requires { length text.now ≤ 0x100000 }
-    ensures { MatchResult result (λ n. number_of text.now ≡ Ok n) (λ e. UnlessMemory e.kind (number_of text.now ≡ Err e)) }
+    ensures { ReadsNumber text.now result }
 {
     let form = form_in(text);
     let Some((_, bytes)) = text[form.len()..].split_first() else {

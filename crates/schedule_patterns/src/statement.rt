@@ -36,10 +36,7 @@ fn read_change(tokens: &[Token]) -> Result<(Told, &[Token]), Refusal>
         let rest = expect_all(after, &[Fixed::Sign(Sign::Any)])?;
         return Ok((Told::Reduced, rest));
     }
-    let rest = expect_all(
-        tokens,
-        &[Fixed::Sign(Sign::Assign), Fixed::Sign(Sign::Any)],
-    )?;
+    let rest = expect_all(tokens, &[Fixed::Sign(Sign::Assign), Fixed::Sign(Sign::Any)])?;
     Ok((Told::Assigned, rest))
 }
 
@@ -88,10 +85,7 @@ fn read_behind(alloc: Global, tokens: &[Token]) -> Result<(Told, &[Token]), Refu
 }
 
 /// What stands behind the first name of a pattern, if anything does.
-fn read_maybe_behind(
-    alloc: Global,
-    tokens: &[Token],
-) -> Result<(Option<Told>, &[Token]), Refusal>
+fn read_maybe_behind(alloc: Global, tokens: &[Token]) -> Result<(Option<Told>, &[Token]), Refusal>
     ensures { ReadsAs maybe_behind maybe_told tokens.now (λ x. x.0) (λ x. x.1.now) result }
 {
     let Some(_) = next(tokens) else {
