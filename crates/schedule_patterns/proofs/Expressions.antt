@@ -1,13 +1,13 @@
 -- Patterns of expressions.
-use Rattle.std.proofs.Common.{◌≡◌, ℕ, List, [], ◌∷◌, ◌++◌, Option, Some, None, refl, sym, ap, ◌∙◌}
+use Rattle.std.proofs.Common.{◌≡◌, ℕ, List, [], ◌∷◌, ◌++◌, Some, None, refl, sym, ap, ◌∙◌}
 use Rattle.text_phrases.specs.Limits.{Limits}
-use Rattle.text_phrases.specs.Phrase.{first, Phrase, Taken}
+use Rattle.text_phrases.specs.Phrase.{first, Taken}
 use Rattle.text_phrases.specs.Sequence.{exactly, maybe}
 use Rattle.text_phrases.proofs.Eased.{tails}
 use Rattle.text_phrases.proofs.Sequences.{Back, Step, step_maybe, taken_nothing, JointBy}
 use Rattle.text_lexer.specs.declared.token.Token.{Token}
-use Rattle.text_lexer.specs.declared.token.Token.TheVariants.{Name, Sign}
-use Rattle.text_lexer.specs.declared.token.Sign.TheVariants.{Any, OpenBracket, CloseBracket, Plus, Minus, Times}
+use Rattle.text_lexer.specs.declared.token.Token.TheVariants.{Sign}
+use Rattle.text_lexer.specs.declared.token.Sign.TheVariants.{Any, OpenBracket, Plus, Minus, Times}
 use Rattle.schedule_patterns.specs.Grammar.{IsEnd, NameOrAny, name_or_any, index, After, indexed, added, subtracted, multiplied, spell_after, after_name}
 
 abbrev first_of : After → Token

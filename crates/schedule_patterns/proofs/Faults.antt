@@ -1,17 +1,16 @@
 -- Where and why the tokens of a form are refused.
-use Rattle.std.proofs.Common.{◌≡◌, ℕ, ◌+◌, ◌-◌, ◌≤◌, List, [], ◌∷◌, ◌++◌, length, take, drop, map, Result, Ok, Err, MatchResult, sym, ap, ◌∙◌, subst, arith}
+use Rattle.std.proofs.Common.{◌≡◌, ℕ, ◌-◌, List, ◌++◌, length, take, drop, Result, Ok, Err, MatchResult, sym, ap, ◌∙◌, subst, arith}
 use Rattle.std.specs.Result.{IsErrAnd}
-use Rattle.std.proofs.lemmas.List.{length-append, length-map}
+use Rattle.std.proofs.lemmas.List.{length-append}
 use Rattle.std.proofs.Math.Seq.{take-append_seam, drop-append_seam}
 use Rattle.text_phrases.specs.Limits.{Cause, syntax, too_deep, too_long, too_large}
 use Rattle.text_phrases.specs.Phrase.{Phrase}
 use Rattle.text_phrases.specs.Text.{FaultAt, Faults}
 use Rattle.text_phrases.specs.declared.Refusal.{Refusal}
 use Rattle.text_phrases.specs.declared.Refusal.TheVariants as r
-use Rattle.text_lexer.specs.Layout.{line_lexed, token_of, place_of, end_place}
 use Rattle.text_lexer.specs.declared.place.Place.{Place}
 use Rattle.text_lexer.specs.declared.token.Token.{Token}
-use Rattle.exo_reader.specs.Texts.{IsKind, IsFault, IsLeft, SaysAt, Says}
+use Rattle.exo_reader.specs.Texts.{IsKind, IsFault, SaysAt, Says}
 use Rattle.exo_reader.specs.Strings.{line_tokens_of, line_places_of}
 use Rattle.exo_reader.specs.declared.unit.ReadKind.{ReadKind}
 use Rattle.exo_reader.specs.declared.unit.ReadKind.TheVariants as k

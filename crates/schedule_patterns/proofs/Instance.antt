@@ -1,11 +1,10 @@
 -- Closed texts.
-use Rattle.std.proofs.Common.{◌≡◌, ℕ, ◌≤◌, List, [], ◌∷◌, Some, None, length, refl, arith}
+use Rattle.std.proofs.Common.{◌≡◌, ℕ, ◌≤◌, List, [], ◌∷◌, Some, None, refl, arith}
 use Rattle.std.specs.Prelude.{codes}
 use Rattle.text_phrases.specs.Phrase.{Taken}
 use Rattle.text_phrases.specs.Sequence.{then}
 use Rattle.text_phrases.proofs.Sequences.{step_taken, taken_short}
 use Rattle.text_phrases.proofs.Joints.{both, both_by}
-use Rattle.text_lexer.specs.declared.token.Token.{Token}
 use Rattle.text_lexer.specs.declared.token.Token.TheVariants.{Name, Sign}
 use Rattle.text_lexer.specs.declared.token.Sign.TheVariants.{Any}
 use Rattle.text_expressions.specs.Values.{IsShortName, name}

@@ -1,5 +1,5 @@
 -- What is read means what is written.
-use Rattle.std.proofs.Common.{◌≡◌, ℕ, List, [], ◌∷◌, Option, None, Result, Ok, Err, MatchResult, sym, subst}
+use Rattle.std.proofs.Common.{◌≡◌, List, [], Option, None, Result, Ok, Err, MatchResult, sym, subst}
 use Rattle.std.specs.Result.{IsErrAnd}
 use Rattle.text_phrases.specs.Phrase.{Phrase, Taken}
 use Rattle.text_phrases.specs.Sequence.{then, then_by}

@@ -1,12 +1,12 @@
 -- Texts that are names.
-use Rattle.std.proofs.Common.{◌≡◌, ℕ, ◌+◌, ◌≤◌, ◌<◌, List, [], ◌∷◌, ◌++◌, Option, Some, None, Bool, true, false, if◌then◌else◌, nat_lt, nat_eq, length, take, drop, Result, Ok, Err, refl, sym, ap, ◌∙◌, subst, arith}
+use Rattle.std.proofs.Common.{◌≡◌, ℕ, ◌+◌, ◌≤◌, List, [], ◌∷◌, ◌++◌, Option, Some, None, Bool, true, false, if◌then◌else◌, nat_lt, nat_eq, length, take, drop, Result, Ok, Err, refl, sym, ap, ◌∙◌, subst, arith}
 use Rattle.std.specs.Prelude.{take_while, bytes_eq, codes}
 use Rattle.std.specs.List.{prefix_len}
 use Rattle.std.specs.Char.{is_ascii_digit}
 use Rattle.std.proofs.lemmas.List.{length-append, length-drop, take-append-drop, append-nil}
 use Rattle.text_lexer.specs.Bytes.{is_printable, is_quote, begins_name, goes_on_name}
 use Rattle.text_lexer.specs.Quoted.{quoted}
-use Rattle.text_lexer.specs.Piece.{word_of, decorator_of, sign_of, sign_with_equals, literal, string_ending, string_piece, word_token, name_token, name_piece, decorated, decorator_piece, digits_piece, literal_piece, lone_piece, longer_piece, sign_piece, piece_of}
+use Rattle.text_lexer.specs.Piece.{word_of, decorator_of, sign_of, sign_with_equals, string_ending, string_piece, word_token, name_token, name_piece, decorated, decorator_piece, digits_piece, literal_piece, lone_piece, longer_piece, sign_piece, piece_of}
 use Rattle.text_lexer.specs.declared.token.Word.{Word}
 use Rattle.text_lexer.specs.declared.token.Decorator.{Decorator}
 use Rattle.text_lexer.specs.declared.token.Sign.{Sign}

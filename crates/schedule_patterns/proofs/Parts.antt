@@ -1,13 +1,13 @@
 -- Names or `_`, and changes.
-use Rattle.std.proofs.Common.{◌≡◌, ℕ, List, [], ◌∷◌, ◌++◌, Option, Some, None, Bool, true, false, refl, ap, ◌∙◌}
+use Rattle.std.proofs.Common.{◌≡◌, List, [], ◌∷◌, ◌++◌, Some, None, Bool, true, false, refl, ap, ◌∙◌}
 use Rattle.text_phrases.specs.Limits.{Limits}
-use Rattle.text_phrases.specs.Phrase.{first, Phrase, Taken}
+use Rattle.text_phrases.specs.Phrase.{first, Taken}
 use Rattle.text_phrases.specs.Sequence.{exactly}
 use Rattle.text_phrases.proofs.Eased.{tails}
 use Rattle.text_phrases.proofs.Sequences.{Back, Step}
 use Rattle.text_phrases.proofs.Joints.{Joint}
 use Rattle.text_lexer.specs.declared.token.Token.{Token}
-use Rattle.text_lexer.specs.declared.token.Token.TheVariants.{Name, Sign}
+use Rattle.text_lexer.specs.declared.token.Token.TheVariants.{Sign}
 use Rattle.text_lexer.specs.declared.token.Sign.TheVariants.{Any, Assign, Reduce}
 use Rattle.text_expressions.specs.Values.{name}
 use Rattle.schedule_patterns.specs.Grammar.{NameOrAny, spell_name, name_or_any, spell_change, change}

@@ -1,7 +1,7 @@
 -- Patterns of statements.
-use Rattle.std.proofs.Common.{◌≡◌, ℕ, List, [], ◌∷◌, ◌++◌, Option, Some, None, Bool, true, false, refl, sym, ap, ◌∙◌, ◌⊎◌, inl, inr, subst}
+use Rattle.std.proofs.Common.{◌≡◌, List, [], ◌∷◌, ◌++◌, Option, Some, None, true, false, refl, sym, ap, ◌∙◌, ◌⊎◌, inl, inr}
 use Rattle.text_phrases.specs.Limits.{Limits}
-use Rattle.text_phrases.specs.Phrase.{first, Phrase, Taken}
+use Rattle.text_phrases.specs.Phrase.{first, Taken}
 use Rattle.text_phrases.specs.Sequence.{exactly, then}
 use Rattle.text_phrases.proofs.Eased.{tails}
 use Rattle.text_phrases.proofs.Sequences.{Back, Step, step_taken, step_maybe, taken_nothing}
@@ -11,7 +11,7 @@ use Rattle.text_lexer.specs.declared.token.Token.TheVariants.{Name, Word, Sign}
 use Rattle.text_lexer.specs.declared.token.Word.TheVariants as w
 use Rattle.text_lexer.specs.declared.token.Sign.TheVariants.{Any, Open, Close, OpenBracket, CloseBracket, Colon, Dot, Assign, Reduce}
 use Rattle.cursor_patterns.specs.Patterns as p
-use Rattle.schedule_patterns.specs.Grammar.{IsEnd, NameOrAny, spell_name, name_or_any, spell_change, change, Behind, inner, allocated, called, field, changed, cell, spell_behind, behind_name, maybe_behind, Written, skip, branch, loop, named, spell_written, statement, meant}
+use Rattle.schedule_patterns.specs.Grammar.{IsEnd, NameOrAny, name_or_any, change, Behind, inner, allocated, called, field, changed, cell, spell_behind, behind_name, maybe_behind, Written, skip, branch, loop, named, spell_written, statement, meant}
 use Rattle.schedule_patterns.specs.Told.{told, maybe_told, meant_by}
 use Rattle.schedule_patterns.specs.declared.statement.Told.{Told}
 use Rattle.schedule_patterns.specs.Texts.{Means}

@@ -1,9 +1,8 @@
 -- A text is one pattern, or there is one error.
-use Rattle.std.proofs.Common.{◌≡◌, ℕ, List, [], ◌∷◌, Option, Some, None, Ok, Err, Result, refl, sym, ap, ap₂, ◌∙◌, subst}
-use Rattle.text_phrases.specs.Limits.{Limits, unlimited, Cause, syntax, too_deep, too_long, too_large}
+use Rattle.std.proofs.Common.{◌≡◌, ℕ, List, Option, Some, None, Ok, Err, Result, refl, sym, ap, ap₂, ◌∙◌, subst}
+use Rattle.text_phrases.specs.Limits.{unlimited, Cause, syntax, too_deep, too_long, too_large}
 use Rattle.text_phrases.specs.Phrase.{Phrase}
-use Rattle.text_phrases.specs.Text.{IsText}
-use Rattle.text_phrases.proofs.Eased.{Eases, eased, keeps_eased, maybe_eased, one_fault, no_fault}
+use Rattle.text_phrases.proofs.Eased.{Eases, keeps_eased, maybe_eased, one_fault, no_fault}
 use Rattle.text_lexer.specs.declared.place.Place.{Place}
 use Rattle.text_lexer.specs.declared.token.Token.{Token}
 use Rattle.text_expressions.specs.Values.{name}
@@ -12,10 +11,9 @@ use Rattle.exo_reader.specs.Strings.{line_tokens_of, line_places_of}
 use Rattle.exo_reader.specs.declared.unit.ReadKind.{ReadKind}
 use Rattle.exo_reader.specs.declared.unit.ReadKind.TheVariants as kind
 use Rattle.exo_reader.specs.declared.unit.ReadError.{ReadError}
-use Rattle.cursor_patterns.specs.Patterns as p
-use Rattle.schedule_patterns.specs.Numbers.{form_in, number_of}
-use Rattle.schedule_patterns.specs.Grammar.{NameOrAny, name_or_any, Behind, inner, allocated, called, field, changed, cell, BehindFits, behind_name, Written, skip, branch, loop, named, statement, meant, After, indexed, added, subtracted, multiplied, AfterFits, after_name, expression, form_meant}
-use Rattle.schedule_patterns.specs.Texts.{MeansWhole, IsPattern, IsPatternFault, in_form, in_number, PatternsAreOne}
+use Rattle.schedule_patterns.specs.Numbers.{form_in}
+use Rattle.schedule_patterns.specs.Grammar.{NameOrAny, name_or_any, inner, allocated, called, field, changed, cell, behind_name, skip, branch, loop, named, statement, meant, indexed, added, subtracted, multiplied, after_name, expression, form_meant}
+use Rattle.schedule_patterns.specs.Texts.{IsPattern, IsPatternFault, in_form, in_number, PatternsAreOne}
 
 -- ---- what keeps limits keeps fewer of them
 

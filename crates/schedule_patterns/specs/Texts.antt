@@ -1,5 +1,5 @@
 -- Texts of patterns: what each means, or where and why it is none.
-use Rattle.std.specs.Prelude.{◌≡◌, ℕ, List, Result, Ok, Err, MatchResult, Option, Some, None}
+use Rattle.std.specs.Prelude.{◌≡◌, ℕ, List, Result, Ok, Err, MatchResult}
 use Rattle.text_phrases.specs.Phrase.{Phrase, Taken}
 use Rattle.text_phrases.specs.Text.{IsText, Faults}
 use Rattle.text_phrases.specs.Answers.{Refuses}
@@ -46,14 +46,14 @@ ReadsForm kind meaning text value result =
     MatchResult result (λ x. MeansWhole kind meaning (line_tokens_of text) (value x))
     (λ e. UnlessMemory e.kind (IsFault kind (line_tokens_of text) (line_places_of text) e))
 
--- A text is a form and its number. The places of the form's tokens end with that of the `#`, or
--- of the text's end.
+-- a text is a form, and its number if it has one
 pub record IsPattern {T P : Type 0} (kind : Phrase Token T) (meaning : T → P)
     (text : List ℕ) (value : P) (nth : ℕ) : Type 0 where
   pub form : MeansWhole kind meaning (line_tokens_of (form_in text)) value
   pub number : number_of text ≡ Ok nth
 
--- where and why a text is no form, or has one and no number
+-- Where and why a text has no form, or has one and no number. Behind the places of a form's tokens
+-- stands that of the `#`, or of the text's end.
 pub data IsPatternFault {T : Type 0} (kind : Phrase Token T) (text : List ℕ) (e : ReadError)
     : Type 0 where
   in_form :

@@ -1,5 +1,5 @@
 -- What the code keeps of the tokens behind the first name of a pattern.
-use Rattle.std.specs.Prelude.{ℕ, List, Option, Some, None, Bool, true, false}
+use Rattle.std.specs.Prelude.{Option, Some, None, Bool, true, false}
 use Rattle.cursor_patterns.specs.Patterns as p
 use Rattle.schedule_patterns.specs.Grammar.{NameOrAny, Behind, inner, allocated, called, field, changed, cell}
 use Rattle.schedule_patterns.specs.declared.statement.Told.{Told}

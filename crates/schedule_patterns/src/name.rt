@@ -32,8 +32,9 @@ fn read_found(alloc: Global, found: &Text, width: usize, text: &[u8]) -> Result<
     }
 }
 
-/// The name that a text of at most 2^20 bytes is, of at most 63 bytes and with no blank. Else `BadByte` or `Syntax` says
-/// that no name stands first or that something stands behind one, and `TooLong` that the name is longer.
+/// The name that a text of at most 2^20 bytes is, of at most 63 bytes and with no blank. Else
+/// `BadByte` or `Syntax` says that no name stands first or that something stands behind one, and
+/// `TooLong` that the name is longer.
 pub fn read_name(alloc: Global, bytes: &[u8]) -> Result<Name, ReadError>
     requires { length bytes.now ≤ 0x100000 }
     ensures { ReadsName bytes.now result }

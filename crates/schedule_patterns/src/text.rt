@@ -49,9 +49,10 @@ fn read_expression_form(alloc: Global, text: &[u8]) -> Result<ExprForm, ReadErro
     }
 }
 
-/// The pattern of statements that a text of at most 2^20 bytes is, on one line, with the number behind its `#` or 0.
-/// Else where and why no pattern begins so: `BadByte` at a byte that no text has, `TooLong` at a name of more than 63
-/// bytes, `LiteralTooLarge` at a `#` with a number from 2^31 on, and `Syntax` at any other token.
+/// The pattern of statements that a text of at most 2^20 bytes is, on one line, with the number
+/// behind its `#`, or 0. Else where and why no pattern begins so: `BadByte` at a byte that no text
+/// has, `TooLong` at a name of more than 63 bytes, `LiteralTooLarge` at a `#` with a number from
+/// 2^31 on, and `Syntax` at any other token, at a `#` with no number or no blank, and at the end.
 pub fn read_pattern(alloc: Global, bytes: &[u8]) -> Result<(Pattern, u32), ReadError>
     requires { length bytes.now ≤ 0x100000 }
     ensures { ReadsPattern statement meant bytes.now (λ x. plain_pattern x.0) (λ x. x.1) result }
@@ -61,8 +62,8 @@ pub fn read_pattern(alloc: Global, bytes: &[u8]) -> Result<(Pattern, u32), ReadE
     Ok((pattern, nth))
 }
 
-/// The pattern of expressions that a text of at most 2^20 bytes is, on one line. Else where and why no pattern begins so,
-/// by the same kinds as for a pattern of statements.
+/// The pattern of expressions that a text of at most 2^20 bytes is, on one line. Else where and why
+/// no pattern begins so, by the same kinds as for a pattern of statements.
 pub fn read_expr_pattern(alloc: Global, bytes: &[u8]) -> Result<ExprPattern, ReadError>
     requires { length bytes.now ≤ 0x100000 }
     ensures { ReadsPattern expression form_meant bytes.now (λ x. plain_form x.form) (λ x. x.nth) result }

@@ -1,4 +1,3 @@
-use Rattle.std.proofs.Common.{None, Some}
 use Rattle.text_phrases.proofs.Joints.{now_by}
 use Rattle.schedule_patterns.proofs.Meanings.{exit_as, reads_later_by}
 use Rattle.schedule_patterns.proofs.Expressions.{name_after}
