@@ -1,0 +1,4 @@
+pub mod Homes
+pub mod Faults
+pub mod Uses
+pub mod Scope
