@@ -56,13 +56,22 @@ fn mark_called_by(s: &Stmt, marks: &mut Marks)
     }
 }
 
-/// Marks what a procedure calls, where it is marked itself and passes.
+/// Whether calls are followed from a procedure: it is marked and passes.
+fn is_followed(p: &Proc, at: usize, through: Through, marks: &Marks) -> bool
+    ensures { result ≡ (contains marks.now at && passed through (procedure p.now)) }
+{
+    marks.has(at) && through.passes(p)
+}
+
+/// Marks what a procedure calls, where its calls are followed.
+#[tactic(auto, using(crate::proofs::Sets::marked_off, crate::proofs::Sets::marked_on))]
 fn mark_called_from(p: &Proc, at: usize, through: Through, marks: &mut Marks)
     ensures { Marked (λ k. (contains marks.old at && passed through (procedure p.now)) && calls k (procedure p.now).body) marks.old marks.new }
 {
-    if marks.has(at) && through.passes(p) {
-        mark_called(&p.body, marks);
+    if !is_followed(p, at, through, marks) {
+        return;
     }
+    mark_called(&p.body, marks);
 }
 
 /// Marks what the marked procedures of a unit call, directly or through others, where a call is followed through

@@ -1,7 +1,7 @@
 -- The first fault of two, and of lists.
-use Rattle.std.proofs.Common.{◌≡◌, ◌≤◌, ◌<◌, ℕ, zero, suc, ◌+◌, Bool, true, false, ◌&&◌, not, min, List, [], ◌∷◌, length, drop, get_or, Option, Some, None, Result, Ok, Err, Unit, refl, sym, ap, ◌∙◌, arith, drop-cons}
+use Rattle.std.proofs.Common.{◌≡◌, ◌≤◌, ◌<◌, ℕ, zero, suc, ◌+◌, Bool, true, false, ◌&&◌, not, min, List, [], ◌∷◌, length, drop, get_or, Option, Some, None, Result, Ok, Err, refl, sym, ap, ◌∙◌, arith, drop-cons}
 use Rattle.std.specs.Prelude.{map}
-use Rattle.std.specs.Result.{result_err}
+use Rattle.std.specs.Result.{result_err, IsErrAnd}
 use Rattle.exo_tree.specs.Tree.{Control, Param, Argument, MemoryKind, Procedure, Statement, Block, end, next, block}
 use Rattle.memory_kinds.specs.declared.error.KindError.{KindError}
 use Rattle.memory_kinds.specs.Homes.{Homes, homes_after, memory_of_kind}
@@ -14,6 +14,11 @@ stopped f g e h = ap (λ x. or_first x g) h
 -- the first holds
 pub went_on : (r f g : Option KindError) → None ≡ f → r ≡ g → r ≡ or_first f g
 went_on r f g h i = i ∙ ap (λ x. or_first x g) h
+
+-- by an early return
+pub left : {X : Type 0} (result : Result X KindError) (e : KindError) (whole : Option KindError) → IsErrAnd result (λ r. r ≡ e) → Some e ≡ whole → result_err result ≡ whole
+left (Ok x) e whole is h = absurd is
+left (Err r) e whole is h = ap Some is ∙ h
 
 pub drop_read : {X : Type 0} (xs : List X) (k : ℕ) (x : X) → x ≡ get_or xs k x → k < length xs → drop k xs ≡ x ∷ drop (k + 1) xs
 drop_read xs k x r h = let e : suc k ≡ k + 1 = omega arith in drop-cons xs k x h ∙ ap (λ y. y ∷ drop (suc k) xs) (sym r) ∙ ap (λ n. x ∷ drop n xs) e

@@ -1,2 +1,3 @@
 pub mod Firsts
 pub mod Lookups
+mod Examples

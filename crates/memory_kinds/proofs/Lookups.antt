@@ -4,14 +4,14 @@ use Rattle.exo_meaning.specs.Scene.{updated}
 use Rattle.exo_tree.specs.Tree.{Param, Statement, Assign, Reduce, Config, Pass, If, For, Alloc, View, Call, Block, end, next, block, Procedure, MemoryKind}
 use Rattle.memory_kinds.specs.declared.error.KindError.{KindError}
 use Rattle.memory_kinds.specs.declared.scope.Found.{Found}
-use Rattle.memory_kinds.specs.Homes.{Homes, memory_of_kind, with_param, with_params, homes_after, homes_past, binds}
+use Rattle.memory_kinds.specs.Homes.{Homes, memory_of_kind, with_memory, with_param, with_params, homes_after, homes_past, binds}
 use Rattle.memory_kinds.specs.Faults.{or_first, block_fault, step_fault}
 use Rattle.memory_kinds.specs.Scope.{found_in}
 use Rattle.memory_kinds.proofs.Firsts.{went_on, stopped}
 
 -- ---- parameters: what is said of a name depends on that name alone
 
-with_one : (m : Option ℕ) (id : ℕ) (h g : Homes) (x : ℕ) → h x ≡ g x → (elim m [ None ↦ h | Some k ↦ updated h id k ]) x ≡ (elim m [ None ↦ g | Some k ↦ updated g id k ]) x
+with_one : (m : Option ℕ) (id : ℕ) (h g : Homes) (x : ℕ) → h x ≡ g x → with_memory h id m x ≡ with_memory g id m x
 with_one None id h g x e = e
 with_one (Some k) id h g x e = ap (λ v. if x == id then k else v) e
 
@@ -48,11 +48,24 @@ take_one (s ∷ ss) rest (suc k) a d = ap (λ z. s ∷ z) (take_one ss rest k a 
 pub past_more : (home : Homes) (ss rest : List Statement) (k : ℕ) (a : Statement) → drop k ss ≡ a ∷ rest → homes_past home (take (k + 1) ss) ≡ homes_after (homes_past home (take k ss)) a
 past_more home ss rest k a d = let one : k + 1 ≡ suc k = omega arith in ap (λ n. homes_past home (take n ss)) one ∙ ap (homes_past home) (take_one ss rest k a d) ∙ past_one home (take k ss) a
 
-pub take_min : (n : ℕ) (ss : List Statement) → take (min n (length ss)) ss ≡ take n ss
-take_min zero [] = refl
-take_min zero (s ∷ ss) = refl
-take_min (suc n) [] = refl
-take_min (suc n) (s ∷ ss) = ap (λ z. s ∷ z) (take_min n ss)
+take_min : (n : ℕ) (ss : List Statement) → take (min n (length ss)) ss ≡ take n ss
+take_min zero ss = let e : min zero (length ss) ≡ zero = omega arith in ap (λ k. take k ss) e
+take_min (suc n) [] = let e : min (suc n) 0 ≡ zero = omega arith in ap (λ k. take {A = Statement} k []) e
+take_min (suc n) (s ∷ ss) = let e : min (suc n) (suc (length ss)) ≡ suc (min n (length ss)) = omega arith in ap (λ k. take k (s ∷ ss)) e ∙ ap (λ z. s ∷ z) (take_min n ss)
+
+-- before the first of them is looked at
+pub begun : (home : Homes) (ss : List Statement) (upto count x : ℕ) → count ≡ min upto (length ss) → homes_past home (take (count - 0) ss) x ≡ homes_past home (take upto ss) x
+begun home ss upto count x e = let all : count - 0 ≡ min upto (length ss) = omega (arith, e) in ap (λ n. homes_past home (take n ss) x) all ∙ ap (λ z. homes_past home z x) (take_min upto ss)
+
+take_none : (ss : List Statement) → take 0 ss ≡ []
+take_none [] = refl
+take_none (s ∷ ss) = refl
+
+-- none is left
+pub ended : (home : Homes) (ss : List Statement) (count k x whole : ℕ) → count ≤ k → homes_past home (take (count - k) ss) x ≡ whole → whole ≡ home x
+ended home ss count k x whole h w =
+    let none : 0 ≡ count - k = omega (arith, h) in
+    sym w ∙ ap (λ n. homes_past home (take n ss) x) (sym none) ∙ ap (λ z. homes_past home z x) (take_none ss)
 
 -- what the last statement of those that are left says
 pub last_says : (home : Homes) (ss : List Statement) (count k : ℕ) (a : Statement) (x : ℕ) (found : Found) (whole : ℕ) → k < count → drop (count - 1 - k) ss ≡ a ∷ drop (count - 1 - k + 1) ss → homes_after (homes_past home (take (count - 1 - k) ss)) a x ≡ found_in (homes_past home (take (count - 1 - k) ss)) found → homes_past home (take (count - k) ss) x ≡ whole → found_in (homes_past home (take (count - (k + 1)) ss)) found ≡ whole
@@ -69,21 +82,18 @@ last_says home ss count k a x found whole h d s w =
 -- ---- blocks
 
 module _ (procedures : List Procedure) (memories : List MemoryKind) where
-  fault : Homes → Block → Option KindError
-  fault = block_fault procedures memories
-
   -- one statement more, where the names are those of the statements up to the last that binds one
   pub walked_on : (home : Homes) (ss rest : List Statement) (k bound after : ℕ) (a : Statement) (whole : Option KindError) → drop k ss ≡ a ∷ rest → None ≡ step_fault procedures memories (homes_past home (take bound ss)) a → homes_past home (take k ss) ≡ homes_past home (take bound ss) → homes_past home (take (k + 1) ss) ≡ homes_past home (take after ss) → block_fault procedures memories (homes_past home (take bound ss)) (block (drop k ss)) ≡ whole → block_fault procedures memories (homes_past home (take after ss)) (block rest) ≡ whole
-  walked_on home ss rest k bound after a whole d h same next w =
-      ap (λ f. fault f (block rest)) (sym next ∙ past_more home ss rest k a d ∙ ap (λ f. homes_after f a) same)
-      ∙ went_on _ (step_fault procedures memories (homes_past home (take bound ss)) a) (fault (homes_after (homes_past home (take bound ss)) a) (block rest)) h refl
-      ∙ ap (λ z. fault (homes_past home (take bound ss)) (block z)) (sym d)
+  walked_on home ss rest k bound after a whole d h same ahead w =
+      ap (λ f. block_fault procedures memories f (block rest)) (sym ahead ∙ past_more home ss rest k a d ∙ ap (λ f. homes_after f a) same)
+      ∙ went_on _ (step_fault procedures memories (homes_past home (take bound ss)) a) (block_fault procedures memories (homes_after (homes_past home (take bound ss)) a) (block rest)) h refl
+      ∙ ap (λ z. block_fault procedures memories (homes_past home (take bound ss)) (block z)) (sym d)
       ∙ w
 
   pub walked_off : (home : Homes) (ss rest : List Statement) (k bound : ℕ) (a : Statement) (whole : Option KindError) (e : KindError) → drop k ss ≡ a ∷ rest → Some e ≡ step_fault procedures memories (homes_past home (take bound ss)) a → block_fault procedures memories (homes_past home (take bound ss)) (block (drop k ss)) ≡ whole → Some e ≡ whole
   walked_off home ss rest k bound a whole e d h w =
-      stopped (step_fault procedures memories (homes_past home (take bound ss)) a) (fault (homes_after (homes_past home (take bound ss)) a) (block rest)) e h
-      ∙ ap (λ z. fault (homes_past home (take bound ss)) (block z)) (sym d)
+      stopped (step_fault procedures memories (homes_past home (take bound ss)) a) (block_fault procedures memories (homes_after (homes_past home (take bound ss)) a) (block rest)) e h
+      ∙ ap (λ z. block_fault procedures memories (homes_past home (take bound ss)) (block z)) (sym d)
       ∙ w
 
 -- a statement that binds no name changes no memory

@@ -12,8 +12,12 @@ memory_of_kind (ControlParam kind) = None
 memory_of_kind (TensorParam cell dims memory) = Some memory
 memory_of_kind (WindowParam cell dims memory) = Some memory
 
+abbrev pub with_memory : Homes → ℕ → Option ℕ → Homes
+with_memory home x None = home
+with_memory home x (Some memory) = updated home x memory
+
 abbrev pub with_param : Homes → Param → Homes
-with_param home p = elim (memory_of_kind p.kind) [ None ↦ home | Some memory ↦ updated home p.binder.id memory ]
+with_param home p = with_memory home p.binder.id (memory_of_kind p.kind)
 
 abbrev pub with_params : Homes → List Param → Homes
 with_params home [] = home

@@ -4,4 +4,4 @@ use Rattle.memory_kinds.specs.Homes.{Homes, homes_past}
 use Rattle.memory_kinds.proofs.scope.found_in_block.Given as goal
 
 abbrev pub invariant-loop-k : goal.invariant-loop-k
-invariant-loop-k l = (home : Homes) → homes_past home (take (l.count - l.k) l.b) l.name.0 ≡ homes_past home (take l.upto l.b) l.x.0
+invariant-loop-k l = (home : Homes) → homes_past home (take (l.count - l.k) l.b) l.name.0 ≡ homes_past home (take l.upto l.b) l.fn.x.0
