@@ -5,13 +5,13 @@ use Rattle.exo_calls.specs.Closed.{closed}
 use Rattle.exo_calls.specs.Passed.{is_function}
 use Rattle.exo_calls.specs.Tabled.{tabled}
 
-calling : Block → Option (List ℕ) → Procedure
+abbrev calling : Block → Option (List ℕ) → Procedure
 calling body template = record { name = []; params = []; asserts = []; body = body; template = template }
 
-three : List Procedure
+abbrev three : List Procedure
 three = calling end None ∷ calling (next (Call 0 []) end) None ∷ calling (next (Call 1 []) end) (Some []) ∷ []
 
-last : ℕ → Bool
+abbrev last : ℕ → Bool
 last j = j == 2
 
 first_is_reached : closed (λ p. true) last 0 three 0 ≡ true

@@ -4,35 +4,35 @@ use Rattle.exo_tree.specs.Tree.{I8, I32, Cell, Control, Lit, Const, Coord, Span,
 use Rattle.memory_kinds.specs.declared.error.KindError.TheVariants.{NotWritable, MemoryMismatch, PrecisionMismatch, LaneMismatch}
 use Rattle.memory_kinds.specs.Faults.{fault_of}
 
-plain : MemoryKind
+abbrev plain : MemoryKind
 plain = record { name = []; ctype = []; lanes = 0; cell = None; stack = false; read = true; write = true; reduce = true; header = [] }
 
-vectors : MemoryKind
+abbrev vectors : MemoryKind
 vectors = record { name = []; ctype = []; lanes = 8; cell = Some I32; stack = true; read = false; write = false; reduce = false; header = [] }
 
-eight : List Control
+abbrev eight : List Control
 eight = Lit (pos 8) ∷ []
 
-window : ℕ → ℕ → Param
+abbrev window : ℕ → ℕ → Param
 window x memory = record { binder = record { id = x; name = [] }; kind = WindowParam I32 eight memory }
 
-load : Procedure
+abbrev load : Procedure
 load = record { name = []; params = window 0 1 ∷ window 1 0 ∷ []; asserts = []; body = block []; template = Some [] }
 
-store : Procedure
+abbrev store : Procedure
 store = record { name = []; params = window 0 0 ∷ window 1 1 ∷ []; asserts = []; body = block []; template = Some [] }
 
-tensor : ℕ → Param
+abbrev tensor : ℕ → Param
 tensor x = record { binder = record { id = x; name = [] }; kind = TensorParam I32 eight 0 }
 
 -- a procedure of two tensors of eight cells, as the third of the unit
-with_body : List Statement → Program
+abbrev with_body : List Statement → Program
 with_body ss = record { procedures = load ∷ store ∷ record { name = []; params = tensor 0 ∷ tensor 1 ∷ []; asserts = []; body = block ss; template = None } ∷ []; fields = []; memories = plain ∷ vectors ∷ [] }
 
-made : Cell → List Control → Statement
+abbrev made : Cell → List Control → Statement
 made cell dims = Alloc (record { id = 2; name = [] }) cell dims 1
 
-part : ℕ → Argument
+abbrev part : ℕ → Argument
 part x = Window x (Span (Lit (pos 0)) (Lit (pos 8)) ∷ [])
 
 copies : fault_of (with_body (made I32 eight ∷ Call 0 (part 2 ∷ part 0 ∷ []) ∷ Call 1 (Whole 1 ∷ Whole 2 ∷ []) ∷ [])) 2 ≡ None
