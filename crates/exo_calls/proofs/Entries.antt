@@ -1,7 +1,7 @@
 -- Tables made item by item.
 use Rattle.std.proofs.Common.{◌≡◌, ◌<◌, ◌≤◌, ℕ, zero, suc, ◌+◌, List, [], ◌∷◌, ◌++◌, length, take, Some, None, refl, sym, ap, ◌∙◌, subst, arith}
 use Rattle.std.specs.Prelude.{slice_get}
-use Rattle.std.proofs.lemmas.List.{take-take, take_at}
+use Rattle.std.proofs.lemmas.List.{take-take, take_at, take_all}
 use Rattle.exo_calls.specs.Tabled.{tabled}
 
 one_longer : {B : Type 0} (above : List B) (b : B) → length (above ++ b ∷ []) ≡ suc (length above)
@@ -28,7 +28,7 @@ get_taken (b ∷ t) (suc n) (suc k) h = get_taken t n k (omega (arith, h))
 module _ {A B : Type 0} (f : List B → A → B) where
   -- what was there stays
   stays : (above : List B) (items : List A) → take (length above) (tabled f above items) ≡ above
-  stays above [] = take_at above [] (length above) refl
+  stays above [] = take_all (length above) above (omega arith)
   stays above (a ∷ rest) =
       let more = above ++ f above a ∷ [] in
       let table = tabled f more rest in

@@ -14,8 +14,12 @@ either_right false b h = h
 
 -- the first, where the second is out of the question
 only_left : (a b : Bool) → (b ≡ true → ⊥) → (a || b) ≡ true → a ≡ true
-only_left true b no h = refl
-only_left false b no h = absurd (no h)
+only_left true b out h = refl
+only_left false b out h = absurd (out h)
+
+by_either : {A : Type 0} (a b : Bool) → (a || b) ≡ true → (a ≡ true → A) → (b ≡ true → A) → A
+by_either true b h f g = f refl
+by_either false b h f g = g h
 
 second : (a b : Bool) → (a && b) ≡ true → b ≡ true
 second true b h = h
@@ -61,19 +65,13 @@ module _ (through : Procedure → Bool) (seeds : ℕ → Bool) where
   module _ (set : ℕ → Bool) (has : (j : ℕ) → seeds j ≡ true → set j ≡ true) where
     in_each : (o : ℕ) (ps : List Procedure) → ((k j : ℕ) (p : Procedure) → slice_get ps k ≡ Some p → set (o + k) ≡ true → through p ≡ true → calls j p.body ≡ true → set j ≡ true) → (j : ℕ) → closed through seeds o ps j ≡ true → set j ≡ true
     in_each o [] shut j h = has j h
-    in_each o (q ∷ ps) shut j h = go (closed through seeds (suc o) ps j) refl
-      where
-        rest : ℕ → Bool
-        rest = closed through seeds (suc o) ps
-        later : (k l : ℕ) (p : Procedure) → slice_get ps k ≡ Some p → set (suc o + k) ≡ true → through p ≡ true → calls l p.body ≡ true → set l ≡ true
-        later k l p e s t c = (let there : o + suc k ≡ suc o + k = omega arith in shut (suc k) l p e (ap set there ∙ s) t c)
-        go : (t : Bool) → rest j ≡ t → set j ≡ true
-        go true e = in_each (suc o) ps later j e
-        go false e =
-            let called : ((rest o && through q) && calls j q.body) ≡ true = ap (λ t. t || ((rest o && through q) && calls j q.body)) (sym e) ∙ h in
+    in_each o (q ∷ ps) shut j h =
+        let rest = closed through seeds (suc o) ps in
+        let here : o + zero ≡ o = omega arith in
+        let later : (k l : ℕ) (p : Procedure) → slice_get ps k ≡ Some p → set (suc o + k) ≡ true → through p ≡ true → calls l p.body ≡ true → set l ≡ true = λ k l p e s t c. (let there : o + suc k ≡ suc o + k = omega arith in shut (suc k) l p e (ap set there ∙ s) t c) in
+        by_either (rest j) ((rest o && through q) && calls j q.body) h (λ e. in_each (suc o) ps later j e) (λ called.
             let both : (rest o && through q) ≡ true = first (rest o && through q) (calls j q.body) called in
-            let here : o + zero ≡ o = omega arith in
-            shut zero j q refl (ap set here ∙ in_each (suc o) ps later o (first (rest o) (through q) both)) (second (rest o) (through q) both) (second (rest o && through q) (calls j q.body) called)
+            shut zero j q refl (ap set here ∙ in_each (suc o) ps later o (first (rest o) (through q) both)) (second (rest o) (through q) both) (second (rest o && through q) (calls j q.body) called))
 
 pub seeds_are_closed : SeedsAreClosed
 seeds_are_closed through seeds ps j h = from_seeds through seeds zero ps j h

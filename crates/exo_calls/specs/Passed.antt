@@ -1,8 +1,8 @@
 -- Through which procedures calls are followed, as the program tells it.
 use Rattle.std.specs.Prelude.{Bool, true, false, Some, None}
 use Rattle.exo_tree.specs.Tree.{Procedure}
-use Rattle.exo_calls.specs.declared.close.Through.{Through}
-use Rattle.exo_calls.specs.declared.close.Through.TheVariants.{All, Functions}
+use Rattle.exo_calls.specs.declared.closure.Through.{Through}
+use Rattle.exo_calls.specs.declared.closure.Through.TheVariants.{All, Functions}
 
 -- a procedure without a template is printed as a function
 abbrev pub is_function : Procedure → Bool

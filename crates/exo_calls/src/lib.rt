@@ -1,9 +1,9 @@
 //! Who calls whom: the procedures that a set of them calls, directly or through others.
 #![tactic(auto)]
 
-mod close;
+mod closure;
 pub mod laws;
 mod marks;
 
-pub use close::{Through, close};
+pub use closure::{Through, close};
 pub use marks::Marks;

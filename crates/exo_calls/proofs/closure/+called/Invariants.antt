@@ -2,7 +2,7 @@ use Rattle.std.proofs.Common.{drop}
 use Rattle.exo_tree.specs.Tree.{block}
 use Rattle.exo_tree.specs.Calls.{calls}
 use Rattle.exo_calls.specs.Marked.{Marked}
-use Rattle.exo_calls.proofs.close.+called.Given as goal
+use Rattle.exo_calls.proofs.closure.+called.Given as goal
 
 abbrev pub decreases-mark_called : goal.decreases-mark_called
 decreases-mark_called l = goal.size-mark_called l

@@ -4,7 +4,7 @@ use Rattle.exo_tree.specs.PlainProcedure.{procedure}
 use Rattle.exo_calls.specs.Marked.{Reached}
 use Rattle.exo_calls.specs.Passed.{passed}
 use Rattle.exo_calls.proofs.Sets.{start_behind, reached_before, reached_end}
-use Rattle.exo_calls.proofs.close.close.Goals as goal
+use Rattle.exo_calls.proofs.closure.close.Goals as goal
 
 pub loop-k-init : goal.loop-k-init
 loop-k-init c = start_behind procedure (passed c.args.through) c.as_slice-procs.result.now c.args.marks.now
