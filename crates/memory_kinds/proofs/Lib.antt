@@ -1,3 +1,4 @@
 pub mod Firsts
 pub mod Lookups
+pub mod Remembered
 mod Examples

@@ -2,3 +2,4 @@ pub mod Homes
 pub mod Faults
 pub mod Uses
 pub mod Scope
+pub mod Recent

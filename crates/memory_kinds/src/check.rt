@@ -1,5 +1,5 @@
 //! The memory check of a procedure.
-ghost use Rattle.std.specs.Prelude.{◌≡◌, map};
+ghost use Rattle.std.specs.Prelude.{◌≡◌, map, OnOk};
 ghost use Rattle.std.specs.Result.{result_err};
 ghost use Rattle.exo_tree.specs.Tree.{block};
 ghost use Rattle.exo_tree.specs.PlainDatum.{datum};
@@ -10,11 +10,13 @@ ghost use Rattle.exo_tree.specs.PlainUnit.{program};
 ghost use Rattle.memory_kinds.specs.Faults.{in_memory, reads_fault, given_fault, argument_fault, arguments_fault, call_fault, block_fault, step_fault, kind_fault, params_fault, alloc_fault, fault_of};
 ghost use Rattle.memory_kinds.specs.Uses.{use_fault};
 ghost use Rattle.memory_kinds.specs.Scope.{homes_in};
+ghost use Rattle.memory_kinds.specs.Recent.{AreTrue};
 ghost use Rattle.exo_tree.specs.PlainBinder.{cell_type};
 
 use crate::class::{Use, check_alloc, check_param, check_use, check_window, refuse};
 use crate::error::KindError;
-use crate::scope::{Scope, bound_after, home, memory_of};
+use crate::recent::Recent;
+use crate::scope::{Scope, bound_after, memory_of, recall, remember};
 use exo_tree::{Arg, Args, Block, Cell, DataExpr, Id, Indices, MemId, Memories, Param, ProcId, Procs, Stmt, Unit};
 
 /// The tables of a unit.
@@ -25,41 +27,45 @@ struct Tables<'a> {
 }
 
 /// Something is done to the buffer of a name.
-fn check_name(memories: &Memories, scope: &Scope, x: Id, what: Use) -> Result<(), KindError>
-    ensures { result_err result ≡ in_memory memories.now (homes_in scope.now x.0) (use_fault what) }
+fn check_name(memories: &Memories, scope: &Scope, recent: &mut Recent, x: Id, what: Use) -> Result<(), KindError>
+    requires { AreTrue recent.old (homes_in scope.now) }
+    ensures value { result_err result ≡ in_memory memories.now (homes_in scope.now x.0) (use_fault what) }
+    ensures kept { OnOk result (AreTrue recent.new (homes_in scope.now)) }
 {
-    match memories.get(home(scope, x).0 as usize) {
+    match memories.get(recall(scope, recent, x).0 as usize) {
         Some(m) => check_use(m, what),
         None => Ok(()),
     }
 }
 
 /// The reads of an expression, from left to right.
-fn check_reads(memories: &Memories, scope: &Scope, e: &DataExpr) -> Result<(), KindError>
-    ensures { result_err result ≡ reads_fault memories.now (homes_in scope.now) (datum e.now) }
+fn check_reads(memories: &Memories, scope: &Scope, recent: &mut Recent, e: &DataExpr) -> Result<(), KindError>
+    requires { AreTrue recent.old (homes_in scope.now) }
+    ensures value { result_err result ≡ reads_fault memories.now (homes_in scope.now) (datum e.now) }
+    ensures kept { OnOk result (AreTrue recent.new (homes_in scope.now)) }
 {
     match e {
         DataExpr::Lit(_) => Ok(()),
-        DataExpr::Read(x, _) => check_name(memories, scope, *x, Use::Reading),
-        DataExpr::Neg(a) => check_reads(memories, scope, a),
-        DataExpr::Relu(a) => check_reads(memories, scope, a),
+        DataExpr::Read(x, _) => check_name(memories, scope, recent, *x, Use::Reading),
+        DataExpr::Neg(a) => check_reads(memories, scope, recent, a),
+        DataExpr::Relu(a) => check_reads(memories, scope, recent, a),
         DataExpr::Add(a, b) => {
-            check_reads(memories, scope, a)?;
-            check_reads(memories, scope, b)
+            check_reads(memories, scope, recent, a)?;
+            check_reads(memories, scope, recent, b)
         }
         DataExpr::Sub(a, b) => {
-            check_reads(memories, scope, a)?;
-            check_reads(memories, scope, b)
+            check_reads(memories, scope, recent, a)?;
+            check_reads(memories, scope, recent, b)
         }
         DataExpr::Mul(a, b) => {
-            check_reads(memories, scope, a)?;
-            check_reads(memories, scope, b)
+            check_reads(memories, scope, recent, a)?;
+            check_reads(memories, scope, recent, b)
         }
         DataExpr::Select(a, b, c, d) => {
-            check_reads(memories, scope, a)?;
-            check_reads(memories, scope, b)?;
-            check_reads(memories, scope, c)?;
-            check_reads(memories, scope, d)
+            check_reads(memories, scope, recent, a)?;
+            check_reads(memories, scope, recent, b)?;
+            check_reads(memories, scope, recent, c)?;
+            check_reads(memories, scope, recent, d)
         }
     }
 }
@@ -75,15 +81,17 @@ fn check_made(memories: &Memories, cell: Cell, dims: &Indices, m: MemId) -> Resu
 }
 
 /// A parameter in that memory is given an argument.
-fn check_given(memories: &Memories, scope: &Scope, m: MemId, a: &Arg) -> Result<(), KindError>
-    ensures { result_err result ≡ given_fault memories.now (homes_in scope.now) m.0 (argument a.now) }
+fn check_given(memories: &Memories, scope: &Scope, recent: &mut Recent, m: MemId, a: &Arg) -> Result<(), KindError>
+    requires { AreTrue recent.old (homes_in scope.now) }
+    ensures value { result_err result ≡ given_fault memories.now (homes_in scope.now) m.0 (argument a.now) }
+    ensures kept { OnOk result (AreTrue recent.new (homes_in scope.now)) }
 {
     match a {
         Arg::Ctrl(_) => Ok(()),
         Arg::Cond(_) => Ok(()),
-        Arg::Whole(x) => refuse(home(scope, *x).0 != m.0, KindError::MemoryMismatch),
+        Arg::Whole(x) => refuse(recall(scope, recent, *x).0 != m.0, KindError::MemoryMismatch),
         Arg::Window(x, coords) => {
-            let held = home(scope, *x);
+            let held = recall(scope, recent, *x);
             refuse(held.0 != m.0, KindError::MemoryMismatch)?;
             match memories.get(held.0 as usize) {
                 Some(m) => check_window(m, coords),
@@ -94,11 +102,13 @@ fn check_given(memories: &Memories, scope: &Scope, m: MemId, a: &Arg) -> Result<
 }
 
 /// A parameter is given an argument.
-fn check_argument(memories: &Memories, scope: &Scope, p: &Param, a: &Arg) -> Result<(), KindError>
-    ensures { result_err result ≡ argument_fault memories.now (homes_in scope.now) (parameter p.now) (argument a.now) }
+fn check_argument(memories: &Memories, scope: &Scope, recent: &mut Recent, p: &Param, a: &Arg) -> Result<(), KindError>
+    requires { AreTrue recent.old (homes_in scope.now) }
+    ensures value { result_err result ≡ argument_fault memories.now (homes_in scope.now) (parameter p.now) (argument a.now) }
+    ensures kept { OnOk result (AreTrue recent.new (homes_in scope.now)) }
 {
     match memory_of(p) {
-        Some(m) => check_given(memories, scope, m, a),
+        Some(m) => check_given(memories, scope, recent, m, a),
         None => Ok(()),
     }
 }
@@ -106,26 +116,31 @@ fn check_argument(memories: &Memories, scope: &Scope, p: &Param, a: &Arg) -> Res
 /// Parameters are given their arguments.
 fn check_arguments(
     memories: &Memories,
-    scope: &Scope,
+    scope: &Scope, recent: &mut Recent,
     params: &[Param],
     args: &[Arg],
 ) -> Result<(), KindError>
-    ensures { result_err result ≡ arguments_fault memories.now (homes_in scope.now) (map parameter params.now) (map argument args.now) }
+    requires { AreTrue recent.old (homes_in scope.now) }
+    ensures value { result_err result ≡ arguments_fault memories.now (homes_in scope.now) (map parameter params.now) (map argument args.now) }
+    ensures kept { OnOk result (AreTrue recent.new (homes_in scope.now)) }
 {
     for k in 0..params.len().min(args.len()) {
-        check_argument(memories, scope, &params[k], &args[k])?;
+        check_argument(memories, scope, recent, &params[k], &args[k])?;
     }
     Ok(())
 }
 
 /// A procedure is called.
-fn check_call(tables: &Tables, scope: &Scope, k: ProcId, args: &Args) -> Result<(), KindError>
-    ensures { result_err result ≡ call_fault tables.now.procs.now tables.now.memories.now (homes_in scope.now) k.0 args.now }
+fn check_call(tables: &Tables, scope: &Scope, recent: &mut Recent, k: ProcId, args: &Args) -> Result<(), KindError>
+    requires { AreTrue recent.old (homes_in scope.now) }
+    ensures value { result_err result ≡ call_fault tables.now.procs.now tables.now.memories.now (homes_in scope.now) k.0 args.now }
+    ensures kept { OnOk result (AreTrue recent.new (homes_in scope.now)) }
 {
     match tables.procs.get(k.0 as usize) {
         Some(p) => check_arguments(
             tables.memories,
             scope,
+            recent,
             p.params.as_slice(),
             args.as_slice(),
         ),
@@ -135,40 +150,54 @@ fn check_call(tables: &Tables, scope: &Scope, k: ProcId, args: &Args) -> Result<
 
 /// A statement, with all that is in it.
 #[cycle(walk)]
-fn check_statement<'a>(tables: &Tables, scope: &'a Scope<'a>, s: &'a Stmt) -> Result<(), KindError>
-    ensures { result_err result ≡ step_fault tables.now.procs.now tables.now.memories.now (homes_in scope.now) (statement s.now) }
+fn check_statement<'a>(tables: &Tables, scope: &'a Scope<'a>, recent: &mut Recent, s: &'a Stmt) -> Result<(), KindError>
+    requires { AreTrue recent.old (homes_in scope.now) }
+    ensures value { result_err result ≡ step_fault tables.now.procs.now tables.now.memories.now (homes_in scope.now) (statement s.now) }
+    ensures kept { OnOk result (AreTrue recent.new (homes_in scope.now)) }
 {
     match s {
         Stmt::Assign(x, _, e) => {
-            check_name(tables.memories, scope, *x, Use::Writing)?;
-            check_reads(tables.memories, scope, e)
+            check_name(tables.memories, scope, recent, *x, Use::Writing)?;
+            check_reads(tables.memories, scope, recent, e)
         }
         Stmt::Reduce(x, _, e) => {
-            check_name(tables.memories, scope, *x, Use::Reducing)?;
-            check_reads(tables.memories, scope, e)
+            check_name(tables.memories, scope, recent, *x, Use::Reducing)?;
+            check_reads(tables.memories, scope, recent, e)
         }
         Stmt::If(_, a, b) => {
-            check_block(tables, scope, a)?;
-            check_block(tables, scope, b)
+            check_inner(tables, scope, recent, a)?;
+            check_inner(tables, scope, recent, b)
         }
-        Stmt::For(_, _, _, b) => check_block(tables, scope, b),
+        Stmt::For(_, _, _, b) => check_inner(tables, scope, recent, b),
         Stmt::Alloc(_, cell, dims, m) => check_made(tables.memories, *cell, dims, *m),
-        Stmt::View(_, x, _) => check_name(tables.memories, scope, *x, Use::Viewing),
-        Stmt::Call(k, args) => check_call(tables, scope, *k, args),
+        Stmt::View(_, x, _) => check_name(tables.memories, scope, recent, *x, Use::Viewing),
+        Stmt::Call(k, args) => check_call(tables, scope, recent, *k, args),
         _ => Ok(()),
     }
 }
 
+/// The statements of a block inside another; what is remembered there is forgotten behind it.
+#[cycle(walk)]
+fn check_inner<'a>(tables: &Tables, scope: &'a Scope<'a>, recent: &Recent, b: &'a Block) -> Result<(), KindError>
+    requires { AreTrue recent.now (homes_in scope.now) }
+    ensures { result_err result ≡ block_fault tables.now.procs.now tables.now.memories.now (homes_in scope.now) (block b.now) }
+{
+    let mut inner = *recent;
+    check_block(tables, scope, &mut inner, b)
+}
+
 /// The statements of a block. A name is looked for among those up to the last one that binds a name.
 #[cycle(walk)]
-fn check_block<'a>(tables: &Tables, scope: &'a Scope<'a>, b: &'a Block) -> Result<(), KindError>
-    ensures { result_err result ≡ block_fault tables.now.procs.now tables.now.memories.now (homes_in scope.now) (block b.now) }
+fn check_block<'a>(tables: &Tables, scope: &'a Scope<'a>, recent: &mut Recent, b: &'a Block) -> Result<(), KindError>
+    requires { AreTrue recent.old (homes_in scope.now) }
+    ensures value { result_err result ≡ block_fault tables.now.procs.now tables.now.memories.now (homes_in scope.now) (block b.now) }
 {
     let mut bound = 0;
     for k in 0..b.len() {
         let inside = Scope::Block(b, bound, scope);
         let s = b.statement(k);
-        check_statement(tables, &inside, s)?;
+        check_statement(tables, &inside, recent, s)?;
+        remember(&inside, recent, s);
         bound = bound_after(s, bound, k + 1);
     }
     Ok(())
@@ -211,5 +240,6 @@ pub fn check_memories(unit: &Unit, p: ProcId) -> Result<(), KindError>
         memories: &unit.memories,
     };
     check_params(tables.memories, found.params.as_slice())?;
-    check_block(&tables, &Scope::Params(&found.params), &found.body)
+    let mut recent = Recent::new();
+    check_block(&tables, &Scope::Params(&found.params), &mut recent, &found.body)
 }

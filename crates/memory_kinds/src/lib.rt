@@ -4,6 +4,7 @@
 mod check;
 mod class;
 mod error;
+mod recent;
 mod scope;
 
 pub use check::check_memories;

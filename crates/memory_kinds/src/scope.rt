@@ -4,7 +4,9 @@ ghost use Rattle.exo_tree.specs.PlainParam.{parameter};
 ghost use Rattle.exo_tree.specs.PlainStatement.{statement};
 ghost use Rattle.memory_kinds.specs.Homes.{Homes, memory_of_kind, with_param, param_homes, homes_after, homes_past, binds};
 ghost use Rattle.memory_kinds.specs.Scope.{homes_in, found_in};
+ghost use Rattle.memory_kinds.specs.Recent.{AreTrue};
 
+use crate::recent::Recent;
 use exo_tree::{Block, Id, MemId, Param, ParamKind, Params, Stmt};
 
 /// The names in scope at a place.
@@ -105,7 +107,7 @@ fn found_in_block(b: &Block, upto: usize, x: Id) -> Found
 }
 
 /// The memory that a name stands in; the first memory of the unit where it names no buffer.
-pub(crate) fn home(scope: &Scope, x: Id) -> MemId
+fn home(scope: &Scope, x: Id) -> MemId
     ensures { result.0 ≡ homes_in scope.now x.0 }
 {
     match scope {
@@ -114,5 +116,35 @@ pub(crate) fn home(scope: &Scope, x: Id) -> MemId
             Found::Memory(m) => m,
             Found::Name(y) => home(around, y),
         },
+    }
+}
+
+/// The memory that a name stands in, which is looked for only where it is not remembered.
+#[tactic(auto, using(crate::proofs::Remembered::kept_true))]
+pub(crate) fn recall(scope: &Scope, recent: &mut Recent, x: Id) -> MemId
+    requires { AreTrue recent.old (homes_in scope.now) }
+    ensures value { result.0 ≡ homes_in scope.now x.0 }
+    ensures kept { AreTrue recent.new (homes_in scope.now) }
+{
+    if let Some(m) = recent.get(x) {
+        return m;
+    }
+    let m = home(scope, x);
+    recent.put(x, m);
+    m
+}
+
+/// Remembers the memory of the name that a statement binds.
+pub(crate) fn remember(scope: &Scope, recent: &mut Recent, s: &Stmt)
+    requires { AreTrue recent.old (homes_in scope.now) }
+    ensures { AreTrue recent.new (homes_after (homes_in scope.now) (statement s.now)) }
+{
+    match s {
+        Stmt::Alloc(b, _, _, m) => recent.put(b.id, *m),
+        Stmt::View(w, x, _) => {
+            let m = recall(scope, recent, *x);
+            recent.put(w.id, m);
+        }
+        _ => {}
     }
 }
