@@ -70,8 +70,8 @@ module _ (through : Procedure → Bool) (seeds : ℕ → Bool) where
         let here : o + zero ≡ o = omega arith in
         let later : (k l : ℕ) (p : Procedure) → slice_get ps k ≡ Some p → set (suc o + k) ≡ true → through p ≡ true → calls l p.body ≡ true → set l ≡ true = λ k l p e s t c. (let there : o + suc k ≡ suc o + k = omega arith in shut (suc k) l p e (ap set there ∙ s) t c) in
         by_either (rest j) ((rest o && through q) && calls j q.body) h (λ e. in_each (suc o) ps later j e) (λ called.
-            let both : (rest o && through q) ≡ true = first (rest o && through q) (calls j q.body) called in
-            shut zero j q refl (ap set here ∙ in_each (suc o) ps later o (first (rest o) (through q) both)) (second (rest o) (through q) both) (second (rest o && through q) (calls j q.body) called))
+        let both : (rest o && through q) ≡ true = first (rest o && through q) (calls j q.body) called in
+        shut zero j q refl (ap set here ∙ in_each (suc o) ps later o (first (rest o) (through q) both)) (second (rest o) (through q) both) (second (rest o && through q) (calls j q.body) called))
 
 pub seeds_are_closed : SeedsAreClosed
 seeds_are_closed through seeds ps j h = from_seeds through seeds zero ps j h

@@ -7,7 +7,7 @@ use Rattle.memory_kinds.specs.declared.scope.Found.{Found}
 use Rattle.memory_kinds.specs.Homes.{Homes, memory_of_kind, with_memory, with_param, with_params, homes_after, homes_past, binds}
 use Rattle.memory_kinds.specs.Faults.{or_first, block_fault, step_fault}
 use Rattle.memory_kinds.specs.Scope.{found_in}
-use Rattle.memory_kinds.proofs.Firsts.{went_on, stopped}
+use Rattle.memory_kinds.proofs.Firsts.{went_on}
 
 -- ---- parameters: what is said of a name depends on that name alone
 
@@ -87,12 +87,6 @@ module _ (procedures : List Procedure) (memories : List MemoryKind) where
   walked_on home ss rest k bound after a whole d h same ahead w =
       ap (λ f. block_fault procedures memories f (block rest)) (sym ahead ∙ past_more home ss rest k a d ∙ ap (λ f. homes_after f a) same)
       ∙ went_on _ (step_fault procedures memories (homes_past home (take bound ss)) a) (block_fault procedures memories (homes_after (homes_past home (take bound ss)) a) (block rest)) h refl
-      ∙ ap (λ z. block_fault procedures memories (homes_past home (take bound ss)) (block z)) (sym d)
-      ∙ w
-
-  pub walked_off : (home : Homes) (ss rest : List Statement) (k bound : ℕ) (a : Statement) (whole : Option KindError) (e : KindError) → drop k ss ≡ a ∷ rest → Some e ≡ step_fault procedures memories (homes_past home (take bound ss)) a → block_fault procedures memories (homes_past home (take bound ss)) (block (drop k ss)) ≡ whole → Some e ≡ whole
-  walked_off home ss rest k bound a whole e d h w =
-      stopped (step_fault procedures memories (homes_past home (take bound ss)) a) (block_fault procedures memories (homes_after (homes_past home (take bound ss)) a) (block rest)) e h
       ∙ ap (λ z. block_fault procedures memories (homes_past home (take bound ss)) (block z)) (sym d)
       ∙ w
 

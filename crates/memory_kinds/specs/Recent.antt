@@ -7,4 +7,4 @@ use Rattle.memory_kinds.specs.declared.recent.Recent.{Recent}
 -- each name that is remembered stands in that memory, and in the slot of its remainder
 pub record AreTrue (recent : Recent) (home : Homes) : Type 0 where
   pub each : (i : ℕ) (h : Home) → get_or recent.slots i None ≡ Some h → home h.name.0 ≡ h.memory.0
-  pub placed : (i : ℕ) (h : Home) → get_or recent.slots i None ≡ Some h → i ≡ h.name.0 % 64
+  pub placed : (i : ℕ) (h : Home) → get_or recent.slots i None ≡ Some h → i ≡ h.name.0 % 256

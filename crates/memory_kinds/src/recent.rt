@@ -7,7 +7,7 @@ ghost use Rattle.memory_kinds.specs.Recent.{AreTrue};
 use exo_tree::{Id, MemId};
 
 /// How many slots there are; a name has the one of its remainder.
-const SLOTS: usize = 64;
+const SLOTS: usize = 256;
 
 /// A name with its memory.
 #[derive(Clone, Copy)]
@@ -24,7 +24,6 @@ pub(crate) struct Recent {
 
 impl Recent {
     /// No name.
-    #[tactic(auto, using(crate::proofs::Remembered::none_is_true))]
     pub(crate) fn new() -> Recent
         ensures { (home : Homes) → AreTrue result home }
     {
