@@ -1,9 +1,9 @@
 -- What is reached by calls.
-use Rattle.std.proofs.Common.{◌≡◌, ◌<◌, ℕ, zero, suc, ◌+◌, Bool, true, false, true≢false, ◌&&◌, ◌||◌, List, [], ◌∷◌, Some, None, refl, sym, ap, ◌∙◌, subst, arith}
+use Rattle.std.proofs.Common.{◌≡◌, ◌<◌, ℕ, zero, suc, ◌+◌, Bool, true, false, true≢false, ◌&&◌, ◌||◌, List, [], ◌∷◌, Some, None, refl, sym, ap, ◌∙◌, arith}
 use Rattle.std.specs.Prelude.{slice_get}
 use Rattle.exo_tree.specs.Tree.{Procedure}
 use Rattle.exo_tree.specs.Calls.{calls}
-use Rattle.exo_calls.specs.Closed.{closed, CallsBefore, ClosedIsClosed, SeedsAreClosed, ClosedIsLeast}
+use Rattle.exo_calls.specs.Closed.{closed, ClosedIsClosed, SeedsAreClosed, ClosedIsLeast}
 
 either_left : (a b : Bool) → a ≡ true → (a || b) ≡ true
 either_left a b h = ap (λ t. t || b) h

@@ -2,7 +2,7 @@
 use Rattle.std.proofs.Common.{◌≡◌, ◌<◌, ◌≤◌, ℕ, zero, suc, ◌+◌, ◌-◌, Bool, true, false, ◌&&◌, ◌||◌, List, [], ◌∷◌, length, get_or, refl, sym, ap, ◌∙◌, subst, arith, drop-cons}
 use Rattle.std.specs.Prelude.{drop, map}
 use Rattle.std.proofs.lemmas.List.{drop_all}
-use Rattle.exo_tree.specs.Tree.{Statement, Block, end, next, block, Procedure}
+use Rattle.exo_tree.specs.Tree.{Statement, block, Procedure}
 use Rattle.exo_tree.specs.Calls.{calls, is_call_of}
 use Rattle.exo_calls.specs.Closed.{closed}
 use Rattle.exo_calls.specs.Marked.{contains, Marked, Reached}

@@ -1,6 +1,6 @@
 -- Procedures over a memory of vectors: copies by instructions, and what is refused.
 use Rattle.std.proofs.Common.{◌≡◌, ℕ, pos, true, false, List, [], ◌∷◌, Some, None, refl}
-use Rattle.exo_tree.specs.Tree.{I8, I32, Cell, Control, Lit, Const, Coord, Span, Argument, Window, Whole, Statement, Assign, Alloc, Call, block, Param, TensorParam, WindowParam, Procedure, MemoryKind, Program}
+use Rattle.exo_tree.specs.Tree.{I8, I32, Cell, Control, Lit, Const, Span, Argument, Window, Whole, Statement, Assign, Alloc, Call, block, Param, TensorParam, WindowParam, Procedure, MemoryKind, Program}
 use Rattle.memory_kinds.specs.declared.error.KindError.TheVariants.{NotWritable, MemoryMismatch, PrecisionMismatch, LaneMismatch}
 use Rattle.memory_kinds.specs.Faults.{fault_of}
 

@@ -1,11 +1,10 @@
 -- The first fault of two, and of lists.
-use Rattle.std.proofs.Common.{◌≡◌, ◌≤◌, ◌<◌, ℕ, zero, suc, ◌+◌, Bool, true, false, ◌&&◌, not, min, List, [], ◌∷◌, length, drop, get_or, Option, Some, None, Result, Ok, Err, refl, sym, ap, ◌∙◌, arith, drop-cons}
-use Rattle.std.specs.Prelude.{map}
+use Rattle.std.proofs.Common.{◌≡◌, ◌≤◌, ◌<◌, ℕ, zero, suc, ◌+◌, min, List, [], ◌∷◌, length, drop, get_or, Option, Some, None, Result, Ok, Err, refl, sym, ap, ◌∙◌, arith, drop-cons}
 use Rattle.std.specs.Result.{result_err, IsErrAnd}
-use Rattle.exo_tree.specs.Tree.{Control, Param, Argument, MemoryKind, Procedure, Statement, Block, end, next, block}
+use Rattle.exo_tree.specs.Tree.{Param, Argument, MemoryKind}
 use Rattle.memory_kinds.specs.declared.error.KindError.{KindError}
-use Rattle.memory_kinds.specs.Homes.{Homes, homes_after, memory_of_kind}
-use Rattle.memory_kinds.specs.Faults.{or_first, is_literal, are_literals, arguments_fault, argument_fault, params_fault, in_memory, param_fault, block_fault, step_fault}
+use Rattle.memory_kinds.specs.Homes.{Homes}
+use Rattle.memory_kinds.specs.Faults.{or_first, arguments_fault, argument_fault}
 
 -- the first fails
 pub stopped : (f g : Option KindError) (e : KindError) → Some e ≡ f → Some e ≡ or_first f g
@@ -14,6 +13,10 @@ stopped f g e h = ap (λ x. or_first x g) h
 -- the first holds
 pub went_on : (r f g : Option KindError) → None ≡ f → r ≡ g → r ≡ or_first f g
 went_on r f g h i = i ∙ ap (λ x. or_first x g) h
+
+pub grouped : (f g h : Option KindError) → or_first (or_first f g) h ≡ or_first f (or_first g h)
+grouped None g h = refl
+grouped (Some e) g h = refl
 
 -- by an early return
 pub left : {X : Type 0} (result : Result X KindError) (e : KindError) (whole : Option KindError) → IsErrAnd result (λ r. r ≡ e) → Some e ≡ whole → result_err result ≡ whole

@@ -1,11 +1,10 @@
 -- The memory of a name, statement by statement.
-use Rattle.std.proofs.Common.{◌≡◌, ◌≤◌, ◌<◌, ℕ, zero, suc, ◌+◌, ◌-◌, ◌==◌, Bool, true, false, true≢false, if◌then◌else◌, min, List, [], ◌∷◌, ◌++◌, length, drop, take, get_or, Option, Some, None, refl, sym, ap, ◌∙◌, arith}
-use Rattle.exo_meaning.specs.Scene.{updated}
-use Rattle.exo_tree.specs.Tree.{Param, Statement, Assign, Reduce, Config, Pass, If, For, Alloc, View, Call, Block, end, next, block, Procedure, MemoryKind}
+use Rattle.std.proofs.Common.{◌≡◌, ◌≤◌, ◌<◌, ℕ, zero, suc, ◌+◌, ◌-◌, ◌==◌, Bool, true, false, true≢false, if◌then◌else◌, min, List, [], ◌∷◌, ◌++◌, length, drop, take, Option, Some, None, refl, sym, ap, ◌∙◌, arith}
+use Rattle.exo_tree.specs.Tree.{Param, Statement, Assign, Reduce, Config, Pass, If, For, Alloc, View, Call, block, Procedure, MemoryKind}
 use Rattle.memory_kinds.specs.declared.error.KindError.{KindError}
 use Rattle.memory_kinds.specs.declared.scope.Found.{Found}
 use Rattle.memory_kinds.specs.Homes.{Homes, memory_of_kind, with_memory, with_param, with_params, homes_after, homes_past, binds}
-use Rattle.memory_kinds.specs.Faults.{or_first, block_fault, step_fault}
+use Rattle.memory_kinds.specs.Faults.{block_fault, step_fault}
 use Rattle.memory_kinds.specs.Scope.{found_in}
 use Rattle.memory_kinds.proofs.Firsts.{went_on}
 

@@ -1,7 +1,7 @@
 -- The rules on memories, and the first one in the order of the text that a procedure breaks.
-use Rattle.std.specs.Prelude.{ℕ, ◌==◌, ◌-◌, ℤ, pos, Bool, true, false, not, ◌&&◌, List, [], ◌∷◌, length, Option, Some, None, slice_get}
+use Rattle.std.specs.Prelude.{ℕ, ◌==◌, ◌-◌, pos, Bool, true, false, not, ◌&&◌, List, [], ◌∷◌, length, Option, Some, None, slice_get}
 use Rattle.std.specs.Ordering.{int_eq}
-use Rattle.exo_tree.specs.Tree.{Cell, Control, Lit, Var, Field, StrideOf, Neg, Add, Sub, Mul, Div, Mod, Datum, Const, Read, Negated, Relu, Plus, Minus, Times, Select, Coord, At, Span, Argument, ControlArg, ConditionArg, Whole, Window, Statement, Assign, Reduce, Config, Pass, If, For, Alloc, View, Call, Block, end, next, Param, ParamKind, ControlParam, TensorParam, WindowParam, Procedure, MemoryKind, Program}
+use Rattle.exo_tree.specs.Tree.{Cell, Control, Lit, Var, Field, StrideOf, Neg, Add, Sub, Mul, Div, Mod, Datum, Const, Read, Negated, Relu, Plus, Minus, Times, Select, Coord, At, Span, Argument, ControlArg, ConditionArg, Whole, Window, Statement, Assign, Reduce, Config, Pass, If, For, Alloc, View, Call, Block, end, next, Param, ParamKind, Procedure, MemoryKind, Program}
 use Rattle.exo_meaning.specs.Units.{same_cell}
 use Rattle.memory_kinds.specs.declared.error.KindError.{KindError}
 use Rattle.memory_kinds.specs.declared.error.KindError.TheVariants.{NotReadable, NotWritable, NotReducible, MemoryMismatch, PrecisionMismatch, LaneMismatch, NotLiteral}

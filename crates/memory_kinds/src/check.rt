@@ -7,7 +7,7 @@ ghost use Rattle.exo_tree.specs.PlainParam.{parameter};
 ghost use Rattle.exo_tree.specs.PlainArgument.{argument};
 ghost use Rattle.exo_tree.specs.PlainStatement.{statement};
 ghost use Rattle.exo_tree.specs.PlainUnit.{program};
-ghost use Rattle.memory_kinds.specs.Faults.{in_memory, reads_fault, given_fault, argument_fault, arguments_fault, call_fault, block_fault, step_fault, kind_fault, params_fault, alloc_fault, fault_of};
+ghost use Rattle.memory_kinds.specs.Faults.{or_first, in_memory, reads_fault, given_fault, argument_fault, arguments_fault, call_fault, block_fault, step_fault, kind_fault, params_fault, alloc_fault, fault_of};
 ghost use Rattle.memory_kinds.specs.Uses.{use_fault};
 ghost use Rattle.memory_kinds.specs.Scope.{homes_in};
 ghost use Rattle.memory_kinds.specs.Recent.{AreTrue};
@@ -17,7 +17,10 @@ use crate::class::{Use, check_alloc, check_param, check_use, check_window, refus
 use crate::error::KindError;
 use crate::recent::Recent;
 use crate::scope::{Scope, bound_after, memory_of, recall, remember};
-use exo_tree::{Arg, Args, Block, Cell, DataExpr, Id, Indices, MemId, Memories, Param, ProcId, Procs, Stmt, Unit};
+use exo_tree::{
+    Arg, Args, Block, Cell, DataExpr, Id, Indices, MemId, Memories, Param, ProcId, Procs, Stmt,
+    Unit,
+};
 
 /// The tables of a unit.
 #[derive(Clone, Copy)]
@@ -27,7 +30,13 @@ struct Tables<'a> {
 }
 
 /// Something is done to the buffer of a name.
-fn check_name(memories: &Memories, scope: &Scope, recent: &mut Recent, x: Id, what: Use) -> Result<(), KindError>
+fn check_name(
+    memories: &Memories,
+    scope: &Scope,
+    recent: &mut Recent,
+    x: Id,
+    what: Use,
+) -> Result<(), KindError>
     requires { AreTrue recent.old (homes_in scope.now) }
     ensures value { result_err result ≡ in_memory memories.now (homes_in scope.now x.0) (use_fault what) }
     ensures kept { OnOk result (AreTrue recent.new (homes_in scope.now)) }
@@ -39,7 +48,14 @@ fn check_name(memories: &Memories, scope: &Scope, recent: &mut Recent, x: Id, wh
 }
 
 /// The reads of an expression, from left to right.
-fn check_reads(memories: &Memories, scope: &Scope, recent: &mut Recent, e: &DataExpr) -> Result<(), KindError>
+#[cycle(reads)]
+#[tactic(auto, using(crate::proofs::Firsts::grouped))]
+fn check_reads(
+    memories: &Memories,
+    scope: &Scope,
+    recent: &mut Recent,
+    e: &DataExpr,
+) -> Result<(), KindError>
     requires { AreTrue recent.old (homes_in scope.now) }
     ensures value { result_err result ≡ reads_fault memories.now (homes_in scope.now) (datum e.now) }
     ensures kept { OnOk result (AreTrue recent.new (homes_in scope.now)) }
@@ -49,25 +65,31 @@ fn check_reads(memories: &Memories, scope: &Scope, recent: &mut Recent, e: &Data
         DataExpr::Read(x, _) => check_name(memories, scope, recent, *x, Use::Reading),
         DataExpr::Neg(a) => check_reads(memories, scope, recent, a),
         DataExpr::Relu(a) => check_reads(memories, scope, recent, a),
-        DataExpr::Add(a, b) => {
-            check_reads(memories, scope, recent, a)?;
-            check_reads(memories, scope, recent, b)
-        }
-        DataExpr::Sub(a, b) => {
-            check_reads(memories, scope, recent, a)?;
-            check_reads(memories, scope, recent, b)
-        }
-        DataExpr::Mul(a, b) => {
-            check_reads(memories, scope, recent, a)?;
-            check_reads(memories, scope, recent, b)
-        }
+        DataExpr::Add(a, b) => check_both(memories, scope, recent, a, b),
+        DataExpr::Sub(a, b) => check_both(memories, scope, recent, a, b),
+        DataExpr::Mul(a, b) => check_both(memories, scope, recent, a, b),
         DataExpr::Select(a, b, c, d) => {
-            check_reads(memories, scope, recent, a)?;
-            check_reads(memories, scope, recent, b)?;
-            check_reads(memories, scope, recent, c)?;
-            check_reads(memories, scope, recent, d)
+            check_both(memories, scope, recent, a, b)?;
+            check_both(memories, scope, recent, c, d)
         }
     }
+}
+
+/// The reads of two expressions.
+#[cycle(reads)]
+fn check_both(
+    memories: &Memories,
+    scope: &Scope,
+    recent: &mut Recent,
+    a: &DataExpr,
+    b: &DataExpr,
+) -> Result<(), KindError>
+    requires { AreTrue recent.old (homes_in scope.now) }
+    ensures value { result_err result ≡ or_first (reads_fault memories.now (homes_in scope.now) (datum a.now)) (reads_fault memories.now (homes_in scope.now) (datum b.now)) }
+    ensures kept { OnOk result (AreTrue recent.new (homes_in scope.now)) }
+{
+    check_reads(memories, scope, recent, a)?;
+    check_reads(memories, scope, recent, b)
 }
 
 /// A buffer is made in that memory.
@@ -81,7 +103,13 @@ fn check_made(memories: &Memories, cell: Cell, dims: &Indices, m: MemId) -> Resu
 }
 
 /// A parameter in that memory is given an argument.
-fn check_given(memories: &Memories, scope: &Scope, recent: &mut Recent, m: MemId, a: &Arg) -> Result<(), KindError>
+fn check_given(
+    memories: &Memories,
+    scope: &Scope,
+    recent: &mut Recent,
+    m: MemId,
+    a: &Arg,
+) -> Result<(), KindError>
     requires { AreTrue recent.old (homes_in scope.now) }
     ensures value { result_err result ≡ given_fault memories.now (homes_in scope.now) m.0 (argument a.now) }
     ensures kept { OnOk result (AreTrue recent.new (homes_in scope.now)) }
@@ -89,7 +117,10 @@ fn check_given(memories: &Memories, scope: &Scope, recent: &mut Recent, m: MemId
     match a {
         Arg::Ctrl(_) => Ok(()),
         Arg::Cond(_) => Ok(()),
-        Arg::Whole(x) => refuse(recall(scope, recent, *x).0 != m.0, KindError::MemoryMismatch),
+        Arg::Whole(x) => refuse(
+            recall(scope, recent, *x).0 != m.0,
+            KindError::MemoryMismatch,
+        ),
         Arg::Window(x, coords) => {
             let held = recall(scope, recent, *x);
             refuse(held.0 != m.0, KindError::MemoryMismatch)?;
@@ -102,7 +133,13 @@ fn check_given(memories: &Memories, scope: &Scope, recent: &mut Recent, m: MemId
 }
 
 /// A parameter is given an argument.
-fn check_argument(memories: &Memories, scope: &Scope, recent: &mut Recent, p: &Param, a: &Arg) -> Result<(), KindError>
+fn check_argument(
+    memories: &Memories,
+    scope: &Scope,
+    recent: &mut Recent,
+    p: &Param,
+    a: &Arg,
+) -> Result<(), KindError>
     requires { AreTrue recent.old (homes_in scope.now) }
     ensures value { result_err result ≡ argument_fault memories.now (homes_in scope.now) (parameter p.now) (argument a.now) }
     ensures kept { OnOk result (AreTrue recent.new (homes_in scope.now)) }
@@ -116,7 +153,8 @@ fn check_argument(memories: &Memories, scope: &Scope, recent: &mut Recent, p: &P
 /// Parameters are given their arguments.
 fn check_arguments(
     memories: &Memories,
-    scope: &Scope, recent: &mut Recent,
+    scope: &Scope,
+    recent: &mut Recent,
     params: &[Param],
     args: &[Arg],
 ) -> Result<(), KindError>
@@ -131,7 +169,13 @@ fn check_arguments(
 }
 
 /// A procedure is called.
-fn check_call(tables: &Tables, scope: &Scope, recent: &mut Recent, k: ProcId, args: &Args) -> Result<(), KindError>
+fn check_call(
+    tables: &Tables,
+    scope: &Scope,
+    recent: &mut Recent,
+    k: ProcId,
+    args: &Args,
+) -> Result<(), KindError>
     requires { AreTrue recent.old (homes_in scope.now) }
     ensures value { result_err result ≡ call_fault tables.now.procs.now tables.now.memories.now (homes_in scope.now) k.0 args.now }
     ensures kept { OnOk result (AreTrue recent.new (homes_in scope.now)) }
@@ -150,7 +194,12 @@ fn check_call(tables: &Tables, scope: &Scope, recent: &mut Recent, k: ProcId, ar
 
 /// A statement, with all that is in it.
 #[cycle(walk)]
-fn check_statement<'a>(tables: &Tables, scope: &'a Scope<'a>, recent: &mut Recent, s: &'a Stmt) -> Result<(), KindError>
+fn check_statement<'a>(
+    tables: &Tables,
+    scope: &'a Scope<'a>,
+    recent: &mut Recent,
+    s: &'a Stmt,
+) -> Result<(), KindError>
     requires { AreTrue recent.old (homes_in scope.now) }
     ensures value { result_err result ≡ step_fault tables.now.procs.now tables.now.memories.now (homes_in scope.now) (statement s.now) }
     ensures kept { OnOk result (AreTrue recent.new (homes_in scope.now)) }
@@ -178,7 +227,12 @@ fn check_statement<'a>(tables: &Tables, scope: &'a Scope<'a>, recent: &mut Recen
 
 /// The statements of a block inside another; what is remembered there is forgotten behind it.
 #[cycle(walk)]
-fn check_inner<'a>(tables: &Tables, scope: &'a Scope<'a>, recent: &Recent, b: &'a Block) -> Result<(), KindError>
+fn check_inner<'a>(
+    tables: &Tables,
+    scope: &'a Scope<'a>,
+    recent: &Recent,
+    b: &'a Block,
+) -> Result<(), KindError>
     requires { AreTrue recent.now (homes_in scope.now) }
     ensures { result_err result ≡ block_fault tables.now.procs.now tables.now.memories.now (homes_in scope.now) (block b.now) }
 {
@@ -188,7 +242,12 @@ fn check_inner<'a>(tables: &Tables, scope: &'a Scope<'a>, recent: &Recent, b: &'
 
 /// The statements of a block. A name is looked for among those up to the last one that binds a name.
 #[cycle(walk)]
-fn check_block<'a>(tables: &Tables, scope: &'a Scope<'a>, recent: &mut Recent, b: &'a Block) -> Result<(), KindError>
+fn check_block<'a>(
+    tables: &Tables,
+    scope: &'a Scope<'a>,
+    recent: &mut Recent,
+    b: &'a Block,
+) -> Result<(), KindError>
     requires { AreTrue recent.old (homes_in scope.now) }
     ensures value { result_err result ≡ block_fault tables.now.procs.now tables.now.memories.now (homes_in scope.now) (block b.now) }
 {
@@ -228,7 +287,8 @@ fn check_params(memories: &Memories, params: &[Param]) -> Result<(), KindError>
 
 /// Checks the rules on memories of a procedure, in the order of its text: of its parameters, and then of each statement,
 /// its left side before its reads. Ok where all hold or the unit has no such procedure; else the first rule that is broken.
-/// Of a memory that the unit has not, nothing is asked. It takes no memory.
+/// Of a memory that the unit has not, nothing is asked. It takes no memory, and the time of a walk, but that a name which
+/// more than 256 others may have driven out of what is remembered is looked for again in the statements before it.
 pub fn check_memories(unit: &Unit, p: ProcId) -> Result<(), KindError>
     ensures { result_err result ≡ fault_of (program unit.now) p.0 }
 {
@@ -241,5 +301,10 @@ pub fn check_memories(unit: &Unit, p: ProcId) -> Result<(), KindError>
     };
     check_params(tables.memories, found.params.as_slice())?;
     let mut recent = Recent::new();
-    check_block(&tables, &Scope::Params(&found.params), &mut recent, &found.body)
+    check_block(
+        &tables,
+        &Scope::Params(&found.params),
+        &mut recent,
+        &found.body,
+    )
 }

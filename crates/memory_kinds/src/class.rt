@@ -100,7 +100,10 @@ pub(crate) fn check_alloc(m: &MemoryClass, cell: Cell, dims: &Indices) -> Result
     if m.lanes != 0 && !last_is_literal(m.lanes, dims) {
         return Err(KindError::LaneMismatch);
     }
-    refuse(m.stack && !are_literals(dims.as_slice()), KindError::NotLiteral)
+    refuse(
+        m.stack && !are_literals(dims.as_slice()),
+        KindError::NotLiteral,
+    )
 }
 
 /// What is done to a buffer.
@@ -132,5 +135,8 @@ pub(crate) fn check_use(m: &MemoryClass, what: Use) -> Result<(), KindError>
 pub(crate) fn check_window(m: &MemoryClass, coords: &Coords) -> Result<(), KindError>
     ensures { result_err result ≡ window_fault coords.now (memory_kind m.now) }
 {
-    refuse(m.lanes != 0 && !last_is_full(m.lanes, coords), KindError::LaneMismatch)
+    refuse(
+        m.lanes != 0 && !last_is_full(m.lanes, coords),
+        KindError::LaneMismatch,
+    )
 }
