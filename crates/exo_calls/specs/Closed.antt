@@ -7,7 +7,9 @@ use Rattle.exo_tree.specs.Calls.{calls}
 -- a procedure calls those before it, so the last one is asked first
 abbrev pub closed : (Procedure → Bool) → (ℕ → Bool) → ℕ → List Procedure → ℕ → Bool
 closed through seeds k [] j = seeds j
-closed through seeds k (p ∷ ps) j = closed through seeds (suc k) ps j || ((closed through seeds (suc k) ps k && through p) && calls j p.body)
+closed through seeds k (p ∷ ps) j =
+    closed through seeds (suc k) ps j
+    || ((closed through seeds (suc k) ps k && through p) && calls j p.body)
 
 -- each procedure calls those before it alone
 abbrev pub CallsBefore : List Procedure → Type 0
@@ -26,12 +28,25 @@ ClosedIsClosed =
 
 -- each seed is reached
 abbrev pub SeedsAreClosed : Type 0
-SeedsAreClosed = (through : Procedure → Bool) (seeds : ℕ → Bool) (ps : List Procedure) (j : ℕ) → seeds j ≡ true → closed through seeds zero ps j ≡ true
+SeedsAreClosed =
+    (through : Procedure → Bool) (seeds : ℕ → Bool) (ps : List Procedure) (j : ℕ)
+    → seeds j ≡ true
+    → closed through seeds zero ps j ≡ true
+
+-- with a procedure that passes the set has what it calls
+abbrev pub IsShut : (Procedure → Bool) → (ℕ → Bool) → List Procedure → Type 0
+IsShut through set ps =
+    (k j : ℕ) (p : Procedure)
+    → slice_get ps k ≡ Some p
+    → set k ≡ true
+    → through p ≡ true
+    → calls j p.body ≡ true
+    → set j ≡ true
 
 -- what is reached is in each set that has the seeds and what those in it call that pass the test
 abbrev pub ClosedIsLeast : Type 0
 ClosedIsLeast =
     (through : Procedure → Bool) (seeds set : ℕ → Bool) (ps : List Procedure)
     → ((j : ℕ) → seeds j ≡ true → set j ≡ true)
-    → ((k j : ℕ) (p : Procedure) → slice_get ps k ≡ Some p → set k ≡ true → through p ≡ true → calls j p.body ≡ true → set j ≡ true)
+    → IsShut through set ps
     → (j : ℕ) → closed through seeds zero ps j ≡ true → set j ≡ true

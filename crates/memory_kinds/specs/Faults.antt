@@ -48,7 +48,8 @@ are_literals [] = true
 are_literals (d ∷ ds) = is_literal d && are_literals ds
 
 abbrev pub last_is_literal : ℕ → List Control → Bool
-last_is_literal m dims = elim (slice_get dims (length dims - 1)) [ None ↦ false | Some d ↦ is_literal_of m d ]
+last_is_literal m dims =
+    elim (slice_get dims (length dims - 1)) [ None ↦ false | Some d ↦ is_literal_of m d ]
 
 -- the span from 0 to the number
 abbrev pub is_full_span : ℕ → Coord → Bool
@@ -56,7 +57,8 @@ is_full_span m (At a) = false
 is_full_span m (Span a b) = is_literal_of 0 a && is_literal_of m b
 
 abbrev pub last_is_full : ℕ → List Coord → Bool
-last_is_full m coords = elim (slice_get coords (length coords - 1)) [ None ↦ false | Some c ↦ is_full_span m c ]
+last_is_full m coords =
+    elim (slice_get coords (length coords - 1)) [ None ↦ false | Some c ↦ is_full_span m c ]
 
 -- ---- the rules of one memory
 
@@ -107,22 +109,29 @@ module _ (memories : List MemoryKind) where
   reads_fault home (Plus a b) = or_first (reads_fault home a) (reads_fault home b)
   reads_fault home (Minus a b) = or_first (reads_fault home a) (reads_fault home b)
   reads_fault home (Times a b) = or_first (reads_fault home a) (reads_fault home b)
-  reads_fault home (Select a b c d) = or_first (reads_fault home a) (or_first (reads_fault home b) (or_first (reads_fault home c) (reads_fault home d)))
+  reads_fault home (Select a b c d) =
+      or_first (reads_fault home a)
+      (or_first (reads_fault home b)
+      (or_first (reads_fault home c) (reads_fault home d)))
 
   -- a buffer given to a parameter in that memory
   abbrev pub given_fault : Homes → ℕ → Argument → Option KindError
   given_fault home memory (ControlArg a) = None
   given_fault home memory (ConditionArg c) = None
   given_fault home memory (Whole x) = fault_where (not (home x == memory)) MemoryMismatch
-  given_fault home memory (Window x coords) = or_first (fault_where (not (home x == memory)) MemoryMismatch) (in_memory (home x) (window_fault coords))
+  given_fault home memory (Window x coords) =
+      or_first (fault_where (not (home x == memory)) MemoryMismatch)
+      (in_memory (home x) (window_fault coords))
 
   abbrev pub argument_fault : Homes → Param → Argument → Option KindError
-  argument_fault home p a = elim (memory_of_kind p.kind) [ None ↦ None | Some memory ↦ given_fault home memory a ]
+  argument_fault home p a =
+      elim (memory_of_kind p.kind) [ None ↦ None | Some memory ↦ given_fault home memory a ]
 
   abbrev pub arguments_fault : Homes → List Param → List Argument → Option KindError
   arguments_fault home [] args = None
   arguments_fault home (p ∷ ps) [] = None
-  arguments_fault home (p ∷ ps) (a ∷ rest) = or_first (argument_fault home p a) (arguments_fault home ps rest)
+  arguments_fault home (p ∷ ps) (a ∷ rest) =
+      or_first (argument_fault home p a) (arguments_fault home ps rest)
 
   abbrev pub kind_fault : ParamKind → Option KindError
   kind_fault kind = elim (memory_of_kind kind) [ None ↦ None | Some memory ↦ in_memory memory param_fault ]
@@ -135,7 +144,11 @@ module _ (memories : List MemoryKind) where
 
 module _ (procedures : List Procedure) (memories : List MemoryKind) where
   abbrev pub call_fault : Homes → ℕ → List Argument → Option KindError
-  call_fault home k args = elim (slice_get procedures k) [ None ↦ None | Some p ↦ arguments_fault memories home p.params args ]
+  call_fault home k args =
+      elim (slice_get procedures k) [
+        | None ↦ None
+        | Some p ↦ arguments_fault memories home p.params args
+      ]
 
   abbrev mutual
     pub block_fault : Homes → Block → Option KindError
@@ -143,8 +156,10 @@ module _ (procedures : List Procedure) (memories : List MemoryKind) where
     block_fault home (next a b) = or_first (step_fault home a) (block_fault (homes_after home a) b)
 
     pub step_fault : Homes → Statement → Option KindError
-    step_fault home (Assign x is e) = or_first (in_memory memories (home x) write_fault) (reads_fault memories home e)
-    step_fault home (Reduce x is e) = or_first (in_memory memories (home x) reduce_fault) (reads_fault memories home e)
+    step_fault home (Assign x is e) =
+        or_first (in_memory memories (home x) write_fault) (reads_fault memories home e)
+    step_fault home (Reduce x is e) =
+        or_first (in_memory memories (home x) reduce_fault) (reads_fault memories home e)
     step_fault home (Config f a) = None
     step_fault home Pass = None
     step_fault home (If c a b) = or_first (block_fault home a) (block_fault home b)
@@ -158,4 +173,8 @@ module _ (procedures : List Procedure) (memories : List MemoryKind) where
 
 -- the first rule that the procedure of that number breaks; None where there is no such procedure
 abbrev pub fault_of : Program → ℕ → Option KindError
-fault_of program k = elim (slice_get program.procedures k) [ None ↦ None | Some p ↦ procedure_fault program.procedures program.memories p ]
+fault_of program k =
+    elim (slice_get program.procedures k) [
+      | None ↦ None
+      | Some p ↦ procedure_fault program.procedures program.memories p
+    ]
