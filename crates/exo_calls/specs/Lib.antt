@@ -1,0 +1,4 @@
+pub mod Closed
+pub mod Tabled
+pub mod Marked
+pub mod Passed

@@ -1,0 +1,5 @@
+pub mod Firsts
+pub mod Lookups
+pub mod Remembered
+pub mod Weights
+mod Examples
