@@ -1,0 +1,107 @@
+-- The rewrite replace on small units, and the calls inlined again.
+use Rattle.std.proofs.Common.{◌≡◌, ℕ, ◌+◌, ◌==◌, Bool, if◌then◌else◌, pos, true, List, [], ◌∷◌, Some, None, refl}
+use Rattle.exo_tree.specs.Tree.{I32, Index, Control, Var, Add, Const, Read, Times, Coord, At, Span}
+use Rattle.exo_tree.specs.Tree.{Argument, ControlArg, Whole, Window, ControlParam, TensorParam}
+use Rattle.exo_tree.specs.Tree.{Assign, Reduce, Call, Block, end, next, Procedure}
+use Rattle.exo_tree.specs.Places.{Step, Main}
+use Rattle.inplace_laws.specs.Inline.{inlined}
+use Rattle.inplace_laws.specs.Shared.{DoNotShare}
+use Rattle.match_laws.specs.Alike.{blocks_agree, nameless}
+use Rattle.match_laws.proofs.Instances.{own, lit, loop, copy8, product, at_lane, loaded, step, rows}
+use Rattle.match_laws.proofs.Instances.{zeros, nest}
+use Rattle.inline_laws.specs.Pieces.{Piece}
+use Rattle.inline_laws.specs.InlineRule.{renumbered}
+use Rattle.inline_laws.specs.ReplaceRule.{AtPath, OfParam, Shared, replace_piece, replace_draft}
+use Rattle.inline_laws.specs.ReplaceRule.{replace_refusal}
+use Rattle.inline_laws.proofs.Shares.{shares_law}
+use Rattle.inline_laws.proofs.Rows.{named, first, copy_n, param}
+
+abbrev call : ℕ → List Argument → Block
+call k args = next (Call k args) end
+
+-- each name is the name of a buffer, and the callee writes its parameter 0
+abbrev itself : ℕ → ℕ
+itself x = x
+
+abbrev first_only : ℕ → Bool
+first_only x = x == 0
+
+-- ---- for ji in seq(0, 8): c[ji] = C[i, 8 * jo + ji] is copy8(c[0:8], C[i, 8 * jo:8 * jo + 8])
+
+abbrev load : Block
+load = loop 11 (lit 8) (Assign 9 (Var 11 ∷ []) (Read 5 (Var 6 ∷ at_lane ∷ [])))
+
+its_piece : replace_piece (named [] load) first 1 ≡ Some (record { path = first; count = 1 })
+its_piece = refl
+
+load_is_called : replace_draft own product copy8 3 load ≡ Some (call 3 loaded)
+load_is_called = refl
+
+load_is_not_refused : replace_refusal own product copy8 3 itself first_only load ≡ None
+load_is_not_refused = refl
+
+-- copy8 with the id of ji, and with its parameters out of the way
+abbrev as_in_load : ℕ → ℕ
+as_in_load x = if x == 2 then 11 else (x + 20)
+
+abbrev inlined_load : Procedure → Block
+inlined_load q = inlined q.params loaded q.body
+
+-- the call inlined agrees with the block
+it_agrees : blocks_agree own (nameless load) (nameless (inlined_load (renumbered as_in_load copy8)))
+    ≡ true
+it_agrees = refl
+
+-- ---- for j in seq(0, m): A[i, j] = B[j] is copyn(m, A[i, 0:m], B[0:m])
+
+abbrev row_loop : Block
+row_loop = loop 5 (Var 1) (Assign 2 (Var 4 ∷ Var 5 ∷ []) (Read 3 (Var 5 ∷ [])))
+
+abbrev row_arguments : List Argument
+row_arguments = ControlArg (Var 1) ∷ Window 2 (At (Var 4) ∷ Span (lit 0) (Var 1) ∷ [])
+    ∷ Window 3 (Span (lit 0) (Var 1) ∷ []) ∷ []
+
+row_is_called : replace_draft own rows copy_n 0 row_loop ≡ Some (call 0 row_arguments)
+row_is_called = refl
+
+abbrev as_in_row : ℕ → ℕ
+as_in_row x = if x == 3 then 5 else (x + 20)
+
+abbrev inlined_row : Procedure → Block
+inlined_row q = inlined q.params row_arguments q.body
+
+row_agrees : blocks_agree own (nameless row_loop)
+    (nameless (inlined_row (renumbered as_in_row copy_n))) ≡ true
+row_agrees = refl
+
+-- ---- p(j: index, B: i32[3]): B[j + j] = 3 determines no j
+
+abbrev at_twice : Procedure
+at_twice = named (param 0 (ControlParam Index) ∷ param 1 (TensorParam I32 (lit 3 ∷ []) 0) ∷ [])
+    (next (Assign 1 (Add (Var 0) (Var 0) ∷ []) (Const (pos 3))) end)
+
+first_is_not_determined : replace_refusal own rows at_twice 0 itself first_only row_loop
+    ≡ Some (OfParam 0)
+first_is_not_determined = refl
+
+-- an inner bound that the block binds
+bounds_are_refused : replace_refusal own rows zeros 0 itself first_only
+    (nest 6 7 (Var 6) 3)
+    ≡ Some (AtPath (step 0 ∷ step 0 ∷ []))
+bounds_are_refused = refl
+
+they_have_no_draft : replace_draft own rows zeros 0 (nest 6 7 (Var 6) 3) ≡ None
+they_have_no_draft = refl
+
+-- ---- c[ji] = c[ji + 8] would be copy8(c[0:8], c[8:16]), which share c
+
+abbrev along_one : Block
+along_one = loop 11 (lit 8) (Assign 9 (Var 11 ∷ []) (Read 9 (Add (Var 11) (lit 8) ∷ [])))
+
+shared_ones_are_refused : replace_refusal own product copy8 3 itself first_only along_one
+    ≡ Some Shared
+shared_ones_are_refused = refl
+
+-- the arguments of the load share nothing
+load_shares_nothing : DoNotShare itself first_only copy8.params loaded
+load_shares_nothing = shares_law itself first_only copy8.params loaded refl

@@ -1,0 +1,6 @@
+pub mod Pieces
+pub mod InlineRule
+pub mod InlineWindowRule
+pub mod InlineConditions
+pub mod Shares
+pub mod ReplaceRule
