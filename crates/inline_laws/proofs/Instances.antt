@@ -27,9 +27,10 @@ use Rattle.inline_laws.specs.InlineRule.{Called, MayInlineThere, with_fresh_ids}
 use Rattle.inline_laws.specs.InlineWindowRule.{Viewed, MayRemoveView, behind_first}
 use Rattle.match_laws.specs.RenamedCallee.{re_procedure}
 use Rattle.inline_laws.proofs.InlineConditions.{inline_conditions}
+use Rattle.inline_laws.proofs.FreshCallee.{fresh_callee, fresh_conditions}
 use Rattle.inline_laws.proofs.InlineRule.{inline_rule}
 use Rattle.inline_laws.proofs.InlineWindowRule.{inline_window_rule}
-use Rattle.inline_laws.proofs.Rows.{binder, named, lit, first, part, ones, on_part, parts}
+use Rattle.inline_laws.proofs.Rows.{binder, named, lit, first, part, ones, on_part, parts, fill_it}
 use Rattle.exo_tree.specs.Tree.{Var, Add}
 
 -- ---- a call of a procedure that sets field 0 to 4
@@ -197,3 +198,31 @@ may_replace args e =
 replaced : Refines above_it setting (with_block setting block call) []
 replaced = replace_rule (λ f. Index) (setter ∷ []) setting first 1 block own no_names setter 0 call
     empty (λ x. false) setter refl refl may_replace
+
+-- ---- and with new ids
+
+setter_is_renamed : (r : Renaming) × (with_fresh_ids 7 setter ≡ re_procedure r setter)
+setter_is_renamed = fresh_callee setter 7 refl
+
+-- fill(n, w), whose ids are 0, 1 and 2, from 3 on
+fill_is_renamed : (r : Renaming) × (with_fresh_ids 3 fill_it ≡ re_procedure r fill_it)
+fill_is_renamed = fresh_callee fill_it 3 refl
+
+with_new_ids : MayInline above_it empty (λ x. false) caller (with_fresh_ids 7 setter) (Here end)
+    call 0 []
+with_new_ids = fresh_conditions (λ f. Index) [] setter [] 7 (λ x. false) (λ x. x) caller (Here end)
+    call [] refl (record {
+      names = refl;
+      params = λ x k. absurd (true≢false (sym k));
+      distinct = tt;
+      share = λ b c r w n i j. absurd (none_is_some i);
+      takes = tt;
+      free = λ x k. absurd (true≢false (sym k));
+      others = λ x k. (refl, refl);
+      gone = refl;
+      rest = refl;
+    }) (λ s u good come. (
+      λ x z e. absurd (none_is_some (sym (good.no_others x refl).2
+      ∙ ap (λ (t : State). t.scene.views x) (sym come) ∙ e)),
+      λ gs e. tt,
+    ))

@@ -1,6 +1,7 @@
 pub mod InlineRule
 pub mod InlineWindowRule
 pub mod InlineConditions
+pub mod FreshCallee
 pub mod Shares
 pub mod ReplaceRule
 pub mod Rows

@@ -36,7 +36,7 @@ first = record { branch = Main; index = 0 } ∷ []
 
 -- ---- fill(n, w: [i32][n]): for l in seq(0, n): w[l] = 5, called for the last column of A
 
-abbrev fill_it : Procedure
+abbrev pub fill_it : Procedure
 fill_it = named (size 0 ∷ param 1 (WindowParam I32 (Var 0 ∷ []) 0) ∷ [])
     (loop 2 (Var 0) (Assign 1 (Var 2 ∷ []) (Const (pos 5))))
 

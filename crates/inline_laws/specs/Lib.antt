@@ -2,5 +2,6 @@ pub mod Pieces
 pub mod InlineRule
 pub mod InlineWindowRule
 pub mod InlineConditions
+pub mod FreshCallee
 pub mod Shares
 pub mod ReplaceRule

@@ -3,6 +3,8 @@
 ghost use Rattle.inline_laws.specs.InlineRule.{InlineRule};
 ghost use Rattle.inline_laws.specs.InlineWindowRule.{InlineWindowRule};
 ghost use Rattle.inline_laws.specs.InlineConditions.{InlineConditions};
+ghost use Rattle.inline_laws.specs.FreshCallee.{FreshCallee};
+ghost use Rattle.inline_laws.specs.FreshCallee.{FreshConditions};
 ghost use Rattle.inline_laws.specs.Shares.{SharesLaw};
 ghost use Rattle.inline_laws.specs.ReplaceRule.{ReplaceRule};
 
@@ -30,4 +32,15 @@ pub fn replaced_blocks_refine()
 /// Where no argument that is written has the root of another one, none share a buffer.
 pub fn arguments_that_meet_are_told()
     ensures { SharesLaw }
+{}
+
+/// The callee with new ids is the callee under a renaming.
+pub fn new_ids_rename_callees()
+    ensures { FreshCallee }
+{}
+
+/// A callee of the unit, with new ids, may be inlined where the trees and the states at the place
+/// allow it.
+pub fn callees_with_new_ids_may_be_inlined()
+    ensures { FreshConditions }
 {}
