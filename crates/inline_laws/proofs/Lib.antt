@@ -2,6 +2,7 @@ pub mod InlineRule
 pub mod InlineWindowRule
 pub mod InlineConditions
 pub mod FreshCallee
+pub mod AtOnce
 pub mod Shares
 pub mod ReplaceRule
 pub mod Rows

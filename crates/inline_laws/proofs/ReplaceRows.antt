@@ -9,10 +9,12 @@ use Rattle.inplace_laws.specs.Shared.{DoNotShare}
 use Rattle.match_laws.specs.Alike.{blocks_agree, nameless}
 use Rattle.match_laws.proofs.Instances.{own, lit, loop, copy8, product, at_lane, loaded, step, rows}
 use Rattle.match_laws.proofs.Instances.{zeros, nest}
+use Rattle.inline_laws.specs.AtOnce.{puts, put_block}
 use Rattle.inline_laws.specs.Pieces.{Piece}
 use Rattle.inline_laws.specs.InlineRule.{renumbered}
 use Rattle.inline_laws.specs.ReplaceRule.{AtPath, OfParam, Shared, replace_piece, replace_draft}
 use Rattle.inline_laws.specs.ReplaceRule.{replace_refusal}
+use Rattle.inline_laws.proofs.AtOnce.{at_once}
 use Rattle.inline_laws.proofs.Shares.{shares_law}
 use Rattle.inline_laws.proofs.Rows.{named, first, copy_n, param}
 
@@ -105,3 +107,14 @@ shared_ones_are_refused = refl
 -- the arguments of the load share nothing
 load_shares_nothing : DoNotShare itself first_only copy8.params loaded
 load_shares_nothing = shares_law itself first_only copy8.params loaded refl
+
+-- ---- the arguments of the copied row, all at once
+
+-- with names of the caller that are none of copyn's
+abbrev row_at : List Argument
+row_at = ControlArg (Var 11) ∷ Window 12 (At (Var 14) ∷ Span (lit 0) (Var 11) ∷ [])
+    ∷ Window 13 (Span (lit 0) (Var 11) ∷ []) ∷ []
+
+row_at_once : inlined copy_n.params row_at copy_n.body
+    ≡ put_block (puts copy_n.params row_at) copy_n.body
+row_at_once = at_once copy_n.params row_at copy_n.body refl refl

@@ -6,6 +6,7 @@ ghost use Rattle.inline_laws.specs.InlineConditions.{InlineConditions};
 ghost use Rattle.inline_laws.specs.FreshCallee.{FreshCallee};
 ghost use Rattle.inline_laws.specs.FreshCallee.{FreshConditions};
 ghost use Rattle.inline_laws.specs.Shares.{SharesLaw};
+ghost use Rattle.inline_laws.specs.AtOnce.{AtOnce};
 ghost use Rattle.inline_laws.specs.ReplaceRule.{ReplaceRule};
 
 /// A procedure with a call inlined by the rewrite is a refinement.
@@ -43,4 +44,9 @@ pub fn new_ids_rename_callees()
 /// allow it.
 pub fn callees_with_new_ids_may_be_inlined()
     ensures { FreshConditions }
+{}
+
+/// Arguments put one after the other are put all at once.
+pub fn arguments_are_put_at_once()
+    ensures { AtOnce }
 {}
