@@ -528,10 +528,10 @@ mutual
 
 -- ---- what mentions nothing hidden stays
 
-record Keeps (hidden : ℕ → Bool) (put : Put) : Type 0 where
-  variable : (y : ℕ) → hidden y ≡ false → put.variable y ≡ Var y
-  flag : (y : ℕ) → hidden y ≡ false → put.flag y ≡ Flag y
-  name : (y : ℕ) → hidden y ≡ false → put.name y ≡ Whole y
+pub record Keeps (hidden : ℕ → Bool) (put : Put) : Type 0 where
+  pub variable : (y : ℕ) → hidden y ≡ false → put.variable y ≡ Var y
+  pub flag : (y : ℕ) → hidden y ≡ false → put.flag y ≡ Flag y
+  pub name : (y : ℕ) → hidden y ≡ false → put.name y ≡ Whole y
 
 module _ (hidden : ℕ → Bool) (put : Put) (keeps : Keeps hidden put) where
   control_kept : (e : Control) → in_control hidden e ≡ false → put_control put e ≡ e
@@ -639,7 +639,7 @@ with_put_keeps hidden x (WindowParam cell dims memory) a put h keeps = record {
   name = λ y k. else_is hidden x y a (put.name y) h k ∙ keeps.name y k;
 }
 
-abbrev Covers : (ℕ → Bool) → List Param → Type 0
+abbrev pub Covers : (ℕ → Bool) → List Param → Type 0
 Covers hidden ps = (x : ℕ) → is_buffer_of x ps ≡ true → hidden x ≡ true
 
 first_covered : (hidden : ℕ → Bool) (p : Param) (ps : List Param) → Covers hidden (p ∷ ps)
@@ -656,7 +656,7 @@ rest_covered hidden p ps h x k = h x (go (x == p.binder.id) k)
     go true i = refl
     go false i = i
 
-puts_keep : (hidden : ℕ → Bool) (ps : List Param) (args : List Argument) → Covers hidden ps
+pub puts_keep : (hidden : ℕ → Bool) (ps : List Param) (args : List Argument) → Covers hidden ps
     → Keeps hidden (puts ps args)
 puts_keep hidden [] args h =
     record { variable = λ y k. refl; flag = λ y k. refl; name = λ y k. refl }

@@ -3,6 +3,7 @@ pub mod InlineWindowRule
 pub mod InlineConditions
 pub mod FreshCallee
 pub mod AtOnce
+pub mod MovedIsPut
 pub mod Shares
 pub mod ReplaceRule
 pub mod Rows

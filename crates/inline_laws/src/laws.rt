@@ -5,6 +5,7 @@ ghost use Rattle.inline_laws.specs.InlineWindowRule.{InlineWindowRule};
 ghost use Rattle.inline_laws.specs.InlineConditions.{InlineConditions};
 ghost use Rattle.inline_laws.specs.FreshCallee.{FreshCallee};
 ghost use Rattle.inline_laws.specs.FreshCallee.{FreshConditions};
+ghost use Rattle.inline_laws.specs.MovedIsPut.{MovedIsPut};
 ghost use Rattle.inline_laws.specs.Shares.{SharesLaw};
 ghost use Rattle.inline_laws.specs.AtOnce.{AtOnce};
 ghost use Rattle.inline_laws.specs.ReplaceRule.{ReplaceRule};
@@ -49,4 +50,9 @@ pub fn callees_with_new_ids_may_be_inlined()
 /// Arguments put one after the other are put all at once.
 pub fn arguments_are_put_at_once()
     ensures { AtOnce }
+{}
+
+/// The callee's expressions as the match has them are those of the inlined body.
+pub fn matched_expressions_are_inlined()
+    ensures { MovedIsPut }
 {}
