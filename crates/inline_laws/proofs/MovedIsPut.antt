@@ -12,11 +12,16 @@ use Rattle.affine_forms.proofs.Values.{and_parts, some_injective}
 use Rattle.inplace_laws.specs.Windows.{nth_span, root_in, coords_of}
 use Rattle.match_laws.specs.Names.{Names}
 use Rattle.match_laws.specs.Moved.{Moving, both, one, moved, moved_condition}
+use Rattle.match_laws.specs.Moved.{agree, conditions_agree}
+use Rattle.match_laws.specs.Pairs.{Pair, Numbers, Truths, Binders, Own, Access, Unlike}
 use Rattle.match_laws.specs.Matched.{to, number_in, truth_in, stride_in, variable_for, stride_for}
-use Rattle.match_laws.specs.Matched.{given_to}
-use Rattle.match_laws.specs.MatchedFits.{given_names}
+use Rattle.match_laws.specs.Matched.{given_to, all_pairs}
+use Rattle.match_laws.specs.MatchedFits.{Fits, given_names}
+use Rattle.match_laws.proofs.MatchedFits.{matched_fits}
+use Rattle.exo_meaning.specs.Orders.{Each}
 use Rattle.inline_laws.specs.AtOnce.{Put, puts, with_put, put_control, put_condition}
 use Rattle.inline_laws.specs.MovedIsPut.{is_of_kind, are_of_kinds, HasBlockIds, MovedIsPut}
+use Rattle.inline_laws.specs.MovedIsPut.{Agrees, MatchedAgrees}
 use Rattle.inline_laws.proofs.AtOnce.{Keeps, puts_keep}
 
 -- ---- expressions, by their leaves
@@ -261,3 +266,40 @@ moved_is_put at theirs block q args own s = (
       (variable_is at theirs block q args own s) (stride_is at theirs block q args own s)
       (flag_is at theirs block q args own s),
 )
+
+-- ---- so the pairs of a match agree
+
+module _ (at : Reading) (to : ℕ → Option ℕ) (m : Moving) (put : Put)
+    (own : (x y : ℕ) → to x ≡ Some y → x ≡ y)
+    (controls : (e : Control) → IfSome (moved m e) (λ f. f ≡ put_control put e))
+    (truths : (c : Condition) → IfSome (moved_condition m c) (λ r. r ≡ put_condition put c)) where
+  number_agrees : (e g : Control) (o : Option Control) → IfSome o (λ f. agree at f g ≡ true)
+      → IfSome o (λ f. f ≡ put_control put e)
+      → IfSome o (λ f. agree at (put_control put e) g ≡ true)
+  number_agrees e g None h k = tt
+  number_agrees e g (Some f) h k = ap (λ z. agree at z g) (sym k) ∙ h
+
+  truth_agrees : (c d : Condition) (o : Option Condition)
+      → IfSome o (λ r. conditions_agree at r d ≡ true) → IfSome o (λ r. r ≡ put_condition put c)
+      → IfSome o (λ r. conditions_agree at (put_condition put c) d ≡ true)
+  truth_agrees c d None h k = tt
+  truth_agrees c d (Some r) h k = ap (λ z. conditions_agree at z d) (sym k) ∙ h
+
+  pair_agrees : (a : Pair) → Fits at to m a → Agrees at m put a
+  pair_agrees (Numbers p whole e g) h = number_agrees e g (moved m e) h (controls e)
+  pair_agrees (Truths p whole c d) h = truth_agrees c d (moved_condition m c) h (truths c)
+  pair_agrees (Binders x y) h = tt
+  pair_agrees (Own p x y) h = own x y h
+  pair_agrees (Access p x cs y ds) h = tt
+  pair_agrees (Unlike p) h = h
+
+  all_agree : (pairs : List Pair) → Each (Fits at to m) pairs → Each (Agrees at m put) pairs
+  all_agree [] h = tt
+  all_agree (a ∷ pairs) h = (pair_agrees a h.0, all_agree pairs h.1)
+
+pub matched_agrees : MatchedAgrees
+matched_agrees at theirs block q args e own s =
+    let is = moved_is_put at theirs block q args own s in
+    let it = matched_fits at theirs block q args e in
+    all_agree at (to at theirs block q) (given_names at theirs block q args) (puts q.params args)
+    own is.0 is.1 (all_pairs at theirs block q) it.fits

@@ -1,5 +1,6 @@
 -- The rewrite replace on small units, and the calls inlined again.
-use Rattle.std.proofs.Common.{◌≡◌, ℕ, ◌+◌, ◌==◌, Bool, if◌then◌else◌, pos, true, List, [], ◌∷◌, Some, None, refl}
+use Rattle.std.proofs.Common.{◌≡◌, ℕ, ◌+◌, ◌==◌, Bool, if◌then◌else◌, pos, true, false, List, [], ◌∷◌, Some, None}
+use Rattle.std.proofs.Common.{IfSome, refl, sym, ◌∙◌, eqb-true}
 use Rattle.exo_tree.specs.Tree.{I32, Index, Control, Var, Add, Const, Read, Times, Coord, At, Span}
 use Rattle.exo_tree.specs.Tree.{Argument, ControlArg, Whole, Window, ControlParam, TensorParam}
 use Rattle.exo_tree.specs.Tree.{Assign, Reduce, Call, Block, end, next, Procedure}
@@ -9,7 +10,14 @@ use Rattle.inplace_laws.specs.Shared.{DoNotShare}
 use Rattle.match_laws.specs.Alike.{blocks_agree, nameless}
 use Rattle.match_laws.proofs.Instances.{own, lit, loop, copy8, product, at_lane, loaded, step, rows}
 use Rattle.match_laws.proofs.Instances.{zeros, nest}
-use Rattle.inline_laws.specs.AtOnce.{puts, put_block}
+use Rattle.exo_meaning.specs.Orders.{Each}
+use Rattle.affine_forms.proofs.Values.{some_injective, none_some}
+use Rattle.match_laws.specs.Moved.{moved}
+use Rattle.match_laws.specs.Matched.{all_pairs}
+use Rattle.match_laws.specs.MatchedFits.{given_names}
+use Rattle.inline_laws.specs.MovedIsPut.{Agrees, HasBlockIds}
+use Rattle.inline_laws.proofs.MovedIsPut.{moved_is_put, matched_agrees}
+use Rattle.inline_laws.specs.AtOnce.{puts, put_block, put_control}
 use Rattle.inline_laws.specs.Pieces.{Piece}
 use Rattle.inline_laws.specs.InlineRule.{renumbered}
 use Rattle.inline_laws.specs.ReplaceRule.{AtPath, OfParam, Shared, replace_piece, replace_draft}
@@ -118,3 +126,25 @@ row_at = ControlArg (Var 11) ∷ Window 12 (At (Var 14) ∷ Span (lit 0) (Var 11
 row_at_once : inlined copy_n.params row_at copy_n.body
     ≡ put_block (puts copy_n.params row_at) copy_n.body
 row_at_once = at_once copy_n.params row_at copy_n.body refl refl
+
+-- ---- the load, matched with copy8 under the id of ji
+
+abbrev copy_here : Procedure
+copy_here = renumbered as_in_load copy8
+
+copy_has_block_ids : HasBlockIds own product load copy_here
+copy_has_block_ids x y h = go (11 == x) refl h
+  where
+    go : (t : Bool) → (11 == x) ≡ t
+        → elim (if t then Some 11 else None) [ None ↦ None | Some z ↦ Some z ] ≡ Some y → x ≡ y
+    go true e k = sym (eqb-true 11 x e) ∙ some_injective 11 y k
+    go false e k = absurd (none_some k)
+
+load_expressions : (e : Control) → IfSome (moved (given_names own product load copy_here loaded) e)
+    (λ f. f ≡ put_control (puts copy_here.params loaded) e)
+load_expressions e =
+    (moved_is_put own product load copy_here loaded copy_has_block_ids refl).0 e
+
+load_agrees : Each (Agrees own (given_names own product load copy_here loaded)
+    (puts copy_here.params loaded)) (all_pairs own product load copy_here)
+load_agrees = matched_agrees own product load copy_here loaded refl copy_has_block_ids refl

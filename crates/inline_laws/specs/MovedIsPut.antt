@@ -1,16 +1,16 @@
 -- The callee's expressions as the match has them are those of the inlined body.
-use Rattle.std.specs.Prelude.{◌≡◌, ℕ, Bool, true, ◌&&◌, not, List, [], ◌∷◌, Some, IfSome}
+use Rattle.std.specs.Prelude.{◌≡◌, ℕ, Bool, true, ◌&&◌, not, List, [], ◌∷◌, Some, IfSome, ⊤}
 use Rattle.exo_tree.specs.Tree.{Control, Condition, Argument, ParamKind, ControlParam, TensorParam}
 use Rattle.exo_tree.specs.Tree.{WindowParam, Param, Block, Procedure}
 use Rattle.affine_forms.specs.Forms.{Reading}
 use Rattle.inplace_laws.specs.Inline.{is_view}
 use Rattle.match_laws.specs.Names.{Names}
-use Rattle.match_laws.specs.Moved.{moved, moved_condition, agree, conditions_agree}
+use Rattle.match_laws.specs.Moved.{Moving, moved, moved_condition, agree, conditions_agree}
 use Rattle.match_laws.specs.Pairs.{Pair, Numbers, Truths, Binders, Own, Access, Unlike}
 use Rattle.match_laws.specs.Matched.{Arguments, matched, to, all_pairs}
 use Rattle.match_laws.specs.MatchedFits.{given_names}
 use Rattle.exo_meaning.specs.Orders.{Each}
-use Rattle.inline_laws.specs.AtOnce.{puts, put_control, put_condition}
+use Rattle.inline_laws.specs.AtOnce.{Put, puts, put_control, put_condition}
 
 -- buffers are given for buffers, and for nothing else
 abbrev pub is_of_kind : ParamKind → Argument → Bool
@@ -36,3 +36,25 @@ MovedIsPut =
     (λ f. f ≡ put_control (puts q.params args) e))
     × ((c : Condition) → IfSome (moved_condition (given_names at theirs block q args) c)
     (λ r. r ≡ put_condition (puts q.params args) c))
+
+-- what is known of a pair, with the arguments put in the callee's expressions
+abbrev pub Agrees : Reading → Moving → Put → Pair → Type 0
+Agrees at m put (Numbers p whole e g) =
+    IfSome (moved m e) (λ f. agree at (put_control put e) g ≡ true)
+Agrees at m put (Truths p whole c d) =
+    IfSome (moved_condition m c) (λ r. conditions_agree at (put_condition put c) d ≡ true)
+Agrees at m put (Binders x y) = ⊤
+Agrees at m put (Own p x y) = x ≡ y
+Agrees at m put (Access p x cs y ds) = ⊤
+Agrees at m put (Unlike p) = ⊥
+
+-- where a block is matched, each known expression of the inlined body agrees with the one that
+-- stands against it, and names of its own are those of the block
+abbrev pub MatchedAgrees : Type 0
+MatchedAgrees =
+    (at : Reading) (theirs : Names) (block : Block) (q : Procedure) (args : List Argument)
+    → matched at theirs block q ≡ Arguments args
+    → HasBlockIds at theirs block q
+    → are_of_kinds q.params args ≡ true
+    → Each (Agrees at (given_names at theirs block q args) (puts q.params args))
+    (all_pairs at theirs block q)

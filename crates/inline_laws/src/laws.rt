@@ -6,6 +6,7 @@ ghost use Rattle.inline_laws.specs.InlineConditions.{InlineConditions};
 ghost use Rattle.inline_laws.specs.FreshCallee.{FreshCallee};
 ghost use Rattle.inline_laws.specs.FreshCallee.{FreshConditions};
 ghost use Rattle.inline_laws.specs.MovedIsPut.{MovedIsPut};
+ghost use Rattle.inline_laws.specs.MovedIsPut.{MatchedAgrees};
 ghost use Rattle.inline_laws.specs.Shares.{SharesLaw};
 ghost use Rattle.inline_laws.specs.AtOnce.{AtOnce};
 ghost use Rattle.inline_laws.specs.ReplaceRule.{ReplaceRule};
@@ -55,4 +56,9 @@ pub fn arguments_are_put_at_once()
 /// The callee's expressions as the match has them are those of the inlined body.
 pub fn matched_expressions_are_inlined()
     ensures { MovedIsPut }
+{}
+
+/// Where a block is matched, the expressions of the inlined body agree with those of the block.
+pub fn matched_expressions_agree()
+    ensures { MatchedAgrees }
 {}
