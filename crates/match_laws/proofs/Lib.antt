@@ -3,6 +3,7 @@ pub mod Agree
 pub mod Alike
 pub mod Fitting
 pub mod Widths
+pub mod ArgumentFits
 pub mod Matched
 pub mod MatchedFits
 pub mod Single

@@ -23,6 +23,8 @@ use Rattle.match_laws.specs.Widths.{Said, TooWide, matched_in_width, match_is_sh
 use Rattle.match_laws.proofs.Single.{each_of_one}
 use Rattle.match_laws.proofs.Alike.{agree_along, agree_runs}
 use Rattle.match_laws.proofs.Fitting.{same_windows, same_places, fitting_law}
+use Rattle.match_laws.specs.ArgumentFits.{IsFitting}
+use Rattle.match_laws.proofs.ArgumentFits.{argument_fits}
 use Rattle.match_laws.proofs.MatchedFits.{matched_fits}
 use Rattle.match_laws.proofs.Widths.{width_law, too_wide_law}
 use Rattle.match_laws.proofs.Instances.{own, lit, loop, copy8, product, at_lane, lanes, tile, loaded}
@@ -140,3 +142,10 @@ five_times = loop 6 (lit 5) (For (record { id = 7; name = [] }) (lit 0) wide
 differences_come_first : matched_in_width own rows five_times zeros
     ≡ Said (NoMatch (step 0 ∷ []))
 differences_come_first = refl
+
+-- ---- the argument for src of copy8
+
+source_fits : IsFitting own in_block ji false (lit 8 ∷ []) product (source ∷ [])
+    (Window 5 (At (Var 6) ∷ tile ∷ []))
+source_fits = argument_fits own in_block ji false (lit 8 ∷ []) product (source ∷ [])
+    (Window 5 (At (Var 6) ∷ tile ∷ [])) refl

@@ -6,5 +6,6 @@ pub mod Matched
 pub mod Alike
 pub mod Fitting
 pub mod Widths
+pub mod ArgumentFits
 pub mod MatchedFits
 pub mod RenamedCallee

@@ -10,6 +10,7 @@ ghost use Rattle.match_laws.specs.Fitting.{SameWindows};
 ghost use Rattle.match_laws.specs.Fitting.{SamePlaces};
 ghost use Rattle.match_laws.specs.Fitting.{FittingLaw};
 ghost use Rattle.match_laws.specs.MatchedFits.{MatchedFits};
+ghost use Rattle.match_laws.specs.ArgumentFits.{ArgumentFits};
 ghost use Rattle.match_laws.specs.Widths.{WidthLaw};
 ghost use Rattle.match_laws.specs.Widths.{TooWideLaw};
 
@@ -72,4 +73,9 @@ pub fn matched_pairs_fit()
 /// Blocks that agree but for the names of their binders run alike.
 pub fn blocks_that_agree_run_alike()
     ensures { AgreeRuns }
+{}
+
+/// The argument of a buffer parameter is one that a fitting list of positions gives.
+pub fn buffer_arguments_fit()
+    ensures { ArgumentFits }
 {}
