@@ -1,5 +1,5 @@
 -- Blocks that agree do the same.
-use Rattle.std.proofs.Common.{◌≡◌, ◌∙◌, ℕ, ℤ, ◌+ℤ◌, ◌-ℤ◌, ◌*ℤ◌, ◌==◌, pos, int_le, int_lt, Bool}
+use Rattle.std.proofs.Common.{◌≡◌, ◌∙◌, ℕ, ℤ, ◌+ℤ◌, ◌-ℤ◌, ◌*ℤ◌, ◌==◌, pos, int_le, int_lt}
 use Rattle.std.proofs.Common.{true, false, ◌&&◌, ◌||◌, List, [], ◌∷◌, Option, Some, None}
 use Rattle.std.proofs.Common.{option_map, refl, sym, ap, ap₂, subst, true≢false, eqb-true}
 use Rattle.std.specs.Ordering.{int_eq}
@@ -219,7 +219,7 @@ module _ (at : Reading) where
         (value_same a c p.0 i.0 j.0) (value_same b d p.1 i.1 j.1)
     value_same (Select a b c d) (Select e f g k) h i j =
         let p = and_parts (data_agree at a e && data_agree at b f)
-            (data_agree at c g && data_agree at d k) h in
+        (data_agree at c g && data_agree at d k) h in
         let q = and_parts (data_agree at a e) (data_agree at b f) p.0 in
         let r = and_parts (data_agree at c g) (data_agree at d k) p.1 in
         ap₂ (λ (m n : Option Value). then_do m (λ u. then_do n (λ v.
@@ -354,7 +354,7 @@ module _ (at : Reading) where
           let i = ka (Here rest) (If t a b) s refl refl in
           let j = kc (Here more) (If r c d) s refl refl in
           let p = and_parts (conditions_agree at t r) (blocks_agree at a c && blocks_agree at b d)
-              h in
+          h in
           let q = and_parts (blocks_agree at a c) (blocks_agree at b d) p.1 in
           let same = conditions_same s.scene t r p.0 i j in
           in_branches same
@@ -370,19 +370,19 @@ module _ (at : Reading) where
           let x = ka (Here rest) (For i lo hi b) s refl refl in
           let y = kc (Here more) (For j l h d) s refl refl in
           let p = and_parts (same_binder i j)
-              ((agree at lo l && agree at hi h) && blocks_agree at b d) e in
+          ((agree at lo l && agree at hi h) && blocks_agree at b d) e in
           let q = and_parts (agree at lo l && agree at hi h) (blocks_agree at b d) p.1 in
           let ends = sides_same s.scene lo hi l h q.0 x y in
           subst (λ k. SameThere world (For i lo hi b) (For k l h d) s) (binders_same i j p.0)
-              (in_turns ends.0 ends.1 (λ n u come. by_turns i lo hi b l h d rest more s
-              (λ v kb kd. along b d v q.1 kb kd) ends.0 ends.1 ka
-              (subst (λ k. Keeps (next (For k l h d) more) s) (sym (binders_same i j p.0)) kc)
-              n u come))
+          (in_turns ends.0 ends.1 (λ n u come. by_turns i lo hi b l h d rest more s
+          (λ v kb kd. along b d v q.1 kb kd) ends.0 ends.1 ka
+          (subst (λ k. Keeps (next (For k l h d) more) s) (sym (binders_same i j p.0)) kc)
+          n u come))
       there (Alloc x cell dims memory) (Alloc y type extents store) rest more s h ka kc =
           let i = ka (Here rest) (Alloc x cell dims memory) s refl refl in
           let j = kc (Here more) (Alloc y type extents store) s refl refl in
           let p = and_parts (x.id == y.id) (same_cell cell type && controls_agree at dims extents)
-              h in
+          h in
           let q = and_parts (same_cell cell type) (controls_agree at dims extents) p.1 in
           at_once (ap₂ (λ z t. allocate z t (numbers s.scene dims) s) (eqb-true x.id y.id p.0)
           (cells_same cell type q.0)

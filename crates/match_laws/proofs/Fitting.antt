@@ -1,14 +1,14 @@
 -- Where a list of positions fits, the accesses of the parameter on the argument are the block's.
 use Rattle.std.proofs.Common.{◌≡◌, ◌∙◌, ℕ, suc, ℤ, ◌+ℤ◌, ◌-ℤ◌, pos, int_le, int_lt, Bool, true}
-use Rattle.std.proofs.Common.{false, ◌&&◌, List, [], ◌∷◌, length, Option, Some, None, IfSome, IsSome}
+use Rattle.std.proofs.Common.{false, ◌&&◌, List, [], ◌∷◌, length, Option, Some, None, IfSome}
+use Rattle.std.proofs.Common.{IsSome}
 use Rattle.std.proofs.Common.{if◌then◌else◌, option_map, refl, sym, ap, ap₂, subst, true≢false}
 use Rattle.std.proofs.Common.{arith}
 use Rattle.std.proofs.lemmas.Int.{ints}
 use Rattle.exo_tree.specs.Tree.{Control, Add, Sub, Coord, At, Span}
 use Rattle.exo_meaning.specs.Orders.{Each}
 use Rattle.exo_meaning.specs.Scene.{Side, Point, Range, Seen, Scene, then_do, number, numbers}
-use Rattle.exo_meaning.specs.Scene.{narrowed, window, cell_at, is_below, where_true}
-use Rattle.exo_meaning.specs.State.{place}
+use Rattle.exo_meaning.specs.Scene.{narrowed, cell_at, is_below, where_true}
 use Rattle.affine_forms.specs.Forms.{Reading, Allowed, is_affine}
 use Rattle.affine_forms.specs.Laws.{ReadsAt}
 use Rattle.affine_forms.proofs.Values.{and_parts, some_injective, none_some}
@@ -249,8 +249,10 @@ module _ (may : Allowed) (at : Reading) (m : Moving) (bound : ℕ → Bool) (sce
   at_composed n g (Some f) (Some ss) (Some cs) gs ih (Offset o ∷ first) [] len aff =
       absurd (zero_suc n len)
   at_composed n g (Some f) (Some ss) (Some cs) gs ih (Offset o ∷ first) (d ∷ ds) len aff =
-      λ i j same. (lower o f g aff.0 same.0,
-      ih first ds (suc_same n (length ds) len) aff.1 i.1 j.1 same.1)
+      λ i j same. (
+        lower o f g aff.0 same.0,
+        ih first ds (suc_same n (length ds) len) aff.1 i.1 j.1 same.1,
+      )
 
   span_where : (t : Bool) (n : ℕ) (g h e f : Control) (p : Option (List Spot))
       (q : Option (List Coord)) (gs : List Coord) → agree at (Sub h g) (Sub f e) ≡ t
@@ -270,7 +272,7 @@ module _ (may : Allowed) (at : Reading) (m : Moving) (bound : ℕ → Bool) (sce
       λ i j same. (
         lower o e g aff.0 same.0,
         higher o e g f h aff.0 same.0 (agree_law may at scene (Sub h g) (Sub f e) reads
-        (both_affine h g j.1 j.0) (both_affine f e i.1 i.0) so),
+            (both_affine h g j.1 j.0) (both_affine f e i.1 i.0) so),
         ih first ds (suc_same n (length ds) len) aff.1 i.2 j.2 same.1,
       )
 
@@ -343,10 +345,12 @@ module _ (may : Allowed) (at : Reading) (m : Moving) (bound : ℕ → Bool) (sce
       → are_as at m bound first o ≡ true → OfSpots Affine first
       → IsSome o × ((ss : List Spot) → o ≡ Some ss → OfSpots Affine ss → SameSpots first ss)
   are_as_parts first None h aff = no h
-  are_as_parts first (Some ts) h aff =
-      (refl, λ ss e i. subst (λ z. SameSpots first z) (some_injective ts ss e)
-      (spots_same first ts h aff (subst (λ z. OfSpots Affine z)
-      (sym (some_injective ts ss e)) i)))
+  are_as_parts first (Some ts) h aff = (
+    refl,
+    λ ss e i. subst (λ z. SameSpots first z) (some_injective ts ss e)
+        (spots_same first ts h aff (subst (λ z. OfSpots Affine z)
+        (sym (some_injective ts ss e)) i)),
+  )
 
   each_use : (listed : List Bool) (first : List Spot) (ds : List Control) (us : List Use)
       → all_as at m bound listed first us ≡ true → OfSpots Affine first
@@ -363,7 +367,7 @@ module _ (may : Allowed) (at : Reading) (m : Moving) (bound : ℕ → Bool) (sce
       → elim o [
         | None ↦ None
         | Some ss ↦ if are_free at m bound ss && all_as at m bound listed ss us then Some ss
-        else None
+            else None
       ] ≡ Some first → OfSpots Affine first → Each (One first ds) (u ∷ us)
   fits listed u us first ds None e h aff = absurd (none_some h)
   fits listed u us first ds (Some ss) e h aff = go (are_free at m bound ss
@@ -374,12 +378,11 @@ module _ (may : Allowed) (at : Reading) (m : Moving) (bound : ℕ → Bool) (sce
       go false so f = absurd (none_some f)
       go true so f =
           let same = some_injective ss first f in
-          let p = and_parts (are_free at m bound ss) (all_as at m bound listed ss us) so in
-          (
+          let p = and_parts (are_free at m bound ss) (all_as at m bound listed ss us) so in (
             one_use listed first ds u aff
-            (λ ts k i. subst (λ z. SameSpots first z)
-            (sym same ∙ some_injective ss ts (sym e ∙ k)) (spots_refl first))
-            (subst (λ z. IsSome z) (sym e) refl),
+                (λ ts k i. subst (λ z. SameSpots first z)
+                (sym same ∙ some_injective ss ts (sym e ∙ k)) (spots_refl first))
+                (subst (λ z. IsSome z) (sym e) refl),
             subst (λ z. Each (One z ds) us) same
                 (each_use listed ss ds us p.1 (subst (λ z. OfSpots Affine z) (sym same) aff)),
           )

@@ -1,6 +1,6 @@
 -- Where a block is matched, each pair of the walk fits.
-use Rattle.std.proofs.Common.{◌≡◌, ℕ, ◌==◌, Bool, true, false, ◌||◌, not, if◌then◌else◌, List, []}
-use Rattle.std.proofs.Common.{◌∷◌, Option, Some, None, IfSome, Result, Ok, Err, refl, sym, ap, ◌∙◌}
+use Rattle.std.proofs.Common.{◌≡◌, ℕ, Bool, true, false, not, if◌then◌else◌, List, []}
+use Rattle.std.proofs.Common.{◌∷◌, Option, Some, None, IfSome, Result, Ok, Err, refl, sym, ap}
 use Rattle.std.proofs.Common.{subst, true≢false, eqb-true}
 use Rattle.std.proofs.lemmas.Bool.{or_parts}
 use Rattle.exo_tree.specs.Tree.{Control, Condition, Argument, Param, Block, Procedure}
@@ -11,7 +11,7 @@ use Rattle.affine_forms.specs.Forms.{Reading}
 use Rattle.match_laws.specs.Names.{Names}
 use Rattle.match_laws.specs.Pairs.{Pair, Numbers, Truths, Binders, Own, Access, Unlike}
 use Rattle.match_laws.specs.Moved.{Moving, moved, moved_condition, agree, conditions_agree}
-use Rattle.match_laws.specs.Matched.{Matched, Arguments, NoMatch, Undetermined, matched, with_first}
+use Rattle.match_laws.specs.Matched.{Arguments, NoMatch, Undetermined, with_first}
 use Rattle.match_laws.specs.Matched.{first_undetermined, first_difference, params, own_pairs, walk}
 use Rattle.match_laws.specs.Matched.{all_pairs, to, by_walk, argument_for, arguments_for}
 use Rattle.match_laws.specs.Matched.{with_strides, walked, ends_at, is_own_unlike, is_partner}
@@ -87,7 +87,8 @@ module _ (at : Reading) (params bound : ℕ → Bool) (to : ℕ → Option ℕ) 
       go : Rest seen a pairs → (t : Bool) → ends_at params bound to seen a ≡ t
           → first_difference at m
           (if t then Unlike (path_of a) ∷ [] else a ∷ from_here (later seen a) pairs) ≡ None
-          → ((if t then Unlike (path_of a) ∷ [] else a ∷ from_here (later seen a) pairs) ≡ a ∷ pairs)
+          → ((if t then Unlike (path_of a) ∷ [] else a ∷ from_here
+          (later seen a) pairs) ≡ a ∷ pairs)
           × Each (Fits at to m) (a ∷ pairs)
       go by true e f = absurd (no_path (path_of a) f)
       go by false e f = here by e (differs at m a) refl f

@@ -1,9 +1,9 @@
 -- Blocks that agree, lists of positions that fit, and matches with wide numbers.
-use Rattle.std.proofs.Common.{◌≡◌, ℕ, ℤ, pos, ◌==◌, Bool, true, false, List, [], ◌∷◌, Some, None}
-use Rattle.std.proofs.Common.{refl, ap, subst, true≢false}
-use Rattle.exo_tree.specs.Tree.{I32, Control, Lit, Var, Neg, Add, Sub, Mul, Datum, Const, Read}
-use Rattle.exo_tree.specs.Tree.{Coord, At, Span, Argument, Whole, Window, ParamKind, Statement}
-use Rattle.exo_tree.specs.Tree.{Assign, Reduce, Config, Pass, If, For, Alloc, View, Call, Block}
+use Rattle.std.proofs.Common.{◌≡◌, ℕ, pos, ◌==◌, Bool, true, false, List, [], ◌∷◌, Some, None}
+use Rattle.std.proofs.Common.{refl}
+use Rattle.exo_tree.specs.Tree.{Control, Lit, Var, Neg, Add, Sub, Const, Read}
+use Rattle.exo_tree.specs.Tree.{At, Window, Statement}
+use Rattle.exo_tree.specs.Tree.{Assign, For, Block}
 use Rattle.exo_tree.specs.Tree.{end, next}
 use Rattle.exo_meaning.specs.Orders.{Each}
 use Rattle.exo_meaning.specs.Scene.{Scene, window}
@@ -27,7 +27,8 @@ use Rattle.match_laws.specs.ArgumentFits.{IsFitting}
 use Rattle.match_laws.proofs.ArgumentFits.{argument_fits}
 use Rattle.match_laws.proofs.MatchedFits.{matched_fits}
 use Rattle.match_laws.proofs.Widths.{width_law, too_wide_law}
-use Rattle.match_laws.proofs.Instances.{own, lit, loop, copy8, product, at_lane, lanes, tile, loaded}
+use Rattle.match_laws.proofs.Instances.{own, lit, loop, copy8, product, at_lane, tile}
+use Rattle.match_laws.proofs.Instances.{loaded}
 use Rattle.match_laws.proofs.Instances.{loads, world, reads, step, nest, zeros, rows}
 
 -- ---- x[7 - i] = 5 and x[-i + 7] = 5

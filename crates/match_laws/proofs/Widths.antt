@@ -1,7 +1,7 @@
 -- What is said in width is the match.
-use Rattle.std.proofs.Common.{◌≡◌, Bool, true, false, if◌then◌else◌, refl, sym, ap, ◌∙◌, true≢false}
+use Rattle.std.proofs.Common.{◌≡◌, Bool, true, false, if◌then◌else◌, refl, sym, ap}
 use Rattle.match_laws.specs.Matched.{Matched, matched}
-use Rattle.match_laws.specs.Widths.{InWidth, Said, TooWide, match_is_short, matched_in_width}
+use Rattle.match_laws.specs.Widths.{InWidth, Said, TooWide, match_is_short}
 use Rattle.match_laws.specs.Widths.{WidthLaw, TooWideLaw}
 
 said : (a b : Matched) → Said a ≡ Said b → a ≡ b

@@ -1,5 +1,5 @@
 -- The accesses of a parameter, composed onto the argument that a fitting list of positions gives.
-use Rattle.std.specs.Prelude.{◌≡◌, ℕ, Bool, true, List, [], ◌∷◌, length, Option, Some, None, IfSome}
+use Rattle.std.specs.Prelude.{◌≡◌, ℕ, Bool, true, List, [], ◌∷◌, length, Option, Some, IfSome}
 use Rattle.std.specs.Prelude.{⊤}
 use Rattle.exo_tree.specs.Tree.{Control, Coord, At, Span}
 use Rattle.exo_meaning.specs.Orders.{Each}

@@ -1,7 +1,9 @@
 -- The match where the normal forms that it asks for have numbers of at most 2^62.
-use Rattle.std.specs.Prelude.{◌≡◌, ◌↔◌, ℕ, Bool, true, false, ◌&&◌, ◌||◌, not, nat_lt, List, [], ◌∷◌}
+use Rattle.std.specs.Prelude.{◌≡◌, ◌↔◌, ℕ, Bool, true, false, ◌&&◌, ◌||◌, not, nat_lt, List, []}
+use Rattle.std.specs.Prelude.{◌∷◌}
 use Rattle.std.specs.Prelude.{length, if◌then◌else◌, Option, Some, None, Result, Ok, Err}
-use Rattle.exo_tree.specs.Tree.{Control, Add, Sub, Condition, Lt, Le, Gt, Ge, Eq, And, Or, Coord, At}
+use Rattle.exo_tree.specs.Tree.{Control, Add, Sub, Condition, Lt, Le, Gt, Ge, Eq, And, Or, Coord}
+use Rattle.exo_tree.specs.Tree.{At}
 use Rattle.exo_tree.specs.Tree.{Span, Argument, ParamKind, ControlParam, TensorParam, WindowParam}
 use Rattle.exo_tree.specs.Tree.{Param, Block, Procedure}
 use Rattle.exo_tree.specs.Places.{Path}
@@ -101,7 +103,7 @@ module _ (at : Reading) (m : Moving) (bound : ℕ → Bool) where
       extents_are_short listed u.ours u.theirs && elim (spots at m bound listed u.ours u.theirs) [
         | None ↦ true
         | Some ss ↦ spots_are_short first ss
-        && (not (same_spots at m bound first ss) || uses_are_short listed first us)
+            && (not (same_spots at m bound first ss) || uses_are_short listed first us)
       ]
 
   abbrev pub list_is_short : List Bool → Use → List Use → Bool
@@ -109,7 +111,7 @@ module _ (at : Reading) (m : Moving) (bound : ℕ → Bool) where
       extents_are_short listed u.ours u.theirs && elim (spots at m bound listed u.ours u.theirs) [
         | None ↦ true
         | Some ss ↦ offsets_are_short ss
-        && (not (are_free at m bound ss) || uses_are_short listed ss us)
+            && (not (are_free at m bound ss) || uses_are_short listed ss us)
       ]
 
   -- up to the first list that gives an argument
@@ -120,10 +122,10 @@ module _ (at : Reading) (m : Moving) (bound : ℕ → Bool) where
       list_is_short listed u us && elim (fitting at m bound listed u us) [
         | None ↦ lists_are_short whole b ds u us more
         | Some ss ↦ (whole || ends_are_short ss ds)
-        && elim (argument_from at m bound whole b u.name ds ss) [
-          | None ↦ lists_are_short whole b ds u us more
-          | Some a ↦ true
-        ]
+            && elim (argument_from at m bound whole b u.name ds ss) [
+              | None ↦ lists_are_short whole b ds u us more
+              | Some a ↦ true
+            ]
       ]
 
   abbrev pub lists_are_short_among :
@@ -174,11 +176,11 @@ module _ (at : Reading) (theirs : Names) (block : Block) (q : Procedure) where
       elim (first_undetermined (params at theirs block q) (own_pairs at theirs block q) q.params) [
         | Some x ↦ true
         | None ↦ walk_is_short at (by_walk at theirs block q) (walk at theirs block q)
-        && elim (first_difference at (by_walk at theirs block q) (walk at theirs block q)) [
-          | Some p ↦ true
-          | None ↦ arguments_are_short q.params
-          && strides_are_short (arguments_for at theirs block q q.params)
-        ]
+            && elim (first_difference at (by_walk at theirs block q) (walk at theirs block q)) [
+              | Some p ↦ true
+              | None ↦ arguments_are_short q.params
+                  && strides_are_short (arguments_for at theirs block q q.params)
+            ]
       ]
 
   abbrev pub matched_in_width : InWidth
