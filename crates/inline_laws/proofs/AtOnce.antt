@@ -1,12 +1,16 @@
 -- Arguments put one after the other are put all at once.
-use Rattle.std.proofs.Common.{◌≡◌, ℕ, ◌==◌, Bool, true, false, cond, ◌&&◌, ◌||◌, if◌then◌else◌, List}
-use Rattle.std.proofs.Common.{[], ◌∷◌, refl, sym, ap, ap₂, ◌∙◌, subst, true≢false, eqb-true, eq-eqb}
+use Rattle.std.proofs.Common.{◌≡◌, ℕ, ◌==◌, Bool, true, false, cond, ◌||◌, if◌then◌else◌}
+use Rattle.std.proofs.Common.{List}
+use Rattle.std.proofs.Common.{[], ◌∷◌, refl, sym, ap, ap₂, ◌∙◌, true≢false, eqb-true, eq-eqb}
 use Rattle.exo_tree.specs.Tree.{Control, Lit, Var, Field, StrideOf, Neg, Add, Sub, Mul, Div, Mod}
-use Rattle.exo_tree.specs.Tree.{Condition, True, False, Flag, FieldFlag, Lt, Le, Gt, Ge, Eq, And, Or}
-use Rattle.exo_tree.specs.Tree.{Datum, Const, Read, Negated, Relu, Plus, Minus, Times, Select, Coord}
+use Rattle.exo_tree.specs.Tree.{Condition, True, False, Flag, FieldFlag, Lt, Le, Gt, Ge, Eq, And}
+use Rattle.exo_tree.specs.Tree.{Or}
+use Rattle.exo_tree.specs.Tree.{Datum, Const, Read, Negated, Relu, Plus, Minus, Times, Select}
+use Rattle.exo_tree.specs.Tree.{Coord}
 use Rattle.exo_tree.specs.Tree.{At, Span, Argument, ControlArg, ConditionArg, Whole, Window}
 use Rattle.exo_tree.specs.Tree.{ParamKind, ControlParam, TensorParam, WindowParam, Param, Statement}
-use Rattle.exo_tree.specs.Tree.{Assign, Reduce, Config, Pass, If, For, Alloc, View, Call, Block, end}
+use Rattle.exo_tree.specs.Tree.{Assign, Reduce, Config, Pass, If, For, Alloc, View, Call, Block}
+use Rattle.exo_tree.specs.Tree.{end}
 use Rattle.exo_tree.specs.Tree.{next}
 use Rattle.exo_meaning.specs.Inputs.{is_buffer_of}
 use Rattle.exo_meaning.specs.Unseen.{in_control, in_condition, in_coords, in_argument, in_arguments}
@@ -115,9 +119,11 @@ module _ (put : Put) (x : ℕ) (e : Control) (free : put_control put e ≡ e) wh
   number_datum (Minus a b) = ap₂ Minus (number_datum a) (number_datum b)
   number_datum (Times a b) = ap₂ Times (number_datum a) (number_datum b)
   number_datum (Select a b c d) =
-      ap₂ (λ m n. Select m n (put_datum put (num.in_datum x e c)) (put_datum put (num.in_datum x e d)))
+      ap₂ (λ m n. Select m n (put_datum put (num.in_datum x e c))
+      (put_datum put (num.in_datum x e d)))
       (number_datum a) (number_datum b)
-      ∙ ap₂ (Select (put_datum with_number a) (put_datum with_number b)) (number_datum c) (number_datum d)
+      ∙ ap₂ (Select (put_datum with_number a) (put_datum with_number b)) (number_datum c)
+      (number_datum d)
 
   number_argument : (a : Argument)
       → put_argument put (num.in_argument x e a) ≡ put_argument with_number a
@@ -135,18 +141,22 @@ module _ (put : Put) (x : ℕ) (e : Control) (free : put_control put e ≡ e) wh
     number_statement : (d : Statement)
         → put_statement put (num.in_statement x e d) ≡ put_statement with_number d
     number_statement (Assign y is d) =
-        ap₂ (λ i js. Assign i js (put_datum put (num.in_datum x e d))) (number_root y) (number_index y is)
+        ap₂ (λ i js. Assign i js (put_datum put (num.in_datum x e d))) (number_root y)
+        (number_index y is)
         ∙ ap (Assign (root_for with_number y) (put_index with_number y is)) (number_datum d)
     number_statement (Reduce y is d) =
-        ap₂ (λ i js. Reduce i js (put_datum put (num.in_datum x e d))) (number_root y) (number_index y is)
+        ap₂ (λ i js. Reduce i js (put_datum put (num.in_datum x e d))) (number_root y)
+        (number_index y is)
         ∙ ap (Reduce (root_for with_number y) (put_index with_number y is)) (number_datum d)
     number_statement (Config f a) = ap (Config f) (number_argument a)
     number_statement Pass = refl
     number_statement (If c a b) =
-        ap₂ (λ q d. If q d (put_block put (num.in_block x e b))) (number_condition c) (number_block a)
+        ap₂ (λ q d. If q d (put_block put (num.in_block x e b))) (number_condition c)
+        (number_block a)
         ∙ ap (If (put_condition with_number c) (put_block with_number a)) (number_block b)
     number_statement (For i lo hi b) =
-        ap₂ (λ l h. For i l h (put_block put (num.in_block x e b))) (number_control lo) (number_control hi)
+        ap₂ (λ l h. For i l h (put_block put (num.in_block x e b))) (number_control lo)
+        (number_control hi)
         ∙ ap (For i (put_control with_number lo) (put_control with_number hi)) (number_block b)
     number_statement (Alloc y cell dims memory) =
         ap (λ ds. Alloc y cell ds memory) (number_controls dims)
@@ -260,7 +270,8 @@ module _ (put : Put) (x : ℕ) (r : Condition) (free : put_condition put r ≡ r
         ap₂ (λ q d. If q d (put_block put (flags.in_block x r b))) (flag_condition c) (flag_block a)
         ∙ ap (If (put_condition with_flag c) (put_block with_flag a)) (flag_block b)
     flag_statement (For i lo hi b) =
-        ap₂ (λ l h. For i l h (put_block put (flags.in_block x r b))) (flag_control lo) (flag_control hi)
+        ap₂ (λ l h. For i l h (put_block put (flags.in_block x r b))) (flag_control lo)
+        (flag_control hi)
         ∙ ap (For i (put_control with_flag lo) (put_control with_flag hi)) (flag_block b)
     flag_statement (Alloc y cell dims memory) =
         ap (λ ds. Alloc y cell ds memory) (flag_controls dims)
@@ -289,10 +300,13 @@ module _ (put : Put) (x : ℕ) (t : Argument) (free : put_argument put t ≡ t)
   place_control (StrideOf y k) = go (y == x)
     where
       go : (s : Bool)
-          → put_control put (StrideOf (cond s (root_in t x) y) (nth_span (cond s (coords_of t) []) k))
+          → put_control put (StrideOf (cond s (root_in t x) y)
+          (nth_span (cond s (coords_of t) []) k))
           ≡ StrideOf (root_in (cond s t (put.name y)) y)
           (nth_span (coords_of (cond s t (put.name y))) k)
-      go true = ap₂ StrideOf (root_free y) (ap (λ cs. nth_span cs (nth_span (coords_of t) k)) no_coords)
+      go true =
+          ap₂ StrideOf (root_free y)
+          (ap (λ cs. nth_span cs (nth_span (coords_of t) k)) no_coords)
       go false = refl
   place_control (Neg a) = ap Neg (place_control a)
   place_control (Add a b) = ap₂ Add (place_control a) (place_control b)
@@ -376,7 +390,8 @@ module _ (put : Put) (x : ℕ) (t : Argument) (free : put_argument put t ≡ t)
   place_datum (Minus a b) = ap₂ Minus (place_datum a) (place_datum b)
   place_datum (Times a b) = ap₂ Times (place_datum a) (place_datum b)
   place_datum (Select a b c d) =
-      ap₂ (λ m n. Select m n (put_datum put (win.in_datum x t c)) (put_datum put (win.in_datum x t d)))
+      ap₂ (λ m n. Select m n (put_datum put (win.in_datum x t c))
+      (put_datum put (win.in_datum x t d)))
       (place_datum a) (place_datum b)
       ∙ ap₂ (Select (put_datum with_name a) (put_datum with_name b)) (place_datum c) (place_datum d)
 
@@ -400,10 +415,12 @@ module _ (put : Put) (x : ℕ) (t : Argument) (free : put_argument put t ≡ t)
     place_statement : (d : Statement)
         → put_statement put (win.in_statement x t d) ≡ put_statement with_name d
     place_statement (Assign y is d) =
-        ap₂ (λ i js. Assign i js (put_datum put (win.in_datum x t d))) (place_root y) (place_index y is)
+        ap₂ (λ i js. Assign i js (put_datum put (win.in_datum x t d))) (place_root y)
+        (place_index y is)
         ∙ ap (Assign (root_for with_name y) (put_index with_name y is)) (place_datum d)
     place_statement (Reduce y is d) =
-        ap₂ (λ i js. Reduce i js (put_datum put (win.in_datum x t d))) (place_root y) (place_index y is)
+        ap₂ (λ i js. Reduce i js (put_datum put (win.in_datum x t d))) (place_root y)
+        (place_index y is)
         ∙ ap (Reduce (root_for with_name y) (put_index with_name y is)) (place_datum d)
     place_statement (Config f a) = ap (Config f) (place_argument a)
     place_statement Pass = refl
@@ -411,7 +428,8 @@ module _ (put : Put) (x : ℕ) (t : Argument) (free : put_argument put t ≡ t)
         ap₂ (λ q d. If q d (put_block put (win.in_block x t b))) (place_condition c) (place_block a)
         ∙ ap (If (put_condition with_name c) (put_block with_name a)) (place_block b)
     place_statement (For i lo hi b) =
-        ap₂ (λ l h. For i l h (put_block put (win.in_block x t b))) (place_control lo) (place_control hi)
+        ap₂ (λ l h. For i l h (put_block put (win.in_block x t b))) (place_control lo)
+        (place_control hi)
         ∙ ap (For i (put_control with_name lo) (put_control with_name hi)) (place_block b)
     place_statement (Alloc y cell dims memory) =
         ap (λ ds. Alloc y cell ds memory) (place_controls dims)

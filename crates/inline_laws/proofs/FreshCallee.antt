@@ -1,10 +1,10 @@
 -- The callee with new ids is the callee under a renaming.
 use Rattle.std.proofs.Common.{◌≡◌, ℕ, pos, ◌==◌, Bool, true, false, ◌||◌, List, [], ◌∷◌, ◌++◌, map}
 use Rattle.std.proofs.Common.{refl, sym, ap, ap₂, ◌∙◌, subst, true≢false, eqb-true}
-use Rattle.exo_tree.specs.Tree.{Control, Lit, Condition, Argument, ControlArg, ConditionArg, Whole}
-use Rattle.exo_tree.specs.Tree.{Window, ParamKind, ControlParam, TensorParam, WindowParam, Param}
-use Rattle.exo_tree.specs.Tree.{Statement, Pass, Config, Block, end, next, Procedure, True}
-use Rattle.exo_tree.specs.Renaming.{re_control, re_controls, re_condition, re_block, re_binder}
+use Rattle.exo_tree.specs.Tree.{Control, Lit, Condition, Argument, ControlArg, ConditionArg}
+use Rattle.exo_tree.specs.Tree.{ParamKind, ControlParam, TensorParam, WindowParam, Param}
+use Rattle.exo_tree.specs.Tree.{Config, Block, end, next, Procedure, True}
+use Rattle.exo_tree.specs.Renaming.{re_control, re_controls, re_condition, re_block}
 use Rattle.exo_tree.specs.Renaming.{binders, fresh_id}
 use Rattle.exo_meaning.specs.Run.{unit_world}
 use Rattle.exo_meaning.specs.Renaming.{Renaming}
@@ -20,7 +20,6 @@ use Rattle.inplace_laws.specs.Inline.{MayInline}
 use Rattle.match_laws.specs.RenamedCallee.{re_kind, re_param, re_params, re_conditions}
 use Rattle.match_laws.specs.RenamedCallee.{re_procedure}
 use Rattle.inline_laws.specs.InlineRule.{renumbered_kind, renumbered_param, renumbered, param_ids}
-use Rattle.inline_laws.specs.InlineRule.{with_fresh_ids}
 use Rattle.inline_laws.specs.InlineConditions.{IsInlinable, StandThere}
 use Rattle.inline_laws.specs.FreshCallee.{kind_mentions, params_mention, conditions_mention}
 use Rattle.inline_laws.specs.FreshCallee.{procedure_mentions, ids_of, is_new, FreshCallee}
@@ -87,7 +86,7 @@ module _ (hidden : ℕ → Bool) (r : Renaming) (to : ℕ → ℕ)
   params_same [] h = refl
   params_same (p ∷ ps) h =
       let a = or_parts (hidden p.binder.id) (kind_mentions hidden p.kind
-          || params_mention hidden ps) h in
+      || params_mention hidden ps) h in
       let b = or_parts (kind_mentions hidden p.kind) (params_mention hidden ps) a.1 in
       ap₂ ◌∷◌ (param_same p a.0 b.0) (params_same ps b.1)
 
@@ -102,7 +101,7 @@ module _ (hidden : ℕ → Bool) (r : Renaming) (to : ℕ → ℕ)
       → renumbered to q ≡ re_procedure r q
   procedure_same q h =
       let a = or_parts (params_mention hidden q.params)
-          (conditions_mention hidden q.asserts || mentions hidden q.body) h in
+      (conditions_mention hidden q.asserts || mentions hidden q.body) h in
       let b = or_parts (conditions_mention hidden q.asserts) (mentions hidden q.body) a.1 in
       ap₂ (λ (ps : List Param) (cs : List Condition).
       record q { params = ps; asserts = cs; body = re_block to q.body })

@@ -1,8 +1,7 @@
 -- A callee of the unit, with other ids, may be inlined.
 use Rattle.std.proofs.Common.{◌≡◌, Bool, true, false, not, ◌∷◌, ◌++◌, Some, refl, sym, ap, ◌∙◌}
 use Rattle.std.proofs.Common.{true≢false}
-use Rattle.exo_tree.specs.Tree.{Procedure}
-use Rattle.exo_meaning.specs.Run.{World, call_to, callee_in, unit_world, writes}
+use Rattle.exo_meaning.specs.Run.{call_to, callee_in, unit_world, writes}
 use Rattle.meaning_laws.proofs.Copies.{sound_law, unbound_law}
 use Rattle.inplace_laws.specs.Above.{size}
 use Rattle.inplace_laws.specs.Inline.{IsWider}

@@ -1,17 +1,17 @@
 -- A procedure with a call inlined by the rewrite is a refinement.
-use Rattle.std.proofs.Common.{◌≡◌, ℕ, List, [], ◌∷◌, Option, Some, None, slice_get, refl, sym, ap}
+use Rattle.std.proofs.Common.{◌≡◌, ℕ, List, [], Option, Some, None, slice_get, refl, sym, ap}
 use Rattle.std.proofs.Common.{◌∙◌, subst}
-use Rattle.exo_tree.specs.Tree.{Kind, Argument, Call, Block, end, next, Procedure}
+use Rattle.exo_tree.specs.Tree.{Argument, Call, Block, end, next, Procedure}
 use Rattle.exo_tree.specs.Context.{fill}
-use Rattle.exo_tree.specs.Places.{Path, Opened, opened}
+use Rattle.exo_tree.specs.Places.{Opened}
 use Rattle.exo_meaning.specs.Run.{World, unit_world}
 use Rattle.exo_meaning.specs.Inputs.{Refines}
 use Rattle.meaning_laws.proofs.Parts.{some_injective}
 use Rattle.meaning_laws.proofs.Places.{opened_law}
 use Rattle.inplace_laws.specs.Inline.{inlined, MayInline}
 use Rattle.inplace_laws.proofs.Inline.{inline_refines}
-use Rattle.inline_laws.specs.InlineRule.{Called, called_in, with_fresh_ids, inlined_call}
-use Rattle.inline_laws.specs.InlineRule.{inline_draft, MayInlineThere, InlineRule}
+use Rattle.inline_laws.specs.InlineRule.{called_in, with_fresh_ids, inlined_call}
+use Rattle.inline_laws.specs.InlineRule.{inline_draft, InlineRule}
 
 pub no_some : {A : Type 0} (a : A) → None ≡ Some a → ⊥
 no_some a e = cc
@@ -40,7 +40,8 @@ inline_rule kinds ps p at base o made above own opens draft may = go o.piece ref
         (subst (λ b. MayInline (unit_world kinds ps) above own p fresh o.around b k args) e
         (may (record { callee = k; args = args }) q (ap called_in e) f)))
 
-    go : (b : Block) → o.piece ≡ b → inline_draft ps base b ≡ Some made → Made (unit_world kinds ps) p o made
+    go : (b : Block) → o.piece ≡ b → inline_draft ps base b ≡ Some made
+        → Made (unit_world kinds ps) p o made
     go end e d = absurd (no_some made d)
     go (next a (next b c)) e d = absurd (no_some made d)
     go (next (Call k args) end) e d = by_callee k args (slice_get ps k) e refl d

@@ -1,14 +1,13 @@
 -- A procedure with a view removed by the rewrite is a refinement.
-use Rattle.std.proofs.Common.{◌≡◌, List, [], Option, Some, None, refl, sym, ap, ◌∙◌, subst}
-use Rattle.exo_tree.specs.Tree.{Window, View, Block, end, next}
+use Rattle.std.proofs.Common.{◌≡◌, Some, refl, sym, ap, ◌∙◌, subst}
+use Rattle.exo_tree.specs.Tree.{Window, View, Block, next}
 use Rattle.exo_tree.specs.Context.{fill}
 use Rattle.exo_meaning.specs.Run.{unit_world}
-use Rattle.exo_meaning.specs.Inputs.{Refines}
 use Rattle.meaning_laws.proofs.Parts.{some_injective}
 use Rattle.meaning_laws.proofs.Places.{opened_law}
 use Rattle.inplace_laws.specs.Windows.{in_block as with_window}
 use Rattle.inplace_laws.proofs.InlineWindow.{inline_window_refines}
-use Rattle.inline_laws.specs.InlineWindowRule.{Viewed, viewed_in, behind_first, as_window}
+use Rattle.inline_laws.specs.InlineWindowRule.{Viewed, viewed_in, behind_first}
 use Rattle.inline_laws.specs.InlineWindowRule.{window_draft, MayRemoveView, InlineWindowRule}
 use Rattle.inline_laws.proofs.InlineRule.{no_some, Made}
 

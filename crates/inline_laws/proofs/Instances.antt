@@ -1,5 +1,6 @@
 -- A call of a procedure that sets a field, inlined; and a view removed.
-use Rattle.std.proofs.Common.{◌≡◌, pos, false, List, [], ◌∷◌, Some, None, slice_get, refl, sym, ap, ◌∙◌}
+use Rattle.std.proofs.Common.{◌≡◌, pos, false, List, [], ◌∷◌, Some, None, slice_get, refl, sym}
+use Rattle.std.proofs.Common.{ap, ◌∙◌}
 use Rattle.std.proofs.Common.{subst, true≢false}
 use Rattle.exo_tree.specs.Tree.{Index, Lit, Argument, ControlArg, Config, Call, Block, end, next}
 use Rattle.exo_tree.specs.Tree.{Procedure}
@@ -144,7 +145,7 @@ by_conditions = inline_conditions (λ f. Index) [] setter [] same_ids (λ x. fal
       rest = refl;
     }) (λ s u good come. (
       λ x z e. absurd (none_is_some (sym (good.no_others x refl).2
-      ∙ ap (λ (t : State). t.scene.views x) (sym come) ∙ e)),
+          ∙ ap (λ (t : State). t.scene.views x) (sym come) ∙ e)),
       λ gs e. tt,
     ))
 
@@ -177,7 +178,7 @@ may_call = inline_conditions (λ f. Index) [] setter [] same_ids (λ x. false) (
       rest = refl;
     }) (λ s u good come. (
       λ x z e. absurd (none_is_some (sym (good.no_others x refl).2
-      ∙ ap (λ (t : State). t.scene.views x) (sym come) ∙ e)),
+          ∙ ap (λ (t : State). t.scene.views x) (sym come) ∙ e)),
       λ gs e. tt,
     ))
 
@@ -223,6 +224,6 @@ with_new_ids = fresh_conditions (λ f. Index) [] setter [] 7 (λ x. false) (λ x
       rest = refl;
     }) (λ s u good come. (
       λ x z e. absurd (none_is_some (sym (good.no_others x refl).2
-      ∙ ap (λ (t : State). t.scene.views x) (sym come) ∙ e)),
+          ∙ ap (λ (t : State). t.scene.views x) (sym come) ∙ e)),
       λ gs e. tt,
     ))

@@ -3,12 +3,13 @@ use Rattle.std.proofs.Common.{◌≡◌, ℕ, ◌==◌, Bool, true, false, if◌
 use Rattle.std.proofs.Common.{Some, None, IfSome, refl, sym, ap, ap₂, ◌∙◌, true≢false, eqb-true}
 use Rattle.std.proofs.Common.{eq-eqb}
 use Rattle.exo_tree.specs.Tree.{Control, Lit, Var, Field, StrideOf, Neg, Add, Sub, Mul, Div, Mod}
-use Rattle.exo_tree.specs.Tree.{Condition, True, False, Flag, FieldFlag, Lt, Le, Gt, Ge, Eq, And, Or}
+use Rattle.exo_tree.specs.Tree.{Condition, True, False, Flag, FieldFlag, Lt, Le, Gt, Ge, Eq, And}
+use Rattle.exo_tree.specs.Tree.{Or}
 use Rattle.exo_tree.specs.Tree.{Argument, ControlArg, ConditionArg, Whole, Window, ParamKind}
 use Rattle.exo_tree.specs.Tree.{ControlParam, TensorParam, WindowParam, Param, Block, Procedure}
 use Rattle.exo_meaning.specs.Inputs.{is_buffer_of}
 use Rattle.affine_forms.specs.Forms.{Reading}
-use Rattle.affine_forms.proofs.Values.{and_parts, some_injective}
+use Rattle.affine_forms.proofs.Values.{and_parts}
 use Rattle.inplace_laws.specs.Windows.{nth_span, root_in, coords_of}
 use Rattle.match_laws.specs.Names.{Names}
 use Rattle.match_laws.specs.Moved.{Moving, both, one, moved, moved_condition}

@@ -1,10 +1,10 @@
 -- The rewrite replace on small units, and the calls inlined again.
-use Rattle.std.proofs.Common.{◌≡◌, ℕ, ◌+◌, ◌==◌, Bool, if◌then◌else◌, pos, true, false, List, [], ◌∷◌, Some, None}
+use Rattle.std.proofs.Common.{◌≡◌, ℕ, ◌+◌, ◌==◌, Bool, if◌then◌else◌, pos, true, false, List, []}
+use Rattle.std.proofs.Common.{◌∷◌, Some, None}
 use Rattle.std.proofs.Common.{IfSome, refl, sym, ◌∙◌, eqb-true}
-use Rattle.exo_tree.specs.Tree.{I32, Index, Control, Var, Add, Const, Read, Times, Coord, At, Span}
-use Rattle.exo_tree.specs.Tree.{Argument, ControlArg, Whole, Window, ControlParam, TensorParam}
-use Rattle.exo_tree.specs.Tree.{Assign, Reduce, Call, Block, end, next, Procedure}
-use Rattle.exo_tree.specs.Places.{Step, Main}
+use Rattle.exo_tree.specs.Tree.{I32, Index, Control, Var, Add, Const, Read, At, Span}
+use Rattle.exo_tree.specs.Tree.{Argument, ControlArg, Window, ControlParam, TensorParam}
+use Rattle.exo_tree.specs.Tree.{Assign, Call, Block, end, next, Procedure}
 use Rattle.inplace_laws.specs.Inline.{inlined}
 use Rattle.inplace_laws.specs.Shared.{DoNotShare}
 use Rattle.match_laws.specs.Alike.{blocks_agree, nameless}
@@ -18,7 +18,6 @@ use Rattle.match_laws.specs.MatchedFits.{given_names}
 use Rattle.inline_laws.specs.MovedIsPut.{Agrees, HasBlockIds}
 use Rattle.inline_laws.proofs.MovedIsPut.{moved_is_put, matched_agrees}
 use Rattle.inline_laws.specs.AtOnce.{puts, put_block, put_control}
-use Rattle.inline_laws.specs.Pieces.{Piece}
 use Rattle.inline_laws.specs.InlineRule.{renumbered}
 use Rattle.inline_laws.specs.ReplaceRule.{AtPath, OfParam, Shared, replace_piece, replace_draft}
 use Rattle.inline_laws.specs.ReplaceRule.{replace_refusal}

@@ -1,6 +1,6 @@
 -- A procedure with a matched block replaced by a call is a refinement.
-use Rattle.std.proofs.Common.{◌≡◌, List, [], Option, Some, None, refl, sym, ◌∙◌, subst}
-use Rattle.exo_tree.specs.Tree.{Argument, Call, Block, end, next, Procedure}
+use Rattle.std.proofs.Common.{◌≡◌, [], Some, None, refl, sym, ◌∙◌, subst}
+use Rattle.exo_tree.specs.Tree.{Call, Block, end, next, Procedure}
 use Rattle.exo_tree.specs.Places.{Opened}
 use Rattle.exo_meaning.specs.State.{State}
 use Rattle.exo_meaning.specs.Run.{World, unit_world}
@@ -12,7 +12,7 @@ use Rattle.inplace_laws.specs.Inline.{inlined}
 use Rattle.inplace_laws.proofs.Inline.{replace_refines}
 use Rattle.match_laws.specs.Matched.{Matched, Arguments, NoMatch, Undetermined, matched}
 use Rattle.match_laws.proofs.Alike.{agree_runs}
-use Rattle.inline_laws.specs.ReplaceRule.{with_block, MayReplace, ReplaceRule}
+use Rattle.inline_laws.specs.ReplaceRule.{with_block, ReplaceRule}
 use Rattle.inline_laws.proofs.InlineRule.{no_some}
 
 -- the inputs are those of the procedure with another body

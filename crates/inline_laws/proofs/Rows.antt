@@ -1,15 +1,15 @@
 -- The two rewrites on small units.
 use Rattle.std.proofs.Common.{◌≡◌, ℕ, pos, true, List, [], ◌∷◌, Some, None, refl}
-use Rattle.exo_tree.specs.Tree.{Cell, I8, I32, Index, Size, Truth, Binder, Control, Lit, Var, Field}
-use Rattle.exo_tree.specs.Tree.{Add, Sub, Mul, Condition, Flag, Lt, Gt, Const, Read, Minus, Plus}
-use Rattle.exo_tree.specs.Tree.{Coord, At, Span, Argument, ControlArg, ConditionArg, Whole, Window}
+use Rattle.exo_tree.specs.Tree.{I32, Size, Truth, Binder, Control, Lit, Var, Field}
+use Rattle.exo_tree.specs.Tree.{Add, Sub, Mul, Flag, Lt, Const, Read, Minus, Plus}
+use Rattle.exo_tree.specs.Tree.{Coord, At, Span, ControlArg, ConditionArg, Whole, Window}
 use Rattle.exo_tree.specs.Tree.{ParamKind, ControlParam, TensorParam, WindowParam, Param, Statement}
-use Rattle.exo_tree.specs.Tree.{Assign, Reduce, Config, If, For, View, Call, Block, end, next}
+use Rattle.exo_tree.specs.Tree.{Assign, If, For, View, Call, Block, end, next}
 use Rattle.exo_tree.specs.Tree.{Procedure}
-use Rattle.exo_tree.specs.Places.{Step, Main, Path}
+use Rattle.exo_tree.specs.Places.{Main, Path}
 use Rattle.simplify_laws.specs.SimplifiedBlocks.{simplified_block}
 use Rattle.match_laws.proofs.Instances.{own}
-use Rattle.inline_laws.specs.Pieces.{Piece}
+use Rattle.inline_laws.specs.Pieces.{place_of}
 use Rattle.inline_laws.specs.InlineRule.{inline_piece, inline_draft}
 use Rattle.inline_laws.specs.InlineWindowRule.{window_piece, window_draft, window_shifts}
 
@@ -175,3 +175,8 @@ row_is_removed : window_draft on_row
     (next (View (binder 4) 0 (At row ∷ Span (Add (lit 0) (lit 3)) (Add (lit 0) (lit 4)) ∷ []))
     end))
 row_is_removed = refl
+
+-- the loop behind the view moves up
+loop_moves_up : window_shifts on_part
+    ≡ record { from = place_of 1; count = 1; whole = true; to = Some (place_of 0) } ∷ []
+loop_moves_up = refl

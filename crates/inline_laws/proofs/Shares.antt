@@ -1,13 +1,13 @@
 -- Where no argument that is written has the root of another one, none share.
 use Rattle.std.proofs.Common.{◌≡◌, ℕ, ◌==◌, Bool, true, false, cond, ◌&&◌, ◌||◌, not, List, [], ◌∷◌}
-use Rattle.std.proofs.Common.{Option, Some, None, refl, sym, ap, ap₂, ◌∙◌, subst, true≢false}
+use Rattle.std.proofs.Common.{Some, refl, sym, ap, ap₂, ◌∙◌, subst, true≢false}
 use Rattle.std.proofs.Common.{eqb-true, eq-eqb}
 use Rattle.exo_tree.specs.Tree.{Argument, Param}
 use Rattle.exo_meaning.specs.Inputs.{is_buffer_of}
 use Rattle.exo_meaning.proofs.Frame.{or_parts}
 use Rattle.exo_meaning.proofs.Windows.{none_is_some}
 use Rattle.inplace_laws.specs.Shared.{argument_root, root_of}
-use Rattle.inline_laws.specs.Shares.{any_id, is_root, meets, shares, SharesLaw}
+use Rattle.inline_laws.specs.Shares.{any_id, is_root, meets, SharesLaw}
 
 -- a test that no parameter passes
 none_of : (f : ℕ → Bool) (ps : List Param) (x : ℕ) → any_id f ps ≡ false

@@ -51,8 +51,8 @@ inline_piece p at =
       | Some o ↦ elim (called_in o.piece) [
         | None ↦ None
         | Some c ↦ if are_plain_arguments c.args
-        then Some (record { path = at; count = 1 })
-        else None
+            then Some (record { path = at; count = 1 })
+            else None
       ]
     ]
 

@@ -1,6 +1,6 @@
 -- The rewrite inline_window, on plain trees: a view is removed, and its uses are composed onto its
 -- buffer.
-use Rattle.std.specs.Prelude.{◌≡◌, ℕ, ◌==◌, Bool, true, false, List, [], ◌+◌, Option, Some, None}
+use Rattle.std.specs.Prelude.{◌≡◌, ℕ, ◌==◌, true, false, List, [], ◌+◌, Option, Some, None}
 use Rattle.exo_tree.specs.Tree.{Binder, Kind, Coord, Argument, Window, Statement, View, Block, end}
 use Rattle.exo_tree.specs.Tree.{next, Procedure}
 use Rattle.exo_tree.specs.Context.{Context, fill, rest_of}
