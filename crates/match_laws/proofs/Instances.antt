@@ -25,7 +25,7 @@ use Rattle.match_laws.proofs.Matched.{one_for_each}
 use Rattle.match_laws.proofs.Agree.{agree_law, conditions_agree_law}
 
 -- each variable, field and stride is read as itself
-abbrev own : Reading
+abbrev pub own : Reading
 own = record {
   variable = λ x. only (Variable x);
   field = λ f. only (EntryField f Index);
@@ -34,7 +34,7 @@ own = record {
   stride_fits = λ x k. true;
 }
 
-abbrev lit : ℕ → Control
+abbrev pub lit : ℕ → Control
 lit n = Lit (pos n)
 
 abbrev binder : ℕ → Binder
@@ -50,12 +50,12 @@ abbrev named : List Param → Block → Procedure
 named ps b = record { name = []; params = ps; asserts = []; body = b; template = None }
 
 -- for i in seq(0, hi): a
-abbrev loop : ℕ → Control → Statement → Block
+abbrev pub loop : ℕ → Control → Statement → Block
 loop i hi a = next (For (binder i) (lit 0) hi (next a end)) end
 
 -- ---- instructions on vectors: dst[l] = src[l], and c[l] += a * b[l]
 
-abbrev copy8 : Procedure
+abbrev pub copy8 : Procedure
 copy8 = named (vector 0 I32 (lit 8) ∷ vector 1 I32 (lit 8) ∷ [])
     (loop 2 (lit 8) (Assign 0 (Var 2 ∷ []) (Read 1 (Var 2 ∷ []))))
 
@@ -72,24 +72,24 @@ tensor x dims = param x (TensorParam I32 dims 0)
 abbrev size : ℕ → Param
 size x = param x (ControlParam Size)
 
-abbrev product : Names
+abbrev pub product : Names
 product = names_of (named (size 0 ∷ size 1 ∷ size 2 ∷ tensor 3 (Var 0 ∷ Var 2 ∷ [])
     ∷ tensor 4 (Var 2 ∷ Var 1 ∷ []) ∷ tensor 5 (Var 0 ∷ Var 1 ∷ []) ∷ [])
     (next (Alloc (binder 9) I32 (lit 8 ∷ []) 0) (next (Alloc (binder 10) I32 (lit 8 ∷ []) 0) end)))
 
 -- 8 * jo + ji
-abbrev at_lane : Control
+abbrev pub at_lane : Control
 at_lane = Add (Mul (lit 8) (Var 7)) (Var 11)
 
 -- [0:8] and [8 * jo:8 * jo + 8]
-abbrev lanes : Coord
+abbrev pub lanes : Coord
 lanes = Span (lit 0) (lit 8)
 
-abbrev tile : Coord
+abbrev pub tile : Coord
 tile = Span (Mul (lit 8) (Var 7)) (Add (Mul (lit 8) (Var 7)) (lit 8))
 
 -- c[ji] = C[i, 8 * jo + ji]
-loads : matched own product
+pub loads : matched own product
     (loop 11 (lit 8) (Assign 9 (Var 11 ∷ []) (Read 5 (Var 6 ∷ at_lane ∷ [])))) copy8
     ≡ Arguments (Window 9 (lanes ∷ []) ∷ Window 5 (At (Var 6) ∷ tile ∷ []) ∷ [])
 loads = refl
@@ -120,7 +120,7 @@ columns_load : matched own (names_of column) column.body copy8
     ≡ Arguments (Window 2 (lanes ∷ []) ∷ Window 1 (lanes ∷ At (Var 3) ∷ []) ∷ [])
 columns_load = refl
 
-abbrev step : ℕ → Step
+abbrev pub step : ℕ → Step
 step n = record { branch = Main; index = n }
 
 columns_do_not_multiply : matched own (names_of column) column.body mac8
@@ -134,7 +134,7 @@ copy_n = named (size 0 ∷ vector 1 I32 (Var 0) ∷ vector 2 I32 (Var 0) ∷ [])
     (loop 3 (Var 0) (Assign 1 (Var 3 ∷ []) (Read 2 (Var 3 ∷ []))))
 
 -- A[i, j] = B[j] for j in seq(0, m), of A: i32[n, m] and B: i32[m]
-abbrev rows : Names
+abbrev pub rows : Names
 rows = names_of (named (size 0 ∷ size 1 ∷ tensor 2 (Var 0 ∷ Var 1 ∷ [])
     ∷ tensor 3 (Var 1 ∷ []) ∷ [])
     end)
@@ -146,11 +146,11 @@ rows_are_copied : matched own rows
 rows_are_copied = refl
 
 -- for a in seq(0, 4): for b in seq(0, n): x[b] = 0, against a bound that the block binds
-abbrev nest : ℕ → ℕ → Control → ℕ → Block
+abbrev pub nest : ℕ → ℕ → Control → ℕ → Block
 nest a b hi x = loop a (lit 4) (For (binder b) (lit 0) hi (next (Assign x (Var b ∷ [])
     (Const (pos 0))) end))
 
-abbrev zeros : Procedure
+abbrev pub zeros : Procedure
 zeros = named (size 0 ∷ vector 1 I32 (Var 0) ∷ []) (nest 2 3 (Var 0) 1)
 
 bounds_are_free : matched own rows (nest 6 7 (Var 6) 3) zeros ≡ NoMatch (step 0 ∷ step 0 ∷ [])
@@ -230,7 +230,7 @@ whole_tensors_fit = refl
 
 -- ---- the laws
 
-abbrev loaded : List Argument
+abbrev pub loaded : List Argument
 loaded = Window 9 (lanes ∷ []) ∷ Window 5 (At (Var 6) ∷ tile ∷ []) ∷ []
 
 two_arguments : length loaded ≡ 2
@@ -238,7 +238,7 @@ two_arguments = one_for_each own product
     (loop 11 (lit 8) (Assign 9 (Var 11 ∷ []) (Read 5 (Var 6 ∷ at_lane ∷ [])))) copy8
     loaded loads
 
-abbrev world : World
+abbrev pub world : World
 world = unit_world (λ f. Index) []
 
 copies_by_any_ids : (r : Renaming) (args : List Argument) (s : State)
@@ -249,7 +249,7 @@ copies_by_any_ids r args s = renamed_callee r world copy8 args s
 itself : (n : ℤ) → pos 0 +ℤ ((pos 1 *ℤ n) +ℤ pos 0) ≡ n
 itself n = omega (arith, ints)
 
-reads : (may : Allowed) (scene : Scene) → ReadsAt may (values_in scene) own scene
+pub reads : (may : Allowed) (scene : Scene) → ReadsAt may (values_in scene) own scene
 reads may scene = record {
   variables = λ x h. itself (scene.control x);
   fields = λ f h. itself (scene.fields f);

@@ -1,4 +1,11 @@
 pub mod RenamedCallee
 pub mod Agree
+pub mod Alike
+pub mod Fitting
+pub mod Widths
+pub mod ArgumentFits
 pub mod Matched
+pub mod MatchedFits
+pub mod Single
 pub mod Instances
+pub mod MoreInstances

@@ -11,25 +11,25 @@ use Rattle.match_laws.specs.Matched.{first_undetermined, first_difference, param
 use Rattle.match_laws.specs.Matched.{by_walk, argument_for, arguments_for, with_strides, moving, to}
 use Rattle.match_laws.specs.Matched.{given_to, OneForEach}
 
-abbrev failed : Path → Result (List Argument) Path
+abbrev pub failed : Path → Result (List Argument) Path
 failed p = Err p
 
-abbrev answered : List Argument → Result (List Argument) Path
+abbrev pub answered : List Argument → Result (List Argument) Path
 answered a = Ok a
 
-err_ok : (p : Path) (a : List Argument) → failed p ≡ answered a → ⊥
+pub err_ok : (p : Path) (a : List Argument) → failed p ≡ answered a → ⊥
 err_ok p a e = cc
 
-same_ok : (a b : List Argument) → answered a ≡ answered b → a ≡ b
+pub same_ok : (a b : List Argument) → answered a ≡ answered b → a ≡ b
 same_ok a b e = cc
 
-same_arguments : (a b : List Argument) → Arguments a ≡ Arguments b → a ≡ b
+pub same_arguments : (a b : List Argument) → Arguments a ≡ Arguments b → a ≡ b
 same_arguments a b e = cc
 
-no_match : (p : Path) (a : List Argument) → NoMatch p ≡ Arguments a → ⊥
+pub no_match : (p : Path) (a : List Argument) → NoMatch p ≡ Arguments a → ⊥
 no_match p a e = cc
 
-undetermined : (x : ℕ) (a : List Argument) → Undetermined x ≡ Arguments a → ⊥
+pub undetermined : (x : ℕ) (a : List Argument) → Undetermined x ≡ Arguments a → ⊥
 undetermined x a e = cc
 
 module _ (at : Reading) (theirs : Names) (block : Block) (q : Procedure) where

@@ -3,4 +3,9 @@ pub mod Pairs
 pub mod Moved
 pub mod Windows
 pub mod Matched
+pub mod Alike
+pub mod Fitting
+pub mod Widths
+pub mod ArgumentFits
+pub mod MatchedFits
 pub mod RenamedCallee

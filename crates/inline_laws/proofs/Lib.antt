@@ -1,0 +1,11 @@
+pub mod InlineRule
+pub mod InlineWindowRule
+pub mod InlineConditions
+pub mod FreshCallee
+pub mod AtOnce
+pub mod MovedIsPut
+pub mod Shares
+pub mod ReplaceRule
+pub mod Rows
+pub mod ReplaceRows
+pub mod Instances

@@ -1,0 +1,64 @@
+// Laws of inlined calls and views, each the contract of a function with nothing to do.
+
+ghost use Rattle.inline_laws.specs.InlineRule.{InlineRule};
+ghost use Rattle.inline_laws.specs.InlineWindowRule.{InlineWindowRule};
+ghost use Rattle.inline_laws.specs.InlineConditions.{InlineConditions};
+ghost use Rattle.inline_laws.specs.FreshCallee.{FreshCallee};
+ghost use Rattle.inline_laws.specs.FreshCallee.{FreshConditions};
+ghost use Rattle.inline_laws.specs.MovedIsPut.{MovedIsPut};
+ghost use Rattle.inline_laws.specs.MovedIsPut.{MatchedAgrees};
+ghost use Rattle.inline_laws.specs.Shares.{SharesLaw};
+ghost use Rattle.inline_laws.specs.AtOnce.{AtOnce};
+ghost use Rattle.inline_laws.specs.ReplaceRule.{ReplaceRule};
+
+/// A procedure with a call inlined by the rewrite is a refinement.
+pub fn inlined_calls_refine()
+    ensures { InlineRule }
+{}
+
+/// A procedure with a view removed by the rewrite is a refinement.
+pub fn removed_views_refine()
+    ensures { InlineWindowRule }
+{}
+
+/// A callee of the unit, with other ids, may be inlined where the trees and the states at the
+/// place allow it.
+pub fn callees_of_the_unit_may_be_inlined()
+    ensures { InlineConditions }
+{}
+
+/// A procedure with a matched block replaced by a call is a refinement.
+pub fn replaced_blocks_refine()
+    ensures { ReplaceRule }
+{}
+
+/// Where no argument that is written has the root of another one, none share a buffer.
+pub fn arguments_that_meet_are_told()
+    ensures { SharesLaw }
+{}
+
+/// The callee with new ids is the callee under a renaming.
+pub fn new_ids_rename_callees()
+    ensures { FreshCallee }
+{}
+
+/// A callee of the unit, with new ids, may be inlined where the trees and the states at the place
+/// allow it.
+pub fn callees_with_new_ids_may_be_inlined()
+    ensures { FreshConditions }
+{}
+
+/// Arguments put one after the other are put all at once.
+pub fn arguments_are_put_at_once()
+    ensures { AtOnce }
+{}
+
+/// The callee's expressions as the match has them are those of the inlined body.
+pub fn matched_expressions_are_inlined()
+    ensures { MovedIsPut }
+{}
+
+/// Where a block is matched, the expressions of the inlined body agree with those of the block.
+pub fn matched_expressions_agree()
+    ensures { MatchedAgrees }
+{}
