@@ -1,5 +1,5 @@
 -- What makes shifts right: where they take statements, statements of the same kind stand, and no two go to one place.
-use Rattle.std.specs.Prelude.{◌≡◌, ◌↔◌, ℕ, ◌+◌, nat_le, Bool, true, false, ◌&&◌, ◌||◌, not, if◌then◌else◌, List, [], ◌∷◌, ◌++◌, map, length, Option, Some, None, option_map}
+use Rattle.std.specs.Prelude.{◌≡◌, ⊤, ℕ, ◌+◌, nat_le, Bool, true, false, ◌&&◌, ◌||◌, not, if◌then◌else◌, List, [], ◌∷◌, ◌++◌, map, length, Option, Some, None, option_map}
 use Rattle.std.specs.List.{list_all}
 use Rattle.exo_tree.specs.Tree.{Control, Lit, Condition, True, Const, Statement, Assign, Reduce, Config, Pass, If, For, Alloc, View, Call, Block, end, next, statements, Procedure}
 use Rattle.exo_tree.specs.Context.{fill}
@@ -56,17 +56,27 @@ abbrev mutual
 
 -- ---- shifts that carry
 
--- so many statements of the old piece stand again at the place of the new one: their whole trees, or their heads alone
-pub record Carried (count : ℕ) (whole : Bool) (from to : Path) (old new : Block) : Type 0 where
+-- with all below them, or by themselves
+abbrev pub AreAlike : Bool → Block → Block → Type 0
+AreAlike true b c = bones b ≡ bones c
+AreAlike false b c = kinds_of b ≡ kinds_of c
+
+-- so many statements of the old piece have others like them at the place of the new one
+pub record AreCarried (s : Shift) (to : Path) (old new : Block) : Type 0 where
   pub was : Opened
   pub is : Opened
-  pub there : opened count from old ≡ Some was
-  pub then_there : opened count to new ≡ Some is
-  pub alike : elim whole [ true ↦ bones was.piece ≡ bones is.piece | false ↦ kinds_of was.piece ≡ kinds_of is.piece ]
+  pub before : opened s.count s.from old ≡ Some was
+  pub after : opened s.count to new ≡ Some is
+  pub alike : AreAlike s.whole was.piece is.piece
+
+-- where they go anywhere
+abbrev pub IsCarried : Shift → Option Path → Block → Block → Type 0
+IsCarried s None old new = ⊤
+IsCarried s (Some to) old new = AreCarried s to old new
 
 abbrev pub Carries : List Shift → Block → Block → Type 0
 Carries [] old new = ⊤
-Carries (s ∷ shifts) old new = (elim s.to [ None ↦ ⊤ | Some to ↦ Carried s.count s.whole s.from to old new ]) × Carries shifts old new
+Carries (s ∷ shifts) old new = IsCarried s s.to old new × Carries shifts old new
 
 -- ---- shifts whose targets are apart
 
