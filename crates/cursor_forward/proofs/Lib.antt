@@ -5,6 +5,7 @@ mod Lands
 mod Holes
 mod Ranges
 mod Following
+mod Searching
 mod SameKinds
 pub mod Forwarding
 mod Examples

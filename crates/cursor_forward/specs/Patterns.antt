@@ -1,7 +1,7 @@
 -- The statements that a pattern finds, in preorder.
-use Rattle.std.specs.Prelude.{◌≡◌, ◌≤◌, ⊤, ℕ, zero, suc, ◌==◌, ◌&&◌, Bool, true, false, if◌then◌else◌, List, [], ◌∷◌, ◌++◌, Option, Some, None, option_map, option_and_then, slice_get}
+use Rattle.std.specs.Prelude.{◌≡◌, ◌≤◌, ⊤, ℕ, zero, suc, ◌==◌, ◌&&◌, Bool, true, false, if◌then◌else◌, List, [], ◌∷◌, ◌++◌, Option, Some, None, option_map, option_and_then, slice_get, length}
 use Rattle.std.specs.Str.{bytes_eq}
-use Rattle.exo_tree.specs.Tree.{Statement, Assign, Reduce, Config, Pass, If, For, Alloc, View, Call, Block, end, next, Param, Procedure, Program}
+use Rattle.exo_tree.specs.Tree.{Statement, Assign, Reduce, Config, Pass, If, For, Alloc, View, Call, Block, end, next, statements, Param, Procedure, ConfigField, Program}
 use Rattle.exo_tree.specs.Heights.{height}
 use Rattle.exo_meaning.specs.Units.{is_short}
 use Rattle.exo_tree.specs.Places.{Branch, Main, Else, Path}
@@ -38,17 +38,21 @@ abbrev pub is_meant : Option (List ℕ) → Option ℕ → ℕ → Bool
 is_meant None found y = true
 is_meant (Some x) found y = is_number found y
 
+abbrev pub is_loop_called : Option (List ℕ) → Option Statement → Bool
+is_loop_called j (Some (For i lo hi b)) = is_called j i.name
+is_loop_called j a = false
+
 -- the block is a loop over that index and nothing else
 abbrev pub is_one_loop : Option (List ℕ) → Block → Bool
-is_one_loop j (next (For i lo hi b) end) = is_called j i.name
-is_one_loop j b = false
+is_one_loop j b = (length (statements b) == 1) && is_loop_called j (slice_get (statements b) 0)
 
 abbrev pub is_procedure_called : Option (List ℕ) → Option Procedure → Bool
 is_procedure_called f None = false
 is_procedure_called f (Some p) = is_called f p.name
 
-abbrev pub is_field_called : Option (List ℕ) → Option (List ℕ) → Program → ℕ → Bool
-is_field_called c f unit k = elim (slice_get unit.fields k) [ None ↦ false | Some field ↦ is_called c field.config && is_called f field.name ]
+abbrev pub is_field_called : Option (List ℕ) → Option (List ℕ) → Option ConfigField → Bool
+is_field_called c f None = false
+is_field_called c f (Some field) = is_called c field.config && is_called f field.name
 
 -- whether the statement itself is one of the pattern; the number is what the pattern's name stands for here
 abbrev pub matches : Program → Pattern → Option ℕ → Statement → Bool
@@ -61,7 +65,7 @@ matches unit (pattern.Reduce x) found (Reduce y is e) = is_meant x found y
 matches unit pattern.If found (If c a b) = true
 matches unit (pattern.Call f) found (Call k args) = is_procedure_called f (slice_get unit.procedures k)
 matches unit pattern.Pass found Pass = true
-matches unit (pattern.Config c f) found (Config k a) = is_field_called c f unit k
+matches unit (pattern.Config c f) found (Config k a) = is_field_called c f (slice_get unit.fields k)
 matches unit w found a = false
 
 -- ---- all statements
