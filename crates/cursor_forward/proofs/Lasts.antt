@@ -1,13 +1,13 @@
 -- Paths by their last step, as the code makes them.
-use Rattle.std.proofs.Common.{◌≡◌, ℕ, zero, suc, ◌+◌, ◌-◌, ◌<◌, ◌≤◌, Bool, true, false, List, [], ◌∷◌, ◌++◌, length, map, Option, Some, None, refl, ap, sym, ◌∙◌, arith}
-use Rattle.std.specs.Prelude.{◌==◌, ◌&&◌, slice_get, nat_le, nat_lt, if◌then◌else◌, option_map, option_and_then}
+use Rattle.std.proofs.Common.{◌≡◌, ℕ, ◌+◌, ◌-◌, Bool, true, false, List, [], ◌∷◌, ◌++◌, length, map, Option, Some, None, refl, ap, ◌∙◌}
+use Rattle.std.specs.Prelude.{◌==◌, ◌&&◌, slice_get, nat_le, if◌then◌else◌, option_map}
 use Rattle.std.proofs.lemmas.List.{map-append}
 use Rattle.exo_tree.specs.Tree.{Statement, block, statements}
 use Rattle.exo_tree.specs.Places.{Step, Path}
 use Rattle.exo_tree.specs.declared.place.Step as declared
 use Rattle.exo_tree.specs.PlainPlace.{step_taken}
-use Rattle.cursor_forward.specs.Shifts.{word, beyond, held}
-use Rattle.cursor_forward.specs.Cursors.{above, owner, earlier, later}
+use Rattle.cursor_forward.specs.Shifts.{word, beyond}
+use Rattle.cursor_forward.specs.Cursors.{above, owner, earlier}
 use Rattle.cursor_forward.specs.Patterns.{is_one_loop, is_loop_called}
 
 -- the path with another step in front, where there is one

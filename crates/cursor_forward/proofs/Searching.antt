@@ -1,8 +1,8 @@
 -- A search through the statements of a block passes its matches one by one.
-use Rattle.std.proofs.Common.{◌≡◌, ℕ, zero, suc, ◌+◌, ◌-◌, ◌<◌, ◌≤◌, Bool, true, false, List, [], ◌∷◌, ◌++◌, length, drop, Option, Some, None, refl, ap, sym, ◌∙◌, subst, arith, length-append}
+use Rattle.std.proofs.Common.{◌≡◌, ℕ, zero, suc, ◌+◌, ◌-◌, ◌<◌, ◌≤◌, true, List, [], ◌∷◌, ◌++◌, length, drop, Option, Some, None, refl, ap, sym, ◌∙◌, subst, arith, length-append}
 use Rattle.std.proofs.lemmas.List.{drop_all}
 use Rattle.std.specs.Prelude.{slice_get, max, ◌&&◌, ◌^◌, nat_lt}
-use Rattle.exo_tree.specs.Tree.{Statement, Block, end, next, block, statements, Program}
+use Rattle.exo_tree.specs.Tree.{Statement, block, statements, Program}
 use Rattle.exo_tree.specs.Heights.{height, height_below}
 use Rattle.exo_tree.specs.Places.{Branch, Path}
 use Rattle.exo_meaning.specs.Units.{is_short}

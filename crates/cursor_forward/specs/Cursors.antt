@@ -1,6 +1,6 @@
 -- Cursors: a statement, some statements of one block, or the gap before or after a statement; how they move in a procedure, and
 -- where they go by an edit. No move leads from what is not there.
-use Rattle.std.specs.Prelude.{ℕ, zero, suc, ◌+◌, ◌-◌, ◌^◌, nat_lt, nat_le, Bool, true, false, ◌&&◌, if◌then◌else◌, List, [], ◌∷◌, ◌++◌, length, Option, Some, None, option_map, option_and_then}
+use Rattle.std.specs.Prelude.{ℕ, zero, suc, ◌+◌, ◌-◌, ◌^◌, nat_lt, nat_le, Bool, ◌&&◌, if◌then◌else◌, [], ◌∷◌, ◌++◌, length, Option, Some, None, option_map, option_and_then}
 use Rattle.std.specs.Option.{is_some}
 use Rattle.exo_tree.specs.Tree.{Block, statements}
 use Rattle.exo_tree.specs.Places.{Main, Path, same_branch, same_step, statement_at}

@@ -1,9 +1,9 @@
 -- What makes shifts right: where they take statements, statements of the same kind stand, and no two go to one place.
-use Rattle.std.specs.Prelude.{◌≡◌, ⊤, ℕ, ◌+◌, ◌-◌, nat_le, nat_lt, Bool, true, false, ◌&&◌, ◌||◌, not, if◌then◌else◌, List, [], ◌∷◌, ◌++◌, map, length, Option, Some, None, option_map}
+use Rattle.std.specs.Prelude.{◌≡◌, ⊤, ℕ, ◌+◌, ◌-◌, nat_le, nat_lt, Bool, true, false, ◌&&◌, ◌||◌, not, if◌then◌else◌, List, [], ◌∷◌, map, length, Option, Some, None, option_map}
 use Rattle.std.specs.List.{list_all}
-use Rattle.exo_tree.specs.Tree.{Control, Lit, Condition, True, Const, Statement, Assign, Reduce, Config, Pass, If, For, Alloc, View, Call, Block, end, next, statements, Procedure}
+use Rattle.exo_tree.specs.Tree.{Statement, Assign, Reduce, Config, Pass, If, For, Alloc, View, Call, Block, end, next, statements, Procedure}
 use Rattle.exo_tree.specs.Context.{fill}
-use Rattle.exo_tree.specs.Places.{Branch, Main, Else, Step, Path, same_branch, same_step, Opened, opened, statement_at}
+use Rattle.exo_tree.specs.Places.{Step, Path, same_branch, same_step, Opened, opened, statement_at}
 use Rattle.cursor_forward.specs.Shifts.{Shift, Move, Edits, move_of}
 
 -- ---- kinds and bones

@@ -2,7 +2,7 @@
 -- the piece go to places of the new piece, and what is in no range is gone. A path in a piece begins with a step into it by
 -- Main; the paths of what lies outside of the piece stay as they are, but for those behind it in its block, which close up.
 use Rattle.std.specs.Prelude.{ℕ, ◌+◌, ◌-◌, ◌^◌, nat_lt, nat_le, Bool, true, false, ◌&&◌, ◌||◌, if◌then◌else◌, List, [], ◌∷◌, length, Option, Some, None, option_map, option_and_then}
-use Rattle.exo_tree.specs.Places.{Main, Step, Path, same_branch, same_step}
+use Rattle.exo_tree.specs.Places.{Main, Path, same_branch, same_step}
 
 -- so many statements of one block, from one on, alone or with all below them, and where the first of them goes; None: nowhere
 pub record Shift : Type 0 where

@@ -1,11 +1,11 @@
-use Rattle.std.proofs.Common.{◌≡◌, refl, ◌+◌, ◌-◌, ◌<◌, ◌++◌, ◌∷◌, ◌∙◌, [], List, Option, Some, None, ℕ, drop, length, map, ap, sym, arith}
-use Rattle.std.specs.Prelude.{◌^◌, slice_get, option_map}
+use Rattle.std.proofs.Common.{◌≡◌, refl, ◌-◌, ◌<◌, ◌++◌, ◌∷◌, ◌∙◌, [], Some, None, length, ap, sym, arith}
+use Rattle.std.specs.Prelude.{◌^◌, slice_get}
 use Rattle.exo_tree.specs.Places.{Path}
 use Rattle.exo_tree.specs.Plain.{program, statement}
 use Rattle.exo_tree.specs.PlainPlace.{branch_taken}
 use Rattle.cursor_patterns.specs.PlainPattern.{plain_pattern}
 use Rattle.cursor_forward.specs.Patterns.{matching_at}
-use Rattle.cursor_forward.proofs.Searching.{IsWalked, found_here, walks_on, short_block}
+use Rattle.cursor_forward.proofs.Searching.{found_here, walks_on, short_block}
 use Rattle.cursor_forward.proofs.finding.+find.Goals as goal
 
 pub find_in-overflow_cast-k : goal.find_in-overflow_cast-k
@@ -18,7 +18,7 @@ find_in-returns-in-Some-clause-found t c =
     let s = statement c.statement-s.result.now in
     let at : slice_get (matching_at (program c.args.unit.now) (plain_pattern c.args.pattern.now) c.push.new.self c.loop-k.found s) c.loop-k.left ≡ Some c.in-Some.path = sym c.in-Some.ensures.found in
     sym (found_here (program c.args.unit.now) (plain_pattern c.args.pattern.now) c.args.outer.now (branch_taken c.args.branch) c.args.first c.args.b.now c.args.left.now c.loop-k.k c.loop-k.found c.loop-k.left c.loop-k.invariant s c.in-Some.path c.statement-s.ensures.value
-      (ap (λ (p : Path). slice_get (matching_at (program c.args.unit.now) (plain_pattern c.args.pattern.now) p c.loop-k.found s) c.loop-k.left) (sym (c.push.ensures ∙ ap (λ (p : Path). p ++ record { branch = branch_taken c.args.branch; index = c.loop-k.k } ∷ []) c.duplicate-path.ensures)) ∙ at))
+    (ap (λ (p : Path). slice_get (matching_at (program c.args.unit.now) (plain_pattern c.args.pattern.now) p c.loop-k.found s) c.loop-k.left) (sym (c.push.ensures ∙ ap (λ (p : Path). p ++ record { branch = branch_taken c.args.branch; index = c.loop-k.k } ∷ []) c.duplicate-path.ensures)) ∙ at))
 
 pub find_in-loop-k-preserved : goal.find_in-loop-k-preserved
 find_in-loop-k-preserved t c =
