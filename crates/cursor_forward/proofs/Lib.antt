@@ -6,6 +6,7 @@ mod Holes
 mod Ranges
 mod Following
 mod Searching
+pub mod Searchable
 mod SameKinds
 pub mod Forwarding
 mod Examples

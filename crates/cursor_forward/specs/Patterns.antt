@@ -3,7 +3,7 @@ use Rattle.std.specs.Prelude.{◌≡◌, ◌≤◌, ⊤, ℕ, suc, ◌==◌, ◌
 use Rattle.std.specs.Str.{bytes_eq}
 use Rattle.exo_tree.specs.Tree.{Statement, Assign, Reduce, Config, Pass, If, For, Alloc, View, Call, Block, end, next, statements, Param, Procedure, ConfigField, Program}
 use Rattle.exo_tree.specs.Heights.{height}
-use Rattle.exo_meaning.specs.Units.{is_short}
+use Rattle.exo_meaning.specs.Units.{is_short, IsUnit}
 use Rattle.exo_tree.specs.Places.{Branch, Main, Else, Path}
 use Rattle.cursor_patterns.specs.Patterns as pattern
 use Rattle.cursor_patterns.specs.Patterns.{Pattern}
@@ -151,3 +151,7 @@ pub record CanBeSearched (body : Block) : Type 0 where
 abbrev pub IsSearchable : Option Procedure → Type 0
 IsSearchable None = ⊤
 IsSearchable (Some p) = CanBeSearched p.body
+
+-- the procedures of a well-formed unit can
+abbrev pub SearchableLaw : Type 0
+SearchableLaw = (unit : Program) (k : ℕ) → IsUnit unit → IsSearchable (slice_get unit.procedures k)
