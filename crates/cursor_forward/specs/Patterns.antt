@@ -25,7 +25,8 @@ meant_after x found a = found
 -- the number of the first parameter of this name
 abbrev pub parameter_called : List ℕ → List Param → Option ℕ
 parameter_called x [] = None
-parameter_called x (p ∷ ps) = if bytes_eq p.binder.name x then Some p.binder.id else parameter_called x ps
+parameter_called x (p ∷ ps) =
+    if bytes_eq p.binder.name x then Some p.binder.id else parameter_called x ps
 
 abbrev pub is_number : Option ℕ → ℕ → Bool
 is_number None y = false
@@ -54,7 +55,8 @@ abbrev pub is_field_called : Option (List ℕ) → Option (List ℕ) → Option 
 is_field_called c f None = false
 is_field_called c f (Some field) = is_called c field.config && is_called f field.name
 
--- whether the statement itself is one of the pattern; the number is what the pattern's name stands for here
+-- whether the statement itself is one of the pattern; the number is what the pattern's name stands
+-- for here
 abbrev pub matches : Program → Pattern → Option ℕ → Statement → Bool
 matches unit (pattern.Loop i) found (For j lo hi b) = is_called i j.name
 matches unit (pattern.Nest i k) found (For j lo hi b) = is_called i j.name && is_one_loop k b
@@ -63,7 +65,8 @@ matches unit (pattern.Assign x) found (Assign y is e) = is_meant x found y
 matches unit (pattern.Assign x) found (View y z coords) = is_called x y.name
 matches unit (pattern.Reduce x) found (Reduce y is e) = is_meant x found y
 matches unit pattern.If found (If c a b) = true
-matches unit (pattern.Call f) found (Call k args) = is_procedure_called f (slice_get unit.procedures k)
+matches unit (pattern.Call f) found (Call k args) =
+    is_procedure_called f (slice_get unit.procedures k)
 matches unit pattern.Pass found Pass = true
 matches unit (pattern.Config c f) found (Config k a) = is_field_called c f (slice_get unit.fields k)
 matches unit w found a = false
@@ -100,7 +103,8 @@ module _ (unit : Program) (w : Pattern) where
         ++ matching outer branch (suc n) (found_after w found a) b
 
     pub matching_below : Path → Option ℕ → Statement → List Path
-    matching_below path found (If c a b) = matching path Main 0 found a ++ matching path Else 0 found b
+    matching_below path found (If c a b) =
+        matching path Main 0 found a ++ matching path Else 0 found b
     matching_below path found (For i lo hi b) = matching path Main 0 found b
     matching_below path found (Assign x is e) = []
     matching_below path found (Reduce x is e) = []
@@ -116,7 +120,8 @@ module _ (unit : Program) (w : Pattern) where
 
 -- the one of that number in preorder, counted from 0
 abbrev pub find_in : Program → Procedure → Pattern → ℕ → Option Cursor
-find_in unit p w nth = option_map Node (slice_get (matching unit w [] Main 0 (found_first w p.params) p.body) nth)
+find_in unit p w nth =
+    option_map Node (slice_get (matching unit w [] Main 0 (found_first w p.params) p.body) nth)
 
 abbrev pub find_of : Program → ℕ → Pattern → ℕ → Option Cursor
 find_of unit k w nth = option_and_then (λ p. find_in unit p w nth) (slice_get unit.procedures k)
