@@ -1,11 +1,11 @@
 -- Each procedure of a well-formed unit can be searched.
-use Rattle.std.proofs.Common.{◌≡◌, ℕ, zero, suc, ◌+◌, ◌<◌, ◌≤◌, ◌++◌, Bool, true, false, List, [], ◌∷◌, length, Option, Some, None, refl, ap, sym, ◌∙◌, arith}
+use Rattle.std.proofs.Common.{◌≡◌, ℕ, zero, suc, ◌+◌, ◌<◌, ◌≤◌, ◌++◌, Bool, true, false, List, [], ◌∷◌, length, Option, refl, arith}
 use Rattle.std.specs.Prelude.{max, not, ◌&&◌, nat_lt, if◌then◌else◌, slice_get}
-use Rattle.exo_tree.specs.Tree.{Kind, Statement, Assign, Reduce, Config, Pass, If, For, Alloc, View, Call, Block, end, next, Procedure, Program, ConfigField}
+use Rattle.exo_tree.specs.Tree.{Kind, Statement, Assign, Reduce, Config, Pass, If, For, Alloc, View, Call, Block, end, next, Procedure, ConfigField}
 use Rattle.exo_tree.specs.Heights.{height, height_below}
 use Rattle.exo_meaning.specs.Calls.{Callee}
 use Rattle.exo_meaning.specs.Run.{world_of, callee_in, kinds_of, roots_after}
-use Rattle.exo_meaning.specs.Units.{Scope, ControlName, with_name, with_fields, plainly, is_new, is_control, is_condition, is_empty, is_short, is_block, is_statement, scope_after, scope_of, larger, levels, step_levels, field_kind, IsProcedure, AreProcedures, IsUnit}
+use Rattle.exo_meaning.specs.Units.{Scope, ControlName, with_name, with_fields, plainly, is_new, is_control, is_condition, is_empty, is_short, is_block, is_statement, scope_after, scope_of, larger, levels, step_levels, field_kind, IsProcedure, AreProcedures}
 use Rattle.exo_tree.specs.Tree.{Index}
 use Rattle.cursor_forward.specs.Patterns.{all_short, is_short_below, CanBeSearched, IsSearchable, SearchableLaw}
 use Rattle.cursor_forward.proofs.Ranges.{both_true}
