@@ -1,0 +1,9 @@
+pub mod Causes
+pub mod Shifts
+pub mod Forwards
+pub mod Cursors
+pub mod Patterns
+pub mod PlainShift
+pub mod PlainCursor
+pub mod Proposals
+pub mod PlainProposal
