@@ -54,6 +54,9 @@ few list short = let e : length (map plain_line list) ≤ 4096 = omega (arith, s
 room : (list : List Line) → length list < 4096 → (l : tree.Line) → FewLines (map plain_line list ++ (l ∷ []))
 room list short l = let e : length (map plain_line list ++ (l ∷ [])) ≤ 4096 = omega (arith, short, length-map list plain_line, length-append (map plain_line list) (l ∷ [])) in e
 
+pub one_more : (list : List Line) (l : Line) → length list < 4096 → length (list ++ (l ∷ [])) ≤ 4096
+one_more list l short = omega (arith, short, length-append list (l ∷ []))
+
 pub lines_done : (tokens rest : List Token) (list : List Line) → Items line AtEnd tokens (map plain_line list) rest → length list ≤ 4096 → rest ≡ [] → IsText schedule tokens (map plain_line list)
 lines_done tokens rest list items short empty = text_ok schedule tokens rest (map plain_line list) refl (several_done line FewLines AtEnd tokens rest (map plain_line list) items (few list short) (none_left rest empty)) empty
 

@@ -1,8 +1,7 @@
-use Rattle.std.proofs.Common.{◌∷◌, [], arith, refl, length}
-use Rattle.std.proofs.lemmas.List.{length-append}
+use Rattle.std.proofs.Common.{arith, refl}
 use Rattle.text_phrases.proofs.Texts.{text_exit}
 use Rattle.text_phrases.proofs.Sequences.{items_none}
-use Rattle.schedule_text.proofs.Schedules.{lines_next, lines_done, lines_err, many_lines, numbered_first, numbered_done, line_after}
+use Rattle.schedule_text.proofs.Schedules.{lines_next, lines_done, lines_err, many_lines, numbered_first, numbered_done, line_after, one_more}
 use Rattle.schedule_text.proofs.Lines.{line_shorter}
 use Rattle.schedule_text.proofs.text.read_lines.Goals as goal
 
@@ -22,7 +21,7 @@ more-init c = record {
 pub more-preserved : goal.more-preserved
 more-preserved c = record {
   items = rw c.in_ok-push.ensures.items (lines_next _ _ _ _ _ c.more.invariant.items c.in_ok-statement.ensures);
-  few = rw c.in_ok-push.ensures.items (omega (arith, length-append c.more.lines.items (_ ∷ [])));
+  few = rw c.in_ok-push.ensures.items (one_more _ _ (omega arith));
   numbered = rw c.in_ok-push.ensures.items (line_after _ _ _ _ _ _ _ c.more.invariant.items c.more.invariant.numbered (omega arith) refl c.in_ok-statement.ensures);
 }
 
