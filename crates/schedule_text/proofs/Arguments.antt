@@ -20,7 +20,7 @@ use Rattle.text_lexer.specs.declared.token.Sign.TheVariants.{Open, Close, OpenBr
 use Rattle.text_lexer.specs.declared.token.Word.TheVariants as w
 use Rattle.text_expressions.specs.Values.{IsShortName, name, literal}
 use Rattle.exo_reader.specs.Parts.{Is}
-use Rattle.exo_reader.specs.Items.{NoString, StartsWithString, neighbours}
+use Rattle.exo_reader.specs.Items.{NoString, StartsWithString, FewBytes, neighbours}
 use Rattle.schedule_text.specs.Tree as tree
 use Rattle.schedule_text.specs.Tree.{Move, go, expand, item, Found, Cursor, held, KeyValue, text, yes, no, Argument, cursor, string, int, pair, key, Arguments}
 use Rattle.schedule_text.specs.Words.{find_word}
@@ -43,6 +43,10 @@ find_short = omega arith
 
 pub one_string : (limits : Limits) → neighbours.Fits limits ([] ∷ [])
 one_string limits = (((tt, tt), keeps_all limits tt (omega arith) tt), tt)
+
+-- a string that was read has few bytes
+pub string_few : (tokens rest : List Token) (pieces : List (List ℕ)) → Taken neighbours tokens pieces rest → FewBytes pieces
+string_few tokens rest pieces taken = (taken.fits in_length).0.1.1
 
 -- matches
 

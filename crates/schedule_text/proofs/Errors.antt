@@ -54,10 +54,6 @@ refusal_of kind tokens places (r.TooDeep last) e faults says = fault_of kind too
 refusal_of kind tokens places (r.TooLong last) e faults says = fault_of kind too_long tokens places last e faults says
 refusal_of kind tokens places (r.TooLarge last) e faults says = fault_of kind too_large tokens places last e faults says
 
--- an error without a place
-pub memory_refusal : {T : Type 0} (kind : Phrase Token T) (tokens : List Token) (places : List Place) (e : ReadError) → e.kind ≡ k.Memory → IsRefusal kind tokens places e.kind e
-memory_refusal kind tokens places e is = subst (λ (why : ReadKind). IsRefusal kind tokens places why e) (sym is) tt
-
 -- a text has one place more than tokens
 pub places_more : (text : List ℕ) → length (places_of text) ≡ length (tokens_of text) + 1
 places_more text = omega (arith, length-append (map place_of (lexed text)) (end_place text ∷ []), length-map (lexed text) place_of, length-map (lexed text) token_of)

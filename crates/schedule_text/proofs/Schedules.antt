@@ -1,7 +1,7 @@
 -- Whole schedules, and the numbers of their lines.
 use Rattle.std.proofs.Common.{◌≡◌, ℕ, ◌+◌, ◌-◌, ◌<◌, ◌≤◌, List, [], ◌∷◌, ◌++◌, Option, Some, None, length, take, drop, get_or, refl, sym, ap, ◌∙◌, subst, arith, append_assoc, map}
 use Rattle.std.proofs.lemmas.List.{length-append, length-map, append_cancel_left, append-nil, drop_more, drop-drop}
-use Rattle.text_phrases.specs.Limits.{Limits, in_depth, unlimited, syntax, too_long}
+use Rattle.text_phrases.specs.Limits.{Limits, in_depth, in_length, unlimited, syntax, too_long}
 use Rattle.text_phrases.specs.Phrase.{first, Phrase, Taken, Refused}
 use Rattle.text_phrases.specs.Sequence.{AllFit, spell_all}
 use Rattle.text_phrases.specs.Answers.{Refuses}
@@ -53,6 +53,12 @@ few list short = let e : length (map plain_line list) ≤ 4096 = omega (arith, s
 
 room : (list : List Line) → length list < 4096 → (l : tree.Line) → FewLines (map plain_line list ++ (l ∷ []))
 room list short l = let e : length (map plain_line list ++ (l ∷ [])) ≤ 4096 = omega (arith, short, length-map list plain_line, length-append (map plain_line list) (l ∷ [])) in e
+
+-- a schedule that was read has few lines
+pub schedule_few : (tokens : List Token) (list : List Line) → IsText schedule tokens (map plain_line list) → length list ≤ 4096
+schedule_few tokens list read =
+    let short : length (map plain_line list) ≤ 4096 = (read.fits in_length).1.1 in
+    omega (arith, short, length-map list plain_line)
 
 pub one_more : (list : List Line) (l : Line) → length list < 4096 → length (list ++ (l ∷ [])) ≤ 4096
 one_more list l short = omega (arith, short, length-append list (l ∷ []))

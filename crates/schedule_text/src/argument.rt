@@ -5,7 +5,7 @@ ghost use Rattle.text_phrases.specs.Phrase.{first, Taken, Refused};
 ghost use Rattle.text_phrases.specs.Answers.{Reads};
 ghost use Rattle.text_lexer.specs.declared.token.Token.{Token};
 ghost use Rattle.text_expressions.specs.Values.{IsShortName};
-ghost use Rattle.exo_reader.specs.Items.{StartsWithString};
+ghost use Rattle.exo_reader.specs.Items.{StartsWithString, neighbours};
 ghost use Rattle.schedule_text.specs.Words.{find_word};
 ghost use Rattle.schedule_text.specs.Grammar.{found, key_value, argument, more_arguments, arguments};
 ghost use Rattle.schedule_text.specs.Views.{plain_found, plain_key_value, plain_argument, plain_arguments};
@@ -21,15 +21,22 @@ use text_lexer::text::Text;
 use text_lexer::token::{Sign, Token, Word, next};
 use text_phrases::Refusal;
 
+/// The string that stands first.
+fn read_quoted(alloc: Global, tokens: &[Token]) -> Result<(Quoted, &[Token]), Refusal>
+    ensures { Reads neighbours tokens.now (λ x. x.0.pieces.items) (λ x. x.1.now) result }
+{
+    let (pieces, rest) = read_strings(alloc, tokens)?;
+    Ok((Quoted { pieces }, rest))
+}
+
 /// What comes behind `find (`.
 pub fn read_found(alloc: Global, inside: &[Token]) -> Result<(Found, &[Token]), Refusal>
     ensures { Reads found inside.now (λ x. plain_found x.0) (λ x. x.1.now) result }
 {
     let (version, behind_name) = read_name_and(inside, &[Fixed::Sign(Sign::Comma)])?;
-    let (pieces, behind_string) = read_strings(alloc, behind_name)?;
+    let (pattern, behind_string) = read_quoted(alloc, behind_name)?;
     let before_moves = expect_all(behind_string, &[Fixed::Sign(Sign::Close)])?;
     let (moves, rest) = read_moves(alloc, before_moves)?;
-    let pattern = Quoted { pieces };
     let made = Found {
         version,
         pattern,
@@ -48,8 +55,8 @@ fn read_key_value(alloc: Global, tokens: &[Token]) -> Result<(KeyValue, &[Token]
     if let Some(rest) = behind(tokens, Fixed::Word(Word::False)) {
         return Ok((KeyValue::False, rest));
     }
-    let (pieces, rest) = read_strings(alloc, tokens)?;
-    Ok((KeyValue::Str(Quoted { pieces }), rest))
+    let (text, rest) = read_quoted(alloc, tokens)?;
+    Ok((KeyValue::Str(text), rest))
 }
 
 /// What comes behind a key and its `=`.
@@ -108,13 +115,11 @@ fn read_named(alloc: Global, name: Text, rest: &[Token]) -> Result<(ArgText, &[T
 fn read_pair(alloc: Global, inside: &[Token]) -> Result<(ArgText, &[Token]), Refusal>
     ensures { Reads argument (Token.Sign Sign.OpenBracket ∷ inside.now) (λ x. plain_argument x.0) (λ x. x.1.now) result }
 {
-    let (left, behind_left) = read_strings(alloc, inside)?;
+    let (left, behind_left) = read_quoted(alloc, inside)?;
     let before_right = expect_all(behind_left, &[Fixed::Sign(Sign::Comma)])?;
-    let (right, behind_right) = read_strings(alloc, before_right)?;
+    let (right, behind_right) = read_quoted(alloc, before_right)?;
     let rest = expect_all(behind_right, &[Fixed::Sign(Sign::CloseBracket)])?;
-    let one = Quoted { pieces: left };
-    let other = Quoted { pieces: right };
-    Ok((ArgText::Pair(one, other), rest))
+    Ok((ArgText::Pair(left, right), rest))
 }
 
 /// An argument that begins with a name or a literal, if one stands first.
@@ -147,8 +152,8 @@ fn read_argument(alloc: Global, tokens: &[Token]) -> Result<(ArgText, &[Token]),
     ensures { Reads argument tokens.now (λ x. plain_argument x.0) (λ x. x.1.now) result }
 {
     if string_stands_first(tokens) {
-        let (pieces, rest) = read_strings(alloc, tokens)?;
-        return Ok((ArgText::Str(Quoted { pieces }), rest));
+        let (text, rest) = read_quoted(alloc, tokens)?;
+        return Ok((ArgText::Str(text), rest));
     }
     if let Some(inside) = behind(tokens, Fixed::Sign(Sign::OpenBracket)) {
         return read_pair(alloc, inside);

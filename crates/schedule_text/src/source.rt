@@ -1,6 +1,6 @@
 //! Source trees of schedules: a text as it is written, without names resolved.
 
-ghost use Rattle.std.specs.Prelude.{◌≡◌, IfOk};
+ghost use Rattle.std.specs.Prelude.{◌≡◌, ◌≤◌, length, IfOk};
 ghost use Rattle.exo_reader.specs.Items.{joined};
 
 use std::alloc::{AllocError, Global};
@@ -43,12 +43,14 @@ pub struct Moves {
 #[derive(Drop)]
 pub struct Quoted {
     pub pieces: Vec<Text>,
+    pub ghost few: { length (joined pieces.items) ≤ 1024 },
 }
 
 impl Quoted {
-    /// The bytes that the string stands for.
+    /// The bytes that the string stands for, at most 1,024.
     pub fn bytes(&self, alloc: Global) -> Result<Vec<u8>, AllocError>
-        ensures { IfOk result (λ bytes. bytes.items ≡ joined self.now.pieces.items) }
+        ensures value { IfOk result (λ bytes. bytes.items ≡ joined self.now.pieces.items) }
+        ensures few { IfOk result (λ bytes. length bytes.items ≤ 1024) }
     {
         let mut bytes = Vec::new(alloc);
         for piece in &self.pieces {
@@ -134,4 +136,5 @@ pub struct Line {
 #[derive(Drop)]
 pub struct Schedule {
     pub lines: Vec<Line>,
+    pub ghost few: { length lines.items ≤ 4096 },
 }
