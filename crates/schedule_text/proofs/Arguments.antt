@@ -1,9 +1,8 @@
 -- The productions of arguments.
-use Rattle.std.proofs.Common.{◌≡◌, ℕ, ◌<◌, List, [], ◌∷◌, ◌++◌, Option, Some, None, Bool, true, false, length, refl, sym, ap, ◌∙◌, subst, arith, map}
-use Rattle.std.proofs.lemmas.List.{length-append}
+use Rattle.std.proofs.Common.{◌≡◌, ℕ, List, [], ◌∷◌, ◌++◌, Option, Some, Bool, true, false, length, refl, sym, ap, ◌∙◌, subst, arith, map}
 use Rattle.text_phrases.specs.Limits.{Limits, unlimited, in_length, syntax, too_long}
 use Rattle.text_phrases.specs.Phrase.{first, Phrase, Taken, Refused}
-use Rattle.text_phrases.specs.Sequence.{exactly, then, spell_all}
+use Rattle.text_phrases.specs.Sequence.{exactly, then}
 use Rattle.text_phrases.specs.Commas.{spell_more}
 use Rattle.text_phrases.specs.Answers.{Refuses}
 use Rattle.text_phrases.specs.declared.Refusal.{Refusal}
@@ -24,7 +23,7 @@ use Rattle.exo_reader.specs.Items.{NoString, StartsWithString, FewBytes, neighbo
 use Rattle.schedule_text.specs.Tree as tree
 use Rattle.schedule_text.specs.Tree.{Move, go, expand, item, Found, Cursor, held, KeyValue, text, yes, no, Argument, cursor, string, int, pair, key, Arguments}
 use Rattle.schedule_text.specs.Words.{find_word}
-use Rattle.schedule_text.specs.Grammar.{BeginsMove, NoMove, move, moves, found, key_value, EndsArgument, argument, AnyNumber, more_arguments, arguments}
+use Rattle.schedule_text.specs.Grammar.{NoMove, moves, found, key_value, EndsArgument, argument, AnyNumber, more_arguments, arguments}
 use Rattle.schedule_text.specs.Views.{plain_argument}
 use Rattle.schedule_text.specs.declared.source.ArgText.{ArgText}
 use Rattle.schedule_text.proofs.Lists.{map_snoc}

@@ -1,7 +1,6 @@
 -- A schedule that keeps limits keeps fewer of them; so a text has one schedule, or is refused at one token for one cause.
-use Rattle.std.proofs.Common.{◌≡◌, ℕ, List, [], ◌∷◌, Option, Some, None, refl, sym, ap, ap₂, ◌∙◌, subst}
+use Rattle.std.proofs.Common.{◌≡◌, ℕ, List, Option, Some, None, refl, sym, ap, ap₂, ◌∙◌, subst}
 use Rattle.text_phrases.specs.Limits.{Limits, unlimited, Cause, syntax, too_deep, too_long, too_large}
-use Rattle.text_phrases.specs.Text.{IsText}
 use Rattle.text_phrases.specs.Sequence.{AllFit, carried}
 use Rattle.text_phrases.proofs.Eased.{Eases, eased, keeps_eased, all_eased, commas_ease, one_fault, no_fault}
 use Rattle.text_lexer.specs.declared.place.Place.{Place}
@@ -16,7 +15,7 @@ use Rattle.exo_reader.specs.declared.unit.ReadKind.TheVariants as kind
 use Rattle.exo_reader.specs.declared.unit.ReadError.{ReadError}
 use Rattle.schedule_text.specs.Tree as tree
 use Rattle.schedule_text.specs.Tree.{go, expand, item, held, text, yes, no, cursor, string, int, pair, key, operation, search, moved, bind, emit}
-use Rattle.schedule_text.specs.Grammar.{move, moves, found, key_value, argument, AnyNumber, more_arguments, arguments, act, line, schedule}
+use Rattle.schedule_text.specs.Grammar.{move, moves, found, key_value, argument, AnyNumber, arguments, act, line, schedule}
 use Rattle.schedule_text.specs.Texts.{SchedulesAreOne}
 use Rattle.schedule_text.proofs.Arguments.{AtClose}
 

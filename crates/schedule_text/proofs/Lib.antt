@@ -6,3 +6,4 @@ mod Lines
 mod Errors
 mod Schedules
 mod Eased
+mod Examples

@@ -1,5 +1,5 @@
 -- The productions of lines.
-use Rattle.std.proofs.Common.{◌≡◌, ℕ, ◌+◌, ◌<◌, List, [], ◌∷◌, ◌++◌, Option, Some, None, length, refl, sym, ap, ◌∙◌, subst, arith, append_assoc}
+use Rattle.std.proofs.Common.{◌≡◌, ℕ, ◌+◌, ◌<◌, List, [], ◌∷◌, ◌++◌, Option, Some, length, refl, sym, ap, ◌∙◌, subst, arith, append_assoc}
 use Rattle.std.proofs.lemmas.List.{length-append}
 use Rattle.text_phrases.specs.Limits.{Limits, in_length, Cause, passed, syntax}
 use Rattle.text_phrases.specs.Phrase.{first, Phrase, Taken, Refused}
@@ -13,9 +13,9 @@ use Rattle.text_phrases.proofs.Joints.{Joint}
 use Rattle.text_lexer.specs.declared.token.Literal.TheVariants.{Value}
 use Rattle.text_lexer.specs.declared.token.Token.{Token}
 use Rattle.text_lexer.specs.declared.token.Token.TheVariants.{Name, Int, Sign, NewLine}
-use Rattle.text_lexer.specs.declared.token.Sign.TheVariants.{Open, Close, OpenBracket, CloseBracket, Dot, Assign}
+use Rattle.text_lexer.specs.declared.token.Sign.TheVariants.{Open, Close, OpenBracket, CloseBracket, Assign}
 use Rattle.text_expressions.specs.Values.{IsShortName, name}
-use Rattle.schedule_text.specs.Tree.{Move, go, expand, item, Found, Arguments, Act, operation, search, moved, Line, bind, emit}
+use Rattle.schedule_text.specs.Tree.{Move, go, expand, item, Arguments, Act, operation, search, moved, Line, bind, emit}
 use Rattle.schedule_text.specs.Words.{find_word, emit_word}
 use Rattle.schedule_text.specs.Grammar.{BeginsMove, move, moves, found, arguments, act, line}
 use Rattle.schedule_text.proofs.Moving.{literal_zero}

@@ -1,5 +1,5 @@
 -- Lists that loops read.
-use Rattle.std.proofs.Common.{◌≡◌, ℕ, List, [], ◌∷◌, ◌++◌, Option, map, sym, subst}
+use Rattle.std.proofs.Common.{◌≡◌, List, [], ◌∷◌, ◌++◌, Option, map, sym, subst}
 use Rattle.std.proofs.lemmas.List.{map-append}
 use Rattle.text_phrases.specs.Phrase.{first, Phrase, Taken}
 use Rattle.text_phrases.specs.Sequence.{many}

@@ -1,9 +1,9 @@
 -- Whole schedules, and the numbers of their lines.
-use Rattle.std.proofs.Common.{◌≡◌, ℕ, ◌+◌, ◌-◌, ◌<◌, ◌≤◌, List, [], ◌∷◌, ◌++◌, Option, Some, None, length, take, drop, get_or, refl, sym, ap, ◌∙◌, subst, arith, append_assoc, map}
+use Rattle.std.proofs.Common.{◌≡◌, ℕ, ◌+◌, ◌-◌, ◌<◌, ◌≤◌, List, [], ◌∷◌, ◌++◌, Option, Some, None, length, drop, get_or, refl, sym, ap, ◌∙◌, subst, arith, append_assoc, map}
 use Rattle.std.proofs.lemmas.List.{length-append, length-map, append_cancel_left, append-nil, drop_more, drop-drop}
 use Rattle.text_phrases.specs.Limits.{Limits, in_depth, in_length, unlimited, syntax, too_long}
-use Rattle.text_phrases.specs.Phrase.{first, Phrase, Taken, Refused}
-use Rattle.text_phrases.specs.Sequence.{AllFit, spell_all}
+use Rattle.text_phrases.specs.Phrase.{first, Taken, Refused}
+use Rattle.text_phrases.specs.Sequence.{spell_all}
 use Rattle.text_phrases.specs.Answers.{Refuses}
 use Rattle.text_phrases.specs.Text.{IsText, Faults}
 use Rattle.text_phrases.specs.declared.Refusal.{Refusal}
@@ -40,7 +40,7 @@ lines_apart = record {
 some_left : (rest more : List Token) (a : Token) → rest ≡ a ∷ more → first rest ≡ None → ⊥
 some_left rest more a is none = let e : Some a ≡ None = sym (ap first is) ∙ none in cc (e)
 
-none_left : (rest : List Token) → rest ≡ [] → (limits : Limits) (l : tree.Line) (y : List Token) → line.Fits limits l → first rest ≡ first (line.spell l ++ y) → ⊥
+pub none_left : (rest : List Token) → rest ≡ [] → (limits : Limits) (l : tree.Line) (y : List Token) → line.Fits limits l → first rest ≡ first (line.spell l ++ y) → ⊥
 none_left rest empty limits l y fits same = subst StartsLine (sym same ∙ ap first empty) (starts_line l y)
 
 -- one line more

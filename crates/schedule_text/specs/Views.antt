@@ -1,5 +1,5 @@
 -- Schedules in memory, as they are written.
-use Rattle.std.specs.Prelude.{ℕ, List, Bool, map}
+use Rattle.std.specs.Prelude.{ℕ, List, map}
 use Rattle.text_lexer.specs.declared.token.Literal.TheVariants.{Value}
 use Rattle.schedule_text.specs.Tree as tree
 use Rattle.schedule_text.specs.Tree.{Argument}

@@ -1,4 +1,4 @@
-use Rattle.std.proofs.Common.{◌≡◌, false, true, refl}
+use Rattle.std.proofs.Common.{◌≡◌, false, true}
 use Rattle.schedule_text.proofs.argument.behind_find.Goals as goal
 
 pub returns : goal.returns

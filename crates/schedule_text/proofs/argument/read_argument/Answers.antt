@@ -1,4 +1,4 @@
-use Rattle.std.proofs.Common.{◌≡◌, false, true, refl}
+use Rattle.std.proofs.Common.{refl}
 use Rattle.text_phrases.proofs.Exits.{exit}
 use Rattle.text_phrases.proofs.Sequences.{step_taken}
 use Rattle.text_phrases.proofs.Joints.{whole_err}
