@@ -79,7 +79,7 @@ no_lines (emit x ∷ ls) more same equal =
     let f : Some (Name p) ≡ Some (Sign Open) = same ∙ ap first e in
     cc (f)
 
-second_token : FaultAt schedule syntax stops 2
+abbrev second_token : FaultAt schedule syntax stops 2
 second_token = record {
   before = Name p ∷ [];
   rest = Name p ∷ NewLine ∷ [];
