@@ -1,0 +1,5 @@
+pub mod Tree
+pub mod Words
+pub mod Grammar
+pub mod Views
+pub mod Texts
