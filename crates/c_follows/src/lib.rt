@@ -1,0 +1,2 @@
+//! The C of a block follows its run: laws alone.
+#![tactic(auto)]

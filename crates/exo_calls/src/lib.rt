@@ -1,0 +1,2 @@
+//! Who calls whom in a unit.
+#![tactic(auto)]
