@@ -5,3 +5,4 @@ pub mod Calls
 pub mod Bodies
 pub mod SameInput
 pub mod Units
+pub mod Instance

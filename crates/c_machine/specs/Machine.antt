@@ -1,5 +1,5 @@
 -- The C machine: what it holds, and what its expressions give.
-use Rattle.std.specs.Prelude.{ℕ, ℤ, pos, negsuc, neg_ℤ, ◌+ℤ◌, ◌-ℤ◌, ◌*ℤ◌, int_lt, int_le, ◌==◌, Bool, true, false, not, ◌&&◌, if◌then◌else◌, List, [], ◌∷◌, Option, Some, None, slice_get}
+use Rattle.std.specs.Prelude.{ℕ, zero, suc, ℤ, pos, negsuc, neg_ℤ, ◌+ℤ◌, ◌-ℤ◌, ◌*ℤ◌, int_lt, int_le, ◌==◌, Bool, true, false, not, ◌&&◌, if◌then◌else◌, List, [], ◌∷◌, Option, Some, None}
 use Rattle.std.specs.Int.{int_div_euclid, int_rem_euclid}
 use Rattle.std.specs.Ordering.{int_eq}
 use Rattle.exo_tree.specs.Tree.{Cell, I32}
@@ -21,10 +21,6 @@ after NoStore f = NoStore
 abbrev pub where_good : {A : Type 0} → Bool → Outcome A → Outcome A
 where_good true o = o
 where_good false o = Fault
-
-abbrev pub or_fault : {A : Type 0} → Option A → Outcome A
-or_fault None = Fault
-or_fault (Some a) = Done a
 
 -- ---- what the machine holds
 
@@ -83,6 +79,12 @@ number_under fields x (Some (IsArray p)) = Fault
 number_under fields x (Some (IsVectors p lanes)) = Fault
 number_under fields x (Some (IsWindow p strides)) = Fault
 
+-- that of the number k; a fault where there are not so many
+abbrev pub stride_in : List ℤ → ℕ → Outcome ℤ
+stride_in [] k = Fault
+stride_in (t ∷ ts) zero = Done t
+stride_in (t ∷ ts) (suc k) = stride_in ts k
+
 abbrev pub stride_under : Option Thing → ℕ → Outcome ℤ
 stride_under None k = Fault
 stride_under (Some (IsNumber n)) k = Fault
@@ -90,7 +92,7 @@ stride_under (Some IsField) k = Fault
 stride_under (Some IsFunction) k = Fault
 stride_under (Some (IsArray p)) k = Fault
 stride_under (Some (IsVectors p lanes)) k = Fault
-stride_under (Some (IsWindow p strides)) k = or_fault (slice_get strides k)
+stride_under (Some (IsWindow p strides)) k = stride_in strides k
 
 -- both sides, and then an operation whose result must fit
 abbrev pub on_both : (ℤ → ℤ → ℤ) → Outcome ℤ → Outcome ℤ → Outcome ℤ
