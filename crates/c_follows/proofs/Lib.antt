@@ -4,4 +4,7 @@ pub mod Offsets
 pub mod Data
 pub mod Numbers
 pub mod Windows
+pub mod Places
+pub mod Open
+pub mod Tests
 pub mod Instance

@@ -3,7 +3,7 @@ use Rattle.std.proofs.Common.{◌≡◌, ◌≤◌, ◌<◌, ◌+◌, ◌*◌, �
 use Rattle.std.proofs.lemmas.Int.{ints}
 use Rattle.std.proofs.lemmas.Bool.{and_from, and_parts}
 use Rattle.std.proofs.Math.IntN.{+ℤ_assoc, *ℤ_comm, *ℤ-zero, suc_ℤ-*ℤ}
-use Rattle.exo_meaning.specs.Scene.{where_true, Scene, Shape, Side, Point, Range, is_below, cell_at, whole, strides_of, LieWithin}
+use Rattle.exo_meaning.specs.Scene.{where_true, Scene, Shape, Side, Point, Range, is_below, cell_at, whole, extents, strides_of, LieWithin}
 use Rattle.exo_meaning.specs.Inputs.{IsBetween}
 use Rattle.exo_meaning.specs.Orders.{Each}
 use Rattle.c_tree.specs.CTree.{Name, Number64, StrideIn, Sum, Product}
@@ -133,6 +133,24 @@ natural_part (side ∷ sides) [] h = tt
 natural_part (Point p ∷ sides) (t ∷ ts) h = natural_part sides ts h.2
 natural_part (Range lo n ∷ sides) (t ∷ ts) h = (h.0, h.1, natural_part sides ts h.2)
 
+-- where a part begins
+pub natural_lower : (ds : List ℤ) (sides : List Side) → LieWithin (whole ds) sides → AreNatural (lower_ends sides)
+natural_lower [] [] h = tt
+natural_lower [] (side ∷ sides) h = absurd h
+natural_lower (d ∷ ds) [] h = absurd h
+natural_lower (d ∷ ds) (Point q ∷ sides) h = let x = index_of q d h.0 in (x.at, x.at_is, natural_lower ds sides h.1)
+natural_lower (d ∷ ds) (Range (pos m) n ∷ sides) h = (m, refl, natural_lower ds sides h.2)
+natural_lower (d ∷ ds) (Range (negsuc m) n ∷ sides) h = absurd (omega (arith, ints, h.0))
+
+-- a stride for each dimension of a part
+pub strides_length : (ds ts : List ℤ) (sides : List Side) → LieWithin (whole ds) sides → length ts ≡ length ds → length (strides_of sides ts) ≡ length (extents sides)
+strides_length [] ts [] h e = refl
+strides_length [] ts (side ∷ sides) h e = absurd h
+strides_length (d ∷ ds) ts [] h e = absurd h
+strides_length (d ∷ ds) [] (side ∷ sides) h e = absurd (omega (arith, e))
+strides_length (d ∷ ds) (t ∷ ts) (Point q ∷ sides) h e = strides_length ds ts sides h.1 (omega (arith, e))
+strides_length (d ∷ ds) (t ∷ ts) (Range lo n ∷ sides) h e = ap suc (strides_length ds ts sides h.2 (omega (arith, e)))
+
 -- ---- the C text of the offset in a window
 
 module _ (s : Setting) where
@@ -182,4 +200,7 @@ module _ (s : Setting) where
         plus_suc n j = omega arith
 
     pub window_strides_are : HaveNumbers s (window_strides w 0 (length all)) all
-    window_strides_are = stride_values 0 all (λ j. refl)
+    window_strides_are = stride_values 0 all (λ j. ap (stride_in all) (zero_plus j))
+      where
+        zero_plus : (n : ℕ) → 0 + n ≡ n
+        zero_plus n = omega arith
