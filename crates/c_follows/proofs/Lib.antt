@@ -7,4 +7,8 @@ pub mod Windows
 pub mod Places
 pub mod Open
 pub mod Tests
+pub mod Wider
+pub mod Scopes
+pub mod Settings
+pub mod Simulate
 pub mod Instance

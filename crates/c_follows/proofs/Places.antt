@@ -127,7 +127,7 @@ module _ (naming : Naming) (forms : Forms) (most : ℕ → ℕ) (layout : Layout
       abbrev strides : List ℤ
       strides = strides_of w.seen.sides w.shape.strides
 
-      seen_at : List ℤ → Place
+      abbrev seen_at : List ℤ → Place
       seen_at at = record { buffer = w.seen.buffer; at = at }
 
       window_place : place scene x is ≡ option_map (λ at. record { buffer = w.seen.buffer; at = at }) (cell_at w.seen.sides ns)
