@@ -11,4 +11,6 @@ pub mod Wider
 pub mod Scopes
 pub mod Settings
 pub mod Simulate
+pub mod Clauses
+pub mod Simulated
 pub mod Instance

@@ -125,10 +125,10 @@ module _ (g : Ground) (forms : Forms) (most : ℕ → ℕ) (root : ℕ → ℕ) 
       }
 
       -- the C changes that one spot
-      elsewhere : (to : Cell) (g : Value → Value) (o : ℕ) (k : ℤ) → nat_lt o m.setting.free ≡ true → IsOutside g.stored layout s o k → (put32 m to g q).contents o k ≡ m.contents o k
-      elsewhere to g o k h out = go (is_spot q o k) refl
+      elsewhere : (to : Cell) (f : Value → Value) (o : ℕ) (k : ℤ) → nat_lt o m.setting.free ≡ true → IsOutside g.stored layout s o k → (put32 m to f q).contents o k ≡ m.contents o k
+      elsewhere to f o k h out = go (is_spot q o k) refl
         where
-          go : (t : Bool) → is_spot q o k ≡ t → cond t (into_object (m.setting.objects q.object) (stored_as to (g (m.contents o k)))) (m.contents o k) ≡ m.contents o k
+          go : (t : Bool) → is_spot q o k ≡ t → cond t (into_object (m.setting.objects q.object) (stored_as to (f (m.contents o k)))) (m.contents o k) ≡ m.contents o k
           go false e = refl
           go true e = absurd (out p.buffer one.shape one.buffer may_store p.at one.in_buffer (one.lies ∙ sym (spot_is q o k e)))
 
