@@ -13,4 +13,6 @@ pub mod Settings
 pub mod Simulate
 pub mod Clauses
 pub mod Simulated
+pub mod Amounts
+pub mod Counts
 pub mod Instance
