@@ -84,17 +84,17 @@ module _ (scene : Scene) where
   within : (n : ℕ) → fits n ≡ true → int_le (pos n) (pos 4611686018427387904) ≡ true
   within n h = grind arith
 
+  abbrev Counts : (ℕ → ℕ) → ℕ → List Control → Control → Type 0
+  Counts most n ds c = all_positive (numbers scene (c ∷ ds)) ≡ true → fits_cells most n (c ∷ ds) ≡ true → stack_count_from (pos n) (c ∷ ds) ≡ pos n *ℤ product (numbers scene (c ∷ ds))
+
   pub count_is : (most : ℕ → ℕ) (n : ℕ) (ds : List Control) → AreLiterals ds → int_le (pos 1) (pos n) ≡ true → all_positive (numbers scene ds) ≡ true → fits_cells most n ds ≡ true → stack_count_from (pos n) ds ≡ pos n *ℤ product (numbers scene ds)
   count_is most n [] h one p f = times_one (pos n)
     where
       times_one : (z : ℤ) → z ≡ z *ℤ pos 1
       times_one z = omega (arith, ints)
-  count_is most n (d ∷ ds) h one p f = subst Counts (sym h.0.1) (of_literal h.0.0) p f
+  count_is most n (d ∷ ds) h one p f = subst (Counts most n ds) (sym h.0.1) (of_literal h.0.0) p f
     where
-      abbrev Counts : Control → Type 0
-      Counts c = all_positive (numbers scene (c ∷ ds)) ≡ true → fits_cells most n (c ∷ ds) ≡ true → stack_count_from (pos n) (c ∷ ds) ≡ pos n *ℤ product (numbers scene (c ∷ ds))
-
-      of_literal : (z : ℤ) → Counts (Lit z)
+      of_literal : (z : ℤ) → Counts most n ds (Lit z)
       of_literal (negsuc k) q i = absurd (true≢false (sym (and_parts (int_le (pos 1) (negsuc k)) (all_positive (numbers scene ds)) q).0))
       of_literal (pos k) q i =
           let parts = and_parts (int_le (pos 1) (pos k)) (all_positive (numbers scene ds)) q in

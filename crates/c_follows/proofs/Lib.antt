@@ -15,4 +15,5 @@ pub mod Clauses
 pub mod Simulated
 pub mod Amounts
 pub mod Counts
+pub mod Allocated
 pub mod Instance
