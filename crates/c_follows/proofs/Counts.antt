@@ -87,21 +87,21 @@ module _ (scene : Scene) where
   abbrev Counts : (ℕ → ℕ) → ℕ → List Control → Control → Type 0
   Counts most n ds c = all_positive (numbers scene (c ∷ ds)) ≡ true → fits_cells most n (c ∷ ds) ≡ true → stack_count_from (pos n) (c ∷ ds) ≡ pos n *ℤ product (numbers scene (c ∷ ds))
 
+  of_literal : (most : ℕ → ℕ) (n : ℕ) (ds : List Control) → int_le (pos 1) (pos n) ≡ true → ((k : ℕ) → int_le (pos 1) (pos (n * k)) ≡ true → all_positive (numbers scene ds) ≡ true → fits_cells most (n * k) ds ≡ true → stack_count_from (pos (n * k)) ds ≡ pos (n * k) *ℤ product (numbers scene ds)) → (z : ℤ) → Counts most n ds (Lit z)
+  of_literal most n ds one rest (negsuc k) q i = absurd (true≢false (sym (and_parts (int_le (pos 1) (negsuc k)) (all_positive (numbers scene ds)) q).0))
+  of_literal most n ds one rest (pos k) q i =
+      let parts = and_parts (int_le (pos 1) (pos k)) (all_positive (numbers scene ds)) q in
+      let later = (and_parts (fits n && is_narrow most (Lit (pos k))) (fits_cells most (n * k) ds) i).1 in
+      ap (λ t. cond t (stack_count_from (pos n *ℤ pos k) ds) (pos 0)) (within (n * k) (fits_first most (n * k) ds later))
+      ∙ rest k (both_positive (pos n) (pos k) one parts.0) parts.1 later
+      ∙ times_assoc (pos n) (pos k) (product (numbers scene ds)) one parts.0 (positive_product (numbers scene ds) parts.1)
+
   pub count_is : (most : ℕ → ℕ) (n : ℕ) (ds : List Control) → AreLiterals ds → int_le (pos 1) (pos n) ≡ true → all_positive (numbers scene ds) ≡ true → fits_cells most n ds ≡ true → stack_count_from (pos n) ds ≡ pos n *ℤ product (numbers scene ds)
   count_is most n [] h one p f = times_one (pos n)
     where
       times_one : (z : ℤ) → z ≡ z *ℤ pos 1
       times_one z = omega (arith, ints)
-  count_is most n (d ∷ ds) h one p f = subst (Counts most n ds) (sym h.0.1) (of_literal h.0.0) p f
-    where
-      of_literal : (z : ℤ) → Counts most n ds (Lit z)
-      of_literal (negsuc k) q i = absurd (true≢false (sym (and_parts (int_le (pos 1) (negsuc k)) (all_positive (numbers scene ds)) q).0))
-      of_literal (pos k) q i =
-          let parts = and_parts (int_le (pos 1) (pos k)) (all_positive (numbers scene ds)) q in
-          let rest = (and_parts (fits n && is_narrow most (Lit (pos k))) (fits_cells most (n * k) ds) i).1 in
-          ap (λ t. cond t (stack_count_from (pos n *ℤ pos k) ds) (pos 0)) (within (n * k) (fits_first most (n * k) ds rest))
-          ∙ count_is most (n * k) ds h.1 (both_positive (pos n) (pos k) one parts.0) parts.1 rest
-          ∙ times_assoc (pos n) (pos k) (product (numbers scene ds)) one parts.0 (positive_product (numbers scene ds) parts.1)
+  count_is most n (d ∷ ds) h one p f = subst (Counts most n ds) (sym h.0.1) (of_literal most n ds one (λ k o q i. count_is most (n * k) ds h.1 o q i) h.0.0) p f
 
 -- what is asked of all dimensions is asked of all but the last
 pub front_good : (forms : Forms) (most : ℕ → ℕ) (ds : List Control) → AreGood forms most ds → AreGood forms most (front ds)

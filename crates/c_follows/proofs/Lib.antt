@@ -16,4 +16,5 @@ pub mod Simulated
 pub mod Amounts
 pub mod Counts
 pub mod Allocated
+pub mod Allocs
 pub mod Instance
