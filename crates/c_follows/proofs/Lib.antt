@@ -17,4 +17,7 @@ pub mod Amounts
 pub mod Counts
 pub mod Allocated
 pub mod Allocs
+pub mod Handed
+pub mod Views
+pub mod WithoutCalls
 pub mod Instance

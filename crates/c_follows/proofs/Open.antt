@@ -16,7 +16,7 @@ use Rattle.c_machine.specs.Machine.{Done, after, where_good, checked, number64, 
 use Rattle.c_lowered.specs.Lowered.{Naming, Forms, number_with, number_of, dims_of, product_of, product_from, row_strides, strides_in, window_strides, or_one}
 use Rattle.c_widths.specs.Magnitude.{magnitude}
 use Rattle.c_follows.specs.Magnitude.{IsNarrow, AreNarrow}
-use Rattle.c_follows.specs.Simulation.{Declared, AreSameFields, HaveForms, IsTensor, IsWindowName, IsPlain, ArePlain, Layout, beginning}
+use Rattle.c_follows.specs.Simulation.{Declared, AreSameFields, HaveForms, IsTensor, IsWindowName, IsPlain, ArePlain, HaveNumbers, Layout, beginning}
 use Rattle.c_follows.specs.Good.{HasStride, IsOpen}
 use Rattle.c_follows.proofs.Extents.{both_positive, positive_product, times_assoc, left_factor, right_factor, abs_within}
 use Rattle.c_follows.proofs.Numbers.{same_number, counter, narrow, checked_small, on_both_done, abs_add, abs_sub, abs_neg, positive, div_bounded, rem_bounded}
@@ -24,7 +24,7 @@ use Rattle.c_follows.proofs.Places.{tensor_here, window_here}
 use Rattle.c_follows.proofs.Windows.{ArePlaced, strides_length}
 
 -- a buffer that is seen whole has all its strides
-whole_strides : (ds : List ℤ) → strides_of (whole ds) (row_major ds) ≡ row_major ds
+pub whole_strides : (ds : List ℤ) → strides_of (whole ds) (row_major ds) ≡ row_major ds
 whole_strides [] = refl
 whole_strides (d ∷ ds) = ap (λ ts. product ds ∷ ts) (whole_strides ds)
 
@@ -79,6 +79,11 @@ module _ (naming : Naming) (forms : Forms) (most : ℕ → ℕ) (layout : Layout
   row_value [] k below h i q room = absurd (omega arith)
   row_value (d ∷ ds) zero below h i q room = let r = later d ds q room in (product_value ds h.1 i.1 r.0 r.2, abs_within _ _ r.1 r.2)
   row_value (d ∷ ds) (suc k) below h i q room = let r = later d ds q room in row_value ds k (omega arith) h.1 i.1 r.0 r.2
+
+  -- all of them
+  pub rows_have : (ds : List Control) → ArePlain forms ds → AreNarrow most ds → all_positive (numbers scene ds) ≡ true → product (numbers scene ds) ≤ℤ pos (2 ^ 48) → HaveNumbers setting (row_strides (dims_of naming ds)) (row_major (numbers scene ds))
+  rows_have [] h i q room = tt
+  rows_have (d ∷ ds) h i q room = let r = later d ds q room in (product_value ds h.1 i.1 r.0 r.2, rows_have ds h.1 i.1 r.0 r.2)
 
   abbrev StrideIs : ℕ → ℕ → Number64 → Type 0
   StrideIs x k e = (number64 setting e ≡ Done (number scene (StrideOf x k))) × (unsigned_abs (number scene (StrideOf x k)) ≤ 2 ^ 48)

@@ -20,7 +20,7 @@ use Rattle.c_follows.proofs.Data.{sum_read, difference_read, product_read, negat
 use Rattle.c_follows.proofs.Steps.{follows_then, follows_map, follows_both, follows_good}
 use Rattle.c_follows.proofs.Places.{AreOne, cell_follows}
 
-same_itself : (c : Cell) → same_cell c c ≡ true
+pub same_itself : (c : Cell) → same_cell c c ≡ true
 same_itself I8 = refl
 same_itself I32 = refl
 

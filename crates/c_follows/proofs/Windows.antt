@@ -44,17 +44,17 @@ natural_dot (i ∷ is) (t ∷ ts) h k =
 
 -- ---- the cells of a part
 
-some_same : {A : Type 0} {a b : A} → Some a ≡ Some b → a ≡ b
+pub some_same : {A : Type 0} {a b : A} → Some a ≡ Some b → a ≡ b
 some_same e = cc
 
-no_some : {A : Type 0} {a : A} → None ≡ Some a → ⊥
+pub no_some : {A : Type 0} {a : A} → None ≡ Some a → ⊥
 no_some e = cc
 
-mapped : {A B : Type 0} (f : A → B) (o : Option A) (b : B) → option_map f o ≡ Some b → (a : A) × (o ≡ Some a) × (b ≡ f a)
+pub mapped : {A B : Type 0} (f : A → B) (o : Option A) (b : B) → option_map f o ≡ Some b → (a : A) × (o ≡ Some a) × (b ≡ f a)
 mapped f None b h = absurd (no_some h)
 mapped f (Some a) b h = (a, refl, sym (some_same h))
 
-tested : {A : Type 0} (t : Bool) (o : Option A) (a : A) → where_true t o ≡ Some a → (t ≡ true) × (o ≡ Some a)
+pub tested : {A : Type 0} (t : Bool) (o : Option A) (a : A) → where_true t o ≡ Some a → (t ≡ true) × (o ≡ Some a)
 tested false o a h = absurd (no_some h)
 tested true o a h = (refl, h)
 

@@ -1,5 +1,5 @@
 -- Calls in the C do what they do in the source.
-use Rattle.std.specs.Prelude.{◌≡◌, ℕ, true, List, [], Option, Some, None}
+use Rattle.std.specs.Prelude.{◌≡◌, ℕ, true, false, List, [], Option, Some, None}
 use Rattle.exo_tree.specs.Tree.{Kind, Block, Procedure}
 use Rattle.exo_meaning.specs.State.{State}
 use Rattle.exo_meaning.specs.Calls.{Callee}
@@ -56,6 +56,21 @@ BlocksFollow =
     (world : World) (kinds : ℕ → Kind) (ps : List Procedure) (c_world : CWorld) (b : Block)
     → let few = fewness_from kinds [] no_fewness ps in
     CallsFollow g world few c_world
+    → IsGoodBlock g forms most b
+    → MayStore g.stored world root b
+    → SharesNothing world root b
+    → (s : State) (m : Machine)
+    → Matches g forms most root layout s m
+    → Follows (AllocatesFew world few b s) (Ends g forms layout s m)
+    (run world b s) (run_c c_world (block_of g.naming forms b) m)
+
+-- The same of a block that calls nothing.
+abbrev pub BlocksWithoutCallsFollow : Type 0
+BlocksWithoutCallsFollow =
+    (g : Ground) (forms : Forms) (most : ℕ → ℕ) (root : ℕ → ℕ) (layout : Layout)
+    (world : World) (kinds : ℕ → Kind) (ps : List Procedure) (c_world : CWorld) (b : Block)
+    → let few = fewness_from kinds [] no_fewness ps in
+    ((k : ℕ) → g.called k ≡ false)
     → IsGoodBlock g forms most b
     → MayStore g.stored world root b
     → SharesNothing world root b

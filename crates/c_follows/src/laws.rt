@@ -1,6 +1,13 @@
 //! Laws of the C, each the contract of a function with nothing to do.
 
+ghost use Rattle.c_follows.specs.Calls.{BlocksWithoutCallsFollow};
 ghost use Rattle.c_follows.specs.Instance.{BlockInstance, CallInstance};
+
+/// The C of a block that calls nothing follows its run: with windows, views, and allocations of cells and of vectors on
+/// the heap and on the stack.
+pub fn blocks_without_calls_follow()
+    ensures { BlocksWithoutCallsFollow }
+{}
 
 /// A block meets what the law on blocks asks, and its C is done.
 pub fn block_instance()
