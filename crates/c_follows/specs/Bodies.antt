@@ -3,7 +3,7 @@ use Rattle.std.specs.Prelude.{◌≡◌, ℕ, true, List, [], Option, Some, None
 use Rattle.exo_tree.specs.Tree.{Binder, Procedure, Program}
 use Rattle.c_names.specs.Words.{Name}
 use Rattle.c_names.specs.Binders.{c_names}
-use Rattle.exo_calls.specs.Closures.{tabled}
+use Rattle.exo_calls.specs.Tabled.{tabled}
 use Rattle.c_machine.specs.Machine.{Thing}
 use Rattle.c_machine.specs.CRun.{Behaviour, CWorld, run_c, globals_of}
 use Rattle.c_lowered.specs.Lowered.{Routine, Naming, param_forms, block_of}

@@ -3,7 +3,7 @@ use Rattle.std.specs.Prelude.{ℕ, zero, suc, ◌==◌, Bool, true, false, not, 
 use Rattle.std.specs.List.{list_any}
 use Rattle.exo_tree.specs.Tree.{Cell, I8, I32, Binder, Control, Lit, Var, Field, StrideOf, Neg, Add, Sub, Mul, Div, Mod, Condition, True, False, Flag, FieldFlag, Lt, Le, Gt, Ge, Eq, And, Or, Argument, ControlArg, ConditionArg, Whole, Window, Statement, Config, If, For, Alloc, Call, Block, end, next, Param, ParamKind, ControlParam, TensorParam, WindowParam, Procedure, ConfigField, MemoryKind, Program}
 use Rattle.exo_meaning.specs.Units.{Reading, Plain, Opened, Closed, InHole, same_cell}
-use Rattle.exo_calls.specs.Closures.{closed}
+use Rattle.exo_calls.specs.Closed.{closed}
 use Rattle.c_tree.specs.CTree.{Name, Actual, WindowOf, CStatement, Branch, Loop, Bind, CallOf, CBlock, stop, first, Formal, Number64Param, ArrayParam, WindowParamOf, CFunction, ReportLine, StructOf, CUnit}
 use Rattle.c_names.specs.Words.{is_in}
 use Rattle.c_names.specs.Binders.{name_in, c_names}
