@@ -120,7 +120,7 @@ have_length s (e ∷ es) (n ∷ ns) h = ap suc (have_length s es ns h.1)
 
 -- ---- what a name of a buffer sees
 
-whole_in_whole : (ds : List ℤ) → LieWithin (whole ds) (whole ds)
+pub whole_in_whole : (ds : List ℤ) → LieWithin (whole ds) (whole ds)
 whole_in_whole [] = tt
 whole_in_whole (d ∷ ds) = (omega (arith, ints), up_to d, whole_in_whole ds)
   where

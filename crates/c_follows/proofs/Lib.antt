@@ -20,4 +20,6 @@ pub mod Allocs
 pub mod Handed
 pub mod Views
 pub mod WithoutCalls
+pub mod Bound
+pub mod Begun
 pub mod Instance

@@ -107,8 +107,7 @@ module _ (naming : Naming) (forms : Forms) (most : ℕ → ℕ) (layout : Layout
       let seen : stride_at scene (scene.views x) k ≡ get_or strides k (pos 0) =
       ap (λ o. stride_at scene o k) w.view
       ∙ ap (λ o. get_or (elim o [ None ↦ [] | Some shape ↦ strides_of w.seen.sides shape.strides ]) k (pos 0)) w.buffer in
-      let small = part_strides w.seen.sides w.shape.strides here.strides in
-      (
+      let small = part_strides w.seen.sides w.shape.strides here.strides in (
         stride_number rank 0 k below ∙ stride_found strides k (subst (λ n. k < n) (sym rank_is) below) (beginning layout w.shape w.seen) w.name ∙ ap Done (sym seen),
         subst (λ z. unsigned_abs z ≤ 2 ^ 48) (sym seen) (each_small strides small k),
       )
