@@ -1,5 +1,5 @@
 -- The C of an allocation: on the stack or by `malloc`, of cells or of vectors.
-use Rattle.std.proofs.Common.{◌≡◌, ◌≤◌, ◌^◌, ℕ, zero, suc, ℤ, pos, ◌*ℤ◌, ◌≤ℤ◌, Bool, true, false, ◌||◌, ◌==◌, cond, List, [], ◌∷◌, Option, Some, None, refl, sym, ap, ◌∙◌, subst, arith, true≢false, int_le, ⊎_elim}
+use Rattle.std.proofs.Common.{◌≡◌, ◌^◌, ℕ, zero, suc, ℤ, pos, ◌*ℤ◌, ◌≤ℤ◌, Bool, true, false, ◌||◌, ◌==◌, cond, List, [], ◌∷◌, Option, Some, None, refl, sym, ap, ◌∙◌, subst, arith, true≢false, int_le, ⊎_elim}
 use Rattle.std.proofs.lemmas.Int.{ints}
 use Rattle.exo_tree.specs.Tree.{Binder, Cell, Control}
 use Rattle.exo_meaning.specs.Value.{Undefined}
@@ -7,7 +7,6 @@ use Rattle.exo_meaning.specs.Scene.{then_do, where_true, Scene, numbers, number,
 use Rattle.exo_meaning.specs.State.{State, with_contents, on_scene, with_buffer}
 use Rattle.exo_meaning.specs.Calls.{all_positive}
 use Rattle.exo_meaning.specs.Run.{product, tensor, allocate}
-use Rattle.c_widths.specs.Widths.{fits_cells}
 use Rattle.c_tree.specs.CTree.{Name, Element, Single, Vector, Literal, CBlock, stop, first, Free, followed_by}
 use Rattle.c_machine.specs.Machine.{Outcome, Done, Fault, NoStore, after, where_good, hiding, Pointer, Machine, number64}
 use Rattle.c_machine.specs.CRun.{CWorld, run_c, step_c, at_most_48, amount, cell_of, lanes_of, array_thing, made, make}

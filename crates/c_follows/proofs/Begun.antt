@@ -1,5 +1,5 @@
 -- From the same input a state and a machine match where a function begins.
-use Rattle.std.proofs.Common.{◌≡◌, ◌≤◌, ◌^◌, ◌==◌, ◌||◌, ℕ, suc, ℤ, pos, ◌+ℤ◌, ◌*ℤ◌, ◌≤ℤ◌, Bool, true, false, cond, List, [], ◌∷◌, length, Option, Some, None, refl, sym, ap, ap₂, ◌∙◌, subst, arith, true≢false, eqb-true, unsigned_abs}
+use Rattle.std.proofs.Common.{◌≡◌, ◌≤◌, ◌^◌, ◌==◌, ◌||◌, ℕ, suc, ℤ, pos, ◌+ℤ◌, ◌≤ℤ◌, Bool, true, false, cond, List, [], ◌∷◌, length, Option, Some, refl, sym, ap, ap₂, ◌∙◌, subst, arith, true≢false, eqb-true, unsigned_abs}
 use Rattle.std.proofs.lemmas.Int.{ints}
 use Rattle.std.proofs.lemmas.Bool.{and_parts}
 use Rattle.std.proofs.Math.IntN.{+ℤ_idl, *ℤ_comm, *ℤ-zero}
@@ -13,12 +13,13 @@ use Rattle.exo_meaning.specs.Inputs.{AreArguments, IsArgument, is_buffer_of, Fit
 use Rattle.exo_meaning.specs.Orders.{Each}
 use Rattle.exo_meaning.specs.Laws.{HasRoots}
 use Rattle.c_tree.specs.CTree.{Name}
-use Rattle.c_machine.specs.Machine.{Pointer, Thing, IsNumber, IsFunction, IsWindow, Machine, moved}
+use Rattle.c_machine.specs.Machine.{Pointer, Thing, IsFunction, IsWindow, Machine, moved}
 use Rattle.c_machine.specs.CRun.{with_names}
-use Rattle.c_lowered.specs.Lowered.{Naming, Forms, NoForm, form_of, param_forms}
-use Rattle.c_follows.specs.Simulation.{Ground, AreSameFields, Layout, HasForm, IsPlaced, Matches, IsHeld, beginning, lower_ends, dot, in_range, spot_of}
+use Rattle.c_lowered.specs.Lowered.{Naming, Forms, form_of, param_forms}
+use Rattle.c_follows.specs.Simulation.{Ground, AreSameFields, Layout, HasForm, IsPlaced, Matches, IsHeld, lower_ends, dot, in_range, spot_of}
 use Rattle.c_follows.specs.Good.{IsGoodParam, AreGoodParams}
 use Rattle.c_follows.specs.SameInput.{IsSame, IsSameTensor, IsSameWindow, AreSame, AreSeparate}
+use Rattle.c_follows.specs.Functions.{IsSmall, AreSmall}
 use Rattle.c_follows.proofs.Data.{narrow_fits}
 use Rattle.c_follows.proofs.Offsets.{injective}
 use Rattle.c_follows.proofs.Windows.{some_same, no_some}
@@ -56,15 +57,6 @@ at_first : (p : Pointer) (k : ℤ) → k ≡ pos 0 → moved p k ≡ p
 at_first p k e = ap (λ z. record { object = p.object; offset = z }) (ap (λ z. p.offset +ℤ z) e ∙ plus_zero p.offset)
 
 module _ (layout : Layout) (s : State) (m : Machine) where
-  abbrev IsSmall : (ℕ → ℕ) → ℕ → ParamKind → Type 0
-  IsSmall most x (ControlParam kind) = unsigned_abs (s.scene.control x) ≤ most x
-  IsSmall most x (TensorParam cell dims memory) = Unit {0}
-  IsSmall most x (WindowParam cell dims memory) = Unit {0}
-
-  abbrev pub AreSmall : (ℕ → ℕ) → List Param → Type 0
-  AreSmall most [] = Unit {0}
-  AreSmall most (p ∷ ps) = IsSmall most p.binder.id p.kind × AreSmall most ps
-
   -- ---- what a buffer is
 
   -- where it lies, and what it holds there
@@ -141,7 +133,7 @@ module _ (layout : Layout) (s : State) (m : Machine) where
       numbers_length [] = refl
       numbers_length (d ∷ dims) = ap suc (numbers_length dims)
 
-      form_here : (x : ℕ) (kind : ParamKind) (t : Thing) → IsArgument s.scene x kind → IsSame layout s m x kind t → IsGoodParam forms most kind → has_extents s.scene kind ≡ true → IsSmall most x kind → names (naming.binder x) ≡ Some t → Form x kind
+      form_here : (x : ℕ) (kind : ParamKind) (t : Thing) → IsArgument s.scene x kind → IsSame layout s m x kind t → IsGoodParam forms most kind → has_extents s.scene kind ≡ true → IsSmall s most x kind → names (naming.binder x) ≡ Some t → Form x kind
       form_here x (ControlParam kind) t a h g i small e = record { name = e ∙ ap (λ z. Some z) h; small = small }
       form_here x (TensorParam cell dims memory) t a h g i small e = record {
         extents = numbers s.scene dims;
@@ -170,7 +162,7 @@ module _ (layout : Layout) (s : State) (m : Machine) where
             name = e ∙ ap (λ z. Some z) h.thing ∙ ap₂ (λ p z. Some (IsWindow p z)) (sym (at_first (layout x) (dot (lower_ends (whole ds)) h.shape.strides) (whole_begins ds h.shape.strides))) (sym (all_strides ds h.shape.strides h.ranks));
           }
 
-      names_here : (ps : List Param) (ts : List Thing) → AreArguments s.scene ps → AreSame layout s m ps ts → AreGoodParams forms most ps → all_have_extents s.scene ps ≡ true → AreSmall most ps → (x : ℕ) → (is_buffer_of x ps ≡ true → names (naming.binder x) ≡ thing_of ps ts x) → HasForm naming forms most layout s.scene.control s.scene.buffers s.scene.views names x (param_forms ps x)
+      names_here : (ps : List Param) (ts : List Thing) → AreArguments s.scene ps → AreSame layout s m ps ts → AreGoodParams forms most ps → all_have_extents s.scene ps ≡ true → AreSmall s most ps → (x : ℕ) → (is_buffer_of x ps ≡ true → names (naming.binder x) ≡ thing_of ps ts x) → HasForm naming forms most layout s.scene.control s.scene.buffers s.scene.views names x (param_forms ps x)
       names_here [] ts a h g i small x e = tt
       names_here (p ∷ ps) [] a h g i small x e = absurd h
       names_here (p ∷ ps) (t ∷ ts) a h g i small x e = pick (x == p.binder.id) refl e (λ k. names_here ps ts a.1 h.1 g.1 parts.1 small.1 x k)
@@ -185,7 +177,7 @@ module _ (layout : Layout) (s : State) (m : Machine) where
           pick : (d : Bool) → (x == p.binder.id) ≡ d → ((d || is_buffer_of x ps) ≡ true → names (naming.binder x) ≡ cond d (Some t) (thing_of ps ts x)) → ((is_buffer_of x ps ≡ true → names (naming.binder x) ≡ thing_of ps ts x) → HasForm naming forms most layout s.scene.control s.scene.buffers s.scene.views names x (param_forms ps x)) → HasForm naming forms most layout s.scene.control s.scene.buffers s.scene.views names x (cond d (form_of p.kind) (param_forms ps x))
           pick true d k rest =
               let same = eqb-true x p.binder.id d in
-              form_here x p.kind t (subst (λ y. IsArgument s.scene y p.kind) (sym same) a.0) (subst (λ y. IsSame layout s m y p.kind t) (sym same) h.0) g.0 parts.0 (subst (λ y. IsSmall most y p.kind) (sym same) small.0) (k refl)
+              form_here x p.kind t (subst (λ y. IsArgument s.scene y p.kind) (sym same) a.0) (subst (λ y. IsSame layout s m y p.kind t) (sym same) h.0) g.0 parts.0 (subst (λ y. IsSmall s most y p.kind) (sym same) small.0) (k refl)
           pick false d k rest = rest (λ j. k (or_right false (is_buffer_of x ps) j))
 
 -- ---- roots
@@ -208,7 +200,7 @@ rooted s (p ∷ ps) a x seen i e = pick (x == p.binder.id) refl i (λ k. rooted 
 
 -- A valid input of a procedure, and the same things for its function; the names stand for these things, for the fields
 -- and for the functions.
-pub begun : (g : Ground) (most : ℕ → ℕ) (layout : Layout) (world : World) (p : Procedure) (s : State) (m : Machine) (ts : List Thing) (names : Name → Option Thing) → IsValid world p s → all_have_extents s.scene p.params ≡ true → AreSame layout s m p.params ts → AreSeparate layout s → AreSmall layout s m most p.params → AreGoodParams (param_forms p.params) most p.params → ((x : ℕ) → is_buffer_of x p.params ≡ true → names (g.naming.binder x) ≡ thing_of p.params ts x) → AreSameFields g.naming g.declared s.scene.fields names m.setting.fields → ((f : Name) → g.function f ≡ true → names f ≡ Some IsFunction) → Matches g (param_forms p.params) most (λ x. x) layout s (with_names names m)
+pub begun : (g : Ground) (most : ℕ → ℕ) (layout : Layout) (world : World) (p : Procedure) (s : State) (m : Machine) (ts : List Thing) (names : Name → Option Thing) → IsValid world p s → all_have_extents s.scene p.params ≡ true → AreSame layout s m p.params ts → AreSeparate layout s → AreSmall s most p.params → AreGoodParams (param_forms p.params) most p.params → ((x : ℕ) → is_buffer_of x p.params ≡ true → names (g.naming.binder x) ≡ thing_of p.params ts x) → AreSameFields g.naming g.declared s.scene.fields names m.setting.fields → ((f : Name) → g.function f ≡ true → names f ≡ Some IsFunction) → Matches g (param_forms p.params) most (λ x. x) layout s (with_names names m)
 begun g most layout world p s m ts names valid extents_are same separate small good named fields functions = record {
   names = λ x. names_here layout s m valid.cells valid.strides g.naming (param_forms p.params) most names p.params ts valid.admissible.arguments same good extents_are small x (named x);
   fields = fields;

@@ -1,13 +1,13 @@
 -- What is to be shown of the statements that bind buffers and windows and of calls; the rest of a block follows from it.
-use Rattle.std.proofs.Common.{◌≡◌, ◌≤◌, ◌<◌, ◌^◌, ℕ, ℤ, pos, ◌≤ℤ◌, true, List, length, Option, Some}
-use Rattle.exo_tree.specs.Tree.{Binder, Cell, I32, Control, Coord, Argument, Statement, Alloc, View}
+use Rattle.std.proofs.Common.{◌≡◌, ◌<◌, ◌^◌, ℕ, pos, ◌≤ℤ◌, true, List, length, Option, Some}
+use Rattle.exo_tree.specs.Tree.{Binder, Cell, I32, Control, Coord, Argument, Alloc, View}
 use Rattle.exo_meaning.specs.Scene.{then_do, numbers}
 use Rattle.exo_meaning.specs.State.{State}
 use Rattle.exo_meaning.specs.Units.{spans}
 use Rattle.exo_meaning.specs.Run.{World, product, allocate, view, call_to, call_to_writes, roots_after}
 use Rattle.c_widths.specs.Few.{Fewness, CallAllocatesFew}
 use Rattle.c_tree.specs.CTree.{CBlock}
-use Rattle.c_machine.specs.Machine.{Outcome, Machine, after}
+use Rattle.c_machine.specs.Machine.{Machine, after}
 use Rattle.c_machine.specs.CRun.{CWorld, run_c, step_c}
 use Rattle.c_lowered.specs.Lowered.{Forms, forms_after, alloc_of, bind_of, window_of, cell_in, call_of}
 use Rattle.c_follows.specs.Simulation.{Ground, Follows, Layout, Matches, Ran, Ends}

@@ -1,5 +1,5 @@
 -- How many cells the elements of an allocation have.
-use Rattle.std.proofs.Common.{◌≡◌, ◌≤◌, ◌*◌, ◌^◌, ℕ, zero, suc, ℤ, pos, negsuc, ◌+ℤ◌, ◌*ℤ◌, ◌≤ℤ◌, Bool, true, false, ◌&&◌, cond, List, [], ◌∷◌, length, refl, sym, ap, ap₂, ◌∙◌, subst, arith, true≢false, int_le}
+use Rattle.std.proofs.Common.{◌≡◌, ◌*◌, ◌^◌, ℕ, zero, suc, ℤ, pos, negsuc, ◌+ℤ◌, ◌*ℤ◌, ◌≤ℤ◌, true, ◌&&◌, cond, List, [], ◌∷◌, length, refl, sym, ap, ◌∙◌, subst, arith, true≢false, int_le}
 use Rattle.std.proofs.lemmas.Int.{ints}
 use Rattle.std.proofs.lemmas.Bool.{and_parts, and_from}
 use Rattle.exo_tree.specs.Tree.{Control, Lit}
@@ -10,9 +10,8 @@ use Rattle.exo_meaning.specs.Inputs.{IsBetween}
 use Rattle.exo_meaning.specs.Orders.{Each}
 use Rattle.c_widths.specs.Magnitude.{magnitude, fits, is_narrow}
 use Rattle.c_widths.specs.Widths.{fits_cells}
-use Rattle.c_lowered.specs.Lowered.{Forms, stack_count_from, without_lanes, front}
-use Rattle.c_follows.specs.Magnitude.{AreNarrow}
-use Rattle.c_follows.specs.Simulation.{ArePlain, EndsIn, dot, in_range}
+use Rattle.c_lowered.specs.Lowered.{Forms, stack_count_from, front}
+use Rattle.c_follows.specs.Simulation.{EndsIn, dot, in_range}
 use Rattle.c_follows.specs.Good.{AreGood, AreLiterals, EndsInLanes}
 use Rattle.c_follows.proofs.Extents.{positive_product, right_factor, times_assoc, both_positive}
 use Rattle.c_follows.proofs.Offsets.{flat}

@@ -1,5 +1,5 @@
 -- A window that is bound to a name or handed on is the same on both sides.
-use Rattle.std.proofs.Common.{◌≡◌, ◌^◌, ◌==◌, ℕ, zero, suc, ℤ, pos, ◌+ℤ◌, ◌-ℤ◌, ◌≤ℤ◌, Bool, true, false, ◌&&◌, List, [], ◌∷◌, map, length, Option, Some, None, option_map, refl, sym, ap, ap₂, ◌∙◌, subst, arith, int_lt, int_le, ⊎_elim, inl, inr, eq-eqb}
+use Rattle.std.proofs.Common.{◌≡◌, ◌^◌, ◌==◌, ℕ, zero, suc, ℤ, pos, ◌+ℤ◌, ◌-ℤ◌, ◌≤ℤ◌, true, ◌&&◌, List, [], ◌∷◌, map, length, Option, Some, None, option_map, refl, sym, ap, ◌∙◌, subst, arith, int_lt, int_le, ⊎_elim, eq-eqb}
 use Rattle.std.specs.Prelude.{IfSome}
 use Rattle.std.proofs.lemmas.Int.{ints}
 use Rattle.std.proofs.lemmas.Bool.{and_from, and_parts}
@@ -11,11 +11,11 @@ use Rattle.exo_meaning.specs.Run.{product, row_major, tensor}
 use Rattle.exo_meaning.specs.Laws.{HasRoots}
 use Rattle.exo_meaning.specs.Units.{same_cell}
 use Rattle.inplace_laws.proofs.Sides.{narrowed_within}
-use Rattle.c_tree.specs.CTree.{Number64, WindowOf}
-use Rattle.c_machine.specs.Machine.{Outcome, Done, Fault, NoStore, after, where_good, Pointer, Thing, IsWindow, Setting, spot, number64, all_numbers64, holds_cells}
+use Rattle.c_tree.specs.CTree.{Number64}
+use Rattle.c_machine.specs.Machine.{Outcome, Done, Fault, NoStore, after, where_good, Pointer, Thing, IsWindow, Setting, spot, all_numbers64, holds_cells}
 use Rattle.c_machine.specs.CRun.{thing, window_from}
-use Rattle.c_lowered.specs.Lowered.{Naming, Forms, Form, TensorForm, WindowForm, at_spans, lower_end, strides_in, window_strides, row_strides, dims_of, cell_at_of, window_of}
-use Rattle.c_follows.specs.Simulation.{Follows, Layout, HaveForms, IsTensor, IsWindowName, beginning, lower_ends, dot, spot_of, HaveNumbers}
+use Rattle.c_lowered.specs.Lowered.{Naming, Forms, TensorForm, WindowForm, at_spans, lower_end, strides_in, window_strides, row_strides, dims_of, cell_at_of, window_of}
+use Rattle.c_follows.specs.Simulation.{Follows, Layout, HaveForms, beginning, lower_ends, spot_of, HaveNumbers}
 use Rattle.c_follows.specs.Good.{IsBufferOf, AreGood, AreGoodCoords}
 use Rattle.c_follows.proofs.Steps.{follows_none, follows_both}
 use Rattle.c_follows.proofs.Windows.{ArePlaced, some_same, no_some, mapped, tested, strides_length, window_strides_are}

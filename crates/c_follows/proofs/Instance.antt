@@ -10,7 +10,7 @@ use Rattle.c_machine.specs.Examples.{bare, alone}
 use Rattle.c_lowered.specs.Lowered.{block_of}
 use Rattle.c_follows.specs.Simulation.{Matches}
 use Rattle.c_follows.specs.Good.{IsFresh, FitsMemory}
-use Rattle.c_follows.specs.Instance.{body, ground, nothing, zero_bounds, itself, layout, empty, BlockInstance, CallInstance}
+use Rattle.c_follows.specs.Instance.{body, ground, nothing, zero_bounds, itself, layout, empty, BlockInstance, CallInstance, RaisedInstance}
 
 none_there : {A : Type 0} {a : A} → None ≡ Some a → ⊥
 none_there e = cc
@@ -72,3 +72,6 @@ call_instance = (
   ),
   tt,
 )
+
+pub raised_instance : RaisedInstance
+raised_instance = record { given = refl; alone = refl; called = refl; not_counted = refl }

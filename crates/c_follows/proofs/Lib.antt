@@ -22,4 +22,5 @@ pub mod Views
 pub mod WithoutCalls
 pub mod Bound
 pub mod Begun
+pub mod Functions
 pub mod Instance

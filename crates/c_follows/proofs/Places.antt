@@ -1,18 +1,18 @@
 -- Cells of the source and of the C.
-use Rattle.std.proofs.Common.{◌≡◌, ◌^◌, ℕ, zero, ℤ, pos, ◌+ℤ◌, ◌≤ℤ◌, Bool, true, false, ◌&&◌, List, [], ◌∷◌, length, Option, Some, None, option_map, refl, sym, ap, ap₂, ◌∙◌, subst, arith, int_lt, int_le, ◌⊎◌, ⊎_elim, inl, inr}
+use Rattle.std.proofs.Common.{◌≡◌, ◌^◌, ℕ, zero, ℤ, pos, ◌+ℤ◌, ◌≤ℤ◌, Bool, true, false, ◌&&◌, List, [], ◌∷◌, length, Option, Some, None, option_map, refl, sym, ap, ◌∙◌, subst, arith, int_lt, int_le, ◌⊎◌, ⊎_elim, inl, inr}
 use Rattle.std.proofs.lemmas.Int.{ints}
 use Rattle.std.proofs.lemmas.Bool.{and_from}
 use Rattle.std.proofs.Math.IntN.{+ℤ_idl, +ℤ_assoc}
 use Rattle.exo_tree.specs.Tree.{Cell, Control}
-use Rattle.exo_meaning.specs.Scene.{then_do, where_true, Shape, Seen, Scene, is_below, whole, cell_at, numbers, strides_of}
+use Rattle.exo_meaning.specs.Scene.{then_do, where_true, Shape, Scene, is_below, whole, cell_at, numbers, strides_of}
 use Rattle.exo_meaning.specs.State.{Place, place}
 use Rattle.exo_meaning.specs.Run.{row_major, tensor}
 use Rattle.exo_meaning.specs.Laws.{HasRoots}
 use Rattle.c_tree.specs.CTree.{InArray, InWindow}
 use Rattle.c_machine.specs.Machine.{Done, after, where_good, Pointer, Object, Setting, moved, spot, number64, from_array, from_window, inside, in_object}
-use Rattle.c_lowered.specs.Lowered.{Naming, Forms, Form, TensorForm, WindowForm, numbers_of, dims_of, cell_ref, cell_at_of, offset, scaled, window_strides}
+use Rattle.c_lowered.specs.Lowered.{Naming, Forms, TensorForm, WindowForm, numbers_of, dims_of, cell_ref, cell_at_of, offset, scaled, window_strides}
 use Rattle.c_follows.specs.Simulation.{Follows, Layout, HasForm, HaveForms, IsTensor, IsWindowName, IsPlaced, beginning, lower_ends, dot, in_range, spot_of, HaveNumbers}
-use Rattle.c_follows.specs.Good.{IsBuffer, IsBufferOf, AreGood}
+use Rattle.c_follows.specs.Good.{IsBuffer, AreGood}
 use Rattle.c_follows.proofs.Steps.{follows_none, follows_both}
 use Rattle.c_follows.proofs.Numbers.{same_numbers, offset_value}
 use Rattle.c_follows.proofs.Windows.{ArePlaced, AreNatural, natural_strides, natural_indices, natural_dot, natural_seen, natural_part, natural_lower, strides_length, seen_in_range, window_offset, scaled_value, window_strides_are}

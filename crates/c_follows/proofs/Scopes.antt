@@ -9,7 +9,7 @@ use Rattle.exo_meaning.specs.State.{State, left, kept, on_scene, with_control}
 use Rattle.c_tree.specs.CTree.{Name, Number64}
 use Rattle.c_machine.specs.Machine.{after, where_good, checked, on_both, Thing, IsNumber, IsFunction, Setting, Machine, named, number64, number_under, same_name, with_thing}
 use Rattle.c_machine.specs.CRun.{still_there, back_to, with_counter}
-use Rattle.c_lowered.specs.Lowered.{Naming, Forms, Form, NoForm, NumberForm, number_with}
+use Rattle.c_lowered.specs.Lowered.{Forms, Form, NoForm, NumberForm, number_with}
 use Rattle.c_follows.specs.Simulation.{Ground, AreSameFields, Layout, HasForm, IsPlaced, Matches, Kept, IsHeld, IsPlain, ArePlain, in_range, spot_of}
 use Rattle.c_follows.specs.Good.{IsFresh}
 use Rattle.c_follows.proofs.Wider.{IsWider, form_kept, placed_on, none_number}

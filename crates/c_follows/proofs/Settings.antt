@@ -1,5 +1,5 @@
 -- The C of a field that is set.
-use Rattle.std.proofs.Common.{◌≡◌, ◌≤◌, ◌^◌, ℕ, zero, suc, ℤ, Bool, true, false, ◌==◌, cond, Some, refl, sym, ap, ◌∙◌, subst, arith, true≢false, eqb-true, eq-eqb, unsigned_abs, ⊎_elim}
+use Rattle.std.proofs.Common.{◌≡◌, ◌≤◌, ◌^◌, ℕ, ℤ, Bool, true, false, ◌==◌, cond, Some, refl, sym, ap, ◌∙◌, subst, arith, true≢false, eqb-true, eq-eqb, unsigned_abs, ⊎_elim}
 use Rattle.std.proofs.Math.Nat.{le_refl, le_trans}
 use Rattle.exo_tree.specs.Tree.{Index, Argument, ControlArg, ConditionArg, Whole, Window, ControlParam}
 use Rattle.exo_meaning.specs.Calls.{truth, suits}

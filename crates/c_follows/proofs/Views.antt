@@ -1,17 +1,16 @@
 -- The C of a view: a window more in scope.
-use Rattle.std.proofs.Common.{◌≡◌, ◌<◌, ◌==◌, ℕ, ℤ, Bool, true, false, cond, List, length, Option, Some, None, refl, sym, ap, ◌∙◌, subst, ⊎_elim, inl, inr, eqb-true, eq-eqb}
-use Rattle.exo_tree.specs.Tree.{Binder, Cell, I32, Coord}
-use Rattle.exo_meaning.specs.Scene.{then_do, Shape, Seen, Scene, updated, extents, strides_of, window}
+use Rattle.std.proofs.Common.{◌≡◌, ◌==◌, ℕ, Bool, true, false, cond, length, Option, Some, None, refl, sym, ap, ◌∙◌, subst, ⊎_elim, inl, inr, eqb-true}
+use Rattle.exo_tree.specs.Tree.{Cell, I32}
+use Rattle.exo_meaning.specs.Scene.{then_do, Shape, Seen, updated, window}
 use Rattle.exo_meaning.specs.State.{State, on_scene, with_view}
-use Rattle.exo_meaning.specs.Units.{spans}
 use Rattle.exo_meaning.specs.Run.{view}
 use Rattle.exo_meaning.specs.Laws.{HasRoots}
-use Rattle.c_tree.specs.CTree.{Name, CBlock}
-use Rattle.c_machine.specs.Machine.{Outcome, Done, Fault, NoStore, after, hiding, with_thing, named, same_name, Thing, IsFunction, Setting, Machine}
+use Rattle.c_tree.specs.CTree.{Name}
+use Rattle.c_machine.specs.Machine.{Outcome, Done, Fault, NoStore, after, hiding, with_thing, same_name, Thing, IsFunction, Machine}
 use Rattle.c_machine.specs.CRun.{CWorld, run_c, step_c, thing, on_setting}
 use Rattle.c_lowered.specs.Lowered.{Forms, Form, NoForm, WindowForm, at_spans, strides_in, cell_in, window_of, bind_of}
-use Rattle.c_follows.specs.Simulation.{Ground, Follows, AreSameFields, Layout, HasForm, HaveForms, Matches, Kept, Ends}
-use Rattle.c_follows.specs.Good.{IsBufferOf, AreGoodCoords, IsFresh}
+use Rattle.c_follows.specs.Simulation.{Ground, Follows, AreSameFields, Layout, HasForm, HaveForms, Matches, Ends}
+use Rattle.c_follows.specs.Good.{IsBufferOf, IsFresh}
 use Rattle.c_follows.proofs.Steps.{nothing, follows_weaken}
 use Rattle.c_follows.proofs.Wider.{IsWider, form_kept, none_window}
 use Rattle.c_follows.proofs.Scopes.{same_name_self, other, other_text}

@@ -1,12 +1,12 @@
 -- Parts of buffers: their cells in the object, and the C text of their offsets.
-use Rattle.std.proofs.Common.{◌≡◌, ◌≤◌, ◌<◌, ◌+◌, ◌*◌, ◌^◌, ℕ, zero, suc, ℤ, pos, negsuc, ◌+ℤ◌, ◌*ℤ◌, ◌≤ℤ◌, Bool, true, false, ◌&&◌, List, [], ◌∷◌, length, Option, Some, None, option_map, refl, sym, ap, ap₂, ◌∙◌, subst, arith, true≢false, int_lt, int_le}
+use Rattle.std.proofs.Common.{◌≡◌, ◌≤◌, ◌+◌, ◌*◌, ◌^◌, ℕ, zero, suc, ℤ, pos, negsuc, ◌+ℤ◌, ◌*ℤ◌, ◌≤ℤ◌, Bool, true, false, List, [], ◌∷◌, length, Option, Some, None, option_map, refl, sym, ap, ap₂, ◌∙◌, subst, arith, true≢false, int_lt, int_le}
 use Rattle.std.proofs.lemmas.Int.{ints}
 use Rattle.std.proofs.lemmas.Bool.{and_from, and_parts}
 use Rattle.std.proofs.Math.IntN.{+ℤ_assoc, *ℤ_comm, *ℤ-zero, suc_ℤ-*ℤ}
 use Rattle.exo_meaning.specs.Scene.{where_true, Scene, Shape, Side, Point, Range, is_below, cell_at, whole, extents, strides_of, LieWithin}
 use Rattle.exo_meaning.specs.Inputs.{IsBetween}
 use Rattle.exo_meaning.specs.Orders.{Each}
-use Rattle.c_tree.specs.CTree.{Name, Number64, StrideIn, Sum, Product}
+use Rattle.c_tree.specs.CTree.{Name, Number64, Sum, Product}
 use Rattle.c_machine.specs.Machine.{Done, Pointer, IsWindow, Setting, number64, stride_in, stride_under}
 use Rattle.c_lowered.specs.Lowered.{window_strides, scaled, scaled_from}
 use Rattle.c_follows.specs.Simulation.{Layout, IsPlaced, HaveNumbers, dot, in_range, lower_ends}

@@ -1,5 +1,5 @@
 -- Blocks that call nothing.
-use Rattle.std.proofs.Common.{◌≡◌, true, false, [], sym, ◌∙◌, true≢false}
+use Rattle.std.proofs.Common.{[], sym, ◌∙◌, true≢false}
 use Rattle.c_widths.specs.Few.{AllocatesFew, no_fewness, fewness_from}
 use Rattle.c_follows.specs.Calls.{BlocksWithoutCallsFollow}
 use Rattle.c_follows.proofs.Allocs.{alloc_follows}

@@ -5,7 +5,7 @@ use Rattle.c_names.specs.Words.{Name}
 use Rattle.c_names.specs.Binders.{c_names}
 use Rattle.exo_calls.specs.Tabled.{tabled}
 use Rattle.c_machine.specs.Machine.{Thing}
-use Rattle.c_machine.specs.CRun.{Behaviour, CWorld, run_c, globals_of}
+use Rattle.c_machine.specs.CRun.{Behaviour, run_c, globals_of}
 use Rattle.c_lowered.specs.Lowered.{Routine, Naming, param_forms, block_of}
 use Rattle.c_lowered.specs.LoweredUnit.{Printing, memory_of, routine_of, naming_in, formals_of, counts, global_names, lowered}
 

@@ -9,7 +9,7 @@ use Rattle.c_widths.specs.Few.{Fewness, AllocatesFew, no_fewness, fewness_from}
 use Rattle.c_tree.specs.CTree.{Name}
 use Rattle.c_machine.specs.Machine.{Machine, IsField, IsFunction}
 use Rattle.c_machine.specs.CRun.{Behaviour, CWorld, run_c}
-use Rattle.c_lowered.specs.Lowered.{Hole, Routine, Forms, param_forms, block_of}
+use Rattle.c_lowered.specs.Lowered.{Hole, Forms, param_forms, block_of}
 use Rattle.c_lowered.specs.LoweredUnit.{formals_of}
 use Rattle.c_follows.specs.Simulation.{Ground, Follows, Layout, Matches, Ends}
 use Rattle.c_follows.specs.Good.{IsGoodBlock, MayStore, SharesNothing, AreGoodParams, AreNamedApart}

@@ -11,7 +11,7 @@ use Rattle.c_tree.specs.CTree.{Name}
 use Rattle.c_machine.specs.Machine.{same_name}
 use Rattle.c_widths.specs.Magnitude.{magnitude}
 use Rattle.c_widths.specs.Widths.{with_bounds, fits_cells}
-use Rattle.c_lowered.specs.Lowered.{Memory, Hole, Routine, Naming, Form, NoForm, NumberForm, TensorForm, WindowForm, Forms, forms_after, without_lanes}
+use Rattle.c_lowered.specs.Lowered.{Memory, Hole, Naming, NoForm, NumberForm, TensorForm, WindowForm, Forms, forms_after, without_lanes}
 use Rattle.c_follows.specs.Magnitude.{IsNarrow, AreNarrow}
 use Rattle.c_follows.specs.Simulation.{Declared, Ground, IsPlain, ArePlain}
 

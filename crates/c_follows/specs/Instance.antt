@@ -1,11 +1,12 @@
 -- Closed instances of what the laws ask: a block that allocates two cells and stores into one of them, and a call that
 -- hands on a column of a tensor.
-use Rattle.std.specs.Prelude.{◌≡◌, ℕ, pos, false, true, [], ◌∷◌, codes, None}
+use Rattle.std.specs.Prelude.{◌≡◌, ℕ, pos, nat_lt, Bool, false, true, List, [], ◌∷◌, codes, Some, None}
 use Rattle.std.specs.Option.{IsSome}
-use Rattle.exo_tree.specs.Tree.{Size, I32, Lit, Var, Const, Assign, Alloc, ControlArg, Window, Call, Block, end, next}
+use Rattle.exo_tree.specs.Tree.{Size, I32, Lit, Var, Mul, Lt, Const, Assign, Pass, If, Alloc, ControlArg, Window, Call, Block, end, next, ControlParam, Procedure, Program}
 use Rattle.exo_meaning.specs.Value.{Undefined}
 use Rattle.exo_meaning.specs.State.{State}
 use Rattle.exo_meaning.specs.Run.{World, run}
+use Rattle.c_widths.specs.Raises.{given_to, widest}
 use Rattle.c_widths.specs.Few.{AllocatesFew, no_fewness}
 use Rattle.c_machine.specs.Machine.{Done, Machine}
 use Rattle.c_machine.specs.CRun.{run_c}
@@ -88,3 +89,29 @@ sizes x = 2147483647
 
 abbrev pub CallInstance : Type 0
 CallInstance = IsGoodBlock calling_ground (param_forms (col calling).params) sizes calling
+
+-- ---- widths
+
+abbrev pub sized : List ℕ → Block → Procedure
+sized name b = record { name = name; params = record { binder = record { id = 0; name = codes "n" }; kind = ControlParam Size } ∷ []; asserts = []; body = b; template = None }
+
+-- def f(n: size): if 4 * n < 5: pass
+abbrev pub fourfold : Procedure
+fourfold = sized (codes "f") (next (If (Lt (Mul (Lit (pos 4)) (Var 0)) (Lit (pos 5))) (next Pass end) end) end)
+
+-- def g(n: size): f(2147483647 * n)
+abbrev pub giving : Procedure
+giving = sized (codes "g") (next (Call 0 (ControlArg (Mul (Lit (pos 2147483647)) (Var 0)) ∷ [])) end)
+
+abbrev pub of_procedures : List Procedure → Program
+of_procedures ps = record { procedures = ps; fields = []; memories = [] }
+
+abbrev pub every : ℕ → Bool
+every k = true
+
+-- a procedure that is wide only by what another gives it
+pub record RaisedInstance : Type 0 where
+  pub given : given_to (fourfold ∷ giving ∷ []) every 0 0 ≡ 4611686014132420609
+  pub alone : widest (of_procedures (fourfold ∷ [])) every every ≡ None
+  pub called : widest (of_procedures (fourfold ∷ giving ∷ [])) every every ≡ Some 0
+  pub not_counted : widest (of_procedures (fourfold ∷ giving ∷ [])) every (λ k. nat_lt k 1) ≡ None

@@ -5,4 +5,5 @@ pub mod Calls
 pub mod Bodies
 pub mod SameInput
 pub mod Units
+pub mod Functions
 pub mod Instance

@@ -1,5 +1,5 @@
 -- When a C run follows a run of the source.
-use Rattle.std.specs.Prelude.{◌≡◌, ◌≤◌, ◌^◌, ℕ, zero, suc, ℤ, pos, ◌+ℤ◌, ◌*ℤ◌, ◌≤ℤ◌, Bool, true, false, ◌&&◌, ◌<◌, List, [], ◌∷◌, length, Option, Some, None, unsigned_abs, nat_lt, ◌⊎◌, ⊤}
+use Rattle.std.specs.Prelude.{◌≡◌, ◌≤◌, ◌^◌, ℕ, zero, suc, ℤ, pos, ◌+ℤ◌, ◌*ℤ◌, ◌≤ℤ◌, Bool, true, false, ◌&&◌, List, [], ◌∷◌, length, Option, Some, None, unsigned_abs, nat_lt, ◌⊎◌, ⊤}
 use Rattle.exo_tree.specs.Tree.{Cell, I32, Control, Lit, Var, Field, StrideOf, Neg, Add, Sub, Mul, Div, Mod}
 use Rattle.exo_meaning.specs.Value.{Value, Undefined, Number, wrap}
 use Rattle.exo_meaning.specs.Scene.{Scene, Shape, Side, Point, Range, Seen, is_below, whole, extents, strides_of, numbers, LieWithin}

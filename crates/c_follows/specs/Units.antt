@@ -1,5 +1,5 @@
 -- The C of printed procedures does what they do: what is to be shown of whole files.
-use Rattle.std.specs.Prelude.{◌≡◌, ◌<◌, ◌^◌, ℕ, ℤ, nat_lt, Bool, true, false, ◌&&◌, List, length, Option, Some, None, slice_get, ◌⊎◌}
+use Rattle.std.specs.Prelude.{◌≡◌, ◌<◌, ◌^◌, ℕ, ℤ, nat_lt, true, ◌&&◌, List, length, Option, Some, None, slice_get}
 use Rattle.exo_tree.specs.Tree.{Procedure, Program}
 use Rattle.exo_tree.specs.Calls.{calls}
 use Rattle.exo_meaning.specs.Value.{IsRefinedBy}

@@ -1,6 +1,6 @@
 -- Closed texts, by which the rules of lowering can be read off.
-use Rattle.std.specs.Prelude.{◌≡◌, ℕ, suc, pos, true, false, List, [], ◌∷◌, ◌++◌, codes, Option, Some, None}
-use Rattle.exo_tree.specs.Tree.{I32, Size, Binder, Control, Lit, Var, StrideOf, Sub, Condition, Eq, Coord, At, Span, Argument, ControlArg, Whole, Window, Const, Read, Statement, Assign, For, Alloc, View, Call, Block, end, next, Param, ParamKind, ControlParam, TensorParam, WindowParam, Procedure, MemoryKind, Program}
+use Rattle.std.specs.Prelude.{◌≡◌, ℕ, suc, pos, true, false, List, [], ◌∷◌, ◌++◌, codes, Some, None}
+use Rattle.exo_tree.specs.Tree.{I32, Size, Binder, Control, Lit, Var, StrideOf, Sub, Condition, Eq, Coord, At, Span, ControlArg, Whole, Window, Const, Read, Statement, Assign, For, Alloc, View, Call, Block, end, next, Param, ParamKind, ControlParam, TensorParam, WindowParam, Procedure, MemoryKind, Program}
 use Rattle.c_tree.specs.CText.{Text, margin, each, struct_text, function_text}
 use Rattle.c_tree.specs.CTree.{CUnit}
 use Rattle.c_lowered.specs.LoweredUnit.{Printing, lowered}

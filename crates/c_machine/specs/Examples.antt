@@ -1,9 +1,9 @@
 -- Closed runs, by which the rules of the machine can be read off.
-use Rattle.std.specs.Prelude.{◌≡◌, ℕ, ℤ, pos, negsuc, ◌+ℤ◌, ◌==◌, Bool, false, if◌then◌else◌, List, [], ◌∷◌, map, codes, Option, Some, None}
+use Rattle.std.specs.Prelude.{◌≡◌, ℕ, ℤ, pos, negsuc, ◌+ℤ◌, ◌==◌, false, if◌then◌else◌, List, [], ◌∷◌, map, codes, Option, Some, None}
 use Rattle.exo_tree.specs.Tree.{Cell, I8, I32}
 use Rattle.exo_meaning.specs.Value.{Value, Undefined, Number}
 use Rattle.c_tree.specs.CTree.{Name, Single, Vector, Number64, Literal, Named, StrideIn, Sum, Difference, Product, Quotient, Remainder, CellRef, InArray, InWindow, Literal32, Read32, Actual, Control64, Alone, WindowOf, CStatement, Store, Loop, Array, Malloc, Free, Bind, CallOf, Instruction, CBlock, stop, first, Number64Param, ArrayParam, WindowParamOf, CFunction, CUnit}
-use Rattle.c_machine.specs.Machine.{Outcome, Done, Fault, NoStore, after, Thing, IsNumber, IsArray, IsWindow, Machine, number64}
+use Rattle.c_machine.specs.Machine.{Outcome, Done, Fault, NoStore, after, IsNumber, IsArray, Machine, number64}
 use Rattle.c_machine.specs.CRun.{CWorld, Behaviour, run_c, run_file}
 
 -- no names, no objects, no functions
