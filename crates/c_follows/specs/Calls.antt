@@ -41,12 +41,18 @@ called_in c_world f (Some holes) k = c_world.instructions k
 pub record CallsFollow (g : Ground) (world : World) (few : Fewness) (c_world : CWorld) : Type 0 where
   pub fields : (f : ℕ) → g.declared f ≡ true → c_world.globals (g.naming.field f) ≡ Some IsField
   pub functions : (x : Name) → g.function x ≡ true → c_world.globals x ≡ Some IsFunction
-  pub named : (k : ℕ) → g.called k ≡ true → (g.naming.routine k).template ≡ None → g.function (g.naming.routine k).name ≡ true
+  pub named :
+      (k : ℕ)
+      → g.called k ≡ true
+      → (g.naming.routine k).template ≡ None
+      → g.function (g.naming.routine k).name ≡ true
   pub each :
       (k : ℕ) (c : Callee)
       → world.callees k ≡ Some c
       → g.called k ≡ true
-      → (f : Behaviour) × (called_in c_world (g.naming.routine k).name (g.naming.routine k).template k ≡ Some f) × IsFollowed g (few k) c f k
+      → (f : Behaviour)
+      × (called_in c_world (g.naming.routine k).name (g.naming.routine k).template k ≡ Some f)
+      × IsFollowed g (few k) c f k
 
 -- From matching beginnings the C of a block does not fault where the block does not, and ends holding the same; it
 -- finds store for all allocations where none passes 2 ^ 48 cells, in the block and in what it calls of these procedures.

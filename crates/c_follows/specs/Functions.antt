@@ -17,7 +17,8 @@ use Rattle.c_follows.specs.SameInput.{AreSame, AreSeparate}
 use Rattle.c_follows.specs.Units.{LeavesTheSame}
 
 abbrev pub behaviour_of : Ground → CWorld → Procedure → Behaviour
-behaviour_of g c_world p = record { formals = formals_of g.naming p.params; run = run_c c_world (block_of g.naming (param_forms p.params) p.body) }
+behaviour_of g c_world p =
+    record { formals = formals_of g.naming p.params; run = run_c c_world (block_of g.naming (param_forms p.params) p.body) }
 
 -- how large the control parameters are
 abbrev pub IsSmall : State → (ℕ → ℕ) → ℕ → ParamKind → Type 0
@@ -39,7 +40,10 @@ pub record AreDeclared (g : Ground) (c_world : CWorld) (ps : List Param) : Type 
 -- one input for the procedure and for the call
 pub record IsSameInput (g : Ground) (most : ℕ → ℕ) (layout : Layout) (s : State) (ts : List Thing) (m : Machine) (ps : List Param) : Type 0 where
   pub arguments : AreSame layout s m ps ts
-  pub fields : (f : ℕ) → g.declared f ≡ true → m.setting.fields (g.naming.field f) ≡ s.scene.fields f
+  pub fields :
+      (f : ℕ)
+      → g.declared f ≡ true
+      → m.setting.fields (g.naming.field f) ≡ s.scene.fields f
   pub separate : AreSeparate layout s
   pub small : AreSmall s most ps
 

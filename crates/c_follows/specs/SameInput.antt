@@ -17,7 +17,10 @@ module _ (layout : Layout) (s : State) (m : Machine) where
     pub below : nat_lt (layout x).object m.setting.free ≡ true
     pub same_cell : object.cell ≡ cell
     pub size : object.size ≡ product extents
-    pub contents : (at : List ℤ) → in_range at extents ≡ true → m.contents (layout x).object (dot at (row_major extents)) ≡ s.cells x at
+    pub contents :
+        (at : List ℤ)
+        → in_range at extents ≡ true
+        → m.contents (layout x).object (dot at (row_major extents)) ≡ s.cells x at
 
   -- A window is a pointer into an object of at most 2 ^ 48 cells, and a stride for each dimension: each index lies in
   -- the object, and different indices lie in different cells.
@@ -32,9 +35,20 @@ module _ (layout : Layout) (s : State) (m : Machine) where
     pub few : object.size ≤ℤ pos (2 ^ 48)
     pub ranks : length shape.strides ≡ length extents
     pub above : pos 0 ≤ℤ (layout x).offset
-    pub inside : (at : List ℤ) → in_range at extents ≡ true → (((layout x).offset +ℤ dot at shape.strides) +ℤ pos 1) ≤ℤ object.size
-    pub apart : (at bt : List ℤ) → in_range at extents ≡ true → in_range bt extents ≡ true → dot at shape.strides ≡ dot bt shape.strides → at ≡ bt
-    pub contents : (at : List ℤ) → in_range at extents ≡ true → m.contents (layout x).object ((layout x).offset +ℤ dot at shape.strides) ≡ s.cells x at
+    pub inside :
+        (at : List ℤ)
+        → in_range at extents ≡ true
+        → (((layout x).offset +ℤ dot at shape.strides) +ℤ pos 1) ≤ℤ object.size
+    pub apart :
+        (at bt : List ℤ)
+        → in_range at extents ≡ true
+        → in_range bt extents ≡ true
+        → dot at shape.strides ≡ dot bt shape.strides
+        → at ≡ bt
+    pub contents :
+        (at : List ℤ)
+        → in_range at extents ≡ true
+        → m.contents (layout x).object ((layout x).offset +ℤ dot at shape.strides) ≡ s.cells x at
 
   -- an argument is the same by what it is for
   abbrev pub IsSame : ℕ → ParamKind → Thing → Type 0

@@ -134,7 +134,10 @@ pub record IsSameField (naming : Naming) (fields : ℕ → ℤ) (names : Name �
   pub small : unsigned_abs (fields f) ≤ 2 ^ 48
 
 abbrev pub AreSameFields : Naming → Declared → (ℕ → ℤ) → (Name → Option Thing) → (Name → ℤ) → Type 0
-AreSameFields naming declared fields names held = (f : ℕ) → declared f ≡ true → IsSameField naming fields names held f
+AreSameFields naming declared fields names held =
+    (f : ℕ)
+    → declared f ≡ true
+    → IsSameField naming fields names held f
 
 -- ---- names
 
@@ -192,7 +195,9 @@ module _ (naming : Naming) (forms : Forms) (most : ℕ → ℕ) (layout : Layout
 -- ---- states and machines
 
 abbrev pub HaveForms : Naming → Forms → (ℕ → ℕ) → Layout → Scene → (Name → Option Thing) → Type 0
-HaveForms naming forms most layout scene names = (x : ℕ) → HasForm naming forms most layout scene.control scene.buffers scene.views names x (forms x)
+HaveForms naming forms most layout scene names =
+    (x : ℕ)
+    → HasForm naming forms most layout scene.control scene.buffers scene.views names x (forms x)
 
 -- different cells of which one may be stored in lie at different spots
 abbrev pub AreApartIn : (ℕ → Bool) → Layout → (ℕ → Option Shape) → Type 0
@@ -219,7 +224,10 @@ pub record Matches (g : Ground) (forms : Forms) (most : ℕ → ℕ) (root : ℕ
       → in_range at shape.dims ≡ true
       → IsHeld (s.cells b at) (m.contents (spot_of layout b shape at).object (spot_of layout b shape at).offset)
   pub known : (b : ℕ) (shape : Shape) → s.scene.buffers b ≡ Some shape → forms b ≡ NoForm → ⊥
-  pub placed : (b : ℕ) (shape : Shape) → s.scene.buffers b ≡ Some shape → IsPlaced layout m.setting.objects m.setting.free b shape
+  pub placed :
+      (b : ℕ) (shape : Shape)
+      → s.scene.buffers b ≡ Some shape
+      → IsPlaced layout m.setting.objects m.setting.free b shape
   pub apart : AreApartIn g.stored layout s.scene.buffers
   pub roots : HasRoots root s.scene
 
@@ -236,10 +244,17 @@ IsOutside stored layout s o k =
 
 -- buffers and objects that were there before are there after, and all cells outside the buffers that may be stored in are as before
 pub record Kept (stored : ℕ → Bool) (layout : Layout) (s : State) (m : Machine) (t : State) (n : Machine) : Type 0 where
-  pub buffers : (b : ℕ) (shape : Shape) → s.scene.buffers b ≡ Some shape → t.scene.buffers b ≡ Some shape
+  pub buffers :
+      (b : ℕ) (shape : Shape)
+      → s.scene.buffers b ≡ Some shape
+      → t.scene.buffers b ≡ Some shape
   pub objects : (o : ℕ) → nat_lt o m.setting.free ≡ true → n.setting.objects o ≡ m.setting.objects o
   pub free : m.setting.free ≤ n.setting.free
-  pub untouched : (o : ℕ) (k : ℤ) → nat_lt o m.setting.free ≡ true → IsOutside stored layout s o k → n.contents o k ≡ m.contents o k
+  pub untouched :
+      (o : ℕ) (k : ℤ)
+      → nat_lt o m.setting.free ≡ true
+      → IsOutside stored layout s o k
+      → n.contents o k ≡ m.contents o k
 
 -- a run of the C that follows one of the source, of a statement that binds nothing
 pub record Ran (g : Ground) (forms : Forms) (most : ℕ → ℕ) (root : ℕ → ℕ) (layout : Layout) (s : State) (m : Machine) (t : State) (n : Machine) : Type 0 where
@@ -252,8 +267,13 @@ pub record Ran (g : Ground) (forms : Forms) (most : ℕ → ℕ) (root : ℕ →
 -- what holds at the end of a block of what was there at its beginning
 pub record Ends (g : Ground) (forms : Forms) (layout : Layout) (s : State) (m : Machine) (t : State) (n : Machine) : Type 0 where
   pub kept : Kept g.stored layout s m t n
-  pub names : (x : ℕ) → (forms x ≡ NoForm) ⊎ (n.setting.names (g.naming.binder x) ≡ m.setting.names (g.naming.binder x))
-  pub fields : (f : ℕ) → g.declared f ≡ true → (n.setting.fields (g.naming.field f) ≡ t.scene.fields f) × (unsigned_abs (t.scene.fields f) ≤ 2 ^ 48)
+  pub names :
+      (x : ℕ)
+      → (forms x ≡ NoForm) ⊎ (n.setting.names (g.naming.binder x) ≡ m.setting.names (g.naming.binder x))
+  pub fields :
+      (f : ℕ)
+      → g.declared f ≡ true
+      → (n.setting.fields (g.naming.field f) ≡ t.scene.fields f) × (unsigned_abs (t.scene.fields f) ≤ 2 ^ 48)
   pub cells :
       (b : ℕ) (shape : Shape)
       → s.scene.buffers b ≡ Some shape

@@ -30,8 +30,16 @@ naming_of program what p = naming_in program (c_names (global_names program what
 
 -- What is printed: functions in the order of the unit, with all functions that they call.
 pub record IsListing (program : Program) (what : List Printing) : Type 0 where
-  pub there : (i : ℕ) (w : Printing) → slice_get what i ≡ Some w → (p : Procedure) × (slice_get program.procedures w.proc ≡ Some p) × (p.template ≡ None)
-  pub ascends : (i j : ℕ) (w v : Printing) → slice_get what i ≡ Some w → slice_get what j ≡ Some v → i < j → w.proc < v.proc
+  pub there :
+      (i : ℕ) (w : Printing)
+      → slice_get what i ≡ Some w
+      → (p : Procedure) × (slice_get program.procedures w.proc ≡ Some p) × (p.template ≡ None)
+  pub ascends :
+      (i j : ℕ) (w v : Printing)
+      → slice_get what i ≡ Some w
+      → slice_get what j ≡ Some v
+      → i < j
+      → w.proc < v.proc
   pub closed :
       (i j : ℕ) (w : Printing) (p q : Procedure)
       → slice_get what i ≡ Some w
@@ -46,7 +54,10 @@ pub record IsListing (program : Program) (what : List Printing) : Type 0 where
 pub record IsSameStart (program : Program) (what : List Printing) (p : Procedure) (layout : Layout)
     (s : State) (ts : List Thing) (m : Machine) : Type 0 where
   pub arguments : AreSame layout s m p.params ts
-  pub fields : (f : ℕ) → declared_in program what f ≡ true → m.setting.fields ((naming_of program what p).field f) ≡ s.scene.fields f
+  pub fields :
+      (f : ℕ)
+      → declared_in program what f ≡ true
+      → m.setting.fields ((naming_of program what p).field f) ≡ s.scene.fields f
   pub separate : AreSeparate layout s
 
 -- What the C leaves, against what the procedure leaves: each cell of an argument that the procedure leaves defined is
