@@ -1,5 +1,6 @@
 -- An allocation, the rest of its block, and the end of its object.
 use Rattle.std.proofs.Common.{◌≡◌, ◌≤◌, ◌<◌, ◌*◌, ◌^◌, ℕ, zero, suc, ℤ, pos, negsuc, ◌+ℤ◌, ◌*ℤ◌, ◌≤ℤ◌, Bool, true, false, ◌&&◌, ◌||◌, ◌==◌, cond, List, [], ◌∷◌, Option, Some, None, refl, sym, ap, ap₂, ◌∙◌, subst, arith, true≢false, int_le, ◌⊎◌, ⊎_elim, inl, inr, eqb-true, eq-eqb, nat_lt, unsigned_abs}
+use Rattle.std.specs.Ordering.{int_eq}
 use Rattle.std.proofs.Math.IntN.{+ℤ_idl, *ℤ_comm}
 use Rattle.std.proofs.lemmas.Int.{ints, unsigned_abs-mul}
 use Rattle.std.proofs.lemmas.Bool.{and_parts}
@@ -12,7 +13,7 @@ use Rattle.exo_meaning.specs.State.{State, with_contents, on_scene, with_buffer}
 use Rattle.exo_meaning.specs.Calls.{all_positive}
 use Rattle.exo_meaning.specs.Run.{product, row_major, tensor, allocate}
 use Rattle.c_tree.specs.CTree.{Number64, Literal, Single, Vector, CBlock, stop, first, Free, followed_by, Product}
-use Rattle.c_machine.specs.Machine.{Outcome, Done, Fault, NoStore, after, where_good, Pointer, Thing, IsArray, Object, Setting, Machine, number64, same_name, moved}
+use Rattle.c_machine.specs.Machine.{Outcome, Done, Fault, NoStore, after, where_good, hiding, Pointer, Thing, IsArray, Object, Setting, Machine, number64, same_name, moved}
 use Rattle.c_machine.specs.CRun.{CWorld, run_c, step_c, at_most_48, storable, amount, made, make, freed, free_under}
 use Rattle.c_printer.specs.Lowered.{Naming, Forms, Form, NoForm, NumberForm, TensorForm, WindowForm, number_with, dims_of, product_of, product_from, alloc_of, allocated, is_empty, without_lanes, literals}
 use Rattle.c_laws.specs.Simulation.{Follows, Declared, AreSameFields, Layout, HasForm, IsTensor, Matches, Kept, Ends, IsHeld, IsPlain, ArePlain, AreGood, IsFresh, IsOfCells, IsOutside, in_range, spot_of, dot}
@@ -21,7 +22,7 @@ use Rattle.c_laws.proofs.Numbers.{same_number}
 use Rattle.c_laws.proofs.Extents.{both_positive, positive_product, times_assoc}
 use Rattle.c_laws.proofs.Offsets.{injective}
 use Rattle.c_laws.proofs.Steps.{follows_weaken, nothing}
-use Rattle.c_laws.proofs.Scopes.{none_tensor, none_number, same_name_self, numbers_by_control}
+use Rattle.c_laws.proofs.Scopes.{none_tensor, none_number, same_name_self, numbers_by_control, c_number_wider}
 
 -- ---- the amount of cells
 
@@ -49,18 +50,18 @@ much_right : (v w : ℤ) → IsMuch w → IsMuch (v *ℤ w)
 much_right v w h = subst IsMuch (*ℤ_comm w v) (much_left w v h)
 
 at_most_is : (v : ℤ) → Amount (at_most_48 v) v
-at_most_is v = go (int_le (negsuc 281474976710655) v && int_le v (pos 281474976710656)) refl
+at_most_is v = go (int_le v (pos 281474976710656)) refl
   where
     below : (b : ℤ) → int_le v b ≡ true → v ≤ℤ b
     below b e = grind (arith, ints)
 
-    much : (z : ℤ) → (int_le (negsuc 281474976710655) z && int_le z (pos 281474976710656)) ≡ false → 281474976710656 < unsigned_abs z
+    much : (z : ℤ) → int_le z (pos 281474976710656) ≡ false → 281474976710656 < unsigned_abs z
     much (pos n) e = grind arith
     much (negsuc n) e = grind arith
 
-    go : (t : Bool) → (int_le (negsuc 281474976710655) v && int_le v (pos 281474976710656)) ≡ t → Amount (at_most_48 v) v
+    go : (t : Bool) → int_le v (pos 281474976710656) ≡ t → Amount (at_most_48 v) v
     go false e = inl (ap (λ t. storable t v) e, inr (much v e))
-    go true e = inr (ap (λ t. storable t v) e, below (pos 281474976710656) (and_parts _ _ e).1)
+    go true e = inr (ap (λ t. storable t v) e, below (pos 281474976710656) e)
 
 after_known : (o : Outcome ℤ) (v : ℤ) → o ≡ Done v → Amount (after o at_most_48) v
 after_known o v e = subst (λ p. Amount (after p at_most_48) v) (sym e) (at_most_is v)
@@ -74,10 +75,7 @@ product_amount s a b v w h k =
     (λ f. subst (λ o. Amount (after o (λ j. at_most_48 (v *ℤ w))) (v *ℤ w)) (sym f.0) (at_most_is (v *ℤ w))) (at_most_is w))))
     h
 
-module _ (naming : Naming) (forms : Forms) (most : ℕ → ℕ) (layout : Layout) (scene : Scene) (setting : Setting) (match : (x : ℕ) → HasForm naming forms most layout scene setting x (forms x)) where
-  value : (e : Control) → IsPlain forms e → IsNarrow most e → number64 setting (number_with naming (λ x k. Literal (pos 1)) e) ≡ Done (number scene e)
-  value e h k = same_number naming forms most layout scene setting match (λ x k. Literal (pos 1)) e h k
-
+module _ (naming : Naming) (forms : Forms) (most : ℕ → ℕ) (scene : Scene) (setting : Setting) (value : (e : Control) → IsPlain forms e → IsNarrow most e → number64 setting (number_with naming (λ x k. Literal (pos 1)) e) ≡ Done (number scene e)) where
   number_amount : (e : Control) → IsPlain forms e → IsNarrow most e → Amount (amount setting (number_with naming (λ x k. Literal (pos 1)) e)) (number scene e)
   number_amount (Lit n) h k = after_known _ _ (value (Lit n) h k)
   number_amount (Var y) h k = after_known _ _ (value (Var y) h k)
@@ -350,7 +348,7 @@ module _ (naming : Naming) (declared : Declared) (forms : Forms) (most : ℕ →
         let held : p.setting.objects m.setting.free ≡ Some object = r.kept.objects m.setting.free (at_free m.setting.free) ∙ object_there in
         ap (λ o. after (after (free_under o p.setting) (λ z. Done (record p { setting = z }))) (λ z. Done z)) name
         ∙ ap (λ o. after (after (freed pointer o p.setting) (λ z. Done (record p { setting = z }))) (λ z. Done z)) held
-        ∙ ap (λ b. after (after (where_good b (Done (record p.setting { objects = without p.setting.objects }))) (λ z. Done (record p { setting = z }))) (λ z. Done z)) on_heap
+        ∙ ap (λ b. after (after (where_good (b && int_eq (pos 0) (pos 0)) (Done (record p.setting { objects = without p.setting.objects }))) (λ z. Done (record p { setting = z }))) (λ z. Done z)) on_heap
 
     all_ends : (u : State) (p : Machine) → Ends naming declared wider new_layout new_state new_machine u p → (objects : ℕ → Option Object) → ((o : ℕ) → nat_lt o m.setting.free ≡ true → objects o ≡ p.setting.objects o) → Ends naming declared forms layout s m u (with_objects objects p)
     all_ends u p r objects same = record {
@@ -398,6 +396,13 @@ module _ (naming : Naming) (declared : Declared) (forms : Forms) (most : ℕ →
 
 -- ---- the whole statement
 
+-- one cell for each element
+some_cells : (z : ℤ) → z ≤ℤ pos 281474976710656 → at_most_48 (z *ℤ pos 1) ≡ Done (z *ℤ pos 1)
+some_cells z h = ap (λ t. storable t (z *ℤ pos 1)) (within z h)
+  where
+    within : (v : ℤ) → v ≤ℤ pos 281474976710656 → int_le (v *ℤ pos 1) (pos 281474976710656) ≡ true
+    within v k = grind (arith, ints)
+
 not_much : (z : ℤ) → int_le (pos 1) z ≡ true → z ≤ℤ pos (2 ^ 48) → IsMuch z → ⊥
 not_much (pos n) h k much = let one : 1 ≤ n = grind arith in ⊎_elim (λ e. omega (arith, e)) (λ e. omega (arith, ints)) much
 not_much (negsuc n) h k much = absurd (true≢false (sym h))
@@ -434,16 +439,22 @@ module _ (Few : Type 0) (naming : Naming) (declared : Declared) (forms : Forms) 
       ended : all_positive (numbers s.scene dims) ≡ true → product (numbers s.scene dims) ≤ℤ pos 281474976710656 → Follows Few (Ends naming declared forms layout s m) (go (begun dims)) (run_c c_world (followed_by c ending) (made_here dims))
       ended above fits = subst (λ o. Follows Few (Ends naming declared forms layout s m) (go (begun dims)) o) (sym (runs_on c_world c ending (made_here dims))) (freed_ends naming declared forms most layout x cell dims good fresh s m match above fits true Few c_world go c (λ r. rest _ _ _ (ap (λ b. where_true b (Some (begun dims))) above) r) refl)
 
-      size_is : int_le (pos 1) (product (numbers s.scene dims)) ≡ true → (o : Outcome ℤ) → o ≡ Done (product (numbers s.scene dims)) → make true (Single cell) (naming.binder x) o m ≡ Done (made_here dims)
-      size_is h o e = ap (λ z. make true (Single cell) (naming.binder x) z m) e ∙ ap (λ b. where_good b (Done (made_here dims))) h
+      value : (e : Control) → IsPlain forms e → IsNarrow most e → number64 (hiding (naming.binder x) m.setting) (number_with naming (λ y k. Literal (pos 1)) e) ≡ Done (number s.scene e)
+      value e h k = c_number_wider naming declared forms x fresh m.setting None (λ y j. Literal (pos 1)) e h ∙ same_number naming forms most layout s.scene m.setting match.names (λ y j. Literal (pos 1)) e h k
 
-      cases : (b : Bool) → all_positive (numbers s.scene dims) ≡ b → Follows Few (Ends naming declared forms layout s m) (then_do (where_true b (Some (begun dims))) go) (after (make true (Single cell) (naming.binder x) (amount m.setting (product_of (dims_of naming dims))) m) (run_c c_world (followed_by c ending)))
+      size_is : int_le (pos 1) (product (numbers s.scene dims)) ≡ true → product (numbers s.scene dims) ≤ℤ pos 281474976710656 → (o : Outcome ℤ) → o ≡ Done (product (numbers s.scene dims)) → make true (Single cell) (naming.binder x) o m ≡ Done (made_here dims)
+      size_is h fits o e =
+          ap (λ z. make true (Single cell) (naming.binder x) z m) e
+          ∙ ap (λ z. after z (λ cells. where_good (int_le (pos 1) (product (numbers s.scene dims))) (Done (made_here dims)))) (some_cells (product (numbers s.scene dims)) fits)
+          ∙ ap (λ b. where_good b (Done (made_here dims))) h
+
+      cases : (b : Bool) → all_positive (numbers s.scene dims) ≡ b → Follows Few (Ends naming declared forms layout s m) (then_do (where_true b (Some (begun dims))) go) (after (make true (Single cell) (naming.binder x) (amount (hiding (naming.binder x) m.setting) (product_of (dims_of naming dims))) m) (run_c c_world (followed_by c ending)))
       cases false e = tt
       cases true e =
           ⊎_elim
           (λ h. subst (λ o. Follows Few (Ends naming declared forms layout s m) (go (begun dims)) (after (make true (Single cell) (naming.binder x) o m) (run_c c_world (followed_by c ending)))) (sym h.0) (nothing Few (Ends naming declared forms layout s m) (go (begun dims)) (λ f. not_much (product (numbers s.scene dims)) (positive_product (numbers s.scene dims) e) (few f) h.1)))
-          (λ h. subst (λ o. Follows Few (Ends naming declared forms layout s m) (go (begun dims)) (after o (run_c c_world (followed_by c ending)))) (sym (size_is (positive_product (numbers s.scene dims) e) _ h.0)) (ended e h.1))
-          (dims_amount naming forms most layout s.scene m.setting match.names dims good.0 good.1 e)
+          (λ h. subst (λ o. Follows Few (Ends naming declared forms layout s m) (go (begun dims)) (after o (run_c c_world (followed_by c ending)))) (sym (size_is (positive_product (numbers s.scene dims) e) h.1 _ h.0)) (ended e h.1))
+          (dims_amount naming forms most s.scene (hiding (naming.binder x) m.setting) value dims good.0 good.1 e)
 
   either : (dims : List Control) → AreGood forms most dims → (Few → product (numbers s.scene dims) ≤ℤ pos (2 ^ 48)) → Wider dims zero → Follows Few (Ends naming declared forms layout s m) (then_do (allocate x cell (numbers s.scene dims) s) go) (run_c c_world (allocated (is_empty dims) (Single cell) (naming.binder x) (literals dims) (product_of (dims_of naming dims)) c) m)
   either [] good few rest = place_follows rest

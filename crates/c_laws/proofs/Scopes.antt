@@ -7,7 +7,7 @@ use Rattle.exo_meaning.specs.Value.{Undefined}
 use Rattle.exo_meaning.specs.Scene.{Shape, Scene, numbers, number, updated}
 use Rattle.exo_meaning.specs.State.{State, left, kept, on_scene, with_control}
 use Rattle.c_tree.specs.CTree.{Name, Number64}
-use Rattle.c_machine.specs.Machine.{after, where_good, checked, on_both, Thing, IsNumber, Setting, Machine, number64, number_under, same_name, with_thing}
+use Rattle.c_machine.specs.Machine.{after, where_good, checked, on_both, Thing, IsNumber, Setting, Machine, named, number64, number_under, same_name, with_thing}
 use Rattle.c_machine.specs.CRun.{still_there, back_to, with_counter}
 use Rattle.c_printer.specs.Lowered.{Naming, Forms, Form, NoForm, NumberForm, TensorForm, WindowForm, number_with}
 use Rattle.c_widths.specs.Magnitude.{magnitude, rounded_up}
@@ -130,10 +130,10 @@ module _ (naming : Naming) (declared : Declared) (forms : Forms) (i : ℕ) (fres
     numbers_wider (e ∷ es) h = ap₂ (λ x xs. x ∷ xs) (number_wider e h.0) (numbers_wider es h.1)
 
   -- the same on the C's side
-  module _ (setting : Setting) (t : Thing) (strides : ℕ → ℕ → Number64) where
-    pub c_number_wider : (e : Control) → IsPlain forms e → number64 (with_thing (naming.binder i) t setting) (number_with naming strides e) ≡ number64 setting (number_with naming strides e)
+  module _ (setting : Setting) (held : Option Thing) (strides : ℕ → ℕ → Number64) where
+    pub c_number_wider : (e : Control) → IsPlain forms e → number64 (record setting { names = named setting.names (naming.binder i) held }) (number_with naming strides e) ≡ number64 setting (number_with naming strides e)
     c_number_wider (Lit k) h = refl
-    c_number_wider (Var y) h = ap (number_under setting.fields (naming.binder y)) (ap (λ b. cond b (Some t) (setting.names (naming.binder y))) (other_text y h))
+    c_number_wider (Var y) h = ap (number_under setting.fields (naming.binder y)) (ap (λ b. cond b held (setting.names (naming.binder y))) (other_text y h))
     c_number_wider (Field f) h = absurd h
     c_number_wider (StrideOf x k) h = absurd h
     c_number_wider (Neg a) h = ap (λ o. after o (λ x. checked (neg_ℤ x))) (c_number_wider a h)

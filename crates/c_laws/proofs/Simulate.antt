@@ -4,19 +4,24 @@ use Rattle.std.specs.Ordering.{int_eq}
 use Rattle.std.proofs.lemmas.Bool.{and_parts, and_from}
 use Rattle.std.specs.Cmp.Rules.{signed_items}
 use Rattle.std.specs.Cmp.{signed_Decides}
-use Rattle.exo_tree.specs.Tree.{Cell, Control, Datum, Const, Read, Negated, Relu, Plus, Minus, Times, Select}
+use Rattle.exo_tree.specs.Tree.{Cell, I8, I32, Control, Datum, Const, Read, Negated, Relu, Plus, Minus, Times, Select}
 use Rattle.exo_meaning.specs.Value.{Value, stored_as, on_two}
 use Rattle.exo_meaning.specs.Scene.{Shape}
-use Rattle.exo_meaning.specs.State.{State, Place, held, is_there, changed, put, value, same_index}
+use Rattle.exo_meaning.specs.State.{State, Place, place, held, is_there, changed, put, value, same_index}
+use Rattle.exo_meaning.specs.Units.{same_cell}
 use Rattle.exo_meaning.specs.Run.{assign, reduce}
-use Rattle.c_machine.specs.Machine.{Done, Pointer, Machine, number32, with_two, as_unsigned, is_spot}
+use Rattle.c_machine.specs.Machine.{Done, Pointer, Machine, number32, with_two, as_unsigned, is_spot, typed_spot, holds_cells}
 use Rattle.c_machine.specs.CRun.{store, add_to, put32, into_object}
 use Rattle.c_printer.specs.Lowered.{Naming, Forms, cell_at_of, number32_of}
 use Rattle.c_laws.specs.Simulation.{Follows, Declared, Layout, Matches, IsHeld, IsRead, in_range, spot_of, IsTensorName, AreGood, IsGoodDatum, Ran, IsOutside}
 use Rattle.std.proofs.Math.Nat.{le_refl}
 use Rattle.c_laws.proofs.Data.{sum_read, difference_read, product_read, negation_read, relu_read, select_read, literal_read, cell_read, stored_held}
-use Rattle.c_laws.proofs.Steps.{follows_then, follows_map, follows_both}
+use Rattle.c_laws.proofs.Steps.{follows_then, follows_map, follows_both, follows_good}
 use Rattle.c_laws.proofs.Places.{AreOne, cell_follows}
+
+same_itself : (c : Cell) → same_cell c c ≡ true
+same_itself I8 = refl
+same_itself I32 = refl
 
 -- ---- one change on both sides
 
@@ -130,12 +135,18 @@ module _ (naming : Naming) (declared : Declared) (forms : Forms) (most : ℕ →
       put_follows : (f g : Value → Value) → ((u v : Value) → IsHeld u v → IsRead (f u) (g v)) → Follows Few Next (put s f p) (Done (put32 m cell g q))
       put_follows f g k = follows_both Few Next _ _ _ _ (put_is f) refl (record { matches = kept f g k; kept = record { buffers = λ b shape e. e; objects = λ o h. refl; free = le_refl m.setting.free; untouched = elsewhere cell g }; control = refl; names = refl; same_buffers = refl })
 
+    -- the type of the cell is that of the store
+    typed_follows : (x : ℕ) (h : IsTensorName forms x) (is : List Control) → AreGood forms most is → Follows Few (AreOne layout s.scene m.setting x h.0) (place s.scene x is) (typed_spot h.0 m.setting (cell_at_of naming forms x is))
+    typed_follows x h is i =
+        follows_good Few (AreOne layout s.scene m.setting x h.0) (λ p. holds_cells (m.setting.objects p.object) h.0) _ _ (cell_follows naming forms most layout s.scene m.setting match.names Few x h is i)
+        (λ p q one. ap (λ o. holds_cells o h.0) one.there ∙ ap (λ c. same_cell c h.0) one.cell_there ∙ same_itself h.0)
+
     pub assign_follows : (x : ℕ) (h : IsTensorName forms x) (is : List Control) (e : Datum) → AreGood forms most is → IsGoodDatum forms most e → naming.stored x ≡ true → Follows Few Next (assign x is e s) (store h.0 (cell_at_of naming forms x is) (number32_of naming forms e) m)
     assign_follows x h is e i j may =
-        follows_then Few (AreOne layout s.scene m.setting x h.0) Next _ _ _ _ (cell_follows naming forms most layout s.scene m.setting match.names Few x h is i)
+        follows_then Few (AreOne layout s.scene m.setting x h.0) Next _ _ _ _ (typed_follows x h is i)
         (λ p q at one. follows_then Few IsRead Next _ _ _ _ (value_follows e j) (λ u v is_value r. put_follows x may h.0 p q one (λ old. u) (λ old. v) (λ w y held. r)))
 
     pub reduce_follows : (x : ℕ) (h : IsTensorName forms x) (is : List Control) (e : Datum) → AreGood forms most is → IsGoodDatum forms most e → naming.stored x ≡ true → Follows Few Next (reduce x is e s) (add_to h.0 (cell_at_of naming forms x is) (number32_of naming forms e) m)
     reduce_follows x h is e i j may =
-        follows_then Few (AreOne layout s.scene m.setting x h.0) Next _ _ _ _ (cell_follows naming forms most layout s.scene m.setting match.names Few x h is i)
+        follows_then Few (AreOne layout s.scene m.setting x h.0) Next _ _ _ _ (typed_follows x h is i)
         (λ p q at one. follows_then Few IsRead Next _ _ _ _ (value_follows e j) (λ u v is_value r. put_follows x may h.0 p q one (λ old. on_two ◌+ℤ◌ old u) (λ old. with_two ◌+ℤ◌ (as_unsigned old) v) (λ w y held. sum_read w (as_unsigned y) (cell_read w y held) u v r)))

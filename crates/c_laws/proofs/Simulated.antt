@@ -1,5 +1,5 @@
 -- The C of a block follows its run.
-use Rattle.std.proofs.Common.{◌≡◌, ◌≤◌, ◌^◌, ℕ, zero, suc, max, ℤ, pos, negsuc, ◌+ℤ◌, ◌-ℤ◌, ◌≤ℤ◌, Bool, true, false, Option, Some, None, option_map, refl, sym, ap, ◌∙◌, subst, arith, ◌⊎◌, ⊎_elim, inl, inr, int_lt, unsigned_abs, nat_lt}
+use Rattle.std.proofs.Common.{◌≡◌, ◌≤◌, ◌^◌, ℕ, zero, suc, max, ℤ, pos, negsuc, ◌+ℤ◌, ◌-ℤ◌, ◌≤ℤ◌, Bool, true, false, not, Option, Some, None, option_map, refl, sym, ap, ◌∙◌, subst, arith, ◌⊎◌, ⊎_elim, inl, inr, int_lt, unsigned_abs, nat_lt}
 use Rattle.std.proofs.lemmas.Int.{ints}
 use Rattle.std.proofs.Math.Nat.{le_trans, le_refl}
 use Rattle.exo_tree.specs.Tree.{I32, Control, Condition, Statement, Assign, Reduce, Config, Pass, If, For, Alloc, View, Call, Block, end, next}
@@ -8,7 +8,7 @@ use Rattle.exo_meaning.specs.State.{State, left, scoped, on_scene, with_control}
 use Rattle.exo_meaning.specs.Value.{Undefined}
 use Rattle.exo_meaning.specs.Run.{World, run, step, assign, reduce, turn, turns, turns_of, range, count, choose}
 use Rattle.c_tree.specs.CTree.{CBlock}
-use Rattle.c_machine.specs.Machine.{Outcome, Done, after, Machine, Setting, number64, test, IsNumber}
+use Rattle.c_machine.specs.Machine.{Outcome, Done, after, where_good, hiding, Machine, Setting, number64, test, IsNumber}
 use Rattle.c_machine.specs.CRun.{CWorld, run_c, in_scope, back_to, either_way, turns64, turn64, upper64, go_on, with_counter, still_there, store, add_to}
 use Rattle.c_printer.specs.Lowered.{Naming, Forms, NoForm, NumberForm, number_of, test_of, block_of, before, forms_after, cell_in, cell_at_of, number32_of}
 use Rattle.c_laws.specs.Laws.{BlocksFollow}
@@ -144,11 +144,13 @@ module _ (Few : Type 0) (naming : Naming) (declared : Declared) (forms : Forms) 
         (λ t p r. record { kept = record { buffers = r.kept.buffers; objects = r.kept.objects; free = r.kept.free; untouched = r.kept.untouched }; names = λ x. inl refl; fields = r.fields; cells = r.cells }))
 
     upper_is : (at : ℤ) (s : State) (m : Machine) → Match s m → upper64 (naming.binder i) (number_of naming forms hi) at m ≡ Done (number s.scene hi)
-    upper_is at s m match = c_number_wider naming declared forms i fresh m.setting (IsNumber at) _ hi good_hi.0 ∙ number_is naming forms most layout s.scene m.setting match.names hi good_hi
+    upper_is at s m match = c_number_wider naming declared forms i fresh m.setting (Some (IsNumber at)) _ hi good_hi.0 ∙ number_is naming forms most layout s.scene m.setting match.names hi good_hi
 
     module _ (low top : ℤ) (low_small : unsigned_abs low ≤ magnitude most lo) (top_small : unsigned_abs top ≤ magnitude most hi) where
       turns_follow : (n fuel : ℕ) (at : ℤ) (s : State) (m : Machine) → (Few → EachTurn (turn i go) FewTurn (range at n) s) → Match s m → number s.scene hi ≡ top → low ≤ℤ at → Left n at top → n ≤ fuel → Follows Few (Next s m) (turns (turn i go) (range at n) s) (turns64 (turn64 (naming.binder i) c_go) (upper64 (naming.binder i) (number_of naming forms hi)) fuel at m)
-      turns_follow zero zero at s m few match e l h k = follows_done Few (Next s m) (Some s) _ top _ (upper_is at s m match ∙ ap Done e) (ran_refl naming declared forms most layout s m match)
+      turns_follow zero zero at s m few match e l h k =
+          follows_done Few (Next s m) (Some s) _ top _ (upper_is at s m match ∙ ap Done e)
+          (subst (λ b. Follows Few (Next s m) (Some s) (where_good (not b) (Done m))) (sym (none_left at top h)) (ran_refl naming declared forms most layout s m match))
       turns_follow zero (suc fuel) at s m few match e l h k =
           follows_done Few (Next s m) (Some s) _ top _ (upper_is at s m match ∙ ap Done e)
           (subst (λ b. Follows Few (Next s m) (Some s) (go_on b (λ p. after (turn64 (naming.binder i) c_go at p) (turns64 (turn64 (naming.binder i) c_go) (upper64 (naming.binder i) (number_of naming forms hi)) fuel (at +ℤ pos 1))) m)) (sym (none_left at top h)) (ran_refl naming declared forms most layout s m match))
@@ -180,13 +182,13 @@ module _ (Few : Type 0) (naming : Naming) (declared : Declared) (forms : Forms) 
         cases (pos a) (pos b) e f = let p = at_most top k in omega (arith, ints)
         cases (pos a) (negsuc b) e f = let p = at_most low h in absurd (omega (arith, ints))
 
-    loop_follows : (s : State) (m : Machine) → (Few → EachTurn (turn i go) FewTurn (turns_of s.scene lo hi) s) → Match s m → Follows Few (Next s m) (turns (turn i go) (turns_of s.scene lo hi) s) (after (number64 m.setting (number_of naming forms lo)) (λ n. turns64 (turn64 (naming.binder i) c_go) (upper64 (naming.binder i) (number_of naming forms hi)) (count (pos 9223372036854775807 -ℤ n)) n m))
+    loop_follows : (s : State) (m : Machine) → (Few → EachTurn (turn i go) FewTurn (turns_of s.scene lo hi) s) → Match s m → Follows Few (Next s m) (turns (turn i go) (turns_of s.scene lo hi) s) (after (number64 (hiding (naming.binder i) m.setting) (number_of naming forms lo)) (λ n. turns64 (turn64 (naming.binder i) c_go) (upper64 (naming.binder i) (number_of naming forms hi)) (count (pos 9223372036854775807 -ℤ n)) n m))
     loop_follows s m few match =
         let low = number s.scene lo in
         let top = number s.scene hi in
         let low_small = bounded naming forms most layout s.scene m.setting match.names lo good_lo.0 in
         let top_small = bounded naming forms most layout s.scene m.setting match.names hi good_hi.0 in
-        follows_done Few (Next s m) _ _ low _ (number_is naming forms most layout s.scene m.setting match.names lo good_lo)
+        follows_done Few (Next s m) _ _ low _ (c_number_wider naming declared forms i fresh m.setting None _ lo good_lo.0 ∙ number_is naming forms most layout s.scene m.setting match.names lo good_lo)
         (turns_follow low top low_small top_small (count (top -ℤ low)) (count (pos 9223372036854775807 -ℤ low)) low s m few match refl (omega (arith, ints)) (turns_left low top)
         (few_turns low top (le_trans low_small (narrow most lo good_lo.1)) (le_trans top_small (narrow most hi good_hi.1))))
 

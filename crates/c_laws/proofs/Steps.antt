@@ -1,7 +1,7 @@
 -- Steps that follow each other.
-use Rattle.std.proofs.Common.{◌≡◌, Option, Some, None, option_map, refl, sym, subst}
+use Rattle.std.proofs.Common.{◌≡◌, Bool, true, Option, Some, None, option_map, refl, sym, subst}
 use Rattle.exo_meaning.specs.Scene.{then_do}
-use Rattle.c_machine.specs.Machine.{Outcome, Done, Fault, NoStore, after}
+use Rattle.c_machine.specs.Machine.{Outcome, Done, Fault, NoStore, after, where_good}
 use Rattle.c_laws.specs.Simulation.{Follows}
 
 module _ (Few : Type 0) where
@@ -36,3 +36,10 @@ module _ (Few : Type 0) where
   follows_weaken R S (Some a) (Done b) h k = k a b h
   follows_weaken R S (Some a) Fault h k = h
   follows_weaken R S (Some a) NoStore h k = h
+
+  -- a test that holds of what is related
+  pub follows_good : {A B : Type 0} (R : A → B → Type 0) (test : B → Bool) (o : Option A) (p : Outcome B) → Follows Few R o p → ((a : A) (b : B) → R a b → test b ≡ true) → Follows Few R o (after p (λ b. where_good (test b) (Done b)))
+  follows_good R test None p h k = tt
+  follows_good R test (Some a) (Done b) h k = subst (λ t. Follows Few R (Some a) (where_good t (Done b))) (sym (k a b h)) h
+  follows_good R test (Some a) Fault h k = h
+  follows_good R test (Some a) NoStore h k = h

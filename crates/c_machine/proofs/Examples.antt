@@ -1,7 +1,7 @@
 -- The closed runs compute.
 use Rattle.std.proofs.Common.{refl}
 use Rattle.std.specs.Int.{int_wrap}
-use Rattle.c_machine.specs.Examples.{NumbersAreChecked, CellsAreChecked, StoresWrap}
+use Rattle.c_machine.specs.Examples.{NumbersAreChecked, CellsAreChecked, StoresWrap, CallsAreInPlace, VectorsAreCells}
 
 pub numbers_are_checked : NumbersAreChecked
 numbers_are_checked = record { too_large = refl; no_divisor = refl; rounds_down = refl; remainder = refl }
@@ -22,3 +22,27 @@ cells_are_checked = record {
 pub stores_wrap : StoresWrap
 unfolding int_wrap
 stores_wrap = record { low_bits = refl }
+
+pub calls_are_in_place : CallsAreInPlace
+unfolding int_wrap
+calls_are_in_place = record {
+  through_a_window = refl;
+  through_a_view = refl;
+  no_window = refl;
+  other_rank = refl;
+  other_type = refl;
+  no_such_stride = refl;
+  hidden_function = refl;
+  not_above = refl;
+  not_yet = refl;
+}
+
+pub vectors_are_cells : VectorsAreCells
+unfolding int_wrap
+vectors_are_cells = record {
+  through = refl;
+  no_cell = refl;
+  no_argument = refl;
+  too_short = refl;
+  counted_in_cells = refl;
+}

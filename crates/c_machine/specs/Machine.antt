@@ -1,9 +1,10 @@
 -- The C machine: what it holds, and what its expressions give.
-use Rattle.std.specs.Prelude.{ℕ, ℤ, pos, negsuc, neg_ℤ, ◌+ℤ◌, ◌-ℤ◌, ◌*ℤ◌, int_lt, int_le, ◌==◌, Bool, true, false, not, ◌&&◌, if◌then◌else◌, List, [], ◌∷◌, get_or, Option, Some, None}
+use Rattle.std.specs.Prelude.{ℕ, zero, suc, ℤ, pos, negsuc, neg_ℤ, ◌+ℤ◌, ◌-ℤ◌, ◌*ℤ◌, int_lt, int_le, ◌==◌, Bool, true, false, not, ◌&&◌, if◌then◌else◌, List, [], ◌∷◌, Option, Some, None}
 use Rattle.std.specs.Int.{int_div_euclid, int_rem_euclid}
 use Rattle.std.specs.Ordering.{int_eq}
 use Rattle.exo_tree.specs.Tree.{Cell, I32}
 use Rattle.exo_meaning.specs.Value.{Value, Undefined, Number, wrap}
+use Rattle.exo_meaning.specs.Units.{same_cell}
 pub use Rattle.c_names.specs.Words.{same_name}
 use Rattle.c_tree.specs.CTree.{Name, Number64, Literal, Named, StrideIn, Opposite, Sum, Difference, Product, Quotient, Remainder, Test, Always, Never, IsSet, Less, LessEqual, More, MoreEqual, Equal, Both, Either, CellRef, InArray, InWindow, Number32, Literal32, Read32, Opposite32, Relu32, Sum32, Difference32, Product32, Select32}
 
@@ -30,7 +31,7 @@ pub record Pointer : Type 0 where
 -- what a name stands for
 pub data Thing : Type 0 where
   IsNumber : ℤ → Thing
-  IsField : Thing
+  IsField IsFunction : Thing
   IsArray : Pointer → Thing
   IsVectors : Pointer → ℕ → Thing
   IsWindow : Pointer → List ℤ → Thing
@@ -57,6 +58,10 @@ named f x a y = if same_name y x then a else f y
 abbrev pub with_thing : Name → Thing → Setting → Setting
 with_thing x t s = record s { names = named s.names x (Some t) }
 
+-- what is declared stands for nothing yet where its own first value is computed
+abbrev pub hiding : Name → Setting → Setting
+hiding x s = record s { names = named s.names x None }
+
 -- ---- 64-bit numbers
 
 abbrev pub fits64 : ℤ → Bool
@@ -69,17 +74,25 @@ abbrev pub number_under : (Name → ℤ) → Name → Option Thing → Outcome �
 number_under fields x None = Fault
 number_under fields x (Some (IsNumber n)) = Done n
 number_under fields x (Some IsField) = Done (fields x)
+number_under fields x (Some IsFunction) = Fault
 number_under fields x (Some (IsArray p)) = Fault
 number_under fields x (Some (IsVectors p lanes)) = Fault
 number_under fields x (Some (IsWindow p strides)) = Fault
+
+-- that of the number k; a fault where there are not so many
+abbrev pub stride_in : List ℤ → ℕ → Outcome ℤ
+stride_in [] k = Fault
+stride_in (t ∷ ts) zero = Done t
+stride_in (t ∷ ts) (suc k) = stride_in ts k
 
 abbrev pub stride_under : Option Thing → ℕ → Outcome ℤ
 stride_under None k = Fault
 stride_under (Some (IsNumber n)) k = Fault
 stride_under (Some IsField) k = Fault
+stride_under (Some IsFunction) k = Fault
 stride_under (Some (IsArray p)) k = Fault
 stride_under (Some (IsVectors p lanes)) k = Fault
-stride_under (Some (IsWindow p strides)) k = Done (get_or strides k (pos 0))
+stride_under (Some (IsWindow p strides)) k = stride_in strides k
 
 -- both sides, and then an operation whose result must fit
 abbrev pub on_both : (ℤ → ℤ → ℤ) → Outcome ℤ → Outcome ℤ → Outcome ℤ
@@ -138,26 +151,45 @@ in_object (Some o) k = int_le (pos 0) k && int_lt k o.size
 abbrev pub inside : Setting → Pointer → Outcome Pointer
 inside s p = where_good (in_object (s.objects p.object) p.offset) (Done p)
 
+-- a cell of an array, a cell under a window, and the first cell of a vector
 abbrev pub from_array : Option Thing → ℤ → Outcome Pointer
 from_array None k = Fault
 from_array (Some (IsNumber n)) k = Fault
 from_array (Some IsField) k = Fault
+from_array (Some IsFunction) k = Fault
 from_array (Some (IsArray p)) k = Done (moved p k)
-from_array (Some (IsVectors p lanes)) k = Done (moved p (k *ℤ pos lanes))
+from_array (Some (IsVectors p lanes)) k = Fault
 from_array (Some (IsWindow p strides)) k = Fault
 
 abbrev pub from_window : Option Thing → ℤ → Outcome Pointer
 from_window None k = Fault
 from_window (Some (IsNumber n)) k = Fault
 from_window (Some IsField) k = Fault
+from_window (Some IsFunction) k = Fault
 from_window (Some (IsArray p)) k = Fault
 from_window (Some (IsVectors p lanes)) k = Fault
 from_window (Some (IsWindow p strides)) k = Done (moved p k)
 
+abbrev pub from_elements : Option Thing → ℤ → Outcome Pointer
+from_elements (Some (IsVectors p lanes)) k = Done (moved p (k *ℤ pos lanes))
+from_elements held k = from_array held k
+
 -- where a cell lies; a fault where that is in no object
+abbrev pub spot_by : (Option Thing → ℤ → Outcome Pointer) → Setting → CellRef → Outcome Pointer
+spot_by from s (InArray x off) = after (number64 s off) (λ k. after (from (s.names x) k) (inside s))
+spot_by from s (InWindow w off) = after (number64 s off) (λ k. after (from_window (s.names w) k) (inside s))
+
 abbrev pub spot : Setting → CellRef → Outcome Pointer
-spot s (InArray x off) = after (number64 s off) (λ k. after (from_array (s.names x) k) (inside s))
-spot s (InWindow w off) = after (number64 s off) (λ k. after (from_window (s.names w) k) (inside s))
+spot = spot_by from_array
+
+-- an object of cells of that type is there
+abbrev pub holds_cells : Option Object → Cell → Bool
+holds_cells None cell = false
+holds_cells (Some o) cell = same_cell o.cell cell
+
+-- a cell of that type
+abbrev pub typed_spot : Cell → Setting → CellRef → Outcome Pointer
+typed_spot cell s ref = after (spot s ref) (λ p. where_good (holds_cells (s.objects p.object) cell) (Done p))
 
 abbrev pub is_spot : Pointer → ℕ → ℤ → Bool
 is_spot p o k = (o == p.object) && int_eq k p.offset

@@ -1,6 +1,6 @@
 //! Laws of the C machine, each the contract of a function with nothing to do.
 
-ghost use Rattle.c_machine.specs.Examples.{NumbersAreChecked, CellsAreChecked, StoresWrap};
+ghost use Rattle.c_machine.specs.Examples.{NumbersAreChecked, CellsAreChecked, StoresWrap, CallsAreInPlace, VectorsAreCells};
 
 /// Numbers that do not fit 64 bits and zero divisors are faults; division rounds down.
 pub fn numbers_are_checked()
@@ -16,4 +16,17 @@ pub fn cells_are_checked()
 /// A store keeps the low bits.
 pub fn stores_wrap()
     ensures { StoresWrap }
+{}
+
+/// A call works on the caller's objects. A thing of another form, rank or type than the parameter's is a fault, and so
+/// are a stride that a window does not have, a name that hides the function, a function that does not stand above, and
+/// a name in its own first value.
+pub fn calls_are_in_place()
+    ensures { CallsAreInPlace }
+{}
+
+/// An instruction sees vectors as their cells. Elsewhere a cell of a vector is a fault, and a vector's cells count as
+/// cells of its allocation.
+pub fn vectors_are_cells()
+    ensures { VectorsAreCells }
 {}

@@ -2,7 +2,7 @@
 use Rattle.std.specs.Prelude.{ℕ, List, [], ◌∷◌, ◌++◌, map, codes, decimal}
 use Rattle.std.specs.Fmt.{signed_decimal}
 use Rattle.exo_tree.specs.Tree.{Cell, I8, I32}
-use Rattle.c_tree.specs.CTree.{Name, Element, Single, Vector, Number64, Literal, Named, StrideIn, Opposite, Sum, Difference, Product, Quotient, Remainder, Test, Always, Never, IsSet, Less, LessEqual, More, MoreEqual, Equal, Both, Either, CellRef, InArray, InWindow, Number32, Literal32, Read32, Opposite32, Relu32, Sum32, Difference32, Product32, Select32, Actual, Control64, Tested, Alone, Address, WindowOf, Piece, Plain, Filled, CStatement, Store, AddTo, SetField, Empty, Branch, Loop, Array, Malloc, Free, Bind, CallOf, Instruction, CBlock, stop, first, Formal, Number64Param, ArrayParam, WindowParamOf, CFunction, ReportLine, StructOf, CUnit}
+use Rattle.c_tree.specs.CTree.{Name, Element, Single, Vector, Number64, Literal, Named, StrideIn, Opposite, Sum, Difference, Product, Quotient, Remainder, Test, Always, Never, IsSet, Less, LessEqual, More, MoreEqual, Equal, Both, Either, CellRef, InArray, InWindow, Number32, Literal32, Read32, Opposite32, Relu32, Sum32, Difference32, Product32, Select32, Actual, Control64, Tested, Alone, Address, WindowOf, Piece, Plain, Filled, FirstCell, CStatement, Store, AddTo, SetField, Empty, Branch, Loop, Array, Malloc, Free, Bind, CallOf, Instruction, CBlock, stop, first, Formal, Number64Param, ArrayParam, WindowParamOf, CFunction, ReportLine, StructOf, CUnit}
 
 abbrev pub Text : Type 0
 Text = List ℕ
@@ -89,6 +89,7 @@ actual_text (WindowOf rank cell ref strides) = window_text rank cell ref strides
 abbrev pub piece_text : Piece → Text
 piece_text (Plain t) = t
 piece_text (Filled a) = actual_text a
+piece_text (FirstCell ref) = cell_text ref
 
 -- ---- statements
 

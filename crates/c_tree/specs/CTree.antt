@@ -50,6 +50,7 @@ pub data Actual : Type 0 where
 pub data Piece : Type 0 where
   Plain : List ℕ → Piece
   Filled : Actual → Piece
+  FirstCell : CellRef → Piece
 
 mutual
   pub data CStatement : Type 0 where

@@ -5,7 +5,7 @@ use Rattle.std.proofs.Common.{ap, arith}
 use base.Stored.{Gv, gnil, gnum, gcons, num}
 use Rattle.exo_tree.specs.CodeParts.{left, right}
 use Rattle.exo_tree.specs.Tree.{Cell, I8, I32}
-use Rattle.c_tree.specs.CTree.{Name, Element, Single, Vector, Number64, Literal, Named, StrideIn, Opposite, Sum, Difference, Product, Quotient, Remainder, Test, Always, Never, IsSet, Less, LessEqual, More, MoreEqual, Equal, Both, Either, CellRef, InArray, InWindow, Number32, Literal32, Read32, Opposite32, Relu32, Sum32, Difference32, Product32, Select32, Actual, Control64, Tested, Alone, Address, WindowOf, Piece, Plain, Filled, CStatement, Store, AddTo, SetField, Empty, Branch, Loop, Array, Malloc, Free, Bind, CallOf, Instruction, CBlock, stop, first}
+use Rattle.c_tree.specs.CTree.{Name, Element, Single, Vector, Number64, Literal, Named, StrideIn, Opposite, Sum, Difference, Product, Quotient, Remainder, Test, Always, Never, IsSet, Less, LessEqual, More, MoreEqual, Equal, Both, Either, CellRef, InArray, InWindow, Number32, Literal32, Read32, Opposite32, Relu32, Sum32, Difference32, Product32, Select32, Actual, Control64, Tested, Alone, Address, WindowOf, Piece, Plain, Filled, FirstCell, CStatement, Store, AddTo, SetField, Empty, Branch, Loop, Array, Malloc, Free, Bind, CallOf, Instruction, CBlock, stop, first}
 
 abbrev pub name_code : Coded Name
 name_code = coded_list coded_ℕ
@@ -216,10 +216,12 @@ actual_code = record { code = code_actual; inj = same_actual }
 abbrev pub code_piece : Piece → Gv
 code_piece (Plain a) = gcons (gnum 0) (name_code.code a)
 code_piece (Filled a) = gcons (gnum 1) (code_actual a)
+code_piece (FirstCell a) = gcons (gnum 2) (code_ref a)
 
 pub same_piece : (s t : Piece) → code_piece s ≡ code_piece t → s ≡ t
 same_piece (Plain a) (Plain a') p = ap Plain (name_code.inj a a' (ap (λ g. right g) p))
 same_piece (Filled a) (Filled a') p = ap Filled (same_actual a a' (ap (λ g. right g) p))
+same_piece (FirstCell a) (FirstCell a') p = ap FirstCell (same_ref a a' (ap (λ g. right g) p))
 same_piece _ _ p = let e = ap (λ g. num (left g)) p in absurd (omega arith)
 
 abbrev pub piece_code : Coded Piece

@@ -2,3 +2,5 @@ pub mod Magnitude
 pub mod Widths
 pub mod Bounds
 pub mod Laws
+pub mod Raises
+pub mod Few

@@ -1,0 +1,116 @@
+-- How many cells the elements of an allocation have.
+use Rattle.std.proofs.Common.{◌≡◌, ◌*◌, ◌^◌, ℕ, zero, suc, ℤ, pos, negsuc, ◌+ℤ◌, ◌*ℤ◌, ◌≤ℤ◌, true, ◌&&◌, cond, List, [], ◌∷◌, length, refl, sym, ap, ◌∙◌, subst, arith, true≢false, int_le}
+use Rattle.std.proofs.lemmas.Int.{ints}
+use Rattle.std.proofs.lemmas.Bool.{and_parts, and_from}
+use Rattle.exo_tree.specs.Tree.{Control, Lit}
+use Rattle.exo_meaning.specs.Scene.{Scene, numbers, number}
+use Rattle.exo_meaning.specs.Calls.{all_positive}
+use Rattle.exo_meaning.specs.Run.{product, row_major}
+use Rattle.exo_meaning.specs.Inputs.{IsBetween}
+use Rattle.exo_meaning.specs.Orders.{Each}
+use Rattle.c_widths.specs.Magnitude.{magnitude, fits, is_narrow}
+use Rattle.c_widths.specs.Widths.{fits_cells}
+use Rattle.c_lowered.specs.Lowered.{Forms, stack_count_from, front}
+use Rattle.c_follows.specs.Simulation.{EndsIn, dot, in_range}
+use Rattle.c_follows.specs.Good.{AreGood, AreLiterals, EndsInLanes}
+use Rattle.c_follows.proofs.Extents.{positive_product, right_factor, times_assoc, both_positive}
+use Rattle.c_follows.proofs.Offsets.{flat}
+
+-- ---- row-major strides
+
+part_small : (d p : ℤ) → int_le (pos 1) d ≡ true → int_le (pos 1) p ≡ true → (d *ℤ p) ≤ℤ pos (2 ^ 48) → (pos 0 ≤ℤ p) × (p ≤ℤ pos (2 ^ 48))
+part_small d p h k few = (from_0 p k, below p (d *ℤ p) (right_factor d p h k) few)
+  where
+    from_0 : (z : ℤ) → int_le (pos 1) z ≡ true → pos 0 ≤ℤ z
+    from_0 z e = grind (arith, ints)
+
+    below : (a b : ℤ) → a ≤ℤ b → b ≤ℤ pos (2 ^ 48) → a ≤ℤ pos (2 ^ 48)
+    below a b e f = omega (arith, ints)
+
+pub rows_small : (ds : List ℤ) → all_positive ds ≡ true → product ds ≤ℤ pos (2 ^ 48) → Each (IsBetween (pos 0) (pos (2 ^ 48))) (row_major ds)
+rows_small [] h l = tt
+rows_small (d ∷ ds) h l =
+    let p = and_parts (int_le (pos 1) d) (all_positive ds) h in
+    let small = part_small d (product ds) p.0 (positive_product ds p.1) l in
+    (small, rows_small ds p.1 small.1)
+
+pub row_ranks : (ds : List ℤ) → length (row_major ds) ≡ length ds
+row_ranks [] = refl
+row_ranks (d ∷ ds) = ap suc (row_ranks ds)
+
+pub row_inside : (at ds : List ℤ) (size : ℤ) → product ds ≡ size → in_range at ds ≡ true → ((pos 0 +ℤ dot at (row_major ds)) +ℤ pos 1) ≤ℤ size
+row_inside at ds size e r =
+    let f = flat at ds r in
+    subst (λ z. ((pos 0 +ℤ z) +ℤ pos 1) ≤ℤ size) (sym f.offset_is) (subst (λ z. ((pos 0 +ℤ pos f.offset) +ℤ pos 1) ≤ℤ z) (sym f.size_is ∙ e) (omega (arith, ints, f.below)))
+
+-- ---- vectors
+
+module _ (scene : Scene) where
+  pub ends_in : (lanes : ℕ) (ds : List Control) → EndsInLanes lanes ds → EndsIn lanes (numbers scene ds)
+  ends_in zero ds h = tt
+  ends_in (suc n) [] h = absurd h
+  ends_in (suc n) (d ∷ []) h = ap (number scene) h
+  ends_in (suc n) (d ∷ (e ∷ ds)) h = ends_in (suc n) (e ∷ ds) h
+
+  pub front_positive : (ds : List Control) → all_positive (numbers scene ds) ≡ true → all_positive (numbers scene (front ds)) ≡ true
+  front_positive [] h = refl
+  front_positive (d ∷ []) h = refl
+  front_positive (d ∷ (e ∷ ds)) h =
+      let p = and_parts (int_le (pos 1) (number scene d)) (all_positive (numbers scene (e ∷ ds))) h in
+      and_from (int_le (pos 1) (number scene d)) (all_positive (numbers scene (front (e ∷ ds)))) p.0 (front_positive (e ∷ ds) p.1)
+
+  -- vectors times lanes are cells
+  pub front_times : (n : ℕ) (ds : List Control) → EndsInLanes (suc n) ds → all_positive (numbers scene ds) ≡ true → (product (numbers scene (front ds)) *ℤ pos (suc n)) ≡ product (numbers scene ds)
+  front_times n [] h p = absurd h
+  front_times n (d ∷ []) h p = one_times (pos (suc n)) ∙ sym (ap (λ z. z *ℤ pos 1) (ap (number scene) h))
+    where
+      one_times : (z : ℤ) → pos 1 *ℤ z ≡ z *ℤ pos 1
+      one_times z = omega (arith, ints)
+  front_times n (d ∷ (e ∷ ds)) h p =
+      let parts = and_parts (int_le (pos 1) (number scene d)) (all_positive (numbers scene (e ∷ ds))) p in
+      times_assoc (number scene d) (product (numbers scene (front (e ∷ ds)))) (pos (suc n)) parts.0 (positive_product (numbers scene (front (e ∷ ds))) (front_positive (e ∷ ds) parts.1)) (one_most n)
+      ∙ ap (λ z. number scene d *ℤ z) (front_times n (e ∷ ds) h parts.1)
+    where
+      one_most : (k : ℕ) → int_le (pos 1) (pos (suc k)) ≡ true
+      one_most k = grind arith
+
+  -- ---- literals
+
+  fits_first : (most : ℕ → ℕ) (n : ℕ) (ds : List Control) → fits_cells most n ds ≡ true → fits n ≡ true
+  fits_first most n [] h = h
+  fits_first most n (d ∷ ds) h = (and_parts (fits n) (is_narrow most d) (and_parts (fits n && is_narrow most d) (fits_cells most (n * magnitude most d) ds) h).0).0
+
+  within : (n : ℕ) → fits n ≡ true → int_le (pos n) (pos 4611686018427387904) ≡ true
+  within n h = grind arith
+
+  abbrev Counts : (ℕ → ℕ) → ℕ → List Control → Control → Type 0
+  Counts most n ds c = all_positive (numbers scene (c ∷ ds)) ≡ true → fits_cells most n (c ∷ ds) ≡ true → stack_count_from (pos n) (c ∷ ds) ≡ pos n *ℤ product (numbers scene (c ∷ ds))
+
+  of_literal : (most : ℕ → ℕ) (n : ℕ) (ds : List Control) → int_le (pos 1) (pos n) ≡ true → ((k : ℕ) → int_le (pos 1) (pos (n * k)) ≡ true → all_positive (numbers scene ds) ≡ true → fits_cells most (n * k) ds ≡ true → stack_count_from (pos (n * k)) ds ≡ pos (n * k) *ℤ product (numbers scene ds)) → (z : ℤ) → Counts most n ds (Lit z)
+  of_literal most n ds one rest (negsuc k) q i = absurd (true≢false (sym (and_parts (int_le (pos 1) (negsuc k)) (all_positive (numbers scene ds)) q).0))
+  of_literal most n ds one rest (pos k) q i =
+      let parts = and_parts (int_le (pos 1) (pos k)) (all_positive (numbers scene ds)) q in
+      let later = (and_parts (fits n && is_narrow most (Lit (pos k))) (fits_cells most (n * k) ds) i).1 in
+      ap (λ t. cond t (stack_count_from (pos n *ℤ pos k) ds) (pos 0)) (within (n * k) (fits_first most (n * k) ds later))
+      ∙ rest k (both_positive (pos n) (pos k) one parts.0) parts.1 later
+      ∙ times_assoc (pos n) (pos k) (product (numbers scene ds)) one parts.0 (positive_product (numbers scene ds) parts.1)
+
+  pub count_is : (most : ℕ → ℕ) (n : ℕ) (ds : List Control) → AreLiterals ds → int_le (pos 1) (pos n) ≡ true → all_positive (numbers scene ds) ≡ true → fits_cells most n ds ≡ true → stack_count_from (pos n) ds ≡ pos n *ℤ product (numbers scene ds)
+  count_is most n [] h one p f = times_one (pos n)
+    where
+      times_one : (z : ℤ) → z ≡ z *ℤ pos 1
+      times_one z = omega (arith, ints)
+  count_is most n (d ∷ ds) h one p f = subst (Counts most n ds) (sym h.0.1) (of_literal most n ds one (λ k o q i. count_is most (n * k) ds h.1 o q i) h.0.0) p f
+
+-- what is asked of all dimensions is asked of all but the last
+pub front_good : (forms : Forms) (most : ℕ → ℕ) (ds : List Control) → AreGood forms most ds → AreGood forms most (front ds)
+front_good forms most [] h = h
+front_good forms most (d ∷ []) h = (tt, tt)
+front_good forms most (d ∷ (e ∷ ds)) h =
+    let rest = front_good forms most (e ∷ ds) (h.0.1, h.1.1) in
+    ((h.0.0, rest.0), (h.1.0, rest.1))
+
+pub front_literals : (ds : List Control) → AreLiterals ds → AreLiterals (front ds)
+front_literals [] h = tt
+front_literals (d ∷ []) h = tt
+front_literals (d ∷ (e ∷ ds)) h = (h.0, front_literals (e ∷ ds) h.1)

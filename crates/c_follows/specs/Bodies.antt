@@ -1,0 +1,43 @@
+-- What the templates of instructions are to do: what their bodies say, in place.
+use Rattle.std.specs.Prelude.{◌≡◌, ℕ, true, List, [], Option, Some, None, slice_get}
+use Rattle.exo_tree.specs.Tree.{Binder, Procedure, Program}
+use Rattle.c_names.specs.Words.{Name}
+use Rattle.c_names.specs.Binders.{c_names}
+use Rattle.exo_calls.specs.Tabled.{tabled}
+use Rattle.c_machine.specs.Machine.{Thing}
+use Rattle.c_machine.specs.CRun.{Behaviour, run_c, globals_of}
+use Rattle.c_lowered.specs.Lowered.{Routine, Naming, param_forms, block_of}
+use Rattle.c_lowered.specs.LoweredUnit.{Printing, memory_of, routine_of, naming_in, formals_of, counts, global_names, lowered}
+
+-- in place of a template
+abbrev pub as_template : Routine → Routine
+as_template r = record r { template = Some [] }
+
+-- inside an instruction there are plain cells alone, and each call is done in place, by its number
+abbrev pub plain_in : Program → List Binder → Naming
+plain_in program table = record (naming_in program table) {
+  memory = λ m. memory_of None;
+  routine = λ k. as_template (routine_of (slice_get program.procedures k));
+}
+
+-- what a body does among the names of a file, by what those above it do
+abbrev pub body_of : Program → List Name → (Name → Option Thing) → List Behaviour → Procedure → Behaviour
+body_of program names globals above p =
+    let naming = plain_in program (c_names names p) in
+    record {
+      formals = formals_of naming p.params;
+      run = run_c (record { globals = globals; functions = λ f. None; instructions = slice_get above }) (block_of naming (param_forms p.params) p.body);
+    }
+
+-- what the bodies of all procedures do, in place; by number
+abbrev pub bodies_of : Program → List Printing → List Behaviour
+bodies_of program what = tabled (body_of program (global_names program what) (globals_of (lowered program what))) [] program.procedures
+
+-- The template of each instruction that is called, directly or through others, does what its body says.
+abbrev pub TemplatesDoTheirBodies : Program → List Printing → (ℕ → Option Behaviour) → Type 0
+TemplatesDoTheirBodies program what templates =
+    (k : ℕ) (p : Procedure) (text : List ℕ)
+    → slice_get program.procedures k ≡ Some p
+    → p.template ≡ Some text
+    → counts program what k ≡ true
+    → templates k ≡ slice_get (bodies_of program what) k

@@ -1,0 +1,9 @@
+pub mod Magnitude
+pub mod Simulation
+pub mod Good
+pub mod Calls
+pub mod Bodies
+pub mod SameInput
+pub mod Units
+pub mod Functions
+pub mod Instance

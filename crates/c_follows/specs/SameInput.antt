@@ -1,0 +1,72 @@
+-- One input for a procedure and for its C.
+use Rattle.std.specs.Prelude.{◌≡◌, ◌^◌, ℕ, ℤ, pos, ◌+ℤ◌, ◌≤ℤ◌, nat_lt, true, List, [], ◌∷◌, length, Some, ⊤}
+use Rattle.exo_tree.specs.Tree.{Cell, Param, ParamKind, ControlParam, TensorParam, WindowParam}
+use Rattle.exo_meaning.specs.Scene.{Shape, numbers}
+use Rattle.exo_meaning.specs.State.{State}
+use Rattle.exo_meaning.specs.Run.{product, row_major}
+use Rattle.c_machine.specs.Machine.{Thing, IsNumber, IsArray, IsWindow, Object, Machine}
+use Rattle.c_follows.specs.Simulation.{Layout, dot, in_range}
+
+module _ (layout : Layout) (s : State) (m : Machine) where
+  -- a tensor is one object, row-major, with the same cells
+  pub record IsSameTensor (x : ℕ) (cell : Cell) (extents : List ℤ) (t : Thing) : Type 0 where
+    pub object : Object
+    pub thing : t ≡ IsArray (layout x)
+    pub begins : (layout x).offset ≡ pos 0
+    pub there : m.setting.objects (layout x).object ≡ Some object
+    pub below : nat_lt (layout x).object m.setting.free ≡ true
+    pub same_cell : object.cell ≡ cell
+    pub size : object.size ≡ product extents
+    pub contents :
+        (at : List ℤ)
+        → in_range at extents ≡ true
+        → m.contents (layout x).object (dot at (row_major extents)) ≡ s.cells x at
+
+  -- A window is a pointer into an object of at most 2 ^ 48 cells, and a stride for each dimension: each index lies in
+  -- the object, and different indices lie in different cells.
+  pub record IsSameWindow (x : ℕ) (cell : Cell) (extents : List ℤ) (t : Thing) : Type 0 where
+    pub shape : Shape
+    pub object : Object
+    pub buffer : s.scene.buffers x ≡ Some shape
+    pub thing : t ≡ IsWindow (layout x) shape.strides
+    pub there : m.setting.objects (layout x).object ≡ Some object
+    pub below : nat_lt (layout x).object m.setting.free ≡ true
+    pub same_cell : object.cell ≡ cell
+    pub few : object.size ≤ℤ pos (2 ^ 48)
+    pub ranks : length shape.strides ≡ length extents
+    pub above : pos 0 ≤ℤ (layout x).offset
+    pub inside :
+        (at : List ℤ)
+        → in_range at extents ≡ true
+        → (((layout x).offset +ℤ dot at shape.strides) +ℤ pos 1) ≤ℤ object.size
+    pub apart :
+        (at bt : List ℤ)
+        → in_range at extents ≡ true
+        → in_range bt extents ≡ true
+        → dot at shape.strides ≡ dot bt shape.strides
+        → at ≡ bt
+    pub contents :
+        (at : List ℤ)
+        → in_range at extents ≡ true
+        → m.contents (layout x).object ((layout x).offset +ℤ dot at shape.strides) ≡ s.cells x at
+
+  -- an argument is the same by what it is for
+  abbrev pub IsSame : ℕ → ParamKind → Thing → Type 0
+  IsSame x (ControlParam kind) t = t ≡ IsNumber (s.scene.control x)
+  IsSame x (TensorParam cell dims memory) t = IsSameTensor x cell (numbers s.scene dims) t
+  IsSame x (WindowParam cell dims memory) t = IsSameWindow x cell (numbers s.scene dims) t
+
+  abbrev pub AreSame : List Param → List Thing → Type 0
+  AreSame [] [] = ⊤
+  AreSame [] (t ∷ ts) = ⊥
+  AreSame (p ∷ ps) [] = ⊥
+  AreSame (p ∷ ps) (t ∷ ts) = IsSame p.binder.id p.kind t × AreSame ps ts
+
+-- different buffers have different objects
+abbrev pub AreSeparate : Layout → State → Type 0
+AreSeparate layout s =
+    (x y : ℕ) (shape other : Shape)
+    → s.scene.buffers x ≡ Some shape
+    → s.scene.buffers y ≡ Some other
+    → (layout x).object ≡ (layout y).object
+    → x ≡ y

@@ -1,0 +1,32 @@
+//! Laws of the C, each the contract of a function with nothing to do.
+
+ghost use Rattle.c_follows.specs.Calls.{BlocksWithoutCallsFollow};
+ghost use Rattle.c_follows.specs.Functions.{FunctionsWithoutCallsFollow};
+ghost use Rattle.c_follows.specs.Instance.{BlockInstance, CallInstance, RaisedInstance};
+
+/// The C of a block that calls nothing follows its run: with windows, views, and allocations of cells and of vectors on
+/// the heap and on the stack.
+pub fn blocks_without_calls_follow()
+    ensures { BlocksWithoutCallsFollow }
+{}
+
+/// From the same valid input a call of a function that calls nothing leaves what its procedure leaves: its arguments go by
+/// their parameters, of numbers, tensors and windows.
+pub fn functions_without_calls_follow()
+    ensures { FunctionsWithoutCallsFollow }
+{}
+
+/// A block meets what the law on blocks asks, and its C is done.
+pub fn block_instance()
+    ensures { BlockInstance }
+{}
+
+/// A call that hands on a column of a tensor meets what is asked of statements.
+pub fn call_instance()
+    ensures { CallInstance }
+{}
+
+/// A procedure may be too wide only by what another gives it.
+pub fn raised_instance()
+    ensures { RaisedInstance }
+{}

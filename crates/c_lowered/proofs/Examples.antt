@@ -1,0 +1,13 @@
+-- The closed texts compute.
+use Rattle.std.proofs.Common.{refl}
+use Rattle.std.specs.Fmt.{digits}
+use Rattle.c_names.specs.Words.{is_word}
+use Rattle.c_lowered.specs.Examples.{WindowsArePrinted, InstructionsArePrinted}
+
+pub windows_are_printed : WindowsArePrinted
+unfolding digits is_word
+windows_are_printed = record { as_argument = refl; as_view = refl }
+
+pub instructions_are_printed : InstructionsArePrinted
+unfolding digits is_word
+instructions_are_printed = record { includes = refl; lines = refl }

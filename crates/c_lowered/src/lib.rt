@@ -1,0 +1,4 @@
+//! The C of a program: what it is.
+#![tactic(auto)]
+
+pub mod laws;
