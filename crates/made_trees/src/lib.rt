@@ -1,0 +1,4 @@
+//! Trees that rewrites make: ids and names of their binders, and blocks that are left empty.
+#![tactic(auto)]
+
+pub mod laws;
