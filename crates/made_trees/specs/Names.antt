@@ -112,14 +112,13 @@ module _ (copies : ℕ) where
     name_statement top n (Reduce x is e) = n
     name_statement top n (Config f a) = n
     name_statement top n Pass = n
-    name_statement top n (If c a b) = name_block (name_block n a) b
-    name_statement top n (For i lo hi b) = closed n (name_block (with_binder top n i) b)
+    name_statement top n (If c a b) =
+        closed n (name_statements (top_names b) (closed n (name_statements (top_names a) n a)) b)
+    name_statement top n (For i lo hi b) =
+        closed n (name_statements (top_names b) (with_binder top n i) b)
     name_statement top n (Alloc x cell dims memory) = with_binder top n x
     name_statement top n (View w x coords) = with_binder top n w
     name_statement top n (Call k args) = n
-
-    pub name_block : Naming → Block → Naming
-    name_block n b = closed n (name_statements (top_names b) n b)
 
 -- a binder with the name that it is given
 abbrev pub named_by : List Binder → Binder → Binder
@@ -141,4 +140,4 @@ first_naming p =
 -- a new body of the procedure, with names for its copies, whose binders have ids from `copies` on
 abbrev pub named_copies : Procedure → ℕ → Block → Block
 named_copies p copies b =
-    mapped_block (with_names (name_block copies (first_naming p) b).given) b
+    mapped_block (with_names (name_statements copies (top_names copies b) (first_naming p) b).given) b

@@ -1,7 +1,7 @@
 -- What is found of a procedure that a rewrite made. The tests are those of the rules of well-formed
 -- units, each in its class; a name that is not in scope breaks no rule, and limits are of
 -- literals, ranks, expressions, paths, statements and ids.
-use Rattle.std.specs.Prelude.{◌^◌, ◌==◌, ◌+◌, ℕ, ℤ, pos, int_lt, nat_lt, Bool, not, ◌&&◌, ◌||◌}
+use Rattle.std.specs.Prelude.{◌^◌, ◌==◌, ◌+◌, ℕ, ℤ, pos, int_lt, nat_lt, Bool, true, false, not, ◌&&◌, ◌||◌}
 use Rattle.std.specs.Prelude.{List, [], ◌∷◌, length, Option, Some, None}
 use Rattle.std.specs.List.{list_all}
 use Rattle.exo_tree.specs.Tree.{Cell, Kind, Index, Binder, Control, Lit, Var, Field, StrideOf}
@@ -211,22 +211,19 @@ module _ (fields : ℕ → Option Kind) where
       findings_of_statement scope root Pass = fine
       findings_of_statement scope root (If c a b) =
           both (both (findings_of_condition with_fields scope c) (rule (not (is_empty a))))
-          (both (findings_of_branch scope root a) (findings_of_branch scope root b))
+          (both (both (limit (is_short a)) (findings_of_block scope root a))
+          (both (limit (is_short b)) (findings_of_block scope root b)))
       findings_of_statement scope root (For i lo hi b) =
           both (both (found_in_binder scope i) (rule (not (is_empty b))))
           (both (both (findings_of_control plainly scope lo) (findings_of_control plainly scope hi))
-          (findings_of_branch (with_name scope i (ControlName Index)) root b))
+          (both (limit (is_short b))
+          (findings_of_block (with_name scope i (ControlName Index)) root b)))
       findings_of_statement scope root (Alloc x cell dims memory) =
           findings_of_alloc scope x dims memory
       findings_of_statement scope root (View w x coords) =
           both (found_in_binder scope w)
           (both (findings_of_window scope x coords) (rule (nat_lt 0 (spans coords))))
       findings_of_statement scope root (Call k args) = findings_of_call scope root (callees k) args
-
-      -- a block inside another
-      pub findings_of_branch : Scope → (ℕ → ℕ) → Block → Findings
-      findings_of_branch scope root b =
-          both (limit (is_short b)) (findings_of_block scope root b)
 
 -- ---- procedures
 
@@ -239,8 +236,8 @@ module _ (fields : ℕ → Option Kind) (memories : ℕ) (callees : ℕ → Opti
   abbrev pub findings_in : Procedure → Block → Findings
   findings_in p b =
       both (both (rule (not (is_empty b))) (rule (are_distinct (bound_ids (record p { body = b })))))
-      (both (limit (is_small_body b))
-      (findings_of_branch fields memories callees (scope_of [] p.params) (λ x. x) b))
+      (both (limit (is_short b && is_small_body b))
+      (findings_of_block fields memories callees (scope_of [] p.params) (λ x. x) b))
 
 -- of such a body of a procedure of the unit; each procedure of the unit may be called
 abbrev pub findings_of_body : Program → Procedure → Block → Findings
