@@ -1,4 +1,3 @@
 pub mod Ids
 pub mod Passes
 pub mod Names
-pub mod Laws

@@ -1,6 +1,6 @@
 // What names of copies keep, each law the contract of a function with nothing to do.
 
-ghost use Rattle.made_trees.specs.Laws.{NamesAlone, IdsStay, NamedCopiesRunAlike};
+ghost use Rattle.made_trees_laws.specs.Laws.{NamesAlone, IdsStay, NamedCopiesRunAlike};
 
 /// Names for copies change nothing but the names of binders.
 pub fn names_of_copies_are_names_alone()
