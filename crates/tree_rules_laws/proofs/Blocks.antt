@@ -39,8 +39,8 @@ module _ (fields : ℕ → Option Kind) (memories : ℕ) (callees : ℕ → Opti
   behind scope root (For i lo hi b) h = refl
   behind scope root (Alloc x cell dims memory) h = refl
   behind scope root (View w x coords) h =
-      let p = split (found_in_binder scope w) _ h in
-      let q = split (findings_of_window fields scope x coords) _ p.1 in
+      let p = split (found_in_binder scope w) (both (findings_of_window fields scope x coords) (rule (nat_lt 0 (spans coords)))) h in
+      let q = split (findings_of_window fields scope x coords) (rule (nat_lt 0 (spans coords))) p.1 in
       let r = split (use_of (has_rank (length coords)) (sort_in scope x)) (all_of (findings_of_coord fields scope) coords) q.0 in
       view_known (has_rank (length coords)) w (sort_in scope x) (spans coords) scope r.0
   behind scope root (Call k args) h = refl
@@ -140,8 +140,9 @@ module _ (fields : ℕ → Option Kind) (memories : ℕ) (callees : ℕ → Opti
         let m = and_parts (both (findings_of_condition fields with_fields scope c) (rule (not (is_empty a)))).names
             (both (both (limit (is_short a)) (found scope root a)) (both (limit (is_short b)) (found scope root b))).names n in
         let k = and_parts (found scope root a).names (found scope root b).names m.1 in
-        let u = and_parts (is_condition fields with_fields scope c) _ o in
-        let v = and_parts (not (is_empty a) && (is_short a && is_short b)) _ u.1 in
+        let blocks = obeys fields memories callees scope root a && obeys fields memories callees scope root b in
+        let u = and_parts (is_condition fields with_fields scope c) ((not (is_empty a) && (is_short a && is_short b)) && blocks) o in
+        let v = and_parts (not (is_empty a) && (is_short a && is_short b)) blocks u.1 in
         let w = and_parts (obeys fields memories callees scope root a) (obeys fields memories callees scope root b) v.1 in
         let one = block_is scope root a s.1 k.0 w.0 in
         let two = block_is scope root b t.1 k.1 w.1 in
@@ -158,7 +159,7 @@ module _ (fields : ℕ → Option Kind) (memories : ℕ) (callees : ℕ → Opti
             (both (both (findings_of_control fields plainly scope lo) (findings_of_control fields plainly scope hi)) (both (limit (is_short b)) (found inside root b))).names n in
         let fresh : is_new scope x ≡ true = (and_parts (is_new scope x) true m.0).0 in
         let k = and_parts (both (findings_of_control fields plainly scope lo) (findings_of_control fields plainly scope hi)).names (found inside root b).names m.1 in
-        let u = and_parts (is_control fields plainly scope lo && is_control fields plainly scope hi) _ o in
+        let u = and_parts (is_control fields plainly scope lo && is_control fields plainly scope hi) ((not (is_empty b) && is_short b) && obeys fields memories callees inside root b) o in
         let v = and_parts (not (is_empty b) && is_short b) (obeys fields memories callees inside root b) u.1 in
         let body = block_is inside root b t.1 k.1 v.1 in
         let bounds = u.0 in

@@ -1,5 +1,5 @@
 -- Expressions, windows and arguments in which nothing but names is found.
-use Rattle.std.proofs.Common.{◌≡◌, ◌==◌, ℕ, Bool, true, false, not, ◌&&◌, ◌||◌, List, [], ◌∷◌, length, Option, Some, None, refl, sym, ap, ◌∙◌, true≢false}
+use Rattle.std.proofs.Common.{◌≡◌, ◌==◌, ℕ, ℤ, pos, int_lt, nat_lt, Bool, true, false, not, ◌&&◌, ◌||◌, List, [], ◌∷◌, length, Option, Some, None, refl, sym, ap, ◌∙◌, true≢false}
 use Rattle.std.specs.List.{list_all}
 use Rattle.exo_tree.specs.Tree.{Cell, Kind, Control, Lit, Var, Field, StrideOf, Neg, Add, Sub, Mul, Div, Mod}
 use Rattle.exo_tree.specs.Tree.{Condition, True, False, Flag, FieldFlag, Lt, Le, Gt, Ge, Eq, And, Or}
@@ -11,7 +11,7 @@ use Rattle.exo_meaning.specs.Units.{Scope, sort_in, Reads, plainly, with_strides
 use Rattle.exo_meaning.specs.Units.{is_number, is_flag, has_rank, has_dimension, has_cell, is_dense, spans}
 use Rattle.exo_meaning.specs.Units.{is_control, are_controls, is_condition, is_access, is_datum, is_coord}
 use Rattle.exo_meaning.specs.Units.{is_window, is_of_kind, is_for_tensor, is_for_window, is_for, are_for}
-use Rattle.exo_meaning.specs.Units.{is_call, is_write, share_nothing_written}
+use Rattle.exo_meaning.specs.Units.{is_literal_number, is_of_literals, is_call, is_write, share_nothing_written}
 use Rattle.tree_rules.specs.declared.findings.Findings.{Findings}
 use Rattle.tree_rules.specs.Classes.{both, all_of, rule, limit, use_of}
 use Rattle.tree_rules.specs.Sizes.{is_small_control, is_small_condition, is_small_datum, deepest_coord}
@@ -49,7 +49,7 @@ module _ (fields : ℕ → Option Kind) where
         let y = inside b p.1 in
         λ i. x i && y i
     inside (Mul a b) h =
-        let q = split (both (found a) (found b)) _ h in
+        let q = split (both (found a) (found b)) (rule (is_of_literals a || is_of_literals b)) h in
         let p = split (found a) (found b) q.0 in
         let x = inside a p.0 in
         let y = inside b p.1 in
@@ -57,14 +57,14 @@ module _ (fields : ℕ → Option Kind) where
         λ i. (x i && y i) && z i
     inside (Div a c) h =
         let q = split (found a) (found_in_divisor c) h in
-        let p = split _ _ q.1 in
+        let p = split (limit (is_literal_number c)) (rule (int_lt (pos 0) c)) q.1 in
         let x = inside a q.0 in
         let y = p.0.limits in
         let z = p.1.rules in
         λ i. x i && (y i && z i)
     inside (Mod a c) h =
         let q = split (found a) (found_in_divisor c) h in
-        let p = split _ _ q.1 in
+        let p = split (limit (is_literal_number c)) (rule (int_lt (pos 0) c)) q.1 in
         let x = inside a q.0 in
         let y = p.0.limits in
         let z = p.1.rules in
@@ -182,9 +182,11 @@ module _ (fields : ℕ → Option Kind) where
     for_tensor cell rank (ConditionArg c) h = h.rules
     for_tensor cell rank (Whole x) h = use_is (λ s. has_cell cell s && (has_rank rank s && ((rank == 0) || is_dense s))) (sort_in scope x) h
     for_tensor cell rank (Window x coords) h =
-        let p = split (both (use_of (has_cell cell) (sort_in scope x)) (findings_of_window fields scope x coords)) _ h in
+        let alone = rule ((rank == 0) && ((spans coords == 0) && not (length coords == 0))) in
+        let shallow = limit (nat_lt (deepest_coord coords) 64) in
+        let p = split (both (use_of (has_cell cell) (sort_in scope x)) (findings_of_window fields scope x coords)) (both alone shallow) h in
         let q = split (use_of (has_cell cell) (sort_in scope x)) (findings_of_window fields scope x coords) p.0 in
-        let r = split _ _ p.1 in
+        let r = split alone shallow p.1 in
         let a = use_is (has_cell cell) (sort_in scope x) q.0 in
         let b = window x coords q.1 in
         let c = r.0.rules in
@@ -195,7 +197,7 @@ module _ (fields : ℕ → Option Kind) where
     for_window cell rank (ConditionArg c) h = h.rules
     for_window cell rank (Whole x) h = use_is (λ s. has_cell cell s && has_rank rank s) (sort_in scope x) h
     for_window cell rank (Window x coords) h =
-        let p = split (both (use_of (has_cell cell) (sort_in scope x)) (findings_of_window fields scope x coords)) _ h in
+        let p = split (both (use_of (has_cell cell) (sort_in scope x)) (findings_of_window fields scope x coords)) (rule (rank == spans coords)) h in
         let q = split (use_of (has_cell cell) (sort_in scope x)) (findings_of_window fields scope x coords) p.0 in
         let a = use_is (has_cell cell) (sort_in scope x) q.0 in
         let b = window x coords q.1 in

@@ -31,8 +31,8 @@ found_is_procedure unit k base p q is there head kept room =
     let callees = (program_world unit).callees in
     let scope = scope_of [] q.params in
     let inside = findings_of_block fields (length unit.memories) callees scope (λ x. x) q.body in
-    let all = kept_parts (both (findings_of_body unit q q.body) (limit (list_all (λ x. nat_lt x (base + 65536)) (bound_ids q)))) kept in
-    let parts = split (findings_of_body unit q q.body) (limit (list_all (λ x. nat_lt x (base + 65536)) (bound_ids q))) all.0 in
+    let all = kept_parts (both (findings_of_body unit q.params q.body) (limit (list_all (λ x. nat_lt x (base + 65536)) (bound_ids q)))) kept in
+    let parts = split (findings_of_body unit q.params q.body) (limit (list_all (λ x. nat_lt x (base + 65536)) (bound_ids q))) all.0 in
     let body = split (both (rule (not (is_empty q.body))) (rule (are_distinct (bound_ids q))))
         (both (limit (is_short q.body && is_small_body q.body)) inside) parts.0 in
     let head_parts = split (rule (not (is_empty q.body))) (rule (are_distinct (bound_ids q))) body.0 in
