@@ -2,7 +2,7 @@
 -- units, each in its class; a name that is not in scope breaks no rule, and limits are of
 -- literals, ranks, expressions, paths, statements and ids.
 use Rattle.std.specs.Prelude.{◌^◌, ◌==◌, ◌+◌, ℕ, ℤ, pos, int_lt, nat_lt, Bool, true, false, not, ◌&&◌, ◌||◌}
-use Rattle.std.specs.Prelude.{List, [], ◌∷◌, length, Option, Some, None}
+use Rattle.std.specs.Prelude.{List, [], ◌∷◌, ◌++◌, length, map, Option, Some, None}
 use Rattle.std.specs.List.{list_all}
 use Rattle.exo_tree.specs.Tree.{Cell, Kind, Index, Binder, Control, Lit, Var, Field, StrideOf}
 use Rattle.exo_tree.specs.Tree.{Neg, Add, Sub, Mul, Div, Mod, Condition, True, False, Flag, FieldFlag}
@@ -13,6 +13,7 @@ use Rattle.exo_tree.specs.Tree.{Statement, Assign, Reduce, Config, Pass, If, For
 use Rattle.exo_tree.specs.Tree.{Block, end, next, Param, ParamKind, ControlParam, TensorParam}
 use Rattle.exo_tree.specs.Tree.{WindowParam, Procedure, Program}
 use Rattle.exo_tree.specs.Nodes.{nodes_in}
+use Rattle.exo_meaning.specs.Binders.{binders}
 use Rattle.exo_meaning.specs.Calls.{Callee}
 use Rattle.exo_meaning.specs.Run.{roots_after, program_world}
 use Rattle.exo_meaning.specs.Units.{Sort, ControlName, BufferName, Scope, sort_in, is_new, with_name}
@@ -231,21 +232,21 @@ module _ (fields : ℕ → Option Kind) where
 abbrev pub is_small_body : Block → Bool
 is_small_body b = nat_lt (levels b) 33 && nat_lt (nodes_in b) 65537
 
--- of such a body of a procedure
+-- of a body under these parameters
 module _ (fields : ℕ → Option Kind) (memories : ℕ) (callees : ℕ → Option Callee) where
-  abbrev pub findings_in : Procedure → Block → Findings
-  findings_in p b =
-      both (both (rule (not (is_empty b))) (rule (are_distinct (bound_ids (record p { body = b })))))
+  abbrev pub findings_under : List Param → Block → Findings
+  findings_under ps b =
+      both (both (rule (not (is_empty b))) (rule (are_distinct (map (λ q. q.binder.id) ps ++ binders b))))
       (both (limit (is_short b && is_small_body b))
-      (findings_of_block fields memories callees (scope_of [] p.params) (λ x. x) b))
+      (findings_of_block fields memories callees (scope_of [] ps) (λ x. x) b))
 
--- of such a body of a procedure of the unit; each procedure of the unit may be called
-abbrev pub findings_of_body : Program → Procedure → Block → Findings
-findings_of_body unit p b =
-    findings_in (field_kind unit.fields) (length unit.memories) (program_world unit).callees p b
+-- of a body under parameters of a procedure of the unit; each procedure of the unit may be called
+abbrev pub findings_of_body : Program → List Param → Block → Findings
+findings_of_body unit ps b =
+    findings_under (field_kind unit.fields) (length unit.memories) (program_world unit).callees ps b
 
 -- of a procedure with the parameters of one of the unit: its ids from `base` on are few
 abbrev pub findings_of_version : Program → ℕ → Procedure → Findings
 findings_of_version unit base q =
-    both (findings_of_body unit q q.body)
+    both (findings_of_body unit q.params q.body)
     (limit (list_all (λ x. nat_lt x (base + 65536)) (bound_ids q)))
