@@ -1,0 +1,5 @@
+pub mod Exchange
+pub mod Commute
+pub mod Rename
+pub mod Passes
+pub mod Examples
