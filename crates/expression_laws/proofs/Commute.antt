@@ -1,6 +1,6 @@
 -- The rule that exchanges sides is lawful.
 use Rattle.std.proofs.Common.{◌≡◌, ℕ, ◌+ℤ◌, Bool, true, false, List, Option, Some, None, option_map, refl}
-use Rattle.std.proofs.Common.{sym, ap, ◌∙◌, if◌then◌else◌}
+use Rattle.std.proofs.Common.{sym, ap, ◌∙◌, subst, if◌then◌else◌}
 use Rattle.std.specs.Prelude.{nat_lt, option_and_then}
 use Rattle.exo_tree.specs.Tree.{Control, Datum, Statement, Assign, Reduce, Config, Pass, If, For}
 use Rattle.exo_tree.specs.Tree.{Alloc, View, Call, Block, end, next}
@@ -9,9 +9,12 @@ use Rattle.exo_meaning.specs.Value.{Value, on_two}
 use Rattle.exo_meaning.specs.State.{State, value, place, put}
 use Rattle.exo_meaning.specs.Run.{World, run, step}
 use Rattle.cursor_patterns.specs.Patterns.{ExprForm, ExprPattern}
-use Rattle.step_rules.specs.Lawful.{old, world_of, same, IsLawful}
+use Rattle.made_trees.specs.Passes.{or_pass}
+use Rattle.cursor_forward.specs.Shifts.{stays}
+use Rattle.cursor_forward.specs.Forwards.{bone, Carries}
+use Rattle.step_rules.specs.Lawful.{around, old, world_of, same, IsLawful, IsCarrying}
 use Rattle.step_rules.specs.Shapes.{alone_in}
-use Rattle.step_rules.proofs.Shapes.{made_of, alone_is}
+use Rattle.step_rules.proofs.Shapes.{made_of, alone_is, one_stays}
 use Rattle.expression_laws.specs.Exchange.{Operation, matches, exchanged}
 use Rattle.expression_laws.specs.Commute.{operation_of, commuted_by, commuted, commuted_statement}
 use Rattle.expression_laws.specs.Commute.{commuted_alone, commute_rule}
@@ -69,11 +72,37 @@ commuted_step world x s (Call k args) b h = cc
 
 pub commute_is_lawful : (x : ExprPattern) → IsLawful (commute_rule x)
 commute_is_lawful x = record {
-  replaces = λ a is. same (λ first u good come stands.
+  replaces = λ a is met. same (λ first u good come stands.
       let d = made_of (commuted_alone x (old a.spot)) (λ b. next b end) a.draft is.drafted in
       let found = both_found (alone_in (old a.spot)) (commuted_statement x) d.of d.found in
       ap (λ b. run (world_of a.spot) b u) (alone_is (old a.spot) found.0 found.1)
       ∙ ap (λ o. then_do o (run (world_of a.spot) end))
       (commuted_step (world_of a.spot) x u found.0 d.of found.2)
       ∙ ap (λ b. run (world_of a.spot) b u) d.made);
+}
+
+-- ---- the statement stays
+
+commuted_bone : (x : ExprPattern) (a b : Statement) → commuted_statement x a ≡ Some b
+    → bone a ≡ bone b
+commuted_bone x (Assign y is e) b h = ap bone (image_of (Assign y is) (commuted x e) b h).2
+commuted_bone x (Reduce y is e) b h = ap bone (image_of (Reduce y is) (commuted x e) b h).2
+commuted_bone x (Config f a) b h = cc
+commuted_bone x Pass b h = cc
+commuted_bone x (If c a d) b h = cc
+commuted_bone x (For i lo hi d) b h = cc
+commuted_bone x (Alloc y cell dims memory) b h = cc
+commuted_bone x (View y z coords) b h = cc
+commuted_bone x (Call k args) b h = cc
+
+pub commute_is_carrying : (x : ExprPattern) → IsCarrying (commute_rule x)
+commute_is_carrying x = record {
+  carries = λ a is.
+      let d = made_of (commuted_alone x (old a.spot)) (λ b. next b end) a.draft is.drafted in
+      let found = both_found (alone_in (old a.spot)) (commuted_statement x) d.of d.found in
+      subst (λ b. Carries (stays 1) b (or_pass (around a.spot) a.draft))
+      (sym (alone_is (old a.spot) found.0 found.1))
+      (subst (λ b. Carries (stays 1) (next found.0 end) (or_pass (around a.spot) b)) d.made
+      (one_stays (around a.spot) found.0 d.of (commuted_bone x found.0 d.of found.2)));
+  apart = λ s. refl;
 }

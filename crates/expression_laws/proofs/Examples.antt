@@ -12,17 +12,20 @@ use Rattle.cursor_patterns.specs.Patterns as pattern
 use Rattle.cursor_patterns.specs.Patterns.{ExprPattern}
 use Rattle.cursor_forward.specs.Causes.{WrongShape}
 use Rattle.cursor_forward.specs.Cursors.{Before}
-use Rattle.cursor_forward.specs.Shifts.{Shift, at_index, stays, edits_of, alone}
+use Rattle.tree_rules_laws.specs.Versions.{with_version}
+use Rattle.cursor_forward.specs.Forwards.{Forwards}
+use Rattle.cursor_forward.specs.Shifts.{Shift, at_index, stays, edits_of, alone, move_of}
 use Rattle.cursor_forward.specs.Proposals.{Plan}
 use Rattle.step_rules.specs.Rule.{Got, Not, Target}
 use Rattle.step_rules.specs.Owing.{AreShown}
 use Rattle.step_rules.specs.Answer.{proposed}
 use Rattle.step_rules.specs.Lawful.{IsTarget}
-use Rattle.step_rules.specs.Laws.{MeaningLaw}
+use Rattle.step_rules.specs.Laws.{MeaningLaw, ForwardsLaw}
+use Rattle.step_rules.proofs.Meaning.{proposals_are_kept}
 use Rattle.expression_laws.specs.Commute.{commute_rule}
 use Rattle.expression_laws.specs.Rename.{rename_rule}
 use Rattle.expression_laws.specs.Passes.{delete_pass_rule}
-use Rattle.expression_laws.proofs.Commute.{commute_is_lawful}
+use Rattle.expression_laws.proofs.Commute.{commute_is_lawful, commute_is_carrying}
 
 -- x: i32[4] and y: i32[4]
 abbrev buffer : ℕ → ℕ → Param
@@ -125,6 +128,17 @@ sides_are_alike law =
     law (commute_rule sum) (target_of adds) (at_index 0)
     (planned (of_body adds_in_turn) 1 1 (stays 1)) (commute_is_lawful sum) is_target sides_change
     none_owed
+
+pub version_is_kept : IsUnit (with_version (unit_of adds) (of_body adds_in_turn))
+version_is_kept =
+    proposals_are_kept (commute_rule sum) (target_of adds) (at_index 0)
+    (planned (of_body adds_in_turn) 1 1 (stays 1)) is_target refl sides_change
+
+pub statement_stays : ForwardsLaw
+    → Forwards (move_of (edits_of (at_index 0) 1 1 (stays 1))) (of_body adds) (of_body adds_in_turn)
+statement_stays law =
+    law (commute_rule sum) (target_of adds) (at_index 0)
+    (planned (of_body adds_in_turn) 1 1 (stays 1)) (commute_is_carrying sum) is_target sides_change
 
 pub named_otherwise : proposed (rename_rule (103 ∷ [])) (target_of adds) []
     ≡ Got (planned (record (of_body adds) { name = 103 ∷ [] }) 0 0 [])

@@ -5,7 +5,7 @@ use Rattle.exo_tree.specs.Places.{Opened, opened}
 use Rattle.exo_meaning.specs.Run.{run}
 use Rattle.cursor_forward.specs.Shifts.{at_index}
 use Rattle.step_rules.specs.Rule.{Got, Piece}
-use Rattle.step_rules.specs.Lawful.{old, world_of, same, IsLawful}
+use Rattle.step_rules.specs.Lawful.{old, world_of, same, IsLawful, IsCarrying}
 use Rattle.expression_laws.specs.Rename.{rename_rule}
 
 nothing_opened : (body : Block) (o : Opened) → opened 0 (at_index 0) body ≡ Some o → end ≡ o.piece
@@ -22,9 +22,12 @@ same_block h = cc
 
 pub rename_is_lawful : (name : List ℕ) → IsLawful (rename_rule name)
 rename_is_lawful name = record {
-  replaces = λ a is. same (λ first u good come stands.
+  replaces = λ a is met. same (λ first u good come stands.
       let none = nothing_opened a.spot.target.proc.body a.spot.opened
       (subst (λ (p : Piece). opened p.count p.path a.spot.target.proc.body ≡ Some a.spot.opened)
       (sym (same_piece is.chosen)) is.spot.opens) in
       ap (λ b. run (world_of a.spot) b u) (sym none ∙ same_block is.drafted));
 }
+
+pub rename_is_carrying : (name : List ℕ) → IsCarrying (rename_rule name)
+rename_is_carrying name = record { carries = λ a is. tt; apart = λ s. refl }

@@ -1,7 +1,7 @@
 //! Each rule keeps the meaning.
 ghost use Rattle.std.specs.Prelude.{ℕ, List};
 ghost use Rattle.cursor_patterns.specs.Patterns.{ExprPattern};
-ghost use Rattle.step_rules.specs.Lawful.{IsLawful};
+ghost use Rattle.step_rules.specs.Lawful.{IsLawful, IsCarrying};
 ghost use Rattle.expression_laws.specs.Commute.{commute_rule};
 ghost use Rattle.expression_laws.specs.Passes.{delete_pass_rule};
 ghost use Rattle.expression_laws.specs.Rename.{rename_rule};
@@ -19,4 +19,14 @@ pub fn names_are_lawful()
 /// Each `pass` that is not alone in its block may go.
 pub fn deleted_passes_are_lawful()
     ensures { IsLawful delete_pass_rule }
+{}
+
+/// The statement whose sides change places stays where it is.
+pub fn exchanges_carry()
+    ensures { (x : ExprPattern) → IsCarrying (commute_rule x) }
+{}
+
+/// Under another name each statement stays where it is.
+pub fn names_carry()
+    ensures { (name : List ℕ) → IsCarrying (rename_rule name) }
 {}

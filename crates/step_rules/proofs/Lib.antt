@@ -4,4 +4,5 @@ pub mod Found
 pub mod Formed
 pub mod Shown
 pub mod Proposals
+pub mod SameKinds
 pub mod Meaning

@@ -1,7 +1,7 @@
 -- What a lawful rule proposes refines the procedure, where what it owes is shown.
 use Rattle.std.proofs.Common.{◌≡◌, ◌≤◌, ◌+◌, ◌^◌, ◌&&◌, ℕ, suc, max, true, not, List, [], ◌∷◌, ◌++◌}
 use Rattle.std.proofs.Common.{map, refl}
-use Rattle.std.proofs.Common.{sym, ap, ap₂, subst, arith, lt-ltb}
+use Rattle.std.proofs.Common.{sym, ap, ap₂, ◌∙◌, subst, arith, lt-ltb}
 use Rattle.std.specs.Prelude.{nat_le, nat_lt, length}
 use Rattle.std.specs.List.{list_all}
 use Rattle.exo_tree.specs.Tree.{Block, Procedure}
@@ -25,17 +25,21 @@ use Rattle.tree_rules_laws.proofs.Versions.{procedure_law}
 use Rattle.tree_rules_laws.proofs.Kept.{found_is_procedure, kept_law}
 use Rattle.made_trees.specs.Ids.{above_all, next_id}
 use Rattle.made_trees_laws.specs.Laws.{NamesAlone}
+use Rattle.cursor_forward.specs.Forwards.{Forwards, MovesLaw}
+use Rattle.cursor_forward.specs.Shifts.{move_of}
 use Rattle.cursor_forward.specs.Proposals.{Plan}
 use Rattle.step_rules.specs.Rule.{Target, Spot, Rule}
 use Rattle.step_rules.specs.Owing.{AreShown, findings_of_needs}
 use Rattle.step_rules.specs.Answer.{body_with, result, plan, spot, proposed}
 use Rattle.step_rules.specs.Lawful.{IsMet, IsTarget, callees_for, MayRunIn, IsSpot, Site, IsSite}
-use Rattle.step_rules.specs.Lawful.{around, old, world_of, with_body, IsLawful, fields_at_exit}
+use Rattle.step_rules.specs.Lawful.{around, old, world_of, with_body, IsLawful, IsCarrying}
+use Rattle.step_rules.specs.Lawful.{fields_at_exit}
 use Rattle.step_rules.specs.Lawful.{differ_at_end, found_scope_at, IsFormedHere}
-use Rattle.step_rules.specs.Laws.{NeedsHold, KeptLaw, MeaningLaw}
+use Rattle.step_rules.specs.Laws.{NeedsHold, KeptLaw, MeaningLaw, ForwardsLaw}
 use Rattle.step_rules.proofs.Found.{both_kept}
 use Rattle.step_rules.proofs.Formed.{shape_parts, formed_at, passed_formed}
 use Rattle.step_rules.proofs.Proposals.{IsAnswer, IsProposal, proposal_of}
+use Rattle.step_rules.proofs.SameKinds.{kinds_by_names}
 use Rattle.step_rules.proofs.Replaced.{replaced_refines, written_otherwise}
 
 -- ---- ids
@@ -69,8 +73,8 @@ versions_run t is base b low found = record {
       (record { params = refl; asserts = refl; template = refl }) found low;
 }
 
-module _ (names : NamesAlone) (needs_hold : NeedsHold) (r : Rule) (t : Target) (at : Path) (m : Plan) (is : IsTarget t)
-    (p : IsProposal r t at m) (shown : AreShown m.must) where
+module _ (names : NamesAlone) (r : Rule) (t : Target) (at : Path) (m : Plan) (is : IsTarget t)
+    (p : IsProposal r t at m) where
   abbrev here : Spot
   here = spot t p.piece p.o
 
@@ -111,8 +115,8 @@ module _ (names : NamesAlone) (needs_hold : NeedsHold) (r : Rule) (t : Target) (
   all_fine = both_kept (findings_of_version t.unit base made) (findings_of_needs t (r.needs here))
       p.answer.kept
 
-  met : Each (IsMet t) (r.needs here)
-  met =
+  met : NeedsHold → AreShown m.must → Each (IsMet t) (r.needs here)
+  met needs_hold shown =
       needs_hold t (r.needs here) p.answer.must runs all_fine.1 p.answer.owes
       (subst AreShown (sym (ap (λ (n : Plan). n.must) p.answer.is)) shown)
 
@@ -144,27 +148,48 @@ module _ (names : NamesAlone) (needs_hold : NeedsHold) (r : Rule) (t : Target) (
     made = p.answer.made;
     drafted = p.answer.drafted;
     allowed = p.answer.allowed;
-    met = met;
     formed = formed;
     named = names t.proc (base + r.named) (body_with here p.answer.draft);
     runs = versions_run t is base made.body is.ids all_fine.0;
   }
 
   -- the procedure is refined by the result
-  pub refined : IsLawful r
+  refined : NeedsHold → AreShown m.must → IsLawful r
       → Refines (world_of here) t.proc made (fields_at_exit r site)
-  refined lawful =
+  refined needs_hold shown lawful =
       written_otherwise (world_of here) t.proc (with_body here made.body) made.name made.body
       (fields_at_exit r site) refl
       (replaced_refines here p.answer.draft made.body (fields_at_exit r site) is_spot
-      is_site.named (lawful.replaces site is_site))
+      is_site.named (lawful.replaces site is_site (met needs_hold shown)))
+
+  -- and its statements go to others of their kinds
+  forwarded : MovesLaw → IsCarrying r
+      → Forwards (move_of (plan r here base p.answer.draft p.answer.must).edits) t.proc made
+  forwarded moves carrying =
+      let new = or_pass (around here) p.answer.draft in
+      let whole = with_body here (fill (around here) new) in
+      let edits = (plan r here base p.answer.draft p.answer.must).edits in
+      let there = moves t.proc whole edits p.o new p.opens refl refl
+      (carrying.carries site is_site) (carrying.apart here) in
+      record {
+        apart = there.apart;
+        images = λ path to a stands goes.
+            kinds_by_names to made.body (fill (around here) new) is_site.named
+            ∙ there.images path to a stands goes;
+      }
 
 pub meaning_is_kept : NamesAlone → NeedsHold → MeaningLaw
 meaning_is_kept names needs_hold r t at m lawful is h shown =
     let p = proposal_of r t at m h in
     subst (λ (n : Plan). Refines (program_world t.unit) t.proc n.proc
     (differ_at_end t n.proc.body n.place n.side n.fields)) p.answer.is
-    (refined names needs_hold r t at m is p shown lawful)
+    (refined names r t at m is p needs_hold shown lawful)
+
+pub statements_go : NamesAlone → MovesLaw → ForwardsLaw
+statements_go names moves r t at m carrying is h =
+    let p = proposal_of r t at m h in
+    subst (λ (n : Plan). Forwards (move_of n.edits) t.proc n.proc) p.answer.is
+    (forwarded names r t at m is p moves carrying)
 
 pub proposals_are_kept : KeptLaw
 proposals_are_kept r t at m is room h =

@@ -1,6 +1,11 @@
 -- What is known where a shape is found.
-use Rattle.std.proofs.Common.{◌≡◌, Option, Some, None, refl, ap}
-use Rattle.exo_tree.specs.Tree.{Statement, Block, end, next}
+use Rattle.std.proofs.Common.{◌≡◌, Bool, true, false, ◌&&◌, Option, Some, None, refl, sym, ap}
+use Rattle.std.proofs.Common.{subst, if◌then◌else◌}
+use Rattle.exo_tree.specs.Tree.{Statement, Pass, Block, end, next}
+use Rattle.exo_tree.specs.Context.{Context, Here}
+use Rattle.made_trees.specs.Passes.{or_pass, is_alone}
+use Rattle.cursor_forward.specs.Forwards.{bone, more, none, Carries}
+use Rattle.cursor_forward.specs.Shifts.{stays}
 use Rattle.step_rules.specs.Rule.{Tried, Got}
 use Rattle.step_rules.specs.Shapes.{tried, alone_in}
 
@@ -19,3 +24,27 @@ pub alone_is : (b : Block) (a : Statement) → alone_in b ≡ Some a → b ≡ n
 alone_is end a h = cc
 alone_is (next b end) a h = cc
 alone_is (next b (next c rest)) a h = cc
+
+-- ---- shifts
+
+pub or_pass_next : (c : Context) (a : Statement) (b : Block) → or_pass c (next a b) ≡ next a b
+or_pass_next c a b = by (is_alone c)
+  where
+    by : (t : Bool) → (if t && false then next Pass end else next a b) ≡ next a b
+    by true = refl
+    by false = refl
+
+-- one statement stays where it is, with what is below it
+pub one_stays : (c : Context) (a b : Statement) → bone a ≡ bone b
+    → Carries (stays 1) (next a end) (or_pass c (next b end))
+one_stays c a b h =
+    subst (Carries (stays 1) (next a end)) (sym (or_pass_next c b end)) (
+      record {
+        was = record { around = Here end; piece = next a end };
+        is = record { around = Here end; piece = next b end };
+        before = refl;
+        after = refl;
+        alike = ap (λ x. more x none) h;
+      },
+      tt,
+    )

@@ -33,6 +33,7 @@ use Rattle.config_laws.specs.FieldRule as config
 use Rattle.config_laws.specs.FieldRule.{fields_at_end}
 use Rattle.check_facts_laws.specs.Laws.{ComesToPlace}
 use Rattle.cursor_forward.specs.Cursors.{Side, Before, After}
+use Rattle.cursor_forward.specs.Forwards.{Carries, are_apart}
 use Rattle.step_rules.specs.Owing.{shape_alone}
 use Rattle.step_rules.specs.Rule.{Target, Spot, Got, Need, Says, AsMade, Simplified, Rule}
 
@@ -181,7 +182,6 @@ pub record IsSite (r : Rule) (a : Site) : Type 0 where
   pub made : r.draft a.spot AsMade a.base ≡ Got a.plain
   pub drafted : r.draft a.spot Simplified a.base ≡ Got a.draft
   pub allowed : r.refusal a.spot ≡ None
-  pub met : Each (IsMet a.spot.target) (r.needs a.spot)
   -- as it is made it breaks no rule, and each name that it uses is in scope
   pub formed : IsFormedHere a.spot a.plain
   -- the body is the old one with the draft in it, but for the names of copies and for a `pass` in
@@ -202,8 +202,18 @@ abbrev pub fields_at_exit : Rule → Site → List ℕ
 fields_at_exit r a =
     differ_at_end a.spot.target a.body (r.point a.spot).0 (r.point a.spot).1 (r.fields a.spot)
 
+-- where its needs are met, its draft may stand for the piece
 pub record IsLawful (r : Rule) : Type 0 where
   pub replaces :
       (a : Site)
       → IsSite r a
+      → Each (IsMet a.spot.target) (r.needs a.spot)
       → Replaces a.spot a.draft (fields_at_exit r a)
+
+-- its shifts take statements to statements of their kinds, and no two to one place
+pub record IsCarrying (r : Rule) : Type 0 where
+  pub carries :
+      (a : Site)
+      → IsSite r a
+      → Carries (r.shifts a.spot) (old a.spot) (or_pass (around a.spot) a.draft)
+  pub apart : (s : Spot) → are_apart (r.shifts s) ≡ true

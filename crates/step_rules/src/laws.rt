@@ -4,6 +4,7 @@ ghost use Rattle.step_rules.specs.Replacement.{ReplacedRefines};
 ghost use Rattle.step_rules.specs.Laws.{NeedsHold};
 ghost use Rattle.step_rules.specs.Laws.{KeptLaw};
 ghost use Rattle.step_rules.specs.Laws.{MeaningLaw};
+ghost use Rattle.step_rules.specs.Laws.{ForwardsLaw};
 
 /// A procedure is refined by what comes of it where a block is put in that may stand for its piece.
 pub fn replacements_refine()
@@ -30,4 +31,11 @@ pub fn lawful_rules_keep_meaning()
 {
     made_trees_laws::laws::names_of_copies_are_names_alone();
     needs_hold();
+}
+
+/// Where a carrying rule takes the statements of a procedure, statements of their kinds stand.
+pub fn carrying_rules_forward()
+    ensures { ForwardsLaw }
+{
+    made_trees_laws::laws::names_of_copies_are_names_alone();
 }
