@@ -1,11 +1,11 @@
 -- Cursors: a statement, some statements of one block, or the gap before or after a statement; how they move in a procedure, and
 -- where they go by an edit. No move leads from what is not there.
-use Rattle.std.specs.Prelude.{ℕ, zero, suc, ◌+◌, ◌-◌, nat_lt, nat_le, Bool, true, false, ◌&&◌, if◌then◌else◌, List, [], ◌∷◌, ◌++◌, length, Option, Some, None, option_map, option_and_then}
+use Rattle.std.specs.Prelude.{ℕ, zero, suc, ◌+◌, ◌-◌, ◌^◌, nat_lt, nat_le, Bool, true, false, ◌&&◌, if◌then◌else◌, List, [], ◌∷◌, ◌++◌, length, Option, Some, None, option_map, option_and_then}
 use Rattle.std.specs.Option.{is_some}
 use Rattle.exo_tree.specs.Tree.{Block, statements}
-use Rattle.exo_tree.specs.Places.{Main, Path, same_branch, same_step, opened, statement_at}
+use Rattle.exo_tree.specs.Places.{Main, Path, same_branch, same_step, statement_at}
 use Rattle.exo_tree.specs.Branches.{branch_of}
-use Rattle.cursor_forward.specs.Shifts.{Move, beyond, held, Edits, move_of}
+use Rattle.cursor_forward.specs.Shifts.{Move, word, beyond, held, Edits, move_of}
 
 pub data Side : Type 0 where
   Before After : Side
@@ -23,72 +23,99 @@ above [] = []
 above (s ∷ []) = []
 above (s ∷ t ∷ path) = s ∷ above (t ∷ path)
 
+-- the statement round the block in which a path ends; None: the body of the procedure
+abbrev pub owner : Path → Option Path
+owner [] = None
+owner (s ∷ []) = None
+owner (s ∷ t ∷ path) = Some (above (s ∷ t ∷ path))
+
 -- the statement so many before the one at a path; None where its block has none
 abbrev pub earlier : ℕ → Path → Option Path
 earlier k [] = None
 earlier k (s ∷ []) = if nat_le k s.index then Some (record s { index = s.index - k } ∷ []) else None
 earlier k (s ∷ t ∷ path) = option_map (λ q. s ∷ q) (earlier k (t ∷ path))
 
-abbrev pub later : ℕ → Path → Path
+abbrev pub later : ℕ → Path → Option Path
 later k path = beyond path k []
 
--- so many statements stand there, and one at least
-abbrev pub are_there : Block → Path → ℕ → Bool
-are_there body path count = nat_lt 0 count && is_some (opened count path body)
+abbrev pub is_there : Block → Path → Bool
+is_there body path = is_some (statement_at path body)
 
 abbrev pub node_at : Block → Path → Option Cursor
-node_at body path = if are_there body path 1 then Some (Node path) else None
+node_at body path = if is_there body path then Some (Node path) else None
 
+-- so many statements of one block, one at least: they are there where the last of them is
 abbrev pub range_at : Block → Path → ℕ → Option Cursor
-range_at body path count = if are_there body path count then Some (Range path count) else None
+range_at body path zero = None
+range_at body path (suc n) = option_and_then (λ last. if is_there body last then Some (Range path (suc n)) else None) (later n path)
 
 -- ---- moves
 
--- the statements that a cursor stands for; a gap stands for none
-abbrev pub of_statements : {T : Type 0} → Block → (Path → ℕ → Option T) → Cursor → Option T
-of_statements body f (Node path) = if are_there body path 1 then f path 1 else None
-of_statements body f (Range path count) = if are_there body path count then f path count else None
-of_statements body f (Gap path side) = None
+-- the first and the last of the statements that a cursor stands for, where they are there
+pub record Ends : Type 0 where
+  pub first : Path
+  pub last : Path
 
--- the statement round the block in which a path ends
-abbrev pub owner : Path → Option Cursor
-owner path = elim (above path) [ [] ↦ None | s ∷ up ↦ Some (Node (s ∷ up)) ]
+abbrev pub ends_at : Block → Path → ℕ → Option Ends
+ends_at body path zero = None
+ends_at body path (suc n) = option_and_then (λ last. if is_there body last then Some (record { first = path; last = last }) else None) (later n path)
+
+-- a gap stands for none
+abbrev pub ends_of : Block → Cursor → Option Ends
+ends_of body (Node path) = if is_there body path then Some (record { first = path; last = path }) else None
+ends_of body (Range path count) = ends_at body path count
+ends_of body (Gap path side) = None
 
 abbrev pub parent_of : Block → Cursor → Option Cursor
-parent_of body (Node path) = if are_there body path 1 then owner path else None
-parent_of body (Range path count) = if are_there body path count then owner path else None
-parent_of body (Gap path side) = if are_there body path 1 then owner path else None
+parent_of body (Node path) = if is_there body path then option_map Node (owner path) else None
+parent_of body (Range path count) = option_and_then (λ e. option_map Node (owner e.first)) (ends_at body path count)
+parent_of body (Gap path side) = if is_there body path then option_map Node (owner path) else None
 
 -- the statement behind the last one
 abbrev pub next_of : Block → Cursor → Option Cursor
-next_of body = of_statements body (λ path count. node_at body (later count path))
+next_of body c = option_and_then (λ e. option_and_then (node_at body) (later 1 e.last)) (ends_of body c)
 
 -- the statement before the first one
 abbrev pub prev_of : Block → Cursor → Option Cursor
-prev_of body = of_statements body (λ path count. option_map Node (earlier 1 path))
+prev_of body c = option_and_then (λ e. option_map Node (earlier 1 e.first)) (ends_of body c)
+
+-- all statements of a block that begins at a path
+abbrev pub whole_of : Path → ℕ → Option Cursor
+whole_of path count = if nat_lt 0 count && nat_lt count (2 ^ 32) then Some (Range path count) else None
+
+-- the path to the first statement of a loop, or of the first branch of a condition
+abbrev pub inside : Path → Option Path
+inside path = held (path ++ record { branch = Main; index = 0 } ∷ [])
 
 -- the statements of a loop, or of the first branch of a condition
 abbrev pub body_of : Block → Cursor → Option Cursor
-body_of body (Node path) = option_and_then (λ a. option_and_then (λ b. range_at body (path ++ record { branch = Main; index = 0 } ∷ []) (length (statements b))) (branch_of Main a)) (statement_at path body)
+body_of body (Node path) =
+    option_and_then (λ b. option_and_then (λ first. whole_of first (length (statements b))) (inside path)) (option_and_then (branch_of Main) (statement_at path body))
 body_of body (Range path count) = None
 body_of body (Gap path side) = None
 
 -- one of the statements of a block, by its number
 abbrev pub item_of : Block → ℕ → Cursor → Option Cursor
 item_of body k (Node path) = None
-item_of body k (Range path count) = if are_there body path count && nat_lt k count then Some (Node (later k path)) else None
+item_of body k (Range path count) = option_and_then (λ e. if nat_lt k count then option_map Node (later k path) else None) (ends_at body path count)
 item_of body k (Gap path side) = None
 
--- with so many statements more before them and so many behind
+-- so many statements with some more before them and behind
+abbrev pub grown : Block → ℕ → ℕ → Path → ℕ → Option Cursor
+grown body before after path count =
+    option_and_then (λ first. option_and_then (range_at body first) (word (before + count + after))) (earlier before path)
+
+-- with so many statements more before and so many behind
 abbrev pub expand_of : Block → ℕ → ℕ → Cursor → Option Cursor
-expand_of body before after =
-    of_statements body (λ path count. option_and_then (λ first. range_at body first (before + count + after)) (earlier before path))
+expand_of body before after (Node path) = if is_there body path then grown body before after path 1 else None
+expand_of body before after (Range path count) = option_and_then (λ e. grown body before after path count) (ends_at body path count)
+expand_of body before after (Gap path side) = None
 
 abbrev pub before_of : Block → Cursor → Option Cursor
-before_of body = of_statements body (λ path count. Some (Gap path Before))
+before_of body c = option_map (λ e. Gap e.first Before) (ends_of body c)
 
 abbrev pub after_of : Block → Cursor → Option Cursor
-after_of body = of_statements body (λ path count. Some (Gap (later (count - 1) path) After))
+after_of body c = option_map (λ e. Gap e.last After) (ends_of body c)
 
 -- ---- edits
 
@@ -96,7 +123,7 @@ after_of body = of_statements body (λ path count. Some (Gap (later (count - 1) 
 abbrev pub span_of : Path → Path → Option ℕ
 span_of [] last = None
 span_of (f ∷ first) [] = None
-span_of (f ∷ []) (l ∷ []) = if same_branch f.branch l.branch && nat_le f.index l.index then Some (suc (l.index - f.index)) else None
+span_of (f ∷ []) (l ∷ []) = if same_branch f.branch l.branch && nat_le f.index l.index then word (suc (l.index - f.index)) else None
 span_of (f ∷ []) (l ∷ m ∷ last) = None
 span_of (f ∷ g ∷ first) (l ∷ []) = None
 span_of (f ∷ g ∷ first) (l ∷ m ∷ last) = if same_step f l then span_of (g ∷ first) (m ∷ last) else None
@@ -106,7 +133,7 @@ abbrev pub forward_by : Move → Cursor → Option Cursor
 forward_by move (Node path) = option_map Node (move path)
 forward_by move (Range path zero) = None
 forward_by move (Range path (suc n)) =
-    option_and_then (λ first. option_and_then (λ last. option_map (Range first) (span_of first last)) (move (later n path))) (move path)
+    option_and_then (λ first. option_and_then (λ last. option_map (Range first) (span_of first last)) (option_and_then move (later n path))) (move path)
 forward_by move (Gap path side) = option_map (λ to. Gap to side) (move path)
 
 -- by an edit; a place that no path of the program leads to is none

@@ -1,10 +1,10 @@
 -- What makes shifts right: where they take statements, statements of the same kind stand, and no two go to one place.
-use Rattle.std.specs.Prelude.{◌≡◌, ⊤, ℕ, ◌+◌, nat_le, Bool, true, false, ◌&&◌, ◌||◌, not, if◌then◌else◌, List, [], ◌∷◌, ◌++◌, map, length, Option, Some, None, option_map}
+use Rattle.std.specs.Prelude.{◌≡◌, ⊤, ℕ, ◌+◌, ◌-◌, nat_le, nat_lt, Bool, true, false, ◌&&◌, ◌||◌, not, if◌then◌else◌, List, [], ◌∷◌, ◌++◌, map, length, Option, Some, None, option_map}
 use Rattle.std.specs.List.{list_all}
 use Rattle.exo_tree.specs.Tree.{Control, Lit, Condition, True, Const, Statement, Assign, Reduce, Config, Pass, If, For, Alloc, View, Call, Block, end, next, statements, Procedure}
 use Rattle.exo_tree.specs.Context.{fill}
 use Rattle.exo_tree.specs.Places.{Branch, Main, Else, Step, Path, same_branch, same_step, Opened, opened, statement_at}
-use Rattle.cursor_forward.specs.Shifts.{Shift, Move, is_among, Edits, move_of}
+use Rattle.cursor_forward.specs.Shifts.{Shift, Move, Edits, move_of}
 
 -- ---- kinds and bones
 
@@ -79,6 +79,10 @@ Carries [] old new = ⊤
 Carries (s ∷ shifts) old new = IsCarried s s.to old new × Carries shifts old new
 
 -- ---- shifts whose targets are apart
+
+-- the second step is to one of so many statements from the first on
+abbrev pub is_among : Step → ℕ → Step → Bool
+is_among s m t = same_branch s.branch t.branch && (nat_le s.index t.index && nat_lt (t.index - s.index) m)
 
 -- the two ranges of one block have no statement in common
 abbrev pub are_beside : Step → ℕ → Step → ℕ → Bool

@@ -3,4 +3,7 @@ pub mod Shifts
 pub mod Forwards
 pub mod Cursors
 pub mod Patterns
+pub mod PlainShift
+pub mod PlainCursor
 pub mod Proposals
+pub mod PlainProposal

@@ -1,7 +1,9 @@
 -- The statements that a pattern finds, in preorder.
-use Rattle.std.specs.Prelude.{ℕ, zero, suc, ◌==◌, ◌&&◌, Bool, true, false, if◌then◌else◌, List, [], ◌∷◌, ◌++◌, Option, Some, None, option_map, option_and_then, slice_get}
+use Rattle.std.specs.Prelude.{◌≡◌, ◌≤◌, ⊤, ℕ, zero, suc, ◌==◌, ◌&&◌, Bool, true, false, if◌then◌else◌, List, [], ◌∷◌, ◌++◌, Option, Some, None, option_map, option_and_then, slice_get}
 use Rattle.std.specs.Str.{bytes_eq}
 use Rattle.exo_tree.specs.Tree.{Statement, Assign, Reduce, Config, Pass, If, For, Alloc, View, Call, Block, end, next, Param, Procedure, Program}
+use Rattle.exo_tree.specs.Heights.{height}
+use Rattle.exo_meaning.specs.Units.{is_short}
 use Rattle.exo_tree.specs.Places.{Branch, Main, Else, Path}
 use Rattle.cursor_patterns.specs.Patterns as pattern
 use Rattle.cursor_patterns.specs.Patterns.{Pattern}
@@ -79,14 +81,18 @@ found_first w params = option_and_then (λ x. parameter_called x params) (name_i
 abbrev pub into : Path → Branch → ℕ → Path
 into outer branch n = outer ++ record { branch = branch; index = n } ∷ []
 
+-- the place of the statement itself, where it matches
+abbrev pub alone : Bool → Path → List Path
+alone true path = path ∷ []
+alone false path = []
+
 module _ (unit : Program) (w : Pattern) where
   abbrev mutual
     -- the paths of those that match in a block, the first statement of which has that number
     pub matching : Path → Branch → ℕ → Option ℕ → Block → List Path
     matching outer branch n found end = []
     matching outer branch n found (next a b) =
-        (if matches unit w found a then into outer branch n ∷ [] else [])
-        ++ matching_below (into outer branch n) found a
+        (alone (matches unit w found a) (into outer branch n) ++ matching_below (into outer branch n) found a)
         ++ matching outer branch (suc n) (found_after w found a) b
 
     pub matching_below : Path → Option ℕ → Statement → List Path
@@ -100,9 +106,44 @@ module _ (unit : Program) (w : Pattern) where
     matching_below path found (View v x coords) = []
     matching_below path found (Call k args) = []
 
+  -- of one statement and what is below it
+  abbrev pub matching_at : Path → Option ℕ → Statement → List Path
+  matching_at path found a = alone (matches unit w found a) path ++ matching_below path found a
+
 -- the one of that number in preorder, counted from 0
 abbrev pub find_in : Program → Procedure → Pattern → ℕ → Option Cursor
 find_in unit p w nth = option_map Node (slice_get (matching unit w [] Main 0 (found_first w p.params) p.body) nth)
 
 abbrev pub find_of : Program → ℕ → Pattern → ℕ → Option Cursor
 find_of unit k w nth = option_and_then (λ p. find_in unit p w nth) (slice_get unit.procedures k)
+
+-- ---- what can be searched: each statement's path has at most 32 steps with indices of 32 bits
+
+abbrev mutual
+  -- the blocks in a block, at every depth, have fewer than 2^31 statements each
+  pub all_short : Block → Bool
+  all_short end = true
+  all_short (next a b) = is_short_below a && all_short b
+
+  pub is_short_below : Statement → Bool
+  is_short_below (If c a b) = (is_short a && all_short a) && (is_short b && all_short b)
+  is_short_below (For i lo hi b) = is_short b && all_short b
+  is_short_below (Assign x is e) = true
+  is_short_below (Reduce x is e) = true
+  is_short_below (Config f a) = true
+  is_short_below Pass = true
+  is_short_below (Alloc x cell dims memory) = true
+  is_short_below (View v x coords) = true
+  is_short_below (Call k args) = true
+
+abbrev pub are_short : Block → Bool
+are_short b = is_short b && all_short b
+
+pub record CanBeSearched (body : Block) : Type 0 where
+  pub fits : height body ≤ 32
+  pub short : are_short body ≡ true
+
+-- the procedure, where there is one
+abbrev pub IsSearchable : Option Procedure → Type 0
+IsSearchable None = ⊤
+IsSearchable (Some p) = CanBeSearched p.body

@@ -1,8 +1,7 @@
 -- Where a step takes the statements of a procedure. It replaces some statements of one block, its piece, by others; ranges of
 -- the piece go to places of the new piece, and what is in no range is gone. A path in a piece begins with a step into it by
 -- Main; the paths of what lies outside of the piece stay as they are, but for those behind it in its block, which close up.
-use Rattle.std.specs.Prelude.{ℕ, ◌+◌, ◌-◌, ◌^◌, nat_lt, nat_le, Bool, true, false, ◌&&◌, if◌then◌else◌, List, [], ◌∷◌, length, Option, Some, None, option_map}
-use Rattle.std.specs.List.{list_all}
+use Rattle.std.specs.Prelude.{ℕ, ◌+◌, ◌-◌, ◌^◌, nat_lt, nat_le, Bool, true, false, ◌&&◌, ◌||◌, if◌then◌else◌, List, [], ◌∷◌, length, Option, Some, None, option_map, option_and_then}
 use Rattle.exo_tree.specs.Places.{Main, Step, Path, same_branch, same_step}
 
 -- so many statements of one block, from one on, alone or with all below them, and where the first of them goes; None: nowhere
@@ -17,27 +16,28 @@ Move = Path → Option Path
 
 -- ---- ranges
 
--- one of so many statements, by its place behind the first, and what is below it
-pub record Under : Type 0 where
+-- the number, where 32 bits hold it: no block has more statements
+abbrev pub word : ℕ → Option ℕ
+word n = if nat_lt n (2 ^ 32) then Some n else None
+
+-- a statement of a block from another one on, by how far it is behind that, and what is below it
+pub record Below : Type 0 where
   pub offset : ℕ
   pub rest : Path
 
--- the step is to one of the so many from the other one on
-abbrev pub is_among : Step → ℕ → Step → Bool
-is_among f count s = same_branch f.branch s.branch && (nat_le f.index s.index && nat_lt s.index (f.index + count))
-
--- the path leads to one of the so many statements from another path on, or to what is below one
-abbrev pub under : Path → ℕ → Path → Option Under
-under [] count path = None
-under (f ∷ from) count [] = None
-under (f ∷ []) count (s ∷ path) = if is_among f count s then Some (record { offset = s.index - f.index; rest = path }) else None
-under (f ∷ g ∷ from) count (s ∷ path) = if same_step f s then under (g ∷ from) count path else None
+-- a path to a statement of the block of another path, from that one's on, or to what is below one
+abbrev pub below : Path → Path → Option Below
+below [] path = None
+below (f ∷ from) [] = None
+below (f ∷ []) (s ∷ path) =
+    if same_branch f.branch s.branch && nat_le f.index s.index then Some (record { offset = s.index - f.index; rest = path }) else None
+below (f ∷ g ∷ from) (s ∷ path) = if same_step f s then below (g ∷ from) path else None
 
 -- the statement so many behind the one at a path, and further down
-abbrev pub beyond : Path → ℕ → Path → Path
-beyond [] k path = path
-beyond (t ∷ []) k path = record t { index = t.index + k } ∷ path
-beyond (t ∷ u ∷ to) k path = t ∷ beyond (u ∷ to) k path
+abbrev pub beyond : Path → ℕ → Path → Option Path
+beyond [] k path = None
+beyond (t ∷ []) k path = option_map (λ n. record t { index = n } ∷ path) (word (t.index + k))
+beyond (t ∷ u ∷ to) k path = option_map (λ q. t ∷ q) (beyond (u ∷ to) k path)
 
 -- ---- moves within a piece
 
@@ -46,13 +46,16 @@ is_end [] = true
 is_end (s ∷ path) = false
 
 -- the shift takes this statement, or lets it go
-abbrev pub covered : Shift → Path → Option Under
-covered s path = elim (under s.from s.count path) [ None ↦ None | Some w ↦ if s.whole then Some w else (if is_end w.rest then Some w else None) ]
+abbrev pub covers : Shift → Below → Bool
+covers s w = nat_lt w.offset s.count && (s.whole || is_end w.rest)
+
+abbrev pub covered : Shift → Path → Option Below
+covered s path = elim (below s.from path) [ None ↦ None | Some w ↦ if covers s w then Some w else None ]
 
 -- the first shift that covers a path takes it; with none it is gone
 abbrev pub follow : List Shift → Move
 follow [] path = None
-follow (s ∷ shifts) path = elim (covered s path) [ None ↦ follow shifts path | Some w ↦ option_map (λ to. beyond to w.offset w.rest) s.to ]
+follow (s ∷ shifts) path = elim (covered s path) [ None ↦ follow shifts path | Some w ↦ option_and_then (λ to. beyond to w.offset w.rest) s.to ]
 
 -- the path to the statement of that number of a piece
 abbrev pub at_index : ℕ → Path
@@ -72,23 +75,21 @@ stays count = range (at_index 0) count (Some (at_index 0)) ∷ []
 
 -- ---- moves of a procedure
 
--- what lies behind the first so many from a path on, in their block, closes up to so many others
-abbrev pub closed_up : Path → ℕ → ℕ → Path → Path
-closed_up [] old new path = path
-closed_up (h ∷ place) old new [] = []
-closed_up (h ∷ []) old new (s ∷ path) =
-    if same_branch h.branch s.branch && nat_le (h.index + old) s.index then record s { index = s.index - old + new } ∷ path else s ∷ path
-closed_up (h ∷ g ∷ place) old new (s ∷ path) = s ∷ (if same_step h s then closed_up (g ∷ place) old new path else path)
-
 -- a path in a piece that begins at a place, as a path of the procedure
-abbrev pub lifted : Path → Path → Path
-lifted place [] = []
+abbrev pub lifted : Path → Path → Option Path
+lifted place [] = None
 lifted place (s ∷ path) = beyond place s.index path
+
+-- where one of the statements from a place on goes: by the move where it is one of so many, and else it closes up to so many others
+abbrev pub moved_below : Path → ℕ → ℕ → Move → Below → Option Path
+moved_below place old new move w =
+    if nat_lt w.offset old
+    then option_and_then (lifted place) (move (record { branch = Main; index = w.offset } ∷ w.rest))
+    else beyond place (w.offset - old + new) w.rest
 
 -- a move of a piece of so many statements from a place on, which becomes one of so many, as a move of the procedure
 abbrev pub moved : Path → ℕ → ℕ → Move → Move
-moved place old new move path =
-    elim (under place old path) [ None ↦ Some (closed_up place old new path) | Some w ↦ option_map (lifted place) (move (record { branch = Main; index = w.offset } ∷ w.rest)) ]
+moved place old new move path = elim (below place path) [ None ↦ Some path | Some w ↦ moved_below place old new move w ]
 
 -- all that is told of where a step takes statements
 pub record Edits : Type 0 where
@@ -105,9 +106,6 @@ move_of e = moved e.place e.old e.new (follow e.shifts)
 
 -- ---- paths that the program can hold
 
--- at most 32 steps, each with an index of 32 bits
-abbrev pub is_held : Path → Bool
-is_held path = nat_le (length path) 32 && list_all (λ s. nat_lt s.index (2 ^ 32)) path
-
+-- a path of at most 32 steps
 abbrev pub held : Path → Option Path
-held path = if is_held path then Some path else None
+held path = if nat_le (length path) 32 then Some path else None

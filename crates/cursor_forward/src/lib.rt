@@ -1,4 +1,15 @@
 //! Cursors, how they move, and how they follow their statements through the steps of a schedule.
 #![tactic(auto)]
 
-pub mod laws;
+mod cursor;
+mod edits;
+mod moves;
+mod paths;
+mod proposal;
+mod shift;
+
+pub use cursor::{Cursor, Side, forward};
+pub use edits::Edits;
+pub use moves::{after, before, body, expand, item, next, parent, prev};
+pub use proposal::{Proposal, StepError};
+pub use shift::{Shift, Shifts};

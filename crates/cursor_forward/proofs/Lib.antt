@@ -1,0 +1,6 @@
+mod Lasts
+mod Lands
+mod Holes
+mod Ranges
+mod SameKinds
+pub mod Forwarding
