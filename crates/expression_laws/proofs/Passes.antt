@@ -1,14 +1,22 @@
 -- The rule that deletes passes is lawful.
-use Rattle.std.proofs.Common.{◌≡◌, Some, refl, sym, ap, ap₂, ◌∙◌}
+use Rattle.std.proofs.Common.{◌≡◌, [], refl, sym, ap, ap₂, ◌∙◌, subst}
 use Rattle.std.proofs.Math.Path.{fun_ext}
 use Rattle.exo_tree.specs.Tree.{Statement, Assign, Reduce, Config, Pass, If, For, Alloc, View, Call}
 use Rattle.exo_tree.specs.Tree.{Block, end, next}
+use Rattle.exo_tree.specs.Context.{Context}
+use Rattle.exo_tree.specs.Places.{Main}
+use Rattle.made_trees.specs.Passes.{or_pass}
+use Rattle.cursor_forward.specs.Forwards.{Carries}
+use Rattle.step_rules.proofs.Shapes.{or_pass_next}
 use Rattle.exo_meaning.specs.Scene.{then_do, holds}
 use Rattle.exo_meaning.specs.State.{scoped}
 use Rattle.exo_meaning.specs.Run.{World, run, step, choose, turn, turns, turns_of}
 use Rattle.step_rules.specs.Rule.{Got}
-use Rattle.step_rules.specs.Lawful.{old, world_of, same, IsLawful}
-use Rattle.expression_laws.specs.Passes.{or_one_pass, without, before, cleared, delete_pass_rule}
+use Rattle.step_rules.specs.Lawful.{old, world_of, same, IsLawful, IsCarrying, around}
+use Rattle.expression_laws.specs.Passes.{or_one_pass, without, before, cleared, shifted_block}
+use Rattle.expression_laws.specs.Passes.{delete_pass_rule}
+use Rattle.expression_laws.proofs.Carried.{deleted_carries}
+use Rattle.expression_laws.proofs.Apart.{deleted_apart}
 
 module _ (world : World) where
   one_pass_run : (b : Block) → run world (or_one_pass b) ≡ run world b
@@ -52,3 +60,21 @@ delete_pass_is_lawful = record {
       sym (ap (λ f. f u) (cleared_run (world_of a.spot) (old a.spot)))
       ∙ ap (λ b. run (world_of a.spot) b u) (same_block is.drafted));
 }
+
+pub delete_pass_is_carrying : IsCarrying delete_pass_rule
+delete_pass_is_carrying = record {
+  carries = λ a is. carried (around a.spot) (old a.spot) a.draft (same_block is.drafted);
+  apart = λ s. deleted_apart s.opened.piece;
+}
+  where
+    kept : (c : Context) (b : Block) → or_pass c (or_one_pass b) ≡ or_one_pass b
+    kept c end = or_pass_next c Pass end
+    kept c (next a b) = or_pass_next c a b
+
+    carried : (c : Context) (b d : Block) → cleared b ≡ d
+        → Carries (shifted_block [] [] Main b) b (or_pass c d)
+    carried c end d e = tt
+    carried c (next a b) d e =
+        subst (λ x. Carries (shifted_block [] [] Main (next a b)) (next a b) (or_pass c x)) e
+        (subst (Carries (shifted_block [] [] Main (next a b)) (next a b))
+        (sym (kept c (before a (without b)))) (deleted_carries (next a b)))

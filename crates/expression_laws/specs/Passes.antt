@@ -1,5 +1,5 @@
 -- The rule that deletes each `pass` that is not alone in its block.
-use Rattle.std.specs.Prelude.{ℕ, zero, suc, List, [], ◌∷◌, ◌++◌, length, Some}
+use Rattle.std.specs.Prelude.{ℕ, zero, suc, Bool, true, false, if◌then◌else◌, List, [], ◌∷◌, ◌++◌, length, Some}
 use Rattle.exo_tree.specs.Tree.{Statement, Assign, Reduce, Config, Pass, If, For, Alloc, View, Call}
 use Rattle.exo_tree.specs.Tree.{Block, end, next, statements}
 use Rattle.exo_tree.specs.Places.{Branch, Main, Else, Path}
@@ -44,6 +44,10 @@ abbrev pub behind : Statement → ℕ → ℕ
 behind Pass j = j
 behind a j = suc j
 
+abbrev pub is_one_pass : Block → Bool
+is_one_pass (next Pass end) = true
+is_one_pass b = false
+
 -- from, to: where the statement that holds the block was and is, in the piece
 abbrev mutual
   -- of the statements of a block from number i on, which become those from number j on
@@ -67,11 +71,11 @@ abbrev mutual
 
   -- a `pass` that is alone stays
   pub shifted_block : Path → Path → Branch → Block → List Shift
-  shifted_block from to branch (next Pass end) =
-      alone (down from branch zero) (Some (down to branch zero)) ∷ []
   shifted_block from to branch end = []
   shifted_block from to branch (next a b) =
-      shifted_statement (down from branch zero) (down to branch zero) a
+      if is_one_pass (next a b)
+      then alone (down from branch zero) (Some (down to branch zero)) ∷ []
+      else shifted_statement (down from branch zero) (down to branch zero) a
       ++ shifted from to branch 1 (behind a zero) b
 
 abbrev pub delete_pass_rule : Rule

@@ -1,4 +1,6 @@
-//! Each rule keeps the meaning.
+// That each rule keeps the meaning and carries statements, each law the contract of a function with
+// nothing to do.
+
 ghost use Rattle.std.specs.Prelude.{ℕ, List};
 ghost use Rattle.cursor_patterns.specs.Patterns.{ExprPattern};
 ghost use Rattle.step_rules.specs.Lawful.{IsLawful, IsCarrying};
@@ -29,4 +31,9 @@ pub fn exchanges_carry()
 /// Under another name each statement stays where it is.
 pub fn names_carry()
     ensures { (name : List ℕ) → IsCarrying (rename_rule name) }
+{}
+
+/// Where passes are deleted each other statement goes along.
+pub fn deleted_passes_carry()
+    ensures { IsCarrying delete_pass_rule }
 {}
