@@ -1,6 +1,6 @@
 -- Where passes are deleted, no two statements go to one place.
-use Rattle.std.proofs.Common.{◌≡◌, ◌≤◌, ◌<◌, ℕ, zero, suc, ◌+◌, Bool, true, false, ◌&&◌, ◌||◌}
-use Rattle.std.proofs.Common.{◌==◌, List, [], ◌∷◌, ◌++◌, Some, None, refl, sym, ap, ap₂, ◌∙◌, subst}
+use Rattle.std.proofs.Common.{◌≡◌, ◌≤◌, ℕ, suc, ◌+◌, Bool, true, false, ◌&&◌, ◌||◌}
+use Rattle.std.proofs.Common.{◌==◌, List, [], ◌∷◌, ◌++◌, Some, refl, ap, ap₂, ◌∙◌}
 use Rattle.std.proofs.Common.{arith, if◌then◌else◌, le-leb, eqb-true, append_assoc}
 use Rattle.std.specs.Prelude.{nat_le}
 use Rattle.std.specs.List.{list_all}
@@ -102,9 +102,10 @@ pub record Goes (P : Path → Type 0) (s : Shift) : Type 0 where
 goes_on : (P Q : Path → Type 0) (xs : List Shift) → ((p : Path) → P p → Q p) → Each (Goes P) xs
     → Each (Goes Q) xs
 goes_on P Q [] f h = tt
-goes_on P Q (x ∷ xs) f h =
-    (record { from = h.0.from; to = h.0.to; is = h.0.is; there = f h.0.to h.0.there },
-    goes_on P Q xs f h.1)
+goes_on P Q (x ∷ xs) f h = (
+  record { from = h.0.from; to = h.0.to; is = h.0.is; there = f h.0.to h.0.there },
+  goes_on P Q xs f h.1,
+)
 
 each_both : (P : Shift → Type 0) (xs ys : List Shift) → Each P xs → Each P ys → Each P (xs ++ ys)
 each_both P [] ys p q = q
@@ -256,21 +257,23 @@ mutual
   statement_goes from to branch j (Alloc x cell dims memory) = (itself from to branch j, tt)
   statement_goes from to branch j (View w x coords) = (itself from to branch j, tt)
   statement_goes from to branch j (Call k args) = (itself from to branch j, tt)
-  statement_goes from to branch j (For v lo hi d) =
-      (itself from to branch j,
-      goes_on (IsFrom (down to branch j) Main 0) (IsAt to branch j)
-      (shifted_block from (down to branch j) Main d) (inner_at to branch j Main 0)
-      (block_goes from (down to branch j) Main d))
-  statement_goes from to branch j (If t a d) =
-      (itself from to branch j,
-      each_both (Goes (IsAt to branch j)) (shifted_block from (down to branch j) Main a)
-      (shifted_block from (down to branch j) Else d)
-      (goes_on (IsFrom (down to branch j) Main 0) (IsAt to branch j)
-      (shifted_block from (down to branch j) Main a) (inner_at to branch j Main 0)
-      (block_goes from (down to branch j) Main a))
-      (goes_on (IsFrom (down to branch j) Else 0) (IsAt to branch j)
-      (shifted_block from (down to branch j) Else d) (inner_at to branch j Else 0)
-      (block_goes from (down to branch j) Else d)))
+  statement_goes from to branch j (For v lo hi d) = (
+    itself from to branch j,
+    goes_on (IsFrom (down to branch j) Main 0) (IsAt to branch j)
+        (shifted_block from (down to branch j) Main d) (inner_at to branch j Main 0)
+        (block_goes from (down to branch j) Main d),
+  )
+  statement_goes from to branch j (If t a d) = (
+    itself from to branch j,
+    each_both (Goes (IsAt to branch j)) (shifted_block from (down to branch j) Main a)
+        (shifted_block from (down to branch j) Else d)
+        (goes_on (IsFrom (down to branch j) Main 0) (IsAt to branch j)
+        (shifted_block from (down to branch j) Main a) (inner_at to branch j Main 0)
+        (block_goes from (down to branch j) Main a))
+        (goes_on (IsFrom (down to branch j) Else 0) (IsAt to branch j)
+        (shifted_block from (down to branch j) Else d) (inner_at to branch j Else 0)
+        (block_goes from (down to branch j) Else d)),
+  )
 
 -- ---- apart
 

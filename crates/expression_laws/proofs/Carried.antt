@@ -1,11 +1,11 @@
 -- Where passes are deleted, each statement goes to one of its kind.
-use Rattle.std.proofs.Common.{◌≡◌, ℕ, zero, suc, ◌+◌, List, [], ◌∷◌, ◌++◌, Some, None, refl}
+use Rattle.std.proofs.Common.{◌≡◌, ℕ, zero, suc, ◌+◌, List, [], ◌∷◌, ◌++◌, Some, refl}
 use Rattle.std.proofs.Common.{sym, ap, ◌∙◌, subst, arith}
-use Rattle.std.specs.Prelude.{Bool, true, false, if◌then◌else◌, slice_get}
+use Rattle.std.specs.Prelude.{true, slice_get}
 use Rattle.exo_tree.specs.Tree.{Statement, Assign, Reduce, Config, Pass, If, For, Alloc, View, Call}
 use Rattle.exo_tree.specs.Tree.{Block, end, next, statements}
 use Rattle.exo_tree.specs.Places.{Branch, Main, Else, Path}
-use Rattle.cursor_forward.specs.Forwards.{StatementKind, kind_of, kinds_of, AreCarried, Carries}
+use Rattle.cursor_forward.specs.Forwards.{kind_of, kinds_of, AreCarried, Carries}
 use Rattle.cursor_forward.specs.Shifts.{Shift, alone}
 use Rattle.expression_laws.specs.Passes.{or_one_pass, without, before, cleared, down, behind}
 use Rattle.expression_laws.specs.Passes.{is_one_pass}
@@ -97,16 +97,18 @@ module _ (old new : Block) where
   pass_carried from to branch b e was is =
       let one : BlockAt from branch old (next Pass end) = subst (BlockAt from branch old) e was in
       let two : BlockAt to branch new (next Pass end) =
-        subst (λ x. BlockAt to branch new (cleared x)) e is in
+      subst (λ x. BlockAt to branch new (cleared x)) e is in
       one_carried (down from branch 0) (down to branch 0) Pass Pass (one 0 Pass refl)
       (two 0 Pass refl) refl
 
   plain_carried : (from to : Path) (branch : Branch) (i j : ℕ) (a : Statement) (b c : Block)
       → From from branch i old (next a b) → From to branch j new (next a c)
       → Carries (alone (down from branch i) (Some (down to branch j)) ∷ []) old new
-  plain_carried from to branch i j a b c was is =
-      (one_carried (down from branch i) (down to branch j) a a (first_of from branch i old a b was)
-      (first_of to branch j new a c is) refl, tt)
+  plain_carried from to branch i j a b c was is = (
+    one_carried (down from branch i) (down to branch j) a a (first_of from branch i old a b was)
+        (first_of to branch j new a c is) refl,
+    tt,
+  )
 
   mutual
     block_carried : (from to : Path) (branch : Branch) (b : Block) → BlockAt from branch old b
@@ -161,23 +163,25 @@ module _ (old new : Block) where
         let s = first_of from branch i old x b was in
         let n = first_of to branch j new y c there in
         let p = down from branch i in
-        let q = down to branch j in
-        (one_carried p q x y s n refl,
-        carries_both (shifted_block p q Main a) (shifted_block p q Else d) old new
-        (block_carried p q Main a (branch_at from branch i old x Main a s refl)
-        (branch_at to branch j new y Main (cleared a) n refl))
-        (block_carried p q Else d (branch_at from branch i old x Else d s refl)
-        (branch_at to branch j new y Else (cleared d) n refl)))
+        let q = down to branch j in (
+          one_carried p q x y s n refl,
+          carries_both (shifted_block p q Main a) (shifted_block p q Else d) old new
+              (block_carried p q Main a (branch_at from branch i old x Main a s refl)
+              (branch_at to branch j new y Main (cleared a) n refl))
+              (block_carried p q Else d (branch_at from branch i old x Else d s refl)
+              (branch_at to branch j new y Else (cleared d) n refl)),
+        )
     statement_carried from to branch i j (For v lo hi d) b c was there =
         let x = For v lo hi d in
         let y = For v lo hi (cleared d) in
         let s = first_of from branch i old x b was in
         let n = first_of to branch j new y c there in
         let p = down from branch i in
-        let q = down to branch j in
-        (one_carried p q x y s n refl,
-        block_carried p q Main d (branch_at from branch i old x Main d s refl)
-        (branch_at to branch j new y Main (cleared d) n refl))
+        let q = down to branch j in (
+          one_carried p q x y s n refl,
+          block_carried p q Main d (branch_at from branch i old x Main d s refl)
+              (branch_at to branch j new y Main (cleared d) n refl),
+        )
 
 -- each statement that stays goes to one of its kind
 pub deleted_carries : (b : Block) → Carries (shifted_block [] [] Main b) b (cleared b)

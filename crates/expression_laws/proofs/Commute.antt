@@ -3,12 +3,12 @@ use Rattle.std.proofs.Common.{◌≡◌, ℕ, ◌+ℤ◌, Bool, true, false, Lis
 use Rattle.std.proofs.Common.{sym, ap, ◌∙◌, subst, if◌then◌else◌}
 use Rattle.std.specs.Prelude.{nat_lt, option_and_then}
 use Rattle.exo_tree.specs.Tree.{Control, Datum, Statement, Assign, Reduce, Config, Pass, If, For}
-use Rattle.exo_tree.specs.Tree.{Alloc, View, Call, Block, end, next}
+use Rattle.exo_tree.specs.Tree.{Alloc, View, Call, end, next}
 use Rattle.exo_meaning.specs.Scene.{then_do}
 use Rattle.exo_meaning.specs.Value.{Value, on_two}
 use Rattle.exo_meaning.specs.State.{State, value, place, put}
 use Rattle.exo_meaning.specs.Run.{World, run, step}
-use Rattle.cursor_patterns.specs.Patterns.{ExprForm, ExprPattern}
+use Rattle.cursor_patterns.specs.Patterns.{ExprPattern}
 use Rattle.made_trees.specs.Passes.{or_pass}
 use Rattle.cursor_forward.specs.Shifts.{stays}
 use Rattle.cursor_forward.specs.Forwards.{bone, Carries}

@@ -4,7 +4,7 @@ use Rattle.std.proofs.Math.Nat.{not-suc-le-zero}
 use Rattle.exo_tree.specs.Tree.{I32, Lit, Const, Read, Plus, Assign, Pass, For}
 use Rattle.exo_tree.specs.Tree.{Block, end, next, Param, TensorParam, Procedure}
 use Rattle.exo_tree.specs.Tree.{MemoryKind, Program}
-use Rattle.exo_tree.specs.Places.{Main, Path}
+use Rattle.exo_tree.specs.Places.{Main}
 use Rattle.exo_meaning.specs.Run.{program_world}
 use Rattle.exo_meaning.specs.Inputs.{Refines}
 use Rattle.exo_meaning.specs.Units.{IsUnit}

@@ -5,7 +5,7 @@ use Rattle.exo_tree.specs.Places.{Opened, opened}
 use Rattle.exo_meaning.specs.Run.{run}
 use Rattle.cursor_forward.specs.Shifts.{at_index}
 use Rattle.step_rules.specs.Rule.{Got, Piece}
-use Rattle.step_rules.specs.Lawful.{old, world_of, same, IsLawful, IsCarrying}
+use Rattle.step_rules.specs.Lawful.{world_of, same, IsLawful, IsCarrying}
 use Rattle.expression_laws.specs.Rename.{rename_rule}
 
 nothing_opened : (body : Block) (o : Opened) → opened 0 (at_index 0) body ≡ Some o → end ≡ o.piece

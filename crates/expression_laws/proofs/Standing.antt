@@ -1,5 +1,5 @@
 -- Statements of blocks, by the paths to them.
-use Rattle.std.proofs.Common.{◌≡◌, ℕ, zero, suc, ◌+◌, List, [], ◌∷◌, ◌++◌, Option, Some, None, refl}
+use Rattle.std.proofs.Common.{◌≡◌, ℕ, zero, suc, ◌+◌, List, [], ◌∷◌, ◌++◌, Some, None, refl}
 use Rattle.std.proofs.Common.{sym, ap, ◌∙◌, arith, option_map, append_assoc}
 use Rattle.std.specs.Prelude.{Bool, true, false, if◌then◌else◌, slice_get}
 use Rattle.exo_tree.specs.Tree.{Statement, Assign, Reduce, Config, Pass, If, For, Alloc, View, Call}
@@ -64,34 +64,40 @@ in_branch : (branch : Branch) (k : ℕ) (a x : Statement) (d : Block)
 in_branch Main k (For i lo hi b) x d e h =
     let t = stands_in Main k d x h in
     let is : opened_in 1 (record { branch = Main; index = k } ∷ []) b ≡ Some t.o =
-      ap (opened_in 1 (record { branch = Main; index = k } ∷ [])) (same_some e) ∙ t.opens in
+    ap (opened_in 1 (record { branch = Main; index = k } ∷ [])) (same_some e) ∙ t.opens in
     record {
       o = record { around = InLoop i lo hi t.o.around end; piece = t.o.piece };
       opens =
-          ap (option_map (λ (o : Opened). record { around = InLoop i lo hi o.around end;
-          piece = o.piece })) is;
+          ap (option_map (λ (o : Opened). record {
+            around = InLoop i lo hi o.around end;
+            piece = o.piece;
+          })) is;
       piece = t.piece;
     }
 in_branch Main k (If c a b) x d e h =
     let t = stands_in Main k d x h in
     let is : opened_in 1 (record { branch = Main; index = k } ∷ []) a ≡ Some t.o =
-      ap (opened_in 1 (record { branch = Main; index = k } ∷ [])) (same_some e) ∙ t.opens in
+    ap (opened_in 1 (record { branch = Main; index = k } ∷ [])) (same_some e) ∙ t.opens in
     record {
       o = record { around = InThen c t.o.around b end; piece = t.o.piece };
       opens =
-          ap (option_map (λ (o : Opened). record { around = InThen c o.around b end;
-          piece = o.piece })) is;
+          ap (option_map (λ (o : Opened). record {
+            around = InThen c o.around b end;
+            piece = o.piece;
+          })) is;
       piece = t.piece;
     }
 in_branch Else k (If c a b) x d e h =
     let t = stands_in Else k d x h in
     let is : opened_in 1 (record { branch = Else; index = k } ∷ []) b ≡ Some t.o =
-      ap (opened_in 1 (record { branch = Else; index = k } ∷ [])) (same_some e) ∙ t.opens in
+    ap (opened_in 1 (record { branch = Else; index = k } ∷ [])) (same_some e) ∙ t.opens in
     record {
       o = record { around = InElse c a t.o.around end; piece = t.o.piece };
       opens =
-          ap (option_map (λ (o : Opened). record { around = InElse c a o.around end;
-          piece = o.piece })) is;
+          ap (option_map (λ (o : Opened). record {
+            around = InElse c a o.around end;
+            piece = o.piece;
+          })) is;
       piece = t.piece;
     }
 in_branch Else k (For i lo hi b) x d e h = absurd (nothing e)
@@ -163,7 +169,7 @@ branch_at p from j root a branch d at e k x h =
     let i = in_branch branch k a x d e h in
     let first : Step = record { branch = Main; index = 0 } in
     let inner : opened_in 1 (first ∷ t ∷ []) at.o.piece ≡ Some i.o =
-      ap (opened_in 1 (first ∷ t ∷ [])) at.piece ∙ i.opens in
+    ap (opened_in 1 (first ∷ t ∷ [])) at.piece ∙ i.opens in
     let on = places_compose 1 1 (down p from j) first (t ∷ []) root at.o i.o at.opens inner in
     record {
       o = inside at.o i.o;

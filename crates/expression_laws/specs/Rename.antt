@@ -8,5 +8,5 @@ use Rattle.step_rules.specs.Rule.{Got, Rule, plain_rule}
 abbrev pub rename_rule : List ℕ → Rule
 rename_rule name = record (plain_rule (λ t at. Got (record { path = at_index 0; count = 0 }))
     (λ s base. Got end) (λ s. [])) {
-  name = λ p. name;
-}
+      name = λ p. name;
+    }

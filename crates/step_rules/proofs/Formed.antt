@@ -1,5 +1,5 @@
 -- What a body keeps is kept where its hole is.
-use Rattle.std.proofs.Common.{◌≡◌, ℕ, Bool, true, false, ◌&&◌, List, [], Option, not, refl}
+use Rattle.std.proofs.Common.{◌≡◌, ℕ, Bool, true, false, ◌&&◌, Option, not, refl}
 use Rattle.std.proofs.Common.{if◌then◌else◌}
 use Rattle.exo_tree.specs.Tree.{Kind, Index, Statement, Pass, If, For, Block, end, next, joined}
 use Rattle.exo_tree.specs.Context.{Context, Here, After, InLoop, InThen, InElse, fill, rest_of}
@@ -48,7 +48,7 @@ module _ (fields : ℕ → Option Kind) (memories : ℕ) (callees : ℕ → Opti
       let body = fill c b in
       let inner = with_name scope i (ControlName Index) in
       let bounds =
-        both (findings_of_control fields plainly scope lo) (findings_of_control fields plainly scope hi) in
+      both (findings_of_control fields plainly scope lo) (findings_of_control fields plainly scope hi) in
       let last = both (limit (is_short body)) (found inner root body) in
       let p = shape_parts (found_step scope root (For i lo hi body)) (found scope root rest) h in
       let q = shape_parts (both (found_in_binder scope i) (rule (not (is_empty body))))
@@ -59,7 +59,7 @@ module _ (fields : ℕ → Option Kind) (memories : ℕ) (callees : ℕ → Opti
   formed_at (InThen test c other rest) b scope root h =
       let body = fill c b in
       let head =
-        both (findings_of_condition fields with_fields scope test) (rule (not (is_empty body))) in
+      both (findings_of_condition fields with_fields scope test) (rule (not (is_empty body))) in
       let one = both (limit (is_short body)) (found scope root body) in
       let two = both (limit (is_short other)) (found scope root other) in
       let p = shape_parts (found_step scope root (If test body other)) (found scope root rest) h in
@@ -70,7 +70,7 @@ module _ (fields : ℕ → Option Kind) (memories : ℕ) (callees : ℕ → Opti
   formed_at (InElse test other c rest) b scope root h =
       let body = fill c b in
       let head =
-        both (findings_of_condition fields with_fields scope test) (rule (not (is_empty other))) in
+      both (findings_of_condition fields with_fields scope test) (rule (not (is_empty other))) in
       let one = both (limit (is_short other)) (found scope root other) in
       let two = both (limit (is_short body)) (found scope root body) in
       let p = shape_parts (found_step scope root (If test other body)) (found scope root rest) h in

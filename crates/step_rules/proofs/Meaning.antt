@@ -30,7 +30,7 @@ use Rattle.cursor_forward.specs.Shifts.{move_of}
 use Rattle.cursor_forward.specs.Proposals.{Plan}
 use Rattle.step_rules.specs.Rule.{Target, Spot, Rule}
 use Rattle.step_rules.specs.Owing.{AreShown, findings_of_needs}
-use Rattle.step_rules.specs.Answer.{body_with, result, plan, spot, proposed}
+use Rattle.step_rules.specs.Answer.{body_with, result, plan, spot}
 use Rattle.step_rules.specs.Lawful.{IsMet, IsTarget, callees_for, MayRunIn, IsSpot, Site, IsSite}
 use Rattle.step_rules.specs.Lawful.{around, old, world_of, with_body, IsLawful, IsCarrying}
 use Rattle.step_rules.specs.Lawful.{fields_at_exit}
@@ -38,7 +38,7 @@ use Rattle.step_rules.specs.Lawful.{differ_at_end, found_scope_at, IsFormedHere}
 use Rattle.step_rules.specs.Laws.{NeedsHold, KeptLaw, MeaningLaw, ForwardsLaw}
 use Rattle.step_rules.proofs.Found.{both_kept}
 use Rattle.step_rules.proofs.Formed.{shape_parts, formed_at, passed_formed}
-use Rattle.step_rules.proofs.Proposals.{IsAnswer, IsProposal, proposal_of}
+use Rattle.step_rules.proofs.Proposals.{IsProposal, proposal_of}
 use Rattle.step_rules.proofs.SameKinds.{kinds_by_names}
 use Rattle.step_rules.proofs.Replaced.{replaced_refines, written_otherwise}
 

@@ -1,5 +1,5 @@
 -- What a proposal was made of.
-use Rattle.std.proofs.Common.{◌≡◌, ◌&&◌, ℕ, Bool, true, false, List, Option, Some, None, refl}
+use Rattle.std.proofs.Common.{◌≡◌, ◌&&◌, Bool, true, false, List, Option, Some, None, refl}
 use Rattle.std.proofs.Common.{if◌then◌else◌}
 use Rattle.exo_tree.specs.Tree.{Block}
 use Rattle.exo_tree.specs.Places.{Path, Opened, opened}

@@ -4,8 +4,8 @@ use Rattle.std.proofs.Common.{if◌then◌else◌, ◌&&◌}
 use Rattle.std.proofs.Math.Path.{fun_ext}
 use Rattle.std.proofs.Math.Nat.{not-suc-le-zero}
 use Rattle.std.specs.Prelude.{length}
-use Rattle.exo_tree.specs.Tree.{Statement, Pass, If, For, Block, end, next, joined, Procedure}
-use Rattle.exo_tree.specs.Context.{Context, Here, After, InLoop, InThen, InElse, fill, rest_of}
+use Rattle.exo_tree.specs.Tree.{Pass, Block, end, next, joined, Procedure}
+use Rattle.exo_tree.specs.Context.{Context, Here, After, InLoop, InThen, InElse, fill}
 use Rattle.exo_meaning.specs.Scene.{then_do, holds, where_true}
 use Rattle.exo_meaning.specs.State.{State, scoped}
 use Rattle.exo_meaning.specs.Run.{World, run, step, choose, turn, turns, turns_of, kinds_of}

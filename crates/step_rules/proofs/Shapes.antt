@@ -6,7 +6,7 @@ use Rattle.exo_tree.specs.Context.{Context, Here}
 use Rattle.made_trees.specs.Passes.{or_pass, is_alone}
 use Rattle.cursor_forward.specs.Forwards.{bone, more, none, Carries}
 use Rattle.cursor_forward.specs.Shifts.{stays}
-use Rattle.step_rules.specs.Rule.{Tried, Got}
+use Rattle.step_rules.specs.Rule.{Got}
 use Rattle.step_rules.specs.Shapes.{tried, alone_in}
 
 -- what something was made of

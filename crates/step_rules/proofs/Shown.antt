@@ -1,10 +1,8 @@
 -- What a need says holds where nothing that is owed for it has an integer point.
-use Rattle.std.proofs.Common.{◌≡◌, Bool, true, false, ◌&&◌, List, [], ◌∷◌, ◌++◌, All, suc, map, refl}
-use Rattle.std.proofs.Common.{not, sym, ap, ◌∙◌, subst, arith, Option, Some, None}
+use Rattle.std.proofs.Common.{◌≡◌, Bool, true, false, List, [], ◌∷◌, ◌++◌, All, suc, map, refl}
+use Rattle.std.proofs.Common.{not, sym, ◌∙◌, subst, arith, Option, Some, None}
 use Rattle.std.specs.List.{AllByRecursion}
-use Rattle.exo_tree.specs.Tree.{Condition}
 use Rattle.exo_tree.specs.Places.{Path, opened}
-use Rattle.exo_meaning.specs.Scene.{holds}
 use Rattle.exo_meaning.specs.State.{State}
 use Rattle.exo_meaning.specs.Run.{program_world}
 use Rattle.exo_meaning.specs.Inputs.{IsAdmissible}
@@ -13,19 +11,18 @@ use Rattle.exo_meaning.specs.Units.{field_kind, with_both, is_condition}
 use Rattle.meaning_laws.specs.Facts.{Fact, Holds, Fails, IsTrueAt}
 use Rattle.meaning_laws.specs.Sorted.{scope_there}
 use Rattle.affine_forms.specs.Affine.{HasNoIntegerPoint}
-use Rattle.affine_forms.specs.Formulas.{Formula, is_met, negation}
-use Rattle.affine_systems.specs.Systems.{IsShown, systems, Stated, stated}
+use Rattle.affine_systems.specs.Systems.{IsShown, systems}
 use Rattle.affine_systems.specs.Outcomes.{Owed, owed}
 use Rattle.affine_systems.specs.Laws.{ShownLaw}
 use Rattle.affine_systems.proofs.Cases.{negation_met}
-use Rattle.check_facts.specs.Contexts.{known_at_place, context_of, condition_formula}
+use Rattle.check_facts.specs.Contexts.{context_of}
 use Rattle.check_facts_laws.specs.Laws.{ComesToPlace, ContextsHold, WellFormedIsAllowed}
 use Rattle.tree_rules.specs.Classes.{all_kept}
 use Rattle.tree_rules_laws.proofs.Expressions.{condition_law}
 use Rattle.bounds_check.specs.Limits.{are_within}
 use Rattle.cursor_forward.specs.Causes.{FormFault}
 use Rattle.step_rules.specs.Rule.{Tried, Got, Target, Need, Says}
-use Rattle.step_rules.specs.Owing.{condition_of, AreShown, claim_of, owed_for, need_fault}
+use Rattle.step_rules.specs.Owing.{condition_of, claim_of, owed_for, need_fault}
 use Rattle.step_rules.specs.Owing.{fact_text, unless_refused, owed_behind, findings_of_need}
 use Rattle.step_rules.specs.Owing.{findings_of_needs}
 use Rattle.step_rules.specs.Lawful.{IsMet, MayRunIn}
@@ -122,9 +119,10 @@ module _ (t : Target) where
   all_owed os (n ∷ ns) must h closed =
       let more = os ++ owed_for t n in
       let rest = all_owed more ns must
-      (goes_on (need_fault t n) (are_within more) (owed_behind t more ns) must h) closed in
-      (each_front IsClosed os (owed_for t n) rest.0,
-      (each_back IsClosed os (owed_for t n) rest.0, rest.1))
+      (goes_on (need_fault t n) (are_within more) (owed_behind t more ns) must h) closed in (
+        each_front IsClosed os (owed_for t n) rest.0,
+        (each_back IsClosed os (owed_for t n) rest.0, rest.1),
+      )
 
 pub needs_hold : ContextsHold → WellFormedIsAllowed → ShownLaw → NeedsHold
 needs_hold context_law allowed shown_law t needs must may kept owes shown =

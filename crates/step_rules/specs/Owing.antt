@@ -1,5 +1,5 @@
 -- What a step has to show: each need with its systems, in the context of its place.
-use Rattle.std.specs.Prelude.{◌≡◌, Bool, true, false, ◌&&◌, if◌then◌else◌, All, List, [], ◌∷◌}
+use Rattle.std.specs.Prelude.{Bool, true, false, ◌&&◌, if◌then◌else◌, All, List, [], ◌∷◌}
 use Rattle.std.specs.Prelude.{◌++◌, map, codes, Option, Some, None}
 use Rattle.exo_tree.specs.Tree.{Condition}
 use Rattle.exo_tree.specs.Places.{Path, opened}
