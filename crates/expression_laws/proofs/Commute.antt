@@ -104,5 +104,5 @@ commute_is_carrying x = record {
       (sym (alone_is (old a.spot) found.0 found.1))
       (subst (λ b. Carries (stays 1) (next found.0 end) (or_pass (around a.spot) b)) d.made
       (one_stays (around a.spot) found.0 d.of (commuted_bone x found.0 d.of found.2)));
-  apart = λ s. refl;
+  apart = λ a is. refl;
 }

@@ -64,7 +64,7 @@ delete_pass_is_lawful = record {
 pub delete_pass_is_carrying : IsCarrying delete_pass_rule
 delete_pass_is_carrying = record {
   carries = λ a is. carried (around a.spot) (old a.spot) a.draft (same_block is.drafted);
-  apart = λ s. deleted_apart s.opened.piece;
+  apart = λ a is. deleted_apart (old a.spot);
 }
   where
     kept : (c : Context) (b : Block) → or_pass c (or_one_pass b) ≡ or_one_pass b

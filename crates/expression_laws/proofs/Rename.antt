@@ -30,4 +30,4 @@ rename_is_lawful name = record {
 }
 
 pub rename_is_carrying : (name : List ℕ) → IsCarrying (rename_rule name)
-rename_is_carrying name = record { carries = λ a is. tt; apart = λ s. refl }
+rename_is_carrying name = record { carries = λ a is. tt; apart = λ a is. refl }

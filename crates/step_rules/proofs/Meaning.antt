@@ -170,7 +170,7 @@ module _ (names : NamesAlone) (r : Rule) (t : Target) (at : Path) (m : Plan) (is
       let whole = with_body here (fill (around here) new) in
       let edits = (plan r here base p.answer.draft p.answer.must).edits in
       let there = moves t.proc whole edits p.o new p.opens refl refl
-      (carrying.carries site is_site) (carrying.apart here) in
+      (carrying.carries site is_site) (carrying.apart site is_site) in
       record {
         apart = there.apart;
         images = λ path to a stands goes.

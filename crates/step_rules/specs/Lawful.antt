@@ -216,4 +216,4 @@ pub record IsCarrying (r : Rule) : Type 0 where
       (a : Site)
       → IsSite r a
       → Carries (r.shifts a.spot) (old a.spot) (or_pass (around a.spot) a.draft)
-  pub apart : (s : Spot) → are_apart (r.shifts s) ≡ true
+  pub apart : (a : Site) → IsSite r a → are_apart (r.shifts a.spot) ≡ true
