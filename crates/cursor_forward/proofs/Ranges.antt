@@ -17,7 +17,7 @@ pub same_branch_self : (r : Branch) → same_branch r r ≡ true
 same_branch_self Main = refl
 same_branch_self Else = refl
 
-both_true : (a b : Bool) → (a && b) ≡ true → (a ≡ true) × (b ≡ true)
+pub both_true : (a b : Bool) → (a && b) ≡ true → (a ≡ true) × (b ≡ true)
 both_true true b h = (refl, h)
 both_true false b h = absurd (true≢false (sym h))
 

@@ -36,34 +36,47 @@ through : (f : Statement → Option Statement) (g : Bone → Option StatementKin
 through f g h None = refl
 through f g h (Some a) = h a
 
-mutual
-  found_bone : (path : Path) (a : Statement) → option_map kind_of (found_in path a) ≡ bone_found path (bone a)
-  found_bone [] (Assign x is e) = refl
-  found_bone [] (Reduce x is e) = refl
-  found_bone [] (Config f a) = refl
-  found_bone [] Pass = refl
-  found_bone [] (If c a b) = refl
-  found_bone [] (For i lo hi b) = refl
-  found_bone [] (Alloc x cell dims memory) = refl
-  found_bone [] (View w x coords) = refl
-  found_bone [] (Call k args) = refl
-  found_bone (t ∷ path) a = in_branch path t.branch t.index a
+abbrev HasBone : Path → Statement → Type 0
+HasBone path a = option_map kind_of (found_in path a) ≡ bone_found path (bone a)
 
-  in_branch : (path : Path) (r : Branch) (k : ℕ) (a : Statement) → option_map kind_of (option_and_then (λ b. found b k path) (branch_of r a)) ≡ option_and_then (bone_found path) (heads (bone_branch r (bone a)) k)
-  in_branch path Main k (For i lo hi b) = found_bones path k b
-  in_branch path Main k (If c a b) = found_bones path k a
-  in_branch path Else k (If c a b) = found_bones path k b
-  in_branch path Else k (For i lo hi b) = refl
-  in_branch path r k (Assign x is e) = refl
-  in_branch path r k (Reduce x is e) = refl
-  in_branch path r k (Config f a) = refl
-  in_branch path r k Pass = refl
-  in_branch path r k (Alloc x cell dims memory) = refl
-  in_branch path r k (View w x coords) = refl
-  in_branch path r k (Call n args) = refl
+-- along the statements of a block
+along : (path : Path) → ((a : Statement) → HasBone path a) → (k : ℕ) (b : Block) → kind_found b k path ≡ option_and_then (bone_found path) (heads (bones b) k)
+along path h k b = through (found_in path) (bone_found path) h (slice_get (statements b) k) ∙ ap (option_and_then (bone_found path)) (sym (heads_are b k))
 
-  found_bones : (path : Path) (k : ℕ) (b : Block) → kind_found b k path ≡ option_and_then (bone_found path) (heads (bones b) k)
-  found_bones path k b = through (found_in path) (bone_found path) (λ a. found_bone path a) (slice_get (statements b) k) ∙ ap (option_and_then (bone_found path)) (sym (heads_are b k))
+in_branch : (path : Path) → ((a : Statement) → HasBone path a) → (r : Branch) (k : ℕ) (a : Statement) → option_map kind_of (option_and_then (λ b. found b k path) (branch_of r a)) ≡ option_and_then (bone_found path) (heads (bone_branch r (bone a)) k)
+in_branch path h Main k (For i lo hi b) = along path h k b
+in_branch path h Main k (If c a b) = along path h k a
+in_branch path h Else k (If c a b) = along path h k b
+in_branch path h Else k (For i lo hi b) = refl
+in_branch path h Main k (Assign x is e) = refl
+in_branch path h Main k (Reduce x is e) = refl
+in_branch path h Main k (Config f a) = refl
+in_branch path h Main k Pass = refl
+in_branch path h Main k (Alloc x cell dims memory) = refl
+in_branch path h Main k (View w x coords) = refl
+in_branch path h Main k (Call n args) = refl
+in_branch path h Else k (Assign x is e) = refl
+in_branch path h Else k (Reduce x is e) = refl
+in_branch path h Else k (Config f a) = refl
+in_branch path h Else k Pass = refl
+in_branch path h Else k (Alloc x cell dims memory) = refl
+in_branch path h Else k (View w x coords) = refl
+in_branch path h Else k (Call n args) = refl
+
+found_bone : (path : Path) (a : Statement) → HasBone path a
+found_bone [] (Assign x is e) = refl
+found_bone [] (Reduce x is e) = refl
+found_bone [] (Config f a) = refl
+found_bone [] Pass = refl
+found_bone [] (If c a b) = refl
+found_bone [] (For i lo hi b) = refl
+found_bone [] (Alloc x cell dims memory) = refl
+found_bone [] (View w x coords) = refl
+found_bone [] (Call k args) = refl
+found_bone (t ∷ path) a = in_branch path (λ b. found_bone path b) t.branch t.index a
+
+found_bones : (path : Path) (k : ℕ) (b : Block) → kind_found b k path ≡ option_and_then (bone_found path) (heads (bones b) k)
+found_bones path k b = along path (λ a. found_bone path a) k b
 
 pub same_bones : (path : Path) (k : ℕ) (b c : Block) → bones b ≡ bones c → kind_found b k path ≡ kind_found c k path
 same_bones path k b c h = found_bones path k b ∙ ap (λ (x : Bones). option_and_then (bone_found path) (heads x k)) h ∙ sym (found_bones path k c)

@@ -1,5 +1,5 @@
 //! Cursors, and where they go by an edit.
-ghost use Rattle.std.specs.Prelude.{◌≡◌, ◌+◌, ◌<◌, ◌≤◌, length, map, option_map, option_and_then};
+ghost use Rattle.std.specs.Prelude.{◌≡◌, [], ◌∷◌, ◌+◌, ◌<◌, ◌≤◌, length, map, option_map, option_and_then};
 ghost use Rattle.exo_tree.specs.PlainPlace.{step_taken};
 ghost use Rattle.cursor_forward.specs.Cursors.{Range, span_of, forward_of};
 ghost use Rattle.cursor_forward.specs.PlainCursor.{plain_cursor};
@@ -26,17 +26,29 @@ pub enum Cursor {
     Gap(Path, Side),
 }
 
+/// How many statements there are from one step of a block to another; None where they do not stand in this order.
+fn span_between(first: Step, last: Step) -> Option<u32>
+    ensures { result ≡ span_of (step_taken first ∷ []) (step_taken last ∷ []) }
+{
+    if first.branch == last.branch {
+        last.index.checked_sub(first.index)?.checked_add(1)
+    } else {
+        None
+    }
+}
+
 /// How many statements there are from one to another; None where they do not stand in this order in one block.
 fn span(first: &[Step], last: &[Step]) -> Option<u32>
     ensures { result ≡ span_of (map step_taken first.now) (map step_taken last.now) }
 {
     let (f, more) = first.split_first()?;
     let (l, rest) = last.split_first()?;
-    if more.is_empty() && rest.is_empty() {
-        if f.branch != l.branch {
-            return None;
-        }
-        return l.index.checked_sub(f.index)?.checked_add(1);
+    if more.is_empty() {
+        return if rest.is_empty() {
+            span_between(*f, *l)
+        } else {
+            None
+        };
     }
     if is_same_step(*f, *l) {
         span(more, rest)

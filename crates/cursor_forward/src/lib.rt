@@ -3,6 +3,7 @@
 
 mod cursor;
 mod edits;
+pub mod laws;
 mod moves;
 mod paths;
 mod proposal;
