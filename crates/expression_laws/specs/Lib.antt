@@ -1,0 +1,4 @@
+pub mod Exchange
+pub mod Commute
+pub mod Rename
+pub mod Passes

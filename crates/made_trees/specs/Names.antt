@@ -1,0 +1,143 @@
+-- The names of copies. A binder of a copy keeps its name where no binder of that name is in scope
+-- at its place and none stands at the top level of its own block. Otherwise it gets the name with
+-- the least number that no binder has.
+use Rattle.std.specs.Prelude.{ℕ, zero, suc, nat_lt, ◌==◌, Bool, ◌||◌, if◌then◌else◌}
+use Rattle.std.specs.Prelude.{List, [], ◌∷◌, ◌++◌, length, map, codes, decimal}
+use Rattle.std.specs.List.{list_any}
+use Rattle.exo_tree.specs.Tree.{Binder, Statement, Assign, Reduce, Config, Pass, If, For, Alloc}
+use Rattle.exo_tree.specs.Tree.{View, Call, Block, end, next, Procedure}
+use Rattle.exo_tree.specs.Mapped.{Leaves, unchanged, mapped_block}
+use Rattle.exo_meaning.specs.Units.{is_text}
+
+abbrev pub Name : Type 0
+Name = List ℕ
+
+abbrev pub is_in : List Name → Name → Bool
+is_in names x = list_any (is_text x) names
+
+-- ---- names with numbers
+
+-- `x_k`
+abbrev pub numbered : Name → ℕ → Name
+numbered x k = x ++ codes "_" ++ decimal k
+
+-- the first number from k on whose name is not taken, of at most so many
+abbrev pub first_free : List Name → Name → ℕ → ℕ → ℕ
+first_free taken x zero k = k
+first_free taken x (suc n) k =
+    if is_in taken (numbered x k) then first_free taken x n (suc k) else k
+
+-- the name with the least number from 1 on that is not taken; each taken name has one number
+abbrev pub free_name : List Name → Name → Name
+free_name taken x = numbered x (first_free taken x (length taken) 1)
+
+-- ---- the names of a procedure
+
+abbrev mutual
+  pub binder_names : Block → List Name
+  binder_names end = []
+  binder_names (next a b) = names_below a ++ binder_names b
+
+  pub names_below : Statement → List Name
+  names_below (Assign x is e) = []
+  names_below (Reduce x is e) = []
+  names_below (Config f a) = []
+  names_below Pass = []
+  names_below (If c a b) = binder_names a ++ binder_names b
+  names_below (For i lo hi b) = i.name ∷ binder_names b
+  names_below (Alloc x cell dims memory) = x.name ∷ []
+  names_below (View w x coords) = w.name ∷ []
+  names_below (Call k args) = []
+
+abbrev pub param_names : Procedure → List Name
+param_names p = map (λ q. q.binder.name) p.params
+
+-- ---- the names of copies
+
+-- on the way through a block: the names in scope, those that are taken, and the binders so far with
+-- the names that they are given, the last first
+pub record Naming : Type 0 where
+  pub scope : List Name
+  pub taken : List Name
+  pub given : List Binder
+
+-- behind a block its names are not in scope
+abbrev pub closed : Naming → Naming → Naming
+closed before after = record after { scope = before.scope }
+
+-- copies: the first id of a binder of a copy
+module _ (copies : ℕ) where
+  -- the name of a binder that is none of a copy
+  abbrev pub own_name : Binder → List Name
+  own_name x = if nat_lt x.id copies then x.name ∷ [] else []
+
+  -- what a statement leaves to its block
+  abbrev pub top_name : Statement → List Name
+  top_name (Assign x is e) = []
+  top_name (Reduce x is e) = []
+  top_name (Config f a) = []
+  top_name Pass = []
+  top_name (If c a b) = []
+  top_name (For i lo hi b) = []
+  top_name (Alloc x cell dims memory) = own_name x
+  top_name (View w x coords) = own_name w
+  top_name (Call k args) = []
+
+  abbrev pub top_names : Block → List Name
+  top_names end = []
+  top_names (next a b) = top_name a ++ top_names b
+
+  -- top: the names at the top level of the block of the binder
+  abbrev pub name_given : List Name → Naming → Binder → Name
+  name_given top n x =
+      if nat_lt x.id copies then x.name
+      else (if is_in n.scope x.name || is_in top x.name then free_name n.taken x.name else x.name)
+
+  abbrev pub with_binder : List Name → Naming → Binder → Naming
+  with_binder top n x =
+      let name = name_given top n x in
+      record {
+        scope = name ∷ n.scope;
+        taken = name ∷ n.taken;
+        given = record { id = x.id; name = name } ∷ n.given;
+      }
+
+  abbrev mutual
+    pub name_statements : List Name → Naming → Block → Naming
+    name_statements top n end = n
+    name_statements top n (next a b) = name_statements top (name_statement top n a) b
+
+    pub name_statement : List Name → Naming → Statement → Naming
+    name_statement top n (Assign x is e) = n
+    name_statement top n (Reduce x is e) = n
+    name_statement top n (Config f a) = n
+    name_statement top n Pass = n
+    name_statement top n (If c a b) =
+        closed n (name_statements (top_names b) (closed n (name_statements (top_names a) n a)) b)
+    name_statement top n (For i lo hi b) =
+        closed n (name_statements (top_names b) (with_binder top n i) b)
+    name_statement top n (Alloc x cell dims memory) = with_binder top n x
+    name_statement top n (View w x coords) = with_binder top n w
+    name_statement top n (Call k args) = n
+
+-- a binder with the name that it is given
+abbrev pub named_by : List Binder → Binder → Binder
+named_by [] x = x
+named_by (y ∷ given) x = if x.id == y.id then record x { name = y.name } else named_by given x
+
+abbrev pub with_names : List Binder → Leaves
+with_names given = record unchanged { binder = named_by given }
+
+-- the first names that are taken are those of the old procedure
+abbrev pub first_naming : Procedure → Naming
+first_naming p =
+    record {
+      scope = param_names p;
+      taken = param_names p ++ binder_names p.body;
+      given = [];
+    }
+
+-- a new body of the procedure, with names for its copies, whose binders have ids from `copies` on
+abbrev pub named_copies : Procedure → ℕ → Block → Block
+named_copies p copies b =
+    mapped_block (with_names (name_statements copies (top_names copies b) (first_naming p) b).given) b

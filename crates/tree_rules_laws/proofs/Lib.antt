@@ -1,0 +1,5 @@
+pub mod Parts
+pub mod Expressions
+pub mod Blocks
+pub mod Versions
+pub mod Kept
