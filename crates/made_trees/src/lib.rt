@@ -2,5 +2,8 @@
 #![tactic(auto)]
 
 mod fresh;
+mod ids;
+mod pass;
 
 pub use fresh::Fresh;
+pub use pass::or_pass;

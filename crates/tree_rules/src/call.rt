@@ -1,0 +1,136 @@
+//! What is found in calls.
+ghost use Rattle.std.specs.Prelude.{◌≡◌, ◌||◌, map};
+ghost use Rattle.exo_tree.specs.PlainArgument.{argument};
+ghost use Rattle.exo_tree.specs.PlainParam.{parameter};
+ghost use Rattle.exo_meaning.specs.Units as units;
+ghost use Rattle.exo_modes.specs.Aliases.{roots_in};
+ghost use Rattle.tree_rules.specs.Findings as found;
+ghost use Rattle.tree_rules.specs.Seen.{scope_seen};
+ghost use Rattle.tree_rules.specs.Walked.{IsGround, ground_callees, ground_kinds, writes_seen};
+
+use crate::argument::in_arguments;
+use crate::findings::Findings;
+use crate::name::Names;
+use exo_modes::{Alias, ModeTable, root};
+use exo_tree::{Arg, Id, Param, ProcId, Unit};
+
+/// What stands round a body: its unit, with the modes of its procedures.
+#[derive(Clone, Copy)]
+pub(crate) struct Ground<'u> {
+    pub(crate) unit: &'u Unit,
+    pub(crate) modes: &'u ModeTable,
+}
+
+impl<'u> Ground<'u> {
+    /// Whether a procedure writes or reduces a buffer.
+    fn has_write(&self, k: ProcId, x: Id) -> bool
+        ensures { result ≡ writes_seen self.now k.0 x.0 }
+    {
+        let modes = self.modes.get(k, x);
+        modes.write || modes.reduce
+    }
+
+    /// The buffer that an argument is a part of.
+    fn root_of(&self, aliases: &[Alias], a: &Arg) -> Option<u32>
+        ensures { result ≡ units.root_of (ground_kinds self.now) (roots_in aliases.now) (argument a.now) }
+    {
+        match a {
+            Arg::Whole(x) => Some(root(aliases, x.0)),
+            Arg::Window(x, _) => Some(root(aliases, x.0)),
+            _ => None,
+        }
+    }
+
+    /// Whether both are the same buffer.
+    fn same_root(&self, one: Option<u32>, other: Option<u32>) -> bool
+        ensures { result ≡ units.same_root (ground_kinds self.now) one other }
+    {
+        match (one, other) {
+            (Some(x), Some(y)) => x == y,
+            _ => false,
+        }
+    }
+
+    /// Whether the callee writes one of two parameters.
+    fn has_write_of(&self, k: ProcId, x: Id, y: Id) -> bool
+        ensures { result ≡ (writes_seen self.now k.0 x.0 || writes_seen self.now k.0 y.0) }
+    {
+        let first = self.has_write(k, x);
+        let second = self.has_write(k, y);
+        first || second
+    }
+}
+
+/// A parameter of a callee with the buffer that it is given.
+#[derive(Clone, Copy)]
+pub(crate) struct Passed<'p> {
+    callee: ProcId,
+    param: &'p Param,
+    root: Option<u32>,
+}
+
+/// Whether a later argument is of the same buffer, and the callee writes one of the two parameters.
+fn is_shared(
+    ground: &Ground,
+    aliases: &[Alias],
+    passed: Passed,
+    params: &[Param],
+    args: &[Arg],
+) -> bool
+    ensures { result ≡ units.is_shared (ground_kinds ground.now) (writes_seen ground.now passed.callee.0) (roots_in aliases.now) (parameter passed.param.now) passed.root (map parameter params.now) (map argument args.now) }
+{
+    let [q, params @ ..] = params else {
+        return false;
+    };
+    let [a, args @ ..] = args else {
+        return false;
+    };
+    let same = ground.same_root(passed.root, ground.root_of(aliases, a));
+    let written = ground.has_write_of(passed.callee, passed.param.binder.id, q.binder.id);
+    (same && written) || is_shared(ground, aliases, passed, params, args)
+}
+
+/// Whether no two arguments are of one buffer of which the callee writes one.
+fn share_nothing_written(
+    ground: &Ground,
+    aliases: &[Alias],
+    callee: ProcId,
+    params: &[Param],
+    args: &[Arg],
+) -> bool
+    ensures { result ≡ units.share_nothing_written (ground_kinds ground.now) (writes_seen ground.now callee.0) (roots_in aliases.now) (map parameter params.now) (map argument args.now) }
+{
+    let [p, params @ ..] = params else {
+        return true;
+    };
+    let [a, args @ ..] = args else {
+        return true;
+    };
+    let passed = Passed {
+        callee,
+        param: p,
+        root: ground.root_of(aliases, a),
+    };
+    !is_shared(ground, aliases, passed, params, args)
+        && share_nothing_written(ground, aliases, callee, params, args)
+}
+
+/// What is found in a call.
+pub(crate) fn in_call(
+    ground: &Ground,
+    names: &Names,
+    aliases: &[Alias],
+    callee: ProcId,
+    args: &[Arg],
+) -> Findings
+    requires table { IsGround ground.now }
+    requires fields { names.now.fields.now ≡ ground.now.unit.now.fields }
+    ensures { result ≡ found.findings_of_call (ground_kinds ground.now) (scope_seen names.now) (roots_in aliases.now) (ground_callees ground.now callee.0) (map argument args.now) }
+{
+    let Some(procedure) = ground.unit.procs.get(callee.0 as usize) else {
+        return Findings::rule(false);
+    };
+    let params = procedure.params.as_slice();
+    let apart = share_nothing_written(ground, aliases, callee, params, args);
+    in_arguments(names, params, args).and(Findings::rule(apart))
+}
