@@ -1,5 +1,6 @@
 -- Counts of statements.
 use Rattle.std.proofs.Common.{◌≡◌, ◌+◌, ℕ, zero, suc, nat_lt, Bool, true, false, not, ◌&&◌, List, [], ◌∷◌, length, drop, take, ap, refl, ◌∙◌, sym, arith}
+use Rattle.std.proofs.lemmas.Bool.{lt-ltb}
 use Rattle.std.proofs.lemmas.Bool.Decides.{nat_tests}
 use Rattle.exo_tree.specs.Tree.{Statement, block, statements}
 use Rattle.exo_tree.specs.Nodes.{nodes, nodes_of}
@@ -23,7 +24,7 @@ larger_below a b n = by (nat_lt a b) refl
 -- a block as a list
 pub filled : (ss : List Statement) → nat_lt 0 (length ss) ≡ not (is_empty (block ss))
 filled [] = refl
-filled (s ∷ ss) = refl
+filled (s ∷ ss) = lt-ltb 0 (suc (length ss)) (omega arith)
 
 pub many : (ss : List Statement) → length (statements (block ss)) ≡ length ss
 many [] = refl

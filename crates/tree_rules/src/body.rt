@@ -62,7 +62,8 @@ fn findings_inside<'u>(
 {
     let mut walk = Walk::new(alloc);
     bind_params(&mut walk, params.as_slice())?;
-    walk_block(ground, &mut walk, body)
+    let inside = walk_block(ground, &mut walk, body)?;
+    Ok(inside)
 }
 
 /// What is found in such a body under the parameters of a procedure of the unit, where it may call

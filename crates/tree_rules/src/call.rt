@@ -4,15 +4,16 @@ ghost use Rattle.exo_tree.specs.PlainArgument.{argument};
 ghost use Rattle.exo_tree.specs.PlainParam.{parameter};
 ghost use Rattle.exo_meaning.specs.Units as units;
 ghost use Rattle.exo_modes.specs.Aliases.{roots_in};
+ghost use Rattle.tree_rules.specs.Classes.{both, rule};
 ghost use Rattle.tree_rules.specs.Findings as found;
-ghost use Rattle.tree_rules.specs.Seen.{scope_seen};
+ghost use Rattle.tree_rules.specs.Seen.{kinds_seen, scope_seen};
 ghost use Rattle.tree_rules.specs.Walked.{IsGround, ground_callees, ground_kinds, writes_seen};
 
 use crate::argument::in_arguments;
 use crate::findings::Findings;
 use crate::name::Names;
 use exo_modes::{Alias, ModeTable, root};
-use exo_tree::{Arg, Id, Param, ProcId, Unit};
+use exo_tree::{Arg, Args, Id, Param, Params, ProcId, Unit};
 
 /// What stands round a body: its unit, with the modes of its procedures.
 #[derive(Clone, Copy)]
@@ -61,23 +62,18 @@ impl<'u> Ground<'u> {
     }
 }
 
-/// A parameter of a callee with the buffer that it is given.
-#[derive(Clone, Copy)]
-pub(crate) struct Passed<'p> {
-    callee: ProcId,
-    param: &'p Param,
-    root: Option<u32>,
-}
-
-/// Whether a later argument is of the same buffer, and the callee writes one of the two parameters.
+/// Whether a later argument is of the same buffer as that of a parameter, and the callee writes one of
+/// the two parameters.
 fn is_shared(
     ground: &Ground,
     aliases: &[Alias],
-    passed: Passed,
+    callee: ProcId,
+    p: &Param,
+    buffer: Option<u32>,
     params: &[Param],
     args: &[Arg],
 ) -> bool
-    ensures { result ≡ units.is_shared (ground_kinds ground.now) (writes_seen ground.now passed.callee.0) (roots_in aliases.now) (parameter passed.param.now) passed.root (map parameter params.now) (map argument args.now) }
+    ensures { result ≡ units.is_shared (ground_kinds ground.now) (writes_seen ground.now callee.0) (roots_in aliases.now) (parameter p.now) buffer (map parameter params.now) (map argument args.now) }
 {
     let [q, params @ ..] = params else {
         return false;
@@ -85,9 +81,9 @@ fn is_shared(
     let [a, args @ ..] = args else {
         return false;
     };
-    let same = ground.same_root(passed.root, ground.root_of(aliases, a));
-    let written = ground.has_write_of(passed.callee, passed.param.binder.id, q.binder.id);
-    (same && written) || is_shared(ground, aliases, passed, params, args)
+    let same = ground.same_root(buffer, ground.root_of(aliases, a));
+    let written = ground.has_write_of(callee, p.binder.id, q.binder.id);
+    (same && written) || is_shared(ground, aliases, callee, p, buffer, params, args)
 }
 
 /// Whether no two arguments are of one buffer of which the callee writes one.
@@ -106,13 +102,26 @@ fn share_nothing_written(
     let [a, args @ ..] = args else {
         return true;
     };
-    let passed = Passed {
-        callee,
-        param: p,
-        root: ground.root_of(aliases, a),
-    };
-    !is_shared(ground, aliases, passed, params, args)
+    let buffer = ground.root_of(aliases, a);
+    !is_shared(ground, aliases, callee, p, buffer, params, args)
         && share_nothing_written(ground, aliases, callee, params, args)
+}
+
+/// What is found in a call of a procedure with these parameters.
+fn in_known_call(
+    ground: &Ground,
+    names: &Names,
+    aliases: &[Alias],
+    callee: ProcId,
+    params: &Params,
+    args: &Args,
+) -> Findings
+    ensures { result ≡ both (found.findings_of_arguments (kinds_seen names.now) (scope_seen names.now) params.now args.now) (rule (units.share_nothing_written (ground_kinds ground.now) (writes_seen ground.now callee.0) (roots_in aliases.now) params.now args.now)) }
+{
+    let params = params.as_slice();
+    let args = args.as_slice();
+    let apart = share_nothing_written(ground, aliases, callee, params, args);
+    in_arguments(names, params, args).and(Findings::rule(apart))
 }
 
 /// What is found in a call.
@@ -121,16 +130,14 @@ pub(crate) fn in_call(
     names: &Names,
     aliases: &[Alias],
     callee: ProcId,
-    args: &[Arg],
+    args: &Args,
 ) -> Findings
     requires table { IsGround ground.now }
     requires fields { names.now.fields.now ≡ ground.now.unit.now.fields }
-    ensures { result ≡ found.findings_of_call (ground_kinds ground.now) (scope_seen names.now) (roots_in aliases.now) (ground_callees ground.now callee.0) (map argument args.now) }
+    ensures { result ≡ found.findings_of_call (ground_kinds ground.now) (scope_seen names.now) (roots_in aliases.now) (ground_callees ground.now callee.0) args.now }
 {
-    let Some(procedure) = ground.unit.procs.get(callee.0 as usize) else {
-        return Findings::rule(false);
-    };
-    let params = procedure.params.as_slice();
-    let apart = share_nothing_written(ground, aliases, callee, params, args);
-    in_arguments(names, params, args).and(Findings::rule(apart))
+    match ground.unit.procs.get(callee.0 as usize) {
+        Some(p) => in_known_call(ground, names, aliases, callee, &p.params, args),
+        None => Findings::rule(false),
+    }
 }

@@ -36,7 +36,7 @@ impl<'u> Walk<'u> {
 
     /// Puts a name into scope.
     pub(crate) fn bind(&mut self, binder: &'u Binder, sort: Sort) -> Result<(), AllocError>
-        ensures entries { OnOk result (self.new.entries.items ≡ self.old.entries.items ++ record { binder = binder.entry; sort = sort.entry } ∷ []) }
+        ensures entries { OnOk result (self.new.entries.items ≡ self.old.entries.items ++ record { binder = binder.entry; sort = sort } ∷ []) }
         ensures scope { OnOk result (walk_scope self.new ≡ with_name (walk_scope self.old) (binding binder.now) (sort_meant sort)) }
         ensures aliases { OnOk result (self.new.aliases.items ≡ self.old.aliases.items) }
     {

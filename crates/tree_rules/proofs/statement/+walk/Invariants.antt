@@ -10,6 +10,9 @@ use Rattle.tree_rules.proofs.statement.+walk.Given as goal
 abbrev pub decreases-walk_statement : goal.decreases-walk_statement
 decreases-walk_statement l = 4 * nodes (statement l.s.now)
 
+abbrev pub decreases-walk_if : goal.decreases-walk_if
+decreases-walk_if l = 4 * (nodes_in (block l.a.now) + nodes_in (block l.b.now)) + 3
+
 abbrev pub decreases-walk_loop : goal.decreases-walk_loop
 decreases-walk_loop l = 4 * nodes_in (block l.b.now) + 3
 
