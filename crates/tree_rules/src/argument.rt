@@ -49,7 +49,10 @@ fn in_tensor(names: &Names, cell: Cell, rank: usize, a: &Arg) -> Findings
         Arg::Whole(x) => {
             let sort = names.sort(*x);
             let dense = rank == 0 || is_dense(sort);
-            use_of(sort, has_cell(cell, sort) && (has_rank(rank, sort) && dense))
+            use_of(
+                sort,
+                has_cell(cell, sort) && (has_rank(rank, sort) && dense),
+            )
         }
         Arg::Window(x, coords) => {
             let coords = coords.as_slice();

@@ -1,33 +1,34 @@
 //! What is found in statements and blocks.
-ghost use Rattle.std.specs.Prelude.{◌≡◌, not, nat_lt, map, IfOk, OnOk};
+ghost use Rattle.std.specs.Prelude.{◌≡◌, not, nat_lt, IfOk, OnOk};
 ghost use Rattle.exo_tree.specs.Tree as tree;
 ghost use Rattle.exo_tree.specs.Tree.{block};
 ghost use Rattle.exo_tree.specs.PlainArgument.{argument};
 ghost use Rattle.exo_tree.specs.PlainBinder.{binding, cell_type};
 ghost use Rattle.exo_tree.specs.PlainDatum.{datum};
-ghost use Rattle.exo_tree.specs.PlainControl.{control, condition, coordinate};
+ghost use Rattle.exo_tree.specs.PlainControl.{control, condition};
 ghost use Rattle.exo_tree.specs.PlainStatement.{statement};
 ghost use Rattle.exo_meaning.specs.Units as units;
 ghost use Rattle.exo_meaning.specs.Units.{plainly, with_fields};
 ghost use Rattle.tree_rules.specs.Classes.{both, rule, limit};
 ghost use Rattle.tree_rules.specs.Findings as found;
-ghost use Rattle.tree_rules.specs.Seen.{kinds_seen, scope_seen};
 ghost use Rattle.tree_rules.specs.Walked.{IsGround, ground_kinds, ground_memories, ground_callees, walk_scope, walk_roots, Walked, IsBack};
 
 use crate::argument::in_write;
 use crate::call::{Ground, in_call};
-use crate::expression::{in_access, in_condition, in_control, in_controls, in_datum, in_window, spans};
+use crate::expression::{
+    in_access, in_condition, in_control, in_controls, in_datum, in_window, spans,
+};
 use crate::findings::Findings;
-use crate::name::{Names, PLAINLY, WITH_FIELDS};
+use crate::name::{PLAINLY, WITH_FIELDS};
 use crate::scope::Sort;
 use crate::walk::{Walk, walk_alloc, walk_view};
 use exo_tree::{
-    Arg, Args, Binder, Block, Cell, Cond, Coord, Coords, Ctrl, DataExpr, FieldId, Id, Indices, Kind, MemId, ProcId, Stmt,
+    Arg, Args, Binder, Block, Cell, Cond, Coords, Ctrl, DataExpr, FieldId, Id, Indices, Kind,
+    MemId, ProcId, Stmt,
 };
 use std::alloc::AllocError;
 
 /// Whether a block has a statement.
-#[tactic(auto, using(crate::proofs::Counts::filled))]
 pub(crate) fn is_filled(b: &Block) -> bool
     ensures { result ≡ not (units.is_empty (block b.now)) }
 {
@@ -35,7 +36,6 @@ pub(crate) fn is_filled(b: &Block) -> bool
 }
 
 /// Whether a block has fewer than 2^31 statements.
-#[tactic(auto, using(crate::proofs::Counts::many))]
 pub(crate) fn is_short(b: &Block) -> bool
     ensures { result ≡ units.is_short (block b.now) }
 {
@@ -100,37 +100,25 @@ fn in_alloc<'u>(
     extents.and(rank.and(Findings::rule(known)))
 }
 
-/// What is found in the window of a view.
-fn in_part(names: &Names, x: Id, coords: &[Coord]) -> Findings
-    ensures { result ≡ both (found.findings_of_window (kinds_seen names.now) (scope_seen names.now) x.0 (map coordinate coords.now)) (rule (nat_lt 0 (units.spans (map coordinate coords.now)))) }
+/// Whether a window has a span.
+fn has_span(coords: &Coords) -> bool
+    ensures { result ≡ nat_lt 0 (units.spans coords.now) }
 {
-    let count = spans(coords);
-    in_window(names, x, coords).and(Findings::rule(0 < count))
+    0 < spans(coords.as_slice())
 }
 
 /// What is found in a view.
-fn in_view<'u>(
-    ground: &Ground<'u>,
-    walk: &Walk<'u>,
-    w: &Binder,
-    x: Id,
-    coords: &Coords,
-) -> Findings
+fn in_view<'u>(ground: &Ground<'u>, walk: &Walk<'u>, w: &Binder, x: Id, coords: &Coords) -> Findings
     ensures { result ≡ both (found.found_in_binder (walk_scope walk.now) (binding w.now)) (both (found.findings_of_window (ground_kinds ground.now) (walk_scope walk.now) x.0 coords.now) (rule (nat_lt 0 (units.spans coords.now)))) }
 {
     let names = walk.names(ground);
-    let part = in_part(&names, x, coords.as_slice());
-    names.binder(w).and(part)
+    let window = in_window(&names, x, coords.as_slice());
+    let span = Findings::rule(has_span(coords));
+    joined(names.binder(w), window, span)
 }
 
 /// What is found in an assignment or a reduction.
-fn in_store<'u>(
-    ground: &Ground<'u>,
-    walk: &Walk<'u>,
-    x: Id,
-    at: &Indices,
-    e: &DataExpr,
-) -> Findings
+fn in_store<'u>(ground: &Ground<'u>, walk: &Walk<'u>, x: Id, at: &Indices, e: &DataExpr) -> Findings
     ensures { result ≡ both (found.findings_of_access (ground_kinds ground.now) (walk_scope walk.now) x.0 at.now) (found.findings_of_datum (ground_kinds ground.now) (walk_scope walk.now) (datum e.now)) }
 {
     let names = walk.names(ground);

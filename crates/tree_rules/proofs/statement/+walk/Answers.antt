@@ -15,7 +15,7 @@ walk_if-returns-clause-found t c =
     let b = block c.args.b.now in
     let back = c.in_ok-first.ensures.back in
     c.joined.ensures ∙ (λ i. both (c.in_test-test.ensures i) (both (c.in_ok-first.ensures.found i)
-      ((c.in_ok-second.ensures.found ∙ (λ j. both (limit (is_short b)) (found (scope_in (back.entries j)) (roots_in (back.aliases j)) b))) i)))
+    ((c.in_ok-second.ensures.found ∙ (λ j. both (limit (is_short b)) (found (scope_in (back.entries j)) (roots_in (back.aliases j)) b))) i)))
 
 pub walk_loop-returns-clause-found : goal.walk_loop-returns-clause-found
 walk_loop-returns-clause-found t c =
@@ -24,4 +24,4 @@ walk_loop-returns-clause-found t c =
     let b = block c.args.b.now in
     let bound = c.in_ok-bind.ensures in
     c.joined.ensures ∙ (λ i. both (c.in_header.ensures.variable i) (both (c.in_header.ensures.bounds i)
-      ((c.in_ok-inside.ensures.found ∙ (λ j. both (limit (is_short b)) (found (bound.scope j) (roots_in (bound.aliases j)) b))) i)))
+    ((c.in_ok-inside.ensures.found ∙ (λ j. both (limit (is_short b)) (found (bound.scope j) (roots_in (bound.aliases j)) b))) i)))
