@@ -4,7 +4,7 @@ use Rattle.std.specs.Prelude.{slice_get}
 use Rattle.exo_tree.specs.Tree.{Kind, Argument, Param, Statement, Assign, Reduce, Config, Pass, If, For, Alloc, View, Call, Block, end, next, Procedure}
 use Rattle.exo_meaning.specs.Calls.{Callee}
 use Rattle.exo_meaning.specs.Run.{is_root, roots_after, call_writes, call_to_writes, writes, step_writes, world_of, callee_in, callees}
-use Rattle.exo_meaning.specs.Modes.{Mode, Writing, Reducing, Modes, has_mode, step_has_mode, call_has, modes_at, modes_in, all_modes, no_modes}
+use Rattle.exo_meaning.specs.Modes.{Mode, Writing, Reducing, Modes, has_mode, step_has_mode, call_has, modes_at, modes_in, all_modes}
 use Rattle.exo_modes.specs.Marks.{writing}
 
 crossed : (a b c d : Bool) → ((a || b) || (c || d)) ≡ ((a || c) || (b || d))

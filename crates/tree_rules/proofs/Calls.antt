@@ -1,5 +1,5 @@
 -- What is found in a call, by the table of modes.
-use Rattle.std.proofs.Common.{◌≡◌, ℕ, Bool, false, List, [], map, Option, None, Some, option_map, refl, ap, sym, ◌∙◌}
+use Rattle.std.proofs.Common.{◌≡◌, ℕ, Bool, false, List, [], Option, None, Some, option_map, refl, ap, sym, ◌∙◌}
 use Rattle.std.specs.Prelude.{slice_get}
 use Rattle.exo_tree.specs.Tree.{Argument, Procedure, Program}
 use Rattle.exo_meaning.specs.Calls.{Callee}
@@ -7,10 +7,9 @@ use Rattle.exo_meaning.specs.Run.{callees, kinds_of, program_world}
 use Rattle.exo_meaning.specs.Modes.{Modes, modes_at}
 use Rattle.exo_meaning.specs.Units.{Scope, field_kind, share_nothing_written}
 use Rattle.exo_modes.specs.Marks.{modes_of, writing}
-use Rattle.tree_rules.specs.declared.findings.Findings.{Findings}
 use Rattle.tree_rules.specs.Classes.{both, rule}
 use Rattle.tree_rules.specs.Findings.{findings_of_arguments, findings_of_call}
-use Rattle.tree_rules.proofs.Callees.{Says, callee_at, callee_says}
+use Rattle.tree_rules.proofs.Callees.{callee_at, callee_says}
 
 none_of : {A B : Type 0} (f : A → B) (o : Option A) → option_map f o ≡ None → o ≡ None
 none_of f None e = refl

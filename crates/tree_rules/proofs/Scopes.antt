@@ -1,8 +1,8 @@
 -- The names of a walk, as a scope.
-use Rattle.std.proofs.Common.{◌≡◌, ℕ, zero, suc, ◌==◌, ◌≤◌, Bool, true, false, not, ◌||◌, List, [], ◌∷◌, ◌++◌, length, take, Option, None, Some, refl, ap, sym, ◌∙◌, arith, if◌then◌else◌}
+use Rattle.std.proofs.Common.{◌≡◌, ℕ, ◌==◌, Bool, true, false, not, ◌||◌, List, [], ◌∷◌, ◌++◌, length, take, Option, None, Some, refl, ap, sym, ◌∙◌, if◌then◌else◌}
 use Rattle.std.specs.List.{list_any}
 use Rattle.exo_tree.specs.Tree.{Binder}
-use Rattle.exo_meaning.specs.Units.{Sort, Named, Scope, sort_in}
+use Rattle.exo_meaning.specs.Units.{Sort, Scope, sort_in}
 use Rattle.tree_rules.specs.declared.scope.Entry.{Entry}
 use Rattle.tree_rules.specs.Seen.{sort_meant, named, scope_among, scope_in, clash}
 

@@ -1,5 +1,5 @@
 -- What a walk knows, and what stands round a body.
-use Rattle.std.specs.Prelude.{◌≡◌, ℕ, Bool, List, length, take, Option}
+use Rattle.std.specs.Prelude.{◌≡◌, ℕ, Bool, length, take, Option}
 use Rattle.exo_tree.specs.PlainUnit.{program}
 use Rattle.exo_tree.specs.Tree.{Kind, Statement}
 use Rattle.exo_meaning.specs.Calls.{Callee}

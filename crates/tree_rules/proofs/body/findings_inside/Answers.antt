@@ -1,4 +1,4 @@
-use Rattle.std.proofs.Common.{ap, ap₂, ◌∙◌}
+use Rattle.std.proofs.Common.{ap₂, ◌∙◌}
 use Rattle.exo_tree.specs.Tree.{block}
 use Rattle.exo_meaning.specs.Units.{scope_of}
 use Rattle.exo_modes.specs.Aliases.{roots_in}
