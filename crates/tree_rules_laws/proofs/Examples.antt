@@ -10,23 +10,23 @@ use Rattle.tree_rules.specs.Classes.{fine}
 use Rattle.tree_rules.specs.Findings.{findings_of_block}
 use Rattle.tree_rules_laws.proofs.Blocks.{exact_law}
 
-no_fields : ℕ → Option Kind
+abbrev no_fields : ℕ → Option Kind
 no_fields f = None
 
-no_callees : ℕ → Option Callee
+abbrev no_callees : ℕ → Option Callee
 no_callees k = None
 
-params : List Param
+abbrev params : List Param
 params =
     record { binder = record { id = 0; name = codes "n" }; kind = ControlParam Size }
     ∷ record { binder = record { id = 1; name = codes "x" }; kind = TensorParam I32 (Var 0 ∷ []) 0 }
     ∷ []
 
 -- the loop with that name for its variable, these bounds and that index
-loop : List ℕ → Control → Control → Control → Block
+abbrev loop : List ℕ → Control → Control → Control → Block
 loop name hi at lo = next (For (record { id = 2; name = name }) lo hi (next (Assign 1 (at ∷ []) (Const (pos 1))) end)) end
 
-found : Block → Findings
+abbrev found : Block → Findings
 found b = findings_of_block no_fields 1 no_callees (scope_of [] params) (λ x. x) b
 
 nothing : found (loop (codes "i") (Var 0) (Var 2) (Lit (pos 0))) ≡ fine
