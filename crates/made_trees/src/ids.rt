@@ -19,6 +19,7 @@ fn above(x: Id) -> u64
 
 /// The least number above all ids that a block binds.
 #[cycle(above)]
+#[tactic(auto, using(crate::proofs::Above::above_joined))]
 fn above_block(b: &Block) -> u64
     ensures { result ≡ above_all (binders (block b.now)) }
 {
@@ -31,6 +32,7 @@ fn above_block(b: &Block) -> u64
 
 /// The least number above all ids that a statement binds.
 #[cycle(above)]
+#[tactic(auto, using(crate::proofs::Above::above_joined))]
 fn above_statement(s: &Stmt) -> u64
     ensures { result ≡ above_all (binders_below (statement s.now)) }
 {
@@ -53,6 +55,7 @@ fn above_params(params: &[Param]) -> u64
 }
 
 /// The number behind the greatest id of a procedure; 0 where it has none.
+#[tactic(auto, using(crate::proofs::Above::above_joined))]
 pub(crate) fn next_id(p: &Proc) -> u64
     ensures { result ≡ ids.next_id (procedure p.now) }
 {
