@@ -1,9 +1,7 @@
-//! Trees that rewrites make: ids and names of their binders, and blocks that are left empty.
+//! Trees that rewrites make: the ids and names of their binders, and blocks that are left empty.
 #![tactic(auto)]
 
 mod fresh;
 mod ids;
-mod pass;
 
 pub use fresh::Fresh;
-pub use pass::or_pass;
