@@ -42,7 +42,7 @@ module _ (m : Moving) (put : Put)
   both_are f (Some x) None a b h k = tt
   both_are f (Some x) (Some y) a b h k = ap₂ f h k
 
-  control_is : (e : Control) → IfSome (moved m e) (λ f. f ≡ put_control put e)
+  pub control_is : (e : Control) → IfSome (moved m e) (λ f. f ≡ put_control put e)
   control_is (Lit n) = refl
   control_is (Var x) = variables x
   control_is (Field f) = refl

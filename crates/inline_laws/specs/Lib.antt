@@ -5,5 +5,6 @@ pub mod InlineConditions
 pub mod FreshCallee
 pub mod AtOnce
 pub mod MovedIsPut
+pub mod Meets
 pub mod Shares
 pub mod ReplaceRule
