@@ -46,7 +46,7 @@ use Rattle.inline_laws.specs.Meets.{calls_alike_in, calls_alike, PutsParams, Mee
 no : {P : Type 0} → false ≡ true → P
 no h = absurd (true≢false (sym h))
 
-each_split : {T : Type 0} (P : T → Type 0) (xs ys : List T) → Each P (xs ++ ys)
+pub each_split : {T : Type 0} (P : T → Type 0) (xs ys : List T) → Each P (xs ++ ys)
     → Each P xs × Each P ys
 each_split P [] ys h = (tt, h)
 each_split P (x ∷ xs) ys h =
