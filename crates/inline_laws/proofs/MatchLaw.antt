@@ -42,7 +42,7 @@ use Rattle.match_laws.specs.Matched.{Known, known_if, known_by, variable_of, fla
 use Rattle.match_laws.specs.Matched.{argument_in, partner_if, partner, number_in, truth_in}
 use Rattle.match_laws.specs.Matched.{stride_in, variable_for, stride_for, or_differs, moving}
 use Rattle.match_laws.specs.Matched.{Arguments, matched, params, all_pairs, to, walk, by_walk}
-use Rattle.match_laws.specs.Matched.{buffer_argument, argument_for}
+use Rattle.match_laws.specs.Matched.{buffer_argument, argument_for, first_path}
 use Rattle.match_laws.specs.MatchedFits.{AreGiven, given_names, IsMatch}
 use Rattle.match_laws.specs.ArgumentFits.{IsFitting}
 use Rattle.match_laws.specs.Alike.{nameless}
@@ -58,9 +58,9 @@ use Rattle.inline_laws.specs.MatchLaw.{is_known, dims_if, dims_of, has_length, n
 use Rattle.inline_laws.specs.MatchLaw.{are_strideless, are_strideless_if_known, has_one_id}
 use Rattle.inline_laws.specs.MatchLaw.{have_one_id, stands, all_stand, no_buffer}
 use Rattle.inline_laws.specs.MatchLaw.{numbers_are_numbers, MayMatch, MatchLaw}
-use Rattle.inline_laws.proofs.AtOnce.{puts_keep, at_once}
+use Rattle.inline_laws.proofs.AtOnce.{puts_keep, at_once, Keeps}
 use Rattle.inline_laws.proofs.Meets.{meets_along, each_split}
-use Rattle.inline_laws.proofs.MovedIsPut.{control_is, same_test, first_is, later_is, GivenIs}
+use Rattle.inline_laws.proofs.MovedIsPut.{control_is, same_test, first_is, later_is, GivenIs, stride_under}
 use Rattle.inline_laws.proofs.MovedIsPut.{matched_agrees}
 
 no : {P : Type 0} → false ≡ true → P
@@ -452,3 +452,380 @@ module _ (at : Reading) (m : Moving) (bound : ℕ → Bool) (put : Put)
       (moved_length at m bound dims f.dimensions f.dimensions_are) affine
       (λ scene reads. fitting_law (standing scene) at m bound scene f.listed f.first f.others
       f.spots f.dimensions f.fits reads (affine scene reads)) f.argument is)
+
+-- ---- the walk's numbers
+
+none_is : {A : Type 0} (P : A → Type 0) (o : Option A) → o ≡ None → IfSome o P
+none_is P None h = tt
+none_is P (Some a) h = absurd (none_some (sym h))
+
+module _ (par : ℕ → Bool) where
+  abbrev IsNumber : Known → Type 0
+  IsNumber k = (par k.param ≡ true) × ((n : ℕ) → stride_in (Some k.argument) n ≡ None)
+
+  if_number : (a : Argument) → ((n : ℕ) → stride_in (Some a) n ≡ None) → (o : Option ℕ)
+      → IfSome (known_if par a o) IsNumber
+  if_number a h None = tt
+  if_number a h (Some x) = go (par x) refl
+    where
+      go : (t : Bool) → par x ≡ t
+          → IfSome (if t then Some (record { param = x; argument = a }) else None) IsNumber
+      go true e = (e, h)
+      go false e = tt
+
+  by_number : (a : Pair) → IfSome (known_by par a) IsNumber
+  by_number (Numbers p true e g) = if_number (ControlArg g) (λ n. refl) (variable_of e)
+  by_number (Numbers p false e g) = tt
+  by_number (Truths p true c d) = if_number (ConditionArg d) (λ n. refl) (flag_of c)
+  by_number (Truths p false c d) = tt
+  by_number (Binders x y) = tt
+  by_number (Own p x y) = tt
+  by_number (Access p x cs y ds) = tt
+  by_number (Unlike p) = tt
+
+  abbrev IsFound : ℕ → Argument → Type 0
+  IsFound x a = (par x ≡ true) × ((n : ℕ) → stride_in (Some a) n ≡ None)
+
+  found_number : (pairs : List Pair) (x : ℕ) → IfSome (argument_in par pairs x) (IsFound x)
+  found_number [] x = tt
+  found_number (a ∷ pairs) x = go (known_by par a) (by_number a) (found_number pairs x)
+    where
+      this : (k : Known) (t : Bool) → (k.param == x) ≡ t → IsNumber k
+          → IfSome (argument_in par pairs x) (IsFound x)
+          → IfSome (elim (if t then Some k.argument else None) [
+            | None ↦ argument_in par pairs x
+            | Some argument ↦ Some argument
+          ]) (IsFound x)
+      this k true e h rest = (ap par (sym (eqb-true k.param x e)) ∙ h.0, h.1)
+      this k false e h rest = rest
+
+      go : (o : Option Known) → IfSome o IsNumber
+          → IfSome (argument_in par pairs x) (IsFound x)
+          → IfSome (elim (argument_if x o) [
+            | None ↦ argument_in par pairs x
+            | Some argument ↦ Some argument
+          ]) (IsFound x)
+      go None h rest = rest
+      go (Some k) h rest = this k (k.param == x) refl h rest
+
+ok_same : (a b : Argument) (o : Option Argument) (p : Path) → o ≡ Some a → or_differs p o ≡ Ok b
+    → a ≡ b
+ok_same a b o p e h = one a b (sym (ap (or_differs p) e) ∙ h)
+  where
+    one : (a b : Argument) → or_differs p (Some a) ≡ Ok b → a ≡ b
+    one a b h = cc
+
+ok_some : (b : Argument) (o : Option Argument) (p : Path) → or_differs p o ≡ Ok b → o ≡ Some b
+ok_some b None p h = cc
+ok_some b (Some a) p h = cc
+
+-- ---- the arguments of parameters
+
+module _ (at : Reading) (theirs : Names) (block : Block) (q : Procedure) where
+  abbrev found : ℕ → Option Argument
+  found = argument_in (params at theirs block q) (walk at theirs block q)
+
+  abbrev Given : List Param → List Argument → Type 0
+  Given = AreGiven at theirs block q
+
+  abbrev BufferGiven : Put → ℕ → List Control → Type 0
+  BufferGiven put x dims =
+      (tensor : Bool) × (a : Argument)
+      × (buffer_argument at theirs block q x dims tensor ≡ Ok a) × (put.name x ≡ a)
+
+  buffer_given : (ps : List Param) (args : List Argument) (x : ℕ) (dims : List Control)
+      → Given ps args → dims_of ps x ≡ Some dims → BufferGiven (puts ps args) x dims
+  buffer_given [] args x dims h e = absurd (none_some e)
+  buffer_given (p ∷ ps) [] x dims h e = absurd h
+  buffer_given (p ∷ ps) (a ∷ args) x dims h e =
+      go p.kind a h.0 (buffer_given ps args x dims h.1) e
+    where
+      named : (tensor : Bool) (own : List Control) (a : Argument) (t : Bool)
+          → (x == p.binder.id) ≡ t
+          → buffer_argument at theirs block q p.binder.id own tensor ≡ Ok a
+          → (dims_of ps x ≡ Some dims → BufferGiven (puts ps args) x dims)
+          → (if t then Some own else dims_of ps x) ≡ Some dims
+          → (tensor : Bool) × (b : Argument)
+          × (buffer_argument at theirs block q x dims tensor ≡ Ok b)
+          × ((if t then a else (puts ps args).name x) ≡ b)
+      named tensor own a true i k rest j = (
+        tensor,
+        a,
+        ap₂ (λ y ds. buffer_argument at theirs block q y ds tensor) (eqb-true x p.binder.id i)
+            (sym (some_injective own dims j)) ∙ k,
+        refl,
+      )
+      named tensor own a false i k rest j = rest j
+
+      go : (kind : ParamKind) (a : Argument)
+          → argument_for at theirs block q p.binder.id kind ≡ Ok a
+          → (dims_of ps x ≡ Some dims → BufferGiven (puts ps args) x dims)
+          → dims_if kind (x == p.binder.id) (dims_of ps x) ≡ Some dims
+          → BufferGiven (with_put p.binder.id kind a (puts ps args)) x dims
+      go (ControlParam kind) (ControlArg c) k rest j = rest j
+      go (ControlParam kind) (ConditionArg c) k rest j = rest j
+      go (ControlParam kind) (Whole y) k rest j = rest j
+      go (ControlParam kind) (Window y cs) k rest j = rest j
+      go (TensorParam cell own memory) a k rest j =
+          named true own a (x == p.binder.id) refl k rest j
+      go (WindowParam cell own memory) a k rest j =
+          named false own a (x == p.binder.id) refl k rest j
+
+  control_given : (ps : List Param) (args : List Argument) (x : ℕ) (a : Argument)
+      → Given ps args → are_of_kinds ps args ≡ true → numbers_are_numbers found ps ≡ true
+      → is_buffer_of x ps ≡ true → found x ≡ Some a → GivenIs (puts ps args) x (Some a)
+  control_given [] args x a h s n i e = no i
+  control_given (p ∷ ps) [] x a h s n i e = absurd h
+  control_given (p ∷ ps) (b ∷ args) x a h s n i e =
+      let fit = and_parts (is_of_kind p.kind b) (are_of_kinds ps args) s in
+      let own = and_parts (no_buffer p.kind (found p.binder.id)) (numbers_are_numbers found ps) n
+      in
+      go (x == p.binder.id) refl fit.0 own.0
+      (λ j. control_given ps args x a h.1 fit.1 own.1 j e) i
+    where
+      this : (kind : ParamKind) → argument_for at theirs block q p.binder.id kind ≡ Ok b
+          → found p.binder.id ≡ Some a → no_buffer kind (found p.binder.id) ≡ true → a ≡ b
+      this (ControlParam kind) k f m = ok_same a b (found p.binder.id) [] f k
+      this (TensorParam cell dims memory) k f m =
+          no (ap (no_buffer (TensorParam cell dims memory)) (sym f) ∙ m)
+      this (WindowParam cell dims memory) k f m =
+          no (ap (no_buffer (WindowParam cell dims memory)) (sym f) ∙ m)
+
+      go : (t : Bool) → (x == p.binder.id) ≡ t → is_of_kind p.kind b ≡ true
+          → no_buffer p.kind (found p.binder.id) ≡ true
+          → (is_buffer_of x ps ≡ true → GivenIs (puts ps args) x (Some a))
+          → (t || is_buffer_of x ps) ≡ true
+          → GivenIs (with_put p.binder.id p.kind b (puts ps args)) x (Some a)
+      go true j k m rest i =
+          let same = this p.kind h.0 (ap found (sym (eqb-true x p.binder.id j)) ∙ e) m in
+          subst (λ c. GivenIs (with_put p.binder.id p.kind b (puts ps args)) x (Some c)) (sym same)
+          (first_is p.binder.id p.kind b (puts ps args) x k j)
+      go false j k m rest i =
+          later_is p.binder.id p.kind b (puts ps args) x (Some a) j (rest i)
+
+  -- ---- the walk's expressions are those of the inlined body
+
+  module _ (args : List Argument) (h : Given q.params args)
+      (s : are_of_kinds q.params args ≡ true) (n : numbers_are_numbers found q.params ≡ true)
+      (own : HasBlockIds at theirs block q) where
+    abbrev put : Put
+    put = puts q.params args
+
+    abbrev par : ℕ → Bool
+    par x = is_buffer_of x q.params
+
+    keeps : Keeps par put
+    keeps = puts_keep par q.params args (λ x k. k)
+
+    is_found : (x : ℕ) → IfSome (found x) (IsFound par x)
+    is_found x = found_number par (walk at theirs block q) x
+
+    given_found : (x : ℕ) (a : Argument) → found x ≡ Some a → par x ≡ true
+        → GivenIs put x (Some a)
+    given_found x a e i = control_given q.params args x a h s n i e
+
+    walk_variable : (x : ℕ)
+        → IfSome ((by_walk at theirs block q).variable x) (λ f. f ≡ put.variable x)
+    walk_variable x = go (par x) refl
+      where
+        of_param : par x ≡ true → (o : Option Argument) → found x ≡ o
+            → IfSome (number_in o) (λ f. f ≡ put.variable x)
+        of_param i None e = tt
+        of_param i (Some a) e = (given_found x a e i).0
+
+        own_one : par x ≡ false → (o : Option ℕ) → to at theirs block q x ≡ o
+            → IfSome (variable_for o) (λ f. f ≡ put.variable x)
+        own_one e None i = tt
+        own_one e (Some y) i = ap Var (sym (own x y i)) ∙ sym (keeps.variable x e)
+
+        go : (t : Bool) → par x ≡ t
+            → IfSome (if t then number_in (found x) else variable_for (to at theirs block q x))
+            (λ f. f ≡ put.variable x)
+        go true e = of_param e (found x) refl
+        go false e = own_one e (to at theirs block q x) refl
+
+    walk_stride : (x k : ℕ) → IfSome ((by_walk at theirs block q).stride x k)
+        (λ f. f ≡ put_control put (StrideOf x k))
+    walk_stride x k = go (par x) refl
+      where
+        of_param : (o : Option Argument) → IfSome o (IsFound par x)
+            → IfSome (stride_in o k) (λ f. f ≡ put_control put (StrideOf x k))
+        of_param None e = tt
+        of_param (Some a) e =
+            none_is (λ f. f ≡ put_control put (StrideOf x k)) (stride_in (Some a) k) (e.1 k)
+
+        own_one : par x ≡ false → (o : Option ℕ) → to at theirs block q x ≡ o
+            → IfSome (stride_for o k) (λ f. f ≡ put_control put (StrideOf x k))
+        own_one e None i = tt
+        own_one e (Some y) i =
+            ap (λ z. StrideOf z k) (sym (own x y i))
+            ∙ ap (stride_under x k) (sym (keeps.name x e))
+
+        go : (t : Bool) → par x ≡ t
+            → IfSome (if t then stride_in (found x) k else stride_for (to at theirs block q x) k)
+            (λ f. f ≡ put_control put (StrideOf x k))
+        go true e = of_param (found x) (is_found x)
+        go false e = own_one e (to at theirs block q x) refl
+
+    walk_flag : (x : ℕ)
+        → IfSome ((by_walk at theirs block q).flag x) (λ c. c ≡ put.flag x)
+    walk_flag x = go (found x) refl (is_found x)
+      where
+        go : (o : Option Argument) → found x ≡ o → IfSome o (IsFound par x)
+            → IfSome (truth_in o) (λ c. c ≡ put.flag x)
+        go None e i = tt
+        go (Some a) e i = (given_found x a e i.0).1
+
+    walk_is_put : (e : Control)
+        → IfSome (moved (by_walk at theirs block q) e) (λ f. f ≡ put_control put e)
+    walk_is_put e =
+        control_is (by_walk at theirs block q) put walk_variable walk_stride walk_flag e
+
+-- ---- each pair meets
+
+known_has : {A : Type 0} (P : Type 0) (o : Option A) → is_known o ≡ true → IfSome o (λ a. P) → P
+known_has P None h k = no h
+known_has P (Some a) h k = k
+
+module _ (at : Reading) (by m : Moving) (put : Put) (ps : List Param) where
+  abbrev StandUses : List Pair → Type 0
+  StandUses pairs =
+      (x : ℕ) (dims : List Control) → dims_of ps x ≡ Some dims
+      → Each (λ u. use_stands by dims u ≡ true) (uses_of x pairs)
+
+  stand_uses : (pairs : List Pair) → all_stand by m ps pairs ≡ true → StandUses pairs
+  stand_uses [] h x dims e = tt
+  stand_uses (a ∷ pairs) h x dims e =
+      let p = and_parts (stands by m ps a) (all_stand by m ps pairs) h in
+      first a p.0 (stand_uses pairs p.1 x dims e)
+    where
+      Those : List Use → Type 0
+      Those = Each (λ u. use_stands by dims u ≡ true)
+
+      joined : (us : List Use) → Those us → Those (uses_of x pairs) → Those (us ++ uses_of x pairs)
+      joined [] i rest = rest
+      joined (u ∷ us) i rest = (i.0, joined us i.1 rest)
+
+      by_name : (u : Use) (y : ℕ) (t : Bool) → (y == x) ≡ t
+          → (has_length (length u.ours) (dims_of ps y)
+          && (are_strideless_if_known (coords_moved by u.ours) && are_strideless u.theirs)) ≡ true
+          → Those (if t then u ∷ [] else [])
+      by_name u y true i k =
+          (subst (λ o. (has_length (length u.ours) o
+          && (are_strideless_if_known (coords_moved by u.ours) && are_strideless u.theirs)) ≡ true)
+          (ap (dims_of ps) (eqb-true y x i) ∙ e) k, tt)
+      by_name u y false i k = tt
+
+      first : (a : Pair) → stands by m ps a ≡ true → Those (uses_of x pairs)
+          → Those (use_in x a ++ uses_of x pairs)
+      first (Numbers p whole b g) i rest = rest
+      first (Truths p whole c d) i rest = rest
+      first (Binders b c) i rest = rest
+      first (Own p b c) i rest = rest
+      first (Access p y cs z ds) i rest =
+          let u : Use
+          = record { path = p; ours = cs; name = z; theirs = ds } in
+          joined (if y == x then u ∷ [] else []) (by_name u y (y == x) refl i) rest
+      first (Unlike p) i rest = rest
+
+  abbrev UsesMeet : List Pair → Type 0
+  UsesMeet pairs =
+      (x : ℕ) (dims : List Control) → dims_of ps x ≡ Some dims
+      → Each (UseMeets at put x) (uses_of x pairs)
+
+  pair_meets : (a : Pair) → Agrees at m put a → stands by m ps a ≡ true → has_one_id a ≡ true
+      → ((x : ℕ) (dims : List Control) → dims_of ps x ≡ Some dims
+      → Each (UseMeets at put x) (use_in x a)) → Meets at put a
+  pair_meets (Numbers p whole e g) h i j u =
+      known_has (agree at (put_control put e) g ≡ true) (moved m e) i h
+  pair_meets (Truths p whole c d) h i j u =
+      known_has (conditions_agree at (put_condition put c) d ≡ true) (moved_condition m c) i h
+  pair_meets (Binders x y) h i j u = eqb-true x y j
+  pair_meets (Own p x y) h i j u = h
+  pair_meets (Access p x cs y ds) h i j u = go (dims_of ps x) refl
+      (and_parts (has_length (length cs) (dims_of ps x))
+      (are_strideless_if_known (coords_moved by cs) && are_strideless ds) i).0
+    where
+      this : Use
+      this = record { path = p; ours = cs; name = y; theirs = ds }
+
+      it : (t : Bool) → t ≡ true → Each (UseMeets at put x) (if t then this ∷ [] else [])
+          → UseMeets at put x this
+      it true e k = k.0
+      it false e k = no e
+
+      go : (o : Option (List Control)) → dims_of ps x ≡ o → has_length (length cs) o ≡ true
+          → UseMeets at put x this
+      go None e k = no k
+      go (Some dims) e k = it (x == x) (eq-eqb x x refl) (u x dims e)
+  pair_meets (Unlike p) h i j u = h
+
+  pairs_meet : (pairs : List Pair) → Each (Agrees at m put) pairs
+      → all_stand by m ps pairs ≡ true → have_one_id pairs ≡ true → UsesMeet pairs
+      → Each (Meets at put) pairs
+  pairs_meet [] h i j u = tt
+  pairs_meet (a ∷ pairs) h i j u =
+      let p = and_parts (stands by m ps a) (all_stand by m ps pairs) i in
+      let q = and_parts (has_one_id a) (have_one_id pairs) j in (
+        pair_meets a h.0 p.0 q.0 (λ x dims e.
+            (each_split (UseMeets at put x) (use_in x a) (uses_of x pairs) (u x dims e)).0),
+        pairs_meet pairs h.1 p.1 q.1 (λ x dims e.
+            (each_split (UseMeets at put x) (use_in x a) (uses_of x pairs) (u x dims e)).1),
+      )
+
+-- ---- the law
+
+module _ (at : Reading) (theirs : Names) (block : Block) (q : Procedure) (args : List Argument)
+    (found_it : matched at theirs block q ≡ Arguments args)
+    (may : MayMatch at theirs block q args) where
+  abbrev argument_put : Put
+  argument_put = puts q.params args
+
+  abbrev those : List Pair
+  those = all_pairs at theirs block q
+
+  block_ids : HasBlockIds at theirs block q
+  block_ids x y h = one_id those x y may.binders h
+
+  it : IsMatch at theirs block q args
+  it = matched_fits at theirs block q args found_it
+
+  those_uses : UsesMeet at (by_walk at theirs block q) (given_names at theirs block q args)
+      argument_put q.params those
+  those_uses x dims e =
+      let g = buffer_given at theirs block q q.params args x dims it.given e in
+      let uses = uses_of x (walk at theirs block q) in
+      let whole = g.0 && nat_lt 0 (length dims) in
+      let some = ok_some g.1 (argument_of at (by_walk at theirs block q) (has_binder block) whole
+      dims theirs uses) (first_path uses) g.2 in
+      let fit = argument_fits at (by_walk at theirs block q) (has_binder block) whole dims theirs
+      uses g.1 some in
+      let here = stand_uses at (by_walk at theirs block q) (given_names at theirs block q args)
+      argument_put q.params those may.stand x dims e in
+      subst (λ pairs. Each (UseMeets at argument_put x) (uses_of x pairs)) it.walked
+      (fitting_meets at (by_walk at theirs block q) (has_binder block) argument_put
+      (walk_is_put at theirs block q args it.given may.kinds may.numbers block_ids)
+      x whole dims theirs uses g.1 fit g.3
+      (subst (λ pairs. Each (λ u. use_stands (by_walk at theirs block q) dims u ≡ true)
+      (uses_of x pairs)) (sym it.walked) here))
+
+  those_meet : Each (Meets at argument_put) those
+  those_meet =
+      pairs_meet at (by_walk at theirs block q) (given_names at theirs block q args) argument_put
+      q.params those (matched_agrees at theirs block q args found_it block_ids may.kinds)
+      may.stand may.binders those_uses
+
+  puts_params : PutsParams (params at theirs block q) argument_put
+  puts_params = record {
+    views = λ x. views_put q.params args x may.kinds;
+    own = λ x e. (puts_keep (λ y. is_buffer_of y q.params) q.params args (λ y k. k)).name x e;
+  }
+
+pub match_law : MatchLaw
+match_law world at theirs block q args s e may kd kb =
+    let same = at_once q.params args q.body (suit_kinds q.params args may.kinds) may.apart in
+    subst (λ b. SameAlong world (nameless block) (nameless b) s) (sym same)
+    (meets_along world at (puts q.params args) (params at theirs block q) (names_of q) theirs
+    q.body block s (puts_params at theirs block q args e may)
+    (those_meet at theirs block q args e may) may.calls kd
+    (subst (λ b. OfEach world (IsRead at) (nameless b) s) same kb))
