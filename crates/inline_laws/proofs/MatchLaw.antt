@@ -47,6 +47,8 @@ use Rattle.match_laws.specs.MatchedFits.{AreGiven, given_names, IsMatch}
 use Rattle.match_laws.specs.ArgumentFits.{IsFitting}
 use Rattle.match_laws.specs.Alike.{nameless}
 use Rattle.match_laws.proofs.Agree.{agree_law}
+use Rattle.match_laws.proofs.Alike.{run_nameless}
+use Rattle.inplace_laws.proofs.Along.{along_law}
 use Rattle.match_laws.proofs.ArgumentFits.{argument_fits}
 use Rattle.match_laws.proofs.Fitting.{fitting_law, spotted}
 use Rattle.match_laws.proofs.MatchedFits.{matched_fits}
@@ -57,7 +59,7 @@ use Rattle.inline_laws.specs.MovedIsPut.{is_of_kind, are_of_kinds, HasBlockIds, 
 use Rattle.inline_laws.specs.MatchLaw.{is_known, dims_if, dims_of, has_length, no_strides}
 use Rattle.inline_laws.specs.MatchLaw.{are_strideless, are_strideless_if_known, has_one_id}
 use Rattle.inline_laws.specs.MatchLaw.{have_one_id, stands, all_stand, no_buffer}
-use Rattle.inline_laws.specs.MatchLaw.{numbers_are_numbers, MayMatch, MatchLaw}
+use Rattle.inline_laws.specs.MatchLaw.{numbers_are_numbers, MayMatch, MatchLaw, MatchRuns}
 use Rattle.inline_laws.proofs.AtOnce.{puts_keep, at_once, Keeps}
 use Rattle.inline_laws.proofs.Meets.{meets_along, each_split}
 use Rattle.inline_laws.proofs.MovedIsPut.{control_is, same_test, first_is, later_is, GivenIs, stride_under}
@@ -829,3 +831,11 @@ match_law world at theirs block q args s e may kd kb =
     q.body block s (puts_params at theirs block q args e may)
     (those_meet at theirs block q args e may) may.calls kd
     (subst (λ b. OfEach world (IsRead at) (nameless b) s) same kb))
+
+pub match_runs : MatchRuns
+match_runs world at theirs block q args s e may kd kb =
+    let body = inlined q.params args q.body in
+    ap (λ f. f s) (sym (run_nameless world block))
+    ∙ along_law world (nameless block) (nameless body) s
+    (match_law world at theirs block q args s e may kd kb)
+    ∙ ap (λ f. f s) (run_nameless world body)

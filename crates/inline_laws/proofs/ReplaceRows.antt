@@ -18,6 +18,8 @@ use Rattle.match_laws.specs.MatchedFits.{given_names}
 use Rattle.inline_laws.specs.MovedIsPut.{Agrees, HasBlockIds}
 use Rattle.inline_laws.proofs.MovedIsPut.{moved_is_put, matched_agrees}
 use Rattle.inline_laws.specs.AtOnce.{puts, put_block, put_control}
+use Rattle.inline_laws.specs.MatchLaw.{MayMatch}
+use Rattle.match_laws.specs.Matched.{Arguments, matched}
 use Rattle.inline_laws.specs.InlineRule.{renumbered}
 use Rattle.inline_laws.specs.ReplaceRule.{AtPath, OfParam, Shared, replace_piece, replace_draft}
 use Rattle.inline_laws.specs.ReplaceRule.{replace_refusal}
@@ -147,3 +149,34 @@ load_expressions e =
 load_agrees : Each (Agrees own (given_names own product load copy_here loaded)
     (puts copy_here.params loaded)) (all_pairs own product load copy_here)
 load_agrees = matched_agrees own product load copy_here loaded refl copy_has_block_ids refl
+
+-- ---- what the law of matched blocks asks, of the load and of the copied row
+
+load_is_matched : matched own product load copy_here ≡ Arguments loaded
+load_is_matched = refl
+
+load_may_match : MayMatch own product load copy_here loaded
+load_may_match = record {
+  kinds = refl;
+  apart = refl;
+  binders = refl;
+  numbers = refl;
+  stand = refl;
+  calls = refl;
+}
+
+abbrev row_here : Procedure
+row_here = renumbered as_in_row copy_n
+
+row_is_matched : matched own rows row_loop row_here ≡ Arguments row_arguments
+row_is_matched = refl
+
+row_may_match : MayMatch own rows row_loop row_here row_arguments
+row_may_match = record {
+  kinds = refl;
+  apart = refl;
+  binders = refl;
+  numbers = refl;
+  stand = refl;
+  calls = refl;
+}

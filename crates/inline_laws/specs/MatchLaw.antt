@@ -5,7 +5,7 @@ use Rattle.exo_tree.specs.Tree.{Control, Coord, At, Span, Argument, ParamKind, C
 use Rattle.exo_tree.specs.Tree.{TensorParam, WindowParam, Param, Block, Procedure}
 use Rattle.exo_meaning.specs.Inputs.{is_buffer_of}
 use Rattle.exo_meaning.specs.State.{State}
-use Rattle.exo_meaning.specs.Run.{World}
+use Rattle.exo_meaning.specs.Run.{World, run}
 use Rattle.exo_meaning.specs.Unseen.{in_arguments as arguments_mention}
 use Rattle.affine_forms.specs.Forms.{Reading, Allowed, is_affine}
 use Rattle.inplace_laws.specs.Along.{SameAlong}
@@ -122,3 +122,14 @@ MatchLaw =
     → OfEach world (IsRead at) (nameless block) s
     → OfEach world (IsRead at) (nameless (inlined q.params args q.body)) s
     → SameAlong world (nameless block) (nameless (inlined q.params args q.body)) s
+
+-- so both run alike
+abbrev pub MatchRuns : Type 0
+MatchRuns =
+    (world : World) (at : Reading) (theirs : Names) (block : Block) (q : Procedure)
+    (args : List Argument) (s : State)
+    → matched at theirs block q ≡ Arguments args
+    → MayMatch at theirs block q args
+    → OfEach world (IsRead at) (nameless block) s
+    → OfEach world (IsRead at) (nameless (inlined q.params args q.body)) s
+    → run world block s ≡ run world (inlined q.params args q.body) s

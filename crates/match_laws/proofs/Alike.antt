@@ -423,7 +423,7 @@ looped i lo hi f s = turns (turn i.id f) (turns_of s.scene lo hi) s
 
 module _ (world : World) where
   mutual
-    run_nameless : (b : Block) → run world (nameless b) ≡ run world b
+    pub run_nameless : (b : Block) → run world (nameless b) ≡ run world b
     run_nameless end = refl
     run_nameless (next a b) = ap₂ in_turn (step_nameless a) (run_nameless b)
 
