@@ -10,4 +10,5 @@ pub mod Shares
 pub mod ReplaceRule
 pub mod Rows
 pub mod ReplaceRows
+pub mod MatchRows
 pub mod Instances
