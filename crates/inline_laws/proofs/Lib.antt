@@ -11,4 +11,5 @@ pub mod ReplaceRule
 pub mod Rows
 pub mod ReplaceRows
 pub mod MatchRows
+pub mod FillRow
 pub mod Instances

@@ -22,11 +22,11 @@ use Rattle.inline_laws.proofs.ReplaceRows.{inlined_row, row_is_matched, row_may_
 
 module _ (P : Statement → Type 0) where
   abbrev mutual
-    OfAll : Block → Type 0
+    pub OfAll : Block → Type 0
     OfAll end = Unit {0}
     OfAll (next a b) = P a × OfInner a × OfAll b
 
-    OfInner : Statement → Type 0
+    pub OfInner : Statement → Type 0
     OfInner (Assign x is e) = Unit {0}
     OfInner (Reduce x is e) = Unit {0}
     OfInner (Config f a) = Unit {0}
@@ -44,15 +44,15 @@ module _ (P : Statement → Type 0) where
   in_hole (InThen t c other rest) d h = in_hole c d h.1.0
   in_hole (InElse t other c rest) d h = in_hole c d h.1.1
 
-abbrev Everywhere : Block → Type 0
+abbrev pub Everywhere : Block → Type 0
 Everywhere = OfAll (λ a. (scene : Scene) → OfStatement (IsRead own scene) a)
 
-each_place : (w : World) (b : Block) (s : State) → Everywhere b → OfEach w (IsRead own) b s
+pub each_place : (w : World) (b : Block) (s : State) → Everywhere b → OfEach w (IsRead own) b s
 each_place w b s h c d u same come =
     in_hole (λ a. (scene : Scene) → OfStatement (IsRead own scene) a) c d
     (subst Everywhere same h) u.scene
 
-known : (scene : Scene) → ReadsAt (standing scene) (values_in scene) own scene
+pub known : (scene : Scene) → ReadsAt (standing scene) (values_in scene) own scene
 known scene = reads (standing scene) scene
 
 -- ---- the load

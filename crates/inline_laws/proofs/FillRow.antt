@@ -1,0 +1,262 @@
+-- A loop that fills a row becomes a call of a callee with a control and a buffer parameter, and the
+-- call is inlined again.
+use Rattle.std.proofs.Common.{◌≡◌, ◌∙◌, ℕ, ℤ, ◌==◌, pos, Bool, true, false, ◌||◌, List, [], ◌∷◌}
+use Rattle.std.proofs.Common.{Option, Some, None, option_map, refl, sym, ap, ap₂, subst, true≢false}
+use Rattle.std.proofs.Common.{eqb-true}
+use Rattle.exo_tree.specs.Tree.{I32, Index, Size, Lit, Var, Add, Const, Span, Argument, ControlArg}
+use Rattle.exo_tree.specs.Tree.{Window, ControlParam, TensorParam, Assign, Call, Block, end, next}
+use Rattle.exo_tree.specs.Tree.{Procedure}
+use Rattle.exo_tree.specs.Context.{Here}
+use Rattle.exo_tree.specs.Places.{Opened}
+use Rattle.exo_meaning.specs.Scene.{Seen, Side, Scene, then_do, narrowed, window, whole, numbers}
+use Rattle.exo_meaning.specs.State.{State}
+use Rattle.exo_meaning.specs.Calls.{Given, GivenNumber, GivenView, all_given}
+use Rattle.exo_meaning.specs.Run.{World, unit_world, writes}
+use Rattle.exo_meaning.specs.Inputs.{IsAdmissible, Refines, AreArguments, is_buffer_of}
+use Rattle.exo_meaning.specs.Laws.{HasRoots}
+use Rattle.affine_forms.proofs.Values.{none_some, some_injective}
+use Rattle.meaning_laws.specs.Copies.{IsFree}
+use Rattle.meaning_laws.specs.Scoped.{has_binder}
+use Rattle.inplace_laws.specs.CallInPlace.{HaveTypes}
+use Rattle.inplace_laws.specs.InPlace.{makes}
+use Rattle.inplace_laws.specs.Inline.{is_param, MayInline}
+use Rattle.simplify_laws.specs.SameControls.{OfEach}
+use Rattle.simplify_laws.specs.SimplifiedBlocks.{IsRead}
+use Rattle.match_laws.specs.Alike.{nameless}
+use Rattle.match_laws.specs.Names.{Names, names_of}
+use Rattle.match_laws.specs.Matched.{Arguments, matched}
+use Rattle.match_laws.proofs.Instances.{own}
+use Rattle.match_laws.proofs.Matched.{same_arguments}
+use Rattle.inline_laws.specs.InlineConditions.{IsInlinable, StandThere}
+use Rattle.inline_laws.specs.InlineRule.{Called, MayInlineThere}
+use Rattle.inline_laws.specs.MatchLaw.{MayMatch}
+use Rattle.inline_laws.specs.ReplaceRule.{with_block, MayReplace}
+use Rattle.inline_laws.proofs.InlineConditions.{inline_conditions}
+use Rattle.inline_laws.proofs.Instances.{same_ids}
+use Rattle.inline_laws.proofs.MatchRows.{each_place, known}
+use Rattle.inline_laws.proofs.ReplaceRule.{replace_rule}
+use Rattle.inline_laws.proofs.Rows.{binder, named, lit, first, param, loop, fill_it}
+use Rattle.inline_laws.proofs.Shares.{shares_law}
+
+-- ---- p(n: size, x: i32[n]): for i in seq(0, n): x[i] = 5
+
+abbrev fives : Block
+fives = loop 2 (Var 10) (Assign 11 (Var 2 ∷ []) (Const (pos 5)))
+
+abbrev filler : Procedure
+filler = named (param 10 (ControlParam Size) ∷ param 11 (TensorParam I32 (Var 10 ∷ []) 0) ∷ [])
+    fives
+
+-- fill(n, x[0:n])
+abbrev arguments : List Argument
+arguments = ControlArg (Var 10) ∷ Window 11 (Span (lit 0) (Var 10) ∷ []) ∷ []
+
+abbrev call : Block
+call = next (Call 0 arguments) end
+
+abbrev body : Block
+body = loop 2 (Var 10) (Assign 11 (Add (lit 0) (Var 2) ∷ []) (Const (pos 5)))
+
+abbrev there : Opened
+there = record { around = Here end; piece = fives }
+
+abbrev names : Names
+names = names_of filler
+
+abbrev unit : World
+unit = unit_world (λ f. Index) (fill_it ∷ [])
+
+abbrev empty : World
+empty = unit_world (λ f. Index) []
+
+it_is_matched : matched own names fives fill_it ≡ Arguments arguments
+it_is_matched = refl
+
+it_may_match : MayMatch own names fives fill_it arguments
+it_may_match = record {
+  kinds = refl;
+  apart = refl;
+  binders = refl;
+  numbers = refl;
+  stand = refl;
+  calls = refl;
+}
+
+-- ---- the callee's names
+
+abbrev of_callee : ℕ → Bool
+of_callee x = (x == 0) || ((x == 1) || (x == 2))
+
+no : {P : Type 0} → false ≡ true → P
+no h = absurd (true≢false (sym h))
+
+by_name : (P : ℕ → Type 0) (x n : ℕ) (rest : Bool) → P n → (rest ≡ true → P x)
+    → ((x == n) || rest) ≡ true → P x
+by_name P x n rest this other h = go (x == n) refl h
+  where
+    go : (t : Bool) → (x == n) ≡ t → (t || rest) ≡ true → P x
+    go true e k = subst P (sym (eqb-true x n e)) this
+    go false e k = other k
+
+neither : (a b : Bool) → (a || b) ≡ false → (a ≡ false) × (b ≡ false)
+neither true b h = absurd (true≢false h)
+neither false b h = (refl, h)
+
+abbrev IsOwn : ℕ → Type 0
+IsOwn x = (of_callee x ≡ true) × (makes fill_it.body x ≡ false)
+
+is_own : (x : ℕ) → is_param fill_it x ≡ true → IsOwn x
+is_own x h =
+    by_name IsOwn x 0 ((x == 1) || false) (refl, refl)
+    (by_name IsOwn x 1 false (refl, refl) (λ k. no k)) h
+
+is_free : (p : Procedure) → IsFree p (Here end) 0 → IsFree p (Here end) 1
+    → IsFree p (Here end) 2 → (x : ℕ) → of_callee x ≡ true → IsFree p (Here end) x
+is_free p a b c x h =
+    by_name (IsFree p (Here end)) x 0 ((x == 1) || (x == 2)) a
+    (by_name (IsFree p (Here end)) x 1 (x == 2) b
+    (λ k. subst (IsFree p (Here end)) (sym (eqb-true x 2 k)) c)) h
+
+abbrev IsOther : ℕ → Type 0
+IsOther x = (is_param fill_it x ≡ false) × (has_binder body x ≡ false)
+
+is_other : (x : ℕ) → of_callee x ≡ false → IsOther x
+is_other x h =
+    let p = neither (x == 0) ((x == 1) || (x == 2)) h in
+    let q = neither (x == 1) (x == 2) p.1 in
+    (ap₂ ◌||◌ p.0 (ap₂ ◌||◌ q.0 refl), bound q.1)
+  where
+    bound : (x == 2) ≡ false → has_binder body x ≡ false
+    bound e = ap (λ t. (t || false) || false) e
+
+abbrev Apart : ℕ → Type 0
+Apart y = (is_param fill_it y ≡ false) × (has_binder body y ≡ false)
+
+inlinable : (p : Procedure) → IsFree p (Here end) 0 → IsFree p (Here end) 1
+    → IsFree p (Here end) 2
+    → IsInlinable of_callee (λ x. x) empty p fill_it (Here end) arguments
+inlinable p a b c = record {
+  names = refl;
+  params = is_own;
+  distinct = (refl, (refl, tt));
+  share = shares_law (λ x. x) (writes empty (λ x. x) fill_it.body) fill_it.params arguments refl;
+  takes = (
+    (refl, refl, λ y e. ap (is_param fill_it) (eqb-true y 10 e)),
+    (
+      (
+        refl,
+        refl,
+        refl,
+        λ y e. by_name Apart y 10 false (refl, refl) (λ k. no k) e,
+        refl,
+        refl,
+      ),
+      tt,
+    ),
+  );
+  free = is_free p a b c;
+  others = is_other;
+  gone = refl;
+  rest = refl;
+}
+
+-- ---- what stands there
+
+-- with n and x in a state, x is the buffer of its window
+window_seen : (o : Option (List Side)) (x : ℕ) (z : Seen)
+    → option_map (λ sides. record { buffer = x; sides = sides }) o ≡ Some z → z.buffer ≡ x
+window_seen None x z h = absurd (none_some h)
+window_seen (Some sides) x z h =
+    sym (ap (λ (w : Seen). w.buffer)
+    (some_injective (record { buffer = x; sides = sides }) z h))
+
+second_given : (n : Given) (o : Option Seen) (g : Given) (z : Seen) (gs : List Given)
+    → option_map (λ rest. n ∷ rest) (then_do (option_map GivenView o) (λ (h : Given). Some (h ∷ [])))
+    ≡ Some (g ∷ GivenView z ∷ gs) → o ≡ Some z
+second_given n None g z gs h = absurd (none_some h)
+second_given n (Some w) g z gs h = cc
+
+module _ (p : Procedure) (same : p.params ≡ filler.params) (w : World) (s : State)
+    (good : IsAdmissible w p s) where
+  given_there : AreArguments s.scene filler.params
+  given_there = subst (AreArguments s.scene) same good.arguments
+
+  rooted : HasRoots (λ x. x) s.scene
+  rooted x seen e = go (x == 10) refl
+    where
+      others : (x == 10) ≡ false → (x == 11) ≡ false → seen.buffer ≡ x
+      others i j = absurd (none_some (sym (good.no_others x (ap (is_buffer_of x) same
+          ∙ ap₂ ◌||◌ i (ap₂ ◌||◌ j refl))).2 ∙ e))
+
+      second : (x == 10) ≡ false → (t : Bool) → (x == 11) ≡ t → seen.buffer ≡ x
+      second i true j =
+          ap (λ (z : Seen). z.buffer) (some_injective seen _
+          (sym e ∙ ap s.scene.views (eqb-true x 11 j) ∙ given_there.1.0.1))
+          ∙ sym (eqb-true x 11 j)
+      second i false j = others i j
+
+      go : (t : Bool) → (x == 10) ≡ t → seen.buffer ≡ x
+      go true i =
+          absurd (none_some (sym given_there.0.2 ∙ sym (ap s.scene.views (eqb-true x 10 i)) ∙ e))
+      go false i = second i (x == 11) refl
+
+  typed : (gs : List Given) → all_given s.scene arguments ≡ Some gs
+      → HaveTypes s fill_it.params gs
+  typed [] e = tt
+  typed (g ∷ []) e = (tt, tt)
+  typed (g ∷ GivenNumber n ∷ gs) e = (tt, (tt, tt))
+  typed (g ∷ GivenView z ∷ gs) e =
+      let seen = second_given (GivenNumber (s.scene.control 10))
+      (window s.scene 11 (Span (lit 0) (Var 10) ∷ [])) g z gs e in
+      let here = window_seen (narrowed s.scene (whole (numbers s.scene (Var 10 ∷ [])))
+      (Span (lit 0) (Var 10) ∷ [])) 11 z
+      (ap (λ o. then_do o (λ (r : Seen). option_map
+      (λ sides. record { buffer = r.buffer; sides = sides })
+      (narrowed s.scene r.sides (Span (lit 0) (Var 10) ∷ [])))) (sym given_there.1.0.1) ∙ seen) in
+      (tt, ((_, ap s.scene.buffers here ∙ given_there.1.0.0, refl), tt))
+
+stand_there : (p : Procedure) → p.params ≡ filler.params → (w : World) (old : Block)
+    → StandThere w (λ x. x) p fill_it (Here end) old arguments
+stand_there p same w old s u good come =
+    subst (λ (t : State). HasRoots (λ x. x) t.scene
+    × ((gs : List Given) → all_given t.scene arguments ≡ Some gs
+    → HaveTypes t fill_it.params gs)) (sym come)
+    (rooted p same w s good, typed p same w s good)
+
+-- ---- the loop becomes a call
+
+may_call : MayInline unit empty of_callee (with_block filler there body) fill_it (Here end) body 0
+    arguments
+may_call = inline_conditions (λ f. Index) [] fill_it [] same_ids of_callee (λ x. x)
+    (with_block filler there body) (Here end) body arguments
+    (inlinable (with_block filler there body) (refl, refl) (refl, refl) (refl, refl))
+    (stand_there (with_block filler there body) refl unit body)
+
+fives_read : (s : State) → OfEach unit (IsRead own) (nameless fives) s
+fives_read s = each_place unit (nameless fives) s (
+  λ scene. ((known scene, refl), (known scene, refl)),
+  (λ scene. (((known scene, refl), tt), tt), tt, tt),
+  tt,
+)
+
+body_read : (s : State) → OfEach unit (IsRead own) (nameless body) s
+body_read s = each_place unit (nameless body) s (
+  λ scene. ((known scene, refl), (known scene, refl)),
+  (λ scene. (((known scene, refl), tt), tt), tt, tt),
+  tt,
+)
+
+may_replace : (args : List Argument) → Arguments arguments ≡ Arguments args
+    → MayReplace unit empty of_callee own names filler fill_it 0 there args
+may_replace args e =
+    subst (λ z. MayReplace unit empty of_callee own names filler fill_it 0 there z)
+    (same_arguments arguments args e) (record {
+      found = it_is_matched;
+      match = it_may_match;
+      read = λ s u good come. (fives_read u, body_read u);
+      call = may_call;
+    })
+
+fives_are_called : Refines unit filler (with_block filler there call) []
+fives_are_called = replace_rule (λ f. Index) (fill_it ∷ []) filler first 1 there own names fill_it
+    0 call empty of_callee fill_it refl refl may_replace
