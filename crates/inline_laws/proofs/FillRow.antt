@@ -2,7 +2,7 @@
 -- call is inlined again.
 use Rattle.std.proofs.Common.{◌≡◌, ◌∙◌, ℕ, ℤ, ◌==◌, pos, Bool, true, false, ◌||◌, List, [], ◌∷◌}
 use Rattle.std.proofs.Common.{Option, Some, None, option_map, refl, sym, ap, ap₂, subst, true≢false}
-use Rattle.std.proofs.Common.{eqb-true}
+use Rattle.std.proofs.Common.{eqb-true, slice_get}
 use Rattle.exo_tree.specs.Tree.{I32, Index, Size, Lit, Var, Add, Const, Span, Argument, ControlArg}
 use Rattle.exo_tree.specs.Tree.{Window, ControlParam, TensorParam, Assign, Call, Block, end, next}
 use Rattle.exo_tree.specs.Tree.{Procedure}
@@ -28,11 +28,11 @@ use Rattle.match_laws.specs.Matched.{Arguments, matched}
 use Rattle.match_laws.proofs.Instances.{own}
 use Rattle.match_laws.proofs.Matched.{same_arguments}
 use Rattle.inline_laws.specs.InlineConditions.{IsInlinable, StandThere}
-use Rattle.inline_laws.specs.InlineRule.{Called, MayInlineThere}
+use Rattle.inline_laws.specs.InlineRule.{Called, MayInlineThere, with_fresh_ids}
 use Rattle.inline_laws.specs.MatchLaw.{MayMatch}
 use Rattle.inline_laws.specs.ReplaceRule.{with_block, MayReplace}
-use Rattle.inline_laws.proofs.InlineConditions.{inline_conditions}
-use Rattle.inline_laws.proofs.Instances.{same_ids}
+use Rattle.inline_laws.proofs.FreshCallee.{fresh_conditions}
+use Rattle.inline_laws.proofs.InlineRule.{inline_rule}
 use Rattle.inline_laws.proofs.MatchRows.{each_place, known}
 use Rattle.inline_laws.proofs.ReplaceRule.{replace_rule}
 use Rattle.inline_laws.proofs.Rows.{binder, named, lit, first, param, loop, fill_it}
@@ -41,7 +41,7 @@ use Rattle.inline_laws.proofs.Shares.{shares_law}
 -- ---- p(n: size, x: i32[n]): for i in seq(0, n): x[i] = 5
 
 abbrev fives : Block
-fives = loop 2 (Var 10) (Assign 11 (Var 2 ∷ []) (Const (pos 5)))
+fives = loop 20 (Var 10) (Assign 11 (Var 20 ∷ []) (Const (pos 5)))
 
 abbrev filler : Procedure
 filler = named (param 10 (ControlParam Size) ∷ param 11 (TensorParam I32 (Var 10 ∷ []) 0) ∷ [])
@@ -55,7 +55,7 @@ abbrev call : Block
 call = next (Call 0 arguments) end
 
 abbrev body : Block
-body = loop 2 (Var 10) (Assign 11 (Add (lit 0) (Var 2) ∷ []) (Const (pos 5)))
+body = loop 20 (Var 10) (Assign 11 (Add (lit 0) (Var 20) ∷ []) (Const (pos 5)))
 
 abbrev there : Opened
 there = record { around = Here end; piece = fives }
@@ -69,10 +69,14 @@ unit = unit_world (λ f. Index) (fill_it ∷ [])
 abbrev empty : World
 empty = unit_world (λ f. Index) []
 
-it_is_matched : matched own names fives fill_it ≡ Arguments arguments
+-- fill with the id of i, and with its parameters out of the way
+abbrev fresh : Procedure
+fresh = with_fresh_ids 20 fill_it
+
+it_is_matched : matched own names fives fresh ≡ Arguments arguments
 it_is_matched = refl
 
-it_may_match : MayMatch own names fives fill_it arguments
+it_may_match : MayMatch own names fives fresh arguments
 it_may_match = record {
   kinds = refl;
   apart = refl;
@@ -85,7 +89,7 @@ it_may_match = record {
 -- ---- the callee's names
 
 abbrev of_callee : ℕ → Bool
-of_callee x = (x == 0) || ((x == 1) || (x == 2))
+of_callee x = (x == 20) || ((x == 21) || (x == 22))
 
 no : {P : Type 0} → false ≡ true → P
 no h = absurd (true≢false (sym h))
@@ -103,45 +107,45 @@ neither true b h = absurd (true≢false h)
 neither false b h = (refl, h)
 
 abbrev IsOwn : ℕ → Type 0
-IsOwn x = (of_callee x ≡ true) × (makes fill_it.body x ≡ false)
+IsOwn x = (of_callee x ≡ true) × (makes fresh.body x ≡ false)
 
-is_own : (x : ℕ) → is_param fill_it x ≡ true → IsOwn x
+is_own : (x : ℕ) → is_param fresh x ≡ true → IsOwn x
 is_own x h =
-    by_name IsOwn x 0 ((x == 1) || false) (refl, refl)
-    (by_name IsOwn x 1 false (refl, refl) (λ k. no k)) h
+    by_name IsOwn x 21 ((x == 22) || false) (refl, refl)
+    (by_name IsOwn x 22 false (refl, refl) (λ k. no k)) h
 
-is_free : (p : Procedure) → IsFree p (Here end) 0 → IsFree p (Here end) 1
-    → IsFree p (Here end) 2 → (x : ℕ) → of_callee x ≡ true → IsFree p (Here end) x
+is_free : (p : Procedure) → IsFree p (Here end) 20 → IsFree p (Here end) 21
+    → IsFree p (Here end) 22 → (x : ℕ) → of_callee x ≡ true → IsFree p (Here end) x
 is_free p a b c x h =
-    by_name (IsFree p (Here end)) x 0 ((x == 1) || (x == 2)) a
-    (by_name (IsFree p (Here end)) x 1 (x == 2) b
-    (λ k. subst (IsFree p (Here end)) (sym (eqb-true x 2 k)) c)) h
+    by_name (IsFree p (Here end)) x 20 ((x == 21) || (x == 22)) a
+    (by_name (IsFree p (Here end)) x 21 (x == 22) b
+    (λ k. subst (IsFree p (Here end)) (sym (eqb-true x 22 k)) c)) h
 
 abbrev IsOther : ℕ → Type 0
-IsOther x = (is_param fill_it x ≡ false) × (has_binder body x ≡ false)
+IsOther x = (is_param fresh x ≡ false) × (has_binder body x ≡ false)
 
 is_other : (x : ℕ) → of_callee x ≡ false → IsOther x
 is_other x h =
-    let p = neither (x == 0) ((x == 1) || (x == 2)) h in
-    let q = neither (x == 1) (x == 2) p.1 in
-    (ap₂ ◌||◌ p.0 (ap₂ ◌||◌ q.0 refl), bound q.1)
+    let p = neither (x == 20) ((x == 21) || (x == 22)) h in
+    let q = neither (x == 21) (x == 22) p.1 in
+    (ap₂ ◌||◌ q.0 (ap₂ ◌||◌ q.1 refl), bound p.0)
   where
-    bound : (x == 2) ≡ false → has_binder body x ≡ false
+    bound : (x == 20) ≡ false → has_binder body x ≡ false
     bound e = ap (λ t. (t || false) || false) e
 
 abbrev Apart : ℕ → Type 0
-Apart y = (is_param fill_it y ≡ false) × (has_binder body y ≡ false)
+Apart y = (is_param fresh y ≡ false) × (has_binder body y ≡ false)
 
-inlinable : (p : Procedure) → IsFree p (Here end) 0 → IsFree p (Here end) 1
-    → IsFree p (Here end) 2
-    → IsInlinable of_callee (λ x. x) empty p fill_it (Here end) arguments
+inlinable : (p : Procedure) → IsFree p (Here end) 20 → IsFree p (Here end) 21
+    → IsFree p (Here end) 22
+    → IsInlinable of_callee (λ x. x) empty p fresh (Here end) arguments
 inlinable p a b c = record {
   names = refl;
   params = is_own;
   distinct = (refl, (refl, tt));
-  share = shares_law (λ x. x) (writes empty (λ x. x) fill_it.body) fill_it.params arguments refl;
+  share = shares_law (λ x. x) (writes empty (λ x. x) fresh.body) fresh.params arguments refl;
   takes = (
-    (refl, refl, λ y e. ap (is_param fill_it) (eqb-true y 10 e)),
+    (refl, refl, λ y e. ap (is_param fresh) (eqb-true y 10 e)),
     (
       (
         refl,
@@ -201,7 +205,7 @@ module _ (p : Procedure) (same : p.params ≡ filler.params) (w : World) (s : St
       go false i = second i (x == 11) refl
 
   typed : (gs : List Given) → all_given s.scene arguments ≡ Some gs
-      → HaveTypes s fill_it.params gs
+      → HaveTypes s fresh.params gs
   typed [] e = tt
   typed (g ∷ []) e = (tt, tt)
   typed (g ∷ GivenNumber n ∷ gs) e = (tt, (tt, tt))
@@ -216,19 +220,19 @@ module _ (p : Procedure) (same : p.params ≡ filler.params) (w : World) (s : St
       (tt, ((_, ap s.scene.buffers here ∙ given_there.1.0.0, refl), tt))
 
 stand_there : (p : Procedure) → p.params ≡ filler.params → (w : World) (old : Block)
-    → StandThere w (λ x. x) p fill_it (Here end) old arguments
+    → StandThere w (λ x. x) p fresh (Here end) old arguments
 stand_there p same w old s u good come =
     subst (λ (t : State). HasRoots (λ x. x) t.scene
     × ((gs : List Given) → all_given t.scene arguments ≡ Some gs
-    → HaveTypes t fill_it.params gs)) (sym come)
+    → HaveTypes t fresh.params gs)) (sym come)
     (rooted p same w s good, typed p same w s good)
 
 -- ---- the loop becomes a call
 
-may_call : MayInline unit empty of_callee (with_block filler there body) fill_it (Here end) body 0
+may_call : MayInline unit empty of_callee (with_block filler there body) fresh (Here end) body 0
     arguments
-may_call = inline_conditions (λ f. Index) [] fill_it [] same_ids of_callee (λ x. x)
-    (with_block filler there body) (Here end) body arguments
+may_call = fresh_conditions (λ f. Index) [] fill_it [] 20 of_callee (λ x. x)
+    (with_block filler there body) (Here end) body arguments refl
     (inlinable (with_block filler there body) (refl, refl) (refl, refl) (refl, refl))
     (stand_there (with_block filler there body) refl unit body)
 
@@ -247,9 +251,9 @@ body_read s = each_place unit (nameless body) s (
 )
 
 may_replace : (args : List Argument) → Arguments arguments ≡ Arguments args
-    → MayReplace unit empty of_callee own names filler fill_it 0 there args
+    → MayReplace unit empty of_callee own names filler fresh 0 there args
 may_replace args e =
-    subst (λ z. MayReplace unit empty of_callee own names filler fill_it 0 there z)
+    subst (λ z. MayReplace unit empty of_callee own names filler fresh 0 there z)
     (same_arguments arguments args e) (record {
       found = it_is_matched;
       match = it_may_match;
@@ -259,4 +263,35 @@ may_replace args e =
 
 fives_are_called : Refines unit filler (with_block filler there call) []
 fives_are_called = replace_rule (λ f. Index) (fill_it ∷ []) filler first 1 there own names fill_it
-    0 call empty of_callee fill_it refl refl may_replace
+    0 call empty of_callee fresh refl refl may_replace
+
+-- ---- and the call is inlined again
+
+abbrev caller : Procedure
+caller = with_block filler there call
+
+abbrev at_call : Opened
+at_call = record { around = Here end; piece = call }
+
+abbrev called : Called
+called = record { callee = 0; args = arguments }
+
+may_inline : MayInline unit empty of_callee caller fresh (Here end) call 0 arguments
+may_inline = fresh_conditions (λ f. Index) [] fill_it [] 20 of_callee (λ x. x) caller (Here end)
+    call arguments refl (inlinable caller (refl, refl) (refl, refl) (refl, refl))
+    (stand_there caller refl unit call)
+
+may_there : MayInlineThere unit empty of_callee (fill_it ∷ []) caller 20 at_call
+may_there c q e f =
+    subst (λ d. MayInline unit empty of_callee caller (with_fresh_ids 20 q) (Here end) call
+    d.callee d.args) same
+    (subst (λ r. MayInline unit empty of_callee caller (with_fresh_ids 20 r) (Here end) call 0
+    arguments) (some_injective fill_it q (ap (λ (d : Called). slice_get (fill_it ∷ []) d.callee)
+    same ∙ f)) may_inline)
+  where
+    same : called ≡ c
+    same = some_injective called c e
+
+call_is_inlined : Refines unit caller (with_block caller at_call body) []
+call_is_inlined = inline_rule (λ f. Index) (fill_it ∷ []) caller first 20 at_call body empty
+    of_callee refl refl may_there

@@ -127,7 +127,7 @@ removed = inline_window_rule (λ f. Index) [] parts first 2 opening
 
 -- ---- the call by the conditions
 
-abbrev pub same_ids : Renaming
+abbrev same_ids : Renaming
 same_ids = record { to = λ x. x; from = λ x. x; to_from = λ x. refl; from_to = λ x. refl }
 
 by_conditions : MayInline above_it empty (λ x. false) caller (re_procedure same_ids setter)
