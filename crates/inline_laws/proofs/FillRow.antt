@@ -4,7 +4,7 @@ use Rattle.std.proofs.Common.{◌≡◌, ◌∙◌, ℕ, ℤ, ◌==◌, pos, Boo
 use Rattle.std.proofs.Common.{Option, Some, None, option_map, refl, sym, ap, ap₂, subst, true≢false}
 use Rattle.std.proofs.Common.{eqb-true, slice_get}
 use Rattle.exo_tree.specs.Tree.{I32, Index, Size, Lit, Var, Add, Const, Span, Argument, ControlArg}
-use Rattle.exo_tree.specs.Tree.{Window, ControlParam, TensorParam, Assign, Call, Block, end, next}
+use Rattle.exo_tree.specs.Tree.{Whole, Window, ControlParam, TensorParam, WindowParam, Assign, Call, Block, end, next}
 use Rattle.exo_tree.specs.Tree.{Procedure}
 use Rattle.exo_tree.specs.Context.{Here}
 use Rattle.exo_tree.specs.Places.{Opened}
@@ -295,3 +295,28 @@ may_there c q e f =
 call_is_inlined : Refines unit caller (with_block caller at_call body) []
 call_is_inlined = inline_rule (λ f. Index) (fill_it ∷ []) caller first 20 at_call body empty
     of_callee refl refl may_there
+
+-- ---- r(w: [i32][4]): fill(4, w), matched with fill(4, x[2:6])
+
+abbrev rest_filled : Procedure
+rest_filled = named (param 30 (WindowParam I32 (lit 4 ∷ []) 0) ∷ [])
+    (next (Call 0 (ControlArg (lit 4) ∷ Whole 30 ∷ [])) end)
+
+abbrev part_filled : Block
+part_filled = next (Call 0 (ControlArg (lit 4) ∷ Window 11 (Span (lit 2) (lit 6) ∷ []) ∷ [])) end
+
+abbrev the_part : List Argument
+the_part = Window 11 (Span (lit 2) (lit 6) ∷ []) ∷ []
+
+part_is_matched : matched own names part_filled rest_filled ≡ Arguments the_part
+part_is_matched = refl
+
+part_may_match : MayMatch own names part_filled rest_filled the_part
+part_may_match = record {
+  kinds = refl;
+  apart = refl;
+  binders = refl;
+  numbers = refl;
+  stand = refl;
+  calls = refl;
+}

@@ -34,13 +34,13 @@ use Rattle.match_laws.specs.Pairs.{same_cell, same_cells, points, controls_paire
 use Rattle.match_laws.specs.Pairs.{access_paired, wholes_paired, data_paired, argument_paired}
 use Rattle.match_laws.specs.Pairs.{arguments_paired, step_to, blocks_paired, statements_paired}
 use Rattle.match_laws.specs.Alike.{nameless, nameless_statement, nameless_binder}
-use Rattle.match_laws.proofs.Alike.{numbers_agree, conditions_same, calls_same, by_turns, step_same}
-use Rattle.match_laws.proofs.Alike.{Keeps, cells_same}
+use Rattle.match_laws.proofs.Alike.{numbers_agree, conditions_same, given_same, calls_same}
+use Rattle.match_laws.proofs.Alike.{Keeps, cells_same, by_turns, step_same}
 use Rattle.match_laws.proofs.Fitting.{same_windows, same_places}
 use Rattle.inline_laws.specs.AtOnce.{Put, put_control, put_controls, put_condition, put_index}
 use Rattle.inline_laws.specs.AtOnce.{put_datum, put_coords, put_window, put_argument}
 use Rattle.inline_laws.specs.AtOnce.{put_arguments, put_statement, put_block, root_for, coords_for}
-use Rattle.inline_laws.specs.Meets.{Meets, is_whole, wholes_alike, all_wholes_alike}
+use Rattle.inline_laws.specs.Meets.{Meets, wholes_alike, all_wholes_alike}
 use Rattle.inline_laws.specs.Meets.{calls_alike_in, calls_alike, PutsParams, MeetsAlong}
 
 no : {P : Type 0} → false ≡ true → P
@@ -67,12 +67,6 @@ shifted_of P [] is h = points_of P is h
 shifted_of P (At a ∷ cs) is h = (h.0, shifted_of P cs is h.1)
 shifted_of P (Span a b ∷ cs) [] h = tt
 shifted_of P (Span a b ∷ cs) (i ∷ is) h = (h.0, shifted_of P cs is h.1)
-
-whole_is : (a : Argument) (x : ℕ) → is_whole a ≡ true → a ≡ Whole (root_in a x)
-whole_is (ControlArg e) x h = no h
-whole_is (ConditionArg c) x h = no h
-whole_is (Whole y) x h = refl
-whole_is (Window y cs) x h = no h
 
 view_no_number : (scene : Scene) (a : Argument) → is_view a ≡ true
     → None ≡ argument_number scene a
@@ -185,37 +179,16 @@ module _ (at : Reading) (put : Put) (params : ℕ → Bool) (ours theirs : Names
         → holds scene d ≡ holds scene (put_condition put c)
     condition_meets c d h i j = sym (conditions_same at scene (put_condition put c) d h j i)
 
-    root_meets : (p : Path) (x y : ℕ) → All (wholes_paired params ours theirs p x y)
-        → root_for put x ≡ y
-    root_meets p x y h = by_cells (same_cells (ours x) (theirs y)) h
-      where
-        by_param : (t : Bool) → params x ≡ t
-            → All (if t
-            then Access p x (whole_of (extents_of (ours x))) y (whole_of (extents_of (theirs y))) ∷ []
-            else Own p x y ∷ []) → root_for put x ≡ y
-        by_param true e k = k.0.0
-        by_param false e k = ap (λ a. root_in a x) (puts.own x e) ∙ k.0
-
-        by_cells : (t : Bool)
-            → All (if t then (if params x
-            then Access p x (whole_of (extents_of (ours x))) y (whole_of (extents_of (theirs y))) ∷ []
-            else Own p x y ∷ []) else Unlike p ∷ []) → root_for put x ≡ y
-        by_cells true k = by_param (params x) refl k
-        by_cells false k = absurd k.0
-
-
     given_meets : (p : Path) (whole : Bool) (a b : Argument)
-        → All (argument_paired params ours theirs p whole a b) → wholes_alike put a b ≡ true
+        → All (argument_paired params ours theirs p whole a b) → wholes_alike at put a b ≡ true
         → OfArgument Reads b → OfArgument Reads (put_argument put a)
         → given scene b ≡ given scene (put_argument put a)
     given_meets p whole (ControlArg e) (ControlArg g) h w i j =
         ap (λ n. Some (GivenNumber n)) (number_meets e g h.0 i j)
     given_meets p whole (ConditionArg c) (ConditionArg d) h w i j =
         ap (λ t. Some (GivenNumber (truth t))) (condition_meets c d h.0 i j)
-    given_meets p whole (Whole x) (Whole y) h w i j =
-        sym (ap (given scene) (whole_is (put.name x) x w)
-        ∙ ap (λ z. option_map GivenView (scene.views z)) (root_meets p x y h))
-    given_meets p whole (Whole x) (Window y ds) h w i j = no w
+    given_meets p whole (Whole x) b h w i j =
+        sym (given_same at scene (put.name x) b w j i)
     given_meets p whole (Window x cs) (Whole y) h w i j = no w
     given_meets p whole (Window x cs) (Window y ds) h w i j =
         ap (option_map GivenView) (window_meets p x cs y ds h i j)
@@ -223,7 +196,7 @@ module _ (at : Reading) (put : Put) (params : ℕ → Bool) (ours theirs : Names
 
     all_meet : (p : Path) (as' bs : List Argument)
         → All (arguments_paired params ours theirs p as' bs)
-        → all_wholes_alike put as' bs ≡ true → OfArguments Reads bs
+        → all_wholes_alike at put as' bs ≡ true → OfArguments Reads bs
         → OfArguments Reads (put_arguments put as')
         → all_given scene bs ≡ all_given scene (put_arguments put as')
     all_meet p [] [] h w i j = refl
@@ -232,7 +205,7 @@ module _ (at : Reading) (put : Put) (params : ℕ → Bool) (ours theirs : Names
     all_meet p (a ∷ as') (b ∷ bs) h w i j =
         let k = each_split (Meets at put) (argument_paired params ours theirs p false a b)
         (arguments_paired params ours theirs p as' bs) h in
-        let v = and_parts (wholes_alike put a b) (all_wholes_alike put as' bs) w in
+        let v = and_parts (wholes_alike at put a b) (all_wholes_alike at put as' bs) w in
         ap₂ (λ o r. then_do o (λ g. option_map (λ gs. g ∷ gs) r))
         (given_meets p false a b k.0 v.0 i.0 j.0) (all_meet p as' bs k.1 v.1 i.1 j.1)
 
@@ -349,14 +322,14 @@ module _ (at : Reading) (put : Put) (params : ℕ → Bool) (ours theirs : Names
     mutual
       along : (under : Path → Path) (branch : Branch) (n : ℕ) (b d : Block) (s : State)
           → All (blocks_paired params ours theirs under branch n b d)
-          → calls_alike put b d ≡ true → Kept (nameless d) s → Kept (within b) s
+          → calls_alike at put b d ≡ true → Kept (nameless d) s → Kept (within b) s
           → SameAlong world (nameless d) (within b) s
       along under branch n end end s h w kd kb = both_end
       along under branch n (next a b) (next c d) s h w kd kb =
           let pairs = each_split (Meets at put)
           (statements_paired params ours theirs (step_to params ours theirs under branch n) a c)
           (blocks_paired params ours theirs under branch (suc n) b d) h in
-          let v = and_parts (calls_alike_in put a c) (calls_alike put b d) w in
+          let v = and_parts (calls_alike_in at put a c) (calls_alike at put b d) w in
           let same = there (step_to params ours theirs under branch n) a c (nameless d) (within b) s pairs.0 v.0 kd kb
           in
           both_next same (λ t e. along under branch (suc n) b d t pairs.1 v.1
@@ -369,7 +342,7 @@ module _ (at : Reading) (put : Put) (params : ℕ → Bool) (ours theirs : Names
 
       there : (under : Path → Path) (a c : Statement) (rest more : Block) (s : State)
           → All (statements_paired params ours theirs under a c)
-          → calls_alike_in put a c ≡ true → Kept (next (nameless_statement c) rest) s
+          → calls_alike_in at put a c ≡ true → Kept (next (nameless_statement c) rest) s
           → Kept (next (after a) more) s
           → SameThere world (nameless_statement c) (after a) s
       there under (Assign x is e) (Assign y js d) rest more s h w kd kb =
@@ -395,7 +368,7 @@ module _ (at : Reading) (put : Put) (params : ℕ → Bool) (ours theirs : Names
           let same = condition_meets s.scene t r h.0 i j in
           let k = each_split (Meets at put) (blocks_paired params ours theirs under Main 0 a c)
           (blocks_paired params ours theirs under Else 0 b d) h.1 in
-          let v = and_parts (calls_alike put a c) (calls_alike put b d) w in
+          let v = and_parts (calls_alike at put a c) (calls_alike at put b d) w in
           let told = put_condition put t in
           in_branches same
           (λ z. along under Main 0 a c s k.0 v.0

@@ -110,7 +110,7 @@ pub record MayMatch (at : Reading) (theirs : Names) (block : Block) (q : Procedu
   pub stand :
       all_stand (by_walk at theirs block q) (given_names at theirs block q args) q.params
       (all_pairs at theirs block q) ≡ true
-  pub calls : calls_alike (puts q.params args) q.body block ≡ true
+  pub calls : calls_alike at (puts q.params args) q.body block ≡ true
 
 -- where what is read in both has its numbers along a run
 abbrev pub MatchLaw : Type 0

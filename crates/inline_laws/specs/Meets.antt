@@ -15,7 +15,7 @@ use Rattle.match_laws.specs.Names.{Names}
 use Rattle.match_laws.specs.Fitting.{SameCoords}
 use Rattle.match_laws.specs.Moved.{agree, conditions_agree}
 use Rattle.match_laws.specs.Pairs.{Pair, Numbers, Truths, Binders, Own, Access, Unlike, paired}
-use Rattle.match_laws.specs.Alike.{nameless}
+use Rattle.match_laws.specs.Alike.{arguments_alike, nameless}
 use Rattle.inline_laws.specs.AtOnce.{Put, put_control, put_condition, root_for, put_window, put_block}
 
 module _ (at : Reading) (put : Put) where
@@ -35,17 +35,11 @@ module _ (at : Reading) (put : Put) where
 
 -- ---- names given whole in calls within the body
 
-abbrev pub is_whole : Argument → Bool
-is_whole (ControlArg e) = false
-is_whole (ConditionArg c) = false
-is_whole (Whole x) = true
-is_whole (Window x cs) = false
-
-module _ (put : Put) where
-  -- where one side is a name, so is the other, with the arguments put
+module _ (at : Reading) (put : Put) where
+  -- what stands for a name that the body gives whole is what the block gives; a name that the
+  -- block gives whole stands against no window
   abbrev pub wholes_alike : Argument → Argument → Bool
-  wholes_alike (Whole x) (Whole y) = is_whole (put.name x)
-  wholes_alike (Whole x) (Window y ds) = false
+  wholes_alike (Whole x) b = arguments_alike at (put.name x) b
   wholes_alike (Window x cs) (Whole y) = false
   wholes_alike a b = true
 
@@ -76,7 +70,7 @@ MeetsAlong =
     (b d : Block) (s : State)
     → PutsParams params put
     → Each (Meets at put) (paired params ours theirs b d)
-    → calls_alike put b d ≡ true
+    → calls_alike at put b d ≡ true
     → OfEach world (IsRead at) (nameless d) s
     → OfEach world (IsRead at) (nameless (put_block put b)) s
     → SameAlong world (nameless d) (nameless (put_block put b)) s

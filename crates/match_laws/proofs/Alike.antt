@@ -166,7 +166,7 @@ module _ (at : Reading) where
     number_same (Window x cs) (Window y ds) h i j = refl
     number_same a b h i j = no h
 
-    given_same : (a b : Argument) → arguments_alike at a b ≡ true → OfArgument Reads a
+    pub given_same : (a b : Argument) → arguments_alike at a b ≡ true → OfArgument Reads a
         → OfArgument Reads b → given scene a ≡ given scene b
     given_same (ControlArg a) (ControlArg b) h i j =
         ap (λ n. Some (GivenNumber n)) (numbers_agree a b h i j)
