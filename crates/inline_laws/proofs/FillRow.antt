@@ -1,14 +1,14 @@
 -- A loop that fills a row becomes a call of a callee with a control and a buffer parameter, and the
 -- call is inlined again.
-use Rattle.std.proofs.Common.{◌≡◌, ◌∙◌, ℕ, ℤ, ◌==◌, pos, Bool, true, false, ◌||◌, List, [], ◌∷◌}
+use Rattle.std.proofs.Common.{◌≡◌, ◌∙◌, ℕ, ◌==◌, pos, Bool, true, false, ◌||◌, List, [], ◌∷◌}
 use Rattle.std.proofs.Common.{Option, Some, None, option_map, refl, sym, ap, ap₂, subst, true≢false}
 use Rattle.std.proofs.Common.{eqb-true, slice_get}
-use Rattle.exo_tree.specs.Tree.{I32, Index, Size, Lit, Var, Add, Const, Span, Argument, ControlArg}
+use Rattle.exo_tree.specs.Tree.{I32, Index, Size, Var, Add, Const, Span, Argument, ControlArg}
 use Rattle.exo_tree.specs.Tree.{Whole, Window, ControlParam, TensorParam, WindowParam, Assign, Call, Block, end, next}
 use Rattle.exo_tree.specs.Tree.{Procedure}
 use Rattle.exo_tree.specs.Context.{Here}
 use Rattle.exo_tree.specs.Places.{Opened}
-use Rattle.exo_meaning.specs.Scene.{Seen, Side, Scene, then_do, narrowed, window, whole, numbers}
+use Rattle.exo_meaning.specs.Scene.{Seen, Side, then_do, narrowed, window, whole, numbers}
 use Rattle.exo_meaning.specs.State.{State}
 use Rattle.exo_meaning.specs.Calls.{Given, GivenNumber, GivenView, all_given}
 use Rattle.exo_meaning.specs.Run.{World, unit_world, writes}
@@ -35,7 +35,7 @@ use Rattle.inline_laws.proofs.FreshCallee.{fresh_conditions}
 use Rattle.inline_laws.proofs.InlineRule.{inline_rule}
 use Rattle.inline_laws.proofs.MatchRows.{each_place, known}
 use Rattle.inline_laws.proofs.ReplaceRule.{replace_rule}
-use Rattle.inline_laws.proofs.Rows.{binder, named, lit, first, param, loop, fill_it}
+use Rattle.inline_laws.proofs.Rows.{named, lit, first, param, loop, fill_it}
 use Rattle.inline_laws.proofs.Shares.{shares_law}
 
 -- ---- p(n: size, x: i32[n]): for i in seq(0, n): x[i] = 5

@@ -1,19 +1,17 @@
 -- A matched block does what the callee's body does.
 use Rattle.std.proofs.Common.{◌≡◌, ◌∙◌, ℕ, suc, ℤ, ◌+ℤ◌, ◌==◌, pos, Bool, true, false, ◌&&◌, ◌||◌}
 use Rattle.std.proofs.Common.{if◌then◌else◌, List, [], ◌∷◌, ◌++◌, length, Option, Some, None}
-use Rattle.std.proofs.Common.{IfSome, Result, Ok, Err, refl, sym, ap, ap₂, subst, true≢false}
+use Rattle.std.proofs.Common.{IfSome, Ok, refl, sym, ap, ap₂, subst, true≢false}
 use Rattle.std.proofs.Common.{eqb-true, eq-eqb, arith}
 use Rattle.std.specs.Prelude.{nat_lt}
 use Rattle.exo_tree.specs.Tree.{Control, Lit, Var, Field, StrideOf, Neg, Add, Sub, Mul, Div, Mod}
 use Rattle.exo_tree.specs.Tree.{Coord, At, Span, Argument, ControlArg, ConditionArg, Whole, Window}
-use Rattle.exo_tree.specs.Tree.{Condition, ParamKind, ControlParam, TensorParam, WindowParam, Param}
+use Rattle.exo_tree.specs.Tree.{ParamKind, ControlParam, TensorParam, WindowParam, Param}
 use Rattle.exo_tree.specs.Tree.{Block, Procedure}
 use Rattle.exo_tree.specs.Places.{Path}
 use Rattle.exo_meaning.specs.Inputs.{is_buffer_of}
 use Rattle.exo_meaning.specs.Orders.{Each}
 use Rattle.exo_meaning.specs.Scene.{Scene, number}
-use Rattle.exo_meaning.specs.State.{State}
-use Rattle.exo_meaning.specs.Run.{World}
 use Rattle.affine_forms.specs.Atoms.{same_form, constantly}
 use Rattle.affine_forms.specs.Forms.{Reading, is_affine, normal}
 use Rattle.exo_meaning.specs.Units.{is_of_literals}
@@ -30,7 +28,7 @@ use Rattle.simplify_laws.specs.SameControls.{OfCoords, OfEach}
 use Rattle.simplify_laws.specs.SimplifiedBlocks.{standing, IsRead}
 use Rattle.simplify_laws.proofs.Simplified.{simplified_law}
 use Rattle.match_laws.specs.Names.{Names, Buffer, names_of}
-use Rattle.match_laws.specs.Fitting.{SameCoords, IsAffine, OfSpots, IsComposed, coord_moved}
+use Rattle.match_laws.specs.Fitting.{SameCoords, IsAffine, OfSpots, IsComposed}
 use Rattle.match_laws.specs.Fitting.{coords_moved}
 use Rattle.match_laws.specs.Moved.{Moving, both, one, moved, moved_condition, agree}
 use Rattle.match_laws.specs.Moved.{conditions_agree}
@@ -40,7 +38,7 @@ use Rattle.match_laws.specs.Windows.{window_of, all_moved, are_at_zero, is_at_ze
 use Rattle.match_laws.specs.Windows.{all_of_name, argument_of, fitting, spots, are_free, all_as}
 use Rattle.match_laws.specs.Matched.{Known, known_if, known_by, variable_of, flag_of, argument_if}
 use Rattle.match_laws.specs.Matched.{argument_in, partner_if, partner, number_in, truth_in}
-use Rattle.match_laws.specs.Matched.{stride_in, variable_for, stride_for, or_differs, moving}
+use Rattle.match_laws.specs.Matched.{stride_in, variable_for, stride_for, or_differs}
 use Rattle.match_laws.specs.Matched.{Arguments, matched, params, all_pairs, to, walk, by_walk}
 use Rattle.match_laws.specs.Matched.{buffer_argument, argument_for, first_path}
 use Rattle.match_laws.specs.MatchedFits.{AreGiven, given_names, IsMatch}
@@ -53,7 +51,7 @@ use Rattle.match_laws.proofs.ArgumentFits.{argument_fits}
 use Rattle.match_laws.proofs.Fitting.{fitting_law, spotted}
 use Rattle.match_laws.proofs.MatchedFits.{matched_fits}
 use Rattle.inline_laws.specs.AtOnce.{Put, puts, with_put, put_control, put_condition, put_coords}
-use Rattle.inline_laws.specs.AtOnce.{put_window, put_block, root_for, coords_for, suits, all_suit}
+use Rattle.inline_laws.specs.AtOnce.{put_window, root_for, suits, all_suit}
 use Rattle.inline_laws.specs.Meets.{Meets, PutsParams}
 use Rattle.inline_laws.specs.MovedIsPut.{is_of_kind, are_of_kinds, HasBlockIds, Agrees}
 use Rattle.inline_laws.specs.MatchLaw.{is_known, dims_if, dims_of, has_length, no_strides}
@@ -62,7 +60,7 @@ use Rattle.inline_laws.specs.MatchLaw.{have_one_id, stands, all_stand, no_buffer
 use Rattle.inline_laws.specs.MatchLaw.{numbers_are_numbers, MayMatch, MatchLaw, MatchRuns}
 use Rattle.inline_laws.proofs.AtOnce.{puts_keep, at_once, Keeps}
 use Rattle.inline_laws.proofs.Meets.{meets_along, each_split}
-use Rattle.inline_laws.proofs.MovedIsPut.{control_is, same_test, first_is, later_is, GivenIs, stride_under}
+use Rattle.inline_laws.proofs.MovedIsPut.{control_is, first_is, later_is, GivenIs, stride_under}
 use Rattle.inline_laws.proofs.MovedIsPut.{matched_agrees}
 
 no : {P : Type 0} → false ≡ true → P
@@ -315,10 +313,10 @@ module _ (at : Reading) (m : Moving) (bound : ℕ → Bool) (put : Put)
       chosen false rs k = absurd (none_some k)
 
       go : (o : Option (List Spot)) → elim o [
-          | None ↦ None
-          | Some rs ↦ if are_free at m bound rs && all_as at m bound listed rs us then Some rs
-              else None
-        ] ≡ Some ss → o ≡ Some ss
+        | None ↦ None
+        | Some rs ↦ if are_free at m bound rs && all_as at m bound listed rs us then Some rs
+            else None
+      ] ≡ Some ss → o ≡ Some ss
       go None k = absurd (none_some k)
       go (Some rs) k = chosen (are_free at m bound rs && all_as at m bound listed rs us) rs k
 
@@ -388,13 +386,18 @@ module _ (at : Reading) (m : Moving) (bound : ℕ → Bool) (put : Put)
       let on = by_argument (OnArgument x y u) whole b y ds ss a
       (on_window x y u (coords_from at m bound ss ds) (λ scene reads. core q.0 q.1 (sym rank)
       scene (composed scene reads)))
-      (λ zero. (refl, λ scene reads. whole_coords at m bound scene reads ss ds
-      (put_coords put u.ours) u.theirs zero (affine scene reads)
-      (put_length put u.ours ∙ sym rank)
-      (core q.0 q.1 (sym rank) scene (composed scene reads)))) from in
-      let there = subst (OnArgument x y u) (sym is) on in
-      (there.0 ∙ sym name, λ scene i j.
-      same_here at scene (put_window put x u.ours) u.theirs i j (there.1 scene))
+      (λ zero. (
+        refl,
+        λ scene reads. whole_coords at m bound scene reads ss ds
+            (put_coords put u.ours) u.theirs zero (affine scene reads)
+            (put_length put u.ours ∙ sym rank)
+            (core q.0 q.1 (sym rank) scene (composed scene reads)),
+      )) from in
+      let there = subst (OnArgument x y u) (sym is) on in (
+        there.0 ∙ sym name,
+        λ scene i j.
+            same_here at scene (put_window put x u.ours) u.theirs i j (there.1 scene),
+      )
     where
       core : are_strideless_if_known (coords_moved m u.ours) ≡ true
           → are_strideless u.theirs ≡ true → length u.ours ≡ length ds → (scene : Scene)
@@ -445,7 +448,7 @@ module _ (at : Reading) (m : Moving) (bound : ℕ → Bool) (put : Put)
       let q = and_parts (are_strideless_if_known (coords_moved m f.first.ours))
       (are_strideless f.first.theirs) p.1 in
       let affine : (scene : Scene) → ReadsHere at scene
-          → OfSpots (IsAffine (standing scene)) f.spots
+      → OfSpots (IsAffine (standing scene)) f.spots
       = λ scene reads. spots_affine scene reads f.listed f.first f.spots
       (fitting_spots f.listed f.first f.others f.spots f.fits) q.0 q.1 in
       subst (Each (UseMeets at put x)) (sym f.uses_are)
@@ -712,10 +715,12 @@ module _ (at : Reading) (by m : Moving) (put : Put) (ps : List Param) where
           → (has_length (length u.ours) (dims_of ps y)
           && (are_strideless_if_known (coords_moved by u.ours) && are_strideless u.theirs)) ≡ true
           → Those (if t then u ∷ [] else [])
-      by_name u y true i k =
-          (subst (λ o. (has_length (length u.ours) o
-          && (are_strideless_if_known (coords_moved by u.ours) && are_strideless u.theirs)) ≡ true)
-          (ap (dims_of ps) (eqb-true y x i) ∙ e) k, tt)
+      by_name u y true i k = (
+        subst (λ o. (has_length (length u.ours) o
+            && (are_strideless_if_known (coords_moved by u.ours) && are_strideless u.theirs)) ≡ true)
+            (ap (dims_of ps) (eqb-true y x i) ∙ e) k,
+        tt,
+      )
       by_name u y false i k = tt
 
       first : (a : Pair) → stands by m ps a ≡ true → Those (uses_of x pairs)

@@ -1,5 +1,5 @@
 -- A block does what a callee's body does, where each pair of their walk meets.
-use Rattle.std.proofs.Common.{◌≡◌, ◌∙◌, ℕ, suc, ℤ, ◌+ℤ◌, ◌-ℤ◌, ◌*ℤ◌, ◌==◌, pos, int_le, int_lt}
+use Rattle.std.proofs.Common.{◌≡◌, ◌∙◌, ℕ, suc, ◌+ℤ◌, ◌-ℤ◌, ◌*ℤ◌, ◌==◌, pos}
 use Rattle.std.proofs.Common.{Bool, true, false, ◌&&◌, if◌then◌else◌, List, [], ◌∷◌, ◌++◌, Option}
 use Rattle.std.proofs.Common.{Some, None, option_map, refl, sym, ap, ap₂, subst, true≢false}
 use Rattle.std.proofs.Common.{eqb-true}
@@ -8,7 +8,7 @@ use Rattle.exo_tree.specs.Tree.{Binder, Control, Condition, Datum, Const, Read, 
 use Rattle.exo_tree.specs.Tree.{Minus, Times, Select, Coord, At, Span, Argument, ControlArg}
 use Rattle.exo_tree.specs.Tree.{ConditionArg, Whole, Window, Statement, Assign, Reduce, Config}
 use Rattle.exo_tree.specs.Tree.{Pass, If, For, Alloc, View, Call, Block, end, next}
-use Rattle.exo_tree.specs.Context.{Here, After, InLoop, InThen, InElse}
+use Rattle.exo_tree.specs.Context.{Here, After, InThen, InElse}
 use Rattle.exo_tree.specs.Places.{Branch, Main, Else, Path}
 use Rattle.exo_meaning.specs.Orders.{Each}
 use Rattle.exo_meaning.specs.Value.{Value, Number, on_two, on_one, on_four, relu, selected}
@@ -24,14 +24,14 @@ use Rattle.inplace_laws.specs.Along.{in_branches, in_turns}
 use Rattle.inplace_laws.specs.Inline.{is_view}
 use Rattle.inplace_laws.specs.Windows.{shifted, joined_coords, root_in, coords_of}
 use Rattle.simplify_laws.specs.SameControls.{OfControls, OfCondition, OfDatum, OfCoords, OfArgument}
-use Rattle.simplify_laws.specs.SameControls.{OfArguments, OfEach}
+use Rattle.simplify_laws.specs.SameControls.{OfArguments}
 use Rattle.simplify_laws.specs.SimplifiedBlocks.{IsRead}
-use Rattle.match_laws.specs.Names.{Names, extents_of, whole_of}
+use Rattle.match_laws.specs.Names.{Names}
 use Rattle.match_laws.specs.Fitting.{SameCoords}
 use Rattle.match_laws.specs.Moved.{agree, conditions_agree}
-use Rattle.match_laws.specs.Pairs.{Pair, Numbers, Truths, Binders, Own, Access, Unlike, paired}
+use Rattle.match_laws.specs.Pairs.{Pair, Binders, Own, Access, Unlike}
 use Rattle.match_laws.specs.Pairs.{same_cell, same_cells, points, controls_paired, coords_paired}
-use Rattle.match_laws.specs.Pairs.{access_paired, wholes_paired, data_paired, argument_paired}
+use Rattle.match_laws.specs.Pairs.{access_paired, data_paired, argument_paired}
 use Rattle.match_laws.specs.Pairs.{arguments_paired, step_to, blocks_paired, statements_paired}
 use Rattle.match_laws.specs.Alike.{nameless, nameless_statement, nameless_binder}
 use Rattle.match_laws.proofs.Alike.{numbers_agree, conditions_same, given_same, calls_same}

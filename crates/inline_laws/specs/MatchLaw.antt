@@ -67,9 +67,9 @@ abbrev pub have_one_id : List Pair → Bool
 have_one_id [] = true
 have_one_id (a ∷ pairs) = has_one_id a && have_one_id pairs
 
--- by: the callee's expressions in the block's names, as the walk determines them; m: with all
--- arguments. Each name is a parameter's, or bound in the body; an access of a parameter has its
--- rank
+-- by: the callee's expressions in the block's names, as the walk determines them; m: the same with
+-- all arguments; ps: the callee's parameters. All that is read of them is known, and an access of a
+-- parameter has as many coordinates as the parameter has dimensions, none of them with a stride
 module _ (by m : Moving) (ps : List Param) where
   abbrev pub stands : Pair → Bool
   stands (Numbers p whole e g) = is_known (moved m e)
@@ -101,15 +101,18 @@ numbers_are_numbers found (p ∷ ps) =
 -- q: the callee, whose binders have the ids of the block's
 pub record MayMatch (at : Reading) (theirs : Names) (block : Block) (q : Procedure)
     (args : List Argument) : Type 0 where
+  -- buffers are given for buffers, and no argument mentions a parameter
   pub kinds : are_of_kinds q.params args ≡ true
   pub apart : arguments_mention (λ x. is_buffer_of x q.params) args ≡ false
   pub binders : have_one_id (all_pairs at theirs block q) ≡ true
   pub numbers :
       numbers_are_numbers (argument_in (params at theirs block q) (walk at theirs block q))
       q.params ≡ true
+  -- each name of the body is a parameter or bound before; accesses of parameters have their rank
   pub stand :
       all_stand (by_walk at theirs block q) (given_names at theirs block q args) q.params
       (all_pairs at theirs block q) ≡ true
+  -- no name that the block gives whole in a call stands against a window
   pub calls : calls_alike at (puts q.params args) q.body block ≡ true
 
 -- where what is read in both has its numbers along a run

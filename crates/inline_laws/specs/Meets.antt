@@ -1,7 +1,7 @@
 -- A callee's body with what stands for its names, against a block, pair by pair of their walk.
-use Rattle.std.specs.Prelude.{◌≡◌, ℕ, Bool, true, false, ◌&&◌, List, [], ◌∷◌}
-use Rattle.exo_tree.specs.Tree.{Argument, ControlArg, ConditionArg, Whole, Window, Statement, If}
-use Rattle.exo_tree.specs.Tree.{For, Call, Block, end, next}
+use Rattle.std.specs.Prelude.{◌≡◌, ℕ, Bool, true, false, ◌&&◌, List, ◌∷◌}
+use Rattle.exo_tree.specs.Tree.{Argument, Whole, Window, Statement, If}
+use Rattle.exo_tree.specs.Tree.{For, Call, Block, next}
 use Rattle.exo_meaning.specs.Orders.{Each}
 use Rattle.exo_meaning.specs.Scene.{Scene}
 use Rattle.exo_meaning.specs.State.{State}

@@ -1,6 +1,6 @@
 -- The rewrite replace, on plain trees: a block that is matched with a callee's body becomes a call
 -- of it.
-use Rattle.std.specs.Prelude.{◌≡◌, ℕ, Bool, true, if◌then◌else◌, List, [], Option}
+use Rattle.std.specs.Prelude.{◌≡◌, ℕ, Bool, if◌then◌else◌, List, [], Option}
 use Rattle.std.specs.Prelude.{Some, None}
 use Rattle.exo_tree.specs.Tree.{Kind, Argument, Call, Block, end, next, Procedure}
 use Rattle.exo_tree.specs.Context.{fill}
