@@ -29,7 +29,9 @@ use Rattle.match_laws.proofs.Instances.{own}
 use Rattle.match_laws.proofs.Matched.{same_arguments}
 use Rattle.inline_laws.specs.InlineConditions.{IsInlinable, StandThere}
 use Rattle.inline_laws.specs.InlineRule.{Called, MayInlineThere, with_fresh_ids}
+use Rattle.inline_laws.specs.AtOnce.{puts}
 use Rattle.inline_laws.specs.MatchLaw.{MayMatch}
+use Rattle.inline_laws.specs.Meets.{calls_alike}
 use Rattle.inline_laws.specs.ReplaceRule.{with_block, MayReplace}
 use Rattle.inline_laws.proofs.FreshCallee.{fresh_conditions}
 use Rattle.inline_laws.proofs.InlineRule.{inline_rule}
@@ -320,3 +322,25 @@ part_may_match = record {
   stand = refl;
   calls = refl;
 }
+
+-- ---- w[0:4] within the body against the whole of an x: i32[4] is matched, and told
+
+abbrev four : Names
+four = names_of (named (param 11 (TensorParam I32 (lit 4 ∷ []) 0) ∷ []) end)
+
+abbrev window_filled : Procedure
+window_filled = named (param 30 (WindowParam I32 (lit 4 ∷ []) 0) ∷ [])
+    (next (Call 0 (ControlArg (lit 4) ∷ Window 30 (Span (lit 0) (lit 4) ∷ []) ∷ [])) end)
+
+abbrev whole_filled : Block
+whole_filled = next (Call 0 (ControlArg (lit 4) ∷ Whole 11 ∷ [])) end
+
+abbrev all_four : List Argument
+all_four = Window 11 (Span (lit 0) (lit 4) ∷ []) ∷ []
+
+whole_is_matched : matched own four whole_filled window_filled ≡ Arguments all_four
+whole_is_matched = refl
+
+whole_is_told : calls_alike own (puts window_filled.params all_four) window_filled.body whole_filled
+    ≡ false
+whole_is_told = refl
