@@ -187,11 +187,19 @@ set_is_read u = each_of_one above_it (IsRead own) (Config 0 (ControlArg (Lit (po
     (λ t. (reads (standing t.scene) t.scene, refl))
 
 may_replace : (args : List Argument) → Arguments [] ≡ Arguments args
-    → MayReplace above_it empty (λ x. false) own setting setter 0 block args
+    → MayReplace above_it empty (λ x. false) own no_names setting setter 0 block args
 may_replace args e =
-    subst (λ z. MayReplace above_it empty (λ x. false) own setting setter 0 block z)
+    subst (λ z. MayReplace above_it empty (λ x. false) own no_names setting setter 0 block z)
     (same_arguments [] args e) (record {
-      agree = refl;
+      found = they_match;
+      match = record {
+        kinds = refl;
+        apart = refl;
+        binders = refl;
+        numbers = refl;
+        stand = refl;
+        calls = refl;
+      };
       read = λ s u good come. (set_is_read u, set_is_read u);
       call = may_call;
     })

@@ -4,8 +4,12 @@ pub mod InlineConditions
 pub mod FreshCallee
 pub mod AtOnce
 pub mod MovedIsPut
+pub mod Meets
+pub mod MatchLaw
 pub mod Shares
 pub mod ReplaceRule
 pub mod Rows
 pub mod ReplaceRows
+pub mod MatchRows
+pub mod FillRow
 pub mod Instances

@@ -42,7 +42,7 @@ module _ (m : Moving) (put : Put)
   both_are f (Some x) None a b h k = tt
   both_are f (Some x) (Some y) a b h k = ap₂ f h k
 
-  control_is : (e : Control) → IfSome (moved m e) (λ f. f ≡ put_control put e)
+  pub control_is : (e : Control) → IfSome (moved m e) (λ f. f ≡ put_control put e)
   control_is (Lit n) = refl
   control_is (Var x) = variables x
   control_is (Field f) = refl
@@ -86,7 +86,7 @@ module _ (m : Moving) (put : Put)
 
 -- ---- the argument of a parameter
 
-same_test : (x y : ℕ) (t : Bool) → (x == y) ≡ t → (y == x) ≡ t
+pub same_test : (x y : ℕ) (t : Bool) → (x == y) ≡ t → (y == x) ≡ t
 same_test x y true h = eq-eqb y x (sym (eqb-true x y h))
 same_test x y false h = go (y == x) refl
   where
@@ -95,20 +95,20 @@ same_test x y false h = go (y == x) refl
     go false e = refl
 
 -- what is said of the first argument, or of the later ones
-abbrev NumberIs : Put → ℕ → Option Argument → Type 0
+abbrev pub NumberIs : Put → ℕ → Option Argument → Type 0
 NumberIs put x o = IfSome (number_in o) (λ f. f ≡ put.variable x)
 
-abbrev TruthIs : Put → ℕ → Option Argument → Type 0
+abbrev pub TruthIs : Put → ℕ → Option Argument → Type 0
 TruthIs put x o = IfSome (truth_in o) (λ c. c ≡ put.flag x)
 
-abbrev StrideIs : Put → ℕ → ℕ → Option Argument → Type 0
+abbrev pub StrideIs : Put → ℕ → ℕ → Option Argument → Type 0
 StrideIs put x k o = IfSome (stride_in o k) (λ f. f ≡ put_control put (StrideOf x k))
 
 abbrev StrideBy : Argument → ℕ → ℕ → Type 0
 StrideBy a x k =
     IfSome (stride_in (Some a) k) (λ f. f ≡ StrideOf (root_in a x) (nth_span (coords_of a) k))
 
-stride_by : (a : Argument) (x k : ℕ) → StrideBy a x k
+pub stride_by : (a : Argument) (x k : ℕ) → StrideBy a x k
 stride_by (ControlArg e) x k = tt
 stride_by (ConditionArg c) x k = tt
 stride_by (Whole y) x k = refl
@@ -125,10 +125,10 @@ then_is : {A : Type 0} (o : Option A) (a b : A) → a ≡ b → IfSome o (λ x. 
 then_is None a b e h = tt
 then_is (Some x) a b e h = h ∙ e
 
-abbrev GivenIs : Put → ℕ → Option Argument → Type 0
+abbrev pub GivenIs : Put → ℕ → Option Argument → Type 0
 GivenIs put x o = NumberIs put x o × TruthIs put x o × ((k : ℕ) → StrideIs put x k o)
 
-abbrev stride_under : ℕ → ℕ → Argument → Control
+abbrev pub stride_under : ℕ → ℕ → Argument → Control
 stride_under x k n = StrideOf (root_in n x) (nth_span (coords_of n) k)
 
 wrong : {P : Type 0} → false ≡ true → P
@@ -142,7 +142,7 @@ buffer_is x y a put h k =
     (stride_under y k (if y == x then a else put.name y))
     (ap (stride_under y k) (pick y x a (put.name y) h)) (stride_by a y k)
 
-first_is : (x : ℕ) (kind : ParamKind) (a : Argument) (put : Put) (y : ℕ)
+pub first_is : (x : ℕ) (kind : ParamKind) (a : Argument) (put : Put) (y : ℕ)
     → is_of_kind kind a ≡ true → (y == x) ≡ true → GivenIs (with_put x kind a put) y (Some a)
 first_is x (ControlParam kind) (ControlArg e) put y s h =
     (pick y x e (put.variable y) h, tt, λ k. tt)
@@ -171,7 +171,7 @@ other_buffer x y a put o h k is =
     (stride_under y k (if y == x then a else put.name y))
     (ap (stride_under y k) (skip y x a (put.name y) h)) is
 
-later_is : (x : ℕ) (kind : ParamKind) (a : Argument) (put : Put) (y : ℕ) (o : Option Argument)
+pub later_is : (x : ℕ) (kind : ParamKind) (a : Argument) (put : Put) (y : ℕ) (o : Option Argument)
     → (y == x) ≡ false → GivenIs put y o → GivenIs (with_put x kind a put) y o
 later_is x (ControlParam kind) (ControlArg e) put y o h is = (
   then_is (number_in o) (put.variable y) (if y == x then e else put.variable y)

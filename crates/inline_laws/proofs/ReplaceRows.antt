@@ -18,6 +18,8 @@ use Rattle.match_laws.specs.MatchedFits.{given_names}
 use Rattle.inline_laws.specs.MovedIsPut.{Agrees, HasBlockIds}
 use Rattle.inline_laws.proofs.MovedIsPut.{moved_is_put, matched_agrees}
 use Rattle.inline_laws.specs.AtOnce.{puts, put_block, put_control}
+use Rattle.inline_laws.specs.MatchLaw.{MayMatch}
+use Rattle.match_laws.specs.Matched.{Arguments, matched}
 use Rattle.inline_laws.specs.InlineRule.{renumbered}
 use Rattle.inline_laws.specs.ReplaceRule.{AtPath, OfParam, Shared, replace_piece, replace_draft}
 use Rattle.inline_laws.specs.ReplaceRule.{replace_refusal}
@@ -37,7 +39,7 @@ first_only x = x == 0
 
 -- ---- for ji in seq(0, 8): c[ji] = C[i, 8 * jo + ji] is copy8(c[0:8], C[i, 8 * jo:8 * jo + 8])
 
-abbrev load : Block
+abbrev pub load : Block
 load = loop 11 (lit 8) (Assign 9 (Var 11 ∷ []) (Read 5 (Var 6 ∷ at_lane ∷ [])))
 
 its_piece : replace_piece (named [] load) first 1 ≡ Some (record { path = first; count = 1 })
@@ -50,10 +52,10 @@ load_is_not_refused : replace_refusal own product copy8 3 itself first_only load
 load_is_not_refused = refl
 
 -- copy8 with the id of ji, and with its parameters out of the way
-abbrev as_in_load : ℕ → ℕ
+abbrev pub as_in_load : ℕ → ℕ
 as_in_load x = if x == 2 then 11 else (x + 20)
 
-abbrev inlined_load : Procedure → Block
+abbrev pub inlined_load : Procedure → Block
 inlined_load q = inlined q.params loaded q.body
 
 -- the call inlined agrees with the block
@@ -63,20 +65,20 @@ it_agrees = refl
 
 -- ---- for j in seq(0, m): A[i, j] = B[j] is copyn(m, A[i, 0:m], B[0:m])
 
-abbrev row_loop : Block
+abbrev pub row_loop : Block
 row_loop = loop 5 (Var 1) (Assign 2 (Var 4 ∷ Var 5 ∷ []) (Read 3 (Var 5 ∷ [])))
 
-abbrev row_arguments : List Argument
+abbrev pub row_arguments : List Argument
 row_arguments = ControlArg (Var 1) ∷ Window 2 (At (Var 4) ∷ Span (lit 0) (Var 1) ∷ [])
     ∷ Window 3 (Span (lit 0) (Var 1) ∷ []) ∷ []
 
 row_is_called : replace_draft own rows copy_n 0 row_loop ≡ Some (call 0 row_arguments)
 row_is_called = refl
 
-abbrev as_in_row : ℕ → ℕ
+abbrev pub as_in_row : ℕ → ℕ
 as_in_row x = if x == 3 then 5 else (x + 20)
 
-abbrev inlined_row : Procedure → Block
+abbrev pub inlined_row : Procedure → Block
 inlined_row q = inlined q.params row_arguments q.body
 
 row_agrees : blocks_agree own (nameless row_loop)
@@ -128,7 +130,7 @@ row_at_once = at_once copy_n.params row_at copy_n.body refl refl
 
 -- ---- the load, matched with copy8 under the id of ji
 
-abbrev copy_here : Procedure
+abbrev pub copy_here : Procedure
 copy_here = renumbered as_in_load copy8
 
 copy_has_block_ids : HasBlockIds own product load copy_here
@@ -147,3 +149,34 @@ load_expressions e =
 load_agrees : Each (Agrees own (given_names own product load copy_here loaded)
     (puts copy_here.params loaded)) (all_pairs own product load copy_here)
 load_agrees = matched_agrees own product load copy_here loaded refl copy_has_block_ids refl
+
+-- ---- what the law of matched blocks asks, of the load and of the copied row
+
+pub load_is_matched : matched own product load copy_here ≡ Arguments loaded
+load_is_matched = refl
+
+pub load_may_match : MayMatch own product load copy_here loaded
+load_may_match = record {
+  kinds = refl;
+  apart = refl;
+  binders = refl;
+  numbers = refl;
+  stand = refl;
+  calls = refl;
+}
+
+abbrev pub row_here : Procedure
+row_here = renumbered as_in_row copy_n
+
+pub row_is_matched : matched own rows row_loop row_here ≡ Arguments row_arguments
+row_is_matched = refl
+
+pub row_may_match : MayMatch own rows row_loop row_here row_arguments
+row_may_match = record {
+  kinds = refl;
+  apart = refl;
+  binders = refl;
+  numbers = refl;
+  stand = refl;
+  calls = refl;
+}

@@ -11,9 +11,9 @@ use Rattle.meaning_laws.proofs.SameRuns.{same_runs_law}
 use Rattle.inplace_laws.specs.Inline.{inlined}
 use Rattle.inplace_laws.proofs.Inline.{replace_refines}
 use Rattle.match_laws.specs.Matched.{Matched, Arguments, NoMatch, Undetermined, matched}
-use Rattle.match_laws.proofs.Alike.{agree_runs}
 use Rattle.inline_laws.specs.ReplaceRule.{with_block, ReplaceRule}
 use Rattle.inline_laws.proofs.InlineRule.{no_some}
+use Rattle.inline_laws.proofs.MatchLaw.{match_runs}
 
 -- the inputs are those of the procedure with another body
 still_admissible : (world : World) (p : Procedure) (o : Opened) (b : Block) (s : State)
@@ -60,7 +60,7 @@ replace_rule kinds ps p path n o at theirs q k made above own fresh opens draft 
         (refines_same (unit_world kinds ps) p o body (with_block p o (next (Call k args) end))
         (same_runs_law (unit_world kinds ps) o.around o.piece body p
         (sym (opened_law n path p.body o opens))
-        (λ s u good come. agree_runs (unit_world kinds ps) at o.piece body u m.agree
-        (m.read s u good come).0 (m.read s u good come).1))
+        (λ s u good come. match_runs (unit_world kinds ps) at theirs o.piece fresh args u m.found
+        m.match (m.read s u good come).0 (m.read s u good come).1))
         (replace_refines kinds ps (with_block p o body) fresh o.around k args above own refl
         m.call))

@@ -25,7 +25,7 @@ param x kind = record { binder = binder x; kind = kind }
 abbrev pub named : List Param → Block → Procedure
 named ps b = record { name = []; params = ps; asserts = []; body = b; template = None }
 
-abbrev loop : ℕ → Control → Statement → Block
+abbrev pub loop : ℕ → Control → Statement → Block
 loop i hi a = next (For (binder i) (lit 0) hi (next a end)) end
 
 abbrev size : ℕ → Param

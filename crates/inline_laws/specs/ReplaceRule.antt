@@ -1,6 +1,6 @@
 -- The rewrite replace, on plain trees: a block that is matched with a callee's body becomes a call
 -- of it.
-use Rattle.std.specs.Prelude.{◌≡◌, ℕ, Bool, true, if◌then◌else◌, List, [], Option}
+use Rattle.std.specs.Prelude.{◌≡◌, ℕ, Bool, if◌then◌else◌, List, [], Option}
 use Rattle.std.specs.Prelude.{Some, None}
 use Rattle.exo_tree.specs.Tree.{Kind, Argument, Call, Block, end, next, Procedure}
 use Rattle.exo_tree.specs.Context.{fill}
@@ -15,8 +15,9 @@ use Rattle.simplify_laws.specs.SameControls.{OfEach}
 use Rattle.simplify_laws.specs.SimplifiedBlocks.{IsRead}
 use Rattle.match_laws.specs.Names.{Names}
 use Rattle.match_laws.specs.Matched.{Arguments, NoMatch, Undetermined, matched}
-use Rattle.match_laws.specs.Alike.{blocks_agree, nameless}
+use Rattle.match_laws.specs.Alike.{nameless}
 use Rattle.inline_laws.specs.Pieces.{Piece, Shift}
+use Rattle.inline_laws.specs.MatchLaw.{MayMatch}
 use Rattle.inline_laws.specs.Shares.{shares}
 
 -- why it refuses: the first statement of the callee's body that differs, the first parameter that
@@ -64,13 +65,13 @@ replace_shifts = []
 abbrev pub with_block : Procedure → Opened → Block → Procedure
 with_block p o b = record p { body = fill o.around b }
 
--- fresh: the callee with the ids of the block's binders, and other ids for its parameters. Inlined
--- with the arguments it agrees with the block but for the names of binders, what is read in both
--- has its numbers along runs, and the call may stand for it
-pub record MayReplace (world above : World) (own : ℕ → Bool) (at : Reading) (p fresh : Procedure)
-    (k : ℕ) (o : Opened) (args : List Argument) : Type 0 where
-  pub agree :
-      blocks_agree at (nameless o.piece) (nameless (inlined fresh.params args fresh.body)) ≡ true
+-- fresh: the callee with the ids of the block's binders, and other ids for its parameters. It is
+-- matched with the block too, what is read in the block and in the body with the arguments has its
+-- numbers along runs, and the call may stand for that body
+pub record MayReplace (world above : World) (own : ℕ → Bool) (at : Reading) (theirs : Names)
+    (p fresh : Procedure) (k : ℕ) (o : Opened) (args : List Argument) : Type 0 where
+  pub found : matched at theirs o.piece fresh ≡ Arguments args
+  pub match : MayMatch at theirs o.piece fresh args
   pub read : (s u : State)
       → IsAdmissible world p s
       → ComesTo world o.piece o.around s u
@@ -89,5 +90,5 @@ ReplaceRule =
     opened n path p.body ≡ Some o
     → replace_draft at theirs q k o.piece ≡ Some made
     → ((args : List Argument) → matched at theirs o.piece q ≡ Arguments args
-    → MayReplace world above own at p fresh k o args)
+    → MayReplace world above own at theirs p fresh k o args)
     → Refines world p (with_block p o made) []

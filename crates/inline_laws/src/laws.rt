@@ -10,6 +10,9 @@ ghost use Rattle.inline_laws.specs.MovedIsPut.{MatchedAgrees};
 ghost use Rattle.inline_laws.specs.Shares.{SharesLaw};
 ghost use Rattle.inline_laws.specs.AtOnce.{AtOnce};
 ghost use Rattle.inline_laws.specs.ReplaceRule.{ReplaceRule};
+ghost use Rattle.inline_laws.specs.Meets.{MeetsAlong};
+ghost use Rattle.inline_laws.specs.MatchLaw.{MatchLaw};
+ghost use Rattle.inline_laws.specs.MatchLaw.{MatchRuns};
 
 /// A procedure with a call inlined by the rewrite is a refinement.
 pub fn inlined_calls_refine()
@@ -61,4 +64,19 @@ pub fn matched_expressions_are_inlined()
 /// Where a block is matched, the expressions of the inlined body agree with those of the block.
 pub fn matched_expressions_agree()
     ensures { MatchedAgrees }
+{}
+
+/// Where each pair of the walk meets, the block does what the callee's body does.
+pub fn blocks_that_meet_do_the_same()
+    ensures { MeetsAlong }
+{}
+
+/// A matched block does what the callee's body does, with the arguments of the match.
+pub fn matched_blocks_do_the_same()
+    ensures { MatchLaw }
+{}
+
+/// A matched block runs as the callee's body, with the arguments of the match.
+pub fn matched_blocks_run_alike()
+    ensures { MatchRuns }
 {}

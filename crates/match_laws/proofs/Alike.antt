@@ -38,7 +38,7 @@ use Rattle.match_laws.proofs.Agree.{agree_law}
 no : {P : Type 0} → false ≡ true → P
 no h = absurd (true≢false (sym h))
 
-cells_same : (c d : Cell) → same_cell c d ≡ true → c ≡ d
+pub cells_same : (c d : Cell) → same_cell c d ≡ true → c ≡ d
 cells_same I8 I8 h = refl
 cells_same I8 I32 h = no h
 cells_same I32 I8 h = no h
@@ -62,10 +62,10 @@ module _ (at : Reading) where
   -- ---- in one scene
 
   module _ (scene : Scene) where
-    abbrev Reads : Control → Type 0
+    abbrev pub Reads : Control → Type 0
     Reads = IsRead at scene
 
-    numbers_agree : (a b : Control) → agree at a b ≡ true → Reads a → Reads b
+    pub numbers_agree : (a b : Control) → agree at a b ≡ true → Reads a → Reads b
         → number scene a ≡ number scene b
     numbers_agree a b h i j = agree_law (standing scene) at scene a b i.0 i.1 j.1 h
 
@@ -84,7 +84,7 @@ module _ (at : Reading) where
         let p = and_parts (agree at a c) (agree at b d) h in
         (numbers_agree a c p.0 i.0 j.0, numbers_agree b d p.1 i.1 j.1)
 
-    conditions_same : (c d : Condition) → conditions_agree at c d ≡ true
+    pub conditions_same : (c d : Condition) → conditions_agree at c d ≡ true
         → OfCondition Reads c → OfCondition Reads d → holds scene c ≡ holds scene d
     conditions_same True True h i j = refl
     conditions_same False False h i j = refl
@@ -166,7 +166,7 @@ module _ (at : Reading) where
     number_same (Window x cs) (Window y ds) h i j = refl
     number_same a b h i j = no h
 
-    given_same : (a b : Argument) → arguments_alike at a b ≡ true → OfArgument Reads a
+    pub given_same : (a b : Argument) → arguments_alike at a b ≡ true → OfArgument Reads a
         → OfArgument Reads b → given scene a ≡ given scene b
     given_same (ControlArg a) (ControlArg b) h i j =
         ap (λ n. Some (GivenNumber n)) (numbers_agree a b h i j)
@@ -230,7 +230,7 @@ module _ (at : Reading) where
         (value_same c g r.0 i.2 j.2) (value_same d k r.1 i.3 j.3)
     value_same e d h i j = no h
 
-  calls_same : (o : Option Callee) (gs hs : List Argument) (s : State)
+  pub calls_same : (o : Option Callee) (gs hs : List Argument) (s : State)
       → all_given s.scene gs ≡ all_given s.scene hs → call_to o gs s ≡ call_to o hs s
   calls_same None gs hs s e = refl
   calls_same (Some callee) gs hs s e =
@@ -240,7 +240,7 @@ module _ (at : Reading) where
   -- ---- along a run
 
   -- turns that do the same where they come go on to the same
-  turns_follow : (i : ℕ) (f g : State → Option State) (ns : List ℤ) (s : State) (n : ℤ)
+  pub turns_follow : (i : ℕ) (f g : State → Option State) (ns : List ℤ) (s : State) (n : ℤ)
       (u : State)
       → ((m : ℤ) (v : State) → ComesToTurn (turn i f) ns s m v → ComesToTurn (turn i g) ns s m v
       → turn i f m v ≡ turn i g m v)
@@ -252,14 +252,14 @@ module _ (at : Reading) where
       later same (turns_follow i f g ns t m u
       (λ l v a b. h l v (later e a) (later same b)) come)
 
-  abbrev bound_to : Binder → ℤ → State → State
+  abbrev pub bound_to : Binder → ℤ → State → State
   bound_to i n u = on_scene (with_control i.id n) u
 
   module _ (world : World) where
-    abbrev Keeps : Block → State → Type 0
+    abbrev pub Keeps : Block → State → Type 0
     Keeps = OfEach world (IsRead at)
 
-    step_same : (a c : Statement) (s : State) → SameThere world a c s
+    pub step_same : (a c : Statement) (s : State) → SameThere world a c s
         → step world a s ≡ step world c s
     step_same a c s h =
         sym (then_some (step world a s))
@@ -271,7 +271,7 @@ module _ (at : Reading) where
         then_some (Some t) = refl
 
     -- body: each turn, in the states in which both blocks are read
-    by_turns : (i : Binder) (lo hi : Control) (b : Block) (l h : Control) (d rest more : Block)
+    pub by_turns : (i : Binder) (lo hi : Control) (b : Block) (l h : Control) (d rest more : Block)
         (s : State) → ((v : State) → Keeps b v → Keeps d v → SameAlong world b d v)
         → number s.scene lo ≡ number s.scene l → number s.scene hi ≡ number s.scene h
         → Keeps (next (For i lo hi b) rest) s → Keeps (next (For i l h d) more) s
@@ -423,7 +423,7 @@ looped i lo hi f s = turns (turn i.id f) (turns_of s.scene lo hi) s
 
 module _ (world : World) where
   mutual
-    run_nameless : (b : Block) → run world (nameless b) ≡ run world b
+    pub run_nameless : (b : Block) → run world (nameless b) ≡ run world b
     run_nameless end = refl
     run_nameless (next a b) = ap₂ in_turn (step_nameless a) (run_nameless b)
 

@@ -107,7 +107,7 @@ upper g e f h same = outer g e f ∙ ap (λ z. g +ℤ z) (sym same) ∙ there g 
 
 module _ (may : Allowed) (at : Reading) (m : Moving) (bound : ℕ → Bool) (scene : Scene)
     (reads : ReadsAt may (values_in scene) at scene) where
-  abbrev Affine : Control → Type 0
+  abbrev pub Affine : Control → Type 0
   Affine = IsAffine may
 
   both_affine : (a b : Control) → Affine a → Affine b → (is_affine may a && is_affine may b) ≡ true
@@ -158,7 +158,7 @@ module _ (may : Allowed) (at : Reading) (m : Moving) (bound : ℕ → Bool) (sce
 
   -- ---- spots of affine coordinates are affine
 
-  abbrev Spotted : Option (List Spot) → Option (List Coord) → List Coord → Type 0
+  abbrev pub Spotted : Option (List Spot) → Option (List Coord) → List Coord → Type 0
   Spotted p q gs =
       IfSome p (λ ss. IfSome q (λ cs. OfCoords Affine cs → OfCoords Affine gs
       → OfSpots Affine ss))
@@ -202,7 +202,7 @@ module _ (may : Allowed) (at : Reading) (m : Moving) (bound : ℕ → Bool) (sce
   point_spotted g (Some ss) None gs ih = tt
   point_spotted g (Some ss) (Some cs) gs ih = λ i j. (j.0, ih i j.1)
 
-  spotted : (listed : List Bool) (cs gs : List Coord)
+  pub spotted : (listed : List Bool) (cs gs : List Coord)
       → Spotted (spots at m bound listed cs gs) (coords_moved m cs) gs
   spotted [] [] [] = λ i j. tt
   spotted (true ∷ listed) (At e ∷ cs) (At g ∷ gs) =
