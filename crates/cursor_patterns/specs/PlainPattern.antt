@@ -1,0 +1,27 @@
+-- The plain forms of patterns.
+use Rattle.cursor_patterns.specs.Patterns as plain
+use Rattle.cursor_patterns.specs.declared.pattern.Pattern.{Pattern}
+use Rattle.cursor_patterns.specs.declared.pattern.Pattern.TheVariants.{Loop, Nest, Alloc, Assign, Reduce, If, Call, Pass, Config}
+use Rattle.cursor_patterns.specs.declared.pattern.ExprForm.{ExprForm}
+use Rattle.cursor_patterns.specs.declared.pattern.ExprForm.TheVariants.{Read, Add, Sub, Mul}
+use Rattle.cursor_patterns.specs.declared.pattern.ExprPattern.{ExprPattern}
+
+abbrev pub plain_pattern : Pattern → plain.Pattern
+plain_pattern (Loop i) = plain.Loop i
+plain_pattern (Nest i j) = plain.Nest i j
+plain_pattern (Alloc x) = plain.Alloc x
+plain_pattern (Assign x) = plain.Assign x
+plain_pattern (Reduce x) = plain.Reduce x
+plain_pattern If = plain.If
+plain_pattern (Call f) = plain.Call f
+plain_pattern Pass = plain.Pass
+plain_pattern (Config c f) = plain.Config c f
+
+abbrev pub plain_form : ExprForm → plain.ExprForm
+plain_form (Read x) = plain.Read x
+plain_form Add = plain.Add
+plain_form Sub = plain.Sub
+plain_form Mul = plain.Mul
+
+abbrev pub plain_expr_pattern : ExprPattern → plain.ExprPattern
+plain_expr_pattern p = record { form = plain_form p.form; nth = p.nth }

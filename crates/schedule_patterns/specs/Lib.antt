@@ -1,0 +1,7 @@
+pub mod Errors
+pub mod Numbers
+pub mod Names
+pub mod Grammar
+pub mod Told
+pub mod Texts
+pub mod Instance
