@@ -1,0 +1,100 @@
+// What the readers answer, in one line.
+use crate::digest::Digest;
+use crate::written::{push_expr_pattern, push_pattern, push_schedule};
+use exo_reader::unit::ReadError;
+use schedule_patterns::{read_expr_pattern, read_name, read_pattern};
+use schedule_text::text::read_schedule;
+use std::alloc::{AllocError, Global};
+
+/// The readers.
+#[derive(Clone, Copy)]
+pub enum Reader {
+    Schedule,
+    Pattern,
+    Expression,
+    Name,
+}
+
+/// What a reader answers: what it read, or where and why it did not.
+#[derive(Drop)]
+pub struct Answered {
+    pub text: String,
+    pub is_read: bool,
+}
+
+/// The most bytes of a text that the readers take.
+const BYTES: usize = 0x100000;
+
+/// The most bytes of an answer that is told as it is.
+const SHORT: usize = 400;
+
+/// `LINE:COLUMN KIND`.
+fn push_refusal(error: ReadError, out: &mut String) -> Result<bool, AllocError> {
+    let line = error.line;
+    let column = error.column;
+    let kind = error.kind;
+    out.push_str(&format!(in *out.allocator(); "{line}:{column} {kind:?}")?)?;
+    Ok(false)
+}
+
+impl Reader {
+    /// The reader of that name.
+    pub fn named(name: &str) -> Option<Reader> {
+        match name {
+            "schedule" => Some(Reader::Schedule),
+            "pattern" => Some(Reader::Pattern),
+            "expression" => Some(Reader::Expression),
+            "name" => Some(Reader::Name),
+            _ => None,
+        }
+    }
+
+    /// Adds what it answers, and says whether it read the text.
+    fn push_answer(self, alloc: Global, text: &[u8], out: &mut String) -> Result<bool, AllocError> {
+        match self {
+            Reader::Schedule => match read_schedule(alloc, text) {
+                Ok(schedule) => push_schedule(&schedule, out)?,
+                Err(error) => return push_refusal(error, out),
+            },
+            Reader::Pattern => match read_pattern(alloc, text) {
+                Ok((pattern, nth)) => push_pattern(&pattern, nth, out)?,
+                Err(error) => return push_refusal(error, out),
+            },
+            Reader::Expression => match read_expr_pattern(alloc, text) {
+                Ok(pattern) => push_expr_pattern(&pattern, out)?,
+                Err(error) => return push_refusal(error, out),
+            },
+            Reader::Name => match read_name(alloc, text) {
+                Ok(name) => out.push_str(name.as_str())?,
+                Err(error) => return push_refusal(error, out),
+            },
+        }
+        Ok(true)
+    }
+
+    /// What it answers.
+    pub fn answer(self, alloc: Global, text: &[u8]) -> Result<Answered, AllocError> {
+        let mut out = String::new(alloc);
+        if text.len() > BYTES {
+            out.push_str("no text")?;
+            return Ok(Answered {
+                text: out,
+                is_read: false,
+            });
+        }
+        let is_read = self.push_answer(alloc, text, &mut out)?;
+        Ok(Answered { text: out, is_read })
+    }
+}
+
+impl Answered {
+    /// What is told of it: all of it, or where it is long its length and its digest.
+    pub fn told(self, alloc: Global) -> Result<String, AllocError> {
+        let size = self.text.len();
+        if size <= SHORT {
+            return Ok(self.text);
+        }
+        let digest = Digest::EMPTY.with(self.text.as_bytes()).0;
+        format!(in alloc; "{size} bytes, digest {digest}")
+    }
+}

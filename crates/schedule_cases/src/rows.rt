@@ -1,0 +1,97 @@
+// The same schedule with a change at each of its bytes in turn, and what comes of each.
+//
+// A row is the name of a change, then what comes of it at each byte, of a cut also at the end, and last the digest of what is then read, a
+// line end behind each. Answers are separated by blanks and written as `case_texts::Answer` says; `12*S` is the answer `S` at twelve
+// bytes in a row, and `/` ends a line of the text and counts for nothing.
+use crate::answer::Reader;
+use crate::digest::Digest;
+use case_texts::{Answer, Change, Run, Spot};
+use std::alloc::{AllocError, Global};
+
+/// A change on its way through a text.
+#[derive(Clone, Copy)]
+struct Sweep<'a> {
+    text: &'a [u8],
+    change: Change,
+    spot: Spot,
+    /// The digest of what was read so far.
+    read: Digest,
+}
+
+impl<'a> Sweep<'a> {
+    /// Makes the change at the next byte, and adds to the report where another answer comes of it.
+    fn take(
+        &mut self,
+        alloc: Global,
+        answer: Answer<'_>,
+        report: &mut String,
+    ) -> Result<(), AllocError> {
+        let text = self.change.of(alloc, self.text, self.spot.at)?;
+        let found = Reader::Schedule.answer(alloc, &text)?;
+        let is_same = match answer.refusal(alloc, self.spot)? {
+            Some(refusal) => found.text == refusal,
+            None => found.is_read,
+        };
+        if found.is_read {
+            self.read = self.read.with(found.text.as_bytes()).with(b"\n".as_slice());
+        }
+        if !is_same {
+            let line = self.spot.line;
+            let column = self.spot.column;
+            let found = found.text;
+            report.push_str(&format!(in alloc; " {found} by the change at {line}:{column}")?)?;
+        }
+        self.spot = self.spot.next(self.text);
+        Ok(())
+    }
+
+    /// Makes the change at the next bytes, as many as a run has.
+    fn take_run(
+        &mut self,
+        alloc: Global,
+        run: Run<'_>,
+        report: &mut String,
+    ) -> Result<(), AllocError> {
+        for _ in 0..run.count {
+            self.take(alloc, run.answer, report)?;
+        }
+        Ok(())
+    }
+
+    /// Adds to the report whether the change was at another number of bytes, or other schedules were read.
+    fn end(&self, digest: &str, report: &mut String) -> Result<(), AllocError> {
+        if self.spot.at != self.change.places(self.text.len()) {
+            report.push_str(" another number of bytes")?;
+        }
+        if digest.parse::<u32>().ok() != Some(self.read.0) {
+            report.push_str(" another digest")?;
+        }
+        Ok(())
+    }
+}
+
+/// Runs a row on a schedule, and adds to the report where it is read otherwise.
+pub fn run_row(
+    alloc: Global,
+    text: &[u8],
+    row: &str,
+    report: &mut String,
+) -> Result<(), AllocError> {
+    let (row, digest) = row.rsplit_once(' ').unwrap_or((row, ""));
+    let (name, answers) = row.split_once(' ').unwrap_or((row, ""));
+    let Some(change) = Change::named(name) else {
+        return report.push_str(" no change of that name");
+    };
+    let mut sweep = Sweep {
+        text,
+        change,
+        spot: Spot::START,
+        read: Digest::EMPTY,
+    };
+    for word in answers.split(' ') {
+        if word != "/" {
+            sweep.take_run(alloc, Run::of(word), report)?;
+        }
+    }
+    sweep.end(digest, report)
+}
