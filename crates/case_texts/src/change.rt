@@ -12,7 +12,7 @@ pub enum Change {
 }
 
 /// The bytes that replace one, by the names of the changes.
-const REPLACED: [(&str, u8); 18] = [
+const REPLACED: [(&str, u8); 26] = [
     ("dollar", b'$'),
     ("tab", b'\t'),
     ("line-end", b'\n'),
@@ -31,40 +31,61 @@ const REPLACED: [(&str, u8); 18] = [
     ("quote", b'"'),
     ("delete", 0x7F),
     ("foreign", 0x80),
+    ("comma", b','),
+    ("dot", b'.'),
+    ("parenthesis", b')'),
+    ("bracket", b'['),
+    ("minus", b'-'),
+    ("at", b'@'),
+    ("apostrophe", b'\''),
+    ("backslash", b'\\'),
 ];
+
+/// The byte that replaces one by the change of that name.
+fn replacing(name: &str) -> Option<u8> {
+    for (word, byte) in &REPLACED {
+        if *word == name {
+            return Some(*byte);
+        }
+    }
+    None
+}
 
 impl Change {
     /// The change of that name.
     pub fn named(name: &str) -> Option<Change> {
-        for (word, byte) in REPLACED {
-            if word == name {
-                return Some(Change::Replace(byte));
-            }
-        }
         match name {
             "cut" => Some(Change::Cut),
             "deleted" => Some(Change::Delete),
             "doubled" => Some(Change::Double),
-            _ => None,
+            _ => Some(Change::Replace(replacing(name)?)),
+        }
+    }
+
+    /// Adds what stands in the place of the byte.
+    fn push_put(self, byte: &[u8], out: &mut Vec<u8>) -> Result<(), AllocError> {
+        match self {
+            Change::Cut | Change::Delete => Ok(()),
+            Change::Double => {
+                out.extend_from_slice(byte)?;
+                out.extend_from_slice(byte)
+            }
+            Change::Replace(other) => {
+                out.push(other)?;
+                Ok(())
+            }
         }
     }
 
     /// The text after the change at a byte.
     pub fn of(self, alloc: Global, text: &[u8], at: usize) -> Result<Vec<u8>, AllocError> {
-        let before = text.get(..at).unwrap_or(text);
-        let here = text.get(at..).unwrap_or(&[]);
-        let byte = here.get(..1).unwrap_or(&[]);
-        let behind = here.get(1..).unwrap_or(&[]);
+        let (before, here) = text.split_at(at.min(text.len()));
         let mut out = before.to_vec(alloc)?;
-        match self {
-            Change::Cut => return Ok(out),
-            Change::Delete => {}
-            Change::Double => {
-                out.extend_from_slice(byte)?;
-                out.extend_from_slice(byte)?;
-            }
-            Change::Replace(other) => out.push(other)?,
+        if let Change::Cut = self {
+            return Ok(out);
         }
+        let (byte, behind) = here.split_at(here.len().min(1));
+        self.push_put(byte, &mut out)?;
         out.extend_from_slice(behind)?;
         Ok(out)
     }
@@ -110,49 +131,75 @@ impl Spot {
             column: self.column.saturating_add(1),
         }
     }
+
+    /// The first byte of a line.
+    pub fn of_line(text: &[u8], line: u32) -> Spot {
+        let mut spot = Spot::START;
+        for _ in 0..text.len() {
+            if spot.line >= line {
+                break;
+            }
+            spot = spot.next(text);
+        }
+        spot
+    }
 }
 
-/// The kinds of refusals of a reader, by their letters.
-const KINDS: [(char, &str); 6] = [
+/// Refusals by their letters: those of the readers, and the rule of names.
+const KINDS: [(char, &str); 7] = [
     ('B', "BadByte"),
     ('I', "BadIndent"),
     ('S', "Syntax"),
     ('D', "TooDeep"),
     ('L', "TooLong"),
     ('N', "LiteralTooLarge"),
+    ('U', "UnknownName"),
 ];
 
 fn number(text: &str) -> u32 {
     text.parse::<u32>().unwrap_or(0)
 }
 
-/// What comes of a change, as a row writes it: `.` where the text is still read; else the letter of a refusal, and its place. The place
-/// is that of the changed byte where none is written, `+` the byte behind it, `8` column 8 of its line, `9:8` column 8 of line 9.
+/// A refusal: where and why.
+#[derive(Clone, Copy)]
+pub struct Refused {
+    pub line: u32,
+    pub column: u32,
+    pub kind: &'static str,
+}
+
+/// What comes of a change, as a row writes it: `.` where nothing is refused; else the letter of a refusal, and its place. The place is
+/// that of the changed byte where none is written, `+` the byte behind it, `8` column 8 of its line, `9:8` column 8 of line 9.
 #[derive(Clone, Copy)]
 pub struct Answer<'a> {
     text: &'a str,
 }
 
+/// The line and column that stand behind the letter of an answer.
+fn place_of(text: &str, spot: Spot) -> (u32, u32) {
+    match text.split_once(':') {
+        Some((line, column)) => (number(line), number(column)),
+        None if text.is_empty() => (spot.line, spot.column),
+        None if text == "+" => (spot.line, spot.column.saturating_add(1)),
+        None => (spot.line, number(text)),
+    }
+}
+
 impl<'a> Answer<'a> {
-    /// The line and column that stand behind the letter.
-    fn place(text: &str, spot: Spot) -> (u32, u32) {
-        match text.split_once(':') {
-            Some((line, column)) => (number(line), number(column)),
-            None if text.is_empty() => (spot.line, spot.column),
-            None if text == "+" => (spot.line, spot.column.saturating_add(1)),
-            None => (spot.line, number(text)),
-        }
+    /// Whether nothing is refused.
+    pub fn is_same(self) -> bool {
+        self.text == "."
     }
 
-    /// `LINE:COLUMN KIND` of a refusal, where the change is at that byte; none where the text is still read.
-    pub fn refusal(self, alloc: Global, spot: Spot) -> Result<Option<String>, AllocError> {
+    /// The refusal that comes of the change at that byte, if one does.
+    pub fn refusal(self, spot: Spot) -> Option<Refused> {
         for (letter, kind) in KINDS {
             if let Some(text) = self.text.strip_prefix(letter) {
-                let (line, column) = Self::place(text, spot);
-                return Ok(Some(format!(in alloc; "{line}:{column} {kind}")?));
+                let (line, column) = place_of(text, spot);
+                return Some(Refused { line, column, kind });
             }
         }
-        Ok(None)
+        None
     }
 }
 

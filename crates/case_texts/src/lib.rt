@@ -4,5 +4,5 @@
 mod change;
 mod text;
 
-pub use change::{Answer, Change, Run, Spot};
+pub use change::{Answer, Change, Refused, Run, Spot};
 pub use text::Text;

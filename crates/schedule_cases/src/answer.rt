@@ -15,7 +15,7 @@ pub enum Reader {
     Name,
 }
 
-/// What a reader answers: what it read, or where and why it did not.
+/// What a reader answers: what it read, or where and why it did not; nothing where the text is too long for it.
 #[derive(Drop)]
 pub struct Answered {
     pub text: String,
@@ -37,6 +37,38 @@ fn push_refusal(error: ReadError, out: &mut String) -> Result<bool, AllocError> 
     Ok(false)
 }
 
+fn push_read_schedule(alloc: Global, text: &[u8], out: &mut String) -> Result<bool, AllocError> {
+    match read_schedule(alloc, text) {
+        Ok(schedule) => push_schedule(&schedule, out)?,
+        Err(error) => return push_refusal(error, out),
+    }
+    Ok(true)
+}
+
+fn push_read_pattern(alloc: Global, text: &[u8], out: &mut String) -> Result<bool, AllocError> {
+    match read_pattern(alloc, text) {
+        Ok((pattern, nth)) => push_pattern(&pattern, nth, out)?,
+        Err(error) => return push_refusal(error, out),
+    }
+    Ok(true)
+}
+
+fn push_read_expression(alloc: Global, text: &[u8], out: &mut String) -> Result<bool, AllocError> {
+    match read_expr_pattern(alloc, text) {
+        Ok(pattern) => push_expr_pattern(&pattern, out)?,
+        Err(error) => return push_refusal(error, out),
+    }
+    Ok(true)
+}
+
+fn push_read_name(alloc: Global, text: &[u8], out: &mut String) -> Result<bool, AllocError> {
+    match read_name(alloc, text) {
+        Ok(name) => out.push_str(name.as_str())?,
+        Err(error) => return push_refusal(error, out),
+    }
+    Ok(true)
+}
+
 impl Reader {
     /// The reader of that name.
     pub fn named(name: &str) -> Option<Reader> {
@@ -49,40 +81,21 @@ impl Reader {
         }
     }
 
-    /// Adds what it answers, and says whether it read the text.
-    fn push_answer(self, alloc: Global, text: &[u8], out: &mut String) -> Result<bool, AllocError> {
-        match self {
-            Reader::Schedule => match read_schedule(alloc, text) {
-                Ok(schedule) => push_schedule(&schedule, out)?,
-                Err(error) => return push_refusal(error, out),
-            },
-            Reader::Pattern => match read_pattern(alloc, text) {
-                Ok((pattern, nth)) => push_pattern(&pattern, nth, out)?,
-                Err(error) => return push_refusal(error, out),
-            },
-            Reader::Expression => match read_expr_pattern(alloc, text) {
-                Ok(pattern) => push_expr_pattern(&pattern, out)?,
-                Err(error) => return push_refusal(error, out),
-            },
-            Reader::Name => match read_name(alloc, text) {
-                Ok(name) => out.push_str(name.as_str())?,
-                Err(error) => return push_refusal(error, out),
-            },
-        }
-        Ok(true)
-    }
-
     /// What it answers.
     pub fn answer(self, alloc: Global, text: &[u8]) -> Result<Answered, AllocError> {
         let mut out = String::new(alloc);
         if text.len() > BYTES {
-            out.push_str("no text")?;
             return Ok(Answered {
                 text: out,
                 is_read: false,
             });
         }
-        let is_read = self.push_answer(alloc, text, &mut out)?;
+        let is_read = match self {
+            Reader::Schedule => push_read_schedule(alloc, text, &mut out)?,
+            Reader::Pattern => push_read_pattern(alloc, text, &mut out)?,
+            Reader::Expression => push_read_expression(alloc, text, &mut out)?,
+            Reader::Name => push_read_name(alloc, text, &mut out)?,
+        };
         Ok(Answered { text: out, is_read })
     }
 }

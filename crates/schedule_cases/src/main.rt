@@ -59,11 +59,7 @@ fn run_tables<F: Files>(
 }
 
 /// Runs the tables that `files` names, and says how many cases they have.
-fn run_all<F: Files>(
-    alloc: Global,
-    files: &mut F,
-    report: &mut String,
-) -> Result<u32, AllocError> {
+fn run_all<F: Files>(alloc: Global, files: &mut F, report: &mut String) -> Result<u32, AllocError> {
     let mut names = Vec::new(alloc);
     let is_read = files.read_file("files", LIMIT, &mut names).is_ok();
     match str::from_utf8(&names) {

@@ -3,9 +3,9 @@
 // A row is the name of a change, then what comes of it at each byte, of a cut also at the end, and last the digest of what is then read, a
 // line end behind each. Answers are separated by blanks and written as `case_texts::Answer` says; `12*S` is the answer `S` at twelve
 // bytes in a row, and `/` ends a line of the text and counts for nothing.
-use crate::answer::Reader;
+use crate::answer::{Answered, Reader};
 use crate::digest::Digest;
-use case_texts::{Answer, Change, Run, Spot};
+use case_texts::{Answer, Change, Refused, Run, Spot};
 use std::alloc::{AllocError, Global};
 
 /// A change on its way through a text.
@@ -18,7 +18,45 @@ struct Sweep<'a> {
     read: Digest,
 }
 
+/// Whether an answer is this refusal.
+fn is_refusal(alloc: Global, answered: &Answered, refused: Refused) -> Result<bool, AllocError> {
+    let line = refused.line;
+    let column = refused.column;
+    let kind = refused.kind;
+    let wanted = format!(in alloc; "{line}:{column} {kind}")?;
+    Ok(answered.text == wanted)
+}
+
 impl<'a> Sweep<'a> {
+    /// Whether this is what comes of the change at the next byte.
+    fn is_wanted(
+        &self,
+        alloc: Global,
+        answered: &Answered,
+        answer: Answer<'_>,
+    ) -> Result<bool, AllocError> {
+        if answer.is_same() {
+            return Ok(answered.is_read);
+        }
+        match answer.refusal(self.spot) {
+            Some(refused) => is_refusal(alloc, answered, refused),
+            None => Ok(false),
+        }
+    }
+
+    /// Adds to the report what came of the change at the next byte.
+    fn push_found(
+        &self,
+        alloc: Global,
+        answered: &Answered,
+        report: &mut String,
+    ) -> Result<(), AllocError> {
+        let line = self.spot.line;
+        let column = self.spot.column;
+        report.push_str(&format!(in alloc; " at {line}:{column} ")?)?;
+        report.push_str(answered.text.as_str())
+    }
+
     /// Makes the change at the next byte, and adds to the report where another answer comes of it.
     fn take(
         &mut self,
@@ -27,19 +65,13 @@ impl<'a> Sweep<'a> {
         report: &mut String,
     ) -> Result<(), AllocError> {
         let text = self.change.of(alloc, self.text, self.spot.at)?;
-        let found = Reader::Schedule.answer(alloc, &text)?;
-        let is_same = match answer.refusal(alloc, self.spot)? {
-            Some(refusal) => found.text == refusal,
-            None => found.is_read,
-        };
-        if found.is_read {
-            self.read = self.read.with(found.text.as_bytes()).with(b"\n".as_slice());
+        let answered = Reader::Schedule.answer(alloc, &text)?;
+        if !self.is_wanted(alloc, &answered, answer)? {
+            self.push_found(alloc, &answered, report)?;
         }
-        if !is_same {
-            let line = self.spot.line;
-            let column = self.spot.column;
-            let found = found.text;
-            report.push_str(&format!(in alloc; " {found} by the change at {line}:{column}")?)?;
+        if answered.is_read {
+            let read = self.read.with(answered.text.as_bytes());
+            self.read = read.with(b"\n".as_slice());
         }
         self.spot = self.spot.next(self.text);
         Ok(())

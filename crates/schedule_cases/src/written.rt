@@ -45,13 +45,19 @@ fn word(direction: Direction) -> &'static str {
     }
 }
 
+fn push_item(index: u32, out: &mut String) -> Result<(), AllocError> {
+    out.push_str(&format!(in *out.allocator(); "[{index}]")?)
+}
+
+fn push_expand(before: u32, beyond: u32, out: &mut String) -> Result<(), AllocError> {
+    out.push_str(&format!(in *out.allocator(); ".expand({before},{beyond})")?)
+}
+
 fn push_move(step: Move, out: &mut String) -> Result<(), AllocError> {
     match step {
         Move::Go(direction) => out.push_str(word(direction)),
-        Move::Expand(before, beyond) => {
-            out.push_str(&format!(in *out.allocator(); ".expand({before},{beyond})")?)
-        }
-        Move::Item(index) => out.push_str(&format!(in *out.allocator(); "[{index}]")?),
+        Move::Expand(before, beyond) => push_expand(before, beyond, out),
+        Move::Item(index) => push_item(index, out),
     }
 }
 
@@ -63,7 +69,12 @@ fn push_moves(moves: &Moves, out: &mut String) -> Result<(), AllocError> {
 }
 
 /// A match: its version, this between the two, its pattern, this behind it, and its moves.
-fn push_found(found: &Found, between: char, behind: &str, out: &mut String) -> Result<(), AllocError> {
+fn push_found(
+    found: &Found,
+    between: char,
+    behind: &str,
+    out: &mut String,
+) -> Result<(), AllocError> {
     out.push_str(found.version.as_str())?;
     out.push(between)?;
     push_quoted(&found.pattern, out)?;
@@ -126,14 +137,20 @@ fn push_arguments(arguments: &Arguments, out: &mut String) -> Result<(), AllocEr
     Ok(())
 }
 
+fn push_operation(
+    operator: &str,
+    arguments: &Arguments,
+    out: &mut String,
+) -> Result<(), AllocError> {
+    out.push_str(operator)?;
+    out.push('(')?;
+    push_arguments(arguments, out)?;
+    out.push(')')
+}
+
 fn push_act(act: &Act, out: &mut String) -> Result<(), AllocError> {
     match act {
-        Act::Op(operator, arguments) => {
-            out.push_str(operator.as_str())?;
-            out.push('(')?;
-            push_arguments(arguments, out)?;
-            out.push(')')
-        }
+        Act::Op(operator, arguments) => push_operation(operator.as_str(), arguments, out),
         Act::Find(found) => {
             out.push_str("find ")?;
             push_found(found, ' ', "", out)
@@ -146,20 +163,24 @@ fn push_act(act: &Act, out: &mut String) -> Result<(), AllocError> {
     }
 }
 
-fn push_line(line: &Line, out: &mut String) -> Result<(), AllocError> {
-    push_number(line.number, out)?;
-    out.push(' ')?;
-    match &line.statement {
+fn push_statement(statement: &Statement, out: &mut String) -> Result<(), AllocError> {
+    match statement {
         Statement::Emit(name) => {
             out.push_str("emit ")?;
-            out.push_str(name.as_str())?;
+            out.push_str(name.as_str())
         }
         Statement::Bind(name, act) => {
             out.push_str(name.as_str())?;
             out.push('=')?;
-            push_act(act, out)?;
+            push_act(act, out)
         }
     }
+}
+
+fn push_line(line: &Line, out: &mut String) -> Result<(), AllocError> {
+    push_number(line.number, out)?;
+    out.push(' ')?;
+    push_statement(&line.statement, out)?;
     out.push(';')
 }
 
