@@ -39,34 +39,30 @@ fn push_refusal(error: ReadError, out: &mut String) -> Result<bool, AllocError> 
 
 fn push_read_schedule(alloc: Global, text: &[u8], out: &mut String) -> Result<bool, AllocError> {
     match read_schedule(alloc, text) {
-        Ok(schedule) => push_schedule(&schedule, out)?,
-        Err(error) => return push_refusal(error, out),
+        Ok(schedule) => push_schedule(&schedule, out).and(Ok(true)),
+        Err(error) => push_refusal(error, out),
     }
-    Ok(true)
 }
 
 fn push_read_pattern(alloc: Global, text: &[u8], out: &mut String) -> Result<bool, AllocError> {
     match read_pattern(alloc, text) {
-        Ok((pattern, nth)) => push_pattern(&pattern, nth, out)?,
-        Err(error) => return push_refusal(error, out),
+        Ok((pattern, nth)) => push_pattern(&pattern, nth, out).and(Ok(true)),
+        Err(error) => push_refusal(error, out),
     }
-    Ok(true)
 }
 
 fn push_read_expression(alloc: Global, text: &[u8], out: &mut String) -> Result<bool, AllocError> {
     match read_expr_pattern(alloc, text) {
-        Ok(pattern) => push_expr_pattern(&pattern, out)?,
-        Err(error) => return push_refusal(error, out),
+        Ok(pattern) => push_expr_pattern(&pattern, out).and(Ok(true)),
+        Err(error) => push_refusal(error, out),
     }
-    Ok(true)
 }
 
 fn push_read_name(alloc: Global, text: &[u8], out: &mut String) -> Result<bool, AllocError> {
     match read_name(alloc, text) {
-        Ok(name) => out.push_str(name.as_str())?,
-        Err(error) => return push_refusal(error, out),
+        Ok(name) => out.push_str(name.as_str()).and(Ok(true)),
+        Err(error) => push_refusal(error, out),
     }
-    Ok(true)
 }
 
 impl Reader {

@@ -40,6 +40,23 @@ fn run_bytes(
     Ok(table.count())
 }
 
+/// Runs the table of that name, and says how many cases it has.
+fn run_table<F: Files>(
+    alloc: Global,
+    files: &mut F,
+    name: &str,
+    bytes: &mut Vec<u8>,
+    report: &mut String,
+) -> Result<u32, AllocError> {
+    match files.read_file(name, LIMIT, bytes) {
+        Ok(()) => run_bytes(alloc, name, bytes, report),
+        Err(_) => {
+            report.push_str("a table is not read\n")?;
+            Ok(0)
+        }
+    }
+}
+
 /// Runs the tables that are named, one a line, and says how many cases they have.
 fn run_tables<F: Files>(
     alloc: Global,
@@ -50,10 +67,8 @@ fn run_tables<F: Files>(
     let mut bytes = Vec::new(alloc);
     let mut count: u32 = 0;
     for name in names.lines() {
-        match files.read_file(name, LIMIT, &mut bytes) {
-            Ok(()) => count = count.saturating_add(run_bytes(alloc, name, &bytes, report)?),
-            Err(_) => report.push_str("a table is not read\n")?,
-        }
+        let more = run_table(alloc, files, name, &mut bytes, report)?;
+        count = count.saturating_add(more);
     }
     Ok(count)
 }

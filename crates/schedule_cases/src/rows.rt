@@ -28,6 +28,16 @@ fn is_refusal(alloc: Global, answered: &Answered, refused: Refused) -> Result<bo
 }
 
 impl<'a> Sweep<'a> {
+    /// The change at the first byte.
+    fn new(text: &'a [u8], change: Change) -> Sweep<'a> {
+        Sweep {
+            text,
+            change,
+            spot: Spot::START,
+            read: Digest::EMPTY,
+        }
+    }
+
     /// Whether this is what comes of the change at the next byte.
     fn is_wanted(
         &self,
@@ -57,6 +67,12 @@ impl<'a> Sweep<'a> {
         report.push_str(answered.text.as_str())
     }
 
+    /// What comes of the change at the next byte.
+    fn answered(&self, alloc: Global) -> Result<Answered, AllocError> {
+        let text = self.change.of(alloc, self.text, self.spot.at)?;
+        Reader::Schedule.answer(alloc, &text)
+    }
+
     /// Makes the change at the next byte, and adds to the report where another answer comes of it.
     fn take(
         &mut self,
@@ -64,8 +80,7 @@ impl<'a> Sweep<'a> {
         answer: Answer<'_>,
         report: &mut String,
     ) -> Result<(), AllocError> {
-        let text = self.change.of(alloc, self.text, self.spot.at)?;
-        let answered = Reader::Schedule.answer(alloc, &text)?;
+        let answered = self.answered(alloc)?;
         if !self.is_wanted(alloc, &answered, answer)? {
             self.push_found(alloc, &answered, report)?;
         }
@@ -90,6 +105,21 @@ impl<'a> Sweep<'a> {
         Ok(())
     }
 
+    /// Makes the change at the bytes of all runs.
+    fn take_runs(
+        &mut self,
+        alloc: Global,
+        runs: &str,
+        report: &mut String,
+    ) -> Result<(), AllocError> {
+        for word in runs.split(' ') {
+            if word != "/" {
+                self.take_run(alloc, Run::of(word), report)?;
+            }
+        }
+        Ok(())
+    }
+
     /// Adds to the report whether the change was at another number of bytes, or other schedules were read.
     fn end(&self, digest: &str, report: &mut String) -> Result<(), AllocError> {
         if self.spot.at != self.change.places(self.text.len()) {
@@ -110,20 +140,11 @@ pub fn run_row(
     report: &mut String,
 ) -> Result<(), AllocError> {
     let (row, digest) = row.rsplit_once(' ').unwrap_or((row, ""));
-    let (name, answers) = row.split_once(' ').unwrap_or((row, ""));
+    let (name, runs) = row.split_once(' ').unwrap_or((row, ""));
     let Some(change) = Change::named(name) else {
         return report.push_str(" no change of that name");
     };
-    let mut sweep = Sweep {
-        text,
-        change,
-        spot: Spot::START,
-        read: Digest::EMPTY,
-    };
-    for word in answers.split(' ') {
-        if word != "/" {
-            sweep.take_run(alloc, Run::of(word), report)?;
-        }
-    }
+    let mut sweep = Sweep::new(text, change);
+    sweep.take_runs(alloc, runs, report)?;
     sweep.end(digest, report)
 }

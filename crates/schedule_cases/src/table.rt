@@ -50,13 +50,23 @@ impl<'a> Table<'a> {
     pub fn take_line(&mut self, line: &str, report: &mut String) -> Result<(), AllocError> {
         self.line = self.line.saturating_add(1);
         let mut found = String::new(self.alloc);
-        match line.strip_prefix("== ") {
-            Some(heading) => self.begin(heading, &mut found)?,
-            None => self.take_case(line, &mut found)?,
-        }
+        self.take(line, &mut found)?;
         if found.is_empty() {
             return Ok(());
         }
+        self.push_found(found.as_str(), report)
+    }
+
+    /// Takes a line, and adds what came where it is not what is wanted.
+    fn take(&mut self, line: &str, found: &mut String) -> Result<(), AllocError> {
+        match line.strip_prefix("== ") {
+            Some(heading) => self.begin(heading, found),
+            None => self.take_case(line, found),
+        }
+    }
+
+    /// Adds to the report what came of the line.
+    fn push_found(&self, found: &str, report: &mut String) -> Result<(), AllocError> {
         let name = self.name;
         let line = self.line;
         report.push_str(&format!(in self.alloc; "{name}:{line}:{found}\n")?)
@@ -81,6 +91,14 @@ impl<'a> Table<'a> {
         }
     }
 
+    /// What a reader answers to a text with escapes.
+    fn answer(&self, reader: Reader, text: &str) -> Result<String, AllocError> {
+        let mut bytes = Text::new(self.alloc);
+        bytes.push_part(text)?;
+        let answered = reader.answer(self.alloc, bytes.bytes())?;
+        answered.told(self.alloc)
+    }
+
     /// Runs a case, and adds what came where it is not what is wanted.
     fn run_case(
         &mut self,
@@ -90,13 +108,12 @@ impl<'a> Table<'a> {
     ) -> Result<(), AllocError> {
         self.count = self.count.saturating_add(1);
         let (wanted, text) = line.split_once('|').unwrap_or((line, ""));
-        let mut bytes = Text::new(self.alloc);
-        bytes.push_part(text.strip_prefix(' ').unwrap_or(text))?;
-        let answer = reader.answer(self.alloc, bytes.bytes())?.told(self.alloc)?;
-        if answer.as_str() != wanted.strip_suffix(' ').unwrap_or(wanted) {
-            found.push_str(&format!(in self.alloc; " {answer}")?)?;
+        let answer = self.answer(reader, text.strip_prefix(' ').unwrap_or(text))?;
+        if answer.as_str() == wanted.strip_suffix(' ').unwrap_or(wanted) {
+            return Ok(());
         }
-        Ok(())
+        found.push(' ')?;
+        found.push_str(answer.as_str())
     }
 
     /// Takes a line of the schedule, or a row of its changes.

@@ -223,29 +223,39 @@ fn push_nth(nth: u32, out: &mut String) -> Result<(), AllocError> {
     push_number(nth, out)
 }
 
+/// Adds the form of a pattern of statements.
+fn push_form(pattern: &Pattern, out: &mut String) -> Result<(), AllocError> {
+    match pattern {
+        Pattern::Loop(name) => push_one("loop", name, out),
+        Pattern::Nest(outer, inner) => push_two("nest", outer, inner, out),
+        Pattern::Alloc(name) => push_one("alloc", name, out),
+        Pattern::Assign(name) => push_one("assign", name, out),
+        Pattern::Reduce(name) => push_one("reduce", name, out),
+        Pattern::If => out.push_str("if"),
+        Pattern::Call(name) => push_one("call", name, out),
+        Pattern::Pass => out.push_str("pass"),
+        Pattern::Config(config, field) => push_two("config", config, field, out),
+    }
+}
+
 /// Adds a pattern of statements and its number.
 pub fn push_pattern(pattern: &Pattern, nth: u32, out: &mut String) -> Result<(), AllocError> {
-    match pattern {
-        Pattern::Loop(name) => push_one("loop", name, out)?,
-        Pattern::Nest(outer, inner) => push_two("nest", outer, inner, out)?,
-        Pattern::Alloc(name) => push_one("alloc", name, out)?,
-        Pattern::Assign(name) => push_one("assign", name, out)?,
-        Pattern::Reduce(name) => push_one("reduce", name, out)?,
-        Pattern::If => out.push_str("if")?,
-        Pattern::Call(name) => push_one("call", name, out)?,
-        Pattern::Pass => out.push_str("pass")?,
-        Pattern::Config(config, field) => push_two("config", config, field, out)?,
-    }
+    push_form(pattern, out)?;
     push_nth(nth, out)
+}
+
+/// Adds the form of a pattern of expressions.
+fn push_expr_form(form: &ExprForm, out: &mut String) -> Result<(), AllocError> {
+    match form {
+        ExprForm::Read(name) => push_one("read", name, out),
+        ExprForm::Add => out.push_str("add"),
+        ExprForm::Sub => out.push_str("sub"),
+        ExprForm::Mul => out.push_str("mul"),
+    }
 }
 
 /// Adds a pattern of expressions.
 pub fn push_expr_pattern(pattern: &ExprPattern, out: &mut String) -> Result<(), AllocError> {
-    match &pattern.form {
-        ExprForm::Read(name) => push_one("read", name, out)?,
-        ExprForm::Add => out.push_str("add")?,
-        ExprForm::Sub => out.push_str("sub")?,
-        ExprForm::Mul => out.push_str("mul")?,
-    }
+    push_expr_form(&pattern.form, out)?;
     push_nth(pattern.nth, out)
 }
