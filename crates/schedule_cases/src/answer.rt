@@ -1,4 +1,6 @@
 // What the readers answer, in one line.
+ghost use Rattle.std.specs.Prelude.{◌≤◌, length};
+
 use crate::digest::Digest;
 use crate::written::{push_expr_pattern, push_pattern, push_schedule};
 use exo_reader::unit::ReadError;
@@ -37,28 +39,36 @@ fn push_refusal(error: ReadError, out: &mut String) -> Result<bool, AllocError> 
     Ok(false)
 }
 
-fn push_read_schedule(alloc: Global, text: &[u8], out: &mut String) -> Result<bool, AllocError> {
+fn push_read_schedule(alloc: Global, text: &[u8], out: &mut String) -> Result<bool, AllocError>
+    requires { length text.now ≤ 0x100000 }
+{
     match read_schedule(alloc, text) {
         Ok(schedule) => push_schedule(&schedule, out).and(Ok(true)),
         Err(error) => push_refusal(error, out),
     }
 }
 
-fn push_read_pattern(alloc: Global, text: &[u8], out: &mut String) -> Result<bool, AllocError> {
+fn push_read_pattern(alloc: Global, text: &[u8], out: &mut String) -> Result<bool, AllocError>
+    requires { length text.now ≤ 0x100000 }
+{
     match read_pattern(alloc, text) {
         Ok((pattern, nth)) => push_pattern(&pattern, nth, out).and(Ok(true)),
         Err(error) => push_refusal(error, out),
     }
 }
 
-fn push_read_expression(alloc: Global, text: &[u8], out: &mut String) -> Result<bool, AllocError> {
+fn push_read_expression(alloc: Global, text: &[u8], out: &mut String) -> Result<bool, AllocError>
+    requires { length text.now ≤ 0x100000 }
+{
     match read_expr_pattern(alloc, text) {
         Ok(pattern) => push_expr_pattern(&pattern, out).and(Ok(true)),
         Err(error) => push_refusal(error, out),
     }
 }
 
-fn push_read_name(alloc: Global, text: &[u8], out: &mut String) -> Result<bool, AllocError> {
+fn push_read_name(alloc: Global, text: &[u8], out: &mut String) -> Result<bool, AllocError>
+    requires { length text.now ≤ 0x100000 }
+{
     match read_name(alloc, text) {
         Ok(name) => out.push_str(name.as_str()).and(Ok(true)),
         Err(error) => push_refusal(error, out),
