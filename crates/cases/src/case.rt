@@ -1,5 +1,5 @@
 // Cases as their files have them.
-use crate::text::Text;
+use case_texts::Text;
 use std::alloc::{AllocError, Global};
 
 /// What a run has to leave.

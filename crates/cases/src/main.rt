@@ -16,7 +16,6 @@
 mod case;
 mod changes;
 mod run;
-mod text;
 
 use crate::case::Case;
 use crate::changes::Sweep;
