@@ -1,5 +1,6 @@
 pub mod Endings
 pub mod Running
+pub mod Typing
 pub mod Unique
 pub mod Counted
 pub mod Printed
