@@ -4,4 +4,5 @@ pub mod Typing
 pub mod Unique
 pub mod Counted
 pub mod Printed
+pub mod Printing
 pub mod Headline

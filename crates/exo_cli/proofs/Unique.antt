@@ -20,14 +20,20 @@ use Rattle.exo_cli.specs.Stops as stop
 use Rattle.exo_cli.specs.Stages.{Stage, Stopped, Typed, IsUnread, IsRuled, IsRead, IsTyped, ComesTo, then_do, compiled, counted, answer_of, IsCompiled, IsChecked}
 use Rattle.exo_cli.specs.Work.{file_limit, Opens, AnswersTo, AnswersAreUnique}
 
+same_error : (a b : TypeError) → a.line ≡ b.line → a.column ≡ b.column → a.kind ≡ b.kind → a ≡ b
+same_error a b line column kind =
+    ap (λ l. record { line = l; column = a.column; kind = a.kind }) line
+    ∙ ap (λ c. record { line = b.line; column = c; kind = a.kind }) column
+    ∙ ap (λ k. record { line = b.line; column = b.column; kind = k }) kind
+
 -- a rule is broken at one place
 broken_once : (places : List Place) (f : Fault) (a b : TypeError) → IsErrorAt places f a → IsErrorAt places f b → a ≡ b
 broken_once places f a b h k =
-    let same = some_is (sym h.there ∙ k.there) in
-    let line = h.line ∙ ap (λ p. p.line) same ∙ sym k.line in
-    let column = h.column ∙ ap (λ p. p.column) same ∙ sym k.column in
-    let kind = h.kind ∙ sym k.kind in
-    cc
+    let same : h.place ≡ k.place = some_is (sym h.there ∙ k.there) in
+    same_error a b
+    (h.line ∙ ap (λ (p : Place). p.line) same ∙ sym k.line)
+    (h.column ∙ ap (λ (p : Place). p.column) same ∙ sym k.column)
+    (h.kind ∙ sym k.kind)
 
 -- A text is one unit, or has one error: so it comes to one typed unit, or to one stop.
 module _ (text : List ℕ) where

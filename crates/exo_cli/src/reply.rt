@@ -53,7 +53,7 @@ impl Reply {
 }
 
 /// The reply to what a command came to, by the names of the files of the unit and of the schedule.
-pub(crate) fn reply(
+pub(crate) fn replied(
     alloc: Global,
     procs: &str,
     schedule: &str,

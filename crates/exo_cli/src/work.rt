@@ -8,7 +8,7 @@ ghost use Rattle.exo_cli.specs.Replies.{plain};
 ghost use Rattle.exo_cli.specs.Work.{Ends, EndsAt, IsAnswer, IsAnswerTo, file_limit};
 
 use crate::messages;
-use crate::reply::{Reply, reply};
+use crate::reply::{Reply, replied};
 use crate::stages::{checked, compiled};
 use crate::status::Status;
 use crate::words::{Command, read_command};
@@ -104,7 +104,12 @@ fn compile_files<R: Threads + Sync, F: Files, G: Gate>(
         Ok(text) => text,
         Err(reply) => return Ok(reply),
     };
-    reply(alloc, procs, schedule, compiled(rt, alloc, &unit, &lines, gate))
+    replied(
+        alloc,
+        procs,
+        schedule,
+        compiled(rt, alloc, &unit, &lines, gate),
+    )
 }
 
 /// What is replied to the command to check this file.
@@ -122,7 +127,7 @@ fn check_file<R: Threads + Sync, F: Files, G: Gate>(
         Ok(bytes) => bytes,
         Err(reply) => return Ok(reply),
     };
-    reply(alloc, procs, "", checked(rt, alloc, &text, gate))
+    replied(alloc, procs, "", checked(rt, alloc, &text, gate))
 }
 
 /// The bytes of the file, or the reply with which the work ends there.

@@ -23,8 +23,8 @@ returns g c =
     let second = rw c.in_ok-text.ensures.same at read in
     let unit = subst (λ (l : List ℕ). HasBytes told c.args.procs.now l × (length l ≤ file_limit)) (sym c.deref.ensures.value) first in
     let lines = subst (λ (l : List ℕ). HasBytes told c.args.schedule.now l × (length l ≤ file_limit)) (sym c.deref-2.ensures.value) second in
-    if-ok c.reply.result _ _ (λ reply is.
+    if-ok c.replied.result _ _ (λ reply is.
     compiled-answers told c.args.procs.now c.args.schedule.now c.deref.result.now c.deref-2.result.now _ _ _ (plain reply)
     unit.0 unit.1 lines.0 lines.1
     (answered _ (ComesTo (compiled c.deref-2.result.now) c.deref.result.now) (answer_of c.args.procs.now c.args.schedule.now) (plain reply) c.compiled.ensures is))
-    c.reply.ensures
+    c.replied.ensures
