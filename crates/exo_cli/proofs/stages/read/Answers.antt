@@ -1,6 +1,6 @@
 use Rattle.std.proofs.Common.{length, ap, arith}
 use Rattle.exo_types.specs.Typed.{items_of}
-use Rattle.exo_cli.proofs.check.read_formed.Goals as goal
+use Rattle.exo_cli.proofs.stages.read.Goals as goal
 
 pub returns-in-Ok-clause-placed : goal.returns-in-Ok-clause-placed
 returns-in-Ok-clause-placed c = c.read_texts_are_placed.ensures c.args.text.now c.in-Ok.source c.in-Ok.ensures.0 c.in-Ok.ensures.1 c.in-Ok.source.few
