@@ -12,3 +12,4 @@ pub mod Whole
 pub mod Replaced
 pub mod Known
 pub mod Examples
+pub mod PlaceExamples
