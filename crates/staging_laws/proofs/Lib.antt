@@ -11,5 +11,6 @@ pub mod Gone
 pub mod Whole
 pub mod Replaced
 pub mod Known
+pub mod AtPlaces
 pub mod Examples
 pub mod PlaceExamples

@@ -8,3 +8,4 @@ pub mod Converted
 pub mod Whole
 pub mod Replaced
 pub mod Known
+pub mod AtPlaces

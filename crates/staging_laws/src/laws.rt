@@ -26,6 +26,8 @@ ghost use Rattle.staging_laws.specs.Replaced.{StagedReplaces};
 ghost use Rattle.staging_laws.specs.Replaced.{StagedRefines};
 ghost use Rattle.staging_laws.specs.Known.{KnownLaw};
 ghost use Rattle.staging_laws.specs.Known.{FitsBehindLaw};
+ghost use Rattle.staging_laws.specs.AtPlaces.{OwnRootsLaw};
+ghost use Rattle.staging_laws.specs.AtPlaces.{KnownAtPlace};
 
 /// The store nest copies the staged buffer back into the window.
 pub fn stores_copy_back()
@@ -155,4 +157,14 @@ pub fn known_blocks_are_staged()
 /// Where the blocks that are made keep the rules, the cells that they leave fit their types.
 pub fn cells_fit_behind()
     ensures { FitsBehindLaw }
+{}
+
+/// Each buffer is its own root, wherever a run comes to.
+pub fn buffers_are_their_roots()
+    ensures { OwnRootsLaw }
+{}
+
+/// What a staged block has to know of a state is known at each place of a procedure.
+pub fn states_are_known_at_places()
+    ensures { KnownAtPlace }
 {}
