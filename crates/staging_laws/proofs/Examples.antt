@@ -395,7 +395,7 @@ x_unwritten = unwritten_law (has_root (λ y. y) 10) (λ y. false) world (λ y. y
 
 -- ---- a block that only reads: y: i32; y = t[3]
 
-abbrev reader : ℕ → Block
+abbrev pub reader : ℕ → Block
 reader t = next (Alloc (binder 5) I32 [] 0) (next (Assign 5 [] (Read t (Lit (pos 3) ∷ []))) end)
 
 alone_too : IsAlone (λ y. y == 1) (λ y. y) 1 (all_of 10) eight (reader 1) first

@@ -12,5 +12,6 @@ pub mod Whole
 pub mod Replaced
 pub mod Known
 pub mod AtPlaces
+pub mod Readers
 pub mod Examples
 pub mod PlaceExamples

@@ -9,3 +9,4 @@ pub mod Whole
 pub mod Replaced
 pub mod Known
 pub mod AtPlaces
+pub mod Readers

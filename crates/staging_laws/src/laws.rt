@@ -28,6 +28,9 @@ ghost use Rattle.staging_laws.specs.Known.{KnownLaw};
 ghost use Rattle.staging_laws.specs.Known.{FitsBehindLaw};
 ghost use Rattle.staging_laws.specs.AtPlaces.{OwnRootsLaw};
 ghost use Rattle.staging_laws.specs.AtPlaces.{KnownAtPlace};
+ghost use Rattle.staging_laws.specs.Readers.{KnownReaderLaw};
+ghost use Rattle.staging_laws.specs.Readers.{ReaderReplaces};
+ghost use Rattle.staging_laws.specs.Readers.{ReaderRefines};
 
 /// The store nest copies the staged buffer back into the window.
 pub fn stores_copy_back()
@@ -167,4 +170,19 @@ pub fn buffers_are_their_roots()
 /// What a staged block has to know of a state is known at each place of a procedure.
 pub fn states_are_known_at_places()
     ensures { KnownAtPlace }
+{}
+
+/// Tests on the trees and the types are enough for a block that only reads to be staged.
+pub fn known_readers_are_loaded()
+    ensures { KnownReaderLaw }
+{}
+
+/// A block that only reads may be replaced by the converted block behind the load nest alone.
+pub fn reading_blocks_may_be_replaced()
+    ensures { ReaderReplaces }
+{}
+
+/// So the procedure with it refines the procedure.
+pub fn staged_readers_refine()
+    ensures { ReaderRefines }
 {}
