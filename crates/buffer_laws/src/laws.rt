@@ -12,6 +12,8 @@ ghost use Rattle.buffer_laws.specs.Simplified.{SimplifiedLaw};
 ghost use Rattle.buffer_laws.specs.StageLaws.{DraftLaw};
 ghost use Rattle.buffer_laws.specs.StageLaws.{StageMemLaw};
 ghost use Rattle.buffer_laws.specs.StageLaws.{FitsAtPlaces};
+ghost use Rattle.buffer_laws.specs.StageLaws.{ReaderDraftLaw};
+ghost use Rattle.buffer_laws.specs.StageLaws.{StageReaderLaw};
 
 /// An allocation may have another memory.
 pub fn memories_are_not_seen()
@@ -71,4 +73,14 @@ pub fn windows_may_be_staged()
 /// What accesses keep at each place of a procedure they keep in a run of the block.
 pub fn accesses_fit_at_places()
     ensures { FitsAtPlaces }
+{}
+
+/// A staged block that only reads runs alike with simpler indices.
+pub fn reader_drafts_run_alike()
+    ensures { ReaderDraftLaw }
+{}
+
+/// A procedure is refined by itself with a block that only reads staged without a store nest.
+pub fn windows_of_readers_may_be_staged()
+    ensures { StageReaderLaw }
 {}
