@@ -1,0 +1,4 @@
+pub mod Strides
+pub mod Calls
+pub mod Blocks
+pub mod Units
