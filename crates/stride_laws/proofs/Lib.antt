@@ -2,3 +2,4 @@ pub mod Strides
 pub mod Calls
 pub mod Blocks
 pub mod Units
+pub mod Examples
