@@ -4,6 +4,10 @@ ghost use Rattle.buffer_laws.specs.Buffers.{MemoryLaw};
 ghost use Rattle.buffer_laws.specs.Buffers.{DeleteLaw};
 ghost use Rattle.buffer_laws.specs.Lifted.{LiftFromLoop};
 ghost use Rattle.buffer_laws.specs.Lifted.{LiftLaw};
+ghost use Rattle.buffer_laws.specs.Lifted.{LiftFromThen};
+ghost use Rattle.buffer_laws.specs.Lifted.{LiftFromElse};
+ghost use Rattle.buffer_laws.specs.Lifted.{LiftThenLaw};
+ghost use Rattle.buffer_laws.specs.Lifted.{LiftElseLaw};
 ghost use Rattle.buffer_laws.specs.Bound.{ValuesFit};
 ghost use Rattle.buffer_laws.specs.Bound.{BindLaw};
 ghost use Rattle.buffer_laws.specs.Bound.{BindRefines};
@@ -83,4 +87,24 @@ pub fn reader_drafts_run_alike()
 /// A procedure is refined by itself with a block that only reads staged without a store nest.
 pub fn windows_of_readers_may_be_staged()
     ensures { StageReaderLaw }
+{}
+
+/// An allocation in a branch may stand before the `if`.
+pub fn buffers_are_lifted_from_then()
+    ensures { LiftFromThen }
+{}
+
+/// So may one in the other branch.
+pub fn buffers_are_lifted_from_else()
+    ensures { LiftFromElse }
+{}
+
+/// So it may at a place of a procedure.
+pub fn buffers_are_lifted_from_then_at()
+    ensures { LiftThenLaw }
+{}
+
+/// So may one in the other branch, at a place of a procedure.
+pub fn buffers_are_lifted_from_else_at()
+    ensures { LiftElseLaw }
 {}

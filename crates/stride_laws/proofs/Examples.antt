@@ -1,19 +1,22 @@
 -- set(w: [i32][8]) sets w[0] to 7; look(w: [i32][8]) does so where stride(w, 0) is 1; over(w) calls
 -- both on parts of w.
 use Rattle.std.proofs.Common.{◌≡◌, ◌==◌, ℕ, pos, Bool, true, false, cond, List, [], ◌∷◌, Option}
-use Rattle.std.proofs.Common.{Some, None, option_map, refl, sym, ap, ◌∙◌, true≢false, eqb-true}
+use Rattle.std.proofs.Common.{Some, None, IsSome, subst, option_map, refl, sym, ap, ◌∙◌, true≢false, eqb-true}
 use Rattle.std.specs.Int.{int_wrap}
 use Rattle.exo_tree.specs.Tree.{Binder, I32, Index, Lit, StrideOf, Eq, Span, Const, Whole, Window}
 use Rattle.exo_tree.specs.Tree.{WindowParam, Assign, If, Call, Block, end, next, Procedure}
 use Rattle.exo_meaning.specs.Value.{Value, Number, Undefined}
 use Rattle.exo_meaning.specs.Scene.{Seen, Shape, Range}
-use Rattle.exo_meaning.specs.State.{State}
+use Rattle.exo_meaning.specs.State.{State, on_scene, with_view}
 use Rattle.exo_meaning.specs.Laws.{HasRoots}
 use Rattle.exo_meaning.specs.Refines.{Both}
 use Rattle.exo_meaning.specs.Run.{World, run, unit_world}
 use Rattle.exo_meaning.proofs.Windows.{none_is_some, one_value}
 use Rattle.stride_laws.specs.Strides.{stride_seen, uses_strides, is_stride_used, HaveOneSize}
 use Rattle.stride_laws.specs.Strides.{SameButStrides, WhereBoth, UsesNone, CallsAreBlind}
+use Rattle.inplace_laws.specs.Staged.{staged, StagedAlike}
+use Rattle.stride_laws.specs.Staged.{MayStageBlind}
+use Rattle.stride_laws.proofs.Staged.{blind_staged_law}
 use Rattle.stride_laws.proofs.Blocks.{blind_block_law}
 use Rattle.stride_laws.proofs.Units.{blind_calls_law, blind_law}
 
@@ -148,3 +151,71 @@ by_the_block : WhereBoth (SameButStrides is_x) (run world (on_x 3) (at_stride 1)
     (run world (on_x 3) (at_stride 5))
 by_the_block = blind_block_law world (stride_seen (λ f. Index) unit) (λ y. y) is_x (on_x 3)
     (at_stride 1) (at_stride 5) they_are_blind uses_no_x own same_but
+
+-- ---- x at stride 5, with a staged buffer t (number 1) of its own for it: set(t) by a call
+
+abbrev on_t : Block
+on_t = next (Call 3 (Whole 1 ∷ [])) end
+
+abbrev s : State
+s = at_stride 5
+
+abbrev all_of_t : Seen
+all_of_t = record { buffer = 1; sides = Range (pos 0) (pos 8) ∷ [] }
+
+may_stage : MayStageBlind (λ y. y == 10) world (stride_seen (λ f. Index) unit) (λ y. y) 1 all_of_x
+    (eight 5) on_t s
+may_stage = record {
+  sound = record { tidy = λ b e at. tidy (b == 10) e; seen = λ y z e. there z (y == 10) e };
+  there = refl;
+  new = record { control = refl; buffers = refl; views = refl };
+  shown = refl;
+  hides = refl;
+  only = λ y k i. eqb-true y 10 k;
+  views = λ y z k e. open_view y z (y == 10) k e;
+  names = refl;
+  not_made = refl;
+  roots = λ y z e. roots y z (y == 1) (y == 10) refl refl e;
+  not_written = refl;
+  strides = refl;
+}
+  where
+    tidy : (t : Bool) → cond {A = Option Shape} t (Some (eight 5)) None ≡ None
+        → cond t (Number (pos 3)) Undefined ≡ Undefined
+    tidy true e = absurd (none_is_some (sym e))
+    tidy false e = refl
+
+    there : (z : Seen) (t : Bool) → cond {A = Option Seen} t (Some all_of_x) None ≡ Some z
+        → IsSome (s.scene.buffers z.buffer)
+    there z true e = subst (λ (o : Seen). IsSome (s.scene.buffers o.buffer))
+        (one_value all_of_x z e) refl
+    there z false e = absurd (none_is_some e)
+
+    open_view : (y : ℕ) (z : Seen) (t : Bool) → t ≡ false
+        → cond {A = Option Seen} t (Some all_of_x) None ≡ Some z → (z.buffer == 10) ≡ false
+    open_view y z true k e = absurd (true≢false k)
+    open_view y z false k e = absurd (none_is_some e)
+
+    roots : (y : ℕ) (z : Seen) (p q : Bool) → (y == 1) ≡ p → (y == 10) ≡ q
+        → cond p (Some all_of_t) (cond q (Some all_of_x) None) ≡ Some z → z.buffer ≡ y
+    roots y z true q i j e = ap (λ (w : Seen). w.buffer) (sym (one_value all_of_t z e))
+        ∙ sym (eqb-true y 1 i)
+    roots y z false true i j e = ap (λ (w : Seen). w.buffer) (sym (one_value all_of_x z e))
+        ∙ sym (eqb-true y 10 j)
+    roots y z false false i j e = absurd (none_is_some e)
+
+passed_on : WhereBoth (StagedAlike 1 all_of_x s) (run world on_t (staged 1 all_of_x (eight 5) s))
+    (run world on_t (on_scene (with_view 1 all_of_x) s))
+passed_on = blind_staged_law (λ y. y == 10) world (stride_seen (λ f. Index) unit) (λ y. y) 1
+    all_of_x (eight 5) on_t s they_are_blind may_stage
+
+-- and both run
+on_its_own : option_map (λ (t : State). t.cells 1 (pos 0 ∷ []))
+    (run world on_t (staged 1 all_of_x (eight 5) s)) ≡ Some (Number (pos 7))
+unfolding int_wrap
+on_its_own = refl
+
+on_the_window : first_cell (run world on_t (on_scene (with_view 1 all_of_x) s))
+    ≡ Some (Number (pos 7))
+unfolding int_wrap
+on_the_window = refl

@@ -3,6 +3,7 @@
 ghost use Rattle.stride_laws.specs.Strides.{BlindBlockLaw};
 ghost use Rattle.stride_laws.specs.Strides.{BlindCallsLaw};
 ghost use Rattle.stride_laws.specs.Strides.{BlindLaw};
+ghost use Rattle.stride_laws.specs.Staged.{BlindStagedLaw};
 
 /// Where the callees see no other strides than they say, a block sees no other ones either.
 pub fn blocks_see_strides_they_use()
@@ -17,4 +18,9 @@ pub fn callees_see_strides_they_use()
 /// So a block of a unit does the same whatever strides it does not use.
 pub fn unused_strides_are_not_seen()
     ensures { BlindLaw }
+{}
+
+/// A staged buffer may be passed to procedures that do not look at its strides.
+pub fn staged_buffers_may_be_passed()
+    ensures { BlindStagedLaw }
 {}
