@@ -4,10 +4,10 @@ use Rattle.std.proofs.Common.{Option, Some, None, IsSome, refl, sym, ap, ◌∙�
 use Rattle.exo_tree.specs.Tree.{Binder, Statement, Assign, Reduce, Config, Pass, If, For, Alloc}
 use Rattle.exo_tree.specs.Tree.{View, Call, Block}
 use Rattle.exo_tree.specs.Context.{Context, Here, After, InLoop, InThen, InElse, fill}
-use Rattle.exo_meaning.specs.Scene.{Seen, Shape, window, then_do}
+use Rattle.exo_meaning.specs.Scene.{Seen, window, then_do}
 use Rattle.exo_meaning.specs.State.{State, on_scene, with_control, with_view}
 use Rattle.exo_meaning.specs.Run.{World, run, step, turns_of, roots_after, unit_world, kinds_of}
-use Rattle.exo_meaning.specs.Units.{field_kind, scope_of}
+use Rattle.exo_meaning.specs.Units.{field_kind}
 use Rattle.exo_meaning.specs.Unseen.{in_control, in_condition}
 use Rattle.exo_meaning.proofs.Frame.{or_parts}
 use Rattle.exo_meaning.proofs.Windows.{none_is_some}

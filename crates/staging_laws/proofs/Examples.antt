@@ -9,14 +9,13 @@ use Rattle.std.specs.Int.{int_wrap}
 use Rattle.exo_tree.specs.Tree.{Binder, Cell, I32, Index, Lit, Var, Sub, Mul, Const, Read, Coord}
 use Rattle.exo_tree.specs.Tree.{Span}
 use Rattle.exo_tree.specs.Tree.{Window, Alloc, Pass}
-use Rattle.exo_tree.specs.Tree.{Assign, For, Block, end, next, Procedure}
-use Rattle.exo_tree.specs.Context.{Here}
+use Rattle.exo_tree.specs.Tree.{Assign, For, Block, end, next}
 use Rattle.exo_meaning.specs.Value.{Value, Undefined, Number, stored_as}
 use Rattle.exo_meaning.specs.Scene.{Seen, Shape, Scene, Range, then_do, numbers, updated, window}
 use Rattle.exo_meaning.specs.Scene.{cell_at, whole}
 use Rattle.exo_meaning.specs.State.{State, same_index, on_scene, with_view, with_contents}
 use Rattle.exo_meaning.specs.Calls.{GivenView, contents, copy_back, all_positive, held_at}
-use Rattle.exo_meaning.specs.Inputs.{FitsCell, Refines}
+use Rattle.exo_meaning.specs.Inputs.{FitsCell}
 use Rattle.exo_meaning.specs.Unseen.{SameBut}
 use Rattle.meaning_laws.specs.Sorted.{CellsFit, IsSorted, Sees}
 use Rattle.exo_meaning.specs.Run.{World, run, writes, world_of, unit_world, kinds_of}
@@ -33,10 +32,9 @@ use Rattle.staging_laws.specs.Whole.{MayConvert, Follows}
 use Rattle.staging_laws.specs.Replaced.{Hides, between, IsStaged}
 use Rattle.staging_laws.specs.Known.{AreOver, AreMade, IsKnown, FitsBehind}
 use Rattle.staging_laws.proofs.Known.{known_law, fits_behind_law}
-use Rattle.staging_laws.proofs.Replaced.{alike_replaces, staged_replaces, staged_refines}
+use Rattle.staging_laws.proofs.Replaced.{alike_replaces, staged_replaces}
 use Rattle.meaning_laws.specs.Context.{MayReplace}
 use Rattle.meaning_laws.specs.Sound.{IsUnbound}
-use Rattle.meaning_laws.proofs.Copies.{sound_law, unbound_law}
 use Rattle.staging_laws.proofs.Whole.{viewed_law, staged_block_law, staged_reader_law}
 use Rattle.staging_laws.proofs.Converted.{fits_law, converted_along, converted_law}
 use Rattle.staging_laws.proofs.Box.{box_law, no_store_law}

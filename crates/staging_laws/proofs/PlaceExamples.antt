@@ -1,6 +1,6 @@
 -- half(x: i32[8]) is refined by itself with its loop staged on x[0:8], and runs so.
-use Rattle.std.proofs.Common.{◌≡◌, ℕ, ◌==◌, ◌||◌, pos, Bool, true, false, true≢false, cond, List}
-use Rattle.std.proofs.Common.{[], ◌∷◌, Option, Some, None, IsSome, refl, sym, subst, eqb-true}
+use Rattle.std.proofs.Common.{◌≡◌, ℕ, ◌==◌, ◌||◌, pos, Bool, true, false, true≢false, cond}
+use Rattle.std.proofs.Common.{[], ◌∷◌, Option, Some, None, refl, sym, subst, eqb-true}
 use Rattle.std.specs.Int.{int_wrap}
 use Rattle.exo_tree.specs.Tree.{I32, Lit, TensorParam, Alloc, View, Block, end, Procedure}
 use Rattle.exo_tree.specs.Context.{Context, Here, After, fill}

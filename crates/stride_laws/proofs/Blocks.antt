@@ -1,11 +1,11 @@
 -- A block in two states that differ in strides that it does not use.
 use Rattle.std.proofs.Common.{◌≡◌, ℕ, ℤ, ◌+ℤ◌, ◌-ℤ◌, ◌==◌, Bool, true, false, ◌||◌, cond, List, []}
-use Rattle.std.proofs.Common.{◌∷◌, Option, Some, None, option_map, refl, ap, ap₂, subst}
+use Rattle.std.proofs.Common.{◌∷◌, Option, Some, None, refl, ap, ap₂, subst}
 use Rattle.std.proofs.Math.Path.{fun_ext}
-use Rattle.exo_tree.specs.Tree.{Binder, Cell, Control, Condition, Coord, Argument, Statement, Assign}
+use Rattle.exo_tree.specs.Tree.{Statement, Assign}
 use Rattle.exo_tree.specs.Tree.{Reduce, Config, Pass, If, For, Alloc, View, Call, Block, end, next}
 use Rattle.exo_meaning.specs.Value.{Value, Undefined, on_two}
-use Rattle.exo_meaning.specs.Scene.{Shape, Seen, then_do, number, numbers, holds, where_true, window}
+use Rattle.exo_meaning.specs.Scene.{Shape, Seen, numbers, holds, where_true, window}
 use Rattle.exo_meaning.specs.Scene.{updated, whole}
 use Rattle.exo_meaning.specs.State.{State, kept, left, on_scene, with_control, with_field, with_view}
 use Rattle.exo_meaning.specs.State.{with_contents, with_buffer}
@@ -15,9 +15,9 @@ use Rattle.exo_meaning.specs.Modes.{call_has}
 use Rattle.exo_meaning.specs.Refines.{Both}
 use Rattle.exo_meaning.specs.Run.{World, run, step, argument_number, turn, turns, turns_of, range}
 use Rattle.exo_meaning.specs.Run.{count, choose, call_to, tensor, roots_after}
-use Rattle.inplace_laws.specs.Uses.{in_control, in_controls, in_condition, in_datum, in_coords}
+use Rattle.inplace_laws.specs.Uses.{in_control, in_condition}
 use Rattle.scope_laws.proofs.Roots.{roots_next}
-use Rattle.stride_laws.specs.Strides.{nothing, names_of, argument_uses, arguments_use, uses_strides}
+use Rattle.stride_laws.specs.Strides.{nothing, names_of, arguments_use, uses_strides}
 use Rattle.stride_laws.specs.Strides.{step_uses_strides, HaveOneSize, SameButStrides, WhereBoth}
 use Rattle.stride_laws.specs.Strides.{UsesNone, CallsAreBlind, BlindBlockLaw}
 use Rattle.stride_laws.proofs.Strides.{where_then, where_map, where_and, where_tests, where_equal}

@@ -4,8 +4,7 @@ use Rattle.std.proofs.Common.{List, [], ◌∷◌, Option, Some, None, IfSome, o
 use Rattle.std.proofs.Common.{ap₂, ◌∙◌, subst, eq-eqb, eqb-true}
 use Rattle.exo_tree.specs.Tree.{Cell, Param, ParamKind, ControlParam, TensorParam, WindowParam}
 use Rattle.exo_tree.specs.Tree.{Control, Argument, ControlArg, ConditionArg, Whole, Window}
-use Rattle.exo_meaning.specs.Value.{Value}
-use Rattle.exo_meaning.specs.Scene.{Shape, Seen, then_do, numbers, strides_seen, where_true, window}
+use Rattle.exo_meaning.specs.Scene.{Shape, Seen, then_do, numbers, strides_seen, window}
 use Rattle.exo_meaning.specs.Scene.{updated, whole, extents}
 use Rattle.exo_meaning.specs.State.{State, same_index, on_scene, with_contents, with_buffer}
 use Rattle.exo_meaning.specs.Calls.{Callee, Given, GivenNumber, GivenView, given, all_given, contents}
@@ -14,15 +13,13 @@ use Rattle.exo_meaning.specs.Calls.{bare, entered, copied_back, returned, run_as
 use Rattle.exo_meaning.specs.Laws.{HasRoots}
 use Rattle.exo_meaning.specs.Refines.{Both}
 use Rattle.exo_meaning.specs.Run.{is_root, call_writes, call_to}
-use Rattle.exo_meaning.specs.Modes.{call_has}
-use Rattle.exo_meaning.proofs.Frame.{or_parts, if_then, if_map, if_weaken, any, root_of, window_root}
-use Rattle.exo_meaning.proofs.Frame.{updated_other}
+use Rattle.exo_meaning.proofs.Frame.{if_then, if_map, if_weaken, any, root_of, window_root}
 use Rattle.exo_meaning.proofs.Windows.{none_is_some, one_value}
 use Rattle.inplace_laws.specs.Uses.{in_controls}
 use Rattle.stride_laws.specs.Strides.{nothing, names_of, arguments_use, kind_uses, params_use}
 use Rattle.stride_laws.specs.Strides.{HaveOneSize, SameButStrides, WhereBoth, UsesNone}
 use Rattle.stride_laws.specs.Strides.{CalleeIsBlind}
-use Rattle.stride_laws.proofs.Strides.{where_none, where_then, where_map, where_and, where_tests}
+use Rattle.stride_laws.proofs.Strides.{where_then, where_map, where_tests}
 use Rattle.stride_laws.proofs.Strides.{where_equal, first_none, second_none, strides_same}
 use Rattle.stride_laws.proofs.Strides.{numbers_same, all_given_same}
 
@@ -128,14 +125,17 @@ module _ (root : ℕ → ℕ) (blind : ℕ → Bool) (s t : State) (roots : HasR
           go false k m = e.0 y z m
 
       pub made_enters : Enters (made s i) (made t j)
-      made_enters = (own, record {
-        control = e.1.control;
-        fields = e.1.fields;
-        views = ap (λ v. updated v x (Some (record { buffer = x; sides = whole dims }))) e.1.views;
-        cells = ap₂ (λ c d. updated c x (contents d seen)) e.1.cells h.cells;
-        buffers = λ y k. one y k (y == x) refl;
-        sizes = λ y. size y (y == x);
-      })
+      made_enters = (
+        own,
+        record {
+          control = e.1.control;
+          fields = e.1.fields;
+          views = ap (λ v. updated v x (Some (record { buffer = x; sides = whole dims }))) e.1.views;
+          cells = ap₂ (λ c d. updated c x (contents d seen)) e.1.cells h.cells;
+          buffers = λ y k. one y k (y == x) refl;
+          sizes = λ y. size y (y == x);
+        },
+      )
         where
           one : (y : ℕ) → inner y ≡ false → (b : Bool) → (y == x) ≡ b
               → cond b (Some (shape_in s)) (i.scene.buffers y)
@@ -207,14 +207,17 @@ module _ (root : ℕ → ℕ) (blind : ℕ → Bool) (s t : State) (roots : HasR
 
     bare_enters : (control : ℕ → ℤ) → Enters (bare control s.scene.fields)
         (bare control t.scene.fields)
-    bare_enters control = (λ x z k. absurd (none_is_some k), record {
-      control = refl;
-      views = refl;
-      fields = h.fields;
-      cells = refl;
-      buffers = λ b k. refl;
-      sizes = λ b. tt;
-    })
+    bare_enters control = (
+      λ x z k. absurd (none_is_some k),
+      record {
+        control = refl;
+        views = refl;
+        fields = h.fields;
+        cells = refl;
+        buffers = λ b k. refl;
+        sizes = λ b. tt;
+      },
+    )
 
     entered_both : (ps : List Param) (gs : List Given) → IsLess ps gs
         → UsesNone inner (λ y. params_use y ps)

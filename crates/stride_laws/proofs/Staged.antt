@@ -1,5 +1,5 @@
 -- A staged buffer that is passed to procedures, none of which looks at its strides.
-use Rattle.std.proofs.Common.{◌≡◌, ℕ, ℤ, ◌==◌, Bool, true, false, not, cond, List, Option, Some, None, IfSome, IsSome, refl, sym, ap, ◌∙◌, subst, true≢false, eqb-true, eq-eqb}
+use Rattle.std.proofs.Common.{◌≡◌, ℕ, ℤ, ◌==◌, Bool, true, false, cond, List, Option, Some, None, IfSome, IsSome, refl, sym, ap, ◌∙◌, subst, true≢false, eqb-true, eq-eqb}
 use Rattle.exo_tree.specs.Tree.{Block}
 use Rattle.exo_meaning.specs.Value.{Value}
 use Rattle.exo_meaning.specs.Scene.{Shape, Seen, whole, extents, index_of, strides_of}

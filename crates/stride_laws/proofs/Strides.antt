@@ -15,7 +15,7 @@ use Rattle.exo_meaning.specs.Scene.{numbers, holds, stride_at, strides_seen, str
 use Rattle.exo_meaning.specs.Scene.{window, narrowed, cell_at, is_below}
 use Rattle.exo_meaning.specs.State.{State, Place, place, held, changed, put, value}
 use Rattle.exo_meaning.specs.Run.{argument_number}
-use Rattle.exo_meaning.specs.Calls.{Given, GivenNumber, GivenView, given, all_given, truth}
+use Rattle.exo_meaning.specs.Calls.{GivenNumber, GivenView, given, all_given, truth}
 use Rattle.exo_meaning.specs.Laws.{HasRoots}
 use Rattle.exo_meaning.specs.Refines.{Both}
 use Rattle.exo_meaning.proofs.Frame.{or_parts}

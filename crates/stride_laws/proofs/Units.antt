@@ -1,9 +1,9 @@
 -- The procedures of a unit do not see strides that they do not use.
 use Rattle.std.proofs.Common.{◌≡◌, ℕ, zero, suc, Bool, false, List, [], ◌∷◌, ◌++◌, Some}
-use Rattle.std.proofs.Common.{slice_get, subst, sym}
+use Rattle.std.proofs.Common.{slice_get, subst}
 use Rattle.exo_tree.specs.Tree.{Kind, Procedure}
 use Rattle.exo_meaning.specs.Calls.{Callee}
-use Rattle.exo_meaning.specs.Run.{World, callees, callee_in, world_of, unit_world}
+use Rattle.exo_meaning.specs.Run.{callees, callee_in, world_of, unit_world}
 use Rattle.exo_meaning.proofs.Frame.{or_parts}
 use Rattle.exo_meaning.proofs.Windows.{none_is_some, one_value}
 use Rattle.stride_laws.specs.Strides.{uses_strides, params_use, sees_strides, sees_at, all_see}
@@ -49,8 +49,7 @@ module _ (kinds : ℕ → Kind) where
       (callee_in (world_of kinds above) p)
   told above fs p h =
       let world = world_of kinds above in
-      let body = uses_strides world.callees (sees_at fs) (λ y. y) p.body in
-      (
+      let body = uses_strides world.callees (sees_at fs) (λ y. y) p.body in (
         λ y k. (or_parts (params_use y p.params) (body y) k).0,
         λ blind s t u roots same. run_both blind world (sees_at fs) (calls_of above fs h) p.body
             (λ y. y) (second_none blind (λ y. params_use y p.params) body u) s t roots same,

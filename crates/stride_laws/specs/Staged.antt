@@ -1,5 +1,5 @@
 -- A staged buffer that is passed to procedures, none of which looks at its strides.
-use Rattle.std.specs.Prelude.{◌≡◌, ◌==◌, ℕ, ℤ, Bool, true, false, List, Some, IsSome}
+use Rattle.std.specs.Prelude.{◌≡◌, ℕ, ℤ, Bool, true, false, List, Some, IsSome}
 use Rattle.exo_tree.specs.Tree.{Block}
 use Rattle.exo_meaning.specs.Scene.{Shape, Seen, extents}
 use Rattle.exo_meaning.specs.State.{State, on_scene, with_view, with_buffer, with_contents}

@@ -11,7 +11,7 @@ use Rattle.exo_meaning.specs.Calls.{Callee}
 use Rattle.exo_meaning.specs.Laws.{HasRoots}
 use Rattle.exo_meaning.specs.Modes.{call_has}
 use Rattle.exo_meaning.specs.Refines.{Both}
-use Rattle.exo_meaning.specs.Run.{World, run, roots_after, callees, callee_in, world_of, unit_world}
+use Rattle.exo_meaning.specs.Run.{World, run, roots_after, callee_in, world_of, unit_world}
 use Rattle.inplace_laws.specs.Uses.{in_control, in_controls, in_condition, in_datum, in_coords}
 
 -- ---- trees
