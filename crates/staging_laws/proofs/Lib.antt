@@ -13,5 +13,6 @@ pub mod Replaced
 pub mod Known
 pub mod AtPlaces
 pub mod Readers
+pub mod ReadsOn
 pub mod Examples
 pub mod PlaceExamples

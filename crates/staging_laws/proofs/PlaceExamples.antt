@@ -8,7 +8,7 @@ use Rattle.exo_meaning.specs.Value.{Number}
 use Rattle.exo_meaning.specs.Scene.{Shape, Seen}
 use Rattle.exo_meaning.specs.State.{State}
 use Rattle.exo_meaning.specs.Inputs.{IsAdmissible, Refines, run_procedure}
-use Rattle.exo_meaning.specs.Run.{World, run, unit_world, kinds_of}
+use Rattle.exo_meaning.specs.Run.{World, run, writes, unit_world, kinds_of}
 use Rattle.exo_meaning.specs.Units.{scope_of}
 use Rattle.meaning_laws.specs.Context.{ComesTo, MayReplace}
 use Rattle.meaning_laws.specs.Sorted.{MayRun, IsSorted}
@@ -21,6 +21,9 @@ use Rattle.staging_laws.specs.Known.{AreMade, IsKnown, FitsBehind, up_to_store}
 use Rattle.staging_laws.specs.Readers.{IsLoaded}
 use Rattle.staging_laws.proofs.AtPlaces.{own_roots_law, known_at_place}
 use Rattle.staging_laws.proofs.Readers.{reader_replaces, reader_refines}
+use Rattle.staging_laws.proofs.ReadsOn.{other, reads_on_law}
+use Rattle.staging_laws.specs.Converted.{converted}
+use Rattle.exo_meaning.specs.Scene.{updated}
 use Rattle.staging_laws.specs.Replaced.{Hides, between}
 use Rattle.staging_laws.proofs.Converted.{fits_law}
 use Rattle.staging_laws.proofs.Known.{known_law, known_reader_law, fits_behind_law}
@@ -279,3 +282,7 @@ third_runs : cell_of 10 (pos 3) (run_procedure in_unit (half_of loaded_reader) f
     ≡ Some (Number (pos 3))
 unfolding int_wrap
 third_runs = refl
+
+-- the test is on the block itself
+reads_on : writes in_unit (updated (λ y. y) 1 1) (converted 1 10 coords (reader 10)) 1 ≡ false
+reads_on = reads_on_law in_unit (λ y. y) 1 10 coords (reader 10) refl refl (λ y k. other y 1 k) refl

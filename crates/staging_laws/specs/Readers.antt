@@ -1,5 +1,5 @@
 -- A staged block that only reads, in the place of the block.
-use Rattle.std.specs.Prelude.{◌≡◌, ℕ, Bool, false, List, [], Some}
+use Rattle.std.specs.Prelude.{◌≡◌, ◌==◌, ℕ, Bool, false, List, [], Some}
 use Rattle.exo_tree.specs.Tree.{Kind, Cell, Binder, Control, Coord, Block, Procedure}
 use Rattle.exo_tree.specs.Context.{Context, fill, rest_of}
 use Rattle.exo_meaning.specs.Scene.{Shape, Seen, numbers, extents, updated}
@@ -8,6 +8,7 @@ use Rattle.exo_meaning.specs.Run.{World, run, writes, unit_world}
 use Rattle.exo_meaning.specs.Inputs.{IsAdmissible, Refines}
 use Rattle.exo_meaning.specs.Unseen.{in_block as mentions}
 use Rattle.meaning_laws.specs.Context.{ComesTo, MayReplace}
+use Rattle.meaning_laws.specs.Scoped.{has_binder}
 use Rattle.inplace_laws.specs.Filled.{Loop}
 use Rattle.staging_laws.specs.Stores.{IsStaging, FitInto, emptied}
 use Rattle.staging_laws.specs.Alone.{IsAlone}
@@ -70,3 +71,13 @@ ReaderRefines =
     → ComesTo world b c s u
     → Hides hidden b new u × IsKnown world root a cell x coords b u)
     → Refines world p (record p { body = fill c new }) []
+
+-- where the block writes nothing of x's buffer, its converted form writes nothing of a
+abbrev pub ReadsOnLaw : Type 0
+ReadsOnLaw =
+    (world : World) (root : ℕ → ℕ) (a x : ℕ) (coords : List Coord) (b : Block)
+    → mentions (λ y. y == a) b ≡ false
+    → has_binder b x ≡ false
+    → ((y : ℕ) → (y == a) ≡ false → (a == root y) ≡ false)
+    → writes world root b (root x) ≡ false
+    → writes world (updated root a a) (converted a x coords b) a ≡ false

@@ -31,6 +31,7 @@ ghost use Rattle.staging_laws.specs.AtPlaces.{KnownAtPlace};
 ghost use Rattle.staging_laws.specs.Readers.{KnownReaderLaw};
 ghost use Rattle.staging_laws.specs.Readers.{ReaderReplaces};
 ghost use Rattle.staging_laws.specs.Readers.{ReaderRefines};
+ghost use Rattle.staging_laws.specs.Readers.{ReadsOnLaw};
 
 /// The store nest copies the staged buffer back into the window.
 pub fn stores_copy_back()
@@ -185,4 +186,9 @@ pub fn reading_blocks_may_be_replaced()
 /// So the procedure with it refines the procedure.
 pub fn staged_readers_refine()
     ensures { ReaderRefines }
+{}
+
+/// Where a block writes nothing of the window's buffer, its converted form does not write the staged one.
+pub fn readers_read_on()
+    ensures { ReadsOnLaw }
 {}
