@@ -44,8 +44,9 @@ module _ (simple : Control → Control) (cell : Cell) (memory base x : ℕ) (coo
 
   -- the same with the indices as they are made
   abbrev pub reader_as_made : Block
-  reader_as_made = up_to_store buffer_name cell (sizes simple window_there cell memory base) memory x
-      coords (loads simple window_there cell memory base) b
+  reader_as_made =
+      up_to_store buffer_name cell (sizes simple window_there cell memory base) memory x coords
+      (loads simple window_there cell memory base) b
 
 -- both run alike, faults included
 abbrev pub DraftLaw : Type 0

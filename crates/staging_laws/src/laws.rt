@@ -188,7 +188,8 @@ pub fn staged_readers_refine()
     ensures { ReaderRefines }
 {}
 
-/// Where a block writes nothing of the window's buffer, its converted form does not write the staged one.
+/// Where a block writes nothing of the window's buffer, its converted form writes nothing of the
+/// staged one.
 pub fn readers_read_on()
     ensures { ReadsOnLaw }
 {}
