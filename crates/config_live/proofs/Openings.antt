@@ -1,0 +1,1 @@
+-- Places, a step at a time.

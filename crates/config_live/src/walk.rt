@@ -1,0 +1,94 @@
+//! From the fields that are live behind statements to those that are live before them.
+ghost use Rattle.std.specs.Prelude.{◌≤◌, ◌||◌, false, length, drop, OnOk};
+ghost use Rattle.exo_tree.specs.Tree.{block};
+ghost use Rattle.exo_tree.specs.PlainStatement.{statement};
+ghost use Rattle.meaning_laws.specs.Live.{live, live_step};
+ghost use Rattle.config_state.specs.FieldSets.{Changed, Marked};
+ghost use Rattle.config_live.specs.Tables.{calls_in};
+
+use crate::table::LiveTable;
+use config_state::{
+    FieldSet, add_argument, add_arguments, add_condition, add_control, add_controls,
+    add_coordinates, add_datum,
+};
+use exo_tree::{Block, Stmt};
+use std::alloc::{AllocError, Global};
+
+/// Makes of the fields that are live behind a block those that are live before its statements
+/// from an index on.
+#[cycle(walk)]
+pub fn live_before(
+    alloc: Global,
+    b: &Block,
+    from: usize,
+    table: &LiveTable,
+    live: &mut FieldSet,
+) -> Result<(), AllocError>
+    requires within { from ≤ length b.now }
+    ensures { OnOk result (Changed (λ f held. live (calls_in table.now) f (block (drop from b.now)) held) live.old live.new) }
+{
+    let mut k = b.len();
+    while k > from {
+        k -= 1;
+        live_before_step(alloc, b.statement(k), table, live)?;
+    }
+    Ok(())
+}
+
+/// The same of one statement.
+#[cycle(walk)]
+fn live_before_step(
+    alloc: Global,
+    s: &Stmt,
+    table: &LiveTable,
+    live: &mut FieldSet,
+) -> Result<(), AllocError>
+    ensures { OnOk result (Changed (λ f held. live_step (calls_in table.now) f (statement s.now) held) live.old live.new) }
+{
+    match s {
+        Stmt::Assign(_, at, e) | Stmt::Reduce(_, at, e) => {
+            add_controls(at, live);
+            add_datum(e, live);
+        }
+        Stmt::Config(f, a) => {
+            live.remove(*f);
+            add_argument(a, live);
+        }
+        Stmt::Pass => {}
+        Stmt::If(c, a, b) => {
+            let mut other = live.duplicate(alloc)?;
+            live_before(alloc, a, 0, table, live)?;
+            live_before(alloc, b, 0, table, &mut other)?;
+            live.unite(&other);
+            add_condition(c, live);
+        }
+        Stmt::For(_, lo, hi, body) => {
+            add_turn(alloc, body, table, live)?;
+            add_control(lo, live);
+            add_control(hi, live);
+        }
+        Stmt::Alloc(_, _, dims, _) => add_controls(dims, live),
+        Stmt::View(_, _, at) => add_coordinates(at, live),
+        Stmt::Call(p, args) => {
+            table.before_call(*p, live);
+            add_arguments(args, live);
+        }
+    }
+    Ok(())
+}
+
+/// Adds the fields that a turn of a loop may read before it surely writes them.
+#[cycle(walk)]
+pub(crate) fn add_turn(
+    alloc: Global,
+    body: &Block,
+    table: &LiveTable,
+    live: &mut FieldSet,
+) -> Result<(), AllocError>
+    ensures { OnOk result (Marked (λ f. live (calls_in table.now) f (block body.now) false) live.old live.new) }
+{
+    let mut turn = FieldSet::empty(alloc, live.len())?;
+    live_before(alloc, body, 0, table, &mut turn)?;
+    live.unite(&turn);
+    Ok(())
+}
