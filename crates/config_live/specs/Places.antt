@@ -1,9 +1,9 @@
 -- The fields that are live at a place of a procedure.
-use Rattle.std.specs.Prelude.{◌≡◌, ◌&&◌, ◌<◌, ℕ, Bool, true, false, nat_lt, List, [], ◌∷◌, length}
+use Rattle.std.specs.Prelude.{◌≡◌, ◌&&◌, ◌+◌, ℕ, Bool, true, false, nat_lt, List, [], ◌∷◌, length}
 use Rattle.std.specs.Prelude.{Option, Some, None, slice_get}
-use Rattle.exo_tree.specs.Tree.{Block, Procedure, Program}
+use Rattle.exo_tree.specs.Tree.{Statement, For, Block, Procedure, Program}
 use Rattle.exo_tree.specs.Places.{Path, Opened, opened}
-use Rattle.meaning_laws.specs.Live.{live_behind}
+use Rattle.meaning_laws.specs.Live.{live, live_behind}
 use Rattle.config_state.specs.FieldSets.{Changed}
 use Rattle.config_laws.specs.FieldRule as rule
 use Rattle.config_laws.specs.FieldRule.{gap, is_live}
@@ -13,6 +13,11 @@ use Rattle.config_live.specs.declared.place.Side.TheVariants.{Before, After}
 abbrev pub side_taken : Side → rule.Side
 side_taken Before = rule.Before
 side_taken After = rule.Behind
+
+-- so many statements of a block stand before the place beside one
+abbrev pub index_beside : rule.Side → ℕ → ℕ
+index_beside rule.Before k = k
+index_beside rule.Behind k = k + 1
 
 -- beside the statement at a path, where no field is live at the end of the body;
 -- at a place that is not there none is live
@@ -29,6 +34,11 @@ live_in unit p path side f = elim (slice_get unit.procedures p) [
   | None ↦ false
   | Some q ↦ nat_lt f (length unit.fields) && live_from unit.procedures q.body path side f
 ]
+
+-- a statement may run again, and the field is live before it does
+abbrev pub live_in_next_turn : (ℕ → ℕ → Bool → Bool) → ℕ → Statement → Bool
+live_in_next_turn calls f (For i lo hi b) = live calls f b false
+live_in_next_turn calls f a = false
 
 -- a walk to a place finds it where it is there, and then makes of the fields that are live at the
 -- end those that are live there

@@ -43,14 +43,14 @@ impl LiveTable {
 
     /// Makes of the fields that are live behind a call those that are live before it, without its
     /// arguments.
-    pub(crate) fn before_call(&self, p: ProcId, live: &mut FieldSet)
-        ensures { Changed (λ f held. calls_in self.now p.0 f held) live.old live.new }
+    pub(crate) fn before_call(&self, p: ProcId, fields: &mut FieldSet)
+        ensures { Changed (λ f held. calls_in self.now p.0 f held) fields.old fields.new }
     {
         let k = p.0 as usize;
         if let Some(written) = self.surely_written.get(k) {
-            live.subtract(written);
+            fields.subtract(written);
         }
-        self.read_first.add(k, live);
+        self.read_first.add(k, fields);
     }
 }
 

@@ -22,15 +22,15 @@ pub fn live_before(
     b: &Block,
     from: usize,
     table: &LiveTable,
-    live: &mut FieldSet,
+    fields: &mut FieldSet,
 ) -> Result<(), AllocError>
     requires within { from ≤ length b.now }
-    ensures { OnOk result (Changed (λ f held. live (calls_in table.now) f (block (drop from b.now)) held) live.old live.new) }
+    ensures { OnOk result (Changed (λ f held. live (calls_in table.now) f (block (drop from b.now)) held) fields.old fields.new) }
 {
     let mut k = b.len();
     while k > from {
         k -= 1;
-        live_before_step(alloc, b.statement(k), table, live)?;
+        live_before_step(alloc, b.statement(k), table, fields)?;
     }
     Ok(())
 }
@@ -41,37 +41,37 @@ fn live_before_step(
     alloc: Global,
     s: &Stmt,
     table: &LiveTable,
-    live: &mut FieldSet,
+    fields: &mut FieldSet,
 ) -> Result<(), AllocError>
-    ensures { OnOk result (Changed (λ f held. live_step (calls_in table.now) f (statement s.now) held) live.old live.new) }
+    ensures { OnOk result (Changed (λ f held. live_step (calls_in table.now) f (statement s.now) held) fields.old fields.new) }
 {
     match s {
         Stmt::Assign(_, at, e) | Stmt::Reduce(_, at, e) => {
-            add_controls(at, live);
-            add_datum(e, live);
+            add_controls(at, fields);
+            add_datum(e, fields);
         }
         Stmt::Config(f, a) => {
-            live.remove(*f);
-            add_argument(a, live);
+            fields.remove(*f);
+            add_argument(a, fields);
         }
         Stmt::Pass => {}
         Stmt::If(c, a, b) => {
-            let mut other = live.duplicate(alloc)?;
-            live_before(alloc, a, 0, table, live)?;
+            let mut other = fields.duplicate(alloc)?;
+            live_before(alloc, a, 0, table, fields)?;
             live_before(alloc, b, 0, table, &mut other)?;
-            live.unite(&other);
-            add_condition(c, live);
+            fields.unite(&other);
+            add_condition(c, fields);
         }
         Stmt::For(_, lo, hi, body) => {
-            add_turn(alloc, body, table, live)?;
-            add_control(lo, live);
-            add_control(hi, live);
+            add_turn(alloc, body, table, fields)?;
+            add_control(lo, fields);
+            add_control(hi, fields);
         }
-        Stmt::Alloc(_, _, dims, _) => add_controls(dims, live),
-        Stmt::View(_, _, at) => add_coordinates(at, live),
+        Stmt::Alloc(_, _, dims, _) => add_controls(dims, fields),
+        Stmt::View(_, _, at) => add_coordinates(at, fields),
         Stmt::Call(p, args) => {
-            table.before_call(*p, live);
-            add_arguments(args, live);
+            table.before_call(*p, fields);
+            add_arguments(args, fields);
         }
     }
     Ok(())
@@ -83,12 +83,12 @@ pub(crate) fn add_turn(
     alloc: Global,
     body: &Block,
     table: &LiveTable,
-    live: &mut FieldSet,
+    fields: &mut FieldSet,
 ) -> Result<(), AllocError>
-    ensures { OnOk result (Marked (λ f. live (calls_in table.now) f (block body.now) false) live.old live.new) }
+    ensures { OnOk result (Marked (λ f. live (calls_in table.now) f (block body.now) false) fields.old fields.new) }
 {
-    let mut turn = FieldSet::empty(alloc, live.len())?;
+    let mut turn = FieldSet::empty(alloc, fields.len())?;
     live_before(alloc, body, 0, table, &mut turn)?;
-    live.unite(&turn);
+    fields.unite(&turn);
     Ok(())
 }
