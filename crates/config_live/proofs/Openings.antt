@@ -242,7 +242,9 @@ there_dropped (b ∷ ss) zero a e = (omega arith, ap (λ z. z ∷ ss) (some_item
     some_item : (a b : Statement) → Some a ≡ Some b → a ≡ b
     some_item a b e = cc
 there_dropped (b ∷ ss) (suc k) a e =
-    let r = there_dropped ss k a e in (let l = r.0 in omega arith, r.1)
+    let r = there_dropped ss k a e in
+    let further : suc (k + 1) ≡ suc k + 1 = omega arith in
+    (let l = r.0 in omega arith, r.1 ∙ ap (λ n. a ∷ drop n (b ∷ ss)) further)
 
 -- ---- the answer
 

@@ -116,12 +116,15 @@ pub fn live(
     let Some(found) = unit.procs.get(p.0 as usize) else {
         return Ok(false);
     };
-    match path.as_slice().split_first() {
-        Some((step, rest)) if step.branch == Branch::Main => {
+    let Some((step, rest)) = path.as_slice().split_first() else {
+        return Ok(false);
+    };
+    match step.branch {
+        Branch::Main => {
             let mut fields = FieldSet::empty(alloc, unit.fields.len())?;
             let there = reach(alloc, &found.body, *step, rest, side, table, &mut fields)?;
             Ok(there && fields.contains(f.0 as usize))
         }
-        _ => Ok(false),
+        Branch::Else => Ok(false),
     }
 }

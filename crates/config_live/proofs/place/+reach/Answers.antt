@@ -1,4 +1,4 @@
-use Rattle.std.proofs.Common.{◌≡◌, ◌<◌, ◌≤◌, ◌+◌, ◌∷◌, length, map, drop, IfOk, sym, ap, subst, arith}
+use Rattle.std.proofs.Common.{◌≡◌, ◌<◌, ◌≤◌, ◌+◌, ◌∷◌, false, length, map, drop, IfOk, sym, ap, subst, arith}
 use Rattle.exo_tree.specs.Tree.{block}
 use Rattle.exo_tree.specs.Places.{opened_in}
 use Rattle.exo_tree.specs.PlainPlace.{step_taken, branch_taken}
@@ -12,7 +12,7 @@ use Rattle.config_live.proofs.place.+reach.Goals as goal
 
 pub returns-in_default-get : goal.returns-in_default-get
 returns-in_default-get t c =
-    subst (λ z. Reaches (calls_in c.args.table.now) (opened_in 0 (gap (step_taken c.args.step ∷ z) (side_taken c.args.side)) (block c.args.b.now)) _ c.args.fields.now c.args.fields.now)
+    subst (λ z. Reaches (calls_in c.args.table.now) (opened_in 0 (gap (step_taken c.args.step ∷ z) (side_taken c.args.side)) (block c.args.b.now)) false c.args.fields.now c.args.fields.now)
     (sym (ap (map step_taken) c.in-Some.ensures.cases.0))
     (step_missing (calls_in c.args.table.now) (step_taken c.args.step) (step_taken c.in-Some.next.now)
     (map step_taken c.in-Some.more.now) (side_taken c.args.side) c.args.b.now c.args.fields.now
@@ -21,7 +21,7 @@ returns-in_default-get t c =
 pub returns-in_default-block : goal.returns-in_default-block
 returns-in_default-block t c =
     let there = there_dropped c.args.b.now c.args.step.index (statement c.in-Some-get.s.now) (sym c.in-Some-get.ensures) in
-    subst (λ z. Reaches (calls_in c.args.table.now) (opened_in 0 (gap (step_taken c.args.step ∷ z) (side_taken c.args.side)) (block c.args.b.now)) _ c.args.fields.now c.args.fields.now)
+    subst (λ z. Reaches (calls_in c.args.table.now) (opened_in 0 (gap (step_taken c.args.step ∷ z) (side_taken c.args.side)) (block c.args.b.now)) false c.args.fields.now c.args.fields.now)
     (sym (ap (map step_taken) c.in-Some.ensures.cases.0))
     (branch_missing (calls_in c.args.table.now) (step_taken c.args.step) (step_taken c.in-Some.next.now)
     (map step_taken c.in-Some.more.now) (side_taken c.args.side) c.args.b.now (statement c.in-Some-get.s.now)
