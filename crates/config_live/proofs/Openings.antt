@@ -83,15 +83,15 @@ module _ (calls : ℕ → ℕ → Bool → Bool) where
   into_loop i lo hi b rest (Some o) found old mid turned new opens c m h = (
     h.0,
     changed_as
-    (λ f out. live_behind calls f o.piece o.around (live calls f rest out || live calls f b false))
-    (λ f out. live_behind calls f o.piece o.around (live calls f rest out || live calls f (fill o.around o.piece) false))
-    old new
-    (λ f out. ap (λ z. live_behind calls f o.piece o.around (live calls f rest out || live calls f z false)) (sym (opens o refl)))
-    (changed_then (λ f out. live calls f rest out || live calls f b false)
-    (λ f out. live_behind calls f o.piece o.around out) old turned new
-    (changed_then (λ f out. live calls f rest out) (λ f out. out || live calls f b false) old mid
-    turned c (marks_change (λ f. live calls f b false) mid turned m))
-    h.1),
+        (λ f out. live_behind calls f o.piece o.around (live calls f rest out || live calls f b false))
+        (λ f out. live_behind calls f o.piece o.around (live calls f rest out || live calls f (fill o.around o.piece) false))
+        old new
+        (λ f out. ap (λ z. live_behind calls f o.piece o.around (live calls f rest out || live calls f z false)) (sym (opens o refl)))
+        (changed_then (λ f out. live calls f rest out || live calls f b false)
+        (λ f out. live_behind calls f o.piece o.around out) old turned new
+        (changed_then (λ f out. live calls f rest out) (λ f out. out || live calls f b false) old mid
+        turned c (marks_change (λ f. live calls f b false) mid turned m))
+        h.1),
   )
 
   unmarked : (a : Statement) (rest : Block) (old mid turned : List Bool)
@@ -116,7 +116,7 @@ module _ (calls : ℕ → ℕ → Bool → Bool) where
   into_then t b rest (Some o) found old turned new c h = (
     h.0,
     changed_then (λ f out. live calls f rest out)
-    (λ f out. live_behind calls f o.piece o.around out) old turned new c h.1,
+        (λ f out. live_behind calls f o.piece o.around out) old turned new c h.1,
   )
 
   into_else : (t : _) (a rest : Block) (x : Option Opened) (found : Bool) (old turned new : List Bool)
@@ -127,7 +127,7 @@ module _ (calls : ℕ → ℕ → Bool → Bool) where
   into_else t a rest (Some o) found old turned new c h = (
     h.0,
     changed_then (λ f out. live calls f rest out)
-    (λ f out. live_behind calls f o.piece o.around out) old turned new c h.1,
+        (λ f out. live_behind calls f o.piece o.around out) old turned new c h.1,
   )
 
   some_same : {A : Type 0} (a b : A) → Some a ≡ Some b → a ≡ b
@@ -303,6 +303,7 @@ module _ (ps : List Procedure) (n : ℕ) (read sure : List (List Bool))
     where
       same_length : length new ≡ n
       same_length = h.1.same_length ∙ length_none n
+
       go : (t : Bool) → nat_lt f n ≡ t → contains new f ≡ (t && is_live ps f o)
       go false e = beyond new f (ap (nat_lt f) same_length ∙ e)
       go true e =

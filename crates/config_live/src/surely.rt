@@ -1,5 +1,5 @@
 //! The fields that statements write on every way through them.
-ghost use Rattle.std.specs.Prelude.{IfOk, OnOk};
+ghost use Rattle.std.specs.Prelude.{OnOk};
 ghost use Rattle.exo_tree.specs.Tree.{block};
 ghost use Rattle.exo_tree.specs.PlainStatement.{statement};
 ghost use Rattle.config_state.specs.FieldSets.{in_table, Marked};

@@ -34,8 +34,8 @@ impl LiveTable {
         for p in unit.procs.as_slice() {
             let count = unit.fields.len();
             let read = read_first_by(alloc, p, count, &table)?;
-            let written = surely_written_by(alloc, p, count, &table)?;
             table.read_first.push(read)?;
+            let written = surely_written_by(alloc, p, count, &table.surely_written)?;
             table.surely_written.push(written)?;
         }
         Ok(table)
@@ -75,11 +75,11 @@ fn surely_written_by(
     alloc: Global,
     p: &Proc,
     count: usize,
-    table: &LiveTable,
+    table: &FieldTable,
 ) -> Result<FieldSet, AllocError>
-    ensures { IfOk result (λ s. (length s ≡ count) × ((f : ℕ) → f < count → contains s f ≡ surely_by (in_table table.now.surely_written) (procedure p.now) f)) }
+    ensures { IfOk result (λ s. (length s ≡ count) × ((f : ℕ) → f < count → contains s f ≡ surely_by (in_table table.now) (procedure p.now) f)) }
 {
     let mut set = FieldSet::empty(alloc, count)?;
-    add_surely_written(alloc, &p.body, &table.surely_written, &mut set)?;
+    add_surely_written(alloc, &p.body, table, &mut set)?;
     Ok(set)
 }

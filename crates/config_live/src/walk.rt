@@ -1,5 +1,5 @@
 //! From the fields that are live behind statements to those that are live before them.
-ghost use Rattle.std.specs.Prelude.{◌≤◌, ◌||◌, false, length, drop, OnOk};
+ghost use Rattle.std.specs.Prelude.{◌≤◌, false, length, drop, OnOk};
 ghost use Rattle.exo_tree.specs.Tree.{block};
 ghost use Rattle.exo_tree.specs.PlainStatement.{statement};
 ghost use Rattle.meaning_laws.specs.Live.{live, live_step};

@@ -25,14 +25,14 @@ returns-after-there c =
     let new = c.reach.new.fields in
     let f = c.args.f.0 in
     let empty : c.in_ok-fields-in-Main.fields ≡ replicate n false =
-        c.in_ok-fields-in-Main.ensures ∙ ap (λ m. replicate m false) c.len.ensures in
+    c.in_ok-fields-in-Main.ensures ∙ ap (λ m. replicate m false) c.len.ensures in
     let found : c.if-there.result ≡ (there && contains new f) =
-        elim c.if-there.branch [
-          | then-there w ↦ w.result-is ∙ w.contains.ensures ∙ sym (ap (λ z. z && contains new f) w.if-there.true)
-          | else-there w ↦ w.result-is ∙ w.if-there.false ∙ sym (ap (λ z. z && contains new f) w.if-there.false)
-        ] in
+    elim c.if-there.branch [
+      | then-there w ↦ w.result-is ∙ w.contains.ensures ∙ sym (ap (λ z. z && contains new f) w.if-there.true)
+      | else-there w ↦ w.result-is ∙ w.if-there.false ∙ sym (ap (λ z. z && contains new f) w.if-there.false)
+    ] in
     let path : step ∷ rest ≡ c.args.path.now =
-        sym (ap (map step_taken) c.in-Some-split_first.ensures.cases.0) ∙ c.as_slice.ensures.value in
+    sym (ap (map step_taken) c.in-Some-split_first.ensures.cases.0) ∙ c.as_slice.ensures.value in
     found
     ∙ live_is ps n c.args.table.now.read_first c.args.table.now.surely_written
     c.requires.read_first c.requires.surely_written body step rest side there new f

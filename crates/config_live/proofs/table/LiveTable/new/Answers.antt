@@ -14,7 +14,7 @@ loop-p-preserved c =
     let sure = c.loop-p.table.surely_written in
     let rest = map procedure (drop (c.loop-p.p-index + 1) items) in
     let one : drop c.loop-p.p-index items ≡ c.p-item.result ∷ drop (c.loop-p.p-index + 1) items =
-        drop_item items c.loop-p.p-index c.p-item.result c.loop-p-test.true c.p-item.is in
+    drop_item items c.loop-p.p-index c.p-item.result c.loop-p-test.true c.p-item.is in
     subst (λ t. SoFar n t c.push-in-loop-p.new.self rest procs) (sym c.in_ok-push.ensures.pushed)
     (subst (λ t. SoFar n (read ++ c.in_ok-read.read ∷ []) t rest procs) (sym c.in_ok-push-2.ensures.pushed)
     (step_on n read sure (procedure c.p-item.result) rest procs c.in_ok-read.read c.in_ok-written.written
