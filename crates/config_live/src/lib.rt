@@ -8,6 +8,4 @@ mod table;
 mod walk;
 
 pub use place::{Side, live};
-pub use surely::add_surely_written;
 pub use table::LiveTable;
-pub use walk::live_before;

@@ -1,8 +1,8 @@
 //! The fields that statements write on every way through them.
-ghost use Rattle.std.specs.Prelude.{OnOk};
+ghost use Rattle.std.specs.Prelude.{◌≡◌, ◌<◌, ℕ, length, IfOk, OnOk};
 ghost use Rattle.exo_tree.specs.Tree.{block};
 ghost use Rattle.exo_tree.specs.PlainStatement.{statement};
-ghost use Rattle.config_state.specs.FieldSets.{in_table, Marked};
+ghost use Rattle.config_state.specs.FieldSets.{contains, in_table, Marked};
 ghost use Rattle.config_laws.specs.Surely.{surely_writes, step_surely_writes};
 
 use config_state::{FieldSet, FieldTable};
@@ -11,7 +11,7 @@ use std::alloc::{AllocError, Global};
 
 /// Adds the fields that a block surely writes; the table says what each callee surely writes.
 #[cycle(surely)]
-pub fn add_surely_written(
+fn add_surely_written(
     alloc: Global,
     b: &Block,
     table: &FieldTable,
@@ -38,10 +38,8 @@ fn add_surely_written_by(
     match s {
         Stmt::Config(f, _) => set.insert(*f),
         Stmt::If(_, a, b) => {
-            let mut both = FieldSet::empty(alloc, set.len())?;
-            add_surely_written(alloc, a, table, &mut both)?;
-            let mut other = FieldSet::empty(alloc, set.len())?;
-            add_surely_written(alloc, b, table, &mut other)?;
+            let mut both = surely_written(alloc, a, table, set.len())?;
+            let other = surely_written(alloc, b, table, set.len())?;
             both.intersect(&other);
             set.unite(&both);
         }
@@ -49,4 +47,19 @@ fn add_surely_written_by(
         _ => {}
     }
     Ok(())
+}
+
+/// Of so many fields those that a block surely writes.
+#[cycle(surely)]
+pub(crate) fn surely_written(
+    alloc: Global,
+    b: &Block,
+    table: &FieldTable,
+    count: usize,
+) -> Result<FieldSet, AllocError>
+    ensures { IfOk result (λ s. (length s ≡ count) × ((f : ℕ) → f < count → contains s f ≡ surely_writes (in_table table.now) f (block b.now))) }
+{
+    let mut set = FieldSet::empty(alloc, count)?;
+    add_surely_written(alloc, b, table, &mut set)?;
+    Ok(set)
 }

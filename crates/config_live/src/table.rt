@@ -3,11 +3,10 @@ ghost use Rattle.std.specs.Prelude.{◌≡◌, ◌<◌, ℕ, false, IfOk, length
 ghost use Rattle.exo_tree.specs.PlainProcedure.{procedure};
 ghost use Rattle.exo_tree.specs.PlainUnit.{program};
 ghost use Rattle.meaning_laws.specs.UnitFields.{live_before};
-ghost use Rattle.config_state.specs.FieldSets.{contains, in_table, Changed};
-ghost use Rattle.config_laws.specs.Surely.{surely_by};
+ghost use Rattle.config_state.specs.FieldSets.{contains, Changed};
 ghost use Rattle.config_live.specs.Tables.{calls_in, IsLiveTable};
 
-use crate::surely::add_surely_written;
+use crate::surely::surely_written;
 use crate::walk;
 use config_state::{FieldSet, FieldTable, add_conditions, add_params};
 use exo_tree::{Proc, ProcId, Unit};
@@ -35,7 +34,7 @@ impl LiveTable {
             let count = unit.fields.len();
             let read = read_first_by(alloc, p, count, &table)?;
             table.read_first.push(read)?;
-            let written = surely_written_by(alloc, p, count, &table.surely_written)?;
+            let written = surely_written(alloc, &p.body, &table.surely_written, count)?;
             table.surely_written.push(written)?;
         }
         Ok(table)
@@ -67,19 +66,5 @@ fn read_first_by(
     walk::live_before(alloc, &p.body, 0, table, &mut set)?;
     add_params(&p.params, &mut set);
     add_conditions(&p.asserts, &mut set);
-    Ok(set)
-}
-
-/// The fields, of so many, that a call of a procedure surely writes.
-fn surely_written_by(
-    alloc: Global,
-    p: &Proc,
-    count: usize,
-    table: &FieldTable,
-) -> Result<FieldSet, AllocError>
-    ensures { IfOk result (λ s. (length s ≡ count) × ((f : ℕ) → f < count → contains s f ≡ surely_by (in_table table.now) (procedure p.now) f)) }
-{
-    let mut set = FieldSet::empty(alloc, count)?;
-    add_surely_written(alloc, &p.body, table, &mut set)?;
     Ok(set)
 }

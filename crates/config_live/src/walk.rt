@@ -1,5 +1,5 @@
 //! From the fields that are live behind statements to those that are live before them.
-ghost use Rattle.std.specs.Prelude.{◌≤◌, false, length, drop, OnOk};
+ghost use Rattle.std.specs.Prelude.{◌≤◌, false, length, drop, IfOk, OnOk};
 ghost use Rattle.exo_tree.specs.Tree.{block};
 ghost use Rattle.exo_tree.specs.PlainStatement.{statement};
 ghost use Rattle.meaning_laws.specs.Live.{live, live_step};
@@ -17,7 +17,7 @@ use std::alloc::{AllocError, Global};
 /// Makes of the fields that are live behind a block those that are live before its statements
 /// from an index on.
 #[cycle(walk)]
-pub fn live_before(
+pub(crate) fn live_before(
     alloc: Global,
     b: &Block,
     from: usize,
@@ -56,9 +56,8 @@ fn live_before_step(
         }
         Stmt::Pass => {}
         Stmt::If(c, a, b) => {
-            let mut other = fields.duplicate(alloc)?;
+            let other = live_before_branch(alloc, b, table, fields)?;
             live_before(alloc, a, 0, table, fields)?;
-            live_before(alloc, b, 0, table, &mut other)?;
             fields.unite(&other);
             add_condition(c, fields);
         }
@@ -75,6 +74,21 @@ fn live_before_step(
         }
     }
     Ok(())
+}
+
+/// The fields that are live before a branch, by those that are live behind it.
+#[cycle(walk)]
+fn live_before_branch(
+    alloc: Global,
+    b: &Block,
+    table: &LiveTable,
+    behind: &FieldSet,
+) -> Result<FieldSet, AllocError>
+    ensures { IfOk result (λ s. Changed (λ f held. live (calls_in table.now) f (block b.now) held) behind.now s) }
+{
+    let mut fields = behind.duplicate(alloc)?;
+    live_before(alloc, b, 0, table, &mut fields)?;
+    Ok(fields)
 }
 
 /// Adds the fields that a turn of a loop may read before it surely writes them.
