@@ -1,11 +1,11 @@
 -- The fields that are live at a place, a step of its path at a time.
 use Rattle.std.proofs.Common.{◌≡◌, ◌<◌, ◌≤◌, ◌+◌, ℕ, zero, suc, Bool, true, false, ◌&&◌, ◌||◌, nat_lt, List, [], ◌∷◌, length}
-use Rattle.std.proofs.Common.{drop, get_or, Option, Some, None, option_map, refl, sym, ap, ap₂, ◌∙◌, subst, arith}
+use Rattle.std.proofs.Common.{drop, Option, Some, None, option_map, refl, sym, ap, ◌∙◌, subst, arith}
 use Rattle.std.specs.Prelude.{replicate, slice_get}
-use Rattle.exo_tree.specs.Tree.{Statement, Assign, Reduce, Config, Pass, If, For, Alloc, View, Call}
-use Rattle.exo_tree.specs.Tree.{Block, end, next, block, Procedure, Program}
-use Rattle.exo_tree.specs.Context.{Context, Here, After, InLoop, InThen, InElse, fill}
-use Rattle.exo_tree.specs.Places.{Branch, Main, Else, Step, Path, Opened, parted, past, into, opened_in, opened}
+use Rattle.exo_tree.specs.Tree.{Statement, If, For}
+use Rattle.exo_tree.specs.Tree.{Block, end, next, block, Procedure}
+use Rattle.exo_tree.specs.Context.{Here, After, InLoop, InThen, InElse, fill}
+use Rattle.exo_tree.specs.Places.{Branch, Main, Else, Step, Path, Opened, past, into, opened_in, opened}
 use Rattle.exo_tree.specs.Branches.{branch_of}
 use Rattle.meaning_laws.specs.Live.{live, live_behind}
 use Rattle.meaning_laws.specs.UnitFields.{unit_live}

@@ -1,5 +1,5 @@
 -- What is known of the callees of a unit.
-use Rattle.std.specs.Prelude.{ℕ, Bool, false, List, length}
+use Rattle.std.specs.Prelude.{ℕ, Bool, false, length}
 use Rattle.exo_tree.specs.Tree.{Program}
 use Rattle.meaning_laws.specs.UnitFields.{unit_live}
 use Rattle.config_state.specs.FieldSets.{in_table, IsTable}

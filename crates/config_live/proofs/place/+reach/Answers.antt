@@ -1,7 +1,7 @@
-use Rattle.std.proofs.Common.{◌≡◌, ◌<◌, ◌≤◌, ◌+◌, ◌∷◌, false, length, map, drop, IfOk, sym, ap, subst, arith}
+use Rattle.std.proofs.Common.{◌∷◌, false, map, IfOk, sym, ap, subst, arith}
 use Rattle.exo_tree.specs.Tree.{block}
 use Rattle.exo_tree.specs.Places.{opened_in}
-use Rattle.exo_tree.specs.PlainPlace.{step_taken, branch_taken}
+use Rattle.exo_tree.specs.PlainPlace.{step_taken}
 use Rattle.exo_tree.specs.PlainStatement.{statement}
 use Rattle.config_state.proofs.Sets.{if_ok}
 use Rattle.config_laws.specs.FieldRule.{gap}
