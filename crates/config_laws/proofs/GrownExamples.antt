@@ -1,12 +1,12 @@
 -- The laws on units that grow, on closed units.
-use Rattle.std.proofs.Common.{◌≡◌, ℕ, true, List, [], ◌∷◌, Some, refl}
+use Rattle.std.proofs.Common.{◌≡◌, true, List, [], ◌∷◌, Some, refl}
 use Rattle.exo_tree.specs.Tree.{Pass, Call, Block, end, next, Procedure}
 use Rattle.exo_tree.specs.Context.{Here}
 use Rattle.config_laws.specs.Surely.{surely_writes, surely_behind, unit_surely}
 use Rattle.config_laws.specs.FieldRule.{Before}
 use Rattle.config_laws.specs.Differing.{Origin, step_fields}
 use Rattle.config_laws.proofs.Grown.{surely_grown, surely_behind_grown, step_fields_grown}
-use Rattle.config_laws.proofs.RuleExamples.{at, of_text, loud, quiet, calls_it}
+use Rattle.config_laws.proofs.RuleExamples.{at, of_text, loud, quiet}
 
 abbrev call_loud : Block
 call_loud = next (Call 0 []) end

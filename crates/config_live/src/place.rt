@@ -99,8 +99,9 @@ fn reach(
 }
 
 /// Whether a field is live beside the statement at a path: whether it may be read from there on
-/// before it is surely written. No field is live at the end of a procedure, nor where no statement
-/// has the path; a field that the unit has not is live nowhere. The table is that of the unit.
+/// before it is surely written. No field is live at the end of a procedure, nor at a place that is
+/// not there; a field that the unit has not is live nowhere. Before the index behind the last
+/// statement of a block is that block's end. The table is that of the unit.
 pub fn live(
     alloc: Global,
     unit: &Unit,
