@@ -1,9 +1,12 @@
 // Cursors as schedules have them, and where they are: `find(f, 'x = _ #1').next()`, and `at(f, node 0.1).next()`.
+ghost use Rattle.exo_tree.specs.PlainUnit.{program};
+ghost use Rattle.exo_meaning.specs.Units.{IsUnit};
+
 use crate::cursor::read_cursor;
 use crate::moves::{Unclear, moved_all};
-use crate::unit::Formed;
+use crate::unit::{find_in, number_of};
 use cursor_forward::Cursor;
-use exo_tree::ProcId;
+use exo_tree::{ProcId, Unit};
 use schedule_patterns::read_pattern;
 use std::alloc::Global;
 
@@ -11,18 +14,15 @@ use std::alloc::Global;
 const LIMIT: usize = 1024;
 
 /// The match of a pattern.
-fn found(
-    alloc: Global,
-    unit: &Formed,
-    number: ProcId,
-    text: &str,
-) -> Result<Option<Cursor>, Unclear> {
+fn found(alloc: Global, unit: &Unit, number: ProcId, text: &str) -> Result<Option<Cursor>, Unclear>
+    requires { IsUnit (program unit.now) }
+{
     let bytes = text.as_bytes();
     if bytes.len() > LIMIT {
         return Err(Unclear);
     }
     match read_pattern(alloc, bytes) {
-        Ok((pattern, nth)) => Ok(unit.find(number, &pattern, nth)),
+        Ok((pattern, nth)) => Ok(find_in(unit, number, &pattern, nth)),
         Err(_) => Err(Unclear),
     }
 }
@@ -49,12 +49,14 @@ fn split<'a>(text: &'a str, head: &str, before: &str, behind: &str) -> Option<Pa
 }
 
 /// Where the cursor of a text is, if it is anywhere.
-pub fn cursor_of(alloc: Global, unit: &Formed, text: &str) -> Result<Option<Cursor>, Unclear> {
+pub fn cursor_of(alloc: Global, unit: &Unit, text: &str) -> Result<Option<Cursor>, Unclear>
+    requires { IsUnit (program unit.now) }
+{
     let parts = split(text, "find(", ", '", "')")
         .or(split(text, "at(", ", ", ")"))
         .ok_or(Unclear)?;
-    let number = unit.number_of(parts.name).ok_or(Unclear)?;
-    let p = unit.procedure(number).ok_or(Unclear)?;
+    let number = number_of(unit, parts.name).ok_or(Unclear)?;
+    let p = unit.procs.get(number.0 as usize).ok_or(Unclear)?;
     let first = if parts.is_found {
         found(alloc, unit, number, parts.inside)?
     } else {

@@ -2,12 +2,12 @@
 use crate::cursor::push_cursor;
 use crate::edits::read_edits;
 use crate::finding::cursor_of;
-use crate::unit::Formed;
+use crate::unit::read_formed_unit;
 use cursor_forward::{Cursor, Edits, forward};
 use std::alloc::{AllocError, Global};
 
 /// What the lines behind a heading are.
-#[derive(Clone, Copy, PartialEq, Eq)]
+#[derive(Clone, Copy)]
 enum Section {
     /// A free text.
     Free,
@@ -28,7 +28,6 @@ pub struct Table<'a> {
     section: Section,
     /// The text of the last unit.
     text: String,
-    unit: Option<Formed>,
     /// The step by which the cursors are forwarded, if they are.
     edits: Option<Edits>,
 }
@@ -43,7 +42,6 @@ impl<'a> Table<'a> {
             count: 0,
             section: Section::Free,
             text: String::new(alloc),
-            unit: None,
             edits: None,
         }
     }
@@ -69,11 +67,8 @@ impl<'a> Table<'a> {
         report.push_str(&format!(in self.alloc; "{name}:{line}: {told}\n")?)
     }
 
-    /// Ends a section, and begins the next.
+    /// Begins a section.
     fn begin(&mut self, heading: &str, told: &mut String) -> Result<(), AllocError> {
-        if self.section == Section::Unit {
-            self.unit = Formed::read(self.alloc, self.text.as_bytes());
-        }
         self.edits = None;
         if heading == "unit" {
             self.text.clear();
@@ -122,10 +117,10 @@ impl<'a> Table<'a> {
 
     /// Adds where the cursor of a text comes.
     fn push_answer(&self, text: &str, came: &mut String) -> Result<(), AllocError> {
-        let Some(unit) = &self.unit else {
+        let Some(unit) = read_formed_unit(self.alloc, self.text.as_bytes()) else {
             return came.push_str("no unit");
         };
-        match cursor_of(self.alloc, unit, text) {
+        match cursor_of(self.alloc, &unit, text) {
             Ok(Some(c)) => self.push_place(c, came),
             Ok(None) => came.push_str("none"),
             Err(_) => came.push_str("no cursor of a table"),

@@ -10,7 +10,7 @@ use cursor_forward::laws::units_are_searchable;
 use cursor_forward::{Cursor, find};
 use cursor_patterns::Pattern;
 use exo_reader::unit::{ReadError, Source, read_unit};
-use exo_tree::{Proc, ProcId, Unit};
+use exo_tree::{ProcId, Unit};
 use exo_types::laws::read_texts_are_placed;
 use exo_types::unit::check_types;
 use exo_types_laws::laws::read_units_are_formed;
@@ -18,13 +18,6 @@ use std::alloc::Global;
 
 /// The most bytes of a unit.
 const LIMIT: usize = 1048576;
-
-/// A unit that is well formed.
-#[derive(Drop)]
-pub struct Formed {
-    unit: Unit,
-    ghost formed: { IsUnit (program unit) },
-}
 
 /// Reads the unit of the text; where that keeps all rules, it is well formed.
 fn read_formed(alloc: Global, text: &[u8]) -> Result<Source, ReadError>
@@ -53,36 +46,35 @@ fn typed_unit(alloc: Global, source: &Source) -> Option<Unit>
     }
 }
 
-impl Formed {
-    /// The unit of a text, if it is one and keeps the rules.
-    pub fn read(alloc: Global, text: &[u8]) -> Option<Formed> {
-        if text.len() > LIMIT {
-            return None;
+/// The unit of a text, if it is one and keeps the rules; then it is well formed.
+pub fn read_formed_unit(alloc: Global, text: &[u8]) -> Option<Unit>
+    ensures { IfSome result (λ unit. IsUnit (program unit)) }
+{
+    if text.len() > LIMIT {
+        return None;
+    }
+    match read_formed(alloc, text) {
+        Ok(source) => typed_unit(alloc, &source),
+        Err(_) => None,
+    }
+}
+
+/// The number of the procedure of that name.
+pub fn number_of(unit: &Unit, name: &str) -> Option<ProcId> {
+    let mut number: u32 = 0;
+    for p in unit.procs.as_slice() {
+        if p.name.as_str() == name {
+            return Some(ProcId(number));
         }
-        let source = read_formed(alloc, text).ok()?;
-        let unit = typed_unit(alloc, &source)?;
-        Some(Formed { unit })
+        number = number.saturating_add(1);
     }
+    None
+}
 
-    /// The number of the procedure of that name.
-    pub fn number_of(&self, name: &str) -> Option<ProcId> {
-        let mut number: u32 = 0;
-        for p in self.unit.procs.as_slice() {
-            if p.name.as_str() == name {
-                return Some(ProcId(number));
-            }
-            number = number.saturating_add(1);
-        }
-        None
-    }
-
-    pub fn procedure(&self, number: ProcId) -> Option<&Proc> {
-        self.unit.procs.get(number.0 as usize)
-    }
-
-    /// The match of that number in a procedure.
-    pub fn find(&self, number: ProcId, pattern: &Pattern, nth: u32) -> Option<Cursor> {
-        units_are_searchable();
-        find(&self.unit, number, pattern, nth)
-    }
+/// The match of that number in a procedure.
+pub fn find_in(unit: &Unit, number: ProcId, pattern: &Pattern, nth: u32) -> Option<Cursor>
+    requires { IsUnit (program unit.now) }
+{
+    units_are_searchable();
+    find(unit, number, pattern, nth)
 }
