@@ -13,7 +13,6 @@ mod edits;
 mod finding;
 mod moves;
 mod table;
-mod unit;
 
 use crate::table::Table;
 use cli_outside::{DiskFiles, Files};

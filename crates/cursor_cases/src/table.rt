@@ -2,8 +2,8 @@
 use crate::cursor::push_cursor;
 use crate::edits::read_edits;
 use crate::finding::cursor_of;
-use crate::unit::read_formed_unit;
 use cursor_forward::{Cursor, Edits, forward};
+use formed_units::formed_unit;
 use std::alloc::{AllocError, Global};
 
 /// What the lines behind a heading are.
@@ -117,7 +117,7 @@ impl<'a> Table<'a> {
 
     /// Adds where the cursor of a text comes.
     fn push_answer(&self, text: &str, came: &mut String) -> Result<(), AllocError> {
-        let Some(unit) = read_formed_unit(self.alloc, self.text.as_bytes()) else {
+        let Some(unit) = formed_unit(self.alloc, self.text.as_bytes()) else {
             return came.push_str("no unit");
         };
         match cursor_of(self.alloc, &unit, text) {
