@@ -74,23 +74,17 @@ fn push_path(alloc: Global, path: &Path, out: &mut String) -> Result<(), AllocEr
 
 /// Adds the cursor, as it is read.
 pub fn push_cursor(alloc: Global, c: &Cursor, out: &mut String) -> Result<(), AllocError> {
+    let (word, path) = match c {
+        Cursor::Node(path) => ("node", path),
+        Cursor::Block(path, _) => ("block", path),
+        Cursor::Gap(path, _) => ("gap", path),
+    };
+    out.push_str(word)?;
+    push_path(alloc, path, out)?;
     match c {
-        Cursor::Node(path) => {
-            out.push_str("node")?;
-            push_path(alloc, path, out)
-        }
-        Cursor::Block(path, count) => {
-            out.push_str("block")?;
-            push_path(alloc, path, out)?;
-            out.push_str(&format!(in alloc; " {count}")?)
-        }
-        Cursor::Gap(path, side) => {
-            out.push_str("gap")?;
-            push_path(alloc, path, out)?;
-            out.push_str(match side {
-                Side::Before => " before",
-                Side::After => " after",
-            })
-        }
+        Cursor::Node(_) => Ok(()),
+        Cursor::Block(_, count) => out.push_str(&format!(in alloc; " {count}")?),
+        Cursor::Gap(_, Side::Before) => out.push_str(" before"),
+        Cursor::Gap(_, Side::After) => out.push_str(" after"),
     }
 }

@@ -53,20 +53,33 @@ fn moved_from(
     }
 }
 
-/// Where the match of a pattern is, and the moves from there lead.
-fn found(alloc: Global, unit: &Unit, parts: Parts<'_>) -> Result<Option<Cursor>, Unclear>
+/// The match of the pattern of a text, in the procedure of that number.
+fn match_of(
+    alloc: Global,
+    unit: &Unit,
+    number: ProcId,
+    text: &str,
+) -> Result<Option<Cursor>, Unclear>
     requires { IsUnit (program unit.now) }
 {
     units_are_searchable();
-    let number = number_of(unit, parts.name)?;
-    let bytes = parts.start.as_bytes();
+    let bytes = text.as_bytes();
     if bytes.len() > LIMIT {
         return Err(Unclear);
     }
-    let Ok((pattern, nth)) = read_pattern(alloc, bytes) else {
-        return Err(Unclear);
-    };
-    moved_from(unit, number, find(unit, number, &pattern, nth), parts.moves)
+    match read_pattern(alloc, bytes) {
+        Ok((pattern, nth)) => Ok(find(unit, number, &pattern, nth)),
+        Err(_) => Err(Unclear),
+    }
+}
+
+/// Where the moves from the match of a pattern lead.
+fn found(alloc: Global, unit: &Unit, parts: Parts<'_>) -> Result<Option<Cursor>, Unclear>
+    requires { IsUnit (program unit.now) }
+{
+    let number = number_of(unit, parts.name)?;
+    let from = match_of(alloc, unit, number, parts.start)?;
+    moved_from(unit, number, from, parts.moves)
 }
 
 /// Where the moves from a cursor lead that is told.

@@ -67,17 +67,25 @@ fn moved(p: &Proc, c: &Cursor, step: Move) -> Option<Cursor> {
 #[derive(Debug, Drop)]
 pub struct Unclear;
 
+/// The most moves of a cursor.
+const MOVES: u32 = 64;
+
 /// Where the moves lead, if they lead anywhere.
 pub fn moved_all(p: &Proc, from: Cursor, text: &str) -> Result<Option<Cursor>, Unclear> {
     let mut c = from;
     let mut rest = text;
-    while !rest.is_empty() {
-        let (step, behind) = read_move(rest).ok_or(Unclear)?;
+    for _ in 0..MOVES {
+        if rest.is_empty() {
+            return Ok(Some(c));
+        }
+        let Some((step, behind)) = read_move(rest) else {
+            return Err(Unclear);
+        };
         c = match moved(p, &c, step) {
             Some(to) => to,
             None => return Ok(None),
         };
         rest = behind;
     }
-    Ok(Some(c))
+    Err(Unclear)
 }
