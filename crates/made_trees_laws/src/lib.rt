@@ -1,0 +1,4 @@
+//! Laws of trees that rewrites make.
+#![tactic(auto)]
+
+pub mod laws;
