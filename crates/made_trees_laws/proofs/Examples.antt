@@ -2,7 +2,7 @@
 -- its binders have the ids 0 and 1, those of copies have ids from 2 on.
 use Rattle.std.proofs.Common.{◌≡◌, ℕ, pos, List, [], ◌∷◌, Option, None, refl, codes}
 use Rattle.exo_tree.specs.Tree.{I32, Lit, For, Alloc, Block, end, next, Procedure}
-use Rattle.made_trees.specs.Names.{named_copies}
+use Rattle.made_trees.specs.Names.{numbered, named_copies}
 
 abbrev loop : ℕ → List ℕ → Block → Block
 loop id name b = next (For (record { id = id; name = name }) (Lit (pos 0)) (Lit (pos 1)) b) end
@@ -22,13 +22,13 @@ two (next a rest) b = next a (two rest b)
 beside : named_copies old 2 (two (loop 0 (codes "i") end) (loop 2 (codes "i") end)) ≡ two (loop 0 (codes "i") end) (loop 2 (codes "i") end)
 beside = refl
 
-inside : named_copies old 2 (loop 0 (codes "i") (loop 2 (codes "i") end)) ≡ loop 0 (codes "i") (loop 2 (codes "i_1") end)
+inside : named_copies old 2 (loop 0 (codes "i") (loop 2 (codes "i") end)) ≡ loop 0 (codes "i") (loop 2 (numbered (codes "i") 1) end)
 inside = refl
 
--- a name that is taken is not given
-twice : named_copies old 2 (loop 0 (codes "i") (loop 2 (codes "i") (loop 3 (codes "i") end))) ≡ loop 0 (codes "i") (loop 2 (codes "i_1") (loop 3 (codes "i_2") end))
-twice = refl
+-- a name of the old procedure that is not in scope is no reason for another
+elsewhere : named_copies old 2 (loop 0 (codes "i") (loop 2 (codes "i") (cell 3 (codes "t") end))) ≡ loop 0 (codes "i") (loop 2 (numbered (codes "i") 1) (cell 3 (codes "t") end))
+elsewhere = refl
 
 -- an original further down in the block of a copy keeps its name
-before_the_original : named_copies old 2 (cell 2 (codes "t") (cell 1 (codes "t") end)) ≡ cell 2 (codes "t_1") (cell 1 (codes "t") end)
+before_the_original : named_copies old 2 (cell 2 (codes "t") (cell 1 (codes "t") end)) ≡ cell 2 (numbered (codes "t") 1) (cell 1 (codes "t") end)
 before_the_original = refl
