@@ -1,5 +1,5 @@
 //! Lists of names.
-ghost use Rattle.std.specs.Prelude.{◌≡◌, ◌++◌, map, codes, decimal, IfOk, OnOk};
+ghost use Rattle.std.specs.Prelude.{◌≡◌, [], ◌∷◌, ◌++◌, map, codes, decimal, IfOk, OnOk};
 ghost use Rattle.exo_tree.specs.Tree.{block};
 ghost use Rattle.exo_tree.specs.PlainParam.{parameter};
 ghost use Rattle.exo_tree.specs.PlainStatement.{statement};
@@ -51,6 +51,14 @@ pub(crate) fn free_name(alloc: Global, taken: &[Name], x: &str) -> Result<Name, 
     numbered(alloc, x, count + 1)
 }
 
+/// Appends a copy of a name.
+pub(crate) fn put(names: &mut Vec<Name>, alloc: Global, x: &Name) -> Result<(), AllocError>
+    ensures { OnOk result (names.new.items ≡ names.old.items ++ x.now ∷ []) }
+{
+    names.push(x.duplicate(alloc)?)?;
+    Ok(())
+}
+
 /// Appends the names of parameters.
 pub(crate) fn put_params(
     names: &mut Vec<Name>,
@@ -60,7 +68,7 @@ pub(crate) fn put_params(
     ensures { OnOk result (names.new.items ≡ names.old.items ++ names_of (map parameter params.now)) }
 {
     for p in params {
-        names.push(p.binder.name.duplicate(alloc)?)?;
+        put(names, alloc, &p.binder.name)?;
     }
     Ok(())
 }
@@ -84,18 +92,13 @@ fn put_statement(names: &mut Vec<Name>, alloc: Global, s: &Stmt) -> Result<(), A
     match s {
         Stmt::If(_, a, b) => {
             put_block(names, alloc, a)?;
-            put_block(names, alloc, b)?;
-            Ok(())
+            put_block(names, alloc, b)
         }
         Stmt::For(i, _, _, b) => {
-            names.push(i.name.duplicate(alloc)?)?;
-            put_block(names, alloc, b)?;
-            Ok(())
+            put(names, alloc, &i.name)?;
+            put_block(names, alloc, b)
         }
-        Stmt::Alloc(x, _, _, _) | Stmt::View(x, _, _) => {
-            names.push(x.name.duplicate(alloc)?)?;
-            Ok(())
-        }
+        Stmt::Alloc(x, _, _, _) | Stmt::View(x, _, _) => put(names, alloc, &x.name),
         _ => Ok(()),
     }
 }
@@ -106,10 +109,10 @@ fn put_top(names: &mut Vec<Name>, alloc: Global, copies: u32, s: &Stmt) -> Resul
 {
     match s {
         Stmt::Alloc(x, _, _, _) | Stmt::View(x, _, _) => {
-            if x.id.0 < copies {
-                names.push(x.name.duplicate(alloc)?)?;
+            if x.id.0 >= copies {
+                return Ok(());
             }
-            Ok(())
+            put(names, alloc, &x.name)
         }
         _ => Ok(()),
     }

@@ -9,7 +9,7 @@ ghost use Rattle.made_trees.specs.Names.{closed, name_given, with_binder, name_s
 ghost use Rattle.made_trees.specs.Names.{top_names, first_naming};
 ghost use Rattle.made_trees.specs.Walked.{naming};
 
-use crate::name::{free_name, is_in, put_block, put_params, tops};
+use crate::name::{free_name, is_in, put, put_block, put_params, tops};
 use exo_tree::{Binder, Block, Name, Proc, Stmt};
 use std::alloc::{AllocError, Global};
 
@@ -63,8 +63,8 @@ impl Walk {
         ensures { OnOk result (naming self.new ≡ with_binder copies top.now (naming self.old) (binding x.now)) }
     {
         let name = self.name(alloc, copies, top, x)?;
-        self.scope.push(name.duplicate(alloc)?)?;
-        self.taken.push(name.duplicate(alloc)?)?;
+        put(&mut self.scope, alloc, &name)?;
+        put(&mut self.taken, alloc, &name)?;
         self.given.push(Binder { id: x.id, name })?;
         Ok(())
     }
@@ -111,8 +111,7 @@ impl Walk {
         match s {
             Stmt::If(_, a, b) => {
                 self.branch(alloc, copies, a)?;
-                self.branch(alloc, copies, b)?;
-                Ok(())
+                self.branch(alloc, copies, b)
             }
             Stmt::For(i, _, _, b) => {
                 let known = self.scope.len();
