@@ -1,5 +1,5 @@
 -- Counts of binders.
-use Rattle.std.proofs.Common.{◌≡◌, ◌+◌, ◌++◌, ℕ, zero, suc, List, [], ◌∷◌, length, drop, take, ap, ◌∙◌, arith}
+use Rattle.std.proofs.Common.{◌≡◌, ◌+◌, ◌++◌, ℕ, zero, suc, List, [], ◌∷◌, length, drop, take, ap, arith}
 use Rattle.std.proofs.lemmas.List.{length-append}
 use Rattle.exo_tree.specs.Tree.{Statement, Block, block}
 use Rattle.exo_tree.specs.Renaming.{binders, binders_below}

@@ -1,5 +1,5 @@
 -- Blocks that are left empty, by the number of their statements.
-use Rattle.std.proofs.Common.{◌≡◌, zero, suc, Bool, true, false, List, [], ◌∷◌, ◌++◌, length, refl}
+use Rattle.std.proofs.Common.{◌≡◌, Bool, true, false, List, [], ◌∷◌, ◌++◌, length, refl}
 use Rattle.exo_tree.specs.Tree.{Statement, Pass, block}
 use Rattle.made_trees.specs.Passes.{pass_for}
 

@@ -1,9 +1,9 @@
 -- The names in scope on a walk: those from before it stay where they are.
-use Rattle.std.proofs.Common.{◌≡◌, ℕ, List, [], ◌∷◌, ◌++◌, length, take, refl, ap, sym, ◌∙◌}
+use Rattle.std.proofs.Common.{◌≡◌, ℕ, List, [], ◌++◌, length, take, refl, ap, sym, ◌∙◌}
 use Rattle.std.proofs.lemmas.List.{append_assoc, append-nil}
 use Rattle.std.proofs.Math.Seq.{take-append_seam}
 use Rattle.exo_tree.specs.Tree.{Binder, Statement, Assign, Reduce, Config, Pass, If, For, Alloc, View, Call, Block, end, next}
-use Rattle.made_trees.specs.Names.{Name, Naming, with_binder, name_statements, name_statement, top_names}
+use Rattle.made_trees.specs.Names.{Name, Naming, with_binder, name_statements, name_statement}
 
 record Longer (xs ys : List Name) : Type 0 where
   pub rest : List Name
