@@ -1,6 +1,6 @@
 -- Names that copies are given in `def p(): for i in seq(0, 1): t: i32` and in other bodies of it;
 -- its binders have the ids 0 and 1, those of copies have ids from 2 on.
-use Rattle.std.proofs.Common.{◌≡◌, ℕ, pos, List, [], ◌∷◌, Option, None, refl, codes}
+use Rattle.std.proofs.Common.{◌≡◌, ℕ, pos, List, [], None, refl, codes}
 use Rattle.exo_tree.specs.Tree.{I32, Lit, For, Alloc, Block, end, next, Procedure}
 use Rattle.made_trees.specs.Names.{numbered, named_copies}
 
