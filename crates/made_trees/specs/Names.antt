@@ -4,8 +4,8 @@
 use Rattle.std.specs.Prelude.{ℕ, zero, suc, nat_lt, ◌==◌, Bool, ◌||◌, if◌then◌else◌}
 use Rattle.std.specs.Prelude.{List, [], ◌∷◌, ◌++◌, length, map, codes, decimal}
 use Rattle.std.specs.List.{list_any}
-use Rattle.exo_tree.specs.Tree.{Binder, Param, Statement, Assign, Reduce, Config, Pass, If, For, Alloc}
-use Rattle.exo_tree.specs.Tree.{View, Call, Block, end, next, Procedure}
+use Rattle.exo_tree.specs.Tree.{Binder, Param, Statement, Assign, Reduce, Config, Pass, If, For}
+use Rattle.exo_tree.specs.Tree.{Alloc, View, Call, Block, end, next, Procedure}
 use Rattle.exo_tree.specs.Mapped.{Leaves, unchanged, mapped_block}
 use Rattle.exo_meaning.specs.Units.{is_text}
 
