@@ -1,5 +1,5 @@
 pub mod Above
-pub mod Counts
-pub mod Names
-pub mod Passes
-pub mod Scopes
+mod Counts
+mod Names
+mod Passes
+mod Scopes

@@ -143,4 +143,5 @@ first_naming p =
 -- a new body of the procedure, with names for its copies, whose binders have ids from `copies` on
 abbrev pub named_copies : Procedure → ℕ → Block → Block
 named_copies p copies b =
-    mapped_block (with_names (name_statements copies (top_names copies b) (first_naming p) b).given) b
+    let top = top_names copies b in
+    mapped_block (with_names (name_statements copies top (first_naming p) b).given) b
