@@ -22,5 +22,7 @@ pub mod Views
 pub mod WithoutCalls
 pub mod Bound
 pub mod Begun
+pub mod Entered
+pub mod Given
 pub mod Functions
 pub mod Instance
