@@ -24,5 +24,7 @@ pub mod Bound
 pub mod Begun
 pub mod Entered
 pub mod Given
+pub mod Composed
+pub mod CallEntry
 pub mod Functions
 pub mod Instance
