@@ -26,5 +26,7 @@ pub mod Entered
 pub mod Given
 pub mod Composed
 pub mod CallEntry
+pub mod Back
+pub mod CallExit
 pub mod Functions
 pub mod Instance
