@@ -28,5 +28,7 @@ pub mod Composed
 pub mod CallEntry
 pub mod Back
 pub mod CallExit
+pub mod Called
+pub mod CallClause
 pub mod Functions
 pub mod Instance
