@@ -30,5 +30,7 @@ pub mod Back
 pub mod CallExit
 pub mod Called
 pub mod CallClause
+pub mod Reading
+pub mod Arguments
 pub mod Functions
 pub mod Instance
