@@ -32,5 +32,6 @@ pub mod Called
 pub mod CallClause
 pub mod Reading
 pub mod Arguments
+pub mod Wholes
 pub mod Functions
 pub mod Instance
