@@ -42,7 +42,7 @@ some_cells i j n h = one i j (and_parts (int_le (pos 0) i) (int_lt i j) (and_par
 
 module _ (scene : Scene) where
   -- the first cell of a window is at its lower ends
-  first_at : (sides : List Side) (cs : List Coord) (result : List Side) → narrowed scene sides cs ≡ Some result → cell_at sides (numbers scene (map lower_end cs)) ≡ Some (lower_ends result)
+  pub first_at : (sides : List Side) (cs : List Coord) (result : List Side) → narrowed scene sides cs ≡ Some result → cell_at sides (numbers scene (map lower_end cs)) ≡ Some (lower_ends result)
   first_at [] [] result e = ap (λ r. Some (lower_ends r)) (some_same e)
   first_at [] (c ∷ cs) result e = absurd (no_some e)
   first_at (Point p ∷ sides) cs result e =
@@ -86,7 +86,7 @@ module _ (scene : Scene) where
     none_have (c ∷ cs) [] = tt
     none_have (c ∷ cs) (side ∷ r) = tt
 
-    spans_have : (sides : List Side) (cs : List Coord) (result : List Side) → narrowed scene sides cs ≡ Some result → (es : List Number64) (ts : List ℤ) → HaveNumbers s es (strides_of sides ts) → HaveNumbers s (at_spans cs es) (strides_of result ts)
+    pub spans_have : (sides : List Side) (cs : List Coord) (result : List Side) → narrowed scene sides cs ≡ Some result → (es : List Number64) (ts : List ℤ) → HaveNumbers s es (strides_of sides ts) → HaveNumbers s (at_spans cs es) (strides_of result ts)
     spans_have [] [] result e es ts h = subst (λ r. HaveNumbers s [] (strides_of r ts)) (some_same e) tt
     spans_have [] (c ∷ cs) result e es ts h = absurd (no_some e)
     spans_have (side ∷ sides) cs result e [] [] h = none_have cs result
@@ -154,7 +154,7 @@ surely R a (Done b) h = (b, refl, h)
 surely R a Fault h = absurd h
 surely R a NoStore h = absurd (h tt)
 
-good_ends : (forms : Forms) (most : ℕ → ℕ) (cs : List Coord) → AreGoodCoords forms most cs → AreGood forms most (map lower_end cs)
+pub good_ends : (forms : Forms) (most : ℕ → ℕ) (cs : List Coord) → AreGoodCoords forms most cs → AreGood forms most (map lower_end cs)
 good_ends forms most [] h = (tt, tt)
 good_ends forms most (At a ∷ cs) h = let rest = good_ends forms most cs h.1 in ((h.0.0, rest.0), (h.0.1, rest.1))
 good_ends forms most (Span a b ∷ cs) h = let rest = good_ends forms most cs h.1 in ((h.0.0.0, rest.0), (h.0.0.1, rest.1))

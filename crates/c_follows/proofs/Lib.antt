@@ -33,5 +33,7 @@ pub mod CallClause
 pub mod Reading
 pub mod Arguments
 pub mod Wholes
+pub mod Lanes
+pub mod WithCalls
 pub mod Functions
 pub mod Instance

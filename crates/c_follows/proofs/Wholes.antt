@@ -148,7 +148,7 @@ module _ (Few : Type 0) (g : Ground) (forms : Forms) (most : ℕ → ℕ) (root 
         ∙ ap (λ o. after o (inside m.setting)) (first_from lanes (layout x) plain)
         ∙ subst (λ p. inside m.setting p ≡ Done p) back (cell_inside layout s.scene m.setting match.placed x (tensor cell t.extents) t.shape (origin t.extents) (origin_in t.extents t.positive))
 
-    strides_are : HaveNumbers m.setting strides (row_major t.extents)
+    pub strides_are : HaveNumbers m.setting strides (row_major t.extents)
     strides_are =
         let same = t.numbers_are s.scene refl in
         subst (λ l. HaveNumbers m.setting strides (row_major l)) same (rows_have g.naming forms most layout s.scene m.setting match.names match.placed dims t.plain t.narrow (ap all_positive same ∙ t.positive) (subst (λ l. product l ≤ℤ pos (2 ^ 48)) (sym same) t.few))
