@@ -1,8 +1,19 @@
 //! Laws of the C, each the contract of a function with nothing to do.
 
-ghost use Rattle.c_follows.specs.Calls.{BlocksWithoutCallsFollow};
-ghost use Rattle.c_follows.specs.Functions.{FunctionsWithoutCallsFollow};
+ghost use Rattle.c_follows.specs.Calls.{BlocksFollow, BlocksWithoutCallsFollow};
+ghost use Rattle.c_follows.specs.Functions.{FunctionsFollow, FunctionsWithoutCallsFollow};
 ghost use Rattle.c_follows.specs.Instance.{BlockInstance, CallInstance, RaisedInstance};
+
+/// The C of a block follows its run, calls included, where what it calls is followed: a call by copies in the source is one
+/// in place in the C, of a function by its name or of an instruction by its number.
+pub fn blocks_follow()
+    ensures { BlocksFollow }
+{}
+
+/// From the same valid input a call of a function leaves what its procedure leaves, where what it calls is followed.
+pub fn functions_follow()
+    ensures { FunctionsFollow }
+{}
 
 /// The C of a block that calls nothing follows its run: with windows, views, and allocations of cells and of vectors on
 /// the heap and on the stack.
