@@ -37,3 +37,4 @@ pub mod Lanes
 pub mod WithCalls
 pub mod Functions
 pub mod Instance
+pub mod CallOfCall
