@@ -192,9 +192,9 @@ module _ (g own : Ground) (forms : Forms) (most : ℕ → ℕ) (root : ℕ → �
       let q = part x shape k in
       let c = cell_under x shape q is r in
       let value : inner.cells x is ≡ s.cells q.seen.buffer c.at =
-          entry_law (ℕ × List ℤ) one_spot held_there ps gs s inner e.distinct e.entered (λ b at. refl) x is
-          ∙ ap (λ o. stored held_there (spots_through one_spot o is)) q.base
-          ∙ ap (λ o. stored held_there (then_do o (one_spot q.seen.buffer))) c.seen in
+      entry_law (ℕ × List ℤ) one_spot held_there ps gs s inner e.distinct e.entered (λ b at. refl) x is
+      ∙ ap (λ o. stored held_there (spots_through one_spot o is)) q.base
+      ∙ ap (λ o. stored held_there (then_do o (one_spot q.seen.buffer))) c.seen in
       subst (λ p. IsHeld (inner.cells x is) (m.contents p.object p.offset)) (sym c.spot)
       (subst (λ v. IsHeld v (m.contents (spot_of layout q.seen.buffer q.part.shape c.at).object (spot_of layout q.seen.buffer q.part.shape c.at).offset)) (sym value)
       (match.cells q.seen.buffer q.part.shape q.part.buffer c.at c.inside))

@@ -94,13 +94,13 @@ module _ (outer : State) (forms : Forms) (most : ℕ → ℕ) where
       let w = where_parts (same_index ds (extents z.sides) && all_positive ds) (Some made) u e in
       let q = and_parts (same_index ds (extents z.sides)) (all_positive ds) w.0 in
       let copy : IsCopy outer made.scene x cell dims z =
-          let again : ds ≡ numbers made.scene dims = numbers_by_control forms t.scene made.scene refl dims good.0 in
-          record {
-            buffer = ap (λ b. cond b (Some shape) (t.scene.buffers x)) (eq-eqb x x refl) ∙ ap (λ es. Some (record { cell = cell; dims = es; strides = strides_seen outer.scene z })) again;
-            view = ap (λ b. cond b (Some (record { buffer = x; sides = whole ds })) (t.scene.views x)) (eq-eqb x x refl) ∙ ap (λ es. Some (record { buffer = x; sides = whole es })) again;
-            dims_are = sym again ∙ (signed_items ds (extents z.sides)).0 q.0;
-            positive = ap all_positive (sym again) ∙ q.1;
-          } in
+      let again : ds ≡ numbers made.scene dims = numbers_by_control forms t.scene made.scene refl dims good.0 in
+      record {
+        buffer = ap (λ b. cond b (Some shape) (t.scene.buffers x)) (eq-eqb x x refl) ∙ ap (λ es. Some (record { cell = cell; dims = es; strides = strides_seen outer.scene z })) again;
+        view = ap (λ b. cond b (Some (record { buffer = x; sides = whole ds })) (t.scene.views x)) (eq-eqb x x refl) ∙ ap (λ es. Some (record { buffer = x; sides = whole es })) again;
+        dims_are = sym again ∙ (signed_items ds (extents z.sides)).0 q.0;
+        positive = ap all_positive (sym again) ∙ q.1;
+      } in
       let grows : Grows (λ y. (y == x) ≡ false) t made = record {
         control = refl;
         fields = refl;
@@ -156,8 +156,7 @@ module _ (outer : State) (forms : Forms) (most : ℕ → ℕ) where
       let m = then_gives (bind_buffer outer p.binder.id p.kind g t) (bind_buffers outer ps gs) u e in
       let v = m.0 in
       let one = one_bound p.binder.id p.kind good.0 g t v (unbound p.binder.id (ap (λ b. b || is_buffer_of p.binder.id ps) (eq-eqb p.binder.id p.binder.id refl))) m.1 in
-      let rest = all_bound ps gs v u d.1 good.1 (λ x i. let far = not_first p ps d.0 x i in let was = unbound x (ap (λ b. b || is_buffer_of x ps) far ∙ i) in (one.0.buffers x far ∙ was.0, one.0.views x far ∙ was.1)) m.2 in
-      (
+      let rest = all_bound ps gs v u d.1 good.1 (λ x i. let far = not_first p ps d.0 x i in let was = unbound x (ap (λ b. b || is_buffer_of x ps) far ∙ i) in (one.0.buffers x far ∙ was.0, one.0.views x far ∙ was.1)) m.2 in (
         record {
           control = rest.0.control ∙ one.0.control;
           fields = rest.0.fields ∙ one.0.fields;

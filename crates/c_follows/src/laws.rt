@@ -1,6 +1,7 @@
 //! Laws of the C, each the contract of a function with nothing to do.
 
 ghost use Rattle.c_follows.specs.Calls.{BlocksFollow, BlocksWithoutCallsFollow};
+ghost use Rattle.c_follows.specs.CallOfCall.{CallOfCall};
 ghost use Rattle.c_follows.specs.Functions.{FunctionsFollow, FunctionsWithoutCallsFollow};
 ghost use Rattle.c_follows.specs.Instance.{BlockInstance, CallInstance, RaisedInstance};
 
@@ -35,6 +36,11 @@ pub fn block_instance()
 /// A call that hands on a column of a tensor meets what is asked of statements.
 pub fn call_instance()
     ensures { CallInstance }
+{}
+
+/// A block that calls an instruction that calls an instruction meets what the law on blocks asks, and its C is done.
+pub fn call_of_call_instance()
+    ensures { CallOfCall }
 {}
 
 /// A procedure may be too wide only by what another gives it.
