@@ -1,8 +1,8 @@
 -- Arguments without lanes are the same on both sides.
-use Rattle.std.proofs.Common.{◌≡◌, ◌≤◌, ◌^◌, ℕ, zero, suc, ℤ, pos, ◌≤ℤ◌, Bool, true, false, List, [], ◌∷◌, map, length, Option, Some, None, option_map, refl, sym, ap, ◌∙◌, subst, arith, unsigned_abs, ⊎_elim}
+use Rattle.std.proofs.Common.{◌≡◌, ◌≤◌, ◌^◌, ℕ, zero, suc, ℤ, pos, ◌≤ℤ◌, Bool, true, false, List, [], ◌∷◌, length, Option, Some, None, option_map, refl, sym, ap, ◌∙◌, subst, arith, unsigned_abs, ⊎_elim}
 use Rattle.std.proofs.lemmas.Int.{ints}
 use Rattle.std.proofs.Math.Nat.{le_trans}
-use Rattle.exo_tree.specs.Tree.{Cell, Kind, Control, Coord, At, Span, Argument, ControlArg, ConditionArg, Whole, Window, Param, ParamKind, ControlParam, TensorParam, WindowParam}
+use Rattle.exo_tree.specs.Tree.{Cell, Kind, Control, Coord, At, Span, Argument, ControlArg, ConditionArg, Whole, Window, ParamKind, ControlParam, TensorParam, WindowParam}
 use Rattle.exo_meaning.specs.Scene.{Seen, Scene, Side, Point, Range, extents, strides_of, holds, number, numbers, narrowed}
 use Rattle.exo_meaning.specs.State.{State}
 use Rattle.exo_meaning.specs.Calls.{Given, GivenNumber, GivenView, given, truth}
@@ -10,7 +10,7 @@ use Rattle.exo_meaning.specs.Run.{product, row_major}
 use Rattle.exo_meaning.specs.Units.{spans}
 use Rattle.c_machine.specs.Machine.{Outcome, Done, after, Pointer, Thing, IsNumber, IsArray, IsWindow, Machine, all_numbers64}
 use Rattle.c_machine.specs.CRun.{thing_by, window_from}
-use Rattle.c_lowered.specs.Lowered.{Forms, actual_of, lower_end, at_spans, strides_in}
+use Rattle.c_lowered.specs.Lowered.{Forms, actual_of, at_spans, strides_in}
 use Rattle.c_follows.specs.Simulation.{Ground, Follows, Layout, Matches, beginning}
 use Rattle.c_follows.specs.Good.{IsBufferOf, AreGoodCoords, IsGoodArgument}
 use Rattle.c_follows.proofs.Steps.{follows_none, follows_both}
@@ -20,7 +20,7 @@ use Rattle.c_follows.proofs.Open.{open_number, open_bounded}
 use Rattle.c_follows.proofs.Tests.{test_is}
 use Rattle.c_follows.proofs.Begun.{all_extents}
 use Rattle.c_follows.proofs.Handed.{SeesPart, own, window_is, first_spot, thing_is, within_is}
-use Rattle.c_follows.proofs.Given.{IsPart, IsDense, IsSeen, IsGivenAs}
+use Rattle.c_follows.proofs.Given.{IsPart, IsDense, IsGivenAs}
 use Rattle.c_follows.proofs.Reading.{Reads, same_spot}
 
 -- ---- sides and extents

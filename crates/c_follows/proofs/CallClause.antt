@@ -7,12 +7,12 @@ use Rattle.exo_meaning.specs.Calls.{Callee, Given, all_given, entered, returned,
 use Rattle.exo_meaning.specs.Run.{World, call_to, call_to_writes}
 use Rattle.c_widths.specs.Few.{Fewness, CallAllocatesFew}
 use Rattle.c_tree.specs.CTree.{Actual, Piece}
-use Rattle.c_machine.specs.Machine.{Outcome, after, Thing, IsFunction, Setting, Machine}
+use Rattle.c_machine.specs.Machine.{Outcome, after, Thing, Setting, Machine}
 use Rattle.c_machine.specs.CRun.{Behaviour, CWorld, things, things_of_cells, run_in_place, run_function, step_c}
 use Rattle.c_lowered.specs.Lowered.{Hole, Forms, actuals_of, piece_of, called_by, call_of}
 use Rattle.c_follows.specs.Simulation.{Ground, Follows, Layout, Matches, Ran}
 use Rattle.c_follows.specs.Good.{AreGoodArguments, is_function, IsGoodCall, CallSharesNothing}
-use Rattle.c_follows.specs.Calls.{called_in, IsFollowed, CallsFollow}
+use Rattle.c_follows.specs.Calls.{called_in, CallsFollow}
 use Rattle.c_follows.proofs.Clauses.{CallClause}
 use Rattle.c_follows.proofs.Steps.{follows_then}
 use Rattle.c_follows.proofs.Given.{AreGivenAs}

@@ -1,11 +1,11 @@
 -- A call by copies, and one in place: where the callee begins, its state and the machine match.
-use Rattle.std.proofs.Common.{◌≡◌, ◌≤◌, ◌^◌, ◌==◌, ℕ, ℤ, pos, ◌≤ℤ◌, Bool, true, false, ◌&&◌, List, [], ◌∷◌, length, Option, Some, None, refl, sym, ap, ap₂, ◌∙◌, subst, true≢false, ⊎_elim, eqb-true, unsigned_abs}
+use Rattle.std.proofs.Common.{◌≡◌, ◌≤◌, ◌^◌, ◌==◌, ℕ, ℤ, pos, ◌≤ℤ◌, Bool, true, false, List, [], ◌∷◌, length, Option, Some, refl, sym, ap, ap₂, ◌∙◌, subst, ⊎_elim, eqb-true, unsigned_abs}
 use Rattle.exo_tree.specs.Tree.{Cell, Control, Param, ParamKind, ControlParam, TensorParam, WindowParam}
 use Rattle.exo_meaning.specs.Value.{Value}
-use Rattle.exo_meaning.specs.Scene.{then_do, Shape, Seen, Scene, cell_at, index_of, whole, extents, strides_of, strides_seen, LieWithin, numbers}
+use Rattle.exo_meaning.specs.Scene.{then_do, Shape, Seen, cell_at, index_of, whole, extents, strides_of, strides_seen, numbers}
 use Rattle.exo_meaning.specs.State.{State}
 use Rattle.exo_meaning.specs.Calls.{Given, GivenNumber, GivenView, entered, all_positive}
-use Rattle.exo_meaning.specs.Run.{product, row_major, tensor}
+use Rattle.exo_meaning.specs.Run.{product, row_major}
 use Rattle.exo_meaning.specs.Inputs.{is_buffer_of}
 use Rattle.exo_meaning.specs.Laws.{HasRoots}
 use Rattle.exo_meaning.proofs.Windows.{index_at_cell}
@@ -14,7 +14,7 @@ use Rattle.inplace_laws.specs.CallInPlace.{base_of, seen_of, AreDistinct}
 use Rattle.inplace_laws.specs.Addresses.{stored, spots_through}
 use Rattle.inplace_laws.proofs.Addresses.{entry_law}
 use Rattle.c_tree.specs.CTree.{Name}
-use Rattle.c_machine.specs.Machine.{Thing, IsNumber, IsField, IsFunction, IsArray, IsWindow, Object, Machine, holds_cells, same_name}
+use Rattle.c_machine.specs.Machine.{Thing, IsNumber, IsField, IsFunction, IsArray, IsWindow, Machine, holds_cells, same_name}
 use Rattle.exo_meaning.specs.Units.{same_cell}
 use Rattle.c_machine.specs.CRun.{with_names}
 use Rattle.c_lowered.specs.Lowered.{Forms, Form, NoForm, TensorForm, WindowForm, form_of, param_forms}

@@ -1,11 +1,11 @@
 -- A call by copies, and one in place: after the callee, the state and the machine of the caller match.
-use Rattle.std.proofs.Common.{◌≡◌, ◌≤◌, ◌^◌, ℕ, ℤ, true, List, Option, Some, None, refl, sym, ap, ap₂, ◌∙◌, subst, unsigned_abs, nat_lt, ⊎_elim}
+use Rattle.std.proofs.Common.{◌≡◌, ◌≤◌, ◌^◌, ℕ, ℤ, true, List, Option, Some, None, refl, sym, ap, ap₂, ◌∙◌, subst, unsigned_abs, ⊎_elim}
 use Rattle.std.proofs.Math.Nat.{le_refl}
 use Rattle.exo_tree.specs.Tree.{Param, ParamKind, ControlParam, TensorParam, WindowParam}
 use Rattle.exo_meaning.specs.Value.{Value, Undefined}
 use Rattle.exo_meaning.specs.Scene.{Shape, Seen, cell_at, index_of}
 use Rattle.exo_meaning.specs.State.{State}
-use Rattle.exo_meaning.specs.Calls.{Callee, Given, GivenNumber, GivenView, copied_back, returned}
+use Rattle.exo_meaning.specs.Calls.{Callee, Given, GivenNumber, GivenView, returned}
 use Rattle.exo_meaning.specs.Inputs.{is_buffer_of}
 use Rattle.exo_meaning.proofs.Windows.{none_is_some, cell_at_index, index_at_cell}
 use Rattle.inplace_laws.specs.CallInPlace.{base_of, seen_of}
@@ -18,7 +18,7 @@ use Rattle.c_follows.specs.Simulation.{Ground, Layout, Matches, Kept, Ran, Ends,
 use Rattle.c_follows.proofs.Windows.{some_same}
 use Rattle.c_follows.proofs.Scopes.{closed}
 use Rattle.c_follows.proofs.Entered.{IsNumbered, IsBound, HasEntered}
-use Rattle.c_follows.proofs.Given.{IsParam, param_found}
+use Rattle.c_follows.proofs.Given.{param_found}
 use Rattle.c_follows.proofs.Composed.{IsOnPart, IsAtCell, at_index, indices_in}
 use Rattle.c_follows.proofs.CallEntry.{Enters, inside, names, has, part, placed_under, cell_under}
 use Rattle.c_follows.proofs.Back.{IsWritten, back_cases}

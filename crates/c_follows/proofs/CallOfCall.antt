@@ -1,5 +1,5 @@
 -- An instruction that calls an instruction meets what the law on blocks asks.
-use Rattle.std.proofs.Common.{◌≡◌, ◌==◌, ℕ, pos, Bool, true, false, cond, List, [], ◌∷◌, Option, Some, None, refl, sym, ap, ◌∙◌, subst, arith, true≢false, eqb-true, inl, inr, ◌⊎◌}
+use Rattle.std.proofs.Common.{◌≡◌, ◌==◌, ℕ, pos, Bool, true, false, cond, [], ◌∷◌, Some, None, refl, sym, ap, ◌∙◌, subst, arith, true≢false, eqb-true, inl, inr, ◌⊎◌}
 use Rattle.std.proofs.lemmas.Int.{ints}
 use Rattle.exo_tree.specs.Tree.{I32, Lit, Whole}
 use Rattle.exo_meaning.specs.Calls.{Callee}
@@ -10,7 +10,7 @@ use Rattle.c_machine.specs.Machine.{same_name}
 use Rattle.c_machine.specs.Examples.{bare, alone}
 use Rattle.c_machine.specs.CRun.{Behaviour, run_c}
 use Rattle.c_lowered.specs.Lowered.{NoForm, TensorForm, param_forms, block_of}
-use Rattle.c_follows.specs.Simulation.{Ground, Matches}
+use Rattle.c_follows.specs.Simulation.{Matches}
 use Rattle.c_follows.specs.Good.{IsFresh, FitsMemory, AreNamedApart}
 use Rattle.c_follows.specs.Calls.{called_in, IsFollowed, CallsFollow}
 use Rattle.c_follows.specs.Instance.{nothing, zero_bounds, itself, layout, empty}

@@ -1,5 +1,5 @@
 -- Where a callee's buffers lie: in those of its caller.
-use Rattle.std.proofs.Common.{◌≡◌, ◌^◌, ℕ, ℤ, pos, ◌+ℤ◌, ◌≤ℤ◌, nat_lt, Bool, true, false, ◌&&◌, List, [], ◌∷◌, length, Option, Some, None, option_map, refl, sym, ap, ◌∙◌, subst, arith, true≢false}
+use Rattle.std.proofs.Common.{◌≡◌, ◌^◌, ℕ, ℤ, pos, ◌+ℤ◌, ◌≤ℤ◌, nat_lt, Bool, true, false, List, [], ◌∷◌, length, Option, Some, None, option_map, refl, sym, ap, ◌∙◌, subst, arith, true≢false}
 use Rattle.std.proofs.lemmas.Int.{ints}
 use Rattle.std.proofs.lemmas.Bool.{and_from, and_parts}
 use Rattle.std.proofs.Math.IntN.{+ℤ_assoc}
@@ -16,7 +16,7 @@ use Rattle.c_follows.specs.Simulation.{Layout, IsPlaced, beginning, lower_ends, 
 use Rattle.c_follows.specs.Good.{AreGoodParams}
 use Rattle.c_follows.proofs.Windows.{some_same, no_some, mapped, tested, natural_strides, natural_dot, natural_lower, seen_in_range, window_offset, strides_length}
 use Rattle.c_follows.proofs.Entered.{IsBound, IsCopy, HasEntered}
-use Rattle.c_follows.proofs.Given.{IsPart, IsGivenAs, AreGivenAs, IsParam, param_found}
+use Rattle.c_follows.proofs.Given.{IsPart, IsGivenAs, AreGivenAs, param_found}
 
 -- ---- indices of a part
 

@@ -1,9 +1,9 @@
 -- The first state of a callee, parameter by parameter.
-use Rattle.std.proofs.Common.{◌≡◌, ◌==◌, ◌&&◌, ◌||◌, ℕ, ℤ, pos, Bool, true, false, cond, List, [], ◌∷◌, Option, Some, None, refl, sym, ap, ap₂, ◌∙◌, subst, true≢false, eqb-true, eq-eqb}
+use Rattle.std.proofs.Common.{◌≡◌, ◌==◌, ◌&&◌, ◌||◌, ℕ, ℤ, pos, Bool, true, false, cond, List, [], ◌∷◌, Some, None, refl, sym, ap, ◌∙◌, subst, true≢false, eqb-true, eq-eqb}
 use Rattle.std.specs.Cmp.Rules.{signed_items}
 use Rattle.std.proofs.lemmas.Bool.{and_parts}
 use Rattle.exo_tree.specs.Tree.{Cell, Control, Param, ParamKind, ControlParam, TensorParam, WindowParam}
-use Rattle.exo_meaning.specs.Scene.{Shape, Seen, Scene, whole, extents, strides_seen, numbers, updated, where_true}
+use Rattle.exo_meaning.specs.Scene.{Shape, Seen, Scene, whole, extents, strides_seen, numbers, updated}
 use Rattle.exo_meaning.specs.State.{State, same_index, with_buffer, with_contents, on_scene}
 use Rattle.exo_meaning.specs.Calls.{Given, GivenNumber, GivenView, contents, suits, bind_number, bind_numbers, bind_buffer, bind_buffers, copy_in, all_positive, bare, entered}
 use Rattle.exo_meaning.specs.Inputs.{is_buffer_of}

@@ -1,6 +1,6 @@
 -- Arguments that are the same on both sides, and what they make of a callee's parameters.
-use Rattle.std.proofs.Common.{◌≡◌, ◌≤◌, ◌^◌, ◌==◌, ◌||◌, ℕ, ℤ, pos, ◌≤ℤ◌, Bool, true, false, cond, List, [], ◌∷◌, length, Option, Some, None, refl, sym, ap, ◌∙◌, subst, unsigned_abs, true≢false, eqb-true}
-use Rattle.exo_tree.specs.Tree.{Cell, Control, Param, ParamKind, ControlParam, TensorParam, WindowParam}
+use Rattle.std.proofs.Common.{◌≡◌, ◌≤◌, ◌^◌, ◌==◌, ◌||◌, ℕ, pos, ◌≤ℤ◌, Bool, true, false, cond, List, [], ◌∷◌, length, Some, refl, sym, ap, ◌∙◌, subst, unsigned_abs, true≢false, eqb-true}
+use Rattle.exo_tree.specs.Tree.{Cell, Param, ParamKind, ControlParam, TensorParam, WindowParam}
 use Rattle.exo_meaning.specs.Scene.{Shape, Seen, Scene, whole, extents, strides_of, LieWithin}
 use Rattle.exo_meaning.specs.State.{State}
 use Rattle.exo_meaning.specs.Calls.{Given, GivenNumber, GivenView}
@@ -12,7 +12,7 @@ use Rattle.c_lowered.specs.Lowered.{Forms, NoForm, form_of, param_forms}
 use Rattle.c_follows.specs.Simulation.{Layout, beginning}
 use Rattle.c_follows.specs.Good.{IsGoodParam, AreGoodParams}
 use Rattle.c_follows.proofs.Bound.{thing_of}
-use Rattle.c_follows.proofs.Entered.{IsNumbered, AreNumbered, IsBound, AreBound, HasEntered}
+use Rattle.c_follows.proofs.Entered.{IsNumbered, AreNumbered, IsBound, AreBound}
 
 -- ---- what is handed on
 

@@ -1,20 +1,20 @@
 -- Parts of buffers with lanes as arguments of an instruction: the offset in vectors is that in cells.
-use Rattle.std.proofs.Common.{◌≡◌, ◌≤◌, ◌==◌, ◌*◌, ◌+◌, ◌^◌, ℕ, zero, suc, ℤ, pos, ◌+ℤ◌, ◌*ℤ◌, ◌≤ℤ◌, Bool, true, false, ◌&&◌, List, [], ◌∷◌, map, length, Option, Some, None, option_map, refl, sym, ap, ap₂, ◌∙◌, subst, arith, true≢false, ⊎_elim, eq-eqb}
+use Rattle.std.proofs.Common.{◌≡◌, ◌≤◌, ◌==◌, ◌*◌, ◌+◌, ◌^◌, ℕ, suc, ℤ, pos, ◌+ℤ◌, ◌*ℤ◌, ◌≤ℤ◌, Bool, true, false, ◌&&◌, List, [], ◌∷◌, map, length, Option, Some, None, option_map, refl, sym, ap, ap₂, ◌∙◌, subst, arith, true≢false, ⊎_elim, eq-eqb}
 use Rattle.std.specs.Prelude.{IfSome}
 use Rattle.std.proofs.lemmas.Int.{ints}
 use Rattle.std.proofs.lemmas.Bool.{and_from, and_parts}
-use Rattle.exo_tree.specs.Tree.{Cell, Control, Lit, Coord, At, Span, Argument, Window, Param, ParamKind, WindowParam}
-use Rattle.exo_meaning.specs.Scene.{then_do, Scene, Seen, Side, is_below, whole, cell_at, extents, strides_of, LieWithin, numbers, narrowed, window}
+use Rattle.exo_tree.specs.Tree.{Cell, Control, Coord, Window, ParamKind, WindowParam}
+use Rattle.exo_meaning.specs.Scene.{then_do, Scene, Seen, Side, is_below, whole, strides_of, LieWithin, numbers, narrowed}
 use Rattle.exo_meaning.specs.State.{State}
 use Rattle.exo_meaning.specs.Calls.{Given, GivenView, given}
 use Rattle.exo_meaning.specs.Run.{product, row_major, tensor}
 use Rattle.exo_meaning.specs.Units.{spans, same_cell}
 use Rattle.inplace_laws.proofs.Sides.{narrowed_within}
 use Rattle.c_tree.specs.CTree.{Number64, WindowOf, InArray}
-use Rattle.c_machine.specs.Machine.{Outcome, Done, after, where_good, Pointer, Thing, IsVectors, IsWindow, Machine, number64, moved, inside, spot_by, all_numbers64, holds_cells}
+use Rattle.c_machine.specs.Machine.{Outcome, Done, after, where_good, Pointer, Thing, IsWindow, Machine, number64, moved, inside, spot_by, all_numbers64, holds_cells}
 use Rattle.c_machine.specs.CRun.{thing_by, window_from}
 use Rattle.c_lowered.specs.Lowered.{Form, Forms, TensorForm, actual_of, at_spans, lower_end, strides_in, cell_ref, numbers_of, front, offset, dims_of, row_strides}
-use Rattle.c_follows.specs.Simulation.{Ground, Follows, Layout, Matches, IsTensor, HaveNumbers, EndsIn, beginning, lower_ends, dot, in_range, spot_of}
+use Rattle.c_follows.specs.Simulation.{Ground, Follows, Layout, Matches, IsTensor, HaveNumbers, EndsIn, beginning, lower_ends, dot, in_range}
 use Rattle.c_follows.specs.Good.{AreGoodCoords, EndsInSpan}
 use Rattle.c_follows.proofs.Steps.{follows_none, follows_both}
 use Rattle.c_follows.proofs.Offsets.{index_of}
@@ -24,7 +24,7 @@ use Rattle.c_follows.proofs.Places.{whole_cell, cell_inside, tensor_here}
 use Rattle.c_follows.proofs.Open.{whole_strides}
 use Rattle.c_follows.proofs.Simulate.{same_itself}
 use Rattle.c_follows.proofs.Handed.{first_at, spans_have, good_ends, all_numbers, have_length, whole_in_whole}
-use Rattle.c_follows.proofs.Given.{IsPart, IsSeen, IsGivenAs}
+use Rattle.c_follows.proofs.Given.{IsPart, IsGivenAs}
 use Rattle.c_follows.proofs.Reading.{Reads}
 use Rattle.c_follows.proofs.Arguments.{narrowed_spans}
 use Rattle.c_follows.proofs.Wholes.{front_have, strides_are}

@@ -1,12 +1,12 @@
 -- How a call reads its arguments: as they are for a function, and as cells for an instruction.
-use Rattle.std.proofs.Common.{◌≡◌, ℕ, ℤ, pos, ◌*ℤ◌, Bool, true, false, List, [], ◌∷◌, map, Option, Some, None, refl, sym, ap, ap₂, ◌∙◌, subst, ⊎_elim, true≢false}
-use Rattle.exo_tree.specs.Tree.{Cell, Control, Argument, Param}
+use Rattle.std.proofs.Common.{◌≡◌, ℕ, ℤ, pos, ◌*ℤ◌, Bool, true, false, List, [], ◌∷◌, map, Option, Some, None, refl, sym, ap, ◌∙◌, subst, ⊎_elim, true≢false}
+use Rattle.exo_tree.specs.Tree.{Cell, Argument, Param}
 use Rattle.exo_meaning.specs.Calls.{given, all_given, Given}
 use Rattle.exo_meaning.specs.State.{State}
-use Rattle.c_tree.specs.CTree.{Name, Number64, Actual, InArray}
-use Rattle.c_machine.specs.Machine.{Outcome, Done, Fault, NoStore, after, Pointer, Thing, IsNumber, IsArray, IsVectors, IsWindow, Setting, Machine, moved, number64, inside, from_array, from_elements, spot, spot_by}
+use Rattle.c_tree.specs.CTree.{Name, Number64, InArray}
+use Rattle.c_machine.specs.Machine.{Outcome, Done, Fault, NoStore, after, Pointer, Thing, IsNumber, IsArray, IsVectors, IsWindow, Machine, moved, number64, inside, from_array, from_elements, spot, spot_by}
 use Rattle.c_machine.specs.CRun.{as_cells, thing_by, things_by, things, things_of_cells}
-use Rattle.c_lowered.specs.Lowered.{Naming, Forms, TensorForm, WindowForm, cell_ref, dims_of, offset, actual_of, actuals_of}
+use Rattle.c_lowered.specs.Lowered.{Forms, cell_ref, dims_of, offset, actual_of, actuals_of}
 use Rattle.c_follows.specs.Simulation.{Ground, Follows, Layout, Matches}
 use Rattle.c_follows.specs.Good.{IsBufferOf, IsGoodArgument, AreGoodArguments}
 use Rattle.c_follows.proofs.Steps.{follows_then, follows_map, follows_weaken}

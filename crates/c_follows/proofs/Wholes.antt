@@ -1,19 +1,19 @@
 -- Whole buffers as arguments, with lanes and without.
-use Rattle.std.proofs.Common.{◌≡◌, ◌≤◌, ◌==◌, ◌^◌, ℕ, zero, suc, ℤ, pos, ◌+ℤ◌, ◌*ℤ◌, ◌≤ℤ◌, Bool, true, false, ◌&&◌, List, [], ◌∷◌, length, Option, Some, None, option_map, refl, sym, ap, ap₂, ◌∙◌, subst, arith, int_le, ⊎_elim, eq-eqb, unsigned_abs}
+use Rattle.std.proofs.Common.{◌≡◌, ◌≤◌, ◌==◌, ◌^◌, ℕ, zero, suc, ℤ, pos, ◌+ℤ◌, ◌*ℤ◌, ◌≤ℤ◌, Bool, true, false, ◌&&◌, List, [], ◌∷◌, length, Option, Some, option_map, refl, sym, ap, ap₂, ◌∙◌, subst, arith, int_le, ⊎_elim, eq-eqb, unsigned_abs}
 use Rattle.std.proofs.lemmas.Int.{ints}
 use Rattle.std.proofs.lemmas.Bool.{and_from, and_parts}
 use Rattle.std.proofs.Math.IntN.{zero-*ℤ}
-use Rattle.exo_tree.specs.Tree.{Cell, Control, Argument, Whole, Param, ParamKind, TensorParam, WindowParam}
-use Rattle.exo_meaning.specs.Scene.{Shape, Seen, is_below, whole, extents, strides_of, numbers}
+use Rattle.exo_tree.specs.Tree.{Cell, Control, Whole, ParamKind, TensorParam, WindowParam}
+use Rattle.exo_meaning.specs.Scene.{Seen, is_below, whole, extents, strides_of, numbers}
 use Rattle.exo_meaning.specs.State.{State}
 use Rattle.exo_meaning.specs.Calls.{Given, GivenView, given, all_positive}
 use Rattle.exo_meaning.specs.Run.{product, row_major, tensor}
 use Rattle.exo_meaning.specs.Units.{same_cell}
 use Rattle.c_tree.specs.CTree.{Name, Number64, Sum, Product, Literal, InArray}
-use Rattle.c_machine.specs.Machine.{Outcome, Done, after, where_good, Pointer, Thing, IsArray, IsVectors, IsWindow, Setting, Machine, number64, moved, inside, spot_by, all_numbers64, holds_cells}
+use Rattle.c_machine.specs.Machine.{Outcome, Done, after, where_good, Pointer, Thing, IsArray, IsVectors, IsWindow, Setting, Machine, number64, inside, spot_by, all_numbers64, holds_cells}
 use Rattle.c_machine.specs.CRun.{thing_by, thing_alone, window_from}
 use Rattle.c_lowered.specs.Lowered.{Forms, TensorForm, WindowForm, actual_of, whole_window, zeros, front, without_lanes, offset, horner, dims_of, row_strides}
-use Rattle.c_follows.specs.Simulation.{Ground, Follows, Layout, Matches, IsTensor, IsWindowName, HaveNumbers, array_at, beginning, lower_ends, dot, in_range}
+use Rattle.c_follows.specs.Simulation.{Ground, Follows, Layout, Matches, IsTensor, HaveNumbers, array_at, beginning, lower_ends, dot, in_range}
 use Rattle.c_follows.specs.Good.{IsHandedWhole, IsHandedTensor}
 use Rattle.c_follows.proofs.Steps.{follows_both}
 use Rattle.c_follows.proofs.Numbers.{same_numbers, on_both_done}
@@ -22,7 +22,7 @@ use Rattle.c_follows.proofs.Open.{whole_strides, rows_have}
 use Rattle.c_follows.proofs.Simulate.{same_itself}
 use Rattle.c_follows.proofs.Handed.{all_numbers, have_length, whole_in_whole}
 use Rattle.c_follows.proofs.Begun.{whole_begins, all_extents, at_first}
-use Rattle.c_follows.proofs.Given.{IsPart, IsDense, IsSeen, IsGivenAs}
+use Rattle.c_follows.proofs.Given.{IsPart, IsGivenAs}
 use Rattle.c_follows.proofs.Reading.{Reads}
 use Rattle.c_follows.proofs.Arguments.{numbers_length}
 

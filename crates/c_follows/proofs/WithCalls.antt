@@ -1,15 +1,15 @@
 -- Blocks follow, with calls.
-use Rattle.std.proofs.Common.{◌≡◌, ℕ, zero, suc, ℤ, Bool, true, false, List, [], ◌∷◌, length, Option, refl, sym, ap, ◌∙◌, subst, true≢false, arith, ⊎_elim, inl, inr}
-use Rattle.exo_tree.specs.Tree.{Cell, Control, Coord, Argument, ControlArg, ConditionArg, Whole, Window, Param, ParamKind, ControlParam, TensorParam, WindowParam}
+use Rattle.std.proofs.Common.{◌≡◌, ℕ, zero, suc, ℤ, Bool, true, false, List, [], ◌∷◌, length, Option, refl, arith, ⊎_elim}
+use Rattle.exo_tree.specs.Tree.{Cell, Control, Coord, Argument, ControlArg, ConditionArg, Whole, Window, ParamKind, ControlParam, TensorParam, WindowParam}
 use Rattle.exo_meaning.specs.State.{State}
-use Rattle.exo_meaning.specs.Calls.{Given, given}
+use Rattle.exo_meaning.specs.Calls.{given}
 use Rattle.c_widths.specs.Few.{Fewness, AllocatesFew, no_fewness, fewness_from}
 use Rattle.exo_meaning.specs.Run.{World}
 use Rattle.c_machine.specs.Machine.{Outcome, Pointer, Thing, Machine, from_array, from_elements}
 use Rattle.c_machine.specs.CRun.{CWorld, as_cells, thing_by, things, things_of_cells}
 use Rattle.c_lowered.specs.Lowered.{Forms, TensorForm, actual_of}
 use Rattle.c_follows.specs.Simulation.{Ground, Follows, Layout, Matches}
-use Rattle.c_follows.specs.Good.{IsAnyBuffer, IsHandedPart, IsGoodArgument, AreGoodCoords, EndsInSpan}
+use Rattle.c_follows.specs.Good.{IsAnyBuffer, IsGoodArgument, AreGoodCoords, EndsInSpan}
 use Rattle.c_follows.specs.Calls.{CallsFollow, BlocksFollow}
 use Rattle.exo_meaning.specs.Units.{spans}
 use Rattle.c_follows.proofs.Clauses.{CallClause}

@@ -1,5 +1,5 @@
 -- A closed instance of calls: an instruction that calls an instruction.
-use Rattle.std.specs.Prelude.{◌≡◌, ◌==◌, ℕ, pos, Bool, true, false, List, [], ◌∷◌, codes, Option, Some, None, slice_get}
+use Rattle.std.specs.Prelude.{◌≡◌, ◌==◌, ℕ, pos, Bool, true, false, List, [], ◌∷◌, codes, Some, slice_get}
 use Rattle.std.specs.Option.{IsSome}
 use Rattle.exo_tree.specs.Tree.{Kind, Size, I32, Lit, Const, Assign, Alloc, Whole, Call, Block, end, next, Param, TensorParam, Procedure}
 use Rattle.exo_meaning.specs.Calls.{Callee}
@@ -17,7 +17,12 @@ use Rattle.c_follows.specs.Instance.{naming_with, nothing, zero_bounds, itself, 
 
 -- (t: i32[2])
 abbrev pub params : List Param
-params = record { binder = record { id = 0; name = codes "t" }; kind = TensorParam I32 (Lit (pos 2) ∷ []) 0 } ∷ []
+params =
+    record {
+      binder = record { id = 0; name = codes "t" };
+      kind = TensorParam I32 (Lit (pos 2) ∷ []) 0;
+    }
+    ∷ []
 
 abbrev pub of_body : Block → Procedure
 of_body b = record { name = codes "f"; params = params; asserts = []; body = b; template = Some [] }
@@ -35,7 +40,9 @@ procedures = setting_one ∷ passing_on ∷ []
 
 -- t : i32[2], and a call of the second with it
 abbrev pub calling_both : Block
-calling_both = next (Alloc (record { id = 0; name = codes "t" }) I32 (Lit (pos 2) ∷ []) 0) (next (Call 1 (Whole 0 ∷ [])) end)
+calling_both =
+    next (Alloc (record { id = 0; name = codes "t" }) I32 (Lit (pos 2) ∷ []) 0)
+    (next (Call 1 (Whole 0 ∷ [])) end)
 
 -- ---- on both sides
 
