@@ -38,3 +38,4 @@ pub mod WithCalls
 pub mod Functions
 pub mod Instance
 pub mod CallOfCall
+pub mod Overlapping

@@ -8,3 +8,4 @@ pub mod Units
 pub mod Functions
 pub mod Instance
 pub mod CallOfCall
+pub mod Overlapping
