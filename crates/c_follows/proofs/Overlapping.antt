@@ -1,21 +1,19 @@
 -- A call that hands on two windows that overlap meets what the law on blocks asks.
-use Rattle.std.proofs.Common.{◌≡◌, ◌==◌, ◌&&◌, ◌||◌, ℕ, pos, Bool, true, false, cond, List, [], ◌∷◌, Option, Some, None, refl, sym, ap, ◌∙◌, subst, arith, true≢false, eqb-true, inl, inr, ◌⊎◌}
+use Rattle.std.proofs.Common.{◌≡◌, ◌==◌, ◌&&◌, ◌||◌, ℕ, pos, Bool, true, false, cond, List, [], ◌∷◌, Some, None, refl, sym, ap, ◌∙◌, subst, arith, true≢false, eqb-true, inl, inr, ◌⊎◌}
 use Rattle.std.proofs.lemmas.Int.{ints}
-use Rattle.exo_tree.specs.Tree.{I32, Control, Lit, Span, Whole, Window}
+use Rattle.exo_tree.specs.Tree.{I32, Control, Lit}
 use Rattle.exo_meaning.specs.Calls.{Callee}
 use Rattle.exo_meaning.specs.Scene.{updated}
-use Rattle.inplace_laws.specs.Shared.{DoNotShare}
 use Rattle.c_widths.specs.Few.{no_fewness, fewness_from}
-use Rattle.c_machine.specs.Machine.{same_name}
 use Rattle.c_machine.specs.Examples.{bare, alone}
 use Rattle.c_machine.specs.CRun.{Behaviour, run_c}
 use Rattle.c_lowered.specs.Lowered.{NoForm, TensorForm, Forms, param_forms, block_of}
-use Rattle.c_follows.specs.Simulation.{Ground, Matches}
+use Rattle.c_follows.specs.Simulation.{Matches}
 use Rattle.c_follows.specs.Good.{IsFresh, FitsMemory, AreNamedApart}
 use Rattle.c_follows.specs.Calls.{called_in, IsFollowed, CallsFollow}
 use Rattle.c_follows.specs.Instance.{nothing, zero_bounds, itself, layout, empty}
 use Rattle.c_follows.specs.CallOfCall.{no_kinds, lower_world}
-use Rattle.c_follows.specs.Overlapping.{params, adding, overlapping, callee, world, few_of, ground_with, own_ground, top_ground, adding_c, c_world, Overlapping}
+use Rattle.c_follows.specs.Overlapping.{params, adding, overlapping, callee, world, few_of, own_ground, top_ground, adding_c, c_world, Overlapping}
 use Rattle.c_follows.proofs.Windows.{some_same, no_some}
 use Rattle.c_follows.proofs.Instance.{machine_of}
 use Rattle.c_follows.proofs.WithCalls.{blocks_follow}
@@ -74,7 +72,7 @@ adding_follows = record {
   distinct = (refl, (refl, (refl, tt)));
   good = (((tt, tt), (omega arith, tt)), (((tt, tt), (omega arith, tt)), (((tt, tt), (omega arith, tt)), tt)));
   follows = λ place s m match. blocks_follow own_ground (param_forms params) zero_bounds itself place lower_world no_kinds [] alone adding.body no_calls
-    (((I32, inr (Lit (pos 2) ∷ [], refl, refl)), ((tt, tt), (omega arith, tt)), (((I32, inl (refl, refl)), ((tt, tt), (omega arith, tt))), ((I32, inl (refl, refl)), ((tt, tt), (omega arith, tt))))), tt) (λ y e. e) (tt, tt) s m match;
+      (((I32, inr (Lit (pos 2) ∷ [], refl, refl)), ((tt, tt), (omega arith, tt)), (((I32, inl (refl, refl)), ((tt, tt), (omega arith, tt))), ((I32, inl (refl, refl)), ((tt, tt), (omega arith, tt))))), tt) (λ y e. e) (tt, tt) s m match;
 }
 
 abbrev IsFirst : ℕ → Type 0

@@ -1,5 +1,5 @@
 -- A closed instance of calls: two windows that overlap are handed on to be read.
-use Rattle.std.specs.Prelude.{◌≡◌, ◌==◌, ℕ, pos, Bool, true, false, List, [], ◌∷◌, codes, Option, Some, None, slice_get}
+use Rattle.std.specs.Prelude.{◌≡◌, ◌==◌, ℕ, pos, Bool, true, false, List, [], ◌∷◌, codes, Some, slice_get}
 use Rattle.std.specs.Option.{IsSome}
 use Rattle.exo_tree.specs.Tree.{Binder, I32, Lit, Read, Plus, Assign, Alloc, Span, Whole, Window, Call, Block, end, next, Param, TensorParam, WindowParam, Procedure}
 use Rattle.exo_meaning.specs.Calls.{Callee}

@@ -4,6 +4,7 @@ ghost use Rattle.c_follows.specs.Calls.{BlocksFollow, BlocksWithoutCallsFollow};
 ghost use Rattle.c_follows.specs.CallOfCall.{CallOfCall};
 ghost use Rattle.c_follows.specs.Functions.{FunctionsFollow, FunctionsWithoutCallsFollow};
 ghost use Rattle.c_follows.specs.Instance.{BlockInstance, CallInstance, RaisedInstance};
+ghost use Rattle.c_follows.specs.Overlapping.{Overlapping};
 
 /// The C of a block follows its run, calls included, where what it calls is followed: a call by copies in the source is one
 /// in place in the C, of a function by its name or of an instruction by its number.
@@ -41,6 +42,12 @@ pub fn call_instance()
 /// A block that calls an instruction that calls an instruction meets what the law on blocks asks, and its C is done.
 pub fn call_of_call_instance()
     ensures { CallOfCall }
+{}
+
+/// A block that hands on two windows of one tensor that overlap, to be read, meets what the law on blocks asks, and its C
+/// is done.
+pub fn overlapping_instance()
+    ensures { Overlapping }
 {}
 
 /// A procedure may be too wide only by what another gives it.
