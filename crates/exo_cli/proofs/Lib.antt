@@ -2,6 +2,7 @@ pub mod Endings
 pub mod Running
 pub mod Typing
 pub mod Unique
+pub mod Complete
 pub mod Counted
 pub mod Printed
 pub mod Printing

@@ -78,7 +78,7 @@ module _ (text : Program) (v : Versions) (safe : NothingFaults text) (all : Unit
       (follows.0, ends.0, follows.1, ends.1, follows.2)
 
   version_printed : (k n : ℕ) (found : Option Procedure) → slice_get (printings v) k ≡ Some (printing_of v n) → slice_get v.procedures n ≡ found
-      → is_there_alone text.memories found ≡ true → IsPrinted text program (printings v) k (printing_of v n)
+      → is_there_alone text.memories found ≡ true → IsPrinted text program v.origins (printings v) k (printing_of v n)
   version_printed k n None here there alone = absurd (true≢false (sym alone))
   version_printed k n (Some q) here there alone =
       let o = are.each n q there in
@@ -86,6 +86,7 @@ module _ (text : Program) (v : Versions) (safe : NothingFaults text) (all : Unit
         version = q;
         origin = o.origin;
         from = o.from;
+        of = o.of;
         there = there;
         in_text = o.in_text;
         origin_named = ap (λ i. name_of (slice_get v.procedures i)) (index_is v.origins n o.from o.of) ∙ ap name_of (are.first o.from o.origin o.in_text);
@@ -94,13 +95,13 @@ module _ (text : Program) (v : Versions) (safe : NothingFaults text) (all : Unit
         kept = version_does k n q here there o;
       }
 
-  pub each_printed : (k : ℕ) (w : Printing) → slice_get (printings v) k ≡ Some w → IsPrinted text program (printings v) k w
+  pub each_printed : (k : ℕ) (w : Printing) → slice_get (printings v) k ≡ Some w → IsPrinted text program v.origins (printings v) k w
   each_printed k w here = go (slice_get v.emitted k) (sym (slice_get-map (printing_of v) v.emitted k) ∙ here)
     where
-      go : (o : Option ℕ) → option_map (printing_of v) o ≡ Some w → IsPrinted text program (printings v) k w
+      go : (o : Option ℕ) → option_map (printing_of v) o ≡ Some w → IsPrinted text program v.origins (printings v) k w
       go None e = absurd (nothing_there e)
       go (Some n) e =
           let is = some_is e in
           let now = here ∙ ap Some (sym is) in
-          subst (IsPrinted text program (printings v) k) is
+          subst (IsPrinted text program v.origins (printings v) k) is
           (version_printed k n (slice_get v.procedures n) now refl (listed_is_there program (printings v) k (printing_of v n) lowers.alone now))

@@ -54,11 +54,12 @@ DoesWhat text program what at p q =
 
 -- The version of that number is printed: it comes from a procedure of the text, whose name the report gives, with no
 -- field that may differ, runs like it, and its C does what that procedure does. Program is that of the text with the
--- versions, and what lists the versions printed.
-pub record IsPrinted (text program : Program) (what : List Printing) (at : ℕ) (w : Printing) : Type 0 where
+-- versions, origins says of which procedure of the text each of these was made, and what lists the versions printed.
+pub record IsPrinted (text program : Program) (origins : List ℕ) (what : List Printing) (at : ℕ) (w : Printing) : Type 0 where
   pub version : Procedure
   pub origin : Procedure
   pub from : ℕ
+  pub of : slice_get origins w.proc ≡ Some from
   pub there : slice_get program.procedures w.proc ≡ Some version
   pub in_text : slice_get text.procedures from ≡ Some origin
   pub origin_named : w.origin ≡ origin.name
@@ -84,7 +85,7 @@ pub record Promise (bytes schedule printed : List ℕ) : Type 0 where
   pub narrow : too_wide (with_versions (unit_of items) versions) (printings versions) ≡ None
   pub named : name_clash (with_versions (unit_of items) versions) (printings versions) ≡ None
   pub text : printed ≡ text_of (lowered (with_versions (unit_of items) versions) (printings versions))
-  pub each : (k : ℕ) (w : Printing) → slice_get (printings versions) k ≡ Some w → IsPrinted (unit_of items) (with_versions (unit_of items) versions) (printings versions) k w
+  pub each : (k : ℕ) (w : Printing) → slice_get (printings versions) k ≡ Some w → IsPrinted (unit_of items) (with_versions (unit_of items) versions) versions.origins (printings versions) k w
 
 -- what is accepted keeps the promise
 abbrev pub AcceptedIsPromised : Type 0

@@ -110,3 +110,19 @@ pub record Ends (words : List (List ℕ)) (before after : Moment) (status : Stat
       × (status ≡ status_of answer)
       × (after.out ≡ with_more before.out (for_out answer))
       × (after.err ≡ with_more before.err (for_err answer)))
+
+-- Where the files are told and no count of faults rose, the program ends for want of memory, or with the answer to the words: its
+-- status, and all its bytes.
+abbrev pub EndsAreComplete : Type 0
+EndsAreComplete =
+    (words : List (List ℕ)) (before after : Moment) (status : Status) (files : Folder) (answer : Answer)
+    → Ends words before after status
+    → before.told ≡ Some files
+    → Answers words files answer
+    → (Rose before.faults after.faults → ⊥)
+    → (Rose before.out_faults after.out_faults → ⊥)
+    → (Rose before.err_faults after.err_faults → ⊥)
+    → (status ≡ Memory)
+    ⊎ ((status ≡ status_of answer)
+    × (after.out ≡ with_more before.out (for_out answer))
+    × (after.err ≡ with_more before.err (for_err answer)))

@@ -1,7 +1,7 @@
 //! What the program keeps, each law the contract of a function with nothing to do.
 
 ghost use Rattle.exo_cli.specs.Headline.{AcceptedIsPromised};
-ghost use Rattle.exo_cli.specs.Work.{AnswersAreUnique};
+ghost use Rattle.exo_cli.specs.Work.{AnswersAreUnique, EndsAreComplete};
 
 use c_laws::laws::units_follow;
 use unit_check::laws::checked_units_do_not_fault;
@@ -17,4 +17,9 @@ pub fn accepted_texts_are_promised()
 /// The words and the files have one answer.
 pub fn answers_are_unique()
     ensures { AnswersAreUnique }
+{}
+
+/// Where the files are told and nothing failed, the program ends with the answer, or for want of memory.
+pub fn ends_are_complete()
+    ensures { EndsAreComplete }
 {}

@@ -2,7 +2,6 @@ use Rattle.std.proofs.Common.{ℕ, ◌≤◌, List, [], length, sym, subst}
 use Rattle.cli_outside.specs.Outside.{HasBytes}
 use Rattle.exo_cli.specs.Replies.{plain}
 use Rattle.exo_cli.specs.Stages.{ComesTo, counted, answer_of}
-use Rattle.exo_cli.specs.Stopping.{stage}
 use Rattle.exo_cli.specs.Work.{file_limit}
 use Rattle.exo_cli.proofs.Endings.{checked-answers}
 use Rattle.exo_cli.proofs.Running.{answered, if-ok}
