@@ -1,11 +1,11 @@
 -- Steps on buffers at closed blocks, and what they make by computation.
-use Rattle.std.proofs.Common.{true}
+use Rattle.std.proofs.Common.{true, option_map}
 use Rattle.std.proofs.Common.{◌≡◌, ◌==◌, ℕ, ℤ, pos, ◌+ℤ◌, Bool, false}
 use Rattle.std.proofs.Common.{[], ◌∷◌, Some, None, refl, subst}
 use Rattle.std.proofs.Common.{arith}
 use Rattle.std.proofs.lemmas.Int.{ints}
 use Rattle.std.specs.Int.{int_wrap}
-use Rattle.exo_tree.specs.Tree.{Binder, I32, Index, Control, Lit, Var, StrideOf, Add}
+use Rattle.exo_tree.specs.Tree.{Binder, I32, Index, Control, Condition, Lt, Lit, Var, StrideOf, Add}
 use Rattle.exo_tree.specs.Tree.{Datum, Const, Read, Plus, Times, Whole, Window, At, Assign, Pass}
 use Rattle.exo_tree.specs.Tree.{Alloc, Call, Block, end, next, Procedure}
 use Rattle.exo_tree.specs.Context.{Here, fill}
@@ -23,7 +23,9 @@ use Rattle.meaning_laws.proofs.Replace.{unit_respects}
 use Rattle.inplace_laws.specs.Along.{SameAlong}
 use Rattle.scope_laws.specs.Scopes.{HasNone}
 use Rattle.buffer_laws.specs.Buffers.{Buffer, is_still_used, only_buffer, in_memory, is_buffer}
-use Rattle.buffer_laws.specs.Lifted.{loop_with, with_buffer_in, lifted_from_loop}
+use Rattle.buffer_laws.specs.Lifted.{loop_with, with_buffer_in, lifted_from_loop, MayLift}
+use Rattle.buffer_laws.specs.Lifted.{branch_with, lifted_from_then, lifted_from_else}
+use Rattle.buffer_laws.proofs.Lifted.{lift_from_then, lift_from_else, lift_then_law, lift_else_law}
 use Rattle.buffer_laws.specs.Bound.{Hole, Top, PlusIn, stores, only_statement, filled, bound}
 use Rattle.buffer_laws.specs.Simplified.{IsSimplifier, simplified}
 use Rattle.buffer_laws.specs.Expanded.{expanded, may_expand}
@@ -107,6 +109,63 @@ lifted_at = lift_law (λ f. Index) [] (with_body (loop_with (named 1) (Lit (pos 
     (with_buffer_in (next Pass end) four set_cell))) (Here end) (named 1) (Lit (pos 0))
     (Lit (pos 2)) (next Pass end) four set_cell refl
     (record { free = λ x e. (refl, refl); unused = refl }) refl refl refl refl refl refl
+
+-- ---- out of a branch
+
+-- t[0] = 7
+abbrev set_first : Block
+set_first = next (Assign 2 (Lit (pos 0) ∷ []) (Const (pos 7))) end
+
+abbrev passes : Block
+passes = next Pass end
+
+-- if 0 < 1: pass; t : i32[4]; t[0] = 7 else: pass
+abbrev test : Condition
+test = Lt (Lit (pos 0)) (Lit (pos 1))
+
+abbrev may_lift : MayLift (λ y. false) passes four nothing
+may_lift = record {
+  none = has_none (is_buffer four);
+  unused = refl;
+  plain = refl;
+  kept = refl;
+  made = refl;
+}
+
+from_then : MayReplace world (is_buffer four)
+    (branch_with test (with_buffer_in passes four set_first) passes)
+    (lifted_from_then test passes four set_first passes) nothing
+from_then = lift_from_then world test passes four set_first passes nothing
+    (unit_respects (λ f. Index) []) may_lift refl refl
+
+from_else : MayReplace world (is_buffer four)
+    (branch_with test passes (with_buffer_in passes four set_first))
+    (lifted_from_else test passes passes four set_first) nothing
+from_else = lift_from_else world test passes passes four set_first nothing
+    (unit_respects (λ f. Index) []) may_lift refl refl
+
+from_then_at : Refines world
+    (with_body (branch_with test (with_buffer_in passes four set_first) passes))
+    (with_body (lifted_from_then test passes four set_first passes)) []
+from_then_at = lift_then_law (λ f. Index) []
+    (with_body (branch_with test (with_buffer_in passes four set_first) passes)) (Here end) test
+    passes four set_first passes refl (record { free = λ x e. (refl, refl); unused = refl })
+    refl refl refl refl refl
+
+from_else_at : Refines world
+    (with_body (branch_with test passes (with_buffer_in passes four set_first)))
+    (with_body (lifted_from_else test passes passes four set_first)) []
+from_else_at = lift_else_law (λ f. Index) []
+    (with_body (branch_with test passes (with_buffer_in passes four set_first))) (Here end) test
+    passes passes four set_first refl (record { free = λ x e. (refl, refl); unused = refl })
+    refl refl refl refl refl
+
+-- behind the `if` the buffer is still there
+lifted_runs : option_map (λ (t : State). t.cells 2 (pos 0 ∷ []))
+    (run world (lifted_from_then test passes four set_first passes) nothing)
+    ≡ Some (Number (pos 7))
+unfolding int_wrap
+lifted_runs = refl
 
 -- ---- a part of an expression
 

@@ -5,21 +5,21 @@ use Rattle.std.proofs.Common.{true≢false, eqb-true, eq-eqb}
 use Rattle.std.specs.Int.{int_div_euclid, int_rem_euclid}
 use Rattle.std.proofs.Math.Path.{fun_ext}
 use Rattle.exo_tree.specs.Tree.{Control, Lit, Var, Field, StrideOf, Neg, Add, Sub, Mul}
-use Rattle.exo_tree.specs.Tree.{Div, Mod, For, Block, next, joined}
+use Rattle.exo_tree.specs.Tree.{Div, Mod, Condition, If, For, Block, end, next, joined}
 use Rattle.exo_tree.specs.Context.{fill}
 use Rattle.exo_meaning.specs.Value.{Value, Undefined, IsRefinedBy}
-use Rattle.exo_meaning.specs.Scene.{Scene, Shape, Seen, number, numbers, whole}
-use Rattle.exo_meaning.specs.State.{State, on_scene, with_control, left, kept}
+use Rattle.exo_meaning.specs.Scene.{Scene, Shape, Seen, number, numbers, holds, whole}
+use Rattle.exo_meaning.specs.State.{State, on_scene, with_control, left, kept, scoped}
 use Rattle.exo_meaning.specs.Refines.{StateRefined, CalleesRespect}
 use Rattle.exo_meaning.specs.Run.{World, run, step, turn, turns, turns_of, range, count, unit_world}
-use Rattle.exo_meaning.specs.Run.{tensor}
-use Rattle.exo_meaning.specs.Unseen.{in_control, in_controls, in_block as mentions}
+use Rattle.exo_meaning.specs.Run.{tensor, choose}
+use Rattle.exo_meaning.specs.Unseen.{in_control, in_controls, in_condition, in_block as mentions}
 use Rattle.exo_meaning.proofs.Compose.{compose}
 use Rattle.exo_meaning.proofs.Frame.{or_parts}
-use Rattle.exo_meaning.proofs.Ignored.{number_same}
+use Rattle.exo_meaning.proofs.Ignored.{number_same, holds_same}
 use Rattle.exo_meaning.proofs.Windows.{none_is_some}
 use Rattle.exo_meaning.proofs.Monotone.{run_respects, refined_closed}
-use Rattle.meaning_laws.specs.Context.{RefinedBut}
+use Rattle.meaning_laws.specs.Context.{RefinedBut, MayReplace}
 use Rattle.meaning_laws.specs.Scoped.{has_binder}
 use Rattle.meaning_laws.specs.Sound.{IsSameName}
 use Rattle.meaning_laws.specs.Substitute.{is_plain}
@@ -30,13 +30,14 @@ use Rattle.meaning_laws.proofs.Refined.{state_same, through, run_keeps_refined}
 use Rattle.meaning_laws.proofs.Replace.{unit_respects}
 use Rattle.meaning_laws.proofs.Scoped.{both_false}
 use Rattle.meaning_laws.proofs.Substitute.{and_parts}
-use Rattle.scope_laws.specs.Scopes.{top_binders}
+use Rattle.scope_laws.specs.Scopes.{top_binders, HasNone}
 use Rattle.scope_laws.proofs.MayLeave.{top_has}
 use Rattle.scope_laws.proofs.Opened.{leaving_refines}
 use Rattle.scope_laws.proofs.Scopes.{run_names}
 use Rattle.buffer_laws.specs.Buffers.{Buffer, allocation, is_buffer}
 use Rattle.buffer_laws.specs.Lifted.{are_plain, loop_with, lifted_from_loop, with_buffer_in}
-use Rattle.buffer_laws.specs.Lifted.{LiftFromLoop, LiftLaw}
+use Rattle.buffer_laws.specs.Lifted.{LiftFromLoop, LiftLaw, LiftFromThen, LiftFromElse, LiftThenLaw}
+use Rattle.buffer_laws.specs.Lifted.{LiftElseLaw, branch_with, lifted_from_then, lifted_from_else}
 use Rattle.buffer_laws.proofs.Buffers.{shape_of, behind, is_behind, beside, updated_own}
 
 -- ---- numbers of dimensions
@@ -72,6 +73,27 @@ module _ (changed : ℕ → Bool) (s t : Scene)
       let q = and_parts (is_plain e) (are_plain es) p in
       let r = or_parts (in_control changed e) (in_controls changed es) h in
       ap₂ ◌∷◌ (number_kept e q.0 r.0) (numbers_kept es q.1 r.1)
+
+-- no name is among none
+none_in : (e : Control) → in_control (λ y. false) e ≡ false
+none_in (Lit n) = refl
+none_in (Var y) = refl
+none_in (Field f) = refl
+none_in (StrideOf y k) = refl
+none_in (Neg a) = none_in a
+none_in (Add a b) = both_false (in_control (λ y. false) a) (in_control (λ y. false) b) (none_in a)
+    (none_in b)
+none_in (Sub a b) = both_false (in_control (λ y. false) a) (in_control (λ y. false) b) (none_in a)
+    (none_in b)
+none_in (Mul a b) = both_false (in_control (λ y. false) a) (in_control (λ y. false) b) (none_in a)
+    (none_in b)
+none_in (Div a c) = none_in a
+none_in (Mod a c) = none_in a
+
+none_in_all : (es : List Control) → in_controls (λ y. false) es ≡ false
+none_in_all [] = refl
+none_in_all (e ∷ es) = both_false (in_control (λ y. false) e) (in_controls (λ y. false) es)
+    (none_in e) (none_in_all es)
 
 -- ---- scenes
 
@@ -185,6 +207,55 @@ module _ (world : World) (callees : CalleesRespect StateRefined world) (before :
         (subst (λ z. run world after z ≡ Some a) (sym (is_behind world x p.0 m.0 m.1)) m.2) q.2
         (run_respects IsRefinedBy refined_closed world callees after (behind x p.0) q.0 same)
 
+    kept_refined : (o q : Option Shape) (f g : List ℤ → Value) (at : List ℤ) → o ≡ q
+        → IsRefinedBy (f at) (g at) → IsRefinedBy (kept o f at) (kept q g at)
+    kept_refined None None f g at e h = tt
+    kept_refined None (Some z) f g at e h = tt
+    kept_refined (Some z) None f g at e h = absurd (none_is_some (sym e))
+    kept_refined (Some z) (Some w) f g at e h = h
+
+    ended : (u v a b : State) → Aside u v → StateRefined a b → Aside (left u a) (left v b)
+    ended u v a b h r = record {
+      but = record {
+        control = h.but.control;
+        buffers = h.but.buffers;
+        views = h.but.views;
+        fields = ap (λ (z : Scene). z.fields) r.scene;
+        cells = λ y k at. kept_refined (u.scene.buffers y) (v.scene.buffers y) (a.cells y)
+            (b.cells y) at (h.but.buffers y k) (r.cells y at);
+        seen = h.but.seen;
+      };
+      control = h.control;
+      buffer = h.buffer;
+      view = h.view;
+      sizes = numbers_kept (λ y. false) (left u a).scene u.scene (λ y k. refl) x.dims plain
+          (none_in_all x.dims) ∙ h.sizes;
+    }
+
+    -- a block without the buffer, in a scope of its own
+    other_refined : (other : Block) → mentions (is_buffer x) other ≡ false → (u v a b : State)
+        → Aside u v → run world other u ≡ Some a → run world other v ≡ Some b
+        → RefinedBut (is_buffer x) (left u a) (left v b)
+    other_refined other none u v a b h i j =
+        let r = both_some (RefinedBut (is_buffer x)) (run world other u) (run world other v) a b
+        i j (run_keeps_refined (is_buffer x) world callees other none u v h.but) in
+        record {
+          control = h.but.control;
+          buffers = h.but.buffers;
+          views = h.but.views;
+          fields = r.fields;
+          cells = λ y k at. kept_refined (u.scene.buffers y) (v.scene.buffers y) (a.cells y)
+              (b.cells y) at (h.but.buffers y k) (r.cells y k at);
+          seen = h.but.seen;
+        }
+
+    -- a branch with the allocation, and without
+    branch_refined : (u v a b : State) → Aside u v
+        → run world (joined before (next (allocation x) after)) u ≡ Some a
+        → run world (joined before after) v ≡ Some b
+        → RefinedBut (is_buffer x) (left u a) (left v b)
+    branch_refined u v a b h i j = (ended u v a b h (block_refined u v a b h i j)).but
+
     module _ (i : ℕ) (kept_dims : in_controls (λ y. y == i) x.dims ≡ false) where
       abbrev in_turn_with : ℤ → State → Option State
       in_turn_with = turn i (run world (joined before (next (allocation x) after)))
@@ -215,51 +286,6 @@ module _ (world : World) (callees : CalleesRespect StateRefined world) (before :
         sizes = sym (numbers_kept (λ y. y == i) u.scene (set n u).scene (other_control n u)
             x.dims plain kept_dims) ∙ h.sizes;
       }
-
-      kept_refined : (o q : Option Shape) (f g : List ℤ → Value) (at : List ℤ) → o ≡ q
-          → IsRefinedBy (f at) (g at) → IsRefinedBy (kept o f at) (kept q g at)
-      kept_refined None None f g at e h = tt
-      kept_refined None (Some z) f g at e h = tt
-      kept_refined (Some z) None f g at e h = absurd (none_is_some (sym e))
-      kept_refined (Some z) (Some w) f g at e h = h
-
-      ended : (u v a b : State) → Aside u v → StateRefined a b → Aside (left u a) (left v b)
-      ended u v a b h r = record {
-        but = record {
-          control = h.but.control;
-          buffers = h.but.buffers;
-          views = h.but.views;
-          fields = ap (λ (z : Scene). z.fields) r.scene;
-          cells = λ y k at. kept_refined (u.scene.buffers y) (v.scene.buffers y) (a.cells y)
-              (b.cells y) at (h.but.buffers y k) (r.cells y at);
-          seen = h.but.seen;
-        };
-        control = h.control;
-        buffer = h.buffer;
-        view = h.view;
-        sizes = numbers_kept (λ y. false) (left u a).scene u.scene (λ y k. refl) x.dims plain
-            (unmoved x.dims) ∙ h.sizes;
-      }
-        where
-          unmoved_in : (e : Control) → in_control (λ y. false) e ≡ false
-          unmoved_in (Lit n) = refl
-          unmoved_in (Var y) = refl
-          unmoved_in (Field f) = refl
-          unmoved_in (StrideOf y k) = refl
-          unmoved_in (Neg a) = unmoved_in a
-          unmoved_in (Add a b) = both_false (in_control (λ y. false) a)
-              (in_control (λ y. false) b) (unmoved_in a) (unmoved_in b)
-          unmoved_in (Sub a b) = both_false (in_control (λ y. false) a)
-              (in_control (λ y. false) b) (unmoved_in a) (unmoved_in b)
-          unmoved_in (Mul a b) = both_false (in_control (λ y. false) a)
-              (in_control (λ y. false) b) (unmoved_in a) (unmoved_in b)
-          unmoved_in (Div a c) = unmoved_in a
-          unmoved_in (Mod a c) = unmoved_in a
-
-          unmoved : (es : List Control) → in_controls (λ y. false) es ≡ false
-          unmoved [] = refl
-          unmoved (e ∷ es) = both_false (in_control (λ y. false) e)
-              (in_controls (λ y. false) es) (unmoved_in e) (unmoved es)
 
       turn_kept : (n : ℤ) (u v a b : State) → Aside u v → in_turn_with n u ≡ Some a
           → in_turn_without n v ≡ Some b → Aside a b
@@ -313,6 +339,91 @@ lift_from_loop world i lo hi before x after s callees may low high = record {
       sizes = refl;
     }
 
+-- ---- out of a branch
+
+first_aside : (world : World) (callees : CalleesRespect StateRefined world) (before : Block)
+    (x : Buffer) (after : Block) (s : State) → HasNone (is_buffer x) s
+    → Aside world callees before x after (numbers s.scene x.dims) s (behind x s)
+first_aside world callees before x after s none = record {
+  but = through (is_buffer x) s s (behind x s) (state_same s) (beside x s none);
+  control = refl;
+  buffer = updated_own s.scene.buffers x.binder.id (Some (shape_of x s));
+  view = updated_own s.scene.views x.binder.id (Some (record {
+    buffer = x.binder.id;
+    sides = whole (numbers s.scene x.dims);
+  }));
+  sizes = refl;
+}
+
+-- two branches, each of which is refined in a scope of its own
+module _ (world : World) (hidden : ℕ → Bool) (u v : State) (a b c d : Block)
+    (first : (p q : State) → run world a u ≡ Some p → run world c v ≡ Some q
+    → RefinedBut hidden (left u p) (left v q))
+    (second : (p q : State) → run world b u ≡ Some p → run world d v ≡ Some q
+    → RefinedBut hidden (left u p) (left v q)) where
+  either_refined : (t w : Bool) → t ≡ w → (p q : State)
+      → scoped (choose t (run world a) (run world b)) u ≡ Some p
+      → scoped (choose w (run world c) (run world d)) v ≡ Some q → RefinedBut hidden p q
+  either_refined t w e p q i j =
+      go t p q i (subst (λ z. scoped (choose z (run world c) (run world d)) v ≡ Some q) (sym e) j)
+    where
+      go : (t : Bool) (p q : State) → scoped (choose t (run world a) (run world b)) u ≡ Some p
+          → scoped (choose t (run world c) (run world d)) v ≡ Some q → RefinedBut hidden p q
+      go true p q i j =
+          let m = map_gives (run world a u) (left u) p i in
+          let n = map_gives (run world c v) (left v) q j in
+          subst (λ z. RefinedBut hidden z q) m.2
+          (subst (RefinedBut hidden (left u m.0)) n.2 (first m.0 n.0 m.1 n.1))
+      go false p q i j =
+          let m = map_gives (run world b u) (left u) p i in
+          let n = map_gives (run world d v) (left v) q j in
+          subst (λ z. RefinedBut hidden z q) m.2
+          (subst (RefinedBut hidden (left u m.0)) n.2 (second m.0 n.0 m.1 n.1))
+
+-- a branch behind an allocation, where both scopes are refined
+module _ (world : World) (c : Condition) (x : Buffer) (a b d e : Block) (s : State)
+    (none : HasNone (is_buffer x) s) (test : in_condition (is_buffer x) c ≡ false)
+    (first : (p q : State) → run world a s ≡ Some p → run world d (behind x s) ≡ Some q
+    → RefinedBut (is_buffer x) (left s p) (left (behind x s) q))
+    (second : (p q : State) → run world b s ≡ Some p → run world e (behind x s) ≡ Some q
+    → RefinedBut (is_buffer x) (left s p) (left (behind x s) q)) where
+  branches_replace : MayReplace world (is_buffer x) (next (If c a b) end)
+      (next (allocation x) (next (If c d e) end)) s
+  branches_replace = record {
+    fresh = λ y h. (none.unbound y h).buffers;
+    runs = λ t u i j.
+        let p = then_gives (step world (If c a b) s) (λ z. Some z) t i in
+        let m = then_gives (step world (allocation x) s) (run world (next (If c d e) end)) u j in
+        let q = then_gives (step world (If c d e) (behind x s)) (λ z. Some z) u
+        (subst (λ z. run world (next (If c d e) end) z ≡ Some u)
+        (sym (is_behind world x s m.0 m.1)) m.2) in
+        subst (λ z. RefinedBut (is_buffer x) z u) (some_injective p.0 t p.2)
+        (subst (RefinedBut (is_buffer x) p.0) (some_injective q.0 u q.2)
+        (either_refined world (is_buffer x) s (behind x s) a b d e first second
+        (holds s.scene c) (holds (behind x s).scene c)
+        (holds_same (is_buffer x) s (behind x s) (beside x s none) c test) p.0 q.0 p.1 q.1));
+  }
+
+pub lift_from_then : LiftFromThen
+lift_from_then world c before x after other s callees may test unused =
+    let h = first_aside world callees before x after s may.none in
+    branches_replace world c x (with_buffer_in before x after) other (joined before after) other s
+    may.none test
+    (λ p q i j. branch_refined world callees before x after (numbers s.scene x.dims) may.unused
+    may.plain may.made s (behind x s) p q h i j)
+    (λ p q i j. other_refined world callees before x after (numbers s.scene x.dims) may.unused
+    may.plain may.made other unused s (behind x s) p q h i j)
+
+pub lift_from_else : LiftFromElse
+lift_from_else world c other before x after s callees may test unused =
+    let h = first_aside world callees before x after s may.none in
+    branches_replace world c x other (with_buffer_in before x after) other (joined before after) s
+    may.none test
+    (λ p q i j. other_refined world callees before x after (numbers s.scene x.dims) may.unused
+    may.plain may.made other unused s (behind x s) p q h i j)
+    (λ p q i j. branch_refined world callees before x after (numbers s.scene x.dims) may.unused
+    may.plain may.made s (behind x s) p q h i j)
+
 pub lift_law : LiftLaw
 lift_law kinds ps p c i lo hi before x after was leave unused plain kept made low high =
     leaving_refines kinds ps c (loop_with i lo hi (with_buffer_in before x after))
@@ -327,3 +438,33 @@ lift_law kinds ps p c i lo hi before x after was leave unused plain kept made lo
       kept = kept;
       made = made;
     }) low high)
+
+pub lift_then_law : LiftThenLaw
+lift_then_law kinds ps p c test before x after other was leave unused plain made tested rest =
+    leaving_refines kinds ps c (branch_with test (with_buffer_in before x after) other)
+    (lifted_from_then test before x after other) p
+    (record p { body = fill c (lifted_from_then test before x after other) }) (is_buffer x) was refl
+    leave
+    (λ s u good come none. lift_from_then (unit_world kinds ps) test before x after other u
+    (unit_respects kinds ps) (record {
+      none = none;
+      unused = unused;
+      plain = plain;
+      kept = none_in_all x.dims;
+      made = made;
+    }) tested rest)
+
+pub lift_else_law : LiftElseLaw
+lift_else_law kinds ps p c test other before x after was leave unused plain made tested rest =
+    leaving_refines kinds ps c (branch_with test other (with_buffer_in before x after))
+    (lifted_from_else test other before x after) p
+    (record p { body = fill c (lifted_from_else test other before x after) }) (is_buffer x) was refl
+    leave
+    (λ s u good come none. lift_from_else (unit_world kinds ps) test other before x after u
+    (unit_respects kinds ps) (record {
+      none = none;
+      unused = unused;
+      plain = plain;
+      kept = none_in_all x.dims;
+      made = made;
+    }) tested rest)

@@ -17,13 +17,15 @@ use Rattle.inplace_laws.proofs.Along.{along_law}
 use Rattle.scope_laws.proofs.Within.{holes_compose}
 use Rattle.staging_laws.specs.Stores.{load_nest, store_nest, variables}
 use Rattle.staging_laws.specs.Converted.{converted}
-use Rattle.staging_laws.proofs.Known.{known_law}
+use Rattle.staging_laws.proofs.Known.{known_law, known_reader_law}
+use Rattle.staging_laws.proofs.Readers.{reader_replaces}
 use Rattle.staging_laws.proofs.Replaced.{staged_replaces}
 use Rattle.buffer_laws.specs.Simplified.{IsSimplifier, all_simpler}
 use Rattle.buffer_laws.specs.StageMem.{sizes, loads, stores, loading, storing, on_buffer}
 use Rattle.buffer_laws.specs.StageMem.{Staging}
 use Rattle.buffer_laws.specs.StageLaws.{staging_of, as_made, with_simpler, DraftLaw, StageMemLaw}
-use Rattle.buffer_laws.specs.StageLaws.{FitsAtPlaces}
+use Rattle.buffer_laws.specs.StageLaws.{FitsAtPlaces, ReaderDraftLaw, StageReaderLaw}
+use Rattle.buffer_laws.specs.StageLaws.{reader_as_made, reader_with_simpler}
 use Rattle.buffer_laws.proofs.Simplified.{numbers_same, simplified_law}
 
 module _ (world : World) where
@@ -45,6 +47,10 @@ module _ (world : World) where
   joined_same a b c d h k s = compose world a b s
       ∙ then_cong (run world a s) (run world b) (run world d) k
       ∙ ap (λ o. then_do o (run world d)) (h s) ∙ sym (compose world c d s)
+
+joined_end : (b : Block) → joined b end ≡ b
+joined_end end = refl
+joined_end (next a b) = ap (next a) (joined_end b)
 
 module _ (world : World) (simple : Control → Control) (is : IsSimplifier simple) where
   place_same : (u : State) (x : ℕ) (es : List Control)
@@ -108,9 +114,23 @@ module _ (world : World) (simple : Control → Control) (is : IsSimplifier simpl
           (λ u. simplified_law world simple (λ y. y == base) (converted base x coords b) u is)
           last_same)
 
+      reader_same : (s : State)
+          → run world (reader_as_made simple cell memory base x coords name b) s
+          ≡ run world (reader_with_simpler simple cell memory base x coords name b) s
+      reader_same = joined_same world (next made_first (load_nest base x coords ls))
+          (converted base x coords b)
+          (next made_first (nest ls (loading simple w cell memory base)))
+          (joined (on_buffer simple w cell memory base b) end) first_same
+          (λ u. simplified_law world simple (λ y. y == base) (converted base x coords b) u is
+          ∙ ap (λ z. run world z u) (sym (joined_end (on_buffer simple w cell memory base b))))
+
 pub draft_law : DraftLaw
 draft_law world simple cell memory base x coords name b s is =
     draft_same world simple is cell memory base x coords name b s
+
+pub reader_draft_law : ReaderDraftLaw
+reader_draft_law world simple cell memory base x coords name b s is =
+    reader_same world simple is cell memory base x coords name b s
 
 -- what runs alike may stand as well
 same_may : (world : World) (hidden : ℕ → Bool) (old new other : Block) (s : State)
@@ -138,6 +158,25 @@ stage_mem_law kinds ps p c hidden blind root simple cell memory base x coords na
     coords (loads simple w cell memory base) (stores simple w cell memory base) b u k.0
     (λ v e. known_law blind world root a cell (sizes simple w cell memory base) memory x coords
     (loads simple w cell memory base) (stores simple w cell memory base) b u v made k.1 k.2 e)))
+
+pub stage_reader_law : StageReaderLaw
+stage_reader_law kinds ps p c hidden blind root simple cell memory base x coords name b is was
+    unused silent made known =
+    let world = unit_world kinds ps in
+    let w = staging_of x coords name in
+    let a : Binder = record { id = base; name = name } in
+    let ls = loads simple w cell memory base in
+    let old = reader_as_made simple cell memory base x coords name b in
+    let new = reader_with_simpler simple cell memory base x coords name b in
+    context_law kinds ps hidden c b new p (record p { body = fill c new }) was refl unused
+    (λ s u good come.
+    let k = known s u good come in
+    same_may world hidden b old new u
+    (reader_draft_law world simple cell memory base x coords name b u is)
+    (reader_replaces hidden blind world root a cell (sizes simple w cell memory base) memory x
+    coords ls b u silent k.0
+    (λ v e. known_reader_law blind world root a cell (sizes simple w cell memory base) memory x
+    coords ls b u v made k.1 e)))
 
 -- ---- accesses at places
 

@@ -1,13 +1,13 @@
 -- An allocation in a loop or branch, put before it.
 use Rattle.std.specs.Prelude.{◌≡◌, ◌==◌, ◌&&◌, ℕ, Bool, true, false, List, [], ◌∷◌}
-use Rattle.exo_tree.specs.Tree.{Binder, Control, For, Block, end, next, joined}
+use Rattle.exo_tree.specs.Tree.{Binder, Control, Condition, If, For, Block, end, next, joined}
 use Rattle.exo_tree.specs.Tree.{Kind, Procedure}
 use Rattle.exo_tree.specs.Context.{Context, fill}
 use Rattle.exo_meaning.specs.State.{State}
 use Rattle.exo_meaning.specs.Refines.{StateRefined, CalleesRespect}
 use Rattle.exo_meaning.specs.Inputs.{Refines}
 use Rattle.exo_meaning.specs.Run.{World, unit_world}
-use Rattle.exo_meaning.specs.Unseen.{in_control, in_controls, in_block as mentions}
+use Rattle.exo_meaning.specs.Unseen.{in_control, in_controls, in_condition, in_block as mentions}
 use Rattle.meaning_laws.specs.Context.{MayReplace}
 use Rattle.meaning_laws.specs.Substitute.{is_plain}
 use Rattle.scope_laws.specs.Opened.{MayLeave}
@@ -55,6 +55,42 @@ LiftFromLoop =
     → MayReplace world (is_buffer x) (loop_with i lo hi (with_buffer_in before x behind))
     (lifted_from_loop i lo hi before x behind) s
 
+-- ---- out of a branch
+
+abbrev pub branch_with : Condition → Block → Block → Block
+branch_with c a b = next (If c a b) end
+
+abbrev pub lifted_from_then : Condition → Block → Buffer → Block → Block → Block
+lifted_from_then c before x behind other =
+    next (allocation x) (branch_with c (without_buffer_in before behind) other)
+
+abbrev pub lifted_from_else : Condition → Block → Block → Buffer → Block → Block
+lifted_from_else c other before x behind =
+    next (allocation x) (branch_with c other (without_buffer_in before behind))
+
+-- no name is changed on the way into a branch
+abbrev pub LiftFromThen : Type 0
+LiftFromThen =
+    (world : World) (c : Condition) (before : Block) (x : Buffer) (behind other : Block)
+    (s : State)
+    → CalleesRespect StateRefined world
+    → MayLift (λ y. false) before x s
+    → in_condition (is_buffer x) c ≡ false
+    → mentions (is_buffer x) other ≡ false
+    → MayReplace world (is_buffer x) (branch_with c (with_buffer_in before x behind) other)
+    (lifted_from_then c before x behind other) s
+
+abbrev pub LiftFromElse : Type 0
+LiftFromElse =
+    (world : World) (c : Condition) (other before : Block) (x : Buffer) (behind : Block)
+    (s : State)
+    → CalleesRespect StateRefined world
+    → MayLift (λ y. false) before x s
+    → in_condition (is_buffer x) c ≡ false
+    → mentions (is_buffer x) other ≡ false
+    → MayReplace world (is_buffer x) (branch_with c other (with_buffer_in before x behind))
+    (lifted_from_else c other before x behind) s
+
 -- ---- at a place
 
 -- where a run comes to the loop, the allocation may be lifted
@@ -74,3 +110,32 @@ LiftLaw =
     → in_control (is_buffer x) lo ≡ false
     → in_control (is_buffer x) hi ≡ false
     → Refines world p (record p { body = fill c new }) []
+
+-- and where it comes to the `if`
+abbrev pub LiftThenLaw : Type 0
+LiftThenLaw =
+    (kinds : ℕ → Kind) (ps : List Procedure) (p : Procedure) (c : Context) (test : Condition)
+    (before : Block) (x : Buffer) (behind other : Block)
+    → p.body ≡ fill c (branch_with test (with_buffer_in before x behind) other)
+    → MayLeave p c (is_buffer x)
+    → mentions (is_buffer x) before ≡ false
+    → are_plain x.dims ≡ true
+    → in_controls (top_binders before) x.dims ≡ false
+    → in_condition (is_buffer x) test ≡ false
+    → mentions (is_buffer x) other ≡ false
+    → Refines (unit_world kinds ps) p
+    (record p { body = fill c (lifted_from_then test before x behind other) }) []
+
+abbrev pub LiftElseLaw : Type 0
+LiftElseLaw =
+    (kinds : ℕ → Kind) (ps : List Procedure) (p : Procedure) (c : Context) (test : Condition)
+    (other before : Block) (x : Buffer) (behind : Block)
+    → p.body ≡ fill c (branch_with test other (with_buffer_in before x behind))
+    → MayLeave p c (is_buffer x)
+    → mentions (is_buffer x) before ≡ false
+    → are_plain x.dims ≡ true
+    → in_controls (top_binders before) x.dims ≡ false
+    → in_condition (is_buffer x) test ≡ false
+    → mentions (is_buffer x) other ≡ false
+    → Refines (unit_world kinds ps) p
+    (record p { body = fill c (lifted_from_else test other before x behind) }) []

@@ -4,6 +4,10 @@ ghost use Rattle.buffer_laws.specs.Buffers.{MemoryLaw};
 ghost use Rattle.buffer_laws.specs.Buffers.{DeleteLaw};
 ghost use Rattle.buffer_laws.specs.Lifted.{LiftFromLoop};
 ghost use Rattle.buffer_laws.specs.Lifted.{LiftLaw};
+ghost use Rattle.buffer_laws.specs.Lifted.{LiftFromThen};
+ghost use Rattle.buffer_laws.specs.Lifted.{LiftFromElse};
+ghost use Rattle.buffer_laws.specs.Lifted.{LiftThenLaw};
+ghost use Rattle.buffer_laws.specs.Lifted.{LiftElseLaw};
 ghost use Rattle.buffer_laws.specs.Bound.{ValuesFit};
 ghost use Rattle.buffer_laws.specs.Bound.{BindLaw};
 ghost use Rattle.buffer_laws.specs.Bound.{BindRefines};
@@ -12,6 +16,8 @@ ghost use Rattle.buffer_laws.specs.Simplified.{SimplifiedLaw};
 ghost use Rattle.buffer_laws.specs.StageLaws.{DraftLaw};
 ghost use Rattle.buffer_laws.specs.StageLaws.{StageMemLaw};
 ghost use Rattle.buffer_laws.specs.StageLaws.{FitsAtPlaces};
+ghost use Rattle.buffer_laws.specs.StageLaws.{ReaderDraftLaw};
+ghost use Rattle.buffer_laws.specs.StageLaws.{StageReaderLaw};
 
 /// An allocation may have another memory.
 pub fn memories_are_not_seen()
@@ -71,4 +77,34 @@ pub fn windows_may_be_staged()
 /// What accesses keep at each place of a procedure they keep in a run of the block.
 pub fn accesses_fit_at_places()
     ensures { FitsAtPlaces }
+{}
+
+/// A staged block that only reads runs alike with simpler indices.
+pub fn reader_drafts_run_alike()
+    ensures { ReaderDraftLaw }
+{}
+
+/// A procedure is refined by itself with a block that only reads staged without a store nest.
+pub fn windows_of_readers_may_be_staged()
+    ensures { StageReaderLaw }
+{}
+
+/// An allocation in a branch may stand before the `if`.
+pub fn buffers_are_lifted_from_then()
+    ensures { LiftFromThen }
+{}
+
+/// So may one in the other branch.
+pub fn buffers_are_lifted_from_else()
+    ensures { LiftFromElse }
+{}
+
+/// So it may at a place of a procedure.
+pub fn buffers_are_lifted_from_then_at()
+    ensures { LiftThenLaw }
+{}
+
+/// So may one in the other branch, at a place of a procedure.
+pub fn buffers_are_lifted_from_else_at()
+    ensures { LiftElseLaw }
 {}

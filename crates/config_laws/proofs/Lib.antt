@@ -9,6 +9,7 @@ pub mod PutBack
 pub mod Proposed
 pub mod Grown
 pub mod RuleExamples
+pub mod GrownExamples
 pub mod Rules
 pub mod LawExamples
 pub mod HoleExamples

@@ -10,6 +10,11 @@ pub record Marked (test : ℕ → Bool) (old new : List Bool) : Type 0 where
   pub same_length : length new ≡ length old
   pub each : (f : ℕ) → f < length old → contains new f ≡ (contains old f || test f)
 
+-- of each field of the unit the second set has what the change makes of what the first has
+pub record Changed (change : ℕ → Bool → Bool) (old new : List Bool) : Type 0 where
+  pub same_length : length new ≡ length old
+  pub each : (f : ℕ) → f < length old → contains new f ≡ change f (contains old f)
+
 -- a table says of each procedure, by its number, which fields are in its set
 abbrev pub in_table : List (List Bool) → ℕ → ℕ → Bool
 in_table table k f = elim (slice_get table k) [ None ↦ false | Some set ↦ contains set f ]

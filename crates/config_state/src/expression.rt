@@ -12,7 +12,7 @@ use crate::set::FieldSet;
 use exo_tree::{Arg, Args, Cond, Conds, Coord, Coords, Ctrl, DataExpr, Indices, ParamKind, Params};
 
 /// Adds the fields that a control expression reads.
-pub(crate) fn add_control(e: &Ctrl, set: &mut FieldSet)
+pub fn add_control(e: &Ctrl, set: &mut FieldSet)
     ensures { Marked (λ f. read_by_control f (control e.now)) set.old set.new }
 {
     match e {
@@ -27,7 +27,7 @@ pub(crate) fn add_control(e: &Ctrl, set: &mut FieldSet)
 }
 
 /// The same of indices or dimensions.
-pub(crate) fn add_controls(es: &Indices, set: &mut FieldSet)
+pub fn add_controls(es: &Indices, set: &mut FieldSet)
     ensures { Marked (λ f. read_by_controls f es.now) set.old set.new }
 {
     for e in es.as_slice() {
@@ -44,7 +44,7 @@ fn add_sides(a: &Ctrl, b: &Ctrl, set: &mut FieldSet)
 }
 
 /// The same of a condition.
-pub(crate) fn add_condition(c: &Cond, set: &mut FieldSet)
+pub fn add_condition(c: &Cond, set: &mut FieldSet)
     ensures { Marked (λ f. read_by_condition f (condition c.now)) set.old set.new }
 {
     match c {
@@ -61,7 +61,7 @@ pub(crate) fn add_condition(c: &Cond, set: &mut FieldSet)
 }
 
 /// The same of assertions.
-pub(crate) fn add_conditions(cs: &Conds, set: &mut FieldSet)
+pub fn add_conditions(cs: &Conds, set: &mut FieldSet)
     ensures { Marked (λ f. read_by_conditions f cs.now) set.old set.new }
 {
     for c in cs.as_slice() {
@@ -70,7 +70,7 @@ pub(crate) fn add_conditions(cs: &Conds, set: &mut FieldSet)
 }
 
 /// The same of a data expression, in its indices.
-pub(crate) fn add_datum(e: &DataExpr, set: &mut FieldSet)
+pub fn add_datum(e: &DataExpr, set: &mut FieldSet)
     ensures { Marked (λ f. read_by_datum f (datum e.now)) set.old set.new }
 {
     match e {
@@ -104,7 +104,7 @@ fn add_coordinate(c: &Coord, set: &mut FieldSet)
 }
 
 /// The same of a window's coordinates.
-pub(crate) fn add_coordinates(cs: &Coords, set: &mut FieldSet)
+pub fn add_coordinates(cs: &Coords, set: &mut FieldSet)
     ensures { Marked (λ f. read_by_coords f cs.now) set.old set.new }
 {
     for c in cs.as_slice() {
@@ -113,7 +113,7 @@ pub(crate) fn add_coordinates(cs: &Coords, set: &mut FieldSet)
 }
 
 /// The same of an argument.
-pub(crate) fn add_argument(a: &Arg, set: &mut FieldSet)
+pub fn add_argument(a: &Arg, set: &mut FieldSet)
     ensures { Marked (λ f. read_by_argument f (argument a.now)) set.old set.new }
 {
     match a {
@@ -125,7 +125,7 @@ pub(crate) fn add_argument(a: &Arg, set: &mut FieldSet)
 }
 
 /// The same of a call's arguments.
-pub(crate) fn add_arguments(args: &Args, set: &mut FieldSet)
+pub fn add_arguments(args: &Args, set: &mut FieldSet)
     ensures { Marked (λ f. read_by_arguments f args.now) set.old set.new }
 {
     for a in args.as_slice() {
@@ -144,7 +144,7 @@ fn add_kind(kind: &ParamKind, set: &mut FieldSet)
 }
 
 /// The same of parameters.
-pub(crate) fn add_params(params: &Params, set: &mut FieldSet)
+pub fn add_params(params: &Params, set: &mut FieldSet)
     ensures { Marked (λ f. read_by_params f params.now) set.old set.new }
 {
     for p in params.as_slice() {

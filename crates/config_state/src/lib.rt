@@ -7,6 +7,10 @@ mod reading;
 mod set;
 mod writes;
 
+pub use expression::{
+    add_argument, add_arguments, add_condition, add_conditions, add_control, add_controls,
+    add_coordinates, add_datum, add_params,
+};
 pub use reading::{add_read, read, read_table};
 pub use set::{FieldSet, FieldTable};
 pub use writes::{add_written, written, written_table};

@@ -1,7 +1,7 @@
 //! Sets of a unit's configuration fields.
-ghost use Rattle.std.specs.Prelude.{◌≡◌, ◌++◌, ◌==◌, [], ◌∷◌, ◌<◌, false, length, map, replicate, IfOk, OnOk, OnErr, slice_get, option_map};
+ghost use Rattle.std.specs.Prelude.{◌≡◌, ◌++◌, ◌==◌, ◌&&◌, not, [], ◌∷◌, ◌<◌, false, length, map, replicate, IfOk, OnOk, OnErr, slice_get, option_map};
 ghost use Rattle.std.specs.Option.{option_copied};
-ghost use Rattle.config_state.specs.FieldSets.{contains, in_table, Marked, fields_where};
+ghost use Rattle.config_state.specs.FieldSets.{contains, in_table, Marked, Changed, fields_where};
 
 use exo_tree::FieldId;
 use std::alloc::{AllocError, Global};
@@ -64,6 +64,54 @@ impl FieldSet {
         }
     }
 
+    /// How many fields the unit has.
+    pub fn len(&self) -> usize
+        ensures { result ≡ length self.now }
+    {
+        self.held.len()
+    }
+
+    /// A copy of the set.
+    pub fn duplicate(&self, alloc: Global) -> Result<FieldSet, AllocError>
+        ensures { IfOk result (Changed (λ f held. held) self.now) }
+    {
+        let mut copied = FieldSet::empty(alloc, self.len())?;
+        copied.unite(self);
+        Ok(copied)
+    }
+
+    /// Takes a field out of the set.
+    pub fn remove(&mut self, f: FieldId)
+        ensures { Changed (λ g held. held && not (g == f.0)) self.old self.new }
+    {
+        let index = f.0 as usize;
+        if index < self.held.len() {
+            self.held[index] = false;
+        }
+    }
+
+    /// Takes the fields of another set out of this one.
+    pub fn subtract(&mut self, other: &FieldSet)
+        ensures { Changed (λ f held. held && not (contains other.now f)) self.old self.new }
+    {
+        for k in 0..self.held.len() {
+            if other.contains(k) {
+                self.held[k] = false;
+            }
+        }
+    }
+
+    /// Takes the fields out of the set that are not in another one.
+    pub fn intersect(&mut self, other: &FieldSet)
+        ensures { Changed (λ f held. held && contains other.now f) self.old self.new }
+    {
+        for k in 0..self.held.len() {
+            if !other.contains(k) {
+                self.held[k] = false;
+            }
+        }
+    }
+
     /// The fields of the set in unit order.
     pub fn to_vec(&self, alloc: Global) -> Result<Vec<FieldId>, AllocError>
         requires { length self.now < 4294967296 }
@@ -122,7 +170,7 @@ impl FieldTable {
     }
 
     /// Adds to a set what is in the set of that procedure.
-    pub(crate) fn add(&self, k: usize, set: &mut FieldSet)
+    pub fn add(&self, k: usize, set: &mut FieldSet)
         ensures { Marked (in_table self.now k) set.old set.new }
     {
         if let Some(called) = self.get(k) {

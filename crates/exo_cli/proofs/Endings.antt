@@ -1,5 +1,5 @@
 -- How the program ends follows from its reply and from how that was delivered.
-use Rattle.std.proofs.Common.{◌≡◌, ◌≢◌, ℕ, ◌<◌, ◌≤◌, List, [], length, Option, Some, None, refl, ap, sym, ◌∙◌, arith, ◌⊎◌, inl, inr, Bool, true, false, nat_lt, codes, IfSome, IsNone, MatchBool, MatchOption}
+use Rattle.std.proofs.Common.{◌≡◌, ◌≢◌, ℕ, ◌<◌, ◌≤◌, List, [], length, Option, Some, None, refl, ap, sym, ◌∙◌, subst, arith, ◌⊎◌, inl, inr, Bool, true, false, nat_lt, codes, IfSome, IsNone, MatchBool, MatchOption}
 use Rattle.std.proofs.lemmas.Bool.{ltb-true, ltb-false}
 use Rattle.std.specs.Option.{option_map_or}
 use Rattle.exo_cli.specs.declared.status.Status.{Status}
@@ -8,8 +8,7 @@ use Rattle.cli_outside.specs.Outside.{Folder, content_of, HasBytes, Rose, with_m
 use Rattle.exo_cli.specs.Messages.{usage, file_refused}
 use Rattle.exo_cli.specs.Words.{Command, Compile, Check, command_of, files_of}
 use Rattle.exo_cli.specs.Answer.{Answer, Accepted, Rejected, Unread, Misused, status_of, for_out, for_err, IsVerdict}
-use Rattle.exo_cli.specs.Compiling.{IsCompiled}
-use Rattle.exo_cli.specs.Checking.{IsChecked}
+use Rattle.exo_cli.specs.Stages.{Stage, Passed, Stopped, IsChecked, IsCompiled, answer_of}
 use Rattle.exo_cli.specs.Work.{file_limit, Opens, AnswersTo, Answers, operands, IsReadFault, IsAnswerTo, IsAnswer, EndsAt, Moment, OutFails, ErrFails, Ends}
 use Rattle.cli_outside.proofs.Taking.{with_more-nothing}
 
@@ -51,32 +50,43 @@ second-ends told procs schedule unit before mid after last (Unread message) held
 }
 second-ends told procs schedule unit before mid after last (Misused message) held short grew ends = absurd ends
 
+-- what a command comes to is accepted or rejected
+is_verdict : (procs schedule : List ℕ) (end : Stage (List ℕ)) (reply : Answer) → reply ≡ answer_of procs schedule end → IsVerdict reply
+is_verdict procs schedule (Passed text) reply e = subst IsVerdict (sym e) tt
+is_verdict procs schedule (Stopped why) reply e = subst IsVerdict (sym e) tt
+
 -- both files are read
 pub compiled-answers : (told : Option Folder) (procs schedule unit lines : List ℕ) (before after : ℕ) (last : Option (List ℕ)) (reply : Answer)
     → HasBytes told procs unit → length unit ≤ file_limit → HasBytes told schedule lines → length lines ≤ file_limit
-    → IsCompiled procs unit schedule lines reply → IsVerdict reply → IsAnswerTo (Compile procs schedule) told before after last reply
-compiled-answers None procs schedule unit lines before after last (Accepted text) held short also less compiled verdict = tt
-compiled-answers None procs schedule unit lines before after last (Rejected message) held short also less compiled verdict = tt
-compiled-answers (Some files) procs schedule unit lines before after last (Accepted text) held short also less compiled verdict =
-    opened-within (content_of files procs) procs unit (λ u. Opens (content_of files schedule) schedule (λ l. IsCompiled procs u schedule l)) (Accepted text) held short
-    (opened-within (content_of files schedule) schedule lines (λ l. IsCompiled procs unit schedule l) (Accepted text) also less compiled)
-compiled-answers (Some files) procs schedule unit lines before after last (Rejected message) held short also less compiled verdict =
-    opened-within (content_of files procs) procs unit (λ u. Opens (content_of files schedule) schedule (λ l. IsCompiled procs u schedule l)) (Rejected message) held short
-    (opened-within (content_of files schedule) schedule lines (λ l. IsCompiled procs unit schedule l) (Rejected message) also less compiled)
-compiled-answers told procs schedule unit lines before after last (Unread message) held short also less compiled verdict = absurd verdict
-compiled-answers told procs schedule unit lines before after last (Misused message) held short also less compiled verdict = absurd verdict
+    → IsCompiled procs unit schedule lines reply → IsAnswerTo (Compile procs schedule) told before after last reply
+compiled-answers told procs schedule unit lines before after last reply held short also less compiled =
+    go told reply held also compiled (is_verdict procs schedule compiled.0 reply compiled.2)
+  where
+    go : (told : Option Folder) (reply : Answer) → HasBytes told procs unit → HasBytes told schedule lines → IsCompiled procs unit schedule lines reply → IsVerdict reply
+        → IsAnswerTo (Compile procs schedule) told before after last reply
+    go None (Accepted text) held also compiled verdict = tt
+    go None (Rejected message) held also compiled verdict = tt
+    go (Some files) (Accepted text) held also compiled verdict =
+        opened-within (content_of files procs) procs unit (λ u. Opens (content_of files schedule) schedule (λ l. IsCompiled procs u schedule l)) (Accepted text) held short
+        (opened-within (content_of files schedule) schedule lines (λ l. IsCompiled procs unit schedule l) (Accepted text) also less compiled)
+    go (Some files) (Rejected message) held also compiled verdict =
+        opened-within (content_of files procs) procs unit (λ u. Opens (content_of files schedule) schedule (λ l. IsCompiled procs u schedule l)) (Rejected message) held short
+        (opened-within (content_of files schedule) schedule lines (λ l. IsCompiled procs unit schedule l) (Rejected message) also less compiled)
+    go told (Unread message) held also compiled verdict = absurd verdict
+    go told (Misused message) held also compiled verdict = absurd verdict
 
 -- the file to check is read
 pub checked-answers : (told : Option Folder) (procs text : List ℕ) (before after : ℕ) (last : Option (List ℕ)) (reply : Answer)
-    → HasBytes told procs text → length text ≤ file_limit → IsChecked procs text reply → IsVerdict reply → IsAnswerTo (Check procs) told before after last reply
-checked-answers None procs text before after last (Accepted out) held short checked verdict = tt
-checked-answers None procs text before after last (Rejected message) held short checked verdict = tt
-checked-answers (Some files) procs text before after last (Accepted out) held short checked verdict =
-    opened-within (content_of files procs) procs text (IsChecked procs) (Accepted out) held short checked
-checked-answers (Some files) procs text before after last (Rejected message) held short checked verdict =
-    opened-within (content_of files procs) procs text (IsChecked procs) (Rejected message) held short checked
-checked-answers told procs text before after last (Unread message) held short checked verdict = absurd verdict
-checked-answers told procs text before after last (Misused message) held short checked verdict = absurd verdict
+    → HasBytes told procs text → length text ≤ file_limit → IsChecked procs text reply → IsAnswerTo (Check procs) told before after last reply
+checked-answers told procs text before after last reply held short checked = go told reply held checked (is_verdict procs [] checked.0 reply checked.2)
+  where
+    go : (told : Option Folder) (reply : Answer) → HasBytes told procs text → IsChecked procs text reply → IsVerdict reply → IsAnswerTo (Check procs) told before after last reply
+    go None (Accepted out) held checked verdict = tt
+    go None (Rejected message) held checked verdict = tt
+    go (Some files) (Accepted out) held checked verdict = opened-within (content_of files procs) procs text (IsChecked procs) (Accepted out) held short checked
+    go (Some files) (Rejected message) held checked verdict = opened-within (content_of files procs) procs text (IsChecked procs) (Rejected message) held short checked
+    go told (Unread message) held checked verdict = absurd verdict
+    go told (Misused message) held checked verdict = absurd verdict
 
 -- the words are no command
 pub misused : (asked : Option Command) (told : Option Folder) (before after : ℕ) (last : Option (List ℕ)) (message : List ℕ)

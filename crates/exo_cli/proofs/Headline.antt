@@ -7,12 +7,10 @@ use Rattle.c_printer.specs.SelfContained.{are_self_contained}
 use Rattle.c_printer.specs.Refusals.{too_wide, name_clash}
 use Rattle.c_laws.specs.Laws.{UnitsFollow}
 use Rattle.text_phrases.specs.Text.{IsText}
-use Rattle.text_lexer.specs.declared.place.Place.{Place}
 use Rattle.text_lexer.specs.Layout.{lexed, place_of, token_of, end_place}
 use Rattle.exo_reader.specs.Source.{Item}
 use Rattle.exo_reader.specs.Items.{unit}
-use Rattle.exo_reader.specs.Texts.{tokens_of, places_of}
-use Rattle.rules_names.specs.declared.fault.Fault.{Fault}
+use Rattle.exo_reader.specs.Texts.{tokens_of}
 use Rattle.exo_types.specs.UnitRules.{unit_fault, unit_of}
 use Rattle.exo_cli.specs.declared.status.Status.{Status}
 use Rattle.exo_cli.specs.declared.status.Status.TheVariants.{Ok, Refused, Usage, ReadFault, WriteFault, Memory}
@@ -21,13 +19,11 @@ use Rattle.exo_cli.specs.Messages.{usage, file_refused}
 use Rattle.exo_cli.specs.Words.{Command, Compile, Check, command_of}
 use Rattle.exo_cli.specs.Work.{file_limit, Opens, AnswersTo, Answers, Moment, Ends}
 use Rattle.exo_cli.specs.Answer.{Answer, Accepted, Rejected, Unread, Misused, status_of, for_out, for_err}
-use Rattle.exo_cli.specs.Compiling.{IsCompiled, owed, typed}
-use Rattle.exo_cli.specs.Checking.{refused}
-use Rattle.unit_check.specs.Preorder.{line_in}
-use Rattle.unit_check.specs.Checked.{Cause, NotListed, NotShown, Checked, Shown, Refused as Open, checked}
-use Rattle.exo_tree.specs.Places.{Path}
-use Rattle.exo_types.specs.UnitLines.{lines_of}
-use Rattle.exo_cli.specs.Compiled.{broken, not_built, by_names, by_width, ended, scheduled}
+use Rattle.exo_cli.specs.Stops as stop
+use Rattle.exo_cli.specs.Stages.{Passed, Stopped, Made, then_do, shown, as_built, scheduled, ended, ran, built, narrow, if_narrow, named, if_named, text, printed, compiled, IsCompiled}
+use Rattle.unit_check.specs.Checked.{Shown, checked}
+use Rattle.c_tree.specs.CText.{text_of}
+use Rattle.c_printer.specs.LoweredUnit.{lowered}
 use Rattle.schedule_run.specs.Versions.{started, printings, with_versions}
 use Rattle.exo_cli.specs.Built.{are_in_dram, are_built}
 use Rattle.schedule_run.specs.Lines as lines
@@ -41,7 +37,9 @@ use Rattle.proc_rewrites.proofs.Kept.{nothing_there, some_is}
 use Rattle.schedule_run.proofs.Versions.{schedules_run_alike}
 use Rattle.schedule_run.proofs.Growth.{grown, begins_grown}
 use Rattle.exo_cli.proofs.Printed.{each_printed}
-use Rattle.exo_cli.proofs.Counted.{counted}
+use Rattle.exo_cli.proofs.Running.{passed_then, passed_is, stopped_is_not_passed, accepted_passed}
+use Rattle.exo_cli.proofs.Typing.{typed_is_formed}
+use Rattle.exo_cli.proofs.Counted.{all_shown, counted_is}
 
 -- the laws of lower crates on which the promise rests
 pub record LawsBelow : Type 0 where
@@ -63,76 +61,100 @@ schedule_is_short bytes ls = short (lines_in (numbered (map token_of (lexed byte
 accepted_is_not : {text message : List ℕ} → Accepted text ≡ Rejected message → ⊥
 accepted_is_not e = cc
 
-accepted_is : {text other : List ℕ} → Accepted text ≡ Accepted other → text ≡ other
-accepted_is e = cc
+-- what passed the last stage is built and narrow, and has names that C keeps
+record IsPrintable (m : Made) (out : List ℕ) : Type 0 where
+  pub built : are_built m.program m.what ≡ true
+  pub narrow : too_wide m.program m.what ≡ None
+  pub named : name_clash m.program m.what ≡ None
+  pub text : out ≡ text_of (lowered m.program m.what)
 
-module _ (procs source schedule bytes text : List ℕ) (items : List Item) (spelled : IsText unit (tokens_of source) items) (keeps : unit_fault items ≡ None) (count : ℕ) (shown : checked (unit_of items) ≡ Shown count) (formed : IsUnit (unit_of items)) (laws : LawsBelow) where
-  -- what is printed of the versions is built, narrow, and has names that C keeps
-  module _ (ls : List Line) (v : Versions) (read : schedule_of bytes ≡ Some ls) (ran : run_lines ls (started (unit_of items).procedures) ≡ lines.Done v) where
-    abbrev with_all : Program
-    with_all = with_versions (unit_of items) v
-
-    by_name : are_built with_all (printings v) ≡ true → too_wide with_all (printings v) ≡ None → (o : Option (List ℕ)) → name_clash with_all (printings v) ≡ o
-        → Accepted text ≡ by_names procs with_all (printings v) o → Promise source bytes text
-    by_name built narrow None named e = record {
-      items = items;
-      lines = ls;
-      versions = v;
-      spelled = spelled;
-      keeps = keeps;
-      count = count;
-      shown = shown;
-      formed = formed;
-      no_fault = laws.safe (unit_of items) count formed shown;
-      read = read;
-      ran = ran;
-      built = built;
-      narrow = narrow;
-      named = named;
-      text = accepted_is e;
-      each = each_printed (unit_of items) v (laws.safe (unit_of items) count formed shown) laws.all (record { alone = (and_parts (are_self_contained with_all (printings v)) (are_in_dram with_all (printings v)) built).0; narrow = narrow; named = named }) formed (grown (unit_of items) ls (started (unit_of items).procedures) v (begins_grown (unit_of items) ls formed (schedule_is_short bytes ls read)) ran) (schedules_run_alike (unit_of items).procedures ls v ran);
+printable : (m : Made) (out : List ℕ) → printed m ≡ Passed out → IsPrintable m out
+printable m out e =
+    let a = passed_then (built m) (λ a. then_do (narrow a) (λ b. then_do (named b) text)) out e in
+    let b = passed_then (narrow a.0) (λ b. then_do (named b) text) out a.2 in
+    let c = passed_then (named b.0) text out b.2 in
+    let is_built = if_built (are_built m.program m.what) a.1 in
+    let is_narrow = if_is_narrow a.0 (too_wide a.0.program a.0.what) b.1 in
+    let is_named = if_is_named b.0 (name_clash b.0.program b.0.what) c.1 in
+    let first = is_built.1 in
+    let second = first ∙ is_narrow.1 in
+    let third = second ∙ is_named.1 in
+    record {
+      built = is_built.0;
+      narrow = subst (λ (x : Made). too_wide x.program x.what ≡ None) (sym first) is_narrow.0;
+      named = subst (λ (x : Made). name_clash x.program x.what ≡ None) (sym second) is_named.0;
+      text = sym (passed_is (subst (λ (x : Made). text x ≡ Passed out) (sym third) c.2));
     }
-    by_name built narrow (Some name) named e = absurd (accepted_is_not e)
+  where
+    if_built : (b : Bool) {a : Made} → (if b then Passed m else Stopped stop.NotBuilt) ≡ Passed a → (b ≡ true) × (m ≡ a)
+    if_built true e = (refl, passed_is e)
+    if_built false e = absurd (stopped_is_not_passed e)
 
-    by_size : are_built with_all (printings v) ≡ true → (o : Option ℕ) → too_wide with_all (printings v) ≡ o → Accepted text ≡ by_width procs with_all (printings v) o → Promise source bytes text
-    by_size built None narrow e = by_name built narrow (name_clash with_all (printings v)) refl e
-    by_size built (Some k) narrow e = absurd (accepted_is_not e)
+    if_is_narrow : (a : Made) (o : Option ℕ) {b : Made} → if_narrow a o ≡ Passed b → (o ≡ None) × (a ≡ b)
+    if_is_narrow a None e = (refl, passed_is e)
+    if_is_narrow a (Some k) e = absurd (stopped_is_not_passed e)
 
-    by_form : (b : Bool) → are_built with_all (printings v) ≡ b → Accepted text ≡ (if b then by_width procs with_all (printings v) (too_wide with_all (printings v)) else not_built procs) → Promise source bytes text
-    by_form true built e = by_size built (too_wide with_all (printings v)) refl e
-    by_form false built e = absurd (accepted_is_not e)
+    if_is_named : (b : Made) (o : Option (List ℕ)) {c : Made} → if_named b o ≡ Passed c → (o ≡ None) × (b ≡ c)
+    if_is_named b None e = (refl, passed_is e)
+    if_is_named b (Some name) e = absurd (stopped_is_not_passed e)
 
-  by_run : (ls : List Line) (o : Outcome) → schedule_of bytes ≡ Some ls → run_lines ls (started (unit_of items).procedures) ≡ o
-      → Accepted text ≡ ended procs schedule (unit_of items) o → Promise source bytes text
-  by_run ls (lines.Done v) read ran e = by_form ls v read ran (are_built (with_versions (unit_of items) v) (printings v)) refl e
-  by_run ls (lines.Stopped n operator why) read ran e = absurd (accepted_is_not e)
+-- lines that passed are those of the schedule
+scheduled_is : (bytes : List ℕ) (ls : List Line) → scheduled bytes ≡ Passed ls → schedule_of bytes ≡ Some ls
+scheduled_is bytes ls = go (schedule_of bytes)
+  where
+    go : (o : Option (List Line)) → as_built o ≡ Passed ls → o ≡ Some ls
+    go None e = absurd (stopped_is_not_passed e)
+    go (Some ms) e = ap Some (passed_is e)
 
-  by_read : (o : Option (List Line)) → schedule_of bytes ≡ o → Accepted text ≡ scheduled procs schedule (unit_of items) o → Promise source bytes text
-  by_read None read e = absurd (accepted_is_not e)
-  by_read (Some ls) read e = by_run ls (run_lines ls (started (unit_of items).procedures)) read refl e
+-- a run that passed ended with versions
+ran_is : (u : Program) (ls : List Line) (m : Made) → ran u ls ≡ Passed m
+    → (v : Versions) × (run_lines ls (started u.procedures) ≡ lines.Done v) × (m ≡ record { program = with_versions u v; what = printings v })
+ran_is u ls m = go (run_lines ls (started u.procedures))
+  where
+    go : (o : Outcome) → ended u o ≡ Passed m → (v : Versions) × (o ≡ lines.Done v) × (m ≡ record { program = with_versions u v; what = printings v })
+    go (lines.Done v) e = (v, refl, sym (passed_is e))
+    go (lines.Stopped n operator why) e = absurd (stopped_is_not_passed e)
 
-accepted_is_not_broken : {text : List ℕ} (procs : List ℕ) (place : Option Place) (f : Fault) → Accepted text ≡ broken procs place f.rule → ⊥
-accepted_is_not_broken procs None f e = accepted_is_not e
-accepted_is_not_broken procs (Some place) f e = accepted_is_not e
+module _ (laws : LawsBelow) (source bytes out : List ℕ) (items : List Item) (spelled : IsText unit (tokens_of source) items) (keeps : unit_fault items ≡ None) (formed : IsUnit (unit_of items)) (count : ℕ) (shown_all : checked (unit_of items) ≡ Shown count)
+    (ls : List Line) (read : schedule_of bytes ≡ Some ls) (v : Versions) (ran_all : run_lines ls (started (unit_of items).procedures) ≡ lines.Done v) (is : IsPrintable (record { program = with_versions (unit_of items) v; what = printings v }) out) where
+  promised : Promise source bytes out
+  promised =
+      let safe = laws.safe (unit_of items) count formed shown_all in
+      let alone = (and_parts (are_self_contained (with_versions (unit_of items) v) (printings v)) (are_in_dram (with_versions (unit_of items) v) (printings v)) is.built).0 in
+      let begins = begins_grown (unit_of items) ls formed (schedule_is_short bytes ls read) in
+      record {
+        items = items;
+        count = count;
+        lines = ls;
+        versions = v;
+        spelled = spelled;
+        keeps = keeps;
+        shown = shown_all;
+        formed = formed;
+        no_fault = safe;
+        read = read;
+        ran = ran_all;
+        built = is.built;
+        narrow = is.narrow;
+        named = is.named;
+        text = is.text;
+        each = each_printed (unit_of items) v safe laws.all (record { alone = alone; narrow = is.narrow; named = is.named }) formed
+            (grown (unit_of items) ls (started (unit_of items).procedures) v begins ran_all) (schedules_run_alike (unit_of items).procedures ls v ran_all);
+      }
 
-accepted_is_not_refused : (text procs : List ℕ) (line : Path → ℕ) (c : Cause) → Accepted text ≡ refused procs line c → ⊥
-accepted_is_not_refused text procs line (NotListed f) e = accepted_is_not e
-accepted_is_not_refused text procs line (NotShown what path v) e = accepted_is_not e
-
-module _ (laws : LawsBelow) (procs source schedule bytes text : List ℕ) where
-  by_owed : (items : List Item) → IsText unit (tokens_of source) items → unit_fault items ≡ None → IsUnit (unit_of items) → (c : Checked) → checked (unit_of items) ≡ c
-      → Accepted text ≡ owed procs schedule (schedule_of bytes) (unit_of items) (lines_of (places_of source) items) c → Promise source bytes text
-  by_owed items spelled keeps formed (Shown count) shown e = by_read procs source schedule bytes text items spelled keeps count shown formed laws (schedule_of bytes) refl e
-  by_owed items spelled keeps formed (Open k cause) shown e = absurd (accepted_is_not_refused text procs (line_in (slice_get (unit_of items).procedures k) (slice_get (lines_of (places_of source) items) k)) cause e)
-
-  by_rules : (items : List Item) → IsText unit (tokens_of source) items → (unit_fault items ≡ None → IsUnit (unit_of items)) → (o : Option Fault) → unit_fault items ≡ o
-      → Accepted text ≡ typed procs schedule (schedule_of bytes) (places_of source) items o → Promise source bytes text
-  by_rules items spelled formed None keeps e = by_owed items spelled keeps (formed keeps) (checked (unit_of items)) refl e
-  by_rules items spelled formed (Some f) breaks e = absurd (accepted_is_not_broken procs (slice_get (places_of source) f.token) f e)
-
-  -- an accepted text keeps the promise
-  pub accepted_is_promised : IsCompiled procs source schedule bytes (Accepted text) → Promise source bytes text
-  accepted_is_promised = ⊎_elim (λ h. absurd (accepted_is_not h.2)) (λ h. by_rules h.0 h.1 h.2 (unit_fault h.0) refl h.3)
+-- an accepted text keeps the promise
+pub accepted_is_promised : LawsBelow → (procs source schedule bytes out : List ℕ) → IsCompiled procs source schedule bytes (Accepted out) → Promise source bytes out
+accepted_is_promised laws procs source schedule bytes out e =
+    let end = sym e.1.2 ∙ accepted_passed procs schedule out e.0 e.2 in
+    let typed = passed_then e.1.0 (compiled bytes) out end in
+    let formed = typed_is_formed source e.1.0 typed.0 e.1.1 typed.1 in
+    let rest = λ (ls : List Line). then_do (ran typed.0.program ls) printed in
+    let shows = passed_then (shown typed.0) (λ count. then_do (scheduled bytes) rest) out typed.2 in
+    let reads = passed_then (scheduled bytes) rest out shows.2 in
+    let runs = passed_then (ran typed.0.program reads.0) printed out reads.2 in
+    let versions = ran_is (unit_of formed.items) reads.0 runs.0 (ap (λ p. ran p reads.0) (sym formed.is) ∙ runs.1) in
+    promised laws source bytes out formed.items formed.spelled formed.keeps formed.formed shows.0 (ap checked (sym formed.is) ∙ all_shown typed.0 shows.0 shows.1)
+    reads.0 (scheduled_is bytes reads.0 reads.1) versions.0 versions.1 (subst (λ m. IsPrintable m out) versions.2 (printable runs.0 out runs.2))
 
 -- ---- and so does what the program writes
 
@@ -179,7 +201,7 @@ module _ (laws : LawsBelow) (words : List (List ℕ)) (files : Folder) (before a
       accepted_is_not_misused : {t m : List ℕ} → Accepted t ≡ Misused m → ⊥
       accepted_is_not_misused e = cc
   by_words (Some (Compile procs schedule)) is e = inl (by_unit procs schedule is (content_of files procs) refl e)
-  by_words (Some (Check procs)) is e = inr (counted laws.safe words files before after text procs written is e)
+  by_words (Some (Check procs)) is e = inr (counted_is laws.safe words files before after text procs written is e)
 
 -- an answer that ends well is accepted
 by_answer : LawsBelow → (words : List (List ℕ)) (files : Folder) (before after : Option (List ℕ)) (answer : Answer) → Answers words files answer → Ok ≡ status_of answer → after ≡ with_more before (for_out answer)

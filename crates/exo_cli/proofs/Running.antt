@@ -1,35 +1,45 @@
--- From what a schedule emits to what is printed.
-use Rattle.std.proofs.Common.{◌≡◌, ◌<◌, ℕ, suc, List, ◌∷◌, drop, length, Bool, true, Some, None, if◌then◌else◌, slice_get, get_or, refl, ap, sym, ◌∙◌, drop-cons, IfOk, Ok, Err}
+-- From one stage to the next.
+use Rattle.std.proofs.Common.{◌≡◌, ℕ, List, Option, Some, None, option_map, refl, ap, sym, ◌∙◌, IfOk, IfSome, Ok, Err}
 use Rattle.std.specs.Prelude.{Result}
-use Rattle.std.proofs.lemmas.Option.{slice_get_read, get_or_from_slice_get}
-use Rattle.exo_tree.specs.Tree.{Program}
-use Rattle.c_printer.specs.LoweredUnit.{Printing, lowered}
-use Rattle.c_tree.specs.CText.{text_of}
-use Rattle.c_printer.specs.Refusals.{too_wide, name_clash}
-use Rattle.exo_cli.specs.Answer.{Accepted}
-use Rattle.exo_cli.specs.Built.{are_built}
-use Rattle.exo_cli.specs.Compiled.{not_built, by_names, by_width, printed, ended}
-use Rattle.schedule_run.specs.Versions.{started, printings, with_versions}
-use Rattle.schedule_run.specs.Lines.{Versions, Done, Stopped, operator_of, performed, run_lines, after}
-use Rattle.schedule_run.specs.Sessions.{RefusesLine, StopsLine}
-use Rattle.schedule_run.specs.declared.lines.Line.{Line}
-use Rattle.schedule_run.specs.declared.session.Why.{Why}
-use Rattle.schedule_run.specs.declared.session.Why.TheVariants.{Memory}
+use Rattle.exo_cli.specs.declared.stop.Stop as code
+use Rattle.exo_cli.specs.Answer.{Answer, Accepted, Rejected}
+use Rattle.exo_cli.specs.Stops.{Stop}
+use Rattle.exo_cli.specs.Stages.{Stage, Passed, Stopped, Typed, IsTyped, ComesTo, then_do, answer_of}
+use Rattle.exo_cli.specs.Stopping.{plain, stage}
 
 -- two facts of a result that is there
 pub if-both : {T E : Type 0} (r : Result T E) (P Q S : T → Type 0) → ((x : T) → P x → Q x → S x) → IfOk r P → IfOk r Q → IfOk r S
 if-both (Ok x) P Q S step p q = step x p q
 if-both (Err e) P Q S step p q = tt
 
--- what is printed of what is emitted is what the schedule's end asks
-pub printed-is : (procs schedule : List ℕ) (text : Program) (lines : List Line) (v : Versions) (made : Program) (what : List Printing) → run_lines lines (started text.procedures) ≡ Done v
-    → made ≡ with_versions text v → what ≡ printings v → printed procs made what ≡ ended procs schedule text (run_lines lines (started text.procedures))
-printed-is procs schedule text lines v made what ran is lists =
-    ap (λ (p : Program). printed procs p what) is ∙ ap (printed procs (with_versions text v)) lists ∙ ap (ended procs schedule text) (sym ran)
+-- a stop that is known of one stage is known of what comes after it
+pub stop_stays : {T U : Type 0} (why : Option Stop) (P : Stage T → Type 0) (Q : Stage U → Type 0) → ((s : Stop) → P (Stopped s) → Q (Stopped s))
+    → IfSome (option_map Stopped why) P → IfSome (option_map Stopped why) Q
+stop_stays None P Q step p = tt
+stop_stays (Some s) P Q step p = step s p
 
--- what is built and within its widths, with names that C keeps, is printed
-pub printed-text : (procs : List ℕ) (program : Program) (what : List Printing) → are_built program what ≡ true → too_wide program what ≡ None → name_clash program what ≡ None
-    → printed procs program what ≡ Accepted (text_of (lowered program what))
-printed-text procs program what built narrow named =
-    ap (λ (b : Bool). if b then by_width procs program what (too_wide program what) else not_built procs) built
-    ∙ ap (by_width procs program what) narrow ∙ ap (by_names procs program what) named
+-- what passed made what the next stage was given
+pub passed_then : {T U : Type 0} (s : Stage T) (next : T → Stage U) (y : U) → then_do s next ≡ Passed y → (x : T) × (s ≡ Passed x) × (next x ≡ Passed y)
+passed_then (Passed x) next y e = (x, refl, e)
+passed_then (Stopped why) next y e = absurd cc
+
+pub stopped_is_not_passed : {T : Type 0} {why : Stop} {x : T} → Stopped why ≡ Passed x → ⊥
+stopped_is_not_passed e = cc
+
+pub passed_is : {T : Type 0} {x y : T} → Passed x ≡ Passed y → x ≡ y
+passed_is e = cc
+
+-- what is accepted passed all stages
+pub accepted_passed : (procs schedule text : List ℕ) (end : Stage (List ℕ)) → Accepted text ≡ answer_of procs schedule end → end ≡ Passed text
+accepted_passed procs schedule text (Passed out) e = cc
+accepted_passed procs schedule text (Stopped why) e = absurd cc
+
+-- a reply answers what a command came to
+pub answered : (end : Option (Stage (List ℕ))) (P : Stage (List ℕ) → Type 0) (of : Stage (List ℕ) → Answer) (reply : Answer)
+    → IfSome end P → option_map of end ≡ Some reply → (s : Stage (List ℕ)) × P s × (reply ≡ of s)
+answered None P of reply p e = absurd cc
+answered (Some s) P of reply p e = (s, p, cc)
+
+pub if-ok : {T E : Type 0} (r : Result T E) (P Q : T → Type 0) → ((x : T) → P x → Q x) → IfOk r P → IfOk r Q
+if-ok (Ok x) P Q step p = step x p
+if-ok (Err e) P Q step p = tt

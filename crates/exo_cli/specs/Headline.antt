@@ -25,7 +25,7 @@ use Rattle.exo_cli.specs.Words.{Compile, command_of}
 use Rattle.exo_cli.specs.Answer.{Accepted}
 use Rattle.exo_cli.specs.Built.{are_built}
 use Rattle.proc_rewrites.specs.Kept.{IsVersionOf}
-use Rattle.exo_cli.specs.Compiling.{IsCompiled}
+use Rattle.exo_cli.specs.Stages.{IsCompiled}
 use Rattle.unit_check.specs.Checked.{Shown, checked}
 use Rattle.schedule_run.specs.Versions.{started, printings, with_versions}
 use Rattle.schedule_run.specs.Lines.{Versions, Done as Ran, run_lines}

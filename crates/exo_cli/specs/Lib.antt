@@ -4,9 +4,9 @@ pub mod Words
 pub mod Asked
 pub mod Answer
 pub mod Built
-pub mod Compiled
-pub mod Checking
-pub mod Compiling
+pub mod Stops
+pub mod Stages
+pub mod Stopping
 pub mod Replies
 pub mod Work
 pub mod Headline

@@ -7,8 +7,7 @@ use Rattle.cli_outside.specs.Outside.{Folder, content_of, IsLonger, Rose, with_m
 use Rattle.exo_cli.specs.Messages.{usage, cannot_read, file_refused}
 use Rattle.exo_cli.specs.Words.{Command, Compile, Check, command_of, files_of}
 use Rattle.exo_cli.specs.Answer.{Answer, Accepted, Rejected, Unread, Misused, status_of, for_out, for_err}
-use Rattle.exo_cli.specs.Compiling.{IsCompiled}
-use Rattle.exo_cli.specs.Checking.{IsChecked}
+use Rattle.exo_cli.specs.Stages.{IsChecked, IsCompiled}
 
 -- the most bytes that a file may have
 abbrev pub file_limit : ℕ

@@ -2,12 +2,12 @@
 #![tactic(auto)]
 
 mod built;
-mod check;
-mod compile;
 pub mod laws;
 mod messages;
 mod reply;
+mod stages;
 mod status;
+mod stop;
 mod words;
 mod work;
 

@@ -1,11 +1,15 @@
 // What the program replies, and how it is delivered.
-ghost use Rattle.std.specs.Prelude.{◌≡◌, ◌≢◌, ◌≤◌, ◌⊎◌, is_ok, if◌then◌else◌};
+ghost use Rattle.std.specs.Prelude.{◌≡◌, ◌≢◌, ◌≤◌, ◌⊎◌, IfOk, Some, is_ok, if◌then◌else◌, option_map, string_bytes};
 ghost use Rattle.cli_outside.specs.Outside.{Rose, with_more, StopsWithin};
 ghost use Rattle.exo_cli.specs.Answer.{status_of, for_out, for_err};
 ghost use Rattle.exo_cli.specs.Replies.{plain};
+ghost use Rattle.exo_cli.specs.Stages.{answer_of};
+ghost use Rattle.exo_cli.specs.Stopping.{stage};
 
 use crate::status::Status;
+use crate::stop::Stop;
 use cli_outside::{Failed, Sink, write_all};
+use std::alloc::{AllocError, Global};
 
 /// What the program replies.
 #[derive(Drop)]
@@ -45,6 +49,21 @@ impl Reply {
                 Status::Usage,
             ),
         }
+    }
+}
+
+/// The reply to what a command came to, by the names of the files of the unit and of the schedule.
+pub(crate) fn replied(
+    alloc: Global,
+    procs: &str,
+    schedule: &str,
+    end: Result<String, Stop>,
+) -> Result<Reply, AllocError>
+    ensures { IfOk result (λ reply. option_map (answer_of procs.now schedule.now) (stage string_bytes end) ≡ Some (plain reply)) }
+{
+    match end {
+        Ok(text) => Ok(Reply::Accepted(text)),
+        Err(why) => Ok(Reply::Rejected(why.message(alloc, procs, schedule)?)),
     }
 }
 

@@ -7,10 +7,9 @@ ghost use Rattle.exo_cli.specs.Words.{Compile, Check, texts};
 ghost use Rattle.exo_cli.specs.Replies.{plain};
 ghost use Rattle.exo_cli.specs.Work.{Ends, EndsAt, IsAnswer, IsAnswerTo, file_limit};
 
-use crate::check::check;
-use crate::compile::compile;
 use crate::messages;
-use crate::reply::Reply;
+use crate::reply::{Reply, replied};
+use crate::stages::{checked, compiled};
 use crate::status::Status;
 use crate::words::{Command, read_command};
 use c_laws::laws::units_follow;
@@ -105,7 +104,12 @@ fn compile_files<R: Threads + Sync, F: Files, G: Gate>(
         Ok(text) => text,
         Err(reply) => return Ok(reply),
     };
-    compile(rt, alloc, procs, &unit, schedule, &lines, gate)
+    replied(
+        alloc,
+        procs,
+        schedule,
+        compiled(rt, alloc, &unit, &lines, gate),
+    )
 }
 
 /// What is replied to the command to check this file.
@@ -123,7 +127,7 @@ fn check_file<R: Threads + Sync, F: Files, G: Gate>(
         Ok(bytes) => bytes,
         Err(reply) => return Ok(reply),
     };
-    check(rt, alloc, procs, &text, gate)
+    replied(alloc, procs, "", checked(rt, alloc, &text, gate))
 }
 
 /// The bytes of the file, or the reply with which the work ends there.

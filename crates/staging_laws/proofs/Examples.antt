@@ -9,14 +9,13 @@ use Rattle.std.specs.Int.{int_wrap}
 use Rattle.exo_tree.specs.Tree.{Binder, Cell, I32, Index, Lit, Var, Sub, Mul, Const, Read, Coord}
 use Rattle.exo_tree.specs.Tree.{Span}
 use Rattle.exo_tree.specs.Tree.{Window, Alloc, Pass}
-use Rattle.exo_tree.specs.Tree.{Assign, For, Block, end, next, Procedure}
-use Rattle.exo_tree.specs.Context.{Here}
+use Rattle.exo_tree.specs.Tree.{Assign, For, Block, end, next}
 use Rattle.exo_meaning.specs.Value.{Value, Undefined, Number, stored_as}
 use Rattle.exo_meaning.specs.Scene.{Seen, Shape, Scene, Range, then_do, numbers, updated, window}
 use Rattle.exo_meaning.specs.Scene.{cell_at, whole}
 use Rattle.exo_meaning.specs.State.{State, same_index, on_scene, with_view, with_contents}
 use Rattle.exo_meaning.specs.Calls.{GivenView, contents, copy_back, all_positive, held_at}
-use Rattle.exo_meaning.specs.Inputs.{FitsCell, Refines}
+use Rattle.exo_meaning.specs.Inputs.{FitsCell}
 use Rattle.exo_meaning.specs.Unseen.{SameBut}
 use Rattle.meaning_laws.specs.Sorted.{CellsFit, IsSorted, Sees}
 use Rattle.exo_meaning.specs.Run.{World, run, writes, world_of, unit_world, kinds_of}
@@ -33,10 +32,9 @@ use Rattle.staging_laws.specs.Whole.{MayConvert, Follows}
 use Rattle.staging_laws.specs.Replaced.{Hides, between, IsStaged}
 use Rattle.staging_laws.specs.Known.{AreOver, AreMade, IsKnown, FitsBehind}
 use Rattle.staging_laws.proofs.Known.{known_law, fits_behind_law}
-use Rattle.staging_laws.proofs.Replaced.{alike_replaces, staged_replaces, staged_refines}
+use Rattle.staging_laws.proofs.Replaced.{alike_replaces, staged_replaces}
 use Rattle.meaning_laws.specs.Context.{MayReplace}
 use Rattle.meaning_laws.specs.Sound.{IsUnbound}
-use Rattle.meaning_laws.proofs.Copies.{sound_law, unbound_law}
 use Rattle.staging_laws.proofs.Whole.{viewed_law, staged_block_law, staged_reader_law}
 use Rattle.staging_laws.proofs.Converted.{fits_law, converted_along, converted_law}
 use Rattle.staging_laws.proofs.Box.{box_law, no_store_law}
@@ -56,16 +54,16 @@ use Rattle.staging_laws.specs.Stage.{AreAlike}
 use Rattle.staging_laws.specs.Behind.{IsBetween, MayGoRound}
 use Rattle.staging_laws.proofs.Behind.{behind_law, staged_sound, round_law}
 
-abbrev binder : ℕ → Binder
+abbrev pub binder : ℕ → Binder
 binder n = record { id = n; name = n ∷ [] }
 
 abbrev world : World
 world = world_of (λ f. Index) []
 
-abbrev eight : Shape
+abbrev pub eight : Shape
 eight = record { cell = I32; dims = pos 8 ∷ []; strides = pos 1 ∷ [] }
 
-abbrev all_of : ℕ → Seen
+abbrev pub all_of : ℕ → Seen
 all_of b = record { buffer = b; sides = Range (pos 0) (pos 8) ∷ [] }
 
 -- x is number 10, t is number 1, and t holds 7 in each cell
@@ -84,15 +82,15 @@ s = record {
 }
 
 -- x[0:8]
-abbrev coords : List Coord
+abbrev pub coords : List Coord
 coords = Span (Lit (pos 0)) (Lit (pos 8)) ∷ []
 
 -- for i0 in seq(0, 8)
-abbrev loops : List Loop
+abbrev pub loops : List Loop
 loops = record { binder = binder 3; extent = Lit (pos 8) } ∷ []
 
 -- and again, behind the block
-abbrev back : List Loop
+abbrev pub back : List Loop
 back = record { binder = binder 4; extent = Lit (pos 8) } ∷ []
 
 is_staging : IsStaging 1 10 (all_of 10) coords loops s
@@ -123,7 +121,7 @@ copied = stores_law world 1 10 (all_of 10) coords loops s is_staging
     (λ to at e. subst (λ (z : Shape). stored_as z.cell (Number (pos 7)) ≡ Number (pos 7))
     (one_value eight to e) seven)
 
-abbrev cell_of : ℕ → ℤ → Option State → Option Value
+abbrev pub cell_of : ℕ → ℤ → Option State → Option Value
 cell_of b i o = option_map (λ (t : State). t.cells b (i ∷ [])) o
 
 by_the_loop : cell_of 10 (pos 5) (run world (store_nest 1 10 coords loops) s)
@@ -137,7 +135,7 @@ by_the_copy = refl
 
 -- ---- the whole, where x holds 3 in each cell
 
-abbrev first : State
+abbrev pub first : State
 first = record {
   scene = record {
     control = λ y. pos 0;
@@ -150,7 +148,7 @@ first = record {
 }
 
 -- for i in seq(0, 4): t[2 * i] = 7
-abbrev halves : ℕ → Block
+abbrev pub halves : ℕ → Block
 halves t = next (For (binder 2) (Lit (pos 0)) (Lit (pos 4))
     (next (Assign t (Mul (Lit (pos 2)) (Var 2) ∷ []) (Const (pos 7))) end)) end
 
@@ -207,7 +205,7 @@ alone_if b unused unmade = record {
         (sym (eqb-true y 10 k))
     roots y z false k e = absurd (none_is_some e)
 
-alone : IsAlone (λ y. y == 1) (λ y. y) 1 (all_of 10) eight (halves 1) first
+pub alone : IsAlone (λ y. y == 1) (λ y. y) 1 (all_of 10) eight (halves 1) first
 alone = alone_if (halves 1) refl refl
 
 not_written : writes world (updated (λ y. y) 1 1) (halves 1) 10 ≡ false
@@ -346,7 +344,7 @@ fits_three_in : FitsCell I32 (Number (pos 3))
 unfolding int_wrap
 fits_three_in = refl
 
-cells_fit : CellsFit first
+pub cells_fit : CellsFit first
 cells_fit b shape e at = go (b == 10) e
   where
     go : (r : Bool) → cond {A = Option Shape} r (Some eight) None ≡ Some shape
@@ -395,7 +393,7 @@ x_unwritten = unwritten_law (has_root (λ y. y) 10) (λ y. false) world (λ y. y
 
 -- ---- a block that only reads: y: i32; y = t[3]
 
-abbrev reader : ℕ → Block
+abbrev pub reader : ℕ → Block
 reader t = next (Alloc (binder 5) I32 [] 0) (next (Assign 5 [] (Read t (Lit (pos 3) ∷ []))) end)
 
 alone_too : IsAlone (λ y. y == 1) (λ y. y) 1 (all_of 10) eight (reader 1) first
@@ -428,7 +426,7 @@ halves_are_staged = round_law (λ y. y == 1) world (λ y. y) (binder 1) (Lit (po
 -- ---- the block of x and the block of t
 
 -- for i in seq(0, 4): t[2 * i - 0] = 7
-abbrev on_t : Block
+abbrev pub on_t : Block
 on_t = converted 1 10 coords (halves 10)
 
 is_on_t : on_t ≡ next (For (binder 2) (Lit (pos 0)) (Lit (pos 4))
@@ -612,43 +610,6 @@ by_alike_ends = alike_replaces world (λ y. y == 5) (next (Alloc (binder 5) I32 
     unmade y at i false e = refl
     unmade y at i true e = absurd (not_there y i e)
 
--- ---- and at a place of a procedure: a `pass` for which nothing is made, since t has no cell
-
-abbrev does_nothing : Procedure
-does_nothing = record {
-  name = 102 ∷ [];
-  params = [];
-  asserts = [];
-  body = next Pass end;
-  template = None;
-}
-
-abbrev for_nothing : Block
-for_nothing = between (binder 1) I32 (Lit (pos 0) ∷ []) 0 10 coords loops back (next Pass end)
-
-abbrev in_unit : World
-in_unit = unit_world (λ f. Index) []
-
-it_refines : Refines in_unit does_nothing (record does_nothing { body = for_nothing }) []
-it_refines = staged_refines (λ f. Index) [] does_nothing (Here end) (λ y. y == 1) (λ y. y == 1)
-    (λ y. y) (binder 1) I32 (Lit (pos 0) ∷ []) 0 10 coords loops back (next Pass end) refl refl
-    (λ s u good come. (
-      record {
-        none = record {
-          sound = sound_law in_unit does_nothing (next Pass end) (Here end) s u good come;
-          unbound = λ y e. unbound_law in_unit does_nothing (next Pass end) (Here end) s u good come
-              y (refl, refl);
-        };
-        of_old = λ y e. absurd (true≢false (sym e));
-        of_new = λ y e. either (y == 1) e;
-      },
-      λ v e. absurd (none_is_some e),
-    ))
-  where
-    either : (t : Bool) → (t || false) ≡ true → t ≡ true
-    either true e = refl
-    either false e = e
-
 -- ---- the whole from what is known
 
 fits_seven_in : FitsCell I32 (Number (pos 7))
@@ -710,7 +671,7 @@ eight_spans ls new equal = record {
   equal = equal;
 }
 
-are_made : AreMade (λ y. y == 1) (λ y. y) (binder 1) (Lit (pos 8) ∷ []) 10 coords loops back
+pub are_made : AreMade (λ y. y == 1) (λ y. y) (binder 1) (Lit (pos 8) ∷ []) 10 coords loops back
     (halves 10)
 are_made = record {
   new = new_name;

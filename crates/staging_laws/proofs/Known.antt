@@ -32,12 +32,14 @@ use Rattle.inplace_laws.proofs.Windows.{view_kept}
 use Rattle.staging_laws.specs.Stores.{load_nest, store_nest, variables, AtAny, RunOver, spans}
 use Rattle.staging_laws.specs.Stores.{IsStaging, FitInto, emptied}
 use Rattle.staging_laws.specs.Inside.{extents_of, AreOverSpans}
-use Rattle.staging_laws.specs.Alone.{has_root}
+use Rattle.staging_laws.specs.Alone.{has_root, IsAlone}
 use Rattle.staging_laws.specs.Behind.{IsBetween}
 use Rattle.staging_laws.specs.Converted.{converted}
-use Rattle.staging_laws.specs.Replaced.{between, IsStaged}
+use Rattle.staging_laws.specs.Whole.{MayConvert}
+use Rattle.staging_laws.specs.Replaced.{IsStaged}
 use Rattle.staging_laws.specs.Known.{AreOver, AreMade, IsKnown, FitsBehind, KnownLaw}
 use Rattle.staging_laws.specs.Known.{up_to_store, FitsBehindLaw}
+use Rattle.staging_laws.specs.Readers.{IsLoaded, KnownReaderLaw}
 use Rattle.staging_laws.proofs.Behind.{run_names}
 use Rattle.staging_laws.proofs.Box.{box_law}
 use Rattle.staging_laws.proofs.Loads.{stage_in_law}
@@ -127,12 +129,9 @@ module _ (blind : ℕ → Bool) (world : World) (root : ℕ → ℕ) (a : Binder
   abbrev first_part : Block
   first_part = next (Alloc a cell dims memory) (load_nest a.id x coords ls)
 
-  abbrev rest : Block
-  rest = joined inner (store_nest a.id x coords ks)
-
-  shows : (u : State) → run world (between a cell dims memory x coords ls ks inner) s ≡ Some u
+  shows : (rest : Block) (u : State) → run world (joined first_part rest) s ≡ Some u
       → IsSome (window s.scene x coords)
-  shows u e =
+  shows rest u e =
       let m = then_gives (step world (Alloc a cell dims memory) s)
       (run world (joined (load_nest a.id x coords ls) rest)) u e in
       let p = allocated m.0 m.1 in
@@ -244,37 +243,61 @@ module _ (blind : ℕ → Bool) (world : World) (root : ℕ → ℕ) (a : Binder
           (λ w k. ap (λ (q : Shape). q.cell) (one_value w to (sym k ∙ sym its
           ∙ updated_other s.scene.buffers a.id _ seen.buffer other_buffer ∙ has)))
 
+      sizes_are : numbers s.scene dims ≡ extents seen.sides
+      sizes_are = made.sizes s.scene ∙ (box_law s.scene x coords seen there).0
+
+      fits_itself : FitInto s seen.buffer seen.buffer
+      fits_itself = fit_into_law s seen.buffer seen.buffer to known.cells has
+          (λ w k. ap (λ (q : Shape). q.cell) (one_value w to (sym k ∙ has)))
+
+      converts : MayConvert world a.id x seen coords b s
+      converts = record {
+        sound = known.sound;
+        unbound = known.unbound;
+        window = there;
+        new = made.new;
+        fit = known.fit;
+        between = lies_between;
+      }
+
+      is_alone : IsAlone blind root a.id seen to inner s
+      is_alone = record {
+        sound = known.sound;
+        roots = known.roots;
+        own = known.own_roots;
+        there = has;
+        new = known.unbound;
+        blinds = made.blinds;
+        names = subst (λ k. in_block (has_root (updated root a.id a.id) k) blind inner ≡ false)
+            (sym is_root) made.names;
+        not_made = made.not_made;
+      }
+
+      is_loaded : IsLoaded blind world root a cell dims x coords ls b s
+      is_loaded = record {
+        seen = seen;
+        to = to;
+        cell_is = same_cell;
+        may = converts;
+        alone = is_alone;
+        sizes = sizes_are;
+        before = staging ls made.loads;
+        fit = fits_itself;
+      }
+
       is_staged : FitsBehind world a x coords b s
           → IsStaged blind world root a cell dims x coords ls ks b s
       is_staged fits = record {
         seen = seen;
         to = to;
         cell_is = same_cell;
-        may = record {
-          sound = known.sound;
-          unbound = known.unbound;
-          window = there;
-          new = made.new;
-          fit = known.fit;
-          between = lies_between;
-        };
-        alone = record {
-          sound = known.sound;
-          roots = known.roots;
-          own = known.own_roots;
-          there = has;
-          new = known.unbound;
-          blinds = made.blinds;
-          names = subst (λ k. in_block (has_root (updated root a.id a.id) k) blind inner ≡ false)
-              (sym is_root) made.names;
-          not_made = made.not_made;
-        };
+        may = converts;
+        alone = is_alone;
         round = record {
-          sizes = made.sizes s.scene ∙ (box_law s.scene x coords seen there).0;
+          sizes = sizes_are;
           before = staging ls made.loads;
           again = staging ks made.stores;
-          fit = fit_into_law s seen.buffer seen.buffer to known.cells has
-              (λ w k. ap (λ (q : Shape). q.cell) (one_value w to (sym k ∙ has)));
+          fit = fits_itself;
           between = lies_between;
           behind = λ t e. (over_spans ks coords made.stores t.scene, fits_behind fits t e);
         };
@@ -283,7 +306,8 @@ module _ (blind : ℕ → Bool) (world : World) (root : ℕ → ℕ) (a : Binder
 pub known_law : KnownLaw
 known_law blind world root a cell dims memory x coords ls ks b s u made known fits e =
     go (window s.scene x coords) refl
-    (shows blind world root a cell dims memory x coords ls ks b s made known u e)
+    (shows blind world root a cell dims memory x coords ls ks b s made known
+    (joined (converted a.id x coords b) (store_nest a.id x coords ks)) u e)
   where
     go : (o : Option Seen) → window s.scene x coords ≡ o → IsSome (window s.scene x coords)
         → IsStaged blind world root a cell dims x coords ls ks b s
@@ -292,6 +316,20 @@ known_law blind world root a cell dims memory x coords ls ks b s u made known fi
         let to = shaped blind world root a cell dims memory x coords ls ks b s made known seen k in
         is_staged blind world root a cell dims memory x coords ls ks b s made known seen k to.0 to.1
         fits
+
+pub known_reader_law : KnownReaderLaw
+known_reader_law blind world root a cell dims memory x coords ls b s u made known e =
+    go (window s.scene x coords) refl
+    (shows blind world root a cell dims memory x coords ls ls b s made known
+    (converted a.id x coords b) u e)
+  where
+    go : (o : Option Seen) → window s.scene x coords ≡ o → IsSome (window s.scene x coords)
+        → IsLoaded blind world root a cell dims x coords ls b s
+    go None k i = absurd (true≢false (sym (subst IsSome k i)))
+    go (Some seen) k i =
+        let to = shaped blind world root a cell dims memory x coords ls ls b s made known seen k in
+        is_loaded blind world root a cell dims memory x coords ls ls b s made known seen k to.0
+        to.1
 
 pub fits_behind_law : FitsBehindLaw
 fits_behind_law fields memories ps scope blind rules root a cell dims memory x coords ls ks b s unit

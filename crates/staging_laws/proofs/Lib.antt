@@ -11,4 +11,8 @@ pub mod Gone
 pub mod Whole
 pub mod Replaced
 pub mod Known
+pub mod AtPlaces
+pub mod Readers
+pub mod ReadsOn
 pub mod Examples
+pub mod PlaceExamples

@@ -8,3 +8,5 @@ pub mod Converted
 pub mod Whole
 pub mod Replaced
 pub mod Known
+pub mod AtPlaces
+pub mod Readers

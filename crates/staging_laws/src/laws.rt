@@ -26,6 +26,12 @@ ghost use Rattle.staging_laws.specs.Replaced.{StagedReplaces};
 ghost use Rattle.staging_laws.specs.Replaced.{StagedRefines};
 ghost use Rattle.staging_laws.specs.Known.{KnownLaw};
 ghost use Rattle.staging_laws.specs.Known.{FitsBehindLaw};
+ghost use Rattle.staging_laws.specs.AtPlaces.{OwnRootsLaw};
+ghost use Rattle.staging_laws.specs.AtPlaces.{KnownAtPlace};
+ghost use Rattle.staging_laws.specs.Readers.{KnownReaderLaw};
+ghost use Rattle.staging_laws.specs.Readers.{ReaderReplaces};
+ghost use Rattle.staging_laws.specs.Readers.{ReaderRefines};
+ghost use Rattle.staging_laws.specs.Readers.{ReadsOnLaw};
 
 /// The store nest copies the staged buffer back into the window.
 pub fn stores_copy_back()
@@ -155,4 +161,35 @@ pub fn known_blocks_are_staged()
 /// Where the blocks that are made keep the rules, the cells that they leave fit their types.
 pub fn cells_fit_behind()
     ensures { FitsBehindLaw }
+{}
+
+/// Each buffer is its own root, wherever a run comes to.
+pub fn buffers_are_their_roots()
+    ensures { OwnRootsLaw }
+{}
+
+/// What a staged block has to know of a state is known at each place of a procedure.
+pub fn states_are_known_at_places()
+    ensures { KnownAtPlace }
+{}
+
+/// Tests on the trees and the types are enough for a block that only reads to be staged.
+pub fn known_readers_are_loaded()
+    ensures { KnownReaderLaw }
+{}
+
+/// A block that only reads may be replaced by the converted block behind the load nest alone.
+pub fn reading_blocks_may_be_replaced()
+    ensures { ReaderReplaces }
+{}
+
+/// So the procedure with it refines the procedure.
+pub fn staged_readers_refine()
+    ensures { ReaderRefines }
+{}
+
+/// Where a block writes nothing of the window's buffer, its converted form writes nothing of the
+/// staged one.
+pub fn readers_read_on()
+    ensures { ReadsOnLaw }
 {}

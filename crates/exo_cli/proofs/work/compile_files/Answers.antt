@@ -1,9 +1,10 @@
 use Rattle.std.proofs.Common.{ℕ, ◌≤◌, List, length, sym, subst}
 use Rattle.cli_outside.specs.Outside.{HasBytes}
 use Rattle.exo_cli.specs.Replies.{plain}
+use Rattle.exo_cli.specs.Stages.{ComesTo, compiled, answer_of}
 use Rattle.exo_cli.specs.Work.{file_limit}
 use Rattle.exo_cli.proofs.Endings.{second-ends, compiled-answers}
-use Rattle.exo_cli.proofs.Running.{if-both}
+use Rattle.exo_cli.proofs.Running.{answered, if-ok}
 use Rattle.exo_cli.proofs.work.compile_files.Goals as goal
 
 pub returns-in-Err-2 : goal.returns-in-Err-2
@@ -22,7 +23,8 @@ returns g c =
     let second = rw c.in_ok-text.ensures.same at read in
     let unit = subst (λ (l : List ℕ). HasBytes told c.args.procs.now l × (length l ≤ file_limit)) (sym c.deref.ensures.value) first in
     let lines = subst (λ (l : List ℕ). HasBytes told c.args.schedule.now l × (length l ≤ file_limit)) (sym c.deref-2.ensures.value) second in
-    if-both c.compile.result _ _ _ (λ reply compiled verdict.
+    if-ok c.replied.result _ _ (λ reply is.
     compiled-answers told c.args.procs.now c.args.schedule.now c.deref.result.now c.deref-2.result.now _ _ _ (plain reply)
-    unit.0 unit.1 lines.0 lines.1 compiled verdict)
-    c.compile.ensures.answer c.compile.ensures.verdict
+    unit.0 unit.1 lines.0 lines.1
+    (answered _ (ComesTo (compiled c.deref-2.result.now) c.deref.result.now) (answer_of c.args.procs.now c.args.schedule.now) (plain reply) c.compiled.ensures is))
+    c.replied.ensures

@@ -1,0 +1,4 @@
+pub mod Changes
+pub mod Units
+pub mod Openings
+pub mod Examples
