@@ -35,25 +35,25 @@ fits_held cell (Number n) w h e = (e, ap (wrap I32) (sym h) ∙ narrow_fits cell
 
 -- ---- the whole of a buffer
 
-whole_begins : (ds ts : List ℤ) → dot (lower_ends (whole ds)) ts ≡ pos 0
+pub whole_begins : (ds ts : List ℤ) → dot (lower_ends (whole ds)) ts ≡ pos 0
 whole_begins [] ts = refl
 whole_begins (d ∷ ds) [] = refl
 whole_begins (d ∷ ds) (t ∷ ts) = ap₂ (λ a b. a +ℤ b) (*ℤ_comm (pos 0) t ∙ *ℤ-zero t) (whole_begins ds ts)
 
-all_strides : (ds ts : List ℤ) → length ts ≡ length ds → strides_of (whole ds) ts ≡ ts
+pub all_strides : (ds ts : List ℤ) → length ts ≡ length ds → strides_of (whole ds) ts ≡ ts
 all_strides [] [] e = refl
 all_strides [] (t ∷ ts) e = absurd (omega (arith, e))
 all_strides (d ∷ ds) [] e = absurd (omega (arith, e))
 all_strides (d ∷ ds) (t ∷ ts) e = ap (λ us. t ∷ us) (all_strides ds ts (omega (arith, e)))
 
-all_extents : (ds : List ℤ) → extents (whole ds) ≡ ds
+pub all_extents : (ds : List ℤ) → extents (whole ds) ≡ ds
 all_extents [] = refl
 all_extents (d ∷ ds) = ap (λ es. d ∷ es) (all_extents ds)
 
 plus_zero : (z : ℤ) → z +ℤ pos 0 ≡ z
 plus_zero z = omega (arith, ints)
 
-at_first : (p : Pointer) (k : ℤ) → k ≡ pos 0 → moved p k ≡ p
+pub at_first : (p : Pointer) (k : ℤ) → k ≡ pos 0 → moved p k ≡ p
 at_first p k e = ap (λ z. record { object = p.object; offset = z }) (ap (λ z. p.offset +ℤ z) e ∙ plus_zero p.offset)
 
 module _ (layout : Layout) (s : State) (m : Machine) where

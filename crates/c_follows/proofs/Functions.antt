@@ -1,5 +1,5 @@
 -- A call of a function follows the run of its procedure.
-use Rattle.std.proofs.Common.{◌≡◌, ◌≤◌, ◌^◌, ℕ, suc, ℤ, pos, negsuc, neg_ℤ, Bool, true, false, List, [], ◌∷◌, length, Option, Some, None, refl, sym, ap, ◌∙◌, subst, arith, unsigned_abs, ⊎_elim}
+use Rattle.std.proofs.Common.{◌≡◌, ◌≤◌, ◌^◌, ℕ, suc, ℤ, pos, negsuc, neg_ℤ, Bool, true, false, List, [], ◌∷◌, length, Option, Some, None, refl, sym, ap, ◌∙◌, subst, arith, unsigned_abs, true≢false, ⊎_elim}
 use Rattle.std.proofs.lemmas.Int.{ints}
 use Rattle.exo_tree.specs.Tree.{Control, Param, ParamKind, ControlParam, TensorParam, WindowParam, Procedure}
 use Rattle.exo_meaning.specs.Value.{Value, Undefined, Number, IsRefinedBy}
@@ -18,12 +18,12 @@ use Rattle.c_follows.specs.Simulation.{Ground, Follows, Layout, AreSameFields, M
 use Rattle.c_follows.specs.Good.{AreGoodParams}
 use Rattle.c_follows.specs.SameInput.{IsSame, AreSame}
 use Rattle.c_follows.specs.Units.{LeavesTheSame}
-use Rattle.c_follows.specs.Functions.{behaviour_of, AreDeclared, IsSameInput, FunctionsWithoutCallsFollow}
+use Rattle.c_follows.specs.Functions.{behaviour_of, AreDeclared, IsSameInput, FunctionsFollow, FunctionsWithoutCallsFollow}
 use Rattle.c_follows.proofs.Steps.{follows_done}
 use Rattle.c_follows.proofs.Simulate.{same_itself}
 use Rattle.c_follows.proofs.Bound.{Suits, AreSuited, thing_of, named_by, formals_bind, bound_elsewhere, bound_here, names_differ, params_other, param_there}
 use Rattle.c_follows.proofs.Begun.{begun}
-use Rattle.c_follows.proofs.WithoutCalls.{blocks_without_calls_follow}
+use Rattle.c_follows.proofs.WithCalls.{blocks_follow}
 
 -- the source goes on as it is, and the C is closed
 follows_closed : {A B C : Type 0} (Few : Type 0) (R : A → B → Type 0) (S : A → C → Type 0) (o : Option A) (p : Outcome B) (h : B → C) → Follows Few R o p → ((a : A) (b : B) → R a b → S a (h b)) → Follows Few S o (after p (λ b. Done (h b)))
@@ -93,8 +93,8 @@ module _ (g : Ground) (most : ℕ → ℕ) (layout : Layout) (world : World) (c_
     fields = λ f h. (r.fields f h).0;
   }
 
-pub functions_without_calls_follow : FunctionsWithoutCallsFollow
-functions_without_calls_follow g most layout world kinds above c_world p s ts m not_called declared good_params good may apart valid same = start (all_have_extents s.scene p.params) refl
+pub functions_follow : FunctionsFollow
+functions_follow g most layout world kinds above c_world p s ts m calls declared good_params good may apart valid same = start (all_have_extents s.scene p.params) refl
   where
     start : (t : Bool) → all_have_extents s.scene p.params ≡ t → Follows (AllocatesFew world (fewness_from kinds [] no_fewness above) p.body s) (LeavesTheSame g.naming g.declared layout s m) (where_true t (run world p.body s)) (run_in_place c_world (Some (behaviour_of g c_world p)) ts m)
     start false e = tt
@@ -104,5 +104,16 @@ functions_without_calls_follow g most layout world kinds above c_world p s ts m 
         follows_done Few (LeavesTheSame g.naming g.declared layout s m) (run world p.body s) (bind_formals m.setting.objects (formals_of g.naming p.params) ts c_world.globals) (named_by g.naming p.params ts c_world.globals) (λ z. in_scope (λ n. run_c c_world (block_of g.naming (param_forms p.params) p.body) (with_names z n)) m)
         (formals_bind g.naming m.setting.objects p.params ts c_world.globals (suited g most layout world c_world p s ts m declared good_params valid same))
         (follows_closed Few (Ends g (param_forms p.params) layout s inner) (LeavesTheSame g.naming g.declared layout s m) (run world p.body s) (run_c c_world (block_of g.naming (param_forms p.params) p.body) inner) (back_to m)
-        (blocks_without_calls_follow g (param_forms p.params) most (λ x. x) layout world kinds above c_world p.body not_called good may apart s inner (matched g most layout world c_world p s ts m declared good_params valid same e))
+        (blocks_follow g (param_forms p.params) most (λ x. x) layout world kinds above c_world p.body calls good may apart s inner (matched g most layout world c_world p s ts m declared good_params valid same e))
         (leaves g most layout world c_world p s ts m declared good_params valid same e))
+
+pub functions_without_calls_follow : FunctionsWithoutCallsFollow
+functions_without_calls_follow g most layout world kinds above c_world p s ts m not_called declared =
+    functions_follow g most layout world kinds above c_world p s ts m
+    (record {
+      fields = declared.fields;
+      functions = declared.functions;
+      named = λ k h. absurd (true≢false (sym h ∙ not_called k));
+      each = λ k c e h. absurd (true≢false (sym h ∙ not_called k));
+    })
+    declared

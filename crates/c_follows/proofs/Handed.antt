@@ -42,7 +42,7 @@ some_cells i j n h = one i j (and_parts (int_le (pos 0) i) (int_lt i j) (and_par
 
 module _ (scene : Scene) where
   -- the first cell of a window is at its lower ends
-  first_at : (sides : List Side) (cs : List Coord) (result : List Side) → narrowed scene sides cs ≡ Some result → cell_at sides (numbers scene (map lower_end cs)) ≡ Some (lower_ends result)
+  pub first_at : (sides : List Side) (cs : List Coord) (result : List Side) → narrowed scene sides cs ≡ Some result → cell_at sides (numbers scene (map lower_end cs)) ≡ Some (lower_ends result)
   first_at [] [] result e = ap (λ r. Some (lower_ends r)) (some_same e)
   first_at [] (c ∷ cs) result e = absurd (no_some e)
   first_at (Point p ∷ sides) cs result e =
@@ -86,7 +86,7 @@ module _ (scene : Scene) where
     none_have (c ∷ cs) [] = tt
     none_have (c ∷ cs) (side ∷ r) = tt
 
-    spans_have : (sides : List Side) (cs : List Coord) (result : List Side) → narrowed scene sides cs ≡ Some result → (es : List Number64) (ts : List ℤ) → HaveNumbers s es (strides_of sides ts) → HaveNumbers s (at_spans cs es) (strides_of result ts)
+    pub spans_have : (sides : List Side) (cs : List Coord) (result : List Side) → narrowed scene sides cs ≡ Some result → (es : List Number64) (ts : List ℤ) → HaveNumbers s es (strides_of sides ts) → HaveNumbers s (at_spans cs es) (strides_of result ts)
     spans_have [] [] result e es ts h = subst (λ r. HaveNumbers s [] (strides_of r ts)) (some_same e) tt
     spans_have [] (c ∷ cs) result e es ts h = absurd (no_some e)
     spans_have (side ∷ sides) cs result e [] [] h = none_have cs result
@@ -154,7 +154,7 @@ surely R a (Done b) h = (b, refl, h)
 surely R a Fault h = absurd h
 surely R a NoStore h = absurd (h tt)
 
-good_ends : (forms : Forms) (most : ℕ → ℕ) (cs : List Coord) → AreGoodCoords forms most cs → AreGood forms most (map lower_end cs)
+pub good_ends : (forms : Forms) (most : ℕ → ℕ) (cs : List Coord) → AreGoodCoords forms most cs → AreGood forms most (map lower_end cs)
 good_ends forms most [] h = (tt, tt)
 good_ends forms most (At a ∷ cs) h = let rest = good_ends forms most cs h.1 in ((h.0.0, rest.0), (h.0.1, rest.1))
 good_ends forms most (Span a b ∷ cs) h = let rest = good_ends forms most cs h.1 in ((h.0.0.0, rest.0), (h.0.0.1, rest.1))
@@ -196,11 +196,11 @@ module _ (naming : Naming) (forms : Forms) (most : ℕ → ℕ) (layout : Layout
         strides = subst (λ f. HaveNumbers setting (strides_in naming x f) (strides_of w.seen.sides w.shape.strides)) (sym e) (subst (λ r. HaveNumbers setting (window_strides (naming.binder x) 0 r) (strides_of w.seen.sides w.shape.strides)) rank_is (window_strides_are setting (naming.binder x) (beginning layout w.shape w.seen) (strides_of w.seen.sides w.shape.strides) w.name));
       }
 
-  sees : (x : ℕ) (cell : Cell) (rank : ℕ) → IsBufferOf forms x cell rank → SeesPart naming forms scene setting x cell
+  pub sees : (x : ℕ) (cell : Cell) (rank : ℕ) → IsBufferOf forms x cell rank → SeesPart naming forms scene setting x cell
   sees x cell rank h = ⊎_elim (λ w. window_sees x cell rank w.0) (λ t. tensor_sees x cell t.0 zero t.1) h
 
   module _ (root : ℕ → ℕ) (roots : HasRoots root scene) (Few : Type 0) (x : ℕ) (cell : Cell) (cs : List Coord) (h : IsBufferOf forms x cell (length cs)) (good : AreGoodCoords forms most cs) where
-    abbrev own : SeesPart naming forms scene setting x cell
+    abbrev pub own : SeesPart naming forms scene setting x cell
     own = sees x cell (length cs) h
 
     abbrev texts : List Number64
@@ -212,7 +212,7 @@ module _ (naming : Naming) (forms : Forms) (most : ℕ → ℕ) (layout : Layout
     abbrev seen_by : List Side → Seen
     seen_by sides = record { buffer = own.seen.buffer; sides = sides }
 
-    window_is : window scene x cs ≡ option_map (λ sides. record { buffer = own.seen.buffer; sides = sides }) (narrowed scene own.seen.sides cs)
+    pub window_is : window scene x cs ≡ option_map (λ sides. record { buffer = own.seen.buffer; sides = sides }) (narrowed scene own.seen.sides cs)
     window_is = ap (λ o. then_do o (λ seen. option_map (λ sides. record { buffer = seen.buffer; sides = sides }) (narrowed scene seen.sides cs))) own.view
 
     module _ (sides : List Side) (e : narrowed scene own.seen.sides cs ≡ Some sides) where
@@ -248,14 +248,18 @@ module _ (naming : Naming) (forms : Forms) (most : ℕ → ℕ) (layout : Layout
           (ap (λ o. holds_cells o cell) first_cell.2.there ∙ ap (λ c. same_cell c cell) first_cell.2.cell_there ∙ same_itself cell)
           (eq-eqb (length strides) (length texts) (sym (have_length setting texts strides strides_are)))
 
-      thing_is : thing setting (window_of naming forms x cell cs) ≡ Done (IsWindow (beginning layout own.shape (seen_by sides)) strides)
+      -- the pointer to the first cell
+      pub first_spot : spot setting (cell_at_of naming forms x (map lower_end cs)) ≡ Done (beginning layout own.shape (seen_by sides))
+      first_spot = first_cell.1 ∙ ap Done begins
+
+      pub thing_is : thing setting (window_of naming forms x cell cs) ≡ Done (IsWindow (beginning layout own.shape (seen_by sides)) strides)
       thing_is =
           ap (λ o. after o (λ p. after (all_numbers64 setting texts) (window_from (length texts) cell setting.objects p))) first_cell.1
           ∙ ap (λ o. after o (window_from (length texts) cell setting.objects first_cell.0)) (all_numbers setting texts strides strides_are)
           ∙ ap (λ t. where_good t (Done (IsWindow first_cell.0 strides))) fits_struct
           ∙ ap (λ p. Done (IsWindow p strides)) begins
 
-      within_is : LieWithin (whole own.shape.dims) sides
+      pub within_is : LieWithin (whole own.shape.dims) sides
       within_is = subst (λ o. IfSome o (LieWithin (whole own.shape.dims))) e (narrowed_within scene (whole own.shape.dims) own.seen.sides cs own.within)
 
       handed : Handed (seen_by sides) (IsWindow (beginning layout own.shape (seen_by sides)) strides)

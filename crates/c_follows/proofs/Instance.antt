@@ -33,11 +33,11 @@ fresh = record { not_there = refl; other_name = λ x. inl refl; no_field = λ f 
 plain_memory : FitsMemory (ground.naming.memory 0) zero_bounds (Lit (pos 2) ∷ [])
 plain_memory = record { last = tt; literals = λ h. absurd (true≢false (sym h)); small = λ h. absurd (true≢false (sym h)) }
 
-seven : wrap I32 (pos 7) ≡ pos 7
+pub seven : wrap I32 (pos 7) ≡ pos 7
 unfolding int_wrap
 seven = refl
 
-abbrev machine_of : Outcome Machine → Machine
+abbrev pub machine_of : Outcome Machine → Machine
 machine_of (Done n) = n
 machine_of Fault = bare
 machine_of NoStore = bare

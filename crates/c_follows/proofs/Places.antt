@@ -18,7 +18,7 @@ use Rattle.c_follows.proofs.Numbers.{same_numbers, offset_value}
 use Rattle.c_follows.proofs.Windows.{ArePlaced, AreNatural, natural_strides, natural_indices, natural_dot, natural_seen, natural_part, natural_lower, strides_length, seen_in_range, window_offset, scaled_value, window_strides_are}
 
 -- a whole buffer's cell is at the indices themselves, where they are in range
-whole_cell : (is ds : List ℤ) → (cell_at (whole ds) is ≡ None) ⊎ ((in_range is ds ≡ true) × (cell_at (whole ds) is ≡ Some is))
+pub whole_cell : (is ds : List ℤ) → (cell_at (whole ds) is ≡ None) ⊎ ((in_range is ds ≡ true) × (cell_at (whole ds) is ≡ Some is))
 whole_cell [] [] = inr (refl, refl)
 whole_cell (i ∷ is) [] = inl refl
 whole_cell [] (d ∷ ds) = inl refl

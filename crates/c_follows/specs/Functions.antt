@@ -15,6 +15,7 @@ use Rattle.c_follows.specs.Simulation.{Ground, Follows, Layout}
 use Rattle.c_follows.specs.Good.{IsGoodBlock, MayStore, SharesNothing, AreGoodParams, AreNamedApart}
 use Rattle.c_follows.specs.SameInput.{AreSame, AreSeparate}
 use Rattle.c_follows.specs.Units.{LeavesTheSame}
+use Rattle.c_follows.specs.Calls.{CallsFollow}
 
 abbrev pub behaviour_of : Ground → CWorld → Procedure → Behaviour
 behaviour_of g c_world p =
@@ -47,6 +48,24 @@ pub record IsSameInput (g : Ground) (most : ℕ → ℕ) (layout : Layout) (s : 
   pub separate : AreSeparate layout s
   pub small : AreSmall s most ps
 
+-- From the same valid input a call of a function leaves what its procedure leaves, where all that it calls is followed.
+abbrev pub FunctionsFollow : Type 0
+FunctionsFollow =
+    (g : Ground) (most : ℕ → ℕ) (layout : Layout) (world : World) (kinds : ℕ → Kind) (above : List Procedure)
+    (c_world : CWorld) (p : Procedure) (s : State) (ts : List Thing) (m : Machine)
+    → let few = fewness_from kinds [] no_fewness above in
+    CallsFollow g world few c_world
+    → AreDeclared g c_world p.params
+    → AreGoodParams (param_forms p.params) most p.params
+    → IsGoodBlock g (param_forms p.params) most p.body
+    → MayStore g.stored world (λ x. x) p.body
+    → SharesNothing world (λ x. x) p.body
+    → IsValid world p s
+    → IsSameInput g most layout s ts m p.params
+    → Follows (AllocatesFew world few p.body s) (LeavesTheSame g.naming g.declared layout s m)
+    (run_procedure world p s) (run_in_place c_world (Some (behaviour_of g c_world p)) ts m)
+
+-- The same of one that calls nothing.
 abbrev pub FunctionsWithoutCallsFollow : Type 0
 FunctionsWithoutCallsFollow =
     (g : Ground) (most : ℕ → ℕ) (layout : Layout) (world : World) (kinds : ℕ → Kind) (above : List Procedure)

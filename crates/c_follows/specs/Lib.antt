@@ -7,3 +7,5 @@ pub mod SameInput
 pub mod Units
 pub mod Functions
 pub mod Instance
+pub mod CallOfCall
+pub mod Overlapping

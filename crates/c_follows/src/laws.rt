@@ -1,8 +1,21 @@
 //! Laws of the C, each the contract of a function with nothing to do.
 
-ghost use Rattle.c_follows.specs.Calls.{BlocksWithoutCallsFollow};
-ghost use Rattle.c_follows.specs.Functions.{FunctionsWithoutCallsFollow};
+ghost use Rattle.c_follows.specs.Calls.{BlocksFollow, BlocksWithoutCallsFollow};
+ghost use Rattle.c_follows.specs.CallOfCall.{CallOfCall};
+ghost use Rattle.c_follows.specs.Functions.{FunctionsFollow, FunctionsWithoutCallsFollow};
 ghost use Rattle.c_follows.specs.Instance.{BlockInstance, CallInstance, RaisedInstance};
+ghost use Rattle.c_follows.specs.Overlapping.{Overlapping};
+
+/// The C of a block follows its run, calls included, where what it calls is followed: a call by copies in the source is one
+/// in place in the C, of a function by its name or of an instruction by its number.
+pub fn blocks_follow()
+    ensures { BlocksFollow }
+{}
+
+/// From the same valid input a call of a function leaves what its procedure leaves, where what it calls is followed.
+pub fn functions_follow()
+    ensures { FunctionsFollow }
+{}
 
 /// The C of a block that calls nothing follows its run: with windows, views, and allocations of cells and of vectors on
 /// the heap and on the stack.
@@ -24,6 +37,17 @@ pub fn block_instance()
 /// A call that hands on a column of a tensor meets what is asked of statements.
 pub fn call_instance()
     ensures { CallInstance }
+{}
+
+/// A block that calls an instruction that calls an instruction meets what the law on blocks asks, and its C is done.
+pub fn call_of_call_instance()
+    ensures { CallOfCall }
+{}
+
+/// A block that hands on two windows of one tensor that overlap, to be read, meets what the law on blocks asks, and its C
+/// is done.
+pub fn overlapping_instance()
+    ensures { Overlapping }
 {}
 
 /// A procedure may be too wide only by what another gives it.

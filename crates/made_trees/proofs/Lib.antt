@@ -1,1 +1,5 @@
 pub mod Above
+mod Counts
+mod Names
+mod Passes
+mod Scopes

@@ -1,5 +1,5 @@
 -- The ids that made binders are given.
-use Rattle.std.specs.Prelude.{ℕ, suc, max, List, [], ◌∷◌, map}
+use Rattle.std.specs.Prelude.{ℕ, suc, max, min, ◌-◌, ◌^◌, List, [], ◌∷◌, map}
 use Rattle.exo_tree.specs.Tree.{Param, Procedure}
 use Rattle.exo_meaning.specs.Units.{bound_ids}
 
@@ -14,3 +14,7 @@ next_id p = above_all (bound_ids p)
 
 abbrev pub param_ids : List Param → List ℕ
 param_ids ps = map (λ p. p.binder.id) ps
+
+-- the greatest number of 64 bits in the place of a greater one
+abbrev pub capped : ℕ → ℕ
+capped n = min n (2 ^ 64 - 1)

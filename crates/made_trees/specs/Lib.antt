@@ -1,3 +1,4 @@
 pub mod Ids
 pub mod Passes
 pub mod Names
+pub mod Walked

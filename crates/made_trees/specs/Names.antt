@@ -4,8 +4,8 @@
 use Rattle.std.specs.Prelude.{ℕ, zero, suc, nat_lt, ◌==◌, Bool, ◌||◌, if◌then◌else◌}
 use Rattle.std.specs.Prelude.{List, [], ◌∷◌, ◌++◌, length, map, codes, decimal}
 use Rattle.std.specs.List.{list_any}
-use Rattle.exo_tree.specs.Tree.{Binder, Statement, Assign, Reduce, Config, Pass, If, For, Alloc}
-use Rattle.exo_tree.specs.Tree.{View, Call, Block, end, next, Procedure}
+use Rattle.exo_tree.specs.Tree.{Binder, Param, Statement, Assign, Reduce, Config, Pass, If, For}
+use Rattle.exo_tree.specs.Tree.{Alloc, View, Call, Block, end, next, Procedure}
 use Rattle.exo_tree.specs.Mapped.{Leaves, unchanged, mapped_block}
 use Rattle.exo_meaning.specs.Units.{is_text}
 
@@ -49,8 +49,11 @@ abbrev mutual
   names_below (View w x coords) = w.name ∷ []
   names_below (Call k args) = []
 
+abbrev pub names_of : List Param → List Name
+names_of ps = map (λ q. q.binder.name) ps
+
 abbrev pub param_names : Procedure → List Name
-param_names p = map (λ q. q.binder.name) p.params
+param_names p = names_of p.params
 
 -- ---- the names of copies
 
@@ -140,4 +143,5 @@ first_naming p =
 -- a new body of the procedure, with names for its copies, whose binders have ids from `copies` on
 abbrev pub named_copies : Procedure → ℕ → Block → Block
 named_copies p copies b =
-    mapped_block (with_names (name_statements copies (top_names copies b) (first_naming p) b).given) b
+    let top = top_names copies b in
+    mapped_block (with_names (name_statements copies top (first_naming p) b).given) b

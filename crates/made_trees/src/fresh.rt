@@ -1,14 +1,17 @@
 //! The ids of made binders.
-ghost use Rattle.std.specs.Prelude.{◌≡◌, ◌+◌, OnOk, OnErr, IfOk};
+ghost use Rattle.std.specs.Prelude.{◌≡◌, ◌+◌, length, OnOk, OnErr, IfOk};
+ghost use Rattle.exo_tree.specs.Tree.{block};
+ghost use Rattle.exo_tree.specs.Renaming.{binders, fresh};
 ghost use Rattle.exo_tree.specs.PlainProcedure.{procedure};
 ghost use Rattle.made_trees.specs.Ids.{next_id};
 
 use crate::ids;
-use exo_tree::{Id, Proc};
-use std::alloc::AllocError;
+use exo_tree::{Block, Id, Proc, fresh_copy};
+use std::alloc::{AllocError, Global};
 use std::marker::Model;
 
 /// The id of the next made binder. It is seen as that number.
+#[derive(Drop)]
 pub struct Fresh {
     next: u32,
 }
@@ -54,5 +57,19 @@ impl Fresh {
         let id = Id(self.next);
         self.next += 1;
         Ok(id)
+    }
+
+    /// A copy of a block, its binders numbered from the next id on. Want of ids is answered as by
+    /// `take`.
+    pub fn copy(&mut self, alloc: Global, b: &Block) -> Result<Block, AllocError>
+        ensures copy { IfOk result (λ c. block c ≡ fresh self.old (block b.now)) }
+        ensures moved { OnOk result (self.new ≡ self.old + length (binders (block b.now))) }
+        ensures unchanged { OnErr result (self.new ≡ self.old) }
+    {
+        let room = 4294967294_u32.saturating_sub(self.next);
+        if ids::count(b) > room as usize {
+            return Err(AllocError);
+        }
+        fresh_copy(alloc, b, &mut self.next)
     }
 }

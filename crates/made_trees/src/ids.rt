@@ -1,12 +1,12 @@
 //! The ids of binders.
-ghost use Rattle.std.specs.Prelude.{◌≡◌, [], ◌∷◌, map};
+ghost use Rattle.std.specs.Prelude.{◌≡◌, ◌≤◌, [], ◌∷◌, map, length, take};
 ghost use Rattle.exo_tree.specs.Tree.{block};
 ghost use Rattle.exo_tree.specs.PlainParam.{parameter};
 ghost use Rattle.exo_tree.specs.PlainProcedure.{procedure};
 ghost use Rattle.exo_tree.specs.PlainStatement.{statement};
 ghost use Rattle.exo_tree.specs.Renaming.{binders, binders_below};
 ghost use Rattle.made_trees.specs.Ids as ids;
-ghost use Rattle.made_trees.specs.Ids.{above_all, param_ids};
+ghost use Rattle.made_trees.specs.Ids.{above_all, param_ids, capped};
 
 use exo_tree::{Block, Id, Param, Proc, Stmt};
 
@@ -56,8 +56,43 @@ fn above_params(params: &[Param]) -> u64
 
 /// The number behind the greatest id of a procedure; 0 where it has none.
 #[tactic(auto, using(crate::proofs::Above::above_joined))]
-pub(crate) fn next_id(p: &Proc) -> u64
+pub fn next_id(p: &Proc) -> u64
     ensures { result ≡ ids.next_id (procedure p.now) }
 {
     above_params(p.params.as_slice()).max(above_block(&p.body))
+}
+
+/// How many binders a block has. Counts stop at the greatest number of 64 bits.
+#[cycle(count)]
+pub(crate) fn count(b: &Block) -> usize
+    ensures { result ≡ capped (length (binders (block b.now))) }
+{
+    count_first(b, b.len())
+}
+
+/// How many binders the first `to` statements of a block have.
+#[cycle(count)]
+fn count_first(b: &Block, to: usize) -> usize
+    requires { to ≤ length b.now }
+    ensures { result ≡ capped (length (binders (block (take to b.now)))) }
+{
+    let mut all: usize = 0;
+    for k in 0..to {
+        all = all.saturating_add(count_one(b.statement(k)));
+    }
+    all
+}
+
+/// How many binders a statement has.
+#[cycle(count)]
+#[tactic(auto, using(crate::proofs::Counts::binders_of_two))]
+fn count_one(s: &Stmt) -> usize
+    ensures { result ≡ capped (length (binders_below (statement s.now))) }
+{
+    match s {
+        Stmt::If(_, a, b) => count(a).saturating_add(count(b)),
+        Stmt::For(_, _, _, b) => count(b).saturating_add(1),
+        Stmt::Alloc(_, _, _, _) | Stmt::View(_, _, _) => 1,
+        _ => 0,
+    }
 }

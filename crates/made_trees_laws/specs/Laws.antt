@@ -1,7 +1,6 @@
 -- What names of copies keep.
-use Rattle.std.specs.Prelude.{◌≡◌, ℕ, List}
-use Rattle.exo_tree.specs.Tree.{Binder, Block, Procedure}
-use Rattle.exo_tree.specs.Mapped.{mapped_block}
+use Rattle.std.specs.Prelude.{◌≡◌, ℕ}
+use Rattle.exo_tree.specs.Tree.{Block, Procedure}
 use Rattle.exo_tree.specs.Renaming.{binders}
 use Rattle.exo_meaning.specs.Run.{World, run}
 use Rattle.scope_laws.specs.Bare.{bare}

@@ -1,0 +1,13 @@
+-- What a walk knows.
+use Rattle.std.specs.Prelude.{List, map}
+use Rattle.exo_tree.specs.Tree as tree
+use Rattle.exo_tree.specs.declared.binder.Binder.{Binder}
+use Rattle.exo_tree.specs.PlainBinder.{binding}
+use Rattle.made_trees.specs.declared.naming.Walk.{Walk}
+use Rattle.made_trees.specs.Names.{Naming}
+
+abbrev pub bindings : List Binder → List tree.Binder
+bindings bs = map binding bs
+
+abbrev pub naming : Walk → Naming
+naming w = record { scope = w.scope.items; taken = w.taken.items; given = bindings w.given.items }

@@ -1,0 +1,130 @@
+//! Lists of names.
+ghost use Rattle.std.specs.Prelude.{◌≡◌, [], ◌∷◌, ◌++◌, map, codes, decimal, IfOk, OnOk};
+ghost use Rattle.exo_tree.specs.Tree.{block};
+ghost use Rattle.exo_tree.specs.PlainParam.{parameter};
+ghost use Rattle.exo_tree.specs.PlainStatement.{statement};
+ghost use Rattle.exo_meaning.specs.Units.{is_text};
+ghost use Rattle.made_trees.specs.Names as plain;
+ghost use Rattle.made_trees.specs.Names.{binder_names, names_below, names_of, top_name, top_names};
+
+use exo_tree::{Block, Name, Param, Stmt};
+use std::alloc::{AllocError, Global};
+
+/// Whether the texts are the same.
+fn is_same(one: &str, other: &str) -> bool
+    ensures { result ≡ is_text one.now other.now }
+{
+    one == other
+}
+
+/// Whether the name is one of the list.
+pub(crate) fn is_in(names: &[Name], x: &str) -> bool
+    ensures { result ≡ plain.is_in names.now x.now }
+{
+    for name in names {
+        if is_same(x, name.as_str()) {
+            return true;
+        }
+    }
+    false
+}
+
+/// The name with a number.
+fn numbered(alloc: Global, x: &str, k: usize) -> Result<Name, AllocError>
+    ensures { IfOk result (λ n. n ≡ plain.numbered x.now k) }
+{
+    let text = format!(in alloc; "{x}_{k}")?;
+    Ok(Name::new(alloc, text.as_str())?)
+}
+
+/// The name with the least number from 1 on that is not taken.
+pub(crate) fn free_name(alloc: Global, taken: &[Name], x: &str) -> Result<Name, AllocError>
+    ensures { IfOk result (λ n. n ≡ plain.free_name taken.now x.now) }
+{
+    let count = taken.len();
+    for k in 0..count {
+        let name = numbered(alloc, x, k + 1)?;
+        if !is_in(taken, name.as_str()) {
+            return Ok(name);
+        }
+    }
+    numbered(alloc, x, count + 1)
+}
+
+/// Appends a copy of a name.
+pub(crate) fn put(names: &mut Vec<Name>, alloc: Global, x: &Name) -> Result<(), AllocError>
+    ensures { OnOk result (names.new.items ≡ names.old.items ++ x.now ∷ []) }
+{
+    names.push(x.duplicate(alloc)?)?;
+    Ok(())
+}
+
+/// Appends the names of parameters.
+pub(crate) fn put_params(
+    names: &mut Vec<Name>,
+    alloc: Global,
+    params: &[Param],
+) -> Result<(), AllocError>
+    ensures { OnOk result (names.new.items ≡ names.old.items ++ names_of (map parameter params.now)) }
+{
+    for p in params {
+        put(names, alloc, &p.binder.name)?;
+    }
+    Ok(())
+}
+
+/// Appends the names of the binders of a block.
+#[cycle(names)]
+pub(crate) fn put_block(names: &mut Vec<Name>, alloc: Global, b: &Block) -> Result<(), AllocError>
+    ensures { OnOk result (names.new.items ≡ names.old.items ++ binder_names (block b.now)) }
+{
+    for k in 0..b.len() {
+        put_statement(names, alloc, b.statement(k))?;
+    }
+    Ok(())
+}
+
+/// Appends the names of the binders of a statement.
+#[cycle(names)]
+fn put_statement(names: &mut Vec<Name>, alloc: Global, s: &Stmt) -> Result<(), AllocError>
+    ensures { OnOk result (names.new.items ≡ names.old.items ++ names_below (statement s.now)) }
+{
+    match s {
+        Stmt::If(_, a, b) => {
+            put_block(names, alloc, a)?;
+            put_block(names, alloc, b)
+        }
+        Stmt::For(i, _, _, b) => {
+            put(names, alloc, &i.name)?;
+            put_block(names, alloc, b)
+        }
+        Stmt::Alloc(x, _, _, _) | Stmt::View(x, _, _) => put(names, alloc, &x.name),
+        _ => Ok(()),
+    }
+}
+
+/// Appends the name that a statement leaves to its block, unless it is a copy's.
+fn put_top(names: &mut Vec<Name>, alloc: Global, copies: u32, s: &Stmt) -> Result<(), AllocError>
+    ensures { OnOk result (names.new.items ≡ names.old.items ++ top_name copies (statement s.now)) }
+{
+    match s {
+        Stmt::Alloc(x, _, _, _) | Stmt::View(x, _, _) => {
+            if x.id.0 >= copies {
+                return Ok(());
+            }
+            put(names, alloc, &x.name)
+        }
+        _ => Ok(()),
+    }
+}
+
+/// The names at the top level of a block, but for those of copies.
+pub(crate) fn tops(alloc: Global, copies: u32, b: &Block) -> Result<Vec<Name>, AllocError>
+    ensures { IfOk result (λ l. l.items ≡ top_names copies (block b.now)) }
+{
+    let mut names = Vec::new(alloc);
+    for k in 0..b.len() {
+        put_top(&mut names, alloc, copies, b.statement(k))?;
+    }
+    Ok(names)
+}
