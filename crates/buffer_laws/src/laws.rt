@@ -18,6 +18,9 @@ ghost use Rattle.buffer_laws.specs.StageLaws.{StageMemLaw};
 ghost use Rattle.buffer_laws.specs.StageLaws.{FitsAtPlaces};
 ghost use Rattle.buffer_laws.specs.StageLaws.{ReaderDraftLaw};
 ghost use Rattle.buffer_laws.specs.StageLaws.{StageReaderLaw};
+ghost use Rattle.buffer_laws.specs.Expanded.{ExpandLaw};
+ghost use Rattle.buffer_laws.specs.Expanded.{ExpandUnderIds};
+ghost use Rattle.buffer_laws.specs.Expanded.{ExpandRefines};
 
 /// An allocation may have another memory.
 pub fn memories_are_not_seen()
@@ -107,4 +110,19 @@ pub fn buffers_are_lifted_from_then_at()
 /// So may one in the other branch, at a place of a procedure.
 pub fn buffers_are_lifted_from_else_at()
     ensures { LiftElseLaw }
+{}
+
+/// A block with a part of a larger buffer for a buffer ends with the same fields and cells.
+pub fn buffers_are_parts_of_larger()
+    ensures { ExpandLaw }
+{}
+
+/// So it does under other ids, that of the buffer for the larger one.
+pub fn buffers_are_parts_under_ids()
+    ensures { ExpandUnderIds }
+{}
+
+/// So it may stand for the block at a place of a procedure.
+pub fn buffers_may_be_expanded()
+    ensures { ExpandRefines }
 {}
