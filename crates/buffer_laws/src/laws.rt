@@ -21,6 +21,8 @@ ghost use Rattle.buffer_laws.specs.StageLaws.{StageReaderLaw};
 ghost use Rattle.buffer_laws.specs.Expanded.{ExpandLaw};
 ghost use Rattle.buffer_laws.specs.Expanded.{ExpandUnderIds};
 ghost use Rattle.buffer_laws.specs.Expanded.{ExpandRefines};
+ghost use Rattle.buffer_laws.specs.Accumulated.{AccumLaw};
+ghost use Rattle.buffer_laws.specs.Accumulated.{AccumByModes};
 
 /// An allocation may have another memory.
 pub fn memories_are_not_seen()
@@ -125,4 +127,14 @@ pub fn buffers_are_parts_under_ids()
 /// So it may stand for the block at a place of a procedure.
 pub fn buffers_may_be_expanded()
     ensures { ExpandRefines }
+{}
+
+/// A block that only reduces a buffer adds to it what it leaves there from zeros.
+pub fn sums_are_kept()
+    ensures { AccumLaw }
+{}
+
+/// So does one that neither reads nor writes it, directly, through views or in calls.
+pub fn sums_are_kept_by_modes()
+    ensures { AccumByModes }
 {}
