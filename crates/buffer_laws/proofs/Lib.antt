@@ -9,3 +9,4 @@ pub mod Accumulated
 pub mod StageLaws
 pub mod Examples
 pub mod StageExamples
+pub mod AccumExamples
