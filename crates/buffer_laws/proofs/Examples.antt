@@ -5,11 +5,14 @@ use Rattle.std.proofs.Common.{[], ◌∷◌, Some, None, refl, subst}
 use Rattle.std.proofs.Common.{arith, cond, IfSome, ◌||◌, ap, sym, true≢false}
 use Rattle.std.proofs.lemmas.Int.{ints}
 use Rattle.std.specs.Int.{int_wrap}
+use Rattle.std.specs.Ordering.{int_eq}
 use Rattle.exo_tree.specs.Tree.{Binder, I32, Index, Control, Condition, Lt, Lit, Var, StrideOf, Add}
+use Rattle.exo_tree.specs.Tree.{Field, Neg, Sub, Mul, Div, Mod}
 use Rattle.exo_tree.specs.Tree.{Datum, Const, Read, Plus, Times, Whole, Window, At, Assign, Reduce, Pass}
 use Rattle.exo_tree.specs.Tree.{Alloc, Call, Block, end, next, Procedure}
 use Rattle.exo_tree.specs.Context.{Here, fill}
 use Rattle.exo_meaning.specs.Value.{Value, Number}
+use Rattle.exo_meaning.specs.Scene.{number}
 use Rattle.exo_meaning.specs.State.{State, value}
 use Rattle.exo_meaning.specs.Calls.{bare}
 use Rattle.exo_meaning.specs.Inputs.{Refines, FitsCell}
@@ -33,7 +36,7 @@ use Rattle.buffer_laws.proofs.Lifted.{lift_from_then, lift_from_else, lift_then_
 use Rattle.buffer_laws.specs.Bound.{Hole, Top, PlusIn, stores, only_statement, filled, bound}
 use Rattle.buffer_laws.specs.Simplified.{IsSimplifier, simplified}
 use Rattle.buffer_laws.specs.Expanded.{expanded, may_expand, small, enlarged, MayBePart, MayExpand}
-use Rattle.buffer_laws.specs.Expanded.{EndsAlike}
+use Rattle.buffer_laws.specs.Expanded.{EndsAlike, with_larger}
 use Rattle.buffer_laws.proofs.Expanded.{expand_law, expand_under_ids, expand_refines}
 use Rattle.buffer_laws.proofs.Buffers.{memory_law, delete_law}
 use Rattle.buffer_laws.proofs.Lifted.{lift_from_loop, lift_law}
@@ -262,12 +265,70 @@ expanded_cell = refl
 not_expanded : may_expand four (next (Call 0 (Whole 2 ∷ [])) end) ≡ false
 not_expanded = refl
 
+-- without a 0 in front
+abbrev is_zero : Control → Bool
+is_zero (Lit n) = int_eq n (pos 0)
+is_zero (Var x) = false
+is_zero (Field f) = false
+is_zero (StrideOf x k) = false
+is_zero (Neg a) = false
+is_zero (Add a b) = false
+is_zero (Sub a b) = false
+is_zero (Mul a b) = false
+is_zero (Div a c) = false
+is_zero (Mod a c) = false
+
+abbrev drop : Control → Control
+drop (Lit n) = Lit n
+drop (Var x) = Var x
+drop (Field f) = Field f
+drop (StrideOf x k) = StrideOf x k
+drop (Neg a) = Neg a
+drop (Add a b) = cond (is_zero a) b (Add a b)
+drop (Sub a b) = Sub a b
+drop (Mul a b) = Mul a b
+drop (Div a c) = Div a c
+drop (Mod a c) = Mod a c
+
+zero_first : (m n : ℤ) → int_eq m (pos 0) ≡ true → n ≡ m +ℤ n
+zero_first m n h = grind (arith, ints)
+
+is_drop : IsSimplifier drop
+is_drop (Lit n) scene p = refl
+is_drop (Var x) scene p = refl
+is_drop (Field f) scene p = refl
+is_drop (StrideOf x k) scene p = refl
+is_drop (Neg a) scene p = refl
+is_drop (Add a b) scene p = go a
+  where
+    sum : (m : ℤ) (t : Bool) → int_eq m (pos 0) ≡ t
+        → number scene (cond t b (Add (Lit m) b)) ≡ m +ℤ number scene b
+    sum m true h = zero_first m (number scene b) h
+    sum m false h = refl
+
+    go : (a : Control)
+        → number scene (cond (is_zero a) b (Add a b)) ≡ number scene a +ℤ number scene b
+    go (Lit m) = sum m (int_eq m (pos 0)) refl
+    go (Var x) = refl
+    go (Field f) = refl
+    go (StrideOf x k) = refl
+    go (Neg c) = refl
+    go (Add c d) = refl
+    go (Sub c d) = refl
+    go (Mul c d) = refl
+    go (Div c k) = refl
+    go (Mod c k) = refl
+is_drop (Sub a b) scene p = refl
+is_drop (Mul a b) scene p = refl
+is_drop (Div a c) scene p = refl
+is_drop (Mod a c) scene p = refl
+
 -- b : i32; b = 2; b += 1; f(b) and b : i32[8] with the point i of 8, which gets the id of b
 abbrev on_cell : Block
 on_cell = next (Assign 3 [] (Const (pos 2))) (next (Reduce 3 [] (Const (pos 1)))
     (next (Call 0 (Whole 3 ∷ [])) end))
 
-cell_enlarged : re_block (swap 3 9) (enlarged 9 (Lit (pos 8)) (Var 1) one_cell on_cell)
+cell_enlarged : re_block (swap 3 9) (with_larger drop 9 (Lit (pos 8)) (Var 1) one_cell on_cell)
     ≡ expanded (Lit (pos 8)) (Var 1) one_cell on_cell
 cell_enlarged = refl
 
@@ -308,20 +369,19 @@ cell_is_part = expand_law world 9 (Lit (pos 8)) (Var 1) one_cell on_cell fifth m
 
 cell_under_ids : IfSome (run world (small one_cell on_cell) fifth)
     (λ t. EndsAlike fifth t (run world (expanded (Lit (pos 8)) (Var 1) one_cell on_cell) fifth))
-cell_under_ids = expand_under_ids (swap 3 9) world 9 (Lit (pos 8)) (Var 1) one_cell on_cell fifth
-    may_enlarge (swap_moves 3 9 (IsUnbound fifth) (unbound 3 refl) (unbound 9 refl))
+cell_under_ids = expand_under_ids drop (swap 3 9) world 9 (Lit (pos 8)) (Var 1) one_cell on_cell
+    fifth is_drop may_enlarge (swap_moves 3 9 (IsUnbound fifth) (unbound 3 refl) (unbound 9 refl))
 
--- t : i32[4]; t[0] = 7 becomes t : i32[8, 4]; t[3, 0 + 0] = 7
+-- t : i32[4]; t[0] = 7 becomes t : i32[8, 4]; t[3, 0] = 7
 abbrev at_third : Block
-at_third = re_block (swap 2 9) (enlarged 9 (Lit (pos 8)) (Lit (pos 3)) four set_first)
+at_third = re_block (swap 2 9) (with_larger drop 9 (Lit (pos 8)) (Lit (pos 3)) four set_first)
 
-third_text : at_third ≡ next (Alloc (named 2) I32 (Lit (pos 8) ∷ Lit (pos 4) ∷ []) 0)
-    (next (Assign 2 (Lit (pos 3) ∷ Add (Lit (pos 0)) (Lit (pos 0)) ∷ []) (Const (pos 7))) end)
+third_text : at_third ≡ expanded (Lit (pos 8)) (Lit (pos 3)) four set_first
 third_text = refl
 
 expanded_at : Refines world (with_body (small four set_first)) (with_body at_third) []
 expanded_at = expand_refines (λ f. Index) [] (with_body (small four set_first)) (Here end)
-    (is_buffer four) (swap 2 9) 9 (Lit (pos 8)) (Lit (pos 3)) four set_first refl
+    (is_buffer four) drop (swap 2 9) 9 (Lit (pos 8)) (Lit (pos 3)) four set_first refl is_drop
     (record { free = λ x e. (refl, refl); unused = refl })
     (λ y h. only y (y == 2) h) (λ y h. only y (y == 2) h) (refl, refl)
     (swap_moves 2 9 (IsFree (with_body (small four set_first)) (Here end)) (refl, refl) (refl, refl))

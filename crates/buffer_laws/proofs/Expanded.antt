@@ -46,12 +46,14 @@ use Rattle.staging_laws.specs.Stage.{AreAlike}
 use Rattle.staging_laws.proofs.Replaced.{alike_replaces}
 use Rattle.buffer_laws.specs.Buffers.{Buffer, allocation, is_buffer}
 use Rattle.buffer_laws.specs.Expanded.{expanded_buffer, part_coords, part_of, with_id}
-use Rattle.buffer_laws.specs.Expanded.{small, enlarged, MayExpand, EndsAlike, ExpandLaw}
+use Rattle.buffer_laws.specs.Expanded.{small, enlarged, with_larger, MayExpand, EndsAlike, ExpandLaw}
 use Rattle.buffer_laws.specs.Expanded.{ExpandUnderIds, ExpandRefines}
 use Rattle.buffer_laws.specs.Lifted.{are_plain}
+use Rattle.buffer_laws.specs.Simplified.{IsSimplifier}
 use Rattle.buffer_laws.specs.StageMem.{whole_coords}
 use Rattle.buffer_laws.proofs.Buffers.{updated_own, shape_of, behind, is_behind}
 use Rattle.buffer_laws.proofs.Lifted.{numbers_kept, none_in_all}
+use Rattle.buffer_laws.proofs.Simplified.{simplified_law}
 use Rattle.buffer_laws.proofs.Shown.{block, not_made}
 
 -- ---- the whole of a buffer
@@ -368,18 +370,20 @@ expand_law world a n e x rest s may =
 
 -- ---- under other ids
 
-module _ (r : Renaming) (world : World) (a : ℕ) (n e : Control) (x : Buffer) (rest : Block)
-    (s : State) (may : MayExpand a n e x rest s) (moves : Moves r (IsUnbound s)) where
+module _ (simple : Control → Control) (r : Renaming) (world : World) (a : ℕ) (n e : Control)
+    (x : Buffer) (rest : Block) (s : State) (is : IsSimplifier simple)
+    (may : MayExpand a n e x rest s) (moves : Moves r (IsUnbound s)) where
   -- a buffer that is there keeps its id
   stays : (y : ℕ) → IsSome (s.scene.buffers y) → r.from y ≡ y
   stays y i = ⊎_elim (λ k. k)
       (λ u. absurd (true≢false (sym (subst IsSome u.0.buffers i)))) (moves y)
 
   under_ids : (t : State) → EndsAlike s t (run world (enlarged a n e x rest) s)
-      → EndsAlike s t (run world (re_block r (enlarged a n e x rest)) s)
+      → EndsAlike s t (run world (re_block r (with_larger simple a n e x rest)) s)
   under_ids t h = (re_state r h.0,
-      (copied_block_law r world (enlarged a n e x rest) s may.sound moves).0
-      ∙ ap (option_map (re_state r)) h.1,
+      (copied_block_law r world (with_larger simple a n e x rest) s may.sound moves).0
+      ∙ ap (option_map (re_state r))
+      (sym (simplified_law world simple (is_name a) (enlarged a n e x rest) s is) ∙ h.1),
       record {
         fields = h.2.fields;
         cells = λ y at i. h.2.cells y at i ∙ ap (λ z. h.0.cells z at) (sym (stays y i));
@@ -387,13 +391,13 @@ module _ (r : Renaming) (world : World) (a : ℕ) (n e : Control) (x : Buffer) (
 
   all_under_ids : (o : Option State)
       → IfSome o (λ t. EndsAlike s t (run world (enlarged a n e x rest) s))
-      → IfSome o (λ t. EndsAlike s t (run world (re_block r (enlarged a n e x rest)) s))
+      → IfSome o (λ t. EndsAlike s t (run world (re_block r (with_larger simple a n e x rest)) s))
   all_under_ids None h = tt
   all_under_ids (Some t) h = under_ids t h
 
 pub expand_under_ids : ExpandUnderIds
-expand_under_ids r world a n e x rest s may moves =
-    all_under_ids r world a n e x rest s may moves (run world (small x rest) s)
+expand_under_ids simple r world a n e x rest s is may moves =
+    all_under_ids simple r world a n e x rest s is may moves (run world (small x rest) s)
     (expand_law world a n e x rest s may)
 
 -- ---- at a place
@@ -405,10 +409,11 @@ turned_round s t u h = record {
 }
 
 pub expand_refines : ExpandRefines
-expand_refines kinds ps p c hidden r a n e x rest was leaves of_old of_new free moves trees inside =
+expand_refines kinds ps p c hidden simple r a n e x rest was is leaves of_old of_new free moves
+    trees inside =
     let world = unit_world kinds ps in
     let old = small x rest in
-    let new = re_block r (enlarged a n e x rest) in
+    let new = re_block r (with_larger simple a n e x rest) in
     leaving_refines kinds ps c old new p (record p { body = fill c new }) hidden was refl leaves
     (λ s u good come none.
     alike_replaces world hidden old new u (record {
@@ -425,7 +430,7 @@ expand_refines kinds ps p c hidden r a n e x rest was leaves of_old of_new free 
       inside = inside s u good come;
     } in
     let end_of = if_gives (λ t. EndsAlike u t (run world new u)) (run world old u) t
-        (expand_under_ids r world a n e x rest u may
+        (expand_under_ids simple r world a n e x rest u is may
         (moves_on r (IsFree p c) (IsUnbound u) (place_unbound world p old c s u good come) moves))
         h in
     turned_round u t v (subst (AreAlike u t) (one_value end_of.0 v (sym end_of.1 ∙ k)) end_of.2)))

@@ -24,6 +24,7 @@ use Rattle.scope_laws.specs.Scopes.{top_binders}
 use Rattle.staging_laws.specs.Stage.{AreAlike}
 use Rattle.buffer_laws.specs.Buffers.{Buffer, allocation, is_buffer}
 use Rattle.buffer_laws.specs.Lifted.{are_plain}
+use Rattle.buffer_laws.specs.Simplified.{IsSimplifier, simplified}
 use Rattle.buffer_laws.specs.StageMem.{whole_coords}
 
 abbrev pub expanded_buffer : Control → Buffer → Buffer
@@ -92,6 +93,10 @@ enlarged a n e x rest =
     next (allocation (expanded_buffer n (with_id a x)))
     (with_window x.binder.id (part_of a e x) rest)
 
+-- with simpler indices at the uses of the larger buffer
+abbrev pub with_larger : (Control → Control) → ℕ → Control → Control → Buffer → Block → Block
+with_larger simple a n e x rest = simplified simple (is_name a) (enlarged a n e x rest)
+
 -- the extents and the point stay the same in what follows, and a is new
 pub record MayBePart (a : ℕ) (e : Control) (x : Buffer) (rest : Block) : Type 0 where
   pub apart : (x.binder.id == a) ≡ false
@@ -121,24 +126,29 @@ ExpandLaw =
     → IfSome (run world (small x rest) s)
     (λ t. EndsAlike s t (run world (enlarged a n e x rest) s))
 
--- under other ids too: exchange of a and x gives the larger buffer the id of the small one
+-- with simpler indices and under other ids too: exchange of a and x gives the larger buffer the id
+-- of the small one
 abbrev pub ExpandUnderIds : Type 0
 ExpandUnderIds =
-    (r : Renaming) (world : World) (a : ℕ) (n e : Control) (x : Buffer) (rest : Block) (s : State)
+    (simple : Control → Control) (r : Renaming) (world : World) (a : ℕ) (n e : Control)
+    (x : Buffer) (rest : Block) (s : State)
+    → IsSimplifier simple
     → MayExpand a n e x rest s
     → Moves r (IsUnbound s)
     → IfSome (run world (small x rest) s)
-    (λ t. EndsAlike s t (run world (re_block r (enlarged a n e x rest)) s))
+    (λ t. EndsAlike s t (run world (re_block r (with_larger simple a n e x rest)) s))
 
 -- so the one may stand for the other at a place where the point is within the new dimension
 abbrev pub ExpandRefines : Type 0
 ExpandRefines =
     (kinds : ℕ → Kind) (ps : List Procedure) (p : Procedure) (c : Context) (hidden : ℕ → Bool)
-    (r : Renaming) (a : ℕ) (n e : Control) (x : Buffer) (rest : Block)
+    (simple : Control → Control) (r : Renaming) (a : ℕ) (n e : Control) (x : Buffer)
+    (rest : Block)
     → let world = unit_world kinds ps in
     let old = small x rest in
-    let new = re_block r (enlarged a n e x rest) in
+    let new = re_block r (with_larger simple a n e x rest) in
     p.body ≡ fill c old
+    → IsSimplifier simple
     → MayLeave p c hidden
     → ((y : ℕ) → top_binders old y ≡ true → hidden y ≡ true)
     → ((y : ℕ) → top_binders new y ≡ true → hidden y ≡ true)

@@ -119,7 +119,7 @@ pub fn buffers_are_parts_of_larger()
     ensures { ExpandLaw }
 {}
 
-/// So it does under other ids, that of the buffer for the larger one.
+/// So it does with simpler indices and under other ids, that of the buffer for the larger one.
 pub fn buffers_are_parts_under_ids()
     ensures { ExpandUnderIds }
 {}
