@@ -1,5 +1,5 @@
 -- A closed block that only reduces a buffer, with a call.
-use Rattle.std.proofs.Common.{◌≡◌, ◌==◌, ℕ, ℤ, pos, Bool, true, false, cond, List, [], ◌∷◌, Option}
+use Rattle.std.proofs.Common.{◌≡◌, ◌==◌, ℤ, pos, Bool, true, false, cond, List, [], ◌∷◌, Option}
 use Rattle.std.proofs.Common.{Some, None, refl, sym, ap, ◌∙◌, subst, eqb-true, option_map}
 use Rattle.std.specs.Int.{int_wrap}
 use Rattle.exo_tree.specs.Tree.{I8, Lit, Const, Reduce, Call, Window, Span, Block, end, next}
@@ -15,7 +15,6 @@ use Rattle.exo_meaning.specs.Units.{Scope, scope_of, AreProcedures}
 use Rattle.exo_meaning.proofs.Windows.{none_is_some, one_value}
 use Rattle.meaning_laws.specs.Sound.{IsSound}
 use Rattle.meaning_laws.specs.Sorted.{IsSorted}
-use Rattle.meaning_laws.specs.Touched.{MayTouch}
 use Rattle.meaning_laws.proofs.Examples.{input, shape, all_of_it}
 use Rattle.meaning_laws.proofs.UnitInstances.{letter, three_named, input_is_sound, input_is_sorted}
 use Rattle.buffer_laws.specs.Accumulated.{from_zero, adding}
@@ -32,16 +31,19 @@ adds = record {
 }
 
 adds_is_well : AreProcedures [] 1 [] (adds ∷ [])
-adds_is_well = (record {
-  params = refl;
-  asserts = refl;
-  body = refl;
-  filled = refl;
-  ids = refl;
-  distinct = refl;
-  paths = refl;
-  template = refl;
-}, tt)
+adds_is_well = (
+  record {
+    params = refl;
+    asserts = refl;
+    body = refl;
+    filled = refl;
+    ids = refl;
+    distinct = refl;
+    paths = refl;
+    template = refl;
+  },
+  tt,
+)
 
 -- x[3] += 2; f(x[3:5])
 abbrev sums : Block

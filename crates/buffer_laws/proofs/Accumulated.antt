@@ -1,6 +1,6 @@
 -- A block that only adds to a buffer, run from zeros.
 use Rattle.std.proofs.Common.{◌≡◌, ◌==◌, ℕ, ℤ, pos, ◌+ℤ◌, Bool, true, false, cond, List, [], ◌∷◌}
-use Rattle.std.proofs.Common.{Some, None, refl, sym, ap, ◌∙◌, subst, eqb-true, option_map, arith}
+use Rattle.std.proofs.Common.{Some, None, refl, sym, ap, ◌∙◌, subst, eqb-true, arith}
 use Rattle.std.proofs.Common.{true≢false}
 use Rattle.std.proofs.lemmas.Int.{ints}
 use Rattle.std.proofs.Math.Path.{fun_ext}
@@ -10,12 +10,12 @@ use Rattle.exo_meaning.specs.Value.{Value, Undefined, Number, wrap}
 use Rattle.exo_meaning.specs.Scene.{Shape}
 use Rattle.exo_meaning.specs.State.{State, Cells}
 use Rattle.exo_meaning.specs.Footprint.{Entry, Reads, Writes, Reduces, Made, Change, changed_by, added}
-use Rattle.exo_meaning.specs.Footprint.{under, Passes, LeavesOthers}
+use Rattle.exo_meaning.specs.Footprint.{Passes, LeavesOthers}
 use Rattle.exo_meaning.specs.Inputs.{FitsCell}
 use Rattle.exo_meaning.specs.Orders.{Each}
 use Rattle.exo_meaning.specs.Run.{run, unit_world, kinds_of}
 use Rattle.exo_meaning.specs.Units.{Scope, BufferName, sort_in, field_kind}
-use Rattle.exo_meaning.proofs.Windows.{none_is_some, one_value}
+use Rattle.exo_meaning.proofs.Windows.{none_is_some}
 use Rattle.exo_meaning.proofs.Wrap.{wrap_wrapped, additions_swap}
 use Rattle.meaning_laws.specs.Touched.{touched, unit_modes, MayTouch, IsCovered}
 use Rattle.meaning_laws.specs.Touched.{Mode, Reading, Writing, Modes, has_mode}
@@ -157,7 +157,7 @@ module _ (scope : Scope) (all : Modes) (y : ℕ) (cell : Cell) (rank : ℕ) (den
   only_reduces (Made x) h = new_is_other x h
   only_reduces (Reduces c q) h = λ e.
       let z = h.1 (BufferName cell rank dense)
-          (ap (sort_in scope) (eqb-true q.buffer y e) ∙ sort) in
+      (ap (sort_in scope) (eqb-true q.buffer y e) ∙ sort) in
       one_cell c z.0 z.1 z.2
 
   all_only_reduce : (es : List Entry) → Each (IsCovered scope all) es

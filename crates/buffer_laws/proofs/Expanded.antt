@@ -194,17 +194,22 @@ module _ (world : World) (a : ℕ) (n e : Control) (x : Buffer) (rest : Block) (
       ∙ composed_whole part.sides)
 
   sees_part : Sees sees_whole part
-  sees_part = (may.trees.apart, subst (λ o. IsWithin o (whole dims)) (sym base_x) within,
-      sym composed_part ∙ ap (λ o. through o sees_whole) (sym base_x))
+  sees_part = (
+    may.trees.apart,
+    subst (λ o. IsWithin o (whole dims)) (sym base_x) within,
+    sym composed_part ∙ ap (λ o. through o sees_whole) (sym base_x),
+  )
 
   sees_same : (y : ℕ) (o : Option Seen) → s.scene.views y ≡ o → Both Sees o o
   sees_same y None h = tt
   sees_same y (Some z) h =
       let there = may.sound.seen y z h in
       let m = ap (λ t. cond {A = Option Seen} t (Some part) None)
-          (is_other x.binder.id may.none z.buffer there) in
-      (is_other a may.new z.buffer there, subst (λ o. IsWithin o z.sides) (sym m) tt,
-      ap (λ o. through o z) (sym m))
+      (is_other x.binder.id may.none z.buffer there) in (
+        is_other a may.new z.buffer there,
+        subst (λ o. IsWithin o z.sides) (sym m) tt,
+        ap (λ o. through o z) (sym m),
+      )
 
   view_stands : (y : ℕ) → (y == a) ≡ false → (t : Bool)
       → Both Sees (cond t (Some sees_whole) (s.scene.views y))
@@ -217,8 +222,14 @@ module _ (world : World) (a : ℕ) (n e : Control) (x : Buffer) (rest : Block) (
       → BufferStands (is_name a) every no_name every base big
       (cond {A = Option Seen} t (Some part) None)
       (cond t (Some (shape_of x s)) (s.scene.buffers y)) big.scene.buffers y
-  buffer_stands y k true = (shape_of x s, shape_of larger s, refl,
-      updated_own s.scene.buffers a (Some (shape_of larger s)), refl, λ st. sym (whole_strides dims))
+  buffer_stands y k true = (
+    shape_of x s,
+    shape_of larger s,
+    refl,
+    updated_own s.scene.buffers a (Some (shape_of larger s)),
+    refl,
+    λ st. sym (whole_strides dims),
+  )
   buffer_stands y k false = sym (updated_other s.scene.buffers a _ y k)
 
   cell_stands : (y : ℕ) (at : List ℤ) → (y == a) ≡ false → (t : Bool)
@@ -282,7 +293,7 @@ module _ (world : World) (a : ℕ) (n e : Control) (x : Buffer) (rest : Block) (
     sides_are =
         let same = plain_same e viewed.scene s.scene may.trees.plain (λ y h. refl) in
         let sizes = numbers_kept (λ y. false) viewed.scene s.scene (λ y h. refl) x.dims
-            may.trees.plain_dims (none_in_all x.dims) in
+        may.trees.plain_dims (none_in_all x.dims) in
         let rest_of_it = narrowed viewed.scene (whole dims) (whole_coords x.dims) in
         ap (λ i. where_true (is_below i size) (option_map (λ l. Point (pos 0 +ℤ i) ∷ l) rest_of_it))
         same
@@ -346,12 +357,14 @@ module _ (world : World) (a : ℕ) (n e : Control) (x : Buffer) (rest : Block) (
       let positive = (where_parts (all_positive dims) (Some first) p.0 p.1).0 in
       let go = ap (run world rest) (is_behind world x s p.0 p.1) ∙ p.2 in
       let second = both_on (StandsFor (is_name a) every no_name every base big)
-          (run world rest first) (run world rest viewed) t go both in
+      (run world rest first) (run world rest viewed) t go both in
       let third = both_on (SameBut (is_buffer x)) (run world (new_rest positive) viewed)
-          (run world (new_rest positive) big) second.0
-          (on_part positive second.0 second.1) (without positive) in
-      (third.0, ap (λ o. then_do o (run world (new_rest positive))) (made positive) ∙ third.1,
-      cells_alike t second.0 third.0 second.2 third.2)
+      (run world (new_rest positive) big) second.0
+      (on_part positive second.0 second.1) (without positive) in (
+        third.0,
+        ap (λ o. then_do o (run world (new_rest positive))) (made positive) ∙ third.1,
+        cells_alike t second.0 third.0 second.2 third.2,
+      )
     where
       both_on : {A B : Type 0} (R : A → B → Type 0) (o : Option A) (p : Option B) (b : A)
           → o ≡ Some b → Both R o p → (c : B) × (p ≡ Some c) × R b c
@@ -380,14 +393,16 @@ module _ (simple : Control → Control) (r : Renaming) (world : World) (a : ℕ)
 
   under_ids : (t : State) → EndsAlike s t (run world (enlarged a n e x rest) s)
       → EndsAlike s t (run world (re_block r (with_larger simple a n e x rest)) s)
-  under_ids t h = (re_state r h.0,
-      (copied_block_law r world (with_larger simple a n e x rest) s may.sound moves).0
-      ∙ ap (option_map (re_state r))
-      (sym (simplified_law world simple (is_name a) (enlarged a n e x rest) s is) ∙ h.1),
-      record {
-        fields = h.2.fields;
-        cells = λ y at i. h.2.cells y at i ∙ ap (λ z. h.0.cells z at) (sym (stays y i));
-      })
+  under_ids t h = (
+    re_state r h.0,
+    (copied_block_law r world (with_larger simple a n e x rest) s may.sound moves).0
+        ∙ ap (option_map (re_state r))
+        (sym (simplified_law world simple (is_name a) (enlarged a n e x rest) s is) ∙ h.1),
+    record {
+      fields = h.2.fields;
+      cells = λ y at i. h.2.cells y at i ∙ ap (λ z. h.0.cells z at) (sym (stays y i));
+    },
+  )
 
   all_under_ids : (o : Option State)
       → IfSome o (λ t. EndsAlike s t (run world (enlarged a n e x rest) s))
@@ -430,7 +445,7 @@ expand_refines kinds ps p c hidden simple r a n e x rest was is leaves of_old of
       inside = inside s u good come;
     } in
     let end_of = if_gives (λ t. EndsAlike u t (run world new u)) (run world old u) t
-        (expand_under_ids simple r world a n e x rest u is may
-        (moves_on r (IsFree p c) (IsUnbound u) (place_unbound world p old c s u good come) moves))
-        h in
+    (expand_under_ids simple r world a n e x rest u is may
+    (moves_on r (IsFree p c) (IsUnbound u) (place_unbound world p old c s u good come) moves))
+    h in
     turned_round u t v (subst (AreAlike u t) (one_value end_of.0 v (sym end_of.1 ∙ k)) end_of.2)))
