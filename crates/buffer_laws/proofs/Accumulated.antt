@@ -9,7 +9,8 @@ use Rattle.exo_tree.specs.Tree.{Cell, I8, I32, Block, Procedure, ConfigField}
 use Rattle.exo_meaning.specs.Value.{Value, Undefined, Number, wrap}
 use Rattle.exo_meaning.specs.Scene.{Shape}
 use Rattle.exo_meaning.specs.State.{State, Cells}
-use Rattle.exo_meaning.specs.Footprint.{Entry, Reads, Writes, Reduces, Made, Change, changed_by, added}
+use Rattle.exo_meaning.specs.Footprint.{Entry, Reads, Writes, Reduces, Made, Change, changed_by}
+use Rattle.exo_meaning.specs.Footprint.{added}
 use Rattle.exo_meaning.specs.Footprint.{Passes, LeavesOthers}
 use Rattle.exo_meaning.specs.Inputs.{FitsCell}
 use Rattle.exo_meaning.specs.Orders.{Each}

@@ -8,7 +8,8 @@ use Rattle.std.specs.Int.{int_wrap}
 use Rattle.std.specs.Ordering.{int_eq}
 use Rattle.exo_tree.specs.Tree.{Binder, I32, Index, Control, Condition, Lt, Lit, Var, StrideOf, Add}
 use Rattle.exo_tree.specs.Tree.{Field, Neg, Sub, Mul, Div, Mod}
-use Rattle.exo_tree.specs.Tree.{Datum, Const, Read, Plus, Times, Whole, Window, At, Assign, Reduce, Pass}
+use Rattle.exo_tree.specs.Tree.{Datum, Const, Read, Plus, Times, Whole, Window, At, Assign, Reduce}
+use Rattle.exo_tree.specs.Tree.{Pass}
 use Rattle.exo_tree.specs.Tree.{Alloc, Call, Block, end, next, Procedure}
 use Rattle.exo_tree.specs.Context.{Here, fill}
 use Rattle.exo_meaning.specs.Value.{Value, Number}
@@ -384,7 +385,8 @@ expanded_at = expand_refines (λ f. Index) [] (with_body (small four set_first))
     (is_buffer four) drop (swap 2 9) 9 (Lit (pos 8)) (Lit (pos 3)) four set_first refl is_drop
     (record { free = λ x e. (refl, refl); unused = refl })
     (λ y h. only y (y == 2) h) (λ y h. only y (y == 2) h) (refl, refl)
-    (swap_moves 2 9 (IsFree (with_body (small four set_first)) (Here end)) (refl, refl) (refl, refl))
+    (swap_moves 2 9 (IsFree (with_body (small four set_first)) (Here end)) (refl, refl)
+    (refl, refl))
     (record {
       apart = refl;
       plain = refl;

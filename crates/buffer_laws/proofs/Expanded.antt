@@ -7,7 +7,7 @@ use Rattle.std.proofs.lemmas.Int.{ints}
 use Rattle.exo_tree.specs.Tree.{Control, Block}
 use Rattle.exo_tree.specs.Context.{fill}
 use Rattle.exo_meaning.specs.Value.{Value, Undefined}
-use Rattle.exo_meaning.specs.Scene.{Point, Range, Seen, Scene, whole, extents, number}
+use Rattle.exo_meaning.specs.Scene.{Side, Point, Range, Seen, Scene, whole, extents, number}
 use Rattle.exo_meaning.specs.Scene.{numbers, narrowed, where_true, is_below, strides_of, then_do}
 use Rattle.exo_meaning.specs.Scene.{cell_at, composed}
 use Rattle.exo_meaning.specs.State.{State, on_scene, with_view}
@@ -46,7 +46,8 @@ use Rattle.staging_laws.specs.Stage.{AreAlike}
 use Rattle.staging_laws.proofs.Replaced.{alike_replaces}
 use Rattle.buffer_laws.specs.Buffers.{Buffer, allocation, is_buffer}
 use Rattle.buffer_laws.specs.Expanded.{expanded_buffer, part_coords, part_of, with_id}
-use Rattle.buffer_laws.specs.Expanded.{small, enlarged, with_larger, MayExpand, EndsAlike, ExpandLaw}
+use Rattle.buffer_laws.specs.Expanded.{small, enlarged, with_larger, MayExpand, EndsAlike}
+use Rattle.buffer_laws.specs.Expanded.{ExpandLaw}
 use Rattle.buffer_laws.specs.Expanded.{ExpandUnderIds, ExpandRefines}
 use Rattle.buffer_laws.specs.Lifted.{are_plain}
 use Rattle.buffer_laws.specs.Simplified.{IsSimplifier}
@@ -79,20 +80,29 @@ less_none d = omega (arith, ints)
 is_positive : (i n : ℤ) → is_below i n ≡ true → int_le (pos 1) n ≡ true
 is_positive i n h = grind (arith, ints)
 
+-- the side of a span from 0 on
+abbrev from_none : ℤ → List Side → List Side
+from_none d rest = Range (pos 0 +ℤ pos 0) (d -ℤ pos 0) ∷ rest
+
 spans_are_whole : (scene : Scene) (es : List Control) (ds : List ℤ) → numbers scene es ≡ ds
     → all_positive ds ≡ true
     → narrowed scene (whole ds) (whole_coords es) ≡ Some (whole ds)
-spans_are_whole scene es ds e h = subst (λ z. narrowed scene (whole z) (whole_coords es) ≡ Some (whole z)) e (go es (ap all_positive e ∙ h))
+spans_are_whole scene es ds e h =
+    subst (λ z. narrowed scene (whole z) (whole_coords es) ≡ Some (whole z)) e
+    (go es (ap all_positive e ∙ h))
   where
     go : (es : List Control) → all_positive (numbers scene es) ≡ true
-        → narrowed scene (whole (numbers scene es)) (whole_coords es) ≡ Some (whole (numbers scene es))
+        → narrowed scene (whole (numbers scene es)) (whole_coords es)
+        ≡ Some (whole (numbers scene es))
     go [] h = refl
     go (e ∷ es) h =
         let d = number scene e in
-        let q = and_parts (int_le (pos 1) d) (all_positive (numbers scene es)) h in
-        ap (λ t. where_true t (option_map (λ rest. Range (pos 0 +ℤ pos 0) (d -ℤ pos 0) ∷ rest) (narrowed scene (whole (numbers scene es)) (whole_coords es)))) (all_of d q.0)
-        ∙ ap (option_map (λ rest. Range (pos 0 +ℤ pos 0) (d -ℤ pos 0) ∷ rest)) (go es q.1)
-        ∙ ap (λ z. Some (Range (pos 0) z ∷ whole (numbers scene es))) (less_none d)
+        let ds = numbers scene es in
+        let q = and_parts (int_le (pos 1) d) (all_positive ds) h in
+        ap (λ t. where_true t (option_map (from_none d)
+        (narrowed scene (whole ds) (whole_coords es)))) (all_of d q.0)
+        ∙ ap (option_map (from_none d)) (go es q.1)
+        ∙ ap (λ z. Some (Range (pos 0) z ∷ whole ds)) (less_none d)
 
 spans_are_plain : (es : List Control) → are_plain es ≡ true
     → are_plain_coords (whole_coords es) ≡ true
@@ -139,7 +149,8 @@ module _ (world : World) (a : ℕ) (n e : Control) (x : Buffer) (rest : Block) (
 
   other_way : (t : Bool) → (a == x.binder.id) ≡ t → t ≡ false
   other_way false h = refl
-  other_way true h = absurd (true≢false (sym (eq-eqb x.binder.id a (sym (eqb-true a x.binder.id h))) ∙ may.trees.apart))
+  other_way true h = absurd (true≢false
+      (sym (eq-eqb x.binder.id a (sym (eqb-true a x.binder.id h))) ∙ may.trees.apart))
 
   not_x : (a == x.binder.id) ≡ false
   not_x = other_way (a == x.binder.id) refl
@@ -158,7 +169,8 @@ module _ (world : World) (a : ℕ) (n e : Control) (x : Buffer) (rest : Block) (
     outside = λ y z h. ap (λ (q : Seen). q.buffer == a) (sym (is_x y z (y == x.binder.id) refl h).1)
         ∙ eq-eqb a a refl;
     apart = λ y c z w g m h k. absurd (true≢false (sym (eq-eqb y c
-        ((is_x y z (y == x.binder.id) refl h).0 ∙ sym (is_x c w (c == x.binder.id) refl k).0)) ∙ m));
+        ((is_x y z (y == x.binder.id) refl h).0
+        ∙ sym (is_x c w (c == x.binder.id) refl k).0)) ∙ m));
   }
 
   none_made : (y : ℕ) → makes rest y ≡ true → base y ≡ None
@@ -265,7 +277,8 @@ module _ (world : World) (a : ℕ) (n e : Control) (x : Buffer) (rest : Block) (
       (run world rest viewed)
   both = in_place world (is_name a) every no_name every base
       (λ y. buffer_in (first.scene.views y)) rest big first viewed placing
-      (block (is_name a) rest ∙ may.trees.unused) (λ y h. absurd (true≢false h)) none_made roots stands
+      (block (is_name a) rest ∙ may.trees.unused) (λ y h. absurd (true≢false h)) none_made roots
+      stands
 
   -- ---- the part in the place of the name
 

@@ -5,7 +5,8 @@ use Rattle.exo_tree.specs.Tree.{Cell, Block, Procedure, ConfigField}
 use Rattle.exo_meaning.specs.Value.{Value, Number}
 use Rattle.exo_meaning.specs.Scene.{Shape}
 use Rattle.exo_meaning.specs.State.{State, with_contents}
-use Rattle.exo_meaning.specs.Footprint.{Entry, Reads, Writes, Reduces, Made, Change, changed_by, added}
+use Rattle.exo_meaning.specs.Footprint.{Entry, Reads, Writes, Reduces, Made, Change, changed_by}
+use Rattle.exo_meaning.specs.Footprint.{added}
 use Rattle.exo_meaning.specs.Laws.{HasRoots}
 use Rattle.exo_meaning.specs.Orders.{Each}
 use Rattle.exo_meaning.specs.Run.{run, unit_world, kinds_of}
