@@ -3,6 +3,10 @@ pub mod Lifted
 pub mod Bound
 pub mod Simplified
 pub mod StageMem
+pub mod Shown
+pub mod Expanded
+pub mod Accumulated
 pub mod StageLaws
 pub mod Examples
 pub mod StageExamples
+pub mod AccumExamples

@@ -66,7 +66,7 @@ module _ (changed : ℕ → Bool) (s t : Scene)
   number_kept (Div a c) p h = ap (λ n. int_div_euclid n c) (number_kept a p h)
   number_kept (Mod a c) p h = ap (λ n. int_rem_euclid n c) (number_kept a p h)
 
-  numbers_kept : (es : List Control) → are_plain es ≡ true → in_controls changed es ≡ false
+  pub numbers_kept : (es : List Control) → are_plain es ≡ true → in_controls changed es ≡ false
       → numbers s es ≡ numbers t es
   numbers_kept [] p h = refl
   numbers_kept (e ∷ es) p h =
@@ -90,7 +90,7 @@ none_in (Mul a b) = both_false (in_control (λ y. false) a) (in_control (λ y. f
 none_in (Div a c) = none_in a
 none_in (Mod a c) = none_in a
 
-none_in_all : (es : List Control) → in_controls (λ y. false) es ≡ false
+pub none_in_all : (es : List Control) → in_controls (λ y. false) es ≡ false
 none_in_all [] = refl
 none_in_all (e ∷ es) = both_false (in_control (λ y. false) e) (in_controls (λ y. false) es)
     (none_in e) (none_in_all es)

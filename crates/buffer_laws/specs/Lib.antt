@@ -5,3 +5,4 @@ pub mod Simplified
 pub mod StageMem
 pub mod Expanded
 pub mod StageLaws
+pub mod Accumulated

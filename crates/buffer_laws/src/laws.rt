@@ -18,6 +18,11 @@ ghost use Rattle.buffer_laws.specs.StageLaws.{StageMemLaw};
 ghost use Rattle.buffer_laws.specs.StageLaws.{FitsAtPlaces};
 ghost use Rattle.buffer_laws.specs.StageLaws.{ReaderDraftLaw};
 ghost use Rattle.buffer_laws.specs.StageLaws.{StageReaderLaw};
+ghost use Rattle.buffer_laws.specs.Expanded.{ExpandLaw};
+ghost use Rattle.buffer_laws.specs.Expanded.{ExpandUnderIds};
+ghost use Rattle.buffer_laws.specs.Expanded.{ExpandRefines};
+ghost use Rattle.buffer_laws.specs.Accumulated.{AccumLaw};
+ghost use Rattle.buffer_laws.specs.Accumulated.{AccumByModes};
 
 /// An allocation may have another memory.
 pub fn memories_are_not_seen()
@@ -107,4 +112,29 @@ pub fn buffers_are_lifted_from_then_at()
 /// So may one in the other branch, at a place of a procedure.
 pub fn buffers_are_lifted_from_else_at()
     ensures { LiftElseLaw }
+{}
+
+/// A block with a part of a larger buffer for a buffer ends with the same fields and cells.
+pub fn buffers_are_parts_of_larger()
+    ensures { ExpandLaw }
+{}
+
+/// So it does with simpler indices and under other ids, that of the buffer for the larger one.
+pub fn buffers_are_parts_under_ids()
+    ensures { ExpandUnderIds }
+{}
+
+/// So it may stand for the block at a place of a procedure.
+pub fn buffers_may_be_expanded()
+    ensures { ExpandRefines }
+{}
+
+/// A block that only reduces a buffer adds to it what it leaves there from zeros.
+pub fn sums_are_kept()
+    ensures { AccumLaw }
+{}
+
+/// So does one that neither reads nor writes it, directly, through views or in calls.
+pub fn sums_are_kept_by_modes()
+    ensures { AccumByModes }
 {}
