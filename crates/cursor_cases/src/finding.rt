@@ -4,9 +4,9 @@ ghost use Rattle.exo_meaning.specs.Units.{IsUnit};
 
 use crate::cursor::read_cursor;
 use crate::moves::{Unclear, moved_all};
-use cursor_forward::laws::units_are_searchable;
-use cursor_forward::{Cursor, find};
+use cursor_forward::Cursor;
 use exo_tree::{ProcId, Unit};
+use formed_units::find_in;
 use schedule_patterns::read_pattern;
 use std::alloc::Global;
 
@@ -62,13 +62,12 @@ fn match_of(
 ) -> Result<Option<Cursor>, Unclear>
     requires { IsUnit (program unit.now) }
 {
-    units_are_searchable();
     let bytes = text.as_bytes();
     if bytes.len() > LIMIT {
         return Err(Unclear);
     }
     match read_pattern(alloc, bytes) {
-        Ok((pattern, nth)) => Ok(find(unit, number, &pattern, nth)),
+        Ok((pattern, nth)) => Ok(find_in(unit, number, &pattern, nth)),
         Err(_) => Err(Unclear),
     }
 }
