@@ -1,11 +1,14 @@
 -- Closed examples of shifts that carry statements: two loops that change places, and a loop of two turns that is unrolled.
 use Rattle.std.proofs.Common.{◌≡◌, ℕ, List, [], ◌∷◌, Some, None, refl}
 use Rattle.std.specs.Prelude.{pos}
-use Rattle.exo_tree.specs.Tree.{Binder, Lit, Const, Statement, Assign, Pass, For, Block, end, next, Procedure}
+use Rattle.exo_tree.specs.Tree.{I32, Param, TensorParam, Program, Binder, Lit, Const, Statement, Assign, Pass, For, Block, end, next, Procedure}
 use Rattle.exo_tree.specs.Context.{Here, InLoop}
 use Rattle.exo_tree.specs.Places.{Main, Path, Opened}
 use Rattle.cursor_forward.specs.Shifts.{Shift, at_index, range, alone, Edits, edits_of, move_of}
 use Rattle.cursor_forward.specs.Forwards.{Carries, Forwards}
+use Rattle.cursor_patterns.specs.Patterns as pattern
+use Rattle.cursor_forward.specs.Cursors.{Node, Range, Gap, Before, parent_of, body_of, next_of, forward_of}
+use Rattle.cursor_forward.specs.Patterns.{find_of}
 use Rattle.cursor_forward.proofs.Lands.{step}
 use Rattle.cursor_forward.proofs.Forwarding.{moves_forward}
 
@@ -95,3 +98,38 @@ store_stays = refl
 
 pub pass_moves_on : move_of unroll_edits (at_index 1) ≡ Some (at_index 2)
 pass_moves_on = refl
+
+-- ---- what is found, and how cursors move and follow
+
+abbrev called_x : Param
+called_x = record { binder = record { id = 9; name = 120 ∷ [] }; kind = TensorParam I32 [] 0 }
+
+abbrev a_unit : Program
+a_unit = record { procedures = record (with_body (nest 1 2)) { params = called_x ∷ [] } ∷ []; fields = []; memories = [] }
+
+pub store_is_found : find_of a_unit 0 (pattern.Assign (Some (120 ∷ []))) 0 ≡ Some (Node third)
+store_is_found = refl
+
+pub found_once : find_of a_unit 0 (pattern.Assign (Some (120 ∷ []))) 1 ≡ None
+found_once = refl
+
+pub nest_is_found : find_of a_unit 0 (pattern.Nest (Some (1 ∷ [])) None) 0 ≡ Some (Node (at_index 0))
+nest_is_found = refl
+
+pub loop_round_store : parent_of (nest 1 2) (Node third) ≡ Some (Node second)
+loop_round_store = refl
+
+pub body_of_loop : body_of (nest 1 2) (Node second) ≡ Some (Range third 1)
+body_of_loop = refl
+
+pub nothing_behind : next_of (nest 1 2) (Node third) ≡ None
+nothing_behind = refl
+
+pub second_store : next_of unrolled (Range (at_index 0) 1) ≡ Some (Node (at_index 1))
+second_store = refl
+
+pub block_follows : forward_of exchange_edits (Range third 1) ≡ Some (Range third 1)
+block_follows = refl
+
+pub gap_follows : forward_of unroll_edits (Gap (at_index 1) Before) ≡ Some (Gap (at_index 2) Before)
+gap_follows = refl

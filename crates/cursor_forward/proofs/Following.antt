@@ -1,14 +1,13 @@
 -- Where shifts and edits take a path, by what the code has found.
-use Rattle.std.proofs.Common.{◌≡◌, ℕ, zero, suc, ◌+◌, ◌-◌, ◌<◌, ◌≤◌, Bool, true, false, List, [], ◌∷◌, ◌++◌, length, drop, map, get_or, drop-cons, Option, Some, None, refl, ap, sym, ◌∙◌, arith}
-use Rattle.std.specs.Prelude.{◌^◌, ◌&&◌, nat_le, nat_lt, if◌then◌else◌, option_map, option_and_then}
-use Rattle.exo_tree.specs.Places.{Main, Step, Path, same_branch, same_step}
-use Rattle.exo_tree.specs.PlainPlace.{step_taken}
+use Rattle.std.proofs.Common.{◌≡◌, ℕ, suc, ◌+◌, ◌-◌, ◌<◌, ◌≤◌, Bool, true, false, List, [], ◌∷◌, length, drop, map, get_or, drop-cons, Option, Some, None, refl, ap, sym, ◌∙◌, arith}
+use Rattle.std.specs.Prelude.{◌^◌, nat_le, nat_lt, if◌then◌else◌, option_map, option_and_then}
+use Rattle.exo_tree.specs.Places.{Main, Step, Path}
 use Rattle.cursor_forward.specs.Shifts.{Shift, Below, below, beyond, word, held, covered, follow, lifted, moved_below, Edits, move_of}
 use Rattle.cursor_forward.specs.PlainShift.{plain_shift}
 use Rattle.cursor_forward.specs.declared.shift.Shift as declared
 use Rattle.cursor_forward.proofs.Parts.{not_held}
 use Rattle.cursor_forward.proofs.Holes.{mapped_some}
-use Rattle.cursor_forward.proofs.Lands.{none_some, landing}
+use Rattle.cursor_forward.proofs.Lands.{none_some}
 use Rattle.cursor_forward.proofs.Ranges.{below_one, below_more}
 
 drop_read : {X : Type 0} (xs : List X) (k : ℕ) (x : X) → x ≡ get_or xs k x → k < length xs → drop k xs ≡ x ∷ drop (k + 1) xs

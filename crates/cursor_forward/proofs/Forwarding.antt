@@ -1,16 +1,16 @@
 -- Shifts that carry statements, with targets apart, forward the statements of a procedure.
 use Rattle.std.proofs.Common.{◌≡◌, ℕ, zero, suc, ◌+◌, ◌-◌, ◌<◌, ◌≤◌, Bool, true, false, List, [], ◌∷◌, length, Option, Some, None, refl, ap, sym, ◌∙◌, arith, subst, true≢false}
-use Rattle.std.specs.Prelude.{◌&&◌, ◌||◌, ◌^◌, nat_lt, if◌then◌else◌, option_map, option_and_then}
+use Rattle.std.specs.Prelude.{◌||◌, ◌^◌, nat_lt, if◌then◌else◌, option_map, option_and_then}
 use Rattle.std.specs.List.{list_all}
-use Rattle.exo_tree.specs.Tree.{Statement, Block, end, next, joined, statements, Procedure}
+use Rattle.exo_tree.specs.Tree.{Statement, Block, end, next, joined, statements}
 use Rattle.exo_tree.specs.Context.{Context, Here, After, InLoop, InThen, InElse, fill}
-use Rattle.exo_tree.specs.Places.{Branch, Main, Else, Step, Path, Opened, opened, statement_at}
-use Rattle.cursor_forward.specs.Shifts.{Shift, Move, Below, below, beyond, word, is_end, covers, covered, follow, lifted, moved_below, moved, Edits, move_of}
-use Rattle.cursor_forward.specs.Forwards.{kind_of, kind_at, AreAlike, AreCarried, IsCarried, Carries, have_apart, are_apart, apart, Forwards, MovesLaw}
+use Rattle.exo_tree.specs.Places.{Branch, Main, Else, Path, statement_at}
+use Rattle.cursor_forward.specs.Shifts.{Shift, Move, Below, below, beyond, word, is_end, covers, covered, follow, lifted, moved_below, moved, move_of}
+use Rattle.cursor_forward.specs.Forwards.{kind_of, kind_at, AreAlike, AreCarried, IsCarried, Carries, have_apart, are_apart, apart, MovesLaw}
 use Rattle.cursor_forward.proofs.Lands.{step, landing, found, is_found, depth_of, tail_of, rest_of, none_some, found_below, kind_outside, kind_found}
-use Rattle.cursor_forward.proofs.Holes.{mapped_some, then_some, IsOpened, is_opened}
+use Rattle.cursor_forward.proofs.Holes.{mapped_some, then_some, is_opened}
 use Rattle.cursor_forward.proofs.SameKinds.{same_bones, same_kinds, found_front, found_behind}
-use Rattle.cursor_forward.proofs.Ranges.{both_true, below_one, below_unique, beyond_below, IsWithin, none_in_both}
+use Rattle.cursor_forward.proofs.Ranges.{both_true, below_unique, beyond_below, IsWithin, none_in_both}
 
 abbrev hole : Context → Path
 hole o = step Main (depth_of o) ∷ tail_of o

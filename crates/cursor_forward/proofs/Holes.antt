@@ -1,8 +1,8 @@
 -- What is opened at a path is a piece in the hole of a context, and the path is that of the hole.
-use Rattle.std.proofs.Common.{◌≡◌, ℕ, zero, suc, ◌+◌, ◌-◌, ◌<◌, ◌≤◌, List, [], ◌∷◌, ◌++◌, length, Option, Some, None, refl, ap, sym, ◌∙◌, arith, subst}
+use Rattle.std.proofs.Common.{◌≡◌, ℕ, zero, suc, [], ◌∷◌, length, Option, Some, None, refl, ap, sym, ◌∙◌, arith, subst}
 use Rattle.std.specs.Prelude.{option_map, option_and_then}
-use Rattle.exo_tree.specs.Tree.{Statement, If, For, Block, end, next, joined, statements}
-use Rattle.exo_tree.specs.Context.{Context, Here, After, InLoop, InThen, InElse, fill}
+use Rattle.exo_tree.specs.Tree.{If, For, Block, end, next, statements}
+use Rattle.exo_tree.specs.Context.{Here, After, InLoop, InThen, InElse, fill}
 use Rattle.exo_tree.specs.Places.{Branch, Main, Else, Step, Path, Opened, parted, past, into, opened_in, opened}
 use Rattle.exo_tree.proofs.Heights.{opened_whole}
 use Rattle.cursor_forward.proofs.Lands.{step, depth_of, tail_of, none_some}

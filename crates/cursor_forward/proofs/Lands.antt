@@ -1,9 +1,9 @@
 -- What stands at a path of a block with a hole, by where the path leads from the hole.
-use Rattle.std.proofs.Common.{◌≡◌, ℕ, zero, suc, ◌+◌, ◌-◌, ◌<◌, ◌≤◌, Bool, true, false, List, [], ◌∷◌, ◌++◌, length, Option, Some, None, refl, ap, sym, ◌∙◌, arith, true≢false}
-use Rattle.std.specs.Prelude.{◌==◌, ◌&&◌, nat_le, nat_lt, if◌then◌else◌, slice_get, option_map, option_and_then}
-use Rattle.exo_tree.specs.Tree.{Statement, Assign, Reduce, Config, Pass, If, For, Alloc, View, Call, Block, end, next, block, joined, statements}
+use Rattle.std.proofs.Common.{◌≡◌, ℕ, zero, suc, ◌-◌, Bool, true, false, List, [], ◌∷◌, Option, Some, None, refl, ap, sym, ◌∙◌, arith}
+use Rattle.std.specs.Prelude.{◌==◌, ◌&&◌, nat_le, if◌then◌else◌, slice_get, option_map, option_and_then}
+use Rattle.exo_tree.specs.Tree.{Statement, If, For, Block, end, next, block, joined, statements}
 use Rattle.exo_tree.specs.Context.{Context, Here, After, InLoop, InThen, InElse, fill}
-use Rattle.exo_tree.specs.Places.{Branch, Main, Else, Step, Path, same_branch, same_step, Opened, parted, past, into, opened_in, first_of}
+use Rattle.exo_tree.specs.Places.{Branch, Main, Else, Step, Path, same_branch}
 use Rattle.exo_tree.specs.Branches.{branch_of}
 use Rattle.exo_tree.proofs.Openings.{statement_in, at_last, at_more}
 use Rattle.cursor_forward.specs.Shifts.{Below, below}

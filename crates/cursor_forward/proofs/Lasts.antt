@@ -1,13 +1,14 @@
 -- Paths by their last step, as the code makes them.
-use Rattle.std.proofs.Common.{◌≡◌, ℕ, zero, suc, ◌+◌, ◌-◌, ◌<◌, ◌≤◌, Bool, true, false, List, [], ◌∷◌, ◌++◌, length, map, Option, Some, None, refl, ap, sym, ◌∙◌, arith}
-use Rattle.std.specs.Prelude.{nat_le, nat_lt, if◌then◌else◌, option_map, option_and_then}
+use Rattle.std.proofs.Common.{◌≡◌, ℕ, ◌+◌, ◌-◌, Bool, true, false, List, [], ◌∷◌, ◌++◌, length, map, Option, Some, None, refl, ap, ◌∙◌}
+use Rattle.std.specs.Prelude.{◌==◌, ◌&&◌, slice_get, nat_le, if◌then◌else◌, option_map}
 use Rattle.std.proofs.lemmas.List.{map-append}
 use Rattle.exo_tree.specs.Tree.{Statement, block, statements}
 use Rattle.exo_tree.specs.Places.{Step, Path}
 use Rattle.exo_tree.specs.declared.place.Step as declared
 use Rattle.exo_tree.specs.PlainPlace.{step_taken}
-use Rattle.cursor_forward.specs.Shifts.{word, beyond, held}
-use Rattle.cursor_forward.specs.Cursors.{above, owner, earlier, later}
+use Rattle.cursor_forward.specs.Shifts.{word, beyond}
+use Rattle.cursor_forward.specs.Cursors.{above, owner, earlier}
+use Rattle.cursor_forward.specs.Patterns.{is_one_loop, is_loop_called}
 
 -- the path with another step in front, where there is one
 abbrev pub behind_step : Step → Option Path → Option Path
@@ -56,3 +57,6 @@ earlier_at_end up last k = ap (earlier k) (map-append step_taken up (last ∷ []
 
 pub owner_at_end : (t : declared.Step) (up : List declared.Step) (last : declared.Step) → owner (map step_taken (t ∷ up ++ last ∷ [])) ≡ Some (map step_taken (t ∷ up))
 owner_at_end t up last = ap owner (map-append step_taken (t ∷ up) (last ∷ [])) ∙ owner_last (step_taken t) (map step_taken up) (step_taken last)
+
+pub one_loop : (j : Option (List ℕ)) (ss : List Statement) → is_one_loop j (block ss) ≡ ((length ss == 1) && is_loop_called j (slice_get ss 0))
+one_loop j ss = ap (λ (l : List Statement). (length l == 1) && is_loop_called j (slice_get l 0)) (statements_block ss)

@@ -5,6 +5,8 @@ mod Lands
 mod Holes
 mod Ranges
 mod Following
+mod Searching
+pub mod Searchable
 mod SameKinds
 pub mod Forwarding
 mod Examples

@@ -1,6 +1,6 @@
 -- Ranges of statements: where a path lies in one, and that ranges that are apart have no path in common.
-use Rattle.std.proofs.Common.{◌≡◌, ℕ, zero, suc, ◌+◌, ◌-◌, ◌<◌, ◌≤◌, Bool, true, false, List, [], ◌∷◌, length, Option, Some, None, refl, ap, sym, ◌∙◌, arith, true≢false}
-use Rattle.std.specs.Prelude.{◌==◌, ◌&&◌, ◌||◌, not, ◌^◌, nat_le, nat_lt, if◌then◌else◌, option_map, option_and_then}
+use Rattle.std.proofs.Common.{◌≡◌, ℕ, ◌+◌, ◌-◌, ◌<◌, ◌≤◌, Bool, true, false, [], ◌∷◌, Option, Some, None, refl, ap, sym, ◌∙◌, arith, true≢false}
+use Rattle.std.specs.Prelude.{◌==◌, ◌&&◌, ◌||◌, not, ◌^◌, nat_le, nat_lt, if◌then◌else◌}
 use Rattle.exo_tree.specs.Places.{Branch, Main, Else, Step, Path, same_branch, same_step}
 use Rattle.cursor_forward.specs.Shifts.{Below, below, beyond, word, is_end}
 use Rattle.cursor_forward.specs.Forwards.{is_among, are_beside, apart}

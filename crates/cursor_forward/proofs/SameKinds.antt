@@ -1,9 +1,9 @@
 -- The kinds of statements of a block are told by its bones.
-use Rattle.std.proofs.Common.{◌≡◌, ℕ, zero, suc, ◌+◌, ◌<◌, List, [], ◌∷◌, map, length, Option, Some, None, refl, ap, sym, ◌∙◌, arith}
+use Rattle.std.proofs.Common.{◌≡◌, ℕ, zero, suc, ◌+◌, ◌<◌, List, [], ◌∷◌, length, Option, Some, None, refl, ap, sym, ◌∙◌, arith}
 use Rattle.std.proofs.lemmas.Option.{slice_get-map}
 use Rattle.std.specs.Prelude.{slice_get, option_map, option_and_then}
 use Rattle.exo_tree.specs.Tree.{Statement, Assign, Reduce, Config, Pass, If, For, Alloc, View, Call, Block, end, next, joined, statements}
-use Rattle.exo_tree.specs.Places.{Branch, Main, Else, Step, Path}
+use Rattle.exo_tree.specs.Places.{Branch, Main, Else, Path}
 use Rattle.exo_tree.specs.Branches.{branch_of}
 use Rattle.cursor_forward.specs.Forwards.{StatementKind, kind_of, kinds_of, Bone, Leaf, Joint, Bones, none, more, bone, bones}
 use Rattle.cursor_forward.proofs.Lands.{found, found_in, kind_found}

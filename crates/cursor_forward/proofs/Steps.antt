@@ -1,12 +1,12 @@
 -- Paths that the code goes down a step at a time.
-use Rattle.std.proofs.Common.{◌≡◌, ℕ, ◌<◌, Bool, true, false, List, [], ◌∷◌, length, map, Option, Some, None, refl, ap, sym, ◌∙◌, arith}
-use Rattle.std.specs.Prelude.{if◌then◌else◌, option_map, option_and_then}
+use Rattle.std.proofs.Common.{◌≡◌, ◌<◌, Bool, true, false, List, [], ◌∷◌, length, map, Option, Some, None, refl, ap, ◌∙◌, arith}
+use Rattle.std.specs.Prelude.{if◌then◌else◌, option_and_then}
 use Rattle.exo_tree.specs.Tree.{Statement, Block, block, statements}
 use Rattle.exo_tree.specs.Places.{Main, Step, Path, same_step, statement_at}
 use Rattle.exo_tree.specs.Branches.{branch_of}
 use Rattle.exo_tree.specs.declared.place.Step as declared
 use Rattle.exo_tree.specs.PlainPlace.{step_taken}
-use Rattle.cursor_forward.specs.Shifts.{Below, below}
+use Rattle.cursor_forward.specs.Shifts.{below}
 use Rattle.cursor_forward.specs.Cursors.{Cursor, Node, body_of, inside, whole_of, span_of}
 use Rattle.cursor_forward.proofs.Lasts.{statements_block}
 

@@ -1,5 +1,5 @@
 -- Why a step is refused, as rules say it: want of memory is no matter of theirs.
-use Rattle.std.specs.Prelude.{ℕ, List, Option, Some, None}
+use Rattle.std.specs.Prelude.{ℕ, List}
 use Rattle.exo_tree.specs.Places.{Path}
 
 -- why a normal form or a list of systems is refused

@@ -1,6 +1,6 @@
--- Cursors: a statement, some statements of one block, or the gap before or after a statement; how they move in a procedure, and
--- where they go by an edit. No move leads from what is not there.
-use Rattle.std.specs.Prelude.{ℕ, zero, suc, ◌+◌, ◌-◌, ◌^◌, nat_lt, nat_le, Bool, true, false, ◌&&◌, if◌then◌else◌, List, [], ◌∷◌, ◌++◌, length, Option, Some, None, option_map, option_and_then}
+-- Cursors: a statement, some statements of one block, or the gap before or after a statement; how
+-- they move in a procedure, and where they go by an edit. No move leads from what is not there.
+use Rattle.std.specs.Prelude.{ℕ, zero, suc, ◌+◌, ◌-◌, ◌^◌, nat_lt, nat_le, Bool, ◌&&◌, if◌then◌else◌, [], ◌∷◌, ◌++◌, length, Option, Some, None, option_map, option_and_then}
 use Rattle.std.specs.Option.{is_some}
 use Rattle.exo_tree.specs.Tree.{Block, statements}
 use Rattle.exo_tree.specs.Places.{Main, Path, same_branch, same_step, statement_at}
@@ -47,7 +47,8 @@ node_at body path = if is_there body path then Some (Node path) else None
 -- so many statements of one block, one at least: they are there where the last of them is
 abbrev pub range_at : Block → Path → ℕ → Option Cursor
 range_at body path zero = None
-range_at body path (suc n) = option_and_then (λ last. if is_there body last then Some (Range path (suc n)) else None) (later n path)
+range_at body path (suc n) =
+    option_and_then (λ last. if is_there body last then Some (Range path (suc n)) else None) (later n path)
 
 -- ---- moves
 
@@ -58,22 +59,26 @@ pub record Ends : Type 0 where
 
 abbrev pub ends_at : Block → Path → ℕ → Option Ends
 ends_at body path zero = None
-ends_at body path (suc n) = option_and_then (λ last. if is_there body last then Some (record { first = path; last = last }) else None) (later n path)
+ends_at body path (suc n) =
+    option_and_then (λ last. if is_there body last then Some (record { first = path; last = last }) else None) (later n path)
 
 -- a gap stands for none
 abbrev pub ends_of : Block → Cursor → Option Ends
-ends_of body (Node path) = if is_there body path then Some (record { first = path; last = path }) else None
+ends_of body (Node path) =
+    if is_there body path then Some (record { first = path; last = path }) else None
 ends_of body (Range path count) = ends_at body path count
 ends_of body (Gap path side) = None
 
 abbrev pub parent_of : Block → Cursor → Option Cursor
 parent_of body (Node path) = if is_there body path then option_map Node (owner path) else None
-parent_of body (Range path count) = option_and_then (λ e. option_map Node (owner e.first)) (ends_at body path count)
+parent_of body (Range path count) =
+    option_and_then (λ e. option_map Node (owner e.first)) (ends_at body path count)
 parent_of body (Gap path side) = if is_there body path then option_map Node (owner path) else None
 
 -- the statement behind the last one
 abbrev pub next_of : Block → Cursor → Option Cursor
-next_of body c = option_and_then (λ e. option_and_then (node_at body) (later 1 e.last)) (ends_of body c)
+next_of body c =
+    option_and_then (λ e. option_and_then (node_at body) (later 1 e.last)) (ends_of body c)
 
 -- the statement before the first one
 abbrev pub prev_of : Block → Cursor → Option Cursor
@@ -81,7 +86,8 @@ prev_of body c = option_and_then (λ e. option_map Node (earlier 1 e.first)) (en
 
 -- all statements of a block that begins at a path
 abbrev pub whole_of : Path → ℕ → Option Cursor
-whole_of path count = if nat_lt 0 count && nat_lt count (2 ^ 32) then Some (Range path count) else None
+whole_of path count =
+    if nat_lt 0 count && nat_lt count (2 ^ 32) then Some (Range path count) else None
 
 -- the path to the first statement of a loop, or of the first branch of a condition
 abbrev pub inside : Path → Option Path
@@ -97,7 +103,8 @@ body_of body (Gap path side) = None
 -- one of the statements of a block, by its number
 abbrev pub item_of : Block → ℕ → Cursor → Option Cursor
 item_of body k (Node path) = None
-item_of body k (Range path count) = option_and_then (λ e. if nat_lt k count then option_map Node (later k path) else None) (ends_at body path count)
+item_of body k (Range path count) =
+    option_and_then (λ e. if nat_lt k count then option_map Node (later k path) else None) (ends_at body path count)
 item_of body k (Gap path side) = None
 
 -- so many statements with some more before them and behind
@@ -107,8 +114,10 @@ grown body before after path count =
 
 -- with so many statements more before and so many behind
 abbrev pub expand_of : Block → ℕ → ℕ → Cursor → Option Cursor
-expand_of body before after (Node path) = if is_there body path then grown body before after path 1 else None
-expand_of body before after (Range path count) = option_and_then (λ e. grown body before after path count) (ends_at body path count)
+expand_of body before after (Node path) =
+    if is_there body path then grown body before after path 1 else None
+expand_of body before after (Range path count) =
+    option_and_then (λ e. grown body before after path count) (ends_at body path count)
 expand_of body before after (Gap path side) = None
 
 abbrev pub before_of : Block → Cursor → Option Cursor
@@ -119,16 +128,20 @@ after_of body c = option_map (λ e. Gap e.last After) (ends_of body c)
 
 -- ---- edits
 
--- how many statements there are from one to another; None where they do not stand in this order in one block
+-- how many statements there are from one to another; None where they do not stand in this order in
+-- one block
 abbrev pub span_of : Path → Path → Option ℕ
 span_of [] last = None
 span_of (f ∷ first) [] = None
-span_of (f ∷ []) (l ∷ []) = if same_branch f.branch l.branch && nat_le f.index l.index then word (suc (l.index - f.index)) else None
+span_of (f ∷ []) (l ∷ []) =
+    if same_branch f.branch l.branch && nat_le f.index l.index then word (suc (l.index - f.index)) else None
 span_of (f ∷ []) (l ∷ m ∷ last) = None
 span_of (f ∷ g ∷ first) (l ∷ []) = None
-span_of (f ∷ g ∷ first) (l ∷ m ∷ last) = if same_step f l then span_of (g ∷ first) (m ∷ last) else None
+span_of (f ∷ g ∷ first) (l ∷ m ∷ last) =
+    if same_step f l then span_of (g ∷ first) (m ∷ last) else None
 
--- a statement goes by the move; some statements go by the first and the last of them, a gap by its statement
+-- a statement goes by the move; some statements go by the first and the last of them, a gap by its
+-- statement
 abbrev pub forward_by : Move → Cursor → Option Cursor
 forward_by move (Node path) = option_map Node (move path)
 forward_by move (Range path zero) = None

@@ -1,9 +1,10 @@
--- What makes shifts right: where they take statements, statements of the same kind stand, and no two go to one place.
-use Rattle.std.specs.Prelude.{◌≡◌, ⊤, ℕ, ◌+◌, ◌-◌, nat_le, nat_lt, Bool, true, false, ◌&&◌, ◌||◌, not, if◌then◌else◌, List, [], ◌∷◌, ◌++◌, map, length, Option, Some, None, option_map}
+-- What makes shifts right: where they take statements, statements of the same kind stand, and no
+-- two go to one place.
+use Rattle.std.specs.Prelude.{◌≡◌, ⊤, ℕ, ◌+◌, ◌-◌, nat_le, nat_lt, Bool, true, false, ◌&&◌, ◌||◌, not, if◌then◌else◌, List, [], ◌∷◌, map, length, Option, Some, None, option_map}
 use Rattle.std.specs.List.{list_all}
-use Rattle.exo_tree.specs.Tree.{Control, Lit, Condition, True, Const, Statement, Assign, Reduce, Config, Pass, If, For, Alloc, View, Call, Block, end, next, statements, Procedure}
+use Rattle.exo_tree.specs.Tree.{Statement, Assign, Reduce, Config, Pass, If, For, Alloc, View, Call, Block, end, next, statements, Procedure}
 use Rattle.exo_tree.specs.Context.{fill}
-use Rattle.exo_tree.specs.Places.{Branch, Main, Else, Step, Path, same_branch, same_step, Opened, opened, statement_at}
+use Rattle.exo_tree.specs.Places.{Step, Path, same_branch, same_step, Opened, opened, statement_at}
 use Rattle.cursor_forward.specs.Shifts.{Shift, Move, Edits, move_of}
 
 -- ---- kinds and bones
@@ -82,23 +83,28 @@ Carries (s ∷ shifts) old new = IsCarried s s.to old new × Carries shifts old 
 
 -- the second step is to one of so many statements from the first on
 abbrev pub is_among : Step → ℕ → Step → Bool
-is_among s m t = same_branch s.branch t.branch && (nat_le s.index t.index && nat_lt (t.index - s.index) m)
+is_among s m t =
+    same_branch s.branch t.branch && (nat_le s.index t.index && nat_lt (t.index - s.index) m)
 
 -- the two ranges of one block have no statement in common
 abbrev pub are_beside : Step → ℕ → Step → ℕ → Bool
-are_beside s m t n = not (same_branch s.branch t.branch) || (nat_le (s.index + m) t.index || nat_le (t.index + n) s.index)
+are_beside s m t n =
+    not (same_branch s.branch t.branch) || (nat_le (s.index + m) t.index || nat_le (t.index + n) s.index)
 
--- no path leads to both: to one of so many from the first, or with `whole` below one; nor so from the second
+-- no path leads to both: to one of so many from the first, or with `whole` below one; nor so from
+-- the second
 abbrev pub apart : Path → ℕ → Bool → Path → ℕ → Bool → Bool
 apart [] m v to n w = true
 apart (s ∷ from) m v [] n w = true
 apart (s ∷ []) m v (t ∷ []) n w = are_beside s m t n
 apart (s ∷ []) m v (t ∷ u ∷ to) n w = not v || not (is_among s m t)
 apart (s ∷ r ∷ from) m v (t ∷ []) n w = not w || not (is_among t n s)
-apart (s ∷ r ∷ from) m v (t ∷ u ∷ to) n w = if same_step s t then apart (r ∷ from) m v (u ∷ to) n w else true
+apart (s ∷ r ∷ from) m v (t ∷ u ∷ to) n w =
+    if same_step s t then apart (r ∷ from) m v (u ∷ to) n w else true
 
 abbrev pub have_apart : Shift → Shift → Bool
-have_apart s t = elim s.to [ None ↦ true | Some p ↦ elim t.to [ None ↦ true | Some q ↦ apart p s.count s.whole q t.count t.whole ] ]
+have_apart s t =
+    elim s.to [ None ↦ true | Some p ↦ elim t.to [ None ↦ true | Some q ↦ apart p s.count s.whole q t.count t.whole ] ]
 
 abbrev pub are_apart : List Shift → Bool
 are_apart [] = true
@@ -111,9 +117,14 @@ pub record Forwards (move : Move) (p q : Procedure) : Type 0 where
   -- no two statements go to one place
   pub apart : (one other to : Path) → move one ≡ Some to → move other ≡ Some to → one ≡ other
   -- where a statement goes one of its kind stands
-  pub images : (path to : Path) (a : Statement) → statement_at path p.body ≡ Some a → move path ≡ Some to → kind_at to q.body ≡ Some (kind_of a)
+  pub images :
+      (path to : Path) (a : Statement)
+      → statement_at path p.body ≡ Some a
+      → move path ≡ Some to
+      → kind_at to q.body ≡ Some (kind_of a)
 
--- a step that replaces a piece by another one, to which shifts carry its statements, forwards them in the procedure
+-- a step that replaces a piece by another one, to which shifts carry its statements, forwards them
+-- in the procedure
 abbrev pub MovesLaw : Type 0
 MovesLaw =
     (p q : Procedure) (e : Edits) (o : Opened) (made : Block)

@@ -1,9 +1,9 @@
 -- The statements that a pattern finds, in preorder.
-use Rattle.std.specs.Prelude.{◌≡◌, ◌≤◌, ⊤, ℕ, zero, suc, ◌==◌, ◌&&◌, Bool, true, false, if◌then◌else◌, List, [], ◌∷◌, ◌++◌, Option, Some, None, option_map, option_and_then, slice_get}
+use Rattle.std.specs.Prelude.{◌≡◌, ◌≤◌, ⊤, ℕ, suc, ◌==◌, ◌&&◌, Bool, true, false, if◌then◌else◌, List, [], ◌∷◌, ◌++◌, Option, Some, None, option_map, option_and_then, slice_get, length}
 use Rattle.std.specs.Str.{bytes_eq}
-use Rattle.exo_tree.specs.Tree.{Statement, Assign, Reduce, Config, Pass, If, For, Alloc, View, Call, Block, end, next, Param, Procedure, Program}
+use Rattle.exo_tree.specs.Tree.{Statement, Assign, Reduce, Config, Pass, If, For, Alloc, View, Call, Block, end, next, statements, Param, Procedure, ConfigField, Program}
 use Rattle.exo_tree.specs.Heights.{height}
-use Rattle.exo_meaning.specs.Units.{is_short}
+use Rattle.exo_meaning.specs.Units.{is_short, IsUnit}
 use Rattle.exo_tree.specs.Places.{Branch, Main, Else, Path}
 use Rattle.cursor_patterns.specs.Patterns as pattern
 use Rattle.cursor_patterns.specs.Patterns.{Pattern}
@@ -25,7 +25,8 @@ meant_after x found a = found
 -- the number of the first parameter of this name
 abbrev pub parameter_called : List ℕ → List Param → Option ℕ
 parameter_called x [] = None
-parameter_called x (p ∷ ps) = if bytes_eq p.binder.name x then Some p.binder.id else parameter_called x ps
+parameter_called x (p ∷ ps) =
+    if bytes_eq p.binder.name x then Some p.binder.id else parameter_called x ps
 
 abbrev pub is_number : Option ℕ → ℕ → Bool
 is_number None y = false
@@ -38,19 +39,24 @@ abbrev pub is_meant : Option (List ℕ) → Option ℕ → ℕ → Bool
 is_meant None found y = true
 is_meant (Some x) found y = is_number found y
 
+abbrev pub is_loop_called : Option (List ℕ) → Option Statement → Bool
+is_loop_called j (Some (For i lo hi b)) = is_called j i.name
+is_loop_called j a = false
+
 -- the block is a loop over that index and nothing else
 abbrev pub is_one_loop : Option (List ℕ) → Block → Bool
-is_one_loop j (next (For i lo hi b) end) = is_called j i.name
-is_one_loop j b = false
+is_one_loop j b = (length (statements b) == 1) && is_loop_called j (slice_get (statements b) 0)
 
 abbrev pub is_procedure_called : Option (List ℕ) → Option Procedure → Bool
 is_procedure_called f None = false
 is_procedure_called f (Some p) = is_called f p.name
 
-abbrev pub is_field_called : Option (List ℕ) → Option (List ℕ) → Program → ℕ → Bool
-is_field_called c f unit k = elim (slice_get unit.fields k) [ None ↦ false | Some field ↦ is_called c field.config && is_called f field.name ]
+abbrev pub is_field_called : Option (List ℕ) → Option (List ℕ) → Option ConfigField → Bool
+is_field_called c f None = false
+is_field_called c f (Some field) = is_called c field.config && is_called f field.name
 
--- whether the statement itself is one of the pattern; the number is what the pattern's name stands for here
+-- whether the statement itself is one of the pattern; the number is what the pattern's name stands
+-- for here
 abbrev pub matches : Program → Pattern → Option ℕ → Statement → Bool
 matches unit (pattern.Loop i) found (For j lo hi b) = is_called i j.name
 matches unit (pattern.Nest i k) found (For j lo hi b) = is_called i j.name && is_one_loop k b
@@ -59,9 +65,10 @@ matches unit (pattern.Assign x) found (Assign y is e) = is_meant x found y
 matches unit (pattern.Assign x) found (View y z coords) = is_called x y.name
 matches unit (pattern.Reduce x) found (Reduce y is e) = is_meant x found y
 matches unit pattern.If found (If c a b) = true
-matches unit (pattern.Call f) found (Call k args) = is_procedure_called f (slice_get unit.procedures k)
+matches unit (pattern.Call f) found (Call k args) =
+    is_procedure_called f (slice_get unit.procedures k)
 matches unit pattern.Pass found Pass = true
-matches unit (pattern.Config c f) found (Config k a) = is_field_called c f unit k
+matches unit (pattern.Config c f) found (Config k a) = is_field_called c f (slice_get unit.fields k)
 matches unit w found a = false
 
 -- ---- all statements
@@ -96,7 +103,8 @@ module _ (unit : Program) (w : Pattern) where
         ++ matching outer branch (suc n) (found_after w found a) b
 
     pub matching_below : Path → Option ℕ → Statement → List Path
-    matching_below path found (If c a b) = matching path Main 0 found a ++ matching path Else 0 found b
+    matching_below path found (If c a b) =
+        matching path Main 0 found a ++ matching path Else 0 found b
     matching_below path found (For i lo hi b) = matching path Main 0 found b
     matching_below path found (Assign x is e) = []
     matching_below path found (Reduce x is e) = []
@@ -112,7 +120,8 @@ module _ (unit : Program) (w : Pattern) where
 
 -- the one of that number in preorder, counted from 0
 abbrev pub find_in : Program → Procedure → Pattern → ℕ → Option Cursor
-find_in unit p w nth = option_map Node (slice_get (matching unit w [] Main 0 (found_first w p.params) p.body) nth)
+find_in unit p w nth =
+    option_map Node (slice_get (matching unit w [] Main 0 (found_first w p.params) p.body) nth)
 
 abbrev pub find_of : Program → ℕ → Pattern → ℕ → Option Cursor
 find_of unit k w nth = option_and_then (λ p. find_in unit p w nth) (slice_get unit.procedures k)
@@ -147,3 +156,7 @@ pub record CanBeSearched (body : Block) : Type 0 where
 abbrev pub IsSearchable : Option Procedure → Type 0
 IsSearchable None = ⊤
 IsSearchable (Some p) = CanBeSearched p.body
+
+-- the procedures of a well-formed unit can
+abbrev pub SearchableLaw : Type 0
+SearchableLaw = (unit : Program) (k : ℕ) → IsUnit unit → IsSearchable (slice_get unit.procedures k)

@@ -1,5 +1,5 @@
 -- The plain forms of shifts.
-use Rattle.std.specs.Prelude.{map, option_map}
+use Rattle.std.specs.Prelude.{map}
 use Rattle.exo_tree.specs.PlainPlace.{step_taken}
 use Rattle.cursor_forward.specs.Shifts as plain
 use Rattle.cursor_forward.specs.declared.shift.Shift.{Shift}

@@ -6,7 +6,8 @@ use Rattle.affine_systems.specs.Outcomes.{Owed}
 use Rattle.cursor_forward.specs.Cursors.{Side}
 use Rattle.cursor_forward.specs.Shifts.{Edits}
 
--- the made procedure, what must have no integer point, where the statements go, the fields that may differ, and from which point on
+-- the made procedure, what must have no integer point, where the statements go, the fields that may
+-- differ, and from which point on
 pub record Plan : Type 0 where
   pub proc : Procedure
   pub must : List Owed

@@ -1,10 +1,12 @@
--- Where a step takes the statements of a procedure. It replaces some statements of one block, its piece, by others; ranges of
--- the piece go to places of the new piece, and what is in no range is gone. A path in a piece begins with a step into it by
--- Main; the paths of what lies outside of the piece stay as they are, but for those behind it in its block, which close up.
+-- Where a step takes the statements of a procedure. It replaces some statements of one block, its
+-- piece, by others; ranges of the piece go to places of the new piece, and what is in no range is
+-- gone. A path in a piece begins with a step into it by Main; the paths of what lies outside of the
+-- piece stay as they are, but for those behind it in its block, which close up.
 use Rattle.std.specs.Prelude.{ℕ, ◌+◌, ◌-◌, ◌^◌, nat_lt, nat_le, Bool, true, false, ◌&&◌, ◌||◌, if◌then◌else◌, List, [], ◌∷◌, length, Option, Some, None, option_map, option_and_then}
-use Rattle.exo_tree.specs.Places.{Main, Step, Path, same_branch, same_step}
+use Rattle.exo_tree.specs.Places.{Main, Path, same_branch, same_step}
 
--- so many statements of one block, from one on, alone or with all below them, and where the first of them goes; None: nowhere
+-- so many statements of one block, from one on, alone or with all below them, and where the first
+-- of them goes; None: nowhere
 pub record Shift : Type 0 where
   pub from : Path
   pub count : ℕ
@@ -50,12 +52,14 @@ abbrev pub covers : Shift → Below → Bool
 covers s w = nat_lt w.offset s.count && (s.whole || is_end w.rest)
 
 abbrev pub covered : Shift → Path → Option Below
-covered s path = elim (below s.from path) [ None ↦ None | Some w ↦ if covers s w then Some w else None ]
+covered s path =
+    elim (below s.from path) [ None ↦ None | Some w ↦ if covers s w then Some w else None ]
 
 -- the first shift that covers a path takes it; with none it is gone
 abbrev pub follow : List Shift → Move
 follow [] path = None
-follow (s ∷ shifts) path = elim (covered s path) [ None ↦ follow shifts path | Some w ↦ option_and_then (λ to. beyond to w.offset w.rest) s.to ]
+follow (s ∷ shifts) path =
+    elim (covered s path) [ None ↦ follow shifts path | Some w ↦ option_and_then (λ to. beyond to w.offset w.rest) s.to ]
 
 -- the path to the statement of that number of a piece
 abbrev pub at_index : ℕ → Path
@@ -80,16 +84,19 @@ abbrev pub lifted : Path → Path → Option Path
 lifted place [] = None
 lifted place (s ∷ path) = beyond place s.index path
 
--- where one of the statements from a place on goes: by the move where it is one of so many, and else it closes up to so many others
+-- where one of the statements from a place on goes: by the move where it is one of so many, and
+-- else it closes up to so many others
 abbrev pub moved_below : Path → ℕ → ℕ → Move → Below → Option Path
 moved_below place old new move w =
     if nat_lt w.offset old
     then option_and_then (lifted place) (move (record { branch = Main; index = w.offset } ∷ w.rest))
     else beyond place (w.offset - old + new) w.rest
 
--- a move of a piece of so many statements from a place on, which becomes one of so many, as a move of the procedure
+-- a move of a piece of so many statements from a place on, which becomes one of so many, as a move
+-- of the procedure
 abbrev pub moved : Path → ℕ → ℕ → Move → Move
-moved place old new move path = elim (below place path) [ None ↦ Some path | Some w ↦ moved_below place old new move w ]
+moved place old new move path =
+    elim (below place path) [ None ↦ Some path | Some w ↦ moved_below place old new move w ]
 
 -- all that is told of where a step takes statements
 pub record Edits : Type 0 where

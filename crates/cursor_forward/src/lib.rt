@@ -3,6 +3,7 @@
 
 mod cursor;
 mod edits;
+mod finding;
 pub mod laws;
 mod moves;
 mod paths;
@@ -11,6 +12,7 @@ mod shift;
 
 pub use cursor::{Cursor, Side, forward};
 pub use edits::Edits;
+pub use finding::find;
 pub use moves::{after, before, body, expand, item, next, parent, prev};
 pub use proposal::{Proposal, StepError};
 pub use shift::{Shift, Shifts};

@@ -1,4 +1,4 @@
-use Rattle.std.proofs.Common.{◌≡◌, ◌-◌, ◌≤◌, ◌<◌, ◌∙◌, length, ap, sym, arith}
+use Rattle.std.proofs.Common.{◌≡◌, ◌-◌, ◌≤◌, ◌<◌, ◌∙◌, sym, arith}
 use Rattle.cursor_forward.proofs.Parts.{earlier_parts, earlier_passed}
 use Rattle.cursor_forward.proofs.paths.earlier.Goals as goal
 

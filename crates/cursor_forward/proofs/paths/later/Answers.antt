@@ -1,4 +1,4 @@
-use Rattle.std.proofs.Common.{◌≡◌, ◌≤◌, ◌∙◌, [], length, map, ap, sym, arith}
+use Rattle.std.proofs.Common.{◌≤◌, ◌∙◌, [], length, ap, arith}
 use Rattle.std.proofs.lemmas.List.{length-map}
 use Rattle.std.specs.Prelude.{option_and_then}
 use Rattle.exo_tree.specs.Places.{Path}

@@ -1,4 +1,4 @@
-use Rattle.std.proofs.Common.{◌≡◌, ◌<◌, ◌∙◌, ◌++◌, length, map, ap, sym, arith, Some}
+use Rattle.std.proofs.Common.{◌<◌, ◌∙◌, ◌++◌, length, map, ap, sym, arith, Some}
 use Rattle.exo_tree.specs.Places.{Path}
 use Rattle.exo_tree.specs.PlainPlace.{step_taken}
 use Rattle.cursor_forward.proofs.Parts.{owner_parts}

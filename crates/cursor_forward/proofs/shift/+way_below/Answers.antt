@@ -1,4 +1,4 @@
-use Rattle.std.proofs.Common.{◌≡◌, ◌<◌, ◌∙◌, length, true, false, ap, sym, arith}
+use Rattle.std.proofs.Common.{◌≡◌, ◌<◌, ◌∙◌, length, true, false, sym, arith}
 use Rattle.exo_tree.specs.Places.{same_step}
 use Rattle.exo_tree.specs.PlainPlace.{step_taken}
 use Rattle.cursor_forward.proofs.Steps.{below_deeper}

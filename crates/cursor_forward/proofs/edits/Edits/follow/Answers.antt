@@ -1,7 +1,6 @@
-use Rattle.std.proofs.Common.{◌≡◌, ◌+◌, ◌-◌, ◌≤◌, ◌<◌, ◌∙◌, length, map, None, Some, ap, sym, arith}
+use Rattle.std.proofs.Common.{◌≡◌, ◌+◌, ◌-◌, ◌≤◌, ◌∙◌, map, Some, ap, sym, arith}
 use Rattle.std.proofs.lemmas.List.{length-map}
 use Rattle.std.specs.Prelude.{◌^◌, option_map, option_and_then}
-use Rattle.exo_tree.specs.Places.{Path}
 use Rattle.exo_tree.specs.PlainPlace.{step_taken}
 use Rattle.cursor_forward.specs.PlainShift.{plain_below}
 use Rattle.cursor_forward.specs.Shifts.{below, held, Edits, edits_of, move_of}

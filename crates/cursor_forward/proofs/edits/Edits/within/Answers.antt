@@ -1,4 +1,4 @@
-use Rattle.std.proofs.Common.{◌≡◌, ◌∷◌, ◌∙◌, map, None, Some, ap, sym}
+use Rattle.std.proofs.Common.{◌≡◌, ◌∷◌, ◌∙◌, map, None, ap, sym}
 use Rattle.std.specs.Prelude.{option_and_then}
 use Rattle.exo_tree.specs.Places.{Main, Path}
 use Rattle.exo_tree.specs.PlainPlace.{step_taken}

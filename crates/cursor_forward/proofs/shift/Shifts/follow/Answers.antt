@@ -1,4 +1,4 @@
-use Rattle.std.proofs.Common.{◌≡◌, ◌+◌, ◌∙◌, List, drop, map, Option, Some, None, ap, sym}
+use Rattle.std.proofs.Common.{◌≡◌, ◌∙◌, map, Option, Some, None, ap, sym}
 use Rattle.std.specs.Prelude.{option_map, option_and_then}
 use Rattle.exo_tree.specs.Places.{Path}
 use Rattle.exo_tree.specs.PlainPlace.{step_taken}
