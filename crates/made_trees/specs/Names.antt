@@ -55,7 +55,7 @@ param_names p = map (λ q. q.binder.name) p.params
 -- ---- the names of copies
 
 -- on the way through a block: the names in scope, those that are taken, and the binders so far with
--- the names that they are given, the last first
+-- the names that they are given
 pub record Naming : Type 0 where
   pub scope : List Name
   pub taken : List Name
@@ -97,9 +97,9 @@ module _ (copies : ℕ) where
   with_binder top n x =
       let name = name_given top n x in
       record {
-        scope = name ∷ n.scope;
-        taken = name ∷ n.taken;
-        given = record { id = x.id; name = name } ∷ n.given;
+        scope = n.scope ++ name ∷ [];
+        taken = n.taken ++ name ∷ [];
+        given = n.given ++ record { id = x.id; name = name } ∷ [];
       }
 
   abbrev mutual

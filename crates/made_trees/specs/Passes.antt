@@ -15,6 +15,10 @@ has_nothing first (InElse t other c rest) = has_nothing true c
 abbrev pub is_alone : Context → Bool
 is_alone c = has_nothing true c
 
+-- a new `pass` in the place of nothing
+abbrev pub pass_for : Bool → Block → Block
+pass_for alone b = if alone && is_empty b then next Pass end else b
+
 -- the block that is put into a hole: a new `pass` where nothing else would stand there
 abbrev pub or_pass : Context → Block → Block
-or_pass c b = if is_alone c && is_empty b then next Pass end else b
+or_pass c b = pass_for (is_alone c) b

@@ -1,10 +1,11 @@
 //! The ids of made binders.
-ghost use Rattle.std.specs.Prelude.{◌≡◌, ◌+◌, ◌<◌, length, OnOk, OnErr, IfOk};
-ghost use Rattle.exo_tree.specs.Tree.{block};
-ghost use Rattle.exo_tree.specs.Renaming.{binders, fresh};
+ghost use Rattle.std.specs.Prelude.{◌≡◌, ◌+◌, OnOk, OnErr, IfOk};
+ghost use Rattle.exo_tree.specs.PlainProcedure.{procedure};
+ghost use Rattle.made_trees.specs.Ids.{next_id};
 
-use exo_tree::{Block, Id, fresh_copy};
-use std::alloc::{AllocError, Global};
+use crate::ids;
+use exo_tree::{Id, Proc};
+use std::alloc::AllocError;
 use std::marker::Model;
 
 /// The id of the next made binder. It is seen as that number.
@@ -26,6 +27,18 @@ impl Fresh {
         ensures { result ≡ first }
     {
         Fresh { next: first }
+    }
+
+    /// Ids behind the greatest one of a procedure. Where that has no room it is answered as want of
+    /// memory.
+    pub fn behind(p: &Proc) -> Result<Fresh, AllocError>
+        ensures { IfOk result (λ f. f ≡ next_id (procedure p.now)) }
+    {
+        let first = ids::next_id(p);
+        if first > 4294967294 {
+            return Err(AllocError);
+        }
+        Ok(Fresh { next: first as u32 })
     }
 
     /// The next id. Past 4294967294 there is none, which is answered as want of memory: a tree

@@ -1,0 +1,6 @@
+pub mod Joined
+pub mod Scopes
+pub mod Counts
+pub mod Callees
+pub mod Calls
+pub mod Walks

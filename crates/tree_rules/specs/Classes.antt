@@ -50,9 +50,9 @@ all_but_names f = (f.rules && f.scope) && f.limits
 abbrev pub first_broken : {C : Type 0} → C → C → C → C → Findings → Option C
 first_broken of_rules of_scope of_names of_limits f =
     if f.rules then
-      (if f.scope then
-        (if f.names then
-          (if f.limits then None else Some of_limits)
-        else Some of_names)
-      else Some of_scope)
+    (if f.scope then
+    (if f.names then
+    (if f.limits then None else Some of_limits)
+    else Some of_names)
+    else Some of_scope)
     else Some of_rules

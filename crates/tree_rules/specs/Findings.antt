@@ -1,7 +1,7 @@
 -- What is found of a procedure that a rewrite made. The tests are those of the rules of well-formed
 -- units, each in its class; a name that is not in scope breaks no rule, and limits are of
 -- literals, ranks, expressions, paths, statements and ids.
-use Rattle.std.specs.Prelude.{◌^◌, ◌==◌, ◌+◌, ℕ, ℤ, pos, int_lt, nat_lt, Bool, true, false, not, ◌&&◌, ◌||◌}
+use Rattle.std.specs.Prelude.{◌==◌, ◌+◌, ℕ, ℤ, pos, int_lt, nat_lt, Bool, true, false, not, ◌&&◌, ◌||◌}
 use Rattle.std.specs.Prelude.{List, [], ◌∷◌, ◌++◌, length, map, Option, Some, None}
 use Rattle.std.specs.List.{list_all}
 use Rattle.exo_tree.specs.Tree.{Cell, Kind, Index, Binder, Control, Lit, Var, Field, StrideOf}

@@ -1,25 +1,26 @@
 -- How large an expression is. An index, a bound, a dimension or a coordinate is an expression of
 -- its own: its nodes do not count in what stands round it, but its depth does.
-use Rattle.std.specs.Prelude.{ℕ, suc, ◌+◌, max, nat_lt, Bool, ◌&&◌, List, [], ◌∷◌}
+use Rattle.std.specs.Prelude.{ℕ, ◌+◌, ◌-◌, ◌^◌, min, max, nat_le, Bool, ◌&&◌, List, [], ◌∷◌}
 use Rattle.exo_tree.specs.Tree.{Control, Lit, Var, Field, StrideOf, Neg, Add, Sub, Mul, Div, Mod}
 use Rattle.exo_tree.specs.Tree.{Condition, True, False, Flag, FieldFlag, Lt, Le, Gt, Ge, Eq, And, Or}
 use Rattle.exo_tree.specs.Tree.{Datum, Const, Read, Negated, Relu, Plus, Minus, Times, Select}
 use Rattle.exo_tree.specs.Tree.{Coord, At, Span}
+use Rattle.tree_rules.specs.declared.size.Size.{Size}
 
-pub record Size : Type 0 where
-  pub nodes : ℕ
-  pub depth : ℕ
+-- counts stop at the greatest number of 64 bits, which is past all limits
+abbrev pub counted : ℕ → ℕ
+counted n = min n (2 ^ 64 - 1)
 
 abbrev pub leaf : Size
 leaf = record { nodes = 1; depth = 1 }
 
 -- one node with this below
 abbrev pub above : Size → Size
-above a = record { nodes = suc a.nodes; depth = suc a.depth }
+above a = record { nodes = counted (a.nodes + 1); depth = counted (a.depth + 1) }
 
 -- two side by side
 abbrev pub beside : Size → Size → Size
-beside a b = record { nodes = a.nodes + b.nodes; depth = max a.depth b.depth }
+beside a b = record { nodes = counted (a.nodes + b.nodes); depth = max a.depth b.depth }
 
 -- the literal right of a quotient or remainder is a node
 abbrev pub control_size : Control → Size
@@ -54,7 +55,7 @@ deepest (a ∷ rest) = max (control_size a).depth (deepest rest)
 
 abbrev pub datum_size : Datum → Size
 datum_size (Const n) = leaf
-datum_size (Read x is) = record { nodes = 1; depth = suc (deepest is) }
+datum_size (Read x is) = record { nodes = 1; depth = counted (deepest is + 1) }
 datum_size (Negated a) = above (datum_size a)
 datum_size (Relu a) = above (datum_size a)
 datum_size (Plus a b) = above (beside (datum_size a) (datum_size b))
@@ -74,7 +75,7 @@ deepest_coord (c ∷ rest) = max (coord_depth c) (deepest_coord rest)
 -- ---- limits
 
 abbrev pub is_within : ℕ → Size → Bool
-is_within most_nodes size = nat_lt size.nodes (suc most_nodes) && nat_lt size.depth 65
+is_within most size = nat_le size.nodes most && nat_le size.depth 64
 
 -- at most 256 nodes and a depth of 64
 abbrev pub is_small_control : Control → Bool

@@ -52,7 +52,7 @@ module _ (fields : ℕ → Option Kind) (memories : ℕ) (callees : ℕ → Opti
         let p = split (found_there scope root a) (found (scope_behind a scope) (roots_after a root) b) h in
         let first = one_obeys scope root a p.0 in
         let rest = ap (λ s. obeys fields memories callees s (roots_after a root) b) (sym (behind scope root a p.0))
-            ∙ block_obeys (scope_behind a scope) (roots_after a root) b p.1 in
+        ∙ block_obeys (scope_behind a scope) (roots_after a root) b p.1 in
         λ i. first i && rest i
 
     one_obeys : (scope : Scope) (root : ℕ → ℕ) (a : Statement) → Obeys (found_there scope root a) → statement_obeys fields memories callees scope root a ≡ true
@@ -70,7 +70,7 @@ module _ (fields : ℕ → Option Kind) (memories : ℕ) (callees : ℕ → Opti
     one_obeys scope root Pass h = refl
     one_obeys scope root (If c a b) h =
         let p = split (both (findings_of_condition fields with_fields scope c) (rule (not (is_empty a))))
-            (both (both (limit (is_short a)) (found scope root a)) (both (limit (is_short b)) (found scope root b))) h in
+        (both (both (limit (is_short a)) (found scope root a)) (both (limit (is_short b)) (found scope root b))) h in
         let q = split (findings_of_condition fields with_fields scope c) (rule (not (is_empty a))) p.0 in
         let r = split (both (limit (is_short a)) (found scope root a)) (both (limit (is_short b)) (found scope root b)) p.1 in
         let s = split (limit (is_short a)) (found scope root a) r.0 in
@@ -85,7 +85,7 @@ module _ (fields : ℕ → Option Kind) (memories : ℕ) (callees : ℕ → Opti
     one_obeys scope root (For x lo hi b) h =
         let inside = with_name scope x (ControlName Index) in
         let p = split (both (found_in_binder scope x) (rule (not (is_empty b))))
-            (both (both (findings_of_control fields plainly scope lo) (findings_of_control fields plainly scope hi)) (both (limit (is_short b)) (found inside root b))) h in
+        (both (both (findings_of_control fields plainly scope lo) (findings_of_control fields plainly scope hi)) (both (limit (is_short b)) (found inside root b))) h in
         let q = split (found_in_binder scope x) (rule (not (is_empty b))) p.0 in
         let r = split (both (findings_of_control fields plainly scope lo) (findings_of_control fields plainly scope hi)) (both (limit (is_short b)) (found inside root b)) p.1 in
         let s = split (findings_of_control fields plainly scope lo) (findings_of_control fields plainly scope hi) r.0 in
@@ -123,7 +123,7 @@ module _ (fields : ℕ → Option Kind) (memories : ℕ) (callees : ℕ → Opti
         let same = behind scope root a p.0 in
         let first = one_is scope root a p.0 m.0 q.0 in
         let rest = ap (λ s. is_block fields memories callees s (roots_after a root) b) (sym same)
-            ∙ block_is (scope_behind a scope) (roots_after a root) b p.1 m.1 (ap (λ s. obeys fields memories callees s (roots_after a root) b) same ∙ q.1) in
+        ∙ block_is (scope_behind a scope) (roots_after a root) b p.1 m.1 (ap (λ s. obeys fields memories callees s (roots_after a root) b) same ∙ q.1) in
         λ i. first i && rest i
 
     one_is : (scope : Scope) (root : ℕ → ℕ) (a : Statement) → Obeys (found_there scope root a) → (found_there scope root a).names ≡ true → statement_obeys fields memories callees scope root a ≡ true → is_statement fields memories callees scope root a ≡ true
@@ -133,12 +133,12 @@ module _ (fields : ℕ → Option Kind) (memories : ℕ) (callees : ℕ → Opti
     one_is scope root Pass h n o = refl
     one_is scope root (If c a b) h n o =
         let p = split (both (findings_of_condition fields with_fields scope c) (rule (not (is_empty a))))
-            (both (both (limit (is_short a)) (found scope root a)) (both (limit (is_short b)) (found scope root b))) h in
+        (both (both (limit (is_short a)) (found scope root a)) (both (limit (is_short b)) (found scope root b))) h in
         let r = split (both (limit (is_short a)) (found scope root a)) (both (limit (is_short b)) (found scope root b)) p.1 in
         let s = split (limit (is_short a)) (found scope root a) r.0 in
         let t = split (limit (is_short b)) (found scope root b) r.1 in
         let m = and_parts (both (findings_of_condition fields with_fields scope c) (rule (not (is_empty a)))).names
-            (both (both (limit (is_short a)) (found scope root a)) (both (limit (is_short b)) (found scope root b))).names n in
+        (both (both (limit (is_short a)) (found scope root a)) (both (limit (is_short b)) (found scope root b))).names n in
         let k = and_parts (found scope root a).names (found scope root b).names m.1 in
         let blocks = obeys fields memories callees scope root a && obeys fields memories callees scope root b in
         let u = and_parts (is_condition fields with_fields scope c) ((not (is_empty a) && (is_short a && is_short b)) && blocks) o in
@@ -152,11 +152,11 @@ module _ (fields : ℕ → Option Kind) (memories : ℕ) (callees : ℕ → Opti
     one_is scope root (For x lo hi b) h n o =
         let inside = with_name scope x (ControlName Index) in
         let p = split (both (found_in_binder scope x) (rule (not (is_empty b))))
-            (both (both (findings_of_control fields plainly scope lo) (findings_of_control fields plainly scope hi)) (both (limit (is_short b)) (found inside root b))) h in
+        (both (both (findings_of_control fields plainly scope lo) (findings_of_control fields plainly scope hi)) (both (limit (is_short b)) (found inside root b))) h in
         let r = split (both (findings_of_control fields plainly scope lo) (findings_of_control fields plainly scope hi)) (both (limit (is_short b)) (found inside root b)) p.1 in
         let t = split (limit (is_short b)) (found inside root b) r.1 in
         let m = and_parts (both (found_in_binder scope x) (rule (not (is_empty b)))).names
-            (both (both (findings_of_control fields plainly scope lo) (findings_of_control fields plainly scope hi)) (both (limit (is_short b)) (found inside root b))).names n in
+        (both (both (findings_of_control fields plainly scope lo) (findings_of_control fields plainly scope hi)) (both (limit (is_short b)) (found inside root b))).names n in
         let fresh : is_new scope x ≡ true = (and_parts (is_new scope x) true m.0).0 in
         let k = and_parts (both (findings_of_control fields plainly scope lo) (findings_of_control fields plainly scope hi)).names (found inside root b).names m.1 in
         let u = and_parts (is_control fields plainly scope lo && is_control fields plainly scope hi) ((not (is_empty b) && is_short b) && obeys fields memories callees inside root b) o in

@@ -34,7 +34,7 @@ found_is_procedure unit k base p q is there head kept room =
     let all = kept_parts (both (findings_of_body unit q.params q.body) (limit (list_all (λ x. nat_lt x (base + 65536)) (bound_ids q)))) kept in
     let parts = split (findings_of_body unit q.params q.body) (limit (list_all (λ x. nat_lt x (base + 65536)) (bound_ids q))) all.0 in
     let body = split (both (rule (not (is_empty q.body))) (rule (are_distinct (bound_ids q))))
-        (both (limit (is_short q.body && is_small_body q.body)) inside) parts.0 in
+    (both (limit (is_short q.body && is_small_body q.body)) inside) parts.0 in
     let head_parts = split (rule (not (is_empty q.body))) (rule (are_distinct (bound_ids q))) body.0 in
     let block = split (limit (is_short q.body && is_small_body q.body)) inside body.1 in
     let names : inside.names ≡ true = (and_parts inside.names true all.1).0 in

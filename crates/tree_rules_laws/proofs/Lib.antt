@@ -3,3 +3,4 @@ pub mod Expressions
 pub mod Blocks
 pub mod Versions
 pub mod Kept
+pub mod Examples
