@@ -56,7 +56,7 @@ fn above_params(params: &[Param]) -> u64
 
 /// The number behind the greatest id of a procedure; 0 where it has none.
 #[tactic(auto, using(crate::proofs::Above::above_joined))]
-pub(crate) fn next_id(p: &Proc) -> u64
+pub fn next_id(p: &Proc) -> u64
     ensures { result ≡ ids.next_id (procedure p.now) }
 {
     above_params(p.params.as_slice()).max(above_block(&p.body))

@@ -3,5 +3,8 @@
 
 mod fresh;
 mod ids;
+mod pass;
 
 pub use fresh::Fresh;
+pub use ids::next_id;
+pub use pass::or_pass;
