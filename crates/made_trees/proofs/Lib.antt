@@ -1,1 +1,2 @@
 pub mod Above
+mod Passes

@@ -7,11 +7,15 @@ use exo_tree::{Block, Stmt};
 use std::alloc::AllocError;
 
 /// Puts a `pass` into an empty block that is to stand alone.
+#[tactic(auto, using(crate::proofs::Passes::not_alone, crate::proofs::Passes::not_empty, crate::proofs::Passes::empty_alone))]
 pub fn or_pass(draft: &mut Block, alone: bool) -> Result<(), AllocError>
     ensures { OnOk result (block draft.new ≡ pass_for alone (block draft.old)) }
 {
-    if alone && draft.len() == 0 {
-        draft.push(Stmt::Pass)?;
+    if !alone {
+        return Ok(());
     }
-    Ok(())
+    if draft.len() != 0 {
+        return Ok(());
+    }
+    draft.push(Stmt::Pass)
 }

@@ -1,0 +1,14 @@
+//! Steps: what an operator supplies, and the one driver that answers for all operators.
+#![tactic(auto)]
+
+mod driver;
+mod edit;
+mod operator;
+mod refusing;
+mod rename;
+mod target;
+
+pub use driver::propose;
+pub use operator::{Exit, Operator, Writing};
+pub use rename::{Renaming, rename};
+pub use target::{Piece, Target};
