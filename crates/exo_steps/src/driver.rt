@@ -1,28 +1,23 @@
 //! The driver: what all operators have in common.
-ghost use Rattle.std.specs.Prelude.{◌≡◌, ◌+◌, ◌^◌, nat_le, true, IfOk, Some, option_map, length};
-ghost use Rattle.exo_tree.specs.Tree.{block, statements};
+ghost use Rattle.std.specs.Prelude.{◌≡◌, true, IfOk, Some, option_map};
+ghost use Rattle.exo_tree.specs.Tree.{block};
+ghost use Rattle.exo_tree.specs.Context.{fill};
 ghost use Rattle.exo_tree.specs.PlainProcedure.{procedure};
 ghost use Rattle.exo_tree.specs.PlainUnit.{program};
 ghost use Rattle.exo_tree.specs.Places.{opened};
-ghost use Rattle.exo_meaning.specs.Inputs.{Refines};
-ghost use Rattle.exo_meaning.specs.Run.{program_world};
-ghost use Rattle.exo_meaning.specs.Units.{IsUnit};
 ghost use Rattle.exo_modes.specs.Marks.{modes_of};
 ghost use Rattle.exo_modes.specs.Seen.{table_says};
 ghost use Rattle.made_trees.specs.Ids as ids;
-ghost use Rattle.made_trees.specs.Passes.{is_alone, or_pass};
-ghost use Rattle.cursor_forward.specs.Forwards.{Forwards};
-ghost use Rattle.cursor_forward.specs.Shifts.{move_of};
+ghost use Rattle.made_trees.specs.Passes.{is_alone, pass_for};
 ghost use Rattle.cursor_forward.specs.PlainProposal.{plain_proposal};
-ghost use Rattle.tree_rules_laws.specs.Versions.{has_room, with_version};
 ghost use Rattle.step_rules.specs.Answer as answer;
-ghost use Rattle.step_rules.specs.Answer.{proposed, body_with};
-ghost use Rattle.step_rules.specs.Lawful.{IsTarget, differ_at_end};
-ghost use Rattle.step_rules.specs.Owing.{AreShown};
+ghost use Rattle.step_rules.specs.Answer.{proposed};
+ghost use Rattle.step_rules.specs.Lawful.{IsTarget};
 ghost use Rattle.exo_steps.specs.Outcomes.{Tries, IsKept, KeepsMeaning, Moves};
 ghost use Rattle.exo_steps.specs.PlainTarget.{target, plain_piece};
-ghost use Rattle.exo_steps.specs.Spots.{spot_at};
-ghost use Rattle.exo_steps.specs.Simple.{finished, version, has_few_ids};
+ghost use Rattle.exo_steps.specs.Spots.{spot_at, or_nothing};
+ghost use Rattle.exo_steps.specs.Simple as simple;
+ghost use Rattle.exo_steps.specs.Simple.{finished, has_few_ids};
 
 use crate::edit::{alone_at, replaced};
 use crate::operator::{Operator, Writing};
@@ -39,6 +34,7 @@ use tree_rules::{findings_of_body, findings_of_version};
 ///
 /// Refusals come in this order: the shape of the place; rules and scope of the result as it is made; the
 /// operator's own; then names and limits of the result.
+#[tactic(auto, using(crate::proofs::Means::answers_kept, crate::proofs::Means::answers_mean, crate::proofs::Means::answers_move))]
 pub fn propose<O: Operator>(
     alloc: Global,
     on: &Target<'_>,
@@ -78,6 +74,7 @@ fn answered<O: Operator>(
 }
 
 /// The answer where the piece is there: `alone`, where it is all of its block.
+#[tactic(auto, using(crate::proofs::Placed::tries_simply))]
 fn answered_there<O: Operator>(
     alloc: Global,
     on: &Target<'_>,
@@ -115,7 +112,7 @@ fn answered_simply<O: Operator>(
         &mut Fresh::new(base),
     )?;
     let plain = passed(plain, alone)?;
-    let body = placed(alloc, on.proc, piece, &plain)?;
+    let body = placed(alloc, on.proc, piece, alone, &plain)?;
     refused_by_shape(findings_of_body(
         alloc,
         on.unit,
@@ -149,7 +146,7 @@ fn finish<O: Operator>(
         &mut Fresh::new(base),
     )?;
     let made = passed(made, alone)?;
-    let body = placed(alloc, on.proc, piece, &made)?;
+    let body = placed(alloc, on.proc, piece, alone, &made)?;
     let proc = version(alloc, on.proc, op.name(alloc, on.proc)?, body)?;
     refused(findings_of_version(alloc, on.unit, on.modes, base, &proc)?)?;
     let edits = Edits::new(
@@ -179,8 +176,15 @@ fn passed(made: Block, alone: bool) -> Result<Block, AllocError>
 }
 
 /// The body of a procedure with others in the place of a piece that is there.
-fn placed(alloc: Global, p: &Proc, piece: &Piece, made: &Block) -> Result<Block, AllocError>
-    requires { is_some (opened piece.now.count piece.now.path (block p.now.body)) ≡ true }
+#[tactic(auto, using(crate::proofs::Placed::filled_there, crate::proofs::Placed::never_missing))]
+fn placed(
+    alloc: Global,
+    p: &Proc,
+    piece: &Piece,
+    alone: bool,
+    made: &Block,
+) -> Result<Block, AllocError>
+    requires { option_map (λ o. is_alone o.around) (opened piece.now.count piece.now.path (block p.now.body)) ≡ Some alone }
     ensures { IfOk result (λ b. block b ≡ fill (or_nothing (opened piece.now.count piece.now.path (block p.now.body))).around (block made.now)) }
 {
     match replaced(alloc, &p.body, &piece.path, piece.count, made)? {

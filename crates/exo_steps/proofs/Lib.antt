@@ -1,0 +1,5 @@
+pub mod Own
+pub mod Simple
+pub mod Placed
+pub mod Alone
+pub mod Means
