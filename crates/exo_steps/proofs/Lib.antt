@@ -3,3 +3,4 @@ pub mod Simple
 pub mod Placed
 pub mod Alone
 pub mod Means
+pub mod Counts

@@ -125,6 +125,7 @@ fn answered_simply<O: Operator>(
 }
 
 /// The result, and what is told of it.
+#[tactic(auto, using(crate::proofs::Counts::count_fits, crate::proofs::Counts::statements_of))]
 fn finish<O: Operator>(
     alloc: Global,
     on: &Target<'_>,

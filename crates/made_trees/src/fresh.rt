@@ -9,6 +9,7 @@ use std::alloc::AllocError;
 use std::marker::Model;
 
 /// The id of the next made binder. It is seen as that number.
+#[derive(Drop)]
 pub struct Fresh {
     next: u32,
 }
