@@ -1,6 +1,6 @@
 -- Whether a piece is all of its block, a step of its path at a time.
 use Rattle.std.proofs.Common.{◌≡◌, ◌==◌, ◌&&◌, ℕ, zero, suc, ◌+◌, ◌<◌, ◌≤◌, Bool, true, false, List, [], ◌∷◌, length, Option, Some, None, refl, ap, sym, ◌∙◌, arith}
-use Rattle.std.specs.Prelude.{slice_get, option_map, option_and_then}
+use Rattle.std.specs.Prelude.{slice_get, option_map, option_and_then, MatchOption}
 use Rattle.exo_tree.specs.Tree.{Statement, If, For, Block, end, next, block}
 use Rattle.exo_tree.specs.Context.{Context, Here, After, InLoop, InThen, InElse}
 use Rattle.exo_tree.specs.Places.{Branch, Main, Else, Step, Path, Opened, parted, past, into, opened_in}
@@ -52,7 +52,7 @@ alone_more count s t path ss = past_into true (opened_in count (t ∷ path)) t.b
 
 -- ---- statements of the block itself
 
-rest_empty : Option (Block × Block) → Option Bool
+abbrev rest_empty : Option (Block × Block) → Option Bool
 rest_empty x = option_map (λ (p : Block × Block). is_empty p.1) x
 
 tested_rest : (first : Bool) (x : Option (Block × Block))
@@ -110,3 +110,33 @@ alone_last count s ss h = past_some true count s.index ss h
 pub alone_last_none : (count : ℕ) (s : Step) (ss : List Statement) → length ss < s.index + count
     → alone_in count (s ∷ []) (block ss) ≡ None
 alone_last_none count s ss h = past_none true count s.index ss h
+
+-- ---- by what the code has found of the first step
+
+pub here_is : (count : ℕ) (s : Step) (path rest : Path) (ss : List Statement) (x : Option Bool)
+    → path ≡ s ∷ rest → slice_get rest 0 ≡ None
+    → MatchOption x (length ss < s.index + count) (λ alone. (s.index + count ≤ length ss) × (alone ≡ (s.index == 0) && (count == length ss)))
+    → x ≡ alone_in count path (block ss)
+here_is count s path [] ss None e f h =
+    sym (ap (λ (p : Path). alone_in count p (block ss)) e ∙ alone_last_none count s ss h)
+here_is count s path [] ss (Some b) e f h =
+    ap Some h.1 ∙ sym (ap (λ (p : Path). alone_in count p (block ss)) e ∙ alone_last count s ss h.0)
+here_is count s path (t ∷ rest) ss x e f h = cc
+
+by_inner : (f : Block → Option Bool) (g : Statement → Option Block) (x : Option Statement) (y : Option Block)
+    → option_and_then g x ≡ y
+    → option_and_then (λ a. option_and_then f (g a)) x ≡ option_and_then f y
+by_inner f g None y h = ap (option_and_then f) h
+by_inner f g (Some a) y h = ap (option_and_then f) h
+
+pub inner_is : (count : ℕ) (s t : Step) (path rest : Path) (ss : List Statement) (x : Option Block)
+    → path ≡ s ∷ rest → slice_get rest 0 ≡ Some t
+    → option_and_then (branch_of t.branch) (slice_get ss s.index) ≡ x
+    → alone_in count path (block ss) ≡ option_and_then (alone_in count rest) x
+inner_is count s t path [] ss x e f h = cc
+inner_is count s t path (u ∷ rest) ss x e f h =
+    let same : u ≡ t = cc in
+    ap (λ (p : Path). alone_in count p (block ss)) e
+    ∙ alone_more count s u rest ss
+    ∙ by_inner (alone_in count (u ∷ rest)) (branch_of u.branch) (slice_get ss s.index) x
+    (ap (λ (v : Step). option_and_then (branch_of v.branch) (slice_get ss s.index)) same ∙ h)

@@ -85,10 +85,10 @@ module _ (given : List Binder) where
 
 -- each binder has the name that its id has
 module _ (N : ℕ → Name) where
-  IsNamed : Binder → Type 0
+  abbrev IsNamed : Binder → Type 0
   IsNamed x = x.name ≡ N x.id
 
-  mutual
+  abbrev mutual
     AreNamed : Block → Type 0
     AreNamed end = ⊤
     AreNamed (next a b) = AreNamedIn a × AreNamed b
@@ -104,7 +104,7 @@ module _ (N : ℕ → Name) where
     AreNamedIn (View w x cs) = IsNamed w
     AreNamedIn (Call k args) = ⊤
 
-  AllNamed : List Binder → Type 0
+  abbrev AllNamed : List Binder → Type 0
   AllNamed [] = ⊤
   AllNamed (x ∷ xs) = IsNamed x × AllNamed xs
 
@@ -168,7 +168,7 @@ all_parts p (x ∷ xs) ys h =
 -- ---- where no binder is one of a copy, each is given the name that it has
 
 module _ (N : ℕ → Name) (copies : ℕ) where
-  below : ℕ → Bool
+  abbrev below : ℕ → Bool
   below x = nat_lt x copies
 
   given_own : (top : List Name) (n : Naming) (x : Binder) → below x.id ≡ true → IsNamed N x
@@ -207,7 +207,7 @@ module _ (N : ℕ → Name) (copies : ℕ) where
 
 -- ---- distinct ids have one name each
 
-mutual
+abbrev mutual
   bound : Block → List Binder
   bound end = []
   bound (next a b) = bound_in a ++ bound b
@@ -223,7 +223,7 @@ mutual
   bound_in (View w x cs) = w ∷ []
   bound_in (Call k args) = []
 
-ids_of : List Binder → List ℕ
+abbrev ids_of : List Binder → List ℕ
 ids_of xs = map (λ x. x.id) xs
 
 ids_joined : (xs ys : List Binder) → ids_of (xs ++ ys) ≡ ids_of xs ++ ids_of ys
@@ -248,7 +248,7 @@ mutual
   bound_ids_in (View w x cs) = refl
   bound_ids_in (Call k args) = refl
 
-name_in : List Binder → ℕ → Name
+abbrev name_in : List Binder → ℕ → Name
 name_in [] i = []
 name_in (x ∷ xs) i = if x.id == i then x.name else name_in xs i
 

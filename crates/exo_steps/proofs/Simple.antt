@@ -22,7 +22,6 @@ use Rattle.step_rules.specs.Owing.{shape_alone, owed_needs, findings_of_needs}
 use Rattle.step_rules.specs.Answer as answer
 use Rattle.step_rules.specs.Answer.{then_try, unless, broken, body_with, answered}
 use Rattle.step_rules.proofs.Meaning.{ids_are_below}
-use Rattle.expression_laws.specs.Rename.{rename_rule}
 use Rattle.exo_steps.specs.Simple.{IsSimple, version, plan, finished, answered_simply}
 use Rattle.exo_steps.proofs.Own.{all_parts, and_parts, own_names}
 
@@ -43,7 +42,7 @@ below_more base more (x ∷ xs) h =
     ap₂ ◌&&◌ (lt-ltb x (base + more) (omega (arith, a.0))) (below_more base more xs a.1)
 
 module _ (p : ℕ → Bool) where
-  AllHold : Block → Type 0
+  abbrev AllHold : Block → Type 0
   AllHold b = list_all p (binders b) ≡ true
 
   joined_parts : (a b : Block) → AllHold (joined a b) → AllHold a × AllHold b
@@ -233,14 +232,3 @@ module _ (r : Rule) (s : Spot) where
         (broken (shape_alone (findings_of_body s.target.unit s.target.proc.params (body_with s plain)))) (
         unless (r.refusal s) t))
         (then_same (r.draft s Simplified base) _ _ (λ made e. last_simply made (drafts_low made e))))
-
--- ---- rules
-
-same_block : {b d : Block} → Got b ≡ Got d → b ≡ d
-same_block h = cc
-
-pub rename_is_simple : (name : List ℕ) → IsSimple (rename_rule name)
-rename_is_simple name = record {
-  needs = λ s. refl;
-  binders = λ s how base made p e h. sym (ap (λ b. list_all p (binders b)) (same_block e));
-}

@@ -4,3 +4,4 @@ pub mod PlainExit
 pub mod Spots
 pub mod Simple
 pub mod Outcomes
+pub mod Renaming

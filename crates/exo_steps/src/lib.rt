@@ -5,10 +5,10 @@ mod driver;
 mod edit;
 mod operator;
 mod refusing;
-mod rename;
+mod renaming;
 mod target;
 
 pub use driver::propose;
 pub use operator::{Exit, Operator, Writing};
-pub use rename::{Renaming, rename};
+pub use renaming::{Renaming, rename};
 pub use target::{Piece, Target};

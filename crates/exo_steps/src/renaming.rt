@@ -10,7 +10,7 @@ ghost use Rattle.expression_laws.specs.Rename.{rename_rule};
 ghost use Rattle.expression_laws.proofs.Rename.{rename_is_lawful, rename_is_carrying};
 ghost use Rattle.exo_steps.specs.Outcomes.{Tries, IsKept, KeepsMeaning, Moves};
 ghost use Rattle.exo_steps.specs.PlainTarget.{target};
-ghost use Rattle.exo_steps.proofs.Simple.{rename_is_simple};
+ghost use Rattle.exo_steps.specs.Renaming.{rename_is_simple};
 
 use crate::driver::propose;
 use crate::operator::{Exit, Operator, Writing};
