@@ -51,8 +51,8 @@ fn agreement(rt: HostRuntime) -> Result<(), Fail> {
         ("a", "b", false),
         ("a / 2", "a / 4", false),
     ] {
-        let one = value(rt.alloc(), &unit, &[], left)?;
-        let other = value(rt.alloc(), &unit, &[], right)?;
+        let one = value(rt.alloc(), &unit, "", left)?;
+        let other = value(rt.alloc(), &unit, "", right)?;
         let found = do_agree(rt.alloc(), &unit, &one, &other)?;
         assert_eq!(rt; found, wanted, "{left}, {right}");
     }

@@ -4,9 +4,11 @@ ghost use Rattle.exo_tree.specs.Tree.{block};
 ghost use Rattle.exo_tree.specs.Renaming.{binders, binders_below};
 ghost use Rattle.exo_tree.specs.PlainStatement.{statement};
 
+use crate::table::{field, given_and_wanted, number};
 use crate::unit::{path_of, unit_of};
 use exo_tree::{
-    Binder, Block, Ctrl, EditError, Id, Name, Proc, Stmt, at, fresh_copy, replace_at, subst,
+    Binder, Block, Ctrl, EditError, Id, Name, Path, Proc, Stmt, Unit, at, fresh_copy, replace_at,
+    subst,
 };
 use std::alloc::{AllocError, Global};
 use std::test::Fail;
@@ -53,26 +55,32 @@ fn word(s: Option<&Stmt>) -> &'static str {
     }
 }
 
+/// Paths, and what stands there.
+const PLACES: &str = "|nothing
+0|pass
+1|loop
+2|nothing
+e0|nothing
+0 0|nothing
+1 0|store
+1 1|if
+1 1 e1|pass
+1 1 1|nothing";
+
+/// What stands at a path of the first procedure.
+fn word_at(unit: &Unit, path: &Path) -> &'static str {
+    match unit.procs.get(0) {
+        Some(p) => word(at(p, path)),
+        None => "no procedure",
+    }
+}
+
 #[test]
 fn places(rt: HostRuntime) -> Result<(), Fail> {
     let unit = unit_of(rt.alloc(), SAMPLE)?;
-    let Some(p) = unit.procs.get(0) else {
-        return Err(Fail::new("no procedure"));
-    };
-    let rows: [(&[i32], &str); 10] = [
-        (&[], "nothing"),
-        (&[0], "pass"),
-        (&[1], "loop"),
-        (&[2], "nothing"),
-        (&[-1], "nothing"),
-        (&[0, 0], "nothing"),
-        (&[1, 0], "store"),
-        (&[1, 1], "if"),
-        (&[1, 1, -2], "pass"),
-        (&[1, 1, 1], "nothing"),
-    ];
-    for row in rows {
-        assert_eq!(rt; word(at(p, &path_of(row.0))), row.1);
+    for row in PLACES.lines() {
+        let (given, wanted) = field(row);
+        assert_eq!(rt; word_at(&unit, &path_of(given)), wanted);
     }
     Ok(())
 }
@@ -86,27 +94,37 @@ fn answer(r: &Result<Proc, EditError>) -> &'static str {
     }
 }
 
+/// How many statements after `else` are replaced by a statement within how many loops, and what comes of it.
+const REPLACEMENTS: &str = "2|1|replaced
+0|29|replaced
+2|30|too deep
+3|1|no place";
+
+/// What comes of the replacement of so many statements of a procedure.
+fn replaced(alloc: Global, p: &Proc, count: u32, with: &Block) -> &'static str {
+    if !p.body.fits(32) {
+        return "too deep before";
+    }
+    answer(&replace_at(alloc, p, &path_of("1 1 e0"), count, with))
+}
+
+/// What comes of the replacement of a row.
+fn replaced_in_row(alloc: Global, unit: &Unit, row: &str) -> Result<&'static str, AllocError> {
+    let (count, loops) = field(row);
+    let with = nest(alloc, number(loops))?;
+    match unit.procs.get(0) {
+        Some(p) => Ok(replaced(alloc, p, number(count), &with)),
+        None => Ok("no procedure"),
+    }
+}
+
 #[test]
-fn replacements(rt: HostRuntime) -> Result<(), Fail> {
-    let alloc = rt.alloc();
-    let unit = unit_of(alloc, SAMPLE)?;
-    let Some(p) = unit.procs.get(0) else {
-        return Err(Fail::new("no procedure"));
-    };
-    let place = path_of(&[1, 1, -1]);
-    for (count, loops, want) in [
-        (2, 1, "replaced"),
-        (0, 29, "replaced"),
-        (2, 30, "too deep"),
-        (3, 1, "no place"),
-    ] {
-        let with = nest(alloc, loops)?;
-        let got = if p.body.fits(32) {
-            answer(&replace_at(alloc, p, &place, count, &with))
-        } else {
-            "too deep before"
-        };
-        assert_eq!(rt; got, want);
+fn replacements(rt: HostRuntime) -> Result<(), AllocError> {
+    let unit = unit_of(rt.alloc(), SAMPLE)?;
+    for row in REPLACEMENTS.lines() {
+        let (given, wanted) = given_and_wanted(row);
+        let found = replaced_in_row(rt.alloc(), &unit, given)?;
+        assert_eq!(rt; found, wanted, "{given}");
     }
     Ok(())
 }

@@ -37,7 +37,7 @@ fn is_only(fields: &[FieldId], f: u32) -> bool {
 #[test]
 fn fields_of_a_statement(rt: HostRuntime) -> Result<(), Fail> {
     let unit = unit_of(rt.alloc(), FIELDS)?;
-    let path = path_of(&[0]);
+    let path = path_of("0");
     assert!(rt; unit.fields.len() == 2);
     assert!(rt; stands(&unit, ProcId(0), &path));
     let writes = written(rt.alloc(), &unit, ProcId(0), &path, 1)?;

@@ -52,7 +52,7 @@ fn put_known(
 ) -> Result<(), Fail>
     requires { IsUnit (program unit.now) }
 {
-    let known = value(alloc, unit, &[1], text)?;
+    let known = value(alloc, unit, "1", text)?;
     if !keeps_rules(&known) {
         return Err(Fail::new("a value that is not affine"));
     }
@@ -113,7 +113,7 @@ fn forms(rt: HostRuntime) -> Result<(), Fail> {
         ),
         ("Cfg.b", "0 1*f1"),
     ] {
-        let e = value(rt.alloc(), &unit, &[], text)?;
+        let e = value(rt.alloc(), &unit, "", text)?;
         let found = answer(rt.alloc(), &unit, &none, &e)?;
         assert_eq!(rt; found.as_str(), wanted, "{text}");
     }
@@ -132,7 +132,7 @@ fn fields(rt: HostRuntime) -> Result<(), Fail> {
         FieldId(2),
         "2 * stride(b, 0)",
     )?;
-    facts.set(FieldId(3), Fact::Unknown(path_of(&[2])))?;
+    facts.set(FieldId(3), Fact::Unknown(path_of("2")))?;
     for (text, wanted) in [
         ("Cfg.a", "0 1*f0"),
         ("2 * Cfg.b", "2 2*v0"),
@@ -141,7 +141,7 @@ fn fields(rt: HostRuntime) -> Result<(), Fail> {
         ("Cfg.d - Cfg.a", "0 1*u3@.2 -1*f0"),
         ("Cfg.b / 2", "0 1*[1 1*v0 / 2]"),
     ] {
-        let e = value(rt.alloc(), &unit, &[], text)?;
+        let e = value(rt.alloc(), &unit, "", text)?;
         let found = answer(rt.alloc(), &unit, &facts, &e)?;
         assert_eq!(rt; found.as_str(), wanted, "{text}");
     }

@@ -35,6 +35,8 @@ mod strings;
 #[cfg(test)]
 mod systems;
 #[cfg(test)]
+mod table;
+#[cfg(test)]
 mod tables;
 #[cfg(test)]
 mod texts;

@@ -4,8 +4,11 @@ ghost use Rattle.exo_meaning.specs.Units.{IsUnit};
 
 use crate::place::context_of;
 use crate::shown::{show_context, show_facts};
+use crate::table::field;
 use crate::unit::{path_of, unit_of};
 use affine_forms::FormError;
+use affine_places::Facts;
+use affine_systems::Context;
 use exo_tree::{ProcId, Unit};
 use std::alloc::Global;
 use std::test::Fail;
@@ -52,64 +55,53 @@ def p(n: size):
         pass
 ";
 
-/// The context and the facts, or what else is answered.
-fn answer(alloc: Global, unit: &Unit, p: u32, at: &[i32]) -> Result<(String, String), Fail>
+/// The context and the facts, parted by `|`, or what else is answered.
+fn answer(alloc: Global, unit: &Unit, p: u32, at: &str) -> Result<String, Fail>
     requires { IsUnit (program unit.now) }
 {
     match context_of(alloc, unit, ProcId(p), &path_of(at)) {
-        Ok(Some((context, facts))) => Ok((
-            show_context(alloc, &context)?,
-            show_facts(alloc, unit, &facts)?,
-        )),
+        Ok(Some((context, facts))) => both(alloc, unit, &context, &facts),
         Ok(None) => Err(Fail::new("no place")),
-        Err(FormError::WideNumber) => {
-            Ok((String::from_str(alloc, "WideNumber")?, String::new(alloc)))
-        }
+        Err(FormError::WideNumber) => Ok(String::from_str(alloc, "WideNumber")?),
         Err(_) => Err(Fail::new("another refusal")),
     }
+}
+
+fn both(alloc: Global, unit: &Unit, context: &Context, facts: &Facts) -> Result<String, Fail> {
+    let mut text = show_context(alloc, context)?;
+    text.push('|')?;
+    text.push_str(&show_facts(alloc, unit, facts)?)?;
+    Ok(text)
 }
 
 /// The formulas of the parameters and assertions.
 const FIRST: &str = ">-1 1*v0; >0 1*v1; >1 -1*v1; =-8 1*f0; >0 1*v2; ";
 
+/// Places, what holds there beside the first formulas, and what is known of the fields.
+const PLACES: &str = "||
+0||
+1||2: 1 1*v0; 
+2||1: >3 -1*v0; 2: 1 1*v0; 
+2 0|>3 -1*v0; |1: >3 -1*v0; 2: 1 1*v0; 
+2 1|>3 -1*v0; |1: >3 -1*v0; 2: 1 1*v0; 
+2 e0|>-4 1*v0; |1: >3 -1*v0; 2: 1 1*v0; 
+2 e1|>-4 1*v0; |1: >3 -1*v0; 2: 1 1*v0; 
+3||1: @.2; 2: 1 1*v0; 
+3 0|>0 1*v3; >-1 1*v0 -1*v3; |0: @.3; 1: @.2; 2: 1 1*v0; 
+3 2|>0 1*v3; >-1 1*v0 -1*v3; |0: @.3.1; 1: @.2; 2: 1 1*v0; 
+3 2 0|>0 1*v3; >-1 1*v0 -1*v3; >-1 1*v0 -1*u0@.3.1; |0: @.3.1; 1: @.2; 2: 1 1*v0; 
+4||0: @.3; 1: @.2; 2: 1 1*v0; 
+4 0|>-1 1*v1; |0: @.3; 1: @.2; 2: 1 1*v0; 
+4 e0|>0 -1*v1; |0: @.3; 1: @.2; 2: 1 1*v0; 
+5||0: @.4; 1: @.2; 2: 1 1*v0; ";
+
 #[test]
 fn places(rt: HostRuntime) -> Result<(), Fail> {
-    let cases: [(&[i32], &str, &str); 16] = [
-        (&[], "", ""),
-        (&[0], "", ""),
-        (&[1], "", "2: 1 1*v0; "),
-        (&[2], "", "1: >3 -1*v0; 2: 1 1*v0; "),
-        (&[2, 0], ">3 -1*v0; ", "1: >3 -1*v0; 2: 1 1*v0; "),
-        (&[2, 1], ">3 -1*v0; ", "1: >3 -1*v0; 2: 1 1*v0; "),
-        (&[2, -1], ">-4 1*v0; ", "1: >3 -1*v0; 2: 1 1*v0; "),
-        (&[2, -2], ">-4 1*v0; ", "1: >3 -1*v0; 2: 1 1*v0; "),
-        (&[3], "", "1: @.2; 2: 1 1*v0; "),
-        (
-            &[3, 0],
-            ">0 1*v3; >-1 1*v0 -1*v3; ",
-            "0: @.3; 1: @.2; 2: 1 1*v0; ",
-        ),
-        (
-            &[3, 2],
-            ">0 1*v3; >-1 1*v0 -1*v3; ",
-            "0: @.3.1; 1: @.2; 2: 1 1*v0; ",
-        ),
-        (
-            &[3, 2, 0],
-            ">0 1*v3; >-1 1*v0 -1*v3; >-1 1*v0 -1*u0@.3.1; ",
-            "0: @.3.1; 1: @.2; 2: 1 1*v0; ",
-        ),
-        (&[4], "", "0: @.3; 1: @.2; 2: 1 1*v0; "),
-        (&[4, 0], ">-1 1*v1; ", "0: @.3; 1: @.2; 2: 1 1*v0; "),
-        (&[4, -1], ">0 -1*v1; ", "0: @.3; 1: @.2; 2: 1 1*v0; "),
-        (&[5], "", "0: @.4; 1: @.2; 2: 1 1*v0; "),
-    ];
     let unit = unit_of(rt.alloc(), TEXT)?;
-    for (at, context, facts) in cases {
+    for row in PLACES.lines() {
+        let (at, wanted) = field(row);
         let found = answer(rt.alloc(), &unit, 1, at)?;
-        let wanted = format!(in rt.alloc(); "{FIRST}{context}")?;
-        assert_eq!(rt; found.0, wanted, "context at {at:?}");
-        assert_eq!(rt; found.1.as_str(), facts, "facts at {at:?}");
+        assert_eq!(rt; found.as_str().strip_prefix(FIRST), Some(wanted), "at {at}");
     }
     Ok(())
 }
@@ -117,9 +109,9 @@ fn places(rt: HostRuntime) -> Result<(), Fail> {
 #[test]
 fn wide_assertions(rt: HostRuntime) -> Result<(), Fail> {
     let unit = unit_of(rt.alloc(), WIDE)?;
-    for at in [&[][..], &[0], &[0, 0]] {
+    for at in "\n0\n0 0".lines() {
         let found = answer(rt.alloc(), &unit, 0, at)?;
-        assert_eq!(rt; found.0.as_str(), "WideNumber", "at {at:?}");
+        assert_eq!(rt; found.as_str(), "WideNumber", "at {at}");
     }
     Ok(())
 }

@@ -2,6 +2,7 @@
 ghost use Rattle.exo_tree.specs.PlainUnit.{program};
 ghost use Rattle.exo_meaning.specs.Units.{IsUnit};
 
+use crate::table::{field, given_and_wanted, number};
 use crate::unit::{path_of, unit_of};
 use exo_reader::string::{read_expr, read_window};
 use exo_tree::{Cond, Ctrl, ProcId, Unit};
@@ -31,7 +32,7 @@ fn meant(
     alloc: Global,
     unit: &Unit,
     p: u32,
-    steps: &[i32],
+    steps: &str,
     after: bool,
     name: &[u8],
 ) -> Result<String, AllocError>
@@ -53,71 +54,81 @@ fn meant(
     }
 }
 
+/// Places of a procedure, before or after the statement there, and names with their ids; the last number is that of a name that is not
+/// in scope.
+const NAMES: &str = "0||before|n|0
+0||before|x|1
+0||before|i|4294967295
+0|0|before|n|0
+0|0|before|i|4294967295
+0|0|after|i|4294967295
+0|0 0|before|i|2
+0|0 0|before|t|4294967295
+0|0 0|after|t|3
+0|0 1|before|t|3
+0|0 2|before|j|4294967295
+0|0 2|after|j|4294967295
+0|0 2 0|before|t|3
+0|0 2 0|before|j|4294967295
+0|0 2 0|after|j|4294967295
+0|0 2 0 0|before|j|4
+0|0 2 0 0|before|w|4294967295
+0|0 2 0 0|after|w|5
+0|0 2 0 1|before|w|5
+0|0 3|before|t|3
+0|0 3|before|w|4294967295
+0|0 3|after|j|4294967295";
+
+/// The same of other strings, and of a procedure that is not there.
+const STRINGS: &str = "0|0|after|n / 2|a control value
+0|0|after|Cfg.scale + stride(x, 0)|a control value
+0|0|after|n * n|a control value
+0|0|after|n / (2)|NotOfForm
+0|0|after|n / n|NotOfForm
+0|0|after|n < 2|NotOfForm
+0|0|after|x[0]|NotOfForm
+0|0|after|relu(n)|NotOfForm
+0|0|after|Cfg.other|UnknownName
+0|0|after|relu(Cfg.other)|NotOfForm
+7||before|n|4294967295
+7||before|Cfg.other|UnknownName";
+
+/// What the name of a row stands for.
+fn meant_in_row(alloc: Global, unit: &Unit, row: &str) -> Result<String, AllocError>
+    requires { IsUnit (program unit.now) }
+{
+    let (p, row) = field(row);
+    let (steps, row) = field(row);
+    let (side, name) = field(row);
+    meant(
+        alloc,
+        unit,
+        number(p),
+        steps,
+        side == "after",
+        name.as_bytes(),
+    )
+}
+
 #[test]
 fn names_at_places(rt: HostRuntime) -> Result<(), AllocError> {
-    let alloc = rt.alloc();
-    let unit = unit_of(alloc, TEXT)?;
-    let none = "4294967295";
-    let rows: [(&[i32], bool, &[u8], &str); 22] = [
-        (&[], false, b"n", "0"),
-        (&[], false, b"x", "1"),
-        (&[], false, b"i", none),
-        (&[0], false, b"n", "0"),
-        (&[0], false, b"i", none),
-        (&[0], true, b"i", none),
-        (&[0, 0], false, b"i", "2"),
-        (&[0, 0], false, b"t", none),
-        (&[0, 0], true, b"t", "3"),
-        (&[0, 1], false, b"t", "3"),
-        (&[0, 2], false, b"j", none),
-        (&[0, 2], true, b"j", none),
-        (&[0, 2, 0], false, b"t", "3"),
-        (&[0, 2, 0], false, b"j", none),
-        (&[0, 2, 0], true, b"j", none),
-        (&[0, 2, 0, 0], false, b"j", "4"),
-        (&[0, 2, 0, 0], false, b"w", none),
-        (&[0, 2, 0, 0], true, b"w", "5"),
-        (&[0, 2, 0, 1], false, b"w", "5"),
-        (&[0, 3], false, b"t", "3"),
-        (&[0, 3], false, b"w", none),
-        (&[0, 3], true, b"j", none),
-    ];
-    for (steps, after, name, id) in rows {
-        assert_eq!(rt; meant(alloc, &unit, 0, steps, after, name)?.as_str(), id);
+    let unit = unit_of(rt.alloc(), TEXT)?;
+    for row in NAMES.lines() {
+        let (given, wanted) = given_and_wanted(row);
+        let found = meant_in_row(rt.alloc(), &unit, given)?;
+        assert_eq!(rt; found.as_str(), wanted, "{given}");
     }
     Ok(())
 }
 
 #[test]
 fn strings_that_are_refused(rt: HostRuntime) -> Result<(), AllocError> {
-    let alloc = rt.alloc();
-    let unit = unit_of(alloc, TEXT)?;
-    let rows: [(&[u8], &str); 10] = [
-        (b"n / 2", "a control value"),
-        (b"Cfg.scale + stride(x, 0)", "a control value"),
-        (b"n * n", "a control value"),
-        (b"n / (2)", "NotOfForm"),
-        (b"n / n", "NotOfForm"),
-        (b"n < 2", "NotOfForm"),
-        (b"x[0]", "NotOfForm"),
-        (b"relu(n)", "NotOfForm"),
-        (b"Cfg.other", "UnknownName"),
-        (b"relu(Cfg.other)", "NotOfForm"),
-    ];
-    for (string, answer) in rows {
-        assert_eq!(rt;
-            meant(alloc, &unit, 0, &[0], true, string)?.as_str(),
-            answer
-        );
+    let unit = unit_of(rt.alloc(), TEXT)?;
+    for row in STRINGS.lines() {
+        let (given, wanted) = given_and_wanted(row);
+        let found = meant_in_row(rt.alloc(), &unit, given)?;
+        assert_eq!(rt; found.as_str(), wanted, "{given}");
     }
-    assert_eq!(rt;
-        meant(alloc, &unit, 7, &[], false, b"n")?.as_str(),
-        "4294967295"
-    );
-    assert_eq!(rt;
-        meant(alloc, &unit, 7, &[], false, b"Cfg.other")?.as_str(),
-        "UnknownName"
-    );
     Ok(())
 }
 
@@ -128,19 +139,13 @@ fn conditions_and_windows(rt: HostRuntime) -> Result<(), AllocError> {
     let Ok(flag) = read_expr(alloc, b"n") else {
         return Err(AllocError);
     };
-    let condition = cond_at(alloc, &unit, ProcId(0), &path_of(&[]), false, &flag);
+    let condition = cond_at(alloc, &unit, ProcId(0), &path_of(""), false, &flag);
     assert!(rt; matches!(condition, Ok(Cond::Var(x)) if x.0 == 0));
     let Ok(window) = read_window(alloc, b"w[0:i, 1]") else {
         return Err(AllocError);
     };
-    let Ok((id, coords)) = window_at(
-        alloc,
-        &unit,
-        ProcId(0),
-        &path_of(&[0, 2, 0, 0]),
-        true,
-        &window,
-    ) else {
+    let Ok((id, coords)) = window_at(alloc, &unit, ProcId(0), &path_of("0 2 0 0"), true, &window)
+    else {
         return Err(AllocError);
     };
     assert_eq!(rt; id.0, 5);
