@@ -20,7 +20,8 @@ use Rattle.step_rules.specs.Answer.{proposed}
 use Rattle.tree_rules_laws.specs.Versions.{with_version}
 use Rattle.schedule_versions.specs.Versions.{Held, Version, At, Versions, version_at, held}
 use Rattle.schedule_versions.specs.Versions.{version_of, bound, with_step}
-use Rattle.schedule_versions.specs.Places.{Move, Asked, Missing, UnknownCursor, Sought, Got, Lost}
+use Rattle.schedule_calls.specs.Requests.{Move, Asked}
+use Rattle.schedule_versions.specs.Places.{Missing, UnknownCursor, Sought, Got, Lost}
 use Rattle.schedule_versions.specs.Places.{Place, then_seek, moved_at, matched, sought}
 
 -- ---- refusals

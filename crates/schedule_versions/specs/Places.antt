@@ -4,30 +4,13 @@ use Rattle.std.specs.Prelude.{Option, Some, None, slice_get, option_map, option_
 use Rattle.exo_tree.specs.Tree.{Block, Procedure}
 use Rattle.config_laws.specs.Differing.{from_parent}
 use Rattle.cursor_patterns.specs.Patterns.{Pattern}
+use Rattle.schedule_calls.specs.Requests.{Move, Parent, Next, Prev, Body, Before, After, Expand}
+use Rattle.schedule_calls.specs.Requests.{Item, Source, Under, Found, Here, Asked}
 use Rattle.cursor_forward.specs.Cursors.{Cursor, parent_of, next_of, prev_of, body_of, item_of}
 use Rattle.cursor_forward.specs.Cursors.{expand_of, before_of, after_of, forward_of}
 use Rattle.cursor_forward.specs.Patterns.{find_of}
 use Rattle.schedule_versions.specs.Versions.{Origin, Held, At, Versions, version_at, held}
 use Rattle.schedule_versions.specs.Versions.{version_of}
-
--- ---- what is asked for
-
--- a move, by numbers
-pub data Move : Type 0 where
-  Parent Next Prev Body Before After : Move
-  Expand : ℕ → ℕ → Move
-  Item : ℕ → Move
-
--- where a cursor is looked for: under a name, or by a pattern, its number-th match, in the version
--- that a name holds or in the one that is given
-pub data Source : Type 0 where
-  Under : List ℕ → Source
-  Found : List ℕ → Pattern → ℕ → Source
-  Here : Pattern → ℕ → Source
-
-pub record Asked : Type 0 where
-  pub source : Source
-  pub moves : List Move
 
 -- ---- what is found
 
