@@ -1,2 +1,4 @@
 mod Open
 mod Quiet
+mod Growing
+mod Derived
