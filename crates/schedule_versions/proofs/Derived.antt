@@ -1,8 +1,10 @@
 -- A step keeps what holds of all versions.
 use Rattle.std.proofs.Common.{◌≡◌, ◌≤◌, ◌<◌, ◌+◌, ◌*◌, ◌^◌, ℕ, zero, suc, Bool, true, false}
 use Rattle.std.proofs.Common.{List, [], ◌∷◌, ◌++◌, map, length, Option, Some, None, refl, sym, ap}
-use Rattle.std.proofs.Common.{◌∙◌, subst, arith, All}
-use Rattle.std.specs.Prelude.{slice_get, nat_lt, nat_le, option_and_then}
+use Rattle.std.proofs.Common.{◌∙◌, subst, arith, All, ◌⊎◌, inl, inr, eqb-true}
+use Rattle.std.specs.Prelude.{slice_get, nat_lt, nat_le, option_and_then, Contains, ◌==◌}
+use Rattle.std.specs.Prelude.{if◌then◌else◌}
+use Rattle.meaning_laws.proofs.Parts.{none_some}
 use Rattle.exo_tree.specs.Tree.{Procedure, Program}
 use Rattle.exo_tree.specs.Places.{Path}
 use Rattle.exo_meaning.specs.Run.{program_world, kinds_of}
@@ -18,7 +20,8 @@ use Rattle.unit_check.specs.Checked.{first_open}
 use Rattle.unit_check.specs.Faults.{NothingFaults}
 use Rattle.made_trees.specs.Ids.{next_id}
 use Rattle.config_laws.specs.Differing.{step_fields}
-use Rattle.config_laws.specs.FieldRule.{fields_at_end}
+use Rattle.config_laws.specs.FieldRule.{fields_at_end, not_again}
+use Rattle.config_laws.specs.Differing as config
 use Rattle.config_laws.proofs.Grown.{step_fields_grown}
 use Rattle.cursor_forward.specs.Proposals.{Plan}
 use Rattle.step_rules.specs.Rule.{Target, Got, Rule}
@@ -32,7 +35,7 @@ use Rattle.schedule_versions.specs.Versions.{Origin, made_of, configured, Versio
 use Rattle.schedule_versions.specs.Versions.{with_step}
 use Rattle.schedule_versions.specs.Places.{parent_at, origin_at}
 use Rattle.schedule_versions.specs.Lines.{target, owed_for}
-use Rattle.schedule_versions.specs.Laws.{fields_of_step, IsMade, AreDerived}
+use Rattle.schedule_versions.specs.Laws.{fields_of_step, NamesFields, IsMade, AreDerived}
 use Rattle.schedule_versions.proofs.Open.{IsMade as IsSystem, none_open_is_closed, first_none}
 use Rattle.schedule_versions.proofs.Open.{second_none, obligations_are_made, needs_are_made, IsClosed}
 use Rattle.schedule_versions.proofs.Quiet.{Laws, Which, old, last, which, get_last, get_old}
@@ -78,10 +81,87 @@ within (y ∷ xs) (suc k) x h = up (within xs k x h)
 same_some : {A : Type 0} {x y : A} → Some x ≡ Some y → x ≡ y
 same_some h = cc
 
+side_of : (k n : ℕ) → (nat_lt k n ≡ true) ⊎ (n ≤ k)
+side_of k n = by (nat_lt k n) refl
+  where
+    by : (b : Bool) → nat_lt k n ≡ b → (nat_lt k n ≡ true) ⊎ (n ≤ k)
+    by true e = inl e
+    by false e = inr (grind arith)
+
+not_there : {A : Type 0} (xs : List A) (k : ℕ) → nat_lt k (length xs) ≡ true
+    → slice_get xs k ≡ None → ⊥
+not_there [] k h e = none k h
+  where
+    none : (k : ℕ) → nat_lt k 0 ≡ true → ⊥
+    none k h = grind arith
+not_there (x ∷ xs) zero h e = absurd (none_some (sym e))
+not_there (x ∷ xs) (suc k) h e = not_there xs k (less k (length xs) h) e
+  where
+    less : (k n : ℕ) → nat_lt (suc k) (suc n) ≡ true → nat_lt k n ≡ true
+    less k n h = grind arith
+
+past_end : {A : Type 0} (xs : List A) (k : ℕ) → length xs ≤ k → slice_get xs k ≡ None
+past_end [] zero h = refl
+past_end [] (suc k) h = refl
+past_end (x ∷ xs) zero h = absurd (none h)
+  where
+    none : suc (length xs) ≤ 0 → ⊥
+    none h = omega arith
+past_end (x ∷ xs) (suc k) h = past_end xs k (less h)
+  where
+    less : suc (length xs) ≤ suc k → length xs ≤ k
+    less h = omega arith
+
+past_all : (k n m : ℕ) → n ≤ k → (k == n) ≡ false → m ≡ suc n → m ≤ k
+past_all k n m h e i = grind arith
+
+none_contained : (f : ℕ) → Contains [] f → ⊥
+none_contained f c = none c.0 c.1
+  where
+    none : (i : ℕ) → i < 0 → ⊥
+    none i h = omega arith
+
+-- no version, no fields
+beyond_versions : (w : Versions) (k : ℕ) → length w.unit.procedures ≤ k
+    → fields_of_step w k ≡ []
+beyond_versions w k h = by (slice_get (map configured w.origins) k)
+  where
+    by : (o : Option config.Origin) → elim o as (λ o. List ℕ) [
+          | None ↦ []
+          | Some o ↦ elim (slice_get w.unit.procedures k) as (λ r. List ℕ) [
+            | None ↦ []
+            | Some q ↦ fields_at_end w.unit.procedures q.body o.place o.side o.fields
+          ]
+        ] ≡ []
+    by None = refl
+    by (Some o) =
+        ap (λ (r : Option Procedure). elim r as (λ r. List ℕ) [
+          | None ↦ []
+          | Some q ↦ fields_at_end w.unit.procedures q.body o.place o.side o.fields
+        ]) (past_end w.unit.procedures k h)
+
+-- those of a list that are left are among those of the list
+among_fields : (n f : ℕ) (written : ℕ → Bool) (fs : List ℕ) → Each (λ g. g < n) fs
+    → Contains (not_again written fs) f → f < n
+among_fields n f written [] h c = absurd (none_contained f c)
+among_fields n f written (g ∷ gs) h c =
+    by (written g) (among_fields n f written gs h.1) c
+  where
+    first_or : Contains (g ∷ not_again written gs) f
+        → (Contains (not_again written gs) f → f < n) → f < n
+    first_or (zero, less, e) on = subst (λ z. z < n) e h.0
+    first_or (suc i, less, e) on = on (i, (let k : suc i < suc (length (not_again written gs)) = less in omega (arith, k)), e)
+
+    by : (b : Bool) → (Contains (not_again written gs) f → f < n)
+        → Contains (if b then not_again written gs else g ∷ not_again written gs) f → f < n
+    by true on c = on c
+    by false on c = first_or c on
+
 -- ---- one step
 
 module _ (laws : StepLaws) (v : Versions) (derived : AreDerived v) (k : ℕ) (p : Procedure)
-    (there : version_at v k ≡ Some p) (r : Rule) (lawful : IsLawful r) (at : Path) (m : Plan)
+    (there : version_at v k ≡ Some p) (r : Rule) (lawful : IsLawful r) (names_fields : NamesFields r)
+    (at : Path) (m : Plan)
     (ids : nat_le (next_id p + 65536) (2 ^ 31) ≡ true) (room : has_room v.unit ≡ true)
     (got : proposed r (target v k p) at ≡ Got m) (shown : first_open (owed_for v m) ≡ None)
     (name : List ℕ) where
@@ -217,10 +297,38 @@ module _ (laws : StepLaws) (v : Versions) (derived : AreDerived v) (k : ℕ) (p 
       (p, here, subst (λ n. IsMade w k n p q) (sym h) (subst (IsMade w k (length ps) p) (sym e)
       new_made))
 
+  -- ---- fields
+
+  plan_fields : Each (λ f. f < length v.unit.fields) m.fields
+  plan_fields =
+      let a = (proposal_of r t at m got).answer in
+      subst (λ (n : Plan). Each (λ f. f < length v.unit.fields) n.fields) a.is (names_fields _)
+
+  either_field : (i f : ℕ) → (nat_lt i (length ps) ≡ true) ⊎ (length ps ≤ i)
+      → Contains (fields_of_step w i) f → f < length v.unit.fields
+  either_field i f (inl h) c =
+      by_version (slice_get ps i) refl
+    where
+      by_version : (o : Option Procedure) → slice_get ps i ≡ o → f < length v.unit.fields
+      by_version None e = absurd (not_there ps i h e)
+      by_version (Some q) e =
+          derived.fields i f (subst (λ l. Contains l f) (old_fields i q h e) c)
+  either_field i f (inr h) c = by_number (i == length ps) refl
+    where
+      by_number : (b : Bool) → (i == length ps) ≡ b → f < length v.unit.fields
+      by_number true e =
+          among_fields (length v.unit.fields) f _ m.fields plan_fields
+          (subst (λ l. Contains l f)
+          (ap (fields_of_step w) (eqb-true i (length ps) e) ∙ new_fields) c)
+      by_number false e =
+          absurd (none_contained f (subst (λ l. Contains l f) (beyond_versions w i
+          (past_all i (length ps) h e (ap length refl ∙ one_longer ps m.proc))) c))
+
   pub step_is_derived : AreDerived w
   step_is_derived = record {
     formed = formed;
     quiet = quiet;
     count = count;
     made = λ j i q above e. all_made j i q (which ps m.proc q i e) above;
+    fields = λ i f c. either_field i f (side_of i (length ps)) c;
   }

@@ -2,3 +2,4 @@ mod Open
 mod Quiet
 mod Growing
 mod Derived
+mod Chain

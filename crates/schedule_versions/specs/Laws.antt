@@ -1,6 +1,6 @@
 -- What holds of all versions of a schedule.
 use Rattle.std.specs.Prelude.{◌≡◌, ◌≤◌, ◌<◌, ◌+◌, ◌*◌, ◌^◌, ⊤, ℕ, List, [], ◌∷◌, length, map}
-use Rattle.std.specs.Prelude.{true, Some, slice_get}
+use Rattle.std.specs.Prelude.{true, Some, slice_get, Contains}
 use Rattle.exo_tree.specs.Tree.{Procedure, Program}
 use Rattle.exo_meaning.specs.Run.{program_world}
 use Rattle.exo_meaning.specs.Inputs.{Refines}
@@ -12,17 +12,21 @@ use Rattle.config_laws.specs.Differing.{step_fields, is_descendant, differing}
 use Rattle.unit_check.specs.Faults.{NothingFaults}
 use Rattle.cursor_forward.specs.Cursors.{Cursor}
 use Rattle.step_rules.specs.Lawful.{IsLawful}
-use Rattle.step_rules.specs.Rule.{Target, Got}
+use Rattle.step_rules.specs.Rule.{Target, Got, Spot, Rule}
 use Rattle.schedule_versions.specs.Versions.{configured, Versions, started}
 use Rattle.schedule_versions.specs.Places.{parent_at}
-use Rattle.schedule_versions.specs.Lines.{Call, Act, Faulty, Apply, Search, Moved, Emit, Done, run_acts}
+use Rattle.schedule_versions.specs.Lines.{Ruled, Call, Act, Faulty, Apply, Search, Moved, Emit}
+use Rattle.schedule_versions.specs.Lines.{Done, run_acts}
+
+-- the fields that a rule says may differ are fields of the unit
+abbrev pub NamesFields : Rule → Type 0
+NamesFields r = (s : Spot) → Each (λ f. f < length s.target.unit.fields) (r.fields s)
 
 -- what every rule of an operator is
-abbrev pub IsLawfulCall : Call → Type 0
-IsLawfulCall call =
-    (t : Target) (cs : List Cursor) (r : _)
-    → call.rule t cs ≡ Got r
-    → IsLawful r.rule
+pub record IsLawfulCall (call : Call) : Type 0 where
+  pub lawful : (t : Target) (cs : List Cursor) (r : Ruled) → call.rule t cs ≡ Got r → IsLawful r.rule
+  pub fields :
+      (t : Target) (cs : List Cursor) (r : Ruled) → call.rule t cs ≡ Got r → NamesFields r.rule
 
 abbrev pub IsLawfulAct : Act → Type 0
 IsLawfulAct (Faulty why) = ⊤
@@ -52,6 +56,7 @@ pub record AreDerived (v : Versions) : Type 0 where
       → parent_at v k ≡ Some j
       → slice_get v.unit.procedures k ≡ Some q
       → (p : Procedure) × (slice_get v.unit.procedures j ≡ Some p) × IsMade v j k p q
+  pub fields : (k f : ℕ) → Contains (fields_of_step v k) f → f < length v.unit.fields
 
 -- there are numbers and ids left for so many steps
 pub record HasRoom (v : Versions) (steps : ℕ) : Type 0 where
