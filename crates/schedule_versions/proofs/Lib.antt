@@ -3,3 +3,4 @@ mod Quiet
 mod Growing
 mod Derived
 mod Chain
+mod Runs
