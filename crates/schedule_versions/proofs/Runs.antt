@@ -2,13 +2,17 @@
 use Rattle.std.proofs.Common.{◌≡◌, ◌≤◌, ◌<◌, ◌+◌, ◌*◌, ◌^◌, ℕ, zero, suc, max, Bool, true, false, ◌&&◌}
 use Rattle.std.proofs.Common.{List, [], ◌∷◌, ◌++◌, map, length, Option, Some, None, refl, sym, ap}
 use Rattle.std.proofs.Common.{◌∙◌, subst, arith}
-use Rattle.std.specs.Prelude.{slice_get, nat_lt, nat_le, if◌then◌else◌}
+use Rattle.std.specs.Prelude.{slice_get, nat_lt, nat_le, if◌then◌else◌, option_and_then, Contains}
 use Rattle.std.specs.List.{list_all}
 use Rattle.exo_tree.specs.Tree.{Procedure, Program}
 use Rattle.exo_tree.specs.Places.{Path}
 use Rattle.exo_meaning.specs.Orders.{Each}
 use Rattle.exo_meaning.specs.Units.{IsUnit, bound_ids}
 use Rattle.meaning_laws.proofs.Substitute.{and_parts}
+use Rattle.meaning_laws.proofs.Parts.{some_injective}
+use Rattle.config_laws.specs.Differing as config
+use Rattle.config_laws.specs.Differing.{step_fields}
+use Rattle.config_laws.specs.FieldRule.{fields_at_end}
 use Rattle.bounds_check.specs.Obligations.{Fault, list_fault}
 use Rattle.unit_check.specs.Checked as unit_check
 use Rattle.unit_check.specs.Checked.{first_open}
@@ -309,15 +313,66 @@ run_is_derived laws acts v w is d room h = runs laws 0 acts v w is d room h
 
 -- ---- the beginning
 
-no_origin : (ps : List Procedure) (k : ℕ) (o : Origin)
-    → slice_get (map (λ p. of_text) ps) k ≡ Some o → o ≡ of_text
-no_origin [] zero o h = absurd (none h)
+no_parent : (ps : List Procedure) (k : ℕ)
+    → option_and_then (λ (o : Origin). o.parent) (slice_get (map (λ p. of_text) ps) k) ≡ None
+no_parent [] zero = refl
+no_parent [] (suc k) = refl
+no_parent (p ∷ ps) zero = refl
+no_parent (p ∷ ps) (suc k) = no_parent ps k
+
+as_long : (ps : List Procedure) → length (map (λ (p : Procedure). of_text) ps) ≡ length ps
+as_long [] = refl
+as_long (p ∷ ps) = ap suc (as_long ps)
+
+none_some : {A : Type 0} {x : A} → None ≡ Some x → ⊥
+none_some h = cc
+
+text_origin : (ps : List Procedure) (k : ℕ) (o : config.Origin)
+    → slice_get (map configured (map (λ p. of_text) ps)) k ≡ Some o → o.fields ≡ []
+text_origin [] zero o h = absurd (none_some h)
+text_origin [] (suc k) o h = absurd (none_some h)
+text_origin (p ∷ ps) zero o h = by h
   where
-    none : None ≡ Some o → ⊥
-    none h = cc
-no_origin [] (suc k) o h = absurd (none h)
+    by : Some (configured of_text) ≡ Some o → o.fields ≡ []
+    by h = ap (λ (z : config.Origin). z.fields) (some_injective o (configured of_text) (sym h))
+text_origin (p ∷ ps) (suc k) o h = text_origin ps k o h
+
+no_fields : (all ps : List Procedure) (k : ℕ)
+    → step_fields all (map configured (map (λ p. of_text) ps)) k ≡ []
+no_fields all ps k = by (slice_get (map configured (map (λ (p : Procedure). of_text) ps)) k) refl
   where
-    none : None ≡ Some o → ⊥
-    none h = cc
-no_origin (p ∷ ps) zero o h = cc
-no_origin (p ∷ ps) (suc k) o h = no_origin ps k o h
+    by : (o : Option config.Origin)
+        → slice_get (map configured (map (λ (p : Procedure). of_text) ps)) k ≡ o
+        → elim o as (λ o. List ℕ) [
+          | None ↦ []
+          | Some o ↦ elim (slice_get all k) as (λ q. List ℕ) [
+            | None ↦ []
+            | Some q ↦ fields_at_end all q.body o.place o.side o.fields
+          ]
+        ] ≡ []
+    by None e = refl
+    by (Some o) e = by_version (slice_get all k)
+      where
+        by_version : (q : Option Procedure) → elim q as (λ q. List ℕ) [
+              | None ↦ []
+              | Some q ↦ fields_at_end all q.body o.place o.side o.fields
+            ] ≡ []
+        by_version None = refl
+        by_version (Some q) =
+            ap (fields_at_end all q.body o.place o.side) (text_origin ps k o e)
+
+pub started_is_derived : StartedIsDerived
+started_is_derived unit shown is quiet = record {
+  formed = is;
+  quiet = quiet;
+  count = as_long unit.procedures;
+  made = λ j k q above e. absurd (none_some (sym (no_parent unit.procedures k) ∙ above));
+  fields = λ k f c.
+      absurd (nothing f (subst (λ l. Contains l f) (no_fields unit.procedures unit.procedures k) c));
+}
+  where
+    nothing : (f : ℕ) → Contains [] f → ⊥
+    nothing f c = none c.0 c.1
+      where
+        none : (i : ℕ) → i < 0 → ⊥
+        none i h = omega arith
