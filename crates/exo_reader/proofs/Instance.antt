@@ -1,10 +1,10 @@
 -- Closed texts.
-use Rattle.std.proofs.Common.{◌≡◌, ℕ, suc, List, [], ◌∷◌, Option, Some, None, refl, sym, ap, ◌∙◌, arith}
+use Rattle.std.proofs.Common.{◌≡◌, ℕ, suc, List, [], ◌∷◌, Some, None, refl, sym, ap, ◌∙◌, arith}
 use Rattle.std.specs.Prelude.{codes}
 use Rattle.text_phrases.specs.Limits.{syntax}
 use Rattle.text_phrases.specs.Phrase.{first, Taken, Refused}
 use Rattle.text_phrases.specs.Sequence.{exactly, then}
-use Rattle.text_phrases.specs.Text.{IsText, FaultAt}
+use Rattle.text_phrases.specs.Text.{IsText}
 use Rattle.text_phrases.specs.declared.Refusal.TheVariants as r
 use Rattle.text_phrases.proofs.Sequences.{step_taken, taken_exactly, taken_short, items_none, items_done}
 use Rattle.text_phrases.proofs.Commas.{listed_first, listing_done}
