@@ -1,6 +1,6 @@
 -- How a line asks for something: the strings in it are patterns and names, and the arguments of an
 -- operator have its forms.
-use Rattle.std.specs.Prelude.{◌≡◌, ⊥, ℕ, Bool, false, ◌||◌, not, List, [], ◌∷◌, None, map, codes}
+use Rattle.std.specs.Prelude.{◌≡◌, ℕ, Bool, false, ◌||◌, not, List, [], ◌∷◌, None, map, codes}
 use Rattle.std.specs.Str.{bytes_eq}
 use Rattle.text_lexer.specs.declared.token.Literal.{Literal}
 use Rattle.text_lexer.specs.declared.token.Literal.TheVariants.{Value}

@@ -2,10 +2,10 @@
 use Rattle.std.proofs.Common.{◌≡◌, ◌==◌, ◌<◌, ◌≤◌, ◌+◌, ℕ, zero, suc, Bool, true, false, ◌||◌}
 use Rattle.std.proofs.Common.{List, [], ◌∷◌, ◌++◌, map, length, Option, Some, None, refl, sym, ap}
 use Rattle.std.proofs.Common.{◌∙◌, ◌⊎◌, inl, inr, subst, true≢false, eqb-true, eq-eqb, arith}
-use Rattle.std.specs.Prelude.{Contains, slice_get, slice_index_or, option_and_then}
+use Rattle.std.specs.Prelude.{Contains, slice_get, option_and_then}
 use Rattle.std.specs.Prelude.{if◌then◌else◌}
 use Rattle.std.proofs.lemmas.List.Elements.{Contains-append_right, Contains-append_cases}
-use Rattle.exo_tree.specs.Tree.{Procedure, Program}
+use Rattle.exo_tree.specs.Tree.{Procedure}
 use Rattle.exo_meaning.specs.Value.{IsRefinedBy}
 use Rattle.exo_meaning.specs.State.{State}
 use Rattle.exo_meaning.specs.Run.{World, program_world}
@@ -22,8 +22,7 @@ use Rattle.config_laws.specs.Differing.{parent_in, step_fields, from_parent, des
 use Rattle.config_laws.specs.Differing.{fields_since, is_descendant, differing}
 use Rattle.config_laws.proofs.Derived.{listed}
 use Rattle.schedule_versions.specs.Versions.{Origin, configured, Versions}
-use Rattle.schedule_versions.specs.Places.{parent_at}
-use Rattle.schedule_versions.specs.Laws.{fields_of_step, IsMade, AreDerived, VersionsRefine}
+use Rattle.schedule_versions.specs.Laws.{AreDerived, VersionsRefine}
 
 -- ---- lists of fields
 

@@ -1,5 +1,5 @@
 -- A step keeps what holds of all versions.
-use Rattle.std.proofs.Common.{◌≡◌, ◌≤◌, ◌<◌, ◌+◌, ◌*◌, ◌^◌, ℕ, zero, suc, Bool, true, false}
+use Rattle.std.proofs.Common.{◌≡◌, ◌≤◌, ◌<◌, ◌+◌, ◌^◌, ℕ, zero, suc, Bool, true, false}
 use Rattle.std.proofs.Common.{List, [], ◌∷◌, ◌++◌, map, length, Option, Some, None, refl, sym, ap}
 use Rattle.std.proofs.Common.{◌∙◌, subst, arith, All, ◌⊎◌, inl, inr, eqb-true}
 use Rattle.std.specs.Prelude.{slice_get, nat_lt, nat_le, option_and_then, Contains, ◌==◌}
@@ -13,14 +13,13 @@ use Rattle.exo_meaning.specs.Orders.{Each}
 use Rattle.exo_meaning.specs.Units.{IsUnit}
 use Rattle.meaning_laws.specs.Chain.{HasHead}
 use Rattle.meaning_laws.specs.Grown.{calls_below, GrownRefinesLaw}
-use Rattle.affine_systems.specs.Outcomes.{Owed}
 use Rattle.affine_prover.specs.Laws.{ShownSystemsHaveNoPoint}
 use Rattle.bounds_check.specs.Obligations.{obligations_of}
 use Rattle.unit_check.specs.Checked.{first_open}
 use Rattle.unit_check.specs.Faults.{NothingFaults}
 use Rattle.made_trees.specs.Ids.{next_id}
 use Rattle.config_laws.specs.Differing.{step_fields}
-use Rattle.config_laws.specs.FieldRule.{fields_at_end, not_again}
+use Rattle.config_laws.specs.FieldRule.{fields_at_end, not_again, surely_from}
 use Rattle.config_laws.specs.Differing as config
 use Rattle.config_laws.proofs.Grown.{step_fields_grown}
 use Rattle.cursor_forward.specs.Proposals.{Plan}
@@ -39,7 +38,7 @@ use Rattle.schedule_versions.specs.Laws.{fields_of_step, NamesFields, IsMade, Ar
 use Rattle.schedule_versions.proofs.Open.{IsMade as IsSystem, none_open_is_closed, first_none}
 use Rattle.schedule_versions.proofs.Open.{second_none, obligations_are_made, needs_are_made, IsClosed}
 use Rattle.schedule_versions.proofs.Quiet.{Laws, Which, old, last, which, get_last, get_old}
-use Rattle.schedule_versions.proofs.Quiet.{calls_only, calls_unit, nothing_faults}
+use Rattle.schedule_versions.proofs.Quiet.{one_longer, calls_before, calls_unit, nothing_faults}
 use Rattle.schedule_versions.proofs.Growing.{end_grown, mapped_more, mapped_length}
 use Rattle.schedule_versions.proofs.Growing.{by_own_origin, of_last}
 
@@ -50,10 +49,6 @@ pub record StepLaws : Type 0 where
   pub kept : KeptLaw
   pub meaning : MeaningLaw
   pub refines : GrownRefinesLaw
-
-one_longer : {A : Type 0} (xs : List A) (y : A) → length (xs ++ y ∷ []) ≡ suc (length xs)
-one_longer [] y = refl
-one_longer (x ∷ xs) y = ap suc (one_longer xs y)
 
 is_less : (k n : ℕ) → nat_lt k n ≡ true → k < n
 is_less k n h = grind arith
@@ -72,7 +67,10 @@ within [] (suc k) x h = absurd (none h)
   where
     none : None ≡ Some x → ⊥
     none h = cc
-within (y ∷ xs) zero x h = refl
+within (y ∷ xs) zero x h = first (length xs)
+  where
+    first : (n : ℕ) → nat_lt 0 (suc n) ≡ true
+    first n = grind arith
 within (y ∷ xs) (suc k) x h = up (within xs k x h)
   where
     up : nat_lt k (length xs) ≡ true → nat_lt (suc k) (suc (length xs)) ≡ true
@@ -127,12 +125,12 @@ beyond_versions : (w : Versions) (k : ℕ) → length w.unit.procedures ≤ k
 beyond_versions w k h = by (slice_get (map configured w.origins) k)
   where
     by : (o : Option config.Origin) → elim o as (λ o. List ℕ) [
-          | None ↦ []
-          | Some o ↦ elim (slice_get w.unit.procedures k) as (λ r. List ℕ) [
-            | None ↦ []
-            | Some q ↦ fields_at_end w.unit.procedures q.body o.place o.side o.fields
-          ]
-        ] ≡ []
+      | None ↦ []
+      | Some o ↦ elim (slice_get w.unit.procedures k) as (λ r. List ℕ) [
+        | None ↦ []
+        | Some q ↦ fields_at_end w.unit.procedures q.body o.place o.side o.fields
+      ]
+    ] ≡ []
     by None = refl
     by (Some o) =
         ap (λ (r : Option Procedure). elim r as (λ r. List ℕ) [
@@ -217,7 +215,7 @@ module _ (laws : StepLaws) (v : Versions) (derived : AreDerived v) (k : ℕ) (p 
       → fields_of_step w i ≡ fields_of_step v i
   old_fields i q h e =
       step_fields_grown ps (m.proc ∷ []) (map configured w.origins) i q e
-      (calls_unit laws.quiet v.unit derived.formed i q h e)
+      (calls_unit laws.quiet v.unit derived.formed i q e)
       ∙ by_own_origin ps (map configured w.origins) (map configured v.origins) i
       (ap (λ l. slice_get l i) (mapped_more v.origins (made_of k m))
       ∙ get_old (map configured v.origins) (configured (made_of k m)) i
@@ -225,10 +223,10 @@ module _ (laws : StepLaws) (v : Versions) (derived : AreDerived v) (k : ℕ) (p 
 
   below : (i : ℕ) (q : Procedure) → slice_get ps i ≡ Some q
       → calls_below (length ps) q.body ≡ true
-  below i q e = calls_unit laws.quiet v.unit derived.formed i q (within ps i q e) e
+  below i q e = calls_unit laws.quiet v.unit derived.formed i q e
 
   pub new_below : calls_below (length ps) m.proc.body ≡ true
-  new_below = calls_only laws.quiet longer formed (length ps) m.proc (get_last ps m.proc)
+  new_below = calls_before laws.quiet v.unit m.proc formed
 
   grown : (a b : Procedure) (but : List ℕ) → calls_below (length ps) a.body ≡ true
       → calls_below (length ps) b.body ≡ true → Refines (program_world v.unit) a b but
@@ -293,9 +291,12 @@ module _ (laws : StepLaws) (v : Versions) (derived : AreDerived v) (k : ℕ) (p 
       let same : k ≡ j = same_some (sym new_parent ∙ ap (parent_at w) (sym h) ∙ above) in
       let here = get_old ps m.proc k (within ps k p there) ∙ there in
       subst (λ n. (a : Procedure) × (slice_get w.unit.procedures n ≡ Some a) × IsMade w n i a q)
-      same
-      (p, here, subst (λ n. IsMade w k n p q) (sym h) (subst (IsMade w k (length ps) p) (sym e)
-      new_made))
+      same (
+        p,
+        here,
+        subst (λ n. IsMade w k n p q) (sym h) (subst (IsMade w k (length ps) p) (sym e)
+            new_made),
+      )
 
   -- ---- fields
 
@@ -317,12 +318,14 @@ module _ (laws : StepLaws) (v : Versions) (derived : AreDerived v) (k : ℕ) (p 
     where
       by_number : (b : Bool) → (i == length ps) ≡ b → f < length v.unit.fields
       by_number true e =
-          among_fields (length v.unit.fields) f _ m.fields plan_fields
+          let written = surely_from ps m.proc.body m.place (config_side m.side) in
+          among_fields (length v.unit.fields) f written m.fields plan_fields
           (subst (λ l. Contains l f)
           (ap (fields_of_step w) (eqb-true i (length ps) e) ∙ new_fields) c)
       by_number false e =
-          absurd (none_contained f (subst (λ l. Contains l f) (beyond_versions w i
-          (past_all i (length ps) h e (ap length refl ∙ one_longer ps m.proc))) c))
+          let beyond = past_all i (length ps) (length w.unit.procedures) h e
+          (one_longer ps m.proc) in
+          absurd (none_contained f (subst (λ l. Contains l f) (beyond_versions w i beyond) c))
 
   pub step_is_derived : AreDerived w
   step_is_derived = record {

@@ -1,9 +1,8 @@
 -- Fields that may differ, in a unit with a version more.
-use Rattle.std.proofs.Common.{◌≡◌, ℕ, zero, suc, Bool, true, false, List, [], ◌∷◌, ◌++◌, map, length}
+use Rattle.std.proofs.Common.{◌≡◌, ℕ, suc, Bool, true, false, List, [], ◌∷◌, ◌++◌, map, length}
 use Rattle.std.proofs.Common.{Option, Some, None, refl, sym, ap, ◌∙◌, subst}
-use Rattle.std.specs.Prelude.{slice_get, nat_lt}
+use Rattle.std.specs.Prelude.{slice_get}
 use Rattle.exo_tree.specs.Tree.{Block, Procedure}
-use Rattle.exo_tree.specs.Context.{fill}
 use Rattle.exo_tree.specs.Places.{Path, Opened, opened}
 use Rattle.meaning_laws.specs.Grown.{calls_below}
 use Rattle.meaning_laws.proofs.Places.{opened_law}
@@ -11,7 +10,7 @@ use Rattle.config_laws.specs.FieldRule.{Side, gap, surely_from, fields_at_end}
 use Rattle.config_laws.specs.Surely.{surely_behind, unit_surely}
 use Rattle.config_laws.specs.Differing as config
 use Rattle.config_laws.specs.Differing.{step_fields}
-use Rattle.config_laws.proofs.Grown.{surely_behind_grown, step_fields_grown}
+use Rattle.config_laws.proofs.Grown.{surely_behind_grown}
 use Rattle.config_laws.proofs.Proposed.{fields_same}
 use Rattle.schedule_versions.specs.Versions.{Origin, configured}
 use Rattle.schedule_versions.proofs.Quiet.{get_last}
@@ -56,7 +55,7 @@ pub mapped_length : (os : List Origin) → length (map configured os) ≡ length
 mapped_length [] = refl
 mapped_length (o ∷ os) = ap suc (mapped_length os)
 
-by_origin : List Procedure → Option config.Origin → ℕ → List ℕ
+abbrev by_origin : List Procedure → Option config.Origin → ℕ → List ℕ
 by_origin ps o k = elim o as (λ o. List ℕ) [
   | None ↦ []
   | Some o ↦ elim (slice_get ps k) as (λ r. List ℕ) [

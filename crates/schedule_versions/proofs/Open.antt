@@ -27,7 +27,7 @@ use Rattle.exo_meaning.specs.Orders.{Each}
 use Rattle.unit_check.specs.Checked.{Cause, NotShown, first_open}
 use Rattle.cursor_forward.specs.Causes.{FormFault}
 use Rattle.step_rules.specs.Rule.{Tried, Got, Target, Need, Says}
-use Rattle.step_rules.specs.Owing.{AreShown, claim_of, fact_text, owed_for, need_fault, unless_refused}
+use Rattle.step_rules.specs.Owing.{claim_of, fact_text, owed_for, need_fault, unless_refused}
 use Rattle.step_rules.specs.Owing.{owed_behind, owed_needs}
 
 -- ---- systems that are made have a coefficient for each variable, as in unit_check/proofs/Safe

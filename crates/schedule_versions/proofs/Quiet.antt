@@ -1,30 +1,32 @@
 -- Nothing faults in a unit with a version behind it that shows what it owes.
-use Rattle.std.proofs.Common.{◌≡◌, ℕ, ◌≤◌, zero, suc, ◌&&◌, true, List, [], ◌∷◌, ◌++◌, length}
-use Rattle.std.proofs.Common.{Option, Some, None, refl, sym, ap, ap₂, ◌∙◌, subst, arith, All}
+use Rattle.std.proofs.Common.{◌≡◌, ℕ, ◌+◌, zero, suc, ◌&&◌, ◌||◌, Bool, true, false, List, [], ◌∷◌, ◌++◌, length}
+use Rattle.std.proofs.Common.{Option, Some, None, refl, sym, ap, ◌∙◌, subst, arith, All}
+use Rattle.std.proofs.Common.{eqb-true, true≢false}
 use Rattle.std.specs.Prelude.{slice_get, nat_lt, IsSome}
 use Rattle.exo_tree.specs.Tree.{Statement, Assign, Reduce, Config, Pass, If, For, Alloc, View, Call}
-use Rattle.exo_tree.specs.Tree.{Block, end, next, Procedure, Program}
+use Rattle.exo_tree.specs.Tree.{Kind, Block, end, next, Procedure, ConfigField, Program}
 use Rattle.exo_tree.specs.Places.{Opened, opened}
 use Rattle.exo_meaning.specs.Scene.{holds, where_true}
 use Rattle.exo_meaning.specs.State.{State}
-use Rattle.exo_meaning.specs.Run.{program_world, kinds_of}
+use Rattle.exo_meaning.specs.Run.{program_world, kinds_of, callees, callee_in, world_of}
+use Rattle.exo_meaning.specs.Calls.{Callee}
 use Rattle.exo_meaning.specs.Inputs.{IsAdmissible, all_have_extents, run_procedure}
 use Rattle.exo_meaning.specs.Orders.{Each}
-use Rattle.exo_meaning.specs.Units.{IsUnit}
+use Rattle.exo_meaning.specs.Units.{IsUnit, IsProcedure, AreProcedures, field_kind}
 use Rattle.meaning_laws.specs.Sorted.{MayRun}
 use Rattle.meaning_laws.specs.Grown.{calls_below, step_calls_below, GrownLaw}
 use Rattle.meaning_laws.specs.WellFormed.{CallsAreBelow}
 use Rattle.affine_systems.specs.Systems.{IsShown as HasNoPoint, systems}
-use Rattle.affine_systems.specs.Outcomes.{Owed, owed}
+use Rattle.affine_systems.specs.Outcomes.{owed}
 use Rattle.affine_forms.specs.Affine.{HasNoIntegerPoint}
 use Rattle.check_claims.specs.Claim.{Placed}
 use Rattle.check_claims.specs.Claims.{claims_of}
 use Rattle.check_facts.specs.Contexts.{context_of}
 use Rattle.bounds_check.specs.Obligations.{claim_formula, owed_for, owed_for_all, obligations_of}
 use Rattle.check_claims_laws.specs.Holding.{HoldsAtPlace, ClaimHolds, ClaimIsFormed, calls}
+use Rattle.check_claims_laws.specs.Holding.{step_calls}
 use Rattle.check_claims_laws.specs.Laws.{ProceduresMayRun, ClaimsAreFormed, ClaimsSufficeHere}
 use Rattle.check_claims_laws.specs.Laws.{NeverFaults}
-use Rattle.check_claims_laws.proofs.Standing.{standing, calls_before, called_below}
 use Rattle.meaning_laws.proofs.Parts.{none_some}
 use Rattle.meaning_laws.proofs.Substitute.{and_parts}
 use Rattle.check_facts_laws.specs.Laws.{ComesToPlace, ShownConditionsHold}
@@ -58,38 +60,50 @@ module _ (shown_law : ShownConditionsHold) (u : Program) (p : Procedure)
       let first = each_front IsClosed (owed_for u p c) (owed_for_all u p cs) closed in
       let others = each_back IsClosed (owed_for u p c) (owed_for_all u p cs) closed in (
         claim_holds c formed.0 (all_of_images IsClosed HasNoIntegerPoint
-        (owed c.claim.text c.place) (λ s h. h)
-        (systems (context_of u p c.place) (claim_formula u p c)) first),
+            (owed c.claim.text c.place) (λ s h. h)
+            (systems (context_of u p c.place) (claim_formula u p c)) first),
         claims_hold cs formed.1 others,
       )
 
--- ---- calls of procedures below a number are below a greater one
+-- ---- what is called stands before, as in check_claims_laws/proofs/Standing
 
-step_up : (j k n : ℕ) → nat_lt j k ≡ true → k ≤ n → nat_lt j n ≡ true
-step_up j k n h e = grind arith
+no_test : {A : Type 0} → false ≡ true → A
+no_test h = absurd (true≢false (sym h))
 
-module _ (k n : ℕ) (up : k ≤ n) where
+module _ (n k : ℕ) where
+  either : (a b c d : Bool) → (a || b) ≡ true → (c && d) ≡ true
+      → (a ≡ true → c ≡ true → nat_lt k n ≡ true) → (b ≡ true → d ≡ true → nat_lt k n ≡ true)
+      → nat_lt k n ≡ true
+  either true b c d h j f g = f refl (and_parts c d j).0
+  either false b c d h j f g = g h (and_parts c d j).1
+
   mutual
-    pub below_more : (b : Block) → calls_below k b ≡ true → calls_below n b ≡ true
-    below_more end h = refl
-    below_more (next a b) h =
-        let p = and_parts (step_calls_below k a) (calls_below k b) h in
-        ap₂ ◌&&◌ (step_below_more a p.0) (below_more b p.1)
+    called_below : (b : Block) → calls b k ≡ true → calls_below n b ≡ true → nat_lt k n ≡ true
+    called_below end h j = no_test h
+    called_below (next a b) h j =
+        either (step_calls a k) (calls b k) (step_calls_below n a) (calls_below n b) h j
+        (step_called_below a) (called_below b)
 
-    step_below_more : (a : Statement) → step_calls_below k a ≡ true → step_calls_below n a ≡ true
-    step_below_more (Assign x is e) h = refl
-    step_below_more (Reduce x is e) h = refl
-    step_below_more (Config f a) h = refl
-    step_below_more Pass h = refl
-    step_below_more (If c a b) h =
-        let p = and_parts (calls_below k a) (calls_below k b) h in
-        ap₂ ◌&&◌ (below_more a p.0) (below_more b p.1)
-    step_below_more (For i lo hi b) h = below_more b h
-    step_below_more (Alloc x cell dims memory) h = refl
-    step_below_more (View w x coords) h = refl
-    step_below_more (Call j args) h = step_up j k n h up
+    step_called_below : (a : Statement) → step_calls a k ≡ true → step_calls_below n a ≡ true
+        → nat_lt k n ≡ true
+    step_called_below (Assign x is e) h j = no_test h
+    step_called_below (Reduce x is e) h j = no_test h
+    step_called_below (Config f a) h j = no_test h
+    step_called_below Pass h j = no_test h
+    step_called_below (If c a b) h j =
+        either (calls a k) (calls b k) (calls_below n a) (calls_below n b) h j (called_below a)
+        (called_below b)
+    step_called_below (For i lo hi b) h j = called_below b h j
+    step_called_below (Alloc x cell dims memory) h j = no_test h
+    step_called_below (View w x coords) h j = no_test h
+    step_called_below (Call i args) h j =
+        subst (λ m. nat_lt m n ≡ true) (sym (eqb-true k i h)) j
 
 -- ---- lists with one element more
+
+pub one_longer : {A : Type 0} (xs : List A) (y : A) → length (xs ++ y ∷ []) ≡ suc (length xs)
+one_longer [] y = refl
+one_longer (x ∷ xs) y = ap suc (one_longer xs y)
 
 pub get_last : {A : Type 0} (xs : List A) (y : A) → slice_get (xs ++ y ∷ []) (length xs) ≡ Some y
 get_last [] y = refl
@@ -127,7 +141,10 @@ which [] y x zero h = last refl (same h)
     same : Some y ≡ Some x → x ≡ y
     same h = cc
 which [] y x (suc k) h = absurd (none_some h)
-which (z ∷ xs) y x zero h = old refl h
+which (z ∷ xs) y x zero h = old (first (length xs)) h
+  where
+    first : (n : ℕ) → nat_lt 0 (suc n) ≡ true
+    first n = grind arith
 which (z ∷ xs) y x (suc k) h = one_more z xs y x k (which xs y x k h)
 
 -- ---- the longer unit
@@ -140,23 +157,54 @@ pub record Laws : Type 0 where
   pub suffice : ClaimsSufficeHere
   pub shown : ShownConditionsHold
 
--- each procedure of a unit calls those before it alone
-pub calls_only : Laws → (u : Program) → IsUnit u → (k : ℕ) (p : Procedure)
-    → slice_get u.procedures k ≡ Some p → calls_below k p.body ≡ true
-calls_only laws u is k p e =
-    calls_before u.fields (length u.memories) u.procedures is.procedures laws.below laws.grown k p
-    (standing u.fields (length u.memories) u.procedures is.procedures k p e)
+-- a table has an entry for each procedure
+table_length : (kinds : ℕ → Kind) (above : List Callee) (ps : List Procedure)
+    → length (callees kinds above ps) ≡ length above + length ps
+table_length kinds above [] = none (length above)
+  where
+    none : (n : ℕ) → n ≡ n + 0
+    none n = omega arith
+table_length kinds above (p ∷ ps) =
+    let c = callee_in (world_of kinds above) p in
+    table_length kinds (above ++ c ∷ []) ps
+    ∙ one_more_above (length (above ++ c ∷ [])) (length above) (length ps) (one_longer above c)
+  where
+    one_more_above : (a b c : ℕ) → a ≡ suc b → a + c ≡ b + suc c
+    one_more_above a b c e = omega (arith, e)
 
-up_to : (k n : ℕ) → nat_lt k n ≡ true → k ≤ n
-up_to k n h = grind arith
+-- the last procedure is formed behind those before it
+last_formed : (fields : List ConfigField) (memories : ℕ) (above : List Callee) (ps : List Procedure)
+    (q : Procedure) → AreProcedures fields memories above (ps ++ q ∷ [])
+    → IsProcedure (field_kind fields) memories
+    (slice_get (callees (kinds_of fields) above ps)) q
+last_formed fields memories above [] q h = h.0
+last_formed fields memories above (p ∷ ps) q h =
+    last_formed fields memories (above ++ callee_in (world_of (kinds_of fields) above) p ∷ []) ps q
+    h.1
 
--- so it calls those of the unit alone
-pub calls_unit : Laws → (u : Program) → IsUnit u → (k : ℕ) (p : Procedure)
-    → nat_lt k (length u.procedures) ≡ true → slice_get u.procedures k ≡ Some p
+from_none : (n : ℕ) → 0 + n ≡ n
+from_none n = omega arith
+
+below_table : Laws → (u : Program) (p : Procedure)
+    → IsProcedure (field_kind u.fields) (length u.memories)
+    (slice_get (callees (kinds_of u.fields) [] u.procedures)) p
     → calls_below (length u.procedures) p.body ≡ true
-calls_unit laws u is k p h e =
-    below_more k (length u.procedures) (up_to k (length u.procedures) h) p.body
-    (calls_only laws u is k p e)
+below_table laws u p is =
+    let table = callees (kinds_of u.fields) [] u.procedures in
+    subst (λ n. calls_below n p.body ≡ true)
+    (table_length (kinds_of u.fields) [] u.procedures ∙ from_none (length u.procedures))
+    (laws.below (field_kind u.fields) (length u.memories) table p is)
+
+-- each procedure of a unit calls those of the unit alone
+pub calls_unit : Laws → (u : Program) → IsUnit u → (k : ℕ) (p : Procedure)
+    → slice_get u.procedures k ≡ Some p → calls_below (length u.procedures) p.body ≡ true
+calls_unit laws u is k p e = below_table laws u p (laws.may_run u k p is e).procedure
+
+-- and so does a version behind them
+pub calls_before : Laws → (u : Program) (q : Procedure) → IsUnit (with_version u q)
+    → calls_below (length u.procedures) q.body ≡ true
+calls_before laws u q is =
+    below_table laws u q (last_formed u.fields (length u.memories) [] u.procedures q is.procedures)
 
 pub same_input : (u : Program) (q p : Procedure) (s : State)
     → IsAdmissible (program_world (with_version u q)) p s → IsAdmissible (program_world u) p s
@@ -185,7 +233,7 @@ module _ (laws : Laws) (u : Program) (q : Procedure) (is : IsUnit u)
       → slice_get u.procedures k ≡ Some p → (s : State) → IsAdmissible (program_world more) p s
       → IsSome (run_procedure (program_world more) p s)
   old_quiet k p h e s good =
-      subst IsSome (sym (same_run p (calls_unit laws u is k p h e) s))
+      subst IsSome (sym (same_run p (calls_unit laws u is k p e) s))
       (quiet k p e s (same_input u q p s good))
 
   old_never : (k : ℕ) → nat_lt k (length u.procedures) ≡ true → NeverFaults more k
@@ -199,7 +247,7 @@ module _ (laws : Laws) (u : Program) (q : Procedure) (is : IsUnit u)
       → IsSome (run_procedure (program_world more) q s)
   new_quiet =
       let may = laws.may_run more (length u.procedures) q longer there in
-      let below = calls_only laws more longer (length u.procedures) q there in
+      let below = calls_before laws u q longer in
       laws.suffice more q may
       (claims_hold laws.shown more q may (claims_of more q) (laws.formed more q may)
       (each_of_all IsClosed (owed_for_all more q (claims_of more q)) closed))

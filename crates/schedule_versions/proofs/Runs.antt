@@ -1,13 +1,13 @@
 -- What the lines of a schedule leave: versions that are derived, with room for those that follow.
-use Rattle.std.proofs.Common.{◌≡◌, ◌≤◌, ◌<◌, ◌+◌, ◌*◌, ◌^◌, ℕ, zero, suc, max, Bool, true, false, ◌&&◌}
+use Rattle.std.proofs.Common.{◌≡◌, ◌≤◌, ◌<◌, ◌+◌, ◌*◌, ◌^◌, ℕ, zero, suc, max, Bool, true, false}
 use Rattle.std.proofs.Common.{List, [], ◌∷◌, ◌++◌, map, length, Option, Some, None, refl, sym, ap}
 use Rattle.std.proofs.Common.{◌∙◌, subst, arith}
 use Rattle.std.specs.Prelude.{slice_get, nat_lt, nat_le, if◌then◌else◌, option_and_then, Contains}
 use Rattle.std.specs.List.{list_all}
-use Rattle.exo_tree.specs.Tree.{Procedure, Program}
+use Rattle.exo_tree.specs.Tree.{Procedure}
 use Rattle.exo_tree.specs.Places.{Path}
 use Rattle.exo_meaning.specs.Orders.{Each}
-use Rattle.exo_meaning.specs.Units.{IsUnit, bound_ids}
+use Rattle.exo_meaning.specs.Units.{bound_ids}
 use Rattle.meaning_laws.proofs.Substitute.{and_parts}
 use Rattle.meaning_laws.proofs.Parts.{some_injective}
 use Rattle.config_laws.specs.Differing as config
@@ -16,7 +16,6 @@ use Rattle.config_laws.specs.FieldRule.{fields_at_end}
 use Rattle.bounds_check.specs.Obligations.{Fault, list_fault}
 use Rattle.unit_check.specs.Checked as unit_check
 use Rattle.unit_check.specs.Checked.{first_open}
-use Rattle.unit_check.specs.Faults.{NothingFaults}
 use Rattle.cursor_patterns.specs.Patterns.{Pattern}
 use Rattle.cursor_forward.specs.Cursors.{Cursor}
 use Rattle.cursor_forward.specs.Proposals.{Plan}
@@ -33,16 +32,16 @@ use Rattle.step_rules.proofs.Found.{both_kept}
 use Rattle.step_rules.proofs.Proposals.{proposal_of}
 use Rattle.schedule_calls.specs.Requests.{Move}
 use Rattle.schedule_versions.specs.Versions.{Origin, of_text, configured, Held, Versions}
-use Rattle.schedule_versions.specs.Versions.{version_at, held, version_of, bound, started, with_step}
-use Rattle.schedule_versions.specs.Places.{Missing, Sought, Got, Lost, Place, parent_at, then_seek}
+use Rattle.schedule_versions.specs.Versions.{version_at, held, version_of, with_step}
+use Rattle.schedule_versions.specs.Places.{Sought, Got, Lost, Place, then_seek}
 use Rattle.schedule_versions.specs.Places.{moved_at, matched}
-use Rattle.schedule_versions.specs.Lines.{Why, Progress, Went, Refused, owed_for, target, shown_step}
+use Rattle.schedule_versions.specs.Lines.{Why, BadArguments, Progress, Went, Refused, owed_for, target, shown_step}
 use Rattle.schedule_versions.specs.Lines.{checked_step, proposed_step, Ruled, Call, all_sought}
 use Rattle.schedule_versions.specs.Lines.{ruled_step, found_step, called_on, called, binding}
 use Rattle.schedule_versions.specs.Lines.{searched, held_place, is_instruction, emitting, Act, Faulty}
 use Rattle.schedule_versions.specs.Lines.{Apply, Search, Moved, Emit, performed, Outcome, Done}
-use Rattle.schedule_versions.specs.Lines.{run_from, behind, run_acts}
-use Rattle.schedule_versions.specs.Laws.{NamesFields, IsLawfulCall, IsLawfulAct, IsMade, AreDerived}
+use Rattle.schedule_versions.specs.Lines.{run_from, behind}
+use Rattle.schedule_versions.specs.Laws.{NamesFields, IsLawfulCall, IsLawfulAct, AreDerived}
 use Rattle.schedule_versions.specs.Laws.{HasRoom, StartedIsDerived, RunIsDerived}
 use Rattle.schedule_versions.proofs.Quiet.{Which, old, last, which}
 use Rattle.schedule_versions.proofs.Derived.{StepLaws, step_is_derived}
@@ -109,7 +108,7 @@ named v names emitted steps shown d = record {
 -- ---- one line
 
 -- what holds behind a line where so many follow
-record Goes (w : Versions) (n : ℕ) : Type 0 where
+pub record Goes (w : Versions) (n : ℕ) : Type 0 where
   pub derived : AreDerived w
   pub room : HasRoom w n
 
@@ -270,7 +269,7 @@ module _ (laws : StepLaws) (v : Versions) (n : ℕ) (d : AreDerived v) (room : H
   emitting_arrives None = refused _
   emitting_arrives (Some k) = by (is_instruction (version_at v k))
     where
-      by : (b : Bool) → Arrives (if b then Refused _
+      by : (b : Bool) → Arrives (if b then Refused BadArguments
           else Went (record v { emitted = v.emitted ++ k ∷ [] }))
       by true = refused _
       by false = went _ (named_goes v n v.names (v.emitted ++ k ∷ []) d room)
@@ -290,23 +289,23 @@ done_same : {v w : Versions} → Done v ≡ Done w → v ≡ w
 done_same h = cc
 
 module _ (laws : StepLaws) where
-  mutual
-    runs : (k : ℕ) (acts : List Act) (v w : Versions) → Each IsLawfulAct acts → AreDerived v
-        → HasRoom v (length acts) → run_from k acts v ≡ Done w → AreDerived w
-    runs k [] v w is d room h = subst AreDerived (done_same h) d
-    runs k (a ∷ acts) v w is d room h =
-        goes_on k acts (performed v a) w is.1 (act_arrives laws v (length acts) d room a is.0) h
+  goes_on : (k n : ℕ) (rest : Versions → Outcome) (progress : Progress) (w : Versions)
+      → ((u : Versions) → progress ≡ Went u → Goes u n)
+      → ((u : Versions) → Goes u n → rest u ≡ Done w → AreDerived w)
+      → behind k rest progress ≡ Done w → AreDerived w
+  goes_on k n rest (Went u) w arrives on h = on u (arrives u refl) h
+  goes_on k n rest (Refused why) w arrives on h = absurd (no h)
+    where
+      no : behind k rest (Refused why) ≡ Done w → ⊥
+      no h = cc
 
-    goes_on : (k : ℕ) (acts : List Act) (progress : Progress) (w : Versions) → Each IsLawfulAct acts
-        → ((u : Versions) → progress ≡ Went u → Goes u (length acts))
-        → behind k acts progress ≡ Done w → AreDerived w
-    goes_on k acts (Went u) w is arrives h =
-        let goes = arrives u refl in
-        runs (k + 1) acts u w is goes.derived goes.room h
-    goes_on k acts (Refused why) w is arrives h = absurd (no h)
-      where
-        no : behind k acts (Refused why) ≡ Done w → ⊥
-        no h = cc
+  runs : (k : ℕ) (acts : List Act) (v w : Versions) → Each IsLawfulAct acts → AreDerived v
+      → HasRoom v (length acts) → run_from k acts v ≡ Done w → AreDerived w
+  runs k [] v w is d room h = subst AreDerived (done_same h) d
+  runs k (a ∷ acts) v w is d room h =
+      goes_on k (length acts) (run_from (k + 1) acts) (performed v a) w
+      (act_arrives laws v (length acts) d room a is.0)
+      (λ u goes. runs (k + 1) acts u w is.1 goes.derived goes.room) h
 
 pub run_is_derived : StepLaws → RunIsDerived
 run_is_derived laws acts v w is d room h = runs laws 0 acts v w is d room h
@@ -354,9 +353,9 @@ no_fields all ps k = by (slice_get (map configured (map (λ (p : Procedure). of_
     by (Some o) e = by_version (slice_get all k)
       where
         by_version : (q : Option Procedure) → elim q as (λ q. List ℕ) [
-              | None ↦ []
-              | Some q ↦ fields_at_end all q.body o.place o.side o.fields
-            ] ≡ []
+          | None ↦ []
+          | Some q ↦ fields_at_end all q.body o.place o.side o.fields
+        ] ≡ []
         by_version None = refl
         by_version (Some q) =
             ap (fields_at_end all q.body o.place o.side) (text_origin ps k o e)

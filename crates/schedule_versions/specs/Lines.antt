@@ -3,7 +3,7 @@
 use Rattle.std.specs.Prelude.{ℕ, ◌+◌, ◌++◌, Bool, false, List, [], ◌∷◌, length, if◌then◌else◌}
 use Rattle.std.specs.Prelude.{Option, Some, None}
 use Rattle.std.specs.Option.{is_some}
-use Rattle.exo_tree.specs.Tree.{Procedure, Program}
+use Rattle.exo_tree.specs.Tree.{Procedure}
 use Rattle.exo_tree.specs.Places.{Path}
 use Rattle.affine_systems.specs.Outcomes.{Owed}
 use Rattle.affine_prover.specs.declared.answer.Verdict.{Verdict}
@@ -160,14 +160,14 @@ pub data Outcome : Type 0 where
   Done : Versions → Outcome
   Stopped : ℕ → Why → Outcome
 
-abbrev mutual
-  pub run_from : ℕ → List Act → Versions → Outcome
-  run_from k [] v = Done v
-  run_from k (a ∷ more) v = behind k more (performed v a)
+-- the rest goes on from the versions behind a line, or the line is refused
+abbrev pub behind : ℕ → (Versions → Outcome) → Progress → Outcome
+behind k rest (Went v) = rest v
+behind k rest (Refused why) = Stopped k why
 
-  pub behind : ℕ → List Act → Progress → Outcome
-  behind k more (Went v) = run_from (k + 1) more v
-  behind k more (Refused why) = Stopped k why
+abbrev pub run_from : ℕ → List Act → Versions → Outcome
+run_from k [] v = Done v
+run_from k (a ∷ more) v = behind k (run_from (k + 1) more) (performed v a)
 
 abbrev pub run_acts : List Act → Versions → Outcome
 run_acts = run_from 0

@@ -1,5 +1,5 @@
 -- Cursors of a schedule: where one is in its own version, and where its statements went from there.
-use Rattle.std.specs.Prelude.{ℕ, zero, suc, ◌==◌, Bool, if◌then◌else◌, List, [], ◌∷◌}
+use Rattle.std.specs.Prelude.{ℕ, zero, suc, ◌==◌, Bool, true, false, if◌then◌else◌, List, [], ◌∷◌}
 use Rattle.std.specs.Prelude.{Option, Some, None, slice_get, option_map, option_and_then}
 use Rattle.exo_tree.specs.Tree.{Block, Procedure}
 use Rattle.config_laws.specs.Differing.{from_parent}
@@ -9,7 +9,7 @@ use Rattle.schedule_calls.specs.Requests.{Item, Source, Under, Found, Here, Aske
 use Rattle.cursor_forward.specs.Cursors.{Cursor, parent_of, next_of, prev_of, body_of, item_of}
 use Rattle.cursor_forward.specs.Cursors.{expand_of, before_of, after_of, forward_of}
 use Rattle.cursor_forward.specs.Patterns.{find_of}
-use Rattle.schedule_versions.specs.Versions.{Origin, Held, At, Versions, version_at, held}
+use Rattle.schedule_versions.specs.Versions.{Origin, Held, Version, At, Versions, version_at, held}
 use Rattle.schedule_versions.specs.Versions.{version_of}
 
 -- ---- what is found
