@@ -1,0 +1,24 @@
+//! Laws of the C of units, each the contract of a function with nothing to do.
+
+ghost use Rattle.c_unit_laws.specs.Laws.{PrintedProceduresAreGood, BodiesAreGood};
+ghost use Rattle.c_unit_laws.specs.Instance.{ColumnsHaveC, VectorsHaveC};
+
+/// Each printed procedure of a unit that has a C meets what the laws on functions and blocks ask.
+pub fn printed_procedures_are_good()
+    ensures { PrintedProceduresAreGood }
+{}
+
+/// So does the body of each procedure that is printed or called, with cells alone and each call in place.
+pub fn bodies_are_good()
+    ensures { BodiesAreGood }
+{}
+
+/// A unit with a call that hands on a column has a C.
+pub fn columns_have_c()
+    ensures { ColumnsHaveC }
+{}
+
+/// A unit with instructions and vectors has a C.
+pub fn vectors_have_c()
+    ensures { VectorsHaveC }
+{}
