@@ -119,11 +119,11 @@ module _ (g : Ground) (all : List Binder) (names : AreNamed g all) where
   -- what holds of the C name of each binder in scope
   pub of_all : (P : Name → Type 0) → ((b : Binder) → IsIn b all → P (g.naming.binder b.id)) → (scope : Scope) → ScopeIn scope all → (x : ℕ) → (sort_in scope x ≡ None) ⊎ P (g.naming.binder x)
   of_all P each [] h x = inl refl
-  of_all P each (n ∷ scope) h x = go (x == n.binder.id) refl
+  of_all P each (n ∷ scope) h x = go (of_all P each scope h.1 x) (x == n.binder.id) refl
     where
-      go : (t : Bool) → (x == n.binder.id) ≡ t → (cond t (Some n.sort) (sort_in scope x) ≡ None) ⊎ P (g.naming.binder x)
-      go true d = inr (subst (λ y. P (g.naming.binder y)) (sym (eqb-true x n.binder.id d)) (each n.binder h.0))
-      go false d = of_all P each scope h.1 x
+      go : (sort_in scope x ≡ None) ⊎ P (g.naming.binder x) → (t : Bool) → (x == n.binder.id) ≡ t → (cond t (Some n.sort) (sort_in scope x) ≡ None) ⊎ P (g.naming.binder x)
+      go rest true d = inr (subst (λ y. P (g.naming.binder y)) (sym (eqb-true x n.binder.id d)) (each n.binder h.0))
+      go rest false d = rest
 
   pub named_apart : (lanes : ℕ → ℕ) (scope : Scope) (forms : Forms) → Fits lanes scope forms → ScopeIn scope all → AreApart scope → AreNamedApart g forms
   named_apart lanes scope forms stand h apart = record {

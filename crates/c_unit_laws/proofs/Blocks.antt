@@ -18,7 +18,7 @@ use Rattle.c_lowered.specs.Lowered.{Naming, Form, NumberForm, TensorForm, Window
 use Rattle.c_lowered.specs.LoweredUnit.{in_condition, in_argument, in_arguments, in_statement, in_block}
 use Rattle.c_follows.specs.Simulation.{Ground}
 use Rattle.c_follows.specs.Good.{IsBuffer, AreGood, IsGoodDatum, IsGoodSetting, IsGoodBlock, IsGoodStatement, IsGoodCall, AreGoodArguments, is_function}
-use Rattle.c_unit_laws.proofs.Forms.{lanes_in, Stands, Fits, IsForm, wider, wider_number, buffer_form}
+use Rattle.c_unit_laws.proofs.Forms.{lanes_in, Stands, Fits, IsForm, wider, wider_number, form_by}
 use Rattle.c_unit_laws.proofs.Expressions.{ReadsCells, good, all_good, of_cells, access, good_datum, good_coords, good_open, good_test}
 use Rattle.c_unit_laws.proofs.Clear.{SuitsMemory, IsClear, IsClearStatement, AreClearArguments}
 use Rattle.c_unit_laws.proofs.Arguments.{AreWithin, good_arguments}
@@ -69,8 +69,7 @@ view_stands : (naming : Naming) (x : ℕ) (l : ℕ) (o : Option Sort) (f : Form)
 view_stands naming x l None f cs h k e = absurd (true≢false (sym k))
 view_stands naming x l (Some (ControlName kind)) f cs h k e = absurd (true≢false (sym k))
 view_stands naming x l (Some (BufferName cell rank dense)) f cs h k e =
-    let b = buffer_form l (Some (BufferName cell rank dense)) f (length cs) h k in
-    let s = by_form naming x f b.0 (length cs) l b.1 in
+    let s = by_form naming x f cell (length cs) l (subst (λ r. IsForm f cell r l) (sym (eqb-true (length cs) rank k)) (form_by l cell rank dense f h)) in
     (ap₂ WindowForm s.0 (span_count cs (strides_in naming x f) s.1), e)
 
 module _ (g : Ground) (all : List Binder) (names : AreNamed g all) (fields : ℕ → Option Kind) (memories : ℕ) (kinds : List MemoryKind) (callees : ℕ → Option Callee) (given : Raises) where

@@ -5,6 +5,7 @@ use Rattle.std.specs.List.{list_all}
 use Rattle.exo_tree.specs.Tree.{Argument, Statement, Assign, Reduce, Config, Pass, If, For, Alloc, View, Call, Block, end, next, Procedure, MemoryKind}
 use Rattle.exo_tree.specs.Calls.{calls, is_call_of}
 use Rattle.exo_meaning.specs.Units.{is_memory}
+use Rattle.memory_kinds.specs.declared.error.KindError.{KindError}
 use Rattle.memory_kinds.specs.Homes.{Homes, homes_after}
 use Rattle.memory_kinds.specs.Faults.{in_memory, write_fault, reduce_fault, reads_fault, arguments_fault, call_fault, block_fault, step_fault}
 use Rattle.c_lowered.specs.Lowered.{Naming, Routine}
@@ -32,7 +33,7 @@ module _ (procedures : List Procedure) (memories : List MemoryKind) (known : lis
   clear_call : (home : Homes) (k : ℕ) (args : List Argument) → called k ≡ true → call_fault procedures memories home k args ≡ None → ArgumentsOf home (naming.routine k) args
   clear_call home k args u h = subst (λ r. ArgumentsOf home r args) (sym (by_routine k)) (go (slice_get procedures k) refl h)
     where
-      go : (o : Option Procedure) → slice_get procedures k ≡ o → elim o [ None ↦ None | Some p ↦ arguments_fault memories home p.params args ] ≡ None → ArgumentsOf home (routine_of o) args
+      go : (o : Option Procedure) → slice_get procedures k ≡ o → ◌≡◌ {A = Option KindError} (elim o [ None ↦ None | Some p ↦ arguments_fault memories home p.params args ]) None → ArgumentsOf home (routine_of o) args
       go None e i = tt
       go (Some p) e i = clear_arguments memories known naming by_memory home (is_function (option_map holes_of p.template)) p.params (λ f. functions k p u e (no_template p.template f)) args i
 

@@ -63,7 +63,7 @@ IsForm f cell rank lanes =
     ((f ≡ WindowForm cell rank) × (lanes ≡ 0))
     ⊎ ((dims : List Control) × (f ≡ TensorForm cell dims lanes) × (length dims ≡ rank))
 
-form_by : (l : ℕ) (cell : Cell) (rank : ℕ) (dense : Bool) (f : Form) → Stands l (Some (BufferName cell rank dense)) f → IsForm f cell rank l
+pub form_by : (l : ℕ) (cell : Cell) (rank : ℕ) (dense : Bool) (f : Form) → Stands l (Some (BufferName cell rank dense)) f → IsForm f cell rank l
 form_by l cell rank true f h = inr (h.0, h.1, h.2)
 form_by l cell rank false f h = inl h
 
@@ -115,7 +115,7 @@ no_span zero cs h e = refl
 no_span (suc l) [] h e = absurd h
 no_span (suc l) (c ∷ []) h e = absurd (one (sym (ap (λ d. spans (d ∷ [])) h) ∙ e))
   where
-    one : 1 ≡ 0 → ⊥
+    one : suc zero ≡ zero → ⊥
     one k = omega (arith, k)
 no_span (suc l) (At a ∷ (d ∷ cs)) h e = no_span (suc l) (d ∷ cs) h e
 no_span (suc l) (Span a b ∷ (d ∷ cs)) h e = absurd (omega (arith, e))

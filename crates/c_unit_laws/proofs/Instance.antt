@@ -32,16 +32,16 @@ columns_listing = record { there = there; ascends = ascends; closed = closed }
     there : (i : ℕ) (w : Printing) → slice_get both_printed i ≡ Some w → IsThere column_program w
     there zero w e = subst (IsThere column_program) (some_same e) (fill, refl, refl)
     there (suc zero) w e = subst (IsThere column_program) (some_same e) (col filling, refl, refl)
-    there (suc (suc i)) w e = absurd (no_entry i e)
+    there (suc (suc i)) w e = absurd (no_entry [] i e refl)
 
     ascends : (i j : ℕ) (w v : Printing) → slice_get both_printed i ≡ Some w → slice_get both_printed j ≡ Some v → i < j → w.proc < v.proc
     ascends zero zero w v e f h = absurd (omega (arith, h))
     ascends zero (suc zero) w v e f h = let a = ap (λ z. z.proc) (some_same e) in let b = ap (λ z. z.proc) (some_same f) in omega (arith, a, b)
-    ascends zero (suc (suc j)) w v e f h = absurd (no_entry j f)
+    ascends zero (suc (suc j)) w v e f h = absurd (no_entry [] j f refl)
     ascends (suc zero) zero w v e f h = absurd (omega (arith, h))
     ascends (suc zero) (suc zero) w v e f h = absurd (omega (arith, h))
-    ascends (suc zero) (suc (suc j)) w v e f h = absurd (no_entry j f)
-    ascends (suc (suc i)) j w v e f h = absurd (no_entry i e)
+    ascends (suc zero) (suc (suc j)) w v e f h = absurd (no_entry [] j f refl)
+    ascends (suc (suc i)) j w v e f h = absurd (no_entry [] i e refl)
 
     closed : (i j : ℕ) (w : Printing) (p q : Procedure) → slice_get both_printed i ≡ Some w → slice_get column_program.procedures w.proc ≡ Some p → slice_get column_program.procedures j ≡ Some q → calls j p.body ≡ true → q.template ≡ None → is_listed both_printed j ≡ true
     closed zero j w p q e f h c t = absurd (true≢false (sym (ap (λ z. calls j z.body) (same_procedure column_program _ w fill p e refl f) ∙ c)))
@@ -49,19 +49,19 @@ columns_listing = record { there = there; ascends = ascends; closed = closed }
         either (j == 0) false (ap (λ z. calls j z.body) (same_procedure column_program _ w (col filling) p e refl f) ∙ c)
         (λ d. subst (λ n. is_listed both_printed n ≡ true) (sym (eqb-true j 0 d)) refl)
         (λ d. absurd (true≢false (sym d)))
-    closed (suc (suc i)) j w p q e f h c t = absurd (no_entry i e)
+    closed (suc (suc i)) j w p q e f h c t = absurd (no_entry [] i e refl)
+
+columns_named : first_clash (global_names column_program both_printed) ≡ None
+unfolding is_word
+columns_named = refl
 
 columns_lowered : AreLowered fault_of column_program both_printed
-columns_lowered = record { listing = columns_listing; memories = memories; narrow = refl; named = named; few = omega arith }
+columns_lowered = record { listing = columns_listing; memories = memories; narrow = refl; named = columns_named; few = omega arith }
   where
     memories : (k : ℕ) → is_listed both_printed k ≡ true → fault_of column_program k ≡ None
     memories k h =
         either (k == 0) ((k == 1) || false) h (λ e. ap (fault_of column_program) (eqb-true k 0 e))
         (λ r. either (k == 1) false r (λ e. ap (fault_of column_program) (eqb-true k 1 e)) (λ e. absurd (true≢false (sym e))))
-
-    named : first_clash (global_names column_program both_printed) ≡ None
-    unfolding is_word
-    named = refl
 
 columns_unit : IsUnit column_program
 columns_unit = record {
@@ -85,12 +85,12 @@ vectors_listing = record { there = there; ascends = ascends; closed = closed }
   where
     there : (i : ℕ) (w : Printing) → slice_get copy_printed i ≡ Some w → IsThere vector_program w
     there zero w e = subst (IsThere vector_program) (some_same e) (copy8, refl, refl)
-    there (suc i) w e = absurd (no_entry i e)
+    there (suc i) w e = absurd (no_entry [] i e refl)
 
     ascends : (i j : ℕ) (w v : Printing) → slice_get copy_printed i ≡ Some w → slice_get copy_printed j ≡ Some v → i < j → w.proc < v.proc
     ascends zero zero w v e f h = absurd (omega (arith, h))
-    ascends zero (suc j) w v e f h = absurd (no_entry j f)
-    ascends (suc i) j w v e f h = absurd (no_entry i e)
+    ascends zero (suc j) w v e f h = absurd (no_entry [] j f refl)
+    ascends (suc i) j w v e f h = absurd (no_entry [] i e refl)
 
     closed : (i j : ℕ) (w : Printing) (p q : Procedure) → slice_get copy_printed i ≡ Some w → slice_get vector_program.procedures w.proc ≡ Some p → slice_get vector_program.procedures j ≡ Some q → calls j p.body ≡ true → q.template ≡ None → is_listed copy_printed j ≡ true
     closed zero j w p q e f h c t =
@@ -103,17 +103,17 @@ vectors_listing = record { there = there; ascends = ascends; closed = closed }
 
         one : (r : Procedure) {text : List ℕ} → r.template ≡ Some text → Some r ≡ Some q → ⊥
         one r d s = none_there (sym d ∙ (ap (λ z. z.template) (some_same s) ∙ t))
-    closed (suc i) j w p q e f h c t = absurd (no_entry i e)
+    closed (suc i) j w p q e f h c t = absurd (no_entry [] i e refl)
+
+vectors_named : first_clash (global_names vector_program copy_printed) ≡ None
+unfolding is_word
+vectors_named = refl
 
 vectors_lowered : AreLowered fault_of vector_program copy_printed
-vectors_lowered = record { listing = vectors_listing; memories = memories; narrow = refl; named = named; few = omega arith }
+vectors_lowered = record { listing = vectors_listing; memories = memories; narrow = refl; named = vectors_named; few = omega arith }
   where
     memories : (k : ℕ) → is_listed copy_printed k ≡ true → fault_of vector_program k ≡ None
     memories k h = either (k == 2) false h (λ e. ap (fault_of vector_program) (eqb-true k 2 e)) (λ e. absurd (true≢false (sym e)))
-
-    named : first_clash (global_names vector_program copy_printed) ≡ None
-    unfolding is_word
-    named = refl
 
 vectors_unit : IsUnit vector_program
 vectors_unit = record {

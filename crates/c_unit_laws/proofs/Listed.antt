@@ -16,9 +16,13 @@ use Rattle.c_unit_laws.proofs.Binders.{not_true}
 use Rattle.c_unit_laws.proofs.Names.{all_ids}
 use Rattle.c_unit_laws.proofs.Standing.{none_some, some_same}
 
-no_entry : {A : Type 0} {a : A} (k : ℕ) → slice_get {A = A} [] k ≡ Some a → ⊥
-no_entry zero e = none_some e
-no_entry (suc k) e = none_some e
+-- an empty list has no entry
+pub no_entry : {A : Type 0} {a : A} (xs : List A) (k : ℕ) → slice_get xs k ≡ Some a → xs ≡ [] → ⊥
+no_entry {A = A} {a = a} xs k e h = go k (sym (ap (λ ys. slice_get ys k) h) ∙ e)
+  where
+    go : (j : ℕ) → slice_get {X = A} [] j ≡ Some a → ⊥
+    go zero d = none_some d
+    go (suc j) d = none_some d
 
 either : (a b : Bool) → b ≡ true → (a || b) ≡ true
 either true b i = refl
@@ -35,11 +39,11 @@ pub record Place (what : List Printing) (k : ℕ) : Type 0 where
 -- a listed procedure has a place
 pub listed_at : (what : List Printing) (k : ℕ) → is_listed what k ≡ true → Place what k
 listed_at [] k h = absurd (true≢false (sym h))
-listed_at (w ∷ what) k h = go (k == w.proc) refl h
+listed_at (w ∷ what) k h = go (listed_at what k) (k == w.proc) refl h
   where
-    go : (t : Bool) → (k == w.proc) ≡ t → (t || is_listed what k) ≡ true → Place (w ∷ what) k
-    go true e i = record { at = 0; printing = w; there = refl; is = sym (eqb-true k w.proc e) }
-    go false e i = let p = listed_at what k i in record { at = suc p.at; printing = p.printing; there = p.there; is = p.is }
+    go : (is_listed what k ≡ true → Place what k) → (t : Bool) → (k == w.proc) ≡ t → (t || is_listed what k) ≡ true → Place (w ∷ what) k
+    go rest true e i = record { at = 0; printing = w; there = refl; is = sym (eqb-true k w.proc e) }
+    go rest false e i = let p = rest i in record { at = suc p.at; printing = p.printing; there = p.there; is = p.is }
 
 -- ---- widths
 
@@ -50,7 +54,7 @@ own_none None false own h = (refl, refl)
 
 module _ (program : Program) (printed counted : ℕ → Bool) where
   none_wide : (ps : List Procedure) (k i : ℕ) (p : Procedure) → widest_from program printed counted k ps ≡ None → slice_get ps i ≡ Some p → is_wide_at program printed counted (k + i) p ≡ false
-  none_wide [] k i p h e = absurd (no_entry i e)
+  none_wide [] k i p h e = absurd (no_entry [] i e refl)
   none_wide (q ∷ ps) k zero p h e =
       let r = own_none (widest_from program printed counted (suc k) ps) (is_wide_at program printed counted k q) k h in
       let here : k + zero ≡ k = omega arith in
@@ -72,7 +76,7 @@ module _ (program : Program) (printed counted : ℕ → Bool) where
 -- ---- fields
 
 pub used_at : (counted : ℕ → Bool) (f : ℕ) (ps : List Procedure) (k i : ℕ) (p : Procedure) → slice_get ps i ≡ Some p → counted (k + i) ≡ true → in_procedure f p ≡ true → is_used_from counted f k ps ≡ true
-used_at counted f [] k i p e c u = absurd (no_entry i e)
+used_at counted f [] k i p e c u = absurd (no_entry [] i e refl)
 used_at counted f (q ∷ ps) k zero p e c u =
     let here : k + zero ≡ k = omega arith in
     both (counted k) (in_procedure f q) (ap counted (sym here) ∙ c) (ap (in_procedure f) (some_same e) ∙ u)

@@ -19,6 +19,9 @@ use Rattle.c_unit_laws.proofs.Clear.{IsClearBuffer, IsClearArgument, AreClearArg
 some_none : {A : Type 0} {a : A} → Some a ≡ None → ⊥
 some_none e = cc
 
+none_some : {A : Type 0} {a : A} → None ≡ Some a → ⊥
+none_some e = cc
+
 -- ---- no fault
 
 pub both_none : (a b : Option KindError) → or_first a b ≡ None → (a ≡ None) × (b ≡ None)
@@ -143,11 +146,8 @@ second_of false c = refl
 
 module _ (memories : List MemoryKind) (known : list_all is_memory memories ≡ true) (naming : Naming) (by_memory : (k : ℕ) → naming.memory k ≡ memory_of (slice_get memories k)) where
   rule_of : (ms : List MemoryKind) → list_all is_memory ms ≡ true → (k : ℕ) (m : MemoryKind) → slice_get ms k ≡ Some m → is_memory m ≡ true
-  rule_of [] h k m e = absurd (none k e)
-    where
-      none : (j : ℕ) → slice_get {A = MemoryKind} [] j ≡ Some m → ⊥
-      none zero d = cc
-      none (suc j) d = cc
+  rule_of [] h zero m e = absurd (none_some e)
+  rule_of [] h (suc k) m e = absurd (none_some e)
   rule_of (n ∷ ms) h zero m e = subst (λ x. is_memory x ≡ true) (some_same e) (and_parts (is_memory n) (list_all is_memory ms) h).0
     where
       some_same : Some n ≡ Some m → n ≡ m
@@ -158,20 +158,20 @@ module _ (memories : List MemoryKind) (known : list_all is_memory memories ≡ t
   by_rule : (P : Memory → Type 0) (k : ℕ) (rule : MemoryKind → Option KindError) → in_memory memories k rule ≡ None → P (memory_of None) → ((m : MemoryKind) → is_memory m ≡ true → rule m ≡ None → P (memory_of (Some m))) → P (naming.memory k)
   by_rule P k rule h base each = subst P (sym (by_memory k)) (go (slice_get memories k) refl h)
     where
-      go : (o : Option MemoryKind) → slice_get memories k ≡ o → elim o [ None ↦ None | Some m ↦ rule m ] ≡ None → P (memory_of o)
+      go : (o : Option MemoryKind) → slice_get memories k ≡ o → ◌≡◌ {A = Option KindError} (elim o [ None ↦ None | Some m ↦ rule m ]) None → P (memory_of o)
       go None e i = base
       go (Some m) e i = each m (rule_of memories known k m e) i
 
-  reads_cells : (k : ℕ) → in_memory memories k read_fault ≡ None → (naming.memory k).lanes ≡ 0
+  pub reads_cells : (k : ℕ) → in_memory memories k read_fault ≡ None → (naming.memory k).lanes ≡ 0
   reads_cells k h = by_rule (λ m. m.lanes ≡ 0) k read_fault h refl (λ m r f. touched m r (ap (λ t. t || (m.write || m.reduce)) (is_true m.read (not_where (not m.read) _ f))))
 
-  writes_cells : (k : ℕ) → in_memory memories k write_fault ≡ None → (naming.memory k).lanes ≡ 0
+  pub writes_cells : (k : ℕ) → in_memory memories k write_fault ≡ None → (naming.memory k).lanes ≡ 0
   writes_cells k h = by_rule (λ m. m.lanes ≡ 0) k write_fault h refl (λ m r f. touched m r (ap (λ t. m.read || (t || m.reduce)) (is_true m.write (not_where (not m.write) _ f)) ∙ second_of m.read m.reduce))
 
-  reduces_cells : (k : ℕ) → in_memory memories k reduce_fault ≡ None → (naming.memory k).lanes ≡ 0
+  pub reduces_cells : (k : ℕ) → in_memory memories k reduce_fault ≡ None → (naming.memory k).lanes ≡ 0
   reduces_cells k h = by_rule (λ m. m.lanes ≡ 0) k reduce_fault h refl (λ m r f. touched m r (ap (λ t. m.read || (m.write || t)) (is_true m.reduce (not_where (not m.reduce) _ f)) ∙ third_of m.read m.write))
 
-  views_cells : (k : ℕ) → in_memory memories k view_fault ≡ None → (naming.memory k).lanes ≡ 0
+  pub views_cells : (k : ℕ) → in_memory memories k view_fault ≡ None → (naming.memory k).lanes ≡ 0
   views_cells k h = by_rule (λ m. m.lanes ≡ 0) k view_fault h refl (λ m r f. no_lanes m (not_where (has_lanes m) _ f))
 
   takes_cells : (k : ℕ) → in_memory memories k param_fault ≡ None → (naming.memory k).lanes ≡ 0
@@ -180,7 +180,7 @@ module _ (memories : List MemoryKind) (known : list_all is_memory memories ≡ t
   spans_lanes : (k : ℕ) (cs : List Coord) → in_memory memories k (window_fault cs) ≡ None → EndsInSpan (naming.memory k).lanes cs
   spans_lanes k cs h = by_rule (λ m. EndsInSpan m.lanes cs) k (window_fault cs) h tt (λ m r f. ends_in_span m.lanes cs (where_lanes m (last_is_full m.lanes cs) (not_where (has_lanes m && not (last_is_full m.lanes cs)) _ f)))
 
-  suits : (k : ℕ) (cell : Cell) (ds : List Control) → in_memory memories k (alloc_fault cell ds) ≡ None → SuitsMemory (naming.memory k) ds
+  pub suits : (k : ℕ) (cell : Cell) (ds : List Control) → in_memory memories k (alloc_fault cell ds) ≡ None → SuitsMemory (naming.memory k) ds
   suits k cell ds h = by_rule (λ m. SuitsMemory m ds) k (alloc_fault cell ds) h (tt, λ e. absurd (true≢false (sym e))) one
     where
       one : (m : MemoryKind) → is_memory m ≡ true → alloc_fault cell ds m ≡ None → SuitsMemory (memory_of (Some m)) ds
@@ -193,7 +193,7 @@ module _ (memories : List MemoryKind) (known : list_all is_memory memories ≡ t
   -- ---- statements
 
   module _ (home : Homes) where
-    clear_reads : (e : Datum) → reads_fault memories home e ≡ None → ReadsCells (lanes_in naming home) e
+    pub clear_reads : (e : Datum) → reads_fault memories home e ≡ None → ReadsCells (lanes_in naming home) e
     clear_reads (Const n) h = tt
     clear_reads (Read x is) h = reads_cells (home x) h
     clear_reads (Negated a) h = clear_reads a h
@@ -224,7 +224,7 @@ module _ (memories : List MemoryKind) (known : list_all is_memory memories ≡ t
         go (TensorParam cell dims memory) w i = clear_given function memory w a i
         go (WindowParam cell dims memory) w i = clear_given function memory w a i
 
-    clear_arguments : (function : Bool) (ps : List Param) → (function ≡ true → AreClearParams naming ps) → (args : List Argument) → arguments_fault memories home ps args ≡ None → AreClearArguments (lanes_in naming home) function ps args
+    pub clear_arguments : (function : Bool) (ps : List Param) → (function ≡ true → AreClearParams naming ps) → (args : List Argument) → arguments_fault memories home ps args ≡ None → AreClearArguments (lanes_in naming home) function ps args
     clear_arguments function [] v args h = tt
     clear_arguments function (p ∷ ps) v [] h = tt
     clear_arguments function (p ∷ ps) v (a ∷ args) h =

@@ -24,7 +24,7 @@ module _ (fields : ℕ → Option Kind) where
     shared_later : (p : Param) (r c : ℕ) (qs : List Param) (args : List Argument) → shared.root_of root qs args c ≡ Some r → (writes p.binder.id || writes c) ≡ true → is_shared fields writes root p (Some r) qs args ≡ true
     shared_later p r c [] args e w = absurd (none_some e)
     shared_later p r c (q ∷ qs) [] e w = absurd (none_some e)
-    shared_later p r c (q ∷ qs) (a ∷ args) e w = go (c == q.binder.id) refl e
+    shared_later p r c (q ∷ qs) (a ∷ args) e w = go (λ j. shared_later p r c qs args j w) (c == q.binder.id) refl e
       where
         here : (b d : Bool) → b ≡ true → d ≡ true → ((b && d) || is_shared fields writes root p (Some r) qs args) ≡ true
         here true true f g = refl
@@ -35,11 +35,11 @@ module _ (fields : ℕ → Option Kind) where
         late true i = refl
         late false i = i
 
-        go : (t : Bool) → (c == q.binder.id) ≡ t → cond t (argument_root root a) (shared.root_of root qs args c) ≡ Some r → is_shared fields writes root p (Some r) (q ∷ qs) (a ∷ args) ≡ true
-        go true i j = here (same_root fields (Some r) (root_of fields root a)) (writes p.binder.id || writes q.binder.id)
+        go : (shared.root_of root qs args c ≡ Some r → is_shared fields writes root p (Some r) qs args ≡ true) → (t : Bool) → (c == q.binder.id) ≡ t → cond t (argument_root root a) (shared.root_of root qs args c) ≡ Some r → is_shared fields writes root p (Some r) (q ∷ qs) (a ∷ args) ≡ true
+        go rest true i j = here (same_root fields (Some r) (root_of fields root a)) (writes p.binder.id || writes q.binder.id)
             (ap (same_root fields (Some r)) (sym (same_roots root a) ∙ j) ∙ eq-eqb r r refl)
             (ap (λ z. writes p.binder.id || writes z) (sym (eqb-true c q.binder.id i)) ∙ w)
-        go false i j = late _ (shared_later p r c qs args j w)
+        go rest false i j = late _ (rest j)
 
     either : (a b : Bool) → b ≡ true → (a || b) ≡ true
     either true b i = refl
@@ -48,7 +48,7 @@ module _ (fields : ℕ → Option Kind) where
     pub share_nothing : (ps : List Param) (args : List Argument) → share_nothing_written fields writes root ps args ≡ true → DoNotShare root writes ps args
     share_nothing [] args h b c r w n i j = none_some i
     share_nothing (p ∷ ps) [] h b c r w n i j = none_some i
-    share_nothing (p ∷ ps) (a ∷ args) h b c r w n i j = go (b == p.binder.id) (c == p.binder.id) refl refl i j
+    share_nothing (p ∷ ps) (a ∷ args) h b c r w n i j = go (λ v. share_nothing ps args v b c r w n) (b == p.binder.id) (c == p.binder.id) refl refl i j
       where
         parts : (not (is_shared fields writes root p (root_of fields root a) ps args) ≡ true) × (share_nothing_written fields writes root ps args ≡ true)
         parts = and_parts (not (is_shared fields writes root p (root_of fields root a) ps args)) (share_nothing_written fields writes root ps args) h
@@ -60,11 +60,11 @@ module _ (fields : ℕ → Option Kind) where
         first : (d : ℕ) → argument_root root a ≡ Some r → shared.root_of root ps args d ≡ Some r → (writes p.binder.id || writes d) ≡ true → ⊥
         first d e f v = no_both _ parts.0 (ap (λ o. is_shared fields writes root p o ps args) (sym (same_roots root a) ∙ e) ∙ shared_later p r d ps args f v)
 
-        go : (s t : Bool) → (b == p.binder.id) ≡ s → (c == p.binder.id) ≡ t → cond s (argument_root root a) (shared.root_of root ps args b) ≡ Some r → cond t (argument_root root a) (shared.root_of root ps args c) ≡ Some r → ⊥
-        go true true e f k l = true≢false (sym (eq-eqb b c (eqb-true b p.binder.id e ∙ sym (eqb-true c p.binder.id f))) ∙ n)
-        go true false e f k l = first c k l (ap (λ t. t || writes c) (ap writes (sym (eqb-true b p.binder.id e)) ∙ w))
-        go false true e f k l = first b l k (either (writes p.binder.id) (writes b) w)
-        go false false e f k l = share_nothing ps args parts.1 b c r w n k l
+        go : (share_nothing_written fields writes root ps args ≡ true → shared.root_of root ps args b ≡ Some r → shared.root_of root ps args c ≡ Some r → ⊥) → (s t : Bool) → (b == p.binder.id) ≡ s → (c == p.binder.id) ≡ t → cond s (argument_root root a) (shared.root_of root ps args b) ≡ Some r → cond t (argument_root root a) (shared.root_of root ps args c) ≡ Some r → ⊥
+        go rest true true e f k l = true≢false (sym (eq-eqb b c (eqb-true b p.binder.id e ∙ sym (eqb-true c p.binder.id f))) ∙ n)
+        go rest true false e f k l = first c k l (ap (λ t. t || writes c) (ap writes (sym (eqb-true b p.binder.id e)) ∙ w))
+        go rest false true e f k l = first b l k (either (writes p.binder.id) (writes b) w)
+        go rest false false e f k l = rest parts.1 k l
 
   -- ---- trees
 

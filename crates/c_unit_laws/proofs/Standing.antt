@@ -55,11 +55,8 @@ module _ (kinds : ℕ → Kind) where
       stays ps (above ++ own ∷ []) k c (get_early above c own k e)
 
   entry : (ps : List Procedure) (above : List Callee) (j : ℕ) (q : Procedure) → slice_get ps j ≡ Some q → slice_get (callees kinds above ps) (length above + j) ≡ Some (callee_in (world_of kinds (callees kinds above (take j ps))) q)
-  entry [] above j q e = absurd (none_there j e)
-    where
-      none_there : (i : ℕ) → slice_get {A = Procedure} [] i ≡ Some q → ⊥
-      none_there zero d = none_some d
-      none_there (suc i) d = none_some d
+  entry [] above zero q e = absurd (none_some e)
+  entry [] above (suc j) q e = absurd (none_some e)
   entry (p ∷ ps) above zero q e =
       let own = callee_in (world_of kinds above) p in
       let here : length above + zero ≡ length above = omega arith in

@@ -1,5 +1,5 @@
 -- Procedures of a unit that has a C meet what the laws on functions and blocks ask.
-use Rattle.std.proofs.Common.{◌≡◌, ◌<◌, ◌^◌, ◌==◌, ℕ, nat_lt, Bool, true, false, ◌&&◌, ◌||◌, List, [], ◌∷◌, length, take, Option, Some, None, refl, sym, ap, ◌∙◌, subst, arith, true≢false, slice_get}
+use Rattle.std.proofs.Common.{◌≡◌, ◌<◌, ◌+◌, ◌^◌, ◌==◌, ℕ, nat_lt, Bool, true, false, ◌&&◌, ◌||◌, List, [], ◌∷◌, length, take, Option, Some, None, refl, sym, ap, ◌∙◌, subst, arith, true≢false, slice_get}
 use Rattle.std.specs.List.{list_all}
 use Rattle.std.proofs.lemmas.Bool.{and_parts, and_from}
 use Rattle.exo_tree.specs.Tree.{Kind, Binder, Control, Param, Procedure, Program, MemoryKind}
@@ -191,7 +191,7 @@ module _ (program : Program) (what : List Printing) (covers : RaisesCover) (unit
       clear = clear_params program.memories known_memories naming (λ j. refl) p.params (no_fault k p l at).0;
     }
       where
-        abbrev naming : Naming
+        naming : Naming
         naming = naming_of program what p
 
         functions : (j : ℕ) (q : Procedure) → calls j p.body ≡ true → slice_get program.procedures j ≡ Some q → q.template ≡ None → AreClearParams naming q.params
