@@ -22,7 +22,7 @@ either false b i = i
 own_number : (n : ℕ) → (n == n) ≡ true
 own_number n = eq-eqb n n refl
 
-no_template : (o : Option (List ℕ)) → is_function (option_map holes_of o) ≡ true → o ≡ None
+pub no_template : (o : Option (List ℕ)) → is_function (option_map holes_of o) ≡ true → o ≡ None
 no_template None h = refl
 no_template (Some text) h = absurd (true≢false (sym h))
 

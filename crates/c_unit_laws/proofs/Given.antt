@@ -21,21 +21,22 @@ moved_up b c given (p ∷ ps) i h k =
     late true t e = refl
     late false t e = e
 
+-- the bound of a later parameter is that among the later ones
+pub later_bound : (p : Param) (ps : List Param) (given : ℕ → ℕ) → is_buffer_of p.binder.id ps ≡ false → (x : ℕ) → is_buffer_of x ps ≡ true → most_from ps (λ i. given (suc i)) x ≤ most_from (p ∷ ps) given x
+later_bound p ps given d x e = go (x == p.binder.id) refl
+  where
+    same : (n : ℕ) → n ≤ n
+    same n = omega arith
+
+    go : (t : Bool) → (x == p.binder.id) ≡ t → most_from ps (λ i. given (suc i)) x ≤ cond t (max (most_of_param p.kind) (given 0)) (most_from ps (λ i. given (suc i)) x)
+    go true f = absurd (true≢false (sym e ∙ (ap (λ z. is_buffer_of z ps) (eqb-true x p.binder.id f) ∙ d)))
+    go false f = same (most_from ps (λ i. given (suc i)) x)
+
 pub given_within : (ps : List Param) (given : ℕ → ℕ) → AreDistinct ps → AreWithin (most_from ps given) given 0 ps
 given_within [] given d = tt
 given_within (p ∷ ps) given d =
     (subst (λ t. given 0 ≤ cond t (max (most_of_param p.kind) (given 0)) (most_from ps (λ i. given (suc i)) p.binder.id)) (sym (eq-eqb p.binder.id p.binder.id refl)) (greater (most_of_param p.kind) (given 0)),
-    moved_up (most_from ps (λ i. given (suc i))) (most_from (p ∷ ps) given) given ps 0 later (given_within ps (λ i. given (suc i)) d.1))
+    moved_up (most_from ps (λ i. given (suc i))) (most_from (p ∷ ps) given) given ps 0 (later_bound p ps given d.0) (given_within ps (λ i. given (suc i)) d.1))
   where
     greater : (m n : ℕ) → n ≤ max m n
     greater m n = omega arith
-
-    same : (n : ℕ) → n ≤ n
-    same n = omega arith
-
-    later : (x : ℕ) → is_buffer_of x ps ≡ true → most_from ps (λ i. given (suc i)) x ≤ most_from (p ∷ ps) given x
-    later x e = go (x == p.binder.id) refl
-      where
-        go : (t : Bool) → (x == p.binder.id) ≡ t → most_from ps (λ i. given (suc i)) x ≤ cond t (max (most_of_param p.kind) (given 0)) (most_from ps (λ i. given (suc i)) x)
-        go true f = absurd (true≢false (sym e ∙ (ap (λ z. is_buffer_of z ps) (eqb-true x p.binder.id f) ∙ d.0)))
-        go false f = same (most_from ps (λ i. given (suc i)) x)

@@ -18,3 +18,10 @@ pub mod Given
 pub mod Listed
 pub mod Units
 pub mod Instance
+pub mod Fewer
+pub mod Functions
+pub mod Followed
+pub mod Bodies
+pub mod Small
+pub mod Files
+pub mod UnitsFollow

@@ -82,7 +82,7 @@ all_ids p = map_append (param_binders p.params) (binders_in p.body) ∙ ap (λ r
 
 -- ---- names that don't clash
 
-clash_parts : (x : Name) (xs : List Name) → first_clash (x ∷ xs) ≡ None → (is_word x ≡ false) × (is_in xs x ≡ false) × (first_clash xs ≡ None)
+pub clash_parts : (x : Name) (xs : List Name) → first_clash (x ∷ xs) ≡ None → (is_word x ≡ false) × (is_in xs x ≡ false) × (first_clash xs ≡ None)
 clash_parts x xs h = go (is_word x || is_in xs x) refl h
   where
     some_none : Some x ≡ None → ⊥
@@ -92,11 +92,11 @@ clash_parts x xs h = go (is_word x || is_in xs x) refl h
     go true e k = absurd (some_none k)
     go false e k = let p = or_false (is_word x) (is_in xs x) e in (p.0, p.1, k)
 
-rear_clash : (xs ys : List Name) → first_clash (xs ++ ys) ≡ None → first_clash ys ≡ None
+pub rear_clash : (xs ys : List Name) → first_clash (xs ++ ys) ≡ None → first_clash ys ≡ None
 rear_clash [] ys h = h
 rear_clash (x ∷ xs) ys h = rear_clash xs ys (clash_parts x (xs ++ ys) h).2
 
-in_front : (xs ys : List Name) (g : Name) → is_in xs g ≡ true → is_in (xs ++ ys) g ≡ true
+pub in_front : (xs ys : List Name) (g : Name) → is_in xs g ≡ true → is_in (xs ++ ys) g ≡ true
 in_front [] ys g h = absurd (true≢false (sym h))
 in_front (x ∷ xs) ys g h = go (same_name x g) (in_front xs ys g) h
   where
@@ -104,7 +104,7 @@ in_front (x ∷ xs) ys g h = go (same_name x g) (in_front xs ys g) h
     go true rest e = refl
     go false rest e = rest e
 
-in_rear : (xs ys : List Name) (g : Name) → is_in ys g ≡ true → is_in (xs ++ ys) g ≡ true
+pub in_rear : (xs ys : List Name) (g : Name) → is_in ys g ≡ true → is_in (xs ++ ys) g ≡ true
 in_rear [] ys g h = h
 in_rear (x ∷ xs) ys g h = late (same_name x g) (in_rear xs ys g h)
   where
@@ -158,6 +158,14 @@ module _ (used : ℕ → Bool) where
       go false true p q = inr (differ _ _ (λ e. earlier_apart fields 0 g f (grind arith) h (at_zero g v) (at_zero f u) c e))
       go false false p q = inl (grind arith)
 
+-- ---- fields that the C declares
+
+declared_parts : (program : Program) (what : List Printing) (f : ℕ) → declared_in program what f ≡ true → (is_used program what f ≡ true) × (f < length program.fields)
+declared_parts program what f h = let q = and_parts (is_used program what f) (nat_lt f (length program.fields)) h in (q.0, grind (arith, q.1))
+
+pub field_listed : (program : Program) (what : List Printing) (f : ℕ) → declared_in program what f ≡ true → is_in (fields_of program what) (name_at program.fields f) ≡ true
+field_listed program what f h = let q = declared_parts program what f h in used_there (is_used program what) program.fields 0 f q.1 (ap (is_used program what) (omega arith) ∙ q.0)
+
 -- ---- a procedure of a file
 
 module _ (program : Program) (what : List Printing) (p : Procedure) (distinct : are_distinct (bound_ids p) ≡ true) (clear : first_clash (global_names program what) ≡ None) (few : room (global_names program what) (names_of (all_binders p)) < 2 ^ 63) where
@@ -170,11 +178,8 @@ module _ (program : Program) (what : List Printing) (p : Procedure) (distinct : 
   apart_ids : are_distinct (map (λ z. z.id) all) ≡ true
   apart_ids = ap are_distinct (all_ids p) ∙ distinct
 
-  parts : (f : ℕ) → declared_in program what f ≡ true → (is_used program what f ≡ true) × (f < length program.fields)
-  parts f h = let q = and_parts (is_used program what f) (nat_lt f (length program.fields)) h in (q.0, grind (arith, q.1))
-
   field_there : (f : ℕ) → declared_in program what f ≡ true → is_in globals (name_at program.fields f) ≡ true
-  field_there f h = let q = parts f h in in_rear (printed_names program what) (fields_of program what) (name_at program.fields f) (used_there (is_used program what) program.fields 0 f q.1 (ap (is_used program what) (omega arith) ∙ q.0))
+  field_there f h = in_rear (printed_names program what) (fields_of program what) (name_at program.fields f) (field_listed program what f h)
 
   no_text : (a b : Binder) → is_text b.name a.name ≡ false → a.name ≡ b.name → ⊥
   no_text a b h e = true≢false (sym (ap (is_text b.name) e ∙ same_self b.name) ∙ h)
@@ -193,7 +198,7 @@ module _ (program : Program) (what : List Printing) (p : Procedure) (distinct : 
     function_there f h = in_front (printed_names program what) (fields_of program what) f (sym (ap (λ d. d f) by_function) ∙ h)
 
     others : (f h : ℕ) → declared_in program what f ≡ true → declared_in program what h ≡ true → (h ≡ f) ⊎ (same_name (name_at program.fields h) (name_at program.fields f) ≡ false)
-    others f h d e = let q = parts f d in let r = parts h e in used_apart (is_used program what) program.fields f h q.1 r.1 q.0 r.0 (rear_clash (printed_names program what) (fields_of program what) clear)
+    others f h d e = let q = declared_parts program what f d in let r = declared_parts program what h e in used_apart (is_used program what) program.fields f h q.1 r.1 q.0 r.0 (rear_clash (printed_names program what) (fields_of program what) clear)
 
     pub are_named : AreNamed g all
     are_named = record {

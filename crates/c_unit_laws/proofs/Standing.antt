@@ -18,7 +18,7 @@ some_same e = cc
 
 -- ---- tables
 
-one_longer : {B : Type 0} (above : List B) (b : B) → length (above ++ b ∷ []) ≡ suc (length above)
+pub one_longer : {B : Type 0} (above : List B) (b : B) → length (above ++ b ∷ []) ≡ suc (length above)
 one_longer [] b = refl
 one_longer (a ∷ above) b = ap suc (one_longer above b)
 
@@ -78,7 +78,7 @@ module _ (kinds : ℕ → Kind) where
   pub callee_above : (ps : List Procedure) (k j : ℕ) (q : Procedure) → j < k → slice_get ps j ≡ Some q → (unit_world kinds (take k ps)).callees j ≡ Some (callee_in (unit_world kinds (take j ps)) q)
   callee_above ps k j q h e = callee_at (take k ps) j q (get_taken ps k j h ∙ e) ∙ ap (λ l. Some (callee_in (unit_world kinds l) q)) (take_shorter ps k j h)
 
-  table_count : (ps : List Procedure) (above : List Callee) → length (callees kinds above ps) ≡ length above + length ps
+  pub table_count : (ps : List Procedure) (above : List Callee) → length (callees kinds above ps) ≡ length above + length ps
   table_count [] above = omega arith
   table_count (p ∷ ps) above =
       let own = callee_in (world_of kinds above) p in

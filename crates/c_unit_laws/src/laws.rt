@@ -1,6 +1,6 @@
 //! Laws of the C of units, each the contract of a function with nothing to do.
 
-ghost use Rattle.c_unit_laws.specs.Laws.{PrintedProceduresAreGood, BodiesAreGood};
+ghost use Rattle.c_unit_laws.specs.Laws.{PrintedProceduresAreGood, BodiesAreGood, FilesFollow};
 ghost use Rattle.c_unit_laws.specs.Instance.{ColumnsHaveC, VectorsHaveC};
 
 /// Each printed procedure of a unit that has a C meets what the laws on functions and blocks ask.
@@ -11,6 +11,11 @@ pub fn printed_procedures_are_good()
 /// So does the body of each procedure that is printed or called, with cells alone and each call in place.
 pub fn bodies_are_good()
     ensures { BodiesAreGood }
+{}
+
+/// A call of a function of a file does what its procedure does.
+pub fn files_follow()
+    ensures { FilesFollow }
 {}
 
 /// A unit with a call that hands on a column has a C.
