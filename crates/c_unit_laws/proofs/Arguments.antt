@@ -1,11 +1,10 @@
 -- Arguments that keep the rules, fit and are within the bounds of what they are for are such as the C follows.
-use Rattle.std.proofs.Common.{◌≡◌, ◌≤◌, ◌==◌, ℕ, zero, suc, Bool, true, false, not, ◌&&◌, ◌||◌, List, [], ◌∷◌, length, Option, refl, sym, ap, ◌∙◌, subst, arith, true≢false, eqb-true}
+use Rattle.std.proofs.Common.{◌≡◌, ◌≤◌, ◌==◌, ℕ, suc, Bool, true, false, not, ◌&&◌, ◌||◌, List, [], ◌∷◌, length, Option, refl, sym, ap, subst, arith, true≢false, eqb-true}
 use Rattle.std.specs.Prelude.{⊤}
 use Rattle.std.specs.List.{list_all}
 use Rattle.std.proofs.lemmas.Bool.{and_parts}
 use Rattle.exo_tree.specs.Tree.{Cell, Kind, Control, Argument, ControlArg, ConditionArg, Whole, Window, Coord, Param, ParamKind, ControlParam, TensorParam, WindowParam}
 use Rattle.exo_meaning.specs.Units.{Scope, sort_in, is_truth, has_cell, has_rank, is_dense, spans, with_both, is_control, is_condition, is_coord, is_window, is_of_kind, is_for_tensor, is_for_window, is_for, are_for}
-use Rattle.c_widths.specs.Magnitude.{magnitude}
 use Rattle.c_widths.specs.Widths.{is_narrow_argument, are_narrow_arguments, are_narrow_coords}
 use Rattle.c_widths.specs.Raises.{argument_magnitude, AreCoveredFrom}
 use Rattle.c_lowered.specs.Lowered.{Forms}

@@ -1,5 +1,5 @@
 -- Binders of a procedure, and names that are new.
-use Rattle.std.proofs.Common.{◌≡◌, ◌==◌, ◌++◌, ℕ, Bool, true, false, not, ◌||◌, cond, List, [], ◌∷◌, Option, Some, None, refl, sym, ap, ◌∙◌, subst, true≢false, ◌⊎◌, ⊎_elim, inl, inr, eqb-true}
+use Rattle.std.proofs.Common.{◌≡◌, ◌==◌, ◌++◌, ℕ, Bool, true, false, not, ◌||◌, cond, List, [], ◌∷◌, Some, None, refl, sym, ap, ◌∙◌, subst, true≢false, ◌⊎◌, ⊎_elim, inl, inr, eqb-true}
 use Rattle.std.specs.Prelude.{⊤}
 use Rattle.std.specs.List.{list_any}
 use Rattle.exo_tree.specs.Tree.{Binder, Param}
@@ -9,7 +9,7 @@ use Rattle.c_names.specs.Binders.{param_binders}
 use Rattle.c_lowered.specs.Lowered.{NoForm, Forms}
 use Rattle.c_follows.specs.Simulation.{Ground}
 use Rattle.c_follows.specs.Good.{IsAlone, IsFresh, AreNamedApart}
-use Rattle.c_unit_laws.proofs.Spelling.{same_self, names_equal, differ}
+use Rattle.c_unit_laws.proofs.Spelling.{same_self, differ}
 use Rattle.c_unit_laws.proofs.Free.{or_false}
 use Rattle.c_unit_laws.proofs.Forms.{Stands, Fits}
 

@@ -1,6 +1,6 @@
 -- The bodies of instructions, and of what they call, are followed.
-use Rattle.std.proofs.Common.{◌≡◌, ◌<◌, ℕ, zero, suc, Bool, true, false, List, [], ◌∷◌, length, take, Option, Some, None, refl, sym, ap, ◌∙◌, subst, arith, slice_get}
-use Rattle.exo_tree.specs.Tree.{Kind, Procedure, Program}
+use Rattle.std.proofs.Common.{◌≡◌, ◌<◌, ℕ, zero, suc, true, List, length, take, Some, None, refl, ◌∙◌, subst, arith, slice_get}
+use Rattle.exo_tree.specs.Tree.{Procedure, Program}
 use Rattle.exo_tree.specs.Calls.{calls}
 use Rattle.exo_meaning.specs.State.{State}
 use Rattle.exo_meaning.specs.Calls.{Callee}
@@ -11,14 +11,14 @@ use Rattle.exo_calls.proofs.Reach.{closed_is_closed}
 use Rattle.memory_kinds.specs.Faults.{fault_of}
 use Rattle.c_widths.specs.Raises.{RaisesCover}
 use Rattle.c_machine.specs.CRun.{Behaviour, CWorld, globals_of}
-use Rattle.c_lowered.specs.Lowered.{Hole, Naming}
+use Rattle.c_lowered.specs.Lowered.{Naming}
 use Rattle.c_lowered.specs.LoweredUnit.{Printing, is_listed, counts, global_names, lowered}
-use Rattle.c_follows.specs.Calls.{IsFollowed, CallsFollow}
+use Rattle.c_follows.specs.Calls.{IsFollowed}
 use Rattle.c_follows.specs.Bodies.{body_of, bodies_of}
 use Rattle.c_follows.specs.Functions.{behaviour_of}
 use Rattle.c_follows.specs.Units.{AreLowered}
 use Rattle.c_unit_laws.specs.Grounds.{ground_of, plain_naming, plain_ground}
-use Rattle.c_unit_laws.proofs.Standing.{none_some, Stood, stood, get_taken, calls_before}
+use Rattle.c_unit_laws.proofs.Standing.{Stood, stood, get_taken, calls_before}
 use Rattle.c_unit_laws.proofs.Fewer.{few_before, few_above}
 use Rattle.c_unit_laws.proofs.Functions.{field_global, function_global}
 use Rattle.c_unit_laws.proofs.Followed.{IsOfFile, FewAt, callee_of, HasCalls, followed}

@@ -1,5 +1,5 @@
 -- What the C of a block asks of memories: cells alone are read, written and viewed, and lanes go as a whole.
-use Rattle.std.proofs.Common.{◌≡◌, ℕ, Bool, true, false, List, [], ◌∷◌, Option, None, Some, sym, ◌∙◌, subst, true≢false}
+use Rattle.std.proofs.Common.{◌≡◌, ℕ, Bool, true, false, List, [], ◌∷◌, sym, ◌∙◌, subst, true≢false}
 use Rattle.std.specs.Prelude.{⊤}
 use Rattle.exo_tree.specs.Tree.{Control, Coord, Datum, Const, Read, Negated, Relu, Plus, Minus, Times, Select, Argument, ControlArg, ConditionArg, Whole, Window, Statement, Assign, Reduce, Config, Pass, If, For, Alloc, View, Call, Block, end, next, Param, ParamKind, ControlParam, TensorParam, WindowParam}
 use Rattle.memory_kinds.specs.Homes.{Homes, homes_after}

@@ -1,5 +1,5 @@
 -- Where no rule on memories is broken, the blocks of a printed procedure are clear of lanes.
-use Rattle.std.proofs.Common.{◌≡◌, ◌==◌, ℕ, Bool, true, false, ◌||◌, List, [], ◌∷◌, Option, Some, None, refl, sym, ap, subst, true≢false, eq-eqb, slice_get}
+use Rattle.std.proofs.Common.{◌≡◌, ◌==◌, ℕ, Bool, true, false, ◌||◌, List, Option, Some, None, refl, sym, ap, subst, true≢false, eq-eqb, slice_get}
 use Rattle.std.specs.Prelude.{option_map}
 use Rattle.std.specs.List.{list_all}
 use Rattle.exo_tree.specs.Tree.{Argument, Statement, Assign, Reduce, Config, Pass, If, For, Alloc, View, Call, Block, end, next, Procedure, MemoryKind}
@@ -13,7 +13,7 @@ use Rattle.c_lowered.specs.LoweredUnit.{memory_of, routine_of, holes_of}
 use Rattle.c_follows.specs.Good.{is_function}
 use Rattle.c_unit_laws.proofs.Forms.{lanes_in}
 use Rattle.c_unit_laws.proofs.Clear.{AreClearArguments, IsClear, IsClearStatement, AreClearParams}
-use Rattle.c_unit_laws.proofs.Memories.{both_none, reads_cells, writes_cells, reduces_cells, views_cells, suits, clear_reads, clear_arguments}
+use Rattle.c_unit_laws.proofs.Memories.{both_none, writes_cells, reduces_cells, views_cells, suits, clear_reads, clear_arguments}
 
 either : (a b : Bool) → b ≡ true → (a || b) ≡ true
 either true b i = refl

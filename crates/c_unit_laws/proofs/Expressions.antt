@@ -1,5 +1,5 @@
 -- Expressions that keep the rules and fit are such as the C follows.
-use Rattle.std.proofs.Common.{◌≡◌, ◌≤◌, ◌^◌, ◌==◌, ℕ, zero, ℤ, pos, ◌≤ℤ◌, int_le, int_lt, Bool, true, false, ◌&&◌, ◌||◌, List, [], ◌∷◌, length, Option, refl, sym, ap, subst, arith, true≢false}
+use Rattle.std.proofs.Common.{◌≡◌, ◌≤◌, ◌^◌, ◌==◌, ℕ, ℤ, pos, ◌≤ℤ◌, int_le, int_lt, Bool, true, false, ◌&&◌, ◌||◌, List, [], ◌∷◌, length, Option, refl, sym, ap, subst, arith, true≢false}
 use Rattle.std.specs.Prelude.{⊤}
 use Rattle.std.specs.List.{list_all}
 use Rattle.std.proofs.lemmas.Int.{ints, int_wrap_fits, fits_signed_from_abs}
@@ -7,7 +7,7 @@ use Rattle.std.specs.Int.{w32}
 use Rattle.std.proofs.lemmas.Bool.{and_parts}
 use Rattle.exo_tree.specs.Tree.{I32, Kind, Control, Lit, Var, Field, StrideOf, Neg, Add, Sub, Mul, Div, Mod, Condition, True, False, Flag, FieldFlag, Lt, Le, Gt, Ge, Eq, And, Or, Datum, Const, Read, Negated, Relu, Plus, Minus, Times, Select, Coord, At, Span}
 use Rattle.exo_meaning.specs.Value.{wrap}
-use Rattle.exo_meaning.specs.Units.{Scope, sort_in, has_rank, has_dimension, Reads, plainly, is_literal_number, is_of_literals, is_control, are_controls, is_condition, is_access, is_datum, is_coord, is_window}
+use Rattle.exo_meaning.specs.Units.{Scope, sort_in, has_rank, has_dimension, Reads, plainly, is_literal_number, is_of_literals, is_control, are_controls, is_condition, is_access, is_datum, is_coord}
 use Rattle.c_widths.specs.Magnitude.{magnitude, fits, is_narrow}
 use Rattle.c_widths.specs.Widths.{are_narrow, is_narrow_test, is_narrow_datum, is_narrow_coord, are_narrow_coords}
 use Rattle.c_lowered.specs.Lowered.{Forms}
@@ -15,7 +15,7 @@ use Rattle.c_lowered.specs.LoweredUnit.{in_control, in_condition}
 use Rattle.c_follows.specs.Magnitude.{IsNarrow, AreNarrow}
 use Rattle.c_follows.specs.Simulation.{Declared, IsPlain, ArePlain}
 use Rattle.c_follows.specs.Good.{IsBuffer, IsOpen, IsGood, AreGood, IsGoodOpen, IsGoodDatum, IsGoodTest, IsGoodCoord, AreGoodCoords}
-use Rattle.c_unit_laws.proofs.Forms.{Stands, Fits, IsForm, number_form, flag_form, buffer_form, stride_form}
+use Rattle.c_unit_laws.proofs.Forms.{Fits, IsForm, number_form, flag_form, buffer_form, stride_form}
 
 -- ---- widths
 

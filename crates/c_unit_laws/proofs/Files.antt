@@ -1,7 +1,7 @@
 -- The functions of a file are followed.
-use Rattle.std.proofs.Common.{◌≡◌, ◌<◌, ◌==◌, ℕ, zero, suc, nat_lt, Bool, true, false, ◌||◌, List, [], ◌∷◌, length, take, Option, Some, None, refl, sym, ap, ◌∙◌, subst, arith, true≢false, eqb-true, eq-eqb, slice_get}
+use Rattle.std.proofs.Common.{◌≡◌, ◌<◌, ◌==◌, ℕ, zero, suc, nat_lt, Bool, true, false, ◌||◌, List, [], ◌∷◌, length, Option, Some, None, refl, sym, ap, ◌∙◌, subst, arith, true≢false, eqb-true, eq-eqb, slice_get}
 use Rattle.std.specs.Prelude.{option_map}
-use Rattle.exo_tree.specs.Tree.{Kind, Procedure, Program}
+use Rattle.exo_tree.specs.Tree.{Procedure, Program}
 use Rattle.exo_tree.specs.Calls.{calls}
 use Rattle.exo_meaning.specs.State.{State}
 use Rattle.exo_meaning.specs.Calls.{Callee}
@@ -11,21 +11,18 @@ use Rattle.memory_kinds.specs.Faults.{fault_of}
 use Rattle.c_names.specs.Words.{Name, same_name, is_in}
 use Rattle.c_widths.specs.Raises.{RaisesCover}
 use Rattle.c_widths.specs.Few.{Fewness}
-use Rattle.c_tree.specs.CTree.{CFunction}
 use Rattle.c_machine.specs.CRun.{Behaviour, CWorld, globals_of, file_world}
-use Rattle.c_lowered.specs.Lowered.{Naming}
 use Rattle.c_lowered.specs.LoweredUnit.{Printing, holes_of, routine_of, function_of, function_at, functions_of, is_listed, counts, name_of, printed_names, global_names, lowered}
-use Rattle.c_follows.specs.Simulation.{Ground}
 use Rattle.c_follows.specs.Good.{is_function}
-use Rattle.c_follows.specs.Calls.{called_in, IsFollowed, CallsFollow}
+use Rattle.c_follows.specs.Calls.{called_in, IsFollowed}
 use Rattle.c_follows.specs.Bodies.{TemplatesDoTheirBodies}
 use Rattle.c_follows.specs.Functions.{behaviour_of}
 use Rattle.c_follows.specs.Units.{AreLowered, naming_of}
-use Rattle.c_unit_laws.specs.Grounds.{function_in, ground_of, printed_ground}
+use Rattle.c_unit_laws.specs.Grounds.{function_in, printed_ground}
 use Rattle.c_unit_laws.proofs.Spelling.{same_self}
 use Rattle.c_unit_laws.proofs.ClearBlocks.{no_template}
 use Rattle.c_unit_laws.proofs.Standing.{none_some, some_same, Stood, stood, calls_before}
-use Rattle.c_unit_laws.proofs.Listed.{Place, listed_at}
+use Rattle.c_unit_laws.proofs.Listed.{listed_at}
 use Rattle.c_unit_laws.proofs.Fewer.{few_before, few_above}
 use Rattle.c_unit_laws.proofs.Functions.{field_global, function_global, found_above, functions_once}
 use Rattle.c_unit_laws.proofs.Followed.{IsOfFile, FewAt, callee_of, HasCalls, followed}
@@ -127,7 +124,7 @@ module _ (program : Program) (what : List Printing) (covers : RaisesCover) (unit
           behaviour_of (printed_ground program what v.proc q) (file_at l.at) q,
           found_above (globals_of (lowered program what)) templates (lowered program what).functions i l.at (function_of (naming_of program what q) q) (functions_once program what lowers.named) first (printed_there l.at v q l.there own),
           subst (λ z. IsFollowed (printed_ground program what w.proc p) (Before w.proc j) (callee_of program what z q) (behaviour_of (printed_ground program what v.proc q) (file_at l.at) q) z) l.is
-          (followed program what (naming_of program what p) (printed_is_of_file p) w.proc p (naming_of program what q) (printed_is_of_file q) v.proc q own (file_at l.at) good (before l.at v q first l.there own) (Before w.proc j) few),
+              (followed program what (naming_of program what p) (printed_is_of_file p) w.proc p (naming_of program what q) (printed_is_of_file q) v.proc q own (file_at l.at) good (before l.at v q first l.there own) (Before w.proc j) few),
         )
 
     called_one : (j : ℕ) (q : Procedure) → calls j p.body ≡ true → j < w.proc → slice_get program.procedures j ≡ Some q → counts program what w.proc ≡ true → Earlier → (t : Option (List ℕ)) → q.template ≡ t → Called j q t

@@ -1,12 +1,12 @@
 -- A procedure of a unit is followed from the ground of each that calls it.
-use Rattle.std.proofs.Common.{◌≡◌, ◌<◌, ℕ, Bool, true, false, ◌||◌, List, take, Option, Some, None, refl, sym, ap, ◌∙◌, subst, slice_get}
-use Rattle.exo_tree.specs.Tree.{Kind, Procedure, Program}
+use Rattle.std.proofs.Common.{◌≡◌, ℕ, List, take, Option, Some, None, refl, sym, ap, ◌∙◌, slice_get}
+use Rattle.exo_tree.specs.Tree.{Procedure, Program}
 use Rattle.exo_meaning.specs.State.{State}
 use Rattle.exo_meaning.specs.Calls.{Callee}
 use Rattle.exo_meaning.specs.Run.{callee_in, kinds_of}
 use Rattle.c_widths.specs.Few.{AllocatesFew}
 use Rattle.c_machine.specs.Machine.{Outcome, Done, Fault, NoStore}
-use Rattle.c_machine.specs.CRun.{Behaviour, CWorld}
+use Rattle.c_machine.specs.CRun.{CWorld}
 use Rattle.c_lowered.specs.Lowered.{Naming, param_forms}
 use Rattle.c_lowered.specs.LoweredUnit.{Printing, field_name, named_field, routine_of}
 use Rattle.c_follows.specs.Simulation.{Follows, Ends}

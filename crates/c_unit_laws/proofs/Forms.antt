@@ -1,12 +1,12 @@
 -- What names in scope stand for in the C.
-use Rattle.std.proofs.Common.{◌≡◌, ◌<◌, ◌==◌, ℕ, zero, suc, pos, Bool, true, false, cond, List, [], ◌∷◌, length, Option, Some, None, refl, sym, ap, ◌∙◌, subst, arith, true≢false, eqb-true, ◌⊎◌, ⊎_elim, inl, inr}
-use Rattle.exo_tree.specs.Tree.{Cell, Kind, Binder, Control, Lit, Coord, At, Span}
+use Rattle.std.proofs.Common.{◌≡◌, ◌==◌, ℕ, zero, suc, Bool, true, false, cond, List, [], ◌∷◌, length, Option, Some, None, refl, sym, ap, ◌∙◌, subst, arith, true≢false, eqb-true, ◌⊎◌, inl, inr}
+use Rattle.exo_tree.specs.Tree.{Cell, Kind, Binder, Control, Coord, At, Span}
 use Rattle.exo_meaning.specs.Scene.{updated}
 use Rattle.exo_meaning.specs.Units.{Sort, ControlName, BufferName, Scope, sort_in, with_name, is_number, is_flag, has_rank, has_dimension, has_cell, is_dense, spans}
 use Rattle.meaning_laws.proofs.FirstState.{same_cell_is}
 use Rattle.memory_kinds.specs.Homes.{Homes}
 use Rattle.c_lowered.specs.Lowered.{Naming, Form, NoForm, NumberForm, TensorForm, WindowForm, Forms}
-use Rattle.c_follows.specs.Good.{IsAnyBuffer, HasStride, EndsInSpan, EndsInLanes}
+use Rattle.c_follows.specs.Good.{HasStride, EndsInSpan, EndsInLanes}
 
 -- the lanes of the memory that a name stands in
 abbrev pub lanes_in : Naming → Homes → ℕ → ℕ

@@ -1,5 +1,5 @@
 -- The functions and fields of a file by their names.
-use Rattle.std.proofs.Common.{◌≡◌, ◌<◌, ℕ, zero, suc, Bool, true, false, ◌||◌, cond, List, [], ◌∷◌, ◌++◌, length, take, Option, Some, None, refl, sym, ap, ◌∙◌, subst, arith, true≢false, slice_get}
+use Rattle.std.proofs.Common.{◌≡◌, ◌<◌, ℕ, zero, suc, Bool, true, false, ◌||◌, cond, List, [], ◌∷◌, ◌++◌, take, Option, Some, None, refl, sym, ap, ◌∙◌, subst, true≢false, slice_get}
 use Rattle.exo_tree.specs.Tree.{Procedure, Program}
 use Rattle.c_names.specs.Words.{Name, same_name, is_in, is_word}
 use Rattle.c_names.specs.Clash.{first_clash}
@@ -11,7 +11,7 @@ use Rattle.c_follows.specs.Units.{declared_in}
 use Rattle.c_unit_laws.specs.Grounds.{function_in}
 use Rattle.c_unit_laws.proofs.Spelling.{same_self, names_equal}
 use Rattle.c_unit_laws.proofs.Free.{or_false}
-use Rattle.c_unit_laws.proofs.Names.{clash_parts, rear_clash, in_front, in_rear, field_listed}
+use Rattle.c_unit_laws.proofs.Names.{clash_parts, in_front, in_rear, field_listed}
 use Rattle.c_unit_laws.proofs.Standing.{none_some, some_same, get_taken, take_shorter}
 
 -- ---- names

@@ -10,9 +10,10 @@ use Rattle.c_unit_laws.proofs.Arguments.{AreWithin}
 -- where bounds grow and places move up by one
 moved_up : (b c given : ℕ → ℕ) (ps : List Param) (i : ℕ) → ((x : ℕ) → is_buffer_of x ps ≡ true → b x ≤ c x) → AreWithin b (λ j. given (suc j)) i ps → AreWithin c given (suc i) ps
 moved_up b c given [] i h k = tt
-moved_up b c given (p ∷ ps) i h k =
-    (below (given (suc i)) (b p.binder.id) (c p.binder.id) k.0 (h p.binder.id (ap (λ t. t || is_buffer_of p.binder.id ps) (eq-eqb p.binder.id p.binder.id refl))),
-    moved_up b c given ps (suc i) (λ x e. h x (late (x == p.binder.id) (is_buffer_of x ps) e)) k.1)
+moved_up b c given (p ∷ ps) i h k = (
+  below (given (suc i)) (b p.binder.id) (c p.binder.id) k.0 (h p.binder.id (ap (λ t. t || is_buffer_of p.binder.id ps) (eq-eqb p.binder.id p.binder.id refl))),
+  moved_up b c given ps (suc i) (λ x e. h x (late (x == p.binder.id) (is_buffer_of x ps) e)) k.1,
+)
   where
     below : (l m n : ℕ) → l ≤ m → m ≤ n → l ≤ n
     below l m n e f = omega (arith, e, f)
@@ -34,9 +35,10 @@ later_bound p ps given d x e = go (x == p.binder.id) refl
 
 pub given_within : (ps : List Param) (given : ℕ → ℕ) → AreDistinct ps → AreWithin (most_from ps given) given 0 ps
 given_within [] given d = tt
-given_within (p ∷ ps) given d =
-    (subst (λ t. given 0 ≤ cond t (max (most_of_param p.kind) (given 0)) (most_from ps (λ i. given (suc i)) p.binder.id)) (sym (eq-eqb p.binder.id p.binder.id refl)) (greater (most_of_param p.kind) (given 0)),
-    moved_up (most_from ps (λ i. given (suc i))) (most_from (p ∷ ps) given) given ps 0 (later_bound p ps given d.0) (given_within ps (λ i. given (suc i)) d.1))
+given_within (p ∷ ps) given d = (
+  subst (λ t. given 0 ≤ cond t (max (most_of_param p.kind) (given 0)) (most_from ps (λ i. given (suc i)) p.binder.id)) (sym (eq-eqb p.binder.id p.binder.id refl)) (greater (most_of_param p.kind) (given 0)),
+  moved_up (most_from ps (λ i. given (suc i))) (most_from (p ∷ ps) given) given ps 0 (later_bound p ps given d.0) (given_within ps (λ i. given (suc i)) d.1),
+)
   where
     greater : (m n : ℕ) → n ≤ max m n
     greater m n = omega arith

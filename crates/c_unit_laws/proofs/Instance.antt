@@ -1,5 +1,5 @@
 -- The closed units have a C.
-use Rattle.std.proofs.Common.{◌≡◌, ◌<◌, ◌==◌, ℕ, zero, suc, Bool, true, false, ◌||◌, List, [], ◌∷◌, Option, Some, None, refl, sym, ap, ◌∙◌, subst, arith, true≢false, eqb-true, slice_get}
+use Rattle.std.proofs.Common.{◌≡◌, ◌<◌, ◌==◌, ℕ, zero, suc, Bool, true, false, ◌||◌, List, [], Some, None, refl, sym, ap, ◌∙◌, subst, arith, true≢false, eqb-true, slice_get}
 use Rattle.exo_tree.specs.Tree.{Procedure, Program}
 use Rattle.exo_tree.specs.Calls.{calls}
 use Rattle.exo_meaning.specs.Units.{IsUnit}
@@ -10,7 +10,7 @@ use Rattle.c_names.specs.Clash.{first_clash}
 use Rattle.c_lowered.specs.Examples.{fill, col, load8, store8, copy8, vector_program}
 use Rattle.c_follows.specs.Units.{IsListing, AreLowered}
 use Rattle.c_unit_laws.specs.Instance.{filling, column_program, both_printed, ColumnsHaveC, copy_printed, VectorsHaveC}
-use Rattle.c_unit_laws.proofs.Standing.{none_some, some_same}
+use Rattle.c_unit_laws.proofs.Standing.{some_same}
 use Rattle.c_unit_laws.proofs.Listed.{no_entry}
 
 abbrev IsThere : Program → Printing → Type 0
@@ -119,8 +119,10 @@ vectors_unit : IsUnit vector_program
 vectors_unit = record {
   procedures = (
     record { params = refl; asserts = refl; body = refl; filled = refl; ids = refl; distinct = refl; paths = refl; template = refl },
-    (record { params = refl; asserts = refl; body = refl; filled = refl; ids = refl; distinct = refl; paths = refl; template = refl },
-    (record { params = refl; asserts = refl; body = refl; filled = refl; ids = refl; distinct = refl; paths = refl; template = refl }, tt)),
+    (
+      record { params = refl; asserts = refl; body = refl; filled = refl; ids = refl; distinct = refl; paths = refl; template = refl },
+      (record { params = refl; asserts = refl; body = refl; filled = refl; ids = refl; distinct = refl; paths = refl; template = refl }, tt),
+    ),
   );
   fields = refl;
   memories = refl;

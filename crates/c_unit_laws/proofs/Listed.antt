@@ -1,11 +1,10 @@
 -- What is known of a procedure that is printed or called.
-use Rattle.std.proofs.Common.{◌≡◌, ◌<◌, ◌≤◌, ◌+◌, ◌-◌, ◌^◌, ◌==◌, ◌++◌, ℕ, zero, suc, nat_lt, Bool, true, false, not, ◌&&◌, ◌||◌, cond, List, [], ◌∷◌, length, take, map, Option, Some, None, refl, sym, ap, ◌∙◌, subst, arith, true≢false, eqb, eqb-true, slice_get, ⊎_elim}
+use Rattle.std.proofs.Common.{◌≡◌, ◌<◌, ◌≤◌, ◌+◌, ◌-◌, ◌^◌, ◌==◌, ℕ, zero, suc, nat_lt, Bool, true, false, not, ◌&&◌, ◌||◌, cond, List, [], ◌∷◌, length, take, map, Option, Some, None, refl, sym, ap, ◌∙◌, subst, arith, true≢false, eqb, eqb-true, slice_get}
 use Rattle.std.specs.List.{list_any, list_all, IsDistinct, AllByRecursion}
 use Rattle.std.proofs.lemmas.Map.Steps.{length-le_from_distinct_below}
 use Rattle.std.proofs.lemmas.Bool.{and_parts}
 use Rattle.exo_tree.specs.Tree.{Binder, Control, Procedure, Program, ConfigField, MemoryKind}
 use Rattle.exo_meaning.specs.Units.{bound_ids, are_distinct}
-use Rattle.c_names.specs.Words.{Name}
 use Rattle.c_names.specs.Binders.{all_binders, names_of}
 use Rattle.c_widths.specs.Widths.{fits_cells, own_dims, fits_stack}
 use Rattle.c_widths.specs.Raises.{memories_for, most_at, is_narrow_by, is_wide_at, or_own, widest_from}

@@ -1,20 +1,20 @@
 -- Where no rule on memories is broken, a block is clear of lanes.
-use Rattle.std.proofs.Common.{◌≡◌, ◌<◌, ◌-◌, ◌==◌, ℕ, zero, suc, ℤ, pos, nat_lt, Bool, true, false, not, ◌&&◌, ◌||◌, if◌then◌else◌, List, [], ◌∷◌, length, Option, Some, None, refl, sym, ap, ◌∙◌, subst, arith, true≢false, eqb-true, slice_get}
+use Rattle.std.proofs.Common.{◌≡◌, ◌-◌, ◌==◌, ℕ, zero, suc, ℤ, pos, nat_lt, Bool, true, false, not, ◌&&◌, ◌||◌, if◌then◌else◌, List, [], ◌∷◌, length, Option, Some, None, refl, sym, ap, ◌∙◌, subst, arith, true≢false, eqb-true, slice_get}
 use Rattle.std.specs.List.{list_all}
 use Rattle.std.specs.Ordering.{int_eq}
 use Rattle.std.proofs.lemmas.Bool.{and_parts}
 use Rattle.std.proofs.lemmas.Int.{ints}
-use Rattle.exo_tree.specs.Tree.{Cell, Control, Lit, Var, Field, StrideOf, Neg, Add, Sub, Mul, Div, Mod, Datum, Const, Read, Negated, Relu, Plus, Minus, Times, Select, Coord, At, Span, Argument, ControlArg, ConditionArg, Whole, Window, Statement, Assign, Reduce, Config, Pass, If, For, Alloc, View, Call, Block, end, next, Param, ParamKind, ControlParam, TensorParam, WindowParam, Procedure, MemoryKind}
+use Rattle.exo_tree.specs.Tree.{Cell, Control, Lit, Var, Field, StrideOf, Neg, Add, Sub, Mul, Div, Mod, Datum, Const, Read, Negated, Relu, Plus, Minus, Times, Select, Coord, At, Span, Argument, ControlArg, ConditionArg, Whole, Window, Param, ParamKind, ControlParam, TensorParam, WindowParam, MemoryKind}
 use Rattle.exo_meaning.specs.Units.{has_type, is_memory}
 use Rattle.memory_kinds.specs.declared.error.KindError.{KindError}
-use Rattle.memory_kinds.specs.Homes.{Homes, homes_after}
-use Rattle.memory_kinds.specs.Faults.{fault_where, or_first, is_literal, is_literal_of, are_literals, last_is_literal, is_full_span, last_is_full, has_lanes, takes, param_fault, alloc_fault, read_fault, write_fault, reduce_fault, view_fault, window_fault, in_memory, reads_fault, given_fault, argument_fault, arguments_fault, kind_fault, params_fault, call_fault, block_fault, step_fault}
+use Rattle.memory_kinds.specs.Homes.{Homes}
+use Rattle.memory_kinds.specs.Faults.{fault_where, or_first, is_literal, is_literal_of, are_literals, last_is_literal, is_full_span, last_is_full, has_lanes, takes, param_fault, alloc_fault, read_fault, write_fault, reduce_fault, view_fault, window_fault, in_memory, reads_fault, given_fault, argument_fault, arguments_fault, kind_fault, params_fault}
 use Rattle.c_lowered.specs.Lowered.{Memory, Naming}
 use Rattle.c_lowered.specs.LoweredUnit.{memory_of}
-use Rattle.c_follows.specs.Good.{EndsInSpan, EndsInLanes, AreLiterals, is_function}
+use Rattle.c_follows.specs.Good.{EndsInSpan, EndsInLanes, AreLiterals}
 use Rattle.c_unit_laws.proofs.Forms.{lanes_in}
 use Rattle.c_unit_laws.proofs.Expressions.{ReadsCells}
-use Rattle.c_unit_laws.proofs.Clear.{IsClearBuffer, IsClearArgument, AreClearArguments, SuitsMemory, IsClear, IsClearStatement, IsClearKind, AreClearParams}
+use Rattle.c_unit_laws.proofs.Clear.{IsClearBuffer, IsClearArgument, AreClearArguments, SuitsMemory, IsClearKind, AreClearParams}
 
 some_none : {A : Type 0} {a : A} → Some a ≡ None → ⊥
 some_none e = cc
@@ -186,9 +186,10 @@ module _ (memories : List MemoryKind) (known : list_all is_memory memories ≡ t
       one : (m : MemoryKind) → is_memory m ≡ true → alloc_fault cell ds m ≡ None → SuitsMemory (memory_of (Some m)) ds
       one m r f =
           let p = both_none (fault_where (not (takes m.cell cell)) _) _ f in
-          let q = both_none (fault_where (has_lanes m && not (last_is_literal m.lanes ds)) _) _ p.1 in
-          (ends_in_lanes m.lanes ds (where_lanes m (last_is_literal m.lanes ds) (not_where (has_lanes m && not (last_is_literal m.lanes ds)) _ q.0)),
-          λ e. all_literals ds (is_true (are_literals ds) (subst (λ t. (t && not (are_literals ds)) ≡ false) e (not_where (m.stack && not (are_literals ds)) _ q.1))))
+          let q = both_none (fault_where (has_lanes m && not (last_is_literal m.lanes ds)) _) _ p.1 in (
+            ends_in_lanes m.lanes ds (where_lanes m (last_is_literal m.lanes ds) (not_where (has_lanes m && not (last_is_literal m.lanes ds)) _ q.0)),
+            λ e. all_literals ds (is_true (are_literals ds) (subst (λ t. (t && not (are_literals ds)) ≡ false) e (not_where (m.stack && not (are_literals ds)) _ q.1))),
+          )
 
   -- ---- statements
 

@@ -1,5 +1,5 @@
 -- Parameters that keep the rules and fit.
-use Rattle.std.proofs.Common.{◌≡◌, ◌==◌, ℕ, Bool, true, false, cond, List, [], ◌∷◌, length, Option, Some, None, refl, sym, ap, ◌∙◌, subst, true≢false, eqb-true, eq-eqb}
+use Rattle.std.proofs.Common.{◌≡◌, ◌==◌, ℕ, Bool, true, false, cond, List, [], ◌∷◌, length, Option, Some, None, refl, sym, ap, ◌∙◌, subst, eqb-true, eq-eqb}
 use Rattle.std.proofs.lemmas.Bool.{and_parts}
 use Rattle.exo_tree.specs.Tree.{Kind, Binder, Cell, Control, Lit, Var, Field, StrideOf, Neg, Add, Sub, Mul, Div, Mod, Param, ParamKind, ControlParam, TensorParam, WindowParam}
 use Rattle.exo_meaning.specs.Scene.{updated}
@@ -9,7 +9,7 @@ use Rattle.c_names.specs.Binders.{param_binders}
 use Rattle.c_widths.specs.Widths.{has_narrow_dims, have_narrow_dims}
 use Rattle.c_lowered.specs.Lowered.{Naming, NoForm, NumberForm, TensorForm, Forms, form_of, param_forms}
 use Rattle.c_follows.specs.Simulation.{Ground, IsPlain, ArePlain}
-use Rattle.c_follows.specs.Good.{IsGoodParam, AreGoodParams, EndsInLanes}
+use Rattle.c_follows.specs.Good.{IsGoodParam, AreGoodParams}
 use Rattle.c_unit_laws.proofs.Forms.{lanes_in, Stands, Fits, wider, wider_number}
 use Rattle.c_unit_laws.proofs.Expressions.{all_plain, all_narrow}
 use Rattle.c_unit_laws.proofs.Clear.{IsClearKind, AreClearParams}

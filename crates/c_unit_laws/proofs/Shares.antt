@@ -1,5 +1,5 @@
 -- No call of a well-formed block shares a buffer that is written there.
-use Rattle.std.proofs.Common.{◌≡◌, ◌==◌, ℕ, Bool, true, false, not, ◌&&◌, ◌||◌, cond, List, [], ◌∷◌, Option, Some, None, refl, sym, ap, ◌∙◌, subst, true≢false, eqb-true, eq-eqb}
+use Rattle.std.proofs.Common.{◌≡◌, ◌==◌, ℕ, Bool, true, false, not, ◌&&◌, ◌||◌, cond, List, [], ◌∷◌, Option, Some, None, refl, sym, ap, ◌∙◌, true≢false, eqb-true, eq-eqb}
 use Rattle.std.proofs.lemmas.Bool.{and_parts}
 use Rattle.exo_tree.specs.Tree.{Kind, Argument, ControlArg, ConditionArg, Whole, Window, Statement, Assign, Reduce, Config, Pass, If, For, Alloc, View, Call, Block, end, next, Param}
 use Rattle.exo_meaning.specs.Calls.{Callee}
@@ -8,7 +8,7 @@ use Rattle.exo_meaning.specs.Units.{Scope, plainly, with_fields, is_control, is_
 use Rattle.inplace_laws.specs.Shared as shared
 use Rattle.inplace_laws.specs.Shared.{argument_root, DoNotShare}
 use Rattle.c_follows.specs.Good.{CallSharesNothing, SharesNothing, StatementSharesNothing}
-use Rattle.c_unit_laws.proofs.Standing.{none_some, some_same}
+use Rattle.c_unit_laws.proofs.Standing.{none_some}
 
 module _ (fields : ℕ → Option Kind) where
   -- ---- arguments

@@ -1,5 +1,5 @@
 -- The control parameters of a valid input are within their bounds.
-use Rattle.std.proofs.Common.{◌≡◌, ◌≤◌, ◌-◌, ◌^◌, ◌==◌, ℕ, suc, ℤ, pos, negsuc, neg_ℤ, ◌≤ℤ◌, max, Bool, true, false, ◌||◌, cond, List, [], ◌∷◌, refl, sym, ap, ◌∙◌, subst, arith, true≢false, unsigned_abs, eq-eqb}
+use Rattle.std.proofs.Common.{◌≡◌, ◌≤◌, ◌==◌, ℕ, suc, ℤ, pos, negsuc, max, Bool, true, false, ◌||◌, cond, List, [], ◌∷◌, refl, sym, ap, subst, arith, unsigned_abs, eq-eqb}
 use Rattle.std.proofs.lemmas.Int.{ints}
 use Rattle.exo_tree.specs.Tree.{Kind, Size, Index, Truth, Stride, Param, ParamKind, ControlParam, TensorParam, WindowParam}
 use Rattle.exo_meaning.specs.State.{State}
@@ -32,9 +32,10 @@ module _ (s : State) where
 
   all_wider : (b c : ℕ → ℕ) (ps : List Param) → ((x : ℕ) → is_buffer_of x ps ≡ true → b x ≤ c x) → AreSmall s b ps → AreSmall s c ps
   all_wider b c [] h k = tt
-  all_wider b c (p ∷ ps) h k =
-      (one_wider b c p.binder.id p.kind (h p.binder.id (ap (λ t. t || is_buffer_of p.binder.id ps) (eq-eqb p.binder.id p.binder.id refl))) k.0,
-      all_wider b c ps (λ x e. h x (late (x == p.binder.id) (is_buffer_of x ps) e)) k.1)
+  all_wider b c (p ∷ ps) h k = (
+    one_wider b c p.binder.id p.kind (h p.binder.id (ap (λ t. t || is_buffer_of p.binder.id ps) (eq-eqb p.binder.id p.binder.id refl))) k.0,
+    all_wider b c ps (λ x e. h x (late (x == p.binder.id) (is_buffer_of x ps) e)) k.1,
+  )
     where
       late : (u v : Bool) → v ≡ true → (u || v) ≡ true
       late true v e = refl
@@ -55,6 +56,7 @@ module _ (s : State) where
 
   pub small_params : (ps : List Param) (given : ℕ → ℕ) → AreDistinct ps → AreBounded s.scene ps → AreSmall s (most_from ps given) ps
   small_params [] given d h = tt
-  small_params (p ∷ ps) given d h =
-      (first_small p ps given h.0,
-      all_wider (most_from ps (λ i. given (suc i))) (most_from (p ∷ ps) given) ps (later_bound p ps given d.0) (small_params ps (λ i. given (suc i)) d.1 h.1))
+  small_params (p ∷ ps) given d h = (
+    first_small p ps given h.0,
+    all_wider (most_from ps (λ i. given (suc i))) (most_from (p ∷ ps) given) ps (later_bound p ps given d.0) (small_params ps (λ i. given (suc i)) d.1 h.1),
+  )

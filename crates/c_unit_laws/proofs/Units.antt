@@ -1,10 +1,9 @@
 -- Procedures of a unit that has a C meet what the laws on functions and blocks ask.
-use Rattle.std.proofs.Common.{◌≡◌, ◌<◌, ◌+◌, ◌^◌, ◌==◌, ℕ, nat_lt, Bool, true, false, ◌&&◌, ◌||◌, List, [], ◌∷◌, length, take, Option, Some, None, refl, sym, ap, ◌∙◌, subst, arith, true≢false, slice_get}
+use Rattle.std.proofs.Common.{◌≡◌, ◌<◌, ◌+◌, ◌^◌, ℕ, nat_lt, Bool, true, false, ◌&&◌, ◌||◌, List, [], ◌∷◌, length, Option, Some, None, refl, sym, ap, ◌∙◌, subst, arith, true≢false, slice_get}
 use Rattle.std.specs.List.{list_all}
 use Rattle.std.proofs.lemmas.Bool.{and_parts, and_from}
 use Rattle.exo_tree.specs.Tree.{Kind, Binder, Control, Param, Procedure, Program, MemoryKind}
 use Rattle.exo_tree.specs.Calls.{calls}
-use Rattle.exo_meaning.specs.Calls.{Callee}
 use Rattle.exo_meaning.specs.Run.{World, kinds_of}
 use Rattle.exo_meaning.specs.Units.{sort_in, scope_of, field_kind, is_text, all_differ, is_memory, IsProcedure, IsUnit}
 use Rattle.meaning_laws.proofs.FirstState.{Differ, params_differ}

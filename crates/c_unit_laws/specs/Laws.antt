@@ -1,13 +1,11 @@
 -- Procedures of a unit meet what the laws on their C ask, and so the C of files does what they do.
 use Rattle.std.specs.Prelude.{◌≡◌, ℕ, true, List, Some, slice_get}
 use Rattle.exo_tree.specs.Tree.{Procedure, Program}
-use Rattle.exo_meaning.specs.Run.{World, callee_in}
+use Rattle.exo_meaning.specs.Run.{World}
 use Rattle.exo_meaning.specs.Units.{IsUnit}
 use Rattle.inplace_laws.specs.CallInPlace.{AreDistinct}
 use Rattle.memory_kinds.specs.Faults.{fault_of}
 use Rattle.c_widths.specs.Raises.{RaisesCover}
-use Rattle.c_widths.specs.Few.{AllocatesFew, no_fewness, fewness_of}
-use Rattle.c_machine.specs.CRun.{Behaviour}
 use Rattle.c_lowered.specs.Lowered.{param_forms}
 use Rattle.c_lowered.specs.LoweredUnit.{Printing, is_listed, counts}
 use Rattle.c_follows.specs.Simulation.{Ground}
