@@ -9,7 +9,7 @@ use Rattle.c_unit_laws.proofs.Standing.{none_some, some_same, one_longer, get_ta
 
 module _ (kinds : ℕ → Kind) where
   -- with the procedure that comes behind those of the list
-  abbrev Next : List Callee → Fewness → Procedure → Fewness
+  abbrev pub Next : List Callee → Fewness → Procedure → Fewness
   Next above few p k s = one_of (k == length above) (AllocatesFew (world_of kinds above) few p.body s) (few k s)
 
   -- later procedures change nothing

@@ -25,3 +25,4 @@ pub mod Bodies
 pub mod Small
 pub mod Files
 pub mod UnitsFollow
+pub mod Stores

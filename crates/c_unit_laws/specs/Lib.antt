@@ -1,3 +1,4 @@
 pub mod Grounds
 pub mod Laws
+pub mod Stores
 pub mod Instance

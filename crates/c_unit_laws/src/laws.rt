@@ -1,6 +1,7 @@
 //! Laws of the C of units, each the contract of a function with nothing to do.
 
 ghost use Rattle.c_unit_laws.specs.Laws.{PrintedProceduresAreGood, BodiesAreGood, FilesFollow};
+ghost use Rattle.c_unit_laws.specs.Stores.{FilesWithoutAllocationsAreDone};
 ghost use Rattle.c_unit_laws.specs.Instance.{ColumnsHaveC, VectorsHaveC};
 
 /// Each printed procedure of a unit that has a C meets what the laws on functions and blocks ask.
@@ -16,6 +17,11 @@ pub fn bodies_are_good()
 /// A call of a function of a file does what its procedure does.
 pub fn files_follow()
     ensures { FilesFollow }
+{}
+
+/// A call of a function that allocates nothing, and calls nothing that does, is done.
+pub fn files_without_allocations_are_done()
+    ensures { FilesWithoutAllocationsAreDone }
 {}
 
 /// A unit with a call that hands on a column has a C.
