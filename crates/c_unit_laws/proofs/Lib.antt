@@ -26,3 +26,4 @@ pub mod Small
 pub mod Files
 pub mod UnitsFollow
 pub mod Stores
+pub mod Runs

@@ -2,3 +2,4 @@ pub mod Grounds
 pub mod Laws
 pub mod Stores
 pub mod Instance
+pub mod Runs

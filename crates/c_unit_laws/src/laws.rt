@@ -3,6 +3,7 @@
 ghost use Rattle.c_unit_laws.specs.Laws.{PrintedProceduresAreGood, BodiesAreGood, FilesFollow};
 ghost use Rattle.c_unit_laws.specs.Stores.{FilesWithoutAllocationsAreDone};
 ghost use Rattle.c_unit_laws.specs.Instance.{ColumnsHaveC, VectorsHaveC};
+ghost use Rattle.c_unit_laws.specs.Runs.{VectorsRun};
 
 /// Each printed procedure of a unit that has a C meets what the laws on functions and blocks ask.
 pub fn printed_procedures_are_good()
@@ -32,4 +33,9 @@ pub fn columns_have_c()
 /// A unit with instructions and vectors has a C.
 pub fn vectors_have_c()
     ensures { VectorsHaveC }
+{}
+
+/// A call of a function that copies by instructions meets what the law on files asks, and is done.
+pub fn vectors_run()
+    ensures { VectorsRun }
 {}
