@@ -9,7 +9,6 @@ use Rattle.exo_meaning.specs.Units.{IsUnit}
 use Rattle.exo_calls.proofs.Entries.{table_entry}
 use Rattle.exo_calls.proofs.Reach.{closed_is_closed}
 use Rattle.memory_kinds.specs.Faults.{fault_of}
-use Rattle.c_widths.specs.Raises.{RaisesCover}
 use Rattle.c_machine.specs.CRun.{Behaviour, CWorld, globals_of}
 use Rattle.c_lowered.specs.Lowered.{Naming}
 use Rattle.c_lowered.specs.LoweredUnit.{Printing, is_listed, counts, global_names, lowered}
@@ -24,7 +23,7 @@ use Rattle.c_unit_laws.proofs.Functions.{field_global, function_global}
 use Rattle.c_unit_laws.proofs.Followed.{IsOfFile, FewAt, callee_of, HasCalls, followed}
 use Rattle.c_unit_laws.proofs.Units.{bodies_are_good}
 
-module _ (program : Program) (what : List Printing) (covers : RaisesCover) (unit : IsUnit program) (lowers : AreLowered fault_of program what) where
+module _ (program : Program) (what : List Printing) (unit : IsUnit program) (lowers : AreLowered fault_of program what) where
   abbrev bodies : List Behaviour
   bodies = bodies_of program what
 
@@ -48,7 +47,7 @@ module _ (program : Program) (what : List Printing) (covers : RaisesCover) (unit
 
   -- from a caller's ground
   body_followed : (caller : Naming) → IsOfFile program caller → (i : ℕ) (r : Procedure) (k : ℕ) (p : Procedure) → slice_get program.procedures k ≡ Some p → counts program what k ≡ true → HasCalls program what (plain_naming program what p) k p (body_world k) → (few : State → Type 0) → ((s : State) → few s → FewAt program what k p s) → IsFollowed (ground_of program what caller i r) few (callee_of program what k p) (body_at k p) k
-  body_followed caller is i r k p at c calls few fewer = followed program what caller is i r (plain_naming program what p) (plain_is_of_file p) k p at (body_world k) (bodies_are_good program what k p covers unit lowers at c) calls few fewer
+  body_followed caller is i r k p at c calls few fewer = followed program what caller is i r (plain_naming program what p) (plain_is_of_file p) k p at (body_world k) (bodies_are_good program what k p unit lowers at c) calls few fewer
 
   -- what the bodies call, by those with lower numbers
   body_calls : (n k : ℕ) (p : Procedure) → k < n → slice_get program.procedures k ≡ Some p → counts program what k ≡ true → HasCalls program what (plain_naming program what p) k p (body_world k)

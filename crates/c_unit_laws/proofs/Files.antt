@@ -9,7 +9,6 @@ use Rattle.exo_meaning.specs.Run.{kinds_of}
 use Rattle.exo_meaning.specs.Units.{IsUnit}
 use Rattle.memory_kinds.specs.Faults.{fault_of}
 use Rattle.c_names.specs.Words.{Name, same_name, is_in}
-use Rattle.c_widths.specs.Raises.{RaisesCover}
 use Rattle.c_widths.specs.Few.{Fewness}
 use Rattle.c_machine.specs.CRun.{Behaviour, CWorld, globals_of, file_world}
 use Rattle.c_lowered.specs.LoweredUnit.{Printing, holes_of, routine_of, function_of, function_at, functions_of, is_listed, counts, name_of, printed_names, global_names, lowered}
@@ -64,7 +63,7 @@ function_there program globals [] (suc i) w e = absurd (none_some e)
 function_there program globals (v ∷ what) zero w e = ap (λ z. Some (function_at program globals (slice_get program.procedures z.proc))) (some_same e)
 function_there program globals (v ∷ what) (suc i) w e = function_there program globals what i w e
 
-module _ (program : Program) (what : List Printing) (covers : RaisesCover) (unit : IsUnit program) (lowers : AreLowered fault_of program what) (templates : ℕ → Option Behaviour) (does : TemplatesDoTheirBodies program what templates) where
+module _ (program : Program) (what : List Printing) (unit : IsUnit program) (lowers : AreLowered fault_of program what) (templates : ℕ → Option Behaviour) (does : TemplatesDoTheirBodies program what templates) where
   abbrev pub file_at : ℕ → CWorld
   file_at i = file_world (lowered program what) templates i
 
@@ -107,10 +106,10 @@ module _ (program : Program) (what : List Printing) (covers : RaisesCover) (unit
 
     called_instruction : (j : ℕ) (q : Procedure) (text : List ℕ) → calls j p.body ≡ true → j < w.proc → slice_get program.procedures j ≡ Some q → q.template ≡ Some text → counts program what w.proc ≡ true → Called j q (Some text)
     called_instruction j q text u b e t c =
-        let counted = called_counts program what covers unit lowers w.proc j p at c u in (
-          body_at program what covers unit lowers j q,
-          does j q text e t counted ∙ body_there program what covers unit lowers j q e,
-          bodies_followed program what covers unit lowers (naming_of program what p) (printed_is_of_file p) w.proc p j q e counted (Before w.proc j) (λ s h. few_above (kinds_of program.fields) program.procedures w.proc j q s b e h),
+        let counted = called_counts program what unit lowers w.proc j p at c u in (
+          body_at program what unit lowers j q,
+          does j q text e t counted ∙ body_there program what unit lowers j q e,
+          bodies_followed program what unit lowers (naming_of program what p) (printed_is_of_file p) w.proc p j q e counted (Before w.proc j) (λ s h. few_above (kinds_of program.fields) program.procedures w.proc j q s b e h),
         )
 
     called_function : (j : ℕ) (q : Procedure) → calls j p.body ≡ true → j < w.proc → slice_get program.procedures j ≡ Some q → q.template ≡ None → Earlier → Called j q None
@@ -120,7 +119,7 @@ module _ (program : Program) (what : List Printing) (covers : RaisesCover) (unit
         let own : slice_get program.procedures v.proc ≡ Some q = ap (slice_get program.procedures) l.is ∙ e in
         let first : l.at < i = printed_before l.at i v w l.there there (subst (λ z. z < w.proc) (sym l.is) b) in
         let few : (s : State) → Before w.proc j s → FewAt program what v.proc q s = λ s h. subst (λ z. FewAt program what z q s) (sym l.is) (few_above (kinds_of program.fields) program.procedures w.proc j q s b e h) in
-        let good = printed_procedures_are_good program what v.proc q covers unit lowers own (listed_here what l.at v l.there) in (
+        let good = printed_procedures_are_good program what v.proc q unit lowers own (listed_here what l.at v l.there) in (
           behaviour_of (printed_ground program what v.proc q) (file_at l.at) q,
           found_above (globals_of (lowered program what)) templates (lowered program what).functions i l.at (function_of (naming_of program what q) q) (functions_once program what lowers.named) first (printed_there l.at v q l.there own),
           subst (λ z. IsFollowed (printed_ground program what w.proc p) (Before w.proc j) (callee_of program what z q) (behaviour_of (printed_ground program what v.proc q) (file_at l.at) q) z) l.is

@@ -1,15 +1,15 @@
 -- The closed run.
-use Rattle.std.proofs.Common.{◌≡◌, ◌≢◌, ◌≤◌, ◌^◌, ◌==◌, ℕ, zero, suc, ℤ, pos, negsuc, ◌*ℤ◌, ◌+ℤ◌, ◌≤ℤ◌, Bool, true, false, ◌||◌, ◌&&◌, cond, List, [], ◌∷◌, length, Option, Some, None, refl, sym, ap, ◌∙◌, subst, arith, true≢false, eqb-true, nat_lt}
+use Rattle.std.proofs.Common.{◌≡◌, ◌^◌, ◌==◌, ℕ, ℤ, pos, ◌*ℤ◌, ◌+ℤ◌, ◌≤ℤ◌, Bool, true, false, ◌||◌, ◌&&◌, cond, List, [], ◌∷◌, Some, None, refl, sym, ap, ◌∙◌, subst, arith, true≢false, eqb-true, nat_lt}
 use Rattle.std.specs.Int.{int_wrap}
 use Rattle.std.proofs.lemmas.Int.{ints}
 use Rattle.exo_tree.specs.Tree.{I32}
-use Rattle.exo_meaning.specs.Value.{Value, Undefined, Number, wrap}
+use Rattle.exo_meaning.specs.Value.{Undefined, Number, wrap}
 use Rattle.exo_meaning.specs.Scene.{Shape, where_true, is_below, whole}
 use Rattle.exo_meaning.specs.Orders.{Each}
 use Rattle.exo_meaning.specs.Run.{product, tensor, program_world}
 use Rattle.exo_meaning.specs.Inputs.{IsValid, IsBetween, IsIndex, FitsCell, offset, is_buffer_of}
 use Rattle.c_names.specs.Words.{is_word}
-use Rattle.c_machine.specs.Machine.{Outcome, Done, Fault, NoStore, Machine}
+use Rattle.c_machine.specs.Machine.{Outcome, Machine}
 use Rattle.c_machine.specs.CRun.{run_file}
 use Rattle.c_lowered.specs.LoweredUnit.{is_used, lowered}
 use Rattle.c_lowered.specs.Examples.{copy8, vector_program}

@@ -11,7 +11,6 @@ use Rattle.exo_calls.specs.Closed.{closed}
 use Rattle.exo_calls.proofs.Reach.{seeds_are_closed, closed_is_closed}
 use Rattle.c_widths.specs.Laws.{EachTurn}
 use Rattle.c_widths.specs.Few.{Fewness, CallAllocatesFew, AllocatesFew, StatementAllocatesFew, one_of, no_fewness, fewness_from, fewness_of}
-use Rattle.c_machine.specs.Machine.{Machine}
 use Rattle.c_unit_laws.specs.Stores.{allocates, step_allocates, none_allocates, allocates_nothing, FilesWithoutAllocationsAreDone}
 use Rattle.c_unit_laws.proofs.Free.{or_false}
 use Rattle.c_unit_laws.proofs.Standing.{none_some, some_same, one_longer, get_taken, take_shorter, Stood, stood, calls_before}
@@ -141,7 +140,7 @@ module _ (program : Program) (k : ℕ) (unit : IsUnit program) (none : allocates
   nothing_is_few p e s = made_few (kinds_of program.fields) program.procedures k p s e (body_few (suc k) k p (omega arith) e (seeds_are_closed (λ q. true) (λ j. j == k) program.procedures k (own_number k)) s)
 
 pub files_without_allocations_are_done : FilesWithoutAllocationsAreDone
-files_without_allocations_are_done program what at w p layout templates s t ts m covers unit lowers there at_p none does valid start ends =
-    let well = files_follow covers program what at w p layout templates s t ts m unit lowers there at_p does valid start ends in
+files_without_allocations_are_done program what at w p layout templates s t ts m unit lowers there at_p none does valid start ends =
+    let well = files_follow program what at w p layout templates s t ts m unit lowers there at_p does valid start ends in
     let done = well.done (nothing_is_few program w.proc unit none p at_p s) in
     (done.0, done.1, well.leaves done.0 done.1)

@@ -12,8 +12,9 @@ use Rattle.exo_calls.proofs.Reach.{seeds_are_closed}
 use Rattle.memory_kinds.specs.Homes.{param_homes}
 use Rattle.memory_kinds.specs.Faults.{fault_of, params_fault, block_fault, procedure_fault}
 use Rattle.c_names.specs.Binders.{all_binders, param_binders, binders_in, c_names, name_in}
+use Rattle.c_widths.proofs.Covered.{raises_cover}
 use Rattle.c_widths.specs.Widths.{have_narrow_dims, are_narrow_tests, is_narrow_block, fits_cells, fits_stack}
-use Rattle.c_widths.specs.Raises.{RaisesCover, IsCovered, Raises, most_at, given_to, memories_for}
+use Rattle.c_widths.specs.Raises.{IsCovered, Raises, most_at, given_to, memories_for}
 use Rattle.c_lowered.specs.Lowered.{Naming, without_lanes, param_forms}
 use Rattle.c_lowered.specs.LoweredUnit.{Printing, routine_of, field_name, named_field, in_block, in_conditions, is_listed, counts, is_used, global_names}
 use Rattle.c_follows.specs.Simulation.{Ground}
@@ -41,7 +42,7 @@ distinct_of [] h = tt
 distinct_of (p ∷ ps) h = (h.0, distinct_of ps h.1)
 
 -- what holds in any naming of a procedure of the unit
-module _ (program : Program) (what : List Printing) (covers : RaisesCover) (unit : IsUnit program) (lowers : AreLowered fault_of program what) where
+module _ (program : Program) (what : List Printing) (unit : IsUnit program) (lowers : AreLowered fault_of program what) where
   abbrev fields : ℕ → Option Kind
   fields = field_kind program.fields
 
@@ -138,7 +139,7 @@ module _ (program : Program) (what : List Printing) (covers : RaisesCover) (unit
       inside = params_in p.params [] all tt params_there
 
       covered : IsCovered given most p.body
-      covered = covers program.procedures (counts program what) k p at counted (λ j e. calls_before program.fields memories program.procedures k j p unit.procedures at e)
+      covered = raises_cover program.procedures (counts program what) k p at counted (λ j e. calls_before program.fields memories program.procedures k j p unit.procedures at e)
 
       good_body : IsGoodBlock g (param_forms p.params) most p.body
       good_body =
@@ -200,10 +201,10 @@ module _ (program : Program) (what : List Printing) (covers : RaisesCover) (unit
             clear_params program.memories known_memories naming (λ i. refl) q.params (no_fault j q there e).0
 
 pub bodies_are_good : BodiesAreGood
-bodies_are_good program what k p covers unit lowers at counted =
-    good_procedure program what covers unit lowers k p at counted (plain_naming program what p) (memories_for (is_listed what k) program.memories) (plain_naming_is program what covers unit lowers k p at counted)
+bodies_are_good program what k p unit lowers at counted =
+    good_procedure program what unit lowers k p at counted (plain_naming program what p) (memories_for (is_listed what k) program.memories) (plain_naming_is program what unit lowers k p at counted)
 
 pub printed_procedures_are_good : PrintedProceduresAreGood
-printed_procedures_are_good program what k p covers unit lowers at l =
+printed_procedures_are_good program what k p unit lowers at l =
     let counted = seeds_are_closed (λ q. true) (is_listed what) program.procedures k l in
-    good_procedure program what covers unit lowers k p at counted (naming_of program what p) program.memories (printed_naming_is program what covers unit lowers k p at counted l)
+    good_procedure program what unit lowers k p at counted (naming_of program what p) program.memories (printed_naming_is program what unit lowers k p at counted l)

@@ -12,7 +12,7 @@ use Rattle.meaning_laws.proofs.Grown.{grown_law}
 use Rattle.meaning_laws.proofs.WellFormed.{calls_are_below}
 use Rattle.exo_calls.proofs.Reach.{seeds_are_closed}
 use Rattle.memory_kinds.specs.Faults.{fault_of}
-use Rattle.c_widths.specs.Raises.{RaisesCover, given_to}
+use Rattle.c_widths.specs.Raises.{given_to}
 use Rattle.c_widths.specs.Few.{fewness_of}
 use Rattle.c_machine.specs.Machine.{Outcome, Done, Fault, NoStore, Thing, Machine}
 use Rattle.c_machine.specs.CRun.{Behaviour, behaviour, run_in_place, run_file}
@@ -74,14 +74,14 @@ valid_above program k p s v = record {
   defined = v.defined;
 }
 
-module _ (program : Program) (what : List Printing) (covers : RaisesCover) (unit : IsUnit program) (lowers : AreLowered fault_of program what) (templates : ℕ → Option Behaviour) (does : TemplatesDoTheirBodies program what templates) where
+module _ (program : Program) (what : List Printing) (unit : IsUnit program) (lowers : AreLowered fault_of program what) (templates : ℕ → Option Behaviour) (does : TemplatesDoTheirBodies program what templates) where
   listed_counts : (i : ℕ) (w : Printing) → slice_get what i ≡ Some w → counts program what w.proc ≡ true
   listed_counts i w e = seeds_are_closed (λ q. true) (is_listed what) program.procedures w.proc (listed_here what i w e)
 
   -- what the functions of a file call is followed, by those before them
-  file_calls : (n i : ℕ) (w : Printing) (p : Procedure) → i < n → slice_get what i ≡ Some w → slice_get program.procedures w.proc ≡ Some p → HasCalls program what (naming_of program what p) w.proc p (file_at program what covers unit lowers templates does i)
+  file_calls : (n i : ℕ) (w : Printing) (p : Procedure) → i < n → slice_get what i ≡ Some w → slice_get program.procedures w.proc ≡ Some p → HasCalls program what (naming_of program what p) w.proc p (file_at program what unit lowers templates does i)
   file_calls zero i w p b there at = absurd (omega (arith, b))
-  file_calls (suc n) i w p b there at = calls_here program what covers unit lowers templates does i w p there at (listed_counts i w there) (λ l v q c e f. file_calls n l v q (omega (arith, b, c)) e f)
+  file_calls (suc n) i w p b there at = calls_here program what unit lowers templates does i w p there at (listed_counts i w there) (λ l v q c e f. file_calls n l v q (omega (arith, b, c)) e f)
 
   module _ (i : ℕ) (w : Printing) (p : Procedure) (layout : Layout) (s : State) (ts : List Thing) (m : Machine) (there : slice_get what i ≡ Some w) (at : slice_get program.procedures w.proc ≡ Some p) (valid : IsValid (program_world program) p s) (start : IsSameStart program what p layout s ts m) where
     abbrev g : Ground
@@ -91,20 +91,20 @@ module _ (program : Program) (what : List Printing) (covers : RaisesCover) (unit
     Leaves = LeavesTheSame (naming_of program what p) (declared_in program what) layout s m
 
     good : IsGoodProcedure g (bounds_in program what w.proc) (world_above program w.proc) p
-    good = printed_procedures_are_good program what w.proc p covers unit lowers at (listed_here what i w there)
+    good = printed_procedures_are_good program what w.proc p unit lowers at (listed_here what i w there)
 
     small : AreSmall s (bounds_in program what w.proc) p.params
-    small = subst (λ o. AreSmall s (bounds_by program (counts program what) w.proc o) p.params) (sym at) (small_params s p.params (given_to program.procedures (counts program what) w.proc) (distinct program what covers unit lowers w.proc p at) valid.bounded)
+    small = subst (λ o. AreSmall s (bounds_by program (counts program what) w.proc o) p.params) (sym at) (small_params s p.params (given_to program.procedures (counts program what) w.proc) (distinct program what unit lowers w.proc p at) valid.bounded)
 
-    follows : Follows (FewAt program what w.proc p s) Leaves (run_procedure (world_above program w.proc) p s) (run_in_place (file_at program what covers unit lowers templates does i) (Some (behaviour_of g (file_at program what covers unit lowers templates does i) p)) ts m)
-    follows = functions_follow g (bounds_in program what w.proc) layout (world_above program w.proc) (kinds_of program.fields) (take w.proc program.procedures) (file_at program what covers unit lowers templates does i) p s ts m
+    follows : Follows (FewAt program what w.proc p s) Leaves (run_procedure (world_above program w.proc) p s) (run_in_place (file_at program what unit lowers templates does i) (Some (behaviour_of g (file_at program what unit lowers templates does i) p)) ts m)
+    follows = functions_follow g (bounds_in program what w.proc) layout (world_above program w.proc) (kinds_of program.fields) (take w.proc program.procedures) (file_at program what unit lowers templates does i) p s ts m
         (file_calls (suc i) i w p (omega arith) there at)
         (record { fields = field_global program what lowers.named; functions = function_global program what lowers.named; named = good.named; distinct = good.distinct })
         good.params good.body good.may good.apart (valid_above program w.proc p s valid)
         (record { arguments = start.arguments; fields = start.fields; separate = start.separate; small = small })
 
-    file_runs : run_file (lowered program what) templates i ts m ≡ run_in_place (file_at program what covers unit lowers templates does i) (Some (behaviour_of g (file_at program what covers unit lowers templates does i) p)) ts m
-    file_runs = ap (λ o. run_in_place (file_at program what covers unit lowers templates does i) (option_map (behaviour (file_at program what covers unit lowers templates does i)) o) ts m) (printed_there program what covers unit lowers templates does i w p there at)
+    file_runs : run_file (lowered program what) templates i ts m ≡ run_in_place (file_at program what unit lowers templates does i) (Some (behaviour_of g (file_at program what unit lowers templates does i) p)) ts m
+    file_runs = ap (λ o. run_in_place (file_at program what unit lowers templates does i) (option_map (behaviour (file_at program what unit lowers templates does i)) o) ts m) (printed_there program what unit lowers templates does i w p there at)
 
     run_is : run_procedure (program_world program) p s ≡ run_procedure (world_above program w.proc) p s
     run_is = ap (λ r. where_true (all_have_extents s.scene p.params) (r s)) (same_run program w.proc p unit at)
@@ -117,5 +117,5 @@ module _ (program : Program) (what : List Printing) (covers : RaisesCover) (unit
         (subst (Follows (fewness_of program w.proc s) Leaves (run_procedure (world_above program w.proc) p s)) (sym file_runs) less))
 
 pub files_follow : FilesFollow
-files_follow covers program what i w p layout templates s t ts m unit lowers there at does valid start ends_at =
-    ends program what covers unit lowers templates does i w p layout s ts m there at valid start t ends_at
+files_follow program what i w p layout templates s t ts m unit lowers there at does valid start ends_at =
+    ends program what unit lowers templates does i w p layout s ts m there at valid start t ends_at

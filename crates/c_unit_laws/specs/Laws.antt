@@ -5,7 +5,6 @@ use Rattle.exo_meaning.specs.Run.{World}
 use Rattle.exo_meaning.specs.Units.{IsUnit}
 use Rattle.inplace_laws.specs.CallInPlace.{AreDistinct}
 use Rattle.memory_kinds.specs.Faults.{fault_of}
-use Rattle.c_widths.specs.Raises.{RaisesCover}
 use Rattle.c_lowered.specs.Lowered.{param_forms}
 use Rattle.c_lowered.specs.LoweredUnit.{Printing, is_listed, counts}
 use Rattle.c_follows.specs.Simulation.{Ground}
@@ -14,7 +13,8 @@ use Rattle.c_follows.specs.Units.{AreLowered, UnitsFollow}
 use Rattle.c_unit_laws.specs.Grounds.{world_above, bounds_in, printed_ground, plain_ground}
 
 -- What the laws on functions and blocks ask of a procedure and its names in the C.
-pub record IsGoodProcedure (g : Ground) (most : ℕ → ℕ) (world : World) (p : Procedure) : Type 0 where
+pub record IsGoodProcedure (g : Ground) (most : ℕ → ℕ) (world : World)
+    (p : Procedure) : Type 0 where
   pub named : AreNamedApart g (param_forms p.params)
   pub distinct : AreDistinct p.params
   pub params : AreGoodParams (param_forms p.params) most p.params
@@ -26,7 +26,6 @@ pub record IsGoodProcedure (g : Ground) (most : ℕ → ℕ) (world : World) (p 
 abbrev pub PrintedProceduresAreGood : Type 0
 PrintedProceduresAreGood =
     (program : Program) (what : List Printing) (k : ℕ) (p : Procedure)
-    → RaisesCover
     → IsUnit program
     → AreLowered fault_of program what
     → slice_get program.procedures k ≡ Some p
@@ -38,7 +37,6 @@ PrintedProceduresAreGood =
 abbrev pub BodiesAreGood : Type 0
 BodiesAreGood =
     (program : Program) (what : List Printing) (k : ℕ) (p : Procedure)
-    → RaisesCover
     → IsUnit program
     → AreLowered fault_of program what
     → slice_get program.procedures k ≡ Some p
@@ -46,6 +44,7 @@ BodiesAreGood =
     → IsGoodProcedure (plain_ground program what k p) (bounds_in program what k)
     (world_above program k) p
 
--- From the same valid input a call of a function of the file ends well where its procedure does not fault.
+-- From the same valid input a call of a function of the file ends well where its procedure does not
+-- fault: it does not fault, leaves the same where it is done, and is done where no allocation is large.
 abbrev pub FilesFollow : Type 0
-FilesFollow = RaisesCover → UnitsFollow fault_of
+FilesFollow = UnitsFollow fault_of

@@ -2,7 +2,7 @@
 use Rattle.std.specs.Prelude.{◌≡◌, ◌==◌, ℕ, ℤ, pos, false, if◌then◌else◌, List, [], ◌∷◌, Option, Some, None, slice_get}
 use Rattle.std.specs.Option.{IsSome}
 use Rattle.exo_tree.specs.Tree.{I32}
-use Rattle.exo_meaning.specs.Value.{Value, Undefined, Number}
+use Rattle.exo_meaning.specs.Value.{Undefined, Number}
 use Rattle.exo_meaning.specs.Scene.{whole}
 use Rattle.exo_meaning.specs.State.{State}
 use Rattle.exo_meaning.specs.Run.{tensor, program_world}

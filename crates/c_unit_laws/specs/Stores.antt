@@ -7,7 +7,6 @@ use Rattle.exo_meaning.specs.Inputs.{IsValid, run_procedure}
 use Rattle.exo_meaning.specs.Units.{IsUnit}
 use Rattle.exo_calls.specs.Closed.{closed}
 use Rattle.memory_kinds.specs.Faults.{fault_of}
-use Rattle.c_widths.specs.Raises.{RaisesCover}
 use Rattle.c_machine.specs.Machine.{Done, Thing, Machine}
 use Rattle.c_machine.specs.CRun.{Behaviour, run_file}
 use Rattle.c_lowered.specs.LoweredUnit.{Printing, lowered}
@@ -43,14 +42,13 @@ abbrev pub allocates_nothing : Program → ℕ → Bool
 allocates_nothing program k =
     none_allocates (closed (λ p. true) (λ j. j == k) 0 program.procedures) 0 program.procedures
 
--- From the same valid input a call of a function of the file that allocates nothing is done where its procedure does not
--- fault, and leaves the same.
+-- From the same valid input a call of a function of the file that allocates nothing is done where
+-- its procedure does not fault, and leaves the same.
 abbrev pub FilesWithoutAllocationsAreDone : Type 0
 FilesWithoutAllocationsAreDone =
     (program : Program) (what : List Printing) (at : ℕ) (w : Printing) (p : Procedure)
     (layout : Layout) (templates : ℕ → Option Behaviour)
     (s t : State) (ts : List Thing) (m : Machine)
-    → RaisesCover
     → IsUnit program
     → AreLowered fault_of program what
     → slice_get what at ≡ Some w

@@ -10,7 +10,8 @@ pub fn printed_procedures_are_good()
     ensures { PrintedProceduresAreGood }
 {}
 
-/// So does the body of each procedure that is printed or called, with cells alone and each call in place.
+/// So does the body of each procedure that is printed or called, with cells alone and each call
+/// in place.
 pub fn bodies_are_good()
     ensures { BodiesAreGood }
 {}
