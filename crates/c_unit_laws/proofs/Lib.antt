@@ -27,3 +27,4 @@ pub mod Files
 pub mod UnitsFollow
 pub mod Stores
 pub mod Runs
+pub mod Listings

@@ -1,5 +1,6 @@
 pub mod Grounds
 pub mod Laws
 pub mod Stores
+pub mod Listings
 pub mod Instance
 pub mod Runs

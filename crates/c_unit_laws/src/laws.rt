@@ -1,6 +1,7 @@
 //! Laws of the C of units, each the contract of a function with nothing to do.
 
 ghost use Rattle.c_unit_laws.specs.Laws.{PrintedProceduresAreGood, BodiesAreGood, FilesFollow};
+ghost use Rattle.c_unit_laws.specs.Listings.{PrintingsAreListings, EmittedArePrinted};
 ghost use Rattle.c_unit_laws.specs.Stores.{FilesWithoutAllocationsAreDone};
 ghost use Rattle.c_unit_laws.specs.Instance.{ColumnsHaveC, VectorsHaveC};
 ghost use Rattle.c_unit_laws.specs.Runs.{VectorsRun};
@@ -24,6 +25,16 @@ pub fn files_follow()
 /// A call of a function that allocates nothing, and calls nothing that does, is done.
 pub fn files_without_allocations_are_done()
     ensures { FilesWithoutAllocationsAreDone }
+{}
+
+/// What a file prints is in the order of the unit, with all functions that it calls.
+pub fn printings_are_listings()
+    ensures { PrintingsAreListings }
+{}
+
+/// Each emitted function is printed.
+pub fn emitted_are_printed()
+    ensures { EmittedArePrinted }
 {}
 
 /// A unit with a call that hands on a column has a C.
