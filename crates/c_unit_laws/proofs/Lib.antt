@@ -28,3 +28,4 @@ pub mod UnitsFollow
 pub mod Stores
 pub mod Runs
 pub mod Listings
+pub mod ColumnRun

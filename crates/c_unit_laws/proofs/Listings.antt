@@ -1,14 +1,12 @@
 -- What a file prints is a listing.
-use Rattle.std.proofs.Common.{◌≡◌, ◌<◌, ◌≤◌, ◌+◌, ◌==◌, ℕ, zero, suc, Bool, true, false, ◌&&◌, ◌||◌, cond, List, [], ◌∷◌, length, Option, Some, None, refl, sym, ap, ◌∙◌, subst, arith, true≢false, eq-eqb, slice_get}
+use Rattle.std.proofs.Common.{◌≡◌, ◌<◌, ◌+◌, ℕ, zero, suc, Bool, true, false, ◌&&◌, ◌||◌, cond, List, [], ◌∷◌, length, Option, Some, None, refl, sym, ap, ◌∙◌, subst, arith, true≢false, eq-eqb, slice_get}
 use Rattle.std.proofs.lemmas.Bool.{and_parts, and_from}
-use Rattle.exo_tree.specs.Tree.{Procedure, Program}
+use Rattle.exo_tree.specs.Tree.{Procedure}
 use Rattle.exo_tree.specs.Calls.{calls}
-use Rattle.exo_meaning.specs.Units.{IsUnit}
 use Rattle.exo_calls.specs.Closed.{closed}
 use Rattle.exo_calls.specs.Passed.{is_function}
 use Rattle.exo_calls.proofs.Reach.{seeds_are_closed, closed_is_closed}
 use Rattle.c_lowered.specs.LoweredUnit.{Printing, is_listed}
-use Rattle.c_follows.specs.Units.{IsListing}
 use Rattle.c_unit_laws.specs.Listings.{printings_from, printings, PrintingsAreListings, EmittedArePrinted}
 use Rattle.c_unit_laws.proofs.Standing.{none_some, some_same, calls_before}
 

@@ -44,7 +44,8 @@ BodiesAreGood =
     → IsGoodProcedure (plain_ground program what k p) (bounds_in program what k)
     (world_above program k) p
 
--- From the same valid input a call of a function of the file ends well where its procedure does not
--- fault: it does not fault, leaves the same where it is done, and is done where no allocation is large.
+-- From the same valid input a call of a function of the file ends well where its procedure does
+-- not fault: it does not fault, leaves the same where it is done, and is done where no allocation
+-- is large.
 abbrev pub FilesFollow : Type 0
 FilesFollow = UnitsFollow fault_of

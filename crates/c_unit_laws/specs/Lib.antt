@@ -4,3 +4,4 @@ pub mod Stores
 pub mod Listings
 pub mod Instance
 pub mod Runs
+pub mod ColumnRun

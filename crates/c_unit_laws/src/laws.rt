@@ -5,6 +5,7 @@ ghost use Rattle.c_unit_laws.specs.Listings.{PrintingsAreListings, EmittedArePri
 ghost use Rattle.c_unit_laws.specs.Stores.{FilesWithoutAllocationsAreDone};
 ghost use Rattle.c_unit_laws.specs.Instance.{ColumnsHaveC, VectorsHaveC};
 ghost use Rattle.c_unit_laws.specs.Runs.{VectorsRun};
+ghost use Rattle.c_unit_laws.specs.ColumnRun.{ColumnsRun, PrintingsAreComputed};
 
 /// Each printed procedure of a unit that has a C meets what the laws on functions and blocks ask.
 pub fn printed_procedures_are_good()
@@ -50,4 +51,14 @@ pub fn vectors_have_c()
 /// A call of a function that copies by instructions meets what the law on files asks, and is done.
 pub fn vectors_run()
     ensures { VectorsRun }
+{}
+
+/// A call of a function that hands on a column meets what the laws on files ask, and is done.
+pub fn columns_run()
+    ensures { ColumnsRun }
+{}
+
+/// What is printed where a function is emitted.
+pub fn printings_are_computed()
+    ensures { PrintingsAreComputed }
 {}
