@@ -2,10 +2,13 @@
 //! they are surely written.
 #![tactic(auto)]
 
+mod fields;
+mod named;
 mod place;
-mod surely;
 mod table;
 mod walk;
+mod way;
 
+pub use fields::FieldList;
 pub use place::{Side, live};
-pub use table::LiveTable;
+pub use table::{CallFields, LiveTable};
