@@ -1,6 +1,6 @@
 -- From a way to the end of a body to what is live at its beginning.
 use Rattle.std.proofs.Common.{◌≡◌, ◌<◌, ℕ, zero, suc, Bool, true, false, ◌&&◌, ◌||◌, nat_lt, List, [], ◌∷◌, length}
-use Rattle.std.proofs.Common.{Option, Some, None, refl, sym, ap, ap₂, ◌∙◌, arith}
+use Rattle.std.proofs.Common.{Option, Some, None, refl, sym, ap, ap₂, ◌∙◌, subst, arith}
 use Rattle.std.specs.Prelude.{not}
 use Rattle.exo_tree.specs.Tree.{Block, Procedure}
 use Rattle.exo_tree.specs.Places.{Branch, Main, Else, Step, Path, Opened, opened_in, opened}
@@ -13,7 +13,7 @@ use Rattle.config_live.specs.declared.table.LiveTable.{LiveTable}
 use Rattle.config_live.specs.declared.way.Way.{Way}
 use Rattle.config_live.specs.Tables.{reads_first, writes_surely, calls_in}
 use Rattle.config_live.specs.Ways.{IsStart}
-use Rattle.config_live.specs.Places.{live_from, Reaches}
+use Rattle.config_live.specs.Places.{place_in, live_from, Reaches, Arrives}
 use Rattle.config_live.proofs.Truths.{and_all}
 use Rattle.config_live.proofs.Units.{behind_same, by_table}
 
@@ -48,16 +48,6 @@ not_both false = refl
 abbrev live_there : List Procedure → ℕ → Option Opened → Bool
 live_there ps f x = elim x [ None ↦ false | Some o ↦ is_live ps f o ]
 
-pub else_is_dead : (ps : List Procedure) (n : ℕ) (b : Block) (s : Step) (path : Path) (side : Side) (f : ℕ)
-    → s.branch ≡ Else → false ≡ (nat_lt f n && live_from ps b (s ∷ path) side f)
-else_is_dead ps n b s path side f e =
-    not_both (nat_lt f n)
-    ∙ ap (λ x. nat_lt f n && live_there ps f x) (sym (gap_else s path side b e))
-
-pub none_is_dead : (ps : List Procedure) (n : ℕ) (b : Block) (side : Side) (f : ℕ)
-    → false ≡ (nat_lt f n && live_from ps b [] side f)
-none_is_dead ps n b side f = not_both (nat_lt f n)
-
 module _ (ps : List Procedure) (n : ℕ) (table : LiveTable)
     (r : (k f : ℕ) → f < n → reads_first table k f ≡ unit_live ps k f false)
     (w : (k f : ℕ) → f < n → writes_surely table k f ≡ unit_surely ps k f) where
@@ -88,12 +78,31 @@ module _ (ps : List Procedure) (n : ℕ) (table : LiveTable)
           (λ k out. by_table ps n (reads_first table) (writes_surely table) r w k f out l)
           o.piece o.around false
 
-  pub live_is : (b : Block) (s : Step) (path : Path) (side : Side) (found : Bool) (old new : Way)
-      (has : List ℕ) (f : ℕ)
-      → s.branch ≡ Main
+  pub live_is : (b : Block) (path : Path) (side : Side) (found : Bool) (old new : Way) (f : ℕ)
       → IsStart n old
-      → Reaches table (opened_in 0 (gap (s ∷ path) side) b) found old new [] has
-      → (found && contains new.read f) ≡ (nat_lt f n && live_from ps b (s ∷ path) side f)
-  live_is b s path side found old new has f e start h =
-      found_or_not (opened_in 0 (gap (s ∷ path) side) b) found old new has f start h
-      ∙ ap (λ x. nat_lt f n && live_there ps f x) (sym (gap_main s path side b e))
+      → Arrives table (place_in b path side) found old new
+      → (found && contains new.read f) ≡ (nat_lt f n && live_from ps b path side f)
+  live_is b path side found old new f start h =
+      found_or_not (place_in b path side) found old new h.0 f start h.1
+
+-- ---- the first step of a path
+
+pub arrive_main : (table : LiveTable) (s : Step) (path : Path) (side : Side) (b : Block)
+    (found : Bool) (old new : Way) (has : List ℕ)
+    → s.branch ≡ Main
+    → Reaches table (opened_in 0 (gap (s ∷ path) side) b) found old new [] has
+    → Arrives table (place_in b (s ∷ path) side) found old new
+arrive_main table s path side b found old new has e h =
+    (has, subst (λ x. Reaches table x found old new [] has) (sym (gap_main s path side b e)) h)
+
+pub arrive_else : (table : LiveTable) (s : Step) (path : Path) (side : Side) (b : Block) (way : Way)
+    → s.branch ≡ Else
+    → Arrives table (place_in b (s ∷ path) side) false way way
+arrive_else table s path side b way e =
+    ([], subst (λ x. Reaches table x false way way [] []) (sym (gap_else s path side b e)) refl)
+
+pub arrive_none : (table : LiveTable) (path : Path) (side : Side) (b : Block) (way : Way)
+    → path ≡ []
+    → Arrives table (place_in b path side) false way way
+arrive_none table path side b way e =
+    ([], subst (λ p. Reaches table (place_in b p side) false way way [] []) (sym e) refl)

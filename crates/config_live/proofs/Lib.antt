@@ -3,6 +3,7 @@ pub mod Listed
 pub mod Ways
 pub mod Loops
 pub mod Statements
+pub mod Branches
 pub mod Openings
 pub mod Units
 pub mod Answer

@@ -97,14 +97,14 @@ module _ (table : LiveTable) where
       (reads_goes (reads_over a) (λ f. reads_over b f || false) write one two new had has k.went
       (reads_goes (reads_over b) nothing write two three new had has j.went w))))
 
-  pub for_by : (i : Binder) (lo hi : Control) (b : Block) (old mid new : Way) (had list : List ℕ)
+  pub for_by : (i : Binder) (lo hi : Control) (b : Block) (old mid new : Way) (had : List ℕ)
       → Went (λ f. named_in f (For i lo hi b)) nothing old mid
-      → Branches table b mid new list
+      → Went (reads_over b) nothing mid new
       → GoesBy table (For i lo hi b) old new had had
-  for_by i lo hi b old mid new had list h k =
+  for_by i lo hi b old mid new had h k =
       went_goes (λ f. (read_by_control f lo || read_by_control f hi) || reads_over b f) old new had
       (reads_then (λ f. read_by_control f lo || read_by_control f hi) (reads_over b) nothing
-      old mid new h k.went)
+      old mid new h k)
 
   pub call_by : (p : ℕ) (args : List Argument) (old mid new : Way) (had has : List ℕ)
       → Went (λ f. named_in f (Call p args)) nothing old mid
@@ -181,14 +181,14 @@ module _ (table : LiveTable) where
       (subst (λ z. Went (λ f. named_in f z) nothing old one) e h) k j w)
 
   pub for_at : (s : Statement) (i : Binder) (lo hi : Control) (b : Block) (old mid new : Way)
-      (had list : List ℕ)
+      (had : List ℕ)
       → s ≡ For i lo hi b
       → Went (λ f. named_in f s) nothing old mid
-      → Branches table b mid new list
+      → Went (reads_over b) nothing mid new
       → GoesBy table s old new had had
-  for_at s i lo hi b old mid new had list e h k =
+  for_at s i lo hi b old mid new had e h k =
       subst (λ z. GoesBy table z old new had had) (sym e)
-      (for_by i lo hi b old mid new had list
+      (for_by i lo hi b old mid new had
       (subst (λ z. Went (λ f. named_in f z) nothing old mid) e h) k)
 
   pub call_at : (s : Statement) (p : ℕ) (args : List Argument) (old mid new : Way)

@@ -1,5 +1,5 @@
 -- Fields of calls, from the beginning of a procedure.
-use Rattle.std.specs.Prelude.{◌≡◌, ◌<◌, ◌||◌, ℕ, Bool, false}
+use Rattle.std.specs.Prelude.{◌≡◌, ◌<◌, ◌||◌, ◌++◌, ℕ, Bool, false, [], ◌∷◌}
 use Rattle.exo_tree.specs.Tree.{Procedure}
 use Rattle.meaning_laws.specs.UnitFields.{read_by_params, read_by_conditions, live_before}
 use Rattle.config_laws.specs.FieldRule.{is_listed}
@@ -24,3 +24,10 @@ pub record AreFields (n : ℕ) (table : LiveTable) (p : Procedure) (c : CallFiel
 abbrev pub CallsFrom : LiveTable → Procedure → Way → Way → CallFields → Type 0
 CallsFrom table p old new c =
     (n : ℕ) → IsStart n old → AreFields n table p c × IsStart n new
+
+-- an entry more
+pub record Adds
+    (table : LiveTable) (p : Procedure) (old new : Way) (longer : LiveTable) : Type 0 where
+  pub entry : CallFields
+  pub last : longer.calls.items ≡ table.calls.items ++ entry ∷ []
+  pub calls : CallsFrom table p old new entry

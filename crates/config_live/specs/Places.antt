@@ -23,11 +23,14 @@ abbrev pub index_beside : rule.Side → ℕ → ℕ
 index_beside rule.Before k = k
 index_beside rule.Behind k = k + 1
 
--- beside the statement at a path, where no field is live at the end of the body;
--- at a place that is not there none is live
+-- beside the statement at a path
+abbrev pub place_in : Block → Path → rule.Side → Option Opened
+place_in body [] side = None
+place_in body (s ∷ path) side = opened 0 (gap (s ∷ path) side) body
+
+-- where no field is live at the end of the body; at a place that is not there none is live
 abbrev pub live_from : List Procedure → Block → Path → rule.Side → ℕ → Bool
-live_from ps body [] side f = false
-live_from ps body (s ∷ path) side f = elim (opened 0 (gap (s ∷ path) side) body) [
+live_from ps body path side f = elim (place_in body path side) [
   | None ↦ false
   | Some o ↦ is_live ps f o
 ]
@@ -67,3 +70,7 @@ Reaches table (Some o) found old new had has =
     (found ≡ true)
     × Goes (λ f. live_behind (calls_in table) f o.piece o.around false)
     (λ f. surely_behind (writes_surely table) f o.around) old new had has
+
+-- the same, where nothing was listed before
+abbrev pub Arrives : LiveTable → Option Opened → Bool → Way → Way → Type 0
+Arrives table o found old new = (has : List ℕ) × Reaches table o found old new [] has

@@ -16,7 +16,8 @@ GoesOver table b =
 
 abbrev pub GoesBy : LiveTable → Statement → Way → Way → List ℕ → List ℕ → Type 0
 GoesBy table a =
-    Goes (λ f. live_step (calls_in table) f a false) (λ f. step_surely_writes (writes_surely table) f a)
+    Goes (λ f. live_step (calls_in table) f a false)
+    (λ f. step_surely_writes (writes_surely table) f a)
 
 -- over a block that may not run; the list has what it newly writes
 pub record Branches (table : LiveTable) (b : Block) (old new : Way) (list : List ℕ) : Type 0 where
@@ -26,7 +27,8 @@ pub record Branches (table : LiveTable) (b : Block) (old new : Way) (list : List
       → is_listed f list ≡ (surely_writes (writes_surely table) f b && not (contains old.written f))
 
 -- the same; the list has what is in the first one and written behind the block
-pub record Meets (table : LiveTable) (b : Block) (first : List ℕ) (old new : Way) (list : List ℕ) : Type 0 where
+pub record Meets
+    (table : LiveTable) (b : Block) (first : List ℕ) (old new : Way) (list : List ℕ) : Type 0 where
   pub went : Went (λ f. live (calls_in table) f b false) nothing old new
   pub both :
       (f : ℕ) → IsField old f

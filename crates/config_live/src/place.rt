@@ -8,11 +8,11 @@ ghost use Rattle.exo_tree.specs.PlainUnit.{program};
 ghost use Rattle.config_laws.specs.FieldRule.{gap};
 ghost use Rattle.config_live.specs.Tables.{calls_in, IsLiveTable};
 ghost use Rattle.config_live.specs.Ways.{nothing, Went};
-ghost use Rattle.config_live.specs.Places.{side_taken, index_beside, live_in, live_in_next_turn, Leaves, Reaches};
+ghost use Rattle.config_live.specs.Places.{side_taken, index_beside, live_in, live_in_next_turn, place_in, Leaves, Reaches, Arrives};
 
 use crate::fields::FieldList;
 use crate::table::LiveTable;
-use crate::walk::{branch, go};
+use crate::walk::{go, turn};
 use crate::way::Way;
 use exo_tree::{Block, Branch, FieldId, Path, ProcId, Step, Stmt, Unit};
 use std::alloc::{AllocError, Global};
@@ -60,10 +60,10 @@ fn reach_last(
 fn next_turn(alloc: Global, s: &Stmt, table: &LiveTable, way: &mut Way) -> Result<(), AllocError>
     ensures { OnOk result (Went (λ f. live_in_next_turn (calls_in table.now) f (statement s.now)) nothing way.old way.new) }
 {
-    if let Stmt::For(_, _, _, body) = s {
-        branch(alloc, body, table, way)?;
+    match s {
+        Stmt::For(_, _, _, body) => turn(alloc, body, table, way),
+        _ => Ok(()),
     }
-    Ok(())
 }
 
 /// Goes on from a statement of a block, in which a way has come to the end of a branch, to the end
@@ -116,6 +116,30 @@ fn reach(
     Ok(true)
 }
 
+/// Goes on from beside the statement at a path to the end of a body; false exactly where the path
+/// leads nowhere.
+fn go_from(
+    alloc: Global,
+    body: &Block,
+    path: &Path,
+    side: Side,
+    table: &LiveTable,
+    way: &mut Way,
+) -> Result<bool, AllocError>
+    ensures { IfOk result (λ found. Arrives table.now (place_in (block body.now) path.now (side_taken side)) found way.old way.new) }
+{
+    let Some((step, rest)) = path.as_slice().split_first() else {
+        return Ok(false);
+    };
+    match step.branch {
+        Branch::Main => {
+            let mut added = FieldList::new(alloc);
+            reach(alloc, body, *step, rest, side, table, way, &mut added)
+        }
+        Branch::Else => Ok(false),
+    }
+}
+
 /// Whether a field is live beside the statement at a path: whether it may be read from there on
 /// before it is surely written. No field is live at the end of a procedure, nor at a place that is
 /// not there; a field that the unit has not is live nowhere. Before the index behind the last
@@ -136,25 +160,7 @@ pub fn live(
     let Some(found) = unit.procs.get(p.0 as usize) else {
         return Ok(false);
     };
-    let Some((step, rest)) = path.as_slice().split_first() else {
-        return Ok(false);
-    };
-    match step.branch {
-        Branch::Main => {
-            let mut way = Way::new(alloc, unit.fields.len())?;
-            let mut added = FieldList::new(alloc);
-            let there = reach(
-                alloc,
-                &found.body,
-                *step,
-                rest,
-                side,
-                table,
-                &mut way,
-                &mut added,
-            )?;
-            Ok(there && way.read.contains(f.0 as usize))
-        }
-        Branch::Else => Ok(false),
-    }
+    let mut way = Way::new(alloc, unit.fields.len())?;
+    let there = go_from(alloc, &found.body, path, side, table, &mut way)?;
+    Ok(there && way.read.contains(f.0 as usize))
 }

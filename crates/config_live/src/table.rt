@@ -4,7 +4,7 @@ ghost use Rattle.exo_tree.specs.PlainProcedure.{procedure};
 ghost use Rattle.exo_tree.specs.PlainUnit.{program};
 ghost use Rattle.config_live.specs.Tables.{reads_first, writes_surely, IsLiveTable};
 ghost use Rattle.config_live.specs.Ways.{Went, Goes, nothing};
-ghost use Rattle.config_live.specs.Heads.{read_by_head, CallsFrom};
+ghost use Rattle.config_live.specs.Heads.{read_by_head, Adds, CallsFrom};
 
 use crate::fields::FieldList;
 use crate::named::{list_conditions, list_params};
@@ -39,10 +39,19 @@ impl LiveTable {
         };
         let mut way = Way::new(alloc, unit.fields.len())?;
         for p in unit.procs.as_slice() {
-            let called = call_fields(alloc, p, &table, &mut way)?;
-            table.calls.push(called)?;
+            table.add(alloc, p, &mut way)?;
         }
         Ok(table)
+    }
+
+    /// The fields of the next procedure, by a way from its beginning, which is left as at the
+    /// beginning.
+    fn add(&mut self, alloc: Global, p: &Proc, way: &mut Way) -> Result<(), AllocError>
+        ensures { OnOk result (Adds self.old (procedure p.now) way.old way.new self.new) }
+    {
+        let called = call_fields(alloc, p, self, way)?;
+        self.calls.push(called)?;
+        Ok(())
     }
 
     /// Goes on over a call without its arguments.

@@ -1,9 +1,11 @@
 //! Ways through the statements of blocks, forwards. Each join takes back what its branches have
 //! newly written and keeps no more than half of it, so all joins of a procedure take no longer than
 //! its writes and calls.
-ghost use Rattle.std.specs.Prelude.{◌≤◌, length, drop, IfOk, OnOk};
+ghost use Rattle.std.specs.Prelude.{◌≤◌, false, length, drop, IfOk, OnOk};
 ghost use Rattle.exo_tree.specs.Tree.{block};
 ghost use Rattle.exo_tree.specs.PlainStatement.{statement};
+ghost use Rattle.meaning_laws.specs.Live.{live};
+ghost use Rattle.config_live.specs.Tables.{calls_in};
 ghost use Rattle.config_live.specs.Ways.{named_in, nothing, Went};
 ghost use Rattle.config_live.specs.Walks.{GoesOver, GoesBy, Branches, Meets};
 
@@ -60,19 +62,30 @@ fn go_by(
             let both = other_branch(alloc, b, &first, table, way)?;
             way.write_all(&both, added)
         }
-        Stmt::For(_, _, _, body) => {
-            branch(alloc, body, table, way)?;
-            Ok(())
-        }
+        Stmt::For(_, _, _, body) => turn(alloc, body, table, way),
         Stmt::Call(p, _) => table.call(*p, way, added),
         _ => Ok(()),
     }
 }
 
+/// Goes over a turn of a loop, which may not run.
+#[cycle(walk)]
+pub(crate) fn turn(
+    alloc: Global,
+    body: &Block,
+    table: &LiveTable,
+    way: &mut Way,
+) -> Result<(), AllocError>
+    ensures { OnOk result (Went (λ f. live (calls_in table.now) f (block body.now) false) nothing way.old way.new) }
+{
+    branch(alloc, body, table, way)?;
+    Ok(())
+}
+
 /// Goes over a block that may not run, or in place of which another one may run; what it newly
 /// writes is listed and taken back.
 #[cycle(walk)]
-pub(crate) fn branch(
+fn branch(
     alloc: Global,
     b: &Block,
     table: &LiveTable,

@@ -1,5 +1,5 @@
 use Rattle.exo_tree.specs.PlainStatement.{statement}
-use Rattle.config_live.proofs.Openings.{leaves_from}
+use Rattle.config_live.proofs.Branches.{leaves_from}
 use Rattle.config_live.proofs.Statements.{on_ok}
 use Rattle.config_live.proofs.place.leave.Goals as goal
 

@@ -35,11 +35,13 @@ go_by-returns-in_ok-both-in-If t c =
     c.in_ok-both-in-If.ensures h)
     c.write_all.ensures
 
-pub go_by-returns-in_ok-branch-in-For : goal.go_by-returns-in_ok-branch-in-For
-go_by-returns-in_ok-branch-in-For t c =
-    for_at c.args.table.now (statement c.args.s.now) _ _ _ _ c.args.way.now c.read_named.new.way
-    c.branch-alloc-in-For.new.way c.args.added.now c.in_ok-branch-in-For.field-0
-    (ap statement c.in-For.is) c.in_ok-read_named.ensures c.in_ok-branch-in-For.ensures
+pub go_by-returns-in-For : goal.go_by-returns-in-For
+go_by-returns-in-For t c =
+    on_ok c.turn.result _ _
+    (λ h. for_at c.args.table.now (statement c.args.s.now) _ _ _ _ c.args.way.now
+    c.read_named.new.way c.turn.new.way c.args.added.now (ap statement c.in-For.is)
+    c.in_ok-read_named.ensures h)
+    c.turn.ensures
 
 pub go_by-returns-in-Call : goal.go_by-returns-in-Call
 go_by-returns-in-Call t c =

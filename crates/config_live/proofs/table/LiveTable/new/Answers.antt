@@ -12,11 +12,11 @@ loop-p-preserved c =
     let items = c.as_slice-p-items.result.now in
     let calls = c.loop-p.table.calls.items in
     let rest = map procedure (drop (c.loop-p.p-index + 1) items) in
-    let made = c.in_ok-called.ensures n c.loop-p.invariant.1 in
+    let made = c.in_ok-add.ensures.calls n c.loop-p.invariant.1 in
     let one : drop c.loop-p.p-index items ≡ c.p-item.result ∷ drop (c.loop-p.p-index + 1) items =
     drop_item items c.loop-p.p-index c.p-item.result c.loop-p-test.true c.p-item.is in (
-      subst (λ t. SoFar n t rest procs) (sym c.in_ok-push.ensures.items)
-          (step_on n calls (procedure c.p-item.result) rest procs c.in_ok-called.called
+      subst (λ t. SoFar n t rest procs) (sym c.in_ok-add.ensures.last)
+          (step_on n calls (procedure c.p-item.result) rest procs c.in_ok-add.ensures.entry
           made.0.reads made.0.writes
           (subst (λ z. SoFar n calls (map procedure z) procs) one c.loop-p.invariant.0)),
       made.1,
