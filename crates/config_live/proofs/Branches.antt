@@ -1,15 +1,13 @@
 -- From the end of a branch on to the end of the block in which its statement stands.
-use Rattle.std.proofs.Common.{◌≡◌, ◌<◌, ◌≤◌, ◌+◌, ℕ, zero, suc, Bool, true, false, ◌&&◌, ◌||◌, List, [], ◌∷◌, length}
-use Rattle.std.proofs.Common.{drop, Option, Some, None, option_map, refl, sym, ap, ◌∙◌, subst, arith}
-use Rattle.std.specs.Prelude.{not, slice_get}
-use Rattle.exo_tree.specs.Tree.{Statement, If, For, Block, end, next, block}
-use Rattle.exo_tree.specs.Context.{Here, After, InLoop, InThen, InElse, fill}
-use Rattle.exo_tree.specs.Places.{Branch, Main, Else, Step, Path, Opened, past, into, opened_in}
+use Rattle.std.proofs.Common.{◌≡◌, ◌+◌, ℕ, Bool, true, false, ◌&&◌, ◌||◌, List, ◌∷◌}
+use Rattle.std.proofs.Common.{drop, Option, Some, None, option_map, refl, sym, ap, ◌∙◌, subst}
+use Rattle.std.specs.Prelude.{not}
+use Rattle.exo_tree.specs.Tree.{Statement, If, For, Block, next, block}
+use Rattle.exo_tree.specs.Context.{InLoop, InThen, InElse, fill}
+use Rattle.exo_tree.specs.Places.{Branch, Main, Else, Opened, into}
 use Rattle.exo_tree.specs.Branches.{branch_of}
 use Rattle.meaning_laws.specs.Live.{live, live_behind}
 use Rattle.meaning_laws.proofs.Parts.{none_some}
-use Rattle.meaning_laws.proofs.Places.{opened_law}
-use Rattle.config_laws.specs.FieldRule.{Side, Before, Behind, gap}
 use Rattle.config_laws.specs.Surely.{surely_writes, surely_behind}
 use Rattle.config_laws.proofs.Exits.{holes_go_by_exit}
 use Rattle.config_live.specs.declared.table.LiveTable.{LiveTable}
@@ -17,7 +15,7 @@ use Rattle.config_live.specs.declared.way.Way.{Way}
 use Rattle.config_live.specs.Tables.{writes_surely, calls_in}
 use Rattle.config_live.specs.Ways.{nothing, Went, Goes}
 use Rattle.config_live.specs.Walks.{GoesOver}
-use Rattle.config_live.specs.Places.{index_beside, live_in_next_turn, left_by, Leaves, Reaches}
+use Rattle.config_live.specs.Places.{live_in_next_turn, left_by, Leaves, Reaches}
 use Rattle.config_live.proofs.Truths.{or_none, or_swap}
 use Rattle.config_live.proofs.Ways.{goes_then, goes_as, reads_goes}
 use Rattle.config_live.proofs.Statements.{goes_by_table}
