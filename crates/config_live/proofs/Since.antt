@@ -10,7 +10,8 @@ use Rattle.config_laws.specs.Differing.{parent_in, step_fields, fields_since, fr
 use Rattle.config_laws.specs.Differing as law
 use Rattle.config_laws.specs.FieldRule.{Side, gap, is_listed, not_again, surely_from, fields_at_end}
 use Rattle.config_laws.specs.Surely.{surely_behind, unit_surely}
-use Rattle.config_live.specs.Origins.{surely_at}
+use Rattle.config_live.specs.declared.origins.Origin.{Origin}
+use Rattle.config_live.specs.Origins.{origin, surely_at}
 use Rattle.config_live.proofs.Truths.{or_none, or_swap}
 
 -- ---- a list gone over
@@ -52,38 +53,41 @@ left_next list k d written old mid new l i h j =
 
 -- ---- the fields of a step
 
+same_number : (f g : ℕ) → (f == g) ≡ true → f ≡ g
+same_number f g e = grind arith
+
+one_kept : (written : ℕ → Bool) (f g : ℕ) (more : Bool) (t : Bool) → (f == g) ≡ t → written g ≡ false
+    → (t || (more && not (written f))) ≡ ((t || more) && not (written f))
+one_kept written f g more true e w =
+    sym (ap (λ x. not (written x)) (same_number f g e) ∙ ap not w)
+one_kept written f g more false e w = refl
+
+one_gone : (written : ℕ → Bool) (f g : ℕ) (more : Bool) (t : Bool) → (f == g) ≡ t → written g ≡ true
+    → (more && not (written f)) ≡ ((t || more) && not (written f))
+one_gone written f g more true e w =
+    out more (written f) (ap written (same_number f g e) ∙ w)
+  where
+    out : (a b : Bool) → b ≡ true → (a && not b) ≡ not b
+    out true b e = refl
+    out false true e = refl
+    out false false e = absurd (cc e)
+one_gone written f g more false e w = refl
+
+listed_one : (written : ℕ → Bool) (g f : ℕ) (fs : List ℕ)
+    → is_listed f (not_again written fs) ≡ (is_listed f fs && not (written f))
+    → (t : Bool) → written g ≡ t
+    → is_listed f (if t then not_again written fs else g ∷ not_again written fs)
+    ≡ ((f == g || is_listed f fs) && not (written f))
+listed_one written g f fs rest true w =
+    rest ∙ one_gone written f g (is_listed f fs) (f == g) refl w
+listed_one written g f fs rest false w =
+    ap (λ x. (f == g) || x) rest ∙ one_kept written f g (is_listed f fs) (f == g) refl w
+
 listed_left : (written : ℕ → Bool) (fs : List ℕ) (f : ℕ)
     → is_listed f (not_again written fs) ≡ (is_listed f fs && not (written f))
 listed_left written [] f = refl
-listed_left written (g ∷ fs) f = go (written g) refl
-  where
-    same_number : (f == g) ≡ true → f ≡ g
-    same_number e = grind arith
-
-    true_false : true ≡ false → ⊥
-    true_false e = grind
-
-    kept : (t : Bool) → (f == g) ≡ t → written g ≡ false
-        → (t || (is_listed f fs && not (written f))) ≡ ((t || is_listed f fs) && not (written f))
-    kept true e w = sym (ap (λ x. not (written x)) (same_number e) ∙ ap not w)
-    kept false e w = refl
-
-    gone : (t : Bool) → (f == g) ≡ t → written g ≡ true
-        → (is_listed f fs && not (written f)) ≡ ((t || is_listed f fs) && not (written f))
-    gone true e w = both (is_listed f fs) (written f) (ap written (same_number e) ∙ w)
-      where
-        both : (a b : Bool) → b ≡ true → (a && not b) ≡ not b
-        both true b e = refl
-        both false true e = refl
-        both false false e = absurd (true_false (sym e))
-    gone false e w = refl
-
-    go : (t : Bool) → written g ≡ t
-        → is_listed f (if t then not_again written fs else g ∷ not_again written fs)
-        ≡ ((f == g || is_listed f fs) && not (written f))
-    go true w = listed_left written fs f ∙ gone (f == g) refl w
-    go false w =
-        ap (λ x. (f == g) || x) (listed_left written fs f) ∙ kept (f == g) refl w
+listed_left written (g ∷ fs) f =
+    listed_one written g f fs (listed_left written fs f) (written g) refl
 
 -- where the place is that of a statement, or no field is listed
 at_place_same : (ps : List Procedure) (body : Block) (place : Path) (side : Side) (fs : List ℕ) (f : ℕ)
@@ -224,3 +228,11 @@ module _ (ps : List Procedure) (os : List law.Origin) (k : ℕ) where
       → Marked (λ f. is_listed f (step_fields ps os k)) old new
   both_there o q old new e d h =
       subst (λ z. Marked (λ f. is_listed f z) old new) (sym (fields_are (Some o) (Some q) e d)) h
+
+-- ---- an origin that is there
+
+pub origin_at : (xs : List Origin) (k : ℕ) (o : Origin) → k < length xs → o ≡ get_or xs k o
+    → slice_get (map origin xs) k ≡ Some (origin o)
+origin_at [] k o l e = absurd (omega arith)
+origin_at (x ∷ xs) zero o l e = ap (λ z. Some (origin z)) (sym e)
+origin_at (x ∷ xs) (suc k) o l e = origin_at xs k o (omega arith) e
