@@ -1,11 +1,11 @@
 -- The fields of steps, one after the other.
 use Rattle.std.proofs.Common.{◌≡◌, ◌==◌, ◌<◌, ◌≤◌, ◌+◌, ℕ, zero, suc, Bool, true, false, ◌&&◌, ◌||◌, if◌then◌else◌}
 use Rattle.std.proofs.Common.{List, [], ◌∷◌, ◌++◌, length, get_or, Option, Some, None, refl, sym, ap, ◌∙◌, subst, arith}
-use Rattle.std.specs.Prelude.{not, drop, map, slice_get, option_map}
+use Rattle.std.specs.Prelude.{not, drop, map, slice_get, option_map, replicate}
 use Rattle.exo_tree.specs.Tree.{Block, Procedure}
 use Rattle.exo_tree.specs.Places.{Path, Opened, opened}
-use Rattle.config_state.specs.FieldSets.{contains, Marked}
-use Rattle.config_state.proofs.Sets.{drop_item, marked_same, marked_then, marked_none}
+use Rattle.config_state.specs.FieldSets.{contains, Marked, fields_where}
+use Rattle.config_state.proofs.Sets.{drop_item, marked_same, marked_then, marked_none, fields_same}
 use Rattle.config_laws.specs.Differing.{parent_in, step_fields, fields_since, from_parent}
 use Rattle.config_laws.specs.Differing as law
 use Rattle.config_laws.specs.FieldRule.{Side, gap, is_listed, not_again, surely_from, fields_at_end}
@@ -236,3 +236,22 @@ pub origin_at : (xs : List Origin) (k : ℕ) (o : Origin) → k < length xs → 
 origin_at [] k o l e = absurd (omega arith)
 origin_at (x ∷ xs) zero o l e = ap (λ z. Some (origin z)) (sym e)
 origin_at (x ∷ xs) (suc k) o l e = origin_at xs k o (omega arith) e
+
+-- ---- the fields of a set that was empty
+
+none_in : (n f : ℕ) → contains (replicate n false) f ≡ false
+none_in zero f = refl
+none_in (suc n) zero = refl
+none_in (suc n) (suc f) = none_in n f
+
+length_none : (n : ℕ) → length (replicate n false) ≡ n
+length_none zero = refl
+length_none (suc n) = ap suc (length_none n)
+
+pub in_order : (n : ℕ) (test : ℕ → Bool) (new : List Bool)
+    → Marked test (replicate n false) new
+    → fields_where (length new) (contains new) ≡ fields_where n test
+in_order n test new h =
+    ap (λ m. fields_where m (contains new)) (h.same_length ∙ length_none n)
+    ∙ fields_same zero n (contains new) test
+    (λ f l. h.each f (let e = length_none n in omega arith) ∙ ap (λ x. x || test f) (none_in n f))
