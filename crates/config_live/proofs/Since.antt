@@ -1,18 +1,17 @@
 -- The fields of steps, one after the other.
-use Rattle.std.proofs.Common.{◌≡◌, ◌==◌, ◌<◌, ◌≤◌, ◌+◌, ℕ, zero, suc, Bool, true, false, ◌&&◌, ◌||◌, if◌then◌else◌}
+use Rattle.std.proofs.Common.{◌≡◌, ◌==◌, ◌<◌, ◌+◌, ℕ, zero, suc, Bool, true, false, ◌&&◌, ◌||◌, if◌then◌else◌}
 use Rattle.std.proofs.Common.{List, [], ◌∷◌, ◌++◌, length, get_or, Option, Some, None, refl, sym, ap, ◌∙◌, subst, arith}
-use Rattle.std.specs.Prelude.{not, drop, map, slice_get, option_map, replicate}
+use Rattle.std.specs.Prelude.{not, drop, map, slice_get, replicate}
 use Rattle.exo_tree.specs.Tree.{Block, Procedure}
-use Rattle.exo_tree.specs.Places.{Path, Opened, opened}
+use Rattle.exo_tree.specs.Places.{Path}
 use Rattle.config_state.specs.FieldSets.{contains, Marked, fields_where}
 use Rattle.config_state.proofs.Sets.{drop_item, marked_same, marked_then, marked_none, fields_same}
 use Rattle.config_laws.specs.Differing.{parent_in, step_fields, fields_since, from_parent}
 use Rattle.config_laws.specs.Differing as law
-use Rattle.config_laws.specs.FieldRule.{Side, gap, is_listed, not_again, surely_from, fields_at_end}
-use Rattle.config_laws.specs.Surely.{surely_behind, unit_surely}
+use Rattle.config_laws.specs.FieldRule.{Side, is_listed, not_again, surely_from, fields_at_end}
 use Rattle.config_live.specs.declared.origins.Origin.{Origin}
 use Rattle.config_live.specs.Origins.{origin, surely_at}
-use Rattle.config_live.proofs.Truths.{or_none, or_swap}
+use Rattle.config_live.proofs.Truths.{or_swap}
 
 -- ---- a list gone over
 

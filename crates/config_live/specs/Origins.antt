@@ -1,5 +1,5 @@
 -- How versions were made.
-use Rattle.std.specs.Prelude.{◌≡◌, ℕ, Bool, false, List, [], map, Option, Some, None, slice_get, option_map}
+use Rattle.std.specs.Prelude.{◌≡◌, ℕ, Bool, false, List, [], Some, None, slice_get, option_map}
 use Rattle.exo_tree.specs.Tree.{Block, Procedure}
 use Rattle.exo_tree.specs.Places.{Path}
 use Rattle.exo_tree.specs.declared.number.FieldId.{FieldId}

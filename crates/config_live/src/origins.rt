@@ -144,6 +144,14 @@ pub fn differing(
     ensures { IfOk result (λ v. map number v.items ≡ differing (program unit.now) (map origin origins.now) p.0 from.0) }
 {
     let mut set = FieldSet::empty(alloc, unit.fields.len())?;
-    add_since(alloc, unit, table, origins, p.0 as usize, from.0 as usize, &mut set)?;
+    add_since(
+        alloc,
+        unit,
+        table,
+        origins,
+        p.0 as usize,
+        from.0 as usize,
+        &mut set,
+    )?;
     set.to_vec(alloc)
 }

@@ -1,8 +1,8 @@
-use Rattle.std.proofs.Common.{◌&&◌, sym, ap, subst}
+use Rattle.std.proofs.Common.{◌&&◌, sym, subst}
 use Rattle.std.proofs.lemmas.List.{drop_all}
-use Rattle.std.specs.Prelude.{not, drop}
+use Rattle.std.specs.Prelude.{not}
 use Rattle.config_state.specs.FieldSets.{contains, Marked}
-use Rattle.config_state.proofs.Sets.{marked_same, marked_none}
+use Rattle.config_state.proofs.Sets.{marked_none}
 use Rattle.config_laws.specs.FieldRule.{is_listed}
 use Rattle.config_live.proofs.Since.{left_next}
 use Rattle.config_live.proofs.Loops.{at_place}

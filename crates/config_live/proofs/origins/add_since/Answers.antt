@@ -18,13 +18,14 @@ loop-left-preserved c =
     let os = map origin c.args.origins.now in
     let n = c.loop-left.left - 1 in
     let one : suc n ≡ c.loop-left.left = let h = c.loop-left-test.true in omega arith in
-    let away : (c.loop-left.k == c.args.from) ≡ false = let h = c.if-k-from.true in grind arith in
-    (c.in_ok-add_step.ensures.same_length ∙ c.loop-left.invariant.0,
-    λ new h.
-    c.loop-left.invariant.1 new
-    (subst (λ m. Marked (λ f. is_listed f (fields_since ps os c.args.from m c.loop-left.k)) c.loop-left.set new) one
-    (since_on ps os c.args.from n c.loop-left.k c.in-Some.j c.loop-left.set c.add_step.new.set new
-    away (sym c.in-Some.ensures) c.in_ok-add_step.ensures h)))
+    let away : (c.loop-left.k == c.args.from) ≡ false = let h = c.if-k-from.true in grind arith in (
+      c.in_ok-add_step.ensures.same_length ∙ c.loop-left.invariant.0,
+      λ new h.
+          c.loop-left.invariant.1 new
+          (subst (λ m. Marked (λ f. is_listed f (fields_since ps os c.args.from m c.loop-left.k)) c.loop-left.set new) one
+          (since_on ps os c.args.from n c.loop-left.k c.in-Some.j c.loop-left.set c.add_step.new.set new
+          away (sym c.in-Some.ensures) c.in_ok-add_step.ensures h)),
+    )
 
 pub returns-else-k-from : goal.returns-else-k-from
 returns-else-k-from c =

@@ -10,8 +10,8 @@ abbrev pub invariant-loop-left : goal.invariant-loop-left
 invariant-loop-left l =
     (length l.set ≡ length l.initial.set)
     × ((new : _)
-      → Marked (λ f. is_listed f (fields_since l.unit.procs (map origin l.origins) l.from l.left l.k)) l.set new
-      → Marked (λ f. is_listed f (fields_since l.unit.procs (map origin l.origins) l.from l.p l.p)) l.initial.set new)
+    → Marked (λ f. is_listed f (fields_since l.unit.procs (map origin l.origins) l.from l.left l.k)) l.set new
+    → Marked (λ f. is_listed f (fields_since l.unit.procs (map origin l.origins) l.from l.p l.p)) l.initial.set new)
 
 abbrev pub decreases-loop-left : goal.decreases-loop-left
 decreases-loop-left l = l.left

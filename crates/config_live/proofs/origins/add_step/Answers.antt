@@ -1,8 +1,6 @@
-use Rattle.std.proofs.Common.{◌≡◌, length, map, sym, subst, arith}
-use Rattle.exo_tree.specs.Tree.{block}
+use Rattle.std.proofs.Common.{map, sym, arith}
 use Rattle.exo_tree.specs.PlainProcedure.{procedure}
 use Rattle.config_live.specs.Origins.{origin}
-use Rattle.config_live.specs.Places.{side_taken}
 use Rattle.config_live.proofs.Since.{both_there, step_marked, origin_at}
 use Rattle.config_live.proofs.origins.add_step.Goals as goal
 
