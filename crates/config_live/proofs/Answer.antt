@@ -8,14 +8,16 @@ use Rattle.meaning_laws.specs.Live.{live_behind}
 use Rattle.meaning_laws.specs.UnitFields.{unit_live}
 use Rattle.config_state.specs.FieldSets.{contains}
 use Rattle.config_laws.specs.FieldRule.{Side, Before, Behind, gap, is_live}
-use Rattle.config_laws.specs.Surely.{unit_surely}
+use Rattle.exo_tree.specs.Context.{Context, Here, After, InLoop, InThen, InElse}
+use Rattle.config_laws.specs.Surely.{surely_behind, unit_surely}
+use Rattle.config_live.specs.Origins.{surely_at}
 use Rattle.config_live.specs.declared.table.LiveTable.{LiveTable}
 use Rattle.config_live.specs.declared.way.Way.{Way}
 use Rattle.config_live.specs.Tables.{reads_first, writes_surely, calls_in}
 use Rattle.config_live.specs.Ways.{IsStart}
 use Rattle.config_live.specs.Places.{place_in, live_from, Reaches, Arrives}
 use Rattle.config_live.proofs.Truths.{and_all}
-use Rattle.config_live.proofs.Units.{behind_same, by_table}
+use Rattle.config_live.proofs.Units.{behind_same, surely_same, by_table}
 
 beyond : (s : List Bool) (f : ℕ) → nat_lt f (length s) ≡ false → contains s f ≡ false
 beyond [] zero e = refl
@@ -106,3 +108,40 @@ pub arrive_none : (table : LiveTable) (path : Path) (side : Side) (b : Block) (w
     → Arrives table (place_in b path side) false way way
 arrive_none table path side b way e =
     ([], subst (λ p. Reaches table (place_in b p side) false way way [] []) (sym e) refl)
+
+-- ---- what is surely written from a place on
+
+module _ (ps : List Procedure) (n : ℕ) (table : LiveTable) (f : ℕ)
+    (w : (k : ℕ) → writes_surely table k f ≡ unit_surely ps k f) where
+  behind_surely : (c : Context)
+      → surely_behind (writes_surely table) f c ≡ surely_behind (unit_surely ps) f c
+  behind_surely (Here rest) = surely_same (writes_surely table) (unit_surely ps) f w rest
+  behind_surely (After a c) = behind_surely c
+  behind_surely (InLoop i lo hi c rest) =
+      ap₂ ◌||◌ (behind_surely c) (surely_same (writes_surely table) (unit_surely ps) f w rest)
+  behind_surely (InThen t c other rest) =
+      ap₂ ◌||◌ (behind_surely c) (surely_same (writes_surely table) (unit_surely ps) f w rest)
+  behind_surely (InElse t other c rest) =
+      ap₂ ◌||◌ (behind_surely c) (surely_same (writes_surely table) (unit_surely ps) f w rest)
+
+  written_there : (x : Option Opened) (old new : Way) (has : List ℕ)
+      → IsStart n old → f < n
+      → Reaches table x true old new [] has
+      → contains new.written f
+      ≡ elim x as (λ x. Bool) [ None ↦ false | Some o ↦ surely_behind (unit_surely ps) f o.around ]
+  written_there None old new has s l h = absurd (cc h)
+  written_there (Some o) old new has s l h =
+      h.1.went.written f (record {
+        of_read = let q = s.all_read in omega arith;
+        of_written = let q = s.all_written in omega arith;
+      })
+      ∙ ap (λ x. x || surely_behind (writes_surely table) f o.around) (s.none_written f l)
+      ∙ behind_surely o.around
+
+  pub written_is : (b : Block) (path : Path) (side : Side) (found : Bool) (old new : Way)
+      → IsStart n old → f < n → found ≡ true
+      → Arrives table (place_in b path side) found old new
+      → contains new.written f ≡ surely_at ps b path side f
+  written_is b path side found old new s l e h =
+      written_there (place_in b path side) old new h.0 s l
+      (subst (λ z. Reaches table (place_in b path side) z old new [] h.0) e h.1)

@@ -9,3 +9,4 @@ pub mod Units
 pub mod Answer
 pub mod Calls
 pub mod Examples
+pub mod Since

@@ -4,3 +4,4 @@ pub mod Tables
 pub mod Heads
 pub mod Walks
 pub mod Places
+pub mod Origins

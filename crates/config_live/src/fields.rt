@@ -24,7 +24,8 @@ impl Model for FieldList {
 }
 
 impl FieldList {
-    pub(crate) fn new(alloc: Global) -> FieldList
+    /// The empty list.
+    pub fn new(alloc: Global) -> FieldList
         ensures { result ≡ [] }
     {
         FieldList {
@@ -33,7 +34,7 @@ impl FieldList {
     }
 
     /// Puts a field last.
-    pub(crate) fn push(&mut self, f: FieldId) -> Result<(), AllocError>
+    pub fn push(&mut self, f: FieldId) -> Result<(), AllocError>
         ensures { OnOk result (Listed (λ g. g == f.0) self.old self.new) }
     {
         self.items.push(f.0)?;

@@ -118,7 +118,7 @@ fn reach(
 
 /// Goes on from beside the statement at a path to the end of a body; false exactly where the path
 /// leads nowhere.
-fn go_from(
+pub(crate) fn go_from(
     alloc: Global,
     body: &Block,
     path: &Path,
