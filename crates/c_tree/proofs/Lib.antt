@@ -1,3 +1,4 @@
 pub mod Blocks
 pub mod Appends
 pub mod Maps
+pub mod Listed
