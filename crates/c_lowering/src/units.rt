@@ -16,6 +16,7 @@ use crate::report::{LowerError, Printed, lower_report};
 use crate::structs::lower_structs;
 use c_names::first_clash;
 use c_tree::tree::CUnit;
+use c_widths::laws::widest_is_of_the_unit;
 use c_widths::widest;
 use exo_calls::Marks;
 use exo_tree::{Name, ProcId, Unit};
@@ -70,6 +71,7 @@ fn too_wide(
     requires { (k : ℕ) → k < length unit.now.procs → contains counted.now k ≡ counts (program unit.now) (map printing what.now) k }
     ensures { IfOk result (λ o. o ≡ too_wide (program unit.now) (map printing what.now)) }
 {
+    widest_is_of_the_unit();
     let printed = listed(alloc, unit, what)?;
     let found = widest(alloc, unit, &printed, counted)?;
     Ok(found)

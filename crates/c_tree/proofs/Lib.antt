@@ -2,3 +2,4 @@ pub mod Blocks
 pub mod Appends
 pub mod Maps
 pub mod Listed
+pub mod Joined

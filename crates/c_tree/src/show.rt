@@ -220,9 +220,15 @@ impl fmt::Display for Allocation<'_> {
     ghost output = { λ a. Some (allocation_text (element_word (plain_element a.element.now)) (string_bytes a.name.now) (number64_text (plain_number a.count.now))) };
 
     fn fmt<W: fmt::Write>(&self, f: &mut fmt::Formatter<W>) -> fmt::Result {
-        let t = self.element;
-        write!(f, "{t} *{} = ({t} *)", self.name)?;
-        write!(f, "malloc((size_t){} * sizeof({t}));", self.count)
+        let Allocation {
+            element,
+            name,
+            count,
+        } = self;
+        write!(
+            f,
+            "{element} *{name} = ({element} *)malloc((size_t){count} * sizeof({element}));"
+        )
     }
 }
 
