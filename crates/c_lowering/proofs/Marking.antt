@@ -1,9 +1,9 @@
 -- Sets of fields, and what walks add to them.
 use Rattle.std.proofs.Common.{◌≡◌, ◌<◌, ◌≤◌, ◌+◌, ◌&&◌, ◌||◌, ℕ, zero, suc, Bool, true, false, List, [], ◌∷◌, map, length, drop, get_or, replicate, if◌then◌else◌, refl, sym, ap, ap₂, ◌∙◌, arith}
-use Rattle.exo_tree.specs.Tree.{Procedure, ConfigField}
+use Rattle.exo_tree.specs.Tree.{Procedure, ConfigField, Program}
 use Rattle.exo_calls.specs.Marked.{contains, Marked}
-use Rattle.exo_calls.proofs.Sets.{marked_same, marked_none, marked_then, marked_off, marked_on}
-use Rattle.c_lowered.specs.LoweredUnit.{is_used_from, in_procedure, fields_from, field_name}
+use Rattle.exo_calls.proofs.Sets.{marked_same, marked_none, marked_then}
+use Rattle.c_lowered.specs.LoweredUnit.{Printing, counts, is_used_from, is_used, in_procedure, fields_from, fields_of, field_name}
 
 -- one item of a list, and then the rest
 pub rest_marked : {A : Type 0} (one : ℕ → A → Bool) (all : ℕ → List A → Bool) → ((f : ℕ) (a : A) (rest : List A) → all f (a ∷ rest) ≡ (one f a || all f rest)) → (a : A) (rest xs : List A) (set mid new : List Bool) → xs ≡ a ∷ rest → Marked (λ f. one f a) set mid → Marked (λ f. all f rest) mid new → Marked (λ f. all f xs) set new
@@ -52,3 +52,6 @@ pub used_same : (counted other : ℕ → Bool) (f k : ℕ) (ps : List Procedure)
 used_same counted other f k [] same = refl
 used_same counted other f k (p ∷ ps) same =
     ap₂ (λ a b. (a && in_procedure f p) || b) (same k (omega arith)) (used_same counted other f (suc k) ps (λ j h. same j (omega (arith, h))))
+
+pub fields_are : (program : Program) (what : List Printing) (set : List Bool) → ((k : ℕ) → k < length program.procedures → contains set k ≡ counts program what k) → fields_from (λ f. is_used_from (contains set) f 0 program.procedures) 0 program.fields ≡ fields_of program what
+fields_are program what set same = fields_same (λ f. is_used_from (contains set) f 0 program.procedures) (is_used program what) 0 program.fields (λ f h. used_same (contains set) (counts program what) f 0 program.procedures same)

@@ -1,20 +1,11 @@
 -- Strides at the spans of a window, dimension by dimension.
 use Rattle.std.proofs.Common.{◌≡◌, ◌<◌, ◌≤◌, ◌&&◌, nat_lt, ℕ, zero, suc, pos, ◌+◌, Bool, true, false, List, [], ◌∷◌, ◌++◌, map, length, drop, get_or, refl, sym, ap, ap₂, ◌∙◌, arith, append_assoc, drop-cons, add-one, true≢false}
-use Rattle.std.proofs.lemmas.List.{drop_all, drop-drop, map-append}
+use Rattle.std.proofs.lemmas.List.{drop_all, drop-drop}
 use Rattle.std.proofs.lemmas.List.length.{length-append}
 use Rattle.exo_tree.specs.Tree.{Coord, At, Span}
 use Rattle.c_tree.specs.CTree.{Number64, Literal}
 use Rattle.c_lowered.specs.Lowered.{or_one, at_spans}
 use Rattle.c_lowering.specs.Whole.{is_span}
-
--- one item more behind those that are made
-pub one_pushed : {A B : Type 0} (f : A → B) (made more : List A) (x : A) (later all whole : List B) → more ≡ made ++ x ∷ [] → all ≡ f x ∷ later → map f made ++ all ≡ whole → map f more ++ later ≡ whole
-one_pushed f made more x later all whole pushed is so_far =
-    ap (λ l. map f l ++ later) pushed
-    ∙ ap (λ l. l ++ later) (map-append f made (x ∷ []))
-    ∙ append_assoc (map f made) (f x ∷ []) later
-    ∙ ap (λ l. map f made ++ l) (sym is)
-    ∙ so_far
 
 or_one_is : (ts : List Number64) (k : ℕ) → or_one ts k ≡ get_or ts k (Literal (pos 1))
 or_one_is [] k = refl
