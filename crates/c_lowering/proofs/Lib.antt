@@ -9,3 +9,5 @@ pub mod Pairs
 pub mod Marking
 pub mod Agreed
 pub mod Reading
+pub mod Listing
+pub mod Ranks

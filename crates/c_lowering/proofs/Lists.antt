@@ -1,6 +1,6 @@
 -- Lists, item by item.
-use Rattle.std.proofs.Common.{◌≡◌, ◌<◌, ◌≤◌, ◌+◌, ℕ, zero, suc, List, [], ◌∷◌, ◌++◌, map, length, drop, get_or, refl, sym, ap, ◌∙◌, arith, append_assoc}
-use Rattle.std.proofs.lemmas.List.{drop_more, drop_all, map-append}
+use Rattle.std.proofs.Common.{◌≡◌, ◌<◌, ◌≤◌, ◌+◌, ℕ, List, [], ◌∷◌, ◌++◌, map, length, drop, get_or, sym, ap, ◌∙◌, append_assoc}
+use Rattle.std.proofs.lemmas.List.{drop_more, drop_all, map-append, append-nil}
 
 -- the next item of a list, seen through a function
 pub mapped_next : {A B : Type 0} (f : A → B) (xs : List A) (k : ℕ) (x : A) → k < length xs → x ≡ get_or xs k x → map f (drop k xs) ≡ f x ∷ map f (drop (k + 1) xs)
@@ -17,3 +17,7 @@ one_pushed f made more x later all whole pushed is so_far =
     ∙ append_assoc (map f made) (f x ∷ []) later
     ∙ ap (λ l. map f made ++ l) (sym is)
     ∙ so_far
+
+-- nothing is left
+pub nothing_left : {A : Type 0} (made later whole : List A) → later ≡ [] → made ++ later ≡ whole → made ≡ whole
+nothing_left made later whole e h = sym (append-nil made) ∙ ap (λ l. made ++ l) (sym e) ∙ h

@@ -24,7 +24,10 @@ pub first_step : (first whole e : Number64) (es rest : List Number64) (w : Name)
 first_step first whole e es rest w rank h is next all =
     all
     ∙ ap (λ n. scaled_from n rest (window_strides w 1 (rank - 1))) next
-    ∙ sym (ap₂ (λ l ts. scaled l ts) is (strides_from w 0 rank h))
+    ∙ sym (ap₂ (λ l ts. scaled l ts) is (ap (window_strides w 0) whole_rank ∙ strides_from w 0 rank h))
+  where
+    whole_rank : rank ≡ rank - 0
+    whole_rank = omega arith
 
 pub no_first : (es : List Number64) (w : Name) (rank : ℕ) → rank ≡ 0 → Literal (pos 0) ≡ scaled es (window_strides w 0 rank)
 no_first [] w rank e = refl

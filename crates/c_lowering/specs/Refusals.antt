@@ -19,5 +19,6 @@ name_clash program what = first_clash (global_names program what)
 -- what each refusal means; widths come before names
 abbrev pub Refuses : Program → List Printing → LowerError → Type 0
 Refuses program what (TooWide k) = too_wide program what ≡ Some k.0
-Refuses program what (NameClash x) = (too_wide program what ≡ None) × (name_clash program what ≡ Some x)
+Refuses program what (NameClash x) =
+    (too_wide program what ≡ None) × (name_clash program what ≡ Some x)
 Refuses program what Memory = ⊤
