@@ -1,9 +1,9 @@
 -- Sets of fields, and what walks add to them.
-use Rattle.std.proofs.Common.{◌≡◌, ◌<◌, ◌≤◌, ◌+◌, ◌&&◌, ◌||◌, ℕ, zero, suc, Bool, true, false, List, [], ◌∷◌, map, length, drop, get_or, replicate, if◌then◌else◌, refl, sym, ap, ap₂, ◌∙◌, arith}
-use Rattle.exo_tree.specs.Tree.{Procedure, ConfigField}
+use Rattle.std.proofs.Common.{◌≡◌, ◌<◌, ◌+◌, ◌&&◌, ◌||◌, ℕ, zero, suc, Bool, true, false, List, [], ◌∷◌, length, replicate, if◌then◌else◌, refl, sym, ap, ap₂, ◌∙◌, arith}
+use Rattle.exo_tree.specs.Tree.{Procedure, ConfigField, Program}
 use Rattle.exo_calls.specs.Marked.{contains, Marked}
-use Rattle.exo_calls.proofs.Sets.{marked_same, marked_none, marked_then, marked_off, marked_on}
-use Rattle.c_lowered.specs.LoweredUnit.{is_used_from, in_procedure, fields_from, field_name}
+use Rattle.exo_calls.proofs.Sets.{marked_same, marked_none, marked_then}
+use Rattle.c_lowered.specs.LoweredUnit.{Printing, counts, is_used_from, is_used, in_procedure, fields_from, fields_of, field_name}
 
 -- one item of a list, and then the rest
 pub rest_marked : {A : Type 0} (one : ℕ → A → Bool) (all : ℕ → List A → Bool) → ((f : ℕ) (a : A) (rest : List A) → all f (a ∷ rest) ≡ (one f a || all f rest)) → (a : A) (rest xs : List A) (set mid new : List Bool) → xs ≡ a ∷ rest → Marked (λ f. one f a) set mid → Marked (λ f. all f rest) mid new → Marked (λ f. all f xs) set new
@@ -11,9 +11,11 @@ rest_marked one all splits a rest xs set mid new is h j =
     marked_same (λ f. one f a || all f rest) (λ f. all f xs) set new (λ f l. sym (splits f a rest) ∙ ap (all f) (sym is)) (marked_then (λ f. one f a) (λ f. all f rest) set mid new h j)
 
 -- a procedure, and then the rest
-pub procedures_marked : (counted : ℕ → Bool) (k : ℕ) (p : Procedure) (rest ps : List Procedure) (set mid new : List Bool) → ps ≡ p ∷ rest → Marked (λ f. counted k && in_procedure f p) set mid → Marked (λ f. is_used_from counted f (suc k) rest) mid new → Marked (λ f. is_used_from counted f k ps) set new
-procedures_marked counted k p rest ps set mid new is h j =
-    marked_same (λ f. (counted k && in_procedure f p) || is_used_from counted f (suc k) rest) (λ f. is_used_from counted f k ps) set new (λ f l. ap (is_used_from counted f k) (sym is)) (marked_then (λ f. counted k && in_procedure f p) (λ f. is_used_from counted f (suc k) rest) set mid new h j)
+pub procedures_marked : (counted : ℕ → Bool) (k next : ℕ) (b : Bool) (p : Procedure) (rest ps : List Procedure) (set mid new : List Bool) → next ≡ suc k → b ≡ counted k → ps ≡ p ∷ rest → Marked (λ f. b && in_procedure f p) set mid → Marked (λ f. is_used_from counted f next rest) mid new → Marked (λ f. is_used_from counted f k ps) set new
+procedures_marked counted k next b p rest ps set mid new n c is h j =
+    marked_same (λ f. (b && in_procedure f p) || is_used_from counted f next rest) (λ f. is_used_from counted f k ps) set new
+    (λ f l. ap₂ (λ t m. (t && in_procedure f p) || is_used_from counted f m rest) c n ∙ ap (is_used_from counted f k) (sym is))
+    (marked_then (λ f. b && in_procedure f p) (λ f. is_used_from counted f next rest) set mid new h j)
 
 pub is_off : (test : ℕ → Bool) (s : List Bool) (b : Bool) → b ≡ false → Marked (λ f. b && test f) s s
 is_off test s b e = marked_same (λ f. false) (λ f. b && test f) s s (λ f l. ap (λ t. t && test f) (sym e)) (marked_none s)
@@ -52,3 +54,6 @@ pub used_same : (counted other : ℕ → Bool) (f k : ℕ) (ps : List Procedure)
 used_same counted other f k [] same = refl
 used_same counted other f k (p ∷ ps) same =
     ap₂ (λ a b. (a && in_procedure f p) || b) (same k (omega arith)) (used_same counted other f (suc k) ps (λ j h. same j (omega (arith, h))))
+
+pub fields_are : (program : Program) (what : List Printing) (set : List Bool) → ((k : ℕ) → k < length program.procedures → contains set k ≡ counts program what k) → fields_from (λ f. is_used_from (contains set) f 0 program.procedures) 0 program.fields ≡ fields_of program what
+fields_are program what set same = fields_same (λ f. is_used_from (contains set) f 0 program.procedures) (is_used program what) 0 program.fields (λ f h. used_same (contains set) (counts program what) f 0 program.procedures (λ j l. same j (omega (arith, l))))

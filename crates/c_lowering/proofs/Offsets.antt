@@ -1,20 +1,17 @@
 -- Dimensions, strides and the offsets over them.
 use Rattle.std.proofs.Common.{◌≡◌, ◌<◌, ◌≤◌, ℕ, zero, suc, pos, ◌+◌, ◌-◌, List, [], ◌∷◌, map, length, take, drop, replicate, refl, sym, ap, ap₂, ◌∙◌, add-one, arith}
-use Rattle.std.proofs.lemmas.List.{drop-map, drop_all, length-map}
-use Rattle.exo_tree.specs.Tree.{Control, Lit}
+use Rattle.std.proofs.lemmas.List.{drop-map, take_rest}
+use Rattle.exo_tree.specs.Tree.{Cell, Control, Lit}
 use Rattle.exo_tree.specs.PlainControl.{control}
 use Rattle.exo_tree.specs.declared.control.Ctrl.{Ctrl}
 use Rattle.c_tree.specs.CTree.{Name, Number64, Literal, StrideIn}
-use Rattle.c_lowered.specs.Lowered.{Naming, number_with, numbers_with, dims_of, product_of, row_strides, window_strides, or_one, offset, front, without_lanes, zeros}
+use Rattle.c_lowered.specs.Lowered.{Naming, TensorForm, WindowForm, number_with, numbers_with, dims_of, strides_in, product_of, row_strides, window_strides, or_one, offset, front, without_lanes, zeros}
 use Rattle.c_lowering.specs.Behind.{offset_behind}
 
 -- ---- dimensions behind one
 
-pub none_later : (xs ys : List Ctrl) (k : ℕ) → length xs ≤ k → ys ≡ [] → map control ys ≡ drop (k + 1) (map control xs)
-none_later xs ys k h e = ap (map control) e ∙ sym (drop_all (k + 1) (map control xs) (omega (arith, h, length-map xs control)))
-
-pub some_later : (xs ys : List Ctrl) (k : ℕ) → ys ≡ drop (k + 1) xs → map control ys ≡ drop (k + 1) (map control xs)
-some_later xs ys k e = ap (map control) e ∙ sym (drop-map control (k + 1) xs)
+pub later_part : (xs : List Ctrl) (k : ℕ) → map control (take (length xs - (k + 1)) (drop (k + 1) xs)) ≡ drop (k + 1) (map control xs)
+later_part xs k = ap (map control) (take_rest xs (k + 1)) ∙ sym (drop-map control (k + 1) xs)
 
 stride_after : (naming : Naming) (dims : List Control) (k : ℕ) → product_of (dims_of naming (drop (suc k) dims)) ≡ or_one (row_strides (dims_of naming dims)) k
 stride_after naming [] k = refl
@@ -34,7 +31,7 @@ window_stride_at w a (suc n) zero h = ap (StrideIn w) (omega arith)
 window_stride_at w a (suc n) (suc k) h = ap (StrideIn w) (omega arith) ∙ window_stride_at w (suc a) n k (omega (arith, h))
 
 pub window_stride_is : (w : Name) (rank k : ℕ) → k < rank → StrideIn w k ≡ or_one (window_strides w 0 rank) k
-window_stride_is w rank k h = window_stride_at w 0 rank k h
+window_stride_is w rank k h = ap (StrideIn w) (omega arith) ∙ window_stride_at w 0 rank k h
 
 no_stride_at : (w : Name) (a rank k : ℕ) → rank ≤ k → Literal (pos 1) ≡ or_one (window_strides w a rank) k
 no_stride_at w a zero k h = refl
@@ -87,19 +84,32 @@ offset_is naming strides lanes is own_is all_is dims own_dims all_dims later e f
 pub front_is : (xs : List Ctrl) → map control (take (length xs - 1) xs) ≡ front (map control xs)
 front_is [] = refl
 front_is (x ∷ []) = refl
-front_is (x ∷ (y ∷ rest)) = ap (λ ys. control x ∷ ys) (front_is (y ∷ rest))
+front_is (x ∷ (y ∷ rest)) =
+    let n : length (x ∷ (y ∷ rest)) - 1 ≡ suc (length (y ∷ rest) - 1) = omega arith in
+    ap (λ m. map control (take m (x ∷ (y ∷ rest)))) n ∙ ap (λ ys. control x ∷ ys) (front_is (y ∷ rest))
 
 pub own_all : (xs : List Ctrl) (lanes : ℕ) → lanes ≡ 0 → map control xs ≡ without_lanes lanes (map control xs)
 own_all xs lanes h = ap (λ n. without_lanes n (map control xs)) (sym h)
 
-pub own_none : (xs : List Ctrl) (lanes : ℕ) → length xs ≡ 0 → map control xs ≡ without_lanes lanes (map control xs)
-own_none [] zero h = refl
-own_none [] (suc n) h = refl
-own_none (x ∷ xs) lanes h = absurd (omega (arith, h))
+pub own_front : (xs : List Control) (lanes : ℕ) → (lanes ≡ 0 → ⊥) → front xs ≡ without_lanes lanes xs
+own_front xs zero h = absurd (h refl)
+own_front xs (suc n) h = refl
 
-pub own_front : (xs ys : List Ctrl) (lanes : ℕ) → (lanes ≡ 0 → ⊥) → ys ≡ take (length xs - 1) xs → map control ys ≡ without_lanes lanes (map control xs)
-own_front xs ys zero h e = absurd (h refl)
-own_front xs ys (suc n) h e = ap (map control) e ∙ front_is xs
+-- ---- how many strides there are
+
+tensor_count : (naming : Naming) (dims : List Control) → length dims ≡ length (row_strides (dims_of naming dims))
+tensor_count naming [] = refl
+tensor_count naming (d ∷ ds) = ap suc (tensor_count naming ds)
+
+pub tensor_strides : (naming : Naming) (x : ℕ) (cell : Cell) (dims : List Control) (lanes : ℕ) → length dims ≡ length (strides_in naming x (TensorForm cell dims lanes))
+tensor_strides naming x cell dims lanes = tensor_count naming dims
+
+window_count : (w : Name) (k rank : ℕ) → rank ≡ length (window_strides w k rank)
+window_count w k zero = refl
+window_count w k (suc n) = ap suc (window_count w (suc k) n)
+
+pub window_rank : (naming : Naming) (x : ℕ) (cell : Cell) (rank : ℕ) → rank ≡ length (strides_in naming x (WindowForm cell rank))
+window_rank naming x cell rank = window_count (naming.binder x) 0 rank
 
 -- ---- indices 0
 

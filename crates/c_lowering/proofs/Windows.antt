@@ -1,20 +1,12 @@
 -- Strides at the spans of a window, dimension by dimension.
 use Rattle.std.proofs.Common.{◌≡◌, ◌<◌, ◌≤◌, ◌&&◌, nat_lt, ℕ, zero, suc, pos, ◌+◌, Bool, true, false, List, [], ◌∷◌, ◌++◌, map, length, drop, get_or, refl, sym, ap, ap₂, ◌∙◌, arith, append_assoc, drop-cons, add-one, true≢false}
-use Rattle.std.proofs.lemmas.List.{drop_all, drop-drop, map-append}
-use Rattle.std.proofs.lemmas.List.length.{length-append}
-use Rattle.exo_tree.specs.Tree.{Coord, At, Span}
-use Rattle.c_tree.specs.CTree.{Number64, Literal}
+use Rattle.std.proofs.lemmas.List.{drop_all, drop-drop, map-append, length-append}
+use Rattle.exo_tree.specs.Tree.{Cell, Coord, At, Span}
+use Rattle.c_tree.specs.CTree.{Number64, Literal, CellRef, WindowOf}
+use Rattle.c_tree.specs.Plain.{plain_number}
+use Rattle.c_tree.specs.declared.tree.CNumber.{CNumber}
 use Rattle.c_lowered.specs.Lowered.{or_one, at_spans}
 use Rattle.c_lowering.specs.Whole.{is_span}
-
--- one item more behind those that are made
-pub one_pushed : {A B : Type 0} (f : A → B) (made more : List A) (x : A) (later all whole : List B) → more ≡ made ++ x ∷ [] → all ≡ f x ∷ later → map f made ++ all ≡ whole → map f more ++ later ≡ whole
-one_pushed f made more x later all whole pushed is so_far =
-    ap (λ l. map f l ++ later) pushed
-    ∙ ap (λ l. l ++ later) (map-append f made (x ∷ []))
-    ∙ append_assoc (map f made) (f x ∷ []) later
-    ∙ ap (λ l. map f made ++ l) (sym is)
-    ∙ so_far
 
 or_one_is : (ts : List Number64) (k : ℕ) → or_one ts k ≡ get_or ts k (Literal (pos 1))
 or_one_is [] k = refl
@@ -85,3 +77,14 @@ pub spans_counted : (count more : ℕ) (c : Coord) (cs all : List Coord) (ts : L
 spans_counted count more c cs all ts k whole e counted so_far =
     let parts : length (at_spans all (drop k ts)) ≡ length (at_spans (c ∷ []) (drop k ts)) + length (at_spans cs (drop (k + 1) ts)) = ap length (spans_next c cs all ts k e) ∙ length-append (at_spans (c ∷ []) (drop k ts)) (at_spans cs (drop (k + 1) ts)) in
     omega (arith, parts, counted, so_far)
+
+-- the stride of a coordinate goes behind the others
+pub stride_put : (old new : List CNumber) (n : CNumber) (c : Coord) (ts : List Number64) (k count : ℕ) (b : Bool) → count ≡ length ts → b ≡ (is_span c && nat_lt k count) → b ≡ true → plain_number n ≡ or_one ts k → new ≡ old ++ n ∷ [] → map plain_number new ≡ map plain_number old ++ at_spans (c ∷ []) (drop k ts)
+stride_put old new n c ts k count b counted is on value pushed =
+    ap (map plain_number) pushed
+    ∙ map-append plain_number old (n ∷ [])
+    ∙ ap (λ l. map plain_number old ++ l) (ap (λ t. t ∷ []) value ∙ sym (span_here c ts k count b counted is on))
+
+-- a window by its parts
+pub window_same : (cell t : Cell) (first ref : CellRef) (ts us : List Number64) → cell ≡ t → first ≡ ref → ts ≡ us → WindowOf (length ts) cell first ts ≡ WindowOf (length us) t ref us
+window_same cell t first ref ts us e f g = λ i. WindowOf (length (g i)) (e i) (f i) (g i)

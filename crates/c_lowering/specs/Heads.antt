@@ -1,4 +1,5 @@
--- A statement's C in two parts: the statement that stands in its place, and what stands at the end of its block.
+-- A statement's C in two parts: the statement that stands in its place, and what stands at the end
+-- of its block.
 use Rattle.std.specs.Prelude.{ℕ, Bool, true, false, ◌||◌, List, [], ◌∷◌}
 use Rattle.exo_tree.specs.Tree.{Binder, Cell, I32, Index, Control, Statement, Assign, Reduce, Config, Pass, If, For, Alloc, View, Call, ControlParam}
 use Rattle.exo_meaning.specs.Scene.{updated}
@@ -26,14 +27,22 @@ buffer_of naming x cell dims memory =
     (without_lanes memory.lanes dims)
 
 abbrev pub head_of : Naming → Forms → Statement → CStatement
-head_of naming forms (Assign x is e) = Store (cell_in (forms x) I32) (cell_at_of naming forms x is) (number32_of naming forms e)
-head_of naming forms (Reduce x is e) = AddTo (cell_in (forms x) I32) (cell_at_of naming forms x is) (number32_of naming forms e)
-head_of naming forms (Config f a) = SetField (naming.field f) (actual_of naming forms (ControlParam Index) a)
+head_of naming forms (Assign x is e) =
+    Store (cell_in (forms x) I32) (cell_at_of naming forms x is) (number32_of naming forms e)
+head_of naming forms (Reduce x is e) =
+    AddTo (cell_in (forms x) I32) (cell_at_of naming forms x is) (number32_of naming forms e)
+head_of naming forms (Config f a) =
+    SetField (naming.field f) (actual_of naming forms (ControlParam Index) a)
 head_of naming forms Pass = Empty
-head_of naming forms (If c a b) = Branch (test_of naming forms c) (block_of naming forms a) (block_of naming forms b)
-head_of naming forms (For i lo hi b) = Loop (naming.binder i.id) (number_of naming forms lo) (number_of naming forms hi) (block_of naming (updated forms i.id NumberForm) b)
-head_of naming forms (Alloc x cell dims memory) = buffer_of naming x.id cell dims (naming.memory memory)
-head_of naming forms (View w x coords) = bind_of (naming.binder w.id) (window_of naming forms x (cell_in (forms x) I32) coords)
+head_of naming forms (If c a b) =
+    Branch (test_of naming forms c) (block_of naming forms a) (block_of naming forms b)
+head_of naming forms (For i lo hi b) =
+    Loop (naming.binder i.id) (number_of naming forms lo) (number_of naming forms hi)
+    (block_of naming (updated forms i.id NumberForm) b)
+head_of naming forms (Alloc x cell dims memory) =
+    buffer_of naming x.id cell dims (naming.memory memory)
+head_of naming forms (View w x coords) =
+    bind_of (naming.binder w.id) (window_of naming forms x (cell_in (forms x) I32) coords)
 head_of naming forms (Call k args) = call_of naming forms k (naming.routine k) args
 
 -- the buffer that a statement puts on the heap

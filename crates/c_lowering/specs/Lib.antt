@@ -1,6 +1,6 @@
 pub mod PlainPrinted
 pub mod PlainHole
-pub mod Parts
+pub mod Reader
 pub mod Scope
 pub mod Naming
 pub mod Operations

@@ -1,4 +1,5 @@
--- What an expression makes of the C of its parts. Of a form that has no such parts nothing is asked.
+-- What an expression makes of the C of its parts. Of a form that has no such parts nothing is
+-- asked.
 use Rattle.exo_tree.specs.Tree.{Control, Sub, Mul, Div, Mod, Condition, Lt, Le, Gt, Ge, And, Datum, Relu, Minus, Times}
 use Rattle.c_tree.specs.CTree.{Number64, Opposite, Sum, Difference, Product, Quotient, Remainder, Test, Less, LessEqual, More, MoreEqual, Equal, Both, Either, Number32, Opposite32, Relu32, Sum32, Difference32, Product32}
 

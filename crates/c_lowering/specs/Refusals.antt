@@ -1,5 +1,5 @@
 -- When procedures have no C.
-use Rattle.std.specs.Prelude.{◌≡◌, ℕ, List, Option, Some, None, ⊤, ⊥}
+use Rattle.std.specs.Prelude.{◌≡◌, ℕ, List, Option, Some, None, ⊤}
 use Rattle.exo_tree.specs.Tree.{Program}
 use Rattle.c_names.specs.Words.{Name}
 use Rattle.c_names.specs.Clash.{first_clash}
@@ -16,14 +16,9 @@ too_wide program what = widest program (is_listed what) (counts program what)
 abbrev pub name_clash : Program → List Printing → Option Name
 name_clash program what = first_clash (global_names program what)
 
--- the refusal of that number; want of memory stands for one that is no number of a procedure
-abbrev pub IsWideness : ℕ → LowerError → Type 0
-IsWideness k (TooWide j) = j.0 ≡ k
-IsWideness k (NameClash x) = ⊥
-IsWideness k Memory = ⊤
-
 -- what each refusal means; widths come before names
 abbrev pub Refuses : Program → List Printing → LowerError → Type 0
 Refuses program what (TooWide k) = too_wide program what ≡ Some k.0
-Refuses program what (NameClash x) = (too_wide program what ≡ None) × (name_clash program what ≡ Some x)
+Refuses program what (NameClash x) =
+    (too_wide program what ≡ None) × (name_clash program what ≡ Some x)
 Refuses program what Memory = ⊤

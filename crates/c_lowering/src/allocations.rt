@@ -67,7 +67,7 @@ fn stack_count(dims: &[Ctrl]) -> i64
 
 /// The type of an allocation's elements: cells, or vectors where its memory has lanes.
 fn element(alloc: Global, memory: Memory<'_>, cell: Cell) -> Result<CElement, AllocError>
-    ensures { IfOk result (λ e. plain_element e ≡ element_of (memory_in memory) (cell_type cell)) }
+    ensures { IfOk result (λ e. plain_element e ≡ element_of (memory_in memory.entry) (cell_type cell)) }
 {
     if memory.lanes == 0 {
         return Ok(CElement::Single(c_type(cell)));
@@ -78,7 +78,7 @@ fn element(alloc: Global, memory: Memory<'_>, cell: Cell) -> Result<CElement, Al
 
 /// Whether an allocation is on the stack: where its memory is, or where it is one cell.
 pub(crate) fn is_on_stack(memory: Memory<'_>, dims: &Indices) -> bool
-    ensures { result ≡ is_on_stack (memory_in memory) dims.now }
+    ensures { result ≡ is_on_stack (memory_in memory.entry) dims.now }
 {
     memory.stack || dims.len() == 0
 }

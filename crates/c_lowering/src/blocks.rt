@@ -22,7 +22,10 @@ use crate::expressions::{lower_cell, lower_data, lower_sides, lower_test};
 use crate::names::Names;
 use crate::scope::{Entry, Form, buffer_cell, cell_type, enter};
 use c_tree::tree::{CBlock, CCell, CData, CStatement, CType};
-use exo_tree::{Arg, Binder, Block, Cell, Cond, Coords, Ctrl, DataExpr, FieldId, Id, Indices, Kind, MemId, ParamKind, Stmt};
+use exo_tree::{
+    Arg, Binder, Block, Cell, Cond, Coords, Ctrl, DataExpr, FieldId, Id, Indices, Kind, MemId,
+    ParamKind, Stmt,
+};
 use std::alloc::{AllocError, Global};
 
 /// The C of a store: the type, the cell and the number.
@@ -215,7 +218,10 @@ fn open_view(
     ensures forms { OnOk result (forms_in scope.new.items ≡ updated (forms_in scope.old.items) w.0 (WindowForm (cell_in (forms_in scope.old.items x.0) I32) (length (at_spans coords.now (strides_in (naming_of names.now) x.0 (forms_in scope.old.items x.0)))))) }
     ensures kept { OnOk result (take (length scope.old.items) scope.new.items ≡ scope.old.items) }
 {
-    let form = Form::Window(buffer_cell(scope, x), span_count(scope, x, coords.as_slice()));
+    let form = Form::Window(
+        buffer_cell(scope, x),
+        span_count(scope, x, coords.as_slice()),
+    );
     enter(scope, w, form)
 }
 
@@ -232,8 +238,9 @@ fn open(
     ensures buffers { OnOk result (map (λ y. y.0) buffers.new.items ≡ map (λ y. y.0) buffers.old.items ++ heaped (naming_of names.now) (statement s.now)) }
 {
     match s {
-        Stmt::Alloc(x, cell, dims, m) =>
-            open_buffer(alloc, names, x.id, *cell, dims, *m, scope, buffers),
+        Stmt::Alloc(x, cell, dims, m) => open_buffer(
+            alloc, names, x.id, *cell, dims, *m, scope, buffers,
+        ),
         Stmt::View(w, x, coords) => open_view(names, w.id, *x, coords, scope),
         _ => Ok(()),
     }

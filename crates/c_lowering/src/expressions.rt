@@ -122,7 +122,12 @@ fn array_cell(alloc: Global, names: &Names<'_>, x: Id, offset: CNumber) -> Resul
 }
 
 /// The cell of a window at an offset.
-fn window_cell(alloc: Global, names: &Names<'_>, w: Id, offset: CNumber) -> Result<CCell, AllocError>
+fn window_cell(
+    alloc: Global,
+    names: &Names<'_>,
+    w: Id,
+    offset: CNumber,
+) -> Result<CCell, AllocError>
     ensures { IfOk result (λ c. plain_cell c ≡ InWindow ((naming_of names.now).binder w.0) (plain_number offset)) }
 {
     Ok(CCell {

@@ -1,5 +1,5 @@
 //! The configuration fields that procedures read or write: one walk marks them.
-ghost use Rattle.std.specs.Prelude.{◌≡◌, ◌&&◌, false, length, map, replicate, IfOk};
+ghost use Rattle.std.specs.Prelude.{◌≡◌, ◌&&◌, ◌||◌, false, length, map, replicate, IfOk};
 ghost use Rattle.exo_tree.specs.Tree.{block};
 ghost use Rattle.exo_tree.specs.PlainControl.{control, condition};
 ghost use Rattle.exo_tree.specs.PlainArgument.{argument};
@@ -31,6 +31,14 @@ fn mark_control(e: &Ctrl, marks: &mut FieldMarks)
     }
 }
 
+/// Marks the fields of both sides of a comparison.
+fn mark_both(a: &Ctrl, b: &Ctrl, marks: &mut FieldMarks)
+    ensures { Marked (λ f. in_control f (control a.now) || in_control f (control b.now)) marks.old marks.new }
+{
+    mark_control(a, marks);
+    mark_control(b, marks);
+}
+
 /// Marks the fields of a condition.
 fn mark_condition(c: &Cond, marks: &mut FieldMarks)
     ensures { Marked (λ f. in_condition f (condition c.now)) marks.old marks.new }
@@ -39,8 +47,7 @@ fn mark_condition(c: &Cond, marks: &mut FieldMarks)
         Cond::True | Cond::False | Cond::Var(_) => {}
         Cond::Field(f) => marks.insert(*f),
         Cond::Lt(a, b) | Cond::Le(a, b) | Cond::Gt(a, b) | Cond::Ge(a, b) | Cond::Eq(a, b) => {
-            mark_control(a, marks);
-            mark_control(b, marks);
+            mark_both(a, b, marks);
         }
         Cond::And(a, b) | Cond::Or(a, b) => {
             mark_condition(a, marks);

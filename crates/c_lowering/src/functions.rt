@@ -1,5 +1,5 @@
 //! The C of procedures.
-ghost use Rattle.std.specs.Prelude.{◌≡◌, map, Some, None, slice_get, string_bytes, IfOk};
+ghost use Rattle.std.specs.Prelude.{◌≡◌, [], map, Some, slice_get, string_bytes, IfOk};
 ghost use Rattle.exo_tree.specs.PlainParam.{parameter, parameter_kind};
 ghost use Rattle.exo_tree.specs.PlainProcedure.{procedure};
 ghost use Rattle.exo_tree.specs.PlainUnit.{program};

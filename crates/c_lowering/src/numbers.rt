@@ -3,7 +3,7 @@ ghost use Rattle.std.specs.Prelude.{◌≡◌, ◌+◌, ◌-◌, map, drop, IfOk
 ghost use Rattle.exo_tree.specs.PlainControl.{control};
 ghost use Rattle.c_tree.specs.CTree.{Named, StrideIn, Sum, Product};
 ghost use Rattle.c_tree.specs.Plain.{plain_number};
-ghost use Rattle.c_lowered.specs.Lowered.{number_of, numbers_of, dims_of, product_from, product_of, row_strides, window_strides, or_one, strides_in, horner, offset, scaled, scaled_from, without_lanes};
+ghost use Rattle.c_lowered.specs.Lowered.{number_of, numbers_of, dims_of, product_from, product_of, row_strides, window_strides, or_one, strides_in, horner, offset, scaled, scaled_from, front, without_lanes};
 ghost use Rattle.c_lowering.specs.Scope.{forms_in};
 ghost use Rattle.c_lowering.specs.Naming.{naming_of, extent_of};
 ghost use Rattle.c_lowering.specs.Behind.{offset_behind};
@@ -302,14 +302,24 @@ fn rows_offset(
     Ok(whole)
 }
 
+/// All but the last.
+fn front(list: &[Ctrl]) -> &[Ctrl]
+    ensures { map control result.now ≡ front (map control list.now) }
+{
+    if list.is_empty() {
+        return list;
+    }
+    &list[..list.len() - 1]
+}
+
 /// In a memory with lanes the last index and dimension are left out.
 pub(crate) fn own(list: &[Ctrl], lanes: u32) -> &[Ctrl]
     ensures { map control result.now ≡ without_lanes lanes (map control list.now) }
 {
-    if lanes == 0 || list.is_empty() {
+    if lanes == 0 {
         return list;
     }
-    &list[..list.len() - 1]
+    front(list)
 }
 
 /// The offset of a cell, or of a vector where there are lanes, in a dense, row-major buffer of these dimensions.

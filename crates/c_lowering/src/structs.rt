@@ -134,11 +134,7 @@ fn put_struct(
 }
 
 /// Appends the two structs of a rank, where a function names them.
-fn put_rank(
-    rank: usize,
-    functions: &[CFunction],
-    made: &mut Vec<CStruct>,
-) -> Result<(), AllocError>
+fn put_rank(rank: usize, functions: &[CFunction], made: &mut Vec<CStruct>) -> Result<(), AllocError>
     ensures { OnOk result (map plain_struct made.new.items ≡ map plain_struct made.old.items ++ structs.kept_structs (map plain_function functions.now) (structs.structs_from 1 rank)) }
 {
     let small = CStruct {

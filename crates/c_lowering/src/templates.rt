@@ -1,12 +1,13 @@
 //! Templates of instructions: their parts, and which parameter a name in braces means.
-ghost use Rattle.std.specs.Prelude.{◌≡◌, ◌<◌, ◌++◌, List, [], ◌∷◌, length, map, IfOk, IfSome, MatchOption, OnOk, string_bytes};
+ghost use Rattle.std.specs.Prelude.{◌≡◌, ◌++◌, [], map, IfOk, OnOk, string_bytes};
+ghost use Rattle.std.specs.Char.{encode_utf8};
 ghost use Rattle.exo_tree.specs.PlainParam.{parameter};
 ghost use Rattle.exo_meaning.specs.Units as units;
-ghost use Rattle.exo_meaning.specs.Units.{InHole, is_text, data_ending};
-ghost use Rattle.c_lowered.specs.Lowered as parts;
-ghost use Rattle.c_lowered.specs.LoweredUnit.{holes_from, holes_of};
-ghost use Rattle.c_lowering.specs.Parts.{is_brace, run_of, end_of, with_bytes, with_part};
+ghost use Rattle.exo_meaning.specs.Units.{is_text, data_ending};
+ghost use Rattle.c_lowered.specs.LoweredUnit.{holes_of};
 ghost use Rattle.c_lowering.specs.PlainHole.{plain_hole};
+ghost use Rattle.c_lowering.specs.Reader.{behind, all_parts, IsPast};
+ghost use Rattle.c_lowering.specs.declared.templates.Place.TheVariants as places;
 
 use exo_tree::{Param, ParamKind};
 use std::alloc::{AllocError, Global};
@@ -18,146 +19,146 @@ pub(crate) enum Hole {
     InBraces(String),
 }
 
-/// The first part of a template, as its text has it: a doubled brace is a run of one brace.
+/// Where the reading of a template stands: in plain text, behind an opening brace, behind a closing one, in a name, or
+/// behind a brace that stands alone, where the template ends.
 #[derive(Clone, Copy)]
-enum Part<'a> {
-    Run(&'a str),
-    Name(&'a str),
+enum Place {
+    Plain,
+    Opened,
+    Closed,
+    InName,
+    Ended,
 }
 
-/// Whether a byte is a brace.
-fn is_brace(byte: u8) -> bool
-    ensures { result ≡ is_brace byte }
-{
-    byte == b'{' || byte == b'}'
+/// What was read of a template: its parts, the text behind them, and the name that stands behind the last brace.
+#[derive(Drop)]
+struct Reader {
+    parts: Vec<Hole>,
+    text: String,
+    name: String,
+    place: Place,
 }
 
-/// How many bytes there are before the first brace.
-fn run_len(bytes: &[u8]) -> usize
-    ensures { result ≡ run_of bytes.now }
+/// Appends a text as a part, where there is any.
+fn put_text(alloc: Global, parts: &mut Vec<Hole>, text: &str) -> Result<(), AllocError>
+    ensures { OnOk result (map plain_hole parts.new.items ≡ map plain_hole parts.old.items ++ behind text.now []) }
 {
-    for k in 0..bytes.len() {
-        if is_brace(bytes[k]) {
-            return k;
-        }
-    }
-    bytes.len()
-}
-
-/// How many bytes there are before the first closing brace.
-fn name_len(bytes: &[u8]) -> usize
-    ensures { result ≡ end_of bytes.now }
-{
-    for k in 0..bytes.len() {
-        if bytes[k] == b'}' {
-            return k;
-        }
-    }
-    bytes.len()
-}
-
-/// A name in braces and what is behind it, where the text is that behind an opening brace; None where no brace closes it.
-fn next_name(text: &str) -> Option<(Part<'_>, &str)>
-    ensures holes { MatchOption result (holes_from (InHole []) text.now ≡ []) (λ r. holes_from (InHole []) text.now ≡ with_part r.0 (holes_of r.1.now)) }
-    ensures shorter { IfSome result (λ r. length r.1.now < length text.now) }
-{
-    let end = name_len(text.as_bytes());
-    if end == text.len() {
-        return None;
-    }
-    let (name, rest) = text.split_at(end);
-    Some((Part::Name(name), &rest[1..]))
-}
-
-/// The first part of a template that begins with a brace, and what is behind it; None where no part begins so.
-fn next_hole(text: &str) -> Option<(Part<'_>, &str)>
-    requires { run_of text.now ≡ 0 }
-    ensures holes { MatchOption result (holes_of text.now ≡ []) (λ r. holes_of text.now ≡ with_part r.0 (holes_of r.1.now)) }
-    ensures shorter { IfSome result (λ r. length r.1.now < length text.now) }
-{
-    let bytes = text.as_bytes();
-    if bytes.len() < 2 {
-        return None;
-    }
-    if bytes[0] == bytes[1] {
-        return Some((Part::Run(&text[..1]), &text[2..]));
-    }
-    if bytes[0] == b'}' || bytes[1] == b'}' {
-        return None;
-    }
-    next_name(&text[1..])
-}
-
-/// The first part of a template and what is behind it; None where no part is left.
-fn next_part(text: &str) -> Option<(Part<'_>, &str)>
-    ensures holes { MatchOption result (holes_of text.now ≡ []) (λ r. holes_of text.now ≡ with_part r.0 (holes_of r.1.now)) }
-    ensures shorter { IfSome result (λ r. length r.1.now < length text.now) }
-{
-    let end = run_len(text.as_bytes());
-    if end == 0 {
-        return next_hole(text);
-    }
-    let (run, rest) = text.split_at(end);
-    Some((Part::Run(run), rest))
-}
-
-/// The text so far becomes a part, where there is any.
-fn end_run(alloc: Global, done: &mut Vec<Hole>, run: &mut String) -> Result<(), AllocError>
-    ensures run { OnOk result (string_bytes run.new ≡ []) }
-    ensures done { OnOk result (map plain_hole done.new.items ≡ map plain_hole done.old.items ++ with_bytes (string_bytes run.old) []) }
-{
-    if run.is_empty() {
+    if text.is_empty() {
         return Ok(());
     }
-    let text = std::mem::replace(run, String::new(alloc));
-    done.push(Hole::Bytes(text))?;
+    let text = String::from_str(alloc, text)?;
+    parts.push(Hole::Bytes(text))?;
     Ok(())
 }
 
-/// A name in braces comes behind the text so far.
-fn put_name(
-    alloc: Global,
-    done: &mut Vec<Hole>,
-    run: &mut String,
-    name: &str,
-) -> Result<(), AllocError>
-    ensures run { OnOk result (string_bytes run.new ≡ []) }
-    ensures done { OnOk result (map plain_hole done.new.items ≡ map plain_hole done.old.items ++ with_bytes (string_bytes run.old) (parts.InBraces name.now ∷ [])) }
+/// Reads a character of plain text.
+fn read_plain(reader: &mut Reader, c: char) -> Result<(), AllocError>
+    requires { reader.old.place ≡ places.Plain }
+    ensures { OnOk result (IsPast (encode_utf8 c) reader.old reader.new) }
 {
-    end_run(alloc, done, run)?;
-    let name = String::from_str(alloc, name)?;
-    done.push(Hole::InBraces(name))?;
-    Ok(())
-}
-
-/// A part comes behind those that are there, which are the done ones and then the text.
-fn put_part(
-    alloc: Global,
-    done: &mut Vec<Hole>,
-    run: &mut String,
-    part: Part<'_>,
-) -> Result<(), AllocError>
-    ensures { OnOk result ((hs : List parts.Hole) → map plain_hole done.new.items ++ with_bytes (string_bytes run.new) hs ≡ map plain_hole done.old.items ++ with_bytes (string_bytes run.old) (with_part part hs)) }
-{
-    match part {
-        Part::Run(text) => run.push_str(text),
-        Part::Name(name) => put_name(alloc, done, run, name),
+    match c {
+        '{' => reader.place = Place::Opened,
+        '}' => reader.place = Place::Closed,
+        _ => reader.text.push(c)?,
     }
+    Ok(())
+}
+
+/// Reads the character behind an opening brace.
+fn read_opened(reader: &mut Reader, c: char) -> Result<(), AllocError>
+    requires { reader.old.place ≡ places.Opened }
+    ensures { OnOk result (IsPast (encode_utf8 c) reader.old reader.new) }
+{
+    match c {
+        '{' => {
+            reader.text.push(c)?;
+            reader.place = Place::Plain;
+        }
+        '}' => reader.place = Place::Ended,
+        _ => {
+            reader.name.clear();
+            reader.name.push(c)?;
+            reader.place = Place::InName;
+        }
+    }
+    Ok(())
+}
+
+/// Reads the character behind a closing brace.
+fn read_closed(reader: &mut Reader, c: char) -> Result<(), AllocError>
+    requires { reader.old.place ≡ places.Closed }
+    ensures { OnOk result (IsPast (encode_utf8 c) reader.old reader.new) }
+{
+    if c == '}' {
+        reader.text.push(c)?;
+        reader.place = Place::Plain;
+    } else {
+        reader.place = Place::Ended;
+    }
+    Ok(())
+}
+
+/// The name so far becomes a part, behind the text.
+fn end_name(alloc: Global, reader: &mut Reader) -> Result<(), AllocError>
+    requires { reader.old.place ≡ places.InName }
+    ensures { OnOk result (IsPast (encode_utf8 125) reader.old reader.new) }
+{
+    put_text(alloc, &mut reader.parts, reader.text.as_str())?;
+    reader.text.clear();
+    let name = String::from_str(alloc, reader.name.as_str())?;
+    reader.parts.push(Hole::InBraces(name))?;
+    reader.place = Place::Plain;
+    Ok(())
+}
+
+/// Reads a character of a name.
+fn read_name(alloc: Global, reader: &mut Reader, c: char) -> Result<(), AllocError>
+    requires { reader.old.place ≡ places.InName }
+    ensures { OnOk result (IsPast (encode_utf8 c) reader.old reader.new) }
+{
+    if c == '}' {
+        return end_name(alloc, reader);
+    }
+    reader.name.push(c)?;
+    Ok(())
+}
+
+/// Reads a character.
+fn read(alloc: Global, reader: &mut Reader, c: char) -> Result<(), AllocError>
+    ensures { OnOk result (IsPast (encode_utf8 c) reader.old reader.new) }
+{
+    match reader.place {
+        Place::Plain => read_plain(reader, c),
+        Place::Opened => read_opened(reader, c),
+        Place::Closed => read_closed(reader, c),
+        Place::InName => read_name(alloc, reader, c),
+        Place::Ended => Ok(()),
+    }
+}
+
+/// Reads a template.
+fn read_all(alloc: Global, template: &str) -> Result<Reader, AllocError>
+    ensures { IfOk result (λ r. holes_of template.now ≡ all_parts r []) }
+{
+    let mut reader = Reader {
+        parts: Vec::new(alloc),
+        text: String::new(alloc),
+        name: String::new(alloc),
+        place: Place::Plain,
+    };
+    for c in template.chars() {
+        read(alloc, &mut reader, c)?;
+    }
+    Ok(reader)
 }
 
 /// The parts of a template. A brace stands for itself where it is doubled; what follows a lone brace is left out.
 pub(crate) fn holes_of(alloc: Global, template: &str) -> Result<Vec<Hole>, AllocError>
     ensures { IfOk result (λ v. map plain_hole v.items ≡ holes_of template.now) }
 {
-    let mut done = Vec::new(alloc);
-    let mut run = String::new(alloc);
-    let mut rest = template;
-    while let Some((part, after)) = next_part(rest) {
-        put_part(alloc, &mut done, &mut run, part)?;
-        rest = after;
-    }
-    end_run(alloc, &mut done, &mut run)?;
-    Ok(done)
+    let mut reader = read_all(alloc, template)?;
+    put_text(alloc, &mut reader.parts, reader.text.as_str())?;
+    Ok(reader.parts)
 }
 
 /// Whether two texts are the same.
@@ -185,6 +186,8 @@ pub(crate) fn is_hole_of(text: &str, p: &Param) -> bool
     let name = p.binder.name.as_str().as_bytes();
     match &p.kind {
         ParamKind::Ctrl(_) => is_same(text.as_bytes(), name),
-        _ => is_data_of(text.as_bytes(), name),
+        ParamKind::Tensor(_, _, _) | ParamKind::Window(_, _, _) => {
+            is_data_of(text.as_bytes(), name)
+        }
     }
 }

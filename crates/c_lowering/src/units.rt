@@ -1,11 +1,12 @@
 //! The C of a unit.
-ghost use Rattle.std.specs.Prelude.{◌≡◌, ◌<◌, ℕ, map, length, None, string_bytes, IfOk, IfErr};
+ghost use Rattle.std.specs.Prelude.{◌≡◌, ◌<◌, ℕ, List, map, length, Some, None, string_bytes, IfOk, IfErr};
+ghost use Rattle.exo_tree.specs.Tree.{Program};
 ghost use Rattle.exo_tree.specs.PlainUnit.{program};
 ghost use Rattle.exo_calls.specs.Marked.{contains};
 ghost use Rattle.c_tree.specs.Plain.{plain_unit};
-ghost use Rattle.c_lowered.specs.LoweredUnit.{counts, fields_of, headers_of, global_names, lowered};
+ghost use Rattle.c_lowered.specs.LoweredUnit.{Printing, counts, fields_of, headers_of, global_names, lowered};
 ghost use Rattle.c_lowering.specs.PlainPrinted.{printing};
-ghost use Rattle.c_lowering.specs.Refusals.{too_wide, name_clash, IsWideness, Refuses};
+ghost use Rattle.c_lowering.specs.Refusals.{too_wide, name_clash, Refuses};
 
 use crate::counted::{counted, listed};
 use crate::fields::lower_fields;
@@ -23,16 +24,27 @@ use exo_tree::{Name, ProcId, Unit};
 use std::alloc::{AllocError, Global};
 
 /// The lines of the file before its structs.
-fn lower_includes(
-    alloc: Global,
-    unit: &Unit,
-    what: &[Printed],
-) -> Result<Vec<String>, AllocError>
+fn lower_includes(alloc: Global, unit: &Unit, what: &[Printed]) -> Result<Vec<String>, AllocError>
     ensures { IfOk result (λ v. map string_bytes v.items ≡ headers_of (program unit.now) (map printing what.now)) }
 {
     let headers = lower_headers(alloc, unit, what)?;
     let includes = texts(alloc, &headers)?;
     Ok(includes)
+}
+
+/// The C names of the fields in use.
+fn used_names(
+    alloc: Global,
+    unit: &Unit,
+    what: &[Printed],
+    counted: &Marks,
+) -> Result<Vec<Name>, AllocError>
+    requires { (k : ℕ) → k < length unit.now.procs → contains counted.now k ≡ counts (program unit.now) (map printing what.now) k }
+    ensures { IfOk result (λ v. v.items ≡ fields_of (program unit.now) (map printing what.now)) }
+{
+    let _ = what;
+    let names = lower_fields(alloc, unit, counted)?;
+    Ok(names)
 }
 
 /// The C of the listed procedures, by the names of the fields in use and by those of all functions and fields.
@@ -79,7 +91,7 @@ fn too_wide(
 
 /// The refusal of a procedure that is too wide; want of memory for a number that no procedure has.
 fn wide(k: usize) -> LowerError
-    ensures { IsWideness k result }
+    ensures { (program : Program) (what : List Printing) → too_wide program what ≡ Some k → Refuses program what result }
 {
     match u32::try_from(k) {
         Ok(k) => LowerError::TooWide(ProcId(k)),
@@ -102,7 +114,7 @@ pub fn lower(alloc: Global, unit: &Unit, what: &[Printed]) -> Result<CUnit, Lowe
     if let Some(k) = too_wide(alloc, unit, what, &counted)? {
         return Err(wide(k));
     }
-    let fields = lower_fields(alloc, unit, &counted)?;
+    let fields = used_names(alloc, unit, what, &counted)?;
     let globals = global_names(alloc, unit, what, &fields)?;
     if let Some(name) = first_clash(&globals) {
         let name = name.duplicate(alloc)?;

@@ -3,5 +3,5 @@ use Rattle.std.proofs.Common.{◌≡◌, pos, replicate}
 use Rattle.exo_tree.specs.Tree.{Lit}
 use Rattle.c_lowering.proofs.arguments.zero_indices.Given as goal
 
-abbrev pub invariant-loop-_i : goal.invariant-loop-_i
-invariant-loop-_i l = l.zeros ≡ replicate l._i (Lit (pos 0))
+abbrev pub invariant-loop-i : goal.invariant-loop-i
+invariant-loop-i l = l.zeros ≡ replicate l._i (Lit (pos 0))

@@ -6,4 +6,4 @@ use Rattle.c_lowered.specs.LoweredUnit.{is_used_from}
 use Rattle.c_lowering.proofs.fields.used_fields.Given as goal
 
 abbrev pub invariant-loop-k : goal.invariant-loop-k
-invariant-loop-k l = (new : _) → Marked (λ f. is_used_from (contains l.counted) f l.k (map procedure (drop l.k l.k-items))) l.marks new → Marked (λ f. is_used_from (contains l.counted) f 0 l.unit.procs) l.initial.marks new
+invariant-loop-k l = (new : _) → Marked (λ f. is_used_from (contains l.counted) f l.k (map procedure (drop l.k l.p-items))) l.marks new → Marked (λ f. is_used_from (contains l.counted) f 0 l.unit.procs) l.initial.marks new

@@ -1,5 +1,5 @@
 -- What is made, and then the structs of the ranks that are left, are all.
-use Rattle.std.proofs.Common.{◌≡◌, ◌≤◌, ◌-◌, suc, ◌++◌, map}
+use Rattle.std.proofs.Common.{◌≡◌, ◌-◌, suc, ◌++◌, map}
 use Rattle.c_tree.specs.Plain.{plain_struct, plain_function}
 use Rattle.c_lowered.specs.LoweredUnit.{kept_structs, structs_from, structs_of}
 use Rattle.c_lowering.proofs.structs.lower_structs.Given as goal
