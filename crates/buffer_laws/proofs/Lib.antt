@@ -7,6 +7,9 @@ pub mod Shown
 pub mod Expanded
 pub mod Accumulated
 pub mod StageLaws
+pub mod Summed
+pub mod Sums
+pub mod OnlyAdds
 pub mod Examples
 pub mod StageExamples
 pub mod AccumExamples

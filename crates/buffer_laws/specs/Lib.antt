@@ -6,3 +6,5 @@ pub mod StageMem
 pub mod Expanded
 pub mod StageLaws
 pub mod Accumulated
+pub mod Sums
+pub mod StageAccum
