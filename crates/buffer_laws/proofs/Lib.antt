@@ -10,6 +10,9 @@ pub mod StageLaws
 pub mod Summed
 pub mod Sums
 pub mod OnlyAdds
+pub mod Mentioned
+pub mod SameScenes
+pub mod SumEnds
 pub mod Examples
 pub mod StageExamples
 pub mod AccumExamples
