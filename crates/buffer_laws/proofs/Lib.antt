@@ -13,6 +13,7 @@ pub mod OnlyAdds
 pub mod Mentioned
 pub mod SameScenes
 pub mod SumEnds
+pub mod StageAccum
 pub mod Examples
 pub mod StageExamples
 pub mod AccumExamples
