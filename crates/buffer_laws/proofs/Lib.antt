@@ -14,6 +14,7 @@ pub mod Mentioned
 pub mod SameScenes
 pub mod SumEnds
 pub mod StageAccum
+pub mod StageSums
 pub mod Examples
 pub mod StageExamples
 pub mod AccumExamples

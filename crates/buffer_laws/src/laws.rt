@@ -23,6 +23,12 @@ ghost use Rattle.buffer_laws.specs.Expanded.{ExpandUnderIds};
 ghost use Rattle.buffer_laws.specs.Expanded.{ExpandRefines};
 ghost use Rattle.buffer_laws.specs.Accumulated.{AccumLaw};
 ghost use Rattle.buffer_laws.specs.Accumulated.{AccumByModes};
+ghost use Rattle.buffer_laws.specs.Sums.{ZerosLaw};
+ghost use Rattle.buffer_laws.specs.Sums.{SumsLaw};
+ghost use Rattle.buffer_laws.specs.StageAccum.{OnlyAddsAtPlace};
+ghost use Rattle.buffer_laws.specs.StageAccum.{SumsReplace};
+ghost use Rattle.buffer_laws.specs.StageAccum.{SumsDraftLaw};
+ghost use Rattle.buffer_laws.specs.StageAccum.{StageSumsLaw};
 
 /// An allocation may have another memory.
 pub fn memories_are_not_seen()
@@ -137,4 +143,34 @@ pub fn sums_are_kept()
 /// So does one that neither reads nor writes it, directly, through views or in calls.
 pub fn sums_are_kept_by_modes()
     ensures { AccumByModes }
+{}
+
+/// An allocation and the nest of zeros make a buffer of the window's extents that holds 0.
+pub fn buffers_start_at_zero()
+    ensures { ZerosLaw }
+{}
+
+/// The nest of sums adds the buffer to the window, cell by cell.
+pub fn buffers_are_added_to_windows()
+    ensures { SumsLaw }
+{}
+
+/// At a place of a procedure a block that neither reads nor writes a name's buffer only adds to it.
+pub fn blocks_only_add_at_places()
+    ensures { OnlyAddsAtPlace }
+{}
+
+/// A block that only adds to a window may be staged on a buffer that starts at 0.
+pub fn summing_blocks_may_be_replaced()
+    ensures { SumsReplace }
+{}
+
+/// With simpler indices it runs as with those that are made.
+pub fn sum_drafts_run_alike()
+    ensures { SumsDraftLaw }
+{}
+
+/// So the procedure with it refines the procedure.
+pub fn windows_of_sums_may_be_staged()
+    ensures { StageSumsLaw }
 {}
