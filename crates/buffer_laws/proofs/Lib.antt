@@ -18,3 +18,4 @@ pub mod StageSums
 pub mod Examples
 pub mod StageExamples
 pub mod AccumExamples
+pub mod StageAccumExamples
