@@ -3,4 +3,7 @@ pub mod Calls
 pub mod Blocks
 pub mod Units
 pub mod Staged
+pub mod InView
+pub mod OnView
+pub mod ViewedRuns
 pub mod Examples

@@ -1,2 +1,3 @@
 pub mod Strides
 pub mod Staged
+pub mod OnView
