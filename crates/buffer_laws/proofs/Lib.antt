@@ -13,6 +13,8 @@ pub mod OnlyAdds
 pub mod Mentioned
 pub mod SameScenes
 pub mod SumEnds
+pub mod OfNothing
+pub mod SumsStand
 pub mod StageAccum
 pub mod StageSums
 pub mod Examples
