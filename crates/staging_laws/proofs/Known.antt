@@ -219,7 +219,7 @@ module _ (blind : ℕ → Bool) (world : World) (root : ℕ → ℕ) (a : Binder
       }
 
       -- what the load nest makes, and the block after it
-      run_from : (t : State) → run world inner (staged a.id seen to s) ≡ Some t
+      pub run_from : (t : State) → run world inner (staged a.id seen to s) ≡ Some t
           → run world (up_to_store a cell dims memory x coords ls b) s ≡ Some t
       run_from t e = compose world first_part inner s
           ∙ ap (λ o. then_do o (run world inner))

@@ -6,4 +6,5 @@ pub mod Staged
 pub mod InView
 pub mod OnView
 pub mod ViewedRuns
+pub mod Passed
 pub mod Examples

@@ -1,3 +1,5 @@
 pub mod Strides
 pub mod Staged
 pub mod OnView
+pub mod Passed
+pub mod StagePassed
