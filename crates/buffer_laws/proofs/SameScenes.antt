@@ -1,4 +1,4 @@
--- Accesses fit a window in all states of one scene.
+-- A run comes to the same scenes from all states of one scene.
 use Rattle.std.proofs.Common.{◌≡◌, ℕ, ℤ, List, [], ◌∷◌, Option, Some, None, refl, sym, ap, ◌∙◌}
 use Rattle.std.proofs.Common.{subst, option_map}
 use Rattle.exo_tree.specs.Tree.{Kind, Coord, Statement, Block, end, next, Procedure}
@@ -104,9 +104,17 @@ module _ (kinds : ℕ → Kind) (ps : List Procedure) where
       let r = comes_also old c s t u h z.1 in
       (r.0, (ap (λ (w : Scene). holds w test) h.scene ∙ z.0, r.1), r.2)
 
-  -- so what accesses keep from one state they keep from the other
+  -- so what is known of each statement from one state is known from the other
+  pub known_from : (P : Statement → Scene → Type 0) (b : Block) (s t : State) → s.scene ≡ t.scene
+      → ((c : Context) (d : Statement) (u : State) → b ≡ fill c (next d end)
+      → ComesTo world (next d end) c s u → P d u.scene)
+      → (c : Context) (d : Statement) (u : State) → b ≡ fill c (next d end)
+      → ComesTo world (next d end) c t u → P d u.scene
+  known_from P b s t e known c d u is come =
+      let r = comes_also (next d end) c s t u (same_scene s t e) come in
+      subst (P d) r.2.scene (known c d r.0 is r.1)
+
   pub fits_from : (x : ℕ) (coords : List Coord) (b : Block) (s t : State) → s.scene ≡ t.scene
       → FitsWithin world x coords b s → FitsWithin world x coords b t
   fits_from x coords b s t e fit c d u is come =
-      let r = comes_also (next d end) c s t u (same_scene s t e) come in
-      subst (λ (z : Scene). StatementFits x coords z d) r.2.scene (fit c d r.0 is r.1)
+      known_from (λ d z. StatementFits x coords z d) b s t e fit c d u is come

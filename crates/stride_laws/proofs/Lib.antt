@@ -7,4 +7,8 @@ pub mod InView
 pub mod OnView
 pub mod ViewedRuns
 pub mod Passed
+pub mod PassedSums
+pub mod StagePassed
+pub mod Along
 pub mod Examples
+pub mod PassedExamples
