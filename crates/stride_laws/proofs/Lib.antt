@@ -12,3 +12,4 @@ pub mod StagePassed
 pub mod Along
 pub mod Examples
 pub mod PassedExamples
+pub mod PassedRuns

@@ -50,7 +50,7 @@ two_of n = record { binder = named n (121 ∷ n ∷ []); kind = WindowParam I32 
 abbrev first_of : List Control
 first_of = Lit (pos 0) ∷ []
 
-abbrev callee : ℕ → List Param → Block → Procedure
+abbrev pub callee : ℕ → List Param → Block → Procedure
 callee n params b = record {
   name = n ∷ [];
   params = params;
@@ -69,10 +69,10 @@ adds = callee 98 (two_of 0 ∷ []) (next (Reduce 0 first_of (Const (pos 7))) end
 abbrev copies : Procedure
 copies = callee 99 (two_of 0 ∷ two_of 1 ∷ []) (next (Assign 0 first_of (Read 1 first_of)) end)
 
-abbrev unit : List Procedure
+abbrev pub unit : List Procedure
 unit = sets ∷ adds ∷ copies ∷ []
 
-abbrev world : World
+abbrev pub world : World
 world = unit_world (kinds_of []) unit
 
 abbrev above : List Procedure → ℕ → Option Callee
@@ -121,17 +121,17 @@ abbrev eight_of : ℕ → Param
 eight_of n = record { binder = named n (120 ∷ n ∷ []); kind = TensorParam I32 (Lit (pos 8) ∷ []) 0 }
 
 -- x is number 0, z number 1
-abbrev p_of : Block → Procedure
+abbrev pub p_of : Block → Procedure
 p_of b = callee 112 (eight_of 0 ∷ eight_of 1 ∷ []) b
 
-abbrev setting : Block
+abbrev pub setting : Block
 setting = next (Call 0 (Window 0 (Span (Lit (pos 3)) (Lit (pos 5)) ∷ []) ∷ [])) end
 
-abbrev adding : Block
+abbrev pub adding : Block
 adding = next (Call 1 (Window 0 (Span (Lit (pos 3)) (Lit (pos 5)) ∷ []) ∷ [])) end
 
 -- z[0:2] is given before x[3:5]
-abbrev copying : Block
+abbrev pub copying : Block
 copying = next (Call 2 (Window 1 (Span (Lit (pos 0)) (Lit (pos 2)) ∷ [])
     ∷ Window 0 (Span (Lit (pos 3)) (Lit (pos 5)) ∷ []) ∷ [])) end
 
@@ -183,10 +183,10 @@ copying_may_run = record {
 -- ---- the step
 
 -- x[2:6]
-abbrev middle : List Coord
+abbrev pub middle : List Coord
 middle = Span (Lit (pos 2)) (Lit (pos 6)) ∷ []
 
-abbrev x_sides : List Control
+abbrev pub x_sides : List Control
 x_sides = Lit (pos 8) ∷ []
 
 abbrev t : Binder
@@ -195,13 +195,13 @@ t = named 2 (116 ∷ [])
 abbrev staging : Staging
 staging = staging_of 0 middle (116 ∷ [])
 
-abbrev staged_of : Block → Block
+abbrev pub staged_of : Block → Block
 staged_of b = with_simpler same I32 0 2 0 middle (116 ∷ []) b
 
-abbrev read_of : Block → Block
+abbrev pub read_of : Block → Block
 read_of b = reader_with_simpler same I32 0 2 0 middle (116 ∷ []) b
 
-abbrev summed_of : Block → Block
+abbrev pub summed_of : Block → Block
 summed_of b = sums_with_simpler same I32 0 2 0 middle (116 ∷ []) b
 
 over_all : (ls : List Loop) → AreDistinct ls
