@@ -18,6 +18,7 @@ pub mod SumsStand
 pub mod StageAccum
 pub mod StageSums
 pub mod Examples
+pub mod ExpandExamples
 pub mod StageExamples
 pub mod AccumExamples
 pub mod StageAccumExamples
