@@ -5,6 +5,7 @@ pub mod Simplified
 pub mod StageMem
 pub mod Shown
 pub mod Expanded
+pub mod ExpandedIds
 pub mod Accumulated
 pub mod StageLaws
 pub mod Summed

@@ -8,3 +8,4 @@ pub mod StageLaws
 pub mod Accumulated
 pub mod Sums
 pub mod StageAccum
+pub mod ExpandText
