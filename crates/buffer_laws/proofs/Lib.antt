@@ -6,6 +6,8 @@ pub mod StageMem
 pub mod Shown
 pub mod Expanded
 pub mod ExpandedIds
+pub mod ExpandedZeros
+pub mod ExpandText
 pub mod Accumulated
 pub mod StageLaws
 pub mod Summed
