@@ -21,6 +21,8 @@ ghost use Rattle.buffer_laws.specs.StageLaws.{StageReaderLaw};
 ghost use Rattle.buffer_laws.specs.Expanded.{ExpandLaw};
 ghost use Rattle.buffer_laws.specs.Expanded.{ExpandUnderIds};
 ghost use Rattle.buffer_laws.specs.Expanded.{ExpandRefines};
+ghost use Rattle.buffer_laws.specs.ExpandText.{ExpandTextLaw};
+ghost use Rattle.buffer_laws.specs.ExpandText.{ExpandTextRefines};
 ghost use Rattle.buffer_laws.specs.Accumulated.{AccumLaw};
 ghost use Rattle.buffer_laws.specs.Accumulated.{AccumByModes};
 ghost use Rattle.buffer_laws.specs.Sums.{ZerosLaw};
@@ -173,4 +175,15 @@ pub fn sum_drafts_run_alike()
 /// So the procedure with it refines the procedure.
 pub fn windows_of_sums_may_be_staged()
     ensures { StageSumsLaw }
+{}
+
+/// A block with a new first dimension for a buffer ends with the same fields and cells, calls
+/// included.
+pub fn expanded_buffers_run_alike()
+    ensures { ExpandTextLaw }
+{}
+
+/// So it may stand for the block at a place of a procedure.
+pub fn buffers_are_expanded()
+    ensures { ExpandTextRefines }
 {}
