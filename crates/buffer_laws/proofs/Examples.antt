@@ -2,13 +2,13 @@
 use Rattle.std.proofs.Common.{true, option_map}
 use Rattle.std.proofs.Common.{◌≡◌, ◌==◌, ℕ, ℤ, pos, ◌+ℤ◌, Bool, false}
 use Rattle.std.proofs.Common.{[], ◌∷◌, Some, None, refl, subst}
-use Rattle.std.proofs.Common.{arith, cond, IfSome, ◌||◌, ap, sym, true≢false}
+use Rattle.std.proofs.Common.{arith, cond, ◌||◌, sym, true≢false}
 use Rattle.std.proofs.lemmas.Int.{ints}
 use Rattle.std.specs.Int.{int_wrap}
 use Rattle.std.specs.Ordering.{int_eq}
 use Rattle.exo_tree.specs.Tree.{Binder, I32, Index, Control, Condition, Lt, Lit, Var, StrideOf, Add}
 use Rattle.exo_tree.specs.Tree.{Field, Neg, Sub, Mul, Div, Mod}
-use Rattle.exo_tree.specs.Tree.{Datum, Const, Read, Plus, Times, Whole, Window, At, Assign, Reduce}
+use Rattle.exo_tree.specs.Tree.{Datum, Const, Read, Plus, Times, Whole, Window, At, Assign}
 use Rattle.exo_tree.specs.Tree.{Pass}
 use Rattle.exo_tree.specs.Tree.{Alloc, Call, Block, end, next, Procedure}
 use Rattle.exo_tree.specs.Context.{Here, fill}
@@ -25,7 +25,6 @@ use Rattle.exo_meaning.proofs.Windows.{none_is_some, one_value}
 use Rattle.meaning_laws.specs.Context.{MayReplace}
 use Rattle.meaning_laws.specs.Copies.{IsFree}
 use Rattle.meaning_laws.specs.Sorted.{CellsFit}
-use Rattle.meaning_laws.specs.Sound.{IsUnbound}
 use Rattle.meaning_laws.proofs.Swaps.{swap, swap_moves}
 use Rattle.meaning_laws.proofs.Replace.{unit_respects}
 use Rattle.inplace_laws.specs.Along.{SameAlong}
@@ -36,9 +35,9 @@ use Rattle.buffer_laws.specs.Lifted.{branch_with, lifted_from_then, lifted_from_
 use Rattle.buffer_laws.proofs.Lifted.{lift_from_then, lift_from_else, lift_then_law, lift_else_law}
 use Rattle.buffer_laws.specs.Bound.{Hole, Top, PlusIn, stores, only_statement, filled, bound}
 use Rattle.buffer_laws.specs.Simplified.{IsSimplifier, simplified}
-use Rattle.buffer_laws.specs.Expanded.{expanded, may_expand, small, enlarged, MayBePart, MayExpand}
-use Rattle.buffer_laws.specs.Expanded.{EndsAlike, with_larger}
-use Rattle.buffer_laws.proofs.Expanded.{expand_law, expand_under_ids, expand_refines}
+use Rattle.buffer_laws.specs.Expanded.{expanded, may_expand, small}
+use Rattle.buffer_laws.specs.Expanded.{with_larger}
+use Rattle.buffer_laws.proofs.Expanded.{expand_refines}
 use Rattle.buffer_laws.proofs.Buffers.{memory_law, delete_law}
 use Rattle.buffer_laws.proofs.Lifted.{lift_from_loop, lift_law}
 use Rattle.buffer_laws.proofs.Bound.{values_fit, bind_law, bind_refines}

@@ -1,7 +1,7 @@
 -- A buffer of one cell in a loop's turn, as the turn's part of a larger one; it is passed to a
 -- procedure that adds to it.
-use Rattle.std.proofs.Common.{◌≡◌, ◌==◌, ℕ, ℤ, pos, Bool, true, false, cond, List, [], ◌∷◌, Option}
-use Rattle.std.proofs.Common.{Some, None, IsSome, IfSome, option_map, refl, sym, ap, subst}
+use Rattle.std.proofs.Common.{◌≡◌, ◌==◌, ℕ, pos, Bool, true, false, cond, [], ◌∷◌, Option}
+use Rattle.std.proofs.Common.{Some, None, IsSome, IfSome, option_map, refl, sym, subst}
 use Rattle.std.proofs.Common.{true≢false, eqb-true, ◌||◌}
 use Rattle.std.specs.Int.{int_wrap}
 use Rattle.exo_tree.specs.Tree.{I32, Index, Lit, Var, Const, Read, Whole, Window, At, Assign, Reduce}
@@ -17,7 +17,7 @@ use Rattle.exo_meaning.proofs.Windows.{none_is_some, one_value}
 use Rattle.meaning_laws.specs.Copies.{IsFree}
 use Rattle.meaning_laws.specs.Sound.{IsSound, IsUnbound}
 use Rattle.meaning_laws.proofs.Swaps.{swap, swap_moves}
-use Rattle.buffer_laws.specs.Expanded.{expanded, small, enlarged, MayBePart, MayExpand}
+use Rattle.buffer_laws.specs.Expanded.{expanded, small, enlarged, MayExpand}
 use Rattle.buffer_laws.specs.Expanded.{EndsAlike, with_larger}
 use Rattle.buffer_laws.proofs.Examples.{drop, is_drop, named, one_cell}
 use Rattle.buffer_laws.specs.Buffers.{Buffer}

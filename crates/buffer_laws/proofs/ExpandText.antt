@@ -1,12 +1,12 @@
 -- The text of the step that gives a buffer a new first dimension.
-use Rattle.std.proofs.Common.{◌≡◌, ℕ, ◌==◌, ◌||◌, not, Bool, true, false, true≢false, cond, List, []}
-use Rattle.std.proofs.Common.{◌∷◌, length, Option, Some, None, IfSome, option_map, refl, sym, ap, ap₂}
+use Rattle.std.proofs.Common.{◌≡◌, ℕ, ◌==◌, ◌||◌, not, Bool, true, false, cond, List, []}
+use Rattle.std.proofs.Common.{◌∷◌, length, IfSome, refl, sym, ap, ap₂}
 use Rattle.std.proofs.Common.{◌∙◌, subst, eqb-true, eq-eqb, suc, arith}
-use Rattle.exo_tree.specs.Tree.{Control, Binder, At, Window, Alloc, Block, end, next}
+use Rattle.exo_tree.specs.Tree.{Control, At, Window, Alloc, Block, next}
 use Rattle.exo_tree.specs.Context.{fill}
 use Rattle.exo_tree.specs.Renaming as tree
 use Rattle.exo_meaning.specs.State.{State}
-use Rattle.exo_meaning.specs.Renaming.{Renaming, re_block, re_state}
+use Rattle.exo_meaning.specs.Renaming.{re_block}
 use Rattle.exo_meaning.specs.Run.{World, run, step, unit_world}
 use Rattle.exo_meaning.specs.Unseen.{in_control as control_mentions}
 use Rattle.exo_meaning.specs.Unseen.{in_controls as controls_mention}
@@ -14,10 +14,9 @@ use Rattle.exo_meaning.specs.Unseen.{in_coords as coords_mention}
 use Rattle.exo_meaning.proofs.Compose.{then_cong}
 use Rattle.exo_meaning.proofs.Frame.{or_parts}
 use Rattle.exo_meaning.proofs.Windows.{one_value}
-use Rattle.meaning_laws.specs.Copies.{Moves}
 use Rattle.meaning_laws.specs.Fresh.{swapped}
 use Rattle.meaning_laws.specs.Sound.{IsUnbound}
-use Rattle.meaning_laws.proofs.Copies.{copied_block_law, place_unbound}
+use Rattle.meaning_laws.proofs.Copies.{place_unbound}
 use Rattle.meaning_laws.proofs.Names.{if_gives}
 use Rattle.meaning_laws.proofs.Scoped.{not_true}
 use Rattle.meaning_laws.proofs.Swaps.{swap, swap_moves}
@@ -28,12 +27,12 @@ use Rattle.scope_laws.proofs.Opened.{leaving_refines}
 use Rattle.staging_laws.specs.Stage.{AreAlike}
 use Rattle.staging_laws.proofs.Replaced.{alike_replaces}
 use Rattle.buffer_laws.specs.Buffers.{Buffer, allocation}
-use Rattle.buffer_laws.specs.Expanded.{expanded, expanded_buffer, may_expand, small, enlarged}
-use Rattle.buffer_laws.specs.Expanded.{passes_whole, with_id, part_of, part_coords, MayExpand}
-use Rattle.buffer_laws.specs.Expanded.{MayBePart, EndsAlike, with_larger}
+use Rattle.buffer_laws.specs.Expanded.{expanded, expanded_buffer, small, enlarged}
+use Rattle.buffer_laws.specs.Expanded.{passes_whole, part_of, part_coords, MayExpand}
+use Rattle.buffer_laws.specs.Expanded.{MayBePart, EndsAlike}
 use Rattle.buffer_laws.specs.ExpandText.{either_name, HasText, ExpandTextLaw, ExpandTextRefines}
 use Rattle.buffer_laws.specs.StageMem.{whole_coords}
-use Rattle.buffer_laws.proofs.Expanded.{expand_law, turned_round, under_same}
+use Rattle.buffer_laws.proofs.Expanded.{turned_round, under_same}
 use Rattle.buffer_laws.proofs.ExpandedIds.{block, controls_stay}
 use Rattle.buffer_laws.proofs.ExpandedZeros.{along}
 

@@ -1,5 +1,5 @@
 -- Indices of a buffer at a point, with and without a 0 that is added to them.
-use Rattle.std.proofs.Common.{◌≡◌, ℕ, zero, suc, ℤ, pos, ◌+ℤ◌, ◌-ℤ◌, ◌*ℤ◌, ◌==◌, ◌||◌, ◌&&◌}
+use Rattle.std.proofs.Common.{◌≡◌, ℕ, zero, suc, ℤ, pos, ◌+ℤ◌, ◌-ℤ◌, ◌*ℤ◌, ◌==◌, ◌&&◌}
 use Rattle.std.proofs.Common.{Bool, true, false, cond, int_le, int_lt, List, [], ◌∷◌, Option, Some}
 use Rattle.std.proofs.Common.{None, option_map, refl, sym, ap, ap₂, ◌∙◌, arith}
 use Rattle.std.proofs.lemmas.Int.{ints}
@@ -17,7 +17,7 @@ use Rattle.exo_meaning.specs.State.{State, Place, place, held, put, value, on_sc
 use Rattle.exo_meaning.specs.State.{with_view, with_field}
 use Rattle.exo_meaning.specs.Calls.{Callee, GivenNumber, GivenView, given, all_given, truth, suits}
 use Rattle.exo_meaning.specs.Calls.{entered, returned, run_asserted}
-use Rattle.exo_meaning.specs.Run.{World, run, step, argument_number, call_to}
+use Rattle.exo_meaning.specs.Run.{World, step, argument_number, call_to}
 use Rattle.exo_meaning.proofs.Compose.{then_cong}
 use Rattle.exo_meaning.proofs.Frame.{or_parts}
 use Rattle.inplace_laws.specs.Along.{SameAlong, both_end, both_next, SameThere, at_once}

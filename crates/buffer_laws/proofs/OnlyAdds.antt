@@ -13,7 +13,6 @@ use Rattle.exo_meaning.specs.Units.{is_window, view_sort, scope_after, is_empty,
 use Rattle.exo_meaning.specs.Units.{is_statement, spans, field_kind, scope_of}
 use Rattle.meaning_laws.specs.Sorted.{scope_at}
 use Rattle.meaning_laws.proofs.Copies.{sound_law}
-use Rattle.meaning_laws.proofs.Parts.{none_some}
 use Rattle.meaning_laws.proofs.Sorted.{is_other, fits_at_law}
 use Rattle.meaning_laws.proofs.Substitute.{and_parts}
 use Rattle.scope_laws.specs.Holes.{roots_at}
@@ -55,8 +54,12 @@ typed_alloc scope root x cell n new h y c r d e = go (y == x.id) refl e
     go : (t : Bool) → (y == x.id) ≡ t
         → cond t (Some (BufferName cell n true)) (sort_in scope y) ≡ Some (BufferName c r d)
         → Typed (with_name scope x (BufferName cell n true)) c (cond t x.id (root y))
-    go true k e = (r, d, ap (λ t. cond t (Some (BufferName cell n true)) (sort_in scope x.id))
-        (eq-eqb x.id x.id refl) ∙ e)
+    go true k e = (
+      r,
+      d,
+      ap (λ t. cond t (Some (BufferName cell n true)) (sort_in scope x.id))
+          (eq-eqb x.id x.id refl) ∙ e,
+    )
     go false k e = typed_more scope x (BufferName cell n true) c (root y) new (h y c r d e)
 
 typed_view : (scope : Scope) (root : ℕ → ℕ) (w : Binder) (x k n : ℕ) → is_new scope w ≡ true

@@ -5,7 +5,7 @@ use Rattle.exo_tree.specs.Tree.{Kind, Coord, Statement, Block, end, next, Proced
 use Rattle.exo_tree.specs.Context.{Context, Here, After, InLoop, InThen, InElse, fill}
 use Rattle.exo_meaning.specs.Scene.{Scene, holds}
 use Rattle.exo_meaning.specs.State.{State, left, on_scene, with_control}
-use Rattle.exo_meaning.specs.Refines.{Both, SameScene, Respects}
+use Rattle.exo_meaning.specs.Refines.{Both, SameScene}
 use Rattle.exo_meaning.specs.Run.{World, run, step, turn, turns_of, unit_world}
 use Rattle.exo_meaning.proofs.Monotone.{data_is_apart}
 use Rattle.exo_meaning.proofs.Nested.{then_some}
@@ -85,8 +85,7 @@ module _ (kinds : ℕ → Kind) (ps : List Procedure) where
       let r = comes_also old c (on_scene (with_control i.id z.0) d.0)
       (on_scene (with_control i.id z.0) z.1) u
       (same_scene (on_scene (with_control i.id z.0) d.0) (on_scene (with_control i.id z.0) z.1)
-      (ap (with_control i.id z.0) d.2.scene)) z.3 in
-      (
+      (ap (with_control i.id z.0) d.2.scene)) z.3 in (
         r.0,
         (
           z.0,

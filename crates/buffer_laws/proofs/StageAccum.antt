@@ -1,41 +1,23 @@
 -- A block that only adds to a window, on a buffer of its own that starts at 0.
-use Rattle.std.proofs.Common.{◌≡◌, ℕ, ℤ, pos, ◌==◌, ◌&&◌, not, Bool, true, false, true≢false}
-use Rattle.std.proofs.Common.{◌||◌, List, [], ◌∷◌, Option, Some, None, IsSome, IfSome, option_map, refl, sym, ap}
-use Rattle.std.proofs.Common.{◌∙◌, subst, cond, eqb-true}
-use Rattle.exo_tree.specs.Tree.{Cell, Binder, Control, Coord, Const, Read, Statement, Assign, Reduce}
-use Rattle.exo_tree.specs.Tree.{Alloc, Block, end, next, joined, Procedure, ConfigField}
-use Rattle.exo_tree.specs.Context.{fill}
-use Rattle.exo_meaning.specs.Value.{Value, Undefined}
-use Rattle.exo_meaning.specs.Scene.{Shape, Seen, Scene, then_do, numbers, window, extents}
-use Rattle.exo_meaning.specs.State.{State, on_scene, with_view, value, put}
-use Rattle.exo_meaning.specs.Calls.{GivenView, copy_back, all_positive}
-use Rattle.exo_meaning.specs.Footprint.{changed_by}
+use Rattle.std.proofs.Common.{◌≡◌, ℕ, ◌==◌, Bool, true, false, true≢false}
+use Rattle.std.proofs.Common.{List, Option, Some, None, IsSome, IfSome, refl, sym, ap}
+use Rattle.std.proofs.Common.{◌∙◌, subst, eqb-true}
+use Rattle.exo_tree.specs.Tree.{Cell, Binder, Control, Coord}
+use Rattle.exo_tree.specs.Tree.{Block, end, Procedure, ConfigField}
+use Rattle.exo_meaning.specs.Scene.{Shape, Seen}
+use Rattle.exo_meaning.specs.State.{State, on_scene, with_view}
 use Rattle.exo_meaning.specs.Refines.{Both}
-use Rattle.exo_meaning.specs.Run.{World, run, step, tensor, unit_world, kinds_of}
+use Rattle.exo_meaning.specs.Run.{World, run, unit_world, kinds_of}
 use Rattle.exo_meaning.specs.Units.{Scope}
 use Rattle.exo_meaning.specs.Unseen.{SameBut}
-use Rattle.exo_meaning.proofs.Compose.{compose, then_cong}
-use Rattle.exo_meaning.proofs.Frame.{updated_other}
-use Rattle.exo_meaning.proofs.Windows.{one_value, none_is_some}
-use Rattle.meaning_laws.specs.Context.{MayReplace}
+use Rattle.exo_meaning.proofs.Windows.{one_value}
 use Rattle.meaning_laws.specs.Scoped.{has_binder}
 use Rattle.meaning_laws.specs.Sound.{IsSound}
-use Rattle.meaning_laws.specs.Touched.{Reading, Writing}
-use Rattle.meaning_laws.proofs.Names.{if_gives, SameControl, step_control, Others}
-use Rattle.meaning_laws.proofs.Parts.{then_gives, map_gives, some_injective}
-use Rattle.meaning_laws.proofs.Replace.{context_law}
-use Rattle.meaning_laws.proofs.Scoped.{not_true}
-use Rattle.meaning_laws.proofs.Substitute.{and_parts}
-use Rattle.inplace_laws.specs.Filled.{Loop, nest}
+use Rattle.inplace_laws.specs.Filled.{Loop}
 use Rattle.inplace_laws.specs.Staged.{staged, StagedAlike, MayStage}
-use Rattle.inplace_laws.specs.Windows.{shifted}
 use Rattle.inplace_laws.proofs.Staged.{staged_law}
-use Rattle.scope_laws.specs.Scopes.{top_binders}
-use Rattle.scope_laws.proofs.Scopes.{run_names}
-use Rattle.staging_laws.specs.Stores.{variables, spans, IsStaging}
 use Rattle.staging_laws.specs.Alone.{has_root, IsAlone}
 use Rattle.staging_laws.specs.Behind.{IsBetween}
-use Rattle.staging_laws.specs.Stage.{AreAlike}
 use Rattle.inplace_laws.specs.Uses.{in_block}
 use Rattle.staging_laws.specs.Converted.{converted}
 use Rattle.staging_laws.specs.Whole.{MayConvert, Follows}
@@ -43,23 +25,13 @@ use Rattle.staging_laws.specs.Known.{AreMade, IsKnown}
 use Rattle.staging_laws.specs.Readers.{IsLoaded}
 use Rattle.exo_meaning.specs.Scene.{updated}
 use Rattle.staging_laws.proofs.Alone.{alone_law}
-use Rattle.staging_laws.proofs.Behind.{run_names as names_behind, behind_law, staged_sound}
-use Rattle.staging_laws.proofs.Inside.{inside_law}
-use Rattle.staging_laws.proofs.Known.{over_spans, spans_same, window_same, allocated, shaped, is_root}
-use Rattle.staging_laws.proofs.Known.{staging, lies_between, is_loaded, updated_own}
 use Rattle.staging_laws.proofs.Replaced.{alike_replaces}
-use Rattle.staging_laws.proofs.Stage.{uses_law}
 use Rattle.staging_laws.proofs.Whole.{viewed_law}
-use Rattle.buffer_laws.specs.Accumulated.{from_zero, adding}
-use Rattle.buffer_laws.specs.StageAccum.{OnlyAdds, touches_of, SumsReplace}
-use Rattle.buffer_laws.specs.StageMem.{is_only_reduced}
-use Rattle.buffer_laws.specs.Sums.{zero_nest, sum_nest, zeros, zeroed, sums, between_sums}
-use Rattle.buffer_laws.proofs.Accumulated.{starts, accum_by_modes}
+use Rattle.buffer_laws.specs.Accumulated.{from_zero}
+use Rattle.buffer_laws.specs.StageAccum.{OnlyAdds, SumsReplace}
+use Rattle.buffer_laws.specs.Sums.{between_sums}
 use Rattle.buffer_laws.proofs.Mentioned.{block}
 use Rattle.buffer_laws.proofs.SameScenes.{fits_from}
-use Rattle.buffer_laws.proofs.SumEnds.{IsApart, sums_end}
-use Rattle.buffer_laws.proofs.Sums.{zeros_law, sums_law}
-
 use Rattle.buffer_laws.proofs.OfNothing.{known_of_nothing, made_of_nothing}
 use Rattle.buffer_laws.proofs.SumsStand.{its_root, zero_sound, Stands, all_alike}
 

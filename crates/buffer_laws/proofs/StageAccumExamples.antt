@@ -1,13 +1,13 @@
 -- Of sums(x: i32[8]), which adds 7 to x[3] and x[4] in a loop, the loop is staged on x[2:6] with a
 -- buffer t that starts at 0.
-use Rattle.std.proofs.Common.{◌≡◌, ◌==◌, ◌||◌, ℕ, ℤ, pos, Bool, true, false, true≢false, cond, List}
+use Rattle.std.proofs.Common.{◌≡◌, ◌==◌, ◌||◌, ℤ, pos, Bool, true, false, true≢false, cond, List}
 use Rattle.std.proofs.Common.{[], ◌∷◌, Option, Some, None, option_map, refl, sym, subst, eqb-true}
 use Rattle.std.specs.Int.{int_wrap}
-use Rattle.exo_tree.specs.Tree.{Binder, I32, Control, Lit, Var, Add, Sub, Coord, Span, TensorParam}
+use Rattle.exo_tree.specs.Tree.{Binder, I32, Lit, Var, Add, Sub, Coord, Span, TensorParam}
 use Rattle.exo_tree.specs.Tree.{Const, Read, Assign, Reduce, For, Alloc, Block, end, next, Procedure}
 use Rattle.exo_tree.specs.Context.{Here}
 use Rattle.exo_meaning.specs.Value.{Value, Number, Undefined, wrap}
-use Rattle.exo_meaning.specs.Scene.{Scene, Shape, Seen, numbers, whole, extents}
+use Rattle.exo_meaning.specs.Scene.{Scene, Shape, Seen, numbers, whole}
 use Rattle.exo_meaning.specs.State.{State}
 use Rattle.exo_meaning.specs.Inputs.{IsAdmissible, Refines, FitsCell, run_procedure}
 use Rattle.exo_meaning.specs.Run.{World, run, unit_world, kinds_of, tensor}

@@ -1,12 +1,11 @@
 -- The end of a block that adds to a window, and the end of the same on a buffer that started at 0.
 use Rattle.std.proofs.Common.{◌≡◌, ℕ, ℤ, pos, ◌+ℤ◌, ◌==◌, Bool, true, false, true≢false, cond, List}
-use Rattle.std.proofs.Common.{Option, Some, None, IsSome, IfSome, refl, sym, ap, ap₂, ◌∙◌, subst}
+use Rattle.std.proofs.Common.{Option, Some, None, IsSome, refl, sym, ap, ap₂, ◌∙◌, subst}
 use Rattle.std.proofs.Common.{eqb-true, eq-eqb, arith}
-use Rattle.std.proofs.Math.Path.{fun_ext}
 use Rattle.std.proofs.lemmas.Int.{ints}
 use Rattle.exo_tree.specs.Tree.{Cell, I32, Block}
 use Rattle.exo_meaning.specs.Value.{Value, Undefined, Number, wrap}
-use Rattle.exo_meaning.specs.Scene.{Shape, Seen, cell_at, index_of, extents, whole, updated}
+use Rattle.exo_meaning.specs.Scene.{Shape, Seen, cell_at, index_of, extents, whole}
 use Rattle.exo_meaning.specs.State.{State}
 use Rattle.exo_meaning.specs.Calls.{GivenView, copy_back, contents, held_at, value_or}
 use Rattle.exo_meaning.specs.Footprint.{added, changed_by}

@@ -198,10 +198,13 @@ hit_by [] hits scene at e = (scene, e, λ y k. refl)
 hit_by (l ∷ ls) hits scene at e =
     let t = some_turn (range (pos 0) (count (number scene l.extent)))
     (λ n. nest_hits ls hits (with_control l.binder.id n scene) at) e in
-    let h = hit_by ls hits (with_control l.binder.id t.0 scene) at t.1 in
-    (h.0, h.1, λ y k.
-    let p = or_parts (y == l.binder.id) (is_loop y ls) k in
-    h.2 y p.1 ∙ updated_other scene.control l.binder.id t.0 y p.0)
+    let h = hit_by ls hits (with_control l.binder.id t.0 scene) at t.1 in (
+      h.0,
+      h.1,
+      λ y k.
+          let p = or_parts (y == l.binder.id) (is_loop y ls) k in
+          h.2 y p.1 ∙ updated_other scene.control l.binder.id t.0 y p.0,
+    )
 
 -- where a cell that is hit determines the loops' variables, it is hit once
 pub hits_once : (ls : List Loop) (hits : Scene → List ℤ → Bool) (scene : Scene) → AreNew ls
@@ -210,12 +213,12 @@ pub hits_once : (ls : List Loop) (hits : Scene → List ℤ → Bool) (scene : S
 hits_once [] hits scene new same = tt
 hits_once (l ∷ ls) hits scene new same = (
   λ m n at i j.
-  let z = hit_by ls hits (with_control l.binder.id m scene) at i in
-  let w = hit_by ls hits (with_control l.binder.id n scene) at j in
-  sym (own m) ∙ sym (z.2 l.binder.id new.0)
-  ∙ same z.0 w.0 at z.1 w.1 l.binder.id first ∙ w.2 l.binder.id new.0 ∙ own n,
+      let z = hit_by ls hits (with_control l.binder.id m scene) at i in
+      let w = hit_by ls hits (with_control l.binder.id n scene) at j in
+      sym (own m) ∙ sym (z.2 l.binder.id new.0)
+      ∙ same z.0 w.0 at z.1 w.1 l.binder.id first ∙ w.2 l.binder.id new.0 ∙ own n,
   λ n. hits_once ls hits (with_control l.binder.id n scene) new.1 (λ z w at i j y k.
-  same z w at i j y (more (y == l.binder.id) (is_loop y ls) k)),
+      same z w at i j y (more (y == l.binder.id) (is_loop y ls) k)),
 )
   where
     own : (n : ℤ) → (with_control l.binder.id n scene).control l.binder.id ≡ n

@@ -4,13 +4,13 @@ use Rattle.std.proofs.Common.{List, [], ◌∷◌, Option, Some, None, IsSome, o
 use Rattle.std.proofs.Common.{refl, sym, ap, ap₂, ◌∙◌, subst, true≢false, eqb-true, eq-eqb}
 use Rattle.std.proofs.Math.Path.{fun_ext}
 use Rattle.std.specs.Cmp.Rules.{signed_items}
-use Rattle.exo_tree.specs.Tree.{Control, Coord, Const, Read, Assign, Reduce}
+use Rattle.exo_tree.specs.Tree.{Coord, Const, Read, Assign, Reduce}
 use Rattle.exo_meaning.specs.Value.{Value, Undefined, Number, stored_as, on_two}
 use Rattle.exo_meaning.specs.Scene.{Shape, Seen, Scene, then_do, numbers, cell_at, index_of, whole}
 use Rattle.exo_meaning.specs.Scene.{extents, window, where_true, updated}
 use Rattle.exo_meaning.specs.State.{State, Cells, Place, place, held, put, changed, same_index}
 use Rattle.exo_meaning.specs.State.{with_contents, with_buffer}
-use Rattle.exo_meaning.specs.Calls.{GivenView, copy_back, value_or, contents, held_at}
+use Rattle.exo_meaning.specs.Calls.{GivenView, copy_back, value_or, held_at}
 use Rattle.exo_meaning.specs.Footprint.{added}
 use Rattle.exo_meaning.specs.Run.{World, run, step, allocate, tensor}
 use Rattle.exo_meaning.proofs.Windows.{one_value, none_is_some, cell_at_index, index_at_cell}
@@ -18,14 +18,14 @@ use Rattle.inplace_laws.specs.Windows.{shifted}
 use Rattle.inplace_laws.specs.Filled.{Loop, nest, at_cells, filled, Fills, nest_hits}
 use Rattle.inplace_laws.proofs.Windows.{place_on}
 use Rattle.inplace_laws.proofs.Filled.{nest_fills}
-use Rattle.inplace_laws.proofs.Hits.{InBox, set_all, vars, is_loop, AreNew, vars_are, comes_to_box}
+use Rattle.inplace_laws.proofs.Hits.{InBox, set_all, vars, is_loop, vars_are, comes_to_box}
 use Rattle.inplace_laws.proofs.Hits.{box_is_hit}
 use Rattle.staging_laws.specs.Stores.{IsStaging, emptied}
 use Rattle.staging_laws.proofs.Stores.{vars_same, are_new, in_whole, in_sides, box_covers, at_any}
 use Rattle.staging_laws.proofs.Stores.{each_in_box, same_views, same_buffers, under}
 use Rattle.staging_laws.proofs.Loads.{at_all, set_none, own_there, nothing_there}
 use Rattle.staging_laws.proofs.Box.{box_law}
-use Rattle.buffer_laws.specs.Sums.{zero_nest, sum_nest, zeros, zeroed, sums, ZerosLaw, SumsLaw}
+use Rattle.buffer_laws.specs.Sums.{zero_nest, zeros, zeroed, sums, ZerosLaw, SumsLaw}
 use Rattle.buffer_laws.proofs.Accumulated.{zero_fits}
 use Rattle.buffer_laws.proofs.Summed.{changed_at, Changes, nest_changes, Hit, hit_by, HitsOnce}
 use Rattle.buffer_laws.proofs.Summed.{hits_once}

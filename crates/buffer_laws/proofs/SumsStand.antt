@@ -1,63 +1,48 @@
 -- What a block that only adds to a window leaves, and what a block on a buffer from 0 leaves that is
 -- added to the window.
-use Rattle.std.proofs.Common.{◌≡◌, ℕ, ℤ, pos, ◌==◌, ◌&&◌, not, Bool, true, false, true≢false}
-use Rattle.std.proofs.Common.{◌||◌, List, [], ◌∷◌, Option, Some, None, IsSome, IfSome, option_map, refl, sym, ap}
-use Rattle.std.proofs.Common.{◌∙◌, subst, cond, eqb-true}
+use Rattle.std.proofs.Common.{◌≡◌, ℕ, ℤ, pos, ◌==◌, not, Bool, true, false, true≢false}
+use Rattle.std.proofs.Common.{◌||◌, List, [], ◌∷◌, Option, Some, None, IsSome, option_map, refl, sym, ap}
+use Rattle.std.proofs.Common.{◌∙◌, subst, cond}
 use Rattle.exo_tree.specs.Tree.{Cell, Binder, Control, Coord, Const, Read, Statement, Assign, Reduce}
 use Rattle.exo_tree.specs.Tree.{Alloc, Block, end, next, joined, Procedure, ConfigField}
-use Rattle.exo_tree.specs.Context.{fill}
 use Rattle.exo_meaning.specs.Value.{Value, Undefined}
-use Rattle.exo_meaning.specs.Scene.{Shape, Seen, Scene, then_do, numbers, window, extents}
-use Rattle.exo_meaning.specs.State.{State, on_scene, with_view, value, put}
+use Rattle.exo_meaning.specs.Scene.{Shape, Seen, then_do, numbers, window, extents}
+use Rattle.exo_meaning.specs.State.{State}
 use Rattle.exo_meaning.specs.Calls.{GivenView, copy_back, all_positive}
 use Rattle.exo_meaning.specs.Footprint.{changed_by}
-use Rattle.exo_meaning.specs.Refines.{Both}
 use Rattle.exo_meaning.specs.Run.{World, run, step, tensor, unit_world, kinds_of}
 use Rattle.exo_meaning.specs.Units.{Scope}
-use Rattle.exo_meaning.specs.Unseen.{SameBut}
-use Rattle.exo_meaning.proofs.Compose.{compose, then_cong}
+use Rattle.exo_meaning.proofs.Compose.{compose}
 use Rattle.exo_meaning.proofs.Frame.{updated_other}
-use Rattle.exo_meaning.proofs.Windows.{one_value, none_is_some}
-use Rattle.meaning_laws.specs.Context.{MayReplace}
+use Rattle.exo_meaning.proofs.Windows.{none_is_some}
 use Rattle.meaning_laws.specs.Scoped.{has_binder}
 use Rattle.meaning_laws.specs.Sound.{IsSound}
 use Rattle.meaning_laws.specs.Touched.{Reading, Writing}
 use Rattle.meaning_laws.proofs.Names.{if_gives, SameControl, step_control, Others}
 use Rattle.meaning_laws.proofs.Parts.{then_gives, map_gives, some_injective}
-use Rattle.meaning_laws.proofs.Replace.{context_law}
 use Rattle.meaning_laws.proofs.Scoped.{not_true}
 use Rattle.meaning_laws.proofs.Substitute.{and_parts}
 use Rattle.inplace_laws.specs.Filled.{Loop, nest}
-use Rattle.inplace_laws.specs.Staged.{staged, StagedAlike, MayStage}
+use Rattle.inplace_laws.specs.Staged.{staged, StagedAlike}
 use Rattle.inplace_laws.specs.Windows.{shifted}
-use Rattle.inplace_laws.proofs.Staged.{staged_law}
 use Rattle.scope_laws.specs.Scopes.{top_binders}
 use Rattle.scope_laws.proofs.Scopes.{run_names}
 use Rattle.staging_laws.specs.Stores.{variables, spans, IsStaging}
-use Rattle.staging_laws.specs.Alone.{has_root, IsAlone}
 use Rattle.staging_laws.specs.Behind.{IsBetween}
 use Rattle.staging_laws.specs.Stage.{AreAlike}
-use Rattle.inplace_laws.specs.Uses.{in_block}
-use Rattle.staging_laws.specs.Converted.{converted}
-use Rattle.staging_laws.specs.Whole.{MayConvert, Follows}
 use Rattle.staging_laws.specs.Known.{AreMade, IsKnown}
 use Rattle.staging_laws.specs.Readers.{IsLoaded}
 use Rattle.exo_meaning.specs.Scene.{updated}
-use Rattle.staging_laws.proofs.Alone.{alone_law}
 use Rattle.staging_laws.proofs.Behind.{run_names as names_behind, behind_law, staged_sound}
 use Rattle.staging_laws.proofs.Inside.{inside_law}
 use Rattle.staging_laws.proofs.Known.{over_spans, spans_same, window_same, allocated, shaped, is_root}
-use Rattle.staging_laws.proofs.Known.{staging, lies_between, is_loaded, updated_own}
-use Rattle.staging_laws.proofs.Replaced.{alike_replaces}
+use Rattle.staging_laws.proofs.Known.{staging, is_loaded}
 use Rattle.staging_laws.proofs.Stage.{uses_law}
-use Rattle.staging_laws.proofs.Whole.{viewed_law}
 use Rattle.buffer_laws.specs.Accumulated.{from_zero, adding}
-use Rattle.buffer_laws.specs.StageAccum.{OnlyAdds, touches_of, SumsReplace}
+use Rattle.buffer_laws.specs.StageAccum.{OnlyAdds, touches_of}
 use Rattle.buffer_laws.specs.StageMem.{is_only_reduced}
 use Rattle.buffer_laws.specs.Sums.{zero_nest, sum_nest, zeros, zeroed, sums, between_sums}
 use Rattle.buffer_laws.proofs.Accumulated.{starts, accum_by_modes}
-use Rattle.buffer_laws.proofs.Mentioned.{block}
-use Rattle.buffer_laws.proofs.SameScenes.{fits_from}
 use Rattle.buffer_laws.proofs.SumEnds.{IsApart, sums_end}
 use Rattle.buffer_laws.proofs.Sums.{zeros_law, sums_law}
 
@@ -95,44 +80,44 @@ module _ (fields : List ConfigField) (memories : ℕ) (ps : List Procedure) (sco
   -- where the block and the second nest run behind the first
   module _ (t u v : State) (e : run world first_part s ≡ Some t)
       (f : run world inner t ≡ Some u) (g : run world (sum_nest a.id x coords ks) u ≡ Some v)
-      where
-    abbrev Made : Type 0
-    Made = (w : State) × (step world (Alloc a cell dims memory) s ≡ Some w)
-        × (run world (zero_nest a.id ls) w ≡ Some t)
+    where
+      abbrev Made : Type 0
+      Made = (w : State) × (step world (Alloc a cell dims memory) s ≡ Some w)
+          × (run world (zero_nest a.id ls) w ≡ Some t)
 
-    made_first : Made
-    made_first = then_gives (step world (Alloc a cell dims memory) s)
-        (run world (zero_nest a.id ls)) t e
+      made_first : Made
+      made_first = then_gives (step world (Alloc a cell dims memory) s)
+          (run world (zero_nest a.id ls)) t e
 
-    same_control : (y : ℕ) → u.scene.control y ≡ s.scene.control y
-    same_control y = run_control world inner t u f y ∙ run_control world first_part s t e y
+      same_control : (y : ℕ) → u.scene.control y ≡ s.scene.control y
+      same_control y = run_control world inner t u f y ∙ run_control world first_part s t e y
 
-    positive : all_positive (numbers u.scene (spans coords)) ≡ true
-    positive = ap all_positive (spans_same coords u.scene s.scene made.plain same_control
-        ∙ sym (made.sizes s.scene))
-        ∙ (allocated blind world root a cell dims memory x coords ls ks end s made known
-        made_first.0 made_first.1).0
+      positive : all_positive (numbers u.scene (spans coords)) ≡ true
+      positive = ap all_positive (spans_same coords u.scene s.scene made.plain same_control
+          ∙ sym (made.sizes s.scene))
+          ∙ (allocated blind world root a cell dims memory x coords ls ks end s made known
+          made_first.0 made_first.1).0
 
-    same_view : u.scene.views x ≡ s.scene.views x
-    same_view =
-        sym (names_behind world inner t u x f name).views
-        ∙ sym (if_gives (Others (top_binders (zero_nest a.id ls)) made_first.0)
-        (run world (zero_nest a.id ls) made_first.0) t
-        (run_names world (zero_nest a.id ls) made_first.0) made_first.2 x
-        (no_names ls (Assign a.id (variables ls) (Const (pos 0))) x refl)).views
-        ∙ sym (if_gives (Others (top_binders (next (Alloc a cell dims memory) end)) s)
-        (run world (next (Alloc a cell dims memory) end) s) made_first.0
-        (run_names world (next (Alloc a cell dims memory) end) s)
-        (ap (λ o. then_do o (λ w. Some w)) made_first.1) x
-        (ap (λ r. r || false) made.other)).views
+      same_view : u.scene.views x ≡ s.scene.views x
+      same_view =
+          sym (names_behind world inner t u x f name).views
+          ∙ sym (if_gives (Others (top_binders (zero_nest a.id ls)) made_first.0)
+          (run world (zero_nest a.id ls) made_first.0) t
+          (run_names world (zero_nest a.id ls) made_first.0) made_first.2 x
+          (no_names ls (Assign a.id (variables ls) (Const (pos 0))) x refl)).views
+          ∙ sym (if_gives (Others (top_binders (next (Alloc a cell dims memory) end)) s)
+          (run world (next (Alloc a cell dims memory) end) s) made_first.0
+          (run_names world (next (Alloc a cell dims memory) end) s)
+          (ap (λ o. then_do o (λ w. Some w)) made_first.1) x
+          (ap (λ r. r || false) made.other)).views
 
-    sees : IsSome (window s.scene x coords)
-    sees = subst IsSome (window_same x coords made.plain u.scene s.scene same_view same_control)
-        (inside_law world x coords ks
-        (Reduce x (shifted coords (variables ks)) (Read a.id (variables ks))) u v
-        made.stores.distinct (over_spans ks coords made.stores u.scene) positive
-        (uses_law world a.id x (shifted coords (variables ks)) (variables ks)
-        (Read a.id (variables ks))).2 g)
+      sees : IsSome (window s.scene x coords)
+      sees = subst IsSome (window_same x coords made.plain u.scene s.scene same_view same_control)
+          (inside_law world x coords ks
+          (Reduce x (shifted coords (variables ks)) (Read a.id (variables ks))) u v
+          made.stores.distinct (over_spans ks coords made.stores u.scene) positive
+          (uses_law world a.id x (shifted coords (variables ks)) (variables ks)
+          (Read a.id (variables ks))).2 g)
 
   loaded : (o : Option Seen) → window s.scene x coords ≡ o → IsSome (window s.scene x coords)
       → IsLoaded blind world root a cell dims x coords ls end s

@@ -1,7 +1,7 @@
 -- A block that only adds to a window, on a buffer of its own that starts at 0 and is added behind
 -- the block.
-use Rattle.std.specs.Prelude.{◌≡◌, ℕ, Bool, true, false, List, [], Some}
-use Rattle.exo_tree.specs.Tree.{Kind, Cell, Binder, Control, Coord, Block, Procedure, ConfigField}
+use Rattle.std.specs.Prelude.{◌≡◌, ℕ, Bool, true, false, List, []}
+use Rattle.exo_tree.specs.Tree.{Cell, Binder, Control, Coord, Block, Procedure, ConfigField}
 use Rattle.exo_tree.specs.Context.{Context, fill, rest_of}
 use Rattle.exo_meaning.specs.State.{State}
 use Rattle.exo_meaning.specs.Inputs.{IsAdmissible, Refines}

@@ -1,9 +1,9 @@
 -- The nests of loops of a staged buffer that is added to its window: one before the block sets the
 -- buffer to 0, and one behind it adds the buffer.
-use Rattle.std.specs.Prelude.{◌≡◌, ℕ, ℤ, pos, Bool, true, List, Some}
+use Rattle.std.specs.Prelude.{◌≡◌, ℕ, ℤ, pos, true, List, Some}
 use Rattle.exo_tree.specs.Tree.{Cell, Binder, Control, Coord, Const, Read, Assign, Reduce, Alloc}
 use Rattle.exo_tree.specs.Tree.{Block, next, joined}
-use Rattle.exo_meaning.specs.Value.{Value, Undefined, Number}
+use Rattle.exo_meaning.specs.Value.{Value, Number}
 use Rattle.exo_meaning.specs.Scene.{Shape, Seen, numbers, extents}
 use Rattle.exo_meaning.specs.State.{State, Cells, on_scene, with_buffer, with_contents}
 use Rattle.exo_meaning.specs.Calls.{GivenView, contents, copy_back}

@@ -1,7 +1,7 @@
 -- Accesses that lie within a window, through a view of the window.
 use Rattle.std.proofs.Common.{◌≡◌, ℕ, ℤ, pos, neg_ℤ, ◌+ℤ◌, ◌-ℤ◌, ◌*ℤ◌, int_le, int_lt, ◌==◌, ◌&&◌}
 use Rattle.std.proofs.Common.{◌||◌, Bool, true, false, cond, List, [], ◌∷◌, Option, Some, None}
-use Rattle.std.proofs.Common.{option_map, get_or, refl, sym, ap, ap₂, ◌∙◌, subst, eq-eqb, arith}
+use Rattle.std.proofs.Common.{option_map, refl, sym, ap, ap₂, ◌∙◌, eq-eqb, arith}
 use Rattle.std.proofs.lemmas.Int.{ints}
 use Rattle.std.specs.Int.{int_div_euclid, int_rem_euclid}
 use Rattle.std.specs.Ordering.{int_eq}
@@ -10,7 +10,6 @@ use Rattle.exo_tree.specs.Tree.{Condition, True, False, Flag, FieldFlag, Lt, Le,
 use Rattle.exo_tree.specs.Tree.{Or, Coord, At, Span}
 use Rattle.exo_meaning.specs.Scene.{Side, Point, Range, Seen, Scene, then_do, number, numbers, holds}
 use Rattle.exo_meaning.specs.Scene.{stride_at, narrowed, window, cell_at, is_below, where_true}
-use Rattle.exo_meaning.specs.Scene.{updated, is_set}
 use Rattle.exo_meaning.specs.State.{Place, place, with_view}
 use Rattle.exo_meaning.specs.Unseen.{in_control as control_mentions}
 use Rattle.exo_meaning.specs.Unseen.{in_controls as controls_mention}

@@ -1,47 +1,34 @@
 -- A block whose accesses lie within a window does the same through a view of the window.
-use Rattle.std.proofs.Common.{◌≡◌, ℕ, ℤ, pos, ◌+ℤ◌, ◌-ℤ◌, ◌*ℤ◌, ◌==◌, ◌||◌, Bool, true, false}
+use Rattle.std.proofs.Common.{◌≡◌, ℕ, pos, ◌+ℤ◌, ◌-ℤ◌, ◌*ℤ◌, ◌==◌, ◌||◌, Bool, true, false}
 use Rattle.std.proofs.Common.{true≢false, cond, List, [], ◌∷◌, ◌++◌, Option, Some, None, option_map}
-use Rattle.std.proofs.Common.{refl, sym, ap, ap₂, ◌∙◌, subst, eqb-true, eq-eqb}
-use Rattle.std.proofs.Math.Path.{fun_ext}
+use Rattle.std.proofs.Common.{refl, sym, ap, ap₂, ◌∙◌, eqb-true, eq-eqb}
 use Rattle.exo_tree.specs.Tree.{Control, Condition, Coord, Datum, Const, Read, Negated, Relu, Plus}
 use Rattle.exo_tree.specs.Tree.{Minus, Times, Select, Argument, ControlArg, ConditionArg, Whole}
-use Rattle.exo_tree.specs.Tree.{Window, Param, ParamKind, ControlParam, TensorParam, WindowParam, Statement}
-use Rattle.exo_tree.specs.Tree.{Assign, Reduce, Config, Pass, If, For, Alloc, View, Call, Block, end}
-use Rattle.exo_tree.specs.Tree.{next}
-use Rattle.exo_tree.specs.Context.{Context, Here, After, InLoop, InThen, InElse, fill}
+use Rattle.exo_tree.specs.Tree.{Window, Param, ParamKind, ControlParam, TensorParam, WindowParam}
 use Rattle.exo_meaning.specs.Value.{Value, on_one, on_two, on_four, relu, selected, stored_as}
-use Rattle.exo_meaning.specs.Scene.{Shape, Seen, Scene, then_do, number, numbers, holds, window}
-use Rattle.exo_meaning.specs.Scene.{where_true, updated, cell_at, narrowed}
-use Rattle.exo_meaning.specs.State.{State, Place, place, held, put, value, changed, left, on_scene}
-use Rattle.exo_meaning.specs.State.{with_control, with_field, with_view, with_buffer, with_contents}
+use Rattle.exo_meaning.specs.Scene.{Shape, Seen, Scene, then_do, window}
+use Rattle.exo_meaning.specs.Scene.{cell_at, narrowed}
+use Rattle.exo_meaning.specs.State.{State, Place, place, held, put, value, changed, on_scene}
+use Rattle.exo_meaning.specs.State.{with_view}
 use Rattle.exo_meaning.specs.Calls.{Callee, Given, GivenNumber, GivenView, given, all_given, truth}
-use Rattle.exo_meaning.specs.Calls.{suits, bind_buffer, bind_buffers, bind_numbers, bare, entered}
-use Rattle.exo_meaning.specs.Calls.{returned, run_asserted, call, all_positive}
-use Rattle.exo_meaning.specs.Run.{World, run, step, argument_number, turn, turns, turns_of, call_to}
-use Rattle.exo_meaning.specs.Run.{choose, range, count, allocate, tensor}
+use Rattle.exo_meaning.specs.Calls.{bind_buffer, bind_buffers, bind_numbers, bare, entered}
+use Rattle.exo_meaning.specs.Calls.{returned, run_asserted}
+use Rattle.exo_meaning.specs.Run.{argument_number, call_to}
 use Rattle.exo_meaning.specs.Unseen.{in_control as control_mentions}
 use Rattle.exo_meaning.specs.Unseen.{in_controls as controls_mention}
 use Rattle.exo_meaning.specs.Unseen.{in_condition as condition_mentions, in_datum as datum_mentions}
 use Rattle.exo_meaning.specs.Unseen.{in_coords as coords_mention, in_argument as argument_mentions}
-use Rattle.exo_meaning.specs.Unseen.{in_arguments as arguments_mention, in_block as mentions}
-use Rattle.exo_meaning.specs.Unseen.{in_statement as statement_mentions}
+use Rattle.exo_meaning.specs.Unseen.{in_arguments as arguments_mention}
 use Rattle.exo_meaning.proofs.Compose.{then_cong}
 use Rattle.exo_meaning.proofs.Frame.{or_parts, updated_other}
-use Rattle.meaning_laws.specs.Context.{ComesTo, ComesToTurn, now, later}
-use Rattle.meaning_laws.specs.Scoped.{has_binder, step_has_binder}
-use Rattle.meaning_laws.specs.Sound.{binds, IsSameName}
-use Rattle.meaning_laws.proofs.Apart.{binds_less}
-use Rattle.meaning_laws.proofs.Names.{if_gives, step_names, come_to_turn_names}
-use Rattle.inplace_laws.specs.Windows.{are_plain, coords_have}
-use Rattle.inplace_laws.proofs.Windows.{view_kept}
 use Rattle.staging_laws.specs.Converted.{indices_on, coords_on, name_on, indices_at, coords_at}
 use Rattle.staging_laws.specs.Converted.{converted_datum, converted_argument, converted_arguments}
-use Rattle.staging_laws.specs.Converted.{converted_statement, converted, IndicesAt, CoordsAt}
-use Rattle.staging_laws.specs.Converted.{DatumFits, ArgumentFits, ArgumentsFit, StatementFits}
+use Rattle.staging_laws.specs.Converted.{IndicesAt, CoordsAt}
+use Rattle.staging_laws.specs.Converted.{DatumFits, ArgumentFits, ArgumentsFit}
 use Rattle.staging_laws.proofs.Gone.{indices_free, coords_free}
 use Rattle.buffer_laws.specs.StageMem.{asked_of_indices, asked_of_coords, asked_of_datum}
-use Rattle.buffer_laws.specs.StageMem.{asked_of_arguments, asked_of_statement}
-use Rattle.stride_laws.specs.OnView.{AllHold, LiesWithin, OnViewLaw}
+use Rattle.buffer_laws.specs.StageMem.{asked_of_arguments}
+use Rattle.stride_laws.specs.OnView.{AllHold}
 use Rattle.stride_laws.proofs.InView.{number_same, numbers_same, holds_same, narrowed_same}
 use Rattle.stride_laws.proofs.InView.{place_within, window_within}
 
@@ -205,10 +192,10 @@ module _ (a x : ℕ) (seen : Seen) (dims : List Control) (coords : List Coord)
     put_on f p = go (s.scene.buffers p.buffer)
       where
         go : (o : Option Shape) → option_map (λ (shape : Shape). record (V s) {
-              cells = changed s.cells p (λ old. stored_as shape.cell (f old));
-            }) o ≡ option_map V (option_map (λ (shape : Shape). record s {
-              cells = changed s.cells p (λ old. stored_as shape.cell (f old));
-            }) o)
+          cells = changed s.cells p (λ old. stored_as shape.cell (f old));
+        }) o ≡ option_map V (option_map (λ (shape : Shape). record s {
+          cells = changed s.cells p (λ old. stored_as shape.cell (f old));
+        }) o)
         go None = refl
         go (Some shape) = refl
 

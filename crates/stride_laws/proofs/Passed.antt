@@ -1,5 +1,5 @@
 -- A staged block that may pass its buffer on, in the place of the block.
-use Rattle.std.proofs.Common.{◌≡◌, ℕ, ◌==◌, Bool, true, false, List, Option, Some, None, IfSome}
+use Rattle.std.proofs.Common.{◌≡◌, ℕ, ◌==◌, Bool, true, false, List, Some}
 use Rattle.std.proofs.Common.{IsSome, option_map, refl, sym, ap, ◌∙◌, subst}
 use Rattle.exo_tree.specs.Tree.{Cell, Binder, Control, Coord, Alloc, Block, end, next, joined}
 use Rattle.exo_meaning.specs.Scene.{Shape, Seen, then_do, extents, updated, window}
@@ -14,7 +14,6 @@ use Rattle.exo_meaning.proofs.Nested.{then_some}
 use Rattle.exo_meaning.proofs.Windows.{one_value}
 use Rattle.meaning_laws.specs.Scoped.{has_binder}
 use Rattle.meaning_laws.specs.Sorted.{Ends}
-use Rattle.meaning_laws.specs.Sound.{IsSound}
 use Rattle.meaning_laws.proofs.Names.{if_gives}
 use Rattle.meaning_laws.proofs.Parts.{then_gives, some_injective}
 use Rattle.meaning_laws.proofs.Sorted.{run_ends, agrees, unit_good}

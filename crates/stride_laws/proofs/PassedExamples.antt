@@ -1,20 +1,17 @@
 -- Of p(x: i32[8], z: i32[8]), a call that is given x[3:5] is staged on x[2:6], with a buffer t that
 -- is passed in its place: to a procedure that sets, one that adds and one that copies.
-use Rattle.std.proofs.Common.{◌≡◌, ◌==◌, ◌||◌, ℕ, ℤ, pos, Bool, true, false, true≢false, cond, List}
-use Rattle.std.proofs.Common.{[], ◌∷◌, Option, Some, None, option_map, refl, sym, subst, eqb-true}
-use Rattle.std.specs.Int.{int_wrap}
-use Rattle.exo_tree.specs.Tree.{Binder, I32, Kind, Control, Lit, Sub, Coord, Span, TensorParam}
+use Rattle.std.proofs.Common.{◌≡◌, ◌==◌, ◌||◌, ℕ, pos, Bool, true, false, true≢false, List}
+use Rattle.std.proofs.Common.{[], ◌∷◌, Option, None, refl, sym, subst, eqb-true}
+use Rattle.exo_tree.specs.Tree.{Binder, I32, Control, Lit, Coord, Span, TensorParam}
 use Rattle.exo_tree.specs.Tree.{WindowParam, Param, Const, Read, Window, Assign, Reduce, Call, Block}
 use Rattle.exo_tree.specs.Tree.{end, next, Procedure}
 use Rattle.exo_tree.specs.Context.{Here}
-use Rattle.exo_meaning.specs.Value.{Value, Number, Undefined, wrap}
-use Rattle.exo_meaning.specs.Scene.{Scene, Shape, Seen, numbers, whole, window}
-use Rattle.exo_meaning.specs.State.{State, on_scene, with_view}
+use Rattle.exo_meaning.specs.Scene.{Scene, numbers}
+use Rattle.exo_meaning.specs.State.{State}
 use Rattle.exo_meaning.specs.Calls.{Callee}
-use Rattle.exo_meaning.specs.Inputs.{IsAdmissible, Refines, FitsCell, run_procedure}
-use Rattle.exo_meaning.specs.Run.{World, run, unit_world, kinds_of, tensor}
+use Rattle.exo_meaning.specs.Inputs.{IsAdmissible, Refines}
+use Rattle.exo_meaning.specs.Run.{World, unit_world, kinds_of}
 use Rattle.exo_meaning.specs.Units.{scope_of, AreProcedures, IsProcedure, field_kind}
-use Rattle.exo_meaning.proofs.Windows.{one_value}
 use Rattle.meaning_laws.specs.Context.{ComesTo}
 use Rattle.meaning_laws.specs.Sorted.{MayRun, IsSorted}
 use Rattle.meaning_laws.specs.Sound.{IsUnbound}
@@ -30,7 +27,7 @@ use Rattle.staging_laws.proofs.Converted.{fits_law}
 use Rattle.buffer_laws.specs.StageMem.{Staging, sizes, loads, stores, asked_of_statement}
 use Rattle.buffer_laws.specs.StageLaws.{staging_of, as_made, with_simpler, reader_as_made}
 use Rattle.buffer_laws.specs.StageLaws.{reader_with_simpler}
-use Rattle.buffer_laws.specs.StageAccum.{OnlyAdds, sums_of, sums_as_made, sums_with_simpler}
+use Rattle.buffer_laws.specs.StageAccum.{OnlyAdds, sums_as_made, sums_with_simpler}
 use Rattle.buffer_laws.proofs.OnlyAdds.{only_adds_at_place}
 use Rattle.buffer_laws.proofs.StageExamples.{same, is_same}
 use Rattle.buffer_laws.proofs.StageMem.{named}

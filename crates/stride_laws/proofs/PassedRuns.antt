@@ -1,5 +1,5 @@
 -- An input on which the staged calls run as the calls do.
-use Rattle.std.proofs.Common.{◌≡◌, ◌==◌, ◌||◌, ℕ, ℤ, pos, Bool, true, false, true≢false, cond, List}
+use Rattle.std.proofs.Common.{◌≡◌, ◌==◌, ◌||◌, ℕ, ℤ, pos, Bool, true, false, true≢false, cond}
 use Rattle.std.proofs.Common.{[], ◌∷◌, Option, Some, None, IsSome, option_map, refl, sym, subst}
 use Rattle.std.specs.Int.{int_wrap}
 use Rattle.exo_tree.specs.Tree.{I32, Block}
@@ -7,7 +7,7 @@ use Rattle.exo_meaning.specs.Value.{Value, Number, Undefined, wrap}
 use Rattle.exo_meaning.specs.Scene.{Shape, Seen, Range, whole}
 use Rattle.exo_meaning.specs.State.{State, on_scene, with_view}
 use Rattle.exo_meaning.specs.Inputs.{IsAdmissible, FitsCell, run_procedure}
-use Rattle.exo_meaning.specs.Run.{World, run, tensor}
+use Rattle.exo_meaning.specs.Run.{run, tensor}
 use Rattle.exo_meaning.proofs.Windows.{one_value}
 use Rattle.staging_laws.specs.Converted.{converted}
 use Rattle.staging_laws.specs.Whole.{MayConvert}

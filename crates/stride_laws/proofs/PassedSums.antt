@@ -1,12 +1,11 @@
 -- A block that only adds to a window, with a buffer from 0 that it may pass on.
-use Rattle.std.proofs.Common.{◌≡◌, ℕ, ◌==◌, Bool, false, List, Some, option_map, refl, sym, ap}
+use Rattle.std.proofs.Common.{◌≡◌, ℕ, ◌==◌, Bool, List, Some, option_map, refl, sym, ap}
 use Rattle.std.proofs.Common.{◌∙◌, subst}
 use Rattle.exo_tree.specs.Tree.{Cell, Binder, Control, Coord, Block, end, Procedure, ConfigField}
 use Rattle.exo_meaning.specs.Scene.{Shape, Seen, updated}
 use Rattle.exo_meaning.specs.State.{State, on_scene, with_view}
 use Rattle.exo_meaning.specs.Run.{World, run, kinds_of, unit_world}
 use Rattle.exo_meaning.specs.Units.{Scope}
-use Rattle.exo_meaning.specs.Unseen.{in_block as mentions}
 use Rattle.meaning_laws.specs.Sound.{IsSound}
 use Rattle.inplace_laws.specs.Filled.{Loop}
 use Rattle.inplace_laws.specs.Staged.{staged, StagedAlike}

@@ -1,5 +1,5 @@
 -- A block staged on a window whose buffer may be passed, at a place of a procedure.
-use Rattle.std.proofs.Common.{◌≡◌, ℕ, List, refl, subst}
+use Rattle.std.proofs.Common.{refl, subst}
 use Rattle.exo_tree.specs.Tree.{Binder, end, next}
 use Rattle.exo_tree.specs.Context.{fill}
 use Rattle.exo_meaning.specs.Run.{unit_world, kinds_of}

@@ -1,13 +1,13 @@
 -- Runs of a block whose accesses lie within a window, and of the same through a view of the window.
-use Rattle.std.proofs.Common.{◌≡◌, ℕ, ℤ, pos, ◌+ℤ◌, ◌-ℤ◌, ◌==◌, ◌||◌, Bool, true, false, true≢false}
-use Rattle.std.proofs.Common.{cond, List, [], ◌∷◌, ◌++◌, Option, Some, None, option_map}
+use Rattle.std.proofs.Common.{◌≡◌, ℕ, ℤ, ◌+ℤ◌, ◌-ℤ◌, ◌==◌, ◌||◌, Bool, true, false, true≢false}
+use Rattle.std.proofs.Common.{cond, List, [], ◌∷◌, Option, Some, None, option_map}
 use Rattle.std.proofs.Common.{refl, sym, ap, ap₂, ◌∙◌, subst, eqb-true}
 use Rattle.std.proofs.Math.Path.{fun_ext}
 use Rattle.exo_tree.specs.Tree.{Cell, Control, Coord, Window, Statement, Assign, Reduce, Config, Pass}
 use Rattle.exo_tree.specs.Tree.{If, For, Alloc, View, Call, Block, end, next}
 use Rattle.exo_tree.specs.Context.{Context, Here, After, InLoop, InThen, InElse, fill}
 use Rattle.exo_meaning.specs.Value.{Undefined, on_two}
-use Rattle.exo_meaning.specs.Scene.{Seen, Scene, Shape, then_do, number, numbers, holds, window}
+use Rattle.exo_meaning.specs.Scene.{Seen, then_do, numbers, holds, window}
 use Rattle.exo_meaning.specs.Scene.{where_true, updated, whole}
 use Rattle.exo_meaning.specs.State.{State, left, on_scene, with_control, with_field, with_view}
 use Rattle.exo_meaning.specs.State.{with_buffer, with_contents, put, place, value}
@@ -27,14 +27,14 @@ use Rattle.meaning_laws.proofs.Apart.{binds_less}
 use Rattle.meaning_laws.proofs.Names.{if_gives, step_names, come_to_turn_names}
 use Rattle.inplace_laws.specs.Windows.{are_plain, coords_have}
 use Rattle.inplace_laws.proofs.Windows.{view_kept}
-use Rattle.staging_laws.specs.Converted.{converted_statement, converted, name_on, indices_at}
-use Rattle.staging_laws.specs.Converted.{converted_datum, converted_arguments, converted_argument}
-use Rattle.staging_laws.specs.Converted.{coords_at, StatementFits}
+use Rattle.staging_laws.specs.Converted.{converted_statement, converted}
+use Rattle.staging_laws.specs.Converted.{converted_arguments}
+use Rattle.staging_laws.specs.Converted.{StatementFits}
 use Rattle.buffer_laws.specs.StageMem.{asked_of_indices, asked_of_datum, asked_of_statement}
-use Rattle.stride_laws.specs.OnView.{AllHold, LiesWithin, OnViewLaw}
+use Rattle.stride_laws.specs.OnView.{AllHold, OnViewLaw}
 use Rattle.stride_laws.proofs.InView.{number_same, numbers_same, holds_same}
 use Rattle.stride_laws.proofs.OnView.{hold_parts, place_on, window_on, number_on, all_on, value_on}
-use Rattle.stride_laws.proofs.OnView.{store_on, call_on, V}
+use Rattle.stride_laws.proofs.OnView.{store_on, call_on}
 
 -- two entries changed in either order
 swap_updates : {A : Type 0} (f : ℕ → A) (i j : ℕ) (u v : A) → (i == j) ≡ false

@@ -1,5 +1,5 @@
 -- A block whose accesses lie within a window does the same through a view of the window.
-use Rattle.std.specs.Prelude.{◌≡◌, ℕ, Bool, true, List, [], ◌∷◌, option_map, ⊤}
+use Rattle.std.specs.Prelude.{◌≡◌, ℕ, true, List, [], ◌∷◌, option_map, ⊤}
 use Rattle.exo_tree.specs.Tree.{Control, Condition, Coord, Statement, Block, end, next}
 use Rattle.exo_tree.specs.Context.{Context, fill}
 use Rattle.exo_meaning.specs.Scene.{Seen, Scene, holds}

@@ -1,5 +1,5 @@
 -- A block staged on a window whose buffer may be passed, at a place of a procedure.
-use Rattle.std.specs.Prelude.{◌≡◌, ℕ, Bool, true, false, List, []}
+use Rattle.std.specs.Prelude.{◌≡◌, ℕ, Bool, false, List, []}
 use Rattle.exo_tree.specs.Tree.{Kind, Cell, Binder, Control, Coord, Block, Procedure, ConfigField}
 use Rattle.exo_tree.specs.Tree.{Statement, end, next}
 use Rattle.exo_tree.specs.Context.{Context, fill, rest_of}
