@@ -20,8 +20,10 @@ pub mod OfNothing
 pub mod SumsStand
 pub mod StageAccum
 pub mod StageSums
+pub mod MadeIndices
 pub mod Examples
 pub mod ExpandExamples
 pub mod StageExamples
 pub mod AccumExamples
 pub mod StageAccumExamples
+pub mod GemmRows

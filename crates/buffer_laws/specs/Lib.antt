@@ -9,3 +9,4 @@ pub mod Accumulated
 pub mod Sums
 pub mod StageAccum
 pub mod ExpandText
+pub mod MadeIndices

@@ -13,6 +13,7 @@ ghost use Rattle.buffer_laws.specs.Bound.{BindLaw};
 ghost use Rattle.buffer_laws.specs.Bound.{BindRefines};
 ghost use Rattle.buffer_laws.specs.Simplified.{SimplifiedAlong};
 ghost use Rattle.buffer_laws.specs.Simplified.{SimplifiedLaw};
+ghost use Rattle.buffer_laws.specs.MadeIndices.{MadeSimplerLaw};
 ghost use Rattle.buffer_laws.specs.StageLaws.{DraftLaw};
 ghost use Rattle.buffer_laws.specs.StageLaws.{StageMemLaw};
 ghost use Rattle.buffer_laws.specs.StageLaws.{FitsAtPlaces};
@@ -186,4 +187,9 @@ pub fn expanded_buffers_run_alike()
 /// So it may stand for the block at a place of a procedure.
 pub fn buffers_are_expanded()
     ensures { ExpandTextRefines }
+{}
+
+/// The simplifier of the indices and dimensions that a step makes keeps their numbers.
+pub fn made_indices_are_simplified()
+    ensures { MadeSimplerLaw }
 {}
