@@ -26,4 +26,5 @@ pub mod ExpandExamples
 pub mod StageExamples
 pub mod AccumExamples
 pub mod StageAccumExamples
+pub mod SumsExamples
 pub mod GemmRows

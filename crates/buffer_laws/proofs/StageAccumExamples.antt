@@ -33,7 +33,7 @@ use Rattle.buffer_laws.proofs.StageMem.{named}
 use Rattle.buffer_laws.proofs.StageSums.{sums_draft_law, stage_sums_law}
 
 -- for i in seq(0, 2): x[i + 3] += 7
-abbrev adds : Block
+abbrev pub adds : Block
 adds = next (For (named 1 (105 ∷ [])) (Lit (pos 0)) (Lit (pos 2))
     (next (Reduce 0 (Add (Var 1) (Lit (pos 3)) ∷ []) (Const (pos 7))) end)) end
 
@@ -49,7 +49,7 @@ sums_of_body b = record {
   template = None;
 }
 
-abbrev world : World
+abbrev pub world : World
 world = unit_world (kinds_of []) []
 
 may_run : MayRun [] 1 [] (sums_of_body adds)
@@ -68,13 +68,13 @@ may_run = record {
 }
 
 -- x[2:6]
-abbrev middle : List Coord
+abbrev pub middle : List Coord
 middle = Span (Lit (pos 2)) (Lit (pos 6)) ∷ []
 
-abbrev t : Binder
+abbrev pub t : Binder
 t = named 2 (116 ∷ [])
 
-abbrev window : Staging
+abbrev pub window : Staging
 window = sums_of 0 middle (116 ∷ [])
 
 abbrev made : Block
@@ -163,13 +163,13 @@ it_is_staged = stage_sums_law [] 1 [] (sums_of_body adds) (Here end)
 
 -- ---- an input on which both run, to the same cells
 
-abbrev eight : Shape
+abbrev pub eight : Shape
 eight = tensor I32 (pos 8 ∷ [])
 
 abbrev all_of_x : Seen
 all_of_x = record { buffer = 0; sides = whole (pos 8 ∷ []) }
 
-abbrev fives : State
+abbrev pub fives : State
 fives = record {
   scene = record {
     control = λ y. pos 0;

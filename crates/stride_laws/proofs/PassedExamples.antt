@@ -12,7 +12,7 @@ use Rattle.exo_meaning.specs.Calls.{Callee}
 use Rattle.exo_meaning.specs.Inputs.{IsAdmissible, Refines}
 use Rattle.exo_meaning.specs.Run.{World, unit_world, kinds_of}
 use Rattle.exo_meaning.specs.Units.{scope_of, AreProcedures, IsProcedure, field_kind}
-use Rattle.meaning_laws.specs.Context.{ComesTo}
+use Rattle.meaning_laws.specs.Context.{ComesTo, MayReplace}
 use Rattle.meaning_laws.specs.Sorted.{MayRun, IsSorted}
 use Rattle.meaning_laws.specs.Sound.{IsUnbound}
 use Rattle.meaning_laws.proofs.Copies.{sound_law, unbound_law}
@@ -35,7 +35,11 @@ use Rattle.stride_laws.specs.OnView.{AllHold, LiesWithin}
 use Rattle.stride_laws.specs.Passed.{ArePassed}
 use Rattle.stride_laws.specs.Strides.{stride_seen}
 use Rattle.stride_laws.proofs.Along.{each_within}
-use Rattle.stride_laws.proofs.Passed.{fits_behind_passed}
+use Rattle.scope_laws.proofs.Within.{holes_compose}
+use Rattle.stride_laws.proofs.Passed.{fits_behind_passed, passed_replaces, passed_reader_replaces}
+use Rattle.stride_laws.proofs.PassedSums.{passed_sums_replace}
+use Rattle.stride_laws.proofs.StagePassed.{lies_at_places}
+use Rattle.stride_laws.proofs.Units.{blind_calls_law}
 use Rattle.stride_laws.proofs.StagePassed.{stage_passed_law, stage_passed_reader_law}
 use Rattle.stride_laws.proofs.StagePassed.{stage_passed_sums_law}
 
@@ -301,6 +305,21 @@ module _ (s u : State) (good : IsAdmissible world (p_of setting) s)
       middle (loads same staging I32 0 2) (stores same staging I32 0 2) setting u unit_is_well
       setting_passes setting_known setting_sorted refl
 
+  setting_may_stand : MayReplace world is_t setting
+      (as_made same I32 0 2 0 middle (116 ∷ []) setting) u
+  setting_may_stand = passed_replaces is_t world (stride_seen (kinds_of []) unit) (λ y. y) t I32
+      (sizes same staging I32 0 2) x_sides 0 0 middle (loads same staging I32 0 2)
+      (stores same staging I32 0 2) setting u (blind_calls_law (kinds_of []) unit) setting_passes
+      setting_hides setting_known setting_lies setting_fits
+
+  -- what is asked holds at each place, and so in a run of the call
+  lie_at_places : LiesWithin world 0 x_sides middle setting u
+  lie_at_places = lies_at_places world (p_of setting) (Here end) setting 0 x_sides middle s u good
+      come (λ d a v is there.
+      let w = ((holes_compose (next a end) (Here end) d).comes world s v).1 there in
+      each_within world (λ d z. AllHold z (asked_of_statement 0 x_sides middle d)) setting w.middle
+      ((refl, (refl, tt)), tt, λ z e. tt) d a v is w.second)
+
 setting_is_staged : Refines world (p_of setting) (p_of (staged_of setting)) []
 setting_is_staged = stage_passed_law (kinds_of []) unit (p_of setting) (Here end) is_t (λ y. y) same
     I32 x_sides 0 2 0 middle (116 ∷ []) setting is_same refl refl setting_passes
@@ -338,6 +357,14 @@ module _ (s u : State) (good : IsAdmissible world (p_of adding) s)
   only_adds = only_adds_at_place [] 1 unit (p_of adding) (Here end) 0 adding s u adding_may_run refl
       refl good come
 
+  adding_may_stand : MayReplace world is_t adding
+      (sums_as_made same I32 0 2 0 middle (116 ∷ []) adding) u
+  adding_may_stand = passed_sums_replace [] 1 unit (scope_of [] (p_of adding).params) is_t
+      (stride_seen (kinds_of []) unit) (λ y. y) t I32 (sizes same staging I32 0 2) x_sides 0 0
+      middle (loads same staging I32 0 2) (stores same staging I32 0 2) adding u
+      (blind_calls_law (kinds_of []) unit) adding_passes adding_hides adding_known adding_lies
+      only_adds
+
 adding_is_staged : Refines world (p_of adding) (p_of (summed_of adding)) []
 adding_is_staged = stage_passed_sums_law [] 1 unit (p_of adding) (Here end)
     (scope_of [] (p_of adding).params) is_t (λ y. y) same I32 x_sides 0 2 0 middle (116 ∷ [])
@@ -371,6 +398,13 @@ module _ (s u : State) (good : IsAdmissible world (p_of copying) s)
   copying_lies c d v is there = each_within world
       (λ d z. AllHold z (asked_of_statement 0 x_sides middle d)) copying u
       ((refl, (refl, tt)), tt, λ w e. tt) c d v is there
+
+  copying_may_stand : MayReplace world is_t copying
+      (reader_as_made same I32 0 2 0 middle (116 ∷ []) copying) u
+  copying_may_stand = passed_reader_replaces is_t world (stride_seen (kinds_of []) unit) (λ y. y) t
+      I32 (sizes same staging I32 0 2) x_sides 0 0 middle (loads same staging I32 0 2) copying u
+      (blind_calls_law (kinds_of []) unit) copying_passes refl copying_hides copying_known
+      copying_lies
 
 copying_is_staged : Refines world (p_of copying) (p_of (read_of copying)) []
 copying_is_staged = stage_passed_reader_law (kinds_of []) unit (p_of copying) (Here end) is_t
