@@ -10,6 +10,9 @@ pub mod Passed
 pub mod PassedSums
 pub mod StagePassed
 pub mod Along
+pub mod StridesOn
+pub mod NamesOn
 pub mod Examples
 pub mod PassedExamples
 pub mod PassedRuns
+pub mod RefusalExamples

@@ -3,3 +3,4 @@ pub mod Staged
 pub mod OnView
 pub mod Passed
 pub mod StagePassed
+pub mod Refusals

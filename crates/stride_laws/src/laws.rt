@@ -13,6 +13,8 @@ ghost use Rattle.stride_laws.specs.StagePassed.{StagePassedLaw};
 ghost use Rattle.stride_laws.specs.StagePassed.{StagePassedReaderLaw};
 ghost use Rattle.stride_laws.specs.StagePassed.{StagePassedSumsLaw};
 ghost use Rattle.stride_laws.specs.StagePassed.{LiesAtPlaces};
+ghost use Rattle.stride_laws.specs.Refusals.{StridesOnLaw};
+ghost use Rattle.stride_laws.specs.Refusals.{NamesOnLaw};
 
 /// Where the callees see no other strides than they say, a block sees no other ones either.
 pub fn blocks_see_strides_they_use()
@@ -79,4 +81,14 @@ pub fn windows_of_sums_may_be_passed()
 /// What is asked of accesses at each place of the procedure holds in a run of the block.
 pub fn accesses_lie_at_places()
     ensures { LiesAtPlaces }
+{}
+
+/// Where a block uses no stride of a window's buffer, its converted form uses none of the staged one.
+pub fn strides_stay_unused()
+    ensures { StridesOnLaw }
+{}
+
+/// Where a block uses no other name of the window's root, its converted form uses no name of it.
+pub fn roots_stay_unused()
+    ensures { NamesOnLaw }
 {}
