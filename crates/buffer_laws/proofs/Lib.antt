@@ -1,6 +1,7 @@
 pub mod Buffers
 pub mod Lifted
 pub mod Bound
+pub mod BoundAtPlaces
 pub mod Simplified
 pub mod StageMem
 pub mod Shown
@@ -27,4 +28,5 @@ pub mod StageExamples
 pub mod AccumExamples
 pub mod StageAccumExamples
 pub mod SumsExamples
+pub mod BindExamples
 pub mod GemmRows

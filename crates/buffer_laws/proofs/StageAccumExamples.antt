@@ -37,7 +37,7 @@ abbrev pub adds : Block
 adds = next (For (named 1 (105 ∷ [])) (Lit (pos 0)) (Lit (pos 2))
     (next (Reduce 0 (Add (Var 1) (Lit (pos 3)) ∷ []) (Const (pos 7))) end)) end
 
-abbrev sums_of_body : Block → Procedure
+abbrev pub sums_of_body : Block → Procedure
 sums_of_body b = record {
   name = 115 ∷ [];
   params = record {

@@ -10,3 +10,4 @@ pub mod Sums
 pub mod StageAccum
 pub mod ExpandText
 pub mod MadeIndices
+pub mod BoundAtPlaces

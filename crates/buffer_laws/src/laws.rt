@@ -11,6 +11,8 @@ ghost use Rattle.buffer_laws.specs.Lifted.{LiftElseLaw};
 ghost use Rattle.buffer_laws.specs.Bound.{ValuesFit};
 ghost use Rattle.buffer_laws.specs.Bound.{BindLaw};
 ghost use Rattle.buffer_laws.specs.Bound.{BindRefines};
+ghost use Rattle.buffer_laws.specs.BoundAtPlaces.{BoundFitsAtPlace};
+ghost use Rattle.buffer_laws.specs.BoundAtPlaces.{BindAtPlace};
 ghost use Rattle.buffer_laws.specs.Simplified.{SimplifiedAlong};
 ghost use Rattle.buffer_laws.specs.Simplified.{SimplifiedLaw};
 ghost use Rattle.buffer_laws.specs.MadeIndices.{MadeSimplerLaw};
@@ -192,4 +194,14 @@ pub fn buffers_are_expanded()
 /// The simplifier of the indices and dimensions that a step makes keeps their numbers.
 pub fn made_indices_are_simplified()
     ensures { MadeSimplerLaw }
+{}
+
+/// At a place of a well-formed procedure a value fits the cell type that is made for it.
+pub fn values_fit_at_places()
+    ensures { BoundFitsAtPlace }
+{}
+
+/// So tests on the trees and the types are enough for a part of an expression to be stored.
+pub fn parts_are_bound_by_types()
+    ensures { BindAtPlace }
 {}
