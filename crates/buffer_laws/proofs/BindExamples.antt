@@ -1,14 +1,13 @@
 -- Of p(x: i32[8]), x[0] = x[3] + 1 is b : i32; b = x[3]; x[0] = b + 1.
-use Rattle.std.proofs.Common.{◌≡◌, ◌==◌, ℕ, ℤ, pos, Bool, true, false, List, [], ◌∷◌, Option, Some}
+use Rattle.std.proofs.Common.{◌≡◌, pos, true, false, [], ◌∷◌, Option, Some}
 use Rattle.std.proofs.Common.{option_map, refl, sym, subst, eqb-true}
 use Rattle.std.specs.Int.{int_wrap}
-use Rattle.exo_tree.specs.Tree.{I32, Control, Lit, Datum, Const, Read, Plus, Assign, Alloc, Block, end}
+use Rattle.exo_tree.specs.Tree.{I32, Lit, Datum, Const, Read, Plus, Assign, Alloc, Block, end}
 use Rattle.exo_tree.specs.Tree.{next}
 use Rattle.exo_tree.specs.Context.{Here}
 use Rattle.exo_meaning.specs.Value.{Value, Number}
 use Rattle.exo_meaning.specs.State.{State, value}
 use Rattle.exo_meaning.specs.Inputs.{IsAdmissible, Refines, FitsCell, run_procedure}
-use Rattle.exo_meaning.specs.Run.{unit_world, kinds_of}
 use Rattle.exo_meaning.specs.Units.{scope_of}
 use Rattle.meaning_laws.specs.Context.{ComesTo}
 use Rattle.meaning_laws.specs.Copies.{IsFree}

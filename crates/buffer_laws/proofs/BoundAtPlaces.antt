@@ -1,11 +1,11 @@
 -- A part of an expression, stored before it is used, at a place of a well-formed procedure.
-use Rattle.std.proofs.Common.{◌≡◌, ℕ, Bool, List, [], Option, Some, None, refl, sym, ap, ◌∙◌, subst}
+use Rattle.std.proofs.Common.{◌≡◌, ℕ, List, [], Option, Some, None, refl, sym, ap, ◌∙◌, subst}
 use Rattle.std.proofs.Common.{IsSome, true≢false}
 use Rattle.exo_tree.specs.Tree.{Cell, I32, Kind, Control, Datum, Const, Read, Negated, Relu, Plus, Minus}
 use Rattle.exo_tree.specs.Tree.{Times, Select}
 use Rattle.exo_meaning.specs.Value.{Value}
-use Rattle.exo_meaning.specs.Scene.{Seen, Shape, then_do, cell_at, numbers}
-use Rattle.exo_meaning.specs.State.{State, Place, value, place, held}
+use Rattle.exo_meaning.specs.Scene.{Seen, Shape}
+use Rattle.exo_meaning.specs.State.{State, value, place, held}
 use Rattle.exo_meaning.specs.Inputs.{FitsCell}
 use Rattle.exo_meaning.specs.Run.{unit_world, kinds_of}
 use Rattle.exo_meaning.specs.Units.{Scope, scope_of}

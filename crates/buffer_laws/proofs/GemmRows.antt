@@ -1,10 +1,10 @@
 -- What the steps on buffers make of gemm(M, N, K, A: i32[M, K], B: i32[K, N], C: i32[M, N]), and of
 -- half(x: i32[8]), with the simplifier of made indices.
-use Rattle.std.proofs.Common.{◌≡◌, ℕ, pos, Bool, true, false, List, [], ◌∷◌, refl}
-use Rattle.exo_tree.specs.Tree.{Binder, I32, Control, Lit, Var, Add, Mul, Coord, At, Span, Datum}
+use Rattle.std.proofs.Common.{◌≡◌, ℕ, pos, true, List, [], ◌∷◌, refl}
+use Rattle.exo_tree.specs.Tree.{I32, Control, Lit, Var, Add, Mul, Coord, At, Span, Datum}
 use Rattle.exo_tree.specs.Tree.{Const, Read, Times, Reduce, Assign, For, Alloc, Block, end, next}
 use Rattle.exo_tree.specs.Tree.{Statement}
-use Rattle.buffer_laws.specs.Bound.{Hole, Top, TimesIn, bound, bound_cell}
+use Rattle.buffer_laws.specs.Bound.{Top, TimesIn, bound, bound_cell}
 use Rattle.buffer_laws.specs.Buffers.{Buffer, allocation, in_memory}
 use Rattle.buffer_laws.specs.Expanded.{expanded}
 use Rattle.buffer_laws.specs.Lifted.{lifted_from_loop, loop_with, with_buffer_in}

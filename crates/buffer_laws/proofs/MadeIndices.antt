@@ -1,13 +1,12 @@
 -- The simplifier of made indices keeps their numbers.
 use Rattle.std.proofs.Common.{◌≡◌, ℤ, pos, ◌+ℤ◌, ◌*ℤ◌, Bool, true, false, cond, refl, arith}
 use Rattle.std.proofs.lemmas.Int.{ints}
-use Rattle.exo_tree.specs.Tree.{Control}
 use Rattle.exo_meaning.specs.Scene.{Scene, number}
 use Rattle.affine_forms.specs.Forms.{is_affine}
 use Rattle.affine_forms.specs.Laws.{ReadsAt}
 use Rattle.simplify_laws.specs.Simplified.{simplified, values_in}
 use Rattle.simplify_laws.proofs.Simplified.{simplified_law}
-use Rattle.buffer_laws.specs.MadeIndices.{as_themselves, variables_alone, made_simpler}
+use Rattle.buffer_laws.specs.MadeIndices.{as_themselves, variables_alone}
 use Rattle.buffer_laws.specs.MadeIndices.{MadeSimplerLaw}
 
 itself : (n : ℤ) → pos 0 +ℤ ((pos 1 *ℤ n) +ℤ pos 0) ≡ n

@@ -4,7 +4,7 @@ use Rattle.std.proofs.Common.{Some, None, option_map, refl, sym}
 use Rattle.std.specs.Int.{int_wrap}
 use Rattle.exo_tree.specs.Tree.{I32, Lit, Sub, Control, Alloc, next}
 use Rattle.exo_meaning.specs.Value.{Value, Number, Undefined}
-use Rattle.exo_meaning.specs.Scene.{Shape, Seen, Range, extents, whole}
+use Rattle.exo_meaning.specs.Scene.{Shape, Seen, Range}
 use Rattle.exo_meaning.specs.State.{State}
 use Rattle.exo_meaning.specs.Calls.{GivenView, copy_back}
 use Rattle.exo_meaning.specs.Footprint.{IsTidy}
@@ -12,7 +12,7 @@ use Rattle.exo_meaning.specs.Run.{run, tensor}
 use Rattle.exo_meaning.proofs.Windows.{none_is_some}
 use Rattle.inplace_laws.specs.Filled.{Loop}
 use Rattle.staging_laws.specs.Stores.{IsStaging, emptied}
-use Rattle.buffer_laws.specs.StageMem.{sizes, loads, stores}
+use Rattle.buffer_laws.specs.StageMem.{loads, stores}
 use Rattle.buffer_laws.specs.Sums.{zero_nest, sum_nest, zeros, zeroed, sums}
 use Rattle.buffer_laws.proofs.StageAccumExamples.{world, middle, t, window, fives, eight}
 use Rattle.buffer_laws.proofs.StageExamples.{same}

@@ -1,5 +1,5 @@
 -- The simplifier of the indices and dimensions that a step makes.
-use Rattle.std.specs.Prelude.{◌≡◌, cond, true, false}
+use Rattle.std.specs.Prelude.{cond, true, false}
 use Rattle.exo_tree.specs.Tree.{Index, Control}
 use Rattle.affine_forms.specs.Atoms.{Variable, EntryField, OpaqueStride, only}
 use Rattle.affine_forms.specs.Forms.{Reading, Allowed, is_affine}

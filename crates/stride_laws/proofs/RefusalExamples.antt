@@ -1,6 +1,6 @@
 -- The call that is given x[3:5] uses no stride of x and no other name of its buffer, and neither
 -- does the one that is given a part of the staged buffer.
-use Rattle.std.proofs.Common.{◌≡◌, ◌==◌, ℕ, true, false, true≢false, [], refl, sym}
+use Rattle.std.proofs.Common.{◌≡◌, false, true≢false, [], refl, sym}
 use Rattle.exo_meaning.specs.Run.{kinds_of}
 use Rattle.exo_meaning.specs.Scene.{updated}
 use Rattle.exo_meaning.specs.Unseen.{in_block as mentions}
