@@ -3,7 +3,7 @@ use Rattle.std.proofs.Common.{◌≡◌, ◌<◌, ◌≤◌, ◌+◌, nat_le, mi
 use Rattle.std.proofs.lemmas.List.{drop_more}
 use Rattle.exo_tree.specs.Tree.{Param, Argument}
 use Rattle.exo_meaning.specs.Units.{is_hole_of}
-use Rattle.c_tree.specs.CTree.{Actual, Piece, Plain}
+use Rattle.c_tree.specs.CTree.{Plain}
 use Rattle.c_lowered.specs.Lowered.{Naming, Forms, actual_of, actuals_of, piece_for, piece_named}
 use Rattle.c_lowering.proofs.Lists.{mapped_next, none_mapped}
 

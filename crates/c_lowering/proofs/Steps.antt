@@ -1,5 +1,5 @@
 -- Offsets in windows, index by index.
-use Rattle.std.proofs.Common.{◌≡◌, ◌<◌, ◌≤◌, ℕ, zero, suc, pos, ◌+◌, ◌-◌, List, [], ◌∷◌, refl, sym, ap, ap₂, ◌∙◌, arith}
+use Rattle.std.proofs.Common.{◌≡◌, ◌<◌, ◌≤◌, ℕ, pos, ◌+◌, ◌-◌, List, [], ◌∷◌, refl, sym, ap, ap₂, ◌∙◌, arith}
 use Rattle.c_tree.specs.CTree.{Name, Number64, Literal, StrideIn, Sum, Product}
 use Rattle.c_lowered.specs.Lowered.{window_strides, scaled, scaled_from}
 use Rattle.c_lowering.proofs.Offsets.{strides_from, no_strides_from}

@@ -1,7 +1,7 @@
 -- A statement's C in two parts: the statement that stands in its place, and what stands at the end
 -- of its block.
 use Rattle.std.specs.Prelude.{ℕ, Bool, true, false, ◌||◌, List, [], ◌∷◌}
-use Rattle.exo_tree.specs.Tree.{Binder, Cell, I32, Index, Control, Statement, Assign, Reduce, Config, Pass, If, For, Alloc, View, Call, ControlParam}
+use Rattle.exo_tree.specs.Tree.{Cell, I32, Index, Control, Statement, Assign, Reduce, Config, Pass, If, For, Alloc, View, Call, ControlParam}
 use Rattle.exo_meaning.specs.Scene.{updated}
 use Rattle.c_tree.specs.CTree.{Element, CStatement, Store, AddTo, SetField, Empty, Branch, Loop, Array, Malloc, Free, CBlock, stop, first, followed_by}
 use Rattle.c_lowered.specs.Lowered.{Memory, Naming, Forms, NumberForm, cell_in, cell_at_of, number32_of, number_of, test_of, actual_of, window_of, bind_of, call_of, dims_of, product_of, without_lanes, stack_count, element_of, is_empty, block_of}

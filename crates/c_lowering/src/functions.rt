@@ -3,9 +3,9 @@ ghost use Rattle.std.specs.Prelude.{◌≡◌, [], map, Some, slice_get, string_
 ghost use Rattle.exo_tree.specs.PlainParam.{parameter, parameter_kind};
 ghost use Rattle.exo_tree.specs.PlainProcedure.{procedure};
 ghost use Rattle.exo_tree.specs.PlainUnit.{program};
-ghost use Rattle.c_tree.specs.CTree.{stop};
+ghost use Rattle.c_tree.specs.CTree.{stop, cblock};
 ghost use Rattle.c_tree.specs.Plain.{plain_param, plain_function};
-ghost use Rattle.c_lowered.specs.Lowered.{param_forms};
+ghost use Rattle.c_lowered.specs.Lowered.{param_forms, block_of};
 ghost use Rattle.c_lowered.specs.Lowered as kinds;
 ghost use Rattle.c_lowered.specs.LoweredUnit.{formal_of, formals_of, function_at, functions_of};
 ghost use Rattle.c_lowering.specs.PlainPrinted.{printing};
@@ -78,6 +78,15 @@ fn param_scope(alloc: Global, params: &[Param]) -> Result<Vec<Entry>, AllocError
     Ok(scope)
 }
 
+/// The C of a procedure's body.
+fn lower_body(alloc: Global, names: &Names<'_>, p: &Proc) -> Result<CBlock, AllocError>
+    ensures { IfOk result (λ c. cblock c ≡ block_of (naming_of names.now) (param_forms (procedure p.now).params) (procedure p.now).body) }
+{
+    let mut scope = param_scope(alloc, p.params.as_slice())?;
+    let body = lower_block(alloc, names, &mut scope, &p.body)?;
+    Ok(body)
+}
+
 /// The C of a procedure.
 fn lower_function(
     alloc: Global,
@@ -94,8 +103,7 @@ fn lower_function(
     };
     let name = String::from_str(alloc, p.name.as_str())?;
     let params = lower_params(alloc, &names, p.params.as_slice())?;
-    let mut scope = param_scope(alloc, p.params.as_slice())?;
-    let body = lower_block(alloc, &names, &mut scope, &p.body)?;
+    let body = lower_body(alloc, &names, p)?;
     Ok(CFunction { name, params, body })
 }
 

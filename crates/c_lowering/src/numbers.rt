@@ -245,6 +245,19 @@ fn boxed_number(
     Ok(Box::new(alloc, number)?)
 }
 
+/// An offset times a dimension.
+fn times_extent(
+    alloc: Global,
+    names: &Names<'_>,
+    at: CNumber,
+    d: &Ctrl,
+) -> Result<CNumber, AllocError>
+    ensures { IfOk result (λ n. plain_number n ≡ Product (plain_number at) (extent_of (naming_of names.now) (control d.now))) }
+{
+    let extent = lower_extent(alloc, names, d)?;
+    times(alloc, at, extent)
+}
+
 /// The offset by one index more: `((at * d) + i)`.
 fn next_row(
     alloc: Global,
@@ -256,8 +269,7 @@ fn next_row(
 ) -> Result<CNumber, AllocError>
     ensures { IfOk result (λ n. plain_number n ≡ Sum (Product (plain_number at) (extent_of (naming_of names.now) (control d.now))) (number_of (naming_of names.now) (forms_in scope.now) (control i.now))) }
 {
-    let extent = lower_extent(alloc, names, d)?;
-    let row = times(alloc, at, extent)?;
+    let row = times_extent(alloc, names, at, d)?;
     let index = lower_number(alloc, names, scope, i)?;
     plus(alloc, row, index)
 }

@@ -1,4 +1,4 @@
-use Rattle.std.proofs.Common.{◌∙◌, ◌+◌, map, drop, length, ap, arith}
+use Rattle.std.proofs.Common.{◌+◌, map, drop, length, ap, arith}
 use Rattle.exo_tree.specs.PlainControl.{coordinate}
 use Rattle.c_lowered.specs.Lowered.{strides_in}
 use Rattle.c_lowering.specs.Scope.{forms_in}

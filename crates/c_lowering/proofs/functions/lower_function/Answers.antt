@@ -17,6 +17,5 @@ returns c =
     let table = c_names c.args.globals.now (procedure p) in
     let name : string_bytes c.in_ok-name.name ≡ p.name = c.in_ok-name.ensures.ok ∙ c.as_str.ensures in
     let params : map plain_param c.in_ok-params.params.items ≡ formals_of (naming_in unit table) p.params = c.in_ok-params.ensures ∙ ap₂ (λ t ps. formals_of (naming_in unit t) ps) c.in_ok-binders.ensures c.as_slice.ensures in
-    let scope = c.in_ok-scope.ensures ∙ ap param_forms c.as_slice-2.ensures in
-    let body : cblock c.in_ok-body.body ≡ block_of (naming_in unit table) (param_forms p.params) (block p.body) = c.in_ok-body.ensures.value ∙ ap₂ (λ t f. block_of (naming_in unit t) f (block p.body)) c.in_ok-binders.ensures scope in
+    let body : cblock c.in_ok-body.body ≡ block_of (naming_in unit table) (param_forms p.params) (block p.body) = c.in_ok-body.ensures ∙ ap (λ t. block_of (naming_in unit t) (param_forms p.params) (block p.body)) c.in_ok-binders.ensures in
     λ i. record { name = name i; formals = params i; body = body i }
