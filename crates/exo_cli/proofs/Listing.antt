@@ -1,9 +1,12 @@
 -- What is printed: each entry is that of its number, and there are no more of them than procedures.
-use Rattle.std.proofs.Common.{◌≡◌, ◌<◌, ◌≤◌, ◌+◌, ◌&&◌, ◌||◌, ℕ, zero, suc, Bool, true, false, List, [], ◌∷◌, ◌++◌, append_assoc, length, replicate, slice_get, Option, Some, None, refl, sym, ap, ap₂, ◌∙◌, arith, if◌then◌else◌}
+use Rattle.std.proofs.Common.{◌≡◌, ◌<◌, ◌≤◌, ◌+◌, ◌&&◌, ◌||◌, ℕ, zero, suc, Bool, true, false, List, [], ◌∷◌, ◌++◌, append_assoc, length, map, replicate, drop, get_or, drop-cons, subst, ◌==◌, slice_get, Option, Some, None, refl, sym, ap, ap₂, ◌∙◌, arith, if◌then◌else◌}
 use Rattle.exo_tree.specs.Tree.{Procedure, Program}
 use Rattle.exo_tree.specs.Calls.{calls}
 use Rattle.exo_calls.specs.Closed.{closed}
 use Rattle.exo_calls.specs.Marked.{contains, Marked, Reached}
+use Rattle.exo_tree.proofs.Trees.{drop_of_map}
+use Rattle.exo_calls.proofs.Sets.{marked_none, marked_then}
+use Rattle.std.proofs.lemmas.List.{drop_all}
 use Rattle.exo_calls.specs.Passed.{is_function}
 use Rattle.c_lowered.specs.LoweredUnit.{Printing}
 use Rattle.c_unit_laws.specs.Listings.{printings_from}
@@ -79,11 +82,41 @@ reached_is emitted ps n set new count marked reached k h =
     (λ j l. marked.each j (let e = length_none n in omega (arith, e, l)) ∙ ap (λ t. t || is_emitted emitted j) (none_in n j))
     0 ps (omega (arith, count)) k h
 
--- ---- one procedure more to print
+-- ---- one procedure more
 
-pub printed_next : (marked : ℕ → Bool) (print : ℕ → Printing) (k : ℕ) (front : List Printing) (p : Procedure) (ps rest : List Procedure) (all : List Printing) → rest ≡ p ∷ ps → marked k ≡ true → p.template ≡ None
-    → front ++ printings_from marked print k rest ≡ all → (front ++ print k ∷ []) ++ printings_from marked print (suc k) ps ≡ all
-printed_next marked print k front p ps rest all is on function h =
-    append_assoc front (print k ∷ []) (printings_from marked print (suc k) ps)
-    ∙ (ap (λ l. front ++ l) (sym (ap (λ b. if b then print k ∷ printings_from marked print (suc k) ps else printings_from marked print (suc k) ps) (ap₂ (λ a b. a && b) on (ap (λ o. elim o [ None ↦ true | Some text ↦ false ]) function))))
-    ∙ (ap (λ l. front ++ printings_from marked print k l) (sym is) ∙ h))
+pub behind : {X : Type 0} (plain : X → Procedure) (xs : List X) (ys : List Procedure) (k : ℕ) (x : X) → map plain xs ≡ ys → k < length xs → x ≡ get_or xs k x → drop k ys ≡ plain x ∷ drop (k + 1) ys
+behind plain xs ys k x is h at =
+    subst (λ l. drop k l ≡ plain x ∷ drop (k + 1) l) is
+    (drop_of_map plain xs k x h ∙ ap (λ z. plain z ∷ drop (k + 1) (map plain xs)) (sym at))
+
+module _ (marked : ℕ → Bool) (print : ℕ → Printing) (k : ℕ) (front new all : List Printing) where
+  by_test : (p : Procedure) (ps qs : List Procedure) (t : Bool) → qs ≡ p ∷ ps → (marked k && is_function p) ≡ t → front ++ printings_from marked print k qs ≡ all
+      → front ++ (if t then print k ∷ printings_from marked print (k + 1) ps else printings_from marked print (k + 1) ps) ≡ all
+  by_test p ps qs t is test h =
+      let more : k + 1 ≡ suc k = omega arith in
+      ap₂ (λ (b : Bool) (j : ℕ). front ++ (if b then print k ∷ printings_from marked print j ps else printings_from marked print j ps)) (sym test) more
+      ∙ (ap (λ l. front ++ printings_from marked print k l) (sym is) ∙ h)
+
+  -- it is printed
+  pub one_printed : (p : Procedure) (ps qs : List Procedure) → qs ≡ p ∷ ps → (marked k && is_function p) ≡ true → new ≡ front ++ print k ∷ [] → front ++ printings_from marked print k qs ≡ all
+      → new ++ printings_from marked print (k + 1) ps ≡ all
+  one_printed p ps qs is test made h =
+      ap (λ l. l ++ printings_from marked print (k + 1) ps) made
+      ∙ (append_assoc front (print k ∷ []) (printings_from marked print (k + 1) ps) ∙ by_test p ps qs true is test h)
+
+  -- it is not
+  pub none_printed : (p : Procedure) (ps qs : List Procedure) → qs ≡ p ∷ ps → (marked k && is_function p) ≡ false → new ≡ front → front ++ printings_from marked print k qs ≡ all
+      → new ++ printings_from marked print (k + 1) ps ≡ all
+  none_printed p ps qs is test same h = ap (λ l. l ++ printings_from marked print (k + 1) ps) same ∙ by_test p ps qs false is test h
+
+-- ---- one emitted version more
+
+pub emitted_then : (emitted : List ℕ) (i d : ℕ) (old mid new : List Bool) → i < length emitted → Marked (λ k. k == get_or emitted i d) old mid → Marked (is_emitted (drop (i + 1) emitted)) mid new
+    → Marked (is_emitted (drop i emitted)) old new
+emitted_then emitted i d old mid new h one rest =
+    let more : i + 1 ≡ suc i = omega arith in
+    let parts : drop i emitted ≡ get_or emitted i d ∷ drop (i + 1) emitted = drop-cons emitted i d h ∙ ap (λ j. get_or emitted i d ∷ drop j emitted) (sym more) in
+    subst (λ l. Marked (is_emitted l) old new) (sym parts) (marked_then (λ k. k == get_or emitted i d) (is_emitted (drop (i + 1) emitted)) old mid new one rest)
+
+pub emitted_end : (emitted : List ℕ) (i : ℕ) (set : List Bool) → length emitted ≤ i → Marked (is_emitted (drop i emitted)) set set
+emitted_end emitted i set h = subst (λ l. Marked (is_emitted l) set set) (sym (drop_all i emitted h)) (marked_none set)

@@ -1,5 +1,5 @@
 -- Procedures of the text run the same among the versions.
-use Rattle.std.proofs.Common.{◌≡◌, ℕ, true, List, [], ◌++◌, take, drop, length, Option, Some, sym, ap, ◌∙◌, subst, append_assoc, slice_get}
+use Rattle.std.proofs.Common.{◌≡◌, ℕ, true, List, [], ◌++◌, take, drop, length, Option, Some, sym, ap, ◌∙◌, subst, arith, append_assoc, slice_get}
 use Rattle.std.proofs.lemmas.List.{take-append-drop}
 use Rattle.exo_tree.specs.Tree.{Procedure, Program}
 use Rattle.exo_meaning.specs.Scene.{where_true}
@@ -17,7 +17,7 @@ use Rattle.meaning_laws.proofs.Grown.{grown_law}
 -- a procedure calls those before it alone
 below : (text : Program) (k : ℕ) (p : Procedure) → IsUnit text → slice_get text.procedures k ≡ Some p → calls_below (length (take k text.procedures)) p.body ≡ true
 below text k p formed there =
-    subst (λ n. calls_below n p.body ≡ true) (table_count (kinds_of text.fields) (take k text.procedures) [])
+    subst (λ n. calls_below n p.body ≡ true) (table_count (kinds_of text.fields) (take k text.procedures) [] ∙ omega arith)
     (calls_are_below (field_kind text.fields) (length text.memories) (callees (kinds_of text.fields) [] (take k text.procedures)) p
     (formed_at text.fields (length text.memories) text.procedures k p formed.procedures there))
 

@@ -1,5 +1,6 @@
 // What is printed of a unit with its versions.
-ghost use Rattle.std.specs.Prelude.{◌≡◌, ◌<◌, false, length, map, replicate, slice_get, slice_index, IfOk};
+ghost use Rattle.std.specs.Prelude.{◌≡◌, ◌<◌, ◌&&◌, ℕ, false, length, map, replicate, slice_get, slice_index, IfOk};
+ghost use Rattle.exo_tree.specs.PlainProcedure.{procedure};
 ghost use Rattle.exo_tree.specs.PlainUnit.{program};
 ghost use Rattle.exo_calls.specs.Closed.{closed};
 ghost use Rattle.exo_calls.specs.Marked.{Marked, contains};
@@ -11,7 +12,7 @@ ghost use Rattle.exo_cli.specs.Printings.{is_emitted, printed_of, printing_of};
 
 use c_lowering::Printed;
 use exo_calls::{Marks, Through, close};
-use exo_tree::{Name, ProcId, Procs, Unit};
+use exo_tree::{Name, Proc, ProcId, Procs, Unit};
 use std::alloc::{AllocError, Global};
 
 /// The emitted versions, of so many.
@@ -45,6 +46,20 @@ fn origin_name(alloc: Global, procs: &Procs, origins: &[u32], k: usize) -> Resul
     }
 }
 
+/// Whether a procedure is no instruction.
+fn is_function(p: &Proc) -> bool
+    ensures { result ≡ is_function (procedure p.now) }
+{
+    p.template.is_none()
+}
+
+/// Whether the version of that number is printed: it is marked, and a function.
+fn is_printed(p: &Proc, k: usize, marks: &Marks) -> bool
+    ensures { result ≡ (contains marks.now k && is_function (procedure p.now)) }
+{
+    marks.has(k) && is_function(p)
+}
+
 /// The functions among the marked versions, in order.
 fn functions(
     alloc: Global,
@@ -57,7 +72,7 @@ fn functions(
     let mut what = Vec::new(alloc);
     let procs = unit.procs.as_slice();
     for k in 0..procs.len() {
-        if marks.has(k) && procs[k].template.is_none() {
+        if is_printed(&procs[k], k, marks) {
             what.push(printed(alloc, unit, origins, k)?)?;
         }
     }

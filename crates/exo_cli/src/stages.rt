@@ -150,11 +150,11 @@ fn ran(alloc: Global, unit: &Unit, lines: &[Line]) -> Result<Made, Stop>
     if let Err((k, why)) = session.run(alloc, lines) {
         return Err(at_line(&lines[k], why));
     }
-    Ok(made(alloc, unit, session)?)
+    Ok(finished(alloc, unit, session)?)
 }
 
 /// The unit with the versions of a session, and what is printed of it.
-fn made(alloc: Global, unit: &Unit, session: Session) -> Result<Made, AllocError>
+fn finished(alloc: Global, unit: &Unit, session: Session) -> Result<Made, AllocError>
     ensures { IfOk result (λ made. made_of made ≡ record {
         program = with_versions (program unit.now) (versions session);
         what = printings_of (program unit.now) (versions session);
