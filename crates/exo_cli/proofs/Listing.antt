@@ -6,6 +6,7 @@ use Rattle.exo_calls.specs.Closed.{closed}
 use Rattle.exo_calls.specs.Marked.{contains, Marked, Reached}
 use Rattle.exo_tree.proofs.Trees.{drop_of_map}
 use Rattle.exo_calls.proofs.Sets.{marked_none, marked_then}
+use Rattle.std.specs.Option.{is_none}
 use Rattle.std.proofs.lemmas.List.{drop_all}
 use Rattle.exo_calls.specs.Passed.{is_function}
 use Rattle.c_lowered.specs.LoweredUnit.{Printing}
@@ -120,3 +121,9 @@ emitted_then emitted i d old mid new h one rest =
 
 pub emitted_end : (emitted : List ℕ) (i : ℕ) (set : List Bool) → length emitted ≤ i → Marked (is_emitted (drop i emitted)) set set
 emitted_end emitted i set h = subst (λ l. Marked (is_emitted l) set set) (sym (drop_all i emitted h)) (marked_none set)
+
+-- ---- what is no instruction
+
+pub function_is : (o : Option (List ℕ)) → is_none o ≡ (elim o [ None ↦ true | Some text ↦ false ])
+function_is None = refl
+function_is (Some text) = refl

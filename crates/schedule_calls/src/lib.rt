@@ -1,0 +1,2 @@
+//! What the lines of a schedule ask for, by their text alone.
+#![tactic(auto)]
