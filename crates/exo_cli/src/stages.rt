@@ -156,9 +156,9 @@ fn ran(alloc: Global, unit: &Unit, lines: &[Line]) -> Result<Made, Stop>
 /// The unit with the versions of a session, and what is printed of it.
 fn finished(alloc: Global, unit: &Unit, session: Session) -> Result<Made, AllocError>
     ensures { IfOk result (λ made. made_of made ≡ record {
-        program = with_versions (program unit.now) (versions session);
-        what = printings_of (program unit.now) (versions session);
-      }) }
+      program = with_versions (program unit.now) (versions session);
+      what = printings_of (program unit.now) (versions session);
+    }) }
 {
     let Session {
         procs,
