@@ -1,11 +1,13 @@
 -- What stands behind the C that is printed.
-use Rattle.std.proofs.Common.{◌≡◌, ◌≢◌, ◌&&◌, ◌++◌, nat_le, map, MatchBool, MatchOption, IfSome, nat_lt, length, if◌then◌else◌, codes, ◌⊎◌, inl, inr, ⊎_elim, ℕ, true, false, Bool, List, [], ◌∷◌, slice_get, Option, Some, None, refl, sym, ap, ◌∙◌, subst}
+use Rattle.std.proofs.Common.{◌≡◌, ◌≢◌, ◌≤◌, ◌==◌, ◌&&◌, ◌||◌, ◌++◌, nat_le, map, MatchBool, MatchOption, IfSome, nat_lt, length, if◌then◌else◌, codes, ◌⊎◌, inl, inr, ℕ, true, false, true≢false, eqb-true, Bool, List, [], ◌∷◌, Option, Some, None, refl, sym, ap, ◌∙◌, subst, arith}
 use Rattle.std.proofs.lemmas.Bool.{and_parts}
 use Rattle.exo_tree.specs.Tree.{Program}
 use Rattle.exo_meaning.specs.Units.{IsUnit}
-use Rattle.c_printer.specs.SelfContained.{are_self_contained}
-use Rattle.c_printer.specs.Refusals.{too_wide, name_clash}
-use Rattle.c_laws.specs.Laws.{UnitsFollow}
+use Rattle.c_lowering.specs.Refusals.{too_wide, name_clash}
+use Rattle.memory_kinds.specs.declared.error.KindError.{KindError}
+use Rattle.memory_kinds.specs.Faults.{fault_of}
+use Rattle.c_follows.specs.Units.{AreLowered}
+use Rattle.c_unit_laws.proofs.Listings.{printings_are_listings}
 use Rattle.text_phrases.specs.Text.{IsText}
 use Rattle.text_lexer.specs.Layout.{lexed, place_of, token_of, end_place}
 use Rattle.exo_reader.specs.Source.{Item}
@@ -20,12 +22,12 @@ use Rattle.exo_cli.specs.Words.{Command, Compile, Check, command_of}
 use Rattle.exo_cli.specs.Work.{file_limit, Opens, AnswersTo, Answers, Moment, Ends}
 use Rattle.exo_cli.specs.Answer.{Answer, Accepted, Rejected, Unread, Misused, status_of, for_out, for_err}
 use Rattle.exo_cli.specs.Stops as stop
-use Rattle.exo_cli.specs.Stages.{Passed, Stopped, Made, then_do, shown, as_built, scheduled, ended, ran, built, narrow, if_narrow, named, if_named, text, printed, compiled, IsCompiled}
+use Rattle.exo_cli.specs.Stages.{Passed, Stopped, Typed, Made, then_do, shown, as_built, scheduled, ended, ran, kept, if_kept, narrow, if_narrow, named, if_named, text, lowered_text, printed, compiled, IsCompiled}
 use Rattle.unit_check.specs.Checked.{Shown, checked}
 use Rattle.c_tree.specs.CText.{text_of}
-use Rattle.c_printer.specs.LoweredUnit.{lowered}
-use Rattle.schedule_run.specs.Versions.{started, printings, with_versions}
-use Rattle.exo_cli.specs.Built.{are_in_dram, are_built}
+use Rattle.c_lowered.specs.LoweredUnit.{Printing, is_listed, lowered}
+use Rattle.schedule_run.specs.Versions.{started, with_versions}
+use Rattle.exo_cli.specs.Printings.{printing_of, is_emitted, printings_of, or_later, memory_fault}
 use Rattle.schedule_run.specs.Lines as lines
 use Rattle.schedule_run.specs.Lines.{Versions, Outcome, run_lines}
 use Rattle.schedule_run.specs.ScheduleForm.{numbered, lines_in, emits, within, schedule_of}
@@ -35,68 +37,84 @@ use Rattle.exo_cli.specs.Counted.{Counted}
 use Rattle.schedule_run.specs.declared.lines.Line.{Line}
 use Rattle.proc_rewrites.proofs.Kept.{nothing_there, some_is}
 use Rattle.schedule_run.proofs.Versions.{schedules_run_alike}
-use Rattle.schedule_run.proofs.Growth.{grown, begins_grown}
-use Rattle.exo_cli.proofs.Printed.{each_printed}
+use Rattle.schedule_run.proofs.Growth.{Grown, grown, begins_grown}
+use Rattle.exo_cli.proofs.Listing.{few_printings}
+use Rattle.exo_cli.proofs.Printed.{FileLaws, each_printed}
 use Rattle.exo_cli.proofs.Running.{passed_then, passed_is, stopped_is_not_passed, accepted_passed}
-use Rattle.exo_cli.proofs.Typing.{typed_is_formed}
+use Rattle.exo_cli.proofs.Typing.{Formed, typed_is_formed}
 use Rattle.exo_cli.proofs.Counted.{all_shown, counted_is}
 
 -- the laws of lower crates on which the promise rests
 pub record LawsBelow : Type 0 where
   pub safe : CheckedUnitsDoNotFault
-  pub all : UnitsFollow
+  pub files : FileLaws
 
--- at most one line of a schedule that is read prints
-schedule_is_short : (bytes : List ℕ) (ls : List Line) → schedule_of bytes ≡ Some ls → nat_le (emits ls) 1 ≡ true
+-- a schedule that is read has few lines
+schedule_is_short : (bytes : List ℕ) (ls : List Line) → schedule_of bytes ≡ Some ls → length ls ≤ 4096
 schedule_is_short bytes ls = short (lines_in (numbered (map token_of (lexed bytes)) (map place_of (lexed bytes) ++ end_place bytes ∷ [])))
   where
-    short : (o : Option (List Line)) → within o ≡ Some ls → nat_le (emits ls) 1 ≡ true
+    at_most : (n : ℕ) → nat_le n 4096 ≡ true → n ≤ 4096
+    at_most n h = grind arith
+
+    short : (o : Option (List Line)) → within o ≡ Some ls → length ls ≤ 4096
     short None e = absurd (nothing_there e)
     short (Some ms) e = go (nat_le (length ms) 4096 && nat_le (emits ms) 1) refl e
       where
-        go : (t : Bool) → (nat_le (length ms) 4096 && nat_le (emits ms) 1) ≡ t → (if t then Some ms else None) ≡ Some ls → nat_le (emits ls) 1 ≡ true
-        go true d f = ap (λ l. nat_le (emits l) 1) (sym (some_is f)) ∙ (and_parts (nat_le (length ms) 4096) (nat_le (emits ms) 1) d).1
+        go : (t : Bool) → (nat_le (length ms) 4096 && nat_le (emits ms) 1) ≡ t → (if t then Some ms else None) ≡ Some ls → length ls ≤ 4096
+        go true d f =
+            let few = at_most (length ms) (and_parts (nat_le (length ms) 4096) (nat_le (emits ms) 1) d).0 in
+            subst (λ l. length l ≤ 4096) (some_is f) few
         go false d f = absurd (nothing_there f)
 
 accepted_is_not : {text message : List ℕ} → Accepted text ≡ Rejected message → ⊥
 accepted_is_not e = cc
 
--- what passed the last stage is built and narrow, and has names that C keeps
+-- what passed the last stage keeps the rules on memories and is narrow, and has names that C keeps
 record IsPrintable (m : Made) (out : List ℕ) : Type 0 where
-  pub built : are_built m.program m.what ≡ true
+  pub memories : memory_fault m.program m.what ≡ None
   pub narrow : too_wide m.program m.what ≡ None
   pub named : name_clash m.program m.what ≡ None
   pub text : out ≡ text_of (lowered m.program m.what)
 
 printable : (m : Made) (out : List ℕ) → printed m ≡ Passed out → IsPrintable m out
 printable m out e =
-    let a = passed_then (built m) (λ a. then_do (narrow a) (λ b. then_do (named b) text)) out e in
-    let b = passed_then (narrow a.0) (λ b. then_do (named b) text) out a.2 in
-    let c = passed_then (named b.0) text out b.2 in
-    let is_built = if_built (are_built m.program m.what) a.1 in
-    let is_narrow = if_is_narrow a.0 (too_wide a.0.program a.0.what) b.1 in
-    let is_named = if_is_named b.0 (name_clash b.0.program b.0.what) c.1 in
-    let first = is_built.1 in
-    let second = first ∙ is_narrow.1 in
-    let third = second ∙ is_named.1 in
+    let a = passed_then (kept m) lowered_text out e in
+    let is_kept = if_is_kept (memory_fault m.program m.what) a.1 in
+    let low = subst (λ (x : Made). lowered_text x ≡ Passed out) (sym is_kept.1) a.2 in
+    let b = passed_then (narrow m) (λ b. then_do (named b) text) out low in
+    let is_narrow = if_is_narrow (too_wide m.program m.what) b.1 in
+    let rest = subst (λ (x : Made). then_do (named x) text ≡ Passed out) (sym is_narrow.1) b.2 in
+    let c = passed_then (named m) text out rest in
+    let is_named = if_is_named (name_clash m.program m.what) c.1 in
     record {
-      built = is_built.0;
-      narrow = subst (λ (x : Made). too_wide x.program x.what ≡ None) (sym first) is_narrow.0;
-      named = subst (λ (x : Made). name_clash x.program x.what ≡ None) (sym second) is_named.0;
-      text = sym (passed_is (subst (λ (x : Made). text x ≡ Passed out) (sym third) c.2));
+      memories = is_kept.0;
+      narrow = is_narrow.0;
+      named = is_named.0;
+      text = sym (passed_is (subst (λ (x : Made). text x ≡ Passed out) (sym is_named.1) c.2));
     }
   where
-    if_built : (b : Bool) {a : Made} → (if b then Passed m else Stopped stop.NotBuilt) ≡ Passed a → (b ≡ true) × (m ≡ a)
-    if_built true e = (refl, passed_is e)
-    if_built false e = absurd (stopped_is_not_passed e)
+    if_is_kept : (o : Option (ℕ × KindError)) {a : Made} → if_kept m o ≡ Passed a → (o ≡ None) × (m ≡ a)
+    if_is_kept None e = (refl, passed_is e)
+    if_is_kept (Some f) e = absurd (stopped_is_not_passed e)
 
-    if_is_narrow : (a : Made) (o : Option ℕ) {b : Made} → if_narrow a o ≡ Passed b → (o ≡ None) × (a ≡ b)
-    if_is_narrow a None e = (refl, passed_is e)
-    if_is_narrow a (Some k) e = absurd (stopped_is_not_passed e)
+    if_is_narrow : (o : Option ℕ) {b : Made} → if_narrow m o ≡ Passed b → (o ≡ None) × (m ≡ b)
+    if_is_narrow None e = (refl, passed_is e)
+    if_is_narrow (Some k) e = absurd (stopped_is_not_passed e)
 
-    if_is_named : (b : Made) (o : Option (List ℕ)) {c : Made} → if_named b o ≡ Passed c → (o ≡ None) × (b ≡ c)
-    if_is_named b None e = (refl, passed_is e)
-    if_is_named b (Some name) e = absurd (stopped_is_not_passed e)
+    if_is_named : (o : Option (List ℕ)) {c : Made} → if_named m o ≡ Passed c → (o ≡ None) × (m ≡ c)
+    if_is_named None e = (refl, passed_is e)
+    if_is_named (Some name) e = absurd (stopped_is_not_passed e)
+
+-- so each listed procedure keeps the rules on memories
+each_kept : (program : Program) (what : List Printing) (k : ℕ) → memory_fault program what ≡ None → is_listed what k ≡ true → fault_of program k ≡ None
+each_kept program [] k h l = absurd (true≢false (sym l))
+each_kept program (w ∷ ws) k h l = go (fault_of program w.proc) refl h (k == w.proc) refl l
+  where
+    go : (o : Option KindError) → fault_of program w.proc ≡ o → or_later w.proc o (memory_fault program ws) ≡ None
+        → (t : Bool) → (k == w.proc) ≡ t → (t || is_listed ws k) ≡ true → fault_of program k ≡ None
+    go (Some e) own h t same l = absurd (nothing_there (sym h))
+    go None own h true same l = ap (fault_of program) (eqb-true k w.proc same) ∙ own
+    go None own h false same l = each_kept program ws k h l
 
 -- lines that passed are those of the schedule
 scheduled_is : (bytes : List ℕ) (ls : List Line) → scheduled bytes ≡ Passed ls → schedule_of bytes ≡ Some ls
@@ -108,38 +126,61 @@ scheduled_is bytes ls = go (schedule_of bytes)
 
 -- a run that passed ended with versions
 ran_is : (u : Program) (ls : List Line) (m : Made) → ran u ls ≡ Passed m
-    → (v : Versions) × (run_lines ls (started u.procedures) ≡ lines.Done v) × (m ≡ record { program = with_versions u v; what = printings v })
+    → (v : Versions) × (run_lines ls (started u.procedures) ≡ lines.Done v) × (m ≡ record { program = with_versions u v; what = printings_of u v })
 ran_is u ls m = go (run_lines ls (started u.procedures))
   where
-    go : (o : Outcome) → ended u o ≡ Passed m → (v : Versions) × (o ≡ lines.Done v) × (m ≡ record { program = with_versions u v; what = printings v })
+    go : (o : Outcome) → ended u o ≡ Passed m → (v : Versions) × (o ≡ lines.Done v) × (m ≡ record { program = with_versions u v; what = printings_of u v })
     go (lines.Done v) e = (v, refl, sym (passed_is e))
     go (lines.Stopped n operator why) e = absurd (stopped_is_not_passed e)
 
-module _ (laws : LawsBelow) (source bytes out : List ℕ) (items : List Item) (spelled : IsText unit (tokens_of source) items) (keeps : unit_fault items ≡ None) (formed : IsUnit (unit_of items)) (count : ℕ) (shown_all : checked (unit_of items) ≡ Shown count)
-    (ls : List Line) (read : schedule_of bytes ≡ Some ls) (v : Versions) (ran_all : run_lines ls (started (unit_of items).procedures) ≡ lines.Done v) (is : IsPrintable (record { program = with_versions (unit_of items) v; what = printings v }) out) where
+module _ (laws : LawsBelow) (source bytes out : List ℕ) (t : Typed) (u : Formed source t) (count : ℕ) (shown_all : checked (unit_of u.items) ≡ Shown count)
+    (ls : List Line) (read : schedule_of bytes ≡ Some ls) (v : Versions) (ran_all : run_lines ls (started (unit_of u.items).procedures) ≡ lines.Done v) (is : IsPrintable (record { program = with_versions (unit_of u.items) v; what = printings_of (unit_of u.items) v }) out) where
+  abbrev program : Program
+  program = with_versions (unit_of u.items) v
+
+  abbrev what : List Printing
+  what = printings_of (unit_of u.items) v
+
+  good : Grown (unit_of u.items) 0 v
+  good =
+      let short = schedule_is_short bytes ls read in
+      grown (unit_of u.items) ls (started (unit_of u.items).procedures) v
+      (begins_grown (unit_of u.items) ls u.formed (omega (arith, u.few, short))) ran_all
+
+  lowers : AreLowered fault_of program what
+  lowers = record {
+    listing = printings_are_listings program (is_emitted v.emitted) (printing_of v.procedures v.origins) (λ k. refl) good.unit;
+    memories = λ k listed. each_kept program what k is.memories listed;
+    narrow = is.narrow;
+    named = is.named;
+    few = let e = few_printings (unit_of u.items) v in omega (arith, e, good.room);
+  }
+
   promised : Promise source bytes out
   promised =
-      let safe = laws.safe (unit_of items) count formed shown_all in
-      let alone = (and_parts (are_self_contained (with_versions (unit_of items) v) (printings v)) (are_in_dram (with_versions (unit_of items) v) (printings v)) is.built).0 in
-      let begins = begins_grown (unit_of items) ls formed (schedule_is_short bytes ls read) in
+      let safe = laws.safe (unit_of u.items) count u.formed shown_all in
       record {
-        items = items;
+        items = u.items;
         count = count;
         lines = ls;
         versions = v;
-        spelled = spelled;
-        keeps = keeps;
+        program = program;
+        what = what;
+        spelled = u.spelled;
+        keeps = u.keeps;
         shown = shown_all;
-        formed = formed;
+        formed = u.formed;
         no_fault = safe;
         read = read;
         ran = ran_all;
-        built = is.built;
+        grown = refl;
+        printings = refl;
+        listing = lowers.listing;
+        memories = is.memories;
         narrow = is.narrow;
         named = is.named;
         text = is.text;
-        each = each_printed (unit_of items) v safe laws.all (record { alone = alone; narrow = is.narrow; named = is.named }) formed
-            (grown (unit_of items) ls (started (unit_of items).procedures) v begins ran_all) (schedules_run_alike (unit_of items).procedures ls v ran_all);
+        each = each_printed (unit_of u.items) v safe laws.files lowers u.formed good (schedules_run_alike (unit_of u.items).procedures ls v ran_all);
       }
 
 -- an accepted text keeps the promise
@@ -153,7 +194,7 @@ accepted_is_promised laws procs source schedule bytes out e =
     let reads = passed_then (scheduled bytes) rest out shows.2 in
     let runs = passed_then (ran typed.0.program reads.0) printed out reads.2 in
     let versions = ran_is (unit_of formed.items) reads.0 runs.0 (ap (λ p. ran p reads.0) (sym formed.is) ∙ runs.1) in
-    promised laws source bytes out formed.items formed.spelled formed.keeps formed.formed shows.0 (ap checked (sym formed.is) ∙ all_shown typed.0 shows.0 shows.1)
+    promised laws source bytes out typed.0 formed shows.0 (ap checked (sym formed.is) ∙ all_shown typed.0 shows.0 shows.1)
     reads.0 (scheduled_is bytes reads.0 reads.1) versions.0 versions.1 (subst (λ m. IsPrintable m out) versions.2 (printable runs.0 out runs.2))
 
 -- ---- and so does what the program writes

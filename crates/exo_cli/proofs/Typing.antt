@@ -1,5 +1,5 @@
 -- A unit that passed the reader and the rules is well formed.
-use Rattle.std.proofs.Common.{◌≡◌, ℕ, List, Option, Some, None, refl, sym, ap, ◌∙◌, ⊎_elim}
+use Rattle.std.proofs.Common.{◌≡◌, ◌≤◌, ◌^◌, ℕ, List, length, Option, Some, None, refl, sym, ap, ◌∙◌, ⊎_elim}
 use Rattle.text_phrases.specs.Text.{IsText}
 use Rattle.exo_meaning.specs.Units.{IsUnit}
 use Rattle.exo_reader.specs.Source.{Item}
@@ -15,22 +15,24 @@ pub record Formed (text : List ℕ) (u : Typed) : Type 0 where
   pub spelled : IsText unit (tokens_of text) items
   pub keeps : unit_fault items ≡ None
   pub formed : IsUnit (unit_of items)
+  pub few : length (unit_of items).procedures ≤ 2 ^ 20
   pub is : u.program ≡ unit_of items
 
 module _ (text : List ℕ) (stage : Stage Typed) (u : Typed) (passed : stage ≡ Passed u) where
-  by_rules : (items : List Item) → IsText unit (tokens_of text) items → (unit_fault items ≡ None → IsUnit (unit_of items)) → (o : Option Fault) → unit_fault items ≡ o
+  by_rules : (items : List Item) → IsText unit (tokens_of text) items → (unit_fault items ≡ None → IsUnit (unit_of items)) → length (unit_of items).procedures ≤ 2 ^ 20 → (o : Option Fault) → unit_fault items ≡ o
       → IsRuled (places_of text) items o stage → Formed text u
-  by_rules items spelled formed None keeps h = record {
+  by_rules items spelled formed few None keeps h = record {
     items = items;
     spelled = spelled;
     keeps = keeps;
     formed = formed keeps;
+    few = few;
     is = ap (λ (t : Typed). t.program) (passed_is (sym passed ∙ h));
   }
-  by_rules items spelled formed (Some f) keeps h = absurd (stopped_is_not_passed (sym h.2 ∙ passed))
+  by_rules items spelled formed few (Some f) keeps h = absurd (stopped_is_not_passed (sym h.2 ∙ passed))
 
   by_text : IsTyped text stage → Formed text u
-  by_text = ⊎_elim (λ h. absurd (stopped_is_not_passed (sym h.2 ∙ passed))) (λ h. by_rules h.0 h.1 h.2 (unit_fault h.0) refl h.3)
+  by_text = ⊎_elim (λ h. absurd (stopped_is_not_passed (sym h.2 ∙ passed))) (λ h. by_rules h.0 h.1 h.2 h.3 (unit_fault h.0) refl h.4)
 
 pub typed_is_formed : (text : List ℕ) (stage : Stage Typed) (u : Typed) → IsTyped text stage → stage ≡ Passed u → Formed text u
 typed_is_formed text stage u typed passed = by_text text stage u passed typed

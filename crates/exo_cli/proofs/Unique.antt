@@ -50,7 +50,7 @@ module _ (text : List ℕ) where
   read_once : (a b : Stage Typed) → IsRead text a → IsRead text b → a ≡ b
   read_once a b h k =
       let same = k.1.only in_size h.0 (h.1.fits in_size) h.1.spelled in
-      ruled_once k.0 (unit_fault k.0) a b (subst (λ items. IsRuled (places_of text) items (unit_fault items) a) same h.3) k.3
+      ruled_once k.0 (unit_fault k.0) a b (subst (λ items. IsRuled (places_of text) items (unit_fault items) a) same h.4) k.4
 
   typed_once : (a b : Stage Typed) → IsTyped text a → IsTyped text b → a ≡ b
   typed_once a b =

@@ -3,7 +3,7 @@ pub mod Messages
 pub mod Words
 pub mod Asked
 pub mod Answer
-pub mod Built
+pub mod Printings
 pub mod Stops
 pub mod Stages
 pub mod Stopping

@@ -1,6 +1,7 @@
--- The way of a compilation, stage by stage: the text of the unit is read and its rules are tested, what its procedures owe is shown,
--- the text of the schedule is read, its lines run, and what they emit is printed. A check is the first of these stages.
-use Rattle.std.specs.Prelude.{◌≡◌, ℕ, ◌⊎◌, if◌then◌else◌, List, Option, Some, None, slice_get, []}
+-- The way of a compilation, stage by stage: the text of the unit is read and its rules are tested,
+-- what its procedures owe is shown, the text of the schedule is read, its lines run, and what they
+-- emit is printed with all that it calls. A check is the first of these stages.
+use Rattle.std.specs.Prelude.{◌≡◌, ◌≤◌, ◌^◌, ℕ, ◌⊎◌, List, length, Option, Some, None, slice_get, []}
 use Rattle.text_phrases.specs.Text.{IsText}
 use Rattle.text_lexer.specs.declared.place.Place.{Place}
 use Rattle.exo_tree.specs.Tree.{Program}
@@ -23,14 +24,15 @@ use Rattle.bounds_check.specs.declared.error.CheckError.TheVariants as check
 use Rattle.unit_check.specs.Checked.{Cause, NotListed, NotShown, Checked, Shown, Refused, checked}
 use Rattle.unit_check.specs.Preorder.{line_in}
 use Rattle.c_tree.specs.CText.{text_of}
-use Rattle.c_printer.specs.LoweredUnit.{Printing, name_of, lowered}
-use Rattle.c_printer.specs.Refusals.{too_wide, name_clash}
+use Rattle.memory_kinds.specs.declared.error.KindError.{KindError}
+use Rattle.c_lowered.specs.LoweredUnit.{Printing, name_of, lowered}
+use Rattle.c_lowering.specs.Refusals.{too_wide, name_clash}
 use Rattle.schedule_run.specs.ScheduleForm.{schedule_of}
 use Rattle.schedule_run.specs.Lines as lines
-use Rattle.schedule_run.specs.Versions.{started, printings, with_versions}
+use Rattle.schedule_run.specs.Versions.{started, with_versions}
 use Rattle.schedule_run.specs.declared.lines.Line.{Line}
 use Rattle.exo_cli.specs.Answer.{Answer, Accepted, Rejected}
-use Rattle.exo_cli.specs.Built.{are_built}
+use Rattle.exo_cli.specs.Printings.{printings_of, memory_fault}
 use Rattle.exo_cli.specs.Messages as messages
 use Rattle.exo_cli.specs.Stops.{Stop, message}
 use Rattle.exo_cli.specs.Stops as stop
@@ -63,12 +65,13 @@ abbrev pub IsRuled : List Place → List Item → Option Fault → Stage Typed �
 IsRuled places items None stage = stage ≡ Passed (record { program = unit_of items; lines = lines_of places items })
 IsRuled places items (Some f) stage = (e : TypeError) × IsErrorAt places f e × (stage ≡ Stopped (stop.Broken e))
 
--- the text is a unit, which is well formed where it keeps the rules
+-- the text is a unit of not too many procedures, which is well formed where it keeps the rules
 abbrev pub IsRead : List ℕ → Stage Typed → Type 0
 IsRead text stage =
     (items : List Item)
     × IsText unit (tokens_of text) items
     × (unit_fault items ≡ None → IsUnit (unit_of items))
+    × (length (unit_of items).procedures ≤ 2 ^ 20)
     × IsRuled (places_of text) items (unit_fault items) stage
 
 abbrev pub IsTyped : List ℕ → Stage Typed → Type 0
@@ -112,7 +115,8 @@ pub record Made : Type 0 where
   pub what : List Printing
 
 abbrev pub ended : Program → lines.Outcome → Stage Made
-ended u (lines.Done v) = Passed (record { program = with_versions u v; what = printings v })
+ended u (lines.Done v) =
+    Passed (record { program = with_versions u v; what = printings_of u v })
 ended u (lines.Stopped number operator why) = Stopped (stop.AtLine number operator why)
 
 abbrev pub ran : Program → List Line → Stage Made
@@ -120,8 +124,14 @@ ran u ls = ended u (lines.run_lines ls (started u.procedures))
 
 -- ---- printed
 
-abbrev pub built : Made → Stage Made
-built m = if are_built m.program m.what then Passed m else Stopped stop.NotBuilt
+abbrev pub if_kept : Made → Option (ℕ × KindError) → Stage Made
+if_kept m None = Passed m
+if_kept m (Some f) =
+    Stopped (stop.WrongMemory (name_of (slice_get m.program.procedures f.0)) f.1)
+
+-- the rules on memories
+abbrev pub kept : Made → Stage Made
+kept m = if_kept m (memory_fault m.program m.what)
 
 abbrev pub if_narrow : Made → Option ℕ → Stage Made
 if_narrow m None = Passed m
@@ -140,11 +150,13 @@ named m = if_named m (name_clash m.program m.what)
 abbrev pub text : Made → Stage (List ℕ)
 text m = Passed (text_of (lowered m.program m.what))
 
+abbrev pub lowered_text : Made → Stage (List ℕ)
+lowered_text m =
+    then_do (narrow m) (λ a.
+    then_do (named a) text)
+
 abbrev pub printed : Made → Stage (List ℕ)
-printed m =
-    then_do (built m) (λ a.
-    then_do (narrow a) (λ b.
-    then_do (named b) text))
+printed m = then_do (kept m) lowered_text
 
 -- ---- the whole way
 

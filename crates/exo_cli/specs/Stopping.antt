@@ -1,5 +1,5 @@
 -- The code's stops as plain ones, and its results as stages; want of memory is none.
-use Rattle.std.specs.Prelude.{slice_get, Option, Some, None, Result, Ok, Err, option_map, map}
+use Rattle.std.specs.Prelude.{ℕ, slice_get, Option, Some, None, Result, Ok, Err, option_map, map}
 use Rattle.exo_tree.specs.declared.unit.Unit as tree
 use Rattle.exo_tree.specs.PlainUnit.{program}
 use Rattle.exo_reader.specs.declared.unit.ReadError.{ReadError}
@@ -9,16 +9,18 @@ use Rattle.rules_names.specs.declared.error.TypeError.{TypeError}
 use Rattle.rules_names.specs.declared.error.TypeKind.{TypeKind}
 use Rattle.rules_names.specs.declared.error.TypeKind.TheVariants as rule
 use Rattle.exo_tree.specs.Tree.{Program}
-use Rattle.c_printer.specs.LoweredUnit.{name_of}
-use Rattle.c_printer.specs.declared.report.LowerError.{LowerError}
-use Rattle.c_printer.specs.declared.report.LowerError.TheVariants as lower
+use Rattle.c_lowered.specs.LoweredUnit.{name_of}
+use Rattle.c_lowering.specs.declared.report.LowerError.{LowerError}
+use Rattle.c_lowering.specs.declared.report.LowerError.TheVariants as lower
 use Rattle.schedule_run.specs.Lines.{operator_of}
 use Rattle.schedule_run.specs.declared.lines.Line.{Line}
 use Rattle.schedule_run.specs.declared.session.Why.{Why}
 use Rattle.schedule_run.specs.declared.session.Why.TheVariants as cause
-use Rattle.c_printer.specs.PlainPrinted.{printing}
+use Rattle.c_lowering.specs.PlainPrinted.{printing}
 use Rattle.exo_cli.specs.declared.stop.Stop as code
 use Rattle.exo_cli.specs.declared.stop.Stop.TheVariants as code_stop
+use Rattle.memory_kinds.specs.declared.error.KindError.{KindError}
+use Rattle.exo_cli.specs.declared.memories.MemoryFault.{MemoryFault}
 use Rattle.exo_cli.specs.declared.stages.Made as code_made
 use Rattle.exo_cli.specs.Stops as plainly
 use Rattle.exo_cli.specs.Stops.{Stop}
@@ -32,7 +34,7 @@ plain (code_stop.NotListed line e) = Some (plainly.NotListed line e)
 plain (code_stop.NotShown line what verdict) = Some (plainly.NotShown line what verdict)
 plain code_stop.NoSchedule = Some plainly.NoSchedule
 plain (code_stop.AtLine number operator why) = Some (plainly.AtLine number operator.now why)
-plain code_stop.NotBuilt = Some plainly.NotBuilt
+plain (code_stop.WrongMemory name e) = Some (plainly.WrongMemory name e)
 plain (code_stop.TooWide name) = Some (plainly.TooWide name)
 plain (code_stop.NameClash name) = Some (plainly.NameClash name)
 
@@ -66,3 +68,6 @@ typed_of u = record { program = program u; lines = u.lines }
 
 abbrev pub made_of : code_made.Made → Made
 made_of m = record { program = program m.unit; what = map printing m.what.items }
+
+abbrev pub fault_in : MemoryFault → ℕ × KindError
+fault_in f = (f.proc.0, f.rule)

@@ -12,6 +12,8 @@ use Rattle.affine_forms.specs.declared.error.FormError.{FormError}
 use Rattle.affine_forms.specs.declared.error.FormError.TheVariants as form
 use Rattle.bounds_check.specs.declared.error.CheckError.{CheckError}
 use Rattle.bounds_check.specs.declared.error.CheckError.TheVariants as check
+use Rattle.memory_kinds.specs.declared.error.KindError.{KindError}
+use Rattle.memory_kinds.specs.declared.error.KindError.TheVariants as memory
 use Rattle.schedule_run.specs.declared.session.Why.{Why}
 use Rattle.schedule_run.specs.declared.session.Why.TheVariants as why
 use Rattle.exo_cli.specs.Messages.{file_refused, line_refused, name_refused, not_shown, place_refused, unit_refused}
@@ -29,8 +31,8 @@ pub data Stop : Type 0 where
   NoSchedule : Stop
   -- a line of the schedule is refused: its number, its operator and why
   AtLine : ℕ → List ℕ → Why → Stop
-  -- a printed procedure is not of a form that is built
-  NotBuilt : Stop
+  -- this printed procedure breaks a rule on memories
+  WrongMemory : List ℕ → KindError → Stop
   -- in the tree of this procedure a number may become too large
   TooWide : List ℕ → Stop
   -- C cannot keep this name of a function or field
@@ -76,6 +78,15 @@ verdict_text verdict.Open = codes "Open"
 verdict_text verdict.TooMany = codes "TooMany"
 verdict_text verdict.TooWide = codes "TooWide"
 
+abbrev pub memory_text : KindError → List ℕ
+memory_text memory.NotReadable = codes "NotReadable"
+memory_text memory.NotWritable = codes "NotWritable"
+memory_text memory.NotReducible = codes "NotReducible"
+memory_text memory.MemoryMismatch = codes "MemoryMismatch"
+memory_text memory.PrecisionMismatch = codes "PrecisionMismatch"
+memory_text memory.LaneMismatch = codes "LaneMismatch"
+memory_text memory.NotLiteral = codes "NotLiteral"
+
 abbrev pub why_text : Why → List ℕ
 why_text why.Memory = codes "Memory"
 why_text why.UnknownProc = codes "UnknownProc"
@@ -91,6 +102,6 @@ message procs schedule (NotListed line e) = unit_refused procs line (check_text 
 message procs schedule (NotShown line what v) = not_shown procs line what (verdict_text v)
 message procs schedule NoSchedule = file_refused schedule (codes "NotBuilt")
 message procs schedule (AtLine number operator w) = line_refused schedule number operator (why_text w)
-message procs schedule NotBuilt = file_refused procs (codes "NotBuilt")
+message procs schedule (WrongMemory name e) = name_refused procs name (memory_text e)
 message procs schedule (TooWide name) = name_refused procs name (codes "TooWide")
 message procs schedule (NameClash name) = name_refused procs name (codes "NameClash")

@@ -3,7 +3,7 @@
 ghost use Rattle.exo_cli.specs.Headline.{AcceptedIsPromised};
 ghost use Rattle.exo_cli.specs.Work.{AnswersAreUnique, EndsAreComplete};
 
-use c_laws::laws::units_follow;
+use c_unit_laws::laws::{files_follow, files_without_allocations_are_done};
 use unit_check::laws::checked_units_do_not_fault;
 
 /// The C that is printed does what procedures of the text do, and none of these faults.
@@ -11,7 +11,8 @@ pub fn accepted_texts_are_promised()
     ensures { AcceptedIsPromised }
 {
     checked_units_do_not_fault();
-    units_follow();
+    files_follow();
+    files_without_allocations_are_done();
 }
 
 /// The words and the files have one answer.

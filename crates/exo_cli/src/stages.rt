@@ -1,26 +1,32 @@
 // The way of a compilation, stage by stage.
-ghost use Rattle.std.specs.Prelude.{◌≡◌, ◌≤◌, IfOk, IfSome, None, length, slice_get, string_bytes};
+ghost use Rattle.std.specs.Prelude.{◌≡◌, ◌≤◌, ◌^◌, IfOk, IfSome, None, length, slice_get, string_bytes};
 ghost use Rattle.exo_tree.specs.PlainUnit.{program};
 ghost use Rattle.exo_meaning.specs.Units.{IsUnit};
 ghost use Rattle.exo_reader.specs.Texts.{ReadsUnit};
 ghost use Rattle.exo_types.specs.Typed.{IsPlaced, items_of};
 ghost use Rattle.exo_types.specs.UnitRules.{unit_fault, unit_of};
-ghost use Rattle.c_printer.specs.LoweredUnit.{name_of};
+ghost use Rattle.c_lowered.specs.LoweredUnit.{name_of};
 ghost use Rattle.unit_check.specs.Checked.{Checked};
 ghost use Rattle.unit_check.specs.Outcomes.{IsRefused};
 ghost use Rattle.schedule_run.specs.Lines.{operator_of};
-ghost use Rattle.exo_cli.specs.Stages.{ComesTo, IsTyped, Stopped, compiled, counted, judged, printed, ran, scheduled, shown};
+ghost use Rattle.schedule_run.specs.Sessions.{versions};
+ghost use Rattle.schedule_run.specs.Versions.{with_versions};
+ghost use Rattle.exo_cli.specs.Stops as stop;
+ghost use Rattle.exo_cli.specs.Printings.{memory_fault, printings_of};
+ghost use Rattle.exo_cli.specs.Stages.{ComesTo, IsTyped, Made, Stopped, compiled, counted, if_kept, judged, lowered_text, printed, ran, scheduled, shown};
 ghost use Rattle.exo_cli.specs.Stopping.{made_of, plain, stage, stop_at, stop_of, typed_of};
 
-use crate::built::are_built;
+use crate::memories::{MemoryFault, memory_fault};
 use crate::messages;
+use crate::printings::printings;
 use crate::stop::Stop;
-use c_printer::{LowerError, Printed, c_text, lower};
+use c_lowering::{LowerError, Printed, lower};
+use c_tree::c_text;
 use exo_reader::unit::{ReadError, Source, read_unit};
 use exo_tree::{Lines, Name, ProcId, Procs, Unit};
 use exo_types::laws::read_texts_are_placed;
 use exo_types::unit::check_types;
-use exo_types_laws::laws::read_units_are_formed;
+use exo_types_laws::laws::{read_units_are_formed, typed_units_are_low};
 use ob_check::{Gate, new_cache};
 use schedule_run::{Act, Line, Session, Why, read_schedule};
 use std::alloc::{AllocError, Global};
@@ -84,9 +90,11 @@ fn read(alloc: Global, text: &[u8]) -> Result<Source, ReadError>
     ensures reads { ReadsUnit text.now result }
     ensures placed { IfOk result (λ source. IsPlaced source) }
     ensures formed { IfOk result (λ source. unit_fault (items_of source) ≡ None → IsUnit (unit_of (items_of source))) }
+    ensures few { IfOk result (λ source. length (unit_of (items_of source)).procedures ≤ 2 ^ 20) }
 {
     read_texts_are_placed();
     read_units_are_formed();
+    typed_units_are_low();
     match read_unit(alloc, text) {
         Ok(source) => Ok(source),
         Err(e) => Err(e),
@@ -142,8 +150,24 @@ fn ran(alloc: Global, unit: &Unit, lines: &[Line]) -> Result<Made, Stop>
     if let Err((k, why)) = session.run(alloc, lines) {
         return Err(at_line(&lines[k], why));
     }
-    let what = session.printed(alloc)?;
-    let unit = with_procs(alloc, unit, session.into_procs())?;
+    Ok(finished(alloc, unit, session)?)
+}
+
+/// The unit with the versions of a session, and what is printed of it.
+fn finished(alloc: Global, unit: &Unit, session: Session) -> Result<Made, AllocError>
+    ensures { IfOk result (λ made. made_of made ≡ record {
+      program = with_versions (program unit.now) (versions session);
+      what = printings_of (program unit.now) (versions session);
+    }) }
+{
+    let Session {
+        procs,
+        origins,
+        names: _,
+        emitted,
+    } = session;
+    let unit = with_procs(alloc, unit, procs)?;
+    let what = printings(alloc, &unit, &origins, &emitted)?;
     Ok(Made { unit, what })
 }
 
@@ -195,9 +219,24 @@ fn name_of(unit: &Unit, k: ProcId) -> &str
 fn printed(alloc: Global, made: &Made) -> Result<String, Stop>
     ensures { IfSome (stage string_bytes result) (λ s. s ≡ printed (made_of made.now)) }
 {
-    if !are_built(&made.unit, &made.what) {
-        return Err(Stop::NotBuilt);
+    if let Some(fault) = memory_fault(&made.unit, &made.what) {
+        return Err(not_kept(alloc, &made.unit, fault)?);
     }
+    lowered_text(alloc, made)
+}
+
+/// The stop where what is emitted breaks a rule on memories.
+fn not_kept(alloc: Global, unit: &Unit, fault: MemoryFault) -> Result<Stop, AllocError>
+    ensures { IfOk result (λ why. plain why ≡ Some (stop.WrongMemory (name_of (slice_get unit.now.procs fault.proc.0)) fault.rule)) }
+{
+    let name = Name::new(alloc, name_of(unit, fault.proc))?;
+    Ok(Stop::WrongMemory(name, fault.rule))
+}
+
+/// The same of what keeps all rules on memories.
+fn lowered_text(alloc: Global, made: &Made) -> Result<String, Stop>
+    ensures { IfSome (stage string_bytes result) (λ s. s ≡ lowered_text (made_of made.now)) }
+{
     match lower(alloc, &made.unit, &made.what) {
         Ok(c) => Ok(c_text(alloc, &c)?),
         Err(e) => Err(not_lowered(alloc, &made.unit, e)?),

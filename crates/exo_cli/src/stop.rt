@@ -1,6 +1,6 @@
 // Why the work on the texts stops, and what is said of it.
 ghost use Rattle.std.specs.Prelude.{◌≡◌, IfOk, Some, option_map, string_bytes};
-ghost use Rattle.exo_cli.specs.Stops.{check_text, form_text, kind_text, message, rule_text, verdict_text, why_text};
+ghost use Rattle.exo_cli.specs.Stops.{check_text, form_text, kind_text, memory_text, message, rule_text, verdict_text, why_text};
 ghost use Rattle.exo_cli.specs.Stopping.{plain};
 
 use crate::messages;
@@ -9,6 +9,7 @@ use affine_prover::Verdict;
 use bounds_check::CheckError;
 use exo_reader::unit::{ReadError, ReadKind};
 use exo_tree::{Name, Text};
+use memory_kinds::KindError;
 use rules_names::error::{TypeError, TypeKind};
 use schedule_run::Why;
 use std::alloc::{AllocError, Global};
@@ -30,8 +31,8 @@ pub(crate) enum Stop {
     NoSchedule,
     /// A line of the schedule is refused: its number, its operator and why; never for want of memory.
     AtLine(u32, &'static str, Why),
-    /// A printed procedure is not of a form that is built.
-    NotBuilt,
+    /// This printed procedure breaks a rule on memories.
+    WrongMemory(Name, KindError),
     /// In the tree of this procedure a number may become too large.
     TooWide(Name),
     /// C cannot keep this name of a function or field.
@@ -145,6 +146,21 @@ fn verdict_text(verdict: Verdict) -> &'static str
     }
 }
 
+/// A rule on memories as messages have it.
+fn memory_text(rule: KindError) -> &'static str
+    ensures { result.now ≡ memory_text rule }
+{
+    match rule {
+        KindError::NotReadable => "NotReadable",
+        KindError::NotWritable => "NotWritable",
+        KindError::NotReducible => "NotReducible",
+        KindError::MemoryMismatch => "MemoryMismatch",
+        KindError::PrecisionMismatch => "PrecisionMismatch",
+        KindError::LaneMismatch => "LaneMismatch",
+        KindError::NotLiteral => "NotLiteral",
+    }
+}
+
 /// Why a line is refused, as messages have it.
 fn why_text(why: Why) -> &'static str
     ensures { result.now ≡ why_text why }
@@ -186,7 +202,9 @@ impl Stop {
             Stop::AtLine(number, operator, why) => {
                 messages::line_refused(alloc, schedule, *number, operator, why_text(*why))
             }
-            Stop::NotBuilt => messages::file_refused(alloc, procs, "NotBuilt"),
+            Stop::WrongMemory(name, rule) => {
+                messages::name_refused(alloc, procs, name.as_str(), memory_text(*rule))
+            }
             Stop::TooWide(name) => {
                 messages::name_refused(alloc, procs, name.as_str(), "TooWide")
             }

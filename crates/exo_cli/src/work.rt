@@ -12,7 +12,7 @@ use crate::reply::{Reply, replied};
 use crate::stages::{checked, compiled};
 use crate::status::Status;
 use crate::words::{Command, read_command};
-use c_laws::laws::units_follow;
+use c_unit_laws::laws::{files_follow, files_without_allocations_are_done};
 use cli_outside::{FileFault, Files, Sink};
 use ob_check::Gate;
 use std::alloc::{AllocError, Global};
@@ -57,7 +57,8 @@ pub fn exoc<R: Threads + Sync, F: Files, O: Sink, E: Sink, G: Gate>(
         Promised (texts words.now) folder (O.taken out.old) (O.taken out.new) ⊎ Counted (texts words.now) folder (O.taken out.old) (O.taken out.new)) }
 {
     checked_units_do_not_fault();
-    units_follow();
+    files_follow();
+    files_without_allocations_are_done();
     match reply_to(rt, alloc, words, files, gate) {
         Ok(reply) => reply.deliver(out, err),
         Err(_) => Status::Memory,

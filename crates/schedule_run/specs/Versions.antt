@@ -1,7 +1,6 @@
--- The versions of a schedule: those before the first line, those that are printed, and what each comes from.
-use Rattle.std.specs.Prelude.{◌≡◌, ℕ, suc, List, [], ◌∷◌, length, map, Some, slice_get, slice_index}
+-- The versions of a schedule: those before the first line, and what each comes from.
+use Rattle.std.specs.Prelude.{◌≡◌, ℕ, suc, List, [], ◌∷◌, length, Some, slice_get}
 use Rattle.exo_tree.specs.Tree.{Procedure, Program}
-use Rattle.c_printer.specs.LoweredUnit.{Printing, name_of}
 use Rattle.proc_rewrites.specs.Kept.{IsVersionOf}
 use Rattle.schedule_run.specs.Lines.{Versions, Done, run_lines}
 use Rattle.schedule_run.specs.declared.lines.Line.{Line}
@@ -18,13 +17,6 @@ names_from k (p ∷ ps) = (p.name, k) ∷ names_from (suc k) ps
 -- before the first line, each procedure of the text comes of itself and is held under its name
 abbrev pub started : List Procedure → Versions
 started procedures = record { procedures = procedures; origins = numbers_from 0 procedures; names = names_from 0 procedures; emitted = [] }
-
--- a version to print, with the name of the procedure of the text from which it comes; no field differs
-abbrev pub printing_of : Versions → ℕ → Printing
-printing_of v k = record { proc = k; origin = name_of (slice_get v.procedures (slice_index v.origins k)); fields = [] }
-
-abbrev pub printings : Versions → List Printing
-printings v = map (printing_of v) v.emitted
 
 -- the program of the text with the versions that the schedule made
 abbrev pub with_versions : Program → Versions → Program

@@ -1,17 +1,14 @@
 // Running a schedule: versions are made of versions, and names hold the latest ones.
-ghost use Rattle.std.specs.Prelude.{◌≡◌, Option, None, slice_get, slice_index, length, map, ◌<◌, MatchResult, OnOk, IfOk, IfErr};
+ghost use Rattle.std.specs.Prelude.{◌≡◌, slice_get, length, ◌<◌, MatchResult, OnOk, IfOk, IfErr};
 ghost use Rattle.exo_tree.specs.Plain.{procedure};
 ghost use Rattle.proc_rewrites.specs.Commute.{Made};
 ghost use Rattle.schedule_run.specs.Lines.{Went, Done, adding, changing, changing_held, emitting, has_template, held, performed, run_lines};
-ghost use Rattle.c_printer.specs.LoweredUnit.{name_of};
-ghost use Rattle.c_printer.specs.PlainPrinted.{printing};
-ghost use Rattle.schedule_run.specs.Versions.{printings, started};
+ghost use Rattle.schedule_run.specs.Versions.{started};
 ghost use Rattle.schedule_run.specs.Sessions.{versions, RefusesLine, StopsLine};
 ghost use Rattle.schedule_run.specs.declared.session.Why.TheVariants.{Memory};
 
 use crate::lines::{Act, Commute, Line};
-use c_printer::Printed;
-use exo_tree::{Name, Proc, ProcId, Procs};
+use exo_tree::{Name, Proc, Procs};
 use proc_rewrites::{StepRefusal, commute_expr};
 use std::alloc::{AllocError, AllocFailed, Global};
 use text_lexer::text::Text;
@@ -56,7 +53,7 @@ pub struct Session {
     pub origins: Vec<u32>,
     /// What names hold, the latest binding last.
     pub names: Vec<(Name, u32)>,
-    /// The versions to be printed.
+    /// The versions that are emitted.
     pub emitted: Vec<u32>,
 }
 
@@ -89,46 +86,6 @@ impl Session {
             names,
             emitted: Vec::new(alloc),
         })
-    }
-
-    /// The name of the procedure of the text from which version `k` comes; empty where there is none.
-    fn origin_name(&self, alloc: Global, k: u32) -> Result<Name, AllocError>
-        ensures { IfOk result (λ name. name ≡ name_of (slice_get (versions self.now).procedures (slice_index (versions self.now).origins k))) }
-    {
-        let origin = self.origins.get(k as usize).copied().unwrap_or(0);
-        match self.procs.get(origin as usize) {
-            Some(p) => p.name.duplicate(alloc),
-            None => Name::new(alloc, ""),
-        }
-    }
-
-    /// The versions to print.
-    pub fn printed(&self, alloc: Global) -> Result<Vec<Printed>, AllocError>
-        ensures { IfOk result (λ what. map printing what.items ≡ printings (versions self.now)) }
-    {
-        let mut what = Vec::new(alloc);
-        for k in &self.emitted {
-            let origin = self.origin_name(alloc, *k)?;
-            what.push(Printed {
-                proc: ProcId(*k),
-                origin,
-                fields: Vec::new(alloc),
-            })?;
-        }
-        Ok(what)
-    }
-
-    /// The procedures of the text and the versions.
-    pub fn into_procs(self) -> Procs
-        ensures { result ≡ self.procs }
-    {
-        let Session {
-            procs,
-            origins: _,
-            names: _,
-            emitted: _,
-        } = self;
-        procs
     }
 
     /// The version that the name holds.

@@ -1,0 +1,9 @@
+use Rattle.exo_cli.proofs.Listing.{emitted_then, emitted_end}
+use Rattle.exo_cli.proofs.printings.emitted_marks.Goals as goal
+
+pub loop-k-preserved : goal.loop-k-preserved
+loop-k-preserved c = λ new h.
+    c.loop-k.invariant new (emitted_then c.args.emitted.now c.loop-k.k-index 0 c.loop-k.marks c.insert.new.self new c.loop-k-test.true c.insert.ensures h)
+
+pub returns : goal.returns
+returns c = c.loop-k.invariant c.loop-k.marks (emitted_end c.args.emitted.now c.loop-k.k-index c.loop-k.marks c.loop-k-test.false)
