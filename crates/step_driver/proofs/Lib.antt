@@ -1,0 +1,4 @@
+pub mod Placed
+pub mod Means
+pub mod Needless
+pub mod Statements
