@@ -1,3 +1,4 @@
 pub mod Exchanged
+pub mod Commuted
 pub mod Cleared
 pub mod Left

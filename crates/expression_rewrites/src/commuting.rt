@@ -39,6 +39,7 @@ fn operation_of(form: &ExprForm) -> Option<Operation>
 }
 
 /// A right side with the sides of a match exchanged.
+#[tactic(auto, using(crate::proofs::Commuted::commuted_none, crate::proofs::Commuted::commuted_found, crate::proofs::Commuted::commuted_not))]
 fn commuted(alloc: Global, x: &ExprPattern, e: &DataExpr) -> Result<DataExpr, StepError>
     ensures { Tries datum (tried (commute.commuted (plain_expr_pattern x.now) (datum e.now)) (λ d. d)) result }
 {
@@ -56,6 +57,7 @@ fn commuted(alloc: Global, x: &ExprPattern, e: &DataExpr) -> Result<DataExpr, St
 }
 
 /// An assignment or a reduction with such a right side.
+#[tactic(auto, using(crate::proofs::Commuted::tried_map, crate::proofs::Commuted::tried_as, crate::proofs::Commuted::refused_as))]
 fn commuted_statement(alloc: Global, x: &ExprPattern, s: &Stmt) -> Result<Stmt, StepError>
     ensures { Tries statement (tried (commute.commuted_statement (plain_expr_pattern x.now) (statement s.now)) (λ a. a)) result }
 {
