@@ -1,5 +1,5 @@
 -- What is left of a block without its passes, a statement at a time.
-use Rattle.std.proofs.Common.{◌≡◌, ℕ, ◌+◌, List, [], ◌∷◌, ◌++◌, drop, refl, ap, sym, ◌∙◌}
+use Rattle.std.proofs.Common.{◌≡◌, ℕ, ◌+◌, List, [], ◌∷◌, ◌++◌, length, refl, ap, sym, ◌∙◌}
 use Rattle.exo_tree.specs.Tree.{Statement, Assign, Reduce, Config, Pass, If, For, Alloc, View, Call}
 use Rattle.exo_tree.specs.Tree.{Block, end, next, joined, block, statements}
 use Rattle.exo_tree.proofs.Openings.{joined_block}
@@ -52,3 +52,7 @@ pub cleared_some : (ss : List Statement) (made : Block) → (ss ≡ [] → ⊥) 
     → or_one_pass made ≡ cleared (block ss)
 cleared_some [] made h e = absurd (h refl)
 cleared_some (a ∷ ss) made h e = ap or_one_pass e
+
+pub one_pass_some : (ss : List Statement) → (length ss ≡ 0 → ⊥) → block ss ≡ or_one_pass (block ss)
+one_pass_some [] h = absurd (h refl)
+one_pass_some (a ∷ ss) h = refl

@@ -1,4 +1,3 @@
-pub mod Exchanged
 pub mod Commuted
 pub mod Cleared
 pub mod Left

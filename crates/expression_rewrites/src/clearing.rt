@@ -26,7 +26,7 @@ pub(crate) fn cleared(alloc: Global, b: &Block) -> Result<Block, AllocError>
 
 /// The statements of a block that are no passes, with the passes of their own blocks deleted.
 #[cycle(clearing)]
-#[tactic(auto, using(crate::proofs::Cleared::kept_more, crate::proofs::Cleared::kept_all))]
+#[tactic(auto, using(crate::proofs::Cleared::kept_more))]
 fn kept(alloc: Global, b: &Block) -> Result<Block, AllocError>
     ensures { IfOk result (λ c. block c ≡ without (block b.now)) }
 {
@@ -58,6 +58,7 @@ fn put(alloc: Global, made: &mut Block, s: &Stmt) -> Result<(), AllocError>
 }
 
 /// A block that is not left empty.
+#[tactic(auto, using(crate::proofs::Cleared::one_pass_some))]
 fn or_one_pass(made: Block) -> Result<Block, AllocError>
     ensures { IfOk result (λ c. block c ≡ passes.or_one_pass (block made)) }
 {

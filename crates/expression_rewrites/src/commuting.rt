@@ -57,7 +57,7 @@ fn commuted(alloc: Global, x: &ExprPattern, e: &DataExpr) -> Result<DataExpr, St
 }
 
 /// An assignment or a reduction with such a right side.
-#[tactic(auto, using(crate::proofs::Commuted::tried_map, crate::proofs::Commuted::tried_as, crate::proofs::Commuted::refused_as))]
+#[tactic(auto, using(crate::proofs::Commuted::tried_map, crate::proofs::Commuted::tried_as))]
 fn commuted_statement(alloc: Global, x: &ExprPattern, s: &Stmt) -> Result<Stmt, StepError>
     ensures { Tries statement (tried (commute.commuted_statement (plain_expr_pattern x.now) (statement s.now)) (λ a. a)) result }
 {
