@@ -3,7 +3,7 @@ use Rattle.std.proofs.Common.{◌≡◌, ◌==◌, ◌&&◌, ℕ, zero, suc, ◌
 use Rattle.std.proofs.lemmas.Bool.Decides.{nat_tests}
 use Rattle.std.specs.Prelude.{slice_get, option_map, option_and_then, MatchOption}
 use Rattle.exo_tree.specs.Tree.{Statement, If, For, Block, end, next, block}
-use Rattle.exo_tree.specs.Context.{Context, Here, After, InLoop, InThen, InElse}
+use Rattle.exo_tree.specs.Context.{Context, After, InLoop, InThen, InElse}
 use Rattle.exo_tree.specs.Places.{Branch, Main, Else, Step, Path, Opened, parted, past, into, opened_in}
 use Rattle.exo_tree.specs.Branches.{branch_of}
 use Rattle.exo_tree.proofs.Openings.{around_by, with_rest}

@@ -57,12 +57,7 @@ fn inner(b: &Block, index: usize, which: Branch) -> Option<&Block>
 }
 
 /// Copies of the `count` statements of a block from `index` on; None exactly where they are not there.
-fn taken(
-    alloc: Global,
-    b: &Block,
-    index: usize,
-    count: usize,
-) -> Result<Option<Block>, AllocError>
+fn taken(alloc: Global, b: &Block, index: usize, count: usize) -> Result<Option<Block>, AllocError>
     ensures { IfOk result (λ x. MatchOption x (length b.now < index + count) (λ ts. (index + count ≤ length b.now) × (ts ≡ slice_range b.now index (index + count)))) }
 {
     if index > b.len() || count > b.len() - index {
@@ -133,12 +128,7 @@ fn branch_of(
 }
 
 /// The statement with `changed` in a branch.
-fn with_block(
-    alloc: Global,
-    s: &Stmt,
-    which: Branch,
-    changed: Block,
-) -> Result<Stmt, AllocError>
+fn with_block(alloc: Global, s: &Stmt, which: Branch, changed: Block) -> Result<Stmt, AllocError>
     ensures { IfOk result (λ a. statement a ≡ with_branch (branch_taken which) (block changed) (statement s.now)) }
 {
     match (s, which) {
@@ -241,7 +231,13 @@ pub fn replaced(
 {
     let steps = path.as_slice();
     match steps.first() {
-        Some(step) if step.branch == Branch::Main => replaced_in(alloc, body, steps, count as usize, with),
+        Some(step) if step.branch == Branch::Main => replaced_in(
+            alloc,
+            body,
+            steps,
+            count as usize,
+            with,
+        ),
         _ => Ok(None),
     }
 }

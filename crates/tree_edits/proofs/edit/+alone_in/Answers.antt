@@ -1,9 +1,8 @@
-use Rattle.std.proofs.Common.{◌≡◌, ◌∷◌, map, ap, sym, ◌∙◌}
+use Rattle.std.proofs.Common.{map, ap, sym, ◌∙◌}
 use Rattle.std.proofs.lemmas.Option.{slice_get-map}
-use Rattle.std.specs.Prelude.{option_map, option_and_then}
-use Rattle.exo_tree.specs.Tree.{block}
+use Rattle.std.specs.Prelude.{option_map}
 use Rattle.exo_tree.specs.PlainPlace.{step_taken}
-use Rattle.tree_edits.proofs.Alone.{alone_in, here_is, inner_is}
+use Rattle.tree_edits.proofs.Alone.{here_is, inner_is}
 use Rattle.tree_edits.proofs.edit.+alone_in.Goals as goal
 
 pub returns-in-None : goal.returns-in-None

@@ -1,9 +1,9 @@
 use Rattle.std.proofs.Common.{◌≡◌, map, ap, sym, ◌∙◌}
 use Rattle.std.proofs.lemmas.Option.{slice_get-map}
-use Rattle.std.specs.Prelude.{option_map, option_and_then}
+use Rattle.std.specs.Prelude.{option_map}
 use Rattle.exo_tree.specs.Tree.{block}
 use Rattle.exo_tree.specs.PlainPlace.{step_taken}
-use Rattle.exo_tree.proofs.Edits.{if_ok, IsSpliced}
+use Rattle.exo_tree.proofs.Edits.{if_ok}
 use Rattle.tree_edits.proofs.Pieces.{piece_in, IsTaken, taken_here, taken_inside}
 use Rattle.tree_edits.proofs.edit.+piece_in.Goals as goal
 
