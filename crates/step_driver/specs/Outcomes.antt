@@ -38,7 +38,8 @@ Refuses why result = MatchResult result (λ x. why ≡ None) (λ e. IsCause why 
 abbrev pub IsKept : Target → Plan → Type 0
 IsKept t m = has_room t.unit ≡ true → IsUnit (with_version t.unit m.proc)
 
--- where all that is owed is shown, the procedure is refined by the result, but for the fields that may differ
+-- where all that is owed is shown, the procedure is refined by the result, but for the fields that
+-- may differ
 abbrev pub KeepsMeaning : Target → Plan → Type 0
 KeepsMeaning t m =
     AreShown m.must

@@ -17,9 +17,8 @@ ghost use Rattle.step_rules.specs.Lawful.{IsTarget};
 ghost use Rattle.step_driver.specs.Outcomes.{Tries, Refuses, IsKept, KeepsMeaning, Moves};
 ghost use Rattle.step_driver.specs.PlainTarget.{target, plain_piece};
 ghost use Rattle.step_driver.specs.Spots.{spot_at};
-ghost use Rattle.step_driver.specs.Stages.{shape_of, concluded, finished};
+ghost use Rattle.step_driver.specs.Stages.{shape_of, version_by, plan_by, concluded, finished};
 
-use tree_edits::alone_at;
 use crate::made::{passed, placed, version};
 use crate::operator::{Operator, Writing};
 use crate::owing::{needed, owed};
@@ -27,10 +26,11 @@ use crate::refusing::{both, refused, refused_by_shape};
 use crate::target::{Piece, Target};
 use affine_systems::Obligation;
 use cursor_forward::{Edits, Proposal, StepError};
-use exo_tree::{Block, Path};
+use exo_tree::{Block, Path, Proc};
 use made_trees::{Fresh, next_id};
 use std::alloc::{AllocError, Global};
 use step_rules::laws::{carrying_rules_forward, lawful_rules_keep_meaning, proposals_are_kept};
+use tree_edits::alone_at;
 use tree_rules::{Findings, findings_of_body, findings_of_version};
 
 /// What the step of an operator makes of a procedure at a path. The table is that of the unit.
@@ -91,13 +91,7 @@ fn answered_there<O: Operator>(
 {
     let base = first_id(on)?;
     let found = needed(alloc, on, piece, op)?;
-    let plain = op.draft(
-        alloc,
-        on,
-        piece,
-        Writing::AsMade,
-        &mut Fresh::new(base),
-    )?;
+    let plain = op.draft(alloc, on, piece, Writing::AsMade, &mut Fresh::new(base))?;
     shape_kept(alloc, on, piece, alone, plain, found)?;
     op.refusal(alloc, on, piece)?;
     finish(alloc, on, piece, alone, base, found, op)
@@ -150,13 +144,7 @@ fn finish<O: Operator>(
     requires there { option_map (λ o. is_alone o.around) (opened piece.now.count piece.now.path (block on.now.proc.now.body)) ≡ Some alone }
     ensures { Tries plain_proposal (finished (O.rule op.now) (spot_at (target on.now) (plain_piece piece.now)) found) result }
 {
-    let made = op.draft(
-        alloc,
-        on,
-        piece,
-        Writing::Simplified,
-        &mut Fresh::new(base),
-    )?;
+    let made = op.draft(alloc, on, piece, Writing::Simplified, &mut Fresh::new(base))?;
     let must = owed(alloc, on, piece, op)?;
     conclude(alloc, on, piece, alone, base, found, made, must, op)
 }
@@ -180,13 +168,45 @@ fn conclude<O: Operator>(
     ensures { Tries plain_proposal (concluded (O.rule op.now) (spot_at (target on.now) (plain_piece piece.now)) found (block made) (map plain_obligation must.items)) result }
 {
     let whole = passed(on, piece, alone, made)?;
-    let body = placed(alloc, on.proc, piece, alone, &whole)?;
-    let name = op.name(alloc, on.proc)?;
-    let copies = base + op.named() as u32;
-    let proc = version(alloc, on.proc, name, copies, &body)?;
+    let proc = version_with(alloc, on, piece, alone, base, &whole, op)?;
     let kept = findings_of_version(alloc, on.unit, on.modes, base, &proc)?;
     refused(both(kept, found))?;
-    let edits = edits(alloc, on, piece, &whole, op)?;
+    Ok(told(alloc, on, piece, &whole, proc, must, op)?)
+}
+
+/// The procedure of a step that puts `whole` in the place of a piece.
+fn version_with<O: Operator>(
+    alloc: Global,
+    on: &Target<'_>,
+    piece: &Piece,
+    alone: bool,
+    base: u32,
+    whole: &Block,
+    op: &O,
+) -> Result<Proc, AllocError>
+    requires small { base ≤ 4294901759 }
+    requires there { option_map (λ o. is_alone o.around) (opened piece.now.count piece.now.path (block on.now.proc.now.body)) ≡ Some alone }
+    ensures { IfOk result (λ q. procedure q ≡ version_by (O.rule op.now) (spot_at (target on.now) (plain_piece piece.now)) base (block whole.now)) }
+{
+    let body = placed(alloc, on.proc, piece, alone, whole)?;
+    let name = op.name(alloc, on.proc)?;
+    let copies = base + op.named() as u32;
+    version(alloc, on.proc, name, copies, &body)
+}
+
+/// What is told of a result.
+fn told<O: Operator>(
+    alloc: Global,
+    on: &Target<'_>,
+    piece: &Piece,
+    whole: &Block,
+    proc: Proc,
+    must: Vec<Obligation>,
+    op: &O,
+) -> Result<Proposal, AllocError>
+    ensures { IfOk result (λ m. plain_proposal m ≡ plan_by (O.rule op.now) (spot_at (target on.now) (plain_piece piece.now)) (procedure proc) (block whole.now) (map plain_obligation must.items)) }
+{
+    let edits = edits(alloc, on, piece, whole, op)?;
     let exit = op.exit(alloc, on, piece)?;
     Ok(Proposal {
         proc,
@@ -214,10 +234,5 @@ fn edits<O: Operator>(
         return Err(AllocError);
     }
     let shifts = op.shifts(alloc, on, piece)?;
-    Ok(Edits::new(
-        piece.path.duplicate(),
-        piece.count,
-        count as u32,
-        shifts,
-    ))
+    Ok(Edits::new(piece.path.duplicate(), piece.count, count as u32, shifts))
 }

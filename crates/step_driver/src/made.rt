@@ -9,11 +9,11 @@ ghost use Rattle.made_trees.specs.Passes as trees;
 ghost use Rattle.made_trees.specs.Passes.{is_alone};
 ghost use Rattle.step_driver.specs.Spots.{or_nothing};
 
-use tree_edits::replaced;
 use crate::target::{Piece, Target};
 use exo_tree::{Block, Name, Proc};
 use made_trees::{named_copies, or_pass};
 use std::alloc::{AllocError, Global};
+use tree_edits::replaced;
 
 /// What is put in the place of a piece that is there: a `pass` where nothing would stand in its block.
 #[tactic(auto, using(crate::proofs::Placed::alone_there))]
