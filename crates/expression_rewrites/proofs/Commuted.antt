@@ -6,9 +6,10 @@ use Rattle.std.specs.Prelude.{nat_lt, option_map, option_and_then}
 use Rattle.exo_tree.specs.Tree.{Datum, Block, end}
 use Rattle.exo_tree.specs.Places.{Path, Opened, opened}
 use Rattle.cursor_patterns.specs.Patterns.{ExprPattern}
-use Rattle.cursor_forward.specs.Causes.{WrongShape}
+use Rattle.cursor_forward.specs.Causes.{Cause, WrongShape}
 use Rattle.step_rules.specs.Rule.{Tried, Got, Not, Target, Piece}
 use Rattle.step_rules.specs.Shapes.{tried, one_statement}
+use Rattle.step_driver.specs.Outcomes.{RefusedBy}
 use Rattle.step_driver.specs.Spots.{or_nothing, spot_at}
 use Rattle.expression_laws.specs.Exchange.{Operation, matches, exchanged}
 use Rattle.expression_laws.specs.Commute.{operation_of, commuted_by, commuted}
@@ -20,6 +21,18 @@ pub tried_as : {T U : Type 0} (o : Option T) (make : T → U) (x : T) → tried 
     → tried o make ≡ Got (make x)
 tried_as None make x h = cc
 tried_as (Some a) make x h = let same : a ≡ x = cc in ap (λ b. Got (make b)) same
+
+pub refused_as : {T U : Type 0} (o : Option T) (make : T → U) (why : Option Cause)
+    → RefusedBy (tried o (λ a. a)) why → RefusedBy (tried o make) why
+refused_as o make None h = tt
+refused_as None make (Some cause) h = let same : WrongShape ≡ cause = cc in ap Not same
+refused_as (Some a) make (Some cause) h = cc
+
+-- what was found, by what was made
+pub found_again : {T U V : Type 0} (o : Option T) (make : T → U) (other : V) (y : U) → tried o make ≡ Got y
+    → tried o (λ a. other) ≡ Got other
+found_again None make other y h = cc
+found_again (Some a) make other y h = refl
 
 pub tried_map : {T U : Type 0} (o : Option T) (make : T → U)
     → tried (option_map make o) (λ a. a) ≡ tried o make

@@ -1,6 +1,6 @@
 //! The step that exchanges the sides of a sum or product.
 ghost use Rattle.std.specs.Prelude.{◌≡◌, option_map, IfOk, refl};
-ghost use Rattle.exo_tree.specs.Tree.{block};
+ghost use Rattle.exo_tree.specs.Tree.{block, end, next};
 ghost use Rattle.exo_tree.specs.PlainDatum.{datum};
 ghost use Rattle.exo_tree.specs.PlainStatement.{statement};
 ghost use Rattle.exo_tree.specs.PlainUnit.{program};
@@ -89,6 +89,20 @@ fn commuted_alone(
     }
 }
 
+/// That statement as a block.
+#[tactic(auto, using(crate::proofs::Commuted::tried_as, crate::proofs::Commuted::refused_as))]
+fn commuted_block(
+    alloc: Global,
+    x: &ExprPattern,
+    on: &Target<'_>,
+    piece: &Piece,
+) -> Result<Block, StepError>
+    ensures { Tries block (tried (commute.commuted_alone (plain_expr_pattern x.now) (spot_at (target on.now) (plain_piece piece.now)).opened.piece) (λ a. next a end)) result }
+{
+    let made = commuted_alone(alloc, x, on, piece)?;
+    Ok(Block::single(alloc, made)?)
+}
+
 /// The step that exchanges the sides of a sum or product on the right of an assignment or a reduction.
 #[derive(Drop)]
 pub struct Commuting<'a> {
@@ -107,7 +121,7 @@ impl Operator for Commuting<'_> {
 
     fn piece(&self, alloc: Global, on: &Target<'_>, at: &Path) -> Result<Piece, StepError> {
         let piece = Piece::one(at);
-        commuted_alone(alloc, self.pattern, on, &piece)?;
+        commuted_block(alloc, self.pattern, on, &piece)?;
         Ok(piece)
     }
 
@@ -119,8 +133,7 @@ impl Operator for Commuting<'_> {
         _how: Writing,
         _fresh: &mut Fresh,
     ) -> Result<Block, StepError> {
-        let made = commuted_alone(alloc, self.pattern, on, piece)?;
-        Ok(Block::single(alloc, made)?)
+        commuted_block(alloc, self.pattern, on, piece)
     }
 
     fn named(&self) -> u16 {
@@ -131,7 +144,12 @@ impl Operator for Commuting<'_> {
         Ok(())
     }
 
-    fn shifts(&self, alloc: Global, _on: &Target<'_>, _piece: &Piece) -> Result<Shifts, AllocError> {
+    fn shifts(
+        &self,
+        alloc: Global,
+        _on: &Target<'_>,
+        _piece: &Piece,
+    ) -> Result<Shifts, AllocError> {
         stays(alloc, 1)
     }
 

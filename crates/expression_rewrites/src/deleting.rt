@@ -63,13 +63,7 @@ impl Operator for Deleting {
     fn shifts(&self, alloc: Global, on: &Target<'_>, piece: &Piece) -> Result<Shifts, AllocError> {
         let old = on.statements(alloc, piece)?;
         let mut all = Shifts::new(alloc);
-        put_block(
-            &mut all,
-            &Path::new(),
-            &Path::new(),
-            Branch::Main,
-            &old,
-        )?;
+        put_block(&mut all, &Path::new(), &Path::new(), Branch::Main, &old)?;
         Ok(all)
     }
 

@@ -60,7 +60,12 @@ impl Operator for Renaming<'_> {
         Ok(())
     }
 
-    fn shifts(&self, alloc: Global, _on: &Target<'_>, _piece: &Piece) -> Result<Shifts, AllocError> {
+    fn shifts(
+        &self,
+        alloc: Global,
+        _on: &Target<'_>,
+        _piece: &Piece,
+    ) -> Result<Shifts, AllocError> {
         Ok(Shifts::new(alloc))
     }
 

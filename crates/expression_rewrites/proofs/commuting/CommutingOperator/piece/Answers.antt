@@ -1,12 +1,12 @@
 use Rattle.std.proofs.Common.{refl, ap, sym, ◌∙◌}
-use Rattle.exo_tree.specs.PlainStatement.{statement}
+use Rattle.exo_tree.specs.Tree.{end, next, block}
 use Rattle.cursor_patterns.specs.PlainPattern.{plain_expr_pattern}
 use Rattle.step_rules.specs.Rule.{Got, Piece}
 use Rattle.step_rules.specs.Shapes.{tried}
 use Rattle.expression_laws.specs.Commute.{commuted_alone}
 use Rattle.step_driver.specs.PlainTarget.{target}
 use Rattle.step_driver.specs.Spots.{spot_at}
-use Rattle.expression_rewrites.proofs.Commuted.{one_tried, tried_as}
+use Rattle.expression_rewrites.proofs.Commuted.{one_tried, found_again}
 use Rattle.expression_rewrites.proofs.commuting.CommutingOperator.piece.Goals as goal
 
 pub returns : goal.returns
@@ -15,8 +15,8 @@ returns c =
     let t = target c.args.on.now in
     let one : Piece = record { path = c.args.at.now; count = 1 } in
     let made =
-    ap (λ (p : Piece). tried (commuted_alone x (spot_at t p).opened.piece) (λ a. a)) (sym c.one-piece.ensures)
-    ∙ c.in_ok-commuted_alone.ensures in
+    ap (λ (p : Piece). tried (commuted_alone x (spot_at t p).opened.piece) (λ a. next a end)) (sym c.one-piece.ensures)
+    ∙ c.in_ok-commuted_block.ensures in
     one_tried (commuted_alone x) t c.args.at.now refl
-    ∙ tried_as (commuted_alone x (spot_at t one).opened.piece) (λ a. one) (statement c.in_ok-commuted_alone.field-0) made
+    ∙ found_again (commuted_alone x (spot_at t one).opened.piece) (λ a. next a end) one (block c.in_ok-commuted_block.field-0) made
     ∙ ap Got (sym c.one-piece.ensures)
