@@ -1,0 +1,3 @@
+pub mod Commuted
+pub mod Cleared
+pub mod Left

@@ -1,0 +1,3 @@
+pub mod PlainOperation
+pub mod Exchanging
+pub mod Passing

@@ -1,0 +1,8 @@
+-- The plain form of an operation.
+use Rattle.expression_laws.specs.Exchange as plain
+use Rattle.expression_rewrites.specs.declared.exchange.Operation.{Operation}
+use Rattle.expression_rewrites.specs.declared.exchange.Operation.TheVariants.{Sum, Product}
+
+abbrev pub plain_operation : Operation → plain.Operation
+plain_operation Sum = plain.Sum
+plain_operation Product = plain.Product

@@ -1,0 +1,80 @@
+//! Blocks with their passes deleted.
+ghost use Rattle.std.specs.Prelude.{◌≡◌, ◌++◌, IfOk, OnOk};
+ghost use Rattle.exo_tree.specs.Tree as tree;
+ghost use Rattle.exo_tree.specs.Tree.{end, block, statements};
+ghost use Rattle.exo_tree.specs.PlainBinder.{binding};
+ghost use Rattle.exo_tree.specs.PlainControl.{control};
+ghost use Rattle.exo_tree.specs.PlainStatement.{statement};
+ghost use Rattle.expression_laws.specs.Passes as passes;
+ghost use Rattle.expression_laws.specs.Passes.{before, without};
+
+use exo_tree::{Binder, Block, Ctrl, Stmt};
+use std::alloc::{AllocError, Global};
+
+/// A block with its passes deleted; of a block of passes alone one `pass` is left.
+#[cycle(clearing)]
+#[tactic(auto, using(crate::proofs::Cleared::cleared_some))]
+pub(crate) fn cleared(alloc: Global, b: &Block) -> Result<Block, AllocError>
+    ensures { IfOk result (λ c. block c ≡ passes.cleared (block b.now)) }
+{
+    let made = kept(alloc, b)?;
+    if b.len() == 0 {
+        return Ok(made);
+    }
+    or_one_pass(made)
+}
+
+/// The statements of a block that are no passes, with the passes of their own blocks deleted.
+#[cycle(clearing)]
+#[tactic(auto, using(crate::proofs::Cleared::kept_more))]
+fn kept(alloc: Global, b: &Block) -> Result<Block, AllocError>
+    ensures { IfOk result (λ c. block c ≡ without (block b.now)) }
+{
+    let mut made = Block::new(alloc);
+    for k in 0..b.len() {
+        put(alloc, &mut made, b.statement(k))?;
+    }
+    Ok(made)
+}
+
+/// Puts such a statement last, unless it is a `pass`.
+#[cycle(clearing)]
+fn put(alloc: Global, made: &mut Block, s: &Stmt) -> Result<(), AllocError>
+    ensures { OnOk result (made.new ≡ made.old ++ statements (before (statement s.now) end)) }
+{
+    match s {
+        Stmt::Pass => Ok(()),
+        Stmt::If(c, a, b) => {
+            let first = cleared(alloc, a)?;
+            let second = cleared(alloc, b)?;
+            made.push(Stmt::If(c.duplicate(alloc)?, first, second))
+        }
+        Stmt::For(i, lo, hi, b) => {
+            let inner = cleared(alloc, b)?;
+            made.push(loop_of(alloc, i, lo, hi, inner)?)
+        }
+        _ => made.push(s.duplicate(alloc)?),
+    }
+}
+
+/// A block that is not left empty.
+#[tactic(auto, using(crate::proofs::Cleared::one_pass_some))]
+fn or_one_pass(made: Block) -> Result<Block, AllocError>
+    ensures { IfOk result (λ c. block c ≡ passes.or_one_pass (block made)) }
+{
+    if made.len() != 0 {
+        return Ok(made);
+    }
+    let mut whole = made;
+    whole.push(Stmt::Pass)?;
+    Ok(whole)
+}
+
+/// A loop with a copied head.
+fn loop_of(alloc: Global, b: &Binder, lo: &Ctrl, hi: &Ctrl, body: Block) -> Result<Stmt, AllocError>
+    ensures { IfOk result (λ s. statement s ≡ tree.For (binding b.now) (control lo.now) (control hi.now) (block body)) }
+{
+    let binder = b.duplicate(alloc)?;
+    let low = lo.duplicate(alloc)?;
+    Ok(Stmt::For(binder, low, hi.duplicate(alloc)?, body))
+}

@@ -1,0 +1,181 @@
+//! The step that exchanges the sides of a sum or product.
+ghost use Rattle.std.specs.Prelude.{◌≡◌, option_map, IfOk, refl};
+ghost use Rattle.exo_tree.specs.Tree.{block, end, next};
+ghost use Rattle.exo_tree.specs.PlainDatum.{datum};
+ghost use Rattle.exo_tree.specs.PlainStatement.{statement};
+ghost use Rattle.exo_tree.specs.PlainUnit.{program};
+ghost use Rattle.exo_modes.specs.Marks.{modes_of};
+ghost use Rattle.exo_modes.specs.Seen.{table_says};
+ghost use Rattle.cursor_patterns.specs.PlainPattern.{plain_form, plain_expr_pattern};
+ghost use Rattle.cursor_forward.specs.PlainProposal.{plain_proposal};
+ghost use Rattle.step_rules.specs.Answer.{proposed};
+ghost use Rattle.step_rules.specs.Lawful.{IsTarget};
+ghost use Rattle.step_rules.specs.Shapes.{tried};
+ghost use Rattle.expression_laws.specs.Commute as commute;
+ghost use Rattle.expression_laws.specs.Commute.{commute_rule};
+ghost use Rattle.expression_laws.proofs.Commute.{commute_is_lawful, commute_is_carrying};
+ghost use Rattle.step_driver.specs.Outcomes.{Tries, IsKept, KeepsMeaning, Moves};
+ghost use Rattle.step_driver.specs.PlainTarget.{target, plain_piece};
+ghost use Rattle.step_driver.specs.Spots.{spot_at};
+ghost use Rattle.expression_rewrites.specs.PlainOperation.{plain_operation};
+
+use crate::exchange::{Operation, exchange};
+use cursor_forward::{Proposal, Shifts, StepError};
+use cursor_patterns::{ExprForm, ExprPattern};
+use exo_tree::{Block, DataExpr, Name, Path, Proc, Stmt};
+use made_trees::Fresh;
+use std::alloc::{AllocError, Global};
+use step_driver::{Exit, Operator, Piece, Target, Writing, propose, stays};
+
+/// The operation that a form of expressions stands for.
+fn operation_of(form: &ExprForm) -> Option<Operation>
+    ensures { option_map plain_operation result ≡ commute.operation_of (plain_form form.now) }
+{
+    match form {
+        ExprForm::Add => Some(Operation::Sum),
+        ExprForm::Mul => Some(Operation::Product),
+        ExprForm::Read(_) | ExprForm::Sub => None,
+    }
+}
+
+/// A right side with the sides of a match exchanged.
+#[tactic(auto, using(crate::proofs::Commuted::commuted_none, crate::proofs::Commuted::commuted_found, crate::proofs::Commuted::commuted_not))]
+fn commuted(alloc: Global, x: &ExprPattern, e: &DataExpr) -> Result<DataExpr, StepError>
+    ensures { Tries datum (tried (commute.commuted (plain_expr_pattern x.now) (datum e.now)) (λ d. d)) result }
+{
+    let which = match operation_of(&x.form) {
+        None => return Err(StepError::WrongShape),
+        Some(which) => which,
+    };
+    let mut made = e.duplicate(alloc)?;
+    let mut left = x.nth;
+    if exchange(&mut made, which, &mut left) {
+        Ok(made)
+    } else {
+        Err(StepError::WrongShape)
+    }
+}
+
+/// An assignment or a reduction with such a right side.
+#[tactic(auto, using(crate::proofs::Commuted::tried_map, crate::proofs::Commuted::tried_as))]
+fn commuted_statement(alloc: Global, x: &ExprPattern, s: &Stmt) -> Result<Stmt, StepError>
+    ensures { Tries statement (tried (commute.commuted_statement (plain_expr_pattern x.now) (statement s.now)) (λ a. a)) result }
+{
+    match s {
+        Stmt::Assign(y, at, e) => {
+            let right = commuted(alloc, x, e)?;
+            Ok(Stmt::Assign(*y, at.duplicate(alloc)?, right))
+        }
+        Stmt::Reduce(y, at, e) => {
+            let right = commuted(alloc, x, e)?;
+            Ok(Stmt::Reduce(*y, at.duplicate(alloc)?, right))
+        }
+        _ => Err(StepError::WrongShape),
+    }
+}
+
+/// The same of the one statement of a piece.
+fn commuted_alone(
+    alloc: Global,
+    x: &ExprPattern,
+    on: &Target<'_>,
+    piece: &Piece,
+) -> Result<Stmt, StepError>
+    ensures { Tries statement (tried (commute.commuted_alone (plain_expr_pattern x.now) (spot_at (target on.now) (plain_piece piece.now)).opened.piece) (λ a. a)) result }
+{
+    match on.statement(piece) {
+        None => Err(StepError::WrongShape),
+        Some(s) => commuted_statement(alloc, x, s),
+    }
+}
+
+/// That statement as a block.
+#[tactic(auto, using(crate::proofs::Commuted::tried_as, crate::proofs::Commuted::refused_as))]
+fn commuted_block(
+    alloc: Global,
+    x: &ExprPattern,
+    on: &Target<'_>,
+    piece: &Piece,
+) -> Result<Block, StepError>
+    ensures { Tries block (tried (commute.commuted_alone (plain_expr_pattern x.now) (spot_at (target on.now) (plain_piece piece.now)).opened.piece) (λ a. next a end)) result }
+{
+    let made = commuted_alone(alloc, x, on, piece)?;
+    Ok(Block::single(alloc, made)?)
+}
+
+/// The step that exchanges the sides of a sum or product on the right of an assignment or a reduction.
+#[derive(Drop)]
+pub struct Commuting<'a> {
+    /// Which one, among those of the right side.
+    pub pattern: &'a ExprPattern,
+}
+
+impl Operator for Commuting<'_> {
+    ghost rule = { λ o. commute_rule (plain_expr_pattern o.pattern.now) };
+
+    ghost lawful = { λ o. commute_is_lawful (plain_expr_pattern o.pattern.now) };
+
+    ghost carrying = { λ o. commute_is_carrying (plain_expr_pattern o.pattern.now) };
+
+    ghost needless = { λ o s. refl };
+
+    fn piece(&self, alloc: Global, on: &Target<'_>, at: &Path) -> Result<Piece, StepError> {
+        let piece = Piece::one(at);
+        commuted_block(alloc, self.pattern, on, &piece)?;
+        Ok(piece)
+    }
+
+    fn draft(
+        &self,
+        alloc: Global,
+        on: &Target<'_>,
+        piece: &Piece,
+        _how: Writing,
+        _fresh: &mut Fresh,
+    ) -> Result<Block, StepError> {
+        commuted_block(alloc, self.pattern, on, piece)
+    }
+
+    fn named(&self) -> u16 {
+        0
+    }
+
+    fn refusal(&self, _alloc: Global, _on: &Target<'_>, _piece: &Piece) -> Result<(), StepError> {
+        Ok(())
+    }
+
+    fn shifts(
+        &self,
+        alloc: Global,
+        _on: &Target<'_>,
+        _piece: &Piece,
+    ) -> Result<Shifts, AllocError> {
+        stays(alloc, 1)
+    }
+
+    fn name(&self, alloc: Global, p: &Proc) -> Result<Name, AllocError> {
+        p.name.duplicate(alloc)
+    }
+
+    fn exit(&self, alloc: Global, _on: &Target<'_>, _piece: &Piece) -> Result<Exit, AllocError> {
+        Ok(Exit::unchanged(alloc))
+    }
+}
+
+/// The procedure with the sides of a match exchanged in the assignment or reduction at a path. `WrongShape` where
+/// another statement or none stands there, where the pattern is for no sum and no product, or has no match.
+pub fn commute_expr(
+    alloc: Global,
+    on: &Target<'_>,
+    at: &Path,
+    pattern: &ExprPattern,
+) -> Result<Proposal, StepError>
+    requires modes { table_says on.now.modes.now ≡ modes_of (program on.now.unit.now) }
+    requires target { IsTarget (target on.now) }
+    ensures answer { Tries plain_proposal (proposed (commute_rule (plain_expr_pattern pattern.now)) (target on.now) at.now) result }
+    ensures kept { IfOk result (λ m. IsKept (target on.now) (plain_proposal m)) }
+    ensures meaning { IfOk result (λ m. KeepsMeaning (target on.now) (plain_proposal m)) }
+    ensures moves { IfOk result (λ m. Moves (target on.now) (plain_proposal m)) }
+{
+    propose(alloc, on, at, &Commuting { pattern })
+}

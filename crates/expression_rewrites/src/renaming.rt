@@ -1,0 +1,92 @@
+//! Another name for a procedure.
+ghost use Rattle.std.specs.Prelude.{◌≡◌, [], IfOk, refl};
+ghost use Rattle.exo_tree.specs.PlainUnit.{program};
+ghost use Rattle.exo_modes.specs.Marks.{modes_of};
+ghost use Rattle.exo_modes.specs.Seen.{table_says};
+ghost use Rattle.cursor_forward.specs.PlainProposal.{plain_proposal};
+ghost use Rattle.step_rules.specs.Answer.{proposed};
+ghost use Rattle.step_rules.specs.Lawful.{IsTarget};
+ghost use Rattle.expression_laws.specs.Rename.{rename_rule};
+ghost use Rattle.expression_laws.proofs.Rename.{rename_is_lawful, rename_is_carrying};
+ghost use Rattle.step_driver.specs.Outcomes.{Tries, IsKept, KeepsMeaning, Moves};
+ghost use Rattle.step_driver.specs.PlainTarget.{target};
+
+use cursor_forward::{Proposal, Shifts, StepError};
+use exo_tree::{Block, Branch, Name, Path, Proc, Step};
+use made_trees::Fresh;
+use std::alloc::{AllocError, Global};
+use step_driver::{Exit, Operator, Piece, Target, Writing, propose};
+
+/// The step that gives a procedure another name. No statement is replaced.
+#[derive(Drop)]
+pub struct Renaming<'a> {
+    pub name: &'a Name,
+}
+
+impl Operator for Renaming<'_> {
+    ghost rule = { λ o. rename_rule o.name.now };
+
+    ghost lawful = { λ o. rename_is_lawful o.name.now };
+
+    ghost carrying = { λ o. rename_is_carrying o.name.now };
+
+    ghost needless = { λ o s. refl };
+
+    fn piece(&self, _alloc: Global, _on: &Target<'_>, _at: &Path) -> Result<Piece, StepError> {
+        let mut path = Path::new();
+        path.push(Step {
+            branch: Branch::Main,
+            index: 0,
+        });
+        Ok(Piece { path, count: 0 })
+    }
+
+    fn draft(
+        &self,
+        alloc: Global,
+        _on: &Target<'_>,
+        _piece: &Piece,
+        _how: Writing,
+        _fresh: &mut Fresh,
+    ) -> Result<Block, StepError> {
+        Ok(Block::new(alloc))
+    }
+
+    fn named(&self) -> u16 {
+        0
+    }
+
+    fn refusal(&self, _alloc: Global, _on: &Target<'_>, _piece: &Piece) -> Result<(), StepError> {
+        Ok(())
+    }
+
+    fn shifts(
+        &self,
+        alloc: Global,
+        _on: &Target<'_>,
+        _piece: &Piece,
+    ) -> Result<Shifts, AllocError> {
+        Ok(Shifts::new(alloc))
+    }
+
+    fn name(&self, alloc: Global, _p: &Proc) -> Result<Name, AllocError> {
+        self.name.duplicate(alloc)
+    }
+
+    fn exit(&self, alloc: Global, _on: &Target<'_>, _piece: &Piece) -> Result<Exit, AllocError> {
+        Ok(Exit::unchanged(alloc))
+    }
+}
+
+/// The procedure under another name, which is not looked at: whether it is one that a procedure may have is the
+/// caller's to ask.
+pub fn rename(alloc: Global, on: &Target<'_>, name: &Name) -> Result<Proposal, StepError>
+    requires modes { table_says on.now.modes.now ≡ modes_of (program on.now.unit.now) }
+    requires target { IsTarget (target on.now) }
+    ensures answer { Tries plain_proposal (proposed (rename_rule name.now) (target on.now) []) result }
+    ensures kept { IfOk result (λ m. IsKept (target on.now) (plain_proposal m)) }
+    ensures meaning { IfOk result (λ m. KeepsMeaning (target on.now) (plain_proposal m)) }
+    ensures moves { IfOk result (λ m. Moves (target on.now) (plain_proposal m)) }
+{
+    propose(alloc, on, &Path::new(), &Renaming { name })
+}

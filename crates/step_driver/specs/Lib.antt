@@ -1,0 +1,6 @@
+pub mod PlainTarget
+pub mod PlainWriting
+pub mod PlainExit
+pub mod Spots
+pub mod Stages
+pub mod Outcomes

@@ -1,0 +1,53 @@
+-- The last parts of an answer.
+use Rattle.std.specs.Prelude.{◌+◌, ℕ, List, length}
+use Rattle.exo_tree.specs.Tree.{Block, statements, Procedure}
+use Rattle.exo_tree.specs.Context.{fill}
+use Rattle.affine_systems.specs.Outcomes.{Owed}
+use Rattle.tree_rules.specs.declared.findings.Findings.{Findings}
+use Rattle.tree_rules.specs.Classes.{both}
+use Rattle.tree_rules.specs.Findings.{findings_of_body, findings_of_version}
+use Rattle.made_trees.specs.Ids.{next_id}
+use Rattle.made_trees.specs.Names.{named_copies}
+use Rattle.cursor_forward.specs.Causes.{Cause}
+use Rattle.cursor_forward.specs.Shifts.{edits_of}
+use Rattle.cursor_forward.specs.Proposals.{Plan}
+use Rattle.step_rules.specs.Rule.{Tried, Got, Spot, Simplified, Rule}
+use Rattle.step_rules.specs.Owing.{shape_alone, owed_needs}
+use Rattle.step_rules.specs.Answer.{then_try, unless, broken, body_with, result, plan}
+
+-- what is found of the result as it is made, and of what is needed
+abbrev pub shape_of : Spot → Block → Findings → Findings
+shape_of s plain needed =
+    let body = body_with s plain in
+    shape_alone (both (findings_of_body s.target.unit s.target.proc.params body) needed)
+
+-- the procedure, and all that is told, by the block that stands in the place of the piece
+abbrev pub version_by : Rule → Spot → ℕ → Block → Procedure
+version_by r s base whole = record s.target.proc {
+  name = r.name s.target.proc;
+  body = named_copies s.target.proc (base + r.named) (fill s.opened.around whole);
+}
+
+abbrev pub plan_by : Rule → Spot → Procedure → Block → List Owed → Plan
+plan_by r s q whole must = record {
+  proc = q;
+  must = must;
+  edits = edits_of s.piece.path s.piece.count (length (statements whole)) (r.shifts s);
+  fields = r.fields s;
+  place = (r.point s).0;
+  side = (r.point s).1;
+}
+
+-- by what is drafted and what is owed
+abbrev pub concluded : Rule → Spot → Findings → Block → List Owed → Tried Plan
+concluded r s needed made must =
+    let base = next_id s.target.proc in
+    unless (broken (both (findings_of_version s.target.unit base (result r s base made)) needed)) (
+    Got (plan r s base made must))
+
+-- behind the rule's own refusals
+abbrev pub finished : Rule → Spot → Findings → Tried Plan
+finished r s needed =
+    then_try (r.draft s Simplified (next_id s.target.proc)) (λ made.
+    then_try (owed_needs s.target (r.needs s)) (λ must.
+    concluded r s needed made must))
