@@ -1,5 +1,4 @@
 -- Where no numbered name is a word of C, a renamed binder gets a name that nothing else has.
--- as in c_laws/proofs/Free
 use Rattle.std.proofs.Common.{◌≡◌, ◌≤◌, ◌<◌, ◌+◌, ◌^◌, ◌==◌, ◌++◌, ℕ, zero, suc, nat_lt, Bool, true, false, ◌||◌, cond, List, [], ◌∷◌, length, refl, sym, ap, ◌∙◌, subst, arith, true≢false, eqb-true, ◌⊎◌, ⊎_elim, inl, inr}
 use Rattle.c_names.specs.Words.{Name, same_name, is_in, is_word}
 use Rattle.c_names.specs.Names.{pick, numbered, first_free, is_taken}

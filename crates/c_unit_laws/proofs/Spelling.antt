@@ -1,5 +1,4 @@
 -- A numbered name tells the name that it is made of, and its number.
--- as in c_laws/proofs/Spelling
 use Rattle.std.proofs.Common.{◌≡◌, ◌<◌, ◌^◌, ◌==◌, ◌++◌, ℕ, Bool, true, false, List, [], ◌∷◌, length, refl, sym, ap, ◌∙◌, arith, true≢false, codes, eqb-true, eq-eqb}
 use Rattle.std.specs.Fmt.{decimal}
 use Rattle.std.specs.Str.Parse.{AllDigits}

@@ -1,5 +1,0 @@
-pub mod Magnitude
-pub mod Simulation
-pub mod SameInput
-pub mod Laws
-pub mod Instance

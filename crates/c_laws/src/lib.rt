@@ -1,4 +1,0 @@
-//! The C of a printed procedure does what the procedure does: laws alone.
-#![tactic(auto)]
-
-pub mod laws;
