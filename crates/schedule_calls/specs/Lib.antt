@@ -3,3 +3,4 @@ pub mod Readings
 pub mod PlainRequest
 pub mod Operators
 pub mod Answers
+pub mod Instance

@@ -2,7 +2,7 @@
 
 ghost use Rattle.std.specs.Prelude.{◌≡◌, IfOk, MatchOption};
 ghost use Rattle.cursor_patterns.specs.PlainPattern.{plain_expr_pattern};
-ghost use Rattle.schedule_text.specs.Views.{plain_argument, plain_found};
+ghost use Rattle.schedule_text.specs.Views.{plain_argument, plain_cursor, plain_found};
 ghost use Rattle.schedule_text.specs.Tree as tree;
 ghost use Rattle.schedule_calls.specs.Readings.{IsWord, AsksCursor, AsksExpression, AsksName};
 ghost use Rattle.schedule_calls.specs.PlainRequest.{plain_asked};
@@ -57,16 +57,25 @@ fn here_of(alloc: Global, string: &Quoted) -> Result<Option<Asked<'static>>, All
     }
 }
 
+/// A cursor as it is written.
+fn written_of(alloc: Global, cursor: &CursorText) -> Result<Option<Asked<'_>>, AllocError>
+    ensures { IfOk result (λ asked. AsksOne (AsksCursor (tree.cursor (plain_cursor cursor.now))) plain_asked asked) }
+{
+    match cursor {
+        CursorText::Held(name, moves) => Ok(Some(Asked {
+            source: Source::Under(name),
+            moves: moves.items.as_slice(),
+        })),
+        CursorText::Find(found) => found_of(alloc, found),
+    }
+}
+
 /// The cursor that the argument asks for.
 pub fn cursor_of(alloc: Global, arg: &ArgText) -> Result<Option<Asked<'_>>, AllocError>
     ensures { IfOk result (λ asked. AsksOne (AsksCursor (plain_argument arg.now)) plain_asked asked) }
 {
     match arg {
-        ArgText::Cursor(CursorText::Held(name, moves)) => Ok(Some(Asked {
-            source: Source::Under(name),
-            moves: moves.items.as_slice(),
-        })),
-        ArgText::Cursor(CursorText::Find(found)) => found_of(alloc, found),
+        ArgText::Cursor(cursor) => written_of(alloc, cursor),
         ArgText::Str(string) => here_of(alloc, string),
         _ => Ok(None),
     }

@@ -1,7 +1,7 @@
 //! Lines.
 
 ghost use Rattle.std.specs.Prelude.{IfOk};
-ghost use Rattle.schedule_text.specs.Views.{plain_arguments, plain_found, plain_statement};
+ghost use Rattle.schedule_text.specs.Views.{plain_act, plain_arguments, plain_found, plain_statement};
 ghost use Rattle.schedule_text.specs.Tree as tree;
 ghost use Rattle.schedule_calls.specs.Answers.{IsAnswer};
 
@@ -50,6 +50,23 @@ fn read_search<'a>(
     }
 }
 
+/// A line that binds a name.
+fn read_act<'a>(
+    alloc: Global,
+    bind: &'a Text,
+    act: &'a Act,
+) -> Result<Result<Request<'a>, LineFault>, AllocError>
+    ensures { IfOk result (IsAnswer (tree.bind bind.now (plain_act act.now))) }
+{
+    match act {
+        Act::Op(name, args) => read_operation(alloc, bind, name, args),
+        Act::Find(found) => read_search(alloc, bind, found),
+        Act::Moved(of, first, more) => Ok(Ok(Request::Moved(
+            bind, of, *first, more.items.as_slice(),
+        ))),
+    }
+}
+
 /// What the line asks for. `UnknownOperator` where there is no operator of its name, `BadArguments`
 /// where the number or the form of its arguments is wrong or a string is not of the grammar of its
 /// place.
@@ -61,10 +78,6 @@ pub fn read_line(
 {
     match &line.statement {
         Statement::Emit(name) => Ok(Ok(Request::Emit(name))),
-        Statement::Bind(bind, Act::Op(name, args)) => read_operation(alloc, bind, name, args),
-        Statement::Bind(bind, Act::Find(found)) => read_search(alloc, bind, found),
-        Statement::Bind(bind, Act::Moved(of, first, more)) => Ok(Ok(Request::Moved(
-            bind, of, *first, more.items.as_slice(),
-        ))),
+        Statement::Bind(bind, act) => read_act(alloc, bind, act),
     }
 }

@@ -10,6 +10,7 @@ ghost use Rattle.schedule_calls.specs.Answers.{AsksOne};
 use cursor_patterns::{ExprPattern, Pattern};
 use exo_reader::unit::{ReadError, ReadKind};
 use exo_tree::Name;
+use schedule_patterns::laws::{expr_patterns_are_one, patterns_are_one};
 use schedule_patterns::{read_expr_pattern, read_name, read_pattern};
 use schedule_text::source::Quoted;
 use std::alloc::{AllocError, Global};
@@ -33,6 +34,7 @@ pub fn pattern_of(alloc: Global, string: &Quoted) -> Result<Option<(Pattern, u32
         Ok(found) => Ok(Some(found)),
         Err(e) => {
             refused(&e)?;
+            patterns_are_one();
             Ok(None)
         }
     }
@@ -47,6 +49,7 @@ pub fn expression_of(alloc: Global, string: &Quoted) -> Result<Option<ExprPatter
         Ok(found) => Ok(Some(found)),
         Err(e) => {
             refused(&e)?;
+            expr_patterns_are_one();
             Ok(None)
         }
     }
