@@ -1,11 +1,11 @@
 -- Arguments that ask for cursors, and some that ask for none.
-use Rattle.std.proofs.Common.{◌≡◌, ℕ, List, [], ◌∷◌, map, sym, subst}
+use Rattle.std.proofs.Common.{◌≡◌, ℕ, List, [], map, sym, subst}
 use Rattle.cursor_patterns.specs.Patterns.{Pattern}
 use Rattle.schedule_text.specs.Tree as tree
 use Rattle.schedule_text.specs.Views.{plain_move}
 use Rattle.schedule_text.specs.declared.source.Move as source
-use Rattle.schedule_calls.specs.Requests.{Asked, Source, Under, Found, Here}
-use Rattle.schedule_calls.specs.Readings.{IsPatternOf, IsPatternIn, AsksCursor, under, found, here}
+use Rattle.schedule_calls.specs.Requests.{Asked, Under, Found, Here}
+use Rattle.schedule_calls.specs.Readings.{IsPatternIn, AsksCursor, under, found, here}
 use Rattle.schedule_calls.specs.PlainRequest.{moves_of}
 
 pub asks_under : (x : List ℕ) (read : List source.Move) (ms : List source.Move) → ms ≡ read

@@ -6,7 +6,7 @@ use Rattle.cursor_patterns.specs.Patterns.{Loop, Read}
 use Rattle.schedule_patterns.specs.Instance.{TextInstance}
 use Rattle.schedule_text.specs.Tree as tree
 use Rattle.schedule_text.specs.declared.source.Direction.TheVariants as way
-use Rattle.schedule_calls.specs.Requests.{Operation, Request, Under, CommuteExpr, Rename, DeletePass}
+use Rattle.schedule_calls.specs.Requests.{Operation, Request, Under}
 use Rattle.schedule_calls.specs.Readings.{AsksOperation, commute_expr, rename, delete_pass, under}
 use Rattle.schedule_calls.specs.Readings.{Asks, apply, search, moved, emit}
 use Rattle.schedule_calls.specs.Instance.{on_p, bare, LinesInstance}

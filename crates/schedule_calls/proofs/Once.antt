@@ -1,14 +1,14 @@
 -- A line asks for one thing.
-use Rattle.std.proofs.Common.{◌≡◌, ℕ, List, [], ◌∷◌, Some, None, refl, sym, ap, ap₂, subst, ◌∙◌, true, false}
-use Rattle.std.specs.Prelude.{not, bytes_eq, codes}
+use Rattle.std.proofs.Common.{◌≡◌, ℕ, List, [], ◌∷◌, refl, sym, ap, ap₂, subst, ◌∙◌, true}
+use Rattle.std.specs.Prelude.{not}
 use Rattle.exo_reader.specs.Items.{joined}
 use Rattle.schedule_text.specs.Tree as tree
 use Rattle.schedule_patterns.specs.Grammar.{statement, meant, expression, form_meant}
 use Rattle.schedule_patterns.specs.Texts.{PatternsAreOne}
 use Rattle.cursor_patterns.specs.Patterns.{Pattern, ExprForm, ExprPattern}
-use Rattle.schedule_calls.specs.Requests.{Asked, Under, Found, Here, Operation, CommuteExpr, Rename}
-use Rattle.schedule_calls.specs.Requests.{DeletePass, Request, Apply, Search, Moved, Emit}
-use Rattle.schedule_calls.specs.Readings.{moves, IsPatternOf, IsExprPatternOf, IsNameOf, IsWord}
+use Rattle.schedule_calls.specs.Requests.{Asked, Found, Here, Operation, CommuteExpr, Rename}
+use Rattle.schedule_calls.specs.Requests.{Request, Apply, Search}
+use Rattle.schedule_calls.specs.Readings.{moves, IsPatternOf, IsExprPatternOf, IsWord}
 use Rattle.schedule_calls.specs.Readings.{AsksCursor, under, found, here, AsksExpression, AsksName}
 use Rattle.schedule_calls.specs.Readings.{AsksOperation, commute_expr, rename, delete_pass, Asks}
 use Rattle.schedule_calls.specs.Readings.{apply, search, moved, emit, is_operator, is_unknown}

@@ -2,7 +2,8 @@
 use Rattle.std.specs.Prelude.{ℕ, List, Option, Some, None, if◌then◌else◌, codes}
 use Rattle.std.specs.Str.{bytes_eq}
 use Rattle.schedule_calls.specs.declared.operator.Operator.{Operator}
-use Rattle.schedule_calls.specs.declared.operator.Operator.TheVariants.{CommuteExpr, Rename, DeletePass}
+use Rattle.schedule_calls.specs.declared.operator.Operator.TheVariants.{CommuteExpr, Rename}
+use Rattle.schedule_calls.specs.declared.operator.Operator.TheVariants.{DeletePass}
 
 abbrev pub name_of : Operator → List ℕ
 name_of CommuteExpr = codes "commute_expr"

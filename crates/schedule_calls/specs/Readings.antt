@@ -12,7 +12,8 @@ use Rattle.schedule_patterns.specs.Grammar.{statement, meant, expression, form_m
 use Rattle.schedule_patterns.specs.Names.{name_fault}
 use Rattle.schedule_patterns.specs.Texts.{IsPattern}
 use Rattle.cursor_patterns.specs.Patterns.{Pattern, ExprPattern}
-use Rattle.schedule_calls.specs.Requests.{Move, Parent, Next, Prev, Body, Before, After, Expand, Item}
+use Rattle.schedule_calls.specs.Requests.{Move, Parent, Next, Prev, Body, Before, After, Expand}
+use Rattle.schedule_calls.specs.Requests.{Item}
 use Rattle.schedule_calls.specs.Requests.{Asked, Under, Found, Here, Operation, CommuteExpr, Rename}
 use Rattle.schedule_calls.specs.Requests.{DeletePass, Request, Apply, Search, Moved, Emit}
 

@@ -44,7 +44,11 @@ fn read_search<'a>(
 {
     match pattern_of(alloc, &found.pattern)? {
         Some((pattern, nth)) => Ok(Ok(Request::Search(
-            bind, &found.version, pattern, nth, found.moves.items.as_slice(),
+            bind,
+            &found.version,
+            pattern,
+            nth,
+            found.moves.items.as_slice(),
         ))),
         None => Ok(Err(LineFault::BadArguments)),
     }
@@ -62,7 +66,10 @@ fn read_act<'a>(
         Act::Op(name, args) => read_operation(alloc, bind, name, args),
         Act::Find(found) => read_search(alloc, bind, found),
         Act::Moved(of, first, more) => Ok(Ok(Request::Moved(
-            bind, of, *first, more.items.as_slice(),
+            bind,
+            of,
+            *first,
+            more.items.as_slice(),
         ))),
     }
 }
@@ -70,10 +77,7 @@ fn read_act<'a>(
 /// What the line asks for. `UnknownOperator` where there is no operator of its name, `BadArguments`
 /// where the number or the form of its arguments is wrong or a string is not of the grammar of its
 /// place.
-pub fn read_line(
-    alloc: Global,
-    line: &Line,
-) -> Result<Result<Request<'_>, LineFault>, AllocError>
+pub fn read_line(alloc: Global, line: &Line) -> Result<Result<Request<'_>, LineFault>, AllocError>
     ensures { IfOk result (IsAnswer (plain_statement line.now.statement)) }
 {
     match &line.statement {

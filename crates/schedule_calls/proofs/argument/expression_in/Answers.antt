@@ -7,7 +7,7 @@ use Rattle.schedule_calls.specs.Readings.{AsksExpression}
 use Rattle.schedule_calls.proofs.argument.expression_in.Goals as goal
 
 pub returns-in-Str : goal.returns-in-Str
-returns-in-Str c = 
+returns-in-Str c =
     subst
     (λ a. IfOk c.expression_of.result
     (λ found. AsksOne (AsksExpression (plain_argument a)) plain_expr_pattern found))

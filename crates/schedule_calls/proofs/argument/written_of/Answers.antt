@@ -8,7 +8,7 @@ use Rattle.schedule_calls.proofs.Cursors.{asks_under}
 use Rattle.schedule_calls.proofs.argument.written_of.Goals as goal
 
 pub returns-in-Held : goal.returns-in-Held
-returns-in-Held c = 
+returns-in-Held c =
     subst
     (λ k. AsksCursor (tree.cursor (plain_cursor k))
     (record { source = Under c.in-Held.name; moves = moves_of c.as_slice.result.now }))

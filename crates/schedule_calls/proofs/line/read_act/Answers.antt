@@ -10,17 +10,17 @@ use Rattle.schedule_calls.proofs.Lines.{asks_moved}
 use Rattle.schedule_calls.proofs.line.read_act.Goals as goal
 
 pub returns-in-Op : goal.returns-in-Op
-returns-in-Op c = 
+returns-in-Op c =
     subst (λ a. IfOk c.read_operation.result (IsAnswer (tree.bind c.args.bind.now (plain_act a))))
     (sym c.in-Op.is) c.read_operation.ensures
 
 pub returns-in-Find : goal.returns-in-Find
-returns-in-Find c = 
+returns-in-Find c =
     subst (λ a. IfOk c.read_search.result (IsAnswer (tree.bind c.args.bind.now (plain_act a))))
     (sym c.in-Find.is) c.read_search.ensures
 
 pub returns-in-Moved : goal.returns-in-Moved
-returns-in-Moved c = 
+returns-in-Moved c =
     subst
     (λ a. Asks (tree.bind c.args.bind.now (plain_act a))
     (Moved c.args.bind.now c.in-Moved.of

@@ -7,11 +7,11 @@ use Rattle.schedule_calls.specs.Answers.{IsAnswer}
 use Rattle.schedule_calls.proofs.line.read_line.Goals as goal
 
 pub returns-in-Emit : goal.returns-in-Emit
-returns-in-Emit c = 
+returns-in-Emit c =
     subst (λ s. Asks (plain_statement s) (Emit c.in-Emit.name)) (sym c.in-Emit.is)
     (emit c.in-Emit.name)
 
 pub returns-in-Bind : goal.returns-in-Bind
-returns-in-Bind c = 
+returns-in-Bind c =
     subst (λ s. IfOk c.read_act.result (IsAnswer (plain_statement s))) (sym c.in-Bind.is)
     c.read_act.ensures

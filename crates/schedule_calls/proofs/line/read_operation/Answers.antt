@@ -9,7 +9,7 @@ use Rattle.schedule_calls.proofs.Lines.{asks_apply}
 use Rattle.schedule_calls.proofs.line.read_operation.Goals as goal
 
 pub returns-in-Some-2 : goal.returns-in-Some-2
-returns-in-Some-2 c = 
+returns-in-Some-2 c =
     asks_apply _ _ _ (name_of c.in-Some.operator) (plain_arguments c.args.args.now) _
     (named _ _ (sym c.operator_of.ensures ∙ c.in-Some.is))
     (some_of (IsWord (plain_argument c.args.args.now.first)) (λ x. x.now) _ _ c.in-Some-word_of.is
