@@ -1,2 +1,6 @@
 pub mod Requests
 pub mod Readings
+pub mod PlainRequest
+pub mod Operators
+pub mod Answers
+pub mod Instance

@@ -12,7 +12,8 @@ use Rattle.schedule_patterns.specs.Grammar.{statement, meant, expression, form_m
 use Rattle.schedule_patterns.specs.Names.{name_fault}
 use Rattle.schedule_patterns.specs.Texts.{IsPattern}
 use Rattle.cursor_patterns.specs.Patterns.{Pattern, ExprPattern}
-use Rattle.schedule_calls.specs.Requests.{Move, Parent, Next, Prev, Body, Before, After, Expand, Item}
+use Rattle.schedule_calls.specs.Requests.{Move, Parent, Next, Prev, Body, Before, After, Expand}
+use Rattle.schedule_calls.specs.Requests.{Item}
 use Rattle.schedule_calls.specs.Requests.{Asked, Under, Found, Here, Operation, CommuteExpr, Rename}
 use Rattle.schedule_calls.specs.Requests.{DeletePass, Request, Apply, Search, Moved, Emit}
 
@@ -43,6 +44,9 @@ moves ms = map move ms
 -- quoted pieces beside one another are a pattern of statements with a number
 abbrev pub IsPatternOf : List (List ℕ) → Pattern → ℕ → Type 0
 IsPatternOf pieces p nth = IsPattern statement meant (joined pieces) p nth
+
+abbrev pub IsPatternIn : List (List ℕ) → Pattern × ℕ → Type 0
+IsPatternIn pieces found = IsPatternOf pieces found.0 found.1
 
 abbrev pub IsExprPatternOf : List (List ℕ) → ExprPattern → Type 0
 IsExprPatternOf pieces x = IsPattern expression form_meant (joined pieces) x.form x.nth

@@ -1,0 +1,102 @@
+-- A line asks for one thing.
+use Rattle.std.proofs.Common.{◌≡◌, ℕ, List, [], ◌∷◌, refl, sym, ap, ap₂, subst, ◌∙◌, true}
+use Rattle.std.specs.Prelude.{not}
+use Rattle.exo_reader.specs.Items.{joined}
+use Rattle.schedule_text.specs.Tree as tree
+use Rattle.schedule_patterns.specs.Grammar.{statement, meant, expression, form_meant}
+use Rattle.schedule_patterns.specs.Texts.{PatternsAreOne}
+use Rattle.cursor_patterns.specs.Patterns.{Pattern, ExprForm, ExprPattern}
+use Rattle.schedule_calls.specs.Requests.{Asked, Found, Here, Operation, CommuteExpr, Rename}
+use Rattle.schedule_calls.specs.Requests.{Request, Apply, Search}
+use Rattle.schedule_calls.specs.Readings.{moves, IsPatternOf, IsExprPatternOf, IsWord}
+use Rattle.schedule_calls.specs.Readings.{AsksCursor, under, found, here, AsksExpression, AsksName}
+use Rattle.schedule_calls.specs.Readings.{AsksOperation, commute_expr, rename, delete_pass, Asks}
+use Rattle.schedule_calls.specs.Readings.{apply, search, moved, emit, is_operator, is_unknown}
+use Rattle.schedule_calls.specs.Answers.{LinesAskOnce}
+
+-- ---- strings
+
+one_pattern : PatternsAreOne statement meant → (pieces : List (List ℕ)) (p q : Pattern) (m n : ℕ) → IsPatternOf pieces p m
+    → IsPatternOf pieces q n → (p ≡ q) × (m ≡ n)
+one_pattern one pieces p q m n h k = one.value (joined pieces) p q m n h k
+
+one_expression : PatternsAreOne expression form_meant → (pieces : List (List ℕ)) (x y : ExprPattern) → IsExprPatternOf pieces x
+    → IsExprPatternOf pieces y → x ≡ y
+one_expression law pieces x y h k =
+    let one = law.value (joined pieces) x.form y.form x.nth y.nth h k in
+    ap₂ (λ (f : ExprForm) (n : ℕ). record { form = f; nth = n }) one.0 one.1
+
+-- ---- arguments
+
+one_word : (a : tree.Argument) (x y : List ℕ) → IsWord a x → IsWord a y → x ≡ y
+one_word (tree.cursor (tree.held z [])) x y h k = h ∙ sym k
+one_word (tree.cursor (tree.held z (m ∷ ms))) x y h k = absurd h
+one_word (tree.cursor (tree.found f)) x y h k = absurd h
+one_word (tree.string s) x y h k = absurd h
+one_word (tree.int n) x y h k = absurd h
+one_word (tree.pair s t) x y h k = absurd h
+one_word (tree.key z v) x y h k = absurd h
+
+one_cursor : PatternsAreOne statement meant → (a : tree.Argument) (x y : Asked) → AsksCursor a x → AsksCursor a y → x ≡ y
+one_cursor law _ _ _ (under z ms) (under _ _) = refl
+one_cursor law _ _ _ (found f p m h) (found _ q n k) =
+    let one = one_pattern law f.pattern p q m n h k in
+    ap₂ (λ r l. record { source = Found f.version r l; moves = moves f.moves }) one.0 one.1
+one_cursor law _ _ _ (here s p m h) (here _ q n k) =
+    let one = one_pattern law s p q m n h k in
+    ap₂ (λ r l. record { source = Here r l; moves = [] }) one.0 one.1
+
+one_part : PatternsAreOne expression form_meant → (a : tree.Argument) (x y : ExprPattern) → AsksExpression a x → AsksExpression a y
+    → x ≡ y
+one_part law (tree.string s) x y h k = one_expression law s x y h k
+one_part law (tree.cursor c) x y h k = absurd h
+one_part law (tree.int n) x y h k = absurd h
+one_part law (tree.pair s t) x y h k = absurd h
+one_part law (tree.key z v) x y h k = absurd h
+
+one_name : (a : tree.Argument) (x y : List ℕ) → AsksName a x → AsksName a y → x ≡ y
+one_name (tree.string s) x y h k = h.0 ∙ sym k.0
+one_name (tree.cursor c) x y h k = absurd h
+one_name (tree.int n) x y h k = absurd h
+one_name (tree.pair s t) x y h k = absurd h
+one_name (tree.key z v) x y h k = absurd h
+
+-- ---- operations
+
+one_operation : PatternsAreOne statement meant → PatternsAreOne expression form_meant
+    → (name : List ℕ) (args : List tree.Argument) (x y : Operation) → AsksOperation name args x
+    → AsksOperation name args y → x ≡ y
+one_operation law part _ _ _ _ (commute_expr a b at p h k) (commute_expr _ _ to q i l) =
+    ap₂ CommuteExpr (one_cursor law a at to h i) (one_part part b p q k l)
+one_operation law part _ _ _ _ (rename a n h) (rename _ m k) =
+    ap Rename (one_name a n m h k)
+one_operation law part _ _ _ _ delete_pass delete_pass = refl
+
+known : (name : List ℕ) (args : List tree.Argument) (o : Operation) → AsksOperation name args o
+    → is_operator name ≡ true
+known _ _ _ (commute_expr a b at x h k) = refl
+known _ _ _ (rename a n h) = refl
+known _ _ _ delete_pass = refl
+
+-- ---- lines
+
+one_request : PatternsAreOne statement meant → PatternsAreOne expression form_meant
+    → (line : tree.Line) (a b : Request) → Asks line a → Asks line b → a ≡ b
+one_request law part _ _ _ (apply x f u l o h k) (apply _ _ v _ q i j) =
+    ap₂ (Apply x) (one_word l.head u v h i) (one_operation law part f l.more o q k j)
+one_request law part _ _ _ (search x f p m h) (search _ _ q n k) =
+    let one = one_pattern law f.pattern p q m n h k in
+    ap₂ (λ r l. Search x f.version r l (moves f.moves)) one.0 one.1
+one_request law part _ _ _ (moved x f m ms) (moved _ _ _ _) = refl
+one_request law part _ _ _ (emit x) (emit _) = refl
+
+unknown_asks : (line : tree.Line) (a : Request) → is_unknown line ≡ true → Asks line a → ⊥
+unknown_asks _ _ is (apply x f u l o h k) =
+    let e : not true ≡ true = subst (λ b. not b ≡ true) (known f l.more o k) is in cc (e)
+unknown_asks _ _ is (search x f p m h) = cc (is)
+unknown_asks _ _ is (moved x f m ms) = cc (is)
+unknown_asks _ _ is (emit x) = cc (is)
+
+pub lines_ask_once : PatternsAreOne statement meant → PatternsAreOne expression form_meant
+    → LinesAskOnce
+lines_ask_once law part = record { request = one_request law part; unknown = unknown_asks }

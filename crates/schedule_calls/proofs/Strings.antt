@@ -1,0 +1,39 @@
+-- Strings that are not what their place asks.
+use Rattle.std.proofs.Common.{◌≡◌, ℕ, List, refl, sym, subst}
+use Rattle.exo_reader.specs.Items.{joined}
+use Rattle.exo_reader.specs.declared.unit.ReadError.{ReadError}
+use Rattle.exo_reader.specs.declared.unit.ReadKind.{ReadKind}
+use Rattle.exo_reader.specs.declared.unit.ReadKind.TheVariants as k
+use Rattle.cursor_patterns.specs.Patterns.{Pattern, ExprPattern}
+use Rattle.schedule_patterns.specs.Errors.{UnlessMemory}
+use Rattle.schedule_patterns.specs.Grammar.{statement, meant, expression, form_meant}
+use Rattle.schedule_patterns.specs.Texts.{IsPattern, IsPatternFault, PatternsAreOne}
+use Rattle.schedule_calls.specs.Readings.{IsPatternIn, IsExprPatternOf}
+
+-- what an error that is no want of memory says
+claimed : (kind : ReadKind) {Claim : Type 0} → UnlessMemory kind Claim
+    → (kind ≡ k.Memory → ⊥) → Claim
+claimed k.Memory claim never = absurd (never refl)
+claimed k.BadByte claim never = claim
+claimed k.BadIndent claim never = claim
+claimed k.Syntax claim never = claim
+claimed k.TooDeep claim never = claim
+claimed k.TooLong claim never = claim
+claimed k.LiteralTooLarge claim never = claim
+
+pub no_pattern : PatternsAreOne statement meant → (pieces : List (List ℕ)) (bytes : List ℕ)
+    (e : ReadError) → bytes ≡ joined pieces
+    → UnlessMemory e.kind (IsPatternFault statement bytes e) → (e.kind ≡ k.Memory → ⊥)
+    → (t : Pattern × ℕ) → IsPatternIn pieces t → ⊥
+no_pattern one pieces bytes e is fault never t asks =
+    one.no_error bytes t.0 t.1 e (subst (λ b. IsPattern statement meant b t.0 t.1) (sym is) asks)
+    (claimed e.kind fault never)
+
+pub no_expression : PatternsAreOne expression form_meant → (pieces : List (List ℕ))
+    (bytes : List ℕ) (e : ReadError) → bytes ≡ joined pieces
+    → UnlessMemory e.kind (IsPatternFault expression bytes e) → (e.kind ≡ k.Memory → ⊥)
+    → (x : ExprPattern) → IsExprPatternOf pieces x → ⊥
+no_expression one pieces bytes e is fault never x asks =
+    one.no_error bytes x.form x.nth e
+    (subst (λ b. IsPattern expression form_meant b x.form x.nth) (sym is) asks)
+    (claimed e.kind fault never)

@@ -1,0 +1,18 @@
+use Rattle.std.proofs.Common.{refl}
+use Rattle.schedule_text.specs.Views.{plain_found}
+use Rattle.schedule_calls.proofs.Answered.{some_of, none_of}
+use Rattle.schedule_calls.proofs.Lines.{asks_search, no_search}
+use Rattle.schedule_calls.proofs.line.read_search.Goals as goal
+
+pub returns-in-Some : goal.returns-in-Some
+returns-in-Some c =
+    asks_search _ c.args.found.now.version c.args.found.now.pattern.pieces.items
+    c.args.found.now.moves.items.items _ _ _ c.as_slice.ensures.value
+    (some_of _ _ _ _ c.in-Some.is c.in_ok-pattern.ensures)
+
+pub returns-in-None : goal.returns-in-None
+returns-in-None c = (
+  refl,
+  no_search _ (plain_found c.args.found.now)
+      (none_of _ _ _ c.in-None.is c.in_ok-pattern.ensures),
+)
