@@ -34,7 +34,7 @@ seven : wrap I32 (pos 7) ≡ pos 7
 unfolding int_wrap
 seven = refl
 
-abbrev machine_of : Outcome Machine → Machine
+abbrev pub machine_of : Outcome Machine → Machine
 machine_of (Done n) = n
 machine_of Fault = bare
 machine_of NoStore = bare

@@ -23,3 +23,4 @@ pub mod Params
 pub mod CNames
 pub mod Units
 pub mod Instance
+pub mod Start

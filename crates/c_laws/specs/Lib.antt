@@ -3,3 +3,4 @@ pub mod Simulation
 pub mod SameInput
 pub mod Laws
 pub mod Instance
+pub mod Start

@@ -2,6 +2,7 @@
 
 ghost use Rattle.c_laws.specs.Laws.{BlocksFollow, ProceduresFollow, UnitsFollow};
 ghost use Rattle.c_laws.specs.Instance.{BlockInstance};
+ghost use Rattle.c_laws.specs.Start.{StartInstance};
 
 /// The C of a block follows its run.
 pub fn blocks_follow()
@@ -21,4 +22,10 @@ pub fn units_follow()
 /// A block meets what the law on blocks asks, and its C is done.
 pub fn block_instance()
     ensures { BlockInstance }
+{}
+
+/// An input of the first example meets what the law on printed procedures asks, and its C is done, with a sum that
+/// wraps.
+pub fn start_instance()
+    ensures { StartInstance }
 {}
