@@ -102,8 +102,8 @@ machine = record {
 abbrev pub add3_in_c : CBlock
 add3_in_c = block_of (naming_of program printed add3) (param_forms add3.params) add3.body
 
--- The input meets what the law asks. Its sum wraps: the first cell of x holds 3 + 2147483647 - 2 ^ 32
--- at the end.
+-- The input meets what the law asks. Its sum wraps: at the end the first cell of x holds
+-- 3 + 2147483647 - 2 ^ 32.
 pub record StartInstance : Type 0 where
   pub lowered : AreLowered program printed
   pub listed : IsListed program printed 0 add3
