@@ -4,15 +4,22 @@
 use exo_cli::{DiskFiles, Status, StdSink, exoc};
 use ob_check::Free;
 use std::env;
+use std::io::ErrorKind;
 use std::process::ExitCode;
 
-/// The words of the command line; None where there is no memory for them, or one is no text.
+/// The words of the command line; none, which are no command, where one is not UTF-8. None where there is no memory
+/// for them.
 fn words(rt: HostRuntime) -> Option<Vec<String>> {
     let mut words = Vec::new(rt.alloc());
-    for word in env::args(&rt).ok()? {
-        words.push(word).ok()?;
+    match env::args(&rt) {
+        Ok(args) => {
+            for word in args {
+                words.push(word).ok()?;
+            }
+            Some(words)
+        }
+        Err(fault) => (fault.kind() == ErrorKind::InvalidData).then_some(words),
     }
-    Some(words)
 }
 
 fn main(rt: HostRuntime) -> ExitCode {
