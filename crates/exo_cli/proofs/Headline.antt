@@ -108,13 +108,13 @@ printable m out e =
 -- so each listed procedure keeps the rules on memories
 each_kept : (program : Program) (what : List Printing) (k : ℕ) → memory_fault program what ≡ None → is_listed what k ≡ true → fault_of program k ≡ None
 each_kept program [] k h l = absurd (true≢false (sym l))
-each_kept program (w ∷ ws) k h l = go (fault_of program w.proc) refl h (k == w.proc) refl l
+each_kept program (w ∷ ws) k h l = go (each_kept program ws k) (fault_of program w.proc) refl h (k == w.proc) refl l
   where
-    go : (o : Option KindError) → fault_of program w.proc ≡ o → or_later w.proc o (memory_fault program ws) ≡ None
+    go : (memory_fault program ws ≡ None → is_listed ws k ≡ true → fault_of program k ≡ None) → (o : Option KindError) → fault_of program w.proc ≡ o → or_later w.proc o (memory_fault program ws) ≡ None
         → (t : Bool) → (k == w.proc) ≡ t → (t || is_listed ws k) ≡ true → fault_of program k ≡ None
-    go (Some e) own h t same l = absurd (nothing_there (sym h))
-    go None own h true same l = ap (fault_of program) (eqb-true k w.proc same) ∙ own
-    go None own h false same l = each_kept program ws k h l
+    go rest (Some e) own h t same l = absurd (nothing_there (sym h))
+    go rest None own h true same l = ap (fault_of program) (eqb-true k w.proc same) ∙ own
+    go rest None own h false same l = rest h l
 
 -- lines that passed are those of the schedule
 scheduled_is : (bytes : List ℕ) (ls : List Line) → scheduled bytes ≡ Passed ls → schedule_of bytes ≡ Some ls

@@ -1,12 +1,12 @@
 -- What is printed: each entry is that of its number, and there are no more of them than procedures.
-use Rattle.std.proofs.Common.{◌≡◌, ◌<◌, ◌≤◌, ◌+◌, ◌&&◌, ◌||◌, ℕ, zero, suc, Bool, true, false, List, [], ◌∷◌, ◌++◌, append_assoc, length, map, replicate, drop, get_or, drop-cons, subst, ◌==◌, slice_get, Option, Some, None, refl, sym, ap, ap₂, ◌∙◌, arith, if◌then◌else◌}
+use Rattle.std.proofs.Common.{◌≡◌, ◌<◌, ◌≤◌, ◌+◌, ◌&&◌, ◌||◌, ℕ, zero, suc, Bool, true, false, not, true≢false, List, [], ◌∷◌, ◌++◌, append_assoc, length, map, replicate, drop, get_or, drop-cons, subst, ◌==◌, slice_get, Option, Some, None, refl, sym, ap, ap₂, ◌∙◌, arith, if◌then◌else◌}
 use Rattle.exo_tree.specs.Tree.{Procedure, Program}
 use Rattle.exo_tree.specs.Calls.{calls}
 use Rattle.exo_calls.specs.Closed.{closed}
 use Rattle.exo_calls.specs.Marked.{contains, Marked, Reached}
 use Rattle.exo_tree.proofs.Trees.{drop_of_map}
 use Rattle.exo_calls.proofs.Sets.{marked_none, marked_then}
-use Rattle.std.specs.Option.{is_none}
+use Rattle.std.specs.Option.{is_some}
 use Rattle.std.proofs.lemmas.List.{drop_all}
 use Rattle.exo_calls.specs.Passed.{is_function}
 use Rattle.c_lowered.specs.LoweredUnit.{Printing}
@@ -124,6 +124,8 @@ emitted_end emitted i set h = subst (λ l. Marked (is_emitted l) set set) (sym (
 
 -- ---- what is no instruction
 
-pub function_is : (o : Option (List ℕ)) → is_none o ≡ (elim o [ None ↦ true | Some text ↦ false ])
-function_is None = refl
-function_is (Some text) = refl
+pub function_is : (o : Option (List ℕ)) (t : Bool) → is_some o ≡ not t → t ≡ (elim o [ None ↦ true | Some text ↦ false ])
+function_is None true e = refl
+function_is None false e = absurd (true≢false (sym e))
+function_is (Some text) true e = absurd (true≢false e)
+function_is (Some text) false e = refl

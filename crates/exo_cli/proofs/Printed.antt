@@ -67,7 +67,7 @@ module _ (text : Program) (v : Versions) (safe : NothingFaults text) (laws : Fil
       let also = valid_too text v o.origin q s o.kept valid in
       let runs = runs_alike (program_world program) o.origin q o.kept s ∙ (same_runs text v good.behind formed good.first o.from o.origin o.in_text s ∙ ends.1) in
       let follows = laws.follow program what k w q layout templates s ends.0 things m good.unit lowers here there filled also input runs in
-      (ends.0, ends.1, follows, λ none. laws.done program what k w q layout templates s ends.0 things m good.unit lowers here there none filled also input runs)
+      (ends.0, ends.1, (follows, λ none. laws.done program what k w q layout templates s ends.0 things m good.unit lowers here there none filled also input runs))
 
   version_printed : (k : ℕ) (w : Printing) (q : Procedure) → slice_get what k ≡ Some w → slice_get v.procedures w.proc ≡ Some q → w ≡ printing_of v.procedures v.origins w.proc
       → IsPrinted text program v.origins what k w

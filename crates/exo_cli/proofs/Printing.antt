@@ -15,13 +15,6 @@ use Rattle.exo_cli.specs.Stopping.{stop_of}
 pub kept_goes : (m : Made) → memory_fault m.program m.what ≡ None → printed m ≡ lowered_text m
 kept_goes m is = ap (λ (o : Option (ℕ × KindError)). then_do (if_kept m o) lowered_text) is
 
--- the stop where it does not
-pub broken_stops : (m : Made) (f : ℕ × KindError) (why : Option Stop) → memory_fault m.program m.what ≡ Some f → option_map Stopped why ≡ Some (if_kept m (Some f))
-    → IfSome (option_map Stopped why) (λ s. s ≡ printed m)
-broken_stops m f why is stops =
-    subst (λ (o : Option (Stage (List ℕ))). IfSome o (λ s. s ≡ printed m)) (sym stops)
-    (sym (ap (λ (o : Option (ℕ × KindError)). then_do (if_kept m o) lowered_text) is))
-
 -- what is narrow is asked for its names
 narrow_goes : (m : Made) → too_wide m.program m.what ≡ None → lowered_text m ≡ then_do (named m) text
 narrow_goes m is = ap (λ (o : Option ℕ). then_do (if_narrow m o) (λ b. then_do (named b) text)) is

@@ -21,7 +21,7 @@ loop-k-preserved c =
           (drop (c.loop-k.k + 1) procedures) (drop c.loop-k.k procedures) rest (sym c.is_printed.ensures ∙ w.if-is_printed.true)
           (ap (λ v. map printing v.items) w.what-is
           ∙ (ap (map printing) w.in_ok-push.ensures.items
-          ∙ (map-append printing front (w.in_ok-printed.printed ∷ []) ∙ ap (λ z. map printing front ++ z ∷ []) w.in_ok-printed.ensures)))
+          ∙ (map-append printing front (_ ∷ []) ∙ ap (λ z. map printing front ++ z ∷ []) w.in_ok-printed.ensures)))
           c.loop-k.invariant
       | else-is_printed w ↦
           none_printed (contains c.args.marks.now) (printing_of procedures c.args.origins.now) c.loop-k.k (map printing front) (map printing c.if-is_printed.what.items) _ p
