@@ -129,3 +129,11 @@ function_is None true e = refl
 function_is None false e = absurd (true≢false (sym e))
 function_is (Some text) true e = absurd (true≢false e)
 function_is (Some text) false e = refl
+
+pub both_on : (h a r b : Bool) → h ≡ a → h ≡ true → r ≡ b → r ≡ (a && b)
+both_on h true r b e t s = s
+both_on h false r b e t s = absurd (true≢false (sym t ∙ e))
+
+pub both_off : (h a b : Bool) → h ≡ a → h ≡ false → false ≡ (a && b)
+both_off h true b e f = absurd (true≢false (sym e ∙ f))
+both_off h false b e f = refl

@@ -91,4 +91,4 @@ module _ (text : Program) (v : Versions) (safe : NothingFaults text) (laws : Fil
   pub each_printed : (k : ℕ) (w : Printing) → slice_get what k ≡ Some w → IsPrinted text program v.origins what k w
   each_printed k w here =
       let there = lowers.listing.there k w here in
-      version_printed k w there.0 here there.1.0 (own_printing text v k w here)
+      version_printed k w there.0 here there.1 (own_printing text v k w here)
