@@ -111,15 +111,27 @@ fn bound(b: &Block) -> i64 {
     }
 }
 
-/// Adds the bound of the outer of loops up to a variable, for which a number is put.
-pub fn push_bound(alloc: Global, text: &str, out: &mut String) -> Result<(), AllocError> {
-    let (loops, rest) = text.split_once(' ').unwrap_or((text, ""));
-    let (Ok(loops), Some((id, number))) = (loops.parse::<u32>(), read_two(rest)) else {
-        return out.push_str(UNCLEAR);
-    };
+/// `3 1 4`
+fn read_three(text: &str) -> Option<(u32, u32, u32)> {
+    let (first, rest) = text.split_once(' ')?;
+    let first = first.parse::<u32>().ok()?;
+    let (second, third) = read_two(rest)?;
+    Some((first, second, third))
+}
+
+/// The bound of the outer of loops up to a variable, for which a number is put.
+fn bound_for(alloc: Global, loops: u32, id: u32, number: u32) -> Result<i64, AllocError> {
     let b = nest(alloc, loops)?;
     let c = subst(alloc, &b, Id(id), &Ctrl::Lit(i64::from(number)))?;
-    let n = bound(&c);
+    Ok(bound(&c))
+}
+
+/// Adds the bound of the outer of loops up to a variable, for which a number is put.
+pub fn push_bound(alloc: Global, text: &str, out: &mut String) -> Result<(), AllocError> {
+    let Some((loops, id, number)) = read_three(text) else {
+        return out.push_str(UNCLEAR);
+    };
+    let n = bound_for(alloc, loops, id, number)?;
     write!(out, "{n}")
 }
 

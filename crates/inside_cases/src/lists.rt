@@ -23,7 +23,7 @@ enum Kind {
     /// `0 <= x + k * y <= 1000` for k from 1 to 65, and `x < 0`: more than 4,096 rows come of it.
     TooMany,
     /// `x + k >= 0` for k from 1 to this number of rows.
-    Rows(u16),
+    Rows(i32),
 }
 
 /// Adds `x + k >= 0`, or `-x + k >= 0`.
@@ -37,7 +37,7 @@ fn put_bound(alloc: Global, constant: i128, first: i128, rows: &mut Vec<Row>) ->
 }
 
 /// Adds `x + k >= 0` for k from 1 to a number.
-fn put_bounds(alloc: Global, count: u16, rows: &mut Vec<Row>) -> Option<()> {
+fn put_bounds(alloc: Global, count: i32, rows: &mut Vec<Row>) -> Option<()> {
     for k in 0..count {
         put_bound(alloc, i128::from(k) + 1, 1, rows)?;
     }
@@ -90,24 +90,35 @@ fn put_shown(alloc: Global, from: i32, to: i32, list: &mut Vec<Obligation>) -> O
     Some(())
 }
 
+/// What system a word of a list says.
+fn read_kind(name: &str, number: &str) -> Option<Kind> {
+    if name == "many" {
+        return Some(Kind::TooMany);
+    }
+    let number = number.parse::<i32>().ok()?;
+    match name {
+        "shown" => Some(Kind::Shown(number)),
+        "open" => Some(Kind::Open(number)),
+        "rows" => Some(Kind::Rows(number)),
+        _ => None,
+    }
+}
+
+/// `0..37`
+fn read_range(text: &str) -> Option<(i32, i32)> {
+    let (from, to) = text.split_once("..")?;
+    Some((from.parse::<i32>().ok()?, to.parse::<i32>().ok()?))
+}
+
 /// Adds what a word of a list says.
 fn put_word(alloc: Global, word: &str, list: &mut Vec<Obligation>) -> Option<()> {
+    if word == "nothing" {
+        return Some(());
+    }
     let (name, number) = word.split_once(' ').unwrap_or((word, ""));
-    match name {
-        "nothing" => Some(()),
-        "many" => put(alloc, Kind::TooMany, list),
-        "open" => put(alloc, Kind::Open(number.parse::<i32>().ok()?), list),
-        "rows" => put(alloc, Kind::Rows(number.parse::<u16>().ok()?), list),
-        "shown" => match number.split_once("..") {
-            Some((from, to)) => put_shown(
-                alloc,
-                from.parse::<i32>().ok()?,
-                to.parse::<i32>().ok()?,
-                list,
-            ),
-            None => put(alloc, Kind::Shown(number.parse::<i32>().ok()?), list),
-        },
-        _ => None,
+    match read_range(number) {
+        Some((from, to)) => put_shown(alloc, from, to, list),
+        None => put(alloc, read_kind(name, number)?, list),
     }
 }
 
@@ -179,6 +190,21 @@ fn push_list<R: Threads + Sync>(
     push_answer(answer, gate.count(), out)
 }
 
+/// The same of several lists, with semicolons between.
+fn push_lists<R: Threads + Sync>(
+    rt: &R,
+    alloc: Global,
+    text: &str,
+    cache: &mut Cache,
+    gate: &Counting,
+    out: &mut String,
+) -> Result<(), AllocError> {
+    for words in text.split("; ") {
+        push_list(rt, alloc, words, cache, gate, out)?;
+    }
+    Ok(())
+}
+
 /// Adds the answers to lists, with a cache that keeps nothing at first.
 pub fn push_answers<R: Threads + Sync>(
     rt: &R,
@@ -186,10 +212,6 @@ pub fn push_answers<R: Threads + Sync>(
     text: &str,
     out: &mut String,
 ) -> Result<(), AllocError> {
-    let gate = Counting::new();
     let mut cache = new_cache(alloc)?;
-    for words in text.split("; ") {
-        push_list(rt, alloc, words, &mut cache, &gate, out)?;
-    }
-    Ok(())
+    push_lists(rt, alloc, text, &mut cache, &Counting::new(), out)
 }

@@ -46,10 +46,8 @@ pub fn push_fields(
     if unit.fields.len() > FIELDS || !stands(unit, p, &path) {
         return out.push_str("no statement");
     }
-    let writes = written(alloc, unit, p, &path, 1)?;
-    push_numbers("writes", &writes, out)?;
-    let reads = read(alloc, unit, p, &path, 1)?;
-    push_numbers(", reads", &reads, out)
+    push_numbers("writes", &written(alloc, unit, p, &path, 1)?, out)?;
+    push_numbers(", reads", &read(alloc, unit, p, &path, 1)?, out)
 }
 
 /// Adds the modes of a parameter.

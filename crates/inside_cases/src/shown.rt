@@ -1,12 +1,15 @@
 // Forms, systems, contexts and facts as text.
 ghost use Rattle.std.specs.Prelude.{IsTrue};
 ghost use Rattle.exo_tree.specs.PlainArgument.{argument};
+ghost use Rattle.exo_tree.specs.PlainControl.{control, condition};
+ghost use Rattle.affine_forms.specs.Forms.{keeps_rules};
+ghost use Rattle.affine_forms.specs.Formulas.{condition_keeps_rules};
 ghost use Rattle.affine_places.specs.Facts.{Known, fact_keeps_rules};
 
 use affine_forms::{Atom, FormError, Formula, Linear, Row, Terms, formula_of, normal_form};
 use affine_places::{AtEntry, Fact, Facts, Roots};
 use affine_systems::{Context, Obligation};
-use exo_tree::{Arg, Branch, FieldId, Path, Unit};
+use exo_tree::{Arg, Branch, Cond, Ctrl, FieldId, Path, Unit};
 use std::alloc::{AllocError, Global};
 
 /// The steps of a path: the numbers of the statements, those of branches after `else` with an `e`.
@@ -22,17 +25,17 @@ pub fn push_path(path: &Path, out: &mut String) -> Result<(), AllocError> {
     Ok(())
 }
 
-/// An atom that is no quotient: `v` a variable, `f` a field at entry, `s` a stride, `u` an unknown field with the path that made it
-/// unknown.
-fn push_plain(atom: &Atom, out: &mut String) -> Result<(), AllocError> {
+/// An atom that is no quotient, with its coefficient: `v` a variable, `f` a field at entry, `s` a stride, `u` an unknown field with the path
+/// that made it unknown.
+fn push_plain(coefficient: i128, atom: &Atom, out: &mut String) -> Result<(), AllocError> {
     match atom {
-        Atom::Variable(x) => write!(out, "v{}", x.0),
-        Atom::EntryField(f, _) => write!(out, "f{}", f.0),
+        Atom::Variable(x) => write!(out, " {coefficient}*v{}", x.0),
+        Atom::EntryField(f, _) => write!(out, " {coefficient}*f{}", f.0),
         Atom::UnknownField(f, _, path) => {
-            write!(out, "u{}@", f.0)?;
+            write!(out, " {coefficient}*u{}@", f.0)?;
             push_path(path, out)
         }
-        Atom::OpaqueStride(x, k) => write!(out, "s{}.{k}", x.0),
+        Atom::OpaqueStride(x, k) => write!(out, " {coefficient}*s{}.{k}", x.0),
         Atom::Quotient(_, _, _) => out.push_str("a quotient"),
     }
 }
@@ -43,14 +46,13 @@ fn push_terms(depth: u32, terms: &Terms, out: &mut String) -> Result<(), AllocEr
         return out.push_str("too deep a quotient");
     }
     for w in terms.as_slice() {
-        write!(out, " {}*", w.coefficient)?;
         match &w.atom {
             Atom::Quotient(k, inner, by) => {
-                write!(out, "[{k}")?;
+                write!(out, " {}*[{k}", w.coefficient)?;
                 push_terms(depth - 1, inner, out)?;
                 write!(out, " / {by}]")?;
             }
-            atom => push_plain(atom, out)?,
+            atom => push_plain(w.coefficient, atom, out)?,
         }
     }
     Ok(())
@@ -120,18 +122,42 @@ fn push_formula_of(
     }
 }
 
-/// The value of a field that is known.
-fn push_value(alloc: Global, unit: &Unit, value: &Arg, out: &mut String) -> Result<(), AllocError>
-    requires { IsTrue (fact_keeps_rules (Known (argument value.now))) }
+/// The form at entry of an expression.
+fn push_entry_form(alloc: Global, unit: &Unit, e: &Ctrl, out: &mut String) -> Result<(), AllocError>
+    requires { IsTrue (keeps_rules (control e.now)) }
 {
     let roots = Roots::new(alloc);
     let at = AtEntry {
         fields: &unit.fields,
         roots: &roots,
     };
+    push_form_of(&normal_form(alloc, &at, e), out)
+}
+
+/// The formula at entry of a condition.
+fn push_entry_formula(
+    alloc: Global,
+    unit: &Unit,
+    c: &Cond,
+    out: &mut String,
+) -> Result<(), AllocError>
+    requires { IsTrue (condition_keeps_rules (condition c.now)) }
+{
+    let roots = Roots::new(alloc);
+    let at = AtEntry {
+        fields: &unit.fields,
+        roots: &roots,
+    };
+    push_formula_of(&formula_of(alloc, &at, c), out)
+}
+
+/// The value of a field that is known.
+fn push_value(alloc: Global, unit: &Unit, value: &Arg, out: &mut String) -> Result<(), AllocError>
+    requires { IsTrue (fact_keeps_rules (Known (argument value.now))) }
+{
     match value {
-        Arg::Ctrl(e) => push_form_of(&normal_form(alloc, &at, e), out),
-        Arg::Cond(c) => push_formula_of(&formula_of(alloc, &at, c), out),
+        Arg::Ctrl(e) => push_entry_form(alloc, unit, e, out),
+        Arg::Cond(c) => push_entry_formula(alloc, unit, c, out),
         Arg::Whole(_) => out.push_str("a buffer"),
         Arg::Window(_, _) => out.push_str("a window"),
     }

@@ -16,16 +16,24 @@ fn push_bytes(text: &Text, out: &mut String) -> Result<(), AllocError> {
     Ok(())
 }
 
+fn push_string(text: &Text, out: &mut String) -> Result<(), AllocError> {
+    out.push('\'')?;
+    push_bytes(text, out)?;
+    out.push('\'')
+}
+
+fn push_literal(literal: &Literal, out: &mut String) -> Result<(), AllocError> {
+    match literal {
+        Literal::Value(n) => write!(out, "{n}"),
+        Literal::TooLarge => out.push_str("large"),
+    }
+}
+
 fn push_token(token: &Token, out: &mut String) -> Result<(), AllocError> {
     match token {
         Token::Name(text) => push_bytes(text, out),
-        Token::Str(text) => {
-            out.push('\'')?;
-            push_bytes(text, out)?;
-            out.push('\'')
-        }
-        Token::Int(Literal::Value(n)) => write!(out, "{n}"),
-        Token::Int(Literal::TooLarge) => out.push_str("large"),
+        Token::Str(text) => push_string(text, out),
+        Token::Int(literal) => push_literal(literal, out),
         Token::Word(word) => write!(out, "[{word:?}]"),
         Token::Sign(sign) => write!(out, "{sign:?}"),
         Token::Decorator(decorator) => write!(out, "@{decorator:?}"),

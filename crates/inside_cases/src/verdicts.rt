@@ -69,7 +69,7 @@ impl Sides {
 }
 
 /// The sides in texts with semicolons between.
-fn sides(alloc: Global, texts: &str) -> Option<Sides> {
+fn read_sides(alloc: Global, texts: &str) -> Option<Sides> {
     let mut made = Sides {
         equations: Vec::new(alloc),
         rows: Vec::new(alloc),
@@ -87,7 +87,7 @@ fn system(alloc: Global, text: &str) -> Option<System> {
         return System::try_new(vars, Vec::new(alloc), Vec::new(alloc));
     };
     let vars = vars.parse::<u32>().ok()?;
-    let made = sides(alloc, texts)?;
+    let made = read_sides(alloc, texts)?;
     System::try_new(vars, made.equations, made.rows)
 }
 
