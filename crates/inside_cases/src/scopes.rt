@@ -45,7 +45,8 @@ pub fn push_meaning(
 ) -> Result<(), AllocError>
     requires { IsUnit (program unit.now) }
 {
-    let (Some(spot), string) = split(text) else {
+    let (spot, string) = split(text);
+    let Some(spot) = spot else {
         return out.push_str(UNCLEAR);
     };
     let Some(e) = expression(alloc, string) else {
@@ -62,7 +63,8 @@ pub fn push_meaning(
 pub fn push_flag(alloc: Global, unit: &Unit, text: &str, out: &mut String) -> Result<(), AllocError>
     requires { IsUnit (program unit.now) }
 {
-    let (Some(spot), string) = split(text) else {
+    let (spot, string) = split(text);
+    let Some(spot) = spot else {
         return out.push_str(UNCLEAR);
     };
     let Some(e) = expression(alloc, string) else {
@@ -79,7 +81,8 @@ pub fn push_flag(alloc: Global, unit: &Unit, text: &str, out: &mut String) -> Re
 pub fn push_view(alloc: Global, unit: &Unit, text: &str, out: &mut String) -> Result<(), AllocError>
     requires { IsUnit (program unit.now) }
 {
-    let (Some(spot), string) = split(text) else {
+    let (spot, string) = split(text);
+    let Some(spot) = spot else {
         return out.push_str(UNCLEAR);
     };
     if string.len() > 0x100000 {
