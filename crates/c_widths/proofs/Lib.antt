@@ -1,3 +1,6 @@
+pub mod Changes
+pub mod Tables
+pub mod Searching
 pub mod Growing
 pub mod Stack
 pub mod Whole
@@ -5,3 +8,5 @@ pub mod Strides
 pub mod Values
 pub mod Starts
 pub mod Runs
+pub mod Covered
+pub mod Same

@@ -1,5 +1,5 @@
 -- Runs in which no allocation passes 2 ^ 48 cells, those of callees among them.
-use Rattle.std.specs.Prelude.{◌≡◌, ◌≤ℤ◌, ◌^◌, ℕ, ℤ, pos, ◌==◌, Bool, true, false, List, [], ◌∷◌, ◌++◌, length, Option, Some, None, ⊤}
+use Rattle.std.specs.Prelude.{◌≡◌, ◌≤ℤ◌, ◌^◌, ℕ, pos, ◌==◌, Bool, true, false, List, [], ◌∷◌, ◌++◌, length, Option, Some, None, ⊤}
 use Rattle.exo_tree.specs.Tree.{Kind, Argument, Statement, Assign, Reduce, Config, Pass, If, For, Alloc, View, Call, Block, end, next, Procedure, Program}
 use Rattle.exo_meaning.specs.Scene.{numbers, holds}
 use Rattle.exo_meaning.specs.State.{State, on_scene, with_control}

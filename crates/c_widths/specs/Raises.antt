@@ -1,5 +1,5 @@
 -- How large the parameters of procedures can be, by what those that call them give, and which procedure is too wide by that.
-use Rattle.std.specs.Prelude.{◌≡◌, ◌≤◌, ◌<◌, ℕ, suc, ◌==◌, max, Bool, true, false, not, ◌&&◌, if◌then◌else◌, List, [], ◌∷◌, drop, Option, Some, None, slice_get, ⊤}
+use Rattle.std.specs.Prelude.{◌≡◌, ◌≤◌, ◌<◌, ℕ, suc, ◌==◌, max, Bool, true, false, not, ◌&&◌, if◌then◌else◌, List, [], ◌∷◌, drop, length, Option, Some, None, slice_get, ⊤}
 use Rattle.exo_tree.specs.Tree.{Argument, ControlArg, ConditionArg, Whole, Window, Statement, Assign, Reduce, Config, Pass, If, For, Alloc, View, Call, Block, end, next, Param, Procedure, MemoryKind, Program}
 use Rattle.exo_tree.specs.Calls.{calls}
 use Rattle.c_widths.specs.Magnitude.{magnitude}
@@ -82,6 +82,14 @@ widest_from program printed counted k (p ∷ ps) = or_own (widest_from program p
 
 abbrev pub widest : Program → (ℕ → Bool) → (ℕ → Bool) → Option ℕ
 widest program printed counted = widest_from program printed counted 0 program.procedures
+
+-- which numbers are printed and counted matters for the procedures of the unit alone
+abbrev pub WidestIsOfTheUnit : Type 0
+WidestIsOfTheUnit =
+    (program : Program) (p q c d : ℕ → Bool)
+    → ((k : ℕ) → k < length program.procedures → p k ≡ q k)
+    → ((k : ℕ) → k < length program.procedures → c k ≡ d k)
+    → widest program p c ≡ widest program q d
 
 -- ---- what is given is covered
 

@@ -1,14 +1,15 @@
-//! Whether the control expressions of an expression, a condition or an argument fit.
-ghost use Rattle.std.specs.Prelude.{◌≡◌, ◌^◌, ◌&&◌, map, nat_le};
+//! Whether the control expressions of an expression, a condition or an argument fit, and what an argument gives.
+ghost use Rattle.std.specs.Prelude.{◌≡◌, ◌^◌, ◌&&◌, map, nat_le, is_some, IfSome};
 ghost use Rattle.exo_tree.specs.PlainControl.{control, condition, coordinate};
 ghost use Rattle.exo_tree.specs.PlainDatum.{datum};
 ghost use Rattle.exo_tree.specs.PlainArgument.{argument};
 ghost use Rattle.c_widths.specs.Magnitude as magnitudes;
 ghost use Rattle.c_widths.specs.Widths as widths;
+ghost use Rattle.c_widths.specs.Raises as raises;
 ghost use Rattle.c_widths.specs.Bounds.{most_in};
 
 use crate::magnitudes::{Bound, FIELD_LIMIT, magnitude};
-use exo_tree::{Arg, Args, Cond, Conds, Coord, Coords, Ctrl, DataExpr, Indices};
+use exo_tree::{Arg, Cond, Conds, Coord, Coords, Ctrl, DataExpr, Indices};
 
 /// Whether each expression fits.
 pub(crate) fn are_narrow(bounds: &[Bound], es: &Indices) -> bool
@@ -97,28 +98,18 @@ pub(crate) fn are_narrow_coords(bounds: &[Bound], cs: &Coords) -> bool
     true
 }
 
-/// Whether the expressions of an argument fit.
-fn is_narrow_argument(bounds: &[Bound], a: &Arg) -> bool
-    ensures { result ≡ widths.is_narrow_argument (most_in bounds.now) (argument a.now) }
+/// How much an argument gives to a control parameter: 1 for a condition, 0 for a buffer. None exactly where an
+/// expression of the argument does not fit.
+pub(crate) fn argument_magnitude(bounds: &[Bound], a: &Arg) -> Option<u64>
+    ensures there { is_some result ≡ widths.is_narrow_argument (most_in bounds.now) (argument a.now) }
+    ensures value { IfSome result (λ n. n ≡ raises.argument_magnitude (most_in bounds.now) (argument a.now)) }
 {
     match a {
-        Arg::Ctrl(e) => magnitude(bounds, e).is_some(),
-        Arg::Cond(c) => is_narrow_test(bounds, c),
-        Arg::Whole(_) => true,
-        Arg::Window(_, cs) => are_narrow_coords(bounds, cs),
+        Arg::Ctrl(e) => magnitude(bounds, e),
+        Arg::Cond(c) => is_narrow_test(bounds, c).then_some(1),
+        Arg::Whole(_) => Some(0),
+        Arg::Window(_, cs) => are_narrow_coords(bounds, cs).then_some(0),
     }
-}
-
-/// Whether the expressions of all arguments fit.
-pub(crate) fn are_narrow_arguments(bounds: &[Bound], args: &Args) -> bool
-    ensures { result ≡ widths.are_narrow_arguments (most_in bounds.now) args.now }
-{
-    for a in args.as_slice() {
-        if !is_narrow_argument(bounds, a) {
-            return false;
-        }
-    }
-    true
 }
 
 /// Whether an expression fits, and is at most what a field can be.

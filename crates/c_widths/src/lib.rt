@@ -2,10 +2,13 @@
 #![tactic(auto)]
 
 mod expressions;
+mod given;
 pub mod laws;
 mod magnitudes;
 mod procedures;
 mod statements;
+mod units;
 
 pub use magnitudes::{Bound, magnitude};
 pub use procedures::is_narrow;
+pub use units::widest;

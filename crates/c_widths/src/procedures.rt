@@ -1,14 +1,17 @@
-//! Whether the control expressions of a procedure fit.
-ghost use Rattle.std.specs.Prelude.{◌≡◌, map, IfOk};
+//! Whether the control expressions of a procedure fit, and what its calls give.
+ghost use Rattle.std.specs.Prelude.{◌≡◌, true, map, get_or, IfOk};
 ghost use Rattle.exo_tree.specs.PlainParam.{parameter, parameter_kind};
 ghost use Rattle.exo_tree.specs.PlainProcedure.{procedure};
 ghost use Rattle.exo_tree.specs.PlainBinder.{control_kind};
-ghost use Rattle.c_widths.specs.Widths.{most_of_kind, most_of_param, most_of, has_narrow_dims, have_narrow_dims, is_narrow_procedure};
+ghost use Rattle.c_widths.specs.Widths.{most_of_kind, most_of_param, has_narrow_dims, have_narrow_dims, is_narrow_procedure};
+ghost use Rattle.c_widths.specs.Raises.{most_from, raised, is_narrow_by};
+ghost use Rattle.c_widths.specs.Given.{given_in, IsChanged};
 ghost use Rattle.c_widths.specs.Bounds.{most_in};
 
 use crate::expressions::{are_narrow, are_narrow_tests};
+use crate::given::Given;
 use crate::magnitudes::{Bound, FIELD_LIMIT};
-use crate::statements::is_narrow_block;
+use crate::statements::fits_block;
 use exo_tree::{Kind, Memories, Param, ParamKind, Params, Proc};
 use std::alloc::{AllocError, Global};
 
@@ -32,15 +35,25 @@ fn most_of_param(kind: &ParamKind) -> u64
     }
 }
 
-/// The bounds of parameters.
-fn bounds_of(alloc: Global, params: &[Param]) -> Result<Vec<Bound>, AllocError>
-    ensures { IfOk result (λ v. most_in v.items ≡ most_of (map parameter params.now)) }
+/// The most that is given at that place.
+fn given_at(given: &[u64], i: usize) -> u64
+    ensures { result ≡ get_or given.now i 0 }
+{
+    match given.get(i) {
+        Some(most) => *most,
+        None => 0,
+    }
+}
+
+/// The bounds of parameters, by what calls give them.
+fn bounds_of(alloc: Global, params: &[Param], given: &[u64]) -> Result<Vec<Bound>, AllocError>
+    ensures { IfOk result (λ v. most_in v.items ≡ most_from (map parameter params.now) (λ i. get_or given.now i 0)) }
 {
     let mut bounds = Vec::new(alloc);
-    for p in params {
+    for (i, p) in params.iter().enumerate() {
         bounds.push(Bound {
             id: p.binder.id,
-            most: most_of_param(&p.kind),
+            most: most_of_param(&p.kind).max(given_at(given, i)),
         })?;
     }
     Ok(bounds)
@@ -68,15 +81,30 @@ fn have_narrow_dims(bounds: &[Bound], params: &Params) -> bool
     true
 }
 
+/// Whether the expressions of the procedure of that number fit, by what calls give it. Then what its own calls give is noted.
+pub(crate) fn fits_procedure(
+    alloc: Global,
+    memories: &Memories,
+    k: usize,
+    p: &Proc,
+    given: &mut Given,
+) -> Result<bool, AllocError>
+    ensures narrow { IfOk result (λ t. t ≡ is_narrow_by memories.now (most_from p.now.params (given_in given.old k)) (procedure p.now)) }
+    ensures given { IfOk result (λ t. t ≡ true → IsChanged (raised (most_from p.now.params (given_in given.old k)) (procedure p.now).body) given.old given.new) }
+{
+    let bounds = bounds_of(alloc, p.params.as_slice(), given.to(k))?;
+    if !have_narrow_dims(&bounds, &p.params) || !are_narrow_tests(&bounds, &p.asserts) {
+        return Ok(false);
+    }
+    fits_block(alloc, memories, &bounds, &p.body, given)
+}
+
 /// Whether no magnitude in a procedure's own tree passes its bound: 2^62 for each control expression with its parts and for the
 /// number of cells of an allocation on the stack, 2^48 for what a configuration field is set to.
 /// A parameter is at most 2^31 - 1, and a stride, a field and a parameter of kind stride at most 2^48.
 pub fn is_narrow(alloc: Global, memories: &Memories, p: &Proc) -> Result<bool, AllocError>
     ensures { IfOk result (λ t. t ≡ is_narrow_procedure memories.now (procedure p.now)) }
 {
-    let bounds = bounds_of(alloc, p.params.as_slice())?;
-    if !have_narrow_dims(&bounds, &p.params) || !are_narrow_tests(&bounds, &p.asserts) {
-        return Ok(false);
-    }
-    is_narrow_block(alloc, memories, &bounds, &p.body)
+    let mut given = Given::new(alloc);
+    fits_procedure(alloc, memories, 0, p, &mut given)
 }

@@ -1,19 +1,22 @@
-//! Whether the control expressions of statements fit.
-ghost use Rattle.std.specs.Prelude.{◌≡◌, ◌∷◌, ◌&&◌, map, IfOk, slice_get};
+//! Whether the control expressions of statements fit, and what their calls give.
+ghost use Rattle.std.specs.Prelude.{◌≡◌, ◌∷◌, ◌&&◌, true, map, IfOk, slice_get};
 ghost use Rattle.exo_tree.specs.Tree.{For, block};
 ghost use Rattle.exo_tree.specs.PlainBinder.{binding};
 ghost use Rattle.exo_tree.specs.PlainControl.{control};
 ghost use Rattle.exo_tree.specs.PlainDatum.{datum};
 ghost use Rattle.exo_tree.specs.PlainStatement.{statement};
-ghost use Rattle.c_widths.specs.Widths.{are_narrow, is_narrow_datum, own_dims, fits_cells, fits_stack, is_narrow_block, is_narrow_statement};
+ghost use Rattle.c_widths.specs.Widths.{are_narrow, is_narrow_datum, are_narrow_arguments, own_dims, fits_cells, fits_stack, is_narrow_block, is_narrow_statement};
+ghost use Rattle.c_widths.specs.Raises.{raised_by, raised, step_raised};
+ghost use Rattle.c_widths.specs.Given.{IsChanged};
 ghost use Rattle.c_widths.specs.Bounds.{most_in};
 
 use crate::expressions::{
-    are_narrow, are_narrow_arguments, are_narrow_coords, is_narrow_datum, is_narrow_setting,
+    are_narrow, are_narrow_coords, argument_magnitude, is_narrow_datum, is_narrow_setting,
     is_narrow_test,
 };
+use crate::given::Given;
 use crate::magnitudes::{Bound, magnitude, product};
-use exo_tree::{Binder, Block, Ctrl, DataExpr, Indices, MemId, Memories, Stmt};
+use exo_tree::{Args, Binder, Block, Ctrl, DataExpr, Indices, MemId, Memories, ProcId, Stmt};
 use std::alloc::{AllocError, Global};
 
 /// Whether the dimensions fit, and the number of their cells.
@@ -71,9 +74,23 @@ fn with_bound(alloc: Global, b: Bound, bounds: &[Bound]) -> Result<Vec<Bound>, A
     Ok(all)
 }
 
-/// Whether the expressions of a loop and of its body fit.
+/// Whether the arguments of a call fit. Then what they give is noted.
+fn fits_call(bounds: &[Bound], p: ProcId, args: &Args, given: &mut Given) -> bool
+    ensures narrow { result ≡ are_narrow_arguments (most_in bounds.now) args.now }
+    ensures given { result ≡ true → IsChanged (raised_by (most_in bounds.now) p.0 0 args.now) given.old given.new }
+{
+    for (i, a) in args.as_slice().iter().enumerate() {
+        let Some(m) = argument_magnitude(bounds, a) else {
+            return false;
+        };
+        given.raise(p, i, m);
+    }
+    true
+}
+
+/// The same of a loop and its body.
 #[cycle(narrow)]
-fn is_narrow_loop(
+fn fits_loop(
     alloc: Global,
     memories: &Memories,
     bounds: &[Bound],
@@ -81,8 +98,10 @@ fn is_narrow_loop(
     lo: &Ctrl,
     hi: &Ctrl,
     body: &Block,
+    given: &mut Given,
 ) -> Result<bool, AllocError>
-    ensures { IfOk result (λ t. t ≡ is_narrow_statement memories.now (most_in bounds.now) (For (binding i.now) (control lo.now) (control hi.now) (block body.now))) }
+    ensures narrow { IfOk result (λ t. t ≡ is_narrow_statement memories.now (most_in bounds.now) (For (binding i.now) (control lo.now) (control hi.now) (block body.now))) }
+    ensures given { IfOk result (λ t. t ≡ true → IsChanged (step_raised (most_in bounds.now) (For (binding i.now) (control lo.now) (control hi.now) (block body.now))) given.old given.new) }
 {
     let (Some(low), Some(high)) = (magnitude(bounds, lo), magnitude(bounds, hi)) else {
         return Ok(false);
@@ -95,50 +114,73 @@ fn is_narrow_loop(
         },
         bounds,
     )?;
-    is_narrow_block(alloc, memories, &inner, body)
+    fits_block(alloc, memories, &inner, body, given)
 }
 
-/// Whether the expressions of a statement fit.
+/// The same of both branches of a condition.
 #[cycle(narrow)]
-fn is_narrow_statement(
+fn fits_branches(
+    alloc: Global,
+    memories: &Memories,
+    bounds: &[Bound],
+    a: &Block,
+    b: &Block,
+    given: &mut Given,
+) -> Result<bool, AllocError>
+    ensures narrow { IfOk result (λ t. t ≡ (is_narrow_block memories.now (most_in bounds.now) (block a.now) && is_narrow_block memories.now (most_in bounds.now) (block b.now))) }
+    ensures given { IfOk result (λ t. t ≡ true → IsChanged (λ old. raised (most_in bounds.now) (block b.now) (raised (most_in bounds.now) (block a.now) old)) given.old given.new) }
+{
+    if !fits_block(alloc, memories, bounds, a, given)? {
+        return Ok(false);
+    }
+    fits_block(alloc, memories, bounds, b, given)
+}
+
+/// The same of a statement.
+#[cycle(narrow)]
+fn fits_statement(
     alloc: Global,
     memories: &Memories,
     bounds: &[Bound],
     s: &Stmt,
+    given: &mut Given,
 ) -> Result<bool, AllocError>
-    ensures { IfOk result (λ t. t ≡ is_narrow_statement memories.now (most_in bounds.now) (statement s.now)) }
+    ensures narrow { IfOk result (λ t. t ≡ is_narrow_statement memories.now (most_in bounds.now) (statement s.now)) }
+    ensures given { IfOk result (λ t. t ≡ true → IsChanged (step_raised (most_in bounds.now) (statement s.now)) given.old given.new) }
 {
     match s {
         Stmt::Assign(_, is, e) | Stmt::Reduce(_, is, e) => Ok(is_narrow_store(bounds, is, e)),
         Stmt::Config(_, a) => Ok(is_narrow_setting(bounds, a)),
         Stmt::Pass => Ok(true),
         Stmt::If(c, a, b) => {
-            if !is_narrow_test(bounds, c) || !is_narrow_block(alloc, memories, bounds, a)? {
+            if !is_narrow_test(bounds, c) {
                 return Ok(false);
             }
-            is_narrow_block(alloc, memories, bounds, b)
+            fits_branches(alloc, memories, bounds, a, b, given)
         }
-        Stmt::For(i, lo, hi, body) => is_narrow_loop(alloc, memories, bounds, i, lo, hi, body),
+        Stmt::For(i, lo, hi, body) => fits_loop(alloc, memories, bounds, i, lo, hi, body, given),
         Stmt::Alloc(_, _, dims, memory) => {
             Ok(are_narrow(bounds, dims) && fits_stack(memories, bounds, *memory, dims))
         }
         Stmt::View(_, _, cs) => Ok(are_narrow_coords(bounds, cs)),
-        Stmt::Call(_, args) => Ok(are_narrow_arguments(bounds, args)),
+        Stmt::Call(p, args) => Ok(fits_call(bounds, *p, args, given)),
     }
 }
 
-/// Whether the expressions of a block fit.
+/// Whether the expressions of a block fit. Then what its calls give is noted.
 #[cycle(narrow)]
-pub(crate) fn is_narrow_block(
+pub(crate) fn fits_block(
     alloc: Global,
     memories: &Memories,
     bounds: &[Bound],
     b: &Block,
+    given: &mut Given,
 ) -> Result<bool, AllocError>
-    ensures { IfOk result (λ t. t ≡ is_narrow_block memories.now (most_in bounds.now) (block b.now)) }
+    ensures narrow { IfOk result (λ t. t ≡ is_narrow_block memories.now (most_in bounds.now) (block b.now)) }
+    ensures given { IfOk result (λ t. t ≡ true → IsChanged (raised (most_in bounds.now) (block b.now)) given.old given.new) }
 {
     for k in 0..b.len() {
-        if !is_narrow_statement(alloc, memories, bounds, b.statement(k))? {
+        if !fits_statement(alloc, memories, bounds, b.statement(k), given)? {
             return Ok(false);
         }
     }

@@ -1,4 +1,12 @@
-pub mod Changes
-pub mod Units
+pub mod Truths
+pub mod Listed
+pub mod Ways
+pub mod Loops
+pub mod Statements
+pub mod Branches
 pub mod Openings
+pub mod Units
+pub mod Answer
+pub mod Calls
 pub mod Examples
+pub mod Since

@@ -1,6 +1,7 @@
 -- The table of a unit, procedure by procedure.
 use Rattle.std.proofs.Common.{◌≡◌, ◌<◌, ℕ, zero, suc, Bool, false, ◌&&◌, ◌||◌, List, [], ◌∷◌, ◌++◌}
 use Rattle.std.proofs.Common.{refl, sym, ap, ap₂, ◌∙◌, subst}
+use Rattle.std.specs.Prelude.{Some, None, slice_get}
 use Rattle.exo_tree.specs.Tree.{Statement, Assign, Reduce, Config, Pass, If, For, Alloc, View, Call}
 use Rattle.exo_tree.specs.Tree.{Block, end, next, Procedure}
 use Rattle.exo_tree.specs.Context.{Context, Here, After, InLoop, InThen, InElse, fill}
@@ -8,10 +9,11 @@ use Rattle.meaning_laws.specs.Live.{live, live_step, live_behind, read_by_contro
 use Rattle.meaning_laws.specs.Live.{read_by_arguments}
 use Rattle.meaning_laws.specs.UnitFields.{live_at, live_before, all_live, unit_live, written_at}
 use Rattle.meaning_laws.specs.UnitFields.{read_by_params, read_by_conditions}
-use Rattle.config_state.specs.FieldSets.{contains, in_table}
+use Rattle.config_laws.specs.FieldRule.{is_listed}
 use Rattle.config_laws.specs.Surely.{surely_writes, step_surely_writes, surely_by, all_surely, unit_surely}
 use Rattle.config_laws.specs.Exits.{by_exit}
 use Rattle.config_laws.proofs.Exits.{units_go_by_exit}
+use Rattle.config_live.specs.declared.table.CallFields.{CallFields}
 
 -- ---- where the callees say the same of the field
 
@@ -83,64 +85,73 @@ surely_one_more : (ws : List (ℕ → Bool)) (ps : List Procedure) (p : Procedur
 surely_one_more ws [] p = refl
 surely_one_more ws (q ∷ ps) p = surely_one_more (ws ++ surely_by (written_at ws) q ∷ []) ps p
 
--- ---- tables beside lists of tests
+-- ---- entries beside lists of tests
 
--- each set has of so many fields those that pass the test beside it
-abbrev Fits : {A : Type 0} → (A → ℕ → Bool) → ℕ → List (List Bool) → List A → Type 0
-Fits says n [] [] = Unit {0}
-Fits says n [] (w ∷ ws) = ⊥
-Fits says n (s ∷ ss) [] = ⊥
-Fits says n (s ∷ ss) (w ∷ ws) = ((f : ℕ) → f < n → contains s f ≡ says w f) × Fits says n ss ws
+abbrev first_in : List CallFields → ℕ → ℕ → Bool
+first_in cs k f = elim (slice_get cs k) [ None ↦ false | Some c ↦ is_listed f c.read_first ]
 
-fits_more : {A : Type 0} (says : A → ℕ → Bool) (n : ℕ) (ss : List (List Bool)) (ws : List A)
-    (s : List Bool) (w : A) → Fits says n ss ws → ((f : ℕ) → f < n → contains s f ≡ says w f)
-    → Fits says n (ss ++ s ∷ []) (ws ++ w ∷ [])
-fits_more says n [] [] s w h k = (k, tt)
-fits_more says n [] (v ∷ ws) s w h k = absurd h
-fits_more says n (r ∷ ss) [] s w h k = absurd h
-fits_more says n (r ∷ ss) (v ∷ ws) s w h k = (h.0, fits_more says n ss ws s w h.1 k)
+abbrev sure_in : List CallFields → ℕ → ℕ → Bool
+sure_in cs k f = elim (slice_get cs k) [ None ↦ false | Some c ↦ is_listed f c.surely_written ]
 
-abbrev at_false : (ℕ → Bool → Bool) → ℕ → Bool
-at_false l f = l f false
+-- an entry has of so many fields those that pass its tests
+abbrev One : ℕ → CallFields → (ℕ → Bool → Bool) → (ℕ → Bool) → Type 0
+One n c l w =
+    ((f : ℕ) → f < n → is_listed f c.read_first ≡ l f false)
+    × ((f : ℕ) → f < n → is_listed f c.surely_written ≡ w f)
 
-abbrev itself : (ℕ → Bool) → ℕ → Bool
-itself w f = w f
+abbrev Fits : ℕ → List CallFields → List (ℕ → Bool → Bool) → List (ℕ → Bool) → Type 0
+Fits n [] [] [] = Unit {0}
+Fits n (c ∷ cs) (l ∷ ls) (w ∷ ws) = One n c l w × Fits n cs ls ws
+Fits n cs ls ws = ⊥
 
-live_fits : (n : ℕ) (ss : List (List Bool)) (ls : List (ℕ → Bool → Bool)) → Fits at_false n ss ls
-    → (k f : ℕ) → f < n → in_table ss k f ≡ live_at ls k f false
-live_fits n [] [] h zero f l = refl
-live_fits n [] [] h (suc k) f l = refl
-live_fits n [] (w ∷ ws) h k f l = absurd h
-live_fits n (s ∷ ss) [] h k f l = absurd h
-live_fits n (s ∷ ss) (w ∷ ws) h zero f l = h.0 f l
-live_fits n (s ∷ ss) (w ∷ ws) h (suc k) f l = live_fits n ss ws h.1 k f l
+fits_more : (n : ℕ) (cs : List CallFields) (ls : List (ℕ → Bool → Bool)) (ws : List (ℕ → Bool))
+    (c : CallFields) (l : ℕ → Bool → Bool) (w : ℕ → Bool)
+    → Fits n cs ls ws → One n c l w → Fits n (cs ++ c ∷ []) (ls ++ l ∷ []) (ws ++ w ∷ [])
+fits_more n [] [] [] c l w h o = (o, tt)
+fits_more n (d ∷ cs) (m ∷ ls) (v ∷ ws) c l w h o = (h.0, fits_more n cs ls ws c l w h.1 o)
+fits_more n [] [] (v ∷ ws) c l w h o = absurd h
+fits_more n [] (m ∷ ls) ws c l w h o = absurd h
+fits_more n (d ∷ cs) [] ws c l w h o = absurd h
+fits_more n (d ∷ cs) (m ∷ ls) [] c l w h o = absurd h
 
-surely_fits : (n : ℕ) (ss : List (List Bool)) (ws : List (ℕ → Bool)) → Fits itself n ss ws
-    → (k f : ℕ) → f < n → in_table ss k f ≡ written_at ws k f
-surely_fits n [] [] h zero f l = refl
-surely_fits n [] [] h (suc k) f l = refl
-surely_fits n [] (w ∷ ws) h k f l = absurd h
-surely_fits n (s ∷ ss) [] h k f l = absurd h
-surely_fits n (s ∷ ss) (w ∷ ws) h zero f l = h.0 f l
-surely_fits n (s ∷ ss) (w ∷ ws) h (suc k) f l = surely_fits n ss ws h.1 k f l
+reads_fit : (n : ℕ) (cs : List CallFields) (ls : List (ℕ → Bool → Bool)) (ws : List (ℕ → Bool))
+    → Fits n cs ls ws → (k f : ℕ) → f < n → first_in cs k f ≡ live_at ls k f false
+reads_fit n [] [] [] h zero f l = refl
+reads_fit n [] [] [] h (suc k) f l = refl
+reads_fit n (c ∷ cs) (m ∷ ls) (w ∷ ws) h zero f l = h.0.0 f l
+reads_fit n (c ∷ cs) (m ∷ ls) (w ∷ ws) h (suc k) f l = reads_fit n cs ls ws h.1 k f l
+reads_fit n [] [] (w ∷ ws) h k f l = absurd h
+reads_fit n [] (m ∷ ls) ws h k f l = absurd h
+reads_fit n (c ∷ cs) [] ws h k f l = absurd h
+reads_fit n (c ∷ cs) (m ∷ ls) [] h k f l = absurd h
+
+writes_fit : (n : ℕ) (cs : List CallFields) (ls : List (ℕ → Bool → Bool)) (ws : List (ℕ → Bool))
+    → Fits n cs ls ws → (k f : ℕ) → f < n → sure_in cs k f ≡ written_at ws k f
+writes_fit n [] [] [] h zero f l = refl
+writes_fit n [] [] [] h (suc k) f l = refl
+writes_fit n (c ∷ cs) (m ∷ ls) (w ∷ ws) h zero f l = h.0.1 f l
+writes_fit n (c ∷ cs) (m ∷ ls) (w ∷ ws) h (suc k) f l = writes_fit n cs ls ws h.1 k f l
+writes_fit n [] [] (w ∷ ws) h k f l = absurd h
+writes_fit n [] (m ∷ ls) ws h k f l = absurd h
+writes_fit n (c ∷ cs) [] ws h k f l = absurd h
+writes_fit n (c ∷ cs) (m ∷ ls) [] h k f l = absurd h
 
 -- ---- the table so far
 
-pub record SoFar (n : ℕ) (read sure : List (List Bool)) (rest all : List Procedure) : Type 0 where
+pub record SoFar (n : ℕ) (calls : List CallFields) (rest all : List Procedure) : Type 0 where
   pub done : List Procedure
   pub whole : done ++ rest ≡ all
-  pub reads : Fits at_false n read (all_live [] done)
-  pub writes : Fits itself n sure (all_surely [] done)
+  pub fits : Fits n calls (all_live [] done) (all_surely [] done)
 
-pub start : (n : ℕ) (all : List Procedure) → SoFar n [] [] all all
-start n all = record { done = []; whole = refl; reads = tt; writes = tt }
+pub start : (n : ℕ) (all : List Procedure) → SoFar n [] all all
+start n all = record { done = []; whole = refl; fits = tt }
 
 -- calls go by what is live and surely written where no field is live at the end
-pub by_table : (ps : List Procedure) (n : ℕ) (read sure : List (List Bool))
-    → ((k f : ℕ) → f < n → in_table read k f ≡ unit_live ps k f false)
-    → ((k f : ℕ) → f < n → in_table sure k f ≡ unit_surely ps k f)
+pub by_table : (ps : List Procedure) (n : ℕ) (read sure : ℕ → ℕ → Bool)
+    → ((k f : ℕ) → f < n → read k f ≡ unit_live ps k f false)
+    → ((k f : ℕ) → f < n → sure k f ≡ unit_surely ps k f)
     → (k f : ℕ) (out : Bool) → f < n
-    → by_exit (in_table read k f) (in_table sure k f) out ≡ unit_live ps k f out
+    → by_exit (read k f) (sure k f) out ≡ unit_live ps k f out
 by_table ps n read sure r w k f out l =
     ap₂ (λ x y. by_exit x y out) (r k f l) (w k f l) ∙ sym (units_go_by_exit ps k f out)
 
@@ -149,47 +160,49 @@ append_one : (done : List Procedure) (p : Procedure) (rest : List Procedure)
 append_one [] p rest = refl
 append_one (d ∷ done) p rest = ap (λ z. d ∷ z) (append_one done p rest)
 
-pub step_on : (n : ℕ) (read sure : List (List Bool)) (p : Procedure) (rest all : List Procedure)
-    (r w : List Bool)
-    → ((f : ℕ) → f < n → contains r f ≡ live_before (λ k f out. by_exit (in_table read k f) (in_table sure k f) out) p f false)
-    → ((f : ℕ) → f < n → contains w f ≡ surely_by (in_table sure) p f)
-    → SoFar n read sure (p ∷ rest) all
-    → SoFar n (read ++ r ∷ []) (sure ++ w ∷ []) rest all
-step_on n read sure p rest all r w hr hw so =
-    let calls = λ (k f : ℕ) (out : Bool). by_exit (in_table read k f) (in_table sure k f) out in
-    let known = live_fits n read (all_live [] so.done) so.reads in
-    let wrote = surely_fits n sure (all_surely [] so.done) so.writes in
+-- by what an entry is made from
+pub step_on : (n : ℕ) (calls : List CallFields) (p : Procedure) (rest all : List Procedure) (c : CallFields)
+    → ((f : ℕ) → f < n
+    → is_listed f c.read_first
+    ≡ live_before (λ k f out. by_exit (first_in calls k f) (sure_in calls k f) out) p f false)
+    → ((f : ℕ) → f < n → is_listed f c.surely_written ≡ surely_by (sure_in calls) p f)
+    → SoFar n calls (p ∷ rest) all
+    → SoFar n (calls ++ c ∷ []) rest all
+step_on n calls p rest all c hr hw so =
+    let by_sets = λ (k f : ℕ) (out : Bool). by_exit (first_in calls k f) (sure_in calls k f) out in
+    let known = reads_fit n calls (all_live [] so.done) (all_surely [] so.done) so.fits in
+    let wrote = writes_fit n calls (all_live [] so.done) (all_surely [] so.done) so.fits in
+    let reads : (f : ℕ) → f < n → is_listed f c.read_first ≡ live_before (unit_live so.done) p f false =
+    λ f l. hr f l ∙ before_same by_sets (unit_live so.done) f
+    (λ k out. by_table so.done n (first_in calls) (sure_in calls) known wrote k f out l) p false in
+    let writes : (f : ℕ) → f < n → is_listed f c.surely_written ≡ surely_by (unit_surely so.done) p f =
+    λ f l. hw f l ∙ surely_same (sure_in calls) (unit_surely so.done) f (λ k. wrote k f l) p.body in
     record {
       done = so.done ++ p ∷ [];
       whole = append_one so.done p rest ∙ so.whole;
-      reads =
-          subst (Fits at_false n (read ++ r ∷ [])) (sym (live_one_more [] so.done p))
-          (fits_more at_false n read (all_live [] so.done) r (live_before (unit_live so.done) p)
-          so.reads
-          (λ f l. hr f l ∙ before_same calls (unit_live so.done) f
-          (λ k out. by_table so.done n read sure known wrote k f out l) p false));
-      writes =
-          subst (Fits itself n (sure ++ w ∷ [])) (sym (surely_one_more [] so.done p))
-          (fits_more itself n sure (all_surely [] so.done) w (surely_by (unit_surely so.done) p)
-          so.writes
-          (λ f l. hw f l ∙ surely_same (in_table sure) (unit_surely so.done) f
-          (λ k. wrote k f l) p.body));
+      fits =
+          subst (λ z. Fits n (calls ++ c ∷ []) z (all_surely [] (so.done ++ p ∷ [])))
+          (sym (live_one_more [] so.done p))
+          (subst (λ z. Fits n (calls ++ c ∷ []) (all_live [] so.done ++ live_before (unit_live so.done) p ∷ []) z)
+          (sym (surely_one_more [] so.done p))
+          (fits_more n calls (all_live [] so.done) (all_surely [] so.done) c
+          (live_before (unit_live so.done) p) (surely_by (unit_surely so.done) p) so.fits (reads, writes)));
     }
 
 append_none : (done : List Procedure) → done ++ [] ≡ done
 append_none [] = refl
 append_none (d ∷ done) = ap (λ z. d ∷ z) (append_none done)
 
-pub all_read : (n : ℕ) (read sure : List (List Bool)) (all : List Procedure)
-    → SoFar n read sure [] all
-    → (k f : ℕ) → f < n → in_table read k f ≡ unit_live all k f false
-all_read n read sure all so k f l =
-    live_fits n read (all_live [] so.done) so.reads k f l
+pub all_read : (n : ℕ) (calls : List CallFields) (all : List Procedure)
+    → SoFar n calls [] all
+    → (k f : ℕ) → f < n → first_in calls k f ≡ unit_live all k f false
+all_read n calls all so k f l =
+    reads_fit n calls (all_live [] so.done) (all_surely [] so.done) so.fits k f l
     ∙ ap (λ ps. unit_live ps k f false) (sym (append_none so.done) ∙ so.whole)
 
-pub all_written : (n : ℕ) (read sure : List (List Bool)) (all : List Procedure)
-    → SoFar n read sure [] all
-    → (k f : ℕ) → f < n → in_table sure k f ≡ unit_surely all k f
-all_written n read sure all so k f l =
-    surely_fits n sure (all_surely [] so.done) so.writes k f l
+pub all_written : (n : ℕ) (calls : List CallFields) (all : List Procedure)
+    → SoFar n calls [] all
+    → (k f : ℕ) → f < n → sure_in calls k f ≡ unit_surely all k f
+all_written n calls all so k f l =
+    writes_fit n calls (all_live [] so.done) (all_surely [] so.done) so.fits k f l
     ∙ ap (λ ps. unit_surely ps k f) (sym (append_none so.done) ∙ so.whole)

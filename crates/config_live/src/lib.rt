@@ -1,11 +1,16 @@
 //! The configuration fields that are live at a place: those that may be read from there on before
-//! they are surely written.
+//! they are surely written; and those in which a version may differ from one that it was made from.
 #![tactic(auto)]
 
+mod fields;
+mod named;
+mod origins;
 mod place;
-mod surely;
 mod table;
 mod walk;
+mod way;
 
+pub use fields::FieldList;
+pub use origins::{Origin, differing};
 pub use place::{Side, live};
-pub use table::LiveTable;
+pub use table::{CallFields, LiveTable};

@@ -1,18 +1,19 @@
 //! The fields that are live at a place.
-ghost use Rattle.std.specs.Prelude.{◌≡◌, ◌∷◌, [], IfOk, OnOk, map};
+ghost use Rattle.std.specs.Prelude.{◌≡◌, ◌<◌, ◌∷◌, [], IfOk, OnOk, length, map};
 ghost use Rattle.exo_tree.specs.Tree.{block};
 ghost use Rattle.exo_tree.specs.Places.{opened_in};
 ghost use Rattle.exo_tree.specs.PlainPlace.{step_taken};
 ghost use Rattle.exo_tree.specs.PlainStatement.{statement};
 ghost use Rattle.exo_tree.specs.PlainUnit.{program};
-ghost use Rattle.config_state.specs.FieldSets.{Marked};
 ghost use Rattle.config_laws.specs.FieldRule.{gap};
 ghost use Rattle.config_live.specs.Tables.{calls_in, IsLiveTable};
-ghost use Rattle.config_live.specs.Places.{side_taken, index_beside, live_in, live_in_next_turn, Reaches};
+ghost use Rattle.config_live.specs.Ways.{nothing, Went};
+ghost use Rattle.config_live.specs.Places.{side_taken, index_beside, live_in, live_in_next_turn, place_in, Leaves, Reaches, Arrives};
 
+use crate::fields::FieldList;
 use crate::table::LiveTable;
-use crate::walk::{add_turn, live_before};
-use config_state::FieldSet;
+use crate::walk::{go, turn};
+use crate::way::Way;
 use exo_tree::{Block, Branch, FieldId, Path, ProcId, Step, Stmt, Unit};
 use std::alloc::{AllocError, Global};
 
@@ -34,43 +35,57 @@ fn index_beside(step: Step, side: Side) -> usize
     }
 }
 
-/// Makes of the fields that are live behind a block those that are live beside the statement of a
-/// step; false exactly where it is not there.
+/// Goes on from beside the statement of a step to the end of its block; false exactly where it is
+/// not there.
 fn reach_last(
     alloc: Global,
     b: &Block,
     step: Step,
     side: Side,
     table: &LiveTable,
-    fields: &mut FieldSet,
+    way: &mut Way,
+    added: &mut FieldList,
 ) -> Result<bool, AllocError>
-    ensures { IfOk result (λ found. Reaches (calls_in table.now) (opened_in 0 (gap (step_taken step ∷ []) (side_taken side)) (block b.now)) found fields.old fields.new) }
+    ensures { IfOk result (λ found. Reaches table.now (opened_in 0 (gap (step_taken step ∷ []) (side_taken side)) (block b.now)) found way.old way.new added.old added.new) }
 {
     let from = index_beside(step, side);
     if from > b.len() {
         return Ok(false);
     }
-    live_before(alloc, b, from, table, fields)?;
+    go(alloc, b, from, table, way, added)?;
     Ok(true)
 }
 
-/// Adds the fields that the next turn of a loop may read before it surely writes them; no other
-/// statement has turns.
-fn add_next_turn(
-    alloc: Global,
-    s: &Stmt,
-    table: &LiveTable,
-    fields: &mut FieldSet,
-) -> Result<(), AllocError>
-    ensures { OnOk result (Marked (λ f. live_in_next_turn (calls_in table.now) f (statement s.now)) fields.old fields.new) }
+/// Goes over the next turn of a loop, which may not run; no other statement has turns.
+fn next_turn(alloc: Global, s: &Stmt, table: &LiveTable, way: &mut Way) -> Result<(), AllocError>
+    ensures { OnOk result (Went (λ f. live_in_next_turn (calls_in table.now) f (statement s.now)) nothing way.old way.new) }
 {
     match s {
-        Stmt::For(_, _, _, body) => add_turn(alloc, body, table, fields),
+        Stmt::For(_, _, _, body) => turn(alloc, body, table, way),
         _ => Ok(()),
     }
 }
 
-/// The same of the statement of a step and those that follow it, in the blocks of statements.
+/// Goes on from a statement of a block, in which a way has come to the end of a branch, to the end
+/// of the block.
+fn leave(
+    alloc: Global,
+    b: &Block,
+    index: u32,
+    table: &LiveTable,
+    way: &mut Way,
+    added: &mut FieldList,
+) -> Result<(), AllocError>
+    requires within { index < length b.now }
+    ensures { OnOk result (Leaves table.now b.now index way.old way.new added.old added.new) }
+{
+    let index = index as usize;
+    next_turn(alloc, b.statement(index), table, way)?;
+    go(alloc, b, index + 1, table, way, added)
+}
+
+/// Goes on from beside the statement at the end of a path to the end of the outermost block; false
+/// exactly where the path leads nowhere.
 #[cycle(reach)]
 fn reach(
     alloc: Global,
@@ -79,29 +94,57 @@ fn reach(
     rest: &[Step],
     side: Side,
     table: &LiveTable,
-    fields: &mut FieldSet,
+    way: &mut Way,
+    added: &mut FieldList,
 ) -> Result<bool, AllocError>
-    ensures { IfOk result (λ found. Reaches (calls_in table.now) (opened_in 0 (gap (step_taken step ∷ map step_taken rest.now) (side_taken side)) (block b.now)) found fields.old fields.new) }
+    ensures { IfOk result (λ found. Reaches table.now (opened_in 0 (gap (step_taken step ∷ map step_taken rest.now) (side_taken side)) (block b.now)) found way.old way.new added.old added.new) }
 {
     let Some((next, more)) = rest.split_first() else {
-        return reach_last(alloc, b, step, side, table, fields);
+        return reach_last(alloc, b, step, side, table, way, added);
     };
-    let index = step.index as usize;
-    let Some(s) = b.get(index) else {
+    let Some(s) = b.get(step.index as usize) else {
         return Ok(false);
     };
     let Some(inner) = s.block(next.branch) else {
         return Ok(false);
     };
-    live_before(alloc, b, index + 1, table, fields)?;
-    add_next_turn(alloc, s, table, fields)?;
-    reach(alloc, inner, *next, more, side, table, fields)
+    let found = reach(alloc, inner, *next, more, side, table, way, added)?;
+    if !found {
+        return Ok(false);
+    }
+    leave(alloc, b, step.index, table, way, added)?;
+    Ok(true)
+}
+
+/// Goes on from beside the statement at a path to the end of a body; false exactly where the path
+/// leads nowhere.
+pub(crate) fn go_from(
+    alloc: Global,
+    body: &Block,
+    path: &Path,
+    side: Side,
+    table: &LiveTable,
+    way: &mut Way,
+) -> Result<bool, AllocError>
+    ensures { IfOk result (λ found. Arrives table.now (place_in (block body.now) path.now (side_taken side)) found way.old way.new) }
+{
+    let Some((step, rest)) = path.as_slice().split_first() else {
+        return Ok(false);
+    };
+    match step.branch {
+        Branch::Main => {
+            let mut added = FieldList::new(alloc);
+            reach(alloc, body, *step, rest, side, table, way, &mut added)
+        }
+        Branch::Else => Ok(false),
+    }
 }
 
 /// Whether a field is live beside the statement at a path: whether it may be read from there on
 /// before it is surely written. No field is live at the end of a procedure, nor at a place that is
 /// not there; a field that the unit has not is live nowhere. Before the index behind the last
-/// statement of a block is that block's end. The table is that of the unit.
+/// statement of a block is that block's end. The table is that of the unit. It takes a time linear
+/// in the procedure's tree and the unit's fields, where calls count as in the table.
 pub fn live(
     alloc: Global,
     unit: &Unit,
@@ -117,15 +160,7 @@ pub fn live(
     let Some(found) = unit.procs.get(p.0 as usize) else {
         return Ok(false);
     };
-    let Some((step, rest)) = path.as_slice().split_first() else {
-        return Ok(false);
-    };
-    match step.branch {
-        Branch::Main => {
-            let mut fields = FieldSet::empty(alloc, unit.fields.len())?;
-            let there = reach(alloc, &found.body, *step, rest, side, table, &mut fields)?;
-            Ok(there && fields.contains(f.0 as usize))
-        }
-        Branch::Else => Ok(false),
-    }
+    let mut way = Way::new(alloc, unit.fields.len())?;
+    let there = go_from(alloc, &found.body, path, side, table, &mut way)?;
+    Ok(there && way.read.contains(f.0 as usize))
 }

@@ -1,70 +1,103 @@
 //! What is known of the callees of a unit.
-ghost use Rattle.std.specs.Prelude.{◌≡◌, ◌<◌, ℕ, false, IfOk, length};
+ghost use Rattle.std.specs.Prelude.{IfOk, OnOk};
 ghost use Rattle.exo_tree.specs.PlainProcedure.{procedure};
 ghost use Rattle.exo_tree.specs.PlainUnit.{program};
-ghost use Rattle.meaning_laws.specs.UnitFields.{live_before};
-ghost use Rattle.config_state.specs.FieldSets.{contains, Changed};
-ghost use Rattle.config_live.specs.Tables.{calls_in, IsLiveTable};
+ghost use Rattle.config_live.specs.Tables.{reads_first, writes_surely, IsLiveTable};
+ghost use Rattle.config_live.specs.Ways.{Went, Goes, nothing};
+ghost use Rattle.config_live.specs.Heads.{read_by_head, Adds, CallsFrom};
 
-use crate::surely::surely_written;
-use crate::walk;
-use config_state::{FieldSet, FieldTable, add_conditions, add_params};
+use crate::fields::FieldList;
+use crate::named::{list_conditions, list_params};
+use crate::walk::go;
+use crate::way::{Way, take_out};
 use exo_tree::{Proc, ProcId, Unit};
 use std::alloc::{AllocError, Global};
 
-/// Two sets of fields for each procedure of a unit: those that a call may read before it surely
-/// writes them, and those that it surely writes.
+/// The fields that a call of a procedure may read before it surely writes them, and those that it
+/// surely writes, each once.
+#[derive(Drop)]
+pub struct CallFields {
+    pub read_first: FieldList,
+    pub surely_written: FieldList,
+}
+
+/// Such fields for each procedure of a unit.
 #[derive(Drop)]
 pub struct LiveTable {
-    pub read_first: FieldTable,
-    pub surely_written: FieldTable,
+    pub calls: Vec<CallFields>,
 }
 
 impl LiveTable {
     /// The table of a unit. Each body is gone through once, from the first procedure on, so that
-    /// those that it calls are known.
+    /// those that it calls are known. It takes a time linear in the unit's trees and fields, where a
+    /// call counts as many nodes more as its procedure has fields in the table.
     pub fn new(alloc: Global, unit: &Unit) -> Result<LiveTable, AllocError>
-        ensures { IfOk result (λ t. IsLiveTable (program unit.now) t) }
+        ensures { IfOk result (IsLiveTable (program unit.now)) }
     {
         let mut table = LiveTable {
-            read_first: FieldTable::new(alloc),
-            surely_written: FieldTable::new(alloc),
+            calls: Vec::new(alloc),
         };
+        let mut way = Way::new(alloc, unit.fields.len())?;
         for p in unit.procs.as_slice() {
-            let count = unit.fields.len();
-            let read = read_first_by(alloc, p, count, &table)?;
-            table.read_first.push(read)?;
-            let written = surely_written(alloc, &p.body, &table.surely_written, count)?;
-            table.surely_written.push(written)?;
+            table.add(alloc, p, &mut way)?;
         }
         Ok(table)
     }
 
-    /// Makes of the fields that are live behind a call those that are live before it, without its
-    /// arguments.
-    pub(crate) fn before_call(&self, p: ProcId, fields: &mut FieldSet)
-        ensures { Changed (λ f held. calls_in self.now p.0 f held) fields.old fields.new }
+    /// The fields of the next procedure, by a way from its beginning, which is left as at the
+    /// beginning.
+    fn add(&mut self, alloc: Global, p: &Proc, way: &mut Way) -> Result<(), AllocError>
+        ensures { OnOk result (Adds self.old (procedure p.now) way.old way.new self.new) }
     {
-        let k = p.0 as usize;
-        if let Some(written) = self.surely_written.get(k) {
-            fields.subtract(written);
-        }
-        self.read_first.add(k, fields);
+        let called = call_fields(alloc, p, self, way)?;
+        self.calls.push(called)?;
+        Ok(())
+    }
+
+    /// Goes on over a call without its arguments.
+    pub(crate) fn call(
+        &self,
+        p: ProcId,
+        way: &mut Way,
+        added: &mut FieldList,
+    ) -> Result<(), AllocError>
+        ensures { OnOk result (Goes (reads_first self.now p.0) (writes_surely self.now p.0) way.old way.new added.old added.new) }
+    {
+        let Some(called) = self.calls.get(p.0 as usize) else {
+            return Ok(());
+        };
+        way.read_all(&called.read_first)?;
+        way.write_all(&called.surely_written, added)
     }
 }
 
-/// The fields, of so many, that a call of a procedure may read before it surely writes them.
-fn read_first_by(
+/// Goes over what dimensions and assertions of a procedure read.
+fn read_head(alloc: Global, p: &Proc, way: &mut Way) -> Result<(), AllocError>
+    ensures { OnOk result (Went (λ f. read_by_head f (procedure p.now)) nothing way.old way.new) }
+{
+    let mut list = FieldList::new(alloc);
+    list_params(&p.params, &mut list)?;
+    list_conditions(&p.asserts, &mut list)?;
+    way.read_all(&list)
+}
+
+/// The fields of a call of a procedure, by a way from its beginning, which is left as at the
+/// beginning.
+fn call_fields(
     alloc: Global,
     p: &Proc,
-    count: usize,
     table: &LiveTable,
-) -> Result<FieldSet, AllocError>
-    ensures { IfOk result (λ s. (length s ≡ count) × ((f : ℕ) → f < count → contains s f ≡ live_before (calls_in table.now) (procedure p.now) f false)) }
+    way: &mut Way,
+) -> Result<CallFields, AllocError>
+    ensures { IfOk result (CallsFrom table.now (procedure p.now) way.old way.new) }
 {
-    let mut set = FieldSet::empty(alloc, count)?;
-    walk::live_before(alloc, &p.body, 0, table, &mut set)?;
-    add_params(&p.params, &mut set);
-    add_conditions(&p.asserts, &mut set);
-    Ok(set)
+    read_head(alloc, p, way)?;
+    let mut written = FieldList::new(alloc);
+    go(alloc, &p.body, 0, table, way, &mut written)?;
+    take_out(&written, &mut way.written);
+    let read = way.take_reads(alloc);
+    Ok(CallFields {
+        read_first: read,
+        surely_written: written,
+    })
 }

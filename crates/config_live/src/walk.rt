@@ -1,108 +1,119 @@
-//! From the fields that are live behind statements to those that are live before them.
+//! Ways through the statements of blocks, forwards. Each join takes back what its branches have
+//! newly written and keeps no more than half of it, so all joins of a procedure take no longer than
+//! its writes and calls.
 ghost use Rattle.std.specs.Prelude.{◌≤◌, false, length, drop, IfOk, OnOk};
 ghost use Rattle.exo_tree.specs.Tree.{block};
 ghost use Rattle.exo_tree.specs.PlainStatement.{statement};
-ghost use Rattle.meaning_laws.specs.Live.{live, live_step};
-ghost use Rattle.config_state.specs.FieldSets.{Changed, Marked};
+ghost use Rattle.meaning_laws.specs.Live.{live};
 ghost use Rattle.config_live.specs.Tables.{calls_in};
+ghost use Rattle.config_live.specs.Ways.{named_in, nothing, Went};
+ghost use Rattle.config_live.specs.Walks.{GoesOver, GoesBy, Branches, Meets};
 
+use crate::fields::FieldList;
+use crate::named::named;
 use crate::table::LiveTable;
-use config_state::{
-    FieldSet, add_argument, add_arguments, add_condition, add_control, add_controls,
-    add_coordinates, add_datum,
-};
+use crate::way::{Way, take_out, those_in};
 use exo_tree::{Block, Stmt};
 use std::alloc::{AllocError, Global};
 
-/// Makes of the fields that are live behind a block those that are live before its statements
-/// from an index on.
+/// Goes over what the expressions of a statement itself read.
+fn read_named(alloc: Global, s: &Stmt, way: &mut Way) -> Result<(), AllocError>
+    ensures { OnOk result (Went (λ f. named_in f (statement s.now)) nothing way.old way.new) }
+{
+    let list = named(alloc, s)?;
+    way.read_all(&list)
+}
+
+/// Goes over the statements of a block from an index on, and lists what is newly written.
 #[cycle(walk)]
-pub(crate) fn live_before(
+pub(crate) fn go(
     alloc: Global,
     b: &Block,
     from: usize,
     table: &LiveTable,
-    fields: &mut FieldSet,
+    way: &mut Way,
+    added: &mut FieldList,
 ) -> Result<(), AllocError>
     requires within { from ≤ length b.now }
-    ensures { OnOk result (Changed (λ f held. live (calls_in table.now) f (block (drop from b.now)) held) fields.old fields.new) }
+    ensures { OnOk result (GoesOver table.now (block (drop from b.now)) way.old way.new added.old added.new) }
 {
-    let mut k = b.len();
-    while k > from {
-        k -= 1;
-        live_before_step(alloc, b.statement(k), table, fields)?;
+    for k in from..b.len() {
+        go_by(alloc, b.statement(k), table, way, added)?;
     }
     Ok(())
 }
 
-/// The same of one statement.
+/// The same of one statement. A loop may run no turn.
 #[cycle(walk)]
-fn live_before_step(
+fn go_by(
     alloc: Global,
     s: &Stmt,
     table: &LiveTable,
-    fields: &mut FieldSet,
+    way: &mut Way,
+    added: &mut FieldList,
 ) -> Result<(), AllocError>
-    ensures { OnOk result (Changed (λ f held. live_step (calls_in table.now) f (statement s.now) held) fields.old fields.new) }
+    ensures { OnOk result (GoesBy table.now (statement s.now) way.old way.new added.old added.new) }
 {
+    read_named(alloc, s, way)?;
     match s {
-        Stmt::Assign(_, at, e) | Stmt::Reduce(_, at, e) => {
-            add_controls(at, fields);
-            add_datum(e, fields);
+        Stmt::Config(f, _) => way.write(*f, added),
+        Stmt::If(_, a, b) => {
+            let first = branch(alloc, a, table, way)?;
+            let both = other_branch(alloc, b, &first, table, way)?;
+            way.write_all(&both, added)
         }
-        Stmt::Config(f, a) => {
-            fields.remove(*f);
-            add_argument(a, fields);
-        }
-        Stmt::Pass => {}
-        Stmt::If(c, a, b) => {
-            let other = live_before_branch(alloc, b, table, fields)?;
-            live_before(alloc, a, 0, table, fields)?;
-            fields.unite(&other);
-            add_condition(c, fields);
-        }
-        Stmt::For(_, lo, hi, body) => {
-            add_turn(alloc, body, table, fields)?;
-            add_control(lo, fields);
-            add_control(hi, fields);
-        }
-        Stmt::Alloc(_, _, dims, _) => add_controls(dims, fields),
-        Stmt::View(_, _, at) => add_coordinates(at, fields),
-        Stmt::Call(p, args) => {
-            table.before_call(*p, fields);
-            add_arguments(args, fields);
-        }
+        Stmt::For(_, _, _, body) => turn(alloc, body, table, way),
+        Stmt::Call(p, _) => table.call(*p, way, added),
+        _ => Ok(()),
     }
-    Ok(())
 }
 
-/// The fields that are live before a branch, by those that are live behind it.
+/// Goes over a turn of a loop, which may not run.
 #[cycle(walk)]
-fn live_before_branch(
-    alloc: Global,
-    b: &Block,
-    table: &LiveTable,
-    behind: &FieldSet,
-) -> Result<FieldSet, AllocError>
-    ensures { IfOk result (λ s. Changed (λ f held. live (calls_in table.now) f (block b.now) held) behind.now s) }
-{
-    let mut fields = behind.duplicate(alloc)?;
-    live_before(alloc, b, 0, table, &mut fields)?;
-    Ok(fields)
-}
-
-/// Adds the fields that a turn of a loop may read before it surely writes them.
-#[cycle(walk)]
-pub(crate) fn add_turn(
+pub(crate) fn turn(
     alloc: Global,
     body: &Block,
     table: &LiveTable,
-    fields: &mut FieldSet,
+    way: &mut Way,
 ) -> Result<(), AllocError>
-    ensures { OnOk result (Marked (λ f. live (calls_in table.now) f (block body.now) false) fields.old fields.new) }
+    ensures { OnOk result (Went (λ f. live (calls_in table.now) f (block body.now) false) nothing way.old way.new) }
 {
-    let mut turn = FieldSet::empty(alloc, fields.len())?;
-    live_before(alloc, body, 0, table, &mut turn)?;
-    fields.unite(&turn);
+    branch(alloc, body, table, way)?;
     Ok(())
+}
+
+/// Goes over a block that may not run, or in place of which another one may run; what it newly
+/// writes is listed and taken back.
+#[cycle(walk)]
+fn branch(
+    alloc: Global,
+    b: &Block,
+    table: &LiveTable,
+    way: &mut Way,
+) -> Result<FieldList, AllocError>
+    ensures { IfOk result (Branches table.now (block b.now) way.old way.new) }
+{
+    let mut added = FieldList::new(alloc);
+    go(alloc, b, 0, table, way, &mut added)?;
+    take_out(&added, &mut way.written);
+    Ok(added)
+}
+
+/// The same of the other block; of the fields of the first list, those that are written behind it
+/// too are listed.
+#[cycle(walk)]
+fn other_branch(
+    alloc: Global,
+    b: &Block,
+    first: &FieldList,
+    table: &LiveTable,
+    way: &mut Way,
+) -> Result<FieldList, AllocError>
+    ensures { IfOk result (Meets table.now (block b.now) first.now way.old way.new) }
+{
+    let mut added = FieldList::new(alloc);
+    go(alloc, b, 0, table, way, &mut added)?;
+    let both = those_in(alloc, first, &way.written)?;
+    take_out(&added, &mut way.written);
+    Ok(both)
 }

@@ -46,7 +46,8 @@ impl Marks {
         self.has(p.0 as usize)
     }
 
-    pub(crate) fn has(&self, k: usize) -> bool
+    /// The same of the procedure at that index.
+    pub fn has(&self, k: usize) -> bool
         ensures { result ≡ contains self.now k }
     {
         match self.held.get(k) {

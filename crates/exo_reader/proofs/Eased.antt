@@ -1,9 +1,9 @@
--- A unit that keeps limits keeps fewer of them; so a text has one unit, or is refused at one token for one cause.
-use Rattle.std.proofs.Common.{◌≡◌, ℕ, ◌+◌, List, [], ◌∷◌, Option, Some, None, true, false, refl, sym, ap, ap₂, ◌∙◌, subst}
-use Rattle.text_phrases.specs.Limits.{Limits, Cause, syntax, too_deep, too_long, too_large}
+-- What keeps limits keeps fewer of them; so a text has one tree, or is refused at one token for one cause.
+use Rattle.std.proofs.Common.{ℕ, ◌+◌, List, [], ◌∷◌, Option, true, false}
+use Rattle.text_phrases.specs.Limits.{Limits}
 use Rattle.text_phrases.specs.Phrase.{Phrase}
 use Rattle.text_phrases.specs.Sequence.{AllFit, carried}
-use Rattle.text_phrases.proofs.Eased.{Eases, eased, keeps_eased, all_eased, maybe_eased, commas_ease, listing_eases, one_fault, no_fault}
+use Rattle.text_phrases.proofs.Eased.{Eases, eased, keeps_eased, all_eased, maybe_eased, commas_ease, listing_eases}
 use Rattle.text_expressions.specs.Values.{name, literal}
 use Rattle.text_expressions.specs.Expression.{Tree, operand, control, datum, control_room, data_room, most_depth, FewDimensions, EndsList}
 use Rattle.text_expressions.specs.declared.expression.Room.{Room}
@@ -13,50 +13,48 @@ use Rattle.text_lexer.specs.declared.token.Sign.TheVariants.{Close, Comma}
 use Rattle.exo_reader.specs.Source.{stride, named, plain, strided, point, span, value, window, Statement, pass, branch, loop, allocate, call, configure, assign, reduce, view, Block, end, next, strings, int, yes, no, procedure, instruction, configuration, memory}
 use Rattle.exo_reader.specs.Parts as parts
 use Rattle.exo_reader.specs.Parts.{Is, some_of, enclosed, dims, maybe_dims, type_name, maybe_memory, form, parameter, parameters, FewParameters}
-use Rattle.exo_reader.specs.Statements.{coordinate, argument_of, argument, arguments, AnyNumber, StatementFits, BlockFits, statement}
+use Rattle.exo_reader.specs.Statements.{coordinate, coordinates, argument_of, argument, arguments, AnyNumber, StatementFits, BlockFits, statement}
 use Rattle.exo_reader.specs.Items.{neighbours, setting, attribute, field, assertion, definition, item, unit}
-use Rattle.text_lexer.specs.declared.place.Place.{Place}
-use Rattle.exo_reader.specs.Texts.{first_kind, IsKindBy, IsKind, column_at, place_left, IsFault, TextsAreOne}
-use Rattle.exo_reader.specs.declared.unit.ReadKind.{ReadKind}
-use Rattle.exo_reader.specs.declared.unit.ReadKind.TheVariants as kind
-use Rattle.exo_reader.specs.declared.unit.ReadError.{ReadError}
+use Rattle.exo_reader.specs.Strings as line
+use Rattle.exo_reader.specs.Texts.{TextsAreOne}
+use Rattle.exo_reader.proofs.Errors.{texts_one}
 
 -- ---- values and expressions
 
-name_eases : Eases name
+pub name_eases : Eases name
 name_eases limits x fits = keeps_eased limits _ _ _ fits
 
-literal_eases : Eases literal
+pub literal_eases : Eases literal
 literal_eases limits n fits = keeps_eased limits _ _ _ fits
 
-operand_eases : (level : ℕ) (room : Room) → Eases (operand level room)
+pub operand_eases : (level : ℕ) (room : Room) → Eases (operand level room)
 operand_eases level room limits e fits = (fits.0, keeps_eased limits _ _ _ fits.1)
 
-control_eases : Eases control
+pub control_eases : Eases control
 control_eases = operand_eases 0 (control_room most_depth)
 
-datum_eases : Eases datum
+pub datum_eases : Eases datum
 datum_eases = operand_eases 0 data_room
 
 -- ---- parts
 
-enclosed_eases : {T : Type 0} (P : Phrase Token T) (Short : List T → Type 0) → Eases P → Eases (enclosed P Short)
+pub enclosed_eases : {T : Type 0} (P : Phrase Token T) (Short : List T → Type 0) → Eases P → Eases (enclosed P Short)
 enclosed_eases P Short eases limits ([], true) fits = absurd fits
 enclosed_eases P Short eases limits ([], false) fits = tt
 enclosed_eases P Short eases limits (a ∷ more, trailing) fits = (eases limits a fits.0, commas_ease P (Sign Comma) Short (Is (Sign Close)) eases limits (more, trailing) fits.1)
 
-dims_ease : Eases dims
+pub dims_ease : Eases dims
 dims_ease = listing_eases control (Sign Comma) FewDimensions EndsList control_eases
 
-maybe_dims_ease : Eases maybe_dims
+pub maybe_dims_ease : Eases maybe_dims
 maybe_dims_ease limits [] fits = tt
 maybe_dims_ease limits (d ∷ more) fits = dims_ease limits (d ∷ more) fits
 
-type_name_eases : Eases type_name
+pub type_name_eases : Eases type_name
 type_name_eases limits stride fits = tt
 type_name_eases limits (named x) fits = name_eases limits x fits
 
-maybe_memory_eases : Eases maybe_memory
+pub maybe_memory_eases : Eases maybe_memory
 maybe_memory_eases limits o fits = maybe_eased parts.memory name_eases limits o fits
 
 form_eases : Eases form
@@ -71,15 +69,18 @@ parameters_ease = enclosed_eases parameter FewParameters parameter_eases
 
 -- ---- statements
 
-coordinate_eases : Eases coordinate
+pub coordinate_eases : Eases coordinate
 coordinate_eases limits (point e) fits = control_eases limits e fits
 coordinate_eases limits (span a b) fits = (control_eases limits a fits.0, control_eases limits b fits.1)
 
-argument_eases : (P : Phrase Token Tree) → Eases P → Eases (argument_of P)
-argument_eases P eases limits (value e) fits = eases limits e fits
-argument_eases P eases limits (window x cs) fits = (name_eases limits x fits.0, listing_eases coordinate (Sign Comma) FewDimensions EndsList coordinate_eases limits cs fits.1, fits.2)
+pub coordinates_ease : Eases coordinates
+coordinates_ease = listing_eases coordinate (Sign Comma) FewDimensions EndsList coordinate_eases
 
-arguments_ease : Eases arguments
+pub argument_eases : (P : Phrase Token Tree) → Eases P → Eases (argument_of P)
+argument_eases P eases limits (value e) fits = eases limits e fits
+argument_eases P eases limits (window x cs) fits = (name_eases limits x fits.0, coordinates_ease limits cs fits.1, fits.2)
+
+pub arguments_ease : Eases arguments
 arguments_ease = enclosed_eases argument AnyNumber (argument_eases control control_eases)
 
 mutual
@@ -101,12 +102,12 @@ mutual
   block_eases limits nesting end fits = tt
   block_eases limits nesting (next s more) fits = (statement_eases limits nesting s fits.0, block_eases limits nesting more fits.1)
 
-some_ease : {T : Type 0} (P : Phrase Token T) (ends : Option Token → Type 0) → Eases P → Eases (some_of P ends)
+pub some_ease : {T : Type 0} (P : Phrase Token T) (ends : Option Token → Type 0) → Eases P → Eases (some_of P ends)
 some_ease P ends eases limits ts fits = (all_eased P eases limits ts fits.0, fits.1)
 
 -- ---- items
 
-neighbours_ease : Eases neighbours
+pub neighbours_ease : Eases neighbours
 neighbours_ease limits pieces fits = ((strings_ease limits pieces fits.0.0, keeps_eased limits _ _ _ fits.0.1), fits.1)
   where
     strings_ease : (limits : Limits) (pieces : List (List ℕ)) → AllFit (carried Str) limits pieces → AllFit (carried Str) (eased limits) pieces
@@ -141,53 +142,18 @@ item_eases limits (memory x list) fits = (name_eases limits x fits.0, (some_ease
 unit_eases : Eases unit
 unit_eases limits items fits = all_eased item item_eases limits items fits
 
--- ---- errors
+-- ---- strings
 
--- what stands there says one kind
-kinds_by : (o : Option ReadKind) (before rest : List Token) (a b : ReadKind) → IsKindBy o before rest a → IsKindBy o before rest b → a ≡ b
-kinds_by (Some wanted) before rest a b h k = h ∙ sym k
-kinds_by None before rest kind.BadIndent kind.BadIndent h k = refl
-kinds_by None before rest kind.BadIndent kind.Syntax h k = absurd (h.1 (k h.0))
-kinds_by None before rest kind.Syntax kind.BadIndent h k = absurd (k.1 (h k.0))
-kinds_by None before rest kind.Syntax kind.Syntax h k = refl
-kinds_by None before rest kind.Memory b h k = absurd h
-kinds_by None before rest kind.BadByte b h k = absurd h
-kinds_by None before rest kind.TooDeep b h k = absurd h
-kinds_by None before rest kind.TooLong b h k = absurd h
-kinds_by None before rest kind.LiteralTooLarge b h k = absurd h
-kinds_by None before rest a kind.Memory h k = absurd k
-kinds_by None before rest a kind.BadByte h k = absurd k
-kinds_by None before rest a kind.TooDeep h k = absurd k
-kinds_by None before rest a kind.TooLong h k = absurd k
-kinds_by None before rest a kind.LiteralTooLarge h k = absurd k
+pub window_eases : Eases line.window
+window_eases limits (x, cs) fits = (name_eases limits x fits.0, (coordinates_ease limits cs fits.1.0, fits.1.1))
 
-kinds : (c : Cause) (before rest : List Token) (a b : ReadKind) → IsKind c before rest a → IsKind c before rest b → a ≡ b
-kinds syntax before rest a b h k = kinds_by (first_kind rest) before rest a b h k
-kinds too_deep before rest a b h k = h ∙ sym k
-kinds too_long before rest a b h k = h ∙ sym k
-kinds too_large before rest a b h k = h ∙ sym k
+-- ---- texts
 
-same_error : (a b : ReadError) → a.line ≡ b.line → a.column ≡ b.column → a.kind ≡ b.kind → a ≡ b
-same_error a b l c k = ap₂ (λ x y. record { line = x; column = y; kind = a.kind }) l c ∙ ap (λ x. record { line = b.line; column = b.column; kind = x }) k
+pub texts_are_one : TextsAreOne unit
+texts_are_one = texts_one unit unit_eases
 
-same_place : {p q : Place} → Some p ≡ Some q → p ≡ q
-same_place e = cc
+pub expressions_are_one : TextsAreOne control
+expressions_are_one = texts_one control control_eases
 
-one_error : (tokens : List Token) (places : List Place) (a b : ReadError) → IsFault unit tokens places a → IsFault unit tokens places b → a ≡ b
-one_error tokens places a b f g =
-    let one = one_fault unit unit_eases f.cause g.cause tokens f.last g.last f.fault g.fault in
-    let same : a.kind ≡ b.kind =
-    kinds g.cause g.fault.before g.fault.rest a.kind b.kind
-    (subst (λ r. IsKind g.cause g.fault.before r a.kind) one.3 (subst (λ w. IsKind g.cause w f.fault.rest a.kind) one.2 (subst (λ c. IsKind c f.fault.before f.fault.rest a.kind) one.0 f.why)))
-    g.why in
-    let place : f.placed.place ≡ g.placed.place = same_place (sym f.placed.there ∙ ap (place_left places) one.1 ∙ g.placed.there) in
-    same_error a b
-    (f.placed.line ∙ ap (λ (p : Place). p.line) place ∙ sym g.placed.line)
-    (f.placed.column ∙ ap₂ column_at place same ∙ sym g.placed.column)
-    same
-
-pub texts_are_one : TextsAreOne
-texts_are_one = record {
-  error = one_error;
-  no_error = λ tokens places items e text f. no_fault unit f.cause tokens items f.last text f.fault;
-}
+pub windows_are_one : TextsAreOne line.window
+windows_are_one = texts_one line.window window_eases

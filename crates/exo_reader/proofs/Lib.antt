@@ -1,15 +1,17 @@
-mod Optional
-mod Parts
-mod Lists
+pub mod Optional
+pub mod Parts
+pub mod Lists
 mod Parameters
 mod Made
 mod Windows
-mod Coordinates
+pub mod Coordinates
 mod Arguments
 mod Statements
-mod Neighbours
+pub mod Neighbours
 mod Items
-mod Units
+pub mod Units
+pub mod Errors
 pub mod Eased
 mod Widths
-mod Strings
+pub mod Strings
+mod Instance

@@ -6,3 +6,4 @@ pub mod Views
 pub mod Windows
 pub mod Texts
 pub mod Strings
+pub mod Instance

@@ -1,9 +1,8 @@
--- Texts of units: their trees, and where and why one is refused.
+-- Texts: the trees of units, and where and why a text is refused, of whatever kind it is to be.
 use Rattle.std.specs.Prelude.{◌≡◌, ℕ, ◌+◌, ◌-◌, ◌≤◌, List, [], ◌∷◌, ◌++◌, Option, Some, None, map, length, take, drop, slice_get, Result, MatchResult}
 use Rattle.text_phrases.specs.Limits.{Cause, syntax, too_deep, too_long, too_large}
 use Rattle.text_phrases.specs.Phrase.{Phrase}
 use Rattle.text_phrases.specs.Text.{IsText, FaultAt}
-use Rattle.exo_reader.specs.Source.{Item}
 use Rattle.text_phrases.specs.declared.Refusal.{Refusal}
 use Rattle.text_phrases.specs.declared.Refusal.TheVariants as r
 use Rattle.text_lexer.specs.Layout.{lexed, token_of, place_of, end_place}
@@ -120,7 +119,17 @@ Says tokens places (r.TooDeep last) e = SaysAt too_deep tokens places last e
 Says tokens places (r.TooLong last) e = SaysAt too_long tokens places last e
 Says tokens places (r.TooLarge last) e = SaysAt too_large tokens places last e
 
--- The tokens of a text are one unit, or there is one error.
-pub record TextsAreOne : Type 0 where
-  pub error : (tokens : List Token) (places : List Place) (a b : ReadError) → IsFault unit tokens places a → IsFault unit tokens places b → a ≡ b
-  pub no_error : (tokens : List Token) (places : List Place) (items : List Item) (e : ReadError) → IsText unit tokens items → IsFault unit tokens places e → ⊥
+-- The tokens of a text are one text of the kind, or there is one error.
+pub record TextsAreOne {T : Type 0} (kind : Phrase Token T) : Type 0 where
+  pub tree : (tokens : List Token) (a b : T)
+      → IsText kind tokens a
+      → IsText kind tokens b
+      → a ≡ b
+  pub error : (tokens : List Token) (places : List Place) (a b : ReadError)
+      → IsFault kind tokens places a
+      → IsFault kind tokens places b
+      → a ≡ b
+  pub no_error : (tokens : List Token) (places : List Place) (tree : T) (e : ReadError)
+      → IsText kind tokens tree
+      → IsFault kind tokens places e
+      → ⊥

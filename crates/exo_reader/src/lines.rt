@@ -39,7 +39,7 @@ pub fn string_stands_first(tokens: &[Token]) -> bool
 pub fn read_strings(alloc: Global, tokens: &[Token]) -> Result<(Vec<Text>, &[Token]), Refusal>
     ensures { Reads neighbours tokens.now (λ x. x.0.items) (λ x. x.1.now) result }
 {
-    let mut pieces = Vec::new(alloc);
+    let mut pieces = Vec::with_capacity(alloc, 1)?;
     let mut room = STRING_BYTES;
     let mut rest = tokens;
     'more: while let Some((piece, after)) = string_at(rest) {

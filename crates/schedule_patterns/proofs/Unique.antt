@@ -1,24 +1,19 @@
 -- A text is one pattern, or there is one error.
-use Rattle.std.proofs.Common.{◌≡◌, ℕ, List, Option, Some, None, Ok, Err, Result, refl, sym, ap, ap₂, ◌∙◌, subst}
-use Rattle.text_phrases.specs.Limits.{unlimited, Cause, syntax, too_deep, too_long, too_large}
+use Rattle.std.proofs.Common.{◌≡◌, ℕ, List, Some, None, Ok, Err, Result, sym, ap, ◌∙◌}
+use Rattle.text_phrases.specs.Limits.{unlimited}
 use Rattle.text_phrases.specs.Phrase.{Phrase}
-use Rattle.text_phrases.proofs.Eased.{Eases, keeps_eased, maybe_eased, one_fault, no_fault}
-use Rattle.text_lexer.specs.declared.place.Place.{Place}
+use Rattle.text_phrases.proofs.Eased.{Eases, maybe_eased, no_fault}
 use Rattle.text_lexer.specs.declared.token.Token.{Token}
 use Rattle.text_expressions.specs.Values.{name}
-use Rattle.exo_reader.specs.Texts.{first_kind, IsKindBy, IsKind, column_at, place_left, IsFault}
 use Rattle.exo_reader.specs.Strings.{line_tokens_of, line_places_of}
-use Rattle.exo_reader.specs.declared.unit.ReadKind.{ReadKind}
-use Rattle.exo_reader.specs.declared.unit.ReadKind.TheVariants as kind
 use Rattle.exo_reader.specs.declared.unit.ReadError.{ReadError}
+use Rattle.exo_reader.proofs.Errors.{one_error}
+use Rattle.exo_reader.proofs.Eased.{name_eases}
 use Rattle.schedule_patterns.specs.Numbers.{form_in}
 use Rattle.schedule_patterns.specs.Grammar.{NameOrAny, name_or_any, inner, allocated, called, field, changed, cell, behind_name, skip, branch, loop, named, statement, meant, indexed, added, subtracted, multiplied, after_name, expression, form_meant}
 use Rattle.schedule_patterns.specs.Texts.{IsPattern, IsPatternFault, in_form, in_number, PatternsAreOne}
 
 -- ---- what keeps limits keeps fewer of them
-
-name_eases : Eases name
-name_eases limits x fits = keeps_eased limits _ _ _ fits
 
 name_or_any_eases : Eases name_or_any
 name_or_any_eases limits x fits = maybe_eased name name_eases limits x fits
@@ -48,51 +43,6 @@ after_eases (Some n) limits multiplied fits = absurd fits
 
 expression_eases : Eases expression
 expression_eases limits (x, a) fits = (name_or_any_eases limits x fits.0, maybe_eased (after_name x) (after_eases x) limits a fits.1)
-
--- ---- errors
-
--- what stands there says one kind
-kinds_by : (o : Option ReadKind) (before rest : List Token) (a b : ReadKind) → IsKindBy o before rest a → IsKindBy o before rest b → a ≡ b
-kinds_by (Some wanted) before rest a b h k = h ∙ sym k
-kinds_by None before rest kind.BadIndent kind.BadIndent h k = refl
-kinds_by None before rest kind.BadIndent kind.Syntax h k = absurd (h.1 (k h.0))
-kinds_by None before rest kind.Syntax kind.BadIndent h k = absurd (k.1 (h k.0))
-kinds_by None before rest kind.Syntax kind.Syntax h k = refl
-kinds_by None before rest kind.Memory b h k = absurd h
-kinds_by None before rest kind.BadByte b h k = absurd h
-kinds_by None before rest kind.TooDeep b h k = absurd h
-kinds_by None before rest kind.TooLong b h k = absurd h
-kinds_by None before rest kind.LiteralTooLarge b h k = absurd h
-kinds_by None before rest a kind.Memory h k = absurd k
-kinds_by None before rest a kind.BadByte h k = absurd k
-kinds_by None before rest a kind.TooDeep h k = absurd k
-kinds_by None before rest a kind.TooLong h k = absurd k
-kinds_by None before rest a kind.LiteralTooLarge h k = absurd k
-
-kinds : (c : Cause) (before rest : List Token) (a b : ReadKind) → IsKind c before rest a → IsKind c before rest b → a ≡ b
-kinds syntax before rest a b h k = kinds_by (first_kind rest) before rest a b h k
-kinds too_deep before rest a b h k = h ∙ sym k
-kinds too_long before rest a b h k = h ∙ sym k
-kinds too_large before rest a b h k = h ∙ sym k
-
-same_error : (a b : ReadError) → a.line ≡ b.line → a.column ≡ b.column → a.kind ≡ b.kind → a ≡ b
-same_error a b l c k = ap₂ (λ x y. record { line = x; column = y; kind = a.kind }) l c ∙ ap (λ x. record { line = b.line; column = b.column; kind = x }) k
-
-same_place : {p q : Place} → Some p ≡ Some q → p ≡ q
-same_place e = cc
-
-one_error : {T : Type 0} (grammar : Phrase Token T) → Eases grammar → (tokens : List Token) (places : List Place) (a b : ReadError) → IsFault grammar tokens places a → IsFault grammar tokens places b → a ≡ b
-one_error grammar eases tokens places a b f g =
-    let one = one_fault grammar eases f.cause g.cause tokens f.last g.last f.fault g.fault in
-    let same : a.kind ≡ b.kind =
-    kinds g.cause g.fault.before g.fault.rest a.kind b.kind
-    (subst (λ r. IsKind g.cause g.fault.before r a.kind) one.3 (subst (λ w. IsKind g.cause w f.fault.rest a.kind) one.2 (subst (λ c. IsKind c f.fault.before f.fault.rest a.kind) one.0 f.why)))
-    g.why in
-    let place : f.placed.place ≡ g.placed.place = same_place (sym f.placed.there ∙ ap (place_left places) one.1 ∙ g.placed.there) in
-    same_error a b
-    (f.placed.line ∙ ap (λ (p : Place). p.line) place ∙ sym g.placed.line)
-    (f.placed.column ∙ ap₂ column_at place same ∙ sym g.placed.column)
-    same
 
 -- ---- texts
 

@@ -20,28 +20,21 @@ use Rattle.text_lexer.specs.declared.token.Word.TheVariants as w
 use Rattle.text_expressions.specs.Values.{IsShortName, name, literal}
 use Rattle.exo_reader.specs.Parts.{Is}
 use Rattle.exo_reader.specs.Items.{NoString, StartsWithString, FewBytes, neighbours}
+use Rattle.exo_reader.proofs.Lists.{map_snoc}
+use Rattle.exo_reader.proofs.Neighbours.{one_string}
+use Rattle.exo_reader.proofs.Parts.{name_fits, no_name}
 use Rattle.schedule_text.specs.Tree as tree
 use Rattle.schedule_text.specs.Tree.{Move, go, expand, item, Found, Cursor, held, KeyValue, text, yes, no, Argument, cursor, string, int, pair, key, Arguments}
 use Rattle.schedule_text.specs.Words.{find_word}
 use Rattle.schedule_text.specs.Grammar.{NoMove, moves, found, key_value, EndsArgument, argument, AnyNumber, more_arguments, arguments}
 use Rattle.schedule_text.specs.Views.{plain_argument}
 use Rattle.schedule_text.specs.declared.source.ArgText.{ArgText}
-use Rattle.schedule_text.proofs.Lists.{map_snoc}
 use Rattle.schedule_text.proofs.Moving.{literal_zero}
 
 -- trees that keep all limits
 
-pub name_fits : (limits : Limits) (x : List ℕ) → IsShortName x → name.Fits limits x
-name_fits limits x short = keeps_all limits tt short tt
-
-pub no_name : (limits : Limits) → name.Fits limits []
-no_name limits = name_fits limits [] (omega arith)
-
 pub find_short : IsShortName find_word
 find_short = omega arith
-
-pub one_string : (limits : Limits) → neighbours.Fits limits ([] ∷ [])
-one_string limits = (((tt, tt), keeps_all limits tt (omega arith) tt), tt)
 
 -- a string that was read has few bytes
 pub string_few : (tokens rest : List Token) (pieces : List (List ℕ)) → Taken neighbours tokens pieces rest → FewBytes pieces

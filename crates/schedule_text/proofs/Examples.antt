@@ -2,25 +2,26 @@
 use Rattle.std.proofs.Common.{◌≡◌, ℕ, List, [], ◌∷◌, ◌++◌, Some, codes, refl, ap, ◌∙◌, arith}
 use Rattle.text_phrases.specs.Limits.{syntax}
 use Rattle.text_phrases.specs.Phrase.{first, Taken}
-use Rattle.text_phrases.specs.Sequence.{exactly, spell_all}
+use Rattle.text_phrases.specs.Sequence.{spell_all}
 use Rattle.text_phrases.specs.Text.{IsText, FaultAt}
 use Rattle.text_phrases.proofs.Phrases.{keeps_all}
 use Rattle.text_phrases.proofs.Sequences.{step_taken, taken_exactly, taken_short, items_none, items_next, several_done}
-use Rattle.text_phrases.proofs.Joints.{Joint, both}
+use Rattle.text_phrases.proofs.Joints.{both}
 use Rattle.text_phrases.proofs.Texts.{text_ok}
 use Rattle.text_lexer.specs.Layout.{at}
 use Rattle.text_lexer.specs.declared.place.Place.{Place}
 use Rattle.text_lexer.specs.declared.token.Token.{Token}
 use Rattle.text_lexer.specs.declared.token.Token.TheVariants.{Name, Sign, NewLine}
 use Rattle.text_lexer.specs.declared.token.Sign.TheVariants.{Open, Close, Colon, Assign}
-use Rattle.text_expressions.specs.Values.{IsShortName, name}
+use Rattle.text_expressions.specs.Values.{IsShortName}
 use Rattle.exo_reader.specs.Texts.{tokens_of, places_of, IsFault}
 use Rattle.exo_reader.specs.declared.unit.ReadKind.TheVariants.{Syntax}
 use Rattle.exo_reader.specs.declared.unit.ReadError.{ReadError}
+use Rattle.exo_reader.proofs.Parts.{name_fits, name_words}
 use Rattle.schedule_text.specs.Tree.{search, Line, bind, emit}
 use Rattle.schedule_text.specs.Words.{emit_word}
 use Rattle.schedule_text.specs.Grammar.{act, line, FewLines, schedule}
-use Rattle.schedule_text.proofs.Arguments.{name_fits, some_found, found_fits}
+use Rattle.schedule_text.proofs.Arguments.{some_found, found_fits}
 use Rattle.schedule_text.proofs.Lines.{emit1, emit_of, Emit1, step_emit, some_line}
 use Rattle.schedule_text.proofs.Schedules.{AtEnd, lines_apart, none_left}
 
@@ -34,9 +35,6 @@ emits = Name emit_word ∷ Sign Open ∷ Name p ∷ Sign Close ∷ NewLine ∷ [
 
 same_name : (a b : List ℕ) → Name a ≡ Name b → a ≡ b
 same_name a b same = cc (same)
-
-name_words : (words : List Token) → Joint name (exactly words)
-name_words words = record { may = record { may = λ limits q y fits follows. tt }; some = tt; fits = λ limits. tt }
 
 emit_taken : Taken line emits (emit p) []
 emit_taken =

@@ -1,9 +1,7 @@
 mod Words
-mod Lists
 mod Moving
 mod Arguments
 mod Lines
-mod Errors
 mod Schedules
 mod Eased
 mod Examples

@@ -18,8 +18,9 @@ use Rattle.text_expressions.specs.Values.{IsShortName, name}
 use Rattle.schedule_text.specs.Tree.{Move, go, expand, item, Arguments, Act, operation, search, moved, Line, bind, emit}
 use Rattle.schedule_text.specs.Words.{find_word, emit_word}
 use Rattle.schedule_text.specs.Grammar.{BeginsMove, move, moves, found, arguments, act, line}
+use Rattle.exo_reader.proofs.Parts.{name_fits, no_name}
 use Rattle.schedule_text.proofs.Moving.{literal_zero}
-use Rattle.schedule_text.proofs.Arguments.{name_fits, no_name, find_short, some_found, found_fits}
+use Rattle.schedule_text.proofs.Arguments.{find_short, some_found, found_fits}
 
 -- phrases that begin with a name
 pub record Led {T : Type 0} (P : Phrase Token T) : Type 0 where

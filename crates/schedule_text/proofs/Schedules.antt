@@ -1,5 +1,5 @@
 -- Whole schedules, and the numbers of their lines.
-use Rattle.std.proofs.Common.{◌≡◌, ℕ, ◌+◌, ◌-◌, ◌<◌, ◌≤◌, List, [], ◌∷◌, ◌++◌, Option, Some, None, length, drop, get_or, refl, sym, ap, ◌∙◌, subst, arith, append_assoc, map}
+use Rattle.std.proofs.Common.{◌≡◌, ℕ, ◌+◌, ◌-◌, ◌<◌, ◌≤◌, List, [], ◌∷◌, ◌++◌, Option, None, length, drop, get_or, refl, sym, ap, ◌∙◌, subst, arith, append_assoc, map}
 use Rattle.std.proofs.lemmas.List.{length-append, length-map, append_cancel_left, append-nil, drop_more, drop-drop}
 use Rattle.text_phrases.specs.Limits.{Limits, in_depth, in_length, unlimited, syntax, too_long}
 use Rattle.text_phrases.specs.Phrase.{first, Taken, Refused}
@@ -17,13 +17,14 @@ use Rattle.text_lexer.specs.declared.token.Token.{Token}
 use Rattle.text_lexer.specs.declared.token.Token.TheVariants.{Name, Sign, NewLine}
 use Rattle.text_lexer.specs.declared.token.Sign.TheVariants.{Assign}
 use Rattle.exo_reader.specs.Parts.{StartsWithName}
+use Rattle.exo_reader.proofs.Lists.{map_snoc}
+use Rattle.exo_reader.proofs.Units.{some_left}
 use Rattle.schedule_text.specs.Tree as tree
 use Rattle.schedule_text.specs.Tree.{bind, search}
 use Rattle.schedule_text.specs.Grammar.{act, line, FewLines, schedule, RefusesLine}
 use Rattle.schedule_text.specs.Views.{plain_line, number}
 use Rattle.schedule_text.specs.Texts.{number_at, line_numbers}
 use Rattle.schedule_text.specs.declared.source.Line.{Line}
-use Rattle.schedule_text.proofs.Lists.{map_snoc}
 use Rattle.schedule_text.proofs.Arguments.{some_found, found_fits}
 use Rattle.schedule_text.proofs.Lines.{some_line, StartsLine, starts_line}
 
@@ -36,9 +37,6 @@ lines_apart = record {
   next = λ limits l y fits. tt;
   last = λ o ends. tt;
 }
-
-some_left : (rest more : List Token) (a : Token) → rest ≡ a ∷ more → first rest ≡ None → ⊥
-some_left rest more a is none = let e : Some a ≡ None = sym (ap first is) ∙ none in cc (e)
 
 pub none_left : (rest : List Token) → rest ≡ [] → (limits : Limits) (l : tree.Line) (y : List Token) → line.Fits limits l → first rest ≡ first (line.spell l ++ y) → ⊥
 none_left rest empty limits l y fits same = subst StartsLine (sym same ∙ ap first empty) (starts_line l y)

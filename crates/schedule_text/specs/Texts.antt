@@ -2,8 +2,7 @@
 use Rattle.std.specs.Prelude.{◌≡◌, ℕ, List, [], ◌∷◌, Result, MatchResult, length, drop}
 use Rattle.text_phrases.specs.Text.{IsText}
 use Rattle.text_lexer.specs.declared.place.Place.{Place}
-use Rattle.text_lexer.specs.declared.token.Token.{Token}
-use Rattle.exo_reader.specs.Texts.{tokens_of, places_of, IsFault, IsRefusal}
+use Rattle.exo_reader.specs.Texts.{tokens_of, places_of, IsRefusal}
 use Rattle.exo_reader.specs.declared.unit.ReadError.{ReadError}
 use Rattle.schedule_text.specs.Tree as tree
 use Rattle.schedule_text.specs.Grammar.{line, schedule}
@@ -32,12 +31,3 @@ abbrev pub ReadsSchedule : List ℕ → Result Schedule ReadError → Type 0
 ReadsSchedule text result =
     MatchResult result (λ s. IsReadAs text s)
     (λ e. IsRefusal schedule (tokens_of text) (places_of text) e.kind e)
-
--- The tokens of a text are one schedule, or there is one error.
-pub record SchedulesAreOne : Type 0 where
-  pub lines : (tokens : List Token) (a b : List tree.Line)
-      → IsText schedule tokens a → IsText schedule tokens b → a ≡ b
-  pub error : (tokens : List Token) (places : List Place) (a b : ReadError)
-      → IsFault schedule tokens places a → IsFault schedule tokens places b → a ≡ b
-  pub no_error : (tokens : List Token) (places : List Place) (read : List tree.Line) (e : ReadError)
-      → IsText schedule tokens read → IsFault schedule tokens places e → ⊥

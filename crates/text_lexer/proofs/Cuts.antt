@@ -1,11 +1,13 @@
 -- Tokens up to a fault.
-use Rattle.std.proofs.Common.{◌≡◌, ℕ, zero, suc, ◌+◌, List, [], ◌∷◌, ◌++◌, replicate, Bool, true, false, cond, length, refl, sym, ap, ◌∙◌, append_assoc, append-nil}
+use Rattle.std.proofs.Common.{◌≡◌, ℕ, zero, suc, ◌+◌, List, [], ◌∷◌, ◌++◌, replicate, Bool, true, false, cond, length, refl, sym, ap, ◌∙◌, append_assoc, append-nil, map}
 use Rattle.std.specs.Prelude.{Option, Some, None, MatchOption}
+use Rattle.std.proofs.lemmas.List.{map-append}
 use denote.Ref.{Bor}
-use Rattle.text_lexer.specs.Layout.{at, line_tokens, one_line, line_lexed, put, is_fault, is_sound, up_to_fault, text_end, layout, laid, lines}
+use Rattle.text_lexer.specs.Layout.{at, line_tokens, one_line, line_lexed, put, place_of, token_of, is_fault, is_sound, up_to_fault, text_end, layout, laid, lines}
 use Rattle.text_lexer.proofs.FirstLine.{lines-some}
 use Rattle.text_lexer.specs.declared.place.Place.{Place}
 use Rattle.text_lexer.specs.declared.place.Placed.{Placed}
+use Rattle.text_lexer.specs.declared.token.Token.{Token}
 use Rattle.text_lexer.specs.declared.token.Token.TheVariants.{Dedent, NewLine}
 
 sound_by : (p : Placed) (more ys : List Placed) (fault : Bool) → (is_sound more ≡ true → up_to_fault (more ++ ys) ≡ more ++ up_to_fault ys) → cond fault false (is_sound more) ≡ true → p ∷ cond fault [] (up_to_fault (more ++ ys)) ≡ p ∷ (more ++ up_to_fault ys)
@@ -84,3 +86,31 @@ more_by bytes (next ∷ more) some = refl
 
 pub one_more : (text bytes next : List ℕ) → lines text ≡ bytes ∷ lines next → up_to_fault (line_tokens 1 bytes ++ (put (at 1 (length bytes + 1)) NewLine ∷ [])) ≡ line_lexed text
 one_more text bytes next is = more_by bytes (lines next) (lines-some next) ∙ ap one_line (sym is)
+
+-- ---- tokens and places apart
+
+-- of what is wanted the first ones have these tokens and these places, and the others follow
+pub record Kept (target : List Placed) (ts : List Token) (ps : List Place) (more : List Placed) : Type 0 where
+  pub placed : List Placed
+  pub tokens : ts ≡ map token_of placed
+  pub places : ps ≡ map place_of placed
+  pub whole : target ≡ placed ++ more
+
+pub kept_none : (target : List Placed) (ts : List Token) (ps : List Place) → ts ≡ [] → ps ≡ [] → Kept target ts ps target
+kept_none target ts ps no_tokens no_places = record { placed = []; tokens = no_tokens; places = no_places; whole = refl }
+
+-- some more are given
+pub kept_more : (target given more rest : List Placed) (ts us : List Token) (ps qs : List Place) → Kept target ts ps more → us ≡ ts ++ map token_of given → qs ≡ ps ++ map place_of given → ((placed : List Placed) → target ≡ placed ++ more → target ≡ (placed ++ given) ++ rest) → Kept target us qs rest
+kept_more target given more rest ts us ps qs kept tokens places goes = record {
+  placed = kept.placed ++ given;
+  tokens = tokens ∙ ap (λ (w : List Token). w ++ map token_of given) kept.tokens ∙ sym (map-append token_of kept.placed given);
+  places = places ∙ ap (λ (w : List Place). w ++ map place_of given) kept.places ∙ sym (map-append place_of kept.placed given);
+  whole = goes kept.placed kept.whole;
+}
+
+-- all are given
+pub kept_all : (target given more : List Placed) (ts us : List Token) (ps qs : List Place) → Kept target ts ps more → us ≡ ts ++ map token_of given → qs ≡ ps ++ map place_of given → ((placed : List Placed) → target ≡ placed ++ more → placed ++ given ≡ target) → (us ≡ map token_of target) × (qs ≡ map place_of target)
+kept_all target given more ts us ps qs kept tokens places goes =
+    let last : Kept target us qs [] = kept_more target given more [] ts us ps qs kept tokens places (λ placed whole. sym (goes placed whole) ∙ sym (append-nil (placed ++ given))) in
+    let whole : last.placed ≡ target = sym (append-nil last.placed) ∙ sym last.whole in
+    (last.tokens ∙ ap (map token_of) whole, last.places ∙ ap (map place_of) whole)

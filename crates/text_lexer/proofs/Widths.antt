@@ -1,7 +1,6 @@
 -- A text has as many bytes as its tokens take at the least, but for a last line end.
 use Rattle.std.proofs.Common.{◌≡◌, ℕ, zero, suc, ◌+◌, ◌-◌, ◌<◌, ◌≤◌, List, [], ◌∷◌, ◌++◌, replicate, Bool, true, false, cond, length, map, refl, ap, ◌∙◌, arith, eqb}
-use Rattle.std.specs.Prelude.{Option, Some, None, Result, Ok, Err, IfOk, nat_lt, bytes_eq, codes, take_while}
-use Rattle.text_lexer.specs.declared.lexer.Lexed.{Lexed}
+use Rattle.std.specs.Prelude.{Option, Some, None, nat_lt, bytes_eq, codes, take_while}
 use Rattle.std.specs.Char.{is_ascii_digit}
 use Rattle.std.specs.List.{prefix_len}
 use Rattle.std.proofs.lemmas.List.{length-take}
@@ -21,6 +20,7 @@ use Rattle.text_lexer.specs.declared.token.Decorator.TheVariants as d
 use Rattle.text_lexer.specs.declared.token.Sign.{Sign}
 use Rattle.text_lexer.specs.declared.token.Sign.TheVariants.{Any}
 use Rattle.text_lexer.specs.declared.token.Fault.TheVariants.{Indentation}
+use Rattle.text_lexer.specs.declared.token.Token.{Token}
 use Rattle.text_lexer.specs.declared.token.Token.TheVariants as token
 use Rattle.text_lexer.specs.declared.place.Place.{Place}
 use Rattle.text_lexer.specs.declared.place.Placed.{Placed}
@@ -340,7 +340,6 @@ lines_total (b ∷ rest) = omega (arith, lines_by b rest (eqb b 0x0A) (is_skippe
 lexed_few : (text : List ℕ) → least_widths (map token_of (lexed text)) ≤ length text + 1
 lexed_few text = omega (arith, cut_few (layout (end_place text) 1 [] 0 (lines text)), layout_few (end_place text) 1 [] 0 (lines text) tt, allowed_most 0 (lines text), lines_total text)
 
--- tokens in memory
-pub kept_few : {E : Type 0} (result : Result Lexed E) (text : List ℕ) (placed : List Placed) → placed ≡ lexed text → IfOk result (λ l. l.tokens.items ≡ map token_of placed) → IfOk result (λ l. least_widths l.tokens.items ≤ length text + 1)
-kept_few (Ok l) text placed is tokens = omega (arith, lexed_few text, ap least_widths tokens, ap (λ (ts : List Placed). least_widths (map token_of ts)) is)
-kept_few (Err e) text placed is tokens = tt
+-- the tokens of a text
+pub few_of : (text : List ℕ) (tokens : List Token) → tokens ≡ map token_of (lexed text) → least_widths tokens ≤ length text + 1
+few_of text tokens is = omega (arith, lexed_few text, ap least_widths is)

@@ -112,7 +112,11 @@ fn end_line(
     ensures bound { IfOk result (λ after. after ≤ brackets + length tokens.items) }
 {
     let after = brackets_after(brackets, &tokens);
-    given.append(&mut tokens)?;
+    if given.is_empty() {
+        *given = tokens;
+    } else {
+        given.append(&mut tokens)?;
+    }
     if after == 0 {
         given.push(Placed {
             place: end,

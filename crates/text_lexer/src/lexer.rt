@@ -1,6 +1,7 @@
 // The tokens of a text.
 
 ghost use Rattle.std.specs.Prelude.{◌≡◌, ◌+◌, ◌≤◌, ◌++◌, [], ◌∷◌, length, map, take, true, false, IfOk, MatchOption};
+ghost use Rattle.std.specs.Result.{OnOk};
 ghost use Rattle.text_lexer.specs.Widths.{least_widths};
 ghost use Rattle.text_lexer.specs.Layout.{lines, line_end_width, end_place, up_to_fault, is_sound, layout, lexed, line_lexed, place_of, token_of};
 
@@ -97,12 +98,36 @@ fn cut_at_fault(tokens: &mut Vec<Placed>) -> bool
     }
 }
 
-/// The tokens of a text whose end has this place, up to a fault.
-fn lay_text(alloc: Global, text: &[u8], end: Place) -> Result<Vec<Placed>, AllocError>
-    requires { length text.now ≤ 0x100000 }
-    ensures { IfOk result (λ placed. placed.items ≡ up_to_fault (layout end 1 [] 0 (lines text.now))) }
+/// How many bytes of a text there are to a token, commonly.
+const COMMON_WIDTH: usize = 2;
+
+/// No tokens, with room for so many.
+fn room_for(alloc: Global, count: usize) -> Result<Lexed, AllocError>
+    ensures { IfOk result (λ l. (l.tokens.items ≡ []) × (l.places.items ≡ [])) }
 {
-    let mut placed = Vec::new(alloc);
+    let tokens = Vec::with_capacity(alloc, count)?;
+    let places = Vec::with_capacity(alloc, count)?;
+    Ok(Lexed { tokens, places })
+}
+
+/// Puts tokens and their places behind those that there are.
+fn give(lexed: &mut Lexed, placed: Vec<Placed>) -> Result<(), AllocError>
+    ensures tokens { OnOk result (lexed.new.tokens.items ≡ lexed.old.tokens.items ++ map token_of placed.items) }
+    ensures places { OnOk result (lexed.new.places.items ≡ lexed.old.places.items ++ map place_of placed.items) }
+{
+    for one in placed {
+        lexed.tokens.push(one.token)?;
+        lexed.places.push(one.place)?;
+    }
+    Ok(())
+}
+
+/// The tokens of a text whose end has this place, up to a fault, and their places.
+fn lay_text(alloc: Global, text: &[u8], end: Place) -> Result<Lexed, AllocError>
+    requires { length text.now ≤ 0x100000 }
+    ensures { IfOk result (λ l. (l.tokens.items ≡ map token_of (up_to_fault (layout end 1 [] 0 (lines text.now)))) × (l.places.items ≡ map place_of (up_to_fault (layout end 1 [] 0 (lines text.now))))) }
+{
+    let mut lexed = room_for(alloc, text.len() / COMMON_WIDTH)?;
     let mut open_blocks = Blocks::new(alloc);
     let mut brackets = 0;
     let mut line = 1;
@@ -112,34 +137,19 @@ fn lay_text(alloc: Global, text: &[u8], end: Place) -> Result<Vec<Placed>, Alloc
         let laid = lay_line(alloc, &mut open_blocks, brackets, line, bytes)?;
         let mut given = laid.given;
         let sound = cut_at_fault(&mut given);
-        placed.append(&mut given)?;
+        give(&mut lexed, given)?;
         if !sound {
-            return Ok(placed);
+            return Ok(lexed);
         }
         brackets = laid.brackets;
         let Some(next) = after else {
-            let mut last = end_text(alloc, &open_blocks, brackets, end)?;
-            placed.append(&mut last)?;
-            return Ok(placed);
+            let last = end_text(alloc, &open_blocks, brackets, end)?;
+            give(&mut lexed, last)?;
+            return Ok(lexed);
         };
         line += 1;
         rest = next;
     }
-}
-
-/// The tokens and their places as two lists, and the place of the end.
-fn separate(alloc: Global, placed: Vec<Placed>, end: Place) -> Result<Lexed, AllocError>
-    ensures tokens { IfOk result (λ l. l.tokens.items ≡ map token_of placed.items) }
-    ensures places { IfOk result (λ l. l.places.items ≡ map place_of placed.items ++ end ∷ []) }
-{
-    let mut tokens = Vec::new(alloc);
-    let mut places = Vec::new(alloc);
-    for one in placed {
-        tokens.push(one.token)?;
-        places.push(one.place)?;
-    }
-    places.push(end)?;
-    Ok(Lexed { tokens, places })
 }
 
 /// The tokens of a text of at most 2^20 bytes, and their places. The text has as many bytes as they take at the least, but
@@ -151,8 +161,9 @@ pub fn lex(alloc: Global, text: &[u8]) -> Result<Lexed, AllocError>
     ensures widths { IfOk result (λ l. least_widths l.tokens.items ≤ length text.now + 1) }
 {
     let end = end_place(text);
-    let placed = lay_text(alloc, text, end)?;
-    separate(alloc, placed, end)
+    let mut lexed = lay_text(alloc, text, end)?;
+    lexed.places.push(end)?;
+    Ok(lexed)
 }
 
 /// The tokens of a text that is to be one line, up to a fault.
@@ -185,5 +196,8 @@ pub fn lex_line(alloc: Global, text: &[u8]) -> Result<Lexed, AllocError>
 {
     let end = end_place(text);
     let placed = lay_one_line(alloc, text)?;
-    separate(alloc, placed, end)
+    let mut lexed = room_for(alloc, placed.len())?;
+    give(&mut lexed, placed)?;
+    lexed.places.push(end)?;
+    Ok(lexed)
 }

@@ -18,13 +18,16 @@ pub fn is_fault(token: &Token) -> bool
     }
 }
 
+/// For how many tokens of a line there is room at first.
+const COMMON: usize = 64;
+
 /// The tokens of a line, up to a fault, with their places.
 pub fn line_tokens(alloc: Global, line: u32, bytes: &[u8]) -> Result<Vec<Placed>, AllocError>
     requires { length bytes.now ≤ 0x100000 }
     ensures value { IfOk result (λ tokens. tokens.items ≡ line_tokens line bytes.now) }
     ensures bound { IfOk result (λ tokens. length tokens.items ≤ length bytes.now) }
 {
-    let mut tokens = Vec::new(alloc);
+    let mut tokens = Vec::with_capacity(alloc, bytes.len().min(COMMON))?;
     let mut start = 0;
     while start < bytes.len() {
         let byte = bytes[start];

@@ -35,7 +35,9 @@ impl Text {
         requires { EachIndex bytes.now (λ k. slice_index bytes.now k < 0x80) }
         ensures { IfOk result (λ t. t ≡ bytes.now) }
     {
-        let mut text = Text::new(alloc);
+        let mut text = Text {
+            text: String::with_capacity(alloc, bytes.len())?,
+        };
         for byte in bytes {
             text.push(*byte)?;
         }

@@ -1,45 +1,33 @@
-use Rattle.std.proofs.Common.{◌≡◌, ◌∷◌, ◌&&◌, nat_lt, false, length, map, Option, Some, None, Bool, sym, ap, subst, ◌∙◌}
-use Rattle.std.specs.Prelude.{replicate}
+use Rattle.std.proofs.Common.{◌≡◌, ◌&&◌, nat_lt, length, Option, Some, None, Bool, false, sym, ap, subst, ◌∙◌}
 use Rattle.exo_tree.specs.Tree.{block, Procedure}
-use Rattle.exo_tree.specs.Places.{opened_in}
-use Rattle.exo_tree.specs.PlainPlace.{step_taken, branch_taken}
 use Rattle.exo_tree.specs.PlainUnit.{program}
 use Rattle.config_state.specs.FieldSets.{contains}
-use Rattle.config_laws.specs.FieldRule.{gap}
-use Rattle.config_live.specs.Tables.{calls_in}
-use Rattle.config_live.specs.Places.{side_taken, live_from, Reaches}
-use Rattle.config_live.proofs.Openings.{live_is}
+use Rattle.config_live.specs.Ways.{IsStart}
+use Rattle.config_live.specs.Places.{side_taken, live_from}
+use Rattle.config_live.proofs.Answer.{live_is}
 use Rattle.config_live.proofs.place.live.Goals as goal
 use Rattle.config_live.proofs.place.live.Goals.{then-there, else-there}
 
-pub returns-after-there : goal.returns-after-there
-returns-after-there c =
+pub returns : goal.returns
+returns c =
     let unit = program c.args.unit.now in
     let n = length unit.fields in
     let ps = unit.procedures in
     let body = block c.in-Some.found.now.body in
     let side = side_taken c.args.side in
-    let step = step_taken c.in-Some-split_first.step.now in
-    let rest = map step_taken c.in-Some-split_first.rest.now in
-    let there = c.in_ok-there-in-Main.there in
-    let new = c.reach.new.fields in
+    let there = c.in_ok-there.there in
+    let new = c.go_from.new.way in
     let f = c.args.f.0 in
-    let empty : c.in_ok-fields-in-Main.fields ≡ replicate n false =
-    c.in_ok-fields-in-Main.ensures ∙ ap (λ m. replicate m false) c.len.ensures in
-    let found : c.if-there.result ≡ (there && contains new f) =
+    let start : IsStart n c.in_ok-way.way =
+    subst (λ m. IsStart m c.in_ok-way.way) c.len.ensures c.in_ok-way.ensures in
+    let found : c.if-there.result ≡ (there && contains new.read f) =
     elim c.if-there.branch [
-      | then-there w ↦ w.result-is ∙ w.contains.ensures ∙ sym (ap (λ z. z && contains new f) w.if-there.true)
-      | else-there w ↦ w.result-is ∙ w.if-there.false ∙ sym (ap (λ z. z && contains new f) w.if-there.false)
+      | then-there w ↦ w.result-is ∙ w.contains.ensures ∙ sym (ap (λ z. z && contains new.read f) w.if-there.true)
+      | else-there w ↦ w.result-is ∙ w.if-there.false ∙ sym (ap (λ z. z && contains new.read f) w.if-there.false)
     ] in
-    let path : step ∷ rest ≡ c.args.path.now =
-    sym (ap (map step_taken) c.in-Some-split_first.ensures.cases.0) ∙ c.as_slice.ensures.value in
     found
-    ∙ live_is ps n c.args.table.now.read_first c.args.table.now.surely_written
-    c.requires.read_first c.requires.surely_written body step rest side there new f
-    (ap branch_taken c.in-Main.is)
-    (subst (λ z. Reaches (calls_in c.args.table.now) (opened_in 0 (gap (step ∷ rest) side) body) there z new)
-    empty c.in_ok-there-in-Main.ensures)
-    ∙ ap (λ z. nat_lt f n && live_from ps body z side f) path
+    ∙ live_is ps n c.args.table.now c.requires.read_first c.requires.surely_written
+    body c.args.path.now side there c.in_ok-way.way new f start c.in_ok-there.ensures
     ∙ ap (λ (o : Option Procedure). elim o as (λ o. Bool) [
       | None ↦ false
       | Some q ↦ nat_lt f n && live_from ps q.body c.args.path.now side f

@@ -7,7 +7,7 @@ pub returns-then-length-room : goal.returns-then-length-room
 returns-then-length-room c = pieces_full _ _ _ _ _ c.more.invariant.items (omega (arith, c.more.invariant.room)) c.in-Some.ensures (omega (arith, c.more.invariant.room, ap length c.as_slice-length.ensures))
 
 pub more-init : goal.more-init
-more-init c = record { items = rw c.new-pieces.ensures.items (items_none _ _ _); room = rw c.new-pieces.ensures.items (omega arith) }
+more-init c = record { items = rw c.in_ok-pieces.ensures.items (items_none _ _ _); room = rw c.in_ok-pieces.ensures.items (omega arith) }
 
 pub more-preserved : goal.more-preserved
 more-preserved c = record {

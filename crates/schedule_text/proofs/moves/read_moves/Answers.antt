@@ -1,7 +1,7 @@
 use Rattle.std.proofs.Common.{◌≡◌, false, true, refl}
 use Rattle.text_phrases.proofs.Exits.{exit}
 use Rattle.text_phrases.proofs.Sequences.{items_none, items_done}
-use Rattle.schedule_text.proofs.Lists.{many_next, many_err}
+use Rattle.exo_reader.proofs.Lists.{many_next, many_err}
 use Rattle.schedule_text.proofs.Moving.{moves_apart, move_shorter, no_more_moves}
 use Rattle.schedule_text.proofs.moves.read_moves.Goals as goal
 

@@ -1,6 +1,6 @@
 use Rattle.std.proofs.Common.{◌∙◌}
 use Rattle.schedule_text.specs.Grammar.{schedule}
-use Rattle.schedule_text.proofs.Errors.{refusal_in}
+use Rattle.exo_reader.proofs.Units.{refusal_in}
 use Rattle.schedule_text.proofs.Schedules.{schedule_few}
 use Rattle.schedule_text.proofs.text.read_schedule.Goals as goal
 

@@ -1,7 +1,7 @@
-use Rattle.std.proofs.Common.{ap, ◌∙◌, []}
-use Rattle.text_lexer.specs.Layout.{lines, up_to_fault, layout}
-use Rattle.text_lexer.proofs.Widths.{kept_few}
+use Rattle.std.proofs.Common.{ap, ◌∙◌, [], map}
+use Rattle.text_lexer.specs.Layout.{lines, up_to_fault, layout, token_of}
+use Rattle.text_lexer.proofs.Widths.{few_of}
 use Rattle.text_lexer.proofs.lexer.lex.Goals as goal
 
 pub returns-clause-widths : goal.returns-clause-widths
-returns-clause-widths c = kept_few _ _ _ (c.in_ok-placed.ensures ∙ ap (λ e. up_to_fault (layout e 1 [] 0 (lines c.args.text.now))) c.end_place-end.ensures) c.separate.ensures.tokens
+returns-clause-widths c = few_of c.args.text.now _ (c.in_ok-lexed.ensures.0 ∙ ap (λ e. map token_of (up_to_fault (layout e 1 [] 0 (lines c.args.text.now)))) c.end_place-end.ensures)

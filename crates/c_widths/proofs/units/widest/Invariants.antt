@@ -1,0 +1,9 @@
+-- No procedure that is done is too wide, and the table has what they give.
+use Rattle.std.proofs.Common.{◌-◌, length}
+use Rattle.exo_tree.specs.PlainUnit.{program}
+use Rattle.exo_calls.specs.Marked.{contains}
+use Rattle.c_widths.proofs.Searching.{IsDone}
+use Rattle.c_widths.proofs.units.widest.Given as goal
+
+abbrev pub invariant-loop-n : goal.invariant-loop-n
+invariant-loop-n l = IsDone (program l.unit) (contains l.printed) (contains l.counted) (length l.procs - l.n) l.given

@@ -1,0 +1,45 @@
+-- Requests in memory, as plain ones.
+use Rattle.std.specs.Prelude.{ℕ, List, ◌∷◌, map}
+use Rattle.cursor_patterns.specs.Patterns as patterns
+use Rattle.cursor_patterns.specs.declared.pattern.Pattern.{Pattern}
+use Rattle.cursor_patterns.specs.PlainPattern.{plain_pattern, plain_expr_pattern}
+use Rattle.schedule_text.specs.Views.{plain_move}
+use Rattle.schedule_text.specs.declared.source.Move as source
+use Rattle.schedule_calls.specs.Requests as plain
+use Rattle.schedule_calls.specs.Readings.{move, moves}
+use Rattle.schedule_calls.specs.declared.request.Source.{Source}
+use Rattle.schedule_calls.specs.declared.request.Source.TheVariants as from
+use Rattle.schedule_calls.specs.declared.request.Asked.{Asked}
+use Rattle.schedule_calls.specs.declared.request.Operation.{Operation}
+use Rattle.schedule_calls.specs.declared.request.Operation.TheVariants as operation
+use Rattle.schedule_calls.specs.declared.request.Request.{Request}
+use Rattle.schedule_calls.specs.declared.request.Request.TheVariants as request
+
+-- a pattern with its number
+abbrev pub plain_found : Pattern × ℕ → patterns.Pattern × ℕ
+plain_found found = (plain_pattern found.0, found.1)
+
+abbrev pub moves_of : List source.Move → List plain.Move
+moves_of ms = moves (map plain_move ms)
+
+abbrev pub plain_source : Source → plain.Source
+plain_source (from.Under x) = plain.Under x.now
+plain_source (from.Found x p nth) = plain.Found x.now (plain_pattern p) nth
+plain_source (from.Here p nth) = plain.Here (plain_pattern p) nth
+
+abbrev pub plain_asked : Asked → plain.Asked
+plain_asked a = record { source = plain_source a.source; moves = moves_of a.moves.now }
+
+abbrev pub plain_operation : Operation → plain.Operation
+plain_operation (operation.CommuteExpr at x) =
+    plain.CommuteExpr (plain_asked at) (plain_expr_pattern x)
+plain_operation (operation.Rename name) = plain.Rename name
+plain_operation operation.DeletePass = plain.DeletePass
+
+abbrev pub plain_request : Request → plain.Request
+plain_request (request.Apply bind of o) = plain.Apply bind.now of.now (plain_operation o)
+plain_request (request.Search bind of p nth ms) =
+    plain.Search bind.now of.now (plain_pattern p) nth (moves_of ms.now)
+plain_request (request.Moved bind of m ms) =
+    plain.Moved bind.now of.now (move (plain_move m) ∷ moves_of ms.now)
+plain_request (request.Emit name) = plain.Emit name.now

@@ -1,0 +1,120 @@
+-- How a line asks for something: the strings in it are patterns and names, and the arguments of an
+-- operator have its forms.
+use Rattle.std.specs.Prelude.{◌≡◌, ℕ, Bool, false, ◌||◌, not, List, [], ◌∷◌, None, map, codes}
+use Rattle.std.specs.Str.{bytes_eq}
+use Rattle.text_lexer.specs.declared.token.Literal.{Literal}
+use Rattle.text_lexer.specs.declared.token.Literal.TheVariants.{Value}
+use Rattle.exo_reader.specs.Items.{joined}
+use Rattle.schedule_text.specs.Tree as tree
+use Rattle.schedule_text.specs.declared.source.Direction.{Direction}
+use Rattle.schedule_text.specs.declared.source.Direction.TheVariants as way
+use Rattle.schedule_patterns.specs.Grammar.{statement, meant, expression, form_meant}
+use Rattle.schedule_patterns.specs.Names.{name_fault}
+use Rattle.schedule_patterns.specs.Texts.{IsPattern}
+use Rattle.cursor_patterns.specs.Patterns.{Pattern, ExprPattern}
+use Rattle.schedule_calls.specs.Requests.{Move, Parent, Next, Prev, Body, Before, After, Expand, Item}
+use Rattle.schedule_calls.specs.Requests.{Asked, Under, Found, Here, Operation, CommuteExpr, Rename}
+use Rattle.schedule_calls.specs.Requests.{DeletePass, Request, Apply, Search, Moved, Emit}
+
+-- ---- moves
+
+abbrev pub number_of : Literal → ℕ
+number_of (Value n) = n
+number_of other = 0
+
+abbrev pub direction : Direction → Move
+direction way.Parent = Parent
+direction way.Next = Next
+direction way.Prev = Prev
+direction way.Body = Body
+direction way.Before = Before
+direction way.After = After
+
+abbrev pub move : tree.Move → Move
+move (tree.go d) = direction d
+move (tree.expand a b) = Expand (number_of a) (number_of b)
+move (tree.item k) = Item (number_of k)
+
+abbrev pub moves : List tree.Move → List Move
+moves ms = map move ms
+
+-- ---- strings
+
+-- quoted pieces beside one another are a pattern of statements with a number
+abbrev pub IsPatternOf : List (List ℕ) → Pattern → ℕ → Type 0
+IsPatternOf pieces p nth = IsPattern statement meant (joined pieces) p nth
+
+abbrev pub IsPatternIn : List (List ℕ) → Pattern × ℕ → Type 0
+IsPatternIn pieces found = IsPatternOf pieces found.0 found.1
+
+abbrev pub IsExprPatternOf : List (List ℕ) → ExprPattern → Type 0
+IsExprPatternOf pieces x = IsPattern expression form_meant (joined pieces) x.form x.nth
+
+abbrev pub IsNameOf : List (List ℕ) → List ℕ → Type 0
+IsNameOf pieces name = (name ≡ joined pieces) × (name_fault (joined pieces) ≡ None)
+
+-- ---- arguments
+
+-- a name and nothing more
+abbrev pub IsWord : tree.Argument → List ℕ → Type 0
+IsWord (tree.cursor (tree.held x [])) name = name ≡ x
+IsWord other name = ⊥
+
+-- a cursor that a name holds, a match, or a string: a match in the version that is given
+pub data AsksCursor : tree.Argument → Asked → Type 0 where
+  under : (x : List ℕ) (ms : List tree.Move)
+      → AsksCursor (tree.cursor (tree.held x ms)) (record { source = Under x; moves = moves ms })
+  found : (f : tree.Found) (p : Pattern) (nth : ℕ)
+      → IsPatternOf f.pattern p nth
+      → AsksCursor (tree.cursor (tree.found f))
+      (record { source = Found f.version p nth; moves = moves f.moves })
+  here : (pieces : List (List ℕ)) (p : Pattern) (nth : ℕ)
+      → IsPatternOf pieces p nth
+      → AsksCursor (tree.string pieces) (record { source = Here p nth; moves = [] })
+
+abbrev pub AsksExpression : tree.Argument → ExprPattern → Type 0
+AsksExpression (tree.string pieces) x = IsExprPatternOf pieces x
+AsksExpression other x = ⊥
+
+abbrev pub AsksName : tree.Argument → List ℕ → Type 0
+AsksName (tree.string pieces) name = IsNameOf pieces name
+AsksName other name = ⊥
+
+-- ---- operators
+
+-- by its name, with the arguments behind the first
+pub data AsksOperation : List ℕ → List tree.Argument → Operation → Type 0 where
+  commute_expr : (a b : tree.Argument) (at : Asked) (x : ExprPattern)
+      → AsksCursor a at
+      → AsksExpression b x
+      → AsksOperation (codes "commute_expr") (a ∷ b ∷ []) (CommuteExpr at x)
+  rename : (a : tree.Argument) (name : List ℕ)
+      → AsksName a name
+      → AsksOperation (codes "rename") (a ∷ []) (Rename name)
+  delete_pass : AsksOperation (codes "delete_pass") [] DeletePass
+
+-- the operators that there are
+abbrev pub is_operator : List ℕ → Bool
+is_operator name =
+    bytes_eq name (codes "commute_expr")
+    || (bytes_eq name (codes "rename")
+    || bytes_eq name (codes "delete_pass"))
+
+-- ---- lines
+
+pub data Asks : tree.Line → Request → Type 0 where
+  apply : (bind operator of : List ℕ) (args : tree.Arguments) (o : Operation)
+      → IsWord args.head of
+      → AsksOperation operator args.more o
+      → Asks (tree.bind bind (tree.operation operator args)) (Apply bind of o)
+  search : (bind : List ℕ) (f : tree.Found) (p : Pattern) (nth : ℕ)
+      → IsPatternOf f.pattern p nth
+      → Asks (tree.bind bind (tree.search f)) (Search bind f.version p nth (moves f.moves))
+  moved : (bind of : List ℕ) (m : tree.Move) (ms : List tree.Move)
+      → Asks (tree.bind bind (tree.moved of m ms)) (Moved bind of (move m ∷ moves ms))
+  emit : (name : List ℕ) → Asks (tree.emit name) (Emit name)
+
+-- a line names an operator that is not there
+abbrev pub is_unknown : tree.Line → Bool
+is_unknown (tree.bind bind (tree.operation operator args)) = not (is_operator operator)
+is_unknown other = false

@@ -1,0 +1,37 @@
+-- What a line of a schedule asks for, by its text alone: strings are read, names are not looked up.
+use Rattle.std.specs.Prelude.{ℕ, List}
+use Rattle.cursor_patterns.specs.Patterns.{Pattern, ExprPattern}
+
+pub data Move : Type 0 where
+  Parent Next Prev Body Before After : Move
+  Expand : ℕ → ℕ → Move
+  Item : ℕ → Move
+
+-- where a cursor is looked for: under a name, or by a pattern, its match of that number, in the
+-- version that a name holds or in the one that an operator is given
+pub data Source : Type 0 where
+  Under : List ℕ → Source
+  Found : List ℕ → Pattern → ℕ → Source
+  Here : Pattern → ℕ → Source
+
+-- a cursor, and its moves from there
+pub record Asked : Type 0 where
+  pub source : Source
+  pub moves : List Move
+
+-- an operator with its arguments behind the first
+pub data Operation : Type 0 where
+  CommuteExpr : Asked → ExprPattern → Operation
+  Rename : List ℕ → Operation
+  DeletePass : Operation
+
+-- why a line is refused before any name is looked up
+pub data LineFault : Type 0 where
+  UnknownOperator BadArguments : LineFault
+
+-- the first name is the one that is bound
+pub data Request : Type 0 where
+  Apply : List ℕ → List ℕ → Operation → Request
+  Search : List ℕ → List ℕ → Pattern → ℕ → List Move → Request
+  Moved : List ℕ → List ℕ → List Move → Request
+  Emit : List ℕ → Request

@@ -1,0 +1,93 @@
+//! Arguments of operators.
+
+ghost use Rattle.std.specs.Prelude.{◌≡◌, IfOk, MatchOption};
+ghost use Rattle.cursor_patterns.specs.PlainPattern.{plain_expr_pattern};
+ghost use Rattle.schedule_text.specs.Views.{plain_argument, plain_found};
+ghost use Rattle.schedule_text.specs.Tree as tree;
+ghost use Rattle.schedule_calls.specs.Readings.{IsWord, AsksCursor, AsksExpression, AsksName};
+ghost use Rattle.schedule_calls.specs.PlainRequest.{plain_asked};
+ghost use Rattle.schedule_calls.specs.Answers.{AsksOne};
+
+use crate::request::{Asked, Source};
+use crate::string::{expression_of, name_of, pattern_of};
+use cursor_patterns::ExprPattern;
+use exo_tree::Name;
+use schedule_text::source::{ArgText, CursorText, Found, Quoted};
+use std::alloc::{AllocError, Global};
+use text_lexer::text::Text;
+
+/// The name that the argument is, with no moves.
+pub fn word_of(arg: &ArgText) -> Option<&Text>
+    ensures { AsksOne (IsWord (plain_argument arg.now)) (λ x. x.now) result }
+{
+    match arg {
+        ArgText::Cursor(CursorText::Held(name, moves)) => {
+            if moves.items.is_empty() {
+                return Some(name);
+            }
+            None
+        }
+        _ => None,
+    }
+}
+
+/// `find(NAME, STRING)` with moves.
+fn found_of(alloc: Global, found: &Found) -> Result<Option<Asked<'_>>, AllocError>
+    ensures { IfOk result (λ asked. AsksOne (AsksCursor (tree.cursor (tree.found (plain_found found.now)))) plain_asked asked) }
+{
+    match pattern_of(alloc, &found.pattern)? {
+        Some((pattern, nth)) => Ok(Some(Asked {
+            source: Source::Found(&found.version, pattern, nth),
+            moves: found.moves.items.as_slice(),
+        })),
+        None => Ok(None),
+    }
+}
+
+/// A string in the place of a cursor.
+fn here_of(alloc: Global, string: &Quoted) -> Result<Option<Asked<'static>>, AllocError>
+    ensures { IfOk result (λ asked. AsksOne (AsksCursor (tree.string string.now.pieces.items)) plain_asked asked) }
+{
+    match pattern_of(alloc, string)? {
+        Some((pattern, nth)) => Ok(Some(Asked {
+            source: Source::Here(pattern, nth),
+            moves: &[],
+        })),
+        None => Ok(None),
+    }
+}
+
+/// The cursor that the argument asks for.
+pub fn cursor_of(alloc: Global, arg: &ArgText) -> Result<Option<Asked<'_>>, AllocError>
+    ensures { IfOk result (λ asked. AsksOne (AsksCursor (plain_argument arg.now)) plain_asked asked) }
+{
+    match arg {
+        ArgText::Cursor(CursorText::Held(name, moves)) => Ok(Some(Asked {
+            source: Source::Under(name),
+            moves: moves.items.as_slice(),
+        })),
+        ArgText::Cursor(CursorText::Find(found)) => found_of(alloc, found),
+        ArgText::Str(string) => here_of(alloc, string),
+        _ => Ok(None),
+    }
+}
+
+/// The pattern of expressions that the argument is.
+pub fn expression_in(alloc: Global, arg: &ArgText) -> Result<Option<ExprPattern>, AllocError>
+    ensures { IfOk result (λ found. AsksOne (AsksExpression (plain_argument arg.now)) plain_expr_pattern found) }
+{
+    match arg {
+        ArgText::Str(string) => expression_of(alloc, string),
+        _ => Ok(None),
+    }
+}
+
+/// The name that the argument is as a string.
+pub fn name_in(alloc: Global, arg: &ArgText) -> Result<Option<Name>, AllocError>
+    ensures { IfOk result (λ found. AsksOne (AsksName (plain_argument arg.now)) (λ x. x) found) }
+{
+    match arg {
+        ArgText::Str(string) => name_of(alloc, string),
+        _ => Ok(None),
+    }
+}

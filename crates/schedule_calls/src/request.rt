@@ -1,0 +1,56 @@
+//! What a line asks for. Names and moves are those of the line.
+
+use cursor_patterns::{ExprPattern, Pattern};
+use exo_tree::Name;
+use schedule_text::source::Move;
+use text_lexer::text::Text;
+
+/// Where a cursor is looked for.
+#[derive(Drop)]
+pub enum Source<'a> {
+    /// Under a name.
+    Under(&'a Text),
+    /// The match of that number, from 0, of a pattern in the version that a name holds.
+    Found(&'a Text, Pattern, u32),
+    /// The match of that number of a pattern in the version that the operator is given.
+    Here(Pattern, u32),
+}
+
+/// A cursor, and its moves from there.
+#[derive(Drop)]
+pub struct Asked<'a> {
+    pub source: Source<'a>,
+    pub moves: &'a [Move],
+}
+
+/// An operator with its arguments behind the first.
+#[derive(Drop)]
+pub enum Operation<'a> {
+    /// The statement, and which part of its right side.
+    CommuteExpr(Asked<'a>, ExprPattern),
+    /// The new name.
+    Rename(Name),
+    DeletePass,
+}
+
+/// What a line asks for; the first name is the one that is bound.
+#[derive(Drop)]
+pub enum Request<'a> {
+    /// An operation on the version that the second name holds.
+    Apply(&'a Text, &'a Text, Operation<'a>),
+    /// The match of that number of a pattern in the version that the second name holds, moved.
+    Search(&'a Text, &'a Text, Pattern, u32, &'a [Move]),
+    /// The cursor that the second name holds, moved once and then further.
+    Moved(&'a Text, &'a Text, Move, &'a [Move]),
+    /// The version that the name holds is to be printed.
+    Emit(&'a Text),
+}
+
+/// Why a line asks for nothing.
+#[derive(Clone, Copy, Debug, PartialEq, Eq)]
+pub enum LineFault {
+    /// There is no operator of that name.
+    UnknownOperator,
+    /// The arguments have not the operator's number or forms, or a string is none of its place.
+    BadArguments,
+}

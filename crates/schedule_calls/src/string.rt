@@ -1,0 +1,67 @@
+//! Strings of a schedule as what their place asks.
+
+ghost use Rattle.std.specs.Prelude.{◌≡◌, None, IfOk, MatchOption};
+ghost use Rattle.cursor_patterns.specs.PlainPattern.{plain_expr_pattern};
+ghost use Rattle.exo_reader.specs.declared.unit.ReadKind.TheVariants as kind;
+ghost use Rattle.schedule_calls.specs.Readings.{IsPatternIn, IsExprPatternOf, IsNameOf};
+ghost use Rattle.schedule_calls.specs.PlainRequest.{plain_found};
+ghost use Rattle.schedule_calls.specs.Answers.{AsksOne};
+
+use cursor_patterns::{ExprPattern, Pattern};
+use exo_reader::unit::{ReadError, ReadKind};
+use exo_tree::Name;
+use schedule_patterns::{read_expr_pattern, read_name, read_pattern};
+use schedule_text::source::Quoted;
+use std::alloc::{AllocError, Global};
+
+/// A string that is not what its place asks, or memory ran out.
+fn refused(e: &ReadError) -> Result<(), AllocError>
+    ensures { IfOk result (λ _. e.now.kind ≡ kind.Memory → ⊥) }
+{
+    match e.kind {
+        ReadKind::Memory => Err(AllocError),
+        _ => Ok(()),
+    }
+}
+
+/// The pattern of statements that the string is, with its number.
+pub fn pattern_of(alloc: Global, string: &Quoted) -> Result<Option<(Pattern, u32)>, AllocError>
+    ensures { IfOk result (λ found. AsksOne (IsPatternIn string.now.pieces.items) plain_found found) }
+{
+    let bytes = string.bytes(alloc)?;
+    match read_pattern(alloc, bytes.as_slice()) {
+        Ok(found) => Ok(Some(found)),
+        Err(e) => {
+            refused(&e)?;
+            Ok(None)
+        }
+    }
+}
+
+/// The pattern of expressions that the string is.
+pub fn expression_of(alloc: Global, string: &Quoted) -> Result<Option<ExprPattern>, AllocError>
+    ensures { IfOk result (λ found. AsksOne (IsExprPatternOf string.now.pieces.items) plain_expr_pattern found) }
+{
+    let bytes = string.bytes(alloc)?;
+    match read_expr_pattern(alloc, bytes.as_slice()) {
+        Ok(found) => Ok(Some(found)),
+        Err(e) => {
+            refused(&e)?;
+            Ok(None)
+        }
+    }
+}
+
+/// The name that the string is.
+pub fn name_of(alloc: Global, string: &Quoted) -> Result<Option<Name>, AllocError>
+    ensures { IfOk result (λ found. AsksOne (IsNameOf string.now.pieces.items) (λ x. x) found) }
+{
+    let bytes = string.bytes(alloc)?;
+    match read_name(alloc, bytes.as_slice()) {
+        Ok(found) => Ok(Some(found)),
+        Err(e) => {
+            refused(&e)?;
+            Ok(None)
+        }
+    }
+}

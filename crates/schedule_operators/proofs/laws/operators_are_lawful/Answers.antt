@@ -1,0 +1,7 @@
+use Rattle.schedule_operators.proofs.Lawful.{operators_are_lawful}
+use Rattle.schedule_operators.proofs.laws.operators_are_lawful.Goals as goal
+
+pub returns : goal.returns
+returns c =
+    operators_are_lawful c.exchanges_are_lawful.ensures c.names_are_lawful.ensures
+    c.deleted_passes_are_lawful.ensures

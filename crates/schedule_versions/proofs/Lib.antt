@@ -1,0 +1,6 @@
+mod Open
+mod Quiet
+mod Growing
+mod Derived
+mod Chain
+mod Runs

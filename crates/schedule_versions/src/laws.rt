@@ -1,0 +1,27 @@
+// Laws of versions, each the contract of a function with nothing to do.
+
+ghost use Rattle.schedule_versions.specs.Laws.{StartedIsDerived, RunIsDerived, VersionsRefine};
+
+/// The procedures of a well-formed unit of which nothing faults are versions to begin with.
+pub fn started_versions_are_derived()
+    ensures { StartedIsDerived }
+{}
+
+/// What the lines of a schedule make of derived versions is derived, whatever lawful operators they
+/// name.
+pub fn runs_are_derived()
+    ensures { RunIsDerived }
+{
+    affine_prover::laws::shown_systems_have_no_point();
+    check_claims_laws::laws::procedures_may_run();
+    check_claims_laws::laws::claims_are_formed();
+    check_claims_laws::laws::claims_suffice_here();
+    check_facts_laws::laws::shown_conditions_hold();
+    step_rules::laws::proposals_are_kept();
+    step_rules::laws::lawful_rules_keep_meaning();
+}
+
+/// A version refines each version of which it was made, but for the fields that the report names.
+pub fn versions_refine()
+    ensures { VersionsRefine }
+{}

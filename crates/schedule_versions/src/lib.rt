@@ -1,0 +1,4 @@
+//! Versions of a schedule and what its lines do, as definitions; laws of them.
+#![tactic(auto)]
+
+pub mod laws;
