@@ -26,7 +26,7 @@ use Rattle.meaning_laws.proofs.UnitFootprints.{runs_exchange}
 use Rattle.buffer_laws.specs.Accumulated.{from_zero, adding, OnlyReduces, AccumLaw}
 use Rattle.buffer_laws.specs.Accumulated.{AccumByModes}
 
-zero_fits : (cell : Cell) → wrap cell (pos 0) ≡ pos 0
+pub zero_fits : (cell : Cell) → wrap cell (pos 0) ≡ pos 0
 unfolding int_wrap
 zero_fits I8 = refl
 zero_fits I32 = refl
@@ -35,7 +35,7 @@ from_first : (m : ℤ) → pos 0 +ℤ m ≡ m
 from_first m = omega (arith, ints)
 
 -- to add to 0 is to put there, where it fits
-added_to_zero : (cell : Cell) (v : Value) → FitsCell cell v → added cell v (Number (pos 0)) ≡ v
+pub added_to_zero : (cell : Cell) (v : Value) → FitsCell cell v → added cell v (Number (pos 0)) ≡ v
 added_to_zero cell Undefined h = refl
 added_to_zero cell (Number m) h =
     ap Number (wrap_wrapped cell (pos 0 +ℤ m) ∙ ap (wrap cell) (from_first m) ∙ h)
@@ -67,7 +67,7 @@ module _ (fields : List ConfigField) (memories : ℕ) (ps : List Procedure) (sco
   abbrev change : Change
   change = adding shape.cell (s.cells y) y
 
-  abbrev start : State
+  abbrev pub start : State
   start = from_zero y s
 
   others : LeavesOthers change start.scene
@@ -90,7 +90,7 @@ module _ (fields : List ConfigField) (memories : ℕ) (ps : List Procedure) (sco
           ∙ ap (λ z. s.cells z at) (sym (eqb-true x y e))
       cell x at false e = refl
 
-  starts : MayTouch fields memories ps scope root b start
+  pub starts : MayTouch fields memories ps scope root b start
   starts = record {
     unit = may.unit;
     block = may.block;

@@ -2,13 +2,13 @@
 use Rattle.std.proofs.Common.{true, option_map}
 use Rattle.std.proofs.Common.{◌≡◌, ◌==◌, ℕ, ℤ, pos, ◌+ℤ◌, Bool, false}
 use Rattle.std.proofs.Common.{[], ◌∷◌, Some, None, refl, subst}
-use Rattle.std.proofs.Common.{arith, cond, IfSome, ◌||◌, ap, sym, true≢false}
+use Rattle.std.proofs.Common.{arith, cond, ◌||◌, sym, true≢false}
 use Rattle.std.proofs.lemmas.Int.{ints}
 use Rattle.std.specs.Int.{int_wrap}
 use Rattle.std.specs.Ordering.{int_eq}
 use Rattle.exo_tree.specs.Tree.{Binder, I32, Index, Control, Condition, Lt, Lit, Var, StrideOf, Add}
 use Rattle.exo_tree.specs.Tree.{Field, Neg, Sub, Mul, Div, Mod}
-use Rattle.exo_tree.specs.Tree.{Datum, Const, Read, Plus, Times, Whole, Window, At, Assign, Reduce}
+use Rattle.exo_tree.specs.Tree.{Datum, Const, Read, Plus, Times, Whole, Window, At, Assign}
 use Rattle.exo_tree.specs.Tree.{Pass}
 use Rattle.exo_tree.specs.Tree.{Alloc, Call, Block, end, next, Procedure}
 use Rattle.exo_tree.specs.Context.{Here, fill}
@@ -25,7 +25,6 @@ use Rattle.exo_meaning.proofs.Windows.{none_is_some, one_value}
 use Rattle.meaning_laws.specs.Context.{MayReplace}
 use Rattle.meaning_laws.specs.Copies.{IsFree}
 use Rattle.meaning_laws.specs.Sorted.{CellsFit}
-use Rattle.meaning_laws.specs.Sound.{IsUnbound}
 use Rattle.meaning_laws.proofs.Swaps.{swap, swap_moves}
 use Rattle.meaning_laws.proofs.Replace.{unit_respects}
 use Rattle.inplace_laws.specs.Along.{SameAlong}
@@ -36,15 +35,15 @@ use Rattle.buffer_laws.specs.Lifted.{branch_with, lifted_from_then, lifted_from_
 use Rattle.buffer_laws.proofs.Lifted.{lift_from_then, lift_from_else, lift_then_law, lift_else_law}
 use Rattle.buffer_laws.specs.Bound.{Hole, Top, PlusIn, stores, only_statement, filled, bound}
 use Rattle.buffer_laws.specs.Simplified.{IsSimplifier, simplified}
-use Rattle.buffer_laws.specs.Expanded.{expanded, may_expand, small, enlarged, MayBePart, MayExpand}
-use Rattle.buffer_laws.specs.Expanded.{EndsAlike, with_larger}
-use Rattle.buffer_laws.proofs.Expanded.{expand_law, expand_under_ids, expand_refines}
+use Rattle.buffer_laws.specs.Expanded.{expanded, may_expand, small}
+use Rattle.buffer_laws.specs.Expanded.{with_larger}
+use Rattle.buffer_laws.proofs.Expanded.{expand_refines}
 use Rattle.buffer_laws.proofs.Buffers.{memory_law, delete_law}
 use Rattle.buffer_laws.proofs.Lifted.{lift_from_loop, lift_law}
 use Rattle.buffer_laws.proofs.Bound.{values_fit, bind_law, bind_refines}
 use Rattle.buffer_laws.proofs.Simplified.{simplified_along, simplified_law}
 
-abbrev named : ℕ → Binder
+abbrev pub named : ℕ → Binder
 named n = record { id = n; name = 97 ∷ n ∷ [] }
 
 abbrev world : World
@@ -186,7 +185,7 @@ product = Times (Const (pos 2)) (Const (pos 3))
 abbrev in_sum : Hole
 in_sum = PlusIn (Const (pos 1)) Top
 
-abbrev one_cell : Buffer
+abbrev pub one_cell : Buffer
 one_cell = record { binder = named 3; cell = I32; dims = []; memory = 0 }
 
 no_cells : CellsFit nothing
@@ -279,7 +278,7 @@ is_zero (Mul a b) = false
 is_zero (Div a c) = false
 is_zero (Mod a c) = false
 
-abbrev drop : Control → Control
+abbrev pub drop : Control → Control
 drop (Lit n) = Lit n
 drop (Var x) = Var x
 drop (Field f) = Field f
@@ -294,7 +293,7 @@ drop (Mod a c) = Mod a c
 zero_first : (m n : ℤ) → int_eq m (pos 0) ≡ true → n ≡ m +ℤ n
 zero_first m n h = grind (arith, ints)
 
-is_drop : IsSimplifier drop
+pub is_drop : IsSimplifier drop
 is_drop (Lit n) scene p = refl
 is_drop (Var x) scene p = refl
 is_drop (Field f) scene p = refl
@@ -323,55 +322,6 @@ is_drop (Sub a b) scene p = refl
 is_drop (Mul a b) scene p = refl
 is_drop (Div a c) scene p = refl
 is_drop (Mod a c) scene p = refl
-
--- b : i32; b = 2; b += 1; f(b) and b : i32[8] with the point i of 8, which gets the id of b
-abbrev on_cell : Block
-on_cell = next (Assign 3 [] (Const (pos 2))) (next (Reduce 3 [] (Const (pos 1)))
-    (next (Call 0 (Whole 3 ∷ [])) end))
-
-cell_enlarged : re_block (swap 3 9) (with_larger drop 9 (Lit (pos 8)) (Var 1) one_cell on_cell)
-    ≡ expanded (Lit (pos 8)) (Var 1) one_cell on_cell
-cell_enlarged = refl
-
--- i is 5
-abbrev fifth : State
-fifth = bare (λ x. cond (x == 1) (pos 5) (pos 0)) (λ f. pos 0)
-
-unbound : (x : ℕ) → (x == 1) ≡ false → IsUnbound fifth x
-unbound x h = record {
-  control = ap (λ t. cond t (pos 5) (pos 0)) h;
-  buffers = refl;
-  views = refl;
-}
-
-may_be_part : MayBePart 9 (Var 1) one_cell on_cell
-may_be_part = record {
-  apart = refl;
-  plain = refl;
-  plain_dims = refl;
-  kept = λ y h. refl;
-  once = refl;
-  unused = refl;
-  gone = refl;
-}
-
-may_enlarge : MayExpand 9 (Lit (pos 8)) (Var 1) one_cell on_cell fifth
-may_enlarge = record {
-  trees = may_be_part;
-  sound = record { tidy = λ b e at. refl; seen = λ x z e. absurd (none_is_some e) };
-  none = unbound 3 refl;
-  new = unbound 9 refl;
-  inside = refl;
-}
-
-cell_is_part : IfSome (run world (small one_cell on_cell) fifth)
-    (λ t. EndsAlike fifth t (run world (enlarged 9 (Lit (pos 8)) (Var 1) one_cell on_cell) fifth))
-cell_is_part = expand_law world 9 (Lit (pos 8)) (Var 1) one_cell on_cell fifth may_enlarge
-
-cell_under_ids : IfSome (run world (small one_cell on_cell) fifth)
-    (λ t. EndsAlike fifth t (run world (expanded (Lit (pos 8)) (Var 1) one_cell on_cell) fifth))
-cell_under_ids = expand_under_ids drop (swap 3 9) world 9 (Lit (pos 8)) (Var 1) one_cell on_cell
-    fifth is_drop may_enlarge (swap_moves 3 9 (IsUnbound fifth) (unbound 3 refl) (unbound 9 refl))
 
 -- t : i32[4]; t[0] = 7 becomes t : i32[8, 4]; t[3, 0] = 7
 abbrev at_third : Block

@@ -428,9 +428,28 @@ expand_under_ids simple r world a n e x rest s is may moves =
     all_under_ids simple r world a n e x rest s is may moves (run world (small x rest) s)
     (expand_law world a n e x rest s may)
 
+-- under other ids, with the indices as they are made
+pub under_same : (r : Renaming) (world : World) (a : ℕ) (n e : Control) (x : Buffer)
+    (rest : Block) (s : State) → MayExpand a n e x rest s → Moves r (IsUnbound s)
+    → IfSome (run world (small x rest) s)
+    (λ t. EndsAlike s t (run world (re_block r (enlarged a n e x rest)) s))
+under_same r world a n e x rest s may moves =
+    subst (λ o. IfSome (run world (small x rest) s) (λ t. EndsAlike s t o))
+    ((copied_block_law r world (with_larger same_index a n e x rest) s may.sound moves).0
+    ∙ ap (option_map (re_state r))
+    (sym (simplified_law world same_index (is_name a) (enlarged a n e x rest) s is_same_index))
+    ∙ sym (copied_block_law r world (enlarged a n e x rest) s may.sound moves).0)
+    (expand_under_ids same_index r world a n e x rest s is_same_index may moves)
+  where
+    same_index : Control → Control
+    same_index e = e
+
+    is_same_index : IsSimplifier same_index
+    is_same_index e scene plain = refl
+
 -- ---- at a place
 
-turned_round : (s t u : State) → AreAlike s t u → AreAlike s u t
+pub turned_round : (s t u : State) → AreAlike s t u → AreAlike s u t
 turned_round s t u h = record {
   fields = sym h.fields;
   cells = λ y at i. sym (h.cells y at i);

@@ -66,10 +66,10 @@ may_run = record {
 abbrev world : World
 world = unit_world (kinds_of []) []
 
-abbrev same : Control → Control
+abbrev pub same : Control → Control
 same e = e
 
-is_same : IsSimplifier same
+pub is_same : IsSimplifier same
 is_same e scene plain = refl
 
 -- x[0:8]

@@ -36,12 +36,12 @@ module _ (world : World) where
   nest_along (l ∷ ls) c d h s = both_next (in_turns refl refl (λ n u come.
       nest_along ls c d h (on_scene (with_control l.binder.id n) u))) (λ t e. both_end)
 
-  nest_same : (ls : List Loop) (c d : Statement) → ((u : State) → step world c u ≡ step world d u)
+  pub nest_same : (ls : List Loop) (c d : Statement) → ((u : State) → step world c u ≡ step world d u)
       → (s : State) → run world (nest ls c) s ≡ run world (nest ls d) s
   nest_same ls c d h s = along_law world (nest ls c) (nest ls d) s (nest_along ls c d h s)
 
   -- two blocks in a row
-  joined_same : (a b c d : Block) → ((u : State) → run world a u ≡ run world c u)
+  pub joined_same : (a b c d : Block) → ((u : State) → run world a u ≡ run world c u)
       → ((u : State) → run world b u ≡ run world d u) → (s : State)
       → run world (joined a b) s ≡ run world (joined c d) s
   joined_same a b c d h k s = compose world a b s
@@ -53,7 +53,7 @@ joined_end end = refl
 joined_end (next a b) = ap (next a) (joined_end b)
 
 module _ (world : World) (simple : Control → Control) (is : IsSimplifier simple) where
-  place_same : (u : State) (x : ℕ) (es : List Control)
+  pub place_same : (u : State) (x : ℕ) (es : List Control)
       → place u.scene x es ≡ place u.scene x (all_simpler simple es)
   place_same u x es = ap (λ js. then_do (u.scene.views x) (λ seen. option_map (λ at. record {
     buffer = seen.buffer;
@@ -133,7 +133,7 @@ reader_draft_law world simple cell memory base x coords name b s is =
     reader_same world simple is cell memory base x coords name b s
 
 -- what runs alike may stand as well
-same_may : (world : World) (hidden : ℕ → Bool) (old new other : Block) (s : State)
+pub same_may : (world : World) (hidden : ℕ → Bool) (old new other : Block) (s : State)
     → run world new s ≡ run world other s → MayReplace world hidden old new s
     → MayReplace world hidden old other s
 same_may world hidden old new other s e may = record {

@@ -6,3 +6,8 @@ pub mod StageMem
 pub mod Expanded
 pub mod StageLaws
 pub mod Accumulated
+pub mod Sums
+pub mod StageAccum
+pub mod ExpandText
+pub mod MadeIndices
+pub mod BoundAtPlaces

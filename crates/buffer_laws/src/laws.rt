@@ -11,8 +11,11 @@ ghost use Rattle.buffer_laws.specs.Lifted.{LiftElseLaw};
 ghost use Rattle.buffer_laws.specs.Bound.{ValuesFit};
 ghost use Rattle.buffer_laws.specs.Bound.{BindLaw};
 ghost use Rattle.buffer_laws.specs.Bound.{BindRefines};
+ghost use Rattle.buffer_laws.specs.BoundAtPlaces.{BoundFitsAtPlace};
+ghost use Rattle.buffer_laws.specs.BoundAtPlaces.{BindAtPlace};
 ghost use Rattle.buffer_laws.specs.Simplified.{SimplifiedAlong};
 ghost use Rattle.buffer_laws.specs.Simplified.{SimplifiedLaw};
+ghost use Rattle.buffer_laws.specs.MadeIndices.{MadeSimplerLaw};
 ghost use Rattle.buffer_laws.specs.StageLaws.{DraftLaw};
 ghost use Rattle.buffer_laws.specs.StageLaws.{StageMemLaw};
 ghost use Rattle.buffer_laws.specs.StageLaws.{FitsAtPlaces};
@@ -21,8 +24,16 @@ ghost use Rattle.buffer_laws.specs.StageLaws.{StageReaderLaw};
 ghost use Rattle.buffer_laws.specs.Expanded.{ExpandLaw};
 ghost use Rattle.buffer_laws.specs.Expanded.{ExpandUnderIds};
 ghost use Rattle.buffer_laws.specs.Expanded.{ExpandRefines};
+ghost use Rattle.buffer_laws.specs.ExpandText.{ExpandTextLaw};
+ghost use Rattle.buffer_laws.specs.ExpandText.{ExpandTextRefines};
 ghost use Rattle.buffer_laws.specs.Accumulated.{AccumLaw};
 ghost use Rattle.buffer_laws.specs.Accumulated.{AccumByModes};
+ghost use Rattle.buffer_laws.specs.Sums.{ZerosLaw};
+ghost use Rattle.buffer_laws.specs.Sums.{SumsLaw};
+ghost use Rattle.buffer_laws.specs.StageAccum.{OnlyAddsAtPlace};
+ghost use Rattle.buffer_laws.specs.StageAccum.{SumsReplace};
+ghost use Rattle.buffer_laws.specs.StageAccum.{SumsDraftLaw};
+ghost use Rattle.buffer_laws.specs.StageAccum.{StageSumsLaw};
 
 /// An allocation may have another memory.
 pub fn memories_are_not_seen()
@@ -137,4 +148,60 @@ pub fn sums_are_kept()
 /// So does one that neither reads nor writes it, directly, through views or in calls.
 pub fn sums_are_kept_by_modes()
     ensures { AccumByModes }
+{}
+
+/// An allocation and the nest of zeros make a buffer of the window's extents that holds 0.
+pub fn buffers_start_at_zero()
+    ensures { ZerosLaw }
+{}
+
+/// The nest of sums adds the buffer to the window, cell by cell.
+pub fn buffers_are_added_to_windows()
+    ensures { SumsLaw }
+{}
+
+/// At a place of a procedure a block that neither reads nor writes a name's buffer only adds to it.
+pub fn blocks_only_add_at_places()
+    ensures { OnlyAddsAtPlace }
+{}
+
+/// A block that only adds to a window may be staged on a buffer that starts at 0.
+pub fn summing_blocks_may_be_replaced()
+    ensures { SumsReplace }
+{}
+
+/// With simpler indices it runs as with those that are made.
+pub fn sum_drafts_run_alike()
+    ensures { SumsDraftLaw }
+{}
+
+/// So the procedure with it refines the procedure.
+pub fn windows_of_sums_may_be_staged()
+    ensures { StageSumsLaw }
+{}
+
+/// A block with a new first dimension for a buffer ends with the same fields and cells, calls
+/// included.
+pub fn expanded_buffers_run_alike()
+    ensures { ExpandTextLaw }
+{}
+
+/// So it may stand for the block at a place of a procedure.
+pub fn buffers_are_expanded()
+    ensures { ExpandTextRefines }
+{}
+
+/// The simplifier of the indices and dimensions that a step makes keeps their numbers.
+pub fn made_indices_are_simplified()
+    ensures { MadeSimplerLaw }
+{}
+
+/// At a place of a well-formed procedure a value fits the cell type that is made for it.
+pub fn values_fit_at_places()
+    ensures { BoundFitsAtPlace }
+{}
+
+/// So tests on the trees and the types are enough for a part of an expression to be stored.
+pub fn parts_are_bound_by_types()
+    ensures { BindAtPlace }
 {}

@@ -253,8 +253,9 @@ call_of naming forms k f args = called_by k f.name f.template (piece_of naming f
 abbrev pub element_of : Memory → Cell → Element
 element_of memory cell = if memory.lanes == 0 then Single cell else Vector memory.ctype memory.lanes cell
 
+-- a dimension on the stack is a literal of at least 1; what is none counts as 0
 abbrev pub literal : Control → ℤ
-literal (Lit n) = n
+literal (Lit (pos n)) = pos n
 literal e = pos 0
 
 -- the product of the literals from n on; 0 as soon as it passes 2 ^ 62

@@ -19,7 +19,7 @@ use crate::expressions::{lower_cell, lower_data, lower_sides, lower_test, lower_
 use crate::names::Names;
 use crate::numbers::lower_product;
 use crate::scope::{Entry, Form, c_type, cell_type, enter};
-use c_tree::tree::{CBlock, CCell, CData, CStatement, CType};
+use c_tree::tree::{CBlock, CCell, CData, CElement, CStatement, CType};
 use exo_tree::{Arg, Binder, Block, Cell, Cond, Ctrl, DataExpr, FieldId, Id, Indices, MemId, Stmt};
 use std::alloc::{AllocError, Global};
 
@@ -35,10 +35,18 @@ fn lower_alloc(
 {
     let name = names.binder(alloc, x.id)?;
     if dims.len() == 0 {
-        return Ok(CStatement::Array(c_type(cell), name, 1));
+        return Ok(CStatement::Array(
+            CElement::Single(c_type(cell)),
+            name,
+            1,
+        ));
     }
     let count = lower_product(alloc, names, dims.as_slice())?;
-    Ok(CStatement::Malloc(c_type(cell), name, count))
+    Ok(CStatement::Malloc(
+        CElement::Single(c_type(cell)),
+        name,
+        count,
+    ))
 }
 
 /// The C of an allocation in a memory of cells on the heap.

@@ -5,7 +5,7 @@ ghost use Rattle.exo_tree.specs.PlainControl.{control, condition};
 ghost use Rattle.exo_tree.specs.PlainDatum.{datum};
 ghost use Rattle.exo_tree.specs.PlainArgument.{argument};
 ghost use Rattle.c_tree.specs.CTree.{IsSet, InArray};
-ghost use Rattle.c_tree.specs.Plain.{plain_number, plain_test, plain_cell, plain_data, plain_value};
+ghost use Rattle.c_tree.specs.Plain.{plain_number, plain_test, plain_cell, plain_data, plain_actual};
 ghost use Rattle.c_printer.specs.Lowered.{number_of, test_of, cell_at_of, number32_of, actual_of};
 ghost use Rattle.c_printer.specs.Scope.{forms_in};
 ghost use Rattle.c_printer.specs.Naming.{naming_of};
@@ -15,7 +15,7 @@ ghost use Rattle.c_printer.specs.SelfContained.{is_value};
 use crate::names::Names;
 use crate::numbers::{lower_number, lower_offset};
 use crate::scope::{Entry, Form, find};
-use c_tree::tree::{CCell, CData, CNumber, CTest, CValue};
+use c_tree::tree::{CActual, CCell, CData, CHolder, CNumber, CTest};
 use exo_tree::{Arg, Cond, Ctrl, DataExpr, FieldId, Id, Indices};
 use std::alloc::{AllocError, Global};
 
@@ -143,9 +143,13 @@ pub(crate) fn lower_cell(
 ) -> Result<CCell, AllocError>
     ensures { IfOk result (λ c. plain_cell c ≡ cell_at_of (naming_of names.now) (forms_in scope.now) x.0 is.now) }
 {
-    let array = names.binder(alloc, x)?;
+    let name = names.binder(alloc, x)?;
     let offset = lower_place(alloc, names, scope, x, is)?;
-    Ok(CCell { array, offset })
+    Ok(CCell {
+        holder: CHolder::Array,
+        name,
+        offset,
+    })
 }
 
 /// A negation or `relu`, as the expression is one, of the C of its part.
@@ -221,13 +225,13 @@ pub(crate) fn lower_value(
     names: &Names<'_>,
     scope: &[Entry],
     a: &Arg,
-) -> Result<CValue, AllocError>
+) -> Result<CActual, AllocError>
     requires { is_value (argument a.now) ≡ true }
-    ensures { IfOk result (λ v. plain_value v ≡ actual_of (naming_of names.now) (forms_in scope.now) (ControlParam Index) (argument a.now)) }
+    ensures { IfOk result (λ v. plain_actual v ≡ actual_of (naming_of names.now) (forms_in scope.now) (ControlParam Index) (argument a.now)) }
 {
     match a {
-        Arg::Ctrl(e) => Ok(CValue::Number(lower_number(alloc, names, scope, e)?)),
-        Arg::Cond(c) => Ok(CValue::Test(lower_test(alloc, names, scope, c)?)),
+        Arg::Ctrl(e) => Ok(CActual::Number(lower_number(alloc, names, scope, e)?)),
+        Arg::Cond(c) => Ok(CActual::Test(lower_test(alloc, names, scope, c)?)),
         Arg::Whole(_) | Arg::Window(_, _) => unreachable!(),
     }
 }

@@ -231,6 +231,7 @@ fn lower_file(
     Ok(CUnit {
         report,
         includes,
+        structs: Vec::new(alloc),
         fields,
         functions,
     })

@@ -1,3 +1,5 @@
 pub mod Blocks
 pub mod Appends
 pub mod Maps
+pub mod Listed
+pub mod Joined

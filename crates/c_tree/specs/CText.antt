@@ -104,6 +104,10 @@ deeper indent = indent ++ codes "    "
 abbrev pub allocation_text : Text → Name → Text → Text
 allocation_text t x n = t ++ codes " *" ++ x ++ codes " = (" ++ t ++ codes " *)malloc((size_t)" ++ n ++ codes " * sizeof(" ++ t ++ codes "));"
 
+abbrev pub bound_text : ℕ → Cell → Name → Text → Text
+bound_text rank cell w window =
+    struct_word rank cell ++ codes " " ++ w ++ codes " = " ++ window ++ codes ";"
+
 abbrev pub loop_text : Name → Text → Text → Text
 loop_text x lo hi = codes "for (int64_t " ++ x ++ codes " = " ++ lo ++ codes "; " ++ x ++ codes " < " ++ hi ++ codes "; " ++ x ++ codes "++) {"
 
@@ -118,7 +122,7 @@ head_text (Loop x lo hi b) = loop_text x (number64_text lo) (number64_text hi)
 head_text (Array element x n) = element_word element ++ codes " " ++ x ++ codes "[" ++ signed_decimal n ++ codes "];"
 head_text (Malloc element x n) = allocation_text (element_word element) x (number64_text n)
 head_text (Free x) = codes "free(" ++ x ++ codes ");"
-head_text (Bind rank cell w ref strides) = struct_word rank cell ++ codes " " ++ w ++ codes " = " ++ window_text rank cell ref strides ++ codes ";"
+head_text (Bind rank cell w ref strides) = bound_text rank cell w (window_text rank cell ref strides)
 head_text (CallOf f args) = f ++ codes "(" ++ listed (map actual_text args) ++ codes ");"
 head_text (Instruction k pieces args) = each piece_text pieces
 
@@ -179,8 +183,13 @@ helpers =
     ++ margin (codes "static inline uint32_t exo_relu(uint32_t x) { return ((int32_t)x > 0) ? x : 0; }")
     ++ margin (codes "static inline uint32_t exo_select(uint32_t x, uint32_t v, uint32_t y, uint32_t z) { return ((int32_t)x < (int32_t)v) ? y : z; }")
 
+abbrev pub struct_line : ℕ → Cell → Text
+struct_line rank cell =
+    struct_word rank cell ++ codes " { " ++ type_word cell ++ codes " *data; int64_t strides["
+    ++ decimal rank ++ codes "]; };"
+
 abbrev pub struct_text : StructOf → Text
-struct_text s = margin (struct_word s.rank s.cell ++ codes " { " ++ type_word s.cell ++ codes " *data; int64_t strides[" ++ decimal s.rank ++ codes "]; };")
+struct_text s = margin (struct_line s.rank s.cell)
 
 abbrev pub field_text : Name → Text
 field_text x = margin (codes "int64_t " ++ x ++ codes ";")

@@ -1,7 +1,4 @@
 -- Plain trees of C, with one form for each kind of C text.
--- The program makes no vectors, windows, calls, instructions and structs yet: `Vector`, `StrideIn`,
--- `InWindow`, `Alone`, `Address`, `WindowOf`, `Bind`, `CallOf`, `Instruction` and `WindowParamOf` are
--- there for calls.
 use Rattle.std.specs.Prelude.{ℕ, ℤ, List, [], ◌∷◌}
 use Rattle.exo_tree.specs.Tree.{Cell}
 pub use Rattle.c_names.specs.Words.{Name}

@@ -1,9 +1,12 @@
 //! Expressions of C print as C.
-ghost use Rattle.std.specs.Prelude.{Some, string_bytes};
-ghost use Rattle.c_tree.specs.CText.{type_word, number64_text, test_text, cell_text, number32_text, actual_text, formal_text, head_text, signature_text, origin_text};
-ghost use Rattle.c_tree.specs.Plain.{plain_type, plain_number, plain_test, plain_cell, plain_data, plain_value, plain_param, plain_statement};
+ghost use Rattle.std.specs.Prelude.{Some, map, string_bytes};
+ghost use Rattle.c_tree.specs.CText.{type_word, struct_word, struct_line, element_word, number64_text, test_text, cell_text, number32_text, actual_text, piece_text, allocation_text, bound_text, formal_text, head_text, signature_text, origin_text, each, listed};
+ghost use Rattle.c_tree.specs.Plain.{plain_type, plain_element, plain_number, plain_test, plain_cell, plain_data, plain_window, plain_actual, plain_piece, plain_param, plain_statement};
 
-use crate::tree::{CCell, CData, CNumber, CParam, CStatement, CTest, CType, CValue};
+use crate::tree::{
+    CActual, CCell, CData, CElement, CHolder, CNumber, CParam, CPiece, CStatement, CStruct, CTest,
+    CType, CWindow,
+};
 use std::fmt;
 
 impl fmt::Display for CType {
@@ -24,6 +27,7 @@ impl fmt::Display for CNumber {
         match self {
             CNumber::Literal(n) => write!(f, "{n}LL"),
             CNumber::Named(x) => write!(f, "{x}"),
+            CNumber::Stride(w, k) => write!(f, "{w}.strides[{k}]"),
             CNumber::Opposite(a) => write!(f, "(-{a})"),
             CNumber::Sum(a, b) => write!(f, "({a} + {b})"),
             CNumber::Difference(a, b) => write!(f, "({a} - {b})"),
@@ -57,7 +61,10 @@ impl fmt::Display for CCell {
     ghost output = { λ x. Some (cell_text (plain_cell x)) };
 
     fn fmt<W: fmt::Write>(&self, f: &mut fmt::Formatter<W>) -> fmt::Result {
-        write!(f, "{}[{}]", self.array, self.offset)
+        match self.holder {
+            CHolder::Array => write!(f, "{}[{}]", self.name, self.offset),
+            CHolder::Window => write!(f, "{}.data[{}]", self.name, self.offset),
+        }
     }
 }
 
@@ -78,14 +85,114 @@ impl fmt::Display for CData {
     }
 }
 
-impl fmt::Display for CValue {
-    ghost output = { λ a. Some (actual_text (plain_value a)) };
+impl fmt::Display for CStruct {
+    ghost output = { λ s. Some (struct_word s.rank (plain_type s.cell)) };
+
+    fn fmt<W: fmt::Write>(&self, f: &mut fmt::Formatter<W>) -> fmt::Result {
+        match self.cell {
+            CType::Int8 => write!(f, "struct exo_win_{}i8", self.rank),
+            CType::Int32 => write!(f, "struct exo_win_{}i32", self.rank),
+        }
+    }
+}
+
+impl fmt::Display for CElement {
+    ghost output = { λ e. Some (element_word (plain_element e)) };
 
     fn fmt<W: fmt::Write>(&self, f: &mut fmt::Formatter<W>) -> fmt::Result {
         match self {
-            CValue::Number(a) => write!(f, "{a}"),
-            CValue::Test(t) => write!(f, "{t}"),
+            CElement::Single(t) => write!(f, "{t}"),
+            CElement::Vector(name, _, _) => write!(f, "{name}"),
         }
+    }
+}
+
+/// Numbers, with commas between.
+#[derive(Clone, Copy)]
+struct Numbers<'a>(&'a Vec<CNumber>);
+
+impl fmt::Display for Numbers<'_> {
+    ghost output = { λ s. Some (listed (map number64_text (map plain_number s.0.now.items))) };
+
+    fn fmt<W: fmt::Write>(&self, f: &mut fmt::Formatter<W>) -> fmt::Result {
+        let Some((first, rest)) = self.0.split_first() else {
+            return Ok(());
+        };
+        write!(f, "{first}")?;
+        for number in rest {
+            write!(f, ", {number}")?;
+        }
+        Ok(())
+    }
+}
+
+impl fmt::Display for CWindow {
+    ghost output = { λ w. Some (actual_text (plain_window w)) };
+
+    fn fmt<W: fmt::Write>(&self, f: &mut fmt::Formatter<W>) -> fmt::Result {
+        let strides = Numbers(&self.strides);
+        write!(f, "({}){{ &{}, {{ {strides} }} }}", self.kind, self.first)
+    }
+}
+
+impl fmt::Display for CActual {
+    ghost output = { λ a. Some (actual_text (plain_actual a)) };
+
+    fn fmt<W: fmt::Write>(&self, f: &mut fmt::Formatter<W>) -> fmt::Result {
+        match self {
+            CActual::Number(a) => write!(f, "{a}"),
+            CActual::Test(t) => write!(f, "{t}"),
+            CActual::Alone(x) => write!(f, "{x}"),
+            CActual::Address(x) => write!(f, "&{x}"),
+            CActual::Window(w) => write!(f, "{w}"),
+        }
+    }
+}
+
+/// Arguments, with commas between.
+#[derive(Clone, Copy)]
+struct Actuals<'a>(&'a Vec<CActual>);
+
+impl fmt::Display for Actuals<'_> {
+    ghost output = { λ s. Some (listed (map actual_text (map plain_actual s.0.now.items))) };
+
+    fn fmt<W: fmt::Write>(&self, f: &mut fmt::Formatter<W>) -> fmt::Result {
+        let Some((first, rest)) = self.0.split_first() else {
+            return Ok(());
+        };
+        write!(f, "{first}")?;
+        for actual in rest {
+            write!(f, ", {actual}")?;
+        }
+        Ok(())
+    }
+}
+
+impl fmt::Display for CPiece {
+    ghost output = { λ p. Some (piece_text (plain_piece p)) };
+
+    fn fmt<W: fmt::Write>(&self, f: &mut fmt::Formatter<W>) -> fmt::Result {
+        match self {
+            CPiece::Text(t) => write!(f, "{t}"),
+            CPiece::Actual(a) => write!(f, "{a}"),
+            CPiece::Cell(x) => write!(f, "{x}"),
+        }
+    }
+}
+
+/// The pieces of a line.
+#[derive(Clone, Copy)]
+struct Pieces<'a>(&'a Vec<CPiece>);
+
+impl fmt::Display for Pieces<'_> {
+    ghost output = { λ s. Some (each piece_text (map plain_piece s.0.now.items)) };
+
+    fn fmt<W: fmt::Write>(&self, f: &mut fmt::Formatter<W>) -> fmt::Result {
+        let pieces = self.0.as_slice();
+        for piece in pieces {
+            write!(f, "{piece}")?;
+        }
+        Ok(())
     }
 }
 
@@ -96,7 +203,47 @@ impl fmt::Display for CParam {
         match self {
             CParam::Number(x) => write!(f, "int64_t {x}"),
             CParam::Array(t, x) => write!(f, "{t} *{x}"),
+            CParam::Window(kind, x) => write!(f, "{kind} {x}"),
         }
+    }
+}
+
+/// An array on the heap.
+#[derive(Clone, Copy)]
+struct Allocation<'a> {
+    element: &'a CElement,
+    name: &'a String,
+    count: &'a CNumber,
+}
+
+impl fmt::Display for Allocation<'_> {
+    ghost output = { λ a. Some (allocation_text (element_word (plain_element a.element.now)) (string_bytes a.name.now) (number64_text (plain_number a.count.now))) };
+
+    fn fmt<W: fmt::Write>(&self, f: &mut fmt::Formatter<W>) -> fmt::Result {
+        let Allocation {
+            element,
+            name,
+            count,
+        } = self;
+        write!(
+            f,
+            "{element} *{name} = ({element} *)malloc((size_t){count} * sizeof({element}));"
+        )
+    }
+}
+
+/// A name for a window.
+#[derive(Clone, Copy)]
+struct Binding<'a> {
+    name: &'a String,
+    window: &'a CWindow,
+}
+
+impl fmt::Display for Binding<'_> {
+    ghost output = { λ b. Some (bound_text b.window.now.kind.rank (plain_type b.window.now.kind.cell) (string_bytes b.name.now) (actual_text (plain_window b.window.now))) };
+
+    fn fmt<W: fmt::Write>(&self, f: &mut fmt::Formatter<W>) -> fmt::Result {
+        write!(f, "{} {} = {};", self.window.kind, self.name, self.window)
     }
 }
 
@@ -116,11 +263,27 @@ impl fmt::Display for CStatement {
                 write!(f, "{x} < {hi}; {x}++) {{")
             }
             CStatement::Array(t, x, n) => write!(f, "{t} {x}[{n}];"),
-            CStatement::Malloc(t, x, n) => write!(
-                f,
-                "{t} *{x} = ({t} *)malloc((size_t){n} * sizeof({t}));"
-            ),
+            CStatement::Malloc(element, name, count) => {
+                let allocation = Allocation {
+                    element,
+                    name,
+                    count,
+                };
+                write!(f, "{allocation}")
+            }
             CStatement::Free(x) => write!(f, "free({x});"),
+            CStatement::Bind(name, window) => {
+                let binding = Binding { name, window };
+                write!(f, "{binding}")
+            }
+            CStatement::Call(call) => {
+                let args = Actuals(&call.args);
+                write!(f, "{}({args});", call.function)
+            }
+            CStatement::Instruction(i) => {
+                let pieces = Pieces(&i.pieces);
+                write!(f, "{pieces}")
+            }
         }
     }
 }
@@ -156,6 +319,23 @@ impl fmt::Display for Origin<'_> {
             f,
             " * {}: from {}; differs: {}",
             self.name, self.origin, self.fields
+        )
+    }
+}
+
+/// The definition of a struct of windows.
+#[derive(Clone, Copy)]
+pub struct StructLine<'a>(pub &'a CStruct);
+
+impl fmt::Display for StructLine<'_> {
+    ghost output = { λ s. Some (struct_line s.0.now.rank (plain_type s.0.now.cell)) };
+
+    fn fmt<W: fmt::Write>(&self, f: &mut fmt::Formatter<W>) -> fmt::Result {
+        let kind = *self.0;
+        write!(
+            f,
+            "{kind} {{ {} *data; int64_t strides[{}]; }};",
+            kind.cell, kind.rank
         )
     }
 }

@@ -1,11 +1,11 @@
 //! The text of a file of C, appended piece by piece to one string.
 ghost use Rattle.std.specs.Prelude.{◌≡◌, ◌++◌, [], map, codes, IfOk, OnOk, string_bytes};
 ghost use Rattle.c_tree.specs.CTree.{cblock};
-ghost use Rattle.c_tree.specs.CText.{line, deeper, margin, each, or_word, or_else, head_text, block_text, inner_text, formal_text, signature_text, function_text, report_text, include_text, field_text, helpers, preamble_text, text_of};
-ghost use Rattle.c_tree.specs.Plain.{plain_statement, plain_param, plain_function, plain_line, plain_unit};
+ghost use Rattle.c_tree.specs.CText.{line, deeper, margin, each, or_word, or_else, head_text, block_text, inner_text, formal_text, signature_text, function_text, report_text, include_text, struct_text, field_text, helpers, preamble_text, text_of};
+ghost use Rattle.c_tree.specs.Plain.{plain_statement, plain_struct, plain_param, plain_function, plain_line, plain_unit};
 
-use crate::show::{Origin, Signature};
-use crate::tree::{CBlock, CFunction, CParam, CStatement, CUnit, ReportLine};
+use crate::show::{Origin, Signature, StructLine};
+use crate::tree::{CBlock, CFunction, CParam, CStatement, CStruct, CUnit, ReportLine};
 use std::alloc::{AllocError, Global};
 
 /// Appends a line behind an indentation.
@@ -231,6 +231,25 @@ fn put_helpers(out: &mut String) -> Result<(), AllocError>
     )
 }
 
+/// Appends the line of a struct.
+fn put_struct(alloc: Global, out: &mut String, s: &CStruct) -> Result<(), AllocError>
+    ensures { OnOk result (string_bytes out.new ≡ string_bytes out.old ++ struct_text (plain_struct s.now)) }
+{
+    let line = StructLine(s);
+    let text = format!(in alloc; "{line}")?;
+    put_margin(out, text.as_str())
+}
+
+/// Appends a line for each struct of windows.
+fn put_structs(alloc: Global, out: &mut String, structs: &[CStruct]) -> Result<(), AllocError>
+    ensures { OnOk result (string_bytes out.new ≡ string_bytes out.old ++ each struct_text (map plain_struct structs.now)) }
+{
+    for s in structs {
+        put_struct(alloc, out, s)?;
+    }
+    Ok(())
+}
+
 /// Appends a line for each configuration field.
 fn put_fields(alloc: Global, out: &mut String, fields: &[String]) -> Result<(), AllocError>
     ensures { OnOk result (string_bytes out.new ≡ string_bytes out.old ++ each field_text (map string_bytes fields.now)) }
@@ -273,6 +292,7 @@ pub fn c_text(alloc: Global, c: &CUnit) -> Result<String, AllocError>
     put_report(alloc, &mut out, &c.report)?;
     put_margin(&mut out, " */")?;
     put_preamble(alloc, &mut out, &c.includes)?;
+    put_structs(alloc, &mut out, &c.structs)?;
     put_fields(alloc, &mut out, &c.fields)?;
     put_functions(alloc, &mut out, &c.functions)?;
     Ok(out)

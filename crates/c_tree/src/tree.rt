@@ -18,6 +18,8 @@ pub enum CType {
 pub enum CNumber {
     Literal(i64),
     Named(String),
+    /// The stride of a window's dimension, which is counted from 0.
+    Stride(String, usize),
     Opposite(Box<CNumber>),
     Sum(Box<CNumber>, Box<CNumber>),
     Difference(Box<CNumber>, Box<CNumber>),
@@ -42,10 +44,18 @@ pub enum CTest {
     Either(Box<CTest>, Box<CTest>),
 }
 
-/// The cell of an array at an offset.
+/// What a cell lies in.
+#[derive(Clone, Copy)]
+pub enum CHolder {
+    Array,
+    Window,
+}
+
+/// The cell of an array or a window at an offset.
 #[derive(Drop)]
 pub struct CCell {
-    pub array: String,
+    pub holder: CHolder,
+    pub name: String,
     pub offset: CNumber,
 }
 
@@ -63,11 +73,61 @@ pub enum CData {
     Select(Box<CData>, Box<CData>, Box<CData>, Box<CData>),
 }
 
-/// What a configuration field is set to.
+/// The struct of windows of so many dimensions over cells of that type.
+#[derive(Clone, Copy)]
+pub struct CStruct {
+    pub rank: usize,
+    pub cell: CType,
+}
+
+/// A window that is made: its struct, its first cell and the stride of each dimension.
 #[derive(Drop)]
-pub enum CValue {
+pub struct CWindow {
+    pub kind: CStruct,
+    pub first: CCell,
+    pub strides: Vec<CNumber>,
+}
+
+/// What a function is called with, or a configuration field is set to.
+#[derive(Drop)]
+pub enum CActual {
     Number(CNumber),
     Test(CTest),
+    /// An array, a window or a number of that name.
+    Alone(String),
+    /// The address of a cell.
+    Address(CCell),
+    Window(CWindow),
+}
+
+/// The element type of an array: a cell type, or the vector type of that name, of so many cells.
+#[derive(Drop)]
+pub enum CElement {
+    Single(CType),
+    Vector(String, u32, CType),
+}
+
+/// A call of a function.
+#[derive(Drop)]
+pub struct CCall {
+    pub function: String,
+    pub args: Vec<CActual>,
+}
+
+/// A piece of an instruction's line: text as it is, a control value, or a cell.
+#[derive(Drop)]
+pub enum CPiece {
+    Text(String),
+    Actual(CActual),
+    Cell(CCell),
+}
+
+/// An instruction: the number of its procedure, its line in pieces, and what it is called with, which is not printed.
+#[derive(Drop)]
+pub struct CInstruction {
+    pub number: u32,
+    pub pieces: Vec<CPiece>,
+    pub args: Vec<CActual>,
 }
 
 /// A statement.
@@ -78,16 +138,20 @@ pub enum CStatement {
     Store(CType, CCell, CData),
     /// The cell gets the sum of what it holds and the number, converted to the type.
     AddTo(CType, CCell, CData),
-    SetField(String, CValue),
+    SetField(String, CActual),
     Empty,
     Branch(CTest, CBlock, CBlock),
     /// A counter from the first number up to the second, which it does not reach.
     Loop(String, CNumber, CNumber, CBlock),
-    /// An array on the stack, of so many cells.
-    Array(CType, String, i64),
-    /// An array on the heap, of so many cells.
-    Malloc(CType, String, CNumber),
+    /// An array on the stack, of so many elements.
+    Array(CElement, String, i64),
+    /// An array on the heap, of so many elements.
+    Malloc(CElement, String, CNumber),
     Free(String),
+    /// A name for a window.
+    Bind(String, CWindow),
+    Call(CCall),
+    Instruction(CInstruction),
 }
 
 /// Statements in order.
@@ -164,11 +228,12 @@ impl CBlock {
     }
 }
 
-/// A parameter of a function: a 64-bit number, or the first cell of an array.
+/// A parameter of a function: a 64-bit number, the first cell of an array, or a window.
 #[derive(Drop)]
 pub enum CParam {
     Number(String),
     Array(CType, String),
+    Window(CStruct, String),
 }
 
 /// A function that returns nothing.
@@ -187,11 +252,12 @@ pub struct ReportLine {
     pub differs: Vec<String>,
 }
 
-/// A file of C: the report, further headers, the names of the configuration fields, the functions.
+/// A file of C: the report, further headers, the structs of windows, the names of the configuration fields, the functions.
 #[derive(Drop)]
 pub struct CUnit {
     pub report: Vec<ReportLine>,
     pub includes: Vec<String>,
+    pub structs: Vec<CStruct>,
     pub fields: Vec<String>,
     pub functions: Vec<CFunction>,
 }

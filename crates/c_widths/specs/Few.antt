@@ -7,7 +7,7 @@ use Rattle.exo_meaning.specs.Calls.{Callee, Given, all_given, entered}
 use Rattle.exo_meaning.specs.Run.{World, product, turn, turns_of, run, step, world_of, callee_in, kinds_of}
 use Rattle.c_widths.specs.Laws.{EachTurn}
 
--- what it means that the body of the procedure of that number allocates few from that first state on
+-- what it means that the body of the procedure of that number allocates few from that state on
 abbrev pub Fewness : Type 1
 Fewness = ℕ → State → Type 0
 
@@ -23,18 +23,27 @@ CallAllocatesFew (Some c) few args s =
 abbrev mutual
   pub AllocatesFew : World → Fewness → Block → State → Type 0
   AllocatesFew world few end s = ⊤
-  AllocatesFew world few (next a b) s = StatementAllocatesFew world few a s × ((t : State) → step world a s ≡ Some t → AllocatesFew world few b t)
+  AllocatesFew world few (next a b) s =
+      StatementAllocatesFew world few a s
+      × ((t : State) → step world a s ≡ Some t → AllocatesFew world few b t)
 
   pub StatementAllocatesFew : World → Fewness → Statement → State → Type 0
   StatementAllocatesFew world few (Assign x is e) s = ⊤
   StatementAllocatesFew world few (Reduce x is e) s = ⊤
   StatementAllocatesFew world few (Config f a) s = ⊤
   StatementAllocatesFew world few Pass s = ⊤
-  StatementAllocatesFew world few (If c a b) s = (holds s.scene c ≡ true → AllocatesFew world few a s) × (holds s.scene c ≡ false → AllocatesFew world few b s)
-  StatementAllocatesFew world few (For i lo hi b) s = EachTurn (turn i.id (run world b)) (λ n t. AllocatesFew world few b (on_scene (with_control i.id n) t)) (turns_of s.scene lo hi) s
-  StatementAllocatesFew world few (Alloc x cell dims memory) s = product (numbers s.scene dims) ≤ℤ pos (2 ^ 48)
+  StatementAllocatesFew world few (If c a b) s =
+      (holds s.scene c ≡ true → AllocatesFew world few a s)
+      × (holds s.scene c ≡ false → AllocatesFew world few b s)
+  StatementAllocatesFew world few (For i lo hi b) s =
+      EachTurn (turn i.id (run world b))
+      (λ n t. AllocatesFew world few b (on_scene (with_control i.id n) t))
+      (turns_of s.scene lo hi) s
+  StatementAllocatesFew world few (Alloc x cell dims memory) s =
+      product (numbers s.scene dims) ≤ℤ pos (2 ^ 48)
   StatementAllocatesFew world few (View w x coords) s = ⊤
-  StatementAllocatesFew world few (Call k args) s = CallAllocatesFew (world.callees k) (few k) args s
+  StatementAllocatesFew world few (Call k args) s =
+      CallAllocatesFew (world.callees k) (few k) args s
 
 -- ---- the procedures of a unit
 
@@ -49,7 +58,9 @@ no_fewness k s = ⊤
 abbrev pub fewness_from : (ℕ → Kind) → List Callee → Fewness → List Procedure → Fewness
 fewness_from kinds above few [] = few
 fewness_from kinds above few (p ∷ ps) =
-    fewness_from kinds (above ++ callee_in (world_of kinds above) p ∷ []) (λ k s. one_of (k == length above) (AllocatesFew (world_of kinds above) few p.body s) (few k s)) ps
+    let world = world_of kinds above in
+    fewness_from kinds (above ++ callee_in world p ∷ [])
+    (λ k s. one_of (k == length above) (AllocatesFew world few p.body s) (few k s)) ps
 
 abbrev pub fewness_of : Program → Fewness
 fewness_of program = fewness_from (kinds_of program.fields) [] no_fewness program.procedures

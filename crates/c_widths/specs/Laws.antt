@@ -26,15 +26,27 @@ is_over numbers (Mod a c) = is_over numbers a && int_le (pos 1) c
 pub record IsWithin (numbers : ℕ → Bool) (most : ℕ → ℕ) (scene : Scene) : Type 0 where
   pub control : (x : ℕ) → numbers x ≡ true → unsigned_abs (scene.control x) ≤ most x
   pub fields : (f : ℕ) → unsigned_abs (scene.fields f) ≤ 2 ^ 48
-  pub strides : (b : ℕ) (shape : Shape) → scene.buffers b ≡ Some shape → Each (IsBetween (pos 0) (pos (2 ^ 48))) shape.strides
+  pub strides :
+      (b : ℕ) (shape : Shape)
+      → scene.buffers b ≡ Some shape
+      → Each (IsBetween (pos 0) (pos (2 ^ 48))) shape.strides
 
 -- there no value passes its magnitude
 abbrev pub ValuesLaw : Type 0
-ValuesLaw = (numbers : ℕ → Bool) (most : ℕ → ℕ) (scene : Scene) (e : Control) → IsWithin numbers most scene → is_over numbers e ≡ true → unsigned_abs (number scene e) ≤ magnitude most e
+ValuesLaw =
+    (numbers : ℕ → Bool) (most : ℕ → ℕ) (scene : Scene) (e : Control)
+    → IsWithin numbers most scene
+    → is_over numbers e ≡ true
+    → unsigned_abs (number scene e) ≤ magnitude most e
 
 -- and so an expression that fits has a value of at most 2 ^ 62
 abbrev pub NarrowLaw : Type 0
-NarrowLaw = (numbers : ℕ → Bool) (most : ℕ → ℕ) (scene : Scene) (e : Control) → IsWithin numbers most scene → is_over numbers e ≡ true → is_narrow most e ≡ true → unsigned_abs (number scene e) ≤ 2 ^ 62
+NarrowLaw =
+    (numbers : ℕ → Bool) (most : ℕ → ℕ) (scene : Scene) (e : Control)
+    → IsWithin numbers most scene
+    → is_over numbers e ≡ true
+    → is_narrow most e ≡ true
+    → unsigned_abs (number scene e) ≤ 2 ^ 62
 
 abbrev pub is_control : ParamKind → Bool
 is_control (ControlParam kind) = true
@@ -48,7 +60,10 @@ controls (p ∷ ps) x = if x == p.binder.id then is_control p.kind else controls
 
 -- the names of a valid input are within the bounds of parameters
 abbrev pub StartLaw : Type 0
-StartLaw = (world : World) (p : Procedure) (s : State) → IsValid world p s → IsWithin (controls p.params) (most_of p.params) s.scene
+StartLaw =
+    (world : World) (p : Procedure) (s : State)
+    → IsValid world p s
+    → IsWithin (controls p.params) (most_of p.params) s.scene
 
 -- ---- runs of blocks without calls
 
@@ -70,7 +85,8 @@ abbrev mutual
   is_statement_over numbers (Config f a) = is_setting_over numbers a
   is_statement_over numbers Pass = true
   is_statement_over numbers (If c a b) = is_block_over numbers a && is_block_over numbers b
-  is_statement_over numbers (For i lo hi b) = is_over numbers lo && is_over numbers hi && is_block_over (updated numbers i.id true) b
+  is_statement_over numbers (For i lo hi b) =
+      is_over numbers lo && is_over numbers hi && is_block_over (updated numbers i.id true) b
   is_statement_over numbers (Alloc x cell dims memory) = true
   is_statement_over numbers (View w x coords) = true
   is_statement_over numbers (Call k args) = false
@@ -84,16 +100,24 @@ EachTurn go P (n ∷ ns) s = P n s × ((t : State) → go n s ≡ Some t → Eac
 abbrev mutual
   pub AllocatesFew : World → Block → State → Type 0
   AllocatesFew world end s = ⊤
-  AllocatesFew world (next a b) s = StatementAllocatesFew world a s × ((t : State) → step world a s ≡ Some t → AllocatesFew world b t)
+  AllocatesFew world (next a b) s =
+      StatementAllocatesFew world a s
+      × ((t : State) → step world a s ≡ Some t → AllocatesFew world b t)
 
   pub StatementAllocatesFew : World → Statement → State → Type 0
   StatementAllocatesFew world (Assign x is e) s = ⊤
   StatementAllocatesFew world (Reduce x is e) s = ⊤
   StatementAllocatesFew world (Config f a) s = ⊤
   StatementAllocatesFew world Pass s = ⊤
-  StatementAllocatesFew world (If c a b) s = (holds s.scene c ≡ true → AllocatesFew world a s) × (holds s.scene c ≡ false → AllocatesFew world b s)
-  StatementAllocatesFew world (For i lo hi b) s = EachTurn (turn i.id (run world b)) (λ n t. AllocatesFew world b (on_scene (with_control i.id n) t)) (turns_of s.scene lo hi) s
-  StatementAllocatesFew world (Alloc x cell dims memory) s = product (numbers s.scene dims) ≤ℤ pos (2 ^ 48)
+  StatementAllocatesFew world (If c a b) s =
+      (holds s.scene c ≡ true → AllocatesFew world a s)
+      × (holds s.scene c ≡ false → AllocatesFew world b s)
+  StatementAllocatesFew world (For i lo hi b) s =
+      EachTurn (turn i.id (run world b))
+      (λ n t. AllocatesFew world b (on_scene (with_control i.id n) t))
+      (turns_of s.scene lo hi) s
+  StatementAllocatesFew world (Alloc x cell dims memory) s =
+      product (numbers s.scene dims) ≤ℤ pos (2 ^ 48)
   StatementAllocatesFew world (View w x coords) s = ⊤
   StatementAllocatesFew world (Call k args) s = ⊤
 
@@ -101,19 +125,36 @@ abbrev mutual
 abbrev mutual
   pub StaysWithin : World → (ℕ → Bool) → (ℕ → ℕ) → Block → State → Type 0
   StaysWithin world numbers most end s = IsWithin numbers most s.scene
-  StaysWithin world numbers most (next a b) s = IsWithin numbers most s.scene × StatementStaysWithin world numbers most a s × ((t : State) → step world a s ≡ Some t → StaysWithin world numbers most b t)
+  StaysWithin world numbers most (next a b) s =
+      IsWithin numbers most s.scene
+      × StatementStaysWithin world numbers most a s
+      × ((t : State) → step world a s ≡ Some t → StaysWithin world numbers most b t)
 
   pub StatementStaysWithin : World → (ℕ → Bool) → (ℕ → ℕ) → Statement → State → Type 0
   StatementStaysWithin world numbers most (Assign x is e) s = ⊤
   StatementStaysWithin world numbers most (Reduce x is e) s = ⊤
   StatementStaysWithin world numbers most (Config f a) s = ⊤
   StatementStaysWithin world numbers most Pass s = ⊤
-  StatementStaysWithin world numbers most (If c a b) s = (holds s.scene c ≡ true → StaysWithin world numbers most a s) × (holds s.scene c ≡ false → StaysWithin world numbers most b s)
-  StatementStaysWithin world numbers most (For i lo hi b) s = EachTurn (turn i.id (run world b)) (λ n t. StaysWithin world (updated numbers i.id true) (with_bounds most i.id lo hi) b (on_scene (with_control i.id n) t)) (turns_of s.scene lo hi) s
+  StatementStaysWithin world numbers most (If c a b) s =
+      (holds s.scene c ≡ true → StaysWithin world numbers most a s)
+      × (holds s.scene c ≡ false → StaysWithin world numbers most b s)
+  StatementStaysWithin world numbers most (For i lo hi b) s =
+      let inner = updated numbers i.id true in
+      let within = with_bounds most i.id lo hi in
+      EachTurn (turn i.id (run world b))
+      (λ n t. StaysWithin world inner within b (on_scene (with_control i.id n) t))
+      (turns_of s.scene lo hi) s
   StatementStaysWithin world numbers most (Alloc x cell dims memory) s = ⊤
   StatementStaysWithin world numbers most (View w x coords) s = ⊤
   StatementStaysWithin world numbers most (Call k args) s = ⊤
 
--- on a valid input the names in scope stay within their bounds all along the run of a procedure that fits, without calls
+-- on a valid input the names in scope stay within their bounds all along the run of a procedure
+-- that fits, without calls
 abbrev pub RunsLaw : Type 0
-RunsLaw = (memories : List MemoryKind) (world : World) (p : Procedure) (s : State) → is_narrow_procedure memories p ≡ true → is_block_over (controls p.params) p.body ≡ true → IsValid world p s → AllocatesFew world p.body s → StaysWithin world (controls p.params) (most_of p.params) p.body s
+RunsLaw =
+    (memories : List MemoryKind) (world : World) (p : Procedure) (s : State)
+    → is_narrow_procedure memories p ≡ true
+    → is_block_over (controls p.params) p.body ≡ true
+    → IsValid world p s
+    → AllocatesFew world p.body s
+    → StaysWithin world (controls p.params) (most_of p.params) p.body s

@@ -22,7 +22,8 @@ magnitude most (Mod a c) = unsigned_abs c - 1
 abbrev pub fits : ℕ → Bool
 fits m = nat_le m (2 ^ 62)
 
--- the expression and each part of it has a magnitude that fits; the parts are asked one by one, since a product with 0 hides its other side
+-- the expression and each part of it has a magnitude that fits; the parts are asked one by one,
+-- since a product with 0 hides its other side
 abbrev pub is_narrow : (ℕ → ℕ) → Control → Bool
 is_narrow most (Lit n) = fits (magnitude most (Lit n))
 is_narrow most (Var x) = fits (magnitude most (Var x))

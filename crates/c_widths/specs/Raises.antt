@@ -1,11 +1,13 @@
--- How large the parameters of procedures can be, by what those that call them give, and which procedure is too wide by that.
+-- How large the parameters of procedures can be, by what those that call them give, and which
+-- procedure is too wide by that.
 use Rattle.std.specs.Prelude.{◌≡◌, ◌≤◌, ◌<◌, ℕ, suc, ◌==◌, max, Bool, true, false, not, ◌&&◌, if◌then◌else◌, List, [], ◌∷◌, drop, length, Option, Some, None, slice_get, ⊤}
 use Rattle.exo_tree.specs.Tree.{Argument, ControlArg, ConditionArg, Whole, Window, Statement, Assign, Reduce, Config, Pass, If, For, Alloc, View, Call, Block, end, next, Param, Procedure, MemoryKind, Program}
 use Rattle.exo_tree.specs.Calls.{calls}
 use Rattle.c_widths.specs.Magnitude.{magnitude}
 use Rattle.c_widths.specs.Widths.{with_bounds, most_of_param, have_narrow_dims, are_narrow_tests, is_narrow_block}
 
--- the greatest magnitude that is given to each parameter of each procedure, by its number and by the parameter's place
+-- the greatest magnitude that is given to each parameter of each procedure, by its number and by
+-- the parameter's place
 abbrev pub Raises : Type 0
 Raises = ℕ → ℕ → ℕ
 
@@ -18,7 +20,10 @@ argument_magnitude most (Window x coords) = 0
 -- a call of the procedure k gives these arguments, the first at the place i
 abbrev pub raised_by : (ℕ → ℕ) → ℕ → ℕ → List Argument → Raises → Raises
 raised_by most k i [] given = given
-raised_by most k i (a ∷ rest) given = raised_by most k (suc i) rest (λ j n. if (j == k) && (n == i) then max (argument_magnitude most a) (given j n) else given j n)
+raised_by most k i (a ∷ rest) given =
+    let m = argument_magnitude most a in
+    raised_by most k (suc i) rest
+    (λ j n. if (j == k) && (n == i) then max m (given j n) else given j n)
 
 abbrev mutual
   pub raised : (ℕ → ℕ) → Block → Raises → Raises
@@ -39,7 +44,9 @@ abbrev mutual
 -- a parameter is as large as a valid input may make it, or as large as a call gives
 abbrev pub most_from : List Param → (ℕ → ℕ) → ℕ → ℕ
 most_from [] given x = 0
-most_from (p ∷ ps) given x = if x == p.binder.id then max (most_of_param p.kind) (given 0) else most_from ps (λ i. given (suc i)) x
+most_from (p ∷ ps) given x =
+    if x == p.binder.id then max (most_of_param p.kind) (given 0)
+    else most_from ps (λ i. given (suc i)) x
 
 -- what the procedures from the number k on give, as far as they count; each calls those above it
 abbrev pub given_from : (ℕ → Bool) → ℕ → List Procedure → Raises
@@ -60,7 +67,10 @@ most_at ps counted k p = most_from p.params (given_to ps counted k)
 
 -- the dimensions of the parameters, the assertions and the body, by how large the parameters can be
 abbrev pub is_narrow_by : List MemoryKind → (ℕ → ℕ) → Procedure → Bool
-is_narrow_by memories most p = have_narrow_dims most p.params && are_narrow_tests most p.asserts && is_narrow_block memories most p.body
+is_narrow_by memories most p =
+    have_narrow_dims most p.params
+    && are_narrow_tests most p.asserts
+    && is_narrow_block memories most p.body
 
 -- allocations on the stack are counted in printed procedures alone
 abbrev pub memories_for : Bool → List MemoryKind → List MemoryKind
@@ -68,7 +78,9 @@ memories_for true memories = memories
 memories_for false memories = []
 
 abbrev pub is_wide_at : Program → (ℕ → Bool) → (ℕ → Bool) → ℕ → Procedure → Bool
-is_wide_at program printed counted k p = counted k && not (is_narrow_by (memories_for (printed k) program.memories) (most_at program.procedures counted k p) p)
+is_wide_at program printed counted k p =
+    let memories = memories_for (printed k) program.memories in
+    counted k && not (is_narrow_by memories (most_at program.procedures counted k p) p)
 
 abbrev pub or_own : Option ℕ → Bool → ℕ → Option ℕ
 or_own (Some k) wide own = Some k
@@ -78,7 +90,9 @@ or_own None false own = None
 -- the greatest number of a counted procedure in whose tree a magnitude passes its bound
 abbrev pub widest_from : Program → (ℕ → Bool) → (ℕ → Bool) → ℕ → List Procedure → Option ℕ
 widest_from program printed counted k [] = None
-widest_from program printed counted k (p ∷ ps) = or_own (widest_from program printed counted (suc k) ps) (is_wide_at program printed counted k p) k
+widest_from program printed counted k (p ∷ ps) =
+    or_own (widest_from program printed counted (suc k) ps)
+    (is_wide_at program printed counted k p) k
 
 abbrev pub widest : Program → (ℕ → Bool) → (ℕ → Bool) → Option ℕ
 widest program printed counted = widest_from program printed counted 0 program.procedures
@@ -95,7 +109,8 @@ WidestIsOfTheUnit =
 
 abbrev pub AreCoveredFrom : (ℕ → ℕ) → (ℕ → ℕ) → ℕ → List Argument → Type 0
 AreCoveredFrom given most i [] = ⊤
-AreCoveredFrom given most i (a ∷ rest) = (argument_magnitude most a ≤ given i) × AreCoveredFrom given most (suc i) rest
+AreCoveredFrom given most i (a ∷ rest) =
+    (argument_magnitude most a ≤ given i) × AreCoveredFrom given most (suc i) rest
 
 -- each call of a block gives at most so much
 abbrev mutual

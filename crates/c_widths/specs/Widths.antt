@@ -36,7 +36,11 @@ is_narrow_datum most (Relu a) = is_narrow_datum most a
 is_narrow_datum most (Plus a b) = is_narrow_datum most a && is_narrow_datum most b
 is_narrow_datum most (Minus a b) = is_narrow_datum most a && is_narrow_datum most b
 is_narrow_datum most (Times a b) = is_narrow_datum most a && is_narrow_datum most b
-is_narrow_datum most (Select a b c d) = is_narrow_datum most a && is_narrow_datum most b && is_narrow_datum most c && is_narrow_datum most d
+is_narrow_datum most (Select a b c d) =
+    is_narrow_datum most a
+    && is_narrow_datum most b
+    && is_narrow_datum most c
+    && is_narrow_datum most d
 
 abbrev pub is_narrow_coord : (ℕ → ℕ) → Coord → Bool
 is_narrow_coord most (At a) = is_narrow most a
@@ -75,7 +79,8 @@ abbrev pub own_dims : ℕ → List Control → List Control
 own_dims zero ds = ds
 own_dims (suc lanes) ds = take (length ds - 1) ds
 
--- an allocation on the stack has a number of cells, or of vectors, that fits; elsewhere it is bounded by what a run may allocate
+-- an allocation on the stack has a number of cells, or of vectors, that fits; elsewhere it is
+-- bounded by what a run may allocate
 abbrev pub fits_stack : Option MemoryKind → (ℕ → ℕ) → List Control → Bool
 fits_stack None most dims = true
 fits_stack (Some m) most dims = if m.stack then fits_cells most 1 (own_dims m.lanes dims) else true
@@ -89,16 +94,24 @@ with_bounds most i lo hi = updated most i (max (magnitude most lo) (magnitude mo
 abbrev mutual
   pub is_narrow_block : List MemoryKind → (ℕ → ℕ) → Block → Bool
   is_narrow_block memories most end = true
-  is_narrow_block memories most (next a b) = is_narrow_statement memories most a && is_narrow_block memories most b
+  is_narrow_block memories most (next a b) =
+      is_narrow_statement memories most a && is_narrow_block memories most b
 
   pub is_narrow_statement : List MemoryKind → (ℕ → ℕ) → Statement → Bool
   is_narrow_statement memories most (Assign x is e) = are_narrow most is && is_narrow_datum most e
   is_narrow_statement memories most (Reduce x is e) = are_narrow most is && is_narrow_datum most e
   is_narrow_statement memories most (Config f a) = is_narrow_setting most a
   is_narrow_statement memories most Pass = true
-  is_narrow_statement memories most (If c a b) = is_narrow_test most c && is_narrow_block memories most a && is_narrow_block memories most b
-  is_narrow_statement memories most (For i lo hi b) = is_narrow most lo && is_narrow most hi && is_narrow_block memories (with_bounds most i.id lo hi) b
-  is_narrow_statement memories most (Alloc x cell dims memory) = are_narrow most dims && fits_stack (slice_get memories memory) most dims
+  is_narrow_statement memories most (If c a b) =
+      is_narrow_test most c
+      && is_narrow_block memories most a
+      && is_narrow_block memories most b
+  is_narrow_statement memories most (For i lo hi b) =
+      is_narrow most lo
+      && is_narrow most hi
+      && is_narrow_block memories (with_bounds most i.id lo hi) b
+  is_narrow_statement memories most (Alloc x cell dims memory) =
+      are_narrow most dims && fits_stack (slice_get memories memory) most dims
   is_narrow_statement memories most (View w x coords) = are_narrow_coords most coords
   is_narrow_statement memories most (Call k args) = are_narrow_arguments most args
 
@@ -134,4 +147,6 @@ have_narrow_dims most (p ∷ ps) = has_narrow_dims most p.kind && have_narrow_di
 abbrev pub is_narrow_procedure : List MemoryKind → Procedure → Bool
 is_narrow_procedure memories p =
     let most = most_of p.params in
-    have_narrow_dims most p.params && are_narrow_tests most p.asserts && is_narrow_block memories most p.body
+    have_narrow_dims most p.params
+    && are_narrow_tests most p.asserts
+    && is_narrow_block memories most p.body

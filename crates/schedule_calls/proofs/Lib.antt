@@ -1,3 +1,0 @@
-mod Once
-mod Strings
-mod Operations

@@ -1,5 +1,2 @@
 pub mod Requests
 pub mod Readings
-pub mod PlainRequest
-pub mod Operators
-pub mod Answers

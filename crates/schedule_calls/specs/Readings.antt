@@ -44,9 +44,6 @@ moves ms = map move ms
 abbrev pub IsPatternOf : List (List ℕ) → Pattern → ℕ → Type 0
 IsPatternOf pieces p nth = IsPattern statement meant (joined pieces) p nth
 
-abbrev pub IsPatternIn : List (List ℕ) → Pattern × ℕ → Type 0
-IsPatternIn pieces found = IsPatternOf pieces found.0 found.1
-
 abbrev pub IsExprPatternOf : List (List ℕ) → ExprPattern → Type 0
 IsExprPatternOf pieces x = IsPattern expression form_meant (joined pieces) x.form x.nth
 

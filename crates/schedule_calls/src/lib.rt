@@ -1,13 +1,2 @@
-//! What the lines of a schedule ask for, by their text alone: strings are read, names are not looked
-//! up. A line is refused here where its operator is unknown or its arguments have not its form.
+//! What the lines of a schedule ask for, by their text alone.
 #![tactic(auto)]
-
-mod argument;
-pub mod laws;
-mod line;
-mod operator;
-mod request;
-mod string;
-
-pub use line::read_line;
-pub use request::{Asked, LineFault, Operation, Request, Source};

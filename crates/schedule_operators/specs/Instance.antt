@@ -10,6 +10,7 @@ use Rattle.cursor_forward.specs.Shifts.{Shift, at_index, stays, edits_of, alone}
 use Rattle.schedule_calls.specs.Requests.{CommuteExpr, Rename, DeletePass, Under, Here}
 use Rattle.schedule_calls.specs.Requests.{Request, Apply, Search, Emit, Asked, Parent}
 use Rattle.schedule_versions.specs.Versions.{Origin, of_text, Version, At, Versions, started}
+use Rattle.schedule_versions.specs.Laws.{AreDerived}
 use Rattle.schedule_versions.specs.Places as place
 use Rattle.schedule_versions.specs.Lines as lines
 use Rattle.schedule_versions.specs.Lines.{Outcome, Done, Stopped, run_acts}
@@ -144,3 +145,7 @@ pub record ScheduleInstance : Type 0 where
       ran (Search (codes "c") (codes "f") pattern.Pass 0 (Parent ∷ []) ∷ [])
       ≡ Stopped 0 (lines.NoPlace place.NoNeighbour)
   pub no_emit : ran (Emit (codes "h") ∷ []) ≡ Stopped 0 lines.UnknownProc
+
+-- what the schedule leaves is derived
+abbrev pub ResultIsDerived : Type 0
+ResultIsDerived = AreDerived result

@@ -1,7 +1,7 @@
 // Laws of the operators of schedules, each the contract of a function with nothing to do.
 
 ghost use Rattle.schedule_operators.specs.Operators.{OperatorsAreLawful, SchedulesDerive};
-ghost use Rattle.schedule_operators.specs.Instance.{ScheduleInstance};
+ghost use Rattle.schedule_operators.specs.Instance.{ScheduleInstance, ResultIsDerived};
 
 /// Every operator works by lawful rules.
 pub fn operators_are_lawful()
@@ -27,3 +27,11 @@ pub fn schedules_derive()
 pub fn schedule_instance()
     ensures { ScheduleInstance }
 {}
+
+/// What the schedule of the instance leaves is derived.
+pub fn result_is_derived()
+    ensures { ResultIsDerived }
+{
+    schedules_derive();
+    unit_check::laws::checked_units_do_not_fault();
+}

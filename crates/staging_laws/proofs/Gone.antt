@@ -33,7 +33,7 @@ module _ (new : ℕ → Bool) where
   abbrev AreFree : List Coord → Type 0
   AreFree ds = coords_mention new ds ≡ false
 
-  indices_free : (cs : List Coord) (is : List Control) → AreFree cs → Free is
+  pub indices_free : (cs : List Coord) (is : List Control) → AreFree cs → Free is
       → Free (indices_on cs is)
   indices_free [] is h k = refl
   indices_free (At u ∷ cs) [] h k = refl
@@ -48,7 +48,7 @@ module _ (new : ℕ → Bool) where
       let q = or_parts (control_mentions new e) (controls_mention new is) k in
       ap₂ ◌||◌ (ap₂ ◌||◌ q.0 p.0) (indices_free cs is o.1 q.1)
 
-  coords_free : (cs ds : List Coord) → AreFree cs → AreFree ds → AreFree (coords_on cs ds)
+  pub coords_free : (cs ds : List Coord) → AreFree cs → AreFree ds → AreFree (coords_on cs ds)
   coords_free [] ds h k = refl
   coords_free (At u ∷ cs) [] h k = refl
   coords_free (Span u v ∷ cs) [] h k = refl

@@ -54,7 +54,7 @@ at_any : (ls : List Loop) (P : Scene → Type 0) → ((z : Scene) → P z) → (
 at_any [] P h scene = h scene
 at_any (l ∷ ls) P h scene = λ n. at_any ls P h (with_control l.binder.id n scene)
 
-over_spans : (ls : List Loop) (coords : List Coord) → AreOver ls coords → (scene : Scene)
+pub over_spans : (ls : List Loop) (coords : List Coord) → AreOver ls coords → (scene : Scene)
     → AreOverSpans ls coords scene
 over_spans ls coords h scene = record {
   apart = h.apart;
@@ -62,7 +62,7 @@ over_spans ls coords h scene = record {
 }
 
 -- they depend on control variables alone
-spans_same : (coords : List Coord) (z w : Scene) → are_plain coords ≡ true
+pub spans_same : (coords : List Coord) (z w : Scene) → are_plain coords ≡ true
     → ((y : ℕ) → z.control y ≡ w.control y) → numbers z (spans coords) ≡ numbers w (spans coords)
 spans_same [] z w p h = refl
 spans_same (At e ∷ cs) z w p h = spans_same cs z w (and_parts (is_plain e) (are_plain cs) p).1 h
@@ -72,7 +72,7 @@ spans_same (Span e f ∷ cs) z w p h =
     ap₂ ◌∷◌ (ap₂ ◌-ℤ◌ (plain_same f z w r.0 (λ y k. h y)) (plain_same e z w q.0 (λ y k. h y)))
     (spans_same cs z w r.1 h)
 
-updated_own : {A : Type 0} (f : ℕ → A) (k : ℕ) (v : A) → updated f k v k ≡ v
+pub updated_own : {A : Type 0} (f : ℕ → A) (k : ℕ) (v : A) → updated f k v k ≡ v
 updated_own f k v = ap (λ t. cond t v (f k)) (eq-eqb k k refl)
 
 abbrev with_sides : Seen → List Side → Seen
@@ -83,7 +83,7 @@ part_of scene coords z = option_map (with_sides z) (narrowed scene z.sides coord
 
 module _ (x : ℕ) (coords : List Coord) (plain : are_plain coords ≡ true) where
   -- the window is the same where x and the control variables are
-  window_same : (z w : Scene) → z.views x ≡ w.views x → ((y : ℕ) → z.control y ≡ w.control y)
+  pub window_same : (z w : Scene) → z.views x ≡ w.views x → ((y : ℕ) → z.control y ≡ w.control y)
       → window z x coords ≡ window w x coords
   window_same z w e h =
       view_kept x (Window x coords) plain (Window x coords) z w plain e (λ y k. h y)
@@ -105,7 +105,7 @@ module _ (blind : ℕ → Bool) (world : World) (root : ℕ → ℕ) (a : Binder
   emptied_window c ns = window_same x coords made.plain (emptied a.id c ns s).scene s.scene
       (updated_other s.scene.views a.id _ x made.other) (λ y. refl)
 
-  allocated : (t : State) → step world (Alloc a cell dims memory) s ≡ Some t
+  pub allocated : (t : State) → step world (Alloc a cell dims memory) s ≡ Some t
       → (all_positive (numbers s.scene dims) ≡ true) × (empty ≡ t)
   allocated t = go (all_positive (numbers s.scene dims)) refl
     where
@@ -153,13 +153,13 @@ module _ (blind : ℕ → Bool) (world : World) (root : ℕ → ℕ) (a : Binder
         let m = map_parts (with_sides z.0) (narrowed s.scene z.0.sides coords) seen z.2 in
         (z.0, z.1, ap (λ (w : Seen). w.buffer) m.2)
 
-    is_root : seen.buffer ≡ root x
+    pub is_root : seen.buffer ≡ root x
     is_root = sym viewed.2 ∙ known.roots x viewed.0 viewed.1
 
     abbrev Shaped : Type 0
     Shaped = (to : Shape) × (s.scene.buffers seen.buffer ≡ Some to)
 
-    shaped : Shaped
+    pub shaped : Shaped
     shaped = go (s.scene.buffers seen.buffer) refl
         (subst (λ k. IsSome (s.scene.buffers k)) viewed.2 (known.sound.seen x viewed.0 viewed.1))
       where
@@ -195,7 +195,7 @@ module _ (blind : ℕ → Bool) (world : World) (root : ℕ → ℕ) (a : Binder
       first_window : window first.scene x coords ≡ Some seen
       first_window = emptied_window to.cell (extents seen.sides) ∙ there
 
-      staging : (js : List Loop) → AreOver js coords → IsStaging a.id x seen coords js first
+      pub staging : (js : List Loop) → AreOver js coords → IsStaging a.id x seen coords js first
       staging js over =
           let turns = spans_law x coords js first.scene (over_spans js coords over first.scene) in
           record {
@@ -209,7 +209,7 @@ module _ (blind : ℕ → Bool) (world : World) (root : ℕ → ℕ) (a : Binder
                 (box_law first.scene x coords seen first_window).0 turns.0;
           }
 
-      lies_between : IsBetween a.id x seen coords inner
+      pub lies_between : IsBetween a.id x seen coords inner
       lies_between = record {
         own = made.own;
         name = made.name;
@@ -219,7 +219,7 @@ module _ (blind : ℕ → Bool) (world : World) (root : ℕ → ℕ) (a : Binder
       }
 
       -- what the load nest makes, and the block after it
-      run_from : (t : State) → run world inner (staged a.id seen to s) ≡ Some t
+      pub run_from : (t : State) → run world inner (staged a.id seen to s) ≡ Some t
           → run world (up_to_store a cell dims memory x coords ls b) s ≡ Some t
       run_from t e = compose world first_part inner s
           ∙ ap (λ o. then_do o (run world inner))
@@ -273,7 +273,7 @@ module _ (blind : ℕ → Bool) (world : World) (root : ℕ → ℕ) (a : Binder
         not_made = made.not_made;
       }
 
-      is_loaded : IsLoaded blind world root a cell dims x coords ls b s
+      pub is_loaded : IsLoaded blind world root a cell dims x coords ls b s
       is_loaded = record {
         seen = seen;
         to = to;

@@ -26,14 +26,14 @@ other m n h = go (n == m) refl
     go true e = absurd (true≢false (sym (eq-eqb m n (sym (eqb-true n m e))) ∙ h))
 
 module _ (world : World) (a x : ℕ) (coords : List Coord) (rx : ℕ) where
-  abbrev is_new : ℕ → Bool
+  abbrev pub is_new : ℕ → Bool
   is_new y = y == a
 
-  abbrev on_a : ℕ → ℕ
+  abbrev pub on_a : ℕ → ℕ
   on_a = name_on a x coords
 
   -- what is no part of x's buffer is none of a
-  abbrev Keeps : (ℕ → ℕ) → (ℕ → ℕ) → Type 0
+  abbrev pub Keeps : (ℕ → ℕ) → (ℕ → ℕ) → Type 0
   Keeps root new =
       (y : ℕ) → (y == a) ≡ false → (rx == root y) ≡ false → (a == new (on_a y)) ≡ false
 
@@ -53,7 +53,7 @@ module _ (world : World) (a x : ℕ) (coords : List Coord) (rx : ℕ) where
     argument_on (Whole y) k h = keeps y k h
     argument_on (Window y ds) k h = keeps y (or_parts (is_new y) (in_coords is_new ds) k).0 h
 
-    call_on : (w : ℕ → Bool) (ps : List Param) (gs : List Argument)
+    pub call_on : (w : ℕ → Bool) (ps : List Param) (gs : List Argument)
         → in_arguments is_new gs ≡ false → call_writes w root rx ps gs ≡ false
         → call_writes w new a ps (converted_arguments a x coords gs) ≡ false
     call_on w [] gs k h = refl
@@ -77,7 +77,7 @@ module _ (world : World) (a x : ℕ) (coords : List Coord) (rx : ℕ) where
     called_on None gs k h = refl
     called_on (Some c) gs k h = call_on c.writes c.procedure.params gs k h
 
-    after : (s : Statement) → in_statement is_new s ≡ false → step_has_binder s x ≡ false
+    pub after : (s : Statement) → in_statement is_new s ≡ false → step_has_binder s x ≡ false
         → Keeps (roots_after s root) (roots_after (converted_statement a x coords s) new)
     after (Assign y is d) k h = keeps
     after (Reduce y is d) k h = keeps

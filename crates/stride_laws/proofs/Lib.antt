@@ -3,4 +3,16 @@ pub mod Calls
 pub mod Blocks
 pub mod Units
 pub mod Staged
+pub mod InView
+pub mod OnView
+pub mod ViewedRuns
+pub mod Passed
+pub mod PassedSums
+pub mod StagePassed
+pub mod Along
+pub mod StridesOn
+pub mod NamesOn
 pub mod Examples
+pub mod PassedExamples
+pub mod PassedRuns
+pub mod RefusalExamples

@@ -4,6 +4,17 @@ ghost use Rattle.stride_laws.specs.Strides.{BlindBlockLaw};
 ghost use Rattle.stride_laws.specs.Strides.{BlindCallsLaw};
 ghost use Rattle.stride_laws.specs.Strides.{BlindLaw};
 ghost use Rattle.stride_laws.specs.Staged.{BlindStagedLaw};
+ghost use Rattle.stride_laws.specs.OnView.{OnViewLaw};
+ghost use Rattle.stride_laws.specs.Passed.{PassedReplaces};
+ghost use Rattle.stride_laws.specs.Passed.{PassedReaderReplaces};
+ghost use Rattle.stride_laws.specs.Passed.{PassedSumsReplace};
+ghost use Rattle.stride_laws.specs.Passed.{FitsBehindPassed};
+ghost use Rattle.stride_laws.specs.StagePassed.{StagePassedLaw};
+ghost use Rattle.stride_laws.specs.StagePassed.{StagePassedReaderLaw};
+ghost use Rattle.stride_laws.specs.StagePassed.{StagePassedSumsLaw};
+ghost use Rattle.stride_laws.specs.StagePassed.{LiesAtPlaces};
+ghost use Rattle.stride_laws.specs.Refusals.{StridesOnLaw};
+ghost use Rattle.stride_laws.specs.Refusals.{NamesOnLaw};
 
 /// Where the callees see no other strides than they say, a block sees no other ones either.
 pub fn blocks_see_strides_they_use()
@@ -23,4 +34,61 @@ pub fn unused_strides_are_not_seen()
 /// A staged buffer may be passed to procedures that do not look at its strides.
 pub fn staged_buffers_may_be_passed()
     ensures { BlindStagedLaw }
+{}
+
+/// A block whose accesses lie within a window does the same through a view of the window, faults
+/// included.
+pub fn blocks_within_windows_run_on_views()
+    ensures { OnViewLaw }
+{}
+
+/// A staged block that may pass its buffer on may stand for the block.
+pub fn passing_blocks_may_be_replaced()
+    ensures { PassedReplaces }
+{}
+
+/// So it may behind the load nest alone, where it only reads.
+pub fn passing_readers_may_be_replaced()
+    ensures { PassedReaderReplaces }
+{}
+
+/// So it may on a buffer from 0, where the block only adds.
+pub fn passing_sums_may_be_replaced()
+    ensures { PassedSumsReplace }
+{}
+
+/// Where the blocks that are made keep the rules, the cells behind a block that passes its buffer
+/// fit their types.
+pub fn passed_cells_fit_behind()
+    ensures { FitsBehindPassed }
+{}
+
+/// A procedure with such a block staged refines the procedure.
+pub fn windows_may_be_staged_and_passed()
+    ensures { StagePassedLaw }
+{}
+
+/// So it does with a block that only reads, without a store nest.
+pub fn windows_of_readers_may_be_passed()
+    ensures { StagePassedReaderLaw }
+{}
+
+/// So it does with a block that only adds, from 0.
+pub fn windows_of_sums_may_be_passed()
+    ensures { StagePassedSumsLaw }
+{}
+
+/// What is asked of accesses at each place of the procedure holds in a run of the block.
+pub fn accesses_lie_at_places()
+    ensures { LiesAtPlaces }
+{}
+
+/// Where a block uses no stride of a window's buffer, its converted form uses none of the staged one.
+pub fn strides_stay_unused()
+    ensures { StridesOnLaw }
+{}
+
+/// Where a block uses no other name of the window's root, its converted form uses no name of it.
+pub fn roots_stay_unused()
+    ensures { NamesOnLaw }
 {}

@@ -1,7 +1,7 @@
 use Rattle.std.proofs.Common.{◌≡◌, ◌∙◌, ap, sym, map, string_bytes, []}
 use Rattle.exo_tree.specs.PlainUnit.{program}
 use Rattle.c_printer.specs.LoweredUnit.{line_of, headers_of, fields_of, functions_of, global_names}
-use Rattle.c_tree.specs.Plain.{plain_line, plain_function}
+use Rattle.c_tree.specs.Plain.{plain_line, plain_struct, plain_function}
 use Rattle.c_printer.specs.PlainPrinted.{printing}
 use Rattle.c_tree.proofs.Maps.{map_of_map}
 use Rattle.c_printer.proofs.units.lower_file.Goals as goal
@@ -12,6 +12,7 @@ returns c =
     let what = map printing c.args.what.now in
     let report : map plain_line c.in_ok-report.report.items ≡ map (line_of unit) what = c.in_ok-report.ensures ∙ sym (map_of_map (line_of unit) printing c.args.what.now) in
     let includes : map string_bytes c.in_ok-includes.includes.items ≡ headers_of unit what = c.in_ok-includes.ensures ∙ c.deref.ensures.value ∙ c.in_ok-headers.ensures in
+    let structs : map plain_struct c.new.result.items ≡ [] = ap (map plain_struct) c.new.ensures.items in
     let fields : map string_bytes c.in_ok-fields.fields.items ≡ fields_of unit what = c.in_ok-fields.ensures ∙ c.requires.fields in
     let functions : map plain_function c.in_ok-functions.functions.items ≡ functions_of unit (global_names unit what) what = c.in_ok-functions.ensures ∙ ap (λ gs. functions_of unit gs what) c.requires.globals in
-    λ i. record { report = report i; includes = includes i; structs = []; fields = fields i; functions = functions i }
+    λ i. record { report = report i; includes = includes i; structs = structs i; fields = fields i; functions = functions i }

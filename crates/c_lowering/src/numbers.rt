@@ -1,0 +1,418 @@
+//! The C of control expressions.
+ghost use Rattle.std.specs.Prelude.{◌≡◌, ◌+◌, ◌-◌, map, drop, IfOk};
+ghost use Rattle.exo_tree.specs.PlainControl.{control};
+ghost use Rattle.c_tree.specs.CTree.{Named, StrideIn, Sum, Product};
+ghost use Rattle.c_tree.specs.Plain.{plain_number};
+ghost use Rattle.c_lowered.specs.Lowered.{number_of, numbers_of, dims_of, product_from, product_of, row_strides, window_strides, or_one, strides_in, horner, offset, scaled, scaled_from, front, without_lanes};
+ghost use Rattle.c_lowering.specs.Scope.{forms_in};
+ghost use Rattle.c_lowering.specs.Naming.{naming_of, extent_of};
+ghost use Rattle.c_lowering.specs.Behind.{offset_behind};
+ghost use Rattle.c_lowering.specs.Operations.{of_one, of_two};
+
+use crate::names::Names;
+use crate::scope::{Entry, Form, find};
+use c_tree::tree::CNumber;
+use exo_tree::{Ctrl, FieldId, Id, Indices};
+use std::alloc::{AllocError, Global};
+
+/// The product of two numbers.
+fn times(alloc: Global, a: CNumber, b: CNumber) -> Result<CNumber, AllocError>
+    ensures { IfOk result (λ n. plain_number n ≡ Product (plain_number a) (plain_number b)) }
+{
+    let left = Box::new(alloc, a)?;
+    Ok(CNumber::Product(left, Box::new(alloc, b)?))
+}
+
+/// The sum of two numbers.
+fn plus(alloc: Global, a: CNumber, b: CNumber) -> Result<CNumber, AllocError>
+    ensures { IfOk result (λ n. plain_number n ≡ Sum (plain_number a) (plain_number b)) }
+{
+    let left = Box::new(alloc, a)?;
+    Ok(CNumber::Sum(left, Box::new(alloc, b)?))
+}
+
+/// The number that a control name holds.
+fn binder_number(alloc: Global, names: &Names<'_>, x: Id) -> Result<CNumber, AllocError>
+    ensures { IfOk result (λ n. plain_number n ≡ Named ((naming_of names.now).binder x.0)) }
+{
+    Ok(CNumber::Named(names.binder(alloc, x)?))
+}
+
+/// The number that a configuration field holds.
+fn field_number(alloc: Global, names: &Names<'_>, f: FieldId) -> Result<CNumber, AllocError>
+    ensures { IfOk result (λ n. plain_number n ≡ Named ((naming_of names.now).field f.0)) }
+{
+    Ok(CNumber::Named(names.field(alloc, f)?))
+}
+
+/// A negation, quotient or remainder, as the expression is one, of the C of its part.
+fn of_one(e: &Ctrl, part: Box<CNumber>) -> CNumber
+    ensures { plain_number result ≡ of_one (control e.now) (plain_number part.value) }
+{
+    match e {
+        Ctrl::Div(_, n) => CNumber::Quotient(part, *n),
+        Ctrl::Mod(_, n) => CNumber::Remainder(part, *n),
+        _ => CNumber::Opposite(part),
+    }
+}
+
+/// A sum, difference or product, as the expression is one, of the C of its sides.
+fn of_two(e: &Ctrl, left: Box<CNumber>, right: Box<CNumber>) -> CNumber
+    ensures { plain_number result ≡ of_two (control e.now) (plain_number left.value) (plain_number right.value) }
+{
+    match e {
+        Ctrl::Sub(_, _) => CNumber::Difference(left, right),
+        Ctrl::Mul(_, _) => CNumber::Product(left, right),
+        _ => CNumber::Sum(left, right),
+    }
+}
+
+/// The C of a dimension, which holds no stride.
+#[cycle(extent)]
+fn lower_extent(alloc: Global, names: &Names<'_>, e: &Ctrl) -> Result<CNumber, AllocError>
+    ensures { IfOk result (λ n. plain_number n ≡ extent_of (naming_of names.now) (control e.now)) }
+{
+    match e {
+        Ctrl::Lit(n) => Ok(CNumber::Literal(*n)),
+        Ctrl::Var(x) => binder_number(alloc, names, *x),
+        Ctrl::Field(f) => field_number(alloc, names, *f),
+        Ctrl::Stride(_, _) => Ok(CNumber::Literal(1)),
+        Ctrl::Neg(a) | Ctrl::Div(a, _) | Ctrl::Mod(a, _) => {
+            let part = boxed_extent(alloc, names, a)?;
+            Ok(of_one(e, part))
+        }
+        Ctrl::Add(a, b) | Ctrl::Sub(a, b) | Ctrl::Mul(a, b) => {
+            let left = boxed_extent(alloc, names, a)?;
+            let right = boxed_extent(alloc, names, b)?;
+            Ok(of_two(e, left, right))
+        }
+    }
+}
+
+/// The C of a part of a dimension.
+#[cycle(extent)]
+fn boxed_extent(alloc: Global, names: &Names<'_>, e: &Ctrl) -> Result<Box<CNumber>, AllocError>
+    ensures { IfOk result (λ n. plain_number n.value ≡ extent_of (naming_of names.now) (control e.now)) }
+{
+    let extent = lower_extent(alloc, names, e)?;
+    Ok(Box::new(alloc, extent)?)
+}
+
+/// The product of a number and dimensions, each multiplied on the right.
+fn times_extents(
+    alloc: Global,
+    names: &Names<'_>,
+    product: CNumber,
+    dims: &[Ctrl],
+) -> Result<CNumber, AllocError>
+    ensures { IfOk result (λ n. plain_number n ≡ product_from (plain_number product) (dims_of (naming_of names.now) (map control dims.now))) }
+{
+    let Some((d, rest)) = dims.split_first() else {
+        return Ok(product);
+    };
+    let extent = lower_extent(alloc, names, d)?;
+    let more = times(alloc, product, extent)?;
+    let whole = times_extents(alloc, names, more, rest)?;
+    Ok(whole)
+}
+
+/// The product of dimensions; 1 where there is none.
+pub(crate) fn lower_product(
+    alloc: Global,
+    names: &Names<'_>,
+    dims: &[Ctrl],
+) -> Result<CNumber, AllocError>
+    ensures { IfOk result (λ n. plain_number n ≡ product_of (dims_of (naming_of names.now) (map control dims.now))) }
+{
+    let Some((d, rest)) = dims.split_first() else {
+        return Ok(CNumber::Literal(1));
+    };
+    let first = lower_extent(alloc, names, d)?;
+    let whole = times_extents(alloc, names, first, rest)?;
+    Ok(whole)
+}
+
+/// The dimensions after that one.
+fn later(dims: &[Ctrl], k: usize) -> &[Ctrl]
+    ensures { map control result.now ≡ drop (k + 1) (map control dims.now) }
+{
+    if k >= dims.len() {
+        return &dims[dims.len()..];
+    }
+    &dims[k + 1..]
+}
+
+/// The stride of a dimension of a buffer of these dimensions: the product of the later ones.
+fn dense_stride(
+    alloc: Global,
+    names: &Names<'_>,
+    dims: &Indices,
+    k: usize,
+) -> Result<CNumber, AllocError>
+    ensures { IfOk result (λ n. plain_number n ≡ or_one (row_strides (dims_of (naming_of names.now) dims.now)) k) }
+{
+    let rest = later(dims.as_slice(), k);
+    let stride = lower_product(alloc, names, rest)?;
+    Ok(stride)
+}
+
+/// The stride of a dimension of a window, as its struct has it.
+fn stride_in(alloc: Global, names: &Names<'_>, w: Id, k: usize) -> Result<CNumber, AllocError>
+    ensures { IfOk result (λ n. plain_number n ≡ StrideIn ((naming_of names.now).binder w.0) k) }
+{
+    Ok(CNumber::Stride(names.binder(alloc, w)?, k))
+}
+
+/// The stride of a dimension of a window of so many; 1 where it has no such dimension.
+fn window_stride(
+    alloc: Global,
+    names: &Names<'_>,
+    w: Id,
+    k: usize,
+    rank: usize,
+) -> Result<CNumber, AllocError>
+    ensures { IfOk result (λ n. plain_number n ≡ or_one (window_strides ((naming_of names.now).binder w.0) 0 rank) k) }
+{
+    if k >= rank {
+        return Ok(CNumber::Literal(1));
+    }
+    let stride = stride_in(alloc, names, w, k)?;
+    Ok(stride)
+}
+
+/// The stride of a dimension of a name; 1 for what has no such dimension.
+pub(crate) fn lower_stride(
+    alloc: Global,
+    names: &Names<'_>,
+    scope: &[Entry],
+    x: Id,
+    k: usize,
+) -> Result<CNumber, AllocError>
+    ensures { IfOk result (λ n. plain_number n ≡ or_one (strides_in (naming_of names.now) x.0 (forms_in scope.now x.0)) k) }
+{
+    match find(scope, x) {
+        Some(Form::Tensor(_, dims, _)) => {
+            let stride = dense_stride(alloc, names, dims, k)?;
+            Ok(stride)
+        }
+        Some(Form::Window(_, rank)) => {
+            let stride = window_stride(alloc, names, x, k, *rank)?;
+            Ok(stride)
+        }
+        Some(Form::Number) => Ok(CNumber::Literal(1)),
+        None => Ok(CNumber::Literal(1)),
+    }
+}
+
+/// The C of a control expression.
+#[cycle(number)]
+pub(crate) fn lower_number(
+    alloc: Global,
+    names: &Names<'_>,
+    scope: &[Entry],
+    e: &Ctrl,
+) -> Result<CNumber, AllocError>
+    ensures { IfOk result (λ n. plain_number n ≡ number_of (naming_of names.now) (forms_in scope.now) (control e.now)) }
+{
+    match e {
+        Ctrl::Lit(n) => Ok(CNumber::Literal(*n)),
+        Ctrl::Var(x) => binder_number(alloc, names, *x),
+        Ctrl::Field(f) => field_number(alloc, names, *f),
+        Ctrl::Stride(x, k) => lower_stride(alloc, names, scope, *x, *k as usize),
+        Ctrl::Neg(a) | Ctrl::Div(a, _) | Ctrl::Mod(a, _) => {
+            let part = boxed_number(alloc, names, scope, a)?;
+            Ok(of_one(e, part))
+        }
+        Ctrl::Add(a, b) | Ctrl::Sub(a, b) | Ctrl::Mul(a, b) => {
+            let left = boxed_number(alloc, names, scope, a)?;
+            let right = boxed_number(alloc, names, scope, b)?;
+            Ok(of_two(e, left, right))
+        }
+    }
+}
+
+/// The C of a part of a control expression.
+#[cycle(number)]
+fn boxed_number(
+    alloc: Global,
+    names: &Names<'_>,
+    scope: &[Entry],
+    e: &Ctrl,
+) -> Result<Box<CNumber>, AllocError>
+    ensures { IfOk result (λ n. plain_number n.value ≡ number_of (naming_of names.now) (forms_in scope.now) (control e.now)) }
+{
+    let number = lower_number(alloc, names, scope, e)?;
+    Ok(Box::new(alloc, number)?)
+}
+
+/// The offset by one index more: `((at * d) + i)`.
+fn next_row(
+    alloc: Global,
+    names: &Names<'_>,
+    scope: &[Entry],
+    at: CNumber,
+    i: &Ctrl,
+    d: &Ctrl,
+) -> Result<CNumber, AllocError>
+    ensures { IfOk result (λ n. plain_number n ≡ Sum (Product (plain_number at) (extent_of (naming_of names.now) (control d.now))) (number_of (naming_of names.now) (forms_in scope.now) (control i.now))) }
+{
+    let extent = lower_extent(alloc, names, d)?;
+    let row = times(alloc, at, extent)?;
+    let index = lower_number(alloc, names, scope, i)?;
+    plus(alloc, row, index)
+}
+
+/// An offset by the later indices: `((at * d) + e)` and so on.
+fn add_rows(
+    alloc: Global,
+    names: &Names<'_>,
+    scope: &[Entry],
+    at: CNumber,
+    is: &[Ctrl],
+    dims: &[Ctrl],
+) -> Result<CNumber, AllocError>
+    ensures { IfOk result (λ n. plain_number n ≡ horner (plain_number at) (numbers_of (naming_of names.now) (forms_in scope.now) (map control is.now)) (dims_of (naming_of names.now) (map control dims.now))) }
+{
+    let Some((i, inner)) = is.split_first() else {
+        return Ok(at);
+    };
+    let Some((d, rest)) = dims.split_first() else {
+        return Ok(at);
+    };
+    let next = next_row(alloc, names, scope, at, i, d)?;
+    let whole = add_rows(alloc, names, scope, next, inner, rest)?;
+    Ok(whole)
+}
+
+/// The offset of a cell by its indices and the dimensions behind the first.
+fn rows_offset(
+    alloc: Global,
+    names: &Names<'_>,
+    scope: &[Entry],
+    is: &[Ctrl],
+    rest: &[Ctrl],
+) -> Result<CNumber, AllocError>
+    ensures { IfOk result (λ n. plain_number n ≡ offset_behind (numbers_of (naming_of names.now) (forms_in scope.now) (map control is.now)) (dims_of (naming_of names.now) (map control rest.now))) }
+{
+    let Some((i, inner)) = is.split_first() else {
+        return Ok(CNumber::Literal(0));
+    };
+    let first = lower_number(alloc, names, scope, i)?;
+    let whole = add_rows(alloc, names, scope, first, inner, rest)?;
+    Ok(whole)
+}
+
+/// All but the last.
+fn front(list: &[Ctrl]) -> &[Ctrl]
+    ensures { map control result.now ≡ front (map control list.now) }
+{
+    if list.is_empty() {
+        return list;
+    }
+    &list[..list.len() - 1]
+}
+
+/// In a memory with lanes the last index and dimension are left out.
+pub(crate) fn own(list: &[Ctrl], lanes: u32) -> &[Ctrl]
+    ensures { map control result.now ≡ without_lanes lanes (map control list.now) }
+{
+    if lanes == 0 {
+        return list;
+    }
+    front(list)
+}
+
+/// The offset of a cell, or of a vector where there are lanes, in a dense, row-major buffer of these dimensions.
+pub(crate) fn lower_offset(
+    alloc: Global,
+    names: &Names<'_>,
+    scope: &[Entry],
+    is: &Indices,
+    dims: &Indices,
+    lanes: u32,
+) -> Result<CNumber, AllocError>
+    ensures { IfOk result (λ n. plain_number n ≡ offset (without_lanes lanes (numbers_of (naming_of names.now) (forms_in scope.now) is.now)) (without_lanes lanes (dims_of (naming_of names.now) dims.now))) }
+{
+    let indices = own(is.as_slice(), lanes);
+    let rest = later(own(dims.as_slice(), lanes), 0);
+    let offset = rows_offset(alloc, names, scope, indices, rest)?;
+    Ok(offset)
+}
+
+/// What an index of a window counts: `(i * w.strides[k])`.
+fn lower_step(
+    alloc: Global,
+    names: &Names<'_>,
+    scope: &[Entry],
+    i: &Ctrl,
+    w: Id,
+    k: usize,
+) -> Result<CNumber, AllocError>
+    ensures { IfOk result (λ n. plain_number n ≡ Product (number_of (naming_of names.now) (forms_in scope.now) (control i.now)) (StrideIn ((naming_of names.now).binder w.0) k)) }
+{
+    let index = lower_number(alloc, names, scope, i)?;
+    let stride = stride_in(alloc, names, w, k)?;
+    times(alloc, index, stride)
+}
+
+/// The offset in a window by one index more.
+fn next_step(
+    alloc: Global,
+    names: &Names<'_>,
+    scope: &[Entry],
+    at: CNumber,
+    i: &Ctrl,
+    w: Id,
+    k: usize,
+) -> Result<CNumber, AllocError>
+    ensures { IfOk result (λ n. plain_number n ≡ Sum (plain_number at) (Product (number_of (naming_of names.now) (forms_in scope.now) (control i.now)) (StrideIn ((naming_of names.now).binder w.0) k))) }
+{
+    let step = lower_step(alloc, names, scope, i, w, k)?;
+    plus(alloc, at, step)
+}
+
+/// An offset in a window of so many dimensions by the indices from that dimension on.
+fn add_steps(
+    alloc: Global,
+    names: &Names<'_>,
+    scope: &[Entry],
+    at: CNumber,
+    is: &[Ctrl],
+    w: Id,
+    k: usize,
+    rank: usize,
+) -> Result<CNumber, AllocError>
+    ensures { IfOk result (λ n. plain_number n ≡ scaled_from (plain_number at) (numbers_of (naming_of names.now) (forms_in scope.now) (map control is.now)) (window_strides ((naming_of names.now).binder w.0) k (rank - k))) }
+{
+    let Some((i, inner)) = is.split_first() else {
+        return Ok(at);
+    };
+    if k >= rank {
+        return Ok(at);
+    }
+    let next = next_step(alloc, names, scope, at, i, w, k)?;
+    let whole = add_steps(alloc, names, scope, next, inner, w, k + 1, rank)?;
+    Ok(whole)
+}
+
+/// The offset of a cell in a window of so many dimensions.
+pub(crate) fn lower_steps(
+    alloc: Global,
+    names: &Names<'_>,
+    scope: &[Entry],
+    is: &[Ctrl],
+    w: Id,
+    rank: usize,
+) -> Result<CNumber, AllocError>
+    ensures { IfOk result (λ n. plain_number n ≡ scaled (numbers_of (naming_of names.now) (forms_in scope.now) (map control is.now)) (window_strides ((naming_of names.now).binder w.0) 0 rank)) }
+{
+    let Some((i, inner)) = is.split_first() else {
+        return Ok(CNumber::Literal(0));
+    };
+    if rank == 0 {
+        return Ok(CNumber::Literal(0));
+    }
+    let first = lower_step(alloc, names, scope, i, w, 0)?;
+    let whole = add_steps(alloc, names, scope, first, inner, w, 1, rank)?;
+    Ok(whole)
+}
