@@ -1,5 +1,5 @@
 //! Tables of what no command shows: tokens, strings of schedules, normal forms, systems and the verdicts on them, facts at places,
-//! claims, modes, texts of trees, and edits of trees.
+//! claims, modes, texts of trees, edits of trees, and cursors.
 #![tactic(auto)]
 
 #[cfg(test)]
@@ -8,6 +8,8 @@ mod agreement;
 mod changes;
 #[cfg(test)]
 mod claims;
+#[cfg(test)]
+mod cursors;
 #[cfg(test)]
 mod discharge;
 #[cfg(test)]
