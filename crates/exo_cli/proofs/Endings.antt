@@ -9,7 +9,7 @@ use Rattle.exo_cli.specs.Messages.{usage, file_refused}
 use Rattle.exo_cli.specs.Words.{Command, Compile, Check, command_of, files_of}
 use Rattle.exo_cli.specs.Answer.{Answer, Accepted, Rejected, Unread, Misused, status_of, for_out, for_err, IsVerdict}
 use Rattle.exo_cli.specs.Stages.{Stage, Passed, Stopped, IsChecked, IsCompiled, answer_of}
-use Rattle.exo_cli.specs.Work.{file_limit, Opens, AnswersTo, Answers, operands, IsReadFault, IsAnswerTo, IsAnswer, EndsAt, Moment, OutFails, ErrFails, Ends}
+use Rattle.exo_cli.specs.Work.{file_limit, Opens, AnswersTo, Answers, operands, IsReadFault, IsAnswerTo, IsAnswer, EndsAt, Moment, OutFails, ErrFails, Stays, Ends}
 use Rattle.cli_outside.proofs.Taking.{with_more-nothing}
 
 -- a file that is told and short enough is handed on
@@ -248,9 +248,10 @@ fault-ends words before after reply h (inr f) =
 
 -- the program ends as it says where its reply is the answer and was delivered
 pub ends : (words : List (List ℕ)) (before after : Moment) (reply : Answer) (status : Status)
-    → IsAnswer words before.told before.faults after.faults after.last_fault reply → IsDelivered before after reply status
+    → Stays before after → IsAnswer words before.told before.faults after.faults after.last_fault reply → IsDelivered before after reply status
     → Ends words before after status
-ends words before after reply status h d = record {
+ends words before after reply status stays h d = record {
+  stays = stays;
   quiet = quiet before after reply status d;
   memory = λ e. absurd (not-memory reply (sym (d.ended (λ f. cc)) ∙ e));
   usage = usage-ends words before after reply status h d;
@@ -258,4 +259,18 @@ ends words before after reply status h d = record {
   read_fault = read-ends words before after reply status h d;
   write_fault = λ e. fault-ends words before after reply h (d.fault e);
   told = λ not_memory not_read not_fault. told-ends words before after reply status h d not_read not_fault;
+}
+
+-- and for want of memory, with both sinks as they were
+pub memory-ends : (words : List (List ℕ)) (before after : Moment) → Stays before after → after.out ≡ before.out → after.err ≡ before.err
+    → Ends words before after Memory
+memory-ends words before after stays out err = record {
+  stays = stays;
+  quiet = λ e f. out;
+  memory = λ e. (out, err);
+  usage = λ e. absurd cc;
+  no_command = λ none. inr (inr refl);
+  read_fault = λ e. absurd cc;
+  write_fault = λ e. absurd cc;
+  told = λ not_memory not_read not_fault. absurd (not_memory refl);
 }

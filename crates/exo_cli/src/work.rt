@@ -72,8 +72,10 @@ fn reply_to<R: Threads + Sync, F: Files, G: Gate>(
     files: &mut F,
     gate: &G,
 ) -> Result<Reply, AllocError>
-    ensures { IfOk result (λ reply. IsAnswer (texts words.now) (F.told files.old) (F.faults files.old) (F.faults files.new)
+    ensures answer { IfOk result (λ reply. IsAnswer (texts words.now) (F.told files.old) (F.faults files.old) (F.faults files.new)
         (F.last_fault files.new) (plain reply)) }
+    ensures same { F.told files.new ≡ F.told files.old }
+    ensures count { F.faults files.old ≤ F.faults files.new }
 {
     match read_command(words) {
         Some(Command::Compile(procs, schedule)) => {
@@ -93,8 +95,10 @@ fn compile_files<R: Threads + Sync, F: Files, G: Gate>(
     files: &mut F,
     gate: &G,
 ) -> Result<Reply, AllocError>
-    ensures { IfOk result (λ reply. IsAnswerTo (Compile procs.now schedule.now) (F.told files.old) (F.faults files.old)
+    ensures answer { IfOk result (λ reply. IsAnswerTo (Compile procs.now schedule.now) (F.told files.old) (F.faults files.old)
         (F.faults files.new) (F.last_fault files.new) (plain reply)) }
+    ensures same { F.told files.new ≡ F.told files.old }
+    ensures count { F.faults files.old ≤ F.faults files.new }
 {
     let unit = match read_text(alloc, files, procs)? {
         Ok(text) => text,
@@ -120,8 +124,10 @@ fn check_file<R: Threads + Sync, F: Files, G: Gate>(
     files: &mut F,
     gate: &G,
 ) -> Result<Reply, AllocError>
-    ensures { IfOk result (λ reply. IsAnswerTo (Check procs.now) (F.told files.old) (F.faults files.old)
+    ensures answer { IfOk result (λ reply. IsAnswerTo (Check procs.now) (F.told files.old) (F.faults files.old)
         (F.faults files.new) (F.last_fault files.new) (plain reply)) }
+    ensures same { F.told files.new ≡ F.told files.old }
+    ensures count { F.faults files.old ≤ F.faults files.new }
 {
     let text = match read_text(alloc, files, procs)? {
         Ok(bytes) => bytes,

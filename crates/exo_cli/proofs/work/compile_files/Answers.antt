@@ -1,4 +1,4 @@
-use Rattle.std.proofs.Common.{ℕ, ◌≤◌, List, length, sym, subst}
+use Rattle.std.proofs.Common.{ℕ, ◌≤◌, List, length, sym, subst, ◌∙◌, arith}
 use Rattle.cli_outside.specs.Outside.{HasBytes}
 use Rattle.exo_cli.specs.Replies.{plain}
 use Rattle.exo_cli.specs.Stages.{ComesTo, compiled, answer_of}
@@ -12,8 +12,13 @@ returns-in-Err-2 g c =
     let first = rw c.in-Ok.is at c.in_ok-text.ensures.read in
     let second = rw c.in-Err-2.is at c.in_ok-text-2.ensures.read in
     let ends = rw c.in_ok-text.ensures.same at second in
-    second-ends (g.F.Files.told c.args.files.now) c.args.procs.now c.args.schedule.now c.in-Ok.text.items
-    (g.F.Files.faults c.args.files.now) (g.F.Files.faults c.read_text.new.files) _ _ _ first.0 first.1 c.in_ok-text.ensures.count ends
+    let answers = second-ends (g.F.Files.told c.args.files.now) c.args.procs.now c.args.schedule.now c.in-Ok.text.items
+    (g.F.Files.faults c.args.files.now) (g.F.Files.faults c.read_text.new.files) _ _ _ first.0 first.1 c.in_ok-text.ensures.count ends in
+    record {
+      answer = answers;
+      same = c.in_ok-text-2.ensures.same ∙ c.in_ok-text.ensures.same;
+      count = omega (arith, c.in_ok-text.ensures.count, c.in_ok-text-2.ensures.count);
+    }
 
 pub returns : goal.returns
 returns g c =
@@ -23,8 +28,13 @@ returns g c =
     let second = rw c.in_ok-text.ensures.same at read in
     let unit = subst (λ (l : List ℕ). HasBytes told c.args.procs.now l × (length l ≤ file_limit)) (sym c.deref.ensures.value) first in
     let lines = subst (λ (l : List ℕ). HasBytes told c.args.schedule.now l × (length l ≤ file_limit)) (sym c.deref-2.ensures.value) second in
-    if-ok c.replied.result _ _ (λ reply is.
+    let reads = if-ok c.replied.result _ _ (λ reply is.
     compiled-answers told c.args.procs.now c.args.schedule.now c.deref.result.now c.deref-2.result.now _ _ _ (plain reply)
     unit.0 unit.1 lines.0 lines.1
     (answered _ (ComesTo (compiled c.deref-2.result.now) c.deref.result.now) (answer_of c.args.procs.now c.args.schedule.now) (plain reply) c.compiled.ensures is))
-    c.replied.ensures
+    c.replied.ensures in
+    record {
+      answer = reads;
+      same = c.in_ok-text-2.ensures.same ∙ c.in_ok-text.ensures.same;
+      count = omega (arith, c.in_ok-text.ensures.count, c.in_ok-text-2.ensures.count);
+    }
