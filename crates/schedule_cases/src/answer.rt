@@ -1,6 +1,7 @@
 // What the readers answer, in one line.
 ghost use Rattle.std.specs.Prelude.{◌≤◌, length};
 
+use crate::asked::push_lines;
 use crate::digest::Digest;
 use crate::written::{push_expr_pattern, push_pattern, push_schedule};
 use exo_reader::unit::ReadError;
@@ -12,6 +13,8 @@ use std::alloc::{AllocError, Global};
 #[derive(Clone, Copy)]
 pub enum Reader {
     Schedule,
+    /// The reader of schedules, and then that of their lines.
+    Lines,
     Pattern,
     Expression,
     Name,
@@ -48,6 +51,15 @@ fn push_read_schedule(alloc: Global, text: &[u8], out: &mut String) -> Result<bo
     }
 }
 
+fn push_read_lines(alloc: Global, text: &[u8], out: &mut String) -> Result<bool, AllocError>
+    requires { length text.now ≤ 0x100000 }
+{
+    match read_schedule(alloc, text) {
+        Ok(schedule) => push_lines(alloc, &schedule, out).and(Ok(true)),
+        Err(error) => push_refusal(error, out),
+    }
+}
+
 fn push_read_pattern(alloc: Global, text: &[u8], out: &mut String) -> Result<bool, AllocError>
     requires { length text.now ≤ 0x100000 }
 {
@@ -80,6 +92,7 @@ impl Reader {
     pub fn named(name: &str) -> Option<Reader> {
         match name {
             "schedule" => Some(Reader::Schedule),
+            "lines" => Some(Reader::Lines),
             "pattern" => Some(Reader::Pattern),
             "expression" => Some(Reader::Expression),
             "name" => Some(Reader::Name),
@@ -98,6 +111,7 @@ impl Reader {
         }
         let is_read = match self {
             Reader::Schedule => push_read_schedule(alloc, text, &mut out)?,
+            Reader::Lines => push_read_lines(alloc, text, &mut out)?,
             Reader::Pattern => push_read_pattern(alloc, text, &mut out)?,
             Reader::Expression => push_read_expression(alloc, text, &mut out)?,
             Reader::Name => push_read_name(alloc, text, &mut out)?,

@@ -1,7 +1,7 @@
 //! Runs the readers of schedules, patterns and names on the tables that `files` names, and prints where they answer otherwise.
 //!
-//! A table begins with a free text. Behind a line `== schedule`, `== pattern`, `== expression` or `== name` each line is a case, what is
-//! wanted and the text: `1:5 Syntax | x = y`. What is read is written in one line (module written); what is longer than 400 bytes by its
+//! A table begins with a free text. Behind a line `== schedule`, `== lines`, `== pattern`, `== expression` or `== name` each line is a case, what is
+//! wanted and the text: `1:5 Syntax | x = y`. What is read is written in one line (module written), and what lines ask for in another (module asked); what is longer than 400 bytes by its
 //! length and its digest. Behind `== changes` the lines that begin with `: ` are a schedule, and each other line is a row: the name of a
 //! change, what comes of the change at each byte, and the digest of all schedules that are then read (module rows).
 //!
@@ -9,6 +9,7 @@
 #![tactic(auto)]
 
 mod answer;
+mod asked;
 mod digest;
 mod rows;
 mod table;

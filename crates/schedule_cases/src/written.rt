@@ -10,7 +10,8 @@ use schedule_text::source::{
 };
 use std::alloc::AllocError;
 
-fn push_number(number: u32, out: &mut String) -> Result<(), AllocError> {
+/// Adds a number.
+pub fn push_number(number: u32, out: &mut String) -> Result<(), AllocError> {
     out.push_str(&format!(in *out.allocator(); "{number}")?)
 }
 
@@ -53,7 +54,8 @@ fn push_expand(before: u32, beyond: u32, out: &mut String) -> Result<(), AllocEr
     out.push_str(&format!(in *out.allocator(); ".expand({before},{beyond})")?)
 }
 
-fn push_move(step: Move, out: &mut String) -> Result<(), AllocError> {
+/// Adds a move.
+pub fn push_move(step: Move, out: &mut String) -> Result<(), AllocError> {
     match step {
         Move::Go(direction) => out.push_str(word(direction)),
         Move::Expand(before, beyond) => push_expand(before, beyond, out),
