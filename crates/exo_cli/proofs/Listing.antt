@@ -134,6 +134,6 @@ pub both_on : (h a r b : Bool) → h ≡ a → h ≡ true → r ≡ b → r ≡ 
 both_on h true r b e t s = s
 both_on h false r b e t s = absurd (true≢false (sym t ∙ e))
 
-pub both_off : (h a b : Bool) → h ≡ a → h ≡ false → false ≡ (a && b)
+pub both_off : (h a b : Bool) → h ≡ a → h ≡ false → h ≡ (a && b)
 both_off h true b e f = absurd (true≢false (sym e ∙ f))
-both_off h false b e f = refl
+both_off h false b e f = e
