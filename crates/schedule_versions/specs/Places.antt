@@ -1,16 +1,16 @@
 -- Cursors of a schedule: where one is in its own version, and where its statements went from there.
-use Rattle.std.specs.Prelude.{ℕ, zero, suc, ◌==◌, Bool, true, false, if◌then◌else◌, List, [], ◌∷◌}
+use Rattle.std.specs.Prelude.{ℕ, zero, suc, ◌==◌, if◌then◌else◌, List, [], ◌∷◌, map}
 use Rattle.std.specs.Prelude.{Option, Some, None, slice_get, option_map, option_and_then}
 use Rattle.exo_tree.specs.Tree.{Block, Procedure}
-use Rattle.config_laws.specs.Differing.{from_parent}
+use Rattle.config_laws.specs.Differing.{from_parent, is_descendant}
 use Rattle.cursor_patterns.specs.Patterns.{Pattern}
 use Rattle.schedule_calls.specs.Requests.{Move, Parent, Next, Prev, Body, Before, After, Expand}
 use Rattle.schedule_calls.specs.Requests.{Item, Source, Under, Found, Here, Asked}
 use Rattle.cursor_forward.specs.Cursors.{Cursor, parent_of, next_of, prev_of, body_of, item_of}
 use Rattle.cursor_forward.specs.Cursors.{expand_of, before_of, after_of, forward_of}
 use Rattle.cursor_forward.specs.Patterns.{find_of}
-use Rattle.schedule_versions.specs.Versions.{Origin, Held, Version, At, Versions, version_at, held}
-use Rattle.schedule_versions.specs.Versions.{version_of}
+use Rattle.schedule_versions.specs.Versions.{Origin, Held, Version, At, Versions, configured}
+use Rattle.schedule_versions.specs.Versions.{version_at, held, version_of}
 
 -- ---- what is found
 
@@ -62,12 +62,6 @@ module _ (v : Versions) where
   abbrev pub parent_at : ℕ → Option ℕ
   parent_at k = option_and_then (λ (o : Origin). o.parent) (origin_at k)
 
-  -- made of it in so many steps or fewer
-  abbrev pub descends : ℕ → ℕ → ℕ → Bool
-  descends zero from k = k == from
-  descends (suc n) from k =
-      if k == from then true else from_parent false (parent_at k) (descends n from)
-
   abbrev pub stepped : ℕ → Cursor → Option Cursor
   stepped k c = option_and_then (λ (o : Origin). forward_of o.edits c) (origin_at k)
 
@@ -87,7 +81,8 @@ module _ (v : Versions) where
 
   -- a version is one of which version k was made, or k itself
   abbrev pub if_before : ℕ → ℕ → Sought Place → Sought Place
-  if_before k j place = if descends k j k then place else Lost UnknownCursor
+  if_before k j place =
+      if is_descendant (map configured v.origins) k j then place else Lost UnknownCursor
 
   abbrev pub as_place : ℕ → Option Held → Sought Place
   as_place k (Some (At j c)) = if_before k j (Got (record { version = j; cursor = c }))
