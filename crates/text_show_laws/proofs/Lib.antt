@@ -28,3 +28,8 @@ pub mod Returned
 pub mod Closed
 pub mod Behind
 pub mod Spliced
+pub mod Each
+pub mod Lexed
+pub mod Named
+pub mod Writing
+pub mod Instance
