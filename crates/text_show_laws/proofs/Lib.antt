@@ -20,6 +20,7 @@ pub mod Numbered
 pub mod Called
 pub mod Passed
 pub mod Shared
+pub mod Alike
 pub mod Inside
 pub mod Unbroken
 pub mod Whole

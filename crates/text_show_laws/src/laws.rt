@@ -3,7 +3,7 @@
 ghost use Rattle.text_show_laws.specs.Laws.{ControlsAreSpelled, ConditionsAreSpelled, DataAreSpelled, ProceduresAreSpelled, WrittenFits, ShownIsRead};
 ghost use Rattle.text_show_laws.specs.Again.{ShownIsTheSame};
 ghost use Rattle.text_show_laws.specs.Below.{ShownIsReadBelow, ShownStandsAgain};
-ghost use Rattle.text_show_laws.specs.Instance.{NamesInstance};
+ghost use Rattle.text_show_laws.specs.Instance.{NamesInstance, VersionsInstance};
 ghost use Rattle.text_show_laws.specs.Naming.{ReadUnitsAreNamed, NamedUnitsAreWritable};
 
 /// The text of an expression over control values has the tokens of its source tree.
@@ -67,5 +67,13 @@ pub fn named_units_are_writable()
 pub fn names_instance()
     ensures { NamesInstance }
 {
+    named_units_are_writable();
+}
+
+/// A version that calls a version, shown below a text that has no more than its callee.
+pub fn versions_instance()
+    ensures { VersionsInstance }
+{
+    shown_is_the_same();
     named_units_are_writable();
 }
