@@ -1,6 +1,8 @@
 -- C's division by a divisor from 1 on, taken one down where something is left below 0.
 use Rattle.std.proofs.Common.{◌≡◌, ◌∙◌, ℕ, ℤ, pos, negsuc, zero, suc, ◌+◌, ◌*◌, ◌/◌, ◌%◌, ◌-◌, ◌<◌, ◌≤◌, ◌≤ℤ◌, ◌+ℤ◌, ◌-ℤ◌, true, false, Bool, refl, ap, sym, subst, arith, mod-lt}
-use Rattle.std.specs.Prelude.{int_lt, int_div, int_rem, neg_ℤ, if◌then◌else◌}
+use Rattle.std.specs.Prelude.{int_lt, int_div, int_rem, neg_ℤ, not, if◌then◌else◌}
+use Rattle.std.specs.Ordering.{int_eq}
+use Rattle.std.proofs.lemmas.Bool.Decides.{Decides-int_eq}
 use Rattle.std.specs.Int.{int_div_euclid, int_rem_euclid}
 use Rattle.std.proofs.lemmas.Int.{ints}
 use Rattle.std.proofs.Math.Arith.{digits_div, digits_mod}
@@ -55,12 +57,27 @@ one_less : (n : ℕ) → neg_ℤ (pos n) -ℤ pos 1 ≡ negsuc n
 one_less zero = refl
 one_less (suc n) = grind (arith, ints)
 
+-- ---- divisors
+
+no_zero : (b : ℕ) → pos (suc b) ≡ pos 0 → ⊥
+no_zero b e = omega (arith, ints, e)
+
+good_divisor : (b : ℕ) → not (int_eq (pos (suc b)) (pos 0)) ≡ true
+good_divisor b = by_test (int_eq (pos (suc b)) (pos 0)) refl
+  where
+    by_test : (t : Bool) → int_eq (pos (suc b)) (pos 0) ≡ t → not t ≡ true
+    by_test false e = refl
+    by_test true e = absurd (no_zero b ((Decides-int_eq (pos (suc b)) (pos 0)).0 e))
+
+is_divided : (a : ℤ) (b : ℕ) → divided a (pos (suc b)) ≡ checked (int_div a (pos (suc b)))
+is_divided a b = ap (λ t. where_good t (checked (int_div a (pos (suc b))))) (good_divisor b)
+
 -- ---- a number from 0 on
 
 of_natural : (a b : ℕ) → a ≤ greatest
     → (exo_div (pos a) (pos (suc b)) ≡ Done (pos (a / suc b))) × (exo_mod (pos a) (pos (suc b)) ≡ Done (pos (a % suc b)))
 of_natural a b h =
-    let d : divided (pos a) (pos (suc b)) ≡ Done (pos (a / suc b)) = natural_fits (a / suc b) (omega (arith, div-le_self a (suc b))) in
+    let d : divided (pos a) (pos (suc b)) ≡ Done (pos (a / suc b)) = is_divided (pos a) b ∙ natural_fits (a / suc b) (omega (arith, div-le_self a (suc b))) in
     let t : int_lt (pos (a % suc b)) (pos 0) ≡ false = grind (arith, ints) in
     (
       quotient_stays (pos a) (pos (suc b)) (pos (a / suc b)) (pos (a % suc b)) d refl t,
@@ -80,7 +97,7 @@ module _ (a b : ℕ) (fa : a ≤ greatest) (fb : b ≤ greatest) where
       let is : k * suc b + b ≡ a = omega arith in
       let quotient : a / suc b ≡ k = ap (λ n. n / suc b) (sym is) ∙ digits_div k {m = suc b} {r = b} (omega arith) in
       let rest : a % suc b ≡ b = ap (λ n. n % suc b) (sym is) ∙ digits_mod k {m = suc b} {r = b} (omega arith) in
-      let d : divided (negsuc a) (pos (suc b)) ≡ Done (negsuc k) = ap (λ n. checked (neg_ℤ (pos n))) e ∙ negative_fits k (omega arith) in
+      let d : divided (negsuc a) (pos (suc b)) ≡ Done (negsuc k) = is_divided (negsuc a) b ∙ ap (λ n. checked (neg_ℤ (pos n))) e ∙ negative_fits k (omega arith) in
       let r : int_rem (negsuc a) (pos (suc b)) ≡ pos 0 = ap (λ n. neg_ℤ (pos n)) z in
       let none : suc b - 1 - a % suc b ≡ 0 = omega arith in
       (
@@ -94,7 +111,7 @@ module _ (a b : ℕ) (fa : a ≤ greatest) (fb : b ≤ greatest) where
       let quotient : a / suc b ≡ q = ap (λ n. n / suc b) (sym is) ∙ digits_div q {m = suc b} {r = r} (omega arith) in
       let rest : a % suc b ≡ r = ap (λ n. n % suc b) (sym is) ∙ digits_mod q {m = suc b} {r = r} (omega arith) in
       let small : q ≤ a = subst (λ n. n ≤ a) quotient (div-le_self a (suc b)) in
-      let d : divided (negsuc a) (pos (suc b)) ≡ Done (neg_ℤ (pos q)) = ap (λ n. checked (neg_ℤ (pos n))) e ∙ opposite_fits q (omega arith) in
+      let d : divided (negsuc a) (pos (suc b)) ≡ Done (neg_ℤ (pos q)) = is_divided (negsuc a) b ∙ ap (λ n. checked (neg_ℤ (pos n))) e ∙ opposite_fits q (omega arith) in
       let left_is : int_rem (negsuc a) (pos (suc b)) ≡ negsuc r = ap (λ n. neg_ℤ (pos n)) z in
       let raised : negsuc r +ℤ pos (suc b) ≡ pos (suc b - 1 - a % suc b) = grind (arith, ints) in
       (

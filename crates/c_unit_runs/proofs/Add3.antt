@@ -62,19 +62,22 @@ add3_lowered : AreLowered fault_of add3_program add3_printed
 add3_lowered = record { listing = add3_listing; memories = memories; narrow = refl; named = add3_named; few = omega arith }
   where
     memories : (k : ℕ) → is_listed add3_printed k ≡ true → fault_of add3_program k ≡ None
-    memories zero h = refl
-    memories (suc k) h = absurd (true≢false (sym h))
+    memories k h = go (k == 0) refl h
+      where
+        go : (t : Bool) → (k == 0) ≡ t → (t || false) ≡ true → fault_of add3_program k ≡ None
+        go true e i = ap (fault_of add3_program) (eqb-true k 0 e)
+        go false e i = absurd (true≢false (sym i))
 
 -- ---- the input
 
 -- what holds of each of three holds of one of them
-by_one : {A : Type 0} (P : A → Type 0) (a b c : A) (x : ℕ) → P a → P b → P c → P (by_argument a b c x)
-by_one P a b c x h k l = go (x == 0) (x == 1)
+by_one : {A : Type 0} (P : A → Type 0) (a b c : A) (x : ℕ) → (x ≡ 0 → P a) → (x ≡ 1 → P b) → P c → P (by_argument a b c x)
+by_one P a b c x h k l = go (x == 0) (x == 1) refl refl
   where
-    go : (s t : Bool) → P (cond s a (cond t b c))
-    go true t = h
-    go false true = k
-    go false false = l
+    go : (s t : Bool) → (x == 0) ≡ s → (x == 1) ≡ t → P (cond s a (cond t b c))
+    go true t e f = h (eqb-true x 0 e)
+    go false true e f = k (eqb-true x 1 f)
+    go false false e f = l
 
 zero_fits : wrap I32 (pos 0) ≡ pos 0
 unfolding int_wrap
@@ -88,18 +91,16 @@ abbrev buffer : Option Shape
 buffer = Some (tensor I32 four_long)
 
 the_shape : (b : ℕ) (shape : Shape) → input.scene.buffers b ≡ Some shape → shape ≡ tensor I32 four_long
-the_shape b shape = by_one (λ o. o ≡ Some shape → shape ≡ tensor I32 four_long) buffer buffer None b (λ e. sym (some_same e)) (λ e. sym (some_same e)) (λ e. absurd (none_some e))
+the_shape b shape = by_one (λ o. o ≡ Some shape → shape ≡ tensor I32 four_long) buffer buffer None b (λ i e. sym (some_same e)) (λ i e. sym (some_same e)) (λ e. absurd (none_some e))
 
 -- a buffer that is there holds numbers, and one that is not there holds nothing
-defined : (b : ℕ) (shape : Shape) (at : List ℤ) → input.scene.buffers b ≡ Some shape → input.cells b at ≡ Undefined → ⊥
-defined zero shape at e u = no_number u
-defined (suc zero) shape at e u = no_number u
-defined (suc (suc b)) shape at e u = none_some e
-
-tidy : (b : ℕ) (at : List ℤ) → input.scene.buffers b ≡ None → input.cells b at ≡ Undefined
-tidy zero at e = absurd (none_some (sym e))
-tidy (suc zero) at e = absurd (none_some (sym e))
-tidy (suc (suc b)) at e = refl
+held : (b : ℕ) {P : Type 0} → (input.scene.buffers b ≡ None → ((at : List ℤ) → input.cells b at ≡ Undefined) → P) → (input.scene.buffers b ≡ buffer → ((at : List ℤ) → (n : ℤ) × (input.cells b at ≡ Number n)) → P) → P
+held b {P = P} h k = go (b == 0) (b == 1) refl refl
+  where
+    go : (s t : Bool) → (b == 0) ≡ s → (b == 1) ≡ t → P
+    go true t e f = k (ap (λ u. cond u buffer (cond (b == 1) buffer None)) e) (λ at. (pos 0, ap (λ u. cond u (Number (pos 0)) (cond (b == 1) (Number (pos 7)) Undefined)) e))
+    go false true e f = k (ap (λ u. cond u buffer (cond (b == 1) buffer None)) e ∙ ap (λ u. cond u buffer None) f) (λ at. (pos 7, ap (λ u. cond u (Number (pos 0)) (cond (b == 1) (Number (pos 7)) Undefined)) e ∙ ap (λ u. cond u (Number (pos 7)) Undefined) f))
+    go false false e f = h (ap (λ u. cond u buffer (cond (b == 1) buffer None)) e ∙ ap (λ u. cond u buffer None) f) (λ at. ap (λ u. cond u (Number (pos 0)) (cond (b == 1) (Number (pos 7)) Undefined)) e ∙ ap (λ u. cond u (Number (pos 7)) Undefined) f)
 
 same_one : (m n : ℤ) → (pos 1 *ℤ m) +ℤ pos 0 ≡ (pos 1 *ℤ n) +ℤ pos 0 → m ≡ n
 same_one m n e = omega (arith, ints, e)
@@ -110,10 +111,15 @@ indices_apart i j h k e =
     let n = one_index (pos 4) j k in
     m.1 ∙ (ap (λ z. z ∷ []) (same_one m.0 n.0 (sym (ap (offset (pos 1 ∷ [])) m.1) ∙ (e ∙ ap (offset (pos 1 ∷ [])) n.1))) ∙ sym n.1)
 
-not_argument : (x : ℕ) → is_buffer_of x add3.params ≡ false → (input.scene.control x ≡ pos 0) × (input.scene.buffers x ≡ None) × (input.scene.views x ≡ None)
-not_argument zero h = absurd (true≢false h)
-not_argument (suc zero) h = absurd (true≢false h)
-not_argument (suc (suc x)) h = (refl, refl, refl)
+not_argument : (x : ℕ) → is_buffer_of x add3.params ≡ false → (input.scene.buffers x ≡ None) × (input.scene.views x ≡ None)
+not_argument x h = go (x == 0) (x == 1) refl refl h
+  where
+    go : (s t : Bool) → (x == 0) ≡ s → (x == 1) ≡ t → (s || (t || false)) ≡ false → (input.scene.buffers x ≡ None) × (input.scene.views x ≡ None)
+    go true t e f i = absurd (true≢false i)
+    go false true e f i = absurd (true≢false i)
+    go false false e f i =
+        let seen = Some (record { buffer = x; sides = whole four_long }) in
+        (ap (λ u. cond u buffer (cond (x == 1) buffer None)) e ∙ ap (λ u. cond u buffer None) f, ap (λ u. cond u seen (cond (x == 1) seen None)) e ∙ ap (λ u. cond u seen None) f)
 
 abbrev BelowLarge : Shape → Type 0
 BelowLarge shape = product shape.dims ≤ℤ pos (2 ^ 48)
@@ -122,9 +128,9 @@ valid_input : IsValid (program_world add3_program) add3 input
 valid_input = record {
   admissible = record {
     arguments = ((refl, refl), ((refl, refl), tt));
-    no_others = not_argument;
-    cells = λ b shape e at. subst (λ z. FitsCell z.cell (input.cells b at)) (sym (the_shape b shape e)) (by_one (FitsCell I32) (Number (pos 0)) (Number (pos 7)) Undefined b zero_fits seven_fits tt);
-    tidy = λ b e at. tidy b at e;
+    no_others = λ x h. (refl, (not_argument x h).0, (not_argument x h).1);
+    cells = λ b shape e at. subst (λ z. FitsCell z.cell (input.cells b at)) (sym (the_shape b shape e)) (by_one (FitsCell I32) (Number (pos 0)) (Number (pos 7)) Undefined b (λ i. zero_fits) (λ i. seven_fits) tt);
+    tidy = λ b e at. held b (λ n all. all at) (λ s all. absurd (none_some (sym e ∙ s)));
     fields = λ f. tt;
     asserts = refl;
   };
@@ -133,19 +139,37 @@ valid_input = record {
   cells = λ b shape e. subst BelowLarge (sym (the_shape b shape e)) (omega (arith, ints));
   strides = λ b shape e. subst (λ z. Each (IsBetween (pos 0) (pos (2 ^ 48))) z.strides) (sym (the_shape b shape e)) ((omega (arith, ints), omega (arith, ints)), tt);
   separate = λ b shape e. subst (λ z. (i j : List ℤ) → IsIndex z.dims i → IsIndex z.dims j → offset z.strides i ≡ offset z.strides j → i ≡ j) (sym (the_shape b shape e)) indices_apart;
-  defined = λ b shape e at h u. defined b shape at e u;
+  defined = λ b shape e at h. held b (λ n all. absurd (none_some (sym n ∙ e))) (λ s all. λ u. no_number (sym (all at).1 ∙ u));
 }
 
 -- ---- the same beginning
 
 objects_apart : AreSeparate layout input
-objects_apart zero zero shape other e f same = refl
-objects_apart (suc zero) (suc zero) shape other e f same = refl
-objects_apart zero (suc zero) shape other e f same = absurd (omega (arith, same))
-objects_apart (suc zero) zero shape other e f same = absurd (omega (arith, same))
-objects_apart (suc (suc x)) y shape other e f same = absurd (none_some e)
-objects_apart zero (suc (suc y)) shape other e f same = absurd (none_some f)
-objects_apart (suc zero) (suc (suc y)) shape other e f same = absurd (none_some f)
+objects_apart x y shape other e f same = go (x == 0) (y == 0) (x == 1) (y == 1) refl refl refl refl
+  where
+    no_buffer : (z : ℕ) (own : Shape) → (z == 0) ≡ false → (z == 1) ≡ false → input.scene.buffers z ≡ Some own → ⊥
+    no_buffer z own i j k = none_some (sym (ap (λ u. cond u buffer (cond (z == 1) buffer None)) i ∙ ap (λ u. cond u buffer None) j) ∙ k)
+
+    first_object : (z : ℕ) → (z == 0) ≡ true → (layout z).object ≡ 0
+    first_object z i = ap (λ u. cond u 0 (cond (z == 1) 1 1)) i
+
+    other_object : (z : ℕ) → (z == 0) ≡ false → (layout z).object ≡ 1
+    other_object z i = ap (λ u. cond u 0 (cond (z == 1) 1 1)) i ∙ one (z == 1)
+      where
+        one : (t : Bool) → ◌≡◌ {A = ℕ} (cond t 1 1) 1
+        one true = refl
+        one false = refl
+
+    zero_one : (m n : ℕ) → m ≡ 0 → n ≡ 1 → m ≡ n → ⊥
+    zero_one m n i j k = omega (arith, i, j, k)
+
+    go : (s t u v : Bool) → (x == 0) ≡ s → (y == 0) ≡ t → (x == 1) ≡ u → (y == 1) ≡ v → x ≡ y
+    go true true u v i j k l = eqb-true x 0 i ∙ sym (eqb-true y 0 j)
+    go true false u v i j k l = absurd (zero_one (layout x).object (layout y).object (first_object x i) (other_object y j) same)
+    go false true u v i j k l = absurd (zero_one (layout y).object (layout x).object (first_object y j) (other_object x i) (sym same))
+    go false false true true i j k l = eqb-true x 1 k ∙ sym (eqb-true y 1 l)
+    go false false false v i j k l = absurd (no_buffer x shape i k e)
+    go false false true false i j k l = absurd (no_buffer y other j l f)
 
 no_field : (f : ℕ) → declared_in add3_program add3_printed f ≡ true → ⊥
 no_field f h = go (is_used add3_program add3_printed f) h

@@ -1,10 +1,10 @@
 -- The run of a function on a column.
-use Rattle.std.proofs.Common.{◌≡◌, ◌^◌, ◌==◌, ℕ, zero, suc, ℤ, pos, ◌*ℤ◌, ◌+ℤ◌, ◌≤ℤ◌, Bool, true, false, ◌||◌, ◌&&◌, cond, List, [], ◌∷◌, Option, Some, None, refl, sym, ap, ◌∙◌, subst, arith, true≢false, nat_lt, slice_get}
+use Rattle.std.proofs.Common.{◌≡◌, ◌^◌, ◌==◌, ℕ, zero, suc, ℤ, pos, ◌*ℤ◌, ◌+ℤ◌, ◌≤ℤ◌, Bool, true, false, ◌||◌, ◌&&◌, cond, List, [], ◌∷◌, Option, Some, None, refl, sym, ap, ◌∙◌, subst, arith, true≢false, eqb-true, nat_lt, slice_get}
 use Rattle.std.specs.Int.{int_wrap}
 use Rattle.std.proofs.lemmas.Int.{ints}
 use Rattle.exo_tree.specs.Tree.{I32, Procedure}
 use Rattle.exo_meaning.specs.Value.{Undefined, Number, wrap}
-use Rattle.exo_meaning.specs.Scene.{Shape, is_below}
+use Rattle.exo_meaning.specs.Scene.{Shape, is_below, whole}
 use Rattle.exo_meaning.specs.Orders.{Each}
 use Rattle.exo_meaning.specs.Run.{product, program_world}
 use Rattle.exo_meaning.specs.Inputs.{IsValid, IsBetween, IsIndex, FitsCell, offset, is_buffer_of}
@@ -22,29 +22,29 @@ use Rattle.c_unit_runs.proofs.Entries.{none_some, some_same, no_number, no_entry
 
 -- ---- the one buffer, which has the number 1
 
+-- by whether it is that of w
+held : (b : ℕ) {P : Type 0} → (input.scene.buffers b ≡ None → ((at : List ℤ) → input.cells b at ≡ Undefined) → P) → (b ≡ 1 → P) → P
+held b {P = P} h k = go (b == 1) refl
+  where
+    go : (t : Bool) → (b == 1) ≡ t → P
+    go true e = k (eqb-true b 1 e)
+    go false e = h (ap (λ u. cond u (Some column) None) e) (λ at. ap (λ u. cond u (Number (pos 0)) Undefined) e)
+
 the_shape : (b : ℕ) (shape : Shape) → input.scene.buffers b ≡ Some shape → column ≡ shape
-the_shape zero shape e = absurd (none_some e)
-the_shape (suc zero) shape e = some_same e
-the_shape (suc (suc b)) shape e = absurd (none_some e)
+the_shape b shape e = held b (λ n all. absurd (none_some (sym n ∙ e))) (λ i. some_same (sym (ap input.scene.buffers i) ∙ e))
 
 zero_fits : wrap I32 (pos 0) ≡ pos 0
 unfolding int_wrap
 zero_fits = refl
 
 held_fits : (b : ℕ) (at : List ℤ) → FitsCell I32 (input.cells b at)
-held_fits zero at = tt
-held_fits (suc zero) at = zero_fits
-held_fits (suc (suc b)) at = tt
+held_fits b at = held b (λ n all. subst (FitsCell I32) (sym (all at)) tt) (λ i. subst (λ z. FitsCell I32 (input.cells z at)) (sym i) zero_fits)
 
 defined : (b : ℕ) (shape : Shape) (at : List ℤ) → input.scene.buffers b ≡ Some shape → input.cells b at ≡ Undefined → ⊥
-defined zero shape at e u = none_some e
-defined (suc zero) shape at e u = no_number u
-defined (suc (suc b)) shape at e u = none_some e
+defined b shape at e u = held b (λ n all. none_some (sym n ∙ e)) (λ i. no_number (sym (ap (λ z. input.cells z at) i) ∙ u))
 
 tidy : (b : ℕ) (at : List ℤ) → input.scene.buffers b ≡ None → input.cells b at ≡ Undefined
-tidy zero at e = refl
-tidy (suc zero) at e = absurd (none_some (sym e))
-tidy (suc (suc b)) at e = refl
+tidy b at e = held b (λ n all. all at) (λ i. absurd (none_some (sym e ∙ ap input.scene.buffers i)))
 
 same_two : (m n : ℤ) → (pos 2 *ℤ m) +ℤ pos 0 ≡ (pos 2 *ℤ n) +ℤ pos 0 → m ≡ n
 same_two m n e = omega (arith, ints, e)
@@ -55,10 +55,17 @@ indices_apart i j h k e =
     let n = one_index (pos 2) j k in
     m.1 ∙ (ap (λ z. z ∷ []) (same_two m.0 n.0 (sym (ap (offset column.strides) m.1) ∙ (e ∙ ap (offset column.strides) n.1))) ∙ sym n.1)
 
-not_argument : (x : ℕ) → is_buffer_of x fill.params ≡ false → (input.scene.control x ≡ pos 0) × (input.scene.buffers x ≡ None) × (input.scene.views x ≡ None)
-not_argument zero h = absurd (true≢false h)
-not_argument (suc zero) h = absurd (true≢false h)
-not_argument (suc (suc x)) h = (refl, refl, refl)
+abbrev StandsForNothing : ℕ → Type 0
+StandsForNothing x = (input.scene.control x ≡ pos 0) × (input.scene.buffers x ≡ None) × (input.scene.views x ≡ None)
+
+not_argument : (x : ℕ) → is_buffer_of x fill.params ≡ false → StandsForNothing x
+not_argument x h = go (x == 0) (x == 1) refl refl h
+  where
+    go : (s t : Bool) → (x == 0) ≡ s → (x == 1) ≡ t → (s || (t || false)) ≡ false → StandsForNothing x
+    go true t e f i = absurd (true≢false i)
+    go false true e f i = absurd (true≢false i)
+    go false false e f i =
+        (ap (λ u. cond u (pos 2) (pos 0)) e, ap (λ u. cond u (Some column) None) f, ap (λ u. cond u (Some (record { buffer = x; sides = whole (pos 2 ∷ []) })) None) f)
 
 abbrev BelowLarge : Shape → Type 0
 BelowLarge shape = product shape.dims ≤ℤ pos (2 ^ 48)
@@ -124,11 +131,7 @@ same_window = record {
 }
 
 one_object : AreSeparate layout input
-one_object zero y shape other e f same = absurd (none_some e)
-one_object (suc zero) zero shape other e f same = absurd (none_some f)
-one_object (suc zero) (suc zero) shape other e f same = refl
-one_object (suc zero) (suc (suc y)) shape other e f same = absurd (none_some f)
-one_object (suc (suc x)) y shape other e f same = absurd (none_some e)
+one_object x y shape other e f same = held x (λ n all. absurd (none_some (sym n ∙ e))) (λ i. held y (λ n all. absurd (none_some (sym n ∙ f))) (λ j. i ∙ sym j))
 
 no_field : (f : ℕ) → declared_in column_program both_printed f ≡ true → ⊥
 no_field f h = go (is_used column_program both_printed f) h
