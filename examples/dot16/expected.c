@@ -19,7 +19,7 @@ void dot(int64_t n, int8_t *x, int8_t *y, int32_t *out) {
     for (int64_t l = 0LL; l < 8LL; l++) {
         out[0LL] = (int32_t)((uint32_t)out[0LL] + (uint32_t)((__v8si)acc[0LL])[l]);
     }
-    for (int64_t t = (16LL * exo_div(n, 16LL)); t < n; t++) {
-        out[0LL] = (int32_t)((uint32_t)out[0LL] + ((uint32_t)x[t] * (uint32_t)y[t]));
+    for (int64_t t = 0LL; t < exo_mod(n, 16LL); t++) {
+        out[0LL] = (int32_t)((uint32_t)out[0LL] + ((uint32_t)x[((16LL * exo_div(n, 16LL)) + t)] * (uint32_t)y[((16LL * exo_div(n, 16LL)) + t)]));
     }
 }

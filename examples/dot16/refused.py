@@ -38,5 +38,5 @@ def dot(n: size, x: i8[n], y: i8[n], out: i32):
         mac16(acc[0:8], x[16 * i:16 * i + 16], y[16 * i:16 * i + 16])
     for l in seq(0, 8):
         add_lane(out, acc[0:8], l)
-    for t in seq(16 * (n / 16), n):
-        out += x[t] * y[t]
+    for t in seq(0, n % 16):
+        out += x[16 * (n / 16) + t] * y[16 * (n / 16) + t]
