@@ -1,3 +1,6 @@
 pub mod Shapes
 pub mod CutLoop
 pub mod DivideLoop
+pub mod Copies
+pub mod UnrollLoop
+pub mod Specialize
