@@ -37,8 +37,8 @@ pub record Writes (write : ℤ → Control) : Type 0 where
   pub unseen : (hidden : ℕ → Bool) (n : ℤ) → in_control hidden (write n) ≡ false
 
 -- no parameter and no binder of the procedure has a number from `base` on
-abbrev pub IsBelow : ℕ → Spot → Type 0
-IsBelow base s = list_all (λ x. nat_lt x base) (bound_ids s.target.proc) ≡ true
+abbrev pub AreBelow : ℕ → Spot → Type 0
+AreBelow base s = list_all (λ x. nat_lt x base) (bound_ids s.target.proc) ≡ true
 
 -- the piece is this loop, which has these turns wherever a run comes to it
 pub record HasTurns (s : Spot) (l : Loop) (ns : List ℤ) : Type 0 where
@@ -50,7 +50,7 @@ abbrev pub TurnsMayBeWrittenOut : Type 0
 TurnsMayBeWrittenOut =
     (s : Spot) (l : Loop) (ns : List ℤ) (write : ℤ → Control) (base : ℕ) (but : List ℕ)
     → IsSpot s
-    → IsBelow base s
+    → AreBelow base s
     → HasTurns s l ns
     → Writes write
     → Replaces s (written_out write l ns base) but
@@ -70,7 +70,7 @@ abbrev pub BlocksMayBeSpecialized : Type 0
 BlocksMayBeSpecialized =
     (s : Spot) (test : Condition) (base : ℕ) (but : List ℕ)
     → IsSpot s
-    → IsBelow base s
+    → AreBelow base s
     → mentions (top_binders (old s)) (rest_of (around s)) ≡ false
     → Replaces s (specialized base test (old s)) but
 
