@@ -2,6 +2,7 @@
 use Rattle.std.proofs.Common.{◌≡◌, ℕ, pos, true, false, List, [], ◌∷◌, refl}
 use Rattle.exo_tree.specs.Tree.{Lit, Var, Condition, True, Const, Assign, Pass, If, Block, end, next}
 use Rattle.exo_tree.specs.Context.{Here}
+use Rattle.exo_meaning.specs.Units.{IsUnit}
 use Rattle.scope_laws.specs.BranchesAtPlaces.{specialized}
 use Rattle.cursor_forward.specs.Shifts.{at_index}
 use Rattle.order_laws.specs.TurnsOfTwo.{Loop}
@@ -10,7 +11,7 @@ use Rattle.step_rules.specs.Rule.{Spot}
 use Rattle.step_rules.specs.Lawful.{IsSpot, Replaces}
 use Rattle.loop_laws.specs.Copies.{written_out, HasTurns, TurnsMayBeWrittenOut}
 use Rattle.loop_laws.specs.Copies.{LoopsOfNoTurnMayGo, BlocksMayBeSpecialized, TakenBranchesMayStand}
-use Rattle.loop_laws.proofs.SmallUnits.{binder, unit_of, target_of}
+use Rattle.loop_laws.proofs.SmallUnits.{binder, unit_of, unit_is, target_of}
 use Rattle.loop_laws.proofs.UnrollExamples.{is_target, two, two_written}
 use Rattle.loop_laws.proofs.UnrollLoop.{literals_write}
 
@@ -56,3 +57,38 @@ none_may_go law =
 pub two_may_be_specialized :
     BlocksMayBeSpecialized → (c : Condition) → Replaces (whole two) (specialized 3 c two) []
 two_may_be_specialized law c = law (whole two) c 3 [] is_spot refl refl
+
+-- if True: pass
+abbrev always : Block
+always = next (If True (next Pass end) end) end
+
+always_is_unit : IsUnit (unit_of always)
+always_is_unit =
+    unit_is always
+    (record {
+      params = refl;
+      asserts = refl;
+      body = refl;
+      filled = refl;
+      ids = refl;
+      distinct = refl;
+      paths = refl;
+      template = refl;
+    })
+
+always_is_spot : IsSpot (whole always)
+always_is_spot = record {
+  target = record { unit = always_is_unit; there = refl; ids = refl };
+  runs = record {
+    unit = always_is_unit.procedures;
+    procedure = always_is_unit.procedures.0;
+  };
+  opens = refl;
+  body = refl;
+  well = record { block = refl; piece = refl };
+}
+
+pub first_is_taken : TakenBranchesMayStand → Replaces (whole always) (next Pass end) []
+first_is_taken law =
+    law (whole always) True (next Pass end) end true [] always_is_spot
+    (record { is = refl; goes = λ first u good come stands. refl })

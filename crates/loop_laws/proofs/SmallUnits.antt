@@ -1,8 +1,10 @@
 -- Units of one procedure `f(x: i32[8], n: size)`, for closed examples.
-use Rattle.std.proofs.Common.{ℕ, pos, true, false, List, [], ◌∷◌, Some, None}
+use Rattle.std.proofs.Common.{ℕ, pos, true, false, List, [], ◌∷◌, Some, None, refl}
+use Rattle.std.specs.Prelude.{slice_get}
 use Rattle.exo_tree.specs.Tree.{I32, Size, Lit, Block, Param, ControlParam, TensorParam, Procedure}
 use Rattle.exo_tree.specs.Tree.{Binder, MemoryKind, Program}
 use Rattle.exo_tree.specs.Places.{Path}
+use Rattle.exo_meaning.specs.Units.{field_kind, IsProcedure, IsUnit}
 use Rattle.cursor_forward.specs.Cursors.{Before}
 use Rattle.cursor_forward.specs.Shifts.{Shift, edits_of}
 use Rattle.cursor_forward.specs.Proposals.{Plan}
@@ -42,6 +44,17 @@ plain_cells = record {
 
 abbrev pub unit_of : Block → Program
 unit_of b = record { procedures = of_body b ∷ []; fields = []; memories = plain_cells ∷ [] }
+
+-- well formed where its procedure is
+pub unit_is : (b : Block) → IsProcedure (field_kind []) 1 (slice_get []) (of_body b)
+    → IsUnit (unit_of b)
+unit_is b good = record {
+  procedures = (good, tt);
+  fields = refl;
+  memories = refl;
+  spaces = refl;
+  counts = refl;
+}
 
 abbrev pub target_of : Block → Target
 target_of b = record { unit = unit_of b; number = 0; proc = of_body b }

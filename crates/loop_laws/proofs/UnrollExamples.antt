@@ -17,7 +17,7 @@ use Rattle.step_rules.specs.Lawful.{IsTarget}
 use Rattle.step_rules.specs.Laws.{MeaningLaw, ForwardsLaw}
 use Rattle.loop_laws.specs.Shapes.{inside}
 use Rattle.loop_laws.specs.UnrollLoop.{few_between, unroll_rule}
-use Rattle.loop_laws.proofs.SmallUnits.{binder, of_body, unit_of, target_of, planned}
+use Rattle.loop_laws.proofs.SmallUnits.{binder, of_body, unit_of, unit_is, target_of, planned}
 use Rattle.loop_laws.proofs.UnrollLoop.{unroll_is_lawful, unroll_is_carrying}
 
 -- for i in seq(lo, hi): b
@@ -141,9 +141,9 @@ abbrev two_written : Block
 two_written = stores (literal 0) (stores (literal 1) end)
 
 pub is_unit : IsUnit (unit_of two)
-is_unit = record {
-  procedures = (
-    record {
+is_unit =
+    unit_is two
+    (record {
       params = refl;
       asserts = refl;
       body = refl;
@@ -152,14 +152,7 @@ is_unit = record {
       distinct = refl;
       paths = refl;
       template = refl;
-    },
-    tt,
-  );
-  fields = refl;
-  memories = refl;
-  spaces = refl;
-  counts = refl;
-}
+    })
 
 pub is_target : IsTarget (target_of two)
 is_target = record { unit = is_unit; there = refl; ids = refl }
