@@ -1,3 +1,5 @@
+pub mod Turns
+pub mod Examples
 pub mod Mapped
 pub mod Copies
 pub mod UnrollLoop

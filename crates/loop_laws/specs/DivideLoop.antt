@@ -37,13 +37,16 @@ module _ (d : Division) (l : Loop) (base : ℕ) where
   abbrev pub inner : Binder
   inner = record { id = suc base; name = d.inner }
 
-  -- the number of a turn of the loop in a group, behind so many whole groups
-  abbrev pub turn_in : Control → Control
-  turn_in groups = Add (Mul (Lit d.by) groups) (Var inner.id)
+  -- the turn of that number behind so many groups
+  abbrev pub turn_behind : Control → ℕ → Control
+  turn_behind groups x = Add (Mul (Lit d.by) groups) (Var x)
 
-  -- the body in that turn
-  abbrev pub body_in : Control → Block
-  body_in groups = in_block l.binder.id (turn_in groups) l.body
+  -- the turn in a group, and the body in it
+  abbrev pub turn_in_group : Control
+  turn_in_group = turn_behind (Var outer.id) inner.id
+
+  abbrev pub body_in_group : Block
+  body_in_group = in_block l.binder.id turn_in_group l.body
 
   -- so many groups of turns
   abbrev pub nest : Control → Block → Block
@@ -51,19 +54,24 @@ module _ (d : Division) (l : Loop) (base : ℕ) where
       only_loop outer (Lit (pos 0)) groups (only_loop inner (Lit (pos 0)) (Lit d.by) b)
 
   abbrev pub whole_groups : Block
-  whole_groups = nest (Div l.hi d.by) (body_in (Var outer.id))
+  whole_groups = nest (Div l.hi d.by) body_in_group
 
-  -- the last group has turns that the loop has not
+  -- the last group may have turns that the loop has not
   abbrev pub guarded_groups : Block
   guarded_groups =
       nest (Div (Add l.hi (Lit (d.by -ℤ pos 1))) d.by)
-      (only_branch (Lt (turn_in (Var outer.id)) l.hi) (body_in (Var outer.id)) end)
+      (only_branch (Lt turn_in_group l.hi) body_in_group end)
 
-  -- a copy of the inner loop for the turns behind the whole groups
+  -- the turns behind the whole groups, counted by the loop's own variable
+  abbrev pub turns_behind : Block
+  turns_behind =
+      let i = l.binder.id in
+      only_loop (record { id = i; name = d.inner }) (Lit (pos 0)) (Mod l.hi d.by)
+      (in_block i (turn_behind (Div l.hi d.by) i) l.body)
+
+  -- which is a copy of the loop
   abbrev pub tail_turns : Block
-  tail_turns =
-      fresh (base + 2)
-      (only_loop inner (Lit (pos 0)) (Mod l.hi d.by) (body_in (Div l.hi d.by)))
+  tail_turns = fresh (base + 2) turns_behind
 
   abbrev pub divided_with : Tail → Block
   divided_with Guard = guarded_groups
