@@ -8,3 +8,4 @@ pub mod SmallUnits
 pub mod UnrollExamples
 pub mod SpecializeExamples
 pub mod CopyExamples
+pub mod LaterExamples

@@ -55,6 +55,16 @@ then_got (Not cause) f y h = cc
 pub same_got : {T : Type 0} {x y : T} → Got x ≡ Got y → x ≡ y
 same_got h = cc
 
+-- ---- and of what was found
+
+both_found : {T U : Type 0} (o : Option T) (f : T → Option U) (y : U)
+    → option_and_then f o ≡ Some y → (x : T) × (o ≡ Some x) × (f x ≡ Some y)
+both_found None f y h = cc
+both_found (Some x) f y h = (x, refl, h)
+
+same_some : {T : Type 0} {x y : T} → Some x ≡ Some y → x ≡ y
+same_some h = cc
+
 -- ---- numbers that are written
 
 pub literals_write : Writes literal
@@ -103,7 +113,7 @@ constant_value scene l n h = by l.constant l.terms h
     by : (m : ℤ) (ts : Terms)
         → constant_of (record { constant = m; terms = ts }) ≡ Some n
         → value (values_in scene) (record { constant = m; terms = ts }) ≡ n
-    by m none h = zero_more m ∙ cc
+    by m none h = zero_more m ∙ same_some h
     by m (term c a ts) h = cc
 
 number_of_bound : (scene : Scene) (e : Control) (n : ℤ) → is_affine variables e ≡ true
@@ -117,14 +127,6 @@ number_of_bound scene e n affine h =
 record IsUnrolling (b : Block) (u : Unrolling) : Type 0 where
   is : b ≡ only_loop u.loop.binder u.loop.lo u.loop.hi u.loop.body
   turns : (scene : Scene) → run.turns_of scene u.loop.lo u.loop.hi ≡ u.turns
-
-both_found : {T U : Type 0} (o : Option T) (f : T → Option U) (y : U)
-    → option_and_then f o ≡ Some y → (x : T) × (o ≡ Some x) × (f x ≡ Some y)
-both_found None f y h = cc
-both_found (Some x) f y h = (x, refl, h)
-
-same_some : {T : Type 0} {x y : T} → Some x ≡ Some y → x ≡ y
-same_some h = cc
 
 loop_read : (a : Statement) (l : Loop) → loop_in a ≡ Some l → a ≡ For l.binder l.lo l.hi l.body
 loop_read (For i lo hi b) l h = ap (λ (k : Loop). For k.binder k.lo k.hi k.body) (same_some h)

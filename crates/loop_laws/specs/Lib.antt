@@ -5,3 +5,5 @@ pub mod DivideLoop
 pub mod Copies
 pub mod UnrollLoop
 pub mod Specialize
+pub mod MultLoops
+pub mod ShiftLoop
