@@ -1,2 +1,5 @@
 pub mod Turns
+pub mod SameTurns
+pub mod Formed
+pub mod Sites
 pub mod Examples

@@ -2,3 +2,4 @@ pub mod Shapes
 pub mod CutLoop
 pub mod DivideLoop
 pub mod Turns
+pub mod SameTurns
