@@ -1,6 +1,7 @@
 -- The rules on closed procedures.
 use Rattle.std.proofs.Common.{◌≡◌, ℕ, ◌+◌, ◌^◌, ◌-◌, ℤ, pos, true, false, List, [], ◌∷◌, map, Option, Some, None, refl}
 use Rattle.std.specs.Prelude.{codes}
+use Rattle.std.specs.Fmt.{digits}
 use Rattle.exo_tree.specs.Tree.{Size, I32, Binder, Control, Lit, Var, Field, Add, Sub, Mul, Div, Mod}
 use Rattle.exo_tree.specs.Tree.{Lt, Gt, Const, Assign, If, For, Block, end, next, joined}
 use Rattle.exo_tree.specs.Tree.{Param, ControlParam, TensorParam, Procedure, MemoryKind, Program}
@@ -84,11 +85,13 @@ cut_at_5 = refl
 
 pub cut_at_5_needs : texts_of (on_loop (cut_rule (number 5)) z)
     ≡ codes "0 <= 5" ∷ codes "5 <= 16" ∷ []
+unfolding digits
 cut_at_5_needs = refl
 
 -- which is not shown
 pub cut_at_17_needs : texts_of (on_loop (cut_rule (number 17)) z)
     ≡ codes "0 <= 17" ∷ codes "17 <= 16" ∷ []
+unfolding digits
 cut_at_17_needs = refl
 
 pub cut_at_no_name : on_loop (cut_rule (Var (2 ^ 32 - 1))) z ≡ Not OutOfScope
@@ -131,6 +134,7 @@ pub guarded : body_of (on_loop (groups (pos 8) Guard) thirteen)
 guarded = refl
 
 pub guarded_needs : texts_of (on_loop (groups (pos 8) Guard) thirteen) ≡ []
+unfolding digits
 guarded_needs = refl
 
 -- f has n: size, x: i32[n], for i in seq(0, n - 3): x[i] = 0
@@ -157,6 +161,7 @@ with_tail = refl
 
 -- which is not shown
 pub with_tail_needs : texts_of (on_loop (groups (pos 8) Cut) f) ≡ codes "0 <= n - 3" ∷ []
+unfolding digits
 with_tail_needs = refl
 
 pub with_guarded_tail : body_of (on_loop (groups (pos 8) CutAndGuard) f)
@@ -165,12 +170,15 @@ with_guarded_tail = refl
 
 pub with_guarded_tail_needs : texts_of (on_loop (groups (pos 8) CutAndGuard) f)
     ≡ codes "0 <= n - 3" ∷ []
+unfolding digits
 with_guarded_tail_needs = refl
 
 pub perfect : body_of (on_loop (groups (pos 8) Perfect) f) ≡ Some whole_groups
 perfect = refl
 
-pub perfect_needs : texts_of (on_loop (groups (pos 8) Perfect) f) ≡ codes "(n - 3) % 8 == 0" ∷ []
+-- an equation is two systems
+pub perfect_needs : texts_of (on_loop (groups (pos 8) Perfect) f) ≡ codes "(n - 3) % 8 == 0" ∷ codes "(n - 3) % 8 == 0" ∷ []
+unfolding digits
 perfect_needs = refl
 
 pub by_nothing : on_loop (groups (pos 0) Guard) f ≡ Not WrongShape

@@ -1,4 +1,7 @@
 pub mod Turns
+pub mod SameTurns
+pub mod Formed
+pub mod Sites
 pub mod Examples
 pub mod Mapped
 pub mod Copies

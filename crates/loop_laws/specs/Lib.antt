@@ -7,3 +7,4 @@ pub mod UnrollLoop
 pub mod Specialize
 pub mod MultLoops
 pub mod ShiftLoop
+pub mod SameTurns
