@@ -1,6 +1,6 @@
 -- Copies for turns, and branches for blocks, at closed places. In these x, n and i have ids 0 to 2.
 use Rattle.std.proofs.Common.{◌≡◌, ℕ, pos, true, false, List, [], ◌∷◌, refl}
-use Rattle.exo_tree.specs.Tree.{Lit, Var, Condition, True, Const, Assign, Pass, If, Block, end, next}
+use Rattle.exo_tree.specs.Tree.{Lit, Var, Condition, True, Const, Assign, Pass, If, For, Block, end, next}
 use Rattle.exo_tree.specs.Context.{Here}
 use Rattle.exo_meaning.specs.Units.{IsUnit}
 use Rattle.scope_laws.specs.BranchesAtPlaces.{specialized}
@@ -25,7 +25,19 @@ whole b = record {
 is_spot : IsSpot (whole two)
 is_spot = record {
   target = is_target;
-  runs = record { unit = is_target.unit.procedures; procedure = is_target.unit.procedures.0 };
+  runs = record {
+    unit = is_target.unit.procedures;
+    procedure = record {
+      params = refl;
+      asserts = refl;
+      body = refl;
+      filled = refl;
+      ids = refl;
+      distinct = refl;
+      paths = refl;
+      template = refl;
+    };
+  };
   opens = refl;
   body = refl;
   well = record { block = refl; piece = refl };
@@ -81,7 +93,16 @@ always_is_spot = record {
   target = record { unit = always_is_unit; there = refl; ids = refl };
   runs = record {
     unit = always_is_unit.procedures;
-    procedure = always_is_unit.procedures.0;
+    procedure = record {
+      params = refl;
+      asserts = refl;
+      body = refl;
+      filled = refl;
+      ids = refl;
+      distinct = refl;
+      paths = refl;
+      template = refl;
+    };
   };
   opens = refl;
   body = refl;

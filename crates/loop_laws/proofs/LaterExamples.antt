@@ -1,5 +1,6 @@
 -- `mult_loops` and `shift_loop` on closed procedures. In these x, n, i and j have ids 0 to 3.
 use Rattle.std.proofs.Common.{◌≡◌, ℕ, pos, List, [], ◌∷◌, map, Option, Some, None, refl}
+use Rattle.std.specs.Fmt.{digits}
 use Rattle.std.specs.Prelude.{codes}
 use Rattle.exo_tree.specs.Tree.{Control, Lit, Var, Add, Sub, Mul, Div, Mod, Const, Assign, For, Block}
 use Rattle.exo_tree.specs.Tree.{end, next}
@@ -66,6 +67,7 @@ pub from_two : body_of (on_first (shift_rule (number 2)) from_one)
     (stores (Sub (Add (Var 2) (number 1)) (number 2))))
 from_two = refl
 
+unfolding digits
 pub from_two_needs : texts_of (on_first (shift_rule (number 2)) from_one) ≡ codes "0 <= 2" ∷ []
 from_two_needs = refl
 

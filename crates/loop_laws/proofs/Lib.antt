@@ -2,6 +2,7 @@ pub mod Turns
 pub mod SameTurns
 pub mod Formed
 pub mod Sites
+pub mod CutLoop
 pub mod Examples
 pub mod Mapped
 pub mod Copies

@@ -1,5 +1,6 @@
 -- `unroll_loop` on closed procedures. In these x, n, i and t have ids 0 to 3.
 use Rattle.std.proofs.Common.{◌≡◌, ℕ, ℤ, pos, List, [], ◌∷◌, Some, None, refl, ◌+◌}
+use Rattle.std.specs.Fmt.{digits}
 use Rattle.std.proofs.Math.Nat.{not-suc-le-zero}
 use Rattle.exo_tree.specs.Tree.{I32, Control, Lit, Var, Neg, Add, Sub, Mul, Const, Read, Assign}
 use Rattle.exo_tree.specs.Tree.{Pass, For, Alloc, Block, end, next}
@@ -21,17 +22,17 @@ use Rattle.loop_laws.proofs.SmallUnits.{binder, of_body, unit_of, unit_is, targe
 use Rattle.loop_laws.proofs.UnrollLoop.{unroll_is_lawful, unroll_is_carrying}
 
 -- for i in seq(lo, hi): b
-abbrev loop : Control → Control → Block → Block
+abbrev pub loop : Control → Control → Block → Block
 loop lo hi b = next (For (binder 2 105) lo hi b) end
 
 -- x[e] = 0
-abbrev stores : Control → Block → Block
+abbrev pub stores : Control → Block → Block
 stores e rest = next (Assign 0 (e ∷ []) (Const (pos 0))) rest
 
-abbrev literal : ℕ → Control
+abbrev pub literal : ℕ → Control
 literal n = Lit (pos n)
 
-abbrev stores_between : Control → Control → Block
+abbrev pub stores_between : Control → Control → Block
 stores_between lo hi = loop lo hi (stores (Var 2) end)
 
 -- ---- what is answered
@@ -79,6 +80,7 @@ loads t name e rest =
     (next (Assign t [] (Read 0 (e ∷ []))) rest)
 
 -- each copy has ids of its own, and the second one another name
+unfolding digits
 pub names_of_copies :
     proposed unroll_rule
     (target_of (loop (literal 0) (literal 2) (loads 3 (116 ∷ []) (Var 2) end))) (at_index 0)
@@ -134,10 +136,10 @@ great_but_unused = refl
 
 -- ---- the laws there
 
-abbrev two : Block
+abbrev pub two : Block
 two = stores_between (literal 0) (literal 2)
 
-abbrev two_written : Block
+abbrev pub two_written : Block
 two_written = stores (literal 0) (stores (literal 1) end)
 
 pub is_unit : IsUnit (unit_of two)
