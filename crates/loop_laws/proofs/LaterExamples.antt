@@ -67,8 +67,8 @@ pub from_two : body_of (on_first (shift_rule (number 2)) from_one)
     (stores (Sub (Add (Var 2) (number 1)) (number 2))))
 from_two = refl
 
-unfolding digits
 pub from_two_needs : texts_of (on_first (shift_rule (number 2)) from_one) ≡ codes "0 <= 2" ∷ []
+unfolding digits
 from_two_needs = refl
 
 pub from_own : on_first (shift_rule (Var 2)) from_one ≡ Not OutOfScope

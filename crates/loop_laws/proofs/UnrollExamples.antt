@@ -80,13 +80,13 @@ loads t name e rest =
     (next (Assign t [] (Read 0 (e ∷ []))) rest)
 
 -- each copy has ids of its own, and the second one another name
-unfolding digits
 pub names_of_copies :
     proposed unroll_rule
     (target_of (loop (literal 0) (literal 2) (loads 3 (116 ∷ []) (Var 2) end))) (at_index 0)
     ≡ Got (planned (loads 4 (116 ∷ []) (literal 0)
     (loads 5 (116 ∷ 95 ∷ 49 ∷ []) (literal 1) end)) (at_index 0) 1 4
     (shifts.range (inside 1) 2 (Some (at_index 0)) ∷ []))
+unfolding digits
 names_of_copies = refl
 
 -- ---- refusals
