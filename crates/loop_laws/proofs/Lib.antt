@@ -1,0 +1,15 @@
+pub mod Turns
+pub mod SameTurns
+pub mod Formed
+pub mod Sites
+pub mod CutLoop
+pub mod Examples
+pub mod Mapped
+pub mod Copies
+pub mod UnrollLoop
+pub mod Specialize
+pub mod SmallUnits
+pub mod UnrollExamples
+pub mod SpecializeExamples
+pub mod CopyExamples
+pub mod LaterExamples
