@@ -7,7 +7,7 @@ use crate::place::read_place;
 use crate::question::UNCLEAR;
 use exo_reader::string::read_window;
 use exo_tree::{Cond, Coords, Ctrl, Id, Path, ProcId, Unit};
-use rules_names::ArgError;
+use rules_names::argument::ArgError;
 use rules_scopes::{cond_at, ctrl_at, window_at};
 use std::alloc::{AllocError, Global};
 
