@@ -204,10 +204,20 @@ fn matched(alloc: Global, unit: &Unit, pattern: &str) -> Option<Cursor>
 }
 
 /// Where the moves from the match of a pattern lead in a unit.
+fn reached_in(alloc: Global, unit: &Unit, pattern: &str, moves: &[Move]) -> Option<Cursor>
+    requires { IsUnit (program unit.now) }
+{
+    let p = unit.procs.get(0)?;
+    let c = matched(alloc, unit, pattern)?;
+    moved_all(p, c, moves)
+}
+
+/// The same in the unit of a text.
 fn reached(alloc: Global, text: &[u8], pattern: &str, moves: &[Move]) -> Option<Cursor> {
-    let unit = formed_unit(alloc, text)?;
-    let c = matched(alloc, &unit, pattern)?;
-    moved_all(unit.procs.get(0)?, c, moves)
+    match formed_unit(alloc, text) {
+        Some(unit) => reached_in(alloc, &unit, pattern, moves),
+        None => None,
+    }
 }
 
 /// The path of these steps into main branches.
@@ -305,13 +315,18 @@ fn followed(
     step: &Replaced,
     pattern: &str,
     moves: &[Move],
-) -> Result<String, AllocError> {
+) -> Result<Option<Cursor>, AllocError> {
     let edits = edits_of(alloc, step)?;
-    let to = match reached(alloc, COPY, pattern, moves) {
-        Some(c) => forward(&c, &edits),
-        None => None,
-    };
-    place_of(alloc, to)
+    match reached(alloc, COPY, pattern, moves) {
+        Some(c) => Ok(forward(&c, &edits)),
+        None => Ok(None),
+    }
+}
+
+/// Whether a cursor is there.
+fn is_at(alloc: Global, c: Option<Cursor>, wanted: &str) -> Result<bool, AllocError> {
+    let place = place_of(alloc, c)?;
+    Ok(place.as_str() == wanted)
 }
 
 /// Whether a step takes each cursor to its place, where what is named with it is found in the text that the step leaves.
@@ -322,11 +337,8 @@ fn all_follow(
 ) -> Result<bool, AllocError> {
     for (pattern, moves, there, on, wanted) in rows {
         let to = followed(alloc, step, pattern, moves)?;
-        if to.as_str() != *wanted {
-            return Ok(false);
-        }
-        let at = place_of(alloc, reached(alloc, step.text, there, on))?;
-        if at.as_str() != *wanted {
+        let at = reached(alloc, step.text, there, on);
+        if !is_at(alloc, to, wanted)? || !is_at(alloc, at, wanted)? {
             return Ok(false);
         }
     }
