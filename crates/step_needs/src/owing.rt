@@ -34,6 +34,7 @@ use cursor_forward::StepError;
 use exo_tree::{Fields, Path, Proc, Unit, at};
 use std::alloc::Global;
 use text_show::Words;
+use tree_rules_laws::laws::procedures_keep_rules;
 
 /// By what the needs of a procedure are told.
 struct Site<'s, 'a> {
@@ -154,6 +155,7 @@ pub fn owed_needs(
     requires rules { (k : ℕ) → (owing.findings_of_needs (target_in (program unit.now, procedure p.now) k) (map plain_need needs.now)).rules ≡ true }
     ensures { (k : ℕ) → Tries (λ v. map plain_obligation v.items) (owing.owed_needs (target_in (program unit.now, procedure p.now) k) (map plain_need needs.now)) result }
 {
+    procedures_keep_rules();
     well_formed_procedures_may_be_walked();
     let roots = Roots::of(alloc, p)?;
     let writes = written_table(alloc, unit)?;
