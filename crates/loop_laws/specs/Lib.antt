@@ -1,0 +1,4 @@
+pub mod Shapes
+pub mod CutLoop
+pub mod DivideLoop
+pub mod Turns
