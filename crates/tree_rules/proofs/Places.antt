@@ -68,16 +68,19 @@ beyond_all s path (t ∷ rest) ss outer inner e l =
     (nothing_in t.branch (opened_in 1 (t ∷ rest)) (scope_behind_all ss outer) inner) l)
 
 -- it ends here
-pub at_statement : (s : Step) (path rest : Path) (ss more : List Statement) (a : Statement) (outer inner : Scope)
-    → path ≡ s ∷ rest → slice_get rest 0 ≡ None → drop s.index ss ≡ a ∷ more
-    → inner ≡ scope_behind_all (take s.index ss) outer
+pub at_statement : (s : Step) (path rest : Path) (ss : List Statement) (outer inner : Scope)
+    → path ≡ s ∷ rest → slice_get rest 0 ≡ None → inner ≡ scope_behind_all (take s.index ss) outer
     → IsScopeAt (opened_in 1 path (block ss)) outer inner
-at_statement s path [] ss more a outer inner e n d h =
+at_statement s path [] ss outer inner e n h =
     subst (λ (p : Path). IsScopeAt (opened_in 1 p (block ss)) outer inner) (sym e)
     (past_scope (λ c. with_rest (parted 1 c)) s.index ss outer inner
-    (subst (λ (xs : List Statement). IsScopeAt (with_rest (parted 1 (block xs)))
-    (scope_behind_all (take s.index ss) outer) inner) (sym d) h))
-at_statement s path (t ∷ rest) ss more a outer inner e n d h = cc
+    (here (drop s.index ss) (scope_behind_all (take s.index ss) outer) inner h))
+  where
+    here : (xs : List Statement) (outer inner : Scope) → inner ≡ outer
+        → IsScopeAt (with_rest (parted 1 (block xs))) outer inner
+    here [] outer inner h = tt
+    here (a ∷ xs) outer inner h = h
+at_statement s path (t ∷ rest) ss outer inner e n h = cc
 
 -- it goes on in a statement
 pub below_statement : (s t : Step) (path rest : Path) (ss more : List Statement) (a : Statement) (outer middle inner : Scope)
@@ -137,7 +140,7 @@ one_into f h _ b = tt
 
 one_first : (b : Block) → HasOne (with_rest (parted 1 b))
 one_first end = tt
-one_first (next a b) = tt
+one_first (next a b) = refl
 
 one_in : (path : Path) (b : Block) → HasOne (opened_in 1 path b)
 one_in [] b = tt
@@ -166,7 +169,7 @@ not_there None h e = refl
 not_there (Some o) h e = absurd (by (first_of o.piece) h e)
   where
     by : (y : Option Statement) → IsSome y → y ≡ None → ⊥
-    by None k d = k
+    by None k d = cc
     by (Some a) k d = cc
 
 module _ (p : Procedure) (path : Path) where

@@ -15,5 +15,5 @@ IsScopeAt x outer inner = IfSome x (λ o. inner ≡ scope_at o.around outer)
 
 -- the same of what is opened in a branch of a statement
 abbrev pub IsScopeIn : Branch → (Block → Option Opened) → Statement → Scope → Scope → Type 0
-IsScopeIn branch open a outer inner =
-    (rest : Block) → IsScopeAt (into branch open (next a rest)) outer inner
+IsScopeIn branch inside a outer inner =
+    (rest : Block) → IsScopeAt (into branch inside (next a rest)) outer inner
