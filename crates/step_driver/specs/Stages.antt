@@ -43,22 +43,21 @@ plan_by r s q whole must = record {
   side = (r.point s).1;
 }
 
--- what stands in the place of the piece
-abbrev pub written_by : Rule → Spot → ℕ → Tried Block
-written_by r s base =
-    then_try (r.draft s Simplified base) (λ made. Got (or_pass s.opened.around made))
-
--- by what stands there and what is owed
-abbrev pub concluded : Rule → Spot → Findings → Block → List Owed → Tried Plan
-concluded r s needed whole must =
+-- by what stands in the place of the piece and what is owed
+abbrev pub settled : Rule → Spot → Findings → Block → List Owed → Tried Plan
+settled r s needed whole must =
     let base = next_id s.target.proc in
     let q = version_by r s base whole in
     unless (broken (both (findings_of_version s.target.unit base q) needed)) (
     Got (plan_by r s q whole must))
+
+-- by what is drafted and what is owed
+abbrev pub concluded : Rule → Spot → Findings → Block → List Owed → Tried Plan
+concluded r s needed made must = settled r s needed (or_pass s.opened.around made) must
 
 -- behind the rule's own refusals
 abbrev pub finished : Rule → Spot → Findings → Tried Plan
 finished r s needed =
     then_try (r.draft s Simplified (next_id s.target.proc)) (λ made.
     then_try (owed_needs s.target (r.needs s)) (λ must.
-    concluded r s needed (or_pass s.opened.around made) must))
+    concluded r s needed made must))

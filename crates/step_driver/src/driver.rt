@@ -20,7 +20,7 @@ ghost use Rattle.step_driver.specs.Outcomes.{Tries, Refuses, IsKept, KeepsMeanin
 ghost use Rattle.step_driver.specs.PlainExit.{plain_exit};
 ghost use Rattle.step_driver.specs.PlainTarget.{target, plain_piece};
 ghost use Rattle.step_driver.specs.Spots.{spot_at, exit_of};
-ghost use Rattle.step_driver.specs.Stages.{shape_of, written_by, version_by, edits_by, plan_by, concluded, finished};
+ghost use Rattle.step_driver.specs.Stages.{shape_of, version_by, edits_by, plan_by, settled, concluded, finished};
 
 use crate::made::{passed, placed, version};
 use crate::operator::{Exit, Operator, Writing};
@@ -80,6 +80,7 @@ fn answered<O: Operator>(
 }
 
 /// The answer where the piece is there: `alone`, where it is all of its block.
+#[tactic(auto, using(crate::proofs::Refused::needs_keep_rules))]
 fn answered_there<O: Operator>(
     alloc: Global,
     on: &Target<'_>,
@@ -148,29 +149,35 @@ fn finish<O: Operator>(
     requires rules { (owing.findings_of_needs (target on.now) ((O.rule op.now).needs (spot_at (target on.now) (plain_piece piece.now)))).rules ≡ true }
     ensures { Tries plain_proposal (finished (O.rule op.now) (spot_at (target on.now) (plain_piece piece.now)) found) result }
 {
-    let whole = written(alloc, on, piece, alone, base, op)?;
+    let made = op.draft(alloc, on, piece, Writing::Simplified, &mut Fresh::new(base))?;
     let must = owed(alloc, on, piece, op)?;
-    conclude(alloc, on, piece, alone, base, found, &whole, must, op)
+    conclude(alloc, on, piece, alone, base, found, made, must, op)
 }
 
-/// What is put in the place of the piece, with its forms.
-fn written<O: Operator>(
+/// The result of what is drafted.
+fn conclude<O: Operator>(
     alloc: Global,
     on: &Target<'_>,
     piece: &Piece,
     alone: bool,
     base: u32,
+    found: Findings,
+    made: Block,
+    must: Vec<Obligation>,
     op: &O,
-) -> Result<Block, StepError>
+) -> Result<Proposal, StepError>
+    requires modes { table_says on.now.modes.now ≡ modes_of (program on.now.unit.now) }
+    requires base { base ≡ ids.next_id (procedure on.now.proc.now) }
+    requires small { base ≤ 4294901759 }
     requires there { option_map (λ o. is_alone o.around) (opened piece.now.count piece.now.path (block on.now.proc.now.body)) ≡ Some alone }
-    ensures { Tries block (written_by (O.rule op.now) (spot_at (target on.now) (plain_piece piece.now)) base) result }
+    ensures { Tries plain_proposal (concluded (O.rule op.now) (spot_at (target on.now) (plain_piece piece.now)) found (block made) (map plain_obligation must.items)) result }
 {
-    let made = op.draft(alloc, on, piece, Writing::Simplified, &mut Fresh::new(base))?;
-    Ok(passed(on, piece, alone, made)?)
+    let whole = passed(on, piece, alone, made)?;
+    settle(alloc, on, piece, alone, base, found, &whole, must, op)
 }
 
 /// The result of what is put in the place of the piece, and what is told of it.
-fn conclude<O: Operator>(
+fn settle<O: Operator>(
     alloc: Global,
     on: &Target<'_>,
     piece: &Piece,
@@ -185,7 +192,7 @@ fn conclude<O: Operator>(
     requires base { base ≡ ids.next_id (procedure on.now.proc.now) }
     requires small { base ≤ 4294901759 }
     requires there { option_map (λ o. is_alone o.around) (opened piece.now.count piece.now.path (block on.now.proc.now.body)) ≡ Some alone }
-    ensures { Tries plain_proposal (concluded (O.rule op.now) (spot_at (target on.now) (plain_piece piece.now)) found (block whole.now) (map plain_obligation must.items)) result }
+    ensures { Tries plain_proposal (settled (O.rule op.now) (spot_at (target on.now) (plain_piece piece.now)) found (block whole.now) (map plain_obligation must.items)) result }
 {
     let told = told(alloc, on, piece, alone, base, whole, must, op)?;
     version_kept(alloc, on, base, &told.proc, found)?;

@@ -94,6 +94,9 @@ module _ (t : Target) (path : Path) (fact : Fact) where
       by true false h = absurd h
       by false small h = absurd h
 
+  pub unfit_context : context_fits t.unit t.proc path ≡ false → fits_all ≡ false
+  unfit_context h = ap (λ (b : Bool). b && fact_fits t.unit t.proc (known_for t path) fact) h
+
   module _ (old : List Owed) where
     abbrev why : Option Cause
     why = cause_for (need_fault t (Says path fact)) (are_within (old ++ owed_for t (Says path fact)))

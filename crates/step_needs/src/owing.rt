@@ -152,7 +152,7 @@ pub fn owed_needs(
     needs: &[Need],
 ) -> Result<Vec<Obligation>, StepError>
     requires target { (k : ℕ) × IsTarget (target_in (program unit.now, procedure p.now) k) }
-    requires rules { (k : ℕ) → (owing.findings_of_needs (target_in (program unit.now, procedure p.now) k) (map plain_need needs.now)).rules ≡ true }
+    requires rules { (k : ℕ) × ((owing.findings_of_needs (target_in (program unit.now, procedure p.now) k) (map plain_need needs.now)).rules ≡ true) }
     ensures { (k : ℕ) → Tries (λ v. map plain_obligation v.items) (owing.owed_needs (target_in (program unit.now, procedure p.now) k) (map plain_need needs.now)) result }
 {
     procedures_keep_rules();

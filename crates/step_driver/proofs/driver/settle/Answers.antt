@@ -1,28 +1,29 @@
 use Rattle.std.proofs.Common.{◌≡◌, ℕ, ap, ◌∙◌}
-use Rattle.exo_tree.specs.Tree.{block}
+use Rattle.exo_tree.specs.Tree.{block, Procedure}
 use Rattle.exo_tree.specs.PlainProcedure.{procedure}
 use Rattle.tree_rules.specs.declared.findings.Findings.{Findings}
 use Rattle.tree_rules.specs.Classes.{both}
 use Rattle.tree_rules.specs.Findings.{findings_of_version}
 use Rattle.cursor_forward.specs.PlainProposal.{plain_proposal}
-use Rattle.step_rules.specs.Answer as answer
+use Rattle.cursor_forward.specs.Proposals.{Plan}
 use Rattle.step_driver.specs.PlainTarget.{target, plain_piece}
 use Rattle.step_driver.specs.Spots.{spot_at}
 use Rattle.step_driver.specs.Stages.{version_by}
 use Rattle.step_driver.proofs.Refused.{refused_exit}
-use Rattle.step_driver.proofs.driver.conclude.Goals as goal
+use Rattle.step_driver.proofs.driver.settle.Goals as goal
 
-pub returns-in_err-refused : goal.returns-in_err-refused
-returns-in_err-refused g c =
+pub returns-in_err-version_kept : goal.returns-in_err-version_kept
+returns-in_err-version_kept g c =
     let r = g.O.Operator.rule c.args.op.now in
     let t = target c.args.on.now in
     let s = spot_at t (plain_piece c.args.piece.now) in
-    let made : procedure c.in_ok-proc.proc ≡ answer.result r s c.args.base (block c.args.made) =
-    c.in_ok-proc.ensures ∙ ap (version_by r s c.args.base) c.in_ok-whole.ensures in
-    let found : c.both.result ≡ both (findings_of_version t.unit c.args.base (answer.result r s c.args.base (block c.args.made))) c.args.found =
-    c.both.ensures
-    ∙ ap (λ (f : Findings). both f c.args.found) (c.in_ok-kept.ensures ∙ ap (findings_of_version t.unit c.args.base) made) in
-    let base =
-    ap (λ (n : ℕ). both (findings_of_version t.unit n (answer.result r s n (block c.args.made))) c.args.found) c.requires.base in
-    refused_exit plain_proposal c.both.result _ _ c.from_residual-in_err-refused.result c.in_err-refused.field-0.0
-    c.from_residual-in_err-refused.ensures.1 (found ∙ base) c.in_err-refused.ensures
+    let found : Procedure → ℕ → Findings =
+    λ q n. both (findings_of_version t.unit n q) c.args.found in
+    let made : procedure c.in_ok-told.told.proc ≡ version_by r s c.args.base (block c.args.whole.now) =
+    ap (λ (m : Plan). m.proc) c.in_ok-told.ensures in
+    let same : found (procedure c.in_ok-told.told.proc) c.args.base ≡ found (version_by r s c.args.base (block c.args.whole.now)) c.args.base =
+    ap (λ (q : Procedure). found q c.args.base) made in
+    let at_base =
+    ap (λ (n : ℕ). found (version_by r s n (block c.args.whole.now)) n) c.requires.base in
+    refused_exit plain_proposal _ _ _ c.from_residual-in_err-version_kept.result c.in_err-version_kept.field-0.0
+    c.from_residual-in_err-version_kept.ensures.1 (same ∙ at_base) c.in_err-version_kept.ensures
