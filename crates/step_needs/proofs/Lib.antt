@@ -1,3 +1,5 @@
-pub mod Owing
+pub mod OneNeed
 pub mod Ruled
 pub mod Walked
+pub mod Standing
+pub mod Rests

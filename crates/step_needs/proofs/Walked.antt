@@ -1,5 +1,5 @@
 -- A procedure of a well-formed unit may be asked for the context at each of its places.
-use Rattle.std.proofs.Common.{◌≡◌, ◌<◌, ◌^◌, nat_lt, true, ◌&&◌, length, arith}
+use Rattle.std.proofs.Common.{◌≡◌, ℕ, ◌<◌, ◌^◌, nat_lt, true, ◌&&◌, length, arith}
 use Rattle.std.proofs.lemmas.Bool.{and_parts}
 use Rattle.std.proofs.lemmas.Bool.Decides.{nat_tests}
 use Rattle.std.specs.List.{list_all}

@@ -31,12 +31,14 @@ use check_facts::Cursor;
 use check_facts::laws::well_formed_procedures_may_be_walked;
 use config_state::written_table;
 use cursor_forward::StepError;
-use exo_tree::{Fields, Path, Proc, Unit, at};
+use exo_tree::{Fields, Path, Proc, Unit};
 use std::alloc::Global;
 use text_show::Words;
+use tree_edits::alone_at;
 use tree_rules_laws::laws::procedures_keep_rules;
 
 /// By what the needs of a procedure are told.
+#[derive(Drop)]
 struct Site<'s, 'a> {
     fields: &'s Fields,
     roots: &'s Roots<'a>,
@@ -48,7 +50,7 @@ fn place_in(p: &Proc, path: &Path) -> Path
     ensures same { opened 1 result (procedure p.now).body ≡ opened 1 path.now (procedure p.now).body }
     ensures place { IsPlaceOf result (procedure p.now) }
 {
-    match at(p, path) {
+    match alone_at(&p.body, path, 1) {
         None => Path::new(),
         Some(_) => path.duplicate(),
     }

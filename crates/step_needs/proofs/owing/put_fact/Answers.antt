@@ -3,7 +3,7 @@ use Rattle.exo_tree.specs.PlainProcedure.{procedure}
 use Rattle.check_facts.specs.Contexts.{context_fits}
 use Rattle.step_needs.specs.Owing.{target_in}
 use Rattle.step_needs.specs.PlainNeed.{plain_fact}
-use Rattle.step_needs.proofs.Owing.{same_context, unfit_context, refused_form}
+use Rattle.step_needs.proofs.OneNeed.{same_context, unfit_context, refused_form}
 use Rattle.step_needs.proofs.owing.put_fact.Goals as goal
 
 pub returns-in_err-context-clause-puts : goal.returns-in_err-context-clause-puts

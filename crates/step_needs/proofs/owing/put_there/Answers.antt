@@ -12,8 +12,8 @@ use Rattle.affine_systems.specs.Outcomes as stating
 use Rattle.step_rules.specs.Owing.{condition_of, fact_text}
 use Rattle.step_needs.specs.Owing.{said}
 use Rattle.step_needs.specs.PlainNeed.{plain_fact}
-use Rattle.step_needs.proofs.Owing.{formula_read, fits_read, all_fit_where, claim_read, told}
-use Rattle.step_needs.proofs.Owing.{refused_form, refused_systems, refused_memory, refused_list, puts_systems}
+use Rattle.step_needs.proofs.OneNeed.{formula_read, fits_read, all_fit_where, claim_read, told}
+use Rattle.step_needs.proofs.OneNeed.{refused_form, refused_systems, refused_memory, refused_list, puts_systems}
 use Rattle.step_needs.proofs.owing.put_there.Goals as goal
 
 -- the formula is that of the condition, whose numbers fit

@@ -64,8 +64,14 @@ module _ (t : Target) (path : Path) (fact : Fact) where
   abbrev pub fits_all : Bool
   fits_all = context_fits t.unit t.proc path && fact_fits t.unit t.proc (known_for t path) fact
 
+  abbrev context : List Formula
+  context = context_of t.unit t.proc path
+
+  abbrev claim : Formula
+  claim = claim_of t path fact
+
   abbrev pub told : Stated
-  told = stated (context_of t.unit t.proc path) (claim_of t path fact)
+  told = stated context claim
 
   unfit : fits_all ≡ false → need_fault t (Says path fact) ≡ Some WideNumber
   unfit h = ap (λ (b : Bool). if b then stated_fault t told else Some WideNumber) h
@@ -79,12 +85,6 @@ module _ (t : Target) (path : Path) (fact : Fact) where
       → (stated_fault t told ≡ None) × (map plain_obligation os ≡ owed_for t (Says path fact))
   systems_owed os = by (nat_le (length (failing_cases context claim)) 64) (list_all is_small (systems context claim))
     where
-      abbrev context : List Formula
-      context = context_of t.unit t.proc path
-
-      abbrev claim : Formula
-      claim = claim_of t path fact
-
       by : (few small : Bool)
           → AreOwed os (if few then (if small then Listed (systems context claim) else SizePassed) else CasesPassed)
           (fact_text t fact) path
