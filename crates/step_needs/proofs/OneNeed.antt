@@ -1,6 +1,6 @@
 -- What one need owes, and why it is refused.
 use Rattle.std.proofs.Common.{◌≡◌, ℕ, nat_le, Bool, true, false, ◌&&◌, if◌then◌else◌, List, ◌∷◌, [], ◌++◌, map, length}
-use Rattle.std.proofs.Common.{Option, Some, None, Result, Ok, Err, Unit, refl, sym, ap, ap₂, ◌∙◌, subst}
+use Rattle.std.proofs.Common.{Option, Some, None, Result, Ok, Err, refl, sym, ap, ap₂, ◌∙◌, subst}
 use Rattle.std.specs.Prelude.{option_map}
 use Rattle.std.specs.List.{list_all}
 use Rattle.std.specs.Result.{IsErrAnd}
@@ -33,8 +33,9 @@ use Rattle.cursor_forward.specs.declared.proposal.StepError.TheVariants.{Memory}
 use Rattle.step_rules.specs.Rule.{Tried, Got, Not, Target, Need, Says}
 use Rattle.step_rules.specs.Owing.{condition_of, known_for, fact_text, claim_of, owed_for, stated_fault, need_fault}
 use Rattle.step_rules.specs.Owing.{unless_refused, owed_behind}
-use Rattle.step_needs.specs.Outcomes.{IsCause, RefusedBy}
-use Rattle.step_needs.specs.Owing.{check_cause, cause_for, Puts, said}
+use Rattle.step_needs.specs.Outcomes.{IsCause, RefusedBy, Tries}
+use Rattle.text_show.specs.Words.{words_of}
+use Rattle.step_needs.specs.Owing.{check_cause, cause_for, Puts, PutsAll, said, text_by}
 
 -- ---- a fact as it is read
 
@@ -57,6 +58,10 @@ said_fact : (u : Program) (p : Procedure) (known : KnownFields) (fact : Fact)
     → said fact (condition_formula u p known (condition_of fact)) ≡ fact_formula u p known fact
 said_fact u p known (Holds c) = refl
 said_fact u p known (Fails c) = refl
+
+pub text_said : (t : Target) (fact : Fact) → text_by (words_of t.unit t.proc) fact ≡ fact_text t fact
+text_said t (Holds c) = refl
+text_said t (Fails c) = refl
 
 -- ---- one fact
 
@@ -98,7 +103,7 @@ module _ (t : Target) (path : Path) (fact : Fact) where
   unfit_context h = ap (λ (b : Bool). b && fact_fits t.unit t.proc (known_for t path) fact) h
 
   module _ (old : List Owed) where
-    abbrev why : Option Cause
+    abbrev pub why : Option Cause
     why = cause_for (need_fault t (Says path fact)) (are_within (old ++ owed_for t (Says path fact)))
 
     faulty : (f : FormFault) → need_fault t (Says path fact) ≡ Some f → why ≡ Some (Form f)
@@ -225,3 +230,34 @@ module _ (t : Target) where
       → RefusedBy (owed_behind t old (n ∷ ns)) why
   owed_not old n ns why h =
       stops (need_fault t n) (are_within (old ++ owed_for t n)) (owed_behind t (old ++ owed_for t n) ns) why h
+
+  module _ {X : Type 0} (result : Result X StepError) (n : Need) (ns : List Need) where
+    -- the first one is refused
+    pub stopped : (e : StepError) (old new : List Owed) → IsErrAnd result (λ r. r ≡ e)
+        → IsCause (cause_for (need_fault t n) (are_within (old ++ owed_for t n))) (cause_of e)
+        → PutsAll result t (n ∷ ns) old new
+    stopped e old new is h = by result is
+      where
+        by : (r : Result X StepError) → IsErrAnd r (λ y. y ≡ e) → PutsAll r t (n ∷ ns) old new
+        by (Ok x) w = absurd w
+        by (Err y) w =
+            subst (λ (z : StepError). RefusedBy (owed_behind t old (n ∷ ns)) (cause_of z)) (sym w)
+            (owed_not old n ns (cause_of e) h)
+
+    -- or the others come behind what it owes
+    pub went_on : (old mid new : List Owed)
+        → (cause_for (need_fault t n) (are_within (old ++ owed_for t n)) ≡ None) × (mid ≡ old ++ owed_for t n)
+        → PutsAll result t ns mid new → PutsAll result t (n ∷ ns) old new
+    went_on old mid new p h = by result h
+      where
+        by : (r : Result X StepError) → PutsAll r t ns mid new → PutsAll r t (n ∷ ns) old new
+        by (Ok x) w = owed_then old mid n ns p.0 p.1 ∙ w
+        by (Err e) w =
+            subst (λ (x : Tried (List Owed)). RefusedBy x (cause_of e)) (sym (owed_then old mid n ns p.0 p.1)) w
+
+-- a refusal on the way is that of the whole
+pub refused_all : {X T : Type 0} (plain : X → T) (result : Result X StepError) (e : StepError) (owes : Tried T)
+    → IsErrAnd result (λ r. r ≡ e) → RefusedBy owes (cause_of e) → Tries plain owes result
+refused_all plain (Ok x) e owes is h = absurd is
+refused_all plain (Err y) e owes is h =
+    subst (λ (z : StepError). RefusedBy owes (cause_of z)) (sym is) h

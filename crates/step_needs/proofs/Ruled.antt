@@ -6,7 +6,9 @@ use Rattle.std.specs.Prelude.{int_lt}
 use Rattle.std.specs.Int.{is_positive}
 use Rattle.exo_tree.specs.Tree.{Kind, Control, Lit, Var, Field, StrideOf, Neg, Add, Sub, Mul, Div, Mod}
 use Rattle.exo_tree.specs.Tree.{Condition, True, False, Flag, FieldFlag, Lt, Le, Gt, Ge, Eq, And, Or}
-use Rattle.exo_meaning.specs.Units.{Scope, Reads, is_of_literals}
+use Rattle.exo_tree.specs.Places.{opened}
+use Rattle.exo_meaning.specs.Units.{Scope, Reads, with_both, field_kind, is_of_literals}
+use Rattle.meaning_laws.specs.Sorted.{scope_there}
 use Rattle.affine_forms.specs.Forms.{keeps_rules}
 use Rattle.affine_forms.specs.Formulas.{condition_keeps_rules}
 use Rattle.tree_rules.specs.Findings.{found_in_control, found_in_condition}
@@ -75,7 +77,11 @@ module _ (fields : ℕ → Option Kind) (may : Reads) (scope : Scope) where
 
 module _ (t : Target) where
   need_affine : (n : Need) → (findings_of_need t n).rules ≡ true → is_affine n ≡ true
-  need_affine (Says path fact) h = condition_affine _ _ _ (condition_of fact) (and_parts _ true h).0
+  need_affine (Says path fact) h =
+      let fields = field_kind t.unit.fields in
+      let scope = scope_there t.proc (opened 1 path t.proc.body) in
+      condition_affine fields with_both scope (condition_of fact)
+      (and_parts (found_in_condition fields with_both scope (condition_of fact)).rules true h).0
 
   pub needs_affine : (ns : List Need) → (findings_of_needs t ns).rules ≡ true
       → list_all is_affine ns ≡ true

@@ -107,7 +107,7 @@ fn put_fact(
     requires words { words_in site.now.words.now ≡ words_of cursor.old.0 cursor.old.1 }
     requires proc { procedure p.now ≡ cursor.old.1 }
     requires rules { IsTrue (condition_keeps_rules (condition_of (plain_fact fact.now))) }
-    ensures puts { (k : ℕ) → Puts result (target_in cursor.old k) (rule.Says path.now (plain_fact fact.now)) out.old out.new }
+    ensures puts { (k : ℕ) (n : rule.Need) → n ≡ rule.Says path.now (plain_fact fact.now) → Puts result (target_in cursor.old k) n out.old out.new }
     ensures same { cursor.new ≡ cursor.old }
 {
     let (context, facts) = cursor.at(alloc, &place_in(p, path))?;
@@ -117,6 +117,28 @@ fn put_fact(
         facts: &facts,
     };
     put_there(alloc, &there, site.words, &context, path, fact, out)
+}
+
+/// Puts what a need owes last.
+fn put_need(
+    alloc: Global,
+    site: &Site<'_, '_>,
+    p: &Proc,
+    cursor: &mut Cursor<'_, '_>,
+    need: &Need,
+    out: &mut Owed,
+) -> Result<(), StepError>
+    requires fields { cursor.old.0.fields ≡ site.now.fields.now }
+    requires roots { roots_in site.now.roots.now ≡ roots_of cursor.old.1 }
+    requires words { words_in site.now.words.now ≡ words_of cursor.old.0 cursor.old.1 }
+    requires proc { procedure p.now ≡ cursor.old.1 }
+    requires affine { IsTrue (is_affine (plain_need need.now)) }
+    ensures puts { (k : ℕ) → Puts result (target_in cursor.old k) (plain_need need.now) out.old out.new }
+    ensures same { cursor.new ≡ cursor.old }
+{
+    match need {
+        Need::Says(path, fact) => put_fact(alloc, site, p, cursor, path, fact, out),
+    }
 }
 
 /// Puts what needs owe last, in their order.
@@ -138,9 +160,7 @@ fn put_needs(
     let [n, rest @ ..] = needs else {
         return Ok(());
     };
-    match n {
-        Need::Says(path, fact) => put_fact(alloc, site, p, cursor, path, fact, out)?,
-    }
+    put_need(alloc, site, p, cursor, n, out)?;
     put_needs(alloc, site, p, cursor, rest, out)
 }
 

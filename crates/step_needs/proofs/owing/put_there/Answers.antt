@@ -9,11 +9,15 @@ use Rattle.affine_places.specs.Roots.{Roots}
 use Rattle.affine_places.specs.Seen.{roots_in}
 use Rattle.affine_systems.specs.Systems.{Stated, stated}
 use Rattle.affine_systems.specs.Outcomes as stating
+use Rattle.text_show.specs.Layout.{Text}
+use Rattle.text_show.specs.Words.{Words}
 use Rattle.step_rules.specs.Owing.{condition_of, fact_text}
-use Rattle.step_needs.specs.Owing.{said}
+use Rattle.step_needs.specs.Outcomes.{IsCause}
+use Rattle.step_needs.specs.Owing.{said, text_by}
 use Rattle.step_needs.specs.PlainNeed.{plain_fact}
 use Rattle.step_needs.proofs.OneNeed.{formula_read, fits_read, all_fit_where, claim_read, told}
 use Rattle.step_needs.proofs.OneNeed.{refused_form, refused_systems, refused_memory, refused_list, puts_systems}
+use Rattle.step_needs.proofs.OneNeed.{text_said, why}
 use Rattle.step_needs.proofs.owing.put_there.Goals as goal
 
 -- the formula is that of the condition, whose numbers fit
@@ -56,3 +60,40 @@ returns-in_err-owed c t e f g w h k =
     c.from_residual-in_err-owed.ensures.1
     (subst (λ (s : Stated). stating.IsRefusal c.in_err-owed.field-0.0 s) same c.in_err-owed.ensures.exact)
     (all_fit_where t path fact at.fields.now (roots_in at.roots.now) at.facts.now e f g true k made.0)
+
+pub returns-in-Ok : goal.returns-in-Ok
+returns-in-Ok c t e f g w h k =
+    let at = c.args.there.now in
+    let fact = plain_fact c.args.fact.now in
+    let path = c.args.path.now in
+    let read = IsRead at.fields.now (roots_in at.roots.now) at.facts.now in
+    let made = subst (λ (d : Condition). read d c.in_ok-formula.formula) c.condition.ensures c.in_ok-formula.ensures in
+    let claim = c.in_ok-claim.ensures ∙ ap (said fact) made.1 ∙ claim_read t path fact at.fields.now (roots_in at.roots.now) at.facts.now e f g in
+    let same : stated c.args.context.now (plain_formula c.in_ok-claim.claim) ≡ told t path fact = λ i. stated (h i) (claim i) in
+    let fits = all_fit_where t path fact at.fields.now (roots_in at.roots.now) at.facts.now e f g true k made.0 in
+    let says : c.in_ok-what.what ≡ fact_text t fact =
+    c.in_ok-what.ensures ∙ ap (λ (ws : Words). text_by ws fact) w ∙ text_said t fact in
+    let os = c.in_ok-owed.owed.items in
+    let owes =
+    subst (λ (s : Stated). stating.AreOwed os s (fact_text t fact) path) same
+    (subst (λ (x : Text). stating.AreOwed os (stated c.args.context.now (plain_formula c.in_ok-claim.claim)) x path) says c.in_ok-owed.ensures.exact) in
+    puts_systems t path fact c.args.out.now os owes fits c.push_all.new.self c.in-Ok.ensures
+
+pub returns : goal.returns
+returns c t e f g w h k =
+    let at = c.args.there.now in
+    let fact = plain_fact c.args.fact.now in
+    let path = c.args.path.now in
+    let read = IsRead at.fields.now (roots_in at.roots.now) at.facts.now in
+    let made = subst (λ (d : Condition). read d c.in_ok-formula.formula) c.condition.ensures c.in_ok-formula.ensures in
+    let claim = c.in_ok-claim.ensures ∙ ap (said fact) made.1 ∙ claim_read t path fact at.fields.now (roots_in at.roots.now) at.facts.now e f g in
+    let same : stated c.args.context.now (plain_formula c.in_ok-claim.claim) ≡ told t path fact = λ i. stated (h i) (claim i) in
+    let fits = all_fit_where t path fact at.fields.now (roots_in at.roots.now) at.facts.now e f g true k made.0 in
+    let says : c.in_ok-what.what ≡ fact_text t fact =
+    c.in_ok-what.ensures ∙ ap (λ (ws : Words). text_by ws fact) w ∙ text_said t fact in
+    let os = c.in_ok-owed.owed.items in
+    let owes =
+    subst (λ (s : Stated). stating.AreOwed os s (fact_text t fact) path) same
+    (subst (λ (x : Text). stating.AreOwed os (stated c.args.context.now (plain_formula c.in_ok-claim.claim)) x path) says c.in_ok-owed.ensures.exact) in
+    subst (IsCause (why t path fact c.args.out.now)) (sym c.refusal.ensures)
+    (refused_list t path fact c.args.out.now os owes fits c.in-Err.e c.push_all.new.self c.in-Err.ensures)
