@@ -2,4 +2,9 @@ pub mod Turns
 pub mod SameTurns
 pub mod Formed
 pub mod Sites
+pub mod CutLoop
+pub mod Quotients
+pub mod Divided
+pub mod Bones
+pub mod DivideLoop
 pub mod Examples
