@@ -2,16 +2,16 @@
 use Rattle.std.proofs.Common.{◌≡◌, ℕ, ◌+◌, ◌^◌, ◌-◌, ℤ, pos, true, false, List, [], ◌∷◌, map, Option, Some, None, refl}
 use Rattle.std.specs.Prelude.{codes}
 use Rattle.std.specs.Fmt.{digits}
-use Rattle.exo_tree.specs.Tree.{Size, I32, Binder, Control, Lit, Var, Field, Add, Sub, Mul, Div, Mod}
+use Rattle.exo_tree.specs.Tree.{Size, I32, Control, Lit, Var, Field, Add, Sub, Mul, Div, Mod}
 use Rattle.exo_tree.specs.Tree.{Lt, Gt, Const, Assign, If, For, Block, end, next, joined}
-use Rattle.exo_tree.specs.Tree.{Param, ControlParam, TensorParam, Procedure, MemoryKind, Program}
-use Rattle.cursor_forward.specs.Causes.{Cause, WrongShape, OutOfScope, NameTaken}
+use Rattle.exo_tree.specs.Tree.{Param, ControlParam, TensorParam, Procedure, MemoryKind}
+use Rattle.cursor_forward.specs.Causes.{WrongShape, OutOfScope, NameTaken}
 use Rattle.cursor_forward.specs.Shifts.{at_index}
 use Rattle.cursor_forward.specs.Proposals.{Plan}
 use Rattle.step_rules.specs.Rule.{Tried, Got, Not, Target, Rule}
 use Rattle.step_rules.specs.Answer.{proposed}
 use Rattle.loop_laws.specs.CutLoop.{cut_rule}
-use Rattle.loop_laws.specs.DivideLoop.{Tail, Guard, Cut, CutAndGuard, Perfect, Division, divide_rule}
+use Rattle.loop_laws.specs.DivideLoop.{Tail, Guard, Cut, CutAndGuard, Perfect, divide_rule}
 
 -- ---- procedures with a loop
 
