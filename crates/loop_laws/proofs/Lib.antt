@@ -8,3 +8,4 @@ pub mod Divided
 pub mod Bones
 pub mod DivideLoop
 pub mod Examples
+pub mod Instances
