@@ -30,7 +30,6 @@ use Rattle.cursor_forward.specs.Forwards.{Carries, are_apart}
 use Rattle.order_laws.specs.TurnsOfTwo.{Loop}
 use Rattle.step_rules.specs.Lawful.{IsMet, IsFormedHere, Site, IsSite, around, old, world_of}
 use Rattle.step_rules.specs.Lawful.{scope_here, callees_for, same, IsLawful, IsCarrying}
-use Rattle.step_rules.specs.Rule.{Target, Need}
 use Rattle.step_rules.proofs.Shapes.{or_pass_next}
 use Rattle.loop_laws.specs.Shapes.{loop_of}
 use Rattle.loop_laws.specs.CutLoop.{cut, cut_needs, cut_rule}
@@ -39,7 +38,7 @@ use Rattle.loop_laws.proofs.Formed.{free_not_in_scope}
 use Rattle.loop_laws.proofs.SameTurns.{own_names, turns_stay}
 use Rattle.loop_laws.proofs.Sites.{block_of, loop_of_is, on_loop, there, is_below, stands_at}
 use Rattle.loop_laws.proofs.Sites.{new_is_free, loop_is_made, bounds_plain, loop_keeps}
-use Rattle.loop_laws.proofs.Sites.{formed_here, loop_lacks}
+use Rattle.loop_laws.proofs.Sites.{of_found, formed_here, loop_lacks}
 use Rattle.loop_laws.proofs.Sites.{lacking_loop, given_unused, may_copy_there}
 use Rattle.loop_laws.proofs.Turns.{cut_turns}
 
@@ -130,12 +129,6 @@ module _ (e : Control) (a : Site) (is : IsSite (cut_rule e) a) (l : Loop)
       places_may_copy (world_of a.spot) a.spot.target.proc (around a.spot) (block_of l)
       (block_of (rest_from e l)) a.base u below (stands_at a is.spot l was below good come)
       (λ x h. h) (given_unused a.base (block_of (rest_from e l)) rest_is_low)
-
--- what is listed of the loop that is read
-pub of_found : (o : Option Loop) (list : Loop → List Need) (l : Loop) (t : Target) → o ≡ Some l
-    → Each (IsMet t) (elim o [ None ↦ [] | Some k ↦ list k ]) → Each (IsMet t) (list l)
-of_found o list l t found met =
-    subst (λ (z : Option Loop). Each (IsMet t) (elim z [ None ↦ [] | Some k ↦ list k ])) found met
 
 pub cut_is_lawful : (e : Control) → IsLawful (cut_rule e)
 cut_is_lawful e = record {

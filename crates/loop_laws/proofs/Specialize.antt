@@ -18,7 +18,7 @@ use Rattle.step_rules.specs.Lawful.{Site, IsSite, Replaces, IsLawful, IsCarrying
 use Rattle.step_rules.proofs.Shapes.{or_pass_next}
 use Rattle.loop_laws.specs.Specialize.{is_used_after, into_branch, specialize_rule}
 use Rattle.loop_laws.proofs.Copies.{blocks_may_be_specialized}
-use Rattle.loop_laws.proofs.Mapped.{parted_whole}
+use Rattle.loop_laws.proofs.Bones.{all_parted}
 use Rattle.loop_laws.proofs.UnrollLoop.{then_got, same_got}
 
 -- ---- what follows uses none of its names
@@ -78,9 +78,9 @@ into_branch_carried around c base b =
       record {
         was = here (b, end);
         is = in_first c (fresh base b) (here (b, end));
-        before = ap (option_map here) (parted_whole b);
+        before = ap (option_map here) (all_parted b);
         after =
-            ap (λ o. option_map (in_first c (fresh base b)) (option_map here o)) (parted_whole b);
+            ap (λ o. option_map (in_first c (fresh base b)) (option_map here o)) (all_parted b);
         alike = refl;
       },
       tt,
