@@ -1,37 +1,35 @@
 -- Copies may stand for the turns of a loop, and branches for a block.
 use Rattle.std.proofs.Common.{◌≡◌, ◌⊎◌, inl, inr, ℕ, ℤ, ◌+◌, ◌≤◌, ◌==◌, Bool, true, false, true≢false}
-use Rattle.std.proofs.Common.{cond, ◌||◌, ◌&&◌, not, List, [], ◌∷◌, length, Option, Some, None}
+use Rattle.std.proofs.Common.{cond, ◌||◌, List, [], ◌∷◌, length, Option, Some, None}
 use Rattle.std.proofs.Common.{option_map, refl, sym, ap, ◌∙◌, subst, arith, eq-eqb}
-use Rattle.std.specs.Prelude.{nat_le, if◌then◌else◌, map}
-use Rattle.exo_tree.specs.Tree.{Index, Control, Condition, If, Pass, For, Block, end, next, Procedure}
-use Rattle.exo_tree.specs.Context.{Context, fill, rest_of}
+use Rattle.std.specs.Prelude.{nat_le, if◌then◌else◌}
+use Rattle.exo_tree.specs.Tree.{Index, Control, Block, end, Procedure}
+use Rattle.exo_tree.specs.Context.{fill}
 use Rattle.exo_tree.specs.Renaming.{fresh}
 use Rattle.exo_tree.specs.Renaming as code
 use Rattle.exo_tree.specs.Substitution.{in_block as substituted}
-use Rattle.exo_meaning.specs.Scene.{then_do, holds}
+use Rattle.exo_meaning.specs.Scene.{then_do}
 use Rattle.exo_meaning.specs.State.{State, left, scoped, on_scene, with_control}
 use Rattle.exo_meaning.specs.Run.{World, run, turn, turns, turns_of}
 use Rattle.exo_meaning.specs.Inputs.{IsAdmissible}
 use Rattle.exo_meaning.specs.Orders.{Each}
-use Rattle.exo_meaning.specs.Units.{field_kind, scope_of, with_name, ControlName, is_new, is_control}
-use Rattle.exo_meaning.specs.Units.{plainly, sort_in, is_empty, is_short, is_block, is_statement}
-use Rattle.exo_meaning.specs.Unseen.{in_control, in_statement, in_block as mentions}
+use Rattle.exo_meaning.specs.Units.{field_kind, with_name, ControlName}
+use Rattle.exo_meaning.specs.Units.{sort_in}
 use Rattle.exo_meaning.proofs.Nested.{then_some}
 use Rattle.meaning_laws.specs.Context.{ComesTo, MayReplace}
 use Rattle.meaning_laws.specs.FreshCopies.{is_given, MayCopy, AllMayBeCopied, copies_from}
-use Rattle.meaning_laws.specs.FreshCopies.{IsBelow, StandsAt, IsMadeOf}
+use Rattle.meaning_laws.specs.FreshCopies.{IsBelow, IsMadeOf}
 use Rattle.meaning_laws.specs.Scoped.{is_scoped, is_param, has_binder}
 use Rattle.meaning_laws.specs.Substitute.{bound, catches}
 use Rattle.meaning_laws.proofs.Binders.{binders_law}
-use Rattle.meaning_laws.proofs.Copies.{unbound_on}
 use Rattle.meaning_laws.proofs.CopiesAtPlaces.{no_param, no_binder, old_is_made, old_may_be_copied}
 use Rattle.meaning_laws.proofs.CopiesAtPlaces.{substituted_is_made, places_may_copy_all}
 use Rattle.meaning_laws.proofs.Facts.{or_left, or_right}
 use Rattle.meaning_laws.proofs.FreshCopies.{copies_run_alike}
 use Rattle.meaning_laws.proofs.Scoped.{or_elim}
-use Rattle.meaning_laws.proofs.Substitute.{and_parts, substitution_law}
+use Rattle.meaning_laws.proofs.Substitute.{substitution_law}
 use Rattle.meaning_laws.proofs.WellFormed.{well_scoped}
-use Rattle.scope_laws.specs.BranchesAtPlaces.{only_branch, specialized}
+use Rattle.scope_laws.specs.BranchesAtPlaces.{only_branch}
 use Rattle.scope_laws.specs.Roots.{own_roots_at}
 use Rattle.scope_laws.specs.Opened.{IsNew, IsInner, MayLeave}
 use Rattle.scope_laws.specs.Scopes.{HasNone, top_binders, joined_all, scopes}
@@ -46,12 +44,12 @@ use Rattle.scope_laws.proofs.Unrolled.{turns_are_scopes_law}
 use Rattle.order_laws.specs.TurnsOfTwo.{Loop}
 use Rattle.order_laws.proofs.Caught.{nothing_is_caught}
 use Rattle.step_rules.specs.Rule.{Spot}
-use Rattle.step_rules.specs.Lawful.{IsSpot, Stands, Replaces, same, hiding, around, old, world_of}
+use Rattle.step_rules.specs.Lawful.{IsSpot, Stands, same, hiding, around, old, world_of}
 use Rattle.step_rules.specs.Lawful.{callees_for, scope_here}
 use Rattle.loop_laws.proofs.Sites.{loop_lacks, body_keeps, keeps_here, may_copy_there}
-use Rattle.loop_laws.specs.Copies.{bodies_with, written_out, Writes, AreBelow, HasTurns}
+use Rattle.loop_laws.specs.Copies.{bodies_with, Writes, AreBelow}
 use Rattle.loop_laws.specs.Copies.{TurnsMayBeWrittenOut, LoopsOfNoTurnMayGo}
-use Rattle.loop_laws.specs.Copies.{BlocksMayBeSpecialized, GoesTo, TakenBranchesMayStand}
+use Rattle.loop_laws.specs.Copies.{BlocksMayBeSpecialized, TakenBranchesMayStand}
 
 -- ---- names that are left
 

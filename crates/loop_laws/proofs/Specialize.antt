@@ -2,7 +2,7 @@
 use Rattle.std.proofs.Common.{◌≡◌, ℕ, Bool, true, false, length, Option, Some, None, refl, sym, ap}
 use Rattle.std.proofs.Common.{◌∙◌, subst}
 use Rattle.std.specs.Prelude.{if◌then◌else◌, option_map}
-use Rattle.exo_tree.specs.Tree.{Condition, If, Block, end, next, statements}
+use Rattle.exo_tree.specs.Tree.{Condition, If, Block, end, statements}
 use Rattle.exo_tree.specs.Context.{Context, Here, InThen, rest_of}
 use Rattle.exo_tree.specs.Places.{Opened, opened}
 use Rattle.exo_tree.specs.Renaming.{fresh}
@@ -12,7 +12,7 @@ use Rattle.scope_laws.specs.Scopes.{top_binders}
 use Rattle.made_trees.specs.Passes.{or_pass}
 use Rattle.cursor_forward.specs.Causes.{WrongShape}
 use Rattle.cursor_forward.specs.Forwards.{Carries}
-use Rattle.step_rules.specs.Rule.{Tried, Got, Not, Piece}
+use Rattle.step_rules.specs.Rule.{Got, Not, Piece}
 use Rattle.step_rules.specs.Answer.{opened_or_wrong}
 use Rattle.step_rules.specs.Lawful.{Site, IsSite, Replaces, IsLawful, IsCarrying, around, old, fields_at_exit}
 use Rattle.step_rules.proofs.Shapes.{or_pass_next}
@@ -73,8 +73,7 @@ into_branch_carried : (around : Context) (c : Condition) (base : ℕ) (b : Block
     → Carries (into_branch (length (statements b))) b (or_pass around (specialized base c b))
 into_branch_carried around c base b =
     subst (Carries (into_branch (length (statements b))) b)
-    (sym (or_pass_next around (If c b (fresh base b)) end))
-    (
+    (sym (or_pass_next around (If c b (fresh base b)) end)) (
       record {
         was = here (b, end);
         is = in_first c (fresh base b) (here (b, end));

@@ -2,10 +2,10 @@
 use Rattle.std.proofs.Common.{◌≡◌, ℕ, ℤ, pos, negsuc, ◌+◌, ◌+ℤ◌, ◌*ℤ◌, ◌&&◌, Bool, true, false}
 use Rattle.std.proofs.Common.{true≢false, List, [], ◌∷◌, length, Option, Some, None, refl, sym, ap}
 use Rattle.std.proofs.Common.{ap₂, ◌∙◌, subst, arith}
-use Rattle.std.specs.Prelude.{nat_lt, ◌-ℤ◌, if◌then◌else◌, option_and_then, option_map, map}
+use Rattle.std.specs.Prelude.{nat_lt, ◌-ℤ◌, if◌then◌else◌, option_and_then, option_map}
 use Rattle.std.proofs.lemmas.Int.{ints}
-use Rattle.exo_tree.specs.Tree.{Control, Statement, Assign, Reduce, Config, Pass, If, For, Alloc}
-use Rattle.exo_tree.specs.Tree.{View, Call, Block, end, next, joined, statements}
+use Rattle.exo_tree.specs.Tree.{Control}
+use Rattle.exo_tree.specs.Tree.{Block, end, next, joined, statements}
 use Rattle.exo_tree.specs.Context.{Context, Here, InLoop}
 use Rattle.exo_tree.specs.Places.{Opened, opened, parted}
 use Rattle.exo_tree.specs.Renaming.{fresh, fresh_id, renaming}
@@ -20,7 +20,7 @@ use Rattle.meaning_laws.specs.Substitute.{is_plain, has_variable}
 use Rattle.scope_laws.specs.Scopes.{joined_all}
 use Rattle.scope_laws.specs.UnrollLoop.{only_loop}
 use Rattle.affine_forms.specs.Atoms.{Terms, none, term, Linear, value}
-use Rattle.affine_forms.specs.Forms.{is_affine, normal}
+use Rattle.affine_forms.specs.Forms.{is_affine}
 use Rattle.affine_forms.specs.Laws.{ReadsAt}
 use Rattle.affine_forms.proofs.NormalForm.{normal_law}
 use Rattle.affine_places.specs.Readings.{extent_reading}
@@ -29,16 +29,16 @@ use Rattle.simplify_laws.specs.Simplified.{literal, values_in}
 use Rattle.made_trees.specs.Passes.{or_pass}
 use Rattle.cursor_forward.specs.Causes.{LimitPassed, Form, WideNumber}
 use Rattle.cursor_forward.specs.Shifts.{at_index}
-use Rattle.cursor_forward.specs.Forwards.{bones, AreCarried, Carries, are_apart}
+use Rattle.cursor_forward.specs.Forwards.{bones, Carries, are_apart}
 use Rattle.order_laws.specs.TurnsOfTwo.{Loop}
-use Rattle.step_rules.specs.Rule.{Tried, Got, Not, Spot}
+use Rattle.step_rules.specs.Rule.{Tried, Got, Not}
 use Rattle.step_rules.specs.Answer.{then_try}
 use Rattle.step_rules.specs.Lawful.{IsSpot, Site, Replaces, IsLawful, IsCarrying, around, old}
 use Rattle.step_rules.specs.Lawful.{fields_at_exit}
-use Rattle.step_rules.specs.Shapes.{tried, alone_in}
-use Rattle.step_rules.proofs.Shapes.{made_of, alone_is, or_pass_next}
+use Rattle.step_rules.specs.Shapes.{tried}
+use Rattle.step_rules.proofs.Shapes.{made_of, or_pass_next}
 use Rattle.loop_laws.specs.Copies.{bodies_with, written_out, Writes, AreBelow}
-use Rattle.loop_laws.specs.Shapes.{loop_in, loop_of}
+use Rattle.loop_laws.specs.Shapes.{loop_of}
 use Rattle.loop_laws.specs.UnrollLoop.{with_affine_bounds, bound_fits, bound_form, constant_of}
 use Rattle.loop_laws.specs.UnrollLoop.{few_between, few_turns, turns_of, Unrolling, unrolling}
 use Rattle.loop_laws.specs.UnrollLoop.{turns_written, into_first, unroll_shifts, unroll_rule}
@@ -272,8 +272,7 @@ first_copy_carried c l n ns base =
     let alike : bones (fresh base d) ≡ bones l.body =
     same_bones leaves d ∙ same_bones put l.body in
     let many : length (statements (fresh base d)) ≡ length (statements l.body) =
-    same_length leaves d ∙ same_length put l.body in
-    (
+    same_length leaves d ∙ same_length put l.body in (
       record {
         was = in_loop l (here (l.body, end));
         is = first.o;
