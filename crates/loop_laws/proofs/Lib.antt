@@ -9,3 +9,11 @@ pub mod Bones
 pub mod DivideLoop
 pub mod Examples
 pub mod Instances
+pub mod Copies
+pub mod UnrollLoop
+pub mod Specialize
+pub mod SmallUnits
+pub mod UnrollExamples
+pub mod SpecializeExamples
+pub mod CopyExamples
+pub mod LaterExamples
