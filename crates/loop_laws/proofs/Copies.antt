@@ -1,40 +1,36 @@
 -- Copies may stand for the turns of a loop, and branches for a block.
 use Rattle.std.proofs.Common.{◌≡◌, ◌⊎◌, inl, inr, ℕ, ℤ, ◌+◌, ◌≤◌, ◌==◌, Bool, true, false, true≢false}
-use Rattle.std.proofs.Common.{cond, ◌||◌, ◌&&◌, not, List, [], ◌∷◌, length, Option, Some, None}
+use Rattle.std.proofs.Common.{cond, ◌||◌, List, [], ◌∷◌, length, Option, Some, None}
 use Rattle.std.proofs.Common.{option_map, refl, sym, ap, ◌∙◌, subst, arith, eq-eqb}
-use Rattle.std.specs.Prelude.{nat_le, if◌then◌else◌, map}
-use Rattle.exo_tree.specs.Tree.{Index, Control, Condition, If, Pass, For, Block, end, next, Procedure}
-use Rattle.exo_tree.specs.Context.{Context, fill, rest_of}
+use Rattle.std.specs.Prelude.{nat_le, if◌then◌else◌}
+use Rattle.exo_tree.specs.Tree.{Index, Control, Block, end, Procedure}
+use Rattle.exo_tree.specs.Context.{fill}
 use Rattle.exo_tree.specs.Renaming.{fresh}
 use Rattle.exo_tree.specs.Renaming as code
 use Rattle.exo_tree.specs.Substitution.{in_block as substituted}
-use Rattle.exo_meaning.specs.Scene.{then_do, holds}
+use Rattle.exo_meaning.specs.Scene.{then_do}
 use Rattle.exo_meaning.specs.State.{State, left, scoped, on_scene, with_control}
 use Rattle.exo_meaning.specs.Run.{World, run, turn, turns, turns_of}
 use Rattle.exo_meaning.specs.Inputs.{IsAdmissible}
 use Rattle.exo_meaning.specs.Orders.{Each}
-use Rattle.exo_meaning.specs.Units.{field_kind, scope_of, with_name, ControlName, is_new, is_control}
-use Rattle.exo_meaning.specs.Units.{plainly, sort_in, is_empty, is_short, is_block, is_statement}
-use Rattle.exo_meaning.specs.Unseen.{in_control, in_statement, in_block as mentions}
-use Rattle.exo_meaning.proofs.Frame.{or_parts}
+use Rattle.exo_meaning.specs.Units.{field_kind, with_name, ControlName}
+use Rattle.exo_meaning.specs.Units.{sort_in}
 use Rattle.exo_meaning.proofs.Nested.{then_some}
 use Rattle.meaning_laws.specs.Context.{ComesTo, MayReplace}
 use Rattle.meaning_laws.specs.FreshCopies.{is_given, MayCopy, AllMayBeCopied, copies_from}
-use Rattle.meaning_laws.specs.FreshCopies.{IsBelow, StandsAt, IsMadeOf}
+use Rattle.meaning_laws.specs.FreshCopies.{IsBelow, IsMadeOf}
 use Rattle.meaning_laws.specs.Scoped.{is_scoped, is_param, has_binder}
-use Rattle.meaning_laws.specs.Sorted.{scope_at}
 use Rattle.meaning_laws.specs.Substitute.{bound, catches}
 use Rattle.meaning_laws.proofs.Binders.{binders_law}
-use Rattle.meaning_laws.proofs.Copies.{unbound_on}
 use Rattle.meaning_laws.proofs.CopiesAtPlaces.{no_param, no_binder, old_is_made, old_may_be_copied}
 use Rattle.meaning_laws.proofs.CopiesAtPlaces.{substituted_is_made, places_may_copy_all}
 use Rattle.meaning_laws.proofs.Facts.{or_left, or_right}
 use Rattle.meaning_laws.proofs.FreshCopies.{copies_run_alike}
 use Rattle.meaning_laws.proofs.Scoped.{or_elim}
-use Rattle.meaning_laws.proofs.Substitute.{and_parts, substitution_law}
+use Rattle.meaning_laws.proofs.Substitute.{substitution_law}
 use Rattle.meaning_laws.proofs.WellFormed.{well_scoped}
-use Rattle.scope_laws.specs.BranchesAtPlaces.{only_branch, specialized}
-use Rattle.scope_laws.specs.Holes.{roots_at}
+use Rattle.scope_laws.specs.BranchesAtPlaces.{only_branch}
+use Rattle.scope_laws.specs.Roots.{own_roots_at}
 use Rattle.scope_laws.specs.Opened.{IsNew, IsInner, MayLeave}
 use Rattle.scope_laws.specs.Scopes.{HasNone, top_binders, joined_all, scopes}
 use Rattle.scope_laws.specs.UnrollLoop.{only_loop}
@@ -48,11 +44,12 @@ use Rattle.scope_laws.proofs.Unrolled.{turns_are_scopes_law}
 use Rattle.order_laws.specs.TurnsOfTwo.{Loop}
 use Rattle.order_laws.proofs.Caught.{nothing_is_caught}
 use Rattle.step_rules.specs.Rule.{Spot}
-use Rattle.step_rules.specs.Lawful.{IsSpot, Stands, Replaces, same, hiding, around, old, world_of}
-use Rattle.step_rules.specs.Lawful.{callees_for}
-use Rattle.loop_laws.specs.Copies.{bodies_with, written_out, Writes, AreBelow, HasTurns}
+use Rattle.step_rules.specs.Lawful.{IsSpot, Stands, same, hiding, around, old, world_of}
+use Rattle.step_rules.specs.Lawful.{callees_for, scope_here}
+use Rattle.loop_laws.proofs.Sites.{loop_lacks, body_keeps, keeps_here, may_copy_there}
+use Rattle.loop_laws.specs.Copies.{bodies_with, Writes, AreBelow}
 use Rattle.loop_laws.specs.Copies.{TurnsMayBeWrittenOut, LoopsOfNoTurnMayGo}
-use Rattle.loop_laws.specs.Copies.{BlocksMayBeSpecialized, GoesTo, TakenBranchesMayStand}
+use Rattle.loop_laws.specs.Copies.{BlocksMayBeSpecialized, TakenBranchesMayStand}
 
 -- ---- names that are left
 
@@ -128,17 +125,11 @@ module _ (s : Spot) (is : IsSpot s) (l : Loop) (write : ℤ → Control) (writes
 
   body_is_made : IsMadeOf base loop l.body
   body_is_made =
-      let hidden = nat_le base in
       let made = old_is_made s.target.proc (around s) loop base below was in
-      let whole = or_parts (in_statement hidden (For l.binder l.lo l.hi l.body)) false made.low in
-      let p = or_parts (hidden l.binder.id) (in_control hidden l.lo || (in_control hidden l.hi
-      || mentions hidden l.body)) whole.0 in
-      let q = or_parts (in_control hidden l.lo) (in_control hidden l.hi || mentions hidden l.body)
-      p.1 in
       record {
         own = λ x h. or_left ((x == l.binder.id) || has_binder l.body x) false
             (or_right (x == l.binder.id) (has_binder l.body x) h);
-        low = (or_parts (in_control hidden l.hi) (mentions hidden l.body) q.1).1;
+        low = (loop_lacks (nat_le base) l made.low).body;
       }
 
   bodies_are_made : (ns : List ℤ) → Each (IsMadeOf base loop) (bodies_with write l ns)
@@ -155,33 +146,18 @@ module _ (s : Spot) (is : IsSpot s) (l : Loop) (write : ℤ → Control) (writes
       let unit = s.target.unit in
       let fields = field_kind unit.fields in
       let memories = length unit.memories in
-      let calls = callees_for s.target in
-      let scope = scope_at (around s) (scope_of [] s.target.proc.params) in
-      let root = roots_at (around s) (λ x. x) in
+      let scope = scope_here s in
+      let root = own_roots_at (around s) in
       let inner = with_name scope l.binder (ControlName Index) in
-      let block = is_block fields memories calls inner root l.body in
-      let well = ap (is_block fields memories calls scope root) (sym loop_is) ∙ is.well.piece in
-      let whole = and_parts (is_statement fields memories calls scope root
-      (For l.binder l.lo l.hi l.body)) true well in
-      let p = and_parts (is_new scope l.binder) ((is_control fields plainly scope l.lo
-      && is_control fields plainly scope l.hi) && ((not (is_empty l.body) && is_short l.body)
-      && block)) whole.0 in
-      let q = and_parts (is_control fields plainly scope l.lo && is_control fields plainly scope l.hi)
-      ((not (is_empty l.body) && is_short l.body) && block) p.1 in
+      let kept = subst (λ b. keeps_here s b ≡ true) loop_is is.well.piece in
       nothing_is_caught unit.fields memories unit.procedures inner root l.binder.id Index (write n)
-      l.body (and_parts (not (is_empty l.body) && is_short l.body) block q.1).1
+      l.body
+      (body_keeps fields memories (callees_for s.target) scope root l.binder l.lo l.hi l.body end
+      kept)
       (ap (λ t. if t then Some (ControlName Index) else sort_in scope l.binder.id)
       (eq-eqb l.binder.id l.binder.id refl)) refl (λ x h. writes.constant n x)
 
   -- ---- one turn
-
-  may_copy_there : (m : ℕ) (d : Block) (u v : State) → MayCopy m d u → HasNamesOf u v → MayCopy m d v
-  may_copy_there m d u v may names = record {
-    sound = names.sound;
-    own = λ x h. unbound_on u v x (names.names x) (may.own x h);
-    given = λ x h. unbound_on u v x (names.names x) (may.given x h);
-    unused = may.unused;
-  }
 
   abbrev with_number : ℤ → Block
   with_number n = substituted l.binder.id (write n) l.body

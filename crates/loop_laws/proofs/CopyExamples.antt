@@ -1,5 +1,5 @@
 -- Copies for turns, and branches for blocks, at closed places. In these x, n and i have ids 0 to 2.
-use Rattle.std.proofs.Common.{◌≡◌, ℕ, pos, true, false, List, [], ◌∷◌, refl}
+use Rattle.std.proofs.Common.{ℕ, pos, true, [], ◌∷◌, refl}
 use Rattle.exo_tree.specs.Tree.{Lit, Var, Condition, True, Const, Assign, Pass, If, For, Block, end, next}
 use Rattle.exo_tree.specs.Context.{Here}
 use Rattle.exo_meaning.specs.Units.{IsUnit}
@@ -9,7 +9,7 @@ use Rattle.order_laws.specs.TurnsOfTwo.{Loop}
 use Rattle.simplify_laws.specs.Simplified.{literal}
 use Rattle.step_rules.specs.Rule.{Spot}
 use Rattle.step_rules.specs.Lawful.{IsSpot, Replaces}
-use Rattle.loop_laws.specs.Copies.{written_out, HasTurns, TurnsMayBeWrittenOut}
+use Rattle.loop_laws.specs.Copies.{TurnsMayBeWrittenOut}
 use Rattle.loop_laws.specs.Copies.{LoopsOfNoTurnMayGo, BlocksMayBeSpecialized, TakenBranchesMayStand}
 use Rattle.loop_laws.proofs.SmallUnits.{binder, unit_of, unit_is, target_of}
 use Rattle.loop_laws.proofs.UnrollExamples.{is_target, two, two_written}

@@ -3,8 +3,12 @@ pub mod SameTurns
 pub mod Formed
 pub mod Sites
 pub mod CutLoop
+pub mod Quotients
+pub mod Divided
+pub mod Bones
+pub mod DivideLoop
 pub mod Examples
-pub mod Mapped
+pub mod Instances
 pub mod Copies
 pub mod UnrollLoop
 pub mod Specialize

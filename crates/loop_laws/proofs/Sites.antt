@@ -1,29 +1,30 @@
 -- What is known at a site of a rule on one loop.
-use Rattle.std.proofs.Common.{◌≡◌, ◌≤◌, ℕ, ℤ, pos, suc, Bool, true, false, ◌==◌, ◌||◌, ◌&&◌, true≢false, not}
-use Rattle.std.proofs.Common.{List, [], ◌∷◌, Option, Some, None, refl, sym, ap, ap₂, ◌∙◌, subst, arith}
+use Rattle.std.proofs.Common.{◌≡◌, ◌≤◌, ℕ, Bool, true, false, ◌==◌, ◌||◌, ◌&&◌, not}
+use Rattle.std.proofs.Common.{List, [], Option, Some, None, refl, sym, ap, ap₂, ◌∙◌, subst}
 use Rattle.std.specs.Prelude.{◌+◌, nat_le, nat_lt, option_and_then, length, slice_get}
 use Rattle.std.specs.List.{list_all}
 use Rattle.exo_tree.specs.Tree.{Kind, Index, Binder, Control, Statement, Assign, Reduce, Config, Pass, If, For}
 use Rattle.exo_tree.specs.Tree.{Alloc, View, Call, Block, end, next, joined, Procedure}
-use Rattle.exo_tree.specs.Context.{Context, fill, rest_of}
+use Rattle.exo_tree.specs.Context.{Context, Here, After, InLoop, InThen, InElse, fill, rest_of}
 use Rattle.exo_tree.specs.Places.{Path, opened}
 use Rattle.exo_tree.specs.Renaming.{binders}
 use Rattle.exo_meaning.specs.Calls.{Callee}
 use Rattle.exo_meaning.specs.Inputs.{IsAdmissible}
 use Rattle.exo_meaning.specs.State.{State}
-use Rattle.exo_meaning.specs.Run.{World, callees, kinds_of, program_world}
+use Rattle.exo_meaning.specs.Run.{callees, kinds_of, program_world}
 use Rattle.exo_meaning.specs.Orders.{Each}
 use Rattle.exo_meaning.specs.Units.{Scope, ControlName, with_name, scope_of, plainly, is_new, is_control}
 use Rattle.exo_meaning.specs.Units.{is_empty, is_short, is_block, is_statement, field_kind, bound_ids}
-use Rattle.exo_meaning.specs.Unseen.{in_control as uses, in_statement, in_block as mentions}
+use Rattle.exo_meaning.specs.Unseen.{in_control as uses, in_condition, in_block as mentions}
 use Rattle.exo_meaning.proofs.Frame.{or_parts}
 use Rattle.meaning_laws.specs.Context.{ComesTo}
 use Rattle.meaning_laws.specs.Copies.{IsFree}
 use Rattle.meaning_laws.specs.Facts.{Fact, IsTrueAt}
 use Rattle.meaning_laws.specs.FreshCopies.{IsBelow, IsMadeOf, StandsAt, MayCopy, is_given}
-use Rattle.meaning_laws.specs.Scoped.{has_binder, is_scoped, is_param}
+use Rattle.meaning_laws.specs.Scoped.{is_not, has_binder, is_scoped, step_is_scoped, is_param}
+use Rattle.meaning_laws.specs.Sound.{binds}
 use Rattle.meaning_laws.specs.Substitute.{is_plain}
-use Rattle.meaning_laws.proofs.Binders.{binders_law, fresh_law}
+use Rattle.meaning_laws.proofs.Binders.{binder_new, binders_law, fresh_law}
 use Rattle.meaning_laws.proofs.CopiesAtPlaces.{no_param, no_binder, old_is_made}
 use Rattle.meaning_laws.proofs.Copies.{unbound_on}
 use Rattle.meaning_laws.proofs.Fewer as fewer
@@ -38,14 +39,14 @@ use Rattle.tree_rules.specs.Findings.{found_in_binder, found_in_control, finding
 use Rattle.tree_rules.specs.Findings.{findings_of_statement, findings_of_block}
 use Rattle.tree_rules.specs.Sizes.{is_small_control}
 use Rattle.order_laws.specs.TurnsOfTwo.{Loop}
-use Rattle.step_rules.specs.Rule.{Tried, Got, Not, Target, Piece, Spot, Need, Says}
+use Rattle.step_rules.specs.Rule.{Got, Target, Piece, Spot, Need, Says}
 use Rattle.step_rules.specs.Lawful.{IsMet, around, old, world_of, IsSpot, AtHole, Site, IsFormedHere}
 use Rattle.step_rules.specs.Lawful.{found_scope_at, scope_here, callees_for}
 use Rattle.step_rules.specs.Shapes.{tried, alone_in, one_statement}
 use Rattle.step_rules.proofs.Formed.{HasShape, shape_parts}
 use Rattle.step_rules.proofs.Shapes.{made_of, alone_is}
 use Rattle.loop_laws.specs.Shapes.{loop_in, loop_of}
-use Rattle.loop_laws.proofs.Formed.{IsFormed, formed, free_not_in_scope}
+use Rattle.loop_laws.proofs.Formed.{IsFormed, formed}
 
 -- ---- what is read
 
@@ -105,6 +106,12 @@ on_loop read make a at chosen plain drafted =
 
 -- ---- needs
 
+-- what is listed of the loop that is read
+pub of_found : (o : Option Loop) (list : Loop → List Need) (l : Loop) (t : Target) → o ≡ Some l
+    → Each (IsMet t) (elim o [ None ↦ [] | Some k ↦ list k ]) → Each (IsMet t) (list l)
+of_found o list l t found met =
+    subst (λ (z : Option Loop). Each (IsMet t) (elim z [ None ↦ [] | Some k ↦ list k ])) found met
+
 -- what is said of the place of a piece of one statement is so at its hole
 pub there : (s : Spot) (fact : Fact) → IsSpot s → s.piece.count ≡ 1
     → IsMet s.target (Says s.piece.path fact) → AtHole s (λ u. IsTrueAt u.scene fact)
@@ -114,6 +121,29 @@ there s fact is single met first u good come stands =
     (sym (ap (λ n. opened n s.piece.path s.target.proc.body) (sym single) ∙ is.opens)) come)
 
 -- ---- names
+
+-- in a hole names are in scope too
+module _ (b : Block) where
+  scoped_there : (c : Context) (bound : ℕ → Bool) → is_scoped bound (fill c b) ≡ true
+      → (inner : ℕ → Bool) × (is_scoped inner (joined b (rest_of c)) ≡ true)
+  scoped_there (Here rest) bound h = (bound, h)
+  scoped_there (After a c) bound h =
+      scoped_there c (λ y. binds a y || bound y) (and_parts (step_is_scoped bound a) _ h).1
+  scoped_there (InLoop i lo hi c rest) bound h =
+      let p = and_parts (step_is_scoped bound (For i lo hi (fill c b))) _ h in
+      let q = and_parts (not (bound i.id)) _ p.0 in
+      scoped_there c (λ y. (y == i.id) || bound y)
+      (and_parts (not (uses (is_not bound) lo || uses (is_not bound) hi)) _ q.1).1
+  scoped_there (InThen t c other rest) bound h =
+      let p = and_parts (step_is_scoped bound (If t (fill c b) other)) _ h in
+      let q = and_parts (not (in_condition (is_not bound) t)) _ p.0 in
+      scoped_there c bound
+      (and_parts (is_scoped bound (fill c b)) (is_scoped bound other) q.1).0
+  scoped_there (InElse t other c rest) bound h =
+      let p = and_parts (step_is_scoped bound (If t other (fill c b))) _ h in
+      let q = and_parts (not (in_condition (is_not bound) t)) _ p.0 in
+      scoped_there c bound
+      (and_parts (is_scoped bound other) (is_scoped bound (fill c b)) q.1).1
 
 module _ (a : Site) (spot : IsSpot a.spot) (l : Loop) (was : old a.spot ≡ block_of l)
     (below : IsBelow a.base a.spot.target.proc) where
@@ -137,6 +167,19 @@ module _ (a : Site) (spot : IsSpot a.spot) (l : Loop) (was : old a.spot ≡ bloc
   own_is_free x h =
       binders_law p c (block_of l) x
       (ap (is_scoped (is_param p)) (sym body_is) ∙ below.scoped) h
+
+  -- the body does not bind the variable
+  pub variable_is_other : (x : ℕ) → has_binder l.body x ≡ true → (x == l.binder.id) ≡ false
+  variable_is_other x h =
+      let s = scoped_there (block_of l) c (is_param p)
+      (ap (is_scoped (is_param p)) (sym body_is) ∙ below.scoped) in
+      let bound = s.0 in
+      let first = and_parts (step_is_scoped bound (For l.binder l.lo l.hi l.body)) _ s.1 in
+      let q = and_parts (not (bound l.binder.id)) _ first.0 in
+      let body =
+      and_parts (not (uses (is_not bound) l.lo || uses (is_not bound) l.hi)) _ q.1 in
+      (or_parts (x == l.binder.id) (bound x)
+      (binder_new (λ y. (y == l.binder.id) || bound y) l.body x body.1 h)).0
 
   pub loop_is_made : IsMadeOf a.base (block_of l) (block_of l)
   loop_is_made = old_is_made p c (block_of l) a.base below body_is

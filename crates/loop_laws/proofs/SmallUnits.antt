@@ -1,5 +1,5 @@
 -- Units of one procedure `f(x: i32[8], n: size)`, for closed examples.
-use Rattle.std.proofs.Common.{ℕ, pos, true, false, List, [], ◌∷◌, Some, None, refl}
+use Rattle.std.proofs.Common.{ℕ, pos, true, false, List, [], ◌∷◌, None, refl}
 use Rattle.std.specs.Prelude.{slice_get}
 use Rattle.exo_tree.specs.Tree.{I32, Size, Lit, Block, Param, ControlParam, TensorParam, Procedure}
 use Rattle.exo_tree.specs.Tree.{Binder, MemoryKind, Program}

@@ -2,7 +2,7 @@
 use Rattle.std.proofs.Common.{◌≡◌, ℕ, Bool, true, false, length, Option, Some, None, refl, sym, ap}
 use Rattle.std.proofs.Common.{◌∙◌, subst}
 use Rattle.std.specs.Prelude.{if◌then◌else◌, option_map}
-use Rattle.exo_tree.specs.Tree.{Condition, If, Block, end, next, statements}
+use Rattle.exo_tree.specs.Tree.{Condition, If, Block, end, statements}
 use Rattle.exo_tree.specs.Context.{Context, Here, InThen, rest_of}
 use Rattle.exo_tree.specs.Places.{Opened, opened}
 use Rattle.exo_tree.specs.Renaming.{fresh}
@@ -12,13 +12,13 @@ use Rattle.scope_laws.specs.Scopes.{top_binders}
 use Rattle.made_trees.specs.Passes.{or_pass}
 use Rattle.cursor_forward.specs.Causes.{WrongShape}
 use Rattle.cursor_forward.specs.Forwards.{Carries}
-use Rattle.step_rules.specs.Rule.{Tried, Got, Not, Piece}
+use Rattle.step_rules.specs.Rule.{Got, Not, Piece}
 use Rattle.step_rules.specs.Answer.{opened_or_wrong}
 use Rattle.step_rules.specs.Lawful.{Site, IsSite, Replaces, IsLawful, IsCarrying, around, old, fields_at_exit}
 use Rattle.step_rules.proofs.Shapes.{or_pass_next}
 use Rattle.loop_laws.specs.Specialize.{is_used_after, into_branch, specialize_rule}
 use Rattle.loop_laws.proofs.Copies.{blocks_may_be_specialized}
-use Rattle.loop_laws.proofs.Mapped.{parted_whole}
+use Rattle.loop_laws.proofs.Bones.{all_parted}
 use Rattle.loop_laws.proofs.UnrollLoop.{then_got, same_got}
 
 -- ---- what follows uses none of its names
@@ -73,14 +73,13 @@ into_branch_carried : (around : Context) (c : Condition) (base : ℕ) (b : Block
     → Carries (into_branch (length (statements b))) b (or_pass around (specialized base c b))
 into_branch_carried around c base b =
     subst (Carries (into_branch (length (statements b))) b)
-    (sym (or_pass_next around (If c b (fresh base b)) end))
-    (
+    (sym (or_pass_next around (If c b (fresh base b)) end)) (
       record {
         was = here (b, end);
         is = in_first c (fresh base b) (here (b, end));
-        before = ap (option_map here) (parted_whole b);
+        before = ap (option_map here) (all_parted b);
         after =
-            ap (λ o. option_map (in_first c (fresh base b)) (option_map here o)) (parted_whole b);
+            ap (λ o. option_map (in_first c (fresh base b)) (option_map here o)) (all_parted b);
         alike = refl;
       },
       tt,

@@ -2,7 +2,6 @@
 use Rattle.std.proofs.Common.{◌≡◌, ℕ, pos, List, [], ◌∷◌, Some, None, refl}
 use Rattle.exo_tree.specs.Tree.{I32, Control, Lit, Var, StrideOf, Mul, Condition, Lt, Const, Assign, If}
 use Rattle.exo_tree.specs.Tree.{For, Alloc, Block, end, next}
-use Rattle.exo_tree.specs.Places.{Path}
 use Rattle.exo_meaning.specs.Run.{program_world}
 use Rattle.exo_meaning.specs.Inputs.{Refines}
 use Rattle.cursor_forward.specs.Causes.{WrongShape, OutOfScope}

@@ -2,10 +2,10 @@
 use Rattle.std.proofs.Common.{◌≡◌, ℕ, ℤ, pos, negsuc, ◌+◌, ◌+ℤ◌, ◌*ℤ◌, ◌&&◌, Bool, true, false}
 use Rattle.std.proofs.Common.{true≢false, List, [], ◌∷◌, length, Option, Some, None, refl, sym, ap}
 use Rattle.std.proofs.Common.{ap₂, ◌∙◌, subst, arith}
-use Rattle.std.specs.Prelude.{nat_lt, ◌-ℤ◌, if◌then◌else◌, option_and_then, option_map, map}
+use Rattle.std.specs.Prelude.{nat_lt, ◌-ℤ◌, if◌then◌else◌, option_and_then, option_map}
 use Rattle.std.proofs.lemmas.Int.{ints}
-use Rattle.exo_tree.specs.Tree.{Control, Statement, Assign, Reduce, Config, Pass, If, For, Alloc}
-use Rattle.exo_tree.specs.Tree.{View, Call, Block, end, next, joined, statements}
+use Rattle.exo_tree.specs.Tree.{Control}
+use Rattle.exo_tree.specs.Tree.{Block, end, next, joined, statements}
 use Rattle.exo_tree.specs.Context.{Context, Here, InLoop}
 use Rattle.exo_tree.specs.Places.{Opened, opened, parted}
 use Rattle.exo_tree.specs.Renaming.{fresh, fresh_id, renaming}
@@ -20,7 +20,7 @@ use Rattle.meaning_laws.specs.Substitute.{is_plain, has_variable}
 use Rattle.scope_laws.specs.Scopes.{joined_all}
 use Rattle.scope_laws.specs.UnrollLoop.{only_loop}
 use Rattle.affine_forms.specs.Atoms.{Terms, none, term, Linear, value}
-use Rattle.affine_forms.specs.Forms.{is_affine, normal}
+use Rattle.affine_forms.specs.Forms.{is_affine}
 use Rattle.affine_forms.specs.Laws.{ReadsAt}
 use Rattle.affine_forms.proofs.NormalForm.{normal_law}
 use Rattle.affine_places.specs.Readings.{extent_reading}
@@ -29,21 +29,22 @@ use Rattle.simplify_laws.specs.Simplified.{literal, values_in}
 use Rattle.made_trees.specs.Passes.{or_pass}
 use Rattle.cursor_forward.specs.Causes.{LimitPassed, Form, WideNumber}
 use Rattle.cursor_forward.specs.Shifts.{at_index}
-use Rattle.cursor_forward.specs.Forwards.{bones, AreCarried, Carries, are_apart}
+use Rattle.cursor_forward.specs.Forwards.{bones, Carries, are_apart}
 use Rattle.order_laws.specs.TurnsOfTwo.{Loop}
-use Rattle.step_rules.specs.Rule.{Tried, Got, Not, Spot}
+use Rattle.step_rules.specs.Rule.{Tried, Got, Not}
 use Rattle.step_rules.specs.Answer.{then_try}
 use Rattle.step_rules.specs.Lawful.{IsSpot, Site, Replaces, IsLawful, IsCarrying, around, old}
 use Rattle.step_rules.specs.Lawful.{fields_at_exit}
-use Rattle.step_rules.specs.Shapes.{tried, alone_in}
-use Rattle.step_rules.proofs.Shapes.{made_of, alone_is, or_pass_next}
+use Rattle.step_rules.specs.Shapes.{tried}
+use Rattle.step_rules.proofs.Shapes.{made_of, or_pass_next}
 use Rattle.loop_laws.specs.Copies.{bodies_with, written_out, Writes, AreBelow}
-use Rattle.loop_laws.specs.Shapes.{loop_in, loop_of}
+use Rattle.loop_laws.specs.Shapes.{loop_of}
 use Rattle.loop_laws.specs.UnrollLoop.{with_affine_bounds, bound_fits, bound_form, constant_of}
 use Rattle.loop_laws.specs.UnrollLoop.{few_between, few_turns, turns_of, Unrolling, unrolling}
 use Rattle.loop_laws.specs.UnrollLoop.{turns_written, into_first, unroll_shifts, unroll_rule}
 use Rattle.loop_laws.proofs.Copies.{turns_may_be_written_out, loops_of_no_turn_may_go}
-use Rattle.loop_laws.proofs.Mapped.{mapped_bones, mapped_length, parted_joined, parted_whole}
+use Rattle.loop_laws.proofs.Bones.{same_bones, same_length, all_parted}
+use Rattle.loop_laws.proofs.Sites.{found_then, loop_of_is}
 
 -- ---- what is known of what was tried
 
@@ -54,13 +55,6 @@ then_got (Not cause) f y h = cc
 
 pub same_got : {T : Type 0} {x y : T} → Got x ≡ Got y → x ≡ y
 same_got h = cc
-
--- ---- and of what was found
-
-both_found : {T U : Type 0} (o : Option T) (f : T → Option U) (y : U)
-    → option_and_then f o ≡ Some y → (x : T) × (o ≡ Some x) × (f x ≡ Some y)
-both_found None f y h = cc
-both_found (Some x) f y h = (x, refl, h)
 
 same_some : {T : Type 0} {x y : T} → Some x ≡ Some y → x ≡ y
 same_some h = cc
@@ -128,23 +122,6 @@ record IsUnrolling (b : Block) (u : Unrolling) : Type 0 where
   is : b ≡ only_loop u.loop.binder u.loop.lo u.loop.hi u.loop.body
   turns : (scene : Scene) → run.turns_of scene u.loop.lo u.loop.hi ≡ u.turns
 
-loop_read : (a : Statement) (l : Loop) → loop_in a ≡ Some l → a ≡ For l.binder l.lo l.hi l.body
-loop_read (For i lo hi b) l h = ap (λ (k : Loop). For k.binder k.lo k.hi k.body) (same_some h)
-loop_read (Assign x is e) l h = cc
-loop_read (Reduce x is e) l h = cc
-loop_read (Config f a) l h = cc
-loop_read Pass l h = cc
-loop_read (If c a b) l h = cc
-loop_read (Alloc x cell dims memory) l h = cc
-loop_read (View w x coords) l h = cc
-loop_read (Call k args) l h = cc
-
-pub loop_found : (b : Block) (l : Loop) → loop_of b ≡ Some l
-    → b ≡ only_loop l.binder l.lo l.hi l.body
-loop_found b l h =
-    let p = both_found (alone_in b) loop_in l h in
-    alone_is b p.0 p.1 ∙ ap (λ a. next a end) (loop_read p.0 l p.2)
-
 record IsAffine (k l : Loop) : Type 0 where
   same : k ≡ l
   lo : is_affine variables l.lo ≡ true
@@ -205,13 +182,13 @@ unrolling_found b u h =
     let first = then_got (tried (option_and_then with_affine_bounds (loop_of b)) (λ l. l))
     (λ l. then_try (turns_of l) (λ ns. Got (record { loop = l; turns = ns }))) u h in
     let m = made_of (option_and_then with_affine_bounds (loop_of b)) (λ l. l) first.0 first.1 in
-    let k = both_found (loop_of b) with_affine_bounds m.of m.found in
+    let k = found_then (loop_of b) with_affine_bounds m.of m.found in
     let affine = affine_found k.0 m.of k.2 in
     let second = then_got (turns_of first.0) (λ ns. Got (record { loop = first.0; turns = ns })) u
     first.2 in
     subst (IsUnrolling b) (same_got second.2)
     (known first.0 second.0
-    (loop_found b first.0 (k.1 ∙ ap Some (affine.same ∙ m.made)))
+    (loop_of_is b first.0 (k.1 ∙ ap Some (affine.same ∙ m.made)))
     (subst (λ (l : Loop). is_affine variables l.lo ≡ true) m.made affine.lo)
     (subst (λ (l : Loop). is_affine variables l.hi ≡ true) m.made affine.hi)
     (constants_found first.0 second.0 second.1))
@@ -259,6 +236,13 @@ here p = record { around = Here p.1; piece = p.0 }
 abbrev in_loop : Loop → Opened → Opened
 in_loop l o = record { around = InLoop l.binder l.lo l.hi o.around end; piece = o.piece }
 
+-- a block before another is its first statements
+parted_joined : (a rest : Block)
+    → parted (length (statements a)) (joined a rest) ≡ Some (a, rest)
+parted_joined end rest = refl
+parted_joined (next a b) rest =
+    ap (option_map (λ (p : Block × Block). (next a p.0, p.1))) (parted_joined b rest)
+
 -- the first statements of a block stand where it is put
 record StandsFirst (c : Context) (a rest : Block) : Type 0 where
   o : Opened
@@ -286,14 +270,13 @@ first_copy_carried c l n ns base =
     let new = or_pass c (joined (fresh base d) rest) in
     let first = stands_first c (fresh base d) rest in
     let alike : bones (fresh base d) ≡ bones l.body =
-    mapped_bones leaves d ∙ mapped_bones put l.body in
+    same_bones leaves d ∙ same_bones put l.body in
     let many : length (statements (fresh base d)) ≡ length (statements l.body) =
-    mapped_length leaves d ∙ mapped_length put l.body in
-    (
+    same_length leaves d ∙ same_length put l.body in (
       record {
         was = in_loop l (here (l.body, end));
         is = first.o;
-        before = ap (λ o. option_map (in_loop l) (option_map here o)) (parted_whole l.body);
+        before = ap (λ o. option_map (in_loop l) (option_map here o)) (all_parted l.body);
         after = subst (λ k. opened k (at_index 0) new ≡ Some first.o) many first.opens;
         alike = sym alike ∙ ap bones (sym first.piece);
       },

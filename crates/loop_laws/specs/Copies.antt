@@ -6,7 +6,6 @@ use Rattle.exo_tree.specs.Tree.{Control, Condition, Pass, Block, end, next}
 use Rattle.exo_tree.specs.Context.{rest_of}
 use Rattle.exo_tree.specs.Substitution.{in_block}
 use Rattle.exo_meaning.specs.Scene.{Scene, number, holds}
-use Rattle.exo_meaning.specs.State.{State}
 use Rattle.exo_meaning.specs.Run as run
 use Rattle.exo_meaning.specs.Units.{bound_ids}
 use Rattle.exo_meaning.specs.Unseen.{in_control, in_block as mentions}

@@ -7,7 +7,7 @@ use Rattle.exo_tree.specs.Substitution.{in_block}
 use Rattle.scope_laws.specs.UnrollLoop.{only_loop}
 use Rattle.cursor_forward.specs.Shifts.{Shift, at_index, alone, range}
 use Rattle.order_laws.specs.TurnsOfTwo.{Loop}
-use Rattle.step_rules.specs.Rule.{Rule, Spot, plain_rule}
+use Rattle.step_rules.specs.Rule.{Rule, plain_rule}
 use Rattle.step_rules.specs.Shapes.{tried, one_statement}
 use Rattle.loop_laws.specs.Shapes.{loop_of, from_zero, inside}
 

@@ -1,11 +1,11 @@
 -- The rule that writes out the turns of a loop whose bounds are constants.
-use Rattle.std.specs.Prelude.{ℕ, nat_lt, ℤ, ◌-ℤ◌, Bool, ◌&&◌, if◌then◌else◌, List, [], ◌∷◌, map}
+use Rattle.std.specs.Prelude.{ℕ, nat_lt, ℤ, ◌-ℤ◌, Bool, ◌&&◌, if◌then◌else◌, List, [], ◌∷◌}
 use Rattle.std.specs.Prelude.{length, Option, Some, None, option_and_then}
 use Rattle.exo_tree.specs.Tree.{Control, Pass, Block, end, next, statements}
 use Rattle.exo_tree.specs.Places.{Path, opened}
 use Rattle.exo_meaning.specs.Run.{count}
 use Rattle.exo_meaning.specs.Run as run
-use Rattle.affine_forms.specs.Atoms.{Terms, none, term, Linear}
+use Rattle.affine_forms.specs.Atoms.{none, term, Linear}
 use Rattle.affine_forms.specs.Forms.{is_affine, normal, is_writable}
 use Rattle.affine_places.specs.Readings.{extent_reading}
 use Rattle.affine_places.specs.Roots.{variables}
