@@ -11,6 +11,7 @@ pub mod Examples
 pub mod Copies
 pub mod UnrollLoop
 pub mod Specialize
+pub mod ShiftLoop
 pub mod SmallUnits
 pub mod UnrollExamples
 pub mod SpecializeExamples
