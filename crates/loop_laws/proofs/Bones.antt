@@ -1,11 +1,11 @@
 -- A block with other names has statements of the same kinds at the same places.
-use Rattle.std.proofs.Common.{◌≡◌, ℕ, zero, suc, List, [], ◌∷◌, length, Option, Some, option_map, refl}
-use Rattle.std.proofs.Common.{ap, ap₂, ◌∙◌}
+use Rattle.std.proofs.Common.{◌≡◌, suc, length, Some, option_map, refl}
+use Rattle.std.proofs.Common.{ap, ap₂}
 use Rattle.exo_tree.specs.Tree.{Statement, Assign, Reduce, Config, Pass, If, For, Alloc, View, Call}
 use Rattle.exo_tree.specs.Tree.{Block, end, next, statements}
 use Rattle.exo_tree.specs.Mapped.{Leaves, mapped_block, mapped_statement}
 use Rattle.exo_tree.specs.Places.{parted}
-use Rattle.cursor_forward.specs.Forwards.{StatementKind, Conditional, Loop, Joint, more, none, bone, bones}
+use Rattle.cursor_forward.specs.Forwards.{Conditional, Loop, Joint, more, none, bone, bones}
 
 module _ (leaves : Leaves) where
   mutual

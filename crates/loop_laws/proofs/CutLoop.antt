@@ -1,15 +1,14 @@
 -- The rule that cuts a loop in two is lawful.
-use Rattle.std.proofs.Common.{◌≡◌, ◌≤ℤ◌, ℕ, ℤ, Bool, true, false, List, [], ◌∷◌, Option, Some, None}
+use Rattle.std.proofs.Common.{◌≡◌, ◌≤ℤ◌, ℕ, ℤ, true, false, [], Option, Some, None}
 use Rattle.std.proofs.Common.{refl, sym, ap, ap₂, ◌∙◌, subst, arith, leb-true}
 use Rattle.std.specs.Prelude.{int_le, nat_le, length}
 use Rattle.std.proofs.lemmas.Int.{ints}
 use Rattle.exo_tree.specs.Tree.{Control, Le, For, Block, end, next}
 use Rattle.exo_tree.specs.Context.{Here}
 use Rattle.exo_tree.specs.Renaming.{fresh}
-use Rattle.exo_meaning.specs.Scene.{then_do, number, holds}
+use Rattle.exo_meaning.specs.Scene.{number, holds}
 use Rattle.exo_meaning.specs.State.{State}
 use Rattle.exo_meaning.specs.Run.{World, run, turn, turns, turns_of}
-use Rattle.exo_meaning.specs.Orders.{Each}
 use Rattle.exo_meaning.specs.Inputs.{IsAdmissible}
 use Rattle.exo_meaning.specs.Units.{field_kind}
 use Rattle.exo_meaning.specs.Unseen.{in_control as uses, in_block as mentions}
@@ -28,7 +27,7 @@ use Rattle.made_trees.specs.Passes.{or_pass}
 use Rattle.cursor_forward.specs.Shifts.{stays}
 use Rattle.cursor_forward.specs.Forwards.{Carries, are_apart}
 use Rattle.order_laws.specs.TurnsOfTwo.{Loop}
-use Rattle.step_rules.specs.Lawful.{IsMet, IsFormedHere, Site, IsSite, around, old, world_of}
+use Rattle.step_rules.specs.Lawful.{IsFormedHere, Site, IsSite, around, old, world_of}
 use Rattle.step_rules.specs.Lawful.{scope_here, callees_for, same, IsLawful, IsCarrying}
 use Rattle.step_rules.proofs.Shapes.{or_pass_next}
 use Rattle.loop_laws.specs.Shapes.{loop_of}
@@ -133,20 +132,20 @@ module _ (e : Control) (a : Site) (is : IsSite (cut_rule e) a) (l : Loop)
 pub cut_is_lawful : (e : Control) → IsLawful (cut_rule e)
 cut_is_lawful e = record {
   replaces = λ a is met. (
-    let on = on_loop loop_of (cut e) a is.at is.chosen is.made is.drafted in
-    let l = on.loop in
-    let was = loop_of_is (old a.spot) l on.found in
-    let bound = bound_is e a is l was on.plain in
-    let needs =
-    of_found (loop_of (old a.spot)) (cut_needs e a.spot.piece.path) l a.spot.target on.found met in
-    same (λ first u good come stands.
-    ap (λ b. run (world_of a.spot) b u) was
-    ∙ cut_same (world_of a.spot) e l a.base u stands.sound bound.plain bound.plain_hi
-    (rest_may_be_copied e a is l was on.plain good come)
-    (there a.spot (Holds (Le l.lo e)) is.spot on.single needs.0 first u good come stands)
-    (there a.spot (Holds (Le e l.hi)) is.spot on.single needs.1.0 first u good come stands)
-    ∙ ap (λ b. run (world_of a.spot) b u) on.made)
-  );
+      let on = on_loop loop_of (cut e) a is.at is.chosen is.made is.drafted in
+      let l = on.loop in
+      let was = loop_of_is (old a.spot) l on.found in
+      let bound = bound_is e a is l was on.plain in
+      let needs =
+      of_found (loop_of (old a.spot)) (cut_needs e a.spot.piece.path) l a.spot.target on.found met in
+      same (λ first u good come stands.
+      ap (λ b. run (world_of a.spot) b u) was
+      ∙ cut_same (world_of a.spot) e l a.base u stands.sound bound.plain bound.plain_hi
+      (rest_may_be_copied e a is l was on.plain good come)
+      (there a.spot (Holds (Le l.lo e)) is.spot on.single needs.0 first u good come stands)
+      (there a.spot (Holds (Le e l.hi)) is.spot on.single needs.1.0 first u good come stands)
+      ∙ ap (λ b. run (world_of a.spot) b u) on.made)
+      );
 }
 
 -- ---- the loop and its body stay
@@ -154,26 +153,26 @@ cut_is_lawful e = record {
 pub cut_is_carrying : (e : Control) → IsCarrying (cut_rule e)
 cut_is_carrying e = record {
   carries = λ a is. (
-    let on = on_loop loop_of (cut e) a is.at is.chosen is.made is.drafted in
-    let l = on.loop in
-    let was = loop_of_is (old a.spot) l on.found in
-    let copy = fresh a.base (block_of (rest_from e l)) in
-    let first = For l.binder l.lo e l.body in
-    subst (λ o. Carries (elim o [ None ↦ [] | Some k ↦ stays 1 ]) (old a.spot)
-    (or_pass (around a.spot) a.draft)) (sym on.found)
-    (subst (λ b. Carries (stays 1) b (or_pass (around a.spot) a.draft)) (sym was)
-    (subst (λ b. Carries (stays 1) (block_of l) (or_pass (around a.spot) b)) on.made
-    (subst (Carries (stays 1) (block_of l)) (sym (or_pass_next (around a.spot) first copy)) (
-      record {
-        was = record { around = Here end; piece = block_of l };
-        is = record { around = Here copy; piece = next first end };
-        before = refl;
-        after = refl;
-        alike = refl;
-      },
-      tt,
-    ))))
-  );
+      let on = on_loop loop_of (cut e) a is.at is.chosen is.made is.drafted in
+      let l = on.loop in
+      let was = loop_of_is (old a.spot) l on.found in
+      let copy = fresh a.base (block_of (rest_from e l)) in
+      let first = For l.binder l.lo e l.body in
+      subst (λ o. Carries (elim o [ None ↦ [] | Some k ↦ stays 1 ]) (old a.spot)
+      (or_pass (around a.spot) a.draft)) (sym on.found)
+      (subst (λ b. Carries (stays 1) b (or_pass (around a.spot) a.draft)) (sym was)
+      (subst (λ b. Carries (stays 1) (block_of l) (or_pass (around a.spot) b)) on.made
+      (subst (Carries (stays 1) (block_of l)) (sym (or_pass_next (around a.spot) first copy)) (
+        record {
+          was = record { around = Here end; piece = block_of l };
+          is = record { around = Here copy; piece = next first end };
+          before = refl;
+          after = refl;
+          alike = refl;
+        },
+        tt,
+      ))))
+      );
   apart = λ a is. go (loop_of (old a.spot));
 }
   where

@@ -1,29 +1,27 @@
 -- The rule that divides the turns of a loop into groups is lawful.
 use Rattle.std.proofs.Common.{◌≡◌, ◌≤◌, ◌≤ℤ◌, ℕ, zero, suc, ◌+◌, ℤ, pos, negsuc, ◌-ℤ◌, ◌==◌, ◌||◌, ◌&&◌, Bool}
-use Rattle.std.proofs.Common.{true, false, true≢false, if◌then◌else◌, List, [], ◌∷◌, length, Option, Some}
+use Rattle.std.proofs.Common.{true, false, true≢false, if◌then◌else◌, List, [], length, Option, Some}
 use Rattle.std.proofs.Common.{None, option_map, refl, sym, ap, ap₂, ◌∙◌, subst, arith, leb-true, eqb-true}
 use Rattle.std.proofs.Common.{eq-eqb, cond}
 use Rattle.std.specs.Prelude.{int_le, nat_le, option_and_then}
 use Rattle.std.specs.Ordering.{int_eq}
 use Rattle.std.proofs.lemmas.Int.{ints}
-use Rattle.exo_tree.specs.Tree.{Index, Binder, Control, Lit, Var, Field, StrideOf, Neg, Add, Sub, Mul, Div}
-use Rattle.exo_tree.specs.Tree.{Mod, Eq, Le, Lt, Gt, Statement, For, Block, end, next, joined, statements}
+use Rattle.exo_tree.specs.Tree.{Index, Control, Lit, Var, Field, StrideOf, Neg, Add, Sub, Mul, Div}
+use Rattle.exo_tree.specs.Tree.{Mod, Eq, Le, Lt, Gt, Statement, For, Block, end, next, statements}
 use Rattle.exo_tree.specs.Context.{Context, Here, InLoop, InThen}
-use Rattle.exo_tree.specs.Places.{Opened, opened, parted}
+use Rattle.exo_tree.specs.Places.{Opened, parted}
 use Rattle.exo_tree.specs.Substitution.{in_block, replacing}
 use Rattle.exo_meaning.specs.Scene.{number}
 use Rattle.exo_meaning.specs.State.{State}
 use Rattle.exo_meaning.specs.Run.{run}
-use Rattle.exo_meaning.specs.Inputs.{IsAdmissible}
 use Rattle.exo_meaning.specs.Orders.{Each}
 use Rattle.exo_meaning.specs.Units.{ControlName, sort_in, with_name, field_kind}
 use Rattle.exo_meaning.specs.Unseen.{in_control as uses, in_block as mentions}
 use Rattle.exo_meaning.proofs.Frame.{or_parts}
-use Rattle.meaning_laws.specs.Context.{ComesTo}
 use Rattle.meaning_laws.specs.Facts.{Holds}
-use Rattle.meaning_laws.specs.FreshCopies.{MayCopy, IsBelow, IsMadeOf, is_given}
+use Rattle.meaning_laws.specs.FreshCopies.{IsBelow, IsMadeOf, is_given}
 use Rattle.meaning_laws.specs.Scoped.{has_binder}
-use Rattle.meaning_laws.specs.Substitute.{is_plain, has_variable, catches}
+use Rattle.meaning_laws.specs.Substitute.{is_plain, has_variable}
 use Rattle.meaning_laws.proofs.CopiesAtPlaces.{substituted_is_made}
 use Rattle.meaning_laws.proofs.Facts.{or_left, or_right}
 use Rattle.meaning_laws.proofs.Fewer as fewer
@@ -33,7 +31,7 @@ use Rattle.scope_laws.specs.Roots.{own_roots_at}
 use Rattle.scope_laws.specs.BranchesAtPlaces.{only_branch}
 use Rattle.scope_laws.specs.UnrollLoop.{only_loop}
 use Rattle.made_trees.specs.Passes.{or_pass}
-use Rattle.cursor_forward.specs.Shifts.{Shift, at_index, alone, range}
+use Rattle.cursor_forward.specs.Shifts.{at_index, alone, range}
 use Rattle.cursor_forward.specs.Forwards.{Carries, AreCarried, are_apart}
 use Rattle.order_laws.specs.TurnsOfTwo.{Loop}
 use Rattle.order_laws.proofs.Caught.{nothing_is_caught, binders_are_shown}
@@ -44,15 +42,15 @@ use Rattle.step_rules.specs.Lawful.{IsCarrying}
 use Rattle.step_rules.proofs.Shapes.{or_pass_next}
 use Rattle.loop_laws.specs.Shapes.{loop_of, is_zero, from_zero, inside}
 use Rattle.loop_laws.specs.DivideLoop.{Tail, Guard, Cut, CutAndGuard, Perfect, Division, divisible, outer}
-use Rattle.loop_laws.specs.DivideLoop.{inner, turn_behind, turn_in_group, body_in_group, whole_groups}
-use Rattle.loop_laws.specs.DivideLoop.{turns_behind, tail_turns, divided_with, divided, divide_needs, depth}
+use Rattle.loop_laws.specs.DivideLoop.{inner, turn_behind, turn_in_group, body_in_group}
+use Rattle.loop_laws.specs.DivideLoop.{tail_turns, divided_with, divided, divide_needs}
 use Rattle.loop_laws.specs.DivideLoop.{divide_shifts, divide_rule}
 use Rattle.loop_laws.specs.SameTurns.{MayStandIn}
 use Rattle.loop_laws.proofs.Bones.{same_bones, same_length, all_parted}
 use Rattle.loop_laws.proofs.Divided.{division, is_made, MayDivide, MayFollow, perfect_same, guarded_same}
 use Rattle.loop_laws.proofs.Divided.{cut_same, guarded_cut_same}
 use Rattle.loop_laws.proofs.Formed.{IsFormed, free_not_in_scope}
-use Rattle.loop_laws.proofs.Sites.{block_of, loop_of_is, OnLoop, on_loop, of_found, there, is_below}
+use Rattle.loop_laws.proofs.Sites.{block_of, loop_of_is, on_loop, of_found, there, is_below}
 use Rattle.loop_laws.proofs.Sites.{new_is_free, own_is_free, variable_is_other, loop_is_made, body_keeps}
 use Rattle.loop_laws.proofs.Sites.{loop_keeps, formed_here, found_scope, LoopLacks, loop_lacks}
 use Rattle.loop_laws.proofs.Sites.{lacking_loop, given_unused}
@@ -165,12 +163,14 @@ module _ (k : ℕ) (one two : List ℕ) (tail : Tail) (a : Site)
       let keeps =
       body_keeps (field_kind t.unit.fields) (length t.unit.memories) (callees_for t)
       (scope_here a.spot) (own_roots_at (around a.spot)) l.binder l.lo l.hi l.body end
-      (loop_keeps a is.spot l was) in
-      (plain, nothing_is_caught t.unit.fields (length t.unit.memories) t.unit.procedures
-      (with_name (scope_here a.spot) l.binder (ControlName Index)) (own_roots_at (around a.spot)) i
-      Index e l.body keeps
-      (ap (λ u. cond u (Some (ControlName Index)) (sort_in (scope_here a.spot) i)) (eq-eqb i i refl))
-      refl misses)
+      (loop_keeps a is.spot l was) in (
+        plain,
+        nothing_is_caught t.unit.fields (length t.unit.memories) t.unit.procedures
+            (with_name (scope_here a.spot) l.binder (ControlName Index)) (own_roots_at (around a.spot)) i
+            Index e l.body keeps
+            (ap (λ u. cond u (Some (ControlName Index)) (sort_in (scope_here a.spot) i)) (eq-eqb i i refl))
+            refl misses,
+      )
 
   -- in a group
   in_group : MayStandIn i (turn_in_group d l base) l.body
@@ -275,8 +275,8 @@ module _ (k : ℕ) (one two : List ℕ) (tail : Tail) (a : Site)
       → Each (IsMet a.spot.target) (divide_needs d.by made a.spot.piece.path l)
       → a.spot.piece.count ≡ 1
       → AtHole a.spot (λ u.
-        run (world_of a.spot) (block_of l) u
-        ≡ run (world_of a.spot) (divided_with d l base made) u)
+      run (world_of a.spot) (block_of l) u
+      ≡ run (world_of a.spot) (divided_with d l base made) u)
   runs Guard met single first u good come stands =
       guarded_same (world_of a.spot) k one two tail l base u (may_divide u stands)
   runs Perfect met single first u good come stands =
@@ -482,16 +482,16 @@ module _ (d : Division) (l : Loop) (base : ℕ) (c : Context) where
 pub divide_is_carrying : (d : Division) → IsCarrying (divide_rule d)
 divide_is_carrying d = record {
   carries = λ a is. (
-    let on = on_loop (divisible d.by) (divided d) a is.at is.chosen is.made is.drafted in
-    let l = on.loop in
-    let was =
-    loop_of_is (old a.spot) l (divisible_is d.by (old a.spot) l on.found).found in
-    subst (λ o. Carries (elim o [ None ↦ [] | Some k ↦ divide_shifts d.tail k ]) (old a.spot)
-    (or_pass (around a.spot) a.draft)) (sym on.found)
-    (subst (λ b. Carries (divide_shifts d.tail l) b (or_pass (around a.spot) a.draft)) (sym was)
-    (subst (λ b. Carries (divide_shifts d.tail l) (block_of l) (or_pass (around a.spot) b)) on.made
-    (all_go d l a.base (around a.spot) d.tail)))
-  );
+      let on = on_loop (divisible d.by) (divided d) a is.at is.chosen is.made is.drafted in
+      let l = on.loop in
+      let was =
+      loop_of_is (old a.spot) l (divisible_is d.by (old a.spot) l on.found).found in
+      subst (λ o. Carries (elim o [ None ↦ [] | Some k ↦ divide_shifts d.tail k ]) (old a.spot)
+      (or_pass (around a.spot) a.draft)) (sym on.found)
+      (subst (λ b. Carries (divide_shifts d.tail l) b (or_pass (around a.spot) a.draft)) (sym was)
+      (subst (λ b. Carries (divide_shifts d.tail l) (block_of l) (or_pass (around a.spot) b)) on.made
+      (all_go d l a.base (around a.spot) d.tail)))
+      );
   apart = λ a is. by_loop (divisible d.by (old a.spot)) d.tail;
 }
   where

@@ -2,11 +2,10 @@
 use Rattle.std.proofs.Common.{◌≡◌, ◌≤ℤ◌, ℕ, suc, ◌+◌, ◌*◌, ℤ, pos, ◌+ℤ◌, ◌-ℤ◌, ◌*ℤ◌, ◌==◌, ◌||◌, Bool, true}
 use Rattle.std.proofs.Common.{false, true≢false, cond, if◌then◌else◌, List, Option, Some, None, option_map}
 use Rattle.std.proofs.Common.{refl, sym, ap, ap₂, ◌∙◌, subst, arith, eqb-true, eq-eqb}
-use Rattle.std.specs.Prelude.{IsSome, int_lt, int_le}
-use Rattle.std.specs.Ordering.{int_eq}
+use Rattle.std.specs.Prelude.{IsSome, int_lt}
 use Rattle.std.specs.Int.{int_div_euclid, int_rem_euclid}
 use Rattle.std.proofs.lemmas.Int.{ints}
-use Rattle.exo_tree.specs.Tree.{Control, Lit, Var, Div, Mod, Add, Eq, Le, Lt, Gt, Block, end, joined}
+use Rattle.exo_tree.specs.Tree.{Control, Lit, Div, Mod, Add, Eq, Lt, Gt, Block, end, joined}
 use Rattle.exo_meaning.specs.Scene.{Seen, then_do, number, holds, updated}
 use Rattle.exo_meaning.specs.State.{State, left, scoped}
 use Rattle.exo_meaning.specs.Run.{World, run, turn, turns, turns_of, range, count, choose}
@@ -17,7 +16,7 @@ use Rattle.exo_meaning.proofs.Ignored.{control_alike}
 use Rattle.exo_meaning.proofs.Nested.{left_same, turns_append, then_cong_if, then_some}
 use Rattle.meaning_laws.specs.FreshCopies.{MayCopy}
 use Rattle.meaning_laws.specs.Sound.{IsSound, IsUnbound}
-use Rattle.meaning_laws.specs.Substitute.{is_plain, has_variable}
+use Rattle.meaning_laws.specs.Substitute.{is_plain}
 use Rattle.meaning_laws.proofs.Copies.{unbound_on}
 use Rattle.meaning_laws.proofs.FreshCopies.{closed_copies_are_same}
 use Rattle.meaning_laws.proofs.Scoped.{control_open}
@@ -102,10 +101,10 @@ module _ (world : World) (k : ℕ) (a b : List ℕ) (tail : Tail) (l : Loop) (ba
   deep_same : (n m : ℤ) (t : State) → HasNamesOf s t → SameBut (is_made base) (deep n m t) t
   deep_same n m t h = record {
     control = λ x j. (
-      let p = or_parts (x == base) (x == suc base) j in
-      updated_other (updated t.scene.control base n) (suc base) m x p.1
-      ∙ updated_other t.scene.control base n x p.0
-    );
+        let p = or_parts (x == base) (x == suc base) j in
+        updated_other (updated t.scene.control base n) (suc base) m x p.1
+        ∙ updated_other t.scene.control base n x p.0
+        );
     buffers = λ x j. refl;
     views = λ x j. refl;
     fields = refl;

@@ -1,9 +1,9 @@
 -- What is known of an expression that is found to keep the rules at a place.
-use Rattle.std.proofs.Common.{◌≡◌, ℕ, zero, suc, Bool, true, false, ◌==◌, ◌||◌, ◌&&◌, true≢false, cond}
-use Rattle.std.proofs.Common.{List, [], ◌∷◌, length, Option, Some, None, refl, sym, ap, ap₂, ◌∙◌, subst}
+use Rattle.std.proofs.Common.{◌≡◌, ℕ, Bool, true, false, ◌==◌, ◌||◌, ◌&&◌, true≢false, cond}
+use Rattle.std.proofs.Common.{List, [], ◌∷◌, length, Option, Some, None, refl, sym, ap, ap₂, ◌∙◌}
 use Rattle.exo_tree.specs.Tree.{Kind, Index, Binder, Control, Lit, Var, Field, StrideOf, Neg, Add, Sub}
 use Rattle.exo_tree.specs.Tree.{Mul, Div, Mod, Statement, Assign, Reduce, Config, Pass, If, For, Alloc}
-use Rattle.exo_tree.specs.Tree.{View, Call, Block, Param, Procedure}
+use Rattle.exo_tree.specs.Tree.{View, Call, Param, Procedure}
 use Rattle.exo_tree.specs.Context.{Context, Here, After, InLoop, InThen, InElse}
 use Rattle.exo_meaning.specs.Inputs.{is_buffer_of}
 use Rattle.exo_meaning.specs.Unseen.{in_control as uses}
@@ -14,7 +14,7 @@ use Rattle.meaning_laws.specs.Copies.{IsFree}
 use Rattle.meaning_laws.specs.Sound.{binds, on_way}
 use Rattle.meaning_laws.specs.Substitute.{is_plain}
 use Rattle.tree_rules.specs.declared.findings.Findings.{Findings}
-use Rattle.tree_rules.specs.Classes.{both, rule, limit, use_of}
+use Rattle.tree_rules.specs.Classes.{both, rule, use_of}
 use Rattle.tree_rules.specs.Findings.{found_in_control, found_in_divisor, scope_behind, with_view}
 use Rattle.step_rules.specs.Lawful.{found_scope_at}
 use Rattle.step_rules.proofs.Formed.{HasShape, shape_parts}

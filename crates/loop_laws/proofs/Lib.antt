@@ -8,6 +8,7 @@ pub mod Divided
 pub mod Bones
 pub mod DivideLoop
 pub mod Examples
+pub mod Instances
 pub mod Copies
 pub mod UnrollLoop
 pub mod Specialize

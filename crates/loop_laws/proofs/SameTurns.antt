@@ -1,12 +1,12 @@
 -- Loops whose turns are those of another loop.
-use Rattle.std.proofs.Common.{◌≡◌, ℕ, ◌*◌, ℤ, pos, ◌+ℤ◌, ◌-ℤ◌, ◌*ℤ◌, ◌==◌, Bool, true, false, cond}
-use Rattle.std.proofs.Common.{List, Option, Some, None, IfSome, option_map, refl, sym, ap, ap₂, ◌∙◌, arith}
+use Rattle.std.proofs.Common.{◌≡◌, ℕ, ℤ, pos, ◌+ℤ◌, ◌-ℤ◌, ◌*ℤ◌, ◌==◌, Bool, true, false, cond}
+use Rattle.std.proofs.Common.{List, Option, Some, None, IfSome, option_map, refl, sym, ap, ◌∙◌, arith}
 use Rattle.std.proofs.Math.Path.{fun_ext}
 use Rattle.std.proofs.lemmas.Int.{ints}
 use Rattle.exo_tree.specs.Tree.{Binder, Control, Lit, Block}
 use Rattle.exo_tree.specs.Substitution.{in_block}
 use Rattle.exo_meaning.specs.Scene.{Shape, number}
-use Rattle.exo_meaning.specs.State.{State, Cells, kept, left, on_scene, with_control}
+use Rattle.exo_meaning.specs.State.{State, Cells, kept, left}
 use Rattle.exo_meaning.specs.Run.{World, run, turn, turns, turns_of, range, count}
 use Rattle.exo_meaning.proofs.Ignored.{run_alike}
 use Rattle.exo_meaning.proofs.Nested.{kept_twice, pulled, then_some}
@@ -20,7 +20,7 @@ use Rattle.scope_laws.specs.Unrolled.{HasNamesOf}
 use Rattle.scope_laws.proofs.Scopes.{left_same_but}
 use Rattle.loop_laws.specs.Turns.{Turn, group}
 use Rattle.loop_laws.specs.SameTurns.{MayStandIn, at_turn, SubstitutedTurn, IsMovedBy, MovedLoop}
-use Rattle.loop_laws.specs.SameTurns.{nested, AreGroupsOf, GroupedLoop}
+use Rattle.loop_laws.specs.SameTurns.{AreGroupsOf, GroupedLoop}
 use Rattle.loop_laws.proofs.Turns.{turns_alike, turns_keep, moved_turns, grouped_turns}
 
 -- ---- states with the same names

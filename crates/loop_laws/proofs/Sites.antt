@@ -1,6 +1,6 @@
 -- What is known at a site of a rule on one loop.
-use Rattle.std.proofs.Common.{◌≡◌, ◌≤◌, ℕ, ℤ, pos, suc, Bool, true, false, ◌==◌, ◌||◌, ◌&&◌, true≢false, not}
-use Rattle.std.proofs.Common.{List, [], ◌∷◌, Option, Some, None, refl, sym, ap, ap₂, ◌∙◌, subst, arith}
+use Rattle.std.proofs.Common.{◌≡◌, ◌≤◌, ℕ, Bool, true, false, ◌==◌, ◌||◌, ◌&&◌, not}
+use Rattle.std.proofs.Common.{List, [], Option, Some, None, refl, sym, ap, ap₂, ◌∙◌, subst}
 use Rattle.std.specs.Prelude.{◌+◌, nat_le, nat_lt, option_and_then, length, slice_get}
 use Rattle.std.specs.List.{list_all}
 use Rattle.exo_tree.specs.Tree.{Kind, Index, Binder, Control, Statement, Assign, Reduce, Config, Pass, If, For}
@@ -11,7 +11,7 @@ use Rattle.exo_tree.specs.Renaming.{binders}
 use Rattle.exo_meaning.specs.Calls.{Callee}
 use Rattle.exo_meaning.specs.Inputs.{IsAdmissible}
 use Rattle.exo_meaning.specs.State.{State}
-use Rattle.exo_meaning.specs.Run.{World, callees, kinds_of, program_world}
+use Rattle.exo_meaning.specs.Run.{callees, kinds_of, program_world}
 use Rattle.exo_meaning.specs.Orders.{Each}
 use Rattle.exo_meaning.specs.Units.{Scope, ControlName, with_name, scope_of, plainly, is_new, is_control}
 use Rattle.exo_meaning.specs.Units.{is_empty, is_short, is_block, is_statement, field_kind, bound_ids}
@@ -39,14 +39,14 @@ use Rattle.tree_rules.specs.Findings.{found_in_binder, found_in_control, finding
 use Rattle.tree_rules.specs.Findings.{findings_of_statement, findings_of_block}
 use Rattle.tree_rules.specs.Sizes.{is_small_control}
 use Rattle.order_laws.specs.TurnsOfTwo.{Loop}
-use Rattle.step_rules.specs.Rule.{Tried, Got, Not, Target, Piece, Spot, Need, Says}
+use Rattle.step_rules.specs.Rule.{Got, Target, Piece, Spot, Need, Says}
 use Rattle.step_rules.specs.Lawful.{IsMet, around, old, world_of, IsSpot, AtHole, Site, IsFormedHere}
 use Rattle.step_rules.specs.Lawful.{found_scope_at, scope_here, callees_for}
 use Rattle.step_rules.specs.Shapes.{tried, alone_in, one_statement}
 use Rattle.step_rules.proofs.Formed.{HasShape, shape_parts}
 use Rattle.step_rules.proofs.Shapes.{made_of, alone_is}
 use Rattle.loop_laws.specs.Shapes.{loop_in, loop_of}
-use Rattle.loop_laws.proofs.Formed.{IsFormed, formed, free_not_in_scope}
+use Rattle.loop_laws.proofs.Formed.{IsFormed, formed}
 
 -- ---- what is read
 

@@ -1,17 +1,17 @@
 -- Turns of loops by their numbers.
 use Rattle.std.proofs.Common.{◌≡◌, ◌≤◌, ◌≤ℤ◌, ◌<ℤ◌, ℕ, zero, suc, ◌+◌, ◌*◌, ℤ, pos, negsuc, ◌+ℤ◌, ◌-ℤ◌}
-use Rattle.std.proofs.Common.{◌*ℤ◌, Bool, true, false, if◌then◌else◌, List, [], ◌∷◌, ◌++◌, Option, Some}
-use Rattle.std.proofs.Common.{None, IfSome, refl, sym, ap, ap₂, ◌∙◌, arith}
+use Rattle.std.proofs.Common.{◌*ℤ◌, true, false, if◌then◌else◌, List, [], ◌∷◌, ◌++◌, Option, Some}
+use Rattle.std.proofs.Common.{IfSome, refl, sym, ap, ap₂, ◌∙◌, arith}
 use Rattle.std.specs.Prelude.{int_lt}
 use Rattle.std.proofs.Math.Nat.{suc-mul}
-use Rattle.std.proofs.Math.IntN.{suc_ℤ, suc_ℤ-*ℤ, *ℤ_comm, +ℤ_one, zero-*ℤ}
+use Rattle.std.proofs.Math.IntN.{suc_ℤ-*ℤ, *ℤ_comm, +ℤ_one, zero-*ℤ}
 use Rattle.std.proofs.lemmas.Int.{ints}
 use Rattle.exo_meaning.specs.Scene.{then_do}
 use Rattle.exo_meaning.specs.State.{State}
 use Rattle.exo_meaning.specs.Run.{turns, range, count}
 use Rattle.exo_meaning.proofs.Compose.{then_cong}
 use Rattle.exo_meaning.proofs.Frame.{if_then}
-use Rattle.exo_meaning.proofs.Nested.{turns_append, turns_cong, then_cong_if, then_some}
+use Rattle.exo_meaning.proofs.Nested.{turns_append, then_cong_if}
 use Rattle.loop_laws.specs.Turns.{Turn, between, CutTurns, group, GroupedTurns, MovedTurns, up_to}
 use Rattle.loop_laws.specs.Turns.{GuardedTurns}
 
