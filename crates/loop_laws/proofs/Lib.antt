@@ -18,3 +18,4 @@ pub mod UnrollExamples
 pub mod SpecializeExamples
 pub mod CopyExamples
 pub mod LaterExamples
+pub mod ShiftInstances
