@@ -1,4 +1,9 @@
-mod Once
-mod Growing
-mod Keeping
-mod Room
+pub mod Once
+pub mod Growing
+pub mod Keeping
+pub mod Room
+pub mod Names
+pub mod Climbing
+pub mod Writing
+pub mod Answering
+pub mod Stepping

@@ -109,7 +109,9 @@ impl Session {
         ensures { result ≡ is_descendant (map configured (versions self.now).origins) k.0 from.0 }
     {
         let mut at = k;
-        for _ in 0..k.0 {
+        let mut left = k.0;
+        while left > 0 {
+            left -= 1;
             if at.0 == from.0 {
                 return true;
             }
@@ -217,7 +219,9 @@ impl Session {
     {
         let mut way = Vec::new(alloc);
         let mut at = k;
-        for _ in 0..k.0 {
+        let mut left = k.0;
+        while left > 0 {
+            left -= 1;
             if at.0 == from.0 {
                 return Ok(Some(way));
             }

@@ -84,24 +84,25 @@ impl Session {
     pub(crate) fn start(alloc: Global, unit: Unit, shown: u64) -> Result<Session, AllocError>
         ensures { IfOk result (λ s. versions s ≡ started (program unit) shown) }
     {
-        let mut session = Session {
-            unit,
-            origins: Vec::new(alloc),
-            names: Vec::new(alloc),
-            emitted: Vec::new(alloc),
-            steps: 0,
-            obligations: shown,
-        };
-        for p in session.unit.procs.as_slice() {
-            let number = number_of(session.origins.len())?;
+        let mut origins = Vec::new(alloc);
+        let mut names = Vec::new(alloc);
+        for p in unit.procs.as_slice() {
+            let number = number_of(origins.len())?;
             let name = p.name.duplicate(alloc)?;
-            session.names.push(Binding {
+            names.push(Binding {
                 name,
                 held: Held::Version(number),
             })?;
-            session.origins.push(origin_of_text(alloc))?;
+            origins.push(origin_of_text(alloc))?;
         }
-        Ok(session)
+        Ok(Session {
+            unit,
+            origins,
+            names,
+            emitted: Vec::new(alloc),
+            steps: 0,
+            obligations: shown,
+        })
     }
 
     /// What the name holds: its latest binding.
@@ -141,9 +142,11 @@ impl Session {
         ensures { result.0 ≡ root_of (versions self.now) k.0 }
     {
         let mut root = k;
-        for _ in 0..k.0 {
+        let mut left = k.0;
+        while left > 0 {
+            left -= 1;
             match self.parent(root) {
-                Some(parent) => root = parent,
+                Some(above) => root = above,
                 None => return root,
             }
         }
