@@ -1,8 +1,7 @@
 -- When two accesses meet: the systems that must have no integer point.
-use Rattle.std.specs.Prelude.{ℕ, suc, ◌+◌, ◌*◌, ◌^◌, ◌==◌, nat_lt, Bool, true, false, not}
-use Rattle.std.specs.Prelude.{◌&&◌, if◌then◌else◌, List, [], ◌∷◌, ◌++◌, map, length, flat_map}
-use Rattle.std.specs.Prelude.{filter, Option, Some, None, slice_get, codes}
-use Rattle.std.specs.List.{position_or_len}
+use Rattle.std.specs.Prelude.{ℕ, suc, max, ◌+◌, ◌*◌, ◌==◌, Bool, true, false, not}
+use Rattle.std.specs.Prelude.{◌&&◌, if◌then◌else◌, List, [], ◌∷◌, ◌++◌, map, flat_map}
+use Rattle.std.specs.Prelude.{filter, Option, Some, None, slice_get, option_map, codes}
 use Rattle.exo_tree.specs.Places.{Path}
 use Rattle.exo_meaning.specs.Modes.{Mode, Reading, Writing, Reducing}
 use Rattle.affine_forms.specs.Atoms.{Variable, Linear, only}
@@ -12,28 +11,37 @@ use Rattle.affine_systems.specs.Outcomes.{Owed, owed}
 use Rattle.exo_effects.specs.Limits.{are_within}
 use Rattle.text_show.specs.Layout.{Text}
 use Rattle.exo_effects.specs.Renamed.{re_linear, re_formula}
+use Rattle.exo_effects.specs.Fresh.{past_formula, past_all, past_access, past_order}
 use Rattle.exo_effects.specs.Cases.{systems_of, cases_stated}
 use Rattle.exo_effects.specs.Orders.{Turn, OrderRow, Less, Greater, Order}
 use Rattle.exo_effects.specs.Accesses.{AccessCoord, At, Range, Access}
 
--- ---- variables that no binder has: the ids of binders are below 2^31
+-- ---- variables of each copy, past all that stand in the forms
 
--- for the span of a dimension of the first access, and of the second
-abbrev pub first_span : ℕ → ℕ
-first_span d = 2 ^ 31 + 3 * d
+-- which of these it is, counted from 0
+abbrev pub place_in : List ℕ → ℕ → Option ℕ
+place_in [] x = None
+place_in (y ∷ ys) x = if x == y then Some 0 else option_map suc (place_in ys x)
 
-abbrev pub second_span : ℕ → ℕ
-second_span d = 2 ^ 31 + (3 * d + 1)
+-- side: 0 for the first copy, 1 for the second
+module _ (base side : ℕ) where
+  -- for a variable of its loops, of its access, and for a span of its access
+  abbrev pub turn_number : ℕ → ℕ
+  turn_number k = base + (6 * k + side)
 
--- for the variable of that number of the second copy
-abbrev pub second_own : ℕ → ℕ
-second_own k = 2 ^ 31 + (3 * k + 2)
+  abbrev pub own_number : ℕ → ℕ
+  own_number k = base + (6 * k + (2 + side))
 
--- of the second copy's variables each has another one, all else stays
-abbrev pub apart : List ℕ → ℕ → ℕ
-apart own x =
-    let k = position_or_len (λ y. x == y) own in
-    if nat_lt k (length own) then second_own k else x
+  abbrev pub span_number : ℕ → ℕ
+  span_number d = base + (6 * d + (4 + side))
+
+  -- each variable of its loops has another one, all else stays
+  abbrev pub turns_apart : List ℕ → ℕ → ℕ
+  turns_apart turns x = elim (place_in turns x) [ None ↦ x | Some k ↦ turn_number k ]
+
+  -- and so has each variable of its access
+  abbrev pub apart : List ℕ → List ℕ → ℕ → ℕ
+  apart turns own x = elim (place_in own x) [ None ↦ turns_apart turns x | Some k ↦ own_number k ]
 
 -- ---- parts of a system
 
@@ -43,7 +51,7 @@ variable x = only (Variable x)
 abbrev pub bounds : Turn → List Formula
 bounds t = at_most t.lower (variable t.variable) ∷ less (variable t.variable) t.upper ∷ []
 
--- r: the variables of the second copy
+-- over other variables
 module _ (r : ℕ → ℕ) where
   abbrev pub re_turn : Turn → Turn
   re_turn t = record {
@@ -97,24 +105,32 @@ asked span x = x.guards ++ span_rows span 0 x.coords
 
 -- ---- two accesses
 
-module _ (ctx : List Formula) (order : Order) where
-  -- the variables of the second copy: those of its loops, and those of the access
-  abbrev pub second_variables : Access → List ℕ
-  second_variables y = map (λ t. t.variable) order.second ++ y.own
+abbrev pub variables_of : List Turn → List ℕ
+variables_of ts = map (λ t. t.variable) ts
 
-  -- the first copy meets the second where all this holds
+module _ (base side : ℕ) (ts : List Turn) where
+  abbrev pub copied_turns : List Turn
+  copied_turns = map (re_turn (turns_apart base side (variables_of ts))) ts
+
+  abbrev pub copied : Access → Access
+  copied x = re_access (apart base side (variables_of ts) x.own) x
+
+module _ (ctx : List Formula) (order : Order) (base : ℕ) where
+  -- the first access meets the second where all this holds
   abbrev pub meeting : Access → Access → List Formula
   meeting x y =
-      let r = apart (second_variables y) in
-      let ts = map (re_turn r) order.second in
-      let z = re_access r y in
+      let ss = copied_turns base 0 order.first in
+      let ts = copied_turns base 1 order.second in
+      let a = copied base 0 order.first x in
+      let b = copied base 1 order.second y in
       ctx
-      ++ (flat_map bounds order.first
+      ++ (flat_map bounds ss
       ++ (flat_map bounds ts
-      ++ (flat_map (order_row order.first ts) order.rows
-      ++ (asked first_span x
-      ++ (asked second_span z
-      ++ equations (points first_span 0 x.coords) (points second_span 0 z.coords))))))
+      ++ (flat_map (order_row ss ts) order.rows
+      ++ (asked (span_number base 0) a
+      ++ (asked (span_number base 1) b
+      ++ equations (points (span_number base 0) 0 a.coords)
+      (points (span_number base 1) 0 b.coords))))))
 
 abbrev pub is_mode : Mode → Mode → Bool
 is_mode Reading m = elim m [ Reading ↦ true | Writing ↦ false | Reducing ↦ false ]
@@ -146,17 +162,23 @@ pub data Listing : Type 0 where
   Lists : List Owed → Listing
   Refuses : Fault → Listing
 
-module _ (ctx : List Formula) (order : Order) (place : Path) where
+-- past all variables that stand in these
+abbrev pub past_these : List Formula → Order → List Access → List Access → ℕ
+past_these ctx order xs ys =
+    max (max (past_all past_formula ctx) (past_order order))
+    (max (past_all past_access xs) (past_all past_access ys))
+
+module _ (ctx : List Formula) (order : Order) (place : Path) (base : ℕ) where
   abbrev pub owed_for : Access × Access → List Owed
-  owed_for p = map (owed (against p) place) (systems_of (meeting ctx order p.0 p.1))
+  owed_for p = map (owed (against p) place) (systems_of (meeting ctx order base p.0 p.1))
 
   -- first its cases, then the size of its systems
   abbrev pub pair_fault : Access × Access → Option Fault
-  pair_fault p = elim (cases_stated (meeting ctx order p.0 p.1)) [
+  pair_fault p = elim (cases_stated (meeting ctx order base p.0 p.1)) [
     | CasesPassed ↦ Some ManyCases
     | SizePassed ↦ Some LargeSystem
     | Listed ss ↦ None
-  ]
+    ]
 
   -- goes on where there is no fault, and what is owed so far is within the limits
   abbrev pub unless_refused : Option Fault → Bool → Listing → Listing
@@ -171,5 +193,6 @@ module _ (ctx : List Formula) (order : Order) (place : Path) where
       unless_refused (pair_fault p) (are_within (os ++ owed_for p))
       (owed_behind (os ++ owed_for p) ps)
 
-  abbrev pub conflicts_of : List Access → List Access → Listing
-  conflicts_of xs ys = owed_behind [] (clashing xs ys)
+abbrev pub conflicts_of : List Formula → Order → Path → List Access → List Access → Listing
+conflicts_of ctx order place xs ys =
+    owed_behind ctx order place (past_these ctx order xs ys) [] (clashing xs ys)

@@ -5,4 +5,5 @@ pub mod Renamed
 pub mod Limits
 pub mod Cases
 pub mod Orders
+pub mod Fresh
 pub mod Conflicts
