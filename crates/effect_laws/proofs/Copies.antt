@@ -1,5 +1,5 @@
 -- Two accesses that reach one cell meet: all that is asked of them holds for some values.
-use Rattle.std.proofs.Common.{◌≡◌, ◌<◌, ◌≤◌, ◌≤ℤ◌, ◌<ℤ◌, ℕ, zero, suc, ◌+◌, ◌-◌, ◌*◌, ◌/◌, ◌%◌, max, ℤ, pos, ◌==◌, int_le, int_lt, Bool, true, false, true≢false, cond, ◌&&◌, ◌||◌, List, [], ◌∷◌, ◌++◌, map, Option, Some, None, IfSome, option_map, slice_get, refl, sym, ap, ap₂, ◌∙◌, subst, eqb-true, arith}
+use Rattle.std.proofs.Common.{◌≡◌, ◌<◌, ◌≤◌, ◌≤ℤ◌, ◌<ℤ◌, ℕ, zero, suc, ◌+◌, ◌-◌, ◌*◌, ◌/◌, ◌%◌, max, ℤ, pos, ◌-ℤ◌, ◌==◌, int_le, int_lt, Bool, true, false, true≢false, cond, ◌&&◌, ◌||◌, List, [], ◌∷◌, ◌++◌, map, Option, Some, None, IfSome, option_map, slice_get, refl, sym, ap, ap₂, ◌∙◌, subst, eqb-true, arith}
 use Rattle.std.specs.Prelude.{nat_lt, get_or, flat_map}
 use Rattle.std.specs.List.{list_any}
 use Rattle.std.specs.Ordering.{int_eq}
@@ -9,6 +9,7 @@ use Rattle.std.proofs.lemmas.Option.{slice_get-map}
 use Rattle.exo_meaning.specs.Orders.{Each}
 use Rattle.affine_forms.specs.Atoms.{Valuation, Variable, Linear, only, value, subtracted}
 use Rattle.affine_forms.specs.Formulas.{Formula, less, at_most, equal, difference, is_met, all_met}
+use Rattle.affine_forms.proofs.Values.{subtracted_value, present_value}
 use Rattle.affine_forms.proofs.FormulaValues.{less_met, at_most_met}
 use Rattle.affine_systems.specs.Systems.{KeepsKinds}
 use Rattle.affine_systems.proofs.Cases.{all_met_append}
@@ -33,23 +34,23 @@ lt_true a b h = grind (arith, ints, h)
 
 pub found : (f : ℕ → ℤ) (xs : List ℕ) (x k : ℕ) → place_in xs x ≡ Some k → get_or (map f xs) k (pos 0) ≡ f x
 found f [] x k e = absurd (none_some e)
-found f (y ∷ ys) x k e = go (x == y) refl e
+found f (y ∷ ys) x k e = go (found f ys x) (x == y) refl e
   where
-    go : (t : Bool) → (x == y) ≡ t → cond t (Some 0) (option_map suc (place_in ys x)) ≡ Some k → get_or (map f (y ∷ ys)) k (pos 0) ≡ f x
-    go true i j = ap (λ n. get_or (map f (y ∷ ys)) n (pos 0)) (sym (some_injective 0 k j)) ∙ ap f (sym (eqb-true x y i))
-    go false i j = let m = map_gives (place_in ys x) suc k j in ap (λ n. get_or (map f (y ∷ ys)) n (pos 0)) (sym m.2) ∙ found f ys x m.0 m.1
+    go : ((j : ℕ) → place_in ys x ≡ Some j → get_or (map f ys) j (pos 0) ≡ f x) → (t : Bool) → (x == y) ≡ t → cond t (Some 0) (option_map suc (place_in ys x)) ≡ Some k → get_or (map f (y ∷ ys)) k (pos 0) ≡ f x
+    go rest true i j = ap (λ n. get_or (map f (y ∷ ys)) n (pos 0)) (sym (some_injective 0 k j)) ∙ ap f (sym (eqb-true x y i))
+    go rest false i j = let m = map_gives (place_in ys x) suc k j in ap (λ n. get_or (map f (y ∷ ys)) n (pos 0)) (sym m.2) ∙ rest m.0 m.1
 
 pub not_found : (xs : List ℕ) (x : ℕ) → place_in xs x ≡ None → list_any (λ y. x == y) xs ≡ false
 not_found [] x e = refl
-not_found (y ∷ ys) x e = go (x == y) e
+not_found (y ∷ ys) x e = go (not_found ys x) (x == y) e
   where
     later : (o : Option ℕ) → option_map suc o ≡ None → o ≡ None
     later None e = refl
     later (Some k) e = absurd (none_some (sym e))
 
-    go : (t : Bool) → cond t (Some 0) (option_map suc (place_in ys x)) ≡ None → (t || list_any (λ y. x == y) ys) ≡ false
-    go true e = absurd (none_some (sym e))
-    go false e = not_found ys x (later (place_in ys x) e)
+    go : (place_in ys x ≡ None → list_any (λ y. x == y) ys ≡ false) → (t : Bool) → cond t (Some 0) (option_map suc (place_in ys x)) ≡ None → (t || list_any (λ y. x == y) ys) ≡ false
+    go rest true e = absurd (none_some (sym e))
+    go rest false e = rest (later (place_in ys x) e)
 
 among_turns : (ts : List Turn) (y : ℕ) → list_any (λ z. y == z) (variables_of ts) ≡ is_turn ts y
 among_turns [] y = refl
@@ -59,15 +60,15 @@ among_turns (t ∷ ts) y = ap (λ b. (y == t.variable) || b) (among_turns ts y)
 
 -- six lists of numbers behind those below the base, turn by turn
 module _ (base : ℕ) (old : ℕ → ℤ) (a b c d e f : List ℤ) where
-  abbrev nth : ℕ → ℕ → ℤ
-  nth 0 k = get_or a k (pos 0)
-  nth 1 k = get_or b k (pos 0)
-  nth 2 k = get_or c k (pos 0)
-  nth 3 k = get_or d k (pos 0)
-  nth 4 k = get_or e k (pos 0)
-  nth r k = get_or f k (pos 0)
+  abbrev pub nth : ℕ → ℕ → ℤ
+  nth zero k = get_or a k (pos 0)
+  nth (suc zero) k = get_or b k (pos 0)
+  nth (suc (suc zero)) k = get_or c k (pos 0)
+  nth (suc (suc (suc zero))) k = get_or d k (pos 0)
+  nth (suc (suc (suc (suc zero)))) k = get_or e k (pos 0)
+  nth (suc (suc (suc (suc (suc r))))) k = get_or f k (pos 0)
 
-  abbrev mixed : ℕ → ℤ
+  abbrev pub mixed : ℕ → ℤ
   mixed z = cond (nat_lt z base) (old z) (nth ((z - base) % 6) ((z - base) / 6))
 
   rest_of : (k r : ℕ) → r < 6 → (base + (6 * k + r) - base) % 6 ≡ r
@@ -91,7 +92,7 @@ module _ (v : Valuation) where
   pub both_met : (fs gs : List Formula) → all_met v fs ≡ true → all_met v gs ≡ true → all_met v (fs ++ gs) ≡ true
   both_met fs gs h k = all_met_append v fs gs ∙ joined (all_met v fs) (all_met v gs) h k
 
-  only_value : (x : ℕ) → value v (variable x) ≡ v.variable x
+  pub only_value : (x : ℕ) → value v (variable x) ≡ v.variable x
   only_value x = omega (arith, ints)
 
   difference_is : (k l : Linear) → value v (difference k l) ≡ value v k -ℤ value v l
@@ -106,7 +107,7 @@ module _ (v : Valuation) where
   at_most_true : (k l : Linear) → value v k ≤ℤ value v l → is_met v (at_most k l) ≡ true
   at_most_true k l h = at_most_met v k l ∙ le_true (value v k) (value v l) h
 
-  less_true : (k l : Linear) → value v k <ℤ value v l → is_met v (less k l) ≡ true
+  pub less_true : (k l : Linear) → value v k <ℤ value v l → is_met v (less k l) ≡ true
   less_true k l h = less_met v k l ∙ lt_true (value v k) (value v l) h
 
   -- each form has the value of its index
@@ -116,7 +117,7 @@ module _ (v : Valuation) where
   AreAt (k ∷ ks) [] = ⊥
   AreAt (k ∷ ks) (i ∷ at) = (value v k ≡ i) × AreAt ks at
 
-  equations_met : (ks ls : List Linear) (at : List ℤ) → AreAt ks at → AreAt ls at → all_met v (equations ks ls) ≡ true
+  pub equations_met : (ks ls : List Linear) (at : List ℤ) → AreAt ks at → AreAt ls at → all_met v (equations ks ls) ≡ true
   equations_met [] ls at h l = refl
   equations_met (k ∷ ks) [] at h l = refl
   equations_met (k ∷ ks) (j ∷ ls) [] h l = absurd h
@@ -141,7 +142,7 @@ module _ (base side : ℕ) (v : Valuation) (w m p : ℕ → ℤ) (turns : List T
   abbrev of_access : ℕ → ℕ
   of_access = apart base side (variables_of turns) x.own
 
-  turns_same : (z : ℕ) → z < base → w (of_turns z) ≡ m z
+  pub turns_same : (z : ℕ) → z < base → w (of_turns z) ≡ m z
   turns_same z h = go (place_in (variables_of turns) z) refl
     where
       go : (o : Option ℕ) → place_in (variables_of turns) z ≡ o → w (elim o [ None ↦ z | Some k ↦ turn_number base side k ]) ≡ m z

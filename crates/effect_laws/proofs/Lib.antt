@@ -2,5 +2,8 @@ pub mod Forms
 pub mod Cells
 pub mod Known
 pub mod Covers
+pub mod Covering
 pub mod Renamed
 pub mod Points
+pub mod Copies
+pub mod Meeting
