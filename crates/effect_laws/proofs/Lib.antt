@@ -7,3 +7,4 @@ pub mod Renamed
 pub mod Points
 pub mod Copies
 pub mod Meeting
+pub mod Clear
