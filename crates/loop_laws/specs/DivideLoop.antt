@@ -26,7 +26,7 @@ pub record Division : Type 0 where
   pub inner : List ℕ
   pub tail : Tail
 
--- a loop from 0, and groups of at least one turn
+-- a loop from 0 that is all of the block, and groups of at least one turn
 abbrev pub divisible : ℤ → Block → Option Loop
 divisible by b = if int_le (pos 1) by then option_and_then from_zero (loop_of b) else None
 
@@ -69,7 +69,7 @@ module _ (d : Division) (l : Loop) (base : ℕ) where
       only_loop (record { id = i; name = d.inner }) (Lit (pos 0)) (Mod l.hi d.by)
       (in_block i (turn_behind (Div l.hi d.by) i) l.body)
 
-  -- which is a copy of the loop
+  -- as a copy of the loop, whose binder too has a new id
   abbrev pub tail_turns : Block
   tail_turns = fresh (base + 2) turns_behind
 
@@ -83,7 +83,8 @@ module _ (d : Division) (l : Loop) (base : ℕ) where
 abbrev pub divided : Division → Loop → ℕ → Block
 divided d l base = divided_with d l base d.tail
 
--- a tail needs turns, and none that they are whole groups
+-- with a loop for the rest the bound must not be negative, and without a rest the groups must be
+-- whole
 abbrev pub divide_needs : ℤ → Tail → Path → Loop → List Need
 divide_needs by Guard at l = []
 divide_needs by Cut at l = Says at (Holds (Le (Lit (pos 0)) l.hi)) ∷ []
