@@ -1,6 +1,6 @@
 -- The rule that divides the turns of a loop into groups.
-use Rattle.std.specs.Prelude.{ℕ, suc, ◌+◌, ℤ, pos, ◌-ℤ◌, int_le, if◌then◌else◌, List, [], ◌∷◌, length}
-use Rattle.std.specs.Prelude.{Option, Some, None, option_and_then}
+use Rattle.std.specs.Prelude.{ℕ, suc, ◌+◌, ℤ, pos, ◌-ℤ◌, int_le, if◌then◌else◌, List, [], ◌∷◌}
+use Rattle.std.specs.Prelude.{length, Option, Some, None, option_and_then}
 use Rattle.exo_tree.specs.Tree.{Binder, Control, Lit, Var, Add, Mul, Div, Mod, Lt, Le, Gt, Eq}
 use Rattle.exo_tree.specs.Tree.{Block, end, joined, statements}
 use Rattle.exo_tree.specs.Places.{Path}
@@ -14,8 +14,8 @@ use Rattle.order_laws.specs.TurnsOfTwo.{Loop}
 use Rattle.step_rules.specs.Rule.{Need, Says, Rule}
 use Rattle.loop_laws.specs.Shapes.{loop_of, from_zero, listed, loop_rule, inside}
 
--- what becomes of the turns that fill no group: the last group is guarded, they have a loop of their
--- own, or one that is guarded, or there are none
+-- what becomes of the turns that fill no group: the last group is guarded, they have a loop of
+-- their own, or one that is guarded, or there are none
 pub data Tail : Type 0 where
   Guard Cut CutAndGuard Perfect : Tail
 
