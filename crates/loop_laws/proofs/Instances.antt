@@ -60,7 +60,7 @@ z_is_unit = record {
   counts = refl;
 }
 
-z_is_target : IsTarget (target_of z)
+pub z_is_target : IsTarget (target_of z)
 z_is_target = record { unit = z_is_unit; there = refl; ids = refl }
 
 z_may_run : MayRunIn (target_of z) z

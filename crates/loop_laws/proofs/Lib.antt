@@ -12,8 +12,10 @@ pub mod Instances
 pub mod Copies
 pub mod UnrollLoop
 pub mod Specialize
+pub mod ShiftLoop
 pub mod SmallUnits
 pub mod UnrollExamples
 pub mod SpecializeExamples
 pub mod CopyExamples
 pub mod LaterExamples
+pub mod ShiftInstances

@@ -9,6 +9,7 @@ ghost use Rattle.loop_laws.specs.Copies.{BlocksMayBeSpecialized, TakenBranchesMa
 ghost use Rattle.loop_laws.specs.CutLoop.{cut_rule};
 ghost use Rattle.loop_laws.specs.DivideLoop.{Division, divide_rule};
 ghost use Rattle.loop_laws.specs.SameTurns.{SubstitutedTurn, MovedLoop, GroupedLoop};
+ghost use Rattle.loop_laws.specs.ShiftLoop.{shift_rule};
 ghost use Rattle.loop_laws.specs.Specialize.{specialize_rule};
 ghost use Rattle.loop_laws.specs.Turns.{CutTurns, GroupedTurns, MovedTurns, GuardedTurns};
 ghost use Rattle.loop_laws.specs.UnrollLoop.{unroll_rule};
@@ -112,4 +113,14 @@ pub fn specialized_blocks_are_lawful()
 /// The statements of the block go into the branch where the condition holds.
 pub fn specialized_blocks_carry()
     ensures { (count : ℕ) (c : Condition) → IsCarrying (specialize_rule count c) }
+{}
+
+/// The turns of a loop may be counted from another number on.
+pub fn shifts_are_lawful()
+    ensures { (e : Control) → IsLawful (shift_rule e) }
+{}
+
+/// The loop stays where it is.
+pub fn shifts_carry()
+    ensures { (e : Control) → IsCarrying (shift_rule e) }
 {}
