@@ -195,7 +195,7 @@ clash_back Reducing Writing h = refl
 clash_back Reducing Reducing h = h
 
 -- it is asked of the buffers alone
-clear_with : (s t : Scene) → t.buffers ≡ s.buffers → (es : List Entry) (f : Entry) → IsClear t es f → IsClear s es f
+pub clear_with : (s t : Scene) → t.buffers ≡ s.buffers → (es : List Entry) (f : Entry) → IsClear t es f → IsClear s es f
 clear_with s t e es (Reads p) h = λ i. h (ap (λ b. is_some (b p.buffer)) e ∙ i)
 clear_with s t e es (Writes p) h = λ i. h (ap (λ b. is_some (b p.buffer)) e ∙ i)
 clear_with s t e es (Reduces cell p) h = λ shape i. h shape (ap (λ b. b p.buffer) e ∙ i)

@@ -41,7 +41,7 @@ use Rattle.effect_laws.proofs.Forms.{flag_named, flags_in, bound_is_affine, cond
 use Rattle.effect_laws.proofs.Cells.{where_gives, each_weaken, each_map_each, each_join, IsFrom, range_within, narrowed_sides, joined_affine, cell_lies, Lies, cells_lie}
 use Rattle.effect_laws.proofs.Known.{IsFirm, IsTold, IsPart, Now, Further, name_further, is_there, not_none, either, told_further, firm_further, now_same, now_round, now_inside, now_viewed, now_made, new_is_not_there}
 
-then_gives : {A B : Type 0} (o : Option A) (f : A → Option B) (b : B) → then_do o f ≡ Some b → (a : A) × (o ≡ Some a) × (f a ≡ Some b)
+pub then_gives : {A B : Type 0} (o : Option A) (f : A → Option B) (b : B) → then_do o f ≡ Some b → (a : A) × (o ≡ Some a) × (f a ≡ Some b)
 then_gives None f b e = absurd (none_some e)
 then_gives (Some a) f b e = (a, refl, e)
 
@@ -341,6 +341,14 @@ le_true a b h = grind (arith, ints, h)
 lt_true : (a b : ℤ) → a <ℤ b → int_lt a b ≡ true
 lt_true a b h = grind (arith, ints, h)
 
+-- the own variables of a loop's body
+pub owns : (i : Binder) (own : List ℕ) (y : ℕ) → is_among (own ++ i.id ∷ []) y ≡ false → ((y == i.id) ≡ false) × (is_among own y ≡ false)
+owns i [] y h = ((neither (y == i.id) false h).0, refl)
+owns i (z ∷ own) y h =
+    let p = neither (y == z) (is_among (own ++ i.id ∷ []) y) h in
+    let q = owns i own y p.1 in
+    (q.0, both_false (y == z) (is_among own y) p.0 q.1)
+
 -- ---- statements
 
 module _ (normal : NormalLaw) (formulas : FormulaLaw) (fields : ℕ → Option Kind) (memories : ℕ) (world : World) (w : Words) (params : ℕ → List Param) (modes : ℕ → Modes) (told : (k : ℕ) (c : Callee) → world.callees k ≡ Some c → params k ≡ c.procedure.params) (first : Scene) where
@@ -430,13 +438,6 @@ module _ (normal : NormalLaw) (formulas : FormulaLaw) (fields : ℕ → Option K
 
     bound_firm : Each (IsFirm more inner) (Holds (Le lo (Var i.id)) ∷ Holds (Lt (Var i.id) hi) ∷ [])
     bound_firm = (lower, (upper, tt))
-
-  owns : (i : Binder) (own : List ℕ) (y : ℕ) → is_among (own ++ i.id ∷ []) y ≡ false → ((y == i.id) ≡ false) × (is_among own y ≡ false)
-  owns i [] y h = ((neither (y == i.id) false h).0, refl)
-  owns i (z ∷ own) y h =
-      let p = neither (y == z) (is_among (own ++ i.id ∷ []) y) h in
-      let q = owns i own y p.1 in
-      (q.0, both_false (y == z) (is_among own y) p.0 q.1)
 
   turns_covered : (i : Binder) (lo hi : Control) (b : Block) (scope : Scope) (root : ℕ → ℕ) (at : Inside) → is_new scope i ≡ true → is_control fields plainly scope lo ≡ true → is_control fields plainly scope hi ≡ true → ((t : State) → Now first (in_loop i lo hi at) (with_name scope i (ControlName Index)) t.scene → Covers first (map access_of (block_uses w params modes (in_loop i lo hi at) b)) (touched world modes b t)) → (ns : List ℤ) (s t : State) → Each (IsFrom (number s.scene lo) (number s.scene hi)) ns → Now first at scope s.scene → ((x : ℕ) → IsSameName x s t) → Covers first (map access_of (block_uses w params modes (in_loop i lo hi at) b)) (turns_touch (turn i.id (run world b)) (λ n u. touched world modes b (on_scene (with_control i.id n) u)) ns t)
   turns_covered i lo hi b scope root at new low high inside [] s t within now same = tt

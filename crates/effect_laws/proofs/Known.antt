@@ -60,7 +60,7 @@ is_there o a e = ap is_some e
 pub not_none : {A : Type 0} (o : Option A) → IsSome o → o ≡ None → ⊥
 not_none o h e = true≢false (sym h ∙ ap is_some e)
 
-some_of : {A : Type 0} (o : Option A) → IsSome o → (a : A) × (o ≡ Some a)
+pub some_of : {A : Type 0} (o : Option A) → IsSome o → (a : A) × (o ≡ Some a)
 some_of None h = absurd (true≢false (sym h))
 some_of (Some a) h = (a, refl)
 

@@ -8,3 +8,7 @@ pub mod Points
 pub mod Copies
 pub mod Meeting
 pub mod Clear
+pub mod Places
+pub mod Turns
+pub mod Apart
+pub mod Examples
