@@ -1,8 +1,7 @@
 -- The rule that cuts a loop in two is lawful.
-use Rattle.std.proofs.Common.{◌≡◌, ◌≤ℤ◌, ℕ, ℤ, true, false, [], Option, Some, None}
-use Rattle.std.proofs.Common.{refl, sym, ap, ap₂, ◌∙◌, subst, arith, leb-true}
-use Rattle.std.specs.Prelude.{int_le, nat_le, length}
-use Rattle.std.proofs.lemmas.Int.{ints}
+use Rattle.std.proofs.Common.{◌≡◌, ℕ, ℤ, true, false, [], Option, Some, None}
+use Rattle.std.proofs.Common.{refl, sym, ap, ap₂, ◌∙◌, subst, leb-true}
+use Rattle.std.specs.Prelude.{nat_le, length}
 use Rattle.exo_tree.specs.Tree.{Control, Le, For, Block, end, next}
 use Rattle.exo_tree.specs.Context.{Here}
 use Rattle.exo_tree.specs.Renaming.{fresh}
@@ -39,10 +38,7 @@ use Rattle.loop_laws.proofs.Sites.{block_of, loop_of_is, on_loop, there, is_belo
 use Rattle.loop_laws.proofs.Sites.{new_is_free, loop_is_made, bounds_plain, loop_keeps}
 use Rattle.loop_laws.proofs.Sites.{of_found, formed_here, loop_lacks}
 use Rattle.loop_laws.proofs.Sites.{lacking_loop, given_unused, may_copy_there}
-use Rattle.loop_laws.proofs.Turns.{cut_turns}
-
-le_of : (a b : ℤ) → int_le a b ≡ true → a ≤ℤ b
-le_of a b h = omega (arith, ints)
+use Rattle.loop_laws.proofs.Turns.{le_of, cut_turns}
 
 -- ---- the runs
 

@@ -1,11 +1,9 @@
 -- The rule that divides the turns of a loop into groups is lawful.
-use Rattle.std.proofs.Common.{◌≡◌, ◌≤◌, ◌≤ℤ◌, ℕ, zero, suc, ◌+◌, ℤ, pos, negsuc, ◌-ℤ◌, ◌==◌, ◌||◌, ◌&&◌, Bool}
+use Rattle.std.proofs.Common.{◌≡◌, ◌≤◌, ℕ, zero, suc, ◌+◌, ℤ, pos, negsuc, ◌-ℤ◌, ◌==◌, ◌||◌, ◌&&◌, Bool}
 use Rattle.std.proofs.Common.{true, false, true≢false, if◌then◌else◌, List, [], length, Option, Some}
 use Rattle.std.proofs.Common.{None, option_map, refl, sym, ap, ap₂, ◌∙◌, subst, arith, leb-true, eqb-true}
 use Rattle.std.proofs.Common.{eq-eqb, cond}
 use Rattle.std.specs.Prelude.{int_le, nat_le, option_and_then}
-use Rattle.std.specs.Ordering.{int_eq}
-use Rattle.std.proofs.lemmas.Int.{ints}
 use Rattle.exo_tree.specs.Tree.{Index, Control, Lit, Var, Field, StrideOf, Neg, Add, Sub, Mul, Div}
 use Rattle.exo_tree.specs.Tree.{Mod, Eq, Le, Lt, Gt, Statement, For, Block, end, next, statements}
 use Rattle.exo_tree.specs.Context.{Context, Here, InLoop, InThen}
@@ -54,6 +52,7 @@ use Rattle.loop_laws.proofs.Sites.{block_of, loop_of_is, on_loop, of_found, ther
 use Rattle.loop_laws.proofs.Sites.{new_is_free, own_is_free, variable_is_other, loop_is_made, body_keeps}
 use Rattle.loop_laws.proofs.Sites.{loop_keeps, formed_here, found_scope, LoopLacks, loop_lacks}
 use Rattle.loop_laws.proofs.Sites.{lacking_loop, given_unused}
+use Rattle.loop_laws.proofs.Turns.{le_of, is_none}
 
 -- ---- what is read
 
@@ -62,11 +61,8 @@ pub record IsDivisible (by : ℤ) (b : Block) (l : Loop) : Type 0 where
   pub found : loop_of b ≡ Some l
   pub lo : l.lo ≡ Lit (pos 0)
 
-no_turns : (n : ℤ) → int_eq n (pos 0) ≡ true → n ≡ pos 0
-no_turns n h = grind (arith, ints)
-
 zero_is : (e : Control) → is_zero e ≡ true → e ≡ Lit (pos 0)
-zero_is (Lit n) h = ap Lit (no_turns n h)
+zero_is (Lit n) h = ap Lit (is_none n h)
 zero_is (Var x) h = cc
 zero_is (Field f) h = cc
 zero_is (StrideOf x k) h = cc
@@ -96,9 +92,6 @@ divisible_is by b l h = by_test (int_le (pos 1) by) refl (loop_of b) refl h
           found = found ∙ ap Some f.0;
           lo = ap (λ (z : Loop). z.lo) (sym f.0) ∙ f.1;
         }
-
-le_of : (a b : ℤ) → int_le a b ≡ true → a ≤ℤ b
-le_of a b h = omega (arith, ints)
 
 -- ---- new ids
 

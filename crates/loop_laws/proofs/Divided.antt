@@ -34,7 +34,7 @@ use Rattle.loop_laws.proofs.Quotients as quotient
 use Rattle.loop_laws.proofs.SameTurns.{own_names, turns_stay, left_twice, substituted_turn}
 use Rattle.loop_laws.proofs.SameTurns.{moved_loop, grouped_loop}
 use Rattle.loop_laws.proofs.Sites.{block_of, may_copy_there}
-use Rattle.loop_laws.proofs.Turns.{range_append, guarded_turns}
+use Rattle.loop_laws.proofs.Turns.{less_zero, range_append, guarded_turns}
 
 -- the ids of the two new loops
 abbrev pub is_made : ℕ → ℕ → Bool
@@ -137,7 +137,7 @@ module _ (world : World) (k : ℕ) (a b : List ℕ) (tail : Tail) (l : Loop) (ba
   old_is =
       then_some (turns go (turns_of s.scene l.lo l.hi) s)
       ∙ ap (λ z. turns go (turns_of s.scene z l.hi) s) may.lo
-      ∙ ap (λ z. turns go (range (pos 0) (count z)) s) (quotient.less_zero last)
+      ∙ ap (λ z. turns go (range (pos 0) (count z)) s) (less_zero last)
 
   abbrev full : ℕ
   full = count (int_div_euclid last (pos c)) * c
@@ -244,7 +244,7 @@ module _ (world : World) (k : ℕ) (a b : List ℕ) (tail : Tail) (l : Loop) (ba
         → run world (block_of l) s ≡ run world (joined (whole_groups d l base) made) s
     behind_is made same =
         let r : count (rest -ℤ pos 0) ≡ parts.rest =
-        ap count (quotient.less_zero rest ∙ parts.rest_is) in
+        ap count (less_zero rest ∙ parts.rest_is) in
         old_is
         ∙ ap (λ ns. turns go ns s)
         (range_append (pos 0) full parts.rest (count last) parts.count_is)
@@ -276,7 +276,7 @@ module _ (world : World) (k : ℕ) (a b : List ℕ) (tail : Tail) (l : Loop) (ba
         none_left : (z : ℤ) (n : ℕ) → z ≡ pos n → int_lt (pos 0) z ≡ false → count (z -ℤ pos 0) ≡ 0
         none_left z n is h =
             let empty : n ≡ 0 = none n (ap (int_lt (pos 0)) (sym is) ∙ h) in
-            ap count (quotient.less_zero z ∙ is ∙ ap pos empty)
+            ap count (less_zero z ∙ is ∙ ap pos empty)
           where
             none : (n : ℕ) → int_lt (pos 0) (pos n) ≡ false → n ≡ 0
             none n h = grind (arith, ints)

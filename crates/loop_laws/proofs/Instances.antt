@@ -1,20 +1,22 @@
 -- The laws on closed procedures, and what they do.
 use Rattle.std.proofs.Common.{◌≡◌, ◌≤ℤ◌, ℕ, ℤ, pos, negsuc, ◌+ℤ◌, List, []}
-use Rattle.std.proofs.Common.{◌∷◌, ◌++◌, Option, Some, None, option_map, refl, arith}
-use Rattle.std.specs.Prelude.{codes}
+use Rattle.std.proofs.Common.{◌∷◌, ◌++◌, ◌==◌, Bool, true, false, cond, Option, Some, None, option_map}
+use Rattle.std.proofs.Common.{refl, subst, arith}
+use Rattle.std.specs.Prelude.{codes, IsSome}
 use Rattle.std.specs.Int.{int_wrap}
 use Rattle.std.proofs.lemmas.Int.{ints}
 use Rattle.std.proofs.lemmas.List.Elements.{All-from_recursion}
-use Rattle.exo_tree.specs.Tree.{I32, Condition, Var, Sub, Le, Eq, Mod, Block}
-use Rattle.exo_tree.specs.Tree.{Procedure}
+use Rattle.exo_tree.specs.Tree.{I32, Condition, Var, Add, Sub, Le, Eq, Mod, Block, Procedure}
 use Rattle.exo_meaning.specs.Value.{Value, Undefined, Number}
-use Rattle.exo_meaning.specs.Scene.{whole, updated}
+use Rattle.exo_meaning.specs.Scene.{Seen, whole, updated, then_do}
 use Rattle.exo_meaning.specs.State.{State}
-use Rattle.exo_meaning.specs.Run.{program_world, run, tensor}
+use Rattle.exo_meaning.specs.Run.{program_world, run, turn, turns, range, tensor}
 use Rattle.exo_meaning.specs.Inputs.{Refines}
 use Rattle.exo_meaning.specs.Orders.{Each}
 use Rattle.exo_meaning.specs.Units.{IsUnit}
 use Rattle.meaning_laws.specs.Facts.{Holds}
+use Rattle.meaning_laws.specs.Sound.{IsSound}
+use Rattle.meaning_laws.proofs.Parts.{some_injective}
 use Rattle.affine_forms.specs.Affine.{HasNoIntegerPoint, dot}
 use Rattle.affine_systems.specs.Outcomes.{Owed}
 use Rattle.cursor_forward.specs.Cursors.{Before}
@@ -29,9 +31,11 @@ use Rattle.step_rules.specs.Laws.{NeedsHold, MeaningLaw, ForwardsLaw}
 use Rattle.loop_laws.specs.CutLoop.{cut, cut_needs, cut_rule}
 use Rattle.loop_laws.specs.DivideLoop.{Tail, Guard, Cut, CutAndGuard, Perfect, Division, divided}
 use Rattle.loop_laws.specs.DivideLoop.{divide_shifts, divide_rule}
+use Rattle.loop_laws.specs.SameTurns.{MovedLoop}
+use Rattle.loop_laws.specs.Turns.{Turn, between, CutTurns, up_to, GuardedTurns}
 use Rattle.loop_laws.proofs.CutLoop.{cut_is_lawful, cut_is_carrying}
 use Rattle.loop_laws.proofs.DivideLoop.{divide_is_lawful, divide_is_carrying}
-use Rattle.loop_laws.proofs.Examples.{target_of, stores, number, on_loop, z, f}
+use Rattle.loop_laws.proofs.Examples.{target_of, loop, stores, number, on_loop, z, f}
 
 -- ---- z is a procedure of a unit
 
@@ -296,3 +300,50 @@ none_of_f = refl
 
 pub tail_faults : leaves f with_tail (starts (pos 1) 1 (pos 1)) 1 (pos 0) ≡ None
 tail_faults = refl
+
+pub tail_forwards : ForwardsLaw → Forwards (move_of tail_plan.edits) z tail_plan.proc
+tail_forwards law =
+    law (divide_rule (division (pos 3) Cut)) (target_of z) (at_index 0) tail_plan
+    (divide_is_carrying (division (pos 3) Cut)) z_is_target tail_planned
+
+-- ---- turns
+
+abbrev first_of_z : State
+first_of_z = starts (pos 0) 0 (pos 16)
+
+-- its only buffer is there
+first_is_sound : IsSound first_of_z
+first_is_sound = record { tidy = λ x e at. refl; seen = λ x seen e. go (x == 0) seen e }
+  where
+    go : (t : Bool) (seen : Seen)
+        → cond t (Some (record { buffer = 0; sides = whole (pos 16 ∷ []) })) None ≡ Some seen
+        → IsSome (first_of_z.scene.buffers seen.buffer)
+    go true seen e =
+        subst (λ (s : Seen). IsSome (first_of_z.scene.buffers s.buffer))
+        (some_injective (record { buffer = 0; sides = whole (pos 16 ∷ []) }) seen e) refl
+    go false seen e = cc
+
+abbrev turn_of_z : Turn
+turn_of_z = turn 1 (run (program_world (target_of z).unit) loop_of_z.body)
+
+pub turns_cut : CutTurns
+    → turns turn_of_z (between (pos 0) (pos 16)) first_of_z
+    ≡ then_do (turns turn_of_z (between (pos 0) (pos 5)) first_of_z)
+    (turns turn_of_z (between (pos 5) (pos 16)))
+turns_cut law =
+    law turn_of_z (pos 0) (pos 5) (pos 16) first_of_z (omega (arith, ints)) (omega (arith, ints))
+
+pub turns_guarded : GuardedTurns
+    → turns (up_to (pos 13) turn_of_z) (range (pos 0) 16) first_of_z
+    ≡ turns turn_of_z (range (pos 0) 13) first_of_z
+turns_guarded law = law turn_of_z (pos 13) 16 first_of_z (omega arith)
+
+-- for i in seq(0, 5): x[3 + i] = 1
+pub loop_moved : MovedLoop
+    → run (program_world (target_of z).unit)
+    (loop 1 (codes "i") (number 0) (number 5) (stores 0 (Add (number 3) (Var 1)) 1)) first_of_z
+    ≡ turns turn_of_z (range (pos 3) 5) first_of_z
+loop_moved law =
+    law (program_world (target_of z).unit) loop_of_z.binder (number 0) (number 5)
+    (Add (number 3) (Var 1)) loop_of_z.body (pos 3) first_of_z first_is_sound (refl, refl)
+    (λ t n h. refl)

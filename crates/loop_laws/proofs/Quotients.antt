@@ -7,15 +7,10 @@ use Rattle.std.proofs.Math.IntN.{*ℤ_comm, pos-*ℤ-pos}
 use Rattle.std.proofs.lemmas.Nat.{div-add-mod', mod_below}
 use Rattle.std.proofs.lemmas.Int.{ints}
 use Rattle.exo_meaning.specs.Run.{count}
+use Rattle.loop_laws.proofs.Turns.{is_none}
 
 pos_same : (m n : ℕ) → pos m ≡ pos n → m ≡ n
 pos_same m n e = omega (arith, ints)
-
-is_none : (z : ℤ) → int_eq z (pos 0) ≡ true → z ≡ pos 0
-is_none z h = grind (arith, ints)
-
-pub less_zero : (z : ℤ) → z -ℤ pos 0 ≡ z
-less_zero z = omega (arith, ints)
 
 -- whole groups where nothing is left
 pub whole_groups : (z : ℤ) (c : ℕ) → int_eq (int_rem_euclid z (pos c)) (pos 0) ≡ true

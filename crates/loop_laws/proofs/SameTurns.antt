@@ -1,8 +1,7 @@
 -- Loops whose turns are those of another loop.
 use Rattle.std.proofs.Common.{◌≡◌, ℕ, ℤ, pos, ◌+ℤ◌, ◌-ℤ◌, ◌*ℤ◌, ◌==◌, Bool, true, false, cond}
-use Rattle.std.proofs.Common.{List, Option, Some, None, IfSome, option_map, refl, sym, ap, ◌∙◌, arith}
+use Rattle.std.proofs.Common.{List, Option, Some, None, IfSome, option_map, refl, sym, ap, ◌∙◌}
 use Rattle.std.proofs.Math.Path.{fun_ext}
-use Rattle.std.proofs.lemmas.Int.{ints}
 use Rattle.exo_tree.specs.Tree.{Binder, Control, Lit, Block}
 use Rattle.exo_tree.specs.Substitution.{in_block}
 use Rattle.exo_meaning.specs.Scene.{Shape, number}
@@ -21,7 +20,8 @@ use Rattle.scope_laws.proofs.Scopes.{left_same_but}
 use Rattle.loop_laws.specs.Turns.{Turn, group}
 use Rattle.loop_laws.specs.SameTurns.{MayStandIn, at_turn, SubstitutedTurn, IsMovedBy, MovedLoop}
 use Rattle.loop_laws.specs.SameTurns.{AreGroupsOf, GroupedLoop}
-use Rattle.loop_laws.proofs.Turns.{turns_alike, turns_keep, moved_turns, grouped_turns}
+use Rattle.loop_laws.proofs.Turns.{less_zero, turns_alike, turns_keep, moved_turns}
+use Rattle.loop_laws.proofs.Turns.{grouped_turns}
 
 -- ---- states with the same names
 
@@ -118,9 +118,6 @@ left_twice t v o same = go o
         (fun_ext (λ x. fun_ext (λ at.
         ap (λ (f : ℕ → Option Shape). kept (t.scene.buffers x) (kept (f x) (u.cells x)) at) same
         ∙ kept_twice (t.scene.buffers x) (u.cells x) at)))
-
-less_zero : (z : ℤ) → z -ℤ pos 0 ≡ z
-less_zero z = omega (arith, ints)
 
 module _ (world : World) (go : Turn) (a j : Binder) (c : ℕ) (b : Block) (s : State)
     (are : AreGroupsOf world go a.id j.id c b s) where

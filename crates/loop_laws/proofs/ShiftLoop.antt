@@ -4,7 +4,7 @@ use Rattle.std.proofs.Common.{[], length, Option, Some, None, refl, sym, ap, ap�
 use Rattle.std.proofs.Common.{eq-eqb}
 use Rattle.std.specs.Prelude.{◌-ℤ◌}
 use Rattle.std.proofs.lemmas.Int.{ints}
-use Rattle.exo_tree.specs.Tree.{Index, Control, Var, Add, Sub, For, Block, end, next}
+use Rattle.exo_tree.specs.Tree.{Index, Control, Var, Add, Sub, For, end}
 use Rattle.exo_tree.specs.Substitution.{replacing, in_block}
 use Rattle.exo_meaning.specs.Scene.{number}
 use Rattle.exo_meaning.specs.State.{State}

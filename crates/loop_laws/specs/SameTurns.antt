@@ -1,5 +1,6 @@
 -- Loops whose turns are those of another loop, with an expression for its variable.
-use Rattle.std.specs.Prelude.{◌≡◌, ℕ, ◌*◌, ℤ, pos, ◌+ℤ◌, ◌-ℤ◌, ◌*ℤ◌, Bool, true, false, None, option_map}
+use Rattle.std.specs.Prelude.{◌≡◌, ℕ, ◌*◌, ℤ, pos, ◌+ℤ◌, ◌-ℤ◌, ◌*ℤ◌, Bool, true, false}
+use Rattle.std.specs.Prelude.{None, option_map}
 use Rattle.exo_tree.specs.Tree.{Binder, Control, Lit, Block}
 use Rattle.exo_tree.specs.Substitution.{in_block}
 use Rattle.exo_meaning.specs.Scene.{number}

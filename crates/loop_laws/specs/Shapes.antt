@@ -51,8 +51,8 @@ from_zero l = if is_zero l.lo then Some l else None
 abbrev pub listed : {T : Type 0} → (Block → Option Loop) → (Loop → List T) → Spot → List T
 listed read list s = elim (read s.opened.piece) [ None ↦ [] | Some l ↦ list l ]
 
--- a rule on the loop that is read of a block: what stands for it, by the first new id, and where its
--- statements go. It refuses nothing but the shape, and needs nothing to be shown
+-- a rule on the loop that is read of a block: what stands for it, by the first new id, and where
+-- its statements go. It refuses nothing but the shape, and needs nothing to be shown
 abbrev pub loop_rule :
     (Block → Option Loop) → (Loop → ℕ → Block) → (Loop → List Shift) → Rule
 loop_rule read make shifts =
