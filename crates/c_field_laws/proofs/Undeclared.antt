@@ -4,7 +4,6 @@ use Rattle.std.specs.Prelude.{IfSome}
 use Rattle.exo_tree.specs.Tree.{Statement, Assign, Reduce, Config, Pass, If, For, Alloc, View, Call, Block, end, next, Procedure, Program}
 use Rattle.exo_tree.specs.Calls.{calls, is_call_of}
 use Rattle.exo_meaning.specs.Scene.{where_true}
-use Rattle.exo_meaning.specs.State.{State}
 use Rattle.exo_meaning.specs.Run.{run, kinds_of, program_world}
 use Rattle.exo_meaning.specs.Inputs.{all_have_extents}
 use Rattle.exo_meaning.specs.Units.{IsUnit}
@@ -122,8 +121,7 @@ module _ (program : Program) (what : List Printing) (f : ℕ) (unit : IsUnit pro
 
   clear : (i : ℕ) (p : Procedure) → slice_get program.procedures i ≡ Some p → counted_here (zero + i) ≡ true → IsClear counted_here f p
   clear i p e c =
-      let here : zero + i ≡ i = omega arith in
-      (
+      let here : zero + i ≡ i = omega arith in (
         (neither (in_conditions f p.asserts) (in_block f p.body) (not_used i p e c)).1,
         λ j u. closed_is_closed (λ q. true) (is_listed what) program.procedures i j p (λ l m q g d. calls_before program.fields (length program.memories) program.procedures l m q unit.procedures g d) e (ap counted_here (sym here) ∙ c) refl u,
       )

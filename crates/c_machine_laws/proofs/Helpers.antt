@@ -1,5 +1,5 @@
 -- C's division by a divisor from 1 on, taken one down where something is left below 0.
-use Rattle.std.proofs.Common.{◌≡◌, ◌∙◌, ℕ, ℤ, pos, negsuc, zero, suc, ◌+◌, ◌*◌, ◌/◌, ◌%◌, ◌-◌, ◌<◌, ◌≤◌, ◌≤ℤ◌, ◌+ℤ◌, ◌-ℤ◌, true, false, Bool, refl, ap, sym, subst, arith, mod-lt}
+use Rattle.std.proofs.Common.{◌≡◌, ◌∙◌, ℕ, ℤ, pos, negsuc, zero, suc, ◌+◌, ◌*◌, ◌/◌, ◌%◌, ◌-◌, ◌<◌, ◌≤◌, ◌+ℤ◌, ◌-ℤ◌, true, false, Bool, refl, ap, sym, subst, arith, mod-lt}
 use Rattle.std.specs.Prelude.{int_lt, int_div, int_rem, neg_ℤ, not, if◌then◌else◌}
 use Rattle.std.specs.Ordering.{int_eq}
 use Rattle.std.proofs.lemmas.Bool.Decides.{Decides-int_eq}
@@ -7,8 +7,8 @@ use Rattle.std.specs.Int.{int_div_euclid, int_rem_euclid}
 use Rattle.std.proofs.lemmas.Int.{ints}
 use Rattle.std.proofs.Math.Arith.{digits_div, digits_mod}
 use Rattle.std.proofs.Math.Nat.{div-add-mod', div-le_self}
-use Rattle.c_machine.specs.Machine.{Outcome, Done, after, where_good, fits64, checked}
-use Rattle.c_machine_laws.specs.Helpers.{divided, left, exo_div, exo_mod, HelpersRoundDown}
+use Rattle.c_machine.specs.Machine.{Done, after, where_good, fits64, checked}
+use Rattle.c_machine_laws.specs.Helpers.{divided, exo_div, exo_mod, HelpersRoundDown}
 
 abbrev greatest : ℕ
 greatest = 9223372036854775807
@@ -78,8 +78,7 @@ of_natural : (a b : ℕ) → a ≤ greatest
     → (exo_div (pos a) (pos (suc b)) ≡ Done (pos (a / suc b))) × (exo_mod (pos a) (pos (suc b)) ≡ Done (pos (a % suc b)))
 of_natural a b h =
     let d : divided (pos a) (pos (suc b)) ≡ Done (pos (a / suc b)) = is_divided (pos a) b ∙ natural_fits (a / suc b) (omega (arith, div-le_self a (suc b))) in
-    let t : int_lt (pos (a % suc b)) (pos 0) ≡ false = grind (arith, ints) in
-    (
+    let t : int_lt (pos (a % suc b)) (pos 0) ≡ false = grind (arith, ints) in (
       quotient_stays (pos a) (pos (suc b)) (pos (a / suc b)) (pos (a % suc b)) d refl t,
       rest_stays (pos a) (pos (suc b)) (pos (a / suc b)) (pos (a % suc b)) d refl t,
     )
@@ -99,8 +98,7 @@ module _ (a b : ℕ) (fa : a ≤ greatest) (fb : b ≤ greatest) where
       let rest : a % suc b ≡ b = ap (λ n. n % suc b) (sym is) ∙ digits_mod k {m = suc b} {r = b} (omega arith) in
       let d : divided (negsuc a) (pos (suc b)) ≡ Done (negsuc k) = is_divided (negsuc a) b ∙ ap (λ n. checked (neg_ℤ (pos n))) e ∙ negative_fits k (omega arith) in
       let r : int_rem (negsuc a) (pos (suc b)) ≡ pos 0 = ap (λ n. neg_ℤ (pos n)) z in
-      let none : suc b - 1 - a % suc b ≡ 0 = omega arith in
-      (
+      let none : suc b - 1 - a % suc b ≡ 0 = omega arith in (
         quotient_stays (negsuc a) (pos (suc b)) (negsuc k) (pos 0) d r refl ∙ ap (λ n. Done (negsuc n)) (sym quotient),
         rest_stays (negsuc a) (pos (suc b)) (negsuc k) (pos 0) d r refl ∙ ap (λ n. Done (pos n)) (sym none),
       )
@@ -113,12 +111,11 @@ module _ (a b : ℕ) (fa : a ≤ greatest) (fb : b ≤ greatest) where
       let small : q ≤ a = subst (λ n. n ≤ a) quotient (div-le_self a (suc b)) in
       let d : divided (negsuc a) (pos (suc b)) ≡ Done (neg_ℤ (pos q)) = is_divided (negsuc a) b ∙ ap (λ n. checked (neg_ℤ (pos n))) e ∙ opposite_fits q (omega arith) in
       let left_is : int_rem (negsuc a) (pos (suc b)) ≡ negsuc r = ap (λ n. neg_ℤ (pos n)) z in
-      let raised : negsuc r +ℤ pos (suc b) ≡ pos (suc b - 1 - a % suc b) = grind (arith, ints) in
-      (
+      let raised : negsuc r +ℤ pos (suc b) ≡ pos (suc b - 1 - a % suc b) = grind (arith, ints) in (
         quotient_falls (negsuc a) (pos (suc b)) (neg_ℤ (pos q)) (negsuc r) d left_is refl
-        ∙ ap checked (one_less q) ∙ negative_fits q (omega arith) ∙ ap (λ n. Done (negsuc n)) (sym quotient),
+            ∙ ap checked (one_less q) ∙ negative_fits q (omega arith) ∙ ap (λ n. Done (negsuc n)) (sym quotient),
         rest_rises (negsuc a) (pos (suc b)) (neg_ℤ (pos q)) (negsuc r) d left_is refl
-        ∙ ap checked raised ∙ natural_fits (suc b - 1 - a % suc b) (omega arith),
+            ∙ ap checked raised ∙ natural_fits (suc b - 1 - a % suc b) (omega arith),
       )
 
   by_rest : (r : ℕ) → suc a % suc b ≡ r → suc a / suc b * suc b + r ≡ suc a → Both

@@ -1,11 +1,10 @@
 -- Closed runs at the ends of what numbers, cells and scopes hold.
-use Rattle.std.specs.Prelude.{◌≡◌, ℤ, pos, negsuc, List, [], ◌∷◌, map, codes}
+use Rattle.std.specs.Prelude.{◌≡◌, ℤ, pos, negsuc, [], ◌∷◌, codes}
 use Rattle.exo_tree.specs.Tree.{I8, I32}
 use Rattle.exo_meaning.specs.Value.{Value, Undefined, Number}
 use Rattle.c_tree.specs.CTree.{Name, Single, Number64, Literal, Named, Opposite, Sum, Difference, Product, Quotient, Less, InArray, Number32, Literal32, Read32, Opposite32, Relu32, Sum32, Product32, Select32, CStatement, Store, AddTo, Branch, Loop, Array, Malloc, CBlock, stop, first}
-use Rattle.c_machine.specs.Machine.{Outcome, Done, Fault, after, number64}
-use Rattle.c_machine.specs.CRun.{run_c}
-use Rattle.c_machine.specs.Examples.{bare, alone, computed, x, w, first_cell, called, hold}
+use Rattle.c_machine.specs.Machine.{Outcome, Done, Fault}
+use Rattle.c_machine.specs.Examples.{computed, x, w, first_cell, called, hold}
 
 -- ---- control numbers
 

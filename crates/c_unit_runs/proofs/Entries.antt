@@ -1,10 +1,10 @@
 -- What both runs cite.
-use Rattle.std.proofs.Common.{◌≡◌, ℕ, zero, suc, ℤ, pos, ◌*ℤ◌, ◌+ℤ◌, ◌≤ℤ◌, int_le, int_lt, Bool, true, false, cond, List, [], ◌∷◌, Option, Some, None, refl, sym, ap, ◌∙◌, arith, slice_get}
+use Rattle.std.proofs.Common.{◌≡◌, ℕ, zero, suc, ℤ, pos, ◌+ℤ◌, ◌≤ℤ◌, int_le, int_lt, Bool, true, false, List, [], ◌∷◌, Some, None, refl, arith, slice_get}
 use Rattle.std.proofs.lemmas.Int.{ints}
 use Rattle.std.proofs.lemmas.Bool.{and_parts}
 use Rattle.exo_meaning.specs.Value.{Undefined, Number}
 use Rattle.exo_meaning.specs.Scene.{is_below, where_true}
-use Rattle.exo_meaning.specs.Inputs.{IsIndex, offset}
+use Rattle.exo_meaning.specs.Inputs.{IsIndex}
 use Rattle.c_machine.specs.Machine.{Outcome, Done, Fault, NoStore, Machine}
 use Rattle.c_machine.specs.Examples.{bare}
 

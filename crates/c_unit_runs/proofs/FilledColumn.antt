@@ -1,5 +1,5 @@
 -- The run of a function on a column.
-use Rattle.std.proofs.Common.{◌≡◌, ◌^◌, ◌==◌, ℕ, zero, suc, ℤ, pos, ◌*ℤ◌, ◌+ℤ◌, ◌≤ℤ◌, Bool, true, false, ◌||◌, ◌&&◌, cond, List, [], ◌∷◌, Option, Some, None, refl, sym, ap, ◌∙◌, subst, arith, true≢false, eqb-true, nat_lt, slice_get}
+use Rattle.std.proofs.Common.{◌≡◌, ◌^◌, ◌==◌, ℕ, zero, suc, ℤ, pos, ◌*ℤ◌, ◌+ℤ◌, ◌≤ℤ◌, Bool, true, false, ◌||◌, ◌&&◌, cond, List, [], ◌∷◌, Some, None, refl, sym, ap, ◌∙◌, subst, arith, true≢false, eqb-true, nat_lt, slice_get}
 use Rattle.std.specs.Int.{int_wrap}
 use Rattle.std.proofs.lemmas.Int.{ints}
 use Rattle.exo_tree.specs.Tree.{I32, Procedure}
