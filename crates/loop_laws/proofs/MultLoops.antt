@@ -1,12 +1,12 @@
 -- The rule that makes one loop of two is lawful.
-use Rattle.std.proofs.Common.{◌≡◌, ◌≤◌, ℕ, zero, suc, ℤ, pos, negsuc, Bool, true, false, true≢false, cond}
-use Rattle.std.proofs.Common.{◌==◌, ◌||◌, if◌then◌else◌, List, [], ◌∷◌, length, Option, Some, None}
-use Rattle.std.proofs.Common.{option_map, refl, sym, ap, ap₂, ◌∙◌, subst, arith, eq-eqb, eqb-true}
+use Rattle.std.proofs.Common.{◌≡◌, ℕ, zero, suc, ℤ, pos, negsuc, Bool, true, false, true≢false, cond}
+use Rattle.std.proofs.Common.{◌==◌, ◌||◌, if◌then◌else◌, List, length, Option, Some, None}
+use Rattle.std.proofs.Common.{option_map, refl, sym, ap, ◌∙◌, subst, arith, eq-eqb, eqb-true}
 use Rattle.std.specs.Prelude.{int_le, nat_le, option_and_then}
 use Rattle.exo_tree.specs.Tree.{Index, Binder, Control, Lit, Var, Field, StrideOf, Neg, Add, Sub, Mul}
-use Rattle.exo_tree.specs.Tree.{Div, Mod, For, Block, end, next, statements}
+use Rattle.exo_tree.specs.Tree.{Div, Mod, For, Block, end, statements}
 use Rattle.exo_tree.specs.Context.{Context, Here, InLoop}
-use Rattle.exo_tree.specs.Places.{Opened, opened, parted}
+use Rattle.exo_tree.specs.Places.{Opened, parted}
 use Rattle.exo_tree.specs.Substitution.{replacing, in_block}
 use Rattle.exo_meaning.specs.State.{State}
 use Rattle.exo_meaning.specs.Run.{run}
@@ -31,7 +31,6 @@ use Rattle.loop_laws.specs.Shapes.{inside}
 use Rattle.loop_laws.specs.MultLoops.{Pair, positive_literal, with_count, loop_from_zero, pair_of}
 use Rattle.loop_laws.specs.MultLoops.{one_binder, body_at, multiplied, mult_shifts, shifts_of_pair}
 use Rattle.loop_laws.specs.MultLoops.{mult_rule}
-use Rattle.loop_laws.specs.SameTurns.{MayStandIn}
 use Rattle.loop_laws.proofs.Bones.{same_bones, same_length, all_parted}
 use Rattle.loop_laws.proofs.DivideLoop.{divisible_is}
 use Rattle.loop_laws.proofs.Multiplied.{catches_stay, MayMultiply, multiplied_same}
@@ -92,7 +91,7 @@ pair_is b p h =
     (from_zero_is k.body l second.1)
   where
     counted : {k l : Loop} (o : Option ℤ) → positive_literal l.hi ≡ o
-        → (elim o [ None ↦ None | Some n ↦ Some (record { outer = k; inner = l; by = n }) ]) ≡ Some p
+        → option_map (λ n. record { outer = k; inner = l; by = n }) o ≡ Some p
         → IsFromZero b k → IsFromZero k.body l → IsPair b p
     counted None e h outer inner = cc
     counted {k} {l} (Some n) e h outer inner =

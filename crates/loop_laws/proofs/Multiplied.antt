@@ -1,10 +1,10 @@
 -- The turns of a loop over a loop are turns of one loop, with a quotient and a remainder for the
 -- variables.
-use Rattle.std.proofs.Common.{◌≡◌, ◌<◌, ◌≤◌, ℕ, zero, suc, ◌+◌, ◌*◌, ◌%◌, ◌/◌, ℤ, pos, negsuc, ◌+ℤ◌}
+use Rattle.std.proofs.Common.{◌≡◌, ◌<◌, ◌≤◌, ℕ, zero, suc, ◌+◌, ◌*◌, ℤ, pos, negsuc, ◌+ℤ◌}
 use Rattle.std.proofs.Common.{◌*ℤ◌, ◌==◌, ◌||◌, Bool, true, false, true≢false, cond, List, [], ◌∷◌}
-use Rattle.std.proofs.Common.{Option, Some, None, IfSome, option_map, refl, sym, ap, ap₂, ◌∙◌, subst}
+use Rattle.std.proofs.Common.{Option, None, IfSome, option_map, refl, sym, ap, ap₂, ◌∙◌, subst}
 use Rattle.std.proofs.Common.{arith, eq-eqb, eqb-true, IsSome}
-use Rattle.std.specs.Prelude.{◌-ℤ◌, neg_ℤ, map}
+use Rattle.std.specs.Prelude.{◌-ℤ◌, neg_ℤ}
 use Rattle.std.specs.Int.{int_div_euclid, int_rem_euclid}
 use Rattle.std.proofs.Math.IntN.{pos-*ℤ-pos, negsuc-*ℤ-pos}
 use Rattle.std.proofs.Math.Nat.{mul_comm}
@@ -30,7 +30,7 @@ use Rattle.scope_laws.specs.UnrollLoop.{only_loop}
 use Rattle.scope_laws.specs.Unrolled.{HasNamesOf}
 use Rattle.scope_laws.proofs.Scopes.{left_same_but}
 use Rattle.loop_laws.specs.Turns.{Turn, group}
-use Rattle.loop_laws.specs.SameTurns.{MayStandIn, at_turn, nested}
+use Rattle.loop_laws.specs.SameTurns.{MayStandIn, at_turn}
 use Rattle.loop_laws.proofs.SameTurns.{own_names, if_left, left_twice, substituted}
 use Rattle.loop_laws.proofs.Turns.{grouped_turns}
 
