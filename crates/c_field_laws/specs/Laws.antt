@@ -1,6 +1,8 @@
 -- Fields that the C does not declare: nothing that is printed writes them.
-use Rattle.std.specs.Prelude.{◌≡◌, ℕ, pos, nat_lt, true, false, List, [], ◌∷◌, length, codes, Some, None, slice_get}
-use Rattle.exo_tree.specs.Tree.{Size, Lit, ControlArg, Config, end, next, ConfigField, Procedure, Program}
+use Rattle.std.specs.Prelude.{◌≡◌, ℕ, pos, nat_lt, true, false, List, [], ◌∷◌, length, codes, Some}
+use Rattle.std.specs.Prelude.{None, slice_get}
+use Rattle.exo_tree.specs.Tree.{Size, Lit, ControlArg, Config, end, next, ConfigField, Procedure}
+use Rattle.exo_tree.specs.Tree.{Program}
 use Rattle.exo_meaning.specs.State.{State}
 use Rattle.exo_meaning.specs.Run.{program_world}
 use Rattle.exo_meaning.specs.Inputs.{run_procedure}

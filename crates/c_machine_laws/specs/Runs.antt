@@ -2,7 +2,10 @@
 use Rattle.std.specs.Prelude.{◌≡◌, ℤ, pos, negsuc, [], ◌∷◌, codes}
 use Rattle.exo_tree.specs.Tree.{I8, I32}
 use Rattle.exo_meaning.specs.Value.{Value, Undefined, Number}
-use Rattle.c_tree.specs.CTree.{Name, Single, Number64, Literal, Named, Opposite, Sum, Difference, Product, Quotient, Less, InArray, Number32, Literal32, Read32, Opposite32, Relu32, Sum32, Product32, Select32, CStatement, Store, AddTo, Branch, Loop, Array, Malloc, CBlock, stop, first}
+use Rattle.c_tree.specs.CTree.{Name, Single, Number64, Literal, Named, Opposite, Sum, Difference}
+use Rattle.c_tree.specs.CTree.{Product, Quotient, Less, InArray, Number32, Literal32, Read32}
+use Rattle.c_tree.specs.CTree.{Opposite32, Relu32, Sum32, Product32, Select32, CStatement, Store}
+use Rattle.c_tree.specs.CTree.{AddTo, Branch, Loop, Array, Malloc, CBlock, stop, first}
 use Rattle.c_machine.specs.Machine.{Outcome, Done, Fault}
 use Rattle.c_machine.specs.Examples.{computed, x, w, first_cell, called, hold}
 

@@ -1,7 +1,9 @@
 -- The first example, from a text's procedure to what a call of its C leaves.
-use Rattle.std.specs.Prelude.{◌≡◌, ◌==◌, ℕ, ℤ, pos, true, false, if◌then◌else◌, List, [], ◌∷◌, map, codes, Option, Some, None}
+use Rattle.std.specs.Prelude.{◌≡◌, ◌==◌, ℕ, ℤ, pos, true, false, if◌then◌else◌, List, [], ◌∷◌, map}
+use Rattle.std.specs.Prelude.{codes, Option, Some, None}
 use Rattle.std.specs.Option.{IsSome}
-use Rattle.exo_tree.specs.Tree.{I32, Lit, Const, Read, Plus, Assign, end, next, Control, TensorParam, Procedure, Program}
+use Rattle.exo_tree.specs.Tree.{I32, Lit, Const, Read, Plus, Assign, end, next, Control}
+use Rattle.exo_tree.specs.Tree.{TensorParam, Procedure, Program}
 use Rattle.exo_meaning.specs.Value.{Value, Undefined, Number}
 use Rattle.exo_meaning.specs.Scene.{whole}
 use Rattle.exo_meaning.specs.State.{State}

@@ -1,5 +1,7 @@
--- A call from outside that hands a function a column: two cells of an object of four, two steps apart.
-use Rattle.std.specs.Prelude.{◌≡◌, ◌==◌, ℕ, pos, true, false, if◌then◌else◌, List, [], ◌∷◌, map, Option, Some, None}
+-- A call from outside that hands a function a column: two cells of an object of four, two steps
+-- apart.
+use Rattle.std.specs.Prelude.{◌≡◌, ◌==◌, ℕ, pos, true, false, if◌then◌else◌, List, [], ◌∷◌, map}
+use Rattle.std.specs.Prelude.{Option, Some, None}
 use Rattle.std.specs.Option.{IsSome}
 use Rattle.exo_tree.specs.Tree.{I32}
 use Rattle.exo_meaning.specs.Value.{Undefined, Number}

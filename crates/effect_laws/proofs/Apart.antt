@@ -248,9 +248,10 @@ module _ (laws : Laws) (u : Program) (p : Procedure) (may : MayRun u.fields (len
       are_apart shown h =
           let es = touched (program_world u) (modes_of u) o.piece (on_scene (with_turns k.first.loops ms) t) in
           let fs = touched (program_world u) (modes_of u) q.piece (on_scene (with_turns k.second.loops ns) t) in
-          let c = laws.clear (context_of u p path) order path (accesses_of u p k.first.path k.first.count) (accesses_of u p k.second.path k.second.count) v one other es fs known.1.kinds known.1.context shown (two_turns h) (covered_at k.first o ms first m_turns) (covered_at k.second q ns second n_turns) in
-          (each_weaken (IsClear one fs) (IsClear t.scene fs) es (clear_with t.scene one (same_buffers k.first.loops ms t.scene) fs) c.0,
-          each_weaken (IsClear one es) (IsClear t.scene es) fs (clear_with t.scene one (same_buffers k.first.loops ms t.scene) es) c.1)
+          let c = laws.clear (context_of u p path) order path (accesses_of u p k.first.path k.first.count) (accesses_of u p k.second.path k.second.count) v one other es fs known.1.kinds known.1.context shown (two_turns h) (covered_at k.first o ms first m_turns) (covered_at k.second q ns second n_turns) in (
+            each_weaken (IsClear one fs) (IsClear t.scene fs) es (clear_with t.scene one (same_buffers k.first.loops ms t.scene) fs) c.0,
+            each_weaken (IsClear one es) (IsClear t.scene es) fs (clear_with t.scene one (same_buffers k.first.loops ms t.scene) es) c.1,
+          )
 
 pub apart_is_met : Laws → ApartIsMet
 apart_is_met laws u p path k may shown s a t m n o q ok come same first second ms ns h = are_apart laws u p may path s a ok come t same k o q m n first second ms ns shown h

@@ -235,7 +235,6 @@ module _ (systems : SystemsLaw) (ctx : List Formula) (order : Order) (place : Pa
       (record { numbers = b.1.numbers; others = b.1.others; reached = subst (Reaches b.0 b.1.numbers) (sym at) b.1.reached })
       (right_of (past_all past_formula ctx) (past_order order) base low_these) systems keeps (left_of (past_all past_formula ctx) (past_order order) base low_these) a.2 b.2 met (b.3 may)
 
-
   each_clear : (xs : List Access) (r : Scene) (es fs : List Entry) → ((e : Entry) → IsCovered r xs e → IsClear s fs e) → Covers r xs es → Each (IsClear s fs) es
   each_clear xs r [] fs k h = tt
   each_clear xs r (e ∷ es) fs k h = (k e h.0, each_clear xs r es fs k h.1)

@@ -164,10 +164,13 @@ module _ (normal : NormalLaw) (fields : ℕ → Option Kind) (w : Words) (params
     where
       by_shape : (p : Place) → place scene x is ≡ Some p → (o : Option Shape) → scene.buffers p.buffer ≡ o → Covered (cell_uses w params modes at Reducing x is) (reduced_as p o)
       by_shape p e None k = tt
-      by_shape p e (Some shape) k = ((λ own there. (
-        ap (λ (q : Shape). q.cell) (some_injective own shape (sym (now.kept p.buffer own there) ∙ k)),
-        place_has x is (access_text w x is) Reducing p keeps e (is_there (first.buffers p.buffer) own there),
-      )), tt)
+      by_shape p e (Some shape) k = (
+        (λ own there. (
+          ap (λ (q : Shape). q.cell) (some_injective own shape (sym (now.kept p.buffer own there) ∙ k)),
+          place_has x is (access_text w x is) Reducing p keeps e (is_there (first.buffers p.buffer) own there),
+        )),
+        tt,
+      )
 
       go : (o : Option Place) → place scene x is ≡ o → Covered (cell_uses w params modes at Reducing x is) (reduced scene o)
       go None e = tt
@@ -196,11 +199,15 @@ module _ (normal : NormalLaw) (fields : ℕ → Option Kind) (w : Words) (params
   window_told x cs z keeps e = let g = window_given x cs z e in go g.0 g.2 g.3 (now.seen x g.0 g.1)
     where
       go : (seen : Seen) → z.buffer ≡ seen.buffer → narrowed scene seen.sides cs ≡ Some z.sides → IsTold first scope scene (at.parts x) seen → IsTold first scope scene (option_map (window_of cs) (at.parts x)) z
-      go seen b n (inl (part, i, sees)) = inl (window_of cs part, ap (option_map (window_of cs)) i, record {
-        root = b ∙ sees.root;
-        affine = joined_affine (names_in scope) part.coords cs sees.affine (coords_are_affine cs keeps);
-        sides = narrowed_sides scene part.coords cs z.sides (ap (λ ss. narrowed scene ss cs) (sym sees.sides) ∙ n);
-      })
+      go seen b n (inl (part, i, sees)) = inl (
+        window_of cs part,
+        ap (option_map (window_of cs)) i,
+        record {
+          root = b ∙ sees.root;
+          affine = joined_affine (names_in scope) part.coords cs sees.affine (coords_are_affine cs keeps);
+          sides = narrowed_sides scene part.coords cs z.sides (ap (λ ss. narrowed scene ss cs) (sym sees.sides) ∙ n);
+        },
+      )
       go seen b n (inr out) = inr (ap (option_map (window_of cs)) out.0, ap first.buffers b ∙ out.1)
 
   -- the buffer of a window is that of its name
@@ -398,11 +405,14 @@ module _ (normal : NormalLaw) (formulas : FormulaLaw) (fields : ℕ → Option K
     where
       go : (t : Bool) → is_plain_condition c ≡ t → Each (IsFirm scope s.scene) (with_fact t fact [])
       go false e = tt
-      go true e = ((λ v same. turn v (
-          let numbers : Scene = record s.scene { control = v.variable } in
-          met_is formulas scope v numbers (λ x. refl) (λ x k. subst (λ n. pos 0 ≤ℤ n) (sym (same x (flag_named (sort_in scope x) k))) (now.flags x k)) c (condition_is_affine fields scope c keeps e)
-          ∙ same_truth (flags_in scope) numbers s.scene (record { control = same; fields = λ f k. absurd (true≢false (sym k)); strides = λ x j k. absurd (true≢false (sym k)) }) (λ x k. same x (flag_named (sort_in scope x) k)) (λ f k. absurd (true≢false (sym k))) c (condition_is_affine fields scope c keeps e)
-          ∙ h)), tt)
+      go true e = (
+        (λ v same. turn v (
+            let numbers : Scene = record s.scene { control = v.variable } in
+            met_is formulas scope v numbers (λ x. refl) (λ x k. subst (λ n. pos 0 ≤ℤ n) (sym (same x (flag_named (sort_in scope x) k))) (now.flags x k)) c (condition_is_affine fields scope c keeps e)
+            ∙ same_truth (flags_in scope) numbers s.scene (record { control = same; fields = λ f k. absurd (true≢false (sym k)); strides = λ x j k. absurd (true≢false (sym k)) }) (λ x k. same x (flag_named (sort_in scope x) k)) (λ f k. absurd (true≢false (sym k))) c (condition_is_affine fields scope c keeps e)
+            ∙ h)),
+        tt,
+      )
 
   -- the bounds of a turn
   module _ (i : Binder) (lo hi : Control) (scope : Scope) (scene : Scene) (n : ℤ) (new : is_new scope i ≡ true) (low : is_control fields plainly scope lo ≡ true) (high : is_control fields plainly scope hi ≡ true) (within : IsFrom (number scene lo) (number scene hi) n) where

@@ -75,12 +75,15 @@ module _ (fields : ℕ → Option Kind) (memories : ℕ) (callees : ℕ → Opti
 
   whole_told : (scope : Scope) (x : Binder) (sort : Sort) (dims : List Control) → is_new scope x ≡ true → are_controls fields plainly scope dims ≡ true → now.views x.id ≡ Some (record { buffer = x.id; sides = whole (numbers now dims) }) → IsToldBy (with_name scope x sort) x.id (Some (whole_of x.id dims))
   whole_told scope x sort dims new plain v seen e =
-      let same = some_injective (record { buffer = x.id; sides = whole (numbers now dims) }) seen (sym v ∙ e) in
-      (whole_of x.id dims, refl, record {
-        root = ap (λ (z : Seen). z.buffer) (sym same);
-        affine = whole_affine scope (with_name scope x sort) (further scope x sort new) dims plain;
-        sides = ap (λ (z : Seen). z.sides) (sym same) ∙ whole_sides dims;
-      })
+      let same = some_injective (record { buffer = x.id; sides = whole (numbers now dims) }) seen (sym v ∙ e) in (
+        whole_of x.id dims,
+        refl,
+        record {
+          root = ap (λ (z : Seen). z.buffer) (sym same);
+          affine = whole_affine scope (with_name scope x sort) (further scope x sort new) dims plain;
+          sides = ap (λ (z : Seen). z.sides) (sym same) ∙ whole_sides dims;
+        },
+      )
 
   -- ---- windows
 
@@ -99,12 +102,15 @@ module _ (fields : ℕ → Option Kind) (memories : ℕ) (callees : ℕ → Opti
   window_part scope table x cs z h keeps e =
       let t = then_gives (now.views x) (λ seen. option_map (λ sides. record { buffer = seen.buffer; sides = sides }) (narrowed now seen.sides cs)) z e in
       let m = map_gives (narrowed now t.0.sides cs) (λ sides. record { buffer = t.0.buffer; sides = sides }) z t.2 in
-      let p = h t.0 t.1 in
-      (window_of cs p.0, ap (option_map (window_of cs)) p.1, record {
-        root = ap (λ (q : Seen). q.buffer) (sym m.2) ∙ p.2.root;
-        affine = joined_affine (names_in scope) p.0.coords cs p.2.affine (coords_affine scope cs keeps);
-        sides = ap (λ (q : Seen). q.sides) (sym m.2) ∙ narrowed_sides now p.0.coords cs m.0 (ap (λ ss. narrowed now ss cs) (sym p.2.sides) ∙ m.1);
-      })
+      let p = h t.0 t.1 in (
+        window_of cs p.0,
+        ap (option_map (window_of cs)) p.1,
+        record {
+          root = ap (λ (q : Seen). q.buffer) (sym m.2) ∙ p.2.root;
+          affine = joined_affine (names_in scope) p.0.coords cs p.2.affine (coords_affine scope cs keeps);
+          sides = ap (λ (q : Seen). q.sides) (sym m.2) ∙ narrowed_sides now p.0.coords cs m.0 (ap (λ ss. narrowed now ss cs) (sym p.2.sides) ∙ m.1);
+        },
+      )
 
   -- ---- on the way
 

@@ -73,11 +73,13 @@ module _ (u : Program) (p : Procedure) where
         let final = with_turns hs ns inner in
         let f = name_further scope h.binder (ControlName Index) scene inner q.0 (λ z i. ap (λ b. cond b n (scene.control z)) i) in
         let stays : (y : ℕ) → IsSome (sort_in scope y) → final.control y ≡ scene.control y = λ y k. names_stay hs ns more inner q.3 y (f.grows y k) ∙ f.control y k in
-        let own : final.control h.binder.id ≡ n = names_stay hs ns more inner q.3 h.binder.id (ap (λ b. is_some (cond b (Some (ControlName Index)) (sort_in scope h.binder.id))) (self h.binder.id)) ∙ ap (λ b. cond b n (scene.control h.binder.id)) (self h.binder.id) in
-        (record {
-          lower = λ v k. subst₂ (λ a b. a ≤ℤ b) (sym (bound_value final scope scene stays h.lo q.1 v k)) (sym own) t.0;
-          upper = λ v k. subst₂ (λ a b. a <ℤ b) (sym own) (sym (bound_value final scope scene stays h.hi q.2 v k)) t.1.0;
-        }, turns_within hs ns more inner q.3 t.1.1)
+        let own : final.control h.binder.id ≡ n = names_stay hs ns more inner q.3 h.binder.id (ap (λ b. is_some (cond b (Some (ControlName Index)) (sort_in scope h.binder.id))) (self h.binder.id)) ∙ ap (λ b. cond b n (scene.control h.binder.id)) (self h.binder.id) in (
+          record {
+            lower = λ v k. subst₂ (λ a b. a ≤ℤ b) (sym (bound_value final scope scene stays h.lo q.1 v k)) (sym own) t.0;
+            upper = λ v k. subst₂ (λ a b. a <ℤ b) (sym own) (sym (bound_value final scope scene stays h.hi q.2 v k)) t.1.0;
+          },
+          turns_within hs ns more inner q.3 t.1.1,
+        )
 
   -- ---- the number of each loop's variable
 

@@ -1,5 +1,6 @@
 -- Pieces whose conflicts have no integer point do not clash.
-use Rattle.std.specs.Prelude.{◌≡◌, ◌≤ℤ◌, ◌<ℤ◌, ℕ, ℤ, ◌==◌, Bool, true, false, List, IfSome, slice_get}
+use Rattle.std.specs.Prelude.{◌≡◌, ◌≤ℤ◌, ◌<ℤ◌, ℕ, ℤ, ◌==◌, Bool, true, false, List, IfSome}
+use Rattle.std.specs.Prelude.{slice_get}
 use Rattle.std.specs.List.{list_any}
 use Rattle.exo_tree.specs.Places.{Path}
 use Rattle.exo_meaning.specs.Scene.{Scene}
@@ -20,7 +21,8 @@ use Rattle.effect_laws.specs.Covers.{Covers, is_among}
 abbrev pub is_turn : List Turn → ℕ → Bool
 is_turn ts y = list_any (λ t. y == t.variable) ts
 
--- with these numbers for variables, whatever stands for other atoms, the variable is within its bounds
+-- with these numbers for variables, whatever stands for other atoms, the variable is within its
+-- bounds
 pub record IsWithin (numbers : ℕ → ℤ) (t : Turn) : Type 0 where
   pub lower : (v : Valuation) → v.variable ≡ numbers → value v t.lower ≤ℤ numbers t.variable
   pub upper : (v : Valuation) → v.variable ≡ numbers → numbers t.variable <ℤ value v t.upper

@@ -1,5 +1,6 @@
 -- The accesses of a piece cover what a run of it touches.
-use Rattle.std.specs.Prelude.{◌≡◌, ◌≤ℤ◌, ◌<ℤ◌, ◌⊎◌, ⊤, ℕ, ℤ, pos, ◌-ℤ◌, ◌==◌, ◌&&◌, Bool, true, false, List}
+use Rattle.std.specs.Prelude.{◌≡◌, ◌≤ℤ◌, ◌<ℤ◌, ◌⊎◌, ⊤, ℕ, ℤ, pos, ◌-ℤ◌, ◌==◌, ◌&&◌, Bool, true}
+use Rattle.std.specs.Prelude.{false, List}
 use Rattle.std.specs.Prelude.{[], ◌∷◌, length, map, Some, None, is_some, IsSome}
 use Rattle.std.specs.List.{list_any, list_all}
 use Rattle.exo_tree.specs.Tree as tree

@@ -1,16 +1,21 @@
--- A shown procedure, read and typed below items that hold what it names, is itself again, but for the ids of its binders. That its
+-- A shown procedure, read and typed below items that hold what it names, is itself again, but
+-- for the ids of its binders. That its
 -- text is read as its source tree stands in Laws; this says what that tree stands for.
-use Rattle.std.specs.Prelude.{◌≡◌, ℕ, Bool, true, false, List, [], ◌∷◌, ◌++◌, length, map, Some, None, slice_get}
+use Rattle.std.specs.Prelude.{◌≡◌, ℕ, Bool, true, false, List, [], ◌∷◌, ◌++◌, length, map, Some}
+use Rattle.std.specs.Prelude.{None, slice_get}
 pub use Rattle.exo_tree.specs.Calls.{calls, is_call_of}
-use Rattle.exo_tree.specs.Tree.{Statement, Assign, Reduce, Config, Pass, If, For, Alloc, View, Call, Block, end, next}
-use Rattle.exo_tree.specs.Tree.{ParamKind, ControlParam, TensorParam, WindowParam, Param, Procedure, Program}
+use Rattle.exo_tree.specs.Tree.{Statement, Assign, Reduce, Config, Pass, If, For, Alloc, View, Call}
+use Rattle.exo_tree.specs.Tree.{Block, end, next}
+use Rattle.exo_tree.specs.Tree.{ParamKind, ControlParam, TensorParam, WindowParam, Param, Procedure}
+use Rattle.exo_tree.specs.Tree.{Program}
 use Rattle.exo_meaning.specs.Renaming.{Renaming, re_controls, re_condition, re_binder, re_block}
 use Rattle.exo_meaning.specs.Calls.{Callee}
 use Rattle.exo_meaning.specs.Run.{program_world}
 use Rattle.exo_meaning.specs.Units.{IsUnit}
 use Rattle.exo_reader.specs.Source.{Item}
 use Rattle.exo_types.specs.ArgumentRules.{Signature, signature_of}
-use Rattle.exo_types.specs.UnitRules.{Above, nothing_above, signatures, after_item, after_items, item_fault, unit_fault, is_given}
+use Rattle.exo_types.specs.UnitRules.{Above, nothing_above, signatures, after_item, after_items}
+use Rattle.exo_types.specs.UnitRules.{item_fault, unit_fault, is_given}
 use Rattle.text_show_laws.specs.Written.{written}
 use Rattle.text_show_laws.specs.Writable.{IsWritable}
 
@@ -113,7 +118,8 @@ pub record StandsFor (above : Above) (i : Item) (to : ℕ → ℕ) (p : Procedur
       (after_item above i).program.procedures
       ≡ above.program.procedures ++ re_procedure ids to p ∷ []
 
--- below items that hold what it names, the source tree of a shown procedure stands for the procedure
+-- below items that hold what it names, the source tree of a shown procedure stands for the
+-- procedure
 abbrev pub ShownIsTheSame : Type 0
 ShownIsTheSame =
     (program : Program) (k : ℕ) (p : Procedure) (items : List Item)

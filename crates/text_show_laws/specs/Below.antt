@@ -1,5 +1,6 @@
 -- The shown text of a procedure in a text, behind that of the items that hold what it names.
-use Rattle.std.specs.Prelude.{◌≡◌, ℕ, List, [], ◌∷◌, ◌++◌, map, Some, None, slice_get, Result, MatchResult}
+use Rattle.std.specs.Prelude.{◌≡◌, ℕ, List, [], ◌∷◌, ◌++◌, map, Some, None, slice_get, Result}
+use Rattle.std.specs.Prelude.{MatchResult}
 use Rattle.text_phrases.specs.Text.{IsText}
 use Rattle.exo_tree.specs.Tree.{Procedure, Program}
 use Rattle.exo_meaning.specs.Renaming.{Renaming}
@@ -27,10 +28,14 @@ EndsLine (b ∷ c ∷ text) = EndsLine (c ∷ text)
 -- behind the text of some items, the shown text is read as its source tree, but for want of memory
 abbrev pub ShownIsReadBelow : Type 0
 ShownIsReadBelow = (program : Program) (k : ℕ) (p : Procedure) (text : List ℕ) (items : List Item)
-    → slice_get program.procedures k ≡ Some p → IsWritable program p → IsWithinItem (written program p)
+    → slice_get program.procedures k ≡ Some p
+    → IsWritable program p
+    → IsWithinItem (written program p)
     → IsText unit (tokens_of text) items → EndsLine text
     → (result : Result Source ReadError) → ReadsUnit (text ++ shown program k) result
-    → MatchResult result (λ s. map plain_item s.items.items ≡ items ++ written program p ∷ []) (λ e. e.kind ≡ Memory)
+    → MatchResult result
+    (λ s. map plain_item s.items.items ≡ items ++ written program p ∷ [])
+    (λ e. e.kind ≡ Memory)
 
 -- what is read breaks no rule, and stands for what the items stand for and behind that for the
 -- procedure with other ids, which calls what has these numbers
@@ -39,12 +44,17 @@ pub record StandsAgain (items read : List Item) (to : ℕ → ℕ) (p : Procedur
   pub ids : Renaming
   pub same : (unit_of read).procedures ≡ (unit_of items).procedures ++ re_procedure ids to p ∷ []
 
--- behind the text of items that hold what it names, the shown text of a procedure stands for the procedure, but for
+-- behind the text of items that hold what it names, the shown text of a procedure stands for the
+-- procedure, but for
 -- ids and numbers of procedures
 abbrev pub ShownStandsAgain : Type 0
 ShownStandsAgain = (program : Program) (k : ℕ) (p : Procedure) (text : List ℕ) (items : List Item)
-    → IsUnit program → slice_get program.procedures k ≡ Some p → IsWritable program p → IsWithinItem (written program p)
+    → IsUnit program
+    → slice_get program.procedures k ≡ Some p
+    → IsWritable program p → IsWithinItem (written program p)
     → IsText unit (tokens_of text) items → EndsLine text → unit_fault items ≡ None
     → (holds : HoldsWhatIsNamed (after_items nothing_above items) program p)
     → (result : Result Source ReadError) → ReadsUnit (text ++ shown program k) result
-    → MatchResult result (λ s. StandsAgain items (map plain_item s.items.items) holds.to p) (λ e. e.kind ≡ Memory)
+    → MatchResult result
+    (λ s. StandsAgain items (map plain_item s.items.items) holds.to p)
+    (λ e. e.kind ≡ Memory)

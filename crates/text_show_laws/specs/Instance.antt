@@ -1,7 +1,8 @@
 -- A closed unit with names of the grammar: a procedure that fills a window, one that calls it, and
 -- versions of both.
 use Rattle.std.specs.Prelude.{◌≡◌, ◌+◌, ℕ, pos, true, false, List, [], ◌∷◌, codes, Some, None}
-use Rattle.exo_tree.specs.Tree.{I32, Size, Binder, Lit, Var, Sub, At, Span, ControlArg, Window, Const}
+use Rattle.exo_tree.specs.Tree.{I32, Size, Binder, Lit, Var, Sub, At, Span, ControlArg, Window}
+use Rattle.exo_tree.specs.Tree.{Const}
 use Rattle.exo_tree.specs.Tree.{Assign, For, Call, Block, end, next, Param, ParamKind, ControlParam}
 use Rattle.exo_tree.specs.Tree.{TensorParam, WindowParam, Procedure, MemoryKind, Program}
 use Rattle.exo_meaning.specs.Units.{IsUnit}
@@ -69,7 +70,8 @@ dram = record {
   header = [];
 }
 
--- a procedure, one that calls it, a version of the first with other ids, and a version of the second
+-- a procedure, one that calls it, a version of the first with other ids, and a version of the
+-- second
 -- that calls the third
 abbrev pub unit : Program
 unit = record {
@@ -95,4 +97,5 @@ pub record NamesInstance : Type 0 where
 pub record VersionsInstance : Type 0 where
   pub keeps : unit_fault items ≡ None
   pub holds : HoldsWhatIsNamed (after_items nothing_above items) unit (column 2)
-  pub stands : StandsFor (after_items nothing_above items) (written unit (column 2)) holds.to (column 2)
+  pub stands :
+      StandsFor (after_items nothing_above items) (written unit (column 2)) holds.to (column 2)

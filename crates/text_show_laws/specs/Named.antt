@@ -1,7 +1,8 @@
 -- Units whose names are all of the grammar, with templates that a text can hold.
 use Rattle.std.specs.Prelude.{List}
 use Rattle.exo_tree.specs.Tree.{Statement, Assign, Reduce, Config, Pass, If, For, Alloc, View, Call}
-use Rattle.exo_tree.specs.Tree.{Block, end, next, Param, Procedure, ConfigField, MemoryKind, Program}
+use Rattle.exo_tree.specs.Tree.{Block, end, next, Param, Procedure, ConfigField, MemoryKind}
+use Rattle.exo_tree.specs.Tree.{Program}
 use Rattle.text_show_laws.specs.Names.{IsName, Each}
 use Rattle.text_show_laws.specs.Writable.{IsTemplate}
 
