@@ -45,8 +45,7 @@ pub record StandsAgain (items read : List Item) (to : ℕ → ℕ) (p : Procedur
   pub same : (unit_of read).procedures ≡ (unit_of items).procedures ++ re_procedure ids to p ∷ []
 
 -- behind the text of items that hold what it names, the shown text of a procedure stands for the
--- procedure, but for
--- ids and numbers of procedures
+-- procedure, but for ids and numbers of procedures
 abbrev pub ShownStandsAgain : Type 0
 ShownStandsAgain = (program : Program) (k : ℕ) (p : Procedure) (text : List ℕ) (items : List Item)
     → IsUnit program
