@@ -2,12 +2,12 @@
 use Rattle.std.proofs.Common.{◌≡◌, ◌==◌, ◌+◌, ℕ, zero, suc, Bool, true, false, ◌||◌, List, [], ◌∷◌}
 use Rattle.std.proofs.Common.{◌++◌, Option, Some, None, refl, sym, ap, ◌∙◌, subst, append_assoc}
 use Rattle.std.proofs.Common.{append-nil, map}
-use Rattle.std.specs.Prelude.{if◌then◌else◌, option_map, option_and_then}
+use Rattle.std.specs.Prelude.{if◌then◌else◌, option_map, option_and_then, slice_get}
 use Rattle.config_laws.specs.Differing as config
 use Rattle.config_laws.specs.Differing.{from_parent, parent_in, descends}
 use Rattle.cursor_forward.specs.Cursors.{Cursor}
-use Rattle.schedule_versions.specs.Versions.{Versions, configured}
-use Rattle.schedule_versions.specs.Places.{parent_at, stepped, forwarded}
+use Rattle.schedule_versions.specs.Versions.{Origin, Versions, configured}
+use Rattle.schedule_versions.specs.Places.{parent_at, stepped, forwarded, Place, brought, or_lost, CursorGone}
 use Rattle.schedule_run.specs.Roots.{root_in}
 use Rattle.schedule_run.specs.Ways.{way_to, along}
 
@@ -132,3 +132,20 @@ module _ (v : Versions) (from : ℕ) where
   descends_here zero k t = t
   descends_here (suc n) k t =
       ap (λ b. b || from_parent false (parent_in os k) (descends [] os from n)) t
+
+parents : (os : List Origin) (k : ℕ)
+    → parent_in (map configured os) k ≡ option_and_then (λ (o : Origin). o.parent) (slice_get os k)
+parents [] zero = refl
+parents [] (suc k) = refl
+parents (o ∷ os) zero = refl
+parents (o ∷ os) (suc k) = parents os k
+
+pub parent_is : (v : Versions) (k : ℕ) → parent_in (map configured v.origins) k ≡ parent_at v k
+parent_is v k = parents v.origins k
+
+-- where a cursor is brought, by the way
+pub brought_by : (v : Versions) (k : ℕ) (p : Place) (o : Option (List ℕ)) → o ≡ way_to v k p.version k
+    → brought v k p ≡ or_lost CursorGone (option_and_then (λ ks. along v ks p.cursor) o)
+brought_by v k p o e =
+    ap (or_lost CursorGone) (forwarded_along v k p.version k p.cursor)
+    ∙ ap (λ o. or_lost CursorGone (option_and_then (λ ks. along v ks p.cursor) o)) (sym e)

@@ -137,7 +137,7 @@ get_old (x ∷ xs) y (suc k) h = get_old xs y k (less h)
     less : suc k < suc (length xs) → k < length xs
     less h = omega arith
 
-get_last : {A : Type 0} (xs : List A) (y : A) → slice_get (xs ++ y ∷ []) (length xs) ≡ Some y
+pub get_last : {A : Type 0} (xs : List A) (y : A) → slice_get (xs ++ y ∷ []) (length xs) ≡ Some y
 get_last [] y = refl
 get_last (x ∷ xs) y = get_last xs y
 

@@ -62,7 +62,8 @@ impl Running {
         ensures runs { RunsLine (plain_line line.now) (versions_in self.old) (versions_in self.new) result }
         ensures running { OnOk result (IsRunning self.new) }
     {
-        match read_line(alloc, line)? {
+        let read = read_line(alloc, line)?;
+        match read {
             Ok(request) => self.perform(rt, alloc, &request, cache, gate),
             Err(LineFault::UnknownOperator) => Err(Why::UnknownOperator),
             Err(LineFault::BadArguments) => Err(Why::BadArguments),
