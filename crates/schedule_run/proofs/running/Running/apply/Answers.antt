@@ -19,7 +19,8 @@ returns-in_err-made-clause-performs g c =
     let call = call_of (plain_operation c.args.operation.now) in
     let k = c.in-Some.k.0 in
     let is : called v name call (version_of v c.args.of.now) ≡ stepped v name k (planned_of v call k) =
-    ap (called v name call) (sym c.in-Some.ensures) ∙ called_is v name k call (version_at v k) in
+    ap (λ n. called v name call (version_of v n)) (sym c.as_slice.ensures)
+    ∙ ap (called v name call) (sym c.in-Some.ensures) ∙ called_is v name k call (version_at v k) in
     performed_failed (called v name call (version_of v c.args.of.now)) v
     c.from_residual.result c.in_err-made.field-0.0 c.from_residual.ensures.1
     (says (λ y. planned_of v call k ≡ Not y) _ (λ y h. is ∙ ap (stepped v name k) h)
@@ -32,6 +33,7 @@ returns-clause-performs g c =
     let call = call_of (plain_operation c.args.operation.now) in
     let k = c.in-Some.k.0 in
     let is : called v name call (version_of v c.args.of.now) ≡ stepped v name k (planned_of v call k) =
-    ap (called v name call) (sym c.in-Some.ensures) ∙ called_is v name k call (version_at v k) in
+    ap (λ n. called v name call (version_of v n)) (sym c.as_slice.ensures)
+    ∙ ap (called v name call) (sym c.in-Some.ensures) ∙ called_is v name k call (version_at v k) in
     subst (λ (p : Progress). Performs p (versions_in c.add.new.self) c.add.result)
     (sym (is ∙ ap (stepped v name k) c.in_ok-made.ensures.made)) c.add.ensures.performs

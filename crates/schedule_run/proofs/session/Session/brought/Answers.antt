@@ -18,7 +18,29 @@ returns-in-None c =
     ∙ c.in_ok-way.ensures))
 
 pub returns-in-Some-along : goal.returns-in-Some-along
-returns-in-Some-along c = ?
+returns-in-Some-along c =
+    let v = versions c.args.self.now in
+    let place = plain_place c.args.place in
+    let numbers = λ (ks : List ProcId). map (λ (j : ProcId). j.0) ks in
+    let found : Some (plain_cursor c.in-Some-along.cursor) ≡ along v (numbers c.in-Some.way.items) place.cursor =
+    sym (ap (option_map plain_cursor) c.in-Some-along.is) ∙ c.along.ensures
+    ∙ ap (λ ks. along v (numbers ks) place.cursor) c.deref.ensures.value in
+    ap as_found
+    (brought_by v c.args.k.0 place (Some (numbers c.in-Some.way.items))
+    (sym (ap (option_map (λ ks. map (λ (j : ProcId). j.0) ks.items)) c.in-Some.is)
+    ∙ c.in_ok-way.ensures)
+    ∙ ap (or_lost CursorGone) (sym found))
 
-pub returns-in-None-along : goal.returns-in-None-along
-returns-in-None-along c = ?
+pub returns : goal.returns
+returns c =
+    let v = versions c.args.self.now in
+    let place = plain_place c.args.place in
+    let numbers = λ (ks : List ProcId). map (λ (j : ProcId). j.0) ks in
+    let found : None ≡ along v (numbers c.in-Some.way.items) place.cursor =
+    sym (ap (option_map plain_cursor) c.in-None-along.is) ∙ c.along.ensures
+    ∙ ap (λ ks. along v (numbers ks) place.cursor) c.deref.ensures.value in
+    ap as_found
+    (brought_by v c.args.k.0 place (Some (numbers c.in-Some.way.items))
+    (sym (ap (option_map (λ ks. map (λ (j : ProcId). j.0) ks.items)) c.in-Some.is)
+    ∙ c.in_ok-way.ensures)
+    ∙ ap (or_lost CursorGone) (sym found))

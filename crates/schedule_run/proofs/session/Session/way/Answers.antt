@@ -4,7 +4,7 @@ use Rattle.std.proofs.lemmas.List.{map-append}
 use Rattle.exo_tree.specs.declared.number.ProcId.{ProcId}
 use Rattle.schedule_run.specs.Ways.{way_to}
 use Rattle.schedule_run.specs.PlainVersions.{versions}
-use Rattle.schedule_run.proofs.Climbing.{way_up, behind}
+use Rattle.schedule_run.proofs.Climbing.{apart, way_up, behind}
 use Rattle.schedule_run.proofs.session.Session.way.Goals as goal
 
 pub loop-left-preserved : goal.loop-left-preserved
@@ -21,6 +21,6 @@ loop-left-preserved c =
     ∙ map-append (λ (j : ProcId). j.0) c.loop-left.way.items (c.loop-left.at ∷ []) in
     c.loop-left.invariant
     ∙ ap (option_map (λ (more : List ℕ). known ++ more))
-    (way_up v from left (left - 1) at c.in-Some.above.0 one c.if-at-from.false (sym c.in-Some.ensures))
+    (way_up v from left (left - 1) at c.in-Some.above.0 one (apart c.loop-left.at.0 c.args.from.0 c.if-at-from.false) (sym c.in-Some.ensures))
     ∙ behind v known at rest
     ∙ ap (λ ks. option_map (λ (more : List ℕ). ks ++ more) rest) (sym pushed)
