@@ -1,7 +1,7 @@
 -- From a version to those of which it was made.
-use Rattle.std.proofs.Common.{◌≡◌, ◌==◌, ◌+◌, ℕ, zero, suc, Bool, true, false, ◌||◌, List, [], ◌∷◌}
-use Rattle.std.proofs.Common.{◌++◌, Option, Some, None, refl, sym, ap, ◌∙◌, subst, append_assoc}
-use Rattle.std.proofs.Common.{append-nil, map, ◌<◌, take, get_or, length, arith, eqb-true}
+use Rattle.std.proofs.Common.{◌≡◌, ◌==◌, ℕ, zero, suc, Bool, true, false, ◌||◌, List, [], ◌∷◌}
+use Rattle.std.proofs.Common.{◌++◌, Option, Some, None, refl, sym, ap, ◌∙◌, append_assoc}
+use Rattle.std.proofs.Common.{map, ◌<◌, take, get_or, length, arith, eqb-true}
 use Rattle.std.specs.Prelude.{if◌then◌else◌, option_map, option_and_then, slice_get}
 use Rattle.std.proofs.lemmas.List.{map-append}
 use Rattle.exo_tree.specs.declared.number.ProcId.{ProcId}

@@ -9,9 +9,8 @@ use Rattle.step_rules.specs.Lawful.{IsTarget}
 use Rattle.cursor_forward.specs.PlainProposal.{plain_proposal}
 use Rattle.cursor_forward.specs.declared.proposal.Proposal.{Proposal}
 use Rattle.schedule_run.specs.Outcomes.{Makes}
-use Rattle.exo_tree.specs.Tree.{Procedure, Program}
+use Rattle.exo_tree.specs.Tree.{Procedure}
 use Rattle.exo_tree.specs.Places.{Path}
-use Rattle.bounds_check.specs.declared.error.CheckError.{CheckError}
 use Rattle.cursor_forward.specs.Cursors.{Cursor, Node, Range, Gap}
 use Rattle.cursor_forward.specs.Proposals.{Plan}
 use Rattle.cursor_forward.specs.PlainProposal.{cause_of}

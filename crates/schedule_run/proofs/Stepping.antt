@@ -12,7 +12,7 @@ use Rattle.step_rules.specs.Rule.{Tried}
 use Rattle.step_rules.specs.Rule as rule
 use Rattle.step_rules.specs.Answer.{proposed}
 use Rattle.tree_rules_laws.specs.Versions.{with_version}
-use Rattle.schedule_versions.specs.Versions.{Versions, with_step, version_at}
+use Rattle.schedule_versions.specs.Versions.{Versions, with_step}
 use Rattle.schedule_versions.specs.Places.{Sought, Got, Lost}
 use Rattle.schedule_versions.specs.Lines.{Progress, Went, Refused, UnknownName, target, owed_for}
 use Rattle.schedule_versions.specs.Lines.{shown_step, checked_step, proposed_step, Ruled, Call}

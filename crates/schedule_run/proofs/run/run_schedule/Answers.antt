@@ -1,4 +1,4 @@
-use Rattle.std.proofs.Common.{◌≡◌, ◌≤◌, ◌<◌, List, map, drop, length, get_or, sym, ap, subst, arith}
+use Rattle.std.proofs.Common.{◌≤◌, ◌<◌, List, map, length, sym, subst, arith}
 use Rattle.exo_tree.specs.PlainUnit.{program}
 use Rattle.schedule_text.specs.Tree as tree
 use Rattle.schedule_text.specs.Views.{plain_line}
@@ -14,11 +14,11 @@ returns-in-Err-run_line-clause-exact g c =
     let items = c.args.lines.now in
     let k = c.loop-index.index in
     let lines = map plain_line items in
-    let line = get_or items k c.index-lines-index.result in
+    let line = c.index-lines-index.result in
     let less : k < length items = omega (arith, c.loop-index-test.true) in
     refused_runs k lines (plain_line line) (started (program c.args.unit) c.args.shown)
     (versions_in c.loop-index.running) lines c.in-Err-run_line.why
-    (dropped plain_line items k line (ap (get_or items k) c.index-lines-index.is) less)
+    (dropped plain_line items k line c.index-lines-index.is less)
     c.loop-index.invariant.rest c.in-Err-run_line.ensures.runs
 
 pub loop-index-preserved : goal.loop-index-preserved
@@ -26,14 +26,14 @@ loop-index-preserved g c =
     let items = c.args.lines.now in
     let k = c.loop-index.index in
     let lines = map plain_line items in
-    let line = get_or items k c.index-lines-index.result in
+    let line = c.index-lines-index.result in
     let less : k < length items = omega (arith, c.loop-index-test.true) in
     record {
       running = c.in_default.ensures.running;
       rest = λ end h.
           c.loop-index.invariant.rest end
           (goes_on k lines (plain_line line) (versions_in c.loop-index.running)
-          (dropped plain_line items k line (ap (get_or items k) c.index-lines-index.is) less)
+          (dropped plain_line items k line c.index-lines-index.is less)
           _ end c.in_default.ensures.runs h);
     }
 

@@ -1,6 +1,5 @@
 use Rattle.std.proofs.Common.{◌∷◌, [], ◌++◌, false, sym, subst}
 use Rattle.std.specs.Prelude.{replicate}
-use Rattle.exo_tree.specs.Tree.{block}
 use Rattle.exo_tree.specs.PlainProcedure.{procedure}
 use Rattle.meaning_laws.specs.Fields.{writes_field}
 use Rattle.config_state.specs.FieldSets.{Marked, in_table}

@@ -1,4 +1,4 @@
-use Rattle.std.proofs.Common.{◌≡◌, ◌∷◌, [], ◌++◌, ◌+◌, map, take, length, ap, sym, ◌∙◌, subst}
+use Rattle.std.proofs.Common.{◌∷◌, [], ◌++◌, map, take, length, sym, subst}
 use Rattle.exo_tree.specs.PlainProcedure.{procedure}
 use Rattle.schedule_run.specs.Running.{AreWrites}
 use Rattle.schedule_run.proofs.Lists.{taken_mapped}

@@ -1,7 +1,6 @@
-use Rattle.std.proofs.Common.{◌≡◌, ◌+◌, ◌++◌, ◌∷◌, [], suc, length, Some, map, sym, ap, ◌∙◌, subst}
+use Rattle.std.proofs.Common.{◌≡◌, ◌+◌, ◌++◌, ◌∷◌, [], suc, length, Some, map, sym, ap, ◌∙◌}
 use Rattle.std.specs.Prelude.{slice_get}
-use Rattle.exo_tree.specs.Tree.{Procedure, Program}
-use Rattle.exo_tree.specs.PlainProcedure.{procedure}
+use Rattle.exo_tree.specs.Tree.{Program}
 use Rattle.exo_tree.specs.PlainUnit.{program}
 use Rattle.affine_systems.specs.Outcomes.{plain_obligation}
 use Rattle.bounds_check.specs.Obligations.{list_fault}

@@ -1,11 +1,10 @@
 use Rattle.std.proofs.Common.{◌≡◌, sym, ap, ◌∙◌, subst}
 use Rattle.schedule_calls.specs.PlainRequest.{plain_operation}
 use Rattle.schedule_versions.specs.Versions.{version_of, version_at}
-use Rattle.schedule_versions.specs.Lines.{Progress, Refused, called}
+use Rattle.schedule_versions.specs.Lines.{Progress, called}
 use Rattle.schedule_operators.specs.Operators.{call_of}
-use Rattle.cursor_forward.specs.PlainProposal.{plain_proposal}
 use Rattle.schedule_run.specs.Outcomes.{Performs}
-use Rattle.schedule_run.specs.Planned.{Not, Got, planned_of, stepped}
+use Rattle.schedule_run.specs.Planned.{Not, planned_of, stepped}
 use Rattle.schedule_run.specs.Running.{versions_in}
 use Rattle.schedule_run.proofs.Going.{performed_failed}
 use Rattle.schedule_run.proofs.Plans.{says}

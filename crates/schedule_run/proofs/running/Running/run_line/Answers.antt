@@ -1,4 +1,4 @@
-use Rattle.std.proofs.Common.{sym, subst}
+use Rattle.std.proofs.Common.{subst}
 use Rattle.schedule_text.specs.Views.{plain_line}
 use Rattle.schedule_calls.specs.Answers.{IsAnswer}
 use Rattle.schedule_calls.specs.PlainRequest.{plain_request}

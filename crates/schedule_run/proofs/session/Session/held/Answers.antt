@@ -1,4 +1,4 @@
-use Rattle.std.proofs.Common.{◌≡◌, ◌≤◌, ◌<◌, ◌-◌, suc, true, false, length, sym, ◌∙◌, arith}
+use Rattle.std.proofs.Common.{◌≡◌, ◌<◌, ◌-◌, suc, true, false, length, sym, ◌∙◌, arith}
 use Rattle.schedule_run.proofs.Names.{held_at}
 use Rattle.schedule_run.proofs.session.Session.held.Goals as goal
 
