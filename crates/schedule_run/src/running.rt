@@ -110,7 +110,7 @@ impl Running {
             &proc,
         )?;
         self.session.unit.procs.push(proc)?;
-        self.modes = ModeTable::new(alloc, &self.session.unit)?;
+        self.modes.extend(alloc, &self.session.unit)?;
         Ok(number)
     }
 
