@@ -1,13 +1,13 @@
 -- What calls below say of a step, as answers here.
-use Rattle.std.proofs.Common.{◌≡◌, ℕ, List, [], ◌∷◌, ◌++◌, map, length, Bool, true, false, ⊤}
-use Rattle.std.proofs.Common.{Option, Some, None, refl, sym, ap, ◌∙◌, subst}
-use Rattle.std.specs.Prelude.{Result, Ok, Err, MatchResult, if◌then◌else◌}
+use Rattle.std.proofs.Common.{◌≡◌, List, [], ◌∷◌, ◌++◌, length, Bool, true, false}
+use Rattle.std.proofs.Common.{Option, Some, None, refl, sym, ap, ◌∙◌}
+use Rattle.std.specs.Prelude.{Err, if◌then◌else◌}
 use Rattle.affine_forms.specs.declared.error.FormError.TheVariants as form
 use Rattle.affine_systems.specs.Outcomes.{Owed}
 use Rattle.exo_tree.specs.Tree.{Procedure, Program}
 use Rattle.affine_prover.specs.Elimination.{elimination}
 use Rattle.ob_check.specs.Answers.{is_refused}
-use Rattle.bounds_check.specs.Obligations.{Fault, list_fault, obligations_of}
+use Rattle.bounds_check.specs.Obligations.{list_fault, obligations_of}
 use Rattle.bounds_check.specs.Outcomes.{IsRefusal}
 use Rattle.bounds_check.specs.declared.error.CheckError.{CheckError}
 use Rattle.bounds_check.specs.declared.error.CheckError.TheVariants as check
@@ -16,26 +16,15 @@ use Rattle.unit_check.specs.Checked.{first_open}
 use Rattle.unit_check.specs.Outcomes.{Shows}
 use Rattle.unit_check.specs.declared.refused.Why as shown
 use Rattle.unit_check.specs.declared.refused.Why.TheVariants as shown_why
-use Rattle.cursor_forward.specs.Cursors.{Cursor}
-use Rattle.cursor_forward.specs.Causes.{Cause}
-use Rattle.cursor_forward.specs.Proposals.{Plan}
 use Rattle.cursor_forward.specs.PlainProposal.{cause_of}
 use Rattle.cursor_forward.specs.declared.proposal.StepError.{StepError}
 use Rattle.cursor_forward.specs.declared.proposal.StepError.TheVariants as step
 use Rattle.step_rules.specs.Rule.{Tried}
-use Rattle.step_rules.specs.Rule as rule
-use Rattle.step_rules.specs.Answer.{proposed}
 use Rattle.step_driver.specs.Outcomes.{RefusedBy}
-use Rattle.tree_rules_laws.specs.Versions.{with_version}
-use Rattle.schedule_versions.specs.Versions.{Versions, with_step, version_at}
-use Rattle.schedule_versions.specs.Places.{Sought, Got, Lost}
-use Rattle.schedule_versions.specs.Lines.{Why, NotShown, Check, Progress, Went, Refused, target}
-use Rattle.schedule_versions.specs.Lines.{owed_for, shown_step, checked_step, proposed_step, Ruled}
-use Rattle.schedule_versions.specs.Lines.{Call, all_sought, ruled_step, found_step, called_on, called}
 use Rattle.schedule_run.specs.Planned as plans
 use Rattle.schedule_run.specs.Planned.{Made, Not, then_make, as_found, as_tried, planned_by, planned}
 use Rattle.schedule_run.specs.Planned.{planned_on, planned_of, stepped, counted, listed, owed_with}
-use Rattle.schedule_run.specs.PlainWhy.{Says, why_of_step, why_of_list, why_of_show, fault_of}
+use Rattle.schedule_run.specs.PlainWhy.{Says, why_of_step, why_of_list, why_of_show}
 
 -- ---- a step that is refused
 

@@ -1,13 +1,15 @@
 -- From a version to those of which it was made.
-use Rattle.std.proofs.Common.{◌≡◌, ◌==◌, ◌+◌, ℕ, zero, suc, Bool, true, false, ◌||◌, List, [], ◌∷◌}
-use Rattle.std.proofs.Common.{◌++◌, Option, Some, None, refl, sym, ap, ◌∙◌, subst, append_assoc}
-use Rattle.std.proofs.Common.{append-nil, map}
-use Rattle.std.specs.Prelude.{if◌then◌else◌, option_map, option_and_then}
+use Rattle.std.proofs.Common.{◌≡◌, ◌==◌, ℕ, zero, suc, Bool, true, false, ◌||◌, List, [], ◌∷◌}
+use Rattle.std.proofs.Common.{◌++◌, Option, Some, None, refl, sym, ap, ◌∙◌, append_assoc}
+use Rattle.std.proofs.Common.{map, ◌<◌, take, get_or, length, arith, eqb-true}
+use Rattle.std.specs.Prelude.{if◌then◌else◌, option_map, option_and_then, slice_get}
+use Rattle.std.proofs.lemmas.List.{map-append}
+use Rattle.exo_tree.specs.declared.number.ProcId.{ProcId}
 use Rattle.config_laws.specs.Differing as config
 use Rattle.config_laws.specs.Differing.{from_parent, parent_in, descends}
 use Rattle.cursor_forward.specs.Cursors.{Cursor}
-use Rattle.schedule_versions.specs.Versions.{Versions, configured}
-use Rattle.schedule_versions.specs.Places.{parent_at, stepped, forwarded}
+use Rattle.schedule_versions.specs.Versions.{Origin, Versions, configured}
+use Rattle.schedule_versions.specs.Places.{parent_at, stepped, forwarded, Place, brought, or_lost, CursorGone}
 use Rattle.schedule_run.specs.Roots.{root_in}
 use Rattle.schedule_run.specs.Ways.{way_to, along}
 
@@ -132,3 +134,55 @@ module _ (v : Versions) (from : ℕ) where
   descends_here zero k t = t
   descends_here (suc n) k t =
       ap (λ b. b || from_parent false (parent_in os k) (descends [] os from n)) t
+
+parents : (os : List Origin) (k : ℕ)
+    → parent_in (map configured os) k ≡ option_and_then (λ (o : Origin). o.parent) (slice_get os k)
+parents [] zero = refl
+parents [] (suc k) = refl
+parents (o ∷ os) zero = refl
+parents (o ∷ os) (suc k) = parents os k
+
+pub parent_is : (v : Versions) (k : ℕ) → parent_in (map configured v.origins) k ≡ parent_at v k
+parent_is v k = parents v.origins k
+
+-- where a cursor is brought, by the way
+pub brought_by : (v : Versions) (k : ℕ) (p : Place) (o : Option (List ℕ)) → o ≡ way_to v k p.version k
+    → brought v k p ≡ or_lost CursorGone (option_and_then (λ ks. along v ks p.cursor) o)
+brought_by v k p o e =
+    ap (or_lost CursorGone) (forwarded_along v k p.version k p.cursor)
+    ∙ ap (λ o. or_lost CursorGone (option_and_then (λ ks. along v ks p.cursor) o)) (sym e)
+
+-- ---- numbers that differ
+
+pub apart : (a b : ℕ) → (a ≡ b → ⊥) → (a == b) ≡ false
+apart a b h = by (a == b) refl
+  where
+    by : (t : Bool) → (a == b) ≡ t → (a == b) ≡ false
+    by true e = absurd (h (eqb-true a b e))
+    by false e = e
+
+-- ---- from the end of a way
+
+taken_any : {A : Type 0} (xs : List A) (k : ℕ) (d : A) → k < length xs
+    → take (suc k) xs ≡ take k xs ++ get_or xs k d ∷ []
+taken_any [] k d h = absurd (none k h)
+  where
+    none : (k : ℕ) → k < 0 → ⊥
+    none k h = omega arith
+taken_any (y ∷ xs) zero d h = refl
+taken_any (y ∷ xs) (suc k) d h = ap (λ l. y ∷ l) (taken_any xs k d (less (length xs) h))
+  where
+    less : (n : ℕ) → suc k < suc n → k < n
+    less n h = omega arith
+
+abbrev pub numbers : List ProcId → List ℕ
+numbers ks = map (λ (j : ProcId). j.0) ks
+
+pub along_step : (v : Versions) (ks : List ProcId) (m k : ℕ) (d : ProcId) (c : Cursor) → m ≡ suc k
+    → k < length ks → along v (numbers (take m ks)) c
+    ≡ option_and_then (along v (numbers (take k ks))) (stepped v (get_or ks k d).0 c)
+along_step v ks m k d c e h =
+    ap (λ n. along v (numbers (take n ks)) c) e
+    ∙ ap (λ l. along v (numbers l) c) (taken_any ks k d h)
+    ∙ ap (λ l. along v l c) (map-append (λ (j : ProcId). j.0) (take k ks) (get_or ks k d ∷ []))
+    ∙ along_push v (numbers (take k ks)) (get_or ks k d).0 c

@@ -7,3 +7,6 @@ pub mod Climbing
 pub mod Writing
 pub mod Answering
 pub mod Stepping
+pub mod Plans
+pub mod Going
+pub mod Lists

@@ -7,7 +7,7 @@ use Rattle.exo_tree.specs.Tree.{Procedure}
 use Rattle.meaning_laws.specs.Fields.{writes_field}
 use Rattle.meaning_laws.specs.UnitFields.{written_at, written_by, all_written}
 use Rattle.config_state.specs.FieldSets.{Marked, in_table}
-use Rattle.config_state.proofs.Tables.{Agree, Written, written_next, written_all}
+use Rattle.config_state.proofs.Tables.{Agree, written_next, written_all}
 use Rattle.schedule_run.specs.Running.{AreWrites}
 
 none_more : (n : ℕ) → 0 ≡ suc n → ⊥

@@ -9,6 +9,8 @@ use Rattle.cursor_forward.specs.declared.proposal.StepError.{StepError}
 use Rattle.cursor_forward.specs.declared.proposal.StepError.TheVariants as step
 use Rattle.unit_check.specs.declared.refused.Why as shown
 use Rattle.unit_check.specs.declared.refused.Why.TheVariants as shown_why
+use Rattle.schedule_calls.specs.declared.request.LineFault.{LineFault}
+use Rattle.schedule_calls.specs.declared.request.LineFault.TheVariants as fault
 use Rattle.schedule_versions.specs.Places as plain
 use Rattle.schedule_versions.specs.Lines as plain_why
 use Rattle.schedule_run.specs.declared.why.Missing.{Missing}
@@ -59,3 +61,9 @@ abbrev pub why_of_show : shown.Why → Why
 why_of_show (shown_why.Check e) = why.Check e
 why_of_show (shown_why.NotShown what place verdict) = why.NotShown what place verdict
 why_of_show shown_why.Memory = why.Memory
+
+-- ---- a line that asks nothing
+
+abbrev pub why_of_line : LineFault → Why
+why_of_line fault.UnknownOperator = why.UnknownOperator
+why_of_line fault.BadArguments = why.BadArguments

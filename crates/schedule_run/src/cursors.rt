@@ -251,7 +251,11 @@ impl Session {
         let mut left = way.len();
         while left > 0 {
             left -= 1;
-            at = self.stepped(way[left], &at)?;
+            let k = way[left];
+            match self.stepped(k, &at) {
+                Some(to) => at = to,
+                None => return None,
+            }
         }
         Some(at)
     }
@@ -260,12 +264,12 @@ impl Session {
     fn brought(&self, alloc: Global, k: ProcId, place: Place) -> Result<Cursor, Why>
         ensures { Makes plain_cursor (as_found (brought (versions self.now) k.0 (plain_place place))) result }
     {
-        let Some(way) = self.way(alloc, place.version, k)? else {
-            return Err(Why::NoPlace(Missing::CursorGone));
-        };
-        match self.along(&way, place.cursor) {
-            Some(cursor) => Ok(cursor),
+        match self.way(alloc, place.version, k)? {
             None => Err(Why::NoPlace(Missing::CursorGone)),
+            Some(way) => match self.along(&way, place.cursor) {
+                Some(cursor) => Ok(cursor),
+                None => Err(Why::NoPlace(Missing::CursorGone)),
+            },
         }
     }
 

@@ -8,6 +8,7 @@ ghost use Rattle.schedule_versions.specs.Versions.{started};
 ghost use Rattle.schedule_versions.specs.Lines.{performed};
 ghost use Rattle.schedule_operators.specs.Operators.{act_of};
 ghost use Rattle.schedule_run.specs.Outcomes.{Performs, RunsLine, RunsLines};
+ghost use Rattle.schedule_run.specs.PlainWhy.{why_of_line};
 ghost use Rattle.schedule_run.specs.Running.{IsRunning, versions_in};
 ghost use Rattle.schedule_run.specs.declared.why.Why.TheVariants.{Memory};
 
@@ -20,6 +21,16 @@ use schedule_calls::{LineFault, Request, read_line};
 use schedule_text::source::Line;
 use std::alloc::Global;
 use std::thread::Threads;
+
+/// A line asks for nothing.
+fn unasked(fault: LineFault) -> Why
+    ensures { result ≡ why_of_line fault }
+{
+    match fault {
+        LineFault::UnknownOperator => Why::UnknownOperator,
+        LineFault::BadArguments => Why::BadArguments,
+    }
+}
 
 impl Running {
     /// Does what a line asks for.
@@ -62,10 +73,10 @@ impl Running {
         ensures runs { RunsLine (plain_line line.now) (versions_in self.old) (versions_in self.new) result }
         ensures running { OnOk result (IsRunning self.new) }
     {
-        match read_line(alloc, line)? {
+        let read = read_line(alloc, line)?;
+        match read {
             Ok(request) => self.perform(rt, alloc, &request, cache, gate),
-            Err(LineFault::UnknownOperator) => Err(Why::UnknownOperator),
-            Err(LineFault::BadArguments) => Err(Why::BadArguments),
+            Err(fault) => Err(unasked(fault)),
         }
     }
 }

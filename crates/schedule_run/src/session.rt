@@ -1,6 +1,7 @@
 //! Versions: the procedures of a text and those that steps made of them.
 ghost use Rattle.std.specs.Prelude.{◌≡◌, IfOk, MatchResult, option_map};
 ghost use Rattle.std.specs.Option.{option_copied};
+ghost use Rattle.std.specs.Str.{bytes_eq};
 ghost use Rattle.exo_tree.specs.PlainUnit.{program};
 ghost use Rattle.schedule_versions.specs.Versions.{of_text, started, version_of};
 ghost use Rattle.schedule_versions.specs.Versions as plain;
@@ -66,6 +67,13 @@ pub(crate) fn number_of(index: usize) -> Result<ProcId, AllocError>
     Ok(ProcId(index as u32))
 }
 
+/// Whether this is what the name holds.
+fn is_named(binding: &Binding, name: &[u8]) -> bool
+    ensures { result ≡ bytes_eq binding.now.name name.now }
+{
+    binding.name.as_str().as_bytes() == name
+}
+
 /// The origin of a procedure of the text.
 fn origin_of_text(alloc: Global) -> Origin
     ensures { origin result ≡ of_text }
@@ -113,7 +121,7 @@ impl Session {
         while k > 0 {
             k -= 1;
             let binding = &self.names[k];
-            if binding.name.as_str().as_bytes() == name {
+            if is_named(binding, name) {
                 return Some(&binding.held);
             }
         }

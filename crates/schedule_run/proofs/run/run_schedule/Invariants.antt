@@ -1,5 +1,5 @@
 -- However the lines that are left end, all lines end.
-use Rattle.std.proofs.Common.{ℕ, map, drop}
+use Rattle.std.proofs.Common.{map, drop}
 use Rattle.exo_tree.specs.PlainUnit.{program}
 use Rattle.schedule_text.specs.Views.{plain_line}
 use Rattle.schedule_versions.specs.Versions.{started}

@@ -4,7 +4,7 @@ use Rattle.exo_tree.specs.declared.number.ProcId.{ProcId}
 use Rattle.cursor_forward.specs.PlainCursor.{plain_cursor}
 use Rattle.schedule_run.specs.Ways.{along}
 use Rattle.schedule_run.specs.PlainVersions.{versions}
-use Rattle.schedule_run.proofs.cursors.Session.along.Given as goal
+use Rattle.schedule_run.proofs.session.Session.along.Given as goal
 
 abbrev pub invariant-loop-left : goal.invariant-loop-left
 invariant-loop-left l = record {
