@@ -51,9 +51,13 @@ fn nameless(alloc: Global) -> Result<Proc, AllocError> {
 
 /// Adds a procedure that names what is not there to a unit, and its text.
 fn push_last(alloc: Global, unit: &mut Unit, out: &mut String) -> Result<(), AllocError> {
-    let last = unit.procs.len() as u32;
-    unit.procs.push(nameless(alloc)?)?;
-    push_shown(alloc, unit, last, out)
+    match u32::try_from(unit.procs.len()) {
+        Ok(last) => {
+            unit.procs.push(nameless(alloc)?)?;
+            push_shown(alloc, unit, last, out)
+        }
+        Err(_) => out.push_str(UNCLEAR),
+    }
 }
 
 /// Adds the text of a procedure that names what is not there, the last one of a unit.

@@ -267,21 +267,22 @@ fn push_path(path: &Path, out: &mut String) -> Result<(), AllocError> {
     Ok(())
 }
 
+/// Adds a word and a path.
+fn push_at(word: &str, path: &Path, out: &mut String) -> Result<(), AllocError> {
+    out.push_str(word)?;
+    push_path(path, out)
+}
+
 /// Adds a cursor.
 fn push_cursor(c: &Cursor, out: &mut String) -> Result<(), AllocError> {
     match c {
-        Cursor::Node(path) => {
-            out.push_str("node")?;
-            push_path(path, out)
-        }
+        Cursor::Node(path) => push_at("node", path, out),
         Cursor::Block(path, count) => {
-            out.push_str("block")?;
-            push_path(path, out)?;
+            push_at("block", path, out)?;
             write!(out, " {count}")
         }
         Cursor::Gap(path, side) => {
-            out.push_str("gap")?;
-            push_path(path, out)?;
+            push_at("gap", path, out)?;
             out.push_str(match side {
                 Side::Before => " before",
                 Side::After => " after",
