@@ -4,3 +4,5 @@ mod Growing
 mod Derived
 mod Chain
 mod Runs
+mod Growth
+mod Roots

@@ -2,8 +2,8 @@
 ghost use Rattle.std.specs.Prelude.{◌≡◌, map, option_map};
 ghost use Rattle.exo_tree.specs.PlainUnit.{program};
 ghost use Rattle.c_lowering.specs.PlainPrinted.{printing};
-ghost use Rattle.exo_cli.specs.Printings.{memory_fault};
-ghost use Rattle.exo_cli.specs.Stopping.{fault_in};
+ghost use Rattle.compile_stages.specs.Printings.{memory_fault};
+ghost use Rattle.compile_stages.specs.Stopping.{fault_in};
 
 use c_lowering::Printed;
 use exo_tree::{ProcId, Unit};

@@ -1,0 +1,364 @@
+-- What a line leaves: the versions that were there, or one more.
+use Rattle.std.proofs.Common.{◌≡◌, ◌≤◌, ◌<◌, ◌+◌, ⊤, ℕ, zero, suc, Bool, true, false, nat_lt}
+use Rattle.std.proofs.Common.{List, [], ◌∷◌, ◌++◌, map, length, Option, Some, None, refl, sym, ap}
+use Rattle.std.proofs.Common.{◌∙◌, ◌==◌, ap₂, subst, arith, append_assoc, append-nil}
+use Rattle.std.specs.Prelude.{slice_get, if◌then◌else◌, option_and_then}
+use Rattle.exo_tree.specs.Tree.{Procedure, Program}
+use Rattle.exo_tree.specs.Places.{Path}
+use Rattle.exo_meaning.specs.Orders.{Each}
+use Rattle.config_state.specs.FieldSets.{fields_from, fields_where}
+use Rattle.config_laws.specs.Differing as config
+use Rattle.config_laws.specs.Differing.{parent_in, step_fields, from_parent, fields_since, differing}
+use Rattle.config_laws.specs.FieldRule.{is_listed, fields_at_end}
+use Rattle.bounds_check.specs.Obligations.{Fault, list_fault}
+use Rattle.unit_check.specs.Checked as unit_check
+use Rattle.unit_check.specs.Checked.{first_open}
+use Rattle.cursor_patterns.specs.Patterns.{Pattern}
+use Rattle.cursor_forward.specs.Cursors.{Cursor}
+use Rattle.cursor_forward.specs.Proposals.{Plan}
+use Rattle.tree_rules_laws.specs.Versions.{with_version}
+use Rattle.step_rules.specs.Rule.{Tried, Target, Rule}
+use Rattle.step_rules.specs.Rule as rule
+use Rattle.step_rules.specs.Answer.{proposed, spot}
+use Rattle.step_rules.proofs.Proposals.{proposal_of}
+use Rattle.schedule_calls.specs.Requests.{Move}
+use Rattle.schedule_versions.specs.Versions.{Origin, of_text, made_of, configured, Versions, started}
+use Rattle.schedule_versions.specs.Versions.{version_at, held, version_of, with_step}
+use Rattle.schedule_versions.specs.Places.{Sought, Got, Lost, Place, then_seek}
+use Rattle.schedule_versions.specs.Places.{moved_at, matched, parent_at}
+use Rattle.schedule_versions.specs.Lines.{Why, BadArguments, Progress, Went, Refused, owed_for, target}
+use Rattle.schedule_versions.specs.Lines.{shown_step, checked_step, proposed_step, Ruled, Call}
+use Rattle.schedule_versions.specs.Lines.{all_sought, ruled_step, found_step, called_on, called}
+use Rattle.schedule_versions.specs.Lines.{binding, searched, held_place, is_instruction, emitting}
+use Rattle.schedule_versions.specs.Lines.{Act, Faulty, Apply, Search, Moved, Emit, performed}
+use Rattle.schedule_versions.specs.Lines.{Outcome, Done, run_from, behind}
+use Rattle.schedule_versions.specs.Growth.{HasGrown, RunsGrow, NamesNoField, CallNamesNoField}
+use Rattle.schedule_versions.specs.Growth.{ActNamesNoField, NothingDiffers, RunsDifferInNothing}
+use Rattle.schedule_versions.proofs.Growing.{mapped_more}
+
+-- ---- one line
+
+module _ (P : Plan → Type 0) where
+  -- the unit stays, or it has a version more, which such a plan makes
+  data Grows (v : Versions) : Versions → Type 0 where
+    same : (w : Versions) → w.unit ≡ v.unit → w.origins ≡ v.origins → Grows v w
+    more : (name : List ℕ) (k : ℕ) (m : Plan) (shown : ℕ) → P m → Grows v (with_step name k m shown v)
+
+  -- each plan of the operator is such a one
+  abbrev Plans : Act → Type 0
+  Plans (Faulty why) = ⊤
+  Plans (Apply name of call) =
+      (t : Target) (cs : List Cursor) (r : Ruled) → call.rule t cs ≡ rule.Got r
+      → (m : Plan) → proposed r.rule t r.at ≡ rule.Got m → P m
+  Plans (Search name of pattern nth moves) = ⊤
+  Plans (Moved name of moves) = ⊤
+  Plans (Emit name) = ⊤
+
+  went_same : {v w : Versions} → Went v ≡ Went w → v ≡ w
+  went_same h = cc
+
+  refused_went : {why : Why} {w : Versions} → Refused why ≡ Went w → ⊥
+  refused_went h = cc
+
+  module _ (v : Versions) where
+    abbrev Arrives : Progress → Type 0
+    Arrives progress = (w : Versions) → progress ≡ Went w → Grows v w
+
+    refused : (why : Why) → Arrives (Refused why)
+    refused why w h = absurd (refused_went h)
+
+    went : (u : Versions) → Grows v u → Arrives (Went u)
+    went u grows w h = subst (λ z. Grows v z) (went_same h) grows
+
+    -- ---- a step
+
+    shown_arrives : (name : List ℕ) (k : ℕ) (m : Plan) → P m → (o : Option unit_check.Cause)
+        → Arrives (shown_step v name k m o)
+    shown_arrives name k m is None =
+        went (with_step name k m (length (owed_for v m)) v) (more name k m (length (owed_for v m)) is)
+    shown_arrives name k m is (Some (unit_check.NotListed fault)) = refused _
+    shown_arrives name k m is (Some (unit_check.NotShown what place verdict)) = refused _
+
+    checked_arrives : (name : List ℕ) (k : ℕ) (m : Plan) → P m → (o : Option Fault)
+        → Arrives (checked_step v name k m o)
+    checked_arrives name k m is None = shown_arrives name k m is (first_open (owed_for v m))
+    checked_arrives name k m is (Some fault) = refused _
+
+    proposed_arrives : (name : List ℕ) (k : ℕ) (t : Tried Plan)
+        → ((m : Plan) → t ≡ rule.Got m → P m) → Arrives (proposed_step v name k t)
+    proposed_arrives name k (rule.Not cause) is = refused _
+    proposed_arrives name k (rule.Got m) is =
+        checked_arrives name k m (is m refl) (list_fault (with_version v.unit m.proc) m.proc)
+
+    -- ---- operators
+
+    module _ (name : List ℕ) (of : List ℕ) (call : Call) (is : Plans (Apply name of call)) where
+      ruled_arrives : (k : ℕ) (p : Procedure) (cs : List Cursor) (t : Tried Ruled)
+          → call.rule (target v k p) cs ≡ t → Arrives (ruled_step v name k p t)
+      ruled_arrives k p cs (rule.Not cause) e = refused _
+      ruled_arrives k p cs (rule.Got r) e =
+          proposed_arrives name k (proposed r.rule (target v k p) r.at)
+          (λ m f. is (target v k p) cs r e m f)
+
+      found_arrives : (k : ℕ) (p : Procedure) (s : Sought (List Cursor))
+          → Arrives (found_step v name k p call s)
+      found_arrives k p (Lost why) = refused _
+      found_arrives k p (Got cs) = ruled_arrives k p cs (call.rule (target v k p) cs) refl
+
+      test_arrives : (b : Bool) (one : Progress) (why : Why) → Arrives one
+          → Arrives (if b then one else Refused why)
+      test_arrives true one why h = h
+      test_arrives false one why h = refused why
+
+      called_on_arrives : (k : ℕ) (o : Option Procedure) → Arrives (called_on v name call k o)
+      called_on_arrives k None = refused _
+      called_on_arrives k (Some p) =
+          test_arrives (call.named v) (found_step v name k p call (all_sought v k call.cursors)) _
+          (found_arrives k p (all_sought v k call.cursors))
+
+      called_arrives : (o : Option ℕ) → Arrives (called v name call o)
+      called_arrives None = refused _
+      called_arrives (Some k) = called_on_arrives k (version_at v k)
+
+    -- ---- names
+
+    binding_arrives : (name : List ℕ) (s : Sought Place) → Arrives (binding v name s)
+    binding_arrives name (Lost why) = refused _
+    binding_arrives name (Got p) = went _ (same _ refl refl)
+
+    searched_arrives : (name : List ℕ) (pattern : Pattern) (nth : ℕ) (moves : List Move)
+        (o : Option ℕ) → Arrives (searched v name pattern nth moves o)
+    searched_arrives name pattern nth moves None = refused _
+    searched_arrives name pattern nth moves (Some j) =
+        binding_arrives name (then_seek (matched v j pattern nth) (moved_at v moves))
+
+    emitting_arrives : (o : Option ℕ) → Arrives (emitting v o)
+    emitting_arrives None = refused _
+    emitting_arrives (Some k) = by (is_instruction (version_at v k))
+      where
+        by : (b : Bool) → Arrives (if b then Refused BadArguments
+            else Went (record v { emitted = v.emitted ++ k ∷ [] }))
+        by true = refused _
+        by false = went _ (same _ refl refl)
+
+    act_arrives : (a : Act) → Plans a → Arrives (performed v a)
+    act_arrives (Faulty why) is = refused why
+    act_arrives (Apply name of call) is = called_arrives name of call is (version_of v of)
+    act_arrives (Search name of pattern nth moves) is =
+        searched_arrives name pattern nth moves (version_of v of)
+    act_arrives (Moved name of moves) is =
+        binding_arrives name (then_seek (held_place (held v of)) (moved_at v moves))
+    act_arrives (Emit name) is = emitting_arrives (version_of v name)
+
+  -- ---- all lines
+
+  done_same : {v w : Versions} → Done v ≡ Done w → v ≡ w
+  done_same h = cc
+
+  -- what each line keeps holds behind all lines
+  module _ (Holds : Versions → Type 0) (keeps : (v w : Versions) → Grows v w → Holds v → Holds w) where
+    goes_on : (k : ℕ) (rest : Versions → Outcome) (progress : Progress) (v w : Versions)
+        → ((u : Versions) → progress ≡ Went u → Grows v u) → Holds v
+        → ((u : Versions) → Holds u → rest u ≡ Done w → Holds w)
+        → behind k rest progress ≡ Done w → Holds w
+    goes_on k rest (Went u) v w arrives h on e = on u (keeps v u (arrives u refl) h) e
+    goes_on k rest (Refused why) v w arrives h on e = absurd (no e)
+      where
+        no : behind k rest (Refused why) ≡ Done w → ⊥
+        no e = cc
+
+    pub held_behind : (k : ℕ) (acts : List Act) (v w : Versions) → Each Plans acts → Holds v
+        → run_from k acts v ≡ Done w → Holds w
+    held_behind k [] v w is h e = subst Holds (done_same e) h
+    held_behind k (a ∷ more) v w is h e =
+        goes_on k (run_from (k + 1) more) (performed v a) v w (act_arrives v a is.0) h
+        (λ u g f. held_behind (k + 1) more u w is.1 g f) e
+
+-- ---- procedures
+
+any_plan : (acts : List Act) → Each (Plans (λ m. ⊤)) acts
+any_plan [] = tt
+any_plan (Faulty why ∷ more) = (tt, any_plan more)
+any_plan (Apply name of call ∷ more) = (λ t cs r e m f. tt, any_plan more)
+any_plan (Search name of pattern nth moves ∷ more) = (tt, any_plan more)
+any_plan (Moved name of moves ∷ more) = (tt, any_plan more)
+any_plan (Emit name ∷ more) = (tt, any_plan more)
+
+one_more : {A : Type 0} (xs : List A) (x : A) → length (xs ++ x ∷ []) ≡ suc (length xs)
+one_more [] x = refl
+one_more (y ∷ ys) x = ap suc (one_more ys x)
+
+-- the last place of a longer list, and those before it
+data Where {A : Type 0} (xs : List A) (x : A) (k : ℕ) : Type 0 where
+  before : k < length xs → slice_get (xs ++ x ∷ []) k ≡ slice_get xs k → Where xs x k
+  here : slice_get (xs ++ x ∷ []) k ≡ Some x → Where xs x k
+  past : suc (length xs) ≤ k → Where xs x k
+
+where_is : {A : Type 0} (xs : List A) (x : A) (k : ℕ) → Where xs x k
+where_is [] x zero = here refl
+where_is [] x (suc k) = past (omega arith)
+where_is (y ∷ ys) x zero = before (omega arith) refl
+where_is (y ∷ ys) x (suc k) = by (where_is ys x k)
+  where
+    by : Where ys x k → Where (y ∷ ys) x (suc k)
+    by (before h e) = before (omega (arith, h)) e
+    by (here e) = here e
+    by (past h) = past (omega (arith, h))
+
+module _ (text : Program) where
+  grown_step : (v w : Versions) → Grows (λ m. ⊤) v w → HasGrown text v → HasGrown text w
+  grown_step v w (same w unit origins) h = record {
+    behind = h.behind;
+    procedures = ap (λ (u : Program). u.procedures) unit ∙ h.procedures;
+    fields = ap (λ (u : Program). u.fields) unit ∙ h.fields;
+    memories = ap (λ (u : Program). u.memories) unit ∙ h.memories;
+    count = ap length origins ∙ (h.count ∙ ap (λ (u : Program). length u.procedures) (sym unit));
+    first = λ k l none. h.first k
+        (subst (λ (u : Program). k < length u.procedures) unit l)
+        (ap (λ os. option_and_then (λ (o : Origin). o.parent) (slice_get os k)) (sym origins) ∙ none);
+  }
+  grown_step v w (more name k m shown is) h = record {
+    behind = h.behind ++ m.proc ∷ [];
+    procedures =
+        ap (λ ps. ps ++ m.proc ∷ []) h.procedures
+        ∙ append_assoc text.procedures h.behind (m.proc ∷ []);
+    fields = h.fields;
+    memories = h.memories;
+    count =
+        one_more v.origins (made_of k m)
+        ∙ (ap suc h.count ∙ sym (one_more v.unit.procedures m.proc));
+    first = λ i l none. by i (subst (λ n. i < n) (one_more v.unit.procedures m.proc) l) none
+        (where_is v.origins (made_of k m) i);
+  }
+    where
+      parent_of : Option Origin → Option ℕ
+      parent_of o = option_and_then (λ (o : Origin). o.parent) o
+
+      made_has_one : parent_of (Some (made_of k m)) ≡ None → ⊥
+      made_has_one e = cc
+
+      by : (i : ℕ) → i < suc (length v.unit.procedures)
+          → parent_of (slice_get (v.origins ++ made_of k m ∷ []) i) ≡ None
+          → Where v.origins (made_of k m) i → i < length text.procedures
+      by i l none (before b e) =
+          h.first i (subst (λ n. i < n) h.count b) (ap parent_of (sym e) ∙ none)
+      by i l none (here e) = absurd (made_has_one (ap parent_of (sym e) ∙ none))
+      by i l none (past b) = absurd (omega (arith, l, b, h.count))
+
+  pub begun : (shown : ℕ) → HasGrown text (started text shown)
+  begun shown = record {
+    behind = [];
+    procedures = sym (append-nil text.procedures);
+    fields = refl;
+    memories = refl;
+    count = as_many text.procedures;
+    first = λ k l none. l;
+  }
+    where
+      as_many : (ps : List Procedure) → length (map (λ (p : Procedure). of_text) ps) ≡ length ps
+      as_many [] = refl
+      as_many (p ∷ ps) = ap suc (as_many ps)
+
+pub runs_grow : RunsGrow
+runs_grow text shown acts v ran =
+    held_behind (λ m. ⊤) (HasGrown text) (grown_step text) 0 acts (started text shown) v
+    (any_plan acts) (begun text shown) ran
+
+-- ---- fields
+
+abbrev IsBare : Plan → Type 0
+IsBare m = m.fields ≡ []
+
+abbrev HasNoFields : Origin → Type 0
+HasNoFields o = o.fields ≡ []
+
+bare_plans : (a : Act) → ActNamesNoField a → Plans IsBare a
+bare_plans (Faulty why) is = tt
+bare_plans (Apply name of call) is = λ t cs r e m f.
+    let p = proposal_of r.rule t r.at m f in
+    sym (ap (λ (n : Plan). n.fields) p.answer.is) ∙ is t cs r e (spot t p.piece p.o)
+bare_plans (Search name of pattern nth moves) is = tt
+bare_plans (Moved name of moves) is = tt
+bare_plans (Emit name) is = tt
+
+all_bare : (acts : List Act) → Each ActNamesNoField acts → Each (Plans IsBare) acts
+all_bare [] is = tt
+all_bare (a ∷ more) is = (bare_plans a is.0, all_bare more is.1)
+
+each_more : (os : List Origin) (o : Origin) → Each HasNoFields os → HasNoFields o
+    → Each HasNoFields (os ++ o ∷ [])
+each_more [] o h k = (k, tt)
+each_more (p ∷ ps) o h k = (h.0, each_more ps o h.1 k)
+
+bare_step : (v w : Versions) → Grows IsBare v w → Each HasNoFields v.origins
+    → Each HasNoFields w.origins
+bare_step v w (same w unit origins) h = subst (Each HasNoFields) (sym origins) h
+bare_step v w (more name k m shown is) h = each_more v.origins (made_of k m) h is
+
+none_before : (ps : List Procedure) → Each HasNoFields (map (λ (p : Procedure). of_text) ps)
+none_before [] = tt
+none_before (p ∷ ps) = (refl, none_before ps)
+
+-- so no step leaves a field that may differ
+module _ (ps : List Procedure) where
+  by_procedure : (r : Option Procedure) (o : config.Origin) → o.fields ≡ []
+      → (elim r as (λ r. List ℕ) [
+        | None ↦ []
+        | Some q ↦ fields_at_end ps q.body o.place o.side o.fields
+      ]) ≡ []
+  by_procedure None o h = refl
+  by_procedure (Some q) o h = ap (λ fs. fields_at_end ps q.body o.place o.side fs) h
+
+  its_fields : (os : List Origin) (k : ℕ) (o : config.Origin) → Each HasNoFields os
+      → slice_get (map configured os) k ≡ Some o → o.fields ≡ []
+  its_fields [] zero o h e = cc
+  its_fields [] (suc k) o h e = cc
+  its_fields (p ∷ os) zero o h e = ap (λ (x : config.Origin). x.fields) (sym (some_same e)) ∙ h.0
+    where
+      some_same : {a b : config.Origin} → Some a ≡ Some b → a ≡ b
+      some_same e = cc
+  its_fields (p ∷ os) (suc k) o h e = its_fields os k o h.1 e
+
+  no_step : (os : List Origin) (k : ℕ) → Each HasNoFields os
+      → step_fields ps (map configured os) k ≡ []
+  no_step os k h = go (slice_get (map configured os) k) refl
+    where
+      go : (o : Option config.Origin) → slice_get (map configured os) k ≡ o
+          → (elim o as (λ o. List ℕ) [
+            | None ↦ []
+            | Some o ↦ elim (slice_get ps k) as (λ r. List ℕ) [
+              | None ↦ []
+              | Some q ↦ fields_at_end ps q.body o.place o.side o.fields
+            ]
+          ]) ≡ []
+      go None e = refl
+      go (Some o) e = by_procedure (slice_get ps k) o (its_fields os k o h e)
+
+  none_since : (os : List Origin) (from n k : ℕ) → Each HasNoFields os
+      → fields_since ps (map configured os) from n k ≡ []
+  none_since os from zero k h = refl
+  none_since os from (suc n) k h = go (k == from) (parent_in (map configured os) k)
+    where
+      go : (b : Bool) (o : Option ℕ)
+          → (if b then [] else from_parent [] o
+          (λ j. fields_since ps (map configured os) from n j ++ step_fields ps (map configured os) k))
+          ≡ []
+      go true o = refl
+      go false None = refl
+      go false (Some j) = ap₂ (λ xs ys. xs ++ ys) (none_since os from n j h) (no_step os k h)
+
+no_field : (n count : ℕ) → fields_from n count (λ f. is_listed f []) ≡ []
+no_field n zero = refl
+no_field n (suc count) = no_field (suc n) count
+
+nothing_differs : (v : Versions) → Each HasNoFields v.origins → NothingDiffers v
+nothing_differs v h k from =
+    ap (λ fs. fields_where (length v.unit.fields) (λ f. is_listed f fs))
+    (none_since v.unit.procedures v.origins from k k h)
+    ∙ no_field 0 (length v.unit.fields)
+
+pub runs_differ_in_nothing : RunsDifferInNothing
+runs_differ_in_nothing text shown acts v is ran =
+    nothing_differs v
+    (held_behind IsBare (λ (w : Versions). Each HasNoFields w.origins) bare_step 0 acts
+    (started text shown) v (all_bare acts is) (none_before text.procedures) ran)
