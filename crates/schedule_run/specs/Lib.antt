@@ -1,4 +1,6 @@
-pub mod Lines
-pub mod ScheduleForm
-pub mod Sessions
-pub mod Versions
+pub mod Runs
+pub mod Roots
+pub mod PlainVersions
+pub mod PlainWhy
+pub mod Outcomes
+pub mod Laws
