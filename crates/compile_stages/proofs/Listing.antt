@@ -11,10 +11,14 @@ use Rattle.std.proofs.lemmas.List.{drop_all}
 use Rattle.exo_calls.specs.Passed.{is_function}
 use Rattle.c_lowered.specs.LoweredUnit.{Printing}
 use Rattle.c_unit_laws.specs.Listings.{printings_from}
-use Rattle.schedule_run.specs.Lines.{Versions}
-use Rattle.schedule_run.specs.Versions.{with_versions}
-use Rattle.exo_cli.specs.Printings.{printing_of, is_emitted, printings_of}
-use Rattle.proc_rewrites.proofs.Kept.{nothing_there, some_is}
+use Rattle.schedule_versions.specs.Versions.{Versions}
+use Rattle.compile_stages.specs.Printings.{printing_of, is_emitted, printings_of}
+
+pub nothing_there : {A : Type 0} {x : A} → None ≡ Some x → ⊥
+nothing_there e = cc
+
+pub some_is : {A : Type 0} {x y : A} → Some x ≡ Some y → x ≡ y
+some_is e = cc
 
 own : (reached : ℕ → Bool) (print : ℕ → Printing) → ((j : ℕ) → (print j).proc ≡ j) → (k : ℕ) (ps : List Procedure) (i : ℕ) (w : Printing)
     → slice_get (printings_from reached print k ps) i ≡ Some w → w ≡ print w.proc
@@ -28,9 +32,11 @@ own reached print numbered k (p ∷ ps) i w e = go (own reached print numbered (
     go later true (suc j) f = later j w f
     go later false j f = later j w f
 
-pub own_printing : (text : Program) (v : Versions) (k : ℕ) (w : Printing) → slice_get (printings_of text v) k ≡ Some w → w ≡ printing_of v.procedures v.origins w.proc
-own_printing text v k w e =
-    own (closed is_function (is_emitted v.emitted) 0 v.procedures) (printing_of v.procedures v.origins) (λ j. refl) 0 v.procedures k w e
+pub own_printing : (v : Versions) (k : ℕ) (w : Printing) → slice_get (printings_of v) k ≡ Some w
+    → w ≡ printing_of v w.proc
+own_printing v k w e =
+    own (closed is_function (is_emitted v.emitted) 0 v.unit.procedures) (printing_of v) (λ j. refl) 0
+    v.unit.procedures k w e
 
 no_more : (reached : ℕ → Bool) (print : ℕ → Printing) (k : ℕ) (ps : List Procedure) → length (printings_from reached print k ps) ≤ length ps
 no_more reached print k [] = omega arith
@@ -41,8 +47,10 @@ no_more reached print k (p ∷ ps) = go (reached k && is_function p) (no_more re
     go true h = omega (arith, h)
     go false h = omega (arith, h)
 
-pub few_printings : (text : Program) (v : Versions) → length (printings_of text v) ≤ length v.procedures
-few_printings text v = no_more (closed is_function (is_emitted v.emitted) 0 v.procedures) (printing_of v.procedures v.origins) 0 v.procedures
+pub few_printings : (v : Versions) → length (printings_of v) ≤ length v.unit.procedures
+few_printings v =
+    no_more (closed is_function (is_emitted v.emitted) 0 v.unit.procedures) (printing_of v) 0
+    v.unit.procedures
 
 -- where two sets have the same of the procedures, so many are printed
 pub same_printings : (one other : ℕ → Bool) (print : ℕ → Printing) (k : ℕ) (ps : List Procedure) → ((j : ℕ) → j < k + length ps → one j ≡ other j)

@@ -6,10 +6,10 @@ use Rattle.c_lowered.specs.LoweredUnit.{lowered}
 use Rattle.c_lowering.specs.Refusals.{too_wide, name_clash, Refuses}
 use Rattle.c_lowering.specs.declared.report.LowerError.{LowerError}
 use Rattle.c_lowering.specs.declared.report.LowerError.TheVariants as lower
-use Rattle.exo_cli.specs.Printings.{memory_fault}
-use Rattle.exo_cli.specs.Stops.{Stop}
-use Rattle.exo_cli.specs.Stages.{Stage, Passed, Stopped, Made, then_do, if_kept, if_narrow, named, if_named, text, lowered_text, printed}
-use Rattle.exo_cli.specs.Stopping.{stop_of}
+use Rattle.compile_stages.specs.Printings.{memory_fault}
+use Rattle.compile_stages.specs.Stops.{Stop}
+use Rattle.compile_stages.specs.Stages.{Stage, Passed, Stopped, Made, then_do, if_kept, if_narrow, named, if_named, text, lowered_text, printed}
+use Rattle.compile_stages.specs.Stopping.{stop_of}
 
 -- what keeps the rules on memories is lowered
 pub kept_goes : (m : Made) → memory_fault m.program m.what ≡ None → printed m ≡ lowered_text m

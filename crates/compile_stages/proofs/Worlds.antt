@@ -1,7 +1,7 @@
 -- Procedures of the text run the same among the versions.
 use Rattle.std.proofs.Common.{◌≡◌, ℕ, true, List, [], ◌++◌, take, drop, length, Option, Some, sym, ap, ◌∙◌, subst, arith, append_assoc, slice_get}
 use Rattle.std.proofs.lemmas.List.{take-append-drop}
-use Rattle.exo_tree.specs.Tree.{Procedure, Program}
+use Rattle.exo_tree.specs.Tree.{ConfigField, Procedure, Program}
 use Rattle.exo_meaning.specs.Scene.{where_true}
 use Rattle.exo_meaning.specs.State.{State}
 use Rattle.exo_meaning.specs.Run.{run, callees, unit_world, kinds_of, program_world}
@@ -10,8 +10,6 @@ use Rattle.exo_meaning.specs.Units.{field_kind, IsUnit}
 use Rattle.meaning_laws.specs.Grown.{calls_below, GrownLaw}
 use Rattle.meaning_laws.proofs.WellFormed.{calls_are_below}
 use Rattle.c_unit_laws.proofs.Standing.{table_count, formed_at}
-use Rattle.schedule_run.specs.Lines.{Versions}
-use Rattle.schedule_run.specs.Versions.{with_versions}
 use Rattle.meaning_laws.proofs.Grown.{grown_law}
 
 -- a procedure calls those before it alone
@@ -40,8 +38,11 @@ module _ (text : Program) (k : ℕ) (p : Procedure) (formed : IsUnit text) (ther
       (first ∙ (ap (λ l. l ++ behind) (sym (take-append-drop k text.procedures)) ∙ append_assoc (take k text.procedures) (drop k text.procedures) behind))
 
 -- so it runs the same with versions behind those of the text
-pub same_runs : (text : Program) (v : Versions) (behind : List Procedure) → IsUnit text → v.procedures ≡ text.procedures ++ behind
-    → (k : ℕ) (p : Procedure) → slice_get text.procedures k ≡ Some p → (s : State) → run_procedure (program_world (with_versions text v)) p s ≡ run_procedure (program_world text) p s
-same_runs text v behind formed first k p there s =
-    ap (λ (f : State → Option State). where_true (all_have_extents s.scene p.params) (f s))
-    (runs_among text k p formed there v.procedures behind first ∙ sym (runs_in_text text k p formed there))
+pub same_runs : (text program : Program) (behind : List Procedure) → IsUnit text
+    → program.procedures ≡ text.procedures ++ behind → program.fields ≡ text.fields
+    → (k : ℕ) (p : Procedure) → slice_get text.procedures k ≡ Some p → (s : State)
+    → run_procedure (program_world program) p s ≡ run_procedure (program_world text) p s
+same_runs text program behind formed first fields k p there s =
+    ap (λ (fs : List ConfigField). run_procedure (unit_world (kinds_of fs) program.procedures) p s) fields
+    ∙ ap (λ (f : State → Option State). where_true (all_have_extents s.scene p.params) (f s))
+    (runs_among text k p formed there program.procedures behind first ∙ sym (runs_in_text text k p formed there))

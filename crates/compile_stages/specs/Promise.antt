@@ -1,5 +1,5 @@
 -- What is promised of the versions that a schedule makes, and of the C that is printed for them.
-use Rattle.std.specs.Prelude.{◌≡◌, ℕ, ℤ, Bool, true, false, nat_lt, List, Option, Some, None}
+use Rattle.std.specs.Prelude.{◌≡◌, ℕ, ℤ, true, nat_lt, List, [], Option, Some, None}
 use Rattle.std.specs.Prelude.{slice_get, Contains}
 use Rattle.exo_tree.specs.Tree.{Procedure, Program}
 use Rattle.exo_meaning.specs.Value.{IsRefinedBy}
@@ -8,7 +8,7 @@ use Rattle.exo_meaning.specs.State.{State}
 use Rattle.exo_meaning.specs.Run.{program_world}
 use Rattle.exo_meaning.specs.Inputs.{IsValid, Refines, run_procedure}
 use Rattle.exo_meaning.specs.Units.{IsUnit}
-use Rattle.meaning_laws.specs.Chain.{HasHead, NeverFaults}
+use Rattle.meaning_laws.specs.Chain.{HasHead}
 use Rattle.config_laws.specs.Differing.{is_descendant}
 use Rattle.unit_check.specs.Checked.{Shown, checked}
 use Rattle.unit_check.specs.Faults.{NothingFaults}
@@ -30,17 +30,18 @@ use Rattle.c_follows.specs.Units.{naming_of, declared_in, IsListing, IsSameStart
 use Rattle.c_unit_laws.specs.Stores.{allocates_nothing}
 use Rattle.schedule_text.specs.Tree as tree
 use Rattle.schedule_text.specs.Grammar.{schedule as schedule_text}
-use Rattle.schedule_versions.specs.Versions.{configured, Versions, started, version_at}
+use Rattle.schedule_versions.specs.Versions.{Versions, started, version_at}
 use Rattle.schedule_versions.specs.Lines.{Done as Ran}
 use Rattle.schedule_run.specs.Runs.{LinesRun}
-use Rattle.compile_stages.specs.Printings.{origins_of, differing_from, printings_of, memory_fault}
+use Rattle.compile_stages.specs.Printings.{origins_of, differing_from, printings_of}
+use Rattle.compile_stages.specs.Printings.{memory_fault}
 
 -- ---- versions
 
 -- What stands behind a schedule that runs: the unit that the text spells, which keeps all rules and
 -- shows what its procedures owe; the lines of the schedule; and the versions that these make, behind
 -- the procedures of the text. No admissible input makes any of them fault.
-pub record IsScheduled (bytes schedule : List ℕ) (items : List Item) (v : Versions) : Type 0 where
+pub record AreMade (bytes schedule : List ℕ) (items : List Item) (v : Versions) : Type 0 where
   pub count : ℕ
   pub lines : List tree.Line
   pub spelled : IsText unit (tokens_of bytes) items
@@ -53,9 +54,9 @@ pub record IsScheduled (bytes schedule : List ℕ) (items : List Item) (v : Vers
   pub all_formed : IsUnit v.unit
   pub none_faults : NothingFaults v.unit
 
--- The version of that number comes from a procedure of the text, in any number of steps: it takes the
--- same inputs, and on each that is admissible it leaves what that leaves, but for cells that that
--- leaves undefined, and for the fields that may differ.
+-- The version of that number comes from a procedure of the text, in any number of steps: it takes
+-- the same inputs, and on each that is admissible it leaves what that leaves, but for cells that
+-- that leaves undefined, and for the fields that may differ.
 pub record ComesFrom (text : Program) (v : Versions) (k : ℕ) (p q : Procedure) : Type 0 where
   pub from : ℕ
   pub in_text : slice_get text.procedures from ≡ Some p
@@ -67,10 +68,9 @@ pub record ComesFrom (text : Program) (v : Versions) (k : ℕ) (p q : Procedure)
 
 -- ---- what the C of a version does
 
--- What the C leaves, against what the procedure of the text leaves: each cell of an argument that the
--- procedure leaves defined is the same, every cell outside the arguments is as it was, and each field
--- but those that may differ has its number: in the C where the C declares it, and else it is as it was
--- before the procedure.
+-- What the C leaves, against what the procedure of the text leaves: each cell of an argument that
+-- the procedure leaves defined is the same, every cell outside the arguments is as it was, and each
+-- field that the C declares, but those that may differ, has its number.
 pub record LeavesSo (naming : Naming) (declared : Declared) (but : List ℕ) (layout : Layout)
     (s : State) (m : Machine) (t : State) (n : Machine) : Type 0 where
   pub cells :
@@ -97,10 +97,10 @@ IsDoneWith Leaves o = (n : Machine) × (o ≡ Done n) × Leaves n
 
 -- The C function at that place of the file, printed for the version q, which has that number, does
 -- what the procedure p of the text does, but for these fields. Let the template of each instruction
--- that is called do what its body says. On each valid input of p, and each call of the function with
--- the same input, p does not fault, nor does the C. Where the C is done, it leaves what p leaves. It is
--- done where no allocation of the run passes 2 ^ 48 cells, and where neither the function nor what it
--- calls allocates.
+-- that is called do what its body says. On each valid input of p, and each call of the function
+-- with the same input, p does not fault, nor does the C. Where the C is done, it leaves what p
+-- leaves. It is done where no allocation of the run passes 2 ^ 48 cells, and where neither the
+-- function nor what it calls allocates.
 abbrev pub DoesWhat :
     Program → Program → List Printing → ℕ → ℕ → List ℕ → Procedure → Procedure → Type 0
 DoesWhat text program what at number but p q =
@@ -117,8 +117,8 @@ DoesWhat text program what at number but p q =
     EndsWell (fewness_of program number s) leaves end
     × (allocates_nothing program number ≡ true → IsDoneWith leaves end))
 
--- The version of that number is printed: it comes from a procedure of the text, whose name the report
--- gives with the fields that may differ, and its C does what that procedure does.
+-- The version of that number is printed: it comes from a procedure of the text, whose name the
+-- report gives with the fields that may differ, and its C does what that procedure does.
 pub record IsPrinted (text : Program) (v : Versions) (what : List Printing) (at : ℕ)
     (w : Printing) : Type 0 where
   pub version : Procedure
@@ -126,16 +126,18 @@ pub record IsPrinted (text : Program) (v : Versions) (what : List Printing) (at 
   pub comes : ComesFrom text v w.proc origin version
   pub origin_named : w.origin ≡ origin.name
   pub fields : w.fields ≡ differing_from v w.proc comes.from
+  -- no operator that is built leaves a field that may differ
+  pub nothing_differs : w.fields ≡ []
   pub kept : DoesWhat text v.unit what at w.proc w.fields origin version
 
--- What stands behind the C that is printed for a unit and a schedule: the versions that are printed,
--- which are the emitted ones and the functions that they call; and for each of these the promise that
--- its C does what a procedure of the text does.
+-- What stands behind the C that is printed for a unit and a schedule: the versions that are
+-- printed, which are the emitted ones and the functions that they call; and for each of these the
+-- promise that its C does what a procedure of the text does.
 pub record Promise (bytes schedule printed : List ℕ) : Type 0 where
   pub items : List Item
   pub versions : Versions
   pub what : List Printing
-  pub scheduled : IsScheduled bytes schedule items versions
+  pub made : AreMade bytes schedule items versions
   pub printings : what ≡ printings_of versions
   pub listing : IsListing versions.unit what
   pub memories : memory_fault versions.unit what ≡ None

@@ -12,7 +12,7 @@ use Rattle.text_show_laws.specs.Sizes.{IsWithinItem}
 use Rattle.text_show_laws.specs.Writable.{IsWritable}
 use Rattle.text_show_laws.specs.Written.{written}
 use Rattle.schedule_versions.specs.Versions.{Versions, version_of}
-use Rattle.compile_stages.specs.Promise.{IsScheduled, ComesFrom}
+use Rattle.compile_stages.specs.Promise.{AreMade, ComesFrom}
 
 -- The text that is written is that of the version which the name holds in the end. It comes from a
 -- procedure of the text; and where it keeps the limits of the grammar and names what is there, its
@@ -23,7 +23,7 @@ pub record Displayed (bytes schedule name text : List ℕ) : Type 0 where
   pub number : ℕ
   pub version : Procedure
   pub origin : Procedure
-  pub scheduled : IsScheduled bytes schedule items versions
+  pub made : AreMade bytes schedule items versions
   pub held : version_of versions name ≡ Some number
   pub comes : ComesFrom (unit_of items) versions number origin version
   pub text : text ≡ shown versions.unit number

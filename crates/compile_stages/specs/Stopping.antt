@@ -17,13 +17,29 @@ use Rattle.c_lowering.specs.declared.report.LowerError.{LowerError}
 use Rattle.c_lowering.specs.declared.report.LowerError.TheVariants as lower
 use Rattle.schedule_text.specs.Views.{plain_lines, numbers}
 use Rattle.schedule_text.specs.declared.source.Schedule as text
-use Rattle.schedule_run.specs.PlainWhy.{plain_why}
+use Rattle.cursor_forward.specs.PlainProposal.{cause_of}
+use Rattle.schedule_versions.specs.Lines as lines
+use Rattle.schedule_run.specs.PlainWhy.{plain_missing, fault_of}
+use Rattle.schedule_run.specs.declared.why.Why.{Why}
+use Rattle.schedule_run.specs.declared.why.Why.TheVariants as why
 use Rattle.compile_stages.specs.declared.stop.Stop as code
 use Rattle.compile_stages.specs.declared.stop.Stop.TheVariants as code_stop
 use Rattle.compile_stages.specs.declared.memories.MemoryFault.{MemoryFault}
 use Rattle.compile_stages.specs.Stops as plainly
 use Rattle.compile_stages.specs.Stops.{Stop}
 use Rattle.compile_stages.specs.Stages.{Stage, Passed, Stopped, Typed, Schedule, Made}
+
+-- None: want of memory, or nothing that a line is refused for
+abbrev pub plain_why : Why → Option lines.Why
+plain_why why.UnknownOperator = Some lines.UnknownOperator
+plain_why why.BadArguments = Some lines.BadArguments
+plain_why why.UnknownProc = Some lines.UnknownProc
+plain_why why.UnknownName = Some lines.UnknownName
+plain_why (why.NoPlace m) = Some (lines.NoPlace (plain_missing m))
+plain_why (why.Step e) = option_map lines.Step (cause_of e)
+plain_why (why.Check e) = option_map lines.Check (fault_of e)
+plain_why (why.NotShown what place verdict) = Some (lines.NotShown what place verdict)
+plain_why why.Memory = None
 
 abbrev pub plain : code.Stop → Option Stop
 plain code_stop.Memory = None
@@ -32,8 +48,8 @@ plain (code_stop.Broken e) = Some (plainly.Broken e)
 plain (code_stop.NotListed line e) = Some (plainly.NotListed line e)
 plain (code_stop.NotShown line what verdict) = Some (plainly.NotShown line what verdict)
 plain (code_stop.NoSchedule e) = Some (plainly.NoSchedule e)
-plain (code_stop.AtLine number operator why) =
-    option_map (plainly.AtLine number operator) (plain_why why)
+plain (code_stop.AtLine number operator w) =
+    option_map (plainly.AtLine number operator) (plain_why w)
 plain (code_stop.NoVersion name) = Some (plainly.NoVersion name)
 plain (code_stop.WrongMemory name e) = Some (plainly.WrongMemory name e)
 plain (code_stop.TooWide name) = Some (plainly.TooWide name)

@@ -17,7 +17,8 @@ pub fn compiled_is_promised()
     ensures { CompiledIsPromised }
 {
     unit_check::laws::checked_units_do_not_fault();
-    schedule_run::laws::runs_are_kept();
+    schedule_run::laws::schedules_keep();
+    schedule_run::laws::small_units_have_room();
     c_unit_laws::laws::files_follow();
     c_unit_laws::laws::files_without_allocations_are_done();
 }
@@ -27,7 +28,8 @@ pub fn displayed_is_promised()
     ensures { DisplayedIsPromised }
 {
     unit_check::laws::checked_units_do_not_fault();
-    schedule_run::laws::runs_are_kept();
+    schedule_run::laws::schedules_keep();
+    schedule_run::laws::small_units_have_room();
     text_show_laws::laws::shown_is_read();
 }
 

@@ -8,9 +8,9 @@ ghost use Rattle.exo_calls.specs.Passed.{is_function};
 ghost use Rattle.c_lowered.specs.LoweredUnit.{name_of};
 ghost use Rattle.c_lowering.specs.PlainPrinted.{printing};
 ghost use Rattle.c_unit_laws.specs.Listings.{printings_from};
-ghost use Rattle.schedule_versions.specs.Growth.{NothingDiffers};
-ghost use Rattle.schedule_run.specs.Sessions.{versions};
-ghost use Rattle.compile_stages.specs.Printings.{is_emitted, printing_of, printings_of, root_of};
+ghost use Rattle.schedule_versions.specs.Fields.{NothingDiffers};
+ghost use Rattle.schedule_run.specs.PlainVersions.{versions};
+ghost use Rattle.compile_stages.specs.Printings.{is_emitted, printing_of, printings_of};
 
 use c_lowering::Printed;
 use exo_calls::{Marks, Through, close};
@@ -38,27 +38,11 @@ fn reached(alloc: Global, unit: &Unit, emitted: &[ProcId]) -> Result<Marks, Allo
     Ok(marks)
 }
 
-/// The procedure of the text from which a version comes.
-fn root_of(session: &Session, k: usize) -> usize
-    ensures { result ≡ root_of (versions session.now) k }
-{
-    let mut version = k;
-    let mut left = k;
-    while left > 0 {
-        let Some(parent) = session.parent(version) else {
-            return version;
-        };
-        version = parent;
-        left -= 1;
-    }
-    version
-}
-
 /// The name of a version; empty where there is none of that number.
-fn name_of(alloc: Global, unit: &Unit, k: usize) -> Result<Name, AllocError>
-    ensures { IfOk result (λ name. name ≡ name_of (slice_get (program unit.now).procedures k)) }
+fn name_of(alloc: Global, unit: &Unit, k: ProcId) -> Result<Name, AllocError>
+    ensures { IfOk result (λ name. name ≡ name_of (slice_get (program unit.now).procedures k.0)) }
 {
-    match unit.procs.get(k) {
+    match unit.procs.get(k.0 as usize) {
         Some(p) => p.name.duplicate(alloc),
         None => Name::new(alloc, ""),
     }
@@ -86,9 +70,10 @@ fn printed(alloc: Global, session: &Session, k: usize) -> Result<Printed, AllocE
     let Ok(number) = u32::try_from(k) else {
         return Err(AllocError);
     };
-    let origin = name_of(alloc, session.unit(), root_of(session, k))?;
+    let proc = ProcId(number);
+    let origin = name_of(alloc, &session.unit, session.root(proc))?;
     Ok(Printed {
-        proc: ProcId(number),
+        proc,
         origin,
         fields: Vec::new(alloc),
     })
@@ -100,7 +85,7 @@ fn functions(alloc: Global, session: &Session, marks: &Marks) -> Result<Vec<Prin
     ensures { IfOk result (λ what. map printing what.items ≡ printings_from (contains marks.now) (printing_of (versions session.now)) 0 (versions session.now).unit.procedures) }
 {
     let mut what = Vec::new(alloc);
-    let procs = session.unit().procs.as_slice();
+    let procs = session.unit.procs.as_slice();
     for k in 0..procs.len() {
         if is_printed(&procs[k], k, marks) {
             what.push(printed(alloc, session, k)?)?;
@@ -115,6 +100,6 @@ pub(crate) fn printings(alloc: Global, session: &Session) -> Result<Vec<Printed>
     requires { NothingDiffers (versions session.now) }
     ensures { IfOk result (λ what. map printing what.items ≡ printings_of (versions session.now)) }
 {
-    let marks = reached(alloc, session.unit(), session.emitted())?;
+    let marks = reached(alloc, &session.unit, &session.emitted)?;
     functions(alloc, session, &marks)
 }

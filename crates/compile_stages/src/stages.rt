@@ -1,5 +1,5 @@
 // The way of a compilation, stage by stage.
-ghost use Rattle.std.specs.Prelude.{◌≡◌, ◌≤◌, ◌×◌, IfOk, IfSome, None, Some, length, slice_get, slice_index, string_bytes};
+ghost use Rattle.std.specs.Prelude.{◌≡◌, ◌≤◌, ◌<◌, IfOk, IfSome, None, length, map, option_map, string_bytes};
 ghost use Rattle.exo_tree.specs.PlainUnit.{program};
 ghost use Rattle.exo_meaning.specs.Units.{IsUnit};
 ghost use Rattle.exo_reader.specs.Texts.{ReadsUnit};
@@ -8,23 +8,28 @@ ghost use Rattle.exo_types.specs.UnitRules.{unit_fault, unit_of};
 ghost use Rattle.exo_types_laws.specs.Laws.{IsLow};
 ghost use Rattle.unit_check.specs.Checked.{Checked};
 ghost use Rattle.unit_check.specs.Outcomes.{IsRefused};
-ghost use Rattle.schedule_text.specs.Views.{plain_act, plain_line, plain_statement};
-ghost use Rattle.schedule_versions.specs.Growth.{NothingDiffers};
-ghost use Rattle.schedule_run.specs.Sessions.{versions};
-ghost use Rattle.compile_stages.specs.Stages.{Checks, Compiles, Displays, IsRan, IsScheduled, IsTyped, Schedules, Stopped, displayed, judged, operator_in, operator_of, shown};
-ghost use Rattle.compile_stages.specs.Stopping.{plain, schedule_of, stage, typed_of};
+ghost use Rattle.schedule_text.specs.Views.{number, plain_act, plain_line, plain_statement};
+ghost use Rattle.schedule_versions.specs.Fields.{NothingDiffers};
+ghost use Rattle.schedule_versions.specs.Versions.{held_after, version_of};
+ghost use Rattle.schedule_run.specs.PlainVersions.{binding, held, versions};
+ghost use Rattle.schedule_run.specs.declared.why.Why.TheVariants.{Memory};
+ghost use Rattle.compile_stages.specs.Stops as stop;
+ghost use Rattle.compile_stages.specs.Stages.{Checks, Compiles, Displays, IsRan, IsScheduled, IsTyped, Schedules, Stopped, displayed, judged, operator_in, operator_of, shown, stop_at};
+ghost use Rattle.compile_stages.specs.Stopping.{plain, plain_why, schedule_of, stage, typed_of};
 
 use crate::messages;
 use crate::printed::printed;
 use crate::printings::printings;
 use crate::stop::{Stop, no_schedule};
 use exo_reader::unit::{ReadError, Source, read_unit};
-use exo_tree::{Name, Unit};
+use exo_tree::{Name, ProcId, Unit};
 use exo_types::laws::read_texts_are_placed;
 use exo_types::unit::check_types;
 use exo_types_laws::laws::{read_units_are_formed, typed_units_are_low};
 use ob_check::{Cache, Gate, new_cache};
-use schedule_run::{Session, Why, run_schedule};
+use schedule_operators::laws::schedules_differ_in_nothing;
+use schedule_run::laws::small_units_have_room;
+use schedule_run::{Binding, Held, Refused, Session, Why, run_schedule};
 use schedule_text::source::{Act, Line, Schedule, Statement};
 use schedule_text::text::read_schedule;
 use std::alloc::{AllocError, Global};
@@ -46,7 +51,7 @@ pub fn compiled<R: Threads + Sync, G: Gate>(
 {
     let session = scheduled(rt, alloc, unit, schedule, gate)?;
     let what = printings(alloc, &session)?;
-    printed(alloc, session.unit(), &what)
+    printed(alloc, &session.unit, &what)
 }
 
 /// The text of the version that the name holds behind the schedule.
@@ -185,10 +190,23 @@ fn ran<R: Threads + Sync, G: Gate>(
     ensures stage { IfSome (stage versions result) (IsRan (program unit) count (schedule_of schedule.now)) }
     ensures fields { IfOk result (λ session. NothingDiffers (versions session)) }
 {
+    small_units_have_room();
+    schedules_differ_in_nothing();
     let lines = schedule.lines.as_slice();
     match run_schedule(rt, alloc, unit, count, lines, cache, gate) {
         Ok(session) => Ok(session),
-        Err((k, why)) => Err(at_line(alloc, &lines[k], why)?),
+        Err(refused) => Err(refused_at(alloc, lines, refused)?),
+    }
+}
+
+/// The stop where a line is refused.
+fn refused_at(alloc: Global, lines: &[Line], refused: Refused) -> Result<Stop, AllocError>
+    requires { (refused.why ≡ Memory → ⊥) → refused.index < length lines.now }
+    ensures { IfOk result (λ stop. plain stop ≡ option_map (stop_at (record { lines = map plain_line lines.now; numbers = map number lines.now }) refused.index) (plain_why refused.why)) }
+{
+    match refused.why {
+        Why::Memory => Ok(Stop::Memory),
+        why => at_line(alloc, &lines[refused.index], why),
     }
 }
 
@@ -221,12 +239,35 @@ fn operator_in(act: &Act) -> &str
     }
 }
 
+/// What a name holds.
+fn held<'a>(names: &'a [Binding], name: &str) -> Option<&'a Held>
+    ensures { option_map (λ h. held h.now) result ≡ held_after None (map binding names.now) name.now }
+{
+    let mut found = None;
+    for binding in names {
+        if binding.name.as_str() == name {
+            found = Some(&binding.held);
+        }
+    }
+    found
+}
+
+/// The version that a name holds.
+fn version_of(session: &Session, name: &str) -> Option<ProcId>
+    ensures { option_map (λ k. k.0) result ≡ version_of (versions session.now) name.now }
+{
+    match held(&session.names, name)? {
+        Held::Version(k) => Some(*k),
+        Held::At(_, _) => None,
+    }
+}
+
 /// The text of the version that the name holds.
 fn version_text(alloc: Global, session: &Session, name: &str) -> Result<String, Stop>
     ensures { IfSome (stage string_bytes result) (λ s. s ≡ displayed name.now (versions session.now)) }
 {
-    match session.version_of(name) {
-        Some(k) => Ok(show(alloc, session.unit(), k)?),
+    match version_of(session, name) {
+        Some(k) => Ok(show(alloc, &session.unit, k)?),
         None => Err(Stop::NoVersion(Name::new(alloc, name)?)),
     }
 }

@@ -2,10 +2,16 @@
 ghost use Rattle.std.specs.Prelude.{◌≡◌, ◌++◌, ◌∷◌, Some, option_map, IfOk, OnOk, string_bytes, codes, flat_map, map};
 ghost use Rattle.exo_tree.specs.PlainPlace.{step_taken};
 ghost use Rattle.cursor_forward.specs.PlainProposal.{cause_of};
-ghost use Rattle.compile_stages.specs.Kinds.{cause_text, missing_text, open_text, path_text, step_text, why_text};
+ghost use Rattle.schedule_run.specs.PlainWhy.{plain_missing};
+ghost use Rattle.schedule_run.specs.PlainWhy as run;
+ghost use Rattle.cursor_forward.specs.PlainProposal.{fault_of};
+ghost use Rattle.compile_stages.specs.Stopping.{plain_why};
+ghost use Rattle.compile_stages.specs.Kinds.{cause_text, fault_text, list_text, missing_text, open_text, path_text, step_text, why_text};
 
-use crate::kinds::{check_text, form_text, verdict_text};
+use crate::kinds::verdict_text;
+use affine_forms::FormError;
 use affine_prover::Verdict;
+use bounds_check::CheckError;
 use cursor_forward::StepError;
 use exo_tree::{Branch, Path, Step, Text};
 use schedule_run::{Missing, Why};
@@ -63,6 +69,34 @@ fn no_match(alloc: Global, path: &Path) -> Result<String, AllocError>
     Ok(out)
 }
 
+/// Why a normal form or a list of systems is refused; none for want of memory.
+fn fault_text(alloc: Global, error: FormError) -> Result<String, AllocError>
+    ensures { IfOk result (λ text. option_map fault_text (fault_of error) ≡ Some (string_bytes text)) }
+{
+    match error {
+        FormError::WideNumber => String::from_str(alloc, "WideNumber"),
+        FormError::TooManyCases => String::from_str(alloc, "TooManyCases"),
+        FormError::SystemTooLarge => String::from_str(alloc, "SystemTooLarge"),
+        FormError::TooManySystems => String::from_str(alloc, "TooManySystems"),
+        FormError::Memory => Err(AllocError),
+    }
+}
+
+/// Why obligations can't be listed; none for want of memory and for what no list is refused for.
+fn list_text(alloc: Global, error: CheckError) -> Result<String, AllocError>
+    ensures { IfOk result (λ text. option_map list_text (run.fault_of error) ≡ Some (string_bytes text)) }
+{
+    match error {
+        CheckError::TooManyObligations => String::from_str(alloc, "TooManyObligations"),
+        CheckError::Form(FormError::TooManyCases) => String::from_str(alloc, "TooManyCases"),
+        CheckError::Form(FormError::SystemTooLarge) => String::from_str(alloc, "SystemTooLarge"),
+        CheckError::Form(FormError::WideNumber) => String::from_str(alloc, "WideNumber"),
+        CheckError::Form(FormError::TooManySystems | FormError::Memory) | CheckError::Memory => {
+            Err(AllocError)
+        }
+    }
+}
+
 /// Why a step is refused; none for want of memory.
 fn cause_text(alloc: Global, cause: &StepError) -> Result<String, AllocError>
     ensures { IfOk result (λ text. option_map cause_text (cause_of cause.now) ≡ Some (string_bytes text)) }
@@ -86,14 +120,14 @@ fn cause_text(alloc: Global, cause: &StepError) -> Result<String, AllocError>
             let name = name.as_str();
             format!(in alloc; "Undetermined {name}")
         }
-        StepError::Form(e) => String::from_str(alloc, form_text(*e)),
+        StepError::Form(e) => fault_text(alloc, *e),
         StepError::Memory => Err(AllocError),
     }
 }
 
 /// What is missing where a cursor is asked.
 fn missing_text(missing: Missing) -> &'static str
-    ensures { result.now ≡ missing_text missing }
+    ensures { result.now ≡ missing_text (plain_missing missing) }
 {
     match missing {
         Missing::UnknownCursor => "UnknownCursor",
@@ -114,7 +148,7 @@ pub(crate) fn why_text(alloc: Global, why: &Why) -> Result<String, AllocError>
         Why::UnknownName => String::from_str(alloc, "UnknownName"),
         Why::NoPlace(missing) => String::from_str(alloc, missing_text(*missing)),
         Why::Step(cause) => cause_text(alloc, cause),
-        Why::Check(e) => String::from_str(alloc, check_text(*e)),
+        Why::Check(e) => list_text(alloc, *e),
         Why::NotShown { what, verdict, .. } => open_text(alloc, what, *verdict),
         Why::Memory => Err(AllocError),
     }

@@ -98,7 +98,7 @@ refines_but_for_more world p q but more h r = record {
 -- ---- a derivation
 
 -- the parent of a version is that of its origin
-pub parents : (os : List Origin) (k : ℕ)
+parents : (os : List Origin) (k : ℕ)
     → parent_in (map configured os) k ≡ option_and_then (λ (o : Origin). o.parent) (slice_get os k)
 parents [] zero = refl
 parents [] (suc k) = refl

@@ -50,14 +50,14 @@ pub record StepLaws : Type 0 where
   pub meaning : MeaningLaw
   pub refines : GrownRefinesLaw
 
-pub is_less : (k n : ℕ) → nat_lt k n ≡ true → k < n
+is_less : (k n : ℕ) → nat_lt k n ≡ true → k < n
 is_less k n h = grind arith
 
 less_is : (k n : ℕ) → k < n → nat_lt k n ≡ true
 less_is k n h = grind arith
 
 -- what is there has a number below the length
-pub within : {A : Type 0} (xs : List A) (k : ℕ) (x : A) → slice_get xs k ≡ Some x
+within : {A : Type 0} (xs : List A) (k : ℕ) (x : A) → slice_get xs k ≡ Some x
     → nat_lt k (length xs) ≡ true
 within [] zero x h = absurd (none h)
   where

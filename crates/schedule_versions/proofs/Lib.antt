@@ -4,5 +4,4 @@ mod Growing
 mod Derived
 mod Chain
 mod Runs
-mod Growth
-mod Roots
+mod Fields

@@ -1,7 +1,7 @@
 // Laws of versions, each the contract of a function with nothing to do.
 
 ghost use Rattle.schedule_versions.specs.Laws.{StartedIsDerived, RunIsDerived, VersionsRefine};
-ghost use Rattle.schedule_versions.specs.Growth.{RunsGrow, VersionsHaveRoots, RunsDifferInNothing};
+ghost use Rattle.schedule_versions.specs.Fields.{RunsDifferInNothing};
 
 /// The procedures of a well-formed unit of which nothing faults are versions to begin with.
 pub fn started_versions_are_derived()
@@ -25,16 +25,6 @@ pub fn runs_are_derived()
 /// A version refines each version of which it was made, but for the fields that the report names.
 pub fn versions_refine()
     ensures { VersionsRefine }
-{}
-
-/// The procedures of the text stand before all versions, and each of these was made of one that is there.
-pub fn runs_grow()
-    ensures { RunsGrow }
-{}
-
-/// Each version comes from a procedure of the text, in any number of steps.
-pub fn versions_have_roots()
-    ensures { VersionsHaveRoots }
 {}
 
 /// Where no operator names a field that may differ, no version differs in a field from one of which it was

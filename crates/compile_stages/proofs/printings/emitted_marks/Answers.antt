@@ -1,8 +1,8 @@
 use Rattle.std.proofs.Common.{subst}
 use Rattle.exo_calls.specs.Marked.{Marked}
-use Rattle.exo_cli.specs.Printings.{is_emitted}
-use Rattle.exo_cli.proofs.Listing.{emitted_then, emitted_end}
-use Rattle.exo_cli.proofs.printings.emitted_marks.Goals as goal
+use Rattle.compile_stages.specs.Printings.{is_emitted}
+use Rattle.compile_stages.proofs.Listing.{emitted_then, emitted_end}
+use Rattle.compile_stages.proofs.printings.emitted_marks.Goals as goal
 
 pub loop-k-preserved : goal.loop-k-preserved
 loop-k-preserved c = λ new h.

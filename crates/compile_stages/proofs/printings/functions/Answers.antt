@@ -4,10 +4,10 @@ use Rattle.exo_tree.specs.PlainProcedure.{procedure}
 use Rattle.exo_tree.specs.PlainUnit.{program}
 use Rattle.exo_calls.specs.Marked.{contains}
 use Rattle.c_lowering.specs.PlainPrinted.{printing}
-use Rattle.exo_cli.specs.Printings.{printing_of}
-use Rattle.exo_cli.proofs.Listing.{behind, one_printed, none_printed}
-use Rattle.exo_cli.proofs.printings.functions.Goals.{then-is_printed+in_ok-printed+in_ok-push, else-is_printed}
-use Rattle.exo_cli.proofs.printings.functions.Goals as goal
+use Rattle.compile_stages.specs.Printings.{printing_of}
+use Rattle.compile_stages.proofs.Listing.{behind, one_printed, none_printed}
+use Rattle.compile_stages.proofs.printings.functions.Goals.{then-is_printed+in_ok-printed+in_ok-push, else-is_printed}
+use Rattle.compile_stages.proofs.printings.functions.Goals as goal
 
 pub loop-k-preserved : goal.loop-k-preserved
 loop-k-preserved c =

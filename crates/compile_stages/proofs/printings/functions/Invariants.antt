@@ -5,8 +5,8 @@ use Rattle.exo_tree.specs.PlainUnit.{program}
 use Rattle.exo_calls.specs.Marked.{contains}
 use Rattle.c_lowering.specs.PlainPrinted.{printing}
 use Rattle.c_unit_laws.specs.Listings.{printings_from}
-use Rattle.exo_cli.specs.Printings.{printing_of}
-use Rattle.exo_cli.proofs.printings.functions.Given as goal
+use Rattle.compile_stages.specs.Printings.{printing_of}
+use Rattle.compile_stages.proofs.printings.functions.Given as goal
 
 abbrev pub invariant-loop-k : goal.invariant-loop-k
 invariant-loop-k l =

@@ -3,10 +3,10 @@ use Rattle.exo_tree.specs.PlainUnit.{program}
 use Rattle.exo_calls.specs.Closed.{closed}
 use Rattle.exo_calls.specs.Marked.{contains}
 use Rattle.exo_calls.specs.Passed.{is_function}
-use Rattle.exo_cli.specs.Printings.{is_emitted, printing_of}
-use Rattle.exo_cli.proofs.Listing.{same_printings}
-use Rattle.exo_cli.proofs.Running.{if-ok}
-use Rattle.exo_cli.proofs.printings.printings.Goals as goal
+use Rattle.compile_stages.specs.Printings.{is_emitted, printing_of}
+use Rattle.compile_stages.proofs.Listing.{same_printings}
+use Rattle.compile_stages.proofs.Running.{if-ok}
+use Rattle.compile_stages.proofs.printings.printings.Goals as goal
 
 pub returns : goal.returns
 returns c =

@@ -1,7 +1,7 @@
 use Rattle.std.proofs.Common.{◌<◌, ◌∙◌, sym, subst}
 use Rattle.exo_tree.specs.PlainUnit.{program}
-use Rattle.exo_cli.proofs.Listing.{length_none, reached_is}
-use Rattle.exo_cli.proofs.printings.reached.Goals as goal
+use Rattle.compile_stages.proofs.Listing.{length_none, reached_is}
+use Rattle.compile_stages.proofs.printings.reached.Goals as goal
 
 pub close-requires : goal.close-requires
 close-requires c = c.in_ok-marks.ensures.same_length ∙ (length_none c.len.result ∙ c.len.ensures)

@@ -5,9 +5,9 @@ use Rattle.c_lowered.specs.LoweredUnit.{lowered}
 use Rattle.c_lowering.specs.PlainPrinted.{printing}
 use Rattle.c_lowering.specs.Refusals.{too_wide, name_clash, Refuses}
 use Rattle.c_lowering.specs.declared.report.Printed.{Printed}
-use Rattle.exo_cli.specs.Stopping.{made_of}
-use Rattle.exo_cli.proofs.Printing.{text_is, stop_is}
-use Rattle.exo_cli.proofs.stages.lowered_text.Goals as goal
+use Rattle.compile_stages.specs.Stopping.{made_of}
+use Rattle.compile_stages.proofs.Printing.{text_is, stop_is}
+use Rattle.compile_stages.proofs.stages.lowered_text.Goals as goal
 
 pub returns-in_ok-c_text-in-Ok : goal.returns-in_ok-c_text-in-Ok
 returns-in_ok-c_text-in-Ok c =

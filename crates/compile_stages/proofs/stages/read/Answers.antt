@@ -4,7 +4,7 @@ use Rattle.text_lexer.specs.Layout.{lexed, place_of, token_of, end_place}
 use Rattle.exo_reader.specs.Items.{unit}
 use Rattle.exo_reader.specs.Texts.{tokens_of, places_of}
 use Rattle.exo_types.specs.Typed.{items_of}
-use Rattle.exo_cli.proofs.stages.read.Goals as goal
+use Rattle.compile_stages.proofs.stages.read.Goals as goal
 
 -- there is a place more than tokens
 fewer : (text : List ℕ) → length (places_of text) ≤ 0x100001 → length (tokens_of text) ≤ 0x100000

@@ -1,10 +1,10 @@
--- What a line leaves: the versions that were there, or one more.
-use Rattle.std.proofs.Common.{◌≡◌, ◌≤◌, ◌<◌, ◌+◌, ⊤, ℕ, zero, suc, Bool, true, false, nat_lt}
+-- What a line leaves: the versions that were there, or one more; and so no field that may differ where
+-- no operator names one.
+use Rattle.std.proofs.Common.{◌≡◌, ◌+◌, ⊤, ℕ, zero, suc, Bool, true, false}
 use Rattle.std.proofs.Common.{List, [], ◌∷◌, ◌++◌, map, length, Option, Some, None, refl, sym, ap}
-use Rattle.std.proofs.Common.{◌∙◌, ◌==◌, ap₂, subst, arith, append_assoc, append-nil}
-use Rattle.std.specs.Prelude.{slice_get, if◌then◌else◌, option_and_then}
-use Rattle.exo_tree.specs.Tree.{Procedure, Program}
-use Rattle.exo_tree.specs.Places.{Path}
+use Rattle.std.proofs.Common.{◌∙◌, ◌==◌, ap₂, subst}
+use Rattle.std.specs.Prelude.{slice_get, if◌then◌else◌}
+use Rattle.exo_tree.specs.Tree.{Procedure}
 use Rattle.exo_meaning.specs.Orders.{Each}
 use Rattle.config_state.specs.FieldSets.{fields_from, fields_where}
 use Rattle.config_laws.specs.Differing as config
@@ -25,16 +25,14 @@ use Rattle.schedule_calls.specs.Requests.{Move}
 use Rattle.schedule_versions.specs.Versions.{Origin, of_text, made_of, configured, Versions, started}
 use Rattle.schedule_versions.specs.Versions.{version_at, held, version_of, with_step}
 use Rattle.schedule_versions.specs.Places.{Sought, Got, Lost, Place, then_seek}
-use Rattle.schedule_versions.specs.Places.{moved_at, matched, parent_at}
+use Rattle.schedule_versions.specs.Places.{moved_at, matched}
 use Rattle.schedule_versions.specs.Lines.{Why, BadArguments, Progress, Went, Refused, owed_for, target}
 use Rattle.schedule_versions.specs.Lines.{shown_step, checked_step, proposed_step, Ruled, Call}
 use Rattle.schedule_versions.specs.Lines.{all_sought, ruled_step, found_step, called_on, called}
 use Rattle.schedule_versions.specs.Lines.{binding, searched, held_place, is_instruction, emitting}
 use Rattle.schedule_versions.specs.Lines.{Act, Faulty, Apply, Search, Moved, Emit, performed}
 use Rattle.schedule_versions.specs.Lines.{Outcome, Done, run_from, behind}
-use Rattle.schedule_versions.specs.Growth.{HasGrown, RunsGrow, NamesNoField, CallNamesNoField}
-use Rattle.schedule_versions.specs.Growth.{ActNamesNoField, NothingDiffers, RunsDifferInNothing}
-use Rattle.schedule_versions.proofs.Growing.{mapped_more}
+use Rattle.schedule_versions.specs.Fields.{ActNamesNoField, NothingDiffers, RunsDifferInNothing}
 
 -- ---- one line
 
@@ -173,96 +171,6 @@ module _ (P : Plan → Type 0) where
     held_behind k (a ∷ more) v w is h e =
         goes_on k (run_from (k + 1) more) (performed v a) v w (act_arrives v a is.0) h
         (λ u g f. held_behind (k + 1) more u w is.1 g f) e
-
--- ---- procedures
-
-any_plan : (acts : List Act) → Each (Plans (λ m. ⊤)) acts
-any_plan [] = tt
-any_plan (Faulty why ∷ more) = (tt, any_plan more)
-any_plan (Apply name of call ∷ more) = (λ t cs r e m f. tt, any_plan more)
-any_plan (Search name of pattern nth moves ∷ more) = (tt, any_plan more)
-any_plan (Moved name of moves ∷ more) = (tt, any_plan more)
-any_plan (Emit name ∷ more) = (tt, any_plan more)
-
-one_more : {A : Type 0} (xs : List A) (x : A) → length (xs ++ x ∷ []) ≡ suc (length xs)
-one_more [] x = refl
-one_more (y ∷ ys) x = ap suc (one_more ys x)
-
--- the last place of a longer list, and those before it
-data Where {A : Type 0} (xs : List A) (x : A) (k : ℕ) : Type 0 where
-  before : k < length xs → slice_get (xs ++ x ∷ []) k ≡ slice_get xs k → Where xs x k
-  here : slice_get (xs ++ x ∷ []) k ≡ Some x → Where xs x k
-  past : suc (length xs) ≤ k → Where xs x k
-
-where_is : {A : Type 0} (xs : List A) (x : A) (k : ℕ) → Where xs x k
-where_is [] x zero = here refl
-where_is [] x (suc k) = past (omega arith)
-where_is (y ∷ ys) x zero = before (omega arith) refl
-where_is (y ∷ ys) x (suc k) = by (where_is ys x k)
-  where
-    by : Where ys x k → Where (y ∷ ys) x (suc k)
-    by (before h e) = before (omega (arith, h)) e
-    by (here e) = here e
-    by (past h) = past (omega (arith, h))
-
-module _ (text : Program) where
-  grown_step : (v w : Versions) → Grows (λ m. ⊤) v w → HasGrown text v → HasGrown text w
-  grown_step v w (same w unit origins) h = record {
-    behind = h.behind;
-    procedures = ap (λ (u : Program). u.procedures) unit ∙ h.procedures;
-    fields = ap (λ (u : Program). u.fields) unit ∙ h.fields;
-    memories = ap (λ (u : Program). u.memories) unit ∙ h.memories;
-    count = ap length origins ∙ (h.count ∙ ap (λ (u : Program). length u.procedures) (sym unit));
-    first = λ k l none. h.first k
-        (subst (λ (u : Program). k < length u.procedures) unit l)
-        (ap (λ os. option_and_then (λ (o : Origin). o.parent) (slice_get os k)) (sym origins) ∙ none);
-  }
-  grown_step v w (more name k m shown is) h = record {
-    behind = h.behind ++ m.proc ∷ [];
-    procedures =
-        ap (λ ps. ps ++ m.proc ∷ []) h.procedures
-        ∙ append_assoc text.procedures h.behind (m.proc ∷ []);
-    fields = h.fields;
-    memories = h.memories;
-    count =
-        one_more v.origins (made_of k m)
-        ∙ (ap suc h.count ∙ sym (one_more v.unit.procedures m.proc));
-    first = λ i l none. by i (subst (λ n. i < n) (one_more v.unit.procedures m.proc) l) none
-        (where_is v.origins (made_of k m) i);
-  }
-    where
-      parent_of : Option Origin → Option ℕ
-      parent_of o = option_and_then (λ (o : Origin). o.parent) o
-
-      made_has_one : parent_of (Some (made_of k m)) ≡ None → ⊥
-      made_has_one e = cc
-
-      by : (i : ℕ) → i < suc (length v.unit.procedures)
-          → parent_of (slice_get (v.origins ++ made_of k m ∷ []) i) ≡ None
-          → Where v.origins (made_of k m) i → i < length text.procedures
-      by i l none (before b e) =
-          h.first i (subst (λ n. i < n) h.count b) (ap parent_of (sym e) ∙ none)
-      by i l none (here e) = absurd (made_has_one (ap parent_of (sym e) ∙ none))
-      by i l none (past b) = absurd (omega (arith, l, b, h.count))
-
-  pub begun : (shown : ℕ) → HasGrown text (started text shown)
-  begun shown = record {
-    behind = [];
-    procedures = sym (append-nil text.procedures);
-    fields = refl;
-    memories = refl;
-    count = as_many text.procedures;
-    first = λ k l none. l;
-  }
-    where
-      as_many : (ps : List Procedure) → length (map (λ (p : Procedure). of_text) ps) ≡ length ps
-      as_many [] = refl
-      as_many (p ∷ ps) = ap suc (as_many ps)
-
-pub runs_grow : RunsGrow
-runs_grow text shown acts v ran =
-    held_behind (λ m. ⊤) (HasGrown text) (grown_step text) 0 acts (started text shown) v
-    (any_plan acts) (begun text shown) ran
 
 -- ---- fields
 

@@ -1,0 +1,9 @@
+pub mod Running
+pub mod Typing
+pub mod Unique
+pub mod Worlds
+pub mod Listing
+pub mod Printed
+pub mod Printing
+pub mod Nothing
+pub mod Promise
