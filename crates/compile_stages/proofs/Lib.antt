@@ -5,5 +5,5 @@ pub mod Worlds
 pub mod Listing
 pub mod Printed
 pub mod Printing
-pub mod Nothing
+pub mod Lines
 pub mod Promise

@@ -23,7 +23,7 @@ use Rattle.c_unit_laws.specs.Laws.{FilesFollow}
 use Rattle.c_unit_laws.specs.Stores.{FilesWithoutAllocationsAreDone}
 use Rattle.unit_check.specs.Faults.{NothingFaults}
 use Rattle.schedule_versions.specs.Versions.{Versions, version_at}
-use Rattle.schedule_versions.specs.Fields.{NothingDiffers}
+use Rattle.schedule_versions.specs.Behind.{NothingDiffers}
 use Rattle.schedule_run.specs.Roots.{root_of}
 use Rattle.schedule_run.specs.Laws.{AreVersionsOf, IsVersionOf, AreKept}
 use Rattle.compile_stages.specs.Printings.{differing_from, printing_of, printings_of}
@@ -106,7 +106,7 @@ below [] (suc k) x e = absurd (nothing_there e)
 below (y ∷ xs) zero x e = omega arith
 below (y ∷ xs) (suc k) x e = let h = below xs k x e in omega (arith, h)
 
-at_place : {A : Type 0} (xs : List A) (k : ℕ) → k < length xs → (x : A) × (slice_get xs k ≡ Some x)
+pub at_place : {A : Type 0} (xs : List A) (k : ℕ) → k < length xs → (x : A) × (slice_get xs k ≡ Some x)
 at_place [] k h = absurd (omega (arith, h))
 at_place (x ∷ xs) zero h = (x, refl)
 at_place (x ∷ xs) (suc k) h = at_place xs k (omega (arith, h))

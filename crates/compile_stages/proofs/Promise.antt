@@ -31,7 +31,7 @@ use Rattle.schedule_versions.specs.Versions.{Versions, started, version_at, vers
 use Rattle.schedule_versions.specs.Lines.{Outcome, Done}
 use Rattle.schedule_versions.specs.Lines as lines
 use Rattle.schedule_versions.specs.Laws.{HasRoom}
-use Rattle.schedule_versions.specs.Fields.{NothingDiffers}
+use Rattle.schedule_versions.specs.Behind.{NothingDiffers, RunsHoldVersions}
 use Rattle.schedule_operators.specs.Operators.{SchedulesDifferInNothing}
 use Rattle.schedule_run.specs.Runs.{LinesRun}
 use Rattle.schedule_run.specs.Laws.{SchedulesKeep, SmallUnitsHaveRoom, AreKept}
@@ -49,8 +49,8 @@ use Rattle.compile_stages.specs.Laws.{CompiledIsPromised, DisplayedIsPromised, C
 use Rattle.compile_stages.proofs.Running.{led, passed_then, passed_is, stopped_is_not_passed}
 use Rattle.compile_stages.proofs.Typing.{Formed, typed_is_formed, all_shown}
 use Rattle.compile_stages.proofs.Listing.{nothing_there, some_is, few_printings}
-use Rattle.compile_stages.proofs.Printed.{FileLaws, origin_of, comes_from, each_printed}
-use Rattle.compile_stages.proofs.Nothing.{runs_leave_fields}
+use Rattle.compile_stages.proofs.Printed.{FileLaws, at_place, origin_of, comes_from, each_printed}
+use Rattle.compile_stages.proofs.Lines.{runs_leave_fields, runs_hold}
 
 -- the laws of lower crates on which all that is promised rests
 pub record LawsBelow : Type 0 where
@@ -58,6 +58,7 @@ pub record LawsBelow : Type 0 where
   pub keeps : SchedulesKeep
   pub room : SmallUnitsHaveRoom
   pub bare : SchedulesDifferInNothing
+  pub hold : RunsHoldVersions
 
 -- ---- what the last stages ask
 
@@ -221,6 +222,12 @@ compiled_is_promised laws files listings source schedule out h =
 
 module _ (laws : LawsBelow) (reads : ShownIsRead) (source schedule name out : List ℕ) (v : Versions)
     (k : Known laws source schedule v) where
+  none_held : (j : ℕ) → version_of v name ≡ Some j → version_at v j ≡ None → ⊥
+  none_held j held there =
+      let low = runs_hold laws.hold (unit_of k.formed.items) k.made.count k.made.lines v name j k.made.ran held in
+      let one = at_place v.unit.procedures j low in
+      nothing_there (sym there ∙ one.1)
+
   number_known : (o : Option ℕ) → version_of v name ≡ o
       → Passed out ≡ (elim o as (λ o. Stage (List ℕ)) [
         | None ↦ Stopped (stop.NoVersion name)
@@ -230,7 +237,7 @@ module _ (laws : LawsBelow) (reads : ShownIsRead) (source schedule name out : Li
   number_known (Some j) held e = by (version_at v j) refl
     where
       by : (o : Option Procedure) → version_at v j ≡ o → Displayed source schedule name out
-      by None there = absurd (none_held laws source schedule v k name j held there)
+      by None there = absurd (none_held j held there)
       by (Some q) there =
           let text = unit_of k.formed.items in
           let is = passed_is e in

@@ -19,6 +19,9 @@ pub fn compiled_is_promised()
     unit_check::laws::checked_units_do_not_fault();
     schedule_run::laws::schedules_keep();
     schedule_run::laws::small_units_have_room();
+    schedule_operators::laws::schedules_differ_in_nothing();
+    schedule_versions::laws::runs_hold_versions();
+    c_unit_laws::laws::printings_are_listings();
     c_unit_laws::laws::files_follow();
     c_unit_laws::laws::files_without_allocations_are_done();
 }
@@ -30,6 +33,8 @@ pub fn displayed_is_promised()
     unit_check::laws::checked_units_do_not_fault();
     schedule_run::laws::schedules_keep();
     schedule_run::laws::small_units_have_room();
+    schedule_operators::laws::schedules_differ_in_nothing();
+    schedule_versions::laws::runs_hold_versions();
     text_show_laws::laws::shown_is_read();
 }
 

@@ -9,7 +9,7 @@ ghost use Rattle.exo_types_laws.specs.Laws.{IsLow};
 ghost use Rattle.unit_check.specs.Checked.{Checked};
 ghost use Rattle.unit_check.specs.Outcomes.{IsRefused};
 ghost use Rattle.schedule_text.specs.Views.{number, plain_act, plain_line, plain_statement};
-ghost use Rattle.schedule_versions.specs.Fields.{NothingDiffers};
+ghost use Rattle.schedule_versions.specs.Behind.{NothingDiffers};
 ghost use Rattle.schedule_versions.specs.Versions.{held_after, version_of};
 ghost use Rattle.schedule_run.specs.PlainVersions.{binding, held, versions};
 ghost use Rattle.schedule_run.specs.declared.why.Why.TheVariants.{Memory};

@@ -14,7 +14,7 @@ use Rattle.schedule_versions.specs.Versions.{started}
 use Rattle.schedule_versions.specs.Lines.{Ruled}
 use Rattle.schedule_versions.specs.Laws.{NamesFields, IsLawfulAct, HasRoom}
 use Rattle.schedule_versions.specs.Laws.{StartedIsDerived, RunIsDerived}
-use Rattle.schedule_versions.specs.Fields.{NamesNoField, ActNamesNoField, RunsDifferInNothing}
+use Rattle.schedule_versions.specs.Behind.{NamesNoField, ActNamesNoField, RunsDifferInNothing}
 use Rattle.schedule_operators.specs.Operators.{at_statement, on_procedure, act_of}
 use Rattle.schedule_operators.specs.Operators.{OperatorsAreLawful, SchedulesDerive}
 use Rattle.schedule_operators.specs.Operators.{OperatorsNameNoField, SchedulesDifferInNothing}

@@ -14,7 +14,7 @@ use Rattle.schedule_calls.specs.Requests as request
 use Rattle.schedule_versions.specs.Versions.{Versions, started}
 use Rattle.schedule_versions.specs.Lines.{Ruled, Call, Act, Apply, Search, Moved, Emit, Done, run_acts}
 use Rattle.schedule_versions.specs.Laws.{IsLawfulCall, AreDerived, HasRoom}
-use Rattle.schedule_versions.specs.Fields.{CallNamesNoField, NothingDiffers}
+use Rattle.schedule_versions.specs.Behind.{CallNamesNoField, NothingDiffers}
 
 -- ---- cursors
 

@@ -4,4 +4,4 @@ mod Growing
 mod Derived
 mod Chain
 mod Runs
-mod Fields
+mod Behind

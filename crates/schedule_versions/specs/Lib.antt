@@ -2,4 +2,4 @@ pub mod Versions
 pub mod Places
 pub mod Lines
 pub mod Laws
-pub mod Fields
+pub mod Behind

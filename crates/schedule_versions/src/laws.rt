@@ -1,7 +1,7 @@
 // Laws of versions, each the contract of a function with nothing to do.
 
 ghost use Rattle.schedule_versions.specs.Laws.{StartedIsDerived, RunIsDerived, VersionsRefine};
-ghost use Rattle.schedule_versions.specs.Fields.{RunsDifferInNothing};
+ghost use Rattle.schedule_versions.specs.Behind.{RunsHoldVersions, RunsDifferInNothing};
 
 /// The procedures of a well-formed unit of which nothing faults are versions to begin with.
 pub fn started_versions_are_derived()
@@ -25,6 +25,11 @@ pub fn runs_are_derived()
 /// A version refines each version of which it was made, but for the fields that the report names.
 pub fn versions_refine()
     ensures { VersionsRefine }
+{}
+
+/// What a name holds behind the lines of a schedule is there.
+pub fn runs_hold_versions()
+    ensures { RunsHoldVersions }
 {}
 
 /// Where no operator names a field that may differ, no version differs in a field from one of which it was

@@ -1,4 +1,4 @@
-use Rattle.schedule_versions.proofs.Fields.{runs_differ_in_nothing}
+use Rattle.schedule_versions.proofs.Behind.{runs_differ_in_nothing}
 use Rattle.schedule_versions.proofs.laws.runs_differ_in_nothing.Goals as goal
 
 pub returns : goal.returns

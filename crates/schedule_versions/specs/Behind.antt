@@ -1,13 +1,25 @@
--- Which fields the report names where no operator names any.
-use Rattle.std.specs.Prelude.{◌≡◌, ⊤, ℕ, List, [], map}
+-- What holds behind all lines of a schedule: names hold versions that are there; and which fields the
+-- report names where no operator names any.
+use Rattle.std.specs.Prelude.{◌≡◌, ◌<◌, ⊤, ℕ, List, [], length, map, Some}
 use Rattle.exo_tree.specs.Tree.{Program}
 use Rattle.exo_meaning.specs.Orders.{Each}
 use Rattle.config_laws.specs.Differing.{differing}
 use Rattle.cursor_forward.specs.Cursors.{Cursor}
 use Rattle.step_rules.specs.Rule.{Target, Got, Spot, Rule}
-use Rattle.schedule_versions.specs.Versions.{configured, Versions, started}
+use Rattle.schedule_versions.specs.Versions.{configured, Versions, started, version_of}
 use Rattle.schedule_versions.specs.Lines.{Ruled, Call, Act, Faulty, Apply, Search, Moved, Emit}
 use Rattle.schedule_versions.specs.Lines.{Done, run_acts}
+
+-- ---- names
+
+abbrev pub RunsHoldVersions : Type 0
+RunsHoldVersions =
+    (text : Program) (shown : ℕ) (acts : List Act) (v : Versions) (name : List ℕ) (k : ℕ)
+    → run_acts acts (started text shown) ≡ Done v
+    → version_of v name ≡ Some k
+    → k < length v.unit.procedures
+
+-- ---- fields
 
 -- the rules of an operator say of no field that it may differ
 abbrev pub NamesNoField : Rule → Type 0

@@ -1,12 +1,13 @@
--- No version that the lines of a schedule make differs in a field from one of which it was made.
-use Rattle.std.proofs.Common.{◌≡◌, ℕ, suc, List, [], ◌∷◌, map, refl, sym, ap, ◌∙◌, subst}
+-- What holds behind the lines of a schedule: no version differs in a field from one of which it was
+-- made, and names hold versions that are there.
+use Rattle.std.proofs.Common.{◌≡◌, ◌<◌, ℕ, suc, List, [], ◌∷◌, map, length, Some, refl, ap, ◌∙◌}
 use Rattle.exo_tree.specs.Tree.{Program}
 use Rattle.schedule_text.specs.Tree as tree
 use Rattle.schedule_calls.specs.Requests.{Request}
-use Rattle.schedule_versions.specs.Versions.{Versions, started}
+use Rattle.schedule_versions.specs.Versions.{Versions, started, version_of}
 use Rattle.schedule_versions.specs.Lines.{Why, UnknownOperator, BadArguments, Act, Faulty, Progress, Went}
 use Rattle.schedule_versions.specs.Lines.{Refused, performed, Outcome, Done, Stopped, behind, run_from}
-use Rattle.schedule_versions.specs.Fields.{NothingDiffers}
+use Rattle.schedule_versions.specs.Behind.{NothingDiffers, RunsHoldVersions}
 use Rattle.schedule_operators.specs.Operators.{act_of, SchedulesDifferInNothing}
 use Rattle.schedule_run.specs.Runs.{IsAct, asked, unknown, bad, LinesRun, ends, stops, goes}
 
@@ -48,3 +49,10 @@ pub runs_leave_fields : SchedulesDifferInNothing → (unit : Program) (shown : �
 runs_leave_fields law unit shown lines w runs =
     let r = requested_from 0 lines (started unit shown) w (Done w) runs refl in
     law unit shown r.requests w r.ran
+
+pub runs_hold : RunsHoldVersions → (unit : Program) (shown : ℕ) (lines : List tree.Line) (w : Versions)
+    (name : List ℕ) (k : ℕ) → LinesRun 0 lines (started unit shown) (Done w)
+    → version_of w name ≡ Some k → k < length w.unit.procedures
+runs_hold law unit shown lines w name k runs is =
+    let r = requested_from 0 lines (started unit shown) w (Done w) runs refl in
+    law unit shown (map act_of r.requests) w name k r.ran is

@@ -1,8 +1,9 @@
--- What a line leaves: the versions that were there, or one more; and so no field that may differ where
--- no operator names one.
-use Rattle.std.proofs.Common.{◌≡◌, ◌+◌, ⊤, ℕ, zero, suc, Bool, true, false}
+-- What each line leaves, and so what all of them leave: names hold versions that are there, and no field
+-- may differ where no operator names one.
+use Rattle.std.proofs.Common.{◌≡◌, ◌+◌, ◌<◌, ◌≤◌, ⊤, ℕ, zero, suc, Bool, true, false}
 use Rattle.std.proofs.Common.{List, [], ◌∷◌, ◌++◌, map, length, Option, Some, None, refl, sym, ap}
-use Rattle.std.proofs.Common.{◌∙◌, ◌==◌, ap₂, subst}
+use Rattle.std.proofs.Common.{◌∙◌, ◌==◌, ap₂, subst, arith}
+use Rattle.std.specs.Str.{bytes_eq}
 use Rattle.std.specs.Prelude.{slice_get, if◌then◌else◌}
 use Rattle.exo_tree.specs.Tree.{Procedure}
 use Rattle.exo_meaning.specs.Orders.{Each}
@@ -22,8 +23,9 @@ use Rattle.step_rules.specs.Rule as rule
 use Rattle.step_rules.specs.Answer.{proposed, spot}
 use Rattle.step_rules.proofs.Proposals.{proposal_of}
 use Rattle.schedule_calls.specs.Requests.{Move}
-use Rattle.schedule_versions.specs.Versions.{Origin, of_text, made_of, configured, Versions, started}
-use Rattle.schedule_versions.specs.Versions.{version_at, held, version_of, with_step}
+use Rattle.schedule_versions.specs.Versions.{Origin, of_text, made_of, configured, Held, Version, At}
+use Rattle.schedule_versions.specs.Versions.{Versions, names_from, started, version_at, held_after, held}
+use Rattle.schedule_versions.specs.Versions.{as_version, version_of, bound, with_step}
 use Rattle.schedule_versions.specs.Places.{Sought, Got, Lost, Place, then_seek}
 use Rattle.schedule_versions.specs.Places.{moved_at, matched}
 use Rattle.schedule_versions.specs.Lines.{Why, BadArguments, Progress, Went, Refused, owed_for, target}
@@ -32,14 +34,17 @@ use Rattle.schedule_versions.specs.Lines.{all_sought, ruled_step, found_step, ca
 use Rattle.schedule_versions.specs.Lines.{binding, searched, held_place, is_instruction, emitting}
 use Rattle.schedule_versions.specs.Lines.{Act, Faulty, Apply, Search, Moved, Emit, performed}
 use Rattle.schedule_versions.specs.Lines.{Outcome, Done, run_from, behind}
-use Rattle.schedule_versions.specs.Fields.{ActNamesNoField, NothingDiffers, RunsDifferInNothing}
+use Rattle.schedule_versions.specs.Behind.{RunsHoldVersions, ActNamesNoField, NothingDiffers}
+use Rattle.schedule_versions.specs.Behind.{RunsDifferInNothing}
 
 -- ---- one line
 
 module _ (P : Plan → Type 0) where
-  -- the unit stays, or it has a version more, which such a plan makes
+  -- a name holds a cursor more, a version more is emitted, or there is a version more, which such a plan
+  -- makes
   data Grows (v : Versions) : Versions → Type 0 where
-    same : (w : Versions) → w.unit ≡ v.unit → w.origins ≡ v.origins → Grows v w
+    binds : (name : List ℕ) (j : ℕ) (c : Cursor) → Grows v (bound name (At j c) v)
+    emits : (k : ℕ) → Grows v (record v { emitted = v.emitted ++ k ∷ [] })
     more : (name : List ℕ) (k : ℕ) (m : Plan) (shown : ℕ) → P m → Grows v (with_step name k m shown v)
 
   -- each plan of the operator is such a one
@@ -122,7 +127,7 @@ module _ (P : Plan → Type 0) where
 
     binding_arrives : (name : List ℕ) (s : Sought Place) → Arrives (binding v name s)
     binding_arrives name (Lost why) = refused _
-    binding_arrives name (Got p) = went _ (same _ refl refl)
+    binding_arrives name (Got p) = went _ (binds name p.version p.cursor)
 
     searched_arrives : (name : List ℕ) (pattern : Pattern) (nth : ℕ) (moves : List Move)
         (o : Option ℕ) → Arrives (searched v name pattern nth moves o)
@@ -137,7 +142,7 @@ module _ (P : Plan → Type 0) where
         by : (b : Bool) → Arrives (if b then Refused BadArguments
             else Went (record v { emitted = v.emitted ++ k ∷ [] }))
         by true = refused _
-        by false = went _ (same _ refl refl)
+        by false = went _ (emits k)
 
     act_arrives : (a : Act) → Plans a → Arrives (performed v a)
     act_arrives (Faulty why) is = refused why
@@ -172,6 +177,100 @@ module _ (P : Plan → Type 0) where
         goes_on k (run_from (k + 1) more) (performed v a) v w (act_arrives v a is.0) h
         (λ u g f. held_behind (k + 1) more u w is.1 g f) e
 
+-- ---- names
+
+any_plan : (acts : List Act) → Each (Plans (λ m. ⊤)) acts
+any_plan [] = tt
+any_plan (Faulty why ∷ more) = (tt, any_plan more)
+any_plan (Apply name of call ∷ more) = (λ t cs r e m f. tt, any_plan more)
+any_plan (Search name of pattern nth moves ∷ more) = (tt, any_plan more)
+any_plan (Moved name of moves ∷ more) = (tt, any_plan more)
+any_plan (Emit name ∷ more) = (tt, any_plan more)
+
+-- a version below that number, or a cursor
+abbrev IsBelow : ℕ → Held → Type 0
+IsBelow n (Version k) = k < n
+IsBelow n (At k c) = ⊤
+
+abbrev AreBelow : ℕ → List (List ℕ × Held) → Type 0
+AreBelow n names = Each (λ (b : List ℕ × Held). IsBelow n b.1) names
+
+abbrev NamesAreBelow : Versions → Type 0
+NamesAreBelow v = AreBelow (length v.unit.procedures) v.names
+
+one_longer : {A : Type 0} (xs : List A) (x : A) → length (xs ++ x ∷ []) ≡ suc (length xs)
+one_longer [] x = refl
+one_longer (y ∷ ys) x = ap suc (one_longer ys x)
+
+still_below : (n : ℕ) (h : Held) → IsBelow n h → IsBelow (suc n) h
+still_below n (Version k) l = omega (arith, l)
+still_below n (At k c) l = tt
+
+all_still_below : (n : ℕ) (names : List (List ℕ × Held)) → AreBelow n names → AreBelow (suc n) names
+all_still_below n [] h = tt
+all_still_below n (b ∷ more) h = (still_below n b.1 h.0, all_still_below n more h.1)
+
+one_below : (n : ℕ) (names : List (List ℕ × Held)) (b : List ℕ × Held) → AreBelow n names
+    → IsBelow n b.1 → AreBelow n (names ++ b ∷ [])
+one_below n [] b h k = (k, tt)
+one_below n (a ∷ more) b h k = (h.0, one_below n more b h.1 k)
+
+names_step : (v w : Versions) → Grows (λ m. ⊤) v w → NamesAreBelow v → NamesAreBelow w
+names_step v (bound name (At j c) v) (binds name j c) h =
+    one_below (length v.unit.procedures) v.names (name, At j c) h tt
+names_step v _ (emits k) h = h
+names_step v (with_step name k m shown v) (more name k m shown is) h =
+    let n = length v.unit.procedures in
+    subst (λ l. AreBelow l (v.names ++ (name, Version n) ∷ []))
+    (sym (one_longer v.unit.procedures m.proc))
+    (one_below (suc n) v.names (name, Version n) (all_still_below n v.names h) (omega arith))
+
+names_begin : (n k : ℕ) (ps : List Procedure) → k + length ps ≤ n → AreBelow n (names_from k ps)
+names_begin n k [] h = tt
+names_begin n k (p ∷ ps) h = (first n k (length ps) h, names_begin n (suc k) ps (next n k (length ps) h))
+  where
+    first : (n k l : ℕ) → k + suc l ≤ n → k < n
+    first n k l h = omega (arith, h)
+
+    next : (n k l : ℕ) → k + suc l ≤ n → suc k + l ≤ n
+    next n k l h = omega (arith, h)
+
+-- what a name holds is among these
+held_below : (n : ℕ) (found : Option Held) (names : List (List ℕ × Held)) (name : List ℕ) (k : ℕ)
+    → AreBelow n names → ((j : ℕ) → found ≡ Some (Version j) → j < n)
+    → as_version (held_after found names name) ≡ Some k → k < n
+held_below n None [] name k h f e = cc
+held_below n (Some (Version j)) [] name k h f e =
+    subst (λ i. i < n) (same_number e) (f j refl)
+  where
+    same_number : {a b : ℕ} → Some a ≡ Some b → a ≡ b
+    same_number e = cc
+held_below n (Some (At j c)) [] name k h f e = cc
+held_below n found (b ∷ more) name k h f e =
+    by (bytes_eq b.0 name) e
+  where
+    of_binding : (x : Held) → IsBelow n x → (j : ℕ) → Some x ≡ Some (Version j) → j < n
+    of_binding (Version i) l j e = subst (λ i. i < n) (same_version e) l
+      where
+        same_version : {a b : ℕ} → Some (Version a) ≡ Some (Version b) → a ≡ b
+        same_version e = cc
+    of_binding (At i c) l j e = cc
+
+    by : (t : Bool) → as_version (held_after (if t then Some b.1 else found) more name) ≡ Some k → k < n
+    by true e = held_below n (Some b.1) more name k h.1 (of_binding b.1 h.0) e
+    by false e = held_below n found more name k h.1 f e
+
+none_found : (n j : ℕ) → None ≡ Some (Version j) → j < n
+none_found n j e = cc
+
+pub runs_hold_versions : RunsHoldVersions
+runs_hold_versions text shown acts v name k ran is =
+    let n = length v.unit.procedures in
+    held_below n None v.names name k
+    (held_behind (λ m. ⊤) NamesAreBelow names_step 0 acts (started text shown) v (any_plan acts)
+    (names_begin (length text.procedures) 0 text.procedures (omega arith)) ran)
+    (λ j e. none_found n j e) is
+
 -- ---- fields
 
 abbrev IsBare : Plan → Type 0
@@ -200,8 +299,10 @@ each_more (p ∷ ps) o h k = (h.0, each_more ps o h.1 k)
 
 bare_step : (v w : Versions) → Grows IsBare v w → Each HasNoFields v.origins
     → Each HasNoFields w.origins
-bare_step v w (same w unit origins) h = subst (Each HasNoFields) (sym origins) h
-bare_step v w (more name k m shown is) h = each_more v.origins (made_of k m) h is
+bare_step v (bound name (At j c) v) (binds name j c) h = h
+bare_step v _ (emits k) h = h
+bare_step v (with_step name k m shown v) (more name k m shown is) h =
+    each_more v.origins (made_of k m) h is
 
 none_before : (ps : List Procedure) → Each HasNoFields (map (λ (p : Procedure). of_text) ps)
 none_before [] = tt
