@@ -1,10 +1,10 @@
 -- What each line leaves, and so what all of them leave: names hold versions that are there, and no field
 -- may differ where no operator names one.
-use Rattle.std.proofs.Common.{◌≡◌, ◌+◌, ◌<◌, ◌≤◌, ⊤, ℕ, zero, suc, Bool, true, false}
+use Rattle.std.proofs.Common.{◌≡◌, ◌+◌, ◌<◌, ◌≤◌, ℕ, zero, suc, Bool, true, false}
 use Rattle.std.proofs.Common.{List, [], ◌∷◌, ◌++◌, map, length, Option, Some, None, refl, sym, ap}
 use Rattle.std.proofs.Common.{◌∙◌, ◌==◌, ap₂, subst, arith}
 use Rattle.std.specs.Str.{bytes_eq}
-use Rattle.std.specs.Prelude.{slice_get, if◌then◌else◌}
+use Rattle.std.specs.Prelude.{⊤, slice_get, if◌then◌else◌}
 use Rattle.exo_tree.specs.Tree.{Procedure}
 use Rattle.exo_meaning.specs.Orders.{Each}
 use Rattle.config_state.specs.FieldSets.{fields_from, fields_where}
@@ -45,7 +45,7 @@ module _ (P : Plan → Type 0) where
   data Grows (v : Versions) : Versions → Type 0 where
     binds : (name : List ℕ) (j : ℕ) (c : Cursor) → Grows v (bound name (At j c) v)
     emits : (k : ℕ) → Grows v (record v { emitted = v.emitted ++ k ∷ [] })
-    more : (name : List ℕ) (k : ℕ) (m : Plan) (shown : ℕ) → P m → Grows v (with_step name k m shown v)
+    steps : (name : List ℕ) (k : ℕ) (m : Plan) (shown : ℕ) → P m → Grows v (with_step name k m shown v)
 
   -- each plan of the operator is such a one
   abbrev Plans : Act → Type 0
@@ -78,7 +78,7 @@ module _ (P : Plan → Type 0) where
     shown_arrives : (name : List ℕ) (k : ℕ) (m : Plan) → P m → (o : Option unit_check.Cause)
         → Arrives (shown_step v name k m o)
     shown_arrives name k m is None =
-        went (with_step name k m (length (owed_for v m)) v) (more name k m (length (owed_for v m)) is)
+        went (with_step name k m (length (owed_for v m)) v) (steps name k m (length (owed_for v m)) is)
     shown_arrives name k m is (Some (unit_check.NotListed fault)) = refused _
     shown_arrives name k m is (Some (unit_check.NotShown what place verdict)) = refused _
 
@@ -170,7 +170,7 @@ module _ (P : Plan → Type 0) where
         no : behind k rest (Refused why) ≡ Done w → ⊥
         no e = cc
 
-    pub held_behind : (k : ℕ) (acts : List Act) (v w : Versions) → Each Plans acts → Holds v
+    held_behind : (k : ℕ) (acts : List Act) (v w : Versions) → Each Plans acts → Holds v
         → run_from k acts v ≡ Done w → Holds w
     held_behind k [] v w is h e = subst Holds (done_same e) h
     held_behind k (a ∷ more) v w is h e =
@@ -216,10 +216,10 @@ one_below n [] b h k = (k, tt)
 one_below n (a ∷ more) b h k = (h.0, one_below n more b h.1 k)
 
 names_step : (v w : Versions) → Grows (λ m. ⊤) v w → NamesAreBelow v → NamesAreBelow w
-names_step v (bound name (At j c) v) (binds name j c) h =
+names_step v _ (binds name j c) h =
     one_below (length v.unit.procedures) v.names (name, At j c) h tt
 names_step v _ (emits k) h = h
-names_step v (with_step name k m shown v) (more name k m shown is) h =
+names_step v _ (steps name k m shown is) h =
     let n = length v.unit.procedures in
     subst (λ l. AreBelow l (v.names ++ (name, Version n) ∷ []))
     (sym (one_longer v.unit.procedures m.proc))
@@ -247,18 +247,21 @@ held_below n (Some (Version j)) [] name k h f e =
     same_number e = cc
 held_below n (Some (At j c)) [] name k h f e = cc
 held_below n found (b ∷ more) name k h f e =
-    by (bytes_eq b.0 name) e
+    by (bytes_eq b.0 name) (held_below n (Some b.1) more name k h.1 (of_binding b.1 h.0))
+    (held_below n found more name k h.1 f) e
   where
+    same_version : {i j : ℕ} → Some (Version i) ≡ Some (Version j) → i ≡ j
+    same_version e = cc
+
     of_binding : (x : Held) → IsBelow n x → (j : ℕ) → Some x ≡ Some (Version j) → j < n
     of_binding (Version i) l j e = subst (λ i. i < n) (same_version e) l
-      where
-        same_version : {a b : ℕ} → Some (Version a) ≡ Some (Version b) → a ≡ b
-        same_version e = cc
     of_binding (At i c) l j e = cc
 
-    by : (t : Bool) → as_version (held_after (if t then Some b.1 else found) more name) ≡ Some k → k < n
-    by true e = held_below n (Some b.1) more name k h.1 (of_binding b.1 h.0) e
-    by false e = held_below n found more name k h.1 f e
+    by : (t : Bool) → (as_version (held_after (Some b.1) more name) ≡ Some k → k < n)
+        → (as_version (held_after found more name) ≡ Some k → k < n)
+        → as_version (held_after (if t then Some b.1 else found) more name) ≡ Some k → k < n
+    by true one other e = one e
+    by false one other e = other e
 
 none_found : (n j : ℕ) → None ≡ Some (Version j) → j < n
 none_found n j e = cc
@@ -299,9 +302,9 @@ each_more (p ∷ ps) o h k = (h.0, each_more ps o h.1 k)
 
 bare_step : (v w : Versions) → Grows IsBare v w → Each HasNoFields v.origins
     → Each HasNoFields w.origins
-bare_step v (bound name (At j c) v) (binds name j c) h = h
+bare_step v _ (binds name j c) h = h
 bare_step v _ (emits k) h = h
-bare_step v (with_step name k m shown v) (more name k m shown is) h =
+bare_step v _ (steps name k m shown is) h =
     each_more v.origins (made_of k m) h is
 
 none_before : (ps : List Procedure) → Each HasNoFields (map (λ (p : Procedure). of_text) ps)
@@ -346,15 +349,17 @@ module _ (ps : List Procedure) where
   none_since : (os : List Origin) (from n k : ℕ) → Each HasNoFields os
       → fields_since ps (map configured os) from n k ≡ []
   none_since os from zero k h = refl
-  none_since os from (suc n) k h = go (k == from) (parent_in (map configured os) k)
+  none_since os from (suc n) k h =
+      go (k == from) (parent_in (map configured os) k) (λ j. none_since os from n j h) (no_step os k h)
     where
-      go : (b : Bool) (o : Option ℕ)
+      go : (b : Bool) (o : Option ℕ) → ((j : ℕ) → fields_since ps (map configured os) from n j ≡ [])
+          → step_fields ps (map configured os) k ≡ []
           → (if b then [] else from_parent [] o
           (λ j. fields_since ps (map configured os) from n j ++ step_fields ps (map configured os) k))
           ≡ []
-      go true o = refl
-      go false None = refl
-      go false (Some j) = ap₂ (λ xs ys. xs ++ ys) (none_since os from n j h) (no_step os k h)
+      go true o up own = refl
+      go false None up own = refl
+      go false (Some j) up own = ap₂ (λ xs ys. xs ++ ys) (up j) own
 
 no_field : (n count : ℕ) → fields_from n count (λ f. is_listed f []) ≡ []
 no_field n zero = refl
