@@ -1,0 +1,4 @@
+mod Once
+mod Growing
+mod Keeping
+mod Room

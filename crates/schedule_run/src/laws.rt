@@ -15,6 +15,7 @@ pub fn schedules_keep()
 {
     schedule_operators::laws::schedules_derive();
     schedule_versions::laws::versions_refine();
+    schedule_versions::laws::versions_keep_heads();
 }
 
 /// A unit of at most 2^20 procedures, with ids below 2^20, has room for 4,096 lines.

@@ -1,6 +1,6 @@
 // Laws of versions, each the contract of a function with nothing to do.
 
-ghost use Rattle.schedule_versions.specs.Laws.{StartedIsDerived, RunIsDerived, VersionsRefine};
+ghost use Rattle.schedule_versions.specs.Laws.{StartedIsDerived, RunIsDerived, VersionsRefine, VersionsKeepHeads};
 ghost use Rattle.schedule_versions.specs.Behind.{RunsHoldVersions, RunsDifferInNothing};
 
 /// The procedures of a well-formed unit of which nothing faults are versions to begin with.
@@ -25,6 +25,11 @@ pub fn runs_are_derived()
 /// A version refines each version of which it was made, but for the fields that the report names.
 pub fn versions_refine()
     ensures { VersionsRefine }
+{}
+
+/// And it has the parameters and assertions of each.
+pub fn versions_keep_heads()
+    ensures { VersionsKeepHeads }
 {}
 
 /// What a name holds behind the lines of a schedule is there.
