@@ -11,8 +11,8 @@ use Rattle.unit_check.specs.Checked.{Shown, checked}
 use Rattle.compile_stages.specs.Messages as messages
 
 -- The text spells a unit that keeps all rules, and each system that a procedure of it owes is shown
--- to have no integer point: so no admissible input makes any procedure of the unit fault. The report
--- is the number of these systems and `ok`.
+-- to have no integer point: so no admissible input makes any procedure of the unit fault. The
+-- report is the number of these systems and `ok`.
 pub record IsCounted (text report : List ℕ) : Type 0 where
   pub items : List Item
   pub count : ℕ

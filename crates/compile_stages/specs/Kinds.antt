@@ -23,7 +23,8 @@ use Rattle.schedule_versions.specs.Lines.{Why}
 use Rattle.schedule_versions.specs.Lines as why
 use Rattle.compile_stages.specs.Messages.{refused, name_refused, line_refused}
 use Rattle.compile_stages.specs.Messages.{place_refused, unit_refused}
-use Rattle.compile_stages.specs.Stops.{Stop, Unread, Broken, NotListed, NotShown, NoSchedule, AtLine}
+use Rattle.compile_stages.specs.Stops.{Stop, Unread, Broken, NotListed, NotShown, NoSchedule}
+use Rattle.compile_stages.specs.Stops.{AtLine}
 use Rattle.compile_stages.specs.Stops.{NoVersion, WrongMemory, TooWide, NameClash}
 
 abbrev pub kind_text : ReadKind → List ℕ

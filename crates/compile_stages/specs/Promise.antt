@@ -39,8 +39,8 @@ use Rattle.compile_stages.specs.Printings.{memory_fault}
 -- ---- versions
 
 -- What stands behind a schedule that runs: the unit that the text spells, which keeps all rules and
--- shows what its procedures owe; the lines of the schedule; and the versions that these make, behind
--- the procedures of the text. No admissible input makes any of them fault.
+-- shows what its procedures owe; the lines of the schedule; and the versions that these make,
+-- behind the procedures of the text. No admissible input makes any of them fault.
 pub record AreMade (bytes schedule : List ℕ) (items : List Item) (v : Versions) : Type 0 where
   pub count : ℕ
   pub lines : List tree.Line

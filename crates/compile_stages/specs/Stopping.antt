@@ -1,5 +1,6 @@
 -- The code's stops as plain ones, and its results as stages; want of memory is none.
-use Rattle.std.specs.Prelude.{ℕ, List, slice_get, Option, Some, None, Result, Ok, Err, option_map, map}
+use Rattle.std.specs.Prelude.{ℕ, List, slice_get, Option, Some, None, Result, Ok, Err, option_map}
+use Rattle.std.specs.Prelude.{map}
 use Rattle.exo_tree.specs.declared.unit.Unit as tree
 use Rattle.exo_tree.specs.PlainUnit.{program}
 use Rattle.exo_reader.specs.declared.unit.ReadError.{ReadError}

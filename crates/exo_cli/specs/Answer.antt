@@ -5,8 +5,8 @@ use Rattle.compile_stages.specs.Stages.{Stage, Passed, Stopped}
 use Rattle.exo_cli.specs.declared.status.Status.{Status}
 use Rattle.exo_cli.specs.declared.status.Status.TheVariants.{Ok, Refused, Usage, ReadFault}
 
--- Accepted with the text of the result; else a message: a file is rejected, could not be read, or the
--- words are no command.
+-- Accepted with the text of the result; else a message: a file is rejected, could not be read, or
+-- the words are no command.
 pub data Answer : Type 0 where
   Accepted Rejected Unread Misused : List ℕ → Answer
 

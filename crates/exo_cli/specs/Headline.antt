@@ -21,8 +21,8 @@ pub record Promised (words : List (List ℕ)) (files : Folder)
   pub written : after ≡ with_more before printed
   pub kept : Promise unit lines printed
 
--- The words ask to show a version, by two files, which are told; what was written to the output is the
--- text of that version.
+-- The words ask to show a version, by two files, which are told; what was written to the output is
+-- the text of that version.
 pub record Shown (words : List (List ℕ)) (files : Folder)
     (before after : Option (List ℕ)) : Type 0 where
   pub procs : List ℕ

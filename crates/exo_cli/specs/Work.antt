@@ -3,7 +3,8 @@ use Rattle.std.specs.Prelude.{◌≡◌, ◌≢◌, ℕ, ◌⊎◌, List, [], Op
 use Rattle.std.specs.Prelude.{codes, Contains, IfSome, IsNone, MatchBool, MatchOption}
 use Rattle.std.specs.Option.{option_map_or}
 use Rattle.exo_cli.specs.declared.status.Status.{Status}
-use Rattle.exo_cli.specs.declared.status.Status.TheVariants.{Ok, Usage, ReadFault, WriteFault, Memory}
+use Rattle.exo_cli.specs.declared.status.Status.TheVariants.{Ok, Usage, ReadFault, WriteFault}
+use Rattle.exo_cli.specs.declared.status.Status.TheVariants.{Memory}
 use Rattle.compile_stages.specs.Stages.{Compiles, Displays, Checks}
 use Rattle.cli_outside.specs.Outside.{Folder, content_of, IsLonger, Rose, with_more, StopsWithin}
 use Rattle.exo_cli.specs.Messages.{usage, cannot_read, file_refused}
@@ -77,8 +78,8 @@ pub record IsReadFault (names : List (List ℕ)) (before after : ℕ) (last : Op
   pub operand : Contains names name
   pub names_it : message ≡ cannot_read name
 
--- The answer to a command is that of what the files hold, where they tell it, or a file could not be
--- read.
+-- The answer to a command is that of what the files hold, where they tell it, or a file could not
+-- be read.
 abbrev pub IsAnswerTo :
     Command → Option Folder → ℕ → ℕ → Option (List ℕ) → Answer → Type 0
 IsAnswerTo command told before after last (Accepted text) =
@@ -123,8 +124,8 @@ abbrev pub IsPartOfAnswer :
 IsPartOfAnswer words told part bytes =
     IfSome told (λ files. (answer : Answer) × Answers words files answer × (bytes ≡ part answer))
 
--- How the program may end. Where the files tell what they hold, it ends for want of memory, for a fault
--- that was counted, or with the answer.
+-- How the program may end. Where the files tell what they hold, it ends for want of memory, for a
+-- fault that was counted, or with the answer.
 pub record Ends (words : List (List ℕ)) (before after : Moment) (status : Status) : Type 0 where
   -- nothing goes to the standard output unless all was accepted or a sink failed
   pub quiet : status ≢ Ok → status ≢ WriteFault → after.out ≡ before.out
@@ -134,8 +135,8 @@ pub record Ends (words : List (List ℕ)) (before after : Moment) (status : Stat
   pub usage :
       status ≡ Usage
       → IsNone (command_of words) × (after.err ≡ with_more before.err usage)
-  -- where the words are no command, nothing else is answered but a fault of the standard error and want
-  -- of memory
+  -- where the words are no command, nothing else is answered but a fault of the standard error and
+  -- want of memory
   pub no_command :
       IsNone (command_of words)
       → (status ≡ Usage) ⊎ ((status ≡ WriteFault) ⊎ (status ≡ Memory))
@@ -145,8 +146,8 @@ pub record Ends (words : List (List ℕ)) (before after : Moment) (status : Stat
       → (message : List ℕ)
       × IsReadFault (operands words) before.faults after.faults after.last_fault message
       × (after.err ≡ with_more before.err message)
-  -- a sink failed at its part of the answer, or the standard error at the message of a file that could
-  -- not be read
+  -- a sink failed at its part of the answer, or the standard error at the message of a file that
+  -- could not be read
   pub write_fault :
       status ≡ WriteFault
       → (bytes : List ℕ)
@@ -165,11 +166,12 @@ pub record Ends (words : List (List ℕ)) (before after : Moment) (status : Stat
       × (after.out ≡ with_more before.out (for_out answer))
       × (after.err ≡ with_more before.err (for_err answer)))
 
--- Where the files are told and no count of faults rose, the program ends for want of memory, or with
--- the answer to the words: its status, and all its bytes.
+-- Where the files are told and no count of faults rose, the program ends for want of memory, or
+-- with the answer to the words: its status, and all its bytes.
 abbrev pub EndsAreComplete : Type 0
 EndsAreComplete =
-    (words : List (List ℕ)) (before after : Moment) (status : Status) (files : Folder) (answer : Answer)
+    (words : List (List ℕ)) (before after : Moment) (status : Status) (files : Folder)
+    (answer : Answer)
     → Ends words before after status
     → before.told ≡ Some files
     → Answers words files answer

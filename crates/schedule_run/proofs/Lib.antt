@@ -2,3 +2,4 @@ mod Once
 mod Growing
 mod Keeping
 mod Room
+mod Rooting
