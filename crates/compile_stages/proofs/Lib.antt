@@ -3,6 +3,7 @@ pub mod Typing
 pub mod Unique
 pub mod Worlds
 pub mod Listing
+pub mod Undeclared
 pub mod Printed
 pub mod Printing
 pub mod Lines

@@ -2,6 +2,7 @@
 use Rattle.std.proofs.Common.{◌≡◌, ◌<◌, ◌≤◌, ◌+◌, ◌&&◌, ◌||◌, ℕ, zero, suc, Bool, true, false, not, true≢false, List, [], ◌∷◌, ◌++◌, append_assoc, length, map, replicate, drop, get_or, drop-cons, subst, ◌==◌, slice_get, Option, Some, None, refl, sym, ap, ap₂, ◌∙◌, arith, if◌then◌else◌}
 use Rattle.exo_tree.specs.Tree.{Procedure, Program}
 use Rattle.exo_tree.specs.Calls.{calls}
+use Rattle.exo_tree.specs.declared.number.ProcId.{ProcId}
 use Rattle.exo_calls.specs.Closed.{closed}
 use Rattle.exo_calls.specs.Marked.{contains, Marked, Reached}
 use Rattle.exo_tree.proofs.Trees.{drop_of_map}
@@ -120,15 +121,24 @@ module _ (marked : ℕ → Bool) (print : ℕ → Printing) (k : ℕ) (front new
 
 -- ---- one emitted version more
 
-pub emitted_then : (emitted : List ℕ) (i d : ℕ) (old mid new : List Bool) → i < length emitted → Marked (λ k. k == get_or emitted i d) old mid → Marked (is_emitted (drop (i + 1) emitted)) mid new
-    → Marked (is_emitted (drop i emitted)) old new
+abbrev pub numbers_of : List ProcId → List ℕ
+numbers_of ks = map (λ k. k.0) ks
+
+pub emitted_then : (emitted : List ProcId) (i : ℕ) (d : ProcId) (old mid new : List Bool)
+    → i < length emitted → Marked (λ k. k == (get_or emitted i d).0) old mid
+    → Marked (is_emitted (numbers_of (drop (i + 1) emitted))) mid new
+    → Marked (is_emitted (numbers_of (drop i emitted))) old new
 emitted_then emitted i d old mid new h one rest =
     let more : i + 1 ≡ suc i = omega arith in
-    let parts : drop i emitted ≡ get_or emitted i d ∷ drop (i + 1) emitted = drop-cons emitted i d h ∙ ap (λ j. get_or emitted i d ∷ drop j emitted) (sym more) in
-    subst (λ l. Marked (is_emitted l) old new) (sym parts) (marked_then (λ k. k == get_or emitted i d) (is_emitted (drop (i + 1) emitted)) old mid new one rest)
+    let parts : drop i emitted ≡ get_or emitted i d ∷ drop (i + 1) emitted =
+        drop-cons emitted i d h ∙ ap (λ j. get_or emitted i d ∷ drop j emitted) (sym more) in
+    subst (λ l. Marked (is_emitted (numbers_of l)) old new) (sym parts)
+    (marked_then (λ k. k == (get_or emitted i d).0) (is_emitted (numbers_of (drop (i + 1) emitted))) old mid new one rest)
 
-pub emitted_end : (emitted : List ℕ) (i : ℕ) (set : List Bool) → length emitted ≤ i → Marked (is_emitted (drop i emitted)) set set
-emitted_end emitted i set h = subst (λ l. Marked (is_emitted l) set set) (sym (drop_all i emitted h)) (marked_none set)
+pub emitted_end : (emitted : List ProcId) (i : ℕ) (set : List Bool) → length emitted ≤ i
+    → Marked (is_emitted (numbers_of (drop i emitted))) set set
+emitted_end emitted i set h =
+    subst (λ l. Marked (is_emitted (numbers_of l)) set set) (sym (drop_all i emitted h)) (marked_none set)
 
 -- ---- what is no instruction
 

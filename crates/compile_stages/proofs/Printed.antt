@@ -1,5 +1,5 @@
 -- What is printed for a version does what the procedure of the text does from which it comes.
-use Rattle.std.proofs.Common.{◌≡◌, ◌<◌, ◌++◌, ◌∷◌, arith, ℕ, zero, suc, ℤ, List, [], length, slice_get, Option, Some, None, refl, sym}
+use Rattle.std.proofs.Common.{◌≡◌, ◌<◌, ◌==◌, ◌||◌, Bool, eq-eqb, ◌++◌, ◌∷◌, arith, ℕ, zero, suc, ℤ, List, [], length, slice_get, Option, Some, None, refl, sym}
 use Rattle.std.proofs.Common.{ap, ◌∙◌, subst, true, false, true≢false}
 use Rattle.std.specs.Prelude.{Contains}
 use Rattle.std.specs.Option.{IsSome}
@@ -16,7 +16,7 @@ use Rattle.meaning_laws.specs.Chain.{HasHead}
 use Rattle.memory_kinds.specs.Faults.{fault_of}
 use Rattle.c_machine.specs.Machine.{Outcome, Done, Thing, Machine}
 use Rattle.c_lowered.specs.Lowered.{Naming}
-use Rattle.c_lowered.specs.LoweredUnit.{Printing, name_of}
+use Rattle.c_lowered.specs.LoweredUnit.{Printing, is_listed, name_of}
 use Rattle.c_follows.specs.Simulation.{Declared, Layout}
 use Rattle.c_follows.specs.Units.{AreLowered, LeavesTheSame, EndsWell, naming_of, declared_in}
 use Rattle.c_unit_laws.specs.Laws.{FilesFollow}
@@ -27,9 +27,10 @@ use Rattle.schedule_versions.specs.Behind.{NothingDiffers}
 use Rattle.schedule_run.specs.Roots.{root_of}
 use Rattle.schedule_run.specs.Laws.{AreVersionsOf, IsVersionOf, AreKept}
 use Rattle.compile_stages.specs.Printings.{differing_from, printing_of, printings_of}
+use Rattle.compile_stages.specs.Undeclared.{UndeclaredFieldsStay}
 use Rattle.compile_stages.specs.Promise.{ComesFrom, LeavesSo, DoesWhat, IsPrinted}
 use Rattle.compile_stages.proofs.Worlds.{same_runs}
-use Rattle.compile_stages.proofs.Listing.{nothing_there, own_printing}
+use Rattle.compile_stages.proofs.Listing.{nothing_there, some_is, own_printing}
 
 -- ---- inputs
 
@@ -78,7 +79,8 @@ is_there o a h = subst IsSome (sym h) refl
 -- what the C leaves of a version is so of what the version refines
 module _ (naming : Naming) (declared : Declared) (but : List ℕ) (layout : Layout) (s t u : State) (m : Machine)
     (cells : (b : ℕ) → IsSome (s.scene.buffers b) → (at : List ℤ) → IsRefinedBy (t.cells b at) (u.cells b at))
-    (fields : (f : ℕ) → (Contains but f → ⊥) → t.scene.fields f ≡ u.scene.fields f) where
+    (fields : (f : ℕ) → (Contains but f → ⊥) → t.scene.fields f ≡ u.scene.fields f)
+    (stay : (f : ℕ) → declared f ≡ false → u.scene.fields f ≡ s.scene.fields f) where
   so_left : (n : Machine) → LeavesTheSame naming declared layout s m u n
       → LeavesSo naming declared but layout s m t n
   so_left n h = record {
@@ -87,6 +89,7 @@ module _ (naming : Naming) (declared : Declared) (but : List ℕ) (layout : Layo
         (cells b (is_there (s.scene.buffers b) shape there) at) (h.cells b shape there at inside);
     outside = h.outside;
     fields = λ f d k. h.fields f d ∙ sym (fields f k);
+    untouched = λ f d k. fields f k ∙ stay f d;
   }
 
   ends_so : (few : Type 0) (o : Outcome Machine) → EndsWell few (LeavesTheSame naming declared layout s m u) o
@@ -96,6 +99,20 @@ module _ (naming : Naming) (declared : Declared) (but : List ℕ) (layout : Layo
     leaves = λ n e. so_left n (h.leaves n e);
     done = h.done;
   }
+
+-- what is printed is listed
+is_in : (what : List Printing) (at : ℕ) (w : Printing) → slice_get what at ≡ Some w
+    → is_listed what w.proc ≡ true
+is_in [] zero w e = absurd (nothing_there e)
+is_in [] (suc at) w e = absurd (nothing_there e)
+is_in (v ∷ what) zero w e =
+    ap (λ (x : Printing). (x.proc == v.proc) || is_listed what x.proc) (sym (some_is e))
+    ∙ ap (λ t. t || is_listed what v.proc) (eq-eqb v.proc v.proc refl)
+is_in (v ∷ what) (suc at) w e = later (w.proc == v.proc) (is_listed what w.proc) (is_in what at w e)
+  where
+    later : (a b : Bool) → b ≡ true → (a || b) ≡ true
+    later true b h = refl
+    later false b h = h
 
 -- ---- a version
 
@@ -125,7 +142,7 @@ module _ (text : Program) (v : Versions) (kept : AreKept text v) (k : ℕ) (q : 
   inside : k < length v.unit.procedures
   inside = below v.unit.procedures k q there
 
-  origin : (p : Procedure) × (slice_get text.procedures from ≡ Some p)
+  pub origin : (p : Procedure) × (slice_get text.procedures from ≡ Some p)
   origin = at_place text.procedures from (kept.versions.root k inside)
 
   abbrev pub origin_of : Procedure
@@ -158,7 +175,8 @@ pub record FileLaws : Type 0 where
   pub done : FilesWithoutAllocationsAreDone
 
 module _ (text : Program) (v : Versions) (formed : IsUnit text) (safe : NothingFaults text)
-    (kept : AreKept text v) (bare : NothingDiffers v) (laws : FileLaws) (lowers : AreLowered fault_of v.unit (printings_of v)) where
+    (kept : AreKept text v) (bare : NothingDiffers v) (laws : FileLaws) (undeclared : UndeclaredFieldsStay)
+    (lowers : AreLowered fault_of v.unit (printings_of v)) where
   abbrev what : List Printing
   what = printings_of v
 
@@ -177,15 +195,17 @@ module _ (text : Program) (v : Versions) (formed : IsUnit text) (safe : NothingF
           lowers here there filled also input more.1 in
       let cells = c.refines.cells s ends.0 more.0 first runs more.1 in
       let fields = c.refines.fields s ends.0 more.0 first runs more.1 in
+      let stay = λ f out. undeclared v.unit what w.proc q f s more.0 kept.derived.formed there
+          (is_in what at w here) out more.1 in
       let but = differing_from v w.proc c.from in
       let naming = naming_of v.unit what q in
       let declared = declared_in v.unit what in
       (ends.0, ends.1, (
-        ends_so naming declared but layout s ends.0 more.0 m cells fields _ _ follows,
+        ends_so naming declared but layout s ends.0 more.0 m cells fields stay _ _ follows,
         λ none.
             let done = laws.done v.unit what at w q layout templates s more.0 things m
             kept.derived.formed lowers here there none filled also input more.1 in
-            (done.0, done.1, so_left naming declared but layout s ends.0 more.0 m cells fields done.0 done.2),
+            (done.0, done.1, so_left naming declared but layout s ends.0 more.0 m cells fields stay done.0 done.2),
       ))
 
   pub each_printed : (at : ℕ) (w : Printing) → slice_get what at ≡ Some w → IsPrinted text v what at w

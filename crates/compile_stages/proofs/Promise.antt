@@ -42,6 +42,7 @@ use Rattle.compile_stages.specs.Stages.{named, if_named, text, lowered_text, pri
 use Rattle.compile_stages.specs.Stages.{Schedules, Compiles, Displays, Checks, counted}
 use Rattle.compile_stages.specs.Stops as stop
 use Rattle.compile_stages.specs.Messages as messages
+use Rattle.compile_stages.specs.Undeclared.{UndeclaredFieldsStay}
 use Rattle.compile_stages.specs.Promise.{AreMade, ComesFrom, IsPrinted, Promise}
 use Rattle.compile_stages.specs.Shown.{Displayed}
 use Rattle.compile_stages.specs.Counted.{IsCounted}
@@ -162,7 +163,7 @@ known laws source schedule v h =
     let ran = subst (λ p. LinesRun 0 s.lines (started p count) (Done v)) formed.is
         (ran_is u.program count s v c.2) in
     let room = laws.room text count (length s.lines) formed.low.procedures formed.low.ids
-        (read.fits in_size).2 in
+        (read.fits in_size).1.1 in
     let kept = laws.keeps text count s.lines v
         (record { formed = formed.formed; quiet = safe; room = room; ran = ran }) in
     record {
@@ -187,8 +188,9 @@ known laws source schedule v h =
 
 -- ---- compiled
 
-pub compiled_is_promised : LawsBelow → FileLaws → PrintingsAreListings → CompiledIsPromised
-compiled_is_promised laws files listings source schedule out h =
+pub compiled_is_promised : LawsBelow → FileLaws → PrintingsAreListings → UndeclaredFieldsStay
+    → CompiledIsPromised
+compiled_is_promised laws files listings undeclared source schedule out h =
     let a = led (Schedules source schedule) _ out h in
     let v = a.0 in
     let k = known laws source schedule v a.1 in
@@ -215,7 +217,7 @@ compiled_is_promised laws files listings source schedule out h =
       narrow = is.narrow;
       named = is.named;
       text = is.text;
-      each = each_printed text v k.formed.formed k.made.no_fault k.kept k.bare files lowers;
+      each = each_printed text v k.formed.formed k.made.no_fault k.kept k.bare files undeclared lowers;
     }
 
 -- ---- displayed
@@ -250,7 +252,7 @@ module _ (laws : LawsBelow) (reads : ShownIsRead) (source schedule name out : Li
             made = k.made;
             held = held;
             comes = comes_from text v k.kept j q there;
-            text = is;
+            is_text = is;
             reads = λ writable within result read.
                 reads v.unit j q there writable within result
                 (subst (λ t. ReadsUnit t result) is read);
@@ -279,5 +281,5 @@ checked_is_counted safe source report h =
       formed = formed.formed;
       shown = all;
       no_fault = safe (unit_of formed.items) b.0 formed.formed all;
-      report = sym (passed_is b.2);
+      is_report = sym (passed_is b.2);
     }

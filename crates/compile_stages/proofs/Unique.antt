@@ -15,7 +15,7 @@ use Rattle.schedule_text.specs.Tree as tree
 use Rattle.schedule_text.specs.Grammar as grammar
 use Rattle.schedule_text.specs.Texts.{line_numbers}
 use Rattle.schedule_versions.specs.Versions.{Versions, started}
-use Rattle.schedule_run.specs.Runs.{LinesRunOnce}
+use Rattle.schedule_run.specs.Laws.{LinesRunOnce}
 use Rattle.compile_stages.specs.Stops as stop
 use Rattle.compile_stages.specs.Stages.{Stage, Passed, Stopped, Typed, IsUnread, IsRuled, IsRead, IsTyped}
 use Rattle.compile_stages.specs.Stages.{shown, Schedule, IsNoSchedule, IsSchedule, IsScheduled, ended}
@@ -97,7 +97,7 @@ module _ (units : TextsAreOne unit) (schedules : TextsAreOne grammar.schedule) (
   ran_once : (program : Program) (count : ℕ) (s : Schedule) (a b : Stage Versions)
       → IsRan program count s a → IsRan program count s b → a ≡ b
   ran_once program count s a b h k =
-      h.2 ∙ ap (ended s) (runs 0 s.lines (started program count) h.0 k.0 h.1 k.1) ∙ sym k.2
+      h.2 ∙ ap (ended s) (runs.end 0 s.lines (started program count) h.0 k.0 h.1 k.1) ∙ sym k.2
 
   same_end : {T : Type 0} (s a b : Stage T) → a ≡ s → b ≡ s → a ≡ b
   same_end s a b h k = h ∙ sym k

@@ -21,4 +21,4 @@ pub record IsCounted (text report : List ℕ) : Type 0 where
   pub formed : IsUnit (unit_of items)
   pub shown : checked (unit_of items) ≡ Shown count
   pub no_fault : NothingFaults (unit_of items)
-  pub report : report ≡ messages.checked count
+  pub is_report : report ≡ messages.checked count

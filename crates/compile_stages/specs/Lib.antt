@@ -4,6 +4,7 @@ pub mod Stops
 pub mod Kinds
 pub mod Stages
 pub mod Stopping
+pub mod Undeclared
 pub mod Promise
 pub mod Shown
 pub mod Counted

@@ -1,5 +1,5 @@
 -- What is promised of the versions that a schedule makes, and of the C that is printed for them.
-use Rattle.std.specs.Prelude.{◌≡◌, ℕ, ℤ, true, nat_lt, List, [], Option, Some, None}
+use Rattle.std.specs.Prelude.{◌≡◌, ℕ, ℤ, true, false, nat_lt, List, [], Option, Some, None}
 use Rattle.std.specs.Prelude.{slice_get, Contains}
 use Rattle.exo_tree.specs.Tree.{Procedure, Program}
 use Rattle.exo_meaning.specs.Value.{IsRefinedBy}
@@ -70,7 +70,8 @@ pub record ComesFrom (text : Program) (v : Versions) (k : ℕ) (p q : Procedure)
 
 -- What the C leaves, against what the procedure of the text leaves: each cell of an argument that
 -- the procedure leaves defined is the same, every cell outside the arguments is as it was, and each
--- field that the C declares, but those that may differ, has its number.
+-- field, but those that may differ, has its number where the C declares it, and else the number that
+-- it had before.
 pub record LeavesSo (naming : Naming) (declared : Declared) (but : List ℕ) (layout : Layout)
     (s : State) (m : Machine) (t : State) (n : Machine) : Type 0 where
   pub cells :
@@ -90,6 +91,11 @@ pub record LeavesSo (naming : Naming) (declared : Declared) (but : List ℕ) (la
       → declared f ≡ true
       → (Contains but f → ⊥)
       → n.setting.fields (naming.field f) ≡ t.scene.fields f
+  pub untouched :
+      (f : ℕ)
+      → declared f ≡ false
+      → (Contains but f → ⊥)
+      → t.scene.fields f ≡ s.scene.fields f
 
 -- A run of the C is done, and leaves what it is to leave.
 abbrev pub IsDoneWith : (Machine → Type 0) → Outcome Machine → Type 0

@@ -26,7 +26,7 @@ pub record Displayed (bytes schedule name text : List ℕ) : Type 0 where
   pub made : AreMade bytes schedule items versions
   pub held : version_of versions name ≡ Some number
   pub comes : ComesFrom (unit_of items) versions number origin version
-  pub text : text ≡ shown versions.unit number
+  pub is_text : text ≡ shown versions.unit number
   pub reads :
       IsWritable versions.unit version
       → IsWithinItem (written versions.unit version)

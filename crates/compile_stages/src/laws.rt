@@ -21,6 +21,8 @@ pub fn compiled_is_promised()
     schedule_run::laws::small_units_have_room();
     schedule_operators::laws::schedules_differ_in_nothing();
     schedule_versions::laws::runs_hold_versions();
+    meaning_laws::laws::fields_are_kept();
+    meaning_laws::laws::calls_leave_fields();
     c_unit_laws::laws::printings_are_listings();
     c_unit_laws::laws::files_follow();
     c_unit_laws::laws::files_without_allocations_are_done();

@@ -6,7 +6,7 @@ mod kinds;
 pub mod laws;
 mod memories;
 pub mod messages;
-mod printed;
+mod lowering;
 mod printings;
 mod stages;
 mod stop;

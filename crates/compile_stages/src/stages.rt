@@ -18,7 +18,7 @@ ghost use Rattle.compile_stages.specs.Stages.{Checks, Compiles, Displays, IsRan,
 ghost use Rattle.compile_stages.specs.Stopping.{plain, plain_why, schedule_of, stage, typed_of};
 
 use crate::messages;
-use crate::printed::printed;
+use crate::lowering::printed;
 use crate::printings::printings;
 use crate::stop::{Stop, no_schedule};
 use exo_reader::unit::{ReadError, Source, read_unit};
@@ -202,7 +202,7 @@ fn ran<R: Threads + Sync, G: Gate>(
 /// The stop where a line is refused.
 fn refused_at(alloc: Global, lines: &[Line], refused: Refused) -> Result<Stop, AllocError>
     requires { (refused.why ≡ Memory → ⊥) → refused.index < length lines.now }
-    ensures { IfOk result (λ stop. plain stop ≡ option_map (stop_at (record { lines = map plain_line lines.now; numbers = map number lines.now }) refused.index) (plain_why refused.why)) }
+    ensures { IfOk result (λ end. plain end ≡ option_map (stop_at (record { lines = map plain_line lines.now; numbers = map number lines.now }) refused.index) (plain_why refused.why)) }
 {
     match refused.why {
         Why::Memory => Ok(Stop::Memory),
@@ -212,7 +212,7 @@ fn refused_at(alloc: Global, lines: &[Line], refused: Refused) -> Result<Stop, A
 
 /// The stop at a line that is refused for this cause.
 fn at_line(alloc: Global, line: &Line, why: Why) -> Result<Stop, AllocError>
-    ensures { IfOk result (λ stop. plain stop ≡ option_map (stop.AtLine line.now.number (operator_of (plain_line line.now))) (plain_why why)) }
+    ensures { IfOk result (λ end. plain end ≡ option_map (stop.AtLine line.now.number (operator_of (plain_line line.now))) (plain_why why)) }
 {
     let operator = Name::new(alloc, operator_of(&line.statement))?;
     Ok(Stop::AtLine(line.number, operator, why))

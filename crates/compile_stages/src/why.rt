@@ -17,13 +17,18 @@ use exo_tree::{Branch, Path, Step, Text};
 use schedule_run::{Missing, Why};
 use std::alloc::{AllocError, Global};
 
+/// A claim that is not shown, and the word of the verdict on it.
+fn not_shown(alloc: Global, what: &str, word: &str) -> Result<String, AllocError>
+    ensures { IfOk result (λ text. string_bytes text ≡ codes "NotShown " ++ what.now ++ codes " " ++ word.now) }
+{
+    format!(in alloc; "NotShown {what} {word}")
+}
+
 /// A claim that is not shown, and the verdict on it.
 pub(crate) fn open_text(alloc: Global, what: &Text, verdict: Verdict) -> Result<String, AllocError>
     ensures { IfOk result (λ text. string_bytes text ≡ open_text what.now verdict) }
 {
-    let claim = what.as_str();
-    let word = verdict_text(verdict);
-    format!(in alloc; "NotShown {claim} {word}")
+    not_shown(alloc, what.as_str(), verdict_text(verdict))
 }
 
 /// A step of a path.
@@ -67,6 +72,13 @@ fn no_match(alloc: Global, path: &Path) -> Result<String, AllocError>
     let mut out = String::from_str(alloc, "NoMatch ")?;
     put_path(alloc, &mut out, path)?;
     Ok(out)
+}
+
+/// A parameter that nothing determines.
+fn undetermined(alloc: Global, name: &str) -> Result<String, AllocError>
+    ensures { IfOk result (λ text. string_bytes text ≡ codes "Undetermined " ++ name.now) }
+{
+    format!(in alloc; "Undetermined {name}")
 }
 
 /// Why a normal form or a list of systems is refused; none for want of memory.
@@ -116,10 +128,7 @@ fn cause_text(alloc: Global, cause: &StepError) -> Result<String, AllocError>
         StepError::NotDescendant => String::from_str(alloc, "NotDescendant"),
         StepError::SharedArgument => String::from_str(alloc, "SharedArgument"),
         StepError::NoMatch(path) => no_match(alloc, path),
-        StepError::Undetermined(name) => {
-            let name = name.as_str();
-            format!(in alloc; "Undetermined {name}")
-        }
+        StepError::Undetermined(name) => undetermined(alloc, name.as_str()),
         StepError::Form(e) => fault_text(alloc, *e),
         StepError::Memory => Err(AllocError),
     }

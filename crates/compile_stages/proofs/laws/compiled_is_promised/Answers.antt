@@ -1,4 +1,5 @@
 use Rattle.compile_stages.proofs.Promise.{compiled_is_promised}
+use Rattle.compile_stages.proofs.Undeclared.{undeclared_fields_stay}
 use Rattle.compile_stages.proofs.laws.compiled_is_promised.Goals as goal
 
 pub returns : goal.returns
@@ -13,3 +14,4 @@ returns c =
     })
     (record { follow = c.files_follow.ensures; done = c.files_without_allocations_are_done.ensures })
     c.printings_are_listings.ensures
+    (undeclared_fields_stay c.fields_are_kept.ensures c.calls_leave_fields.ensures)

@@ -17,10 +17,10 @@ pub returns-in-Ok-clause-formed : goal.returns-in-Ok-clause-formed
 returns-in-Ok-clause-formed c = λ keeps.
     c.read_units_are_formed.ensures c.args.text.now (items_of c.in-Ok.source) c.in-Ok.ensures.0 (omega (arith, c.in-Ok.source.few, ap length c.in-Ok.ensures.1)) keeps
 
-pub returns-in-Ok-clause-few : goal.returns-in-Ok-clause-few
-returns-in-Ok-clause-few c =
+pub returns-in-Ok-clause-low : goal.returns-in-Ok-clause-low
+returns-in-Ok-clause-low c =
     let items = items_of c.in-Ok.source in
     let places = ap length c.in-Ok.ensures.1 in
     let tokens = fewer c.args.text.now (omega (arith, c.in-Ok.source.few, places)) in
     let spelled = ap length c.in-Ok.ensures.0.spelled in
-    (c.typed_units_are_low.ensures items (omega (arith, tokens, spelled))).procedures
+    c.typed_units_are_low.ensures items (omega (arith, tokens, spelled))
