@@ -1,6 +1,6 @@
 -- What holds behind the lines of a schedule: no version differs in a field from one of which it was
 -- made, and names hold versions that are there.
-use Rattle.std.proofs.Common.{◌≡◌, ◌<◌, ℕ, zero, suc, List, [], ◌∷◌, map, length, Option, Some, None, refl}
+use Rattle.std.proofs.Common.{◌≡◌, ◌<◌, ◌+◌, ℕ, zero, suc, List, [], ◌∷◌, map, length, Option, Some, None, refl}
 use Rattle.std.proofs.Common.{sym, ap, ◌∙◌, subst, arith, get_or, option_map, IfSome, MatchOption}
 use Rattle.exo_tree.specs.Tree.{Program}
 use Rattle.schedule_text.specs.Tree as tree
@@ -17,6 +17,8 @@ use Rattle.schedule_versions.specs.Lines as lines
 use Rattle.schedule_run.specs.PlainWhy.{fault_of, Says}
 use Rattle.schedule_run.specs.declared.why.Why as code
 use Rattle.schedule_run.specs.declared.why.Why.TheVariants as why
+use Rattle.compile_stages.specs.Messages.{line_refused}
+use Rattle.compile_stages.specs.Kinds.{why_text, message}
 use Rattle.compile_stages.specs.Stops.{Stop}
 use Rattle.compile_stages.specs.Stops as stop
 use Rattle.compile_stages.specs.Stages.{Schedule, operator_of, stop_at, IsRan}
@@ -45,10 +47,15 @@ requested_from k (line ∷ more) v w _ (stops _ _ _ _ a why is refuses) e = absu
 requested_from k (line ∷ more) v w end (goes _ _ _ _ u a _ is went rest) e =
     by_act a is went (requested_from (suc k) more u w end rest e)
   where
+    more_by_one : k + 1 ≡ suc k
+    more_by_one = omega arith
+
     by_act : (a : Act) → IsAct line a → performed v a ≡ Went u → Requested (suc k) u w → Requested k v w
     by_act _ (asked _ r asks) went later = record {
       requests = r ∷ later.requests;
-      ran = ap (behind k (run_from (suc k) (map act_of later.requests))) went ∙ later.ran;
+      ran =
+          ap (λ n. behind k (run_from n (map act_of later.requests)) (performed v (act_of r))) more_by_one
+          ∙ (ap (behind k (run_from (suc k) (map act_of later.requests))) went ∙ later.ran);
     }
     by_act _ (unknown _ h) went later = absurd (refused_went went)
     by_act _ (bad _ h none) went later = absurd (refused_went went)
@@ -106,3 +113,13 @@ pub line_at : (ls : List Line) (k : ℕ) (d : Line) → k < length ls
 line_at [] k d h = absurd (omega (arith, h))
 line_at (l ∷ ls) zero d h = refl
 line_at (l ∷ ls) (suc k) d h = line_at ls k d (omega (arith, h))
+
+-- the message of a line that is refused
+pub line_said : (procs file : List ℕ) (n : ℕ) (op text : List ℕ) (o : Option Why)
+    → option_map why_text o ≡ Some text
+    → option_map (message procs file) (option_map (stop.AtLine n op) o) ≡ Some (line_refused file n op text)
+line_said procs file n op text None e = cc
+line_said procs file n op text (Some w) e = ap (λ t. Some (line_refused file n op t)) (same e)
+  where
+    same : {a b : List ℕ} → Some a ≡ Some b → a ≡ b
+    same e = cc

@@ -195,7 +195,8 @@ module _ (text : Program) (v : Versions) (formed : IsUnit text) (safe : NothingF
           lowers here there filled also input more.1 in
       let cells = c.refines.cells s ends.0 more.0 first runs more.1 in
       let fields = c.refines.fields s ends.0 more.0 first runs more.1 in
-      let stay = λ f out. undeclared v.unit what w.proc q f s more.0 kept.derived.formed there
+      let stay : (f : ℕ) → declared_in v.unit what f ≡ false → more.0.scene.fields f ≡ s.scene.fields f =
+          λ f out. undeclared v.unit what w.proc q f s more.0 kept.derived.formed there
           (is_in what at w here) out more.1 in
       let but = differing_from v w.proc c.from in
       let naming = naming_of v.unit what q in
@@ -209,6 +210,7 @@ module _ (text : Program) (v : Versions) (formed : IsUnit text) (safe : NothingF
       ))
 
   pub each_printed : (at : ℕ) (w : Printing) → slice_get what at ≡ Some w → IsPrinted text v what at w
+  unfolding comes_from
   each_printed at w here =
       let there = lowers.listing.there at w here in
       let q = there.0 in

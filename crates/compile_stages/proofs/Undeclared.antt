@@ -150,6 +150,9 @@ module _ (program : Program) (what : List Printing) (unit : IsUnit program) (f :
   abbrev Follow : List Procedure → ℕ → Type 0
   Follow ps n = (i : ℕ) (p : Procedure) → slice_get ps i ≡ Some p → slice_get program.procedures (n + i) ≡ Some p
 
+  abbrev said : Option (ℕ → Bool) → Bool
+  said o = elim o as (λ o. Bool) [ None ↦ false | Some w ↦ w f ]
+
   one_clear : (ws : List (ℕ → Bool)) → AreClear ws → (p : Procedure)
       → slice_get program.procedures (length ws) ≡ Some p
       → AreClear (ws ++ written_by (written_at ws) p ∷ [])

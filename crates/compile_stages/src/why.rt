@@ -21,7 +21,11 @@ use std::alloc::{AllocError, Global};
 fn not_shown(alloc: Global, what: &str, word: &str) -> Result<String, AllocError>
     ensures { IfOk result (λ text. string_bytes text ≡ codes "NotShown " ++ what.now ++ codes " " ++ word.now) }
 {
-    format!(in alloc; "NotShown {what} {word}")
+    let mut out = String::from_str(alloc, "NotShown ")?;
+    out.push_str(what)?;
+    out.push_str(" ")?;
+    out.push_str(word)?;
+    Ok(out)
 }
 
 /// A claim that is not shown, and the verdict on it.

@@ -1,22 +1,22 @@
-use Rattle.std.proofs.Common.{rules, ◌≡◌, ◌≤◌, ◌<◌, IfOk, IfSome, None, length, map, option_map, string_bytes, ℕ, ◌+◌, ◌-◌, ◌*◌, ◌/◌, ◌%◌, Bool, true, false, nat_eq, nat_lt, List, [], ◌∷◌, ◌++◌, slice_index_or, slice_set, bit_and, bit_or, Fits, w8, w32, w64, Bor, MutBor}
-use Rattle.exo_tree.specs.PlainUnit.{program}
-use Rattle.exo_meaning.specs.Units.{IsUnit}
-use Rattle.exo_reader.specs.Texts.{ReadsUnit}
-use Rattle.exo_types.specs.Typed.{IsPlaced, items_of}
-use Rattle.exo_types.specs.UnitRules.{unit_fault, unit_of}
-use Rattle.exo_types_laws.specs.Laws.{IsLow}
-use Rattle.unit_check.specs.Checked.{Checked}
-use Rattle.unit_check.specs.Outcomes.{IsRefused}
-use Rattle.schedule_text.specs.Views.{number, plain_act, plain_line, plain_statement}
-use Rattle.schedule_versions.specs.Behind.{NothingDiffers}
-use Rattle.schedule_versions.specs.Versions.{held_after, version_of}
-use Rattle.schedule_run.specs.PlainVersions.{binding, held, versions}
-use Rattle.schedule_run.specs.declared.why.Why.TheVariants.{Memory}
+use Rattle.std.proofs.Common.{◌≡◌, List, map, option_map, sym, ap, ◌∙◌}
+use Rattle.schedule_text.specs.Views.{plain_line, number}
+use Rattle.schedule_text.specs.declared.source.Line.{Line}
 use Rattle.compile_stages.specs.Stops as stop
-use Rattle.compile_stages.specs.Stages.{Checks, Compiles, Displays, IsRan, IsScheduled, IsTyped, Schedules, Stopped, displayed, judged, operator_in, operator_of, shown, stop_at}
-use Rattle.compile_stages.specs.Stopping.{plain, plain_why, schedule_of, stage, typed_of}
+use Rattle.compile_stages.specs.Stages.{Schedule, operator_of, stop_at}
+use Rattle.compile_stages.specs.Stopping.{plain_why}
+use Rattle.compile_stages.proofs.Lines.{line_at}
+use Rattle.compile_stages.proofs.Running.{if-ok}
 use Rattle.compile_stages.proofs.stages.refused_at.Goals as goal
 
--- src/stages.rt:203:1
 pub returns-in_default : goal.returns-in_default
-returns-in_default c = ?
+returns-in_default c =
+    let ls = c.args.lines.now in
+    let k = c.args.refused.index in
+    let line = c.index-lines-refused.result in
+    let s : Schedule = record { lines = map plain_line ls; numbers = map number ls } in
+    let same =
+        line_at ls k line (c.requires c.in_default.not-Memory)
+        ∙ sym (ap (λ (l : Line). stop.AtLine l.number (operator_of (plain_line l))) c.index-lines-refused.is) in
+    if-ok c.at_line.result _ _ (λ end is.
+    is ∙ ap (λ f. option_map f (plain_why c.args.refused.why)) (sym same))
+    c.at_line.ensures
