@@ -158,9 +158,6 @@ module _ (program : Program) (what : List Printing) (unit : IsUnit program) (f :
       → AreClear (ws ++ written_by (written_at ws) p ∷ [])
   one_clear ws clear p at j c = by (place_of ws (written_by (written_at ws) p) j)
     where
-      abbrev said : Option (ℕ → Bool) → Bool
-      said o = elim o as (λ o. Bool) [ None ↦ false | Some w ↦ w f ]
-
       by : Place ws (written_by (written_at ws) p) j
           → written_at (ws ++ written_by (written_at ws) p ∷ []) j f ≡ false
       by (before e) = ap said e ∙ clear j c
@@ -189,8 +186,12 @@ module _ (program : Program) (what : List Printing) (unit : IsUnit program) (f :
   none_clear zero c = refl
   none_clear (suc j) c = refl
 
+  from_zero : (i : ℕ) → 0 + i ≡ i
+  from_zero i = omega arith
+
   written_nowhere : AreClear (all_written [] program.procedures)
-  written_nowhere = all_clear program.procedures [] (λ i p e. e) none_clear
+  written_nowhere = all_clear program.procedures []
+      (λ i p e. ap (slice_get program.procedures) (from_zero i) ∙ e) none_clear
 
   body_clear : (k : ℕ) (p : Procedure) → slice_get program.procedures k ≡ Some p → is_listed what k ≡ true
       → writes_field (unit_writes program.procedures) f p.body ≡ false
