@@ -1,7 +1,7 @@
 -- How the program ends follows from its reply and from how that was delivered.
-use Rattle.std.proofs.Common.{◌≡◌, ◌≢◌, ℕ, ◌<◌, ◌≤◌, List, [], ◌∷◌, length, Option, Some, None, option_map, IfOk, Err, refl, ap, sym, ◌∙◌, subst, arith, ◌⊎◌, inl, inr, Bool, true, false, nat_lt, codes, IfSome, IsNone, MatchBool, MatchOption}
+use Rattle.std.proofs.Common.{◌≡◌, ◌≢◌, ℕ, ◌<◌, ◌≤◌, List, [], ◌∷◌, length, Option, Some, None, option_map, refl, ap, sym, ◌∙◌, subst, arith, ◌⊎◌, inl, inr, Bool, true, false, nat_lt, codes, IfSome, IsNone, MatchBool, MatchOption}
 use Rattle.std.proofs.lemmas.Bool.{ltb-true, ltb-false}
-use Rattle.std.specs.Prelude.{Contains, Result}
+use Rattle.std.specs.Prelude.{Contains}
 use Rattle.std.specs.Option.{option_map_or}
 use Rattle.exo_cli.specs.declared.status.Status.{Status}
 use Rattle.exo_cli.specs.declared.status.Status.TheVariants.{Ok, Usage, ReadFault, WriteFault, Memory}
@@ -119,10 +119,6 @@ pub answered : (end : Option (Stage (List ℕ))) (P : Stage (List ℕ) → Type 
     → IfSome end P → option_map of end ≡ Some reply → (s : Stage (List ℕ)) × P s × (reply ≡ of s)
 answered None P of reply p e = absurd cc
 answered (Some s) P of reply p e = (s, p, cc)
-
-pub if-ok : {T E : Type 0} (r : Result T E) (P Q : T → Type 0) → ((x : T) → P x → Q x) → IfOk r P → IfOk r Q
-if-ok (Ok x) P Q step p = step x p
-if-ok (Err e) P Q step p = tt
 
 -- ---- how the work ends
 

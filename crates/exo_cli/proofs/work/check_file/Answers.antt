@@ -4,7 +4,8 @@ use Rattle.compile_stages.specs.Stages.{Checks}
 use Rattle.exo_cli.specs.Answer.{answer_of}
 use Rattle.exo_cli.specs.Replies.{plain}
 use Rattle.exo_cli.specs.Work.{file_limit}
-use Rattle.exo_cli.proofs.Endings.{checked-answers, answered, if-ok}
+use Rattle.exo_cli.proofs.Endings.{checked-answers, answered}
+use Rattle.compile_stages.proofs.Running.{if-ok}
 use Rattle.exo_cli.proofs.work.check_file.Goals as goal
 
 pub returns : goal.returns

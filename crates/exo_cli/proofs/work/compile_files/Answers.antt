@@ -5,7 +5,8 @@ use Rattle.exo_cli.specs.Words.{Compile}
 use Rattle.exo_cli.specs.Answer.{answer_of, IsAnswerOf}
 use Rattle.exo_cli.specs.Replies.{plain}
 use Rattle.exo_cli.specs.Work.{file_limit}
-use Rattle.exo_cli.proofs.Endings.{second-ends, both-read, is_verdict, answered, if-ok}
+use Rattle.exo_cli.proofs.Endings.{second-ends, both-read, is_verdict, answered}
+use Rattle.compile_stages.proofs.Running.{if-ok}
 use Rattle.exo_cli.proofs.work.compile_files.Goals as goal
 
 pub returns-in-Err-2 : goal.returns-in-Err-2
