@@ -1,15 +1,18 @@
 -- How the program ends follows from its reply and from how that was delivered.
-use Rattle.std.proofs.Common.{◌≡◌, ◌≢◌, ℕ, ◌<◌, ◌≤◌, List, [], length, Option, Some, None, refl, ap, sym, ◌∙◌, subst, arith, ◌⊎◌, inl, inr, Bool, true, false, nat_lt, codes, IfSome, IsNone, MatchBool, MatchOption}
+use Rattle.std.proofs.Common.{◌≡◌, ◌≢◌, ℕ, ◌<◌, ◌≤◌, List, [], ◌∷◌, length, Option, Some, None, option_map, refl, ap, sym, ◌∙◌, subst, arith, ◌⊎◌, inl, inr, Bool, true, false, nat_lt, codes, IfSome, IsNone, MatchBool, MatchOption}
 use Rattle.std.proofs.lemmas.Bool.{ltb-true, ltb-false}
+use Rattle.std.specs.Prelude.{Contains}
 use Rattle.std.specs.Option.{option_map_or}
 use Rattle.exo_cli.specs.declared.status.Status.{Status}
 use Rattle.exo_cli.specs.declared.status.Status.TheVariants.{Ok, Usage, ReadFault, WriteFault, Memory}
 use Rattle.cli_outside.specs.Outside.{Folder, content_of, HasBytes, Rose, with_more, StopsWithin}
 use Rattle.exo_cli.specs.Messages.{usage, file_refused}
-use Rattle.exo_cli.specs.Words.{Command, Compile, Check, command_of, files_of}
-use Rattle.exo_cli.specs.Answer.{Answer, Accepted, Rejected, Unread, Misused, status_of, for_out, for_err, IsVerdict}
-use Rattle.exo_cli.specs.Stages.{Stage, Passed, Stopped, IsChecked, IsCompiled, answer_of}
-use Rattle.exo_cli.specs.Work.{file_limit, Opens, AnswersTo, Answers, operands, IsReadFault, IsAnswerTo, IsAnswer, EndsAt, Moment, OutFails, ErrFails, Ends}
+use Rattle.compile_stages.specs.Stages.{Stage, Passed, Stopped, Checks}
+use Rattle.exo_cli.specs.Words.{Command, Check, command_of, files_of}
+use Rattle.exo_cli.specs.Answer.{Answer, Accepted, Rejected, Unread, Misused, answer_of, IsAnswerOf}
+use Rattle.exo_cli.specs.Answer.{status_of, for_out, for_err, IsVerdict}
+use Rattle.exo_cli.specs.Work.{file_limit, Opens, OpensBoth, AnswersTo, Answers, operands, IsReadFault}
+use Rattle.exo_cli.specs.Work.{IsAnswerTo, IsAnswer, EndsAt, Moment, OutFails, ErrFails, Ends}
 use Rattle.cli_outside.proofs.Taking.{with_more-nothing}
 
 -- a file that is told and short enough is handed on
@@ -32,61 +35,92 @@ opened-longer held name bytes next message e h is = rw e (by-case (nat_lt file_l
     by-case true longer h is = ap Rejected is
     by-case false shorter h is = absurd (omega (arith, ltb-false file_limit (length bytes) shorter))
 
--- the work ends at the second file
-pub second-ends : (told : Option Folder) (procs schedule unit : List ℕ) (before mid after : ℕ) (last : Option (List ℕ)) (reply : Answer)
-    → HasBytes told procs unit → length unit ≤ file_limit → before ≤ mid → EndsAt told mid after last schedule reply
-    → IsAnswerTo (Compile procs schedule) told before after last reply
-second-ends told procs schedule unit before mid after last (Accepted text) held short grew ends = absurd ends
-second-ends None procs schedule unit before mid after last (Rejected message) held short grew ends = tt
-second-ends (Some files) procs schedule unit before mid after last (Rejected message) held short grew ends =
-    opened-within (content_of files procs) procs unit (λ u. Opens (content_of files schedule) schedule (λ lines. IsCompiled procs u schedule lines)) (Rejected message) held short
-    (opened-longer (content_of files schedule) schedule ends.0.0 (λ lines. IsCompiled procs unit schedule lines) message ends.0.1 ends.0.2 ends.1)
-second-ends told procs schedule unit before mid after last (Unread message) held short grew ends = record {
-  rose = omega (arith, ends.0);
-  name = schedule;
-  last_fault = ends.1;
-  operand = (1, omega arith, refl);
-  names_it = ends.2;
-}
-second-ends told procs schedule unit before mid after last (Misused message) held short grew ends = absurd ends
+-- ---- what the files give
 
--- what a command comes to is accepted or rejected
-is_verdict : (procs schedule : List ℕ) (end : Stage (List ℕ)) (reply : Answer) → reply ≡ answer_of procs schedule end → IsVerdict reply
+-- what texts come to is accepted or rejected
+pub is_verdict : (procs schedule : List ℕ) (end : Stage (List ℕ)) (reply : Answer)
+    → reply ≡ answer_of procs schedule end → IsVerdict reply
 is_verdict procs schedule (Passed text) reply e = subst IsVerdict (sym e) tt
 is_verdict procs schedule (Stopped why) reply e = subst IsVerdict (sym e) tt
 
--- both files are read
-pub compiled-answers : (told : Option Folder) (procs schedule unit lines : List ℕ) (before after : ℕ) (last : Option (List ℕ)) (reply : Answer)
-    → HasBytes told procs unit → length unit ≤ file_limit → HasBytes told schedule lines → length lines ≤ file_limit
-    → IsCompiled procs unit schedule lines reply → IsAnswerTo (Compile procs schedule) told before after last reply
-compiled-answers told procs schedule unit lines before after last reply held short also less compiled =
-    go told reply held also compiled (is_verdict procs schedule compiled.0 reply compiled.2)
-  where
-    go : (told : Option Folder) (reply : Answer) → HasBytes told procs unit → HasBytes told schedule lines → IsCompiled procs unit schedule lines reply → IsVerdict reply
-        → IsAnswerTo (Compile procs schedule) told before after last reply
-    go None (Accepted text) held also compiled verdict = tt
-    go None (Rejected message) held also compiled verdict = tt
-    go (Some files) (Accepted text) held also compiled verdict =
-        opened-within (content_of files procs) procs unit (λ u. Opens (content_of files schedule) schedule (λ l. IsCompiled procs u schedule l)) (Accepted text) held short
-        (opened-within (content_of files schedule) schedule lines (λ l. IsCompiled procs unit schedule l) (Accepted text) also less compiled)
-    go (Some files) (Rejected message) held also compiled verdict =
-        opened-within (content_of files procs) procs unit (λ u. Opens (content_of files schedule) schedule (λ l. IsCompiled procs u schedule l)) (Rejected message) held short
-        (opened-within (content_of files schedule) schedule lines (λ l. IsCompiled procs unit schedule l) (Rejected message) also less compiled)
-    go told (Unread message) held also compiled verdict = absurd verdict
-    go told (Misused message) held also compiled verdict = absurd verdict
+-- a verdict that is the answer wherever the files are told
+told-verdict : (command : Command) (told : Option Folder) (before after : ℕ) (last : Option (List ℕ))
+    (reply : Answer) → IsVerdict reply → IfSome told (λ files. AnswersTo command files reply)
+    → IsAnswerTo command told before after last reply
+told-verdict command told before after last (Accepted text) verdict h = h
+told-verdict command told before after last (Rejected message) verdict h = h
+told-verdict command told before after last (Unread message) verdict h = absurd verdict
+told-verdict command told before after last (Misused message) verdict h = absurd verdict
+
+-- a command that opens two files
+module _ (command : Command) (procs schedule : List ℕ) (next : List ℕ → List ℕ → Answer → Type 0)
+    (answers : (files : Folder) (a : Answer) → OpensBoth files procs schedule next a → AnswersTo command files a)
+    (named : files_of command ≡ procs ∷ schedule ∷ []) where
+  -- the work ends at the second file
+  pub second-ends : (told : Option Folder) (unit : List ℕ) (before mid after : ℕ) (last : Option (List ℕ))
+      (reply : Answer)
+      → HasBytes told procs unit → length unit ≤ file_limit → before ≤ mid
+      → EndsAt told mid after last schedule reply
+      → IsAnswerTo command told before after last reply
+  second-ends told unit before mid after last (Accepted text) held short grew ends = absurd ends
+  second-ends None unit before mid after last (Rejected message) held short grew ends = tt
+  second-ends (Some files) unit before mid after last (Rejected message) held short grew ends =
+      answers files (Rejected message)
+      (opened-within (content_of files procs) procs unit
+      (λ u. Opens (content_of files schedule) schedule (next u)) (Rejected message) held short
+      (opened-longer (content_of files schedule) schedule ends.0.0 (next unit) message ends.0.1 ends.0.2 ends.1))
+  second-ends told unit before mid after last (Unread message) held short grew ends = record {
+    rose = omega (arith, ends.0);
+    name = schedule;
+    last_fault = ends.1;
+    operand = subst (λ names. Contains names schedule) (sym named) (1, omega arith, refl);
+    names_it = ends.2;
+  }
+  second-ends told unit before mid after last (Misused message) held short grew ends = absurd ends
+
+  -- both files are read
+  pub both-read : (told : Option Folder) (unit lines : List ℕ) (before after : ℕ) (last : Option (List ℕ))
+      (reply : Answer)
+      → HasBytes told procs unit → length unit ≤ file_limit
+      → HasBytes told schedule lines → length lines ≤ file_limit
+      → IsVerdict reply → next unit lines reply
+      → IsAnswerTo command told before after last reply
+  both-read told unit lines before after last reply held short also less verdict comes =
+      told-verdict command told before after last reply verdict (go told held also)
+    where
+      go : (told : Option Folder) → HasBytes told procs unit → HasBytes told schedule lines
+          → IfSome told (λ files. AnswersTo command files reply)
+      go None held also = tt
+      go (Some files) held also =
+          answers files reply
+          (opened-within (content_of files procs) procs unit
+          (λ u. Opens (content_of files schedule) schedule (next u)) reply held short
+          (opened-within (content_of files schedule) schedule lines (next unit) reply also less comes))
 
 -- the file to check is read
-pub checked-answers : (told : Option Folder) (procs text : List ℕ) (before after : ℕ) (last : Option (List ℕ)) (reply : Answer)
-    → HasBytes told procs text → length text ≤ file_limit → IsChecked procs text reply → IsAnswerTo (Check procs) told before after last reply
-checked-answers told procs text before after last reply held short checked = go told reply held checked (is_verdict procs [] checked.0 reply checked.2)
+pub checked-answers : (told : Option Folder) (procs text : List ℕ) (before after : ℕ) (last : Option (List ℕ))
+    (reply : Answer)
+    → HasBytes told procs text → length text ≤ file_limit → IsAnswerOf procs [] (Checks text) reply
+    → IsAnswerTo (Check procs) told before after last reply
+checked-answers told procs text before after last reply held short checked =
+    told-verdict (Check procs) told before after last reply (is_verdict procs [] checked.0 reply checked.2)
+    (go told held)
   where
-    go : (told : Option Folder) (reply : Answer) → HasBytes told procs text → IsChecked procs text reply → IsVerdict reply → IsAnswerTo (Check procs) told before after last reply
-    go None (Accepted out) held checked verdict = tt
-    go None (Rejected message) held checked verdict = tt
-    go (Some files) (Accepted out) held checked verdict = opened-within (content_of files procs) procs text (IsChecked procs) (Accepted out) held short checked
-    go (Some files) (Rejected message) held checked verdict = opened-within (content_of files procs) procs text (IsChecked procs) (Rejected message) held short checked
-    go told (Unread message) held checked verdict = absurd verdict
-    go told (Misused message) held checked verdict = absurd verdict
+    go : (told : Option Folder) → HasBytes told procs text
+        → IfSome told (λ files. AnswersTo (Check procs) files reply)
+    go None held = tt
+    go (Some files) held =
+        opened-within (content_of files procs) procs text (λ u. IsAnswerOf procs [] (Checks u)) reply held short
+        checked
+
+-- a reply answers what a command came to
+pub answered : (end : Option (Stage (List ℕ))) (P : Stage (List ℕ) → Type 0)
+    (of : Stage (List ℕ) → Answer) (reply : Answer)
+    → IfSome end P → option_map of end ≡ Some reply → (s : Stage (List ℕ)) × P s × (reply ≡ of s)
+answered None P of reply p e = absurd cc
+answered (Some s) P of reply p e = (s, p, cc)
+
+-- ---- how the work ends
 
 -- the words are no command
 pub misused : (asked : Option Command) (told : Option Folder) (before after : ℕ) (last : Option (List ℕ)) (message : List ℕ)

@@ -1,11 +1,4 @@
 pub mod Endings
-pub mod Running
-pub mod Typing
 pub mod Unique
 pub mod Complete
-pub mod Counted
-pub mod Worlds
-pub mod Listing
-pub mod Printed
-pub mod Printing
 pub mod Headline

@@ -3,11 +3,7 @@ pub mod Messages
 pub mod Words
 pub mod Asked
 pub mod Answer
-pub mod Printings
-pub mod Stops
-pub mod Stages
-pub mod Stopping
 pub mod Replies
 pub mod Work
-pub mod Headline
 pub mod Counted
+pub mod Headline

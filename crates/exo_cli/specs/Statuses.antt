@@ -1,7 +1,8 @@
 -- The exit status of the program, by how its work ended.
 use Rattle.std.specs.Prelude.{ℕ}
 use Rattle.exo_cli.specs.declared.status.Status.{Status}
-use Rattle.exo_cli.specs.declared.status.Status.TheVariants.{Ok, Refused, Usage, ReadFault, WriteFault, Memory}
+use Rattle.exo_cli.specs.declared.status.Status.TheVariants.{Ok, Refused, Usage, ReadFault}
+use Rattle.exo_cli.specs.declared.status.Status.TheVariants.{WriteFault, Memory}
 
 -- the number that the operating system is told
 abbrev pub number_of : Status → ℕ

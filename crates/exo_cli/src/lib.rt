@@ -1,14 +1,10 @@
-//! The command line of the compiler: its words, the order of its work, its messages and what it writes.
+//! The command line of the compiler: its words, the order of its work, and what it writes.
 #![tactic(auto)]
 
 pub mod laws;
-mod memories;
 mod messages;
-mod printings;
 mod reply;
-mod stages;
 mod status;
-mod stop;
 mod words;
 mod work;
 

@@ -1,7 +1,8 @@
-// The messages of the program, each a line.
-ghost use Rattle.std.specs.Prelude.{◌≡◌, string_bytes, IfOk};
-ghost use Rattle.exo_cli.specs.Messages.{usage, cannot_read, file_refused, place_refused, name_refused, line_refused, unit_refused, not_shown, checked};
+// Messages on words and files, each a line.
+ghost use Rattle.std.specs.Prelude.{◌≡◌, string_bytes, IfOk, codes};
+ghost use Rattle.exo_cli.specs.Messages.{usage, cannot_read, file_refused};
 
+use compile_stages::messages::refused;
 use std::alloc::{AllocError, Global};
 
 /// How the program is called.
@@ -21,79 +22,9 @@ pub(crate) fn cannot_read(alloc: Global, name: &str) -> Result<String, AllocErro
     format!(in alloc; "exoc: cannot read {name}\n")
 }
 
-/// The file of this name is refused as a whole.
-pub(crate) fn file_refused(alloc: Global, name: &str, why: &str) -> Result<String, AllocError>
-    ensures { IfOk result (λ text. string_bytes text ≡ file_refused name.now why.now) }
+/// The file of this name is too long.
+pub(crate) fn too_long(alloc: Global, name: &str) -> Result<String, AllocError>
+    ensures { IfOk result (λ text. string_bytes text ≡ file_refused name.now (codes "FileTooLong")) }
 {
-    format!(in alloc; "exoc: {name}: {why}\n")
-}
-
-/// A text is refused at a place: its line, its column and why.
-pub(crate) fn place_refused(
-    alloc: Global,
-    name: &str,
-    line: u32,
-    column: u32,
-    why: &str,
-) -> Result<String, AllocError>
-    ensures { IfOk result (λ text. string_bytes text ≡ place_refused name.now line column why.now) }
-{
-    format!(in alloc; "exoc: {name}:{line}:{column}: {why}\n")
-}
-
-/// A name of the unit in this file is refused.
-pub(crate) fn name_refused(
-    alloc: Global,
-    file: &str,
-    name: &str,
-    why: &str,
-) -> Result<String, AllocError>
-    ensures { IfOk result (λ text. string_bytes text ≡ name_refused file.now name.now why.now) }
-{
-    format!(in alloc; "exoc: {file}: {name}: {why}\n")
-}
-
-/// A line of a schedule is refused: its number, its operator and why.
-pub(crate) fn line_refused(
-    alloc: Global,
-    name: &str,
-    number: u32,
-    operator: &str,
-    why: &str,
-) -> Result<String, AllocError>
-    ensures { IfOk result (λ text. string_bytes text ≡ line_refused name.now number operator.now why.now) }
-{
-    format!(in alloc; "exoc: {name}:{number}: {operator} {why}\n")
-}
-
-/// A unit is refused at a line.
-pub(crate) fn unit_refused(
-    alloc: Global,
-    name: &str,
-    line: u32,
-    why: &str,
-) -> Result<String, AllocError>
-    ensures { IfOk result (λ text. string_bytes text ≡ unit_refused name.now line why.now) }
-{
-    format!(in alloc; "exoc: {name}:{line}: {why}\n")
-}
-
-/// What is owed at a line is not shown: the claim, and the verdict on it.
-pub(crate) fn not_shown(
-    alloc: Global,
-    name: &str,
-    line: u32,
-    what: &str,
-    verdict: &str,
-) -> Result<String, AllocError>
-    ensures { IfOk result (λ text. string_bytes text ≡ not_shown name.now line what.now verdict.now) }
-{
-    format!(in alloc; "exoc: {name}:{line}: NotShown {what} {verdict}\n")
-}
-
-/// All obligations are shown; their number.
-pub(crate) fn checked(alloc: Global, count: u64) -> Result<String, AllocError>
-    ensures { IfOk result (λ text. string_bytes text ≡ checked count) }
-{
-    format!(in alloc; "{count} obligations\nok\n")
+    refused(alloc, name, "FileTooLong")
 }

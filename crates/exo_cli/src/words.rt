@@ -1,31 +1,72 @@
 // The words of the command line.
-ghost use Rattle.std.specs.Prelude.{◌≡◌, option_map};
+ghost use Rattle.std.specs.Prelude.{◌≡◌, ◌&&◌, if◌then◌else◌, Some, None, option_map, codes};
+ghost use Rattle.std.specs.Str.{bytes_eq};
+ghost use Rattle.exo_cli.specs.Words as plainly;
 ghost use Rattle.exo_cli.specs.Words.{command_of, is_operand, texts};
 ghost use Rattle.exo_cli.specs.Asked.{plain};
 
-/// What the program is asked to do; its operands are names of files.
+/// What the program is asked to do; its operands are names of files, and the last of `show` that of a version.
 #[derive(Clone, Copy)]
 pub(crate) enum Command<'a> {
     /// Compile the procedures of the first file by the schedule of the second.
     Compile(&'a str, &'a str),
     /// Check the procedures of the file.
     Check(&'a str),
+    /// Show the version that the name holds behind the schedule of the second file on the procedures of the first.
+    Show(&'a str, &'a str, &'a str),
+}
+
+/// The command of three words.
+fn check_of<'a>(word: &str, procs: &'a str) -> Option<Command<'a>>
+    ensures { option_map plain result ≡ (if bytes_eq word.now (codes "check") && is_operand procs.now then Some (plainly.Check procs.now) else None) }
+{
+    if word == "check" && is_operand(procs) {
+        return Some(Command::Check(procs));
+    }
+    None
+}
+
+/// The command of four words.
+fn compile_of<'a>(word: &str, procs: &'a str, schedule: &'a str) -> Option<Command<'a>>
+    ensures { option_map plain result ≡ (if bytes_eq word.now (codes "compile") && is_operand procs.now && is_operand schedule.now then Some (plainly.Compile procs.now schedule.now) else None) }
+{
+    if word == "compile" && is_operand(procs) && is_operand(schedule) {
+        return Some(Command::Compile(procs, schedule));
+    }
+    None
+}
+
+/// The command of five words.
+fn show_of<'a>(
+    word: &str,
+    procs: &'a str,
+    schedule: &'a str,
+    name: &'a str,
+) -> Option<Command<'a>>
+    ensures { option_map plain result ≡ (if bytes_eq word.now (codes "show") && is_operand procs.now && is_operand schedule.now && is_operand name.now then Some (plainly.Show procs.now schedule.now name.now) else None) }
+{
+    if word == "show" && is_operand(procs) && is_operand(schedule) && is_operand(name) {
+        return Some(Command::Show(procs, schedule, name));
+    }
+    None
 }
 
 /// The command of the words, the first of which is the program's name.
 pub(crate) fn read_command(words: &[String]) -> Option<Command<'_>>
     ensures { option_map plain result ≡ command_of (texts words.now) }
 {
-    match words {
-        [_, word, procs, schedule]
-            if word.as_str() == "compile"
-                && is_operand(procs.as_str())
-                && is_operand(schedule.as_str()) => {
-            Some(Command::Compile(procs.as_str(), schedule.as_str()))
-        }
-        [_, word, procs] if word.as_str() == "check" && is_operand(procs.as_str()) => {
-            Some(Command::Check(procs.as_str()))
-        }
+    let [_, word, procs, more @ ..] = words else {
+        return None;
+    };
+    match more {
+        [] => check_of(word.as_str(), procs.as_str()),
+        [schedule] => compile_of(word.as_str(), procs.as_str(), schedule.as_str()),
+        [schedule, name] => show_of(
+            word.as_str(),
+            procs.as_str(),
+            schedule.as_str(),
+            name.as_str(),
+        ),
         _ => None,
     }
 }

@@ -1,23 +1,21 @@
 // The order of the work: the words, the files, what their texts give, and then what is written.
-ghost use Rattle.std.specs.Prelude.{◌≡◌, ◌≤◌, ◌⊎◌, IfOk, IfSome, MatchResult, length};
-ghost use Rattle.exo_cli.specs.Headline.{Promised};
-ghost use Rattle.exo_cli.specs.Counted.{Counted};
+ghost use Rattle.std.specs.Prelude.{◌≡◌, ◌≤◌, IfOk, IfSome, MatchResult, length};
+ghost use Rattle.exo_cli.specs.Headline.{KeepsItsPromise};
 ghost use Rattle.cli_outside.specs.Outside.{HasBytes};
-ghost use Rattle.exo_cli.specs.Words.{Compile, Check, texts};
+ghost use Rattle.exo_cli.specs.Words.{Compile, Check, Show, texts};
 ghost use Rattle.exo_cli.specs.Replies.{plain};
 ghost use Rattle.exo_cli.specs.Work.{Ends, EndsAt, IsAnswer, IsAnswerTo, file_limit};
 
 use crate::messages;
 use crate::reply::{Reply, replied};
-use crate::stages::{checked, compiled};
 use crate::status::Status;
 use crate::words::{Command, read_command};
-use c_unit_laws::laws::{files_follow, files_without_allocations_are_done};
 use cli_outside::{FileFault, Files, Sink};
+use compile_stages::laws::{compiled_is_promised, checked_is_counted, displayed_is_promised};
+use compile_stages::{checked, compiled, displayed};
 use ob_check::Gate;
 use std::alloc::{AllocError, Global};
 use std::thread::Threads;
-use unit_check::laws::checked_units_do_not_fault;
 
 /// The most bytes that a file may have.
 const FILE_LIMIT: usize = 1 << 20;
@@ -54,11 +52,11 @@ pub fn exoc<R: Threads + Sync, F: Files, O: Sink, E: Sink, G: Gate>(
         })
         result }
     ensures promise { result ≡ Status.Ok → IfSome (F.told files.old) (λ folder.
-        Promised (texts words.now) folder (O.taken out.old) (O.taken out.new) ⊎ Counted (texts words.now) folder (O.taken out.old) (O.taken out.new)) }
+        KeepsItsPromise (texts words.now) folder (O.taken out.old) (O.taken out.new)) }
 {
-    checked_units_do_not_fault();
-    files_follow();
-    files_without_allocations_are_done();
+    compiled_is_promised();
+    displayed_is_promised();
+    checked_is_counted();
     match reply_to(rt, alloc, words, files, gate) {
         Ok(reply) => reply.deliver(out, err),
         Err(_) => Status::Memory,
@@ -81,6 +79,9 @@ fn reply_to<R: Threads + Sync, F: Files, G: Gate>(
             compile_files(rt, alloc, procs, schedule, files, gate)
         }
         Some(Command::Check(procs)) => check_file(rt, alloc, procs, files, gate),
+        Some(Command::Show(procs, schedule, name)) => {
+            show_version(rt, alloc, procs, schedule, name, files, gate)
+        }
         None => Ok(Reply::Misused(messages::usage(alloc)?)),
     }
 }
@@ -110,6 +111,35 @@ fn compile_files<R: Threads + Sync, F: Files, G: Gate>(
         procs,
         schedule,
         compiled(rt, alloc, &unit, &lines, gate),
+    )
+}
+
+/// What is replied to the command to show a version that these files make.
+fn show_version<R: Threads + Sync, F: Files, G: Gate>(
+    rt: &R,
+    alloc: Global,
+    procs: &str,
+    schedule: &str,
+    name: &str,
+    files: &mut F,
+    gate: &G,
+) -> Result<Reply, AllocError>
+    ensures { IfOk result (λ reply. IsAnswerTo (Show procs.now schedule.now name.now) (F.told files.old) (F.faults files.old)
+        (F.faults files.new) (F.last_fault files.new) (plain reply)) }
+{
+    let unit = match read_text(alloc, files, procs)? {
+        Ok(text) => text,
+        Err(reply) => return Ok(reply),
+    };
+    let lines = match read_text(alloc, files, schedule)? {
+        Ok(text) => text,
+        Err(reply) => return Ok(reply),
+    };
+    replied(
+        alloc,
+        procs,
+        schedule,
+        displayed(rt, alloc, &unit, &lines, name, gate),
     )
 }
 
@@ -152,7 +182,7 @@ fn read_text<F: Files>(
             Ok(Err(Reply::Unread(message)))
         }
         Err(FileFault::TooLong) => {
-            let message = messages::file_refused(alloc, name, "FileTooLong")?;
+            let message = messages::too_long(alloc, name)?;
             Ok(Err(Reply::Rejected(message)))
         }
     }

@@ -14,8 +14,10 @@ use Rattle.schedule_versions.specs.Versions.{started}
 use Rattle.schedule_versions.specs.Lines.{Ruled}
 use Rattle.schedule_versions.specs.Laws.{NamesFields, IsLawfulAct, HasRoom}
 use Rattle.schedule_versions.specs.Laws.{StartedIsDerived, RunIsDerived}
+use Rattle.schedule_versions.specs.Behind.{NamesNoField, ActNamesNoField, RunsDifferInNothing}
 use Rattle.schedule_operators.specs.Operators.{at_statement, on_procedure, act_of}
 use Rattle.schedule_operators.specs.Operators.{OperatorsAreLawful, SchedulesDerive}
+use Rattle.schedule_operators.specs.Operators.{OperatorsNameNoField, SchedulesDifferInNothing}
 
 same_rule : (a b : Ruled) → Got a ≡ Got b → a ≡ b
 same_rule a b h = cc
@@ -65,3 +67,24 @@ module _ (exchanges : (x : ExprPattern) → IsLawful (commute_rule x))
       runs (map act_of requests) (started unit shown) v (acts_are_lawful requests)
       (starts unit shown is quiet)
       (subst (HasRoom (started unit shown)) (sym (as_many requests)) room) h
+
+-- ---- fields
+
+pub operators_name_no_field : OperatorsNameNoField
+operators_name_no_field (CommuteExpr at x) =
+    λ t cs r h. of_statement NamesNoField (commute_rule x) (λ s. refl) cs r h
+operators_name_no_field (Rename name) =
+    λ t cs r h. of_procedure NamesNoField (rename_rule name) (λ s. refl) r h
+operators_name_no_field DeletePass =
+    λ t cs r h. of_procedure NamesNoField delete_pass_rule (λ s. refl) r h
+
+none_named : (requests : List Request) → Each ActNamesNoField (map act_of requests)
+none_named [] = tt
+none_named (request.Apply bind of o ∷ more) = (operators_name_no_field o, none_named more)
+none_named (request.Search bind of pattern nth moves ∷ more) = (tt, none_named more)
+none_named (request.Moved bind of moves ∷ more) = (tt, none_named more)
+none_named (request.Emit name ∷ more) = (tt, none_named more)
+
+pub schedules_differ_in_nothing : RunsDifferInNothing → SchedulesDifferInNothing
+schedules_differ_in_nothing runs unit shown requests v h =
+    runs unit shown (map act_of requests) v (none_named requests) h

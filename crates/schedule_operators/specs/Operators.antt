@@ -14,6 +14,7 @@ use Rattle.schedule_calls.specs.Requests as request
 use Rattle.schedule_versions.specs.Versions.{Versions, started}
 use Rattle.schedule_versions.specs.Lines.{Ruled, Call, Act, Apply, Search, Moved, Emit, Done, run_acts}
 use Rattle.schedule_versions.specs.Laws.{IsLawfulCall, AreDerived, HasRoom}
+use Rattle.schedule_versions.specs.Behind.{CallNamesNoField, NothingDiffers}
 
 -- ---- cursors
 
@@ -55,3 +56,14 @@ SchedulesDerive =
     → HasRoom (started unit shown) (length requests)
     → run_acts (map act_of requests) (started unit shown) ≡ Done v
     → AreDerived v
+
+-- none of them names a field that may differ
+abbrev pub OperatorsNameNoField : Type 0
+OperatorsNameNoField = (o : Operation) → CallNamesNoField (call_of o)
+
+-- so no version of a schedule differs in a field from one of which it was made
+abbrev pub SchedulesDifferInNothing : Type 0
+SchedulesDifferInNothing =
+    (unit : Program) (shown : ℕ) (requests : List Request) (v : Versions)
+    → run_acts (map act_of requests) (started unit shown) ≡ Done v
+    → NothingDiffers v

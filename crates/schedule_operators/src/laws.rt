@@ -1,6 +1,7 @@
 // Laws of the operators of schedules, each the contract of a function with nothing to do.
 
 ghost use Rattle.schedule_operators.specs.Operators.{OperatorsAreLawful, SchedulesDerive};
+ghost use Rattle.schedule_operators.specs.Operators.{OperatorsNameNoField, SchedulesDifferInNothing};
 ghost use Rattle.schedule_operators.specs.Instance.{ScheduleInstance, ResultIsDerived};
 
 /// Every operator works by lawful rules.
@@ -34,4 +35,16 @@ pub fn result_is_derived()
 {
     schedules_derive();
     unit_check::laws::checked_units_do_not_fault();
+}
+
+/// No operator that is built names a field that may differ.
+pub fn operators_name_no_field()
+    ensures { OperatorsNameNoField }
+{}
+
+/// No version of a schedule differs in a field from one of which it was made.
+pub fn schedules_differ_in_nothing()
+    ensures { SchedulesDifferInNothing }
+{
+    schedule_versions::laws::runs_differ_in_nothing();
 }

@@ -4,3 +4,4 @@ mod Growing
 mod Derived
 mod Chain
 mod Runs
+mod Behind

@@ -2,3 +2,4 @@ pub mod Versions
 pub mod Places
 pub mod Lines
 pub mod Laws
+pub mod Behind

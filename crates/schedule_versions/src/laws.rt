@@ -1,6 +1,7 @@
 // Laws of versions, each the contract of a function with nothing to do.
 
 ghost use Rattle.schedule_versions.specs.Laws.{StartedIsDerived, RunIsDerived, VersionsRefine, VersionsKeepHeads};
+ghost use Rattle.schedule_versions.specs.Behind.{RunsHoldVersions, RunsDifferInNothing};
 
 /// The procedures of a well-formed unit of which nothing faults are versions to begin with.
 pub fn started_versions_are_derived()
@@ -26,7 +27,18 @@ pub fn versions_refine()
     ensures { VersionsRefine }
 {}
 
-/// A version has the parameters and assertions of each version of which it was made.
+/// And it has the parameters and assertions of each.
 pub fn versions_keep_heads()
     ensures { VersionsKeepHeads }
+{}
+
+/// What a name holds behind the lines of a schedule is there.
+pub fn runs_hold_versions()
+    ensures { RunsHoldVersions }
+{}
+
+/// Where no operator names a field that may differ, no version differs in a field from one of which it was
+/// made.
+pub fn runs_differ_in_nothing()
+    ensures { RunsDifferInNothing }
 {}

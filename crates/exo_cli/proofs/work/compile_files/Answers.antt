@@ -1,30 +1,42 @@
-use Rattle.std.proofs.Common.{ℕ, ◌≤◌, List, length, sym, subst}
+use Rattle.std.proofs.Common.{ℕ, ◌≤◌, List, length, refl, sym, subst}
 use Rattle.cli_outside.specs.Outside.{HasBytes}
+use Rattle.compile_stages.specs.Stages.{Compiles}
+use Rattle.exo_cli.specs.Words.{Compile}
+use Rattle.exo_cli.specs.Answer.{answer_of, IsAnswerOf}
 use Rattle.exo_cli.specs.Replies.{plain}
-use Rattle.exo_cli.specs.Stages.{ComesTo, compiled, answer_of}
 use Rattle.exo_cli.specs.Work.{file_limit}
-use Rattle.exo_cli.proofs.Endings.{second-ends, compiled-answers}
-use Rattle.exo_cli.proofs.Running.{answered, if-ok}
+use Rattle.exo_cli.proofs.Endings.{second-ends, both-read, is_verdict, answered}
+use Rattle.compile_stages.proofs.Running.{if-ok}
 use Rattle.exo_cli.proofs.work.compile_files.Goals as goal
 
 pub returns-in-Err-2 : goal.returns-in-Err-2
 returns-in-Err-2 g c =
+    let procs = c.args.procs.now in
+    let schedule = c.args.schedule.now in
     let first = rw c.in-Ok.is at c.in_ok-text.ensures.read in
     let second = rw c.in-Err-2.is at c.in_ok-text-2.ensures.read in
     let ends = rw c.in_ok-text.ensures.same at second in
-    second-ends (g.F.Files.told c.args.files.now) c.args.procs.now c.args.schedule.now c.in-Ok.text.items
-    (g.F.Files.faults c.args.files.now) (g.F.Files.faults c.read_text.new.files) _ _ _ first.0 first.1 c.in_ok-text.ensures.count ends
+    second-ends (Compile procs schedule) procs schedule
+    (λ unit lines. IsAnswerOf procs schedule (Compiles unit lines)) (λ files a h. h) refl
+    (g.F.Files.told c.args.files.now) c.in-Ok.text.items
+    (g.F.Files.faults c.args.files.now) (g.F.Files.faults c.read_text.new.files) _ _ _ first.0 first.1
+    c.in_ok-text.ensures.count ends
 
 pub returns : goal.returns
 returns g c =
+    let procs = c.args.procs.now in
+    let schedule = c.args.schedule.now in
     let told = g.F.Files.told c.args.files.now in
     let first = rw c.in-Ok.is at c.in_ok-text.ensures.read in
     let read = rw c.in-Ok-2.is at c.in_ok-text-2.ensures.read in
     let second = rw c.in_ok-text.ensures.same at read in
-    let unit = subst (λ (l : List ℕ). HasBytes told c.args.procs.now l × (length l ≤ file_limit)) (sym c.deref.ensures.value) first in
-    let lines = subst (λ (l : List ℕ). HasBytes told c.args.schedule.now l × (length l ≤ file_limit)) (sym c.deref-2.ensures.value) second in
+    let unit = subst (λ (l : List ℕ). HasBytes told procs l × (length l ≤ file_limit)) (sym c.deref.ensures.value) first in
+    let lines = subst (λ (l : List ℕ). HasBytes told schedule l × (length l ≤ file_limit)) (sym c.deref-2.ensures.value) second in
     if-ok c.replied.result _ _ (λ reply is.
-    compiled-answers told c.args.procs.now c.args.schedule.now c.deref.result.now c.deref-2.result.now _ _ _ (plain reply)
-    unit.0 unit.1 lines.0 lines.1
-    (answered _ (ComesTo (compiled c.deref-2.result.now) c.deref.result.now) (answer_of c.args.procs.now c.args.schedule.now) (plain reply) c.compiled.ensures is))
+    let end = answered _ (Compiles c.deref.result.now c.deref-2.result.now) (answer_of procs schedule) (plain reply)
+        c.compiled.ensures is in
+    both-read (Compile procs schedule) procs schedule
+    (λ unit lines. IsAnswerOf procs schedule (Compiles unit lines)) (λ files a h. h) refl
+    told c.deref.result.now c.deref-2.result.now _ _ _ (plain reply)
+    unit.0 unit.1 lines.0 lines.1 (is_verdict procs schedule end.0 (plain reply) end.2) end)
     c.replied.ensures

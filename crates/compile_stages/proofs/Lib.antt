@@ -1,0 +1,10 @@
+pub mod Running
+pub mod Typing
+pub mod Unique
+pub mod Worlds
+pub mod Listing
+pub mod Undeclared
+pub mod Printed
+pub mod Printing
+pub mod Lines
+pub mod Promise

@@ -1,0 +1,13 @@
+use Rattle.compile_stages.proofs.Promise.{displayed_is_promised}
+use Rattle.compile_stages.proofs.laws.displayed_is_promised.Goals as goal
+
+pub returns : goal.returns
+returns c =
+    displayed_is_promised 
+    (record {
+      safe = c.checked_units_do_not_fault.ensures;
+      keeps = c.schedules_keep.ensures;
+      room = c.small_units_have_room.ensures;
+      bare = c.schedules_differ_in_nothing.ensures;
+      hold = c.runs_hold_versions.ensures;
+    }) c.shown_is_read.ensures

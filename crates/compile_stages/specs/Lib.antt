@@ -1,0 +1,11 @@
+pub mod Messages
+pub mod Printings
+pub mod Stops
+pub mod Kinds
+pub mod Stages
+pub mod Stopping
+pub mod Undeclared
+pub mod Promise
+pub mod Shown
+pub mod Counted
+pub mod Laws

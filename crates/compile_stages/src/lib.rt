@@ -1,0 +1,16 @@
+//! The stages of a compilation: from the texts of a unit and of a schedule to the C of what is emitted, or to the text of
+//! a version; where one of them stops, and the message of that.
+#![tactic(auto)]
+
+mod kinds;
+pub mod laws;
+mod memories;
+pub mod messages;
+mod lowering;
+mod printings;
+mod stages;
+mod stop;
+mod why;
+
+pub use stages::{checked, compiled, displayed};
+pub use stop::Stop;

@@ -1,9 +1,0 @@
--- What is left decides.
-use Rattle.std.proofs.Common.{◌≡◌, drop, map}
-use Rattle.exo_tree.specs.PlainUnit.{program}
-use Rattle.c_printer.specs.PlainPrinted.{printing}
-use Rattle.exo_cli.specs.Printings.{memory_fault}
-use Rattle.exo_cli.proofs.memories.memory_fault.Given as goal
-
-abbrev pub invariant-loop-w : goal.invariant-loop-w
-invariant-loop-w l = memory_fault (program l.unit) (map printing (drop l.w-index l.what)) ≡ memory_fault (program l.unit) (map printing l.what)

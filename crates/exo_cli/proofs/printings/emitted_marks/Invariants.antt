@@ -1,8 +1,0 @@
--- What is left would add to the set what the whole adds to the empty set.
-use Rattle.std.proofs.Common.{drop}
-use Rattle.exo_calls.specs.Marked.{Marked}
-use Rattle.exo_cli.specs.Printings.{is_emitted}
-use Rattle.exo_cli.proofs.printings.emitted_marks.Given as goal
-
-abbrev pub invariant-loop-k : goal.invariant-loop-k
-invariant-loop-k l = (new : _) → Marked (is_emitted (drop l.k-index l.emitted)) l.marks new → Marked (is_emitted l.emitted) l.initial.marks new

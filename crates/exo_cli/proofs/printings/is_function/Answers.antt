@@ -1,5 +1,0 @@
-use Rattle.exo_cli.proofs.Listing.{function_is}
-use Rattle.exo_cli.proofs.printings.is_function.Goals as goal
-
-pub returns : goal.returns
-returns c = function_is c.args.p.now.template c.is_none.result c.is_none.ensures

@@ -1,6 +1,0 @@
-pub mod Lists
-pub mod Commuting
-pub mod Changed
-pub mod Kept
-pub mod Rules
-pub mod Forwarding

@@ -1,4 +1,0 @@
-pub mod Commute
-pub mod Refusals
-pub mod Kept
-pub mod Moves
