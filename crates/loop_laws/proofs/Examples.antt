@@ -1,33 +1,34 @@
 -- The rules on closed procedures.
 use Rattle.std.proofs.Common.{◌≡◌, ℕ, ◌+◌, ◌^◌, ◌-◌, ℤ, pos, true, false, List, [], ◌∷◌, map, Option, Some, None, refl}
 use Rattle.std.specs.Prelude.{codes}
-use Rattle.exo_tree.specs.Tree.{Size, I32, Binder, Control, Lit, Var, Field, Add, Sub, Mul, Div, Mod}
+use Rattle.std.specs.Fmt.{digits}
+use Rattle.exo_tree.specs.Tree.{Size, I32, Control, Lit, Var, Field, Add, Sub, Mul, Div, Mod}
 use Rattle.exo_tree.specs.Tree.{Lt, Gt, Const, Assign, If, For, Block, end, next, joined}
-use Rattle.exo_tree.specs.Tree.{Param, ControlParam, TensorParam, Procedure, MemoryKind, Program}
-use Rattle.cursor_forward.specs.Causes.{Cause, WrongShape, OutOfScope, NameTaken}
+use Rattle.exo_tree.specs.Tree.{Param, ControlParam, TensorParam, Procedure, MemoryKind}
+use Rattle.cursor_forward.specs.Causes.{WrongShape, OutOfScope, NameTaken}
 use Rattle.cursor_forward.specs.Shifts.{at_index}
 use Rattle.cursor_forward.specs.Proposals.{Plan}
 use Rattle.step_rules.specs.Rule.{Tried, Got, Not, Target, Rule}
 use Rattle.step_rules.specs.Answer.{proposed}
 use Rattle.loop_laws.specs.CutLoop.{cut_rule}
-use Rattle.loop_laws.specs.DivideLoop.{Tail, Guard, Cut, CutAndGuard, Perfect, Division, divide_rule}
+use Rattle.loop_laws.specs.DivideLoop.{Tail, Guard, Cut, CutAndGuard, Perfect, divide_rule}
 
 -- ---- procedures with a loop
 
-abbrev size : ℕ → List ℕ → Param
+abbrev pub size : ℕ → List ℕ → Param
 size n name = record { binder = record { id = n; name = name }; kind = ControlParam Size }
 
-abbrev buffer : ℕ → List ℕ → Control → Param
+abbrev pub buffer : ℕ → List ℕ → Control → Param
 buffer n name extent = record {
   binder = record { id = n; name = name };
   kind = TensorParam I32 (extent ∷ []) 0;
 }
 
-abbrev procedure : List Param → Block → Procedure
+abbrev pub procedure : List Param → Block → Procedure
 procedure params b =
     record { name = codes "f"; params = params; asserts = []; body = b; template = None }
 
-abbrev plain_cells : MemoryKind
+abbrev pub plain_cells : MemoryKind
 plain_cells = record {
   name = codes "DRAM";
   ctype = [];
@@ -40,21 +41,21 @@ plain_cells = record {
   header = [];
 }
 
-abbrev target_of : Procedure → Target
+abbrev pub target_of : Procedure → Target
 target_of p = record {
   unit = record { procedures = p ∷ []; fields = []; memories = plain_cells ∷ [] };
   number = 0;
   proc = p;
 }
 
-abbrev loop : ℕ → List ℕ → Control → Control → Block → Block
+abbrev pub loop : ℕ → List ℕ → Control → Control → Block → Block
 loop n name lo hi b = next (For (record { id = n; name = name }) lo hi b) end
 
 -- x[e] = n
-abbrev stores : ℕ → Control → ℕ → Block
+abbrev pub stores : ℕ → Control → ℕ → Block
 stores x e n = next (Assign x (e ∷ []) (Const (pos n))) end
 
-abbrev number : ℕ → Control
+abbrev pub number : ℕ → Control
 number n = Lit (pos n)
 
 -- ---- what is proposed
@@ -67,12 +68,12 @@ abbrev texts_of : Tried Plan → List (List ℕ)
 texts_of (Got m) = map (λ o. o.what) m.must
 texts_of (Not cause) = []
 
-abbrev on_loop : Rule → Procedure → Tried Plan
+abbrev pub on_loop : Rule → Procedure → Tried Plan
 on_loop r p = proposed r (target_of p) (at_index 0)
 
 -- ---- cut: z has x: i32[16], for i in seq(0, 16): x[i] = 1
 
-abbrev z : Procedure
+abbrev pub z : Procedure
 z =
     procedure (buffer 0 (codes "x") (number 16) ∷ [])
     (loop 1 (codes "i") (number 0) (number 16) (stores 0 (Var 1) 1))
@@ -84,11 +85,13 @@ cut_at_5 = refl
 
 pub cut_at_5_needs : texts_of (on_loop (cut_rule (number 5)) z)
     ≡ codes "0 <= 5" ∷ codes "5 <= 16" ∷ []
+unfolding digits
 cut_at_5_needs = refl
 
 -- which is not shown
 pub cut_at_17_needs : texts_of (on_loop (cut_rule (number 17)) z)
     ≡ codes "0 <= 17" ∷ codes "17 <= 16" ∷ []
+unfolding digits
 cut_at_17_needs = refl
 
 pub cut_at_no_name : on_loop (cut_rule (Var (2 ^ 32 - 1))) z ≡ Not OutOfScope
@@ -131,13 +134,14 @@ pub guarded : body_of (on_loop (groups (pos 8) Guard) thirteen)
 guarded = refl
 
 pub guarded_needs : texts_of (on_loop (groups (pos 8) Guard) thirteen) ≡ []
+unfolding digits
 guarded_needs = refl
 
 -- f has n: size, x: i32[n], for i in seq(0, n - 3): x[i] = 0
-abbrev last : Control
+abbrev pub last : Control
 last = Sub (Var 0) (number 3)
 
-abbrev f : Procedure
+abbrev pub f : Procedure
 f =
     procedure (size 0 (codes "n") ∷ buffer 1 (codes "x") (Var 0) ∷ [])
     (loop 2 (codes "i") (number 0) last (stores 1 (Var 2) 0))
@@ -157,6 +161,7 @@ with_tail = refl
 
 -- which is not shown
 pub with_tail_needs : texts_of (on_loop (groups (pos 8) Cut) f) ≡ codes "0 <= n - 3" ∷ []
+unfolding digits
 with_tail_needs = refl
 
 pub with_guarded_tail : body_of (on_loop (groups (pos 8) CutAndGuard) f)
@@ -165,12 +170,15 @@ with_guarded_tail = refl
 
 pub with_guarded_tail_needs : texts_of (on_loop (groups (pos 8) CutAndGuard) f)
     ≡ codes "0 <= n - 3" ∷ []
+unfolding digits
 with_guarded_tail_needs = refl
 
 pub perfect : body_of (on_loop (groups (pos 8) Perfect) f) ≡ Some whole_groups
 perfect = refl
 
-pub perfect_needs : texts_of (on_loop (groups (pos 8) Perfect) f) ≡ codes "(n - 3) % 8 == 0" ∷ []
+-- an equation is two systems
+pub perfect_needs : texts_of (on_loop (groups (pos 8) Perfect) f) ≡ codes "(n - 3) % 8 == 0" ∷ codes "(n - 3) % 8 == 0" ∷ []
+unfolding digits
 perfect_needs = refl
 
 pub by_nothing : on_loop (groups (pos 0) Guard) f ≡ Not WrongShape

@@ -1,19 +1,31 @@
 -- Turns of loops by their numbers.
 use Rattle.std.proofs.Common.{◌≡◌, ◌≤◌, ◌≤ℤ◌, ◌<ℤ◌, ℕ, zero, suc, ◌+◌, ◌*◌, ℤ, pos, negsuc, ◌+ℤ◌, ◌-ℤ◌}
-use Rattle.std.proofs.Common.{◌*ℤ◌, Bool, true, false, if◌then◌else◌, List, [], ◌∷◌, ◌++◌, Option, Some}
-use Rattle.std.proofs.Common.{None, IfSome, refl, sym, ap, ap₂, ◌∙◌, arith}
-use Rattle.std.specs.Prelude.{int_lt}
+use Rattle.std.proofs.Common.{◌*ℤ◌, true, false, if◌then◌else◌, List, [], ◌∷◌, ◌++◌, Option, Some}
+use Rattle.std.proofs.Common.{IfSome, refl, sym, ap, ap₂, ◌∙◌, arith}
+use Rattle.std.specs.Prelude.{int_le, int_lt}
+use Rattle.std.specs.Ordering.{int_eq}
 use Rattle.std.proofs.Math.Nat.{suc-mul}
-use Rattle.std.proofs.Math.IntN.{suc_ℤ, suc_ℤ-*ℤ, *ℤ_comm, +ℤ_one, zero-*ℤ}
+use Rattle.std.proofs.Math.IntN.{suc_ℤ-*ℤ, *ℤ_comm, +ℤ_one, zero-*ℤ}
 use Rattle.std.proofs.lemmas.Int.{ints}
 use Rattle.exo_meaning.specs.Scene.{then_do}
 use Rattle.exo_meaning.specs.State.{State}
 use Rattle.exo_meaning.specs.Run.{turns, range, count}
 use Rattle.exo_meaning.proofs.Compose.{then_cong}
 use Rattle.exo_meaning.proofs.Frame.{if_then}
-use Rattle.exo_meaning.proofs.Nested.{turns_append, turns_cong, then_cong_if, then_some}
+use Rattle.exo_meaning.proofs.Nested.{turns_append, then_cong_if}
 use Rattle.loop_laws.specs.Turns.{Turn, between, CutTurns, group, GroupedTurns, MovedTurns, up_to}
 use Rattle.loop_laws.specs.Turns.{GuardedTurns}
+
+-- ---- numbers
+
+pub less_zero : (z : ℤ) → z -ℤ pos 0 ≡ z
+less_zero z = omega (arith, ints)
+
+pub le_of : (a b : ℤ) → int_le a b ≡ true → a ≤ℤ b
+le_of a b h = omega (arith, ints)
+
+pub is_none : (z : ℤ) → int_eq z (pos 0) ≡ true → z ≡ pos 0
+is_none z h = grind (arith, ints)
 
 -- ---- lists of numbers
 

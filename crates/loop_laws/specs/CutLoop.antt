@@ -15,7 +15,7 @@ abbrev pub cut : Control → Loop → ℕ → Block
 cut e l base =
     next (For l.binder l.lo e l.body) (fresh base (only_loop l.binder e l.hi l.body))
 
--- e is a bound between the bounds
+-- e lies between the bounds
 abbrev pub cut_needs : Control → Path → Loop → List Need
 cut_needs e at l = Says at (Holds (Le l.lo e)) ∷ Says at (Holds (Le e l.hi)) ∷ []
 

@@ -1,6 +1,6 @@
 -- The rule that divides the turns of a loop into groups.
-use Rattle.std.specs.Prelude.{ℕ, suc, ◌+◌, ℤ, pos, ◌-ℤ◌, int_le, if◌then◌else◌, List, [], ◌∷◌, length}
-use Rattle.std.specs.Prelude.{Option, Some, None, option_and_then}
+use Rattle.std.specs.Prelude.{ℕ, suc, ◌+◌, ℤ, pos, ◌-ℤ◌, int_le, if◌then◌else◌, List, [], ◌∷◌}
+use Rattle.std.specs.Prelude.{length, Option, Some, None, option_and_then}
 use Rattle.exo_tree.specs.Tree.{Binder, Control, Lit, Var, Add, Mul, Div, Mod, Lt, Le, Gt, Eq}
 use Rattle.exo_tree.specs.Tree.{Block, end, joined, statements}
 use Rattle.exo_tree.specs.Places.{Path}
@@ -14,8 +14,8 @@ use Rattle.order_laws.specs.TurnsOfTwo.{Loop}
 use Rattle.step_rules.specs.Rule.{Need, Says, Rule}
 use Rattle.loop_laws.specs.Shapes.{loop_of, from_zero, listed, loop_rule, inside}
 
--- what becomes of the turns that fill no group: the last group is guarded, they have a loop of their
--- own, or one that is guarded, or there are none
+-- what becomes of the turns that fill no group: the last group is guarded, they have a loop of
+-- their own, or one that is guarded, or there are none
 pub data Tail : Type 0 where
   Guard Cut CutAndGuard Perfect : Tail
 
@@ -26,7 +26,7 @@ pub record Division : Type 0 where
   pub inner : List ℕ
   pub tail : Tail
 
--- a loop from 0, and groups of at least one turn
+-- a loop from 0 that is all of the block, and groups of at least one turn
 abbrev pub divisible : ℤ → Block → Option Loop
 divisible by b = if int_le (pos 1) by then option_and_then from_zero (loop_of b) else None
 
@@ -69,7 +69,7 @@ module _ (d : Division) (l : Loop) (base : ℕ) where
       only_loop (record { id = i; name = d.inner }) (Lit (pos 0)) (Mod l.hi d.by)
       (in_block i (turn_behind (Div l.hi d.by) i) l.body)
 
-  -- which is a copy of the loop
+  -- as a copy of the loop, whose binder too has a new id
   abbrev pub tail_turns : Block
   tail_turns = fresh (base + 2) turns_behind
 
@@ -83,7 +83,8 @@ module _ (d : Division) (l : Loop) (base : ℕ) where
 abbrev pub divided : Division → Loop → ℕ → Block
 divided d l base = divided_with d l base d.tail
 
--- a tail needs turns, and none that they are whole groups
+-- with a loop for the rest the bound must not be negative, and without a rest the groups must be
+-- whole
 abbrev pub divide_needs : ℤ → Tail → Path → Loop → List Need
 divide_needs by Guard at l = []
 divide_needs by Cut at l = Says at (Holds (Le (Lit (pos 0)) l.hi)) ∷ []

@@ -1,14 +1,14 @@
 -- What the rules of loops look for, and what they make of it.
-use Rattle.std.specs.Prelude.{ℕ, zero, suc, ℤ, pos, Bool, true, false, if◌then◌else◌}
+use Rattle.std.specs.Prelude.{ℕ, zero, suc, pos, Bool, false, if◌then◌else◌}
 use Rattle.std.specs.Prelude.{List, [], ◌∷◌, Option, Some, None, option_and_then}
 use Rattle.std.specs.Ordering.{int_eq}
 use Rattle.exo_tree.specs.Tree.{Control, Lit, Var, Field, StrideOf, Neg, Add, Sub, Mul, Div, Mod}
 use Rattle.exo_tree.specs.Tree.{Statement, Assign, Reduce, Config, Pass, If, For, Alloc, View, Call}
-use Rattle.exo_tree.specs.Tree.{Block, end, next}
+use Rattle.exo_tree.specs.Tree.{Block}
 use Rattle.exo_tree.specs.Places.{Main, Path}
 use Rattle.cursor_forward.specs.Shifts.{Shift, at_index}
 use Rattle.order_laws.specs.TurnsOfTwo.{Loop}
-use Rattle.step_rules.specs.Rule.{Tried, Target, Piece, Spot, Rule, plain_rule}
+use Rattle.step_rules.specs.Rule.{Spot, Rule, plain_rule}
 use Rattle.step_rules.specs.Shapes.{tried, alone_in, one_statement}
 
 -- ---- one loop
@@ -51,8 +51,8 @@ from_zero l = if is_zero l.lo then Some l else None
 abbrev pub listed : {T : Type 0} → (Block → Option Loop) → (Loop → List T) → Spot → List T
 listed read list s = elim (read s.opened.piece) [ None ↦ [] | Some l ↦ list l ]
 
--- a rule on the loop that is read of a block: what stands for it, by the first new id, and where its
--- statements go. It refuses nothing but the shape, and needs nothing to be shown
+-- a rule on the loop that is read of a block: what stands for it, by the first new id, and where
+-- its statements go. It refuses nothing but the shape, and needs nothing to be shown
 abbrev pub loop_rule :
     (Block → Option Loop) → (Loop → ℕ → Block) → (Loop → List Shift) → Rule
 loop_rule read make shifts =

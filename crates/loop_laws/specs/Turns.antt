@@ -1,7 +1,7 @@
 -- Turns of loops by their numbers, whatever a turn does: cut, grouped, moved, and guarded. For all
 -- rules that keep the order of turns.
-use Rattle.std.specs.Prelude.{◌≡◌, ◌≤◌, ◌≤ℤ◌, ℕ, ◌+◌, ◌*◌, ℤ, pos, ◌+ℤ◌, ◌-ℤ◌, ◌*ℤ◌, int_lt, if◌then◌else◌}
-use Rattle.std.specs.Prelude.{List, Option, Some}
+use Rattle.std.specs.Prelude.{◌≡◌, ◌≤◌, ◌≤ℤ◌, ℕ, ◌*◌, ℤ, pos, ◌+ℤ◌, ◌-ℤ◌, ◌*ℤ◌, int_lt}
+use Rattle.std.specs.Prelude.{if◌then◌else◌, List, Option, Some}
 use Rattle.exo_meaning.specs.Scene.{then_do}
 use Rattle.exo_meaning.specs.State.{State}
 use Rattle.exo_meaning.specs.Run.{turns, range, count}
