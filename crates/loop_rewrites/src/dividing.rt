@@ -1,5 +1,5 @@
 //! The step that divides the turns of a loop into groups.
-ghost use Rattle.std.specs.Prelude.{◌≡◌, ◌≤ℤ◌, ◌∷◌, [], ℕ, pos, suc, map, option_map, IfOk};
+ghost use Rattle.std.specs.Prelude.{◌≡◌, ◌≤◌, ◌≤ℤ◌, ◌∷◌, [], ℕ, pos, suc, map, option_map, IfOk};
 ghost use Rattle.exo_tree.specs.Tree as tree;
 ghost use Rattle.exo_tree.specs.Tree.{block, end};
 ghost use Rattle.exo_tree.specs.PlainControl.{control, condition};
@@ -85,7 +85,9 @@ fn divisible_at<'a>(by: i64, on: &Target<'a>, piece: &Piece) -> Option<LoopAt<'a
 }
 
 /// The path to the first statement so many blocks below the first one.
+#[tactic(auto, using(crate::proofs::Made::inside_more, crate::proofs::Made::inside_long))]
 fn inside(depth: u8) -> Path
+    requires { depth ≤ 8 }
     ensures { result ≡ shapes.inside depth }
 {
     let mut path = Path::new();
@@ -293,7 +295,8 @@ fn one(alloc: Global, at: &Path, c: Cond) -> Result<Vec<Need>, AllocError>
 impl Tail {
     /// How far below the outer loop the body stands.
     fn depth(self) -> u8
-        ensures { result ≡ plain.depth (plain_tail self) }
+        ensures exact { result ≡ plain.depth (plain_tail self) }
+        ensures small { result ≤ 3 }
     {
         match self {
             Tail::Guard => 3,
