@@ -1,6 +1,6 @@
 -- Blocks and paths that are made.
 use Rattle.std.proofs.Common.{◌≡◌, ℕ, zero, suc, List, [], ◌∷◌, ◌++◌, length, refl, ap, ◌∙◌, arith}
-use Rattle.exo_tree.specs.Tree.{Statement, Block, end, next, block, joined}
+use Rattle.exo_tree.specs.Tree.{Statement, Block, end, next, block, joined, statements}
 use Rattle.exo_tree.specs.Places.{Main, Path}
 use Rattle.loop_laws.specs.Shapes.{inside}
 
@@ -11,6 +11,10 @@ joined_blocks (x ∷ xs) ys = ap (next x) (joined_blocks xs ys)
 pub appended : (made rest new : List Statement) (a b : Block) → new ≡ made ++ rest → block made ≡ a
     → block rest ≡ b → block new ≡ joined a b
 appended made rest new a b h k l = ap block h ∙ joined_blocks made rest ∙ (λ i. joined (k i) (l i))
+
+pub statements_of : (ss : List Statement) → statements (block ss) ≡ ss
+statements_of [] = refl
+statements_of (a ∷ ss) = ap (λ xs. a ∷ xs) (statements_of ss)
 
 -- ---- paths
 
