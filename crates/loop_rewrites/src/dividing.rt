@@ -76,13 +76,7 @@ fn divisible_at<'a>(by: i64, on: &Target<'a>, piece: &Piece) -> Option<LoopAt<'a
     }
     match loop_at(on, piece) {
         None => None,
-        Some(l) => {
-            if is_zero(l.lo) {
-                Some(l)
-            } else {
-                None
-            }
-        }
+        Some(l) => { if is_zero(l.lo) { Some(l) } else { None } }
     }
 }
 
@@ -264,12 +258,7 @@ impl Dividing<'_> {
     }
 
     /// What stands in the place of the loop.
-    fn divided(
-        &self,
-        alloc: Global,
-        l: &LoopAt<'_>,
-        fresh: &mut Fresh,
-    ) -> Result<Block, AllocError>
+    fn divided(&self, alloc: Global, l: &LoopAt<'_>, fresh: &mut Fresh) -> Result<Block, AllocError>
         requires { pos 1 ≤ℤ self.now.by }
         ensures { IfOk result (λ b. block b ≡ plain.divided (division self.now) (plain_loop l.now) fresh.old) }
     {
