@@ -3,7 +3,7 @@ use Rattle.std.proofs.Common.{◌≡◌, ◌≢◌, ◌≤◌, ◌==◌, ◌&&�
 use Rattle.std.proofs.lemmas.Bool.{and_parts}
 use Rattle.exo_tree.specs.Tree.{Program}
 use Rattle.exo_meaning.specs.Units.{IsUnit}
-use Rattle.c_lowering.specs.Refusals.{too_wide, name_clash}
+use Rattle.c_printer.specs.Refusals.{too_wide, name_clash}
 use Rattle.memory_kinds.specs.declared.error.KindError.{KindError}
 use Rattle.memory_kinds.specs.Faults.{fault_of}
 use Rattle.c_follows.specs.Units.{AreLowered}

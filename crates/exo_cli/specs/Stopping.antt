@@ -10,13 +10,13 @@ use Rattle.rules_names.specs.declared.error.TypeKind.{TypeKind}
 use Rattle.rules_names.specs.declared.error.TypeKind.TheVariants as rule
 use Rattle.exo_tree.specs.Tree.{Program}
 use Rattle.c_lowered.specs.LoweredUnit.{name_of}
-use Rattle.c_lowering.specs.declared.report.LowerError.{LowerError}
-use Rattle.c_lowering.specs.declared.report.LowerError.TheVariants as lower
+use Rattle.c_printer.specs.declared.report.LowerError.{LowerError}
+use Rattle.c_printer.specs.declared.report.LowerError.TheVariants as lower
 use Rattle.schedule_run.specs.Lines.{operator_of}
 use Rattle.schedule_run.specs.declared.lines.Line.{Line}
 use Rattle.schedule_run.specs.declared.session.Why.{Why}
 use Rattle.schedule_run.specs.declared.session.Why.TheVariants as cause
-use Rattle.c_lowering.specs.PlainPrinted.{printing}
+use Rattle.c_printer.specs.PlainPrinted.{printing}
 use Rattle.exo_cli.specs.declared.stop.Stop as code
 use Rattle.exo_cli.specs.declared.stop.Stop.TheVariants as code_stop
 use Rattle.memory_kinds.specs.declared.error.KindError.{KindError}

@@ -6,11 +6,11 @@ ghost use Rattle.exo_calls.specs.Closed.{closed};
 ghost use Rattle.exo_calls.specs.Marked.{Marked, contains};
 ghost use Rattle.exo_calls.specs.Passed.{is_function};
 ghost use Rattle.c_lowered.specs.LoweredUnit.{name_of};
-ghost use Rattle.c_lowering.specs.PlainPrinted.{printing};
+ghost use Rattle.c_printer.specs.PlainPrinted.{printing};
 ghost use Rattle.c_unit_laws.specs.Listings.{printings_from};
 ghost use Rattle.exo_cli.specs.Printings.{is_emitted, printed_of, printing_of};
 
-use c_lowering::Printed;
+use c_printer::Printed;
 use exo_calls::{Marks, Through, close};
 use exo_tree::{Name, Proc, ProcId, Procs, Unit};
 use std::alloc::{AllocError, Global};

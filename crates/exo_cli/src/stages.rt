@@ -20,7 +20,7 @@ use crate::memories::{MemoryFault, memory_fault};
 use crate::messages;
 use crate::printings::printings;
 use crate::stop::Stop;
-use c_lowering::{LowerError, Printed, lower};
+use c_printer::{LowerError, Printed, lower};
 use c_tree::c_text;
 use exo_reader::unit::{ReadError, Source, read_unit};
 use exo_tree::{Lines, Name, ProcId, Procs, Unit};

@@ -73,7 +73,7 @@ zero_is (Mul a b) h = cc
 zero_is (Div a c) h = cc
 zero_is (Mod a c) h = cc
 
-divisible_is : (by : ℤ) (b : Block) (l : Loop) → divisible by b ≡ Some l → IsDivisible by b l
+pub divisible_is : (by : ℤ) (b : Block) (l : Loop) → divisible by b ≡ Some l → IsDivisible by b l
 divisible_is by b l h = by_test (int_le (pos 1) by) refl (loop_of b) refl h
   where
     from : (k : Loop) (t : Bool) → is_zero k.lo ≡ t → (if t then Some k else None) ≡ Some l

@@ -13,6 +13,8 @@ pub mod Copies
 pub mod UnrollLoop
 pub mod Specialize
 pub mod ShiftLoop
+pub mod Multiplied
+pub mod MultLoops
 pub mod SmallUnits
 pub mod UnrollExamples
 pub mod SpecializeExamples

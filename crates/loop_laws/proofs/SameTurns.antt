@@ -56,7 +56,7 @@ bound_left : (i : ℕ) (e : Control) (s : State) (o : Option State)
 bound_left i e s None = refl
 bound_left i e s (Some t) = refl
 
-substituted : (world : World) (i : ℕ) (e : Control) (b : Block) (s w : State) → MayStandIn i e b
+pub substituted : (world : World) (i : ℕ) (e : Control) (b : Block) (s w : State) → MayStandIn i e b
     → option_map (left s) (run world (in_block i e b) w)
     ≡ option_map (left s) (run world b (bound i e w))
 substituted world i e b s w may =

@@ -89,6 +89,16 @@ pub names_of_copies :
 unfolding digits
 names_of_copies = refl
 
+-- for j in seq(0, 4): x[j] = 0
+abbrev inner : ℕ → Block → Block
+inner j rest = next (For (binder j 106) (literal 0) (literal 4) (stores (Var j) end)) rest
+
+-- loops have scopes of their own, so that both copies keep the name
+pub loops_of_copies :
+    proposed unroll_rule (target_of (loop (literal 0) (literal 2) (inner 3 end))) (at_index 0)
+    ≡ Got (planned (inner 4 (inner 5 end)) (at_index 0) 1 2 into_first)
+loops_of_copies = refl
+
 -- ---- refusals
 
 pub too_many_turns :

@@ -1,6 +1,6 @@
 -- The rule that makes one loop of two, the inner of which has a fixed number of turns.
 use Rattle.std.specs.Prelude.{ℕ, ℤ, pos, int_le, if◌then◌else◌, List, [], ◌∷◌, length}
-use Rattle.std.specs.Prelude.{Option, Some, None, option_and_then}
+use Rattle.std.specs.Prelude.{Option, Some, None, option_and_then, option_map}
 use Rattle.exo_tree.specs.Tree.{Binder, Control, Lit, Var, Field, StrideOf, Neg, Add, Sub, Mul, Div}
 use Rattle.exo_tree.specs.Tree.{Mod, Block, statements}
 use Rattle.exo_tree.specs.Substitution.{in_block}
@@ -33,9 +33,10 @@ positive_literal (Div a c) = None
 positive_literal (Mod a c) = None
 
 abbrev pub with_count : Loop → Loop → Option Pair
-with_count k l = elim (positive_literal l.hi) [ None ↦ None | Some n ↦ Some (record { outer = k; inner = l; by = n }) ]
+with_count k l =
+    option_map (λ n. record { outer = k; inner = l; by = n }) (positive_literal l.hi)
 
--- what is said of a loop from the literal 0 that is all of a block
+-- a loop from the literal 0 that is all of a block
 abbrev pub loop_from_zero : Block → Option Loop
 loop_from_zero b = option_and_then from_zero (loop_of b)
 

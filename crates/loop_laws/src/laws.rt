@@ -1,13 +1,14 @@
 // That each rule keeps the meaning and carries statements, and what turns of loops do, each law the
 // contract of a function with nothing to do.
 
-ghost use Rattle.std.specs.Prelude.{ℕ};
+ghost use Rattle.std.specs.Prelude.{ℕ, List};
 ghost use Rattle.exo_tree.specs.Tree.{Control, Condition};
 ghost use Rattle.step_rules.specs.Lawful.{IsLawful, IsCarrying};
 ghost use Rattle.loop_laws.specs.Copies.{TurnsMayBeWrittenOut, LoopsOfNoTurnMayGo};
 ghost use Rattle.loop_laws.specs.Copies.{BlocksMayBeSpecialized, TakenBranchesMayStand};
 ghost use Rattle.loop_laws.specs.CutLoop.{cut_rule};
 ghost use Rattle.loop_laws.specs.DivideLoop.{Division, divide_rule};
+ghost use Rattle.loop_laws.specs.MultLoops.{mult_rule};
 ghost use Rattle.loop_laws.specs.SameTurns.{SubstitutedTurn, MovedLoop, GroupedLoop};
 ghost use Rattle.loop_laws.specs.ShiftLoop.{shift_rule};
 ghost use Rattle.loop_laws.specs.Specialize.{specialize_rule};
@@ -123,4 +124,14 @@ pub fn shifts_are_lawful()
 /// The loop stays where it is.
 pub fn shifts_carry()
     ensures { (e : Control) → IsCarrying (shift_rule e) }
+{}
+
+/// A loop over a loop with a fixed number of turns may be one loop.
+pub fn multiplications_are_lawful()
+    ensures { (name : List ℕ) → IsLawful (mult_rule name) }
+{}
+
+/// The outer loop becomes the new one, and its body that of the inner one.
+pub fn multiplications_carry()
+    ensures { (name : List ℕ) → IsCarrying (mult_rule name) }
 {}

@@ -1,5 +1,9 @@
-pub mod Versions
-pub mod Growth
-pub mod Starting
-pub mod Reading
-pub mod Running
+pub mod Once
+pub mod Growing
+pub mod Keeping
+pub mod Room
+pub mod Names
+pub mod Climbing
+pub mod Writing
+pub mod Answering
+pub mod Stepping

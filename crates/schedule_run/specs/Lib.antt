@@ -1,4 +1,10 @@
-pub mod Lines
-pub mod ScheduleForm
-pub mod Sessions
-pub mod Versions
+pub mod Runs
+pub mod Roots
+pub mod Ways
+pub mod Planned
+pub mod PlainPlace
+pub mod PlainVersions
+pub mod PlainWhy
+pub mod Running
+pub mod Outcomes
+pub mod Laws

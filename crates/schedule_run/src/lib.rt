@@ -1,11 +1,16 @@
-//! Schedules: the lines of a text, and the versions that they make.
+//! Runs the lines of a schedule: what each asks, and the versions that they make.
 #![tactic(auto)]
 
+mod binding;
+mod cursors;
 pub mod laws;
-mod lines;
-mod schedule;
+mod planning;
+mod run;
+mod running;
 mod session;
+mod why;
+mod writes;
 
-pub use lines::{Act, Commute, Line};
-pub use schedule::read_schedule;
-pub use session::{Session, Why};
+pub use run::run_schedule;
+pub use session::{Binding, Held, Origin, Session};
+pub use why::{Missing, Refused, Why};

@@ -1,203 +1,155 @@
-// Running a schedule: versions are made of versions, and names hold the latest ones.
-ghost use Rattle.std.specs.Prelude.{◌≡◌, slice_get, length, ◌<◌, MatchResult, OnOk, IfOk, IfErr};
-ghost use Rattle.exo_tree.specs.Plain.{procedure};
-ghost use Rattle.proc_rewrites.specs.Commute.{Made};
-ghost use Rattle.schedule_run.specs.Lines.{Went, Done, adding, changing, changing_held, emitting, has_template, held, performed, run_lines};
-ghost use Rattle.schedule_run.specs.Versions.{started};
-ghost use Rattle.schedule_run.specs.Sessions.{versions, RefusesLine, StopsLine};
-ghost use Rattle.schedule_run.specs.declared.session.Why.TheVariants.{Memory};
+//! Versions: the procedures of a text and those that steps made of them.
+ghost use Rattle.std.specs.Prelude.{◌≡◌, IfOk, MatchResult, option_map};
+ghost use Rattle.std.specs.Option.{option_copied};
+ghost use Rattle.exo_tree.specs.PlainUnit.{program};
+ghost use Rattle.schedule_versions.specs.Versions.{of_text, started, version_of};
+ghost use Rattle.schedule_versions.specs.Versions as plain;
+ghost use Rattle.schedule_versions.specs.Places.{parent_at};
+ghost use Rattle.schedule_run.specs.PlainVersions.{origin, held, versions};
+ghost use Rattle.schedule_run.specs.Roots.{root_of};
 
-use crate::lines::{Act, Commute, Line};
-use exo_tree::{Name, Proc, Procs};
-use proc_rewrites::{StepRefusal, commute_expr};
-use std::alloc::{AllocError, AllocFailed, Global};
-use text_lexer::text::Text;
+use cursor_forward::{Cursor, Edits, Shifts, Side};
+use exo_tree::{FieldId, Name, Path, ProcId, Unit};
+use std::alloc::{AllocError, Global};
 
-/// Why a line is refused.
-#[derive(Clone, Copy, Debug, PartialEq, Eq)]
-pub enum Why {
-    /// Memory ran out.
-    Memory,
-    /// The name holds no version.
-    UnknownProc,
-    /// The version is an instruction, which is not printed.
-    BadArguments,
-    /// No statement matches the pattern.
-    NoSuchPattern,
-    /// The statement that matches has not the shape that the step asks.
-    WrongShape,
+/// How a version was made.
+#[derive(Drop)]
+pub struct Origin {
+    /// The version of which it was made; None of a procedure of the text.
+    pub parent: Option<ProcId>,
+    /// Where the statements of that version went.
+    pub edits: Edits,
+    /// The point from which the fields may differ: before or after the statement at `place`.
+    pub place: Path,
+    pub side: Side,
+    pub fields: Vec<FieldId>,
 }
 
-impl From<AllocError> for Why {
-    ghost from_gives = { λ _ e. e ≡ Memory };
-
-    fn from(_error: AllocError) -> Self {
-        Why::Memory
-    }
+/// What a name holds.
+#[derive(Drop)]
+pub enum Held {
+    Version(ProcId),
+    /// A cursor in the version of that number.
+    At(ProcId, Cursor),
 }
 
-impl<T: Drop> From<AllocFailed<T>> for Why {
-    ghost from_gives = { λ _ e. e ≡ Memory };
-
-    fn from(_error: AllocFailed<T>) -> Self {
-        Why::Memory
-    }
+/// A name, and what it holds from then on.
+#[derive(Drop)]
+pub struct Binding {
+    pub name: Name,
+    pub held: Held,
 }
 
-/// The versions so far.
+/// The versions of a schedule. They are the procedures of its unit, first those of the text; each has its origin under
+/// its number.
 #[derive(Drop)]
 pub struct Session {
-    /// The procedures of the text and then the versions made by steps; the numbers below are places in it.
-    pub procs: Procs,
-    /// Of each, the procedure of the text from which it comes.
-    pub origins: Vec<u32>,
-    /// What names hold, the latest binding last.
-    pub names: Vec<(Name, u32)>,
-    /// The versions that are emitted.
-    pub emitted: Vec<u32>,
+    pub unit: Unit,
+    pub origins: Vec<Origin>,
+    /// All bindings in their order: the latest one of a name holds.
+    pub names: Vec<Binding>,
+    /// The versions to be printed, in the order of their lines.
+    pub emitted: Vec<ProcId>,
+    /// The number of steps that made versions.
+    pub steps: u64,
+    /// The number of obligations that were shown, with those of the text.
+    pub obligations: u64,
 }
 
-/// The length as the number of a version. More of them than numbers are taken as want of memory.
-fn number_of(length: usize) -> Result<u32, AllocError>
-    ensures { IfOk result (λ number. number ≡ length) }
+/// The number of a version; more of them than numbers are taken as want of memory.
+pub(crate) fn number_of(index: usize) -> Result<ProcId, AllocError>
+    ensures { IfOk result (λ k. k.0 ≡ index) }
 {
-    if length > u32::MAX as usize {
+    if index > 4294967295 {
         return Err(AllocError);
     }
-    Ok(length as u32)
+    Ok(ProcId(index as u32))
+}
+
+/// The origin of a procedure of the text.
+fn origin_of_text(alloc: Global) -> Origin
+    ensures { origin result ≡ of_text }
+{
+    Origin {
+        parent: None,
+        edits: Edits::new(Path::new(), 0, 0, Shifts::new(alloc)),
+        place: Path::new(),
+        side: Side::Before,
+        fields: Vec::new(alloc),
+    }
 }
 
 impl Session {
-    /// The versions before the first line: each procedure of the text, under its name.
-    pub fn start(alloc: Global, procs: Procs) -> Result<Session, AllocError>
-        ensures { IfOk result (λ session. versions session ≡ started procs) }
+    /// The versions before the first line: each procedure of the text, under its name. So many obligations were shown.
+    pub(crate) fn start(alloc: Global, unit: Unit, shown: u64) -> Result<Session, AllocError>
+        ensures { IfOk result (λ s. versions s ≡ started (program unit) shown) }
     {
         let mut origins = Vec::new(alloc);
         let mut names = Vec::new(alloc);
-        for p in procs.as_slice() {
+        for p in unit.procs.as_slice() {
             let number = number_of(origins.len())?;
             let name = p.name.duplicate(alloc)?;
-            names.push((name, number))?;
-            origins.push(number)?;
+            names.push(Binding {
+                name,
+                held: Held::Version(number),
+            })?;
+            origins.push(origin_of_text(alloc))?;
         }
         Ok(Session {
-            procs,
+            unit,
             origins,
             names,
             emitted: Vec::new(alloc),
+            steps: 0,
+            obligations: shown,
         })
     }
 
+    /// What the name holds: its latest binding.
+    pub(crate) fn held(&self, name: &[u8]) -> Option<&Held>
+        ensures { option_map held (option_copied result) ≡ plain.held (versions self.now) name.now }
+    {
+        let mut k = self.names.len();
+        while k > 0 {
+            k -= 1;
+            let binding = &self.names[k];
+            if binding.name.as_str().as_bytes() == name {
+                return Some(&binding.held);
+            }
+        }
+        None
+    }
+
     /// The version that the name holds.
-    fn held(&self, name: &Text) -> Option<u32>
-        ensures { result ≡ held (versions self.now).names name.now }
+    pub(crate) fn version_of(&self, name: &[u8]) -> Option<ProcId>
+        ensures { option_map (λ k. k.0) result ≡ version_of (versions self.now) name.now }
     {
-        let mut found = None;
-        for binding in &self.names {
-            if binding.0.as_str() == name.as_str() {
-                found = Some(binding.1);
+        match self.held(name)? {
+            Held::Version(k) => Some(*k),
+            Held::At(_, _) => None,
+        }
+    }
+
+    /// The version of which a version was made.
+    pub(crate) fn parent(&self, k: ProcId) -> Option<ProcId>
+        ensures { option_map (λ j. j.0) result ≡ parent_at (versions self.now) k.0 }
+    {
+        self.origins.get(k.0 as usize)?.parent
+    }
+
+    /// The procedure of the text of which a version comes.
+    pub fn root(&self, k: ProcId) -> ProcId
+        ensures { result.0 ≡ root_of (versions self.now) k.0 }
+    {
+        let mut root = k;
+        let mut left = k.0;
+        while left > 0 {
+            left -= 1;
+            match self.parent(root) {
+                Some(above) => root = above,
+                None => return root,
             }
         }
-        found
-    }
-
-    /// What the step makes of version `k`.
-    fn changed(&self, alloc: Global, k: u32, c: &Commute) -> Result<Proc, Why>
-        ensures { MatchResult result
-            (λ p. changing c.now k (versions self.now) (slice_get (versions self.now).procedures k)
-            ≡ adding c.now.bind k (versions self.now) (Made (procedure p)))
-            (RefusesLine (changing c.now k (versions self.now) (slice_get (versions self.now).procedures k))) }
-    {
-        let Some(p) = self.procs.get(k as usize) else {
-            return Err(Why::UnknownProc);
-        };
-        match commute_expr(alloc, p, c.target.as_slice(), c.which) {
-            Ok(made) => Ok(made),
-            Err(StepRefusal::Memory) => Err(Why::Memory),
-            Err(StepRefusal::NoSuchPattern) => Err(Why::NoSuchPattern),
-            Err(StepRefusal::WrongShape) => Err(Why::WrongShape),
-        }
-    }
-
-    /// Puts a version last that was made of version `k`, under this name.
-    fn add(&mut self, alloc: Global, name: &Text, k: u32, p: Proc) -> Result<(), AllocError>
-        ensures { OnOk result (adding name.now k (versions self.old) (Made (procedure p)) ≡ Went (versions self.new)) }
-    {
-        let version = number_of(self.procs.len())?;
-        self.procs.push(p)?;
-        let origin = self.origins.get(k as usize).copied().unwrap_or(0);
-        self.origins.push(origin)?;
-        let bound = Name::new(alloc, name.as_str())?;
-        self.names.push((bound, version))?;
-        Ok(())
-    }
-
-    /// Does what a line asks that changes a version.
-    fn change(&mut self, alloc: Global, c: &Commute) -> Result<(), Why>
-        ensures { MatchResult result
-            (λ _. changing_held c.now (versions self.old) (held (versions self.old).names c.now.of) ≡ Went (versions self.new))
-            (RefusesLine (changing_held c.now (versions self.old) (held (versions self.old).names c.now.of))) }
-    {
-        let Some(k) = self.held(&c.of) else {
-            return Err(Why::UnknownProc);
-        };
-        match self.changed(alloc, k, c) {
-            Ok(made) => Ok(self.add(alloc, &c.bind, k, made)?),
-            Err(why) => Err(why),
-        }
-    }
-
-    /// Whether version `k` is an instruction.
-    fn is_instruction(&self, k: u32) -> bool
-        ensures { result ≡ has_template (slice_get (versions self.now).procedures k) }
-    {
-        match self.procs.get(k as usize) {
-            Some(p) => p.template.is_some(),
-            None => false,
-        }
-    }
-
-    /// Marks the version that the name holds to be printed.
-    fn emit(&mut self, name: &Text) -> Result<(), Why>
-        ensures { MatchResult result
-            (λ _. emitting (held (versions self.old).names name.now) (versions self.old) ≡ Went (versions self.new))
-            (RefusesLine (emitting (held (versions self.old).names name.now) (versions self.old))) }
-    {
-        let Some(k) = self.held(name) else {
-            return Err(Why::UnknownProc);
-        };
-        if self.is_instruction(k) {
-            return Err(Why::BadArguments);
-        }
-        self.emitted.push(k)?;
-        Ok(())
-    }
-
-    /// Does what a line asks.
-    fn perform(&mut self, alloc: Global, act: &Act) -> Result<(), Why>
-        ensures { MatchResult result
-            (λ _. performed act.now (versions self.old) ≡ Went (versions self.new))
-            (RefusesLine (performed act.now (versions self.old))) }
-    {
-        match act {
-            Act::Commute(c) => self.change(alloc, c),
-            Act::Emit(name) => self.emit(name),
-        }
-    }
-
-    /// Does what the lines ask, in order. An error is that of the first line that is refused, with its index.
-    pub fn run(&mut self, alloc: Global, lines: &[Line]) -> Result<(), (usize, Why)>
-        ensures ran { MatchResult result
-            (λ _. run_lines lines.now (versions self.old) ≡ Done (versions self.new))
-            (λ e. StopsLine lines.now (versions self.old) e.0 e.1) }
-        ensures within { IfErr result (λ e. e.0 < length lines.now) }
-    {
-        for k in 0..lines.len() {
-            let line = &lines[k];
-            if let Err(why) = self.perform(alloc, &line.act) {
-                return Err((k, why));
-            }
-        }
-        Ok(())
+        root
     }
 }

@@ -22,7 +22,7 @@ use Rattle.config_laws.specs.Differing.{parent_in, step_fields, from_parent, des
 use Rattle.config_laws.specs.Differing.{fields_since, is_descendant, differing}
 use Rattle.config_laws.proofs.Derived.{listed}
 use Rattle.schedule_versions.specs.Versions.{Origin, configured, Versions}
-use Rattle.schedule_versions.specs.Laws.{AreDerived, VersionsRefine}
+use Rattle.schedule_versions.specs.Laws.{AreDerived, VersionsRefine, VersionsKeepHeads}
 
 -- ---- lists of fields
 
@@ -186,3 +186,7 @@ module _ (v : Versions) (derived : AreDerived v) (from : ℕ) (p : Procedure)
 pub versions_refine : VersionsRefine
 versions_refine v from k p q derived h i j =
     (all_keep v derived from p i k q h j).refines
+
+pub versions_keep_heads : VersionsKeepHeads
+versions_keep_heads v from k p q derived h i j =
+    (all_keep v derived from p i k q h j).head

@@ -90,3 +90,13 @@ VersionsRefine =
     → slice_get v.unit.procedures from ≡ Some p
     → slice_get v.unit.procedures k ≡ Some q
     → Refines (program_world v.unit) p q (differing v.unit (map configured v.origins) k from)
+
+-- and has the parameters and assertions of each
+abbrev pub VersionsKeepHeads : Type 0
+VersionsKeepHeads =
+    (v : Versions) (from k : ℕ) (p q : Procedure)
+    → AreDerived v
+    → is_descendant (map configured v.origins) k from ≡ true
+    → slice_get v.unit.procedures from ≡ Some p
+    → slice_get v.unit.procedures k ≡ Some q
+    → HasHead p q

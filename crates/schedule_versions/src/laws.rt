@@ -1,6 +1,6 @@
 // Laws of versions, each the contract of a function with nothing to do.
 
-ghost use Rattle.schedule_versions.specs.Laws.{StartedIsDerived, RunIsDerived, VersionsRefine};
+ghost use Rattle.schedule_versions.specs.Laws.{StartedIsDerived, RunIsDerived, VersionsRefine, VersionsKeepHeads};
 
 /// The procedures of a well-formed unit of which nothing faults are versions to begin with.
 pub fn started_versions_are_derived()
@@ -24,4 +24,9 @@ pub fn runs_are_derived()
 /// A version refines each version of which it was made, but for the fields that the report names.
 pub fn versions_refine()
     ensures { VersionsRefine }
+{}
+
+/// A version has the parameters and assertions of each version of which it was made.
+pub fn versions_keep_heads()
+    ensures { VersionsKeepHeads }
 {}

@@ -1,7 +1,7 @@
 -- What is left decides.
 use Rattle.std.proofs.Common.{◌≡◌, drop, map}
 use Rattle.exo_tree.specs.PlainUnit.{program}
-use Rattle.c_lowering.specs.PlainPrinted.{printing}
+use Rattle.c_printer.specs.PlainPrinted.{printing}
 use Rattle.exo_cli.specs.Printings.{memory_fault}
 use Rattle.exo_cli.proofs.memories.memory_fault.Given as goal
 

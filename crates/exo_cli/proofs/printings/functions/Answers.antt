@@ -3,7 +3,7 @@ use Rattle.std.proofs.lemmas.List.{map-append}
 use Rattle.exo_tree.specs.PlainProcedure.{procedure}
 use Rattle.exo_tree.specs.PlainUnit.{program}
 use Rattle.exo_calls.specs.Marked.{contains}
-use Rattle.c_lowering.specs.PlainPrinted.{printing}
+use Rattle.c_printer.specs.PlainPrinted.{printing}
 use Rattle.exo_cli.specs.Printings.{printing_of}
 use Rattle.exo_cli.proofs.Listing.{behind, one_printed, none_printed}
 use Rattle.exo_cli.proofs.printings.functions.Goals.{then-is_printed+in_ok-printed+in_ok-push, else-is_printed}

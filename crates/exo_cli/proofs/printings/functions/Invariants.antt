@@ -3,7 +3,7 @@ use Rattle.std.proofs.Common.{◌≡◌, ◌++◌, drop, map}
 use Rattle.exo_tree.specs.Plain.{procedure}
 use Rattle.exo_tree.specs.PlainUnit.{program}
 use Rattle.exo_calls.specs.Marked.{contains}
-use Rattle.c_lowering.specs.PlainPrinted.{printing}
+use Rattle.c_printer.specs.PlainPrinted.{printing}
 use Rattle.c_unit_laws.specs.Listings.{printings_from}
 use Rattle.exo_cli.specs.Printings.{printing_of}
 use Rattle.exo_cli.proofs.printings.functions.Given as goal

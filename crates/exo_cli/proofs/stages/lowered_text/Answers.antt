@@ -2,9 +2,9 @@ use Rattle.std.proofs.Common.{◌≡◌, List, None, map, ap, ◌∙◌, subst}
 use Rattle.exo_tree.specs.PlainUnit.{program}
 use Rattle.c_tree.specs.CText.{text_of}
 use Rattle.c_lowered.specs.LoweredUnit.{lowered}
-use Rattle.c_lowering.specs.PlainPrinted.{printing}
-use Rattle.c_lowering.specs.Refusals.{too_wide, name_clash, Refuses}
-use Rattle.c_lowering.specs.declared.report.Printed.{Printed}
+use Rattle.c_printer.specs.PlainPrinted.{printing}
+use Rattle.c_printer.specs.Refusals.{too_wide, name_clash, Refuses}
+use Rattle.c_printer.specs.declared.report.Printed.{Printed}
 use Rattle.exo_cli.specs.Stopping.{made_of}
 use Rattle.exo_cli.proofs.Printing.{text_is, stop_is}
 use Rattle.exo_cli.proofs.stages.lowered_text.Goals as goal

@@ -1,0 +1,9 @@
+pub mod Parts
+pub mod Uses
+pub mod Accesses
+pub mod Renamed
+pub mod Limits
+pub mod Cases
+pub mod Orders
+pub mod Fresh
+pub mod Conflicts
