@@ -145,12 +145,7 @@ impl Operator for Cutting<'_> {
 /// The procedure with the loop at a path cut in two: up to `e`, and a copy from there on. It owes that `e` is at least
 /// the lower bound, and at most the upper one. `WrongShape` where no loop stands there, or where `e` can't be a bound;
 /// `OutOfScope` where a name in `e` is not in scope there; `LimitPassed` where the result is too large.
-pub fn cut_loop(
-    alloc: Global,
-    on: &Target<'_>,
-    at: &Path,
-    e: &Ctrl,
-) -> Result<Proposal, StepError>
+pub fn cut_loop(alloc: Global, on: &Target<'_>, at: &Path, e: &Ctrl) -> Result<Proposal, StepError>
     requires modes { table_says on.now.modes.now ≡ modes_of (program on.now.unit.now) }
     requires target { IsTarget (target on.now) }
     ensures answer { Tries plain_proposal (proposed (cut_rule (control e.now)) (target on.now) at.now) result }

@@ -1,5 +1,5 @@
 //! The step that divides the turns of a loop into groups.
-ghost use Rattle.std.specs.Prelude.{◌≡◌, ◌≤ℤ◌, ◌∷◌, [], ℕ, pos, suc, map, option_map, IfOk};
+ghost use Rattle.std.specs.Prelude.{◌≡◌, ◌≤◌, ◌≤ℤ◌, ◌-ℤ◌, ◌∷◌, [], ℕ, pos, suc, map, option_map, Some, IfOk};
 ghost use Rattle.exo_tree.specs.Tree as tree;
 ghost use Rattle.exo_tree.specs.Tree.{block, end};
 ghost use Rattle.exo_tree.specs.PlainControl.{control, condition};
@@ -11,6 +11,8 @@ ghost use Rattle.meaning_laws.specs.Facts as facts;
 ghost use Rattle.scope_laws.specs.BranchesAtPlaces.{only_branch};
 ghost use Rattle.order_laws.specs.TurnsOfTwo.{Loop};
 ghost use Rattle.cursor_forward.specs.PlainProposal.{plain_proposal};
+ghost use Rattle.cursor_forward.specs.PlainShift.{plain_shift};
+ghost use Rattle.cursor_forward.specs.Shifts as shifts;
 ghost use Rattle.step_rules.specs.Answer.{proposed};
 ghost use Rattle.step_rules.specs.Lawful.{IsTarget};
 ghost use Rattle.step_rules.specs.Rule as rule;
@@ -74,18 +76,14 @@ fn divisible_at<'a>(by: i64, on: &Target<'a>, piece: &Piece) -> Option<LoopAt<'a
     }
     match loop_at(on, piece) {
         None => None,
-        Some(l) => {
-            if is_zero(l.lo) {
-                Some(l)
-            } else {
-                None
-            }
-        }
+        Some(l) => { if is_zero(l.lo) { Some(l) } else { None } }
     }
 }
 
 /// The path to the first statement so many blocks below the first one.
+#[tactic(auto, using(crate::proofs::Made::inside_more, crate::proofs::Made::inside_long))]
 fn inside(depth: u8) -> Path
+    requires { depth ≤ 8 }
     ensures { result ≡ shapes.inside depth }
 {
     let mut path = Path::new();
@@ -150,6 +148,28 @@ impl Dividing<'_> {
         from_zero(alloc, outer, self.outer, groups, group)
     }
 
+    /// How many whole groups there are.
+    fn whole_count(&self, alloc: Global, l: &LoopAt<'_>) -> Result<Ctrl, AllocError>
+        ensures { IfOk result (λ e. control e ≡ tree.Div (plain_loop l.now).hi self.now.by) }
+    {
+        quotient(alloc, l.hi, self.by)
+    }
+
+    /// How many groups there are, the last one whole or not.
+    fn all_count(&self, alloc: Global, l: &LoopAt<'_>) -> Result<Ctrl, AllocError>
+        requires { pos 1 ≤ℤ self.now.by }
+        ensures { IfOk result (λ e. control e ≡ tree.Div (tree.Add (plain_loop l.now).hi (tree.Lit (self.now.by -ℤ pos 1))) self.now.by) }
+    {
+        rounded_up(alloc, l.hi, self.by)
+    }
+
+    /// How many turns there are behind the whole groups.
+    fn rest_count(&self, alloc: Global, l: &LoopAt<'_>) -> Result<Ctrl, AllocError>
+        ensures { IfOk result (λ e. control e ≡ tree.Mod (plain_loop l.now).hi self.now.by) }
+    {
+        remainder(alloc, l.hi, self.by)
+    }
+
     /// The groups of which each is whole.
     fn whole_groups(
         &self,
@@ -162,7 +182,7 @@ impl Dividing<'_> {
         ensures { IfOk result (λ b. block b ≡ plain.whole_groups (division self.now) (plain_loop l.now) outer.0) }
     {
         let body = self.body_in_group(alloc, l, outer, inner)?;
-        let groups = quotient(alloc, l.hi, self.by)?;
+        let groups = self.whole_count(alloc, l)?;
         self.nest(alloc, outer, inner, groups, body)
     }
 
@@ -179,7 +199,7 @@ impl Dividing<'_> {
         ensures { IfOk result (λ b. block b ≡ plain.guarded_groups (division self.now) (plain_loop l.now) outer.0) }
     {
         let body = self.guarded_body(alloc, l, outer, inner)?;
-        let groups = rounded_up(alloc, l.hi, self.by)?;
+        let groups = self.all_count(alloc, l)?;
         self.nest(alloc, outer, inner, groups, body)
     }
 
@@ -216,7 +236,7 @@ impl Dividing<'_> {
         ensures { (base : ℕ) → IfOk result (λ b. block b ≡ only_branch (tree.Gt (tree.Mod (plain_loop l.now).hi self.now.by) (tree.Lit (pos 0))) (renaming.fresh fresh.old (plain.turns_behind (division self.now) (plain_loop l.now) base)) end) }
     {
         let turns = self.tail_turns(alloc, l, fresh)?;
-        let count = remainder(alloc, l.hi, self.by)?;
+        let count = self.rest_count(alloc, l)?;
         branch(alloc, Cond::Gt(count, Ctrl::Lit(0)), turns)
     }
 
@@ -238,12 +258,7 @@ impl Dividing<'_> {
     }
 
     /// What stands in the place of the loop.
-    fn divided(
-        &self,
-        alloc: Global,
-        l: &LoopAt<'_>,
-        fresh: &mut Fresh,
-    ) -> Result<Block, AllocError>
+    fn divided(&self, alloc: Global, l: &LoopAt<'_>, fresh: &mut Fresh) -> Result<Block, AllocError>
         requires { pos 1 ≤ℤ self.now.by }
         ensures { IfOk result (λ b. block b ≡ plain.divided (division self.now) (plain_loop l.now) fresh.old) }
     {
@@ -293,7 +308,8 @@ fn one(alloc: Global, at: &Path, c: Cond) -> Result<Vec<Need>, AllocError>
 impl Tail {
     /// How far below the outer loop the body stands.
     fn depth(self) -> u8
-        ensures { result ≡ plain.depth (plain_tail self) }
+        ensures exact { result ≡ plain.depth (plain_tail self) }
+        ensures small { result ≤ 3 }
     {
         match self {
             Tail::Guard => 3,
@@ -301,7 +317,20 @@ impl Tail {
         }
     }
 
+    /// The body goes with its statements to the body of the first inner loop.
+    fn body_shift(self, count: u32) -> Shift
+        ensures { plain_shift result ≡ shifts.range (shapes.inside 1) count (Some (shapes.inside (plain.depth (plain_tail self)))) }
+    {
+        Shift {
+            from: inside(1),
+            count,
+            whole: true,
+            to: Some(inside(self.depth())),
+        }
+    }
+
     /// Where the loop and its body go.
+    #[tactic(auto, using(crate::proofs::Made::statements_of))]
     fn shifts(self, alloc: Global, l: &LoopAt<'_>) -> Result<Shifts, AllocError>
         ensures { IfOk result (λ s. s ≡ plain.divide_shifts (plain_tail self) (plain_loop l.now)) }
     {
@@ -310,19 +339,21 @@ impl Tail {
             return Err(AllocError);
         }
         let mut all = Shifts::new(alloc);
-        all.push(Shift {
-            from: inside(0),
-            count: 1,
-            whole: false,
-            to: Some(inside(0)),
-        })?;
-        all.push(Shift {
-            from: inside(1),
-            count: count as u32,
-            whole: true,
-            to: Some(inside(self.depth())),
-        })?;
+        all.push(loop_shift())?;
+        all.push(self.body_shift(count as u32))?;
         Ok(all)
+    }
+}
+
+/// The loop goes to the outer loop.
+fn loop_shift() -> Shift
+    ensures { plain_shift result ≡ shifts.alone (shifts.at_index 0) (Some (shifts.at_index 0)) }
+{
+    Shift {
+        from: inside(0),
+        count: 1,
+        whole: false,
+        to: Some(inside(0)),
     }
 }
 
@@ -391,35 +422,22 @@ impl Operator for Dividing<'_> {
     }
 }
 
-/// The procedure with the turns of the loop at a path in groups of `by`, under a loop `outer` over the groups and one
-/// `inner` in a group. It owes that the loop has no turn less than none, where turns are left to a tail, or that all turns
-/// fill groups. `WrongShape` where no loop that begins at 0 stands there, or `by` is less than 1; `NameTaken` where a name
-/// is in scope there; `LimitPassed` where the result is too large.
+/// The procedure with the turns of the loop at a path divided into groups. It owes that there are not less than no turns,
+/// where some are left to a tail, or that all turns fill groups, where there is none. `WrongShape` where no loop that
+/// begins at the literal 0 stands there, or a group has less than 1 turn; `NameTaken` where a given name is in scope
+/// there; `LimitPassed` where the result is too large.
 pub fn divide_loop(
     alloc: Global,
     on: &Target<'_>,
     at: &Path,
-    by: i64,
-    outer: &Name,
-    inner: &Name,
-    tail: Tail,
+    by: &Dividing<'_>,
 ) -> Result<Proposal, StepError>
     requires modes { table_says on.now.modes.now ≡ modes_of (program on.now.unit.now) }
     requires target { IsTarget (target on.now) }
-    ensures answer { Tries plain_proposal (proposed (divide_rule (record { by = by; outer = outer.now; inner = inner.now; tail = plain_tail tail })) (target on.now) at.now) result }
+    ensures answer { Tries plain_proposal (proposed (divide_rule (division by.now)) (target on.now) at.now) result }
     ensures kept { IfOk result (λ m. IsKept (target on.now) (plain_proposal m)) }
     ensures meaning { IfOk result (λ m. KeepsMeaning (target on.now) (plain_proposal m)) }
     ensures moves { IfOk result (λ m. Moves (target on.now) (plain_proposal m)) }
 {
-    propose(
-        alloc,
-        on,
-        at,
-        &Dividing {
-            by,
-            outer,
-            inner,
-            tail,
-        },
-    )
+    propose(alloc, on, at, by)
 }

@@ -71,13 +71,7 @@ impl LoopAt<'_> {
 }
 
 /// A loop alone in a block.
-fn only(
-    alloc: Global,
-    binder: Binder,
-    lo: Ctrl,
-    hi: Ctrl,
-    body: Block,
-) -> Result<Block, AllocError>
+fn only(alloc: Global, binder: Binder, lo: Ctrl, hi: Ctrl, body: Block) -> Result<Block, AllocError>
     ensures { IfOk result (λ b. block b ≡ only_loop (binding binder) (control lo) (control hi) (block body)) }
 {
     Block::single(alloc, Stmt::For(binder, lo, hi, body))

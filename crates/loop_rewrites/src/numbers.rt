@@ -27,12 +27,7 @@ fn times(alloc: Global, by: i64, a: Ctrl) -> Result<Ctrl, AllocError>
 }
 
 /// The turn of that number behind so many groups.
-pub(crate) fn turn_behind(
-    alloc: Global,
-    by: i64,
-    groups: Ctrl,
-    x: Id,
-) -> Result<Ctrl, AllocError>
+pub(crate) fn turn_behind(alloc: Global, by: i64, groups: Ctrl, x: Id) -> Result<Ctrl, AllocError>
     ensures { IfOk result (λ e. control e ≡ tree.Add (tree.Mul (tree.Lit by) (control groups)) (tree.Var x.0)) }
 {
     let first = times(alloc, by, groups)?;

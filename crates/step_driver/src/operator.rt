@@ -78,12 +78,7 @@ pub trait Operator {
         ensures { Refuses ((rule self.now).refusal (spot_at (target on.now) (plain_piece piece.now))) result };
 
     /// What has to be shown of the old procedure, in its order, before the result stands for it.
-    fn needs(
-        &self,
-        alloc: Global,
-        on: &Target<'_>,
-        piece: &Piece,
-    ) -> Result<Vec<Need>, AllocError>
+    fn needs(&self, alloc: Global, on: &Target<'_>, piece: &Piece) -> Result<Vec<Need>, AllocError>
         ensures { IfOk result (λ ns. map plain_need ns.items ≡ (rule self.now).needs (spot_at (target on.now) (plain_piece piece.now))) };
 
     /// Where the replaced statements go.
