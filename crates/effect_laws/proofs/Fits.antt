@@ -12,7 +12,7 @@ use Rattle.meaning_laws.specs.NestsWithin.{IsApart}
 use Rattle.meaning_laws.specs.Substitute.{has_variable}
 use Rattle.meaning_laws.proofs.Substitute.{plain_same}
 use Rattle.exo_effects.specs.Uses.{modes_of}
-use Rattle.effect_laws.specs.Fits.{HalvesFit, NestsFit}
+use Rattle.effect_laws.specs.Fits.{HalvesFit, NestsFit, NeighboursFit}
 
 pub halves_fit : HalvesFit
 halves_fit u p place first second m n k l scope root s a apart one other ok come agree t i j same before =
@@ -52,3 +52,8 @@ nests_fit u p place path count i j lo hi c d b s a apart there bounds ok come t 
     (first_lo, (first_hi, (omega (arith, ints, low, less, c_x), (omega (arith, ints, high, d_x), tt))))
     (second_lo, (second_hi, (omega (arith, ints, low, c_y), (omega (arith, ints, high, less, d_y), tt))))
     (outer.0, (inner.0, tt)))
+
+pub neighbours_fit : NeighboursFit
+neighbours_fit u p place second b c s a apart one other ok come =
+    subst₂ (λ d e. AreClear a.scene (touched (program_world u) (modes_of u) d a) (touched (program_world u) (modes_of u) e a)) one.piece other.piece
+    (apart s a a [] [] one.opened_as other.opened_as ok come refl one.is_there other.is_there tt tt tt)

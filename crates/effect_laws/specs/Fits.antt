@@ -8,7 +8,7 @@ use Rattle.exo_meaning.specs.Inputs.{IsAdmissible}
 use Rattle.exo_meaning.specs.Orders.{Crosses}
 use Rattle.exo_meaning.specs.Units.{Scope}
 use Rattle.meaning_laws.specs.Pairs.{AreClear}
-use Rattle.meaning_laws.specs.Touched.{pair_touched}
+use Rattle.meaning_laws.specs.Touched.{touched, pair_touched}
 use Rattle.meaning_laws.specs.NestsWithin.{IsBefore, BoundsAreApart}
 use Rattle.check_facts_laws.specs.Laws.{ComesToPlace}
 use Rattle.order_laws.specs.TurnsOfTwo.{Loop, Spot, AgreesAt, HalvesAreClear}
@@ -89,3 +89,27 @@ NestsFit =
     → Crosses (IsBefore a.scene lo hi) (IsBefore a.scene c d) x y
     → AreClear t.scene (pair_touched (program_world u) (modes_of u) i j b x t)
     (pair_touched (program_world u) (modes_of u) i j b y t)
+
+-- two statements, each by itself
+abbrev pub alone_at : Path → Turns
+alone_at path = record { path = path; count = 1; loops = [] }
+
+abbrev pub neighbours_conflict : Path → Path → Conflict
+neighbours_conflict first second = record {
+  first = alone_at first;
+  second = alone_at second;
+  order = [];
+}
+
+-- where they are apart, the statements may change places
+abbrev pub NeighboursFit : Type 0
+NeighboursFit =
+    (u : Program) (p : Procedure) (place second : Path) (b c : Block) (s a : State)
+    → let conflict = neighbours_conflict place second in
+    IsApartAt u p place conflict
+    → IsBlockThere u p place conflict.first b
+    → IsBlockThere u p place conflict.second c
+    → IsAdmissible (program_world u) p s
+    → ComesToPlace (program_world u) (opened 1 place p.body) s a
+    → let touch = touched (program_world u) (modes_of u) in
+    AreClear a.scene (touch b a) (touch c a)

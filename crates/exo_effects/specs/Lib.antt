@@ -8,3 +8,4 @@ pub mod Orders
 pub mod Fresh
 pub mod Conflicts
 pub mod PlainAccess
+pub mod PlainGuards

@@ -1,8 +1,9 @@
 //! What the loops and branches round an access say.
 ghost use Rattle.std.specs.Prelude.{◌≡◌, IsTrue};
+ghost use Rattle.std.specs.List.{list_all};
 ghost use Rattle.exo_tree.specs.PlainControl.{control};
 ghost use Rattle.affine_forms.specs.Forms.{keeps_rules};
-ghost use Rattle.exo_effects.specs.PlainGuards.{facts_of, guard_keeps_rules, Guarded};
+ghost use Rattle.exo_effects.specs.PlainGuards.{facts_of_loop, facts_of, all_facts, guard_keeps_rules, Guarded, GuardsMade};
 
 use crate::forms::{plain_form, plain_formula};
 use affine_forms::{Atom, FormError, Formula, Linear};
@@ -31,7 +32,7 @@ fn put_bounds(
 ) -> Result<(), FormError>
     requires lower { IsTrue (keeps_rules (control lo.now)) }
     requires upper { IsTrue (keeps_rules (control hi.now)) }
-    ensures { Guarded result (facts_of (Guard.Loop i lo hi)) into.old into.new }
+    ensures { Guarded result (facts_of_loop i.0 (control lo.now) (control hi.now)) into.old into.new }
 {
     let lower = plain_form(alloc, lo)?;
     let upper = plain_form(alloc, hi)?;
@@ -39,4 +40,37 @@ fn put_bounds(
     into.push(Formula::at_most(alloc, &lower, &own)?)?;
     into.push(Formula::less(alloc, &own, &upper)?)?;
     Ok(())
+}
+
+/// Puts what a loop or a branch says last.
+fn put_guard(alloc: Global, guard: &Guard<'_>, into: &mut Context) -> Result<(), FormError>
+    requires { IsTrue (guard_keeps_rules guard.now) }
+    ensures { Guarded result (facts_of guard.now) into.old into.new }
+{
+    match guard {
+        Guard::Loop(i, lo, hi) => put_bounds(alloc, *i, lo, hi, into),
+        Guard::Holds(c) => {
+            let says = plain_formula(alloc, c)?;
+            into.push(says)?;
+            Ok(())
+        }
+        Guard::Fails(c) => {
+            let says = plain_formula(alloc, c)?;
+            into.push(says.negated(alloc)?)?;
+            Ok(())
+        }
+    }
+}
+
+/// What these loops and branches say, from the outermost inwards.
+/// `WideNumber` where a number of a normal form passes 2^62.
+pub(crate) fn guards_of(alloc: Global, guards: &[Guard<'_>]) -> Result<Context, FormError>
+    requires { IsTrue (list_all guard_keeps_rules guards.now) }
+    ensures { GuardsMade result (all_facts guards.now) }
+{
+    let mut made = Context::new(alloc);
+    for guard in guards {
+        put_guard(alloc, guard, &mut made)?;
+    }
+    Ok(made)
 }

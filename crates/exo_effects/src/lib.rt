@@ -3,6 +3,7 @@
 
 mod access;
 mod forms;
+mod guards;
 
 pub use access::{AccessCoord, Mode};
 pub use forms::{plain_form, plain_formula};
