@@ -9,3 +9,5 @@ pub mod Fresh
 pub mod Conflicts
 pub mod PlainAccess
 pub mod PlainGuards
+pub mod PlainWindows
+pub mod PlainParts

@@ -4,6 +4,8 @@
 mod access;
 mod forms;
 mod guards;
+mod parts;
+mod windows;
 
 pub use access::{AccessCoord, Mode};
 pub use forms::{plain_form, plain_formula};
