@@ -1,9 +1,9 @@
 -- What the laws on orders of loops ask, from pieces that are apart.
-use Rattle.std.proofs.Common.{◌≡◌, ◌≤ℤ◌, ◌<ℤ◌, ℕ, ℤ, ◌==◌, Bool, true, false, true≢false, List, [], ◌∷◌, refl, sym, ap, ◌∙◌, subst, subst₂, eqb-true, arith}
+use Rattle.std.proofs.Common.{◌≡◌, ◌≤ℤ◌, ◌<ℤ◌, ℕ, ℤ, ◌==◌, Bool, true, false, true≢false, [], ◌∷◌, refl, sym, ap, ◌∙◌, subst, subst₂, eqb-true, arith}
 use Rattle.std.proofs.lemmas.Int.{ints}
-use Rattle.exo_tree.specs.Tree.{Control, Block}
+use Rattle.exo_tree.specs.Tree.{Control}
 use Rattle.exo_meaning.specs.Scene.{Scene, number}
-use Rattle.exo_meaning.specs.State.{State, on_scene, with_control}
+use Rattle.exo_meaning.specs.State.{on_scene, with_control}
 use Rattle.exo_meaning.specs.Run.{program_world}
 use Rattle.exo_meaning.proofs.Frame.{updated_other}
 use Rattle.meaning_laws.specs.Pairs.{AreClear}

@@ -1,20 +1,20 @@
 -- What names stand for at a place of a procedure, as their parts tell.
-use Rattle.std.proofs.Common.{◌≡◌, ℕ, ℤ, pos, ◌-ℤ◌, ◌==◌, Bool, true, false, true≢false, cond, not, ◌&&◌, ◌||◌, List, [], ◌∷◌, map, length, Option, Some, None, option_map, refl, sym, ap, ap₂, ◌∙◌, subst, eqb-true, arith}
-use Rattle.std.specs.Prelude.{IsSome, is_some}
+use Rattle.std.proofs.Common.{◌≡◌, ℕ, ℤ, pos, ◌-ℤ◌, ◌==◌, Bool, true, false, true≢false, cond, not, ◌&&◌, List, [], ◌∷◌, map, length, Option, Some, None, option_map, refl, sym, ap, ap₂, ◌∙◌, subst, eqb-true, arith}
+use Rattle.std.specs.Prelude.{IsSome}
 use Rattle.std.specs.List.{list_all}
 use Rattle.std.proofs.lemmas.Int.{ints}
-use Rattle.exo_tree.specs.Tree.{Binder, Cell, Kind, Index, Control, Coord, At, Span, Statement, Assign, Reduce, Config, Pass, If, For, Alloc, View, Call, Block, Param, ParamKind, ControlParam, TensorParam, WindowParam}
+use Rattle.exo_tree.specs.Tree.{Binder, Kind, Index, Control, Coord, At, Span, Statement, Assign, Reduce, Config, Pass, If, For, Alloc, View, Call, Block, Param, ParamKind, ControlParam, TensorParam, WindowParam}
 use Rattle.exo_tree.specs.Context.{Context, Here, After, InLoop, InThen, InElse, fill}
-use Rattle.exo_meaning.specs.Scene.{Seen, Scene, Side, Range, numbers, number, narrowed, window, whole}
+use Rattle.exo_meaning.specs.Scene.{Seen, Scene, Range, numbers, number, narrowed, window, whole}
 use Rattle.exo_meaning.specs.Calls.{Callee}
-use Rattle.exo_meaning.specs.Run.{tensor, roots_after}
+use Rattle.exo_meaning.specs.Run.{roots_after}
 use Rattle.exo_meaning.specs.Inputs.{IsArgument, AreArguments, is_buffer_of}
 use Rattle.exo_meaning.specs.Units.{Sort, ControlName, BufferName, Scope, sort_in, with_name, is_new, has_rank, spans, view_sort, plainly, with_fields, is_control, are_controls, is_condition, is_coord, is_window, is_empty, is_short, is_block, is_statement, is_param_kind, are_params, param_sort, scope_of, scope_after}
-use Rattle.meaning_laws.specs.Sound.{binds, on_way, IsSameName}
+use Rattle.meaning_laws.specs.Sound.{binds, on_way}
 use Rattle.meaning_laws.specs.Sorted.{scope_at}
 use Rattle.meaning_laws.specs.Made as made
 use Rattle.affine_forms.specs.Forms.{is_affine}
-use Rattle.check_facts_laws.proofs.Truths.{parts, joined, both_false, neither, one_of, on_left, on_right, self, none_some, some_injective}
+use Rattle.check_facts_laws.proofs.Truths.{parts, joined, both_false, on_left, on_right, self, none_some, some_injective}
 use Rattle.check_facts_laws.proofs.Affine.{same_number}
 use Rattle.check_facts_laws.proofs.Sides.{map_gives}
 use Rattle.exo_effects.specs.Parts.{Part, Parts, all_of, whole_of, window_of, with_kind, with_params, passed, parts_at}
@@ -75,12 +75,15 @@ module _ (fields : ℕ → Option Kind) (memories : ℕ) (callees : ℕ → Opti
 
   whole_told : (scope : Scope) (x : Binder) (sort : Sort) (dims : List Control) → is_new scope x ≡ true → are_controls fields plainly scope dims ≡ true → now.views x.id ≡ Some (record { buffer = x.id; sides = whole (numbers now dims) }) → IsToldBy (with_name scope x sort) x.id (Some (whole_of x.id dims))
   whole_told scope x sort dims new plain v seen e =
-      let same = some_injective (record { buffer = x.id; sides = whole (numbers now dims) }) seen (sym v ∙ e) in
-      (whole_of x.id dims, refl, record {
-        root = ap (λ (z : Seen). z.buffer) (sym same);
-        affine = whole_affine scope (with_name scope x sort) (further scope x sort new) dims plain;
-        sides = ap (λ (z : Seen). z.sides) (sym same) ∙ whole_sides dims;
-      })
+      let same = some_injective (record { buffer = x.id; sides = whole (numbers now dims) }) seen (sym v ∙ e) in (
+        whole_of x.id dims,
+        refl,
+        record {
+          root = ap (λ (z : Seen). z.buffer) (sym same);
+          affine = whole_affine scope (with_name scope x sort) (further scope x sort new) dims plain;
+          sides = ap (λ (z : Seen). z.sides) (sym same) ∙ whole_sides dims;
+        },
+      )
 
   -- ---- windows
 
@@ -99,12 +102,15 @@ module _ (fields : ℕ → Option Kind) (memories : ℕ) (callees : ℕ → Opti
   window_part scope table x cs z h keeps e =
       let t = then_gives (now.views x) (λ seen. option_map (λ sides. record { buffer = seen.buffer; sides = sides }) (narrowed now seen.sides cs)) z e in
       let m = map_gives (narrowed now t.0.sides cs) (λ sides. record { buffer = t.0.buffer; sides = sides }) z t.2 in
-      let p = h t.0 t.1 in
-      (window_of cs p.0, ap (option_map (window_of cs)) p.1, record {
-        root = ap (λ (q : Seen). q.buffer) (sym m.2) ∙ p.2.root;
-        affine = joined_affine (names_in scope) p.0.coords cs p.2.affine (coords_affine scope cs keeps);
-        sides = ap (λ (q : Seen). q.sides) (sym m.2) ∙ narrowed_sides now p.0.coords cs m.0 (ap (λ ss. narrowed now ss cs) (sym p.2.sides) ∙ m.1);
-      })
+      let p = h t.0 t.1 in (
+        window_of cs p.0,
+        ap (option_map (window_of cs)) p.1,
+        record {
+          root = ap (λ (q : Seen). q.buffer) (sym m.2) ∙ p.2.root;
+          affine = joined_affine (names_in scope) p.0.coords cs p.2.affine (coords_affine scope cs keeps);
+          sides = ap (λ (q : Seen). q.sides) (sym m.2) ∙ narrowed_sides now p.0.coords cs m.0 (ap (λ ss. narrowed now ss cs) (sym p.2.sides) ∙ m.1);
+        },
+      )
 
   -- ---- on the way
 

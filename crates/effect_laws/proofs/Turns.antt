@@ -1,7 +1,7 @@
 -- Turns of loops: what is known at a place is known there, and their numbers are within the bounds.
-use Rattle.std.proofs.Common.{◌≡◌, ◌≤ℤ◌, ◌<ℤ◌, ℕ, zero, suc, ℤ, ◌==◌, Bool, true, false, true≢false, cond, ◌&&◌, List, [], ◌∷◌, ◌++◌, map, Option, Some, None, IfSome, refl, sym, ap, ◌∙◌, subst, subst₂, slice_get}
+use Rattle.std.proofs.Common.{◌≡◌, ◌≤ℤ◌, ◌<ℤ◌, ℕ, zero, suc, ℤ, ◌==◌, true, false, true≢false, cond, ◌&&◌, List, [], ◌∷◌, ◌++◌, map, Some, None, refl, sym, ap, ◌∙◌, subst₂, slice_get}
 use Rattle.std.specs.Prelude.{IsSome, is_some}
-use Rattle.exo_tree.specs.Tree.{Kind, Index, Control, Program, Procedure}
+use Rattle.exo_tree.specs.Tree.{Index, Control, Program, Procedure}
 use Rattle.exo_meaning.specs.Scene.{Scene, number}
 use Rattle.exo_meaning.specs.State.{with_control}
 use Rattle.exo_meaning.specs.Orders.{Each}
@@ -11,13 +11,13 @@ use Rattle.affine_forms.specs.Laws.{NormalLaw}
 use Rattle.check_facts_laws.proofs.Truths.{parts, neither, none_some, some_injective, self}
 use Rattle.check_facts_laws.proofs.Affine.{same_number}
 use Rattle.exo_effects.specs.Accesses.{plain_form}
-use Rattle.exo_effects.specs.Orders.{Header, Turn, turn_of, OrderRow, Less, Greater}
+use Rattle.exo_effects.specs.Orders.{Header, Turn, turn_of}
 use Rattle.exo_effects.specs.Uses.{Inside}
 use Rattle.effect_laws.specs.Covers.{names_in}
 use Rattle.effect_laws.specs.Clear.{is_turn, IsWithin}
-use Rattle.effect_laws.specs.Apart.{with_turns, AreTurns, AreOrdered, scope_in, are_loops}
+use Rattle.effect_laws.specs.Apart.{with_turns, AreTurns, scope_in, are_loops}
 use Rattle.effect_laws.proofs.Forms.{bound_is_affine, value_is}
-use Rattle.effect_laws.proofs.Known.{Now, Further, name_further, now_inside}
+use Rattle.effect_laws.proofs.Known.{Now, name_further, now_inside}
 use Rattle.effect_laws.proofs.Covers.{owns}
 
 pub same_buffers : (hs : List Header) (ns : List ℤ) (scene : Scene) → (with_turns hs ns scene).buffers ≡ scene.buffers
@@ -73,11 +73,13 @@ module _ (u : Program) (p : Procedure) where
         let final = with_turns hs ns inner in
         let f = name_further scope h.binder (ControlName Index) scene inner q.0 (λ z i. ap (λ b. cond b n (scene.control z)) i) in
         let stays : (y : ℕ) → IsSome (sort_in scope y) → final.control y ≡ scene.control y = λ y k. names_stay hs ns more inner q.3 y (f.grows y k) ∙ f.control y k in
-        let own : final.control h.binder.id ≡ n = names_stay hs ns more inner q.3 h.binder.id (ap (λ b. is_some (cond b (Some (ControlName Index)) (sort_in scope h.binder.id))) (self h.binder.id)) ∙ ap (λ b. cond b n (scene.control h.binder.id)) (self h.binder.id) in
-        (record {
-          lower = λ v k. subst₂ (λ a b. a ≤ℤ b) (sym (bound_value final scope scene stays h.lo q.1 v k)) (sym own) t.0;
-          upper = λ v k. subst₂ (λ a b. a <ℤ b) (sym own) (sym (bound_value final scope scene stays h.hi q.2 v k)) t.1.0;
-        }, turns_within hs ns more inner q.3 t.1.1)
+        let own : final.control h.binder.id ≡ n = names_stay hs ns more inner q.3 h.binder.id (ap (λ b. is_some (cond b (Some (ControlName Index)) (sort_in scope h.binder.id))) (self h.binder.id)) ∙ ap (λ b. cond b n (scene.control h.binder.id)) (self h.binder.id) in (
+          record {
+            lower = λ v k. subst₂ (λ a b. a ≤ℤ b) (sym (bound_value final scope scene stays h.lo q.1 v k)) (sym own) t.0;
+            upper = λ v k. subst₂ (λ a b. a <ℤ b) (sym own) (sym (bound_value final scope scene stays h.hi q.2 v k)) t.1.0;
+          },
+          turns_within hs ns more inner q.3 t.1.1,
+        )
 
   -- ---- the number of each loop's variable
 

@@ -1,5 +1,5 @@
 -- What the laws on orders of loops ask of what turns touch, from conflicts.
-use Rattle.std.specs.Prelude.{◌≡◌, ℕ, ℤ, List, [], ◌∷◌, length}
+use Rattle.std.specs.Prelude.{◌≡◌, ℕ, ℤ, [], ◌∷◌, length}
 use Rattle.exo_tree.specs.Tree.{Binder, Control, Block, Procedure, Program}
 use Rattle.exo_tree.specs.Places.{Path, Opened, opened}
 use Rattle.exo_meaning.specs.State.{State}
