@@ -1,18 +1,18 @@
 -- Pieces whose conflicts have no point are apart wherever a run comes to the place.
-use Rattle.std.proofs.Common.{◌≡◌, ◌≤ℤ◌, ◌<ℤ◌, ◌-ℤ◌, int_le, subst₂, negsuc, ℕ, ℤ, pos, Bool, true, false, true≢false, List, [], ◌∷◌, map, length, Option, Some, None, IfSome, slice_get, refl, sym, ap, ap₂, ◌∙◌, subst, arith, inl, inr}
-use Rattle.std.specs.Prelude.{IsSome, is_some}
+use Rattle.std.proofs.Common.{◌≡◌, ◌≤ℤ◌, ◌<ℤ◌, ◌-ℤ◌, int_le, subst₂, negsuc, ℕ, ℤ, pos, true, true≢false, List, [], ◌∷◌, map, length, Option, Some, None, IfSome, slice_get, refl, sym, ap, ◌∙◌, subst, arith, inl, inr}
+use Rattle.std.specs.Prelude.{IsSome}
 use Rattle.std.proofs.lemmas.Int.{ints}
-use Rattle.exo_tree.specs.Tree.{Kind, Control, Var, Flag, Cell, Block, end, next, joined, Param, Procedure, Program}
+use Rattle.exo_tree.specs.Tree.{Kind, Var, Flag, Block, end, next, joined, Procedure, Program}
 use Rattle.exo_tree.specs.Context.{Context, Here, fill}
 use Rattle.exo_tree.specs.Places.{Path, Opened, opened}
-use Rattle.exo_meaning.specs.Scene.{Shape, Seen, Scene, is_set}
+use Rattle.exo_meaning.specs.Scene.{Seen, Scene, is_set}
 use Rattle.exo_meaning.specs.State.{State, on_scene}
 use Rattle.exo_meaning.specs.Run.{World, program_world, kinds_of}
-use Rattle.exo_meaning.specs.Inputs.{IsAdmissible, is_buffer_of}
+use Rattle.exo_meaning.specs.Inputs.{IsAdmissible}
 use Rattle.exo_meaning.specs.Orders.{Each}
-use Rattle.exo_meaning.specs.Units.{Sort, BufferName, is_block, Scope, sort_in, scope_of, is_flag, field_kind, IsProcedure}
+use Rattle.exo_meaning.specs.Units.{Sort, BufferName, is_block, Scope, sort_in, scope_of, is_flag, field_kind}
 use Rattle.meaning_laws.specs.Context.{ComesTo}
-use Rattle.meaning_laws.specs.Copies.{IsFree, SoundLaw, UnboundLaw}
+use Rattle.meaning_laws.specs.Copies.{SoundLaw, UnboundLaw}
 use Rattle.meaning_laws.specs.Made.{NamesStand, MadeLaw}
 use Rattle.meaning_laws.specs.Places.{OpenedLaw}
 use Rattle.meaning_laws.specs.Sorted.{IsSorted, MayRun, FitsAtLaw, scope_at, scope_there}
@@ -24,19 +24,17 @@ use Rattle.affine_forms.specs.Atoms.{Valuation, Variable, only, value}
 use Rattle.affine_places.specs.Roots.{roots_of}
 use Rattle.affine_places.specs.Readings.{place_reading}
 use Rattle.affine_forms.specs.Forms.{normal}
-use Rattle.affine_forms.specs.Formulas.{moved, all_met}
-use Rattle.affine_forms.specs.Laws.{NormalLaw, FormulaLaw}
-use Rattle.affine_systems.specs.Systems.{KeepsKinds}
-use Rattle.affine_systems.specs.Laws.{SystemsLaw}
+use Rattle.affine_forms.specs.Formulas.{moved}
+use Rattle.affine_forms.specs.Laws.{NormalLaw}
 use Rattle.check_facts.specs.Contexts.{context_of, facts_of}
-use Rattle.check_facts_laws.specs.Laws.{ComesToPlace, Describes, ContextsHold, allowed_in}
-use Rattle.check_facts_laws.proofs.Truths.{none_some, some_injective}
+use Rattle.check_facts_laws.specs.Laws.{ComesToPlace, Describes, ContextsHold}
+use Rattle.check_facts_laws.proofs.Truths.{none_some}
 use Rattle.exo_effects.specs.Accesses.{access_of, accesses_of}
-use Rattle.exo_effects.specs.Orders.{Header, turn_of, Turn, OrderRow, Less, Greater, Order, order_of}
-use Rattle.exo_effects.specs.Parts.{Part, Parts, no_parts, with_params, parts_at}
+use Rattle.exo_effects.specs.Orders.{Turn, OrderRow, Less, Greater, Order, order_of}
+use Rattle.exo_effects.specs.Parts.{Parts, no_parts, with_params, parts_at}
 use Rattle.exo_effects.specs.Uses.{Use, modes_of, at_hole, uses_in}
-use Rattle.effect_laws.specs.Covers.{MayCover, Covers, SeesPart, CoversLaw}
-use Rattle.effect_laws.specs.Clear.{IsInOrder, AreCopies, AreTwoTurns, ClearLaw}
+use Rattle.effect_laws.specs.Covers.{MayCover, Covers, CoversLaw}
+use Rattle.effect_laws.specs.Clear.{IsInOrder, AreTwoTurns, ClearLaw}
 use Rattle.effect_laws.specs.Apart.{Turns, Conflict, with_turns, AreTurns, AreOrdered, scope_in, are_shown_apart, parts_there, IsThere, ApartIsMet}
 use Rattle.effect_laws.proofs.Cells.{each_weaken}
 use Rattle.effect_laws.proofs.Clear.{clear_with}

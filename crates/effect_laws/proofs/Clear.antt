@@ -1,12 +1,11 @@
 -- Pieces whose conflicts have no integer point do not clash.
-use Rattle.std.proofs.Common.{◌≡◌, ◌≤◌, ℕ, max, ℤ, ◌==◌, Bool, true, false, true≢false, cond, not, ◌&&◌, ◌||◌, List, [], ◌∷◌, ◌++◌, map, Option, Some, None, refl, sym, ap, ap₂, ◌∙◌, subst, eqb-true, eq-eqb, arith, inl, inr}
-use Rattle.std.proofs.Math.Nat.{le-max_left, le-max_right}
-use Rattle.std.specs.Prelude.{◌⊎◌, IsSome, is_some, filter, flat_map}
+use Rattle.std.proofs.Common.{◌≡◌, ◌≤◌, ℕ, max, ℤ, ◌==◌, Bool, true, false, true≢false, cond, List, [], ◌∷◌, ◌++◌, map, Option, Some, None, refl, sym, ap, ap₂, ◌∙◌, subst, eqb-true, eq-eqb, arith, inl, inr}
+use Rattle.std.specs.Prelude.{IsSome, is_some, filter}
 use Rattle.std.specs.List.{AllByRecursion}
 use Rattle.std.specs.Ordering.{int_eq}
 use Rattle.std.proofs.lemmas.Int.{ints}
 use Rattle.exo_tree.specs.Places.{Path}
-use Rattle.exo_meaning.specs.Scene.{Shape, Scene}
+use Rattle.exo_meaning.specs.Scene.{Scene}
 use Rattle.exo_meaning.specs.State.{Place, is_there, same_index}
 use Rattle.exo_meaning.specs.Footprint.{Entry, Reads, Writes, Reduces, Made, stores_one, stores, overwrites_one, overwrites, IsClear}
 use Rattle.exo_meaning.specs.Orders.{Each}
@@ -15,7 +14,7 @@ use Rattle.meaning_laws.specs.Pairs.{AreClear}
 use Rattle.affine_forms.specs.Affine.{Constraints, HasNoIntegerPoint}
 use Rattle.affine_forms.specs.Atoms.{Valuation}
 use Rattle.affine_forms.specs.Formulas.{Formula, all_met}
-use Rattle.affine_systems.specs.Systems.{Stated, CasesPassed, SizePassed, Listed, KeepsKinds}
+use Rattle.affine_systems.specs.Systems.{KeepsKinds}
 use Rattle.affine_systems.specs.Laws.{SystemsLaw}
 use Rattle.affine_systems.specs.Outcomes.{Owed, owed}
 use Rattle.check_facts_laws.proofs.Truths.{parts, joined, both_false}
@@ -24,12 +23,11 @@ use Rattle.exo_effects.specs.Orders.{Order}
 use Rattle.exo_effects.specs.Limits.{are_within}
 use Rattle.exo_effects.specs.Fresh.{past_formula, past_all, past_access, past_order}
 use Rattle.exo_effects.specs.Cases.{systems_of, HaveNoPoint}
-use Rattle.exo_effects.specs.Conflicts.{against, Fault, ManySystems, Listing, Lists, Refuses, meeting, modes_clash, may_clash, clashing, past_these, owed_for, pair_fault, unless_refused, owed_behind, conflicts_of}
+use Rattle.exo_effects.specs.Conflicts.{against, Fault, ManySystems, Listing, Lists, Refuses, meeting, modes_clash, may_clash, clashing, past_these, owed_for, pair_fault, unless_refused, owed_behind}
 use Rattle.effect_laws.specs.Covers.{Reaches, IsCell, IsCellOfSome, IsCovered, Covers}
 use Rattle.effect_laws.specs.Clear.{AreTwoTurns, AreShownApart, ClearLaw}
-use Rattle.effect_laws.proofs.Cells.{each_join, each_map_each}
 use Rattle.effect_laws.proofs.Renamed.{left_of, right_of}
-use Rattle.effect_laws.proofs.Meeting.{IsAtCell, do_not_meet}
+use Rattle.effect_laws.proofs.Meeting.{do_not_meet}
 
 -- ---- what is owed for each pair
 

@@ -1,28 +1,26 @@
 -- Two accesses that reach one cell meet: all that is asked of them holds for some values.
-use Rattle.std.proofs.Common.{◌≡◌, ◌<◌, ◌≤◌, ◌≤ℤ◌, ◌<ℤ◌, ℕ, zero, suc, ◌+◌, ◌-◌, ◌*◌, ◌/◌, ◌%◌, max, ℤ, pos, ◌-ℤ◌, ◌==◌, int_le, int_lt, Bool, true, false, true≢false, cond, ◌&&◌, ◌||◌, List, [], ◌∷◌, ◌++◌, map, Option, Some, None, IfSome, option_map, slice_get, refl, sym, ap, ap₂, ◌∙◌, subst, eqb-true, arith}
+use Rattle.std.proofs.Common.{◌≡◌, ◌<◌, ◌≤◌, ◌≤ℤ◌, ◌<ℤ◌, ℕ, zero, suc, ◌+◌, ◌-◌, ◌*◌, ◌/◌, ◌%◌, max, ℤ, pos, ◌-ℤ◌, ◌==◌, int_le, int_lt, Bool, true, false, cond, ◌&&◌, ◌||◌, List, [], ◌∷◌, ◌++◌, map, Option, Some, None, option_map, refl, sym, ap, ap₂, ◌∙◌, eqb-true, arith}
 use Rattle.std.specs.Prelude.{nat_lt, get_or, flat_map}
 use Rattle.std.specs.List.{list_any}
 use Rattle.std.specs.Ordering.{int_eq}
 use Rattle.std.proofs.lemmas.Int.{ints}
 use Rattle.std.proofs.lemmas.Bool.Decides.{nat_tests}
-use Rattle.std.proofs.lemmas.Option.{slice_get-map}
 use Rattle.exo_meaning.specs.Orders.{Each}
-use Rattle.affine_forms.specs.Atoms.{Valuation, Variable, Linear, only, value, subtracted}
+use Rattle.affine_forms.specs.Atoms.{Valuation, Linear, value, subtracted}
 use Rattle.affine_forms.specs.Formulas.{Formula, less, at_most, equal, difference, is_met, all_met}
 use Rattle.affine_forms.proofs.Values.{subtracted_value, present_value}
 use Rattle.affine_forms.proofs.FormulaValues.{less_met, at_most_met}
-use Rattle.affine_systems.specs.Systems.{KeepsKinds}
 use Rattle.affine_systems.proofs.Cases.{all_met_append}
-use Rattle.check_facts_laws.proofs.Truths.{parts, joined, none_some, some_injective}
+use Rattle.check_facts_laws.proofs.Truths.{joined, none_some, some_injective}
 use Rattle.check_facts_laws.proofs.Sides.{map_gives}
 use Rattle.exo_effects.specs.Accesses.{AccessCoord, At, Range, Access}
-use Rattle.exo_effects.specs.Orders.{Turn, OrderRow, Less, Greater, Order}
+use Rattle.exo_effects.specs.Orders.{Turn}
 use Rattle.exo_effects.specs.Renamed.{re_linear, re_formula}
-use Rattle.exo_effects.specs.Fresh.{past_linear, past_formula, past_all, past_coord, past_access, past_turn, past_order}
-use Rattle.exo_effects.specs.Conflicts.{place_in, turn_number, own_number, span_number, turns_apart, apart, variable, bounds, re_turn, re_coord, re_access, where_both, order_row, points, span_rows, equations, asked, variables_of, copied_turns, copied, meeting}
+use Rattle.exo_effects.specs.Fresh.{past_linear, past_formula, past_all, past_coord, past_access, past_turn}
+use Rattle.exo_effects.specs.Conflicts.{place_in, turn_number, own_number, span_number, turns_apart, apart, variable, bounds, re_turn, re_coord, points, span_rows, equations, asked, variables_of, copied}
 use Rattle.effect_laws.specs.Covers.{LiesAt, Reaches, is_among}
-use Rattle.effect_laws.specs.Clear.{is_turn, IsWithin, IsInOrder, AreCopies}
-use Rattle.effect_laws.proofs.Renamed.{left_of, right_of, with_numbers, re_value, re_all_met, same_formulas}
+use Rattle.effect_laws.specs.Clear.{is_turn, IsWithin}
+use Rattle.effect_laws.proofs.Renamed.{left_of, right_of, with_numbers, re_value, re_all_met}
 
 le_true : (a b : ℤ) → a ≤ℤ b → int_le a b ≡ true
 le_true a b h = grind (arith, ints, h)

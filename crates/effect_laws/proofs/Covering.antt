@@ -1,19 +1,14 @@
 -- The accesses of a piece cover what a run of it touches, in a unit.
 use Rattle.std.proofs.Common.{◌≡◌, ℕ, List, [], ◌∷◌, ◌++◌, map, length, Option, Some, None, option_map, slice_get, refl, sym, ap, ◌∙◌, append_assoc, inl}
 use Rattle.std.proofs.lemmas.Option.{slice_get-map}
-use Rattle.std.specs.Prelude.{IsSome}
 use Rattle.exo_tree.specs.Tree.{Kind, Param, Procedure, Program}
-use Rattle.exo_tree.specs.Places.{Opened}
 use Rattle.exo_meaning.specs.Calls.{Callee}
 use Rattle.exo_meaning.specs.Run.{callee_in, world_of, callees, kinds_of, program_world}
-use Rattle.exo_meaning.specs.State.{State}
-use Rattle.exo_meaning.specs.Units.{Scope, field_kind}
+use Rattle.exo_meaning.specs.Units.{field_kind}
 use Rattle.affine_forms.specs.Laws.{NormalLaw, FormulaLaw}
-use Rattle.check_facts_laws.proofs.Truths.{some_injective}
 use Rattle.text_show.specs.Words.{words_of}
 use Rattle.exo_effects.specs.Uses.{params_of, modes_of, at_hole}
-use Rattle.effect_laws.specs.Covers.{MayCover, CoversLaw}
-use Rattle.effect_laws.proofs.Known.{Now}
+use Rattle.effect_laws.specs.Covers.{CoversLaw}
 use Rattle.effect_laws.proofs.Covers.{block_covered}
 
 -- the procedures that may be called are those of the unit

@@ -1,18 +1,18 @@
 -- The accesses of a piece cover what a run of it touches.
 use Rattle.std.proofs.lemmas.Int.{ints}
-use Rattle.std.proofs.Common.{◌≡◌, ◌≤ℤ◌, ◌<ℤ◌, arith, subst₂, ℕ, ℤ, pos, ◌==◌, int_le, int_lt, Bool, true, false, true≢false, cond, not, ◌&&◌, ◌||◌, List, [], ◌∷◌, ◌++◌, map, length, Option, Some, None, IfSome, option_map, refl, sym, ap, ap₂, ◌∙◌, subst, inl, inr}
+use Rattle.std.proofs.Common.{◌≡◌, ◌≤ℤ◌, ◌<ℤ◌, arith, subst₂, ℕ, ℤ, pos, ◌==◌, int_le, int_lt, Bool, true, false, true≢false, cond, not, ◌&&◌, List, [], ◌∷◌, ◌++◌, map, length, Option, Some, None, option_map, refl, sym, ap, ap₂, ◌∙◌, subst, inl, inr}
 use Rattle.std.specs.Prelude.{◌⊎◌, is_some, IsSome, filter}
-use Rattle.std.specs.List.{list_all, list_any}
+use Rattle.std.specs.List.{list_all}
 use Rattle.exo_tree.specs.Tree.{Binder, Cell, Kind, Index, Control, Var, Condition, Le, Lt, Datum, Const, Read, Negated, Relu, Plus, Minus, Times, Select, Coord, At, Span, Argument, ControlArg, ConditionArg, Whole, Window, Statement, Assign, Reduce, Config, Pass, If, For, Alloc, View, Call, Block, end, next, Param, ParamKind, ControlParam, TensorParam, WindowParam}
 use Rattle.exo_meaning.specs.Value.{Undefined}
 use Rattle.exo_meaning.specs.Scene.{Shape, Seen, Scene, number, numbers, holds, narrowed, window, then_do, cell_at}
 use Rattle.exo_meaning.specs.State.{State, Place, place, on_scene, with_control, with_buffer, with_view, with_contents}
 use Rattle.exo_meaning.specs.Calls.{Callee, Given, GivenNumber, GivenView, given, all_given, all_positive}
-use Rattle.exo_meaning.specs.Run.{World, run, step, turn, turns_of, tensor, roots_after, range, count}
+use Rattle.exo_meaning.specs.Run.{World, run, step, turn, turns_of, tensor, roots_after}
 use Rattle.exo_meaning.specs.Footprint.{Entry, Reads, Writes, Reduces, Made, listed, all_read, written, reduced_as, reduced, reads, further, chosen, turns_touch, footprint, step_footprint}
 use Rattle.exo_meaning.specs.Orders.{Each}
 use Rattle.exo_meaning.specs.Modes.{Mode, Reading, Writing, Reducing, Modes}
-use Rattle.exo_meaning.specs.Units.{Sort, ControlName, BufferName, Scope, sort_in, with_name, is_new, is_flag, has_rank, has_cell, same_cell, spans, view_sort, plainly, with_fields, is_control, are_controls, is_condition, is_access, is_datum, is_coord, is_window, is_for, are_for, is_call, is_empty, is_short, scope_after, is_block, is_statement}
+use Rattle.exo_meaning.specs.Units.{Sort, ControlName, BufferName, Scope, sort_in, with_name, is_new, has_rank, has_cell, spans, view_sort, plainly, with_fields, is_control, are_controls, is_condition, is_access, is_datum, is_coord, is_window, is_for, are_for, is_call, is_empty, is_short, scope_after, is_block, is_statement}
 use Rattle.meaning_laws.specs.Facts.{Fact, Holds, Fails, is_plain_condition, with_fact}
 use Rattle.meaning_laws.specs.Sound.{IsSameName, binds}
 use Rattle.meaning_laws.specs.Touched.{cells_of, window_entries, buffer_entries, param_entries, all_entries, given_entries, entries_to, call_entries, touched}
@@ -26,7 +26,7 @@ use Rattle.affine_forms.specs.Forms.{is_affine}
 use Rattle.affine_forms.specs.Formulas.{is_met, all_met}
 use Rattle.affine_forms.specs.Strides.{all_affine}
 use Rattle.affine_forms.specs.Laws.{NormalLaw, FormulaLaw}
-use Rattle.inplace_laws.specs.Windows.{shifted, joined_coords}
+use Rattle.inplace_laws.specs.Windows.{shifted}
 use Rattle.text_show.specs.Layout.{Text}
 use Rattle.text_show.specs.Words.{Words}
 use Rattle.text_show.specs.ControlText.{access_text}
@@ -34,12 +34,12 @@ use Rattle.text_show.specs.StatementText.{argument_text}
 use Rattle.check_facts_laws.proofs.Truths.{parts, joined, neither, both_false, none_some, some_injective, self}
 use Rattle.check_facts_laws.proofs.Sides.{map_gives}
 use Rattle.exo_effects.specs.Accesses.{Access, coord_form, plain_form, plain_formula, guard_of, access_of}
-use Rattle.exo_effects.specs.Parts.{Part, Parts, window_of}
-use Rattle.exo_effects.specs.Uses.{Use, Inside, in_loop, in_branch, past_statement, use_of, uses_of, cell_of, part_of_argument, modes_had, cell_uses, data_uses, argument_uses, arguments_uses, block_uses, step_uses}
-use Rattle.effect_laws.specs.Covers.{LiesAt, Reaches, is_among, IsCell, IsCellOfSome, IsCovered, Covers, names_in, is_affine_coord, sides_of, SeesPart}
+use Rattle.exo_effects.specs.Parts.{Part, window_of}
+use Rattle.exo_effects.specs.Uses.{Use, Inside, in_loop, in_branch, past_statement, use_of, uses_of, cell_of, modes_had, cell_uses, data_uses, argument_uses, arguments_uses, block_uses, step_uses}
+use Rattle.effect_laws.specs.Covers.{LiesAt, is_among, IsCell, IsCellOfSome, IsCovered, Covers, names_in, is_affine_coord}
 use Rattle.effect_laws.proofs.Forms.{flag_named, flags_in, bound_is_affine, condition_is_affine, met_is, value_is}
 use Rattle.effect_laws.proofs.Cells.{where_gives, each_weaken, each_map_each, each_join, IsFrom, range_within, narrowed_sides, joined_affine, cell_lies, Lies, cells_lie}
-use Rattle.effect_laws.proofs.Known.{IsFirm, IsTold, IsPart, Now, Further, name_further, is_there, not_none, either, told_further, firm_further, now_same, now_round, now_inside, now_viewed, now_made, new_is_not_there}
+use Rattle.effect_laws.proofs.Known.{IsFirm, IsTold, Now, Further, name_further, is_there, not_none, now_same, now_round, now_inside, now_viewed, now_made, new_is_not_there}
 
 pub then_gives : {A B : Type 0} (o : Option A) (f : A → Option B) (b : B) → then_do o f ≡ Some b → (a : A) × (o ≡ Some a) × (f a ≡ Some b)
 then_gives None f b e = absurd (none_some e)

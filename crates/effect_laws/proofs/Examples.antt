@@ -2,7 +2,7 @@
 use Rattle.std.specs.Prelude.{codes}
 use Rattle.std.specs.Fmt.{digits}
 use Rattle.std.proofs.lemmas.Int.{ints}
-use Rattle.std.proofs.Common.{◌≡◌, ℕ, suc, ℤ, pos, negsuc, true, false, true≢false, List, [], ◌∷◌, length, Option, Some, None, refl, sym, arith}
+use Rattle.std.proofs.Common.{ℤ, pos, negsuc, true, false, [], ◌∷◌, None, refl, arith}
 use Rattle.exo_tree.specs.Tree.{Lit, Program, MemoryKind}
 use Rattle.exo_tree.specs.Context.{InLoop, Here}
 use Rattle.exo_tree.specs.Tree.{end}
@@ -15,9 +15,9 @@ use Rattle.meaning_laws.specs.Sorted.{MayRun}
 use Rattle.meaning_laws.specs.Touched.{touched}
 use Rattle.meaning_laws.proofs.Examples.{input, is_admissible, store_three}
 use Rattle.meaning_laws.proofs.UnitInstances.{letter, three_named}
-use Rattle.affine_forms.specs.Affine.{Affine, Constraints, IsIntegerPoint, HasNoIntegerPoint}
+use Rattle.affine_forms.specs.Affine.{Affine, Constraints, HasNoIntegerPoint}
 use Rattle.affine_systems.specs.Outcomes.{owed}
-use Rattle.exo_effects.specs.Orders.{Header, Less}
+use Rattle.exo_effects.specs.Orders.{Less}
 use Rattle.exo_effects.specs.Uses.{modes_of}
 use Rattle.effect_laws.specs.Apart.{Turns, Conflict, are_shown_apart, with_turns, IsThere, ApartIsMet}
 

@@ -1,23 +1,21 @@
 -- Forms over variables alone have the numbers of a scene.
-use Rattle.std.proofs.Common.{◌≡◌, ◌≤ℤ◌, ℕ, ℤ, pos, ◌+ℤ◌, ◌-ℤ◌, ◌*ℤ◌, ◌==◌, int_le, int_lt, Bool, true, false, true≢false, not, ◌&&◌, ◌||◌, List, [], ◌∷◌, Option, Some, None, refl, sym, ap, ap₂, ◌∙◌, subst, arith}
-use Rattle.std.specs.Prelude.{is_some, IsSome}
+use Rattle.std.proofs.Common.{◌≡◌, ◌≤ℤ◌, ℕ, pos, ◌-ℤ◌, int_le, int_lt, true, false, true≢false, ◌&&◌, ◌||◌, Option, Some, None, refl, sym, ap, ◌∙◌, arith}
+use Rattle.std.specs.Prelude.{is_some}
 use Rattle.std.proofs.lemmas.Int.{ints}
 use Rattle.std.specs.Int.{is_positive}
-use Rattle.std.specs.Ordering.{int_eq}
 use Rattle.exo_tree.specs.Tree.{Kind, Control, Lit, Var, Field, StrideOf, Neg, Add, Sub, Mul, Div, Mod, Condition, True, False, Flag, FieldFlag, Lt, Le, Gt, Ge, Eq, And, Or}
 use Rattle.exo_meaning.specs.Scene.{Scene, number, holds, is_set}
-use Rattle.exo_meaning.specs.Units as units
-use Rattle.exo_meaning.specs.Units.{Sort, ControlName, BufferName, Scope, Reads, with_fields, plainly, sort_in, is_number, is_flag, is_of_literals, is_literal_number, is_control, is_condition}
+use Rattle.exo_meaning.specs.Units.{Sort, Scope, with_fields, plainly, sort_in, is_number, is_flag, is_of_literals, is_literal_number, is_control, is_condition}
 use Rattle.meaning_laws.specs.Substitute.{is_plain}
 use Rattle.meaning_laws.specs.Facts.{is_plain_condition}
 use Rattle.affine_forms.specs.Atoms.{Valuation, Variable, only, value}
-use Rattle.affine_forms.specs.Forms.{Allowed, is_affine}
+use Rattle.affine_forms.specs.Forms.{is_affine}
 use Rattle.affine_forms.specs.Formulas.{AllowedFlags, is_affine_condition, own_flag, moved, is_met}
 use Rattle.affine_forms.proofs.FormulaValues.{flag_is}
 use Rattle.affine_forms.specs.Laws.{NormalLaw, FormulaLaw}
 use Rattle.affine_places.specs.Readings.{extent_reading}
 use Rattle.check_facts_laws.proofs.Truths.{parts, joined}
-use Rattle.check_facts_laws.proofs.Affine.{Agrees, Allows, affine, same_number, same_truth}
+use Rattle.check_facts_laws.proofs.Affine.{Allows, affine}
 use Rattle.exo_effects.specs.Accesses.{own_flags, plain_form, plain_formula}
 use Rattle.effect_laws.specs.Covers.{names_in}
 

@@ -1,33 +1,26 @@
 -- What is known of a scene on the way through a piece.
-use Rattle.std.proofs.Common.{◌≡◌, ◌≤ℤ◌, ℕ, zero, suc, ℤ, pos, ◌-ℤ◌, ◌==◌, Bool, true, false, true≢false, cond, ◌&&◌, ◌||◌, List, [], ◌∷◌, ◌++◌, map, length, Option, Some, None, option_map, refl, sym, ap, ap₂, ◌∙◌, subst, eqb-true, inl, inr}
+use Rattle.std.proofs.Common.{◌≡◌, ◌≤ℤ◌, ℕ, ℤ, pos, ◌-ℤ◌, ◌==◌, Bool, true, false, true≢false, cond, ◌&&◌, List, [], ◌∷◌, ◌++◌, Option, Some, None, refl, sym, ap, ap₂, ◌∙◌, subst, eqb-true, inl, inr}
 use Rattle.std.specs.Prelude.{◌⊎◌, is_some, IsSome}
-use Rattle.std.specs.List.{list_all, list_any}
-use Rattle.exo_tree.specs.Tree.{Binder, Cell, Kind, Control, Coord, At, Span, Statement, Assign, Reduce, Config, Pass, If, For, Alloc, View, Call, Index}
-use Rattle.exo_meaning.specs.Scene.{Shape, Seen, Scene, Side, Point, Range, number, numbers, updated, whole, window, narrowed, then_do, where_true}
-use Rattle.exo_meaning.specs.State.{State, with_control, with_view, with_buffer, with_contents, on_scene}
-use Rattle.exo_meaning.specs.Calls.{Callee, all_positive}
-use Rattle.exo_meaning.specs.Value.{Undefined}
-use Rattle.exo_meaning.specs.Run.{World, step, tensor, roots_after}
+use Rattle.std.specs.List.{list_all}
+use Rattle.exo_tree.specs.Tree.{Binder, Cell, Coord, At, Span, Index}
+use Rattle.exo_meaning.specs.Scene.{Shape, Seen, Scene, Point, Range, updated, whole}
+use Rattle.exo_meaning.specs.State.{State, with_control, with_view, with_buffer}
 use Rattle.exo_meaning.specs.Orders.{Each}
-use Rattle.exo_meaning.specs.Units.{Sort, ControlName, BufferName, Scope, sort_in, with_name, is_new, is_flag, is_truth, has_rank, spans, view_sort, plainly, is_control, are_controls, is_coord, is_window, scope_after, is_statement}
+use Rattle.exo_meaning.specs.Units.{Sort, ControlName, BufferName, Scope, sort_in, with_name, is_new, is_flag}
 use Rattle.meaning_laws.specs.Facts.{Fact}
 use Rattle.meaning_laws.specs.Sound.{IsSameName}
 use Rattle.meaning_laws.proofs.FirstState.{new_is_none}
-use Rattle.meaning_laws.proofs.Names.{if_gives, step_names}
 use Rattle.meaning_laws.proofs.Sorted.{is_other}
 use Rattle.affine_forms.specs.Atoms.{Valuation}
-use Rattle.affine_forms.specs.Forms.{Allowed, is_affine}
+use Rattle.affine_forms.specs.Forms.{is_affine}
 use Rattle.affine_forms.specs.Formulas.{is_met}
-use Rattle.check_facts_laws.proofs.Truths.{parts, joined, self, none_some, some_injective}
+use Rattle.check_facts_laws.proofs.Truths.{parts, joined, self, some_injective}
 use Rattle.check_facts_laws.proofs.Affine.{Agrees, Grows, same_number, more_affine}
-use Rattle.check_facts_laws.proofs.Sides.{map_gives}
-use Rattle.inplace_laws.specs.Windows.{joined_coords}
 use Rattle.exo_effects.specs.Accesses.{guard_of}
-use Rattle.exo_effects.specs.Parts.{Part, Parts, window_of}
-use Rattle.exo_effects.specs.Uses.{Inside, past_statement}
+use Rattle.exo_effects.specs.Parts.{Part}
+use Rattle.exo_effects.specs.Uses.{Inside}
 use Rattle.effect_laws.specs.Covers.{names_in, is_affine_coord, sides_of, SeesPart, is_among}
-use Rattle.effect_laws.proofs.Forms.{bound_is_affine}
-use Rattle.effect_laws.proofs.Cells.{where_gives, each_weaken, each_join, narrowed_sides, joined_affine}
+use Rattle.effect_laws.proofs.Cells.{each_weaken, each_join}
 
 -- all values that agree on the names in scope meet the fact
 abbrev pub IsFirm : Scope → Scene → Fact → Type 0

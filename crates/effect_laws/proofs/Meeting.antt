@@ -1,5 +1,5 @@
 -- Two accesses that reach one cell meet: all that is asked of them holds for some values.
-use Rattle.std.proofs.Common.{◌≡◌, ◌<◌, ◌≤◌, ◌<ℤ◌, ℕ, zero, suc, ◌+◌, ◌*◌, max, ℤ, pos, Bool, true, false, ◌&&◌, List, [], ◌∷◌, ◌++◌, map, Option, Some, None, IfSome, option_map, slice_get, refl, sym, ap, ap₂, ◌∙◌, subst, subst₂, arith}
+use Rattle.std.proofs.Common.{◌≡◌, ◌<◌, ◌≤◌, ◌<ℤ◌, ℕ, zero, suc, ◌+◌, ◌*◌, max, ℤ, pos, true, false, List, [], ◌∷◌, ◌++◌, map, Option, Some, None, IfSome, option_map, slice_get, refl, sym, ap, ◌∙◌, subst, subst₂, arith}
 use Rattle.std.specs.Prelude.{get_or, flat_map}
 use Rattle.std.proofs.lemmas.Int.{ints}
 use Rattle.std.proofs.lemmas.Option.{slice_get-map}
@@ -11,7 +11,6 @@ use Rattle.affine_systems.specs.Laws.{SystemsLaw}
 use Rattle.check_facts_laws.proofs.Truths.{joined}
 use Rattle.exo_effects.specs.Accesses.{Access}
 use Rattle.exo_effects.specs.Orders.{Turn, OrderRow, Less, Greater, Order}
-use Rattle.exo_effects.specs.Renamed.{re_formula}
 use Rattle.exo_effects.specs.Fresh.{past_linear, past_formula, past_all, past_access, past_turn, past_order}
 use Rattle.exo_effects.specs.Cases.{HaveNoPoint}
 use Rattle.exo_effects.specs.Conflicts.{span_number, turns_apart, variable, bounds, re_turn, where_both, order_row, points, equations, asked, variables_of, copied_turns, copied, meeting}

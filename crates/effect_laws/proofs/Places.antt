@@ -1,20 +1,20 @@
 -- What names stand for at a place of a procedure, as their parts tell.
-use Rattle.std.proofs.Common.{◌≡◌, ℕ, ℤ, pos, ◌-ℤ◌, ◌==◌, Bool, true, false, true≢false, cond, not, ◌&&◌, ◌||◌, List, [], ◌∷◌, map, length, Option, Some, None, option_map, refl, sym, ap, ap₂, ◌∙◌, subst, eqb-true, arith}
-use Rattle.std.specs.Prelude.{IsSome, is_some}
+use Rattle.std.proofs.Common.{◌≡◌, ℕ, ℤ, pos, ◌-ℤ◌, ◌==◌, Bool, true, false, true≢false, cond, not, ◌&&◌, List, [], ◌∷◌, map, length, Option, Some, None, option_map, refl, sym, ap, ap₂, ◌∙◌, subst, eqb-true, arith}
+use Rattle.std.specs.Prelude.{IsSome}
 use Rattle.std.specs.List.{list_all}
 use Rattle.std.proofs.lemmas.Int.{ints}
-use Rattle.exo_tree.specs.Tree.{Binder, Cell, Kind, Index, Control, Coord, At, Span, Statement, Assign, Reduce, Config, Pass, If, For, Alloc, View, Call, Block, Param, ParamKind, ControlParam, TensorParam, WindowParam}
+use Rattle.exo_tree.specs.Tree.{Binder, Kind, Index, Control, Coord, At, Span, Statement, Assign, Reduce, Config, Pass, If, For, Alloc, View, Call, Block, Param, ParamKind, ControlParam, TensorParam, WindowParam}
 use Rattle.exo_tree.specs.Context.{Context, Here, After, InLoop, InThen, InElse, fill}
-use Rattle.exo_meaning.specs.Scene.{Seen, Scene, Side, Range, numbers, number, narrowed, window, whole}
+use Rattle.exo_meaning.specs.Scene.{Seen, Scene, Range, numbers, number, narrowed, window, whole}
 use Rattle.exo_meaning.specs.Calls.{Callee}
-use Rattle.exo_meaning.specs.Run.{tensor, roots_after}
+use Rattle.exo_meaning.specs.Run.{roots_after}
 use Rattle.exo_meaning.specs.Inputs.{IsArgument, AreArguments, is_buffer_of}
 use Rattle.exo_meaning.specs.Units.{Sort, ControlName, BufferName, Scope, sort_in, with_name, is_new, has_rank, spans, view_sort, plainly, with_fields, is_control, are_controls, is_condition, is_coord, is_window, is_empty, is_short, is_block, is_statement, is_param_kind, are_params, param_sort, scope_of, scope_after}
-use Rattle.meaning_laws.specs.Sound.{binds, on_way, IsSameName}
+use Rattle.meaning_laws.specs.Sound.{binds, on_way}
 use Rattle.meaning_laws.specs.Sorted.{scope_at}
 use Rattle.meaning_laws.specs.Made as made
 use Rattle.affine_forms.specs.Forms.{is_affine}
-use Rattle.check_facts_laws.proofs.Truths.{parts, joined, both_false, neither, one_of, on_left, on_right, self, none_some, some_injective}
+use Rattle.check_facts_laws.proofs.Truths.{parts, joined, both_false, on_left, on_right, self, none_some, some_injective}
 use Rattle.check_facts_laws.proofs.Affine.{same_number}
 use Rattle.check_facts_laws.proofs.Sides.{map_gives}
 use Rattle.exo_effects.specs.Parts.{Part, Parts, all_of, whole_of, window_of, with_kind, with_params, passed, parts_at}

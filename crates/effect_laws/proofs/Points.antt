@@ -1,12 +1,11 @@
 -- Values that meet formulas are a point of the system of one of their cases.
-use Rattle.std.proofs.Common.{◌≡◌, ◌≤ℤ◌, ℕ, ℤ, pos, negsuc, Bool, true, false, ◌&&◌, List, [], ◌∷◌, ◌++◌, map, refl, sym, ap, ap₂, ◌∙◌, subst, inl, inr}
-use Rattle.std.specs.Prelude.{◌⊎◌, flat_map}
+use Rattle.std.proofs.Common.{◌≡◌, ◌≤ℤ◌, ℤ, pos, negsuc, true, List, [], ◌∷◌, ◌++◌, map, refl, sym, ap, ap₂, ◌∙◌, subst, inl, inr}
 use Rattle.std.specs.List.{AllByRecursion}
 use Rattle.affine_forms.specs.Affine as sums
 use Rattle.affine_forms.specs.Affine.{Affine, Constraints, IsIntegerPoint, HasNoIntegerPoint}
 use Rattle.affine_forms.specs.Atoms.{Atom, Valuation, atom_value, constantly}
-use Rattle.affine_forms.specs.Formulas.{Constraint, AtLeastZero, IsZero, Formula, Says, row, product, cases, cases_of_all, is_met, all_met}
-use Rattle.affine_systems.specs.Systems.{Made, made_of, nothing, with_constraint, all_explained, sum_of, affine, equations_of, rows_of, system_of, system, failing_cases, KeepsKinds}
+use Rattle.affine_forms.specs.Formulas.{Constraint, AtLeastZero, IsZero, Formula, Says, row, product, cases, cases_of_all, all_met}
+use Rattle.affine_systems.specs.Systems.{Made, made_of, nothing, with_constraint, all_explained, sum_of, affine, equations_of, rows_of, system_of, system, KeepsKinds}
 use Rattle.affine_systems.specs.Laws.{HasPointIn, SystemsLaw}
 use Rattle.exo_effects.specs.Cases.{systems_of}
 

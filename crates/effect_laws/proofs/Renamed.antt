@@ -1,5 +1,5 @@
 -- Forms over other variables have their values where these have those of the first.
-use Rattle.std.proofs.Common.{◌≡◌, ◌<◌, ◌≤◌, ℕ, zero, suc, max, ℤ, pos, ◌+ℤ◌, ◌*ℤ◌, int_le, true, ◌&&◌, ◌||◌, List, [], ◌∷◌, map, refl, ap, ap₂, ◌∙◌, arith}
+use Rattle.std.proofs.Common.{◌≡◌, ◌<◌, ◌≤◌, ℕ, max, ℤ, pos, ◌+ℤ◌, ◌*ℤ◌, int_le, ◌&&◌, ◌||◌, List, [], ◌∷◌, map, refl, ap, ap₂, arith}
 use Rattle.std.proofs.Math.Nat.{le-max_left, le-max_right}
 use Rattle.std.specs.Int.{int_div_euclid}
 use Rattle.std.specs.Ordering.{int_eq}

@@ -1,7 +1,7 @@
 -- Turns of loops: what is known at a place is known there, and their numbers are within the bounds.
-use Rattle.std.proofs.Common.{◌≡◌, ◌≤ℤ◌, ◌<ℤ◌, ℕ, zero, suc, ℤ, ◌==◌, Bool, true, false, true≢false, cond, ◌&&◌, List, [], ◌∷◌, ◌++◌, map, Option, Some, None, IfSome, refl, sym, ap, ◌∙◌, subst, subst₂, slice_get}
+use Rattle.std.proofs.Common.{◌≡◌, ◌≤ℤ◌, ◌<ℤ◌, ℕ, zero, suc, ℤ, ◌==◌, true, false, true≢false, cond, ◌&&◌, List, [], ◌∷◌, ◌++◌, map, Some, None, refl, sym, ap, ◌∙◌, subst₂, slice_get}
 use Rattle.std.specs.Prelude.{IsSome, is_some}
-use Rattle.exo_tree.specs.Tree.{Kind, Index, Control, Program, Procedure}
+use Rattle.exo_tree.specs.Tree.{Index, Control, Program, Procedure}
 use Rattle.exo_meaning.specs.Scene.{Scene, number}
 use Rattle.exo_meaning.specs.State.{with_control}
 use Rattle.exo_meaning.specs.Orders.{Each}
@@ -11,13 +11,13 @@ use Rattle.affine_forms.specs.Laws.{NormalLaw}
 use Rattle.check_facts_laws.proofs.Truths.{parts, neither, none_some, some_injective, self}
 use Rattle.check_facts_laws.proofs.Affine.{same_number}
 use Rattle.exo_effects.specs.Accesses.{plain_form}
-use Rattle.exo_effects.specs.Orders.{Header, Turn, turn_of, OrderRow, Less, Greater}
+use Rattle.exo_effects.specs.Orders.{Header, Turn, turn_of}
 use Rattle.exo_effects.specs.Uses.{Inside}
 use Rattle.effect_laws.specs.Covers.{names_in}
 use Rattle.effect_laws.specs.Clear.{is_turn, IsWithin}
-use Rattle.effect_laws.specs.Apart.{with_turns, AreTurns, AreOrdered, scope_in, are_loops}
+use Rattle.effect_laws.specs.Apart.{with_turns, AreTurns, scope_in, are_loops}
 use Rattle.effect_laws.proofs.Forms.{bound_is_affine, value_is}
-use Rattle.effect_laws.proofs.Known.{Now, Further, name_further, now_inside}
+use Rattle.effect_laws.proofs.Known.{Now, name_further, now_inside}
 use Rattle.effect_laws.proofs.Covers.{owns}
 
 pub same_buffers : (hs : List Header) (ns : List ℤ) (scene : Scene) → (with_turns hs ns scene).buffers ≡ scene.buffers

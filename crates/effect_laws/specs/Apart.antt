@@ -14,13 +14,11 @@ use Rattle.exo_meaning.specs.Units.{is_control, is_block, field_kind}
 use Rattle.meaning_laws.specs.Pairs.{AreClear}
 use Rattle.meaning_laws.specs.Sorted.{MayRun, scope_there}
 use Rattle.meaning_laws.specs.Touched.{touched}
-use Rattle.affine_forms.specs.Affine.{HasNoIntegerPoint}
-use Rattle.affine_systems.specs.Outcomes.{Owed}
-use Rattle.check_facts.specs.Contexts.{context_of, context_fits}
+use Rattle.check_facts.specs.Contexts.{context_of}
 use Rattle.check_facts_laws.specs.Laws.{ComesToPlace}
-use Rattle.exo_effects.specs.Accesses.{plain_fits, accesses_of, accesses_fit}
+use Rattle.exo_effects.specs.Accesses.{accesses_of}
 use Rattle.exo_effects.specs.Orders.{Header, OrderRow, Less, Greater, order_of}
-use Rattle.exo_effects.specs.Conflicts.{Listing, Lists, conflicts_of}
+use Rattle.exo_effects.specs.Conflicts.{Listing, conflicts_of}
 use Rattle.exo_effects.specs.Parts.{Parts, no_parts, with_params, parts_at}
 use Rattle.exo_effects.specs.Uses.{modes_of}
 use Rattle.effect_laws.specs.Clear.{AreShownApart}

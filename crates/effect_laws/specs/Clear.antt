@@ -15,7 +15,7 @@ use Rattle.affine_systems.specs.Outcomes.{Owed}
 use Rattle.exo_effects.specs.Accesses.{Access}
 use Rattle.exo_effects.specs.Orders.{Turn, OrderRow, Less, Greater, Order}
 use Rattle.exo_effects.specs.Conflicts.{Lists, conflicts_of}
-use Rattle.effect_laws.specs.Covers.{Covers, is_among}
+use Rattle.effect_laws.specs.Covers.{Covers}
 
 -- one of these variables
 abbrev pub is_turn : List Turn → ℕ → Bool

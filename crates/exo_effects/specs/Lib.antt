@@ -7,3 +7,7 @@ pub mod Cases
 pub mod Orders
 pub mod Fresh
 pub mod Conflicts
+pub mod PlainAccess
+pub mod PlainGuards
+pub mod PlainWindows
+pub mod PlainParts
