@@ -61,7 +61,7 @@ impl Session {
     }
 
     /// Binds the name to a match in the version that another one holds, moved.
-    pub(crate) fn search(
+    fn search(
         &mut self,
         alloc: Global,
         bind: &Text,
@@ -81,6 +81,23 @@ impl Session {
         let place = self.moved_at(moves, found)?;
         self.bind(alloc, bind, Held::At(place.version, place.cursor))?;
         Ok(())
+    }
+
+    /// The same; the pattern goes.
+    pub(crate) fn search_owned(
+        &mut self,
+        alloc: Global,
+        bind: &Text,
+        of: &Text,
+        pattern: Pattern,
+        nth: u32,
+        moves: &[Move],
+    ) -> Result<(), Why>
+        requires { IsUnit (program self.old.unit) }
+        ensures performs { Performs (searched (versions self.old) bind.now (plain_pattern pattern) nth (moves_of moves.now) (version_of (versions self.old) of.now)) (versions self.new) result }
+        ensures unit { OnOk result (self.new.unit ≡ self.old.unit) }
+    {
+        self.search(alloc, bind, of, &pattern, nth, moves)
     }
 
     /// Binds the name to the cursor that another one holds, moved once and then further.
