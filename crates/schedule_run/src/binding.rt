@@ -21,6 +21,9 @@ use schedule_text::source::Move;
 use std::alloc::{AllocError, Global};
 use text_lexer::text::Text;
 
+/// The pattern goes.
+fn let_go(_pattern: Pattern) {}
+
 impl Session {
     /// Binds the name.
     fn bind(&mut self, alloc: Global, name: &Text, what: Held) -> Result<(), AllocError>
@@ -97,7 +100,9 @@ impl Session {
         ensures performs { Performs (searched (versions self.old) bind.now (plain_pattern pattern) nth (moves_of moves.now) (version_of (versions self.old) of.now)) (versions self.new) result }
         ensures unit { OnOk result (self.new.unit ≡ self.old.unit) }
     {
-        self.search(alloc, bind, of, &pattern, nth, moves)
+        let done = self.search(alloc, bind, of, &pattern, nth, moves);
+        let_go(pattern);
+        done
     }
 
     /// Binds the name to the cursor that another one holds, moved once and then further.

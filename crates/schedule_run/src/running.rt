@@ -207,9 +207,14 @@ impl Running {
         ensures performs { Performs (called (versions_in self.old) bind.now (call_of (plain_operation operation.entry)) (version_of (versions_in self.old) of.now)) (versions_in self.new) result }
         ensures running { OnOk result (IsRunning self.new) }
     {
-        self.apply(rt, alloc, bind, of, &operation, cache, gate)
+        let done = self.apply(rt, alloc, bind, of, &operation, cache, gate);
+        let_go(operation);
+        done
     }
 }
+
+/// The operation goes.
+fn let_go(_operation: Operation<'_>) {}
 
 /// The sum; one past the greatest number is answered as want of memory.
 fn total(a: usize, b: usize) -> Result<u64, Why>
