@@ -135,12 +135,12 @@ module _ (v : Versions) (from : ℕ) where
   descends_here (suc n) k t =
       ap (λ b. b || from_parent false (parent_in os k) (descends [] os from n)) t
 
-parents : (os : List Origin) (k : ℕ)
-    → parent_in (map configured os) k ≡ option_and_then (λ (o : Origin). o.parent) (slice_get os k)
+parents : (all : List Origin) (k : ℕ)
+    → parent_in (map configured all) k ≡ option_and_then (λ (o : Origin). o.parent) (slice_get all k)
 parents [] zero = refl
 parents [] (suc k) = refl
-parents (o ∷ os) zero = refl
-parents (o ∷ os) (suc k) = parents os k
+parents (o ∷ all) zero = refl
+parents (o ∷ all) (suc k) = parents all k
 
 pub parent_is : (v : Versions) (k : ℕ) → parent_in (map configured v.origins) k ≡ parent_at v k
 parent_is v k = parents v.origins k

@@ -21,6 +21,9 @@ use schedule_text::source::Move;
 use std::alloc::{AllocError, Global};
 use text_lexer::text::Text;
 
+/// The pattern goes.
+fn let_go(_pattern: Pattern) {}
+
 impl Session {
     /// Binds the name.
     fn bind(&mut self, alloc: Global, name: &Text, what: Held) -> Result<(), AllocError>
@@ -61,7 +64,7 @@ impl Session {
     }
 
     /// Binds the name to a match in the version that another one holds, moved.
-    pub(crate) fn search(
+    fn search(
         &mut self,
         alloc: Global,
         bind: &Text,
@@ -81,6 +84,25 @@ impl Session {
         let place = self.moved_at(moves, found)?;
         self.bind(alloc, bind, Held::At(place.version, place.cursor))?;
         Ok(())
+    }
+
+    /// The same; the pattern goes.
+    pub(crate) fn search_owned(
+        &mut self,
+        alloc: Global,
+        bind: &Text,
+        of: &Text,
+        pattern: Pattern,
+        nth: u32,
+        moves: &[Move],
+    ) -> Result<(), Why>
+        requires { IsUnit (program self.old.unit) }
+        ensures performs { Performs (searched (versions self.old) bind.now (plain_pattern pattern) nth (moves_of moves.now) (version_of (versions self.old) of.now)) (versions self.new) result }
+        ensures unit { OnOk result (self.new.unit ≡ self.old.unit) }
+    {
+        let done = self.search(alloc, bind, of, &pattern, nth, moves);
+        let_go(pattern);
+        done
     }
 
     /// Binds the name to the cursor that another one holds, moved once and then further.

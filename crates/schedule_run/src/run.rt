@@ -38,24 +38,24 @@ impl Running {
         &mut self,
         rt: &R,
         alloc: Global,
-        request: &Request<'_>,
+        request: Request<'_>,
         cache: &mut Cache,
         gate: &G,
     ) -> Result<(), Why>
         requires { IsRunning self.old }
-        ensures performs { Performs (performed (versions_in self.old) (act_of (plain_request request.now))) (versions_in self.new) result }
+        ensures performs { Performs (performed (versions_in self.old) (act_of (plain_request request.entry))) (versions_in self.new) result }
         ensures running { OnOk result (IsRunning self.new) }
     {
         match request {
-            Request::Apply(bind, of, operation) => self.apply(
+            Request::Apply(bind, of, operation) => self.apply_owned(
                 rt, alloc, bind, of, operation, cache, gate,
             ),
             Request::Search(bind, of, pattern, nth, moves) => self
                 .session
-                .search(alloc, bind, of, pattern, *nth, moves),
+                .search_owned(alloc, bind, of, pattern, nth, moves),
             Request::Moved(bind, of, first, more) => self
                 .session
-                .follow(alloc, bind, of, *first, more),
+                .follow(alloc, bind, of, first, more),
             Request::Emit(name) => self.session.emit(name),
         }
     }
@@ -75,7 +75,7 @@ impl Running {
     {
         let read = read_line(alloc, line)?;
         match read {
-            Ok(request) => self.perform(rt, alloc, &request, cache, gate),
+            Ok(request) => self.perform(rt, alloc, request, cache, gate),
             Err(fault) => Err(unasked(fault)),
         }
     }

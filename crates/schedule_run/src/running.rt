@@ -171,7 +171,7 @@ impl Running {
     }
 
     /// An operation on the version that a name holds.
-    pub(crate) fn apply<R: Threads + Sync, G: Gate>(
+    fn apply<R: Threads + Sync, G: Gate>(
         &mut self,
         rt: &R,
         alloc: Global,
@@ -191,7 +191,30 @@ impl Running {
         let made = self.plan(alloc, k, operation)?;
         self.add(rt, alloc, bind, k, made, cache, gate)
     }
+
+    /// The same; the operation goes.
+    pub(crate) fn apply_owned<R: Threads + Sync, G: Gate>(
+        &mut self,
+        rt: &R,
+        alloc: Global,
+        bind: &Text,
+        of: &Text,
+        operation: Operation<'_>,
+        cache: &mut Cache,
+        gate: &G,
+    ) -> Result<(), Why>
+        requires { IsRunning self.old }
+        ensures performs { Performs (called (versions_in self.old) bind.now (call_of (plain_operation operation.entry)) (version_of (versions_in self.old) of.now)) (versions_in self.new) result }
+        ensures running { OnOk result (IsRunning self.new) }
+    {
+        let done = self.apply(rt, alloc, bind, of, &operation, cache, gate);
+        let_go(operation);
+        done
+    }
 }
+
+/// The operation goes.
+fn let_go(_operation: Operation<'_>) {}
 
 /// The sum; one past the greatest number is answered as want of memory.
 fn total(a: usize, b: usize) -> Result<u64, Why>
