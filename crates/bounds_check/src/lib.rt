@@ -9,3 +9,4 @@ mod owed;
 
 pub use error::CheckError;
 pub use list::{obligations, obligations_with_writes};
+pub use owed::Owed;

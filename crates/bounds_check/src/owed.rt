@@ -1,4 +1,4 @@
-//! Obligations in their order, within the limits of a procedure.
+//! What is owed together, in its order and within the limits of a procedure.
 ghost use Rattle.std.specs.Prelude.{◌≡◌, ◌≤◌, ◌++◌, ◌∷◌, [], map, length};
 ghost use Rattle.std.specs.List.{sum_by};
 ghost use Rattle.affine_forms.specs.System.{plain_system};
@@ -18,9 +18,9 @@ const MOST_OBLIGATIONS: usize = 65_536;
 /// The most terms in the obligations of a procedure together.
 const MOST_TERMS: usize = 4_194_304;
 
-/// Obligations in their order, with the number of their terms.
+/// Obligations in their order: at most 65,536, with at most 4,194,304 terms together.
 #[derive(Drop)]
-pub(crate) struct Owed {
+pub struct Owed {
     items: Vec<Obligation>,
     terms: usize,
 }
@@ -59,7 +59,7 @@ fn system_terms(s: &System) -> usize
 
 impl Owed {
     /// Nothing is owed yet.
-    pub(crate) fn new(alloc: Global) -> Owed
+    pub fn new(alloc: Global) -> Owed
         ensures { result ≡ [] }
     {
         Owed {
@@ -85,7 +85,7 @@ impl Owed {
     }
 
     /// Puts obligations last, in their order. `TooManyObligations` where one passes a limit.
-    pub(crate) fn push_all(&mut self, more: Vec<Obligation>) -> Result<(), CheckError>
+    pub fn push_all(&mut self, more: Vec<Obligation>) -> Result<(), CheckError>
         ensures { Appended result self.old (map plain_obligation more.items) self.new }
     {
         // the proof learns here that what is owed already is within the limits
@@ -97,7 +97,7 @@ impl Owed {
     }
 
     /// The list alone.
-    pub(crate) fn into_items(self) -> Vec<Obligation>
+    pub fn into_items(self) -> Vec<Obligation>
         ensures { map plain_obligation result.items ≡ self }
     {
         let Owed { items, terms: _ } = self;

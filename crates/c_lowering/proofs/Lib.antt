@@ -2,12 +2,7 @@ pub mod Frames
 pub mod Scopes
 pub mod Offsets
 pub mod Steps
-pub mod Parameters
 pub mod Windows
 pub mod Lists
 pub mod Pairs
-pub mod Marking
-pub mod Agreed
 pub mod Reading
-pub mod Listing
-pub mod Ranks

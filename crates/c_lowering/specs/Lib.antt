@@ -1,4 +1,3 @@
-pub mod PlainPrinted
 pub mod PlainHole
 pub mod Reader
 pub mod Scope
@@ -7,4 +6,3 @@ pub mod Operations
 pub mod Behind
 pub mod Whole
 pub mod Heads
-pub mod Refusals

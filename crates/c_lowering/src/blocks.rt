@@ -248,7 +248,7 @@ fn open(
 
 /// The C of a block. The names that it binds are out of scope again behind it.
 #[cycle(lower)]
-pub(crate) fn lower_block(
+pub fn lower_block(
     alloc: Global,
     names: &Names<'_>,
     scope: &mut Vec<Entry>,

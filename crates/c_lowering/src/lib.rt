@@ -1,24 +1,16 @@
-//! The C of units, with windows, calls and instructions: `lower` makes its trees.
+//! The C of the body of a procedure, with windows, calls and instructions: `lower_block` makes its tree.
 #![tactic(auto)]
 
 mod allocations;
 mod arguments;
 mod blocks;
 mod calls;
-mod counted;
 mod expressions;
-mod field_marks;
-mod fields;
-mod functions;
-mod globals;
-mod headers;
 mod names;
 mod numbers;
-mod report;
 mod scope;
-mod structs;
 mod templates;
-mod units;
 
-pub use report::{LowerError, Printed};
-pub use units::lower;
+pub use blocks::lower_block;
+pub use names::{Names, field_name};
+pub use scope::{Entry, Form, c_type, enter};

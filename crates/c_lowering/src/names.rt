@@ -10,14 +10,14 @@ use std::alloc::{AllocError, Global};
 
 /// What names stand for in the C of a procedure.
 #[derive(Clone, Copy)]
-pub(crate) struct Names<'a> {
-    pub(crate) unit: &'a Unit,
-    pub(crate) binders: &'a NameTable,
+pub struct Names<'a> {
+    pub unit: &'a Unit,
+    pub binders: &'a NameTable,
 }
 
 impl Names<'_> {
     /// The C name of a binder; empty where the procedure has none of that number.
-    pub(crate) fn binder(&self, alloc: Global, x: Id) -> Result<String, AllocError>
+    pub fn binder(&self, alloc: Global, x: Id) -> Result<String, AllocError>
         ensures { IfOk result (λ s. string_bytes s ≡ (naming_of self.now).binder x.0) }
     {
         String::from_str(alloc, self.binders.name(x))
@@ -63,7 +63,7 @@ impl Names<'_> {
 }
 
 /// The C name of a configuration field.
-pub(crate) fn field_name(alloc: Global, field: &Field) -> Result<String, AllocError>
+pub fn field_name(alloc: Global, field: &Field) -> Result<String, AllocError>
     ensures { IfOk result (λ s. string_bytes s ≡ field_name (config_field field.now)) }
 {
     let name = joined(alloc, field.config.as_str(), field.name.as_str())?;

@@ -15,7 +15,7 @@ use std::alloc::AllocError;
 /// What a name is: a control value, a buffer with its cell type, dimensions and lanes, which are 0 where it has no
 /// vectors, or a window with its cell type and rank.
 #[derive(Drop)]
-pub(crate) enum Form {
+pub enum Form {
     Number,
     Tensor(Cell, Indices, u32),
     Window(Cell, usize),
@@ -23,9 +23,9 @@ pub(crate) enum Form {
 
 /// A name in scope. Of two entries of one number the later counts.
 #[derive(Drop)]
-pub(crate) struct Entry {
-    pub(crate) id: Id,
-    pub(crate) form: Form,
+pub struct Entry {
+    pub id: Id,
+    pub form: Form,
 }
 
 /// What a name is; None where it is not in scope.
@@ -42,7 +42,7 @@ pub(crate) fn find(scope: &[Entry], x: Id) -> Option<&Form>
 }
 
 /// A name comes into scope, behind those that are there.
-pub(crate) fn enter(scope: &mut Vec<Entry>, id: Id, form: Form) -> Result<(), AllocError>
+pub fn enter(scope: &mut Vec<Entry>, id: Id, form: Form) -> Result<(), AllocError>
     ensures forms { OnOk result (forms_in scope.new.items ≡ updated (forms_in scope.old.items) id.0 (form_of form)) }
     ensures kept { OnOk result (take (length scope.old.items) scope.new.items ≡ scope.old.items) }
 {
@@ -51,7 +51,7 @@ pub(crate) fn enter(scope: &mut Vec<Entry>, id: Id, form: Form) -> Result<(), Al
 }
 
 /// The C type of cells.
-pub(crate) fn c_type(cell: Cell) -> CType
+pub fn c_type(cell: Cell) -> CType
     ensures { plain_type result ≡ cell_type cell }
 {
     match cell {

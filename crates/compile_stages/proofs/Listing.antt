@@ -61,7 +61,7 @@ same_printings one other print k (p ∷ ps) same =
     ap₂ (λ (t : Bool) (l : List Printing). if t && is_function p then print k ∷ l else l) (same k (omega arith))
     (same_printings one other print (suc k) ps (λ j h. same j (omega (arith, h))))
 
--- ---- which are reached, as in c_lowering/proofs/Agreed
+-- ---- which are reached, as in c_printer/proofs/Agreed
 
 abbrev Same : ℕ → (ℕ → Bool) → (ℕ → Bool) → Type 0
 Same n one other = (j : ℕ) → j < n → one j ≡ other j

@@ -3,9 +3,9 @@ use Rattle.std.proofs.Common.{◌≡◌, ℕ, List, Option, Some, None, option_m
 use Rattle.memory_kinds.specs.declared.error.KindError.{KindError}
 use Rattle.c_tree.specs.CText.{text_of}
 use Rattle.c_lowered.specs.LoweredUnit.{lowered}
-use Rattle.c_lowering.specs.Refusals.{too_wide, name_clash, Refuses}
-use Rattle.c_lowering.specs.declared.report.LowerError.{LowerError}
-use Rattle.c_lowering.specs.declared.report.LowerError.TheVariants as lower
+use Rattle.c_printer.specs.Refusals.{too_wide, name_clash, Refuses}
+use Rattle.c_printer.specs.declared.report.LowerError.{LowerError}
+use Rattle.c_printer.specs.declared.report.LowerError.TheVariants as lower
 use Rattle.compile_stages.specs.Printings.{memory_fault}
 use Rattle.compile_stages.specs.Stops.{Stop}
 use Rattle.compile_stages.specs.Stages.{Stage, Passed, Stopped, Made, then_do, if_kept, if_narrow, named, if_named, text, lowered_text, printed}

@@ -19,7 +19,7 @@ use Rattle.memory_kinds.specs.declared.error.KindError.{KindError}
 use Rattle.memory_kinds.specs.Faults.{fault_of}
 use Rattle.c_tree.specs.CText.{text_of}
 use Rattle.c_lowered.specs.LoweredUnit.{Printing, is_listed, lowered}
-use Rattle.c_lowering.specs.Refusals.{too_wide, name_clash}
+use Rattle.c_printer.specs.Refusals.{too_wide, name_clash}
 use Rattle.c_follows.specs.Units.{AreLowered}
 use Rattle.c_unit_laws.specs.Listings.{PrintingsAreListings}
 use Rattle.unit_check.specs.Checked.{Shown, checked}

@@ -23,7 +23,7 @@ use Rattle.c_machine.specs.CRun.{Behaviour, run_file}
 use Rattle.c_machine.specs.Machine.{Outcome, Done, Thing, Machine}
 use Rattle.c_lowered.specs.Lowered.{Naming}
 use Rattle.c_lowered.specs.LoweredUnit.{Printing, lowered}
-use Rattle.c_lowering.specs.Refusals.{too_wide, name_clash}
+use Rattle.c_printer.specs.Refusals.{too_wide, name_clash}
 use Rattle.c_follows.specs.Simulation.{Declared, Layout, IsOutside, in_range, spot_of}
 use Rattle.c_follows.specs.Bodies.{TemplatesDoTheirBodies}
 use Rattle.c_follows.specs.Units.{naming_of, declared_in, IsListing, IsSameStart, EndsWell}

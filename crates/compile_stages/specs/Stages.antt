@@ -30,7 +30,7 @@ use Rattle.unit_check.specs.Preorder.{line_in}
 use Rattle.c_tree.specs.CText.{text_of}
 use Rattle.memory_kinds.specs.declared.error.KindError.{KindError}
 use Rattle.c_lowered.specs.LoweredUnit.{Printing, name_of, lowered}
-use Rattle.c_lowering.specs.Refusals.{too_wide, name_clash}
+use Rattle.c_printer.specs.Refusals.{too_wide, name_clash}
 use Rattle.schedule_text.specs.Tree as tree
 use Rattle.schedule_text.specs.Grammar as grammar
 use Rattle.schedule_text.specs.Texts.{line_numbers}

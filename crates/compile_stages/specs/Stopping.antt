@@ -12,10 +12,10 @@ use Rattle.rules_names.specs.declared.error.TypeKind.TheVariants as rule
 use Rattle.exo_tree.specs.Tree.{Program}
 use Rattle.memory_kinds.specs.declared.error.KindError.{KindError}
 use Rattle.c_lowered.specs.LoweredUnit.{name_of}
-use Rattle.c_lowering.specs.PlainPrinted.{printing}
-use Rattle.c_lowering.specs.declared.report.Printed.{Printed}
-use Rattle.c_lowering.specs.declared.report.LowerError.{LowerError}
-use Rattle.c_lowering.specs.declared.report.LowerError.TheVariants as lower
+use Rattle.c_printer.specs.PlainPrinted.{printing}
+use Rattle.c_printer.specs.declared.report.Printed.{Printed}
+use Rattle.c_printer.specs.declared.report.LowerError.{LowerError}
+use Rattle.c_printer.specs.declared.report.LowerError.TheVariants as lower
 use Rattle.schedule_text.specs.Views.{plain_lines, numbers}
 use Rattle.schedule_text.specs.declared.source.Schedule as text
 use Rattle.cursor_forward.specs.PlainProposal.{cause_of}

@@ -8,7 +8,7 @@ ghost use Rattle.compile_stages.specs.Stopping.{made_of, plain, stage, stop_of};
 
 use crate::memories::{MemoryFault, memory_fault};
 use crate::stop::Stop;
-use c_lowering::{LowerError, Printed, lower};
+use c_printer::{LowerError, Printed, lower};
 use c_tree::c_text;
 use exo_tree::{Name, ProcId, Unit};
 use std::alloc::{AllocError, Global};

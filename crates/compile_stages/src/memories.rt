@@ -1,11 +1,11 @@
 // Which of the printed procedures breaks a rule on memories.
 ghost use Rattle.std.specs.Prelude.{◌≡◌, map, option_map};
 ghost use Rattle.exo_tree.specs.PlainUnit.{program};
-ghost use Rattle.c_lowering.specs.PlainPrinted.{printing};
+ghost use Rattle.c_printer.specs.PlainPrinted.{printing};
 ghost use Rattle.compile_stages.specs.Printings.{memory_fault};
 ghost use Rattle.compile_stages.specs.Stopping.{fault_in};
 
-use c_lowering::Printed;
+use c_printer::Printed;
 use exo_tree::{ProcId, Unit};
 use memory_kinds::{KindError, check_memories};
 

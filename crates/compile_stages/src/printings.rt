@@ -6,13 +6,13 @@ ghost use Rattle.exo_calls.specs.Closed.{closed};
 ghost use Rattle.exo_calls.specs.Marked.{Marked, contains};
 ghost use Rattle.exo_calls.specs.Passed.{is_function};
 ghost use Rattle.c_lowered.specs.LoweredUnit.{name_of};
-ghost use Rattle.c_lowering.specs.PlainPrinted.{printing};
+ghost use Rattle.c_printer.specs.PlainPrinted.{printing};
 ghost use Rattle.c_unit_laws.specs.Listings.{printings_from};
 ghost use Rattle.schedule_versions.specs.Behind.{NothingDiffers};
 ghost use Rattle.schedule_run.specs.PlainVersions.{versions};
 ghost use Rattle.compile_stages.specs.Printings.{is_emitted, printing_of, printings_of};
 
-use c_lowering::Printed;
+use c_printer::Printed;
 use exo_calls::{Marks, Through, close};
 use exo_tree::{Name, Proc, ProcId, Unit};
 use schedule_run::Session;

@@ -1,16 +1,18 @@
 -- Closed examples of shifts that carry statements: two loops that change places, and a loop of two turns that is unrolled.
 use Rattle.std.proofs.Common.{◌≡◌, ℕ, List, [], ◌∷◌, Some, None, refl}
-use Rattle.std.specs.Prelude.{pos}
-use Rattle.exo_tree.specs.Tree.{I32, Param, TensorParam, Program, Binder, Lit, Const, Statement, Assign, Pass, For, Block, end, next, Procedure}
+use Rattle.std.specs.Prelude.{pos, true, false}
+use Rattle.exo_tree.specs.Tree.{I32, Param, TensorParam, MemoryKind, Program, Binder, Lit, Const, Statement, Assign, Pass, For, Block, end, next, Procedure}
 use Rattle.exo_tree.specs.Context.{Here, InLoop}
 use Rattle.exo_tree.specs.Places.{Main, Path, Opened}
 use Rattle.cursor_forward.specs.Shifts.{Shift, at_index, range, alone, Edits, edits_of, move_of}
 use Rattle.cursor_forward.specs.Forwards.{Carries, Forwards}
 use Rattle.cursor_patterns.specs.Patterns as pattern
 use Rattle.cursor_forward.specs.Cursors.{Node, Range, Gap, Before, parent_of, body_of, next_of, forward_of}
-use Rattle.cursor_forward.specs.Patterns.{find_of}
+use Rattle.cursor_forward.specs.Patterns.{CanBeSearched, find_of}
 use Rattle.cursor_forward.proofs.Lands.{step}
+use Rattle.exo_meaning.specs.Units.{IsUnit}
 use Rattle.cursor_forward.proofs.Forwarding.{moves_forward}
+use Rattle.cursor_forward.proofs.Searchable.{units_are_searchable}
 
 abbrev binder : ℕ → Binder
 binder n = record { id = n; name = n ∷ [] }
@@ -104,8 +106,11 @@ pass_moves_on = refl
 abbrev called_x : Param
 called_x = record { binder = record { id = 9; name = 120 ∷ [] }; kind = TensorParam I32 [] 0 }
 
+abbrev plain_cells : MemoryKind
+plain_cells = record { name = 68 ∷ []; ctype = []; lanes = 0; cell = None; stack = false; read = true; write = true; reduce = true; header = [] }
+
 abbrev a_unit : Program
-a_unit = record { procedures = record (with_body (nest 1 2)) { params = called_x ∷ [] } ∷ []; fields = []; memories = [] }
+a_unit = record { procedures = record (with_body (nest 1 2)) { params = called_x ∷ [] } ∷ []; fields = []; memories = plain_cells ∷ [] }
 
 pub store_is_found : find_of a_unit 0 (pattern.Assign (Some (120 ∷ []))) 0 ≡ Some (Node third)
 store_is_found = refl
@@ -133,3 +138,17 @@ block_follows = refl
 
 pub gap_follows : forward_of unroll_edits (Gap (at_index 1) Before) ≡ Some (Gap (at_index 2) Before)
 gap_follows = refl
+
+-- ---- a unit that can be searched
+
+a_unit_is_formed : IsUnit a_unit
+a_unit_is_formed = record {
+  procedures = (record { params = refl; asserts = refl; body = refl; filled = refl; ids = refl; distinct = refl; paths = refl; template = refl }, tt);
+  fields = refl;
+  memories = refl;
+  spaces = refl;
+  counts = refl;
+}
+
+pub it_can_be_searched : CanBeSearched (nest 1 2)
+it_can_be_searched = units_are_searchable a_unit 0 a_unit_is_formed

@@ -1,12 +1,12 @@
 -- The modes of the procedures of a unit, one after another.
-use Rattle.std.proofs.Common.{◌≡◌, ℕ, ◌||◌, Bool, List, [], ◌∷◌, ◌++◌, Option, option_map, slice_get, length, take, map, refl, ap, sym, ◌∙◌, append_assoc}
-use Rattle.std.proofs.lemmas.List.{append-nil, map-append}
+use Rattle.std.proofs.Common.{◌≡◌, ℕ, suc, ◌+◌, ◌≤◌, arith, length-append, ◌||◌, Bool, List, [], ◌∷◌, ◌++◌, Option, option_map, slice_get, length, take, map, refl, ap, sym, ◌∙◌, append_assoc}
+use Rattle.std.proofs.lemmas.List.{append-nil, map-append, length_push}
 use Rattle.std.proofs.lemmas.Option.{slice_get-map}
-use Rattle.exo_tree.specs.Tree.{Kind, Argument, Statement, Assign, Reduce, Config, Pass, If, For, Alloc, View, Call, Block, end, next, Procedure}
+use Rattle.exo_tree.specs.Tree.{Kind, Argument, Statement, Assign, Reduce, Config, Pass, If, For, Alloc, View, Call, Block, end, next, Procedure, Program}
 use Rattle.exo_meaning.specs.Calls.{Callee}
-use Rattle.exo_meaning.specs.Run.{roots_after, callees, callee_in, world_of}
+use Rattle.exo_meaning.specs.Run.{roots_after, callees, callee_in, world_of, kinds_of}
 use Rattle.exo_meaning.specs.Modes.{Mode, Modes, call_has, has_mode, step_has_mode, modes_at, modes_in, all_modes}
-use Rattle.exo_modes.specs.Marks.{block_marks, callable}
+use Rattle.exo_modes.specs.Marks.{block_marks, callable, AreFirst}
 use Rattle.exo_modes.proofs.Callees.{can_call, listed_taken, call_by, call_of}
 
 procedures_are : (kinds : ℕ → Kind) (above : List Callee) (qs : List Procedure) → map (λ c. c.procedure) (callees kinds above qs) ≡ map (λ c. c.procedure) above ++ qs
@@ -63,3 +63,37 @@ modes_split kinds above ms (q ∷ qs) rs = modes_split kinds (above ++ callee_in
 
 pub one_more : (kinds : ℕ → Kind) (ps qs : List Procedure) (p : Procedure) → ps ≡ qs ++ p ∷ [] → all_modes kinds [] [] ps ≡ all_modes kinds [] [] qs ++ modes_in (world_of kinds (callees kinds [] qs)) (modes_at (all_modes kinds [] [] qs)) p ∷ []
 one_more kinds ps qs p e = ap (all_modes kinds [] []) e ∙ modes_split kinds [] [] qs (p ∷ [])
+
+-- ---- the first procedures
+
+as_many : (kinds : ℕ → Kind) (above : List Callee) (ms : List Modes) (ps : List Procedure) → length (all_modes kinds above ms ps) ≡ length ms + length ps
+as_many kinds above ms [] = plus_none (length ms)
+  where
+    plus_none : (n : ℕ) → n ≡ n + 0
+    plus_none n = omega arith
+as_many kinds above ms (p ∷ ps) =
+    let world = world_of kinds above in
+    as_many kinds (above ++ callee_in world p ∷ []) (ms ++ modes_in world (modes_at ms) p ∷ []) ps
+    ∙ ap (λ n. n + length ps) (length_push ms (modes_in world (modes_at ms) p))
+    ∙ one_less (length ms) (length ps)
+  where
+    one_less : (m n : ℕ) → m + 1 + n ≡ m + suc n
+    one_less m n = omega arith
+
+take_first : (ps qs : List Procedure) → take (length ps) (ps ++ qs) ≡ ps
+take_first [] qs = refl
+take_first (p ∷ ps) qs = ap (λ l. p ∷ l) (take_first ps qs)
+
+-- a table begins with the modes of the first procedures, as many as it has
+pub begun : (ms : List Modes) (program : Program) → AreFirst ms program → (ms ≡ all_modes (kinds_of program.fields) [] [] (take (length ms) program.procedures)) × (length ms ≤ length program.procedures)
+begun ms program (first, rest, is, says) =
+    let kinds = kinds_of program.fields in
+    let many : length ms ≡ length first = omega (arith, ap length says, as_many kinds [] [] first) in
+    let all : first ≡ take (length ms) program.procedures = sym (ap (λ n. take n program.procedures) many ∙ ap (take (length first)) is ∙ take_first first rest) in (
+      says ∙ ap (all_modes kinds [] []) all,
+      (let whole : length program.procedures ≡ length first + length rest = ap length is ∙ length-append first rest in omega (arith, many, whole)),
+    )
+
+-- the modes of no procedure, to begin with
+pub none_first : (program : Program) → AreFirst [] program
+none_first program = ([], program.procedures, refl, refl)

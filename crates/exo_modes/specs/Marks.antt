@@ -1,5 +1,5 @@
 -- Which buffers are touched, and how, by the tables of the program.
-use Rattle.std.specs.Prelude.{ℕ, ◌==◌, ◌||◌, ◌&&◌, Bool, false, List, [], ◌∷◌, map, Option, Some, None, slice_get}
+use Rattle.std.specs.Prelude.{◌≡◌, ℕ, ◌++◌, ◌==◌, ◌||◌, ◌&&◌, Bool, false, List, [], ◌∷◌, map, Option, Some, None, slice_get}
 use Rattle.exo_tree.specs.Tree.{Datum, Argument, Block, Statement, Procedure, Program, Param}
 use Rattle.exo_meaning.specs.Calls.{Callee}
 use Rattle.exo_meaning.specs.Run.{kinds_of, call_writes}
@@ -53,6 +53,14 @@ step_marks ps ms root s m y = step_has_mode (callable ps ms) (modes_at ms) m roo
 -- the modes of each procedure of a program, in order
 abbrev pub modes_of : Program → List Modes
 modes_of program = all_modes (kinds_of program.fields) [] [] program.procedures
+
+-- the modes of the first procedures of a program
+abbrev pub AreFirst : List Modes → Program → Type 0
+AreFirst modes program =
+    (first : List Procedure)
+    × (rest : List Procedure)
+    × (program.procedures ≡ first ++ rest)
+    × (modes ≡ modes_of (record program { procedures = first }))
 
 -- how the procedure of number k touches its parameter of index i; not at all where there is none
 abbrev pub param_modes : Program → ℕ → ℕ → Mode → Bool

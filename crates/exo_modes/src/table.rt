@@ -3,7 +3,7 @@ ghost use Rattle.std.specs.Prelude.{◌≡◌, ◌++◌, ◌+◌, [], map, take,
 ghost use Rattle.exo_tree.specs.PlainUnit.{program};
 ghost use Rattle.exo_meaning.specs.Run.{kinds_of};
 ghost use Rattle.exo_meaning.specs.Modes.{Mode, modes_at, all_modes};
-ghost use Rattle.exo_modes.specs.Marks.{modes_of, param_modes};
+ghost use Rattle.exo_modes.specs.Marks.{modes_of, param_modes, AreFirst};
 ghost use Rattle.exo_modes.specs.Seen.{says, row_says, table_says};
 
 use crate::mode::Modes;
@@ -27,15 +27,25 @@ impl ModeTable {
         let mut table = ModeTable {
             rows: Vec::new(alloc),
         };
-        for p in unit.procs.as_slice() {
+        table.extend(alloc, unit)?;
+        Ok(table)
+    }
+
+    /// Adds the modes of the unit's procedures behind those of the table. Only their bodies are gone through.
+    pub fn extend(&mut self, alloc: Global, unit: &Unit) -> Result<(), AllocError>
+        requires { AreFirst (table_says self.old) (program unit.now) }
+        ensures { OnOk result (table_says self.new ≡ modes_of (program unit.now)) }
+    {
+        let procs = unit.procs.as_slice();
+        for k in self.rows.len()..procs.len() {
             let above = Above {
                 procs: &unit.procs,
-                rows: &table.rows,
+                rows: &self.rows,
             };
-            let row = row_of(alloc, &above, &p.body)?;
-            table.rows.push(row)?;
+            let row = row_of(alloc, &above, &procs[k].body)?;
+            self.rows.push(row)?;
         }
-        Ok(table)
+        Ok(())
     }
 
     /// How a procedure touches the buffer of that id; not at all where there is no such procedure.

@@ -1,5 +1,5 @@
 //! The step that exchanges the sides of a sum or product.
-ghost use Rattle.std.specs.Prelude.{◌≡◌, option_map, IfOk, refl};
+ghost use Rattle.std.specs.Prelude.{◌≡◌, option_map, IfOk};
 ghost use Rattle.exo_tree.specs.Tree.{block, end, next};
 ghost use Rattle.exo_tree.specs.PlainDatum.{datum};
 ghost use Rattle.exo_tree.specs.PlainStatement.{statement};
@@ -26,6 +26,7 @@ use exo_tree::{Block, DataExpr, Name, Path, Proc, Stmt};
 use made_trees::Fresh;
 use std::alloc::{AllocError, Global};
 use step_driver::{Exit, Operator, Piece, Target, Writing, propose, stays};
+use step_needs::Need;
 
 /// The operation that a form of expressions stands for.
 fn operation_of(form: &ExprForm) -> Option<Operation>
@@ -117,8 +118,6 @@ impl Operator for Commuting<'_> {
 
     ghost carrying = { λ o. commute_is_carrying (plain_expr_pattern o.pattern.now) };
 
-    ghost needless = { λ o s. refl };
-
     fn piece(&self, alloc: Global, on: &Target<'_>, at: &Path) -> Result<Piece, StepError> {
         let piece = Piece::one(at);
         commuted_block(alloc, self.pattern, on, &piece)?;
@@ -142,6 +141,15 @@ impl Operator for Commuting<'_> {
 
     fn refusal(&self, _alloc: Global, _on: &Target<'_>, _piece: &Piece) -> Result<(), StepError> {
         Ok(())
+    }
+
+    fn needs(
+        &self,
+        alloc: Global,
+        _on: &Target<'_>,
+        _piece: &Piece,
+    ) -> Result<Vec<Need>, AllocError> {
+        Ok(Vec::new(alloc))
     }
 
     fn shifts(

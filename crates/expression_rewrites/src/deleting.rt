@@ -1,5 +1,5 @@
 //! The step that deletes passes.
-ghost use Rattle.std.specs.Prelude.{◌≡◌, [], IfOk, refl};
+ghost use Rattle.std.specs.Prelude.{◌≡◌, [], IfOk};
 ghost use Rattle.exo_tree.specs.PlainUnit.{program};
 ghost use Rattle.exo_modes.specs.Marks.{modes_of};
 ghost use Rattle.exo_modes.specs.Seen.{table_says};
@@ -18,6 +18,7 @@ use exo_tree::{Block, Branch, Name, Path, Proc};
 use made_trees::Fresh;
 use std::alloc::{AllocError, Global};
 use step_driver::{Exit, Operator, Piece, Target, Writing, propose};
+use step_needs::Need;
 
 /// The step that deletes each `pass` that is not alone in its block. The whole body is replaced.
 #[derive(Drop)]
@@ -29,8 +30,6 @@ impl Operator for Deleting {
     ghost lawful = { λ o. delete_pass_is_lawful };
 
     ghost carrying = { λ o. delete_pass_is_carrying };
-
-    ghost needless = { λ o s. refl };
 
     fn piece(&self, _alloc: Global, on: &Target<'_>, _at: &Path) -> Result<Piece, StepError> {
         let count = on.proc.body.len();
@@ -58,6 +57,15 @@ impl Operator for Deleting {
 
     fn refusal(&self, _alloc: Global, _on: &Target<'_>, _piece: &Piece) -> Result<(), StepError> {
         Ok(())
+    }
+
+    fn needs(
+        &self,
+        alloc: Global,
+        _on: &Target<'_>,
+        _piece: &Piece,
+    ) -> Result<Vec<Need>, AllocError> {
+        Ok(Vec::new(alloc))
     }
 
     fn shifts(&self, alloc: Global, on: &Target<'_>, piece: &Piece) -> Result<Shifts, AllocError> {

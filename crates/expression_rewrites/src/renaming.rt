@@ -1,5 +1,5 @@
 //! Another name for a procedure.
-ghost use Rattle.std.specs.Prelude.{◌≡◌, [], IfOk, refl};
+ghost use Rattle.std.specs.Prelude.{◌≡◌, [], IfOk};
 ghost use Rattle.exo_tree.specs.PlainUnit.{program};
 ghost use Rattle.exo_modes.specs.Marks.{modes_of};
 ghost use Rattle.exo_modes.specs.Seen.{table_says};
@@ -16,6 +16,7 @@ use exo_tree::{Block, Branch, Name, Path, Proc, Step};
 use made_trees::Fresh;
 use std::alloc::{AllocError, Global};
 use step_driver::{Exit, Operator, Piece, Target, Writing, propose};
+use step_needs::Need;
 
 /// The step that gives a procedure another name. No statement is replaced.
 #[derive(Drop)]
@@ -29,8 +30,6 @@ impl Operator for Renaming<'_> {
     ghost lawful = { λ o. rename_is_lawful o.name.now };
 
     ghost carrying = { λ o. rename_is_carrying o.name.now };
-
-    ghost needless = { λ o s. refl };
 
     fn piece(&self, _alloc: Global, _on: &Target<'_>, _at: &Path) -> Result<Piece, StepError> {
         let mut path = Path::new();
@@ -58,6 +57,15 @@ impl Operator for Renaming<'_> {
 
     fn refusal(&self, _alloc: Global, _on: &Target<'_>, _piece: &Piece) -> Result<(), StepError> {
         Ok(())
+    }
+
+    fn needs(
+        &self,
+        alloc: Global,
+        _on: &Target<'_>,
+        _piece: &Piece,
+    ) -> Result<Vec<Need>, AllocError> {
+        Ok(Vec::new(alloc))
     }
 
     fn shifts(

@@ -8,21 +8,12 @@
 // The tallies were made by a model of the grammar that was written apart from the code (`bench/reader_tables`).
 
 use crate::tables;
+use case_texts::Change;
 use exo_reader::unit::{ReadError, ReadKind, read_unit};
 use std::alloc::{AllocError, Global};
 
-/// One change of a text at a byte.
-#[derive(Clone, Copy)]
-enum Change {
-    /// The text ends before the byte.
-    Cut,
-    Delete,
-    Double,
-    Replace(u8),
-}
-
 /// The changes of the longest unit.
-const CHANGES: [Change; 21] = [
+const CHANGES: &[Change] = &[
     Change::Cut,
     Change::Delete,
     Change::Double,
@@ -45,26 +36,6 @@ const CHANGES: [Change; 21] = [
     Change::Replace(0x7F),
     Change::Replace(0x80),
 ];
-
-/// The text after a change at a byte.
-fn changed(alloc: Global, text: &[u8], at: usize, change: Change) -> Result<Vec<u8>, AllocError> {
-    let before = text.get(..at).unwrap_or(text);
-    let here = text.get(at..).unwrap_or(&[]);
-    let byte = here.get(..1).unwrap_or(&[]);
-    let behind = here.get(1..).unwrap_or(&[]);
-    let mut out = before.to_vec(alloc)?;
-    match change {
-        Change::Cut => return Ok(out),
-        Change::Delete => {}
-        Change::Double => {
-            out.extend_from_slice(byte)?;
-            out.extend_from_slice(byte)?;
-        }
-        Change::Replace(other) => out.push(other)?,
-    }
-    out.extend_from_slice(behind)?;
-    Ok(out)
-}
 
 /// How often texts are read, how often they are refused for each reason, and the sums of the lines and columns of the refusals.
 #[derive(Clone, Copy)]
@@ -128,13 +99,14 @@ impl Tally {
         changes: &[Change],
     ) -> Result<(), AllocError> {
         for change in changes {
-            let text = changed(alloc, unit, at, *change)?;
+            let text = change.of(alloc, unit, at)?;
             self.count(alloc, &text);
         }
         Ok(())
     }
 
-    fn shown(&self, alloc: Global) -> Result<String, AllocError> {
+    /// Adds the counts, in a line.
+    fn push(&self, out: &mut String) -> Result<(), AllocError> {
         let Tally {
             read,
             foreign,
@@ -146,49 +118,82 @@ impl Tally {
             lines,
             columns,
         } = *self;
-        format!(in alloc;
-            ".{read} B{foreign} I{indented} S{syntax} D{deep} L{long} N{large} {lines}:{columns}"
+        write!(
+            out,
+            ".{read} B{foreign} I{indented} S{syntax} D{deep} L{long} N{large} {lines}:{columns}\n"
         )
     }
 }
 
-/// The tallies of some lines of a unit, from one on up to another, counted from 0.
-fn tallies(
-    alloc: Global,
-    unit: &[u8],
-    changes: &[Change],
-    lines: (u32, u32),
-) -> Result<String, AllocError> {
-    let mut out = String::new(alloc);
-    let mut tally = NOTHING;
-    let mut line = 0u32;
-    for (at, byte) in unit.iter().enumerate() {
-        let is_asked = lines.0 <= line && line < lines.1;
-        if is_asked {
-            tally.count_changes(alloc, unit, at, changes)?;
+/// A unit, and the changes that are made at each of its bytes.
+#[derive(Clone, Copy)]
+struct Changed<'a> {
+    unit: &'a [u8],
+    changes: &'a [Change],
+}
+
+impl<'a> Changed<'a> {
+    /// Adds the tally of the bytes from one up to another.
+    fn push_tally(
+        self,
+        alloc: Global,
+        from: usize,
+        to: usize,
+        out: &mut String,
+    ) -> Result<(), AllocError> {
+        let mut tally = NOTHING;
+        for at in from..to {
+            tally.count_changes(alloc, self.unit, at, self.changes)?;
         }
-        if *byte == b'\n' || at.saturating_add(1) == unit.len() {
-            if is_asked {
-                out.push_str(&tally.shown(alloc)?)?;
-                out.push('\n')?;
-            }
-            tally = NOTHING;
-            line = line.saturating_add(1);
-        }
+        tally.push(out)
     }
-    Ok(out)
+
+    /// Whether a line, or the unit, ends with that byte.
+    fn ends_line(self, at: usize) -> bool {
+        self.unit.get(at) == Some(&b'\n') || at.saturating_add(1) == self.unit.len()
+    }
+
+    /// Adds the tallies of the lines from one on up to another, counted from 0.
+    fn push_tallies(
+        self,
+        alloc: Global,
+        first: u32,
+        end: u32,
+        out: &mut String,
+    ) -> Result<(), AllocError> {
+        let mut line = 0u32;
+        let mut from = 0usize;
+        for at in 0..self.unit.len() {
+            if self.ends_line(at) {
+                let to = at.saturating_add(1);
+                if first <= line && line < end {
+                    self.push_tally(alloc, from, to, out)?;
+                }
+                from = to;
+                line = line.saturating_add(1);
+            }
+        }
+        Ok(())
+    }
 }
 
 /// Whether some lines of the longest unit, which takes long, have their tallies.
 fn longest_has(alloc: Global, from: u32, to: u32) -> Result<bool, AllocError> {
-    let found = tallies(alloc, tables::MANY_ROWS, &CHANGES, (from, to))?;
-    let mut wanted = tables::MANY_ROWS_TALLIES.lines().skip(from as usize);
-    for line in found.as_str().lines() {
-        if wanted.next() != Some(line) {
+    let longest = Changed {
+        unit: tables::MANY_ROWS,
+        changes: CHANGES,
+    };
+    let mut found = String::new(alloc);
+    longest.push_tallies(alloc, from, to, &mut found)?;
+    let wanted = tables::MANY_ROWS_TALLIES.lines().skip(from as usize);
+    let mut count = 0u32;
+    for (line, wanted) in found.as_str().lines().zip(wanted) {
+        if line != wanted {
             return Ok(false);
         }
+        count = count.saturating_add(1);
     }
-    Ok(!found.is_empty())
+    Ok(count == to.saturating_sub(from))
 }
 
 #[test]
@@ -209,48 +214,162 @@ fn last_lines_of_the_longest_unit(rt: HostRuntime) -> Result<(), AllocError> {
     Ok(())
 }
 
-#[test]
-fn all_bytes_at_each_place(rt: HostRuntime) -> Result<(), AllocError> {
-    let units = [
-        (tables::ADD3, tables::ADD3_TALLIES),
-        (tables::NOP, tables::NOP_TALLIES),
-        (tables::GEMM, tables::GEMM_TALLIES),
-        (tables::SHORT_LOOP, tables::SHORT_LOOP_TALLIES),
-        (tables::THIRTEEN, tables::THIRTEEN_TALLIES),
-        (tables::THIRTEEN_DIVIDED, tables::THIRTEEN_DIVIDED_TALLIES),
-        (tables::SKEWED, tables::SKEWED_TALLIES),
-        (tables::SKEWED_APART, tables::SKEWED_APART_TALLIES),
-        (tables::COLUMNS, tables::COLUMNS_TALLIES),
-        (tables::COLUMNS_READ, tables::COLUMNS_READ_TALLIES),
-        (tables::NO_TURN, tables::NO_TURN_TALLIES),
-        (tables::TURNS, tables::TURNS_TALLIES),
-        (tables::HALF, tables::HALF_TALLIES),
-        (tables::HALF_STAGED, tables::HALF_STAGED_TALLIES),
-        (tables::CONFIGURED, tables::CONFIGURED_TALLIES),
-        (tables::CONFIGURED_SHORT, tables::CONFIGURED_SHORT_TALLIES),
-        (tables::STEP8, tables::STEP8_TALLIES),
-        (tables::EVEN_ODD, tables::EVEN_ODD_TALLIES),
-        (tables::QUOTIENTS, tables::QUOTIENTS_TALLIES),
-        (tables::WRAPPED, tables::WRAPPED_TALLIES),
-        (tables::FILL, tables::FILL_TALLIES),
-        (tables::SHARED, tables::SHARED_TALLIES),
-        (tables::WIDE, tables::WIDE_TALLIES),
-        (tables::CUT_OFF, tables::CUT_OFF_TALLIES),
-        (tables::GENERATED, tables::GENERATED_TALLIES),
-        (tables::AVX2_CLASS, tables::AVX2_CLASS_TALLIES),
-        (tables::LOAD8, tables::LOAD8_TALLIES),
-        (tables::STORE8, tables::STORE8_TALLIES),
-        (tables::MAC8, tables::MAC8_TALLIES),
-        (tables::COLLOAD_ALONE, tables::COLLOAD_ALONE_TALLIES),
-        (tables::FORMS, tables::FORMS_TALLIES),
-    ];
-    let mut changes = Vec::new(rt.alloc());
+/// A unit, and its tallies.
+struct Row {
+    unit: &'static [u8],
+    tallies: &'static str,
+}
+
+/// The units in which all bytes are tried at each place.
+const ROWS: &[Row] = &[
+    Row {
+        unit: tables::ADD3,
+        tallies: tables::ADD3_TALLIES,
+    },
+    Row {
+        unit: tables::NOP,
+        tallies: tables::NOP_TALLIES,
+    },
+    Row {
+        unit: tables::GEMM,
+        tallies: tables::GEMM_TALLIES,
+    },
+    Row {
+        unit: tables::SHORT_LOOP,
+        tallies: tables::SHORT_LOOP_TALLIES,
+    },
+    Row {
+        unit: tables::THIRTEEN,
+        tallies: tables::THIRTEEN_TALLIES,
+    },
+    Row {
+        unit: tables::THIRTEEN_DIVIDED,
+        tallies: tables::THIRTEEN_DIVIDED_TALLIES,
+    },
+    Row {
+        unit: tables::SKEWED,
+        tallies: tables::SKEWED_TALLIES,
+    },
+    Row {
+        unit: tables::SKEWED_APART,
+        tallies: tables::SKEWED_APART_TALLIES,
+    },
+    Row {
+        unit: tables::COLUMNS,
+        tallies: tables::COLUMNS_TALLIES,
+    },
+    Row {
+        unit: tables::COLUMNS_READ,
+        tallies: tables::COLUMNS_READ_TALLIES,
+    },
+    Row {
+        unit: tables::NO_TURN,
+        tallies: tables::NO_TURN_TALLIES,
+    },
+    Row {
+        unit: tables::TURNS,
+        tallies: tables::TURNS_TALLIES,
+    },
+    Row {
+        unit: tables::HALF,
+        tallies: tables::HALF_TALLIES,
+    },
+    Row {
+        unit: tables::HALF_STAGED,
+        tallies: tables::HALF_STAGED_TALLIES,
+    },
+    Row {
+        unit: tables::CONFIGURED,
+        tallies: tables::CONFIGURED_TALLIES,
+    },
+    Row {
+        unit: tables::CONFIGURED_SHORT,
+        tallies: tables::CONFIGURED_SHORT_TALLIES,
+    },
+    Row {
+        unit: tables::STEP8,
+        tallies: tables::STEP8_TALLIES,
+    },
+    Row {
+        unit: tables::EVEN_ODD,
+        tallies: tables::EVEN_ODD_TALLIES,
+    },
+    Row {
+        unit: tables::QUOTIENTS,
+        tallies: tables::QUOTIENTS_TALLIES,
+    },
+    Row {
+        unit: tables::WRAPPED,
+        tallies: tables::WRAPPED_TALLIES,
+    },
+    Row {
+        unit: tables::FILL,
+        tallies: tables::FILL_TALLIES,
+    },
+    Row {
+        unit: tables::SHARED,
+        tallies: tables::SHARED_TALLIES,
+    },
+    Row {
+        unit: tables::WIDE,
+        tallies: tables::WIDE_TALLIES,
+    },
+    Row {
+        unit: tables::CUT_OFF,
+        tallies: tables::CUT_OFF_TALLIES,
+    },
+    Row {
+        unit: tables::GENERATED,
+        tallies: tables::GENERATED_TALLIES,
+    },
+    Row {
+        unit: tables::AVX2_CLASS,
+        tallies: tables::AVX2_CLASS_TALLIES,
+    },
+    Row {
+        unit: tables::LOAD8,
+        tallies: tables::LOAD8_TALLIES,
+    },
+    Row {
+        unit: tables::STORE8,
+        tallies: tables::STORE8_TALLIES,
+    },
+    Row {
+        unit: tables::MAC8,
+        tallies: tables::MAC8_TALLIES,
+    },
+    Row {
+        unit: tables::COLLOAD_ALONE,
+        tallies: tables::COLLOAD_ALONE_TALLIES,
+    },
+    Row {
+        unit: tables::FORMS,
+        tallies: tables::FORMS_TALLIES,
+    },
+];
+
+/// All bytes in place of one.
+fn all_bytes(alloc: Global) -> Result<Vec<Change>, AllocError> {
+    let mut changes = Vec::new(alloc);
     for byte in 0..=255u8 {
         changes.push(Change::Replace(byte))?;
     }
-    for (unit, wanted) in units {
-        let found = tallies(rt.alloc(), unit, &changes, (0, u32::MAX))?;
-        assert_eq!(rt; found.as_str().trim_end(), wanted);
+    Ok(changes)
+}
+
+/// The tallies of a unit in which these changes are made.
+fn tallies(alloc: Global, unit: &[u8], changes: &[Change]) -> Result<String, AllocError> {
+    let mut out = String::new(alloc);
+    Changed { unit, changes }.push_tallies(alloc, 0, u32::MAX, &mut out)?;
+    Ok(out)
+}
+
+#[test]
+fn all_bytes_at_each_place(rt: HostRuntime) -> Result<(), AllocError> {
+    let changes = all_bytes(rt.alloc())?;
+    for row in ROWS {
+        let found = tallies(rt.alloc(), row.unit, &changes)?;
+        assert_eq!(rt; found.as_str().trim_end(), row.tallies);
     }
     Ok(())
 }

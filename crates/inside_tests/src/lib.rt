@@ -1,44 +1,9 @@
-//! Tables of what no command shows: tokens, strings of schedules, normal forms, systems and the verdicts on them, facts at places,
-//! claims, modes, texts of trees, and edits of trees.
+//! Tables of what no command shows: units with a byte changed, and cursors. Crate `inside_cases` has those that are text.
 #![tactic(auto)]
 
 #[cfg(test)]
-mod agreement;
-#[cfg(test)]
 mod changes;
 #[cfg(test)]
-mod claims;
-#[cfg(test)]
-mod discharge;
-#[cfg(test)]
-mod edits;
-#[cfg(test)]
-mod effects;
-#[cfg(test)]
-mod forms;
-#[cfg(test)]
-mod lexis;
-#[cfg(test)]
-mod names;
-#[cfg(test)]
-mod place;
-#[cfg(test)]
-mod places;
-#[cfg(test)]
-mod rules;
-#[cfg(test)]
-mod scopes;
-#[cfg(test)]
-mod shown;
-#[cfg(test)]
-mod strings;
-#[cfg(test)]
-mod systems;
+mod cursors;
 #[cfg(test)]
 mod tables;
-#[cfg(test)]
-mod texts;
-#[cfg(test)]
-mod unit;
-#[cfg(test)]
-mod verdicts;

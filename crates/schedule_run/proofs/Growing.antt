@@ -3,7 +3,6 @@ use Rattle.std.proofs.Common.{◌≡◌, ◌≤◌, ◌<◌, ◌+◌, ℕ, zero,
 use Rattle.std.proofs.Common.{◌++◌, map, length, Option, Some, None, refl, sym, ap, ◌∙◌, subst}
 use Rattle.std.proofs.Common.{arith, append_assoc, append-nil, ◌⊎◌, inl, inr}
 use Rattle.std.proofs.lemmas.List.{length_push}
-use Rattle.std.proofs.lemmas.Option.{slice_get_past}
 use Rattle.std.specs.Prelude.{slice_get, if◌then◌else◌, option_and_then, nat_lt}
 use Rattle.exo_tree.specs.Tree.{Procedure, Program}
 use Rattle.bounds_check.specs.Obligations.{Fault, list_fault}
@@ -19,7 +18,7 @@ use Rattle.tree_rules_laws.specs.Versions.{with_version}
 use Rattle.schedule_text.specs.Tree as tree
 use Rattle.schedule_calls.specs.Requests.{Move}
 use Rattle.schedule_versions.specs.Versions.{Origin, of_text, made_of, Versions, started}
-use Rattle.schedule_versions.specs.Versions.{version_at, version_of, held, bound, with_step}
+use Rattle.schedule_versions.specs.Versions.{version_at, version_of, held, with_step}
 use Rattle.schedule_versions.specs.Places.{Sought, Got, Lost, Place, then_seek, moved_at, matched}
 use Rattle.schedule_versions.specs.Places.{parent_at}
 use Rattle.schedule_versions.specs.Lines.{Why, BadArguments, Progress, Went, Refused, target}
@@ -137,7 +136,7 @@ get_old (x ∷ xs) y (suc k) h = get_old xs y k (less h)
     less : suc k < suc (length xs) → k < length xs
     less h = omega arith
 
-get_last : {A : Type 0} (xs : List A) (y : A) → slice_get (xs ++ y ∷ []) (length xs) ≡ Some y
+pub get_last : {A : Type 0} (xs : List A) (y : A) → slice_get (xs ++ y ∷ []) (length xs) ≡ Some y
 get_last [] y = refl
 get_last (x ∷ xs) y = get_last xs y
 

@@ -10,13 +10,13 @@ use Rattle.schedule_text.specs.Tree as tree
 use Rattle.schedule_calls.specs.Requests.{Request}
 use Rattle.schedule_versions.specs.Versions.{Origin, configured, Versions, started}
 use Rattle.schedule_versions.specs.Places.{parent_at}
-use Rattle.schedule_versions.specs.Lines.{Why, Act, Faulty, Went, performed, Outcome, Done, Stopped}
+use Rattle.schedule_versions.specs.Lines.{Act, Went, performed, Outcome, Done}
 use Rattle.schedule_versions.specs.Lines.{run_from, behind}
 use Rattle.schedule_versions.specs.Laws.{AreDerived, HasRoom, VersionsRefine, VersionsKeepHeads}
 use Rattle.schedule_operators.specs.Operators.{act_of, SchedulesDerive}
 use Rattle.schedule_run.specs.Runs.{IsAct, asked, unknown, bad, LinesRun, ends, stops, goes}
 use Rattle.schedule_run.specs.Roots.{root_in}
-use Rattle.schedule_run.specs.Laws.{IsScheduled, AreVersionsOf, AreKept, SchedulesKeep}
+use Rattle.schedule_run.specs.Laws.{AreVersionsOf, SchedulesKeep}
 use Rattle.schedule_run.proofs.Once.{refused_went}
 use Rattle.schedule_run.proofs.Growing.{IsGrown, started_is_grown, stopped_done, lines_grow}
 

@@ -1,5 +1,12 @@
-mod Once
-mod Growing
-mod Keeping
-mod Room
-mod Rooting
+pub mod Once
+pub mod Growing
+pub mod Keeping
+pub mod Room
+pub mod Names
+pub mod Climbing
+pub mod Writing
+pub mod Answering
+pub mod Stepping
+pub mod Plans
+pub mod Going
+pub mod Lists

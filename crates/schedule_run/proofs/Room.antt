@@ -1,6 +1,6 @@
 -- A unit of few procedures with low ids has room for the lines of a schedule.
 use Rattle.std.proofs.Common.{◌≡◌, ◌≤◌, ◌<◌, ◌+◌, ◌*◌, ◌^◌, ℕ, zero, suc, max, true, List, [], ◌∷◌}
-use Rattle.std.proofs.Common.{length, Some, None, subst, sym, arith}
+use Rattle.std.proofs.Common.{length, Some, None, subst, arith}
 use Rattle.std.specs.Prelude.{slice_get, nat_lt}
 use Rattle.std.specs.List.{list_all}
 use Rattle.std.proofs.lemmas.Bool.{and_parts}

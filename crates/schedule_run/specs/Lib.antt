@@ -1,6 +1,10 @@
 pub mod Runs
 pub mod Roots
+pub mod Ways
+pub mod Planned
+pub mod PlainPlace
 pub mod PlainVersions
 pub mod PlainWhy
+pub mod Running
 pub mod Outcomes
 pub mod Laws

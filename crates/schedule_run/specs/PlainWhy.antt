@@ -5,6 +5,12 @@ use Rattle.bounds_check.specs.Obligations.{Fault, Wide, ManyCases, LargeSystem, 
 use Rattle.bounds_check.specs.declared.error.CheckError.{CheckError}
 use Rattle.bounds_check.specs.declared.error.CheckError.TheVariants as check
 use Rattle.cursor_forward.specs.PlainProposal.{cause_of}
+use Rattle.cursor_forward.specs.declared.proposal.StepError.{StepError}
+use Rattle.cursor_forward.specs.declared.proposal.StepError.TheVariants as step
+use Rattle.unit_check.specs.declared.refused.Why as shown
+use Rattle.unit_check.specs.declared.refused.Why.TheVariants as shown_why
+use Rattle.schedule_calls.specs.declared.request.LineFault.{LineFault}
+use Rattle.schedule_calls.specs.declared.request.LineFault.TheVariants as fault
 use Rattle.schedule_versions.specs.Places as plain
 use Rattle.schedule_versions.specs.Lines as plain_why
 use Rattle.schedule_run.specs.declared.why.Missing.{Missing}
@@ -39,3 +45,25 @@ Says IsMeant (why.Step e) = MatchOption (cause_of e) ⊥ (λ c. IsMeant (plain_w
 Says IsMeant (why.Check e) = MatchOption (fault_of e) ⊥ (λ f. IsMeant (plain_why.Check f))
 Says IsMeant (why.NotShown what place verdict) = IsMeant (plain_why.NotShown what place verdict)
 Says IsMeant why.Memory = ⊤
+
+-- ---- refusals of lower calls; none is of want of memory
+
+abbrev pub why_of_step : StepError → Why
+why_of_step step.Memory = why.Memory
+why_of_step (step.Form form.Memory) = why.Memory
+why_of_step e = why.Step e
+
+abbrev pub why_of_list : CheckError → Why
+why_of_list check.Memory = why.Memory
+why_of_list e = why.Check e
+
+abbrev pub why_of_show : shown.Why → Why
+why_of_show (shown_why.Check e) = why.Check e
+why_of_show (shown_why.NotShown what place verdict) = why.NotShown what place verdict
+why_of_show shown_why.Memory = why.Memory
+
+-- ---- a line that asks nothing
+
+abbrev pub why_of_line : LineFault → Why
+why_of_line fault.UnknownOperator = why.UnknownOperator
+why_of_line fault.BadArguments = why.BadArguments

@@ -1,10 +1,15 @@
 //! Runs the lines of a schedule: what each asks, and the versions that they make.
 #![tactic(auto)]
 
+mod binding;
+mod cursors;
 pub mod laws;
+mod planning;
 mod run;
+mod running;
 mod session;
 mod why;
+mod writes;
 
 pub use run::run_schedule;
 pub use session::{Binding, Held, Origin, Session};

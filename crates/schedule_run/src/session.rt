@@ -1,11 +1,17 @@
 //! Versions: the procedures of a text and those that steps made of them.
-ghost use Rattle.std.specs.Prelude.{◌≡◌, option_map};
+ghost use Rattle.std.specs.Prelude.{◌≡◌, IfOk, MatchResult, option_map};
+ghost use Rattle.std.specs.Option.{option_copied};
+ghost use Rattle.std.specs.Str.{bytes_eq};
+ghost use Rattle.exo_tree.specs.PlainUnit.{program};
+ghost use Rattle.schedule_versions.specs.Versions.{of_text, started, version_of};
+ghost use Rattle.schedule_versions.specs.Versions as plain;
 ghost use Rattle.schedule_versions.specs.Places.{parent_at};
-ghost use Rattle.schedule_run.specs.PlainVersions.{versions};
+ghost use Rattle.schedule_run.specs.PlainVersions.{origin, held, versions};
 ghost use Rattle.schedule_run.specs.Roots.{root_of};
 
-use cursor_forward::{Cursor, Edits, Side};
+use cursor_forward::{Cursor, Edits, Shifts, Side};
 use exo_tree::{FieldId, Name, Path, ProcId, Unit};
+use std::alloc::{AllocError, Global};
 
 /// How a version was made.
 #[derive(Drop)]
@@ -51,25 +57,107 @@ pub struct Session {
     pub obligations: u64,
 }
 
+/// The number of a version; more of them than numbers are taken as want of memory.
+pub(crate) fn number_of(index: usize) -> Result<ProcId, AllocError>
+    ensures { IfOk result (λ k. k.0 ≡ index) }
+{
+    if index > 4294967295 {
+        return Err(AllocError);
+    }
+    Ok(ProcId(index as u32))
+}
+
+/// Whether this is what the name holds.
+fn is_named(binding: &Binding, name: &[u8]) -> bool
+    ensures { result ≡ bytes_eq binding.now.name name.now }
+{
+    binding.name.as_str().as_bytes() == name
+}
+
+/// The origin of a procedure of the text.
+fn origin_of_text(alloc: Global) -> Origin
+    ensures { origin result ≡ of_text }
+{
+    Origin {
+        parent: None,
+        edits: Edits::new(Path::new(), 0, 0, Shifts::new(alloc)),
+        place: Path::new(),
+        side: Side::Before,
+        fields: Vec::new(alloc),
+    }
+}
+
 impl Session {
+    /// The versions before the first line: each procedure of the text, under its name. So many obligations were shown.
+    pub(crate) fn start(alloc: Global, unit: Unit, shown: u64) -> Result<Session, AllocError>
+        ensures { IfOk result (λ s. versions s ≡ started (program unit) shown) }
+    {
+        let mut origins = Vec::new(alloc);
+        let mut names = Vec::new(alloc);
+        for p in unit.procs.as_slice() {
+            let number = number_of(origins.len())?;
+            let name = p.name.duplicate(alloc)?;
+            names.push(Binding {
+                name,
+                held: Held::Version(number),
+            })?;
+            origins.push(origin_of_text(alloc))?;
+        }
+        Ok(Session {
+            unit,
+            origins,
+            names,
+            emitted: Vec::new(alloc),
+            steps: 0,
+            obligations: shown,
+        })
+    }
+
+    /// What the name holds: its latest binding.
+    pub(crate) fn held(&self, name: &[u8]) -> Option<&Held>
+        ensures { option_map held (option_copied result) ≡ plain.held (versions self.now) name.now }
+    {
+        let mut k = self.names.len();
+        while k > 0 {
+            k -= 1;
+            let binding = &self.names[k];
+            if is_named(binding, name) {
+                return Some(&binding.held);
+            }
+        }
+        None
+    }
+
+    /// The version that the name holds.
+    pub(crate) fn version_of(&self, name: &[u8]) -> Option<ProcId>
+        ensures { option_map (λ k. k.0) result ≡ version_of (versions self.now) name.now }
+    {
+        match self.held(name)? {
+            Held::Version(k) => Some(*k),
+            Held::At(_, _) => None,
+        }
+    }
+
+    /// The version of which a version was made.
+    pub(crate) fn parent(&self, k: ProcId) -> Option<ProcId>
+        ensures { option_map (λ j. j.0) result ≡ parent_at (versions self.now) k.0 }
+    {
+        self.origins.get(k.0 as usize)?.parent
+    }
+
     /// The procedure of the text of which a version comes.
     pub fn root(&self, k: ProcId) -> ProcId
         ensures { result.0 ≡ root_of (versions self.now) k.0 }
     {
         let mut root = k;
-        for _ in 0..k.0 {
+        let mut left = k.0;
+        while left > 0 {
+            left -= 1;
             match self.parent(root) {
-                Some(parent) => root = parent,
+                Some(above) => root = above,
                 None => return root,
             }
         }
         root
-    }
-
-    /// The version of which a version was made.
-    fn parent(&self, k: ProcId) -> Option<ProcId>
-        ensures { option_map (λ j. j.0) result ≡ parent_at (versions self.now) k.0 }
-    {
-        self.origins.get(k.0 as usize)?.parent
     }
 }

@@ -1,8 +1,14 @@
 //! Why a line is refused.
+ghost use Rattle.std.specs.Prelude.{◌≡◌};
+ghost use Rattle.schedule_run.specs.PlainWhy.{why_of_step, why_of_list, why_of_show};
+ghost use Rattle.schedule_run.specs.declared.why.Why.TheVariants as why;
+
+use affine_forms::FormError;
 use affine_prover::Verdict;
 use bounds_check::CheckError;
 use cursor_forward::StepError;
 use exo_tree::{Path, Text};
+use std::alloc::{AllocError, AllocFailed};
 
 /// Why there is no cursor.
 #[derive(Clone, Copy, Debug, PartialEq, Eq)]
@@ -52,4 +58,70 @@ pub enum Why {
 pub struct Refused {
     pub index: usize,
     pub why: Why,
+}
+
+impl From<AllocError> for Why {
+    ghost from_gives = { λ _ w. w ≡ why.Memory };
+
+    fn from(_error: AllocError) -> Why {
+        Why::Memory
+    }
+}
+
+impl<T: Drop> From<AllocFailed<T>> for Why {
+    ghost from_gives = { λ _ w. w ≡ why.Memory };
+
+    fn from(_error: AllocFailed<T>) -> Why {
+        Why::Memory
+    }
+}
+
+impl From<Missing> for Why {
+    ghost from_gives = { λ m w. w ≡ why.NoPlace m };
+
+    fn from(missing: Missing) -> Why {
+        Why::NoPlace(missing)
+    }
+}
+
+impl From<StepError> for Why {
+    ghost from_gives = { λ e w. w ≡ why_of_step e };
+
+    fn from(error: StepError) -> Why {
+        match error {
+            StepError::Memory | StepError::Form(FormError::Memory) => Why::Memory,
+            other => Why::Step(other),
+        }
+    }
+}
+
+impl From<CheckError> for Why {
+    ghost from_gives = { λ e w. w ≡ why_of_list e };
+
+    fn from(error: CheckError) -> Why {
+        match error {
+            CheckError::Memory => Why::Memory,
+            other => Why::Check(other),
+        }
+    }
+}
+
+impl From<unit_check::Why> for Why {
+    ghost from_gives = { λ e w. w ≡ why_of_show e };
+
+    fn from(error: unit_check::Why) -> Why {
+        match error {
+            unit_check::Why::Check(e) => Why::Check(e),
+            unit_check::Why::NotShown {
+                what,
+                place,
+                verdict,
+            } => Why::NotShown {
+                what,
+                place,
+                verdict,
+            },
+            unit_check::Why::Memory => Why::Memory,
+        }
+    }
 }

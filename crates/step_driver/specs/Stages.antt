@@ -9,11 +9,12 @@ use Rattle.tree_rules.specs.Findings.{findings_of_body, findings_of_version}
 use Rattle.made_trees.specs.Ids.{next_id}
 use Rattle.made_trees.specs.Names.{named_copies}
 use Rattle.cursor_forward.specs.Causes.{Cause}
-use Rattle.cursor_forward.specs.Shifts.{edits_of}
+use Rattle.cursor_forward.specs.Shifts.{Edits, edits_of}
 use Rattle.cursor_forward.specs.Proposals.{Plan}
 use Rattle.step_rules.specs.Rule.{Tried, Got, Spot, Simplified, Rule}
 use Rattle.step_rules.specs.Owing.{shape_alone, owed_needs}
-use Rattle.step_rules.specs.Answer.{then_try, unless, broken, body_with, result, plan}
+use Rattle.made_trees.specs.Passes.{or_pass}
+use Rattle.step_rules.specs.Answer.{then_try, unless, broken, body_with}
 
 -- what is found of the result as it is made, and of what is needed
 abbrev pub shape_of : Spot → Block → Findings → Findings
@@ -28,22 +29,31 @@ version_by r s base whole = record s.target.proc {
   body = named_copies s.target.proc (base + r.named) (fill s.opened.around whole);
 }
 
+abbrev pub edits_by : Rule → Spot → Block → Edits
+edits_by r s whole =
+    edits_of s.piece.path s.piece.count (length (statements whole)) (r.shifts s)
+
 abbrev pub plan_by : Rule → Spot → Procedure → Block → List Owed → Plan
 plan_by r s q whole must = record {
   proc = q;
   must = must;
-  edits = edits_of s.piece.path s.piece.count (length (statements whole)) (r.shifts s);
+  edits = edits_by r s whole;
   fields = r.fields s;
   place = (r.point s).0;
   side = (r.point s).1;
 }
 
+-- by what stands in the place of the piece and what is owed
+abbrev pub settled : Rule → Spot → Findings → Block → List Owed → Tried Plan
+settled r s needed whole must =
+    let base = next_id s.target.proc in
+    let q = version_by r s base whole in
+    unless (broken (both (findings_of_version s.target.unit base q) needed)) (
+    Got (plan_by r s q whole must))
+
 -- by what is drafted and what is owed
 abbrev pub concluded : Rule → Spot → Findings → Block → List Owed → Tried Plan
-concluded r s needed made must =
-    let base = next_id s.target.proc in
-    unless (broken (both (findings_of_version s.target.unit base (result r s base made)) needed)) (
-    Got (plan r s base made must))
+concluded r s needed made must = settled r s needed (or_pass s.opened.around made) must
 
 -- behind the rule's own refusals
 abbrev pub finished : Rule → Spot → Findings → Tried Plan

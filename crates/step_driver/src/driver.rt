@@ -1,5 +1,5 @@
 //! The driver: what all operators have in common.
-ghost use Rattle.std.specs.Prelude.{◌≡◌, ◌≤◌, IfOk, Some, option_map, map, length};
+ghost use Rattle.std.specs.Prelude.{◌≡◌, ◌≤◌, true, IfOk, Some, option_map, map, length};
 ghost use Rattle.exo_tree.specs.Tree.{block, statements};
 ghost use Rattle.exo_tree.specs.PlainProcedure.{procedure};
 ghost use Rattle.exo_tree.specs.PlainUnit.{program};
@@ -10,19 +10,22 @@ ghost use Rattle.made_trees.specs.Ids as ids;
 ghost use Rattle.made_trees.specs.Passes.{is_alone};
 ghost use Rattle.affine_systems.specs.Outcomes.{plain_obligation};
 ghost use Rattle.cursor_forward.specs.PlainProposal.{plain_proposal};
-ghost use Rattle.cursor_forward.specs.Shifts.{edits_of};
 ghost use Rattle.step_rules.specs.Answer as answer;
 ghost use Rattle.step_rules.specs.Answer.{proposed, broken};
 ghost use Rattle.step_rules.specs.Lawful.{IsTarget};
+ghost use Rattle.step_rules.specs.Owing as owing;
+ghost use Rattle.tree_rules.specs.Classes.{both};
+ghost use Rattle.tree_rules.specs.Findings as findings;
 ghost use Rattle.step_driver.specs.Outcomes.{Tries, Refuses, IsKept, KeepsMeaning, Moves};
+ghost use Rattle.step_driver.specs.PlainExit.{plain_exit};
 ghost use Rattle.step_driver.specs.PlainTarget.{target, plain_piece};
-ghost use Rattle.step_driver.specs.Spots.{spot_at};
-ghost use Rattle.step_driver.specs.Stages.{shape_of, version_by, plan_by, concluded, finished};
+ghost use Rattle.step_driver.specs.Spots.{spot_at, exit_of};
+ghost use Rattle.step_driver.specs.Stages.{shape_of, version_by, edits_by, plan_by, settled, concluded, finished};
 
 use crate::made::{passed, placed, version};
-use crate::operator::{Operator, Writing};
+use crate::operator::{Exit, Operator, Writing};
 use crate::owing::{needed, owed};
-use crate::refusing::{both, refused, refused_by_shape};
+use crate::refusing::{refused, refused_by_shape};
 use crate::target::{Piece, Target};
 use affine_systems::Obligation;
 use cursor_forward::{Edits, Proposal, StepError};
@@ -77,6 +80,7 @@ fn answered<O: Operator>(
 }
 
 /// The answer where the piece is there: `alone`, where it is all of its block.
+#[tactic(auto, using(crate::proofs::Refused::needs_keep_rules))]
 fn answered_there<O: Operator>(
     alloc: Global,
     on: &Target<'_>,
@@ -124,7 +128,7 @@ fn shape_kept(
     let whole = passed(on, piece, alone, plain)?;
     let body = placed(alloc, on.proc, piece, alone, &whole)?;
     let made = findings_of_body(alloc, on.unit, on.modes, &on.proc.params, &body)?;
-    refused_by_shape(both(made, found))
+    refused_by_shape(made.and(found))
 }
 
 /// The forms and what is owed, and then the result.
@@ -142,6 +146,7 @@ fn finish<O: Operator>(
     requires base { base ≡ ids.next_id (procedure on.now.proc.now) }
     requires small { base ≤ 4294901759 }
     requires there { option_map (λ o. is_alone o.around) (opened piece.now.count piece.now.path (block on.now.proc.now.body)) ≡ Some alone }
+    requires rules { (owing.findings_of_needs (target on.now) ((O.rule op.now).needs (spot_at (target on.now) (plain_piece piece.now)))).rules ≡ true }
     ensures { Tries plain_proposal (finished (O.rule op.now) (spot_at (target on.now) (plain_piece piece.now)) found) result }
 {
     let made = op.draft(alloc, on, piece, Writing::Simplified, &mut Fresh::new(base))?;
@@ -149,7 +154,7 @@ fn finish<O: Operator>(
     conclude(alloc, on, piece, alone, base, found, made, must, op)
 }
 
-/// The result of what is drafted, and what is told of it.
+/// The result of what is drafted.
 fn conclude<O: Operator>(
     alloc: Global,
     on: &Target<'_>,
@@ -168,10 +173,46 @@ fn conclude<O: Operator>(
     ensures { Tries plain_proposal (concluded (O.rule op.now) (spot_at (target on.now) (plain_piece piece.now)) found (block made) (map plain_obligation must.items)) result }
 {
     let whole = passed(on, piece, alone, made)?;
-    let proc = version_with(alloc, on, piece, alone, base, &whole, op)?;
-    let kept = findings_of_version(alloc, on.unit, on.modes, base, &proc)?;
-    refused(both(kept, found))?;
-    Ok(told(alloc, on, piece, &whole, proc, must, op)?)
+    settle(alloc, on, piece, alone, base, found, &whole, must, op)
+}
+
+/// The result of what is put in the place of the piece, and what is told of it.
+fn settle<O: Operator>(
+    alloc: Global,
+    on: &Target<'_>,
+    piece: &Piece,
+    alone: bool,
+    base: u32,
+    found: Findings,
+    whole: &Block,
+    must: Vec<Obligation>,
+    op: &O,
+) -> Result<Proposal, StepError>
+    requires modes { table_says on.now.modes.now ≡ modes_of (program on.now.unit.now) }
+    requires base { base ≡ ids.next_id (procedure on.now.proc.now) }
+    requires small { base ≤ 4294901759 }
+    requires there { option_map (λ o. is_alone o.around) (opened piece.now.count piece.now.path (block on.now.proc.now.body)) ≡ Some alone }
+    ensures { Tries plain_proposal (settled (O.rule op.now) (spot_at (target on.now) (plain_piece piece.now)) found (block whole.now) (map plain_obligation must.items)) result }
+{
+    let told = told(alloc, on, piece, alone, base, whole, must, op)?;
+    version_kept(alloc, on, base, &told.proc, found)?;
+    Ok(told)
+}
+
+/// Refuses where the result, or what is needed, breaks a rule, uses what is not in scope, binds a name again, or
+/// passes a limit.
+fn version_kept(
+    alloc: Global,
+    on: &Target<'_>,
+    base: u32,
+    proc: &Proc,
+    found: Findings,
+) -> Result<(), StepError>
+    requires modes { table_says on.now.modes.now ≡ modes_of (program on.now.unit.now) }
+    ensures { Refuses (broken (both (findings.findings_of_version (program on.now.unit.now) base (procedure proc.now)) found)) result }
+{
+    let kept = findings_of_version(alloc, on.unit, on.modes, base, proc)?;
+    refused(kept.and(found))
 }
 
 /// The procedure of a step that puts `whole` in the place of a piece.
@@ -194,20 +235,23 @@ fn version_with<O: Operator>(
     version(alloc, on.proc, name, copies, &body)
 }
 
-/// What is told of a result.
+/// What is told of the result.
 fn told<O: Operator>(
     alloc: Global,
     on: &Target<'_>,
     piece: &Piece,
+    alone: bool,
+    base: u32,
     whole: &Block,
-    proc: Proc,
     must: Vec<Obligation>,
     op: &O,
 ) -> Result<Proposal, AllocError>
-    ensures { IfOk result (λ m. plain_proposal m ≡ plan_by (O.rule op.now) (spot_at (target on.now) (plain_piece piece.now)) (procedure proc) (block whole.now) (map plain_obligation must.items)) }
+    requires small { base ≤ 4294901759 }
+    requires there { option_map (λ o. is_alone o.around) (opened piece.now.count piece.now.path (block on.now.proc.now.body)) ≡ Some alone }
+    ensures { IfOk result (λ m. plain_proposal m ≡ plan_by (O.rule op.now) (spot_at (target on.now) (plain_piece piece.now)) (version_by (O.rule op.now) (spot_at (target on.now) (plain_piece piece.now)) base (block whole.now)) (block whole.now) (map plain_obligation must.items)) }
 {
-    let edits = edits(alloc, on, piece, whole, op)?;
-    let exit = op.exit(alloc, on, piece)?;
+    let (edits, exit) = ways(alloc, on, piece, whole, op)?;
+    let proc = version_with(alloc, on, piece, alone, base, whole, op)?;
     Ok(Proposal {
         proc,
         must,
@@ -216,6 +260,22 @@ fn told<O: Operator>(
         place: exit.place,
         side: exit.side,
     })
+}
+
+/// Where the statements go, and the fields that may differ.
+fn ways<O: Operator>(
+    alloc: Global,
+    on: &Target<'_>,
+    piece: &Piece,
+    whole: &Block,
+    op: &O,
+) -> Result<(Edits, Exit), AllocError>
+    ensures edits { IfOk result (λ w. w.0 ≡ edits_by (O.rule op.now) (spot_at (target on.now) (plain_piece piece.now)) (block whole.now)) }
+    ensures exit { IfOk result (λ w. plain_exit w.1 ≡ exit_of (O.rule op.now) (spot_at (target on.now) (plain_piece piece.now))) }
+{
+    let edits = edits(alloc, on, piece, whole, op)?;
+    let exit = op.exit(alloc, on, piece)?;
+    Ok((edits, exit))
 }
 
 /// Where the statements of a procedure go, where `whole` stands in the place of the piece.
@@ -227,7 +287,7 @@ fn edits<O: Operator>(
     whole: &Block,
     op: &O,
 ) -> Result<Edits, AllocError>
-    ensures { IfOk result (λ e. e ≡ edits_of piece.now.path piece.now.count (length (statements (block whole.now))) ((O.rule op.now).shifts (spot_at (target on.now) (plain_piece piece.now)))) }
+    ensures { IfOk result (λ e. e ≡ edits_by (O.rule op.now) (spot_at (target on.now) (plain_piece piece.now)) (block whole.now)) }
 {
     let count = whole.len();
     if count > 4294967295 {

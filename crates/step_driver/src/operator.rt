@@ -1,9 +1,10 @@
 //! What every step supplies.
-ghost use Rattle.std.specs.Prelude.{◌≡◌, [], IfOk};
+ghost use Rattle.std.specs.Prelude.{◌≡◌, [], map, IfOk};
 ghost use Rattle.cursor_forward.specs.Cursors.{Before};
 ghost use Rattle.exo_tree.specs.Tree.{block};
 ghost use Rattle.exo_tree.specs.PlainProcedure.{procedure};
-ghost use Rattle.step_driver.specs.Outcomes.{Tries, Refuses};
+ghost use Rattle.step_needs.specs.Outcomes.{Tries, Refuses};
+ghost use Rattle.step_needs.specs.PlainNeed.{plain_need};
 ghost use Rattle.step_driver.specs.PlainTarget.{target, plain_piece};
 ghost use Rattle.step_driver.specs.PlainExit.{plain_exit};
 ghost use Rattle.step_driver.specs.Spots.{spot_at, exit_of};
@@ -13,6 +14,7 @@ use cursor_forward::{Shifts, Side, StepError};
 use exo_tree::{Block, FieldId, Name, Path, Proc};
 use made_trees::Fresh;
 use std::alloc::{AllocError, Global};
+use step_needs::Need;
 
 /// How made indices and dimensions are written.
 #[derive(Clone, Copy)]
@@ -43,11 +45,10 @@ impl Exit {
     }
 }
 
-/// A rewrite with its arguments, which needs nothing to be shown. A method is asked for any piece, also
-/// for one of which the statements are not there.
+/// A rewrite with its arguments. A method is asked for any piece, also for one of which the statements are not
+/// there.
 pub trait Operator {
-    ghost use Rattle.std.specs.Prelude.{[]};
-    ghost use Rattle.step_rules.specs.Rule.{Spot, Rule};
+    ghost use Rattle.step_rules.specs.Rule.{Rule};
     ghost use Rattle.step_rules.specs.Lawful.{IsLawful, IsCarrying};
     ghost use Rattle.step_driver.specs.PlainWriting.{writing};
 
@@ -76,6 +77,10 @@ pub trait Operator {
     fn refusal(&self, alloc: Global, on: &Target<'_>, piece: &Piece) -> Result<(), StepError>
         ensures { Refuses ((rule self.now).refusal (spot_at (target on.now) (plain_piece piece.now))) result };
 
+    /// What has to be shown of the old procedure, in its order, before the result stands for it.
+    fn needs(&self, alloc: Global, on: &Target<'_>, piece: &Piece) -> Result<Vec<Need>, AllocError>
+        ensures { IfOk result (λ ns. map plain_need ns.items ≡ (rule self.now).needs (spot_at (target on.now) (plain_piece piece.now))) };
+
     /// Where the replaced statements go.
     fn shifts(&self, alloc: Global, on: &Target<'_>, piece: &Piece) -> Result<Shifts, AllocError>
         ensures { IfOk result (λ l. l ≡ (rule self.now).shifts (spot_at (target on.now) (plain_piece piece.now))) };
@@ -91,6 +96,4 @@ pub trait Operator {
     ghost lawful: { (x : Self) → IsLawful (rule x) };
 
     ghost carrying: { (x : Self) → IsCarrying (rule x) };
-
-    ghost needless: { (x : Self) (s : Spot) → (rule x).needs s ≡ [] };
 }

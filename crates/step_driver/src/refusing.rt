@@ -1,24 +1,10 @@
 //! Refusals by what is found in a result.
-ghost use Rattle.std.specs.Prelude.{◌≡◌};
-ghost use Rattle.tree_rules.specs.Classes as classes;
 ghost use Rattle.step_rules.specs.Answer.{broken};
 ghost use Rattle.step_rules.specs.Owing.{shape_alone};
-ghost use Rattle.step_driver.specs.Outcomes.{Refuses};
+ghost use Rattle.step_needs.specs.Outcomes.{Refuses};
 
 use cursor_forward::StepError;
 use tree_rules::Findings;
-
-/// What is kept in both.
-pub(crate) fn both(a: Findings, b: Findings) -> Findings
-    ensures { result ≡ classes.both a b }
-{
-    Findings {
-        rules: a.rules && b.rules,
-        scope: a.scope && b.scope,
-        names: a.names && b.names,
-        limits: a.limits && b.limits,
-    }
-}
 
 /// The first class that is broken, in the order of refusals.
 pub(crate) fn refused(found: Findings) -> Result<(), StepError>

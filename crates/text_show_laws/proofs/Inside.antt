@@ -16,7 +16,8 @@ use Rattle.text_show.specs.Words.{Words, words_with, cell_word}
 use Rattle.exo_types.specs.TypeRules.{binder, binder_faults, cell_faults, cell_of, memory_faults, named_memory_faults, memory_of, number_or}
 use Rattle.exo_types.specs.ArgumentRules.{Signature, signature_of, params_of, arguments_of, call_faults}
 use Rattle.exo_types.specs.StatementRules.{bound, bound_in, number_in, callee_named, written_of, statement_of, block_of}
-use Rattle.text_show_laws.specs.Again.{calls, is_call_of}
+use Rattle.text_show_laws.specs.Again.{calls, is_call_of, re_calls, re_call, IsAlike}
+use Rattle.text_show_laws.proofs.Alike.{arguments_alike, call_alike}
 use Rattle.text_show_laws.specs.Names.{Each}
 use Rattle.text_show_laws.specs.Written as written
 use Rattle.text_show_laws.specs.Written.{config_word, field_word, control_tree, condition_tree, datum_tree}
@@ -76,6 +77,30 @@ roots_re r (For i lo hi b) root root' meet = meet
 roots_re r (Alloc y cell dims memory) root root' meet = updated_meets r root root' y.id y.id meet
 roots_re r (View v y cs) root root' meet = λ x. ap (λ z. updated root' (r.to v.id) z (r.to x)) (meet y) ∙ updated_meets r root root' v.id (root y) meet x
 roots_re r (Call k args) root root' meet = meet
+
+-- ---- other numbers of what is called
+
+pub scope_called : (to : ℕ → ℕ) (a : Statement) (scope : Scope) → scope_after (re_call to a) scope ≡ scope_after a scope
+scope_called to (Assign x is e) scope = refl
+scope_called to (Reduce x is e) scope = refl
+scope_called to (Config f a) scope = refl
+scope_called to Pass scope = refl
+scope_called to (If c a b) scope = refl
+scope_called to (For i lo hi b) scope = refl
+scope_called to (Alloc y cell dims memory) scope = refl
+scope_called to (View v y cs) scope = refl
+scope_called to (Call k args) scope = refl
+
+pub roots_called : (to : ℕ → ℕ) (a : Statement) (root : ℕ → ℕ) → roots_after (re_call to a) root ≡ roots_after a root
+roots_called to (Assign x is e) root = refl
+roots_called to (Reduce x is e) root = refl
+roots_called to (Config f a) root = refl
+roots_called to Pass root = refl
+roots_called to (If c a b) root = refl
+roots_called to (For i lo hi b) root = refl
+roots_called to (Alloc y cell dims memory) root = refl
+roots_called to (View v y cs) root = refl
+roots_called to (Call k args) root = refl
 
 -- ---- types
 
@@ -146,7 +171,7 @@ module _ (w : Words) (fields : List ConfigField) where
 
 -- ---- blocks
 
-module _ (program : Program) (names : ℕ → Text) (r : Renaming) (finds_fields : FindsFields program.fields) (count : ℕ) (callees : ℕ → Option Callee) (memories above : List Text) (signatures : List Signature) (finds_memories : FindsMemories (words_with program names).memory count memories) where
+module _ (program : Program) (names : ℕ → Text) (r : Renaming) (finds_fields : FindsFields program.fields) (count : ℕ) (callees : ℕ → Option Callee) (memories above : List Text) (signatures : List Signature) (finds_memories : FindsMemories (words_with program names).memory count memories) (to : ℕ → ℕ) where
   abbrev w : Words
   w = words_with program names
 
@@ -158,8 +183,10 @@ module _ (program : Program) (names : ℕ → Text) (r : Renaming) (finds_fields
 
   -- the callee of that number is found by its name
   pub record Met (k : ℕ) (callee : Callee) : Type 0 where
-    pub number : number_in fields memories above signatures (w.callee k) ≡ k
-    pub signature : callee_named fields memories above signatures (w.callee k) ≡ Some (signature_of callee)
+    pub number : number_in fields memories above signatures (w.callee k) ≡ to k
+    pub signature : Signature
+    pub found : callee_named fields memories above signatures (w.callee k) ≡ Some signature
+    pub alike : IsAlike signature (signature_of callee)
 
   abbrev pub MeetsCalls : Block → Type 0
   MeetsCalls b = (k : ℕ) (callee : Callee) → calls k b ≡ true → callees k ≡ Some callee → Met k callee
@@ -167,15 +194,16 @@ module _ (program : Program) (names : ℕ → Text) (r : Renaming) (finds_fields
   abbrev pub MeetsCall : Statement → Type 0
   MeetsCall a = (k : ℕ) (callee : Callee) → is_call_of k a ≡ true → callees k ≡ Some callee → Met k callee
 
-  call_same : (scope : Scope) (finds : Finds w r scope) (root : ℕ → ℕ) (k : ℕ) (args : List Argument) → Each (writable.IsArgument program names) args → is_call kinds scope root (callees k) args ≡ true → MeetsCall (Call k args) → Call (number_in fields memories above signatures (w.callee k)) (arguments_of fields (re_scope r scope) (params_of (callee_named fields memories above signatures (w.callee k))) (map (written.argument_of w fields) args)) ≡ Call k (re_arguments r args)
+  call_same : (scope : Scope) (finds : Finds w r scope) (root : ℕ → ℕ) (k : ℕ) (args : List Argument) → Each (writable.IsArgument program names) args → is_call kinds scope root (callees k) args ≡ true → MeetsCall (Call k args) → Call (number_in fields memories above signatures (w.callee k)) (arguments_of fields (re_scope r scope) (params_of (callee_named fields memories above signatures (w.callee k))) (map (written.argument_of w fields) args)) ≡ Call (to k) (re_arguments r args)
   call_same scope finds root k args each h meets = by (callees k) refl h
     where
-      by : (o : Option Callee) → callees k ≡ o → is_call kinds scope root o args ≡ true → Call (number_in fields memories above signatures (w.callee k)) (arguments_of fields (re_scope r scope) (params_of (callee_named fields memories above signatures (w.callee k))) (map (written.argument_of w fields) args)) ≡ Call k (re_arguments r args)
+      by : (o : Option Callee) → callees k ≡ o → is_call kinds scope root o args ≡ true → Call (number_in fields memories above signatures (w.callee k)) (arguments_of fields (re_scope r scope) (params_of (callee_named fields memories above signatures (w.callee k))) (map (written.argument_of w fields) args)) ≡ Call (to k) (re_arguments r args)
       by None p t = absurd (true≢false (sym t))
       by (Some callee) p t =
           let met = meets k callee (eq-eqb k k refl) p in
           ap₂ Call met.number
-          (ap (λ o. arguments_of fields (re_scope r scope) (params_of o) (map (written.argument_of w fields) args)) met.signature
+          (ap (λ o. arguments_of fields (re_scope r scope) (params_of o) (map (written.argument_of w fields) args)) met.found
+          ∙ arguments_alike fields (re_scope r scope) met.signature.writes callee.writes met.signature.params callee.procedure.params (map (written.argument_of w fields) args) met.alike
           ∙ arguments_same w fields r scope finds finds_fields callee.procedure.params args (both _ _ t).0 (have_coords program names args each))
 
   pub call_keeps : (scope : Scope) (finds : Finds w r scope) (root root' : ℕ → ℕ) → RootsMeet r root root' → (k : ℕ) (args : List Argument) → Each (writable.IsArgument program names) args → is_call kinds scope root (callees k) args ≡ true → MeetsCall (Call k args) → (n : ℕ) → call_faults fields (callee_named fields memories above signatures (w.callee k)) (re_scope r scope) root' n (map (written.argument_of w fields) args) ≡ []
@@ -186,7 +214,8 @@ module _ (program : Program) (names : ℕ → Text) (r : Renaming) (finds_fields
       by (Some callee) p t =
           let met = meets k callee (eq-eqb k k refl) p in
           let s = both (are_for kinds scope callee.procedure.params args) _ t in
-          ap (λ o. call_faults fields o (re_scope r scope) root' n (map (written.argument_of w fields) args)) met.signature
+          ap (λ o. call_faults fields o (re_scope r scope) root' n (map (written.argument_of w fields) args)) met.found
+          ∙ call_alike fields (re_scope r scope) root' met.signature (signature_of callee) n (map (written.argument_of w fields) args) met.alike
           ∙ call_fine w fields r scope finds finds_fields callee.writes root root' meet callee.procedure.params args s.0 s.1 (have_coords program names args each) n
 
   -- a configuration write
@@ -210,17 +239,17 @@ module _ (program : Program) (names : ℕ → Text) (r : Renaming) (finds_fields
   finds_after (Call k args) scope finds root called h = finds
 
   mutual
-    pub block_same : (b : Block) (scope : Scope) (finds : Finds w r scope) (root : ℕ → ℕ) (id : ℕ) → Counts r id (binders b) → AreCalled names b → writable.IsBlock program names b → MeetsCalls b → is_block kinds count callees scope root b ≡ true → block_of fields memories above signatures id (re_scope r scope) (written.block_of w fields b) ≡ re_block r b
+    pub block_same : (b : Block) (scope : Scope) (finds : Finds w r scope) (root : ℕ → ℕ) (id : ℕ) → Counts r id (binders b) → AreCalled names b → writable.IsBlock program names b → MeetsCalls b → is_block kinds count callees scope root b ≡ true → block_of fields memories above signatures id (re_scope r scope) (written.block_of w fields b) ≡ re_calls to (re_block r b)
     block_same end scope finds root id numbers called each meets h = refl
     block_same (next a b) scope finds root id numbers called each meets h =
         let s = both (is_statement kinds count callees scope root a) _ h in
         let same = statement_same a scope finds root id (split_left r id (step_binders a) (binders b) numbers) called.0 each.0 (λ k callee p q. meets k callee (or_left (is_call_of k a) (calls k b) p) q) s.0 in
         let more = split_right r id (step_binders a) (binders b) numbers in
         ap (λ t. next t (block_of fields memories above signatures (id + bound (written.statement_of w fields a)) (scope_after t (re_scope r scope)) (written.block_of w fields b))) same
-        ∙ ap₂ (λ m sc. next (re_statement r a) (block_of fields memories above signatures m sc (written.block_of w fields b))) (ap (λ m. id + m) (bound_statement w fields a)) (scope_re r a scope)
-        ∙ ap (λ t. next (re_statement r a) t) (block_same b (scope_after a scope) (finds_after a scope finds root called.0 s.0) (roots_after a root) (id + length (step_binders a)) more called.1 each.1 (λ k callee p q. meets k callee (or_right (is_call_of k a) (calls k b) p) q) s.1)
+        ∙ ap₂ (λ m sc. next (re_call to (re_statement r a)) (block_of fields memories above signatures m sc (written.block_of w fields b))) (ap (λ m. id + m) (bound_statement w fields a)) (scope_called to (re_statement r a) (re_scope r scope) ∙ scope_re r a scope)
+        ∙ ap (λ t. next (re_call to (re_statement r a)) t) (block_same b (scope_after a scope) (finds_after a scope finds root called.0 s.0) (roots_after a root) (id + length (step_binders a)) more called.1 each.1 (λ k callee p q. meets k callee (or_right (is_call_of k a) (calls k b) p) q) s.1)
 
-    pub statement_same : (a : Statement) (scope : Scope) (finds : Finds w r scope) (root : ℕ → ℕ) (id : ℕ) → Counts r id (step_binders a) → IsCalled names a → writable.IsStatement program names a → MeetsCall a → is_statement kinds count callees scope root a ≡ true → statement_of fields memories above signatures id (re_scope r scope) (written.statement_of w fields a) ≡ re_statement r a
+    pub statement_same : (a : Statement) (scope : Scope) (finds : Finds w r scope) (root : ℕ → ℕ) (id : ℕ) → Counts r id (step_binders a) → IsCalled names a → writable.IsStatement program names a → MeetsCall a → is_statement kinds count callees scope root a ≡ true → statement_of fields memories above signatures id (re_scope r scope) (written.statement_of w fields a) ≡ re_call to (re_statement r a)
     statement_same (Assign x is e) scope finds root id numbers called each meets h =
         let s = both (is_access kinds scope x is) _ h in
         let t = both (has_rank (length is) (sort_in scope x)) _ s.0 in

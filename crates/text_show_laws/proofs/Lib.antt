@@ -20,6 +20,7 @@ pub mod Numbered
 pub mod Called
 pub mod Passed
 pub mod Shared
+pub mod Alike
 pub mod Inside
 pub mod Unbroken
 pub mod Whole
@@ -28,3 +29,8 @@ pub mod Returned
 pub mod Closed
 pub mod Behind
 pub mod Spliced
+pub mod Each
+pub mod Lexed
+pub mod Named
+pub mod Writing
+pub mod Instance

@@ -4,7 +4,7 @@ use Rattle.std.specs.List.{list_any}
 use Rattle.std.proofs.Math.Path.{fun_ext}
 use Rattle.exo_tree.specs.Tree.{ConfigField, MemoryKind, Param, ParamKind, ControlParam, TensorParam, WindowParam, Procedure, Program}
 use Rattle.exo_meaning.specs.Calls.{Callee}
-use Rattle.exo_meaning.specs.Run.{world_of, callee_in, kinds_of}
+use Rattle.exo_meaning.specs.Run.{world_of, callee_in, kinds_of, callees, program_world}
 use Rattle.exo_meaning.specs.Units.{is_text, IsUnit, IsProcedure, AreProcedures, field_kind, bound_ids, all_differ, scope_of, Reading, Plain, Opened, Closed, InHole, is_hole_of, holes_fit, is_template}
 use Rattle.exo_meaning.specs.Renaming.{Renaming}
 use Rattle.exo_reader.specs.Source as source
@@ -19,7 +19,7 @@ use Rattle.exo_types.specs.TypeRules.{number_or}
 use Rattle.exo_types.specs.ArgumentRules.{signature_of}
 use Rattle.exo_types.specs.ItemRules.{definition_of, definition_fault}
 use Rattle.exo_types.specs.UnitRules.{Above, nothing_above, after_item, after_items, item_fault, procedure_fault, procedure_here, memory_names, procedure_names, signatures}
-use Rattle.text_show_laws.specs.Again.{re_param, re_procedure, calls, HoldsWhatIsNamed, StandsFor, ShownIsTheSame}
+use Rattle.text_show_laws.specs.Again.{re_param, re_procedure, HoldsWhatIsNamed, StandsFor, ShownIsTheSame}
 use Rattle.text_show_laws.specs.Written as tree
 use Rattle.text_show_laws.specs.Written.{marked, written}
 use Rattle.text_show_laws.specs.Writable.{IsWritable}
@@ -57,34 +57,15 @@ ruled_from fields count (p ∷ ps) done above all rules =
     let more = ruled_from fields count ps (done ++ p ∷ []) (above ++ callee_in (world_of (kinds_of fields) above) p ∷ []) (one_more (Ruled fields count) above done (kinds_of fields) p all rules.0) rules.1 in
     (more.0, subst (AllStand (Ruled fields count) more.0) (append_assoc done (p ∷ []) ps) more.1)
 
--- ---- what both hold writes the same
+-- the callees of a unit are those that stand below each other
+final_is : (fields : List ConfigField) (count : ℕ) (ps done : List Procedure) (above : List Callee) (all : AllStand (Ruled fields count) above done) (rules : AreProcedures fields count above ps) → (ruled_from fields count ps done above all rules).0 ≡ callees (kinds_of fields) above ps
+unfolding ruled_from
+final_is fields count [] done above all rules = refl
+final_is fields count (p ∷ ps) done above all rules =
+    final_is fields count ps (done ++ p ∷ []) (above ++ callee_in (world_of (kinds_of fields) above) p ∷ []) (one_more (Ruled fields count) above done (kinds_of fields) p all rules.0) rules.1
 
 some_same : {A : Type 0} (a b : A) → Some a ≡ Some b → a ≡ b
 some_same a b h = ap (λ o. elim o [ None ↦ a | Some x ↦ x ]) h
-
-module _ (fields : List ConfigField) (count : ℕ) (ps others : List Procedure) (final callees : List Callee) (ruled : AllStand (Ruled fields count) final ps) (stand : AllStand Any callees others) (held : ℕ → Bool)
-    (same : (k : ℕ) (q : Procedure) → held k ≡ true → slice_get ps k ≡ Some q → slice_get others k ≡ Some q)
-    (closed : (j k : ℕ) (q : Procedure) → held j ≡ true → slice_get ps j ≡ Some q → calls k q.body ≡ true → held k ≡ true) where
-  -- where all that are lower do
-  agree_at : (j : ℕ) (q : Procedure) → held j ≡ true → slice_get ps j ≡ Some q → ((i : ℕ) (c : Procedure) → i < j → held i ≡ true → slice_get ps i ≡ Some c → Same (slice_get final i) (slice_get callees i)) → Same (slice_get final j) (slice_get callees j)
-  agree_at j q h g earlier = subst₂ Same (sym s.here) (sym t.here) (refl, fun_ext (λ y. same_writes (world_of s.kinds s.before) (world_of t.kinds t.before) q.body meet (λ x. x) y))
-    where
-      s : Stands (Ruled fields count) final j q
-      s = ruled.each j q g
-
-      t : Stands Any callees j q
-      t = stand.each j q (same j q h g)
-
-      meet : (i : ℕ) → calls i q.body ≡ true → Same (slice_get s.before i) (slice_get t.before i)
-      meet i called =
-          let c = calls_there (field_kind fields) count (slice_get s.before) q.body (scope_of [] q.params) (λ x. x) i s.holds.body called in
-          let low : i < j = let b = got_below s.before i c.0 c.1 in omega (arith, b, s.short) in
-          let r = there ps i (let b = got_below ps j q g in omega (arith, b, low)) in
-          subst₂ Same (sym (s.below i low)) (sym (t.below i low)) (earlier i r.0 low (closed j i q h g called) r.1)
-
-  agree : (m j : ℕ) → j < m → held j ≡ true → (q : Procedure) → slice_get ps j ≡ Some q → Same (slice_get final j) (slice_get callees j)
-  agree zero j l h q g = absurd (omega arith)
-  agree (suc m) j l h q g = agree_at j q h g (λ i c low held_i at. agree m i (omega (arith, low, l)) held_i c at)
 
 -- ---- templates
 
@@ -120,7 +101,7 @@ get_map f (y ∷ xs) (suc i) x h = get_map f xs i x h
 
 -- ---- the law
 
-module _ (program : Program) (k : ℕ) (p : Procedure) (above : Above) (stand : AllStand Any above.callees above.program.procedures) (unit : IsUnit program) (place : slice_get program.procedures k ≡ Some p) (can : IsWritable program p) (holds : HoldsWhatIsNamed above.program program p) where
+module _ (program : Program) (k : ℕ) (p : Procedure) (above : Above) (stand : AllStand Any above.callees above.program.procedures) (unit : IsUnit program) (place : slice_get program.procedures k ≡ Some p) (can : IsWritable program p) (holds : HoldsWhatIsNamed above program p) where
   abbrev count : ℕ
   count = length program.memories
 
@@ -148,51 +129,38 @@ module _ (program : Program) (k : ℕ) (p : Procedure) (above : Above) (stand : 
   finds_memories : FindsMemories (memory_name program.memories) count memories
   finds_memories = subst (λ (ms : List MemoryKind). FindsMemories (memory_name program.memories) count (map (λ m. m.name) ms)) (sym holds.memories) (λ m l. memory_found program.memories m (both (all_differ (λ a b. is_text a.name b.name) program.memories) _ unit.memories).0 l)
 
-  meets : MeetsCalls program (names_of p) ids finds_fields count (slice_get here.before) memories names (signatures above) finds_memories p.body
+  meets : MeetsCalls program (names_of p) ids finds_fields count (slice_get here.before) memories names (signatures above) finds_memories holds.to p.body
+  unfolding ruled_from whole
   meets i callee called at =
       let low : i < k = let b = got_below here.before i callee at in omega (arith, b, here.short) in
+      let world : (program_world program).callees i ≡ Some callee = ap (λ cs. slice_get cs i) (sym (final_is program.fields count program.procedures [] [] (no_procedures (Ruled program.fields count)) unit.procedures)) ∙ sym (here.below i low) ∙ at in
       let q = there program.procedures i (let b = got_below program.procedures k p place in omega (arith, b, low)) in
-      let h = holds.called i called in
-      let beside = holds.same i q.0 h q.1 in
       let s = whole.1.each i q.0 q.1 in
-      let t = stand.each i q.0 beside in
       let mine : callee ≡ callee_in (world_of s.kinds s.before) q.0 = some_same callee (callee_in (world_of s.kinds s.before) q.0) (sym at ∙ here.below i low ∙ s.here) in
-      let meet : Same (Some (callee_in (world_of s.kinds s.before) q.0)) (Some (callee_in (world_of t.kinds t.before) q.0)) =
-      subst₂ Same s.here t.here (agree program.fields count program.procedures above.program.procedures whole.0 above.callees whole.1 stand held_numbers same_numbers closed_numbers (suc i) i (omega arith) h q.0 q.1) in
-      let name : callee_name program.procedures i ≡ q.0.name = ap (λ o. elim o [ None ↦ unknown i | Some x ↦ x.name ]) q.1 in
-      let found : name_number names (callee_name program.procedures i) ≡ Some i =
-      ap (name_number names) name ∙ procedure_found above.program.procedures i q.0 beside (λ j other g e. holds.named_once i j q.0 other called beside g e) in
+      let h = holds.called i callee called world in
+      let name : callee_name program.procedures i ≡ callee.procedure.name = ap (λ o. elim o [ None ↦ unknown i | Some x ↦ x.name ]) q.1 ∙ ap (λ (c : Callee). c.procedure.name) (sym mine) in
+      let found : name_number names (callee_name program.procedures i) ≡ Some (holds.to i) =
+      ap (name_number names) (name ∙ sym h.named) ∙ procedure_found above.program.procedures (holds.to i) h.other h.there (λ j other g e. h.once j other g (e ∙ h.named)) in
       record {
         number = ap (number_or no_id) found;
-        signature =
-            ap (λ o. elim o [ None ↦ None | Some n ↦ slice_get (signatures above) n ]) found
-            ∙ get_map signature_of above.callees i (callee_in (world_of t.kinds t.before) q.0) t.here
-            ∙ ap (λ ws. Some (record { params = q.0.params; writes = ws })) (sym meet.1)
-            ∙ ap (λ c. Some (signature_of c)) (sym mine);
+        signature = h.signature;
+        found = ap (λ o. elim o [ None ↦ None | Some n ↦ slice_get (signatures above) n ]) found ∙ h.here;
+        alike = h.alike;
       }
-    where
-      held_numbers : ℕ → Bool
-      held_numbers = holds.held
-
-      same_numbers : (j : ℕ) (q : Procedure) → holds.held j ≡ true → slice_get program.procedures j ≡ Some q → slice_get above.program.procedures j ≡ Some q
-      same_numbers = holds.same
-
-      closed_numbers : (j n : ℕ) (q : Procedure) → holds.held j ≡ true → slice_get program.procedures j ≡ Some q → calls n q.body ≡ true → holds.held n ≡ true
-      closed_numbers = holds.closed
 
   abbrev d : Definition
   d = tree.definition_of (words_of program p) program.fields p
 
-  is_definition : (template : Option (List ℕ)) → procedure_here above template d ≡ record (re_procedure ids p) { template = template }
+  is_definition : (template : Option (List ℕ)) → procedure_here above template d ≡ record (re_procedure ids holds.to p) { template = template }
   is_definition template =
       ap (λ fs. definition_of fs memories names (signatures above) above.next_id template d) holds.fields
-      ∙ definition_same program p ids finds_fields (slice_get here.before) memories names (signatures above) finds_memories here.holds above.next_id numbers can meets template
+      ∙ definition_same program p ids finds_fields (slice_get here.before) memories names (signatures above) finds_memories holds.to here.holds above.next_id numbers can meets template
 
   procedure_fine : (n : ℕ) → procedure_fault above n d ≡ None
   procedure_fine n =
       ap₂ or_else (ap least (unless_fine _ _ (n + 1) (ap not holds.free)))
       (ap (λ fs. definition_fault fs memories names (signatures above) above.next_id n d) holds.fields
-      ∙ definition_fine program p ids finds_fields (slice_get here.before) memories names (signatures above) finds_memories here.holds above.next_id numbers can meets n)
+      ∙ definition_fine program p ids finds_fields (slice_get here.before) memories names (signatures above) finds_memories holds.to here.holds above.next_id numbers can meets n)
 
   template_fine : (text : List ℕ) → p.template ≡ Some text → is_template (procedure_here above None d).params (Some (joined (text ∷ []))) ≡ true
   template_fine text e =
@@ -203,13 +171,13 @@ module _ (program : Program) (k : ℕ) (p : Procedure) (above : Above) (stand : 
   keeps_by None e n = procedure_fine (n + 2)
   keeps_by (Some text) e n = ap₂ or_else (ap least (unless_fine _ _ (n + 2) (template_fine text e))) (procedure_fine (n + 2 + length (text ∷ []) + 2))
 
-  same_by : (template : Option (List ℕ)) → p.template ≡ template → (after_item above (marked template d)).program.procedures ≡ above.program.procedures ++ re_procedure ids p ∷ []
-  same_by None e = ap (λ q. above.program.procedures ++ q ∷ []) (is_definition None ∙ ap (λ t. record (re_procedure ids p) { template = t }) (sym e))
+  same_by : (template : Option (List ℕ)) → p.template ≡ template → (after_item above (marked template d)).program.procedures ≡ above.program.procedures ++ re_procedure ids holds.to p ∷ []
+  same_by None e = ap (λ q. above.program.procedures ++ q ∷ []) (is_definition None ∙ ap (λ t. record (re_procedure ids holds.to p) { template = t }) (sym e))
   same_by (Some text) e =
       ap (λ q. above.program.procedures ++ q ∷ [])
-      (ap (λ x. procedure_here above (Some x) d) (append-nil text) ∙ is_definition (Some text) ∙ ap (λ t. record (re_procedure ids p) { template = t }) (sym e))
+      (ap (λ x. procedure_here above (Some x) d) (append-nil text) ∙ is_definition (Some text) ∙ ap (λ t. record (re_procedure ids holds.to p) { template = t }) (sym e))
 
-  pub stands_for : StandsFor above (written program p) p
+  pub stands_for : StandsFor above (written program p) holds.to p
   stands_for = record { keeps = keeps_by p.template refl; ids = ids; same = same_by p.template refl }
 
 pub shown_is_the_same : ShownIsTheSame

@@ -114,8 +114,8 @@ fine_one_more (i ∷ items) above n x h fine =
     let s = neither (item_fault above n i) (items_fault (after_item above i) (n + item_width i) items) h in
     ap₂ or_else s.0 (fine_one_more items (after_item above i) (n + item_width i) x s.1 fine)
 
-stands_again : (items : List Item) (x : Item) (p : Procedure) → unit_fault items ≡ None → StandsFor (after_items nothing_above items) x p → StandsAgain items (items ++ x ∷ []) p
-stands_again items x p keeps stands = record {
+stands_again : (items : List Item) (x : Item) (to : ℕ → ℕ) (p : Procedure) → unit_fault items ≡ None → StandsFor (after_items nothing_above items) x to p → StandsAgain items (items ++ x ∷ []) to p
+stands_again items x to p keeps stands = record {
   keeps = fine_one_more items nothing_above 0 x keeps stands.keeps;
   ids = stands.ids;
   same = ap (λ (a : Above). a.program.procedures) (after_one_more items nothing_above x) ∙ stands.same;
@@ -123,7 +123,7 @@ stands_again items x p keeps stands = record {
 
 pub shown_stands_again : ShownStandsAgain
 shown_stands_again program k p text items unit_is place can small above ends keeps holds (Ok s) reads =
-    subst (λ (read : List Item). StandsAgain items read p) (sym (shown_is_read_below program k p text items place can small above ends (Ok s) reads))
-    (stands_again items (written program p) p keeps (shown_is_the_same program k p items unit_is place can keeps holds))
+    subst (λ (read : List Item). StandsAgain items read holds.to p) (sym (shown_is_read_below program k p text items place can small above ends (Ok s) reads))
+    (stands_again items (written program p) holds.to p keeps (shown_is_the_same program k p items unit_is place can keeps holds))
 shown_stands_again program k p text items unit_is place can small above ends keeps holds (Err e) reads =
     shown_is_read_below program k p text items place can small above ends (Err e) reads

@@ -19,15 +19,15 @@ use Rattle.text_show_laws.specs.Again.{calls, is_call_of}
 use Rattle.text_show_laws.specs.Written as written
 use Rattle.text_show_laws.specs.Written.{config_word, field_word, control_tree, condition_tree, datum_tree}
 use Rattle.text_show_laws.specs.Writable as writable
-use Rattle.text_show_laws.proofs.Scoped.{Finds, re_scope, both, finds_more}
+use Rattle.text_show_laws.proofs.Scoped.{Finds, re_scope, both, three, finds_more}
 use Rattle.text_show_laws.proofs.Resolved.{FindsFields, field_is, joined_fine, ranked_buffer, control_fine, controls_fine}
 use Rattle.text_show_laws.proofs.Judged.{condition_fine, datum_fine, window_fine, points_are, access_window}
 use Rattle.text_show_laws.proofs.Called.{AreCalled, IsCalled}
 use Rattle.text_show_laws.proofs.Numbered.{Counts, split_left, split_right}
 use Rattle.text_show_laws.proofs.Passed.{kind_fine}
-use Rattle.text_show_laws.proofs.Inside.{RootsMeet, FindsMemories, MeetsCalls, MeetsCall, scope_re, roots_re, cell_fine, binder_fine, memory_fine, or_left, or_right, bound_block, bound_statement, call_keeps, write_kind, finds_after, statement_same}
+use Rattle.text_show_laws.proofs.Inside.{RootsMeet, FindsMemories, MeetsCalls, MeetsCall, scope_re, roots_re, scope_called, roots_called, cell_fine, binder_fine, memory_fine, or_left, or_right, bound_block, bound_statement, call_keeps, write_kind, finds_after, statement_same}
 
-module _ (program : Program) (names : ℕ → Text) (r : Renaming) (finds_fields : FindsFields program.fields) (count : ℕ) (callees : ℕ → Option Callee) (memories above : List Text) (signatures : List Signature) (finds_memories : FindsMemories (words_with program names).memory count memories) where
+module _ (program : Program) (names : ℕ → Text) (r : Renaming) (finds_fields : FindsFields program.fields) (count : ℕ) (callees : ℕ → Option Callee) (memories above : List Text) (signatures : List Signature) (finds_memories : FindsMemories (words_with program names).memory count memories) (to : ℕ → ℕ) where
   abbrev w : Words
   w = words_with program names
 
@@ -38,10 +38,10 @@ module _ (program : Program) (names : ℕ → Text) (r : Renaming) (finds_fields
   kinds = field_kind fields
 
   abbrev Meets : Block → Type 0
-  Meets b = MeetsCalls program names r finds_fields count callees memories above signatures finds_memories b
+  Meets b = MeetsCalls program names r finds_fields count callees memories above signatures finds_memories to b
 
   abbrev MeetsOne : Statement → Type 0
-  MeetsOne a = MeetsCall program names r finds_fields count callees memories above signatures finds_memories a
+  MeetsOne a = MeetsCall program names r finds_fields count callees memories above signatures finds_memories to a
 
   store_fine : (scope : Scope) (finds : Finds w r scope) (x : ℕ) (is : List Control) (e : tree.Datum) → (is_access kinds scope x is && is_datum kinds scope e) ≡ true → (n : ℕ) → store_faults fields (re_scope r scope) n (w.name x) (map (control_tree w fields) is) (datum_tree w fields e) ≡ []
   store_fine scope finds x is e h n =
@@ -56,7 +56,7 @@ module _ (program : Program) (names : ℕ → Text) (r : Renaming) (finds_fields
   own_fine (Assign x is e) scope finds root root' meet each meets h n = store_fine scope finds x is e h n
   own_fine (Reduce x is e) scope finds root root' meet each meets h n = store_fine scope finds x is e h n
   own_fine (Config f a) scope finds root root' meet each meets h n =
-      let k = write_kind program names r finds_fields count callees memories above signatures finds_memories scope f a h in
+      let k = write_kind program names r finds_fields count callees memories above signatures finds_memories to scope f a h in
       ap (λ o. write_faults fields o (re_scope r scope) n (n + 4) (written.stored_tree w fields a)) (field_is fields finds_fields f k.0 k.1)
       ∙ kind_fine w fields r scope finds finds_fields with_strides k.0 a k.2 (n + 4)
   own_fine Pass scope finds root root' meet each meets h n = refl
@@ -80,7 +80,7 @@ module _ (program : Program) (names : ℕ → Text) (r : Renaming) (finds_fields
       let u = both (has_rank (length cs) (sort_in scope x)) _ t.0 in
       joined_fine _ _ (binder_fine r scope v n s.0)
       (window_fine w fields r scope finds finds_fields is_buffer x cs refl (ranked_buffer (sort_in scope x) (length cs) u.0) t.0 (n + 2))
-  own_fine (Call k args) scope finds root root' meet each meets h n = call_keeps program names r finds_fields count callees memories above signatures finds_memories scope finds root root' meet k args each.1 h meets n
+  own_fine (Call k args) scope finds root root' meet each meets h n = call_keeps program names r finds_fields count callees memories above signatures finds_memories to scope finds root root' meet k args each.1 h meets n
 
   mutual
     pub block_fine : (b : Block) (scope : Scope) (finds : Finds w r scope) (root root' : ℕ → ℕ) → RootsMeet r root root' → (id : ℕ) → Counts r id (binders b) → AreCalled names b → writable.IsBlock program names b → Meets b → is_block kinds count callees scope root b ≡ true → (n : ℕ) → block_fault fields memories above signatures id (re_scope r scope) root' n (written.block_of w fields b) ≡ None
@@ -90,13 +90,13 @@ module _ (program : Program) (names : ℕ → Text) (r : Renaming) (finds_fields
         let left = split_left r id (step_binders a) (binders b) numbers in
         let right = split_right r id (step_binders a) (binders b) numbers in
         let mine : MeetsOne a = λ k callee p q. meets k callee (or_left (is_call_of k a) (calls k b) p) q in
-        let same = statement_same program names r finds_fields count callees memories above signatures finds_memories a scope finds root id left called.0 each.0 mine s.0 in
+        let same = statement_same program names r finds_fields count callees memories above signatures finds_memories to a scope finds root id left called.0 each.0 mine s.0 in
         let m : ℕ = n + statement_width (written.statement_of w fields a) in
         ap₂ or_else
         (ap₂ or_else (ap least (own_fine a scope finds root root' meet each.0 mine s.0 n)) (inner_fine a scope finds root root' meet id left called.0 each.0 mine s.0 n))
         (ap (λ t. block_fault fields memories above signatures (id + bound (written.statement_of w fields a)) (scope_after t (re_scope r scope)) (roots_after t root') m (written.block_of w fields b)) same
-        ∙ ap₂ (λ k sc. block_fault fields memories above signatures k sc (roots_after (re_statement r a) root') m (written.block_of w fields b)) (ap (λ k. id + k) (bound_statement w fields a)) (scope_re r a scope)
-        ∙ block_fine b (scope_after a scope) (finds_after program names r finds_fields count callees memories above signatures finds_memories a scope finds root called.0 s.0) (roots_after a root) (roots_after (re_statement r a) root') (roots_re r a root root' meet) (id + length (step_binders a)) right called.1 each.1 (λ k callee p q. meets k callee (or_right (is_call_of k a) (calls k b) p) q) s.1 m)
+        ∙ three (λ k sc rt. block_fault fields memories above signatures k sc rt m (written.block_of w fields b)) (ap (λ k. id + k) (bound_statement w fields a)) (scope_called to (re_statement r a) (re_scope r scope) ∙ scope_re r a scope) (roots_called to (re_statement r a) root')
+        ∙ block_fine b (scope_after a scope) (finds_after program names r finds_fields count callees memories above signatures finds_memories to a scope finds root called.0 s.0) (roots_after a root) (roots_after (re_statement r a) root') (roots_re r a root root' meet) (id + length (step_binders a)) right called.1 each.1 (λ k callee p q. meets k callee (or_right (is_call_of k a) (calls k b) p) q) s.1 m)
 
     inner_fine : (a : Statement) (scope : Scope) (finds : Finds w r scope) (root root' : ℕ → ℕ) → RootsMeet r root root' → (id : ℕ) → Counts r id (step_binders a) → IsCalled names a → writable.IsStatement program names a → MeetsOne a → is_statement kinds count callees scope root a ≡ true → (n : ℕ) → inner_fault fields memories above signatures id (re_scope r scope) root' n (written.statement_of w fields a) ≡ None
     inner_fine (Assign x is e) scope finds root root' meet id numbers called each meets h n = refl

@@ -132,7 +132,7 @@ block_again : (b : source.Block) → source.block_of (source.statements b) ≡ b
 block_again source.end = refl
 block_again (source.next a b) = ap (source.next a) (block_again b)
 
-module _ (program : Program) (p : Procedure) (r : Renaming) (finds_fields : FindsFields program.fields) (callees : ℕ → Option Callee) (memories above : List Text) (signatures : List Signature) (finds_memories : FindsMemories (memory_name program.memories) (length program.memories) memories) (rules : IsProcedure (field_kind program.fields) (length program.memories) callees p) (id : ℕ) (numbers : Counts r id (bound_ids p)) (can : writable.IsWritable program p) (meets : MeetsCalls program (names_of p) r finds_fields (length program.memories) callees memories above signatures finds_memories p.body) where
+module _ (program : Program) (p : Procedure) (r : Renaming) (finds_fields : FindsFields program.fields) (callees : ℕ → Option Callee) (memories above : List Text) (signatures : List Signature) (finds_memories : FindsMemories (memory_name program.memories) (length program.memories) memories) (to : ℕ → ℕ) (rules : IsProcedure (field_kind program.fields) (length program.memories) callees p) (id : ℕ) (numbers : Counts r id (bound_ids p)) (can : writable.IsWritable program p) (meets : MeetsCalls program (names_of p) r finds_fields (length program.memories) callees memories above signatures finds_memories to p.body) where
   abbrev w : Words
   w = words_of program p
 
@@ -166,14 +166,14 @@ module _ (program : Program) (p : Procedure) (r : Renaming) (finds_fields : Find
   abbrev body_tree : source.Block
   body_tree = written.block_of w fields p.body
 
-  pub definition_same : (template : Option (List ℕ)) → definition_of fields memories above signatures id template (written.definition_of w fields p) ≡ record (re_procedure r p) { template = template }
+  pub definition_same : (template : Option (List ℕ)) → definition_of fields memories above signatures id template (written.definition_of w fields p) ≡ record (re_procedure r to p) { template = template }
   definition_same template =
       ap (λ params. record { name = p.name; params = params; asserts = map (condition_of fields (scope_of [] params)) (map (condition_tree w fields) p.asserts); body = block_of fields memories above signatures (id + length params) (scope_of [] params) (source.block_of (source.statements body_tree)); template = template }) same_params
       ∙ ap₂ (λ sc k. record { name = p.name; params = map (re_param r) p.params; asserts = map (condition_of fields sc) (map (condition_tree w fields) p.asserts); body = block_of fields memories above signatures k sc (source.block_of (source.statements body_tree)); template = template }) same_scope body_id
       ∙ ap₂ (λ cs b. record { name = p.name; params = map (re_param r) p.params; asserts = cs; body = b; template = template })
       (asserts_same w fields r finds_fields count memories finds_memories p.asserts (scope_of [] p.params) finds rules.asserts)
       (ap (λ b. block_of fields memories above signatures (id + length (ids_of p.params)) (re_scope r (scope_of [] p.params)) b) (block_again body_tree)
-      ∙ block_same program (names_of p) r finds_fields count callees memories above signatures finds_memories p.body (scope_of [] p.params) finds (λ x. x) (id + length (ids_of p.params)) body_numbers named.1 can.body meets rules.body)
+      ∙ block_same program (names_of p) r finds_fields count callees memories above signatures finds_memories to p.body (scope_of [] p.params) finds (λ x. x) (id + length (ids_of p.params)) body_numbers named.1 can.body meets rules.body)
 
   pub definition_fine : (n : ℕ) → definition_fault fields memories above signatures id n (written.definition_of w fields p) ≡ None
   definition_fine n =
@@ -184,4 +184,4 @@ module _ (program : Program) (p : Procedure) (r : Renaming) (finds_fields : Find
       ∙ ap₂ or_else
       (asserts_fine w fields r finds_fields count memories finds_memories p.asserts (scope_of [] p.params) finds rules.asserts (asserts_start n d))
       (ap (λ b. block_fault fields memories above signatures (id + length (ids_of p.params)) (re_scope r (scope_of [] p.params)) (λ x. x) (body_start n d) b) (block_again body_tree)
-      ∙ block_fine program (names_of p) r finds_fields count callees memories above signatures finds_memories p.body (scope_of [] p.params) finds (λ x. x) (λ x. x) (λ x. refl) (id + length (ids_of p.params)) body_numbers named.1 can.body meets rules.body (body_start n d)))
+      ∙ block_fine program (names_of p) r finds_fields count callees memories above signatures finds_memories to p.body (scope_of [] p.params) finds (λ x. x) (λ x. x) (λ x. refl) (id + length (ids_of p.params)) body_numbers named.1 can.body meets rules.body (body_start n d)))

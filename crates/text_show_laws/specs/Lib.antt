@@ -5,3 +5,6 @@ pub mod Sizes
 pub mod Laws
 pub mod Again
 pub mod Below
+pub mod Named
+pub mod Naming
+pub mod Instance

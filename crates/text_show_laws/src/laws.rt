@@ -3,6 +3,8 @@
 ghost use Rattle.text_show_laws.specs.Laws.{ControlsAreSpelled, ConditionsAreSpelled, DataAreSpelled, ProceduresAreSpelled, WrittenFits, ShownIsRead};
 ghost use Rattle.text_show_laws.specs.Again.{ShownIsTheSame};
 ghost use Rattle.text_show_laws.specs.Below.{ShownIsReadBelow, ShownStandsAgain};
+ghost use Rattle.text_show_laws.specs.Instance.{NamesInstance, VersionsInstance};
+ghost use Rattle.text_show_laws.specs.Naming.{ReadUnitsAreNamed, NamedUnitsAreWritable};
 
 /// The text of an expression over control values has the tokens of its source tree.
 pub fn controls_are_spelled()
@@ -50,3 +52,28 @@ pub fn shown_is_read_below()
 pub fn shown_stands_again()
     ensures { ShownStandsAgain }
 {}
+
+/// What a text is read as has names of the grammar alone.
+pub fn read_units_are_named()
+    ensures { ReadUnitsAreNamed }
+{}
+
+/// Each procedure of a well-formed unit with such names can be written down.
+pub fn named_units_are_writable()
+    ensures { NamedUnitsAreWritable }
+{}
+
+/// A closed unit with such names, of which a procedure calls another.
+pub fn names_instance()
+    ensures { NamesInstance }
+{
+    named_units_are_writable();
+}
+
+/// A version that calls a version, shown below a text that has no more than its callee.
+pub fn versions_instance()
+    ensures { VersionsInstance }
+{
+    shown_is_the_same();
+    named_units_are_writable();
+}

@@ -4,3 +4,4 @@ pub mod Counts
 pub mod Callees
 pub mod Calls
 pub mod Walks
+pub mod Places

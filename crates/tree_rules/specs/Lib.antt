@@ -4,3 +4,4 @@ pub mod Findings
 pub mod Obeys
 pub mod Seen
 pub mod Walked
+pub mod Placed

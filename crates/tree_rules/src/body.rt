@@ -33,7 +33,7 @@ fn param_sort(kind: &ParamKind) -> Sort
 }
 
 /// Puts parameters into scope.
-fn bind_params<'u>(walk: &mut Walk<'u>, params: &'u [Param]) -> Result<(), AllocError>
+pub(crate) fn bind_params<'u>(walk: &mut Walk<'u>, params: &'u [Param]) -> Result<(), AllocError>
     ensures scope { OnOk result (walk_scope walk.new ≡ units.scope_of (walk_scope walk.old) (map parameter params.now)) }
     ensures aliases { OnOk result (walk.new.aliases.items ≡ walk.old.aliases.items) }
 {

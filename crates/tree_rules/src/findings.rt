@@ -17,7 +17,7 @@ pub struct Findings {
 
 impl Findings {
     /// All is kept.
-    pub(crate) const FINE: Findings = Findings {
+    pub const FINE: Findings = Findings {
         rules: true,
         scope: true,
         names: true,
@@ -25,7 +25,7 @@ impl Findings {
     };
 
     /// What both keep.
-    pub(crate) fn and(self, other: Findings) -> Findings
+    pub fn and(self, other: Findings) -> Findings
         ensures { result ≡ both self other }
     {
         Findings {

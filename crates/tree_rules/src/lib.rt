@@ -8,6 +8,7 @@ mod count;
 mod expression;
 mod findings;
 mod name;
+mod place;
 mod scope;
 mod size;
 mod statement;
@@ -15,3 +16,4 @@ mod walk;
 
 pub use body::{findings_of_body, findings_of_version};
 pub use findings::Findings;
+pub use place::findings_of_condition_at;

@@ -1,14 +1,16 @@
 -- What is found in `for i in seq(0, n): x[i] = 1`, where `n` is a size and `x` has n cells, and in
 -- the same with one thing changed.
 use Rattle.std.proofs.Common.{◌≡◌, ◌^◌, ℕ, pos, true, false, List, [], ◌∷◌, Option, None, refl, codes}
-use Rattle.exo_tree.specs.Tree.{Cell, I32, Kind, Size, Binder, Control, Lit, Var, Mul, Const, Assign, For}
+use Rattle.exo_tree.specs.Tree.{Cell, I32, Kind, Size, Binder, Control, Lit, Var, Mul, Div, Lt, Const, Assign, For}
 use Rattle.exo_tree.specs.Tree.{Block, end, next, Param, ControlParam, TensorParam}
 use Rattle.exo_meaning.specs.Calls.{Callee}
-use Rattle.exo_meaning.specs.Units.{Scope, scope_of, is_block}
+use Rattle.exo_meaning.specs.Units.{Scope, scope_of, plainly, with_fields, is_control, is_condition, is_block}
 use Rattle.tree_rules.specs.declared.findings.Findings.{Findings}
 use Rattle.tree_rules.specs.Classes.{fine}
 use Rattle.tree_rules.specs.Findings.{findings_of_block}
-use Rattle.tree_rules_laws.proofs.Blocks.{exact_law}
+use Rattle.tree_rules.specs.Obeys.{obeys}
+use Rattle.tree_rules_laws.proofs.Expressions.{control_law, condition_law}
+use Rattle.tree_rules_laws.proofs.Blocks.{obeys_law, exact_law}
 
 abbrev no_fields : ℕ → Option Kind
 no_fields f = None
@@ -47,3 +49,20 @@ not_affine = refl
 
 too_large : found (loop (codes "i") (Var 0) (Var 2) (Lit (pos (2 ^ 31)))) ≡ record fine { limits = false }
 too_large = refl
+
+-- n / 2 keeps the rules of a bound, and n / 2 < n those of a condition
+abbrev half : Control
+half = Div (Var 0) (pos 2)
+
+so_it_is_a_control : is_control no_fields plainly (scope_of [] params) half ≡ true
+so_it_is_a_control = control_law no_fields plainly (scope_of [] params) half refl
+
+so_it_is_a_condition : is_condition no_fields with_fields (scope_of [] params) (Lt half (Var 0)) ≡ true
+so_it_is_a_condition = condition_law no_fields with_fields (scope_of [] params) (Lt half (Var 0)) refl
+
+-- a loop over a name that is taken keeps all rules but the one on names
+so_it_obeys : obeys no_fields 1 no_callees (scope_of [] params) (λ x. x) (loop (codes "n") (Var 0) (Var 2) (Lit (pos 0))) ≡ true
+so_it_obeys = obeys_law no_fields 1 no_callees (scope_of [] params) (λ x. x) (loop (codes "n") (Var 0) (Var 2) (Lit (pos 0))) refl
+
+and_is_no_block : is_block no_fields 1 no_callees (scope_of [] params) (λ x. x) (loop (codes "n") (Var 0) (Var 2) (Lit (pos 0))) ≡ false
+and_is_no_block = refl

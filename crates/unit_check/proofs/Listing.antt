@@ -1,6 +1,6 @@
 -- What is known of the obligations of a procedure where they are listed, and where not.
 use Rattle.std.proofs.Common.{◌≡◌, ℕ, ◌≤◌, Bool, true, false, List, [], ◌∷◌, ◌++◌, map, length, Option, Some, None, All, refl, sym, ap, ◌∙◌, subst, arith, append_assoc, append-nil, inl}
-use Rattle.std.specs.Prelude.{Err, Ok, Vec, slice_get, nat_le}
+use Rattle.std.specs.Prelude.{Result, Err, Ok, IfOk, Vec, slice_get, nat_le}
 use Rattle.std.specs.List.{AllByRecursion}
 use Rattle.std.proofs.Common.{Global}
 use Rattle.std.proofs.lemmas.Bool.{and_parts, leb-true}
@@ -13,7 +13,10 @@ use Rattle.affine_systems.specs.Outcomes.{Owed, plain_obligation}
 use Rattle.affine_systems.specs.declared.obligation.Obligation.{Obligation}
 use Rattle.check_claims.specs.Claim.{Placed}
 use Rattle.check_claims.specs.Claims.{claims_of}
+use Rattle.ob_check.specs.Answers.{ShownHasNoPoint}
 use Rattle.ob_check.specs.Systems.{systems_of}
+use Rattle.ob_check.specs.declared.answer.Answer.{Answer}
+use Rattle.ob_check.specs.declared.answer.Answer.TheVariants.{AllShown}
 use Rattle.bounds_check.specs.Limits.{are_within, terms_in}
 use Rattle.bounds_check.specs.Obligations.{Fault, owed_for, owed_for_all, obligations_of, claim_fault, unless_refused, first_fault, list_fault}
 use Rattle.bounds_check.specs.Outcomes.{IsRefusal, AreObligationsIn}
@@ -84,3 +87,8 @@ pub holds_all : (os : List Obligation) (all : List Owed) → map plain_obligatio
 holds_all os all is h =
     subst (All (λ (o : Owed). HasNoIntegerPoint o.system)) is
     (All-from_recursion (λ (o : Owed). HasNoIntegerPoint o.system) (map plain_obligation os) (no_points os (recursion_from_All HasNoIntegerPoint (systems_of os) h)))
+
+pub all_hold : {E : Type 0} (os : List Obligation) (answer : Answer) (r : Result (Unit {0}) E) → ShownHasNoPoint (systems_of os) answer → IfOk r (λ _. answer ≡ AllShown)
+    → IfOk r (λ _. All (λ (o : Owed). HasNoIntegerPoint o.system) (map plain_obligation os))
+all_hold os answer (Ok t) h is = holds_all os (map plain_obligation os) refl (h is)
+all_hold os answer (Err e) h is = tt

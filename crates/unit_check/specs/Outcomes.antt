@@ -1,5 +1,5 @@
 -- What the check of a unit answers.
-use Rattle.std.specs.Prelude.{◌≡◌, ◌⊎◌, ℕ, [], Option, Some, None, Result, Ok, Err}
+use Rattle.std.specs.Prelude.{◌≡◌, ⊤, ◌⊎◌, ℕ, [], Option, Some, None, Result, Ok, Err}
 use Rattle.exo_tree.specs.Places.{Path}
 use Rattle.bounds_check.specs.Outcomes.{IsRefusal}
 use Rattle.bounds_check.specs.declared.error.CheckError.TheVariants as error
@@ -24,6 +24,19 @@ IsOf r k cause = (r.why ≡ why.Memory) ⊎ ((r.proc.0 ≡ k) × IsCause r.why r
 abbrev pub IsRefused : UnitRefused → Checked → Type 0
 IsRefused r (Shown count) = r.why ≡ why.Memory
 IsRefused r (Refused k cause) = IsOf r k cause
+
+-- obligations are shown exactly where none is open; want of memory is free
+abbrev pub Shows : {A : Type 0} → Result A Why → Option Cause → Type 0
+Shows (Ok t) first = first ≡ None
+Shows (Err (why.Check e)) first = ⊥
+Shows (Err (why.NotShown what place verdict)) first = first ≡ Some (NotShown what place verdict)
+Shows (Err why.Memory) first = ⊤
+
+-- where it stands; the empty path where the obligations can't be listed
+abbrev pub place_in : Why → Path
+place_in (why.Check e) = []
+place_in (why.NotShown what place verdict) = place
+place_in why.Memory = []
 
 -- a procedure is refused exactly where there is a cause
 abbrev pub Answers : {A : Type 0} → Result A UnitRefused → ℕ → Option Cause → Type 0

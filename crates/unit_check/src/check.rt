@@ -1,31 +1,26 @@
 //! The check of a unit.
-ghost use Rattle.std.specs.Prelude.{◌≡◌, ◌≤◌, All, IfOk, Some, map, length, slice_get};
+ghost use Rattle.std.specs.Prelude.{◌≡◌, ◌≤◌, All, IfOk, Some, length, slice_get};
 ghost use Rattle.exo_tree.specs.Tree.{Procedure};
 ghost use Rattle.exo_tree.specs.PlainUnit.{program};
 ghost use Rattle.exo_meaning.specs.Units.{IsUnit};
 ghost use Rattle.meaning_laws.specs.UnitFields.{unit_writes};
 ghost use Rattle.config_state.specs.FieldSets.{IsTable};
 ghost use Rattle.affine_forms.specs.Affine.{HasNoIntegerPoint};
-ghost use Rattle.affine_systems.specs.Outcomes.{plain_obligation};
-ghost use Rattle.affine_prover.specs.Elimination.{elimination};
-ghost use Rattle.ob_check.specs.Answers.{answer_of};
-ghost use Rattle.ob_check.specs.Systems.{systems_of};
 ghost use Rattle.bounds_check.specs.Obligations.{Fault, obligations_of};
 ghost use Rattle.unit_check.specs.declared.refused.Why.TheVariants.{Memory};
 ghost use Rattle.bounds_check.specs.Outcomes.{IsRefusal};
-ghost use Rattle.unit_check.specs.Checked.{NotShown, NotListed, first_open, cause_of, checked, AllHold};
-ghost use Rattle.unit_check.specs.Outcomes.{IsChecked, Answers, IsOf};
+ghost use Rattle.unit_check.specs.Checked.{NotListed, cause_of, checked, AllHold};
+ghost use Rattle.unit_check.specs.Outcomes.{IsChecked, Answers, IsOf, place_in};
 ghost use Rattle.unit_check.specs.Faults.{NothingFaults};
 
 use crate::laws::shown_procedures_do_not_fault;
 use crate::refused::{UnitRefused, Why};
-use affine_prover::Verdict;
-use affine_systems::Obligation;
+use crate::showing::show;
 use bounds_check::{CheckError, obligations_with_writes};
 use config_state::{FieldTable, written_table};
-use exo_tree::{Path, ProcId, Text, Unit};
-use ob_check::{Answer, Cache, Gate, discharge};
-use std::alloc::{AllocError, Global};
+use exo_tree::{Path, ProcId, Unit};
+use ob_check::{Cache, Gate};
+use std::alloc::Global;
 use std::thread::Threads;
 
 /// Want of memory in the work on a procedure.
@@ -54,40 +49,20 @@ fn not_listed(p: ProcId, error: CheckError) -> UnitRefused
     }
 }
 
-/// This obligation is not shown.
-fn not_shown(
-    alloc: Global,
-    p: ProcId,
-    o: &Obligation,
-    verdict: Verdict,
-) -> Result<UnitRefused, AllocError>
-    ensures { IfOk result (λ r. IsOf r p.0 (NotShown o.now.what o.now.place verdict)) }
+/// What the procedure owes is not shown.
+fn not_shown(p: ProcId, why: Why) -> UnitRefused
+    ensures why { result.why ≡ why }
+    ensures proc { result.proc.0 ≡ p.0 }
+    ensures place { result.place ≡ place_in why }
 {
-    let what = o.what.duplicate(alloc)?;
-    let place = o.place.duplicate();
-    Ok(UnitRefused {
+    let place = match &why {
+        Why::NotShown { place, .. } => place.duplicate(),
+        Why::Check(_) | Why::Memory => Path::new(),
+    };
+    UnitRefused {
         proc: p,
-        place: o.place.duplicate(),
-        why: Why::NotShown {
-            what,
-            place,
-            verdict,
-        },
-    })
-}
-
-/// What the answer on a procedure's obligations means.
-fn answered(alloc: Global, p: ProcId, obs: &[Obligation], answer: Answer) -> Result<(), UnitRefused>
-    requires { answer ≡ answer_of (map elimination (systems_of obs.now)) }
-    ensures exact { Answers result p.0 (first_open (map plain_obligation obs.now)) }
-    ensures shown { IfOk result (λ _. answer ≡ Answer.AllShown) }
-{
-    match answer {
-        Answer::AllShown => Ok(()),
-        Answer::First { index, verdict } => match not_shown(alloc, p, &obs[index], verdict) {
-            Ok(refused) => Err(refused),
-            Err(_) => Err(out_of_memory(p)),
-        },
+        place,
+        why,
     }
 }
 
@@ -112,12 +87,10 @@ fn check_procedure<R: Threads + Sync, G: Gate>(
         Ok(list) => list,
         Err(e) => return Err(not_listed(p, e)),
     };
-    let answer = match discharge(rt, alloc, &obs, cache, gate) {
-        Ok(found) => found,
-        Err(_) => return Err(out_of_memory(p)),
-    };
-    answered(alloc, p, &obs, answer)?;
-    Ok(obs.len() as u64)
+    match show(rt, alloc, &obs, cache, gate) {
+        Ok(()) => Ok(obs.len() as u64),
+        Err(why) => Err(not_shown(p, why)),
+    }
 }
 
 /// Discharges the obligations of each procedure of the unit, in order, and counts them.

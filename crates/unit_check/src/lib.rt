@@ -5,7 +5,9 @@ mod check;
 pub mod laws;
 mod line;
 mod refused;
+mod showing;
 
 pub use check::check_unit;
 pub use line::line_of;
 pub use refused::{UnitRefused, Why};
+pub use showing::show;

@@ -1,7 +1,7 @@
 -- What is left decides.
 use Rattle.std.proofs.Common.{◌≡◌, drop, map}
 use Rattle.exo_tree.specs.PlainUnit.{program}
-use Rattle.c_lowering.specs.PlainPrinted.{printing}
+use Rattle.c_printer.specs.PlainPrinted.{printing}
 use Rattle.compile_stages.specs.Printings.{memory_fault}
 use Rattle.compile_stages.proofs.memories.memory_fault.Given as goal
 

@@ -1,24 +1,27 @@
-use Rattle.std.proofs.Common.{◌≡◌, ◌∙◌, sym, ap, option_map}
+use Rattle.std.proofs.Common.{◌≡◌, ◌-◌, suc, sym, ap, ◌∙◌, arith}
+use Rattle.schedule_run.specs.Roots.{root_in}
 use Rattle.schedule_run.specs.PlainVersions.{versions}
-use Rattle.schedule_run.proofs.Rooting.{goes_up, stays_here, ends_here, begins}
+use Rattle.schedule_run.proofs.Climbing.{root_up, root_here}
 use Rattle.schedule_run.proofs.session.Session.root.Goals as goal
 
-pub loop-init : goal.loop-init
-loop-init c = begins (versions c.args.self.now) c.args.k.0 c.args.k.0
+pub loop-left-preserved : goal.loop-left-preserved
+loop-left-preserved c =
+    let left : c.loop-left.left ≡ suc (c.loop-left.left - 1) = omega (arith, c.loop-left-test.true) in
+    c.loop-left.invariant
+    ∙ root_up (versions c.args.self.now) c.loop-left.left (c.loop-left.left - 1) c.loop-left.root.0
+    c.in-Some.above.0 left (sym c.in-Some.ensures)
 
 pub returns-in-None : goal.returns-in-None
 returns-in-None c =
-    sym (stays_here (versions c.args.self.now) c.args.k.0 c.loop.counter c.loop.root.0 c.loop-test.true
-    (sym c.parent.ensures ∙ ap (option_map (λ j. j.0)) c.in-None.is))
-    ∙ c.loop.invariant
-
-pub loop-preserved : goal.loop-preserved
-loop-preserved c =
-    sym (goes_up (versions c.args.self.now) c.args.k.0 c.loop.counter c.loop.root.0 c.in-Some.parent.0 c.loop-test.true
-    (sym c.parent.ensures ∙ ap (option_map (λ j. j.0)) c.in-Some.is))
-    ∙ c.loop.invariant
+    let left : c.loop-left.left ≡ suc (c.loop-left.left - 1) = omega (arith, c.loop-left-test.true) in
+    sym
+    (c.loop-left.invariant
+    ∙ root_here (versions c.args.self.now) c.loop-left.left (c.loop-left.left - 1) c.loop-left.root.0
+    left (sym c.in-None.ensures))
 
 pub returns : goal.returns
 returns c =
-    sym (ends_here (versions c.args.self.now) c.args.k.0 c.loop.counter c.loop.root.0 c.loop-test.false)
-    ∙ c.loop.invariant
+    let none : c.loop-left.left ≡ 0 = omega (arith, c.loop-left-test.false) in
+    sym
+    (c.loop-left.invariant
+    ∙ ap (λ m. root_in (versions c.args.self.now) m c.loop-left.root.0) none)

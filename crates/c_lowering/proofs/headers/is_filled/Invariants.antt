@@ -1,9 +1,0 @@
--- What is left decides.
-use Rattle.std.proofs.Common.{◌≡◌, drop, map}
-use Rattle.exo_tree.specs.PlainUnit.{program}
-use Rattle.c_lowering.specs.PlainPrinted.{printing}
-use Rattle.c_lowered.specs.LoweredUnit.{is_filled}
-use Rattle.c_lowering.proofs.headers.is_filled.Given as goal
-
-abbrev pub invariant-loop-w : goal.invariant-loop-w
-invariant-loop-w l = is_filled (program l.unit) (map printing (drop l.w-index l.what)) l.m ≡ is_filled (program l.unit) (map printing l.what) l.m

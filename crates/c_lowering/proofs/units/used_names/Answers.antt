@@ -1,8 +1,0 @@
-use Rattle.std.proofs.Common.{◌∙◌, map}
-use Rattle.exo_tree.specs.PlainUnit.{program}
-use Rattle.c_lowering.specs.PlainPrinted.{printing}
-use Rattle.c_lowering.proofs.Marking.{fields_are}
-use Rattle.c_lowering.proofs.units.used_names.Goals as goal
-
-pub returns : goal.returns
-returns c = c.in_ok-names.ensures ∙ fields_are (program c.args.unit.now) (map printing c.args.what.now) c.args.counted.now c.requires

@@ -1,0 +1,2 @@
+mod Helpers
+mod Runs

@@ -1,0 +1,6 @@
+pub mod Lists
+pub mod Parameters
+pub mod Marking
+pub mod Agreed
+pub mod Listing
+pub mod Ranks

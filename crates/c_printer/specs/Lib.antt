@@ -1,0 +1,2 @@
+pub mod PlainPrinted
+pub mod Refusals

@@ -1,0 +1,15 @@
+//! The C of units: `lower` makes the tree of a file, with its report, headers, structs, fields and functions.
+#![tactic(auto)]
+
+mod counted;
+mod field_marks;
+mod fields;
+mod functions;
+mod globals;
+mod headers;
+mod report;
+mod structs;
+mod units;
+
+pub use report::{LowerError, Printed};
+pub use units::lower;

@@ -1,0 +1,3 @@
+mod Entries
+mod Add3
+mod FilledColumn

@@ -1,0 +1,2 @@
+pub mod Add3
+pub mod FilledColumn

@@ -1,0 +1,4 @@
+//! Closed runs of printed files, from a valid input to what is left.
+#![tactic(auto)]
+
+pub mod laws;

@@ -1,0 +1,15 @@
+pub mod Forms
+pub mod Cells
+pub mod Known
+pub mod Covers
+pub mod Covering
+pub mod Renamed
+pub mod Points
+pub mod Copies
+pub mod Meeting
+pub mod Clear
+pub mod Places
+pub mod Turns
+pub mod Apart
+pub mod Examples
+pub mod Fits

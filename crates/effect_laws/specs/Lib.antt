@@ -1,0 +1,4 @@
+pub mod Covers
+pub mod Clear
+pub mod Apart
+pub mod Fits

@@ -1,0 +1,52 @@
+// Laws of accesses and conflicts, each the contract of a function with nothing to do.
+
+ghost use Rattle.effect_laws.specs.Apart.{ApartIsMet};
+ghost use Rattle.effect_laws.specs.Clear.{ClearLaw};
+ghost use Rattle.effect_laws.specs.Covers.{CoversLaw};
+ghost use Rattle.effect_laws.specs.Fits.{HalvesFit, NestsFit, NeighboursFit};
+
+/// The accesses of a piece cover what a run of it touches, calls included.
+pub fn accesses_cover()
+    ensures { CoversLaw }
+{
+    affine_forms::laws::normal_is_exact();
+    affine_forms::laws::formulas_are_exact();
+}
+
+/// What two lists of accesses cover does not clash where their conflicts have no integer point.
+pub fn shown_conflicts_are_clear()
+    ensures { ClearLaw }
+{
+    affine_systems::laws::failed_claims_have_points();
+}
+
+/// Wherever a run comes to a place, what it then touches in two pieces does not clash at turns in
+/// that order, where what is owed for them there has no integer point.
+pub fn shown_pieces_are_apart()
+    ensures { ApartIsMet }
+{
+    meaning_laws::laws::opened_blocks_are_there();
+    meaning_laws::laws::names_stay_as_made();
+    meaning_laws::laws::places_fit();
+    meaning_laws::laws::places_are_sound();
+    meaning_laws::laws::free_names_stand_for_nothing();
+    check_facts_laws::laws::contexts_hold();
+    affine_forms::laws::normal_is_exact();
+    accesses_cover();
+    shown_conflicts_are_clear();
+}
+
+/// What the laws on parted and fused loops ask of two loops, where their bodies are apart.
+pub fn halves_fit()
+    ensures { HalvesFit }
+{}
+
+/// What the law on two loops that change places asks, where turns of the body are apart.
+pub fn nests_fit()
+    ensures { NestsFit }
+{}
+
+/// What the law on neighbours that change places asks, where they are apart.
+pub fn neighbours_fit()
+    ensures { NeighboursFit }
+{}

@@ -1,0 +1,13 @@
+pub mod Parts
+pub mod Uses
+pub mod Accesses
+pub mod Renamed
+pub mod Limits
+pub mod Cases
+pub mod Orders
+pub mod Fresh
+pub mod Conflicts
+pub mod PlainAccess
+pub mod PlainGuards
+pub mod PlainWindows
+pub mod PlainParts

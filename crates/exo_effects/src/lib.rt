@@ -1,0 +1,11 @@
+//! What a piece of a procedure touches, and when two pieces do not meet.
+#![tactic(auto)]
+
+mod access;
+mod forms;
+mod guards;
+mod parts;
+mod windows;
+
+pub use access::{AccessCoord, Mode};
+pub use forms::{plain_form, plain_formula};

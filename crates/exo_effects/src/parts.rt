@@ -1,0 +1,141 @@
+//! Which part of a buffer each name of a procedure stands for.
+ghost use Rattle.std.specs.Prelude.{◌≡◌, IfOk, OnOk, Some, None, map, option_map};
+ghost use Rattle.std.specs.Option.{option_copied};
+ghost use Rattle.exo_meaning.specs.Scene.{updated};
+ghost use Rattle.exo_tree.specs.PlainParam.{parameter_kind};
+ghost use Rattle.exo_tree.specs.PlainStatement.{statement};
+ghost use Rattle.exo_effects.specs.Parts as plain;
+ghost use Rattle.exo_effects.specs.Parts.{no_parts, all_of, whole_of, window_of, with_kind, with_params, passed, passed_inside};
+ghost use Rattle.exo_effects.specs.PlainParts.{plain_part, parts_in};
+
+use crate::windows::joined;
+use exo_tree::{Coord, Coords, Ctrl, Id, Indices, ParamKind, Params, Stmt};
+use indexmap::IndexMap;
+use std::alloc::{AllocError, Global};
+
+/// A root, with a point or a span for each of its dimensions.
+#[derive(Drop)]
+pub(crate) struct Part {
+    pub(crate) root: Id,
+    pub(crate) coords: Coords,
+}
+
+impl Part {
+    /// All of a buffer of these dimensions.
+    fn whole(alloc: Global, root: Id, dims: &Indices) -> Result<Part, AllocError>
+        ensures { IfOk result (λ p. plain_part p ≡ whole_of root.0 dims.now) }
+    {
+        let mut coords = Coords::new(alloc);
+        for d in dims.as_slice() {
+            coords.push(Coord::Span(Ctrl::Lit(0), d.duplicate(alloc)?))?;
+        }
+        Ok(Part { root, coords })
+    }
+
+    /// A window of it.
+    fn window(&self, alloc: Global, coords: &Coords) -> Result<Part, AllocError>
+        ensures { IfOk result (λ p. plain_part p ≡ window_of coords.now (plain_part self.now)) }
+    {
+        Ok(Part {
+            root: self.root,
+            coords: joined(alloc, &self.coords, coords)?,
+        })
+    }
+}
+
+/// For each name that stands for a buffer which counts: the part that it stands for.
+#[derive(Drop)]
+pub(crate) struct Parts {
+    table: IndexMap<u32, Option<Part>>,
+}
+
+impl Parts {
+    /// No name stands for a buffer.
+    pub(crate) fn new(alloc: Global) -> Parts
+        ensures { parts_in result ≡ no_parts }
+    {
+        Parts {
+            table: IndexMap::new(alloc),
+        }
+    }
+
+    /// What a name stands for; None where that is no buffer, or one that is left out.
+    pub(crate) fn get(&self, x: Id) -> Option<&Part>
+        ensures { option_map plain_part (option_copied result) ≡ parts_in self.now x.0 }
+    {
+        match self.table.get(&x.0) {
+            Some(part) => part.as_ref(),
+            None => None,
+        }
+    }
+
+    fn set(&mut self, x: Id, part: Option<Part>) -> Result<(), AllocError>
+        ensures { OnOk result (parts_in self.new ≡ updated (parts_in self.old) x.0 (option_map plain_part part)) }
+    {
+        self.table.insert(x.0, part)?;
+        Ok(())
+    }
+
+    /// The part that a window of a name stands for.
+    pub(crate) fn window(
+        &self,
+        alloc: Global,
+        x: Id,
+        coords: &Coords,
+    ) -> Result<Option<Part>, AllocError>
+        ensures { IfOk result (λ o. option_map plain_part o ≡ option_map (window_of coords.now) (parts_in self.now x.0)) }
+    {
+        match self.get(x) {
+            None => Ok(None),
+            Some(part) => Ok(Some(part.window(alloc, coords)?)),
+        }
+    }
+
+    fn insert_kind(&mut self, alloc: Global, x: Id, kind: &ParamKind) -> Result<(), AllocError>
+        ensures { OnOk result (parts_in self.new ≡ with_kind x.0 (parameter_kind kind.now) (parts_in self.old)) }
+    {
+        match kind {
+            ParamKind::Ctrl(_) => Ok(()),
+            ParamKind::Tensor(_, dims, _) => self.set(x, Some(Part::whole(alloc, x, dims)?)),
+            ParamKind::Window(_, dims, _) => self.set(x, Some(Part::whole(alloc, x, dims)?)),
+        }
+    }
+
+    /// Each buffer among the parameters stands for itself.
+    pub(crate) fn insert_params(&mut self, alloc: Global, params: &Params) -> Result<(), AllocError>
+        ensures { OnOk result (parts_in self.new ≡ with_params params.now (parts_in self.old)) }
+    {
+        for p in params.as_slice() {
+            self.insert_kind(alloc, p.binder.id, &p.kind)?;
+        }
+        Ok(())
+    }
+
+    /// Goes past a statement on the way to a piece.
+    pub(crate) fn pass(&mut self, alloc: Global, s: &Stmt) -> Result<(), AllocError>
+        ensures { OnOk result (parts_in self.new ≡ passed (statement s.now) (parts_in self.old)) }
+    {
+        match s {
+            Stmt::Alloc(x, _, dims, _) => self.set(x.id, Some(Part::whole(alloc, x.id, dims)?)),
+            Stmt::View(w, x, coords) => {
+                let part = self.window(alloc, *x, coords)?;
+                self.set(w.id, part)
+            }
+            _ => Ok(()),
+        }
+    }
+
+    /// Goes past a statement of the piece: a buffer that it makes is left out.
+    pub(crate) fn pass_inside(&mut self, alloc: Global, s: &Stmt) -> Result<(), AllocError>
+        ensures { OnOk result (parts_in self.new ≡ passed_inside (statement s.now) (parts_in self.old)) }
+    {
+        match s {
+            Stmt::Alloc(x, _, _, _) => self.set(x.id, None),
+            Stmt::View(w, x, coords) => {
+                let part = self.window(alloc, *x, coords)?;
+                self.set(w.id, part)
+            }
+            _ => Ok(()),
+        }
+    }
+}

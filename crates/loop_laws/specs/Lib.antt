@@ -1,0 +1,10 @@
+pub mod Shapes
+pub mod Turns
+pub mod CutLoop
+pub mod DivideLoop
+pub mod Copies
+pub mod UnrollLoop
+pub mod Specialize
+pub mod MultLoops
+pub mod ShiftLoop
+pub mod SameTurns

@@ -1,0 +1,27 @@
+-- Blocks and paths that are made.
+use Rattle.std.proofs.Common.{◌≡◌, ℕ, zero, suc, List, [], ◌∷◌, ◌++◌, length, refl, ap, ◌∙◌, arith}
+use Rattle.exo_tree.specs.Tree.{Statement, Block, end, next, block, joined, statements}
+use Rattle.exo_tree.specs.Places.{Main, Path}
+use Rattle.loop_laws.specs.Shapes.{inside}
+
+joined_blocks : (xs ys : List Statement) → block (xs ++ ys) ≡ joined (block xs) (block ys)
+joined_blocks [] ys = refl
+joined_blocks (x ∷ xs) ys = ap (next x) (joined_blocks xs ys)
+
+pub appended : (made rest new : List Statement) (a b : Block) → new ≡ made ++ rest → block made ≡ a
+    → block rest ≡ b → block new ≡ joined a b
+appended made rest new a b h k l = ap block h ∙ joined_blocks made rest ∙ (λ i. joined (k i) (l i))
+
+pub statements_of : (ss : List Statement) → statements (block ss) ≡ ss
+statements_of [] = refl
+statements_of (a ∷ ss) = ap (λ xs. a ∷ xs) (statements_of ss)
+
+-- ---- paths
+
+pub inside_more : (k : ℕ) → inside k ++ record { branch = Main; index = 0 } ∷ [] ≡ inside (suc k)
+inside_more zero = refl
+inside_more (suc k) = ap (λ (p : Path). record { branch = Main; index = 0 } ∷ p) (inside_more k)
+
+pub inside_long : (k : ℕ) → length (inside k) ≡ suc k
+inside_long zero = refl
+inside_long (suc k) = ap suc (inside_long k)

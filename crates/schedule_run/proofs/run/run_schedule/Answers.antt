@@ -1,0 +1,48 @@
+use Rattle.std.proofs.Common.{◌≤◌, ◌<◌, List, map, length, sym, subst, arith}
+use Rattle.exo_tree.specs.PlainUnit.{program}
+use Rattle.schedule_text.specs.Tree as tree
+use Rattle.schedule_text.specs.Views.{plain_line}
+use Rattle.schedule_versions.specs.Versions.{started}
+use Rattle.schedule_versions.specs.Lines.{Done}
+use Rattle.schedule_run.specs.Runs.{LinesRun, ends}
+use Rattle.schedule_run.specs.Running.{versions_in}
+use Rattle.schedule_run.proofs.Going.{dropped, past_all, goes_on, refused_runs}
+use Rattle.schedule_run.proofs.run.run_schedule.Goals as goal
+
+pub returns-in-Err-run_line-clause-exact : goal.returns-in-Err-run_line-clause-exact
+returns-in-Err-run_line-clause-exact g c =
+    let items = c.args.lines.now in
+    let k = c.loop-index.index in
+    let lines = map plain_line items in
+    let line = c.index-lines-index.result in
+    let less : k < length items = omega (arith, c.loop-index-test.true) in
+    refused_runs k lines (plain_line line) (started (program c.args.unit) c.args.shown)
+    (versions_in c.loop-index.running) lines c.in-Err-run_line.why
+    (dropped plain_line items k line c.index-lines-index.is less)
+    c.loop-index.invariant.rest c.in-Err-run_line.ensures.runs
+
+pub loop-index-preserved : goal.loop-index-preserved
+loop-index-preserved g c =
+    let items = c.args.lines.now in
+    let k = c.loop-index.index in
+    let lines = map plain_line items in
+    let line = c.index-lines-index.result in
+    let less : k < length items = omega (arith, c.loop-index-test.true) in
+    record {
+      running = c.in_default.ensures.running;
+      rest = λ end h.
+          c.loop-index.invariant.rest end
+          (goes_on k lines (plain_line line) (versions_in c.loop-index.running)
+          (dropped plain_line items k line c.index-lines-index.is less)
+          _ end c.in_default.ensures.runs h);
+    }
+
+pub returns-clause-exact : goal.returns-clause-exact
+returns-clause-exact g c =
+    let items = c.args.lines.now in
+    let k = c.loop-index.index in
+    let v = versions_in c.loop-index.running in
+    let past : length items ≤ k = omega (arith, c.loop-index-test.false) in
+    c.loop-index.invariant.rest (Done v)
+    (subst (λ (l : List tree.Line). LinesRun k l v (Done v)) (sym (past_all plain_line items k past))
+    (ends k v))

@@ -1,0 +1,18 @@
+-- However the lines that are left end, all lines end.
+use Rattle.std.proofs.Common.{map, drop}
+use Rattle.exo_tree.specs.PlainUnit.{program}
+use Rattle.schedule_text.specs.Views.{plain_line}
+use Rattle.schedule_versions.specs.Versions.{started}
+use Rattle.schedule_versions.specs.Lines.{Outcome}
+use Rattle.schedule_run.specs.Runs.{LinesRun}
+use Rattle.schedule_run.specs.Running.{IsRunning, versions_in}
+use Rattle.schedule_run.proofs.run.run_schedule.Given as goal
+
+abbrev pub invariant-loop-index : goal.invariant-loop-index
+invariant-loop-index g l = record {
+  running : IsRunning l.running;
+  rest :
+      (end : Outcome)
+      → LinesRun l.index (drop l.index (map plain_line l.lines)) (versions_in l.running) end
+      → LinesRun 0 (map plain_line l.lines) (started (program l.fn.unit) l.shown) end;
+}

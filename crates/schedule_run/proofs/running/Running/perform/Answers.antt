@@ -1,0 +1,19 @@
+use Rattle.std.proofs.Common.{sym, subst}
+use Rattle.schedule_calls.specs.PlainRequest.{plain_request}
+use Rattle.schedule_calls.specs.declared.request.Request.{Request}
+use Rattle.schedule_versions.specs.Lines.{performed}
+use Rattle.schedule_operators.specs.Operators.{act_of}
+use Rattle.schedule_run.specs.Outcomes.{Performs}
+use Rattle.schedule_run.specs.PlainVersions.{versions}
+use Rattle.schedule_run.specs.Running.{versions_in}
+use Rattle.schedule_run.proofs.running.Running.perform.Goals as goal
+
+pub returns-in-Apply-clause-performs : goal.returns-in-Apply-clause-performs
+returns-in-Apply-clause-performs g c =
+    subst (λ (r : Request). Performs (performed (versions_in c.args.self.now) (act_of (plain_request r))) (versions_in c.apply.new.self) c.apply.result)
+    (sym c.in-Apply.is) c.apply.ensures.performs
+
+pub returns-in-Search-clause-performs : goal.returns-in-Search-clause-performs
+returns-in-Search-clause-performs g c =
+    subst (λ (r : Request). Performs (performed (versions_in c.args.self.now) (act_of (plain_request r))) (versions c.search.new.self) c.search.result)
+    (sym c.in-Search.is) c.search.ensures.performs

@@ -1,0 +1,5 @@
+pub mod OneNeed
+pub mod Ruled
+pub mod Walked
+pub mod Standing
+pub mod Rests

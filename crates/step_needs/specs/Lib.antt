@@ -1,0 +1,3 @@
+pub mod PlainNeed
+pub mod Outcomes
+pub mod Owing

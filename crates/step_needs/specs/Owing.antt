@@ -1,0 +1,74 @@
+-- What the calls on needs answer.
+use Rattle.std.specs.Prelude.{◌≡◌, ℕ, Bool, true, false, List, ◌++◌, codes, Option, Some, None}
+use Rattle.std.specs.Prelude.{option_map, Result, MatchResult}
+use Rattle.exo_tree.specs.Tree.{Procedure, Program}
+use Rattle.meaning_laws.specs.Facts.{Fact, Holds, Fails}
+use Rattle.affine_forms.specs.Formulas.{Formula, negation, condition_keeps_rules}
+use Rattle.affine_systems.specs.Outcomes.{Owed}
+use Rattle.text_show.specs.Layout.{Text}
+use Rattle.text_show.specs.Words.{Words}
+use Rattle.text_show.specs.ControlText.{condition_text}
+use Rattle.bounds_check.specs.Limits.{are_within}
+use Rattle.bounds_check.specs.declared.error.CheckError.TheVariants as check
+use Rattle.bounds_check.specs.declared.error.CheckError.{CheckError}
+use Rattle.bounds_check.specs.declared.error.CheckError.TheVariants.{TooManyObligations, Memory}
+use Rattle.cursor_forward.specs.Causes.{Cause, FormFault, TooManySystems, Form}
+use Rattle.cursor_forward.specs.PlainProposal.{fault_of, cause_of}
+use Rattle.cursor_forward.specs.declared.proposal.StepError.{StepError}
+use Rattle.step_rules.specs.Rule.{Got, Target, Need, Says}
+use Rattle.step_rules.specs.Owing.{condition_of, owed_for, need_fault, owed_behind}
+use Rattle.step_needs.specs.Outcomes.{RefusedBy, IsCause}
+
+-- a procedure of a unit, under any number
+abbrev pub target_in : Program × Procedure → ℕ → Target
+target_in it k = record { unit = it.0; number = k; proc = it.1 }
+
+-- ---- facts
+
+-- what a fact says in these words
+abbrev pub text_by : Words → Fact → Text
+text_by words (Holds c) = condition_text words c
+text_by words (Fails c) = codes "not (" ++ condition_text words c ++ codes ")"
+
+-- what a fact says, by the formula of its condition
+abbrev pub said : Fact → Formula → Formula
+said (Holds c) f = f
+said (Fails c) f = negation f
+
+-- what has to be shown is affine
+abbrev pub is_affine : Need → Bool
+is_affine (Says path fact) = condition_keeps_rules (condition_of fact)
+
+-- ---- refusals
+
+-- why a step is refused, where a list of obligations is; None: want of memory
+abbrev pub check_cause : CheckError → Option Cause
+check_cause TooManyObligations = Some (Form TooManySystems)
+check_cause (check.Form e) = option_map Form (fault_of e)
+check_cause Memory = None
+
+abbrev pub limit_passed : Bool → Option Cause
+limit_passed true = None
+limit_passed false = Some (Form TooManySystems)
+
+-- why a need is refused, behind what is owed already
+abbrev pub cause_for : Option FormFault → Bool → Option Cause
+cause_for (Some fault) within = Some (Form fault)
+cause_for None within = limit_passed within
+
+-- ---- what comes of needs
+
+-- what a need owes comes behind the others, exactly where it is not refused
+abbrev pub Puts :
+    {A : Type 0} → Result A StepError → Target → Need → List Owed → List Owed → Type 0
+Puts result t n old new =
+    let why = cause_for (need_fault t n) (are_within (old ++ owed_for t n)) in
+    MatchResult result (λ x. (why ≡ None) × (new ≡ old ++ owed_for t n))
+    (λ e. IsCause why (cause_of e))
+
+-- the same of needs in their order
+abbrev pub PutsAll :
+    {A : Type 0} → Result A StepError → Target → List Need → List Owed → List Owed → Type 0
+PutsAll result t ns old new =
+    MatchResult result (λ x. owed_behind t old ns ≡ Got new)
+    (λ e. RefusedBy (owed_behind t old ns) (cause_of e))

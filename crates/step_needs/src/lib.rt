@@ -1,0 +1,10 @@
+//! What has to be shown for a step, and the systems that it owes.
+#![tactic(auto)]
+
+mod fact;
+mod need;
+mod owing;
+
+pub use fact::Fact;
+pub use need::{Need, findings_of_needs};
+pub use owing::owed_needs;

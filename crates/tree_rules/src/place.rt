@@ -1,0 +1,145 @@
+//! What is found of a condition at a place of a procedure.
+ghost use Rattle.std.specs.Prelude.{◌≡◌, ◌≤◌, length, map, take, IfOk, OnOk};
+ghost use Rattle.exo_tree.specs.Tree.{block};
+ghost use Rattle.exo_tree.specs.Places.{opened, opened_in};
+ghost use Rattle.exo_tree.specs.PlainControl.{condition};
+ghost use Rattle.exo_tree.specs.PlainPlace.{branch_taken, step_taken};
+ghost use Rattle.exo_tree.specs.PlainProcedure.{procedure};
+ghost use Rattle.exo_tree.specs.PlainStatement.{statement};
+ghost use Rattle.exo_meaning.specs.Units as units;
+ghost use Rattle.exo_meaning.specs.Units.{with_both};
+ghost use Rattle.meaning_laws.specs.Sorted as sorted;
+ghost use Rattle.tree_rules.specs.Findings as found;
+ghost use Rattle.tree_rules.specs.Placed.{scope_behind_all, IsScopeAt, IsScopeIn};
+ghost use Rattle.tree_rules.specs.Seen.{sort_meant, scope_in};
+ghost use Rattle.tree_rules.specs.Walked.{walk_scope};
+
+use crate::body::bind_params;
+use crate::expression::{in_condition, spans};
+use crate::findings::Findings;
+use crate::name::{Names, WITH_BOTH};
+use crate::scope::{Entry, Sort, sort_in};
+use crate::walk::Walk;
+use exo_tree::{Block, Branch, Cell, Cond, Coords, Id, Kind, Path, Proc, Step, Stmt, Unit, at};
+use std::alloc::{AllocError, Global};
+
+/// What a view of those coordinates stands for.
+fn view_of(entries: &[Entry], x: Id, coords: &Coords) -> Sort
+    ensures { sort_meant result ≡ units.view_sort (units.sort_in (scope_in entries.now) x.0) (units.spans coords.now) }
+{
+    let rank = spans(coords.as_slice());
+    match sort_in(entries, x) {
+        Some(Sort::Buffer(cell, _, _)) => Sort::Buffer(cell, rank, false),
+        Some(Sort::Control(_)) => Sort::Buffer(Cell::I32, rank, false),
+        None => Sort::Buffer(Cell::I32, rank, false),
+    }
+}
+
+/// Goes over a statement of a block.
+fn pass<'u>(walk: &mut Walk<'u>, s: &'u Stmt) -> Result<(), AllocError>
+    ensures { OnOk result (walk_scope walk.new ≡ units.scope_after (statement s.now) (walk_scope walk.old)) }
+{
+    match s {
+        Stmt::Alloc(x, cell, dims, _) => walk.bind(x, Sort::Buffer(*cell, dims.len(), true)),
+        Stmt::View(w, x, coords) => {
+            let sort = view_of(walk.entries.as_slice(), *x, coords);
+            walk.bind(w, sort)
+        }
+        _ => Ok(()),
+    }
+}
+
+/// Goes over the first statements of a block.
+#[tactic(auto, using(crate::proofs::Places::one_behind))]
+fn pass_all<'u>(walk: &mut Walk<'u>, b: &'u Block, to: usize) -> Result<(), AllocError>
+    requires { to ≤ length b.now }
+    ensures { OnOk result (walk_scope walk.new ≡ scope_behind_all (take to b.now) (walk_scope walk.old)) }
+{
+    for k in 0..to {
+        pass(walk, b.statement(k))?;
+    }
+    Ok(())
+}
+
+/// Goes to the statement at a path of a block.
+#[cycle(place)]
+#[tactic(auto, using(crate::proofs::Places::beyond_all, crate::proofs::Places::at_statement, crate::proofs::Places::below_statement))]
+fn go<'u>(walk: &mut Walk<'u>, b: &'u Block, path: &[Step]) -> Result<(), AllocError>
+    ensures { OnOk result (IsScopeAt (opened_in 1 (map step_taken path.now) (block b.now)) (walk_scope walk.old) (walk_scope walk.new)) }
+{
+    let (step, rest) = match path.split_first() {
+        None => return Ok(()),
+        Some(parts) => parts,
+    };
+    let index = step.index as usize;
+    if index >= b.len() {
+        return Ok(());
+    }
+    pass_all(walk, b, index)?;
+    match rest.first() {
+        None => Ok(()),
+        Some(next) => enter(walk, b.statement(index), next.branch, rest),
+    }
+}
+
+/// Goes on in a branch of a statement.
+#[cycle(place)]
+#[tactic(auto, using(crate::proofs::Places::in_loop, crate::proofs::Places::in_then, crate::proofs::Places::in_else))]
+fn enter<'u>(
+    walk: &mut Walk<'u>,
+    s: &'u Stmt,
+    branch: Branch,
+    path: &[Step],
+) -> Result<(), AllocError>
+    ensures { OnOk result (IsScopeIn (branch_taken branch) (opened_in 1 (map step_taken path.now)) (statement s.now) (walk_scope walk.old) (walk_scope walk.new)) }
+{
+    match s {
+        Stmt::If(_, a, b) => match branch {
+            Branch::Main => go(walk, a, path),
+            Branch::Else => go(walk, b, path),
+        },
+        Stmt::For(i, _, _, b) => match branch {
+            Branch::Main => {
+                walk.bind(i, Sort::Control(Kind::Index))?;
+                go(walk, b, path)
+            }
+            Branch::Else => Ok(()),
+        },
+        _ => Ok(()),
+    }
+}
+
+/// The names in scope at a place of a procedure; where no statement has the path, those of its parameters.
+#[tactic(auto, using(crate::proofs::Places::scope_nowhere, crate::proofs::Places::scope_somewhere))]
+fn scope_there<'u>(alloc: Global, p: &'u Proc, path: &Path) -> Result<Walk<'u>, AllocError>
+    ensures { IfOk result (λ w. walk_scope w ≡ sorted.scope_there (procedure p.now) (opened 1 path.now (procedure p.now).body)) }
+{
+    let mut walk = Walk::new(alloc);
+    bind_params(&mut walk, p.params.as_slice())?;
+    match at(p, path) {
+        None => Ok(walk),
+        Some(_) => {
+            go(&mut walk, &p.body, path.as_slice())?;
+            Ok(walk)
+        }
+    }
+}
+
+/// What is found of a condition that may read fields and strides, at a place of a procedure of the unit; where no
+/// statement has the path, before its body.
+pub fn findings_of_condition_at<'u>(
+    alloc: Global,
+    unit: &'u Unit,
+    p: &'u Proc,
+    path: &Path,
+    c: &Cond,
+) -> Result<Findings, AllocError>
+    ensures { IfOk result (λ f. f ≡ found.findings_of_condition (units.field_kind unit.now.fields) with_both (sorted.scope_there (procedure p.now) (opened 1 path.now (procedure p.now).body)) (condition c.now)) }
+{
+    let walk = scope_there(alloc, p, path)?;
+    let names = Names {
+        fields: &unit.fields,
+        entries: walk.entries.as_slice(),
+    };
+    Ok(in_condition(&names, WITH_BOTH, c))
+}

@@ -1,0 +1,6 @@
+use Rattle.unit_check.proofs.Listing.{all_hold}
+use Rattle.unit_check.proofs.showing.show.Goals as goal
+
+pub returns-in-Ok-clause-shown : goal.returns-in-Ok-clause-shown
+returns-in-Ok-clause-shown g c =
+    all_hold c.args.obs.now c.in-Ok.answer c.answered.result c.in-Ok.ensures.shown c.answered.ensures.shown

@@ -1,0 +1,1 @@
+emit(gemm_avx2)
