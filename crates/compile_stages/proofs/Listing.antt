@@ -131,7 +131,7 @@ pub emitted_then : (emitted : List ProcId) (i : ℕ) (d : ProcId) (old mid new :
 emitted_then emitted i d old mid new h one rest =
     let more : i + 1 ≡ suc i = omega arith in
     let parts : drop i emitted ≡ get_or emitted i d ∷ drop (i + 1) emitted =
-        drop-cons emitted i d h ∙ ap (λ j. get_or emitted i d ∷ drop j emitted) (sym more) in
+    drop-cons emitted i d h ∙ ap (λ j. get_or emitted i d ∷ drop j emitted) (sym more) in
     subst (λ l. Marked (is_emitted (numbers_of l)) old new) (sym parts)
     (marked_then (λ k. k == (get_or emitted i d).0) (is_emitted (numbers_of (drop (i + 1) emitted))) old mid new one rest)
 

@@ -188,26 +188,29 @@ module _ (text : Program) (v : Versions) (formed : IsUnit text) (safe : NothingF
       let first = admissible_too text v.unit p p kept.versions.fields (refl, refl) s valid.admissible in
       let also = valid_too text v.unit p q kept.versions.fields c.head s valid in
       let more = some_of (run_procedure (program_world v.unit) q s)
-          (kept.derived.quiet w.proc q there s also.admissible) in
+      (kept.derived.quiet w.proc q there s also.admissible) in
       let runs = same_runs text v.unit kept.versions.made formed kept.versions.grown kept.versions.fields
-          c.from p c.in_text s ∙ ends.1 in
+      c.from p c.in_text s ∙ ends.1 in
       let follows = laws.follow v.unit what at w q layout templates s more.0 things m kept.derived.formed
-          lowers here there filled also input more.1 in
+      lowers here there filled also input more.1 in
       let cells = c.refines.cells s ends.0 more.0 first runs more.1 in
       let fields = c.refines.fields s ends.0 more.0 first runs more.1 in
       let stay : (f : ℕ) → declared_in v.unit what f ≡ false → more.0.scene.fields f ≡ s.scene.fields f =
-          λ f out. undeclared v.unit what w.proc q f s more.0 kept.derived.formed there
-          (is_in what at w here) out more.1 in
+      λ f out. undeclared v.unit what w.proc q f s more.0 kept.derived.formed there
+      (is_in what at w here) out more.1 in
       let but = differing_from v w.proc c.from in
       let naming = naming_of v.unit what q in
-      let declared = declared_in v.unit what in
-      (ends.0, ends.1, (
-        ends_so naming declared but layout s ends.0 more.0 m cells fields stay _ _ follows,
-        λ none.
-            let done = laws.done v.unit what at w q layout templates s more.0 things m
-            kept.derived.formed lowers here there none filled also input more.1 in
-            (done.0, done.1, so_left naming declared but layout s ends.0 more.0 m cells fields stay done.0 done.2),
-      ))
+      let declared = declared_in v.unit what in (
+        ends.0,
+        ends.1,
+        (
+          ends_so naming declared but layout s ends.0 more.0 m cells fields stay _ _ follows,
+          λ none.
+              let done = laws.done v.unit what at w q layout templates s more.0 things m
+              kept.derived.formed lowers here there none filled also input more.1 in
+              (done.0, done.1, so_left naming declared but layout s ends.0 more.0 m cells fields stay done.0 done.2),
+        ),
+      )
 
   pub each_printed : (at : ℕ) (w : Printing) → slice_get what at ≡ Some w → IsPrinted text v what at w
   unfolding comes_from

@@ -161,11 +161,11 @@ known laws source schedule v h =
     let s = c.0 in
     let read = read_is schedule s c.1 in
     let ran = subst (λ p. LinesRun 0 s.lines (started p count) (Done v)) formed.is
-        (ran_is u.program count s v c.2) in
+    (ran_is u.program count s v c.2) in
     let room = laws.room text count (length s.lines) formed.low.procedures formed.low.ids
-        (read.fits in_size).1.1 in
+    (read.fits in_size).1.1 in
     let kept = laws.keeps text count s.lines v
-        (record { formed = formed.formed; quiet = safe; room = room; ran = ran }) in
+    (record { formed = formed.formed; quiet = safe; room = room; ran = ran }) in
     record {
       typed = u;
       formed = formed;

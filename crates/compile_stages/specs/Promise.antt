@@ -118,7 +118,7 @@ DoesWhat text program what at number but p q =
     → (t : State)
     × (run_procedure (program_world text) p s ≡ Some t)
     × (let leaves =
-        LeavesSo (naming_of program what q) (declared_in program what) but layout s m t in
+    LeavesSo (naming_of program what q) (declared_in program what) but layout s m t in
     let end = run_file (lowered program what) templates at things m in
     EndsWell (fewness_of program number s) leaves end
     × (allocates_nothing program number ≡ true → IsDoneWith leaves end))

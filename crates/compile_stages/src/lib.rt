@@ -4,9 +4,9 @@
 
 mod kinds;
 pub mod laws;
+mod lowering;
 mod memories;
 pub mod messages;
-mod lowering;
 mod printings;
 mod stages;
 mod stop;

@@ -17,8 +17,8 @@ ghost use Rattle.compile_stages.specs.Stops as stop;
 ghost use Rattle.compile_stages.specs.Stages.{Checks, Compiles, Displays, IsRan, IsScheduled, IsTyped, Schedules, Stopped, displayed, judged, operator_in, operator_of, shown, stop_at};
 ghost use Rattle.compile_stages.specs.Stopping.{plain, plain_why, schedule_of, stage, typed_of};
 
-use crate::messages;
 use crate::lowering::printed;
+use crate::messages;
 use crate::printings::printings;
 use crate::stop::{Stop, no_schedule};
 use exo_reader::unit::{ReadError, Source, read_unit};

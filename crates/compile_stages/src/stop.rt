@@ -93,12 +93,7 @@ pub(crate) fn no_schedule(e: ReadError) -> Stop
 
 impl Stop {
     /// The message, by the names of the files of the unit and of the schedule; none for want of memory.
-    pub fn message(
-        &self,
-        alloc: Global,
-        procs: &str,
-        schedule: &str,
-    ) -> Result<String, AllocError>
+    pub fn message(&self, alloc: Global, procs: &str, schedule: &str) -> Result<String, AllocError>
         ensures { IfOk result (λ text. option_map (message procs.now schedule.now) (plain self.now) ≡ Some (string_bytes text)) }
     {
         match self {

@@ -37,12 +37,7 @@ fn compile_of<'a>(word: &str, procs: &'a str, schedule: &'a str) -> Option<Comma
 }
 
 /// The command of five words.
-fn show_of<'a>(
-    word: &str,
-    procs: &'a str,
-    schedule: &'a str,
-    name: &'a str,
-) -> Option<Command<'a>>
+fn show_of<'a>(word: &str, procs: &'a str, schedule: &'a str, name: &'a str) -> Option<Command<'a>>
     ensures { option_map plain result ≡ (if bytes_eq word.now (codes "show") && is_operand procs.now && is_operand schedule.now && is_operand name.now then Some (plainly.Show procs.now schedule.now name.now) else None) }
 {
     if word == "show" && is_operand(procs) && is_operand(schedule) && is_operand(name) {

@@ -11,7 +11,7 @@ use crate::reply::{Reply, replied};
 use crate::status::Status;
 use crate::words::{Command, read_command};
 use cli_outside::{FileFault, Files, Sink};
-use compile_stages::laws::{compiled_is_promised, checked_is_counted, displayed_is_promised};
+use compile_stages::laws::{checked_is_counted, compiled_is_promised, displayed_is_promised};
 use compile_stages::{checked, compiled, displayed};
 use ob_check::Gate;
 use std::alloc::{AllocError, Global};

@@ -4,7 +4,7 @@ use Rattle.compile_stages.proofs.laws.compiled_is_promised.Goals as goal
 
 pub returns : goal.returns
 returns c =
-    compiled_is_promised 
+    compiled_is_promised
     (record {
       safe = c.checked_units_do_not_fault.ensures;
       keeps = c.schedules_keep.ensures;

@@ -3,7 +3,7 @@ use Rattle.compile_stages.proofs.laws.displayed_is_promised.Goals as goal
 
 pub returns : goal.returns
 returns c =
-    displayed_is_promised 
+    displayed_is_promised
     (record {
       safe = c.checked_units_do_not_fault.ensures;
       keeps = c.schedules_keep.ensures;

@@ -15,8 +15,8 @@ returns-in_default c =
     let line = c.index-lines-refused.result in
     let s : Schedule = record { lines = map plain_line ls; numbers = map number ls } in
     let same =
-        line_at ls k line (c.requires c.in_default.not-Memory)
-        ∙ sym (ap (λ (l : Line). stop.AtLine l.number (operator_of (plain_line l))) c.index-lines-refused.is) in
+    line_at ls k line (c.requires c.in_default.not-Memory)
+    ∙ sym (ap (λ (l : Line). stop.AtLine l.number (operator_of (plain_line l))) c.index-lines-refused.is) in
     if-ok c.at_line.result _ _ (λ end is.
     is ∙ ap (λ f. option_map f (plain_why c.args.refused.why)) (sym same))
     c.at_line.ensures

@@ -34,7 +34,7 @@ returns g c =
     let lines = subst (λ (l : List ℕ). HasBytes told schedule l × (length l ≤ file_limit)) (sym c.deref-2.ensures.value) second in
     if-ok c.replied.result _ _ (λ reply is.
     let end = answered _ (Compiles c.deref.result.now c.deref-2.result.now) (answer_of procs schedule) (plain reply)
-        c.compiled.ensures is in
+    c.compiled.ensures is in
     both-read (Compile procs schedule) procs schedule
     (λ unit lines. IsAnswerOf procs schedule (Compiles unit lines)) (λ files a h. h) refl
     told c.deref.result.now c.deref-2.result.now _ _ _ (plain reply)

@@ -34,7 +34,7 @@ returns g c =
     let lines = subst (λ (l : List ℕ). HasBytes told schedule l × (length l ≤ file_limit)) (sym c.deref-2.ensures.value) second in
     if-ok c.replied.result _ _ (λ reply is.
     let end = answered _ (Displays c.deref.result.now c.deref-2.result.now c.args.name.now) (answer_of procs schedule) (plain reply)
-        c.displayed.ensures is in
+    c.displayed.ensures is in
     both-read (Show procs schedule c.args.name.now) procs schedule
     (λ unit lines. IsAnswerOf procs schedule (Displays unit lines c.args.name.now)) (λ files a h. h) refl
     told c.deref.result.now c.deref-2.result.now _ _ _ (plain reply)
