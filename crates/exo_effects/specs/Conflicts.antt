@@ -178,7 +178,7 @@ module _ (ctx : List Formula) (order : Order) (place : Path) (base : ℕ) where
     | CasesPassed ↦ Some ManyCases
     | SizePassed ↦ Some LargeSystem
     | Listed ss ↦ None
-    ]
+  ]
 
   -- goes on where there is no fault, and what is owed so far is within the limits
   abbrev pub unless_refused : Option Fault → Bool → Listing → Listing

@@ -48,12 +48,7 @@ fn put_upper(alloc: Global, i: Id, hi: &Ctrl, into: &mut Context) -> Result<(), 
 }
 
 /// Puts last what a condition says, or that it does not hold.
-fn put_condition(
-    alloc: Global,
-    c: &Cond,
-    holds: bool,
-    into: &mut Context,
-) -> Result<(), FormError>
+fn put_condition(alloc: Global, c: &Cond, holds: bool, into: &mut Context) -> Result<(), FormError>
     requires { IsTrue (condition_keeps_rules (condition c.now)) }
     ensures { Guarded result ((if holds then facts.Holds (condition c.now) else facts.Fails (condition c.now)) ∷ []) into.old into.new }
 {
