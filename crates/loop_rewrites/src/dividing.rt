@@ -85,7 +85,7 @@ fn divisible_at<'a>(by: i64, on: &Target<'a>, piece: &Piece) -> Option<LoopAt<'a
 }
 
 /// The path to the first statement so many blocks below the first one.
-fn inside(depth: u8) -> Path
+pub(crate) fn inside(depth: u8) -> Path
     ensures { result ≡ shapes.inside depth }
 {
     let mut path = Path::new();

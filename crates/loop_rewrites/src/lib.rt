@@ -4,7 +4,14 @@
 mod cutting;
 mod dividing;
 mod loops;
+mod mentions;
 mod numbers;
+mod specializing;
+mod turns;
+mod unrolling;
+mod used;
 
 pub use cutting::{Cutting, cut_loop};
 pub use dividing::{Dividing, Tail, divide_loop};
+pub use specializing::{Specializing, specialize};
+pub use unrolling::{Unrolling, unroll_loop};
