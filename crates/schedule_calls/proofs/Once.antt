@@ -1,15 +1,17 @@
 -- A line asks for one thing.
 use Rattle.std.proofs.Common.{◌≡◌, ℕ, List, [], ◌∷◌, refl, sym, ap, ap₂, subst, ◌∙◌, true}
-use Rattle.std.specs.Prelude.{not}
+use Rattle.std.specs.Prelude.{not, Some}
 use Rattle.exo_reader.specs.Items.{joined}
 use Rattle.schedule_text.specs.Tree as tree
 use Rattle.schedule_patterns.specs.Grammar.{statement, meant, expression, form_meant}
 use Rattle.schedule_patterns.specs.Texts.{PatternsAreOne}
 use Rattle.cursor_patterns.specs.Patterns.{Pattern, ExprForm, ExprPattern}
 use Rattle.schedule_calls.specs.Requests.{Asked, Found, Here, Operation, CommuteExpr, Rename}
+use Rattle.schedule_calls.specs.Requests.{Tail, Division, DivideLoop, UnrollLoop}
 use Rattle.schedule_calls.specs.Requests.{Request, Apply, Search}
 use Rattle.schedule_calls.specs.Readings.{moves, IsPatternOf, IsExprPatternOf, IsWord}
 use Rattle.schedule_calls.specs.Readings.{AsksCursor, under, found, here, AsksExpression, AsksName}
+use Rattle.schedule_calls.specs.Readings.{AsksNames, AsksDivision, divide_loop, unroll_loop}
 use Rattle.schedule_calls.specs.Readings.{AsksOperation, commute_expr, rename, delete_pass, Asks}
 use Rattle.schedule_calls.specs.Readings.{apply, search, moved, emit, is_operator, is_unknown}
 use Rattle.schedule_calls.specs.Answers.{LinesAskOnce}
@@ -61,11 +63,39 @@ one_name (tree.int n) x y h k = absurd h
 one_name (tree.pair s t) x y h k = absurd h
 one_name (tree.key z v) x y h k = absurd h
 
+-- ---- divisions
+
+same_some : {T : Type 0} (a b : T) → Some a ≡ Some b → a ≡ b
+same_some a b h = cc
+
+one_pair : (a : tree.Argument) (x y : List ℕ × List ℕ) → AsksNames a x → AsksNames a y
+    → (x.0 ≡ y.0) × (x.1 ≡ y.1)
+one_pair (tree.pair s t) x y h k = (h.0.0 ∙ sym k.0.0, h.1.0 ∙ sym k.1.0)
+one_pair (tree.string s) x y h k = absurd h
+one_pair (tree.cursor c) x y h k = absurd h
+one_pair (tree.int n) x y h k = absurd h
+one_pair (tree.key z v) x y h k = absurd h
+
+one_division : (by names : tree.Argument) (keys : List tree.Argument) (x y : Division)
+    → AsksDivision by names keys x → AsksDivision by names keys y → x ≡ y
+one_division by names keys x y h k =
+    let number : x.by ≡ y.by = same_some x.by y.by (sym h.by ∙ k.by) in
+    let tail : x.tail ≡ y.tail = same_some x.tail y.tail (sym h.tail ∙ k.tail) in
+    let pair = one_pair names (x.outer, x.inner) (y.outer, y.inner) h.names k.names in
+    ap₂ (λ (n : ℕ) (t : Tail). record { by = n; outer = x.outer; inner = x.inner; tail = t }) number
+    tail
+    ∙ ap₂ (λ (o i : List ℕ). record { by = y.by; outer = o; inner = i; tail = y.tail }) pair.0 pair.1
+
 -- ---- operations
 
 one_operation : PatternsAreOne statement meant → PatternsAreOne expression form_meant
     → (name : List ℕ) (args : List tree.Argument) (x y : Operation) → AsksOperation name args x
     → AsksOperation name args y → x ≡ y
+one_operation law part _ _ _ _ (divide_loop a by names keys at d h k)
+    (divide_loop _ _ _ _ to e i l) =
+    ap₂ DivideLoop (one_cursor law a at to h i) (one_division by names keys d e k l)
+one_operation law part _ _ _ _ (unroll_loop a at h) (unroll_loop _ to i) =
+    ap UnrollLoop (one_cursor law a at to h i)
 one_operation law part _ _ _ _ (commute_expr a b at p h k) (commute_expr _ _ to q i l) =
     ap₂ CommuteExpr (one_cursor law a at to h i) (one_part part b p q k l)
 one_operation law part _ _ _ _ (rename a n h) (rename _ m k) =
@@ -74,6 +104,8 @@ one_operation law part _ _ _ _ delete_pass delete_pass = refl
 
 known : (name : List ℕ) (args : List tree.Argument) (o : Operation) → AsksOperation name args o
     → is_operator name ≡ true
+known _ _ _ (divide_loop a by names keys at d h k) = refl
+known _ _ _ (unroll_loop a at h) = refl
 known _ _ _ (commute_expr a b at x h k) = refl
 known _ _ _ (rename a n h) = refl
 known _ _ _ delete_pass = refl

@@ -10,11 +10,68 @@ use Rattle.schedule_text.specs.Tree as tree
 use Rattle.schedule_text.specs.Views.{plain_argument}
 use Rattle.schedule_text.specs.declared.source.ArgText.{ArgText}
 use Rattle.schedule_calls.specs.Requests.{Asked, Operation, CommuteExpr, Rename, DeletePass}
+use Rattle.schedule_calls.specs.Requests.{Division, DivideLoop, UnrollLoop}
 use Rattle.schedule_calls.specs.Operators.{operator_of, name_of}
 use Rattle.schedule_calls.specs.declared.operator.Operator.{Operator}
 use Rattle.schedule_calls.specs.declared.operator.Operator.TheVariants as op
 use Rattle.schedule_calls.specs.Readings.{AsksCursor, AsksExpression, AsksName}
+use Rattle.schedule_calls.specs.Readings.{AsksDivision, divide_loop, unroll_loop}
 use Rattle.schedule_calls.specs.Readings.{AsksOperation, commute_expr, rename, delete_pass}
+
+pub no_divide : (a by names : tree.Argument) (keys : List tree.Argument)
+    → ((d : Division) → AsksDivision by names keys d → ⊥) → (o : Operation)
+    → AsksOperation (codes "divide_loop") (a ∷ by ∷ names ∷ keys) o → ⊥
+no_divide a by names keys never _ (divide_loop _ _ _ _ at d h k) = never d k
+
+pub no_divide_at : (a by names : tree.Argument) (keys : List tree.Argument)
+    → ((at : Asked) → AsksCursor a at → ⊥) → (o : Operation)
+    → AsksOperation (codes "divide_loop") (a ∷ by ∷ names ∷ keys) o → ⊥
+no_divide_at a by names keys never _ (divide_loop _ _ _ _ at d h k) = never at h
+
+pub no_unroll : (a : tree.Argument) → ((at : Asked) → AsksCursor a at → ⊥) → (o : Operation)
+    → AsksOperation (codes "unroll_loop") (a ∷ []) o → ⊥
+no_unroll a never _ (unroll_loop _ at h) = never at h
+
+pub asks_unroll : (args : List ArgText) (a : ArgText) (at : Asked) → args ≡ a ∷ []
+    → AsksCursor (plain_argument a) at
+    → AsksOperation (codes "unroll_loop") (map plain_argument args) (UnrollLoop at)
+asks_unroll args a at is h =
+    subst (λ l. AsksOperation (codes "unroll_loop") (map plain_argument l) (UnrollLoop at)) (sym is)
+    (unroll_loop (plain_argument a) at h)
+
+pub no_unroll_in : (args : List ArgText) (a : ArgText) → args ≡ a ∷ []
+    → ((at : Asked) → AsksCursor (plain_argument a) at → ⊥) → (o : Operation)
+    → AsksOperation (codes "unroll_loop") (map plain_argument args) o → ⊥
+no_unroll_in args a is never o asks =
+    no_unroll (plain_argument a) never o
+    (subst (λ l. AsksOperation (codes "unroll_loop") (map plain_argument l) o) is asks)
+
+pub asks_divide : (args : List ArgText) (a by names : ArgText) (keys : List ArgText) (at : Asked)
+    (d : Division) → args ≡ a ∷ by ∷ names ∷ keys → AsksCursor (plain_argument a) at
+    → AsksDivision (plain_argument by) (plain_argument names) (map plain_argument keys) d
+    → AsksOperation (codes "divide_loop") (map plain_argument args) (DivideLoop at d)
+asks_divide args a by names keys at d is h k =
+    subst (λ l. AsksOperation (codes "divide_loop") (map plain_argument l) (DivideLoop at d)) (sym is)
+    (divide_loop (plain_argument a) (plain_argument by) (plain_argument names)
+    (map plain_argument keys) at d h k)
+
+pub no_divide_in : (args : List ArgText) (a by names : ArgText) (keys : List ArgText)
+    → args ≡ a ∷ by ∷ names ∷ keys
+    → ((d : Division)
+    → AsksDivision (plain_argument by) (plain_argument names) (map plain_argument keys) d → ⊥)
+    → (o : Operation) → AsksOperation (codes "divide_loop") (map plain_argument args) o → ⊥
+no_divide_in args a by names keys is never o asks =
+    no_divide (plain_argument a) (plain_argument by) (plain_argument names)
+    (map plain_argument keys) never o
+    (subst (λ l. AsksOperation (codes "divide_loop") (map plain_argument l) o) is asks)
+
+pub no_divide_at_in : (args : List ArgText) (a by names : ArgText) (keys : List ArgText)
+    → args ≡ a ∷ by ∷ names ∷ keys → ((at : Asked) → AsksCursor (plain_argument a) at → ⊥)
+    → (o : Operation) → AsksOperation (codes "divide_loop") (map plain_argument args) o → ⊥
+no_divide_at_in args a by names keys is never o asks =
+    no_divide_at (plain_argument a) (plain_argument by) (plain_argument names)
+    (map plain_argument keys) never o
+    (subst (λ l. AsksOperation (codes "divide_loop") (map plain_argument l) o) is asks)
 
 pub no_commute_at : (a b : tree.Argument) → ((at : Asked) → AsksCursor a at → ⊥) → (o : Operation)
     → AsksOperation (codes "commute_expr") (a ∷ b ∷ []) o → ⊥
@@ -81,14 +138,43 @@ one_test false name text p o rest equal known more is = more is
 
 -- an operator that a name finds has that name
 pub named : (name : List ℕ) (o : Operator) → operator_of name ≡ Some o → name ≡ name_of o
-named name o is =
-    one_test (bytes_eq name (codes "commute_expr")) name (codes "commute_expr") op.CommuteExpr o
-    (if bytes_eq name (codes "rename") then Some op.Rename
-    else (if bytes_eq name (codes "delete_pass") then Some op.DeletePass else None))
-    refl refl
-    (λ second. one_test (bytes_eq name (codes "rename")) name (codes "rename") op.Rename o
-    (if bytes_eq name (codes "delete_pass") then Some op.DeletePass else None) refl refl
-    (λ third. one_test (bytes_eq name (codes "delete_pass")) name (codes "delete_pass")
-    op.DeletePass o None refl refl (λ last. cc (last)) third)
-    second)
-    is
+named name o is = first is
+  where
+    is_name : (text : List ℕ) → Bool
+    is_name text = bytes_eq name text
+
+    fifth : Option Operator
+    fifth = if is_name (codes "delete_pass") then Some op.DeletePass else None
+
+    fourth : Option Operator
+    fourth = if is_name (codes "rename") then Some op.Rename else fifth
+
+    third : Option Operator
+    third = if is_name (codes "commute_expr") then Some op.CommuteExpr else fourth
+
+    second : Option Operator
+    second = if is_name (codes "unroll_loop") then Some op.UnrollLoop else third
+
+    in_fifth : fifth ≡ Some o → name ≡ name_of o
+    in_fifth =
+        one_test (is_name (codes "delete_pass")) name (codes "delete_pass") op.DeletePass o None refl
+        refl (λ last. cc (last))
+
+    in_fourth : fourth ≡ Some o → name ≡ name_of o
+    in_fourth =
+        one_test (is_name (codes "rename")) name (codes "rename") op.Rename o fifth refl refl in_fifth
+
+    in_third : third ≡ Some o → name ≡ name_of o
+    in_third =
+        one_test (is_name (codes "commute_expr")) name (codes "commute_expr") op.CommuteExpr o fourth
+        refl refl in_fourth
+
+    in_second : second ≡ Some o → name ≡ name_of o
+    in_second =
+        one_test (is_name (codes "unroll_loop")) name (codes "unroll_loop") op.UnrollLoop o third refl
+        refl in_third
+
+    first : operator_of name ≡ Some o → name ≡ name_of o
+    first =
+        one_test (is_name (codes "divide_loop")) name (codes "divide_loop") op.DivideLoop o second refl
+        refl in_second

@@ -4,7 +4,8 @@ use Rattle.text_lexer.specs.declared.token.Literal.TheVariants.{Value}
 use Rattle.cursor_patterns.specs.Patterns.{Loop, Read}
 use Rattle.schedule_text.specs.Tree as tree
 use Rattle.schedule_text.specs.declared.source.Direction.TheVariants as way
-use Rattle.schedule_calls.specs.Requests.{Parent, Item, Under, CommuteExpr, Rename, DeletePass}
+use Rattle.schedule_calls.specs.Requests.{Parent, Item, Under, Here, CommuteExpr, Rename, DeletePass}
+use Rattle.schedule_calls.specs.Requests.{DivideLoop, UnrollLoop, Tail, Guard, CutAndGuard, Perfect}
 use Rattle.schedule_calls.specs.Requests.{Request, Apply, Search, Moved, Emit}
 use Rattle.schedule_calls.specs.Readings.{Asks, is_unknown}
 
@@ -12,6 +13,30 @@ use Rattle.schedule_calls.specs.Readings.{Asks, is_unknown}
 abbrev pub on_p : List tree.Argument → tree.Arguments
 on_p more =
     record { head = tree.cursor (tree.held (codes "p") []); more = more; trailing = false }
+
+-- `q = divide_loop(p, c, 8, ['io', 'ii'], KEYS)`
+abbrev pub divided : List tree.Argument → tree.Line
+divided keys =
+    tree.bind (codes "q")
+    (tree.operation (codes "divide_loop")
+    (on_p
+    (tree.cursor (tree.held (codes "c") [])
+    ∷ tree.int (Value 8)
+    ∷ tree.pair (codes "io" ∷ []) (codes "ii" ∷ [])
+    ∷ keys)))
+
+abbrev pub asks_divided : Tail → Request
+asks_divided tail =
+    Apply (codes "q") (codes "p")
+    (DivideLoop (record { source = Under (codes "c"); moves = [] })
+    (record { by = 8; outer = codes "io"; inner = codes "ii"; tail = tail }))
+
+-- `tail='cut_and_guard'`, `perfect=True`, `perfect=False`
+abbrev pub tail_key : tree.Argument
+tail_key = tree.key (codes "tail") (tree.text (codes "cut_and_guard" ∷ []))
+
+abbrev pub perfect_key : tree.KeyValue → tree.Argument
+perfect_key value = tree.key (codes "perfect") value
 
 -- `p = rename(p)`
 abbrev pub bare : tree.Line
@@ -44,6 +69,22 @@ pub record LinesInstance : Type 0 where
       (Apply (codes "q") (codes "p")
       (CommuteExpr (record { source = Under (codes "c"); moves = [] })
       (record { form = Read None; nth = 0 })))
+  -- `q = divide_loop(p, c, 8, ['io', 'ii'])`, and with keys in either order
+  pub divided : Asks (divided []) (asks_divided Guard)
+  pub cut :
+      Asks (divided (perfect_key tree.no ∷ tail_key ∷ [])) (asks_divided CutAndGuard)
+  pub perfect : Asks (divided (tail_key ∷ perfect_key tree.yes ∷ [])) (asks_divided Perfect)
+  -- a key stands once
+  pub twice :
+      (is_unknown (divided (tail_key ∷ tail_key ∷ [])) ≡ false)
+      × ((r : Request) → Asks (divided (tail_key ∷ tail_key ∷ [])) r → ⊥)
+  -- `q = unroll_loop(p, 'i #1')`
+  pub unrolled :
+      Asks
+      (tree.bind (codes "q")
+      (tree.operation (codes "unroll_loop") (on_p (tree.string (codes "i #1" ∷ []) ∷ []))))
+      (Apply (codes "q") (codes "p")
+      (UnrollLoop (record { source = Here (Loop (Some (codes "i"))) 1; moves = [] })))
   -- `q = rename(p, 'i')`
   pub renamed :
       Asks

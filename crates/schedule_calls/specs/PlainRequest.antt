@@ -1,5 +1,5 @@
 -- Requests in memory, as plain ones.
-use Rattle.std.specs.Prelude.{ℕ, List, ◌∷◌, map}
+use Rattle.std.specs.Prelude.{ℕ, List, ◌∷◌, map, option_map}
 use Rattle.cursor_patterns.specs.Patterns as patterns
 use Rattle.cursor_patterns.specs.declared.pattern.Pattern.{Pattern}
 use Rattle.cursor_patterns.specs.PlainPattern.{plain_pattern, plain_expr_pattern}
@@ -7,9 +7,14 @@ use Rattle.schedule_text.specs.Views.{plain_move}
 use Rattle.schedule_text.specs.declared.source.Move as source
 use Rattle.schedule_calls.specs.Requests as plain
 use Rattle.schedule_calls.specs.Readings.{move, moves}
+use Rattle.schedule_calls.specs.Readings as plain_reading
+use Rattle.schedule_calls.specs.declared.division.TailKeys.{TailKeys}
 use Rattle.schedule_calls.specs.declared.request.Source.{Source}
 use Rattle.schedule_calls.specs.declared.request.Source.TheVariants as from
 use Rattle.schedule_calls.specs.declared.request.Asked.{Asked}
+use Rattle.schedule_calls.specs.declared.request.Tail.{Tail}
+use Rattle.schedule_calls.specs.declared.request.Tail.TheVariants as tail
+use Rattle.schedule_calls.specs.declared.request.Division.{Division}
 use Rattle.schedule_calls.specs.declared.request.Operation.{Operation}
 use Rattle.schedule_calls.specs.declared.request.Operation.TheVariants as operation
 use Rattle.schedule_calls.specs.declared.request.Request.{Request}
@@ -30,7 +35,22 @@ plain_source (from.Here p nth) = plain.Here (plain_pattern p) nth
 abbrev pub plain_asked : Asked → plain.Asked
 plain_asked a = record { source = plain_source a.source; moves = moves_of a.moves.now }
 
+abbrev pub plain_tail : Tail → plain.Tail
+plain_tail tail.Guard = plain.Guard
+plain_tail tail.Cut = plain.Cut
+plain_tail tail.CutAndGuard = plain.CutAndGuard
+plain_tail tail.Perfect = plain.Perfect
+
+abbrev pub plain_keys : TailKeys → plain_reading.TailKeys
+plain_keys k = record { tail = option_map plain_tail k.tail; perfect = k.perfect }
+
+abbrev pub plain_division : Division → plain.Division
+plain_division d =
+    record { by = d.by; outer = d.outer; inner = d.inner; tail = plain_tail d.tail }
+
 abbrev pub plain_operation : Operation → plain.Operation
+plain_operation (operation.DivideLoop at d) = plain.DivideLoop (plain_asked at) (plain_division d)
+plain_operation (operation.UnrollLoop at) = plain.UnrollLoop (plain_asked at)
 plain_operation (operation.CommuteExpr at x) =
     plain.CommuteExpr (plain_asked at) (plain_expr_pattern x)
 plain_operation (operation.Rename name) = plain.Rename name

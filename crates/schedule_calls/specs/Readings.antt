@@ -1,6 +1,8 @@
 -- How a line asks for something: the strings in it are patterns and names, and the arguments of an
 -- operator have its forms.
-use Rattle.std.specs.Prelude.{◌≡◌, ℕ, Bool, false, ◌||◌, not, List, [], ◌∷◌, None, map, codes}
+use Rattle.std.specs.Prelude.{◌≡◌, ℕ, Bool, true, false, ◌||◌, not, if◌then◌else◌, List, [], ◌∷◌}
+use Rattle.std.specs.Prelude.{Option, Some, None, option_map, option_and_then, map, codes}
+use Rattle.std.specs.Option.{is_some}
 use Rattle.std.specs.Str.{bytes_eq}
 use Rattle.text_lexer.specs.declared.token.Literal.{Literal}
 use Rattle.text_lexer.specs.declared.token.Literal.TheVariants.{Value}
@@ -16,6 +18,8 @@ use Rattle.schedule_calls.specs.Requests.{Move, Parent, Next, Prev, Body, Before
 use Rattle.schedule_calls.specs.Requests.{Item}
 use Rattle.schedule_calls.specs.Requests.{Asked, Under, Found, Here, Operation, CommuteExpr, Rename}
 use Rattle.schedule_calls.specs.Requests.{DeletePass, Request, Apply, Search, Moved, Emit}
+use Rattle.schedule_calls.specs.Requests.{Tail, Guard, Cut, CutAndGuard, Perfect, Division}
+use Rattle.schedule_calls.specs.Requests.{DivideLoop, UnrollLoop}
 
 -- ---- moves
 
@@ -81,10 +85,96 @@ abbrev pub AsksName : tree.Argument → List ℕ → Type 0
 AsksName (tree.string pieces) name = IsNameOf pieces name
 AsksName other name = ⊥
 
+abbrev pub AsksNames : tree.Argument → List ℕ × List ℕ → Type 0
+AsksNames (tree.pair a b) names = IsNameOf a names.0 × IsNameOf b names.1
+AsksNames other names = ⊥
+
+abbrev pub number_in : tree.Argument → Option ℕ
+number_in (tree.int n) = Some (number_of n)
+number_in other = None
+
+-- ---- arguments with keys
+
+-- `tail` and `perfect`, where they are given
+pub record TailKeys : Type 0 where
+  pub tail : Option Tail
+  pub perfect : Option Bool
+
+abbrev pub tail_named : List ℕ → Option Tail
+tail_named s =
+    if bytes_eq s (codes "guard") then Some Guard
+    else (if bytes_eq s (codes "cut") then Some Cut
+    else (if bytes_eq s (codes "cut_and_guard") then Some CutAndGuard
+    else None))
+
+abbrev pub tail_of_value : tree.KeyValue → Option Tail
+tail_of_value (tree.text pieces) = tail_named (joined pieces)
+tail_of_value tree.yes = None
+tail_of_value tree.no = None
+
+abbrev pub flag_of_value : tree.KeyValue → Option Bool
+flag_of_value (tree.text pieces) = None
+flag_of_value tree.yes = Some true
+flag_of_value tree.no = Some false
+
+-- None: it is given already, or the value is none of its own
+abbrev pub with_tail : TailKeys → tree.KeyValue → Option TailKeys
+with_tail k value =
+    if is_some k.tail then None
+    else option_map (λ t. record k { tail = Some t }) (tail_of_value value)
+
+abbrev pub with_perfect : TailKeys → tree.KeyValue → Option TailKeys
+with_perfect k value =
+    if is_some k.perfect then None
+    else option_map (λ b. record k { perfect = Some b }) (flag_of_value value)
+
+-- None also where the key is neither
+abbrev pub with_key : TailKeys → List ℕ → tree.KeyValue → Option TailKeys
+with_key k name value =
+    if bytes_eq name (codes "tail") then with_tail k value
+    else (if bytes_eq name (codes "perfect") then with_perfect k value
+    else None)
+
+abbrev pub keys_behind : TailKeys → List tree.Argument → Option TailKeys
+keys_behind k [] = Some k
+keys_behind k (tree.key name value ∷ more) =
+    option_and_then (λ j. keys_behind j more) (with_key k name value)
+keys_behind k (other ∷ more) = None
+
+abbrev pub or_guard : Option Tail → Tail
+or_guard None = Guard
+or_guard (Some t) = t
+
+-- `perfect=True` holds over `tail`
+abbrev pub tail_meant : TailKeys → Tail
+tail_meant k = elim k.perfect [
+  None ↦ or_guard k.tail
+| Some perfect ↦ if perfect then Perfect else or_guard k.tail
+]
+
+abbrev pub tail_in : List tree.Argument → Option Tail
+tail_in args = option_map tail_meant (keys_behind (record { tail = None; perfect = None }) args)
+
+-- ---- divisions
+
+pub record AsksDivision (by names : tree.Argument) (keys : List tree.Argument) (d : Division)
+    : Type 0 where
+  pub by : number_in by ≡ Some d.by
+  pub names : AsksNames names (d.outer, d.inner)
+  pub tail : tail_in keys ≡ Some d.tail
+
 -- ---- operators
 
 -- by its name, with the arguments behind the first
 pub data AsksOperation : List ℕ → List tree.Argument → Operation → Type 0 where
+  divide_loop : (a by names : tree.Argument) (keys : List tree.Argument) (at : Asked)
+      (d : Division)
+      → AsksCursor a at
+      → AsksDivision by names keys d
+      → AsksOperation (codes "divide_loop") (a ∷ by ∷ names ∷ keys) (DivideLoop at d)
+  unroll_loop : (a : tree.Argument) (at : Asked)
+      → AsksCursor a at
+      → AsksOperation (codes "unroll_loop") (a ∷ []) (UnrollLoop at)
   commute_expr : (a b : tree.Argument) (at : Asked) (x : ExprPattern)
       → AsksCursor a at
       → AsksExpression b x
@@ -97,9 +187,11 @@ pub data AsksOperation : List ℕ → List tree.Argument → Operation → Type 
 -- the operators that there are
 abbrev pub is_operator : List ℕ → Bool
 is_operator name =
-    bytes_eq name (codes "commute_expr")
+    bytes_eq name (codes "divide_loop")
+    || (bytes_eq name (codes "unroll_loop")
+    || (bytes_eq name (codes "commute_expr")
     || (bytes_eq name (codes "rename")
-    || bytes_eq name (codes "delete_pass"))
+    || bytes_eq name (codes "delete_pass"))))
 
 -- ---- lines
 

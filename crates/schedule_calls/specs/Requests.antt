@@ -19,8 +19,21 @@ pub record Asked : Type 0 where
   pub source : Source
   pub moves : List Move
 
+-- what becomes of the turns that fill no group
+pub data Tail : Type 0 where
+  Guard Cut CutAndGuard Perfect : Tail
+
+-- so many turns a group, and the names of the loop over the groups and of that in a group
+pub record Division : Type 0 where
+  pub by : ℕ
+  pub outer : List ℕ
+  pub inner : List ℕ
+  pub tail : Tail
+
 -- an operator with its arguments behind the first
 pub data Operation : Type 0 where
+  DivideLoop : Asked → Division → Operation
+  UnrollLoop : Asked → Operation
   CommuteExpr : Asked → ExprPattern → Operation
   Rename : List ℕ → Operation
   DeletePass : Operation

@@ -1,10 +1,10 @@
 //! Arguments of operators.
 
-ghost use Rattle.std.specs.Prelude.{◌≡◌, IfOk, MatchOption};
+ghost use Rattle.std.specs.Prelude.{◌≡◌, IfOk, MatchOption, option_map};
 ghost use Rattle.cursor_patterns.specs.PlainPattern.{plain_expr_pattern};
 ghost use Rattle.schedule_text.specs.Views.{plain_argument, plain_cursor, plain_found};
 ghost use Rattle.schedule_text.specs.Tree as tree;
-ghost use Rattle.schedule_calls.specs.Readings.{IsWord, AsksCursor, AsksExpression, AsksName};
+ghost use Rattle.schedule_calls.specs.Readings.{IsWord, AsksCursor, AsksExpression, AsksName, AsksNames, number_in};
 ghost use Rattle.schedule_calls.specs.PlainRequest.{plain_asked};
 ghost use Rattle.schedule_calls.specs.Answers.{AsksOne};
 
@@ -98,5 +98,31 @@ pub fn name_in(alloc: Global, arg: &ArgText) -> Result<Option<Name>, AllocError>
     match arg {
         ArgText::Str(string) => name_of(alloc, string),
         _ => Ok(None),
+    }
+}
+
+/// The names that the argument is as a pair of strings.
+pub fn names_in(alloc: Global, arg: &ArgText) -> Result<Option<(Name, Name)>, AllocError>
+    ensures { IfOk result (λ found. AsksOne (AsksNames (plain_argument arg.now)) (λ x. (x.0, x.1)) found) }
+{
+    let ArgText::Pair(first, second) = arg else {
+        return Ok(None);
+    };
+    let Some(first) = name_of(alloc, first)? else {
+        return Ok(None);
+    };
+    match name_of(alloc, second)? {
+        Some(second) => Ok(Some((first, second))),
+        None => Ok(None),
+    }
+}
+
+/// The number that the argument is.
+pub fn number_in(arg: &ArgText) -> Option<u32>
+    ensures { option_map (λ n. n) result ≡ number_in (plain_argument arg.now) }
+{
+    match arg {
+        ArgText::Int(n) => Some(*n),
+        _ => None,
     }
 }

@@ -23,9 +23,34 @@ pub struct Asked<'a> {
     pub moves: &'a [Move],
 }
 
+/// What becomes of the turns that fill no group: the last group is guarded, they have a loop of their own, or one that is
+/// guarded, or there are none.
+#[derive(Clone, Copy)]
+pub enum Tail {
+    Guard,
+    Cut,
+    CutAndGuard,
+    Perfect,
+}
+
+/// How the turns of a loop are divided into groups of `by`.
+#[derive(Drop)]
+pub struct Division {
+    pub by: u32,
+    /// The name of the loop over the groups.
+    pub outer: Name,
+    /// The name of the loop in a group.
+    pub inner: Name,
+    pub tail: Tail,
+}
+
 /// An operator with its arguments behind the first.
 #[derive(Drop)]
 pub enum Operation<'a> {
+    /// The loop.
+    DivideLoop(Asked<'a>, Division),
+    /// The loop.
+    UnrollLoop(Asked<'a>),
     /// The statement, and which part of its right side.
     CommuteExpr(Asked<'a>, ExprPattern),
     /// The new name.

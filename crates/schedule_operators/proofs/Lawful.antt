@@ -8,13 +8,16 @@ use Rattle.step_rules.specs.Rule.{Got, Rule}
 use Rattle.expression_laws.specs.Commute.{commute_rule}
 use Rattle.expression_laws.specs.Passes.{delete_pass_rule}
 use Rattle.expression_laws.specs.Rename.{rename_rule}
+use Rattle.loop_laws.specs.DivideLoop.{Division, divide_rule}
+use Rattle.loop_laws.specs.UnrollLoop.{unroll_rule}
+use Rattle.schedule_calls.specs.Requests.{DivideLoop, UnrollLoop}
 use Rattle.schedule_calls.specs.Requests.{Operation, CommuteExpr, Rename, DeletePass, Request}
 use Rattle.schedule_calls.specs.Requests as request
 use Rattle.schedule_versions.specs.Versions.{started}
 use Rattle.schedule_versions.specs.Lines.{Ruled}
 use Rattle.schedule_versions.specs.Laws.{NamesFields, IsLawfulAct, HasRoom}
 use Rattle.schedule_versions.specs.Laws.{StartedIsDerived, RunIsDerived}
-use Rattle.schedule_operators.specs.Operators.{at_statement, on_procedure, act_of}
+use Rattle.schedule_operators.specs.Operators.{at_statement, on_procedure, division_of, act_of}
 use Rattle.schedule_operators.specs.Operators.{OperatorsAreLawful, SchedulesDerive}
 
 same_rule : (a b : Ruled) → Got a ≡ Got b → a ≡ b
@@ -33,9 +36,19 @@ module _ (P : Rule → Type 0) (r : Rule) (is : P r) where
   of_statement (Range path count ∷ cs) made h = cc
   of_statement (Gap path side ∷ cs) made h = cc
 
-module _ (exchanges : (x : ExprPattern) → IsLawful (commute_rule x))
+module _ (divisions : (d : Division) → IsLawful (divide_rule d)) (unrolled : IsLawful unroll_rule)
+    (exchanges : (x : ExprPattern) → IsLawful (commute_rule x))
     (names : (name : List ℕ) → IsLawful (rename_rule name)) (passes : IsLawful delete_pass_rule) where
   pub operators_are_lawful : OperatorsAreLawful
+  operators_are_lawful (DivideLoop at d) = record {
+    lawful = λ t cs r h.
+        of_statement IsLawful (divide_rule (division_of d)) (divisions (division_of d)) cs r h;
+    fields = λ t cs r h. of_statement NamesFields (divide_rule (division_of d)) (λ s. tt) cs r h;
+  }
+  operators_are_lawful (UnrollLoop at) = record {
+    lawful = λ t cs r h. of_statement IsLawful unroll_rule unrolled cs r h;
+    fields = λ t cs r h. of_statement NamesFields unroll_rule (λ s. tt) cs r h;
+  }
   operators_are_lawful (CommuteExpr at x) = record {
     lawful = λ t cs r h. of_statement IsLawful (commute_rule x) (exchanges x) cs r h;
     fields = λ t cs r h. of_statement NamesFields (commute_rule x) (λ s. tt) cs r h;

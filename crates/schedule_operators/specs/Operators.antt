@@ -1,5 +1,5 @@
 -- What the operators of a schedule do: each takes its cursors and then works by its rule.
-use Rattle.std.specs.Prelude.{◌≡◌, ℕ, true, List, [], ◌∷◌, length, map}
+use Rattle.std.specs.Prelude.{◌≡◌, ℕ, pos, true, List, [], ◌∷◌, length, map}
 use Rattle.exo_tree.specs.Tree.{Program}
 use Rattle.exo_meaning.specs.Units.{IsUnit}
 use Rattle.unit_check.specs.Faults.{NothingFaults}
@@ -9,6 +9,11 @@ use Rattle.step_rules.specs.Rule.{Tried, Got, Not, Rule}
 use Rattle.expression_laws.specs.Commute.{commute_rule}
 use Rattle.expression_laws.specs.Passes.{delete_pass_rule}
 use Rattle.expression_laws.specs.Rename.{rename_rule}
+use Rattle.loop_laws.specs.DivideLoop as divide
+use Rattle.loop_laws.specs.DivideLoop.{divide_rule}
+use Rattle.loop_laws.specs.UnrollLoop.{unroll_rule}
+use Rattle.schedule_calls.specs.Requests.{Tail, Guard, Cut, CutAndGuard, Perfect, Division}
+use Rattle.schedule_calls.specs.Requests.{DivideLoop, UnrollLoop}
 use Rattle.schedule_calls.specs.Requests.{Operation, CommuteExpr, Rename, DeletePass, Request}
 use Rattle.schedule_calls.specs.Requests as request
 use Rattle.schedule_versions.specs.Versions.{Versions, started}
@@ -26,9 +31,28 @@ at_statement r cs = Not WrongShape
 abbrev pub on_procedure : Rule → Tried Ruled
 on_procedure r = Got (record { rule = r; at = [] })
 
+-- ---- divisions
+
+abbrev pub tail_of : Tail → divide.Tail
+tail_of Guard = divide.Guard
+tail_of Cut = divide.Cut
+tail_of CutAndGuard = divide.CutAndGuard
+tail_of Perfect = divide.Perfect
+
+abbrev pub division_of : Division → divide.Division
+division_of d =
+    record { by = pos d.by; outer = d.outer; inner = d.inner; tail = tail_of d.tail }
+
 -- ---- operators
 
 abbrev pub call_of : Operation → Call
+call_of (DivideLoop at d) = record {
+  named = λ v. true;
+  cursors = at ∷ [];
+  rule = λ t cs. at_statement (divide_rule (division_of d)) cs;
+}
+call_of (UnrollLoop at) =
+    record { named = λ v. true; cursors = at ∷ []; rule = λ t cs. at_statement unroll_rule cs }
 call_of (CommuteExpr at x) =
     record { named = λ v. true; cursors = at ∷ []; rule = λ t cs. at_statement (commute_rule x) cs }
 call_of (Rename name) =

@@ -7,6 +7,8 @@ ghost use Rattle.schedule_operators.specs.Instance.{ScheduleInstance, ResultIsDe
 pub fn operators_are_lawful()
     ensures { OperatorsAreLawful }
 {
+    loop_laws::laws::divisions_are_lawful();
+    loop_laws::laws::unrolled_loops_are_lawful();
     expression_laws::laws::exchanges_are_lawful();
     expression_laws::laws::names_are_lawful();
     expression_laws::laws::deleted_passes_are_lawful();
@@ -16,6 +18,8 @@ pub fn operators_are_lawful()
 pub fn schedules_derive()
     ensures { SchedulesDerive }
 {
+    loop_laws::laws::divisions_are_lawful();
+    loop_laws::laws::unrolled_loops_are_lawful();
     expression_laws::laws::exchanges_are_lawful();
     expression_laws::laws::names_are_lawful();
     expression_laws::laws::deleted_passes_are_lawful();

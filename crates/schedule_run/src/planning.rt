@@ -8,8 +8,9 @@ ghost use Rattle.cursor_forward.specs.PlainCursor.{plain_cursor};
 ghost use Rattle.cursor_forward.specs.PlainProposal.{plain_proposal};
 ghost use Rattle.step_rules.specs.Lawful.{IsTarget};
 ghost use Rattle.step_driver.specs.PlainTarget.{target};
-ghost use Rattle.schedule_calls.specs.PlainRequest.{plain_asked, plain_operation};
-ghost use Rattle.schedule_operators.specs.Operators.{call_of};
+ghost use Rattle.loop_rewrites.specs.PlainTail as made;
+ghost use Rattle.schedule_calls.specs.PlainRequest.{plain_asked, plain_division, plain_operation, plain_tail};
+ghost use Rattle.schedule_operators.specs.Operators.{call_of, division_of, tail_of};
 ghost use Rattle.schedule_run.specs.Outcomes.{Makes};
 ghost use Rattle.schedule_run.specs.Planned.{planned, procedure_call, statement_call, statement_in};
 ghost use Rattle.schedule_run.specs.PlainVersions.{versions};
@@ -19,7 +20,8 @@ use crate::why::Why;
 use cursor_forward::{Cursor, Proposal, StepError};
 use exo_tree::Path;
 use expression_rewrites::{Commuting, Deleting, Renaming};
-use schedule_calls::{Asked, Operation};
+use loop_rewrites::{Dividing, Unrolling};
+use schedule_calls::{Asked, Division, Operation, Tail};
 use std::alloc::Global;
 use step_driver::{Operator, Target, propose};
 
@@ -66,6 +68,30 @@ fn at_statement<O: Operator>(
     Ok(propose(alloc, on, &path, op)?)
 }
 
+/// A tail as the step has it.
+fn tail_of(t: Tail) -> loop_rewrites::Tail
+    ensures { made.plain_tail result ≡ tail_of (plain_tail t) }
+{
+    match t {
+        Tail::Guard => loop_rewrites::Tail::Guard,
+        Tail::Cut => loop_rewrites::Tail::Cut,
+        Tail::CutAndGuard => loop_rewrites::Tail::CutAndGuard,
+        Tail::Perfect => loop_rewrites::Tail::Perfect,
+    }
+}
+
+/// The step of a division.
+fn dividing(d: &Division) -> Dividing<'_>
+    ensures { made.division result ≡ division_of (plain_division d.now) }
+{
+    Dividing {
+        by: d.by as i64,
+        outer: &d.outer,
+        inner: &d.inner,
+        tail: tail_of(d.tail),
+    }
+}
+
 /// What an operation makes of a procedure of the versions' unit.
 pub(crate) fn planned(
     alloc: Global,
@@ -79,6 +105,8 @@ pub(crate) fn planned(
     ensures { Makes plain_proposal (planned (versions s.now) on.now.number.0 (procedure on.now.proc.now) (call_of (plain_operation operation.now))) result }
 {
     match operation {
+        Operation::DivideLoop(at, division) => at_statement(alloc, on, s, at, &dividing(division)),
+        Operation::UnrollLoop(at) => at_statement(alloc, on, s, at, &Unrolling),
         Operation::CommuteExpr(at, pattern) => at_statement(
             alloc,
             on,
