@@ -117,5 +117,13 @@ pub fn specialize(
     ensures meaning { IfOk result (λ m. KeepsMeaning (target on.now) (plain_proposal m)) }
     ensures moves { IfOk result (λ m. Moves (target on.now) (plain_proposal m)) }
 {
-    propose(alloc, on, at, &Specializing { count, condition: c })
+    propose(
+        alloc,
+        on,
+        at,
+        &Specializing {
+            count,
+            condition: c,
+        },
+    )
 }
