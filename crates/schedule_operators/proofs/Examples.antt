@@ -11,6 +11,7 @@ use Rattle.schedule_versions.specs.Laws.{HasRoom}
 use Rattle.schedule_operators.specs.Operators.{SchedulesDerive}
 use Rattle.schedule_operators.specs.Instance.{first, unit, schedule, result, ScheduleInstance}
 use Rattle.schedule_operators.specs.Instance.{ResultIsDerived}
+use Rattle.schedule_operators.specs.LoopInstance.{LoopsInstance}
 
 pub schedule_instance : ScheduleInstance
 schedule_instance = record {
@@ -23,6 +24,9 @@ schedule_instance = record {
   no_parent = refl;
   no_emit = refl;
 }
+
+pub loops_instance : LoopsInstance
+loops_instance = record { runs = refl; no_group = refl; many_turns = refl }
 
 is_unit : IsUnit unit
 is_unit = record {

@@ -2,6 +2,7 @@
 
 ghost use Rattle.schedule_operators.specs.Operators.{OperatorsAreLawful, SchedulesDerive};
 ghost use Rattle.schedule_operators.specs.Instance.{ScheduleInstance, ResultIsDerived};
+ghost use Rattle.schedule_operators.specs.LoopInstance.{LoopsInstance};
 
 /// Every operator works by lawful rules.
 pub fn operators_are_lawful()
@@ -30,6 +31,11 @@ pub fn schedules_derive()
 /// A schedule that runs, and one for each refusal that needs no proof.
 pub fn schedule_instance()
     ensures { ScheduleInstance }
+{}
+
+/// A schedule that divides a loop and writes out its turns, and what is refused of loops.
+pub fn loops_instance()
+    ensures { LoopsInstance }
 {}
 
 /// What the schedule of the instance leaves is derived.
