@@ -1,5 +1,5 @@
 //! The turns of a loop whose bounds are constants.
-ghost use Rattle.std.specs.Prelude.{◌≡◌, ◌≤◌, ◌^◌, option_map, unsigned_abs, IsTrue, IfSome};
+ghost use Rattle.std.specs.Prelude.{◌≡◌, ◌≤◌, ◌^◌, unsigned_abs, IsTrue, IfSome};
 ghost use Rattle.exo_tree.specs.PlainControl.{control};
 ghost use Rattle.affine_forms.specs.Forms.{is_affine, is_writable, normal};
 ghost use Rattle.affine_forms.specs.Outcomes.{Formed};
@@ -83,12 +83,12 @@ fn bound(alloc: Global, e: &Ctrl) -> Result<Linear, FormError>
 }
 
 /// The number of a form that is a constant.
-fn constant(l: &Linear) -> Option<i64>
-    ensures value { option_map (λ n. n) result ≡ constant_of l.now }
+fn constant(l: &Linear) -> Option<i128>
+    ensures value { result ≡ constant_of l.now }
     ensures short { IfSome result (λ n. unsigned_abs n ≤ 2 ^ 62) }
 {
     if l.terms().is_empty() {
-        Some(l.constant() as i64)
+        Some(l.constant())
     } else {
         None
     }
@@ -96,7 +96,7 @@ fn constant(l: &Linear) -> Option<i64>
 
 impl<'a> LoopAt<'a> {
     /// The turns from one number up to another.
-    fn between_numbers(self, lo: i64, hi: i64) -> Result<Turns<'a>, StepError>
+    fn between_numbers(self, lo: i128, hi: i128) -> Result<Turns<'a>, StepError>
         requires low { unsigned_abs lo ≤ 2 ^ 62 }
         requires high { unsigned_abs hi ≤ 2 ^ 62 }
         ensures { Tries plain_turns (then_try (plain.few_between lo hi) (λ ns. Got (record { loop = plain_loop self; turns = ns }))) result }
@@ -107,7 +107,7 @@ impl<'a> LoopAt<'a> {
         }
         Ok(Turns {
             looping: self,
-            first: lo,
+            first: lo as i64,
             count: count.max(0) as u32,
         })
     }
