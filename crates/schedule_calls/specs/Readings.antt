@@ -146,11 +146,12 @@ or_guard None = Guard
 or_guard (Some t) = t
 
 -- `perfect=True` holds over `tail`
+abbrev pub perfect_or : Option Bool → Tail → Tail
+perfect_or None t = t
+perfect_or (Some perfect) t = if perfect then Perfect else t
+
 abbrev pub tail_meant : TailKeys → Tail
-tail_meant k = elim k.perfect [
-  None ↦ or_guard k.tail
-| Some perfect ↦ if perfect then Perfect else or_guard k.tail
-]
+tail_meant k = perfect_or k.perfect (or_guard k.tail)
 
 abbrev pub tail_in : List tree.Argument → Option Tail
 tail_in args = option_map tail_meant (keys_behind (record { tail = None; perfect = None }) args)
