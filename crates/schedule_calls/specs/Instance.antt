@@ -4,7 +4,8 @@ use Rattle.text_lexer.specs.declared.token.Literal.TheVariants.{Value}
 use Rattle.cursor_patterns.specs.Patterns.{Loop, Read}
 use Rattle.schedule_text.specs.Tree as tree
 use Rattle.schedule_text.specs.declared.source.Direction.TheVariants as way
-use Rattle.schedule_calls.specs.Requests.{Parent, Item, Under, Here, CommuteExpr, Rename, DeletePass}
+use Rattle.schedule_calls.specs.Requests.{Parent, Item, Under, Here}
+use Rattle.schedule_calls.specs.Requests.{CommuteExpr, Rename, DeletePass}
 use Rattle.schedule_calls.specs.Requests.{DivideLoop, UnrollLoop, Tail, Guard, CutAndGuard, Perfect}
 use Rattle.schedule_calls.specs.Requests.{Request, Apply, Search, Moved, Emit}
 use Rattle.schedule_calls.specs.Readings.{Asks, is_unknown}
