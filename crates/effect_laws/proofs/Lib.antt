@@ -12,3 +12,4 @@ pub mod Places
 pub mod Turns
 pub mod Apart
 pub mod Examples
+pub mod Fits

@@ -1,3 +1,4 @@
 pub mod Covers
 pub mod Clear
 pub mod Apart
+pub mod Fits

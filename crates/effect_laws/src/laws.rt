@@ -3,6 +3,7 @@
 ghost use Rattle.effect_laws.specs.Apart.{ApartIsMet};
 ghost use Rattle.effect_laws.specs.Clear.{ClearLaw};
 ghost use Rattle.effect_laws.specs.Covers.{CoversLaw};
+ghost use Rattle.effect_laws.specs.Fits.{HalvesFit, NestsFit};
 
 /// The accesses of a piece cover what a run of it touches, calls included.
 pub fn accesses_cover()
@@ -34,3 +35,13 @@ pub fn shown_pieces_are_apart()
     accesses_cover();
     shown_conflicts_are_clear();
 }
+
+/// What the laws on parted and fused loops ask of two loops, where their bodies are apart.
+pub fn halves_fit()
+    ensures { HalvesFit }
+{}
+
+/// What the law on two loops that change places asks, where turns of the body are apart.
+pub fn nests_fit()
+    ensures { NestsFit }
+{}

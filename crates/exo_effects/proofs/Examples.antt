@@ -3,16 +3,17 @@ use Rattle.std.specs.Prelude.{codes}
 use Rattle.std.specs.Fmt.{digits}
 use Rattle.std.proofs.lemmas.Int.{ints}
 use Rattle.std.proofs.Common.{◌≡◌, ◌≤ℤ◌, arith, ℕ, ℤ, pos, negsuc, List, [], ◌∷◌, None, refl}
-use Rattle.exo_tree.specs.Tree.{I32, Size, Binder, Control, Lit, Var, Add, Sub, Read}
-use Rattle.exo_tree.specs.Tree.{Assign, Reduce, For, Statement, Block, end}
+use Rattle.exo_tree.specs.Tree.{I32, Size, Binder, Control, Lit, Var, Add, Sub, Lt, Const, Read}
+use Rattle.exo_tree.specs.Tree.{Assign, Reduce, If, For, Alloc, View, Span, Statement, Block, end}
 use Rattle.exo_tree.specs.Tree.{next, Param, ControlParam, TensorParam, Procedure, Program}
 use Rattle.exo_tree.specs.Places.{Main, Path}
 use Rattle.affine_forms.specs.Affine.{Affine, Constraints, IsIntegerPoint}
-use Rattle.affine_forms.specs.Atoms.{Variable, only, constantly}
-use Rattle.affine_forms.specs.Formulas.{Formula, at_most}
+use Rattle.affine_forms.specs.Atoms.{Variable, none, term, Linear, only, constantly}
+use Rattle.affine_forms.specs.Formulas.{Formula, row, at_most}
 use Rattle.affine_systems.specs.Outcomes.{owed}
-use Rattle.exo_effects.specs.Accesses.{Access, accesses_of}
-use Rattle.exo_effects.specs.Orders.{Less, Greater, Order, order_of}
+use Rattle.exo_meaning.specs.Modes.{Reading, Writing}
+use Rattle.exo_effects.specs.Accesses.{At, Access, accesses_of}
+use Rattle.exo_effects.specs.Orders.{Header, Less, Greater, Order, order_of}
 use Rattle.exo_effects.specs.Conflicts.{Lists, conflicts_of}
 
 -- ---- def f(M: size, N: size, A: i32[M, N], C: i32[N], D: i32[M, N])
@@ -166,3 +167,70 @@ row_7_kept : conflicts_of context sums_order place (accesses 2 kept) (accesses 2
     ∷ [])
 unfolding digits
 row_7_kept = refl
+
+-- ---- accesses through a view, in a loop and a branch; a buffer of the piece is left out
+
+-- `w = A[1:3, 0:N]`, then `for k in seq(0, 2):` with `t: i32[2]`, `if k < 1: w[k, 2] = 1` and
+-- `t[k] = w[1, 3]`
+abbrev through_view : Block
+through_view = next (View (named 7 119) 2 (Span (Lit (pos 1)) (Lit (pos 3)) ∷ Span (Lit (pos 0)) (Var 1) ∷ []))
+    (next (For (named 8 107) (Lit (pos 0)) (Lit (pos 2)) (next (Alloc (named 9 116) I32 (Lit (pos 2) ∷ []) 0)
+    (next (If (Lt (Var 8) (Lit (pos 1))) (next (Assign 7 (Var 8 ∷ Lit (pos 2) ∷ []) (Const (pos 1))) end) end)
+    (next (Assign 9 (Var 8 ∷ []) (Read 7 (Lit (pos 1) ∷ Lit (pos 3) ∷ []))) end)))) end)
+
+abbrev behind_view : Path
+behind_view = record { branch = Main; index = 1 } ∷ []
+
+abbrev k_form : ℤ → Linear
+k_form n = record { constant = n; terms = term (pos 1) (Variable 8) none }
+
+abbrev minus_k : ℤ → Formula
+minus_k n = row (record { constant = n; terms = term (negsuc 0) (Variable 8) none })
+
+seen_through : accesses_of (unit_of through_view) (of_body through_view) behind_view 1
+    ≡ record {
+      root = 2;
+      mode = Writing;
+      coords = At (k_form (pos 1)) ∷ At (constantly (pos 2)) ∷ [];
+      own = 8 ∷ [];
+      guards = row (k_form (pos 0)) ∷ minus_k (pos 1) ∷ minus_k (pos 0) ∷ [];
+      text = codes "w[k, 2]";
+    } ∷ record {
+      root = 2;
+      mode = Reading;
+      coords = At (constantly (pos 2)) ∷ At (constantly (pos 3)) ∷ [];
+      own = 8 ∷ [];
+      guards = row (k_form (pos 0)) ∷ minus_k (pos 1) ∷ [];
+      text = codes "w[1, 3]";
+    } ∷ []
+unfolding digits
+seen_through = refl
+
+-- ---- two loops: `for k in seq(0, 16): C[k] = 1`, then `for l in seq(0, 16): D[l, 0] = C[15 - l]`
+
+abbrev two_loops : Block
+two_loops = next (For (named 8 107) (Lit (pos 0)) (Lit (pos 16)) (next (Assign 3 (Var 8 ∷ []) (Const (pos 1))) end))
+    (next (For (named 9 108) (Lit (pos 0)) (Lit (pos 16)) (next (Assign 4 (Var 9 ∷ Lit (pos 0) ∷ []) (Read 3 (Sub (Lit (pos 15)) (Var 9) ∷ []))) end)) end)
+
+abbrev in_loop : ℕ → Path
+in_loop k = record { branch = Main; index = k } ∷ record { branch = Main; index = 0 } ∷ []
+
+abbrev loop_over : ℕ → ℕ → Header
+loop_over id letter = record { binder = named id letter; lo = Lit (pos 0); hi = Lit (pos 16) }
+
+-- the second body at an earlier turn against the first: l + k = 15 is met, so they are not fused
+back_to_front : conflicts_of context (order_of (loop_over 9 108 ∷ []) (loop_over 8 107 ∷ []) (Less 0 ∷ [])) place
+    (accesses_of (unit_of two_loops) (of_body two_loops) (in_loop 1) 1) (accesses_of (unit_of two_loops) (of_body two_loops) (in_loop 0) 1)
+    ≡ Lists (owed (codes "C[15 - l] against C[k]") place (record {
+      variables = 4;
+      equations = sum (pos 15) (pos 0 ∷ pos 0 ∷ negsuc 0 ∷ negsuc 0 ∷ []) ∷ [];
+      rows = sum (negsuc 0) (pos 1 ∷ pos 0 ∷ pos 0 ∷ pos 0 ∷ [])
+          ∷ sum (negsuc 0) (pos 0 ∷ pos 1 ∷ pos 0 ∷ pos 0 ∷ [])
+          ∷ sum (pos 0) (pos 0 ∷ pos 0 ∷ pos 1 ∷ pos 0 ∷ [])
+          ∷ sum (pos 15) (pos 0 ∷ pos 0 ∷ negsuc 0 ∷ pos 0 ∷ [])
+          ∷ sum (pos 0) (pos 0 ∷ pos 0 ∷ pos 0 ∷ pos 1 ∷ [])
+          ∷ sum (pos 15) (pos 0 ∷ pos 0 ∷ pos 0 ∷ negsuc 0 ∷ [])
+          ∷ sum (negsuc 0) (pos 0 ∷ pos 0 ∷ negsuc 0 ∷ pos 1 ∷ []) ∷ [];
+    }) ∷ [])
+unfolding digits
+back_to_front = refl

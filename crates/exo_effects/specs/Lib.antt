@@ -7,3 +7,4 @@ pub mod Cases
 pub mod Orders
 pub mod Fresh
 pub mod Conflicts
+pub mod PlainAccess
