@@ -3,7 +3,7 @@ use Rattle.std.specs.Prelude.{ℕ, pos, true, List, map}
 use Rattle.affine_forms.specs.Atoms.{Variable, only, constantly}
 use Rattle.affine_forms.specs.Forms.{Reading}
 use Rattle.affine_forms.specs.Formulas.{Flags, own_flag, row}
-use Rattle.exo_tree.specs.declared.ids.Id.{Id}
+use Rattle.exo_tree.specs.declared.number.Id.{Id}
 use Rattle.exo_effects.specs.Conflicts.{apart}
 use Rattle.exo_conflicts.specs.declared.copies.Copy.{Copy}
 
