@@ -145,11 +145,18 @@ pub data Stated : Type 0 where
   CasesPassed SizePassed : Stated
   Listed : List Constraints → Stated
 
-abbrev pub stated : List Formula → Formula → Stated
-stated context claim =
-    if nat_le (length (failing_cases context claim)) 64
-    then (if list_all is_small (systems context claim) then Listed (systems context claim) else SizePassed)
+abbrev pub stated_of : List (List Constraint) → Stated
+stated_of css =
+    if nat_le (length css) 64
+    then (if list_all is_small (map system css) then Listed (map system css) else SizePassed)
     else CasesPassed
+
+abbrev pub stated : List Formula → Formula → Stated
+stated context claim = stated_of (failing_cases context claim)
+
+-- of formulas that no integers meet together
+abbrev pub stated_together : List Formula → Stated
+stated_together fs = stated_of (cases_of_all fs)
 
 -- ---- valuations that keep the kinds of fields
 

@@ -6,7 +6,7 @@ ghost use Rattle.affine_forms.specs.Formulas.{cases_of_all, negation};
 ghost use Rattle.affine_forms.specs.PlainAtoms.{plain_atom};
 ghost use Rattle.affine_forms.specs.PlainFormulas.{plain_formula};
 ghost use Rattle.affine_forms.specs.System.{plain_row, plain_system};
-ghost use Rattle.affine_systems.specs.Systems.{stated, system, equations_of, rows_of, affine, sum_of};
+ghost use Rattle.affine_systems.specs.Systems.{stated, stated_of, stated_together, system, equations_of, rows_of, affine, sum_of};
 ghost use Rattle.affine_systems.specs.PlainCases.{plain_constraint, plain_cases};
 ghost use Rattle.affine_systems.specs.PlainMade.{plain_stated};
 ghost use Rattle.affine_systems.specs.Outcomes.{IsAnswer, IsSystem, FailuresArePoints, owed, plain_obligation};
@@ -135,6 +135,68 @@ fn owe(
     Ok(())
 }
 
+/// One obligation for each of some cases, of which there are at most 64; `SystemTooLarge` where a system is too large.
+fn owed_in(
+    alloc: Global,
+    cases: &[Case<'_>],
+    what: &Text,
+    place: &Path,
+) -> Result<Vec<Obligation>, FormError>
+    requires { length cases.now ≤ 64 }
+    ensures { IsAnswer result (stated_of (plain_cases cases.now)) what.now place.now }
+{
+    let mut owed = Vec::new(alloc);
+    for case in cases {
+        let system = match system_of_case(alloc, case) {
+            Ok(s) => s,
+            Err(e) => return Err(e),
+        };
+        owe(alloc, &mut owed, system, what, place)?;
+    }
+    Ok(owed)
+}
+
+/// The number of cases in which formulas hold, or 65 where there are more than that.
+fn joint_count(all: &Context) -> usize
+    ensures { result ≡ min (length (cases_of_all all.now)) 65 }
+{
+    let mut count = 1;
+    for f in all.formulas() {
+        count = (count * case_count(f)).min(MANY);
+    }
+    count
+}
+
+/// The cases in which formulas hold.
+fn joint_cases<'a>(alloc: Global, all: &'a Context) -> Result<Vec<Case<'a>>, AllocError>
+    ensures { IfOk result (λ v. plain_cases v.items ≡ cases_of_all all.now) }
+{
+    let mut cases = empty_case(alloc)?;
+    for f in all.formulas() {
+        cases = with_cases(alloc, cases, f)?;
+    }
+    Ok(cases)
+}
+
+/// The obligations that formulas do not hold together: one for each case in which they do.
+///
+/// `TooManyCases` comes where there are more than 64 cases, else `SystemTooLarge` where some case has more than 64
+/// variables, or more than 512 rows and equations together.
+pub fn joint_systems(
+    alloc: Global,
+    all: &Context,
+    what: &Text,
+    place: &Path,
+) -> Result<Vec<Obligation>, FormError>
+    ensures { IsAnswer result (stated_together all.now) what.now place.now }
+{
+    if joint_count(all) == MANY {
+        return Err(FormError::TooManyCases);
+    }
+    let cases = joint_cases(alloc, all)?;
+    owed_in(alloc, &cases, what, place)
+}
+
 /// The obligations of a claim in its context: one for each case in which the context holds and the claim does not.
 ///
 /// The hypotheses and the denied claim are brought into disjunctive normal form: the cases of `either` are those of its
@@ -164,13 +226,5 @@ pub fn systems(
         return Err(FormError::TooManyCases);
     }
     let cases = failing_cases(alloc, ctx, &denied)?;
-    let mut owed = Vec::new(alloc);
-    for case in &cases {
-        let system = match system_of_case(alloc, case) {
-            Ok(s) => s,
-            Err(e) => return Err(e),
-        };
-        owe(alloc, &mut owed, system, what, place)?;
-    }
-    Ok(owed)
+    owed_in(alloc, &cases, what, place)
 }
