@@ -2,7 +2,7 @@
 ghost use Rattle.std.specs.Prelude.{◌≡◌, ◌≤◌, nat_lt, ◌++◌, ◌∷◌, [], map, min, length, IfOk, OnOk, IsTrue};
 ghost use Rattle.std.specs.List.{list_all};
 ghost use Rattle.affine_forms.specs.Bounds.{are_below};
-ghost use Rattle.affine_forms.specs.Formulas.{cases_of_all, negation};
+ghost use Rattle.affine_forms.specs.Formulas.{cases_of_all, product, negation};
 ghost use Rattle.affine_forms.specs.PlainAtoms.{plain_atom};
 ghost use Rattle.affine_forms.specs.PlainFormulas.{plain_formula};
 ghost use Rattle.affine_forms.specs.System.{plain_row, plain_system};
@@ -156,44 +156,52 @@ fn owed_in(
     Ok(owed)
 }
 
-/// The number of cases in which formulas hold, or 65 where there are more than that.
-fn joint_count(all: &Context) -> usize
-    ensures { result ≡ min (length (cases_of_all all.now)) 65 }
+/// The cases of formulas so far, 65 where there are more than 64, with those of more formulas.
+fn count_with(count: usize, more: &Context) -> usize
+    requires { count ≤ 65 }
+    ensures { result ≡ min (count * length (cases_of_all more.now)) 65 }
 {
-    let mut count = 1;
-    for f in all.formulas() {
-        count = (count * case_count(f)).min(MANY);
+    let mut all = count;
+    for f in more.formulas() {
+        all = (all * case_count(f)).min(MANY);
     }
-    count
+    all
 }
 
-/// The cases in which formulas hold.
-fn joint_cases<'a>(alloc: Global, all: &'a Context) -> Result<Vec<Case<'a>>, AllocError>
-    ensures { IfOk result (λ v. plain_cases v.items ≡ cases_of_all all.now) }
+/// Each case with each of those in which more formulas hold behind it.
+fn with_all<'a>(
+    alloc: Global,
+    prefixes: Vec<Case<'a>>,
+    more: &'a Context,
+) -> Result<Vec<Case<'a>>, AllocError>
+    ensures { IfOk result (λ v. plain_cases v.items ≡ product (plain_cases prefixes.entry.items) (cases_of_all more.now)) }
 {
-    let mut cases = empty_case(alloc)?;
-    for f in all.formulas() {
+    let mut cases = prefixes;
+    for f in more.formulas() {
         cases = with_cases(alloc, cases, f)?;
     }
     Ok(cases)
 }
 
-/// The obligations that formulas do not hold together: one for each case in which they do.
+/// The obligations that what is known does not hold together with more formulas: one for each case in which both do.
+/// `known` may be the context of many such lists; it is not copied.
 ///
 /// `TooManyCases` comes where there are more than 64 cases, else `SystemTooLarge` where some case has more than 64
 /// variables, or more than 512 rows and equations together.
 pub fn joint_systems(
     alloc: Global,
-    all: &Context,
+    known: &Context,
+    more: &Context,
     what: &Text,
     place: &Path,
 ) -> Result<Vec<Obligation>, FormError>
-    ensures { IsAnswer result (stated_together all.now) what.now place.now }
+    ensures { IsAnswer result (stated_together (known.now ++ more.now)) what.now place.now }
 {
-    if joint_count(all) == MANY {
+    if count_with(count_with(1, known), more) == MANY {
         return Err(FormError::TooManyCases);
     }
-    let cases = joint_cases(alloc, all)?;
+    let known_cases = with_all(alloc, empty_case(alloc)?, known)?;
+    let cases = with_all(alloc, known_cases, more)?;
     owed_in(alloc, &cases, what, place)
 }
 
