@@ -164,10 +164,8 @@ fn put_needs(
     put_needs(alloc, site, p, cursor, rest, out)
 }
 
-/// What needs owe, in their order, each in the context of its place. `Form` for the first that is refused: of one need
-/// first its forms, then its cases, then the size of its systems, then that all passes 65,536 systems or 4,194,304 terms.
-/// The procedure is one of a well-formed unit, and the needs break no rule.
-pub fn owed_needs(
+/// What needs owe, in their order, by the tables of the whole unit.
+fn owed_for(
     alloc: Global,
     unit: &Unit,
     p: &Proc,
@@ -191,4 +189,23 @@ pub fn owed_needs(
     let mut out = Owed::new(alloc);
     put_needs(alloc, &site, p, &mut cursor, needs, &mut out)?;
     Ok(out.into_items())
+}
+
+/// What needs owe, in their order, each in the context of its place. `Form` for the first that is refused: of one need
+/// first its forms, then its cases, then the size of its systems, then that all passes 65,536 systems or 4,194,304 terms.
+/// The procedure is one of a well-formed unit, and the needs break no rule. Where there is none the unit is not looked at.
+pub fn owed_needs(
+    alloc: Global,
+    unit: &Unit,
+    p: &Proc,
+    needs: &[Need],
+) -> Result<Vec<Obligation>, StepError>
+    requires target { (k : ℕ) × IsTarget (target_in (program unit.now, procedure p.now) k) }
+    requires rules { (k : ℕ) × ((owing.findings_of_needs (target_in (program unit.now, procedure p.now) k) (map plain_need needs.now)).rules ≡ true) }
+    ensures { (k : ℕ) → Tries (λ v. map plain_obligation v.items) (owing.owed_needs (target_in (program unit.now, procedure p.now) k) (map plain_need needs.now)) result }
+{
+    let [_, ..] = needs else {
+        return Ok(Vec::new(alloc));
+    };
+    owed_for(alloc, unit, p, needs)
 }

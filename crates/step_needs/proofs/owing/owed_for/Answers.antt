@@ -11,7 +11,7 @@ use Rattle.step_needs.specs.Owing.{target_in}
 use Rattle.step_needs.specs.PlainNeed.{plain_need}
 use Rattle.step_needs.proofs.Ruled.{needs_affine}
 use Rattle.step_needs.proofs.Walked.{walked, extents_there, few_fields}
-use Rattle.step_needs.proofs.owing.owed_needs.Goals as goal
+use Rattle.step_needs.proofs.owing.owed_for.Goals as goal
 
 pub of-requires : goal.of-requires
 of-requires c =
