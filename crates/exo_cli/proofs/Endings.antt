@@ -11,7 +11,7 @@ use Rattle.compile_stages.specs.Stages.{Stage, Passed, Stopped, Checks}
 use Rattle.exo_cli.specs.Words.{Command, Check, command_of, files_of}
 use Rattle.exo_cli.specs.Answer.{Answer, Accepted, Rejected, Unread, Misused, answer_of, IsAnswerOf}
 use Rattle.exo_cli.specs.Answer.{status_of, for_out, for_err, IsVerdict}
-use Rattle.exo_cli.specs.Work.{file_limit, Opens, OpensBoth, AnswersTo, Answers, operands, IsReadFault}
+use Rattle.exo_cli.specs.Work.{Stays, file_limit, Opens, OpensBoth, AnswersTo, Answers, operands, IsReadFault}
 use Rattle.exo_cli.specs.Work.{IsAnswerTo, IsAnswer, EndsAt, Moment, OutFails, ErrFails, Ends}
 use Rattle.cli_outside.proofs.Taking.{with_more-nothing}
 
@@ -282,9 +282,11 @@ fault-ends words before after reply h (inr f) =
 
 -- the program ends as it says where its reply is the answer and was delivered
 pub ends : (words : List (List ℕ)) (before after : Moment) (reply : Answer) (status : Status)
+    → Stays before after
     → IsAnswer words before.told before.faults after.faults after.last_fault reply → IsDelivered before after reply status
     → Ends words before after status
-ends words before after reply status h d = record {
+ends words before after reply status stays h d = record {
+  stays = stays;
   quiet = quiet before after reply status d;
   memory = λ e. absurd (not-memory reply (sym (d.ended (λ f. cc)) ∙ e));
   usage = usage-ends words before after reply status h d;

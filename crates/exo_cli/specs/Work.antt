@@ -1,5 +1,5 @@
 -- The order of the program's work: its words, the files in order, and then what their texts give.
-use Rattle.std.specs.Prelude.{◌≡◌, ◌≢◌, ℕ, ◌⊎◌, List, [], Option, Some, None, length, nat_lt}
+use Rattle.std.specs.Prelude.{◌≡◌, ◌≢◌, ◌≤◌, ℕ, ◌⊎◌, List, [], Option, Some, None, length, nat_lt}
 use Rattle.std.specs.Prelude.{codes, Contains, IfSome, IsNone, MatchBool, MatchOption}
 use Rattle.std.specs.Option.{option_map_or}
 use Rattle.exo_cli.specs.declared.status.Status.{Status}
@@ -124,9 +124,17 @@ abbrev pub IsPartOfAnswer :
 IsPartOfAnswer words told part bytes =
     IfSome told (λ files. (answer : Answer) × Answers words files answer × (bytes ≡ part answer))
 
+-- what the files hold stays, and no count of faults falls
+pub record Stays (before after : Moment) : Type 0 where
+  pub told : after.told ≡ before.told
+  pub faults : before.faults ≤ after.faults
+  pub out_faults : before.out_faults ≤ after.out_faults
+  pub err_faults : before.err_faults ≤ after.err_faults
+
 -- How the program may end. Where the files tell what they hold, it ends for want of memory, for a
 -- fault that was counted, or with the answer.
 pub record Ends (words : List (List ℕ)) (before after : Moment) (status : Status) : Type 0 where
+  pub stays : Stays before after
   -- nothing goes to the standard output unless all was accepted or a sink failed
   pub quiet : status ≢ Ok → status ≢ WriteFault → after.out ≡ before.out
   -- want of memory leaves both sinks as they were

@@ -29,6 +29,8 @@ impl Reply {
         ensures status { result ≢ Status.WriteFault → result ≡ status_of (plain self.now) }
         ensures out { result ≢ Status.WriteFault → O.taken out.new ≡ with_more (O.taken out.old) (for_out (plain self.now)) }
         ensures err { result ≢ Status.WriteFault → E.taken err.new ≡ with_more (E.taken err.old) (for_err (plain self.now)) }
+        ensures out_count { O.faults out.old ≤ O.faults out.new }
+        ensures err_count { E.faults err.old ≤ E.faults err.new }
         ensures fault { result ≡ Status.WriteFault →
             (Rose (O.faults out.old) (O.faults out.new) × StopsWithin (O.taken out.old) (O.taken out.new) (for_out (plain self.now)) × (E.taken err.new ≡ E.taken err.old))
             ⊎ (Rose (E.faults err.old) (E.faults err.new) × StopsWithin (E.taken err.old) (E.taken err.new) (for_err (plain self.now)) × (O.taken out.new ≡ O.taken out.old)) }

@@ -71,8 +71,10 @@ fn reply_to<R: Threads + Sync, F: Files, G: Gate>(
     files: &mut F,
     gate: &G,
 ) -> Result<Reply, AllocError>
-    ensures { IfOk result (λ reply. IsAnswer (texts words.now) (F.told files.old) (F.faults files.old) (F.faults files.new)
+    ensures answer { IfOk result (λ reply. IsAnswer (texts words.now) (F.told files.old) (F.faults files.old) (F.faults files.new)
         (F.last_fault files.new) (plain reply)) }
+    ensures same { F.told files.new ≡ F.told files.old }
+    ensures count { F.faults files.old ≤ F.faults files.new }
 {
     match read_command(words) {
         Some(Command::Compile(procs, schedule)) => {
@@ -95,8 +97,10 @@ fn compile_files<R: Threads + Sync, F: Files, G: Gate>(
     files: &mut F,
     gate: &G,
 ) -> Result<Reply, AllocError>
-    ensures { IfOk result (λ reply. IsAnswerTo (Compile procs.now schedule.now) (F.told files.old) (F.faults files.old)
+    ensures answer { IfOk result (λ reply. IsAnswerTo (Compile procs.now schedule.now) (F.told files.old) (F.faults files.old)
         (F.faults files.new) (F.last_fault files.new) (plain reply)) }
+    ensures same { F.told files.new ≡ F.told files.old }
+    ensures count { F.faults files.old ≤ F.faults files.new }
 {
     let unit = match read_text(alloc, files, procs)? {
         Ok(text) => text,
@@ -124,8 +128,10 @@ fn show_version<R: Threads + Sync, F: Files, G: Gate>(
     files: &mut F,
     gate: &G,
 ) -> Result<Reply, AllocError>
-    ensures { IfOk result (λ reply. IsAnswerTo (Show procs.now schedule.now name.now) (F.told files.old) (F.faults files.old)
+    ensures answer { IfOk result (λ reply. IsAnswerTo (Show procs.now schedule.now name.now) (F.told files.old) (F.faults files.old)
         (F.faults files.new) (F.last_fault files.new) (plain reply)) }
+    ensures same { F.told files.new ≡ F.told files.old }
+    ensures count { F.faults files.old ≤ F.faults files.new }
 {
     let unit = match read_text(alloc, files, procs)? {
         Ok(text) => text,
@@ -151,8 +157,10 @@ fn check_file<R: Threads + Sync, F: Files, G: Gate>(
     files: &mut F,
     gate: &G,
 ) -> Result<Reply, AllocError>
-    ensures { IfOk result (λ reply. IsAnswerTo (Check procs.now) (F.told files.old) (F.faults files.old)
+    ensures answer { IfOk result (λ reply. IsAnswerTo (Check procs.now) (F.told files.old) (F.faults files.old)
         (F.faults files.new) (F.last_fault files.new) (plain reply)) }
+    ensures same { F.told files.new ≡ F.told files.old }
+    ensures count { F.faults files.old ≤ F.faults files.new }
 {
     let text = match read_text(alloc, files, procs)? {
         Ok(bytes) => bytes,
