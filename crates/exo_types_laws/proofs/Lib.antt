@@ -11,5 +11,7 @@ mod Calls
 mod Statements
 mod Procedures
 mod Entries
+mod FirstMemory
+mod FirstMemory
 mod Lexed
 mod Units

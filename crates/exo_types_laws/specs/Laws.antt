@@ -1,5 +1,5 @@
 -- What breaks no rule is well formed.
-use Rattle.std.specs.Prelude.{◌≡◌, ◌^◌, ℕ, ◌≤◌, nat_lt, true, List, length, None}
+use Rattle.std.specs.Prelude.{◌≡◌, ◌^◌, ℕ, ◌≤◌, nat_lt, true, List, length, Some, None, slice_get}
 use Rattle.std.specs.List.{list_all}
 use Rattle.text_phrases.specs.Limits.{Limits}
 use Rattle.text_phrases.specs.Text.{IsText}
@@ -8,6 +8,7 @@ use Rattle.exo_meaning.specs.Units.{bound_ids, IsUnit}
 use Rattle.exo_reader.specs.Source.{Item}
 use Rattle.exo_reader.specs.Items.{unit}
 use Rattle.exo_reader.specs.Texts.{tokens_of, places_of}
+use Rattle.exo_types.specs.MemoryRules.{dram}
 use Rattle.exo_types.specs.UnitRules.{unit_fault, unit_of}
 use Rattle.exo_types_laws.specs.Small.{are_small_tokens}
 
@@ -29,3 +30,7 @@ pub record IsLow (program : Program) : Type 0 where
 -- each takes a token of its own, so there are no more of them than tokens
 abbrev pub TypedUnitsAreLow : Type 0
 TypedUnitsAreLow = (items : List Item) → length (unit.spell items) ≤ 0x100000 → IsLow (unit_of items)
+
+-- the first memory of a text's unit is DRAM with its defaults
+abbrev pub TypedUnitsHaveDram : Type 0
+TypedUnitsHaveDram = (items : List Item) → slice_get (unit_of items).memories 0 ≡ Some dram

@@ -1,6 +1,6 @@
 //! What breaks no rule of the language is well formed, each law the contract of a function with nothing to do.
 
-ghost use Rattle.exo_types_laws.specs.Laws.{TypedUnitsAreFormed, ReadUnitsAreFormed, TypedUnitsAreLow};
+ghost use Rattle.exo_types_laws.specs.Laws.{TypedUnitsAreFormed, ReadUnitsAreFormed, TypedUnitsAreLow, TypedUnitsHaveDram};
 
 use exo_types::laws::signatures_agree;
 use rules_names::laws::{
@@ -31,4 +31,9 @@ pub fn read_units_are_formed()
 /// The ids of a unit, and the numbers of its procedures, fields and memories, are below 2^20.
 pub fn typed_units_are_low()
     ensures { TypedUnitsAreLow }
+{}
+
+/// The first memory of a unit is `DRAM` with its defaults.
+pub fn typed_units_have_dram()
+    ensures { TypedUnitsHaveDram }
 {}
