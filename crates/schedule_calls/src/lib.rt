@@ -10,4 +10,4 @@ mod request;
 mod string;
 
 pub use line::read_line;
-pub use request::{Asked, LineFault, Operation, Request, Source};
+pub use request::{Asked, Division, LineFault, Operation, Request, Source, Tail};
