@@ -3,5 +3,7 @@ mod Answered
 mod Strings
 mod Cursors
 mod Operations
+mod Loops
 mod Lines
+mod Closed
 mod Instance

@@ -1,5 +1,5 @@
 -- Requests in memory, as plain ones.
-use Rattle.std.specs.Prelude.{ℕ, List, ◌∷◌, map}
+use Rattle.std.specs.Prelude.{ℕ, List, ◌∷◌, map, option_map}
 use Rattle.text_expressions.specs.Views.{tree_of}
 use Rattle.cursor_patterns.specs.Patterns as patterns
 use Rattle.cursor_patterns.specs.declared.pattern.Pattern.{Pattern}
@@ -7,7 +7,9 @@ use Rattle.cursor_patterns.specs.PlainPattern.{plain_pattern, plain_expr_pattern
 use Rattle.schedule_text.specs.Views.{plain_move}
 use Rattle.schedule_text.specs.declared.source.Move as source
 use Rattle.schedule_calls.specs.Requests as plain
+use Rattle.schedule_calls.specs.Keys as keys
 use Rattle.schedule_calls.specs.Readings.{move, moves}
+use Rattle.schedule_calls.specs.declared.division.TailKeys.{TailKeys}
 use Rattle.schedule_calls.specs.declared.request.Source.{Source}
 use Rattle.schedule_calls.specs.declared.request.Source.TheVariants as from
 use Rattle.schedule_calls.specs.declared.request.Asked.{Asked}
@@ -39,6 +41,9 @@ plain_tail tail.Guard = plain.Guard
 plain_tail tail.Cut = plain.Cut
 plain_tail tail.CutAndGuard = plain.CutAndGuard
 plain_tail tail.Perfect = plain.Perfect
+
+abbrev pub plain_keys : TailKeys → keys.TailKeys
+plain_keys k = record { tail = option_map plain_tail k.tail; perfect = k.perfect }
 
 abbrev pub plain_division : Division → plain.Division
 plain_division d =

@@ -3,6 +3,7 @@
 #![tactic(auto)]
 
 mod argument;
+mod division;
 pub mod laws;
 mod line;
 mod operator;
