@@ -11,6 +11,7 @@ use Rattle.schedule_versions.specs.Laws.{HasRoom}
 use Rattle.schedule_operators.specs.Operators.{SchedulesDerive}
 use Rattle.schedule_operators.specs.Instance.{first, unit, schedule, result, ScheduleInstance}
 use Rattle.schedule_operators.specs.Instance.{ResultIsDerived}
+use Rattle.schedule_operators.specs.LoopInstance.{LoopsInstance}
 
 pub schedule_instance : ScheduleInstance
 schedule_instance = record {
@@ -22,6 +23,22 @@ schedule_instance = record {
   wrong_shape = refl;
   no_parent = refl;
   no_emit = refl;
+}
+
+pub loops_instance : LoopsInstance
+loops_instance = record {
+  runs = refl;
+  no_group = refl;
+  no_loop = refl;
+  many_turns = refl;
+  cut_outside = refl;
+  own_variable = refl;
+  no_control = refl;
+  no_condition = refl;
+  no_neighbour = refl;
+  block_for_loop = refl;
+  gap_for_block = refl;
+  before_block = refl;
 }
 
 is_unit : IsUnit unit
