@@ -12,6 +12,5 @@ mod Statements
 mod Procedures
 mod Entries
 mod FirstMemory
-mod FirstMemory
 mod Lexed
 mod Units
