@@ -1,0 +1,10 @@
+pub mod Fields
+pub mod Narrower
+pub mod Lacking
+pub mod DeadCode
+pub mod RemoveLoop
+pub mod LiftScope
+pub mod Small
+pub mod DeadCodeExamples
+pub mod RemoveLoopExamples
+pub mod LiftExamples

@@ -1,0 +1,4 @@
+pub mod Fields
+pub mod DeadCode
+pub mod RemoveLoop
+pub mod LiftScope
