@@ -21,13 +21,12 @@ use Rattle.cursor_forward.specs.Cursors.{Cursor}
 use Rattle.cursor_forward.specs.Proposals.{Plan}
 use Rattle.made_trees.specs.Ids.{above_all, next_id}
 use Rattle.tree_rules.specs.Classes.{all_kept, limit}
-use Rattle.tree_rules.specs.Findings.{findings_of_body, findings_of_version}
+use Rattle.tree_rules.specs.Findings.{findings_of_body}
 use Rattle.tree_rules_laws.specs.Versions.{has_room, with_version}
 use Rattle.step_rules.specs.Rule.{Tried, Target, Rule}
 use Rattle.step_rules.specs.Rule as rule
 use Rattle.step_rules.specs.Answer.{result, proposed, spot}
 use Rattle.step_rules.specs.Lawful.{IsLawful}
-use Rattle.step_rules.specs.Owing.{findings_of_needs}
 use Rattle.step_rules.proofs.Found.{both_kept}
 use Rattle.step_rules.proofs.Proposals.{proposal_of}
 use Rattle.schedule_calls.specs.Requests.{Move}
@@ -65,10 +64,8 @@ ids_of_result r t at m got =
     let s = spot t p.piece p.o in
     let base = next_id t.proc in
     let q = result r s base p.answer.draft in
-    let found = both_kept (findings_of_version t.unit base q) (findings_of_needs t (r.needs s))
-    p.answer.kept in
     let low = list_all (λ x. nat_lt x (base + 65536)) (bound_ids q) in
-    let limits = both_kept (findings_of_body t.unit q.params q.body) (limit low) found.0 in
+    let limits = both_kept (findings_of_body t.unit q.params q.body) (limit low) p.answer.kept in
     subst (λ (n : Plan). next_id n.proc ≤ next_id t.proc + 65536) p.answer.is
     (highest (base + 65536) (bound_ids q) (kept low limits.1))
   where

@@ -6,6 +6,7 @@ ghost use Rattle.step_rules.specs.Lawful.{IsLawful, IsCarrying};
 ghost use Rattle.statement_laws.specs.DeadCode.{keep_rule, empty_loop_rule};
 ghost use Rattle.statement_laws.specs.LiftScope.{lift_rule};
 ghost use Rattle.statement_laws.specs.RemoveLoop.{remove_rule};
+ghost use Rattle.statement_laws.specs.ReorderStatements.{reorder_rule};
 
 // ---- what is never run
 
@@ -39,6 +40,18 @@ pub fn removed_loops_are_lawful()
 /// Its statements stand where the loop stood.
 pub fn removed_loops_carry()
     ensures { IsCarrying remove_rule }
+{}
+
+// ---- neighbours
+
+/// Two neighbouring statements that do not see each other may change places.
+pub fn exchanged_statements_are_lawful()
+    ensures { IsLawful reorder_rule }
+{}
+
+/// Each of the two goes to the place of the other.
+pub fn exchanged_statements_carry()
+    ensures { IsCarrying reorder_rule }
 {}
 
 // ---- scopes

@@ -44,20 +44,19 @@ plan_by r s q whole must = record {
 }
 
 -- by what stands in the place of the piece and what is owed
-abbrev pub settled : Rule → Spot → Findings → Block → List Owed → Tried Plan
-settled r s needed whole must =
+abbrev pub settled : Rule → Spot → Block → List Owed → Tried Plan
+settled r s whole must =
     let base = next_id s.target.proc in
     let q = version_by r s base whole in
-    unless (broken (both (findings_of_version s.target.unit base q) needed)) (
-    Got (plan_by r s q whole must))
+    unless (broken (findings_of_version s.target.unit base q)) (Got (plan_by r s q whole must))
 
 -- by what is drafted and what is owed
-abbrev pub concluded : Rule → Spot → Findings → Block → List Owed → Tried Plan
-concluded r s needed made must = settled r s needed (or_pass s.opened.around made) must
+abbrev pub concluded : Rule → Spot → Block → List Owed → Tried Plan
+concluded r s made must = settled r s (or_pass s.opened.around made) must
 
 -- behind the rule's own refusals
-abbrev pub finished : Rule → Spot → Findings → Tried Plan
-finished r s needed =
+abbrev pub finished : Rule → Spot → Tried Plan
+finished r s =
     then_try (r.draft s Simplified (next_id s.target.proc)) (λ made.
     then_try (owed_needs s.target (r.needs s)) (λ must.
-    concluded r s needed made must))
+    concluded r s made must))

@@ -14,7 +14,6 @@ ghost use Rattle.step_rules.specs.Answer as answer;
 ghost use Rattle.step_rules.specs.Answer.{proposed, broken};
 ghost use Rattle.step_rules.specs.Lawful.{IsTarget};
 ghost use Rattle.step_rules.specs.Owing as owing;
-ghost use Rattle.tree_rules.specs.Classes.{both};
 ghost use Rattle.tree_rules.specs.Findings as findings;
 ghost use Rattle.step_driver.specs.Outcomes.{Tries, Refuses, IsKept, KeepsMeaning, Moves};
 ghost use Rattle.step_driver.specs.PlainExit.{plain_exit};
@@ -38,8 +37,8 @@ use tree_rules::{Findings, findings_of_body, findings_of_version};
 
 /// What the step of an operator makes of a procedure at a path. The table is that of the unit.
 ///
-/// Refusals come in this order: the shape of the place; rules and scope of the result as it is made; the
-/// operator's own; then normal forms and what is owed; then names and limits of the result.
+/// Refusals come in this order: the shape of the place; rules and scope of the result as it is made and of what
+/// is needed; the operator's own; then normal forms and what is owed; then names and limits of the result.
 #[tactic(auto, using(crate::proofs::Means::answers_kept, crate::proofs::Means::answers_mean, crate::proofs::Means::answers_move))]
 pub fn propose<O: Operator>(
     alloc: Global,
@@ -98,7 +97,7 @@ fn answered_there<O: Operator>(
     let plain = op.draft(alloc, on, piece, Writing::AsMade, &mut Fresh::new(base))?;
     shape_kept(alloc, on, piece, alone, plain, found)?;
     op.refusal(alloc, on, piece)?;
-    finish(alloc, on, piece, alone, base, found, op)
+    finish(alloc, on, piece, alone, base, op)
 }
 
 /// The first id of a made binder. Where ids have no room for a step it is answered as want of memory.
@@ -138,7 +137,6 @@ fn finish<O: Operator>(
     piece: &Piece,
     alone: bool,
     base: u32,
-    found: Findings,
     op: &O,
 ) -> Result<Proposal, StepError>
     requires modes { table_says on.now.modes.now ≡ modes_of (program on.now.unit.now) }
@@ -147,11 +145,11 @@ fn finish<O: Operator>(
     requires small { base ≤ 4294901759 }
     requires there { option_map (λ o. is_alone o.around) (opened piece.now.count piece.now.path (block on.now.proc.now.body)) ≡ Some alone }
     requires rules { (owing.findings_of_needs (target on.now) ((O.rule op.now).needs (spot_at (target on.now) (plain_piece piece.now)))).rules ≡ true }
-    ensures { Tries plain_proposal (finished (O.rule op.now) (spot_at (target on.now) (plain_piece piece.now)) found) result }
+    ensures { Tries plain_proposal (finished (O.rule op.now) (spot_at (target on.now) (plain_piece piece.now))) result }
 {
     let made = op.draft(alloc, on, piece, Writing::Simplified, &mut Fresh::new(base))?;
     let must = owed(alloc, on, piece, op)?;
-    conclude(alloc, on, piece, alone, base, found, made, must, op)
+    conclude(alloc, on, piece, alone, base, made, must, op)
 }
 
 /// The result of what is drafted.
@@ -161,7 +159,6 @@ fn conclude<O: Operator>(
     piece: &Piece,
     alone: bool,
     base: u32,
-    found: Findings,
     made: Block,
     must: Vec<Obligation>,
     op: &O,
@@ -170,10 +167,10 @@ fn conclude<O: Operator>(
     requires base { base ≡ ids.next_id (procedure on.now.proc.now) }
     requires small { base ≤ 4294901759 }
     requires there { option_map (λ o. is_alone o.around) (opened piece.now.count piece.now.path (block on.now.proc.now.body)) ≡ Some alone }
-    ensures { Tries plain_proposal (concluded (O.rule op.now) (spot_at (target on.now) (plain_piece piece.now)) found (block made) (map plain_obligation must.items)) result }
+    ensures { Tries plain_proposal (concluded (O.rule op.now) (spot_at (target on.now) (plain_piece piece.now)) (block made) (map plain_obligation must.items)) result }
 {
     let whole = passed(on, piece, alone, made)?;
-    settle(alloc, on, piece, alone, base, found, &whole, must, op)
+    settle(alloc, on, piece, alone, base, &whole, must, op)
 }
 
 /// The result of what is put in the place of the piece, and what is told of it.
@@ -183,7 +180,6 @@ fn settle<O: Operator>(
     piece: &Piece,
     alone: bool,
     base: u32,
-    found: Findings,
     whole: &Block,
     must: Vec<Obligation>,
     op: &O,
@@ -192,27 +188,24 @@ fn settle<O: Operator>(
     requires base { base ≡ ids.next_id (procedure on.now.proc.now) }
     requires small { base ≤ 4294901759 }
     requires there { option_map (λ o. is_alone o.around) (opened piece.now.count piece.now.path (block on.now.proc.now.body)) ≡ Some alone }
-    ensures { Tries plain_proposal (settled (O.rule op.now) (spot_at (target on.now) (plain_piece piece.now)) found (block whole.now) (map plain_obligation must.items)) result }
+    ensures { Tries plain_proposal (settled (O.rule op.now) (spot_at (target on.now) (plain_piece piece.now)) (block whole.now) (map plain_obligation must.items)) result }
 {
     let told = told(alloc, on, piece, alone, base, whole, must, op)?;
-    version_kept(alloc, on, base, &told.proc, found)?;
+    version_kept(alloc, on, base, &told.proc)?;
     Ok(told)
 }
 
-/// Refuses where the result, or what is needed, breaks a rule, uses what is not in scope, binds a name again, or
-/// passes a limit.
+/// Refuses where the result breaks a rule, uses what is not in scope, binds a name again, or passes a limit.
 fn version_kept(
     alloc: Global,
     on: &Target<'_>,
     base: u32,
     proc: &Proc,
-    found: Findings,
 ) -> Result<(), StepError>
     requires modes { table_says on.now.modes.now ≡ modes_of (program on.now.unit.now) }
-    ensures { Refuses (broken (both (findings.findings_of_version (program on.now.unit.now) base (procedure proc.now)) found)) result }
+    ensures { Refuses (broken (findings.findings_of_version (program on.now.unit.now) base (procedure proc.now))) result }
 {
-    let kept = findings_of_version(alloc, on.unit, on.modes, base, proc)?;
-    refused(kept.and(found))
+    refused(findings_of_version(alloc, on.unit, on.modes, base, proc)?)
 }
 
 /// The procedure of a step that puts `whole` in the place of a piece.

@@ -12,7 +12,7 @@ use Rattle.meaning_laws.specs.Sorted.{scope_there}
 use Rattle.affine_forms.specs.Forms.{keeps_rules}
 use Rattle.affine_forms.specs.Formulas.{condition_keeps_rules}
 use Rattle.tree_rules.specs.Findings.{found_in_control, found_in_condition}
-use Rattle.step_rules.specs.Rule.{Target, Need, Says}
+use Rattle.step_rules.specs.Rule.{Target, Need, Says, Apart}
 use Rattle.step_rules.specs.Owing.{condition_of, findings_of_need, findings_of_needs}
 use Rattle.step_needs.specs.Owing.{is_affine}
 
@@ -82,6 +82,7 @@ module _ (t : Target) where
       let scope = scope_there t.proc (opened 1 path t.proc.body) in
       condition_affine fields with_both scope (condition_of fact)
       (and_parts (found_in_condition fields with_both scope (condition_of fact)).rules true h).0
+  need_affine (Apart path k) h = refl
 
   pub needs_affine : (ns : List Need) → (findings_of_needs t ns).rules ≡ true
       → list_all is_affine ns ≡ true

@@ -15,7 +15,7 @@ use Rattle.bounds_check.specs.declared.error.CheckError.TheVariants.{TooManyObli
 use Rattle.cursor_forward.specs.Causes.{Cause, FormFault, TooManySystems, Form}
 use Rattle.cursor_forward.specs.PlainProposal.{fault_of, cause_of}
 use Rattle.cursor_forward.specs.declared.proposal.StepError.{StepError}
-use Rattle.step_rules.specs.Rule.{Got, Target, Need, Says}
+use Rattle.step_rules.specs.Rule.{Got, Target, Need, Says, Apart}
 use Rattle.step_rules.specs.Owing.{condition_of, owed_for, need_fault, owed_behind}
 use Rattle.step_needs.specs.Outcomes.{RefusedBy, IsCause}
 
@@ -38,6 +38,7 @@ said (Fails c) f = negation f
 -- what has to be shown is affine
 abbrev pub is_affine : Need → Bool
 is_affine (Says path fact) = condition_keeps_rules (condition_of fact)
+is_affine (Apart path k) = true
 
 -- ---- refusals
 

@@ -1,8 +1,8 @@
--- Findings of two, and of what has to be shown.
+-- Findings of two.
 use Rattle.std.proofs.Common.{◌≡◌, Bool, true, ◌&&◌}
 use Rattle.meaning_laws.proofs.Substitute.{and_parts}
 use Rattle.tree_rules.specs.declared.findings.Findings.{Findings}
-use Rattle.tree_rules.specs.Classes.{both, all_kept, all_but_names}
+use Rattle.tree_rules.specs.Classes.{both, all_kept}
 
 pub and_true : {a b : Bool} → a ≡ true → b ≡ true → (a && b) ≡ true
 and_true p q = cc
@@ -20,8 +20,3 @@ both_kept f g h =
     let n = and_parts f.names g.names c.0 in
     let l = and_parts f.limits g.limits c.1 in
     (and_true (and_true r.0 s.0) (and_true n.0 l.0), and_true (and_true r.1 s.1) (and_true n.1 l.1))
-
-pub but_names : (f : Findings) → all_kept f ≡ true → all_but_names f ≡ true
-but_names f h =
-    let a = and_parts (f.rules && f.scope) (f.names && f.limits) h in
-    and_true a.0 (and_parts f.names f.limits a.1).1

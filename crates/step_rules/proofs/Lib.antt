@@ -2,6 +2,7 @@ pub mod Shapes
 pub mod Replaced
 pub mod Found
 pub mod Formed
+pub mod Shaped
 pub mod Shown
 pub mod Proposals
 pub mod SameKinds

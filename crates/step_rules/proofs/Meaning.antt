@@ -36,8 +36,7 @@ use Rattle.step_rules.specs.Lawful.{around, old, world_of, with_body, IsLawful, 
 use Rattle.step_rules.specs.Lawful.{fields_at_exit}
 use Rattle.step_rules.specs.Lawful.{differ_at_end, found_scope_at, IsFormedHere}
 use Rattle.step_rules.specs.Laws.{NeedsHold, KeptLaw, MeaningLaw, ForwardsLaw}
-use Rattle.step_rules.proofs.Found.{both_kept}
-use Rattle.step_rules.proofs.Formed.{shape_parts, formed_at, passed_formed}
+use Rattle.step_rules.proofs.Formed.{HasShape, shape_parts, formed_at, passed_formed}
 use Rattle.step_rules.proofs.Proposals.{IsProposal, proposal_of}
 use Rattle.step_rules.proofs.SameKinds.{kinds_by_names}
 use Rattle.step_rules.proofs.Replaced.{replaced_refines, written_otherwise}
@@ -110,14 +109,16 @@ module _ (names : NamesAlone) (r : Rule) (t : Target) (at : Path) (m : Plan) (is
         (around here) (old here) runs.procedure was;
   }
 
-  all_fine : (all_kept (findings_of_version t.unit base made) ≡ true)
-      × (all_kept (findings_of_needs t (r.needs here)) ≡ true)
-  all_fine = both_kept (findings_of_version t.unit base made) (findings_of_needs t (r.needs here))
-      p.answer.kept
+  -- as it is made, the body keeps its shape, and so does what is needed
+  shapes : HasShape (findings_of_body t.unit t.proc.params (body_with here p.answer.plain))
+      × HasShape (findings_of_needs t (r.needs here))
+  shapes =
+      shape_parts (findings_of_body t.unit t.proc.params (body_with here p.answer.plain))
+      (findings_of_needs t (r.needs here)) p.answer.formed
 
   met : NeedsHold → AreShown m.must → Each (IsMet t) (r.needs here)
   met needs_hold shown =
-      needs_hold t (r.needs here) p.answer.must runs all_fine.1 p.answer.owes
+      needs_hold t (r.needs here) p.answer.must runs shapes.1 p.answer.owes
       (subst AreShown (sym (ap (λ (n : Plan). n.must) p.answer.is)) shown)
 
   formed : IsFormedHere here p.answer.plain
@@ -128,11 +129,9 @@ module _ (names : NamesAlone) (r : Rule) (t : Target) (at : Path) (m : Plan) (is
       let params = t.proc.params in
       let body = body_with here p.answer.plain in
       let block = findings_of_block kinds memories calls (scope_of [] params) (λ x. x) body in
-      let whole = shape_parts (findings_of_body t.unit params body)
-      (findings_of_needs t (r.needs here)) p.answer.formed in
       let inner = shape_parts (both (rule (not (is_empty body)))
       (rule (are_distinct (map (λ q. q.binder.id) params ++ binders body))))
-      (both (limit (is_short body && is_small_body body)) block) whole.0 in
+      (both (limit (is_short body && is_small_body body)) block) shapes.0 in
       let last = shape_parts (limit (is_short body && is_small_body body)) block inner.1 in
       passed_formed kinds memories calls (found_scope_at (around here) (scope_of [] params))
       (own_roots_at (around here)) (around here) p.answer.plain (rest_of (around here))
@@ -150,7 +149,7 @@ module _ (names : NamesAlone) (r : Rule) (t : Target) (at : Path) (m : Plan) (is
     allowed = p.answer.allowed;
     formed = formed;
     named = names t.proc (base + r.named) (body_with here p.answer.draft);
-    runs = versions_run t is base made.body is.ids all_fine.0;
+    runs = versions_run t is base made.body is.ids p.answer.kept;
   }
 
   -- the procedure is refined by the result
@@ -197,8 +196,6 @@ proposals_are_kept r t at m is room h =
     let here = spot t p.piece p.o in
     let base = next_id t.proc in
     let made = result r here base p.answer.draft in
-    let found = both_kept (findings_of_version t.unit base made)
-    (findings_of_needs t (r.needs here)) p.answer.kept in
     subst (λ (n : Plan). IsUnit (with_version t.unit n.proc)) p.answer.is
     (kept_law t.unit t.number base t.proc made is.unit is.there
-    (record { params = refl; asserts = refl; template = refl }) found.0 is.ids room)
+    (record { params = refl; asserts = refl; template = refl }) p.answer.kept is.ids room)

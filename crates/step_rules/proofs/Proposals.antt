@@ -60,8 +60,8 @@ module _ (r : Rule) where
     pub drafted : r.draft s Simplified (next_id s.target.proc) ≡ Got draft
     pub owes : owed_needs s.target (r.needs s) ≡ Got must
     pub kept :
-        all_kept (both (findings_of_version s.target.unit (next_id s.target.proc)
-        (result r s (next_id s.target.proc) draft)) (findings_of_needs s.target (r.needs s))) ≡ true
+        all_kept (findings_of_version s.target.unit (next_id s.target.proc)
+        (result r s (next_id s.target.proc) draft)) ≡ true
     pub is : plan r s (next_id s.target.proc) draft must ≡ m
 
   pub answer_of : (s : Spot) (m : Plan) → answered r s ≡ Got m → IsAnswer s m
@@ -75,7 +75,7 @@ module _ (r : Rule) where
       let c = unless_got (r.refusal s) _ m b.1 in
       let d = then_got (r.draft s Simplified base) _ m c.1 in
       let e = then_got (owed_needs s.target (r.needs s)) _ m d.2 in
-      let whole = both (findings_of_version s.target.unit base (result r s base d.0)) needed in
+      let whole = findings_of_version s.target.unit base (result r s base d.0) in
       let f = unbroken whole _ m e.2 in
       record {
         plain = a.0;

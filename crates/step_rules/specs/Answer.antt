@@ -61,8 +61,8 @@ plan r s base made must = record {
 
 -- ---- the order of refusals
 
--- rules and scope of the result as it is made, the rule's own refusals, the forms, and then names
--- and limits of the result
+-- rules and scope of the result as it is made and of what is needed, the rule's own refusals, the
+-- forms, and then names and limits of the result alone
 abbrev pub answered : Rule → Spot → Tried Plan
 answered r s =
     let t = s.target in
@@ -74,7 +74,7 @@ answered r s =
     unless (r.refusal s) (
     then_try (r.draft s Simplified base) (λ made.
     then_try (owed_needs t (r.needs s)) (λ must.
-    unless (broken (both (findings_of_version t.unit base (result r s base made)) needed)) (
+    unless (broken (findings_of_version t.unit base (result r s base made))) (
     Got (plan r s base made must)))))))
 
 abbrev pub spot : Target → Piece → Opened → Spot

@@ -32,20 +32,24 @@ use Rattle.made_trees.specs.Passes.{or_pass}
 use Rattle.config_laws.specs.FieldRule as config
 use Rattle.config_laws.specs.FieldRule.{fields_at_end}
 use Rattle.check_facts_laws.specs.Laws.{ComesToPlace}
+use Rattle.effect_laws.specs.Apart.{IsApartAt}
 use Rattle.cursor_forward.specs.Cursors.{Side, Before, After}
 use Rattle.cursor_forward.specs.Forwards.{Carries, are_apart}
 use Rattle.step_rules.specs.Owing.{shape_alone}
-use Rattle.step_rules.specs.Rule.{Target, Spot, Got, Need, Says, AsMade, Simplified, Rule}
+use Rattle.step_rules.specs.Rule.{Target, Spot, Got, Need, Says, Apart, AsMade, Simplified}
+use Rattle.step_rules.specs.Rule.{Rule}
 
 -- ---- the old procedure
 
--- wherever a run comes to the place, the fact is true
+-- wherever a run comes to the place, the fact is true; what it then touches in the pieces, at turns
+-- in their order, does not clash
 abbrev pub IsMet : Target → Need → Type 0
 IsMet t (Says path fact) =
     (s u : State)
     → IsAdmissible (program_world t.unit) t.proc s
     → ComesToPlace (program_world t.unit) (opened 1 path t.proc.body) s u
     → IsTrueAt u.scene fact
+IsMet t (Apart path k) = IsApartAt t.unit t.proc path k
 
 -- the target is a procedure of a well-formed unit, with ids left for one step
 pub record IsTarget (t : Target) : Type 0 where

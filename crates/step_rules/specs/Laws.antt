@@ -12,16 +12,17 @@ use Rattle.cursor_forward.specs.Forwards.{Forwards}
 use Rattle.cursor_forward.specs.Shifts.{move_of}
 use Rattle.cursor_forward.specs.Proposals.{Plan}
 use Rattle.step_rules.specs.Rule.{Target, Need, Got, Rule}
-use Rattle.step_rules.specs.Owing.{AreShown, owed_needs, findings_of_needs}
+use Rattle.step_rules.specs.Owing.{AreShown, shape_alone, owed_needs, findings_of_needs}
 use Rattle.step_rules.specs.Answer.{proposed}
 use Rattle.step_rules.specs.Lawful.{IsMet, IsTarget, MayRunIn, differ_at_end, IsLawful, IsCarrying}
 
--- needs that keep the rules are met where nothing that is owed for them has an integer point
+-- needs that break no rule, over names in scope, are met where nothing that is owed for them has an
+-- integer point
 abbrev pub NeedsHold : Type 0
 NeedsHold =
     (t : Target) (needs : List Need) (must : List Owed)
     → MayRunIn t t.proc
-    → all_kept (findings_of_needs t needs) ≡ true
+    → all_kept (shape_alone (findings_of_needs t needs)) ≡ true
     → owed_needs t needs ≡ Got must
     → AreShown must
     → Each (IsMet t) needs

@@ -1,6 +1,7 @@
 -- What a step has to show: each need with its systems, in the context of its place.
 use Rattle.std.specs.Prelude.{Bool, true, false, ◌&&◌, if◌then◌else◌, All, List, [], ◌∷◌}
 use Rattle.std.specs.Prelude.{◌++◌, map, codes, Option, Some, None}
+use Rattle.std.specs.List.{list_all}
 use Rattle.exo_tree.specs.Tree.{Condition}
 use Rattle.exo_tree.specs.Places.{Path, opened}
 use Rattle.exo_meaning.specs.Units.{field_kind, with_both}
@@ -16,13 +17,18 @@ use Rattle.text_show.specs.Words.{words_of}
 use Rattle.text_show.specs.ControlText.{condition_text}
 use Rattle.check_facts.specs.Contexts.{fact_formula, fact_fits, context_of, context_fits}
 use Rattle.check_facts.specs.Contexts.{known_at_place}
+use Rattle.exo_effects.specs.Accesses.{plain_fits, accesses_fit}
+use Rattle.exo_effects.specs.Orders.{Header}
+use Rattle.exo_effects.specs.Conflicts.{Fault, ManyCases, LargeSystem, ManySystems}
+use Rattle.exo_effects.specs.Conflicts.{Listing, Lists, Refuses}
+use Rattle.effect_laws.specs.Apart.{Turns, conflict_listing}
 use Rattle.bounds_check.specs.Limits.{are_within}
 use Rattle.tree_rules.specs.declared.findings.Findings.{Findings}
-use Rattle.tree_rules.specs.Classes.{all_of}
+use Rattle.tree_rules.specs.Classes.{fine, all_of}
 use Rattle.tree_rules.specs.Findings.{findings_of_condition}
 use Rattle.cursor_forward.specs.Causes.{FormFault, WideNumber, TooManyCases, SystemTooLarge}
 use Rattle.cursor_forward.specs.Causes.{TooManySystems, Form}
-use Rattle.step_rules.specs.Rule.{Tried, Got, Not, Target, Need, Says}
+use Rattle.step_rules.specs.Rule.{Tried, Got, Not, Target, Need, Says, Apart}
 
 -- the rules and the scope alone
 abbrev pub shape_alone : Findings → Findings
@@ -31,6 +37,25 @@ shape_alone f = record f { names = true; limits = true }
 abbrev pub condition_of : Fact → Condition
 condition_of (Holds c) = c
 condition_of (Fails c) = c
+
+-- ---- conflicts
+
+abbrev pub listed : Listing → List Owed
+listed (Lists os) = os
+listed (Refuses fault) = []
+
+abbrev pub fault_of : Fault → FormFault
+fault_of ManyCases = TooManyCases
+fault_of LargeSystem = SystemTooLarge
+fault_of ManySystems = TooManySystems
+
+abbrev pub listing_fault : Listing → Option FormFault
+listing_fault (Lists os) = None
+listing_fault (Refuses fault) = Some (fault_of fault)
+
+-- the normal forms of both ends of a loop can be written down
+abbrev pub header_fits : Header → Bool
+header_fits h = plain_fits h.lo && plain_fits h.hi
 
 -- nothing owed has an integer point
 abbrev pub AreShown : List Owed → Type 0
@@ -55,6 +80,7 @@ module _ (t : Target) where
   abbrev pub owed_for : Need → List Owed
   owed_for (Says path fact) =
       map (owed (fact_text fact) path) (systems (context_of t.unit t.proc path) (claim_of path fact))
+  owed_for (Apart path k) = listed (conflict_listing t.unit t.proc path k)
 
   -- ---- refusals
 
@@ -63,11 +89,19 @@ module _ (t : Target) where
   stated_fault SizePassed = Some SystemTooLarge
   stated_fault (Listed ss) = None
 
+  -- all normal forms of a piece and of the loops round it can be written down
+  abbrev pub turns_fit : Turns → Bool
+  turns_fit k = list_all header_fits k.loops && accesses_fit t.unit t.proc k.path k.count
+
   -- first its forms, then its cases, then the size of its systems
   abbrev pub need_fault : Need → Option FormFault
   need_fault (Says path fact) =
       if context_fits t.unit t.proc path && fact_fits t.unit t.proc (known_for path) fact
       then stated_fault (stated (context_of t.unit t.proc path) (claim_of path fact))
+      else Some WideNumber
+  need_fault (Apart path k) =
+      if context_fits t.unit t.proc path && (turns_fit k.first && turns_fit k.second)
+      then listing_fault (conflict_listing t.unit t.proc path k)
       else Some WideNumber
 
   -- goes on where there is no fault and what is owed so far is within the limits
@@ -88,11 +122,12 @@ module _ (t : Target) where
   abbrev pub owed_needs : List Need → Tried (List Owed)
   owed_needs needs = owed_behind [] needs
 
-  -- what is found of the conditions that have to be shown
+  -- what is found of the conditions that have to be shown; of conflicts nothing
   abbrev pub findings_of_need : Need → Findings
   findings_of_need (Says path fact) =
       findings_of_condition (field_kind t.unit.fields) with_both
       (scope_there t.proc (opened 1 path t.proc.body)) (condition_of fact)
+  findings_of_need (Apart path k) = fine
 
   abbrev pub findings_of_needs : List Need → Findings
   findings_of_needs needs = all_of findings_of_need needs

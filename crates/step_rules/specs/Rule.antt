@@ -7,6 +7,7 @@ use Rattle.meaning_laws.specs.Facts.{Fact}
 use Rattle.cursor_forward.specs.Cursors.{Side, Before}
 use Rattle.cursor_forward.specs.Causes.{Cause}
 use Rattle.cursor_forward.specs.Shifts.{Shift}
+use Rattle.effect_laws.specs.Apart.{Conflict}
 
 -- what is asked of a rule, or why it is refused
 pub data Tried (T : Type 0) : Type 0 where
@@ -34,9 +35,11 @@ pub record Spot : Type 0 where
 pub data Writing : Type 0 where
   AsMade Simplified : Writing
 
--- what has to be shown: a fact, wherever a run comes to the place
+-- what has to be shown, wherever a run comes to the place: that a fact is true, or that two pieces
+-- do not clash
 pub data Need : Type 0 where
   Says : Path → Fact → Need
+  Apart : Path → Conflict → Need
 
 pub record Rule : Type 0 where
   -- which statements are replaced; the conditions of shape, in their order

@@ -16,8 +16,8 @@ pub fn needs_hold()
     ensures { NeedsHold }
 {
     check_facts_laws::laws::contexts_hold();
-    check_facts_laws::laws::well_formed_is_allowed();
     affine_systems::laws::shown_claims_hold();
+    effect_laws::laws::shown_pieces_are_apart();
 }
 
 /// The unit with what a rule proposes behind its procedures is well formed.

@@ -2,7 +2,6 @@ use Rattle.std.proofs.Common.{◌≡◌, ℕ, ap, ◌∙◌}
 use Rattle.exo_tree.specs.Tree.{block, Procedure}
 use Rattle.exo_tree.specs.PlainProcedure.{procedure}
 use Rattle.tree_rules.specs.declared.findings.Findings.{Findings}
-use Rattle.tree_rules.specs.Classes.{both}
 use Rattle.tree_rules.specs.Findings.{findings_of_version}
 use Rattle.cursor_forward.specs.PlainProposal.{plain_proposal}
 use Rattle.cursor_forward.specs.Proposals.{Plan}
@@ -18,7 +17,7 @@ returns-in_err-version_kept g c =
     let t = target c.args.on.now in
     let s = spot_at t (plain_piece c.args.piece.now) in
     let found : Procedure → ℕ → Findings =
-    λ q n. both (findings_of_version t.unit n q) c.args.found in
+    λ q n. findings_of_version t.unit n q in
     let made : procedure c.in_ok-told.told.proc ≡ version_by r s c.args.base (block c.args.whole.now) =
     ap (λ (m : Plan). m.proc) c.in_ok-told.ensures in
     let same : found (procedure c.in_ok-told.told.proc) c.args.base ≡ found (version_by r s c.args.base (block c.args.whole.now)) c.args.base =

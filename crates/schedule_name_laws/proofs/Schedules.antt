@@ -1,0 +1,109 @@
+-- The lines of a schedule ask for names of the grammar, and its operators give no others.
+use Rattle.std.proofs.Common.{◌≡◌, ℕ, Bool, true, false, if◌then◌else◌, List, [], ◌∷◌, map, take_while}
+use Rattle.std.proofs.Common.{None, sym, subst, ap, ◌∙◌, true≢false}
+use Rattle.exo_meaning.specs.Orders.{Each}
+use Rattle.text_lexer.specs.Bytes.{goes_on_name}
+use Rattle.text_show_laws.specs.Names.{IsName, BeginsName, AreNameBytes}
+use Rattle.text_show_laws.specs.Naming.{NamedUnitsAreWritable}
+use Rattle.cursor_forward.specs.Cursors.{Cursor, Node, Range, Gap}
+use Rattle.step_rules.specs.Rule.{Got, Rule}
+use Rattle.expression_laws.specs.Commute.{commute_rule}
+use Rattle.expression_laws.specs.Passes.{delete_pass_rule}
+use Rattle.expression_laws.specs.Rename.{rename_rule}
+use Rattle.schedule_text.specs.Tree as tree
+use Rattle.schedule_patterns.specs.Names as pattern
+use Rattle.schedule_calls.specs.Requests.{Operation, CommuteExpr, Rename, DeletePass, Request, Apply}
+use Rattle.schedule_calls.specs.Requests.{Search, Moved, Emit}
+use Rattle.schedule_calls.specs.Readings.{AsksName, AsksOperation, commute_expr, rename, delete_pass}
+use Rattle.schedule_calls.specs.Readings.{Asks, apply, search, moved, emit}
+use Rattle.schedule_versions.specs.Lines.{Ruled}
+use Rattle.schedule_operators.specs.Operators.{at_statement, on_procedure, call_of, act_of}
+use Rattle.schedule_operators.specs.Operators.{SchedulesDerive}
+use Rattle.schedule_name_laws.specs.Rules.{IsNaming, RulesGiveNames}
+use Rattle.schedule_name_laws.specs.Runs.{IsNamingCall, IsNamingAct}
+use Rattle.schedule_name_laws.specs.Schedules.{AsksNames, GivesNames, LinesGiveNames}
+use Rattle.schedule_name_laws.specs.Schedules.{SchedulesKeepNames, VersionsAreWritable}
+use Rattle.schedule_name_laws.proofs.Rules.{rules_give_names}
+use Rattle.schedule_name_laws.proofs.Runs.{runs_keep_names}
+
+-- ---- names in lines
+
+begins : (x : List ℕ) → pattern.begins x ≡ true → BeginsName x
+begins [] h = absurd (true≢false (sym h))
+begins (b ∷ x) h = h
+
+bytes : (x : List ℕ) → take_while goes_on_name x ≡ x → AreNameBytes x
+bytes x h = grind h
+
+is_name : (x : List ℕ) → pattern.IsName x → IsName x
+is_name x is = record {
+  begins = begins x is.begins;
+  bytes = bytes x is.goes_on;
+  some = is.no_any;
+  free = is.no_word;
+}
+
+module _ (names : pattern.NamesAreOne) where
+  name_asked : (a : tree.Argument) (name : List ℕ) → AsksName a name → IsName name
+  name_asked (tree.string pieces) name h =
+      subst IsName (sym h.0) (is_name _ (names.spelled _ h.1))
+  name_asked (tree.cursor c) name h = absurd h
+  name_asked (tree.int n) name h = absurd h
+  name_asked (tree.pair a b) name h = absurd h
+  name_asked (tree.key k v) name h = absurd h
+
+  names_asked : (operator : List ℕ) (args : List tree.Argument) (o : Operation)
+      → AsksOperation operator args o → AsksNames o
+  names_asked _ _ _ (commute_expr a b at x h k) = tt
+  names_asked _ _ _ (rename a name h) = name_asked a name h
+  names_asked _ _ _ delete_pass = tt
+
+  pub lines_give_names : LinesGiveNames
+  lines_give_names _ _ (apply bind operator of args o h k) = names_asked operator args.more o k
+  lines_give_names _ _ (search bind f p nth h) = tt
+  lines_give_names _ _ (moved bind of m ms) = tt
+  lines_give_names _ _ (emit name) = tt
+
+-- ---- operators
+
+same_rule : (a b : Ruled) → Got a ≡ Got b → a ≡ b
+same_rule a b h = cc
+
+module _ (r : Rule) (is : IsNaming r) where
+  of_procedure : (made : Ruled) → on_procedure r ≡ Got made → IsNaming made.rule
+  of_procedure made h =
+      subst (λ (x : Ruled). IsNaming x.rule) (same_rule (record { rule = r; at = [] }) made h) is
+
+  of_statement : (cs : List Cursor) (made : Ruled) → at_statement r cs ≡ Got made → IsNaming made.rule
+  of_statement [] made h = cc
+  of_statement (Node path ∷ []) made h =
+      subst (λ (x : Ruled). IsNaming x.rule) (same_rule (record { rule = r; at = path }) made h) is
+  of_statement (Node path ∷ c ∷ cs) made h = cc
+  of_statement (Range path count ∷ cs) made h = cc
+  of_statement (Gap path side ∷ cs) made h = cc
+
+calls_give_names : (o : Operation) → AsksNames o → IsNamingCall (call_of o)
+calls_give_names (CommuteExpr at x) asked =
+    λ t cs r h. of_statement (commute_rule x) (rules_give_names.commute x) cs r h
+calls_give_names (Rename name) asked =
+    λ t cs r h. of_procedure (rename_rule name) (rules_give_names.rename name asked) r h
+calls_give_names DeletePass asked =
+    λ t cs r h. of_procedure delete_pass_rule rules_give_names.delete_pass r h
+
+acts_give_names : (requests : List Request) → Each GivesNames requests
+    → Each IsNamingAct (map act_of requests)
+acts_give_names [] h = tt
+acts_give_names (Apply bind of o ∷ more) h = (calls_give_names o h.0, acts_give_names more h.1)
+acts_give_names (Search bind of p nth moves ∷ more) h = (tt, acts_give_names more h.1)
+acts_give_names (Moved bind of moves ∷ more) h = (tt, acts_give_names more h.1)
+acts_give_names (Emit name ∷ more) h = (tt, acts_give_names more h.1)
+
+pub schedules_keep_names : SchedulesKeepNames
+schedules_keep_names unit shown requests v are asked ran =
+    runs_keep_names unit shown (map act_of requests) v are (acts_give_names requests asked) ran
+
+pub versions_are_writable : SchedulesKeepNames → SchedulesDerive → NamedUnitsAreWritable
+    → VersionsAreWritable
+versions_are_writable keep derive writable unit shown requests v k p is quiet room are asked ran there =
+    writable v.unit k p (derive unit shown requests v is quiet room ran).formed
+    (keep unit shown requests v are asked ran) there

@@ -1,0 +1,16 @@
+-- The closed schedule of the operators, which renames a procedure.
+use Rattle.std.specs.Prelude.{codes}
+use Rattle.exo_meaning.specs.Orders.{Each}
+use Rattle.text_show_laws.specs.Names.{IsName}
+use Rattle.text_show_laws.specs.Named.{AreNamed}
+use Rattle.made_trees.specs.Names.{numbered}
+use Rattle.schedule_operators.specs.Instance.{unit, schedule, result}
+use Rattle.schedule_name_laws.specs.Schedules.{GivesNames}
+
+pub record NamesInstance : Type 0 where
+  pub text : AreNamed unit
+  pub asked : Each GivesNames schedule
+  pub versions : AreNamed result.unit
+  -- a word of the grammar is no name; with a number behind it, as that of a copy, it is one
+  pub word : IsName (codes "for") → ⊥
+  pub numbered_word : IsName (numbered (codes "for") 1)

@@ -1,0 +1,4 @@
+//! Versions keep names of the grammar.
+#![tactic(auto)]
+
+pub mod laws;
