@@ -1,0 +1,13 @@
+pub mod Fields
+pub mod Narrower
+pub mod Bare
+pub mod Lacking
+pub mod DeadCode
+pub mod RemoveLoop
+pub mod LiftScope
+pub mod ReorderStatements
+pub mod Small
+pub mod DeadCodeExamples
+pub mod RemoveLoopExamples
+pub mod LiftExamples
+pub mod ReorderExamples
