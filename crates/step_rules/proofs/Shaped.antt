@@ -1,5 +1,5 @@
 -- Conditions that break no rule and use what is in scope are affine there, whatever their limits.
-use Rattle.std.proofs.Common.{◌≡◌, ◌&&◌, ◌||◌, true, pos, Option, Some, None, refl, sym, absurd}
+use Rattle.std.proofs.Common.{◌≡◌, ◌&&◌, ◌||◌, true, ℤ, pos, Option, Some, None, refl, sym}
 use Rattle.std.proofs.Common.{true≢false}
 use Rattle.std.specs.Prelude.{int_lt, List}
 use Rattle.std.specs.Int.{is_positive}
@@ -7,7 +7,7 @@ use Rattle.exo_tree.specs.Tree.{Control, Lit, Var, Field, StrideOf, Neg, Add, Su
 use Rattle.exo_tree.specs.Tree.{Condition, True, False, Flag, FieldFlag, Lt, Le, Gt, Ge, Eq, And, Or}
 use Rattle.exo_tree.specs.Tree.{ConfigField}
 use Rattle.exo_meaning.specs.Units.{Sort, Scope, sort_in, has_dimension, is_flag, is_of_literals}
-use Rattle.exo_meaning.specs.Units.{is_literal_number, is_number_field, is_flag_field, field_kind}
+use Rattle.exo_meaning.specs.Units.{is_literal_number, field_kind}
 use Rattle.exo_meaning.specs.Units.{with_both}
 use Rattle.meaning_laws.proofs.Substitute.{and_parts}
 use Rattle.affine_forms.specs.Forms.{is_affine}
@@ -31,6 +31,11 @@ suits_use : (suits : Option Sort → _) (o : Option Sort) → HasShape (use_of s
 suits_use suits None h = absurd (true≢false (sym (keeps_scope (use_of suits None) h)))
 suits_use suits (Some sort) h = keeps_rules (use_of suits (Some sort)) h
 
+positive : (c : ℤ) → HasShape (found_in_divisor c) → is_positive c ≡ true
+positive c h =
+    let above = rule (int_lt (pos 0) c) in
+    keeps_rules above (shape_parts (limit (is_literal_number c)) above h).1
+
 module _ (fields : List ConfigField) (scope : Scope) where
   abbrev found : Control → Findings
   found = found_in_control (field_kind fields) with_both scope
@@ -38,39 +43,39 @@ module _ (fields : List ConfigField) (scope : Scope) where
   abbrev IsFine : Control → Type 0
   IsFine e = is_affine (allowed_in fields scope).numbers e ≡ true
 
-  mutual
-    affine : (e : Control) → HasShape (found e) → IsFine e
-    affine (Lit n) h = refl
-    affine (Var x) h = refl
-    affine (Field f) h = keeps_rules (found (Field f)) h
-    affine (StrideOf x k) h =
-        suits_use (has_dimension k) (sort_in scope x)
-        (shape_parts (rule true) (use_of (has_dimension k) (sort_in scope x)) h).1
-    affine (Neg a) h = affine a h
-    affine (Add a b) h = two a b h
-    affine (Sub a b) h = two a b h
-    affine (Mul a b) h =
-        let literal = rule (is_of_literals a || is_of_literals b) in
-        let p = shape_parts (both (found a) (found b)) literal h in
-        and_true (keeps_rules literal p.1) (two a b p.0)
-    affine (Div a c) h = divided a c h
-    affine (Mod a c) h = divided a c h
+  affine : (e : Control) → HasShape (found e) → IsFine e
+  affine (Lit n) h = refl
+  affine (Var x) h = refl
+  affine (Field f) h = keeps_rules (found (Field f)) h
+  affine (StrideOf x k) h =
+      suits_use (has_dimension k) (sort_in scope x)
+      (shape_parts (rule true) (use_of (has_dimension k) (sort_in scope x)) h).1
+  affine (Neg a) h = affine a h
+  affine (Add a b) h =
+      let p = shape_parts (found a) (found b) h in
+      and_true (affine a p.0) (affine b p.1)
+  affine (Sub a b) h =
+      let p = shape_parts (found a) (found b) h in
+      and_true (affine a p.0) (affine b p.1)
+  affine (Mul a b) h =
+      let literal = rule (is_of_literals a || is_of_literals b) in
+      let p = shape_parts (both (found a) (found b)) literal h in
+      let q = shape_parts (found a) (found b) p.0 in
+      and_true (keeps_rules literal p.1) (and_true (affine a q.0) (affine b q.1))
+  affine (Div a c) h =
+      let p = shape_parts (found a) (found_in_divisor c) h in
+      and_true (positive c p.1) (affine a p.0)
+  affine (Mod a c) h =
+      let p = shape_parts (found a) (found_in_divisor c) h in
+      and_true (positive c p.1) (affine a p.0)
 
-    two : (a b : Control) → HasShape (both (found a) (found b))
-        → (is_affine (allowed_in fields scope).numbers a
-        && is_affine (allowed_in fields scope).numbers b)
-        ≡ true
-    two a b h =
-        let p = shape_parts (found a) (found b) h in
-        and_true (affine a p.0) (affine b p.1)
-
-    divided : (a : Control) (c : _) → HasShape (both (found a) (found_in_divisor c))
-        → (is_positive c && is_affine (allowed_in fields scope).numbers a) ≡ true
-    divided a c h =
-        let positive = rule (int_lt (pos 0) c) in
-        let p = shape_parts (found a) (found_in_divisor c) h in
-        let q = shape_parts (limit (is_literal_number c)) positive p.1 in
-        and_true (keeps_rules positive q.1) (affine a p.0)
+  two : (a b : Control) → HasShape (both (found a) (found b))
+      → (is_affine (allowed_in fields scope).numbers a
+      && is_affine (allowed_in fields scope).numbers b)
+      ≡ true
+  two a b h =
+      let p = shape_parts (found a) (found b) h in
+      and_true (affine a p.0) (affine b p.1)
 
   abbrev found_of : Condition → Findings
   found_of = found_in_condition (field_kind fields) with_both scope

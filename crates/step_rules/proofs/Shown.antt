@@ -97,7 +97,7 @@ conflict_shown t path k faultless closed =
     by : (fits : Bool) (l : Listing) → conflict_listing t.unit t.proc path k ≡ l
         → (if fits then listing_fault l else Some WideNumber) ≡ None → Each IsClosed (listed l)
         → are_shown_apart t.unit t.proc path k
-    by true (Lists os) same none shown = (os, (same, shown))
+    by true (Lists os) same none shown = (os, same, shown)
     by true (Refuses fault) same none shown = cc
     by false l same none shown = cc
 
