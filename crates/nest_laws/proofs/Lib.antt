@@ -1,0 +1,14 @@
+pub mod Rules
+pub mod Unwritten
+pub mod Placed
+pub mod ReorderLoops
+pub mod Examples
+pub mod ReorderExamples
+pub mod Parted
+pub mod Bounds
+pub mod Fuse
+pub mod Narrower
+pub mod Fission
+pub mod FissionRule
+pub mod FuseExamples
+pub mod FissionExamples

@@ -1,0 +1,4 @@
+pub mod Shapes
+pub mod ReorderLoops
+pub mod Fuse
+pub mod Fission
