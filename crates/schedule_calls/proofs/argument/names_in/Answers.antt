@@ -1,4 +1,4 @@
-use Rattle.std.proofs.Common.{sym, ap}
+use Rattle.std.proofs.Common.{ap}
 use Rattle.schedule_text.specs.Views.{plain_argument}
 use Rattle.schedule_calls.proofs.Answered.{none_of}
 use Rattle.schedule_calls.proofs.Divisions.{no_first_name, no_second_name}
