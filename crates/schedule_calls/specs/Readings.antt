@@ -118,21 +118,20 @@ number_in (tree.int n) = Some (number_of n)
 number_in other = None
 
 -- a number, a pair of names, and arguments with keys
-pub record AsksDivision (by names : tree.Argument) (keys : List tree.Argument) (d : Division)
+pub record AsksDivision (a b : tree.Argument) (keys : List tree.Argument) (d : Division)
     : Type 0 where
-  pub by : number_in by ≡ Some d.by
-  pub names : AsksNames names (d.outer, d.inner)
+  pub by : number_in a ≡ Some d.by
+  pub names : AsksNames b (d.outer, d.inner)
   pub tail : tail_in keys ≡ Some d.tail
 
 -- ---- operators
 
 -- by its name, with the arguments behind the first
 pub data AsksOperation : List ℕ → List tree.Argument → Operation → Type 0 where
-  divide_loop : (a by names : tree.Argument) (keys : List tree.Argument) (at : Asked)
-      (d : Division)
+  divide_loop : (a b c : tree.Argument) (keys : List tree.Argument) (at : Asked) (d : Division)
       → AsksCursor a at
-      → AsksDivision by names keys d
-      → AsksOperation (codes "divide_loop") (a ∷ by ∷ names ∷ keys) (DivideLoop at d)
+      → AsksDivision b c keys d
+      → AsksOperation (codes "divide_loop") (a ∷ b ∷ c ∷ keys) (DivideLoop at d)
   cut_loop : (a b : tree.Argument) (at : Asked) (e : Tree)
       → AsksCursor a at
       → AsksControl b e
