@@ -1,5 +1,5 @@
 -- Closed expressions.
-use Rattle.std.proofs.Common.{◌≡◌, ℕ, suc, List, [], ◌∷◌, Some, true, refl, arith}
+use Rattle.std.proofs.Common.{ℕ, suc, [], ◌∷◌, true, refl, arith}
 use Rattle.text_phrases.specs.Phrase.{Taken}
 use Rattle.text_phrases.specs.Text.{IsText}
 use Rattle.text_phrases.proofs.Texts.{text_ok}

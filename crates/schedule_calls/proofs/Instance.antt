@@ -11,15 +11,15 @@ use Rattle.cursor_patterns.specs.Patterns.{Loop, Read}
 use Rattle.schedule_patterns.specs.Instance.{TextInstance}
 use Rattle.schedule_text.specs.Tree as tree
 use Rattle.schedule_text.specs.declared.source.Direction.TheVariants as way
-use Rattle.schedule_calls.specs.Requests.{Operation, Request, Under, Here, Tail, Guard, CutAndGuard}
+use Rattle.schedule_calls.specs.Requests.{Operation, Here, Tail, Guard, CutAndGuard}
 use Rattle.schedule_calls.specs.Requests.{Perfect, Division}
-use Rattle.schedule_calls.specs.Readings.{AsksDivision, AsksControl, AsksCondition, under, here}
+use Rattle.schedule_calls.specs.Readings.{AsksControl, AsksCondition, under, here}
 use Rattle.schedule_calls.specs.Readings.{divide_loop, cut_loop, unroll_loop, specialize}
 use Rattle.schedule_calls.specs.Readings.{AsksOperation, commute_expr, rename, delete_pass}
 use Rattle.schedule_calls.specs.Readings.{Asks, apply, search, moved, emit}
 use Rattle.schedule_calls.specs.Keys.{tail_in}
-use Rattle.schedule_calls.specs.Instance.{on_p, held_c, at_c, text, divided, asks_divided}
-use Rattle.schedule_calls.specs.Instance.{line_of, on_c, tail_key, perfect_key}
+use Rattle.schedule_calls.specs.Instance.{on_p, held_c, at_c, text, divide_line, asks_divided}
+use Rattle.schedule_calls.specs.Instance.{on_c, tail_key, perfect_key}
 use Rattle.schedule_calls.specs.Instance.{AsksNothing, LinesInstance}
 use Rattle.schedule_calls.proofs.Closed.{five, yes}
 use Rattle.schedule_calls.proofs.Strings.{no_control, no_condition}
@@ -46,14 +46,14 @@ no_bare o asks =
 
 -- the loop at c, with these keys
 divides : (keys : List tree.Argument) (t : Tail) → tail_in keys ≡ Some t
-    → Asks (divided keys) (asks_divided t)
+    → Asks (divide_line keys) (asks_divided t)
 divides keys t is =
     apply (codes "q") (codes "divide_loop") (codes "p") (on_p (held_c ∷ _ ∷ _ ∷ keys)) _ refl
     (divide_loop held_c _ _ keys at_c
     (record { by = 8; outer = codes "io"; inner = codes "ii"; tail = t }) (under (codes "c") [])
     (record { by = refl; names = ((refl, refl), (refl, refl)); tail = is }))
 
-divides_twice : AsksNothing (divided (tail_key ∷ tail_key ∷ []))
+divides_twice : AsksNothing (divide_line (tail_key ∷ tail_key ∷ []))
 divides_twice = record {
   known = refl;
   none =

@@ -4,6 +4,7 @@ mod Strings
 mod Cursors
 mod Operations
 mod Loops
+mod Divisions
 mod Lines
 mod Closed
 mod Instance

@@ -1,5 +1,5 @@
 -- Arguments of the operators on loops that ask for something, and some that ask for nothing.
-use Rattle.std.proofs.Common.{◌≡◌, ℕ, List, [], ◌∷◌, map, sym, subst, length, get_or, arith}
+use Rattle.std.proofs.Common.{◌≡◌, List, [], ◌∷◌, map, sym, subst}
 use Rattle.std.specs.Prelude.{codes}
 use Rattle.text_expressions.specs.Expression.{Tree}
 use Rattle.schedule_text.specs.Tree as tree

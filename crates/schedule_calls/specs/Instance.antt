@@ -35,8 +35,8 @@ abbrev pub text : List ℕ → tree.Argument
 text s = tree.string (s ∷ [])
 
 -- `q = divide_loop(p, c, 8, ['io', 'ii'], KEYS)`
-abbrev pub divided : List tree.Argument → tree.Line
-divided keys =
+abbrev pub divide_line : List tree.Argument → tree.Line
+divide_line keys =
     line_of (codes "divide_loop")
     (held_c
     ∷ tree.int (Value 8)
@@ -83,9 +83,9 @@ pub record LinesInstance : Type 0 where
       Asks (tree.bind (codes "d") (tree.moved (codes "c") (tree.item (Value 2)) []))
       (Moved (codes "d") (codes "c") (Item 2 ∷ []))
   -- `q = divide_loop(p, c, 8, ['io', 'ii'])`, and with keys in either order
-  pub divided : Asks (divided []) (asks_divided Guard)
-  pub divided_cut : Asks (divided (perfect_key tree.no ∷ tail_key ∷ [])) (asks_divided CutAndGuard)
-  pub divided_perfect : Asks (divided (tail_key ∷ perfect_key tree.yes ∷ [])) (asks_divided Perfect)
+  pub divided : Asks (divide_line []) (asks_divided Guard)
+  pub divided_cut : Asks (divide_line (perfect_key tree.no ∷ tail_key ∷ [])) (asks_divided CutAndGuard)
+  pub divided_perfect : Asks (divide_line (tail_key ∷ perfect_key tree.yes ∷ [])) (asks_divided Perfect)
   -- `q = cut_loop(p, c, '5')`
   pub cut : Asks (on_c (codes "cut_loop") (codes "5")) (asks (CutLoop at_c (number (Value 5))))
   -- `q = unroll_loop(p, 'i #1')`
@@ -108,7 +108,7 @@ pub record LinesInstance : Type 0 where
   -- `q = rename(p)`
   pub bare : AsksNothing (line_of (codes "rename") [])
   -- a key stands once
-  pub twice : AsksNothing (divided (tail_key ∷ tail_key ∷ []))
+  pub twice : AsksNothing (divide_line (tail_key ∷ tail_key ∷ []))
   -- two names are no expression, a truth value is no control value, and a number no condition
   pub no_expression : AsksNothing (on_c (codes "cut_loop") (codes "i j"))
   pub no_control : AsksNothing (on_c (codes "cut_loop") (codes "True"))

@@ -47,11 +47,14 @@ with_key k name value =
     else (if bytes_eq name (codes "perfect") then with_perfect k value
     else None)
 
+-- None also where the argument has no key
+abbrev pub with_argument : TailKeys → tree.Argument → Option TailKeys
+with_argument k (tree.key name value) = with_key k name value
+with_argument k other = None
+
 abbrev pub keys_behind : TailKeys → List tree.Argument → Option TailKeys
 keys_behind k [] = Some k
-keys_behind k (tree.key name value ∷ more) =
-    option_and_then (λ j. keys_behind j more) (with_key k name value)
-keys_behind k (other ∷ more) = None
+keys_behind k (a ∷ more) = option_and_then (λ j. keys_behind j more) (with_argument k a)
 
 abbrev pub or_guard : Option Tail → Tail
 or_guard None = Guard

@@ -110,17 +110,26 @@ impl TailKeys {
         }
     }
 
+    /// These with the key of the argument; None also where it has none.
+    fn with_argument(self, alloc: Global, arg: &ArgText) -> Result<Option<TailKeys>, AllocError>
+        ensures { IfOk result (λ k. option_map plain_keys k ≡ plain.with_argument (plain_keys self) (plain_argument arg.now)) }
+    {
+        match arg {
+            ArgText::Key(name, value) => self.with_key(alloc, name, value),
+            _ => Ok(None),
+        }
+    }
+
     /// These with the keys of all arguments; None where one is refused.
     fn with_all(self, alloc: Global, args: &[ArgText]) -> Result<Option<TailKeys>, AllocError>
         ensures { IfOk result (λ k. option_map plain_keys k ≡ plain.keys_behind (plain_keys self) (map plain_argument args.now)) }
     {
-        match args.split_first() {
-            None => Ok(Some(self)),
-            Some((ArgText::Key(name, value), more)) => match self.with_key(alloc, name, value)? {
-                None => Ok(None),
-                Some(keys) => keys.with_all(alloc, more),
-            },
-            Some(_) => Ok(None),
+        let [first, more @ ..] = args else {
+            return Ok(Some(self));
+        };
+        match self.with_argument(alloc, first)? {
+            Some(keys) => keys.with_all(alloc, more),
+            None => Ok(None),
         }
     }
 

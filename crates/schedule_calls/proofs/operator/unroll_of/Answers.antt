@@ -1,7 +1,7 @@
 use Rattle.std.proofs.Common.{◌≡◌, length, arith}
-use Rattle.schedule_calls.proofs.Answered.{some_of, none_of}
+use Rattle.schedule_calls.proofs.Answered.{some_of}
 use Rattle.schedule_calls.proofs.Operations.{one_item}
-use Rattle.schedule_calls.proofs.Loops.{asks_unroll, no_unroll_in}
+use Rattle.schedule_calls.proofs.Loops.{asks_unroll}
 use Rattle.schedule_calls.proofs.operator.unroll_of.Goals as goal
 
 pub returns-in-Some : goal.returns-in-Some
