@@ -2,7 +2,9 @@
 use Rattle.std.proofs.Common.{◌≡◌, ◌≤◌, ◌<◌, ◌+◌, ◌*◌, ◌^◌, ℕ, zero, suc, Some, None, refl, subst}
 use Rattle.std.proofs.Common.{arith}
 use Rattle.std.specs.Prelude.{slice_get}
+use Rattle.std.specs.Fmt.{digits}
 use Rattle.exo_tree.specs.Tree.{Procedure}
+use Rattle.affine_prover.specs.Elimination.{verdict_on, verdict_on_rows, round, reduced, normalized}
 use Rattle.exo_meaning.specs.Units.{IsUnit}
 use Rattle.made_trees.specs.Ids.{next_id}
 use Rattle.unit_check.specs.Laws.{CheckedUnitsDoNotFault}
@@ -26,6 +28,7 @@ schedule_instance = record {
 }
 
 pub loops_instance : LoopsInstance
+unfolding digits verdict_on verdict_on_rows round reduced normalized
 loops_instance = record {
   runs = refl;
   no_group = refl;

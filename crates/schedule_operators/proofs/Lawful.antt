@@ -83,7 +83,7 @@ module _ (r : Rule) where
   procedure_names_no_field none t cs made h = of_procedure NamesNoField r none made h
 
 -- every rule of an operator
-record RulesAreLawful : Type 0 where
+pub record RulesAreLawful : Type 0 where
   pub divisions : (d : Division) → IsLawful (divide_rule d)
   pub cuts : (e : Control) → IsLawful (cut_rule e)
   pub unrolled : IsLawful unroll_rule
