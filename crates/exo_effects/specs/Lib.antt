@@ -11,3 +11,4 @@ pub mod PlainAccess
 pub mod PlainGuards
 pub mod PlainWindows
 pub mod PlainParts
+pub mod PlainUses

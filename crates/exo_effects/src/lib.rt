@@ -7,5 +7,6 @@ mod guards;
 mod parts;
 mod windows;
 
-pub use access::{AccessCoord, Mode};
+pub use access::{Access, AccessCoord, Mode};
 pub use forms::{plain_form, plain_formula};
+pub use guards::Guard;
