@@ -4,3 +4,5 @@ pub mod Spots
 pub mod Walks
 pub mod Arguments
 pub mod Wholes
+pub mod WellFormed
+pub mod RuledUses

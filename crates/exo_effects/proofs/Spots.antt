@@ -1,6 +1,6 @@
 -- What is opened at a path, a step at a time, and what the names on the way stand for.
 use Rattle.std.proofs.Common.{◌≡◌, ◌<◌, ◌≤◌, ◌+◌, ◌-◌, ℕ, zero, suc, List, [], ◌∷◌, length, take, drop}
-use Rattle.std.proofs.Common.{Option, Some, None, option_map, length-drop, refl, sym, ap, ◌∙◌, subst, arith}
+use Rattle.std.proofs.Common.{Option, Some, None, option_map, length-drop, add-one, refl, sym, ap, ◌∙◌, subst, arith}
 use Rattle.std.specs.Prelude.{slice_get, slice_range}
 use Rattle.exo_tree.specs.Tree.{Statement, If, For, Block, end, next, block}
 use Rattle.exo_tree.specs.Context.{Context, Here, After, InLoop, InThen, InElse}
@@ -13,16 +13,22 @@ use Rattle.exo_effects.specs.PlainSpots.{passed_all, IsAt, LeadsTo}
 
 -- ---- one more statement passed
 
-pub one_passed : (ss : List Statement) (k : ℕ) (a : Statement) (rest : List Statement) (parts : Parts)
+one_more : (ss : List Statement) (k : ℕ) (a : Statement) (rest : List Statement) (parts : Parts)
     → drop k ss ≡ a ∷ rest
     → passed_all (take (suc k) ss) parts ≡ passed a (passed_all (take k ss) parts)
-one_passed [] zero a rest parts e = absurd (cc)
-one_passed [] (suc k) a rest parts e = absurd (cc)
-one_passed (b ∷ ss) zero a rest parts e = ap (λ c. passed c parts) (head_same b a ss rest e)
+one_more [] zero a rest parts e = absurd (cc)
+one_more [] (suc k) a rest parts e = absurd (cc)
+one_more (b ∷ ss) zero a rest parts e = ap (λ c. passed c parts) (head_same b a ss rest e)
   where
     head_same : (b a : Statement) (ss rest : List Statement) → b ∷ ss ≡ a ∷ rest → b ≡ a
     head_same b a ss rest e = cc
-one_passed (b ∷ ss) (suc k) a rest parts e = one_passed ss k a rest (passed b parts) e
+one_more (b ∷ ss) (suc k) a rest parts e = one_more ss k a rest (passed b parts) e
+
+pub one_passed : (ss : List Statement) (k : ℕ) (a : Statement) (rest : List Statement) (parts : Parts)
+    → drop k ss ≡ a ∷ rest
+    → passed_all (take (k + 1) ss) parts ≡ passed a (passed_all (take k ss) parts)
+one_passed ss k a rest parts e =
+    ap (λ n. passed_all (take n ss) parts) (add-one k) ∙ one_more ss k a rest parts e
 
 -- ---- behind the first statements of a block
 
@@ -52,7 +58,7 @@ past_some find zero ss o old l e = (o, e, refl, refl)
 past_some find (suc k) [] o old l e = absurd (omega arith)
 past_some find (suc k) (a ∷ ss) o old l e =
     let p = past_some find k ss o (passed a old) (omega arith) e in
-    (record { around = After a p.0.around; piece = p.0.piece }, ap (after a) p.1.0, p.1.1.0, p.1.1.1)
+    (record { around = After a p.0.around; piece = p.0.piece }, ap (after a) p.1, p.2, p.3)
 
 -- ---- the first so many statements
 
@@ -82,7 +88,7 @@ module _ (count : ℕ) (s : Step) (ss : List Statement) where
   last_missing h = short s.index ss h
     where
       short : (k : ℕ) (ss : List Statement) → length ss < k + count → past k find_last (block ss) ≡ None
-      short zero ss h = ap here (parted_none count ss h)
+      short zero ss h = ap here (parted_none count ss (omega (arith, h)))
       short (suc k) [] h = refl
       short (suc k) (a ∷ ss) h = ap (after a) (short k ss (omega arith))
 
@@ -90,18 +96,18 @@ module _ (count : ℕ) (s : Step) (ss : List Statement) where
       → s.index + count ≤ length ss → new ≡ passed_all (take s.index ss) old
       → LeadsTo count (opened_in count (s ∷ []) (block ss)) (Some spot) old new
   last_there spot old new b f l e =
-      let piece = record { around = Here (block (drop count (drop s.index ss))); piece = block (take count (drop s.index ss)) } in
+      let piece : Opened = record { around = Here (block (drop count (drop s.index ss))); piece = block (take count (drop s.index ss)) } in
       let found : find_last (block (drop s.index ss)) ≡ Some piece =
       ap here (parted_list count (drop s.index ss) (simp length-drop (omega arith))) in
       let p = past_some find_last s.index ss piece old (omega arith) found in
       let same : slice_range ss s.index (s.index + count) ≡ take count (drop s.index ss) = ap (λ n. take n (drop s.index ss)) (less s.index count) in (
         p.0,
-        p.1.0,
+        p.1,
         (
           subst (λ n. n + count ≤ length spot.block.now) (sym f) (subst (λ l. s.index + count ≤ length l) (sym b) l),
-          p.1.1.0 ∙ ap block (sym same) ∙ (λ i. block (slice_range (sym b i) (sym f i) (sym f i + count))),
+          p.2 ∙ ap block (sym same) ∙ (λ i. block (slice_range (sym b i) (sym f i) (sym f i + count))),
         ),
-        e ∙ sym p.1.1.1,
+        e ∙ sym p.3,
       )
     where
       less : (k n : ℕ) → (k + n) - k ≡ n
@@ -187,12 +193,12 @@ module _ (count : ℕ) (s t : Step) (path : Path) (ss : List Statement) where
       past_none (into t.branch find_next) s.index ss (omega arith)
       (ap (λ l. into t.branch find_next (block l)) d ∙ into_lost find_next t.branch a (block (drop (s.index + 1) ss)) inner e h)
   step_leads a inner (Some spot) old middle new l d e m h =
-      let p = into_some find_next t.branch a (block (drop (s.index + 1) ss)) inner h.0 middle e h.1.0 in
-      let q = past_some (into t.branch find_next) s.index ss p.0 old (omega arith) (ap (λ l. into t.branch find_next (block l)) d ∙ p.1.0) in (
+      let p = into_some find_next t.branch a (block (drop (s.index + 1) ss)) inner h.0 middle e h.1 in
+      let q = past_some (into t.branch find_next) s.index ss p.0 old (omega arith) (ap (λ l. into t.branch find_next (block l)) d ∙ p.1) in (
         q.0,
-        q.1.0,
-        (h.1.1.0.0, q.1.1.0 ∙ p.1.1.0 ∙ h.1.1.0.1),
-        h.1.1.1 ∙ sym p.1.1.1 ∙ ap (parts_at p.0.around) m ∙ sym q.1.1.1,
+        q.1,
+        (h.2.0, q.2 ∙ p.2 ∙ h.2.1),
+        h.3 ∙ sym p.3 ∙ ap (parts_at p.0.around) m ∙ sym q.3,
       )
 
 pub there_dropped : (ss : List Statement) (k : ℕ) (a : Statement) → slice_get ss k ≡ Some a
@@ -200,4 +206,8 @@ pub there_dropped : (ss : List Statement) (k : ℕ) (a : Statement) → slice_ge
 there_dropped [] k a e = absurd (none_some e)
 there_dropped (b ∷ ss) zero a e = (omega arith, ap (λ c. c ∷ ss) (some_same b a e))
 there_dropped (b ∷ ss) (suc k) a e =
-    let p = there_dropped ss k a e in (omega (arith, p.0), p.1)
+    let p = there_dropped ss k a e in
+    (omega (arith, p.0), p.1 ∙ ap (λ n. a ∷ drop n (b ∷ ss)) (one_behind k))
+  where
+    one_behind : (k : ℕ) → suc (k + 1) ≡ suc k + 1
+    one_behind k = omega arith

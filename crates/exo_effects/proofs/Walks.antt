@@ -1,18 +1,20 @@
 -- The uses of a piece, statement by statement.
 use Rattle.std.proofs.Common.{◌≡◌, ◌<◌, ◌≤◌, ◌+◌, ◌-◌, ℕ, zero, suc, List, [], ◌∷◌, ◌++◌, length, take, drop}
-use Rattle.std.proofs.Common.{append_assoc, refl, sym, ap, ◌∙◌, subst, arith}
-use Rattle.std.proofs.lemmas.List.{append-nil}
+use Rattle.std.proofs.Common.{flat_map, append_assoc, Bool, true, false, refl, sym, ap, ◌∙◌, arith}
+use Rattle.std.proofs.lemmas.List.{append-nil, take_all}
 use Rattle.std.specs.Prelude.{slice_range}
-use Rattle.exo_tree.specs.Tree.{Statement, Block, block}
+use Rattle.exo_tree.specs.Tree.{Condition, Statement, If, Block, block}
+use Rattle.meaning_laws.specs.Facts.{Fact, Holds, Fails, is_plain_condition, with_fact}
 use Rattle.exo_effects.specs.Uses as uses
-use Rattle.exo_effects.specs.Uses.{Use, past_statement}
+use Rattle.exo_effects.specs.Uses.{Use, in_branch, past_statement}
 use Rattle.exo_effects.specs.Parts.{passed_inside}
 use Rattle.exo_effects.specs.declared.inside.Inside.{Inside}
 use Rattle.exo_effects.specs.declared.inside.Site.{Site}
 use Rattle.exo_effects.specs.PlainParts.{parts_in}
-use Rattle.exo_effects.specs.PlainGuards.{all_facts}
-use Rattle.exo_effects.specs.PlainUses.{all_variables}
-use Rattle.exo_effects.specs.PlainWalk.{inside_of, step_uses, block_uses, IsLeft}
+use Rattle.exo_effects.specs.declared.guards.Guard.{Guard}
+use Rattle.exo_effects.specs.PlainGuards.{facts_of, all_facts}
+use Rattle.exo_effects.specs.PlainUses.{variables_of, all_variables}
+use Rattle.exo_effects.specs.PlainWalk.{inside_of, step_uses, block_uses, guarded, IsLeft}
 use Rattle.exo_effects.proofs.Names.{parts_by}
 
 -- ---- part of a list
@@ -31,8 +33,10 @@ range_end xs k to l = ap (λ n. take n (drop k xs)) (none_left k to l)
     none_left k to l = omega arith
 
 pub range_whole : {X : Type 0} (xs : List X) → slice_range xs 0 (length xs) ≡ xs
-range_whole [] = refl
-range_whole (x ∷ xs) = ap (λ l. x ∷ l) (range_whole xs)
+range_whole xs = take_all (length xs - 0) xs (at_least (length xs))
+  where
+    at_least : (n : ℕ) → n ≤ n - 0
+    at_least n = omega arith
 
 -- ---- where a statement stands
 
@@ -53,6 +57,36 @@ passed_by old left new a h g p = λ i. record {
   parts = (p ∙ ap (λ names. passed_inside a (parts_by names)) h.0) i;
   own = all_variables ((g ∙ h.1) i);
   round = all_facts ((g ∙ h.1) i);
+}
+
+-- ---- loops and branches
+
+flat_behind : {X Y : Type 0} (f : X → List Y) (xs : List X) (x : X) → flat_map f (xs ++ x ∷ []) ≡ flat_map f xs ++ f x
+flat_behind f [] x = append-nil (f x)
+flat_behind f (y ∷ xs) x = ap (λ z. f y ++ z) (flat_behind f xs x) ∙ sym (append_assoc (f y) (flat_map f xs) (f x))
+
+pub entered_by : (old new : Inside) (guard : Guard)
+    → new.parts.names.items ≡ old.parts.names.items → new.guards.items ≡ old.guards.items ++ guard ∷ []
+    → inside_of new ≡ guarded true guard (inside_of old)
+entered_by old new guard n g = λ i. record {
+  parts = parts_by (n i);
+  own = (ap all_variables g ∙ flat_behind variables_of old.guards.items guard) i;
+  round = (ap all_facts g ∙ flat_behind facts_of old.guards.items guard) i;
+}
+
+-- a branch whose condition says something, or not
+in_branch_by : (says : Bool) (guard : Guard) (fact : Fact) (at : uses.Inside)
+    → variables_of guard ≡ [] → facts_of guard ≡ fact ∷ []
+    → guarded says guard at ≡ record at { round = at.round ++ with_fact says fact [] }
+in_branch_by true guard fact at v f = λ i. record {
+  parts = at.parts;
+  own = (ap (λ z. at.own ++ z) v ∙ append-nil at.own) i;
+  round = at.round ++ f i;
+}
+in_branch_by false guard fact at v f = λ i. record {
+  parts = at.parts;
+  own = at.own;
+  round = sym (append-nil at.round) i;
 }
 
 -- ---- what is put so far, and what is left
@@ -79,3 +113,18 @@ module _ (s : Site) where
   pub put_two : (old middle new first second : List Use)
       → middle ≡ old ++ first → new ≡ middle ++ second → new ≡ old ++ (first ++ second)
   put_two old middle new first second e f = f ∙ ap (λ z. z ++ second) e ∙ append_assoc old first second
+
+  -- both branches of a condition
+  pub branched : (old middle new : List Use) (at after : uses.Inside) (says : Bool) (holds fails : Guard)
+      (c : Condition) (a b : Block)
+      → says ≡ is_plain_condition c
+      → after ≡ at
+      → middle ≡ old ++ block_uses s (guarded says holds at) a
+      → new ≡ middle ++ block_uses s (guarded says fails after) b
+      → variables_of holds ≡ [] → facts_of holds ≡ Holds c ∷ []
+      → variables_of fails ≡ [] → facts_of fails ≡ Fails c ∷ []
+      → new ≡ old ++ step_uses s at (If c a b)
+  branched old middle new at after says holds fails c a b e same m n hv hf fv ff =
+      put_two old middle new (block_uses s (in_branch c (Holds c) at) a) (block_uses s (in_branch c (Fails c) at) b)
+      (m ∙ ap (λ z. old ++ block_uses s z a) (in_branch_by says holds (Holds c) at hv hf ∙ ap (λ z. record at { round = at.round ++ with_fact z (Holds c) [] }) e))
+      (n ∙ ap (λ z. middle ++ block_uses s z b) (ap (guarded says fails) same ∙ in_branch_by says fails (Fails c) at fv ff ∙ ap (λ z. record at { round = at.round ++ with_fact z (Fails c) [] }) e))

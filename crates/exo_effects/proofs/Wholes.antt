@@ -24,5 +24,5 @@ module _ (u : Program) (p : Procedure) (path : Path) (count : ℕ) where
       → block_uses (words_of u p) (params_of u) (modes_of u) (inside_at parts) (block (slice_range s.block.now s.from (s.from + count)))
       ≡ uses_at u p path count
   all_there s first parts f h =
-      (λ i. block_uses (words_of u p) (params_of u) (modes_of u) (inside_at ((h.1.1.1 ∙ ap (parts_at h.0.around) f) i)) (sym h.1.1.0.1 i))
-      ∙ sym (ap in_found h.1.0)
+      (λ i. block_uses (words_of u p) (params_of u) (modes_of u) (inside_at ((h.3 ∙ ap (parts_at h.0.around) f) i)) (sym h.2.1 i))
+      ∙ sym (ap in_found h.1)

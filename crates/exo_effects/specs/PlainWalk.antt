@@ -1,5 +1,5 @@
 -- What the walk over a piece sees, in plain forms.
-use Rattle.std.specs.Prelude.{◌≡◌, ℕ, Bool, List, if◌then◌else◌, [], ◌∷◌, ◌++◌}
+use Rattle.std.specs.Prelude.{◌≡◌, ℕ, Bool, true, false, List, if◌then◌else◌, [], ◌∷◌, ◌++◌}
 use Rattle.exo_tree.specs.Tree.{Control, Datum, Argument, Param, Statement, Block}
 use Rattle.exo_tree.specs.PlainUnit.{program}
 use Rattle.exo_meaning.specs.Modes as meaning
@@ -59,10 +59,11 @@ module _ (s : Site) where
 
 -- in a loop or branch, where that says something
 abbrev pub guarded : Bool → Guard → uses.Inside → uses.Inside
-guarded says guard at = record at {
-  own = at.own ++ (if says then variables_of guard else []);
-  round = at.round ++ (if says then facts_of guard else []);
+guarded true guard at = record at {
+  own = at.own ++ variables_of guard;
+  round = at.round ++ facts_of guard;
 }
+guarded false guard at = at
 
 -- a walk has left a statement with the names and the guards that it came with
 abbrev pub IsLeft : Inside → Inside → Type 0

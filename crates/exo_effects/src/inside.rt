@@ -1,11 +1,11 @@
 //! Where in a piece a statement stands, and what its accesses are made from.
-ghost use Rattle.std.specs.Prelude.{◌≡◌, ◌∷◌, [], ◌++◌, IfOk, OnOk, string_bytes};
+ghost use Rattle.std.specs.Prelude.{◌≡◌, ◌∷◌, [], ◌++◌, take, length, IfOk, OnOk, string_bytes};
 ghost use Rattle.exo_effects.specs.Uses.{use_of};
 ghost use Rattle.exo_effects.specs.Parts as plain;
 ghost use Rattle.exo_effects.specs.PlainAccess.{plain_mode};
 ghost use Rattle.exo_effects.specs.PlainParts.{plain_part};
 ghost use Rattle.exo_effects.specs.PlainUses.{plain_uses};
-ghost use Rattle.exo_effects.specs.PlainWalk.{inside_of, use_if};
+ghost use Rattle.exo_effects.specs.PlainWalk.{inside_of, guarded, use_if};
 
 use crate::access::{Access, Mode};
 use crate::guards::Guard;
@@ -40,6 +40,18 @@ fn copied<'a>(alloc: Global, guards: &[Guard<'a>]) -> Result<Vec<Guard<'a>>, All
 }
 
 impl<'a> Inside<'a> {
+    /// Goes into a loop or branch; `says` is whether that says something.
+    pub(crate) fn enter(&mut self, guard: Guard<'a>, says: bool) -> Result<(), AllocError>
+        ensures entered { OnOk result (inside_of self.new ≡ guarded says guard.entry (inside_of self.old)) }
+        ensures names { OnOk result (self.new.parts.names.items ≡ self.old.parts.names.items) }
+        ensures kept { OnOk result (take (length self.old.guards.items) self.new.guards.items ≡ self.old.guards.items) }
+    {
+        if says {
+            self.guards.push(guard)?;
+        }
+        Ok(())
+    }
+
     /// Puts a use of some cells of a root last.
     pub(crate) fn put(
         &self,

@@ -5,6 +5,7 @@ mod access;
 mod forms;
 mod guards;
 mod inside;
+pub mod laws;
 mod parts;
 mod piece;
 mod plain;

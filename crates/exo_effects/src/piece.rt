@@ -112,13 +112,14 @@ fn accesses_at<'a>(
     count: usize,
 ) -> Result<Vec<Access<'a>>, AllocError>
     requires within { spot.from + count ≤ length spot.block.now }
-    ensures { IfOk result (λ l. plain_uses l.items ≡ block_uses site.now (record { parts = parts_in parts; own = []; round = [] }) (block (slice_range spot.block.now spot.from (spot.from + count)))) }
+    ensures { IfOk result (λ l. plain_uses l.items ≡ block_uses site.now (record { parts = parts_in parts; own = []; round = [] }) (block (slice_range spot.entry.block.now spot.entry.from (spot.entry.from + count)))) }
 {
     let mut out = Vec::new(alloc);
     let mut inside = Inside {
         parts,
         guards: Vec::new(alloc),
     };
+    let _length = spot.block.len();
     let to = spot.from + count;
     walk_part(
         alloc,

@@ -50,13 +50,11 @@ fn walk_under<'a>(
     says: bool,
     b: &'a Block,
 ) -> Result<(), AllocError>
-    ensures uses { OnOk result (plain_uses out.new.items ≡ plain_uses out.old.items ++ block_uses site.now (guarded says guard (inside_of inside.old)) (block b.now)) }
+    ensures uses { OnOk result (plain_uses out.new.items ≡ plain_uses out.old.items ++ block_uses site.now (guarded says guard.entry (inside_of inside.old)) (block b.now)) }
     ensures kept { OnOk result (IsLeft inside.old inside.new) }
 {
     let around = inside.guards.len();
-    if says {
-        inside.guards.push(guard)?;
-    }
+    inside.enter(guard, says)?;
     walk_part(alloc, out, site, inside, b, 0, b.len())?;
     inside.guards.truncate(around);
     Ok(())
