@@ -14,48 +14,7 @@ use Rattle.exo_effects.specs.Uses.{Use, use_of, uses_of, modes_had, part_of_argu
 use Rattle.exo_effects.specs.declared.inside.Site.{Site}
 use Rattle.exo_effects.specs.PlainWalk.{use_if, words_by, argument_uses, arguments_uses}
 
--- ---- the modes of a part
-
-module _ (at : uses.Inside) (text : Text) (p : Part) where
-  in_modes : (r w d : Bool)
-      → use_if r at text p Reading ++ (use_if w at text p Writing ++ use_if d at text p Reducing)
-      ≡ uses_of at text (Some p) (modes_had (λ m. picked m r w d))
-  in_modes true true true = refl
-  in_modes true true false = refl
-  in_modes true false true = refl
-  in_modes true false false = refl
-  in_modes false true true = refl
-  in_modes false true false = refl
-  in_modes false false true = refl
-  in_modes false false false = refl
-
-  pub modes_put : (r w d : Bool) (old first second new : List Use)
-      → first ≡ old ++ use_if r at text p Reading
-      → second ≡ first ++ use_if w at text p Writing
-      → new ≡ second ++ use_if d at text p Reducing
-      → new ≡ old ++ uses_of at text (Some p) (modes_had (λ m. picked m r w d))
-  modes_put r w d old first second new e f g =
-      g
-      ∙ ap (λ z. z ++ use_if d at text p Reducing) (f ∙ ap (λ z. z ++ use_if w at text p Writing) e)
-      ∙ append_assoc (old ++ use_if r at text p Reading) (use_if w at text p Writing) (use_if d at text p Reducing)
-      ∙ append_assoc old (use_if r at text p Reading) (use_if w at text p Writing ++ use_if d at text p Reducing)
-      ∙ ap (λ z. old ++ z) (in_modes r w d)
-
--- ---- the arguments
-
 module _ (s : Site) (at : uses.Inside) (callee : meaning.Modes) where
-  pub argued_on : (out new whole : List Use) (p : Param) (a : Argument) (ps more : List Param) (args rest : List Argument) (has : Mode → Bool)
-      → ps ≡ p ∷ more → args ≡ a ∷ rest
-      → ((m : Mode) → has m ≡ callee m p.binder.id)
-      → new ≡ out ++ uses_of at (argument_text (words_by s) a) (part_of_argument at.parts a) (modes_had has)
-      → out ++ arguments_uses s at callee ps args ≡ whole
-      → new ++ arguments_uses s at callee more rest ≡ whole
-  argued_on out new whole p a ps more args rest has d e m n w =
-      ap (λ z. z ++ arguments_uses s at callee more rest) (n ∙ (λ i. out ++ uses_of at (argument_text (words_by s) a) (part_of_argument at.parts a) (modes_had (λ k. m k i))))
-      ∙ append_assoc out (argument_uses s at callee p a) (arguments_uses s at callee more rest)
-      ∙ (λ i. out ++ arguments_uses s at callee (sym d i) (sym e i))
-      ∙ w
-
   nothing_given : (ps : List Param) → arguments_uses s at callee ps [] ≡ []
   nothing_given [] = refl
   nothing_given (p ∷ ps) = refl
@@ -75,14 +34,3 @@ module _ (s : Site) (at : uses.Inside) (callee : meaning.Modes) where
       → out ++ arguments_uses s at callee (drop k ps) (drop k args) ≡ whole → out ≡ whole
   argued_off out whole ps args k h w =
       sym (append-nil out) ∙ ap (λ z. out ++ z) (sym (none_left ps args k h)) ∙ w
-
--- ---- the parameters of a procedure
-
-abbrev parameters : Option Procedure → List Param
-parameters o = elim o [ None ↦ [] | Some p ↦ p.params ]
-
-pub params_there : (u : Program) (k : ℕ) (p : Procedure) → slice_get u.procedures k ≡ Some p → params_of u k ≡ p.params
-params_there u k p e = ap parameters e
-
-pub params_missing : (u : Program) (k : ℕ) → slice_get u.procedures k ≡ None → params_of u k ≡ []
-params_missing u k e = ap parameters e

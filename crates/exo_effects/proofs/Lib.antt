@@ -3,6 +3,5 @@ pub mod Names
 pub mod Spots
 pub mod Walks
 pub mod Arguments
-pub mod Wholes
 pub mod WellFormed
 pub mod RuledUses

@@ -19,24 +19,12 @@ use Rattle.exo_effects.proofs.Names.{parts_by}
 
 -- ---- part of a list
 
-pub range_next : {X : Type 0} (xs : List X) (k to : ℕ) (x : X) → k < to → drop k xs ≡ x ∷ drop (k + 1) xs
+range_next : {X : Type 0} (xs : List X) (k to : ℕ) (x : X) → k < to → drop k xs ≡ x ∷ drop (k + 1) xs
     → slice_range xs k to ≡ x ∷ slice_range xs (k + 1) to
 range_next xs k to x l e = ap (take (to - k)) e ∙ ap (λ n. take n (x ∷ drop (k + 1) xs)) (one_less k to l)
   where
     one_less : (k to : ℕ) → k < to → to - k ≡ suc (to - (k + 1))
     one_less k to l = omega arith
-
-pub range_end : {X : Type 0} (xs : List X) (k to : ℕ) → to ≤ k → slice_range xs k to ≡ []
-range_end xs k to l = ap (λ n. take n (drop k xs)) (none_left k to l)
-  where
-    none_left : (k to : ℕ) → to ≤ k → to - k ≡ 0
-    none_left k to l = omega arith
-
-pub range_whole : {X : Type 0} (xs : List X) → slice_range xs 0 (length xs) ≡ xs
-range_whole xs = take_all (length xs - 0) xs (at_least (length xs))
-  where
-    at_least : (n : ℕ) → n ≤ n - 0
-    at_least n = omega arith
 
 -- ---- where a statement stands
 
@@ -59,20 +47,11 @@ passed_by old left new a h g p = λ i. record {
   round = all_facts ((g ∙ h.1) i);
 }
 
--- ---- loops and branches
+pub same_guards : (first old left : Inside) → IsLeft old left → old.guards.items ≡ first.guards.items
+    → left.guards.items ≡ first.guards.items
+same_guards first old left h e = h.1 ∙ e
 
-flat_behind : {X Y : Type 0} (f : X → List Y) (xs : List X) (x : X) → flat_map f (xs ++ x ∷ []) ≡ flat_map f xs ++ f x
-flat_behind f [] x = append-nil (f x)
-flat_behind f (y ∷ xs) x = ap (λ z. f y ++ z) (flat_behind f xs x) ∙ sym (append_assoc (f y) (flat_map f xs) (f x))
-
-pub entered_by : (old new : Inside) (guard : Guard)
-    → new.parts.names.items ≡ old.parts.names.items → new.guards.items ≡ old.guards.items ++ guard ∷ []
-    → inside_of new ≡ guarded true guard (inside_of old)
-entered_by old new guard n g = λ i. record {
-  parts = parts_by (n i);
-  own = (ap all_variables g ∙ flat_behind variables_of old.guards.items guard) i;
-  round = (ap all_facts g ∙ flat_behind facts_of old.guards.items guard) i;
-}
+-- ---- branches
 
 -- a branch whose condition says something, or not
 in_branch_by : (says : Bool) (guard : Guard) (fact : Fact) (at : uses.Inside)
@@ -104,13 +83,8 @@ module _ (s : Site) where
       ∙ ap (λ z. out ++ block_uses s at (block z)) (sym (range_next xs k to a l d))
       ∙ w
 
-  pub walked_off : (out whole : List Use) (at : uses.Inside) (xs : List Statement) (k to : ℕ) → to ≤ k
-      → out ++ block_uses s at (block (slice_range xs k to)) ≡ whole → out ≡ whole
-  walked_off out whole at xs k to l w =
-      sym (append-nil out) ∙ ap (λ z. out ++ block_uses s at (block z)) (sym (range_end xs k to l)) ∙ w
-
   -- two lists of uses, one behind the other
-  pub put_two : (old middle new first second : List Use)
+  put_two : (old middle new first second : List Use)
       → middle ≡ old ++ first → new ≡ middle ++ second → new ≡ old ++ (first ++ second)
   put_two old middle new first second e f = f ∙ ap (λ z. z ++ second) e ∙ append_assoc old first second
 

@@ -7,7 +7,7 @@ use Rattle.exo_tree.specs.PlainStatement.{statement}
 use Rattle.exo_effects.specs.PlainUses.{plain_uses}
 use Rattle.exo_effects.specs.PlainWalk.{inside_of, step_uses, block_uses, guarded}
 use Rattle.exo_effects.specs.declared.inside.Inside.{Inside}
-use Rattle.exo_effects.proofs.Walks.{walked_on, passed_by, same_inside, branched}
+use Rattle.exo_effects.proofs.Walks.{walked_on, passed_by, same_inside, same_guards, branched}
 use Rattle.exo_effects.proofs.walk.+walk.Goals as goal
 
 pub walk_part-loop-k-preserved : goal.walk_part-loop-k-preserved
@@ -26,7 +26,7 @@ walk_part-loop-k-preserved t c =
           (passed_by c.loop-k.inside left new s same refl c.in_ok-pass_inside.ensures.passed) c.loop-k.invariant.uses;
       kept = more.0;
       within = more.1;
-      around = same.1 ∙ c.loop-k.invariant.around;
+      around = same_guards c.args.inside.now c.loop-k.inside left same c.loop-k.invariant.around;
     }
 
 pub walk_statement-returns-in_ok-walk_under-in-If-clause-uses : goal.walk_statement-returns-in_ok-walk_under-in-If-clause-uses
