@@ -1,18 +1,14 @@
 -- The uses of what a call passes, one by one.
-use Rattle.std.proofs.Common.{◌≡◌, ◌≤◌, ◌+◌, ℕ, zero, suc, Bool, true, false, min, List, [], ◌∷◌, ◌++◌}
-use Rattle.std.proofs.Common.{length, drop, map, append_assoc, Option, Some, None, refl, sym, ap, ◌∙◌, arith}
+use Rattle.std.proofs.Common.{◌≡◌, ◌≤◌, ℕ, zero, suc, min, List, [], ◌∷◌, ◌++◌}
+use Rattle.std.proofs.Common.{length, drop, refl, sym, ap, ◌∙◌, arith}
 use Rattle.std.proofs.lemmas.List.{append-nil}
-use Rattle.std.specs.Prelude.{slice_get}
-use Rattle.exo_tree.specs.Tree.{Param, Argument, Call, Procedure, Program}
+use Rattle.exo_tree.specs.Tree.{Param, Argument}
 use Rattle.exo_meaning.specs.Modes as meaning
 use Rattle.exo_meaning.specs.Modes.{Mode, Reading, Writing, Reducing, picked}
-use Rattle.text_show.specs.Layout.{Text}
-use Rattle.text_show.specs.StatementText.{argument_text}
-use Rattle.exo_effects.specs.Parts.{Part}
 use Rattle.exo_effects.specs.Uses as uses
 use Rattle.exo_effects.specs.Uses.{Use, use_of, uses_of, modes_had, part_of_argument, params_of}
 use Rattle.exo_effects.specs.declared.inside.Site.{Site}
-use Rattle.exo_effects.specs.PlainWalk.{use_if, words_by, argument_uses, arguments_uses}
+use Rattle.exo_effects.specs.PlainWalk.{arguments_uses}
 
 module _ (s : Site) (at : uses.Inside) (callee : meaning.Modes) where
   nothing_given : (ps : List Param) → arguments_uses s at callee ps [] ≡ []

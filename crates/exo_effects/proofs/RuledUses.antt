@@ -1,10 +1,10 @@
 -- The uses of a piece of a ruled procedure keep the rules of affine expressions.
-use Rattle.std.proofs.Common.{◌≡◌, ℕ, ◌==◌, pos, Bool, true, false, ◌&&◌, List, [], ◌∷◌, ◌++◌, map, Option, Some, None, option_map, refl, sym, ap, ◌∙◌, subst}
+use Rattle.std.proofs.Common.{◌≡◌, ℕ, ◌==◌, Bool, true, false, ◌&&◌, List, [], ◌∷◌, ◌++◌, map, Option, Some, None, option_map, refl, ap, ◌∙◌}
 use Rattle.std.specs.List.{list_all}
 use Rattle.std.specs.Prelude.{if◌then◌else◌}
-use Rattle.exo_tree.specs.Tree.{Binder, Control, Lit, Var, Add, Condition, Le, Lt, Datum, Const, Read, Negated, Relu, Plus, Minus, Times, Select, Coord, At, Span, Argument, ControlArg, ConditionArg, Whole, Window, Statement, Assign, Reduce, Config, Pass, If, For, Alloc, View, Call, Block, end, next, joined, Param, ParamKind, ControlParam, TensorParam, WindowParam, Procedure, Program}
+use Rattle.exo_tree.specs.Tree.{Binder, Control, Var, Le, Lt, Datum, Const, Read, Negated, Relu, Plus, Minus, Times, Select, Coord, At, Span, Argument, ControlArg, ConditionArg, Whole, Window, Statement, Assign, Reduce, Config, Pass, If, For, Alloc, View, Call, Block, end, next, joined, Param, ParamKind, ControlParam, TensorParam, WindowParam}
 use Rattle.exo_tree.specs.Context.{Context, Here, After, InLoop, InThen, InElse, fill}
-use Rattle.exo_tree.specs.Places.{Path, Opened, opened}
+use Rattle.exo_tree.specs.Places.{Opened, opened}
 use Rattle.exo_meaning.specs.Modes as meaning
 use Rattle.exo_meaning.specs.Modes.{Mode, Reading, Writing, Reducing}
 use Rattle.exo_meaning.specs.Scene.{updated}
@@ -17,10 +17,10 @@ use Rattle.affine_forms.specs.Forms.{keeps_rules}
 use Rattle.affine_forms.specs.Formulas.{condition_keeps_rules}
 use Rattle.affine_forms.proofs.Values.{and_parts}
 use Rattle.exo_effects.specs.Parts.{Part, Parts, no_parts, all_of, whole_of, window_of, with_kind, with_params, passed, passed_inside, parts_at}
-use Rattle.exo_effects.specs.Uses.{Use, Inside, in_loop, in_branch, past_statement, use_of, uses_of, cell_of, part_of_argument, modes_had, cell_uses, data_uses, argument_uses, arguments_uses, block_uses, step_uses, params_of, modes_of, at_hole, uses_in, uses_at}
+use Rattle.exo_effects.specs.Uses.{Use, Inside, in_loop, in_branch, past_statement, use_of, uses_of, cell_of, part_of_argument, modes_had, cell_uses, data_uses, argument_uses, arguments_uses, block_uses, step_uses, params_of, modes_of, at_hole, uses_in}
 use Rattle.exo_effects.specs.PlainAccess.{coord_keeps_rules}
 use Rattle.exo_effects.specs.PlainUses.{fact_keeps_rules, use_keeps_rules, uses_keep_rules}
-use Rattle.exo_effects.specs.Ruled.{datum_keeps_rules, argument_keeps_rules, kind_keeps_rules, block_is_ruled, is_ruled, procedure_is_ruled, UsesRuledLaw}
+use Rattle.exo_effects.specs.Ruled.{datum_keeps_rules, argument_keeps_rules, kind_keeps_rules, block_is_ruled, is_ruled, UsesRuledLaw}
 use Rattle.exo_effects.proofs.WellFormed.{both_true}
 
 all_behind : {X : Type 0} (f : X → Bool) (xs ys : List X) → list_all f xs ≡ true → list_all f ys ≡ true → list_all f (xs ++ ys) ≡ true

@@ -3,13 +3,13 @@ use Rattle.std.proofs.Common.{◌≡◌, ◌<◌, ◌≤◌, ◌+◌, ◌-◌, �
 use Rattle.std.proofs.Common.{Option, Some, None, option_map, length-drop, add-one, refl, sym, ap, ◌∙◌, subst, arith}
 use Rattle.std.specs.Prelude.{slice_get, slice_range}
 use Rattle.exo_tree.specs.Tree.{Statement, If, For, Block, end, next, block}
-use Rattle.exo_tree.specs.Context.{Context, Here, After, InLoop, InThen, InElse}
+use Rattle.exo_tree.specs.Context.{Here, After, InLoop, InThen, InElse}
 use Rattle.exo_tree.specs.Places.{Branch, Main, Else, Step, Path, Opened, parted, past, into, opened_in}
 use Rattle.exo_tree.specs.Branches.{branch_of}
 use Rattle.meaning_laws.proofs.Parts.{none_some}
 use Rattle.exo_effects.specs.Parts.{Parts, passed, parts_at}
 use Rattle.exo_effects.specs.declared.piece.Spot.{Spot}
-use Rattle.exo_effects.specs.PlainSpots.{passed_all, IsAt, LeadsTo}
+use Rattle.exo_effects.specs.PlainSpots.{passed_all, LeadsTo}
 
 -- ---- one more statement passed
 

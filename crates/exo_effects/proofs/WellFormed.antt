@@ -2,7 +2,7 @@
 use Rattle.std.proofs.Common.{◌≡◌, ℕ, ◌==◌, Bool, true, not, ◌&&◌, ◌||◌, int_lt, nat_lt, pos, List, [], ◌∷◌, length, Option, Some, None, refl, sym, ap₂, true≢false}
 use Rattle.std.specs.List.{list_all}
 use Rattle.std.specs.Int.{is_positive}
-use Rattle.exo_tree.specs.Tree.{Kind, Index, Control, Lit, Var, Field, StrideOf, Neg, Add, Sub, Mul, Div, Mod, Condition, True, False, Flag, FieldFlag, Lt, Le, Gt, Ge, Eq, And, Or, Datum, Const, Read, Negated, Relu, Plus, Minus, Times, Select, Coord, At, Span, Argument, ControlArg, ConditionArg, Whole, Window, Statement, Assign, Reduce, Config, Pass, If, For, Alloc, View, Call, Block, end, next, Param, ParamKind, ControlParam, TensorParam, WindowParam, Procedure}
+use Rattle.exo_tree.specs.Tree.{Kind, Index, Control, Lit, Var, Field, StrideOf, Neg, Add, Sub, Mul, Div, Mod, Condition, True, False, Flag, FieldFlag, Lt, Le, Gt, Ge, Eq, And, Or, Datum, Const, Read, Negated, Relu, Plus, Minus, Times, Select, Coord, At, Span, Argument, ControlArg, ConditionArg, Whole, Window, Statement, Assign, Reduce, Config, Pass, If, For, Alloc, View, Call, Block, end, next, Param, ParamKind, ControlParam, TensorParam, WindowParam}
 use Rattle.exo_meaning.specs.Calls.{Callee}
 use Rattle.exo_meaning.specs.Run.{roots_after}
 use Rattle.exo_meaning.specs.Units as units
@@ -11,7 +11,7 @@ use Rattle.affine_forms.specs.Forms.{keeps_rules}
 use Rattle.affine_forms.specs.Formulas.{condition_keeps_rules}
 use Rattle.affine_forms.proofs.Values.{and_parts}
 use Rattle.exo_effects.specs.PlainAccess.{coord_keeps_rules}
-use Rattle.exo_effects.specs.Ruled.{datum_keeps_rules, argument_keeps_rules, kind_keeps_rules, block_is_ruled, is_ruled, procedure_is_ruled, RuledLaw}
+use Rattle.exo_effects.specs.Ruled.{datum_keeps_rules, argument_keeps_rules, kind_keeps_rules, block_is_ruled, is_ruled, RuledLaw}
 
 pub both_true : (a b : Bool) → a ≡ true → b ≡ true → (a && b) ≡ true
 both_true a b h k = ap₂ ◌&&◌ h k

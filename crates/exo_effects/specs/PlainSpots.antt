@@ -1,7 +1,6 @@
 -- Where some statements of a procedure stand.
 use Rattle.std.specs.Prelude.{◌≡◌, ◌≤◌, ◌+◌, ℕ, List, [], ◌∷◌, length, slice_range, Option, Some, None}
 use Rattle.exo_tree.specs.Tree.{Statement, block}
-use Rattle.exo_tree.specs.Context.{Context}
 use Rattle.exo_tree.specs.Places.{Opened}
 use Rattle.exo_effects.specs.Parts as plain
 use Rattle.exo_effects.specs.Parts.{passed, parts_at}

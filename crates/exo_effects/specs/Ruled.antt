@@ -1,5 +1,5 @@
 -- The uses of a well-formed procedure keep the rules of affine expressions.
-use Rattle.std.specs.Prelude.{◌≡◌, ℕ, Bool, true, ◌&&◌, List, Option}
+use Rattle.std.specs.Prelude.{◌≡◌, ℕ, Bool, true, ◌&&◌, Option}
 use Rattle.std.specs.List.{list_all}
 use Rattle.exo_tree.specs.Tree.{Kind, Datum, Const, Read, Negated, Relu, Plus, Minus, Times, Select}
 use Rattle.exo_tree.specs.Tree.{Argument, ControlArg, ConditionArg, Whole, Window, Statement, Assign}

@@ -1,4 +1,4 @@
-use Rattle.std.proofs.Common.{◌≤◌, ◌∷◌, map, ap, sym, ◌∙◌, subst, arith}
+use Rattle.std.proofs.Common.{◌∷◌, map, ap, sym, ◌∙◌, subst, arith}
 use Rattle.exo_tree.specs.Tree.{block}
 use Rattle.exo_tree.specs.Places.{opened_in}
 use Rattle.exo_tree.specs.PlainPlace.{step_taken}

@@ -1,11 +1,11 @@
-use Rattle.std.proofs.Common.{◌≡◌, ◌++◌, take, length, drop, refl, ap, sym, ◌∙◌, subst}
+use Rattle.std.proofs.Common.{◌≡◌, ◌++◌, take, length, refl, ap, sym, ◌∙◌, subst}
 use Rattle.std.proofs.lemmas.Result.{on_ok_weaker}
 use Rattle.exo_modes.proofs.Walks.{kept_on}
 use Rattle.exo_tree.specs.Tree.{block}
 use Rattle.exo_tree.specs.PlainControl.{condition}
 use Rattle.exo_tree.specs.PlainStatement.{statement}
 use Rattle.exo_effects.specs.PlainUses.{plain_uses}
-use Rattle.exo_effects.specs.PlainWalk.{inside_of, step_uses, block_uses, guarded}
+use Rattle.exo_effects.specs.PlainWalk.{inside_of, step_uses}
 use Rattle.exo_effects.specs.declared.inside.Inside.{Inside}
 use Rattle.exo_effects.proofs.Walks.{walked_on, passed_by, same_inside, same_guards, branched}
 use Rattle.exo_effects.proofs.walk.+walk.Goals as goal
