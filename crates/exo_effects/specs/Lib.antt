@@ -11,3 +11,7 @@ pub mod PlainAccess
 pub mod PlainGuards
 pub mod PlainWindows
 pub mod PlainParts
+pub mod PlainUses
+pub mod PlainWalk
+pub mod PlainSpots
+pub mod Ruled

@@ -5,8 +5,9 @@ ghost use Rattle.exo_effects.specs.Accesses.{coord_form, coord_fits};
 ghost use Rattle.exo_effects.specs.PlainAccess.{CoordMade, coord_keeps_rules};
 
 use crate::forms::plain_form;
+use crate::guards::Guard;
 use affine_forms::{FormError, Linear};
-use exo_tree::Coord;
+use exo_tree::{Coord, Coords, Id};
 use std::alloc::Global;
 
 /// How an access touches its cells.
@@ -15,6 +16,19 @@ pub enum Mode {
     Read,
     Write,
     Reduce,
+}
+
+/// A use of cells of a root, as trees: its normal forms are made where two copies are compared.
+#[derive(Drop)]
+pub struct Access<'a> {
+    pub root: Id,
+    pub mode: Mode,
+    /// A point or a span for each of the root's dimensions.
+    pub coords: Coords,
+    /// The loops and branches of the piece around it, from the outermost inwards.
+    pub guards: Vec<Guard<'a>>,
+    /// How it is written.
+    pub text: String,
 }
 
 /// What an access touches of one dimension of its root.

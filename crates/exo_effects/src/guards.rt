@@ -16,7 +16,7 @@ use std::alloc::Global;
 
 /// A loop or a branch of a piece.
 #[derive(Clone, Copy)]
-pub(crate) enum Guard<'a> {
+pub enum Guard<'a> {
     /// A loop over this variable, from its lower bound up to the upper one, which it does not reach.
     Loop(Id, &'a Ctrl, &'a Ctrl),
     /// Where the condition holds.
