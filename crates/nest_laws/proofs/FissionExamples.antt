@@ -1,5 +1,5 @@
 -- The rule that makes two loops of one, on closed procedures.
-use Rattle.std.proofs.Common.{◌≡◌, ℕ, pos, List, [], ◌∷◌, Some, refl}
+use Rattle.std.proofs.Common.{◌≡◌, ℕ, ℤ, pos, List, [], ◌∷◌, Option, Some, None, option_map, refl}
 use Rattle.std.specs.Prelude.{codes}
 use Rattle.std.specs.Fmt.{digits}
 use Rattle.std.specs.Int.{int_wrap}
@@ -7,7 +7,9 @@ use Rattle.std.proofs.lemmas.List.Elements.{All-from_recursion}
 use Rattle.exo_tree.specs.Tree.{I32, Binder, Control, Var, Add, Const, Read, Assign, Alloc, ControlArg}
 use Rattle.exo_tree.specs.Tree.{Config, Block, joined, Param, Procedure}
 use Rattle.exo_meaning.specs.Value.{Number}
-use Rattle.exo_meaning.specs.Run.{program_world}
+use Rattle.exo_meaning.specs.Scene.{updated}
+use Rattle.exo_meaning.specs.State.{State, on_scene, with_control}
+use Rattle.exo_meaning.specs.Run.{program_world, run, tensor as cells_of}
 use Rattle.exo_meaning.specs.Inputs.{Refines}
 use Rattle.exo_meaning.specs.Units.{IsUnit}
 use Rattle.affine_systems.specs.Outcomes.{Owed, owed}
@@ -204,3 +206,83 @@ pub last_of_two : leaves (target_of both) two_loops (starts (two_buffers (pos 16
     ≡ Some (Number (pos 1))
 unfolding int_wrap
 last_of_two = refl
+
+-- ---- so does the write that comes first
+
+abbrev write_first : Block
+write_first = joined (writes (number 8)) (zeros 2)
+
+abbrev write_alone : Block
+write_alone =
+    joined (loop (i 2) (number 0) (Var 0) (writes (number 8)))
+    (loop (i 3) (number 0) (Var 0) (zeros 3))
+
+write_is_unit : IsUnit (over_n write_first).unit
+write_is_unit = record {
+  procedures = (
+    record {
+      params = refl;
+      asserts = refl;
+      body = refl;
+      filled = refl;
+      ids = refl;
+      distinct = refl;
+      paths = refl;
+      template = refl;
+    },
+    tt,
+  );
+  fields = refl;
+  memories = refl;
+  spaces = refl;
+  counts = refl;
+}
+
+abbrev write_parts : Parting
+write_parts = record {
+  loop = record { binder = i 2; lo = number 0; hi = Var 0; body = write_first };
+  first = writes (number 8);
+  second = zeros 2;
+}
+
+abbrev write_plan : Plan
+write_plan = record {
+  proc = record (over_n write_first).proc { body = write_alone };
+  must = [];
+  edits = edits_of (at_index 0) 1 2 (fission_shifts write_parts);
+  fields = [];
+  place = [];
+  side = Before;
+}
+
+pub write_planned : parted_behind_one write_first ≡ Got write_plan
+unfolding digits
+write_planned = refl
+
+pub write_refines : MeaningLaw
+    → Refines (program_world (over_n write_first).unit) (over_n write_first).proc write_plan.proc []
+write_refines law =
+    law (fission_rule 1) (over_n write_first) (at_index 0) write_plan (fission_is_lawful 1)
+    (record { unit = write_is_unit; there = refl; ids = refl }) write_planned
+    (All-from_recursion IsClosed [] tt)
+
+-- n is 2, and x has two cells
+abbrev two_cells : State
+two_cells =
+    on_scene (with_control 0 (pos 2))
+    (starts (updated (λ x. None) 1 (Some (cells_of I32 (pos 2 ∷ [])))))
+
+abbrev field_after : Block → Option ℤ
+field_after b =
+    option_map (λ (u : State). u.scene.fields 0)
+    (run (program_world (over_n write_first).unit) b two_cells)
+
+pub field_of_one : field_after (over_n write_first).proc.body ≡ Some (pos 8)
+field_of_one = refl
+
+pub field_of_two : field_after write_alone ≡ Some (pos 8)
+field_of_two = refl
+
+pub cell_of_two : leaves (over_n write_first) write_alone two_cells 1 (pos 1 ∷ []) ≡ Some (Number (pos 0))
+unfolding int_wrap
+cell_of_two = refl
