@@ -414,13 +414,19 @@ reorder_is_lawful = record {
         };
         to_second = record {
           names = are.unbound;
-          fields = second_leaves s is.spot n.first n.second alike (scope_here s,
-              own_roots_at (around s), kept.0);
+          fields = second_leaves s is.spot n.first n.second alike (
+            scope_here s,
+            own_roots_at (around s),
+            kept.0,
+          );
         };
         to_first = record {
           names = first_unbound a is n are.is on.made;
-          fields = first_leaves s is.spot n.first n.second alike (scope_here s,
-              own_roots_at (around s), (and_parts _ true second_kept).0);
+          fields = first_leaves s is.spot n.first n.second alike (
+            scope_here s,
+            own_roots_at (around s),
+            (and_parts _ true second_kept).0,
+          );
         };
         clear =
             clear_there s is.spot n.first n.second are.is on.both are.unbound needed first u good

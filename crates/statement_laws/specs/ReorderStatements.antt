@@ -79,6 +79,6 @@ abbrev pub reorder_rule : Rule
 reorder_rule = record (plain_rule with_next
     (λ s base. tried (neighbours_of s.opened.piece) (λ n. pair n.second n.first))
     (λ s. exchanged)) {
-  refusal = λ s. reorder_refusal s (neighbours_of s.opened.piece);
-  needs = λ s. reorder_needs s.piece.path (neighbours_of s.opened.piece);
-}
+      refusal = λ s. reorder_refusal s (neighbours_of s.opened.piece);
+      needs = λ s. reorder_needs s.piece.path (neighbours_of s.opened.piece);
+    }
