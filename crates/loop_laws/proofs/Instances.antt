@@ -32,7 +32,8 @@ use Rattle.loop_laws.specs.CutLoop.{cut, cut_needs, cut_rule}
 use Rattle.loop_laws.specs.DivideLoop.{Tail, Guard, Cut, CutAndGuard, Perfect, Division, divided}
 use Rattle.loop_laws.specs.DivideLoop.{divide_shifts, divide_rule}
 use Rattle.loop_laws.specs.SameTurns.{MovedLoop}
-use Rattle.loop_laws.specs.Turns.{Turn, between, CutTurns, up_to, GuardedTurns}
+use Rattle.loop_laws.specs.Turns.{Turn, between, CutTurns, group, GroupedTurns, MovedTurns, up_to}
+use Rattle.loop_laws.specs.Turns.{GuardedTurns}
 use Rattle.loop_laws.proofs.CutLoop.{cut_is_lawful, cut_is_carrying}
 use Rattle.loop_laws.proofs.DivideLoop.{divide_is_lawful, divide_is_carrying}
 use Rattle.loop_laws.proofs.Examples.{target_of, loop, stores, number, on_loop, z, f}
@@ -332,6 +333,16 @@ pub turns_cut : CutTurns
     (turns turn_of_z (between (pos 5) (pos 16)))
 turns_cut law =
     law turn_of_z (pos 0) (pos 5) (pos 16) first_of_z (omega (arith, ints)) (omega (arith, ints))
+
+pub turns_grouped : GroupedTurns
+    → turns (group turn_of_z 3) (range (pos 0) 5) first_of_z
+    ≡ turns turn_of_z (range (pos 0) 15) first_of_z
+turns_grouped law = law turn_of_z 3 5 first_of_z
+
+pub turns_moved : MovedTurns
+    → turns (λ k. turn_of_z (pos 3 +ℤ k)) (range (pos 0) 5) first_of_z
+    ≡ turns turn_of_z (range (pos 3) 5) first_of_z
+turns_moved law = law turn_of_z (pos 3) (pos 0) 5 first_of_z
 
 pub turns_guarded : GuardedTurns
     → turns (up_to (pos 13) turn_of_z) (range (pos 0) 16) first_of_z

@@ -21,3 +21,7 @@ pub mod SpecializeExamples
 pub mod CopyExamples
 pub mod LaterExamples
 pub mod ShiftInstances
+pub mod SameTrees
+pub mod JoinLoops
+pub mod JoinRule
+pub mod JoinExamples

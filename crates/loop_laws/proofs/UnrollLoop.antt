@@ -87,7 +87,7 @@ literals_write = record {
 
 -- ---- numbers of bounds
 
-reads_variables : (scene : Scene) → ReadsAt variables (values_in scene) extent_reading scene
+pub reads_variables : (scene : Scene) → ReadsAt variables (values_in scene) extent_reading scene
 reads_variables scene = record {
   variables = λ x h. alone (scene.control x);
   fields = λ f h. absurd (true≢false (sym h));

@@ -8,3 +8,5 @@ pub mod Specialize
 pub mod MultLoops
 pub mod ShiftLoop
 pub mod SameTurns
+pub mod SameTrees
+pub mod JoinLoops

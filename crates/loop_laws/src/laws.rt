@@ -8,6 +8,7 @@ ghost use Rattle.loop_laws.specs.Copies.{TurnsMayBeWrittenOut, LoopsOfNoTurnMayG
 ghost use Rattle.loop_laws.specs.Copies.{BlocksMayBeSpecialized, TakenBranchesMayStand};
 ghost use Rattle.loop_laws.specs.CutLoop.{cut_rule};
 ghost use Rattle.loop_laws.specs.DivideLoop.{Division, divide_rule};
+ghost use Rattle.loop_laws.specs.JoinLoops.{join_rule};
 ghost use Rattle.loop_laws.specs.MultLoops.{mult_rule};
 ghost use Rattle.loop_laws.specs.SameTurns.{SubstitutedTurn, MovedLoop, GroupedLoop};
 ghost use Rattle.loop_laws.specs.ShiftLoop.{shift_rule};
@@ -134,4 +135,14 @@ pub fn multiplications_are_lawful()
 /// The outer loop becomes the new one, and its body that of the inner one.
 pub fn multiplications_carry()
     ensures { (name : List ℕ) → IsCarrying (mult_rule name) }
+{}
+
+/// Two loops with one body, the second of which goes on where the first ends, may be one.
+pub fn joined_loops_are_lawful()
+    ensures { IsLawful join_rule }
+{}
+
+/// The first loop stays with its body; the second is gone.
+pub fn joined_loops_carry()
+    ensures { IsCarrying join_rule }
 {}

@@ -4,7 +4,7 @@ use Rattle.exo_tree.specs.Tree.{Statement, Block, end, next, block, joined, stat
 use Rattle.exo_tree.specs.Places.{Main, Path}
 use Rattle.loop_laws.specs.Shapes.{inside}
 
-joined_blocks : (xs ys : List Statement) → block (xs ++ ys) ≡ joined (block xs) (block ys)
+pub joined_blocks : (xs ys : List Statement) → block (xs ++ ys) ≡ joined (block xs) (block ys)
 joined_blocks [] ys = refl
 joined_blocks (x ∷ xs) ys = ap (next x) (joined_blocks xs ys)
 

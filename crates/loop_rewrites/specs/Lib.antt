@@ -1,2 +1,3 @@
 pub mod PlainLoop
 pub mod PlainTail
+pub mod PlainTurns

@@ -28,9 +28,10 @@ ghost use Rattle.loop_rewrites.specs.PlainLoop.{plain_loop};
 ghost use Rattle.loop_rewrites.specs.PlainTail.{plain_tail, division};
 
 use crate::loops::{LoopAt, from_zero, loop_at};
+use crate::moves::inside;
 use crate::numbers::{branch, quotient, remainder, rounded_up, turn_behind};
 use cursor_forward::{Proposal, Shift, Shifts, StepError};
-use exo_tree::{Block, Branch, Cond, Ctrl, Id, Name, Path, Proc, Step, subst};
+use exo_tree::{Block, Cond, Ctrl, Id, Name, Path, Proc, subst};
 use made_trees::Fresh;
 use std::alloc::{AllocError, Global};
 use step_driver::{Exit, Operator, Piece, Target, Writing, propose};
@@ -79,26 +80,6 @@ fn divisible_at<'a>(by: i64, on: &Target<'a>, piece: &Piece) -> Option<LoopAt<'a
         Some(l) => { if is_zero(l.lo) { Some(l) } else { None } }
     }
 }
-
-/// The path to the first statement so many blocks below the first one.
-#[tactic(auto, using(crate::proofs::Made::inside_more, crate::proofs::Made::inside_long))]
-fn inside(depth: u8) -> Path
-    requires { depth ≤ 8 }
-    ensures { result ≡ shapes.inside depth }
-{
-    let mut path = Path::new();
-    path.push(FIRST);
-    for _ in 0..depth {
-        path.push(FIRST);
-    }
-    path
-}
-
-/// The step to the first statement of a block.
-const FIRST: Step = Step {
-    branch: Branch::Main,
-    index: 0,
-};
 
 impl Dividing<'_> {
     /// The body at the turn in a group.

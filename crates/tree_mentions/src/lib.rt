@@ -1,0 +1,8 @@
+//! Whether trees mention names.
+#![tactic(auto)]
+
+mod after;
+mod mentions;
+
+pub use after::is_mentioned_after;
+pub use mentions::{Names, in_block};
