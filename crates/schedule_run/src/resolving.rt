@@ -1,5 +1,6 @@
 //! Operators whose arguments have expressions: what these stand for where the operators work.
-ghost use Rattle.std.specs.Prelude.{◌≡◌, true};
+ghost use Rattle.std.specs.Prelude.{◌≡◌, true, MatchResult};
+ghost use Rattle.exo_tree.specs.PlainControl.{condition};
 ghost use Rattle.exo_tree.specs.PlainProcedure.{procedure};
 ghost use Rattle.exo_tree.specs.PlainUnit.{program};
 ghost use Rattle.exo_modes.specs.Marks.{modes_of};
@@ -16,14 +17,15 @@ ghost use Rattle.schedule_calls.specs.PlainRequest.{plain_asked};
 ghost use Rattle.schedule_calls.specs.Requests.{CutLoop, Specialize};
 ghost use Rattle.schedule_operators.specs.Operators.{call_of, control_at, condition_at};
 ghost use Rattle.schedule_run.specs.Outcomes.{Makes};
-ghost use Rattle.schedule_run.specs.Planned.{as_tried, if_known, planned};
+ghost use Rattle.schedule_run.specs.Planned.{Not, as_tried, if_known, planned};
+ghost use Rattle.schedule_run.specs.PlainWhy.{Says};
 ghost use Rattle.schedule_run.specs.PlainVersions.{versions};
 
 use crate::planning::proposed;
 use crate::session::Session;
 use crate::why::Why;
 use cursor_forward::Proposal;
-use exo_tree::Path;
+use exo_tree::{Cond, Path};
 use loop_rewrites::{Cutting, Specializing};
 use rules_scopes::{cond_at, ctrl_at};
 use schedule_calls::Asked;
@@ -41,13 +43,28 @@ fn control_known(alloc: Global, on: &Target<'_>, e: &SourceExpr) -> Result<(), W
     Ok(())
 }
 
+/// What a condition stands for before the statement at a path.
+fn condition_in(
+    alloc: Global,
+    on: &Target<'_>,
+    path: &Path,
+    c: &SourceExpr,
+) -> Result<Box<Cond>, Why>
+    requires target { IsTarget (target on.now) }
+    requires form { is_condition_form (tree_of c.now) ≡ true }
+    ensures { MatchResult result (λ b. (knows_fields (program on.now.unit.now).fields (tree_of c.now) ≡ true) × (condition b.value ≡ condition_at (target on.now) path.now (tree_of c.now))) (λ e. Says (λ w. if_known (knows_fields (program on.now.unit.now).fields (tree_of c.now)) ≡ Not w) e) }
+{
+    let found = cond_at(alloc, on.unit, on.number, path, false, c)?;
+    Ok(Box::new(alloc, found)?)
+}
+
 /// That the fields in a condition are there.
 fn condition_known(alloc: Global, on: &Target<'_>, c: &SourceExpr) -> Result<(), Why>
     requires target { IsTarget (target on.now) }
     requires form { is_condition_form (tree_of c.now) ≡ true }
     ensures { Makes (λ _. tt) (if_known (knows_fields (program on.now.unit.now).fields (tree_of c.now))) result }
 {
-    cond_at(alloc, on.unit, on.number, &Path::new(), false, c)?;
+    condition_in(alloc, on, &Path::new(), c)?;
     Ok(())
 }
 
@@ -63,7 +80,25 @@ fn cut(alloc: Global, on: &Target<'_>, path: &Path, e: &SourceExpr) -> Result<Pr
     proposed(alloc, on, path, &Cutting { e: &e })
 }
 
-/// What a condition makes of some statements, by what it stands for before the first one.
+/// What a condition makes of some statements.
+fn specialized_by(
+    alloc: Global,
+    on: &Target<'_>,
+    piece: &Piece,
+    c: &Cond,
+) -> Result<Proposal, Why>
+    requires modes { table_says on.now.modes.now ≡ modes_of (program on.now.unit.now) }
+    requires target { IsTarget (target on.now) }
+    ensures { Makes plain_proposal (as_tried (answer.proposed (specialize_rule piece.now.count (condition c.now)) (target on.now) piece.now.path)) result }
+{
+    let op = Specializing {
+        count: piece.count,
+        c,
+    };
+    proposed(alloc, on, &piece.path, &op)
+}
+
+/// The same, by what the condition stands for before the first one.
 fn specialized(
     alloc: Global,
     on: &Target<'_>,
@@ -76,12 +111,8 @@ fn specialized(
     requires known { knows_fields (program on.now.unit.now).fields (tree_of c.now) ≡ true }
     ensures { Makes plain_proposal (as_tried (answer.proposed (specialize_rule piece.now.count (condition_at (target on.now) piece.now.path (tree_of c.now))) (target on.now) piece.now.path)) result }
 {
-    let c = cond_at(alloc, on.unit, on.number, &piece.path, false, c)?;
-    let op = Specializing {
-        count: piece.count,
-        c: &c,
-    };
-    proposed(alloc, on, &piece.path, &op)
+    let c = condition_in(alloc, on, &piece.path, c)?;
+    specialized_by(alloc, on, piece, &c)
 }
 
 /// `cut_loop`

@@ -44,7 +44,7 @@ impl Running {
         gate: &G,
     ) -> Result<(), Why>
         requires running { IsRunning self.old }
-        requires forms { have_forms (plain_request request.entry) ≡ true }
+        requires forms { have_forms (plain_request request) ≡ true }
         ensures performs { Performs (performed (versions_in self.old) (act_of (plain_request request.entry))) (versions_in self.new) result }
         ensures running { OnOk result (IsRunning self.new) }
     {

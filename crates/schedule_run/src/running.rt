@@ -206,7 +206,7 @@ impl Running {
         gate: &G,
     ) -> Result<(), Why>
         requires running { IsRunning self.old }
-        requires form { has_form (plain_operation operation.entry) ≡ true }
+        requires form { has_form (plain_operation operation) ≡ true }
         ensures performs { Performs (called (versions_in self.old) bind.now (call_of (plain_operation operation.entry)) (version_of (versions_in self.old) of.now)) (versions_in self.new) result }
         ensures running { OnOk result (IsRunning self.new) }
     {

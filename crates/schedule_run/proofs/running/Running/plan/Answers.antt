@@ -11,7 +11,7 @@ returns-clause-kept c =
     all_stand (versions_in c.args.self.now) c.args.k.0 (procedure c.in-Some.proc.now)
     (call_of (plain_operation c.args.operation.now)) c.planned.result c.proposals_are_kept.ensures
     (record {
-      unit = c.requires.formed;
+      unit = c.requires.running.formed;
       there = sym c.in-Some.ensures;
       ids = c.if-not-has_room.ensures.ids refl;
     })
