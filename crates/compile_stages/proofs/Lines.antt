@@ -3,13 +3,17 @@
 use Rattle.std.proofs.Common.{◌≡◌, ◌<◌, ◌+◌, ℕ, zero, suc, List, [], ◌∷◌, map, length, Option, Some, None, refl}
 use Rattle.std.proofs.Common.{sym, ap, ◌∙◌, subst, arith, get_or, option_map, IfSome, MatchOption}
 use Rattle.exo_tree.specs.Tree.{Program}
+use Rattle.exo_meaning.specs.Orders.{Each}
+use Rattle.text_show_laws.specs.Named.{AreNamed}
 use Rattle.schedule_text.specs.Tree as tree
 use Rattle.schedule_calls.specs.Requests.{Request}
+use Rattle.schedule_calls.specs.Readings.{Asks}
 use Rattle.schedule_versions.specs.Versions.{Versions, started, version_of}
 use Rattle.schedule_versions.specs.Lines.{Why, UnknownOperator, BadArguments, Act, Faulty, Progress, Went}
 use Rattle.schedule_versions.specs.Lines.{Refused, performed, Outcome, Done, Stopped, behind, run_from}
 use Rattle.schedule_versions.specs.Behind.{NothingDiffers, RunsHoldVersions}
 use Rattle.schedule_operators.specs.Operators.{act_of, SchedulesDifferInNothing}
+use Rattle.schedule_name_laws.specs.Schedules.{GivesNames, LinesGiveNames, SchedulesKeepNames}
 use Rattle.cursor_forward.specs.PlainProposal.{cause_of}
 use Rattle.schedule_text.specs.Views.{plain_line, number}
 use Rattle.schedule_text.specs.declared.source.Line.{Line}
@@ -35,14 +39,19 @@ stopped_done h = cc
 same_done : {v w : Versions} → Done v ≡ Done w → v ≡ w
 same_done h = cc
 
+-- a line asked it
+abbrev IsAsked : Request → Type 0
+IsAsked r = (line : tree.Line) × Asks line r
+
 -- lines that ran to their end asked for something each
 record Requested (k : ℕ) (v w : Versions) : Type 0 where
   pub requests : List Request
+  pub asked : Each IsAsked requests
   pub ran : run_from k (map act_of requests) v ≡ Done w
 
 requested_from : (k : ℕ) (lines : List tree.Line) (v w : Versions) (end : Outcome) → LinesRun k lines v end
     → end ≡ Done w → Requested k v w
-requested_from k [] v w _ (ends _ _) e = record { requests = []; ran = e }
+requested_from k [] v w _ (ends _ _) e = record { requests = []; asked = tt; ran = e }
 requested_from k (line ∷ more) v w _ (stops _ _ _ _ a why is refuses) e = absurd (stopped_done e)
 requested_from k (line ∷ more) v w end (goes _ _ _ _ u a _ is went rest) e =
     by_act a is went (requested_from (suc k) more u w end rest e)
@@ -53,6 +62,7 @@ requested_from k (line ∷ more) v w end (goes _ _ _ _ u a _ is went rest) e =
     by_act : (a : Act) → IsAct line a → performed v a ≡ Went u → Requested (suc k) u w → Requested k v w
     by_act _ (asked _ r asks) went later = record {
       requests = r ∷ later.requests;
+      asked = ((line, asks), later.asked);
       ran =
           ap (λ n. behind k (run_from n (map act_of later.requests)) (performed v (act_of r))) more_by_one
           ∙ (ap (behind k (run_from (suc k) (map act_of later.requests))) went ∙ later.ran);
@@ -72,6 +82,19 @@ pub runs_hold : RunsHoldVersions → (unit : Program) (shown : ℕ) (lines : Lis
 runs_hold law unit shown lines w name k runs is =
     let r = requested_from 0 lines (started unit shown) w (Done w) runs refl in
     law unit shown (map act_of r.requests) w name k r.ran is
+
+-- names that lines ask for are of the grammar, so all versions have such names
+all_give : LinesGiveNames → (requests : List Request) → Each IsAsked requests
+    → Each GivesNames requests
+all_give law [] h = tt
+all_give law (r ∷ more) h = (law h.0.0 r h.0.1, all_give law more h.1)
+
+pub runs_keep_names : LinesGiveNames → SchedulesKeepNames → (unit : Program) (shown : ℕ)
+    (lines : List tree.Line) (w : Versions) → AreNamed unit
+    → LinesRun 0 lines (started unit shown) (Done w) → AreNamed w.unit
+runs_keep_names give keep unit shown lines w are runs =
+    let r = requested_from 0 lines (started unit shown) w (Done w) runs refl in
+    keep unit shown r.requests w are (all_give give r.requests r.asked) r.ran
 
 -- ---- refused
 

@@ -15,6 +15,8 @@ use Rattle.exo_reader.specs.declared.unit.Source.{Source}
 use Rattle.exo_types.specs.UnitRules.{unit_of}
 use Rattle.text_show.specs.ProcedureText.{shown as text_shown}
 use Rattle.text_show_laws.specs.Laws.{ShownIsRead}
+use Rattle.text_show_laws.specs.Naming.{ReadUnitsAreNamed, NamedUnitsAreWritable}
+use Rattle.text_show_laws.specs.Writable.{IsWritable}
 use Rattle.memory_kinds.specs.declared.error.KindError.{KindError}
 use Rattle.memory_kinds.specs.Faults.{fault_of}
 use Rattle.c_tree.specs.CText.{text_of}
@@ -37,6 +39,7 @@ use Rattle.schedule_run.specs.Runs.{LinesRun}
 use Rattle.schedule_run.specs.Laws.{SchedulesKeep, SmallUnitsHaveRoom, AreKept}
 use Rattle.compile_stages.specs.Printings.{printing_of, is_emitted, printings_of, or_later, memory_fault}
 use Rattle.compile_stages.specs.Stages.{Stage, Passed, Stopped, Typed, IsTyped, then_do, shown, Schedule}
+use Rattle.schedule_name_laws.specs.Schedules.{LinesGiveNames, SchedulesKeepNames}
 use Rattle.compile_stages.specs.Stages.{IsScheduled, ended, IsRan, Made, made, kept, if_kept, narrow, if_narrow}
 use Rattle.compile_stages.specs.Stages.{named, if_named, text, lowered_text, printed, displayed, Leads}
 use Rattle.compile_stages.specs.Stages.{Schedules, Compiles, Displays, Checks, counted}
@@ -51,7 +54,7 @@ use Rattle.compile_stages.proofs.Running.{led, passed_then, passed_is, stopped_i
 use Rattle.compile_stages.proofs.Typing.{Formed, typed_is_formed, all_shown}
 use Rattle.compile_stages.proofs.Listing.{nothing_there, some_is, few_printings}
 use Rattle.compile_stages.proofs.Printed.{FileLaws, at_place, origin_of, comes_from, each_printed}
-use Rattle.compile_stages.proofs.Lines.{runs_leave_fields, runs_hold}
+use Rattle.compile_stages.proofs.Lines.{runs_leave_fields, runs_hold, runs_keep_names}
 
 -- the laws of lower crates on which all that is promised rests
 pub record LawsBelow : Type 0 where
@@ -222,8 +225,23 @@ compiled_is_promised laws files listings undeclared source schedule out h =
 
 -- ---- displayed
 
-module _ (laws : LawsBelow) (reads : ShownIsRead) (source schedule name out : List ℕ) (v : Versions)
+-- the laws on names on which it rests that the text of a version is read
+pub record NameLaws : Type 0 where
+  pub reads : ShownIsRead
+  pub named : ReadUnitsAreNamed
+  pub give : LinesGiveNames
+  pub keep : SchedulesKeepNames
+  pub writable : NamedUnitsAreWritable
+
+module _ (laws : LawsBelow) (names : NameLaws) (source schedule name out : List ℕ) (v : Versions)
     (k : Known laws source schedule v) where
+  writable : (j : ℕ) (q : Procedure) → version_at v j ≡ Some q → IsWritable v.unit q
+  writable j q there =
+      let text = unit_of k.formed.items in
+      names.writable v.unit j q k.kept.derived.formed
+      (runs_keep_names names.give names.keep text k.made.count k.made.lines v
+      (names.named source k.formed.items k.formed.spelled) k.made.ran) there
+
   none_held : (j : ℕ) → version_of v name ≡ Some j → version_at v j ≡ None → ⊥
   none_held j held there =
       let low = runs_hold laws.hold (unit_of k.formed.items) k.made.count k.made.lines v name j k.made.ran held in
@@ -253,15 +271,15 @@ module _ (laws : LawsBelow) (reads : ShownIsRead) (source schedule name out : Li
             held = held;
             comes = comes_from text v k.kept j q there;
             is_text = is;
-            reads = λ writable within result read.
-                reads v.unit j q there writable within result
+            reads = λ within result read.
+                names.reads v.unit j q there (writable j q there) within result
                 (subst (λ t. ReadsUnit t result) is read);
           }
 
-pub displayed_is_promised : LawsBelow → ShownIsRead → DisplayedIsPromised
-displayed_is_promised laws reads source schedule name out h =
+pub displayed_is_promised : LawsBelow → NameLaws → DisplayedIsPromised
+displayed_is_promised laws names source schedule name out h =
     let a = led (Schedules source schedule) _ out h in
-    number_known laws reads source schedule name out a.0 (known laws source schedule a.0 a.1)
+    number_known laws names source schedule name out a.0 (known laws source schedule a.0 a.1)
     (version_of a.0 name) refl a.2
 
 -- ---- checked

@@ -9,14 +9,13 @@ use Rattle.exo_types.specs.UnitRules.{unit_of}
 use Rattle.text_show.specs.ProcedureText.{shown}
 use Rattle.text_show_laws.specs.Laws.{ReadsBack}
 use Rattle.text_show_laws.specs.Sizes.{IsWithinItem}
-use Rattle.text_show_laws.specs.Writable.{IsWritable}
 use Rattle.text_show_laws.specs.Written.{written}
 use Rattle.schedule_versions.specs.Versions.{Versions, version_of}
 use Rattle.compile_stages.specs.Promise.{AreMade, ComesFrom}
 
 -- The text that is written is that of the version which the name holds in the end. It comes from a
--- procedure of the text; and where it keeps the limits of the grammar and names what is there, its
--- text is read as its own source tree.
+-- procedure of the text; and where it keeps the limits of the grammar, its text is read as its own
+-- source tree.
 pub record Displayed (bytes schedule name text : List ℕ) : Type 0 where
   pub items : List Item
   pub versions : Versions
@@ -28,8 +27,7 @@ pub record Displayed (bytes schedule name text : List ℕ) : Type 0 where
   pub comes : ComesFrom (unit_of items) versions number origin version
   pub is_text : text ≡ shown versions.unit number
   pub reads :
-      IsWritable versions.unit version
-      → IsWithinItem (written versions.unit version)
+      IsWithinItem (written versions.unit version)
       → (result : Result Source ReadError)
       → ReadsUnit text result
       → ReadsBack versions.unit version result

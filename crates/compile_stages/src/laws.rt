@@ -38,6 +38,10 @@ pub fn displayed_is_promised()
     schedule_operators::laws::schedules_differ_in_nothing();
     schedule_versions::laws::runs_hold_versions();
     text_show_laws::laws::shown_is_read();
+    text_show_laws::laws::read_units_are_named();
+    text_show_laws::laws::named_units_are_writable();
+    schedule_name_laws::laws::lines_give_names();
+    schedule_name_laws::laws::schedules_keep_names();
 }
 
 /// What a check counts is shown, and nothing of the unit faults.

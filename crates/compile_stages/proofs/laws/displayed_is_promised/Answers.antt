@@ -10,4 +10,11 @@ returns c =
       room = c.small_units_have_room.ensures;
       bare = c.schedules_differ_in_nothing.ensures;
       hold = c.runs_hold_versions.ensures;
-    }) c.shown_is_read.ensures
+    })
+    (record {
+      reads = c.shown_is_read.ensures;
+      named = c.read_units_are_named.ensures;
+      give = c.lines_give_names.ensures;
+      keep = c.schedules_keep_names.ensures;
+      writable = c.named_units_are_writable.ensures;
+    })
