@@ -13,7 +13,7 @@ use Rattle.cursor_forward.specs.Causes.{Cause, ConfigWrite}
 use Rattle.cursor_forward.specs.Shifts.{Shift, at_index, range}
 use Rattle.effect_laws.specs.Fits.{neighbours_conflict}
 use Rattle.order_laws.specs.Reorder.{pair}
-use Rattle.step_rules.specs.Rule.{Tried, Got, Target, Piece, Spot, Need, Apart, Rule, plain_rule}
+use Rattle.step_rules.specs.Rule.{Tried, Target, Piece, Spot, Need, Apart, Rule, plain_rule}
 use Rattle.step_rules.specs.Shapes.{tried}
 use Rattle.statement_laws.specs.Fields.{some_field}
 
@@ -79,6 +79,6 @@ abbrev pub reorder_rule : Rule
 reorder_rule = record (plain_rule with_next
     (λ s base. tried (neighbours_of s.opened.piece) (λ n. pair n.second n.first))
     (λ s. exchanged)) {
-  refusal = λ s. reorder_refusal s (neighbours_of s.opened.piece);
-  needs = λ s. reorder_needs s.piece.path (neighbours_of s.opened.piece);
-}
+      refusal = λ s. reorder_refusal s (neighbours_of s.opened.piece);
+      needs = λ s. reorder_needs s.piece.path (neighbours_of s.opened.piece);
+    }
