@@ -1,17 +1,17 @@
 -- Blocks with names of the grammar, in parts and with other binders.
-use Rattle.std.proofs.Common.{◌≡◌, ◌==◌, ℕ, zero, suc, nat_lt, Bool, true, false, ◌&&◌, ◌||◌, List, [], ◌∷◌}
-use Rattle.std.proofs.Common.{◌++◌, length, if◌then◌else◌, subst}
+use Rattle.std.proofs.Common.{◌==◌, ℕ, nat_lt, Bool, true, false, ◌&&◌, ◌||◌, List, [], ◌∷◌}
+use Rattle.std.proofs.Common.{length, if◌then◌else◌}
 use Rattle.exo_tree.specs.Tree.{Binder, Statement, Assign, Reduce, Config, Pass, If, For, Alloc}
-use Rattle.exo_tree.specs.Tree.{View, Call, Block, end, next, joined, Procedure}
+use Rattle.exo_tree.specs.Tree.{View, Call, Block, end, next, joined}
 use Rattle.exo_tree.specs.Context.{Context, Here, After, InLoop, InThen, InElse, fill}
 use Rattle.exo_tree.specs.Mapped.{Leaves, mapped_statement, mapped_block}
 use Rattle.text_show_laws.specs.Names.{IsName, Each}
 use Rattle.text_show_laws.specs.Named.{IsNamedStatement, IsNamedBlock}
 use Rattle.text_show_laws.proofs.Each.{each_more}
 use Rattle.made_trees.specs.Passes.{or_pass, is_alone}
-use Rattle.made_trees.specs.Names.{Naming, numbered, free_name, first_free, name_given, with_binder}
+use Rattle.made_trees.specs.Names.{Naming, free_name, first_free, name_given, with_binder}
 use Rattle.made_trees.specs.Names.{top_names, name_statement, name_statements, closed, named_by}
-use Rattle.made_trees.specs.Names.{with_names, first_naming, named_copies, is_in}
+use Rattle.made_trees.specs.Names.{with_names, first_naming, is_in}
 use Rattle.schedule_name_laws.specs.Rules.{CopiesAreNamed}
 use Rattle.schedule_name_laws.proofs.Numbered.{numbered_is_name}
 
@@ -61,7 +61,7 @@ or_pass_named c end h = by (is_alone c)
 -- ---- other binders
 
 -- binders with names of the grammar get such names
-pub KeepsNames : Leaves → Type 0
+abbrev pub KeepsNames : Leaves → Type 0
 KeepsNames leaves = (x : Binder) → IsName x.name → IsName (leaves.binder x).name
 
 module _ (leaves : Leaves) (keeps : KeepsNames leaves) where

@@ -1,12 +1,12 @@
 -- The names of the closed schedule.
-use Rattle.std.proofs.Common.{◌≡◌, refl, codes}
-use Rattle.std.proofs.lemmas.Fmt.{decimal_digit}
+use Rattle.std.proofs.Common.{◌≡◌, None, refl, codes}
+use Rattle.text_lexer.specs.Piece.{word_of}
 use Rattle.text_show_laws.specs.Names.{IsName}
 use Rattle.text_show_laws.specs.Named.{AreNamed}
-use Rattle.made_trees.specs.Names.{numbered}
 use Rattle.schedule_operators.specs.Instance.{unit, schedule, result, ScheduleInstance}
 use Rattle.schedule_name_laws.specs.Instance.{NamesInstance}
 use Rattle.schedule_name_laws.specs.Schedules.{SchedulesKeepNames}
+use Rattle.schedule_name_laws.proofs.Numbered.{numbered_named}
 
 named_f : IsName (codes "f")
 named_f = record { begins = refl; bytes = (refl, tt); some = refl; free = refl }
@@ -33,7 +33,7 @@ named_unit = record {
 no_word : IsName (codes "for") → ⊥
 no_word is = absurd (none is.free)
   where
-    none : _ → ⊥
+    none : word_of (codes "for") ≡ None → ⊥
     none e = cc
 
 pub names_instance : SchedulesKeepNames → ScheduleInstance → NamesInstance
@@ -42,10 +42,5 @@ names_instance keep one = record {
   asked = (tt, (tt, (tt, (named_g, (tt, tt)))));
   versions = keep unit 0 schedule result named_unit (tt, (tt, (tt, (named_g, (tt, tt))))) one.runs;
   word = no_word;
-  numbered_word = record {
-    begins = refl;
-    bytes = (refl, (refl, (refl, (refl, (refl, tt)))));
-    some = refl;
-    free = refl;
-  };
+  numbered_word = numbered_named (codes "for") 1 refl (refl, (refl, (refl, tt)));
 }

@@ -1,11 +1,13 @@
 -- A name with a number behind it is a name.
-use Rattle.std.proofs.Common.{◌≡◌, ℕ, zero, suc, ◌<◌, ◌+◌, ◌/◌, ◌%◌, ◌==◌, Bool, true, false, ◌&&◌}
-use Rattle.std.proofs.Common.{List, [], ◌∷◌, ◌++◌, Option, Some, None, refl, sym, ap, ◌∙◌, arith, nat_tests}
+use Rattle.std.proofs.Common.{◌≡◌, ℕ, zero, suc, ◌<◌, ◌/◌, ◌%◌, ◌==◌, Bool, true, false}
+use Rattle.std.proofs.Common.{List, [], ◌∷◌, ◌++◌, Option, Some, None, refl, sym, ap, ◌∙◌, arith}
+use Rattle.std.proofs.Common.{append_assoc, subst}
+use Rattle.std.proofs.lemmas.Bool.Decides.{nat_tests}
 use Rattle.std.proofs.Common.{if◌then◌else◌, codes, decimal}
 use Rattle.std.proofs.lemmas.Slice.Eq.{bytes_eq-Decides}
 use Rattle.std.specs.Str.{bytes_eq}
 use Rattle.std.specs.Fmt.{digits, digits_onto, digit_glyph}
-use Rattle.text_lexer.specs.Bytes.{begins_name, goes_on_name}
+use Rattle.text_lexer.specs.Bytes.{goes_on_name}
 use Rattle.text_lexer.specs.Piece.{word_of}
 use Rattle.text_lexer.specs.declared.token.Word.{Word}
 use Rattle.text_lexer.specs.declared.token.Word.TheVariants as w
@@ -38,13 +40,13 @@ digits_named (suc k) n acc h =
     by true one other = one
     by false one other = other
 
+decimal_named : (n : ℕ) → AreNameBytes (decimal n)
 unfolding digits
-  decimal_named : (n : ℕ) → AreNameBytes (decimal n)
-  decimal_named n = digits_named 64 n [] tt
+decimal_named n = digits_named 64 n [] tt
 
 -- ---- no word has a `_`
 
-has_no_bar : List ℕ → Bool
+abbrev has_no_bar : List ℕ → Bool
 has_no_bar [] = true
 has_no_bar (b ∷ more) = if b == 95 then false else has_no_bar more
 
@@ -113,10 +115,15 @@ no_other (b ∷ x) more h = by (bytes_eq (b ∷ x ++ 95 ∷ more) (codes "_")) r
     by true e = absurd (longer x ((bytes_eq-Decides (b ∷ x ++ 95 ∷ more) (codes "_")).0 e))
     by false e = refl
 
+-- whatever begins as a name, a word too
+pub numbered_named : (x : List ℕ) (k : ℕ) → BeginsName x → AreNameBytes x → IsName (numbered x k)
+numbered_named x k first all =
+    subst IsName (sym (append_assoc x (95 ∷ []) (decimal k))) (record {
+      begins = begins x (95 ∷ decimal k) first;
+      bytes = more_bytes x (95 ∷ decimal k) all (refl, decimal_named k);
+      some = no_other x (decimal k) first;
+      free = no_word x (decimal k);
+    })
+
 pub numbered_is_name : (x : List ℕ) (k : ℕ) → IsName x → IsName (numbered x k)
-numbered_is_name x k is = record {
-  begins = begins x (95 ∷ decimal k) is.begins;
-  bytes = more_bytes x (95 ∷ decimal k) is.bytes (refl, decimal_named k);
-  some = no_other x (decimal k) is.begins;
-  free = no_word x (decimal k);
-}
+numbered_is_name x k is = numbered_named x k is.begins is.bytes

@@ -1,17 +1,15 @@
 -- What a rule proposes has the names that it gives and those that were there.
 use Rattle.std.proofs.Common.{◌+◌, sym, subst}
-use Rattle.exo_tree.specs.Tree.{Block, Procedure}
 use Rattle.exo_tree.specs.Context.{fill}
-use Rattle.exo_tree.specs.Places.{Path}
 use Rattle.exo_tree.proofs.Heights.{opened_whole}
-use Rattle.text_show_laws.specs.Named.{IsNamedBlock, IsNamedProcedure, AreNamed}
+use Rattle.text_show_laws.specs.Named.{IsNamedBlock, IsNamedProcedure}
 use Rattle.made_trees.specs.Ids.{next_id}
 use Rattle.made_trees.specs.Passes.{or_pass}
 use Rattle.cursor_forward.specs.Proposals.{Plan}
-use Rattle.step_rules.specs.Rule.{Target, Simplified, Rule}
+use Rattle.step_rules.specs.Rule.{Simplified}
 use Rattle.step_rules.specs.Answer.{body_with, spot}
-use Rattle.step_rules.proofs.Proposals.{IsProposal, proposal_of}
-use Rattle.schedule_name_laws.specs.Rules.{CopiesAreNamed, IsNaming, ProposalsAreNamed}
+use Rattle.step_rules.proofs.Proposals.{proposal_of}
+use Rattle.schedule_name_laws.specs.Rules.{ProposalsAreNamed}
 use Rattle.schedule_name_laws.proofs.Blocks.{in_hole, filled_named, or_pass_named, copies_are_named}
 
 pub proposals_are_named : ProposalsAreNamed

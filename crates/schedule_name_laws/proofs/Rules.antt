@@ -1,8 +1,8 @@
 -- Each rule gives names that were there, and those that are asked.
-use Rattle.std.proofs.Common.{◌≡◌, ℕ, ℤ, Bool, true, false, if◌then◌else◌, List, [], ◌∷◌, map}
-use Rattle.std.proofs.Common.{Option, Some, None, option_map, option_and_then, subst, sym, length}
+use Rattle.std.proofs.Common.{◌≡◌, ◌+◌, ℕ, ℤ, Bool, true, false, if◌then◌else◌, List, [], ◌∷◌}
+use Rattle.std.proofs.Common.{Option, Some, None, option_map, option_and_then, subst, length}
 use Rattle.exo_tree.specs.Tree.{Control, Condition, Datum, Statement, Assign, Reduce, Config, Pass}
-use Rattle.exo_tree.specs.Tree.{If, For, Alloc, View, Call, Block, end, next, joined}
+use Rattle.exo_tree.specs.Tree.{If, For, Alloc, View, Call, Block, end, next}
 use Rattle.exo_tree.specs.Renaming.{renaming, fresh, fresh_id, binders}
 use Rattle.exo_tree.specs.Substitution.{replacing, in_block}
 use Rattle.text_show_laws.specs.Names.{IsName, Each}
@@ -12,7 +12,7 @@ use Rattle.scope_laws.specs.Scopes.{joined_all}
 use Rattle.order_laws.specs.TurnsOfTwo.{Loop}
 use Rattle.simplify_laws.specs.Simplified.{literal}
 use Rattle.cursor_patterns.specs.Patterns.{ExprPattern}
-use Rattle.cursor_forward.specs.Shifts.{Shift}
+use Rattle.cursor_forward.specs.Shifts.{Shift, stays}
 use Rattle.step_rules.specs.Rule.{Got}
 use Rattle.step_rules.specs.Shapes.{alone_in}
 use Rattle.step_rules.proofs.Proposals.{then_got}
@@ -27,7 +27,7 @@ use Rattle.loop_laws.specs.DivideLoop.{Tail, Guard, Cut, CutAndGuard, Perfect, D
 use Rattle.loop_laws.specs.DivideLoop.{body_in_group, turns_behind, tail_turns, divided_with, divided}
 use Rattle.loop_laws.specs.DivideLoop.{divide_shifts, divide_rule}
 use Rattle.loop_laws.specs.MultLoops.{Pair, loop_from_zero, with_count, positive_literal, pair_of}
-use Rattle.loop_laws.specs.MultLoops.{body_at, multiplied, mult_rule}
+use Rattle.loop_laws.specs.MultLoops.{multiplied, mult_rule}
 use Rattle.loop_laws.specs.ShiftLoop.{shifted, shift_rule}
 use Rattle.loop_laws.specs.Specialize.{specialize_rule}
 use Rattle.loop_laws.specs.UnrollLoop.{with_affine_bounds, turns_of, Unrolling, unrolling}
@@ -118,9 +118,10 @@ replaced_named i e b h = mapped_named (replacing i e) (λ x k. k) b h
 fresh_named : (n : ℕ) (b : Block) → IsNamedBlock b → IsNamedBlock (fresh n b)
 fresh_named n b h = mapped_named (renaming (fresh_id (binders b) n)) (λ x k. k) b h
 
-copies_named : (n : ℕ) (bs : List Block) → Each IsNamedBlock bs → Each IsNamedBlock (copies_from n bs)
-copies_named n [] h = tt
-copies_named n (b ∷ bs) h = (fresh_named n b h.0, copies_named _ bs h.1)
+copies_named : (bs : List Block) (n : ℕ) → Each IsNamedBlock bs → Each IsNamedBlock (copies_from n bs)
+copies_named [] n h = tt
+copies_named (b ∷ bs) n h =
+    (fresh_named n b h.0, copies_named bs (n + length (binders b)) h.1)
 
 all_joined_named : (bs : List Block) → Each IsNamedBlock bs → IsNamedBlock (joined_all bs)
 all_joined_named [] h = tt
@@ -150,7 +151,7 @@ module _ (read : Block → Option Loop) (make : Loop → ℕ → Block) (shifts 
 
 cut_names : (e : Control) → IsNaming (cut_rule e)
 cut_names e =
-    let is = loop_names loop_of (cut e) _ loop_named (λ l base h. (
+    let is = loop_names loop_of (cut e) (λ l. stays 1) loop_named (λ l base h. (
       (h.name, h.body),
       fresh_named base (next (For l.binder e l.hi l.body) end) ((h.name, h.body), tt),
     )) in
@@ -158,7 +159,7 @@ cut_names e =
 
 shift_names : (e : Control) → IsNaming (shift_rule e)
 shift_names e =
-    let is = loop_names loop_of (shifted e) _ loop_named (λ l base h.
+    let is = loop_names loop_of (shifted e) (λ l. stays 1) loop_named (λ l base h.
     ((h.name, replaced_named l.binder.id _ l.body h.body), tt)) in
     record { name = is.name; draft = is.draft }
 
@@ -216,8 +217,8 @@ turns_named : (l : Loop) (ns : List ℤ) (base : ℕ) → IsNamedLoop l
     → IsNamedBlock (turns_written l ns base)
 turns_named l [] base h = (tt, tt)
 turns_named l (n ∷ ns) base h =
-    all_joined_named _
-    (copies_named base (bodies_with literal l (n ∷ ns)) (bodies_named l (n ∷ ns) h))
+    all_joined_named (copies_from base (bodies_with literal l (n ∷ ns)))
+    (copies_named (bodies_with literal l (n ∷ ns)) base (bodies_named l (n ∷ ns) h))
 
 unroll_names : IsNaming unroll_rule
 unroll_names = record {

@@ -3,7 +3,6 @@ use Rattle.std.proofs.Common.{◌≡◌, ◌+◌, ℕ, Bool, true, false, List, 
 use Rattle.std.proofs.Common.{Option, Some, None, refl, subst, if◌then◌else◌}
 use Rattle.exo_tree.specs.Tree.{Procedure}
 use Rattle.exo_meaning.specs.Orders.{Each}
-use Rattle.text_show_laws.specs.Names as names
 use Rattle.text_show_laws.specs.Named.{IsNamedProcedure, AreNamed}
 use Rattle.text_show_laws.proofs.Each.{each_more, each_at}
 use Rattle.bounds_check.specs.Obligations.{Fault, list_fault}
@@ -26,14 +25,13 @@ use Rattle.schedule_versions.specs.Lines.{all_sought, ruled_step, found_step, ca
 use Rattle.schedule_versions.specs.Lines.{binding, searched, held_place, is_instruction, emitting}
 use Rattle.schedule_versions.specs.Lines.{Act, Faulty, Apply, Search, Moved, Emit, performed}
 use Rattle.schedule_versions.specs.Lines.{Outcome, Done, behind, run_from}
-use Rattle.schedule_name_laws.specs.Rules.{IsNaming}
 use Rattle.schedule_name_laws.specs.Runs.{IsNamingCall, IsNamingAct, RunsKeepNames}
 use Rattle.schedule_name_laws.proofs.Proposed.{proposals_are_named}
 
 -- ---- one line
 
 -- where a line goes on, all versions have names of the grammar
-Arrives : Progress → Type 0
+abbrev Arrives : Progress → Type 0
 Arrives progress = (w : Versions) → progress ≡ Went w → AreNamed w.unit
 
 went_same : {v w : Versions} → Went v ≡ Went w → v ≡ w

@@ -1,6 +1,7 @@
 -- The lines of a schedule ask for names of the grammar, and its operators give no others.
 use Rattle.std.proofs.Common.{◌≡◌, ℕ, Bool, true, false, if◌then◌else◌, List, [], ◌∷◌, map, take_while}
-use Rattle.std.proofs.Common.{None, sym, subst, ap, ◌∙◌, true≢false}
+use Rattle.std.proofs.Common.{refl, sym, subst, ◌∙◌, true≢false}
+use Rattle.std.proofs.lemmas.List.Sums.{take_while-cons}
 use Rattle.exo_meaning.specs.Orders.{Each}
 use Rattle.text_lexer.specs.Bytes.{goes_on_name}
 use Rattle.text_show_laws.specs.Names.{IsName, BeginsName, AreNameBytes}
@@ -15,11 +16,11 @@ use Rattle.schedule_patterns.specs.Names as pattern
 use Rattle.schedule_calls.specs.Requests.{Operation, CommuteExpr, Rename, DeletePass, Request, Apply}
 use Rattle.schedule_calls.specs.Requests.{Search, Moved, Emit}
 use Rattle.schedule_calls.specs.Readings.{AsksName, AsksOperation, commute_expr, rename, delete_pass}
-use Rattle.schedule_calls.specs.Readings.{Asks, apply, search, moved, emit}
+use Rattle.schedule_calls.specs.Readings.{apply, search, moved, emit}
 use Rattle.schedule_versions.specs.Lines.{Ruled}
 use Rattle.schedule_operators.specs.Operators.{at_statement, on_procedure, call_of, act_of}
 use Rattle.schedule_operators.specs.Operators.{SchedulesDerive}
-use Rattle.schedule_name_laws.specs.Rules.{IsNaming, RulesGiveNames}
+use Rattle.schedule_name_laws.specs.Rules.{IsNaming}
 use Rattle.schedule_name_laws.specs.Runs.{IsNamingCall, IsNamingAct}
 use Rattle.schedule_name_laws.specs.Schedules.{AsksNames, GivesNames, LinesGiveNames}
 use Rattle.schedule_name_laws.specs.Schedules.{SchedulesKeepNames, VersionsAreWritable}
@@ -33,7 +34,19 @@ begins [] h = absurd (true≢false (sym h))
 begins (b ∷ x) h = h
 
 bytes : (x : List ℕ) → take_while goes_on_name x ≡ x → AreNameBytes x
-bytes x h = grind h
+bytes [] h = tt
+bytes (b ∷ x) h =
+    let s = by (goes_on_name b) refl (sym (take_while-cons goes_on_name b x) ∙ h) in
+    (s.0, bytes x s.1)
+  where
+    same_rest : {y z : List ℕ} → b ∷ y ≡ b ∷ z → y ≡ z
+    same_rest e = cc
+
+    by : (t : Bool) → goes_on_name b ≡ t
+        → (if t then b ∷ take_while goes_on_name x else []) ≡ b ∷ x
+        → (goes_on_name b ≡ true) × (take_while goes_on_name x ≡ x)
+    by true e h = (e, same_rest h)
+    by false e h = cc
 
 is_name : (x : List ℕ) → pattern.IsName x → IsName x
 is_name x is = record {

@@ -9,7 +9,7 @@ use Rattle.exo_tree.specs.Tree.{Procedure, Program}
 use Rattle.exo_tree.specs.Places.{Path}
 use Rattle.affine_forms.specs.Affine.{Affine, HasNoIntegerPoint}
 use Rattle.affine_forms.specs.Atoms.{Atom, Terms, none, term, same_atom}
-use Rattle.affine_forms.specs.Formulas.{Constraint, AtLeastZero, IsZero}
+use Rattle.affine_forms.specs.Formulas.{Constraint, AtLeastZero, IsZero, Formula, cases_of_all}
 use Rattle.affine_systems.specs.Systems.{added_at, numbered_onto, numbered, equations_of, rows_of}
 use Rattle.affine_systems.specs.Systems.{made_of, nothing, system, failing_cases}
 use Rattle.affine_systems.specs.Outcomes.{Owed, owed}
@@ -23,12 +23,18 @@ use Rattle.check_claims.specs.Claims.{claims_of}
 use Rattle.check_facts.specs.Contexts.{context_of}
 use Rattle.bounds_check.specs.Limits.{are_within}
 use Rattle.bounds_check.specs.Obligations.{claim_formula, owed_for_all, obligations_of}
+use Rattle.exo_effects.specs.Accesses.{Access, accesses_of}
+use Rattle.exo_effects.specs.Orders.{Order, order_of}
+use Rattle.exo_effects.specs.Limits as effects
+use Rattle.exo_effects.specs.Conflicts as conflicts
+use Rattle.exo_effects.specs.Conflicts.{Fault, Listing, pair_fault, against, meeting, past_these}
+use Rattle.exo_effects.specs.Conflicts.{clashing}
 use Rattle.exo_meaning.specs.Orders.{Each}
 use Rattle.unit_check.specs.Checked.{Cause, NotShown, first_open}
 use Rattle.cursor_forward.specs.Causes.{FormFault}
-use Rattle.step_rules.specs.Rule.{Tried, Got, Target, Need, Says}
+use Rattle.step_rules.specs.Rule.{Tried, Got, Target, Need, Says, Apart}
 use Rattle.step_rules.specs.Owing.{claim_of, fact_text, owed_for, need_fault, unless_refused}
-use Rattle.step_rules.specs.Owing.{owed_behind, owed_needs}
+use Rattle.step_rules.specs.Owing.{owed_behind, owed_needs, listed}
 
 -- ---- systems that are made have a coefficient for each variable, as in unit_check/proofs/Safe
 
@@ -149,11 +155,36 @@ made_claims u p (c ∷ cs) =
 pub obligations_are_made : (u : Program) (p : Procedure) → Each IsMade (obligations_of u p)
 obligations_are_made u p = made_claims u p (claims_of u p)
 
+-- what is listed of conflicts, behind what is owed already
+module _ (ctx : List Formula) (order : Order) (place : Path) (base : ℕ) where
+  made_unless : (f : Option Fault) (within : Bool) (rest : Listing) → Each IsMade (listed rest)
+      → Each IsMade (listed (conflicts.unless_refused ctx order place base f within rest))
+  made_unless (Some fault) within rest is = tt
+  made_unless None true rest is = is
+  made_unless None false rest is = tt
+
+  made_pairs : (ps : List (Access × Access)) (os : List Owed) → Each IsMade os
+      → Each IsMade (listed (conflicts.owed_behind ctx order place base os ps))
+  made_pairs [] os is = is
+  made_pairs (p ∷ ps) os is =
+      let more = os ++ conflicts.owed_for ctx order place base p in
+      made_unless (pair_fault ctx order place base p) (effects.are_within more)
+      (conflicts.owed_behind ctx order place base more ps)
+      (made_pairs ps more
+      (each_both IsMade os (conflicts.owed_for ctx order place base p) is
+      (made_cases (against p) place (cases_of_all (meeting ctx order base p.0 p.1)))))
+
 module _ (t : Target) where
   made_need : (n : Need) → Each IsMade (owed_for t n)
   made_need (Says path fact) =
       made_cases (fact_text t fact) path
       (failing_cases (context_of t.unit t.proc path) (claim_of t path fact))
+  made_need (Apart path k) =
+      let ctx = context_of t.unit t.proc path in
+      let order = order_of k.first.loops k.second.loops k.order in
+      let xs = accesses_of t.unit t.proc k.first.path k.first.count in
+      let ys = accesses_of t.unit t.proc k.second.path k.second.count in
+      made_pairs ctx order path (past_these ctx order xs ys) (clashing xs ys) [] tt
 
   unrefused : (f : Option FormFault) (within : Bool) (rest : Tried (List Owed)) (must : List Owed)
       → unless_refused t f within rest ≡ Got must → rest ≡ Got must

@@ -1,5 +1,5 @@
 -- What follows of an answer, whatever the rule.
-use Rattle.std.proofs.Common.{◌≡◌, Result, Ok, Err, IfOk}
+use Rattle.std.proofs.Common.{Result, Ok, Err, IfOk}
 use Rattle.exo_tree.specs.Places.{Path}
 use Rattle.cursor_forward.specs.PlainProposal.{plain_proposal}
 use Rattle.cursor_forward.specs.declared.proposal.Proposal.{Proposal}

@@ -1,9 +1,9 @@
 -- What stands at a piece.
-use Rattle.std.proofs.Common.{◌≡◌, [], ◌∷◌, ℕ, zero, suc, Option, Some, None, refl, sym, ap, ◌∙◌, subst, arith, length}
+use Rattle.std.proofs.Common.{◌≡◌, [], ◌∷◌, ℕ, zero, suc, Option, Some, None, refl, sym, ap, ◌∙◌, arith, length}
 use Rattle.std.specs.Prelude.{option_map, option_and_then, IfSome}
 use Rattle.exo_tree.specs.Tree.{Statement, If, For, Block, end, next, statements}
 use Rattle.exo_tree.specs.Context.{Context, After, InLoop, InThen, InElse}
-use Rattle.exo_tree.specs.Places.{Branch, Main, Else, Step, Path, Opened, parted, past, into}
+use Rattle.exo_tree.specs.Places.{Branch, Main, Else, Path, Opened, parted, past, into}
 use Rattle.exo_tree.specs.Places.{opened_in, opened, statement_at, first_of}
 use Rattle.exo_tree.proofs.Openings.{around_by, with_rest}
 use Rattle.step_rules.specs.Shapes.{alone_in}

@@ -8,7 +8,6 @@ use Rattle.tree_rules.specs.Classes.{both}
 use Rattle.tree_rules.specs.Findings.{findings_of_body, findings_of_version}
 use Rattle.made_trees.specs.Ids.{next_id}
 use Rattle.made_trees.specs.Names.{named_copies}
-use Rattle.cursor_forward.specs.Causes.{Cause}
 use Rattle.cursor_forward.specs.Shifts.{Edits, edits_of}
 use Rattle.cursor_forward.specs.Proposals.{Plan}
 use Rattle.step_rules.specs.Rule.{Tried, Got, Spot, Simplified, Rule}

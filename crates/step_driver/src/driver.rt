@@ -196,12 +196,7 @@ fn settle<O: Operator>(
 }
 
 /// Refuses where the result breaks a rule, uses what is not in scope, binds a name again, or passes a limit.
-fn version_kept(
-    alloc: Global,
-    on: &Target<'_>,
-    base: u32,
-    proc: &Proc,
-) -> Result<(), StepError>
+fn version_kept(alloc: Global, on: &Target<'_>, base: u32, proc: &Proc) -> Result<(), StepError>
     requires modes { table_says on.now.modes.now ≡ modes_of (program on.now.unit.now) }
     ensures { Refuses (broken (findings.findings_of_version (program on.now.unit.now) base (procedure proc.now))) result }
 {

@@ -1,5 +1,5 @@
 -- What one need owes, and why it is refused.
-use Rattle.std.proofs.Common.{◌≡◌, ℕ, nat_le, Bool, true, false, ◌&&◌, if◌then◌else◌, List, ◌∷◌, [], ◌++◌, map, length}
+use Rattle.std.proofs.Common.{◌≡◌, nat_le, Bool, true, false, ◌&&◌, if◌then◌else◌, List, ◌∷◌, ◌++◌, map, length}
 use Rattle.std.proofs.Common.{Option, Some, None, Result, Ok, Err, refl, sym, ap, ap₂, ◌∙◌, subst}
 use Rattle.std.specs.Prelude.{option_map}
 use Rattle.std.specs.List.{list_all}
@@ -30,7 +30,7 @@ use Rattle.cursor_forward.specs.Causes.{Cause, FormFault, WideNumber, TooManyCas
 use Rattle.cursor_forward.specs.PlainProposal.{fault_of, cause_of}
 use Rattle.cursor_forward.specs.declared.proposal.StepError.{StepError}
 use Rattle.cursor_forward.specs.declared.proposal.StepError.TheVariants.{Memory}
-use Rattle.step_rules.specs.Rule.{Tried, Got, Not, Target, Need, Says}
+use Rattle.step_rules.specs.Rule.{Tried, Not, Target, Need, Says}
 use Rattle.step_rules.specs.Owing.{condition_of, known_for, fact_text, claim_of, owed_for, stated_fault, need_fault}
 use Rattle.step_rules.specs.Owing.{unless_refused, owed_behind}
 use Rattle.step_needs.specs.Outcomes.{IsCause, RefusedBy, Tries}

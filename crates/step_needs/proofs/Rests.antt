@@ -1,5 +1,5 @@
 -- The first item of a slice, and the rest.
-use Rattle.std.proofs.Common.{◌≡◌, ℕ, ◌-◌, ◌≤◌, List, [], ◌∷◌, take, drop, length, get_or, refl, ap, ◌∙◌, arith}
+use Rattle.std.proofs.Common.{◌≡◌, ◌-◌, ◌≤◌, List, [], ◌∷◌, take, drop, length, get_or, refl, ap, ◌∙◌, arith}
 
 taken_all : {X : Type 0} (xs : List X) → take (length xs) xs ≡ xs
 taken_all [] = refl

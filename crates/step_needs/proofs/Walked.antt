@@ -4,7 +4,7 @@ use Rattle.std.proofs.lemmas.Bool.{and_parts}
 use Rattle.std.proofs.lemmas.Bool.Decides.{nat_tests}
 use Rattle.std.specs.List.{list_all}
 use Rattle.exo_tree.specs.Tree.{Procedure, Program}
-use Rattle.exo_meaning.specs.Run.{program_world, callees}
+use Rattle.exo_meaning.specs.Run.{program_world}
 use Rattle.exo_meaning.specs.Units.{field_kind, is_short, levels, IsUnit}
 use Rattle.affine_forms.specs.Formulas.{condition_keeps_rules}
 use Rattle.affine_places.specs.Roots.{has_extents}

@@ -1,6 +1,4 @@
-use Rattle.std.proofs.Common.{◌≡◌, List, ◌∷◌, ◌-◌, take, drop, length, map, subst, sym}
-use Rattle.affine_systems.specs.Outcomes.{Owed}
-use Rattle.step_rules.specs.Rule.{Target}
+use Rattle.std.proofs.Common.{List, ◌-◌, take, drop, length, map, subst}
 use Rattle.step_needs.specs.Owing.{target_in, PutsAll}
 use Rattle.step_needs.specs.PlainNeed.{plain_need}
 use Rattle.step_needs.specs.declared.need.Need.{Need}

@@ -1,5 +1,5 @@
-use Rattle.std.proofs.Common.{◌≡◌, List, map, ap, sym, ◌∙◌, subst}
-use Rattle.affine_systems.specs.Outcomes.{Owed, plain_obligation}
+use Rattle.std.proofs.Common.{List, map, ap, sym, ◌∙◌, subst}
+use Rattle.affine_systems.specs.Outcomes.{Owed}
 use Rattle.cursor_forward.specs.PlainProposal.{cause_of}
 use Rattle.step_rules.specs.Rule.{Tried, Got}
 use Rattle.step_rules.specs.Owing.{owed_behind}

@@ -1,4 +1,4 @@
-use Rattle.std.proofs.Common.{◌≡◌, ap, ◌∙◌, sym, subst}
+use Rattle.std.proofs.Common.{◌∙◌, sym, subst}
 use Rattle.exo_tree.specs.PlainProcedure.{procedure}
 use Rattle.check_facts.specs.Contexts.{context_fits}
 use Rattle.step_rules.specs.Rule.{Need}

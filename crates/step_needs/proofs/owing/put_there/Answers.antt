@@ -1,6 +1,5 @@
-use Rattle.std.proofs.Common.{◌≡◌, Bool, List, true, false, ap, ◌∙◌, sym, subst}
+use Rattle.std.proofs.Common.{◌≡◌, List, true, false, ap, ◌∙◌, sym, subst}
 use Rattle.exo_tree.specs.Tree.{Condition, ConfigField}
-use Rattle.meaning_laws.specs.Facts as plain
 use Rattle.affine_forms.specs.declared.formula.Formula.{Formula}
 use Rattle.affine_forms.specs.Outcomes.{IsWide}
 use Rattle.affine_forms.specs.PlainFormulas.{plain_formula}
