@@ -1,6 +1,6 @@
 -- The rules that take away what is never run are lawful.
 use Rattle.std.proofs.Common.{◌≡◌, ◌≤ℤ◌, ℕ, ℤ, pos, negsuc, ◌-ℤ◌, Bool, true, false, cond}
-use Rattle.std.proofs.Common.{List, [], ◌∷◌, Option, Some, None, refl, sym, ap, ◌∙◌, subst, arith}
+use Rattle.std.proofs.Common.{List, [], Option, Some, None, refl, sym, ap, ◌∙◌, subst, arith}
 use Rattle.std.specs.Prelude.{length, option_map}
 use Rattle.std.proofs.lemmas.Int.{ints}
 use Rattle.exo_tree.specs.Tree.{Condition, Le, Statement, Assign, Reduce, Config, Pass, If, For}
@@ -18,16 +18,16 @@ use Rattle.scope_laws.proofs.Turns.{scope_of_none_law}
 use Rattle.made_trees.specs.Passes.{or_pass}
 use Rattle.cursor_forward.specs.Forwards.{Carries, are_apart}
 use Rattle.order_laws.specs.TurnsOfTwo.{Loop}
-use Rattle.step_rules.specs.Rule.{Got, Piece, Spot}
+use Rattle.step_rules.specs.Rule.{Piece, Spot}
 use Rattle.step_rules.specs.Lawful.{IsMet, IsSpot, Site, IsSite, Replaces, same, IsLawful}
-use Rattle.step_rules.specs.Lawful.{IsCarrying, AtHole, around, old, world_of, fields_at_exit}
-use Rattle.step_rules.specs.Shapes.{alone_in, one_statement}
+use Rattle.step_rules.specs.Lawful.{IsCarrying, around, old, world_of, fields_at_exit}
+use Rattle.step_rules.specs.Shapes.{alone_in}
 use Rattle.step_rules.proofs.Shapes.{made_of, alone_is, or_pass_next}
 use Rattle.loop_laws.specs.Copies.{GoesTo}
 use Rattle.loop_laws.specs.Shapes.{loop_of}
 use Rattle.loop_laws.proofs.Bones.{all_parted}
 use Rattle.loop_laws.proofs.Copies.{taken_branches_may_stand, loops_of_no_turn_may_go}
-use Rattle.loop_laws.proofs.Sites.{block_of, loop_of_is, on_loop, of_found, there, found_then}
+use Rattle.loop_laws.proofs.Sites.{loop_of_is, on_loop, of_found, there, found_then}
 use Rattle.loop_laws.proofs.Turns.{le_of}
 use Rattle.statement_laws.specs.DeadCode.{Fork, fork_in, fork_of, branch_at, taken, kept_needs}
 use Rattle.statement_laws.specs.DeadCode.{or_one_pass, kept, in_branch, out_of_branch, of_fork}

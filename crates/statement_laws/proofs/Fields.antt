@@ -1,5 +1,5 @@
 -- Fields that a well-formed block writes are fields of its unit.
-use Rattle.std.proofs.Common.{◌≡◌, ◌≤◌, ◌<◌, ◌==◌, ℕ, zero, suc, ◌+◌, Bool, true, false, ◌&&◌, ◌||◌, not}
+use Rattle.std.proofs.Common.{◌≡◌, ◌≤◌, ◌<◌, ◌==◌, ℕ, zero, suc, ◌+◌, Bool, true, false, ◌&&◌, not}
 use Rattle.std.proofs.Common.{true≢false, List, [], ◌∷◌, ◌++◌, length, Option, Some, None, refl, sym}
 use Rattle.std.proofs.Common.{ap, ◌∙◌, subst, eqb-true, arith}
 use Rattle.std.specs.Prelude.{if◌then◌else◌, slice_get}
@@ -15,7 +15,7 @@ use Rattle.meaning_laws.specs.Fields.{writes_field, step_writes_field}
 use Rattle.meaning_laws.specs.UnitFields.{written_at, written_by, all_written, unit_writes}
 use Rattle.meaning_laws.proofs.Scoped.{or_elim}
 use Rattle.meaning_laws.proofs.Substitute.{and_parts}
-use Rattle.config_state.specs.FieldSets.{fields_from, fields_where}
+use Rattle.config_state.specs.FieldSets.{fields_from}
 use Rattle.statement_laws.specs.Fields.{some_listed, some_field}
 
 -- ---- a test that no field passes

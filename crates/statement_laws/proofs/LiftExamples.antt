@@ -1,5 +1,5 @@
 -- `lift_scope` on closed procedures.
-use Rattle.std.proofs.Common.{◌≡◌, ℕ, pos, List, [], ◌∷◌, Option, Some, None, refl}
+use Rattle.std.proofs.Common.{◌≡◌, ℕ, pos, List, [], ◌∷◌, Some, refl}
 use Rattle.std.specs.Prelude.{codes}
 use Rattle.std.specs.Int.{int_wrap}
 use Rattle.std.proofs.Math.Nat.{not-suc-le-zero}
@@ -12,7 +12,7 @@ use Rattle.exo_meaning.specs.Inputs.{Refines}
 use Rattle.cursor_forward.specs.Causes.{WrongShape, ConfigWrite}
 use Rattle.cursor_forward.specs.Forwards.{Forwards}
 use Rattle.cursor_forward.specs.Proposals.{Plan}
-use Rattle.cursor_forward.specs.Shifts.{Shift, at_index, alone, range, move_of}
+use Rattle.cursor_forward.specs.Shifts.{Shift, at_index, range, move_of}
 use Rattle.step_rules.specs.Answer.{proposed}
 use Rattle.step_rules.specs.Lawful.{IsTarget}
 use Rattle.step_rules.specs.Laws.{MeaningLaw, ForwardsLaw}

@@ -1,21 +1,19 @@
 -- The rule by which a condition or a loop goes outside of what stands round it is lawful.
-use Rattle.std.proofs.Common.{◌≡◌, ◌<◌, ℕ, ◌==◌, Bool, true, false, ◌&&◌, ◌||◌, not, true≢false, List, []}
-use Rattle.std.proofs.Common.{◌∷◌, length, Option, Some, None, refl, sym, ap, ap₂, ◌∙◌, subst}
+use Rattle.std.proofs.Common.{◌≡◌, ◌<◌, ℕ, ◌==◌, Bool, true, false, ◌&&◌, ◌||◌, not, true≢false, List}
+use Rattle.std.proofs.Common.{length, Option, Some, None, refl, sym, ap, ◌∙◌, subst}
 use Rattle.std.specs.Prelude.{⊤, if◌then◌else◌, option_map}
-use Rattle.exo_tree.specs.Tree.{Index, Binder, Control, Condition, Statement, Assign, Reduce, Config}
+use Rattle.exo_tree.specs.Tree.{Index, Condition, Statement, Assign, Reduce, Config}
 use Rattle.exo_tree.specs.Tree.{Pass, If, For, Alloc, View, Call, Block, end, next, statements}
 use Rattle.exo_tree.specs.Context.{Context, Here, InLoop, InThen, InElse, fill}
 use Rattle.exo_tree.specs.Mapped.{mapped_block}
-use Rattle.exo_tree.specs.Places.{Main, Else, Opened, parted, opened}
+use Rattle.exo_tree.specs.Places.{Opened, parted, opened}
 use Rattle.exo_tree.specs.Renaming.{fresh, renaming, fresh_id}
 use Rattle.exo_tree.specs.Renaming as code
-use Rattle.exo_meaning.specs.State.{State}
 use Rattle.exo_meaning.specs.Run.{run, kinds_of}
-use Rattle.exo_meaning.specs.Units.{Scope, ControlName, with_name, with_fields, plainly, is_new, is_empty}
-use Rattle.exo_meaning.specs.Units.{is_short, is_condition, is_block, is_statement, is_control}
+use Rattle.exo_meaning.specs.Units.{Scope, ControlName, with_name, with_fields, is_new, is_empty}
+use Rattle.exo_meaning.specs.Units.{is_short, is_condition, is_block, is_statement}
 use Rattle.exo_meaning.specs.Units.{field_kind}
 use Rattle.exo_meaning.specs.Unseen.{in_condition}
-use Rattle.exo_meaning.proofs.Frame.{or_parts}
 use Rattle.meaning_laws.specs.Fields.{writes_field}
 use Rattle.meaning_laws.specs.Live.{read_by_condition}
 use Rattle.meaning_laws.specs.UnitFields.{unit_writes}
@@ -35,16 +33,14 @@ use Rattle.step_rules.specs.Lawful.{IsSpot, Site, IsSite, Replaces, same, whole,
 use Rattle.step_rules.specs.Lawful.{around, old, world_of, callees_for, scope_here, fields_at_exit}
 use Rattle.step_rules.specs.Shapes.{alone_in}
 use Rattle.step_rules.proofs.Shapes.{made_of, alone_is, or_pass_next}
-use Rattle.loop_laws.specs.Shapes.{inside}
 use Rattle.loop_laws.proofs.Bones.{all_parted, same_bones, same_length}
 use Rattle.loop_laws.proofs.Sites.{found_then, is_below, body_keeps, keeps_here}
-use Rattle.statement_laws.specs.DeadCode.{Fork, fork_in}
-use Rattle.statement_laws.specs.Fields.{some_field}
-use Rattle.statement_laws.specs.LiftScope.{Lifting, OutOfLoop, OutOfBranch, LoopOut, out_of_loop}
-use Rattle.statement_laws.specs.LiftScope.{fork_in_loop, in_only_branch, one_branch, lifting_in}
+use Rattle.statement_laws.specs.DeadCode.{Fork}
+use Rattle.statement_laws.specs.LiftScope.{Lifting, OutOfLoop, OutOfBranch, LoopOut}
+use Rattle.statement_laws.specs.LiftScope.{fork_in_loop, in_only_branch, lifting_in}
 use Rattle.statement_laws.specs.LiftScope.{lifting_of, over, over_other, lifted, writes_read}
 use Rattle.statement_laws.specs.LiftScope.{changes_condition, lift_refusal, turned_round}
-use Rattle.statement_laws.specs.LiftScope.{else_in_loop, loop_in_else, else_shifts, lift_shifts}
+use Rattle.statement_laws.specs.LiftScope.{loop_in_else, else_shifts, lift_shifts}
 use Rattle.statement_laws.specs.LiftScope.{shifts_of_lifting, lift_rule}
 use Rattle.statement_laws.proofs.Fields.{no_field, unit_below, block_below}
 use Rattle.statement_laws.proofs.Lacking.{condition_lacks}

@@ -4,7 +4,7 @@ use Rattle.std.proofs.Common.{List, [], ◌∷◌, length, Option, Some, None, r
 use Rattle.std.proofs.Common.{subst, eqb-true}
 use Rattle.std.specs.Prelude.{nat_lt, int_lt, pos, if◌then◌else◌}
 use Rattle.std.specs.List.{list_all, list_any}
-use Rattle.exo_tree.specs.Tree.{Kind, Cell, Index, Binder, Control, Lit, Var, Field, StrideOf, Neg, Add}
+use Rattle.exo_tree.specs.Tree.{Kind, Index, Binder, Control, Lit, Var, Field, StrideOf, Neg, Add}
 use Rattle.exo_tree.specs.Tree.{Sub, Mul, Div, Mod, Condition, True, False, Flag, FieldFlag, Lt, Le, Gt}
 use Rattle.exo_tree.specs.Tree.{Ge, Eq, And, Or, Datum, Const, Read, Negated, Relu, Plus, Minus, Times}
 use Rattle.exo_tree.specs.Tree.{Select, Coord, At, Span, Argument, ControlArg, ConditionArg, Whole}
@@ -13,7 +13,6 @@ use Rattle.exo_tree.specs.Tree.{Call, Block, end, next, Param, ParamKind, Contro
 use Rattle.exo_tree.specs.Tree.{WindowParam}
 use Rattle.exo_meaning.specs.Calls.{Callee}
 use Rattle.exo_meaning.specs.Run.{roots_after}
-use Rattle.exo_meaning.specs.Scene.{updated}
 use Rattle.exo_meaning.specs.Units.{Reads, Sort, ControlName, BufferName, Scope, sort_in, with_name}
 use Rattle.exo_meaning.specs.Units.{is_text, is_new, is_number, is_flag, has_rank, has_dimension}
 use Rattle.exo_meaning.specs.Units.{has_cell, is_dense, is_truth, is_of_literals, is_literal_number}

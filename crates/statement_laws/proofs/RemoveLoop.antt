@@ -1,6 +1,6 @@
 -- The rule that puts the body of a loop in its place is lawful.
-use Rattle.std.proofs.Common.{◌≡◌, ◌⊎◌, inr, ℕ, ◌==◌, Bool, true, false, ◌&&◌, ◌||◌, true≢false, List}
-use Rattle.std.proofs.Common.{[], ◌∷◌, ◌++◌, map, length, Option, Some, None, refl, sym, ap, ◌∙◌, subst}
+use Rattle.std.proofs.Common.{◌≡◌, inr, ℕ, ◌==◌, Bool, true, false, ◌&&◌, ◌||◌, true≢false, List}
+use Rattle.std.proofs.Common.{[], ◌∷◌, map, length, Option, Some, None, refl, sym, ap, ◌∙◌, subst}
 use Rattle.std.proofs.Common.{eq-eqb, eqb-true}
 use Rattle.std.specs.Prelude.{if◌then◌else◌, option_map}
 use Rattle.std.specs.List.{list_any}
@@ -9,23 +9,22 @@ use Rattle.exo_tree.specs.Context.{Context, Here, InLoop, fill}
 use Rattle.exo_tree.specs.Places.{Opened, opened}
 use Rattle.exo_meaning.specs.Binders.{binders}
 use Rattle.exo_meaning.specs.Inputs.{IsAdmissible, is_buffer_of}
-use Rattle.exo_meaning.specs.Orders.{Each}
 use Rattle.exo_meaning.specs.State.{State, scoped}
 use Rattle.exo_meaning.specs.Run.{World, run}
-use Rattle.exo_meaning.specs.Units.{bound_ids, field_kind, with_name, ControlName}
+use Rattle.exo_meaning.specs.Units.{bound_ids, field_kind}
 use Rattle.exo_meaning.specs.Unseen.{in_block as mentions}
 use Rattle.exo_meaning.proofs.Frame.{or_parts}
 use Rattle.meaning_laws.specs.Context.{ComesTo, MayReplace}
 use Rattle.meaning_laws.specs.Copies.{IsFree, HoldsAt}
 use Rattle.meaning_laws.specs.Facts.{Holds}
 use Rattle.meaning_laws.specs.Fields.{writes_field}
-use Rattle.meaning_laws.specs.Scoped.{is_param, has_binder}
+use Rattle.meaning_laws.specs.Scoped.{has_binder}
 use Rattle.meaning_laws.specs.Sound.{on_way}
-use Rattle.meaning_laws.specs.Touched.{Mode, Reading, Writing, Reducing}
+use Rattle.meaning_laws.specs.Touched.{Reading, Writing, Reducing}
 use Rattle.meaning_laws.specs.UnitFields.{unit_writes}
 use Rattle.meaning_laws.proofs.Binders.{fresh_law}
 use Rattle.meaning_laws.proofs.Facts.{or_left, or_right}
-use Rattle.meaning_laws.proofs.Numbers.{among, among_both, block_among, false_by}
+use Rattle.meaning_laws.proofs.Numbers.{among, among_both, block_among}
 use Rattle.config_state.specs.Reads.{reads_field, unit_reads}
 use Rattle.scope_laws.specs.Opened.{MayLeave}
 use Rattle.scope_laws.specs.Roots.{own_roots_at}
@@ -33,7 +32,7 @@ use Rattle.scope_laws.specs.Scopes.{HasNone, top_binders}
 use Rattle.scope_laws.proofs.MadeCopies.{true_by}
 use Rattle.scope_laws.proofs.MayLeave.{may_leave_law, top_has}
 use Rattle.scope_laws.proofs.Opened.{block_may_open, same_refines}
-use Rattle.made_trees.specs.Passes.{or_pass, pass_for, is_alone}
+use Rattle.made_trees.specs.Passes.{or_pass}
 use Rattle.check_facts_laws.specs.Laws.{ComesToPlace}
 use Rattle.cursor_forward.specs.Causes.{NotIdempotent}
 use Rattle.cursor_forward.specs.Forwards.{Carries, are_apart, bones}
@@ -42,13 +41,13 @@ use Rattle.order_laws.specs.RemoveLoop.{is_outside, IsIdempotent}
 use Rattle.order_laws.specs.TurnsOfTwo.{Loop}
 use Rattle.order_laws.proofs.RemoveLoop.{loops_are_removed_at}
 use Rattle.step_rules.specs.Rule.{Spot, Says}
-use Rattle.step_rules.specs.Lawful.{IsMet, IsSpot, Stands, Site, IsSite, Replaces, hiding, IsLawful}
+use Rattle.step_rules.specs.Lawful.{IsMet, IsSpot, Stands, Replaces, hiding, IsLawful}
 use Rattle.step_rules.specs.Lawful.{IsCarrying, around, old, world_of, callees_for, scope_here}
 use Rattle.step_rules.specs.Lawful.{fields_at_exit}
 use Rattle.step_rules.proofs.Shapes.{or_pass_next}
-use Rattle.loop_laws.specs.Shapes.{loop_of, inside}
+use Rattle.loop_laws.specs.Shapes.{loop_of}
 use Rattle.loop_laws.proofs.Bones.{all_parted}
-use Rattle.loop_laws.proofs.Sites.{block_of, loop_of_is, OnLoop, on_loop, of_found, found_then}
+use Rattle.loop_laws.proofs.Sites.{block_of, loop_of_is, on_loop, of_found, found_then}
 use Rattle.loop_laws.proofs.Sites.{is_below, own_is_free, body_keeps, keeps_here}
 use Rattle.statement_laws.specs.Fields.{some_field}
 use Rattle.statement_laws.specs.RemoveLoop.{without_variable, removable, sees_own_root}

@@ -1,11 +1,11 @@
 -- `reorder_stmts` on closed procedures.
-use Rattle.std.proofs.Common.{◌≡◌, ℕ, ℤ, pos, negsuc, List, [], ◌∷◌, Option, Some, refl, arith}
+use Rattle.std.proofs.Common.{◌≡◌, ℕ, pos, List, [], ◌∷◌, Some, refl, arith}
 use Rattle.std.specs.Prelude.{codes}
 use Rattle.std.specs.Fmt.{digits}
 use Rattle.std.specs.Int.{int_wrap}
 use Rattle.std.proofs.lemmas.Int.{ints}
 use Rattle.std.proofs.lemmas.List.Elements.{All-from_recursion}
-use Rattle.exo_tree.specs.Tree.{I32, True, FieldFlag, Control, Var, Const, Read, ConditionArg, Statement}
+use Rattle.exo_tree.specs.Tree.{I32, True, FieldFlag, Control, Const, ConditionArg, Statement}
 use Rattle.exo_tree.specs.Tree.{Assign, Reduce, Config, Pass, If, For, Alloc, Block, end, next}
 use Rattle.exo_meaning.specs.Value.{Number}
 use Rattle.exo_meaning.specs.Run.{program_world}
@@ -24,7 +24,7 @@ use Rattle.step_rules.specs.Owing.{AreShown, owed_for}
 use Rattle.step_rules.specs.Rule.{Got, Not, Apart}
 use Rattle.statement_laws.specs.ReorderStatements.{exchanged, reorder_rule}
 use Rattle.statement_laws.proofs.ReorderStatements.{reorder_is_lawful, reorder_is_carrying}
-use Rattle.statement_laws.proofs.Small.{number, binder, loop, stores, of_body, unit_of, target_of}
+use Rattle.statement_laws.proofs.Small.{number, binder, stores, of_body, unit_of, target_of}
 use Rattle.statement_laws.proofs.Small.{target_is, on_first, body_of, texts_of, planned, leaves}
 
 -- x[e] = n

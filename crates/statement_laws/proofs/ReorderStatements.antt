@@ -1,10 +1,10 @@
 -- The rule by which two neighbouring statements change places is lawful.
-use Rattle.std.proofs.Common.{◌≡◌, ◌≤◌, ℕ, ◌==◌, Bool, true, false, ◌&&◌, ◌||◌, true≢false, List}
-use Rattle.std.proofs.Common.{[], ◌∷◌, length, Option, Some, None, refl, sym, ap, ap₂, ◌∙◌, subst, arith}
+use Rattle.std.proofs.Common.{◌≡◌, ℕ, Bool, true, false, ◌&&◌, ◌||◌, true≢false, List}
+use Rattle.std.proofs.Common.{[], ◌∷◌, length, Option, Some, None, refl, sym, ap, ◌∙◌, subst, arith}
 use Rattle.std.specs.Prelude.{if◌then◌else◌, IsSome}
 use Rattle.exo_tree.specs.Tree.{Statement, Assign, Reduce, Config, Pass, If, For, Alloc, View, Call}
-use Rattle.exo_tree.specs.Tree.{Block, end, next, joined, Procedure}
-use Rattle.exo_tree.specs.Context.{Context, Here, After, InLoop, InThen, InElse, fill, rest_of}
+use Rattle.exo_tree.specs.Tree.{Block, end, next, Procedure}
+use Rattle.exo_tree.specs.Context.{Context, Here, After, InLoop, InThen, InElse, fill}
 use Rattle.exo_tree.specs.Places.{Main, Path, Opened, parted, opened, opened_in}
 use Rattle.exo_meaning.specs.Inputs.{IsAdmissible}
 use Rattle.exo_meaning.specs.Orders.{Each}
@@ -12,13 +12,13 @@ use Rattle.exo_meaning.specs.State.{State}
 use Rattle.exo_meaning.specs.Run.{run, roots_after}
 use Rattle.exo_meaning.specs.Units.{Sort, Scope, sort_in, scope_of, scope_after, field_kind}
 use Rattle.exo_meaning.specs.Units.{is_block, is_statement}
-use Rattle.exo_meaning.specs.Unseen.{in_statement, in_block as mentions}
+use Rattle.exo_meaning.specs.Unseen.{in_statement}
 use Rattle.exo_meaning.proofs.Frame.{or_parts, updated_other}
 use Rattle.meaning_laws.specs.Context.{ComesTo}
 use Rattle.meaning_laws.specs.Fields.{step_writes_field}
 use Rattle.meaning_laws.specs.Pairs.{AreClear}
 use Rattle.meaning_laws.specs.Scoped.{is_scoped, is_param}
-use Rattle.meaning_laws.specs.Sorted.{scope_at, scope_there}
+use Rattle.meaning_laws.specs.Sorted.{scope_there}
 use Rattle.meaning_laws.specs.Sound.{binds}
 use Rattle.meaning_laws.specs.Touched.{touched}
 use Rattle.meaning_laws.specs.UnitFields.{unit_writes}
@@ -38,16 +38,16 @@ use Rattle.cursor_forward.specs.Causes.{ConfigWrite}
 use Rattle.cursor_forward.specs.Forwards.{Carries}
 use Rattle.exo_effects.specs.Parts.{Parts, no_parts, with_params, passed, parts_at}
 use Rattle.exo_effects.specs.Uses.{modes_of}
-use Rattle.effect_laws.specs.Apart.{IsThere, IsApartAt, parts_there}
+use Rattle.effect_laws.specs.Apart.{IsApartAt, parts_there}
 use Rattle.effect_laws.specs.Fits.{IsBlockThere, alone_at, neighbours_conflict}
 use Rattle.effect_laws.proofs.Fits.{neighbours_fit}
 use Rattle.order_laws.specs.Reorder.{pair}
-use Rattle.order_laws.specs.Statements.{LeavesAlone, FieldsApart, MayChangePlaces}
+use Rattle.order_laws.specs.Statements.{LeavesAlone, FieldsApart}
 use Rattle.order_laws.proofs.Reorder.{orders_apart}
 use Rattle.order_laws.proofs.Statements.{statements_commute}
 use Rattle.order_laws.proofs.Unread.{unread_fields_are_dead}
 use Rattle.step_rules.specs.Rule.{Piece, Spot}
-use Rattle.step_rules.specs.Lawful.{IsMet, IsSpot, Stands, Site, IsSite, same, IsLawful, IsCarrying, around}
+use Rattle.step_rules.specs.Lawful.{IsMet, IsSpot, Site, IsSite, same, IsLawful, IsCarrying, around}
 use Rattle.step_rules.specs.Lawful.{old, world_of, callees_for, scope_here, with_body}
 use Rattle.step_rules.proofs.Shapes.{made_of, or_pass_next}
 use Rattle.loop_laws.proofs.Sites.{found_then, keeps_here}

@@ -4,13 +4,12 @@ use Rattle.std.proofs.Common.{option_map, refl, arith}
 use Rattle.std.specs.Prelude.{◌+◌, ◌^◌, nat_le, true, codes, slice_get}
 use Rattle.std.proofs.lemmas.Int.{ints}
 use Rattle.exo_tree.specs.Tree.{I32, Truth, Control, Lit, Const, Assign, For, Binder, Block, end, next}
-use Rattle.exo_tree.specs.Tree.{Param, TensorParam, Procedure, ConfigField, Program}
-use Rattle.exo_tree.specs.Places.{Path}
+use Rattle.exo_tree.specs.Tree.{Procedure, ConfigField, Program}
 use Rattle.exo_meaning.specs.Value.{Value, Undefined}
 use Rattle.exo_meaning.specs.Scene.{whole, updated}
 use Rattle.exo_meaning.specs.State.{State}
 use Rattle.exo_meaning.specs.Run.{program_world, run, tensor}
-use Rattle.exo_meaning.specs.Units.{field_kind, IsProcedure, IsUnit}
+use Rattle.exo_meaning.specs.Units.{field_kind, IsProcedure}
 use Rattle.affine_forms.specs.Affine.{dot}
 use Rattle.affine_systems.specs.Outcomes.{Owed}
 use Rattle.made_trees.specs.Ids.{next_id}

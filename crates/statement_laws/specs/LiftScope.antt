@@ -1,8 +1,8 @@
 -- The rule by which a condition or a loop that is all of what stands round it goes outside of it.
-use Rattle.std.specs.Prelude.{ℕ, ◌==◌, Bool, true, false, ◌&&◌, if◌then◌else◌, List, [], ◌∷◌}
+use Rattle.std.specs.Prelude.{ℕ, ◌==◌, Bool, false, ◌&&◌, if◌then◌else◌, List, [], ◌∷◌}
 use Rattle.std.specs.Prelude.{◌++◌, length, Option, Some, None, option_map, option_and_then}
-use Rattle.exo_tree.specs.Tree.{Binder, Control, Condition, Statement, Assign, Reduce, Config, Pass}
-use Rattle.exo_tree.specs.Tree.{If, For, Alloc, View, Call, Block, end, next, statements, Procedure}
+use Rattle.exo_tree.specs.Tree.{Condition, Statement, Assign, Reduce, Config, Pass}
+use Rattle.exo_tree.specs.Tree.{If, For, Alloc, View, Call, Block, end, next, statements}
 use Rattle.exo_tree.specs.Places.{Main, Else, Path, same_branch}
 use Rattle.exo_tree.specs.Renaming.{fresh}
 use Rattle.exo_meaning.specs.Unseen.{in_condition}
@@ -17,7 +17,7 @@ use Rattle.cursor_forward.specs.Shifts.{Shift, at_index, alone, range}
 use Rattle.order_laws.specs.TurnsOfTwo.{Loop}
 use Rattle.step_rules.specs.Rule.{Tried, Not, Target, Piece, Spot, Rule, plain_rule}
 use Rattle.step_rules.specs.Shapes.{tried, alone_in, one_statement}
-use Rattle.loop_laws.specs.Shapes.{loop_in, inside}
+use Rattle.loop_laws.specs.Shapes.{inside}
 use Rattle.statement_laws.specs.DeadCode.{Fork, fork_in, in_branch}
 use Rattle.statement_laws.specs.Fields.{some_field}
 

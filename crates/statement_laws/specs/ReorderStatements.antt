@@ -13,7 +13,7 @@ use Rattle.cursor_forward.specs.Causes.{Cause, ConfigWrite}
 use Rattle.cursor_forward.specs.Shifts.{Shift, at_index, range}
 use Rattle.effect_laws.specs.Fits.{neighbours_conflict}
 use Rattle.order_laws.specs.Reorder.{pair}
-use Rattle.step_rules.specs.Rule.{Tried, Got, Target, Piece, Spot, Need, Apart, Rule, plain_rule}
+use Rattle.step_rules.specs.Rule.{Tried, Target, Piece, Spot, Need, Apart, Rule, plain_rule}
 use Rattle.step_rules.specs.Shapes.{tried}
 use Rattle.statement_laws.specs.Fields.{some_field}
 
