@@ -57,7 +57,8 @@ needs_of_parts = refl
 -- the bounds agree by their normal forms
 pub joined_by_value :
     body_of (on_loop join_rule
-    (of_body (joined (part 1 (number 0) (Add (number 2) (number 3)) 1) (part 2 (number 5) (number 16) 1))))
+    (of_body (joined (part 1 (number 0) (Add (number 2) (number 3)) 1)
+    (part 2 (number 5) (number 16) 1))))
     ≡ Some z.body
 joined_by_value = refl
 
@@ -70,7 +71,8 @@ with_buffer id name buffer lo hi =
 
 pub joined_under_names :
     body_of (on_loop join_rule
-    (of_body (joined (with_buffer 1 (codes "i") (codes "s") (number 0) (number 5)) (with_buffer 3 (codes "j") (codes "t") (number 5) (number 16)))))
+    (of_body (joined (with_buffer 1 (codes "i") (codes "s") (number 0) (number 5))
+    (with_buffer 3 (codes "j") (codes "t") (number 5) (number 16)))))
     ≡ Some (with_buffer 1 (codes "i") (codes "s") (number 0) (number 16))
 joined_under_names = refl
 

@@ -75,7 +75,8 @@ neighbours_are : (b : Block) (n : Neighbours) → neighbours b ≡ Some n → b 
 neighbours_are end n h = cc
 neighbours_are (next a end) n h = cc
 neighbours_are (next a (next b end)) n h =
-    let k = found_then (loop_in a) (λ k. option_map (λ l. record { first = k; second = l }) (loop_in b)) n h in
+    let k = found_then (loop_in a)
+    (λ k. option_map (λ l. record { first = k; second = l }) (loop_in b)) n h in
     by (loop_in b) refl k.0 k.1 k.2
   where
     by : (o : Option Loop) → loop_in b ≡ o → (k : Loop) → loop_in a ≡ Some k
@@ -118,7 +119,8 @@ where_they_meet_is m n h =
     by true false q h = cc
     by false t q h = cc
 
-joining_found : (base : ℕ) (b : Block) (n : Neighbours) → joining base b ≡ Got n → IsJoining base b n
+joining_found : (base : ℕ) (b : Block) (n : Neighbours) → joining base b ≡ Got n
+    → IsJoining base b n
 joining_found base b n h =
     let read = option_and_then (with_one_body base) (neighbours b) in
     let t = then_got (tried read (λ m. m)) where_they_meet n h in
@@ -164,10 +166,12 @@ module _ (a : Site) (is : IsSite join_rule a) (n : Neighbours)
   body_is : p.body ≡ fill (around a.spot) both
   body_is = is.spot.body ∙ ap (fill (around a.spot)) known.is
 
-  low : (mentions (nat_le base) (block_of n.first) ≡ false) × (mentions (nat_le base) (block_of n.second) ≡ false)
+  low : (mentions (nat_le base) (block_of n.first) ≡ false)
+      × (mentions (nat_le base) (block_of n.second) ≡ false)
   low =
       let made = old_is_made p (around a.spot) both base below body_is in
-      let first = nat_le base n.first.binder.id || (uses (nat_le base) n.first.lo || (uses (nat_le base) n.first.hi || mentions (nat_le base) n.first.body)) in
+      let inner = uses (nat_le base) n.first.hi || mentions (nat_le base) n.first.body in
+      let first = nat_le base n.first.binder.id || (uses (nat_le base) n.first.lo || inner) in
       let q = or_parts first (mentions (nat_le base) (block_of n.second)) made.low in
       (ap (λ t. t || false) q.0, q.1)
 
@@ -198,28 +202,39 @@ module _ (a : Site) (is : IsSite join_rule a) (n : Neighbours)
     first_copied : (z : ℤ) → MayCopy base (one_turn z n.first) u
     first_copied z =
         turn_copied n.first z low.0
-        (λ x h. or_left ((x == n.first.binder.id) || has_binder n.first.body x) (has_binder (block_of n.second) x) h)
+        (λ x h. or_left ((x == n.first.binder.id) || has_binder n.first.body x)
+        (has_binder (block_of n.second) x) h)
 
     second_copied : (z : ℤ) → MayCopy base (one_turn z n.second) u
     second_copied z =
         turn_copied n.second z low.1
-        (λ x h. or_right ((x == n.first.binder.id) || has_binder n.first.body x) (has_binder (block_of n.second) x) h)
+        (λ x h. or_right ((x == n.first.binder.id) || has_binder n.first.body x)
+        (has_binder (block_of n.second) x) h)
 
   -- the bounds of the second
   plain : (is_plain n.second.lo ≡ true) × (is_plain n.second.hi ≡ true)
   plain =
       let t = a.spot.target in
       let fields = field_kind t.unit.fields in
+      let memories = length t.unit.memories in
       let scope = scope_here a.spot in
       let root = own_roots_at (around a.spot) in
-      let keeps = subst (λ b. is_block fields (length t.unit.memories) (callees_for t) scope root b ≡ true) known.is is.spot.well.piece in
-      let rest = (and_parts (is_statement fields (length t.unit.memories) (callees_for t) scope root (loop_statement n.first)) _ keeps).1 in
-      bounds_plain fields (length t.unit.memories) (callees_for t) scope root n.second.binder n.second.lo n.second.hi n.second.body end rest
+      let l = n.second in
+      let keeps = subst (λ b. is_block fields memories (callees_for t) scope root b ≡ true) known.is
+      is.spot.well.piece in
+      let rest =
+      (and_parts (is_statement fields memories (callees_for t) scope root (loop_statement n.first)) _
+      keeps).1 in
+      bounds_plain fields memories (callees_for t) scope root l.binder l.lo l.hi l.body end rest
 
   count_is : a.spot.piece.count ≡ 2
   count_is =
-      let o = then_got (opened_or_wrong (opened 2 is.at p.body)) (λ (o : Opened). then_try (joining base o.piece) (λ m. Got (record { path = is.at; count = 2 }))) a.spot.piece is.chosen in
-      let q = then_got (joining base o.0.piece) (λ m. Got (record { path = is.at; count = 2 })) a.spot.piece o.2 in
+      let o = then_got (opened_or_wrong (opened 2 is.at p.body))
+      (λ (o : Opened).
+      then_try (joining base o.piece) (λ m. Got (record { path = is.at; count = 2 })))
+      a.spot.piece is.chosen in
+      let q = then_got (joining base o.0.piece) (λ m. Got (record { path = is.at; count = 2 }))
+      a.spot.piece o.2 in
       sym (ap (λ (r : Piece). r.count) (same_got q.2))
 
   -- what is said of its place is so there
@@ -241,7 +256,8 @@ join_is_lawful = record {
       let t = then_got (joining_at a.spot) (λ n. Got (joined_loop n)) a.draft is.drafted in
       let n = t.0 in
       let known = joining_found (next_id a.spot.target.proc) (old a.spot) n t.1 in
-      let needs = subst (λ j. Each (IsMet a.spot.target) (listed_of (join_needs a.spot.piece.path) j)) t.1 met in
+      let needs =
+      subst (λ j. Each (IsMet a.spot.target) (listed_of (join_needs a.spot.piece.path) j)) t.1 met in
       same (λ first u good come stands.
       ap (λ b. run (world_of a.spot) b u) known.is
       ∙ join_same (world_of a.spot) (next_id a.spot.target.proc) n u
@@ -268,7 +284,8 @@ join_is_carrying = record {
       let n = t.0 in
       let known = joining_found (next_id a.spot.target.proc) (old a.spot) n t.1 in
       let long = For n.first.binder n.first.lo n.second.hi n.first.body in
-      subst (λ j. Carries (listed_of (λ m. stays 1) j) (old a.spot) (or_pass (around a.spot) a.draft)) (sym t.1)
+      subst (λ j. Carries (listed_of (λ m. stays 1) j) (old a.spot) (or_pass (around a.spot) a.draft))
+      (sym t.1)
       (subst (λ b. Carries (stays 1) b (or_pass (around a.spot) a.draft)) (sym known.is)
       (subst (λ b. Carries (stays 1) (two_loops n) (or_pass (around a.spot) b)) (same_got t.2)
       (subst (Carries (stays 1) (two_loops n)) (sym (or_pass_next (around a.spot) long end)) (

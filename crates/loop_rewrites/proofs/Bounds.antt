@@ -1,22 +1,21 @@
 -- The turns of a loop whose bounds are constants.
-use Rattle.std.proofs.Common.{◌≡◌, ◌≤◌, ◌<◌, ◌≤ℤ◌, ◌<ℤ◌, ℕ, ℤ, pos, negsuc, ◌-ℤ◌, ◌^◌, Bool, true, false}
-use Rattle.std.proofs.Common.{◌&&◌, if◌then◌else◌, List, Option, Some, None, Result, Ok, Err}
+use Rattle.std.proofs.Common.{◌≡◌, ◌≤◌, ◌≤ℤ◌, ◌<ℤ◌, ℕ, ℤ, pos, negsuc, ◌-ℤ◌, ◌^◌, Bool, true, false}
+use Rattle.std.proofs.Common.{◌&&◌, if◌then◌else◌, Option, Some, None, Result, Ok, Err}
 use Rattle.std.proofs.Common.{refl, ap, ap₂, sym, ◌∙◌, subst, arith}
 use Rattle.std.proofs.lemmas.Bool.Decides.{nat_tests}
 use Rattle.std.proofs.lemmas.Int.{ints}
-use Rattle.std.specs.Prelude.{option_map, option_and_then, nat_lt, nat_le, unsigned_abs}
+use Rattle.std.specs.Prelude.{option_map, option_and_then, nat_lt, unsigned_abs}
 use Rattle.std.specs.Result.{IsErrAnd}
-use Rattle.exo_tree.specs.Tree.{Control, Block}
+use Rattle.exo_tree.specs.Tree.{Block}
 use Rattle.exo_meaning.specs.Run.{range, count}
 use Rattle.affine_forms.specs.Atoms.{Terms, none, term, Linear}
-use Rattle.affine_forms.specs.Forms.{is_affine, is_short}
+use Rattle.affine_forms.specs.Forms.{is_short}
 use Rattle.affine_forms.specs.Outcomes.{IsWide}
 use Rattle.affine_forms.specs.TermBounds.{is_none}
 use Rattle.affine_forms.specs.declared.error.FormError.{FormError}
 use Rattle.affine_forms.specs.declared.error.FormError.TheVariants as form
-use Rattle.affine_places.specs.Roots.{variables}
 use Rattle.order_laws.specs.TurnsOfTwo.{Loop}
-use Rattle.cursor_forward.specs.Causes.{Cause, WrongShape, LimitPassed, Form, WideNumber}
+use Rattle.cursor_forward.specs.Causes.{WrongShape, LimitPassed, Form, WideNumber}
 use Rattle.cursor_forward.specs.PlainProposal.{cause_of, fault_of}
 use Rattle.cursor_forward.specs.declared.proposal.StepError.{StepError}
 use Rattle.step_rules.specs.Rule.{Tried, Got, Not}

@@ -1,6 +1,6 @@
 -- Blocks and paths that are made.
-use Rattle.std.proofs.Common.{◌≡◌, ℕ, zero, suc, List, [], ◌∷◌, ◌++◌, length, refl, ap, ◌∙◌, arith}
-use Rattle.exo_tree.specs.Tree.{Statement, Block, end, next, block, joined, statements}
+use Rattle.std.proofs.Common.{◌≡◌, ℕ, zero, suc, List, [], ◌∷◌, ◌++◌, length, refl, ap, ◌∙◌}
+use Rattle.exo_tree.specs.Tree.{Statement, Block, next, block, joined, statements}
 use Rattle.exo_tree.specs.Places.{Main, Path}
 use Rattle.loop_laws.specs.Shapes.{inside}
 

@@ -1,5 +1,5 @@
 -- Whether statements may be put under a condition, by what is found of the statements behind them.
-use Rattle.std.proofs.Common.{◌≡◌, ℕ, Bool, true, false, if◌then◌else◌, Option, Some, None, refl, ap, sym, ◌∙◌}
+use Rattle.std.proofs.Common.{◌≡◌, Bool, if◌then◌else◌, Option, Some, None, refl, ap, sym, ◌∙◌}
 use Rattle.std.specs.Prelude.{option_map}
 use Rattle.exo_tree.specs.Tree.{Block}
 use Rattle.exo_tree.specs.Context.{rest_of}

@@ -1,16 +1,16 @@
 -- What the rule tells of a loop with the numbers of its turns.
-use Rattle.std.proofs.Common.{◌≡◌, ◌≢◌, ◌<◌, ℕ, zero, suc, ℤ, negsuc, pos, ◌<ℤ◌, ◌≤ℤ◌, false, List, [], ◌∷◌, length}
-use Rattle.std.proofs.Common.{Option, Some, None, refl, ap, sym, ◌∙◌, arith, neg_ℤ}
+use Rattle.std.proofs.Common.{◌≡◌, ◌≢◌, ℕ, zero, suc, ℤ, negsuc, pos, ◌<ℤ◌, ◌≤ℤ◌, false, [], ◌∷◌, length}
+use Rattle.std.proofs.Common.{Option, Some, None, refl, ap, arith, neg_ℤ}
 use Rattle.std.proofs.lemmas.Int.{ints}
 use Rattle.std.specs.Prelude.{is_none}
-use Rattle.exo_tree.specs.Tree.{Control, Lit, Neg, Pass, Block, end, next, statements}
+use Rattle.exo_tree.specs.Tree.{Lit, Neg, Block, statements}
 use Rattle.exo_tree.specs.Places.{Opened}
 use Rattle.exo_meaning.specs.Run as run
 use Rattle.simplify_laws.specs.Simplified.{literal}
 use Rattle.cursor_forward.specs.Causes.{Cause}
 use Rattle.cursor_forward.specs.Shifts.{at_index, range}
 use Rattle.order_laws.specs.TurnsOfTwo.{Loop}
-use Rattle.step_rules.specs.Rule.{Tried, Got, Not}
+use Rattle.step_rules.specs.Rule.{Tried, Got}
 use Rattle.step_rules.specs.Answer.{then_try, opened_or_wrong}
 use Rattle.step_driver.specs.Outcomes.{RefusedBy}
 use Rattle.step_driver.specs.Spots.{or_nothing}

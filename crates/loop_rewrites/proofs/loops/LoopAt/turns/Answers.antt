@@ -1,4 +1,4 @@
-use Rattle.std.proofs.Common.{◌≡◌, subst}
+use Rattle.std.proofs.Common.{subst}
 use Rattle.std.specs.Prelude.{ℤ, List}
 use Rattle.step_rules.specs.Rule.{Tried}
 use Rattle.step_driver.specs.Outcomes.{Tries}

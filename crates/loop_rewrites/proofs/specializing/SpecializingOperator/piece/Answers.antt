@@ -1,8 +1,8 @@
 use Rattle.std.proofs.Common.{◌≡◌, Bool, Some, if◌then◌else◌, ap, sym, ◌∙◌}
-use Rattle.exo_tree.specs.Tree.{Block, block}
+use Rattle.exo_tree.specs.Tree.{block}
 use Rattle.exo_tree.specs.Places.{Path, opened}
 use Rattle.cursor_forward.specs.Causes.{WrongShape}
-use Rattle.step_rules.specs.Rule.{Piece, Tried, Got, Not}
+use Rattle.step_rules.specs.Rule.{Piece, Got, Not}
 use Rattle.step_driver.specs.PlainTarget.{target}
 use Rattle.step_driver.specs.Spots.{or_nothing}
 use Rattle.loop_rewrites.proofs.Specialized.{mentioned, piece_tried}

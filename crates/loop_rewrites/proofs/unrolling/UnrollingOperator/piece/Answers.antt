@@ -1,10 +1,7 @@
-use Rattle.std.proofs.Common.{◌≡◌, ap, sym, ◌∙◌, subst}
-use Rattle.exo_tree.specs.Tree.{block}
+use Rattle.std.proofs.Common.{◌≡◌, ap, sym, ◌∙◌}
 use Rattle.exo_tree.specs.Places.{opened}
 use Rattle.loop_laws.specs.UnrollLoop.{Unrolling, unrolling}
 use Rattle.step_rules.specs.Rule.{Tried, Got, Piece}
-use Rattle.step_rules.specs.Answer.{then_try}
-use Rattle.step_driver.specs.Outcomes.{RefusedBy}
 use Rattle.step_driver.specs.PlainTarget.{target}
 use Rattle.step_driver.specs.Spots.{spot_at}
 use Rattle.loop_rewrites.specs.PlainTurns.{plain_turns}
