@@ -53,12 +53,7 @@ impl Session {
     }
 
     /// The statement or the block that is asked for by an operator on version `k`.
-    pub(crate) fn block_at(
-        &self,
-        alloc: Global,
-        k: ProcId,
-        asked: &Asked<'_>,
-    ) -> Result<Piece, Why>
+    pub(crate) fn block_at(&self, alloc: Global, k: ProcId, asked: &Asked<'_>) -> Result<Piece, Why>
         requires { IsUnit (program self.now.unit) }
         ensures { Makes plain_piece (block_at (versions self.now) k.0 (plain_asked asked.now)) result }
     {

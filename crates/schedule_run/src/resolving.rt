@@ -81,12 +81,7 @@ fn cut(alloc: Global, on: &Target<'_>, path: &Path, e: &SourceExpr) -> Result<Pr
 }
 
 /// What a condition makes of some statements.
-fn specialized_by(
-    alloc: Global,
-    on: &Target<'_>,
-    piece: &Piece,
-    c: &Cond,
-) -> Result<Proposal, Why>
+fn specialized_by(alloc: Global, on: &Target<'_>, piece: &Piece, c: &Cond) -> Result<Proposal, Why>
     requires modes { table_says on.now.modes.now ≡ modes_of (program on.now.unit.now) }
     requires target { IsTarget (target on.now) }
     ensures { Makes plain_proposal (as_tried (answer.proposed (specialize_rule piece.now.count (condition c.now)) (target on.now) piece.now.path)) result }
