@@ -1,20 +1,87 @@
+use Rattle.std.proofs.Common.{◌∙◌, sym, ap, subst}
+use Rattle.exo_tree.specs.PlainProcedure.{procedure}
+use Rattle.text_expressions.specs.Views.{tree_of}
+use Rattle.text_expressions.specs.declared.source.SourceExpr.{SourceExpr}
+use Rattle.cursor_patterns.specs.PlainPattern.{plain_expr_pattern}
+use Rattle.cursor_forward.specs.PlainProposal.{plain_proposal}
+use Rattle.expression_laws.specs.Commute.{commute_rule}
+use Rattle.loop_laws.specs.DivideLoop.{Division, divide_rule}
+use Rattle.loop_laws.specs.UnrollLoop.{unroll_rule}
+use Rattle.schedule_calls.specs.PlainRequest.{plain_asked, plain_division, plain_operation}
+use Rattle.schedule_calls.specs.Requests.{CutLoop, Specialize}
+use Rattle.schedule_calls.specs.declared.request.Asked.{Asked}
+use Rattle.schedule_calls.specs.declared.request.Division as written
+use Rattle.schedule_calls.specs.declared.request.Operation.{Operation}
+use Rattle.schedule_operators.specs.Operators.{call_of, division_of, statement_call}
+use Rattle.schedule_run.specs.Outcomes.{Makes}
+use Rattle.schedule_run.specs.Planned.{planned}
+use Rattle.schedule_run.specs.PlainVersions.{versions}
 use Rattle.schedule_run.proofs.planning.planned.Goals as goal
-
-pub returns-in-CommuteExpr : goal.returns-in-CommuteExpr
-returns-in-CommuteExpr c =
-    let h = c.deref-in-CommuteExpr.ensures in
-    let i = c.at_statement-in-CommuteExpr.ensures in
-    let j = c.in-CommuteExpr.is in
-    ?
 
 pub returns-in-DivideLoop : goal.returns-in-DivideLoop
 returns-in-DivideLoop c =
-    let h = c.deref-in-DivideLoop.ensures in
-    let j = c.in-DivideLoop.is in
-    ?
+    let v = versions c.args.s.now in
+    let k = c.args.on.now.number.0 in
+    let p = procedure c.args.on.now.proc.now in
+    subst (λ (o : Operation). Makes plain_proposal (planned v k p (call_of (plain_operation o))) c.at_statement.result)
+    (sym c.in-DivideLoop.is)
+    (subst (λ (a : Asked). Makes plain_proposal
+    (planned v k p (statement_call (plain_asked a) (divide_rule (division_of (plain_division c.in-DivideLoop.division.value)))))
+    c.at_statement.result)
+    c.deref.ensures
+    (subst (λ (d : Division). Makes plain_proposal
+    (planned v k p (statement_call (plain_asked c.deref.result.now) (divide_rule d))) c.at_statement.result)
+    (c.dividing.ensures
+    ∙ ap (λ (d : written.Division). division_of (plain_division d)) c.deref-in-DivideLoop.ensures)
+    c.at_statement.ensures))
 
 pub returns-in-CutLoop : goal.returns-in-CutLoop
 returns-in-CutLoop c =
-    let i = c.cut_at.ensures in
-    let j = c.in-CutLoop.is in
-    ?
+    let v = versions c.args.s.now in
+    let k = c.args.on.now.number.0 in
+    let p = procedure c.args.on.now.proc.now in
+    subst (λ (o : Operation). Makes plain_proposal (planned v k p (call_of (plain_operation o))) c.cut_at.result)
+    (sym c.in-CutLoop.is)
+    (subst (λ (a : Asked). Makes plain_proposal
+    (planned v k p (call_of (CutLoop (plain_asked a) (tree_of c.in-CutLoop.e.value)))) c.cut_at.result)
+    c.deref-in-CutLoop.ensures
+    (subst (λ (e : SourceExpr). Makes plain_proposal
+    (planned v k p (call_of (CutLoop (plain_asked c.deref-in-CutLoop.result.now) (tree_of e)))) c.cut_at.result)
+    c.deref-in-CutLoop-2.ensures c.cut_at.ensures))
+
+pub returns-in-UnrollLoop : goal.returns-in-UnrollLoop
+returns-in-UnrollLoop c =
+    let v = versions c.args.s.now in
+    let k = c.args.on.now.number.0 in
+    let p = procedure c.args.on.now.proc.now in
+    subst (λ (o : Operation). Makes plain_proposal (planned v k p (call_of (plain_operation o))) c.at_statement-in-UnrollLoop.result)
+    (sym c.in-UnrollLoop.is)
+    (subst (λ (a : Asked). Makes plain_proposal
+    (planned v k p (statement_call (plain_asked a) unroll_rule)) c.at_statement-in-UnrollLoop.result)
+    c.deref-in-UnrollLoop.ensures c.at_statement-in-UnrollLoop.ensures)
+
+pub returns-in-Specialize : goal.returns-in-Specialize
+returns-in-Specialize c =
+    let v = versions c.args.s.now in
+    let k = c.args.on.now.number.0 in
+    let p = procedure c.args.on.now.proc.now in
+    subst (λ (o : Operation). Makes plain_proposal (planned v k p (call_of (plain_operation o))) c.specialize_at.result)
+    (sym c.in-Specialize.is)
+    (subst (λ (a : Asked). Makes plain_proposal
+    (planned v k p (call_of (Specialize (plain_asked a) (tree_of c.in-Specialize.c.value)))) c.specialize_at.result)
+    c.deref-in-Specialize.ensures
+    (subst (λ (e : SourceExpr). Makes plain_proposal
+    (planned v k p (call_of (Specialize (plain_asked c.deref-in-Specialize.result.now) (tree_of e)))) c.specialize_at.result)
+    c.deref-in-Specialize-2.ensures c.specialize_at.ensures))
+
+pub returns-in-CommuteExpr : goal.returns-in-CommuteExpr
+returns-in-CommuteExpr c =
+    let v = versions c.args.s.now in
+    let k = c.args.on.now.number.0 in
+    let p = procedure c.args.on.now.proc.now in
+    subst (λ (o : Operation). Makes plain_proposal (planned v k p (call_of (plain_operation o))) c.at_statement-in-CommuteExpr.result)
+    (sym c.in-CommuteExpr.is)
+    (subst (λ (a : Asked). Makes plain_proposal
+    (planned v k p (statement_call (plain_asked a) (commute_rule (plain_expr_pattern c.in-CommuteExpr.pattern))))
+    c.at_statement-in-CommuteExpr.result)
+    c.deref-in-CommuteExpr.ensures c.at_statement-in-CommuteExpr.ensures)

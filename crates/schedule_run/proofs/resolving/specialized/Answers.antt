@@ -14,4 +14,4 @@ returns c =
     subst (λ (t : Condition). Makes plain_proposal
     (as_tried (proposed (specialize_rule c.args.piece.now.count t) (target c.args.on.now) c.args.piece.now.path))
     c.specialized_by.result)
-    c.in_ok-c.ensures.1 c.specialized_by.ensures
+    (ap condition c.deref.ensures ∙ c.in_ok-c.ensures.1) c.specialized_by.ensures

@@ -3,8 +3,14 @@ use Rattle.schedule_text.specs.Views.{plain_line}
 use Rattle.schedule_calls.specs.Answers.{IsAnswer}
 use Rattle.schedule_calls.specs.PlainRequest.{plain_request}
 use Rattle.schedule_run.specs.Running.{versions_in}
+use Rattle.schedule_run.proofs.Forms.{asked_forms}
 use Rattle.schedule_run.proofs.Going.{asked_runs, unasked_runs}
 use Rattle.schedule_run.proofs.running.Running.run_line.Goals as goal
+
+pub perform-requires-clause-forms : goal.perform-requires-clause-forms
+perform-requires-clause-forms g c κs within =
+    asked_forms (plain_line c.args.line.now) (plain_request c.in-Ok.request)
+    (subst (IsAnswer (plain_line c.args.line.now)) c.in-Ok.is c.in_ok-read.ensures)
 
 pub returns-in-Ok-clause-runs : goal.returns-in-Ok-clause-runs
 returns-in-Ok-clause-runs g c =
