@@ -22,7 +22,7 @@ use Rattle.schedule_operators.specs.Operators.{at_statement, on_procedure, call_
 use Rattle.schedule_operators.specs.Operators.{SchedulesDerive}
 use Rattle.schedule_name_laws.specs.Rules.{IsNaming}
 use Rattle.schedule_name_laws.specs.Runs.{IsNamingCall, IsNamingAct}
-use Rattle.schedule_name_laws.specs.Schedules.{AsksNames, GivesNames, LinesGiveNames}
+use Rattle.schedule_name_laws.specs.Schedules.{TakesNames, GivesNames, LinesGiveNames}
 use Rattle.schedule_name_laws.specs.Schedules.{SchedulesKeepNames, VersionsAreWritable}
 use Rattle.schedule_name_laws.proofs.Rules.{rules_give_names}
 use Rattle.schedule_name_laws.proofs.Runs.{runs_keep_names}
@@ -66,7 +66,7 @@ module _ (names : pattern.NamesAreOne) where
   name_asked (tree.key k v) name h = absurd h
 
   names_asked : (operator : List ℕ) (args : List tree.Argument) (o : Operation)
-      → AsksOperation operator args o → AsksNames o
+      → AsksOperation operator args o → TakesNames o
   names_asked _ _ _ (commute_expr a b at x h k) = tt
   names_asked _ _ _ (rename a name h) = name_asked a name h
   names_asked _ _ _ delete_pass = tt
@@ -95,7 +95,7 @@ module _ (r : Rule) (is : IsNaming r) where
   of_statement (Range path count ∷ cs) made h = cc
   of_statement (Gap path side ∷ cs) made h = cc
 
-calls_give_names : (o : Operation) → AsksNames o → IsNamingCall (call_of o)
+calls_give_names : (o : Operation) → TakesNames o → IsNamingCall (call_of o)
 calls_give_names (CommuteExpr at x) asked =
     λ t cs r h. of_statement (commute_rule x) (rules_give_names.commute x) cs r h
 calls_give_names (Rename name) asked =

@@ -17,13 +17,13 @@ use Rattle.schedule_versions.specs.Laws.{HasRoom}
 use Rattle.schedule_operators.specs.Operators.{act_of}
 
 -- the names that an operator is given are of the grammar
-abbrev pub AsksNames : Operation → Type 0
-AsksNames (CommuteExpr at x) = ⊤
-AsksNames (Rename name) = IsName name
-AsksNames DeletePass = ⊤
+abbrev pub TakesNames : Operation → Type 0
+TakesNames (CommuteExpr at x) = ⊤
+TakesNames (Rename name) = IsName name
+TakesNames DeletePass = ⊤
 
 abbrev pub GivesNames : Request → Type 0
-GivesNames (Apply bind of o) = AsksNames o
+GivesNames (Apply bind of o) = TakesNames o
 GivesNames (Search bind of pattern nth moves) = ⊤
 GivesNames (Moved bind of moves) = ⊤
 GivesNames (Emit name) = ⊤
