@@ -1,10 +1,14 @@
 -- What a string of a schedule stands for at a statement is what its names stand for in the meaning.
-use Rattle.std.specs.Prelude.{◌≡◌, ℕ, Bool, if◌then◌else◌, List, map, Some, slice_get}
+use Rattle.std.specs.Prelude.{◌≡◌, ℕ, Bool, true, if◌then◌else◌, List, map, Some, None, slice_get}
 use Rattle.exo_tree.specs.Tree.{Binder, Block, end, next, ConfigField, Procedure, Program}
 use Rattle.exo_tree.specs.Places.{Path, Opened, opened}
-use Rattle.exo_meaning.specs.Units.{Scope, scope_after}
+use Rattle.exo_meaning.specs.Units.{Scope, Reads, scope_after, is_control, is_condition, field_kind}
+use Rattle.exo_meaning.specs.Units.{IsUnit}
 use Rattle.meaning_laws.specs.Sorted.{scope_there}
 use Rattle.text_expressions.specs.Expression.{Tree}
+use Rattle.rules_names.specs.ExpressionRules.{control_faults, condition_faults}
+use Rattle.rules_names.specs.Faults.{least}
+use Rattle.rules_names.specs.Laws.{fit}
 use Rattle.rules_names.specs.Names.{id_in}
 use Rattle.rules_names.specs.Resolved.{control_of, condition_of}
 use Rattle.rules_scopes.specs.PlaceScope.{scope_at}
@@ -58,3 +62,31 @@ SameConditionsAtPlace =
     → StandsAt u k path p o
     → condition_of fields (scope_at u k path after) e
     ≡ condition_of fields (scope_beside p o after) e
+
+-- ---- in a well-formed unit
+
+-- a string that breaks no rule over the names that the meaning has there is well formed there
+abbrev pub ControlsStandAtPlace : Type 0
+ControlsStandAtPlace =
+    (u : Program) (k : ℕ) (path : Path) (p : Procedure) (o : Opened) (after : Bool) (may : Reads)
+    (n : ℕ) (e : Tree)
+    → IsUnit u
+    → StandsAt u k path p o
+    → fit e ≡ true
+    → least (control_faults u.fields may (scope_beside p o after) n e) ≡ None
+    → is_control (field_kind u.fields) may (scope_beside p o after)
+    (control_of u.fields (scope_at u k path after) e)
+    ≡ true
+
+-- so is a condition
+abbrev pub ConditionsStandAtPlace : Type 0
+ConditionsStandAtPlace =
+    (u : Program) (k : ℕ) (path : Path) (p : Procedure) (o : Opened) (after : Bool) (may : Reads)
+    (n : ℕ) (e : Tree)
+    → IsUnit u
+    → StandsAt u k path p o
+    → fit e ≡ true
+    → least (condition_faults u.fields may (scope_beside p o after) n e) ≡ None
+    → is_condition (field_kind u.fields) may (scope_beside p o after)
+    (condition_of u.fields (scope_at u k path after) e)
+    ≡ true

@@ -2,6 +2,7 @@
 
 ghost use Rattle.rules_scope_laws.specs.Laws.{SameNamesAtPlace, SameIdsAtPlace};
 ghost use Rattle.rules_scope_laws.specs.Laws.{SameControlsAtPlace, SameConditionsAtPlace};
+ghost use Rattle.rules_scope_laws.specs.Laws.{ControlsStandAtPlace, ConditionsStandAtPlace};
 
 /// The names in scope at a statement, or behind it, are those of the meaning.
 pub fn names_are_those_of_the_meaning()
@@ -21,4 +22,14 @@ pub fn controls_are_those_of_the_meaning()
 /// And for the same condition.
 pub fn conditions_are_those_of_the_meaning()
     ensures { SameConditionsAtPlace }
+{}
+
+/// In a well-formed unit a string that breaks no rule over these names is well formed there.
+pub fn controls_stand_at_places()
+    ensures { ControlsStandAtPlace }
+{}
+
+/// So is a condition.
+pub fn conditions_stand_at_places()
+    ensures { ConditionsStandAtPlace }
 {}
