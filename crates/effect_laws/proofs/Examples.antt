@@ -21,19 +21,19 @@ use Rattle.exo_effects.specs.Orders.{Less}
 use Rattle.exo_effects.specs.Uses.{modes_of}
 use Rattle.effect_laws.specs.Apart.{Turns, Conflict, are_shown_apart, with_turns, IsThere, ApartIsMet}
 
-abbrev plain_cells : MemoryKind
+abbrev pub plain_cells : MemoryKind
 plain_cells = record { name = 68 ∷ []; ctype = []; lanes = 0; cell = None; stack = false; read = true; write = true; reduce = true; header = [] }
 
-abbrev unit : Program
+abbrev pub unit : Program
 unit = record { procedures = []; fields = []; memories = plain_cells ∷ [] }
 
-may_run : MayRun [] 1 [] three_named
+pub may_run : MayRun [] 1 [] three_named
 may_run = record {
   unit = tt;
   procedure = record { params = refl; asserts = refl; body = refl; filled = refl; ids = refl; distinct = refl; paths = refl; template = refl };
 }
 
-admissible : IsAdmissible (program_world unit) three_named input
+pub admissible : IsAdmissible (program_world unit) three_named input
 admissible = record {
   arguments = is_admissible.arguments;
   no_others = is_admissible.no_others;
@@ -44,11 +44,11 @@ admissible = record {
 }
 
 -- the loop
-abbrev place : Path
+abbrev pub place : Path
 place = record { branch = Main; index = 0 } ∷ []
 
 -- its body at a turn
-abbrev body : Turns
+abbrev pub body : Turns
 body = record {
   path = record { branch = Main; index = 0 } ∷ record { branch = Main; index = 0 } ∷ [];
   count = 1;
@@ -56,7 +56,7 @@ body = record {
 }
 
 -- at an earlier turn and at a later one
-abbrev turns : Conflict
+abbrev pub turns : Conflict
 turns = record { first = body; second = body; order = Less 0 ∷ [] }
 
 abbrev sum : ℤ → ℤ → ℤ → Affine
@@ -78,14 +78,14 @@ no_point (a ∷ []) h = let e = h.one_each in absurd (omega (arith, e))
 no_point (a ∷ b ∷ []) h = let e = h.equations_hold.0 in let r = h.rows_hold.1.1.1.1.0 in absurd (omega (arith, ints, e, r))
 no_point (a ∷ b ∷ c ∷ rest) h = let e = h.one_each in absurd (omega (arith, e))
 
-are_shown : are_shown_apart unit three_named place turns
+pub are_shown : are_shown_apart unit three_named place turns
 unfolding digits
 are_shown = (owed (codes "x[i] against x[i]") place same_cell ∷ [], refl, (no_point, tt))
 
-abbrev opened_body : Opened
+abbrev pub opened_body : Opened
 opened_body = record { around = InLoop (letter 1 105) (Lit (pos 0)) (Lit (pos 16)) (Here end) end; piece = store_three }
 
-is_there : IsThere unit three_named place body opened_body
+pub is_there : IsThere unit three_named place body opened_body
 is_there = record { opens = refl; loops = refl; root = λ x. x; block = refl; parts = λ x h. refl }
 
 -- turns 3 and 5

@@ -12,4 +12,5 @@ pub mod Places
 pub mod Turns
 pub mod Apart
 pub mod Examples
+pub mod FitExamples
 pub mod Fits

@@ -1,0 +1,3 @@
+pub mod SameNames
+pub mod Standing
+pub mod Instance
