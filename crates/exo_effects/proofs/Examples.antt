@@ -14,9 +14,9 @@ use Rattle.affine_systems.specs.Outcomes.{owed}
 use Rattle.exo_meaning.specs.Modes.{Reading, Writing}
 use Rattle.exo_meaning.specs.Units.{IsProcedure}
 use Rattle.exo_effects.specs.Uses.{uses_at}
-use Rattle.exo_effects.specs.PlainUses.{uses_keep_rules}
-use Rattle.exo_effects.proofs.WellFormed.{well_formed_is_ruled}
-use Rattle.exo_effects.proofs.RuledUses.{uses_are_ruled}
+use Rattle.exo_effects.specs.Low.{uses_are_low}
+use Rattle.exo_effects.proofs.LowProcedures.{well_formed_is_low}
+use Rattle.exo_effects.proofs.LowUses.{uses_stay_low}
 use Rattle.exo_effects.specs.Accesses.{At, Access, accesses_of}
 use Rattle.exo_effects.specs.Orders.{Header, Less, Greater, Order, order_of}
 use Rattle.exo_effects.specs.Conflicts.{Lists, conflicts_of}
@@ -240,7 +240,7 @@ back_to_front : conflicts_of context (order_of (loop_over 9 108 ∷ []) (loop_ov
 unfolding digits
 back_to_front = refl
 
--- ---- the first of them is well formed, so its uses keep the rules of affine expressions
+-- ---- the first of them is well formed, so its uses are affine, over variables below 2^31
 
 slanted_is_well_formed : IsProcedure (λ f. None) 1 (λ k. None) (of_body slanted)
 slanted_is_well_formed = record {
@@ -254,7 +254,7 @@ slanted_is_well_formed = record {
   template = refl;
 }
 
-slanted_uses_are_ruled : uses_keep_rules (uses_at (unit_of slanted) (of_body slanted) inside 1) ≡ true
-slanted_uses_are_ruled =
-    uses_are_ruled (unit_of slanted) (of_body slanted) inside 1
-    (well_formed_is_ruled (λ f. None) 1 (λ k. None) (of_body slanted) slanted_is_well_formed)
+slanted_uses_are_low : uses_are_low (uses_at (unit_of slanted) (of_body slanted) inside 1) ≡ true
+slanted_uses_are_low =
+    uses_stay_low (unit_of slanted) (of_body slanted) inside 1
+    (well_formed_is_low (λ f. None) 1 (λ k. None) (of_body slanted) slanted_is_well_formed)

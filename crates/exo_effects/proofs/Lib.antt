@@ -3,5 +3,5 @@ pub mod Names
 pub mod Spots
 pub mod Walks
 pub mod Arguments
-pub mod WellFormed
-pub mod RuledUses
+pub mod LowProcedures
+pub mod LowUses

@@ -14,4 +14,4 @@ pub mod PlainParts
 pub mod PlainUses
 pub mod PlainWalk
 pub mod PlainSpots
-pub mod Ruled
+pub mod Low
