@@ -1,0 +1,11 @@
+//! When two pieces of a procedure do not meet: systems that must have no integer point.
+#![tactic(auto)]
+
+mod copies;
+mod guards;
+pub mod laws;
+mod meeting;
+mod order;
+
+pub use copies::Turn;
+pub use order::{Order, OrderRow};
