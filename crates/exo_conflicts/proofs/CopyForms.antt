@@ -15,14 +15,14 @@ use Rattle.exo_effects.specs.Renamed.{re_linear, re_formula}
 use Rattle.exo_conflicts.proofs.RenamedTerms.{KeepsApart}
 use Rattle.exo_conflicts.proofs.RenamedForms.{re_normal, re_writable, re_plain_formula, re_condition_writable}
 use Rattle.exo_conflicts.proofs.RenamedTwice.{linear_alike, formula_alike}
-use Rattle.exo_conflicts.proofs.PastForms.{both_true, plain_past, plain_formula_past}
+use Rattle.exo_conflicts.proofs.PastForms.{both_true, lt_from, plain_past, plain_formula_past}
 
 -- ---- readings that agree below a number
 
 module _ (n : ℕ) (r s : ℕ → ℕ) (agree : (x : ℕ) → x < n → r x ≡ s x) where
   form_alike : (e : Control) → is_affine (numbers_below n) e ≡ true → form (reading_by r) e ≡ form (reading_by s) e
   form_alike (Lit m) h = refl
-  form_alike (Var x) h = ap (λ y. only (Variable y)) (agree x (grind (arith, nat_tests)))
+  form_alike (Var x) h = ap (λ y. only (Variable y)) (agree x (lt_from x n h))
   form_alike (Field f) h = refl
   form_alike (StrideOf x k) h = refl
   form_alike (Neg a) h = ap (scaled (negsuc 0)) (form_alike a h)
@@ -80,7 +80,7 @@ module _ (n : ℕ) (r s : ℕ → ℕ) (agree : (x : ℕ) → x < n → r x ≡ 
   formula_read_alike : (c : Condition) → is_affine_condition (names_below n) c ≡ true → formula (reading_by r) (flags_by r) c ≡ formula (reading_by s) (flags_by s) c
   formula_read_alike True h = refl
   formula_read_alike False h = refl
-  formula_read_alike (Flag x) h = ap own_flag (agree x (grind (arith, nat_tests)))
+  formula_read_alike (Flag x) h = ap own_flag (agree x (lt_from x n h))
   formula_read_alike (FieldFlag f) h = refl
   formula_read_alike (Lt a b) h = along less a b h
   formula_read_alike (Le a b) h = along at_most a b h
@@ -138,7 +138,8 @@ place_same (z ∷ zs) x y k p q = go (x == z) refl (y == z) refl (place_in zs x)
     go false a false b (Some m) i None j p q = absurd (let e : None ≡ Some k = q in cc)
     go false a false b (Some m) i (Some l) j p q =
         let e : Some (suc m) ≡ Some (suc l) = p ∙ sym q in
-        let z : m ≡ l = cc in
+        let w : suc m ≡ suc l = cc in
+        let z : m ≡ l = omega (arith, w) in
         place_same zs x y m i (j ∙ ap Some (sym z))
 
 place_less : (xs : List ℕ) (x k : ℕ) → place_in xs x ≡ Some k → k < length xs
@@ -217,3 +218,14 @@ module _ (base side : ℕ) (turns own : List ℕ) (sides : side ≤ 1) where
 
   pub copy_condition_writable : (c : Condition) → is_affine_condition (names_below base) c ≡ true → is_writable_condition (reading_by (apart base side turns own)) (λ f. true) c ≡ plain_formula_fits c
   copy_condition_writable c h = condition_writable_alike base r s agree c h ∙ re_condition_writable s kept_apart c
+
+  -- what the bounds of a loop say
+  pub copy_le : (e : Control) (x : ℕ) → is_affine_condition (names_below base) (Le e (Var x)) ≡ true → at_most (re_linear (apart base side turns own) (plain_form e)) (only (Variable (apart base side turns own x))) ≡ re_formula (apart base side turns own) (plain_formula (Le e (Var x)))
+  copy_le e x h =
+      let p = both_true (is_affine (numbers_below base) e) (is_affine (numbers_below base) (Var x)) h in
+      ap (λ l. at_most l (only (Variable (r x)))) (sym (copy_normal e p.0)) ∙ copy_formula (Le e (Var x)) h
+
+  pub copy_lt : (x : ℕ) (e : Control) → is_affine_condition (names_below base) (Lt (Var x) e) ≡ true → less (only (Variable (apart base side turns own x))) (re_linear (apart base side turns own) (plain_form e)) ≡ re_formula (apart base side turns own) (plain_formula (Lt (Var x) e))
+  copy_lt x e h =
+      let p = both_true (is_affine (numbers_below base) (Var x)) (is_affine (numbers_below base) e) h in
+      ap (less (only (Variable (r x)))) (sym (copy_normal e p.1)) ∙ copy_formula (Lt (Var x) e) h

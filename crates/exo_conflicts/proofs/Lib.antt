@@ -6,3 +6,5 @@ pub mod PastForms
 pub mod CopyForms
 pub mod MeetingNumbers
 pub mod ClaimRows
+pub mod Listings
+pub mod Places

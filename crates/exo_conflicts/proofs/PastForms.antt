@@ -17,6 +17,9 @@ use Rattle.exo_conflicts.proofs.RenamedTwice.{left_of, right_of}
 pub max_within : (a b n : ℕ) → a ≤ n → b ≤ n → max a b ≤ n
 max_within a b n h k = grind arith
 
+pub lt_from : (x n : ℕ) → nat_lt x n ≡ true → x < n
+lt_from x n h = grind (arith, nat_tests)
+
 pub both_true : (s t : Bool) → (s && t) ≡ true → (s ≡ true) × (t ≡ true)
 both_true true t h = (refl, h)
 both_true false t h = absurd (let e : false ≡ true = h in cc)
@@ -86,7 +89,7 @@ module _ (n : ℕ) where
 
   form_past : (e : Control) → is_affine (numbers_below n) e ≡ true → past_linear (form extent_reading e) ≤ n
   form_past (Lit m) h = omega arith
-  form_past (Var x) h = max_within (suc x) zero n (grind (arith, nat_tests)) (omega arith)
+  form_past (Var x) h = max_within (suc x) zero n (omega (arith, lt_from x n h)) (omega arith)
   form_past (Field f) h = omega arith
   form_past (StrideOf x k) h = omega arith
   form_past (Neg a) h = scaled_past (negsuc 0) (form extent_reading a) (form_past a h)
@@ -141,7 +144,7 @@ module _ (n : ℕ) where
   pub plain_formula_past : (c : Condition) → is_affine_condition (names_below n) c ≡ true → past_formula (plain_formula c) ≤ n
   plain_formula_past True h = omega arith
   plain_formula_past False h = omega arith
-  plain_formula_past (Flag x) h = max_within (suc x) zero n (grind (arith, nat_tests)) (omega arith)
+  plain_formula_past (Flag x) h = max_within (suc x) zero n (omega (arith, lt_from x n h)) (omega arith)
   plain_formula_past (FieldFlag f) h = omega arith
   plain_formula_past (Lt a b) h = other_past a b h
   plain_formula_past (Le a b) h = other_past a b h

@@ -2,4 +2,3 @@ pub mod Copies
 pub mod CopyLaws
 pub mod Claims
 pub mod PlainCopies
-pub mod Outcomes

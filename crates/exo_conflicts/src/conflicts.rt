@@ -1,17 +1,17 @@
 //! When two pieces of a procedure do not meet.
-ghost use Rattle.std.specs.Prelude.{◌≡◌, ◌++◌, ◌∷◌, [], ◌≤◌, ◌^◌, IfOk, IsTrue, true, length, map, string_bytes, codes, filter};
-ghost use Rattle.std.specs.List.{list_all};
-ghost use Rattle.exo_tree.specs.PlainControl.{coordinate};
-ghost use Rattle.affine_systems.specs.Outcomes.{plain_obligation};
-ghost use Rattle.exo_effects.specs.Accesses.{Access, access_of, guard_fits, use_fits};
+ghost use Rattle.std.specs.Prelude.{◌≡◌, ◌++◌, ◌∷◌, [], ◌≤◌, ◌^◌, ◌&&◌, IfOk, IsTrue, length, map, codes};
+ghost use Rattle.std.specs.List.{AllByRecursion, list_all};
+ghost use Rattle.affine_systems.specs.Outcomes.{IsAnswer, plain_obligation};
+ghost use Rattle.exo_effects.specs.Accesses.{access_of, use_fits};
+ghost use Rattle.exo_effects.specs.Cases.{cases_stated};
 ghost use Rattle.exo_effects.specs.Conflicts as plain;
-ghost use Rattle.exo_effects.specs.Conflicts.{span_number, copied_turns, meeting, may_clash, owed_behind, conflicts_of};
-ghost use Rattle.exo_effects.specs.Orders.{Order};
-ghost use Rattle.exo_effects.specs.PlainAccess.{plain_mode, plain_coord};
-ghost use Rattle.exo_effects.specs.PlainGuards.{all_facts};
+ghost use Rattle.exo_effects.specs.Conflicts.{span_number, asked, meeting, clashing, owed_behind, conflicts_of};
+ghost use Rattle.exo_effects.specs.Fresh.{past_formula, past_all};
+ghost use Rattle.exo_effects.specs.Orders as orders;
+ghost use Rattle.exo_effects.specs.PlainAccess.{plain_mode};
 ghost use Rattle.exo_effects.specs.PlainUses.{plain_use, plain_uses};
-ghost use Rattle.exo_conflicts.specs.Outcomes.{CopyMade, CopiesMade, Put, MadeAnew, copied_access, pair_of, OwesPair, OwesPairs, Conflicting, has_low_numbers};
-ghost use Rattle.exo_conflicts.specs.PlainCopies.{plain_turn, plain_copied, plain_row, plain_order, turn_is_low, turn_fits, use_is_low, fact_is_low};
+ghost use Rattle.exo_conflicts.specs.Outcomes.{Put, CopyMade, CopiesMade, seen_of, in_copy, access_is_low, IsOrder, AreTwins, Pushed, Owes, IsListed, order_is_low, OrderMade, all_fit, Conflicting};
+ghost use Rattle.exo_conflicts.specs.PlainCopies.{plain_turn, plain_order, turn_fits};
 
 use crate::copies::{CopiedTurn, Turn, Twin, copied_coords, copied_turns};
 use crate::guards::say_guards;
@@ -62,7 +62,12 @@ fn copied<'a>(
     side: u32,
     turns: &'a [Turn<'a>],
     access: &'a Access<'a>,
-) -> Result<Copied<'a>, FormError> {
+) -> Result<Copied<'a>, FormError>
+    requires side { side ≤ 1 }
+    requires few { length turns.now ≤ 2 ^ 20 }
+    requires low { IsTrue (access_is_low access.now) }
+    ensures { CopyMade result (use_fits (plain_use access.now)) (record { side = side; turns = map plain_turn turns.now; access = access_of (plain_use access.now) }) }
+{
     let twin = Twin {
         side,
         turns,
@@ -86,7 +91,12 @@ fn all_copied<'a>(
     side: u32,
     turns: &'a [Turn<'a>],
     accesses: &'a [Access<'a>],
-) -> Result<Vec<Copied<'a>>, FormError> {
+) -> Result<Vec<Copied<'a>>, FormError>
+    requires side { side ≤ 1 }
+    requires few { length turns.now ≤ 2 ^ 20 }
+    requires low { IsTrue (list_all access_is_low accesses.now) }
+    ensures { CopiesMade result (list_all use_fits (plain_uses accesses.now)) (map (λ x. record { side = side; turns = map plain_turn turns.now; access = access_of x }) (plain_uses accesses.now)) }
+{
     let mut made = Vec::new(alloc);
     for access in accesses {
         made.push(copied(alloc, side, turns, access)?)?;
@@ -95,7 +105,9 @@ fn all_copied<'a>(
 }
 
 /// Puts what is asked around an access and of its spans last.
-fn put_asked(alloc: Global, x: &Copied<'_>, into: &mut Context) -> Result<(), FormError> {
+fn put_asked(alloc: Global, x: &Copied<'_>, into: &mut Context) -> Result<(), FormError>
+    ensures { Put result (into.new ≡ into.old ++ asked (span_number (2 ^ 31) (seen_of x.now).side) (in_copy (seen_of x.now))) }
+{
     say_guards(alloc, &x.twin, x.twin.guards, into)?;
     put_spans(alloc, x.twin.side, &x.coords, into)?;
     Ok(())
@@ -108,7 +120,9 @@ fn put_meeting(
     x: &Copied<'_>,
     y: &Copied<'_>,
     into: &mut Context,
-) -> Result<(), FormError> {
+) -> Result<(), FormError>
+    ensures { (o : orders.Order) → IsOrder order.now o → AreTwins o (seen_of x.now) (seen_of y.now) → Put result (into.new ≡ into.old ++ meeting [] o (2 ^ 31) (seen_of x.now).access (seen_of y.now).access) }
+{
     put_bounds(alloc, &order.first, into)?;
     put_bounds(alloc, &order.second, into)?;
     put_rows(alloc, &order.first, &order.second, order.rows, into)?;
@@ -147,7 +161,10 @@ fn owed_for<C: Contexts>(
     place: &Path,
     x: &Copied<'_>,
     y: &Copied<'_>,
-) -> Result<Vec<Obligation>, FormError> {
+) -> Result<Vec<Obligation>, FormError>
+    ensures owed { (o : orders.Order) → IsOrder order.now o → AreTwins o (seen_of x.now) (seen_of y.now) → IsAnswer result (cases_stated (meeting (C.context contexts.old) o (2 ^ 31) (seen_of x.now).access (seen_of y.now).access)) (plain.against ((seen_of x.now).access, (seen_of y.now).access)) place.now }
+    ensures same { C.context contexts.new ≡ C.context contexts.old }
+{
     let mut context = contexts.context(alloc)?;
     put_meeting(alloc, order, x, y, &mut context)?;
     let what = against(alloc, x.access.text.as_str(), y.access.text.as_str())?;
@@ -155,7 +172,9 @@ fn owed_for<C: Contexts>(
 }
 
 /// Puts obligations last. `TooManySystems` where one passes a limit.
-fn owe(out: &mut Owed, more: Vec<Obligation>) -> Result<(), FormError> {
+fn owe(out: &mut Owed, more: Vec<Obligation>) -> Result<(), FormError>
+    ensures { Pushed result out.old (map plain_obligation more.items) out.new }
+{
     match out.push_all(more) {
         Ok(()) => Ok(()),
         Err(CheckError::TooManyObligations) => Err(FormError::TooManySystems),
@@ -173,7 +192,10 @@ fn owe_against<C: Contexts>(
     x: &Copied<'_>,
     others: &[Copied<'_>],
     out: &mut Owed,
-) -> Result<(), FormError> {
+) -> Result<(), FormError>
+    ensures owes { (o : orders.Order) → IsOrder order.now o → AllByRecursion (λ y. AreTwins o (seen_of x.now) (seen_of y)) others.now → Owes (C.context contexts.old) o place.now result (clashing ((seen_of x.now).access ∷ []) (map (λ y. (seen_of y).access) others.now)) out.old out.new }
+    ensures same { C.context contexts.new ≡ C.context contexts.old }
+{
     for y in others {
         if x.access.root.0 == y.access.root.0 && modes_clash(x.access.mode, y.access.mode) {
             let more = owed_for(alloc, contexts, order, place, x, y)?;
@@ -191,7 +213,9 @@ fn owe_all<C: Contexts>(
     place: &Path,
     first: &[Copied<'_>],
     second: &[Copied<'_>],
-) -> Result<Vec<Obligation>, FormError> {
+) -> Result<Vec<Obligation>, FormError>
+    ensures { (o : orders.Order) → IsOrder order.now o → AllByRecursion (λ x. AllByRecursion (λ y. AreTwins o (seen_of x) (seen_of y)) second.now) first.now → IsListed result (owed_behind (C.context contexts.old) o place.now (2 ^ 31) [] (clashing (map (λ x. (seen_of x).access) first.now) (map (λ y. (seen_of y).access) second.now))) }
+{
     let mut out = Owed::new(alloc);
     for x in first {
         owe_against(alloc, contexts, order, place, x, second, &mut out)?;
@@ -200,7 +224,10 @@ fn owe_all<C: Contexts>(
 }
 
 /// The loops of both copies.
-fn copied_order<'a>(alloc: Global, order: &Order<'a>) -> Result<CopiedOrder<'a>, FormError> {
+fn copied_order<'a>(alloc: Global, order: &Order<'a>) -> Result<CopiedOrder<'a>, FormError>
+    requires few { IsTrue (order_is_low order.now) }
+    ensures { OrderMade result (list_all turn_fits order.now.first.now && list_all turn_fits order.now.second.now) (plain_order order.now) }
+{
     let first = copied_turns(alloc, 0, order.first)?;
     let second = copied_turns(alloc, 1, order.second)?;
     Ok(CopiedOrder {
@@ -224,7 +251,14 @@ pub fn conflicts<C: Contexts>(
     place: &Path,
     first: &[Access<'_>],
     second: &[Access<'_>],
-) -> Result<Vec<Obligation>, FormError> {
+) -> Result<Vec<Obligation>, FormError>
+    requires order { IsTrue (order_is_low order.now) }
+    requires first { IsTrue (list_all access_is_low first.now) }
+    requires second { IsTrue (list_all access_is_low second.now) }
+    requires context { past_all past_formula (C.context contexts.old) ≤ 2 ^ 31 }
+    ensures exact { Conflicting result (all_fit order.now (plain_uses first.now) (plain_uses second.now)) (conflicts_of (C.context contexts.old) (plain_order order.now) place.now (map access_of (plain_uses first.now)) (map access_of (plain_uses second.now))) }
+    ensures same { C.context contexts.new ≡ C.context contexts.old }
+{
     let loops = copied_order(alloc, order)?;
     let xs = all_copied(alloc, 0, order.first, first)?;
     let ys = all_copied(alloc, 1, order.second, second)?;

@@ -6,6 +6,8 @@ mod guards;
 pub mod laws;
 mod meeting;
 mod order;
+mod systems;
 
 pub use copies::Turn;
 pub use order::{Order, OrderRow};
+pub use systems::systems_together;
