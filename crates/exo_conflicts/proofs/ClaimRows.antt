@@ -31,11 +31,11 @@ made_last made (c ∷ cs) = made_last (with_constraint (all_explained (sum_of c)
 equations_last : (atoms : List Atom) (cs : List Constraint) → equations_of atoms (cs ++ nothing_said ∷ []) ≡ equations_of atoms cs
 equations_last atoms [] = refl
 equations_last atoms (AtLeastZero l ∷ cs) = equations_last atoms cs
-equations_last atoms (IsZero l ∷ cs) = ap (λ as. affine atoms l ∷ as) (equations_last atoms cs)
+equations_last atoms (IsZero l ∷ cs) = ap (λ vs. affine atoms l ∷ vs) (equations_last atoms cs)
 
 rows_last : (atoms : List Atom) (cs : List Constraint) → rows_of atoms (cs ++ nothing_said ∷ []) ≡ rows_of atoms cs ++ claim_row (length atoms) ∷ []
 rows_last atoms [] = ap (λ zs. record { constant = pos 0; coefficients = zs } ∷ []) (zeros_of atoms)
-rows_last atoms (AtLeastZero l ∷ cs) = ap (λ as. affine atoms l ∷ as) (rows_last atoms cs)
+rows_last atoms (AtLeastZero l ∷ cs) = ap (λ vs. affine atoms l ∷ vs) (rows_last atoms cs)
 rows_last atoms (IsZero l ∷ cs) = rows_last atoms cs
 
 system_last : (cs : List Constraint) → system (cs ++ nothing_said ∷ []) ≡ with_claim (system cs)

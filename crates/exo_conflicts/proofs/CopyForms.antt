@@ -126,30 +126,30 @@ module _ (n : ℕ) (r s : ℕ → ℕ) (agree : (x : ℕ) → x < n → r x ≡ 
 -- of two variables with one place
 place_same : (xs : List ℕ) (x y k : ℕ) → place_in xs x ≡ Some k → place_in xs y ≡ Some k → x ≡ y
 place_same [] x y k p q = absurd (let e : None ≡ Some k = p in cc)
-place_same (z ∷ zs) x y k p q = go (x == z) refl (y == z) refl (place_in zs x) refl (place_in zs y) refl p q
+place_same (z ∷ zs) x y k p q = go (λ m. place_same zs x y m) (x == z) refl (y == z) refl (place_in zs x) refl (place_in zs y) refl p q
   where
-    go : (s : Bool) → (x == z) ≡ s → (t : Bool) → (y == z) ≡ t → (o : Option ℕ) → place_in zs x ≡ o → (u : Option ℕ) → place_in zs y ≡ u → cond s (Some 0) (option_map suc o) ≡ Some k → cond t (Some 0) (option_map suc u) ≡ Some k → x ≡ y
-    go true a true b o i u j p q = grind (arith, nat_tests)
-    go true a false b o i None j p q = absurd (let e : None ≡ Some k = q in cc)
-    go true a false b o i (Some m) j p q = absurd (let e : Some 0 ≡ Some (suc m) = p ∙ sym q in let z : 0 ≡ suc m = cc in omega (arith, z))
-    go false a true b None i u j p q = absurd (let e : None ≡ Some k = p in cc)
-    go false a true b (Some m) i u j p q = absurd (let e : Some (suc m) ≡ Some 0 = p ∙ sym q in let z : suc m ≡ 0 = cc in omega (arith, z))
-    go false a false b None i u j p q = absurd (let e : None ≡ Some k = p in cc)
-    go false a false b (Some m) i None j p q = absurd (let e : None ≡ Some k = q in cc)
-    go false a false b (Some m) i (Some l) j p q =
+    go : ((m : ℕ) → place_in zs x ≡ Some m → place_in zs y ≡ Some m → x ≡ y) → (s : Bool) → (x == z) ≡ s → (t : Bool) → (y == z) ≡ t → (o : Option ℕ) → place_in zs x ≡ o → (u : Option ℕ) → place_in zs y ≡ u → cond s (Some 0) (option_map suc o) ≡ Some k → cond t (Some 0) (option_map suc u) ≡ Some k → x ≡ y
+    go again true a true b o i u j p q = grind (arith, nat_tests)
+    go again true a false b o i None j p q = absurd (let e : None ≡ Some k = q in cc)
+    go again true a false b o i (Some m) j p q = absurd (let e : Some 0 ≡ Some (suc m) = p ∙ sym q in let z : 0 ≡ suc m = cc in omega (arith, z))
+    go again false a true b None i u j p q = absurd (let e : None ≡ Some k = p in cc)
+    go again false a true b (Some m) i u j p q = absurd (let e : Some (suc m) ≡ Some 0 = p ∙ sym q in let z : suc m ≡ 0 = cc in omega (arith, z))
+    go again false a false b None i u j p q = absurd (let e : None ≡ Some k = p in cc)
+    go again false a false b (Some m) i None j p q = absurd (let e : None ≡ Some k = q in cc)
+    go again false a false b (Some m) i (Some l) j p q =
         let e : Some (suc m) ≡ Some (suc l) = p ∙ sym q in
         let w : suc m ≡ suc l = cc in
         let z : m ≡ l = omega (arith, w) in
-        place_same zs x y m i (j ∙ ap Some (sym z))
+        again m i (j ∙ ap Some (sym z))
 
-place_less : (xs : List ℕ) (x k : ℕ) → place_in xs x ≡ Some k → k < length xs
+pub place_less : (xs : List ℕ) (x k : ℕ) → place_in xs x ≡ Some k → k < length xs
 place_less [] x k p = absurd (let e : None ≡ Some k = p in cc)
-place_less (z ∷ zs) x k p = go (x == z) (place_in zs x) refl p
+place_less (z ∷ zs) x k p = go (λ m. place_less zs x m) (x == z) (place_in zs x) refl p
   where
-    go : (s : Bool) (o : Option ℕ) → place_in zs x ≡ o → cond s (Some 0) (option_map suc o) ≡ Some k → k < suc (length zs)
-    go true o i p = let z : 0 ≡ k = cc in omega (arith, z)
-    go false None i p = absurd (let e : None ≡ Some k = p in cc)
-    go false (Some m) i p = let z : suc m ≡ k = cc in omega (arith, z, place_less zs x m i)
+    go : ((m : ℕ) → place_in zs x ≡ Some m → m < length zs) → (s : Bool) (o : Option ℕ) → place_in zs x ≡ o → cond s (Some 0) (option_map suc o) ≡ Some k → k < suc (length zs)
+    go again true o i p = let z : 0 ≡ k = cc in omega (arith, z)
+    go again false None i p = absurd (let e : None ≡ Some k = p in cc)
+    go again false (Some m) i p = let z : suc m ≡ k = cc in omega (arith, z, again m i)
 
 equal_tests : (f : ℕ → ℕ) → ((x y : ℕ) → f x ≡ f y → x ≡ y) → KeepsApart f
 equal_tests f inj x y = go (x == y) refl (f x == f y) refl

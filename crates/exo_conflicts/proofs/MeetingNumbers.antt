@@ -65,7 +65,7 @@ module _ (b d : ℕ) where
 
   all_turns_up : (side : ℕ) (vs : List ℕ) (us : List Turn) → past_all past_turn us ≤ b → map (re_turn t) (map (re_turn (turns_apart b side vs)) us) ≡ map (re_turn (turns_apart (b + d) side vs)) us
   all_turns_up side vs [] h = refl
-  all_turns_up side vs (u ∷ us) h = ap₂ (λ a as. a ∷ as) (turn_up side vs u (left_of (past_turn u) (past_all past_turn us) b h)) (all_turns_up side vs us (right_of (past_turn u) (past_all past_turn us) b h))
+  all_turns_up side vs (u ∷ us) h = ap₂ (λ a vs. a ∷ vs) (turn_up side vs u (left_of (past_turn u) (past_all past_turn us) b h)) (all_turns_up side vs us (right_of (past_turn u) (past_all past_turn us) b h))
 
   copied_up : (side : ℕ) (us : List Turn) → past_all past_turn us ≤ b → map (re_turn t) (copied_turns b side us) ≡ copied_turns (b + d) side us
   copied_up side us h = all_turns_up side (variables_of us) us h
@@ -176,7 +176,7 @@ module _ (b d : ℕ) where
     asked_two = asked_up (span_number b 1) (span_number (b + d) 1) (span_up 1) (two b) ∙ ap (asked (span_number (b + d) 1)) two_up
 
     order_up : map (re_formula t) (flat_map (order_row (ss b) (us b)) order.rows) ≡ flat_map (order_row (ss (b + d)) (us (b + d))) order.rows
-    order_up = rows_up (ss b) (us b) order.rows ∙ ap₂ (λ as bs. flat_map (order_row as bs) order.rows) first_up second_up
+    order_up = rows_up (ss b) (us b) order.rows ∙ ap₂ (λ vs ws. flat_map (order_row vs ws) order.rows) first_up second_up
 
 
     abbrev f₁ : ℕ → List Formula

@@ -41,23 +41,14 @@ module _ (r : ℕ → ℕ) (apart : KeepsApart r) where
 
   -- ---- what an atom is
 
+  abbrev numerator : ℤ → Terms → Linear
+  numerator n ts = record { constant = n; terms = ts }
+
   re_quotient_rows : (n : ℤ) (ts : Terms) (c : ℤ) → map (re_constraint r) (own_rows (Quotient n ts c)) ≡ own_rows (Quotient n (re_terms r ts) c)
   re_quotient_rows n ts c = go (is_positive c)
     where
-      abbrev e : Linear
-      e = record { constant = n; terms = ts }
-
-      abbrev q : Linear
-      q = only (Quotient n ts c)
-
-      abbrev f : Linear
-      f = record { constant = n; terms = re_terms r ts }
-
-      abbrev p : Linear
-      p = only (Quotient n (re_terms r ts) c)
-
-      go : (t : Bool) → map (re_constraint r) (cond t (AtLeastZero (subtracted e (scaled c q)) ∷ AtLeastZero (subtracted (moved (pos 1 -ℤ c) (scaled c q)) e) ∷ []) []) ≡ cond t (AtLeastZero (subtracted f (scaled c p)) ∷ AtLeastZero (subtracted (moved (pos 1 -ℤ c) (scaled c p)) f) ∷ []) []
-      go true = ap₂ (λ k l. AtLeastZero k ∷ AtLeastZero l ∷ []) (re_subtracted r apart e (scaled c q)) (re_subtracted r apart (moved (pos 1 -ℤ c) (scaled c q)) e)
+      go : (t : Bool) → map (re_constraint r) (cond t (AtLeastZero (subtracted (numerator n ts) (scaled c (only (Quotient n ts c)))) ∷ AtLeastZero (subtracted (moved (pos 1 -ℤ c) (scaled c (only (Quotient n ts c)))) (numerator n ts)) ∷ []) []) ≡ cond t (AtLeastZero (subtracted (numerator n (re_terms r ts)) (scaled c (only (Quotient n (re_terms r ts) c)))) ∷ AtLeastZero (subtracted (moved (pos 1 -ℤ c) (scaled c (only (Quotient n (re_terms r ts) c)))) (numerator n (re_terms r ts))) ∷ []) []
+      go true = ap₂ (λ k l. AtLeastZero k ∷ AtLeastZero l ∷ []) (re_subtracted r apart (numerator n ts) (scaled c (only (Quotient n ts c)))) (re_subtracted r apart (moved (pos 1 -ℤ c) (scaled c (only (Quotient n ts c)))) (numerator n ts))
       go false = refl
 
   re_own_rows : (a : Atom) → map (re_constraint r) (own_rows a) ≡ own_rows (re_atom r a)
@@ -129,11 +120,11 @@ module _ (r : ℕ → ℕ) (apart : KeepsApart r) where
   re_equations_of : (atoms : List Atom) (cs : List Constraint) → equations_of (map (re_atom r) atoms) (map (re_constraint r) cs) ≡ equations_of atoms cs
   re_equations_of atoms [] = refl
   re_equations_of atoms (AtLeastZero l ∷ cs) = re_equations_of atoms cs
-  re_equations_of atoms (IsZero l ∷ cs) = ap₂ (λ a as. a ∷ as) (re_affine atoms l) (re_equations_of atoms cs)
+  re_equations_of atoms (IsZero l ∷ cs) = ap₂ (λ a vs. a ∷ vs) (re_affine atoms l) (re_equations_of atoms cs)
 
   re_rows_of : (atoms : List Atom) (cs : List Constraint) → rows_of (map (re_atom r) atoms) (map (re_constraint r) cs) ≡ rows_of atoms cs
   re_rows_of atoms [] = refl
-  re_rows_of atoms (AtLeastZero l ∷ cs) = ap₂ (λ a as. a ∷ as) (re_affine atoms l) (re_rows_of atoms cs)
+  re_rows_of atoms (AtLeastZero l ∷ cs) = ap₂ (λ a vs. a ∷ vs) (re_affine atoms l) (re_rows_of atoms cs)
   re_rows_of atoms (IsZero l ∷ cs) = re_rows_of atoms cs
 
   re_system_of : (made : Made) → system_of (re_made made) ≡ system_of made
@@ -151,7 +142,7 @@ module _ (r : ℕ → ℕ) (apart : KeepsApart r) where
 
   re_behind : (x : List Constraint) (ys : List (List Constraint)) → map (λ y. re_case x ++ y) (map re_case ys) ≡ map re_case (map (λ y. x ++ y) ys)
   re_behind x [] = refl
-  re_behind x (y ∷ ys) = ap₂ (λ a as. a ∷ as) (sym (map-append (re_constraint r) x y)) (re_behind x ys)
+  re_behind x (y ∷ ys) = ap₂ (λ a vs. a ∷ vs) (sym (map-append (re_constraint r) x y)) (re_behind x ys)
 
   re_product : (xs ys : List (List Constraint)) → product (map re_case xs) (map re_case ys) ≡ map re_case (product xs ys)
   re_product [] ys = refl

@@ -42,7 +42,7 @@ module _ (n : ℕ) (t r s : ℕ → ℕ) (agree : (x : ℕ) → x < n → t (r x
 
   pub formulas_twice : (fs : List Formula) → past_all past_formula fs ≤ n → map (re_formula t) (map (re_formula r) fs) ≡ map (re_formula s) fs
   formulas_twice [] h = refl
-  formulas_twice (f ∷ fs) h = ap₂ (λ a as. a ∷ as) (formula_twice f (left_of (past_formula f) (past_all past_formula fs) n h)) (formulas_twice fs (right_of (past_formula f) (past_all past_formula fs) n h))
+  formulas_twice (f ∷ fs) h = ap₂ (λ a vs. a ∷ vs) (formula_twice f (left_of (past_formula f) (past_all past_formula fs) n h)) (formulas_twice fs (right_of (past_formula f) (past_all past_formula fs) n h))
 
   coord_twice : (c : AccessCoord) → past_coord c ≤ n → re_coord t (re_coord r c) ≡ re_coord s c
   coord_twice (At e) h = ap At (linear_twice e h)
@@ -50,7 +50,7 @@ module _ (n : ℕ) (t r s : ℕ → ℕ) (agree : (x : ℕ) → x < n → t (r x
 
   pub coords_twice : (cs : List AccessCoord) → past_all past_coord cs ≤ n → map (re_coord t) (map (re_coord r) cs) ≡ map (re_coord s) cs
   coords_twice [] h = refl
-  coords_twice (c ∷ cs) h = ap₂ (λ a as. a ∷ as) (coord_twice c (left_of (past_coord c) (past_all past_coord cs) n h)) (coords_twice cs (right_of (past_coord c) (past_all past_coord cs) n h))
+  coords_twice (c ∷ cs) h = ap₂ (λ a vs. a ∷ vs) (coord_twice c (left_of (past_coord c) (past_all past_coord cs) n h)) (coords_twice cs (right_of (past_coord c) (past_all past_coord cs) n h))
 
 -- the variables below a number stay
 module _ (n : ℕ) (t : ℕ → ℕ) (stay : (x : ℕ) → x < n → t x ≡ x) where
@@ -80,7 +80,7 @@ module _ (n : ℕ) (t : ℕ → ℕ) (stay : (x : ℕ) → x < n → t x ≡ x) 
 
   pub formulas_stay : (fs : List Formula) → past_all past_formula fs ≤ n → map (re_formula t) fs ≡ fs
   formulas_stay [] h = refl
-  formulas_stay (f ∷ fs) h = ap₂ (λ a as. a ∷ as) (formula_stays f (left_of (past_formula f) (past_all past_formula fs) n h)) (formulas_stay fs (right_of (past_formula f) (past_all past_formula fs) n h))
+  formulas_stay (f ∷ fs) h = ap₂ (λ a vs. a ∷ vs) (formula_stays f (left_of (past_formula f) (past_all past_formula fs) n h)) (formulas_stay fs (right_of (past_formula f) (past_all past_formula fs) n h))
 
 -- alike below a number
 module _ (n : ℕ) (r s : ℕ → ℕ) (agree : (x : ℕ) → x < n → r x ≡ s x) where

@@ -1,5 +1,5 @@
 //! Expressions of one of two copies of a piece, over variables of its own.
-ghost use Rattle.std.specs.Prelude.{◌≡◌, ◌≤◌, ◌<◌, ◌^◌, IsTrue, true, length, map};
+ghost use Rattle.std.specs.Prelude.{◌≡◌, ◌≤◌, ◌<◌, ◌^◌, ◌++◌, ◌∷◌, [], IsTrue, OnOk, true, length, map};
 ghost use Rattle.std.specs.List.{list_all};
 ghost use Rattle.exo_tree.specs.PlainControl.{control, condition, coordinate};
 ghost use Rattle.affine_forms.specs.Forms.{is_affine};
@@ -8,18 +8,18 @@ ghost use Rattle.affine_forms.specs.Outcomes.{Formed};
 ghost use Rattle.affine_forms.specs.PlainFormulas.{FormulaMade};
 ghost use Rattle.exo_effects.specs.Accesses.{plain_form, plain_fits, plain_formula, plain_formula_fits, coord_form, coord_fits};
 ghost use Rattle.exo_effects.specs.Conflicts.{place_in, span_number, variables_of, re_turn, re_coord, copied_turns};
-ghost use Rattle.exo_effects.specs.PlainAccess.{CoordMade};
+ghost use Rattle.exo_effects.specs.PlainAccess.{plain_coord, CoordMade};
 ghost use Rattle.exo_effects.specs.PlainUses.{all_variables};
 ghost use Rattle.exo_effects.specs.Renamed.{re_linear, re_formula};
 ghost use Rattle.exo_conflicts.specs.Copies.{reading_by, flags_by, numbers_below, names_below};
-ghost use Rattle.exo_conflicts.specs.PlainCopies.{plain_turn, turn_fits, turn_is_low, coord_is_low, renamed, TurnMade, TurnsMade, CoordsMade};
+ghost use Rattle.exo_conflicts.specs.PlainCopies.{plain_turn, plain_copied, turn_fits, turn_is_low, coord_is_low, renamed, TurnMade, TurnsMade, CoordsMade};
 
 use affine_forms::{
     Atom, Draft, FlagReader, FormError, Formula, Linear, Reader, formula_of, normal_form,
 };
 use exo_effects::{AccessCoord, Guard};
 use exo_tree::{Cond, Coord, Ctrl, FieldId, Id};
-use std::alloc::Global;
+use std::alloc::{AllocError, Global};
 
 /// The number from which copies have variables of their own: those of procedures are below it.
 const BASE: u32 = 1 << 31;
@@ -75,7 +75,7 @@ fn own_place(guards: &[Guard<'_>], x: Id) -> Option<usize>
 
 impl Twin<'_> {
     /// The variable that stands for this one in the copy.
-    fn renamed(&self, x: Id) -> Id
+    pub(crate) fn renamed(&self, x: Id) -> Id
         ensures { result.0 ≡ renamed self.now x.0 }
     {
         if let Some(k) = own_place(self.guards, x) {
@@ -172,6 +172,14 @@ fn copied_turn(alloc: Global, twin: &Twin<'_>, t: &Turn<'_>) -> Result<CopiedTur
     })
 }
 
+/// Puts a loop last.
+fn push_turn(made: &mut Vec<CopiedTurn>, t: CopiedTurn) -> Result<(), AllocError>
+    ensures { OnOk result (map plain_copied made.new.items ≡ map plain_copied made.old.items ++ plain_copied t ∷ []) }
+{
+    made.push(t)?;
+    Ok(())
+}
+
 /// The loops round the piece in the copy of that side.
 /// `WideNumber` where a number of a normal form passes 2^62.
 pub(crate) fn copied_turns(
@@ -191,7 +199,8 @@ pub(crate) fn copied_turns(
     };
     let mut made = Vec::new(alloc);
     for t in turns {
-        made.push(copied_turn(alloc, &twin, t)?)?;
+        let copied = copied_turn(alloc, &twin, t)?;
+        push_turn(&mut made, copied)?;
     }
     Ok(made)
 }
@@ -214,6 +223,14 @@ fn copied_coord(alloc: Global, twin: &Twin<'_>, c: &Coord) -> Result<AccessCoord
     }
 }
 
+/// Puts a coordinate last.
+fn push_coord(made: &mut Vec<AccessCoord>, c: AccessCoord) -> Result<(), AllocError>
+    ensures { OnOk result (map plain_coord made.new.items ≡ map plain_coord made.old.items ++ plain_coord c ∷ []) }
+{
+    made.push(c)?;
+    Ok(())
+}
+
 /// Coordinates in a copy. `WideNumber` where a number of a normal form passes 2^62.
 pub(crate) fn copied_coords(
     alloc: Global,
@@ -225,7 +242,8 @@ pub(crate) fn copied_coords(
 {
     let mut made = Vec::new(alloc);
     for c in coords {
-        made.push(copied_coord(alloc, twin, c)?)?;
+        let copied = copied_coord(alloc, twin, c)?;
+        push_coord(&mut made, copied)?;
     }
     Ok(made)
 }
