@@ -8,7 +8,10 @@ use Rattle.affine_forms.specs.Affine.{Affine, Constraints}
 use Rattle.affine_forms.specs.Atoms.{Atom, constantly}
 use Rattle.affine_forms.specs.Formulas.{Constraint, AtLeastZero, IsZero, Formula, row, cases_of_all}
 use Rattle.affine_systems.specs.Systems.{Made, sum_of, with_constraint, all_explained, made_of, affine, equations_of, rows_of, system_of, nothing, system, is_small, systems, failing_cases, Stated, CasesPassed, SizePassed, Listed, stated}
-use Rattle.affine_systems.specs.Outcomes.{Owed, owed}
+use Rattle.affine_forms.specs.declared.error.FormError.{FormError}
+use Rattle.affine_forms.specs.declared.error.FormError.TheVariants.{TooManyCases, SystemTooLarge, WideNumber, TooManySystems, Memory}
+use Rattle.affine_systems.specs.declared.obligation.Obligation.{Obligation}
+use Rattle.affine_systems.specs.Outcomes.{owed, plain_obligation, AreOwed, IsRefusal}
 use Rattle.affine_systems.proofs.Products.{cases_last, product_one}
 use Rattle.exo_effects.specs.Cases.{systems_of, has_room, cases_stated}
 use Rattle.exo_conflicts.specs.Claims.{zeros, claim_row, with_claim, without_claim, claim_taken}
@@ -97,3 +100,21 @@ without_with s = ap (λ rs. record s { rows = rs }) (take_one s.rows (claim_row 
 pub taken_again : (what : List ℕ) (place : Path) (ss : List Constraints) → map claim_taken (map (owed what place) (map with_claim ss)) ≡ map (owed what place) ss
 taken_again what place [] = refl
 taken_again what place (s ∷ ss) = ap₂ (λ t os. owed what place t ∷ os) (without_with s) (taken_again what place ss)
+
+-- ---- answers
+
+pub refusal_same : (e : FormError) (s : Stated) → IsRefusal e (claimed s) → IsRefusal e s
+refusal_same TooManyCases CasesPassed h = refl
+refusal_same TooManyCases SizePassed h = cc
+refusal_same TooManyCases (Listed ss) h = cc
+refusal_same SystemTooLarge CasesPassed h = cc
+refusal_same SystemTooLarge SizePassed h = refl
+refusal_same SystemTooLarge (Listed ss) h = cc
+refusal_same WideNumber s h = h
+refusal_same TooManySystems s h = h
+refusal_same Memory s h = h
+
+pub owed_same : (os vs : List Obligation) (s : Stated) (what : List ℕ) (place : Path) → AreOwed os (claimed s) what place → map plain_obligation vs ≡ map claim_taken (map plain_obligation os) → AreOwed vs s what place
+owed_same os vs CasesPassed what place h e = h
+owed_same os vs SizePassed what place h e = h
+owed_same os vs (Listed ss) what place h e = e ∙ ap (map claim_taken) h ∙ taken_again what place ss

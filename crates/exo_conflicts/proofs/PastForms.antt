@@ -6,8 +6,8 @@ use Rattle.std.specs.Ordering.{int_eq}
 use Rattle.exo_tree.specs.Tree.{Control, Lit, Var, Field, StrideOf, Neg, Add, Sub, Mul, Div, Mod, Condition, True, False, Flag, FieldFlag, Lt, Le, Gt, Ge, Eq, And, Or}
 use Rattle.exo_meaning.specs.Units.{is_of_literals}
 use Rattle.affine_forms.specs.Atoms.{Atom, Variable, Quotient, Terms, none, term, Linear, same_atom, with_term, terms_added, terms_scaled, added, scaled, subtracted, present, divides, divided, undivided, quotient_of, quotient}
-use Rattle.affine_forms.specs.Forms.{form, times, is_affine}
-use Rattle.affine_forms.specs.Formulas.{Constraint, AtLeastZero, IsZero, Formula, Says, Both, Either, difference, denied, negation, is_affine_condition}
+use Rattle.affine_forms.specs.Forms.{form, times, is_affine, keeps_rules}
+use Rattle.affine_forms.specs.Formulas.{Constraint, AtLeastZero, IsZero, Formula, Says, Both, Either, difference, denied, negation, is_affine_condition, condition_keeps_rules}
 use Rattle.affine_places.specs.Readings.{extent_reading}
 use Rattle.exo_effects.specs.Accesses.{own_flags, plain_form, plain_formula}
 use Rattle.exo_conflicts.specs.Copies.{numbers_below, names_below}
@@ -157,3 +157,50 @@ module _ (n : ℕ) where
   plain_formula_past (Or c d) h =
       let p = both_true (allowed c) (allowed d) h in
       max_within (past_formula (plain_formula c)) (past_formula (plain_formula d)) n (plain_formula_past c p.0) (plain_formula_past d p.1)
+
+  -- ---- what keeps the rules
+
+  pub rules_kept : (e : Control) → is_affine (numbers_below n) e ≡ true → keeps_rules e ≡ true
+  rules_kept (Lit m) h = refl
+  rules_kept (Var x) h = refl
+  rules_kept (Field f) h = refl
+  rules_kept (StrideOf x k) h = refl
+  rules_kept (Neg a) h = rules_kept a h
+  rules_kept (Add a b) h =
+      let p = both_true (is_affine (numbers_below n) a) (is_affine (numbers_below n) b) h in
+      ap₂ (λ s t. s && t) (rules_kept a p.0) (rules_kept b p.1)
+  rules_kept (Sub a b) h =
+      let p = both_true (is_affine (numbers_below n) a) (is_affine (numbers_below n) b) h in
+      ap₂ (λ s t. s && t) (rules_kept a p.0) (rules_kept b p.1)
+  rules_kept (Mul a b) h =
+      let q = both_true (is_of_literals a || is_of_literals b) (is_affine (numbers_below n) a && is_affine (numbers_below n) b) h in
+      let p = both_true (is_affine (numbers_below n) a) (is_affine (numbers_below n) b) q.1 in
+      ap₂ (λ s t. s && t) q.0 (ap₂ (λ s t. s && t) (rules_kept a p.0) (rules_kept b p.1))
+  rules_kept (Div a c) h =
+      let p = both_true (is_positive c) (is_affine (numbers_below n) a) h in
+      ap₂ (λ s t. s && t) p.0 (rules_kept a p.1)
+  rules_kept (Mod a c) h =
+      let p = both_true (is_positive c) (is_affine (numbers_below n) a) h in
+      ap₂ (λ s t. s && t) p.0 (rules_kept a p.1)
+
+  sides_kept : (a b : Control) → (is_affine (numbers_below n) a && is_affine (numbers_below n) b) ≡ true → (keeps_rules a && keeps_rules b) ≡ true
+  sides_kept a b h =
+      let p = both_true (is_affine (numbers_below n) a) (is_affine (numbers_below n) b) h in
+      ap₂ (λ s t. s && t) (rules_kept a p.0) (rules_kept b p.1)
+
+  pub condition_rules_kept : (c : Condition) → is_affine_condition (names_below n) c ≡ true → condition_keeps_rules c ≡ true
+  condition_rules_kept True h = refl
+  condition_rules_kept False h = refl
+  condition_rules_kept (Flag x) h = refl
+  condition_rules_kept (FieldFlag f) h = refl
+  condition_rules_kept (Lt a b) h = sides_kept a b h
+  condition_rules_kept (Le a b) h = sides_kept a b h
+  condition_rules_kept (Gt a b) h = sides_kept a b h
+  condition_rules_kept (Ge a b) h = sides_kept a b h
+  condition_rules_kept (Eq a b) h = sides_kept a b h
+  condition_rules_kept (And c d) h =
+      let p = both_true (allowed c) (allowed d) h in
+      ap₂ (λ s t. s && t) (condition_rules_kept c p.0) (condition_rules_kept d p.1)
+  condition_rules_kept (Or c d) h =
+      let p = both_true (allowed c) (allowed d) h in
+      ap₂ (λ s t. s && t) (condition_rules_kept c p.0) (condition_rules_kept d p.1)

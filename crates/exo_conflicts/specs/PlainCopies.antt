@@ -16,13 +16,15 @@ use Rattle.exo_effects.specs.Accesses as plain
 use Rattle.exo_effects.specs.Conflicts.{apart, variables_of, re_turn, re_coord, copied_turns}
 use Rattle.exo_effects.specs.Orders as orders
 use Rattle.exo_effects.specs.PlainAccess.{plain_coord}
+use Rattle.exo_effects.specs.PlainGuards.{facts_of}
 use Rattle.exo_effects.specs.PlainUses.{all_variables}
 use Rattle.exo_effects.specs.Renamed.{re_formula}
 use Rattle.exo_effects.specs.Uses.{Use}
 use Rattle.exo_effects.specs.declared.access.AccessCoord.{AccessCoord}
+use Rattle.exo_effects.specs.declared.guards.Guard.{Guard}
 use Rattle.exo_conflicts.specs.Copies.{numbers_below, names_below}
-use Rattle.exo_conflicts.specs.declared.copies.Turn.{Turn}
-use Rattle.exo_conflicts.specs.declared.copies.Twin.{Twin}
+use Rattle.exo_conflicts.specs.declared.twin.Turn.{Turn}
+use Rattle.exo_conflicts.specs.declared.twin.Twin.{Twin}
 use Rattle.exo_conflicts.specs.declared.copies.CopiedTurn.{CopiedTurn}
 use Rattle.exo_conflicts.specs.declared.order.OrderRow.{OrderRow}
 use Rattle.exo_conflicts.specs.declared.order.OrderRow.TheVariants as row
@@ -64,6 +66,9 @@ plain_order o = record {
 abbrev pub fact_is_low : Fact → Bool
 fact_is_low (Holds c) = is_affine_condition (names_below (2 ^ 31)) c
 fact_is_low (Fails c) = is_affine_condition (names_below (2 ^ 31)) c
+
+abbrev pub guard_is_low : Guard → Bool
+guard_is_low g = list_all fact_is_low (facts_of g)
 
 abbrev pub coord_is_low : Coord → Bool
 coord_is_low (tree.At e) = is_affine (numbers_below (2 ^ 31)) e

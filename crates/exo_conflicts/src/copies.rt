@@ -14,6 +14,7 @@ ghost use Rattle.exo_effects.specs.Renamed.{re_linear, re_formula};
 ghost use Rattle.exo_conflicts.specs.Copies.{reading_by, flags_by, numbers_below, names_below};
 ghost use Rattle.exo_conflicts.specs.PlainCopies.{plain_turn, plain_copied, turn_fits, turn_is_low, coord_is_low, renamed, TurnMade, TurnsMade, CoordsMade};
 
+use crate::twin::{Turn, Twin};
 use affine_forms::{
     Atom, Draft, FlagReader, FormError, Formula, Linear, Reader, formula_of, normal_form,
 };
@@ -23,27 +24,6 @@ use std::alloc::{AllocError, Global};
 
 /// The number from which copies have variables of their own: those of procedures are below it.
 const BASE: u32 = 1 << 31;
-
-/// A loop round a piece: its variable goes from the lower end up to the upper one, which it does not reach.
-#[derive(Clone, Copy)]
-pub struct Turn<'a> {
-    pub variable: Id,
-    pub lower: &'a Ctrl,
-    pub upper: &'a Ctrl,
-}
-
-/// One of two copies: of the loops round a piece, and of an access in it with its loops and branches.
-/// The variables of these loops have other numbers in each copy, and all others stay.
-#[derive(Clone, Copy)]
-pub(crate) struct Twin<'a> {
-    /// 0 for the first copy, 1 for the second.
-    pub(crate) side: u32,
-    pub(crate) turns: &'a [Turn<'a>],
-    pub(crate) guards: &'a [Guard<'a>],
-    pub(crate) ghost sides: { side ≤ 1 },
-    pub(crate) ghost few_turns: { length turns.now ≤ 2 ^ 20 },
-    pub(crate) ghost few_guards: { length guards.now ≤ 2 ^ 20 },
-}
 
 /// Which of the loops has that variable, counted from 0.
 fn turn_place(turns: &[Turn<'_>], x: Id) -> Option<usize>

@@ -1,5 +1,5 @@
 //! What the loops and branches round an access say in a copy.
-ghost use Rattle.std.specs.Prelude.{◌≡◌, ◌∷◌, [], if◌then◌else◌, IfOk, IsTrue};
+ghost use Rattle.std.specs.Prelude.{◌≡◌, ◌∷◌, [], IfOk, IsTrue};
 ghost use Rattle.std.specs.List.{list_all};
 ghost use Rattle.exo_tree.specs.Tree as tree;
 ghost use Rattle.exo_tree.specs.PlainControl.{control, condition};
@@ -7,9 +7,10 @@ ghost use Rattle.meaning_laws.specs.Facts as facts;
 ghost use Rattle.affine_forms.specs.Atoms as plain;
 ghost use Rattle.affine_forms.specs.Atoms.{only};
 ghost use Rattle.exo_effects.specs.PlainGuards.{facts_of, all_facts};
-ghost use Rattle.exo_conflicts.specs.PlainCopies.{fact_is_low, renamed, Said};
+ghost use Rattle.exo_conflicts.specs.PlainCopies.{fact_is_low, guard_is_low, renamed, Said};
 
-use crate::copies::{Twin, copied_form, copied_formula};
+use crate::copies::{copied_form, copied_formula};
+use crate::twin::Twin;
 use affine_forms::{Atom, FormError, Formula, Linear};
 use affine_systems::Context;
 use exo_effects::Guard;
@@ -57,20 +58,33 @@ fn say_upper(
     Ok(())
 }
 
-/// Puts last what a condition says, or that it does not hold.
-fn say_condition(
+/// Puts last what a condition says.
+fn say_holds(
     alloc: Global,
     twin: &Twin<'_>,
     c: &Cond,
-    holds: bool,
     into: &mut Context,
 ) -> Result<(), FormError>
     requires { IsTrue (fact_is_low (facts.Holds (condition c.now))) }
-    ensures { Said result (renamed twin.now) ((if holds then facts.Holds (condition c.now) else facts.Fails (condition c.now)) ∷ []) into.old into.new }
+    ensures { Said result (renamed twin.now) (facts.Holds (condition c.now) ∷ []) into.old into.new }
 {
     let says = copied_formula(alloc, twin, c)?;
-    let guard = if holds { says } else { says.negated(alloc)? };
-    into.push(guard)?;
+    into.push(says)?;
+    Ok(())
+}
+
+/// Puts last that a condition does not hold.
+fn say_fails(
+    alloc: Global,
+    twin: &Twin<'_>,
+    c: &Cond,
+    into: &mut Context,
+) -> Result<(), FormError>
+    requires { IsTrue (fact_is_low (facts.Fails (condition c.now))) }
+    ensures { Said result (renamed twin.now) (facts.Fails (condition c.now) ∷ []) into.old into.new }
+{
+    let says = copied_formula(alloc, twin, c)?;
+    into.push(says.negated(alloc)?)?;
     Ok(())
 }
 
@@ -81,7 +95,7 @@ fn say_guard(
     guard: &Guard<'_>,
     into: &mut Context,
 ) -> Result<(), FormError>
-    requires { IsTrue (list_all fact_is_low (facts_of guard.now)) }
+    requires { IsTrue (guard_is_low guard.now) }
     ensures { Said result (renamed twin.now) (facts_of guard.now) into.old into.new }
 {
     match guard {
@@ -89,8 +103,8 @@ fn say_guard(
             say_lower(alloc, twin, *i, lo, into)?;
             say_upper(alloc, twin, *i, hi, into)
         }
-        Guard::Holds(c) => say_condition(alloc, twin, c, true, into),
-        Guard::Fails(c) => say_condition(alloc, twin, c, false, into),
+        Guard::Holds(c) => say_holds(alloc, twin, c, into),
+        Guard::Fails(c) => say_fails(alloc, twin, c, into),
     }
 }
 
@@ -102,7 +116,7 @@ pub(crate) fn say_guards(
     guards: &[Guard<'_>],
     into: &mut Context,
 ) -> Result<(), FormError>
-    requires { IsTrue (list_all fact_is_low (all_facts guards.now)) }
+    requires { IsTrue (list_all guard_is_low guards.now) }
     ensures { Said result (renamed twin.now) (all_facts guards.now) into.old into.new }
 {
     for guard in guards {

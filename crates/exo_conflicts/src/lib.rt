@@ -7,7 +7,8 @@ pub mod laws;
 mod meeting;
 mod order;
 mod systems;
+mod twin;
 
-pub use copies::Turn;
 pub use order::{Order, OrderRow};
 pub use systems::systems_together;
+pub use twin::Turn;

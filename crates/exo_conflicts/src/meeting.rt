@@ -58,7 +58,7 @@ fn put_less(
     greater: Option<&CopiedTurn>,
     into: &mut Context,
 ) -> Result<(), AllocError>
-    ensures { OnOk result (into.new ≡ into.old ++ where_both (option_map plain_copied (option_copied lesser)) (option_map plain_copied (option_copied greater)) (λ x y. plain.less (variable x) (variable y))) }
+    ensures { OnOk result (into.new ≡ into.old ++ where_both (option_map plain_copied (option_copied lesser.entry)) (option_map plain_copied (option_copied greater.entry)) (λ x y. plain.less (variable x) (variable y))) }
 {
     let (Some(s), Some(t)) = (lesser, greater) else {
         return Ok(());

@@ -1,6 +1,6 @@
 //! Two copies of the loops round a step, and how they stand to each other.
 
-use crate::copies::Turn;
+use crate::twin::Turn;
 
 /// Of the variables of that number, counted from the outermost loop inwards, the one of the first copy is less than that
 /// of the second, or greater.
