@@ -63,7 +63,10 @@ pub fn systems_together(
     ensures { IsAnswer result (cases_stated ctx.now) what.now place.now }
 {
     let claim = Formula::never(alloc);
-    let owed = systems(alloc, ctx, &claim, what, place)?;
+    let owed = match systems(alloc, ctx, &claim, what, place) {
+        Ok(owed) => owed,
+        Err(e) => return Err(e),
+    };
     let made = all_taken(alloc, owed)?;
     Ok(made)
 }

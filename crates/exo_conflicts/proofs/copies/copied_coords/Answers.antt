@@ -1,6 +1,6 @@
 use Rattle.exo_tree.specs.PlainControl.{coordinate}
-use Rattle.bounds_check.proofs.Resting.{each_at}
 use Rattle.exo_conflicts.specs.PlainCopies.{coord_is_low}
+use Rattle.exo_conflicts.proofs.Places.{each_at}
 use Rattle.exo_conflicts.proofs.copies.copied_coords.Goals as goal
 
 pub copied_coord-requires : goal.copied_coord-requires
