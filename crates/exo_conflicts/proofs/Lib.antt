@@ -1,3 +1,4 @@
+pub mod Examples
 pub mod RenamedTerms
 pub mod RenamedForms
 pub mod RenamedSystems

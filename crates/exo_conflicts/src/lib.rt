@@ -6,6 +6,7 @@ mod guards;
 pub mod laws;
 mod meeting;
 mod order;
+mod pairs;
 mod systems;
 mod twin;
 
