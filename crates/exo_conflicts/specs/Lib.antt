@@ -1,0 +1,4 @@
+pub mod Copies
+pub mod CopyLaws
+pub mod Claims
+pub mod PlainCopies

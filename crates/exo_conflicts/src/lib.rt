@@ -1,0 +1,15 @@
+//! When two pieces of a procedure do not meet: systems that must have no integer point.
+#![tactic(auto)]
+
+mod copies;
+mod guards;
+pub mod laws;
+mod meeting;
+mod order;
+mod pairs;
+mod systems;
+mod twin;
+
+pub use order::{Order, OrderRow};
+pub use systems::systems_together;
+pub use twin::Turn;
