@@ -178,7 +178,6 @@ module _ (b d : ℕ) where
     order_up : map (re_formula t) (flat_map (order_row (ss b) (us b)) order.rows) ≡ flat_map (order_row (ss (b + d)) (us (b + d))) order.rows
     order_up = rows_up (ss b) (us b) order.rows ∙ ap₂ (λ vs ws. flat_map (order_row vs ws) order.rows) first_up second_up
 
-
     abbrev f₁ : ℕ → List Formula
     f₁ n = flat_map bounds (ss n)
 
