@@ -3,16 +3,18 @@ use Rattle.std.proofs.Common.{◌≡◌, ℕ, pos, true, false, List, [], ◌∷
 use Rattle.std.specs.Prelude.{codes}
 use Rattle.exo_tree.specs.Tree.{Size, I32, Binder, Lit, Var, Const, Assign, For, Alloc, Block, end, next}
 use Rattle.exo_tree.specs.Tree.{ControlParam, Procedure, MemoryKind, Program}
-use Rattle.exo_meaning.specs.Units.{plainly, is_control, field_kind, IsUnit}
+use Rattle.exo_meaning.specs.Units.{plainly, is_control, is_condition, field_kind, IsUnit}
 use Rattle.text_expressions.specs.Expression.{Tree, variable, binary}
-use Rattle.text_expressions.specs.declared.source.Operator.TheVariants.{Add}
-use Rattle.rules_names.specs.Resolved.{control_of}
+use Rattle.text_expressions.specs.declared.source.Operator.TheVariants.{Add, Lt}
+use Rattle.rules_names.specs.Resolved.{control_of, condition_of}
 use Rattle.exo_tree.specs.Context.{Here, InLoop}
 use Rattle.exo_tree.specs.Places.{Main, Path, Opened}
 use Rattle.rules_names.specs.Names.{id_in}
 use Rattle.rules_scopes.specs.PlaceScope.{scope_at}
 use Rattle.rules_scope_laws.specs.Laws.{scope_beside, StandsAt, SameIdsAtPlace}
-use Rattle.rules_scope_laws.specs.Laws.{ControlsStandAtPlace}
+use Rattle.rules_scope_laws.specs.Laws.{binders_of, SameNamesAtPlace, SameControlsAtPlace}
+use Rattle.rules_scope_laws.specs.Laws.{SameConditionsAtPlace, ControlsStandAtPlace}
+use Rattle.rules_scope_laws.specs.Laws.{ConditionsStandAtPlace}
 
 abbrev named : ℕ → List ℕ → Binder
 named n name = record { id = n; name = name }
@@ -119,3 +121,31 @@ pub sum_stands : ControlsStandAtPlace
 sum_stands law =
     law with_cells 0 path f opened_there true plainly 0 sum is_unit
     (record { procedure = refl; statement = refl }) refl refl
+
+-- i < n
+abbrev less : Tree
+less = binary Lt (variable (codes "i")) (variable (codes "n"))
+
+pub less_stands : ConditionsStandAtPlace
+    → is_condition (field_kind []) plainly (scope_beside f opened_there false)
+    (condition_of [] (scope_at with_cells 0 path false) less)
+    ≡ true
+less_stands law =
+    law with_cells 0 path f opened_there false plainly 0 less is_unit
+    (record { procedure = refl; statement = refl }) refl refl
+
+-- ---- names and expressions
+
+pub same_names : SameNamesAtPlace
+    → binders_of (scope_at unit 0 path true) ≡ binders_of (scope_beside f opened_there true)
+same_names law = law unit 0 path f opened_there true it_stands
+
+pub same_sum : SameControlsAtPlace
+    → control_of [] (scope_at unit 0 path false) sum
+    ≡ control_of [] (scope_beside f opened_there false) sum
+same_sum law = law unit 0 path f opened_there false [] sum it_stands
+
+pub same_less : SameConditionsAtPlace
+    → condition_of [] (scope_at unit 0 path false) less
+    ≡ condition_of [] (scope_beside f opened_there false) less
+same_less law = law unit 0 path f opened_there false [] less it_stands
