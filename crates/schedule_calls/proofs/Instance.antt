@@ -98,7 +98,8 @@ instance patterns texts one = record {
   divided_cut = divides (perfect_key tree.no ∷ tail_key ∷ []) CutAndGuard refl;
   divided_perfect = divides (tail_key ∷ perfect_key tree.yes ∷ []) Perfect refl;
   cut =
-      apply (codes "q") (codes "cut_loop") (codes "p") (on_p (held_c ∷ text (codes "5") ∷ [])) _ refl
+      apply (codes "q") (codes "cut_loop") (codes "p") (on_p (held_c ∷ text (codes "5") ∷ [])) _
+      refl
       (cut_loop held_c (text (codes "5")) at_c (number (Value 5)) (under (codes "c") [])
       (record { written = five; form = refl }));
   unrolled =
@@ -107,7 +108,8 @@ instance patterns texts one = record {
       (record { source = Here (Loop (Some (codes "i"))) 1; moves = [] })
       (here (codes "i #1" ∷ []) (Loop (Some (codes "i"))) 1 patterns.loop));
   specialized =
-      apply (codes "q") (codes "specialize") (codes "p") (on_p (held_c ∷ text (codes "True") ∷ [])) _
+      apply (codes "q") (codes "specialize") (codes "p") (on_p (held_c ∷ text (codes "True") ∷ []))
+      _
       refl
       (specialize held_c (text (codes "True")) at_c (truth true) (under (codes "c") [])
       (record { written = yes; form = refl }));
@@ -128,10 +130,12 @@ instance patterns texts one = record {
   twice = divides_twice;
   no_expression =
       cuts_nothing (codes "i j")
-      (λ e k. one.no_error (line_tokens_of (codes "i j")) (line_places_of (codes "i j")) e (stops_at 3)
+      (λ e k. one.no_error (line_tokens_of (codes "i j")) (line_places_of (codes "i j")) e
+      (stops_at 3)
       k.written texts.two_names);
   no_control =
       cuts_nothing (codes "True") (no_control one (codes "True" ∷ []) (truth true) yes refl);
   no_condition =
-      specializes_nothing (codes "5") (no_condition one (codes "5" ∷ []) (number (Value 5)) five refl);
+      specializes_nothing (codes "5")
+      (no_condition one (codes "5" ∷ []) (number (Value 5)) five refl);
 }

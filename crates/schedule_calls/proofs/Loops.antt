@@ -18,7 +18,8 @@ pub asks_divide : (args : List ArgText) (a by names : ArgText) (keys : List ArgT
     → AsksDivision (plain_argument by) (plain_argument names) (map plain_argument keys) d
     → AsksOperation (codes "divide_loop") (map plain_argument args) (DivideLoop at d)
 asks_divide args a by names keys at d is h k =
-    subst (λ l. AsksOperation (codes "divide_loop") (map plain_argument l) (DivideLoop at d)) (sym is)
+    subst (λ l. AsksOperation (codes "divide_loop") (map plain_argument l) (DivideLoop at d))
+    (sym is)
     (divide_loop (plain_argument a) (plain_argument by) (plain_argument names)
     (map plain_argument keys) at d h k)
 
@@ -103,14 +104,17 @@ no_unroll_in args a is never o asks =
 
 -- ---- specialize
 
-pub asks_specialize : (args : List ArgText) (a b : ArgText) (at : Asked) (c : Tree) → args ≡ a ∷ b ∷ []
+pub asks_specialize : (args : List ArgText) (a b : ArgText) (at : Asked) (c : Tree)
+    → args ≡ a ∷ b ∷ []
     → AsksCursor (plain_argument a) at → AsksCondition (plain_argument b) c
     → AsksOperation (codes "specialize") (map plain_argument args) (Specialize at c)
 asks_specialize args a b at c is h k =
-    subst (λ l. AsksOperation (codes "specialize") (map plain_argument l) (Specialize at c)) (sym is)
+    subst (λ l. AsksOperation (codes "specialize") (map plain_argument l) (Specialize at c))
+    (sym is)
     (specialize (plain_argument a) (plain_argument b) at c h k)
 
-pub no_specialize_condition : (a b : tree.Argument) → ((c : Tree) → AsksCondition b c → ⊥) → (o : Operation)
+pub no_specialize_condition : (a b : tree.Argument) → ((c : Tree) → AsksCondition b c → ⊥)
+    → (o : Operation)
     → AsksOperation (codes "specialize") (a ∷ b ∷ []) o → ⊥
 no_specialize_condition a b never _ (specialize _ _ at c h k) = never c k
 

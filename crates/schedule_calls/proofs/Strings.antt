@@ -75,7 +75,8 @@ no_control one pieces e read bad t asks =
     let both : true ≡ false = sym asks.form ∙ (ap is_control_form same ∙ bad) in cc (both)
 
 pub no_condition : TextsAreOne control → (pieces : List (List ℕ)) (e : Tree)
-    → IsExpressionOf pieces e → is_condition_form e ≡ false → (t : Tree) → IsConditionOf pieces t → ⊥
+    → IsExpressionOf pieces e → is_condition_form e ≡ false → (t : Tree) → IsConditionOf pieces t
+    → ⊥
 no_condition one pieces e read bad t asks =
     let same : t ≡ e = one.tree (line_tokens_of (joined pieces)) t e asks.written read in
     let both : true ≡ false = sym asks.form ∙ (ap is_condition_form same ∙ bad) in cc (both)

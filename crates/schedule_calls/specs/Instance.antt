@@ -84,8 +84,10 @@ pub record LinesInstance : Type 0 where
       (Moved (codes "d") (codes "c") (Item 2 ∷ []))
   -- `q = divide_loop(p, c, 8, ['io', 'ii'])`, and with keys in either order
   pub divided : Asks (divide_line []) (asks_divided Guard)
-  pub divided_cut : Asks (divide_line (perfect_key tree.no ∷ tail_key ∷ [])) (asks_divided CutAndGuard)
-  pub divided_perfect : Asks (divide_line (tail_key ∷ perfect_key tree.yes ∷ [])) (asks_divided Perfect)
+  pub divided_cut :
+      Asks (divide_line (perfect_key tree.no ∷ tail_key ∷ [])) (asks_divided CutAndGuard)
+  pub divided_perfect :
+      Asks (divide_line (tail_key ∷ perfect_key tree.yes ∷ [])) (asks_divided Perfect)
   -- `q = cut_loop(p, c, '5')`
   pub cut : Asks (on_c (codes "cut_loop") (codes "5")) (asks (CutLoop at_c (number (Value 5))))
   -- `q = unroll_loop(p, 'i #1')`

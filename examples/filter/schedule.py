@@ -1,0 +1,5 @@
+p = cut_loop(filter, 'i', 'n - 3')
+p = divide_loop(p, 'i', 8, ['io', 'ii'], tail='cut')
+p = unroll_loop(p, 'k')
+p = specialize(p, find(p, 'io').expand(0, 1), '11 <= n')
+emit(p)
