@@ -1,0 +1,2 @@
+pub mod PlainFork
+pub mod PlainLoop

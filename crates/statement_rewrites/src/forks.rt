@@ -1,0 +1,146 @@
+//! The condition that is all of a piece, and what is made of it.
+ghost use Rattle.std.specs.Prelude.{◌≡◌, [], ◌∷◌, option_map, map, length, IfOk, Some};
+ghost use Rattle.exo_tree.specs.Tree.{block, statements};
+ghost use Rattle.exo_tree.specs.PlainPlace.{branch_taken};
+ghost use Rattle.exo_tree.specs.PlainStatement.{statement};
+ghost use Rattle.cursor_forward.specs.PlainShift.{plain_shift};
+ghost use Rattle.cursor_forward.specs.Shifts as shifts;
+ghost use Rattle.statement_laws.specs.DeadCode as plain;
+ghost use Rattle.step_driver.specs.PlainTarget.{target, plain_piece};
+ghost use Rattle.step_driver.specs.Spots.{spot_at};
+ghost use Rattle.step_needs.specs.PlainNeed.{plain_need};
+ghost use Rattle.statement_rewrites.specs.PlainFork.{plain_fork};
+
+use crate::owing::one;
+use cursor_forward::{Shift, Shifts};
+use exo_tree::{Block, Branch, Cond, Path, Step, Stmt};
+use made_trees::or_pass;
+use std::alloc::{AllocError, Global};
+use step_driver::{Piece, Target};
+use step_needs::{Fact, Need};
+
+/// A condition of a procedure, with its branches.
+#[derive(Clone, Copy)]
+pub(crate) struct ForkAt<'a> {
+    pub(crate) test: &'a Cond,
+    pub(crate) main: &'a Block,
+    pub(crate) other: &'a Block,
+}
+
+/// The condition that a statement is; None exactly where it is another statement.
+fn fork_in(s: &Stmt) -> Option<ForkAt<'_>>
+    ensures { option_map plain_fork result ≡ plain.fork_in (statement s.now) }
+{
+    match s {
+        Stmt::If(test, main, other) => Some(ForkAt { test, main, other }),
+        _ => None,
+    }
+}
+
+/// The condition that is all of a piece; None exactly where it is none, or not one statement.
+pub(crate) fn fork_at<'a>(on: &Target<'a>, piece: &Piece) -> Option<ForkAt<'a>>
+    ensures { option_map plain_fork result ≡ plain.fork_of (spot_at (target on.now) (plain_piece piece.now)).opened.piece }
+{
+    match on.statement(piece) {
+        None => None,
+        Some(s) => fork_in(s),
+    }
+}
+
+/// A copy of a branch, or a `pass` for one that is missing.
+#[tactic(auto, using(crate::proofs::Made::with_pass))]
+fn with_pass(alloc: Global, b: &Block) -> Result<Block, AllocError>
+    ensures { IfOk result (λ made. block made ≡ plain.or_one_pass (block b.now)) }
+{
+    let mut made = b.duplicate(alloc)?;
+    or_pass(&mut made, true)?;
+    Ok(made)
+}
+
+/// The path to the first statement of a piece.
+fn first() -> Path
+    ensures { result ≡ shifts.at_index 0 }
+{
+    let mut path = Path::new();
+    path.push(Step {
+        branch: Branch::Main,
+        index: 0,
+    });
+    path
+}
+
+/// The path to the first statement of a branch of the condition.
+fn in_branch(keep: Branch) -> Path
+    ensures { result ≡ plain.in_branch (branch_taken keep) }
+{
+    let mut path = first();
+    path.push(Step {
+        branch: keep,
+        index: 0,
+    });
+    path
+}
+
+/// So many statements of a branch stand where the condition stood.
+fn out_of_branch(keep: Branch, count: u32) -> Shift
+    ensures { plain_shift result ≡ shifts.range (plain.in_branch (branch_taken keep)) count (Some (shifts.at_index 0)) }
+{
+    Shift {
+        from: in_branch(keep),
+        count,
+        whole: true,
+        to: Some(first()),
+    }
+}
+
+/// All statements of a branch do.
+#[tactic(auto, using(crate::proofs::Made::statements_of))]
+fn all_out(alloc: Global, keep: Branch, b: &Block) -> Result<Shifts, AllocError>
+    ensures { IfOk result (λ s. s ≡ shifts.range (plain.in_branch (branch_taken keep)) (length (statements (block b.now))) (Some (shifts.at_index 0)) ∷ []) }
+{
+    let count = b.len();
+    if count > 4294967295 {
+        return Err(AllocError);
+    }
+    let mut all = Shifts::new(alloc);
+    all.push(out_of_branch(keep, count as u32))?;
+    Ok(all)
+}
+
+impl ForkAt<'_> {
+    /// What stands for the condition where that branch is always taken.
+    pub(crate) fn kept(&self, alloc: Global, keep: Branch) -> Result<Block, AllocError>
+        ensures { IfOk result (λ b. block b ≡ plain.kept (branch_taken keep) (plain_fork self.now)) }
+    {
+        match keep {
+            Branch::Main => with_pass(alloc, self.main),
+            Branch::Else => with_pass(alloc, self.other),
+        }
+    }
+
+    /// That the branch is always taken.
+    pub(crate) fn owed(
+        &self,
+        alloc: Global,
+        at: &Path,
+        keep: Branch,
+    ) -> Result<Vec<Need>, AllocError>
+        ensures { IfOk result (λ ns. map plain_need ns.items ≡ plain.kept_needs (branch_taken keep) at.now (plain_fork self.now)) }
+    {
+        let test = self.test.duplicate(alloc)?;
+        match keep {
+            Branch::Main => one(alloc, at, Fact::Holds(test)),
+            Branch::Else => one(alloc, at, Fact::Fails(test)),
+        }
+    }
+
+    /// Where the statements of the branch go.
+    pub(crate) fn moved(&self, alloc: Global, keep: Branch) -> Result<Shifts, AllocError>
+        ensures { IfOk result (λ s. s ≡ plain.out_of_branch (branch_taken keep) (plain_fork self.now)) }
+    {
+        match keep {
+            Branch::Main => all_out(alloc, keep, self.main),
+            Branch::Else => all_out(alloc, keep, self.other),
+        }
+    }
+}
