@@ -2,17 +2,36 @@
 use Rattle.std.proofs.Common.{◌≡◌, List, ℕ, [], ◌∷◌, true, false, refl, ap}
 use Rattle.std.specs.Prelude.{codes, Some, None}
 use Rattle.std.specs.Str.{bytes_eq}
+use Rattle.text_lexer.specs.declared.token.Literal.TheVariants.{Value}
+use Rattle.text_expressions.specs.Expression.{Tree, number, truth, control}
+use Rattle.exo_reader.specs.Instance.{TextInstance as ReaderInstance, stops_at}
+use Rattle.exo_reader.specs.Strings.{line_tokens_of, line_places_of}
+use Rattle.exo_reader.specs.Texts.{TextsAreOne}
 use Rattle.cursor_patterns.specs.Patterns.{Loop, Read}
 use Rattle.schedule_patterns.specs.Instance.{TextInstance}
 use Rattle.schedule_text.specs.Tree as tree
 use Rattle.schedule_text.specs.declared.source.Direction.TheVariants as way
-use Rattle.schedule_calls.specs.Requests.{Operation, Request, Under}
-use Rattle.schedule_calls.specs.Readings.{AsksOperation, commute_expr, rename, delete_pass, under}
+use Rattle.schedule_calls.specs.Requests.{Operation, Here, Tail, Guard, CutAndGuard}
+use Rattle.schedule_calls.specs.Requests.{Perfect, Division}
+use Rattle.schedule_calls.specs.Readings.{AsksControl, AsksCondition, under, here}
+use Rattle.schedule_calls.specs.Readings.{divide_loop, cut_loop, unroll_loop, specialize}
+use Rattle.schedule_calls.specs.Readings.{AsksOperation, commute_expr, rename, delete_pass}
 use Rattle.schedule_calls.specs.Readings.{Asks, apply, search, moved, emit}
-use Rattle.schedule_calls.specs.Instance.{on_p, bare, LinesInstance}
+use Rattle.schedule_calls.specs.Keys.{tail_in}
+use Rattle.schedule_calls.specs.Instance.{on_p, held_c, at_c, text, divide_line, asks_divided}
+use Rattle.schedule_calls.specs.Instance.{on_c, tail_key, perfect_key}
+use Rattle.schedule_calls.specs.Instance.{AsksNothing, LinesInstance}
+use Rattle.schedule_calls.proofs.Closed.{five, yes}
+use Rattle.schedule_calls.proofs.Strings.{no_control, no_condition}
+use Rattle.schedule_calls.proofs.Loops.{no_divide, no_cut_value, no_specialize_condition}
+use Rattle.schedule_calls.proofs.Lines.{no_apply}
 
 only_delete : (name : List ℕ) (args : List tree.Argument) (o : Operation)
     → AsksOperation name args o → args ≡ [] → name ≡ codes "delete_pass"
+only_delete _ _ _ (divide_loop a by names keys at d h k) is = absurd (cc (is))
+only_delete _ _ _ (cut_loop a b at e h k) is = absurd (cc (is))
+only_delete _ _ _ (unroll_loop a at h) is = absurd (cc (is))
+only_delete _ _ _ (specialize a b at c h k) is = absurd (cc (is))
 only_delete _ _ _ (commute_expr a b at x h k) is = absurd (cc (is))
 only_delete _ _ _ (rename a name h) is = absurd (cc (is))
 only_delete _ _ _ delete_pass is = refl
@@ -23,11 +42,48 @@ no_bare o asks =
     let e : true ≡ false = ap (bytes_eq (codes "rename")) same in
     cc (e)
 
-bare_asks : (r : Request) → Asks bare r → ⊥
-bare_asks _ (apply _ _ _ _ o word asks) = no_bare o asks
+-- ---- divisions
 
-pub instance : TextInstance → LinesInstance
-instance texts = record {
+-- the loop at c, with these keys
+divides : (keys : List tree.Argument) (t : Tail) → tail_in keys ≡ Some t
+    → Asks (divide_line keys) (asks_divided t)
+divides keys t is =
+    apply (codes "q") (codes "divide_loop") (codes "p") (on_p (held_c ∷ _ ∷ _ ∷ keys)) _ refl
+    (divide_loop held_c _ _ keys at_c
+    (record { by = 8; outer = codes "io"; inner = codes "ii"; tail = t }) (under (codes "c") [])
+    (record { by = refl; names = ((refl, refl), (refl, refl)); tail = is }))
+
+divides_twice : AsksNothing (divide_line (tail_key ∷ tail_key ∷ []))
+divides_twice = record {
+  known = refl;
+  none =
+      no_apply (codes "q") (codes "divide_loop") _
+      (no_divide _ _ _ (tail_key ∷ tail_key ∷ [])
+      (λ (d : Division) k. let e : None ≡ Some d.tail = k.tail in cc (e)));
+}
+
+-- ---- expressions
+
+cuts_nothing : (s : List ℕ) → ((e : Tree) → AsksControl (text s) e → ⊥)
+    → AsksNothing (on_c (codes "cut_loop") s)
+cuts_nothing s never = record {
+  known = refl;
+  none =
+      no_apply (codes "q") (codes "cut_loop") (on_p (held_c ∷ text s ∷ []))
+      (no_cut_value held_c (text s) never);
+}
+
+specializes_nothing : (s : List ℕ) → ((c : Tree) → AsksCondition (text s) c → ⊥)
+    → AsksNothing (on_c (codes "specialize") s)
+specializes_nothing s never = record {
+  known = refl;
+  none =
+      no_apply (codes "q") (codes "specialize") (on_p (held_c ∷ text s ∷ []))
+      (no_specialize_condition held_c (text s) never);
+}
+
+pub instance : TextInstance → ReaderInstance → TextsAreOne control → LinesInstance
+instance patterns texts one = record {
   emitted = emit (codes "p");
   found =
       search (codes "c")
@@ -36,18 +92,46 @@ instance texts = record {
         pattern = codes "i #1" ∷ [];
         moves = tree.go way.Parent ∷ [];
       })
-      (Loop (Some (codes "i"))) 1 texts.loop;
+      (Loop (Some (codes "i"))) 1 patterns.loop;
   moved = moved (codes "d") (codes "c") _ [];
+  divided = divides [] Guard refl;
+  divided_cut = divides (perfect_key tree.no ∷ tail_key ∷ []) CutAndGuard refl;
+  divided_perfect = divides (tail_key ∷ perfect_key tree.yes ∷ []) Perfect refl;
+  cut =
+      apply (codes "q") (codes "cut_loop") (codes "p") (on_p (held_c ∷ text (codes "5") ∷ [])) _ refl
+      (cut_loop held_c (text (codes "5")) at_c (number (Value 5)) (under (codes "c") [])
+      (record { written = five; form = refl }));
+  unrolled =
+      apply (codes "q") (codes "unroll_loop") (codes "p") (on_p (text (codes "i #1") ∷ [])) _ refl
+      (unroll_loop (text (codes "i #1"))
+      (record { source = Here (Loop (Some (codes "i"))) 1; moves = [] })
+      (here (codes "i #1" ∷ []) (Loop (Some (codes "i"))) 1 patterns.loop));
+  specialized =
+      apply (codes "q") (codes "specialize") (codes "p") (on_p (held_c ∷ text (codes "True") ∷ [])) _
+      refl
+      (specialize held_c (text (codes "True")) at_c (truth true) (under (codes "c") [])
+      (record { written = yes; form = refl }));
   commuted =
-      apply (codes "q") (codes "commute_expr") (codes "p")
-      (on_p (tree.cursor (tree.held (codes "c") []) ∷ tree.string (codes " _ " ∷ []) ∷ [])) _ refl
-      (commute_expr (tree.cursor (tree.held (codes "c") [])) (tree.string (codes " _ " ∷ []))
-      (record { source = Under (codes "c"); moves = [] }) (record { form = Read None; nth = 0 })
-      (under (codes "c") []) texts.any);
+      apply (codes "q") (codes "commute_expr") (codes "p") (on_p (held_c ∷ text (codes " _ ") ∷ []))
+      _ refl
+      (commute_expr held_c (text (codes " _ ")) at_c (record { form = Read None; nth = 0 })
+      (under (codes "c") []) patterns.any);
   renamed =
-      apply (codes "q") (codes "rename") (codes "p") (on_p (tree.string (codes "i" ∷ []) ∷ [])) _
-      refl (rename (tree.string (codes "i" ∷ [])) (codes "i") (refl, refl));
+      apply (codes "q") (codes "rename") (codes "p") (on_p (text (codes "i") ∷ [])) _
+      refl (rename (text (codes "i")) (codes "i") (refl, refl));
   deleted = apply (codes "q") (codes "delete_pass") (codes "p") (on_p []) _ refl delete_pass;
   unknown = refl;
-  bare = (refl, bare_asks);
+  bare = record {
+    known = refl;
+    none = no_apply (codes "q") (codes "rename") (on_p []) no_bare;
+  };
+  twice = divides_twice;
+  no_expression =
+      cuts_nothing (codes "i j")
+      (λ e k. one.no_error (line_tokens_of (codes "i j")) (line_places_of (codes "i j")) e (stops_at 3)
+      k.written texts.two_names);
+  no_control =
+      cuts_nothing (codes "True") (no_control one (codes "True" ∷ []) (truth true) yes refl);
+  no_condition =
+      specializes_nothing (codes "5") (no_condition one (codes "5" ∷ []) (number (Value 5)) five refl);
 }

@@ -3,5 +3,8 @@ mod Answered
 mod Strings
 mod Cursors
 mod Operations
+mod Loops
+mod Divisions
 mod Lines
+mod Closed
 mod Instance

@@ -1,15 +1,21 @@
 -- A line asks for one thing.
 use Rattle.std.proofs.Common.{◌≡◌, ℕ, List, [], ◌∷◌, refl, sym, ap, ap₂, subst, ◌∙◌, true}
-use Rattle.std.specs.Prelude.{not}
+use Rattle.std.specs.Prelude.{not, Some}
+use Rattle.text_expressions.specs.Expression.{Tree, control}
+use Rattle.exo_reader.specs.Texts.{TextsAreOne}
+use Rattle.exo_reader.specs.Strings.{line_tokens_of}
 use Rattle.exo_reader.specs.Items.{joined}
 use Rattle.schedule_text.specs.Tree as tree
 use Rattle.schedule_patterns.specs.Grammar.{statement, meant, expression, form_meant}
 use Rattle.schedule_patterns.specs.Texts.{PatternsAreOne}
 use Rattle.cursor_patterns.specs.Patterns.{Pattern, ExprForm, ExprPattern}
 use Rattle.schedule_calls.specs.Requests.{Asked, Found, Here, Operation, CommuteExpr, Rename}
-use Rattle.schedule_calls.specs.Requests.{Request, Apply, Search}
+use Rattle.schedule_calls.specs.Requests.{Tail, Division, DivideLoop, CutLoop, UnrollLoop}
+use Rattle.schedule_calls.specs.Requests.{Specialize, Request, Apply, Search}
 use Rattle.schedule_calls.specs.Readings.{moves, IsPatternOf, IsExprPatternOf, IsWord}
 use Rattle.schedule_calls.specs.Readings.{AsksCursor, under, found, here, AsksExpression, AsksName}
+use Rattle.schedule_calls.specs.Readings.{AsksNames, AsksControl, AsksCondition, AsksDivision}
+use Rattle.schedule_calls.specs.Readings.{divide_loop, cut_loop, unroll_loop, specialize}
 use Rattle.schedule_calls.specs.Readings.{AsksOperation, commute_expr, rename, delete_pass, Asks}
 use Rattle.schedule_calls.specs.Readings.{apply, search, moved, emit, is_operator, is_unknown}
 use Rattle.schedule_calls.specs.Answers.{LinesAskOnce}
@@ -61,34 +67,94 @@ one_name (tree.int n) x y h k = absurd h
 one_name (tree.pair s t) x y h k = absurd h
 one_name (tree.key z v) x y h k = absurd h
 
+one_control : TextsAreOne control → (a : tree.Argument) (x y : Tree) → AsksControl a x
+    → AsksControl a y → x ≡ y
+one_control texts (tree.string s) x y h k =
+    texts.tree (line_tokens_of (joined s)) x y h.written k.written
+one_control texts (tree.cursor c) x y h k = absurd h
+one_control texts (tree.int n) x y h k = absurd h
+one_control texts (tree.pair s t) x y h k = absurd h
+one_control texts (tree.key z v) x y h k = absurd h
+
+one_condition : TextsAreOne control → (a : tree.Argument) (x y : Tree) → AsksCondition a x
+    → AsksCondition a y → x ≡ y
+one_condition texts (tree.string s) x y h k =
+    texts.tree (line_tokens_of (joined s)) x y h.written k.written
+one_condition texts (tree.cursor c) x y h k = absurd h
+one_condition texts (tree.int n) x y h k = absurd h
+one_condition texts (tree.pair s t) x y h k = absurd h
+one_condition texts (tree.key z v) x y h k = absurd h
+
+-- ---- divisions
+
+same_some : {T : Type 0} (a b : T) → Some a ≡ Some b → a ≡ b
+same_some a b h = cc
+
+one_pair : (a : tree.Argument) (x y : List ℕ × List ℕ) → AsksNames a x → AsksNames a y
+    → (x.0 ≡ y.0) × (x.1 ≡ y.1)
+one_pair (tree.pair s t) x y h k = (h.0.0 ∙ sym k.0.0, h.1.0 ∙ sym k.1.0)
+one_pair (tree.string s) x y h k = absurd h
+one_pair (tree.cursor c) x y h k = absurd h
+one_pair (tree.int n) x y h k = absurd h
+one_pair (tree.key z v) x y h k = absurd h
+
+one_division : (by names : tree.Argument) (keys : List tree.Argument) (x y : Division)
+    → AsksDivision by names keys x → AsksDivision by names keys y → x ≡ y
+one_division by names keys x y h k =
+    let number : x.by ≡ y.by = same_some x.by y.by (sym h.by ∙ k.by) in
+    let tail : x.tail ≡ y.tail = same_some x.tail y.tail (sym h.tail ∙ k.tail) in
+    let pair = one_pair names (x.outer, x.inner) (y.outer, y.inner) h.names k.names in
+    ap₂ (λ (n : ℕ) (t : Tail). record { by = n; outer = x.outer; inner = x.inner; tail = t }) number
+    tail
+    ∙ ap₂ (λ (o i : List ℕ). record { by = y.by; outer = o; inner = i; tail = y.tail }) pair.0 pair.1
+
 -- ---- operations
 
-one_operation : PatternsAreOne statement meant → PatternsAreOne expression form_meant
+-- what is known of the strings in lines
+record StringsAreOne : Type 0 where
+  pub pattern : PatternsAreOne statement meant
+  pub part : PatternsAreOne expression form_meant
+  pub text : TextsAreOne control
+
+one_operation : StringsAreOne
     → (name : List ℕ) (args : List tree.Argument) (x y : Operation) → AsksOperation name args x
     → AsksOperation name args y → x ≡ y
-one_operation law part _ _ _ _ (commute_expr a b at p h k) (commute_expr _ _ to q i l) =
-    ap₂ CommuteExpr (one_cursor law a at to h i) (one_part part b p q k l)
-one_operation law part _ _ _ _ (rename a n h) (rename _ m k) =
+one_operation one _ _ _ _ (divide_loop a by names keys at d h k)
+    (divide_loop _ _ _ _ to e i l) =
+    ap₂ DivideLoop (one_cursor one.pattern a at to h i) (one_division by names keys d e k l)
+one_operation one _ _ _ _ (cut_loop a b at e h k) (cut_loop _ _ to f i l) =
+    ap₂ CutLoop (one_cursor one.pattern a at to h i) (one_control one.text b e f k l)
+one_operation one _ _ _ _ (unroll_loop a at h) (unroll_loop _ to i) =
+    ap UnrollLoop (one_cursor one.pattern a at to h i)
+one_operation one _ _ _ _ (specialize a b at e h k) (specialize _ _ to f i l) =
+    ap₂ Specialize (one_cursor one.pattern a at to h i) (one_condition one.text b e f k l)
+one_operation one _ _ _ _ (commute_expr a b at p h k) (commute_expr _ _ to q i l) =
+    ap₂ CommuteExpr (one_cursor one.pattern a at to h i) (one_part one.part b p q k l)
+one_operation one _ _ _ _ (rename a n h) (rename _ m k) =
     ap Rename (one_name a n m h k)
-one_operation law part _ _ _ _ delete_pass delete_pass = refl
+one_operation one _ _ _ _ delete_pass delete_pass = refl
 
 known : (name : List ℕ) (args : List tree.Argument) (o : Operation) → AsksOperation name args o
     → is_operator name ≡ true
+known _ _ _ (divide_loop a by names keys at d h k) = refl
+known _ _ _ (cut_loop a b at e h k) = refl
+known _ _ _ (unroll_loop a at h) = refl
+known _ _ _ (specialize a b at e h k) = refl
 known _ _ _ (commute_expr a b at x h k) = refl
 known _ _ _ (rename a n h) = refl
 known _ _ _ delete_pass = refl
 
 -- ---- lines
 
-one_request : PatternsAreOne statement meant → PatternsAreOne expression form_meant
+one_request : StringsAreOne
     → (line : tree.Line) (a b : Request) → Asks line a → Asks line b → a ≡ b
-one_request law part _ _ _ (apply x f u l o h k) (apply _ _ v _ q i j) =
-    ap₂ (Apply x) (one_word l.head u v h i) (one_operation law part f l.more o q k j)
-one_request law part _ _ _ (search x f p m h) (search _ _ q n k) =
-    let one = one_pattern law f.pattern p q m n h k in
-    ap₂ (λ r l. Search x f.version r l (moves f.moves)) one.0 one.1
-one_request law part _ _ _ (moved x f m ms) (moved _ _ _ _) = refl
-one_request law part _ _ _ (emit x) (emit _) = refl
+one_request one _ _ _ (apply x f u l o h k) (apply _ _ v _ q i j) =
+    ap₂ (Apply x) (one_word l.head u v h i) (one_operation one f l.more o q k j)
+one_request one _ _ _ (search x f p m h) (search _ _ q n k) =
+    let same = one_pattern one.pattern f.pattern p q m n h k in
+    ap₂ (λ r l. Search x f.version r l (moves f.moves)) same.0 same.1
+one_request one _ _ _ (moved x f m ms) (moved _ _ _ _) = refl
+one_request one _ _ _ (emit x) (emit _) = refl
 
 unknown_asks : (line : tree.Line) (a : Request) → is_unknown line ≡ true → Asks line a → ⊥
 unknown_asks _ _ is (apply x f u l o h k) =
@@ -98,5 +164,8 @@ unknown_asks _ _ is (moved x f m ms) = cc (is)
 unknown_asks _ _ is (emit x) = cc (is)
 
 pub lines_ask_once : PatternsAreOne statement meant → PatternsAreOne expression form_meant
-    → LinesAskOnce
-lines_ask_once law part = record { request = one_request law part; unknown = unknown_asks }
+    → TextsAreOne control → LinesAskOnce
+lines_ask_once pattern part text = record {
+  request = one_request (record { pattern = pattern; part = part; text = text });
+  unknown = unknown_asks;
+}

@@ -81,14 +81,60 @@ one_test false name text p o rest equal known more is = more is
 
 -- an operator that a name finds has that name
 pub named : (name : List ℕ) (o : Operator) → operator_of name ≡ Some o → name ≡ name_of o
-named name o is =
-    one_test (bytes_eq name (codes "commute_expr")) name (codes "commute_expr") op.CommuteExpr o
-    (if bytes_eq name (codes "rename") then Some op.Rename
-    else (if bytes_eq name (codes "delete_pass") then Some op.DeletePass else None))
-    refl refl
-    (λ second. one_test (bytes_eq name (codes "rename")) name (codes "rename") op.Rename o
-    (if bytes_eq name (codes "delete_pass") then Some op.DeletePass else None) refl refl
-    (λ third. one_test (bytes_eq name (codes "delete_pass")) name (codes "delete_pass")
-    op.DeletePass o None refl refl (λ last. cc (last)) third)
-    second)
-    is
+named name o is = in_first is
+  where
+    is_name : (text : List ℕ) → Bool
+    is_name text = bytes_eq name text
+
+    seventh : Option Operator
+    seventh = if is_name (codes "delete_pass") then Some op.DeletePass else None
+
+    sixth : Option Operator
+    sixth = if is_name (codes "rename") then Some op.Rename else seventh
+
+    fifth : Option Operator
+    fifth = if is_name (codes "commute_expr") then Some op.CommuteExpr else sixth
+
+    fourth : Option Operator
+    fourth = if is_name (codes "specialize") then Some op.Specialize else fifth
+
+    third : Option Operator
+    third = if is_name (codes "unroll_loop") then Some op.UnrollLoop else fourth
+
+    second : Option Operator
+    second = if is_name (codes "cut_loop") then Some op.CutLoop else third
+
+    in_seventh : seventh ≡ Some o → name ≡ name_of o
+    in_seventh =
+        one_test (is_name (codes "delete_pass")) name (codes "delete_pass") op.DeletePass o None
+        refl refl (λ last. cc (last))
+
+    in_sixth : sixth ≡ Some o → name ≡ name_of o
+    in_sixth =
+        one_test (is_name (codes "rename")) name (codes "rename") op.Rename o seventh
+        refl refl in_seventh
+
+    in_fifth : fifth ≡ Some o → name ≡ name_of o
+    in_fifth =
+        one_test (is_name (codes "commute_expr")) name (codes "commute_expr") op.CommuteExpr o sixth
+        refl refl in_sixth
+
+    in_fourth : fourth ≡ Some o → name ≡ name_of o
+    in_fourth =
+        one_test (is_name (codes "specialize")) name (codes "specialize") op.Specialize o fifth
+        refl refl in_fifth
+
+    in_third : third ≡ Some o → name ≡ name_of o
+    in_third =
+        one_test (is_name (codes "unroll_loop")) name (codes "unroll_loop") op.UnrollLoop o fourth
+        refl refl in_fourth
+
+    in_second : second ≡ Some o → name ≡ name_of o
+    in_second =
+        one_test (is_name (codes "cut_loop")) name (codes "cut_loop") op.CutLoop o third
+        refl refl in_third
+
+    in_first : operator_of name ≡ Some o → name ≡ name_of o
+    in_first =
+        one_test (is_name (codes "divide_loop")) name (codes "divide_loop") op.DivideLoop o second
+        refl refl in_second

@@ -1,10 +1,14 @@
--- Lines of which the laws speak: one of each form, and two that ask for nothing.
-use Rattle.std.specs.Prelude.{◌≡◌, true, false, List, [], ◌∷◌, Some, None, codes}
+-- Lines of which the laws speak: one of each form, and some that ask for nothing.
+use Rattle.std.specs.Prelude.{◌≡◌, ℕ, true, false, List, [], ◌∷◌, Some, None, codes}
 use Rattle.text_lexer.specs.declared.token.Literal.TheVariants.{Value}
+use Rattle.text_expressions.specs.Expression.{number, truth}
 use Rattle.cursor_patterns.specs.Patterns.{Loop, Read}
 use Rattle.schedule_text.specs.Tree as tree
 use Rattle.schedule_text.specs.declared.source.Direction.TheVariants as way
-use Rattle.schedule_calls.specs.Requests.{Parent, Item, Under, CommuteExpr, Rename, DeletePass}
+use Rattle.schedule_calls.specs.Requests.{Parent, Item, Asked, Under, Here, Operation}
+use Rattle.schedule_calls.specs.Requests.{DivideLoop, Tail, Guard, CutAndGuard, Perfect}
+use Rattle.schedule_calls.specs.Requests.{CutLoop, UnrollLoop, Specialize}
+use Rattle.schedule_calls.specs.Requests.{CommuteExpr, Rename, DeletePass}
 use Rattle.schedule_calls.specs.Requests.{Request, Apply, Search, Moved, Emit}
 use Rattle.schedule_calls.specs.Readings.{Asks, is_unknown}
 
@@ -13,9 +17,52 @@ abbrev pub on_p : List tree.Argument → tree.Arguments
 on_p more =
     record { head = tree.cursor (tree.held (codes "p") []); more = more; trailing = false }
 
--- `p = rename(p)`
-abbrev pub bare : tree.Line
-bare = tree.bind (codes "p") (tree.operation (codes "rename") (on_p []))
+-- `q = OPERATOR(p, ..)`
+abbrev pub line_of : List ℕ → List tree.Argument → tree.Line
+line_of operator more = tree.bind (codes "q") (tree.operation operator (on_p more))
+
+abbrev pub asks : Operation → Request
+asks o = Apply (codes "q") (codes "p") o
+
+-- `c`, and a string in its place
+abbrev pub held_c : tree.Argument
+held_c = tree.cursor (tree.held (codes "c") [])
+
+abbrev pub at_c : Asked
+at_c = record { source = Under (codes "c"); moves = [] }
+
+abbrev pub text : List ℕ → tree.Argument
+text s = tree.string (s ∷ [])
+
+-- `q = divide_loop(p, c, 8, ['io', 'ii'], KEYS)`
+abbrev pub divide_line : List tree.Argument → tree.Line
+divide_line keys =
+    line_of (codes "divide_loop")
+    (held_c
+    ∷ tree.int (Value 8)
+    ∷ tree.pair (codes "io" ∷ []) (codes "ii" ∷ [])
+    ∷ keys)
+
+abbrev pub asks_divided : Tail → Request
+asks_divided t =
+    asks
+    (DivideLoop at_c (record { by = 8; outer = codes "io"; inner = codes "ii"; tail = t }))
+
+-- `tail='cut_and_guard'`, `perfect=True`, `perfect=False`
+abbrev pub tail_key : tree.Argument
+tail_key = tree.key (codes "tail") (tree.text (codes "cut_and_guard" ∷ []))
+
+abbrev pub perfect_key : tree.KeyValue → tree.Argument
+perfect_key value = tree.key (codes "perfect") value
+
+-- `q = OPERATOR(p, c, STRING)`
+abbrev pub on_c : List ℕ → List ℕ → tree.Line
+on_c operator s = line_of operator (held_c ∷ text s ∷ [])
+
+-- its operator is there, and it asks for nothing
+pub record AsksNothing (line : tree.Line) : Type 0 where
+  pub known : is_unknown line ≡ false
+  pub none : (r : Request) → Asks line r → ⊥
 
 pub record LinesInstance : Type 0 where
   -- `emit(p)`
@@ -35,26 +82,34 @@ pub record LinesInstance : Type 0 where
   pub moved :
       Asks (tree.bind (codes "d") (tree.moved (codes "c") (tree.item (Value 2)) []))
       (Moved (codes "d") (codes "c") (Item 2 ∷ []))
+  -- `q = divide_loop(p, c, 8, ['io', 'ii'])`, and with keys in either order
+  pub divided : Asks (divide_line []) (asks_divided Guard)
+  pub divided_cut : Asks (divide_line (perfect_key tree.no ∷ tail_key ∷ [])) (asks_divided CutAndGuard)
+  pub divided_perfect : Asks (divide_line (tail_key ∷ perfect_key tree.yes ∷ [])) (asks_divided Perfect)
+  -- `q = cut_loop(p, c, '5')`
+  pub cut : Asks (on_c (codes "cut_loop") (codes "5")) (asks (CutLoop at_c (number (Value 5))))
+  -- `q = unroll_loop(p, 'i #1')`
+  pub unrolled :
+      Asks (line_of (codes "unroll_loop") (text (codes "i #1") ∷ []))
+      (asks (UnrollLoop (record { source = Here (Loop (Some (codes "i"))) 1; moves = [] })))
+  -- `q = specialize(p, c, 'True')`
+  pub specialized :
+      Asks (on_c (codes "specialize") (codes "True")) (asks (Specialize at_c (truth true)))
   -- `q = commute_expr(p, c, ' _ ')`
   pub commuted :
-      Asks
-      (tree.bind (codes "q")
-      (tree.operation (codes "commute_expr")
-      (on_p (tree.cursor (tree.held (codes "c") []) ∷ tree.string (codes " _ " ∷ []) ∷ []))))
-      (Apply (codes "q") (codes "p")
-      (CommuteExpr (record { source = Under (codes "c"); moves = [] })
-      (record { form = Read None; nth = 0 })))
+      Asks (on_c (codes "commute_expr") (codes " _ "))
+      (asks (CommuteExpr at_c (record { form = Read None; nth = 0 })))
   -- `q = rename(p, 'i')`
-  pub renamed :
-      Asks
-      (tree.bind (codes "q")
-      (tree.operation (codes "rename") (on_p (tree.string (codes "i" ∷ []) ∷ []))))
-      (Apply (codes "q") (codes "p") (Rename (codes "i")))
+  pub renamed : Asks (line_of (codes "rename") (text (codes "i") ∷ [])) (asks (Rename (codes "i")))
   -- `q = delete_pass(p)`
-  pub deleted :
-      Asks (tree.bind (codes "q") (tree.operation (codes "delete_pass") (on_p [])))
-      (Apply (codes "q") (codes "p") DeletePass)
+  pub deleted : Asks (line_of (codes "delete_pass") []) (asks DeletePass)
   -- `q = vanish(p)`
-  pub unknown :
-      is_unknown (tree.bind (codes "q") (tree.operation (codes "vanish") (on_p []))) ≡ true
-  pub bare : (is_unknown bare ≡ false) × ((r : Request) → Asks bare r → ⊥)
+  pub unknown : is_unknown (line_of (codes "vanish") []) ≡ true
+  -- `q = rename(p)`
+  pub bare : AsksNothing (line_of (codes "rename") [])
+  -- a key stands once
+  pub twice : AsksNothing (divide_line (tail_key ∷ tail_key ∷ []))
+  -- two names are no expression, a truth value is no control value, and a number no condition
+  pub no_expression : AsksNothing (on_c (codes "cut_loop") (codes "i j"))
+  pub no_control : AsksNothing (on_c (codes "cut_loop") (codes "True"))
+  pub no_condition : AsksNothing (on_c (codes "specialize") (codes "5"))

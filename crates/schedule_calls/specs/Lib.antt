@@ -1,4 +1,5 @@
 pub mod Requests
+pub mod Keys
 pub mod Readings
 pub mod PlainRequest
 pub mod Operators

@@ -1,15 +1,21 @@
 -- Requests in memory, as plain ones.
-use Rattle.std.specs.Prelude.{ℕ, List, ◌∷◌, map}
+use Rattle.std.specs.Prelude.{ℕ, List, ◌∷◌, map, option_map}
+use Rattle.text_expressions.specs.Views.{tree_of}
 use Rattle.cursor_patterns.specs.Patterns as patterns
 use Rattle.cursor_patterns.specs.declared.pattern.Pattern.{Pattern}
 use Rattle.cursor_patterns.specs.PlainPattern.{plain_pattern, plain_expr_pattern}
 use Rattle.schedule_text.specs.Views.{plain_move}
 use Rattle.schedule_text.specs.declared.source.Move as source
 use Rattle.schedule_calls.specs.Requests as plain
+use Rattle.schedule_calls.specs.Keys as keys
 use Rattle.schedule_calls.specs.Readings.{move, moves}
+use Rattle.schedule_calls.specs.declared.division.TailKeys.{TailKeys}
 use Rattle.schedule_calls.specs.declared.request.Source.{Source}
 use Rattle.schedule_calls.specs.declared.request.Source.TheVariants as from
 use Rattle.schedule_calls.specs.declared.request.Asked.{Asked}
+use Rattle.schedule_calls.specs.declared.request.Tail.{Tail}
+use Rattle.schedule_calls.specs.declared.request.Tail.TheVariants as tail
+use Rattle.schedule_calls.specs.declared.request.Division.{Division}
 use Rattle.schedule_calls.specs.declared.request.Operation.{Operation}
 use Rattle.schedule_calls.specs.declared.request.Operation.TheVariants as operation
 use Rattle.schedule_calls.specs.declared.request.Request.{Request}
@@ -30,9 +36,28 @@ plain_source (from.Here p nth) = plain.Here (plain_pattern p) nth
 abbrev pub plain_asked : Asked → plain.Asked
 plain_asked a = record { source = plain_source a.source; moves = moves_of a.moves.now }
 
+abbrev pub plain_tail : Tail → plain.Tail
+plain_tail tail.Guard = plain.Guard
+plain_tail tail.Cut = plain.Cut
+plain_tail tail.CutAndGuard = plain.CutAndGuard
+plain_tail tail.Perfect = plain.Perfect
+
+abbrev pub plain_keys : TailKeys → keys.TailKeys
+plain_keys k = record { tail = option_map plain_tail k.tail; perfect = k.perfect }
+
+abbrev pub plain_division : Division → plain.Division
+plain_division d =
+    record { by = d.by; outer = d.outer; inner = d.inner; tail = plain_tail d.tail }
+
 abbrev pub plain_operation : Operation → plain.Operation
+plain_operation (operation.DivideLoop at d) =
+    plain.DivideLoop (plain_asked at.value) (plain_division d.value)
+plain_operation (operation.CutLoop at e) = plain.CutLoop (plain_asked at.value) (tree_of e.value)
+plain_operation (operation.UnrollLoop at) = plain.UnrollLoop (plain_asked at.value)
+plain_operation (operation.Specialize at c) =
+    plain.Specialize (plain_asked at.value) (tree_of c.value)
 plain_operation (operation.CommuteExpr at x) =
-    plain.CommuteExpr (plain_asked at) (plain_expr_pattern x)
+    plain.CommuteExpr (plain_asked at.value) (plain_expr_pattern x)
 plain_operation (operation.Rename name) = plain.Rename name
 plain_operation operation.DeletePass = plain.DeletePass
 

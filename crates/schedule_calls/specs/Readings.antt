@@ -1,10 +1,15 @@
 -- How a line asks for something: the strings in it are patterns and names, and the arguments of an
 -- operator have its forms.
-use Rattle.std.specs.Prelude.{◌≡◌, ℕ, Bool, false, ◌||◌, not, List, [], ◌∷◌, None, map, codes}
+use Rattle.std.specs.Prelude.{◌≡◌, ℕ, Bool, true, false, ◌||◌, not, List, [], ◌∷◌}
+use Rattle.std.specs.Prelude.{Option, Some, None, map, codes}
 use Rattle.std.specs.Str.{bytes_eq}
 use Rattle.text_lexer.specs.declared.token.Literal.{Literal}
 use Rattle.text_lexer.specs.declared.token.Literal.TheVariants.{Value}
+use Rattle.text_phrases.specs.Text.{IsText}
+use Rattle.text_expressions.specs.Expression.{Tree, control}
 use Rattle.exo_reader.specs.Items.{joined}
+use Rattle.exo_reader.specs.Strings.{line_tokens_of}
+use Rattle.rules_names.specs.Arguments.{is_control_form, is_condition_form}
 use Rattle.schedule_text.specs.Tree as tree
 use Rattle.schedule_text.specs.declared.source.Direction.{Direction}
 use Rattle.schedule_text.specs.declared.source.Direction.TheVariants as way
@@ -14,8 +19,11 @@ use Rattle.schedule_patterns.specs.Texts.{IsPattern}
 use Rattle.cursor_patterns.specs.Patterns.{Pattern, ExprPattern}
 use Rattle.schedule_calls.specs.Requests.{Move, Parent, Next, Prev, Body, Before, After, Expand}
 use Rattle.schedule_calls.specs.Requests.{Item}
-use Rattle.schedule_calls.specs.Requests.{Asked, Under, Found, Here, Operation, CommuteExpr, Rename}
-use Rattle.schedule_calls.specs.Requests.{DeletePass, Request, Apply, Search, Moved, Emit}
+use Rattle.schedule_calls.specs.Requests.{Asked, Under, Found, Here, Division, Operation}
+use Rattle.schedule_calls.specs.Requests.{DivideLoop, CutLoop, UnrollLoop, Specialize}
+use Rattle.schedule_calls.specs.Requests.{CommuteExpr, Rename, DeletePass}
+use Rattle.schedule_calls.specs.Requests.{Request, Apply, Search, Moved, Emit}
+use Rattle.schedule_calls.specs.Keys.{tail_in}
 
 -- ---- moves
 
@@ -54,6 +62,18 @@ IsExprPatternOf pieces x = IsPattern expression form_meant (joined pieces) x.for
 abbrev pub IsNameOf : List (List ℕ) → List ℕ → Type 0
 IsNameOf pieces name = (name ≡ joined pieces) × (name_fault (joined pieces) ≡ None)
 
+-- an expression, with the limits of a bound or a condition
+abbrev pub IsExpressionOf : List (List ℕ) → Tree → Type 0
+IsExpressionOf pieces e = IsText control (line_tokens_of (joined pieces)) e
+
+pub record IsControlOf (pieces : List (List ℕ)) (e : Tree) : Type 0 where
+  pub written : IsExpressionOf pieces e
+  pub form : is_control_form e ≡ true
+
+pub record IsConditionOf (pieces : List (List ℕ)) (e : Tree) : Type 0 where
+  pub written : IsExpressionOf pieces e
+  pub form : is_condition_form e ≡ true
+
 -- ---- arguments
 
 -- a name and nothing more
@@ -81,10 +101,48 @@ abbrev pub AsksName : tree.Argument → List ℕ → Type 0
 AsksName (tree.string pieces) name = IsNameOf pieces name
 AsksName other name = ⊥
 
+abbrev pub AsksNames : tree.Argument → List ℕ × List ℕ → Type 0
+AsksNames (tree.pair a b) names = IsNameOf a names.0 × IsNameOf b names.1
+AsksNames other names = ⊥
+
+abbrev pub AsksControl : tree.Argument → Tree → Type 0
+AsksControl (tree.string pieces) e = IsControlOf pieces e
+AsksControl other e = ⊥
+
+abbrev pub AsksCondition : tree.Argument → Tree → Type 0
+AsksCondition (tree.string pieces) e = IsConditionOf pieces e
+AsksCondition other e = ⊥
+
+abbrev pub number_in : tree.Argument → Option ℕ
+number_in (tree.int n) = Some (number_of n)
+number_in other = None
+
+-- a number, a pair of names, and arguments with keys
+pub record AsksDivision (a b : tree.Argument) (keys : List tree.Argument) (d : Division)
+    : Type 0 where
+  pub by : number_in a ≡ Some d.by
+  pub names : AsksNames b (d.outer, d.inner)
+  pub tail : tail_in keys ≡ Some d.tail
+
 -- ---- operators
 
 -- by its name, with the arguments behind the first
 pub data AsksOperation : List ℕ → List tree.Argument → Operation → Type 0 where
+  divide_loop : (a b c : tree.Argument) (keys : List tree.Argument) (at : Asked) (d : Division)
+      → AsksCursor a at
+      → AsksDivision b c keys d
+      → AsksOperation (codes "divide_loop") (a ∷ b ∷ c ∷ keys) (DivideLoop at d)
+  cut_loop : (a b : tree.Argument) (at : Asked) (e : Tree)
+      → AsksCursor a at
+      → AsksControl b e
+      → AsksOperation (codes "cut_loop") (a ∷ b ∷ []) (CutLoop at e)
+  unroll_loop : (a : tree.Argument) (at : Asked)
+      → AsksCursor a at
+      → AsksOperation (codes "unroll_loop") (a ∷ []) (UnrollLoop at)
+  specialize : (a b : tree.Argument) (at : Asked) (c : Tree)
+      → AsksCursor a at
+      → AsksCondition b c
+      → AsksOperation (codes "specialize") (a ∷ b ∷ []) (Specialize at c)
   commute_expr : (a b : tree.Argument) (at : Asked) (x : ExprPattern)
       → AsksCursor a at
       → AsksExpression b x
@@ -97,9 +155,13 @@ pub data AsksOperation : List ℕ → List tree.Argument → Operation → Type 
 -- the operators that there are
 abbrev pub is_operator : List ℕ → Bool
 is_operator name =
-    bytes_eq name (codes "commute_expr")
+    bytes_eq name (codes "divide_loop")
+    || (bytes_eq name (codes "cut_loop")
+    || (bytes_eq name (codes "unroll_loop")
+    || (bytes_eq name (codes "specialize")
+    || (bytes_eq name (codes "commute_expr")
     || (bytes_eq name (codes "rename")
-    || bytes_eq name (codes "delete_pass"))
+    || bytes_eq name (codes "delete_pass"))))))
 
 -- ---- lines
 

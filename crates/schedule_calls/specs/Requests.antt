@@ -1,5 +1,6 @@
 -- What a line of a schedule asks for, by its text alone: strings are read, names are not looked up.
 use Rattle.std.specs.Prelude.{ℕ, List}
+use Rattle.text_expressions.specs.Expression.{Tree}
 use Rattle.cursor_patterns.specs.Patterns.{Pattern, ExprPattern}
 
 pub data Move : Type 0 where
@@ -19,8 +20,24 @@ pub record Asked : Type 0 where
   pub source : Source
   pub moves : List Move
 
--- an operator with its arguments behind the first
+-- what becomes of the turns that fill no group
+pub data Tail : Type 0 where
+  Guard Cut CutAndGuard Perfect : Tail
+
+-- so many turns a group, and the names of the loop over the groups and of that in a group
+pub record Division : Type 0 where
+  pub by : ℕ
+  pub outer : List ℕ
+  pub inner : List ℕ
+  pub tail : Tail
+
+-- An operator with its arguments behind the first. Expressions are as they are written: a control
+-- value for `CutLoop`, a condition for `Specialize`.
 pub data Operation : Type 0 where
+  DivideLoop : Asked → Division → Operation
+  CutLoop : Asked → Tree → Operation
+  UnrollLoop : Asked → Operation
+  Specialize : Asked → Tree → Operation
   CommuteExpr : Asked → ExprPattern → Operation
   Rename : List ℕ → Operation
   DeletePass : Operation

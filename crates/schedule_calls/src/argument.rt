@@ -1,19 +1,22 @@
 //! Arguments of operators.
 
-ghost use Rattle.std.specs.Prelude.{◌≡◌, IfOk, MatchOption};
+ghost use Rattle.std.specs.Prelude.{◌≡◌, IfOk, MatchOption, option_map};
 ghost use Rattle.cursor_patterns.specs.PlainPattern.{plain_expr_pattern};
+ghost use Rattle.text_expressions.specs.Views.{tree_of};
 ghost use Rattle.schedule_text.specs.Views.{plain_argument, plain_cursor, plain_found};
 ghost use Rattle.schedule_text.specs.Tree as tree;
 ghost use Rattle.schedule_calls.specs.Readings.{IsWord, AsksCursor, AsksExpression, AsksName};
+ghost use Rattle.schedule_calls.specs.Readings.{AsksNames, AsksControl, AsksCondition, number_in};
 ghost use Rattle.schedule_calls.specs.PlainRequest.{plain_asked};
 ghost use Rattle.schedule_calls.specs.Answers.{AsksOne};
 
 use crate::request::{Asked, Source};
-use crate::string::{expression_of, name_of, pattern_of};
+use crate::string::{condition_of, control_of, expression_of, name_of, pattern_of};
 use cursor_patterns::ExprPattern;
 use exo_tree::Name;
 use schedule_text::source::{ArgText, CursorText, Found, Quoted};
 use std::alloc::{AllocError, Global};
+use text_expressions::source::SourceExpr;
 use text_lexer::text::Text;
 
 /// The name that the argument is, with no moves.
@@ -70,14 +73,24 @@ fn written_of(alloc: Global, cursor: &CursorText) -> Result<Option<Asked<'_>>, A
     }
 }
 
-/// The cursor that the argument asks for.
-pub fn cursor_of(alloc: Global, arg: &ArgText) -> Result<Option<Asked<'_>>, AllocError>
+/// A cursor or a string in its place.
+fn asked_of(alloc: Global, arg: &ArgText) -> Result<Option<Asked<'_>>, AllocError>
     ensures { IfOk result (λ asked. AsksOne (AsksCursor (plain_argument arg.now)) plain_asked asked) }
 {
     match arg {
         ArgText::Cursor(cursor) => written_of(alloc, cursor),
         ArgText::Str(string) => here_of(alloc, string),
         _ => Ok(None),
+    }
+}
+
+/// The cursor that the argument asks for.
+pub fn cursor_of(alloc: Global, arg: &ArgText) -> Result<Option<Box<Asked<'_>>>, AllocError>
+    ensures { IfOk result (λ asked. AsksOne (AsksCursor (plain_argument arg.now)) (λ a. plain_asked a.value) asked) }
+{
+    match asked_of(alloc, arg)? {
+        Some(asked) => Ok(Some(Box::new(alloc, asked)?)),
+        None => Ok(None),
     }
 }
 
@@ -98,5 +111,51 @@ pub fn name_in(alloc: Global, arg: &ArgText) -> Result<Option<Name>, AllocError>
     match arg {
         ArgText::Str(string) => name_of(alloc, string),
         _ => Ok(None),
+    }
+}
+
+/// The names that the argument is as a pair of strings.
+pub fn names_in(alloc: Global, arg: &ArgText) -> Result<Option<(Name, Name)>, AllocError>
+    ensures { IfOk result (λ found. AsksOne (AsksNames (plain_argument arg.now)) (λ x. (x.0, x.1)) found) }
+{
+    let ArgText::Pair(first, second) = arg else {
+        return Ok(None);
+    };
+    let Some(first) = name_of(alloc, first)? else {
+        return Ok(None);
+    };
+    match name_of(alloc, second)? {
+        Some(second) => Ok(Some((first, second))),
+        None => Ok(None),
+    }
+}
+
+/// The control value that the argument is as a string.
+pub fn control_in(alloc: Global, arg: &ArgText) -> Result<Option<Box<SourceExpr>>, AllocError>
+    ensures { IfOk result (λ found. AsksOne (AsksControl (plain_argument arg.now)) (λ e. tree_of e.value) found) }
+{
+    match arg {
+        ArgText::Str(string) => control_of(alloc, string),
+        _ => Ok(None),
+    }
+}
+
+/// The condition that the argument is as a string.
+pub fn condition_in(alloc: Global, arg: &ArgText) -> Result<Option<Box<SourceExpr>>, AllocError>
+    ensures { IfOk result (λ found. AsksOne (AsksCondition (plain_argument arg.now)) (λ e. tree_of e.value) found) }
+{
+    match arg {
+        ArgText::Str(string) => condition_of(alloc, string),
+        _ => Ok(None),
+    }
+}
+
+/// The number that the argument is.
+pub fn number_in(arg: &ArgText) -> Option<u32>
+    ensures { option_map (λ n. n) result ≡ number_in (plain_argument arg.now) }
+{
+    match arg {
+        ArgText::Int(n) => Some(*n),
+        _ => None,
     }
 }

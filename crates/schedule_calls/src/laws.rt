@@ -2,6 +2,8 @@
 ghost use Rattle.schedule_calls.specs.Answers.{LinesAskOnce};
 ghost use Rattle.schedule_calls.specs.Instance.{LinesInstance};
 
+use exo_reader::laws as texts;
+use exo_reader::laws::expressions_are_one;
 use schedule_patterns::laws::{expr_patterns_are_one, patterns_are_one, text_instance};
 
 /// A line asks for one thing, and one whose operator is unknown for none.
@@ -10,11 +12,14 @@ pub fn lines_ask_once()
 {
     patterns_are_one();
     expr_patterns_are_one();
+    expressions_are_one();
 }
 
-/// Lines of each form, and two that ask for nothing.
+/// Lines of each form, and some that ask for nothing.
 pub fn line_instance()
     ensures { LinesInstance }
 {
     text_instance();
+    texts::text_instance();
+    expressions_are_one();
 }

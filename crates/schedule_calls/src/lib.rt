@@ -3,6 +3,7 @@
 #![tactic(auto)]
 
 mod argument;
+mod division;
 pub mod laws;
 mod line;
 mod operator;
@@ -10,4 +11,4 @@ mod request;
 mod string;
 
 pub use line::read_line;
-pub use request::{Asked, LineFault, Operation, Request, Source};
+pub use request::{Asked, Division, LineFault, Operation, Request, Source, Tail};

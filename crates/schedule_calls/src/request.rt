@@ -3,6 +3,7 @@
 use cursor_patterns::{ExprPattern, Pattern};
 use exo_tree::Name;
 use schedule_text::source::Move;
+use text_expressions::source::SourceExpr;
 use text_lexer::text::Text;
 
 /// Where a cursor is looked for.
@@ -23,11 +24,44 @@ pub struct Asked<'a> {
     pub moves: &'a [Move],
 }
 
+/// What becomes of the turns of a loop that fill no group.
+#[derive(Clone, Copy)]
+pub enum Tail {
+    /// The last group is guarded.
+    Guard,
+    /// They have a loop of their own.
+    Cut,
+    /// They have a loop of their own, which is guarded.
+    CutAndGuard,
+    /// There are none.
+    Perfect,
+}
+
+/// How the turns of a loop are divided into groups.
+#[derive(Drop)]
+pub struct Division {
+    /// How many turns a group has.
+    pub by: u32,
+    /// The name of the loop over the groups.
+    pub outer: Name,
+    /// The name of the loop in a group.
+    pub inner: Name,
+    pub tail: Tail,
+}
+
 /// An operator with its arguments behind the first.
 #[derive(Drop)]
 pub enum Operation<'a> {
+    /// The loop, and how its turns are divided.
+    DivideLoop(Box<Asked<'a>>, Box<Division>),
+    /// The loop, and the control value at which it is cut.
+    CutLoop(Box<Asked<'a>>, Box<SourceExpr>),
+    /// The loop.
+    UnrollLoop(Box<Asked<'a>>),
+    /// The statements, and the condition that tells their two copies apart.
+    Specialize(Box<Asked<'a>>, Box<SourceExpr>),
     /// The statement, and which part of its right side.
-    CommuteExpr(Asked<'a>, ExprPattern),
+    CommuteExpr(Box<Asked<'a>>, ExprPattern),
     /// The new name.
     Rename(Name),
     DeletePass,

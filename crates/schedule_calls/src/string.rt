@@ -2,18 +2,24 @@
 
 ghost use Rattle.std.specs.Prelude.{◌≡◌, None, IfOk, MatchOption};
 ghost use Rattle.cursor_patterns.specs.PlainPattern.{plain_expr_pattern};
+ghost use Rattle.text_expressions.specs.Views.{tree_of};
 ghost use Rattle.exo_reader.specs.declared.unit.ReadKind.TheVariants as kind;
 ghost use Rattle.schedule_calls.specs.Readings.{IsPatternIn, IsExprPatternOf, IsNameOf};
+ghost use Rattle.schedule_calls.specs.Readings.{IsExpressionOf, IsControlOf, IsConditionOf};
 ghost use Rattle.schedule_calls.specs.PlainRequest.{plain_found};
 ghost use Rattle.schedule_calls.specs.Answers.{AsksOne};
 
 use cursor_patterns::{ExprPattern, Pattern};
+use exo_reader::laws::expressions_are_one;
+use exo_reader::string::read_expr;
 use exo_reader::unit::{ReadError, ReadKind};
 use exo_tree::Name;
+use rules_names::argument::{is_condition_form, is_control_form};
 use schedule_patterns::laws::{expr_patterns_are_one, patterns_are_one};
 use schedule_patterns::{read_expr_pattern, read_name, read_pattern};
 use schedule_text::source::Quoted;
 use std::alloc::{AllocError, Global};
+use text_expressions::source::SourceExpr;
 
 /// A string that is not what its place asks, or memory ran out.
 fn refused(e: &ReadError) -> Result<(), AllocError>
@@ -66,5 +72,54 @@ pub fn name_of(alloc: Global, string: &Quoted) -> Result<Option<Name>, AllocErro
             refused(&e)?;
             Ok(None)
         }
+    }
+}
+
+/// The expression that the string is.
+fn source_of(alloc: Global, string: &Quoted) -> Result<Option<Box<SourceExpr>>, AllocError>
+    ensures { IfOk result (λ found. AsksOne (IsExpressionOf string.now.pieces.items) (λ e. tree_of e.value) found) }
+{
+    let bytes = string.bytes(alloc)?;
+    match read_expr(alloc, bytes.as_slice()) {
+        Ok(found) => Ok(Some(Box::new(alloc, found)?)),
+        Err(e) => {
+            refused(&e)?;
+            expressions_are_one();
+            Ok(None)
+        }
+    }
+}
+
+/// The control value that the string is.
+pub fn control_of(alloc: Global, string: &Quoted) -> Result<Option<Box<SourceExpr>>, AllocError>
+    ensures { IfOk result (λ found. AsksOne (IsControlOf string.now.pieces.items) (λ e. tree_of e.value) found) }
+{
+    let found = source_of(alloc, string)?;
+    expressions_are_one();
+    match found {
+        Some(e) => {
+            if is_control_form(&e) {
+                return Ok(Some(e));
+            }
+            Ok(None)
+        }
+        None => Ok(None),
+    }
+}
+
+/// The condition that the string is.
+pub fn condition_of(alloc: Global, string: &Quoted) -> Result<Option<Box<SourceExpr>>, AllocError>
+    ensures { IfOk result (λ found. AsksOne (IsConditionOf string.now.pieces.items) (λ e. tree_of e.value) found) }
+{
+    let found = source_of(alloc, string)?;
+    expressions_are_one();
+    match found {
+        Some(e) => {
+            if is_condition_form(&e) {
+                return Ok(Some(e));
+            }
+            Ok(None)
+        }
+        None => Ok(None),
     }
 }

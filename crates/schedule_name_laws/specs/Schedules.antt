@@ -8,7 +8,8 @@ use Rattle.text_show_laws.specs.Named.{AreNamed}
 use Rattle.text_show_laws.specs.Writable.{IsWritable}
 use Rattle.unit_check.specs.Faults.{NothingFaults}
 use Rattle.schedule_text.specs.Tree as tree
-use Rattle.schedule_calls.specs.Requests.{Operation, CommuteExpr, Rename, DeletePass, Request}
+use Rattle.schedule_calls.specs.Requests.{Operation, DivideLoop, CutLoop, UnrollLoop, Specialize}
+use Rattle.schedule_calls.specs.Requests.{CommuteExpr, Rename, DeletePass, Request}
 use Rattle.schedule_calls.specs.Requests.{Apply, Search, Moved, Emit}
 use Rattle.schedule_calls.specs.Readings.{Asks}
 use Rattle.schedule_versions.specs.Versions.{Versions, started}
@@ -17,13 +18,17 @@ use Rattle.schedule_versions.specs.Laws.{HasRoom}
 use Rattle.schedule_operators.specs.Operators.{act_of}
 
 -- the names that an operator is given are of the grammar
-abbrev pub AsksNames : Operation → Type 0
-AsksNames (CommuteExpr at x) = ⊤
-AsksNames (Rename name) = IsName name
-AsksNames DeletePass = ⊤
+abbrev pub TakesNames : Operation → Type 0
+TakesNames (DivideLoop at d) = IsName d.outer × IsName d.inner
+TakesNames (CutLoop at e) = ⊤
+TakesNames (UnrollLoop at) = ⊤
+TakesNames (Specialize at c) = ⊤
+TakesNames (CommuteExpr at x) = ⊤
+TakesNames (Rename name) = IsName name
+TakesNames DeletePass = ⊤
 
 abbrev pub GivesNames : Request → Type 0
-GivesNames (Apply bind of o) = AsksNames o
+GivesNames (Apply bind of o) = TakesNames o
 GivesNames (Search bind of pattern nth moves) = ⊤
 GivesNames (Moved bind of moves) = ⊤
 GivesNames (Emit name) = ⊤

@@ -2,7 +2,9 @@
 use Rattle.std.proofs.Common.{◌≡◌, ◌≤◌, ◌<◌, ◌+◌, ◌*◌, ◌^◌, ℕ, zero, suc, Some, None, refl, subst}
 use Rattle.std.proofs.Common.{arith}
 use Rattle.std.specs.Prelude.{slice_get}
+use Rattle.std.specs.Fmt.{digits}
 use Rattle.exo_tree.specs.Tree.{Procedure}
+use Rattle.affine_prover.specs.Elimination.{verdict_on, verdict_on_rows, round, reduced, normalized}
 use Rattle.exo_meaning.specs.Units.{IsUnit}
 use Rattle.made_trees.specs.Ids.{next_id}
 use Rattle.unit_check.specs.Laws.{CheckedUnitsDoNotFault}
@@ -11,6 +13,7 @@ use Rattle.schedule_versions.specs.Laws.{HasRoom}
 use Rattle.schedule_operators.specs.Operators.{SchedulesDerive}
 use Rattle.schedule_operators.specs.Instance.{first, unit, schedule, result, ScheduleInstance}
 use Rattle.schedule_operators.specs.Instance.{ResultIsDerived}
+use Rattle.schedule_operators.specs.LoopInstance.{LoopsInstance}
 
 pub schedule_instance : ScheduleInstance
 schedule_instance = record {
@@ -22,6 +25,23 @@ schedule_instance = record {
   wrong_shape = refl;
   no_parent = refl;
   no_emit = refl;
+}
+
+pub loops_instance : LoopsInstance
+unfolding digits verdict_on verdict_on_rows round reduced normalized
+loops_instance = record {
+  runs = refl;
+  no_group = refl;
+  no_loop = refl;
+  many_turns = refl;
+  cut_outside = refl;
+  own_variable = refl;
+  no_control = refl;
+  no_condition = refl;
+  no_neighbour = refl;
+  block_for_loop = refl;
+  gap_for_block = refl;
+  before_block = refl;
 }
 
 is_unit : IsUnit unit

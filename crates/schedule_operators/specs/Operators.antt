@@ -1,14 +1,26 @@
 -- What the operators of a schedule do: each takes its cursors and then works by its rule.
-use Rattle.std.specs.Prelude.{◌≡◌, ℕ, true, List, [], ◌∷◌, length, map}
-use Rattle.exo_tree.specs.Tree.{Program}
-use Rattle.exo_meaning.specs.Units.{IsUnit}
+use Rattle.std.specs.Prelude.{◌≡◌, ℕ, pos, true, false, List, [], ◌∷◌, length, map}
+use Rattle.exo_tree.specs.Tree.{Control, Condition, Program}
+use Rattle.exo_tree.specs.Places.{Path}
+use Rattle.exo_meaning.specs.Units.{Scope, IsUnit}
+use Rattle.text_expressions.specs.Expression.{Tree}
+use Rattle.rules_names.specs.Arguments.{knows_fields}
+use Rattle.rules_names.specs.Resolved.{control_of, condition_of}
+use Rattle.rules_scopes.specs.PlaceScope.{scope_at}
 use Rattle.unit_check.specs.Faults.{NothingFaults}
 use Rattle.cursor_forward.specs.Causes.{WrongShape}
-use Rattle.cursor_forward.specs.Cursors.{Cursor, Node}
-use Rattle.step_rules.specs.Rule.{Tried, Got, Not, Rule}
+use Rattle.cursor_forward.specs.Cursors.{Cursor, Node, Range}
+use Rattle.step_rules.specs.Rule.{Tried, Got, Not, Target, Rule}
 use Rattle.expression_laws.specs.Commute.{commute_rule}
 use Rattle.expression_laws.specs.Passes.{delete_pass_rule}
 use Rattle.expression_laws.specs.Rename.{rename_rule}
+use Rattle.loop_laws.specs.DivideLoop as divide
+use Rattle.loop_laws.specs.DivideLoop.{divide_rule}
+use Rattle.loop_laws.specs.CutLoop.{cut_rule}
+use Rattle.loop_laws.specs.UnrollLoop.{unroll_rule}
+use Rattle.loop_laws.specs.Specialize.{specialize_rule}
+use Rattle.schedule_calls.specs.Requests.{Tail, Guard, Cut, CutAndGuard, Perfect, Division}
+use Rattle.schedule_calls.specs.Requests.{Asked, DivideLoop, CutLoop, UnrollLoop, Specialize}
 use Rattle.schedule_calls.specs.Requests.{Operation, CommuteExpr, Rename, DeletePass, Request}
 use Rattle.schedule_calls.specs.Requests as request
 use Rattle.schedule_versions.specs.Versions.{Versions, started}
@@ -16,26 +28,73 @@ use Rattle.schedule_versions.specs.Lines.{Ruled, Call, Act, Apply, Search, Moved
 use Rattle.schedule_versions.specs.Laws.{IsLawfulCall, AreDerived, HasRoom}
 use Rattle.schedule_versions.specs.Behind.{CallNamesNoField, NothingDiffers}
 
--- ---- cursors
+-- ---- places
 
--- a rule at a statement; a cursor of another form is of the wrong shape
-abbrev pub at_statement : Rule → List Cursor → Tried Ruled
-at_statement r (Node path ∷ []) = Got (record { rule = r; at = path })
+-- a rule at a statement, by its path; a cursor of another form is of the wrong shape
+abbrev pub at_statement : (Path → Rule) → List Cursor → Tried Ruled
+at_statement r (Node path ∷ []) = Got (record { rule = r path; at = path })
 at_statement r cs = Not WrongShape
+
+-- at a statement or a block, by its path and how many statements it has
+abbrev pub at_block : (Path → ℕ → Rule) → List Cursor → Tried Ruled
+at_block r (Node path ∷ []) = Got (record { rule = r path 1; at = path })
+at_block r (Range path count ∷ []) = Got (record { rule = r path count; at = path })
+at_block r cs = Not WrongShape
 
 -- a rule on the whole procedure
 abbrev pub on_procedure : Rule → Tried Ruled
 on_procedure r = Got (record { rule = r; at = [] })
 
+-- ---- arguments
+
+abbrev pub tail_of : Tail → divide.Tail
+tail_of Guard = divide.Guard
+tail_of Cut = divide.Cut
+tail_of CutAndGuard = divide.CutAndGuard
+tail_of Perfect = divide.Perfect
+
+abbrev pub division_of : Division → divide.Division
+division_of d =
+    record { by = pos d.by; outer = d.outer; inner = d.inner; tail = tail_of d.tail }
+
+-- the names in scope before the statement at a path
+abbrev pub scope_before : Target → Path → Scope
+scope_before t path = scope_at t.unit t.number path false
+
+-- what an expression stands for there
+abbrev pub control_at : Target → Path → Tree → Control
+control_at t path e = control_of t.unit.fields (scope_before t path) e
+
+abbrev pub condition_at : Target → Path → Tree → Condition
+condition_at t path c = condition_of t.unit.fields (scope_before t path) c
+
 -- ---- operators
 
+-- at the statement that is asked for, by a rule that needs no names
+abbrev pub statement_call : Asked → Rule → Call
+statement_call at r =
+    record { named = λ v. true; cursors = at ∷ []; rule = λ t cs. at_statement (λ path. r) cs }
+
+-- on the whole procedure
+abbrev pub procedure_call : Rule → Call
+procedure_call r = record { named = λ v. true; cursors = []; rule = λ t cs. on_procedure r }
+
 abbrev pub call_of : Operation → Call
-call_of (CommuteExpr at x) =
-    record { named = λ v. true; cursors = at ∷ []; rule = λ t cs. at_statement (commute_rule x) cs }
-call_of (Rename name) =
-    record { named = λ v. true; cursors = []; rule = λ t cs. on_procedure (rename_rule name) }
-call_of DeletePass =
-    record { named = λ v. true; cursors = []; rule = λ t cs. on_procedure delete_pass_rule }
+call_of (DivideLoop at d) = statement_call at (divide_rule (division_of d))
+call_of (CutLoop at e) = record {
+  named = λ v. knows_fields v.unit.fields e;
+  cursors = at ∷ [];
+  rule = λ t cs. at_statement (λ path. cut_rule (control_at t path e)) cs;
+}
+call_of (UnrollLoop at) = statement_call at unroll_rule
+call_of (Specialize at c) = record {
+  named = λ v. knows_fields v.unit.fields c;
+  cursors = at ∷ [];
+  rule = λ t cs. at_block (λ path count. specialize_rule count (condition_at t path c)) cs;
+}
+call_of (CommuteExpr at x) = statement_call at (commute_rule x)
+call_of (Rename name) = procedure_call (rename_rule name)
+call_of DeletePass = procedure_call delete_pass_rule
 
 abbrev pub act_of : Request → Act
 act_of (request.Apply bind of o) = Apply bind of (call_of o)

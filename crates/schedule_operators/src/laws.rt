@@ -3,11 +3,16 @@
 ghost use Rattle.schedule_operators.specs.Operators.{OperatorsAreLawful, SchedulesDerive};
 ghost use Rattle.schedule_operators.specs.Operators.{OperatorsNameNoField, SchedulesDifferInNothing};
 ghost use Rattle.schedule_operators.specs.Instance.{ScheduleInstance, ResultIsDerived};
+ghost use Rattle.schedule_operators.specs.LoopInstance.{LoopsInstance};
 
 /// Every operator works by lawful rules.
 pub fn operators_are_lawful()
     ensures { OperatorsAreLawful }
 {
+    loop_laws::laws::divisions_are_lawful();
+    loop_laws::laws::cuts_are_lawful();
+    loop_laws::laws::unrolled_loops_are_lawful();
+    loop_laws::laws::specialized_blocks_are_lawful();
     expression_laws::laws::exchanges_are_lawful();
     expression_laws::laws::names_are_lawful();
     expression_laws::laws::deleted_passes_are_lawful();
@@ -17,6 +22,10 @@ pub fn operators_are_lawful()
 pub fn schedules_derive()
     ensures { SchedulesDerive }
 {
+    loop_laws::laws::divisions_are_lawful();
+    loop_laws::laws::cuts_are_lawful();
+    loop_laws::laws::unrolled_loops_are_lawful();
+    loop_laws::laws::specialized_blocks_are_lawful();
     expression_laws::laws::exchanges_are_lawful();
     expression_laws::laws::names_are_lawful();
     expression_laws::laws::deleted_passes_are_lawful();
@@ -27,6 +36,11 @@ pub fn schedules_derive()
 /// A schedule that runs, and one for each refusal that needs no proof.
 pub fn schedule_instance()
     ensures { ScheduleInstance }
+{}
+
+/// Schedules that change a loop, and refusals of theirs.
+pub fn loops_instance()
+    ensures { LoopsInstance }
 {}
 
 /// What the schedule of the instance leaves is derived.

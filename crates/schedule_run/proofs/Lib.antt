@@ -8,5 +8,7 @@ pub mod Writing
 pub mod Answering
 pub mod Stepping
 pub mod Plans
+pub mod Planning
+pub mod Forms
 pub mod Going
 pub mod Lists

@@ -1,5 +1,5 @@
 -- What operators make, by what calls below answer.
-use Rattle.std.proofs.Common.{◌≡◌, ℕ, List, [], ◌∷◌, Option, Some, None, refl, sym, ap, ◌∙◌, subst}
+use Rattle.std.proofs.Common.{◌≡◌, ℕ, List, Option, Some, None, refl, subst}
 use Rattle.std.specs.Prelude.{MatchOption, Result, Ok, Err, IfOk, Bool, true, false, if◌then◌else◌}
 use Rattle.exo_tree.specs.PlainProcedure.{procedure}
 use Rattle.exo_meaning.specs.Units.{IsUnit}
@@ -10,26 +10,20 @@ use Rattle.cursor_forward.specs.PlainProposal.{plain_proposal}
 use Rattle.cursor_forward.specs.declared.proposal.Proposal.{Proposal}
 use Rattle.schedule_run.specs.Outcomes.{Makes}
 use Rattle.exo_tree.specs.Tree.{Procedure}
-use Rattle.exo_tree.specs.Places.{Path}
-use Rattle.cursor_forward.specs.Cursors.{Cursor, Node, Range, Gap}
+use Rattle.cursor_forward.specs.Cursors.{Cursor}
 use Rattle.cursor_forward.specs.Proposals.{Plan}
 use Rattle.cursor_forward.specs.PlainProposal.{cause_of}
-use Rattle.cursor_forward.specs.declared.proposal.StepError.{StepError}
-use Rattle.step_rules.specs.Rule.{Tried, Target, Rule}
+use Rattle.step_rules.specs.Rule.{Tried}
 use Rattle.step_rules.specs.Rule as rule
 use Rattle.step_rules.specs.Answer.{proposed}
-use Rattle.step_driver.specs.Outcomes.{RefusedBy}
-use Rattle.schedule_calls.specs.Requests.{Asked}
 use Rattle.schedule_versions.specs.Versions.{Versions}
-use Rattle.schedule_versions.specs.Places.{Sought, Got, Lost, then_seek, sought}
+use Rattle.schedule_versions.specs.Places.{Sought, Got, Lost}
 use Rattle.schedule_versions.specs.Lines.{Why, UnknownName, target, Ruled, Call, all_sought}
 use Rattle.schedule_run.specs.Planned as plans
 use Rattle.schedule_run.specs.Planned.{Made, Not, then_make, as_found, as_tried, planned_by, planned}
-use Rattle.schedule_run.specs.Planned.{procedure_call, statement_call, statement_in}
-use Rattle.schedule_run.specs.PlainWhy.{Says, why_of_step, fault_of}
+use Rattle.schedule_run.specs.PlainWhy.{Says, fault_of}
 use Rattle.schedule_run.specs.declared.why.Why as memory
 use Rattle.schedule_run.specs.declared.why.Why.TheVariants as why
-use Rattle.schedule_run.proofs.Answering.{step_refused}
 
 -- ---- refusals
 
@@ -50,99 +44,17 @@ says P Q f (why.Check e) h = matched _ _ (λ c. f _) (fault_of e) h
 says P Q f (why.NotShown what place verdict) h = f _ h
 says P Q f why.Memory h = tt
 
-not_got : {T : Type 0} {x : T} {w : Why} → plans.Got x ≡ Not w → ⊥
+pub not_got : {T : Type 0} {x : T} {w : Why} → plans.Got x ≡ Not w → ⊥
 not_got h = cc
 
-got_same : {T : Type 0} {x y : T} → plans.Got x ≡ plans.Got y → x ≡ y
+pub got_same : {T : Type 0} {x y : T} → plans.Got x ≡ plans.Got y → x ≡ y
 got_same h = cc
 
-got_not : {T : Type 0} {x : T} {w : Why} → Not w ≡ plans.Got x → ⊥
+pub got_not : {T : Type 0} {x : T} {w : Why} → Not w ≡ plans.Got x → ⊥
 got_not h = cc
 
-not_same : {T : Type 0} (a b : Why) → ◌≡◌ {A = Made T} (Not a) (Not b) → a ≡ b
+pub not_same : {T : Type 0} (a b : Why) → ◌≡◌ {A = Made T} (Not a) (Not b) → a ≡ b
 not_same a b h = cc
-
-turned : {A B : Type 0} {a b : Why} → ◌≡◌ {A = Made A} (Not a) (Not b)
-    → ◌≡◌ {A = Made B} (Not a) (Not b)
-turned {A} {B} {a} {b} h = ap (λ w. Not w) (not_same a b h)
-
-module _ (v : Versions) (k : ℕ) (p : Procedure) (r : Rule) where
-  -- ---- on the whole procedure
-
-  module _ (t : Target) (same : t ≡ target v k p) where
-    pub procedure_made : (m : Plan) → proposed r t [] ≡ rule.Got m
-        → planned v k p (procedure_call r) ≡ plans.Got m
-    procedure_made m h = ap as_tried (ap (λ t. proposed r t []) (sym same) ∙ h)
-
-    pub procedure_refused : (e : StepError) → RefusedBy (proposed r t []) (cause_of e)
-        → Says (λ w. planned v k p (procedure_call r) ≡ Not w) (why_of_step e)
-    procedure_refused e h =
-        step_refused (proposed r (target v k p) []) e
-        (subst (λ t. RefusedBy (proposed r t []) (cause_of e)) same h)
-
-  -- ---- at a statement
-
-  module _ (at : Asked) where
-    abbrev made_at : Sought Cursor → Made Plan
-    made_at s =
-        then_make (as_found (then_seek s (λ c. Got (c ∷ [])))) (planned_by v k p (statement_call r at))
-
-    lost : (s : Sought Cursor) (w : Why) → as_found s ≡ Not w → made_at s ≡ Not w
-    lost (Got c) w h = absurd (not_got h)
-    lost (Lost m) w h = turned h
-
-    pub not_found : (e : memory.Why) → Says (λ w. as_found (sought v k at) ≡ Not w) e
-        → Says (λ w. planned v k p (statement_call r at) ≡ Not w) e
-    not_found e h =
-        says (λ w. as_found (sought v k at) ≡ Not w) (λ w. made_at (sought v k at) ≡ Not w)
-        (λ w. lost (sought v k at) w) e h
-
-    shapeless : (s : Sought Cursor) (c : Cursor) (w : Why) → as_found s ≡ plans.Got c
-        → statement_in c ≡ Not w → made_at s ≡ Not w
-    shapeless (Lost m) c w h i = absurd (got_not h)
-    shapeless (Got d) c w h i = by d (ap statement_in (got_same h) ∙ i)
-      where
-        by : (d : Cursor) → statement_in d ≡ Not w → made_at (Got d) ≡ Not w
-        by (Node path) h = absurd (not_got h)
-        by (Range path count) h = turned h
-        by (Gap path side) h = turned h
-
-    pub not_statement : (c : Cursor) → as_found (sought v k at) ≡ plans.Got c → (e : memory.Why)
-        → Says (λ w. statement_in c ≡ Not w) e
-        → Says (λ w. planned v k p (statement_call r at) ≡ Not w) e
-    not_statement c h e i =
-        says (λ w. statement_in c ≡ Not w) (λ w. made_at (sought v k at) ≡ Not w)
-        (λ w. shapeless (sought v k at) c w h) e i
-
-    placed : (s : Sought Cursor) (c : Cursor) (path : Path) → as_found s ≡ plans.Got c
-        → statement_in c ≡ plans.Got path
-        → made_at s ≡ as_tried (proposed r (target v k p) path)
-    placed (Lost m) c path h i = absurd (got_not h)
-    placed (Got d) c path h i = by d (ap statement_in (got_same h) ∙ i)
-      where
-        by : (d : Cursor) → statement_in d ≡ plans.Got path
-            → made_at (Got d) ≡ as_tried (proposed r (target v k p) path)
-        by (Node other) h =
-            ap (λ (q : Path). as_tried (proposed r (target v k p) q)) (got_same h)
-        by (Range other count) h = absurd (got_not h)
-        by (Gap other side) h = absurd (got_not h)
-
-    module _ (c : Cursor) (found : as_found (sought v k at) ≡ plans.Got c) (path : Path)
-        (is : statement_in c ≡ plans.Got path) (t : Target) (same : t ≡ target v k p) where
-      pub statement_made : (m : Plan) → proposed r t path ≡ rule.Got m
-          → planned v k p (statement_call r at) ≡ plans.Got m
-      statement_made m h =
-          placed (sought v k at) c path found is
-          ∙ ap as_tried (ap (λ t. proposed r t path) (sym same) ∙ h)
-
-      pub statement_refused : (e : StepError) → RefusedBy (proposed r t path) (cause_of e)
-          → Says (λ w. planned v k p (statement_call r at) ≡ Not w) (why_of_step e)
-      statement_refused e h =
-          says (λ w. as_tried (proposed r (target v k p) path) ≡ Not w)
-          (λ w. planned v k p (statement_call r at) ≡ Not w)
-          (λ w i. placed (sought v k at) c path found is ∙ i) (why_of_step e)
-          (step_refused (proposed r (target v k p) path) e
-          (subst (λ t. RefusedBy (proposed r t path) (cause_of e)) same h))
 
 -- ---- what is planned may stand behind the procedures
 

@@ -1,6 +1,8 @@
 -- Why a line is refused, as it is said in memory.
 use Rattle.std.specs.Prelude.{⊤, Option, Some, None, MatchOption}
 use Rattle.affine_forms.specs.declared.error.FormError.TheVariants as form
+use Rattle.rules_names.specs.declared.argument.ArgError.{ArgError}
+use Rattle.rules_names.specs.declared.argument.ArgError.TheVariants as argument
 use Rattle.bounds_check.specs.Obligations.{Fault, Wide, ManyCases, LargeSystem, ManyObligations}
 use Rattle.bounds_check.specs.declared.error.CheckError.{CheckError}
 use Rattle.bounds_check.specs.declared.error.CheckError.TheVariants as check
@@ -61,6 +63,12 @@ abbrev pub why_of_show : shown.Why → Why
 why_of_show (shown_why.Check e) = why.Check e
 why_of_show (shown_why.NotShown what place verdict) = why.NotShown what place verdict
 why_of_show shown_why.Memory = why.Memory
+
+-- of an expression; one in a line has the form of its place
+abbrev pub why_of_argument : ArgError → Why
+why_of_argument argument.Memory = why.Memory
+why_of_argument argument.NotOfForm = why.BadArguments
+why_of_argument argument.UnknownName = why.UnknownName
 
 -- ---- a line that asks nothing
 

@@ -1,5 +1,5 @@
 -- What an operator makes of a version, before anything is shown.
-use Rattle.std.specs.Prelude.{◌++◌, ◌∷◌, [], ℕ, true, if◌then◌else◌, List, length}
+use Rattle.std.specs.Prelude.{◌++◌, ℕ, Bool, true, if◌then◌else◌, List, length}
 use Rattle.std.specs.Prelude.{Option, Some, None}
 use Rattle.exo_tree.specs.Tree.{Procedure, Program}
 use Rattle.exo_tree.specs.Places.{Path}
@@ -10,18 +10,20 @@ use Rattle.unit_check.specs.Checked.{first_open}
 use Rattle.cursor_forward.specs.Causes.{WrongShape}
 use Rattle.cursor_forward.specs.Cursors.{Cursor, Node, Range, Gap}
 use Rattle.cursor_forward.specs.Proposals.{Plan}
-use Rattle.step_rules.specs.Rule.{Tried, Rule}
+use Rattle.step_rules.specs.Rule.{Tried, Piece}
 use Rattle.step_rules.specs.Rule as rule
 use Rattle.step_rules.specs.Answer.{proposed}
 use Rattle.tree_rules_laws.specs.Versions.{with_version}
-use Rattle.schedule_calls.specs.Requests.{Asked}
+use Rattle.rules_names.specs.Arguments.{is_control_form, is_condition_form}
+use Rattle.schedule_calls.specs.Requests.{Asked, Operation, DivideLoop, CutLoop, UnrollLoop}
+use Rattle.schedule_calls.specs.Requests.{Specialize, CommuteExpr, Rename, DeletePass, Request}
+use Rattle.schedule_calls.specs.Requests as request
 use Rattle.schedule_versions.specs.Versions.{Versions, version_at}
-use Rattle.schedule_versions.specs.Places.{Sought}
+use Rattle.schedule_versions.specs.Places.{Sought, sought}
 use Rattle.schedule_versions.specs.Places as place
 use Rattle.schedule_versions.specs.Lines.{Why, UnknownProc, UnknownName, NoPlace, Step, Check}
 use Rattle.schedule_versions.specs.Lines.{NotShown}
 use Rattle.schedule_versions.specs.Lines.{Progress, Refused, checked_step, target, Call, all_sought}
-use Rattle.schedule_operators.specs.Operators.{at_statement, on_procedure}
 
 -- something, or why a line is refused
 pub data Made (T : Type 0) : Type 0 where
@@ -51,22 +53,48 @@ module _ (v : Versions) (k : ℕ) (p : Procedure) where
       if call.named v then then_make (as_found (all_sought v k call.cursors)) (planned_by call)
       else Not UnknownName
 
--- ---- calls of operators by their rules
+-- ---- where an operator works
 
--- on the whole procedure
-abbrev pub procedure_call : Rule → Call
-procedure_call r =
-    record { named = λ v. true; cursors = []; rule = λ t cs. on_procedure r }
-
--- at the statement that is asked for
-abbrev pub statement_call : Rule → Asked → Call
-statement_call r at =
-    record { named = λ v. true; cursors = at ∷ []; rule = λ t cs. at_statement r cs }
-
+-- a statement is asked for
 abbrev pub statement_in : Cursor → Made Path
 statement_in (Node path) = Got path
 statement_in (Range path count) = Not (Step WrongShape)
 statement_in (Gap path side) = Not (Step WrongShape)
+
+-- a statement or a block
+abbrev pub block_in : Cursor → Made Piece
+block_in (Node path) = Got (record { path = path; count = 1 })
+block_in (Range path count) = Got (record { path = path; count = count })
+block_in (Gap path side) = Not (Step WrongShape)
+
+module _ (v : Versions) (k : ℕ) (at : Asked) where
+  abbrev pub statement_at : Made Path
+  statement_at = then_make (as_found (sought v k at)) statement_in
+
+  abbrev pub block_at : Made Piece
+  block_at = then_make (as_found (sought v k at)) block_in
+
+-- ---- expressions in lines
+
+-- an expression has the form of its place, as in each line
+abbrev pub has_form : Operation → Bool
+has_form (DivideLoop at d) = true
+has_form (CutLoop at e) = is_control_form e
+has_form (UnrollLoop at) = true
+has_form (Specialize at c) = is_condition_form c
+has_form (CommuteExpr at x) = true
+has_form (Rename name) = true
+has_form DeletePass = true
+
+abbrev pub have_forms : Request → Bool
+have_forms (request.Apply bind of o) = has_form o
+have_forms (request.Search bind of pattern nth moves) = true
+have_forms (request.Moved bind of moves) = true
+have_forms (request.Emit name) = true
+
+-- the names that are asked for are there
+abbrev pub if_known : Bool → Made (Unit {0})
+if_known b = if b then Got tt else Not UnknownName
 
 -- ---- a line
 

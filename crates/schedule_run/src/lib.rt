@@ -4,7 +4,9 @@
 mod binding;
 mod cursors;
 pub mod laws;
+mod placing;
 mod planning;
+mod resolving;
 mod run;
 mod running;
 mod session;

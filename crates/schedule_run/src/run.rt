@@ -1,5 +1,5 @@
 //! Runs of schedules.
-ghost use Rattle.std.specs.Prelude.{◌≡◌, ◌<◌, map, length, IfErr, OnOk};
+ghost use Rattle.std.specs.Prelude.{◌≡◌, ◌<◌, true, map, length, IfErr, OnOk};
 ghost use Rattle.exo_tree.specs.PlainUnit.{program};
 ghost use Rattle.exo_meaning.specs.Units.{IsUnit};
 ghost use Rattle.schedule_text.specs.Views.{plain_line};
@@ -9,6 +9,7 @@ ghost use Rattle.schedule_versions.specs.Lines.{performed};
 ghost use Rattle.schedule_operators.specs.Operators.{act_of};
 ghost use Rattle.schedule_run.specs.Outcomes.{Performs, RunsLine, RunsLines};
 ghost use Rattle.schedule_run.specs.PlainWhy.{why_of_line};
+ghost use Rattle.schedule_run.specs.Planned.{have_forms};
 ghost use Rattle.schedule_run.specs.Running.{IsRunning, versions_in};
 ghost use Rattle.schedule_run.specs.declared.why.Why.TheVariants.{Memory};
 
@@ -42,7 +43,8 @@ impl Running {
         cache: &mut Cache,
         gate: &G,
     ) -> Result<(), Why>
-        requires { IsRunning self.old }
+        requires running { IsRunning self.old }
+        requires forms { have_forms (plain_request request.entry) ≡ true }
         ensures performs { Performs (performed (versions_in self.old) (act_of (plain_request request.entry))) (versions_in self.new) result }
         ensures running { OnOk result (IsRunning self.new) }
     {

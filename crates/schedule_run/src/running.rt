@@ -15,7 +15,7 @@ ghost use Rattle.schedule_versions.specs.Lines.{called};
 ghost use Rattle.schedule_operators.specs.Operators.{call_of};
 ghost use Rattle.schedule_run.specs.Outcomes.{Makes, Performs};
 ghost use Rattle.schedule_run.specs.Planned as plans;
-ghost use Rattle.schedule_run.specs.Planned.{planned_of, stepped, owed_with};
+ghost use Rattle.schedule_run.specs.Planned.{has_form, planned_of, stepped, owed_with};
 ghost use Rattle.schedule_run.specs.Running.{IsRunning, versions_in};
 
 use crate::planning::planned;
@@ -74,7 +74,8 @@ impl Running {
 
     /// What an operation makes of version `k`. Without room for a step it is answered as want of memory.
     fn plan(&self, alloc: Global, k: ProcId, operation: &Operation<'_>) -> Result<Proposal, Why>
-        requires { IsRunning self.now }
+        requires running { IsRunning self.now }
+        requires form { has_form (plain_operation operation.now) ≡ true }
         ensures made { Makes plain_proposal (planned_of (versions_in self.now) (call_of (plain_operation operation.now)) k.0) result }
         ensures kept { IfOk result (λ m. IsUnit (with_version (program self.now.session.unit) (procedure m.proc))) }
     {
@@ -181,7 +182,8 @@ impl Running {
         cache: &mut Cache,
         gate: &G,
     ) -> Result<(), Why>
-        requires { IsRunning self.old }
+        requires running { IsRunning self.old }
+        requires form { has_form (plain_operation operation.now) ≡ true }
         ensures performs { Performs (called (versions_in self.old) bind.now (call_of (plain_operation operation.now)) (version_of (versions_in self.old) of.now)) (versions_in self.new) result }
         ensures running { OnOk result (IsRunning self.new) }
     {
@@ -203,7 +205,8 @@ impl Running {
         cache: &mut Cache,
         gate: &G,
     ) -> Result<(), Why>
-        requires { IsRunning self.old }
+        requires running { IsRunning self.old }
+        requires form { has_form (plain_operation operation.entry) ≡ true }
         ensures performs { Performs (called (versions_in self.old) bind.now (call_of (plain_operation operation.entry)) (version_of (versions_in self.old) of.now)) (versions_in self.new) result }
         ensures running { OnOk result (IsRunning self.new) }
     {

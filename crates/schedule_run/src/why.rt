@@ -1,6 +1,6 @@
 //! Why a line is refused.
 ghost use Rattle.std.specs.Prelude.{◌≡◌};
-ghost use Rattle.schedule_run.specs.PlainWhy.{why_of_step, why_of_list, why_of_show};
+ghost use Rattle.schedule_run.specs.PlainWhy.{why_of_argument, why_of_step, why_of_list, why_of_show};
 ghost use Rattle.schedule_run.specs.declared.why.Why.TheVariants as why;
 
 use affine_forms::FormError;
@@ -8,6 +8,7 @@ use affine_prover::Verdict;
 use bounds_check::CheckError;
 use cursor_forward::StepError;
 use exo_tree::{Path, Text};
+use rules_names::argument::ArgError;
 use std::alloc::{AllocError, AllocFailed};
 
 /// Why there is no cursor.
@@ -81,6 +82,18 @@ impl From<Missing> for Why {
 
     fn from(missing: Missing) -> Why {
         Why::NoPlace(missing)
+    }
+}
+
+impl From<ArgError> for Why {
+    ghost from_gives = { λ e w. w ≡ why_of_argument e };
+
+    fn from(error: ArgError) -> Why {
+        match error {
+            ArgError::Memory => Why::Memory,
+            ArgError::NotOfForm => Why::BadArguments,
+            ArgError::UnknownName => Why::UnknownName,
+        }
     }
 }
 

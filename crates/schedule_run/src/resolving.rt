@@ -1,0 +1,123 @@
+//! Operators whose arguments have expressions: what these stand for where the operators work.
+ghost use Rattle.std.specs.Prelude.{◌≡◌, true};
+ghost use Rattle.exo_tree.specs.PlainProcedure.{procedure};
+ghost use Rattle.exo_tree.specs.PlainUnit.{program};
+ghost use Rattle.exo_modes.specs.Marks.{modes_of};
+ghost use Rattle.exo_modes.specs.Seen.{table_says};
+ghost use Rattle.text_expressions.specs.Views.{tree_of};
+ghost use Rattle.rules_names.specs.Arguments.{is_control_form, is_condition_form, knows_fields};
+ghost use Rattle.cursor_forward.specs.PlainProposal.{plain_proposal};
+ghost use Rattle.loop_laws.specs.CutLoop.{cut_rule};
+ghost use Rattle.loop_laws.specs.Specialize.{specialize_rule};
+ghost use Rattle.step_rules.specs.Answer as answer;
+ghost use Rattle.step_rules.specs.Lawful.{IsTarget};
+ghost use Rattle.step_driver.specs.PlainTarget.{target, plain_piece};
+ghost use Rattle.schedule_calls.specs.PlainRequest.{plain_asked};
+ghost use Rattle.schedule_calls.specs.Requests.{CutLoop, Specialize};
+ghost use Rattle.schedule_operators.specs.Operators.{call_of, control_at, condition_at};
+ghost use Rattle.schedule_run.specs.Outcomes.{Makes};
+ghost use Rattle.schedule_run.specs.Planned.{as_tried, if_known, planned};
+ghost use Rattle.schedule_run.specs.PlainVersions.{versions};
+
+use crate::planning::proposed;
+use crate::session::Session;
+use crate::why::Why;
+use cursor_forward::Proposal;
+use exo_tree::Path;
+use loop_rewrites::{Cutting, Specializing};
+use rules_scopes::{cond_at, ctrl_at};
+use schedule_calls::Asked;
+use std::alloc::Global;
+use step_driver::{Piece, Target};
+use text_expressions::source::SourceExpr;
+
+/// That the fields in a control value are there.
+fn control_known(alloc: Global, on: &Target<'_>, e: &SourceExpr) -> Result<(), Why>
+    requires target { IsTarget (target on.now) }
+    requires form { is_control_form (tree_of e.now) ≡ true }
+    ensures { Makes (λ _. tt) (if_known (knows_fields (program on.now.unit.now).fields (tree_of e.now))) result }
+{
+    ctrl_at(alloc, on.unit, on.number, &Path::new(), false, e)?;
+    Ok(())
+}
+
+/// That the fields in a condition are there.
+fn condition_known(alloc: Global, on: &Target<'_>, c: &SourceExpr) -> Result<(), Why>
+    requires target { IsTarget (target on.now) }
+    requires form { is_condition_form (tree_of c.now) ≡ true }
+    ensures { Makes (λ _. tt) (if_known (knows_fields (program on.now.unit.now).fields (tree_of c.now))) result }
+{
+    cond_at(alloc, on.unit, on.number, &Path::new(), false, c)?;
+    Ok(())
+}
+
+/// What cutting makes of the loop at a path, at what the expression stands for there.
+fn cut(alloc: Global, on: &Target<'_>, path: &Path, e: &SourceExpr) -> Result<Proposal, Why>
+    requires modes { table_says on.now.modes.now ≡ modes_of (program on.now.unit.now) }
+    requires target { IsTarget (target on.now) }
+    requires form { is_control_form (tree_of e.now) ≡ true }
+    requires known { knows_fields (program on.now.unit.now).fields (tree_of e.now) ≡ true }
+    ensures { Makes plain_proposal (as_tried (answer.proposed (cut_rule (control_at (target on.now) path.now (tree_of e.now))) (target on.now) path.now)) result }
+{
+    let e = ctrl_at(alloc, on.unit, on.number, path, false, e)?;
+    proposed(alloc, on, path, &Cutting { e: &e })
+}
+
+/// What a condition makes of some statements, by what it stands for before the first one.
+fn specialized(
+    alloc: Global,
+    on: &Target<'_>,
+    piece: &Piece,
+    c: &SourceExpr,
+) -> Result<Proposal, Why>
+    requires modes { table_says on.now.modes.now ≡ modes_of (program on.now.unit.now) }
+    requires target { IsTarget (target on.now) }
+    requires form { is_condition_form (tree_of c.now) ≡ true }
+    requires known { knows_fields (program on.now.unit.now).fields (tree_of c.now) ≡ true }
+    ensures { Makes plain_proposal (as_tried (answer.proposed (specialize_rule piece.now.count (condition_at (target on.now) piece.now.path (tree_of c.now))) (target on.now) piece.now.path)) result }
+{
+    let c = cond_at(alloc, on.unit, on.number, &piece.path, false, c)?;
+    let op = Specializing {
+        count: piece.count,
+        c: &c,
+    };
+    proposed(alloc, on, &piece.path, &op)
+}
+
+/// `cut_loop`
+pub(crate) fn cut_at(
+    alloc: Global,
+    on: &Target<'_>,
+    s: &Session,
+    at: &Asked<'_>,
+    e: &SourceExpr,
+) -> Result<Proposal, Why>
+    requires modes { table_says on.now.modes.now ≡ modes_of (program on.now.unit.now) }
+    requires target { IsTarget (target on.now) }
+    requires unit { program on.now.unit.now ≡ program s.now.unit }
+    requires form { is_control_form (tree_of e.now) ≡ true }
+    ensures { Makes plain_proposal (planned (versions s.now) on.now.number.0 (procedure on.now.proc.now) (call_of (CutLoop (plain_asked at.now) (tree_of e.now)))) result }
+{
+    control_known(alloc, on, e)?;
+    let path = s.statement_at(alloc, on.number, at)?;
+    cut(alloc, on, &path, e)
+}
+
+/// `specialize`
+pub(crate) fn specialize_at(
+    alloc: Global,
+    on: &Target<'_>,
+    s: &Session,
+    at: &Asked<'_>,
+    c: &SourceExpr,
+) -> Result<Proposal, Why>
+    requires modes { table_says on.now.modes.now ≡ modes_of (program on.now.unit.now) }
+    requires target { IsTarget (target on.now) }
+    requires unit { program on.now.unit.now ≡ program s.now.unit }
+    requires form { is_condition_form (tree_of c.now) ≡ true }
+    ensures { Makes plain_proposal (planned (versions s.now) on.now.number.0 (procedure on.now.proc.now) (call_of (Specialize (plain_asked at.now) (tree_of c.now)))) result }
+{
+    condition_known(alloc, on, c)?;
+    let piece = s.block_at(alloc, on.number, at)?;
+    specialized(alloc, on, &piece, c)
+}

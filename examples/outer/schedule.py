@@ -1,0 +1,5 @@
+p = divide_loop(outer, 'j', 4, ['jo', 'ji'], tail='cut')
+p = unroll_loop(p, 'ji')
+p = divide_loop(p, 'i', 2, ['io', 'ii'])
+p = specialize(p, 'io', '4 <= N')
+emit(p)
