@@ -24,7 +24,7 @@ use Rattle.schedule_calls.specs.Requests.{Search, Moved, Emit, Asked}
 use Rattle.schedule_calls.specs.Readings.{IsNameOf, AsksName, AsksNames, AsksOperation}
 use Rattle.schedule_calls.specs.Readings.{divide_loop, cut_loop, unroll_loop, specialize}
 use Rattle.schedule_calls.specs.Readings.{commute_expr, rename, delete_pass}
-use Rattle.schedule_calls.specs.Readings.{Asks, apply, search, moved, emit}
+use Rattle.schedule_calls.specs.Readings.{apply, search, moved, emit}
 use Rattle.schedule_versions.specs.Lines.{Ruled}
 use Rattle.schedule_operators.specs.Operators.{at_statement, at_block, on_procedure, statement_call}
 use Rattle.schedule_operators.specs.Operators.{division_of, control_at, condition_at, call_of, act_of}
