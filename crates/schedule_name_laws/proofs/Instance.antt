@@ -1,11 +1,14 @@
 -- The names of the closed schedule.
-use Rattle.std.proofs.Common.{◌≡◌, None, refl, codes}
+use Rattle.std.proofs.Common.{◌≡◌, None, pos, refl, codes}
+use Rattle.exo_tree.specs.Tree.{Lit}
+use Rattle.exo_meaning.specs.Orders.{Each}
 use Rattle.text_lexer.specs.Piece.{word_of}
 use Rattle.text_show_laws.specs.Names.{IsName}
 use Rattle.text_show_laws.specs.Named.{AreNamed}
 use Rattle.schedule_operators.specs.Instance.{unit, schedule, result, ScheduleInstance}
+use Rattle.schedule_operators.specs.LoopInstance as loops
 use Rattle.schedule_name_laws.specs.Instance.{NamesInstance}
-use Rattle.schedule_name_laws.specs.Schedules.{SchedulesKeepNames}
+use Rattle.schedule_name_laws.specs.Schedules.{GivesNames, SchedulesKeepNames}
 use Rattle.schedule_name_laws.proofs.Numbered.{numbered_named}
 
 named_f : IsName (codes "f")
@@ -30,17 +33,49 @@ named_unit = record {
   );
 }
 
+named_i : IsName (codes "i")
+named_i = record { begins = refl; bytes = (refl, tt); some = refl; free = refl }
+
+named_io : IsName (codes "io")
+named_io = record { begins = refl; bytes = (refl, (refl, tt)); some = refl; free = refl }
+
+named_ii : IsName (codes "ii")
+named_ii = record { begins = refl; bytes = (refl, (refl, tt)); some = refl; free = refl }
+
+named_loop : AreNamed (loops.unit_of (Lit (pos 2)))
+named_loop = record {
+  procedures = (
+    record {
+      name = named_f;
+      params = (named_x, tt);
+      body = ((named_i, (tt, tt)), tt);
+      template = tt;
+    },
+    tt,
+  );
+  fields = tt;
+  memories = named_unit.memories;
+}
+
+loop_asked : Each GivesNames loops.schedule
+loop_asked = ((named_io, named_ii), (tt, (tt, (tt, (tt, tt)))))
+
 no_word : IsName (codes "for") → ⊥
 no_word is = absurd (none is.free)
   where
     none : word_of (codes "for") ≡ None → ⊥
     none e = cc
 
-pub names_instance : SchedulesKeepNames → ScheduleInstance → NamesInstance
-names_instance keep one = record {
+pub names_instance : SchedulesKeepNames → ScheduleInstance → loops.LoopsInstance → NamesInstance
+names_instance keep one other = record {
   text = named_unit;
   asked = (tt, (tt, (tt, (named_g, (tt, tt)))));
   versions = keep unit 0 schedule result named_unit (tt, (tt, (tt, (named_g, (tt, tt))))) one.runs;
+  loop_text = named_loop;
+  loop_asked = loop_asked;
+  loop_versions =
+      keep (loops.unit_of (Lit (pos 2))) 0 loops.schedule loops.result named_loop loop_asked
+      other.runs;
   word = no_word;
   numbered_word = numbered_named (codes "for") 1 refl (refl, (refl, (refl, tt)));
 }

@@ -2,6 +2,7 @@
 use Rattle.std.proofs.Common.{◌≡◌, ℕ, Bool, true, false, if◌then◌else◌, List, [], ◌∷◌, map, take_while}
 use Rattle.std.proofs.Common.{refl, sym, subst, ◌∙◌, true≢false}
 use Rattle.std.proofs.lemmas.List.Sums.{take_while-cons}
+use Rattle.exo_tree.specs.Places.{Path}
 use Rattle.exo_meaning.specs.Orders.{Each}
 use Rattle.text_lexer.specs.Bytes.{goes_on_name}
 use Rattle.text_show_laws.specs.Names.{IsName, BeginsName, AreNameBytes}
@@ -11,14 +12,22 @@ use Rattle.step_rules.specs.Rule.{Got, Rule}
 use Rattle.expression_laws.specs.Commute.{commute_rule}
 use Rattle.expression_laws.specs.Passes.{delete_pass_rule}
 use Rattle.expression_laws.specs.Rename.{rename_rule}
+use Rattle.loop_laws.specs.CutLoop.{cut_rule}
+use Rattle.loop_laws.specs.DivideLoop.{divide_rule}
+use Rattle.loop_laws.specs.Specialize.{specialize_rule}
+use Rattle.loop_laws.specs.UnrollLoop.{unroll_rule}
 use Rattle.schedule_text.specs.Tree as tree
 use Rattle.schedule_patterns.specs.Names as pattern
-use Rattle.schedule_calls.specs.Requests.{Operation, CommuteExpr, Rename, DeletePass, Request, Apply}
-use Rattle.schedule_calls.specs.Requests.{Search, Moved, Emit}
-use Rattle.schedule_calls.specs.Readings.{AsksName, AsksOperation, commute_expr, rename, delete_pass}
+use Rattle.schedule_calls.specs.Requests.{Operation, DivideLoop, CutLoop, UnrollLoop, Specialize}
+use Rattle.schedule_calls.specs.Requests.{CommuteExpr, Rename, DeletePass, Request, Apply}
+use Rattle.schedule_calls.specs.Requests.{Search, Moved, Emit, Asked}
+use Rattle.schedule_calls.specs.Readings.{IsNameOf, AsksName, AsksNames, AsksOperation}
+use Rattle.schedule_calls.specs.Readings.{divide_loop, cut_loop, unroll_loop, specialize}
+use Rattle.schedule_calls.specs.Readings.{commute_expr, rename, delete_pass}
 use Rattle.schedule_calls.specs.Readings.{apply, search, moved, emit}
 use Rattle.schedule_versions.specs.Lines.{Ruled}
-use Rattle.schedule_operators.specs.Operators.{at_statement, on_procedure, call_of, act_of}
+use Rattle.schedule_operators.specs.Operators.{at_statement, at_block, on_procedure, statement_call}
+use Rattle.schedule_operators.specs.Operators.{division_of, control_at, condition_at, call_of, act_of}
 use Rattle.schedule_operators.specs.Operators.{SchedulesDerive}
 use Rattle.schedule_name_laws.specs.Rules.{IsNaming}
 use Rattle.schedule_name_laws.specs.Runs.{IsNamingCall, IsNamingAct}
@@ -57,16 +66,31 @@ is_name x is = record {
 }
 
 module _ (names : pattern.NamesAreOne) where
+  name_of_pieces : (pieces : List (List ℕ)) (name : List ℕ) → IsNameOf pieces name → IsName name
+  name_of_pieces pieces name h = subst IsName (sym h.0) (is_name _ (names.spelled _ h.1))
+
   name_asked : (a : tree.Argument) (name : List ℕ) → AsksName a name → IsName name
-  name_asked (tree.string pieces) name h =
-      subst IsName (sym h.0) (is_name _ (names.spelled _ h.1))
+  name_asked (tree.string pieces) name h = name_of_pieces pieces name h
   name_asked (tree.cursor c) name h = absurd h
   name_asked (tree.int n) name h = absurd h
   name_asked (tree.pair a b) name h = absurd h
   name_asked (tree.key k v) name h = absurd h
 
+  two_asked : (a : tree.Argument) (outer inner : List ℕ) → AsksNames a (outer, inner)
+      → IsName outer × IsName inner
+  two_asked (tree.pair a b) outer inner h =
+      (name_of_pieces a outer h.0, name_of_pieces b inner h.1)
+  two_asked (tree.string pieces) outer inner h = absurd h
+  two_asked (tree.cursor c) outer inner h = absurd h
+  two_asked (tree.int n) outer inner h = absurd h
+  two_asked (tree.key k v) outer inner h = absurd h
+
   names_asked : (operator : List ℕ) (args : List tree.Argument) (o : Operation)
       → AsksOperation operator args o → TakesNames o
+  names_asked _ _ _ (divide_loop a b c keys at d h k) = two_asked c d.outer d.inner k.names
+  names_asked _ _ _ (cut_loop a b at e h k) = tt
+  names_asked _ _ _ (unroll_loop a at h) = tt
+  names_asked _ _ _ (specialize a b at c h k) = tt
   names_asked _ _ _ (commute_expr a b at x h k) = tt
   names_asked _ _ _ (rename a name h) = name_asked a name h
   names_asked _ _ _ delete_pass = tt
@@ -82,26 +106,56 @@ module _ (names : pattern.NamesAreOne) where
 same_rule : (a b : Ruled) → Got a ≡ Got b → a ≡ b
 same_rule a b h = cc
 
-module _ (r : Rule) (is : IsNaming r) where
-  of_procedure : (made : Ruled) → on_procedure r ≡ Got made → IsNaming made.rule
-  of_procedure made h =
-      subst (λ (x : Ruled). IsNaming x.rule) (same_rule (record { rule = r; at = [] }) made h) is
+of_procedure : (r : Rule) → IsNaming r → (made : Ruled) → on_procedure r ≡ Got made
+    → IsNaming made.rule
+of_procedure r is made h =
+    subst (λ (x : Ruled). IsNaming x.rule) (same_rule (record { rule = r; at = [] }) made h) is
 
-  of_statement : (cs : List Cursor) (made : Ruled) → at_statement r cs ≡ Got made → IsNaming made.rule
-  of_statement [] made h = cc
-  of_statement (Node path ∷ []) made h =
-      subst (λ (x : Ruled). IsNaming x.rule) (same_rule (record { rule = r; at = path }) made h) is
-  of_statement (Node path ∷ c ∷ cs) made h = cc
-  of_statement (Range path count ∷ cs) made h = cc
-  of_statement (Gap path side ∷ cs) made h = cc
+of_statement : (r : Path → Rule) → ((path : Path) → IsNaming (r path)) → (cs : List Cursor)
+    (made : Ruled) → at_statement r cs ≡ Got made → IsNaming made.rule
+of_statement r is [] made h = cc
+of_statement r is (Node path ∷ []) made h =
+    subst (λ (x : Ruled). IsNaming x.rule) (same_rule (record { rule = r path; at = path }) made h)
+    (is path)
+of_statement r is (Node path ∷ c ∷ cs) made h = cc
+of_statement r is (Range path count ∷ cs) made h = cc
+of_statement r is (Gap path side ∷ cs) made h = cc
+
+of_block : (r : Path → ℕ → Rule) → ((path : Path) (count : ℕ) → IsNaming (r path count))
+    → (cs : List Cursor) (made : Ruled) → at_block r cs ≡ Got made → IsNaming made.rule
+of_block r is [] made h = cc
+of_block r is (Node path ∷ []) made h =
+    subst (λ (x : Ruled). IsNaming x.rule) (same_rule (record { rule = r path 1; at = path }) made h)
+    (is path 1)
+of_block r is (Node path ∷ c ∷ cs) made h = cc
+of_block r is (Range path count ∷ []) made h =
+    subst (λ (x : Ruled). IsNaming x.rule)
+    (same_rule (record { rule = r path count; at = path }) made h) (is path count)
+of_block r is (Range path count ∷ c ∷ cs) made h = cc
+of_block r is (Gap path side ∷ cs) made h = cc
+
+statement_gives_names : (at : Asked) (r : Rule) → IsNaming r → IsNamingCall (statement_call at r)
+statement_gives_names at r is = λ t cs made h. of_statement (λ path. r) (λ path. is) cs made h
 
 calls_give_names : (o : Operation) → TakesNames o → IsNamingCall (call_of o)
+calls_give_names (DivideLoop at d) asked =
+    statement_gives_names at (divide_rule (division_of d))
+    (rules_give_names.divide (division_of d) asked.0 asked.1)
+calls_give_names (CutLoop at e) asked =
+    λ t cs made h.
+    of_statement (λ path. cut_rule (control_at t path e))
+    (λ path. rules_give_names.cut (control_at t path e)) cs made h
+calls_give_names (UnrollLoop at) asked = statement_gives_names at unroll_rule rules_give_names.unroll
+calls_give_names (Specialize at c) asked =
+    λ t cs made h.
+    of_block (λ path count. specialize_rule count (condition_at t path c))
+    (λ path count. rules_give_names.specialize count (condition_at t path c)) cs made h
 calls_give_names (CommuteExpr at x) asked =
-    λ t cs r h. of_statement (commute_rule x) (rules_give_names.commute x) cs r h
+    statement_gives_names at (commute_rule x) (rules_give_names.commute x)
 calls_give_names (Rename name) asked =
-    λ t cs r h. of_procedure (rename_rule name) (rules_give_names.rename name asked) r h
+    λ t cs made h. of_procedure (rename_rule name) (rules_give_names.rename name asked) made h
 calls_give_names DeletePass asked =
-    λ t cs r h. of_procedure delete_pass_rule rules_give_names.delete_pass r h
+    λ t cs made h. of_procedure delete_pass_rule rules_give_names.delete_pass made h
 
 acts_give_names : (requests : List Request) → Each GivesNames requests
     → Each IsNamingAct (map act_of requests)

@@ -8,7 +8,8 @@ use Rattle.text_show_laws.specs.Named.{AreNamed}
 use Rattle.text_show_laws.specs.Writable.{IsWritable}
 use Rattle.unit_check.specs.Faults.{NothingFaults}
 use Rattle.schedule_text.specs.Tree as tree
-use Rattle.schedule_calls.specs.Requests.{Operation, CommuteExpr, Rename, DeletePass, Request}
+use Rattle.schedule_calls.specs.Requests.{Operation, DivideLoop, CutLoop, UnrollLoop, Specialize}
+use Rattle.schedule_calls.specs.Requests.{CommuteExpr, Rename, DeletePass, Request}
 use Rattle.schedule_calls.specs.Requests.{Apply, Search, Moved, Emit}
 use Rattle.schedule_calls.specs.Readings.{Asks}
 use Rattle.schedule_versions.specs.Versions.{Versions, started}
@@ -18,6 +19,10 @@ use Rattle.schedule_operators.specs.Operators.{act_of}
 
 -- the names that an operator is given are of the grammar
 abbrev pub TakesNames : Operation → Type 0
+TakesNames (DivideLoop at d) = IsName d.outer × IsName d.inner
+TakesNames (CutLoop at e) = ⊤
+TakesNames (UnrollLoop at) = ⊤
+TakesNames (Specialize at c) = ⊤
 TakesNames (CommuteExpr at x) = ⊤
 TakesNames (Rename name) = IsName name
 TakesNames DeletePass = ⊤

@@ -46,10 +46,11 @@ pub fn versions_are_writable()
     text_show_laws::laws::named_units_are_writable();
 }
 
-/// The closed schedule of the operators: the versions that it leaves have names of the grammar.
+/// The closed schedules of the operators: the versions that they leave have names of the grammar.
 pub fn names_instance()
     ensures { NamesInstance }
 {
     schedule_operators::laws::schedule_instance();
+    schedule_operators::laws::loops_instance();
     schedules_keep_names();
 }
