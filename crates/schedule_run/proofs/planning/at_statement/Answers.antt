@@ -3,7 +3,6 @@ use Rattle.exo_tree.specs.Tree.{Program}
 use Rattle.exo_tree.specs.PlainProcedure.{procedure}
 use Rattle.cursor_forward.specs.PlainProposal.{plain_proposal}
 use Rattle.cursor_forward.specs.Proposals.{Plan}
-use Rattle.step_rules.specs.Rule.{Target}
 use Rattle.step_driver.specs.PlainTarget.{target}
 use Rattle.schedule_calls.specs.PlainRequest.{plain_asked}
 use Rattle.schedule_versions.specs.Lines as lines
