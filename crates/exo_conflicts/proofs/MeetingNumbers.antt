@@ -1,11 +1,11 @@
 -- The systems of two accesses do not depend on the number from which the copies have their variables.
-use Rattle.std.proofs.Common.{◌≡◌, ◌<◌, ◌≤◌, ◌==◌, ◌+◌, ◌*◌, ℕ, suc, max, nat_lt, Bool, true, false, cond, List, [], ◌∷◌, ◌++◌, map, Option, Some, None, option_map, slice_get, refl, sym, ap, ap₂, ◌∙◌, arith}
+use Rattle.std.proofs.Common.{◌≡◌, ◌<◌, ◌≤◌, ◌+◌, ◌*◌, ℕ, suc, max, nat_lt, cond, List, [], ◌∷◌, ◌++◌, map, Option, Some, None, option_map, slice_get, refl, sym, ap, ap₂, ◌∙◌, arith}
 use Rattle.std.specs.Prelude.{flat_map}
 use Rattle.std.proofs.lemmas.List.{map-append}
 use Rattle.std.proofs.lemmas.Option.{slice_get-map}
 use Rattle.std.proofs.lemmas.Bool.Decides.{nat_tests}
 use Rattle.affine_forms.specs.Atoms.{Linear}
-use Rattle.affine_forms.specs.Formulas.{Formula, less, at_most, equal}
+use Rattle.affine_forms.specs.Formulas.{Formula, less, at_most}
 use Rattle.exo_effects.specs.Accesses.{AccessCoord, At, Range, Access}
 use Rattle.exo_effects.specs.Orders.{Turn, OrderRow, Less, Greater, Order}
 use Rattle.exo_effects.specs.Cases.{systems_of, cases_stated}
@@ -177,7 +177,6 @@ module _ (b d : ℕ) where
 
     order_up : map (re_formula t) (flat_map (order_row (ss b) (us b)) order.rows) ≡ flat_map (order_row (ss (b + d)) (us (b + d))) order.rows
     order_up = rows_up (ss b) (us b) order.rows ∙ ap₂ (λ vs ws. flat_map (order_row vs ws) order.rows) first_up second_up
-
 
     abbrev f₁ : ℕ → List Formula
     f₁ n = flat_map bounds (ss n)

@@ -1,8 +1,8 @@
 -- The plain forms of the program's copies, and what the calls on them answer.
-use Rattle.std.specs.Prelude.{◌≡◌, ◌^◌, ℕ, nat_lt, nat_le, Bool, true, false, ◌&&◌, List, [], ◌∷◌, ◌++◌, map, flat_map, length}
-use Rattle.std.specs.Prelude.{Result, Ok, Err, Vec, ⊤}
+use Rattle.std.specs.Prelude.{◌≡◌, ◌^◌, ℕ, nat_lt, Bool, true, ◌&&◌, List, ◌++◌, map}
+use Rattle.std.specs.Prelude.{Result, Ok, Err, Vec}
 use Rattle.std.specs.List.{list_all}
-use Rattle.exo_tree.specs.PlainControl.{control, condition}
+use Rattle.exo_tree.specs.PlainControl.{control}
 use Rattle.exo_tree.specs.Tree as tree
 use Rattle.exo_tree.specs.Tree.{Coord}
 use Rattle.meaning_laws.specs.Facts.{Fact, Holds, Fails}
@@ -10,10 +10,9 @@ use Rattle.affine_forms.specs.Forms.{is_affine}
 use Rattle.affine_forms.specs.Formulas.{Formula, is_affine_condition}
 use Rattle.affine_forms.specs.Outcomes.{IsWide}
 use Rattle.affine_forms.specs.declared.error.FormError.{FormError}
-use Rattle.exo_effects.specs.Accesses.{plain_form, plain_fits, guard_of, guard_fits, coord_form}
-use Rattle.exo_effects.specs.Accesses.{coord_fits}
+use Rattle.exo_effects.specs.Accesses.{plain_form, plain_fits, guard_of, guard_fits}
 use Rattle.exo_effects.specs.Accesses as plain
-use Rattle.exo_effects.specs.Conflicts.{apart, variables_of, re_turn, re_coord, copied_turns}
+use Rattle.exo_effects.specs.Conflicts.{apart, variables_of}
 use Rattle.exo_effects.specs.Orders as orders
 use Rattle.exo_effects.specs.PlainAccess.{plain_coord}
 use Rattle.exo_effects.specs.PlainGuards.{facts_of}
@@ -95,17 +94,22 @@ abbrev pub TurnMade : Result CopiedTurn FormError → Bool → orders.Turn → T
 TurnMade (Ok t) fits u = (fits ≡ true) × (plain_copied t ≡ u)
 TurnMade (Err e) fits u = IsWide e fits
 
-abbrev pub TurnsMade : {A : Type 0} → Result (Vec CopiedTurn A) FormError → Bool → List orders.Turn → Type 0
+abbrev pub TurnsMade :
+    {A : Type 0} → Result (Vec CopiedTurn A) FormError → Bool → List orders.Turn → Type 0
 TurnsMade (Ok ts) fits us = (fits ≡ true) × (map plain_copied ts.items ≡ us)
 TurnsMade (Err e) fits us = IsWide e fits
 
-abbrev pub CoordsMade : {A : Type 0} → Result (Vec AccessCoord A) FormError → Bool → List plain.AccessCoord → Type 0
+abbrev pub CoordsMade :
+    {A : Type 0}
+    → Result (Vec AccessCoord A) FormError → Bool → List plain.AccessCoord → Type 0
 CoordsMade (Ok cs) fits ds = (fits ≡ true) × (map plain_coord cs.items ≡ ds)
 CoordsMade (Err e) fits ds = IsWide e fits
 
 -- what facts say in a copy comes behind the others, exactly where all their normal forms can be
 -- written down
-abbrev pub Said : {A : Type 0} → Result A FormError → (ℕ → ℕ) → List Fact → List Formula → List Formula → Type 0
+abbrev pub Said :
+    {A : Type 0}
+    → Result A FormError → (ℕ → ℕ) → List Fact → List Formula → List Formula → Type 0
 Said (Ok t) r facts old new =
     (list_all guard_fits facts ≡ true) × (new ≡ old ++ map (re_formula r) (map guard_of facts))
 Said (Err e) r facts old new = IsWide e (list_all guard_fits facts)

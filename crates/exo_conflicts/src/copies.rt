@@ -119,11 +119,7 @@ pub(crate) fn copied_form(alloc: Global, twin: &Twin<'_>, e: &Ctrl) -> Result<Li
 }
 
 /// What a condition says in a copy. `WideNumber` where a number of a form passes 2^62.
-pub(crate) fn copied_formula(
-    alloc: Global,
-    twin: &Twin<'_>,
-    c: &Cond,
-) -> Result<Formula, FormError>
+pub(crate) fn copied_formula(alloc: Global, twin: &Twin<'_>, c: &Cond) -> Result<Formula, FormError>
     requires { IsTrue (is_affine_condition (names_below (2 ^ 31)) (condition c.now)) }
     ensures { FormulaMade result (plain_formula_fits (condition c.now)) (re_formula (renamed twin.now) (plain_formula (condition c.now))) }
 {

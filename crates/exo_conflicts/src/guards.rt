@@ -59,12 +59,7 @@ fn say_upper(
 }
 
 /// Puts last what a condition says.
-fn say_holds(
-    alloc: Global,
-    twin: &Twin<'_>,
-    c: &Cond,
-    into: &mut Context,
-) -> Result<(), FormError>
+fn say_holds(alloc: Global, twin: &Twin<'_>, c: &Cond, into: &mut Context) -> Result<(), FormError>
     requires { IsTrue (fact_is_low (facts.Holds (condition c.now))) }
     ensures { Said result (renamed twin.now) (facts.Holds (condition c.now) ∷ []) into.old into.new }
 {
@@ -74,12 +69,7 @@ fn say_holds(
 }
 
 /// Puts last that a condition does not hold.
-fn say_fails(
-    alloc: Global,
-    twin: &Twin<'_>,
-    c: &Cond,
-    into: &mut Context,
-) -> Result<(), FormError>
+fn say_fails(alloc: Global, twin: &Twin<'_>, c: &Cond, into: &mut Context) -> Result<(), FormError>
     requires { IsTrue (fact_is_low (facts.Fails (condition c.now))) }
     ensures { Said result (renamed twin.now) (facts.Fails (condition c.now) ∷ []) into.old into.new }
 {

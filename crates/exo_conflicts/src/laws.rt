@@ -5,17 +5,14 @@ ghost use Rattle.exo_conflicts.specs.CopyLaws.{CopiedFormsLaw, CopiedFormulasLaw
 /// Expressions read over the variables of a copy have the forms of the expressions over these.
 pub fn copied_forms_are_renamed()
     ensures { CopiedFormsLaw }
-{
-}
+{}
 
 /// Conditions read over the variables of a copy say what the conditions say over these.
 pub fn copied_formulas_are_renamed()
     ensures { CopiedFormulasLaw }
-{
-}
+{}
 
 /// The systems of two accesses do not depend on the numbers of the copies' variables.
 pub fn numbers_of_copies_do_not_count()
     ensures { CopiedNumbersLaw }
-{
-}
+{}
