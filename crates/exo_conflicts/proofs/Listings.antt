@@ -19,7 +19,8 @@ use Rattle.exo_effects.specs.Limits.{are_within}
 use Rattle.exo_effects.specs.Orders.{Order}
 use Rattle.exo_effects.specs.Uses.{Use}
 use Rattle.exo_conflicts.specs.Copies.{numbers_below}
-use Rattle.exo_conflicts.specs.PlainCopies.{fact_is_low, coord_is_low, use_is_low, turn_is_low, plain_turn}
+use Rattle.exo_effects.specs.Low.{fact_is_low, coord_is_low, use_is_low}
+use Rattle.exo_conflicts.specs.PlainCopies.{turn_is_low, plain_turn}
 use Rattle.exo_conflicts.specs.declared.twin.Turn.{Turn}
 use Rattle.exo_conflicts.proofs.RenamedTwice.{left_of, right_of}
 use Rattle.exo_conflicts.proofs.PastForms.{max_within, both_true, lt_from, plain_past, plain_formula_past, negation_past}

@@ -2,7 +2,7 @@
 use Rattle.std.specs.Prelude.{codes}
 use Rattle.std.specs.Fmt.{digits}
 use Rattle.std.proofs.lemmas.Int.{ints}
-use Rattle.std.proofs.Common.{◌≡◌, ◌≤ℤ◌, arith, ℕ, ℤ, pos, negsuc, List, [], ◌∷◌, None, refl}
+use Rattle.std.proofs.Common.{◌≡◌, ◌≤ℤ◌, arith, ℕ, ℤ, pos, negsuc, true, List, [], ◌∷◌, None, refl}
 use Rattle.exo_tree.specs.Tree.{I32, Size, Binder, Control, Lit, Var, Add, Sub, Lt, Const, Read}
 use Rattle.exo_tree.specs.Tree.{Assign, Reduce, If, For, Alloc, View, Span, Statement, Block, end}
 use Rattle.exo_tree.specs.Tree.{next, Param, ControlParam, TensorParam, Procedure, Program}
@@ -12,6 +12,11 @@ use Rattle.affine_forms.specs.Atoms.{Variable, none, term, Linear, only, constan
 use Rattle.affine_forms.specs.Formulas.{Formula, row, at_most}
 use Rattle.affine_systems.specs.Outcomes.{owed}
 use Rattle.exo_meaning.specs.Modes.{Reading, Writing}
+use Rattle.exo_meaning.specs.Units.{IsProcedure}
+use Rattle.exo_effects.specs.Uses.{uses_at}
+use Rattle.exo_effects.specs.Low.{uses_are_low}
+use Rattle.exo_effects.proofs.LowProcedures.{well_formed_is_low}
+use Rattle.exo_effects.proofs.LowUses.{uses_stay_low}
 use Rattle.exo_effects.specs.Accesses.{At, Access, accesses_of}
 use Rattle.exo_effects.specs.Orders.{Header, Less, Greater, Order, order_of}
 use Rattle.exo_effects.specs.Conflicts.{Lists, conflicts_of}
@@ -234,3 +239,22 @@ back_to_front : conflicts_of context (order_of (loop_over 9 108 ∷ []) (loop_ov
     }) ∷ [])
 unfolding digits
 back_to_front = refl
+
+-- ---- the first of them is well formed, so its uses are affine, over variables below 2^31
+
+slanted_is_well_formed : IsProcedure (λ f. None) 1 (λ k. None) (of_body slanted)
+slanted_is_well_formed = record {
+  params = refl;
+  asserts = refl;
+  body = refl;
+  filled = refl;
+  ids = refl;
+  distinct = refl;
+  paths = refl;
+  template = refl;
+}
+
+slanted_uses_are_low : uses_are_low (uses_at (unit_of slanted) (of_body slanted) inside 1) ≡ true
+slanted_uses_are_low =
+    uses_stay_low (unit_of slanted) (of_body slanted) inside 1
+    (well_formed_is_low (λ f. None) 1 (λ k. None) (of_body slanted) slanted_is_well_formed)

@@ -12,3 +12,6 @@ pub mod PlainGuards
 pub mod PlainWindows
 pub mod PlainParts
 pub mod PlainUses
+pub mod PlainWalk
+pub mod PlainSpots
+pub mod Low

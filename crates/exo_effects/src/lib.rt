@@ -4,9 +4,16 @@
 mod access;
 mod forms;
 mod guards;
+mod inside;
+pub mod laws;
 mod parts;
+mod piece;
+mod plain;
+mod uses;
+mod walk;
 mod windows;
 
 pub use access::{Access, AccessCoord, Mode};
 pub use forms::{plain_form, plain_formula};
 pub use guards::Guard;
+pub use piece::accesses;

@@ -1,16 +1,17 @@
 //! Which part of a buffer each name of a procedure stands for.
-ghost use Rattle.std.specs.Prelude.{◌≡◌, IfOk, OnOk, Some, None, map, option_map};
+ghost use Rattle.std.specs.Prelude.{◌≡◌, IfOk, OnOk, Some, None, map, option_map, take, length};
 ghost use Rattle.std.specs.Option.{option_copied};
 ghost use Rattle.exo_meaning.specs.Scene.{updated};
+ghost use Rattle.exo_tree.specs.PlainArgument.{argument};
 ghost use Rattle.exo_tree.specs.PlainParam.{parameter_kind};
 ghost use Rattle.exo_tree.specs.PlainStatement.{statement};
 ghost use Rattle.exo_effects.specs.Parts as plain;
 ghost use Rattle.exo_effects.specs.Parts.{no_parts, all_of, whole_of, window_of, with_kind, with_params, passed, passed_inside};
-ghost use Rattle.exo_effects.specs.PlainParts.{plain_part, parts_in};
+ghost use Rattle.exo_effects.specs.Uses.{part_of_argument};
+ghost use Rattle.exo_effects.specs.PlainParts.{plain_part, part_among, parts_in};
 
 use crate::windows::joined;
-use exo_tree::{Coord, Coords, Ctrl, Id, Indices, ParamKind, Params, Stmt};
-use indexmap::IndexMap;
+use exo_tree::{Arg, Coord, Coords, Ctrl, Id, Indices, ParamKind, Params, Stmt};
 use std::alloc::{AllocError, Global};
 
 /// A root, with a point or a span for each of its dimensions.
@@ -41,12 +42,29 @@ impl Part {
             coords: joined(alloc, &self.coords, coords)?,
         })
     }
+
+    /// The same part.
+    pub(crate) fn duplicate(&self, alloc: Global) -> Result<Part, AllocError>
+        ensures { IfOk result (λ p. plain_part p ≡ plain_part self.now) }
+    {
+        Ok(Part {
+            root: self.root,
+            coords: self.coords.duplicate(alloc)?,
+        })
+    }
 }
 
-/// For each name that stands for a buffer which counts: the part that it stands for.
+/// A name, and the part that it stands for; None where it stands for a buffer that is left out.
+#[derive(Drop)]
+pub(crate) struct Named {
+    name: Id,
+    part: Option<Part>,
+}
+
+/// For each name that stands for a buffer which counts: the part that it stands for. The last one of a name decides.
 #[derive(Drop)]
 pub(crate) struct Parts {
-    table: IndexMap<u32, Option<Part>>,
+    names: Vec<Named>,
 }
 
 impl Parts {
@@ -55,24 +73,42 @@ impl Parts {
         ensures { parts_in result ≡ no_parts }
     {
         Parts {
-            table: IndexMap::new(alloc),
+            names: Vec::new(alloc),
         }
+    }
+
+    /// How many names there are.
+    pub(crate) fn len(&self) -> usize
+        ensures { result ≡ length self.now.names.items }
+    {
+        self.names.len()
+    }
+
+    /// Forgets all names but the first so many.
+    pub(crate) fn truncate(&mut self, known: usize)
+        ensures { self.new.names.items ≡ take known self.old.names.items }
+    {
+        self.names.truncate(known);
     }
 
     /// What a name stands for; None where that is no buffer, or one that is left out.
     pub(crate) fn get(&self, x: Id) -> Option<&Part>
         ensures { option_map plain_part (option_copied result) ≡ parts_in self.now x.0 }
     {
-        match self.table.get(&x.0) {
-            Some(part) => part.as_ref(),
-            None => None,
+        let mut found = None;
+        for named in &self.names {
+            if x.0 == named.name.0 {
+                found = named.part.as_ref();
+            }
         }
+        found
     }
 
-    fn set(&mut self, x: Id, part: Option<Part>) -> Result<(), AllocError>
-        ensures { OnOk result (parts_in self.new ≡ updated (parts_in self.old) x.0 (option_map plain_part part)) }
+    fn set(&mut self, name: Id, part: Option<Part>) -> Result<(), AllocError>
+        ensures set { OnOk result (parts_in self.new ≡ updated (parts_in self.old) name.0 (option_map plain_part part)) }
+        ensures kept { OnOk result (take (length self.old.names.items) self.new.names.items ≡ self.old.names.items) }
     {
-        self.table.insert(x.0, part)?;
+        self.names.push(Named { name, part })?;
         Ok(())
     }
 
@@ -88,6 +124,28 @@ impl Parts {
         match self.get(x) {
             None => Ok(None),
             Some(part) => Ok(Some(part.window(alloc, coords)?)),
+        }
+    }
+
+    /// The part that a name stands for.
+    fn whole(&self, alloc: Global, x: Id) -> Result<Option<Part>, AllocError>
+        ensures { IfOk result (λ o. option_map plain_part o ≡ parts_in self.now x.0) }
+    {
+        match self.get(x) {
+            None => Ok(None),
+            Some(part) => Ok(Some(part.duplicate(alloc)?)),
+        }
+    }
+
+    /// The part that an argument passes.
+    pub(crate) fn argument(&self, alloc: Global, a: &Arg) -> Result<Option<Part>, AllocError>
+        ensures { IfOk result (λ o. option_map plain_part o ≡ part_of_argument (parts_in self.now) (argument a.now)) }
+    {
+        match a {
+            Arg::Ctrl(_) => Ok(None),
+            Arg::Cond(_) => Ok(None),
+            Arg::Whole(x) => self.whole(alloc, *x),
+            Arg::Window(x, coords) => self.window(alloc, *x, coords),
         }
     }
 
@@ -127,7 +185,8 @@ impl Parts {
 
     /// Goes past a statement of the piece: a buffer that it makes is left out.
     pub(crate) fn pass_inside(&mut self, alloc: Global, s: &Stmt) -> Result<(), AllocError>
-        ensures { OnOk result (parts_in self.new ≡ passed_inside (statement s.now) (parts_in self.old)) }
+        ensures passed { OnOk result (parts_in self.new ≡ passed_inside (statement s.now) (parts_in self.old)) }
+        ensures kept { OnOk result (take (length self.old.names.items) self.new.names.items ≡ self.old.names.items) }
     {
         match s {
             Stmt::Alloc(x, _, _, _) => self.set(x.id, None),

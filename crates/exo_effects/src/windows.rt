@@ -2,10 +2,10 @@
 ghost use Rattle.std.specs.Prelude.{◌≡◌, ◌++◌, map, IfOk, OnOk};
 ghost use Rattle.exo_tree.specs.Tree as tree;
 ghost use Rattle.exo_tree.specs.PlainControl.{control, coordinate};
-ghost use Rattle.exo_effects.specs.PlainWindows.{shifted_coord};
+ghost use Rattle.exo_effects.specs.PlainWindows.{shifted_coord, points_at};
 ghost use Rattle.inplace_laws.specs.Windows.{joined_coords};
 
-use exo_tree::{Coord, Coords, Ctrl};
+use exo_tree::{Coord, Coords, Ctrl, Indices};
 use std::alloc::{AllocError, Global};
 
 /// The sum of two expressions.
@@ -60,5 +60,37 @@ pub(crate) fn joined(alloc: Global, name: &Coords, window: &Coords) -> Result<Co
         }
     }
     push_copies(alloc, &mut made, rest)?;
+    Ok(made)
+}
+
+/// Puts points last.
+fn push_points(alloc: Global, made: &mut Coords, more: &[Ctrl]) -> Result<(), AllocError>
+    ensures { OnOk result (made.new ≡ made.old ++ map tree.At (map control more.now)) }
+{
+    for e in more {
+        made.push(Coord::At(e.duplicate(alloc)?))?;
+    }
+    Ok(())
+}
+
+/// The coordinates on the root of a cell of a name: those of the name, where the indices stand for its spans.
+pub(crate) fn cell(alloc: Global, name: &Coords, at: &Indices) -> Result<Coords, AllocError>
+    ensures { IfOk result (λ cs. cs ≡ points_at name.now at.now) }
+{
+    let mut made = Coords::new(alloc);
+    let mut rest = at.as_slice();
+    for c in name.as_slice() {
+        match c {
+            Coord::At(e) => made.push(Coord::At(e.duplicate(alloc)?))?,
+            Coord::Span(lower, _) => {
+                let Some((first, others)) = rest.split_first() else {
+                    return Ok(made);
+                };
+                made.push(Coord::At(sum(alloc, lower, first)?))?;
+                rest = others;
+            }
+        }
+    }
+    push_points(alloc, &mut made, rest)?;
     Ok(made)
 }
