@@ -1,16 +1,15 @@
 -- The forms of expressions of a copy are those of the expressions over its variables.
-use Rattle.std.proofs.Common.{◌≡◌, ◌<◌, ◌≤◌, ◌==◌, ◌+◌, ◌*◌, zero, suc, ℕ, nat_lt, Bool, true, false, cond, not, ◌&&◌, ◌||◌, List, [], ◌∷◌, length, Option, Some, None, option_map, refl, sym, ap, ap₂, ◌∙◌, arith, negsuc}
+use Rattle.std.proofs.Common.{◌≡◌, ◌<◌, ◌≤◌, ◌==◌, ◌+◌, ◌*◌, suc, ℕ, nat_lt, Bool, true, false, cond, ◌&&◌, ◌||◌, List, [], ◌∷◌, length, Option, Some, None, option_map, refl, sym, ap, ap₂, ◌∙◌, arith, negsuc}
 use Rattle.std.proofs.lemmas.Bool.Decides.{nat_tests}
 use Rattle.std.specs.Int.{is_positive}
 use Rattle.exo_tree.specs.Tree.{Control, Lit, Var, Field, StrideOf, Neg, Add, Sub, Mul, Div, Mod, Condition, True, False, Flag, FieldFlag, Lt, Le, Gt, Ge, Eq, And, Or}
 use Rattle.exo_meaning.specs.Units.{is_of_literals}
 use Rattle.affine_forms.specs.Atoms.{Linear, Variable, only, added, scaled, subtracted, quotient}
-use Rattle.affine_forms.specs.Forms.{Reading, form, normal, times, without_zeros, is_short_form, is_affine, is_writable}
-use Rattle.affine_forms.specs.Formulas.{Formula, Says, Both, Either, less, at_most, equal, formula, own_flag, is_affine_condition, is_writable_condition}
+use Rattle.affine_forms.specs.Forms.{form, normal, times, without_zeros, is_short_form, is_affine, is_writable}
+use Rattle.affine_forms.specs.Formulas.{Formula, Both, Either, less, at_most, equal, formula, own_flag, is_affine_condition, is_writable_condition}
 use Rattle.exo_effects.specs.Accesses.{plain_form, plain_fits, plain_formula, plain_formula_fits}
-use Rattle.exo_effects.specs.Conflicts.{place_in, turns_apart, turn_number, own_number, apart}
+use Rattle.exo_effects.specs.Conflicts.{place_in, turn_number, own_number, apart}
 use Rattle.exo_conflicts.specs.Copies.{reading_by, flags_by, numbers_below, names_below}
-use Rattle.exo_effects.specs.Fresh.{past_linear, past_formula}
 use Rattle.exo_effects.specs.Renamed.{re_linear, re_formula}
 use Rattle.exo_conflicts.proofs.RenamedTerms.{KeepsApart}
 use Rattle.exo_conflicts.proofs.RenamedForms.{re_normal, re_writable, re_plain_formula, re_condition_writable}

@@ -1,7 +1,7 @@
 -- Closed instances of the laws.
 use Rattle.std.proofs.Common.{◌≡◌, ℕ, pos, negsuc, List, [], ◌∷◌, refl, arith}
-use Rattle.exo_tree.specs.Tree.{Control, Lit, Var, Add, Sub, Mul, Condition, Lt}
-use Rattle.affine_forms.specs.Atoms.{Variable, none, term, Linear, only, constantly}
+use Rattle.exo_tree.specs.Tree.{Control, Lit, Var, Add, Sub, Mul, Lt}
+use Rattle.affine_forms.specs.Atoms.{Variable, none, term, only, constantly}
 use Rattle.affine_forms.specs.Forms.{normal}
 use Rattle.affine_forms.specs.Formulas.{Formula, formula, row, at_most}
 use Rattle.exo_meaning.specs.Modes.{Reading, Writing}

@@ -1,7 +1,7 @@
 -- What is owed for a list of pairs does not depend on the number from which the copies have their variables.
-use Rattle.std.proofs.Common.{◌≡◌, ◌≤◌, ◌+◌, ◌^◌, suc, ℕ, max, nat_lt, Bool, true, false, ◌&&◌, List, [], ◌∷◌, ◌++◌, map, Option, Some, None, refl, sym, ap, ap₂, ◌∙◌, arith}
+use Rattle.std.proofs.Common.{◌≡◌, ◌≤◌, ◌+◌, ◌^◌, suc, ℕ, max, nat_lt, Bool, true, false, ◌&&◌, List, [], ◌∷◌, ◌++◌, map, Option, Some, None, refl, ap, ap₂, ◌∙◌, arith}
 use Rattle.std.proofs.lemmas.Bool.Decides.{nat_tests}
-use Rattle.std.specs.Prelude.{flat_map, filter}
+use Rattle.std.specs.Prelude.{filter}
 use Rattle.std.specs.List.{AllByRecursion, list_all}
 use Rattle.exo_tree.specs.Places.{Path}
 use Rattle.exo_tree.specs.Tree as tree
@@ -13,14 +13,14 @@ use Rattle.affine_forms.specs.Formulas.{Formula}
 use Rattle.affine_systems.specs.Systems.{CasesPassed, SizePassed, Listed}
 use Rattle.affine_systems.specs.Outcomes.{Owed, owed}
 use Rattle.exo_effects.specs.Accesses.{Access, access_of, guard_of, coord_form, plain_form, plain_formula}
-use Rattle.exo_effects.specs.Cases.{systems_of, cases_stated}
-use Rattle.exo_effects.specs.Conflicts.{may_clash, clashing, against, meeting, Fault, ManyCases, LargeSystem, Listing, owed_for, pair_fault, unless_refused, owed_behind}
+use Rattle.exo_effects.specs.Conflicts.{may_clash, clashing, against, Fault, ManyCases, LargeSystem, Listing, owed_for, pair_fault, unless_refused, owed_behind}
 use Rattle.exo_effects.specs.Fresh.{past_linear, past_formula, past_all, past_coord, past_access, past_turn, past_order}
 use Rattle.exo_effects.specs.Limits.{are_within}
 use Rattle.exo_effects.specs.Orders.{Order}
 use Rattle.exo_effects.specs.Uses.{Use}
 use Rattle.exo_conflicts.specs.Copies.{numbers_below}
-use Rattle.exo_conflicts.specs.PlainCopies.{fact_is_low, coord_is_low, use_is_low, turn_is_low, plain_turn}
+use Rattle.exo_effects.specs.Low.{fact_is_low, coord_is_low, use_is_low}
+use Rattle.exo_conflicts.specs.PlainCopies.{turn_is_low, plain_turn}
 use Rattle.exo_conflicts.specs.declared.twin.Turn.{Turn}
 use Rattle.exo_conflicts.proofs.RenamedTwice.{left_of, right_of}
 use Rattle.exo_conflicts.proofs.PastForms.{max_within, both_true, lt_from, plain_past, plain_formula_past, negation_past}

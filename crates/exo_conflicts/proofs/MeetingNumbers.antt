@@ -1,11 +1,11 @@
 -- The systems of two accesses do not depend on the number from which the copies have their variables.
-use Rattle.std.proofs.Common.{◌≡◌, ◌<◌, ◌≤◌, ◌==◌, ◌+◌, ◌*◌, ℕ, suc, max, nat_lt, Bool, true, false, cond, List, [], ◌∷◌, ◌++◌, map, Option, Some, None, option_map, slice_get, refl, sym, ap, ap₂, ◌∙◌, arith}
+use Rattle.std.proofs.Common.{◌≡◌, ◌<◌, ◌≤◌, ◌+◌, ◌*◌, ℕ, suc, max, nat_lt, cond, List, [], ◌∷◌, ◌++◌, map, Option, Some, None, option_map, slice_get, refl, sym, ap, ap₂, ◌∙◌, arith}
 use Rattle.std.specs.Prelude.{flat_map}
 use Rattle.std.proofs.lemmas.List.{map-append}
 use Rattle.std.proofs.lemmas.Option.{slice_get-map}
 use Rattle.std.proofs.lemmas.Bool.Decides.{nat_tests}
 use Rattle.affine_forms.specs.Atoms.{Linear}
-use Rattle.affine_forms.specs.Formulas.{Formula, less, at_most, equal}
+use Rattle.affine_forms.specs.Formulas.{Formula, less, at_most}
 use Rattle.exo_effects.specs.Accesses.{AccessCoord, At, Range, Access}
 use Rattle.exo_effects.specs.Orders.{Turn, OrderRow, Less, Greater, Order}
 use Rattle.exo_effects.specs.Cases.{systems_of, cases_stated}

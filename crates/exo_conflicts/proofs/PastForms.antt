@@ -1,15 +1,15 @@
 -- The variables of a form are below a number where those of its expression are.
-use Rattle.std.proofs.Common.{◌≡◌, ◌<◌, ◌≤◌, ◌+◌, zero, suc, ℕ, max, nat_lt, ℤ, pos, negsuc, ◌+ℤ◌, ◌*ℤ◌, Bool, true, false, cond, ◌&&◌, ◌||◌, List, [], ◌∷◌, map, refl, sym, ap, ap₂, ◌∙◌, arith}
+use Rattle.std.proofs.Common.{◌≡◌, ◌<◌, ◌≤◌, zero, suc, ℕ, max, nat_lt, ℤ, pos, negsuc, ◌+ℤ◌, Bool, true, false, cond, ◌&&◌, ◌||◌, refl, ap, ap₂, arith}
 use Rattle.std.proofs.lemmas.Bool.Decides.{nat_tests}
 use Rattle.std.specs.Int.{int_div_euclid, int_rem_euclid, is_positive}
 use Rattle.std.specs.Ordering.{int_eq}
 use Rattle.exo_tree.specs.Tree.{Control, Lit, Var, Field, StrideOf, Neg, Add, Sub, Mul, Div, Mod, Condition, True, False, Flag, FieldFlag, Lt, Le, Gt, Ge, Eq, And, Or}
 use Rattle.exo_meaning.specs.Units.{is_of_literals}
-use Rattle.affine_forms.specs.Atoms.{Atom, Variable, Quotient, Terms, none, term, Linear, same_atom, with_term, terms_added, terms_scaled, added, scaled, subtracted, present, divides, divided, undivided, quotient_of, quotient}
+use Rattle.affine_forms.specs.Atoms.{Atom, Terms, none, term, Linear, same_atom, with_term, terms_added, terms_scaled, added, scaled, subtracted, present, divides, divided, undivided, quotient_of, quotient}
 use Rattle.affine_forms.specs.Forms.{form, times, is_affine, keeps_rules}
 use Rattle.affine_forms.specs.Formulas.{Constraint, AtLeastZero, IsZero, Formula, Says, Both, Either, difference, denied, negation, is_affine_condition, condition_keeps_rules}
 use Rattle.affine_places.specs.Readings.{extent_reading}
-use Rattle.exo_effects.specs.Accesses.{own_flags, plain_form, plain_formula}
+use Rattle.exo_effects.specs.Accesses.{plain_form, plain_formula}
 use Rattle.exo_conflicts.specs.Copies.{numbers_below, names_below}
 use Rattle.exo_effects.specs.Fresh.{past_atom, past_terms, past_linear, past_constraint, past_formula}
 use Rattle.exo_conflicts.proofs.RenamedTwice.{left_of, right_of}

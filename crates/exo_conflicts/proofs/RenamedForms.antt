@@ -1,12 +1,12 @@
 -- The forms of expressions that are read over other variables.
-use Rattle.std.proofs.Common.{◌≡◌, ℕ, ℤ, pos, negsuc, Bool, true, false, ◌&&◌, refl, sym, ap, ap₂, ◌∙◌}
+use Rattle.std.proofs.Common.{◌≡◌, ℕ, negsuc, Bool, true, false, ◌&&◌, refl, sym, ap, ap₂, ◌∙◌}
 use Rattle.exo_tree.specs.Tree.{Control, Lit, Var, Field, StrideOf, Neg, Add, Sub, Mul, Div, Mod, Condition, True, False, Flag, FieldFlag, Lt, Le, Gt, Ge, Eq, And, Or}
 use Rattle.exo_meaning.specs.Units.{is_of_literals}
 use Rattle.affine_forms.specs.Atoms.{Linear, added, scaled, subtracted, quotient}
 use Rattle.affine_forms.specs.Forms.{form, normal, times, without_zeros, is_short_form, is_writable}
-use Rattle.affine_forms.specs.Formulas.{Formula, Says, Both, Either, less, at_most, equal, formula, is_writable_condition}
+use Rattle.affine_forms.specs.Formulas.{Both, Either, less, at_most, equal, formula, is_writable_condition}
 use Rattle.affine_places.specs.Readings.{extent_reading}
-use Rattle.exo_effects.specs.Accesses.{own_flags, plain_form, plain_formula, plain_fits, plain_formula_fits}
+use Rattle.exo_effects.specs.Accesses.{plain_form, plain_formula, plain_fits, plain_formula_fits}
 use Rattle.exo_conflicts.specs.Copies.{reading_by, flags_by}
 use Rattle.exo_effects.specs.Renamed.{re_linear, re_formula}
 use Rattle.exo_conflicts.proofs.RenamedTerms.{KeepsApart, re_scaled, re_without_zeros, re_short, re_added, re_subtracted, re_quotient, re_less, re_at_most, re_equal}

@@ -1,13 +1,12 @@
 -- The systems of formulas over other variables, where different variables stay different, are the same.
-use Rattle.std.proofs.Common.{◌≡◌, ◌+◌, ◌==◌, zero, ℕ, ℤ, pos, ◌-ℤ◌, Bool, true, false, not, cond, ◌||◌, ◌&&◌, nat_le, List, [], ◌∷◌, ◌++◌, map, length, refl, sym, ap, ap₂, ◌∙◌}
+use Rattle.std.proofs.Common.{◌≡◌, ◌+◌, zero, ℕ, ℤ, pos, ◌-ℤ◌, Bool, true, false, not, cond, ◌||◌, nat_le, List, [], ◌∷◌, ◌++◌, map, length, refl, sym, ap, ap₂, ◌∙◌}
 use Rattle.std.proofs.lemmas.List.{length-map, map-append}
-use Rattle.std.specs.List.{list_any, list_all, position_or_len}
+use Rattle.std.specs.List.{list_all, position_or_len}
 use Rattle.std.specs.Int.{is_positive}
-use Rattle.exo_tree.specs.Tree.{Kind, Size, Index, Truth, Stride}
-use Rattle.affine_forms.specs.Affine.{Affine, Constraints}
-use Rattle.affine_forms.specs.Atoms.{Atom, Variable, EntryField, UnknownField, OpaqueStride, Quotient, Terms, none, term, Linear, same_atom, only, constantly, scaled, subtracted}
+use Rattle.exo_tree.specs.Tree.{Size, Index, Truth, Stride}
+use Rattle.affine_forms.specs.Atoms.{Atom, Variable, EntryField, UnknownField, OpaqueStride, Quotient, Terms, none, term, Linear, same_atom, only, scaled, subtracted}
 use Rattle.affine_forms.specs.Formulas.{Constraint, AtLeastZero, IsZero, Formula, Says, Both, Either, moved, product, cases, cases_of_all}
-use Rattle.affine_systems.specs.Systems.{Made, stands_in, with_atom, with_atoms, sum_of, with_constraint, with_constraints, quotient_rows, own_rows, explained, all_explained, made_of, added_at, numbered_onto, affine, equations_of, rows_of, system_of, nothing, system, Stated, Listed, SizePassed, CasesPassed}
+use Rattle.affine_systems.specs.Systems.{Made, stands_in, with_atom, with_atoms, with_constraint, with_constraints, own_rows, explained, all_explained, made_of, added_at, numbered_onto, affine, equations_of, rows_of, system_of, nothing, system, Listed, SizePassed, CasesPassed}
 use Rattle.exo_effects.specs.Renamed.{re_atom, re_terms, re_linear, re_constraint, re_formula}
 use Rattle.exo_effects.specs.Cases.{systems_of, has_room, cases_stated}
 use Rattle.exo_conflicts.proofs.RenamedTerms.{KeepsApart, re_same_atom, re_subtracted}

@@ -2,7 +2,7 @@
 use Rattle.std.proofs.Common.{◌≡◌, ◌==◌, ◌^◌, ℕ, ℤ, pos, negsuc, ◌+ℤ◌, ◌*ℤ◌, Bool, true, false, cond, ◌&&◌, Option, Some, None, option_map, refl, sym, ap, ap₂, ◌∙◌}
 use Rattle.std.specs.Int.{int_div_euclid, int_rem_euclid}
 use Rattle.std.specs.Ordering.{int_eq}
-use Rattle.affine_forms.specs.Atoms.{Atom, Variable, EntryField, UnknownField, OpaqueStride, Quotient, Terms, none, term, Linear, same_kind, taken, same_atom, same_terms, with_term, terms_added, terms_scaled, added, scaled, subtracted, present, divides, divided, undivided, quotient_of, quotient}
+use Rattle.affine_forms.specs.Atoms.{Atom, Variable, EntryField, UnknownField, OpaqueStride, Quotient, Terms, none, term, Linear, taken, same_atom, same_terms, with_term, terms_added, terms_scaled, added, scaled, subtracted, present, divides, divided, undivided, quotient_of, quotient}
 use Rattle.affine_forms.specs.Forms.{without_zeros, is_within, are_within, is_short_form}
 use Rattle.affine_forms.specs.Formulas.{Constraint, AtLeastZero, IsZero, Formula, Says, Both, Either, moved, difference, less, at_most, equal, denied, negation}
 use Rattle.exo_effects.specs.Renamed.{re_atom, re_terms, re_linear, re_constraint, re_formula}

@@ -3,8 +3,8 @@ use Rattle.std.proofs.Common.{◌≡◌, ◌<◌, ◌≤◌, ℕ, max, List, [],
 use Rattle.std.proofs.Math.Nat.{le-max_left, le-max_right}
 use Rattle.affine_forms.specs.Atoms.{Atom, Variable, EntryField, UnknownField, OpaqueStride, Quotient, Terms, none, term, Linear}
 use Rattle.affine_forms.specs.Formulas.{Constraint, AtLeastZero, IsZero, Formula, Says, Both, Either}
-use Rattle.exo_effects.specs.Accesses.{AccessCoord, At, Range, Access}
-use Rattle.exo_effects.specs.Conflicts.{re_turn, re_coord, re_access}
+use Rattle.exo_effects.specs.Accesses.{AccessCoord, At, Range}
+use Rattle.exo_effects.specs.Conflicts.{re_coord}
 use Rattle.exo_effects.specs.Fresh.{past_atom, past_terms, past_linear, past_constraint, past_formula, past_all, past_coord}
 use Rattle.exo_effects.specs.Renamed.{re_atom, re_terms, re_linear, re_constraint, re_formula}
 

@@ -1,5 +1,6 @@
 -- The row of a claim that never holds: systems of the program end with it.
-use Rattle.std.specs.Prelude.{ℕ, zero, suc, ◌-◌, ℤ, pos, List, [], ◌∷◌, ◌++◌, length, take}
+use Rattle.std.specs.Prelude.{ℕ, zero, suc, ◌-◌, ℤ, pos}
+use Rattle.std.specs.Prelude.{List, [], ◌∷◌, ◌++◌, length, take}
 use Rattle.affine_forms.specs.Affine.{Affine, Constraints}
 use Rattle.affine_systems.specs.Outcomes.{Owed}
 

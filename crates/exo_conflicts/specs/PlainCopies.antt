@@ -1,28 +1,23 @@
 -- The plain forms of the program's copies, and what the calls on them answer.
-use Rattle.std.specs.Prelude.{◌≡◌, ◌^◌, ℕ, nat_lt, nat_le, Bool, true, false, ◌&&◌, List, [], ◌∷◌, ◌++◌, map, flat_map, length}
-use Rattle.std.specs.Prelude.{Result, Ok, Err, Vec, ⊤}
+use Rattle.std.specs.Prelude.{◌≡◌, ◌^◌, ℕ, nat_lt, Bool, true, ◌&&◌, List, ◌++◌, map}
+use Rattle.std.specs.Prelude.{Result, Ok, Err, Vec}
 use Rattle.std.specs.List.{list_all}
-use Rattle.exo_tree.specs.PlainControl.{control, condition}
-use Rattle.exo_tree.specs.Tree as tree
-use Rattle.exo_tree.specs.Tree.{Coord}
-use Rattle.meaning_laws.specs.Facts.{Fact, Holds, Fails}
-use Rattle.affine_forms.specs.Forms.{is_affine}
-use Rattle.affine_forms.specs.Formulas.{Formula, is_affine_condition}
+use Rattle.exo_tree.specs.PlainControl.{control}
+use Rattle.meaning_laws.specs.Facts.{Fact}
+use Rattle.affine_forms.specs.Formulas.{Formula}
 use Rattle.affine_forms.specs.Outcomes.{IsWide}
 use Rattle.affine_forms.specs.declared.error.FormError.{FormError}
-use Rattle.exo_effects.specs.Accesses.{plain_form, plain_fits, guard_of, guard_fits, coord_form}
-use Rattle.exo_effects.specs.Accesses.{coord_fits}
+use Rattle.exo_effects.specs.Accesses.{plain_form, plain_fits, guard_of, guard_fits}
 use Rattle.exo_effects.specs.Accesses as plain
-use Rattle.exo_effects.specs.Conflicts.{apart, variables_of, re_turn, re_coord, copied_turns}
+use Rattle.exo_effects.specs.Conflicts.{apart, variables_of}
+use Rattle.exo_effects.specs.Low.{is_low, fact_is_low}
 use Rattle.exo_effects.specs.Orders as orders
 use Rattle.exo_effects.specs.PlainAccess.{plain_coord}
 use Rattle.exo_effects.specs.PlainGuards.{facts_of}
 use Rattle.exo_effects.specs.PlainUses.{all_variables}
 use Rattle.exo_effects.specs.Renamed.{re_formula}
-use Rattle.exo_effects.specs.Uses.{Use}
 use Rattle.exo_effects.specs.declared.access.AccessCoord.{AccessCoord}
 use Rattle.exo_effects.specs.declared.guards.Guard.{Guard}
-use Rattle.exo_conflicts.specs.Copies.{numbers_below, names_below}
 use Rattle.exo_conflicts.specs.declared.twin.Turn.{Turn}
 use Rattle.exo_conflicts.specs.declared.twin.Twin.{Twin}
 use Rattle.exo_conflicts.specs.declared.copies.CopiedTurn.{CopiedTurn}
@@ -47,8 +42,7 @@ turn_fits t = plain_fits (control t.lower.now) && plain_fits (control t.upper.no
 abbrev pub turn_is_low : Turn → Bool
 turn_is_low t =
     nat_lt t.variable.0 (2 ^ 31)
-    && (is_affine (numbers_below (2 ^ 31)) (control t.lower.now)
-    && is_affine (numbers_below (2 ^ 31)) (control t.upper.now))
+    && (is_low (control t.lower.now) && is_low (control t.upper.now))
 
 abbrev pub plain_row : OrderRow → orders.OrderRow
 plain_row (row.Less k) = orders.Less k
@@ -61,24 +55,9 @@ plain_order o = record {
   rows = map plain_row o.rows.now;
 }
 
--- ---- uses whose variables are below 2^31
-
-abbrev pub fact_is_low : Fact → Bool
-fact_is_low (Holds c) = is_affine_condition (names_below (2 ^ 31)) c
-fact_is_low (Fails c) = is_affine_condition (names_below (2 ^ 31)) c
-
+-- what it says is affine, over variables below 2^31
 abbrev pub guard_is_low : Guard → Bool
 guard_is_low g = list_all fact_is_low (facts_of g)
-
-abbrev pub coord_is_low : Coord → Bool
-coord_is_low (tree.At e) = is_affine (numbers_below (2 ^ 31)) e
-coord_is_low (tree.Span a b) =
-    is_affine (numbers_below (2 ^ 31)) a && is_affine (numbers_below (2 ^ 31)) b
-
-abbrev pub use_is_low : Use → Bool
-use_is_low x =
-    list_all fact_is_low x.round
-    && (list_all coord_is_low x.coords && list_all (λ y. nat_lt y (2 ^ 31)) x.own)
 
 -- ---- copies
 
@@ -95,17 +74,22 @@ abbrev pub TurnMade : Result CopiedTurn FormError → Bool → orders.Turn → T
 TurnMade (Ok t) fits u = (fits ≡ true) × (plain_copied t ≡ u)
 TurnMade (Err e) fits u = IsWide e fits
 
-abbrev pub TurnsMade : {A : Type 0} → Result (Vec CopiedTurn A) FormError → Bool → List orders.Turn → Type 0
+abbrev pub TurnsMade :
+    {A : Type 0} → Result (Vec CopiedTurn A) FormError → Bool → List orders.Turn → Type 0
 TurnsMade (Ok ts) fits us = (fits ≡ true) × (map plain_copied ts.items ≡ us)
 TurnsMade (Err e) fits us = IsWide e fits
 
-abbrev pub CoordsMade : {A : Type 0} → Result (Vec AccessCoord A) FormError → Bool → List plain.AccessCoord → Type 0
+abbrev pub CoordsMade :
+    {A : Type 0}
+    → Result (Vec AccessCoord A) FormError → Bool → List plain.AccessCoord → Type 0
 CoordsMade (Ok cs) fits ds = (fits ≡ true) × (map plain_coord cs.items ≡ ds)
 CoordsMade (Err e) fits ds = IsWide e fits
 
 -- what facts say in a copy comes behind the others, exactly where all their normal forms can be
 -- written down
-abbrev pub Said : {A : Type 0} → Result A FormError → (ℕ → ℕ) → List Fact → List Formula → List Formula → Type 0
+abbrev pub Said :
+    {A : Type 0}
+    → Result A FormError → (ℕ → ℕ) → List Fact → List Formula → List Formula → Type 0
 Said (Ok t) r facts old new =
     (list_all guard_fits facts ≡ true) × (new ≡ old ++ map (re_formula r) (map guard_of facts))
 Said (Err e) r facts old new = IsWide e (list_all guard_fits facts)

@@ -8,11 +8,12 @@ ghost use Rattle.affine_forms.specs.Outcomes.{Formed};
 ghost use Rattle.affine_forms.specs.PlainFormulas.{FormulaMade};
 ghost use Rattle.exo_effects.specs.Accesses.{plain_form, plain_fits, plain_formula, plain_formula_fits, coord_form, coord_fits};
 ghost use Rattle.exo_effects.specs.Conflicts.{place_in, span_number, variables_of, re_turn, re_coord, copied_turns};
+ghost use Rattle.exo_effects.specs.Low.{coord_is_low};
 ghost use Rattle.exo_effects.specs.PlainAccess.{plain_coord, CoordMade};
 ghost use Rattle.exo_effects.specs.PlainUses.{all_variables};
 ghost use Rattle.exo_effects.specs.Renamed.{re_linear, re_formula};
 ghost use Rattle.exo_conflicts.specs.Copies.{reading_by, flags_by, numbers_below, names_below};
-ghost use Rattle.exo_conflicts.specs.PlainCopies.{plain_turn, plain_copied, turn_fits, turn_is_low, coord_is_low, renamed, TurnMade, TurnsMade, CoordsMade};
+ghost use Rattle.exo_conflicts.specs.PlainCopies.{plain_turn, plain_copied, turn_fits, turn_is_low, renamed, TurnMade, TurnsMade, CoordsMade};
 
 use crate::twin::{Turn, Twin};
 use affine_forms::{

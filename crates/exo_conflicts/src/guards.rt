@@ -6,8 +6,9 @@ ghost use Rattle.exo_tree.specs.PlainControl.{control, condition};
 ghost use Rattle.meaning_laws.specs.Facts as facts;
 ghost use Rattle.affine_forms.specs.Atoms as plain;
 ghost use Rattle.affine_forms.specs.Atoms.{only};
+ghost use Rattle.exo_effects.specs.Low.{fact_is_low};
 ghost use Rattle.exo_effects.specs.PlainGuards.{facts_of, all_facts};
-ghost use Rattle.exo_conflicts.specs.PlainCopies.{fact_is_low, guard_is_low, renamed, Said};
+ghost use Rattle.exo_conflicts.specs.PlainCopies.{guard_is_low, renamed, Said};
 
 use crate::copies::{copied_form, copied_formula};
 use crate::twin::Twin;

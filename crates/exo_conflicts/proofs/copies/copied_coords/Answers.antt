@@ -1,5 +1,5 @@
 use Rattle.exo_tree.specs.PlainControl.{coordinate}
-use Rattle.exo_conflicts.specs.PlainCopies.{coord_is_low}
+use Rattle.exo_effects.specs.Low.{coord_is_low}
 use Rattle.exo_conflicts.proofs.Places.{each_at}
 use Rattle.exo_conflicts.proofs.copies.copied_coords.Goals as goal
 

@@ -1,4 +1,4 @@
-use Rattle.std.proofs.Common.{◌≡◌, ◌^◌, map, sym, subst₂}
+use Rattle.std.proofs.Common.{◌^◌, map, subst₂}
 use Rattle.exo_tree.specs.PlainControl.{control}
 use Rattle.affine_forms.specs.Outcomes.{Formed}
 use Rattle.exo_effects.specs.Conflicts.{variables_of}

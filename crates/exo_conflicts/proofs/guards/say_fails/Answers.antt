@@ -1,4 +1,4 @@
-use Rattle.std.proofs.Common.{◌≡◌, ◌&&◌, true, [], ◌∷◌, ◌++◌, sym, ap, ◌∙◌}
+use Rattle.std.proofs.Common.{◌&&◌, true, [], ◌∷◌, ◌++◌, sym, ap, ◌∙◌}
 use Rattle.exo_tree.specs.PlainControl.{condition}
 use Rattle.affine_forms.specs.Formulas.{negation}
 use Rattle.exo_effects.specs.Accesses.{plain_formula}

@@ -1,4 +1,4 @@
-use Rattle.std.proofs.Common.{◌≡◌, ◌^◌, ◌&&◌, true, [], ◌∷◌, ◌++◌, map, ap, ap₂, ◌∙◌}
+use Rattle.std.proofs.Common.{◌^◌, ◌&&◌, true, [], ◌∷◌, ◌++◌, map, ap, ap₂, ◌∙◌}
 use Rattle.exo_tree.specs.PlainControl.{control}
 use Rattle.affine_forms.specs.Formulas.{at_most}
 use Rattle.exo_effects.specs.Conflicts.{variables_of}

@@ -1,4 +1,4 @@
-use Rattle.std.proofs.Common.{◌≡◌, ◌∙◌, ◌+◌, ◌-◌, ap, arith}
+use Rattle.std.proofs.Common.{◌∙◌, ◌-◌, ap, arith}
 use Rattle.exo_effects.specs.Conflicts.{meeting}
 use Rattle.exo_effects.specs.Cases.{systems_of, cases_stated}
 use Rattle.exo_conflicts.proofs.MeetingNumbers.{systems_up, stated_up}

@@ -1,4 +1,4 @@
-use Rattle.std.proofs.Common.{◌≡◌, sym, ap, ◌∙◌, subst}
+use Rattle.std.proofs.Common.{ap, ◌∙◌, subst}
 use Rattle.affine_systems.specs.Systems.{stated}
 use Rattle.affine_systems.specs.Outcomes.{AreOwed, IsRefusal}
 use Rattle.exo_effects.specs.Cases.{cases_stated}

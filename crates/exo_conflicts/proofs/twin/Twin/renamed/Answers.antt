@@ -1,4 +1,4 @@
-use Rattle.std.proofs.Common.{◌≡◌, sym, ◌∙◌, arith, map}
+use Rattle.std.proofs.Common.{sym, ◌∙◌, arith, map}
 use Rattle.exo_effects.specs.Conflicts.{variables_of}
 use Rattle.exo_effects.specs.PlainUses.{all_variables}
 use Rattle.exo_conflicts.specs.PlainCopies.{plain_turn}
