@@ -5,13 +5,14 @@ use Rattle.exo_cli.proofs.work.exoc.Goals as goal
 
 pub returns-in-Ok : goal.returns-in-Ok
 returns-in-Ok g c =
-    let stays = record {
+    let all = ends _ _ _ (plain c.in-Ok.reply) c.deliver.result
+    (record {
       told = c.in-Ok.ensures.same;
       faults = c.in-Ok.ensures.count;
       out_faults = c.deliver.ensures.out_count;
       err_faults = c.deliver.ensures.err_count;
-    } in
-    let all = ends _ _ _ (plain c.in-Ok.reply) c.deliver.result stays c.in-Ok.ensures.answer
+    })
+    c.in-Ok.ensures.answer
     (record { ended = c.deliver.ensures.status; out = c.deliver.ensures.out; err = c.deliver.ensures.err; fault = c.deliver.ensures.fault }) in
     let laws : StageLaws = record {
       compiled = c.compiled_is_promised.ensures;
