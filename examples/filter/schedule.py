@@ -1,5 +1,5 @@
 p = cut_loop(filter, 'i', 'n - 3')
+p = specialize(p, find(p, 'i').expand(0, 1), '11 <= n')
 p = divide_loop(p, 'i', 8, ['io', 'ii'], tail='cut')
 p = unroll_loop(p, 'k')
-p = specialize(p, find(p, 'io').expand(0, 1), '11 <= n')
 emit(p)
