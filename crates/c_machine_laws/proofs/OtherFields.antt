@@ -6,9 +6,9 @@ use Rattle.std.specs.Ordering.{int_eq}
 use Rattle.exo_tree.specs.Tree.{Cell, I32}
 use Rattle.exo_meaning.specs.Run.{count}
 use Rattle.c_names.specs.Words.{Name, same_name, is_in}
-use Rattle.c_tree.specs.CTree.{Element, Single, Vector, Number64, CellRef, Number32, Read32, Actual, Control64, Tested, Alone, Address, WindowOf, Formal, Number64Param, ArrayParam, WindowParamOf, CStatement, Store, AddTo, SetField, Empty, Branch, Loop, Array, Malloc, Free, Bind, CallOf, Instruction, CBlock, stop, first, CFunction, CUnit}
-use Rattle.c_machine.specs.Machine.{Outcome, Done, Fault, NoStore, after, where_good, Pointer, Thing, IsNumber, IsField, IsFunction, IsArray, IsVectors, IsWindow, Object, Setting, Machine, named, with_thing, hiding, number64, all_numbers64, test, typed_spot, spot_by, from_array, number32, holds_cells}
-use Rattle.c_machine.specs.CRun.{Behaviour, CWorld, on_setting, back_to, in_scope, store, add_to, window_from, thing, things, things_of_cells, set_under, set_field, amount, at_most_48, lanes_of, array_thing, made, make, freed, free_under, bind_formal, bind_formals, with_names, run_in_place, run_function, go_on, turns64, with_counter, turn64, upper64, either_way, run_c, step_c, behaviour, all_named, names_of_functions, globals_of, with_functions, file_world, run_file}
+use Rattle.c_tree.specs.CTree.{Element, Single, Vector, Number64, CellRef, Read32, Actual, WindowOf, Formal, Number64Param, ArrayParam, WindowParamOf, CStatement, Store, AddTo, SetField, Empty, Branch, Loop, Array, Malloc, Free, Bind, CallOf, Instruction, CBlock, stop, first, CFunction, CUnit}
+use Rattle.c_machine.specs.Machine.{Outcome, Done, Fault, NoStore, after, where_good, Pointer, Thing, IsNumber, IsField, IsFunction, IsArray, IsVectors, IsWindow, Object, Setting, Machine, named, hiding, number64, all_numbers64, test, typed_spot, spot_by, from_array, number32, holds_cells}
+use Rattle.c_machine.specs.CRun.{Behaviour, CWorld, back_to, in_scope, window_from, thing, things, things_of_cells, set_under, amount, at_most_48, lanes_of, array_thing, made, make, freed, free_under, bind_formal, bind_formals, with_names, run_in_place, run_function, go_on, turns64, with_counter, turn64, upper64, either_way, run_c, step_c, behaviour, all_named, names_of_functions, globals_of, with_functions, file_world, run_file}
 use Rattle.c_machine.specs.Examples.{alone, moves, for_l, at_l, eight}
 use Rattle.c_machine_laws.specs.OtherFields.{FieldsAreDeclared, OthersStay, KeepsOthers, TemplatesKeepOthers, OtherFieldsStay, BlocksKeepOthers, OtherFieldsInstance, file_of, move_and_set}
 
@@ -89,7 +89,7 @@ window_is_none s rank cell ref strides =
 
 module _ (u : CUnit) where
   abbrev Declared : (Name → Option Thing) → Type 0
-  Declared names = (y : Name) → names y ≡ Some IsField → is_in u.fields y ≡ true
+  Declared = FieldsAreDeclared u
 
   named_declared : (names : Name → Option Thing) (x : Name) (held : Option Thing) → is_field held ≡ false → Declared names → Declared (named names x held)
   named_declared names x held not_it d y = by_test (same_name y x)
@@ -220,8 +220,8 @@ module _ (u : CUnit) where
     turns_keep (suc k) n m d =
         after_any (Kept m) (upper n m) _ (λ h.
         goes_on (Kept m) (int_lt n h) (λ p. after (turn n p) (turns64 turn upper k (n +ℤ pos 1))) m
-            (on_kept m (turn n m) (turns64 turn upper k (n +ℤ pos 1)) (each n m d) (turns_keep k (n +ℤ pos 1)))
-            (stays m d))
+        (on_kept m (turn n m) (turns64 turn upper k (n +ℤ pos 1)) (each n m d) (turns_keep k (n +ℤ pos 1)))
+        (stays m d))
 
   either_keeps : (P : Machine → Type 0) (b : Bool) (f g : Machine → Outcome Machine) (m : Machine) → Where P (f m) → Where P (g m) → Where P (either_way b f g m)
   either_keeps P true f g m h k = h
@@ -251,7 +251,7 @@ module _ (u : CUnit) where
     turn_keeps : (x : Name) (run : Machine → Outcome Machine) → Run run → (n : ℤ) → Run (turn64 x run n)
     turn_keeps x run h n m d =
         scope_keeps (λ p. run (with_counter x n p)) m (Kept m) (λ p o. (d, o))
-            (weaker (Kept (with_counter x n m)) (OthersStay u m) (run (with_counter x n m)) (h (with_counter x n m) (named_declared m.setting.names x (Some (IsNumber n)) refl d)) (λ p k. k.1))
+        (weaker (Kept (with_counter x n m)) (OthersStay u m) (run (with_counter x n m)) (h (with_counter x n m) (named_declared m.setting.names x (Some (IsNumber n)) refl d)) (λ p k. k.1))
 
     mutual
       block_keeps : (b : CBlock) → Run (run_c world b)
@@ -268,7 +268,7 @@ module _ (u : CUnit) where
       step_keeps (Branch t a b) m d =
           after_any (Kept m) (test m.setting t) _ (λ h.
           scoped (either_way h (run_c world a) (run_c world b)) m d
-              (either_keeps (Kept m) h (run_c world a) (run_c world b) m (block_keeps a m d) (block_keeps b m d)))
+          (either_keeps (Kept m) h (run_c world a) (run_c world b) m (block_keeps a m d) (block_keeps b m d)))
       step_keeps (Loop x lo hi b) m d =
           after_any (Kept m) (number64 (hiding x m.setting) lo) _ (λ n.
           turns_keep (turn64 x (run_c world b)) (upper64 x hi) (turn_keeps x (run_c world b) (block_keeps b)) (count (pos 9223372036854775807 -ℤ n)) n m d)
@@ -343,8 +343,18 @@ pub other_fields_stay : OtherFieldsStay
 other_fields_stay u templates at ts m n lawful e = subst (Where (OthersStay u m)) e (call_of_file u templates lawful at ts m)
 
 pub blocks_keep_others : BlocksKeepOthers
-blocks_keep_others u b m n d e =
-    (subst (Where (Kept u m)) e (block_keeps u alone (λ y h. absurd cc) (λ f. tt) (λ k. tt) b m d)).1
+blocks_keep_others u world b global functions templates m n d e = kept.1
+  where
+    function : (f : Name) → Keeps u (world.functions f)
+    function f = keeps_behaviour u (world.functions f) (functions f)
+
+    instruction : (k : ℕ) → Keeps u (world.instructions k)
+    instruction k = keeps_behaviour u (world.instructions k) (templates k)
+
+    kept : Kept u m n
+    kept = subst (Where (Kept u m)) e (block_keeps u world global function instruction b m d)
+
+-- ---- a closed instance
 
 abbrev IsLawful : Option Behaviour → Type 0
 IsLawful None = ⊤
@@ -353,8 +363,12 @@ IsLawful (Some f) = KeepsOthers (file_of move_and_set) f.run
 abbrev moves_body : CBlock
 moves_body = for_l eight (Store I32 (at_l (codes "dst")) (Read32 (at_l (codes "src"))))
 
+-- what an instruction does that moves eight cells, in a world of no names
+moves_keep : KeepsOthers (file_of move_and_set) (run_c alone moves_body)
+moves_keep = blocks_keep_others (file_of move_and_set) alone moves_body (λ y h. absurd cc) (λ y f h. absurd cc) (λ k f h. absurd cc)
+
 moves_lawful : TemplatesKeepOthers (file_of move_and_set) moves
-moves_lawful k f e = subst IsLawful e (blocks_keep_others (file_of move_and_set) moves_body)
+moves_lawful k f e = subst IsLawful e moves_keep
 
 pub other_fields_instance : OtherFieldsInstance
 other_fields_instance = record {

@@ -36,7 +36,7 @@ pub fn other_fields_stay()
     ensures { OtherFieldsStay }
 {}
 
-/// A block that calls nothing leaves them alone, and so does an instruction of which such a block is what it does.
+/// So does a block, if what it calls does.
 pub fn blocks_keep_others()
     ensures { BlocksKeepOthers }
 {}
