@@ -1,2 +1,3 @@
 mod Helpers
 mod Runs
+mod OtherFields

@@ -2,6 +2,7 @@
 
 ghost use Rattle.c_machine_laws.specs.Helpers.{HelpersRoundDown};
 ghost use Rattle.c_machine_laws.specs.Runs.{NumbersHave64Bits, CellsHave32Bits, CellsOfTheCaller, ScopesEnd};
+ghost use Rattle.c_machine_laws.specs.OtherFields.{OtherFieldsStay, BlocksKeepOthers, OtherFieldsInstance};
 
 /// `exo_div` and `exo_mod`, as they are written with C's division, give the quotient that rounds down and its
 /// remainder. No step of them overflows.
@@ -27,4 +28,20 @@ pub fn cells_of_the_caller()
 /// What a block made is gone behind it: its names, and its cells.
 pub fn scopes_end()
     ensures { ScopesEnd }
+{}
+
+/// A call of a function of a file leaves each field alone whose name the file does not declare, if what
+/// instructions do leaves them alone.
+pub fn other_fields_stay()
+    ensures { OtherFieldsStay }
+{}
+
+/// So does a block, if what it calls does.
+pub fn blocks_keep_others()
+    ensures { BlocksKeepOthers }
+{}
+
+/// A file of a field, with a function that moves cells by an instruction and sets the field.
+pub fn other_fields_instance()
+    ensures { OtherFieldsInstance }
 {}
