@@ -2,10 +2,10 @@
 use Rattle.std.proofs.Common.{◌≡◌, ℕ, zero, suc, ◌+◌, ◌<◌, ◌≤◌, ◌&&◌, ◌||◌, min, Bool, false, List, [], ◌∷◌, ◌++◌, Option, Some, None, option_map, slice_get, get_or, drop-cons, add-one, length, take, drop, map, refl, ap, sym, ◌∙◌, append_assoc, arith}
 use Rattle.std.proofs.lemmas.List.{length_push}
 use Rattle.std.proofs.lemmas.Option.{slice_get-map}
-use Rattle.exo_tree.specs.Tree.{Param, Argument, Procedure, Program}
-use Rattle.exo_meaning.specs.Run.{is_root, kinds_of}
-use Rattle.stride_laws.specs.Strides.{all_see, sees_at, sees_strides}
-use Rattle.exo_strides.specs.Seen.{seen_of, passes, call_sees, first_world, first_see, param_seen}
+use Rattle.exo_tree.specs.Tree.{Param, Argument, Block, Procedure, Program}
+use Rattle.exo_meaning.specs.Run.{is_root, kinds_of, unit_world}
+use Rattle.stride_laws.specs.Strides.{all_see, sees_at, sees_strides, uses_strides, stride_seen}
+use Rattle.exo_strides.specs.Seen.{seen_of, passes, call_sees, first_world, first_see, param_seen, block_sees, is_used_in}
 use Rattle.exo_strides.specs.Table.{rows_of, seen_rows, AreFirst, word_at}
 use Rattle.exo_strides.proofs.Calls.{passed_by, passed_none, passed_some, call_is, as_many_all, row_read, one_more}
 
@@ -150,6 +150,22 @@ one_row_more u rs k p row h e t r =
 pub all_rows : (u : Program) (rs : List (List Bool)) (k : ℕ) → AreFirst rs u → length rs ≡ k → length u.procedures ≤ k → rs ≡ seen_rows u
 all_rows u rs k h e l =
     h ∙ ap (λ qs. rows_of qs (all_see (kinds_of u.fields) [] [] qs)) (take_whole (length rs) u.procedures (omega (arith, e, l)))
+
+take_these : (u : Program) (rs : List (List Bool)) → rs ≡ seen_rows u → take (length rs) u.procedures ≡ u.procedures
+take_these u rs h =
+    let qs = u.procedures in
+    take_whole (length rs) qs (omega (arith, ap length h, as_long qs (all_see (kinds_of u.fields) [] [] qs) (as_many_all (kinds_of u.fields) qs)))
+
+-- the whole table is that of the first procedures
+pub whole_is_first : (u : Program) (rs : List (List Bool)) → rs ≡ seen_rows u → AreFirst rs u
+whole_is_first u rs h =
+    h ∙ ap (λ qs. rows_of qs (all_see (kinds_of u.fields) [] [] qs)) (sym (take_these u rs h))
+
+pub whole_sees : (u : Program) (rs : List (List Bool)) → rs ≡ seen_rows u → (n : ℕ) → length rs ≡ n → (root : ℕ → ℕ) (x : ℕ) (b : Block) → block_sees u n root b (root x) ≡ is_used_in u root x b
+whole_sees u rs h n e root x b =
+    let kinds = kinds_of u.fields in
+    ap (λ m. block_sees u m root b (root x)) (sym e)
+    ∙ ap (λ qs. uses_strides (unit_world kinds qs).callees (stride_seen kinds qs) root b (root x)) (take_these u rs h)
 
 -- ---- rows that are read
 

@@ -3,8 +3,9 @@ use Rattle.std.specs.Prelude.{ℕ, ◌&&◌, ◌||◌, Bool, false, List, [], �
 use Rattle.std.specs.Prelude.{Some, None, slice_get}
 use Rattle.exo_tree.specs.Tree.{Param, Argument, Statement, Block, Procedure, Program}
 use Rattle.exo_meaning.specs.Modes.{call_has}
-use Rattle.exo_meaning.specs.Run.{World, is_root, kinds_of, unit_world}
+use Rattle.exo_meaning.specs.Run.{World, is_root, kinds_of, unit_world, program_world}
 use Rattle.stride_laws.specs.Strides.{uses_strides, step_uses_strides, stride_seen}
+use Rattle.stride_laws.specs.Strides.{is_stride_used}
 
 -- for each parameter, whether its strides are seen
 abbrev pub seen_of : (ℕ → Bool) → List Param → List Bool
@@ -51,3 +52,7 @@ param_seen u k i =
             | Some x ↦ stride_seen (kinds_of u.fields) u.procedures k x.binder.id
           ]
     ]
+
+-- a block of the program uses a stride of the buffer of name x
+abbrev pub is_used_in : Program → (ℕ → ℕ) → ℕ → Block → Bool
+is_used_in u = is_stride_used (program_world u).callees (stride_seen (kinds_of u.fields) u.procedures)

@@ -5,4 +5,4 @@ mod expressions;
 mod table;
 mod walk;
 
-pub use table::{StrideTable, stride_seen};
+pub use table::{StrideTable, is_stride_used, stride_seen};

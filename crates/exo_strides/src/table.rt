@@ -1,17 +1,19 @@
 //! The strides that all procedures of a unit look at.
 ghost use Rattle.std.specs.Prelude.{◌≡◌, [], map, length, OnOk, IfOk};
+ghost use Rattle.exo_tree.specs.Tree.{block};
 ghost use Rattle.exo_tree.specs.PlainUnit.{program};
+ghost use Rattle.exo_modes.specs.Aliases.{roots_in};
 ghost use Rattle.exo_tree.specs.PlainParam.{parameter_kind};
 ghost use Rattle.exo_tree.specs.PlainProcedure.{procedure};
 ghost use Rattle.stride_laws.specs.Strides.{kind_uses, params_use, sees_strides};
-ghost use Rattle.exo_strides.specs.Seen.{seen_of, first_world, first_see, param_seen};
+ghost use Rattle.exo_strides.specs.Seen.{seen_of, first_world, first_see, param_seen, is_used_in};
 ghost use Rattle.exo_strides.specs.Table.{AreFirst, seen_rows, word_at};
 ghost use Rattle.exo_strides.specs.PlainTable.{rows, table_rows};
 
 use crate::expressions::controls_use;
-use crate::walk::{Above, body_sees};
-use exo_modes::Alias;
-use exo_tree::{ParamKind, Params, Proc, ProcId, Unit};
+use crate::walk::{Above, block_sees, body_sees};
+use exo_modes::{Alias, root};
+use exo_tree::{Block, Id, ParamKind, Params, Proc, ProcId, Unit};
 use std::alloc::{AllocError, Global};
 
 /// Of each procedure of a unit, which parameters' strides it looks at: directly, through a view, or through a call.
@@ -122,4 +124,26 @@ pub fn stride_seen(unit: &Unit, table: &StrideTable, p: ProcId, param: u32) -> b
         return false;
     }
     table.get(p, param)
+}
+
+/// Whether a block looks at strides of the buffer that the name `x` stands for: by a stride of a name of it, or by
+/// passing a part of it to a parameter whose strides are seen. The aliases say what the names stand for before the
+/// block. The table is that of the unit.
+pub fn is_stride_used(
+    unit: &Unit,
+    table: &StrideTable,
+    aliases: &mut Vec<Alias>,
+    x: Id,
+    b: &Block,
+) -> Result<bool, AllocError>
+    requires { table_rows table.now ≡ seen_rows (program unit.now) }
+    ensures used { IfOk result (λ r. r ≡ is_used_in (program unit.now) (roots_in aliases.old.items) x.0 (block b.now)) }
+    ensures kept { OnOk result (aliases.new.items ≡ aliases.old.items) }
+{
+    let above = Above {
+        unit,
+        rows: &table.rows,
+    };
+    let buffer = root(aliases, x.0);
+    block_sees(&above, aliases, buffer, b)
 }

@@ -121,7 +121,7 @@ fn statement_sees(
 
 /// Whether a block looks at strides of buffer `y`. Its names end with it.
 #[cycle(walk)]
-fn block_sees(
+pub(crate) fn block_sees(
     above: &Above,
     aliases: &mut Vec<Alias>,
     y: u32,
