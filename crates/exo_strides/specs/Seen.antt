@@ -55,4 +55,5 @@ param_seen u k i =
 
 -- a block of the program uses a stride of the buffer of name x
 abbrev pub is_used_in : Program → (ℕ → ℕ) → ℕ → Block → Bool
-is_used_in u = is_stride_used (program_world u).callees (stride_seen (kinds_of u.fields) u.procedures)
+is_used_in u =
+    is_stride_used (program_world u).callees (stride_seen (kinds_of u.fields) u.procedures)
