@@ -2,3 +2,4 @@ pub mod Copies
 pub mod CopyLaws
 pub mod Claims
 pub mod PlainCopies
+pub mod Outcomes

@@ -1,15 +1,18 @@
 //! When two pieces of a procedure do not meet: systems that must have no integer point.
 #![tactic(auto)]
 
+mod asked;
 mod copies;
 mod guards;
 pub mod laws;
+mod listing;
 mod meeting;
 mod order;
 mod pairs;
 mod systems;
 mod twin;
 
+pub use listing::{Contexts, conflicts};
 pub use order::{Order, OrderRow};
 pub use systems::systems_together;
 pub use twin::Turn;
