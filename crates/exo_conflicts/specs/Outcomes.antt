@@ -7,11 +7,14 @@ use Rattle.affine_forms.specs.Atoms.{Linear}
 use Rattle.affine_forms.specs.Formulas.{Formula}
 use Rattle.affine_forms.specs.Outcomes.{IsWide}
 use Rattle.affine_forms.specs.declared.error.FormError.{FormError}
-use Rattle.affine_forms.specs.declared.error.FormError.TheVariants.{TooManyCases, SystemTooLarge, WideNumber, TooManySystems, Memory}
+use Rattle.affine_forms.specs.declared.error.FormError.TheVariants.{TooManyCases, SystemTooLarge}
+use Rattle.affine_forms.specs.declared.error.FormError.TheVariants.{WideNumber, TooManySystems}
+use Rattle.affine_forms.specs.declared.error.FormError.TheVariants.{Memory}
 use Rattle.affine_systems.specs.Outcomes.{Owed, plain_obligation}
 use Rattle.affine_systems.specs.declared.obligation.Obligation.{Obligation}
 use Rattle.exo_effects.specs.Accesses.{Access, use_fits}
-use Rattle.exo_effects.specs.Conflicts.{Listing, Lists, Refuses, ManyCases, LargeSystem, ManySystems}
+use Rattle.exo_effects.specs.Conflicts.{Listing, Lists, Refuses}
+use Rattle.exo_effects.specs.Conflicts.{ManyCases, LargeSystem, ManySystems}
 use Rattle.exo_effects.specs.Conflicts.{span_number, asked, points, bounds, order_row, copied_turns}
 use Rattle.exo_effects.specs.Conflicts.{may_clash, owed_behind}
 use Rattle.exo_effects.specs.Limits.{are_within}
@@ -97,7 +100,8 @@ module _ (ctx : List Formula) (order : orders.Order) (place : Path) where
       → IsFault e (owed_behind ctx order place (2 ^ 31) old (pairs ++ rest))
 
 -- obligations come behind the others, exactly where all are within the limits
-abbrev pub Pushed : {A : Type 0} → Result A FormError → List Owed → List Owed → List Owed → Type 0
+abbrev pub Pushed :
+    {A : Type 0} → Result A FormError → List Owed → List Owed → List Owed → Type 0
 Pushed (Ok t) old more new = (are_within (old ++ more) ≡ true) × (new ≡ old ++ more)
 Pushed (Err TooManyCases) old more new = ⊥
 Pushed (Err SystemTooLarge) old more new = ⊥
