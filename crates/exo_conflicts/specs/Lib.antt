@@ -3,3 +3,4 @@ pub mod CopyLaws
 pub mod Claims
 pub mod PlainCopies
 pub mod Outcomes
+pub mod Standings

@@ -28,6 +28,11 @@ use Rattle.exo_conflicts.specs.declared.order.Order.{Order}
 
 -- ---- what is given
 
+-- only for want of memory the formulas do not come
+abbrev pub MadeAnew : Result (List Formula) FormError → List Formula → Type 0
+MadeAnew (Ok c) fs = c ≡ fs
+MadeAnew (Err e) fs = e ≡ Memory
+
 -- its variables are below 2^31, and it is not long
 abbrev pub access_is_low : declared.Access → Bool
 access_is_low a =

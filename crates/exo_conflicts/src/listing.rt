@@ -19,18 +19,19 @@ use affine_systems::{Context, Obligation};
 use bounds_check::{CheckError, Owed};
 use exo_effects::Access;
 use exo_tree::Path;
-use std::alloc::{AllocError, Global};
+use std::alloc::Global;
 
 /// What holds at a place, made anew for each system.
 pub trait Contexts {
-    ghost use Rattle.std.specs.Prelude.{◌≡◌, List, IfOk};
+    ghost use Rattle.std.specs.Prelude.{List};
     ghost use Rattle.affine_forms.specs.Formulas.{Formula};
+    ghost use Rattle.exo_conflicts.specs.Outcomes.{MadeAnew};
 
     ghost known: { Self → List Formula };
 
-    /// The formulas that hold there.
-    fn context(&self, alloc: Global) -> Result<Context, AllocError>
-        ensures { IfOk result (λ c. c ≡ known self.now) };
+    /// The formulas that hold there. Only for want of memory they do not come.
+    fn context(&self, alloc: Global) -> Result<Context, FormError>
+        ensures { MadeAnew result (known self.now) };
 }
 
 /// What two accesses owe.
