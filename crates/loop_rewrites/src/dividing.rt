@@ -278,7 +278,7 @@ impl Dividing<'_> {
 }
 
 /// That a condition holds at a place.
-fn one(alloc: Global, at: &Path, c: Cond) -> Result<Vec<Need>, AllocError>
+pub(crate) fn one(alloc: Global, at: &Path, c: Cond) -> Result<Vec<Need>, AllocError>
     ensures { IfOk result (λ ns. map plain_need ns.items ≡ rule.Says at.now (facts.Holds (condition c)) ∷ []) }
 {
     let mut all = Vec::new(alloc);

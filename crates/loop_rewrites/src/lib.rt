@@ -7,11 +7,13 @@ mod dividing;
 mod loops;
 mod moves;
 mod numbers;
+mod shifting;
 mod specializing;
 mod turns;
 mod unrolling;
 
 pub use cutting::{Cutting, cut_loop};
 pub use dividing::{Dividing, Tail, divide_loop};
+pub use shifting::{Shifting, shift_loop};
 pub use specializing::{Specializing, specialize};
 pub use unrolling::{Unrolling, unroll_loop};

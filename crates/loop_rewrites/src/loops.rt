@@ -68,6 +68,21 @@ impl LoopAt<'_> {
         let binder = self.binder.duplicate(alloc)?;
         only(alloc, binder, low, high, self.body.duplicate(alloc)?)
     }
+
+    /// The loop between other bounds over another body, as a block.
+    pub(crate) fn over(
+        &self,
+        alloc: Global,
+        lo: &Ctrl,
+        hi: Ctrl,
+        body: Block,
+    ) -> Result<Block, AllocError>
+        ensures { IfOk result (λ b. block b ≡ only_loop (binding self.now.binder.now) (control lo.now) (control hi) (block body)) }
+    {
+        let binder = self.binder.duplicate(alloc)?;
+        let low = lo.duplicate(alloc)?;
+        only(alloc, binder, low, hi, body)
+    }
 }
 
 /// A loop alone in a block.

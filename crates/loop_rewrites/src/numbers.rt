@@ -17,6 +17,33 @@ fn sum(alloc: Global, a: Ctrl, b: Ctrl) -> Result<Ctrl, AllocError>
     Ok(Ctrl::Add(left, right))
 }
 
+/// A difference.
+fn difference(alloc: Global, a: Ctrl, b: Ctrl) -> Result<Ctrl, AllocError>
+    ensures { IfOk result (λ e. control e ≡ tree.Sub (control a) (control b)) }
+{
+    let left = Box::new(alloc, a)?;
+    let right = Box::new(alloc, b)?;
+    Ok(Ctrl::Sub(left, right))
+}
+
+/// A sum of copies.
+fn sum_of(alloc: Global, a: &Ctrl, b: &Ctrl) -> Result<Ctrl, AllocError>
+    ensures { IfOk result (λ e. control e ≡ tree.Add (control a.now) (control b.now)) }
+{
+    let left = a.duplicate(alloc)?;
+    let right = b.duplicate(alloc)?;
+    sum(alloc, left, right)
+}
+
+/// A sum of copies, less a copy.
+pub(crate) fn sum_less(alloc: Global, a: &Ctrl, b: &Ctrl, c: &Ctrl) -> Result<Ctrl, AllocError>
+    ensures { IfOk result (λ e. control e ≡ tree.Sub (tree.Add (control a.now) (control b.now)) (control c.now)) }
+{
+    let left = sum_of(alloc, a, b)?;
+    let right = c.duplicate(alloc)?;
+    difference(alloc, left, right)
+}
+
 /// So many times a number.
 fn times(alloc: Global, by: i64, a: Ctrl) -> Result<Ctrl, AllocError>
     ensures { IfOk result (λ e. control e ≡ tree.Mul (tree.Lit by) (control a)) }
