@@ -1,7 +1,10 @@
 -- Blocks and paths that are made.
 use Rattle.std.proofs.Common.{◌≡◌, ℕ, zero, suc, List, [], ◌∷◌, ◌++◌, length, refl, ap, ◌∙◌}
 use Rattle.exo_tree.specs.Tree.{Statement, Block, next, block, joined, statements}
+use Rattle.std.proofs.Common.{◌≢◌, None}
+use Rattle.std.specs.Prelude.{slice_get}
 use Rattle.exo_tree.specs.Places.{Main, Path}
+use Rattle.step_rules.specs.Shapes.{alone_in}
 use Rattle.loop_laws.specs.Shapes.{inside}
 
 pub joined_blocks : (xs ys : List Statement) → block (xs ++ ys) ≡ joined (block xs) (block ys)
@@ -15,6 +18,18 @@ appended made rest new a b h k l = ap block h ∙ joined_blocks made rest ∙ (�
 pub statements_of : (ss : List Statement) → statements (block ss) ≡ ss
 statements_of [] = refl
 statements_of (a ∷ ss) = ap (λ xs. a ∷ xs) (statements_of ss)
+
+-- ---- blocks of one statement
+
+pub alone_one : (ss : List Statement) → length ss ≡ 1 → slice_get ss 0 ≡ alone_in (block ss)
+alone_one [] h = absurd (omega (arith, h))
+alone_one (a ∷ []) h = refl
+alone_one (a ∷ b ∷ ss) h = absurd (omega (arith, h))
+
+pub alone_many : (ss : List Statement) → length ss ≢ 1 → alone_in (block ss) ≡ None
+alone_many [] h = refl
+alone_many (a ∷ []) h = absurd (h refl)
+alone_many (a ∷ b ∷ ss) h = refl
 
 -- ---- paths
 

@@ -1,3 +1,4 @@
 pub mod PlainLoop
 pub mod PlainTail
 pub mod PlainTurns
+pub mod PlainPair

@@ -59,7 +59,7 @@ pub struct Dividing<'a> {
 }
 
 /// Whether an expression is the literal 0.
-fn is_zero(e: &Ctrl) -> bool
+pub(crate) fn is_zero(e: &Ctrl) -> bool
     ensures { result ≡ shapes.is_zero (control e.now) }
 {
     match e {
@@ -327,7 +327,7 @@ impl Tail {
 }
 
 /// The loop goes to the outer loop.
-fn loop_shift() -> Shift
+pub(crate) fn loop_shift() -> Shift
     ensures { plain_shift result ≡ shifts.alone (shifts.at_index 0) (Some (shifts.at_index 0)) }
 {
     Shift {

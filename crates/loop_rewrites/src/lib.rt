@@ -6,7 +6,9 @@ mod cutting;
 mod dividing;
 mod loops;
 mod moves;
+mod multiplying;
 mod numbers;
+mod pairs;
 mod shifting;
 mod specializing;
 mod turns;
@@ -14,6 +16,7 @@ mod unrolling;
 
 pub use cutting::{Cutting, cut_loop};
 pub use dividing::{Dividing, Tail, divide_loop};
+pub use multiplying::{Multiplying, mult_loops};
 pub use shifting::{Shifting, shift_loop};
 pub use specializing::{Specializing, specialize};
 pub use unrolling::{Unrolling, unroll_loop};

@@ -25,7 +25,7 @@ pub(crate) struct LoopAt<'a> {
 }
 
 /// The loop that a statement is; None exactly where it is another statement.
-fn loop_in(s: &Stmt) -> Option<LoopAt<'_>>
+pub(crate) fn loop_in(s: &Stmt) -> Option<LoopAt<'_>>
     ensures { option_map plain_loop result ≡ shapes.loop_in (statement s.now) }
 {
     match s {

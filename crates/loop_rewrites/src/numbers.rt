@@ -53,6 +53,15 @@ fn times(alloc: Global, by: i64, a: Ctrl) -> Result<Ctrl, AllocError>
     Ok(Ctrl::Mul(left, right))
 }
 
+/// So many times a copy of a number.
+pub(crate) fn product(alloc: Global, a: &Ctrl, by: i64) -> Result<Ctrl, AllocError>
+    ensures { IfOk result (λ e. control e ≡ tree.Mul (control a.now) (tree.Lit by)) }
+{
+    let left = Box::new(alloc, a.duplicate(alloc)?)?;
+    let right = Box::new(alloc, Ctrl::Lit(by))?;
+    Ok(Ctrl::Mul(left, right))
+}
+
 /// The turn of that number behind so many groups.
 pub(crate) fn turn_behind(alloc: Global, by: i64, groups: Ctrl, x: Id) -> Result<Ctrl, AllocError>
     ensures { IfOk result (λ e. control e ≡ tree.Add (tree.Mul (tree.Lit by) (control groups)) (tree.Var x.0)) }
