@@ -1,0 +1,4 @@
+//! A text that breaks no rule of the language, and one that breaks one.
+#![tactic(auto)]
+
+pub mod laws;
