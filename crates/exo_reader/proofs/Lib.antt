@@ -1,14 +1,14 @@
 pub mod Optional
 pub mod Parts
 pub mod Lists
-mod Parameters
+pub mod Parameters
 mod Made
 mod Windows
 pub mod Coordinates
 mod Arguments
-mod Statements
+pub mod Statements
 pub mod Neighbours
-mod Items
+pub mod Items
 pub mod Units
 pub mod Errors
 pub mod Eased

@@ -1,7 +1,6 @@
--- Closed texts of which the laws speak: one that breaks no rule, the empty one, and one that names
--- what stands nowhere.
+-- Closed texts of which the laws speak: one that breaks no rule, and one that names what stands
+-- nowhere.
 use Rattle.std.specs.Prelude.{◌≡◌, ◌≤◌, ℕ, true, false, List, [], ◌∷◌, codes, length, Some, None, slice_get}
-use Rattle.text_phrases.specs.Limits.{Limits}
 use Rattle.text_phrases.specs.Text.{IsText}
 use Rattle.text_lexer.specs.declared.token.Literal.TheVariants.{Value}
 use Rattle.text_expressions.specs.Expression.{number}
@@ -60,22 +59,17 @@ abbrev pub no_such_name : Fault
 no_such_name = record { token = 15; rule = UnknownName }
 
 pub record TypesInstance : Type 0 where
-  -- what the laws ask of a unit
-  pub spelled : tokens_of text ≡ unit.spell items
-  pub fits : (limits : Limits) → unit.Fits limits items
+  -- what the laws ask
+  pub reads : IsText unit (tokens_of text) items
   pub short : length (unit.spell items) ≤ 0x100000
   pub small : are_small_tokens (unit.spell items) ≡ true
+  pub few : length (places_of text) ≤ 0x100001
   pub keeps : unit_fault items ≡ None
-  -- and what they say of it
+  -- and what each says
   pub formed : IsUnit (unit_of items)
+  pub also_formed : IsUnit (unit_of items)
   pub low : IsLow (unit_of items)
   pub dram : slice_get (unit_of items).memories 0 ≡ Some dram
-  -- the same of what the empty text is read as
-  pub none_read : IsText unit (tokens_of []) []
-  pub none_few : length (places_of []) ≤ 0x100001
-  pub none_keeps : unit_fault [] ≡ None
-  pub none_formed : IsUnit (unit_of [])
   -- the other text is of the grammar too, and breaks a rule
-  pub stray_spelled : tokens_of stray_text ≡ unit.spell stray
-  pub stray_fits : (limits : Limits) → unit.Fits limits stray
+  pub stray_reads : IsText unit (tokens_of stray_text) stray
   pub breaks : unit_fault stray ≡ Some no_such_name

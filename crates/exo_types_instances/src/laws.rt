@@ -2,16 +2,14 @@
 
 ghost use Rattle.exo_types_instances.specs.Instance.{TypesInstance};
 
-use exo_reader::laws::text_instance;
 use exo_types_laws::laws::{
     read_units_are_formed, typed_units_are_formed, typed_units_are_low, typed_units_have_dram,
 };
 
-/// A text that breaks no rule and the empty one, with what the laws say of their units, and a text that names what stands nowhere.
+/// A text that breaks no rule, with what the laws say of its unit, and one that names what stands nowhere.
 pub fn types_instance()
     ensures { TypesInstance }
 {
-    text_instance();
     typed_units_are_formed();
     read_units_are_formed();
     typed_units_are_low();
