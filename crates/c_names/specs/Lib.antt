@@ -2,3 +2,4 @@ pub mod Words
 pub mod Names
 pub mod Binders
 pub mod Clash
+pub mod Helpers

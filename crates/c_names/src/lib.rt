@@ -1,12 +1,15 @@
-//! Names of C: which are reserved, what a binder is called, and which function or field cannot keep its name.
+//! Names of C: which are reserved, what a binder is called, which function or field cannot keep its name, and the
+//! functions that each file begins with.
 #![tactic(auto)]
 
 mod binders;
 mod clash;
+mod helpers;
 mod names;
 mod words;
 
 pub use binders::NameTable;
 pub use clash::first_clash;
+pub use helpers::{put_helpers, put_margin};
 pub use names::{c_name, is_in};
 pub use words::is_word;

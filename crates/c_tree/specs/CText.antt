@@ -3,9 +3,7 @@ use Rattle.std.specs.Prelude.{ℕ, List, [], ◌∷◌, ◌++◌, map, codes, de
 use Rattle.std.specs.Fmt.{signed_decimal}
 use Rattle.exo_tree.specs.Tree.{Cell, I8, I32}
 use Rattle.c_tree.specs.CTree.{Name, Element, Single, Vector, Number64, Literal, Named, StrideIn, Opposite, Sum, Difference, Product, Quotient, Remainder, Test, Always, Never, IsSet, Less, LessEqual, More, MoreEqual, Equal, Both, Either, CellRef, InArray, InWindow, Number32, Literal32, Read32, Opposite32, Relu32, Sum32, Difference32, Product32, Select32, Actual, Control64, Tested, Alone, Address, WindowOf, Piece, Plain, Filled, FirstCell, CStatement, Store, AddTo, SetField, Empty, Branch, Loop, Array, Malloc, Free, Bind, CallOf, Instruction, CBlock, stop, first, Formal, Number64Param, ArrayParam, WindowParamOf, CFunction, ReportLine, StructOf, CUnit}
-
-abbrev pub Text : Type 0
-Text = List ℕ
+pub use Rattle.c_names.specs.Helpers.{Text, margin, helpers}
 
 -- in parentheses, with a word between
 abbrev pub between : Text → Text → Text → Text
@@ -154,10 +152,6 @@ abbrev pub or_word : Text → List Text → Text
 or_word word [] = word
 or_word word (t ∷ ts) = listed (t ∷ ts)
 
--- a line at the margin
-abbrev pub margin : Text → Text
-margin t = t ++ codes "\n"
-
 abbrev pub signature_text : Name → Text → Text
 signature_text f params = codes "void " ++ f ++ codes "(" ++ params ++ codes ") {"
 
@@ -174,14 +168,6 @@ report_text r = margin (origin_text r.name r.origin (or_word (codes "nothing") r
 
 abbrev pub include_text : Text → Text
 include_text t = margin (codes "#include <" ++ t ++ codes ">")
-
--- the two divisions round towards minus infinity; the other two compare as signed numbers
-abbrev pub helpers : Text
-helpers =
-    margin (codes "static inline int64_t exo_div(int64_t a, int64_t b) { int64_t q = a / b; return (a % b < 0) ? q - 1 : q; }")
-    ++ margin (codes "static inline int64_t exo_mod(int64_t a, int64_t b) { int64_t r = a % b; return (r < 0) ? r + b : r; }")
-    ++ margin (codes "static inline uint32_t exo_relu(uint32_t x) { return ((int32_t)x > 0) ? x : 0; }")
-    ++ margin (codes "static inline uint32_t exo_select(uint32_t x, uint32_t v, uint32_t y, uint32_t z) { return ((int32_t)x < (int32_t)v) ? y : z; }")
 
 abbrev pub struct_line : ℕ → Cell → Text
 struct_line rank cell =

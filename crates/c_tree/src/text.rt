@@ -1,11 +1,12 @@
 //! The text of a file of C, appended piece by piece to one string.
 ghost use Rattle.std.specs.Prelude.{◌≡◌, ◌++◌, [], map, codes, IfOk, OnOk, string_bytes};
 ghost use Rattle.c_tree.specs.CTree.{cblock};
-ghost use Rattle.c_tree.specs.CText.{line, deeper, margin, each, or_word, or_else, head_text, block_text, inner_text, formal_text, signature_text, function_text, report_text, include_text, struct_text, field_text, helpers, preamble_text, text_of};
+ghost use Rattle.c_tree.specs.CText.{line, deeper, margin, each, or_word, or_else, head_text, block_text, inner_text, formal_text, signature_text, function_text, report_text, include_text, struct_text, field_text, preamble_text, text_of};
 ghost use Rattle.c_tree.specs.Plain.{plain_statement, plain_struct, plain_param, plain_function, plain_line, plain_unit};
 
 use crate::show::{Origin, Signature, StructLine};
 use crate::tree::{CBlock, CFunction, CParam, CStatement, CStruct, CUnit, ReportLine};
+use c_names::{put_helpers, put_margin};
 use std::alloc::{AllocError, Global};
 
 /// Appends a line behind an indentation.
@@ -13,14 +14,6 @@ fn put_line(out: &mut String, indent: &str, text: &str) -> Result<(), AllocError
     ensures { OnOk result (string_bytes out.new ≡ string_bytes out.old ++ line indent.now text.now) }
 {
     out.push_str(indent)?;
-    out.push_str(text)?;
-    out.push_str("\n")
-}
-
-/// Appends a line at the margin.
-fn put_margin(out: &mut String, text: &str) -> Result<(), AllocError>
-    ensures { OnOk result (string_bytes out.new ≡ string_bytes out.old ++ margin text.now) }
-{
     out.push_str(text)?;
     out.push_str("\n")
 }
@@ -207,28 +200,6 @@ fn put_includes(alloc: Global, out: &mut String, headers: &[String]) -> Result<(
         put_margin(out, text.as_str())?;
     }
     Ok(())
-}
-
-/// Appends the four helpers.
-fn put_helpers(out: &mut String) -> Result<(), AllocError>
-    ensures { OnOk result (string_bytes out.new ≡ string_bytes out.old ++ helpers) }
-{
-    put_margin(
-        out,
-        "static inline int64_t exo_div(int64_t a, int64_t b) { int64_t q = a / b; return (a % b < 0) ? q - 1 : q; }",
-    )?;
-    put_margin(
-        out,
-        "static inline int64_t exo_mod(int64_t a, int64_t b) { int64_t r = a % b; return (r < 0) ? r + b : r; }",
-    )?;
-    put_margin(
-        out,
-        "static inline uint32_t exo_relu(uint32_t x) { return ((int32_t)x > 0) ? x : 0; }",
-    )?;
-    put_margin(
-        out,
-        "static inline uint32_t exo_select(uint32_t x, uint32_t v, uint32_t y, uint32_t z) { return ((int32_t)x < (int32_t)v) ? y : z; }",
-    )
 }
 
 /// Appends the line of a struct.
