@@ -16,7 +16,9 @@ use Rattle.affine_forms.specs.Formulas.{AllowedFlags, is_affine_condition, is_me
 use Rattle.affine_systems.specs.Systems.{KeepsKinds, IsShown}
 use Rattle.affine_places.specs.Roots.{roots_of}
 use Rattle.affine_places.specs.Readings.{place_reading}
-use Rattle.check_facts.specs.Contexts.{known_at_place, context_of, facts_of, condition_formula}
+use Rattle.check_facts.specs.Contexts.{condition_formula}
+pub use Rattle.check_facts.specs.Contexts.{known_at_place, context_of, context_fits, facts_of}
+pub use Rattle.check_facts.specs.Contexts.{fact_formula, fact_fits}
 
 -- ---- places
 

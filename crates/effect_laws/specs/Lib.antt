@@ -2,3 +2,4 @@ pub mod Covers
 pub mod Clear
 pub mod Apart
 pub mod Fits
+pub mod Words

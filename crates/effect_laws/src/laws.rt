@@ -5,6 +5,8 @@ ghost use Rattle.effect_laws.specs.Clear.{ClearLaw};
 ghost use Rattle.effect_laws.specs.Covers.{CoversLaw};
 ghost use Rattle.effect_laws.specs.Fits.{HalvesFit, NestsFit, NeighboursFit};
 
+pub use check_facts_laws::laws::contexts_hold;
+
 /// The accesses of a piece cover what a run of it touches, calls included.
 pub fn accesses_cover()
     ensures { CoversLaw }

@@ -12,7 +12,7 @@ use Rattle.exo_meaning.specs.Units.{with_both}
 use Rattle.meaning_laws.proofs.Substitute.{and_parts}
 use Rattle.affine_forms.specs.Forms.{is_affine}
 use Rattle.affine_forms.specs.Formulas.{is_affine_condition}
-use Rattle.check_facts_laws.specs.Laws.{allowed_in}
+use Rattle.effect_laws.specs.Words.{allowed_in}
 use Rattle.tree_rules.specs.declared.findings.Findings.{Findings}
 use Rattle.tree_rules.specs.Classes.{both, rule, limit, use_of}
 use Rattle.tree_rules.specs.Sizes.{is_small_condition}

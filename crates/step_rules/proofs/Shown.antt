@@ -16,11 +16,9 @@ use Rattle.affine_systems.specs.Systems.{IsShown, systems}
 use Rattle.affine_systems.specs.Outcomes.{Owed, owed}
 use Rattle.affine_systems.specs.Laws.{ShownLaw}
 use Rattle.affine_systems.proofs.Cases.{negation_met}
-use Rattle.check_facts.specs.Contexts.{context_of, context_fits}
-use Rattle.check_facts_laws.specs.Laws.{ComesToPlace, ContextsHold, allowed_in}
-use Rattle.exo_effects.specs.Conflicts.{Listing, Lists, Refuses}
 use Rattle.effect_laws.specs.Apart.{Conflict, conflict_listing, are_shown_apart, ApartIsMet}
-use Rattle.bounds_check.specs.Limits.{are_within}
+use Rattle.effect_laws.specs.Words.{context_of, context_fits, ComesToPlace, ContextsHold}
+use Rattle.effect_laws.specs.Words.{allowed_in, are_within, Listing, Lists, Refuses}
 use Rattle.cursor_forward.specs.Causes.{FormFault, WideNumber}
 use Rattle.step_rules.specs.Rule.{Tried, Got, Target, Need, Says, Apart}
 use Rattle.step_rules.specs.Owing.{condition_of, claim_of, owed_for, need_fault}

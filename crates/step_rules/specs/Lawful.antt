@@ -31,8 +31,8 @@ use Rattle.made_trees.specs.Ids.{next_id}
 use Rattle.made_trees.specs.Passes.{or_pass}
 use Rattle.config_laws.specs.FieldRule as config
 use Rattle.config_laws.specs.FieldRule.{fields_at_end}
-use Rattle.check_facts_laws.specs.Laws.{ComesToPlace}
 use Rattle.effect_laws.specs.Apart.{IsApartAt}
+use Rattle.effect_laws.specs.Words.{ComesToPlace}
 use Rattle.cursor_forward.specs.Cursors.{Side, Before, After}
 use Rattle.cursor_forward.specs.Forwards.{Carries, are_apart}
 use Rattle.step_rules.specs.Owing.{shape_alone}

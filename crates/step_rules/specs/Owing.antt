@@ -15,14 +15,11 @@ use Rattle.affine_systems.specs.Outcomes.{Owed, owed}
 use Rattle.text_show.specs.Layout.{Text}
 use Rattle.text_show.specs.Words.{words_of}
 use Rattle.text_show.specs.ControlText.{condition_text}
-use Rattle.check_facts.specs.Contexts.{fact_formula, fact_fits, context_of, context_fits}
-use Rattle.check_facts.specs.Contexts.{known_at_place}
-use Rattle.exo_effects.specs.Accesses.{plain_fits, accesses_fit}
-use Rattle.exo_effects.specs.Orders.{Header}
-use Rattle.exo_effects.specs.Conflicts.{Fault, ManyCases, LargeSystem, ManySystems}
-use Rattle.exo_effects.specs.Conflicts.{Listing, Lists, Refuses}
 use Rattle.effect_laws.specs.Apart.{Turns, conflict_listing}
-use Rattle.bounds_check.specs.Limits.{are_within}
+use Rattle.effect_laws.specs.Words.{fact_formula, fact_fits, context_of, context_fits}
+use Rattle.effect_laws.specs.Words.{known_at_place, are_within, plain_fits, accesses_fit, Header}
+use Rattle.effect_laws.specs.Words.{Fault, ManyCases, LargeSystem, ManySystems}
+use Rattle.effect_laws.specs.Words.{Listing, Lists, Refuses}
 use Rattle.tree_rules.specs.declared.findings.Findings.{Findings}
 use Rattle.tree_rules.specs.Classes.{fine, all_of}
 use Rattle.tree_rules.specs.Findings.{findings_of_condition}

@@ -15,7 +15,7 @@ pub fn replacements_refine()
 pub fn needs_hold()
     ensures { NeedsHold }
 {
-    check_facts_laws::laws::contexts_hold();
+    effect_laws::laws::contexts_hold();
     affine_systems::laws::shown_claims_hold();
     effect_laws::laws::shown_pieces_are_apart();
 }
