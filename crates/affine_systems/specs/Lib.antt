@@ -4,3 +4,4 @@ pub mod FormulaCodes
 pub mod PlainCases
 pub mod PlainMade
 pub mod Outcomes
+pub mod Limits
