@@ -12,7 +12,7 @@ use Rattle.schedule_versions.specs.Versions.{Versions, started, version_of}
 use Rattle.schedule_versions.specs.Lines.{Why, UnknownOperator, BadArguments, Act, Faulty, Progress, Went}
 use Rattle.schedule_versions.specs.Lines.{Refused, performed, Outcome, Done, Stopped, behind, run_from}
 use Rattle.schedule_versions.specs.Behind.{NothingDiffers, RunsHoldVersions}
-use Rattle.schedule_operators.specs.Operators.{act_of, SchedulesDifferInNothing}
+use Rattle.schedule_run.specs.Operators.{act_of, SchedulesDifferInNothing}
 use Rattle.schedule_name_laws.specs.Schedules.{GivesNames, LinesGiveNames, SchedulesKeepNames}
 use Rattle.cursor_forward.specs.PlainProposal.{cause_of}
 use Rattle.schedule_text.specs.Views.{plain_line, number}

@@ -34,7 +34,7 @@ use Rattle.schedule_versions.specs.Lines.{Outcome, Done}
 use Rattle.schedule_versions.specs.Lines as lines
 use Rattle.schedule_versions.specs.Laws.{HasRoom}
 use Rattle.schedule_versions.specs.Behind.{NothingDiffers, RunsHoldVersions}
-use Rattle.schedule_operators.specs.Operators.{SchedulesDifferInNothing}
+use Rattle.schedule_run.specs.Operators.{SchedulesDifferInNothing}
 use Rattle.schedule_run.specs.Runs.{LinesRun}
 use Rattle.schedule_run.specs.Laws.{SchedulesKeep, SmallUnitsHaveRoom, AreKept}
 use Rattle.compile_stages.specs.Printings.{printing_of, is_emitted, printings_of, or_later, memory_fault}
