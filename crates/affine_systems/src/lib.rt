@@ -10,4 +10,4 @@ mod obligation;
 mod own;
 
 pub use context::Context;
-pub use obligation::{Obligation, systems};
+pub use obligation::{Obligation, systems, systems_together};
