@@ -1,4 +1,4 @@
-//! The systems of linear constraints that say whether a claim about control values holds.
+//! The systems of linear constraints that say whether a claim about control values holds, or whether formulas hold together.
 #![tactic(auto)]
 
 mod case;

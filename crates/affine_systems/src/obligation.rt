@@ -1,4 +1,4 @@
-//! Claims as obligations.
+//! Claims, and formulas that are not to hold together, as obligations.
 ghost use Rattle.std.specs.Prelude.{◌≡◌, ◌≤◌, nat_lt, ◌++◌, ◌∷◌, [], map, min, length, IfOk, OnOk, IsTrue};
 ghost use Rattle.std.specs.List.{list_all};
 ghost use Rattle.affine_forms.specs.Bounds.{are_below};
