@@ -33,13 +33,8 @@ min_times x y = go (nat_le x 64) refl (nat_le y 64) refl
     go false e false f = ap₂ (λ a b. min (a * b) 65) (capped x (big x e)) (capped y (big y f)) ∙ by_large 65 y (big y f) ∙ ap (λ n. min n 65) (swapped 65 y) ∙ by_large y x (big x e) ∙ ap (λ n. min n 65) (swapped y x)
 
 -- one more formula
-pub count_next : (fs : List Formula) (f : Formula) (n c d e : ℕ) → c ≡ min (length (cases_of_all fs) * n) 65 → d ≡ min (length (cases f)) 65 → e ≡ min (c * d) 65 → e ≡ min (length (cases_of_all (fs ++ f ∷ [])) * n) 65
-count_next fs f n c d e h i j =
-    let a = length (cases_of_all fs) in
-    let b = length (cases f) in
-    let len : length (cases_of_all (fs ++ f ∷ [])) ≡ a * b = ap length (cases_last fs f) ∙ length_product (cases_of_all fs) (cases f) in
-    let order : (a * n) * b ≡ (a * b) * n = omega arith in
-    j ∙ ap₂ (λ s t. min (s * t) 65) h i ∙ min_times (a * n) b ∙ ap (λ k. min k 65) (order ∙ ap (λ k. k * n) (sym len))
-
-pub count_all : (fs : List Formula) (f : Formula) → length (cases_of_all fs) * length (cases f) ≡ length (cases_of_all (fs ++ f ∷ []))
-count_all fs f = sym (ap length (cases_last fs f) ∙ length_product (cases_of_all fs) (cases f))
+pub count_next : (fs : List Formula) (f : Formula) (c d : ℕ) → c ≡ min (length (cases_of_all fs)) 65 → d ≡ min (length (cases f)) 65 → min (c * d) 65 ≡ min (length (cases_of_all (fs ++ f ∷ []))) 65
+count_next fs f c d h i =
+    ap₂ (λ s t. min (s * t) 65) h i
+    ∙ min_times (length (cases_of_all fs)) (length (cases f))
+    ∙ ap (λ k. min k 65) (sym (ap length (cases_last fs f) ∙ length_product (cases_of_all fs) (cases f)))

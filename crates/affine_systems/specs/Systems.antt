@@ -122,17 +122,29 @@ nothing = record { atoms = []; constraints = [] }
 abbrev pub system : List Constraint → Constraints
 system cs = system_of (made_of nothing cs)
 
+-- formulas: one system for each case in which all of them hold
+abbrev pub systems_of : List Formula → List Constraints
+systems_of fs = map system (cases_of_all fs)
+
+-- no integers meet all of them
+abbrev pub HaveNoPoint : List Formula → Type 0
+HaveNoPoint fs = AllByRecursion HasNoIntegerPoint (systems_of fs)
+
+-- where a claim fails: the formulas hold, and what it is denied to
+abbrev pub failing : List Formula → Formula → List Formula
+failing context claim = context ++ negation claim ∷ []
+
 -- the cases in which formulas hold and a claim does not
 abbrev pub failing_cases : List Formula → Formula → List (List Constraint)
-failing_cases context claim = cases_of_all (context ++ negation claim ∷ [])
+failing_cases context claim = cases_of_all (failing context claim)
 
 -- a claim where formulas hold: one system for each case in which they do and the claim does not
 abbrev pub systems : List Formula → Formula → List Constraints
-systems context claim = map system (failing_cases context claim)
+systems context claim = systems_of (failing context claim)
 
 -- no system has an integer point
 abbrev pub IsShown : List Formula → Formula → Type 0
-IsShown context claim = AllByRecursion HasNoIntegerPoint (systems context claim)
+IsShown context claim = HaveNoPoint (failing context claim)
 
 -- ---- limits
 
@@ -140,16 +152,24 @@ IsShown context claim = AllByRecursion HasNoIntegerPoint (systems context claim)
 abbrev pub is_small : Constraints → Bool
 is_small s = nat_le s.variables 64 && nat_le (length s.equations + length s.rows) 512
 
--- what can be said of a claim: too many cases (more than 64) come before a system that is too large
+-- what can be said of formulas: too many cases (more than 64) come before a system that is too large
 pub data Stated : Type 0 where
   CasesPassed SizePassed : Stated
   Listed : List Constraints → Stated
 
-abbrev pub stated : List Formula → Formula → Stated
-stated context claim =
-    if nat_le (length (failing_cases context claim)) 64
-    then (if list_all is_small (systems context claim) then Listed (systems context claim) else SizePassed)
+abbrev pub stated_in : List (List Constraint) → Stated
+stated_in css =
+    if nat_le (length css) 64
+    then (if list_all is_small (map system css) then Listed (map system css) else SizePassed)
     else CasesPassed
+
+-- of formulas that no integers are to meet together
+abbrev pub cases_stated : List Formula → Stated
+cases_stated fs = stated_in (cases_of_all fs)
+
+-- of a claim where formulas hold
+abbrev pub stated : List Formula → Formula → Stated
+stated context claim = cases_stated (failing context claim)
 
 -- ---- valuations that keep the kinds of fields
 

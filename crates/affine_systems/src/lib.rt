@@ -1,4 +1,4 @@
-//! The systems of linear constraints that say whether a claim about control values holds.
+//! The systems of linear constraints that say whether a claim about control values holds, or whether formulas hold together.
 #![tactic(auto)]
 
 mod case;
@@ -10,4 +10,4 @@ mod obligation;
 mod own;
 
 pub use context::Context;
-pub use obligation::{Obligation, systems};
+pub use obligation::{Obligation, systems, systems_together};

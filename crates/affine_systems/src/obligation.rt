@@ -1,12 +1,12 @@
-//! Claims as obligations.
+//! Claims, and formulas that are not to hold together, as obligations.
 ghost use Rattle.std.specs.Prelude.{◌≡◌, ◌≤◌, nat_lt, ◌++◌, ◌∷◌, [], map, min, length, IfOk, OnOk, IsTrue};
 ghost use Rattle.std.specs.List.{list_all};
 ghost use Rattle.affine_forms.specs.Bounds.{are_below};
-ghost use Rattle.affine_forms.specs.Formulas.{cases_of_all, negation};
+ghost use Rattle.affine_forms.specs.Formulas.{cases_of_all};
 ghost use Rattle.affine_forms.specs.PlainAtoms.{plain_atom};
 ghost use Rattle.affine_forms.specs.PlainFormulas.{plain_formula};
 ghost use Rattle.affine_forms.specs.System.{plain_row, plain_system};
-ghost use Rattle.affine_systems.specs.Systems.{stated, system, equations_of, rows_of, affine, sum_of};
+ghost use Rattle.affine_systems.specs.Systems.{stated_in, cases_stated, stated, system, equations_of, rows_of, affine, sum_of};
 ghost use Rattle.affine_systems.specs.PlainCases.{plain_constraint, plain_cases};
 ghost use Rattle.affine_systems.specs.PlainMade.{plain_stated};
 ghost use Rattle.affine_systems.specs.Outcomes.{IsAnswer, IsSystem, FailuresArePoints, owed, plain_obligation};
@@ -91,15 +91,33 @@ fn system_of_case(alloc: Global, case: &[Constraint<'_>]) -> Result<System, Form
     System::try_new(vars, equations, rows).ok_or(FormError::SystemTooLarge)
 }
 
-/// The number of cases in which formulas hold and a denied claim too, or 65 where there are more than that.
-fn failing_count(ctx: &Context, denied: &Formula) -> usize
-    ensures { result ≡ min (length (cases_of_all (ctx.now ++ plain_formula denied.now ∷ []))) 65 }
+/// The number of cases in which all formulas hold, or 65 where there are more than that.
+fn count_together(ctx: &Context) -> usize
+    ensures { result ≡ min (length (cases_of_all ctx.now)) 65 }
 {
-    let mut count = case_count(denied);
+    let mut count = 1;
     for f in ctx.formulas() {
         count = (count * case_count(f)).min(MANY);
     }
     count
+}
+
+/// The cases in which all formulas hold.
+fn cases_together<'a>(alloc: Global, ctx: &'a Context) -> Result<Vec<Case<'a>>, AllocError>
+    ensures { IfOk result (λ v. plain_cases v.items ≡ cases_of_all ctx.now) }
+{
+    let mut cases = empty_case(alloc)?;
+    for f in ctx.formulas() {
+        cases = with_cases(alloc, cases, f)?;
+    }
+    Ok(cases)
+}
+
+/// The number of cases in which formulas hold and a denied claim too, or 65 where there are more than that.
+fn failing_count(ctx: &Context, denied: &Formula) -> usize
+    ensures { result ≡ min (length (cases_of_all (ctx.now ++ plain_formula denied.now ∷ []))) 65 }
+{
+    (count_together(ctx) * case_count(denied)).min(MANY)
 }
 
 /// The cases in which formulas hold and a denied claim too.
@@ -110,10 +128,7 @@ fn failing_cases<'a>(
 ) -> Result<Vec<Case<'a>>, AllocError>
     ensures { IfOk result (λ v. plain_cases v.items ≡ cases_of_all (ctx.now ++ plain_formula denied.now ∷ [])) }
 {
-    let mut cases = empty_case(alloc)?;
-    for f in ctx.formulas() {
-        cases = with_cases(alloc, cases, f)?;
-    }
+    let cases = cases_together(alloc, ctx)?;
     with_cases(alloc, cases, denied)
 }
 
@@ -133,6 +148,46 @@ fn owe(
         place: place.duplicate(),
     })?;
     Ok(())
+}
+
+/// One obligation for each case; `SystemTooLarge` where the system of one is too large.
+fn owed_in(
+    alloc: Global,
+    cases: &[Case<'_>],
+    what: &Text,
+    place: &Path,
+) -> Result<Vec<Obligation>, FormError>
+    requires { length (plain_cases cases.now) ≤ 64 }
+    ensures { IsAnswer result (stated_in (plain_cases cases.now)) what.now place.now }
+{
+    let mut owed = Vec::new(alloc);
+    for case in cases {
+        let system = match system_of_case(alloc, case) {
+            Ok(s) => s,
+            Err(e) => return Err(e),
+        };
+        owe(alloc, &mut owed, system, what, place)?;
+    }
+    Ok(owed)
+}
+
+/// The obligations that the formulas of a context do not hold together: a system for each case in which all of them do.
+///
+/// `TooManyCases` comes where there are more than 64 cases, else `SystemTooLarge` where some case has more than 64
+/// variables, or more than 512 rows and equations together.
+pub fn systems_together(
+    alloc: Global,
+    ctx: &Context,
+    what: &Text,
+    place: &Path,
+) -> Result<Vec<Obligation>, FormError>
+    ensures { IsAnswer result (cases_stated ctx.now) what.now place.now }
+{
+    if count_together(ctx) == MANY {
+        return Err(FormError::TooManyCases);
+    }
+    let cases = cases_together(alloc, ctx)?;
+    owed_in(alloc, &cases, what, place)
 }
 
 /// The obligations of a claim in its context: one for each case in which the context holds and the claim does not.
@@ -164,13 +219,5 @@ pub fn systems(
         return Err(FormError::TooManyCases);
     }
     let cases = failing_cases(alloc, ctx, &denied)?;
-    let mut owed = Vec::new(alloc);
-    for case in &cases {
-        let system = match system_of_case(alloc, case) {
-            Ok(s) => s,
-            Err(e) => return Err(e),
-        };
-        owe(alloc, &mut owed, system, what, place)?;
-    }
-    Ok(owed)
+    owed_in(alloc, &cases, what, place)
 }

@@ -14,7 +14,7 @@ use Rattle.meaning_laws.specs.Pairs.{AreClear}
 use Rattle.affine_forms.specs.Affine.{Constraints, HasNoIntegerPoint}
 use Rattle.affine_forms.specs.Atoms.{Valuation}
 use Rattle.affine_forms.specs.Formulas.{Formula, all_met}
-use Rattle.affine_systems.specs.Systems.{KeepsKinds}
+use Rattle.affine_systems.specs.Systems.{systems_of, HaveNoPoint, KeepsKinds}
 use Rattle.affine_systems.specs.Laws.{SystemsLaw}
 use Rattle.affine_systems.specs.Outcomes.{Owed, owed}
 use Rattle.check_facts_laws.proofs.Truths.{parts, joined, both_false}
@@ -22,7 +22,6 @@ use Rattle.exo_effects.specs.Accesses.{Access}
 use Rattle.exo_effects.specs.Orders.{Order}
 use Rattle.exo_effects.specs.Limits.{are_within}
 use Rattle.exo_effects.specs.Fresh.{past_formula, past_all, past_access, past_order}
-use Rattle.exo_effects.specs.Cases.{systems_of, HaveNoPoint}
 use Rattle.exo_effects.specs.Conflicts.{against, Fault, ManySystems, Listing, Lists, Refuses, meeting, modes_clash, may_clash, clashing, past_these, owed_for, pair_fault, unless_refused, owed_behind}
 use Rattle.effect_laws.specs.Covers.{Reaches, IsCell, IsCellOfSome, IsCovered, Covers}
 use Rattle.effect_laws.specs.Clear.{AreTwoTurns, AreShownApart, ClearLaw}

@@ -6,13 +6,12 @@ use Rattle.std.proofs.lemmas.Option.{slice_get-map}
 use Rattle.exo_meaning.specs.Orders.{Each}
 use Rattle.affine_forms.specs.Atoms.{Valuation, value}
 use Rattle.affine_forms.specs.Formulas.{Formula, less, is_met, all_met}
-use Rattle.affine_systems.specs.Systems.{KeepsKinds}
+use Rattle.affine_systems.specs.Systems.{HaveNoPoint, KeepsKinds}
 use Rattle.affine_systems.specs.Laws.{SystemsLaw}
 use Rattle.check_facts_laws.proofs.Truths.{joined}
 use Rattle.exo_effects.specs.Accesses.{Access}
 use Rattle.exo_effects.specs.Orders.{Turn, OrderRow, Less, Greater, Order}
 use Rattle.exo_effects.specs.Fresh.{past_linear, past_formula, past_all, past_access, past_turn, past_order}
-use Rattle.exo_effects.specs.Cases.{HaveNoPoint}
 use Rattle.exo_effects.specs.Conflicts.{span_number, turns_apart, variable, bounds, re_turn, where_both, order_row, points, equations, asked, variables_of, copied_turns, copied, meeting}
 use Rattle.effect_laws.specs.Covers.{Reaches, is_among}
 use Rattle.effect_laws.specs.Clear.{IsInOrder, AreCopies}

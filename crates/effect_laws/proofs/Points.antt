@@ -5,9 +5,8 @@ use Rattle.affine_forms.specs.Affine as sums
 use Rattle.affine_forms.specs.Affine.{Affine, Constraints, IsIntegerPoint, HasNoIntegerPoint}
 use Rattle.affine_forms.specs.Atoms.{Atom, Valuation, atom_value, constantly}
 use Rattle.affine_forms.specs.Formulas.{Constraint, AtLeastZero, IsZero, Formula, Says, row, product, cases, cases_of_all, all_met}
-use Rattle.affine_systems.specs.Systems.{Made, made_of, nothing, with_constraint, all_explained, sum_of, affine, equations_of, rows_of, system_of, system, KeepsKinds}
+use Rattle.affine_systems.specs.Systems.{Made, made_of, nothing, with_constraint, all_explained, sum_of, affine, equations_of, rows_of, system_of, system, systems_of, KeepsKinds}
 use Rattle.affine_systems.specs.Laws.{HasPointIn, SystemsLaw}
-use Rattle.exo_effects.specs.Cases.{systems_of}
 
 -- a row that holds always, and a claim that never does
 abbrev idle : Constraint

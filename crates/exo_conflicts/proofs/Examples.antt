@@ -6,7 +6,7 @@ use Rattle.affine_forms.specs.Forms.{normal}
 use Rattle.affine_forms.specs.Formulas.{Formula, formula, row, at_most}
 use Rattle.exo_meaning.specs.Modes.{Reading, Writing}
 use Rattle.exo_effects.specs.Accesses.{At, Access}
-use Rattle.exo_effects.specs.Cases.{systems_of}
+use Rattle.affine_systems.specs.Systems.{systems_of}
 use Rattle.exo_effects.specs.Conflicts.{apart, meeting}
 use Rattle.exo_effects.specs.Orders.{Order, Less}
 use Rattle.exo_conflicts.specs.Copies.{reading_by, flags_by}

@@ -6,7 +6,6 @@ pub mod RenamedTwice
 pub mod PastForms
 pub mod CopyForms
 pub mod MeetingNumbers
-pub mod ClaimRows
 pub mod Listings
 pub mod Places
 pub mod Answered

@@ -8,7 +8,7 @@ use Rattle.affine_forms.specs.Atoms.{Linear}
 use Rattle.affine_forms.specs.Formulas.{Formula, less, at_most}
 use Rattle.exo_effects.specs.Accesses.{AccessCoord, At, Range, Access}
 use Rattle.exo_effects.specs.Orders.{Turn, OrderRow, Less, Greater, Order}
-use Rattle.exo_effects.specs.Cases.{systems_of, cases_stated}
+use Rattle.affine_systems.specs.Systems.{systems_of, cases_stated}
 use Rattle.exo_effects.specs.Conflicts.{place_in, turn_number, own_number, span_number, turns_apart, apart, variable, bounds, re_turn, re_coord, re_access, where_both, order_row, points, span_rows, equations, asked, variables_of, copied_turns, copied, meeting}
 use Rattle.exo_effects.specs.Fresh.{past_linear, past_formula, past_all, past_coord, past_access, past_turn, past_order}
 use Rattle.exo_effects.specs.Renamed.{re_linear, re_formula}

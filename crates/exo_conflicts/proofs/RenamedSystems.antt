@@ -6,9 +6,8 @@ use Rattle.std.specs.Int.{is_positive}
 use Rattle.exo_tree.specs.Tree.{Size, Index, Truth, Stride}
 use Rattle.affine_forms.specs.Atoms.{Atom, Variable, EntryField, UnknownField, OpaqueStride, Quotient, Terms, none, term, Linear, same_atom, only, scaled, subtracted}
 use Rattle.affine_forms.specs.Formulas.{Constraint, AtLeastZero, IsZero, Formula, Says, Both, Either, moved, product, cases, cases_of_all}
-use Rattle.affine_systems.specs.Systems.{Made, stands_in, with_atom, with_atoms, with_constraint, with_constraints, own_rows, explained, all_explained, made_of, added_at, numbered_onto, affine, equations_of, rows_of, system_of, nothing, system, Listed, SizePassed, CasesPassed}
+use Rattle.affine_systems.specs.Systems.{Made, stands_in, with_atom, with_atoms, with_constraint, with_constraints, own_rows, explained, all_explained, made_of, added_at, numbered_onto, affine, equations_of, rows_of, system_of, nothing, system, systems_of, is_small, cases_stated, Listed, SizePassed, CasesPassed}
 use Rattle.exo_effects.specs.Renamed.{re_atom, re_terms, re_linear, re_constraint, re_formula}
-use Rattle.exo_effects.specs.Cases.{systems_of, has_room, cases_stated}
 use Rattle.exo_conflicts.proofs.RenamedTerms.{KeepsApart, re_same_atom, re_subtracted}
 
 module _ (r : ℕ → ℕ) (apart : KeepsApart r) where
@@ -165,5 +164,5 @@ module _ (r : ℕ → ℕ) (apart : KeepsApart r) where
 
   pub re_cases_stated : (fs : List Formula) → cases_stated (map (re_formula r) fs) ≡ cases_stated fs
   re_cases_stated fs =
-      ap₂ (λ n ss. cond (nat_le n 64) (cond (list_all has_room ss) (Listed ss) SizePassed) CasesPassed)
+      ap₂ (λ n ss. cond (nat_le n 64) (cond (list_all is_small ss) (Listed ss) SizePassed) CasesPassed)
       (ap length (re_cases_of_all fs) ∙ length-map (cases_of_all fs) re_case) (re_systems_of fs)

@@ -6,7 +6,7 @@ use Rattle.affine_forms.specs.Formulas.{Formula, formula, is_affine_condition}
 use Rattle.affine_forms.specs.Formulas.{is_writable_condition}
 use Rattle.exo_effects.specs.Accesses.{Access, plain_form, plain_fits, plain_formula}
 use Rattle.exo_effects.specs.Accesses.{plain_formula_fits}
-use Rattle.exo_effects.specs.Cases.{systems_of, cases_stated}
+use Rattle.affine_systems.specs.Systems.{systems_of, cases_stated}
 use Rattle.exo_effects.specs.Conflicts.{apart, meeting}
 use Rattle.exo_conflicts.specs.Copies.{reading_by, flags_by, numbers_below, names_below}
 use Rattle.exo_effects.specs.Fresh.{past_formula, past_all, past_access, past_order}

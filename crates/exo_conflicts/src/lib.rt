@@ -10,11 +10,9 @@ mod meeting;
 mod order;
 mod pairs;
 mod standing;
-mod systems;
 mod twin;
 
 pub use listing::{Contexts, conflicts};
 pub use order::{Order, OrderRow};
 pub use standing::Standing;
-pub use systems::systems_together;
 pub use twin::Turn;

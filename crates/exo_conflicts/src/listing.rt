@@ -1,9 +1,9 @@
 //! When two pieces of a procedure do not meet.
 ghost use Rattle.std.specs.Prelude.{◌≡◌, ◌++◌, ◌∷◌, [], ◌≤◌, ◌^◌, ◌&&◌, IsTrue, true, ⊤, map};
 ghost use Rattle.std.specs.List.{list_all};
+ghost use Rattle.affine_systems.specs.Systems.{cases_stated};
 ghost use Rattle.affine_systems.specs.Outcomes.{IsAnswer, plain_obligation};
 ghost use Rattle.exo_effects.specs.Accesses.{access_of, use_fits};
-ghost use Rattle.exo_effects.specs.Cases.{cases_stated};
 ghost use Rattle.exo_effects.specs.Conflicts.{meeting, against, clashing, owed_behind, conflicts_of};
 ghost use Rattle.exo_effects.specs.Fresh.{past_formula, past_all};
 ghost use Rattle.exo_effects.specs.PlainUses.{plain_use, plain_uses};
@@ -13,9 +13,8 @@ ghost use Rattle.exo_conflicts.specs.PlainCopies.{plain_order};
 use crate::asked::{put_meeting, put_order, see_that_they_fit};
 use crate::order::Order;
 use crate::pairs::{against, modes_clash};
-use crate::systems::systems_together;
 use affine_forms::FormError;
-use affine_systems::{Context, Obligation};
+use affine_systems::{Context, Obligation, systems_together};
 use bounds_check::{CheckError, Owed};
 use exo_effects::Access;
 use exo_tree::Path;

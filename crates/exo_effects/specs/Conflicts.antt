@@ -6,13 +6,12 @@ use Rattle.exo_tree.specs.Places.{Path}
 use Rattle.exo_meaning.specs.Modes.{Mode, Reading, Writing, Reducing}
 use Rattle.affine_forms.specs.Atoms.{Variable, Linear, only}
 use Rattle.affine_forms.specs.Formulas.{Formula, less, at_most, equal}
-use Rattle.affine_systems.specs.Systems.{CasesPassed, SizePassed, Listed}
+use Rattle.affine_systems.specs.Systems.{systems_of, cases_stated, CasesPassed, SizePassed, Listed}
 use Rattle.affine_systems.specs.Outcomes.{Owed, owed}
 use Rattle.exo_effects.specs.Limits.{are_within}
 use Rattle.text_show.specs.Layout.{Text}
 use Rattle.exo_effects.specs.Renamed.{re_linear, re_formula}
 use Rattle.exo_effects.specs.Fresh.{past_formula, past_all, past_access, past_order}
-use Rattle.exo_effects.specs.Cases.{systems_of, cases_stated}
 use Rattle.exo_effects.specs.Orders.{Turn, OrderRow, Less, Greater, Order}
 use Rattle.exo_effects.specs.Accesses.{AccessCoord, At, Range, Access}
 

@@ -3,7 +3,6 @@ pub mod Uses
 pub mod Accesses
 pub mod Renamed
 pub mod Limits
-pub mod Cases
 pub mod Orders
 pub mod Fresh
 pub mod Conflicts

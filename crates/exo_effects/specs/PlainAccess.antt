@@ -1,9 +1,6 @@
 -- The plain forms of accesses, and what the calls on them answer.
-use Rattle.std.specs.Prelude.{◌≡◌, ◌&&◌, Bool, true, Result, Ok, Err}
-use Rattle.exo_tree.specs.Tree as tree
-use Rattle.exo_tree.specs.Tree.{Coord}
+use Rattle.std.specs.Prelude.{◌≡◌, Bool, true, Result, Ok, Err}
 use Rattle.exo_meaning.specs.Modes as meaning
-use Rattle.affine_forms.specs.Forms.{keeps_rules}
 use Rattle.affine_forms.specs.Outcomes.{IsWide}
 use Rattle.affine_forms.specs.declared.error.FormError.{FormError}
 use Rattle.exo_effects.specs.Accesses as plain
@@ -20,11 +17,6 @@ plain_mode Reduce = meaning.Reducing
 abbrev pub plain_coord : AccessCoord → plain.AccessCoord
 plain_coord (At l) = plain.At l
 plain_coord (Range a b) = plain.Range a b
-
--- its expressions keep the rules of affine expressions
-abbrev pub coord_keeps_rules : Coord → Bool
-coord_keeps_rules (tree.At e) = keeps_rules e
-coord_keeps_rules (tree.Span a b) = keeps_rules a && keeps_rules b
 
 -- a coordinate comes exactly where its numbers fit, and is that one
 abbrev pub CoordMade : Result AccessCoord FormError → Bool → plain.AccessCoord → Type 0

@@ -1,14 +1,7 @@
 //! Accesses of buffers.
-ghost use Rattle.std.specs.Prelude.{◌≡◌, IsTrue};
-ghost use Rattle.exo_tree.specs.PlainControl.{coordinate};
-ghost use Rattle.exo_effects.specs.Accesses.{coord_form, coord_fits};
-ghost use Rattle.exo_effects.specs.PlainAccess.{CoordMade, coord_keeps_rules};
-
-use crate::forms::plain_form;
 use crate::guards::Guard;
-use affine_forms::{FormError, Linear};
-use exo_tree::{Coord, Coords, Id};
-use std::alloc::Global;
+use affine_forms::Linear;
+use exo_tree::{Coords, Id};
 
 /// How an access touches its cells.
 #[derive(Clone, Copy)]
@@ -38,24 +31,4 @@ pub enum AccessCoord {
     At(Linear),
     /// All from a lower end up to the end that it does not reach.
     Range(Linear, Linear),
-}
-
-impl AccessCoord {
-    /// The coordinate of a use. `WideNumber` where a number of a form passes 2^62.
-    pub fn of(alloc: Global, c: &Coord) -> Result<AccessCoord, FormError>
-        requires { IsTrue (coord_keeps_rules (coordinate c.now)) }
-        ensures { CoordMade result (coord_fits (coordinate c.now)) (coord_form (coordinate c.now)) }
-    {
-        match c {
-            Coord::At(e) => {
-                let index = plain_form(alloc, e)?;
-                Ok(AccessCoord::At(index))
-            }
-            Coord::Span(a, b) => {
-                let lower = plain_form(alloc, a)?;
-                let upper = plain_form(alloc, b)?;
-                Ok(AccessCoord::Range(lower, upper))
-            }
-        }
-    }
 }

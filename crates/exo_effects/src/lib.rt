@@ -2,7 +2,6 @@
 #![tactic(auto)]
 
 mod access;
-mod forms;
 mod guards;
 mod inside;
 pub mod laws;
@@ -14,6 +13,5 @@ mod walk;
 mod windows;
 
 pub use access::{Access, AccessCoord, Mode};
-pub use forms::{plain_form, plain_formula};
 pub use guards::Guard;
 pub use piece::accesses;

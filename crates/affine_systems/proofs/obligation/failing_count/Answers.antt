@@ -1,11 +1,7 @@
-use Rattle.std.proofs.Common.{◌∙◌, ◌++◌, ap, min, length, [], ◌∷◌}
-use Rattle.affine_forms.specs.Formulas.{cases, cases_of_all}
+use Rattle.std.proofs.Common.{◌∙◌}
 use Rattle.affine_forms.specs.PlainFormulas.{plain_formula}
-use Rattle.affine_systems.proofs.FormulaLists.{counted_next, counted_end}
+use Rattle.affine_systems.proofs.Counts.{count_next}
 use Rattle.affine_systems.proofs.obligation.failing_count.Goals as goal
 
-pub loop-f-preserved : goal.loop-f-preserved
-loop-f-preserved c = counted_next c.formulas-f-items.result.now c.loop-f.f-index c.f-item.result (length (cases (plain_formula c.args.denied.now))) c.loop-f.count c.case_count.result c.min-count.result c.loop-f-test.true c.f-item.is c.loop-f.invariant c.case_count.ensures c.min-count.ensures
-
 pub returns : goal.returns
-returns c = c.loop-f.invariant ∙ counted_end c.formulas-f-items.result.now c.loop-f.f-index c.args.denied.now c.loop-f-test.false ∙ ap (λ fs. min (length (cases_of_all (fs ++ plain_formula c.args.denied.now ∷ []))) 65) c.formulas-f-items.ensures
+returns c = c.min.ensures ∙ count_next c.args.ctx.now (plain_formula c.args.denied.now) c.count_together.result c.case_count.result c.count_together.ensures c.case_count.ensures

@@ -1,6 +1,6 @@
 use Rattle.std.proofs.Common.{◌∙◌, ◌-◌, ap, arith}
 use Rattle.exo_effects.specs.Conflicts.{meeting}
-use Rattle.exo_effects.specs.Cases.{systems_of, cases_stated}
+use Rattle.affine_systems.specs.Systems.{systems_of, cases_stated}
 use Rattle.exo_conflicts.proofs.MeetingNumbers.{systems_up, stated_up}
 use Rattle.exo_conflicts.proofs.laws.numbers_of_copies_do_not_count.Goals as goal
 

@@ -1,7 +1,0 @@
-use Rattle.std.proofs.Common.{◌≡◌, ◌*◌, min, map, take, length}
-use Rattle.affine_forms.specs.Formulas.{cases, cases_of_all}
-use Rattle.affine_forms.specs.PlainFormulas.{plain_formula}
-use Rattle.affine_systems.proofs.obligation.failing_count.Given as goal
-
-abbrev pub invariant-loop-f : goal.invariant-loop-f
-invariant-loop-f l = l.count ≡ min (length (cases_of_all (map plain_formula (take l.f-index l.f-items))) * length (cases (plain_formula l.denied))) 65

@@ -1,0 +1,13 @@
+use Rattle.std.proofs.Common.{◌∙◌, ap, subst}
+use Rattle.affine_forms.specs.Formulas.{cases_of_all}
+use Rattle.affine_systems.specs.Systems.{stated_in}
+use Rattle.affine_systems.specs.PlainCases.{plain_cases}
+use Rattle.affine_systems.specs.Outcomes.{IsAnswer}
+use Rattle.affine_systems.proofs.Answering.{few_cases}
+use Rattle.affine_systems.proofs.obligation.systems_together.Goals as goal
+
+pub owed_in-requires : goal.owed_in-requires
+owed_in-requires c = few_cases (plain_cases c.deref.result.now) (cases_of_all c.args.ctx.now) (ap plain_cases c.deref.ensures.value ∙ c.in_ok-cases.ensures) (λ e. c.if-count_together-eq-MANY.false (c.count_together.ensures ∙ e))
+
+pub returns : goal.returns
+returns c = subst (λ css. IsAnswer c.owed_in.result (stated_in css) c.args.what.now c.args.place.now) (ap plain_cases c.deref.ensures.value ∙ c.in_ok-cases.ensures) c.owed_in.ensures
