@@ -1,5 +1,6 @@
 -- Requests in memory, as plain ones.
 use Rattle.std.specs.Prelude.{ℕ, List, ◌∷◌, map, option_map}
+use Rattle.exo_tree.specs.PlainPlace.{branch_taken}
 use Rattle.text_expressions.specs.Views.{tree_of}
 use Rattle.cursor_patterns.specs.Patterns as patterns
 use Rattle.cursor_patterns.specs.declared.pattern.Pattern.{Pattern}
@@ -53,9 +54,16 @@ abbrev pub plain_operation : Operation → plain.Operation
 plain_operation (operation.DivideLoop at d) =
     plain.DivideLoop (plain_asked at.value) (plain_division d.value)
 plain_operation (operation.CutLoop at e) = plain.CutLoop (plain_asked at.value) (tree_of e.value)
+plain_operation (operation.ReorderLoops at) = plain.ReorderLoops (plain_asked at.value)
+plain_operation (operation.Fission at) = plain.Fission (plain_asked at.value)
+plain_operation (operation.Fuse at) = plain.Fuse (plain_asked at.value)
 plain_operation (operation.UnrollLoop at) = plain.UnrollLoop (plain_asked at.value)
+plain_operation (operation.RemoveLoop at) = plain.RemoveLoop (plain_asked at.value)
 plain_operation (operation.Specialize at c) =
     plain.Specialize (plain_asked at.value) (tree_of c.value)
+plain_operation (operation.EliminateDeadCode at keep) =
+    plain.EliminateDeadCode (plain_asked at.value) (option_map branch_taken keep)
+plain_operation (operation.ReorderStmts at) = plain.ReorderStmts (plain_asked at.value)
 plain_operation (operation.CommuteExpr at x) =
     plain.CommuteExpr (plain_asked at.value) (plain_expr_pattern x)
 plain_operation (operation.Rename name) = plain.Rename name
