@@ -11,6 +11,8 @@ use Rattle.schedule_calls.specs.Requests as plain
 use Rattle.schedule_calls.specs.Keys as keys
 use Rattle.schedule_calls.specs.Readings.{move, moves}
 use Rattle.schedule_calls.specs.declared.division.TailKeys.{TailKeys}
+use Rattle.schedule_calls.specs.declared.operator.AtCursor.{AtCursor}
+use Rattle.schedule_calls.specs.declared.operator.AtCursor.TheVariants as at_cursor
 use Rattle.schedule_calls.specs.declared.request.Source.{Source}
 use Rattle.schedule_calls.specs.declared.request.Source.TheVariants as from
 use Rattle.schedule_calls.specs.declared.request.Asked.{Asked}
@@ -68,6 +70,15 @@ plain_operation (operation.CommuteExpr at x) =
     plain.CommuteExpr (plain_asked at.value) (plain_expr_pattern x)
 plain_operation (operation.Rename name) = plain.Rename name
 plain_operation operation.DeletePass = plain.DeletePass
+
+-- what an operator asks that takes a cursor and nothing more
+abbrev pub operation_at : AtCursor → plain.Asked → plain.Operation
+operation_at at_cursor.ReorderLoops at = plain.ReorderLoops at
+operation_at at_cursor.Fission at = plain.Fission at
+operation_at at_cursor.Fuse at = plain.Fuse at
+operation_at at_cursor.UnrollLoop at = plain.UnrollLoop at
+operation_at at_cursor.RemoveLoop at = plain.RemoveLoop at
+operation_at at_cursor.ReorderStmts at = plain.ReorderStmts at
 
 abbrev pub plain_request : Request → plain.Request
 plain_request (request.Apply bind of o) = plain.Apply bind.now of.now (plain_operation o)

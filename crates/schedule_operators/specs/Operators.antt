@@ -1,6 +1,6 @@
 -- What the operators of a schedule do: each takes its cursors and then works by its rule.
 use Rattle.std.specs.Prelude.{◌≡◌, ℕ, suc, pos, true, false, List, [], ◌∷◌, length, map}
-use Rattle.std.specs.Prelude.{Option, Some, None}
+use Rattle.std.specs.Prelude.{Option, Some, None, option_map, option_and_then}
 use Rattle.exo_tree.specs.Tree.{Control, Condition, Program}
 use Rattle.exo_tree.specs.Places.{Branch, Path}
 use Rattle.exo_meaning.specs.Units.{Scope, IsUnit}
@@ -11,6 +11,7 @@ use Rattle.rules_scopes.specs.PlaceScope.{scope_at}
 use Rattle.unit_check.specs.Faults.{NothingFaults}
 use Rattle.cursor_forward.specs.Causes.{WrongShape}
 use Rattle.cursor_forward.specs.Cursors.{Side, Before, After, Cursor, Node, Range, Gap, owner}
+use Rattle.cursor_forward.specs.Shifts.{word}
 use Rattle.step_rules.specs.Rule.{Tried, Got, Not, Target, Rule}
 use Rattle.step_rules.specs.Shapes.{tried}
 use Rattle.expression_laws.specs.Commute.{commute_rule}
@@ -51,22 +52,32 @@ at_block r (Node path ∷ []) = Got (record { rule = r path 1; at = path })
 at_block r (Range path count ∷ []) = Got (record { rule = r path count; at = path })
 at_block r cs = Not WrongShape
 
+-- a gap in the block of a statement: that statement, and how many of the block are before the gap
+pub record GapIn : Type 0 where
+  pub around : Path
+  pub before : ℕ
+
 -- the number of a statement in its block
 abbrev pub number_in_block : Path → ℕ
 number_in_block [] = 0
 number_in_block (s ∷ []) = s.index
 number_in_block (s ∷ t ∷ path) = number_in_block (t ∷ path)
 
--- how many statements of the block are before the gap beside a statement
-abbrev pub before_gap : Path → Side → ℕ
-before_gap path Before = number_in_block path
-before_gap path After = suc (number_in_block path)
+abbrev pub before_gap : Path → Side → Option ℕ
+before_gap path Before = Some (number_in_block path)
+before_gap path After = word (suc (number_in_block path))
 
--- at the statement round a gap, by how many statements of its block are before the gap; what
--- stands in no other statement is of the wrong shape
+abbrev pub gap_under : Option ℕ → Path → Option GapIn
+gap_under before around = option_map (λ n. record { around = around; before = n }) before
+
+-- beside the statement at a path; None where no statement is round it
+abbrev pub gap_beside : Path → Side → Option GapIn
+gap_beside path side = option_and_then (gap_under (before_gap path side)) (owner path)
+
+-- at the statement round a gap, by how many statements of its block are before the gap
 abbrev pub at_gap : (ℕ → Rule) → List Cursor → Tried Ruled
 at_gap r (Gap path side ∷ []) =
-    tried (owner path) (λ around. record { rule = r (before_gap path side); at = around })
+    tried (gap_beside path side) (λ g. record { rule = r g.before; at = g.around })
 at_gap r cs = Not WrongShape
 
 -- a rule on the whole procedure
