@@ -63,16 +63,18 @@ number_in_block [] = 0
 number_in_block (s ∷ []) = s.index
 number_in_block (s ∷ t ∷ path) = number_in_block (t ∷ path)
 
-abbrev pub before_gap : Path → Side → Option ℕ
-before_gap path Before = Some (number_in_block path)
-before_gap path After = word (suc (number_in_block path))
+-- how many statements are before the gap beside the one of that number
+abbrev pub before_gap : ℕ → Side → Option ℕ
+before_gap n Before = Some n
+before_gap n After = word (suc n)
 
 abbrev pub gap_under : Option ℕ → Path → Option GapIn
 gap_under before around = option_map (λ n. record { around = around; before = n }) before
 
 -- beside the statement at a path; None where no statement is round it
 abbrev pub gap_beside : Path → Side → Option GapIn
-gap_beside path side = option_and_then (gap_under (before_gap path side)) (owner path)
+gap_beside path side =
+    option_and_then (gap_under (before_gap (number_in_block path) side)) (owner path)
 
 -- at the statement round a gap, by how many statements of its block are before the gap
 abbrev pub at_gap : (ℕ → Rule) → List Cursor → Tried Ruled
