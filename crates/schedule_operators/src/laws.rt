@@ -4,6 +4,7 @@ ghost use Rattle.schedule_operators.specs.Operators.{OperatorsAreLawful, Schedul
 ghost use Rattle.schedule_operators.specs.Operators.{OperatorsNameNoField, SchedulesDifferInNothing};
 ghost use Rattle.schedule_operators.specs.Instance.{ScheduleInstance, ResultIsDerived};
 ghost use Rattle.schedule_operators.specs.LoopInstance.{LoopsInstance};
+ghost use Rattle.schedule_operators.specs.OrderInstance.{OrderInstance};
 
 /// Every operator works by lawful rules.
 pub fn operators_are_lawful()
@@ -42,6 +43,11 @@ pub fn schedule_instance()
 /// Schedules that change a loop, and refusals of theirs.
 pub fn loops_instance()
     ensures { LoopsInstance }
+{}
+
+/// A schedule that changes orders and takes loops away, and refusals of such ones.
+pub fn order_instance()
+    ensures { OrderInstance }
 {}
 
 /// What the schedule of the instance leaves is derived.
