@@ -32,8 +32,8 @@ use Rattle.schedule_versions.specs.Laws.{NamesFields, IsLawfulCall, IsLawfulAct,
 use Rattle.schedule_versions.specs.Laws.{StartedIsDerived, RunIsDerived}
 use Rattle.schedule_versions.specs.Behind.{NamesNoField, CallNamesNoField, ActNamesNoField}
 use Rattle.schedule_versions.specs.Behind.{RunsDifferInNothing}
-use Rattle.schedule_operators.specs.Operators.{at_statement, at_block, GapIn, at_gap, gap_beside}
-use Rattle.schedule_operators.specs.Operators.{on_procedure, dead_code_rule, gap_call}
+use Rattle.schedule_operators.specs.Operators.{at_statement, at_block, GapIn, gap_beside, ruled_in}
+use Rattle.schedule_operators.specs.Operators.{at_gap, on_procedure, dead_code_rule, gap_call}
 use Rattle.schedule_operators.specs.Operators.{division_of, control_at, condition_at}
 use Rattle.schedule_operators.specs.Operators.{statement_call, procedure_call, act_of}
 use Rattle.schedule_operators.specs.Operators.{OperatorsAreLawful, SchedulesDerive}
@@ -72,12 +72,10 @@ module _ (P : Rule → Type 0) where
   of_block r is (Gap path side ∷ cs) made h = cc
 
   of_found : (r : ℕ → Rule) → ((count : ℕ) → P (r count)) → (found : Option GapIn) (made : Ruled)
-      → tried found (λ g. record { rule = r g.before; at = g.around }) ≡ Got made → P made.rule
+      → tried found (ruled_in r) ≡ Got made → P made.rule
   of_found r is None made h = cc
   of_found r is (Some g) made h =
-      subst (λ (x : Ruled). P x.rule)
-      (same_rule (record { rule = r g.before; at = g.around }) made h)
-      (is g.before)
+      subst (λ (x : Ruled). P x.rule) (same_rule (ruled_in r g) made h) (is g.before)
 
   of_gap : (r : ℕ → Rule) → ((count : ℕ) → P (r count)) → (cs : List Cursor) (made : Ruled)
       → at_gap r cs ≡ Got made → P made.rule

@@ -77,9 +77,11 @@ gap_beside path side =
     option_and_then (gap_under (before_gap (number_in_block path) side)) (owner path)
 
 -- at the statement round a gap, by how many statements of its block are before the gap
+abbrev pub ruled_in : (ℕ → Rule) → GapIn → Ruled
+ruled_in r g = record { rule = r g.before; at = g.around }
+
 abbrev pub at_gap : (ℕ → Rule) → List Cursor → Tried Ruled
-at_gap r (Gap path side ∷ []) =
-    tried (gap_beside path side) (λ g. record { rule = r g.before; at = g.around })
+at_gap r (Gap path side ∷ []) = tried (gap_beside path side) (ruled_in r)
 at_gap r cs = Not WrongShape
 
 -- a rule on the whole procedure

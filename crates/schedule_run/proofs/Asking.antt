@@ -12,7 +12,8 @@ use Rattle.schedule_calls.specs.Requests.{Asked}
 use Rattle.schedule_versions.specs.Versions.{Versions}
 use Rattle.schedule_versions.specs.Places.{Sought, Got, Lost, then_seek, sought}
 use Rattle.schedule_versions.specs.Lines.{Why, UnknownName, target, Call}
-use Rattle.schedule_operators.specs.Operators.{at_statement, at_block, GapIn, gap_beside, at_gap}
+use Rattle.schedule_operators.specs.Operators.{at_statement, at_block, at_gap, GapIn}
+use Rattle.schedule_operators.specs.Operators.{gap_beside, ruled_in}
 use Rattle.schedule_run.specs.Planned as plans
 use Rattle.schedule_run.specs.Planned.{Made, Not, then_make, as_found, as_tried, planned_by, planned}
 use Rattle.schedule_run.specs.Planned.{statement_in, block_in, gap_in, statement_at, block_at, gap_at}
@@ -173,7 +174,7 @@ module _ (v : Versions) (k : ℕ) (p : Procedure) where
       made_in g = made_by (r g.before) g.around
 
       in_block : (found : Option GapIn)
-          → then_make (as_tried (tried found (λ g. record { rule = r g.before; at = g.around })))
+          → then_make (as_tried (tried found (ruled_in r)))
           (λ r. as_tried (proposed r.rule (target v k p) r.at))
           ≡ then_make (as_tried (tried found (λ g. g))) made_in
       in_block None = refl
