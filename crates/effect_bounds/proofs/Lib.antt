@@ -5,3 +5,4 @@ pub mod LowContexts
 pub mod Ranks
 pub mod SmallUses
 pub mod LowAccesses
+pub mod Examples
