@@ -120,9 +120,11 @@ module _ (u : Program) (p : Procedure) where
       let t = and_parts (is_low lo) (is_low hi) r.0 in
       (
         (h, ap₂ ◌&&◌ t.0 q.0),
-        (h, ap₂ ◌&&◌ q.0 t.1),
-        round_low path Main zero c old (forgotten (λ f. writes_field tell.writes f b) path known)
-        v.0 r.1 (forgotten_low (λ f. writes_field tell.writes f b) path known h),
+        (
+          (h, ap₂ ◌&&◌ q.0 t.1),
+          round_low path Main zero c old (forgotten (λ f. writes_field tell.writes f b) path known)
+          v.0 r.1 (forgotten_low (λ f. writes_field tell.writes f b) path known h),
+        ),
       )
   round_low outer branch n (InThen t c other rest) old known w l h =
       let b = fill c old in

@@ -2,6 +2,7 @@
 use Rattle.std.proofs.Common.{◌≡◌, ◌≤◌, ◌^◌, ℕ, zero, suc, nat_lt, ◌==◌, pos, Bool, true, false, cond}
 use Rattle.std.proofs.Common.{◌&&◌, List, [], ◌∷◌, length, drop, Option, Some, None, slice_get}
 use Rattle.std.proofs.Common.{refl, arith}
+use Rattle.std.specs.Prelude.{⊤}
 use Rattle.std.specs.List.{list_all}
 use Rattle.exo_tree.specs.Tree.{Control, Coord, Statement, Assign, Reduce, Config, Pass, If, For}
 use Rattle.exo_tree.specs.Tree.{Alloc, View, Call, Block, end, next, Param, ParamKind, ControlParam}
