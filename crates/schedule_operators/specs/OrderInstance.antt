@@ -106,18 +106,18 @@ abbrev pub the_write : Asked
 the_write = record { source = Here (pattern.Assign (Some (codes "x"))) 0; moves = [] }
 
 -- the gaps behind and before it
-abbrev pub behind : Asked → Asked
-behind at = record at { moves = After ∷ [] }
+abbrev pub gap_behind : Asked → Asked
+gap_behind at = record at { moves = After ∷ [] }
 
-abbrev pub before : Asked → Asked
-before at = record at { moves = Before ∷ [] }
+abbrev pub gap_before : Asked → Asked
+gap_before at = record at { moves = Before ∷ [] }
 
 -- ---- a schedule
 
 abbrev pub schedule : List Request
 schedule =
     -- p = fission(f, gap behind 'x = _')
-    Apply (codes "p") (codes "f") (Fission (behind the_write))
+    Apply (codes "p") (codes "f") (Fission (gap_behind the_write))
     -- q = fuse(p, 'i')
     ∷ Apply (codes "q") (codes "p") (Fuse the_loop)
     -- r = reorder_stmts(q, 'x = _')
@@ -217,15 +217,15 @@ pub record OrderInstance : Type 0 where
   pub turns_clash :
       refused (loop_i 0 2 (loop_j 0 2 (alone_is (x_is 1)))) (ReorderLoops the_loop) clash
   pub parts_clash :
-      refused (loop_i 0 2 (both (x_is 1) (x_is 2))) (Fission (behind the_write)) clash
+      refused (loop_i 0 2 (both (x_is 1) (x_is 2))) (Fission (gap_behind the_write)) clash
   pub loops_clash : refused (two_loops (codes "j") (x_is 1) (x_is 2)) (Fuse the_loop) clash
   pub statements_clash : refused (both (x_is 1) (x_is 2)) (ReorderStmts the_write) clash
   -- a statement where a gap is asked, a gap in no loop, and a gap before all statements of one
   pub no_gap : refused in_one (Fission the_write) (lines.Step WrongShape)
-  pub gap_outside : refused in_one (Fission (behind the_loop)) (lines.Step WrongShape)
-  pub first_gap : refused in_one (Fission (before the_write)) (lines.Step WrongShape)
+  pub gap_outside : refused in_one (Fission (gap_behind the_loop)) (lines.Step WrongShape)
+  pub first_gap : refused in_one (Fission (gap_before the_write)) (lines.Step WrongShape)
   -- a gap where a statement is asked
-  pub gap_for_loop : refused in_one (RemoveLoop (behind the_loop)) (lines.Step WrongShape)
+  pub gap_for_loop : refused in_one (RemoveLoop (gap_behind the_loop)) (lines.Step WrongShape)
   -- each turn adds to what the turns before it left
   pub turns_differ : refused (each_turn x_grows) (RemoveLoop the_loop) (lines.Step NotIdempotent)
   -- seq(3, 3) has no turn, and seq(0, 2) has one
