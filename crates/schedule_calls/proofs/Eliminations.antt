@@ -1,5 +1,5 @@
 -- Arguments of `eliminate_dead_code`.
-use Rattle.std.proofs.Common.{◌≡◌, List, [], ◌∷◌, Option, Some, None, map, sym, subst, ◌∙◌}
+use Rattle.std.proofs.Common.{◌≡◌, List, ◌∷◌, Option, Some, None, map, sym, subst, ◌∙◌}
 use Rattle.std.specs.Prelude.{codes}
 use Rattle.exo_tree.specs.Places.{Branch}
 use Rattle.schedule_text.specs.Tree as tree

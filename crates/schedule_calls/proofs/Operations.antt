@@ -1,7 +1,7 @@
 -- Arguments of operators that ask for something, and some that ask for nothing.
 use Rattle.std.proofs.Common.{◌≡◌, ℕ, List, [], ◌∷◌, Bool, true, false, Option, Some, None}
 use Rattle.std.proofs.Common.{refl, sym, ap, subst, ◌∙◌, length, map, get_or, ap₂, arith}
-use Rattle.std.specs.Prelude.{codes, if◌then◌else◌}
+use Rattle.std.specs.Prelude.{codes, not, if◌then◌else◌}
 use Rattle.std.specs.Str.{bytes_eq}
 use Rattle.std.proofs.lemmas.Slice.Eq.{bytes_eq-Decides}
 use Rattle.std.proofs.lemmas.List.{nil_from_length}
@@ -16,7 +16,7 @@ use Rattle.schedule_calls.specs.declared.operator.AtCursor.{AtCursor}
 use Rattle.schedule_calls.specs.declared.operator.AtCursor.TheVariants as at_op
 use Rattle.schedule_calls.specs.declared.operator.Operator.{Operator}
 use Rattle.schedule_calls.specs.declared.operator.Operator.TheVariants as op
-use Rattle.schedule_calls.specs.Readings.{AsksCursor, AsksExpression, AsksName}
+use Rattle.schedule_calls.specs.Readings.{AsksCursor, AsksExpression, AsksName, is_operator}
 use Rattle.schedule_calls.specs.Readings.{AsksOperation, commute_expr, rename, delete_pass}
 
 pub no_commute_at : (a b : tree.Argument) → ((at : Asked) → AsksCursor a at → ⊥) → (o : Operation)
@@ -131,3 +131,24 @@ named name o = either (at_cursor_of name) refl
         → at_or found (other_of name) ≡ Some o → name ≡ name_of o
     either None at is = other_named name o is
     either (Some a) at is = at_named name a at ∙ ap name_of (same (op.At a) is)
+
+there_at : (o : AtCursor) → not (is_operator (cursor_name o)) ≡ false
+there_at at_op.ReorderLoops = refl
+there_at at_op.Fission = refl
+there_at at_op.Fuse = refl
+there_at at_op.UnrollLoop = refl
+there_at at_op.RemoveLoop = refl
+there_at at_op.ReorderStmts = refl
+
+there : (o : Operator) → not (is_operator (name_of o)) ≡ false
+there (op.At o) = there_at o
+there op.DivideLoop = refl
+there op.CutLoop = refl
+there op.Specialize = refl
+there op.EliminateDeadCode = refl
+there op.CommuteExpr = refl
+there op.Rename = refl
+there op.DeletePass = refl
+
+pub is_known : (name : List ℕ) (o : Operator) → name ≡ name_of o → not (is_operator name) ≡ false
+is_known name o is = ap (λ n. not (is_operator n)) is ∙ there o

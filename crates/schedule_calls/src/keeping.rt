@@ -37,11 +37,7 @@ fn branch_of_value(alloc: Global, value: &KeyValue) -> Result<Option<Branch>, Al
     }
 }
 
-fn branch_of_key(
-    alloc: Global,
-    name: &Text,
-    value: &KeyValue,
-) -> Result<Option<Branch>, AllocError>
+fn branch_of_key(alloc: Global, name: &Text, value: &KeyValue) -> Result<Option<Branch>, AllocError>
     ensures { IfOk result (λ b. option_map branch_taken b ≡ branch_of_key name.now (plain_key_value value.now)) }
 {
     if name.as_slice() == b"keep".as_slice() {

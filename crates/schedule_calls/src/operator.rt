@@ -106,7 +106,7 @@ pub fn operator_of(name: &Text) -> Option<Operator>
 impl AtCursor {
     /// What the operator asks at that cursor.
     fn asked_at(self, cursor: Box<Asked<'_>>) -> Operation<'_>
-        ensures { plain_operation result ≡ operation_at self (plain_asked cursor.value) }
+        ensures { plain_operation result ≡ operation_at self (plain_asked cursor.entry.value) }
     {
         match self {
             AtCursor::ReorderLoops => Operation::ReorderLoops(cursor),

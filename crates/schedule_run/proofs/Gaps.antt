@@ -1,7 +1,8 @@
 -- The gap beside a statement, by the steps of its path.
-use Rattle.std.proofs.Common.{◌≡◌, ℕ, ◌<◌, List, [], ◌∷◌, ◌++◌, length, map, refl, ap, sym, ◌∙◌}
+use Rattle.std.proofs.Common.{◌≡◌, ℕ, ◌<◌, ◌≤◌, Bool, true, false, List, [], ◌∷◌, ◌++◌, length, map, refl, ap, sym, ◌∙◌}
 use Rattle.std.proofs.Common.{Option, Some, None, arith}
-use Rattle.std.specs.Prelude.{option_map, option_and_then}
+use Rattle.std.specs.Prelude.{◌^◌, nat_lt, if◌then◌else◌, option_map, option_and_then}
+use Rattle.cursor_forward.specs.Shifts.{word}
 use Rattle.std.proofs.lemmas.List.{nil_from_length}
 use Rattle.exo_tree.specs.Places.{Path}
 use Rattle.exo_tree.specs.PlainPlace.{step_taken}
@@ -59,3 +60,25 @@ module _ (path : Path) (to : List Step) (side : Side) (is : map step_taken to �
             → owner (map step_taken (u ++ last ∷ [])) ≡ Some (map step_taken u)
         owned [] few = absurd (omega (arith, few))
         owned (s ∷ u) few = owner_at_end s u last
+
+    pub gap_found : 0 < length up → (around : Path) → around ≡ map step_taken up → (n : ℕ)
+        → before_gap last.index side ≡ Some n
+        → Some (record { around = around; before = n }) ≡ gap_beside path side
+    gap_found some around same n is =
+        ap (λ p. gap_under (Some n) p) same
+        ∙ (ap (λ o. gap_under o (map step_taken up)) (sym is) ∙ sym (gap_inside some))
+
+    pub gap_passed : 0 < length up → before_gap last.index side ≡ None → gap_beside path side ≡ None
+    gap_passed some is = gap_inside some ∙ ap (λ o. gap_under o (map step_taken up)) is
+
+-- ---- how many statements are before it
+
+pub held_word : (n : ℕ) → n < 2 ^ 32 → word n ≡ Some n
+held_word n few =
+    let is : nat_lt n (2 ^ 32) ≡ true = grind (arith, few) in
+    ap (λ (b : Bool). if b then Some n else None) is
+
+pub passed_word : (n : ℕ) → 2 ^ 32 ≤ n → word n ≡ None
+passed_word n many =
+    let is : nat_lt n (2 ^ 32) ≡ false = grind (arith, many) in
+    ap (λ (b : Bool). if b then Some n else None) is

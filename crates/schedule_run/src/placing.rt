@@ -80,11 +80,13 @@ fn gap_beside(path: &Path, side: Side) -> Option<GapIn>
     if up.is_empty() {
         return None;
     }
-    let before = before_gap(last.index, side)?;
-    Some(GapIn {
-        around: path_of(up),
-        before,
-    })
+    match before_gap(last.index, side) {
+        Some(before) => Some(GapIn {
+            around: path_of(up),
+            before,
+        }),
+        None => None,
+    }
 }
 
 /// The gap that a cursor stands for, where an operator asks for one in the block of a statement.

@@ -1,4 +1,4 @@
-use Rattle.std.proofs.Common.{take, drop, length, ◌-◌, refl, ap, sym, ◌∙◌}
+use Rattle.std.proofs.Common.{take, drop, length, ◌-◌, ap, sym, ◌∙◌}
 use Rattle.std.specs.Prelude.{option_map}
 use Rattle.exo_tree.specs.PlainPlace.{branch_taken}
 use Rattle.schedule_calls.proofs.Answered.{some_of, none_of}
