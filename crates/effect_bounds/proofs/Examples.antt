@@ -1,6 +1,6 @@
 -- A procedure with a field, a guard and a view, of which the laws speak.
-use Rattle.std.proofs.Common.{◌≡◌, ◌≤◌, ◌^◌, ℕ, pos, List, [], ◌∷◌, Some, None, refl}
-use Rattle.exo_tree.specs.Tree.{I32, Size, Index, Binder, Control, Lit, Var, Field, Lt, Coord, At}
+use Rattle.std.proofs.Common.{◌≤◌, ◌^◌, ℕ, pos, List, [], ◌∷◌, Some, None, refl}
+use Rattle.exo_tree.specs.Tree.{I32, Size, Index, Binder, Lit, Var, Field, Lt, Coord, At}
 use Rattle.exo_tree.specs.Tree.{Span, Const, ControlArg, Assign, Config, If, For, View, Block, end}
 use Rattle.exo_tree.specs.Tree.{next, ControlParam, TensorParam, Procedure, Program}
 use Rattle.exo_tree.specs.Places.{Main, Path}

@@ -1,5 +1,5 @@
 -- The program's accesses of a piece of a well-formed procedure are low.
-use Rattle.std.proofs.Common.{◌≡◌, ◌≤◌, ◌^◌, ℕ, nat_le, true, ◌&&◌, List, [], ◌∷◌, length, refl, sym}
+use Rattle.std.proofs.Common.{◌≡◌, ◌≤◌, ◌^◌, nat_le, true, ◌&&◌, List, [], ◌∷◌, length, refl, sym}
 use Rattle.std.proofs.Common.{ap, ap₂, ◌∙◌, subst, arith}
 use Rattle.std.proofs.lemmas.Bool.Decides.{nat_tests}
 use Rattle.std.specs.List.{list_all}
@@ -8,7 +8,6 @@ use Rattle.affine_forms.proofs.Values.{and_parts}
 use Rattle.exo_effects.specs.Low.{use_is_low, LowLaw, UsesLowLaw}
 use Rattle.exo_effects.specs.PlainGuards.{all_facts}
 use Rattle.exo_effects.specs.PlainUses.{plain_use, plain_uses}
-use Rattle.exo_effects.specs.Uses.{Use}
 use Rattle.exo_effects.specs.declared.access.Access.{Access}
 use Rattle.exo_effects.specs.declared.guards.Guard.{Guard}
 use Rattle.exo_effects.specs.declared.guards.Guard.TheVariants as guard

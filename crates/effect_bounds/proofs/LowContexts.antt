@@ -1,15 +1,15 @@
 -- In a well-formed procedure all variables of the context of a place are below 2^31.
-use Rattle.std.proofs.Common.{◌≡◌, ◌≤◌, ◌<◌, ◌^◌, ℕ, zero, suc, nat_lt, ◌==◌, Bool, true, false, cond}
-use Rattle.std.proofs.Common.{◌&&◌, List, [], ◌∷◌, ◌++◌, map, length, Option, Some, None, refl, sym, ap}
+use Rattle.std.proofs.Common.{◌≡◌, ◌≤◌, ◌^◌, ℕ, zero, suc, nat_lt, ◌==◌, Bool, true, false, cond}
+use Rattle.std.proofs.Common.{◌&&◌, List, [], ◌∷◌, ◌++◌, map, length, Option, Some, None, refl, ap}
 use Rattle.std.proofs.Common.{ap₂, ◌∙◌, arith}
 use Rattle.std.specs.List.{list_all}
-use Rattle.exo_tree.specs.Tree.{Kind, Control, Condition, Argument, ControlArg, ConditionArg, Whole}
-use Rattle.exo_tree.specs.Tree.{Window, Block, end, Procedure, ConfigField, Program}
+use Rattle.exo_tree.specs.Tree.{Condition, ControlArg, ConditionArg, Whole}
+use Rattle.exo_tree.specs.Tree.{Window, end, Procedure, Program}
 use Rattle.exo_tree.specs.Context.{Here}
-use Rattle.exo_tree.specs.Places.{Path, Opened, opened}
+use Rattle.exo_tree.specs.Places.{Opened, opened}
 use Rattle.exo_meaning.specs.Binders.{binders}
 use Rattle.exo_meaning.specs.Orders.{Each}
-use Rattle.exo_meaning.specs.Units.{is_short, IsProcedure}
+use Rattle.exo_meaning.specs.Units.{is_short}
 use Rattle.meaning_laws.specs.Facts.{Fact, Holds, Fails}
 use Rattle.meaning_laws.specs.KnownFields as known
 use Rattle.meaning_laws.specs.KnownFields.{KnownFields, FieldValue, AtEntry}
@@ -18,17 +18,17 @@ use Rattle.meaning_laws.specs.Scoped.{UnmentionedLaw}
 use Rattle.meaning_laws.specs.WellFormed.{WellScoped}
 use Rattle.meaning_laws.proofs.Places.{opened_law}
 use Rattle.affine_forms.specs.Forms.{Reading}
-use Rattle.affine_forms.specs.Formulas.{Formula, formula, negation, condition_keeps_rules}
+use Rattle.affine_forms.specs.Formulas.{condition_keeps_rules}
 use Rattle.affine_forms.proofs.Values.{and_parts}
 use Rattle.affine_places.specs.Facts.{Known, UnknownAt, FieldFact, fact_of}
 use Rattle.affine_places.specs.Facts as facts
 use Rattle.affine_places.specs.Laws.{WellFormedIsAffine}
 use Rattle.affine_places.specs.Readings.{entry_reading, entry_flags, place_reading, place_flags}
 use Rattle.affine_places.specs.Readings.{field_form, field_formula}
-use Rattle.affine_places.specs.Roots.{Roots, roots_of, has_extents}
-use Rattle.affine_places.specs.Rules.{block_keeps_rules, procedure_keeps_rules}
+use Rattle.affine_places.specs.Roots.{roots_of, has_extents}
+use Rattle.affine_places.specs.Rules.{block_keeps_rules}
 use Rattle.check_facts.specs.Contexts.{with_value, facts_from, told, condition_formula}
-use Rattle.check_facts.specs.Contexts.{fact_formula, formulas, facts_at, telling, context_of}
+use Rattle.check_facts.specs.Contexts.{fact_formula, formulas, facts_at}
 use Rattle.exo_effects.specs.Fresh.{past_linear, past_formula, past_all}
 use Rattle.exo_effects.specs.Low.{condition_is_low, fact_is_low, kind_is_low, block_is_low}
 use Rattle.exo_effects.specs.Low.{procedure_is_low, LowLaw}

@@ -2,14 +2,14 @@
 use Rattle.std.proofs.Common.{◌≡◌, ◌^◌, ℕ, zero, suc, ◌==◌, nat_lt, Bool, true, false, cond, ◌&&◌}
 use Rattle.std.proofs.Common.{List, [], ◌∷◌, ◌++◌, map, refl, ap₂}
 use Rattle.std.specs.List.{list_all}
-use Rattle.exo_tree.specs.Tree.{Kind, Size, Index, Truth, Stride, Var, Lt, Le, Argument, Statement}
+use Rattle.exo_tree.specs.Tree.{Kind, Size, Index, Truth, Stride, Argument, Statement}
 use Rattle.exo_tree.specs.Tree.{Assign, Reduce, Config, Pass, If, For, Alloc, View, Call}
 use Rattle.exo_tree.specs.Tree.{Block, end, next, Param, ParamKind, ControlParam, TensorParam}
 use Rattle.exo_tree.specs.Tree.{WindowParam, Procedure, Program}
 use Rattle.exo_tree.specs.Context.{Context, Here, After, InLoop, InThen, InElse, fill}
 use Rattle.exo_tree.specs.Places.{Branch, Main, Else, Path}
 use Rattle.exo_meaning.specs.Orders.{Each}
-use Rattle.meaning_laws.specs.Facts.{Fact, Holds, Fails}
+use Rattle.meaning_laws.specs.Facts.{Fact, Holds}
 use Rattle.meaning_laws.specs.Fields.{writes_field}
 use Rattle.meaning_laws.specs.Known.{kind_facts, param_facts, params_facts}
 use Rattle.meaning_laws.specs.KnownFields.{Known, UnknownAt, KnownFields, at_entry, Telling, path_in}
@@ -117,13 +117,12 @@ module _ (u : Program) (p : Procedure) where
       let s = and_parts (statement_is_low (For i lo hi b)) (block_is_low rest) l in
       let q = and_parts (low_id i.id) ((is_low lo && is_low hi) && block_is_low b) s.0 in
       let r = and_parts (is_low lo && is_low hi) (block_is_low b) q.1 in
-      let t = and_parts (is_low lo) (is_low hi) r.0 in
-      (
+      let t = and_parts (is_low lo) (is_low hi) r.0 in (
         (h, ap₂ ◌&&◌ t.0 q.0),
         (
           (h, ap₂ ◌&&◌ q.0 t.1),
           round_low path Main zero c old (forgotten (λ f. writes_field tell.writes f b) path known)
-          v.0 r.1 (forgotten_low (λ f. writes_field tell.writes f b) path known h),
+              v.0 r.1 (forgotten_low (λ f. writes_field tell.writes f b) path known h),
         ),
       )
   round_low outer branch n (InThen t c other rest) old known w l h =
@@ -131,24 +130,22 @@ module _ (u : Program) (p : Procedure) where
       let v = and_parts (all_written may_be_written b && all_written may_be_written other)
       (all_written may_be_written rest) w in
       let s = and_parts (statement_is_low (If t b other)) (block_is_low rest) l in
-      let q = and_parts (condition_is_low t) (block_is_low b && block_is_low other) s.0 in
-      (
+      let q = and_parts (condition_is_low t) (block_is_low b && block_is_low other) s.0 in (
         (h, q.0),
         round_low (path_in outer branch n) Main zero c old known
-        (and_parts (all_written may_be_written b) (all_written may_be_written other) v.0).0
-        (and_parts (block_is_low b) (block_is_low other) q.1).0 h,
+            (and_parts (all_written may_be_written b) (all_written may_be_written other) v.0).0
+            (and_parts (block_is_low b) (block_is_low other) q.1).0 h,
       )
   round_low outer branch n (InElse t other c rest) old known w l h =
       let b = fill c old in
       let v = and_parts (all_written may_be_written other && all_written may_be_written b)
       (all_written may_be_written rest) w in
       let s = and_parts (statement_is_low (If t other b)) (block_is_low rest) l in
-      let q = and_parts (condition_is_low t) (block_is_low other && block_is_low b) s.0 in
-      (
+      let q = and_parts (condition_is_low t) (block_is_low other && block_is_low b) s.0 in (
         (h, q.0),
         round_low (path_in outer branch n) Else zero c old known
-        (and_parts (all_written may_be_written other) (all_written may_be_written b) v.0).1
-        (and_parts (block_is_low other) (block_is_low b) q.1).1 h,
+            (and_parts (all_written may_be_written other) (all_written may_be_written b) v.0).1
+            (and_parts (block_is_low other) (block_is_low b) q.1).1 h,
       )
 
   -- ---- of parameters and assertions

@@ -12,10 +12,10 @@ use Rattle.exo_tree.specs.Tree.{Assign, Reduce, Config, Pass, If, For, Alloc, Vi
 use Rattle.exo_tree.specs.Tree.{Block, end, next, Procedure}
 use Rattle.exo_meaning.specs.Orders.{Each}
 use Rattle.exo_meaning.specs.Units.{is_of_literals, is_short, bound_ids}
-use Rattle.exo_meaning.specs.Unseen.{in_control, in_controls, in_condition, in_argument}
+use Rattle.exo_meaning.specs.Unseen.{in_control, in_condition, in_argument}
 use Rattle.exo_meaning.specs.Unseen.{in_statement, in_block}
 use Rattle.exo_meaning.proofs.Frame.{or_parts}
-use Rattle.meaning_laws.specs.Facts.{Fact, Holds}
+use Rattle.meaning_laws.specs.Facts.{Holds}
 use Rattle.meaning_laws.specs.PlaceFacts.{all_written, step_all_written}
 use Rattle.meaning_laws.specs.Scoped.{is_not, is_param, is_scoped, has_binder, UnmentionedLaw}
 use Rattle.meaning_laws.proofs.CopiesAtPlaces.{no_param, no_binder}
@@ -168,48 +168,48 @@ mutual
 -- ---- in a procedure whose names are in scope
 
 module _
-  (unmentioned : UnmentionedLaw) (p : Procedure)
-  (below : list_all (λ x. nat_lt x (2 ^ 31)) (bound_ids p) ≡ true)
+    (unmentioned : UnmentionedLaw) (p : Procedure)
+    (below : list_all (λ x. nat_lt x (2 ^ 31)) (bound_ids p) ≡ true)
   where
-  low_param : (x : ℕ) → is_param p x ≡ true → is_high x ≡ false
-  low_param x e =
-      false_by (is_high x) (λ h.
-      true≢false (sym e ∙ no_param (2 ^ 31) p below x (from_high x h)))
+    low_param : (x : ℕ) → is_param p x ≡ true → is_high x ≡ false
+    low_param x e =
+        false_by (is_high x) (λ h.
+        true≢false (sym e ∙ no_param (2 ^ 31) p below x (from_high x h)))
 
-  low_binder : (x : ℕ) → has_binder p.body x ≡ true → is_high x ≡ false
-  low_binder x e =
-      false_by (is_high x) (λ h.
-      true≢false (sym e ∙ no_binder (2 ^ 31) p below x (from_high x h)))
+    low_binder : (x : ℕ) → has_binder p.body x ≡ true → is_high x ≡ false
+    low_binder x e =
+        false_by (is_high x) (λ h.
+        true≢false (sym e ∙ no_binder (2 ^ 31) p below x (from_high x h)))
 
-  body_not_high : is_scoped (is_param p) p.body ≡ true → in_block is_high p.body ≡ false
-  body_not_high h = unmentioned (is_param p) is_high p.body h low_param low_binder
+    body_not_high : is_scoped (is_param p) p.body ≡ true → in_block is_high p.body ≡ false
+    body_not_high h = unmentioned (is_param p) is_high p.body h low_param low_binder
 
-  -- a condition by the law of blocks
-  condition_not_high :
-      (t : Condition)
-      → in_condition (is_not (is_param p)) t ≡ false
-      → in_condition is_high t ≡ false
-  condition_not_high t h =
-      let scoped = ap (λ (z : Bool). (not z && (true && true)) && true) h in
-      let all =
-          unmentioned (is_param p) is_high (next (If t end end) end) scoped low_param
-          (λ x e. absurd (true≢false (sym e)))
-      in
-      (or_parts (in_condition is_high t) (false || false)
-      (or_parts (in_condition is_high t || (false || false)) false all).0).0
+    -- a condition by the law of blocks
+    condition_not_high :
+        (t : Condition)
+        → in_condition (is_not (is_param p)) t ≡ false
+        → in_condition is_high t ≡ false
+    condition_not_high t h =
+        let scoped = ap (λ (z : Bool). (not z && (true && true)) && true) h in
+        let all =
+        unmentioned (is_param p) is_high (next (If t end end) end) scoped low_param
+        (λ x e. absurd (true≢false (sym e)))
+        in
+        (or_parts (in_condition is_high t) (false || false)
+        (or_parts (in_condition is_high t || (false || false)) false all).0).0
 
-  pub asserts_low :
-      (cs : List Condition)
-      → Each (λ t. in_condition (is_not (is_param p)) t ≡ false) cs
-      → list_all condition_keeps_rules cs ≡ true
-      → list_all fact_is_low (map Holds cs) ≡ true
-  asserts_low [] scoped h = refl
-  asserts_low (c ∷ cs) scoped h =
-      let q = and_parts (condition_keeps_rules c) (list_all condition_keeps_rules cs) h in
-      ap₂ ◌&&◌ (condition_low c q.0 (condition_not_high c scoped.0)) (asserts_low cs scoped.1 q.1)
+    pub asserts_low :
+        (cs : List Condition)
+        → Each (λ t. in_condition (is_not (is_param p)) t ≡ false) cs
+        → list_all condition_keeps_rules cs ≡ true
+        → list_all fact_is_low (map Holds cs) ≡ true
+    asserts_low [] scoped h = refl
+    asserts_low (c ∷ cs) scoped h =
+        let q = and_parts (condition_keeps_rules c) (list_all condition_keeps_rules cs) h in
+        ap₂ ◌&&◌ (condition_low c q.0 (condition_not_high c scoped.0)) (asserts_low cs scoped.1 q.1)
 
-  pub body_writes_low :
-      is_scoped (is_param p) p.body ≡ true
-      → block_keeps_rules p.body ≡ true
-      → all_written may_be_written p.body ≡ true
-  body_writes_low h keeps = writes_low p.body keeps (body_not_high h)
+    pub body_writes_low :
+        is_scoped (is_param p) p.body ≡ true
+        → block_keeps_rules p.body ≡ true
+        → all_written may_be_written p.body ≡ true
+    body_writes_low h keeps = writes_low p.body keeps (body_not_high h)

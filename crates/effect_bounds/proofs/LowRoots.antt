@@ -7,8 +7,7 @@ use Rattle.std.specs.List.{list_all}
 use Rattle.exo_tree.specs.Tree.{Control, Coord, Statement, Assign, Reduce, Config, Pass, If, For}
 use Rattle.exo_tree.specs.Tree.{Alloc, View, Call, Block, end, next, Param, ParamKind, ControlParam}
 use Rattle.exo_tree.specs.Tree.{TensorParam, WindowParam, Procedure}
-use Rattle.exo_meaning.specs.Scene.{updated}
-use Rattle.affine_forms.specs.Atoms.{OpaqueStride, Linear, constantly, only}
+use Rattle.affine_forms.specs.Atoms.{OpaqueStride, constantly, only}
 use Rattle.affine_forms.specs.Forms.{form}
 use Rattle.affine_forms.specs.Strides.{is_number, is_one_open, product_form, dense_stride}
 use Rattle.affine_forms.proofs.Values.{and_parts}

@@ -1,28 +1,25 @@
 -- In a well-formed procedure each name of a buffer stands for a part with as many spans as it has
 -- dimensions, of a root with 8 dimensions at most.
-use Rattle.std.proofs.Common.{◌≡◌, ◌≤◌, ◌+◌, ℕ, zero, suc, ◌==◌, nat_lt, Bool, true, false, not, cond}
+use Rattle.std.proofs.Common.{◌≡◌, ◌≤◌, ℕ, suc, ◌==◌, nat_lt, Bool, true, false, cond}
 use Rattle.std.proofs.Common.{◌&&◌, List, [], ◌∷◌, length, map, Option, Some, None, option_map, refl}
 use Rattle.std.proofs.Common.{sym, ap, ◌∙◌, true≢false, eqb-true, arith}
 use Rattle.std.proofs.lemmas.Bool.Decides.{nat_tests}
 use Rattle.std.specs.Prelude.{⊤}
 use Rattle.std.specs.List.{list_all}
 use Rattle.exo_tree.specs.Tree.{Kind, Index, Binder, Control, Coord, At, Span, Statement, Assign}
-use Rattle.exo_tree.specs.Tree.{Reduce, Config, Pass, If, For, Alloc, View, Call, Block, Param}
+use Rattle.exo_tree.specs.Tree.{Reduce, Config, Pass, If, For, Alloc, View, Call, Param}
 use Rattle.exo_tree.specs.Tree.{ParamKind, ControlParam, TensorParam, WindowParam}
-use Rattle.exo_tree.specs.Context.{Context, Here, After, InLoop, InThen, InElse, fill}
 use Rattle.exo_meaning.specs.Calls.{Callee}
-use Rattle.exo_meaning.specs.Run.{roots_after}
 use Rattle.exo_meaning.specs.Scene.{updated}
 use Rattle.exo_meaning.specs.Units.{Scope, Sort, ControlName, BufferName, sort_in, with_name}
-use Rattle.exo_meaning.specs.Units.{has_rank, plainly, with_fields, is_control, are_controls}
-use Rattle.exo_meaning.specs.Units.{is_condition, is_coord, is_window, is_new, is_rank, is_empty}
-use Rattle.exo_meaning.specs.Units.{is_short, spans, view_sort, param_sort, scope_of, scope_after}
-use Rattle.exo_meaning.specs.Units.{is_param_kind, are_params, is_block, is_statement}
-use Rattle.meaning_laws.specs.Sorted.{scope_at}
+use Rattle.exo_meaning.specs.Units.{has_rank, plainly, are_controls}
+use Rattle.exo_meaning.specs.Units.{is_coord, is_window, is_new, is_rank}
+use Rattle.exo_meaning.specs.Units.{spans, view_sort, param_sort, scope_of, scope_after}
+use Rattle.exo_meaning.specs.Units.{is_param_kind, are_params, is_statement}
 use Rattle.inplace_laws.specs.Windows.{shifted, joined_coords}
 use Rattle.affine_forms.proofs.Values.{and_parts}
 use Rattle.exo_effects.specs.Parts.{Part, Parts, all_of, whole_of, window_of, with_kind}
-use Rattle.exo_effects.specs.Parts.{with_params, passed, passed_inside, parts_at}
+use Rattle.exo_effects.specs.Parts.{with_params, passed, passed_inside}
 
 -- ---- how many coordinates
 

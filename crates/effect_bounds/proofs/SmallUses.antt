@@ -1,15 +1,15 @@
 -- In a well-formed procedure a use has 8 coordinates at most, and 64 facts around it.
-use Rattle.std.proofs.Common.{◌≡◌, ◌≤◌, ◌<◌, ◌+◌, ◌*◌, ℕ, suc, ◌==◌, nat_lt, Bool, true, false, not, cond}
+use Rattle.std.proofs.Common.{◌≡◌, ◌≤◌, ◌+◌, ◌*◌, ℕ, suc, ◌==◌, nat_lt, Bool, true, false, not, cond}
 use Rattle.std.proofs.Common.{◌&&◌, List, [], ◌∷◌, ◌++◌, length, map, Option, Some, None, option_map}
 use Rattle.std.proofs.Common.{◌||◌, refl, sym, ap, ap₂, ◌∙◌, true≢false, length-append, arith}
 use Rattle.std.proofs.lemmas.Bool.Decides.{nat_tests}
 use Rattle.std.specs.Prelude.{⊤}
 use Rattle.std.specs.List.{list_all}
-use Rattle.exo_tree.specs.Tree.{Kind, Index, Control, Var, Condition, Le, Lt, Datum, Const, Read}
+use Rattle.exo_tree.specs.Tree.{Kind, Index, Control, Var, Le, Lt, Datum, Const, Read}
 use Rattle.exo_tree.specs.Tree.{Negated, Relu, Plus, Minus, Times, Select, Coord, At, Argument}
 use Rattle.exo_tree.specs.Tree.{ControlArg, ConditionArg, Whole, Window, Statement, Assign, Reduce}
 use Rattle.exo_tree.specs.Tree.{Config, Pass, If, For, Alloc, View, Call, Block, end, next, joined}
-use Rattle.exo_tree.specs.Tree.{Binder, Param, ParamKind, ControlParam, TensorParam, WindowParam}
+use Rattle.exo_tree.specs.Tree.{Param, ParamKind, ControlParam, TensorParam, WindowParam}
 use Rattle.exo_tree.specs.Tree.{Procedure, Program}
 use Rattle.exo_tree.specs.Context.{Context, Here, After, InLoop, InThen, InElse, fill}
 use Rattle.exo_tree.specs.Places.{Path, Opened, opened}
@@ -34,8 +34,8 @@ use Rattle.text_show.specs.Words.{Words, words_of}
 use Rattle.affine_forms.proofs.Values.{and_parts}
 use Rattle.check_facts.proofs.Rooms.{larger_left, larger_right}
 use Rattle.exo_effects.specs.Parts.{Part, Parts, no_parts, window_of, with_params, passed}
-use Rattle.exo_effects.specs.Parts.{passed_inside, parts_at}
-use Rattle.exo_effects.specs.Uses.{Use, Inside, in_loop, in_branch, past_statement, use_of, uses_of}
+use Rattle.exo_effects.specs.Parts.{parts_at}
+use Rattle.exo_effects.specs.Uses.{Use, Inside, in_loop, in_branch, past_statement, uses_of}
 use Rattle.exo_effects.specs.Uses.{cell_of, part_of_argument, modes_had, cell_uses, data_uses}
 use Rattle.exo_effects.specs.Uses.{argument_uses, arguments_uses, block_uses, step_uses}
 use Rattle.exo_effects.specs.Uses.{params_of, modes_of, at_hole, uses_in, uses_at}
@@ -397,9 +397,9 @@ module _ (fields : ℕ → Option Kind) (memories : ℕ) (callees : ℕ → Opti
           let first = scope_of [] p.params in
           let parts = with_params p.params no_parts in
           let piece =
-              piece_in o.around o.piece first (λ x. x) parts 32 (ap (keeps first (λ x. x)) there ∙ good.body)
-              (params_fit fields memories callees p.params [] no_parts good.params (λ x. tt))
-              (let same = ap levels there in omega (arith, deep))
+          piece_in o.around o.piece first (λ x. x) parts 32 (ap (keeps first (λ x. x)) there ∙ good.body)
+          (params_fit fields memories callees p.params [] no_parts good.params (λ x. tt))
+          (let same = ap levels there in omega (arith, deep))
           in
           let few = piece.deep in
           block_small (words_of u p) (params_of u) (modes_of u) 64 (at_hole u p o)

@@ -150,26 +150,26 @@ module _ (n : ℕ) where
         difference_past (normal at b) (normal at a) (normal_past at past b p.1) (normal_past at past a p.0)
 
     module _
-      (flags : Flags)
-      (variable : (x : ℕ) → x < n → past_formula (flags.variable x) ≤ n)
-      (field : (f : ℕ) → past_formula (flags.field f) ≤ n)
+        (flags : Flags)
+        (variable : (x : ℕ) → x < n → past_formula (flags.variable x) ≤ n)
+        (field : (f : ℕ) → past_formula (flags.field f) ≤ n)
       where
-      pub formula_past : (c : Condition) → is_affine_condition (names_below n) c ≡ true → past_formula (formula at flags c) ≤ n
-      formula_past True h = omega arith
-      formula_past False h = omega arith
-      formula_past (Flag x) h = variable x (lt_from x n h)
-      formula_past (FieldFlag f) h = field f
-      formula_past (Lt a b) h = other_past a b h
-      formula_past (Le a b) h = other_past a b h
-      formula_past (Gt a b) h = sides_past a b h
-      formula_past (Ge a b) h = sides_past a b h
-      formula_past (Eq a b) h = sides_past a b h
-      formula_past (And c d) h =
-          let p = both_true (allowed c) (allowed d) h in
-          max_within (past_formula (formula at flags c)) (past_formula (formula at flags d)) n (formula_past c p.0) (formula_past d p.1)
-      formula_past (Or c d) h =
-          let p = both_true (allowed c) (allowed d) h in
-          max_within (past_formula (formula at flags c)) (past_formula (formula at flags d)) n (formula_past c p.0) (formula_past d p.1)
+        pub formula_past : (c : Condition) → is_affine_condition (names_below n) c ≡ true → past_formula (formula at flags c) ≤ n
+        formula_past True h = omega arith
+        formula_past False h = omega arith
+        formula_past (Flag x) h = variable x (lt_from x n h)
+        formula_past (FieldFlag f) h = field f
+        formula_past (Lt a b) h = other_past a b h
+        formula_past (Le a b) h = other_past a b h
+        formula_past (Gt a b) h = sides_past a b h
+        formula_past (Ge a b) h = sides_past a b h
+        formula_past (Eq a b) h = sides_past a b h
+        formula_past (And c d) h =
+            let p = both_true (allowed c) (allowed d) h in
+            max_within (past_formula (formula at flags c)) (past_formula (formula at flags d)) n (formula_past c p.0) (formula_past d p.1)
+        formula_past (Or c d) h =
+            let p = both_true (allowed c) (allowed d) h in
+            max_within (past_formula (formula at flags c)) (past_formula (formula at flags d)) n (formula_past c p.0) (formula_past d p.1)
 
   -- ---- over variables alone
 
