@@ -1,6 +1,6 @@
 -- Closed lines.
 use Rattle.std.proofs.Common.{◌≡◌, List, ℕ, [], ◌∷◌, true, false, refl, ap}
-use Rattle.std.specs.Prelude.{codes, Some, None}
+use Rattle.std.specs.Prelude.{codes, Option, Some, None}
 use Rattle.std.specs.Str.{bytes_eq}
 use Rattle.text_lexer.specs.declared.token.Literal.TheVariants.{Value}
 use Rattle.text_expressions.specs.Expression.{Tree, number, truth, control}
@@ -11,27 +11,46 @@ use Rattle.cursor_patterns.specs.Patterns.{Loop, Read}
 use Rattle.schedule_patterns.specs.Instance.{TextInstance}
 use Rattle.schedule_text.specs.Tree as tree
 use Rattle.schedule_text.specs.declared.source.Direction.TheVariants as way
-use Rattle.schedule_calls.specs.Requests.{Operation, Here, Tail, Guard, CutAndGuard}
+use Rattle.exo_tree.specs.Places.{Branch, Main, Else}
+use Rattle.schedule_calls.specs.Requests.{Asked, Operation, Here, Tail, Guard, CutAndGuard}
 use Rattle.schedule_calls.specs.Requests.{Perfect, Division}
-use Rattle.schedule_calls.specs.Readings.{AsksControl, AsksCondition, under, here}
-use Rattle.schedule_calls.specs.Readings.{divide_loop, cut_loop, unroll_loop, specialize}
+use Rattle.schedule_calls.specs.Readings.{AsksOnlyCursor, AsksControl, AsksCondition, under, here}
+use Rattle.schedule_calls.specs.Readings.{divide_loop, cut_loop, reorder_loops, fission, fuse}
+use Rattle.schedule_calls.specs.Readings.{unroll_loop, remove_loop, specialize}
+use Rattle.schedule_calls.specs.Readings.{eliminate_dead_code, reorder_stmts, is_unknown}
 use Rattle.schedule_calls.specs.Readings.{AsksOperation, commute_expr, rename, delete_pass}
 use Rattle.schedule_calls.specs.Readings.{Asks, apply, search, moved, emit}
-use Rattle.schedule_calls.specs.Keys.{tail_in}
+use Rattle.schedule_calls.specs.Keys.{tail_in, keep_in}
+use Rattle.schedule_calls.specs.Operators.{cursor_name}
+use Rattle.schedule_calls.specs.declared.operator.AtCursor.{AtCursor}
+use Rattle.schedule_calls.specs.declared.operator.AtCursor.TheVariants as op
 use Rattle.schedule_calls.specs.Instance.{on_p, held_c, at_c, text, divide_line, asks_divided}
-use Rattle.schedule_calls.specs.Instance.{on_c, tail_key, perfect_key}
+use Rattle.schedule_calls.specs.Instance.{on_c, tail_key, perfect_key, keep_key, eliminate_line}
+use Rattle.schedule_calls.specs.Instance.{asks_eliminated, line_of}
 use Rattle.schedule_calls.specs.Instance.{AsksNothing, LinesInstance}
 use Rattle.schedule_calls.proofs.Closed.{five, yes}
 use Rattle.schedule_calls.proofs.Strings.{no_control, no_condition}
+use Rattle.schedule_calls.proofs.AtCursors.{asks_at, none_at}
+use Rattle.schedule_calls.proofs.Eliminations.{no_eliminate_key}
 use Rattle.schedule_calls.proofs.Loops.{no_divide, no_cut_value, no_specialize_condition}
 use Rattle.schedule_calls.proofs.Lines.{no_apply}
+
+none_behind : (args : List tree.Argument) (at : Asked) → args ≡ [] → AsksOnlyCursor args at → ⊥
+none_behind [] at is h = h
+none_behind (a ∷ more) at is h = cc (is)
 
 only_delete : (name : List ℕ) (args : List tree.Argument) (o : Operation)
     → AsksOperation name args o → args ≡ [] → name ≡ codes "delete_pass"
 only_delete _ _ _ (divide_loop a by names keys at d h k) is = absurd (cc (is))
 only_delete _ _ _ (cut_loop a b at e h k) is = absurd (cc (is))
-only_delete _ _ _ (unroll_loop a at h) is = absurd (cc (is))
+only_delete _ _ _ (reorder_loops args at h) is = absurd (none_behind args at is h)
+only_delete _ _ _ (fission args at h) is = absurd (none_behind args at is h)
+only_delete _ _ _ (fuse args at h) is = absurd (none_behind args at is h)
+only_delete _ _ _ (unroll_loop args at h) is = absurd (none_behind args at is h)
+only_delete _ _ _ (remove_loop args at h) is = absurd (none_behind args at is h)
 only_delete _ _ _ (specialize a b at c h k) is = absurd (cc (is))
+only_delete _ _ _ (eliminate_dead_code a keys at keep h k) is = absurd (cc (is))
+only_delete _ _ _ (reorder_stmts args at h) is = absurd (none_behind args at is h)
 only_delete _ _ _ (commute_expr a b at x h k) is = absurd (cc (is))
 only_delete _ _ _ (rename a name h) is = absurd (cc (is))
 only_delete _ _ _ delete_pass is = refl
@@ -60,6 +79,40 @@ divides_twice = record {
       no_apply (codes "q") (codes "divide_loop") _
       (no_divide _ _ _ (tail_key ∷ tail_key ∷ [])
       (λ (d : Division) k. let e : None ≡ Some d.tail = k.tail in cc (e)));
+}
+
+-- ---- operators that take a cursor and nothing more
+
+there : (o : AtCursor) (args : List tree.Argument) → is_unknown (line_of (cursor_name o) args) ≡ false
+there op.ReorderLoops args = refl
+there op.Fission args = refl
+there op.Fuse args = refl
+there op.UnrollLoop args = refl
+there op.RemoveLoop args = refl
+there op.ReorderStmts args = refl
+
+asks_nothing_at : (o : AtCursor) (args : List tree.Argument)
+    → ((at : Asked) → AsksOnlyCursor args at → ⊥) → AsksNothing (line_of (cursor_name o) args)
+asks_nothing_at o args never = record {
+  known = there o args;
+  none = no_apply (codes "q") (cursor_name o) (on_p args) (none_at o args never);
+}
+
+-- ---- the branch that is kept
+
+eliminates : (keys : List tree.Argument) (keep : Option Branch) → keep_in keys ≡ Some keep
+    → Asks (eliminate_line keys) (asks_eliminated keep)
+eliminates keys keep is =
+    apply (codes "q") (codes "eliminate_dead_code") (codes "p") (on_p (held_c ∷ keys)) _ refl
+    (eliminate_dead_code held_c keys at_c keep (under (codes "c") []) is)
+
+eliminates_nothing : (keys : List tree.Argument) → keep_in keys ≡ None
+    → AsksNothing (eliminate_line keys)
+eliminates_nothing keys none = record {
+  known = refl;
+  none =
+      no_apply (codes "q") (codes "eliminate_dead_code") (on_p (held_c ∷ keys))
+      (no_eliminate_key held_c keys none);
 }
 
 -- ---- expressions
@@ -104,7 +157,7 @@ instance patterns texts one = record {
       (record { written = five; form = refl }));
   unrolled =
       apply (codes "q") (codes "unroll_loop") (codes "p") (on_p (text (codes "i #1") ∷ [])) _ refl
-      (unroll_loop (text (codes "i #1"))
+      (unroll_loop (text (codes "i #1") ∷ [])
       (record { source = Here (Loop (Some (codes "i"))) 1; moves = [] })
       (here (codes "i #1" ∷ []) (Loop (Some (codes "i"))) 1 patterns.loop));
   specialized =
@@ -113,6 +166,12 @@ instance patterns texts one = record {
       refl
       (specialize held_c (text (codes "True")) at_c (truth true) (under (codes "c") [])
       (record { written = yes; form = refl }));
+  at_cursor = λ o.
+      apply (codes "q") (cursor_name o) (codes "p") (on_p (held_c ∷ [])) _ refl
+      (asks_at o (held_c ∷ []) at_c (under (codes "c") []));
+  eliminated = eliminates [] None refl;
+  body_kept = eliminates (keep_key (codes "body") ∷ []) (Some Main) refl;
+  else_kept = eliminates (keep_key (codes "orelse") ∷ []) (Some Else) refl;
   commuted =
       apply (codes "q") (codes "commute_expr") (codes "p") (on_p (held_c ∷ text (codes " _ ") ∷ []))
       _ refl
@@ -128,6 +187,12 @@ instance patterns texts one = record {
     none = no_apply (codes "q") (codes "rename") (on_p []) no_bare;
   };
   twice = divides_twice;
+  kept_twice = eliminates_nothing (keep_key (codes "body") ∷ keep_key (codes "body") ∷ []) refl;
+  no_branch = eliminates_nothing (keep_key (codes "else") ∷ []) refl;
+  no_keep = eliminates_nothing (tail_key ∷ []) refl;
+  no_key = eliminates_nothing (text (codes "body") ∷ []) refl;
+  no_cursor = λ o. asks_nothing_at o [] (λ at h. h);
+  two_cursors = λ o. asks_nothing_at o (held_c ∷ held_c ∷ []) (λ at h. h);
   no_expression =
       cuts_nothing (codes "i j")
       (λ e k. one.no_error (line_tokens_of (codes "i j")) (line_places_of (codes "i j")) e

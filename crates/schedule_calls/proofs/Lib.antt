@@ -3,8 +3,10 @@ mod Answered
 mod Strings
 mod Cursors
 mod Operations
+mod AtCursors
 mod Loops
 mod Divisions
+mod Eliminations
 mod Lines
 mod Closed
 mod Instance

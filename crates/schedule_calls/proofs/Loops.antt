@@ -6,10 +6,10 @@ use Rattle.schedule_text.specs.Tree as tree
 use Rattle.schedule_text.specs.Views.{plain_argument}
 use Rattle.schedule_text.specs.declared.source.ArgText.{ArgText}
 use Rattle.schedule_calls.specs.Requests.{Asked, Division, Operation}
-use Rattle.schedule_calls.specs.Requests.{DivideLoop, CutLoop, UnrollLoop, Specialize}
+use Rattle.schedule_calls.specs.Requests.{DivideLoop, CutLoop, Specialize}
 use Rattle.schedule_calls.specs.Readings.{AsksCursor, AsksDivision, AsksControl, AsksCondition}
 use Rattle.schedule_calls.specs.Readings.{AsksOperation}
-use Rattle.schedule_calls.specs.Readings.{divide_loop, cut_loop, unroll_loop, specialize}
+use Rattle.schedule_calls.specs.Readings.{divide_loop, cut_loop, specialize}
 
 -- ---- divide_loop
 
@@ -81,26 +81,6 @@ pub no_cut_at_in : (args : List ArgText) (a b : ArgText) → args ≡ a ∷ b �
 no_cut_at_in args a b is never o asks =
     no_cut_at (plain_argument a) (plain_argument b) never o
     (subst (λ l. AsksOperation (codes "cut_loop") (map plain_argument l) o) is asks)
-
--- ---- unroll_loop
-
-pub asks_unroll : (args : List ArgText) (a : ArgText) (at : Asked) → args ≡ a ∷ []
-    → AsksCursor (plain_argument a) at
-    → AsksOperation (codes "unroll_loop") (map plain_argument args) (UnrollLoop at)
-asks_unroll args a at is h =
-    subst (λ l. AsksOperation (codes "unroll_loop") (map plain_argument l) (UnrollLoop at)) (sym is)
-    (unroll_loop (plain_argument a) at h)
-
-no_unroll : (a : tree.Argument) → ((at : Asked) → AsksCursor a at → ⊥) → (o : Operation)
-    → AsksOperation (codes "unroll_loop") (a ∷ []) o → ⊥
-no_unroll a never _ (unroll_loop _ at h) = never at h
-
-pub no_unroll_in : (args : List ArgText) (a : ArgText) → args ≡ a ∷ []
-    → ((at : Asked) → AsksCursor (plain_argument a) at → ⊥) → (o : Operation)
-    → AsksOperation (codes "unroll_loop") (map plain_argument args) o → ⊥
-no_unroll_in args a is never o asks =
-    no_unroll (plain_argument a) never o
-    (subst (λ l. AsksOperation (codes "unroll_loop") (map plain_argument l) o) is asks)
 
 -- ---- specialize
 

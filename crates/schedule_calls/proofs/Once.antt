@@ -10,12 +10,16 @@ use Rattle.schedule_patterns.specs.Grammar.{statement, meant, expression, form_m
 use Rattle.schedule_patterns.specs.Texts.{PatternsAreOne}
 use Rattle.cursor_patterns.specs.Patterns.{Pattern, ExprForm, ExprPattern}
 use Rattle.schedule_calls.specs.Requests.{Asked, Found, Here, Operation, CommuteExpr, Rename}
-use Rattle.schedule_calls.specs.Requests.{Tail, Division, DivideLoop, CutLoop, UnrollLoop}
-use Rattle.schedule_calls.specs.Requests.{Specialize, Request, Apply, Search}
+use Rattle.schedule_calls.specs.Requests.{Tail, Division, DivideLoop, CutLoop, ReorderLoops}
+use Rattle.schedule_calls.specs.Requests.{Fission, Fuse, UnrollLoop, RemoveLoop, Specialize}
+use Rattle.schedule_calls.specs.Requests.{EliminateDeadCode, ReorderStmts, Request, Apply, Search}
 use Rattle.schedule_calls.specs.Readings.{moves, IsPatternOf, IsExprPatternOf, IsWord}
-use Rattle.schedule_calls.specs.Readings.{AsksCursor, under, found, here, AsksExpression, AsksName}
+use Rattle.schedule_calls.specs.Readings.{AsksCursor, under, found, here, AsksOnlyCursor}
+use Rattle.schedule_calls.specs.Readings.{AsksExpression, AsksName}
 use Rattle.schedule_calls.specs.Readings.{AsksNames, AsksControl, AsksCondition, AsksDivision}
-use Rattle.schedule_calls.specs.Readings.{divide_loop, cut_loop, unroll_loop, specialize}
+use Rattle.schedule_calls.specs.Readings.{divide_loop, cut_loop, reorder_loops, fission, fuse}
+use Rattle.schedule_calls.specs.Readings.{unroll_loop, remove_loop, specialize}
+use Rattle.schedule_calls.specs.Readings.{eliminate_dead_code, reorder_stmts}
 use Rattle.schedule_calls.specs.Readings.{AsksOperation, commute_expr, rename, delete_pass, Asks}
 use Rattle.schedule_calls.specs.Readings.{apply, search, moved, emit, is_operator, is_unknown}
 use Rattle.schedule_calls.specs.Answers.{LinesAskOnce}
@@ -51,6 +55,12 @@ one_cursor law _ _ _ (found f p m h) (found _ q n k) =
 one_cursor law _ _ _ (here s p m h) (here _ q n k) =
     let one = one_pattern law s p q m n h k in
     ap₂ (λ r l. record { source = Here r l; moves = [] }) one.0 one.1
+
+one_only_cursor : PatternsAreOne statement meant → (args : List tree.Argument) (x y : Asked)
+    → AsksOnlyCursor args x → AsksOnlyCursor args y → x ≡ y
+one_only_cursor law [] x y h k = absurd h
+one_only_cursor law (a ∷ []) x y h k = one_cursor law a x y h k
+one_only_cursor law (a ∷ b ∷ more) x y h k = absurd h
 
 one_part : PatternsAreOne expression form_meant → (a : tree.Argument) (x y : ExprPattern) → AsksExpression a x → AsksExpression a y
     → x ≡ y
@@ -124,10 +134,23 @@ one_operation one _ _ _ _ (divide_loop a by names keys at d h k)
     ap₂ DivideLoop (one_cursor one.pattern a at to h i) (one_division by names keys d e k l)
 one_operation one _ _ _ _ (cut_loop a b at e h k) (cut_loop _ _ to f i l) =
     ap₂ CutLoop (one_cursor one.pattern a at to h i) (one_control one.text b e f k l)
-one_operation one _ _ _ _ (unroll_loop a at h) (unroll_loop _ to i) =
-    ap UnrollLoop (one_cursor one.pattern a at to h i)
+one_operation one _ _ _ _ (reorder_loops args at h) (reorder_loops _ to i) =
+    ap ReorderLoops (one_only_cursor one.pattern args at to h i)
+one_operation one _ _ _ _ (fission args at h) (fission _ to i) =
+    ap Fission (one_only_cursor one.pattern args at to h i)
+one_operation one _ _ _ _ (fuse args at h) (fuse _ to i) =
+    ap Fuse (one_only_cursor one.pattern args at to h i)
+one_operation one _ _ _ _ (unroll_loop args at h) (unroll_loop _ to i) =
+    ap UnrollLoop (one_only_cursor one.pattern args at to h i)
+one_operation one _ _ _ _ (remove_loop args at h) (remove_loop _ to i) =
+    ap RemoveLoop (one_only_cursor one.pattern args at to h i)
 one_operation one _ _ _ _ (specialize a b at e h k) (specialize _ _ to f i l) =
     ap₂ Specialize (one_cursor one.pattern a at to h i) (one_condition one.text b e f k l)
+one_operation one _ _ _ _ (eliminate_dead_code a keys at keep h k)
+    (eliminate_dead_code _ _ to other i l) =
+    ap₂ EliminateDeadCode (one_cursor one.pattern a at to h i) (same_some keep other (sym k ∙ l))
+one_operation one _ _ _ _ (reorder_stmts args at h) (reorder_stmts _ to i) =
+    ap ReorderStmts (one_only_cursor one.pattern args at to h i)
 one_operation one _ _ _ _ (commute_expr a b at p h k) (commute_expr _ _ to q i l) =
     ap₂ CommuteExpr (one_cursor one.pattern a at to h i) (one_part one.part b p q k l)
 one_operation one _ _ _ _ (rename a n h) (rename _ m k) =
@@ -138,8 +161,14 @@ known : (name : List ℕ) (args : List tree.Argument) (o : Operation) → AsksOp
     → is_operator name ≡ true
 known _ _ _ (divide_loop a by names keys at d h k) = refl
 known _ _ _ (cut_loop a b at e h k) = refl
-known _ _ _ (unroll_loop a at h) = refl
+known _ _ _ (reorder_loops args at h) = refl
+known _ _ _ (fission args at h) = refl
+known _ _ _ (fuse args at h) = refl
+known _ _ _ (unroll_loop args at h) = refl
+known _ _ _ (remove_loop args at h) = refl
 known _ _ _ (specialize a b at e h k) = refl
+known _ _ _ (eliminate_dead_code a keys at keep h k) = refl
+known _ _ _ (reorder_stmts args at h) = refl
 known _ _ _ (commute_expr a b at x h k) = refl
 known _ _ _ (rename a n h) = refl
 known _ _ _ delete_pass = refl

@@ -1,7 +1,7 @@
 -- Arguments of operators that ask for something, and some that ask for nothing.
 use Rattle.std.proofs.Common.{◌≡◌, ℕ, List, [], ◌∷◌, Bool, true, false, Option, Some, None}
 use Rattle.std.proofs.Common.{refl, sym, ap, subst, ◌∙◌, length, map, get_or, ap₂, arith}
-use Rattle.std.specs.Prelude.{codes, if◌then◌else◌}
+use Rattle.std.specs.Prelude.{codes, not, if◌then◌else◌}
 use Rattle.std.specs.Str.{bytes_eq}
 use Rattle.std.proofs.lemmas.Slice.Eq.{bytes_eq-Decides}
 use Rattle.std.proofs.lemmas.List.{nil_from_length}
@@ -10,10 +10,13 @@ use Rattle.schedule_text.specs.Tree as tree
 use Rattle.schedule_text.specs.Views.{plain_argument}
 use Rattle.schedule_text.specs.declared.source.ArgText.{ArgText}
 use Rattle.schedule_calls.specs.Requests.{Asked, Operation, CommuteExpr, Rename, DeletePass}
-use Rattle.schedule_calls.specs.Operators.{operator_of, name_of}
+use Rattle.schedule_calls.specs.Operators.{operator_of, name_of, at_cursor_of, cursor_name}
+use Rattle.schedule_calls.specs.Operators.{other_of, at_or}
+use Rattle.schedule_calls.specs.declared.operator.AtCursor.{AtCursor}
+use Rattle.schedule_calls.specs.declared.operator.AtCursor.TheVariants as at_op
 use Rattle.schedule_calls.specs.declared.operator.Operator.{Operator}
 use Rattle.schedule_calls.specs.declared.operator.Operator.TheVariants as op
-use Rattle.schedule_calls.specs.Readings.{AsksCursor, AsksExpression, AsksName}
+use Rattle.schedule_calls.specs.Readings.{AsksCursor, AsksExpression, AsksName, is_operator}
 use Rattle.schedule_calls.specs.Readings.{AsksOperation, commute_expr, rename, delete_pass}
 
 pub no_commute_at : (a b : tree.Argument) → ((at : Asked) → AsksCursor a at → ⊥) → (o : Operation)
@@ -72,69 +75,80 @@ two_items (x ∷ y ∷ z ∷ l) a b is p q = let e : ⊥ = grind (arith, is) in 
 
 -- ---- names
 
-one_test : (t : Bool) (name text : List ℕ) (p o : Operator) (rest : Option Operator)
-    → bytes_eq name text ≡ t → text ≡ name_of p → (rest ≡ Some o → name ≡ name_of o)
-    → (if t then Some p else rest) ≡ Some o → name ≡ name_of o
-one_test true name text p o rest equal known more is =
-    let same : p ≡ o = cc (is) in (bytes_eq-Decides name text).0 equal ∙ known ∙ ap name_of same
-one_test false name text p o rest equal known more is = more is
+module _ {O : Type 0} (named_by : O → List ℕ) (name : List ℕ) (o : O) where
+  by_test : (t : Bool) (text : List ℕ) (p : O) (rest : Option O) → bytes_eq name text ≡ t
+      → text ≡ named_by p → (rest ≡ Some o → name ≡ named_by o)
+      → (if t then Some p else rest) ≡ Some o → name ≡ named_by o
+  by_test true text p rest equal known more is =
+      let same : p ≡ o = cc (is) in (bytes_eq-Decides name text).0 equal ∙ known ∙ ap named_by same
+  by_test false text p rest equal known more is = more is
+
+  one_test : (text : List ℕ) (p : O) (rest : Option O) → text ≡ named_by p
+      → (rest ≡ Some o → name ≡ named_by o)
+      → (if bytes_eq name text then Some p else rest) ≡ Some o → name ≡ named_by o
+  one_test text p rest = by_test (bytes_eq name text) text p rest refl
+
+  none_left : None ≡ Some o → name ≡ named_by o
+  none_left is = cc (is)
+
+at_named : (name : List ℕ) (o : AtCursor) → at_cursor_of name ≡ Some o → name ≡ cursor_name o
+at_named name o =
+    test (codes "reorder_loops") at_op.ReorderLoops _ refl
+    (test (codes "fission") at_op.Fission _ refl
+    (test (codes "fuse") at_op.Fuse _ refl
+    (test (codes "unroll_loop") at_op.UnrollLoop _ refl
+    (test (codes "remove_loop") at_op.RemoveLoop _ refl
+    (test (codes "reorder_stmts") at_op.ReorderStmts _ refl (none_left cursor_name name o))))))
+  where
+    test : (text : List ℕ) (p : AtCursor) (rest : Option AtCursor) → text ≡ cursor_name p
+        → (rest ≡ Some o → name ≡ cursor_name o)
+        → (if bytes_eq name text then Some p else rest) ≡ Some o → name ≡ cursor_name o
+    test = one_test cursor_name name o
+
+other_named : (name : List ℕ) (o : Operator) → other_of name ≡ Some o → name ≡ name_of o
+other_named name o =
+    test (codes "divide_loop") op.DivideLoop _ refl
+    (test (codes "cut_loop") op.CutLoop _ refl
+    (test (codes "specialize") op.Specialize _ refl
+    (test (codes "eliminate_dead_code") op.EliminateDeadCode _ refl
+    (test (codes "commute_expr") op.CommuteExpr _ refl
+    (test (codes "rename") op.Rename _ refl
+    (test (codes "delete_pass") op.DeletePass _ refl (none_left name_of name o)))))))
+  where
+    test : (text : List ℕ) (p : Operator) (rest : Option Operator) → text ≡ name_of p
+        → (rest ≡ Some o → name ≡ name_of o)
+        → (if bytes_eq name text then Some p else rest) ≡ Some o → name ≡ name_of o
+    test = one_test name_of name o
 
 -- an operator that a name finds has that name
 pub named : (name : List ℕ) (o : Operator) → operator_of name ≡ Some o → name ≡ name_of o
-named name o is = in_first is
+named name o = either (at_cursor_of name) refl
   where
-    is_name : (text : List ℕ) → Bool
-    is_name text = bytes_eq name text
+    same : (p : Operator) → Some p ≡ Some o → p ≡ o
+    same p h = cc (h)
 
-    seventh : Option Operator
-    seventh = if is_name (codes "delete_pass") then Some op.DeletePass else None
+    either : (found : Option AtCursor) → at_cursor_of name ≡ found
+        → at_or found (other_of name) ≡ Some o → name ≡ name_of o
+    either None at is = other_named name o is
+    either (Some a) at is = at_named name a at ∙ ap name_of (same (op.At a) is)
 
-    sixth : Option Operator
-    sixth = if is_name (codes "rename") then Some op.Rename else seventh
+there_at : (o : AtCursor) → not (is_operator (cursor_name o)) ≡ false
+there_at at_op.ReorderLoops = refl
+there_at at_op.Fission = refl
+there_at at_op.Fuse = refl
+there_at at_op.UnrollLoop = refl
+there_at at_op.RemoveLoop = refl
+there_at at_op.ReorderStmts = refl
 
-    fifth : Option Operator
-    fifth = if is_name (codes "commute_expr") then Some op.CommuteExpr else sixth
+there : (o : Operator) → not (is_operator (name_of o)) ≡ false
+there (op.At o) = there_at o
+there op.DivideLoop = refl
+there op.CutLoop = refl
+there op.Specialize = refl
+there op.EliminateDeadCode = refl
+there op.CommuteExpr = refl
+there op.Rename = refl
+there op.DeletePass = refl
 
-    fourth : Option Operator
-    fourth = if is_name (codes "specialize") then Some op.Specialize else fifth
-
-    third : Option Operator
-    third = if is_name (codes "unroll_loop") then Some op.UnrollLoop else fourth
-
-    second : Option Operator
-    second = if is_name (codes "cut_loop") then Some op.CutLoop else third
-
-    in_seventh : seventh ≡ Some o → name ≡ name_of o
-    in_seventh =
-        one_test (is_name (codes "delete_pass")) name (codes "delete_pass") op.DeletePass o None
-        refl refl (λ last. cc (last))
-
-    in_sixth : sixth ≡ Some o → name ≡ name_of o
-    in_sixth =
-        one_test (is_name (codes "rename")) name (codes "rename") op.Rename o seventh
-        refl refl in_seventh
-
-    in_fifth : fifth ≡ Some o → name ≡ name_of o
-    in_fifth =
-        one_test (is_name (codes "commute_expr")) name (codes "commute_expr") op.CommuteExpr o sixth
-        refl refl in_sixth
-
-    in_fourth : fourth ≡ Some o → name ≡ name_of o
-    in_fourth =
-        one_test (is_name (codes "specialize")) name (codes "specialize") op.Specialize o fifth
-        refl refl in_fifth
-
-    in_third : third ≡ Some o → name ≡ name_of o
-    in_third =
-        one_test (is_name (codes "unroll_loop")) name (codes "unroll_loop") op.UnrollLoop o fourth
-        refl refl in_fourth
-
-    in_second : second ≡ Some o → name ≡ name_of o
-    in_second =
-        one_test (is_name (codes "cut_loop")) name (codes "cut_loop") op.CutLoop o third
-        refl refl in_third
-
-    in_first : operator_of name ≡ Some o → name ≡ name_of o
-    in_first =
-        one_test (is_name (codes "divide_loop")) name (codes "divide_loop") op.DivideLoop o second
-        refl refl in_second
+pub is_known : (name : List ℕ) (o : Operator) → name ≡ name_of o → not (is_operator name) ≡ false
+is_known name o is = ap (λ n. not (is_operator n)) is ∙ there o

@@ -1,5 +1,6 @@
 -- Lines of which the laws speak: one of each form, and some that ask for nothing.
-use Rattle.std.specs.Prelude.{◌≡◌, ℕ, true, false, List, [], ◌∷◌, Some, None, codes}
+use Rattle.std.specs.Prelude.{◌≡◌, ℕ, true, false, List, [], ◌∷◌, Option, Some, None, codes}
+use Rattle.exo_tree.specs.Places.{Branch, Main, Else}
 use Rattle.text_lexer.specs.declared.token.Literal.TheVariants.{Value}
 use Rattle.text_expressions.specs.Expression.{number, truth}
 use Rattle.cursor_patterns.specs.Patterns.{Loop, Read}
@@ -7,10 +8,13 @@ use Rattle.schedule_text.specs.Tree as tree
 use Rattle.schedule_text.specs.declared.source.Direction.TheVariants as way
 use Rattle.schedule_calls.specs.Requests.{Parent, Item, Asked, Under, Here, Operation}
 use Rattle.schedule_calls.specs.Requests.{DivideLoop, Tail, Guard, CutAndGuard, Perfect}
-use Rattle.schedule_calls.specs.Requests.{CutLoop, UnrollLoop, Specialize}
+use Rattle.schedule_calls.specs.Requests.{CutLoop, UnrollLoop, Specialize, EliminateDeadCode}
 use Rattle.schedule_calls.specs.Requests.{CommuteExpr, Rename, DeletePass}
 use Rattle.schedule_calls.specs.Requests.{Request, Apply, Search, Moved, Emit}
 use Rattle.schedule_calls.specs.Readings.{Asks, is_unknown}
+use Rattle.schedule_calls.specs.Operators.{cursor_name}
+use Rattle.schedule_calls.specs.PlainRequest.{operation_at}
+use Rattle.schedule_calls.specs.declared.operator.AtCursor.{AtCursor}
 
 -- `p` and arguments behind it
 abbrev pub on_p : List tree.Argument → tree.Arguments
@@ -55,6 +59,17 @@ tail_key = tree.key (codes "tail") (tree.text (codes "cut_and_guard" ∷ []))
 abbrev pub perfect_key : tree.KeyValue → tree.Argument
 perfect_key value = tree.key (codes "perfect") value
 
+-- `q = eliminate_dead_code(p, c, KEYS)`
+abbrev pub eliminate_line : List tree.Argument → tree.Line
+eliminate_line keys = line_of (codes "eliminate_dead_code") (held_c ∷ keys)
+
+abbrev pub asks_eliminated : Option Branch → Request
+asks_eliminated keep = asks (EliminateDeadCode at_c keep)
+
+-- `keep='VALUE'`
+abbrev pub keep_key : List ℕ → tree.Argument
+keep_key value = tree.key (codes "keep") (tree.text (value ∷ []))
+
 -- `q = OPERATOR(p, c, STRING)`
 abbrev pub on_c : List ℕ → List ℕ → tree.Line
 on_c operator s = line_of operator (held_c ∷ text s ∷ [])
@@ -97,6 +112,14 @@ pub record LinesInstance : Type 0 where
   -- `q = specialize(p, c, 'True')`
   pub specialized :
       Asks (on_c (codes "specialize") (codes "True")) (asks (Specialize at_c (truth true)))
+  -- `q = reorder_loops(p, c)`, and all operators that take a cursor and nothing more
+  pub at_cursor :
+      (o : AtCursor) → Asks (line_of (cursor_name o) (held_c ∷ [])) (asks (operation_at o at_c))
+  -- `q = eliminate_dead_code(p, c)`, and with its key
+  pub eliminated : Asks (eliminate_line []) (asks_eliminated None)
+  pub body_kept : Asks (eliminate_line (keep_key (codes "body") ∷ [])) (asks_eliminated (Some Main))
+  pub else_kept :
+      Asks (eliminate_line (keep_key (codes "orelse") ∷ [])) (asks_eliminated (Some Else))
   -- `q = commute_expr(p, c, ' _ ')`
   pub commuted :
       Asks (on_c (codes "commute_expr") (codes " _ "))
@@ -111,6 +134,15 @@ pub record LinesInstance : Type 0 where
   pub bare : AsksNothing (line_of (codes "rename") [])
   -- a key stands once
   pub twice : AsksNothing (divide_line (tail_key ∷ tail_key ∷ []))
+  pub kept_twice :
+      AsksNothing (eliminate_line (keep_key (codes "body") ∷ keep_key (codes "body") ∷ []))
+  -- neither branch, no key of this operator, and no key
+  pub no_branch : AsksNothing (eliminate_line (keep_key (codes "else") ∷ []))
+  pub no_keep : AsksNothing (eliminate_line (tail_key ∷ []))
+  pub no_key : AsksNothing (eliminate_line (text (codes "body") ∷ []))
+  -- `q = reorder_loops(p)` and `q = reorder_loops(p, c, c)`
+  pub no_cursor : (o : AtCursor) → AsksNothing (line_of (cursor_name o) [])
+  pub two_cursors : (o : AtCursor) → AsksNothing (line_of (cursor_name o) (held_c ∷ held_c ∷ []))
   -- two names are no expression, a truth value is no control value, and a number no condition
   pub no_expression : AsksNothing (on_c (codes "cut_loop") (codes "i j"))
   pub no_control : AsksNothing (on_c (codes "cut_loop") (codes "True"))

@@ -1,11 +1,14 @@
--- Arguments with keys: what becomes of the turns that fill no group.
+-- Arguments with keys: what becomes of the turns that fill no group, and which branch is kept.
 use Rattle.std.specs.Prelude.{ℕ, Bool, true, false, if◌then◌else◌, List, [], ◌∷◌}
 use Rattle.std.specs.Prelude.{Option, Some, None, option_map, option_and_then, codes}
 use Rattle.std.specs.Option.{is_some}
 use Rattle.std.specs.Str.{bytes_eq}
+use Rattle.exo_tree.specs.Places.{Branch, Main, Else}
 use Rattle.exo_reader.specs.Items.{joined}
 use Rattle.schedule_text.specs.Tree as tree
 use Rattle.schedule_calls.specs.Requests.{Tail, Guard, Cut, CutAndGuard, Perfect}
+
+-- ---- turns that fill no group
 
 -- `tail` and `perfect`, where they are given
 pub record TailKeys : Type 0 where
@@ -71,3 +74,29 @@ tail_meant k = perfect_or k.perfect (or_guard k.tail)
 -- the tail that arguments with keys ask for; None where they are refused
 abbrev pub tail_in : List tree.Argument → Option Tail
 tail_in args = option_map tail_meant (keys_behind (record { tail = None; perfect = None }) args)
+
+-- ---- the branch that is kept
+
+abbrev pub branch_named : List ℕ → Option Branch
+branch_named s =
+    if bytes_eq s (codes "body") then Some Main
+    else (if bytes_eq s (codes "orelse") then Some Else
+    else None)
+
+abbrev pub branch_of_value : tree.KeyValue → Option Branch
+branch_of_value (tree.text pieces) = branch_named (joined pieces)
+branch_of_value tree.yes = None
+branch_of_value tree.no = None
+
+abbrev pub branch_of_key : List ℕ → tree.KeyValue → Option Branch
+branch_of_key name value = if bytes_eq name (codes "keep") then branch_of_value value else None
+
+abbrev pub branch_of_argument : tree.Argument → Option Branch
+branch_of_argument (tree.key name value) = branch_of_key name value
+branch_of_argument other = None
+
+-- the branch that arguments with keys ask for, where there is one; None where they are refused
+abbrev pub keep_in : List tree.Argument → Option (Option Branch)
+keep_in [] = Some None
+keep_in (a ∷ []) = option_map Some (branch_of_argument a)
+keep_in (a ∷ b ∷ more) = None

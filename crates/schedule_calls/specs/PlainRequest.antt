@@ -1,5 +1,6 @@
 -- Requests in memory, as plain ones.
 use Rattle.std.specs.Prelude.{ℕ, List, ◌∷◌, map, option_map}
+use Rattle.exo_tree.specs.PlainPlace.{branch_taken}
 use Rattle.text_expressions.specs.Views.{tree_of}
 use Rattle.cursor_patterns.specs.Patterns as patterns
 use Rattle.cursor_patterns.specs.declared.pattern.Pattern.{Pattern}
@@ -10,6 +11,8 @@ use Rattle.schedule_calls.specs.Requests as plain
 use Rattle.schedule_calls.specs.Keys as keys
 use Rattle.schedule_calls.specs.Readings.{move, moves}
 use Rattle.schedule_calls.specs.declared.division.TailKeys.{TailKeys}
+use Rattle.schedule_calls.specs.declared.operator.AtCursor.{AtCursor}
+use Rattle.schedule_calls.specs.declared.operator.AtCursor.TheVariants as at_cursor
 use Rattle.schedule_calls.specs.declared.request.Source.{Source}
 use Rattle.schedule_calls.specs.declared.request.Source.TheVariants as from
 use Rattle.schedule_calls.specs.declared.request.Asked.{Asked}
@@ -53,13 +56,29 @@ abbrev pub plain_operation : Operation → plain.Operation
 plain_operation (operation.DivideLoop at d) =
     plain.DivideLoop (plain_asked at.value) (plain_division d.value)
 plain_operation (operation.CutLoop at e) = plain.CutLoop (plain_asked at.value) (tree_of e.value)
+plain_operation (operation.ReorderLoops at) = plain.ReorderLoops (plain_asked at.value)
+plain_operation (operation.Fission at) = plain.Fission (plain_asked at.value)
+plain_operation (operation.Fuse at) = plain.Fuse (plain_asked at.value)
 plain_operation (operation.UnrollLoop at) = plain.UnrollLoop (plain_asked at.value)
+plain_operation (operation.RemoveLoop at) = plain.RemoveLoop (plain_asked at.value)
 plain_operation (operation.Specialize at c) =
     plain.Specialize (plain_asked at.value) (tree_of c.value)
+plain_operation (operation.EliminateDeadCode at keep) =
+    plain.EliminateDeadCode (plain_asked at.value) (option_map branch_taken keep)
+plain_operation (operation.ReorderStmts at) = plain.ReorderStmts (plain_asked at.value)
 plain_operation (operation.CommuteExpr at x) =
     plain.CommuteExpr (plain_asked at.value) (plain_expr_pattern x)
 plain_operation (operation.Rename name) = plain.Rename name
 plain_operation operation.DeletePass = plain.DeletePass
+
+-- what an operator asks that takes a cursor and nothing more
+abbrev pub operation_at : AtCursor → plain.Asked → plain.Operation
+operation_at at_cursor.ReorderLoops at = plain.ReorderLoops at
+operation_at at_cursor.Fission at = plain.Fission at
+operation_at at_cursor.Fuse at = plain.Fuse at
+operation_at at_cursor.UnrollLoop at = plain.UnrollLoop at
+operation_at at_cursor.RemoveLoop at = plain.RemoveLoop at
+operation_at at_cursor.ReorderStmts at = plain.ReorderStmts at
 
 abbrev pub plain_request : Request → plain.Request
 plain_request (request.Apply bind of o) = plain.Apply bind.now of.now (plain_operation o)

@@ -3,6 +3,7 @@
 use Rattle.std.specs.Prelude.{◌≡◌, ℕ, Bool, true, false, ◌||◌, not, List, [], ◌∷◌}
 use Rattle.std.specs.Prelude.{Option, Some, None, map, codes}
 use Rattle.std.specs.Str.{bytes_eq}
+use Rattle.exo_tree.specs.Places.{Branch}
 use Rattle.text_lexer.specs.declared.token.Literal.{Literal}
 use Rattle.text_lexer.specs.declared.token.Literal.TheVariants.{Value}
 use Rattle.text_phrases.specs.Text.{IsText}
@@ -20,10 +21,11 @@ use Rattle.cursor_patterns.specs.Patterns.{Pattern, ExprPattern}
 use Rattle.schedule_calls.specs.Requests.{Move, Parent, Next, Prev, Body, Before, After, Expand}
 use Rattle.schedule_calls.specs.Requests.{Item}
 use Rattle.schedule_calls.specs.Requests.{Asked, Under, Found, Here, Division, Operation}
-use Rattle.schedule_calls.specs.Requests.{DivideLoop, CutLoop, UnrollLoop, Specialize}
-use Rattle.schedule_calls.specs.Requests.{CommuteExpr, Rename, DeletePass}
+use Rattle.schedule_calls.specs.Requests.{DivideLoop, CutLoop, ReorderLoops, Fission, Fuse}
+use Rattle.schedule_calls.specs.Requests.{UnrollLoop, RemoveLoop, Specialize, EliminateDeadCode}
+use Rattle.schedule_calls.specs.Requests.{ReorderStmts, CommuteExpr, Rename, DeletePass}
 use Rattle.schedule_calls.specs.Requests.{Request, Apply, Search, Moved, Emit}
-use Rattle.schedule_calls.specs.Keys.{tail_in}
+use Rattle.schedule_calls.specs.Keys.{tail_in, keep_in}
 
 -- ---- moves
 
@@ -93,6 +95,12 @@ pub data AsksCursor : tree.Argument → Asked → Type 0 where
       → IsPatternOf pieces p nth
       → AsksCursor (tree.string pieces) (record { source = Here p nth; moves = [] })
 
+-- a cursor and nothing more
+abbrev pub AsksOnlyCursor : List tree.Argument → Asked → Type 0
+AsksOnlyCursor [] at = ⊥
+AsksOnlyCursor (a ∷ []) at = AsksCursor a at
+AsksOnlyCursor (a ∷ b ∷ more) at = ⊥
+
 abbrev pub AsksExpression : tree.Argument → ExprPattern → Type 0
 AsksExpression (tree.string pieces) x = IsExprPatternOf pieces x
 AsksExpression other x = ⊥
@@ -126,7 +134,7 @@ pub record AsksDivision (a b : tree.Argument) (keys : List tree.Argument) (d : D
 
 -- ---- operators
 
--- by its name, with the arguments behind the first
+-- by its name, with the arguments behind the first; `args` is a cursor alone
 pub data AsksOperation : List ℕ → List tree.Argument → Operation → Type 0 where
   divide_loop : (a b c : tree.Argument) (keys : List tree.Argument) (at : Asked) (d : Division)
       → AsksCursor a at
@@ -136,13 +144,33 @@ pub data AsksOperation : List ℕ → List tree.Argument → Operation → Type 
       → AsksCursor a at
       → AsksControl b e
       → AsksOperation (codes "cut_loop") (a ∷ b ∷ []) (CutLoop at e)
-  unroll_loop : (a : tree.Argument) (at : Asked)
-      → AsksCursor a at
-      → AsksOperation (codes "unroll_loop") (a ∷ []) (UnrollLoop at)
+  reorder_loops : (args : List tree.Argument) (at : Asked)
+      → AsksOnlyCursor args at
+      → AsksOperation (codes "reorder_loops") args (ReorderLoops at)
+  fission : (args : List tree.Argument) (at : Asked)
+      → AsksOnlyCursor args at
+      → AsksOperation (codes "fission") args (Fission at)
+  fuse : (args : List tree.Argument) (at : Asked)
+      → AsksOnlyCursor args at
+      → AsksOperation (codes "fuse") args (Fuse at)
+  unroll_loop : (args : List tree.Argument) (at : Asked)
+      → AsksOnlyCursor args at
+      → AsksOperation (codes "unroll_loop") args (UnrollLoop at)
+  remove_loop : (args : List tree.Argument) (at : Asked)
+      → AsksOnlyCursor args at
+      → AsksOperation (codes "remove_loop") args (RemoveLoop at)
   specialize : (a b : tree.Argument) (at : Asked) (c : Tree)
       → AsksCursor a at
       → AsksCondition b c
       → AsksOperation (codes "specialize") (a ∷ b ∷ []) (Specialize at c)
+  eliminate_dead_code :
+      (a : tree.Argument) (keys : List tree.Argument) (at : Asked) (keep : Option Branch)
+      → AsksCursor a at
+      → keep_in keys ≡ Some keep
+      → AsksOperation (codes "eliminate_dead_code") (a ∷ keys) (EliminateDeadCode at keep)
+  reorder_stmts : (args : List tree.Argument) (at : Asked)
+      → AsksOnlyCursor args at
+      → AsksOperation (codes "reorder_stmts") args (ReorderStmts at)
   commute_expr : (a b : tree.Argument) (at : Asked) (x : ExprPattern)
       → AsksCursor a at
       → AsksExpression b x
@@ -152,16 +180,28 @@ pub data AsksOperation : List ℕ → List tree.Argument → Operation → Type 
       → AsksOperation (codes "rename") (a ∷ []) (Rename name)
   delete_pass : AsksOperation (codes "delete_pass") [] DeletePass
 
--- the operators that there are
-abbrev pub is_operator : List ℕ → Bool
-is_operator name =
+-- the operators that there are: those that take a cursor and nothing more, and the others
+abbrev pub takes_a_cursor : List ℕ → Bool
+takes_a_cursor name =
+    bytes_eq name (codes "reorder_loops")
+    || (bytes_eq name (codes "fission")
+    || (bytes_eq name (codes "fuse")
+    || (bytes_eq name (codes "unroll_loop")
+    || (bytes_eq name (codes "remove_loop")
+    || bytes_eq name (codes "reorder_stmts")))))
+
+abbrev pub takes_otherwise : List ℕ → Bool
+takes_otherwise name =
     bytes_eq name (codes "divide_loop")
     || (bytes_eq name (codes "cut_loop")
-    || (bytes_eq name (codes "unroll_loop")
     || (bytes_eq name (codes "specialize")
+    || (bytes_eq name (codes "eliminate_dead_code")
     || (bytes_eq name (codes "commute_expr")
     || (bytes_eq name (codes "rename")
     || bytes_eq name (codes "delete_pass"))))))
+
+abbrev pub is_operator : List ℕ → Bool
+is_operator name = takes_a_cursor name || takes_otherwise name
 
 -- ---- lines
 

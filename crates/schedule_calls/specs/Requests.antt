@@ -1,5 +1,6 @@
 -- What a line of a schedule asks for, by its text alone: strings are read, names are not looked up.
-use Rattle.std.specs.Prelude.{ℕ, List}
+use Rattle.std.specs.Prelude.{ℕ, List, Option}
+use Rattle.exo_tree.specs.Places.{Branch}
 use Rattle.text_expressions.specs.Expression.{Tree}
 use Rattle.cursor_patterns.specs.Patterns.{Pattern, ExprPattern}
 
@@ -32,12 +33,19 @@ pub record Division : Type 0 where
   pub tail : Tail
 
 -- An operator with its arguments behind the first. Expressions are as they are written: a control
--- value for `CutLoop`, a condition for `Specialize`.
+-- value for `CutLoop`, a condition for `Specialize`. `EliminateDeadCode` has the branch that is kept,
+-- where one is named.
 pub data Operation : Type 0 where
   DivideLoop : Asked → Division → Operation
   CutLoop : Asked → Tree → Operation
+  ReorderLoops : Asked → Operation
+  Fission : Asked → Operation
+  Fuse : Asked → Operation
   UnrollLoop : Asked → Operation
+  RemoveLoop : Asked → Operation
   Specialize : Asked → Tree → Operation
+  EliminateDeadCode : Asked → Option Branch → Operation
+  ReorderStmts : Asked → Operation
   CommuteExpr : Asked → ExprPattern → Operation
   Rename : List ℕ → Operation
   DeletePass : Operation

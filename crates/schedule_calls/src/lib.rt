@@ -4,6 +4,7 @@
 
 mod argument;
 mod division;
+mod keeping;
 pub mod laws;
 mod line;
 mod operator;

@@ -1,7 +1,7 @@
 //! What a line asks for. Names and moves are those of the line.
 
 use cursor_patterns::{ExprPattern, Pattern};
-use exo_tree::Name;
+use exo_tree::{Branch, Name};
 use schedule_text::source::Move;
 use text_expressions::source::SourceExpr;
 use text_lexer::text::Text;
@@ -56,10 +56,22 @@ pub enum Operation<'a> {
     DivideLoop(Box<Asked<'a>>, Box<Division>),
     /// The loop, and the control value at which it is cut.
     CutLoop(Box<Asked<'a>>, Box<SourceExpr>),
+    /// The outer loop of the two.
+    ReorderLoops(Box<Asked<'a>>),
+    /// The gap in the loop's body.
+    Fission(Box<Asked<'a>>),
+    /// The first loop of the two.
+    Fuse(Box<Asked<'a>>),
     /// The loop.
     UnrollLoop(Box<Asked<'a>>),
+    /// The loop.
+    RemoveLoop(Box<Asked<'a>>),
     /// The statements, and the condition that tells their two copies apart.
     Specialize(Box<Asked<'a>>, Box<SourceExpr>),
+    /// A loop that has no turn; or a condition, and which branch of it is kept.
+    EliminateDeadCode(Box<Asked<'a>>, Option<Branch>),
+    /// The first statement of the two.
+    ReorderStmts(Box<Asked<'a>>),
     /// The statement, and which part of its right side.
     CommuteExpr(Box<Asked<'a>>, ExprPattern),
     /// The new name.

@@ -7,6 +7,7 @@ use Rattle.text_show_laws.specs.Names.{IsName}
 use Rattle.text_show_laws.specs.Named.{AreNamed}
 use Rattle.schedule_operators.specs.Instance.{unit, schedule, result, ScheduleInstance}
 use Rattle.schedule_operators.specs.LoopInstance as loops
+use Rattle.schedule_operators.specs.OrderInstance as orders
 use Rattle.schedule_name_laws.specs.Instance.{NamesInstance}
 use Rattle.schedule_name_laws.specs.Schedules.{GivesNames, SchedulesKeepNames}
 use Rattle.schedule_name_laws.proofs.Numbered.{numbered_named}
@@ -60,14 +61,59 @@ named_loop = record {
 loop_asked : Each GivesNames loops.schedule
 loop_asked = ((named_io, named_ii), (tt, (tt, (tt, (tt, tt)))))
 
+named_h : IsName (codes "h")
+named_h = record { begins = refl; bytes = (refl, tt); some = refl; free = refl }
+
+named_j : IsName (codes "j")
+named_j = record { begins = refl; bytes = (refl, tt); some = refl; free = refl }
+
+named_y : IsName (codes "y")
+named_y = record { begins = refl; bytes = (refl, tt); some = refl; free = refl }
+
+named_orders : AreNamed orders.unit
+named_orders = record {
+  procedures = (
+    record {
+      name = named_f;
+      params = (named_x, (named_y, tt));
+      body = ((named_i, (tt, (tt, tt))), tt);
+      template = tt;
+    },
+    (
+      record {
+        name = named_g;
+        params = (named_x, (named_y, tt));
+        body = ((named_i, ((named_j, (tt, tt)), tt)), tt);
+        template = tt;
+      },
+      (
+        record {
+          name = named_h;
+          params = (named_x, (named_y, tt));
+          body = ((((named_i, (tt, tt)), tt), tt), tt);
+          template = tt;
+        },
+        tt,
+      ),
+    ),
+  );
+  fields = tt;
+  memories = named_unit.memories;
+}
+
+order_asked : Each GivesNames orders.schedule
+order_asked = (tt, (tt, (tt, (tt, (tt, (tt, (tt, (tt, tt))))))))
+
 no_word : IsName (codes "for") → ⊥
 no_word is = absurd (none is.free)
   where
     none : word_of (codes "for") ≡ None → ⊥
     none e = cc
 
-pub names_instance : SchedulesKeepNames → ScheduleInstance → loops.LoopsInstance → NamesInstance
-names_instance keep one other = record {
+pub names_instance :
+    SchedulesKeepNames → ScheduleInstance → loops.LoopsInstance → orders.OrderInstance
+    → NamesInstance
+names_instance keep one other third = record {
   text = named_unit;
   asked = (tt, (tt, (tt, (named_g, (tt, tt)))));
   versions = keep unit 0 schedule result named_unit (tt, (tt, (tt, (named_g, (tt, tt))))) one.runs;
@@ -76,6 +122,9 @@ names_instance keep one other = record {
   loop_versions =
       keep (loops.unit_of (Lit (pos 2))) 0 loops.schedule loops.result named_loop loop_asked
       other.runs;
+  order_text = named_orders;
+  order_asked = order_asked;
+  order_versions = keep orders.unit 0 orders.schedule orders.result named_orders order_asked third.runs;
   word = no_word;
   numbered_word = numbered_named (codes "for") 1 refl (refl, (refl, (refl, tt)));
 }

@@ -1,6 +1,8 @@
 pub mod Numbered
 pub mod Blocks
 pub mod Proposed
+pub mod LoopRules
+pub mod OrderRules
 pub mod Rules
 pub mod Runs
 pub mod Schedules

@@ -1,6 +1,6 @@
 -- The lines of a schedule ask for names of the grammar, and its operators give no others.
 use Rattle.std.proofs.Common.{◌≡◌, ℕ, Bool, true, false, if◌then◌else◌, List, [], ◌∷◌, map, take_while}
-use Rattle.std.proofs.Common.{refl, sym, subst, ◌∙◌, true≢false}
+use Rattle.std.proofs.Common.{Some, None, refl, sym, subst, ◌∙◌, true≢false}
 use Rattle.std.proofs.lemmas.List.Sums.{take_while-cons}
 use Rattle.exo_tree.specs.Places.{Path}
 use Rattle.exo_meaning.specs.Orders.{Each}
@@ -9,6 +9,7 @@ use Rattle.text_show_laws.specs.Names.{IsName, BeginsName, AreNameBytes}
 use Rattle.text_show_laws.specs.Naming.{NamedUnitsAreWritable}
 use Rattle.cursor_forward.specs.Cursors.{Cursor, Node, Range, Gap}
 use Rattle.step_rules.specs.Rule.{Got, Rule}
+use Rattle.step_rules.proofs.Shapes.{made_of}
 use Rattle.expression_laws.specs.Commute.{commute_rule}
 use Rattle.expression_laws.specs.Passes.{delete_pass_rule}
 use Rattle.expression_laws.specs.Rename.{rename_rule}
@@ -16,17 +17,27 @@ use Rattle.loop_laws.specs.CutLoop.{cut_rule}
 use Rattle.loop_laws.specs.DivideLoop.{divide_rule}
 use Rattle.loop_laws.specs.Specialize.{specialize_rule}
 use Rattle.loop_laws.specs.UnrollLoop.{unroll_rule}
+use Rattle.nest_laws.specs.Fission.{fission_rule}
+use Rattle.nest_laws.specs.Fuse.{fuse_rule}
+use Rattle.nest_laws.specs.ReorderLoops as loops
+use Rattle.statement_laws.specs.DeadCode.{empty_loop_rule, keep_rule}
+use Rattle.statement_laws.specs.RemoveLoop.{remove_rule}
+use Rattle.statement_laws.specs.ReorderStatements as statements
 use Rattle.schedule_text.specs.Tree as tree
 use Rattle.schedule_patterns.specs.Names as pattern
-use Rattle.schedule_calls.specs.Requests.{Operation, DivideLoop, CutLoop, UnrollLoop, Specialize}
-use Rattle.schedule_calls.specs.Requests.{CommuteExpr, Rename, DeletePass, Request, Apply}
-use Rattle.schedule_calls.specs.Requests.{Search, Moved, Emit, Asked}
+use Rattle.schedule_calls.specs.Requests.{Operation, DivideLoop, CutLoop, ReorderLoops, Fission}
+use Rattle.schedule_calls.specs.Requests.{Fuse, UnrollLoop, RemoveLoop, Specialize}
+use Rattle.schedule_calls.specs.Requests.{EliminateDeadCode, ReorderStmts, CommuteExpr, Rename}
+use Rattle.schedule_calls.specs.Requests.{DeletePass, Request, Apply, Search, Moved, Emit, Asked}
 use Rattle.schedule_calls.specs.Readings.{IsNameOf, AsksName, AsksNames, AsksOperation}
-use Rattle.schedule_calls.specs.Readings.{divide_loop, cut_loop, unroll_loop, specialize}
+use Rattle.schedule_calls.specs.Readings.{divide_loop, cut_loop, reorder_loops, fission, fuse}
+use Rattle.schedule_calls.specs.Readings.{unroll_loop, remove_loop, specialize}
+use Rattle.schedule_calls.specs.Readings.{eliminate_dead_code, reorder_stmts}
 use Rattle.schedule_calls.specs.Readings.{commute_expr, rename, delete_pass}
 use Rattle.schedule_calls.specs.Readings.{apply, search, moved, emit}
 use Rattle.schedule_versions.specs.Lines.{Ruled}
-use Rattle.schedule_operators.specs.Operators.{at_statement, at_block, on_procedure, statement_call}
+use Rattle.schedule_operators.specs.Operators.{at_statement, at_block, gap_beside, ruled_in, at_gap}
+use Rattle.schedule_operators.specs.Operators.{on_procedure, statement_call}
 use Rattle.schedule_operators.specs.Operators.{division_of, control_at, condition_at, call_of, act_of}
 use Rattle.schedule_operators.specs.Operators.{SchedulesDerive}
 use Rattle.schedule_name_laws.specs.Rules.{IsNaming}
@@ -89,8 +100,14 @@ module _ (names : pattern.NamesAreOne) where
       → AsksOperation operator args o → TakesNames o
   names_asked _ _ _ (divide_loop a b c keys at d h k) = two_asked c d.outer d.inner k.names
   names_asked _ _ _ (cut_loop a b at e h k) = tt
-  names_asked _ _ _ (unroll_loop a at h) = tt
+  names_asked _ _ _ (reorder_loops args at h) = tt
+  names_asked _ _ _ (fission args at h) = tt
+  names_asked _ _ _ (fuse args at h) = tt
+  names_asked _ _ _ (unroll_loop args at h) = tt
+  names_asked _ _ _ (remove_loop args at h) = tt
   names_asked _ _ _ (specialize a b at c h k) = tt
+  names_asked _ _ _ (eliminate_dead_code a keys at keep h k) = tt
+  names_asked _ _ _ (reorder_stmts args at h) = tt
   names_asked _ _ _ (commute_expr a b at x h k) = tt
   names_asked _ _ _ (rename a name h) = name_asked a name h
   names_asked _ _ _ delete_pass = tt
@@ -134,6 +151,16 @@ of_block r is (Range path count ∷ []) made h =
 of_block r is (Range path count ∷ c ∷ cs) made h = cc
 of_block r is (Gap path side ∷ cs) made h = cc
 
+of_gap : (r : ℕ → Rule) → ((count : ℕ) → IsNaming (r count)) → (cs : List Cursor) (made : Ruled)
+    → at_gap r cs ≡ Got made → IsNaming made.rule
+of_gap r is [] made h = cc
+of_gap r is (Node path ∷ cs) made h = cc
+of_gap r is (Range path count ∷ cs) made h = cc
+of_gap r is (Gap path side ∷ []) made h =
+    let d = made_of (gap_beside path side) (ruled_in r) made h in
+    subst (λ (x : Ruled). IsNaming x.rule) d.made (is d.of.before)
+of_gap r is (Gap path side ∷ c ∷ cs) made h = cc
+
 statement_gives_names : (at : Asked) (r : Rule) → IsNaming r → IsNamingCall (statement_call at r)
 statement_gives_names at r is = λ t cs made h. of_statement (λ path. r) (λ path. is) cs made h
 
@@ -145,11 +172,23 @@ calls_give_names (CutLoop at e) asked =
     λ t cs made h.
     of_statement (λ path. cut_rule (control_at t path e))
     (λ path. rules_give_names.cut (control_at t path e)) cs made h
+calls_give_names (ReorderLoops at) asked =
+    statement_gives_names at loops.reorder_rule rules_give_names.reorder_loops
+calls_give_names (Fission at) asked =
+    λ t cs made h. of_gap fission_rule rules_give_names.fission cs made h
+calls_give_names (Fuse at) asked = statement_gives_names at fuse_rule rules_give_names.fuse
 calls_give_names (UnrollLoop at) asked = statement_gives_names at unroll_rule rules_give_names.unroll
+calls_give_names (RemoveLoop at) asked = statement_gives_names at remove_rule rules_give_names.remove
 calls_give_names (Specialize at c) asked =
     λ t cs made h.
     of_block (λ path count. specialize_rule count (condition_at t path c))
     (λ path count. rules_give_names.specialize count (condition_at t path c)) cs made h
+calls_give_names (EliminateDeadCode at None) asked =
+    statement_gives_names at empty_loop_rule rules_give_names.empty_loop
+calls_give_names (EliminateDeadCode at (Some keep)) asked =
+    statement_gives_names at (keep_rule keep) (rules_give_names.keep keep)
+calls_give_names (ReorderStmts at) asked =
+    statement_gives_names at statements.reorder_rule rules_give_names.reorder_statements
 calls_give_names (CommuteExpr at x) asked =
     statement_gives_names at (commute_rule x) (rules_give_names.commute x)
 calls_give_names (Rename name) asked =

@@ -1,7 +1,7 @@
 -- Rules that give names of the grammar alone, and so what they propose.
 use Rattle.std.specs.Prelude.{◌≡◌, ℕ, List}
 use Rattle.exo_tree.specs.Tree.{Control, Condition, Block, Procedure}
-use Rattle.exo_tree.specs.Places.{Path}
+use Rattle.exo_tree.specs.Places.{Branch, Path}
 use Rattle.text_show_laws.specs.Names.{IsName}
 use Rattle.text_show_laws.specs.Named.{IsNamedBlock, IsNamedProcedure, AreNamed}
 use Rattle.made_trees.specs.Names.{named_copies}
@@ -18,6 +18,12 @@ use Rattle.loop_laws.specs.MultLoops.{mult_rule}
 use Rattle.loop_laws.specs.ShiftLoop.{shift_rule}
 use Rattle.loop_laws.specs.Specialize.{specialize_rule}
 use Rattle.loop_laws.specs.UnrollLoop.{unroll_rule}
+use Rattle.nest_laws.specs.Fission.{fission_rule}
+use Rattle.nest_laws.specs.Fuse.{fuse_rule}
+use Rattle.nest_laws.specs.ReorderLoops as loops
+use Rattle.statement_laws.specs.DeadCode.{empty_loop_rule, keep_rule}
+use Rattle.statement_laws.specs.RemoveLoop.{remove_rule}
+use Rattle.statement_laws.specs.ReorderStatements as statements
 
 -- binders of copies are given names of the grammar
 abbrev pub CopiesAreNamed : Type 0
@@ -46,7 +52,8 @@ ProposalsAreNamed =
     → proposed r t at ≡ Got m
     → IsNamedProcedure m.proc
 
--- the rules of expressions and of loops, where the names that are asked are of the grammar
+-- the rules of expressions, of loops and of statements, where the names that are asked are of the
+-- grammar
 pub record RulesGiveNames : Type 0 where
   pub commute : (x : ExprPattern) → IsNaming (commute_rule x)
   pub rename : (name : List ℕ) → IsName name → IsNaming (rename_rule name)
@@ -57,3 +64,10 @@ pub record RulesGiveNames : Type 0 where
   pub specialize : (count : ℕ) (c : Condition) → IsNaming (specialize_rule count c)
   pub shift : (e : Control) → IsNaming (shift_rule e)
   pub mult : (name : List ℕ) → IsName name → IsNaming (mult_rule name)
+  pub reorder_loops : IsNaming loops.reorder_rule
+  pub fuse : IsNaming fuse_rule
+  pub fission : (count : ℕ) → IsNaming (fission_rule count)
+  pub keep : (keep : Branch) → IsNaming (keep_rule keep)
+  pub empty_loop : IsNaming empty_loop_rule
+  pub remove : IsNaming remove_rule
+  pub reorder_statements : IsNaming statements.reorder_rule

@@ -8,9 +8,10 @@ use Rattle.text_show_laws.specs.Named.{AreNamed}
 use Rattle.text_show_laws.specs.Writable.{IsWritable}
 use Rattle.unit_check.specs.Faults.{NothingFaults}
 use Rattle.schedule_text.specs.Tree as tree
-use Rattle.schedule_calls.specs.Requests.{Operation, DivideLoop, CutLoop, UnrollLoop, Specialize}
-use Rattle.schedule_calls.specs.Requests.{CommuteExpr, Rename, DeletePass, Request}
-use Rattle.schedule_calls.specs.Requests.{Apply, Search, Moved, Emit}
+use Rattle.schedule_calls.specs.Requests.{Operation, DivideLoop, CutLoop, ReorderLoops, Fission}
+use Rattle.schedule_calls.specs.Requests.{Fuse, UnrollLoop, RemoveLoop, Specialize}
+use Rattle.schedule_calls.specs.Requests.{EliminateDeadCode, ReorderStmts, CommuteExpr, Rename}
+use Rattle.schedule_calls.specs.Requests.{DeletePass, Request, Apply, Search, Moved, Emit}
 use Rattle.schedule_calls.specs.Readings.{Asks}
 use Rattle.schedule_versions.specs.Versions.{Versions, started}
 use Rattle.schedule_versions.specs.Lines.{Done, run_acts}
@@ -21,8 +22,14 @@ use Rattle.schedule_operators.specs.Operators.{act_of}
 abbrev pub TakesNames : Operation → Type 0
 TakesNames (DivideLoop at d) = IsName d.outer × IsName d.inner
 TakesNames (CutLoop at e) = ⊤
+TakesNames (ReorderLoops at) = ⊤
+TakesNames (Fission at) = ⊤
+TakesNames (Fuse at) = ⊤
 TakesNames (UnrollLoop at) = ⊤
+TakesNames (RemoveLoop at) = ⊤
 TakesNames (Specialize at c) = ⊤
+TakesNames (EliminateDeadCode at keep) = ⊤
+TakesNames (ReorderStmts at) = ⊤
 TakesNames (CommuteExpr at x) = ⊤
 TakesNames (Rename name) = IsName name
 TakesNames DeletePass = ⊤

@@ -15,7 +15,7 @@ pub fn proposals_are_named()
     ensures { ProposalsAreNamed }
 {}
 
-/// The rules of expressions and loops give none but those of the old procedure and those that are asked.
+/// The rules of expressions, loops and statements give none but those of the old procedure and those that are asked.
 pub fn rules_give_names()
     ensures { RulesGiveNames }
 {}
@@ -52,5 +52,6 @@ pub fn names_instance()
 {
     schedule_operators::laws::schedule_instance();
     schedule_operators::laws::loops_instance();
+    schedule_operators::laws::order_instance();
     schedules_keep_names();
 }

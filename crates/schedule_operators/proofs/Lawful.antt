@@ -1,12 +1,14 @@
 -- Every operator works by lawful rules, so schedules keep what holds of versions.
 use Rattle.std.proofs.Common.{◌≡◌, ℕ, suc, List, [], ◌∷◌, map, length, refl, ap, sym, subst}
+use Rattle.std.specs.Prelude.{Option, Some, None}
 use Rattle.exo_tree.specs.Tree.{Control, Condition}
-use Rattle.exo_tree.specs.Places.{Path}
+use Rattle.exo_tree.specs.Places.{Branch, Path}
 use Rattle.exo_meaning.specs.Orders.{Each}
 use Rattle.cursor_patterns.specs.Patterns.{ExprPattern}
 use Rattle.cursor_forward.specs.Cursors.{Cursor, Node, Range, Gap}
 use Rattle.step_rules.specs.Lawful.{IsLawful}
 use Rattle.step_rules.specs.Rule.{Got, Rule}
+use Rattle.step_rules.specs.Shapes.{tried}
 use Rattle.expression_laws.specs.Commute.{commute_rule}
 use Rattle.expression_laws.specs.Passes.{delete_pass_rule}
 use Rattle.expression_laws.specs.Rename.{rename_rule}
@@ -14,8 +16,15 @@ use Rattle.loop_laws.specs.DivideLoop.{Division, divide_rule}
 use Rattle.loop_laws.specs.CutLoop.{cut_rule}
 use Rattle.loop_laws.specs.UnrollLoop.{unroll_rule}
 use Rattle.loop_laws.specs.Specialize.{specialize_rule}
-use Rattle.schedule_calls.specs.Requests.{Asked, DivideLoop, CutLoop, UnrollLoop, Specialize}
-use Rattle.schedule_calls.specs.Requests.{CommuteExpr, Rename, DeletePass, Request}
+use Rattle.nest_laws.specs.Fission.{fission_rule}
+use Rattle.nest_laws.specs.Fuse.{fuse_rule}
+use Rattle.nest_laws.specs.ReorderLoops as loops
+use Rattle.statement_laws.specs.DeadCode.{empty_loop_rule, keep_rule}
+use Rattle.statement_laws.specs.RemoveLoop.{remove_rule}
+use Rattle.statement_laws.specs.ReorderStatements as statements
+use Rattle.schedule_calls.specs.Requests.{Asked, DivideLoop, CutLoop, ReorderLoops, Fission, Fuse}
+use Rattle.schedule_calls.specs.Requests.{UnrollLoop, RemoveLoop, Specialize, EliminateDeadCode}
+use Rattle.schedule_calls.specs.Requests.{ReorderStmts, CommuteExpr, Rename, DeletePass, Request}
 use Rattle.schedule_calls.specs.Requests as request
 use Rattle.schedule_versions.specs.Versions.{started}
 use Rattle.schedule_versions.specs.Lines.{Ruled}
@@ -23,7 +32,8 @@ use Rattle.schedule_versions.specs.Laws.{NamesFields, IsLawfulCall, IsLawfulAct,
 use Rattle.schedule_versions.specs.Laws.{StartedIsDerived, RunIsDerived}
 use Rattle.schedule_versions.specs.Behind.{NamesNoField, CallNamesNoField, ActNamesNoField}
 use Rattle.schedule_versions.specs.Behind.{RunsDifferInNothing}
-use Rattle.schedule_operators.specs.Operators.{at_statement, at_block, on_procedure}
+use Rattle.schedule_operators.specs.Operators.{at_statement, at_block, GapIn, gap_beside, ruled_in}
+use Rattle.schedule_operators.specs.Operators.{at_gap, on_procedure, dead_code_rule, gap_call}
 use Rattle.schedule_operators.specs.Operators.{division_of, control_at, condition_at}
 use Rattle.schedule_operators.specs.Operators.{statement_call, procedure_call, act_of}
 use Rattle.schedule_operators.specs.Operators.{OperatorsAreLawful, SchedulesDerive}
@@ -61,6 +71,21 @@ module _ (P : Rule → Type 0) where
   of_block r is (Range path count ∷ c ∷ cs) made h = cc
   of_block r is (Gap path side ∷ cs) made h = cc
 
+  of_found : (r : ℕ → Rule) → ((count : ℕ) → P (r count)) → (found : Option GapIn) (made : Ruled)
+      → tried found (ruled_in r) ≡ Got made → P made.rule
+  of_found r is None made h = cc
+  of_found r is (Some g) made h =
+      subst (λ (x : Ruled). P x.rule) (same_rule (ruled_in r g) made h) (is g.before)
+
+  of_gap : (r : ℕ → Rule) → ((count : ℕ) → P (r count)) → (cs : List Cursor) (made : Ruled)
+      → at_gap r cs ≡ Got made → P made.rule
+  of_gap r is [] made h = cc
+  of_gap r is (Node path ∷ cs) made h = cc
+  of_gap r is (Range path count ∷ cs) made h = cc
+  of_gap r is (Gap path side ∷ []) made h =
+      of_found r is (gap_beside path side) made h
+  of_gap r is (Gap path side ∷ c ∷ cs) made h = cc
+
 -- the rule of an operator at a statement
 module _ (r : Rule) where
   statement_is_lawful : (at : Asked) → IsLawful r → NamesFields r → IsLawfulCall (statement_call at r)
@@ -82,17 +107,42 @@ module _ (r : Rule) where
   procedure_names_no_field : NamesNoField r → CallNamesNoField (procedure_call r)
   procedure_names_no_field none t cs made h = of_procedure NamesNoField r none made h
 
+-- the rule of an operator at a gap
+module _ (r : ℕ → Rule) (at : Asked) where
+  gap_is_lawful : ((count : ℕ) → IsLawful (r count)) → ((count : ℕ) → NamesFields (r count))
+      → IsLawfulCall (gap_call at r)
+  gap_is_lawful is names = record {
+    lawful = λ t cs made h. of_gap IsLawful r is cs made h;
+    fields = λ t cs made h. of_gap NamesFields r names cs made h;
+  }
+
+  gap_names_no_field : ((count : ℕ) → NamesNoField (r count)) → CallNamesNoField (gap_call at r)
+  gap_names_no_field none t cs made h = of_gap NamesNoField r none cs made h
+
 -- every rule of an operator
 pub record RulesAreLawful : Type 0 where
   pub divisions : (d : Division) → IsLawful (divide_rule d)
   pub cuts : (e : Control) → IsLawful (cut_rule e)
+  pub reorders : IsLawful loops.reorder_rule
+  pub fissions : (count : ℕ) → IsLawful (fission_rule count)
+  pub fusions : IsLawful fuse_rule
   pub unrolled : IsLawful unroll_rule
+  pub removed : IsLawful remove_rule
+  pub emptied : IsLawful empty_loop_rule
+  pub kept : (keep : Branch) → IsLawful (keep_rule keep)
+  pub exchanged : IsLawful statements.reorder_rule
   pub specialized : (count : ℕ) (c : Condition) → IsLawful (specialize_rule count c)
   pub exchanges : (x : ExprPattern) → IsLawful (commute_rule x)
   pub names : (name : List ℕ) → IsLawful (rename_rule name)
   pub passes : IsLawful delete_pass_rule
 
 module _ (rules : RulesAreLawful) where
+  dead_code_is_lawful : (at : Asked) (keep : Option Branch)
+      → IsLawfulCall (statement_call at (dead_code_rule keep))
+  dead_code_is_lawful at None = statement_is_lawful empty_loop_rule at rules.emptied (λ s. tt)
+  dead_code_is_lawful at (Some keep) =
+      statement_is_lawful (keep_rule keep) at (rules.kept keep) (λ s. tt)
+
   pub operators_are_lawful : OperatorsAreLawful
   operators_are_lawful (DivideLoop at d) =
       statement_is_lawful (divide_rule (division_of d)) at (rules.divisions (division_of d)) (λ s. tt)
@@ -103,7 +153,13 @@ module _ (rules : RulesAreLawful) where
     fields = λ t cs r h.
         of_statement NamesFields (λ path. cut_rule (control_at t path e)) (λ path s. tt) cs r h;
   }
+  operators_are_lawful (ReorderLoops at) =
+      statement_is_lawful loops.reorder_rule at rules.reorders (λ s. tt)
+  operators_are_lawful (Fission at) =
+      gap_is_lawful fission_rule at rules.fissions (λ count s. tt)
+  operators_are_lawful (Fuse at) = statement_is_lawful fuse_rule at rules.fusions (λ s. tt)
   operators_are_lawful (UnrollLoop at) = statement_is_lawful unroll_rule at rules.unrolled (λ s. tt)
+  operators_are_lawful (RemoveLoop at) = statement_is_lawful remove_rule at rules.removed (λ s. tt)
   operators_are_lawful (Specialize at c) = record {
     lawful = λ t cs r h.
         of_block IsLawful (λ path count. specialize_rule count (condition_at t path c))
@@ -112,15 +168,21 @@ module _ (rules : RulesAreLawful) where
         of_block NamesFields (λ path count. specialize_rule count (condition_at t path c))
         (λ path count s. tt) cs r h;
   }
+  operators_are_lawful (EliminateDeadCode at keep) = dead_code_is_lawful at keep
+  operators_are_lawful (ReorderStmts at) =
+      statement_is_lawful statements.reorder_rule at rules.exchanged (λ s. tt)
   operators_are_lawful (CommuteExpr at x) =
       statement_is_lawful (commute_rule x) at (rules.exchanges x) (λ s. tt)
   operators_are_lawful (Rename name) =
       procedure_is_lawful (rename_rule name) (rules.names name) (λ s. tt)
   operators_are_lawful DeletePass = procedure_is_lawful delete_pass_rule rules.passes (λ s. tt)
 
+-- ---- schedules
+
+module _ (lawful : OperatorsAreLawful) where
   acts_are_lawful : (requests : List Request) → Each IsLawfulAct (map act_of requests)
   acts_are_lawful [] = tt
-  acts_are_lawful (request.Apply bind of o ∷ more) = (operators_are_lawful o, acts_are_lawful more)
+  acts_are_lawful (request.Apply bind of o ∷ more) = (lawful o, acts_are_lawful more)
   acts_are_lawful (request.Search bind of pattern nth moves ∷ more) = (tt, acts_are_lawful more)
   acts_are_lawful (request.Moved bind of moves ∷ more) = (tt, acts_are_lawful more)
   acts_are_lawful (request.Emit name ∷ more) = (tt, acts_are_lawful more)
@@ -137,15 +199,28 @@ module _ (rules : RulesAreLawful) where
 
 -- ---- fields
 
+dead_code_names_no_field : (at : Asked) (keep : Option Branch)
+    → CallNamesNoField (statement_call at (dead_code_rule keep))
+dead_code_names_no_field at None = statement_names_no_field empty_loop_rule at (λ s. refl)
+dead_code_names_no_field at (Some keep) = statement_names_no_field (keep_rule keep) at (λ s. refl)
+
 pub operators_name_no_field : OperatorsNameNoField
 operators_name_no_field (DivideLoop at d) =
     statement_names_no_field (divide_rule (division_of d)) at (λ s. refl)
 operators_name_no_field (CutLoop at e) = λ t cs r h.
     of_statement NamesNoField (λ path. cut_rule (control_at t path e)) (λ path s. refl) cs r h
+operators_name_no_field (ReorderLoops at) =
+    statement_names_no_field loops.reorder_rule at (λ s. refl)
+operators_name_no_field (Fission at) = gap_names_no_field fission_rule at (λ count s. refl)
+operators_name_no_field (Fuse at) = statement_names_no_field fuse_rule at (λ s. refl)
 operators_name_no_field (UnrollLoop at) = statement_names_no_field unroll_rule at (λ s. refl)
+operators_name_no_field (RemoveLoop at) = statement_names_no_field remove_rule at (λ s. refl)
 operators_name_no_field (Specialize at c) = λ t cs r h.
     of_block NamesNoField (λ path count. specialize_rule count (condition_at t path c))
     (λ path count s. refl) cs r h
+operators_name_no_field (EliminateDeadCode at keep) = dead_code_names_no_field at keep
+operators_name_no_field (ReorderStmts at) =
+    statement_names_no_field statements.reorder_rule at (λ s. refl)
 operators_name_no_field (CommuteExpr at x) =
     statement_names_no_field (commute_rule x) at (λ s. refl)
 operators_name_no_field (Rename name) = procedure_names_no_field (rename_rule name) (λ s. refl)

@@ -1,3 +1,4 @@
 pub mod Operators
 pub mod Instance
 pub mod LoopInstance
+pub mod OrderInstance

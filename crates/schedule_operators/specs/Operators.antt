@@ -1,7 +1,8 @@
 -- What the operators of a schedule do: each takes its cursors and then works by its rule.
-use Rattle.std.specs.Prelude.{◌≡◌, ℕ, pos, true, false, List, [], ◌∷◌, length, map}
+use Rattle.std.specs.Prelude.{◌≡◌, ℕ, suc, pos, true, false, List, [], ◌∷◌, length, map}
+use Rattle.std.specs.Prelude.{Option, Some, None, option_map, option_and_then}
 use Rattle.exo_tree.specs.Tree.{Control, Condition, Program}
-use Rattle.exo_tree.specs.Places.{Path}
+use Rattle.exo_tree.specs.Places.{Branch, Path}
 use Rattle.exo_meaning.specs.Units.{Scope, IsUnit}
 use Rattle.text_expressions.specs.Expression.{Tree}
 use Rattle.rules_names.specs.Arguments.{knows_fields}
@@ -9,8 +10,10 @@ use Rattle.rules_names.specs.Resolved.{control_of, condition_of}
 use Rattle.rules_scopes.specs.PlaceScope.{scope_at}
 use Rattle.unit_check.specs.Faults.{NothingFaults}
 use Rattle.cursor_forward.specs.Causes.{WrongShape}
-use Rattle.cursor_forward.specs.Cursors.{Cursor, Node, Range}
+use Rattle.cursor_forward.specs.Cursors.{Side, Before, After, Cursor, Node, Range, Gap, owner}
+use Rattle.cursor_forward.specs.Shifts.{word}
 use Rattle.step_rules.specs.Rule.{Tried, Got, Not, Target, Rule}
+use Rattle.step_rules.specs.Shapes.{tried}
 use Rattle.expression_laws.specs.Commute.{commute_rule}
 use Rattle.expression_laws.specs.Passes.{delete_pass_rule}
 use Rattle.expression_laws.specs.Rename.{rename_rule}
@@ -19,9 +22,17 @@ use Rattle.loop_laws.specs.DivideLoop.{divide_rule}
 use Rattle.loop_laws.specs.CutLoop.{cut_rule}
 use Rattle.loop_laws.specs.UnrollLoop.{unroll_rule}
 use Rattle.loop_laws.specs.Specialize.{specialize_rule}
+use Rattle.nest_laws.specs.Fission.{fission_rule}
+use Rattle.nest_laws.specs.Fuse.{fuse_rule}
+use Rattle.nest_laws.specs.ReorderLoops as loops
+use Rattle.statement_laws.specs.DeadCode.{empty_loop_rule, keep_rule}
+use Rattle.statement_laws.specs.RemoveLoop.{remove_rule}
+use Rattle.statement_laws.specs.ReorderStatements as statements
 use Rattle.schedule_calls.specs.Requests.{Tail, Guard, Cut, CutAndGuard, Perfect, Division}
-use Rattle.schedule_calls.specs.Requests.{Asked, DivideLoop, CutLoop, UnrollLoop, Specialize}
-use Rattle.schedule_calls.specs.Requests.{Operation, CommuteExpr, Rename, DeletePass, Request}
+use Rattle.schedule_calls.specs.Requests.{Asked, Operation, DivideLoop, CutLoop, ReorderLoops}
+use Rattle.schedule_calls.specs.Requests.{Fission, Fuse, UnrollLoop, RemoveLoop, Specialize}
+use Rattle.schedule_calls.specs.Requests.{EliminateDeadCode, ReorderStmts, CommuteExpr, Rename}
+use Rattle.schedule_calls.specs.Requests.{DeletePass, Request}
 use Rattle.schedule_calls.specs.Requests as request
 use Rattle.schedule_versions.specs.Versions.{Versions, started}
 use Rattle.schedule_versions.specs.Lines.{Ruled, Call, Act, Apply, Search, Moved, Emit, Done, run_acts}
@@ -40,6 +51,38 @@ abbrev pub at_block : (Path → ℕ → Rule) → List Cursor → Tried Ruled
 at_block r (Node path ∷ []) = Got (record { rule = r path 1; at = path })
 at_block r (Range path count ∷ []) = Got (record { rule = r path count; at = path })
 at_block r cs = Not WrongShape
+
+-- a gap in the block of a statement: that statement, and how many of the block are before the gap
+pub record GapIn : Type 0 where
+  pub around : Path
+  pub before : ℕ
+
+-- the number of a statement in its block
+abbrev pub number_in_block : Path → ℕ
+number_in_block [] = 0
+number_in_block (s ∷ []) = s.index
+number_in_block (s ∷ t ∷ path) = number_in_block (t ∷ path)
+
+-- how many statements are before the gap beside the one of that number
+abbrev pub before_gap : ℕ → Side → Option ℕ
+before_gap n Before = Some n
+before_gap n After = word (suc n)
+
+abbrev pub gap_under : Option ℕ → Path → Option GapIn
+gap_under before around = option_map (λ n. record { around = around; before = n }) before
+
+-- beside the statement at a path; None where no statement is round it
+abbrev pub gap_beside : Path → Side → Option GapIn
+gap_beside path side =
+    option_and_then (gap_under (before_gap (number_in_block path) side)) (owner path)
+
+-- at the statement round a gap, by how many statements of its block are before the gap
+abbrev pub ruled_in : (ℕ → Rule) → GapIn → Ruled
+ruled_in r g = record { rule = r g.before; at = g.around }
+
+abbrev pub at_gap : (ℕ → Rule) → List Cursor → Tried Ruled
+at_gap r (Gap path side ∷ []) = tried (gap_beside path side) (ruled_in r)
+at_gap r cs = Not WrongShape
 
 -- a rule on the whole procedure
 abbrev pub on_procedure : Rule → Tried Ruled
@@ -68,12 +111,21 @@ control_at t path e = control_of t.unit.fields (scope_before t path) e
 abbrev pub condition_at : Target → Path → Tree → Condition
 condition_at t path c = condition_of t.unit.fields (scope_before t path) c
 
+-- a loop that has no turn, or the branch of a condition that is kept
+abbrev pub dead_code_rule : Option Branch → Rule
+dead_code_rule None = empty_loop_rule
+dead_code_rule (Some keep) = keep_rule keep
+
 -- ---- operators
 
 -- at the statement that is asked for, by a rule that needs no names
 abbrev pub statement_call : Asked → Rule → Call
 statement_call at r =
     record { named = λ v. true; cursors = at ∷ []; rule = λ t cs. at_statement (λ path. r) cs }
+
+-- at the gap that is asked for
+abbrev pub gap_call : Asked → (ℕ → Rule) → Call
+gap_call at r = record { named = λ v. true; cursors = at ∷ []; rule = λ t cs. at_gap r cs }
 
 -- on the whole procedure
 abbrev pub procedure_call : Rule → Call
@@ -86,12 +138,18 @@ call_of (CutLoop at e) = record {
   cursors = at ∷ [];
   rule = λ t cs. at_statement (λ path. cut_rule (control_at t path e)) cs;
 }
+call_of (ReorderLoops at) = statement_call at loops.reorder_rule
+call_of (Fission at) = gap_call at fission_rule
+call_of (Fuse at) = statement_call at fuse_rule
 call_of (UnrollLoop at) = statement_call at unroll_rule
+call_of (RemoveLoop at) = statement_call at remove_rule
 call_of (Specialize at c) = record {
   named = λ v. knows_fields v.unit.fields c;
   cursors = at ∷ [];
   rule = λ t cs. at_block (λ path count. specialize_rule count (condition_at t path c)) cs;
 }
+call_of (EliminateDeadCode at keep) = statement_call at (dead_code_rule keep)
+call_of (ReorderStmts at) = statement_call at statements.reorder_rule
 call_of (CommuteExpr at x) = statement_call at (commute_rule x)
 call_of (Rename name) = procedure_call (rename_rule name)
 call_of DeletePass = procedure_call delete_pass_rule

@@ -4,6 +4,7 @@ ghost use Rattle.schedule_operators.specs.Operators.{OperatorsAreLawful, Schedul
 ghost use Rattle.schedule_operators.specs.Operators.{OperatorsNameNoField, SchedulesDifferInNothing};
 ghost use Rattle.schedule_operators.specs.Instance.{ScheduleInstance, ResultIsDerived};
 ghost use Rattle.schedule_operators.specs.LoopInstance.{LoopsInstance};
+ghost use Rattle.schedule_operators.specs.OrderInstance.{OrderInstance};
 
 /// Every operator works by lawful rules.
 pub fn operators_are_lawful()
@@ -11,8 +12,15 @@ pub fn operators_are_lawful()
 {
     loop_laws::laws::divisions_are_lawful();
     loop_laws::laws::cuts_are_lawful();
+    nest_laws::laws::reorders_are_lawful();
+    nest_laws::laws::fissions_are_lawful();
+    nest_laws::laws::fusions_are_lawful();
     loop_laws::laws::unrolled_loops_are_lawful();
+    statement_laws::laws::removed_loops_are_lawful();
     loop_laws::laws::specialized_blocks_are_lawful();
+    statement_laws::laws::empty_loops_are_lawful();
+    statement_laws::laws::kept_branches_are_lawful();
+    statement_laws::laws::exchanged_statements_are_lawful();
     expression_laws::laws::exchanges_are_lawful();
     expression_laws::laws::names_are_lawful();
     expression_laws::laws::deleted_passes_are_lawful();
@@ -22,13 +30,7 @@ pub fn operators_are_lawful()
 pub fn schedules_derive()
     ensures { SchedulesDerive }
 {
-    loop_laws::laws::divisions_are_lawful();
-    loop_laws::laws::cuts_are_lawful();
-    loop_laws::laws::unrolled_loops_are_lawful();
-    loop_laws::laws::specialized_blocks_are_lawful();
-    expression_laws::laws::exchanges_are_lawful();
-    expression_laws::laws::names_are_lawful();
-    expression_laws::laws::deleted_passes_are_lawful();
+    operators_are_lawful();
     schedule_versions::laws::started_versions_are_derived();
     schedule_versions::laws::runs_are_derived();
 }
@@ -41,6 +43,11 @@ pub fn schedule_instance()
 /// Schedules that change a loop, and refusals of theirs.
 pub fn loops_instance()
     ensures { LoopsInstance }
+{}
+
+/// A schedule that changes orders and takes loops away, and refusals of such ones.
+pub fn order_instance()
+    ensures { OrderInstance }
 {}
 
 /// What the schedule of the instance leaves is derived.

@@ -1,20 +1,23 @@
 -- What calls of operators plan, one question after the other.
 use Rattle.std.proofs.Common.{◌≡◌, ℕ, List, [], ◌∷◌, refl, sym, ap, ◌∙◌, subst, Bool, true, false}
-use Rattle.std.specs.Prelude.{if◌then◌else◌}
+use Rattle.std.specs.Prelude.{if◌then◌else◌, Option, Some, None}
 use Rattle.exo_tree.specs.Tree.{ConfigField, Procedure}
 use Rattle.exo_tree.specs.Places.{Path}
 use Rattle.cursor_forward.specs.Cursors.{Cursor, Node, Range, Gap}
 use Rattle.cursor_forward.specs.Proposals.{Plan}
 use Rattle.step_rules.specs.Rule.{Target, Piece, Rule}
+use Rattle.step_rules.specs.Shapes.{tried}
 use Rattle.step_rules.specs.Answer.{proposed}
 use Rattle.schedule_calls.specs.Requests.{Asked}
 use Rattle.schedule_versions.specs.Versions.{Versions}
 use Rattle.schedule_versions.specs.Places.{Sought, Got, Lost, then_seek, sought}
 use Rattle.schedule_versions.specs.Lines.{Why, UnknownName, target, Call}
-use Rattle.schedule_operators.specs.Operators.{at_statement, at_block}
+use Rattle.schedule_operators.specs.Operators.{at_statement, at_block, at_gap, GapIn}
+use Rattle.schedule_operators.specs.Operators.{gap_beside, ruled_in}
 use Rattle.schedule_run.specs.Planned as plans
 use Rattle.schedule_run.specs.Planned.{Made, Not, then_make, as_found, as_tried, planned_by, planned}
-use Rattle.schedule_run.specs.Planned.{statement_in, block_in, statement_at, block_at, if_known}
+use Rattle.schedule_run.specs.Planned.{statement_in, block_in, gap_in, statement_at, block_at, gap_at}
+use Rattle.schedule_run.specs.Planned.{if_known}
 use Rattle.schedule_run.specs.PlainWhy.{Says}
 use Rattle.schedule_run.specs.declared.why.Why as memory
 use Rattle.schedule_run.proofs.Plans.{says, not_got, got_same, got_not, not_same}
@@ -156,3 +159,46 @@ module _ (v : Versions) (k : ℕ) (p : Procedure) where
       block_there there piece h =
           placed (block_at v k at) made_of _ block_is there piece h
           ∙ ap (λ (t : Target). as_tried (proposed (r t piece.path piece.count) t piece.path)) (sym same)
+
+    -- ---- at a gap
+
+    module _ (r : ℕ → Rule) where
+      abbrev gap_asked : Call
+      gap_asked = record {
+        named = λ v. test v.unit.fields;
+        cursors = at ∷ [];
+        rule = λ t cs. at_gap r cs;
+      }
+
+      abbrev made_in : GapIn → Made Plan
+      made_in g = made_by (r g.before) g.around
+
+      in_block : (found : Option GapIn)
+          → then_make (as_tried (tried found (ruled_in r)))
+          (λ r. as_tried (proposed r.rule (target v k p) r.at))
+          ≡ then_make (as_tried (tried found (λ g. g))) made_in
+      in_block None = refl
+      in_block (Some g) = refl
+
+      by_gap : (s : Sought Cursor)
+          → then_make (as_found (then_seek s (λ c. Got (c ∷ [])))) (planned_by v k p gap_asked)
+          ≡ then_make (then_make (as_found s) gap_in) made_in
+      by_gap (Lost m) = refl
+      by_gap (Got (Node path)) = refl
+      by_gap (Got (Range path count)) = refl
+      by_gap (Got (Gap path side)) = in_block (gap_beside path side)
+
+      gap_is : planned v k p gap_asked
+          ≡ then_make (if_known (test v.unit.fields)) (λ x. then_make (gap_at v k at) made_in)
+      gap_is = named_is (test v.unit.fields) _ _ (by_gap (sought v k at))
+
+      pub gap_lost : if_known (test t.unit.fields) ≡ plans.Got tt → (e : memory.Why)
+          → Says (λ w. gap_at v k at ≡ Not w) e → Says (λ w. planned v k p gap_asked ≡ Not w) e
+      gap_lost = lost (gap_at v k at) made_in _ gap_is
+
+      pub gap_there : if_known (test t.unit.fields) ≡ plans.Got tt → (g : GapIn)
+          → gap_at v k at ≡ plans.Got g
+          → planned v k p gap_asked ≡ as_tried (proposed (r g.before) t g.around)
+      gap_there there g h =
+          placed (gap_at v k at) made_in _ gap_is there g h
+          ∙ ap (λ (t : Target). as_tried (proposed (r g.before) t g.around)) (sym same)

@@ -10,5 +10,7 @@ pub mod Stepping
 pub mod Plans
 pub mod Asking
 pub mod Forms
+pub mod Gaps
+pub mod Arms
 pub mod Going
 pub mod Lists

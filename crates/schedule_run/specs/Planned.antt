@@ -12,11 +12,14 @@ use Rattle.cursor_forward.specs.Cursors.{Cursor, Node, Range, Gap}
 use Rattle.cursor_forward.specs.Proposals.{Plan}
 use Rattle.step_rules.specs.Rule.{Tried, Piece}
 use Rattle.step_rules.specs.Rule as rule
+use Rattle.step_rules.specs.Shapes.{tried}
 use Rattle.step_rules.specs.Answer.{proposed}
 use Rattle.tree_rules_laws.specs.Versions.{with_version}
 use Rattle.rules_names.specs.Arguments.{is_control_form, is_condition_form}
-use Rattle.schedule_calls.specs.Requests.{Asked, Operation, DivideLoop, CutLoop, UnrollLoop}
-use Rattle.schedule_calls.specs.Requests.{Specialize, CommuteExpr, Rename, DeletePass, Request}
+use Rattle.schedule_calls.specs.Requests.{Asked, Operation, DivideLoop, CutLoop, ReorderLoops}
+use Rattle.schedule_calls.specs.Requests.{Fission, Fuse, UnrollLoop, RemoveLoop, Specialize}
+use Rattle.schedule_calls.specs.Requests.{EliminateDeadCode, ReorderStmts, CommuteExpr, Rename}
+use Rattle.schedule_calls.specs.Requests.{DeletePass, Request}
 use Rattle.schedule_calls.specs.Requests as request
 use Rattle.schedule_versions.specs.Versions.{Versions, version_at}
 use Rattle.schedule_versions.specs.Places.{Sought, sought}
@@ -24,6 +27,7 @@ use Rattle.schedule_versions.specs.Places as place
 use Rattle.schedule_versions.specs.Lines.{Why, UnknownProc, UnknownName, NoPlace, Step, Check}
 use Rattle.schedule_versions.specs.Lines.{NotShown}
 use Rattle.schedule_versions.specs.Lines.{Progress, Refused, checked_step, target, Call, all_sought}
+use Rattle.schedule_operators.specs.Operators.{GapIn, gap_beside}
 
 -- something, or why a line is refused
 pub data Made (T : Type 0) : Type 0 where
@@ -67,6 +71,12 @@ block_in (Node path) = Got (record { path = path; count = 1 })
 block_in (Range path count) = Got (record { path = path; count = count })
 block_in (Gap path side) = Not (Step WrongShape)
 
+-- a gap in the block of a statement
+abbrev pub gap_in : Cursor → Made GapIn
+gap_in (Node path) = Not (Step WrongShape)
+gap_in (Range path count) = Not (Step WrongShape)
+gap_in (Gap path side) = as_tried (tried (gap_beside path side) (λ g. g))
+
 module _ (v : Versions) (k : ℕ) (at : Asked) where
   abbrev pub statement_at : Made Path
   statement_at = then_make (as_found (sought v k at)) statement_in
@@ -74,14 +84,23 @@ module _ (v : Versions) (k : ℕ) (at : Asked) where
   abbrev pub block_at : Made Piece
   block_at = then_make (as_found (sought v k at)) block_in
 
+  abbrev pub gap_at : Made GapIn
+  gap_at = then_make (as_found (sought v k at)) gap_in
+
 -- ---- expressions in lines
 
 -- an expression has the form of its place, as in each line
 abbrev pub has_form : Operation → Bool
 has_form (DivideLoop at d) = true
 has_form (CutLoop at e) = is_control_form e
+has_form (ReorderLoops at) = true
+has_form (Fission at) = true
+has_form (Fuse at) = true
 has_form (UnrollLoop at) = true
+has_form (RemoveLoop at) = true
 has_form (Specialize at c) = is_condition_form c
+has_form (EliminateDeadCode at keep) = true
+has_form (ReorderStmts at) = true
 has_form (CommuteExpr at x) = true
 has_form (Rename name) = true
 has_form DeletePass = true

@@ -1,17 +1,21 @@
 //! Where operators work.
+ghost use Rattle.std.specs.Prelude.{◌≡◌, ◌≤◌, length, map, option_map};
+ghost use Rattle.exo_tree.specs.PlainPlace.{step_taken};
 ghost use Rattle.exo_tree.specs.PlainUnit.{program};
 ghost use Rattle.exo_meaning.specs.Units.{IsUnit};
-ghost use Rattle.cursor_forward.specs.PlainCursor.{plain_cursor};
+ghost use Rattle.cursor_forward.specs.PlainCursor.{plain_cursor, plain_side};
 ghost use Rattle.step_driver.specs.PlainTarget.{plain_piece};
 ghost use Rattle.schedule_calls.specs.PlainRequest.{plain_asked};
 ghost use Rattle.schedule_run.specs.Outcomes.{Makes};
-ghost use Rattle.schedule_run.specs.Planned.{statement_in, block_in, statement_at, block_at};
+ghost use Rattle.schedule_operators.specs.Operators.{before_gap, gap_beside};
+ghost use Rattle.schedule_run.specs.PlainPlace.{plain_gap};
+ghost use Rattle.schedule_run.specs.Planned.{statement_in, block_in, gap_in, statement_at, block_at, gap_at};
 ghost use Rattle.schedule_run.specs.PlainVersions.{versions};
 
 use crate::session::Session;
 use crate::why::Why;
-use cursor_forward::{Cursor, StepError};
-use exo_tree::{Path, ProcId};
+use cursor_forward::{Cursor, Side, StepError};
+use exo_tree::{Path, ProcId, Step};
 use schedule_calls::Asked;
 use std::alloc::Global;
 use step_driver::Piece;
@@ -37,6 +41,67 @@ fn block_in(c: Cursor) -> Result<Piece, Why>
     }
 }
 
+/// A gap in the block of a statement.
+#[derive(Drop)]
+pub(crate) struct GapIn {
+    /// That statement.
+    pub around: Path,
+    /// How many statements of the block are before the gap.
+    pub before: u32,
+}
+
+/// How many statements are before the gap beside the one of that number; None exactly where 32 bits do not hold it.
+fn before_gap(number: u32, side: Side) -> Option<u32>
+    ensures { option_map (λ n. n) result ≡ before_gap number (plain_side side) }
+{
+    match side {
+        Side::Before => Some(number),
+        Side::After => number.checked_add(1),
+    }
+}
+
+/// The path of these steps.
+fn path_of(steps: &[Step]) -> Path
+    requires { length steps.now ≤ 32 }
+    ensures { result ≡ map step_taken steps.now }
+{
+    let mut path = Path::new();
+    for step in steps {
+        path.push(*step);
+    }
+    path
+}
+
+/// The gap beside the statement at a path; None exactly where no statement is round it.
+fn gap_beside(path: &Path, side: Side) -> Option<GapIn>
+    ensures { option_map plain_gap result ≡ gap_beside path.now (plain_side side) }
+{
+    let (last, up) = path.as_slice().split_last()?;
+    if up.is_empty() {
+        return None;
+    }
+    match before_gap(last.index, side) {
+        Some(before) => Some(GapIn {
+            around: path_of(up),
+            before,
+        }),
+        None => None,
+    }
+}
+
+/// The gap that a cursor stands for, where an operator asks for one in the block of a statement.
+fn gap_in(c: &Cursor) -> Result<GapIn, Why>
+    ensures { Makes plain_gap (gap_in (plain_cursor c.now)) result }
+{
+    let Cursor::Gap(path, side) = c else {
+        return Err(Why::Step(StepError::WrongShape));
+    };
+    match gap_beside(path, *side) {
+        Some(gap) => Ok(gap),
+        None => Err(Why::Step(StepError::WrongShape)),
+    }
+}
+
 impl Session {
     /// The statement that is asked for by an operator on version `k`.
     pub(crate) fn statement_at(
@@ -59,5 +124,14 @@ impl Session {
     {
         let cursor = self.sought(alloc, k, asked)?;
         block_in(cursor)
+    }
+
+    /// The gap that is asked for by an operator on version `k`.
+    pub(crate) fn gap_at(&self, alloc: Global, k: ProcId, asked: &Asked<'_>) -> Result<GapIn, Why>
+        requires { IsUnit (program self.now.unit) }
+        ensures { Makes plain_gap (gap_at (versions self.now) k.0 (plain_asked asked.now)) result }
+    {
+        let cursor = self.sought(alloc, k, asked)?;
+        gap_in(&cursor)
     }
 }

@@ -1,16 +1,18 @@
 //! What operators make of versions.
-ghost use Rattle.std.specs.Prelude.{◌≡◌, true};
+ghost use Rattle.std.specs.Prelude.{◌≡◌, true, option_map};
+ghost use Rattle.exo_tree.specs.PlainPlace.{branch_taken};
 ghost use Rattle.exo_tree.specs.PlainProcedure.{procedure};
 ghost use Rattle.exo_tree.specs.PlainUnit.{program};
 ghost use Rattle.exo_modes.specs.Marks.{modes_of};
 ghost use Rattle.exo_modes.specs.Seen.{table_says};
 ghost use Rattle.cursor_forward.specs.PlainProposal.{plain_proposal};
 ghost use Rattle.loop_rewrites.specs.PlainTail as made;
+ghost use Rattle.nest_laws.specs.Fission.{fission_rule};
 ghost use Rattle.step_rules.specs.Answer.{proposed};
 ghost use Rattle.step_rules.specs.Lawful.{IsTarget};
 ghost use Rattle.step_driver.specs.PlainTarget.{target};
 ghost use Rattle.schedule_calls.specs.PlainRequest.{plain_asked, plain_division, plain_operation, plain_tail};
-ghost use Rattle.schedule_operators.specs.Operators.{call_of, division_of, procedure_call, statement_call, tail_of};
+ghost use Rattle.schedule_operators.specs.Operators.{call_of, dead_code_rule, division_of, gap_call, procedure_call, statement_call, tail_of};
 ghost use Rattle.schedule_run.specs.Outcomes.{Makes};
 ghost use Rattle.schedule_run.specs.Planned.{as_tried, has_form, planned};
 ghost use Rattle.schedule_run.specs.PlainVersions.{versions};
@@ -19,10 +21,12 @@ use crate::resolving::{cut_at, specialize_at};
 use crate::session::Session;
 use crate::why::Why;
 use cursor_forward::Proposal;
-use exo_tree::Path;
+use exo_tree::{Branch, Path};
 use expression_rewrites::{Commuting, Deleting, Renaming};
 use loop_rewrites::{Dividing, Unrolling};
+use nest_rewrites::{Fissioning, Fusing, Reordering};
 use schedule_calls::{Asked, Division, Operation, Tail};
+use statement_rewrites::{Emptying, Exchanging, Keeping, Removing};
 use std::alloc::Global;
 use step_driver::{Operator, Target, propose};
 
@@ -72,6 +76,41 @@ fn at_statement<O: Operator>(
     proposed(alloc, on, &path, op)
 }
 
+/// What `fission` makes at the gap that is asked for.
+fn fission_at(
+    alloc: Global,
+    on: &Target<'_>,
+    s: &Session,
+    at: &Asked<'_>,
+) -> Result<Proposal, Why>
+    requires modes { table_says on.now.modes.now ≡ modes_of (program on.now.unit.now) }
+    requires target { IsTarget (target on.now) }
+    requires unit { program on.now.unit.now ≡ program s.now.unit }
+    ensures { Makes plain_proposal (planned (versions s.now) on.now.number.0 (procedure on.now.proc.now) (gap_call (plain_asked at.now) fission_rule)) result }
+{
+    let gap = s.gap_at(alloc, on.number, at)?;
+    proposed(alloc, on, &gap.around, &Fissioning { count: gap.before })
+}
+
+/// What `eliminate_dead_code` makes of the loop, or of the condition and the branch of it that is kept.
+fn eliminate_at(
+    alloc: Global,
+    on: &Target<'_>,
+    s: &Session,
+    at: &Asked<'_>,
+    keep: Option<Branch>,
+) -> Result<Proposal, Why>
+    requires modes { table_says on.now.modes.now ≡ modes_of (program on.now.unit.now) }
+    requires target { IsTarget (target on.now) }
+    requires unit { program on.now.unit.now ≡ program s.now.unit }
+    ensures { Makes plain_proposal (planned (versions s.now) on.now.number.0 (procedure on.now.proc.now) (statement_call (plain_asked at.now) (dead_code_rule (option_map branch_taken keep)))) result }
+{
+    match keep {
+        None => at_statement(alloc, on, s, at, &Emptying),
+        Some(keep) => at_statement(alloc, on, s, at, &Keeping { keep }),
+    }
+}
+
 /// A tail as the step has it.
 fn tail_of(t: Tail) -> loop_rewrites::Tail
     ensures { made.plain_tail result ≡ tail_of (plain_tail t) }
@@ -112,8 +151,14 @@ pub(crate) fn planned(
     match operation {
         Operation::DivideLoop(at, division) => at_statement(alloc, on, s, at, &dividing(division)),
         Operation::CutLoop(at, e) => cut_at(alloc, on, s, at, e),
+        Operation::ReorderLoops(at) => at_statement(alloc, on, s, at, &Reordering),
+        Operation::Fission(at) => fission_at(alloc, on, s, at),
+        Operation::Fuse(at) => at_statement(alloc, on, s, at, &Fusing),
         Operation::UnrollLoop(at) => at_statement(alloc, on, s, at, &Unrolling),
+        Operation::RemoveLoop(at) => at_statement(alloc, on, s, at, &Removing),
         Operation::Specialize(at, c) => specialize_at(alloc, on, s, at, c),
+        Operation::EliminateDeadCode(at, keep) => eliminate_at(alloc, on, s, at, *keep),
+        Operation::ReorderStmts(at) => at_statement(alloc, on, s, at, &Exchanging),
         Operation::CommuteExpr(at, pattern) => at_statement(
             alloc,
             on,

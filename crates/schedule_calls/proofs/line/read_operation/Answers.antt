@@ -1,11 +1,11 @@
-use Rattle.std.proofs.Common.{sym, subst, ◌∙◌, map}
+use Rattle.std.proofs.Common.{◌≡◌, ℕ, List, sym, subst, ◌∙◌, map}
 use Rattle.schedule_text.specs.Views.{plain_argument, plain_arguments}
 use Rattle.schedule_calls.specs.Operators.{name_of}
 use Rattle.schedule_calls.specs.PlainRequest.{plain_operation}
 use Rattle.schedule_calls.specs.Readings.{IsWord, AsksOperation}
-use Rattle.schedule_calls.proofs.Answered.{some_of}
-use Rattle.schedule_calls.proofs.Operations.{named}
-use Rattle.schedule_calls.proofs.Lines.{asks_apply}
+use Rattle.schedule_calls.proofs.Answered.{some_of, none_of}
+use Rattle.schedule_calls.proofs.Operations.{named, is_known}
+use Rattle.schedule_calls.proofs.Lines.{asks_apply, no_apply}
 use Rattle.schedule_calls.proofs.line.read_operation.Goals as goal
 
 pub returns-in-Some-2 : goal.returns-in-Some-2
@@ -19,3 +19,17 @@ returns-in-Some-2 c =
     (plain_operation c.in-Some-2.operation))
     c.as_slice.ensures.value
     (some_of _ _ _ _ c.in-Some-2.is c.in_ok-operation.ensures))
+
+pub returns-in-None : goal.returns-in-None
+returns-in-None c =
+    let is : c.args.name.now ≡ name_of c.in-Some.operator =
+    named _ _ (sym c.operator_of.ensures ∙ c.in-Some.is) in (
+      is_known _ c.in-Some.operator is,
+      no_apply _ _ (plain_arguments c.args.args.now)
+          (λ o asks.
+          none_of _ _ _ c.in-None.is c.in_ok-operation.ensures o
+          (subst (λ (n : List ℕ). AsksOperation n (map plain_argument c.as_slice.result.now) o) is
+          (subst (λ l. AsksOperation c.args.name.now (map plain_argument l) o)
+          (sym c.as_slice.ensures.value)
+          asks))),
+    )

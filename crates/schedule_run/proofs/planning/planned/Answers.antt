@@ -1,4 +1,6 @@
 use Rattle.std.proofs.Common.{◌∙◌, sym, ap, subst}
+use Rattle.std.specs.Prelude.{option_map}
+use Rattle.exo_tree.specs.PlainPlace.{branch_taken}
 use Rattle.exo_tree.specs.PlainProcedure.{procedure}
 use Rattle.text_expressions.specs.Views.{tree_of}
 use Rattle.text_expressions.specs.declared.source.SourceExpr.{SourceExpr}
@@ -7,15 +9,22 @@ use Rattle.cursor_forward.specs.PlainProposal.{plain_proposal}
 use Rattle.expression_laws.specs.Commute.{commute_rule}
 use Rattle.loop_laws.specs.DivideLoop.{Division, divide_rule}
 use Rattle.loop_laws.specs.UnrollLoop.{unroll_rule}
+use Rattle.nest_laws.specs.Fission.{fission_rule}
+use Rattle.nest_laws.specs.Fuse.{fuse_rule}
+use Rattle.nest_laws.specs.ReorderLoops as loops
+use Rattle.statement_laws.specs.RemoveLoop.{remove_rule}
+use Rattle.statement_laws.specs.ReorderStatements as statements
 use Rattle.schedule_calls.specs.PlainRequest.{plain_asked, plain_division, plain_operation}
 use Rattle.schedule_calls.specs.Requests.{CutLoop, Specialize}
 use Rattle.schedule_calls.specs.declared.request.Asked.{Asked}
 use Rattle.schedule_calls.specs.declared.request.Division as written
 use Rattle.schedule_calls.specs.declared.request.Operation.{Operation}
-use Rattle.schedule_operators.specs.Operators.{call_of, division_of, statement_call}
+use Rattle.schedule_operators.specs.Operators.{call_of, division_of, statement_call, gap_call}
+use Rattle.schedule_operators.specs.Operators.{dead_code_rule}
 use Rattle.schedule_run.specs.Outcomes.{Makes}
 use Rattle.schedule_run.specs.Planned.{planned}
 use Rattle.schedule_run.specs.PlainVersions.{versions}
+use Rattle.schedule_run.proofs.Arms.{of_arm, of_cursor}
 use Rattle.schedule_run.proofs.planning.planned.Goals as goal
 
 pub returns-in-DivideLoop : goal.returns-in-DivideLoop
@@ -85,3 +94,39 @@ returns-in-CommuteExpr c =
     (planned v k p (statement_call (plain_asked a) (commute_rule (plain_expr_pattern c.in-CommuteExpr.pattern))))
     c.at_statement-in-CommuteExpr.result)
     c.deref-in-CommuteExpr.ensures c.at_statement-in-CommuteExpr.ensures)
+
+pub returns-in-ReorderLoops : goal.returns-in-ReorderLoops
+returns-in-ReorderLoops c =
+    of_arm _ _ _ _ _ _ c.in-ReorderLoops.is
+    (of_cursor _ _ _ _ (λ a. statement_call a loops.reorder_rule) _ _ c.deref-in-ReorderLoops.ensures
+    c.at_statement-in-ReorderLoops.ensures)
+
+pub returns-in-Fission : goal.returns-in-Fission
+returns-in-Fission c =
+    of_arm _ _ _ _ _ _ c.in-Fission.is
+    (of_cursor _ _ _ _ (λ a. gap_call a fission_rule) _ _ c.deref-in-Fission.ensures
+    c.fission_at.ensures)
+
+pub returns-in-Fuse : goal.returns-in-Fuse
+returns-in-Fuse c =
+    of_arm _ _ _ _ _ _ c.in-Fuse.is
+    (of_cursor _ _ _ _ (λ a. statement_call a fuse_rule) _ _ c.deref-in-Fuse.ensures
+    c.at_statement-in-Fuse.ensures)
+
+pub returns-in-RemoveLoop : goal.returns-in-RemoveLoop
+returns-in-RemoveLoop c =
+    of_arm _ _ _ _ _ _ c.in-RemoveLoop.is
+    (of_cursor _ _ _ _ (λ a. statement_call a remove_rule) _ _ c.deref-in-RemoveLoop.ensures
+    c.at_statement-in-RemoveLoop.ensures)
+
+pub returns-in-EliminateDeadCode : goal.returns-in-EliminateDeadCode
+returns-in-EliminateDeadCode c =
+    of_arm _ _ _ _ _ _ c.in-EliminateDeadCode.is
+    (of_cursor _ _ _ _ (λ a. statement_call a (dead_code_rule (option_map branch_taken c.in-EliminateDeadCode.keep))) _ _ c.deref-in-EliminateDeadCode.ensures
+    c.eliminate_at.ensures)
+
+pub returns-in-ReorderStmts : goal.returns-in-ReorderStmts
+returns-in-ReorderStmts c =
+    of_arm _ _ _ _ _ _ c.in-ReorderStmts.is
+    (of_cursor _ _ _ _ (λ a. statement_call a statements.reorder_rule) _ _ c.deref-in-ReorderStmts.ensures
+    c.at_statement-in-ReorderStmts.ensures)

@@ -1,0 +1,30 @@
+-- What is planned for an operation, as the arm of it is written.
+use Rattle.std.proofs.Common.{◌≡◌, ℕ, sym, subst}
+use Rattle.std.specs.Prelude.{Result}
+use Rattle.exo_tree.specs.Tree.{Procedure}
+use Rattle.cursor_forward.specs.PlainProposal.{plain_proposal}
+use Rattle.cursor_forward.specs.declared.proposal.Proposal.{Proposal}
+use Rattle.schedule_calls.specs.Requests as plain
+use Rattle.schedule_calls.specs.PlainRequest.{plain_asked, plain_operation}
+use Rattle.schedule_calls.specs.declared.request.Asked.{Asked}
+use Rattle.schedule_calls.specs.declared.request.Operation.{Operation}
+use Rattle.schedule_versions.specs.Versions.{Versions}
+use Rattle.schedule_versions.specs.Lines.{Call}
+use Rattle.schedule_operators.specs.Operators.{call_of}
+use Rattle.schedule_run.specs.Outcomes.{Makes}
+use Rattle.schedule_run.specs.Planned.{planned}
+use Rattle.schedule_run.specs.declared.why.Why as memory
+
+module _ (v : Versions) (k : ℕ) (p : Procedure) (r : Result Proposal memory.Why) where
+  abbrev Plans : Call → Type 0
+  Plans call = Makes plain_proposal (planned v k p call) r
+
+  pub of_arm : (o written : Operation) → o ≡ written → Plans (call_of (plain_operation written))
+      → Plans (call_of (plain_operation o))
+  of_arm o written is h =
+      subst (λ (x : Operation). Plans (call_of (plain_operation x))) (sym is) h
+
+  -- its cursor is behind a box
+  pub of_cursor : (call : plain.Asked → Call) (a b : Asked) → a ≡ b → Plans (call (plain_asked a))
+      → Plans (call (plain_asked b))
+  of_cursor call a b is h = subst (λ (x : Asked). Plans (call (plain_asked x))) is h

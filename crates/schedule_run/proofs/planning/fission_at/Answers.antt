@@ -1,0 +1,28 @@
+use Rattle.std.proofs.Common.{◌≡◌, true, refl, sym, ap, subst}
+use Rattle.exo_tree.specs.Tree.{Program}
+use Rattle.exo_tree.specs.PlainProcedure.{procedure}
+use Rattle.cursor_forward.specs.PlainProposal.{plain_proposal}
+use Rattle.cursor_forward.specs.Proposals.{Plan}
+use Rattle.step_driver.specs.PlainTarget.{target}
+use Rattle.schedule_calls.specs.PlainRequest.{plain_asked}
+use Rattle.schedule_versions.specs.Lines as lines
+use Rattle.nest_laws.specs.Fission.{fission_rule}
+use Rattle.schedule_run.specs.PlainPlace.{plain_gap}
+use Rattle.schedule_run.specs.Outcomes.{Makes}
+use Rattle.schedule_run.specs.Planned.{Made}
+use Rattle.schedule_run.specs.PlainVersions.{versions}
+use Rattle.schedule_run.proofs.Asking.{gap_there}
+use Rattle.schedule_run.proofs.planning.fission_at.Goals as goal
+
+pub returns : goal.returns
+returns c =
+    let v = versions c.args.s.now in
+    let k = c.args.on.now.number.0 in
+    let p = procedure c.args.on.now.proc.now in
+    let same : target c.args.on.now ≡ lines.target v k p =
+    ap (λ (u : Program). record { unit = u; number = k; proc = p }) c.requires.unit in
+    subst (λ (m : Made Plan). Makes plain_proposal m c.proposed.result)
+    (sym
+    (gap_there v k p (target c.args.on.now) same (λ fs. true) (plain_asked c.args.at.now)
+    fission_rule refl (plain_gap c.in_ok-gap.gap) c.in_ok-gap.ensures))
+    c.proposed.ensures
