@@ -10,7 +10,7 @@ use Rattle.exo_tree.specs.PlainUnit.{program}
 use Rattle.step_needs.specs.Owing.{target_in}
 use Rattle.step_needs.specs.PlainNeed.{plain_need}
 use Rattle.step_needs.proofs.Ruled.{needs_affine}
-use Rattle.step_needs.proofs.Walked.{walked, extents_there, few_fields}
+use Rattle.step_needs.proofs.Walked.{walked, well, extents_there, few_fields}
 use Rattle.step_needs.proofs.owing.owed_for.Goals as goal
 
 pub of-requires : goal.of-requires
@@ -25,6 +25,17 @@ pub new-cursor-requires-clause-rules : goal.new-cursor-requires-clause-rules
 new-cursor-requires-clause-rules c =
     let t = target_in (program c.args.unit.now, procedure c.args.p.now) c.requires.target.0 in
     walked c.well_formed_procedures_may_be_walked.ensures c.procedures_keep_rules.ensures t c.requires.target.1
+
+pub put_needs-requires-clause-site : goal.put_needs-requires-clause-site
+put_needs-requires-clause-site c =
+    let t = target_in (program c.args.unit.now, procedure c.args.p.now) c.requires.target.0 in
+    record {
+      well = well c.well_formed_procedures_may_be_walked.ensures c.procedures_keep_rules.ensures t c.requires.target.1;
+      modes = c.requires.modes;
+      roots = c.in_ok-roots.ensures;
+      writes = c.in_ok-writes.ensures;
+      words = c.in_ok-words.ensures;
+    }
 
 pub put_needs-requires-clause-affine : goal.put_needs-requires-clause-affine
 put_needs-requires-clause-affine c =
