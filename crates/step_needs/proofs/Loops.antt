@@ -13,6 +13,8 @@ use Rattle.exo_conflicts.specs.PlainCopies.{plain_turn, turn_fits, turn_is_low}
 use Rattle.exo_conflicts.specs.declared.twin.Turn.{Turn}
 use Rattle.step_rules.specs.Owing.{header_fits, header_is_low}
 use Rattle.step_needs.specs.Conflicts.{Loop, loop_of, turn_loop}
+use Rattle.step_needs.specs.PlainNeed.{plain_header}
+use Rattle.step_needs.specs.declared.conflict.Header as declared
 
 abbrev turn_from : Loop → orders.Turn
 turn_from l =
@@ -23,6 +25,12 @@ loop_fits l = plain_fits l.lower && plain_fits l.upper
 
 abbrev loop_is_low : Loop → Bool
 loop_is_low l = nat_lt l.variable (2 ^ 31) && (is_low l.lower && is_low l.upper)
+
+-- the turns are made of the loops, and each list is reached by way of a slice
+pub told : {ts us : List Turn} {hs gs : List declared.Header} → ts ≡ us
+    → map turn_loop us ≡ map loop_of (map plain_header hs) → hs ≡ gs
+    → map turn_loop ts ≡ map loop_of (map plain_header gs)
+told e h f = ap (map turn_loop) e ∙ h ∙ ap (λ ls. map loop_of (map plain_header ls)) f
 
 module _ (ts : List Turn) (hs : List Header) (e : map turn_loop ts ≡ map loop_of hs) where
   pub same_turns : map plain_turn ts ≡ map turn_of hs

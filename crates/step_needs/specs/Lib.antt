@@ -3,4 +3,3 @@ pub mod Outcomes
 pub mod Owing
 pub mod Conflicts
 pub mod Sites
-pub mod Laws

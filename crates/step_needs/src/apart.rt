@@ -21,7 +21,7 @@ use affine_systems::Obligation;
 use bounds_check::Owed;
 use check_facts::Cursor;
 use cursor_forward::StepError;
-use crate::laws::{accesses_are_low, contexts_are_low};
+use effect_bounds::laws::{accesses_are_low, contexts_are_low};
 use exo_conflicts::{Order, Standing, Turn, conflicts};
 use exo_effects::accesses;
 use exo_modes::ModeTable;
@@ -101,20 +101,20 @@ pub(crate) fn put_apart(
     requires site { IsSite site.now }
     requires cursor { cursor.old ≡ seen site.now }
     requires low { IsTrue (conflict_is_low (plain_conflict k.now)) }
-    ensures puts { (n : ℕ) → Puts result (target_in (seen site.now) n) (rule.Apart path.now (plain_conflict k.now)) out.old out.new }
+    ensures puts { (n : ℕ) (m : rule.Need) → m ≡ rule.Apart path.now (plain_conflict k.now) → Puts result (target_in (seen site.now) n) m out.old out.new }
     ensures same { cursor.new ≡ cursor.old }
 {
     let place = place_in(site.proc, path);
     // whether its context can be written down
     cursor.at(alloc, &place)?;
-    let at = Standing {
+    let standing = Standing {
         unit: site.unit,
         proc: site.proc,
         roots: site.roots,
         writes: site.writes,
         path: &place,
     };
-    let owed = owed_at(alloc, &at, site.modes, path, k)?;
+    let owed = owed_at(alloc, &standing, site.modes, path, k)?;
     match out.push_all(owed) {
         Ok(()) => Ok(()),
         Err(e) => Err(refusal(e)),

@@ -4,7 +4,6 @@
 mod apart;
 mod conflict;
 mod fact;
-mod laws;
 mod need;
 mod owing;
 mod site;

@@ -44,15 +44,16 @@ put_needs-requires-clause-affine c =
 
 pub returns-in_err-put_needs : goal.returns-in_err-put_needs
 returns-in_err-put_needs c k =
+    let t = target_in (program c.args.unit.now, procedure c.args.p.now) k in
     let ns = map plain_need c.args.needs.now in
     let e = c.in_err-put_needs.field-0.0 in
     refused_all _ c.from_residual-in_err-put_needs.result e _ c.from_residual-in_err-put_needs.ensures.1
     (subst (λ (x : Tried (List Owed)). RefusedBy x (cause_of e))
-    (λ i. owed_behind (target_in (c.new-cursor.ensures i) k) (c.new-out.ensures i) ns) (c.in_err-put_needs.ensures k))
+    (λ i. owed_behind t (c.new-out.ensures i) ns) (c.in_err-put_needs.ensures k))
 
 pub returns : goal.returns
 returns c k =
+    let t = target_in (program c.args.unit.now, procedure c.args.p.now) k in
     let ns = map plain_need c.args.needs.now in
-    (λ i. owed_behind (target_in (sym c.new-cursor.ensures i) k) (sym c.new-out.ensures i) ns)
-    ∙ c.in_ok-put_needs.ensures k
+    (λ i. owed_behind t (sym c.new-out.ensures i) ns) ∙ c.in_ok-put_needs.ensures k
     ∙ ap Got (sym c.into_items.ensures)
