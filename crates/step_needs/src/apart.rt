@@ -61,7 +61,14 @@ fn listed(
     contexts_are_low();
     accesses_are_low();
     let first = accesses(alloc, at.unit, modes, at.proc, &k.first.path, k.first.count)?;
-    let second = accesses(alloc, at.unit, modes, at.proc, &k.second.path, k.second.count)?;
+    let second = accesses(
+        alloc,
+        at.unit,
+        modes,
+        at.proc,
+        &k.second.path,
+        k.second.count,
+    )?;
     conflicts(alloc, at, order, path, &first, &second)
 }
 
