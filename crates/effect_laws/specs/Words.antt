@@ -6,3 +6,4 @@ pub use Rattle.exo_effects.specs.Accesses.{plain_fits, accesses_fit}
 pub use Rattle.exo_effects.specs.Orders.{Header}
 pub use Rattle.exo_effects.specs.Conflicts.{Fault, ManyCases, LargeSystem, ManySystems}
 pub use Rattle.exo_effects.specs.Conflicts.{Listing, Lists, Refuses}
+pub use Rattle.exo_effects.specs.Low.{is_low}
