@@ -72,7 +72,7 @@ pub fn loop_of(b: &Block) -> Option<LoopAt<'_>>
 }
 
 /// Copies of two bounds.
-fn bounds(alloc: Global, lo: &Ctrl, hi: &Ctrl) -> Result<(Ctrl, Ctrl), AllocError>
+pub(crate) fn bounds(alloc: Global, lo: &Ctrl, hi: &Ctrl) -> Result<(Ctrl, Ctrl), AllocError>
     ensures lo { IfOk result (λ b. control b.0 ≡ control lo.now) }
     ensures hi { IfOk result (λ b. control b.1 ≡ control hi.now) }
 {
