@@ -11,7 +11,7 @@ mod places;
 
 pub use bounds::{InBound, is_over_variables};
 pub use left::Left;
-pub use loops::{LoopAt, loop_at, loop_in, loop_of, only_loop};
+pub use loops::{LoopAt, loop_at, loop_in, loop_of, only_loop, only_statement};
 pub use moves::{alone_to, range_to};
 pub use owing::{apart, header, one, size};
 pub use places::{FIRST, inside, onward};

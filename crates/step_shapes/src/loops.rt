@@ -52,7 +52,7 @@ pub fn loop_at<'a>(on: &Target<'a>, piece: &Piece) -> Option<LoopAt<'a>>
 
 /// The statement that is all of a block; None exactly where it has none, or more.
 #[tactic(auto, using(crate::proofs::Made::one_alone, crate::proofs::Made::others_alone))]
-fn alone(b: &Block) -> Option<&Stmt>
+pub fn only_statement(b: &Block) -> Option<&Stmt>
     ensures { option_map statement (option_copied result) ≡ alone_in (block b.now) }
 {
     if b.len() != 1 {
@@ -65,7 +65,7 @@ fn alone(b: &Block) -> Option<&Stmt>
 pub fn loop_of(b: &Block) -> Option<LoopAt<'_>>
     ensures { option_map plain_loop result ≡ shapes.loop_of (block b.now) }
 {
-    match alone(b) {
+    match only_statement(b) {
         None => None,
         Some(s) => loop_in(s),
     }
