@@ -1,17 +1,19 @@
 //! The orders in which turns must not meet.
 ghost use Rattle.std.specs.Prelude.{◌≡◌, [], ◌∷◌, map, IfOk};
+ghost use Rattle.exo_tree.specs.PlainPlace.{step_taken};
+ghost use Rattle.cursor_forward.specs.Shifts.{at_index};
 ghost use Rattle.exo_conflicts.specs.PlainCopies.{plain_row};
 ghost use Rattle.exo_effects.specs.Orders as orders;
 ghost use Rattle.effect_laws.specs.Fits as fits;
-ghost use Rattle.nest_laws.specs.Shapes.{header_of};
-ghost use Rattle.step_needs.specs.PlainNeed.{plain_turns};
+ghost use Rattle.nest_laws.specs.Shapes.{header_of, step};
+ghost use Rattle.step_needs.specs.PlainNeed.{plain_turns, plain_conflict};
 ghost use Rattle.step_shapes.specs.PlainLoop.{plain_loop};
 
 use exo_conflicts::OrderRow;
-use exo_tree::Path;
+use exo_tree::{Branch, Path, Step};
 use std::alloc::{AllocError, Global};
-use step_needs::Turns;
-use step_shapes::{LoopAt, header};
+use step_needs::{Conflict, Turns};
+use step_shapes::{LoopAt, header, onward};
 
 /// So many statements from a path on, at a turn of a loop.
 pub(crate) fn in_one(
@@ -59,4 +61,37 @@ pub(crate) fn crossing(alloc: Global) -> Result<Vec<OrderRow>, AllocError>
     let mut rows = later(alloc)?;
     rows.push(OrderRow::Greater(1))?;
     Ok(rows)
+}
+
+/// Two pieces, each at a turn of one loop, that of the second being the later one.
+pub(crate) fn in_turn(
+    alloc: Global,
+    first: Turns,
+    second: Turns,
+) -> Result<Conflict, AllocError>
+    ensures { IfOk result (λ k. plain_conflict k ≡ record { first = plain_turns first; second = plain_turns second; order = orders.Less 0 ∷ [] }) }
+{
+    let order = later(alloc)?;
+    Ok(Conflict {
+        first,
+        second,
+        order,
+    })
+}
+
+/// The path to the statement of a number in the loop of a number of a piece.
+pub(crate) fn in_loop(k: u32, n: u32) -> Result<Path, AllocError>
+    ensures { IfOk result (λ p. p ≡ step k ∷ at_index n) }
+{
+    onward(&Path::new(), k, &[numbered(n)])
+}
+
+/// The step to the statement of a number.
+pub(crate) fn numbered(n: u32) -> Step
+    ensures { step_taken result ≡ step n }
+{
+    Step {
+        branch: Branch::Main,
+        index: n,
+    }
 }

@@ -9,6 +9,7 @@ mod fusing;
 mod nests;
 mod parting;
 mod reordering;
+mod steady;
 mod two;
 
 pub use fission::{Fissioning, fission};

@@ -1,13 +1,10 @@
 //! A loop and the next one, with bounds that may agree.
-ghost use Rattle.std.specs.Prelude.{◌≡◌, ◌&&◌, IsTrue, option_map, option_and_then, unwrap_or, IfOk, IfSome};
-ghost use Rattle.exo_tree.specs.Tree.{block};
+ghost use Rattle.std.specs.Prelude.{◌≡◌, IsTrue, option_map, option_and_then, IfOk, IfSome};
+ghost use Rattle.exo_tree.specs.Tree.{block, joined};
 ghost use Rattle.exo_tree.specs.PlainStatement.{statement};
 ghost use Rattle.loop_laws.specs.Shapes as shapes;
 ghost use Rattle.nest_laws.specs.Fuse as plain;
-ghost use Rattle.step_driver.specs.PlainTarget.{target, plain_piece};
-ghost use Rattle.step_driver.specs.Spots.{spot_at};
 ghost use Rattle.step_shapes.specs.PlainLoop.{plain_loop};
-ghost use Rattle.nest_rewrites.specs.Agreement as agreeing;
 ghost use Rattle.nest_rewrites.specs.PlainTwo.{plain_loops, plain_two};
 
 use crate::agreeing::agreement;
@@ -63,7 +60,7 @@ impl<'a> Loops<'a> {
     fn agreeing(self, alloc: Global) -> Result<Option<TwoAt<'a>>, AllocError>
         requires { IsTrue (plain.both_are_affine (plain_loops self)) }
         ensures two { IfOk result (λ p. option_map plain_two p ≡ plain.where_they_agree (plain_loops self)) }
-        ensures fit { IfOk result (λ p. IfSome p (λ q. q.fit ≡ plain.bounds_fit (plain_loops self))) }
+        ensures fit { IfOk result (λ p. IfSome p (λ q. q.fit ≡ plain.bounds_fit (plain_two q))) }
     {
         let low = agreement(alloc, self.first.lo, self.second.lo)?;
         let high = agreement(alloc, self.first.hi, self.second.hi)?;
@@ -75,5 +72,48 @@ impl<'a> Loops<'a> {
             second: self.second,
             fit: low.is_some() && high.is_some(),
         }))
+    }
+}
+
+/// The two loops with bounds that may agree that are all of a block; None exactly where there are none.
+#[tactic(auto, using(crate::proofs::Two::agreeing_two, crate::proofs::Two::not_affine_two, crate::proofs::Two::no_loops))]
+pub(crate) fn two_in(alloc: Global, b: &Block) -> Result<Option<TwoAt<'_>>, AllocError>
+    ensures two { IfOk result (λ p. option_map plain_two p ≡ plain.two_in (block b.now)) }
+    ensures fit { IfOk result (λ p. IfSome p (λ q. q.fit ≡ plain.bounds_fit (plain_two q))) }
+{
+    let Some(p) = loops_of(b) else {
+        return Ok(None);
+    };
+    if !(has_affine_bounds(&p.first) && has_affine_bounds(&p.second)) {
+        return Ok(None);
+    }
+    p.agreeing(alloc)
+}
+
+impl TwoAt<'_> {
+    /// The second body, with the variable of the first loop.
+    fn second_body(&self, alloc: Global) -> Result<Block, AllocError>
+        ensures { IfOk result (λ b. block b ≡ plain.second_body (plain_two self.now)) }
+    {
+        let variable = Ctrl::Var(self.first.binder.id);
+        subst(alloc, self.second.body, self.second.binder.id, &variable)
+    }
+
+    /// One body behind the other.
+    fn bodies(&self, alloc: Global) -> Result<Block, AllocError>
+        ensures { IfOk result (λ b. block b ≡ joined (plain_two self.now).first.body (plain.second_body (plain_two self.now))) }
+    {
+        let second = self.second_body(alloc)?;
+        let mut bodies = self.first.body.duplicate(alloc)?;
+        bodies.append(second)?;
+        Ok(bodies)
+    }
+
+    /// One loop over both bodies.
+    pub(crate) fn fused(&self, alloc: Global) -> Result<Block, AllocError>
+        ensures { IfOk result (λ b. block b ≡ plain.fused (plain_two self.now)) }
+    {
+        let bodies = self.bodies(alloc)?;
+        self.first.with_body(alloc, &bodies)
     }
 }
