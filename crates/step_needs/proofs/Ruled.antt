@@ -82,7 +82,7 @@ module _ (t : Target) where
       let scope = scope_there t.proc (opened 1 path t.proc.body) in
       condition_affine fields with_both scope (condition_of fact)
       (and_parts (found_in_condition fields with_both scope (condition_of fact)).rules true h).0
-  need_affine (Apart path k) h = refl
+  need_affine (Apart path k) h = h
 
   pub needs_affine : (ns : List Need) → (findings_of_needs t ns).rules ≡ true
       → list_all is_affine ns ≡ true

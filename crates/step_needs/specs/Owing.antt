@@ -16,7 +16,7 @@ use Rattle.cursor_forward.specs.Causes.{Cause, FormFault, TooManySystems, Form}
 use Rattle.cursor_forward.specs.PlainProposal.{fault_of, cause_of}
 use Rattle.cursor_forward.specs.declared.proposal.StepError.{StepError}
 use Rattle.step_rules.specs.Rule.{Got, Target, Need, Says, Apart}
-use Rattle.step_rules.specs.Owing.{condition_of, owed_for, need_fault, owed_behind}
+use Rattle.step_rules.specs.Owing.{condition_of, conflict_is_low, owed_for, need_fault, owed_behind}
 use Rattle.step_needs.specs.Outcomes.{RefusedBy, IsCause}
 
 -- a procedure of a unit, under any number
@@ -35,10 +35,10 @@ abbrev pub said : Fact → Formula → Formula
 said (Holds c) f = f
 said (Fails c) f = negation f
 
--- what has to be shown is affine
+-- what has to be shown is affine; the loops of a conflict have low variables
 abbrev pub is_affine : Need → Bool
 is_affine (Says path fact) = condition_keeps_rules (condition_of fact)
-is_affine (Apart path k) = true
+is_affine (Apart path k) = conflict_is_low k
 
 -- ---- refusals
 

@@ -1,10 +1,12 @@
 //! What has to be shown for a step, and the systems that it owes.
 #![tactic(auto)]
 
+mod conflict;
 mod fact;
 mod need;
 mod owing;
 
+pub use conflict::{Conflict, Header, Turns};
 pub use fact::Fact;
 pub use need::{Need, findings_of_needs};
 pub use owing::owed_needs;

@@ -6,6 +6,7 @@ ghost use Rattle.step_rules.specs.Owing as owing;
 ghost use Rattle.step_needs.specs.PlainNeed.{plain_need};
 ghost use Rattle.step_needs.specs.Owing.{target_in};
 
+use crate::conflict::Conflict;
 use crate::fact::Fact;
 use exo_tree::{Path, Proc, Unit};
 use std::alloc::{AllocError, Global};
@@ -16,6 +17,8 @@ use tree_rules::{Findings, findings_of_condition_at};
 pub enum Need {
     /// A fact, wherever a run comes to the statement at a path.
     Says(Path, Fact),
+    /// Two pieces do not meet, wherever a run comes to the statement at a path.
+    Apart(Path, Box<Conflict>),
 }
 
 /// What is found of one of them.
@@ -29,6 +32,10 @@ fn findings_of_need(
 {
     match need {
         Need::Says(path, fact) => findings_of_condition_at(alloc, unit, p, path, fact.condition()),
+        Need::Apart(_, k) => Ok(Findings {
+            rules: k.is_low(),
+            ..Findings::FINE
+        }),
     }
 }
 

@@ -4,6 +4,8 @@ ghost use Rattle.std.specs.List.{list_all};
 ghost use Rattle.exo_tree.specs.Places.{opened};
 ghost use Rattle.exo_tree.specs.PlainProcedure.{procedure};
 ghost use Rattle.exo_tree.specs.PlainUnit.{program};
+ghost use Rattle.exo_modes.specs.Marks.{modes_of};
+ghost use Rattle.exo_modes.specs.Seen.{table_says};
 ghost use Rattle.affine_forms.specs.Formulas.{condition_keeps_rules};
 ghost use Rattle.affine_places.specs.Roots.{roots_of};
 ghost use Rattle.affine_places.specs.Seen.{roots_in};
@@ -31,6 +33,7 @@ use check_facts::Cursor;
 use check_facts::laws::well_formed_procedures_may_be_walked;
 use config_state::written_table;
 use cursor_forward::StepError;
+use exo_modes::ModeTable;
 use exo_tree::{Fields, Path, Proc, Unit};
 use std::alloc::Global;
 use text_show::Words;
@@ -138,6 +141,7 @@ fn put_need(
 {
     match need {
         Need::Says(path, fact) => put_fact(alloc, site, p, cursor, path, fact, out),
+        Need::Apart(_, _) => Err(StepError::Memory),
     }
 }
 
@@ -197,9 +201,11 @@ fn owed_for(
 pub fn owed_needs(
     alloc: Global,
     unit: &Unit,
+    modes: &ModeTable,
     p: &Proc,
     needs: &[Need],
 ) -> Result<Vec<Obligation>, StepError>
+    requires modes { table_says modes.now ≡ modes_of (program unit.now) }
     requires target { (k : ℕ) × IsTarget (target_in (program unit.now, procedure p.now) k) }
     requires rules { (k : ℕ) × ((owing.findings_of_needs (target_in (program unit.now, procedure p.now) k) (map plain_need needs.now)).rules ≡ true) }
     ensures { (k : ℕ) → Tries (λ v. map plain_obligation v.items) (owing.owed_needs (target_in (program unit.now, procedure p.now) k) (map plain_need needs.now)) result }

@@ -1,6 +1,6 @@
 -- What a step has to show: each need with its systems, in the context of its place.
-use Rattle.std.specs.Prelude.{Bool, true, false, ◌&&◌, if◌then◌else◌, All, List, [], ◌∷◌}
-use Rattle.std.specs.Prelude.{◌++◌, map, codes, Option, Some, None}
+use Rattle.std.specs.Prelude.{◌^◌, nat_le, nat_lt, Bool, true, false, ◌&&◌, if◌then◌else◌, All, List}
+use Rattle.std.specs.Prelude.{[], ◌∷◌, ◌++◌, map, length, codes, Option, Some, None}
 use Rattle.std.specs.List.{list_all}
 use Rattle.exo_tree.specs.Tree.{Condition}
 use Rattle.exo_tree.specs.Places.{Path, opened}
@@ -18,10 +18,11 @@ use Rattle.text_show.specs.ControlText.{condition_text}
 use Rattle.check_facts.specs.Contexts.{fact_formula, fact_fits, context_of, context_fits}
 use Rattle.check_facts.specs.Contexts.{known_at_place}
 use Rattle.exo_effects.specs.Accesses.{plain_fits, accesses_fit}
+use Rattle.exo_effects.specs.Low.{is_low}
 use Rattle.exo_effects.specs.Orders.{Header}
 use Rattle.exo_effects.specs.Conflicts.{Fault, ManyCases, LargeSystem, ManySystems}
 use Rattle.exo_effects.specs.Conflicts.{Listing, Lists, Refuses}
-use Rattle.effect_laws.specs.Apart.{Turns, conflict_listing}
+use Rattle.effect_laws.specs.Apart.{Turns, Conflict, conflict_listing}
 use Rattle.bounds_check.specs.Limits.{are_within}
 use Rattle.tree_rules.specs.declared.findings.Findings.{Findings}
 use Rattle.tree_rules.specs.Classes.{fine, all_of}
@@ -56,6 +57,17 @@ listing_fault (Refuses fault) = Some (fault_of fault)
 -- the normal forms of both ends of a loop can be written down
 abbrev pub header_fits : Header → Bool
 header_fits h = plain_fits h.lo && plain_fits h.hi
+
+-- its variable is below 2^31, and its ends are affine over such variables
+abbrev pub header_is_low : Header → Bool
+header_is_low h = nat_lt h.binder.id (2 ^ 31) && (is_low h.lo && is_low h.hi)
+
+-- the loops round a piece are so, and few; those of a well-formed procedure always are
+abbrev pub turns_are_low : Turns → Bool
+turns_are_low k = list_all header_is_low k.loops && nat_le (length k.loops) (2 ^ 20)
+
+abbrev pub conflict_is_low : Conflict → Bool
+conflict_is_low k = turns_are_low k.first && turns_are_low k.second
 
 -- nothing owed has an integer point
 abbrev pub AreShown : List Owed → Type 0
@@ -122,12 +134,12 @@ module _ (t : Target) where
   abbrev pub owed_needs : List Need → Tried (List Owed)
   owed_needs needs = owed_behind [] needs
 
-  -- what is found of the conditions that have to be shown; of conflicts nothing
+  -- what is found of the conditions that have to be shown, and of the loops of conflicts
   abbrev pub findings_of_need : Need → Findings
   findings_of_need (Says path fact) =
       findings_of_condition (field_kind t.unit.fields) with_both
       (scope_there t.proc (opened 1 path t.proc.body)) (condition_of fact)
-  findings_of_need (Apart path k) = fine
+  findings_of_need (Apart path k) = record fine { rules = conflict_is_low k }
 
   abbrev pub findings_of_needs : List Need → Findings
   findings_of_needs needs = all_of findings_of_need needs

@@ -1,0 +1,4 @@
+pub mod Refused
+pub mod Agreeing
+pub mod Two
+pub mod Parting
