@@ -1,3 +1,3 @@
 pub mod Calls
 pub mod Ways
-pub mod Own
+pub mod Outside

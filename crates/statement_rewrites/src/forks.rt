@@ -11,13 +11,14 @@ ghost use Rattle.step_driver.specs.Spots.{spot_at};
 ghost use Rattle.step_needs.specs.PlainNeed.{plain_need};
 ghost use Rattle.statement_rewrites.specs.PlainFork.{plain_fork};
 
-use crate::owing::one;
+use crate::places::at_index;
 use cursor_forward::{Shift, Shifts};
 use exo_tree::{Block, Branch, Cond, Path, Step, Stmt};
 use made_trees::or_pass;
 use std::alloc::{AllocError, Global};
 use step_driver::{Piece, Target};
 use step_needs::{Fact, Need};
+use step_shapes::one;
 
 /// A condition of a procedure, with its branches.
 #[derive(Clone, Copy)]
@@ -57,23 +58,11 @@ fn with_pass(alloc: Global, b: &Block) -> Result<Block, AllocError>
     Ok(made)
 }
 
-/// The path to the first statement of a piece.
-fn first() -> Path
-    ensures { result ≡ shifts.at_index 0 }
-{
-    let mut path = Path::new();
-    path.push(Step {
-        branch: Branch::Main,
-        index: 0,
-    });
-    path
-}
-
 /// The path to the first statement of a branch of the condition.
 fn in_branch(keep: Branch) -> Path
     ensures { result ≡ plain.in_branch (branch_taken keep) }
 {
-    let mut path = first();
+    let mut path = at_index(0);
     path.push(Step {
         branch: keep,
         index: 0,
@@ -89,7 +78,7 @@ fn out_of_branch(keep: Branch, count: u32) -> Shift
         from: in_branch(keep),
         count,
         whole: true,
-        to: Some(first()),
+        to: Some(at_index(0)),
     }
 }
 
