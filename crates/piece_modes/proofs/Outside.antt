@@ -1,10 +1,10 @@
 -- Names from outside are among all that a procedure binds.
-use Rattle.std.proofs.Common.{◌≡◌, ℕ, ◌++◌, ◌||◌, ◌&&◌, ◌==◌, Bool, true, false, List, [], ◌∷◌, Option, Some, None, map, refl, sym, ap, ap₂, ◌∙◌, eqb-true}
+use Rattle.std.proofs.Common.{◌≡◌, ℕ, ◌++◌, ◌||◌, ◌&&◌, ◌==◌, Bool, true, false, List, [], ◌∷◌, Option, Some, None, map, refl, sym, ap, ap₂, ◌∙◌, eqb-true, rules, length}
 use Rattle.std.proofs.Math.Bool.{or_assoc}
 use Rattle.std.proofs.lemmas.Bool.{false≢true}
 use Rattle.std.proofs.lemmas.List.Folds.{list_any-append}
 use Rattle.std.specs.List.{list_any}
-use Rattle.exo_tree.specs.Tree.{Binder, Statement, Assign, Reduce, Config, Pass, If, For, Alloc, View, Call, Block, end, next, Param, Procedure}
+use Rattle.exo_tree.specs.Tree.{Binder, Statement, Assign, Reduce, Config, Pass, If, For, Alloc, View, Call, Block, end, next, Param, Procedure, Program}
 use Rattle.exo_tree.specs.Context.{Context, Here, After, InLoop, InThen, InElse, fill}
 use Rattle.exo_tree.specs.Places.{Path, Opened, opened}
 use Rattle.exo_tree.proofs.Heights.{opened_whole}
@@ -13,8 +13,11 @@ use Rattle.exo_meaning.specs.Inputs.{is_buffer_of}
 use Rattle.exo_meaning.specs.Run.{roots_after}
 use Rattle.exo_meaning.specs.Units.{bound_ids}
 use Rattle.meaning_laws.specs.Sound.{binds, on_way}
+use Rattle.exo_modes.specs.Aliases.{roots_in}
+use Rattle.exo_modes.specs.declared.aliases.Alias.{Alias}
 use Rattle.scope_laws.specs.Holes.{roots_at}
 use Rattle.order_laws.specs.RemoveLoop.{is_outside}
+use Rattle.piece_modes.specs.Own.{looks_back, sees_own_root}
 use Rattle.piece_modes.specs.Way.{Way, passed, led, at_start, around_of, way_to}
 
 or_false : (t : Bool) → t ≡ (t || false)
@@ -147,6 +150,15 @@ module _ (count : ℕ) (path : Path) (p : Procedure) (y : ℕ) where
       (λ k. in_left y ids (binders p.body) (sym (params_in p.params y) ∙ k))
       (λ k. in_right y ids (binders p.body) (way_among p y (opened count path p.body) (opened_whole count path p.body) k))
 
+-- the start of a body
+pub start_is : (ps : List Param) (aliases : List Alias) (names : List ℕ) → aliases ≡ []
+    → names ≡ map (λ (q : Param). q.binder.id) ps
+    → record { roots = roots_in aliases; bound = λ y. list_any (λ x. y == x) names } ≡ at_start ps
+start_is ps aliases names e h = λ i. record {
+  roots = roots_in (e i);
+  bound = λ y. (ap (is_in y) h ∙ sym (params_in ps y)) i;
+}
+
 -- ---- names of two lists that pass a test
 
 found_in : (f : ℕ → Bool) (xs : List ℕ) (x : ℕ) → is_in x xs ≡ true → f x ≡ true → list_any f xs ≡ true
@@ -190,3 +202,13 @@ asked_outside count path p names f same =
     any_among f names (bound_ids p) (is_outside p (around count path p 0))
     (λ y. same y ∙ outside_is count path p y)
     (outside_among count path p)
+
+-- so a block sees its own roots just where it looks back at one of these names
+pub seen_outside : (u : Program) (p : Procedure) (count : ℕ) (path : Path) (b : Block) (names : List ℕ) (roots : ℕ → ℕ)
+    → record { roots = roots; bound = λ y. list_any (λ x. y == x) names } ≡ way_to count path p
+    → list_any (looks_back u roots b) names ≡ sees_own_root u p (around_of (opened count path p.body)) b
+seen_outside u p count path b names roots e =
+    let c = around_of (opened count path p.body) in
+    asked_outside count path p names (looks_back u roots b) (λ y. ap (λ (w : Way). w.bound y) e)
+    ∙ ap (λ (r : ℕ → ℕ). list_any (λ y. is_outside p c y && looks_back u r b y) (bound_ids p))
+    (ap (λ (w : Way). w.roots) e ∙ led_roots c (at_start p.params))

@@ -1,5 +1,6 @@
 //! Whether statements at a place look at what they write.
 ghost use Rattle.std.specs.Prelude.{◌≡◌, OnOk, IfOk};
+ghost use Rattle.std.specs.List.{list_any};
 ghost use Rattle.exo_tree.specs.Tree.{block};
 ghost use Rattle.exo_tree.specs.Places.{opened};
 ghost use Rattle.exo_tree.specs.PlainProcedure.{procedure};
@@ -52,6 +53,18 @@ impl Seen<'_> {
         let reads = self.touches(aliases, Mode::Reading, y)?;
         Ok(reduces || (writes && reads))
     }
+
+    /// Whether it does so with one of these buffers.
+    fn looks_back_at(&self, aliases: &mut Vec<Alias>, buffers: &[u32]) -> Result<bool, AllocError>
+        ensures { IfOk result (λ r. r ≡ list_any (looks_back (program self.now.unit.now) (roots_in aliases.old.items) (block self.now.body.now)) buffers.now) }
+    {
+        for y in buffers {
+            if self.looks_back(aliases, *y)? {
+                return Ok(true);
+            }
+        }
+        Ok(false)
+    }
 }
 
 /// Whether a block reduces into a buffer that is there before so many statements from a path on, or reads one that it writes,
@@ -74,10 +87,5 @@ pub fn sees_own_root(
         mut aliases,
         names,
     } = Way::to(alloc, p, path, count)?;
-    for y in &names {
-        if seen.looks_back(&mut aliases, *y)? {
-            return Ok(true);
-        }
-    }
-    Ok(false)
+    seen.looks_back_at(&mut aliases, &names)
 }

@@ -1,6 +1,7 @@
 //! Names on the way to a place: which are bound there, and the buffers for which they stand.
 ghost use Rattle.std.specs.Prelude.{◌≡◌, ◌≤◌, ◌∷◌, [], length, map, take, IfOk, OnOk};
 ghost use Rattle.exo_tree.specs.Tree.{block};
+ghost use Rattle.exo_tree.specs.Tree as tree;
 ghost use Rattle.exo_tree.specs.Places.{opened, opened_in};
 ghost use Rattle.exo_tree.specs.PlainParam.{parameter};
 ghost use Rattle.exo_tree.specs.PlainPlace.{step_taken};
@@ -23,19 +24,25 @@ pub(crate) struct Way {
     pub(crate) names: Vec<u32>,
 }
 
+/// The ids of parameters.
+fn ids_of(alloc: Global, params: &[Param]) -> Result<Vec<u32>, AllocError>
+    ensures { IfOk result (λ v. v.items ≡ map (λ (q : tree.Param). q.binder.id) (map parameter params.now)) }
+{
+    let mut ids = Vec::new(alloc);
+    for p in params {
+        ids.push(p.binder.id.0)?;
+    }
+    Ok(ids)
+}
+
 impl Way {
     /// At the start of a body.
     fn at_start(alloc: Global, params: &[Param]) -> Result<Way, AllocError>
         ensures { IfOk result (λ w. plain_way w ≡ plain.at_start (map parameter params.now)) }
     {
-        let mut names = Vec::new(alloc);
-        for p in params {
-            names.push(p.binder.id.0)?;
-        }
-        Ok(Way {
-            aliases: Vec::new(alloc),
-            names,
-        })
+        let names = ids_of(alloc, params)?;
+        let aliases = Vec::new(alloc);
+        Ok(Way { aliases, names })
     }
 
     /// Past a statement.

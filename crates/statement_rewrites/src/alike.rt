@@ -42,13 +42,23 @@ fn has_variable(l: &LoopAt<'_>) -> bool
     in_block(&Alone { id: l.binder.id }, l.body, 0)
 }
 
+/// The loop, where its body lacks its variable.
+fn where_it_lacks<'a>(l: LoopAt<'a>) -> Option<LoopAt<'a>>
+    ensures { option_map plain_loop result ≡ plain.without_variable (plain_loop l) }
+{
+    if has_variable(&l) {
+        return None;
+    }
+    Some(l)
+}
+
 /// The loop that is all of a piece and whose body lacks its variable; None exactly where there is none.
 pub(crate) fn removable_at<'a>(on: &Target<'a>, piece: &Piece) -> Option<LoopAt<'a>>
     ensures { option_map plain_loop result ≡ plain.removable (spot_at (target on.now) (plain_piece piece.now)).opened.piece }
 {
     match loop_at(on, piece) {
-        Some(l) if !has_variable(&l) => Some(l),
-        _ => None,
+        None => None,
+        Some(l) => where_it_lacks(l),
     }
 }
 
@@ -63,6 +73,7 @@ fn sees_own_field(alloc: Global, unit: &Unit, b: &Block) -> Result<bool, AllocEr
 
 /// Whether the body of the loop of a piece sees what it does: it reduces into a buffer from outside, or reads a buffer from
 /// outside, or a field, that it may write; calls included.
+#[tactic(auto, using(crate::proofs::Alike::own_seen))]
 fn sees_own(
     alloc: Global,
     on: &Target<'_>,
