@@ -54,7 +54,7 @@ fn parting_in<'a>(
     whole: LoopAt<'a>,
     count: u32,
 ) -> Result<Option<PartingAt<'a>>, AllocError>
-    ensures { IfOk result (λ p. option_map plain_parting p ≡ plain.parted_at count (plain_loop whole)) }
+    ensures { IfOk result (λ p. option_map plain_parting p ≡ plain.parted_at count (plain_loop whole.entry)) }
 {
     let Some((first, second)) = parted(alloc, whole.body, count as usize)? else {
         return Ok(None);

@@ -59,7 +59,7 @@ impl<'a> Loops<'a> {
     #[tactic(auto, using(crate::proofs::Pairs::by_agreements, crate::proofs::Pairs::by_fits))]
     fn agreeing(self, alloc: Global) -> Result<Option<TwoAt<'a>>, AllocError>
         requires { IsTrue (plain.both_are_affine (plain_loops self)) }
-        ensures two { IfOk result (λ p. option_map plain_two p ≡ plain.where_they_agree (plain_loops self)) }
+        ensures two { IfOk result (λ p. option_map plain_two p ≡ plain.where_they_agree (plain_loops self.entry)) }
         ensures fit { IfOk result (λ p. IfSome p (λ q. q.fit ≡ plain.bounds_fit (plain_two q))) }
     {
         let low = agreement(alloc, self.first.lo, self.second.lo)?;
