@@ -1,4 +1,5 @@
 pub mod Refused
-pub mod Agreeing
-pub mod Two
-pub mod Parting
+pub mod Forms
+pub mod Parts
+pub mod Pairs
+pub mod Written

@@ -42,7 +42,7 @@ fn has_variable(e: &Ctrl, x: Id) -> bool
 
 /// The inner loop, where its bounds lack the variable of the outer one.
 fn with_inner<'a>(outer: LoopAt<'a>, inner: LoopAt<'a>) -> Option<NestAt<'a>>
-    ensures { option_map plain_nest result ≡ plain.with_inner (plain_loop outer) (plain_loop inner) }
+    ensures { option_map plain_nest result ≡ plain.with_inner (plain_loop outer.entry) (plain_loop inner.entry) }
 {
     let x = outer.binder.id;
     if !has_variable(inner.lo, x) && !has_variable(inner.hi, x) {
@@ -54,7 +54,7 @@ fn with_inner<'a>(outer: LoopAt<'a>, inner: LoopAt<'a>) -> Option<NestAt<'a>>
 
 /// The nest of a loop; None exactly where its body is no such loop.
 fn nest_in(outer: LoopAt<'_>) -> Option<NestAt<'_>>
-    ensures { option_map plain_nest result ≡ option_and_then (plain.with_inner (plain_loop outer)) (shapes.loop_of (plain_loop outer).body) }
+    ensures { option_map plain_nest result ≡ option_and_then (plain.with_inner (plain_loop outer.entry)) (shapes.loop_of (plain_loop outer.entry).body) }
 {
     match loop_of(outer.body) {
         None => None,

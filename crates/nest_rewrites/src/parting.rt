@@ -26,7 +26,7 @@ pub(crate) struct PartingAt<'a> {
 }
 
 /// The first so many statements of a block, and the rest; None exactly where it has not so many.
-#[tactic(auto, using(crate::proofs::Parting::parted_pieces, crate::proofs::Parting::parted_none))]
+#[tactic(auto, using(crate::proofs::Parts::parted_pieces, crate::proofs::Parts::parted_none))]
 fn parted(alloc: Global, b: &Block, count: usize) -> Result<Option<(Block, Block)>, AllocError>
     ensures { IfOk result (λ p. option_map (λ q. (block q.0, block q.1)) p ≡ places.parted count (block b.now)) }
 {
@@ -40,7 +40,7 @@ fn parted(alloc: Global, b: &Block, count: usize) -> Result<Option<(Block, Block
 }
 
 /// Whether neither part is empty, and the second uses no name that the first binds.
-#[tactic(auto, using(crate::proofs::Parting::empty_list))]
+#[tactic(auto, using(crate::proofs::Parts::empty_list))]
 fn may_part(first: &Block, second: &Block) -> bool
     ensures { result ≡ plain.may_part (block first.now, block second.now) }
 {
@@ -54,7 +54,7 @@ fn parting_in<'a>(
     whole: LoopAt<'a>,
     count: u32,
 ) -> Result<Option<PartingAt<'a>>, AllocError>
-    ensures { IfOk result (λ p. option_map plain_parting p ≡ plain.parted_at count (plain_loop whole)) }
+    ensures { IfOk result (λ p. option_map plain_parting p ≡ plain.parted_at count (plain_loop whole.entry)) }
 {
     let Some((first, second)) = parted(alloc, whole.body, count as usize)? else {
         return Ok(None);

@@ -61,7 +61,7 @@ fn write_of(b: &Block) -> Option<WriteAt<'_>>
 
 impl PartingAt<'_> {
     /// Whether a write has not the loop's variable, and is of a field that the second part does not write.
-    #[tactic(auto, using(crate::proofs::Steady::not_written))]
+    #[tactic(auto, using(crate::proofs::Written::in_set, crate::proofs::Written::no_field))]
     fn is_steady(
         &self,
         alloc: Global,

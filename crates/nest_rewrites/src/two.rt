@@ -37,7 +37,7 @@ fn both_loops<'a>(a: &'a Stmt, b: &'a Stmt) -> Option<Loops<'a>>
 }
 
 /// The two loops that are all of a block; None exactly where it is no two loops.
-#[tactic(auto, using(crate::proofs::Two::two_there, crate::proofs::Two::no_two))]
+#[tactic(auto, using(crate::proofs::Pairs::two_there, crate::proofs::Pairs::no_two))]
 fn loops_of(b: &Block) -> Option<Loops<'_>>
     ensures { option_map plain_loops result ≡ plain.two_of (block b.now) }
 {
@@ -56,10 +56,10 @@ fn has_affine_bounds(l: &LoopAt<'_>) -> bool
 
 impl<'a> Loops<'a> {
     /// Both loops, where their bounds may agree.
-    #[tactic(auto, using(crate::proofs::Two::by_agreements, crate::proofs::Two::by_fits))]
+    #[tactic(auto, using(crate::proofs::Pairs::by_agreements, crate::proofs::Pairs::by_fits))]
     fn agreeing(self, alloc: Global) -> Result<Option<TwoAt<'a>>, AllocError>
         requires { IsTrue (plain.both_are_affine (plain_loops self)) }
-        ensures two { IfOk result (λ p. option_map plain_two p ≡ plain.where_they_agree (plain_loops self)) }
+        ensures two { IfOk result (λ p. option_map plain_two p ≡ plain.where_they_agree (plain_loops self.entry)) }
         ensures fit { IfOk result (λ p. IfSome p (λ q. q.fit ≡ plain.bounds_fit (plain_two q))) }
     {
         let low = agreement(alloc, self.first.lo, self.second.lo)?;
@@ -76,7 +76,7 @@ impl<'a> Loops<'a> {
 }
 
 /// The two loops with bounds that may agree that are all of a block; None exactly where there are none.
-#[tactic(auto, using(crate::proofs::Two::agreeing_two, crate::proofs::Two::not_affine_two, crate::proofs::Two::no_loops))]
+#[tactic(auto, using(crate::proofs::Pairs::agreeing_two, crate::proofs::Pairs::not_affine_two, crate::proofs::Pairs::no_loops))]
 pub(crate) fn two_in(alloc: Global, b: &Block) -> Result<Option<TwoAt<'_>>, AllocError>
     ensures two { IfOk result (λ p. option_map plain_two p ≡ plain.two_in (block b.now)) }
     ensures fit { IfOk result (λ p. IfSome p (λ q. q.fit ≡ plain.bounds_fit (plain_two q))) }

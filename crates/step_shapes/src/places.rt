@@ -1,5 +1,5 @@
 //! Places in what is found and in what is made.
-ghost use Rattle.std.specs.Prelude.{◌≡◌, ◌≤◌, [], ◌++◌, map, length, IfOk, OnOk};
+ghost use Rattle.std.specs.Prelude.{◌≡◌, ◌≤◌, ◌+◌, [], ◌∷◌, ◌++◌, map, length, IfOk, OnOk};
 ghost use Rattle.exo_tree.specs.Places.{Main};
 ghost use Rattle.exo_tree.specs.PlainPlace.{step_taken};
 ghost use Rattle.scope_laws.specs.PlacesCompose as plain;
