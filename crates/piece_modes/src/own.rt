@@ -30,8 +30,8 @@ struct Seen<'a> {
 
 impl Seen<'_> {
     /// Whether it touches a buffer so.
-    fn touches(&self, aliases: &mut Vec<Alias>, mode: Mode, y: u32) -> Result<bool, AllocError>
-        ensures touches { IfOk result (λ r. r ≡ block_touches (program self.now.unit.now) (plain_mode mode) (roots_in aliases.old.items) (block self.now.body.now) y) }
+    fn touches(self, aliases: &mut Vec<Alias>, mode: Mode, y: u32) -> Result<bool, AllocError>
+        ensures touches { IfOk result (λ r. r ≡ block_touches (program self.unit.now) (plain_mode mode) (roots_in aliases.old.items) (block self.body.now) y) }
         ensures kept { OnOk result (aliases.new.items ≡ aliases.old.items) }
     {
         let asked = Asked {
@@ -44,8 +44,8 @@ impl Seen<'_> {
     }
 
     /// Whether it reduces into a buffer, or reads it and writes it.
-    fn looks_back(&self, aliases: &mut Vec<Alias>, y: u32) -> Result<bool, AllocError>
-        ensures looks { IfOk result (λ r. r ≡ looks_back (program self.now.unit.now) (roots_in aliases.old.items) (block self.now.body.now) y) }
+    fn looks_back(self, aliases: &mut Vec<Alias>, y: u32) -> Result<bool, AllocError>
+        ensures looks { IfOk result (λ r. r ≡ looks_back (program self.unit.now) (roots_in aliases.old.items) (block self.body.now) y) }
         ensures kept { OnOk result (aliases.new.items ≡ aliases.old.items) }
     {
         let reduces = self.touches(aliases, Mode::Reducing, y)?;
@@ -55,8 +55,8 @@ impl Seen<'_> {
     }
 
     /// Whether it does so with one of these buffers.
-    fn looks_back_at(&self, aliases: &mut Vec<Alias>, buffers: &[u32]) -> Result<bool, AllocError>
-        ensures { IfOk result (λ r. r ≡ list_any (looks_back (program self.now.unit.now) (roots_in aliases.old.items) (block self.now.body.now)) buffers.now) }
+    fn looks_back_at(self, aliases: &mut Vec<Alias>, buffers: &[u32]) -> Result<bool, AllocError>
+        ensures { IfOk result (λ r. r ≡ list_any (looks_back (program self.unit.now) (roots_in aliases.old.items) (block self.body.now)) buffers.now) }
     {
         for y in buffers {
             if self.looks_back(aliases, *y)? {
@@ -83,9 +83,6 @@ pub fn sees_own_root(
     ensures { IfOk result (λ r. r ≡ sees_own_root (program unit.now) (procedure p.now) (around_of (opened count path.now (procedure p.now).body)) (block body.now)) }
 {
     let seen = Seen { unit, modes, body };
-    let Way {
-        mut aliases,
-        names,
-    } = Way::to(alloc, p, path, count)?;
+    let Way { mut aliases, names } = Way::to(alloc, p, path, count)?;
     seen.looks_back_at(&mut aliases, &names)
 }

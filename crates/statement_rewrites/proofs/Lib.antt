@@ -1,3 +1,3 @@
 pub mod Made
 pub mod Neighbouring
-pub mod Alike
+pub mod OwnSeen

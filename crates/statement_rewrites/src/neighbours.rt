@@ -98,7 +98,7 @@ fn alone(alloc: Global, path: Path) -> Turns
 }
 
 /// A statement and another one, in any order.
-fn conflict(alloc: Global, first: Path, second: Path) -> Conflict
+fn meeting(alloc: Global, first: Path, second: Path) -> Conflict
     ensures { plain_conflict result ≡ fits.neighbours_conflict first second }
 {
     Conflict {
@@ -143,6 +143,6 @@ impl Neighbours<'_> {
         ensures { IfOk result (λ ns. map plain_need ns.items ≡ plain.reorder_needs at.now (Some (plain_neighbours self.now))) }
     {
         let next = onward(at, 1, &[])?;
-        apart(alloc, at, conflict(alloc, at.duplicate(), next))
+        apart(alloc, at, meeting(alloc, at.duplicate(), next))
     }
 }

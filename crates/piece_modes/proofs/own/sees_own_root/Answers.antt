@@ -1,4 +1,4 @@
-use Rattle.std.proofs.Common.{◌≡◌, ◌==◌, Bool, ap, ◌∙◌}
+use Rattle.std.proofs.Common.{◌≡◌, ◌==◌, Bool, sym, ap, ◌∙◌}
 use Rattle.std.specs.List.{list_any}
 use Rattle.exo_tree.specs.Tree.{block}
 use Rattle.exo_tree.specs.Places.{opened}
@@ -26,5 +26,5 @@ returns c =
     ((λ i. record { roots = roots_in (aliases i); bound = λ y. list_any (λ x. y == x) (names i) }) ∙ way.ensures) in
     if_ok (λ r. r ≡ list_any looks c.deref.result.now)
     (λ (r : Bool). r ≡ sees_own_root u p (around_of (opened n path p.body)) b)
-    (λ r h. h ∙ ap (list_any looks) c.deref.ensures.value ∙ found)
+    (λ r h. h ∙ ap (list_any looks) (c.deref.ensures.value ∙ sym names) ∙ found)
     c.looks_back_at.result c.looks_back_at.ensures
