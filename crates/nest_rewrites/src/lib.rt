@@ -4,7 +4,7 @@
 mod agreeing;
 mod conflicts;
 mod fields;
-mod fission;
+mod fissioning;
 mod fusing;
 mod nests;
 mod parting;
@@ -12,6 +12,6 @@ mod reordering;
 mod steady;
 mod two;
 
-pub use fission::{Fissioning, fission};
+pub use fissioning::{Fissioning, fission};
 pub use fusing::{Fusing, fuse};
 pub use reordering::{Reordering, reorder_loops};
