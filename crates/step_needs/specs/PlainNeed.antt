@@ -42,4 +42,4 @@ plain_conflict k = record {
 
 abbrev pub plain_need : Need → rule.Need
 plain_need (Says path fact) = rule.Says path (plain_fact fact)
-plain_need (Apart path k) = rule.Apart path (plain_conflict k)
+plain_need (Apart path k) = rule.Apart path (plain_conflict k.value)

@@ -1,5 +1,6 @@
 //! Two pieces of a procedure that do not meet, and the loops round them.
-ghost use Rattle.std.specs.Prelude.{◌≡◌};
+ghost use Rattle.std.specs.Prelude.{◌≡◌, map};
+ghost use Rattle.std.specs.List.{list_all};
 ghost use Rattle.exo_tree.specs.PlainControl.{control};
 ghost use Rattle.exo_effects.specs.Low.{is_low};
 ghost use Rattle.step_rules.specs.Owing as owing;
@@ -66,12 +67,22 @@ impl Header {
     }
 }
 
+/// Whether all of these loops are so.
+fn all_low(loops: &[Header]) -> bool
+    ensures { result ≡ list_all owing.header_is_low (map plain_header loops.now) }
+{
+    match loops.split_first() {
+        None => true,
+        Some((h, rest)) => h.is_low() && all_low(rest),
+    }
+}
+
 impl Turns {
     /// The loops are so, and few.
     fn are_low(&self) -> bool
         ensures { result ≡ owing.turns_are_low (plain_turns self.now) }
     {
-        self.loops.iter().all(|h| h.is_low()) && self.loops.len() <= MOST_LOOPS
+        all_low(&self.loops) && self.loops.len() <= MOST_LOOPS
     }
 }
 
