@@ -33,6 +33,10 @@ parted_pieces n ss first second h f s =
     s ∙ ap (λ k. take k (drop n ss)) from ∙ take_rest ss n in
     ap₂ (λ x y. Some (block x, block y)) first_is second_is ∙ sym (parted_list n ss h)
 
-pub empty_list : (ss : List Statement) → is_empty (block ss) ≡ (length ss == 0)
-empty_list [] = refl
-empty_list (a ∷ ss) = refl
+pub is_none : (ss : List Statement) → length ss ≡ 0 → is_empty (block ss) ≡ true
+is_none [] h = refl
+is_none (a ∷ ss) h = absurd (omega (arith, h))
+
+pub is_some : (ss : List Statement) → length ss ≢ 0 → is_empty (block ss) ≡ false
+is_some [] h = absurd (h refl)
+is_some (a ∷ ss) h = refl

@@ -12,7 +12,7 @@ use std::alloc::{AllocError, Global};
 use step_shapes::InBound;
 
 /// Whether the normal forms of two bounds are equal; None exactly where one of them cannot be written down.
-#[tactic(auto, using(crate::proofs::Forms::both_keep_rules, crate::proofs::Bounds::found, crate::proofs::Bounds::too_wide))]
+#[tactic(auto, using(crate::proofs::Forms::both_keep_rules, crate::proofs::Forms::found, crate::proofs::Forms::too_wide))]
 pub(crate) fn agreement(alloc: Global, a: &Ctrl, b: &Ctrl) -> Result<Option<bool>, AllocError>
     requires first { IsTrue (is_affine variables (control a.now)) }
     requires second { IsTrue (is_affine variables (control b.now)) }

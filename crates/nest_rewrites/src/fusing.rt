@@ -50,10 +50,15 @@ impl TwoAt<'_> {
         requires { self.now.fit ≡ plain.bounds_fit (plain_two self.now) }
         ensures { Tries block (plain.fused_as (writing how) (plain_two self.now)) result }
     {
-        if matches!(how, Writing::Simplified) && !self.fit {
-            return Err(StepError::Form(FormError::WideNumber));
+        match how {
+            Writing::AsMade => Ok(self.fused(alloc)?),
+            Writing::Simplified => {
+                if !self.fit {
+                    return Err(StepError::Form(FormError::WideNumber));
+                }
+                Ok(self.fused(alloc)?)
+            }
         }
-        Ok(self.fused(alloc)?)
     }
 
     /// That the second body at a turn does not meet the first at a later one.

@@ -40,7 +40,7 @@ fn parted(alloc: Global, b: &Block, count: usize) -> Result<Option<(Block, Block
 }
 
 /// Whether neither part is empty, and the second uses no name that the first binds.
-#[tactic(auto, using(crate::proofs::Parts::empty_list))]
+#[tactic(auto, using(crate::proofs::Parts::is_none, crate::proofs::Parts::is_some))]
 fn may_part(first: &Block, second: &Block) -> bool
     ensures { result ≡ plain.may_part (block first.now, block second.now) }
 {

@@ -10,7 +10,7 @@ use Rattle.loop_laws.specs.Shapes.{inside}
 -- ---- one statement
 
 pub one_alone : (ss : List Statement) → length ss ≡ 1 → slice_get ss 0 ≡ alone_in (block ss)
-one_alone [] h = cc
+one_alone [] h = refl
 one_alone (a ∷ []) h = refl
 one_alone (a ∷ b ∷ ss) h = absurd (omega (arith, h))
 
