@@ -2,7 +2,7 @@
 use Rattle.std.proofs.Common.{◌≡◌, ◌≤◌, ℕ, Bool, true, false, ◌==◌, ◌&&◌, ◌||◌, not, inl}
 use Rattle.std.proofs.Common.{[], ◌∷◌, length, Option, Some, None, option_map, refl, sym, ap}
 use Rattle.std.proofs.Common.{ap₂, ◌∙◌, subst, arith, eq-eqb}
-use Rattle.std.specs.Prelude.{option_and_then, if◌then◌else◌, nat_le, IsSome, cond}
+use Rattle.std.specs.Prelude.{option_and_then, if◌then◌else◌, nat_le, nat_lt, IsSome, cond}
 use Rattle.exo_tree.specs.Tree.{Index, Binder, Statement, Assign, Reduce, Config, Pass, If, For, Alloc}
 use Rattle.exo_tree.specs.Tree.{View, Call, Block, end, next, joined}
 use Rattle.exo_tree.specs.Context.{Here, InLoop}
@@ -368,7 +368,8 @@ module _ (count : ℕ) (a : Site) (is : IsSite (fission_rule count) a) (p : Part
     both_steady : (in_argument (λ x. x == l.binder.id) w.value ≡ false)
         × (writes_field (unit_writes t.unit.procedures) w.field p.second ≡ false)
     both_steady =
-        let q = and_parts (not (in_argument (λ x. x == l.binder.id) w.value)) _ steady in (
+        let all = and_parts (nat_lt w.field (length t.unit.fields)) _ steady in
+        let q = and_parts (not (in_argument (λ x. x == l.binder.id) w.value)) _ all.1 in (
           not_false (in_argument (λ x. x == l.binder.id) w.value) q.0,
           not_false (writes_field (unit_writes t.unit.procedures) w.field p.second) q.1,
         )

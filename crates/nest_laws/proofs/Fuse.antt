@@ -48,7 +48,7 @@ use Rattle.loop_laws.proofs.Sites.{loop_of_is, found_then}
 use Rattle.loop_laws.proofs.UnrollLoop.{same_got}
 use Rattle.nest_laws.specs.Shapes.{header_of, size, step, in_loop}
 use Rattle.nest_laws.specs.Fuse.{Two, with_second, two_of, may_agree, bounds_may_agree, bounds_fit}
-use Rattle.nest_laws.specs.Fuse.{where_they_agree, two_in, second_body, fused, fuse_conflict}
+use Rattle.nest_laws.specs.Fuse.{both_are_affine, where_they_agree, two_in, second_body, fused, fuse_conflict}
 use Rattle.nest_laws.specs.Fuse.{fuse_needs, fuse_shifts, fuse_draft, of_two, fuse_rule}
 use Rattle.nest_laws.proofs.Bounds.{agreeing_numbers}
 use Rattle.nest_laws.proofs.Parted.{behind_parted, second_opened}
@@ -81,11 +81,15 @@ pub record IsTwo (b : Block) (p : Two) : Type 0 where
 two_is : (b : Block) (p : Two) → two_in b ≡ Some p → IsTwo b p
 two_is b p h =
     let t = found_then (two_of b) where_they_agree p h in
-    by t.0 (bounds_may_agree t.0) refl t.2 (row_is b t.0 t.1)
+    by t.0 (both_are_affine t.0 && bounds_may_agree t.0) refl t.2 (row_is b t.0 t.1)
   where
-    by : (q : Two) (t : Bool) → bounds_may_agree q ≡ t → (if t then Some q else None) ≡ Some p
-        → b ≡ in_a_row q.first q.second → IsTwo b p
-    by q true e h is = subst (IsTwo b) (same_some h) (record { is = is; may = e })
+    by : (q : Two) (t : Bool) → (both_are_affine q && bounds_may_agree q) ≡ t
+        → (if t then Some q else None) ≡ Some p → b ≡ in_a_row q.first q.second → IsTwo b p
+    by q true e h is =
+        subst (IsTwo b) (same_some h) (record {
+          is = is;
+          may = (and_parts (both_are_affine q) (bounds_may_agree q) e).1;
+        })
     by q false e h is = cc
 
 -- what is drafted at last, where the forms of the bounds can be written down

@@ -1,6 +1,6 @@
 -- The rule that makes two loops of one, by its body.
-use Rattle.std.specs.Prelude.{ℕ, ◌==◌, Bool, false, not, ◌&&◌, if◌then◌else◌}
-use Rattle.std.specs.Prelude.{List, [], ◌∷◌, Option, Some, None, option_and_then}
+use Rattle.std.specs.Prelude.{ℕ, ◌==◌, nat_lt, Bool, false, not, ◌&&◌, if◌then◌else◌}
+use Rattle.std.specs.Prelude.{List, [], ◌∷◌, length, Option, Some, None, option_and_then}
 use Rattle.exo_tree.specs.Tree.{Argument, Statement, Config, For, Block, next, Program}
 use Rattle.exo_tree.specs.Places.{Path, parted}
 use Rattle.exo_tree.specs.Renaming.{fresh}
@@ -67,11 +67,12 @@ write_in a = elim a as (λ a. Option Write) [
   | b ↦ None
 ]
 
--- a write without the loop's variable, of a field that the second part does not write
+-- a write without the loop's variable, of a field of the unit that the second part does not write
 abbrev pub is_steady : Program → Parting → Write → Bool
 is_steady u p w =
-    not (in_argument (λ x. x == p.loop.binder.id) w.value)
-    && not (writes_field (unit_writes u.procedures) w.field p.second)
+    nat_lt w.field (length u.fields)
+    && (not (in_argument (λ x. x == p.loop.binder.id) w.value)
+    && not (writes_field (unit_writes u.procedures) w.field p.second))
 
 -- the first part is one such write
 abbrev pub writes_first : Program → Parting → Bool

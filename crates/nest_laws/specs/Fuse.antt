@@ -6,8 +6,10 @@ use Rattle.exo_tree.specs.Tree.{Control, Statement, Var, Block, end, next, joine
 use Rattle.exo_tree.specs.Places.{Path, opened}
 use Rattle.exo_tree.specs.Substitution.{in_block}
 use Rattle.scope_laws.specs.UnrollLoop.{only_loop}
+use Rattle.affine_forms.specs.Forms.{is_affine}
 use Rattle.affine_places.specs.Agreement.{agree, agreement_fits}
 use Rattle.affine_places.specs.Readings.{extent_reading}
+use Rattle.affine_places.specs.Roots.{variables}
 use Rattle.cursor_forward.specs.Causes.{WrongShape, Form, WideNumber}
 use Rattle.cursor_forward.specs.Shifts.{Shift, at_index, alone, range}
 use Rattle.order_laws.specs.TurnsOfTwo.{Loop}
@@ -50,8 +52,15 @@ bounds_fit p =
     agreement_fits extent_reading p.first.lo p.second.lo
     && agreement_fits extent_reading p.first.hi p.second.hi
 
+-- the bounds are affine and over variables alone, as all are in a well-formed procedure
+abbrev pub bounds_are_affine : Loop → Bool
+bounds_are_affine l = is_affine variables l.lo && is_affine variables l.hi
+
+abbrev pub both_are_affine : Two → Bool
+both_are_affine p = bounds_are_affine p.first && bounds_are_affine p.second
+
 abbrev pub where_they_agree : Two → Option Two
-where_they_agree p = if bounds_may_agree p then Some p else None
+where_they_agree p = if both_are_affine p && bounds_may_agree p then Some p else None
 
 abbrev pub two_in : Block → Option Two
 two_in b = option_and_then where_they_agree (two_of b)

@@ -1,12 +1,8 @@
 -- Blocks that are made.
-use Rattle.std.proofs.Common.{◌≡◌, true, List, [], ◌∷◌, refl, ap, ◌∙◌}
-use Rattle.exo_tree.specs.Tree.{Statement, Block, end, next, block, statements}
+use Rattle.std.proofs.Common.{◌≡◌, true, List, refl, ap, ◌∙◌}
+use Rattle.exo_tree.specs.Tree.{Statement, Block, end, next, block}
 use Rattle.made_trees.specs.Passes.{pass_for}
 use Rattle.statement_laws.specs.DeadCode.{or_one_pass}
-
-pub statements_of : (ss : List Statement) → statements (block ss) ≡ ss
-statements_of [] = refl
-statements_of (a ∷ ss) = ap (λ xs. a ∷ xs) (statements_of ss)
 
 pass_alone : (b : Block) → pass_for true b ≡ or_one_pass b
 pass_alone end = refl

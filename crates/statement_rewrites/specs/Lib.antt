@@ -1,2 +1,2 @@
 pub mod PlainFork
-pub mod PlainLoop
+pub mod PlainNeighbours

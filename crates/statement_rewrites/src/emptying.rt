@@ -11,13 +11,14 @@ ghost use Rattle.statement_laws.proofs.DeadCode.{empty_loop_is_lawful, empty_loo
 ghost use Rattle.step_driver.specs.Outcomes.{Tries, IsKept, KeepsMeaning, Moves};
 ghost use Rattle.step_driver.specs.PlainTarget.{target};
 
-use crate::loops::loop_at;
+use crate::loops::no_turn;
 use cursor_forward::{Proposal, Shifts, StepError};
 use exo_tree::{Block, Name, Path, Proc, Stmt};
 use made_trees::Fresh;
 use std::alloc::{AllocError, Global};
 use step_driver::{Exit, Operator, Piece, Target, Writing, propose};
 use step_needs::Need;
+use step_shapes::loop_at;
 
 /// The step that takes a loop away that has no turn.
 #[derive(Drop)]
@@ -68,7 +69,7 @@ impl Operator for Emptying {
     ) -> Result<Vec<Need>, AllocError> {
         match loop_at(on, piece) {
             None => Ok(Vec::new(alloc)),
-            Some(l) => l.no_turn(alloc, &piece.path),
+            Some(l) => no_turn(alloc, &l, &piece.path),
         }
     }
 

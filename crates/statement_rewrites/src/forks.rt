@@ -3,7 +3,6 @@ ghost use Rattle.std.specs.Prelude.{◌≡◌, [], ◌∷◌, option_map, map, l
 ghost use Rattle.exo_tree.specs.Tree.{block, statements};
 ghost use Rattle.exo_tree.specs.PlainPlace.{branch_taken};
 ghost use Rattle.exo_tree.specs.PlainStatement.{statement};
-ghost use Rattle.cursor_forward.specs.PlainShift.{plain_shift};
 ghost use Rattle.cursor_forward.specs.Shifts as shifts;
 ghost use Rattle.statement_laws.specs.DeadCode as plain;
 ghost use Rattle.step_driver.specs.PlainTarget.{target, plain_piece};
@@ -11,13 +10,14 @@ ghost use Rattle.step_driver.specs.Spots.{spot_at};
 ghost use Rattle.step_needs.specs.PlainNeed.{plain_need};
 ghost use Rattle.statement_rewrites.specs.PlainFork.{plain_fork};
 
-use crate::owing::one;
-use cursor_forward::{Shift, Shifts};
+use crate::places::at_index;
+use cursor_forward::Shifts;
 use exo_tree::{Block, Branch, Cond, Path, Step, Stmt};
 use made_trees::or_pass;
 use std::alloc::{AllocError, Global};
 use step_driver::{Piece, Target};
 use step_needs::{Fact, Need};
+use step_shapes::{one, range_to, size};
 
 /// A condition of a procedure, with its branches.
 #[derive(Clone, Copy)]
@@ -57,23 +57,11 @@ fn with_pass(alloc: Global, b: &Block) -> Result<Block, AllocError>
     Ok(made)
 }
 
-/// The path to the first statement of a piece.
-fn first() -> Path
-    ensures { result ≡ shifts.at_index 0 }
-{
-    let mut path = Path::new();
-    path.push(Step {
-        branch: Branch::Main,
-        index: 0,
-    });
-    path
-}
-
 /// The path to the first statement of a branch of the condition.
 fn in_branch(keep: Branch) -> Path
     ensures { result ≡ plain.in_branch (branch_taken keep) }
 {
-    let mut path = first();
+    let mut path = at_index(0);
     path.push(Step {
         branch: keep,
         index: 0,
@@ -81,29 +69,13 @@ fn in_branch(keep: Branch) -> Path
     path
 }
 
-/// So many statements of a branch stand where the condition stood.
-fn out_of_branch(keep: Branch, count: u32) -> Shift
-    ensures { plain_shift result ≡ shifts.range (plain.in_branch (branch_taken keep)) count (Some (shifts.at_index 0)) }
-{
-    Shift {
-        from: in_branch(keep),
-        count,
-        whole: true,
-        to: Some(first()),
-    }
-}
-
-/// All statements of a branch do.
-#[tactic(auto, using(crate::proofs::Made::statements_of))]
+/// All statements of a branch stand where the condition stood.
 fn all_out(alloc: Global, keep: Branch, b: &Block) -> Result<Shifts, AllocError>
     ensures { IfOk result (λ s. s ≡ shifts.range (plain.in_branch (branch_taken keep)) (length (statements (block b.now))) (Some (shifts.at_index 0)) ∷ []) }
 {
-    let count = b.len();
-    if count > 4294967295 {
-        return Err(AllocError);
-    }
+    let count = size(b)?;
     let mut all = Shifts::new(alloc);
-    all.push(out_of_branch(keep, count as u32))?;
+    all.push(range_to(in_branch(keep), count, at_index(0)))?;
     Ok(all)
 }
 

@@ -5,4 +5,4 @@ mod after;
 mod mentions;
 
 pub use after::is_mentioned_after;
-pub use mentions::{Names, in_block};
+pub use mentions::{Names, in_argument, in_block};

@@ -93,7 +93,8 @@ fn in_coords<N: Names>(names: &N, coords: &[Coord]) -> bool
     }
 }
 
-fn in_argument<N: Names>(names: &N, a: &Arg) -> bool
+/// Whether an argument mentions one of the names.
+pub fn in_argument<N: Names>(names: &N, a: &Arg) -> bool
     ensures { result ≡ plain.in_argument (N.names names.now) (argument a.now) }
 {
     match a {
@@ -104,7 +105,7 @@ fn in_argument<N: Names>(names: &N, a: &Arg) -> bool
     }
 }
 
-fn in_arguments<N: Names>(names: &N, args: &[Arg]) -> bool
+pub fn in_arguments<N: Names>(names: &N, args: &[Arg]) -> bool
     ensures { result ≡ plain.in_arguments (N.names names.now) (map argument args.now) }
 {
     match args.split_first() {

@@ -3,7 +3,7 @@ use Rattle.exo_tree.specs.Tree.{block}
 use Rattle.exo_tree.specs.PlainBinder.{binding}
 use Rattle.exo_tree.specs.PlainControl.{control}
 use Rattle.order_laws.specs.TurnsOfTwo.{Loop}
-use Rattle.statement_rewrites.specs.declared.loops.LoopAt.{LoopAt}
+use Rattle.step_shapes.specs.declared.loops.LoopAt.{LoopAt}
 
 abbrev pub plain_loop : LoopAt → Loop
 plain_loop l = record {

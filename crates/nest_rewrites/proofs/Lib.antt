@@ -1,0 +1,5 @@
+pub mod Refused
+pub mod Forms
+pub mod Parts
+pub mod Pairs
+pub mod Written

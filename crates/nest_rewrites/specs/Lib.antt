@@ -1,0 +1,4 @@
+pub mod Agreement
+pub mod PlainNest
+pub mod PlainTwo
+pub mod PlainParting

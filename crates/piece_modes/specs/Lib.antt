@@ -1,0 +1,5 @@
+pub mod PlainMode
+pub mod Touching
+pub mod Way
+pub mod PlainWay
+pub mod Own

@@ -1,0 +1,112 @@
+//! The loop whose turns are all alike.
+ghost use Rattle.std.specs.Prelude.{◌≡◌, ◌==◌, ◌&&◌, Some, option_map, IfOk};
+ghost use Rattle.exo_tree.specs.Tree.{block};
+ghost use Rattle.exo_tree.specs.PlainUnit.{program};
+ghost use Rattle.exo_meaning.specs.Unseen as unseen;
+ghost use Rattle.statement_laws.specs.Fields.{some_field};
+ghost use Rattle.statement_laws.specs.RemoveLoop as plain;
+ghost use Rattle.step_driver.specs.PlainTarget.{target, plain_piece};
+ghost use Rattle.step_driver.specs.Spots.{spot_at};
+ghost use Rattle.step_fields.specs.Fields.{written_in, read_in};
+ghost use Rattle.step_needs.specs.Outcomes.{Refuses};
+ghost use Rattle.step_shapes.specs.PlainLoop.{plain_loop};
+
+use cursor_forward::StepError;
+use exo_modes::ModeTable;
+use exo_tree::{Block, Id, Unit};
+use piece_modes::sees_own_root;
+use std::alloc::{AllocError, Global};
+use step_driver::{Piece, Target};
+use step_fields::{have_common, may_read, may_write};
+use step_shapes::{LoopAt, loop_at};
+use tree_mentions::{Names, in_block};
+
+/// One name.
+#[derive(Clone, Copy)]
+struct Alone {
+    id: Id,
+}
+
+impl Names for Alone {
+    ghost names = { λ l x. x == l.id.0 };
+
+    fn has(&self, x: Id) -> bool {
+        x.0 == self.id.0
+    }
+}
+
+/// Whether the body of a loop mentions its variable.
+fn has_variable(l: &LoopAt<'_>) -> bool
+    ensures { result ≡ unseen.in_block (λ x. x == (plain_loop l.now).binder.id) (plain_loop l.now).body }
+{
+    in_block(&Alone { id: l.binder.id }, l.body, 0)
+}
+
+/// The loop, where its body lacks its variable.
+fn where_it_lacks<'a>(l: LoopAt<'a>) -> Option<LoopAt<'a>>
+    ensures { option_map plain_loop result ≡ plain.without_variable (plain_loop l) }
+{
+    if has_variable(&l) {
+        return None;
+    }
+    Some(l)
+}
+
+/// The loop that is all of a piece and whose body lacks its variable; None exactly where there is none.
+pub(crate) fn removable_at<'a>(on: &Target<'a>, piece: &Piece) -> Option<LoopAt<'a>>
+    ensures { option_map plain_loop result ≡ plain.removable (spot_at (target on.now) (plain_piece piece.now)).opened.piece }
+{
+    match loop_at(on, piece) {
+        None => None,
+        Some(l) => where_it_lacks(l),
+    }
+}
+
+/// Whether a block may read a field that it may write, directly or by calls.
+fn sees_own_field(alloc: Global, unit: &Unit, b: &Block) -> Result<bool, AllocError>
+    ensures { IfOk result (λ r. r ≡ some_field (program unit.now).fields (λ f. written_in (program unit.now) (block b.now) f && read_in (program unit.now) (block b.now) f)) }
+{
+    let written = may_write(alloc, unit, b)?;
+    let read = may_read(alloc, unit, b)?;
+    Ok(have_common(&written, &read))
+}
+
+/// Whether the body of the loop of a piece sees what it does: it reduces into a buffer from outside, or reads a buffer from
+/// outside, or a field, that it may write; calls included.
+#[tactic(auto, using(crate::proofs::OwnSeen::own_seen))]
+fn sees_own(
+    alloc: Global,
+    on: &Target<'_>,
+    piece: &Piece,
+    l: &LoopAt<'_>,
+) -> Result<bool, AllocError>
+    ensures { IfOk result (λ r. r ≡ plain.sees_own (spot_at (target on.now) (plain_piece piece.now)) (plain_loop l.now)) }
+{
+    let modes = ModeTable::new(alloc, on.unit)?;
+    let root = sees_own_root(
+        alloc,
+        on.unit,
+        &modes,
+        on.proc,
+        &piece.path,
+        piece.count,
+        l.body,
+    )?;
+    let field = sees_own_field(alloc, on.unit, l.body)?;
+    Ok(root || field)
+}
+
+/// `NotIdempotent` where the body of the loop of a piece sees what it does.
+pub(crate) fn unless_it_sees_own(
+    alloc: Global,
+    on: &Target<'_>,
+    piece: &Piece,
+    l: &LoopAt<'_>,
+) -> Result<(), StepError>
+    ensures { Refuses (plain.remove_refusal (spot_at (target on.now) (plain_piece piece.now)) (Some (plain_loop l.now))) result }
+{
+    if sees_own(alloc, on, piece, l)? {
+        return Err(StepError::NotIdempotent);
+    }
+    Ok(())
+}

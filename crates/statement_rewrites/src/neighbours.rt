@@ -1,0 +1,148 @@
+//! Two neighbouring statements, and what is made of them.
+ghost use Rattle.std.specs.Prelude.{◌≡◌, Some, None, if◌then◌else◌, option_map, map, length, IfOk};
+ghost use Rattle.exo_tree.specs.Tree.{block};
+ghost use Rattle.exo_tree.specs.PlainStatement.{statement};
+ghost use Rattle.exo_tree.specs.PlainUnit.{program};
+ghost use Rattle.meaning_laws.specs.Sound.{binds};
+ghost use Rattle.cursor_forward.specs.Causes.{ConfigWrite};
+ghost use Rattle.effect_laws.specs.Fits as fits;
+ghost use Rattle.order_laws.specs.Reorder.{pair};
+ghost use Rattle.statement_laws.specs.Fields.{some_field};
+ghost use Rattle.statement_laws.specs.ReorderStatements as plain;
+ghost use Rattle.step_needs.specs.Outcomes.{Refuses};
+ghost use Rattle.step_needs.specs.PlainNeed.{plain_turns, plain_conflict, plain_need};
+ghost use Rattle.step_fields.specs.Fields.{IsFieldSet};
+ghost use Rattle.statement_rewrites.specs.PlainNeighbours.{plain_neighbours, used_by, writes_used};
+
+use config_state::FieldSet;
+use cursor_forward::StepError;
+use exo_tree::{Block, Id, Path, Stmt, Unit};
+use std::alloc::{AllocError, Global};
+use step_fields::{have_common, statement_may_read, statement_may_write};
+use step_needs::{Conflict, Need, Turns};
+use step_shapes::{apart, onward};
+use tree_mentions::{Names, in_block};
+
+/// The name that a statement binds.
+#[derive(Clone, Copy)]
+struct BoundBy<'a> {
+    statement: &'a Stmt,
+}
+
+impl Names for BoundBy<'_> {
+    ghost names = { λ l. binds (statement l.statement.now) };
+
+    fn has(&self, x: Id) -> bool {
+        match self.statement {
+            Stmt::Alloc(y, _, _, _) => x.0 == y.id.0,
+            Stmt::View(y, _, _) => x.0 == y.id.0,
+            _ => false,
+        }
+    }
+}
+
+/// Two neighbouring statements.
+#[derive(Clone, Copy)]
+pub(crate) struct Neighbours<'a> {
+    pub(crate) first: &'a Stmt,
+    pub(crate) second: &'a Stmt,
+}
+
+/// The two statements that are all of a block, where the second does not mention what the first binds.
+#[tactic(auto, using(crate::proofs::Neighbouring::two_there, crate::proofs::Neighbouring::two_bound, crate::proofs::Neighbouring::no_two))]
+pub(crate) fn neighbours_of(b: &Block) -> Option<Neighbours<'_>>
+    ensures { option_map plain_neighbours result ≡ plain.neighbours_of (block b.now) }
+{
+    if b.len() != 2 {
+        return None;
+    }
+    let first = b.statement(0);
+    if in_block(&BoundBy { statement: first }, b, 1) {
+        return None;
+    }
+    Some(Neighbours {
+        first,
+        second: b.statement(1),
+    })
+}
+
+/// The fields that a statement may write or read, directly or by calls.
+#[tactic(auto, using(crate::proofs::Neighbouring::both_used))]
+fn used(alloc: Global, unit: &Unit, s: &Stmt) -> Result<FieldSet, AllocError>
+    ensures { IfOk result (λ set. IsFieldSet (length (program unit.now).fields) (used_by (program unit.now) (statement s.now)) set) }
+{
+    let mut used = statement_may_write(alloc, unit, s)?;
+    let read = statement_may_read(alloc, unit, s)?;
+    used.unite(&read);
+    Ok(used)
+}
+
+/// Whether a statement may write a field that another one may write or read.
+fn writes_used(alloc: Global, unit: &Unit, a: &Stmt, b: &Stmt) -> Result<bool, AllocError>
+    ensures { IfOk result (λ r. r ≡ some_field (program unit.now).fields (writes_used (program unit.now) (statement a.now) (statement b.now))) }
+{
+    let written = statement_may_write(alloc, unit, a)?;
+    let used = used(alloc, unit, b)?;
+    Ok(have_common(&written, &used))
+}
+
+/// One statement of the procedure, at a path.
+fn alone(alloc: Global, path: Path) -> Turns
+    ensures { plain_turns result ≡ fits.alone_at path }
+{
+    Turns {
+        path,
+        count: 1,
+        loops: Vec::new(alloc),
+    }
+}
+
+/// A statement and another one, in any order.
+fn meeting(alloc: Global, first: Path, second: Path) -> Conflict
+    ensures { plain_conflict result ≡ fits.neighbours_conflict first second }
+{
+    Conflict {
+        first: alone(alloc, first),
+        second: alone(alloc, second),
+        order: Vec::new(alloc),
+    }
+}
+
+impl Neighbours<'_> {
+    /// The second statement, and then the first.
+    pub(crate) fn exchanged(&self, alloc: Global) -> Result<Block, AllocError>
+        ensures { IfOk result (λ b. block b ≡ pair (plain_neighbours self.now).second (plain_neighbours self.now).first) }
+    {
+        let mut made = Block::single(alloc, self.second.duplicate(alloc)?)?;
+        made.push(self.first.duplicate(alloc)?)?;
+        Ok(made)
+    }
+
+    /// Whether one of them may write a field that the other may write or read.
+    #[tactic(auto, using(crate::proofs::Neighbouring::one_shared))]
+    fn share_field(&self, alloc: Global, unit: &Unit) -> Result<bool, AllocError>
+        ensures { IfOk result (λ r. r ≡ some_field (program unit.now).fields (λ f. plain.share_field (program unit.now).procedures f (plain_neighbours self.now))) }
+    {
+        let by_first = writes_used(alloc, unit, self.first, self.second)?;
+        let by_second = writes_used(alloc, unit, self.second, self.first)?;
+        Ok(by_first || by_second)
+    }
+
+    /// `ConfigWrite` where one of them may write a field that the other may write or read.
+    pub(crate) fn unless_they_share(&self, alloc: Global, unit: &Unit) -> Result<(), StepError>
+        ensures { Refuses (if some_field (program unit.now).fields (λ f. plain.share_field (program unit.now).procedures f (plain_neighbours self.now)) then Some ConfigWrite else None) result }
+    {
+        if self.share_field(alloc, unit)? {
+            return Err(StepError::ConfigWrite);
+        }
+        Ok(())
+    }
+
+    /// That they do not meet.
+    pub(crate) fn owed(&self, alloc: Global, at: &Path) -> Result<Vec<Need>, AllocError>
+        ensures { IfOk result (λ ns. map plain_need ns.items ≡ plain.reorder_needs at.now (Some (plain_neighbours self.now))) }
+    {
+        let next = onward(at, 1, &[])?;
+        apart(alloc, at, meeting(alloc, at.duplicate(), next))
+    }
+}
