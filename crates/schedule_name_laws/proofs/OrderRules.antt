@@ -3,7 +3,7 @@
 use Rattle.std.proofs.Common.{◌≡◌, ◌==◌, ℕ, zero, suc, Bool, true, false, if◌then◌else◌, []}
 use Rattle.std.proofs.Common.{Option, Some, None, option_map, option_and_then, refl, subst}
 use Rattle.exo_tree.specs.Tree.{Var, Statement, Assign, Reduce, Config, Pass, If, For, Alloc, View}
-use Rattle.exo_tree.specs.Tree.{Call, Block, end, next, joined}
+use Rattle.exo_tree.specs.Tree.{Call, Block, end, next}
 use Rattle.exo_tree.specs.Places.{Branch, Main, Else, parted}
 use Rattle.exo_meaning.specs.Unseen.{in_statement, in_block as mentions}
 use Rattle.meaning_laws.specs.Sound.{binds}
