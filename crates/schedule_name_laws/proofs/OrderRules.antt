@@ -3,7 +3,7 @@
 use Rattle.std.proofs.Common.{◌≡◌, ◌==◌, ℕ, zero, suc, Bool, true, false, if◌then◌else◌, []}
 use Rattle.std.proofs.Common.{Option, Some, None, option_map, option_and_then, refl, subst}
 use Rattle.exo_tree.specs.Tree.{Var, Statement, Assign, Reduce, Config, Pass, If, For, Alloc, View}
-use Rattle.exo_tree.specs.Tree.{Call, Block, end, next, joined}
+use Rattle.exo_tree.specs.Tree.{Call, Block, end, next}
 use Rattle.exo_tree.specs.Places.{Branch, Main, Else, parted}
 use Rattle.exo_meaning.specs.Unseen.{in_statement, in_block as mentions}
 use Rattle.meaning_laws.specs.Sound.{binds}
@@ -154,7 +154,7 @@ parting_named count b p found h =
     let l = found_then (loop_of b) (parted_at count) p found in
     let loop = loop_named b l.0 l.1 h in
     let q = found_then (parted count l.0.body) (where_it_may l.0) p l.2 in
-    let made = record { loop = l.0; first = q.0.0; second = q.0.1 } in
+    let made : Parting = record { loop = l.0; first = q.0.0; second = q.0.1 } in
     subst IsNamedParting (where_same (may_part q.0) made p q.2)
     (record { loop = loop; parts = parts_named count l.0.body q.0 q.1 loop.body })
 
