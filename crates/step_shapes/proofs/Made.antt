@@ -1,6 +1,8 @@
 -- Blocks and paths.
 use Rattle.std.proofs.Common.{◌≡◌, ◌≢◌, ℕ, zero, suc, List, [], ◌∷◌, ◌++◌, length, None, refl, sym, ap, ◌∙◌}
-use Rattle.std.proofs.Common.{append_assoc}
+use Rattle.std.proofs.Common.{append_assoc, map, ◌+◌, arith}
+use Rattle.std.proofs.lemmas.List.{append-nil}
+use Rattle.scope_laws.specs.PlacesCompose.{onward}
 use Rattle.std.specs.Prelude.{slice_get}
 use Rattle.exo_tree.specs.Tree.{Statement, Block, next, block, joined, statements}
 use Rattle.exo_tree.specs.Places.{Main, Step, Path}
@@ -49,3 +51,23 @@ appended made rest new a b h k l = ap block h ∙ joined_blocks made rest ∙ (�
 pub statements_of : (ss : List Statement) → statements (block ss) ≡ ss
 statements_of [] = refl
 statements_of (a ∷ ss) = ap (λ xs. a ∷ xs) (statements_of ss)
+
+-- ---- onward
+
+module _ {X : Type 0} (f : X → Step) (t : Step) (q : Path) where
+  pub none_onward : (xs : List X) → xs ≡ [] → onward (map f xs) t q ≡ t ∷ q
+  none_onward xs h = ap (λ (ys : List X). onward (map f ys) t q) h
+
+  pub last_onward : (xs rest : List X) (s : X) → xs ≡ s ∷ rest → length rest ≡ 0
+      → onward (map f xs) t q ≡ record (f s) { index = (f s).index + t.index } ∷ q
+  last_onward xs [] s h e = ap (λ (ys : List X). onward (map f ys) t q) h
+  last_onward xs (y ∷ ys) s h e = absurd (omega (arith, e))
+
+  pub more_onward : (xs rest : List X) (s : X) → xs ≡ s ∷ rest → length rest ≢ 0
+      → onward (map f xs) t q ≡ f s ∷ onward (map f rest) t q
+  more_onward xs [] s h e = absurd (e refl)
+  more_onward xs (y ∷ ys) s h e = ap (λ (zs : List X). onward (map f zs) t q) h
+
+pub put_none : {X : Type 0} (f : X → Step) (old : Path) (xs : List X) → xs ≡ []
+    → old ≡ old ++ map f xs
+put_none f old xs h = sym (append-nil old) ∙ ap (λ ys. old ++ map f ys) (sym h)

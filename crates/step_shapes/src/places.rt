@@ -53,15 +53,17 @@ fn put(path: &mut Path, s: Step) -> Result<(), AllocError>
 }
 
 /// Puts steps last.
-#[tactic(auto, using(crate::proofs::Made::put_more))]
+#[tactic(auto, using(crate::proofs::Made::put_more, crate::proofs::Made::put_none))]
 fn put_all(path: &mut Path, steps: &[Step]) -> Result<(), AllocError>
     ensures { OnOk result (path.new ≡ path.old ++ map step_taken steps.now) }
 {
-    let [s, rest @ ..] = steps else {
-        return Ok(());
-    };
-    put(path, *s)?;
-    put_all(path, rest)
+    match steps.split_first() {
+        None => Ok(()),
+        Some((s, rest)) => {
+            put(path, *s)?;
+            put_all(path, rest)
+        }
+    }
 }
 
 /// Puts a step and others last.
@@ -74,7 +76,7 @@ fn put_from(path: &mut Path, first: Step, rest: &[Step]) -> Result<(), AllocErro
 }
 
 /// Puts the path last that leads from the statement so many behind the one at a path on.
-#[tactic(auto, using(crate::proofs::Made::put_more))]
+#[tactic(auto, using(crate::proofs::Made::put_more, crate::proofs::Made::none_onward, crate::proofs::Made::last_onward, crate::proofs::Made::more_onward))]
 fn put_onward(
     path: &mut Path,
     at: &[Step],
@@ -83,18 +85,22 @@ fn put_onward(
 ) -> Result<(), AllocError>
     ensures { OnOk result (path.new ≡ path.old ++ plain.onward (map step_taken at.now) (record { branch = Main; index = index }) (map step_taken below.now)) }
 {
-    let [s, more @ ..] = at else {
-        let first = Step {
-            branch: Branch::Main,
-            index,
-        };
-        return put_from(path, first, below);
-    };
-    if more.is_empty() {
-        return put_from(path, moved_on(*s, index)?, below);
+    match at.split_first() {
+        None => {
+            let first = Step {
+                branch: Branch::Main,
+                index,
+            };
+            put_from(path, first, below)
+        }
+        Some((s, more)) => {
+            if more.is_empty() {
+                return put_from(path, moved_on(*s, index)?, below);
+            }
+            put(path, *s)?;
+            put_onward(path, more, index, below)
+        }
     }
-    put(path, *s)?;
-    put_onward(path, more, index, below)
 }
 
 /// The path that leads from the statement so many behind the one at a path on. Where a path has no room for it, it is
