@@ -37,18 +37,14 @@ pub two_there : (ss : List Statement) (a b : Statement) (used : Bool) → length
 two_there ss a b used h k l u f =
     ap (λ (t : Bool). if t then None else Some (record { first = a; second = b })) (sym f) ∙ two_are ss a b used h k l u
 
-second_of : (ss : List Statement) (a : Statement) (used : Bool) → length ss ≡ 2 → drop 0 ss ≡ a ∷ drop 1 ss
-    → used ≡ in_block (binds a) (block (drop 1 ss)) → used ≡ true → None ≡ neighbours_of (block ss)
-second_of [] a used h k u t = absurd (omega (arith, h))
-second_of (c ∷ []) a used h k u t = absurd (omega (arith, h))
-second_of (c ∷ d ∷ []) a used h k u t =
-    ap (λ (t : Bool). if t then None else Some (record { first = a; second = d })) (sym t)
-    ∙ two_are (c ∷ d ∷ []) a d used h k refl u
-second_of (c ∷ d ∷ e ∷ ss) a used h k u t = absurd (omega (arith, h))
-
 pub two_bound : (ss : List Statement) (a : Statement) (used : Bool) → length ss ≡ 2 → drop 0 ss ≡ a ∷ drop 1 ss
     → used ≡ in_block (binds a) (block (drop 1 ss)) → used ≡ true → None ≡ neighbours_of (block ss)
-two_bound = second_of
+two_bound [] a used h k u t = absurd (omega (arith, h))
+two_bound (c ∷ []) a used h k u t = absurd (omega (arith, h))
+two_bound (c ∷ d ∷ []) a used h k u t =
+    ap (λ (t : Bool). if t then None else Some (record { first = a; second = d })) (sym t)
+    ∙ two_are (c ∷ d ∷ []) a d used h k refl u
+two_bound (c ∷ d ∷ e ∷ ss) a used h k u t = absurd (omega (arith, h))
 
 pub no_two : (ss : List Statement) → length ss ≢ 2 → None ≡ neighbours_of (block ss)
 no_two [] h = refl
