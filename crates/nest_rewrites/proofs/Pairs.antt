@@ -62,10 +62,26 @@ they_fit p low high h k =
     ap₂ (λ x y. is_some x && is_some y) h k
     ∙ ap₂ ◌&&◌ (written p.first.lo p.second.lo) (written p.first.hi p.second.hi)
 
-pub agreeing_two : (p : Two) (t : Bool) → both_are_affine p ≡ true → t ≡ bounds_may_agree p
+agreeing_two : (p : Two) (t : Bool) → both_are_affine p ≡ true → t ≡ bounds_may_agree p
     → (if t then Some p else None) ≡ where_they_agree p
 agreeing_two p t h k =
     ap (λ (x : Bool). if x then Some p else None) (k ∙ ap (λ x. x && bounds_may_agree p) (sym h))
+
+pub both_agree : (p : Two) (low high : Option Bool) (t : Bool) → both_are_affine p ≡ true
+    → low ≡ agreement p.first.lo p.second.lo
+    → high ≡ agreement p.first.hi p.second.hi
+    → t ≡ (unwrap_or low true && unwrap_or high true) → t ≡ true → Some p ≡ where_they_agree p
+both_agree p low high t affine h k is e =
+    ap (λ (x : Bool). if x then Some p else None) (sym e)
+    ∙ agreeing_two p t affine (is ∙ they_agree p low high h k)
+
+pub others_agree : (p : Two) (low high : Option Bool) (t : Bool) → both_are_affine p ≡ true
+    → low ≡ agreement p.first.lo p.second.lo
+    → high ≡ agreement p.first.hi p.second.hi
+    → t ≡ (unwrap_or low true && unwrap_or high true) → t ≡ false → None ≡ where_they_agree p
+others_agree p low high t affine h k is e =
+    ap (λ (x : Bool). if x then Some p else None) (sym e)
+    ∙ agreeing_two p t affine (is ∙ they_agree p low high h k)
 
 pub not_affine_two : (b : Block) (p : Two) → Some p ≡ two_of b → both_are_affine p ≡ false
     → None ≡ two_in b
