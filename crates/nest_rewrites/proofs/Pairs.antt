@@ -12,7 +12,6 @@ use Rattle.nest_rewrites.specs.Agreement.{agreement}
 
 -- ---- two statements
 
-first_of_more : (a b : Statement) (ss ts : List Statement) → a ∷ ss ≡ b ∷ ts → a ≡ b
 
 pub two_there : (ss : List Statement) (a b : Statement) → length ss ≡ 2 → drop 0 ss ≡ a ∷ drop 1 ss
     → drop 1 ss ≡ b ∷ drop 2 ss → option_and_then (with_second b) (loop_in a) ≡ two_of (block ss)

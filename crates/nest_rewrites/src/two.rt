@@ -90,7 +90,7 @@ impl<'a> Loops<'a> {
 }
 
 /// The two loops with bounds that may agree that are all of a block; None exactly where there are none.
-#[tactic(auto, using(crate::proofs::Pairs::not_affine_two, crate::proofs::Pairs::no_loops))]
+#[tactic(auto, using(crate::proofs::Pairs::two_of_loops, crate::proofs::Pairs::not_affine_two, crate::proofs::Pairs::no_loops))]
 pub(crate) fn two_in(alloc: Global, b: &Block) -> Result<Option<TwoAt<'_>>, AllocError>
     ensures two { IfOk result (λ p. option_map plain_two p ≡ plain.two_in (block b.now)) }
     ensures fit { IfOk result (λ p. IfSome p (λ q. q.fit ≡ plain.bounds_fit (plain_two q))) }
