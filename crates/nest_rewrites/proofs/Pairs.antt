@@ -12,7 +12,6 @@ use Rattle.nest_rewrites.specs.Agreement.{agreement}
 
 -- ---- two statements
 
-
 pub two_there : (ss : List Statement) (a b : Statement) → length ss ≡ 2 → drop 0 ss ≡ a ∷ drop 1 ss
     → drop 1 ss ≡ b ∷ drop 2 ss → option_and_then (with_second b) (loop_in a) ≡ two_of (block ss)
 two_there [] a b h k l = absurd (omega (arith, h))
