@@ -77,12 +77,7 @@ fn at_statement<O: Operator>(
 }
 
 /// What `fission` makes at the gap that is asked for.
-fn fission_at(
-    alloc: Global,
-    on: &Target<'_>,
-    s: &Session,
-    at: &Asked<'_>,
-) -> Result<Proposal, Why>
+fn fission_at(alloc: Global, on: &Target<'_>, s: &Session, at: &Asked<'_>) -> Result<Proposal, Why>
     requires modes { table_says on.now.modes.now ≡ modes_of (program on.now.unit.now) }
     requires target { IsTarget (target on.now) }
     requires unit { program on.now.unit.now ≡ program s.now.unit }

@@ -9,9 +9,11 @@ use Rattle.schedule_versions.specs.Lines as lines
 use Rattle.nest_laws.specs.Fission.{fission_rule}
 use Rattle.schedule_run.specs.PlainPlace.{plain_gap}
 use Rattle.schedule_run.specs.Outcomes.{Makes}
-use Rattle.schedule_run.specs.Planned.{Made}
+use Rattle.schedule_run.specs.Planned.{Made, planned}
 use Rattle.schedule_run.specs.PlainVersions.{versions}
-use Rattle.schedule_run.proofs.Asking.{gap_there}
+use Rattle.schedule_operators.specs.Operators.{gap_call}
+use Rattle.schedule_run.proofs.Going.{made_failed}
+use Rattle.schedule_run.proofs.Asking.{gap_lost, gap_there}
 use Rattle.schedule_run.proofs.planning.fission_at.Goals as goal
 
 pub returns : goal.returns
@@ -26,3 +28,16 @@ returns c =
     (gap_there v k p (target c.args.on.now) same (λ fs. true) (plain_asked c.args.at.now)
     fission_rule refl (plain_gap c.in_ok-gap.gap) c.in_ok-gap.ensures))
     c.proposed.ensures
+
+pub returns-in_err-gap : goal.returns-in_err-gap
+returns-in_err-gap c =
+    let v = versions c.args.s.now in
+    let k = c.args.on.now.number.0 in
+    let p = procedure c.args.on.now.proc.now in
+    let same : target c.args.on.now ≡ lines.target v k p =
+    ap (λ (u : Program). record { unit = u; number = k; proc = p }) c.requires.unit in
+    let e = c.in_err-gap.field-0.0 in
+    made_failed plain_proposal (planned v k p (gap_call (plain_asked c.args.at.now) fission_rule))
+    c.from_residual.result e c.from_residual.ensures.1
+    (gap_lost v k p (target c.args.on.now) same (λ fs. true) (plain_asked c.args.at.now)
+    fission_rule refl e c.in_err-gap.ensures)

@@ -97,36 +97,60 @@ returns-in-CommuteExpr c =
 
 pub returns-in-ReorderLoops : goal.returns-in-ReorderLoops
 returns-in-ReorderLoops c =
-    of_arm _ _ _ _ _ _ c.in-ReorderLoops.is
-    (of_cursor _ _ _ _ (λ a. statement_call a loops.reorder_rule) _ _ c.deref-in-ReorderLoops.ensures
+    let v = versions c.args.s.now in
+    let k = c.args.on.now.number.0 in
+    let p = procedure c.args.on.now.proc.now in
+    let r = c.at_statement-in-ReorderLoops.result in
+    of_arm v k p r _ _ c.in-ReorderLoops.is
+    (of_cursor v k p r (λ a. statement_call a loops.reorder_rule) _ _ c.deref-in-ReorderLoops.ensures
     c.at_statement-in-ReorderLoops.ensures)
 
 pub returns-in-Fission : goal.returns-in-Fission
 returns-in-Fission c =
-    of_arm _ _ _ _ _ _ c.in-Fission.is
-    (of_cursor _ _ _ _ (λ a. gap_call a fission_rule) _ _ c.deref-in-Fission.ensures
+    let v = versions c.args.s.now in
+    let k = c.args.on.now.number.0 in
+    let p = procedure c.args.on.now.proc.now in
+    let r = c.fission_at.result in
+    of_arm v k p r _ _ c.in-Fission.is
+    (of_cursor v k p r (λ a. gap_call a fission_rule) _ _ c.deref-in-Fission.ensures
     c.fission_at.ensures)
 
 pub returns-in-Fuse : goal.returns-in-Fuse
 returns-in-Fuse c =
-    of_arm _ _ _ _ _ _ c.in-Fuse.is
-    (of_cursor _ _ _ _ (λ a. statement_call a fuse_rule) _ _ c.deref-in-Fuse.ensures
+    let v = versions c.args.s.now in
+    let k = c.args.on.now.number.0 in
+    let p = procedure c.args.on.now.proc.now in
+    let r = c.at_statement-in-Fuse.result in
+    of_arm v k p r _ _ c.in-Fuse.is
+    (of_cursor v k p r (λ a. statement_call a fuse_rule) _ _ c.deref-in-Fuse.ensures
     c.at_statement-in-Fuse.ensures)
 
 pub returns-in-RemoveLoop : goal.returns-in-RemoveLoop
 returns-in-RemoveLoop c =
-    of_arm _ _ _ _ _ _ c.in-RemoveLoop.is
-    (of_cursor _ _ _ _ (λ a. statement_call a remove_rule) _ _ c.deref-in-RemoveLoop.ensures
+    let v = versions c.args.s.now in
+    let k = c.args.on.now.number.0 in
+    let p = procedure c.args.on.now.proc.now in
+    let r = c.at_statement-in-RemoveLoop.result in
+    of_arm v k p r _ _ c.in-RemoveLoop.is
+    (of_cursor v k p r (λ a. statement_call a remove_rule) _ _ c.deref-in-RemoveLoop.ensures
     c.at_statement-in-RemoveLoop.ensures)
 
 pub returns-in-EliminateDeadCode : goal.returns-in-EliminateDeadCode
 returns-in-EliminateDeadCode c =
-    of_arm _ _ _ _ _ _ c.in-EliminateDeadCode.is
-    (of_cursor _ _ _ _ (λ a. statement_call a (dead_code_rule (option_map branch_taken c.in-EliminateDeadCode.keep))) _ _ c.deref-in-EliminateDeadCode.ensures
+    let v = versions c.args.s.now in
+    let k = c.args.on.now.number.0 in
+    let p = procedure c.args.on.now.proc.now in
+    let r = c.eliminate_at.result in
+    of_arm v k p r _ _ c.in-EliminateDeadCode.is
+    (of_cursor v k p r (λ a. statement_call a (dead_code_rule (option_map branch_taken c.in-EliminateDeadCode.keep))) _ _ c.deref-in-EliminateDeadCode.ensures
     c.eliminate_at.ensures)
 
 pub returns-in-ReorderStmts : goal.returns-in-ReorderStmts
 returns-in-ReorderStmts c =
-    of_arm _ _ _ _ _ _ c.in-ReorderStmts.is
-    (of_cursor _ _ _ _ (λ a. statement_call a statements.reorder_rule) _ _ c.deref-in-ReorderStmts.ensures
+    let v = versions c.args.s.now in
+    let k = c.args.on.now.number.0 in
+    let p = procedure c.args.on.now.proc.now in
+    let r = c.at_statement-in-ReorderStmts.result in
+    of_arm v k p r _ _ c.in-ReorderStmts.is
+    (of_cursor v k p r (λ a. statement_call a statements.reorder_rule) _ _ c.deref-in-ReorderStmts.ensures
     c.at_statement-in-ReorderStmts.ensures)
