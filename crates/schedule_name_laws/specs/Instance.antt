@@ -1,5 +1,5 @@
--- The closed schedules of the operators: one renames a procedure, one divides a loop, and one changes
--- orders.
+-- The closed schedules of the operators: one renames a procedure, one divides a loop, and one
+-- changes orders.
 use Rattle.std.specs.Prelude.{pos, codes}
 use Rattle.exo_meaning.specs.Orders.{Each}
 use Rattle.text_show_laws.specs.Names.{IsName}
