@@ -1,7 +1,7 @@
 -- What is known of a loop that keeps the rules.
 use Rattle.std.proofs.Common.{◌≡◌, ℕ, Bool, true, false, true≢false, ◌==◌, ◌&&◌, ◌||◌, not, Option}
 use Rattle.std.proofs.Common.{None, refl, sym, ap, ap₂, ◌∙◌, eqb-true}
-use Rattle.exo_tree.specs.Tree.{Kind, Index, Binder, Control, Lit, Var, Field, StrideOf, Neg, Add, Sub}
+use Rattle.exo_tree.specs.Tree.{Kind, Index, Control, Lit, Var, Field, StrideOf, Neg, Add, Sub}
 use Rattle.exo_tree.specs.Tree.{Mul, Div, Mod, For}
 use Rattle.exo_meaning.specs.Calls.{Callee}
 use Rattle.exo_meaning.specs.Units.{Scope, ControlName, sort_in, with_name}
