@@ -59,13 +59,14 @@ use Rattle.nest_laws.specs.Fission.{Parting, may_part, where_it_may, parted_at, 
 use Rattle.nest_laws.specs.Fission.{parted_loops, Write, write_in, is_steady, writes_first}
 use Rattle.nest_laws.specs.Fission.{fission_conflict, fission_rule}
 use Rattle.nest_laws.proofs.Fuse.{top_in}
-use Rattle.nest_laws.proofs.Narrower.{first_keeps, second_keeps}
 use Rattle.nest_laws.proofs.Parted.{behind_parted, second_opened, has_first, has_second}
 use Rattle.nest_laws.proofs.Parted.{mentions_second, both_write, parts_behind, not_bound}
 use Rattle.nest_laws.proofs.Placed.{Placed, placed, comes_there, there}
 use Rattle.nest_laws.proofs.Rules.{LoopKeeps, loop_rules}
 use Rattle.nest_laws.proofs.Unwritten.{leaves_fields, piece_writes_none}
+use Rattle.scope_laws.proofs.Narrower.{second_keeps}
 use Rattle.scope_laws.proofs.SamePlace.{parted_joined}
+use Rattle.scope_laws.proofs.WellAtPlace.{first_keeps}
 
 -- ---- what is read
 
@@ -204,8 +205,8 @@ module _ (count : ℕ) (a : Site) (is : IsSite (fission_rule count) a) (p : Part
 
   first_rules : Keeps inner root p.first
   first_rules =
-      first_keeps (field_kind t.unit.fields) (length t.unit.memories) (callees_for t) p.first
-      p.second inner root body_keeps
+      first_keeps (field_kind t.unit.fields) (length t.unit.memories) (callees_for t) inner root
+      p.first p.second body_keeps
 
   second_rules : Keeps inner behind_root p.second
   second_rules =

@@ -7,7 +7,6 @@ pub mod ReorderExamples
 pub mod Parted
 pub mod Bounds
 pub mod Fuse
-pub mod Narrower
 pub mod Fission
 pub mod FissionRule
 pub mod FuseExamples

@@ -45,7 +45,8 @@ use Rattle.nest_laws.specs.ReorderLoops.{Nest, bounds_lack, with_inner, nest_of,
 use Rattle.nest_laws.specs.ReorderLoops.{turns_conflict, reorder_needs, reorder_shifts, of_nest}
 use Rattle.nest_laws.specs.ReorderLoops.{reorder_rule}
 use Rattle.nest_laws.proofs.Placed.{placed, comes_there, there}
-use Rattle.nest_laws.proofs.Rules.{LoopKeeps, loop_rules, still_new, lacks_variable}
+use Rattle.nest_laws.proofs.Rules.{LoopKeeps, loop_rules, lacks_variable}
+use Rattle.scope_laws.proofs.Narrower.{still_new}
 use Rattle.nest_laws.proofs.Unwritten.{leaves_fields, piece_writes_none}
 
 -- ---- what is read

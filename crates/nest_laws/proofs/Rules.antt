@@ -1,11 +1,10 @@
 -- What is known of a loop that keeps the rules.
 use Rattle.std.proofs.Common.{◌≡◌, ℕ, Bool, true, false, true≢false, ◌==◌, ◌&&◌, ◌||◌, not, Option}
 use Rattle.std.proofs.Common.{None, refl, sym, ap, ap₂, ◌∙◌, eqb-true}
-use Rattle.std.specs.List.{list_any}
-use Rattle.exo_tree.specs.Tree.{Kind, Index, Binder, Control, Lit, Var, Field, StrideOf, Neg, Add, Sub}
+use Rattle.exo_tree.specs.Tree.{Kind, Index, Control, Lit, Var, Field, StrideOf, Neg, Add, Sub}
 use Rattle.exo_tree.specs.Tree.{Mul, Div, Mod, For}
 use Rattle.exo_meaning.specs.Calls.{Callee}
-use Rattle.exo_meaning.specs.Units.{Named, Sort, Scope, ControlName, sort_in, with_name, is_text}
+use Rattle.exo_meaning.specs.Units.{Scope, ControlName, sort_in, with_name}
 use Rattle.exo_meaning.specs.Units.{plainly, is_new, is_number, is_control, is_of_literals, is_empty}
 use Rattle.exo_meaning.specs.Units.{is_short, is_block, is_statement}
 use Rattle.meaning_laws.specs.Substitute.{has_variable}
@@ -40,18 +39,7 @@ module _ (fields : ℕ → Option Kind) (memories : ℕ) (callees : ℕ → Opti
         body = (and_parts (not (is_empty l.body) && is_short l.body) _ q.1).1;
       }
 
--- ---- new names
-
--- what is new with one name more is new
-pub still_new : (scope : Scope) (i j : Binder) (sort : Sort)
-    → is_new (with_name scope i sort) j ≡ true → is_new scope j ≡ true
-still_new scope i j sort h =
-    by ((j.id == i.id) || is_text j.name i.name)
-    (list_any (λ (n : Named). (j.id == n.binder.id) || is_text j.name n.binder.name) scope) h
-  where
-    by : (t u : Bool) → not (t || u) ≡ true → not u ≡ true
-    by true u h = absurd (true≢false (sym h))
-    by false u h = h
+-- ---- variables
 
 -- what keeps the rules has no variable that is not in scope
 module _ (fields : ℕ → Option Kind) (scope : Scope) (x : ℕ) (none : sort_in scope x ≡ None) where

@@ -9,6 +9,7 @@ ghost use Rattle.scope_laws.specs.BehindBlocks.{HolesBehindBlocks};
 ghost use Rattle.scope_laws.specs.BehindBlocks.{OpenedBehind};
 ghost use Rattle.scope_laws.specs.WellAtPlace.{WellAtPlace};
 ghost use Rattle.scope_laws.specs.WellAtPlace.{WellPutAtPlace};
+ghost use Rattle.scope_laws.specs.Narrower.{NarrowerScopesKeepRules};
 ghost use Rattle.scope_laws.specs.Roots.{RootsCome};
 ghost use Rattle.scope_laws.specs.Roots.{RootsLaw};
 ghost use Rattle.scope_laws.specs.Scopes.{OpenScope};
@@ -96,6 +97,11 @@ pub fn rules_hold_at_places()
 /// A block that keeps the rules at a place may stand there.
 pub fn rules_hold_with_other_blocks()
     ensures { WellPutAtPlace }
+{}
+
+/// A block that keeps the rules in a scope keeps them without names that it does not mention.
+pub fn rules_hold_in_narrower_scopes()
+    ensures { NarrowerScopesKeepRules }
 {}
 
 /// The root of each name comes along to a hole.

@@ -1,5 +1,4 @@
 pub mod Fields
-pub mod Narrower
 pub mod Bare
 pub mod Lacking
 pub mod DeadCode

@@ -17,6 +17,7 @@ use Rattle.exo_meaning.specs.Unseen.{in_condition}
 use Rattle.meaning_laws.specs.Fields.{writes_field}
 use Rattle.meaning_laws.specs.Live.{read_by_condition}
 use Rattle.meaning_laws.specs.UnitFields.{unit_writes}
+use Rattle.meaning_laws.proofs.FirstState.{new_is_none}
 use Rattle.meaning_laws.proofs.Substitute.{and_parts}
 use Rattle.meaning_laws.proofs.UnitFields.{unit_leaves}
 use Rattle.scope_laws.specs.BranchesAtPlaces.{only_branch}
@@ -44,7 +45,6 @@ use Rattle.statement_laws.specs.LiftScope.{loop_in_else, else_shifts, lift_shift
 use Rattle.statement_laws.specs.LiftScope.{shifts_of_lifting, lift_rule}
 use Rattle.statement_laws.proofs.Fields.{no_field, unit_below, block_below}
 use Rattle.statement_laws.proofs.Lacking.{condition_lacks}
-use Rattle.statement_laws.proofs.Narrower.{new_is_none}
 
 -- ---- what is read
 

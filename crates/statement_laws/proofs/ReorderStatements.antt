@@ -30,6 +30,8 @@ use Rattle.scope_laws.specs.Holes.{with_rest, within}
 use Rattle.scope_laws.specs.PlacesCompose.{inside}
 use Rattle.scope_laws.specs.Roots.{own_roots_at}
 use Rattle.scope_laws.specs.SamePlace.{start_of, IsStart}
+use Rattle.scope_laws.proofs.Narrower.{before_narrower, roots_before, known_not_bound}
+use Rattle.scope_laws.proofs.Narrower.{narrower_keeps}
 use Rattle.scope_laws.proofs.PlacesCompose.{places_compose}
 use Rattle.scope_laws.proofs.SamePlace.{same_place}
 use Rattle.made_trees.specs.Passes.{or_pass}
@@ -57,8 +59,6 @@ use Rattle.statement_laws.specs.ReorderStatements.{neighbours_of, share_field, r
 use Rattle.statement_laws.specs.ReorderStatements.{next_place, reorder_needs, exchanged, reorder_rule}
 use Rattle.statement_laws.proofs.Bare.{bare_is_scoped}
 use Rattle.statement_laws.proofs.Fields.{no_field, unit_below, step_below}
-use Rattle.statement_laws.proofs.Narrower.{before_narrower, roots_before, block_narrower}
-use Rattle.statement_laws.proofs.Narrower.{known_not_bound}
 
 -- ---- what is read
 
@@ -208,10 +208,10 @@ module _ (s : Spot) (is : IsSpot s) (a b : Statement) (was : old s ≡ pair a b)
   module _ (unbound : in_statement (binds a) b ≡ false) where
     second_keeps : Keeps (scope_here s) roots (alone b)
     second_keeps =
-        block_narrower (field_kind s.target.unit.fields) (binds a) (length s.target.unit.memories)
-        (callees_for s.target) (scope_after a (scope_here s)) (scope_here s)
-        (before_narrower a (scope_here s)) (roots_after a roots) roots
-        (roots_before a roots) (alone b) (ap (λ t. t || false) unbound) rules.1
+        narrower_keeps (field_kind s.target.unit.fields) (length s.target.unit.memories)
+        (callees_for s.target) (binds a) (scope_after a (scope_here s)) (scope_here s)
+        (roots_after a roots) roots (alone b) (before_narrower a (scope_here s))
+        (roots_before a roots) (ap (λ t. t || false) unbound) rules.1
 
     first_there : IsBlockThere s.target.unit proc place (alone_at place) (alone a)
     first_there = record {

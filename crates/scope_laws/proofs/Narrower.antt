@@ -9,8 +9,9 @@ use Rattle.exo_tree.specs.Tree.{Sub, Mul, Div, Mod, Condition, True, False, Flag
 use Rattle.exo_tree.specs.Tree.{Ge, Eq, And, Or, Datum, Const, Read, Negated, Relu, Plus, Minus, Times}
 use Rattle.exo_tree.specs.Tree.{Select, Coord, At, Span, Argument, ControlArg, ConditionArg, Whole}
 use Rattle.exo_tree.specs.Tree.{Window, Statement, Assign, Reduce, Config, Pass, If, For, Alloc, View}
-use Rattle.exo_tree.specs.Tree.{Call, Block, end, next, Param, ParamKind, ControlParam, TensorParam}
-use Rattle.exo_tree.specs.Tree.{WindowParam}
+use Rattle.exo_tree.specs.Tree.{Call, Block, end, next, joined, Param, ParamKind, ControlParam}
+use Rattle.exo_tree.specs.Tree.{TensorParam, WindowParam}
+use Rattle.exo_tree.specs.Context.{Here}
 use Rattle.exo_meaning.specs.Calls.{Callee}
 use Rattle.exo_meaning.specs.Run.{roots_after}
 use Rattle.exo_meaning.specs.Units.{Reads, Sort, ControlName, BufferName, Scope, sort_in, with_name}
@@ -24,17 +25,13 @@ use Rattle.exo_meaning.specs.Units.{share_nothing_written, is_call, is_write, is
 use Rattle.exo_meaning.specs.Unseen.{in_control, in_controls, in_condition, in_datum, in_coords}
 use Rattle.exo_meaning.specs.Unseen.{in_argument, in_arguments, in_statement, in_block as mentions}
 use Rattle.exo_meaning.proofs.Frame.{or_parts}
+use Rattle.meaning_laws.specs.Sorted.{scope_at}
 use Rattle.meaning_laws.specs.Sound.{binds}
+use Rattle.meaning_laws.proofs.FirstState.{new_is_none}
 use Rattle.meaning_laws.proofs.Substitute.{and_parts}
-
--- the names of the narrow scope are those of the wide one that are not hidden
-pub record IsNarrower (hidden : ℕ → Bool) (wide narrow : Scope) : Type 0 where
-  pub sorts : (x : ℕ) → hidden x ≡ false → sort_in narrow x ≡ sort_in wide x
-  pub new : (b : Binder) → is_new wide b ≡ true → is_new narrow b ≡ true
-
--- names that are not hidden have the same roots
-abbrev pub SameRoots : (ℕ → Bool) → (ℕ → ℕ) → (ℕ → ℕ) → Type 0
-SameRoots hidden root other = (x : ℕ) → hidden x ≡ false → other x ≡ root x
+use Rattle.scope_laws.specs.Holes.{behind, roots_at}
+use Rattle.scope_laws.specs.Narrower.{IsNarrower, SameRoots, NarrowerScopesKeepRules}
+use Rattle.scope_laws.specs.Scopes.{top_binders}
 
 one_more : (hidden : ℕ → Bool) (wide narrow : Scope) (x : Binder) (sort : Sort)
     → IsNarrower hidden wide narrow
@@ -295,7 +292,7 @@ module _ (fields : ℕ → Option Kind) (hidden : ℕ → Bool) where
         (datum_same wide narrow n e q.1)
 
     mutual
-      pub block_narrower : (wide narrow : Scope) → IsNarrower hidden wide narrow
+      block_narrower : (wide narrow : Scope) → IsNarrower hidden wide narrow
           → (root other : ℕ → ℕ) → SameRoots hidden root other → (b : Block)
           → mentions hidden b ≡ false → is_block fields memories callees wide root b ≡ true
           → is_block fields memories callees narrow other b ≡ true
@@ -308,7 +305,7 @@ module _ (fields : ℕ → Option Kind) (hidden : ℕ → Bool) where
           (after_same wide narrow n a p.0) (roots_after a root) (roots_after a other)
           (roots_same root other r a p.0) b p.1 q.1)
 
-      pub statement_narrower : (wide narrow : Scope) → IsNarrower hidden wide narrow
+      statement_narrower : (wide narrow : Scope) → IsNarrower hidden wide narrow
           → (root other : ℕ → ℕ) → SameRoots hidden root other → (a : Statement)
           → in_statement hidden a ≡ false → Keeps wide root a → Keeps narrow other a
       statement_narrower wide narrow n root other r (Assign x is e) h k =
@@ -357,36 +354,30 @@ module _ (fields : ℕ → Option Kind) (hidden : ℕ → Bool) where
       statement_narrower wide narrow n root other r (Call g args) h k =
           call_same wide narrow n root other r (callees g) args h ∙ k
 
+pub narrower_keeps : NarrowerScopesKeepRules
+narrower_keeps fields memories callees hidden wide narrow root other b n r h k =
+    block_narrower fields hidden memories callees wide narrow n root other r b h k
+
 -- ---- before a statement
 
--- of names that a new binder binds none is in scope
-pub new_is_none : (scope : Scope) (b : Binder) → is_new scope b ≡ true → sort_in scope b.id ≡ None
-new_is_none [] b h = refl
-new_is_none (m ∷ scope) b h =
-    go (b.id == m.binder.id) (is_text b.name m.binder.name) h (new_is_none scope b)
+-- what is new with one name more is new
+pub still_new : (scope : Scope) (x b : Binder) (sort : Sort)
+    → is_new (with_name scope x sort) b ≡ true → is_new scope b ≡ true
+still_new scope x b sort h = go ((b.id == x.id) || is_text b.name x.name) h
   where
-    go : (t v : Bool)
-        → not ((t || v) || list_any (λ m. (b.id == m.binder.id) || is_text b.name m.binder.name) scope)
+    go : (t : Bool)
+        → not (t || list_any (λ m. (b.id == m.binder.id) || is_text b.name m.binder.name) scope)
         ≡ true
-        → (is_new scope b ≡ true → sort_in scope b.id ≡ None)
-        → (if t then Some m.sort else sort_in scope b.id) ≡ None
-    go true v k rest = absurd (true≢false (sym k))
-    go false true k rest = absurd (true≢false (sym k))
-    go false false k rest = rest k
+        → is_new scope b ≡ true
+    go true k = absurd (true≢false (sym k))
+    go false k = k
 
 one_less : (scope : Scope) (x : Binder) (sort : Sort)
     → IsNarrower (λ y. y == x.id) (with_name scope x sort) scope
 one_less scope x sort = record {
   sorts = λ y h. sym (ap (λ t. if t then Some sort else sort_in scope y) h);
-  new = λ b h. go b ((b.id == x.id) || is_text b.name x.name) h;
+  new = λ b h. still_new scope x b sort h;
 }
-  where
-    go : (b : Binder) (t : Bool)
-        → not (t || list_any (λ m. (b.id == m.binder.id) || is_text b.name m.binder.name) scope)
-        ≡ true
-        → is_new scope b ≡ true
-    go b true h = absurd (true≢false (sym h))
-    go b false h = h
 
 -- the scope before a statement has the names of the scope behind it that it does not bind
 pub before_narrower : (a : Statement) (scope : Scope)
@@ -446,3 +437,53 @@ known_not_bound fields memories callees scope root a h x sort e = by (binds a x)
     by : (t : Bool) → binds a x ≡ t → t ≡ false
     by true k = absurd (bound a h k)
     by false k = refl
+
+-- ---- before a block
+
+more_hidden : (fewer more : ℕ → Bool) (wide narrow : Scope)
+    → ((x : ℕ) → more x ≡ false → fewer x ≡ false)
+    → IsNarrower fewer wide narrow → IsNarrower more wide narrow
+more_hidden fewer more wide narrow less n =
+    record { sorts = λ x h. n.sorts x (less x h); new = n.new }
+
+two_steps : (hidden : ℕ → Bool) (wide middle narrow : Scope) → IsNarrower hidden wide middle
+    → IsNarrower hidden middle narrow → IsNarrower hidden wide narrow
+two_steps hidden wide middle narrow m n = record {
+  sorts = λ x h. n.sorts x h ∙ m.sorts x h;
+  new = λ b h. n.new b (m.new b h);
+}
+
+-- the scope before a block has the names of the scope behind it that it does not bind
+pub before_block : (b : Block) (scope : Scope)
+    → IsNarrower (top_binders b) (scope_at (behind b (Here end)) scope) scope
+before_block end scope = record { sorts = λ y h. refl; new = λ x h. h }
+before_block (next a b) scope =
+    let after = scope_after a scope in
+    let all = top_binders (next a b) in
+    let last = scope_at (behind b (Here end)) after in
+    two_steps all last after scope
+    (more_hidden (top_binders b) all last after (λ x h. (or_parts (binds a x) (top_binders b x) h).1)
+    (before_block b after))
+    (more_hidden (binds a) all after scope (λ x h. (or_parts (binds a x) (top_binders b x) h).0)
+    (before_narrower a scope))
+
+module _ (fields : ℕ → Option Kind) (memories : ℕ) (callees : ℕ → Option Callee) where
+  rest_keeps : (b c : Block) (scope : Scope) (root : ℕ → ℕ)
+      → is_block fields memories callees scope root (joined b c) ≡ true
+      → is_block fields memories callees (scope_at (behind b (Here end)) scope)
+      (roots_at (behind b (Here end)) root) c ≡ true
+  rest_keeps end c scope root h = h
+  rest_keeps (next a b) c scope root h =
+      rest_keeps b c (scope_after a scope) (roots_after a root)
+      (and_parts (is_statement fields memories callees scope root a) _ h).1
+
+  -- the second part of a block that uses no name of the first keeps the rules without the first
+  pub second_keeps : (b c : Block) (scope : Scope) (root : ℕ → ℕ)
+      → is_block fields memories callees scope root (joined b c) ≡ true
+      → mentions (top_binders b) c ≡ false
+      → is_block fields memories callees scope (roots_at (behind b (Here end)) root) c ≡ true
+  second_keeps b c scope root h unused =
+      let last = scope_at (behind b (Here end)) scope in
+      let roots = roots_at (behind b (Here end)) root in
+      narrower_keeps fields memories callees (top_binders b) last scope roots roots c
+      (before_block b scope) (λ x k. refl) unused (rest_keeps b c scope root h)
