@@ -1,6 +1,6 @@
 -- What one conflict owes, and why it is refused.
-use Rattle.std.proofs.Common.{◌≡◌, Bool, true, false, ◌&&◌, if◌then◌else◌, List, map, Option, Some, None, Result}
-use Rattle.std.proofs.Common.{Ok, Err, Vec, refl, sym, ap, ap₂, ◌∙◌, subst}
+use Rattle.std.proofs.Common.{◌≡◌, Bool, true, false, ◌&&◌, if◌then◌else◌, List, map, Some, None, Result}
+use Rattle.std.proofs.Common.{Ok, Err, Vec, sym, ap, ap₂, ◌∙◌, subst}
 use Rattle.std.specs.Prelude.{option_map}
 use Rattle.std.specs.Result.{IsErrAnd}
 use Rattle.exo_tree.specs.Places.{Path}
@@ -16,7 +16,7 @@ use Rattle.exo_effects.specs.Conflicts.{Listing, Lists, Refuses, ManyCases, Larg
 use Rattle.exo_effects.specs.Orders.{order_of}
 use Rattle.exo_conflicts.specs.Outcomes.{Conflicting}
 use Rattle.effect_laws.specs.Apart.{Conflict, conflict_listing}
-use Rattle.cursor_forward.specs.Causes.{FormFault, WideNumber, TooManyCases, SystemTooLarge, TooManySystems, Form}
+use Rattle.cursor_forward.specs.Causes.{WideNumber, TooManyCases, SystemTooLarge, TooManySystems, Form}
 use Rattle.cursor_forward.specs.PlainProposal.{fault_of, cause_of}
 use Rattle.cursor_forward.specs.declared.proposal.StepError.{StepError}
 use Rattle.step_rules.specs.Rule.{Target, Apart}
