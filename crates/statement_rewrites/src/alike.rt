@@ -44,7 +44,7 @@ fn has_variable(l: &LoopAt<'_>) -> bool
 
 /// The loop, where its body lacks its variable.
 fn where_it_lacks<'a>(l: LoopAt<'a>) -> Option<LoopAt<'a>>
-    ensures { option_map plain_loop result ≡ plain.without_variable (plain_loop l) }
+    ensures { option_map plain_loop result ≡ plain.without_variable (plain_loop l.entry) }
 {
     if has_variable(&l) {
         return None;
