@@ -94,5 +94,6 @@ pub fn sees_own_root(
     ensures { IfOk result (λ r. r ≡ sees_own_root (program unit.now) (procedure p.now) (around_of (opened count path.now (procedure p.now).body)) (block body.now)) }
 {
     let Way { mut aliases, names } = Way::to(alloc, p, path, count)?;
-    looks_back_at(unit, modes, body, &mut aliases, &names)
+    let found = looks_back_at(unit, modes, body, &mut aliases, &names)?;
+    Ok(found)
 }
