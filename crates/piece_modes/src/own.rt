@@ -19,52 +19,63 @@ use exo_modes::{Alias, ModeTable};
 use exo_tree::{Block, Path, Proc, Unit};
 use std::alloc::{AllocError, Global};
 
-/// A block, in a unit with the table of what its procedures touch.
-#[derive(Clone, Copy)]
-struct Seen<'a> {
-    unit: &'a Unit,
-    modes: &'a ModeTable,
-    body: &'a Block,
-    ghost table: { table_says modes.now ≡ modes_of (program unit.now) },
+/// Whether a block touches a buffer so.
+fn touches(
+    unit: &Unit,
+    modes: &ModeTable,
+    b: &Block,
+    aliases: &mut Vec<Alias>,
+    mode: Mode,
+    y: u32,
+) -> Result<bool, AllocError>
+    requires { table_says modes.now ≡ modes_of (program unit.now) }
+    ensures touches { IfOk result (λ r. r ≡ block_touches (program unit.now) (plain_mode mode) (roots_in aliases.old.items) (block b.now) y) }
+    ensures kept { OnOk result (aliases.new.items ≡ aliases.old.items) }
+{
+    let asked = Asked {
+        unit,
+        modes,
+        mode,
+        buffer: y,
+    };
+    asked.block_touches(aliases, b)
 }
 
-impl Seen<'_> {
-    /// Whether it touches a buffer so.
-    fn touches(self, aliases: &mut Vec<Alias>, mode: Mode, y: u32) -> Result<bool, AllocError>
-        ensures touches { IfOk result (λ r. r ≡ block_touches (program self.unit.now) (plain_mode mode) (roots_in aliases.old.items) (block self.body.now) y) }
-        ensures kept { OnOk result (aliases.new.items ≡ aliases.old.items) }
-    {
-        let asked = Asked {
-            unit: self.unit,
-            modes: self.modes,
-            mode,
-            buffer: y,
-        };
-        asked.block_touches(aliases, self.body)
-    }
+/// Whether a block reduces into a buffer, or reads it and writes it.
+fn looks_back(
+    unit: &Unit,
+    modes: &ModeTable,
+    b: &Block,
+    aliases: &mut Vec<Alias>,
+    y: u32,
+) -> Result<bool, AllocError>
+    requires { table_says modes.now ≡ modes_of (program unit.now) }
+    ensures looks { IfOk result (λ r. r ≡ looks_back (program unit.now) (roots_in aliases.old.items) (block b.now) y) }
+    ensures kept { OnOk result (aliases.new.items ≡ aliases.old.items) }
+{
+    let reduces = touches(unit, modes, b, aliases, Mode::Reducing, y)?;
+    let writes = touches(unit, modes, b, aliases, Mode::Writing, y)?;
+    let reads = touches(unit, modes, b, aliases, Mode::Reading, y)?;
+    Ok(reduces || (writes && reads))
+}
 
-    /// Whether it reduces into a buffer, or reads it and writes it.
-    fn looks_back(self, aliases: &mut Vec<Alias>, y: u32) -> Result<bool, AllocError>
-        ensures looks { IfOk result (λ r. r ≡ looks_back (program self.unit.now) (roots_in aliases.old.items) (block self.body.now) y) }
-        ensures kept { OnOk result (aliases.new.items ≡ aliases.old.items) }
-    {
-        let reduces = self.touches(aliases, Mode::Reducing, y)?;
-        let writes = self.touches(aliases, Mode::Writing, y)?;
-        let reads = self.touches(aliases, Mode::Reading, y)?;
-        Ok(reduces || (writes && reads))
-    }
-
-    /// Whether it does so with one of these buffers.
-    fn looks_back_at(self, aliases: &mut Vec<Alias>, buffers: &[u32]) -> Result<bool, AllocError>
-        ensures { IfOk result (λ r. r ≡ list_any (looks_back (program self.unit.now) (roots_in aliases.old.items) (block self.body.now)) buffers.now) }
-    {
-        for y in buffers {
-            if self.looks_back(aliases, *y)? {
-                return Ok(true);
-            }
+/// Whether it does so with one of these buffers.
+fn looks_back_at(
+    unit: &Unit,
+    modes: &ModeTable,
+    b: &Block,
+    aliases: &mut Vec<Alias>,
+    buffers: &[u32],
+) -> Result<bool, AllocError>
+    requires { table_says modes.now ≡ modes_of (program unit.now) }
+    ensures { IfOk result (λ r. r ≡ list_any (looks_back (program unit.now) (roots_in aliases.old.items) (block b.now)) buffers.now) }
+{
+    for y in buffers {
+        if looks_back(unit, modes, b, aliases, *y)? {
+            return Ok(true);
         }
-        Ok(false)
     }
+    Ok(false)
 }
 
 /// Whether a block reduces into a buffer that is there before so many statements from a path on, or reads one that it writes,
@@ -82,7 +93,7 @@ pub fn sees_own_root(
     requires { table_says modes.now ≡ modes_of (program unit.now) }
     ensures { IfOk result (λ r. r ≡ sees_own_root (program unit.now) (procedure p.now) (around_of (opened count path.now (procedure p.now).body)) (block body.now)) }
 {
-    let seen = Seen { unit, modes, body };
     let Way { mut aliases, names } = Way::to(alloc, p, path, count)?;
-    seen.looks_back_at(&mut aliases, &names)
+    let found = looks_back_at(unit, modes, body, &mut aliases, &names)?;
+    Ok(found)
 }

@@ -90,3 +90,13 @@ pub one_shared : (u : Program) (a b : Statement) (s t : Bool) → s ≡ some_fie
     → (s || t) ≡ some_field u.fields (λ f. share_field u.procedures f (record { first = a; second = b }))
 one_shared u a b s t h k =
     ap₂ ◌||◌ h k ∙ either_listed 0 (length u.fields) (writes_used u a b) (writes_used u b a)
+
+-- ---- one of two
+
+pub first_holds : (s t : Bool) → s ≡ true → s ≡ (s || t)
+first_holds true t h = refl
+first_holds false t h = h
+
+pub second_counts : (s t : Bool) → s ≡ false → t ≡ (s || t)
+second_counts true t h = absurd (cc)
+second_counts false t h = refl

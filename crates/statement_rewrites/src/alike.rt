@@ -44,7 +44,7 @@ fn has_variable(l: &LoopAt<'_>) -> bool
 
 /// The loop, where its body lacks its variable.
 fn where_it_lacks<'a>(l: LoopAt<'a>) -> Option<LoopAt<'a>>
-    ensures { option_map plain_loop result ≡ plain.without_variable (plain_loop l) }
+    ensures { option_map plain_loop result ≡ plain.without_variable (plain_loop l.entry) }
 {
     if has_variable(&l) {
         return None;
@@ -73,7 +73,6 @@ fn sees_own_field(alloc: Global, unit: &Unit, b: &Block) -> Result<bool, AllocEr
 
 /// Whether the body of the loop of a piece sees what it does: it reduces into a buffer from outside, or reads a buffer from
 /// outside, or a field, that it may write; calls included.
-#[tactic(auto, using(crate::proofs::OwnSeen::own_seen))]
 fn sees_own(
     alloc: Global,
     on: &Target<'_>,

@@ -119,7 +119,6 @@ impl Neighbours<'_> {
     }
 
     /// Whether one of them may write a field that the other may write or read.
-    #[tactic(auto, using(crate::proofs::Neighbouring::one_shared))]
     fn share_field(&self, alloc: Global, unit: &Unit) -> Result<bool, AllocError>
         ensures { IfOk result (λ r. r ≡ some_field (program unit.now).fields (λ f. plain.share_field (program unit.now).procedures f (plain_neighbours self.now))) }
     {

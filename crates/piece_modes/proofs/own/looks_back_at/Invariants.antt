@@ -5,10 +5,10 @@ use Rattle.exo_tree.specs.Tree.{block}
 use Rattle.exo_tree.specs.PlainUnit.{program}
 use Rattle.exo_modes.specs.Aliases.{roots_in}
 use Rattle.piece_modes.specs.Own.{looks_back}
-use Rattle.piece_modes.proofs.own.Seen.looks_back_at.Given as goal
+use Rattle.piece_modes.proofs.own.looks_back_at.Given as goal
 
 abbrev pub invariant-loop-y : goal.invariant-loop-y
 invariant-loop-y l =
-    let looks = looks_back (program l.self.unit.now) (roots_in l.initial.aliases.items) (block l.self.body.now) in
+    let looks = looks_back (program l.unit) (roots_in l.initial.aliases.items) (block l.b) in
     (list_any looks l.buffers ≡ list_any looks (drop l.y-index l.buffers))
     × (l.aliases.items ≡ l.initial.aliases.items)
