@@ -1,6 +1,6 @@
 -- The gap beside a statement, by the steps of its path.
 use Rattle.std.proofs.Common.{◌≡◌, ℕ, ◌<◌, ◌≤◌, Bool, true, false, List, [], ◌∷◌, ◌++◌, length, map, refl, ap, sym, ◌∙◌}
-use Rattle.std.proofs.Common.{Option, Some, None, arith}
+use Rattle.std.proofs.Common.{Some, None, arith}
 use Rattle.std.specs.Prelude.{◌^◌, nat_lt, if◌then◌else◌, option_map, option_and_then}
 use Rattle.cursor_forward.specs.Shifts.{word}
 use Rattle.std.proofs.lemmas.List.{nil_from_length}
@@ -8,7 +8,7 @@ use Rattle.exo_tree.specs.Places.{Path}
 use Rattle.exo_tree.specs.PlainPlace.{step_taken}
 use Rattle.exo_tree.specs.declared.place.Step.{Step}
 use Rattle.cursor_forward.specs.Cursors.{Side, owner}
-use Rattle.schedule_operators.specs.Operators.{GapIn, before_gap, gap_under, gap_beside}
+use Rattle.schedule_operators.specs.Operators.{before_gap, gap_under, gap_beside}
 use Rattle.schedule_operators.specs.Operators.{number_in_block}
 
 number_at_end : (up : List Step) (last : Step)

@@ -1,4 +1,4 @@
-use Rattle.std.proofs.Common.{◌≡◌, ◌<◌, ◌∙◌, length, ap, sym, arith}
+use Rattle.std.proofs.Common.{◌<◌, ◌∙◌, length, ap, sym, arith}
 use Rattle.std.specs.Prelude.{option_map}
 use Rattle.schedule_run.proofs.Gaps.{gap_found, gap_passed}
 use Rattle.schedule_run.proofs.placing.gap_beside.Goals as goal
