@@ -1,9 +1,9 @@
 -- What is opened at a path, a step at a time, and what the names on the way stand for.
-use Rattle.std.proofs.Common.{◌≡◌, ◌<◌, ◌≤◌, ◌+◌, ◌||◌, ◌==◌, ℕ, zero, suc, Bool, true, false, List, [], ◌∷◌, ◌++◌, length, take, drop}
+use Rattle.std.proofs.Common.{◌≡◌, ◌<◌, ◌≤◌, ◌+◌, ℕ, zero, suc, Bool, true, false, List, [], ◌∷◌, length, take, drop}
 use Rattle.std.proofs.Common.{Option, Some, None, option_map, length-drop, add-one, refl, sym, ap, ◌∙◌, arith}
 use Rattle.std.specs.Prelude.{slice_get}
-use Rattle.exo_tree.specs.Tree.{Statement, Assign, Reduce, Config, Pass, If, For, Alloc, View, Call, Block, end, next, block, Param}
-use Rattle.exo_tree.specs.Context.{Context, Here, After, InLoop, InThen, InElse}
+use Rattle.exo_tree.specs.Tree.{Statement, If, For, Block, end, next, block}
+use Rattle.exo_tree.specs.Context.{Here, After, InLoop, InThen, InElse}
 use Rattle.exo_tree.specs.Places.{Branch, Main, Else, Step, Path, Opened, parted, past, into, opened_in}
 use Rattle.exo_tree.specs.Branches.{branch_of}
 use Rattle.meaning_laws.proofs.Parts.{none_some}

@@ -1,11 +1,10 @@
 -- What is known of names on the way to a place.
 use Rattle.std.specs.Prelude.{◌≡◌, ◌||◌, ◌==◌, ℕ, Bool, true, false, List, [], ◌∷◌, Option, Some, None}
-use Rattle.exo_tree.specs.Tree.{Statement, Assign, Reduce, Config, Pass, If, For, Alloc, View, Call, end, Param, Procedure}
+use Rattle.exo_tree.specs.Tree.{Statement, For, Alloc, View, end, Param, Procedure}
 use Rattle.exo_tree.specs.Context.{Context, Here, After, InLoop, InThen, InElse}
 use Rattle.exo_tree.specs.Places.{Path, Opened, opened}
 use Rattle.exo_meaning.specs.Inputs.{is_buffer_of}
 use Rattle.exo_meaning.specs.Run.{roots_after}
-use Rattle.meaning_laws.specs.Sound.{binds}
 
 -- the buffer of each name, and whether a name is bound
 pub record Way : Type 0 where

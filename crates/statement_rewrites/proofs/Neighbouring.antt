@@ -95,7 +95,7 @@ one_shared u a b s t h k =
 
 pub first_holds : (s t : Bool) → s ≡ true → s ≡ (s || t)
 first_holds true t h = refl
-first_holds false t h = h
+first_holds false t h = absurd (cc)
 
 pub second_counts : (s t : Bool) → s ≡ false → t ≡ (s || t)
 second_counts true t h = absurd (cc)
