@@ -5,11 +5,11 @@ use Rattle.std.specs.Int.{int_div_euclid, int_rem_euclid, is_positive}
 use Rattle.std.specs.Ordering.{int_eq}
 use Rattle.exo_tree.specs.Tree.{Control, Lit, Var, Field, StrideOf, Neg, Add, Sub, Mul, Div, Mod, Condition, True, False, Flag, FieldFlag, Lt, Le, Gt, Ge, Eq, And, Or}
 use Rattle.exo_meaning.specs.Units.{is_of_literals}
-use Rattle.affine_forms.specs.Atoms.{Atom, Terms, none, term, Linear, same_atom, with_term, terms_added, terms_scaled, added, scaled, subtracted, present, divides, divided, undivided, quotient_of, quotient}
-use Rattle.affine_forms.specs.Forms.{form, times, is_affine, keeps_rules}
-use Rattle.affine_forms.specs.Formulas.{Constraint, AtLeastZero, IsZero, Formula, Says, Both, Either, difference, denied, negation, is_affine_condition, condition_keeps_rules}
+use Rattle.affine_forms.specs.Atoms.{Atom, Variable, only, Terms, none, term, Linear, same_atom, with_term, terms_added, terms_scaled, added, scaled, subtracted, present, divides, divided, undivided, quotient_of, quotient}
+use Rattle.affine_forms.specs.Forms.{Reading, form, normal, times, is_affine, keeps_rules}
+use Rattle.affine_forms.specs.Formulas.{Constraint, AtLeastZero, IsZero, Formula, Says, Both, Either, Flags, own_flag, formula, difference, denied, negation, is_affine_condition, condition_keeps_rules}
 use Rattle.affine_places.specs.Readings.{extent_reading}
-use Rattle.exo_effects.specs.Accesses.{plain_form, plain_formula}
+use Rattle.exo_effects.specs.Accesses.{own_flags, plain_form, plain_formula}
 use Rattle.exo_conflicts.specs.Copies.{numbers_below, names_below}
 use Rattle.exo_effects.specs.Fresh.{past_atom, past_terms, past_linear, past_constraint, past_formula}
 use Rattle.exo_conflicts.proofs.RenamedTwice.{left_of, right_of}
@@ -83,36 +83,43 @@ module _ (n : ℕ) where
       terms_added_past (divided z l.terms) (quotient_of (int_rem_euclid l.constant z) (undivided z l.terms) z) (divided_past z l.terms h)
       (quotient_of_past (int_rem_euclid l.constant z) (undivided z l.terms) z (undivided_past z l.terms h))
 
-  times_past : (by_left : Bool) (k l : Linear) → past_linear k ≤ n → past_linear l ≤ n → past_linear (times by_left k l) ≤ n
+  pub times_past : (by_left : Bool) (k l : Linear) → past_linear k ≤ n → past_linear l ≤ n → past_linear (times by_left k l) ≤ n
   times_past true k l g h = scaled_past k.constant l h
   times_past false k l g h = scaled_past l.constant k g
 
-  form_past : (e : Control) → is_affine (numbers_below n) e ≡ true → past_linear (form extent_reading e) ≤ n
-  form_past (Lit m) h = omega arith
-  form_past (Var x) h = max_within (suc x) zero n (omega (arith, lt_from x n h)) (omega arith)
-  form_past (Field f) h = omega arith
-  form_past (StrideOf x k) h = omega arith
-  form_past (Neg a) h = scaled_past (negsuc 0) (form extent_reading a) (form_past a h)
-  form_past (Add a b) h =
-      let p = both_true (is_affine (numbers_below n) a) (is_affine (numbers_below n) b) h in
-      added_past (form extent_reading a) (form extent_reading b) (form_past a p.0) (form_past b p.1)
-  form_past (Sub a b) h =
-      let p = both_true (is_affine (numbers_below n) a) (is_affine (numbers_below n) b) h in
-      subtracted_past (form extent_reading a) (form extent_reading b) (form_past a p.0) (form_past b p.1)
-  form_past (Mul a b) h =
-      let q = both_true (is_of_literals a || is_of_literals b) (is_affine (numbers_below n) a && is_affine (numbers_below n) b) h in
-      let p = both_true (is_affine (numbers_below n) a) (is_affine (numbers_below n) b) q.1 in
-      times_past (is_of_literals a) (form extent_reading a) (form extent_reading b) (form_past a p.0) (form_past b p.1)
-  form_past (Div a c) h =
-      let p = both_true (is_positive c) (is_affine (numbers_below n) a) h in
-      quotient_past (form extent_reading a) c (form_past a p.1)
-  form_past (Mod a c) h =
-      let p = both_true (is_positive c) (is_affine (numbers_below n) a) h in
-      let l = form extent_reading a in
-      subtracted_past l (scaled c (quotient l c)) (form_past a p.1) (scaled_past c (quotient l c) (quotient_past l c (form_past a p.1)))
+  -- what stands for variables, fields and strides is so
+  pub record IsPast (at : Reading) : Type 0 where
+    pub variable : (x : ℕ) → x < n → past_linear (at.variable x) ≤ n
+    pub field : (f : ℕ) → past_linear (at.field f) ≤ n
+    pub stride : (x k : ℕ) → past_linear (at.stride x k) ≤ n
 
-  pub plain_past : (e : Control) → is_affine (numbers_below n) e ≡ true → past_linear (plain_form e) ≤ n
-  plain_past e h = present_past (form extent_reading e).terms (form_past e h)
+  module _ (at : Reading) (past : IsPast at) where
+    pub form_past : (e : Control) → is_affine (numbers_below n) e ≡ true → past_linear (form at e) ≤ n
+    form_past (Lit m) h = omega arith
+    form_past (Var x) h = past.variable x (lt_from x n h)
+    form_past (Field f) h = past.field f
+    form_past (StrideOf x k) h = past.stride x k
+    form_past (Neg a) h = scaled_past (negsuc 0) (form at a) (form_past a h)
+    form_past (Add a b) h =
+        let p = both_true (is_affine (numbers_below n) a) (is_affine (numbers_below n) b) h in
+        added_past (form at a) (form at b) (form_past a p.0) (form_past b p.1)
+    form_past (Sub a b) h =
+        let p = both_true (is_affine (numbers_below n) a) (is_affine (numbers_below n) b) h in
+        subtracted_past (form at a) (form at b) (form_past a p.0) (form_past b p.1)
+    form_past (Mul a b) h =
+        let q = both_true (is_of_literals a || is_of_literals b) (is_affine (numbers_below n) a && is_affine (numbers_below n) b) h in
+        let p = both_true (is_affine (numbers_below n) a) (is_affine (numbers_below n) b) q.1 in
+        times_past (is_of_literals a) (form at a) (form at b) (form_past a p.0) (form_past b p.1)
+    form_past (Div a c) h =
+        let p = both_true (is_positive c) (is_affine (numbers_below n) a) h in
+        quotient_past (form at a) c (form_past a p.1)
+    form_past (Mod a c) h =
+        let p = both_true (is_positive c) (is_affine (numbers_below n) a) h in
+        let l = form at a in
+        subtracted_past l (scaled c (quotient l c)) (form_past a p.1) (scaled_past c (quotient l c) (quotient_past l c (form_past a p.1)))
+
+    pub normal_past : (e : Control) → is_affine (numbers_below n) e ≡ true → past_linear (normal at e) ≤ n
+    normal_past e h = present_past (form at e).terms (form_past e h)
 
   -- ---- formulas
 
@@ -131,32 +138,59 @@ module _ (n : ℕ) where
   abbrev allowed : Condition → Bool
   allowed c = is_affine_condition (names_below n) c
 
-  sides_past : (a b : Control) → (is_affine (numbers_below n) a && is_affine (numbers_below n) b) ≡ true → past_linear (difference (plain_form a) (plain_form b)) ≤ n
-  sides_past a b h =
-      let p = both_true (is_affine (numbers_below n) a) (is_affine (numbers_below n) b) h in
-      difference_past (plain_form a) (plain_form b) (plain_past a p.0) (plain_past b p.1)
+  module _ (at : Reading) (past : IsPast at) where
+    sides_past : (a b : Control) → (is_affine (numbers_below n) a && is_affine (numbers_below n) b) ≡ true → past_linear (difference (normal at a) (normal at b)) ≤ n
+    sides_past a b h =
+        let p = both_true (is_affine (numbers_below n) a) (is_affine (numbers_below n) b) h in
+        difference_past (normal at a) (normal at b) (normal_past at past a p.0) (normal_past at past b p.1)
 
-  other_past : (a b : Control) → (is_affine (numbers_below n) a && is_affine (numbers_below n) b) ≡ true → past_linear (difference (plain_form b) (plain_form a)) ≤ n
-  other_past a b h =
-      let p = both_true (is_affine (numbers_below n) a) (is_affine (numbers_below n) b) h in
-      difference_past (plain_form b) (plain_form a) (plain_past b p.1) (plain_past a p.0)
+    other_past : (a b : Control) → (is_affine (numbers_below n) a && is_affine (numbers_below n) b) ≡ true → past_linear (difference (normal at b) (normal at a)) ≤ n
+    other_past a b h =
+        let p = both_true (is_affine (numbers_below n) a) (is_affine (numbers_below n) b) h in
+        difference_past (normal at b) (normal at a) (normal_past at past b p.1) (normal_past at past a p.0)
+
+    module _
+        (flags : Flags)
+        (variable : (x : ℕ) → x < n → past_formula (flags.variable x) ≤ n)
+        (field : (f : ℕ) → past_formula (flags.field f) ≤ n)
+      where
+        pub formula_past : (c : Condition) → is_affine_condition (names_below n) c ≡ true → past_formula (formula at flags c) ≤ n
+        formula_past True h = omega arith
+        formula_past False h = omega arith
+        formula_past (Flag x) h = variable x (lt_from x n h)
+        formula_past (FieldFlag f) h = field f
+        formula_past (Lt a b) h = other_past a b h
+        formula_past (Le a b) h = other_past a b h
+        formula_past (Gt a b) h = sides_past a b h
+        formula_past (Ge a b) h = sides_past a b h
+        formula_past (Eq a b) h = sides_past a b h
+        formula_past (And c d) h =
+            let p = both_true (allowed c) (allowed d) h in
+            max_within (past_formula (formula at flags c)) (past_formula (formula at flags d)) n (formula_past c p.0) (formula_past d p.1)
+        formula_past (Or c d) h =
+            let p = both_true (allowed c) (allowed d) h in
+            max_within (past_formula (formula at flags c)) (past_formula (formula at flags d)) n (formula_past c p.0) (formula_past d p.1)
+
+  -- ---- over variables alone
+
+  pub only_past : (x : ℕ) → x < n → past_linear (only (Variable x)) ≤ n
+  only_past x h = max_within (suc x) zero n (omega (arith, h)) (omega arith)
+
+  pub own_flag_past : (x : ℕ) → x < n → past_formula (own_flag x) ≤ n
+  own_flag_past x h = only_past x h
+
+  pub extents_past : IsPast extent_reading
+  extents_past = record {
+    variable = only_past;
+    field = λ f. omega arith;
+    stride = λ x k. omega arith;
+  }
+
+  pub plain_past : (e : Control) → is_affine (numbers_below n) e ≡ true → past_linear (plain_form e) ≤ n
+  plain_past e h = normal_past extent_reading extents_past e h
 
   pub plain_formula_past : (c : Condition) → is_affine_condition (names_below n) c ≡ true → past_formula (plain_formula c) ≤ n
-  plain_formula_past True h = omega arith
-  plain_formula_past False h = omega arith
-  plain_formula_past (Flag x) h = max_within (suc x) zero n (omega (arith, lt_from x n h)) (omega arith)
-  plain_formula_past (FieldFlag f) h = omega arith
-  plain_formula_past (Lt a b) h = other_past a b h
-  plain_formula_past (Le a b) h = other_past a b h
-  plain_formula_past (Gt a b) h = sides_past a b h
-  plain_formula_past (Ge a b) h = sides_past a b h
-  plain_formula_past (Eq a b) h = sides_past a b h
-  plain_formula_past (And c d) h =
-      let p = both_true (allowed c) (allowed d) h in
-      max_within (past_formula (plain_formula c)) (past_formula (plain_formula d)) n (plain_formula_past c p.0) (plain_formula_past d p.1)
-  plain_formula_past (Or c d) h =
-      let p = both_true (allowed c) (allowed d) h in
-      max_within (past_formula (plain_formula c)) (past_formula (plain_formula d)) n (plain_formula_past c p.0) (plain_formula_past d p.1)
+  plain_formula_past c h = formula_past extent_reading extents_past own_flags own_flag_past (λ f. omega arith) c h
 
   -- ---- what keeps the rules
 

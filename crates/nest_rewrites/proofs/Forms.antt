@@ -1,6 +1,6 @@
 -- Bounds that agree.
-use Rattle.std.proofs.Common.{◌≡◌, Bool, true, false, not, ◌&&◌, ◌||◌, Option, Some, None, refl, ap, ap₂, sym, ◌∙◌}
-use Rattle.std.specs.Prelude.{IsTrue, if◌then◌else◌, unwrap_or, is_some}
+use Rattle.std.proofs.Common.{◌≡◌, Bool, true, false, ◌&&◌, Some, None, refl, ap, ap₂, sym, ◌∙◌}
+use Rattle.std.specs.Prelude.{if◌then◌else◌}
 use Rattle.exo_tree.specs.Tree.{Control}
 use Rattle.affine_forms.specs.Forms.{is_affine, keeps_rules}
 use Rattle.affine_forms.specs.Outcomes.{IsWide}

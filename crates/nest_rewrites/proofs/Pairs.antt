@@ -1,5 +1,5 @@
 -- Two loops that are all of a block.
-use Rattle.std.proofs.Common.{◌≡◌, ◌≢◌, ℕ, Bool, true, false, not, ◌&&◌, ◌||◌, List, [], ◌∷◌, length, drop}
+use Rattle.std.proofs.Common.{◌≡◌, ◌≢◌, Bool, true, false, not, ◌&&◌, ◌||◌, List, [], ◌∷◌, length, drop}
 use Rattle.std.proofs.Common.{Option, Some, None, refl, ap, ap₂, sym, ◌∙◌, arith}
 use Rattle.std.specs.Prelude.{if◌then◌else◌, option_and_then, unwrap_or, is_some}
 use Rattle.exo_tree.specs.Tree.{Control, Statement, Block, block}
@@ -11,8 +11,6 @@ use Rattle.nest_laws.specs.Fuse.{bounds_fit, both_are_affine, where_they_agree}
 use Rattle.nest_rewrites.specs.Agreement.{agreement}
 
 -- ---- two statements
-
-first_of_more : (a b : Statement) (ss ts : List Statement) → a ∷ ss ≡ b ∷ ts → a ≡ b
 
 pub two_there : (ss : List Statement) (a b : Statement) → length ss ≡ 2 → drop 0 ss ≡ a ∷ drop 1 ss
     → drop 1 ss ≡ b ∷ drop 2 ss → option_and_then (with_second b) (loop_in a) ≡ two_of (block ss)
@@ -62,10 +60,26 @@ they_fit p low high h k =
     ap₂ (λ x y. is_some x && is_some y) h k
     ∙ ap₂ ◌&&◌ (written p.first.lo p.second.lo) (written p.first.hi p.second.hi)
 
-pub agreeing_two : (p : Two) (t : Bool) → both_are_affine p ≡ true → t ≡ bounds_may_agree p
+agreeing_two : (p : Two) (t : Bool) → both_are_affine p ≡ true → t ≡ bounds_may_agree p
     → (if t then Some p else None) ≡ where_they_agree p
 agreeing_two p t h k =
     ap (λ (x : Bool). if x then Some p else None) (k ∙ ap (λ x. x && bounds_may_agree p) (sym h))
+
+pub both_agree : (p : Two) (low high : Option Bool) (t : Bool) → both_are_affine p ≡ true
+    → low ≡ agreement p.first.lo p.second.lo
+    → high ≡ agreement p.first.hi p.second.hi
+    → t ≡ (unwrap_or low true && unwrap_or high true) → t ≡ true → Some p ≡ where_they_agree p
+both_agree p low high t affine h k is e =
+    ap (λ (x : Bool). if x then Some p else None) (sym e)
+    ∙ agreeing_two p t affine (is ∙ they_agree p low high h k)
+
+pub others_agree : (p : Two) (low high : Option Bool) (t : Bool) → both_are_affine p ≡ true
+    → low ≡ agreement p.first.lo p.second.lo
+    → high ≡ agreement p.first.hi p.second.hi
+    → t ≡ (unwrap_or low true && unwrap_or high true) → t ≡ false → None ≡ where_they_agree p
+others_agree p low high t affine h k is e =
+    ap (λ (x : Bool). if x then Some p else None) (sym e)
+    ∙ agreeing_two p t affine (is ∙ they_agree p low high h k)
 
 pub not_affine_two : (b : Block) (p : Two) → Some p ≡ two_of b → both_are_affine p ≡ false
     → None ≡ two_in b

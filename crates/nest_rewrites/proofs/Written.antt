@@ -1,9 +1,8 @@
 -- Whether a field is written.
-use Rattle.std.proofs.Common.{◌≡◌, ◌≤◌, ◌<◌, ℕ, Bool, true, false, not, ◌&&◌, List, refl, ap, ap₂, sym, ◌∙◌, arith}
+use Rattle.std.proofs.Common.{◌≡◌, ◌≤◌, ◌<◌, ℕ, Bool, false, not, ◌&&◌, List, arith}
 use Rattle.std.specs.Prelude.{nat_lt}
-use Rattle.exo_tree.specs.Tree.{Block, Program}
 use Rattle.config_state.specs.FieldSets.{contains}
-use Rattle.step_fields.specs.Fields.{IsFieldSet, written_in}
+use Rattle.step_fields.specs.Fields.{IsFieldSet}
 
 -- a field of the unit is written where it is in the set
 pub in_set : (n f : ℕ) (test : ℕ → Bool) (set : List Bool) (t : Bool) → IsFieldSet n test set → f < n

@@ -64,11 +64,7 @@ pub(crate) fn crossing(alloc: Global) -> Result<Vec<OrderRow>, AllocError>
 }
 
 /// Two pieces, each at a turn of one loop, that of the second being the later one.
-pub(crate) fn in_turn(
-    alloc: Global,
-    first: Turns,
-    second: Turns,
-) -> Result<Conflict, AllocError>
+pub(crate) fn in_turn(alloc: Global, first: Turns, second: Turns) -> Result<Conflict, AllocError>
     ensures { IfOk result (λ k. plain_conflict k ≡ record { first = plain_turns first; second = plain_turns second; order = orders.Less 0 ∷ [] }) }
 {
     let order = later(alloc)?;

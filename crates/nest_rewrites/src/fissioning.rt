@@ -153,12 +153,7 @@ impl Operator for Fissioning {
 /// `WrongShape` where no loop stands there, a part would be empty, or the second uses a name that the first binds;
 /// `ConfigWrite` where it may write a field, unless the first part is one write whose value has not the loop's variable,
 /// of a field that the second part does not write; `LimitPassed` where the result is too large.
-pub fn fission(
-    alloc: Global,
-    on: &Target<'_>,
-    at: &Path,
-    count: u32,
-) -> Result<Proposal, StepError>
+pub fn fission(alloc: Global, on: &Target<'_>, at: &Path, count: u32) -> Result<Proposal, StepError>
     requires modes { table_says on.now.modes.now ≡ modes_of (program on.now.unit.now) }
     requires target { IsTarget (target on.now) }
     ensures answer { Tries plain_proposal (proposed (fission_rule count) (target on.now) at.now) result }

@@ -35,7 +35,13 @@ impl NestAt<'_> {
         ensures { IfOk result (λ k. plain_turns k ≡ (plain.turns_conflict at.now (plain_nest self.now)).first) }
     {
         let path = onward(at, 0, &[FIRST, FIRST])?;
-        in_two(alloc, &self.outer, &self.inner, path, size(self.inner.body)?)
+        in_two(
+            alloc,
+            &self.outer,
+            &self.inner,
+            path,
+            size(self.inner.body)?,
+        )
     }
 
     /// The body at a turn of both against that at a later one of the outer loop and an earlier one of the inner loop.

@@ -62,12 +62,7 @@ fn write_of(b: &Block) -> Option<WriteAt<'_>>
 impl PartingAt<'_> {
     /// Whether a write has not the loop's variable, and is of a field that the second part does not write.
     #[tactic(auto, using(crate::proofs::Written::in_set, crate::proofs::Written::no_field))]
-    fn is_steady(
-        &self,
-        alloc: Global,
-        unit: &Unit,
-        w: &WriteAt<'_>,
-    ) -> Result<bool, AllocError>
+    fn is_steady(&self, alloc: Global, unit: &Unit, w: &WriteAt<'_>) -> Result<bool, AllocError>
         ensures { IfOk result (λ t. t ≡ plain.is_steady (program unit.now) (plain_parting self.now) (plain_write w.now)) }
     {
         let field = w.field.0 as usize;

@@ -1,5 +1,5 @@
 //! A loop and the next one, with bounds that may agree.
-ghost use Rattle.std.specs.Prelude.{◌≡◌, IsTrue, option_map, option_and_then, IfOk, IfSome};
+ghost use Rattle.std.specs.Prelude.{◌≡◌, ◌&&◌, true, IsTrue, is_some, unwrap_or, option_map, option_and_then, IfOk, IfSome};
 ghost use Rattle.exo_tree.specs.Tree.{block, joined};
 ghost use Rattle.exo_tree.specs.PlainStatement.{statement};
 ghost use Rattle.loop_laws.specs.Shapes as shapes;
@@ -54,9 +54,23 @@ fn has_affine_bounds(l: &LoopAt<'_>) -> bool
     is_over_variables(l.lo) && is_over_variables(l.hi)
 }
 
+/// Whether both ends agree, as far as that is known.
+fn may_agree(low: Option<bool>, high: Option<bool>) -> bool
+    ensures { result ≡ (unwrap_or low true && unwrap_or high true) }
+{
+    low.unwrap_or(true) && high.unwrap_or(true)
+}
+
+/// Whether it is known of both ends.
+fn are_known(low: Option<bool>, high: Option<bool>) -> bool
+    ensures { result ≡ (is_some low && is_some high) }
+{
+    low.is_some() && high.is_some()
+}
+
 impl<'a> Loops<'a> {
     /// Both loops, where their bounds may agree.
-    #[tactic(auto, using(crate::proofs::Pairs::by_agreements, crate::proofs::Pairs::by_fits))]
+    #[tactic(auto, using(crate::proofs::Pairs::both_agree, crate::proofs::Pairs::others_agree, crate::proofs::Pairs::they_fit))]
     fn agreeing(self, alloc: Global) -> Result<Option<TwoAt<'a>>, AllocError>
         requires { IsTrue (plain.both_are_affine (plain_loops self)) }
         ensures two { IfOk result (λ p. option_map plain_two p ≡ plain.where_they_agree (plain_loops self.entry)) }
@@ -64,19 +78,19 @@ impl<'a> Loops<'a> {
     {
         let low = agreement(alloc, self.first.lo, self.second.lo)?;
         let high = agreement(alloc, self.first.hi, self.second.hi)?;
-        if !(low.unwrap_or(true) && high.unwrap_or(true)) {
+        if !may_agree(low, high) {
             return Ok(None);
         }
         Ok(Some(TwoAt {
             first: self.first,
             second: self.second,
-            fit: low.is_some() && high.is_some(),
+            fit: are_known(low, high),
         }))
     }
 }
 
 /// The two loops with bounds that may agree that are all of a block; None exactly where there are none.
-#[tactic(auto, using(crate::proofs::Pairs::agreeing_two, crate::proofs::Pairs::not_affine_two, crate::proofs::Pairs::no_loops))]
+#[tactic(auto, using(crate::proofs::Pairs::two_of_loops, crate::proofs::Pairs::not_affine_two, crate::proofs::Pairs::no_loops))]
 pub(crate) fn two_in(alloc: Global, b: &Block) -> Result<Option<TwoAt<'_>>, AllocError>
     ensures two { IfOk result (λ p. option_map plain_two p ≡ plain.two_in (block b.now)) }
     ensures fit { IfOk result (λ p. IfSome p (λ q. q.fit ≡ plain.bounds_fit (plain_two q))) }

@@ -63,6 +63,49 @@ pub text_said : (t : Target) (fact : Fact) → text_by (words_of t.unit t.proc) 
 text_said t (Holds c) = refl
 text_said t (Fails c) = refl
 
+-- ---- one need
+
+module _ (t : Target) (n : Need) (old : List Owed) where
+  abbrev pub why : Option Cause
+  why = cause_for (need_fault t n) (are_within (old ++ owed_for t n))
+
+  pub faulty : (f : FormFault) → need_fault t n ≡ Some f → why ≡ Some (Form f)
+  faulty f h = ap (λ (o : Option FormFault). cause_for o (are_within (old ++ owed_for t n))) h
+
+  module _ {X : Type 0} (result : Result X StepError) (new : List Owed) where
+    pub refused_by : (cause : Option Cause) → IsErrAnd result (λ r. cause_of r ≡ cause) → IsCause why cause
+        → Puts result t n old new
+    refused_by cause is h = by result is
+      where
+        by : (r : Result X StepError) → IsErrAnd r (λ y. cause_of y ≡ cause) → Puts r t n old new
+        by (Ok x) w = absurd w
+        by (Err y) w = subst (IsCause why) (sym w) h
+
+    -- there is no memory
+    pub refused_memory : IsErrAnd result (λ r. r ≡ Memory) → Puts result t n old new
+    refused_memory is = by result is
+      where
+        by : (r : Result X StepError) → IsErrAnd r (λ y. y ≡ Memory) → Puts r t n old new
+        by (Ok x) w = absurd w
+        by (Err y) w = subst (λ (z : StepError). IsCause why (cause_of z)) (sym w) tt
+
+  -- these are what it owes
+  module _ (os : List Owed) (h : (need_fault t n ≡ None) × (os ≡ owed_for t n)) where
+    not_refused : (within : Bool) → are_within (old ++ os) ≡ within → why ≡ cause_for None within
+    not_refused within w i = cause_for (h.0 i) ((ap (λ (l : List Owed). are_within (old ++ l)) (sym h.1) ∙ w) i)
+
+    -- they come last
+    pub puts_systems : (new : List Owed) → (are_within (old ++ os) ≡ true) × (new ≡ old ++ os)
+        → (why ≡ None) × (new ≡ old ++ owed_for t n)
+    puts_systems new w = (not_refused true w.0, w.1 ∙ ap (λ (l : List Owed). old ++ l) h.1)
+
+    -- or they are too many
+    pub refused_list : (e : CheckError) (new : List Owed) → Appended {A = Unit {0}} (Err e) old os new
+        → IsCause why (check_cause e)
+    refused_list check.TooManyObligations new w = not_refused false w
+    refused_list (check.Form e) new w = absurd w
+    refused_list check.Memory new w = tt
+
 -- ---- one fact
 
 module _ (t : Target) (path : Path) (fact : Fact) where
@@ -99,80 +142,40 @@ module _ (t : Target) (path : Path) (fact : Fact) where
       by true false h = absurd h
       by false small h = absurd h
 
+  pub all_owed : (os : List Obligation) → AreOwed os told (fact_text t fact) path → fits_all ≡ true
+      → (need_fault t (Says path fact) ≡ None) × (map plain_obligation os ≡ owed_for t (Says path fact))
+  all_owed os h k = let all = systems_owed os h in (fit told k refl ∙ all.0, all.1)
+
   pub unfit_context : context_fits t.unit t.proc path ≡ false → fits_all ≡ false
   unfit_context h = ap (λ (b : Bool). b && fact_fits t.unit t.proc (known_for t path) fact) h
 
-  module _ (old : List Owed) where
-    abbrev pub why : Option Cause
-    why = cause_for (need_fault t (Says path fact)) (are_within (old ++ owed_for t (Says path fact)))
+  module _ (old : List Owed) {X : Type 0} (result : Result X StepError) (new : List Owed) where
+    -- a form is too wide
+    pub refused_form : (e : FormError) (fits : Bool)
+        → IsErrAnd result (λ r. cause_of r ≡ option_map Form (fault_of e)) → IsWide e fits
+        → (fits ≡ false → fits_all ≡ false) → Puts result t (Says path fact) old new
+    refused_form e fits is h k = refused_by t (Says path fact) old result new (option_map Form (fault_of e)) is (by e h)
+      where
+        by : (y : FormError) → IsWide y fits → IsCause (why t (Says path fact) old) (option_map Form (fault_of y))
+        by form.TooManyCases w = absurd w
+        by form.SystemTooLarge w = absurd w
+        by form.WideNumber w = faulty t (Says path fact) old WideNumber (unfit (k w))
+        by form.TooManySystems w = absurd w
+        by form.Memory w = tt
 
-    faulty : (f : FormFault) → need_fault t (Says path fact) ≡ Some f → why ≡ Some (Form f)
-    faulty f h = ap (λ (o : Option FormFault). cause_for o (are_within (old ++ owed_for t (Says path fact)))) h
-
-    module _ {X : Type 0} (result : Result X StepError) (new : List Owed) where
-      pub refused_by : (cause : Option Cause) → IsErrAnd result (λ r. cause_of r ≡ cause) → IsCause why cause
-          → Puts result t (Says path fact) old new
-      refused_by cause is h = by result is
-        where
-          by : (r : Result X StepError) → IsErrAnd r (λ y. cause_of y ≡ cause)
-              → Puts r t (Says path fact) old new
-          by (Ok x) w = absurd w
-          by (Err y) w = subst (IsCause why) (sym w) h
-
-      -- a form is too wide
-      pub refused_form : (e : FormError) (fits : Bool)
-          → IsErrAnd result (λ r. cause_of r ≡ option_map Form (fault_of e)) → IsWide e fits
-          → (fits ≡ false → fits_all ≡ false) → Puts result t (Says path fact) old new
-      refused_form e fits is h k = refused_by (option_map Form (fault_of e)) is (by e h)
-        where
-          by : (y : FormError) → IsWide y fits → IsCause why (option_map Form (fault_of y))
-          by form.TooManyCases w = absurd w
-          by form.SystemTooLarge w = absurd w
-          by form.WideNumber w = faulty WideNumber (unfit (k w))
-          by form.TooManySystems w = absurd w
-          by form.Memory w = tt
-
-      -- its systems are too many or too large
-      pub refused_systems : (e : FormError)
-          → IsErrAnd result (λ r. cause_of r ≡ option_map Form (fault_of e)) → stating.IsRefusal e told
-          → fits_all ≡ true → Puts result t (Says path fact) old new
-      refused_systems e is h k = refused_by (option_map Form (fault_of e)) is (by e h)
-        where
-          by : (y : FormError) → stating.IsRefusal y told → IsCause why (option_map Form (fault_of y))
-          by form.TooManyCases w = faulty TooManyCases (fit CasesPassed k w)
-          by form.SystemTooLarge w = faulty SystemTooLarge (fit SizePassed k w)
-          by form.WideNumber w = absurd w
-          by form.TooManySystems w = absurd w
-          by form.Memory w = tt
-
-      -- there is no memory
-      pub refused_memory : IsErrAnd result (λ r. r ≡ Memory) → Puts result t (Says path fact) old new
-      refused_memory is = by result is
-        where
-          by : (r : Result X StepError) → IsErrAnd r (λ y. y ≡ Memory) → Puts r t (Says path fact) old new
-          by (Ok x) w = absurd w
-          by (Err y) w = subst (λ (z : StepError). IsCause why (cause_of z)) (sym w) tt
-
-    module _ (os : List Obligation) (h : AreOwed os told (fact_text t fact) path) (k : fits_all ≡ true) where
-      all : (stated_fault t told ≡ None) × (map plain_obligation os ≡ owed_for t (Says path fact))
-      all = systems_owed os h
-
-      not_refused : (within : Bool) → are_within (old ++ map plain_obligation os) ≡ within
-          → why ≡ cause_for None within
-      not_refused within w i = cause_for ((fit told k refl ∙ all.0) i) ((ap (λ (l : List Owed). are_within (old ++ l)) (sym all.1) ∙ w) i)
-
-      -- its systems come last
-      pub puts_systems : (new : List Owed)
-          → (are_within (old ++ map plain_obligation os) ≡ true) × (new ≡ old ++ map plain_obligation os)
-          → (why ≡ None) × (new ≡ old ++ owed_for t (Says path fact))
-      puts_systems new w = (not_refused true w.0, w.1 ∙ ap (λ (l : List Owed). old ++ l) all.1)
-
-      -- or they are too many
-      pub refused_list : (e : CheckError) (new : List Owed)
-          → Appended {A = Unit {0}} (Err e) old (map plain_obligation os) new → IsCause why (check_cause e)
-      refused_list check.TooManyObligations new w = not_refused false w
-      refused_list (check.Form e) new w = absurd w
-      refused_list check.Memory new w = tt
+    -- its systems are too many or too large
+    pub refused_systems : (e : FormError)
+        → IsErrAnd result (λ r. cause_of r ≡ option_map Form (fault_of e)) → stating.IsRefusal e told
+        → fits_all ≡ true → Puts result t (Says path fact) old new
+    refused_systems e is h k = refused_by t (Says path fact) old result new (option_map Form (fault_of e)) is (by e h)
+      where
+        by : (y : FormError) → stating.IsRefusal y told
+            → IsCause (why t (Says path fact) old) (option_map Form (fault_of y))
+        by form.TooManyCases w = faulty t (Says path fact) old TooManyCases (fit CasesPassed k w)
+        by form.SystemTooLarge w = faulty t (Says path fact) old SystemTooLarge (fit SizePassed k w)
+        by form.WideNumber w = absurd w
+        by form.TooManySystems w = absurd w
+        by form.Memory w = tt
 
   -- as it is read with these
   module _ (fields : List ConfigField) (roots : Roots) (facts : List FieldFact) (e : t.unit.fields ≡ fields)
@@ -192,15 +195,13 @@ module _ (t : Target) (path : Path) (fact : Fact) where
 -- ---- places
 
 -- the place may be told by another path that leads there
-pub same_context : (u : Program) (p q : Procedure) (a b : Path) → opened 1 a p.body ≡ opened 1 b p.body → p ≡ q
-    → (context_of u q a ≡ context_of u q b) × ((context_fits u q a ≡ context_fits u q b)
-    × (facts_of u q a ≡ facts_of u q b))
-same_context u p q a b h e =
-    let same : opened 1 a q.body ≡ opened 1 b q.body =
-    subst (λ (r : Procedure). opened 1 a r.body ≡ opened 1 b r.body) e h in (
-      ap (λ o. formulas u q (facts_at u q o)) same,
-      (ap (λ o. all_fit u q (facts_at u q o)) same, ap (λ o. contexts.told u.fields (known_at_place u q o)) same),
-    )
+pub same_context : (u : Program) (p : Procedure) (a b : Path) → opened 1 a p.body ≡ opened 1 b p.body
+    → (context_of u p a ≡ context_of u p b) × ((context_fits u p a ≡ context_fits u p b)
+    × (facts_of u p a ≡ facts_of u p b))
+same_context u p a b same = (
+  ap (λ o. formulas u p (facts_at u p o)) same,
+  (ap (λ o. all_fit u p (facts_at u p o)) same, ap (λ o. contexts.told u.fields (known_at_place u p o)) same),
+)
 
 -- ---- one need after the other
 

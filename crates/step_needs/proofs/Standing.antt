@@ -1,9 +1,10 @@
 -- Places of a procedure.
-use Rattle.std.proofs.Common.{◌≡◌, [], ◌∷◌, Option, Some, None, refl}
+use Rattle.std.proofs.Common.{◌≡◌, true, [], ◌∷◌, Option, Some, None, refl}
 use Rattle.std.specs.Prelude.{option_map, IsSome}
 use Rattle.exo_tree.specs.Tree.{Procedure}
 use Rattle.exo_tree.specs.Places.{Path, Opened, opened}
 use Rattle.check_facts.specs.Contexts.{IsPlaceOf}
+use Rattle.exo_conflicts.specs.Standings as tested
 
 module _ {T : Type 0} (f : Opened → T) where
   pub nowhere : (x : Option Opened) → None ≡ option_map f x → None ≡ x
@@ -18,3 +19,8 @@ module _ {T : Type 0} (f : Opened → T) where
       → IsPlaceOf path p
   is_place p [] y h = tt
   is_place p (s ∷ path) y h = there (opened 1 (s ∷ path) p.body) y h
+
+-- as a test
+pub place_tested : (p : Procedure) (path : Path) → IsPlaceOf path p → tested.is_place path p ≡ true
+place_tested p [] h = refl
+place_tested p (s ∷ path) h = h

@@ -14,6 +14,7 @@ use Rattle.check_facts.specs.Laws.{WellFormedMayBeWalked}
 use Rattle.tree_rules_laws.specs.Versions.{ProcedureLaw}
 use Rattle.step_rules.specs.Rule.{Target}
 use Rattle.step_rules.specs.Lawful.{IsTarget}
+use Rattle.step_needs.specs.Sites.{IsWell}
 
 pub walked : WellFormedMayBeWalked → ProcedureLaw → (t : Target) → IsTarget t → may_be_walked t.proc ≡ true
 walked walks keeps t is =
@@ -35,3 +36,10 @@ few_fields u is =
   where
     less : (n : ℕ) → nat_lt n (2 ^ 31) ≡ true → n < 4294967296
     less n h = grind (arith, nat_tests)
+
+pub well : WellFormedMayBeWalked → ProcedureLaw → (t : Target) → IsTarget t → IsWell (t.unit, t.proc)
+well walks keeps t is = record {
+  few = few_fields t.unit is.unit;
+  walks = walked walks keeps t is;
+  well = keeps t.unit t.number t.proc is.unit is.there;
+}

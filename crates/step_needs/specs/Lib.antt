@@ -1,3 +1,5 @@
 pub mod PlainNeed
 pub mod Outcomes
 pub mod Owing
+pub mod Conflicts
+pub mod Sites

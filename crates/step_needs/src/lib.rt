@@ -1,10 +1,12 @@
 //! What has to be shown for a step, and the systems that it owes.
 #![tactic(auto)]
 
+mod apart;
 mod conflict;
 mod fact;
 mod need;
 mod owing;
+mod site;
 
 pub use conflict::{Conflict, Header, Turns};
 pub use fact::Fact;

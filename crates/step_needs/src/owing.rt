@@ -1,7 +1,6 @@
 //! What needs owe, as systems in the contexts of their places.
 ghost use Rattle.std.specs.Prelude.{◌≡◌, ℕ, true, IsTrue, map};
 ghost use Rattle.std.specs.List.{list_all};
-ghost use Rattle.exo_tree.specs.Places.{opened};
 ghost use Rattle.exo_tree.specs.PlainProcedure.{procedure};
 ghost use Rattle.exo_tree.specs.PlainUnit.{program};
 ghost use Rattle.exo_modes.specs.Marks.{modes_of};
@@ -10,8 +9,7 @@ ghost use Rattle.affine_forms.specs.Formulas.{condition_keeps_rules};
 ghost use Rattle.affine_places.specs.Roots.{roots_of};
 ghost use Rattle.affine_places.specs.Seen.{roots_in};
 ghost use Rattle.affine_systems.specs.Outcomes.{plain_obligation};
-ghost use Rattle.check_facts.specs.Contexts.{IsPlaceOf, context_of, context_fits, facts_of};
-ghost use Rattle.cursor_forward.specs.PlainProposal.{cause_of};
+ghost use Rattle.check_facts.specs.Contexts.{context_of, context_fits, facts_of};
 ghost use Rattle.text_show.specs.Seen.{words_in};
 ghost use Rattle.text_show.specs.Words.{words_of};
 ghost use Rattle.step_rules.specs.Rule as rule;
@@ -20,55 +18,27 @@ ghost use Rattle.step_rules.specs.Lawful.{IsTarget};
 ghost use Rattle.step_rules.specs.Owing as owing;
 ghost use Rattle.step_rules.specs.Owing.{condition_of};
 ghost use Rattle.step_needs.specs.Outcomes.{Tries};
-ghost use Rattle.step_needs.specs.Owing.{Puts, PutsAll, check_cause, is_affine, target_in};
+ghost use Rattle.step_needs.specs.Owing.{Puts, PutsAll, is_affine, target_in};
 ghost use Rattle.step_needs.specs.PlainNeed.{plain_fact, plain_need};
+ghost use Rattle.step_needs.specs.Sites.{IsSite, seen};
 
+use crate::apart::put_apart;
 use crate::fact::Fact;
 use crate::need::Need;
-use affine_forms::{FormError, formula_of};
+use crate::site::{Site, place_in, refusal};
+use affine_forms::formula_of;
 use affine_places::{AtPlace, Roots};
 use affine_systems::{Context, Obligation, systems};
-use bounds_check::{CheckError, Owed};
+use bounds_check::Owed;
 use check_facts::Cursor;
 use check_facts::laws::well_formed_procedures_may_be_walked;
 use config_state::written_table;
 use cursor_forward::StepError;
 use exo_modes::ModeTable;
-use exo_tree::{Fields, Path, Proc, Unit};
+use exo_tree::{Path, Proc, Unit};
 use std::alloc::Global;
 use text_show::Words;
-use tree_edits::alone_at;
 use tree_rules_laws::laws::procedures_keep_rules;
-
-/// By what the needs of a procedure are told.
-#[derive(Drop)]
-struct Site<'s, 'a> {
-    fields: &'s Fields,
-    roots: &'s Roots<'a>,
-    words: &'s Words<'a>,
-}
-
-/// The place in whose context a need is told: before the body, where no statement has the path.
-fn place_in(p: &Proc, path: &Path) -> Path
-    ensures same { opened 1 result (procedure p.now).body ≡ opened 1 path.now (procedure p.now).body }
-    ensures place { IsPlaceOf result (procedure p.now) }
-{
-    match alone_at(&p.body, path, 1) {
-        None => Path::new(),
-        Some(_) => path.duplicate(),
-    }
-}
-
-/// Why a step is refused, where a list of obligations is.
-fn refusal(error: CheckError) -> StepError
-    ensures { cause_of result ≡ check_cause error }
-{
-    match error {
-        CheckError::TooManyObligations => StepError::Form(FormError::TooManySystems),
-        CheckError::Form(e) => StepError::from(e),
-        CheckError::Memory => StepError::Memory,
-    }
-}
 
 /// Puts what a fact owes last, in the context of its place and with what is known of fields there.
 fn put_there(
@@ -99,23 +69,20 @@ fn put_there(
 fn put_fact(
     alloc: Global,
     site: &Site<'_, '_>,
-    p: &Proc,
     cursor: &mut Cursor<'_, '_>,
     path: &Path,
     fact: &Fact,
     out: &mut Owed,
 ) -> Result<(), StepError>
-    requires fields { cursor.old.0.fields ≡ site.now.fields.now }
-    requires roots { roots_in site.now.roots.now ≡ roots_of cursor.old.1 }
-    requires words { words_in site.now.words.now ≡ words_of cursor.old.0 cursor.old.1 }
-    requires proc { procedure p.now ≡ cursor.old.1 }
+    requires site { IsSite site.now }
+    requires cursor { cursor.old ≡ seen site.now }
     requires rules { IsTrue (condition_keeps_rules (condition_of (plain_fact fact.now))) }
-    ensures puts { (k : ℕ) (n : rule.Need) → n ≡ rule.Says path.now (plain_fact fact.now) → Puts result (target_in cursor.old k) n out.old out.new }
+    ensures puts { (k : ℕ) (n : rule.Need) → n ≡ rule.Says path.now (plain_fact fact.now) → Puts result (target_in (seen site.now) k) n out.old out.new }
     ensures same { cursor.new ≡ cursor.old }
 {
-    let (context, facts) = cursor.at(alloc, &place_in(p, path))?;
+    let (context, facts) = cursor.at(alloc, &place_in(site.proc, path))?;
     let there = AtPlace {
-        fields: site.fields,
+        fields: &site.unit.fields,
         roots: site.roots,
         facts: &facts,
     };
@@ -126,22 +93,19 @@ fn put_fact(
 fn put_need(
     alloc: Global,
     site: &Site<'_, '_>,
-    p: &Proc,
     cursor: &mut Cursor<'_, '_>,
     need: &Need,
     out: &mut Owed,
 ) -> Result<(), StepError>
-    requires fields { cursor.old.0.fields ≡ site.now.fields.now }
-    requires roots { roots_in site.now.roots.now ≡ roots_of cursor.old.1 }
-    requires words { words_in site.now.words.now ≡ words_of cursor.old.0 cursor.old.1 }
-    requires proc { procedure p.now ≡ cursor.old.1 }
+    requires site { IsSite site.now }
+    requires cursor { cursor.old ≡ seen site.now }
     requires affine { IsTrue (is_affine (plain_need need.now)) }
-    ensures puts { (k : ℕ) → Puts result (target_in cursor.old k) (plain_need need.now) out.old out.new }
+    ensures puts { (k : ℕ) → Puts result (target_in (seen site.now) k) (plain_need need.now) out.old out.new }
     ensures same { cursor.new ≡ cursor.old }
 {
     match need {
-        Need::Says(path, fact) => put_fact(alloc, site, p, cursor, path, fact, out),
-        Need::Apart(_, _) => Err(StepError::Memory),
+        Need::Says(path, fact) => put_fact(alloc, site, cursor, path, fact, out),
+        Need::Apart(path, k) => put_apart(alloc, site, cursor, path, k, out),
     }
 }
 
@@ -149,32 +113,31 @@ fn put_need(
 fn put_needs(
     alloc: Global,
     site: &Site<'_, '_>,
-    p: &Proc,
     cursor: &mut Cursor<'_, '_>,
     needs: &[Need],
     out: &mut Owed,
 ) -> Result<(), StepError>
-    requires fields { cursor.old.0.fields ≡ site.now.fields.now }
-    requires roots { roots_in site.now.roots.now ≡ roots_of cursor.old.1 }
-    requires words { words_in site.now.words.now ≡ words_of cursor.old.0 cursor.old.1 }
-    requires proc { procedure p.now ≡ cursor.old.1 }
+    requires site { IsSite site.now }
+    requires cursor { cursor.old ≡ seen site.now }
     requires affine { IsTrue (list_all is_affine (map plain_need needs.now)) }
-    ensures { (k : ℕ) → PutsAll result (target_in cursor.old k) (map plain_need needs.now) out.old out.new }
+    ensures { (k : ℕ) → PutsAll result (target_in (seen site.now) k) (map plain_need needs.now) out.old out.new }
 {
     let [n, rest @ ..] = needs else {
         return Ok(());
     };
-    put_need(alloc, site, p, cursor, n, out)?;
-    put_needs(alloc, site, p, cursor, rest, out)
+    put_need(alloc, site, cursor, n, out)?;
+    put_needs(alloc, site, cursor, rest, out)
 }
 
 /// What needs owe, in their order, by the tables of the whole unit.
 fn owed_for(
     alloc: Global,
     unit: &Unit,
+    modes: &ModeTable,
     p: &Proc,
     needs: &[Need],
 ) -> Result<Vec<Obligation>, StepError>
+    requires modes { table_says modes.now ≡ modes_of (program unit.now) }
     requires target { (k : ℕ) × IsTarget (target_in (program unit.now, procedure p.now) k) }
     requires rules { (k : ℕ) × ((owing.findings_of_needs (target_in (program unit.now, procedure p.now) k) (map plain_need needs.now)).rules ≡ true) }
     ensures { (k : ℕ) → Tries (λ v. map plain_obligation v.items) (owing.owed_needs (target_in (program unit.now, procedure p.now) k) (map plain_need needs.now)) result }
@@ -185,13 +148,16 @@ fn owed_for(
     let writes = written_table(alloc, unit)?;
     let words = Words::new(alloc, unit, p)?;
     let site = Site {
-        fields: &unit.fields,
+        unit,
+        modes,
+        proc: p,
         roots: &roots,
+        writes: &writes,
         words: &words,
     };
     let mut cursor = Cursor::new(alloc, unit, p, &roots, &writes);
     let mut out = Owed::new(alloc);
-    put_needs(alloc, &site, p, &mut cursor, needs, &mut out)?;
+    put_needs(alloc, &site, &mut cursor, needs, &mut out)?;
     Ok(out.into_items())
 }
 
@@ -213,5 +179,5 @@ pub fn owed_needs(
     let [_, ..] = needs else {
         return Ok(Vec::new(alloc));
     };
-    owed_for(alloc, unit, p, needs)
+    owed_for(alloc, unit, modes, p, needs)
 }

@@ -77,12 +77,7 @@ fn put_from(path: &mut Path, first: Step, rest: &[Step]) -> Result<(), AllocErro
 
 /// Puts the path last that leads from the statement so many behind the one at a path on.
 #[tactic(auto, using(crate::proofs::Made::put_more, crate::proofs::Made::none_onward, crate::proofs::Made::last_onward, crate::proofs::Made::more_onward))]
-fn put_onward(
-    path: &mut Path,
-    at: &[Step],
-    index: u32,
-    below: &[Step],
-) -> Result<(), AllocError>
+fn put_onward(path: &mut Path, at: &[Step], index: u32, below: &[Step]) -> Result<(), AllocError>
     ensures { OnOk result (path.new ≡ path.old ++ plain.onward (map step_taken at.now) (record { branch = Main; index = index }) (map step_taken below.now)) }
 {
     match at.split_first() {

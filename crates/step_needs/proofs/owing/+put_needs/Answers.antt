@@ -1,6 +1,7 @@
 use Rattle.std.proofs.Common.{List, ◌-◌, take, drop, length, map, subst}
 use Rattle.step_needs.specs.Owing.{target_in, PutsAll}
 use Rattle.step_needs.specs.PlainNeed.{plain_need}
+use Rattle.step_needs.specs.Sites.{seen}
 use Rattle.step_needs.specs.declared.need.Need.{Need}
 use Rattle.step_needs.proofs.OneNeed.{stopped, went_on}
 use Rattle.step_needs.proofs.Rests.{first_and_rest}
@@ -9,7 +10,7 @@ use Rattle.step_needs.proofs.owing.+put_needs.Goals as goal
 pub returns-in_err-put_need : goal.returns-in_err-put_need
 returns-in_err-put_need t c k =
     let needs = c.args.needs.now in
-    let it = target_in c.args.cursor.now k in
+    let it = target_in (seen c.args.site.now) k in
     let whole = first_and_rest needs c.n-item.result c.n-item.is c.in-len1-up.len_at_least in
     subst (λ (ns : List Need). PutsAll c.from_residual.result it (map plain_need ns) c.args.out.now c.put_need.new.out) whole
     (stopped it c.from_residual.result (plain_need c.n-item.result) (map plain_need (take (length needs - 1) (drop 1 needs)))
@@ -18,11 +19,9 @@ returns-in_err-put_need t c k =
 pub returns : goal.returns
 returns t c k =
     let needs = c.args.needs.now in
-    let it = target_in c.args.cursor.now k in
+    let it = target_in (seen c.args.site.now) k in
     let rest = map plain_need (take (length needs - 1) (drop 1 needs)) in
     let whole = first_and_rest needs c.n-item.result c.n-item.is c.in-len1-up.len_at_least in
     subst (λ (ns : List Need). PutsAll c.put_needs.result it (map plain_need ns) c.args.out.now c.put_needs.new.out) whole
     (went_on it c.put_needs.result (plain_need c.n-item.result) rest c.args.out.now c.put_need.new.out c.put_needs.new.out
-    (c.in_ok-put_need.ensures.puts k)
-    (subst (λ u. PutsAll c.put_needs.result (target_in u k) rest c.put_need.new.out c.put_needs.new.out)
-    c.in_ok-put_need.ensures.same (c.put_needs.ensures k)))
+    (c.in_ok-put_need.ensures.puts k) (c.put_needs.ensures k))

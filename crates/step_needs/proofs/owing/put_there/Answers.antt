@@ -1,4 +1,4 @@
-use Rattle.std.proofs.Common.{◌≡◌, List, true, false, ap, ◌∙◌, sym, subst}
+use Rattle.std.proofs.Common.{◌≡◌, List, map, true, false, ap, ◌∙◌, sym, subst}
 use Rattle.exo_tree.specs.Tree.{Condition, ConfigField}
 use Rattle.affine_forms.specs.declared.formula.Formula.{Formula}
 use Rattle.affine_forms.specs.Outcomes.{IsWide}
@@ -8,14 +8,16 @@ use Rattle.affine_places.specs.Roots.{Roots}
 use Rattle.affine_places.specs.Seen.{roots_in}
 use Rattle.affine_systems.specs.Systems.{Stated, stated}
 use Rattle.affine_systems.specs.Outcomes as stating
+use Rattle.affine_systems.specs.Outcomes.{plain_obligation}
 use Rattle.text_show.specs.Layout.{Text}
 use Rattle.text_show.specs.Words.{Words}
+use Rattle.step_rules.specs.Rule.{Says}
 use Rattle.step_rules.specs.Owing.{condition_of, fact_text}
 use Rattle.step_needs.specs.Outcomes.{IsCause}
 use Rattle.step_needs.specs.Owing.{said, text_by}
 use Rattle.step_needs.specs.PlainNeed.{plain_fact}
 use Rattle.step_needs.proofs.OneNeed.{formula_read, fits_read, all_fit_where, claim_read, told}
-use Rattle.step_needs.proofs.OneNeed.{refused_form, refused_systems, refused_memory, refused_list, puts_systems}
+use Rattle.step_needs.proofs.OneNeed.{refused_form, refused_systems, refused_memory, refused_list, puts_systems, all_owed}
 use Rattle.step_needs.proofs.OneNeed.{text_said, why}
 use Rattle.step_needs.proofs.owing.put_there.Goals as goal
 
@@ -38,12 +40,12 @@ returns-in_err-formula c t e f g w h k =
 
 pub returns-in_err-claim : goal.returns-in_err-claim
 returns-in_err-claim c t e f g w h k =
-    refused_memory t c.args.path.now (plain_fact c.args.fact.now) c.args.out.now c.from_residual-in_err-claim.result
+    refused_memory t (Says c.args.path.now (plain_fact c.args.fact.now)) c.args.out.now c.from_residual-in_err-claim.result
     c.args.out.now c.from_residual-in_err-claim.ensures.1
 
 pub returns-in_err-what : goal.returns-in_err-what
 returns-in_err-what c t e f g w h k =
-    refused_memory t c.args.path.now (plain_fact c.args.fact.now) c.args.out.now c.from_residual-in_err-what.result
+    refused_memory t (Says c.args.path.now (plain_fact c.args.fact.now)) c.args.out.now c.from_residual-in_err-what.result
     c.args.out.now c.from_residual-in_err-what.ensures.1
 
 pub returns-in_err-owed : goal.returns-in_err-owed
@@ -76,7 +78,7 @@ returns-in-Ok c t e f g w h k =
     let owes =
     subst (λ (s : Stated). stating.AreOwed os s (fact_text t fact) path) same
     (subst (λ (x : Text). stating.AreOwed os (stated c.args.context.now (plain_formula c.in_ok-claim.claim)) x path) says c.in_ok-owed.ensures.exact) in
-    puts_systems t path fact c.args.out.now os owes fits c.push_all.new.self c.in-Ok.ensures
+    puts_systems t (Says path fact) c.args.out.now (map plain_obligation os) (all_owed t path fact os owes fits) c.push_all.new.self c.in-Ok.ensures
 
 pub returns : goal.returns
 returns c t e f g w h k =
@@ -94,5 +96,5 @@ returns c t e f g w h k =
     let owes =
     subst (λ (s : Stated). stating.AreOwed os s (fact_text t fact) path) same
     (subst (λ (x : Text). stating.AreOwed os (stated c.args.context.now (plain_formula c.in_ok-claim.claim)) x path) says c.in_ok-owed.ensures.exact) in
-    subst (IsCause (why t path fact c.args.out.now)) (sym c.refusal.ensures)
-    (refused_list t path fact c.args.out.now os owes fits c.in-Err.e c.push_all.new.self c.in-Err.ensures)
+    subst (IsCause (why t (Says path fact) c.args.out.now)) (sym c.refusal.ensures)
+    (refused_list t (Says path fact) c.args.out.now (map plain_obligation os) (all_owed t path fact os owes fits) c.in-Err.e c.push_all.new.self c.in-Err.ensures)

@@ -5,7 +5,7 @@ use Rattle.exo_tree.specs.Tree.{block}
 use Rattle.made_trees.specs.Passes.{is_alone}
 use Rattle.check_facts.specs.Contexts.{IsPlaceOf}
 use Rattle.step_needs.proofs.Standing.{nowhere, is_place}
-use Rattle.step_needs.proofs.owing.place_in.Goals as goal
+use Rattle.step_needs.proofs.site.place_in.Goals as goal
 
 pub returns-in-None-clause-same : goal.returns-in-None-clause-same
 returns-in-None-clause-same c =
