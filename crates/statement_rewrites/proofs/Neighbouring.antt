@@ -1,12 +1,12 @@
 -- Two statements that are all of a block, and the fields that both use.
-use Rattle.std.proofs.Common.{◌≡◌, ◌≢◌, ◌<◌, ℕ, Bool, true, false, ◌&&◌, ◌||◌, List, [], ◌∷◌, length, drop, zero, suc}
-use Rattle.std.proofs.Common.{Option, Some, None, if◌then◌else◌, refl, ap, ap₂, sym, ◌∙◌, arith}
-use Rattle.exo_tree.specs.Tree.{Statement, block, end, next, Program}
+use Rattle.std.proofs.Common.{◌≡◌, ◌≢◌, ℕ, Bool, true, false, ◌||◌, List, [], ◌∷◌, length, drop, zero, suc}
+use Rattle.std.proofs.Common.{Some, None, if◌then◌else◌, refl, ap, ap₂, sym, ◌∙◌, arith}
+use Rattle.exo_tree.specs.Tree.{Statement, block, Program}
 use Rattle.exo_meaning.specs.Unseen.{in_block, in_statement}
 use Rattle.meaning_laws.specs.Sound.{binds}
 use Rattle.config_state.specs.FieldSets.{contains, Marked, fields_from}
 use Rattle.statement_laws.specs.Fields.{some_listed, some_field}
-use Rattle.statement_laws.specs.ReorderStatements.{Neighbours, neighbours_of, share_field}
+use Rattle.statement_laws.specs.ReorderStatements.{neighbours_of, share_field}
 use Rattle.step_fields.specs.Fields.{IsFieldSet, written_by, read_by}
 use Rattle.statement_rewrites.specs.PlainNeighbours.{used_by, writes_used}
 

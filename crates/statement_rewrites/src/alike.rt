@@ -1,8 +1,12 @@
 //! The loop whose turns are all alike.
 ghost use Rattle.std.specs.Prelude.{◌≡◌, ◌==◌, ◌&&◌, Some, option_map, IfOk};
 ghost use Rattle.exo_tree.specs.Tree.{block};
+ghost use Rattle.exo_tree.specs.Places.{opened};
+ghost use Rattle.exo_tree.specs.PlainProcedure.{procedure};
 ghost use Rattle.exo_tree.specs.PlainUnit.{program};
 ghost use Rattle.exo_meaning.specs.Unseen as unseen;
+ghost use Rattle.piece_modes.specs.Own as seen;
+ghost use Rattle.piece_modes.specs.Way.{around_of};
 ghost use Rattle.statement_laws.specs.Fields.{some_field};
 ghost use Rattle.statement_laws.specs.RemoveLoop as plain;
 ghost use Rattle.step_driver.specs.PlainTarget.{target, plain_piece};
@@ -71,6 +75,21 @@ fn sees_own_field(alloc: Global, unit: &Unit, b: &Block) -> Result<bool, AllocEr
     Ok(have_common(&written, &read))
 }
 
+/// Whether a block in the place of a piece reduces into a buffer from outside, or reads one that it may write; calls
+/// included.
+fn sees_outside(
+    alloc: Global,
+    on: &Target<'_>,
+    piece: &Piece,
+    b: &Block,
+) -> Result<bool, AllocError>
+    ensures { IfOk result (λ r. r ≡ seen.sees_own_root (program on.now.unit.now) (procedure on.now.proc.now) (around_of (opened piece.now.count piece.now.path (procedure on.now.proc.now).body)) (block b.now)) }
+{
+    let modes = ModeTable::new(alloc, on.unit)?;
+    let found = sees_own_root(alloc, on.unit, &modes, on.proc, &piece.path, piece.count, b)?;
+    Ok(found)
+}
+
 /// Whether the body of the loop of a piece sees what it does: it reduces into a buffer from outside, or reads a buffer from
 /// outside, or a field, that it may write; calls included.
 fn sees_own(
@@ -81,16 +100,7 @@ fn sees_own(
 ) -> Result<bool, AllocError>
     ensures { IfOk result (λ r. r ≡ plain.sees_own (spot_at (target on.now) (plain_piece piece.now)) (plain_loop l.now)) }
 {
-    let modes = ModeTable::new(alloc, on.unit)?;
-    let root = sees_own_root(
-        alloc,
-        on.unit,
-        &modes,
-        on.proc,
-        &piece.path,
-        piece.count,
-        l.body,
-    )?;
+    let root = sees_outside(alloc, on, piece, l.body)?;
     let field = sees_own_field(alloc, on.unit, l.body)?;
     Ok(root || field)
 }
