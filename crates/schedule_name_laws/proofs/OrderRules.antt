@@ -1,6 +1,6 @@
 -- The rules that change the order of loops and statements, and those that take loops and conditions
 -- away, give names that were there.
-use Rattle.std.proofs.Common.{◌≡◌, ◌==◌, ℕ, zero, suc, Bool, true, false, if◌then◌else◌, []}
+use Rattle.std.proofs.Common.{◌≡◌, ◌==◌, ◌&&◌, ℕ, zero, suc, Bool, true, false, if◌then◌else◌, []}
 use Rattle.std.proofs.Common.{Option, Some, None, option_map, option_and_then, refl, subst}
 use Rattle.exo_tree.specs.Tree.{Var, Statement, Assign, Reduce, Config, Pass, If, For, Alloc, View}
 use Rattle.exo_tree.specs.Tree.{Call, Block, end, next}
@@ -19,7 +19,8 @@ use Rattle.loop_laws.specs.Shapes.{loop_in, loop_of}
 use Rattle.loop_laws.proofs.Sites.{found_then}
 use Rattle.nest_laws.specs.Fission.{Parting, may_part, where_it_may, parted_at, parting_of}
 use Rattle.nest_laws.specs.Fission.{parted_loops, fission_rule}
-use Rattle.nest_laws.specs.Fuse.{Two, with_second, two_of, bounds_may_agree, where_they_agree}
+use Rattle.nest_laws.specs.Fuse.{Two, with_second, two_of, both_are_affine, bounds_may_agree}
+use Rattle.nest_laws.specs.Fuse.{where_they_agree}
 use Rattle.nest_laws.specs.Fuse.{two_in, bounds_fit, second_body, fused, fused_as, fuse_draft}
 use Rattle.nest_laws.specs.Fuse.{fuse_rule}
 use Rattle.nest_laws.specs.ReorderLoops as loops
@@ -94,7 +95,8 @@ two_named (next a (next b (next c rest))) p found h = cc
 two_in_named : (b : Block) (p : Two) → two_in b ≡ Some p → IsNamedBlock b → AreNamedLoops p
 two_in_named b p found h =
     let q = found_then (two_of b) where_they_agree p found in
-    subst AreNamedLoops (where_same (bounds_may_agree q.0) q.0 p q.2) (two_named b q.0 q.1 h)
+    subst AreNamedLoops (where_same (both_are_affine q.0 && bounds_may_agree q.0) q.0 p q.2)
+    (two_named b q.0 q.1 h)
 
 fused_named : (p : Two) → AreNamedLoops p → IsNamedBlock (fused p)
 fused_named p h =
