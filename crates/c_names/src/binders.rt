@@ -81,12 +81,20 @@ fn all_binders(alloc: Global, p: &Proc) -> Result<Vec<Binder>, AllocError>
     Ok(binders)
 }
 
+/// Appends a binder.
+fn put_binder(alloc: Global, out: &mut Vec<Binder>, b: &Binder) -> Result<(), AllocError>
+    ensures { OnOk result (map binding out.new.items ≡ map binding out.old.items ++ binding b.now ∷ []) }
+{
+    out.push(b.duplicate(alloc)?)?;
+    Ok(())
+}
+
 /// Appends parameters.
 fn put_params(alloc: Global, out: &mut Vec<Binder>, params: &[Param]) -> Result<(), AllocError>
     ensures { OnOk result (map binding out.new.items ≡ map binding out.old.items ++ param_binders (map parameter params.now)) }
 {
     for p in params {
-        out.push(p.binder.duplicate(alloc)?)?;
+        put_binder(alloc, out, &p.binder)?;
     }
     Ok(())
 }
@@ -113,13 +121,10 @@ fn put_statement(alloc: Global, out: &mut Vec<Binder>, s: &Stmt) -> Result<(), A
             put_block(alloc, out, b)
         }
         Stmt::For(i, _, _, body) => {
-            out.push(i.duplicate(alloc)?)?;
+            put_binder(alloc, out, i)?;
             put_block(alloc, out, body)
         }
-        Stmt::Alloc(x, _, _, _) | Stmt::View(x, _, _) => {
-            out.push(x.duplicate(alloc)?)?;
-            Ok(())
-        }
+        Stmt::Alloc(x, _, _, _) | Stmt::View(x, _, _) => put_binder(alloc, out, x),
         _ => Ok(()),
     }
 }

@@ -1,6 +1,59 @@
 //! The words that no name of a C file's own may be.
-ghost use Rattle.std.specs.Prelude.{◌≡◌, codes};
-ghost use Rattle.c_names.specs.Words.{same_name, is_in, starts_with, is_own, type_keywords, statement_keywords, other_keywords, library_words, exact_types, least_types, fast_types, greatest_types, is_listed, is_word};
+ghost use Rattle.std.specs.Prelude.{◌≡◌, map, codes};
+ghost use Rattle.c_names.specs.Words.{same_name, is_in, starts_with, is_own, is_keyword, is_integer_type, is_listed, is_word};
+
+/// The keywords of types.
+const TYPE_KEYWORDS: [&str; 12] = [
+    "char", "double", "enum", "float", "int", "long", "short", "signed", "struct", "union",
+    "unsigned", "void",
+];
+
+/// The keywords of statements.
+const STATEMENT_KEYWORDS: [&str; 12] = [
+    "break", "case", "continue", "default", "do", "else", "for", "goto", "if", "return", "switch",
+    "while",
+];
+
+/// The other keywords.
+const OTHER_KEYWORDS: [&str; 10] = [
+    "auto", "const", "extern", "inline", "register", "restrict", "sizeof", "static", "typedef",
+    "volatile",
+];
+
+/// What the headers and the entry of a program are called.
+const LIBRARY_WORDS: [&str; 5] = ["NULL", "main", "malloc", "free", "size_t"];
+
+/// The integer types of exact width.
+const EXACT_TYPES: [&str; 8] = [
+    "int8_t", "int16_t", "int32_t", "int64_t", "uint8_t", "uint16_t", "uint32_t", "uint64_t",
+];
+
+/// The integer types of at least a width.
+const LEAST_TYPES: [&str; 8] = [
+    "int_least8_t",
+    "int_least16_t",
+    "int_least32_t",
+    "int_least64_t",
+    "uint_least8_t",
+    "uint_least16_t",
+    "uint_least32_t",
+    "uint_least64_t",
+];
+
+/// The fastest integer types.
+const FAST_TYPES: [&str; 8] = [
+    "int_fast8_t",
+    "int_fast16_t",
+    "int_fast32_t",
+    "int_fast64_t",
+    "uint_fast8_t",
+    "uint_fast16_t",
+    "uint_fast32_t",
+    "uint_fast64_t",
+];
+
+/// The integer types for pointers, and the greatest ones.
+const GREATEST_TYPES: [&str; 4] = ["intptr_t", "uintptr_t", "intmax_t", "uintmax_t"];
 
 /// Whether two names are the same.
 pub(crate) fn is_same(word: &str, x: &str) -> bool
@@ -29,131 +82,42 @@ pub(crate) fn is_own(x: &str) -> bool
     begins_with(b"_", x.as_bytes()) || begins_with(b"exo_", x.as_bytes())
 }
 
-/// Whether it is a keyword of types.
-fn is_type_keyword(x: &str) -> bool
-    ensures { result ≡ is_in type_keywords x.now }
+/// Whether it is one of the words.
+fn is_one_of(words: &[&str], x: &str) -> bool
+    ensures { result ≡ is_in (map (λ word. word.now) words.now) x.now }
 {
-    is_same("char", x)
-        || is_same("double", x)
-        || is_same("enum", x)
-        || is_same("float", x)
-        || is_same("int", x)
-        || is_same("long", x)
-        || is_same("short", x)
-        || is_same("signed", x)
-        || is_same("struct", x)
-        || is_same("union", x)
-        || is_same("unsigned", x)
-        || is_same("void", x)
+    for word in words {
+        if is_same(word, x) {
+            return true;
+        }
+    }
+    false
 }
 
-/// Whether it is a keyword of statements.
-fn is_statement_keyword(x: &str) -> bool
-    ensures { result ≡ is_in statement_keywords x.now }
+/// Whether it is a keyword.
+fn is_keyword(x: &str) -> bool
+    ensures { result ≡ is_keyword x.now }
 {
-    is_same("break", x)
-        || is_same("case", x)
-        || is_same("continue", x)
-        || is_same("default", x)
-        || is_same("do", x)
-        || is_same("else", x)
-        || is_same("for", x)
-        || is_same("goto", x)
-        || is_same("if", x)
-        || is_same("return", x)
-        || is_same("switch", x)
-        || is_same("while", x)
+    is_one_of(&TYPE_KEYWORDS, x)
+        || is_one_of(&STATEMENT_KEYWORDS, x)
+        || is_one_of(&OTHER_KEYWORDS, x)
 }
 
-/// Whether it is another keyword.
-fn is_other_keyword(x: &str) -> bool
-    ensures { result ≡ is_in other_keywords x.now }
+/// Whether it is an integer type of `<stdint.h>`.
+fn is_integer_type(x: &str) -> bool
+    ensures { result ≡ is_integer_type x.now }
 {
-    is_same("auto", x)
-        || is_same("const", x)
-        || is_same("extern", x)
-        || is_same("inline", x)
-        || is_same("register", x)
-        || is_same("restrict", x)
-        || is_same("sizeof", x)
-        || is_same("static", x)
-        || is_same("typedef", x)
-        || is_same("volatile", x)
-}
-
-/// Whether it is a name of the library.
-fn is_library_word(x: &str) -> bool
-    ensures { result ≡ is_in library_words x.now }
-{
-    is_same("NULL", x)
-        || is_same("main", x)
-        || is_same("malloc", x)
-        || is_same("free", x)
-        || is_same("size_t", x)
-}
-
-/// Whether it is an integer type of exact width.
-fn is_exact_type(x: &str) -> bool
-    ensures { result ≡ is_in exact_types x.now }
-{
-    is_same("int8_t", x)
-        || is_same("int16_t", x)
-        || is_same("int32_t", x)
-        || is_same("int64_t", x)
-        || is_same("uint8_t", x)
-        || is_same("uint16_t", x)
-        || is_same("uint32_t", x)
-        || is_same("uint64_t", x)
-}
-
-/// Whether it is an integer type of least width.
-fn is_least_type(x: &str) -> bool
-    ensures { result ≡ is_in least_types x.now }
-{
-    is_same("int_least8_t", x)
-        || is_same("int_least16_t", x)
-        || is_same("int_least32_t", x)
-        || is_same("int_least64_t", x)
-        || is_same("uint_least8_t", x)
-        || is_same("uint_least16_t", x)
-        || is_same("uint_least32_t", x)
-        || is_same("uint_least64_t", x)
-}
-
-/// Whether it is a fastest integer type.
-fn is_fast_type(x: &str) -> bool
-    ensures { result ≡ is_in fast_types x.now }
-{
-    is_same("int_fast8_t", x)
-        || is_same("int_fast16_t", x)
-        || is_same("int_fast32_t", x)
-        || is_same("int_fast64_t", x)
-        || is_same("uint_fast8_t", x)
-        || is_same("uint_fast16_t", x)
-        || is_same("uint_fast32_t", x)
-        || is_same("uint_fast64_t", x)
-}
-
-/// Whether it is an integer type for pointers, or a greatest one.
-fn is_greatest_type(x: &str) -> bool
-    ensures { result ≡ is_in greatest_types x.now }
-{
-    is_same("intptr_t", x)
-        || is_same("uintptr_t", x)
-        || is_same("intmax_t", x)
-        || is_same("uintmax_t", x)
+    is_one_of(&EXACT_TYPES, x)
+        || is_one_of(&LEAST_TYPES, x)
+        || is_one_of(&FAST_TYPES, x)
+        || is_one_of(&GREATEST_TYPES, x)
 }
 
 /// Whether the name stands in the lists of words.
 fn is_listed(x: &str) -> bool
     ensures { result ≡ is_listed x.now }
 {
-    let keyword = is_type_keyword(x) || is_statement_keyword(x) || is_other_keyword(x);
-    let integer_type = is_exact_type(x)
-        || is_least_type(x)
-        || is_fast_type(x)
-        || is_greatest_type(x);
-    is_own(x) || keyword || is_library_word(x) || integer_type
+    is_own(x) || is_keyword(x) || is_one_of(&LIBRARY_WORDS, x) || is_integer_type(x)
 }
 
 /// Whether C or this program's text has the name for something else: a keyword of C11, `NULL`, `main`, `malloc`, `free`,
