@@ -5,3 +5,4 @@ pub mod Walks
 pub mod Arguments
 pub mod LowProcedures
 pub mod LowUses
+pub mod Points

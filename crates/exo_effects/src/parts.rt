@@ -142,8 +142,7 @@ impl Parts {
         ensures { IfOk result (λ o. option_map plain_part o ≡ part_of_argument (parts_in self.now) (argument a.now)) }
     {
         match a {
-            Arg::Ctrl(_) => Ok(None),
-            Arg::Cond(_) => Ok(None),
+            Arg::Ctrl(_) | Arg::Cond(_) => Ok(None),
             Arg::Whole(x) => self.whole(alloc, *x),
             Arg::Window(x, coords) => self.window(alloc, *x, coords),
         }
@@ -154,8 +153,9 @@ impl Parts {
     {
         match kind {
             ParamKind::Ctrl(_) => Ok(()),
-            ParamKind::Tensor(_, dims, _) => self.set(x, Some(Part::whole(alloc, x, dims)?)),
-            ParamKind::Window(_, dims, _) => self.set(x, Some(Part::whole(alloc, x, dims)?)),
+            ParamKind::Tensor(_, dims, _) | ParamKind::Window(_, dims, _) => {
+                self.set(x, Some(Part::whole(alloc, x, dims)?))
+            }
         }
     }
 

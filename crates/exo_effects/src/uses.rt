@@ -59,17 +59,8 @@ pub(crate) fn put_reads<'a>(
     match e {
         DataExpr::Lit(_) => Ok(()),
         DataExpr::Read(x, at) => put_cell(alloc, out, site, inside, Mode::Read, *x, at),
-        DataExpr::Neg(a) => put_reads(alloc, out, site, inside, a),
-        DataExpr::Relu(a) => put_reads(alloc, out, site, inside, a),
-        DataExpr::Add(a, b) => {
-            put_reads(alloc, out, site, inside, a)?;
-            put_reads(alloc, out, site, inside, b)
-        }
-        DataExpr::Sub(a, b) => {
-            put_reads(alloc, out, site, inside, a)?;
-            put_reads(alloc, out, site, inside, b)
-        }
-        DataExpr::Mul(a, b) => {
+        DataExpr::Neg(a) | DataExpr::Relu(a) => put_reads(alloc, out, site, inside, a),
+        DataExpr::Add(a, b) | DataExpr::Sub(a, b) | DataExpr::Mul(a, b) => {
             put_reads(alloc, out, site, inside, a)?;
             put_reads(alloc, out, site, inside, b)
         }

@@ -41,25 +41,38 @@ fn push_copies(alloc: Global, made: &mut Coords, more: &[Coord]) -> Result<(), A
     Ok(())
 }
 
-/// The coordinates on the root of a window of a name: those of the name, where the window's coordinates stand for its spans.
-pub(crate) fn joined(alloc: Global, name: &Coords, window: &Coords) -> Result<Coords, AllocError>
-    ensures { IfOk result (λ cs. cs ≡ joined_coords name.now window.now) }
+/// Puts the coordinates on the root of a window of a name last: those of the name, where the window's coordinates stand for
+/// its spans.
+fn put_joined(
+    alloc: Global,
+    made: &mut Coords,
+    name: &[Coord],
+    window: &[Coord],
+) -> Result<(), AllocError>
+    ensures { OnOk result (made.new ≡ made.old ++ joined_coords (map coordinate name.now) (map coordinate window.now)) }
 {
-    let mut made = Coords::new(alloc);
-    let mut rest = window.as_slice();
-    for c in name.as_slice() {
+    let mut rest = window;
+    for c in name {
         match c {
             Coord::At(_) => made.push(c.duplicate(alloc)?)?,
             Coord::Span(lower, _) => {
                 let Some((first, others)) = rest.split_first() else {
-                    return Ok(made);
+                    return Ok(());
                 };
                 made.push(shifted(alloc, lower, first)?)?;
                 rest = others;
             }
         }
     }
-    push_copies(alloc, &mut made, rest)?;
+    push_copies(alloc, made, rest)
+}
+
+/// The coordinates on the root of a window of a name.
+pub(crate) fn joined(alloc: Global, name: &Coords, window: &Coords) -> Result<Coords, AllocError>
+    ensures { IfOk result (λ cs. cs ≡ joined_coords name.now window.now) }
+{
+    let mut made = Coords::new(alloc);
+    put_joined(alloc, &mut made, name.as_slice(), window.as_slice())?;
     Ok(made)
 }
 
@@ -73,24 +86,12 @@ fn push_points(alloc: Global, made: &mut Coords, more: &[Ctrl]) -> Result<(), Al
     Ok(())
 }
 
-/// The coordinates on the root of a cell of a name: those of the name, where the indices stand for its spans.
+/// The coordinates on the root of a cell of a name: of the window that is its point.
+#[tactic(auto, using(crate::proofs::Points::joined_points))]
 pub(crate) fn cell(alloc: Global, name: &Coords, at: &Indices) -> Result<Coords, AllocError>
     ensures { IfOk result (λ cs. cs ≡ points_at name.now at.now) }
 {
-    let mut made = Coords::new(alloc);
-    let mut rest = at.as_slice();
-    for c in name.as_slice() {
-        match c {
-            Coord::At(e) => made.push(Coord::At(e.duplicate(alloc)?))?,
-            Coord::Span(lower, _) => {
-                let Some((first, others)) = rest.split_first() else {
-                    return Ok(made);
-                };
-                made.push(Coord::At(sum(alloc, lower, first)?))?;
-                rest = others;
-            }
-        }
-    }
-    push_points(alloc, &mut made, rest)?;
-    Ok(made)
+    let mut points = Coords::new(alloc);
+    push_points(alloc, &mut points, at.as_slice())?;
+    joined(alloc, name, &points)
 }
