@@ -2,8 +2,8 @@
 ghost use Rattle.std.specs.Prelude.{◌≡◌, IfOk};
 ghost use Rattle.exo_tree.specs.PlainControl.{control, condition};
 ghost use Rattle.exo_tree.specs.PlainDatum.{datum};
-ghost use Rattle.c_tree.specs.CTree.{IsSet, InArray, InWindow};
-ghost use Rattle.c_tree.specs.Plain.{plain_number, plain_test, plain_cell, plain_data};
+ghost use Rattle.c_tree.specs.CTree.{IsSet};
+ghost use Rattle.c_tree.specs.Plain.{plain_number, plain_test, cell_of, plain_cell, plain_data};
 ghost use Rattle.c_lowered.specs.Lowered.{number_of, test_of, cell_at_of, number32_of};
 ghost use Rattle.c_lowering.specs.Scope.{forms_in};
 ghost use Rattle.c_lowering.specs.Naming.{naming_of};
@@ -110,29 +110,19 @@ fn boxed_test(
     Ok(Box::new(alloc, test)?)
 }
 
-/// The cell of an array at an offset.
-fn array_cell(alloc: Global, names: &Names<'_>, x: Id, offset: CNumber) -> Result<CCell, AllocError>
-    ensures { IfOk result (λ c. plain_cell c ≡ InArray ((naming_of names.now).binder x.0) (plain_number offset)) }
-{
-    Ok(CCell {
-        holder: CHolder::Array,
-        name: names.binder(alloc, x)?,
-        offset,
-    })
-}
-
-/// The cell of a window at an offset.
-fn window_cell(
+/// The cell of an array or a window at an offset.
+fn cell_at(
     alloc: Global,
     names: &Names<'_>,
-    w: Id,
+    holder: CHolder,
+    x: Id,
     offset: CNumber,
 ) -> Result<CCell, AllocError>
-    ensures { IfOk result (λ c. plain_cell c ≡ InWindow ((naming_of names.now).binder w.0) (plain_number offset)) }
+    ensures { IfOk result (λ c. plain_cell c ≡ cell_of holder ((naming_of names.now).binder x.0) (plain_number offset)) }
 {
     Ok(CCell {
-        holder: CHolder::Window,
-        name: names.binder(alloc, w)?,
+        holder,
+        name: names.binder(alloc, x)?,
         offset,
     })
 }
@@ -150,14 +140,14 @@ pub(crate) fn lower_cell(
     match find(scope, x) {
         Some(Form::Tensor(_, dims, lanes)) => {
             let offset = lower_offset(alloc, names, scope, is, dims, *lanes)?;
-            array_cell(alloc, names, x, offset)
+            cell_at(alloc, names, CHolder::Array, x, offset)
         }
         Some(Form::Window(_, rank)) => {
             let offset = lower_steps(alloc, names, scope, is.as_slice(), x, *rank)?;
-            window_cell(alloc, names, x, offset)
+            cell_at(alloc, names, CHolder::Window, x, offset)
         }
-        Some(Form::Number) => array_cell(alloc, names, x, CNumber::Literal(0)),
-        None => array_cell(alloc, names, x, CNumber::Literal(0)),
+        Some(Form::Number) => cell_at(alloc, names, CHolder::Array, x, CNumber::Literal(0)),
+        None => cell_at(alloc, names, CHolder::Array, x, CNumber::Literal(0)),
     }
 }
 

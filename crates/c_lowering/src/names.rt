@@ -1,5 +1,5 @@
 //! The C names of a procedure's binders and of configuration fields.
-ghost use Rattle.std.specs.Prelude.{◌≡◌, ◌++◌, codes, IfOk, string_bytes};
+ghost use Rattle.std.specs.Prelude.{◌≡◌, IfOk, string_bytes};
 ghost use Rattle.exo_tree.specs.PlainTables.{config_field};
 ghost use Rattle.c_lowered.specs.LoweredUnit.{field_name};
 ghost use Rattle.c_lowering.specs.Naming.{naming_of, memory_in};
@@ -66,13 +66,8 @@ impl Names<'_> {
 pub fn field_name(alloc: Global, field: &Field) -> Result<String, AllocError>
     ensures { IfOk result (λ s. string_bytes s ≡ field_name (config_field field.now)) }
 {
-    let name = joined(alloc, field.config.as_str(), field.name.as_str())?;
-    Ok(name)
-}
-
-/// Two names with an underscore between.
-fn joined(alloc: Global, left: &str, right: &str) -> Result<String, AllocError>
-    ensures { IfOk result (λ s. string_bytes s ≡ left.now ++ codes "_" ++ right.now) }
-{
-    format!(in alloc; "{left}_{right}")
+    let config = field.config.as_str();
+    let name = field.name.as_str();
+    let text = format!(in alloc; "{config}_{name}")?;
+    Ok(text)
 }

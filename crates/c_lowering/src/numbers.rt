@@ -15,22 +15,6 @@ use c_tree::tree::CNumber;
 use exo_tree::{Ctrl, FieldId, Id, Indices};
 use std::alloc::{AllocError, Global};
 
-/// The product of two numbers.
-fn times(alloc: Global, a: CNumber, b: CNumber) -> Result<CNumber, AllocError>
-    ensures { IfOk result (λ n. plain_number n ≡ Product (plain_number a) (plain_number b)) }
-{
-    let left = Box::new(alloc, a)?;
-    Ok(CNumber::Product(left, Box::new(alloc, b)?))
-}
-
-/// The sum of two numbers.
-fn plus(alloc: Global, a: CNumber, b: CNumber) -> Result<CNumber, AllocError>
-    ensures { IfOk result (λ n. plain_number n ≡ Sum (plain_number a) (plain_number b)) }
-{
-    let left = Box::new(alloc, a)?;
-    Ok(CNumber::Sum(left, Box::new(alloc, b)?))
-}
-
 /// The number that a control name holds.
 fn binder_number(alloc: Global, names: &Names<'_>, x: Id) -> Result<CNumber, AllocError>
     ensures { IfOk result (λ n. plain_number n ≡ Named ((naming_of names.now).binder x.0)) }
@@ -102,16 +86,16 @@ fn boxed_extent(alloc: Global, names: &Names<'_>, e: &Ctrl) -> Result<Box<CNumbe
 fn times_extents(
     alloc: Global,
     names: &Names<'_>,
-    product: CNumber,
+    product: Box<CNumber>,
     dims: &[Ctrl],
-) -> Result<CNumber, AllocError>
-    ensures { IfOk result (λ n. plain_number n ≡ product_from (plain_number product) (dims_of (naming_of names.now) (map control dims.now))) }
+) -> Result<Box<CNumber>, AllocError>
+    ensures { IfOk result (λ n. plain_number n.value ≡ product_from (plain_number product.value) (dims_of (naming_of names.now) (map control dims.now))) }
 {
     let Some((d, rest)) = dims.split_first() else {
         return Ok(product);
     };
-    let extent = lower_extent(alloc, names, d)?;
-    let more = times(alloc, product, extent)?;
+    let extent = boxed_extent(alloc, names, d)?;
+    let more = Box::new(alloc, CNumber::Product(product, extent))?;
     let whole = times_extents(alloc, names, more, rest)?;
     Ok(whole)
 }
@@ -127,9 +111,9 @@ pub(crate) fn lower_product(
     let Some((d, rest)) = dims.split_first() else {
         return Ok(CNumber::Literal(1));
     };
-    let first = lower_extent(alloc, names, d)?;
+    let first = boxed_extent(alloc, names, d)?;
     let whole = times_extents(alloc, names, first, rest)?;
-    Ok(whole)
+    Ok(Box::into_inner(whole))
 }
 
 /// The dimensions after that one.
@@ -245,33 +229,21 @@ fn boxed_number(
     Ok(Box::new(alloc, number)?)
 }
 
-/// An offset times a dimension.
-fn times_extent(
-    alloc: Global,
-    names: &Names<'_>,
-    at: CNumber,
-    d: &Ctrl,
-) -> Result<CNumber, AllocError>
-    ensures { IfOk result (λ n. plain_number n ≡ Product (plain_number at) (extent_of (naming_of names.now) (control d.now))) }
-{
-    let extent = lower_extent(alloc, names, d)?;
-    times(alloc, at, extent)
-}
-
 /// The offset by one index more: `((at * d) + i)`.
 fn next_row(
     alloc: Global,
     names: &Names<'_>,
     scope: &[Entry],
-    at: CNumber,
+    at: Box<CNumber>,
     i: &Ctrl,
     d: &Ctrl,
-) -> Result<CNumber, AllocError>
-    ensures { IfOk result (λ n. plain_number n ≡ Sum (Product (plain_number at) (extent_of (naming_of names.now) (control d.now))) (number_of (naming_of names.now) (forms_in scope.now) (control i.now))) }
+) -> Result<Box<CNumber>, AllocError>
+    ensures { IfOk result (λ n. plain_number n.value ≡ Sum (Product (plain_number at.value) (extent_of (naming_of names.now) (control d.now))) (number_of (naming_of names.now) (forms_in scope.now) (control i.now))) }
 {
-    let row = times_extent(alloc, names, at, d)?;
-    let index = lower_number(alloc, names, scope, i)?;
-    plus(alloc, row, index)
+    let extent = boxed_extent(alloc, names, d)?;
+    let row = Box::new(alloc, CNumber::Product(at, extent))?;
+    let index = boxed_number(alloc, names, scope, i)?;
+    Ok(Box::new(alloc, CNumber::Sum(row, index))?)
 }
 
 /// An offset by the later indices: `((at * d) + e)` and so on.
@@ -279,11 +251,11 @@ fn add_rows(
     alloc: Global,
     names: &Names<'_>,
     scope: &[Entry],
-    at: CNumber,
+    at: Box<CNumber>,
     is: &[Ctrl],
     dims: &[Ctrl],
-) -> Result<CNumber, AllocError>
-    ensures { IfOk result (λ n. plain_number n ≡ horner (plain_number at) (numbers_of (naming_of names.now) (forms_in scope.now) (map control is.now)) (dims_of (naming_of names.now) (map control dims.now))) }
+) -> Result<Box<CNumber>, AllocError>
+    ensures { IfOk result (λ n. plain_number n.value ≡ horner (plain_number at.value) (numbers_of (naming_of names.now) (forms_in scope.now) (map control is.now)) (dims_of (naming_of names.now) (map control dims.now))) }
 {
     let Some((i, inner)) = is.split_first() else {
         return Ok(at);
@@ -309,9 +281,9 @@ fn rows_offset(
     let Some((i, inner)) = is.split_first() else {
         return Ok(CNumber::Literal(0));
     };
-    let first = lower_number(alloc, names, scope, i)?;
+    let first = boxed_number(alloc, names, scope, i)?;
     let whole = add_rows(alloc, names, scope, first, inner, rest)?;
-    Ok(whole)
+    Ok(Box::into_inner(whole))
 }
 
 /// All but the last.
@@ -359,12 +331,12 @@ fn lower_step(
     i: &Ctrl,
     w: Id,
     k: usize,
-) -> Result<CNumber, AllocError>
-    ensures { IfOk result (λ n. plain_number n ≡ Product (number_of (naming_of names.now) (forms_in scope.now) (control i.now)) (StrideIn ((naming_of names.now).binder w.0) k)) }
+) -> Result<Box<CNumber>, AllocError>
+    ensures { IfOk result (λ n. plain_number n.value ≡ Product (number_of (naming_of names.now) (forms_in scope.now) (control i.now)) (StrideIn ((naming_of names.now).binder w.0) k)) }
 {
-    let index = lower_number(alloc, names, scope, i)?;
-    let stride = stride_in(alloc, names, w, k)?;
-    times(alloc, index, stride)
+    let index = boxed_number(alloc, names, scope, i)?;
+    let stride = Box::new(alloc, stride_in(alloc, names, w, k)?)?;
+    Ok(Box::new(alloc, CNumber::Product(index, stride))?)
 }
 
 /// The offset in a window by one index more.
@@ -372,15 +344,15 @@ fn next_step(
     alloc: Global,
     names: &Names<'_>,
     scope: &[Entry],
-    at: CNumber,
+    at: Box<CNumber>,
     i: &Ctrl,
     w: Id,
     k: usize,
-) -> Result<CNumber, AllocError>
-    ensures { IfOk result (λ n. plain_number n ≡ Sum (plain_number at) (Product (number_of (naming_of names.now) (forms_in scope.now) (control i.now)) (StrideIn ((naming_of names.now).binder w.0) k))) }
+) -> Result<Box<CNumber>, AllocError>
+    ensures { IfOk result (λ n. plain_number n.value ≡ Sum (plain_number at.value) (Product (number_of (naming_of names.now) (forms_in scope.now) (control i.now)) (StrideIn ((naming_of names.now).binder w.0) k))) }
 {
     let step = lower_step(alloc, names, scope, i, w, k)?;
-    plus(alloc, at, step)
+    Ok(Box::new(alloc, CNumber::Sum(at, step))?)
 }
 
 /// An offset in a window of so many dimensions by the indices from that dimension on.
@@ -388,13 +360,13 @@ fn add_steps(
     alloc: Global,
     names: &Names<'_>,
     scope: &[Entry],
-    at: CNumber,
+    at: Box<CNumber>,
     is: &[Ctrl],
     w: Id,
     k: usize,
     rank: usize,
-) -> Result<CNumber, AllocError>
-    ensures { IfOk result (λ n. plain_number n ≡ scaled_from (plain_number at) (numbers_of (naming_of names.now) (forms_in scope.now) (map control is.now)) (window_strides ((naming_of names.now).binder w.0) k (rank - k))) }
+) -> Result<Box<CNumber>, AllocError>
+    ensures { IfOk result (λ n. plain_number n.value ≡ scaled_from (plain_number at.value) (numbers_of (naming_of names.now) (forms_in scope.now) (map control is.now)) (window_strides ((naming_of names.now).binder w.0) k (rank - k))) }
 {
     let Some((i, inner)) = is.split_first() else {
         return Ok(at);
@@ -426,5 +398,5 @@ pub(crate) fn lower_steps(
     }
     let first = lower_step(alloc, names, scope, i, w, 0)?;
     let whole = add_steps(alloc, names, scope, first, inner, w, 1, rank)?;
-    Ok(whole)
+    Ok(Box::into_inner(whole))
 }

@@ -1,6 +1,6 @@
 //! Expressions of C print as C.
 ghost use Rattle.std.specs.Prelude.{Some, map, string_bytes};
-ghost use Rattle.c_tree.specs.CText.{type_word, struct_word, struct_line, element_word, number64_text, test_text, cell_text, number32_text, actual_text, piece_text, allocation_text, bound_text, formal_text, head_text, signature_text, origin_text, each, listed};
+ghost use Rattle.c_tree.specs.CText.{type_word, struct_word, element_word, number64_text, test_text, cell_text, number32_text, actual_text, piece_text, allocation_text, bound_text, formal_text, head_text, each, listed};
 ghost use Rattle.c_tree.specs.Plain.{plain_type, plain_element, plain_number, plain_test, plain_cell, plain_data, plain_window, plain_actual, plain_piece, plain_param, plain_statement};
 
 use crate::tree::{
@@ -285,57 +285,5 @@ impl fmt::Display for CStatement {
                 write!(f, "{pieces}")
             }
         }
-    }
-}
-
-/// The first line of a function.
-#[derive(Clone, Copy)]
-pub struct Signature<'a> {
-    pub name: &'a String,
-    pub params: &'a String,
-}
-
-impl fmt::Display for Signature<'_> {
-    ghost output = { λ s. Some (signature_text (string_bytes s.name.now) (string_bytes s.params.now)) };
-
-    fn fmt<W: fmt::Write>(&self, f: &mut fmt::Formatter<W>) -> fmt::Result {
-        write!(f, "void {}({}) {{", self.name, self.params)
-    }
-}
-
-/// A line of the report.
-#[derive(Clone, Copy)]
-pub struct Origin<'a> {
-    pub name: &'a String,
-    pub origin: &'a String,
-    pub fields: &'a String,
-}
-
-impl fmt::Display for Origin<'_> {
-    ghost output = { λ s. Some (origin_text (string_bytes s.name.now) (string_bytes s.origin.now) (string_bytes s.fields.now)) };
-
-    fn fmt<W: fmt::Write>(&self, f: &mut fmt::Formatter<W>) -> fmt::Result {
-        write!(
-            f,
-            " * {}: from {}; differs: {}",
-            self.name, self.origin, self.fields
-        )
-    }
-}
-
-/// The definition of a struct of windows.
-#[derive(Clone, Copy)]
-pub struct StructLine<'a>(pub &'a CStruct);
-
-impl fmt::Display for StructLine<'_> {
-    ghost output = { λ s. Some (struct_line s.0.now.rank (plain_type s.0.now.cell)) };
-
-    fn fmt<W: fmt::Write>(&self, f: &mut fmt::Formatter<W>) -> fmt::Result {
-        let kind = *self.0;
-        write!(
-            f,
-            "{kind} {{ {} *data; int64_t strides[{}]; }};",
-            kind.cell, kind.rank
-        )
     }
 }

@@ -4,7 +4,6 @@ ghost use Rattle.c_tree.specs.CTree.{cblock};
 ghost use Rattle.c_tree.specs.CText.{line, deeper, margin, each, or_word, or_else, head_text, block_text, inner_text, formal_text, signature_text, function_text, report_text, include_text, struct_text, field_text, preamble_text, text_of};
 ghost use Rattle.c_tree.specs.Plain.{plain_statement, plain_struct, plain_param, plain_function, plain_line, plain_unit};
 
-use crate::show::{Origin, Signature, StructLine};
 use crate::tree::{CBlock, CFunction, CParam, CStatement, CStruct, CUnit, ReportLine};
 use c_names::{put_helpers, put_margin};
 use std::alloc::{AllocError, Global};
@@ -13,9 +12,7 @@ use std::alloc::{AllocError, Global};
 fn put_line(out: &mut String, indent: &str, text: &str) -> Result<(), AllocError>
     ensures { OnOk result (string_bytes out.new ≡ string_bytes out.old ++ line indent.now text.now) }
 {
-    out.push_str(indent)?;
-    out.push_str(text)?;
-    out.push_str("\n")
+    writeln!(out, "{indent}{text}")
 }
 
 /// The indentation of an inner block.
@@ -91,11 +88,10 @@ fn put_inner(
 }
 
 /// Appends the first line of a statement.
-fn put_head(alloc: Global, out: &mut String, indent: &str, s: &CStatement) -> Result<(), AllocError>
+fn put_head(out: &mut String, indent: &str, s: &CStatement) -> Result<(), AllocError>
     ensures { OnOk result (string_bytes out.new ≡ string_bytes out.old ++ line indent.now (head_text (plain_statement s.now))) }
 {
-    let head = format!(in alloc; "{s}")?;
-    put_line(out, indent, head.as_str())
+    writeln!(out, "{indent}{s}")
 }
 
 /// Appends the lines of a block.
@@ -110,49 +106,33 @@ fn put_block(
 {
     for k in 0..block.len() {
         let s = block.statement(k);
-        put_head(alloc, out, indent, s)?;
+        put_head(out, indent, s)?;
         put_inner(alloc, out, indent, s)?;
     }
     Ok(())
 }
 
-/// Texts with commas between, or the word where there is none.
-fn listed_or(alloc: Global, word: &str, texts: &[String]) -> Result<String, AllocError>
-    ensures { IfOk result (λ s. string_bytes s ≡ or_word word.now (map string_bytes texts.now)) }
+/// Appends parameters with commas between, or `void` where there is none.
+fn put_params(out: &mut String, params: &[CParam]) -> Result<(), AllocError>
+    ensures { OnOk result (string_bytes out.new ≡ string_bytes out.old ++ or_word (codes "void") (map formal_text (map plain_param params.now))) }
 {
-    let Some((first, rest)) = texts.split_first() else {
-        return String::from_str(alloc, word);
+    let Some((first, rest)) = params.split_first() else {
+        return out.push_str("void");
     };
-    let mut list = String::from_str(alloc, first.as_str())?;
-    for text in rest {
-        list.push_str(", ")?;
-        list.push_str(text.as_str())?;
+    write!(out, "{first}")?;
+    for p in rest {
+        write!(out, ", {p}")?;
     }
-    Ok(list)
+    Ok(())
 }
 
-/// The texts of parameters.
-fn param_texts(alloc: Global, params: &[CParam]) -> Result<Vec<String>, AllocError>
-    ensures { IfOk result (λ v. map string_bytes v.items ≡ map formal_text (map plain_param params.now)) }
+/// Appends the first line of a function.
+fn put_signature(out: &mut String, f: &CFunction) -> Result<(), AllocError>
+    ensures { OnOk result (string_bytes out.new ≡ string_bytes out.old ++ margin (signature_text (string_bytes f.now.name) (or_word (codes "void") (map formal_text (map plain_param f.now.params.items))))) }
 {
-    let mut texts = Vec::new(alloc);
-    for p in params {
-        texts.push(format!(in alloc; "{p}")?)?;
-    }
-    Ok(texts)
-}
-
-/// The first line of a function.
-fn function_head(alloc: Global, f: &CFunction) -> Result<String, AllocError>
-    ensures { IfOk result (λ s. string_bytes s ≡ signature_text (string_bytes f.now.name) (or_word (codes "void") (map formal_text (map plain_param f.now.params.items)))) }
-{
-    let texts = param_texts(alloc, &f.params)?;
-    let params = listed_or(alloc, "void", &texts)?;
-    let signature = Signature {
-        name: &f.name,
-        params: &params,
-    };
-    format!(in alloc; "{signature}")
+    write!(out, "void {}(", f.name)?;
+    put_params(out, &f.params)?;
+    put_margin(out, ") {")
 }
 
 /// Appends a function after an empty line.
@@ -160,74 +140,82 @@ fn put_function(alloc: Global, out: &mut String, f: &CFunction) -> Result<(), Al
     ensures { OnOk result (string_bytes out.new ≡ string_bytes out.old ++ (margin [] ++ function_text (plain_function f.now))) }
 {
     put_margin(out, "")?;
-    let head = function_head(alloc, f)?;
-    put_margin(out, head.as_str())?;
+    put_signature(out, f)?;
     put_block(alloc, out, "    ", &f.body)?;
     put_margin(out, "}")?;
     Ok(())
 }
 
+/// Appends names with commas between, or `nothing` where there is none.
+fn put_names(out: &mut String, names: &[String]) -> Result<(), AllocError>
+    ensures { OnOk result (string_bytes out.new ≡ string_bytes out.old ++ or_word (codes "nothing") (map string_bytes names.now)) }
+{
+    let Some((first, rest)) = names.split_first() else {
+        return out.push_str("nothing");
+    };
+    out.push_str(first.as_str())?;
+    for name in rest {
+        write!(out, ", {name}")?;
+    }
+    Ok(())
+}
+
 /// Appends a line of the report.
-fn put_report_line(alloc: Global, out: &mut String, r: &ReportLine) -> Result<(), AllocError>
+fn put_report_line(out: &mut String, r: &ReportLine) -> Result<(), AllocError>
     ensures { OnOk result (string_bytes out.new ≡ string_bytes out.old ++ report_text (plain_line r.now)) }
 {
-    let fields = listed_or(alloc, "nothing", &r.differs)?;
-    let origin = Origin {
-        name: &r.name,
-        origin: &r.origin,
-        fields: &fields,
-    };
-    let text = format!(in alloc; "{origin}")?;
-    put_margin(out, text.as_str())
+    write!(out, " * {}: from {}; differs: ", r.name, r.origin)?;
+    put_names(out, &r.differs)?;
+    put_margin(out, "")
 }
 
 /// Appends the report.
-fn put_report(alloc: Global, out: &mut String, report: &[ReportLine]) -> Result<(), AllocError>
+fn put_report(out: &mut String, report: &[ReportLine]) -> Result<(), AllocError>
     ensures { OnOk result (string_bytes out.new ≡ string_bytes out.old ++ each report_text (map plain_line report.now)) }
 {
     for r in report {
-        put_report_line(alloc, out, r)?;
+        put_report_line(out, r)?;
     }
     Ok(())
 }
 
 /// Appends a line for each further header.
-fn put_includes(alloc: Global, out: &mut String, headers: &[String]) -> Result<(), AllocError>
+fn put_includes(out: &mut String, headers: &[String]) -> Result<(), AllocError>
     ensures { OnOk result (string_bytes out.new ≡ string_bytes out.old ++ each include_text (map string_bytes headers.now)) }
 {
     for header in headers {
-        let text = format!(in alloc; "#include <{header}>")?;
-        put_margin(out, text.as_str())?;
+        writeln!(out, "#include <{header}>")?;
     }
     Ok(())
 }
 
 /// Appends the line of a struct.
-fn put_struct(alloc: Global, out: &mut String, s: &CStruct) -> Result<(), AllocError>
+fn put_struct(out: &mut String, s: &CStruct) -> Result<(), AllocError>
     ensures { OnOk result (string_bytes out.new ≡ string_bytes out.old ++ struct_text (plain_struct s.now)) }
 {
-    let line = StructLine(s);
-    let text = format!(in alloc; "{line}")?;
-    put_margin(out, text.as_str())
+    writeln!(
+        out,
+        "{s} {{ {} *data; int64_t strides[{}]; }};",
+        s.cell, s.rank
+    )
 }
 
 /// Appends a line for each struct of windows.
-fn put_structs(alloc: Global, out: &mut String, structs: &[CStruct]) -> Result<(), AllocError>
+fn put_structs(out: &mut String, structs: &[CStruct]) -> Result<(), AllocError>
     ensures { OnOk result (string_bytes out.new ≡ string_bytes out.old ++ each struct_text (map plain_struct structs.now)) }
 {
     for s in structs {
-        put_struct(alloc, out, s)?;
+        put_struct(out, s)?;
     }
     Ok(())
 }
 
 /// Appends a line for each configuration field.
-fn put_fields(alloc: Global, out: &mut String, fields: &[String]) -> Result<(), AllocError>
+fn put_fields(out: &mut String, fields: &[String]) -> Result<(), AllocError>
     ensures { OnOk result (string_bytes out.new ≡ string_bytes out.old ++ each field_text (map string_bytes fields.now)) }
 {
     for x in fields {
-        let text = format!(in alloc; "int64_t {x};")?;
-        put_margin(out, text.as_str())?;
+        writeln!(out, "int64_t {x};")?;
     }
     Ok(())
 }
@@ -243,12 +231,12 @@ fn put_functions(alloc: Global, out: &mut String, functions: &[CFunction]) -> Re
 }
 
 /// Appends the headers, and the helpers after an empty line.
-fn put_preamble(alloc: Global, out: &mut String, headers: &[String]) -> Result<(), AllocError>
+fn put_preamble(out: &mut String, headers: &[String]) -> Result<(), AllocError>
     ensures { OnOk result (string_bytes out.new ≡ string_bytes out.old ++ preamble_text (map string_bytes headers.now)) }
 {
     put_margin(out, "#include <stdint.h>")?;
     put_margin(out, "#include <stdlib.h>")?;
-    put_includes(alloc, out, headers)?;
+    put_includes(out, headers)?;
     put_margin(out, "")?;
     put_helpers(out)?;
     Ok(())
@@ -260,11 +248,11 @@ pub fn c_text(alloc: Global, c: &CUnit) -> Result<String, AllocError>
 {
     let mut out = String::new(alloc);
     put_margin(&mut out, "/* exoc")?;
-    put_report(alloc, &mut out, &c.report)?;
+    put_report(&mut out, &c.report)?;
     put_margin(&mut out, " */")?;
-    put_preamble(alloc, &mut out, &c.includes)?;
-    put_structs(alloc, &mut out, &c.structs)?;
-    put_fields(alloc, &mut out, &c.fields)?;
+    put_preamble(&mut out, &c.includes)?;
+    put_structs(&mut out, &c.structs)?;
+    put_fields(&mut out, &c.fields)?;
     put_functions(alloc, &mut out, &c.functions)?;
     Ok(out)
 }
