@@ -1,7 +1,5 @@
 use Rattle.std.proofs.Common.{◌≡◌, ◌+◌, ◌-◌, [], ◌∷◌, ◌++◌, refl, vec_len, length, map, take, drop, ap, sym, subst, ◌∙◌, arith}
 use Rattle.std.proofs.lemmas.List.{drop_all}
-use Rattle.exo_tree.specs.Tree as tree
-use Rattle.exo_tree.specs.PlainBinder.{binding}
 use Rattle.exo_tree.specs.PlainControl.{condition}
 use Rattle.text_expressions.specs.Views.{tree_of}
 use Rattle.exo_reader.specs.Source.{block_of}
