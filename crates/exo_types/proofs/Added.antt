@@ -1,5 +1,5 @@
 -- What an item adds to what stands above it.
-use Rattle.std.proofs.Common.{◌≡◌, ℕ, ◌+◌, ◌≤◌, Bool, true, false, not, ◌||◌, List, [], ◌∷◌, ◌++◌, Option, None, is_some, Result, Ok, Err, MatchResult, length, map, refl, ap, sym, ◌∙◌, arith}
+use Rattle.std.proofs.Common.{◌≡◌, ℕ, ◌+◌, ◌≤◌, Bool, true, false, not, ◌||◌, List, [], ◌∷◌, ◌++◌, Option, None, is_some, length, map, refl, ap, sym, ◌∙◌, arith}
 use Rattle.std.specs.List.{list_any}
 use Rattle.std.proofs.lemmas.List.{length-append, length-map, map-append}
 use Rattle.exo_tree.specs.Tree as tree
@@ -125,10 +125,6 @@ module _ (t : Typed) (above : Above) (a : Agrees t) (s : Stands t above) where
     ids = m.ids ∙ ap (λ id. id + length d.params + bound_in (block_of d.body)) s.next_id;
     end = m.end;
   }
-
-  pub here : (c : Context) (places : List Place) (template : Option (List ℕ)) (n : ℕ) (d : Definition) (result : Result Defined Refusal) → MatchResult result (λ r. IsDefined c t.next_id template n r d) (λ e. Refuses e (definitions.definition_fault c t.next_id n d)) → IsContext c places → MatchResult result (λ r. IsHere above places template n r d) (λ e. Refuses e (here_fault above n d))
-  here c places template n d (Ok made) m k = here_made c places template n made d k m
-  here c places template n d (Err e) m k = here_refused c places n d e k m
 
 -- ---- procedures
 

@@ -1,13 +1,9 @@
 -- What is read has a place for each token.
-use Rattle.std.proofs.Common.{◌≡◌, ℕ, ◌+◌, ◌≤◌, List, [], ◌∷◌, ◌++◌, length, map, ap, sym, ◌∙◌, arith}
+use Rattle.std.proofs.Common.{◌≡◌, ◌+◌, [], ◌∷◌, length, map, ap, arith}
 use Rattle.std.proofs.lemmas.List.{length-map, length-append}
-use Rattle.text_phrases.specs.Text.{IsText}
 use Rattle.text_lexer.specs.Layout.{lexed, token_of, place_of, end_place}
 use Rattle.exo_reader.specs.Items.{unit}
-use Rattle.exo_reader.specs.Views.{plain_item}
-use Rattle.exo_reader.specs.Texts.{tokens_of, places_of}
-use Rattle.exo_reader.specs.declared.unit.Source.{Source}
-use Rattle.exo_types.specs.Typed.{IsPlaced, items_of}
+use Rattle.exo_types.specs.Typed.{items_of}
 use Rattle.exo_types.specs.Laws.{ReadTextsArePlaced}
 
 pub placed : ReadTextsArePlaced

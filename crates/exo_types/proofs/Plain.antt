@@ -1,5 +1,5 @@
 -- Statements that bind no name and have no blocks.
-use Rattle.std.proofs.Common.{◌≡◌, ℕ, ◌==◌, Bool, true, false, List, [], ◌++◌, Option, Some, None, map, slice_get, refl, ap, sym, ◌∙◌, arith}
+use Rattle.std.proofs.Common.{◌≡◌, ℕ, ◌+◌, ◌==◌, Bool, true, false, List, [], ◌++◌, Option, Some, None, map, slice_get, refl, ap, sym, ◌∙◌, arith}
 use Rattle.std.proofs.lemmas.List.{append-nil}
 use Rattle.std.proofs.lemmas.Bool.{eqb-true}
 use Rattle.std.proofs.Math.Seq.{take-length}
@@ -14,15 +14,16 @@ use Rattle.rules_names.specs.declared.fault.Fault.{Fault}
 use Rattle.rules_names.specs.declared.error.TypeKind.TheVariants.{RankMismatch}
 use Rattle.rules_names.specs.Faults.{or_else, least, unless}
 use Rattle.rules_names.specs.Names.{id_in, name_number, field_in, no_id}
+use Rattle.rules_names.specs.ExpressionRules.{width}
 use Rattle.rules_names.specs.Resolved.{controls_of, datum_of, field_number}
 use Rattle.exo_modes.specs.Aliases.{roots_in}
 use Rattle.exo_types.specs.declared.context.Context.{Context}
 use Rattle.exo_types.specs.declared.context.Walk.{Walk}
 use Rattle.exo_types.specs.TypeRules.{number_or}
-use Rattle.exo_types.specs.ArgumentRules.{Signature, kind_value_of, arguments_of, params_of}
-use Rattle.exo_types.specs.StatementRules.{bound, callee_named, written_of}
+use Rattle.exo_types.specs.ArgumentRules.{Signature, dims_width, kind_value_of, arguments_of, params_of}
+use Rattle.exo_types.specs.StatementRules.{statement_width, bound, store_faults, callee_named, written_of}
 use Rattle.exo_types.specs.UnitLines.{inner_starts, line_at}
-use Rattle.exo_types.specs.Walks.{signatures_in, IsStatement, own_fault, statement_fault, statement_of}
+use Rattle.exo_types.specs.Walks.{signatures_in, IsStatement, own_faults, own_fault, statement_fault, statement_of, stored, stored_tree}
 use Rattle.exo_types.proofs.Broken.{none_broken, first_empty}
 
 -- the callee of a name
@@ -40,6 +41,10 @@ counted a b n more h = by (a == b) refl (first_empty (unless (a == b) RankMismat
     by true e k = eqb-true a b e
     by false e k = cc
 
+pub written_width : (reduces : Bool) (x : List ℕ) (ds : List Tree) (e : Tree) → statement_width (stored reduces x ds e) ≡ 1 + dims_width ds + 1 + width e + 1
+written_width true x ds e = refl
+written_width false x ds e = refl
+
 module _ (c : Context) where
   -- a statement that binds no name and has no blocks leaves the walk as it was
   settled : (w : Walk) (t : tree.Statement) (n : ℕ) (s : Statement) → statement_fault c w n s ≡ or_else (own_fault c w n s) None → scope_after (statement_of c w s) w.scope ≡ w.scope → roots_after (statement_of c w s) (roots_in w.aliases.items) ≡ roots_in w.aliases.items → bound s ≡ 0 → inner_starts n s ≡ [] → own_fault c w n s ≡ None → t ≡ statement_of c w s → IsStatement c w w t n s
@@ -56,11 +61,14 @@ module _ (c : Context) where
   pub passed : (w : Walk) (n : ℕ) → IsStatement c w w tree.Pass n pass
   passed w n = settled w tree.Pass n pass refl refl refl refl refl refl refl
 
-  pub assigned : (w : Walk) (n : ℕ) (x : List ℕ) (ds : List Tree) (e : Tree) (id : ℕ) (is : List tree.Control) (d : tree.Datum) → own_fault c w n (assign x ds e) ≡ None → id ≡ id_in w.scope x → is ≡ controls_of c.fields.now w.scope ds → d ≡ datum_of c.fields.now w.scope e → IsStatement c w w (tree.Assign id is d) n (assign x ds e)
-  assigned w n x ds e id is d own a b f = settled w (tree.Assign id is d) n (assign x ds e) refl refl refl refl refl own (λ i. tree.Assign (a i) (b i) (f i))
+  -- a write of a cell
+  pub written_faults : (w : Walk) (n : ℕ) (reduces : Bool) (x : List ℕ) (ds : List Tree) (e : Tree) → own_faults c w n (stored reduces x ds e) ≡ store_faults c.fields.now w.scope n x ds e
+  written_faults w n true x ds e = refl
+  written_faults w n false x ds e = refl
 
-  pub reduced : (w : Walk) (n : ℕ) (x : List ℕ) (ds : List Tree) (e : Tree) (id : ℕ) (is : List tree.Control) (d : tree.Datum) → own_fault c w n (reduce x ds e) ≡ None → id ≡ id_in w.scope x → is ≡ controls_of c.fields.now w.scope ds → d ≡ datum_of c.fields.now w.scope e → IsStatement c w w (tree.Reduce id is d) n (reduce x ds e)
-  reduced w n x ds e id is d own a b f = settled w (tree.Reduce id is d) n (reduce x ds e) refl refl refl refl refl own (λ i. tree.Reduce (a i) (b i) (f i))
+  pub written : (w : Walk) (n : ℕ) (reduces : Bool) (x : List ℕ) (ds : List Tree) (e : Tree) (id : ℕ) (is : List tree.Control) (d : tree.Datum) → own_fault c w n (stored reduces x ds e) ≡ None → id ≡ id_in w.scope x → is ≡ controls_of c.fields.now w.scope ds → d ≡ datum_of c.fields.now w.scope e → IsStatement c w w (stored_tree reduces id is d) n (stored reduces x ds e)
+  written w n true x ds e id is d own a b f = settled w (tree.Reduce id is d) n (reduce x ds e) refl refl refl refl refl own (λ i. tree.Reduce (a i) (b i) (f i))
+  written w n false x ds e id is d own a b f = settled w (tree.Assign id is d) n (assign x ds e) refl refl refl refl refl own (λ i. tree.Assign (a i) (b i) (f i))
 
   -- a field that there is
   pub configured : (w : Walk) (n : ℕ) (x y : List ℕ) (e : Tree) (f : ℕ × Kind) (a : tree.Argument) → field_in c.fields.now x y ≡ Some f → own_fault c w n (configure x y e) ≡ None → a ≡ kind_value_of c.fields.now w.scope f.1 e → IsStatement c w w (tree.Config f.0 a) n (configure x y e)

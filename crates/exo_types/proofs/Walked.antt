@@ -16,7 +16,7 @@ use Rattle.exo_types.specs.ArgumentRules.{Signature}
 use Rattle.exo_types.specs.StatementRules as rules
 use Rattle.exo_types.specs.StatementRules.{statement_width, block_width, bound, bound_in}
 use Rattle.exo_types.specs.UnitLines.{inner_starts, block_starts, line_at}
-use Rattle.exo_types.specs.Walks.{signatures_in, Falls, HasRoom, IsStatement, IsBlock, statement_of, block_fault, block_of}
+use Rattle.exo_types.specs.Walks.{signatures_in, Falls, HasRoom, IsStatement, IsPut, IsBlock, statement_of, block_fault, block_of}
 use Rattle.exo_types.proofs.Bounded.{few_bound}
 use Rattle.exo_types.proofs.Falling.{falls_more}
 
@@ -175,3 +175,7 @@ module _ (c : Context) where
     ids = ids ∙ omega (arith, f.count);
     lines = lines ∙ sym (append-nil walk.lines) ∙ f.lines;
   }
+
+  -- a statement that was put last
+  pub put : (before after : Walk) (old new : List tree.Statement) (made : tree.Statement) (n m : ℕ) (s : Statement) → IsStatement c before after made n s → new ≡ old ++ made ∷ [] → m ≡ n + statement_width s → IsPut c before after old new n m s
+  put before after old new made n m s one last ends = record { made = made; one = one; last = last; ends = ends }

@@ -1,8 +1,6 @@
 -- What is made of parameters and procedures, in a walk through their text. n is the number of the first token.
-use Rattle.std.specs.Prelude.{◌≡◌, ℕ, ◌+◌, ◌<◌, ◌≤◌, List, ◌++◌, length, map, Option, None}
+use Rattle.std.specs.Prelude.{◌≡◌, ℕ, ◌+◌, ◌<◌, ◌≤◌, List, [], ◌∷◌, ◌++◌, length, map, Option, None}
 use Rattle.exo_tree.specs.Tree as tree
-use Rattle.exo_tree.specs.declared.control.Cond.{Cond}
-use Rattle.exo_tree.specs.PlainControl.{condition}
 use Rattle.exo_tree.specs.PlainProcedure as plain
 use Rattle.exo_meaning.specs.Units.{Scope, scope_of, with_both}
 use Rattle.text_expressions.specs.Expression.{Tree}
@@ -71,6 +69,13 @@ module _ (c : Context) where
     pub aliases : after.aliases.items ≡ before.aliases.items
     pub lines : after.lines ≡ before.lines
 
+  -- it is put last, and the token behind it has that number
+  pub record IsPut (before after : Walk) (old new : List tree.Param) (n end : ℕ) (p : Parameter) : Type 0 where
+    pub made : tree.Param
+    pub one : IsParam before after made n p
+    pub last : new ≡ old ++ made ∷ []
+    pub ends : end ≡ n + parameter_width p
+
   -- the same of several, one after another
   pub record AreParams (before after : Walk) (made : List tree.Param) (n : ℕ) (ps : List Parameter) : Type 0 where
     pub keeps : params_fault before n ps ≡ None
@@ -80,10 +85,10 @@ module _ (c : Context) where
     pub aliases : after.aliases.items ≡ before.aliases.items
     pub lines : after.lines ≡ before.lines
 
-  -- an assertion breaks no rule, and this is its condition
-  pub record IsAssert (scope : Scope) (n : ℕ) (made : Cond) (e : Tree) : Type 0 where
+  -- an assertion breaks no rule, and its condition is put last
+  pub record IsAssert (scope : Scope) (n : ℕ) (old new : List tree.Condition) (e : Tree) : Type 0 where
     pub keeps : assert_fault scope n e ≡ None
-    pub means : condition made ≡ condition_of c.fields.now scope e
+    pub means : new ≡ old ++ condition_of c.fields.now scope e ∷ []
 
   pub record AreAsserts (scope : Scope) (n : ℕ) (made : List tree.Condition) (es : List Tree) : Type 0 where
     pub keeps : asserts_fault scope n es ≡ None

@@ -1,12 +1,11 @@
 -- What a walk through the statements of a procedure keeps, and what it makes of a statement and of a block.
-use Rattle.std.specs.Prelude.{◌≡◌, ℕ, ◌+◌, ◌<◌, ◌≤◌, Bool, List, [], ◌∷◌, ◌++◌, length, map, take, Option, None, Result, MatchResult}
+use Rattle.std.specs.Prelude.{◌≡◌, ℕ, ◌+◌, ◌<◌, ◌≤◌, Bool, true, false, List, [], ◌∷◌, ◌++◌, length, map, take, Option, None, Result, MatchResult}
 use Rattle.exo_tree.specs.Tree as tree
 use Rattle.exo_tree.specs.Tree.{Procedure}
-use Rattle.exo_tree.specs.PlainStatement as plain
-use Rattle.exo_tree.specs.declared.block.Stmt.{Stmt}
 use Rattle.exo_meaning.specs.Run.{roots_after}
 use Rattle.exo_meaning.specs.Units.{Scope, scope_after}
-use Rattle.exo_reader.specs.Source.{Statement, Block}
+use Rattle.text_expressions.specs.Expression.{Tree}
+use Rattle.exo_reader.specs.Source.{Statement, assign, reduce, Block}
 use Rattle.rules_names.specs.declared.fault.Fault.{Fault}
 use Rattle.rules_names.specs.Faults.{least}
 use Rattle.exo_modes.specs.Aliases.{roots_in}
@@ -17,7 +16,7 @@ use Rattle.exo_types.specs.declared.refusal.Refusal.{Refusal}
 use Rattle.exo_types.specs.Refusals.{Refuses}
 use Rattle.exo_types.specs.ArgumentRules.{Signature}
 use Rattle.exo_types.specs.StatementRules as rules
-use Rattle.exo_types.specs.StatementRules.{bound, bound_in}
+use Rattle.exo_types.specs.StatementRules.{statement_width, bound, bound_in}
 use Rattle.exo_types.specs.UnitLines.{inner_starts, block_starts, line_at}
 
 -- ---- the procedures above
@@ -91,9 +90,27 @@ module _ (c : Context) where
     pub ids : after.next_id ≡ before.next_id + bound_in b
     pub lines : after.lines ≡ before.lines ++ map (line_at c.places.now) (block_starts n b)
 
-  -- the statement is made, or the first rule that it breaks is told
-  abbrev pub Makes : Walk → Walk → ℕ → Statement → Result (Stmt × ℕ) Refusal → Type 0
-  Makes before after n s result = MatchResult result (λ r. IsStatement before after (plain.statement r.0) n s) (λ e. Refuses e (statement_fault before n s))
+  -- it is put last in a block, and the token behind it has that number
+  pub record IsPut (before after : Walk) (old new : List tree.Statement) (n end : ℕ) (s : Statement) : Type 0 where
+    pub made : tree.Statement
+    pub one : IsStatement before after made n s
+    pub last : new ≡ old ++ made ∷ []
+    pub ends : end ≡ n + statement_width s
 
-  abbrev pub MakesBlock : Walk → Walk → ℕ → Block → Result (List tree.Statement × ℕ) Refusal → Type 0
-  MakesBlock before after n b result = MatchResult result (λ r. IsBlock before after r.0 n b) (λ e. Refuses e (block_fault before n b))
+  -- the statement is put last, or the first rule that it breaks is told
+  abbrev pub Puts : Walk → Walk → List tree.Statement → List tree.Statement → ℕ → Statement → Result ℕ Refusal → Type 0
+  Puts before after old new n s result = MatchResult result (λ end. IsPut before after old new n end s) (λ e. Refuses e (statement_fault before n s))
+
+  -- the block is made, or the first rule that it breaks is told
+  abbrev pub MakesBlock : Walk → Walk → List tree.Statement → ℕ → Block → Result ℕ Refusal → Type 0
+  MakesBlock before after made n b result = MatchResult result (λ _. IsBlock before after made n b) (λ e. Refuses e (block_fault before n b))
+
+-- ---- writes of a cell: a reduction, or an assignment
+
+abbrev pub stored : Bool → List ℕ → List Tree → Tree → Statement
+stored true x ds e = reduce x ds e
+stored false x ds e = assign x ds e
+
+abbrev pub stored_tree : Bool → ℕ → List tree.Control → tree.Datum → tree.Statement
+stored_tree true of ds d = tree.Reduce of ds d
+stored_tree false of ds d = tree.Assign of ds d

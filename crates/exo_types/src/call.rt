@@ -1,5 +1,5 @@
 //! Calls of procedures that stand above.
-ghost use Rattle.std.specs.Prelude.{◌≡◌, ◌+◌, ◌≤◌, ◌||◌, [], map, length, option_map, IfOk};
+ghost use Rattle.std.specs.Prelude.{◌≡◌, ◌+◌, ◌≤◌, ◌||◌, [], Some, map, length, IfOk};
 ghost use Rattle.exo_tree.specs.PlainParam.{parameter};
 ghost use Rattle.exo_reader.specs.Views.{plain_argument};
 ghost use Rattle.rules_names.specs.Faults.{charged};
@@ -95,17 +95,14 @@ pub fn test_call(
     alloc: Global,
     names: &Names,
     aliases: &[Alias],
-    callee: Option<Callee>,
+    callee: Callee,
     n: usize,
     arguments: &[SourceArg],
 ) -> Result<(Charge, usize), AllocError>
     requires { n + 2 + rules.arguments_width (map plain_argument arguments.now) ≤ most_tokens }
-    ensures charge { IfOk result (λ r. r.0 ≡ charged (rules.call_faults names.now.fields.now (option_map signature callee.entry) names.now.scope.now (roots_in aliases.now) n (map plain_argument arguments.now))) }
-    ensures end { IfOk result (λ r. (length arguments.now ≡ length (rules.params_of (option_map signature callee.entry))) → r.1 ≡ n + 2 + rules.arguments_width (map plain_argument arguments.now)) }
+    ensures charge { IfOk result (λ r. r.0 ≡ charged (rules.call_faults names.now.fields.now (Some (signature callee.entry)) names.now.scope.now (roots_in aliases.now) n (map plain_argument arguments.now))) }
+    ensures end { IfOk result (λ r. length arguments.now ≡ length (signature callee.entry).params → r.1 ≡ n + 2 + rules.arguments_width (map plain_argument arguments.now)) }
 {
-    let Some(callee) = callee else {
-        return Ok((Charge::of(TypeKind::UnknownName, n), n + 3));
-    };
     let same = arguments.len() == callee.params.len();
     let count = Charge::unless(same, TypeKind::RankMismatch, n);
     let (parts, next) = test_arguments(alloc, names, aliases, callee, n + 2, arguments)?;

@@ -1,5 +1,6 @@
 //! What stands above a procedure, and what a walk through its text keeps.
 ghost use Rattle.std.specs.Prelude.{◌≡◌, ◌+◌, ◌<◌, None, option_map, slice_get, take, length, IfOk, OnOk};
+ghost use Rattle.exo_tree.specs.PlainBinder.{binding};
 ghost use Rattle.exo_meaning.specs.Scene.{updated};
 ghost use Rattle.exo_meaning.specs.Units.{with_name};
 ghost use Rattle.rules_names.specs.Names.{named_in, name_number};
@@ -12,7 +13,7 @@ ghost use Rattle.exo_types.specs.Walks.{signatures_in};
 
 use crate::call::Callee;
 use exo_modes::{Above, Alias, root, set_root};
-use exo_tree::{Id, StatementLines};
+use exo_tree::{Binder, Id, Name, StatementLines};
 use rules_names::scope::{Meant, Scope, Sort};
 use rules_names::table::{FieldTable, NameTable};
 use std::alloc::{AllocError, Global};
@@ -76,10 +77,10 @@ impl<'c> Context<'c> {
 
 impl<'c> Walk<'c> {
     /// Puts a name into scope, with the next id.
-    pub fn bind(&mut self, name: &'c str, sort: Sort) -> Result<Id, AllocError>
+    pub fn bind(&mut self, alloc: Global, name: &'c str, sort: Sort) -> Result<Binder, AllocError>
         requires new { named_in self.old.scope name.now ≡ None }
         requires few { self.old.next_id < 4294967295 }
-        ensures id { IfOk result (λ id. id.0 ≡ self.old.next_id) }
+        ensures binder { IfOk result (λ b. binding b ≡ binder self.old.next_id name.now) }
         ensures scope { OnOk result (self.new.scope ≡ with_name self.old.scope (binder self.old.next_id name.now) (sort_meant sort)) }
         ensures next { OnOk result (self.new.next_id ≡ self.old.next_id + 1) }
         ensures aliases { OnOk result (self.new.aliases.items ≡ self.old.aliases.items) }
@@ -87,31 +88,42 @@ impl<'c> Walk<'c> {
     {
         let id = Id(self.next_id);
         self.scope.push(name, Meant { id, sort })?;
+        let name = Name::new(alloc, name)?;
         self.next_id += 1;
-        Ok(id)
+        Ok(Binder { id, name })
     }
 
     /// Puts a buffer into scope.
-    pub fn bind_buffer(&mut self, name: &'c str, sort: Sort) -> Result<Id, AllocError>
+    pub fn bind_buffer(
+        &mut self,
+        alloc: Global,
+        name: &'c str,
+        sort: Sort,
+    ) -> Result<Binder, AllocError>
         requires new { named_in self.old.scope name.now ≡ None }
         requires few { self.old.next_id < 4294967295 }
-        ensures id { IfOk result (λ id. id.0 ≡ self.old.next_id) }
+        ensures binder { IfOk result (λ b. binding b ≡ binder self.old.next_id name.now) }
         ensures scope { OnOk result (self.new.scope ≡ with_name self.old.scope (binder self.old.next_id name.now) (sort_meant sort)) }
         ensures next { OnOk result (self.new.next_id ≡ self.old.next_id + 1) }
         ensures roots { OnOk result (roots_in self.new.aliases.items ≡ updated (roots_in self.old.aliases.items) self.old.next_id self.old.next_id) }
         ensures kept { OnOk result (take (length self.old.aliases.items) self.new.aliases.items ≡ self.old.aliases.items) }
         ensures lines { OnOk result (self.new.lines ≡ self.old.lines) }
     {
-        let id = self.bind(name, sort)?;
-        set_root(&mut self.aliases, id.0, id.0)?;
-        Ok(id)
+        set_root(&mut self.aliases, self.next_id, self.next_id)?;
+        self.bind(alloc, name, sort)
     }
 
     /// Puts a view of a buffer or view into scope.
-    pub fn bind_view(&mut self, name: &'c str, of: Id, sort: Sort) -> Result<Id, AllocError>
+    pub fn bind_view(
+        &mut self,
+        alloc: Global,
+        name: &'c str,
+        of: Id,
+        sort: Sort,
+    ) -> Result<Binder, AllocError>
         requires new { named_in self.old.scope name.now ≡ None }
         requires few { self.old.next_id < 4294967295 }
-        ensures id { IfOk result (λ id. id.0 ≡ self.old.next_id) }
+        ensures binder { IfOk result (λ b. binding b ≡ binder self.old.next_id name.now) }
         ensures scope { OnOk result (self.new.scope ≡ with_name self.old.scope (binder self.old.next_id name.now) (sort_meant sort)) }
         ensures next { OnOk result (self.new.next_id ≡ self.old.next_id + 1) }
         ensures roots { OnOk result (roots_in self.new.aliases.items ≡ updated (roots_in self.old.aliases.items) self.old.next_id (roots_in self.old.aliases.items of.0)) }
@@ -119,8 +131,7 @@ impl<'c> Walk<'c> {
         ensures lines { OnOk result (self.new.lines ≡ self.old.lines) }
     {
         let buffer = root(&self.aliases, of.0);
-        let id = self.bind(name, sort)?;
-        set_root(&mut self.aliases, id.0, buffer)?;
-        Ok(id)
+        set_root(&mut self.aliases, self.next_id, buffer)?;
+        self.bind(alloc, name, sort)
     }
 }

@@ -1,7 +1,7 @@
 //! Procedures and instructions: parameters, assertions and bodies.
 ghost use Rattle.std.specs.Prelude.{◌≡◌, ◌+◌, ◌≤◌, ◌<◌, [], List, map, length, IfOk, MatchResult};
 ghost use Rattle.exo_tree.specs.Tree.{ConfigField};
-ghost use Rattle.exo_tree.specs.PlainParam.{parameter, parameter_kind};
+ghost use Rattle.exo_tree.specs.PlainParam.{parameter_kind};
 ghost use Rattle.exo_meaning.specs.Units as units;
 ghost use Rattle.text_expressions.specs.Views.{tree_of};
 ghost use Rattle.exo_reader.specs.Views.{plain_kind, plain_form, plain_parameter, plain_definition};
@@ -15,17 +15,16 @@ ghost use Rattle.exo_types.specs.ItemRules.{form_width, parameter_width, params_
 ghost use Rattle.exo_types.specs.Refusals.{Refuses};
 ghost use Rattle.exo_types.specs.Walks.{HasRoom};
 ghost use Rattle.exo_types.specs.Definitions as definitions;
-ghost use Rattle.exo_types.specs.Definitions.{HasSpace, IsParam, AreParams, IsAssert, AreAsserts, IsDefined};
+ghost use Rattle.exo_types.specs.Definitions.{HasSpace, IsPut, AreParams, IsAssert, AreAsserts, IsDefined};
 
 use crate::context::{Context, Walk};
 use crate::part::{binder_charge, comma_width, end_of_memory, memory_charge, memory_of, test_dims};
 use crate::refusal::{Refusal, keep};
-use crate::statement::block_of;
+use crate::statement::add_statements;
 use crate::types::{cell_charge, cell_of, kind_named};
 use exo_reader::source::{SourceDef, SourceKind, SourceParam, SourceType};
 use exo_tree::{
-    Binder, Cond, Conds, Indices, Name, Param, ParamKind, Params, Proc, StatementLines,
-    Text as Template,
+    Block, Conds, Indices, Name, Param, ParamKind, Params, Proc, StatementLines, Text as Template,
 };
 use rules_names::control::{test_condition, test_controls};
 use rules_names::error::TypeKind;
@@ -164,16 +163,16 @@ fn test_param(context: &Context, walk: &Walk, n: usize, param: &SourceParam) -> 
     (taken.and(form), end_of_memory(end, &param.memory))
 }
 
-/// The parameter whose first token is `n`, and the number of the token behind it.
-fn param_of<'c>(
+/// Puts the parameter last whose first token is `n`. Gives the number of the token behind it.
+fn add_param<'c>(
     context: &Context<'c>,
     walk: &mut Walk<'c>,
     n: usize,
     param: &'c SourceParam,
-) -> Result<(Param, usize), Refusal>
+    made: &mut Params,
+) -> Result<usize, Refusal>
     requires { HasRoom context.now walk.old n (parameter_width (plain_parameter param.now)) }
-    ensures made { MatchResult result (λ r. IsParam context.now walk.old walk.new (parameter r.0) n (plain_parameter param.now)) (λ e. Refuses e (definitions.param_fault context.now walk.old n (plain_parameter param.now))) }
-    ensures end { IfOk result (λ r. r.1 ≡ n + parameter_width (plain_parameter param.now)) }
+    ensures { MatchResult result (λ end. IsPut context.now walk.old walk.new made.old made.new n end (plain_parameter param.now)) (λ e. Refuses e (definitions.param_fault context.now walk.old n (plain_parameter param.now))) }
 {
     let (charge, end) = test_param(context, walk, n, param);
     keep(charge)?;
@@ -188,45 +187,44 @@ fn param_of<'c>(
         &param.form,
         &param.memory,
     )?;
-    let id = walk.bind(param.name.as_str(), param_sort(&kind))?;
-    let name = Name::new(context.alloc, param.name.as_str())?;
-    let binder = Binder { id, name };
-    Ok((Param { binder, kind }, end))
+    let binder = walk.bind(context.alloc, param.name.as_str(), param_sort(&kind))?;
+    made.push(Param { binder, kind })?;
+    Ok(end)
 }
 
-/// The parameters of a procedure, whose first token is `n`, and the number of the token behind the parenthesis that closes them,
-/// if no comma stands before it.
-fn params_of<'c>(
+/// Makes the parameters of a procedure, the first token of which is `n`. Gives the number of the token behind the parenthesis that
+/// closes them, if no comma stands before it.
+fn add_params<'c>(
     context: &Context<'c>,
     walk: &mut Walk<'c>,
     n: usize,
     params: &'c [SourceParam],
-) -> Result<(Params, usize), Refusal>
-    requires { HasRoom context.now walk.old n (params_width (map plain_parameter params.now)) }
-    ensures made { MatchResult result (λ r. AreParams context.now walk.old walk.new r.0 n (map plain_parameter params.now)) (λ e. Refuses e (definitions.params_fault context.now walk.old n (map plain_parameter params.now))) }
-    ensures end { IfOk result (λ r. r.1 ≡ n + params_width (map plain_parameter params.now)) }
+    made: &mut Params,
+) -> Result<usize, Refusal>
+    requires room { HasRoom context.now walk.old n (params_width (map plain_parameter params.now)) }
+    requires empty { made.old ≡ [] }
+    ensures made { MatchResult result (λ _. AreParams context.now walk.old walk.new made.new n (map plain_parameter params.now)) (λ e. Refuses e (definitions.params_fault context.now walk.old n (map plain_parameter params.now))) }
+    ensures end { IfOk result (λ end. end ≡ n + params_width (map plain_parameter params.now)) }
 {
-    let mut made = Params::new(context.alloc);
     let mut next = n;
     for param in params {
-        let (one, end) = param_of(context, walk, next, param)?;
-        made.push(one)?;
-        next = end + 1;
+        next = add_param(context, walk, next, param, made)? + 1;
     }
     let end = if params.is_empty() { n + 1 } else { next };
-    Ok((made, end))
+    Ok(end)
 }
 
-/// The assertion whose `assert` is token `n`, and the number of the token behind its line.
-fn assert_of(
+/// Puts the assertion last whose `assert` is token `n`. Gives the number of the token behind its line.
+fn add_assert(
     context: &Context,
     scope: &Scope,
     n: usize,
     e: &SourceExpr,
-) -> Result<(Cond, usize), Refusal>
+    made: &mut Conds,
+) -> Result<usize, Refusal>
     requires { n + width (tree_of e.now) + 2 ≤ most_tokens }
-    ensures made { MatchResult result (λ r. IsAssert context.now scope.now n r.0 (tree_of e.now)) (λ r. Refuses r (definitions.assert_fault context.now scope.now n (tree_of e.now))) }
-    ensures end { IfOk result (λ r. r.1 ≡ n + width (tree_of e.now) + 2) }
+    ensures made { MatchResult result (λ _. IsAssert context.now scope.now n made.old made.new (tree_of e.now)) (λ r. Refuses r (definitions.assert_fault context.now scope.now n (tree_of e.now))) }
+    ensures end { IfOk result (λ end. end ≡ n + width (tree_of e.now) + 2) }
 {
     let names = Names {
         fields: context.fields,
@@ -234,28 +232,28 @@ fn assert_of(
     };
     let tested = test_condition(&names, WITH_BOTH, n + 1, e);
     keep(tested.charge)?;
-    Ok((condition_of(context.alloc, &names, e)?, tested.end + 1))
+    made.push(condition_of(context.alloc, &names, e)?)?;
+    Ok(tested.end + 1)
 }
 
-/// The assertions of a procedure, whose first token is `n`, and the number of the token behind them.
-fn asserts_of(
+/// Makes the assertions of a procedure, the first token of which is `n`. Gives the number of the token behind them.
+fn add_asserts(
     context: &Context,
     scope: &Scope,
     n: usize,
     asserts: &[SourceExpr],
-) -> Result<(Conds, usize), Refusal>
-    requires { n + asserts_width (map tree_of asserts.now) ≤ most_tokens }
-    ensures made { MatchResult result (λ r. AreAsserts context.now scope.now n r.0 (map tree_of asserts.now)) (λ r. Refuses r (definitions.asserts_fault context.now scope.now n (map tree_of asserts.now))) }
-    ensures end { IfOk result (λ r. r.1 ≡ n + asserts_width (map tree_of asserts.now)) }
+    made: &mut Conds,
+) -> Result<usize, Refusal>
+    requires room { n + asserts_width (map tree_of asserts.now) ≤ most_tokens }
+    requires empty { made.old ≡ [] }
+    ensures made { MatchResult result (λ _. AreAsserts context.now scope.now n made.new (map tree_of asserts.now)) (λ r. Refuses r (definitions.asserts_fault context.now scope.now n (map tree_of asserts.now))) }
+    ensures end { IfOk result (λ end. end ≡ n + asserts_width (map tree_of asserts.now)) }
 {
-    let mut made = Conds::new(context.alloc);
     let mut next = n;
     for e in asserts {
-        let (one, end) = assert_of(context, scope, next, e)?;
-        made.push(one)?;
-        next = end;
+        next = add_assert(context, scope, next, e, made)?;
     }
-    Ok((made, next))
+    Ok(next)
 }
 
 /// What is made of a procedure: its tree, the lines of its statements, the id of the next binder, and the number of the token
@@ -283,33 +281,63 @@ fn first_walk<'c>(alloc: Global, first_id: u32) -> Walk<'c>
     }
 }
 
-/// The procedure of a definition whose `def` is token `n`, and the number of the token behind it. No name is given yet.
-fn procedure_of<'c>(
+/// A procedure of that name, of which no more is made yet.
+fn empty_procedure(
+    alloc: Global,
+    name: &str,
+    template: Option<Template>,
+) -> Result<Proc, AllocError>
+    ensures name { IfOk result (λ p. p.name ≡ name.now) }
+    ensures params { IfOk result (λ p. p.params ≡ []) }
+    ensures asserts { IfOk result (λ p. p.asserts ≡ []) }
+    ensures body { IfOk result (λ p. p.body ≡ []) }
+    ensures template { IfOk result (λ p. p.template ≡ template) }
+{
+    let name = Name::new(alloc, name)?;
+    Ok(Proc {
+        name,
+        params: Params::new(alloc),
+        asserts: Conds::new(alloc),
+        body: Block::new(alloc),
+        template,
+    })
+}
+
+/// Makes the parts of a procedure whose `def` is token `n`. Gives the number of the token behind it. No name is given yet.
+fn fill<'c>(
     context: &Context<'c>,
     walk: &mut Walk<'c>,
     n: usize,
-    template: Option<Template>,
     definition: &'c SourceDef,
-) -> Result<(Proc, usize), Refusal>
+    made: &mut Proc,
+) -> Result<usize, Refusal>
     requires scope { walk.old.scope ≡ [] }
     requires aliases { walk.old.aliases.items ≡ [] }
     requires lines { walk.old.lines ≡ [] }
     requires space { HasSpace context.now walk.old.next_id n (plain_definition definition.now) }
-    ensures { MatchResult result (λ r. IsDefined context.now walk.old.next_id template n (record { procedure = r.0; lines = walk.new.lines; next_id = walk.new.next_id; end = r.1 }) (plain_definition definition.now)) (λ e. Refuses e (definitions.definition_fault context.now walk.old.next_id n (plain_definition definition.now))) }
+    requires name { made.old.name ≡ definition.now.name }
+    requires params { made.old.params ≡ [] }
+    requires asserts { made.old.asserts ≡ [] }
+    requires body { made.old.body ≡ [] }
+    ensures { MatchResult result (λ end. IsDefined context.now walk.old.next_id made.old.template n (record { procedure = made.new; lines = walk.new.lines; next_id = walk.new.next_id; end = end }) (plain_definition definition.now)) (λ e. Refuses e (definitions.definition_fault context.now walk.old.next_id n (plain_definition definition.now))) }
 {
-    let name = Name::new(context.alloc, definition.name.as_str())?;
-    let (params, closed) = params_of(context, walk, n + 3, &definition.params.items)?;
+    let closed = add_params(
+        context,
+        walk,
+        n + 3,
+        &definition.params.items,
+        &mut made.params,
+    )?;
     let start = closed + comma_width(definition.params.trailing) + 3;
-    let (asserts, middle) = asserts_of(context, &walk.scope, start, &definition.asserts)?;
-    let (body, end) = block_of(context, walk, middle, &definition.body)?;
-    let made = Proc {
-        name,
-        params,
-        asserts,
-        body,
-        template,
-    };
-    Ok((made, end + 1))
+    let middle = add_asserts(
+        context,
+        &walk.scope,
+        start,
+        &definition.asserts,
+        &mut made.asserts,
+    )?;
+    let end = add_statements(context, walk, middle, &definition.body, &mut made.body)?;
+    Ok(end + 1)
 }
 
 /// The procedure of a definition whose `def` is token `n`, and whose first binder gets that id.
@@ -323,8 +351,9 @@ pub fn definition_of<'c>(
     requires { HasSpace context.now first_id n (plain_definition definition.now) }
     ensures { MatchResult result (λ r. IsDefined context.now first_id template n r (plain_definition definition.now)) (λ e. Refuses e (definitions.definition_fault context.now first_id n (plain_definition definition.now))) }
 {
+    let mut procedure = empty_procedure(context.alloc, definition.name.as_str(), template)?;
     let mut walk = first_walk(context.alloc, first_id);
-    let (procedure, end) = procedure_of(context, &mut walk, n, template, definition)?;
+    let end = fill(context, &mut walk, n, definition, &mut procedure)?;
     Ok(Defined {
         procedure,
         lines: walk.lines,

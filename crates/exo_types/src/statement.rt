@@ -1,19 +1,23 @@
 //! Statements and blocks.
-ghost use Rattle.std.specs.Prelude.{◌≡◌, ◌+◌, ◌≤◌, map, length, IfOk};
+ghost use Rattle.std.specs.Prelude.{◌≡◌, ◌+◌, ◌≤◌, ◌∷◌, ◌++◌, [], map, length, IfOk, OnOk};
 ghost use Rattle.exo_meaning.specs.Units as units;
-ghost use Rattle.exo_tree.specs.PlainControl.{control};
+ghost use Rattle.exo_tree.specs.Tree as tree;
+ghost use Rattle.exo_tree.specs.PlainBinder.{binding};
+ghost use Rattle.exo_tree.specs.PlainDatum.{datum};
+ghost use Rattle.exo_tree.specs.PlainStatement.{statement};
 ghost use Rattle.rules_names.specs.Resolved.{control_of};
 ghost use Rattle.text_expressions.specs.Views.{tree_of};
-ghost use Rattle.exo_reader.specs.Source.{branch, loop, allocate, call, configure, assign, reduce, view, block_of};
+ghost use Rattle.exo_reader.specs.Source.{branch, loop, allocate, call, configure, view, block_of};
 ghost use Rattle.exo_reader.specs.Source as source;
 ghost use Rattle.exo_reader.specs.Views.{plain_coordinate, plain_argument, plain_kind, plain_statement};
 ghost use Rattle.rules_names.specs.Faults.{charged};
 ghost use Rattle.rules_names.specs.Tables.{sort_meant};
 ghost use Rattle.rules_names.specs.Tests.{sort_seen, most_tokens};
 ghost use Rattle.rules_names.specs.ExpressionRules.{width};
+ghost use Rattle.exo_types.specs.ArgumentRules.{dims_width};
 ghost use Rattle.exo_types.specs.StatementRules.{statement_width, block_width, else_width};
 ghost use Rattle.exo_types.specs.Walks as walks;
-ghost use Rattle.exo_types.specs.Walks.{HasRoom, Makes, MakesBlock};
+ghost use Rattle.exo_types.specs.Walks.{HasRoom, stored, stored_tree, Puts, MakesBlock};
 
 use crate::argument::{kind_of, spans, test_kind};
 use crate::call::{arguments_of, test_call};
@@ -24,7 +28,7 @@ use crate::part::{
 use crate::refusal::{Refusal, keep, unknown_name};
 use crate::types::{cell_charge, cell_of};
 use exo_reader::source::{SourceArgs, SourceCoord, SourceKind, SourceStmt};
-use exo_tree::{Binder, Block, Cell, Ctrl, Kind, Name, ProcId, Stmt};
+use exo_tree::{Binder, Block, Cell, DataExpr, Id, Indices, Kind, ProcId, Stmt};
 use rules_names::control::{test_condition, test_control};
 use rules_names::fault::Charge;
 use rules_names::resolved::{
@@ -37,18 +41,30 @@ use std::alloc::AllocError;
 use text_expressions::source::SourceExpr;
 use text_lexer::text::Text;
 
-/// An assignment whose first token is `n`, and the number of the token behind it.
-fn assign_of(
+/// A write of a cell: a reduction, or an assignment.
+fn stored(reduces: bool, of: Id, indices: Indices, value: DataExpr) -> Stmt
+    ensures { statement result ≡ stored_tree reduces of.0 indices (datum value) }
+{
+    if reduces {
+        Stmt::Reduce(of, indices, value)
+    } else {
+        Stmt::Assign(of, indices, value)
+    }
+}
+
+/// Puts an assignment or a reduction last whose first token is `n`. Gives the number of the token behind it.
+fn add_store(
     context: &Context,
     walk: &Walk,
     n: usize,
+    reduces: bool,
     x: &Text,
     dims: &[SourceExpr],
     e: &SourceExpr,
-) -> Result<(Stmt, usize), Refusal>
-    requires { n + statement_width (assign x.now (map tree_of dims.now) (tree_of e.now)) ≤ most_tokens }
-    ensures made { Makes context.now walk.now walk.now n (assign x.now (map tree_of dims.now) (tree_of e.now)) result }
-    ensures end { IfOk result (λ r. r.1 ≡ n + statement_width (assign x.now (map tree_of dims.now) (tree_of e.now))) }
+    made: &mut Block,
+) -> Result<usize, Refusal>
+    requires { n + (1 + dims_width (map tree_of dims.now) + 1 + width (tree_of e.now) + 1) ≤ most_tokens }
+    ensures { Puts context.now walk.now walk.now made.old made.new n (stored reduces x.now (map tree_of dims.now) (tree_of e.now)) result }
 {
     let names = Names {
         fields: context.fields,
@@ -58,45 +74,22 @@ fn assign_of(
     keep(charge)?;
     let indices = indices_of(context.alloc, &names, dims)?;
     let value = data_of(context.alloc, &names, e)?;
-    Ok((Stmt::Assign(id_in(&names, x.as_str()), indices, value), end))
+    made.push(stored(reduces, id_in(&names, x.as_str()), indices, value))?;
+    Ok(end)
 }
 
-/// A reduction whose first token is `n`, and the number of the token behind it.
-fn reduce_of(
-    context: &Context,
-    walk: &Walk,
-    n: usize,
-    x: &Text,
-    dims: &[SourceExpr],
-    e: &SourceExpr,
-) -> Result<(Stmt, usize), Refusal>
-    requires { n + statement_width (reduce x.now (map tree_of dims.now) (tree_of e.now)) ≤ most_tokens }
-    ensures made { Makes context.now walk.now walk.now n (reduce x.now (map tree_of dims.now) (tree_of e.now)) result }
-    ensures end { IfOk result (λ r. r.1 ≡ n + statement_width (reduce x.now (map tree_of dims.now) (tree_of e.now))) }
-{
-    let names = Names {
-        fields: context.fields,
-        scope: &walk.scope,
-    };
-    let (charge, end) = test_store(&names, n, x, dims, e);
-    keep(charge)?;
-    let indices = indices_of(context.alloc, &names, dims)?;
-    let value = data_of(context.alloc, &names, e)?;
-    Ok((Stmt::Reduce(id_in(&names, x.as_str()), indices, value), end))
-}
-
-/// A write of a configuration field whose first token is `n`, and the number of the token behind it.
-fn config_of(
+/// Puts a write of a configuration field last whose first token is `n`. Gives the number of the token behind it.
+fn add_config(
     context: &Context,
     walk: &Walk,
     n: usize,
     config: &Text,
     field: &Text,
     e: &SourceExpr,
-) -> Result<(Stmt, usize), Refusal>
+    made: &mut Block,
+) -> Result<usize, Refusal>
     requires { n + statement_width (configure config.now field.now (tree_of e.now)) ≤ most_tokens }
-    ensures made { Makes context.now walk.now walk.now n (configure config.now field.now (tree_of e.now)) result }
-    ensures end { IfOk result (λ r. r.1 ≡ n + statement_width (configure config.now field.now (tree_of e.now))) }
+    ensures { Puts context.now walk.now walk.now made.old made.new n (configure config.now field.now (tree_of e.now)) result }
 {
     let Some((number, kind)) = context.fields.get(config.as_str(), field.as_str()) else {
         return Err(unknown_name(n));
@@ -108,21 +101,22 @@ fn config_of(
     let tested = test_kind(&names, WITH_STRIDES, kind, n + 4, e);
     keep(tested.charge)?;
     let value = kind_of(context.alloc, &names, kind, e)?;
-    Ok((Stmt::Config(number, value), tested.end + 1))
+    made.push(Stmt::Config(number, value))?;
+    Ok(tested.end + 1)
 }
 
-/// A call whose name is token `n`, and the number of the token behind it.
-fn call_of(
+/// Puts a call last whose name is token `n`. Gives the number of the token behind it.
+fn add_call(
     context: &Context,
     walk: &Walk,
     n: usize,
     name: &Text,
     arguments: &SourceArgs,
-) -> Result<(Stmt, usize), Refusal>
+    made: &mut Block,
+) -> Result<usize, Refusal>
     requires room { n + statement_width (call name.now (map plain_argument arguments.now.items.items) arguments.now.trailing) ≤ most_tokens }
     requires few { length context.now.procedures.now ≤ 4294967295 }
-    ensures made { Makes context.now walk.now walk.now n (call name.now (map plain_argument arguments.now.items.items) arguments.now.trailing) result }
-    ensures end { IfOk result (λ r. r.1 ≡ n + statement_width (call name.now (map plain_argument arguments.now.items.items) arguments.now.trailing)) }
+    ensures { Puts context.now walk.now walk.now made.old made.new n (call name.now (map plain_argument arguments.now.items.items) arguments.now.trailing) result }
 {
     let names = Names {
         fields: context.fields,
@@ -135,11 +129,12 @@ fn call_of(
         return Err(unknown_name(n));
     };
     let given = arguments.items.as_slice();
-    let (charge, end) = test_call(context.alloc, &names, &walk.aliases, Some(callee), n, given)?;
+    let (charge, end) = test_call(context.alloc, &names, &walk.aliases, callee, n, given)?;
     keep(charge)?;
-    let made = arguments_of(context.alloc, &names, callee.params.as_slice(), given)?;
+    let args = arguments_of(context.alloc, &names, callee.params.as_slice(), given)?;
+    made.push(Stmt::Call(ProcId(number as u32), args))?;
     let comma = comma_width(arguments.trailing);
-    Ok((Stmt::Call(ProcId(number as u32), made), end + comma + 1))
+    Ok(end + comma + 1)
 }
 
 /// The charge of an allocation whose name is token `n`, and the number of the token behind it.
@@ -167,8 +162,8 @@ fn test_alloc(
     (charge, end_of_memory(end, memory) + 1)
 }
 
-/// An allocation whose name is token `n`, and the number of the token behind it.
-fn alloc_of<'c>(
+/// Puts an allocation last whose name is token `n`. Gives the number of the token behind it.
+fn add_alloc<'c>(
     context: &Context<'c>,
     walk: &mut Walk<'c>,
     n: usize,
@@ -176,10 +171,10 @@ fn alloc_of<'c>(
     kind: &SourceKind,
     dims: &[SourceExpr],
     memory: &Option<Text>,
-) -> Result<(Stmt, usize), Refusal>
+    made: &mut Block,
+) -> Result<usize, Refusal>
     requires { HasRoom context.now walk.old n (statement_width (allocate x.now (plain_kind kind.now) (map tree_of dims.now) memory.now)) }
-    ensures made { Makes context.now walk.old walk.new n (allocate x.now (plain_kind kind.now) (map tree_of dims.now) memory.now) result }
-    ensures end { IfOk result (λ r. r.1 ≡ n + statement_width (allocate x.now (plain_kind kind.now) (map tree_of dims.now) memory.now)) }
+    ensures { Puts context.now walk.old walk.new made.old made.new n (allocate x.now (plain_kind kind.now) (map tree_of dims.now) memory.now) result }
 {
     let (charge, end) = test_alloc(context, walk, n, x, kind, dims, memory);
     keep(charge)?;
@@ -190,9 +185,10 @@ fn alloc_of<'c>(
     let indices = indices_of(context.alloc, &names, dims)?;
     let cell = cell_of(kind);
     let home = memory_of(context.memories, memory);
-    let id = walk.bind_buffer(x.as_str(), Sort::Buffer(cell, dims.len(), true))?;
-    let name = Name::new(context.alloc, x.as_str())?;
-    Ok((Stmt::Alloc(Binder { id, name }, cell, indices, home), end))
+    let sort = Sort::Buffer(cell, dims.len(), true);
+    let binder = walk.bind_buffer(context.alloc, x.as_str(), sort)?;
+    made.push(Stmt::Alloc(binder, cell, indices, home))?;
+    Ok(end)
 }
 
 /// What a view of that rank stands for; of what is no buffer there is none.
@@ -228,18 +224,18 @@ fn test_view(
     (name.and(window), end + 1)
 }
 
-/// A view whose name is token `n`, and the number of the token behind it.
-fn view_of<'c>(
+/// Puts a view last whose name is token `n`. Gives the number of the token behind it.
+fn add_view<'c>(
     context: &Context<'c>,
     walk: &mut Walk<'c>,
     n: usize,
     w: &'c Text,
     x: &Text,
     coords: &[SourceCoord],
-) -> Result<(Stmt, usize), Refusal>
+    made: &mut Block,
+) -> Result<usize, Refusal>
     requires { HasRoom context.now walk.old n (statement_width (view w.now x.now (map plain_coordinate coords.now))) }
-    ensures made { Makes context.now walk.old walk.new n (view w.now x.now (map plain_coordinate coords.now)) result }
-    ensures end { IfOk result (λ r. r.1 ≡ n + statement_width (view w.now x.now (map plain_coordinate coords.now))) }
+    ensures { Puts context.now walk.old walk.new made.old made.new n (view w.now x.now (map plain_coordinate coords.now)) result }
 {
     let (charge, end) = test_view(context, walk, n, w, x, coords);
     keep(charge)?;
@@ -249,52 +245,57 @@ fn view_of<'c>(
     };
     let of = id_in(&names, x.as_str());
     let sort = view_sort(names.scope.sort(x.as_str()), spans(coords));
-    let made = coordinates_of(context.alloc, &names, coords)?;
-    let id = walk.bind_view(w.as_str(), of, sort)?;
-    let name = Name::new(context.alloc, w.as_str())?;
-    Ok((Stmt::View(Binder { id, name }, of, made), end))
+    let window = coordinates_of(context.alloc, &names, coords)?;
+    let binder = walk.bind_view(context.alloc, w.as_str(), of, sort)?;
+    made.push(Stmt::View(binder, of, window))?;
+    Ok(end)
 }
 
-/// A statement whose first token is `n`, and the number of the token behind it.
+/// Puts a statement last whose first token is `n`. Gives the number of the token behind it.
 #[cycle(statements)]
-fn statement_of<'c>(
+fn add_statement<'c>(
     context: &Context<'c>,
     walk: &mut Walk<'c>,
     n: usize,
     s: &'c SourceStmt,
-) -> Result<(Stmt, usize), Refusal>
+    made: &mut Block,
+) -> Result<usize, Refusal>
     requires { HasRoom context.now walk.old n (statement_width (plain_statement s.now)) }
-    ensures made { Makes context.now walk.old walk.new n (plain_statement s.now) result }
-    ensures end { IfOk result (λ r. r.1 ≡ n + statement_width (plain_statement s.now)) }
+    ensures { Puts context.now walk.old walk.new made.old made.new n (plain_statement s.now) result }
 {
     match s {
-        SourceStmt::Pass => Ok((Stmt::Pass, n + 2)),
-        SourceStmt::If(c, a, b) => branch_of(context, walk, n, c, a, b),
-        SourceStmt::For(i, low, high, a) => loop_of(context, walk, n, i, low, high, a),
-        SourceStmt::Alloc(x, kind, dims, memory) => {
-            alloc_of(context, walk, n, x, kind, dims, memory)
+        SourceStmt::Pass => {
+            made.push(Stmt::Pass)?;
+            Ok(n + 2)
         }
-        SourceStmt::Call(name, arguments) => call_of(context, walk, n, name, arguments),
-        SourceStmt::Config(config, field, e) => config_of(context, walk, n, config, field, e),
-        SourceStmt::Assign(x, dims, e) => assign_of(context, walk, n, x, dims, e),
-        SourceStmt::Reduce(x, dims, e) => reduce_of(context, walk, n, x, dims, e),
-        SourceStmt::View(w, x, coords) => view_of(context, walk, n, w, x, coords),
+        SourceStmt::If(c, a, b) => add_branch(context, walk, n, c, a, b, made),
+        SourceStmt::For(i, low, high, a) => add_loop(context, walk, n, i, low, high, a, made),
+        SourceStmt::Alloc(x, kind, dims, memory) => {
+            add_alloc(context, walk, n, x, kind, dims, memory, made)
+        }
+        SourceStmt::Call(name, arguments) => add_call(context, walk, n, name, arguments, made),
+        SourceStmt::Config(config, field, e) => {
+            add_config(context, walk, n, config, field, e, made)
+        }
+        SourceStmt::Assign(x, dims, e) => add_store(context, walk, n, false, x, dims, e, made),
+        SourceStmt::Reduce(x, dims, e) => add_store(context, walk, n, true, x, dims, e, made),
+        SourceStmt::View(w, x, coords) => add_view(context, walk, n, w, x, coords, made),
     }
 }
 
-/// A branch whose first token is `n`, and the number of the token behind it.
+/// Puts a branch last whose first token is `n`. Gives the number of the token behind it.
 #[cycle(statements)]
-fn branch_of<'c>(
+fn add_branch<'c>(
     context: &Context<'c>,
     walk: &mut Walk<'c>,
     n: usize,
     c: &SourceExpr,
     a: &'c [SourceStmt],
     b: &'c [SourceStmt],
-) -> Result<(Stmt, usize), Refusal>
+    made: &mut Block,
+) -> Result<usize, Refusal>
     requires { HasRoom context.now walk.old n (statement_width (branch (tree_of c.now) (block_of (map plain_statement a.now)) (block_of (map plain_statement b.now)))) }
-    ensures made { Makes context.now walk.old walk.new n (branch (tree_of c.now) (block_of (map plain_statement a.now)) (block_of (map plain_statement b.now))) result }
-    ensures end { IfOk result (λ r. r.1 ≡ n + statement_width (branch (tree_of c.now) (block_of (map plain_statement a.now)) (block_of (map plain_statement b.now)))) }
+    ensures { Puts context.now walk.old walk.new made.old made.new n (branch (tree_of c.now) (block_of (map plain_statement a.now)) (block_of (map plain_statement b.now))) result }
 {
     let names = Names {
         fields: context.fields,
@@ -303,31 +304,33 @@ fn branch_of<'c>(
     let tested = test_condition(&names, WITH_FIELDS, n + 1, c);
     keep(tested.charge)?;
     let condition = boxed_condition(context.alloc, &names, c)?;
-    let (then_part, end) = block_of(context, walk, tested.end + 3, a)?;
-    let (else_part, next) = else_of(context, walk, end + 1, b)?;
-    Ok((
-        Stmt::If(Box::into_inner(condition), then_part, else_part),
-        next,
-    ))
+    let mut then_part = Block::new(context.alloc);
+    let end = add_statements(context, walk, tested.end + 3, a, &mut then_part)?;
+    let mut else_part = Block::new(context.alloc);
+    let next = add_else(context, walk, end + 1, b, &mut else_part)?;
+    made.push(Stmt::If(Box::into_inner(condition), then_part, else_part))?;
+    Ok(next)
 }
 
-/// The block of an `else`, which is token `n`, or an empty one, and the number of the token behind it.
+/// Makes the block of an `else`, which is token `n`, or an empty one. Gives the number of the token behind it.
 #[cycle(statements)]
-fn else_of<'c>(
+fn add_else<'c>(
     context: &Context<'c>,
     walk: &mut Walk<'c>,
     n: usize,
     b: &'c [SourceStmt],
-) -> Result<(Block, usize), Refusal>
-    requires { HasRoom context.now walk.old n (else_width (block_of (map plain_statement b.now))) }
-    ensures made { MakesBlock context.now walk.old walk.new (n + 4) (block_of (map plain_statement b.now)) result }
-    ensures end { IfOk result (λ r. r.1 ≡ n + else_width (block_of (map plain_statement b.now))) }
+    made: &mut Block,
+) -> Result<usize, Refusal>
+    requires room { HasRoom context.now walk.old n (else_width (block_of (map plain_statement b.now))) }
+    requires empty { made.old ≡ [] }
+    ensures made { MakesBlock context.now walk.old walk.new made.new (n + 4) (block_of (map plain_statement b.now)) result }
+    ensures end { IfOk result (λ end. end ≡ n + else_width (block_of (map plain_statement b.now))) }
 {
     if b.is_empty() {
-        return Ok((Block::new(context.alloc), n));
+        return Ok(n);
     }
-    let (made, end) = block_of(context, walk, n + 4, b)?;
-    Ok((made, end + 1))
+    let end = add_statements(context, walk, n + 4, b, made)?;
+    Ok(end + 1)
 }
 
 /// The charge of the header of a loop whose first token is `n`, and the number of the token behind its bounds.
@@ -353,39 +356,30 @@ fn test_loop(
     (name.and(first.charge.and(second.charge)), second.end)
 }
 
-/// What stands in the first line of a loop: the name of its variable, and its bounds.
-#[derive(Drop)]
-pub struct LoopHead {
-    pub name: Name,
-    pub from: Ctrl,
-    pub to: Ctrl,
-}
-
-/// The first line of a loop. Its bounds are of names in scope before the loop.
-fn head_of(
+/// Puts a loop over that block last. Its bounds are of names in that scope.
+fn put_loop(
     context: &Context,
     scope: &Scope,
-    i: &Text,
+    binder: Binder,
     low: &SourceExpr,
     high: &SourceExpr,
-) -> Result<Box<LoopHead>, AllocError>
-    ensures name { IfOk result (λ h. h.value.name ≡ i.now) }
-    ensures from { IfOk result (λ h. control h.value.from ≡ control_of context.now.fields.now scope.now (tree_of low.now)) }
-    ensures to { IfOk result (λ h. control h.value.to ≡ control_of context.now.fields.now scope.now (tree_of high.now)) }
+    inside: Block,
+    made: &mut Block,
+) -> Result<(), AllocError>
+    ensures { OnOk result (made.new ≡ made.old ++ tree.For (binding binder) (control_of context.now.fields.now scope.now (tree_of low.now)) (control_of context.now.fields.now scope.now (tree_of high.now)) (tree.block inside) ∷ []) }
 {
     let names = Names {
         fields: context.fields,
         scope,
     };
-    let name = Name::new(context.alloc, i.as_str())?;
     let from = control_of(context.alloc, &names, low)?;
     let to = control_of(context.alloc, &names, high)?;
-    Ok(Box::new(context.alloc, LoopHead { name, from, to })?)
+    made.push(Stmt::For(binder, from, to, inside))
 }
 
-/// A loop whose first token is `n`, and the number of the token behind it. Its bounds do not see its variable.
+/// Puts a loop last whose first token is `n`. Gives the number of the token behind it. Its bounds do not see its variable.
 #[cycle(statements)]
-fn loop_of<'c>(
+fn add_loop<'c>(
     context: &Context<'c>,
     walk: &mut Walk<'c>,
     n: usize,
@@ -393,45 +387,44 @@ fn loop_of<'c>(
     low: &SourceExpr,
     high: &SourceExpr,
     a: &'c [SourceStmt],
-) -> Result<(Stmt, usize), Refusal>
+    made: &mut Block,
+) -> Result<usize, Refusal>
     requires { HasRoom context.now walk.old n (statement_width (loop i.now (tree_of low.now) (tree_of high.now) (block_of (map plain_statement a.now)))) }
-    ensures made { Makes context.now walk.old walk.new n (loop i.now (tree_of low.now) (tree_of high.now) (block_of (map plain_statement a.now))) result }
-    ensures end { IfOk result (λ r. r.1 ≡ n + statement_width (loop i.now (tree_of low.now) (tree_of high.now) (block_of (map plain_statement a.now)))) }
+    ensures { Puts context.now walk.old walk.new made.old made.new n (loop i.now (tree_of low.now) (tree_of high.now) (block_of (map plain_statement a.now))) result }
 {
     let (charge, bounds_end) = test_loop(context, walk, n, i, low, high);
     keep(charge)?;
-    let head = head_of(context, &walk.scope, i, low, high)?;
     let known = walk.scope.len();
-    let id = walk.bind(i.as_str(), Sort::Control(Kind::Index))?;
-    let (inside, end) = block_of(context, walk, bounds_end + 4, a)?;
+    let binder = walk.bind(context.alloc, i.as_str(), Sort::Control(Kind::Index))?;
+    let mut inside = Block::new(context.alloc);
+    let end = add_statements(context, walk, bounds_end + 4, a, &mut inside)?;
     walk.scope.truncate(known);
-    let LoopHead { name, from, to } = Box::into_inner(head);
-    Ok((Stmt::For(Binder { id, name }, from, to, inside), end + 1))
+    put_loop(context, &walk.scope, binder, low, high, inside, made)?;
+    Ok(end + 1)
 }
 
-/// The statements of a block whose first token is `n`, and the number of the token behind the last. Names end with it.
+/// Makes a block of the statements, the first token of which is `n`. Gives the number of the token behind the last. Names end with it.
 #[cycle(statements)]
-pub fn block_of<'c>(
+pub fn add_statements<'c>(
     context: &Context<'c>,
     walk: &mut Walk<'c>,
     n: usize,
     statements: &'c [SourceStmt],
-) -> Result<(Block, usize), Refusal>
-    requires { HasRoom context.now walk.old n (block_width (block_of (map plain_statement statements.now))) }
-    ensures made { MakesBlock context.now walk.old walk.new n (block_of (map plain_statement statements.now)) result }
-    ensures end { IfOk result (λ r. r.1 ≡ n + block_width (block_of (map plain_statement statements.now))) }
+    made: &mut Block,
+) -> Result<usize, Refusal>
+    requires room { HasRoom context.now walk.old n (block_width (block_of (map plain_statement statements.now))) }
+    requires empty { made.old ≡ [] }
+    ensures made { MakesBlock context.now walk.old walk.new made.new n (block_of (map plain_statement statements.now)) result }
+    ensures end { IfOk result (λ end. end ≡ n + block_width (block_of (map plain_statement statements.now))) }
 {
     let named = walk.scope.len();
     let viewed = walk.aliases.len();
-    let mut made = Block::new(context.alloc);
     let mut next = n;
     for s in statements {
         walk.lines.push(context.line(next))?;
-        let (one, end) = statement_of(context, walk, next, s)?;
-        made.push(one)?;
-        next = end;
+        next = add_statement(context, walk, next, s, made)?;
     }
     walk.scope.truncate(named);
     walk.aliases.truncate(viewed);
-    Ok((made, next))
+    Ok(next)
 }

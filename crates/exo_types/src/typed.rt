@@ -17,6 +17,7 @@ ghost use Rattle.exo_types.specs.Refusals.{Refuses};
 ghost use Rattle.exo_types.specs.ItemRules.{definition_end, field_of, fields_fault};
 ghost use Rattle.exo_types.specs.UnitRules as rules;
 ghost use Rattle.exo_types.specs.UnitRules.{nothing_above, is_given, item_fault, item_width, procedure_fault};
+ghost use Rattle.exo_types.specs.MemoryRules.{dram};
 ghost use Rattle.exo_types.specs.UnitLines.{line_at};
 ghost use Rattle.exo_types.specs.Standing.{Agrees, IsFew, Stands, HasPlaces, field_fault, here_fault, IsHere, IsPushed, IsProcedure, IsAdded};
 
@@ -28,7 +29,7 @@ use crate::template::is_template;
 use crate::types::{kind_charge, kind_of};
 use exo_modes::{Above, Row, row_of};
 use exo_reader::source::{SourceAttribute, SourceDef, SourceField, SourceItem};
-use exo_tree::{Block, Field, Fields, Lines, Memories, Name, Proc, ProcLines, Procs, Text, Unit};
+use exo_tree::{Field, Fields, Lines, Memories, Name, Proc, ProcLines, Procs, Text, Unit};
 use rules_names::error::TypeKind;
 use rules_names::fault::Charge;
 use rules_names::table::{FieldTable, NameTable};
@@ -125,19 +126,35 @@ fn push_used<'c>(names: &mut NameTable<'c>, name: &'c str, is_used: bool) -> Res
     Ok(())
 }
 
+/// The memory that is always there.
+fn first_memories(alloc: Global) -> Result<Memories, AllocError>
+    ensures { IfOk result (λ l. l ≡ dram ∷ []) }
+{
+    let mut memories = Memories::new(alloc);
+    memories.push(plain_memory(alloc, "DRAM")?)?;
+    Ok(memories)
+}
+
+/// Its name.
+fn first_names<'c>(alloc: Global) -> Result<NameTable<'c>, AllocError>
+    ensures { IfOk result (λ l. l ≡ dram.name ∷ []) }
+{
+    let mut names = NameTable::new(alloc);
+    names.push("DRAM")?;
+    Ok(names)
+}
+
 impl<'c> Typed<'c> {
     /// Nothing but the memory that is always there.
-    pub fn new(alloc: Global) -> Result<Typed<'c>, AllocError>
-        ensures agrees { IfOk result Agrees }
-        ensures few { IfOk result (λ t. IsFew t 0) }
-        ensures stands { IfOk result (λ t. Stands t nothing_above) }
-        ensures lines { IfOk result (λ t. t.unit.lines ≡ []) }
+    pub fn new(alloc: Global) -> Result<Box<Typed<'c>>, AllocError>
+        ensures agrees { IfOk result (λ t. Agrees t.value) }
+        ensures few { IfOk result (λ t. IsFew t.value 0) }
+        ensures stands { IfOk result (λ t. Stands t.value nothing_above) }
+        ensures lines { IfOk result (λ t. t.value.unit.lines ≡ []) }
     {
-        let mut memories = Memories::new(alloc);
-        memories.push(plain_memory(alloc, "DRAM")?)?;
-        let mut names = NameTable::new(alloc);
-        names.push("DRAM")?;
-        Ok(Typed {
+        let names = first_names(alloc)?;
+        let memories = first_memories(alloc)?;
+        let first = Typed {
             unit: Unit {
                 procs: Procs::new(alloc),
                 fields: Fields::new(alloc),
@@ -150,7 +167,15 @@ impl<'c> Typed<'c> {
             fields: FieldTable::new(alloc),
             rows: Vec::new(alloc),
             next_id: 0,
-        })
+        };
+        Ok(Box::new(alloc, first)?)
+    }
+
+    /// The unit alone.
+    pub fn into_unit(self) -> Unit
+        ensures { result ≡ self.entry.unit }
+    {
+        self.unit
     }
 
     /// Whether a name of the top level is given already.
@@ -176,7 +201,7 @@ impl<'c> Typed<'c> {
         Charge::unless(!is_given, TypeKind::Redefined, n)
     }
 
-    /// The procedure whose `def` is token `n`.
+    /// The procedure whose `def` is token `n`, and what its body writes or reduces.
     fn defined(
         &self,
         alloc: Global,
@@ -184,11 +209,12 @@ impl<'c> Typed<'c> {
         n: usize,
         template: Option<Text>,
         definition: &SourceDef,
-    ) -> Result<Defined, Refusal>
+    ) -> Result<(Defined, Row), Refusal>
         requires agrees { Agrees self.now }
         requires few { IsFew self.now n }
         requires places { HasPlaces places.now (definition_end n (plain_definition definition.now)) }
-        ensures { (above : rules.Above) → Stands self.now above → MatchResult result (λ r. IsHere above places.now template n r (plain_definition definition.now)) (λ e. Refuses e (here_fault above n (plain_definition definition.now))) }
+        ensures made { (above : rules.Above) → Stands self.now above → MatchResult result (λ r. IsHere above places.now template n r.0 (plain_definition definition.now)) (λ e. Refuses e (here_fault above n (plain_definition definition.now))) }
+        ensures row { IfOk result (λ r. row_writes r.1 ≡ block_writes self.now.unit.procs (rows_write self.now.rows.items) (λ y. y) (block r.0.procedure.body)) }
     {
         let context = Context {
             alloc,
@@ -201,18 +227,9 @@ impl<'c> Typed<'c> {
                 rows: &self.rows,
             },
         };
-        definition_of(&context, self.next_id, n, template, definition)
-    }
-
-    /// What the body of a procedure writes or reduces that calls those above.
-    fn row_of(&self, alloc: Global, body: &Block) -> Result<Row, AllocError>
-        ensures { IfOk result (λ r. row_writes r ≡ block_writes self.now.unit.procs (rows_write self.now.rows.items) (λ y. y) (block body.now)) }
-    {
-        let above = Above {
-            procs: &self.unit.procs,
-            rows: &self.rows,
-        };
-        row_of(alloc, &above, body)
+        let made = definition_of(&context, self.next_id, n, template, definition)?;
+        let row = row_of(alloc, &context.above, &made.procedure.body)?;
+        Ok((made, row))
     }
 
     /// Puts a procedure last, with what it writes and with its lines.
@@ -226,11 +243,10 @@ impl<'c> Typed<'c> {
         requires { name_number self.old.procedures name.now ≡ None }
         ensures { OnOk result (IsPushed self.old self.new name.now (procedure made) row lines) }
     {
-        self.procedures.push(name)?;
         self.unit.procs.push(made)?;
         self.rows.push(row)?;
         self.unit.lines.push(lines)?;
-        Ok(())
+        self.procedures.push(name)
     }
 
     /// Adds a procedure whose `def` is token `n`. Gives the number of the token behind it.
@@ -248,8 +264,7 @@ impl<'c> Typed<'c> {
         ensures { (above : rules.Above) → Stands self.old above → MatchResult result (λ end. IsProcedure above places.now self.old self.new template n end (plain_definition definition.now)) (λ e. Refuses e (procedure_fault above n (plain_definition definition.now))) }
     {
         keep(self.name_charge(&definition.name, n + 1))?;
-        let made = self.defined(alloc, places, n, template, definition)?;
-        let row = self.row_of(alloc, &made.procedure.body)?;
+        let (made, row) = self.defined(alloc, places, n, template, definition)?;
         let lines = ProcLines {
             def: line_of(places, n),
             statements: made.lines,

@@ -42,8 +42,8 @@ fn unit_of(alloc: Global, places: &[Place], items: &[SourceItem]) -> Result<Unit
     ensures { MatchResult result (IsUnitOf places.now (map plain_item items.now)) (λ e. Refuses e (unit_fault (map plain_item items.now))) }
 {
     let mut typed = Typed::new(alloc)?;
-    add_items(alloc, places, &mut typed, items)?;
-    Ok(typed.unit)
+    add_items(alloc, places, &mut *typed, items)?;
+    Ok(Box::into_inner(typed).into_unit())
 }
 
 /// The error of a refusal.

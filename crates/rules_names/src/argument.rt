@@ -17,7 +17,7 @@ use std::alloc::{AllocError, Global};
 use text_expressions::source::{Operator, SourceExpr};
 
 /// Why an expression in a string is refused.
-#[derive(Clone, Copy, Debug, PartialEq, Eq)]
+#[derive(Clone, Copy, Debug)]
 pub enum ArgError {
     Memory,
     /// It is not of the form that is asked.

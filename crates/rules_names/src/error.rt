@@ -3,7 +3,7 @@
 use thiserror::Error;
 
 /// The rule that is broken, or want of memory.
-#[derive(Clone, Copy, PartialEq, Eq, Debug, Error)]
+#[derive(Clone, Copy, Debug, Error)]
 pub enum TypeKind {
     /// Nothing of that name is in scope, or there is no such type, memory, field, attribute, procedure or hole.
     #[error("UnknownName")]
@@ -35,7 +35,7 @@ pub enum TypeKind {
 }
 
 /// The first rule that a text breaks, and its place, counted from 1. Both numbers are 0 for want of memory.
-#[derive(Clone, Copy, PartialEq, Eq, Debug)]
+#[derive(Clone, Copy)]
 pub struct TypeError {
     pub line: u32,
     pub column: u32,

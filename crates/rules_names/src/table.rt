@@ -65,13 +65,6 @@ impl<'a> FieldTable<'a> {
             None => false,
         }
     }
-
-    /// How many fields there are.
-    pub fn len(&self) -> usize
-        ensures { result ≡ length self.now }
-    {
-        self.table.len()
-    }
 }
 
 /// Names that are numbered in their order: those of memories, or of procedures. It is seen as the list of them.
@@ -113,12 +106,5 @@ impl<'a> NameTable<'a> {
         ensures { result ≡ name_number self.now name.now }
     {
         self.names.get_index_of(name)
-    }
-
-    /// How many names there are.
-    pub fn len(&self) -> usize
-        ensures { result ≡ length self.now }
-    {
-        self.names.len()
     }
 }

@@ -1,9 +1,10 @@
 //! The strings of a schedule as trees, with their names resolved at a place.
-ghost use Rattle.std.specs.Prelude.{◌≡◌, map};
+ghost use Rattle.std.specs.Prelude.{◌≡◌, map, IfOk};
 ghost use Rattle.exo_tree.specs.PlainUnit.{program};
 ghost use Rattle.exo_meaning.specs.Units.{IsUnit};
 ghost use Rattle.text_expressions.specs.Views.{tree_of};
 ghost use Rattle.exo_reader.specs.Views.{plain_coordinate};
+ghost use Rattle.rules_scopes.specs.PlaceScope.{scope_at};
 ghost use Rattle.rules_scopes.specs.Resolved.{IsControlAt, IsConditionAt, IsWindowAt};
 
 use crate::tables::table_of;
@@ -14,15 +15,43 @@ use rules_names::argument::{ArgError, condition_argument, control_argument, wind
 use rules_names::scope::Scope;
 use rules_names::table::FieldTable;
 use rules_names::tested::Names;
-use std::alloc::Global;
+use std::alloc::{AllocError, Global};
 use text_expressions::source::SourceExpr;
 
-/// What names stand for at a place.
-fn names_of<'n>(fields: &'n FieldTable, scope: &'n Scope) -> Names<'n>
-    ensures fields { result.fields.now ≡ fields.now }
-    ensures scope { result.scope.now ≡ scope.now }
+/// What names stand for at a place: the fields of the unit, and the names in scope.
+#[derive(Drop)]
+struct Seen<'u> {
+    fields: FieldTable<'u>,
+    scope: Scope<'u>,
+}
+
+impl<'u> Seen<'u> {
+    fn names(&self) -> Names<'_>
+        ensures fields { result.fields.now ≡ self.now.fields }
+        ensures scope { result.scope.now ≡ self.now.scope }
+    {
+        Names {
+            fields: &self.fields,
+            scope: &self.scope,
+        }
+    }
+}
+
+/// What is seen at a place of a unit.
+fn seen_at<'u>(
+    alloc: Global,
+    unit: &'u Unit,
+    p: ProcId,
+    path: &Path,
+    after: bool,
+) -> Result<Box<Seen<'u>>, AllocError>
+    requires { IsUnit (program unit.now) }
+    ensures fields { IfOk result (λ s. s.value.fields ≡ unit.now.fields) }
+    ensures scope { IfOk result (λ s. s.value.scope ≡ scope_at (program unit.now) p.0 path.now after) }
 {
-    Names { fields, scope }
+    let fields = table_of(alloc, &unit.fields)?;
+    let scope = scope_at(alloc, unit, p, path, after)?;
+    Ok(Box::new(alloc, Seen { fields, scope })?)
 }
 
 /// The control value of a string at a place: before the statement at the path, or with `after` behind it; at the empty path
@@ -39,9 +68,8 @@ pub fn ctrl_at(
     requires { IsUnit (program unit.now) }
     ensures { IsControlAt (program unit.now) p.0 path.now after (tree_of e.now) result }
 {
-    let fields = table_of(alloc, &unit.fields)?;
-    let scope = scope_at(alloc, unit, p, path, after)?;
-    let names = names_of(&fields, &scope);
+    let seen = seen_at(alloc, unit, p, path, after)?;
+    let names = seen.names();
     control_argument(alloc, &names, e)
 }
 
@@ -57,9 +85,8 @@ pub fn cond_at(
     requires { IsUnit (program unit.now) }
     ensures { IsConditionAt (program unit.now) p.0 path.now after (tree_of e.now) result }
 {
-    let fields = table_of(alloc, &unit.fields)?;
-    let scope = scope_at(alloc, unit, p, path, after)?;
-    let names = names_of(&fields, &scope);
+    let seen = seen_at(alloc, unit, p, path, after)?;
+    let names = seen.names();
     condition_argument(alloc, &names, e)
 }
 
@@ -75,8 +102,7 @@ pub fn window_at(
     requires { IsUnit (program unit.now) }
     ensures { IsWindowAt (program unit.now) p.0 path.now after w.now.name (map plain_coordinate w.now.coords.items) result }
 {
-    let fields = table_of(alloc, &unit.fields)?;
-    let scope = scope_at(alloc, unit, p, path, after)?;
-    let names = names_of(&fields, &scope);
+    let seen = seen_at(alloc, unit, p, path, after)?;
+    let names = seen.names();
     window_argument(alloc, &names, w.name.as_str(), w.coords.as_slice())
 }

@@ -17,7 +17,7 @@ returns-in_err-keep c = λ above s.
 pub returns-in_err-made : goal.returns-in_err-made
 returns-in_err-made c = λ above s.
     exit _ _ _ _ c.from_residual-in_err-made.ensures.1
-    (refuses_second _ _ _ (sym (ap least (same_name_faults c.args.self.now above c.requires.agrees s (c.args.n + 1) c.args.definition.now.name)) ∙ kept_none _ _ c.name_charge.ensures c.in_ok-keep.ensures) (c.in_err-made.ensures above s))
+    (refuses_second _ _ _ (sym (ap least (same_name_faults c.args.self.now above c.requires.agrees s (c.args.n + 1) c.args.definition.now.name)) ∙ kept_none _ _ c.name_charge.ensures c.in_ok-keep.ensures) (c.in_err-made.ensures.made above s))
 
 pub line_of-requires : goal.line_of-requires
 line_of-requires c = omega (arith, few_ids c.args.n (plain_definition c.args.definition.now), c.requires.places.tokens)
@@ -32,10 +32,10 @@ returns c = λ above s.
     let t = c.args.self.now in
     let made = c.in_ok-made.made in
     let lines : ProcLines = record { def = c.line_of.result; statements = made.lines } in
-    procedure_added t c.push_procedure.new.self _ above c.args.places.now c.args.template c.args.n (plain_definition c.args.definition.now) made c.in_ok-row.row lines _ c.requires.agrees c.requires.few s
+    procedure_added t c.push_procedure.new.self _ above c.args.places.now c.args.template c.args.n (plain_definition c.args.definition.now) made c.in_ok-made.row lines _ c.requires.agrees c.requires.few s
     (kept_none _ _ c.name_charge.ensures c.in_ok-keep.ensures)
-    (c.in_ok-made.ensures above s)
-    c.in_ok-row.ensures
+    (c.in_ok-made.ensures.made above s)
+    c.in_ok-made.ensures.row
     (ap (λ k. record { def = k; statements = made.lines }) c.line_of.ensures)
-    (subst (λ (y : List ℕ). IsPushed t c.push_procedure.new.self y (plain.procedure made.procedure) c.in_ok-row.row lines) c.as_str.ensures c.in_ok-push_procedure.ensures)
+    (subst (λ (y : List ℕ). IsPushed t c.push_procedure.new.self y (plain.procedure made.procedure) c.in_ok-made.row lines) c.as_str.ensures c.in_ok-push_procedure.ensures)
     refl refl refl refl refl refl refl refl

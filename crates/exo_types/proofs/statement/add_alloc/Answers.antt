@@ -8,24 +8,26 @@ use Rattle.rules_names.specs.Names.{named_in}
 use Rattle.exo_types.specs.TypeRules.{binder}
 use Rattle.exo_types.proofs.Broken.{exit, refuses_first, kept_none, kept_err, is_free}
 use Rattle.exo_types.proofs.Bound.{allocated}
-use Rattle.exo_types.proofs.statement.alloc_of.Goals as goal
+use Rattle.exo_types.proofs.Walked.{put}
+use Rattle.exo_types.proofs.statement.add_alloc.Goals as goal
 
-pub returns-in_err-keep-clause-made : goal.returns-in_err-keep-clause-made
-returns-in_err-keep-clause-made c = exit _ _ _ _ c.from_residual.ensures.1 (refuses_first _ _ _ (kept_err _ _ _ c.test_alloc-end.ensures.charge c.in_err-keep.ensures))
+pub returns-in_err-keep : goal.returns-in_err-keep
+returns-in_err-keep c = exit _ _ _ _ c.from_residual.ensures.1 (refuses_first _ _ _ (kept_err _ _ _ c.test_alloc-end.ensures.charge c.in_err-keep.ensures))
 
 pub bind_buffer-requires-clause-new : goal.bind_buffer-requires-clause-new
 bind_buffer-requires-clause-new c =
     ap (named_in c.args.walk.now.scope) c.as_str.ensures
     ∙ is_free c.args.walk.now.scope c.args.n c.args.x.now _ (kept_none _ _ c.test_alloc-end.ensures.charge c.in_ok-keep.ensures)
 
-pub returns-clause-made : goal.returns-clause-made
-returns-clause-made c =
+pub returns : goal.returns
+returns c =
     let walk = c.args.walk.now in
-    let name = c.in_ok-name.ensures ∙ c.as_str-2.ensures in
-    allocated c.args.context.now walk c.bind_buffer.new.self c.args.n c.args.x.now (plain_kind c.args.kind.now) (map tree_of c.args.dims.now) c.args.memory.now _ _ _ _ _
+    put c.args.context.now walk c.bind_buffer.new.self _ _ _ c.args.n _ _
+    (allocated c.args.context.now walk c.bind_buffer.new.self c.args.n c.args.x.now (plain_kind c.args.kind.now) (map tree_of c.args.dims.now) c.args.memory.now _ _ _ _ _
     (kept_none _ _ c.test_alloc-end.ensures.charge c.in_ok-keep.ensures)
-    (λ i. binder (c.in_ok-id.ensures.id i) (name i))
+    (c.in_ok-binder.ensures.binder ∙ ap (binder walk.next_id) c.as_str.ensures)
     c.cell_of-cell.ensures c.in_ok-indices.ensures c.memory_of-home.ensures
     (sym (length-map c.args.dims.now tree_of))
-    (c.in_ok-id.ensures.scope ∙ ap (λ y. with_name walk.scope (binder walk.next_id y) (BufferName (cell_type c.cell_of-cell.result) (length c.args.dims.now) true)) c.as_str.ensures)
-    c.in_ok-id.ensures.roots c.in_ok-id.ensures.kept c.in_ok-id.ensures.next c.in_ok-id.ensures.lines
+    (c.in_ok-binder.ensures.scope ∙ ap (λ y. with_name walk.scope (binder walk.next_id y) (BufferName (cell_type c.cell_of-cell.result) (length c.args.dims.now) true)) c.as_str.ensures)
+    c.in_ok-binder.ensures.roots c.in_ok-binder.ensures.kept c.in_ok-binder.ensures.next c.in_ok-binder.ensures.lines)
+    c.in_ok-push.ensures.pushed c.test_alloc-end.ensures.end

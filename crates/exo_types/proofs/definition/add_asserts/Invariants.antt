@@ -4,7 +4,7 @@ use Rattle.text_expressions.specs.Views.{tree_of}
 use Rattle.rules_names.specs.Resolved.{condition_of}
 use Rattle.exo_types.specs.Definitions.{asserts_fault}
 use Rattle.exo_types.specs.ItemRules.{asserts_width}
-use Rattle.exo_types.proofs.definition.asserts_of.Given as goal
+use Rattle.exo_types.proofs.definition.add_asserts.Given as goal
 
 abbrev pub invariant-loop-e : goal.invariant-loop-e
 invariant-loop-e l =
