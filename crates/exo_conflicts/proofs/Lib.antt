@@ -9,3 +9,4 @@ pub mod MeetingNumbers
 pub mod Listings
 pub mod Places
 pub mod Answered
+mod Bounds

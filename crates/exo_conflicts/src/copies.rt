@@ -136,7 +136,11 @@ pub(crate) struct CopiedTurn {
 }
 
 /// A loop round the piece in the copy.
-fn copied_turn(alloc: Global, twin: &Twin<'_>, t: &Turn<'_>) -> Result<CopiedTurn, FormError>
+pub(crate) fn copied_turn(
+    alloc: Global,
+    twin: &Twin<'_>,
+    t: &Turn<'_>,
+) -> Result<CopiedTurn, FormError>
     requires { IsTrue (turn_is_low t.now) }
     ensures { TurnMade result (turn_fits t.now) (re_turn (renamed twin.now) (plain_turn t.now)) }
 {

@@ -1,61 +1,35 @@
 //! What the loops and branches round an access say in a copy.
-ghost use Rattle.std.specs.Prelude.{◌≡◌, ◌∷◌, [], IfOk, IsTrue};
+ghost use Rattle.std.specs.Prelude.{◌≡◌, ◌++◌, ◌∷◌, [], IsTrue};
 ghost use Rattle.std.specs.List.{list_all};
-ghost use Rattle.exo_tree.specs.Tree as tree;
-ghost use Rattle.exo_tree.specs.PlainControl.{control, condition};
+ghost use Rattle.exo_tree.specs.PlainControl.{condition};
 ghost use Rattle.meaning_laws.specs.Facts as facts;
-ghost use Rattle.affine_forms.specs.Atoms as plain;
-ghost use Rattle.affine_forms.specs.Atoms.{only};
+ghost use Rattle.exo_effects.specs.Conflicts.{bounds, re_turn};
 ghost use Rattle.exo_effects.specs.Low.{fact_is_low};
 ghost use Rattle.exo_effects.specs.PlainGuards.{facts_of, all_facts};
-ghost use Rattle.exo_conflicts.specs.PlainCopies.{guard_is_low, renamed, Said};
+ghost use Rattle.exo_conflicts.specs.Outcomes.{Exactly};
+ghost use Rattle.exo_conflicts.specs.PlainCopies.{guard_is_low, plain_turn, renamed, Said, turn_fits, turn_is_low};
 
-use crate::copies::{copied_form, copied_formula};
-use crate::twin::Twin;
-use affine_forms::{Atom, FormError, Formula, Linear};
+use crate::copies::{copied_formula, copied_turn};
+use crate::meeting::put_between;
+use crate::twin::{Turn, Twin};
+use affine_forms::FormError;
 use affine_systems::Context;
 use exo_effects::Guard;
-use exo_tree::{Cond, Ctrl, Id};
-use std::alloc::{AllocError, Global};
+use exo_tree::Cond;
+use std::alloc::Global;
 
-/// A variable in a copy.
-fn copied_variable(alloc: Global, twin: &Twin<'_>, x: Id) -> Result<Linear, AllocError>
-    ensures { IfOk result (λ l. l ≡ only (plain.Variable (renamed twin.now x.0))) }
-{
-    Linear::only(alloc, Atom::Variable(twin.renamed(x)))
-}
-
-/// Puts last that a variable is at least its lower bound.
-fn say_lower(
+/// Puts the bounds of a loop last.
+fn say_loop(
     alloc: Global,
     twin: &Twin<'_>,
-    i: Id,
-    lo: &Ctrl,
+    t: &Turn<'_>,
     into: &mut Context,
 ) -> Result<(), FormError>
-    requires { IsTrue (fact_is_low (facts.Holds (tree.Le (control lo.now) (tree.Var i.0)))) }
-    ensures { Said result (renamed twin.now) (facts.Holds (tree.Le (control lo.now) (tree.Var i.0)) ∷ []) into.old into.new }
+    requires { IsTrue (turn_is_low t.now) }
+    ensures { Exactly result (turn_fits t.now) (into.new ≡ into.old ++ bounds (re_turn (renamed twin.now) (plain_turn t.now))) }
 {
-    let lower = copied_form(alloc, twin, lo)?;
-    let own = copied_variable(alloc, twin, i)?;
-    into.push(Formula::at_most(alloc, &lower, &own)?)?;
-    Ok(())
-}
-
-/// Puts last that a variable is less than its upper bound.
-fn say_upper(
-    alloc: Global,
-    twin: &Twin<'_>,
-    i: Id,
-    hi: &Ctrl,
-    into: &mut Context,
-) -> Result<(), FormError>
-    requires { IsTrue (fact_is_low (facts.Holds (tree.Lt (tree.Var i.0) (control hi.now)))) }
-    ensures { Said result (renamed twin.now) (facts.Holds (tree.Lt (tree.Var i.0) (control hi.now)) ∷ []) into.old into.new }
-{
-    let upper = copied_form(alloc, twin, hi)?;
-    let own = copied_variable(alloc, twin, i)?;
-    into.push(Formula::less(alloc, &own, &upper)?)?;
+    let copied = copied_turn(alloc, twin, t)?;
+    put_between(alloc, copied.variable, &copied.lower, &copied.upper, into)?;
     Ok(())
 }
 
@@ -91,8 +65,12 @@ fn say_guard(
 {
     match guard {
         Guard::Loop(i, lo, hi) => {
-            say_lower(alloc, twin, *i, lo, into)?;
-            say_upper(alloc, twin, *i, hi, into)
+            let turn = Turn {
+                variable: *i,
+                lower: *lo,
+                upper: *hi,
+            };
+            say_loop(alloc, twin, &turn, into)
         }
         Guard::Holds(c) => say_holds(alloc, twin, c, into),
         Guard::Fails(c) => say_fails(alloc, twin, c, into),

@@ -22,7 +22,7 @@ fn variable(alloc: Global, x: Id) -> Result<Linear, AllocError>
 }
 
 /// Puts last that a variable is at least the lower end and less than the upper one.
-fn put_between(
+pub(crate) fn put_between(
     alloc: Global,
     x: Id,
     lower: &Linear,

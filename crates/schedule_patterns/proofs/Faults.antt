@@ -14,7 +14,7 @@ use Rattle.exo_reader.specs.declared.unit.ReadError.{ReadError}
 use Rattle.exo_reader.proofs.Units.{refusal_in}
 use Rattle.schedule_patterns.specs.Errors.{UnlessMemory}
 use Rattle.schedule_patterns.specs.Numbers.{form_in, number_of}
-use Rattle.schedule_patterns.specs.Texts.{MeansWhole, IsPatternFault, in_form, in_number}
+use Rattle.schedule_patterns.specs.Texts.{MeansWhole, ReadsPattern, IsPatternFault, in_form, in_number}
 
 pub unless_memory : (kind : ReadKind) (Claim : Type 0) → Claim → UnlessMemory kind Claim
 unless_memory k.Memory Claim claim = tt
@@ -64,3 +64,11 @@ pub number_fault : {T P : Type 0} (kind : Phrase Token T) (meaning : T → P) (t
 number_fault kind meaning text form value e is m claim =
     let whole : MeansWhole kind meaning (line_tokens_of (form_in text)) value = form_means kind meaning text form value is m in
     memory_or e.kind (λ n. in_number whole.written whole.text n) claim
+
+-- what was read of a form, with a number
+pub numbered : {T P V X : Type 0} (kind : Phrase Token T) (meaning : T → P) (text form : List ℕ) (plain : V → P) (v : V) (value : X → V) (nth : X → ℕ) (result : Result X ReadError) → form ≡ form_in text → MeansWhole kind meaning (line_tokens_of form) (plain v) → MatchResult result (λ x. (value x ≡ v) × (number_of text ≡ Ok (nth x))) (λ e. UnlessMemory e.kind (number_of text ≡ Err e)) → ReadsPattern kind meaning text (λ x. plain (value x)) nth result
+numbered kind meaning text form plain v value nth (Ok x) is m h = record {
+  form = form_means kind meaning text form (plain (value x)) is (subst (λ y. MeansWhole kind meaning (line_tokens_of form) (plain y)) (sym h.0) m);
+  number = h.1;
+}
+numbered kind meaning text form plain v value nth (Err e) is m h = number_fault kind meaning text form (plain v) e is m h

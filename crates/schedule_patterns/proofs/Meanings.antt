@@ -1,16 +1,18 @@
 -- What is read means what is written.
-use Rattle.std.proofs.Common.{◌≡◌, List, [], Option, None, Result, Ok, Err, MatchResult, sym, subst}
+use Rattle.std.proofs.Common.{◌≡◌, List, [], ◌∷◌, length, Option, None, Result, Ok, Err, MatchResult, refl, sym, ap, ◌∙◌, subst}
 use Rattle.std.specs.Result.{IsErrAnd}
 use Rattle.text_phrases.specs.Phrase.{Phrase, Taken}
 use Rattle.text_phrases.specs.Sequence.{then, then_by}
-use Rattle.text_phrases.specs.Text.{Faults}
+use Rattle.text_phrases.specs.Limits.{syntax}
+use Rattle.text_phrases.specs.Text.{FaultAt, Faults}
 use Rattle.text_phrases.specs.Answers.{Refuses}
 use Rattle.text_phrases.specs.declared.Refusal.{Refusal}
+use Rattle.text_phrases.specs.declared.Refusal.TheVariants.{Syntax}
 use Rattle.text_phrases.proofs.Sequences.{Step, step_taken, JointBy}
 use Rattle.text_phrases.proofs.Joints.{Joint, later, both, later_by, both_by, whole_err}
-use Rattle.text_phrases.proofs.Texts.{text_ok}
+use Rattle.text_phrases.proofs.Texts.{text_ok, text_longer}
 use Rattle.text_lexer.specs.declared.token.Token.{Token}
-use Rattle.schedule_patterns.specs.Texts.{Means, ReadsAs, MeansWhole}
+use Rattle.schedule_patterns.specs.Texts.{Means, ReadsAs, MeansWhole, ReadsWhole}
 
 -- what a `?` returns
 pub exit_as : {A T X : Type 0} (kind : Phrase A T) (tokens : List A) (good : X → Type 0) (result : Result X Refusal) (e : Refusal) → IsErrAnd result (λ r. r ≡ e) → Refuses kind tokens e → MatchResult result good (λ r. Refuses kind tokens r)
@@ -50,3 +52,19 @@ means_whole kind meaning tokens rest value ends m empty = record { written = m.w
 pub whole_exit : {A T X : Type 0} (kind : Phrase A T) (tokens : List A) (good : X → Type 0) (result : Result X Refusal) (e : Refusal) → IsErrAnd result (λ r. r ≡ e) → Faults kind tokens e → MatchResult result good (λ r. Faults kind tokens r)
 whole_exit kind tokens good (Ok x) e is faults = absurd is
 whole_exit kind tokens good (Err r) e is faults = subst (Faults kind tokens) (sym is) faults
+
+-- what is told of itself, where a part that tells nothing more stands behind it
+
+pub reads_followed : {T S P V X : Type 0} (whole : Phrase Token T) (part : Phrase Token S) (build : S → T) (meaning : T → P) (tokens after : List Token) (plain : V → P) (v : V) (value : X → V) (rest : X → List Token) (result : Result X Refusal) → Step whole part build tokens after → ReadsAs part (λ _. v) after value rest result → ((s : S) → plain v ≡ meaning (build s)) → ReadsAs whole meaning tokens (λ x. plain (value x)) rest result
+reads_followed whole part build meaning tokens after plain v value rest (Ok x) step m same = record { written = build m.written; taken = step_taken whole part build tokens after (rest x) m.written step m.taken; is = ap plain m.is ∙ same m.written }
+reads_followed whole part build meaning tokens after plain v value rest (Err e) step refuses same = whole_err whole part build tokens after e step refuses
+
+-- what was read is all, or something stands behind it
+
+behind_whole : {T : Type 0} (kind : Phrase Token T) (tokens rest : List Token) (tree : T) → kind.Follows None → Taken kind tokens tree rest → (rest ≡ [] → ⊥) → FaultAt kind syntax tokens (length rest)
+behind_whole kind tokens [] tree ends taken more = absurd (more refl)
+behind_whole kind tokens (a ∷ tail) tree ends taken more = text_longer kind tokens (a ∷ tail) tree a tail ends taken refl
+
+pub reads_whole : {T P V : Type 0} (kind : Phrase Token T) (meaning : T → P) (tokens rest : List Token) (plain : V → P) (v : V) (result : Result V Refusal) → kind.Follows None → Means kind meaning tokens (plain v) rest → MatchResult result (λ x. (x ≡ v) × (rest ≡ [])) (λ e. (e ≡ Syntax (length rest)) × (rest ≡ [] → ⊥)) → ReadsWhole kind meaning tokens plain result
+reads_whole kind meaning tokens rest plain v (Ok x) ends m h = means_whole kind meaning tokens rest (plain x) ends (subst (λ y. Means kind meaning tokens (plain y) rest) (sym h.0) m) h.1
+reads_whole kind meaning tokens rest plain v (Err e) ends m h = subst (Faults kind tokens) (sym h.0) (behind_whole kind tokens rest m.written ends m.taken h.1)

@@ -7,7 +7,7 @@ ghost use Rattle.schedule_patterns.specs.Grammar.{IsEnd, index, after_name, expr
 ghost use Rattle.schedule_patterns.specs.Texts.{ReadsAs, ReadsWhole};
 ghost use Rattle.cursor_patterns.specs.PlainPattern.{plain_form};
 
-use crate::part::read_name_or_any;
+use crate::part::{alone, followed_by, read_name_or_any};
 use cursor_patterns::ExprForm;
 use exo_tree::Name;
 use std::alloc::Global;
@@ -34,16 +34,13 @@ fn read_behind_any(tokens: &[Token]) -> Result<(ExprForm, &[Token]), Refusal>
     ensures { ReadsAs (after_name None) (λ a. form_meant (None, Some a)) tokens.now (λ x. plain_form x.0) (λ x. x.1.now) result }
 {
     if let Some(after) = behind(tokens, Fixed::Sign(Sign::Plus)) {
-        let rest = expect_all(after, &[Fixed::Sign(Sign::Any)])?;
-        return Ok((ExprForm::Add, rest));
+        return followed_by(ExprForm::Add, after, &[Fixed::Sign(Sign::Any)]);
     }
     if let Some(after) = behind(tokens, Fixed::Sign(Sign::Minus)) {
-        let rest = expect_all(after, &[Fixed::Sign(Sign::Any)])?;
-        return Ok((ExprForm::Sub, rest));
+        return followed_by(ExprForm::Sub, after, &[Fixed::Sign(Sign::Any)]);
     }
     if let Some(after) = behind(tokens, Fixed::Sign(Sign::Times)) {
-        let rest = expect_all(after, &[Fixed::Sign(Sign::Any)])?;
-        return Ok((ExprForm::Mul, rest));
+        return followed_by(ExprForm::Mul, after, &[Fixed::Sign(Sign::Any)]);
     }
     let rest = read_index(tokens)?;
     Ok((ExprForm::Read(None), rest))
@@ -86,8 +83,5 @@ pub(crate) fn read_whole_expression(alloc: Global, tokens: &[Token]) -> Result<E
     ensures { ReadsWhole expression form_meant tokens.now plain_form result }
 {
     let (form, rest) = read_expression(alloc, tokens)?;
-    match next(rest) {
-        None => Ok(form),
-        Some(_) => Err(Refusal::Syntax(rest.len())),
-    }
+    alone(form, rest)
 }

@@ -1,15 +1,16 @@
 //! Parts of patterns.
 
-ghost use Rattle.std.specs.Prelude.{map};
+ghost use Rattle.std.specs.Prelude.{◌≡◌, [], length, map, MatchResult};
 ghost use Rattle.text_phrases.specs.Answers.{Reads};
 ghost use Rattle.text_phrases.specs.Sequence.{exactly, then};
 ghost use Rattle.text_expressions.specs.Fixed.{token_of};
 ghost use Rattle.schedule_patterns.specs.Grammar.{name_or_any};
+ghost use Rattle.schedule_patterns.specs.Texts.{ReadsAs};
 
 use exo_tree::Name;
 use std::alloc::Global;
 use text_expressions::front::{Fixed, behind, expect_all, read_name};
-use text_lexer::token::{Sign, Token};
+use text_lexer::token::{Sign, Token, next};
 use text_phrases::Refusal;
 
 /// A name, or none for `_`.
@@ -38,4 +39,26 @@ pub(crate) fn read_name_and<'a>(
     let (name, after) = read_name_or_any(alloc, tokens)?;
     let rest = expect_all(after, words)?;
     Ok((name, rest))
+}
+
+/// What was read, with these tokens behind it.
+pub(crate) fn followed_by<'a, T: Drop>(
+    value: T,
+    tokens: &'a [Token],
+    words: &[Fixed],
+) -> Result<(T, &'a [Token]), Refusal>
+    ensures { ReadsAs (exactly (map token_of words.now)) (λ _. value) tokens.now (λ x. x.0) (λ x. x.1.now) result }
+{
+    let rest = expect_all(tokens, words)?;
+    Ok((value, rest))
+}
+
+/// What was read, with nothing behind it.
+pub(crate) fn alone<T: Drop>(value: T, rest: &[Token]) -> Result<T, Refusal>
+    ensures { MatchResult result (λ x. (x ≡ value) × (rest.now ≡ [])) (λ e. (e ≡ Refusal.Syntax (length rest.now)) × (rest.now ≡ [] → ⊥)) }
+{
+    match next(rest) {
+        None => Ok(value),
+        Some(_) => Err(Refusal::Syntax(rest.len())),
+    }
 }

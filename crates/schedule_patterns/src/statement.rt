@@ -7,7 +7,7 @@ ghost use Rattle.schedule_patterns.specs.Told.{told_change, told, maybe_told, me
 ghost use Rattle.schedule_patterns.specs.Texts.{ReadsAs, ReadsWhole};
 ghost use Rattle.cursor_patterns.specs.PlainPattern.{plain_pattern};
 
-use crate::part::{read_name_and, read_name_or_any};
+use crate::part::{alone, followed_by, read_name_and, read_name_or_any};
 use cursor_patterns::Pattern;
 use exo_tree::Name;
 use std::alloc::Global;
@@ -33,11 +33,13 @@ fn read_change(tokens: &[Token]) -> Result<(Told, &[Token]), Refusal>
     ensures { ReadsAs change told_change tokens.now (λ x. x.0) (λ x. x.1.now) result }
 {
     if let Some(after) = behind(tokens, Fixed::Sign(Sign::Reduce)) {
-        let rest = expect_all(after, &[Fixed::Sign(Sign::Any)])?;
-        return Ok((Told::Reduced, rest));
+        return followed_by(Told::Reduced, after, &[Fixed::Sign(Sign::Any)]);
     }
-    let rest = expect_all(tokens, &[Fixed::Sign(Sign::Assign), Fixed::Sign(Sign::Any)])?;
-    Ok((Told::Assigned, rest))
+    followed_by(
+        Told::Assigned,
+        tokens,
+        &[Fixed::Sign(Sign::Assign), Fixed::Sign(Sign::Any)],
+    )
 }
 
 /// What stands behind the bracket of a cell.
@@ -56,12 +58,14 @@ fn read_behind(alloc: Global, tokens: &[Token]) -> Result<(Told, &[Token]), Refu
     ensures { ReadsAs behind_name told tokens.now (λ x. x.0) (λ x. x.1.now) result }
 {
     if let Some(after) = behind(tokens, Fixed::Sign(Sign::Colon)) {
-        let rest = expect_all(after, &[Fixed::Sign(Sign::Any)])?;
-        return Ok((Told::Allocated, rest));
+        return followed_by(Told::Allocated, after, &[Fixed::Sign(Sign::Any)]);
     }
     if let Some(after) = behind(tokens, Fixed::Sign(Sign::Open)) {
-        let rest = expect_all(after, &[Fixed::Sign(Sign::Any), Fixed::Sign(Sign::Close)])?;
-        return Ok((Told::Called, rest));
+        return followed_by(
+            Told::Called,
+            after,
+            &[Fixed::Sign(Sign::Any), Fixed::Sign(Sign::Close)],
+        );
     }
     if let Some(after) = behind(tokens, Fixed::Sign(Sign::Dot)) {
         let (field, rest) = read_name_and(
@@ -129,15 +133,15 @@ fn read_statement(alloc: Global, tokens: &[Token]) -> Result<(Pattern, &[Token])
         return Ok((Pattern::Pass, rest));
     }
     if let Some(after) = behind(tokens, Fixed::Word(Word::If)) {
-        let rest = expect_all(
+        return followed_by(
+            Pattern::If,
             after,
             &[
                 Fixed::Sign(Sign::Any),
                 Fixed::Sign(Sign::Colon),
                 Fixed::Sign(Sign::Any),
             ],
-        )?;
-        return Ok((Pattern::If, rest));
+        );
     }
     if let Some(after) = behind(tokens, Fixed::Word(Word::For)) {
         let (index, rest) = read_name_and(
@@ -160,8 +164,5 @@ pub(crate) fn read_whole_statement(alloc: Global, tokens: &[Token]) -> Result<Pa
     ensures { ReadsWhole statement meant tokens.now plain_pattern result }
 {
     let (pattern, rest) = read_statement(alloc, tokens)?;
-    match next(rest) {
-        None => Ok(pattern),
-        Some(_) => Err(Refusal::Syntax(rest.len())),
-    }
+    alone(pattern, rest)
 }

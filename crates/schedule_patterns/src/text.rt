@@ -1,9 +1,10 @@
 //! Strings that are patterns.
 
-ghost use Rattle.std.specs.Prelude.{◌≤◌, length, MatchResult};
+ghost use Rattle.std.specs.Prelude.{◌≡◌, ◌≤◌, length, MatchResult};
 ghost use Rattle.exo_reader.specs.Texts.{IsFault};
 ghost use Rattle.exo_reader.specs.Strings.{line_tokens_of, line_places_of};
 ghost use Rattle.schedule_patterns.specs.Errors.{UnlessMemory};
+ghost use Rattle.schedule_patterns.specs.Numbers.{number_of};
 ghost use Rattle.schedule_patterns.specs.Grammar.{statement, meant, expression, form_meant};
 ghost use Rattle.schedule_patterns.specs.Texts.{MeansWhole, ReadsForm, ReadsPattern};
 ghost use Rattle.cursor_patterns.specs.PlainPattern.{plain_pattern, plain_form};
@@ -49,6 +50,15 @@ fn read_expression_form(alloc: Global, text: &[u8]) -> Result<ExprForm, ReadErro
     }
 }
 
+/// What was read of a text, with the text's number.
+fn with_number<T: Drop>(alloc: Global, bytes: &[u8], form: T) -> Result<(T, u32), ReadError>
+    requires { length bytes.now ≤ 0x100000 }
+    ensures { MatchResult result (λ x. (x.0 ≡ form) × (number_of bytes.now ≡ Ok x.1)) (λ e. UnlessMemory e.kind (number_of bytes.now ≡ Err e)) }
+{
+    let nth = read_number(alloc, bytes)?;
+    Ok((form, nth))
+}
+
 /// The pattern of statements that a text of at most 2^20 bytes is, on one line, with the number
 /// behind its `#`, or 0. Else where and why no pattern begins so: `BadByte` at a byte that no text
 /// has, `TooLong` at a name of more than 63 bytes, `LiteralTooLarge` at a `#` with a number from
@@ -58,8 +68,7 @@ pub fn read_pattern(alloc: Global, bytes: &[u8]) -> Result<(Pattern, u32), ReadE
     ensures { ReadsPattern statement meant bytes.now (λ x. plain_pattern x.0) (λ x. x.1) result }
 {
     let pattern = read_statement_form(alloc, form_in(bytes))?;
-    let nth = read_number(alloc, bytes)?;
-    Ok((pattern, nth))
+    with_number(alloc, bytes, pattern)
 }
 
 /// The pattern of expressions that a text of at most 2^20 bytes is, on one line. Else where and why

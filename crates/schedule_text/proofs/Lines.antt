@@ -1,15 +1,16 @@
 -- The productions of lines.
 use Rattle.std.proofs.Common.{◌≡◌, ℕ, ◌+◌, ◌<◌, List, [], ◌∷◌, ◌++◌, Option, Some, length, refl, sym, ap, ◌∙◌, subst, arith, append_assoc}
 use Rattle.std.proofs.lemmas.List.{length-append}
+use Rattle.std.specs.Prelude.{Result, Ok, Err, IfOk}
 use Rattle.text_phrases.specs.Limits.{Limits, in_length, Cause, passed, syntax}
 use Rattle.text_phrases.specs.Phrase.{first, Phrase, Taken, Refused}
 use Rattle.text_phrases.specs.Sequence.{exactly, then}
-use Rattle.text_phrases.specs.Answers.{Refuses}
+use Rattle.text_phrases.specs.Answers.{Reads, Refuses}
 use Rattle.text_phrases.specs.declared.Refusal.{Refusal}
 use Rattle.text_phrases.proofs.Phrases.{goes_along}
 use Rattle.text_phrases.proofs.Exits.{refuses_along}
-use Rattle.text_phrases.proofs.Sequences.{Back, Step}
-use Rattle.text_phrases.proofs.Joints.{Joint}
+use Rattle.text_phrases.proofs.Sequences.{Back, Step, step_taken}
+use Rattle.text_phrases.proofs.Joints.{Joint, both, later, whole_err}
 use Rattle.text_lexer.specs.declared.token.Literal.TheVariants.{Value}
 use Rattle.text_lexer.specs.declared.token.Token.{Token}
 use Rattle.text_lexer.specs.declared.token.Token.TheVariants.{Name, Int, Sign, NewLine}
@@ -66,6 +67,15 @@ name_short tokens rest x taken = (taken.fits in_length).1
 
 pub name_whole : (tokens rest : List Token) (x : List ℕ) → Taken name tokens x rest → tokens ≡ Name x ∷ rest
 name_whole tokens rest x taken = taken.whole
+
+-- what was read, where these tokens stand behind it
+pub reads_ended : {T A V X : Type 0} {first : Phrase Token A} {words : List Token} (whole : Phrase Token T) (build : A × (Unit {0}) → T) (tokens after middle : List Token) (t : A) (plain : V → T) (v : V) (value : X → V) (rest : X → List Token) (result : Result X Refusal) → Step whole (then first (exactly words)) build tokens after → Joint first (exactly words) → Taken first after t middle → Reads (exactly words) middle (λ _. tt) rest result → IfOk result (λ x. value x ≡ v) → plain v ≡ build (t, tt) → Reads whole tokens (λ x. plain (value x)) rest result
+reads_ended {first = first} {words = words} whole build tokens after middle t plain v value rest (Ok x) step joint taken reads same is =
+    subst (λ y. Taken whole tokens (plain y) (rest x)) (sym same)
+    (subst (λ z. Taken whole tokens z (rest x)) (sym is)
+    (step_taken whole (then first (exactly words)) build tokens after (rest x) (t, tt) step (both joint taken reads)))
+reads_ended {first = first} {words = words} whole build tokens after middle t plain v value rest (Err e) step joint taken reads same is =
+    whole_err whole (then first (exactly words)) build tokens after e step (later joint taken e reads)
 
 -- operators
 

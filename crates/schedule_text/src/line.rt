@@ -1,9 +1,11 @@
 //! Lines of schedules.
 
-ghost use Rattle.std.specs.Prelude.{◌≡◌, ◌∷◌, Some};
+ghost use Rattle.std.specs.Prelude.{◌≡◌, ◌∷◌, Some, map, IfOk};
 ghost use Rattle.text_phrases.specs.Phrase.{first, Taken, Refused};
 ghost use Rattle.text_phrases.specs.Answers.{Reads};
+ghost use Rattle.text_phrases.specs.Sequence.{exactly};
 ghost use Rattle.text_lexer.specs.declared.token.Token.{Token};
+ghost use Rattle.text_expressions.specs.Fixed.{token_of};
 ghost use Rattle.text_expressions.specs.Values.{IsShortName};
 ghost use Rattle.schedule_text.specs.Words.{find_word, emit_word};
 ghost use Rattle.schedule_text.specs.Grammar.{act, line};
@@ -20,6 +22,19 @@ use text_lexer::text::Text;
 use text_lexer::token::{Sign, Token};
 use text_phrases::Refusal;
 
+/// What was read, with these tokens behind it.
+fn followed_by<'a, T: Drop>(
+    value: T,
+    tokens: &'a [Token],
+    words: &[Fixed],
+) -> Result<(T, &'a [Token]), Refusal>
+    ensures reads { Reads (exactly (map token_of words.now)) tokens.now (λ _. tt) (λ x. x.1.now) result }
+    ensures same { IfOk result (λ x. x.0 ≡ value) }
+{
+    let rest = expect_all(tokens, words)?;
+    Ok((value, rest))
+}
+
 /// The arguments of an operator, behind their parenthesis.
 fn read_operation(alloc: Global, name: Text, inside: &[Token]) -> Result<(Act, &[Token]), Refusal>
     requires short { IsShortName name }
@@ -27,8 +42,11 @@ fn read_operation(alloc: Global, name: Text, inside: &[Token]) -> Result<(Act, &
     ensures { Reads act (Token.Name name ∷ Token.Sign Sign.Open ∷ inside.now) (λ x. plain_act x.0) (λ x. x.1.now) result }
 {
     let (arguments, behind_arguments) = read_arguments(alloc, inside)?;
-    let rest = expect_all(behind_arguments, &[Fixed::Sign(Sign::Close)])?;
-    Ok((Act::Op(name, arguments), rest))
+    followed_by(
+        Act::Op(name, arguments),
+        behind_arguments,
+        &[Fixed::Sign(Sign::Close)],
+    )
 }
 
 /// A match that is given a name, behind `find (`.
@@ -78,8 +96,11 @@ fn read_bind(alloc: Global, name: Text, after: &[Token]) -> Result<(Statement, &
     ensures { Reads line (Token.Name name ∷ Token.Sign Sign.Assign ∷ after.now) (λ x. plain_statement x.0) (λ x. x.1.now) result }
 {
     let (bound, behind_bound) = read_act(alloc, after)?;
-    let rest = expect_all(behind_bound, &[Fixed::NewLine])?;
-    Ok((Statement::Bind(name, bound), rest))
+    followed_by(
+        Statement::Bind(name, bound),
+        behind_bound,
+        &[Fixed::NewLine],
+    )
 }
 
 /// What comes behind an `emit` that is not bound.

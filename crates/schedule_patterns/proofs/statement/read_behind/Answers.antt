@@ -1,24 +1,18 @@
 use Rattle.std.proofs.Common.{◌≡◌, false, true, refl, inl, inr}
 use Rattle.text_phrases.proofs.Sequences.{step_taken}
 use Rattle.text_phrases.proofs.Joints.{whole_err}
-use Rattle.schedule_patterns.proofs.Meanings.{exit_as, means, reads_step}
+use Rattle.schedule_patterns.proofs.Meanings.{exit_as, means, reads_step, reads_followed}
 use Rattle.schedule_patterns.proofs.Statements.{step_colon, step_open, step_dot, step_change, step_inner}
 use Rattle.schedule_patterns.proofs.statement.read_behind.Goals as goal
 
-pub returns-in_err-rest : goal.returns-in_err-rest
-returns-in_err-rest c = exit_as _ _ _ _ _ c.from_residual.ensures.1 (whole_err _ _ _ _ _ _ (step_colon _ _ c.in-Some.ensures) c.in_err-rest.ensures)
-
 pub returns-in-Some : goal.returns-in-Some
-returns-in-Some c = means _ _ _ _ _ _ (step_taken _ _ _ _ _ _ _ (step_colon _ _ c.in-Some.ensures) c.in_ok-rest.ensures) refl
-
-pub returns-in_err-rest-2 : goal.returns-in_err-rest-2
-returns-in_err-rest-2 c = exit_as _ _ _ _ _ c.from_residual-in_err-rest-2.ensures.1 (whole_err _ _ _ _ _ _ (step_open _ _ c.in-Some-behind.ensures) c.in_err-rest-2.ensures)
+returns-in-Some c = reads_followed _ _ _ _ _ _ (λ x. x) _ (λ x. x.0) (λ x. x.1.now) _ (step_colon _ _ c.in-Some.ensures) c.followed_by.ensures (λ s. refl)
 
 pub returns-in-Some-behind : goal.returns-in-Some-behind
-returns-in-Some-behind c = means _ _ _ _ _ _ (step_taken _ _ _ _ _ _ _ (step_open _ _ c.in-Some-behind.ensures) c.in_ok-rest-2.ensures) refl
+returns-in-Some-behind c = reads_followed _ _ _ _ _ _ (λ x. x) _ (λ x. x.0) (λ x. x.1.now) _ (step_open _ _ c.in-Some-behind.ensures) c.followed_by-in-Some-behind.ensures (λ s. refl)
 
 pub returns-in_err-field : goal.returns-in_err-field
-returns-in_err-field c = exit_as _ _ _ _ _ c.from_residual-in_err-field.ensures.1 (whole_err _ _ _ _ _ _ (step_dot _ _ c.in-Some-behind-2.ensures) c.in_err-field.ensures)
+returns-in_err-field c = exit_as _ _ _ _ _ c.from_residual.ensures.1 (whole_err _ _ _ _ _ _ (step_dot _ _ c.in-Some-behind-2.ensures) c.in_err-field.ensures)
 
 pub returns-in-Some-behind-2 : goal.returns-in-Some-behind-2
 returns-in-Some-behind-2 c = means _ _ _ _ _ _ (step_taken _ _ _ _ _ _ _ (step_dot _ _ c.in-Some-behind-2.ensures) c.in_ok-field.ensures) refl

@@ -1,21 +1,19 @@
 use Rattle.std.proofs.Common.{refl}
+use Rattle.cursor_patterns.specs.PlainPattern.{plain_pattern}
 use Rattle.text_phrases.proofs.Sequences.{step_taken}
 use Rattle.text_phrases.proofs.Joints.{whole_err}
-use Rattle.schedule_patterns.proofs.Meanings.{exit_as, means, reads_step}
+use Rattle.schedule_patterns.proofs.Meanings.{exit_as, means, reads_step, reads_followed}
 use Rattle.schedule_patterns.proofs.Statements.{taken_skip, step_if, step_for, step_named}
 use Rattle.schedule_patterns.proofs.statement.read_statement.Goals as goal
 
 pub returns-in-Some : goal.returns-in-Some
 returns-in-Some c = means _ _ _ _ _ _ (taken_skip _ _ c.in-Some.ensures) refl
 
-pub returns-in_err-rest : goal.returns-in_err-rest
-returns-in_err-rest c = exit_as _ _ _ _ _ c.from_residual.ensures.1 (whole_err _ _ _ _ _ _ (step_if _ _ c.in-Some-behind.ensures) c.in_err-rest.ensures)
-
 pub returns-in-Some-behind : goal.returns-in-Some-behind
-returns-in-Some-behind c = means _ _ _ _ _ _ (step_taken _ _ _ _ _ _ _ (step_if _ _ c.in-Some-behind.ensures) c.in_ok-rest.ensures) refl
+returns-in-Some-behind c = reads_followed _ _ _ _ _ _ plain_pattern _ (λ x. x.0) (λ x. x.1.now) _ (step_if _ _ c.in-Some-behind.ensures) c.followed_by.ensures (λ s. refl)
 
 pub returns-in_err-index : goal.returns-in_err-index
-returns-in_err-index c = exit_as _ _ _ _ _ c.from_residual-in_err-index.ensures.1 (whole_err _ _ _ _ _ _ (step_for _ _ c.in-Some-behind-2.ensures) c.in_err-index.ensures)
+returns-in_err-index c = exit_as _ _ _ _ _ c.from_residual.ensures.1 (whole_err _ _ _ _ _ _ (step_for _ _ c.in-Some-behind-2.ensures) c.in_err-index.ensures)
 
 pub returns-in-Some-behind-2 : goal.returns-in-Some-behind-2
 returns-in-Some-behind-2 c = means _ _ _ _ _ _ (step_taken _ _ _ _ _ _ _ (step_for _ _ c.in-Some-behind-2.ensures) c.in_ok-index.ensures) refl
