@@ -7,10 +7,11 @@ use Rattle.std.specs.List.{list_all, count_by, flat_map, find, remove, position_
 use Rattle.affine_forms.specs.Affine.{Affine, Constraints}
 use Rattle.affine_prover.specs.declared.answer.Verdict.{Verdict}
 use Rattle.affine_prover.specs.declared.answer.Verdict.TheVariants.{Shown, Open, TooMany, TooWide}
-pub use Rattle.affine_rows.specs.Rows.{gcd_within, gcd, gcd_of, coefficient, is_constant, weighed, is_narrow_weighed, weighed_lists, are_narrow_weighed, combined, is_narrow_combined, without}
-pub use Rattle.affine_rows.specs.Rows.{tightened, same_list, joined, merged, is_false, normalized}
+pub use Rattle.affine_rows.specs.Rows.{gcd_within, gcd_of, coefficient, is_constant, weighed, is_narrow_weighed, weighed_lists, are_narrow_weighed, combined, is_narrow_combined, without}
+pub use Rattle.affine_rows.specs.Rows.{tightened, same_list, joined, merged, is_false}
 pub use Rattle.affine_rows.specs.Rows.{is_lower_bound, is_upper_bound, is_free, pairs, least_at, lower_factor, upper_factor, combination, is_narrow_combination, following, is_narrow_following}
-pub use Rattle.affine_rows.specs.Rows.{is_impossible, is_unit, has_unit, unit_place, solving_factor, substituted, is_narrow_substituted, negated, reduced}
+unfoldable pub use Rattle.affine_rows.specs.Rows.{gcd, normalized, reduced}
+pub use Rattle.affine_rows.specs.Rows.{is_impossible, is_unit, has_unit, unit_place, solving_factor, substituted, is_narrow_substituted, negated}
 
 -- ---- rows: one variable after the other
 
