@@ -10,16 +10,17 @@ use Rattle.std.proofs.lemmas.Bool.Decides.{nat_tests}
 use Rattle.std.proofs.Math.IntN.{*ℤ-zero, zero-*ℤ}
 use Rattle.affine_prover.specs.declared.answer.Verdict.TheVariants.{Shown, Open, TooWide}
 use Rattle.affine_forms.specs.Affine.{Affine, Constraints, dot, value, HasNoIntegerPoint}
-use Rattle.affine_prover.specs.Elimination.{gcd_of, weighed, weighed_lists, combined, coefficient, tightened, is_constant, is_impossible, is_unit, has_unit, unit_place, solving_factor, substituted, is_narrow_substituted, negated, put_in, round_of, round_on, reduced, round, verdict_on, elimination, verdict_on_rows, Round}
+use Rattle.affine_prover.specs.Elimination.{put_in, round_of, round_on, round, verdict_on, elimination, verdict_on_rows, Round}
+use Rattle.affine_rows.specs.Rows.{gcd_of, weighed, weighed_lists, combined, coefficient, tightened, is_constant, is_impossible, is_unit, has_unit, unit_place, solving_factor, substituted, is_narrow_substituted, negated, reduced}
 use Rattle.affine_prover.specs.Elimination.Round.{Finished, Solved, Unsolved}
 use Rattle.affine_forms.proofs.Integers.{times-add, neg-times}
-use Rattle.affine_prover.proofs.Values.{value-combined, value-without}
-use Rattle.affine_prover.proofs.Divisors.{gcd_of-divides, quotient-exact}
-use Rattle.affine_prover.proofs.Tightening.{dot-divided}
-use Rattle.affine_prover.proofs.Everywhere.{everywhere-append, everywhere-map, everywhere-flat_map, everywhere-filter, everywhere-like, everywhere-both}
-use Rattle.affine_prover.proofs.Widths.{IsWide, tightened-wide, length-weighed_lists, length-remove}
-use Rattle.affine_prover.proofs.Truth.{Holds}
-use Rattle.affine_prover.proofs.Combining.{HoldsWide, weighed_at}
+use Rattle.affine_rows.proofs.Values.{value-combined, value-without}
+use Rattle.affine_rows.proofs.Divisors.{gcd_of-divides, quotient-exact}
+use Rattle.affine_rows.proofs.Tightening.{dot-divided}
+use Rattle.affine_rows.proofs.Everywhere.{everywhere-append, everywhere-map, everywhere-flat_map, everywhere-filter, everywhere-like, everywhere-both}
+use Rattle.affine_rows.proofs.Widths.{IsWide, tightened-wide, length-weighed_lists, length-remove}
+use Rattle.affine_rows.proofs.Truth.{Holds}
+use Rattle.affine_rows.proofs.Combining.{HoldsWide, weighed_at}
 use Rattle.affine_prover.proofs.Shown.{IsRight, verdict_on_rows-right}
 
 -- the equation is 0 at the point

@@ -9,12 +9,13 @@ use Rattle.std.proofs.lemmas.List.Elements.{All-from_recursion, recursion_from_A
 use Rattle.affine_prover.specs.declared.answer.Verdict.{Verdict}
 use Rattle.affine_prover.specs.declared.answer.Verdict.TheVariants.{Shown, Open, TooMany, TooWide}
 use Rattle.affine_forms.specs.Affine.{Affine}
-use Rattle.affine_prover.specs.Shapes.{AreWide}
-use Rattle.affine_prover.specs.Elimination.{is_free, is_lower_bound, is_upper_bound, pairs, least_at, normalized, combination, is_narrow_combination, without, following, is_narrow_following, variable_eliminated, stage, stage_of, verdict_on_rows, Stage, lower_factor, upper_factor, weighed_lists}
+use Rattle.affine_rows.specs.Shapes.{AreWide}
+use Rattle.affine_prover.specs.Elimination.{variable_eliminated, stage, stage_of, verdict_on_rows, Stage}
+use Rattle.affine_rows.specs.Rows.{is_free, is_lower_bound, is_upper_bound, pairs, least_at, normalized, combination, is_narrow_combination, without, following, is_narrow_following, lower_factor, upper_factor, weighed_lists}
 use Rattle.affine_prover.specs.Elimination.Stage.{Ended, Rows}
-use Rattle.affine_prover.proofs.Everywhere.{everywhere-append, everywhere-map, everywhere-flat_map, everywhere-filter, everywhere-like}
-use Rattle.affine_prover.proofs.Widths as widths
-use Rattle.affine_prover.proofs.Widths.{IsWide, normalized-wide, least_at-below, length-weighed_lists, length-remove}
+use Rattle.affine_rows.proofs.Everywhere.{everywhere-append, everywhere-map, everywhere-flat_map, everywhere-filter, everywhere-like}
+use Rattle.affine_rows.proofs.Widths as widths
+use Rattle.affine_rows.proofs.Widths.{IsWide, normalized-wide, least_at-below, length-weighed_lists, length-remove}
 
 -- ---- the parts of a stage
 pub stage-none : (n : ℕ) (rows : List Affine) → None ≡ normalized rows → Ended Shown ≡ stage n rows

@@ -1,5 +1,6 @@
-pub mod Shapes
+pub use Rattle.affine_rows.specs.Shapes
+pub use Rattle.affine_rows.specs.Rows
+pub use Rattle.affine_rows.specs.Settled
 pub mod Elimination
-pub mod Settled
 pub mod Steps
 pub mod Laws

@@ -6,9 +6,9 @@ ghost use Rattle.affine_prover.specs.Elimination.{elimination};
 ghost use Rattle.affine_prover.specs.declared.answer.Verdict.TheVariants.{Shown, Open};
 
 use crate::answer::Verdict;
-use crate::dense::dense_rows;
 use crate::equations::solve;
 use affine_forms::System;
+use affine_rows::dense_rows;
 use std::alloc::{AllocError, Global};
 
 /// Says whether the system has an integer point, as far as Fourier-Motzkin elimination tells:

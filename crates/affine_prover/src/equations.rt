@@ -1,16 +1,15 @@
 //! Equations are solved and put in.
-ghost use Rattle.std.specs.Prelude.{◌≡◌, ◌<◌, IfOk, Some, None, IsTrue, if◌then◌else◌, map, length, is_some, ◌++◌, ◌∷◌, [], List, ℤ};
-ghost use Rattle.std.specs.List.{list_all, position, find, flat_map};
+ghost use Rattle.std.specs.Prelude.{◌≡◌, IfOk, Some};
+ghost use Rattle.std.specs.List.{position, find};
 ghost use Rattle.std.specs.Option.{option_map};
-ghost use Rattle.affine_forms.specs.Affine.{IsIntegerPoint};
-ghost use Rattle.affine_prover.specs.Shapes.{AreWide};
-ghost use Rattle.affine_prover.specs.Elimination.{has_unit, unit_place, substituted, is_narrow_substituted, negated, reduced, round, verdict_on, is_unit, coefficient, round_of};
+ghost use Rattle.affine_rows.specs.Shapes.{AreWide};
+ghost use Rattle.affine_rows.specs.Rows.{is_impossible, has_unit, reduced};
+ghost use Rattle.affine_prover.specs.Elimination.{round, verdict_on, round_of};
 ghost use Rattle.affine_prover.specs.Steps.{round_of_turn};
-ghost use Rattle.affine_prover.specs.declared.answer.Verdict.TheVariants.{Shown};
 
 use crate::answer::Verdict;
 use crate::eliminate::eliminate;
-use crate::row::DenseRow;
+use affine_rows::{DenseRow, solvable, substitute, two_rows_each};
 use std::alloc::{AllocError, Global};
 
 /// What one round leaves.
@@ -24,13 +23,22 @@ enum Turn {
     Unsolved(Vec<DenseRow>),
 }
 
+/// Whether no integers make the sum 0: the gcd of the coefficients does not divide the constant.
+fn is_impossible(e: &DenseRow) -> bool
+    ensures { result ≡ is_impossible e.now }
+{
+    let g = e.gcd();
+    let k = e.constant().unsigned_abs();
+    if g == 0 { k != 0 } else { k % g != 0 }
+}
+
 /// The equations divided by the gcd of their coefficients, or `None` where no integers meet one.
 fn reduce(alloc: Global, equations: Vec<DenseRow>) -> Result<Option<Vec<DenseRow>>, AllocError>
     ensures { IfOk result (λ r. option_map (λ v. v.items) r ≡ reduced equations.items) }
 {
     let mut kept = Vec::new(alloc);
     for mut e in equations {
-        if e.is_impossible() {
+        if is_impossible(&e) {
             return Ok(None);
         }
         e.tighten();
@@ -39,52 +47,6 @@ fn reduce(alloc: Global, equations: Vec<DenseRow>) -> Result<Option<Vec<DenseRow
         }
     }
     Ok(Some(kept))
-}
-
-/// The rows with the solution of `e` for its variable `v` put in, where each number on the way is at most 2^100 in size.
-fn substitute(
-    alloc: Global,
-    v: usize,
-    e: &DenseRow,
-    rows: Vec<DenseRow>,
-) -> Result<Option<Vec<DenseRow>>, AllocError>
-    requires wide { AreWide (length e.now.coefficients) rows.items }
-    requires below { v < length e.now.coefficients }
-    requires unit { IsTrue (is_unit (coefficient e.now v)) }
-    ensures { IfOk result (λ r. option_map (λ v. v.items) r ≡ (if list_all (is_narrow_substituted v e.now) rows.items then Some (map (substituted v e.now) rows.items) else None)) }
-{
-    let mut next = Vec::with_capacity(alloc, rows.len())?;
-    for row in rows {
-        match row.substituted(v, e) {
-            Some(sum) => next.push(sum)?,
-            None => return Ok(None),
-        }
-    }
-    Ok(Some(next))
-}
-
-/// The place of the first equation that has a coefficient 1 or -1.
-fn solvable(equations: &[DenseRow]) -> Option<usize>
-    ensures { result ≡ position has_unit equations.now }
-{
-    equations.iter().position(|e| e.has_unit())
-}
-
-/// The rows, and two more for each equation.
-fn two_rows_each(
-    alloc: Global,
-    equations: Vec<DenseRow>,
-    rows: Vec<DenseRow>,
-) -> Result<Vec<DenseRow>, AllocError>
-    ensures { IfOk result (λ v. v.items ≡ rows.items ++ flat_map (λ e. e ∷ negated e ∷ []) equations.items) }
-{
-    let mut all = rows;
-    for e in equations {
-        let opposite = e.negated(alloc)?;
-        all.push(e)?;
-        all.push(opposite)?;
-    }
-    Ok(all)
 }
 
 /// The equation at place `i` is solved and put in everywhere.

@@ -3,15 +3,9 @@
 
 mod answer;
 mod decide;
-mod dense;
 mod eliminate;
 mod equations;
 pub mod laws;
-mod list;
-mod normalize;
-mod number;
-mod row;
-mod signs;
 
 pub use answer::Verdict;
 pub use decide::verdict;

@@ -14,14 +14,13 @@ pub All-from_contains : {X : Type 0} (P : X → Type 0) (xs : List X) → ((x : 
 All-from_contains P xs f k d within = f (get_or xs k d) (k, within, get_or_default xs k (get_or xs k d) d within)
 
 -- one chunk more of what is left
-pub chunk_on : {X Y A : Type 0} (f : X → A) (g : Y → A) (all new chunk : List X) (ss : List Y) (start n : ℕ) → new ≡ all ++ chunk → map f chunk ≡ map g (slice_range ss start (start + n)) → map f all ++ map g (drop start ss) ≡ map g ss → map f new ++ map g (drop (start + n) ss) ≡ map g ss
-chunk_on f g all new chunk ss start n e h i =
+pub chunk_on : {X Y A : Type 0} (f : X → A) (g : Y → A) (all new : List X) (ss : List Y) (start n : ℕ) → map f new ≡ map f all ++ map g (slice_range ss start (start + n)) → map f all ++ map g (drop start ss) ≡ map g ss → map f new ++ map g (drop (start + n) ss) ≡ map g ss
+chunk_on f g all new ss start n h i =
     let m : start + n - start ≡ n = omega arith in
-    let c : map f chunk ≡ map g (take n (drop start ss)) = h ∙ ap (λ k. map g (take k (drop start ss))) m in
-    ap (λ xs. map f xs ++ map g (drop (start + n) ss)) e
-    ∙ ap (λ xs. xs ++ map g (drop (start + n) ss)) (map-append f all chunk)
-    ∙ append_assoc (map f all) (map f chunk) (map g (drop (start + n) ss))
-    ∙ ap₂ (λ x y. map f all ++ (x ++ map g y)) c (sym (drop-drop n start ss))
+    let c : map f new ≡ map f all ++ map g (take n (drop start ss)) = h ∙ ap (λ k. map f all ++ map g (take k (drop start ss))) m in
+    ap (λ xs. xs ++ map g (drop (start + n) ss)) c
+    ∙ append_assoc (map f all) (map g (take n (drop start ss))) (map g (drop (start + n) ss))
+    ∙ ap (λ ys. map f all ++ (map g (take n (drop start ss)) ++ map g ys)) (sym (drop-drop n start ss))
     ∙ ap (λ xs. map f all ++ xs) (sym (map-append g (take n (drop start ss)) (drop n (drop start ss))) ∙ ap (map g) (take-append-drop n (drop start ss)))
     ∙ i
 

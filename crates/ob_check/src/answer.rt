@@ -2,7 +2,7 @@
 use affine_prover::Verdict;
 
 /// What the verdicts on a list of obligations come to.
-#[derive(Clone, Copy, PartialEq, Eq, Drop, Debug)]
+#[derive(Clone, Copy, Drop)]
 pub enum Answer {
     /// Each verdict is `Shown`.
     AllShown,

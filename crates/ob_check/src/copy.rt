@@ -6,22 +6,14 @@ ghost use Rattle.ob_check.specs.Rows.{row_numbers};
 use affine_forms::{Row, System};
 use std::alloc::{AllocError, Global};
 
-/// A copy of a row.
-fn copy_of_row(alloc: Global, r: &Row) -> Result<Row, AllocError>
-    ensures { IfOk result (λ c. row_numbers c ≡ row_numbers r.now) }
-{
-    let terms = Vec::from_slice(alloc, &r.terms)?;
-    Ok(Row::new(terms, r.constant))
-}
-
 /// A copy of each row.
 fn copies_of_rows(alloc: Global, rows: &[Row]) -> Result<Vec<Row>, AllocError>
     ensures { IfOk result (λ v. map row_numbers v.items ≡ map row_numbers rows.now) }
 {
     let mut all = Vec::new(alloc);
     for r in rows {
-        let copy = copy_of_row(alloc, r)?;
-        all.push(copy)?;
+        let terms = Vec::from_slice(alloc, &r.terms)?;
+        all.push(Row::new(terms, r.constant))?;
     }
     Ok(all)
 }

@@ -1,5 +1,5 @@
 //! The verdicts on systems that no cache knows, chunk by chunk.
-ghost use Rattle.std.specs.Prelude.{◌≡◌, map, max, IfOk};
+ghost use Rattle.std.specs.Prelude.{◌≡◌, ◌++◌, map, max, IfOk, OnOk};
 ghost use Rattle.std.specs.Int.{div_ceil};
 ghost use Rattle.affine_forms.specs.System.{plain_system};
 ghost use Rattle.ob_check.specs.Systems.{system_known};
@@ -7,6 +7,7 @@ ghost use Rattle.ob_check.specs.Systems.{system_known};
 use crate::gate::Gate;
 use crate::known::Known;
 use affine_forms::System;
+use affine_prover::verdict;
 use std::alloc::{AllocError, Global};
 
 /// How many systems a chunk has, but for the last one: a sixteenth of them, and at least 16, so that there are at most 16 chunks.
@@ -16,22 +17,25 @@ fn chunk_size(systems: usize) -> usize
     systems.div_ceil(16).max(16)
 }
 
-/// Decides the systems of the chunk of that number.
+/// Decides the systems of the chunk of that number, and puts them last.
 fn decide_chunk<'a, G: Gate>(
     alloc: Global,
     chunk: &[&'a System],
     number: usize,
     gate: &G,
-) -> Result<Vec<Known<'a>>, AllocError>
-    ensures { IfOk result (λ v. map system_known v.items ≡ map (λ s. plain_system s.now) chunk.now) }
+    all: &mut Vec<Known<'a>>,
+) -> Result<(), AllocError>
+    ensures { OnOk result (map system_known all.new.items ≡ map system_known all.old.items ++ map (λ s. plain_system s.now) chunk.now) }
 {
     gate.enter(number);
-    let mut all = Vec::new(alloc);
     for system in chunk {
-        let known = Known::decided(alloc, *system)?;
-        all.push(known)?;
+        let verdict = verdict(alloc, *system)?;
+        all.push(Known {
+            system: *system,
+            verdict,
+        })?;
     }
-    Ok(all)
+    Ok(())
 }
 
 /// Decides systems, one chunk after the other.
@@ -48,8 +52,7 @@ pub(crate) fn decide_all<'a, G: Gate>(
     let mut number = 0;
     while start < systems.len() {
         let end = start + size.min(systems.len() - start);
-        let decided = decide_chunk(alloc, &systems[start..end], number, gate)?;
-        all.extend_from_slice(&decided)?;
+        decide_chunk(alloc, &systems[start..end], number, gate, &mut all)?;
         start = end;
         number += 1;
     }

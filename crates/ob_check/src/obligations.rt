@@ -75,6 +75,18 @@ pub fn new_cache(alloc: Global) -> Result<Cache, AllocError>
     Cache::empty(alloc)
 }
 
+/// Decides the systems that the cache did not know, in order.
+fn decide_missing<'a, G: Gate>(
+    alloc: Global,
+    found: &[Found<'a>],
+    gate: &G,
+) -> Result<Vec<Known<'a>>, AllocError>
+    ensures { IfOk result (λ v. map system_known v.items ≡ missing_of found.now) }
+{
+    let missing = missing(alloc, found)?;
+    decide_all(alloc, &missing, gate)
+}
+
 /// Decides obligations: whether each system is shown to have no integer point, and else which is the first that is not.
 ///
 /// Each system is looked up in the cache, in order. Those that it does not know are cut into chunks of a sixteenth of their
@@ -92,8 +104,7 @@ pub fn discharge<R: Threads + Sync, G: Gate>(
     ensures held { OnOk result (held cache.new ≡ discharged (held cache.old) (systems_of obs.now)) }
 {
     let found = looked_up(alloc, obs, cache)?;
-    let missing = missing(alloc, &found)?;
-    let decided = decide_all(alloc, &missing, gate)?;
+    let decided = decide_missing(alloc, &found, gate)?;
     cache.keep_all(alloc, &decided)?;
     Ok(answer(&found, &decided))
 }

@@ -1,4 +1,4 @@
-use Rattle.std.proofs.Common.{◌++◌, ◌∙◌, ap, arith}
+use Rattle.std.proofs.Common.{arith}
 use Rattle.affine_forms.specs.System.{plain_system}
 use Rattle.ob_check.specs.Systems.{system_known}
 use Rattle.ob_check.proofs.Lists.{chunk_on}
@@ -6,7 +6,7 @@ use Rattle.ob_check.proofs.decide.decide_all.Goals as goal
 
 pub loop-start-preserved : goal.loop-start-preserved
 loop-start-preserved g c = record {
-  decided = chunk_on system_known (λ s. plain_system s.now) c.loop-start.all.items c.extend_from_slice.new.self.items c.in_ok-decided.decided.items c.args.systems.now c.loop-start.start c.min.result (c.in_ok-extend_from_slice.ensures.items ∙ ap (λ xs. c.loop-start.all.items ++ xs) c.deref.ensures.value) c.in_ok-decided.ensures c.loop-start.invariant.decided;
+  decided = chunk_on system_known (λ s. plain_system s.now) c.loop-start.all.items c.decide_chunk.new.all.items c.args.systems.now c.loop-start.start c.min.result c.in_ok-decide_chunk.ensures c.loop-start.invariant.decided;
   counted = omega (arith, c.min.ensures, c.loop-start.invariant.some, c.loop-start.invariant.counted, c.loop-start.invariant.inside, c.loop-start-test.true);
   inside = omega (arith, c.min.ensures, c.loop-start.invariant.some, c.loop-start.invariant.inside, c.loop-start-test.true);
   some = c.loop-start.invariant.some;
