@@ -1,6 +1,5 @@
 //! Arguments of calls.
-ghost use Rattle.std.specs.Prelude.{◌≡◌, [], ◌∷◌, ◌++◌, length, map, OnOk, OnErr, slice_get, option_map};
-ghost use Rattle.std.specs.Option.{option_copied};
+ghost use Rattle.std.specs.Prelude.{◌≡◌, [], ◌∷◌, ◌++◌, length, map, OnOk, OnErr};
 ghost use Rattle.exo_tree.specs.PlainArgument.{argument};
 
 use crate::control::{Cond, Ctrl};
@@ -62,13 +61,6 @@ impl Args {
         ensures { result ≡ length self.now }
     {
         self.items.len()
-    }
-
-    /// The argument at that index; None exactly where the list is not so long.
-    pub fn get(&self, k: usize) -> Option<&Arg>
-        ensures { option_map argument (option_copied result) ≡ slice_get self.now k }
-    {
-        self.items.get(k)
     }
 
     pub fn as_slice(&self) -> &[Arg]

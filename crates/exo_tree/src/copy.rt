@@ -41,7 +41,7 @@ impl Ctrl {
     pub fn duplicate(&self, alloc: Global) -> Result<Ctrl, AllocError>
         ensures { IfOk result (λ e. control e ≡ control self.now) }
     {
-        Ok(self.mapped(alloc, &Same)?)
+        self.mapped(alloc, &Same)
     }
 }
 
@@ -50,7 +50,7 @@ impl Cond {
     pub fn duplicate(&self, alloc: Global) -> Result<Cond, AllocError>
         ensures { IfOk result (λ c. condition c ≡ condition self.now) }
     {
-        Ok(self.mapped(alloc, &Same)?)
+        self.mapped(alloc, &Same)
     }
 }
 
@@ -59,7 +59,7 @@ impl Coord {
     pub fn duplicate(&self, alloc: Global) -> Result<Coord, AllocError>
         ensures { IfOk result (λ c. coordinate c ≡ coordinate self.now) }
     {
-        Ok(self.mapped(alloc, &Same)?)
+        self.mapped(alloc, &Same)
     }
 }
 
@@ -68,7 +68,7 @@ impl DataExpr {
     pub fn duplicate(&self, alloc: Global) -> Result<DataExpr, AllocError>
         ensures { IfOk result (λ e. datum e ≡ datum self.now) }
     {
-        Ok(self.mapped(alloc, &Same)?)
+        self.mapped(alloc, &Same)
     }
 }
 
@@ -77,7 +77,7 @@ impl Arg {
     pub fn duplicate(&self, alloc: Global) -> Result<Arg, AllocError>
         ensures { IfOk result (λ a. argument a ≡ argument self.now) }
     {
-        Ok(self.mapped(alloc, &Same)?)
+        self.mapped(alloc, &Same)
     }
 }
 
@@ -86,7 +86,7 @@ impl Indices {
     pub fn duplicate(&self, alloc: Global) -> Result<Indices, AllocError>
         ensures { IfOk result (λ l. l ≡ self.now) }
     {
-        Ok(self.mapped(alloc, &Same)?)
+        self.mapped(alloc, &Same)
     }
 }
 
@@ -95,7 +95,7 @@ impl Coords {
     pub fn duplicate(&self, alloc: Global) -> Result<Coords, AllocError>
         ensures { IfOk result (λ l. l ≡ self.now) }
     {
-        Ok(self.mapped(alloc, &Same)?)
+        self.mapped(alloc, &Same)
     }
 }
 
@@ -104,7 +104,7 @@ impl Args {
     pub fn duplicate(&self, alloc: Global) -> Result<Args, AllocError>
         ensures { IfOk result (λ l. l ≡ self.now) }
     {
-        Ok(self.mapped(alloc, &Same)?)
+        self.mapped(alloc, &Same)
     }
 }
 
@@ -113,7 +113,7 @@ impl Stmt {
     pub fn duplicate(&self, alloc: Global) -> Result<Stmt, AllocError>
         ensures { IfOk result (λ s. statement s ≡ statement self.now) }
     {
-        Ok(self.mapped(alloc, &Same)?)
+        self.mapped(alloc, &Same)
     }
 }
 
@@ -122,6 +122,6 @@ impl Block {
     pub fn duplicate(&self, alloc: Global) -> Result<Block, AllocError>
         ensures { IfOk result (λ b. b ≡ self.now) }
     {
-        Ok(self.mapped(alloc, &Same)?)
+        self.mapped(alloc, &Same)
     }
 }

@@ -1,15 +1,13 @@
-//! Copies of procedures and of what units list. A copy is the same plain tree.
+//! Copies of procedures. A copy is the same plain tree.
 ghost use Rattle.std.specs.Prelude.{◌≡◌, IfOk};
 ghost use Rattle.exo_tree.specs.Tree.{block};
 ghost use Rattle.exo_tree.specs.PlainParam.{parameter_kind, parameter};
 ghost use Rattle.exo_tree.specs.PlainProcedure.{procedure};
-ghost use Rattle.exo_tree.specs.PlainTables.{config_field, memory_kind};
 
 use crate::block::Block;
 use crate::param::{Param, ParamKind};
 use crate::procedure::Proc;
 use crate::text::Text;
-use crate::unit::{Field, MemoryClass};
 use std::alloc::{AllocError, Global};
 
 impl ParamKind {
@@ -55,7 +53,7 @@ fn copied_template(alloc: Global, template: &Option<Text>) -> Result<Option<Text
 
 impl Proc {
     /// A copy with another body.
-    pub(crate) fn with_body(&self, alloc: Global, body: Block) -> Result<Proc, AllocError>
+    pub fn with_body(&self, alloc: Global, body: Block) -> Result<Proc, AllocError>
         ensures { IfOk result (λ q. procedure q
             ≡ record (procedure self.now) { body = block body }) }
     {
@@ -73,35 +71,5 @@ impl Proc {
     {
         let body = self.body.duplicate(alloc)?;
         self.with_body(alloc, body)
-    }
-}
-
-impl Field {
-    pub fn duplicate(&self, alloc: Global) -> Result<Field, AllocError>
-        ensures { IfOk result (λ f. config_field f ≡ config_field self.now) }
-    {
-        Ok(Field {
-            config: self.config.duplicate(alloc)?,
-            name: self.name.duplicate(alloc)?,
-            kind: self.kind,
-        })
-    }
-}
-
-impl MemoryClass {
-    pub fn duplicate(&self, alloc: Global) -> Result<MemoryClass, AllocError>
-        ensures { IfOk result (λ m. memory_kind m ≡ memory_kind self.now) }
-    {
-        Ok(MemoryClass {
-            name: self.name.duplicate(alloc)?,
-            ctype: self.ctype.duplicate(alloc)?,
-            lanes: self.lanes,
-            cell: self.cell,
-            stack: self.stack,
-            read: self.read,
-            write: self.write,
-            reduce: self.reduce,
-            include: self.include.duplicate(alloc)?,
-        })
     }
 }

@@ -1,5 +1,5 @@
 //! The text lines of procedures and statements.
-ghost use Rattle.std.specs.Prelude.{◌≡◌, [], ◌∷◌, ◌++◌, length, OnOk, OnErr, slice_get};
+ghost use Rattle.std.specs.Prelude.{◌≡◌, [], ◌∷◌, ◌++◌, OnOk, OnErr, slice_get};
 ghost use Rattle.std.specs.Option.{option_copied};
 
 use std::alloc::{AllocError, Global};
@@ -38,12 +38,6 @@ impl StatementLines {
     {
         self.items.push(line)?;
         Ok(())
-    }
-
-    pub fn len(&self) -> usize
-        ensures { result ≡ length self.now }
-    {
-        self.items.len()
     }
 
     pub fn as_slice(&self) -> &[u32]
@@ -91,12 +85,6 @@ impl Lines {
     {
         self.items.push(item)?;
         Ok(())
-    }
-
-    pub fn len(&self) -> usize
-        ensures { result ≡ length self.now }
-    {
-        self.items.len()
     }
 
     /// The lines of the procedure of that number; None exactly where the text has not so many.

@@ -103,19 +103,6 @@ impl Conds {
         Ok(())
     }
 
-    pub fn len(&self) -> usize
-        ensures { result ≡ length self.now }
-    {
-        self.items.len()
-    }
-
-    /// The condition at that index; None exactly where the list is not so long.
-    pub fn get(&self, k: usize) -> Option<&Cond>
-        ensures { option_map condition (option_copied result) ≡ slice_get self.now k }
-    {
-        self.items.get(k)
-    }
-
     pub fn as_slice(&self) -> &[Cond]
         ensures { map condition result.now ≡ self.now }
     {

@@ -70,7 +70,7 @@ impl Ctrl {
     }
 
     /// Copies of this expression and another.
-    fn mapped_with<L: Leaves>(
+    pub(crate) fn mapped_with<L: Leaves>(
         &self,
         alloc: Global,
         leaves: &L,

@@ -130,8 +130,8 @@ fn loop_over<L: Leaves>(
         (mapped_control (L.leaves leaves.now) (control hi.now)) (block body)) }
 {
     let binder = leaves.binder(alloc, i)?;
-    let low = lo.mapped(alloc, leaves)?;
-    Ok(Stmt::For(binder, low, hi.mapped(alloc, leaves)?, body))
+    let (low, high) = lo.mapped_with(alloc, leaves, hi)?;
+    Ok(Stmt::For(binder, low, high, body))
 }
 
 fn allocation<L: Leaves>(

@@ -13,7 +13,7 @@ use arrayvec::ArrayVec;
 use std::marker::Model;
 
 /// Which block of a statement. A loop's block and the first one of a condition are the main one.
-#[derive(Clone, Copy, Debug, PartialEq, Eq)]
+#[derive(Clone, Copy, PartialEq, Eq)]
 pub enum Branch {
     Main,
     Else,

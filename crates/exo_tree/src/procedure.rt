@@ -1,5 +1,5 @@
 //! Procedures.
-ghost use Rattle.std.specs.Prelude.{◌≡◌, [], ◌∷◌, ◌++◌, length, map, IfOk, OnOk, OnErr, slice_get, option_map};
+ghost use Rattle.std.specs.Prelude.{◌≡◌, [], ◌∷◌, ◌++◌, length, map, OnOk, OnErr, slice_get, option_map};
 ghost use Rattle.std.specs.Option.{option_copied};
 ghost use Rattle.exo_tree.specs.PlainProcedure.{procedure};
 
@@ -75,15 +75,5 @@ impl Procs {
         ensures { map procedure result.now ≡ self.now }
     {
         self.items.as_slice()
-    }
-
-    pub fn duplicate(&self, alloc: Global) -> Result<Procs, AllocError>
-        ensures { IfOk result (λ l. l ≡ self.now) }
-    {
-        let mut copied = Procs::new(alloc);
-        for item in &self.items {
-            copied.push(item.duplicate(alloc)?)?;
-        }
-        Ok(copied)
     }
 }

@@ -1,5 +1,5 @@
 //! Units: all that a unit text declares, and the versions made by steps.
-ghost use Rattle.std.specs.Prelude.{◌≡◌, [], ◌∷◌, ◌++◌, length, map, IfOk, OnOk, OnErr, slice_get, option_map};
+ghost use Rattle.std.specs.Prelude.{◌≡◌, [], ◌∷◌, ◌++◌, length, map, OnOk, OnErr, slice_get, option_map};
 ghost use Rattle.std.specs.Option.{option_copied};
 ghost use Rattle.exo_tree.specs.PlainTables.{config_field, memory_kind};
 
@@ -99,16 +99,6 @@ impl Fields {
     {
         self.items.as_slice()
     }
-
-    pub fn duplicate(&self, alloc: Global) -> Result<Fields, AllocError>
-        ensures { IfOk result (λ l. l ≡ self.now) }
-    {
-        let mut copied = Fields::new(alloc);
-        for item in &self.items {
-            copied.push(item.duplicate(alloc)?)?;
-        }
-        Ok(copied)
-    }
 }
 
 /// The memories of a unit.
@@ -166,15 +156,5 @@ impl Memories {
         ensures { map memory_kind result.now ≡ self.now }
     {
         self.items.as_slice()
-    }
-
-    pub fn duplicate(&self, alloc: Global) -> Result<Memories, AllocError>
-        ensures { IfOk result (λ l. l ≡ self.now) }
-    {
-        let mut copied = Memories::new(alloc);
-        for item in &self.items {
-            copied.push(item.duplicate(alloc)?)?;
-        }
-        Ok(copied)
     }
 }

@@ -6,11 +6,9 @@ ghost use Rattle.exo_tree.specs.PlainStatement.{statement};
 
 use crate::place::{read_path, read_two};
 use crate::question::UNCLEAR;
-use exo_tree::{
-    Binder, Block, Ctrl, EditError, Id, Name, Path, Proc, Stmt, Unit, at, fresh_copy, replace_at,
-    subst,
-};
+use exo_tree::{Binder, Block, Ctrl, Id, Name, Path, Proc, Stmt, Unit, at, fresh_copy, subst};
 use std::alloc::{AllocError, Global};
+use tree_edits::{EditError, fits, replace_at};
 
 /// A loop over a block from 0 up to the variable 1.
 fn loop_over(alloc: Global, id: u32, body: Block) -> Result<Stmt, AllocError>
@@ -61,7 +59,7 @@ fn answer(r: &Result<Proc, EditError>) -> &'static str {
 
 /// What comes of so many statements at a place that are replaced by a block, in a word.
 fn replaced(alloc: Global, p: &Proc, place: &Path, count: u32, with: &Block) -> &'static str {
-    if !p.body.fits(32) {
+    if !fits(&p.body, 32) {
         return "too deep before";
     }
     answer(&replace_at(alloc, p, place, count, with))

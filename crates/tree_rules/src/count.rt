@@ -94,13 +94,11 @@ fn put_statement(ids: &mut Vec<u32>, s: &Stmt) -> Result<(), AllocError>
     match s {
         Stmt::If(_, a, b) => {
             put_block(ids, a)?;
-            put_block(ids, b)?;
-            Ok(())
+            put_block(ids, b)
         }
         Stmt::For(i, _, _, b) => {
             ids.push(i.id.0)?;
-            put_block(ids, b)?;
-            Ok(())
+            put_block(ids, b)
         }
         Stmt::Alloc(x, _, _, _) | Stmt::View(x, _, _) => {
             ids.push(x.id.0)?;

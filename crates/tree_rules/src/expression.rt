@@ -57,14 +57,14 @@ fn inside_control(names: &Names, may: Reads, e: &Ctrl) -> Findings
             Findings::rule(may.strides).and(use_of(sort, has_dimension(*k, sort)))
         }
         Ctrl::Neg(a) => inside_control(names, may, a),
-        Ctrl::Add(a, b) => inside_control(names, may, a).and(inside_control(names, may, b)),
-        Ctrl::Sub(a, b) => inside_control(names, may, a).and(inside_control(names, may, b)),
+        Ctrl::Add(a, b) | Ctrl::Sub(a, b) => {
+            inside_control(names, may, a).and(inside_control(names, may, b))
+        }
         Ctrl::Mul(a, b) => {
             let sides = inside_control(names, may, a).and(inside_control(names, may, b));
             in_product(sides, a, b)
         }
-        Ctrl::Div(a, c) => inside_control(names, may, a).and(divisor(*c)),
-        Ctrl::Mod(a, c) => inside_control(names, may, a).and(divisor(*c)),
+        Ctrl::Div(a, c) | Ctrl::Mod(a, c) => inside_control(names, may, a).and(divisor(*c)),
     }
 }
 
@@ -85,13 +85,6 @@ pub(crate) fn in_controls(names: &Names, es: &[Ctrl]) -> Findings
     in_control(names, PLAINLY, e).and(in_controls(names, rest))
 }
 
-/// What is found in the sides of a comparison.
-fn in_pair(names: &Names, may: Reads, a: &Ctrl, b: &Ctrl) -> Findings
-    ensures { result ≡ both (found.found_in_control (kinds_seen names.now) (reads may) (scope_seen names.now) (control a.now)) (found.found_in_control (kinds_seen names.now) (reads may) (scope_seen names.now) (control b.now)) }
-{
-    inside_control(names, may, a).and(inside_control(names, may, b))
-}
-
 /// What is found in a condition, but for its size.
 fn inside_condition(names: &Names, may: Reads, c: &Cond) -> Findings
     ensures { result ≡ found.found_in_condition (kinds_seen names.now) (reads may) (scope_seen names.now) (condition c.now) }
@@ -103,13 +96,12 @@ fn inside_condition(names: &Names, may: Reads, c: &Cond) -> Findings
             use_of(sort, is_flag(sort))
         }
         Cond::Field(f) => in_flag_field(names, may, *f),
-        Cond::Lt(a, b) => in_pair(names, may, a, b),
-        Cond::Le(a, b) => in_pair(names, may, a, b),
-        Cond::Gt(a, b) => in_pair(names, may, a, b),
-        Cond::Ge(a, b) => in_pair(names, may, a, b),
-        Cond::Eq(a, b) => in_pair(names, may, a, b),
-        Cond::And(c, d) => inside_condition(names, may, c).and(inside_condition(names, may, d)),
-        Cond::Or(c, d) => inside_condition(names, may, c).and(inside_condition(names, may, d)),
+        Cond::Lt(a, b) | Cond::Le(a, b) | Cond::Gt(a, b) | Cond::Ge(a, b) | Cond::Eq(a, b) => {
+            inside_control(names, may, a).and(inside_control(names, may, b))
+        }
+        Cond::And(c, d) | Cond::Or(c, d) => {
+            inside_condition(names, may, c).and(inside_condition(names, may, d))
+        }
     }
 }
 
@@ -135,11 +127,10 @@ fn inside_datum(names: &Names, e: &DataExpr) -> Findings
     match e {
         DataExpr::Lit(n) => Findings::limit(is_literal(*n)),
         DataExpr::Read(x, at) => in_access(names, *x, at.as_slice()),
-        DataExpr::Neg(a) => inside_datum(names, a),
-        DataExpr::Relu(a) => inside_datum(names, a),
-        DataExpr::Add(a, b) => inside_datum(names, a).and(inside_datum(names, b)),
-        DataExpr::Sub(a, b) => inside_datum(names, a).and(inside_datum(names, b)),
-        DataExpr::Mul(a, b) => inside_datum(names, a).and(inside_datum(names, b)),
+        DataExpr::Neg(a) | DataExpr::Relu(a) => inside_datum(names, a),
+        DataExpr::Add(a, b) | DataExpr::Sub(a, b) | DataExpr::Mul(a, b) => {
+            inside_datum(names, a).and(inside_datum(names, b))
+        }
         DataExpr::Select(a, b, c, d) => {
             let first = inside_datum(names, a).and(inside_datum(names, b));
             let second = inside_datum(names, c).and(inside_datum(names, d));

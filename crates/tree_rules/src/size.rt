@@ -51,19 +51,11 @@ pub(crate) fn control_size(e: &Ctrl) -> Size
     match e {
         Ctrl::Lit(_) | Ctrl::Var(_) | Ctrl::Field(_) | Ctrl::Stride(_, _) => LEAF,
         Ctrl::Neg(a) => control_size(a).above(),
-        Ctrl::Add(a, b) => control_size(a).beside(control_size(b)).above(),
-        Ctrl::Sub(a, b) => control_size(a).beside(control_size(b)).above(),
-        Ctrl::Mul(a, b) => control_size(a).beside(control_size(b)).above(),
-        Ctrl::Div(a, _) => control_size(a).beside(LEAF).above(),
-        Ctrl::Mod(a, _) => control_size(a).beside(LEAF).above(),
+        Ctrl::Add(a, b) | Ctrl::Sub(a, b) | Ctrl::Mul(a, b) => {
+            control_size(a).beside(control_size(b)).above()
+        }
+        Ctrl::Div(a, _) | Ctrl::Mod(a, _) => control_size(a).beside(LEAF).above(),
     }
-}
-
-/// The size of a comparison.
-fn pair_size(a: &Ctrl, b: &Ctrl) -> Size
-    ensures { result ≡ sizes.above (sizes.beside (sizes.control_size (control a.now)) (sizes.control_size (control b.now))) }
-{
-    control_size(a).beside(control_size(b)).above()
 }
 
 /// The size of a condition.
@@ -72,13 +64,10 @@ pub(crate) fn condition_size(c: &Cond) -> Size
 {
     match c {
         Cond::True | Cond::False | Cond::Var(_) | Cond::Field(_) => LEAF,
-        Cond::Lt(a, b) => pair_size(a, b),
-        Cond::Le(a, b) => pair_size(a, b),
-        Cond::Gt(a, b) => pair_size(a, b),
-        Cond::Ge(a, b) => pair_size(a, b),
-        Cond::Eq(a, b) => pair_size(a, b),
-        Cond::And(c, d) => condition_size(c).beside(condition_size(d)).above(),
-        Cond::Or(c, d) => condition_size(c).beside(condition_size(d)).above(),
+        Cond::Lt(a, b) | Cond::Le(a, b) | Cond::Gt(a, b) | Cond::Ge(a, b) | Cond::Eq(a, b) => {
+            control_size(a).beside(control_size(b)).above()
+        }
+        Cond::And(c, d) | Cond::Or(c, d) => condition_size(c).beside(condition_size(d)).above(),
     }
 }
 
@@ -102,11 +91,10 @@ pub(crate) fn datum_size(e: &DataExpr) -> Size
             nodes: 1,
             depth: deepest(at.as_slice()).saturating_add(1),
         },
-        DataExpr::Neg(a) => datum_size(a).above(),
-        DataExpr::Relu(a) => datum_size(a).above(),
-        DataExpr::Add(a, b) => datum_size(a).beside(datum_size(b)).above(),
-        DataExpr::Sub(a, b) => datum_size(a).beside(datum_size(b)).above(),
-        DataExpr::Mul(a, b) => datum_size(a).beside(datum_size(b)).above(),
+        DataExpr::Neg(a) | DataExpr::Relu(a) => datum_size(a).above(),
+        DataExpr::Add(a, b) | DataExpr::Sub(a, b) | DataExpr::Mul(a, b) => {
+            datum_size(a).beside(datum_size(b)).above()
+        }
         DataExpr::Select(a, b, c, d) => {
             let first = datum_size(a).beside(datum_size(b));
             let second = datum_size(c).beside(datum_size(d));

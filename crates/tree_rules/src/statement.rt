@@ -66,23 +66,6 @@ fn in_variable<'u>(ground: &Ground<'u>, walk: &Walk<'u>, i: &Binder, b: &Block) 
     names.binder(i).and(Findings::rule(is_filled(b)))
 }
 
-/// What is found in the header of a loop.
-fn in_header<'u>(
-    ground: &Ground<'u>,
-    walk: &Walk<'u>,
-    i: &Binder,
-    lo: &Ctrl,
-    hi: &Ctrl,
-    b: &Block,
-) -> (Findings, Findings)
-    ensures variable { result.0 ≡ both (found.found_in_binder (walk_scope walk.now) (binding i.now)) (rule (not (units.is_empty (block b.now)))) }
-    ensures bounds { result.1 ≡ both (found.findings_of_control (ground_kinds ground.now) plainly (walk_scope walk.now) (control lo.now)) (found.findings_of_control (ground_kinds ground.now) plainly (walk_scope walk.now) (control hi.now)) }
-{
-    let variable = in_variable(ground, walk, i, b);
-    let bounds = in_bounds(ground, walk, lo, hi);
-    (variable, bounds)
-}
-
 /// What is found in an allocation.
 fn in_alloc<'u>(
     ground: &Ground<'u>,
@@ -198,8 +181,7 @@ fn walk_statement<'u>(
         Stmt::For(i, lo, hi, b) => walk_loop(ground, walk, i, lo, hi, b),
         Stmt::Alloc(x, cell, dims, memory) => over_alloc(ground, walk, x, *cell, dims, *memory),
         Stmt::View(w, x, coords) => over_view(ground, walk, w, *x, coords),
-        Stmt::Assign(x, at, e) => Ok(in_store(ground, walk, *x, at, e)),
-        Stmt::Reduce(x, at, e) => Ok(in_store(ground, walk, *x, at, e)),
+        Stmt::Assign(x, at, e) | Stmt::Reduce(x, at, e) => Ok(in_store(ground, walk, *x, at, e)),
         Stmt::Config(f, a) => Ok(in_config(ground, walk, *f, a)),
         Stmt::Pass => Ok(Findings::FINE),
         Stmt::Call(k, args) => Ok(in_call_there(ground, walk, *k, args)),
@@ -239,7 +221,8 @@ fn walk_loop<'u>(
     ensures found { IfOk result (λ f. f ≡ found.findings_of_statement (ground_kinds ground.now) (ground_memories ground.now) (ground_callees ground.now) (walk_scope walk.old) (walk_roots walk.old) (tree.For (binding i.now) (control lo.now) (control hi.now) (block b.now))) }
     ensures back { OnOk result (IsBack walk.old walk.new) }
 {
-    let (variable, bounds) = in_header(ground, walk, i, lo, hi, b);
+    let variable = in_variable(ground, walk, i, b);
+    let bounds = in_bounds(ground, walk, lo, hi);
     let known = walk.entries.len();
     walk.bind(i, Sort::Control(Kind::Index))?;
     let inside = walk_branch(ground, walk, b)?;

@@ -23,5 +23,5 @@ walk_loop-returns-clause-found t c =
     let found = findings_of_block (ground_kinds g) (ground_memories g) (ground_callees g) in
     let b = block c.args.b.now in
     let bound = c.in_ok-bind.ensures in
-    c.joined.ensures ∙ (λ i. both (c.in_header.ensures.variable i) (both (c.in_header.ensures.bounds i)
+    c.joined.ensures ∙ (λ i. both (c.in_variable-variable.ensures i) (both (c.in_bounds-bounds.ensures i)
     ((c.in_ok-inside.ensures.found ∙ (λ j. both (limit (is_short b)) (found (bound.scope j) (roots_in (bound.aliases j)) b))) i)))
