@@ -64,33 +64,18 @@ fn commuted_statement(alloc: Global, x: &ExprPattern, s: &Stmt) -> Result<Stmt, 
 {
     match s {
         Stmt::Assign(y, at, e) => {
-            let right = commuted(alloc, x, e)?;
-            Ok(Stmt::Assign(*y, at.duplicate(alloc)?, right))
+            let at = at.duplicate(alloc)?;
+            Ok(Stmt::Assign(*y, at, commuted(alloc, x, e)?))
         }
         Stmt::Reduce(y, at, e) => {
-            let right = commuted(alloc, x, e)?;
-            Ok(Stmt::Reduce(*y, at.duplicate(alloc)?, right))
+            let at = at.duplicate(alloc)?;
+            Ok(Stmt::Reduce(*y, at, commuted(alloc, x, e)?))
         }
         _ => Err(StepError::WrongShape),
     }
 }
 
-/// The same of the one statement of a piece.
-fn commuted_alone(
-    alloc: Global,
-    x: &ExprPattern,
-    on: &Target<'_>,
-    piece: &Piece,
-) -> Result<Stmt, StepError>
-    ensures { Tries statement (tried (commute.commuted_alone (plain_expr_pattern x.now) (spot_at (target on.now) (plain_piece piece.now)).opened.piece) (λ a. a)) result }
-{
-    match on.statement(piece) {
-        None => Err(StepError::WrongShape),
-        Some(s) => commuted_statement(alloc, x, s),
-    }
-}
-
-/// That statement as a block.
+/// The one statement of a piece with such a right side, as a block.
 #[tactic(auto, using(crate::proofs::Commuted::tried_as, crate::proofs::Commuted::refused_as))]
 fn commuted_block(
     alloc: Global,
@@ -100,7 +85,10 @@ fn commuted_block(
 ) -> Result<Block, StepError>
     ensures { Tries block (tried (commute.commuted_alone (plain_expr_pattern x.now) (spot_at (target on.now) (plain_piece piece.now)).opened.piece) (λ a. next a end)) result }
 {
-    let made = commuted_alone(alloc, x, on, piece)?;
+    let Some(s) = on.statement(piece) else {
+        return Err(StepError::WrongShape);
+    };
+    let made = commuted_statement(alloc, x, s)?;
     Ok(Block::single(alloc, made)?)
 }
 

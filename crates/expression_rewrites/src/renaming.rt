@@ -12,7 +12,7 @@ ghost use Rattle.step_driver.specs.Outcomes.{Tries, IsKept, KeepsMeaning, Moves}
 ghost use Rattle.step_driver.specs.PlainTarget.{target};
 
 use cursor_forward::{Proposal, Shifts, StepError};
-use exo_tree::{Block, Branch, Name, Path, Proc, Step};
+use exo_tree::{Block, Name, Path, Proc};
 use made_trees::Fresh;
 use std::alloc::{AllocError, Global};
 use step_driver::{Exit, Operator, Piece, Target, Writing, propose};
@@ -32,12 +32,7 @@ impl Operator for Renaming<'_> {
     ghost carrying = { λ o. rename_is_carrying o.name.now };
 
     fn piece(&self, _alloc: Global, _on: &Target<'_>, _at: &Path) -> Result<Piece, StepError> {
-        let mut path = Path::new();
-        path.push(Step {
-            branch: Branch::Main,
-            index: 0,
-        });
-        Ok(Piece { path, count: 0 })
+        Ok(Piece::first(0))
     }
 
     fn draft(
