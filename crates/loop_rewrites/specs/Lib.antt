@@ -1,3 +1,2 @@
-pub mod PlainLoop
 pub mod PlainTail
 pub mod PlainTurns

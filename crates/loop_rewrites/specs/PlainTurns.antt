@@ -7,7 +7,7 @@ use Rattle.order_laws.specs.TurnsOfTwo.{Loop}
 use Rattle.step_rules.specs.Rule.{Tried, Got}
 use Rattle.step_rules.specs.Answer.{then_try}
 use Rattle.loop_laws.specs.UnrollLoop.{Unrolling}
-use Rattle.loop_rewrites.specs.PlainLoop.{plain_loop}
+use Rattle.step_shapes.specs.PlainLoop.{plain_loop}
 use Rattle.loop_rewrites.specs.declared.turns.Turns.{Turns}
 
 abbrev pub plain_turns : Turns → Unrolling

@@ -10,58 +10,16 @@ ghost use Rattle.step_driver.specs.PlainTarget.{target, plain_piece};
 ghost use Rattle.step_driver.specs.Spots.{spot_at};
 ghost use Rattle.loop_laws.specs.UnrollLoop as plain;
 ghost use Rattle.loop_laws.specs.UnrollLoop.{constant_of, unrolling};
-ghost use Rattle.loop_rewrites.specs.PlainLoop.{plain_loop};
+ghost use Rattle.step_shapes.specs.PlainLoop.{plain_loop};
 ghost use Rattle.loop_rewrites.specs.PlainTurns.{plain_turns, with_turns, bounds_are_affine};
 
-use crate::loops::{LoopAt, loop_at};
 use crate::turns::Turns;
-use affine_forms::{Atom, Draft, FormError, Linear, Reader, is_of_literals, normal_form};
+use affine_forms::{FormError, Linear, normal_form};
 use cursor_forward::StepError;
-use exo_tree::{Ctrl, FieldId, Id};
+use exo_tree::Ctrl;
 use std::alloc::Global;
 use step_driver::{Piece, Target};
-
-/// Within a bound of a loop, which is over variables alone.
-#[derive(Drop)]
-struct InBound;
-
-impl Reader for InBound {
-    ghost reading = { λ r. extent_reading };
-
-    fn variable(&self, alloc: Global, x: Id) -> Result<Draft, FormError> {
-        let l = Draft::only(alloc, Atom::Variable(x))?;
-        Ok(l)
-    }
-
-    fn field(&self, alloc: Global, _f: FieldId) -> Result<Draft, FormError> {
-        Draft::constantly(alloc, 0)
-    }
-
-    fn stride(&self, alloc: Global, _x: Id, _k: u32) -> Result<Draft, FormError> {
-        Draft::constantly(alloc, 0)
-    }
-}
-
-/// Whether an expression is affine and over variables alone.
-fn is_over_variables(e: &Ctrl) -> bool
-    ensures { result ≡ is_affine variables (control e.now) }
-{
-    match e {
-        Ctrl::Lit(_) => true,
-        Ctrl::Var(_) => true,
-        Ctrl::Field(_) => false,
-        Ctrl::Stride(_, _) => false,
-        Ctrl::Neg(a) => is_over_variables(a),
-        Ctrl::Add(a, b) => is_over_variables(a) && is_over_variables(b),
-        Ctrl::Sub(a, b) => is_over_variables(a) && is_over_variables(b),
-        Ctrl::Mul(a, b) => {
-            (is_of_literals(a) || is_of_literals(b))
-                && (is_over_variables(a) && is_over_variables(b))
-        }
-        Ctrl::Div(a, by) => *by > 0 && is_over_variables(a),
-        Ctrl::Mod(a, by) => *by > 0 && is_over_variables(a),
-    }
-}
+use step_shapes::{InBound, LoopAt, loop_at};
 
 /// The normal form of a bound.
 #[tactic(auto, using(affine_places::proofs::Rules::rules_kept))]
@@ -85,55 +43,46 @@ fn constant(l: &Linear) -> Option<i128>
     }
 }
 
-impl<'a> LoopAt<'a> {
-    /// Whether its bounds are affine and over variables alone.
-    fn has_affine_bounds(&self) -> bool
-        ensures { result ≡ bounds_are_affine (plain_loop self.now) }
-    {
-        is_over_variables(self.lo) && is_over_variables(self.hi)
+/// The turns from one number up to another. `LimitPassed` where there are more than 256.
+#[tactic(auto, using(crate::proofs::Bounds::many_between, crate::proofs::Bounds::few_listed))]
+fn turns_between<'a>(l: &LoopAt<'a>, lo: i128, hi: i128) -> Result<Turns<'a>, StepError>
+    requires low { unsigned_abs lo ≤ 2 ^ 62 }
+    requires high { unsigned_abs hi ≤ 2 ^ 62 }
+    ensures { Tries plain_turns (with_turns (plain_loop l.now) (plain.few_between lo hi)) result }
+{
+    let count = hi - lo;
+    if count > 256 {
+        return Err(StepError::LimitPassed);
     }
+    Ok(Turns {
+        looping: *l,
+        first: lo as i64,
+        count: count.max(0) as u32,
+    })
+}
 
-    /// The turns from one number up to another. `LimitPassed` where there are more than 256.
-    #[tactic(auto, using(crate::proofs::Bounds::many_between, crate::proofs::Bounds::few_listed))]
-    fn between_numbers(&self, lo: i128, hi: i128) -> Result<Turns<'a>, StepError>
-        requires low { unsigned_abs lo ≤ 2 ^ 62 }
-        requires high { unsigned_abs hi ≤ 2 ^ 62 }
-        ensures { Tries plain_turns (with_turns (plain_loop self.now) (plain.few_between lo hi)) result }
-    {
-        let count = hi - lo;
-        if count > 256 {
-            return Err(StepError::LimitPassed);
-        }
-        Ok(Turns {
-            looping: *self,
-            first: lo as i64,
-            count: count.max(0) as u32,
-        })
-    }
+/// The turns by the forms of the bounds. `WrongShape` where one is no constant.
+fn turns_by<'a>(l: &LoopAt<'a>, lo: &Linear, hi: &Linear) -> Result<Turns<'a>, StepError>
+    ensures { Tries plain_turns (with_turns (plain_loop l.now) (plain.few_turns (constant_of lo.now) (constant_of hi.now))) result }
+{
+    let Some(first) = constant(lo) else {
+        return Err(StepError::WrongShape);
+    };
+    let Some(end) = constant(hi) else {
+        return Err(StepError::WrongShape);
+    };
+    turns_between(l, first, end)
+}
 
-    /// The turns by the forms of the bounds. `WrongShape` where one is no constant.
-    fn turns_by(&self, lo: &Linear, hi: &Linear) -> Result<Turns<'a>, StepError>
-        ensures { Tries plain_turns (with_turns (plain_loop self.now) (plain.few_turns (constant_of lo.now) (constant_of hi.now))) result }
-    {
-        let Some(first) = constant(lo) else {
-            return Err(StepError::WrongShape);
-        };
-        let Some(end) = constant(hi) else {
-            return Err(StepError::WrongShape);
-        };
-        self.between_numbers(first, end)
-    }
-
-    /// Its turns. `WrongShape` where a bound is no constant, `LimitPassed` where there are more than 256, `Form` where a
-    /// number of a bound is too wide.
-    fn turns(&self, alloc: Global) -> Result<Turns<'a>, StepError>
-        requires { IsTrue (bounds_are_affine (plain_loop self.now)) }
-        ensures { Tries plain_turns (with_turns (plain_loop self.now) (plain.turns_of (plain_loop self.now))) result }
-    {
-        let lo = bound(alloc, self.lo)?;
-        let hi = bound(alloc, self.hi)?;
-        self.turns_by(&lo, &hi)
-    }
+/// The turns of a loop. `WrongShape` where a bound is no constant, `LimitPassed` where there are more than 256, `Form`
+/// where a number of a bound is too wide.
+fn turns_in<'a>(alloc: Global, l: &LoopAt<'a>) -> Result<Turns<'a>, StepError>
+    requires { IsTrue (bounds_are_affine (plain_loop l.now)) }
+    ensures { Tries plain_turns (with_turns (plain_loop l.now) (plain.turns_of (plain_loop l.now))) result }
+{
+    let lo = bound(alloc, l.lo)?;
+    let hi = bound(alloc, l.hi)?;
+    turns_by(l, &lo, &hi)
 }
 
 /// The loop that is all of a piece, with its turns. `WrongShape` where there is none, or its bounds are no constants;
@@ -152,7 +101,7 @@ pub(crate) fn turns_at<'a>(
             if !l.has_affine_bounds() {
                 return Err(StepError::WrongShape);
             }
-            l.turns(alloc)
+            turns_in(alloc, &l)
         }
     }
 }

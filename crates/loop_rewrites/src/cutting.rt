@@ -19,15 +19,15 @@ ghost use Rattle.loop_laws.proofs.CutLoop.{cut_is_lawful, cut_is_carrying};
 ghost use Rattle.step_driver.specs.Outcomes.{Tries, IsKept, KeepsMeaning, Moves};
 ghost use Rattle.step_driver.specs.PlainTarget.{target};
 ghost use Rattle.step_needs.specs.PlainNeed.{plain_need};
-ghost use Rattle.loop_rewrites.specs.PlainLoop.{plain_loop};
+ghost use Rattle.step_shapes.specs.PlainLoop.{plain_loop};
 
-use crate::loops::{LoopAt, loop_at};
 use cursor_forward::{Proposal, Shifts, StepError};
 use exo_tree::{Block, Cond, Ctrl, Name, Path, Proc};
 use made_trees::Fresh;
 use std::alloc::{AllocError, Global};
 use step_driver::{Exit, Operator, Piece, Target, Writing, propose, stays};
 use step_needs::{Fact, Need};
+use step_shapes::{LoopAt, copies, loop_at};
 
 /// A copy of the loop from `e` on.
 fn copy_from(
@@ -38,7 +38,7 @@ fn copy_from(
 ) -> Result<Block, AllocError>
     ensures { IfOk result (λ b. block b ≡ renaming.fresh fresh.old (only_loop (plain_loop l.now).binder (control e.now) (plain_loop l.now).hi (plain_loop l.now).body)) }
 {
-    let rest = l.between(alloc, e, l.hi)?;
+    let rest = l.between(alloc, e, l.hi, l.body)?;
     fresh.copy(alloc, &rest)
 }
 
@@ -46,7 +46,7 @@ fn copy_from(
 fn cut(alloc: Global, l: &LoopAt<'_>, e: &Ctrl, fresh: &mut Fresh) -> Result<Block, AllocError>
     ensures { IfOk result (λ b. block b ≡ plain.cut (control e.now) (plain_loop l.now) fresh.old) }
 {
-    let mut made = l.between(alloc, l.lo, e)?;
+    let mut made = l.between(alloc, l.lo, e, l.body)?;
     let rest = copy_from(alloc, l, e, fresh)?;
     made.append(rest)?;
     Ok(made)
@@ -56,8 +56,7 @@ fn cut(alloc: Global, l: &LoopAt<'_>, e: &Ctrl, fresh: &mut Fresh) -> Result<Blo
 fn at_most(alloc: Global, at: &Path, a: &Ctrl, b: &Ctrl) -> Result<Need, AllocError>
     ensures { IfOk result (λ n. plain_need n ≡ rule.Says at.now (facts.Holds (tree.Le (control a.now) (control b.now)))) }
 {
-    let low = a.duplicate(alloc)?;
-    let high = b.duplicate(alloc)?;
+    let (low, high) = copies(alloc, a, b)?;
     Ok(Need::Says(at.duplicate(), Fact::Holds(Cond::Le(low, high))))
 }
 

@@ -1,21 +1,19 @@
 //! The step that divides the turns of a loop into groups.
-ghost use Rattle.std.specs.Prelude.{◌≡◌, ◌≤◌, ◌≤ℤ◌, ◌-ℤ◌, ◌∷◌, [], ℕ, pos, suc, map, option_map, Some, IfOk};
+ghost use Rattle.std.specs.Prelude.{◌≡◌, ◌≤◌, ◌≤ℤ◌, ◌-ℤ◌, ℕ, pos, suc, map, option_map, IfOk};
 ghost use Rattle.exo_tree.specs.Tree as tree;
 ghost use Rattle.exo_tree.specs.Tree.{block, end};
 ghost use Rattle.exo_tree.specs.PlainControl.{control, condition};
 ghost use Rattle.exo_tree.specs.PlainUnit.{program};
 ghost use Rattle.exo_tree.specs.Renaming as renaming;
+ghost use Rattle.exo_tree.specs.Substitution.{in_block};
 ghost use Rattle.exo_modes.specs.Marks.{modes_of};
 ghost use Rattle.exo_modes.specs.Seen.{table_says};
-ghost use Rattle.meaning_laws.specs.Facts as facts;
 ghost use Rattle.scope_laws.specs.BranchesAtPlaces.{only_branch};
+ghost use Rattle.scope_laws.specs.UnrollLoop.{only_loop};
 ghost use Rattle.order_laws.specs.TurnsOfTwo.{Loop};
 ghost use Rattle.cursor_forward.specs.PlainProposal.{plain_proposal};
-ghost use Rattle.cursor_forward.specs.PlainShift.{plain_shift};
-ghost use Rattle.cursor_forward.specs.Shifts as shifts;
 ghost use Rattle.step_rules.specs.Answer.{proposed};
 ghost use Rattle.step_rules.specs.Lawful.{IsTarget};
-ghost use Rattle.step_rules.specs.Rule as rule;
 ghost use Rattle.loop_laws.specs.DivideLoop as plain;
 ghost use Rattle.loop_laws.specs.DivideLoop.{divisible, divide_rule};
 ghost use Rattle.loop_laws.specs.Shapes as shapes;
@@ -24,18 +22,17 @@ ghost use Rattle.step_driver.specs.Outcomes.{Tries, IsKept, KeepsMeaning, Moves}
 ghost use Rattle.step_driver.specs.PlainTarget.{target, plain_piece};
 ghost use Rattle.step_driver.specs.Spots.{spot_at};
 ghost use Rattle.step_needs.specs.PlainNeed.{plain_need};
-ghost use Rattle.loop_rewrites.specs.PlainLoop.{plain_loop};
+ghost use Rattle.step_shapes.specs.PlainLoop.{plain_loop};
 ghost use Rattle.loop_rewrites.specs.PlainTail.{plain_tail, division};
 
-use crate::loops::{LoopAt, from_zero, loop_at};
-use crate::moves::inside;
 use crate::numbers::{branch, quotient, remainder, rounded_up, turn_behind};
-use cursor_forward::{Proposal, Shift, Shifts, StepError};
-use exo_tree::{Block, Cond, Ctrl, Id, Name, Path, Proc, subst};
+use cursor_forward::{Proposal, Shifts, StepError};
+use exo_tree::{Binder, Block, Cond, Ctrl, Id, Name, Path, Proc, subst};
 use made_trees::Fresh;
 use std::alloc::{AllocError, Global};
 use step_driver::{Exit, Operator, Piece, Target, Writing, propose};
 use step_needs::{Fact, Need};
+use step_shapes::{LoopAt, alone_to, inside, loop_at, one, one_shift, only_loop, range_to, size};
 
 /// What becomes of the turns that fill no group: the last group is guarded, they have a loop of their own, or one that is
 /// guarded, or there are none.
@@ -81,23 +78,45 @@ fn divisible_at<'a>(by: i64, on: &Target<'a>, piece: &Piece) -> Option<LoopAt<'a
     }
 }
 
+/// A loop from 0, alone in a block.
+fn from_zero(alloc: Global, id: Id, name: &Name, hi: Ctrl, body: Block) -> Result<Block, AllocError>
+    ensures { IfOk result (λ b. block b ≡ only_loop (record { id = id.0; name = name.now }) (tree.Lit (pos 0)) (control hi) (block body)) }
+{
+    let name = name.duplicate(alloc)?;
+    only_loop(alloc, Binder { id, name }, Ctrl::Lit(0), hi, body)
+}
+
 impl Dividing<'_> {
-    /// The body at the turn in a group.
-    fn body_in_group(
+    /// The body at the turn of that number behind so many groups.
+    fn body_at(
+        &self,
+        alloc: Global,
+        l: &LoopAt<'_>,
+        groups: Ctrl,
+        x: Id,
+    ) -> Result<Block, AllocError>
+        ensures { IfOk result (λ b. block b ≡ in_block (plain_loop l.now).binder.id (tree.Add (tree.Mul (tree.Lit self.now.by) (control groups)) (tree.Var x.0)) (plain_loop l.now).body) }
+    {
+        let turn = turn_behind(alloc, self.by, groups, x)?;
+        subst(alloc, l.body, l.binder.id, &turn)
+    }
+
+    /// That there is such a turn in a group.
+    fn is_turn(
         &self,
         alloc: Global,
         l: &LoopAt<'_>,
         outer: Id,
         inner: Id,
-    ) -> Result<Block, AllocError>
+    ) -> Result<Cond, AllocError>
         requires { inner.0 ≡ suc outer.0 }
-        ensures { IfOk result (λ b. block b ≡ plain.body_in_group (division self.now) (plain_loop l.now) outer.0) }
+        ensures { IfOk result (λ c. condition c ≡ tree.Lt (plain.turn_in_group (division self.now) (plain_loop l.now) outer.0) (plain_loop l.now).hi) }
     {
         let turn = turn_behind(alloc, self.by, Ctrl::Var(outer), inner)?;
-        subst(alloc, l.body, l.binder.id, &turn)
+        Ok(Cond::Lt(turn, l.hi.duplicate(alloc)?))
     }
 
-    /// That body, where there is such a turn.
+    /// The body at the turn in a group, where there is such a turn.
     fn guarded_body(
         &self,
         alloc: Global,
@@ -108,9 +127,9 @@ impl Dividing<'_> {
         requires { inner.0 ≡ suc outer.0 }
         ensures { IfOk result (λ b. block b ≡ only_branch (tree.Lt (plain.turn_in_group (division self.now) (plain_loop l.now) outer.0) (plain_loop l.now).hi) (plain.body_in_group (division self.now) (plain_loop l.now) outer.0) end) }
     {
-        let body = self.body_in_group(alloc, l, outer, inner)?;
-        let turn = turn_behind(alloc, self.by, Ctrl::Var(outer), inner)?;
-        branch(alloc, Cond::Lt(turn, l.hi.duplicate(alloc)?), body)
+        let body = self.body_at(alloc, l, Ctrl::Var(outer), inner)?;
+        let test = self.is_turn(alloc, l, outer, inner)?;
+        branch(alloc, test, body)
     }
 
     /// A loop over so many groups, with one over the turns of a group.
@@ -162,7 +181,7 @@ impl Dividing<'_> {
         requires { inner.0 ≡ suc outer.0 }
         ensures { IfOk result (λ b. block b ≡ plain.whole_groups (division self.now) (plain_loop l.now) outer.0) }
     {
-        let body = self.body_in_group(alloc, l, outer, inner)?;
+        let body = self.body_at(alloc, l, Ctrl::Var(outer), inner)?;
         let groups = self.whole_count(alloc, l)?;
         self.nest(alloc, outer, inner, groups, body)
     }
@@ -188,8 +207,8 @@ impl Dividing<'_> {
     fn turns_behind(&self, alloc: Global, l: &LoopAt<'_>) -> Result<Block, AllocError>
         ensures { (base : ℕ) → IfOk result (λ b. block b ≡ plain.turns_behind (division self.now) (plain_loop l.now) base) }
     {
-        let turn = turn_behind(alloc, self.by, quotient(alloc, l.hi, self.by)?, l.binder.id)?;
-        let body = subst(alloc, l.body, l.binder.id, &turn)?;
+        let groups = quotient(alloc, l.hi, self.by)?;
+        let body = self.body_at(alloc, l, groups, l.binder.id)?;
         let count = remainder(alloc, l.hi, self.by)?;
         from_zero(alloc, l.binder.id, self.inner, count, body)
     }
@@ -267,23 +286,14 @@ impl Dividing<'_> {
             Tail::Guard => Ok(Vec::new(alloc)),
             Tail::Cut | Tail::CutAndGuard => {
                 let turns = l.hi.duplicate(alloc)?;
-                one(alloc, at, Cond::Le(Ctrl::Lit(0), turns))
+                one(alloc, at, Fact::Holds(Cond::Le(Ctrl::Lit(0), turns)))
             }
             Tail::Perfect => {
                 let count = remainder(alloc, l.hi, self.by)?;
-                one(alloc, at, Cond::Eq(count, Ctrl::Lit(0)))
+                one(alloc, at, Fact::Holds(Cond::Eq(count, Ctrl::Lit(0))))
             }
         }
     }
-}
-
-/// That a condition holds at a place.
-fn one(alloc: Global, at: &Path, c: Cond) -> Result<Vec<Need>, AllocError>
-    ensures { IfOk result (λ ns. map plain_need ns.items ≡ rule.Says at.now (facts.Holds (condition c)) ∷ []) }
-{
-    let mut all = Vec::new(alloc);
-    all.push(Need::Says(at.duplicate(), Fact::Holds(c)))?;
-    Ok(all)
 }
 
 impl Tail {
@@ -298,43 +308,14 @@ impl Tail {
         }
     }
 
-    /// The body goes with its statements to the body of the first inner loop.
-    fn body_shift(self, count: u32) -> Shift
-        ensures { plain_shift result ≡ shifts.range (shapes.inside 1) count (Some (shapes.inside (plain.depth (plain_tail self)))) }
-    {
-        Shift {
-            from: inside(1),
-            count,
-            whole: true,
-            to: Some(inside(self.depth())),
-        }
-    }
-
-    /// Where the loop and its body go.
-    #[tactic(auto, using(crate::proofs::Made::statements_of))]
+    /// The loop goes to the outer loop, and its body to that of the first inner loop.
     fn shifts(self, alloc: Global, l: &LoopAt<'_>) -> Result<Shifts, AllocError>
         ensures { IfOk result (λ s. s ≡ plain.divide_shifts (plain_tail self) (plain_loop l.now)) }
     {
-        let count = l.body.len();
-        if count > 4294967295 {
-            return Err(AllocError);
-        }
-        let mut all = Shifts::new(alloc);
-        all.push(loop_shift())?;
-        all.push(self.body_shift(count as u32))?;
+        let count = size(l.body)?;
+        let mut all = one_shift(alloc, alone_to(inside(0), inside(0)))?;
+        all.push(range_to(inside(1), count, inside(self.depth())))?;
         Ok(all)
-    }
-}
-
-/// The loop goes to the outer loop.
-fn loop_shift() -> Shift
-    ensures { plain_shift result ≡ shifts.alone (shifts.at_index 0) (Some (shifts.at_index 0)) }
-{
-    Shift {
-        from: inside(0),
-        count: 1,
-        whole: false,
-        to: Some(inside(0)),
     }
 }
 

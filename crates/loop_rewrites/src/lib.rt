@@ -4,8 +4,6 @@
 mod constants;
 mod cutting;
 mod dividing;
-mod loops;
-mod moves;
 mod numbers;
 mod specializing;
 mod turns;

@@ -8,46 +8,42 @@ ghost use Rattle.scope_laws.specs.BranchesAtPlaces.{only_branch};
 use exo_tree::{Block, Cond, Ctrl, Id, Stmt};
 use std::alloc::{AllocError, Global};
 
-/// A sum.
-fn sum(alloc: Global, a: Ctrl, b: Ctrl) -> Result<Ctrl, AllocError>
-    ensures { IfOk result (λ e. control e ≡ tree.Add (control a) (control b)) }
+/// A copy in a box.
+fn boxed(alloc: Global, e: &Ctrl) -> Result<Box<Ctrl>, AllocError>
+    ensures { IfOk result (λ b. control b.value ≡ control e.now) }
 {
-    let left = Box::new(alloc, a)?;
-    let right = Box::new(alloc, b)?;
-    Ok(Ctrl::Add(left, right))
+    Ok(Box::new(alloc, e.duplicate(alloc)?)?)
 }
 
-/// So many times a number.
-fn times(alloc: Global, by: i64, a: Ctrl) -> Result<Ctrl, AllocError>
-    ensures { IfOk result (λ e. control e ≡ tree.Mul (tree.Lit by) (control a)) }
+/// A sum.
+fn sum(alloc: Global, a: Box<Ctrl>, b: Ctrl) -> Result<Ctrl, AllocError>
+    ensures { IfOk result (λ e. control e ≡ tree.Add (control a.value) (control b)) }
 {
-    let right = Box::new(alloc, a)?;
-    let left = Box::new(alloc, Ctrl::Lit(by))?;
-    Ok(Ctrl::Mul(left, right))
+    Ok(Ctrl::Add(a, Box::new(alloc, b)?))
 }
 
 /// The turn of that number behind so many groups.
 pub(crate) fn turn_behind(alloc: Global, by: i64, groups: Ctrl, x: Id) -> Result<Ctrl, AllocError>
     ensures { IfOk result (λ e. control e ≡ tree.Add (tree.Mul (tree.Lit by) (control groups)) (tree.Var x.0)) }
 {
-    let first = times(alloc, by, groups)?;
-    sum(alloc, first, Ctrl::Var(x))
+    let right = Box::new(alloc, groups)?;
+    let left = Box::new(alloc, Ctrl::Lit(by))?;
+    let before = Box::new(alloc, Ctrl::Mul(left, right))?;
+    sum(alloc, before, Ctrl::Var(x))
 }
 
 /// How many whole groups there are.
 pub(crate) fn quotient(alloc: Global, turns: &Ctrl, by: i64) -> Result<Ctrl, AllocError>
     ensures { IfOk result (λ e. control e ≡ tree.Div (control turns.now) by) }
 {
-    let all = turns.duplicate(alloc)?;
-    Ok(Ctrl::Div(Box::new(alloc, all)?, by))
+    Ok(Ctrl::Div(boxed(alloc, turns)?, by))
 }
 
 /// How many turns there are behind the whole groups.
 pub(crate) fn remainder(alloc: Global, turns: &Ctrl, by: i64) -> Result<Ctrl, AllocError>
     ensures { IfOk result (λ e. control e ≡ tree.Mod (control turns.now) by) }
 {
-    let all = turns.duplicate(alloc)?;
-    Ok(Ctrl::Mod(Box::new(alloc, all)?, by))
+    Ok(Ctrl::Mod(boxed(alloc, turns)?, by))
 }
 
 /// How many groups there are, the last one whole or not.
@@ -55,8 +51,7 @@ pub(crate) fn rounded_up(alloc: Global, turns: &Ctrl, by: i64) -> Result<Ctrl, A
     requires { pos 1 ≤ℤ by }
     ensures { IfOk result (λ e. control e ≡ tree.Div (tree.Add (control turns.now) (tree.Lit (by -ℤ pos 1))) by) }
 {
-    let all = turns.duplicate(alloc)?;
-    let up = sum(alloc, all, Ctrl::Lit(by - 1))?;
+    let up = sum(alloc, boxed(alloc, turns)?, Ctrl::Lit(by - 1))?;
     Ok(Ctrl::Div(Box::new(alloc, up)?, by))
 }
 

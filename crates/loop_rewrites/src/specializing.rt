@@ -2,12 +2,9 @@
 ghost use Rattle.std.specs.Prelude.{◌≡◌, IfOk};
 ghost use Rattle.exo_tree.specs.Tree.{block};
 ghost use Rattle.exo_tree.specs.PlainControl.{condition};
-ghost use Rattle.exo_tree.specs.PlainStatement.{statement};
 ghost use Rattle.exo_tree.specs.PlainUnit.{program};
 ghost use Rattle.exo_modes.specs.Marks.{modes_of};
 ghost use Rattle.exo_modes.specs.Seen.{table_says};
-ghost use Rattle.meaning_laws.specs.Sound as sound;
-ghost use Rattle.scope_laws.specs.Scopes.{top_binders};
 ghost use Rattle.scope_laws.specs.BranchesAtPlaces.{specialized};
 ghost use Rattle.cursor_forward.specs.PlainProposal.{plain_proposal};
 ghost use Rattle.step_rules.specs.Answer.{proposed};
@@ -17,44 +14,14 @@ ghost use Rattle.loop_laws.proofs.Specialize.{specialize_is_lawful, specialize_i
 ghost use Rattle.step_driver.specs.Outcomes.{Tries, IsKept, KeepsMeaning, Moves};
 ghost use Rattle.step_driver.specs.PlainTarget.{target};
 
-use crate::moves::block_moved;
 use cursor_forward::{Proposal, Shifts, StepError};
-use exo_tree::{Block, Cond, Id, Name, Path, Proc, Stmt};
+use exo_tree::{Block, Cond, Name, Path, Proc, Stmt};
 use made_trees::Fresh;
 use std::alloc::{AllocError, Global};
 use step_driver::{Exit, Operator, Piece, Target, Writing, propose};
 use step_needs::Need;
-use tree_mentions::{Names, is_mentioned_after};
-
-/// The names that a block leaves to what follows it.
-#[derive(Clone, Copy)]
-struct Left<'a> {
-    block: &'a Block,
-}
-
-/// Whether a statement leaves a name to those behind it.
-fn binds(s: &Stmt, x: Id) -> bool
-    ensures { result ≡ sound.binds (statement s.now) x.0 }
-{
-    match s {
-        Stmt::Alloc(y, _, _, _) => x.0 == y.id.0,
-        Stmt::View(y, _, _) => x.0 == y.id.0,
-        _ => false,
-    }
-}
-
-impl Names for Left<'_> {
-    ghost names = { λ l. top_binders (block l.block.now) };
-
-    fn has(&self, x: Id) -> bool {
-        for k in 0..self.block.len() {
-            if binds(self.block.statement(k), x) {
-                return true;
-            }
-        }
-        false
-    }
-}
+use step_shapes::{Left, all_moved, inside};
+use tree_mentions::is_mentioned_after;
 
 /// The step that puts a condition round so many statements: where it holds they stand as they are, and where not a copy.
 #[derive(Drop)]
@@ -123,10 +90,9 @@ impl Operator for Specializing<'_> {
         Ok(Vec::new(alloc))
     }
 
-    #[tactic(auto, using(crate::proofs::Made::statements_of))]
     fn shifts(&self, alloc: Global, on: &Target<'_>, piece: &Piece) -> Result<Shifts, AllocError> {
-        let count = on.statements(alloc, piece)?.len();
-        block_moved(alloc, count, 0, 1)
+        let old = on.statements(alloc, piece)?;
+        all_moved(alloc, &old, inside(0), inside(1))
     }
 
     fn name(&self, alloc: Global, p: &Proc) -> Result<Name, AllocError> {

@@ -18,12 +18,9 @@ ghost use Rattle.loop_laws.specs.UnrollLoop.{unroll_rule};
 ghost use Rattle.loop_laws.proofs.UnrollLoop.{unroll_is_lawful, unroll_is_carrying};
 ghost use Rattle.step_driver.specs.Outcomes.{Tries, IsKept, KeepsMeaning, Moves};
 ghost use Rattle.step_driver.specs.PlainTarget.{target};
-ghost use Rattle.loop_rewrites.specs.PlainLoop.{plain_loop};
 ghost use Rattle.loop_rewrites.specs.PlainTurns.{plain_turns};
 
 use crate::constants::turns_at;
-use crate::loops::LoopAt;
-use crate::moves::block_moved;
 use crate::turns::Turns;
 use affine_forms::FormError;
 use cursor_forward::{Proposal, Shifts, StepError};
@@ -32,6 +29,7 @@ use made_trees::Fresh;
 use std::alloc::{AllocError, Global};
 use step_driver::{Exit, Operator, Piece, Target, Writing, propose};
 use step_needs::Need;
+use step_shapes::{all_moved, inside};
 
 /// A number as an expression.
 #[tactic(auto, using(crate::proofs::Unrolled::literal_below, crate::proofs::Unrolled::literal_from))]
@@ -45,19 +43,6 @@ fn number_written(alloc: Global, n: i64) -> Result<Ctrl, AllocError>
     Ok(Ctrl::Lit(n))
 }
 
-impl LoopAt<'_> {
-    /// A copy of the body in the turn of a number.
-    fn turn(&self, alloc: Global, n: i64, fresh: &mut Fresh) -> Result<Block, AllocError>
-        requires { unsigned_abs n ≤ 2 ^ 62 + 256 }
-        ensures copy { IfOk result (λ b. block b ≡ renaming.fresh fresh.old (in_block (plain_loop self.now).binder.id (literal n) (plain_loop self.now).body)) }
-        ensures moved { OnOk result (fresh.new ≡ fresh.old + length (binders (in_block (plain_loop self.now).binder.id (literal n) (plain_loop self.now).body))) }
-    {
-        let number = number_written(alloc, n)?;
-        let body = subst(alloc, self.body, self.binder.id, &number)?;
-        fresh.copy(alloc, &body)
-    }
-}
-
 impl Turns<'_> {
     /// The number of a turn.
     fn number(&self, k: u32) -> i64
@@ -68,6 +53,18 @@ impl Turns<'_> {
         self.first + k as i64
     }
 
+    /// A copy of the body in the turn of a number.
+    fn turn(&self, alloc: Global, n: i64, fresh: &mut Fresh) -> Result<Block, AllocError>
+        requires { unsigned_abs n ≤ 2 ^ 62 + 256 }
+        ensures copy { IfOk result (λ b. block b ≡ renaming.fresh fresh.old (in_block (plain_turns self.now).loop.binder.id (literal n) (plain_turns self.now).loop.body)) }
+        ensures moved { OnOk result (fresh.new ≡ fresh.old + length (binders (in_block (plain_turns self.now).loop.binder.id (literal n) (plain_turns self.now).loop.body))) }
+    {
+        let number = number_written(alloc, n)?;
+        let l = self.looping;
+        let body = subst(alloc, l.body, l.binder.id, &number)?;
+        fresh.copy(alloc, &body)
+    }
+
     /// Copies of the body, one for each turn.
     fn copies(&self, alloc: Global, fresh: &mut Fresh) -> Result<Block, AllocError>
         ensures { IfOk result (λ b. block b ≡ written_out literal (plain_turns self.now).loop (plain_turns self.now).turns fresh.old) }
@@ -75,7 +72,7 @@ impl Turns<'_> {
         let mut made = Block::new(alloc);
         for k in 0..self.count {
             let n = self.number(k);
-            let more = self.looping.turn(alloc, n, fresh)?;
+            let more = self.turn(alloc, n, fresh)?;
             made.append(more)?;
         }
         Ok(made)
@@ -93,14 +90,14 @@ impl Turns<'_> {
     }
 
     /// Where the body goes: to the first copy.
-    #[tactic(auto, using(crate::proofs::Unrolled::some_moved, crate::proofs::Made::statements_of))]
+    #[tactic(auto, using(crate::proofs::Unrolled::some_moved))]
     fn shifts(&self, alloc: Global) -> Result<Shifts, AllocError>
         ensures { IfOk result (λ s. s ≡ plain.into_first (plain_turns self.now).loop (plain_turns self.now).turns) }
     {
         if self.count == 0 {
             return Ok(Shifts::new(alloc));
         }
-        block_moved(alloc, self.looping.body.len(), 1, 0)
+        all_moved(alloc, self.looping.body, inside(1), inside(0))
     }
 }
 

@@ -1,5 +1,5 @@
-//! The names that a block leaves to what follows it.
-ghost use Rattle.std.specs.Prelude.{◌≡◌};
+//! Names that are looked for: one alone, and those that a block leaves to what follows it.
+ghost use Rattle.std.specs.Prelude.{◌≡◌, ◌==◌};
 ghost use Rattle.exo_tree.specs.Tree.{block};
 ghost use Rattle.exo_tree.specs.PlainStatement.{statement};
 ghost use Rattle.meaning_laws.specs.Sound as sound;
@@ -8,6 +8,20 @@ ghost use Rattle.scope_laws.specs.Scopes.{top_binders};
 use exo_tree::{Block, Id, Stmt};
 use tree_mentions::Names;
 
+/// One name.
+#[derive(Clone, Copy)]
+pub struct Alone {
+    pub id: Id,
+}
+
+impl Names for Alone {
+    ghost names = { λ l x. x == l.id.0 };
+
+    fn has(&self, x: Id) -> bool {
+        x.0 == self.id.0
+    }
+}
+
 /// The names that a block leaves to what follows it.
 #[derive(Clone, Copy)]
 pub struct Left<'a> {
@@ -15,7 +29,7 @@ pub struct Left<'a> {
 }
 
 /// Whether a statement leaves a name to those behind it.
-fn binds(s: &Stmt, x: Id) -> bool
+pub fn binds(s: &Stmt, x: Id) -> bool
     ensures { result ≡ sound.binds (statement s.now) x.0 }
 {
     match s {

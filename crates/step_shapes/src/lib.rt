@@ -10,8 +10,8 @@ mod owing;
 mod places;
 
 pub use bounds::{InBound, is_over_variables};
-pub use left::Left;
-pub use loops::{LoopAt, loop_at, loop_in, loop_of, only_loop, only_statement};
-pub use moves::{alone_to, range_to};
+pub use left::{Alone, Left, binds};
+pub use loops::{LoopAt, copies, loop_at, loop_in, loop_of, only_loop, only_statement};
+pub use moves::{all_moved, alone_to, one_shift, range_to};
 pub use owing::{apart, header, one, size};
-pub use places::{FIRST, inside, onward};
+pub use places::{FIRST, at_index, inside, numbered, onward};

@@ -1,10 +1,12 @@
 //! The loop that is all of a piece, and loops that are made.
-ghost use Rattle.std.specs.Prelude.{◌≡◌, option_map, IfOk};
+ghost use Rattle.std.specs.Prelude.{◌≡◌, ◌&&◌, option_map, IfOk};
 ghost use Rattle.std.specs.Option.{option_copied};
 ghost use Rattle.exo_tree.specs.Tree.{block};
 ghost use Rattle.exo_tree.specs.PlainBinder.{binding};
 ghost use Rattle.exo_tree.specs.PlainControl.{control};
 ghost use Rattle.exo_tree.specs.PlainStatement.{statement};
+ghost use Rattle.affine_forms.specs.Forms.{is_affine};
+ghost use Rattle.affine_places.specs.Roots.{variables};
 ghost use Rattle.scope_laws.specs.UnrollLoop as plain;
 ghost use Rattle.step_rules.specs.Shapes.{alone_in};
 ghost use Rattle.loop_laws.specs.Shapes as shapes;
@@ -12,6 +14,7 @@ ghost use Rattle.step_driver.specs.PlainTarget.{target, plain_piece};
 ghost use Rattle.step_driver.specs.Spots.{spot_at};
 ghost use Rattle.step_shapes.specs.PlainLoop.{plain_loop};
 
+use crate::bounds::is_over_variables;
 use exo_tree::{Binder, Block, Ctrl, Stmt};
 use std::alloc::{AllocError, Global};
 use step_driver::{Piece, Target};
@@ -71,14 +74,13 @@ pub fn loop_of(b: &Block) -> Option<LoopAt<'_>>
     }
 }
 
-/// Copies of two bounds.
-pub(crate) fn bounds(alloc: Global, lo: &Ctrl, hi: &Ctrl) -> Result<(Ctrl, Ctrl), AllocError>
-    ensures lo { IfOk result (λ b. control b.0 ≡ control lo.now) }
-    ensures hi { IfOk result (λ b. control b.1 ≡ control hi.now) }
+/// Copies of two expressions.
+pub fn copies(alloc: Global, a: &Ctrl, b: &Ctrl) -> Result<(Ctrl, Ctrl), AllocError>
+    ensures first { IfOk result (λ c. control c.0 ≡ control a.now) }
+    ensures second { IfOk result (λ c. control c.1 ≡ control b.now) }
 {
-    let low = lo.duplicate(alloc)?;
-    let high = hi.duplicate(alloc)?;
-    Ok((low, high))
+    let first = a.duplicate(alloc)?;
+    Ok((first, b.duplicate(alloc)?))
 }
 
 /// A loop alone in a block.
@@ -95,6 +97,13 @@ pub fn only_loop(
 }
 
 impl LoopAt<'_> {
+    /// Whether its bounds are affine and over variables alone.
+    pub fn has_affine_bounds(&self) -> bool
+        ensures { result ≡ (is_affine variables (plain_loop self.now).lo && is_affine variables (plain_loop self.now).hi) }
+    {
+        is_over_variables(self.lo) && is_over_variables(self.hi)
+    }
+
     /// A loop with its variable, between these bounds and with that body.
     pub fn between(
         &self,
@@ -105,8 +114,8 @@ impl LoopAt<'_> {
     ) -> Result<Block, AllocError>
         ensures { IfOk result (λ b. block b ≡ plain.only_loop (plain_loop self.now).binder (control lo.now) (control hi.now) (block body.now)) }
     {
-        let (low, high) = bounds(alloc, lo, hi)?;
         let binder = self.binder.duplicate(alloc)?;
+        let (low, high) = copies(alloc, lo, hi)?;
         only_loop(alloc, binder, low, high, body.duplicate(alloc)?)
     }
 

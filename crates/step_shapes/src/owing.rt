@@ -6,7 +6,7 @@ ghost use Rattle.step_rules.specs.Rule as rule;
 ghost use Rattle.step_needs.specs.PlainNeed.{plain_fact, plain_header, plain_conflict, plain_need};
 ghost use Rattle.step_shapes.specs.PlainLoop.{plain_loop};
 
-use crate::loops::{LoopAt, bounds};
+use crate::loops::{LoopAt, copies};
 use exo_tree::{Block, Path};
 use std::alloc::{AllocError, Global};
 use step_needs::{Conflict, Fact, Header, Need};
@@ -34,8 +34,8 @@ pub fn apart(alloc: Global, at: &Path, conflict: Conflict) -> Result<Vec<Need>, 
 pub fn header(alloc: Global, l: &LoopAt<'_>) -> Result<Header, AllocError>
     ensures { IfOk result (λ h. plain_header h ≡ fits.header (plain_loop l.now).binder (plain_loop l.now).lo (plain_loop l.now).hi) }
 {
-    let (lower, upper) = bounds(alloc, l.lo, l.hi)?;
     let binder = l.binder.duplicate(alloc)?;
+    let (lower, upper) = copies(alloc, l.lo, l.hi)?;
     Ok(Header {
         binder,
         lower,

@@ -2,6 +2,7 @@
 ghost use Rattle.std.specs.Prelude.{◌≡◌, ◌≤◌, ◌+◌, [], ◌∷◌, ◌++◌, map, length, IfOk, OnOk};
 ghost use Rattle.exo_tree.specs.Places.{Main};
 ghost use Rattle.exo_tree.specs.PlainPlace.{step_taken};
+ghost use Rattle.cursor_forward.specs.Shifts as shifts;
 ghost use Rattle.scope_laws.specs.PlacesCompose as plain;
 ghost use Rattle.loop_laws.specs.Shapes as shapes;
 
@@ -13,6 +14,25 @@ pub const FIRST: Step = Step {
     branch: Branch::Main,
     index: 0,
 };
+
+/// The step to the statement of a number.
+pub fn numbered(index: u32) -> Step
+    ensures { step_taken result ≡ record { branch = Main; index = index } }
+{
+    Step {
+        branch: Branch::Main,
+        index,
+    }
+}
+
+/// The path to the statement of a number of a piece.
+pub fn at_index(index: u32) -> Path
+    ensures { result ≡ shifts.at_index index }
+{
+    let mut path = Path::new();
+    path.push(numbered(index));
+    path
+}
 
 /// The path to the first statement so many blocks below the first one.
 #[tactic(auto, using(crate::proofs::Made::inside_more, crate::proofs::Made::inside_long))]
@@ -81,13 +101,7 @@ fn put_onward(path: &mut Path, at: &[Step], index: u32, below: &[Step]) -> Resul
     ensures { OnOk result (path.new ≡ path.old ++ plain.onward (map step_taken at.now) (record { branch = Main; index = index }) (map step_taken below.now)) }
 {
     match at.split_first() {
-        None => {
-            let first = Step {
-                branch: Branch::Main,
-                index,
-            };
-            put_from(path, first, below)
-        }
+        None => { put_from(path, numbered(index), below) }
         Some((s, more)) => {
             if more.is_empty() {
                 return put_from(path, moved_on(*s, index)?, below);
