@@ -21,8 +21,8 @@ use schedule_text::source::Move;
 use std::alloc::{AllocError, Global};
 use text_lexer::text::Text;
 
-/// The pattern goes.
-fn let_go(_pattern: Pattern) {}
+/// The value goes.
+pub(crate) fn let_go<T: Drop>(_value: T) {}
 
 impl Session {
     /// Binds the name.

@@ -18,6 +18,7 @@ ghost use Rattle.schedule_run.specs.Planned as plans;
 ghost use Rattle.schedule_run.specs.Planned.{has_form, planned_of, stepped, owed_with};
 ghost use Rattle.schedule_run.specs.Running.{IsRunning, versions_in};
 
+use crate::binding::let_go;
 use crate::planning::planned;
 use crate::session::{Held, Origin, Session, number_of};
 use crate::why::Why;
@@ -215,9 +216,6 @@ impl Running {
         done
     }
 }
-
-/// The operation goes.
-fn let_go(_operation: Operation<'_>) {}
 
 /// The sum; one past the greatest number is answered as want of memory.
 fn total(a: usize, b: usize) -> Result<u64, Why>
