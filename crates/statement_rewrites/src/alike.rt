@@ -17,27 +17,13 @@ ghost use Rattle.step_shapes.specs.PlainLoop.{plain_loop};
 
 use cursor_forward::StepError;
 use exo_modes::ModeTable;
-use exo_tree::{Block, Id, Unit};
+use exo_tree::{Block, Unit};
 use piece_modes::sees_own_root;
 use std::alloc::{AllocError, Global};
 use step_driver::{Piece, Target};
 use step_fields::{have_common, may_read, may_write};
-use step_shapes::{LoopAt, loop_at};
-use tree_mentions::{Names, in_block};
-
-/// One name.
-#[derive(Clone, Copy)]
-struct Alone {
-    id: Id,
-}
-
-impl Names for Alone {
-    ghost names = { λ l x. x == l.id.0 };
-
-    fn has(&self, x: Id) -> bool {
-        x.0 == self.id.0
-    }
-}
+use step_shapes::{Alone, LoopAt, loop_at};
+use tree_mentions::in_block;
 
 /// Whether the body of a loop mentions its variable.
 fn has_variable(l: &LoopAt<'_>) -> bool

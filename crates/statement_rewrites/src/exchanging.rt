@@ -12,14 +12,13 @@ ghost use Rattle.step_driver.specs.Outcomes.{Tries, IsKept, KeepsMeaning, Moves}
 ghost use Rattle.step_driver.specs.PlainTarget.{target};
 
 use crate::neighbours::neighbours_of;
-use crate::places::at_index;
 use cursor_forward::{Proposal, Shifts, StepError};
 use exo_tree::{Block, Name, Path, Proc};
 use made_trees::Fresh;
 use std::alloc::{AllocError, Global};
 use step_driver::{Exit, Operator, Piece, Target, Writing, propose};
 use step_needs::Need;
-use step_shapes::range_to;
+use step_shapes::{at_index, one_shift, range_to};
 
 /// The step by which a statement and the next one change places.
 #[derive(Drop)]
@@ -90,8 +89,7 @@ impl Operator for Exchanging {
         _on: &Target<'_>,
         _piece: &Piece,
     ) -> Result<Shifts, AllocError> {
-        let mut all = Shifts::new(alloc);
-        all.push(range_to(at_index(0), 1, at_index(1)))?;
+        let mut all = one_shift(alloc, range_to(at_index(0), 1, at_index(1)))?;
         all.push(range_to(at_index(1), 1, at_index(0)))?;
         Ok(all)
     }

@@ -1,23 +1,21 @@
 //! The condition that is all of a piece, and what is made of it.
-ghost use Rattle.std.specs.Prelude.{◌≡◌, [], ◌∷◌, option_map, map, length, IfOk, Some};
-ghost use Rattle.exo_tree.specs.Tree.{block, statements};
+ghost use Rattle.std.specs.Prelude.{◌≡◌, option_map, map, IfOk};
+ghost use Rattle.exo_tree.specs.Tree.{block};
 ghost use Rattle.exo_tree.specs.PlainPlace.{branch_taken};
 ghost use Rattle.exo_tree.specs.PlainStatement.{statement};
-ghost use Rattle.cursor_forward.specs.Shifts as shifts;
 ghost use Rattle.statement_laws.specs.DeadCode as plain;
 ghost use Rattle.step_driver.specs.PlainTarget.{target, plain_piece};
 ghost use Rattle.step_driver.specs.Spots.{spot_at};
 ghost use Rattle.step_needs.specs.PlainNeed.{plain_need};
 ghost use Rattle.statement_rewrites.specs.PlainFork.{plain_fork};
 
-use crate::places::at_index;
 use cursor_forward::Shifts;
 use exo_tree::{Block, Branch, Cond, Path, Step, Stmt};
 use made_trees::or_pass;
 use std::alloc::{AllocError, Global};
 use step_driver::{Piece, Target};
 use step_needs::{Fact, Need};
-use step_shapes::{one, range_to, size};
+use step_shapes::{all_moved, at_index, one};
 
 /// A condition of a procedure, with its branches.
 #[derive(Clone, Copy)]
@@ -69,16 +67,6 @@ fn in_branch(keep: Branch) -> Path
     path
 }
 
-/// All statements of a branch stand where the condition stood.
-fn all_out(alloc: Global, keep: Branch, b: &Block) -> Result<Shifts, AllocError>
-    ensures { IfOk result (λ s. s ≡ shifts.range (plain.in_branch (branch_taken keep)) (length (statements (block b.now))) (Some (shifts.at_index 0)) ∷ []) }
-{
-    let count = size(b)?;
-    let mut all = Shifts::new(alloc);
-    all.push(range_to(in_branch(keep), count, at_index(0)))?;
-    Ok(all)
-}
-
 impl ForkAt<'_> {
     /// What stands for the condition where that branch is always taken.
     pub(crate) fn kept(&self, alloc: Global, keep: Branch) -> Result<Block, AllocError>
@@ -111,8 +99,8 @@ impl ForkAt<'_> {
         ensures { IfOk result (λ s. s ≡ plain.out_of_branch (branch_taken keep) (plain_fork self.now)) }
     {
         match keep {
-            Branch::Main => all_out(alloc, keep, self.main),
-            Branch::Else => all_out(alloc, keep, self.other),
+            Branch::Main => all_moved(alloc, self.main, in_branch(keep), at_index(0)),
+            Branch::Else => all_moved(alloc, self.other, in_branch(keep), at_index(0)),
         }
     }
 }

@@ -8,7 +8,6 @@ mod forks;
 mod keeping;
 mod loops;
 mod neighbours;
-mod places;
 mod removing;
 
 pub use emptying::{Emptying, empty_loop};

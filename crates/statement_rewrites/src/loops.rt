@@ -8,14 +8,13 @@ ghost use Rattle.step_shapes.specs.PlainLoop.{plain_loop};
 use exo_tree::{Cond, Path};
 use std::alloc::{AllocError, Global};
 use step_needs::{Fact, Need};
-use step_shapes::{LoopAt, one};
+use step_shapes::{LoopAt, copies, one};
 
 /// That a loop has no turn.
 pub(crate) fn no_turn(alloc: Global, l: &LoopAt<'_>, at: &Path) -> Result<Vec<Need>, AllocError>
     ensures { IfOk result (λ ns. map plain_need ns.items ≡ no_turn_needs at.now (plain_loop l.now)) }
 {
-    let hi = l.hi.duplicate(alloc)?;
-    let lo = l.lo.duplicate(alloc)?;
+    let (hi, lo) = copies(alloc, l.hi, l.lo)?;
     one(alloc, at, Fact::Holds(Cond::Le(hi, lo)))
 }
 
@@ -23,7 +22,6 @@ pub(crate) fn no_turn(alloc: Global, l: &LoopAt<'_>, at: &Path) -> Result<Vec<Ne
 pub(crate) fn a_turn(alloc: Global, l: &LoopAt<'_>, at: &Path) -> Result<Vec<Need>, AllocError>
     ensures { IfOk result (λ ns. map plain_need ns.items ≡ remove_needs at.now (plain_loop l.now)) }
 {
-    let lo = l.lo.duplicate(alloc)?;
-    let hi = l.hi.duplicate(alloc)?;
+    let (lo, hi) = copies(alloc, l.lo, l.hi)?;
     one(alloc, at, Fact::Holds(Cond::Lt(lo, hi)))
 }

@@ -20,7 +20,7 @@ use exo_tree::{Block, Id, Path, Stmt, Unit};
 use std::alloc::{AllocError, Global};
 use step_fields::{have_common, statement_may_read, statement_may_write};
 use step_needs::{Conflict, Need, Turns};
-use step_shapes::{apart, onward};
+use step_shapes::{apart, binds, onward};
 use tree_mentions::{Names, in_block};
 
 /// The name that a statement binds.
@@ -33,11 +33,7 @@ impl Names for BoundBy<'_> {
     ghost names = { λ l. binds (statement l.statement.now) };
 
     fn has(&self, x: Id) -> bool {
-        match self.statement {
-            Stmt::Alloc(y, _, _, _) => x.0 == y.id.0,
-            Stmt::View(y, _, _) => x.0 == y.id.0,
-            _ => false,
-        }
+        binds(self.statement, x)
     }
 }
 

@@ -6,32 +6,20 @@ ghost use Rattle.exo_modes.specs.Seen.{table_says};
 ghost use Rattle.cursor_forward.specs.PlainProposal.{plain_proposal};
 ghost use Rattle.step_rules.specs.Answer.{proposed};
 ghost use Rattle.step_rules.specs.Lawful.{IsTarget};
-ghost use Rattle.statement_laws.specs.RemoveLoop.{out_of_loop, remove_rule};
+ghost use Rattle.statement_laws.specs.RemoveLoop.{remove_rule};
 ghost use Rattle.statement_laws.proofs.RemoveLoop.{remove_is_lawful, remove_is_carrying};
 ghost use Rattle.step_driver.specs.Outcomes.{Tries, IsKept, KeepsMeaning, Moves};
 ghost use Rattle.step_driver.specs.PlainTarget.{target};
-ghost use Rattle.step_shapes.specs.PlainLoop.{plain_loop};
 
 use crate::alike::{removable_at, unless_it_sees_own};
 use crate::loops::a_turn;
-use crate::places::at_index;
 use cursor_forward::{Proposal, Shifts, StepError};
 use exo_tree::{Block, Name, Path, Proc};
 use made_trees::Fresh;
 use std::alloc::{AllocError, Global};
 use step_driver::{Exit, Operator, Piece, Target, Writing, propose};
 use step_needs::Need;
-use step_shapes::{LoopAt, inside, range_to, size};
-
-/// The statements of the body of a loop stand where it stood.
-fn moved(alloc: Global, l: &LoopAt<'_>) -> Result<Shifts, AllocError>
-    ensures { IfOk result (λ s. s ≡ out_of_loop (plain_loop l.now)) }
-{
-    let count = size(l.body)?;
-    let mut all = Shifts::new(alloc);
-    all.push(range_to(inside(1), count, at_index(0)))?;
-    Ok(all)
-}
+use step_shapes::{all_moved, at_index, inside};
 
 /// The step that puts the body of a loop in its place, where all turns do the same.
 #[derive(Drop)]
@@ -92,7 +80,7 @@ impl Operator for Removing {
     fn shifts(&self, alloc: Global, on: &Target<'_>, piece: &Piece) -> Result<Shifts, AllocError> {
         match removable_at(on, piece) {
             None => Ok(Shifts::new(alloc)),
-            Some(l) => moved(alloc, &l),
+            Some(l) => all_moved(alloc, l.body, inside(1), at_index(0)),
         }
     }
 
