@@ -1,4 +1,4 @@
-"""Reads and writes the files of cases of crates/cases; docs/TESTING.md says their form."""
+"""Reads and writes the files of cases of crates/cases, and reads the tables of crates/inside_cases; docs/TESTING.md says their form."""
 
 import re
 
@@ -61,3 +61,25 @@ def cases(path):
             case[1].append(line)
     if case:
         yield case
+
+
+def sections(path):
+    """The sections of a table: the heading, and its lines with their numbers."""
+    section = None
+    for number, line in enumerate(path.read_text().splitlines(), 1):
+        if line.startswith("== "):
+            if section:
+                yield section
+            section = line[3:], []
+        elif section:
+            section[1].append((number, line))
+    if section:
+        yield section
+
+
+def table_rows(lines):
+    """The cases of a section: the number of the line, what is wanted, and what is asked."""
+    for number, line in lines:
+        if not line.startswith("#"):
+            wanted, _, asked = line.partition(" |")
+            yield number, text_of([wanted + "\\"]), text_of([asked.removeprefix(" ") + "\\"])

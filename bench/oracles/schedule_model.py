@@ -1,7 +1,7 @@
 """A model of the readers of schedules, patterns and names, written apart from their code; reader_model.py says how it goes.
 
-`bench/schedule_tables` checks the tables of crates/schedule_cases with it, and makes their rows of changes. What is read is written in
-one line, as crates/schedule_cases/src/written.rt says.
+`bench/schedule_tables` checks the tables of crates/inside_cases with it, and makes their rows of changes. What is read is written in
+one line, as crates/inside_cases/src/schedules.rt says.
 """
 
 import re
@@ -246,6 +246,6 @@ def read_name(text):
 READERS = {
     "schedule": read_schedule,
     "pattern": lambda text: read_one(text, statement_pattern(), FORMS),
-    "expression": lambda text: read_one(text, expression_pattern(), EXPRESSION_FORMS),
+    "expression-pattern": lambda text: read_one(text, expression_pattern(), EXPRESSION_FORMS),
     "name": read_name,
 }

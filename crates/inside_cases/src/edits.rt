@@ -1,60 +1,47 @@
 // Trees built, found and changed at places.
-ghost use Rattle.std.specs.Prelude.{◌≡◌, ◌∷◌, IfOk};
+ghost use Rattle.std.specs.Prelude.{◌≡◌, ◌∷◌, IfSome};
 ghost use Rattle.exo_tree.specs.Tree.{block};
 ghost use Rattle.exo_tree.specs.Renaming.{binders, binders_below};
 ghost use Rattle.exo_tree.specs.PlainStatement.{statement};
 
-use crate::place::{read_path, read_two};
-use crate::question::UNCLEAR;
+use crate::output::Output;
+use crate::place::{read_number, read_path, read_two};
 use exo_tree::{Binder, Block, Ctrl, Id, Name, Path, Proc, Stmt, Unit, at, fresh_copy, subst};
-use std::alloc::{AllocError, Global};
+use std::alloc::Global;
 use tree_edits::{EditError, fits, replace_at};
 
-/// A loop over a block from 0 up to the variable 1.
-fn loop_over(alloc: Global, id: u32, body: Block) -> Result<Stmt, AllocError>
-    ensures { IfOk result (λ s. binders_below (statement s) ≡ id ∷ binders (block body)) }
+/// A loop over a block from 0 up to the variable 1; None for want of memory.
+fn loop_over(alloc: Global, id: u32, body: Block) -> Option<Stmt>
+    ensures { IfSome result (λ s. binders_below (statement s) ≡ id ∷ binders (block body)) }
 {
     let binder = Binder {
         id: Id(id),
-        name: Name::new(alloc, "i")?,
+        name: Name::new(alloc, "i").ok()?,
     };
-    Ok(Stmt::For(binder, Ctrl::Lit(0), Ctrl::Var(Id(1)), body))
+    Some(Stmt::For(binder, Ctrl::Lit(0), Ctrl::Var(Id(1)), body))
 }
 
-/// `pass` within that many loops.
-fn nest(alloc: Global, loops: u32) -> Result<Block, AllocError> {
-    let mut made = Block::single(alloc, Stmt::Pass)?;
+/// `pass` within that many loops; None for want of memory.
+fn nest(alloc: Global, loops: u32) -> Option<Block> {
+    let mut made = Block::single(alloc, Stmt::Pass).ok()?;
     for id in 0..loops {
-        made = Block::single(alloc, loop_over(alloc, id, made)?)?;
+        made = Block::single(alloc, loop_over(alloc, id, made)?).ok()?;
     }
-    Ok(made)
+    Some(made)
 }
 
-fn word(s: Option<&Stmt>) -> &'static str {
-    match s {
+/// Adds the kind of the statement at a place of the first procedure.
+pub fn put_statement(unit: &Unit, text: &str, out: &mut Output) -> Option<()> {
+    let path = read_path(text)?;
+    let word = match at(unit.procs.get(0)?, &path) {
         None => "nothing",
         Some(Stmt::Assign(_, _, _)) => "store",
         Some(Stmt::If(_, _, _)) => "if",
         Some(Stmt::For(_, _, _, _)) => "loop",
         Some(_) => "pass",
-    }
-}
-
-/// Adds the kind of the statement at a place.
-pub fn push_statement(unit: &Unit, text: &str, out: &mut String) -> Result<(), AllocError> {
-    match (unit.procs.get(0), read_path(text)) {
-        (Some(p), Some(path)) => out.push_str(word(at(p, &path))),
-        _ => out.push_str(UNCLEAR),
-    }
-}
-
-fn answer(r: &Result<Proc, EditError>) -> &'static str {
-    match r {
-        Ok(_) => "replaced",
-        Err(EditError::NoPlace) => "no place",
-        Err(EditError::TooDeep) => "too deep",
-        Err(EditError::Memory) => "memory",
-    }
+    };
+    write!(out, "{word}");
+    Some(())
 }
 
 /// What comes of so many statements at a place that are replaced by a block, in a word.
@@ -62,102 +49,51 @@ fn replaced(alloc: Global, p: &Proc, place: &Path, count: u32, with: &Block) -> 
     if !fits(&p.body, 32) {
         return "too deep before";
     }
-    answer(&replace_at(alloc, p, place, count, with))
+    match replace_at(alloc, p, place, count, with) {
+        Ok(_) => "replaced",
+        Err(EditError::NoPlace) => "no place",
+        Err(EditError::TooDeep) => "too deep",
+        Err(EditError::Memory) => "memory",
+    }
 }
 
-/// What a row of `replaced` asks: how many statements from which place on are replaced by how many loops.
-#[derive(Drop)]
-struct Replacement {
-    count: u32,
-    loops: u32,
-    place: Path,
-}
-
-/// `2 1 0.e1`
-fn read_replacement(text: &str) -> Option<Replacement> {
+/// Adds what comes of so many statements from a place on that are replaced by so many loops: `2 1 0.e1`.
+pub fn put_replaced(unit: &Unit, text: &str, out: &mut Output) -> Option<()> {
     let (numbers, place) = text.rsplit_once(' ')?;
     let (count, loops) = read_two(numbers)?;
     let place = read_path(place)?;
-    Some(Replacement {
-        count,
-        loops,
-        place,
-    })
+    let with = nest(out.alloc(), loops)?;
+    let word = replaced(out.alloc(), unit.procs.get(0)?, &place, count, &with);
+    write!(out, "{word}");
+    Some(())
 }
 
-/// Adds what comes of statements that are replaced by loops.
-pub fn push_replaced(
-    alloc: Global,
-    unit: &Unit,
-    text: &str,
-    out: &mut String,
-) -> Result<(), AllocError> {
-    match (unit.procs.get(0), read_replacement(text)) {
-        (Some(p), Some(of)) => {
-            let with = nest(alloc, of.loops)?;
-            out.push_str(replaced(alloc, p, &of.place, of.count, &with))
-        }
-        _ => out.push_str(UNCLEAR),
+/// Adds the bound of the outer of loops up to a variable, for which a number is put: `3 1 4`.
+pub fn put_bound(text: &str, out: &mut Output) -> Option<()> {
+    let (loops, numbers) = text.split_once(' ')?;
+    let (id, number) = read_two(numbers)?;
+    let loops = nest(out.alloc(), read_number(loops)?)?;
+    let made = subst(out.alloc(), &loops, Id(id), &Ctrl::Lit(i64::from(number))).ok()?;
+    match made.get(0) {
+        Some(Stmt::For(_, _, Ctrl::Lit(bound), _)) => write!(out, "{bound}"),
+        _ => write!(out, "0"),
     }
+    Some(())
 }
 
-/// The upper bound of the loop that a block begins with, if it is a literal.
-fn bound(b: &Block) -> i64 {
-    match b.get(0) {
-        Some(Stmt::For(_, _, Ctrl::Lit(n), _)) => *n,
-        _ => 0,
-    }
-}
-
-/// `3 1 4`
-fn read_three(text: &str) -> Option<(u32, u32, u32)> {
-    let (first, rest) = text.split_once(' ')?;
-    let first = first.parse::<u32>().ok()?;
-    let (second, third) = read_two(rest)?;
-    Some((first, second, third))
-}
-
-/// The bound of the outer of loops up to a variable, for which a number is put.
-fn bound_for(alloc: Global, loops: u32, id: u32, number: u32) -> Result<i64, AllocError> {
-    let b = nest(alloc, loops)?;
-    let c = subst(alloc, &b, Id(id), &Ctrl::Lit(i64::from(number)))?;
-    Ok(bound(&c))
-}
-
-/// Adds the bound of the outer of loops up to a variable, for which a number is put.
-pub fn push_bound(alloc: Global, text: &str, out: &mut String) -> Result<(), AllocError> {
-    let Some((loops, id, number)) = read_three(text) else {
-        return out.push_str(UNCLEAR);
-    };
-    let n = bound_for(alloc, loops, id, number)?;
-    write!(out, "{n}")
-}
-
-/// The number of the binder of the loop that a block begins with.
-fn first_binder(b: &Block) -> u32 {
-    match b.get(0) {
-        Some(Stmt::For(i, _, _, _)) => i.id.0,
-        _ => 0,
-    }
-}
-
-/// The number of the binder of a loop that was copied with numbers from one on, and the next number.
-fn copied(alloc: Global, id: u32, from: u32) -> Result<(u32, u32), AllocError> {
+/// Adds the number of the binder of a loop that was copied with numbers from one on, and the next number: `5 100`.
+pub fn put_copied(text: &str, out: &mut Output) -> Option<()> {
+    let (id, from) = read_two(text)?;
     if from > 0xFFFF {
-        return Ok((0, 0));
+        return None;
     }
-    let body = Block::single(alloc, Stmt::Pass)?;
-    let b = Block::single(alloc, loop_over(alloc, id, body)?)?;
+    let body = Block::single(out.alloc(), Stmt::Pass).ok()?;
+    let original = Block::single(out.alloc(), loop_over(out.alloc(), id, body)?).ok()?;
     let mut next = from;
-    let copy = fresh_copy(alloc, &b, &mut next)?;
-    Ok((first_binder(&copy), next))
-}
-
-/// Adds the number of the binder of a copied loop, and the next number.
-pub fn push_copied(alloc: Global, text: &str, out: &mut String) -> Result<(), AllocError> {
-    let Some((id, from)) = read_two(text) else {
-        return out.push_str(UNCLEAR);
-    };
-    let (binder, next) = copied(alloc, id, from)?;
-    write!(out, "{binder} {next}")
+    let copy = fresh_copy(out.alloc(), &original, &mut next).ok()?;
+    match copy.get(0)? {
+        Stmt::For(binder, _, _, _) => write!(out, "{} {next}", binder.id.0),
+        _ => write!(out, "no loop"),
+    }
+    Some(())
 }

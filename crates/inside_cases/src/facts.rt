@@ -3,9 +3,8 @@
 ghost use Rattle.exo_tree.specs.PlainUnit.{program};
 ghost use Rattle.exo_meaning.specs.Units.{IsUnit};
 
-use crate::expression::value;
-use crate::place::read_path;
-use crate::rules::keeps_rules;
+use crate::expression::affine_value;
+use crate::place::{read_number, read_path};
 use affine_places::{Fact, Facts};
 use exo_tree::{Arg, FieldId, Unit};
 use std::alloc::Global;
@@ -22,17 +21,8 @@ fn put_known(
 {
     let (place, text) = text.split_once(" = ")?;
     let place = read_path(place)?;
-    let known = value(alloc, unit, &place, text)?;
-    if !keeps_rules(&known) {
-        return None;
-    }
+    let known = affine_value(alloc, unit, &place, text)?;
     let fact = Fact::Known(Arg::Ctrl(Box::into_inner(known)));
-    facts.set(field, fact).ok()
-}
-
-/// Puts a fact that a field is unknown: `0.2`.
-fn put_unknown(field: FieldId, text: &str, facts: &mut Facts) -> Option<()> {
-    let fact = Fact::Unknown(read_path(text)?);
     facts.set(field, fact).ok()
 }
 
@@ -42,10 +32,10 @@ fn put_fact(alloc: Global, unit: &Unit, line: &str, facts: &mut Facts) -> Option
 {
     let (number, rest) = line.split_once(' ')?;
     let (word, rest) = rest.split_once(' ')?;
-    let field = FieldId(number.parse::<u32>().ok()?);
+    let field = FieldId(read_number(number)?);
     match word {
         "at" => put_known(alloc, unit, field, rest, facts),
-        "unknown" => put_unknown(field, rest, facts),
+        "unknown" => facts.set(field, Fact::Unknown(read_path(rest)?)).ok(),
         _ => None,
     }
 }

@@ -3,12 +3,11 @@ ghost use Rattle.std.specs.Prelude.{IsTrue, IsSome};
 ghost use Rattle.exo_tree.specs.PlainUnit.{program};
 ghost use Rattle.config_state.specs.Pieces.{piece_at};
 
+use crate::output::{Output, Shown};
 use crate::place::{read_place, read_two};
-use crate::question::UNCLEAR;
 use config_state::{read, written};
 use exo_modes::{ModeTable, modes};
 use exo_tree::{FieldId, Path, ProcId, Unit, at};
-use std::alloc::{AllocError, Global};
 
 /// The most fields of a unit.
 const FIELDS: usize = 0xFFFF;
@@ -23,46 +22,32 @@ fn stands(unit: &Unit, p: ProcId, path: &Path) -> bool
     }
 }
 
-/// A word with the numbers of fields.
-fn push_numbers(word: &str, fields: &[FieldId], out: &mut String) -> Result<(), AllocError> {
-    out.push_str(word)?;
-    for f in fields {
-        let number = f.0;
-        write!(out, " {number}")?;
+impl Shown for FieldId {
+    fn put(&self, out: &mut Output) {
+        write!(out, " {}", self.0)
     }
-    Ok(())
 }
 
-/// Adds the fields that a statement writes, and those that it reads.
-pub fn push_fields(
-    alloc: Global,
-    unit: &Unit,
-    text: &str,
-    out: &mut String,
-) -> Result<(), AllocError> {
-    let Some((p, path)) = read_place(text) else {
-        return out.push_str(UNCLEAR);
-    };
+/// Adds the fields that a statement writes, and those that it reads: `0 1` is statement 1 of procedure 0.
+pub fn put_fields(unit: &Unit, text: &str, out: &mut Output) -> Option<()> {
+    let alloc = out.alloc();
+    let (p, path) = read_place(text)?;
     if unit.fields.len() > FIELDS || !stands(unit, p, &path) {
-        return out.push_str("no statement");
+        return None;
     }
-    push_numbers("writes", &written(alloc, unit, p, &path, 1)?, out)?;
-    push_numbers(", reads", &read(alloc, unit, p, &path, 1)?, out)
+    write!(out, "writes");
+    out.put(written(alloc, unit, p, &path, 1));
+    write!(out, ", reads");
+    out.put(read(alloc, unit, p, &path, 1));
+    Some(())
 }
 
-/// Adds the modes of a parameter.
-pub fn push_modes(
-    alloc: Global,
-    unit: &Unit,
-    text: &str,
-    out: &mut String,
-) -> Result<(), AllocError> {
-    let Some((p, param)) = read_two(text) else {
-        return out.push_str(UNCLEAR);
-    };
-    let table = ModeTable::new(alloc, unit)?;
+/// Adds the modes of a parameter: `0 1` is parameter 1 of procedure 0.
+pub fn put_modes(unit: &Unit, text: &str, out: &mut Output) -> Option<()> {
+    let (p, param) = read_two(text)?;
+    let table = ModeTable::new(out.alloc(), unit).ok()?;
     let found = modes(unit, &table, ProcId(p), param);
-    out.push_str(match (found.read, found.write, found.reduce) {
+    let words = match (found.read, found.write, found.reduce) {
         (false, false, false) => "none",
         (true, false, false) => "read",
         (false, true, false) => "write",
@@ -71,5 +56,7 @@ pub fn push_modes(
         (true, false, true) => "read reduce",
         (false, true, true) => "write reduce",
         (true, true, true) => "read write reduce",
-    })
+    };
+    write!(out, "{words}");
+    Some(())
 }

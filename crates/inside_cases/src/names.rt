@@ -3,53 +3,40 @@ ghost use Rattle.exo_tree.specs.PlainUnit.{program};
 ghost use Rattle.exo_meaning.specs.Units.{IsUnit};
 
 use crate::expression::value;
+use crate::output::Output;
 use c_names::{c_name, first_clash};
 use c_widths::{Bound, magnitude};
 use exo_tree::{Id, Name, Path, Unit};
-use std::alloc::{AllocError, Global};
+use std::alloc::Global;
 
-/// The names of words.
-fn names(alloc: Global, words: &str) -> Result<Vec<Name>, AllocError> {
+/// The names of words; None for want of memory.
+fn names(alloc: Global, words: &str) -> Option<Vec<Name>> {
     let mut made = Vec::new(alloc);
     for word in words.trim_end().split(' ') {
-        made.push(Name::new(alloc, word)?)?;
+        made.push(Name::new(alloc, word).ok()?).ok()?;
     }
-    Ok(made)
-}
-
-/// Adds the name of C that a word gets beside these.
-fn push_beside(
-    alloc: Global,
-    globals: &[Name],
-    binders: &[Name],
-    word: &str,
-    out: &mut String,
-) -> Result<(), AllocError> {
-    let name = Name::new(alloc, word)?;
-    let got = c_name(alloc, globals, binders, &name)?;
-    out.push_str(got.as_str())
+    Some(made)
 }
 
 /// Adds the name of C that a word gets beside the names of the first line and those of the second.
-pub fn push_name(
-    alloc: Global,
-    given: &str,
-    word: &str,
-    out: &mut String,
-) -> Result<(), AllocError> {
-    let (globals, binders) = given.split_once('\n').unwrap_or((given, ""));
+pub fn put_c_name(given: &str, word: &str, out: &mut Output) -> Option<()> {
+    let alloc = out.alloc();
+    let (globals, binders) = given.split_once('\n')?;
+    let name = Name::new(alloc, word).ok()?;
     let globals = names(alloc, globals)?;
     let binders = names(alloc, binders)?;
-    push_beside(alloc, &globals, &binders, word, out)
+    out.put(c_name(alloc, &globals, &binders, &name));
+    Some(())
 }
 
 /// Adds the first of the names that clashes.
-pub fn push_clash(alloc: Global, words: &str, out: &mut String) -> Result<(), AllocError> {
-    let globals = names(alloc, words)?;
+pub fn put_clash(words: &str, out: &mut Output) -> Option<()> {
+    let globals = names(out.alloc(), words)?;
     match first_clash(&globals) {
-        Some(name) => out.push_str(name.as_str()),
-        None => out.push_str("none"),
+        Some(name) => write!(out, "{}", name.as_str()),
+        None => write!(out, "none"),
     }
+    Some(())
 }
 
 /// What the variable 0 is at most.
@@ -59,19 +46,13 @@ const BOUND: Bound = Bound {
 };
 
 /// Adds the magnitude of an expression.
-pub fn push_magnitude(
-    alloc: Global,
-    unit: &Unit,
-    text: &str,
-    out: &mut String,
-) -> Result<(), AllocError>
+pub fn put_magnitude(unit: &Unit, text: &str, out: &mut Output) -> Option<()>
     requires { IsUnit (program unit.now) }
 {
-    let Some(e) = value(alloc, unit, &Path::new(), text) else {
-        return out.push_str("no expression");
-    };
+    let e = value(out.alloc(), unit, &Path::new(), text)?;
     match magnitude(&[BOUND], &e) {
         Some(most) => write!(out, "{most}"),
-        None => out.push_str("none"),
+        None => write!(out, "none"),
     }
+    Some(())
 }

@@ -1,54 +1,57 @@
-// Expressions and windows in texts of one line, and units, and where they are refused.
+// What readers answer: what a text is, or where it is refused and why.
+use crate::output::{Output, Shown};
+use exo_reader::source::SourceWindow;
 use exo_reader::string::{read_expr, read_window};
-use exo_reader::unit::{ReadError, read_unit};
-use std::alloc::{AllocError, Global};
+use exo_reader::unit::{ReadError, Source};
+use std::alloc::Global;
+use text_expressions::source::SourceExpr;
 
-/// The most bytes of a text.
-const LIMIT: usize = 0x100000;
+/// The most bytes of a text that the readers take.
+pub const LIMIT: usize = 0x100000;
 
-/// Where a text is wrong and why.
-fn push_refusal(error: ReadError, out: &mut String) -> Result<(), AllocError> {
-    let line = error.line;
-    let column = error.column;
-    let kind = error.kind;
-    write!(out, "{line}:{column} {kind:?}")
-}
-
-/// Adds whether a text is an expression.
-pub fn push_expression(alloc: Global, text: &[u8], out: &mut String) -> Result<(), AllocError> {
-    if text.len() > LIMIT {
-        return out.push_str("too long a text");
-    }
-    match read_expr(alloc, text) {
-        Ok(_) => out.push_str("an expression"),
-        Err(error) => push_refusal(error, out),
+impl Shown for ReadError {
+    fn put(&self, out: &mut Output) {
+        write!(out, "{}:{} {:?}", self.line, self.column, self.kind)
     }
 }
 
-/// Adds how many coordinates a text has as a window.
-pub fn push_window(alloc: Global, text: &[u8], out: &mut String) -> Result<(), AllocError> {
-    if text.len() > LIMIT {
-        return out.push_str("too long a text");
-    }
-    match read_window(alloc, text) {
-        Ok(window) => {
-            let count = window.coords.len();
-            write!(out, "{count} coordinates")
-        }
-        Err(error) => push_refusal(error, out),
+impl Shown for SourceExpr {
+    fn put(&self, out: &mut Output) {
+        write!(out, "an expression")
     }
 }
 
-/// Adds how many items a text has as a unit.
-pub fn push_items(alloc: Global, text: &[u8], out: &mut String) -> Result<(), AllocError> {
-    if text.len() > LIMIT {
-        return out.push_str("too long a text");
+impl Shown for SourceWindow {
+    fn put(&self, out: &mut Output) {
+        write!(out, "{} coordinates", self.coords.len())
     }
-    match read_unit(alloc, text) {
-        Ok(source) => {
-            let count = source.items.len();
-            write!(out, "{count} items")
-        }
-        Err(error) => push_refusal(error, out),
+}
+
+impl Shown for Source {
+    fn put(&self, out: &mut Output) {
+        write!(out, "{} items", self.items.len())
     }
+}
+
+/// A value in a box, if there is one; None also for want of memory.
+pub fn boxed<T: Drop>(alloc: Global, value: Option<T>) -> Option<Box<T>> {
+    Box::new(alloc, value?).ok()
+}
+
+/// The expression of a text; None also for want of memory.
+pub fn expression(alloc: Global, text: &str) -> Option<Box<SourceExpr>> {
+    let bytes = text.as_bytes();
+    if bytes.len() > LIMIT {
+        return None;
+    }
+    boxed(alloc, read_expr(alloc, bytes).ok())
+}
+
+/// The window of a text; None also for want of memory.
+pub fn window(alloc: Global, text: &str) -> Option<Box<SourceWindow>> {
+    let bytes = text.as_bytes();
+    if bytes.len() > LIMIT {
+        return None;
+    }
+    boxed(alloc, read_window(alloc, bytes).ok())
 }

@@ -2,128 +2,83 @@
 ghost use Rattle.exo_tree.specs.PlainUnit.{program};
 ghost use Rattle.exo_meaning.specs.Units.{IsUnit};
 
-use crate::expression::condition;
-use crate::rules::condition_keeps_rules;
-use crate::shown::{push_all_systems, push_refusal};
-use affine_forms::{FormError, Formula, formula_of};
-use affine_places::{AtEntry, Roots};
+use crate::expression::affine_condition;
+use crate::known::entry_formula;
+use crate::output::{Output, Shown};
+use crate::readers::boxed;
+use affine_forms::{FormError, Formula, Row};
 use affine_systems::{Context, Obligation, systems};
-use exo_tree::{Cond, Path, Text, Unit};
-use std::alloc::{AllocError, Global};
+use exo_tree::{Path, Text, Unit};
+use std::alloc::Global;
 
-/// The formula of a condition at entry; None also for want of memory.
-fn formula(alloc: Global, unit: &Unit, c: &Cond) -> Option<Formula> {
-    if !condition_keeps_rules(c) {
-        return None;
+/// Rows of a system with that sign: its constant, then each variable with its coefficient.
+fn put_rows(sign: &str, rows: &[Row], out: &mut Output) {
+    for row in rows {
+        write!(out, "; {sign}{}", row.constant);
+        for term in &row.terms {
+            write!(out, " {}:{}", term.variable, term.coefficient);
+        }
     }
-    let roots = Roots::new(alloc);
-    let at = AtEntry {
-        fields: &unit.fields,
-        roots: &roots,
-    };
-    formula_of(alloc, &at, c).ok()
 }
 
-/// The same of a text.
-fn formula_at(alloc: Global, unit: &Unit, text: &str) -> Option<Formula>
+/// The number of variables, the equations and the rows of the system, in a line.
+impl Shown for Obligation {
+    fn put(&self, out: &mut Output) {
+        write!(out, "{}", self.system.vars);
+        put_rows("=", &self.system.equations, out);
+        put_rows(">", &self.system.rows, out);
+        write!(out, "\n")
+    }
+}
+
+/// The formula at entry of a text; None also for want of memory.
+fn formula(alloc: Global, unit: &Unit, text: &str) -> Option<Box<Formula>>
     requires { IsUnit (program unit.now) }
 {
-    let c = condition(alloc, unit, text)?;
-    formula(alloc, unit, &c)
+    let c = affine_condition(alloc, unit, text)?;
+    boxed(alloc, entry_formula(alloc, unit, &c).ok())
 }
 
-/// The systems of a claim in a context.
-fn systems_of(
-    alloc: Global,
-    known: &Context,
-    claim: &Formula,
-) -> Result<Vec<Obligation>, FormError> {
-    let what = Text::new(alloc, "claim")?;
-    systems(alloc, known, claim, &what, &Path::new())
-}
-
-/// Adds the formulas of texts with semicolons between.
-fn put_known(alloc: Global, unit: &Unit, texts: &str, known: &mut Context) -> Option<()>
-    requires { IsUnit (program unit.now) }
-{
-    if texts.is_empty() {
-        return Some(());
-    }
-    for text in texts.split("; ") {
-        let f = formula_at(alloc, unit, text)?;
-        known.push(f).ok()?;
-    }
-    Some(())
-}
-
-/// The context of texts with semicolons between.
+/// The context of texts with semicolons between; None also for want of memory.
 fn context(alloc: Global, unit: &Unit, texts: &str) -> Option<Context>
     requires { IsUnit (program unit.now) }
 {
     let mut known = Context::new(alloc);
-    put_known(alloc, unit, texts, &mut known)?;
+    for text in texts.split("; ") {
+        let f = formula(alloc, unit, text)?;
+        known.push(Box::into_inner(f)).ok()?;
+    }
     Some(known)
 }
 
-/// Adds the systems of a claim in a context, one a line, or the refusal.
-fn push_systems_in(
-    alloc: Global,
-    known: &Context,
-    claim: &Formula,
-    out: &mut String,
-) -> Result<(), AllocError> {
-    match systems_of(alloc, known, claim) {
-        Ok(owed) => push_all_systems(&owed, out),
-        Err(error) => push_refusal(&error, out),
-    }
-}
-
-/// The claim, and the context behind `given`.
-fn split(text: &str) -> (&str, &str) {
-    text.split_once(" given ").unwrap_or((text, ""))
-}
-
-/// Adds the systems of a claim and a context in texts.
-pub fn push_systems(
-    alloc: Global,
-    unit: &Unit,
-    text: &str,
-    out: &mut String,
-) -> Result<(), AllocError>
+/// The systems of a claim and the context behind `given`, or the refusal; None also for want of memory.
+fn systems_of(alloc: Global, unit: &Unit, text: &str) -> Option<Result<Vec<Obligation>, FormError>>
     requires { IsUnit (program unit.now) }
 {
-    let (claim, texts) = split(text);
-    match (formula_at(alloc, unit, claim), context(alloc, unit, texts)) {
-        (Some(claim), Some(known)) => push_systems_in(alloc, &known, &claim, out),
-        _ => out.push_str("no claim or no context"),
-    }
+    let (claim, known) = match text.split_once(" given ") {
+        Some((claim, texts)) => (claim, context(alloc, unit, texts)?),
+        None => (text, Context::new(alloc)),
+    };
+    let claim = formula(alloc, unit, claim)?;
+    let what = Text::new(alloc, "claim").ok()?;
+    Some(systems(alloc, &known, &claim, &what, &Path::new()))
+}
+
+/// Adds the systems of a claim in a context, one a line, or the refusal.
+pub fn put_systems(unit: &Unit, text: &str, out: &mut Output) -> Option<()>
+    requires { IsUnit (program unit.now) }
+{
+    out.put(systems_of(out.alloc(), unit, text)?);
+    Some(())
 }
 
 /// Adds how many systems a claim has in a context, or the refusal.
-fn push_count_in(
-    alloc: Global,
-    known: &Context,
-    claim: &Formula,
-    out: &mut String,
-) -> Result<(), AllocError> {
-    match systems_of(alloc, known, claim) {
-        Ok(owed) => write!(out, "{} systems", owed.len()),
-        Err(error) => push_refusal(&error, out),
-    }
-}
-
-/// Adds how many systems a claim and a context in texts have.
-pub fn push_count(
-    alloc: Global,
-    unit: &Unit,
-    text: &str,
-    out: &mut String,
-) -> Result<(), AllocError>
+pub fn put_count(unit: &Unit, text: &str, out: &mut Output) -> Option<()>
     requires { IsUnit (program unit.now) }
 {
-    let (claim, texts) = split(text);
-    match (formula_at(alloc, unit, claim), context(alloc, unit, texts)) {
-        (Some(claim), Some(known)) => push_count_in(alloc, &known, &claim, out),
-        _ => out.push_str("no claim or no context"),
+    match systems_of(out.alloc(), unit, text)? {
+        Ok(owed) => write!(out, "{} systems", owed.len()),
+        Err(error) => error.put(out),
     }
+    Some(())
 }

@@ -3,31 +3,24 @@ ghost use Rattle.exo_tree.specs.PlainUnit.{program};
 ghost use Rattle.exo_meaning.specs.Units.{IsUnit};
 
 use crate::expression::{condition, value};
-use crate::question::UNCLEAR;
-use exo_tree::{
-    Arg, Args, Block, Cond, Conds, Ctrl, Id, Name, Params, Path, Proc, ProcId, Stmt, Unit,
-};
+use crate::output::{Output, Shown};
+use crate::place::read_number;
+use exo_tree::{Arg, Args, Block, Conds, Id, Name, Params, Path, Proc, ProcId, Stmt, Unit};
 use formed_units::formed_unit;
 use std::alloc::{AllocError, Global};
 use text_show::{Words, put_condition, put_control, show};
 
-/// Adds the text of the procedure of a number.
-fn push_shown(alloc: Global, unit: &Unit, number: u32, out: &mut String) -> Result<(), AllocError> {
-    let shown = show(alloc, unit, ProcId(number))?;
-    out.push_str(shown.as_str())
+impl Shown for String {
+    fn put(&self, out: &mut Output) {
+        write!(out, "{}", self.as_str())
+    }
 }
 
 /// Adds the text of the procedure of that number.
-pub fn push_procedure(
-    alloc: Global,
-    unit: &Unit,
-    text: &str,
-    out: &mut String,
-) -> Result<(), AllocError> {
-    match text.parse::<u32>() {
-        Ok(number) => push_shown(alloc, unit, number, out),
-        Err(_) => out.push_str(UNCLEAR),
-    }
+pub fn put_procedure(unit: &Unit, text: &str, out: &mut Output) -> Option<()> {
+    let number = read_number(text)?;
+    out.put(show(out.alloc(), unit, ProcId(number)));
+    Some(())
 }
 
 /// A block with a call of a procedure and a buffer that are not there.
@@ -49,69 +42,29 @@ fn nameless(alloc: Global) -> Result<Proc, AllocError> {
     })
 }
 
-/// Adds a procedure that names what is not there to a unit, and its text.
-fn push_last(alloc: Global, unit: &mut Unit, out: &mut String) -> Result<(), AllocError> {
-    match u32::try_from(unit.procs.len()) {
-        Ok(last) => {
-            unit.procs.push(nameless(alloc)?)?;
-            push_shown(alloc, unit, last, out)
-        }
-        Err(_) => out.push_str(UNCLEAR),
-    }
+/// Adds the text of a procedure that names what is not there, the last one of the given unit.
+pub fn put_nameless(given: &[u8], out: &mut Output) -> Option<()> {
+    let mut unit = formed_unit(out.alloc(), given)?;
+    let last = u32::try_from(unit.procs.len()).ok()?;
+    unit.procs.push(nameless(out.alloc()).ok()?).ok()?;
+    out.put(show(out.alloc(), &unit, ProcId(last)));
+    Some(())
 }
 
-/// Adds the text of a procedure that names what is not there, the last one of a unit.
-pub fn push_nameless(alloc: Global, given: &str, out: &mut String) -> Result<(), AllocError> {
-    match formed_unit(alloc, given.as_bytes()) {
-        Some(mut unit) => push_last(alloc, &mut unit, out),
-        None => out.push_str("no unit"),
-    }
-}
-
-/// Adds the text of a control expression with the names of the first procedure.
-fn push_value(alloc: Global, unit: &Unit, e: &Ctrl, out: &mut String) -> Result<(), AllocError> {
-    let Some(p) = unit.procs.get(0) else {
-        return out.push_str("no procedure");
-    };
-    let words = Words::new(alloc, unit, p)?;
-    put_control(out, &words, e)
-}
-
-/// Adds the text of an expression, read and written again.
-pub fn push_control(
-    alloc: Global,
-    unit: &Unit,
-    text: &str,
-    out: &mut String,
-) -> Result<(), AllocError>
+/// Adds the text of an expression, read and written again with the names of the first procedure.
+pub fn put_control_text(unit: &Unit, text: &str, out: &mut Output) -> Option<()>
     requires { IsUnit (program unit.now) }
 {
-    match value(alloc, unit, &Path::new(), text) {
-        Some(e) => push_value(alloc, unit, &e, out),
-        None => out.push_str("no expression"),
-    }
-}
-
-/// Adds the text of a condition with the names of the first procedure.
-fn push_test(alloc: Global, unit: &Unit, c: &Cond, out: &mut String) -> Result<(), AllocError> {
-    let Some(p) = unit.procs.get(0) else {
-        return out.push_str("no procedure");
-    };
-    let words = Words::new(alloc, unit, p)?;
-    put_condition(out, &words, c)
+    let words = Words::new(out.alloc(), unit, unit.procs.get(0)?).ok()?;
+    let e = value(out.alloc(), unit, &Path::new(), text)?;
+    put_control(&mut out.text, &words, &e).ok()
 }
 
 /// The same of a condition.
-pub fn push_condition(
-    alloc: Global,
-    unit: &Unit,
-    text: &str,
-    out: &mut String,
-) -> Result<(), AllocError>
+pub fn put_condition_text(unit: &Unit, text: &str, out: &mut Output) -> Option<()>
     requires { IsUnit (program unit.now) }
 {
-    match condition(alloc, unit, text) {
-        Some(c) => push_test(alloc, unit, &c, out),
-        None => out.push_str("no condition"),
-    }
+    let words = Words::new(out.alloc(), unit, unit.procs.get(0)?).ok()?;
+    let c = condition(out.alloc(), unit, text)?;
+    put_condition(&mut out.text, &words, &c).ok()
 }

@@ -2,10 +2,11 @@
 //
 // A system is the number of its variables, and its equations and rows, each a sign, a constant and the coefficients of the variables 0
 // and 1: `2; = -1 2 -2; > 0 1 0`.
-use crate::question::UNCLEAR;
+use crate::output::{Output, Shown};
+use crate::place::read_number;
 use affine_forms::{Row, System, Term};
-use affine_prover::verdict;
-use std::alloc::{AllocError, Global};
+use affine_prover::{Verdict, verdict};
+use std::alloc::Global;
 
 /// A constant and the coefficients of two variables.
 #[derive(Clone, Copy)]
@@ -35,7 +36,7 @@ fn put_term(variable: u32, coefficient: i128, terms: &mut Vec<Term>) -> Option<(
 }
 
 /// The row of a sum.
-pub fn row(alloc: Global, sum: Sum) -> Option<Row> {
+fn row(alloc: Global, sum: Sum) -> Option<Row> {
     let mut terms = Vec::new(alloc);
     put_term(0, sum.first, &mut terms)?;
     put_term(1, sum.second, &mut terms)?;
@@ -43,70 +44,51 @@ pub fn row(alloc: Global, sum: Sum) -> Option<Row> {
 }
 
 /// Adds the row of a sum.
-pub fn put_row(alloc: Global, sum: Sum, rows: &mut Vec<Row>) -> Option<()> {
-    let made = row(alloc, sum)?;
+pub fn put_row(sum: Sum, rows: &mut Vec<Row>) -> Option<()> {
+    let made = row(*rows.allocator(), sum)?;
     rows.push(made).ok()
 }
 
-/// The sides of a system.
-#[derive(Drop)]
-struct Sides {
-    equations: Vec<Row>,
-    rows: Vec<Row>,
-}
-
-impl Sides {
-    /// Adds `= -1 2 -2` or `> 0 1 0`.
-    fn put(&mut self, alloc: Global, text: &str) -> Option<()> {
-        let (sign, sum) = text.split_once(' ')?;
-        let rows = match sign {
-            "=" => &mut self.equations,
-            ">" => &mut self.rows,
-            _ => return None,
-        };
-        put_row(alloc, read_sum(sum)?, rows)
+/// Adds `= -1 2 -2` to the equations or `> 0 1 0` to the rows.
+fn put_side(text: &str, equations: &mut Vec<Row>, rows: &mut Vec<Row>) -> Option<()> {
+    let (sign, sum) = text.split_once(' ')?;
+    let sum = read_sum(sum)?;
+    match sign {
+        "=" => put_row(sum, equations),
+        ">" => put_row(sum, rows),
+        _ => None,
     }
-}
-
-/// The sides in texts with semicolons between.
-fn read_sides(alloc: Global, texts: &str) -> Option<Sides> {
-    let mut made = Sides {
-        equations: Vec::new(alloc),
-        rows: Vec::new(alloc),
-    };
-    for text in texts.split("; ") {
-        made.put(alloc, text)?;
-    }
-    Some(made)
 }
 
 /// The system of a text.
 fn system(alloc: Global, text: &str) -> Option<System> {
-    let Some((vars, texts)) = text.split_once("; ") else {
-        let vars = text.parse::<u32>().ok()?;
-        return System::try_new(vars, Vec::new(alloc), Vec::new(alloc));
-    };
-    let vars = vars.parse::<u32>().ok()?;
-    let made = read_sides(alloc, texts)?;
-    System::try_new(vars, made.equations, made.rows)
+    let mut equations = Vec::new(alloc);
+    let mut rows = Vec::new(alloc);
+    let mut vars = None;
+    for word in text.split("; ") {
+        match vars {
+            Some(_) => put_side(word, &mut equations, &mut rows)?,
+            None => vars = Some(read_number(word)?),
+        }
+    }
+    System::try_new(vars?, equations, rows)
 }
 
-/// Adds the verdict on a system.
-fn push_verdict_on(alloc: Global, on: &System, out: &mut String) -> Result<(), AllocError> {
-    let answer = verdict(alloc, on)?;
-    write!(out, "{answer:?}")
-}
-
-/// Adds the verdict on the system of a text.
-pub fn push_verdict(alloc: Global, text: &str, out: &mut String) -> Result<(), AllocError> {
-    match system(alloc, text) {
-        Some(on) => push_verdict_on(alloc, &on, out),
-        None => out.push_str("no system"),
+impl Shown for Verdict {
+    fn put(&self, out: &mut Output) {
+        write!(out, "{self:?}")
     }
 }
 
+/// Adds the verdict on the system of a text.
+pub fn put_verdict(text: &str, out: &mut Output) -> Option<()> {
+    let on = system(out.alloc(), text)?;
+    out.put(verdict(out.alloc(), &on));
+    Some(())
+}
+
 /// Adds `0 <= x + k * y <= 1000`.
-fn put_pair(alloc: Global, k: u8, rows: &mut Vec<Row>) -> Option<()> {
+fn put_pair(k: u8, rows: &mut Vec<Row>) -> Option<()> {
     let k = i128::from(k);
     let least = Sum {
         constant: 0,
@@ -118,32 +100,24 @@ fn put_pair(alloc: Global, k: u8, rows: &mut Vec<Row>) -> Option<()> {
         first: -1,
         second: -k,
     };
-    put_row(alloc, least, rows)?;
-    put_row(alloc, most, rows)
+    put_row(least, rows)?;
+    put_row(most, rows)
 }
 
 /// The rows `0 <= x + k * y <= 1000` for k from 1 to 65, and one more.
-pub fn put_fan(alloc: Global, last: Sum, rows: &mut Vec<Row>) -> Option<()> {
+pub fn put_fan(last: Sum, rows: &mut Vec<Row>) -> Option<()> {
     for k in 1..66u8 {
-        put_pair(alloc, k, rows)?;
+        put_pair(k, rows)?;
     }
-    put_row(alloc, last, rows)
-}
-
-/// The system of these rows.
-fn fan(alloc: Global, last: Sum) -> Option<System> {
-    let mut rows = Vec::new(alloc);
-    put_fan(alloc, last, &mut rows)?;
-    System::try_new(2, Vec::new(alloc), rows)
+    put_row(last, rows)
 }
 
 /// Adds the verdict on the rows `0 <= x + k * y <= 1000` for k from 1 to 65, and one more.
-pub fn push_fan(alloc: Global, text: &str, out: &mut String) -> Result<(), AllocError> {
-    let Some(last) = read_sum(text) else {
-        return out.push_str(UNCLEAR);
-    };
-    match fan(alloc, last) {
-        Some(on) => push_verdict_on(alloc, &on, out),
-        None => out.push_str("no system"),
-    }
+pub fn put_fan_verdict(text: &str, out: &mut Output) -> Option<()> {
+    let last = read_sum(text)?;
+    let mut rows = Vec::new(out.alloc());
+    put_fan(last, &mut rows)?;
+    let on = System::try_new(2, Vec::new(out.alloc()), rows)?;
+    out.put(verdict(out.alloc(), &on));
+    Some(())
 }
