@@ -1,7 +1,6 @@
 pub mod Levels
 pub mod Signs
 pub mod Sizes
-pub mod Words
 pub mod Chains
 pub mod Atoms
 pub mod Indices

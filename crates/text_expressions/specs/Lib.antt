@@ -1,5 +1,5 @@
-pub mod Fixed
-pub mod Values
+pub use Rattle.text_front.specs.Fixed
+pub use Rattle.text_front.specs.Values
 pub mod Expression
 pub mod Rooms
 pub mod Chain

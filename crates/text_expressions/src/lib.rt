@@ -2,5 +2,6 @@
 #![tactic(auto)]
 
 pub mod expression;
-pub mod front;
 pub mod source;
+
+pub use text_front as front;

@@ -1,11 +1,12 @@
 //! Reading single tokens from the front of a list.
+#![tactic(auto)]
 
 ghost use Rattle.std.specs.Prelude.{◌≡◌, ◌∷◌, Some, IsTrue, ◌↔◌, MatchOption, MatchResult, List, length, map};
 ghost use Rattle.text_phrases.specs.Phrase.{first};
 ghost use Rattle.text_phrases.specs.Sequence.{exactly};
 ghost use Rattle.text_phrases.specs.Answers.{Reads};
-ghost use Rattle.text_expressions.specs.Values.{IsShortName, name, literal};
-ghost use Rattle.text_expressions.specs.Fixed.{token_of};
+ghost use Rattle.text_front.specs.Values.{IsShortName, name, literal};
+ghost use Rattle.text_front.specs.Fixed.{token_of};
 ghost use Rattle.text_lexer.specs.declared.token.Token.{Token};
 ghost use Rattle.text_lexer.specs.declared.token.Literal.{Literal};
 

@@ -1,6 +1,6 @@
 use Rattle.std.proofs.Common.{false, true, ◌≡◌}
-use Rattle.text_expressions.proofs.Words.{name_long, name_other}
-use Rattle.text_expressions.proofs.front.read_name.Goals as goal
+use Rattle.text_front.proofs.Words.{name_long, name_other}
+use Rattle.text_front.proofs.read_name.Goals as goal
 
 pub returns-then-not-is_short : goal.returns-then-not-is_short
 returns-then-not-is_short c = name_long _ _ _ _ c.in-Some.ensures c.in-Name.is (λ short. let h : false ≡ true = c.if-not-is_short.ensures.1 short in cc)

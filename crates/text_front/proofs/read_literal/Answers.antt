@@ -1,5 +1,5 @@
-use Rattle.text_expressions.proofs.Words.{literal_large, literal_other, literal_end}
-use Rattle.text_expressions.proofs.front.read_literal.Goals as goal
+use Rattle.text_front.proofs.Words.{literal_large, literal_other, literal_end}
+use Rattle.text_front.proofs.read_literal.Goals as goal
 
 pub returns-in_default : goal.returns-in_default
 returns-in_default c = literal_end _ c.in_default.ensures

@@ -8,9 +8,9 @@ use Rattle.text_phrases.specs.Answers.{Refuses}
 use Rattle.text_phrases.specs.declared.Refusal.{Refusal}
 use Rattle.text_phrases.specs.declared.Refusal.TheVariants.{Syntax}
 use Rattle.text_phrases.proofs.Sequences.{refused_exactly, refused_short, refused_other, refused_large, refused_else}
-use Rattle.text_expressions.specs.Fixed.{token_of}
-use Rattle.text_expressions.specs.Values.{IsShortName, IsValue, name, literal}
-use Rattle.text_expressions.specs.declared.front.Fixed.{Fixed}
+use Rattle.text_front.specs.Fixed.{token_of}
+use Rattle.text_front.specs.Values.{IsShortName, IsValue, name, literal}
+use Rattle.text_front.specs.declared.Fixed.{Fixed}
 use Rattle.text_lexer.specs.declared.token.Token.{Token}
 use Rattle.text_lexer.specs.declared.token.Token.TheVariants.{Name, Int}
 use Rattle.text_lexer.specs.declared.token.Literal.{Literal}

@@ -1,8 +1,8 @@
 -- Tokens that carry neither a name nor a number nor a string.
 use Rattle.text_lexer.specs.declared.token.Token.{Token}
 use Rattle.text_lexer.specs.declared.token.Token.TheVariants as t
-use Rattle.text_expressions.specs.declared.front.Fixed.{Fixed}
-use Rattle.text_expressions.specs.declared.front.Fixed.TheVariants.{Word, Sign, Decorator, NewLine, Indent, Dedent}
+use Rattle.text_front.specs.declared.Fixed.{Fixed}
+use Rattle.text_front.specs.declared.Fixed.TheVariants.{Word, Sign, Decorator, NewLine, Indent, Dedent}
 
 abbrev pub token_of : Fixed → Token
 token_of (Word w) = t.Word w
