@@ -7,3 +7,4 @@ pub mod PlainClaim
 pub mod Claims
 pub mod Short
 pub mod Seen
+pub mod Orders

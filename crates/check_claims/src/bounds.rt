@@ -7,7 +7,7 @@ ghost use Rattle.check_claims.specs.Claims.{at_least_one, one_index, index_claim
 ghost use Rattle.check_claims.specs.Seen.{extents_in};
 
 use crate::extents::Extents;
-use crate::list::Claims;
+use crate::list::{Claims, Order};
 use exo_tree::{Coord, Ctrl, DataExpr, Id, Unit};
 use std::alloc::{AllocError, Global};
 use text_show::Words;
@@ -30,7 +30,7 @@ pub(crate) fn put_sizes(
     ensures { OnOk result (out.new ≡ out.old ++ map (at_least_one (words_in words.now)) (map control dims.now)) }
 {
     for d in dims {
-        out.push_at_least_one(alloc, words, d)?;
+        out.push_at_least(alloc, words, 1, d)?;
     }
     Ok(())
 }
@@ -45,8 +45,8 @@ fn put_index(
 ) -> Result<(), AllocError>
     ensures { OnOk result (out.new ≡ out.old ++ one_index (words_in words.now) (control e.now) (control d.now)) }
 {
-    out.push_not_negative(alloc, words, e)?;
-    out.push_below(alloc, words, e, d)
+    out.push_at_least(alloc, words, 0, e)?;
+    out.push_compared(alloc, words, Order::Below, e, d)
 }
 
 /// The claims of each index of its dimension.
@@ -78,9 +78,9 @@ fn put_coord(
     match c {
         Coord::At(a) => put_index(alloc, out, words, a, d),
         Coord::Span(a, b) => {
-            out.push_not_negative(alloc, words, a)?;
-            out.push_below(alloc, words, a, b)?;
-            out.push_at_most(alloc, words, b, d)
+            out.push_at_least(alloc, words, 0, a)?;
+            out.push_compared(alloc, words, Order::Below, a, b)?;
+            out.push_compared(alloc, words, Order::AtMost, b, d)
         }
     }
 }

@@ -70,7 +70,7 @@ pub(crate) fn put_given(
     ensures { OnOk result (out.new ≡ out.old ++ given_claims (words_in words.now) (control_kind kind) (argument a.now)) }
 {
     match (kind, a) {
-        (Kind::Size, Arg::Ctrl(e)) => out.push_at_least_one(alloc, words, e),
+        (Kind::Size, Arg::Ctrl(e)) => out.push_at_least(alloc, words, 1, e),
         _ => Ok(()),
     }
 }

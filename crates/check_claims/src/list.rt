@@ -5,13 +5,39 @@ ghost use Rattle.exo_tree.specs.PlainControl.{control, condition};
 ghost use Rattle.text_show.specs.ControlText.{condition_text};
 ghost use Rattle.text_show.specs.Seen.{words_in};
 ghost use Rattle.check_claims.specs.PlainClaim.{claim, placed};
-ghost use Rattle.check_claims.specs.Claims.{as_shown, at_least_one, not_negative, placed_at};
+ghost use Rattle.check_claims.specs.Claims.{as_shown, placed_at};
+ghost use Rattle.check_claims.specs.Orders.{compared};
 
 use crate::claim::{Claim, Placed};
 use exo_tree::{Cond, Ctrl, Path};
 use std::alloc::{AllocError, Global};
 use std::marker::Model;
 use text_show::{Words, put_condition};
+
+/// How two sides compare.
+#[derive(Clone, Copy)]
+pub(crate) enum Order {
+    /// `a < b`
+    Below,
+    /// `a <= b`
+    AtMost,
+}
+
+impl Order {
+    ghost use Rattle.std.specs.Prelude.{◌≡◌};
+    ghost use Rattle.exo_tree.specs.PlainControl.{control, condition};
+    ghost use Rattle.check_claims.specs.Orders.{compared};
+
+    /// The condition that the sides compare so.
+    fn of(self, left: Ctrl, right: Ctrl) -> Cond
+        ensures { condition result ≡ compared self (control left) (control right) }
+    {
+        match self {
+            Order::Below => Cond::Lt(left, right),
+            Order::AtMost => Cond::Le(left, right),
+        }
+    }
+}
 
 /// Claims in their order.
 #[derive(Drop)]
@@ -81,60 +107,34 @@ impl Claims {
         self.push(Claim { says, text })
     }
 
-    /// `1 <= d`
-    pub(crate) fn push_at_least_one(
+    /// `n <= e`
+    pub(crate) fn push_at_least(
         &mut self,
         alloc: Global,
         words: &Words,
-        d: &Ctrl,
-    ) -> Result<(), AllocError>
-        ensures { OnOk result (self.new ≡ self.old ++ at_least_one (words_in words.now) (control d.now) ∷ []) }
-    {
-        let size = d.duplicate(alloc)?;
-        self.push_shown(alloc, words, Cond::Le(Ctrl::Lit(1), size))
-    }
-
-    /// `0 <= e`
-    pub(crate) fn push_not_negative(
-        &mut self,
-        alloc: Global,
-        words: &Words,
+        n: i64,
         e: &Ctrl,
     ) -> Result<(), AllocError>
-        ensures { OnOk result (self.new ≡ self.old ++ not_negative (words_in words.now) (control e.now) ∷ []) }
+        ensures { OnOk result (self.new ≡ self.old ++ as_shown (words_in words.now) (tree.Le (tree.Lit n) (control e.now)) ∷ []) }
     {
-        let index = e.duplicate(alloc)?;
-        self.push_shown(alloc, words, Cond::Le(Ctrl::Lit(0), index))
+        let value = e.duplicate(alloc)?;
+        self.push_shown(alloc, words, Cond::Le(Ctrl::Lit(n), value))
     }
 
-    /// `a < b`
-    pub(crate) fn push_below(
+    /// That two sides compare.
+    pub(crate) fn push_compared(
         &mut self,
         alloc: Global,
         words: &Words,
+        order: Order,
         a: &Ctrl,
         b: &Ctrl,
     ) -> Result<(), AllocError>
-        ensures { OnOk result (self.new ≡ self.old ++ as_shown (words_in words.now) (tree.Lt (control a.now) (control b.now)) ∷ []) }
+        ensures { OnOk result (self.new ≡ self.old ++ as_shown (words_in words.now) (compared order (control a.now) (control b.now)) ∷ []) }
     {
         let left = a.duplicate(alloc)?;
         let right = b.duplicate(alloc)?;
-        self.push_shown(alloc, words, Cond::Lt(left, right))
-    }
-
-    /// `a <= b`
-    pub(crate) fn push_at_most(
-        &mut self,
-        alloc: Global,
-        words: &Words,
-        a: &Ctrl,
-        b: &Ctrl,
-    ) -> Result<(), AllocError>
-        ensures { OnOk result (self.new ≡ self.old ++ as_shown (words_in words.now) (tree.Le (control a.now) (control b.now)) ∷ []) }
-    {
-        let left = a.duplicate(alloc)?;
-        let right = b.duplicate(alloc)?;
-        self.push_shown(alloc, words, Cond::Le(left, right))
+        self.push_shown(alloc, words, order.of(left, right))
     }
 
     /// Moves the claims to the end of `out`, each with that place.

@@ -161,12 +161,12 @@ fn put_procedure(
     put_block(alloc, out, site, &top, Branch::Main, &p.body)
 }
 
-/// The claims of a procedure of the unit.
-fn claims_in(alloc: Global, unit: &Unit, p: &Proc) -> Result<Vec<Placed>, AllocError>
+/// Puts the claims of a procedure of the unit last.
+fn put_claims(alloc: Global, out: &mut Vec<Placed>, unit: &Unit, p: &Proc) -> Result<(), AllocError>
     requires short { is_short (block p.now.body) ≡ true }
     requires inside { is_short_inside (block p.now.body) ≡ true }
     requires levels { levels (block p.now.body) < 33 }
-    ensures { IfOk result (λ l. map placed l.items ≡ claims_of (program unit.now) (procedure p.now)) }
+    ensures { OnOk result (map placed out.new.items ≡ map placed out.old.items ++ claims_of (program unit.now) (procedure p.now)) }
 {
     let words = Words::new(alloc, unit, p)?;
     let extents = Extents::of(alloc, p)?;
@@ -175,9 +175,7 @@ fn claims_in(alloc: Global, unit: &Unit, p: &Proc) -> Result<Vec<Placed>, AllocE
         words: &words,
         extents: &extents,
     };
-    let mut out = Vec::new(alloc);
-    put_procedure(alloc, &mut out, &site, p)?;
-    Ok(out)
+    put_procedure(alloc, out, &site, p)
 }
 
 /// What the procedure `p` of the unit has to show so that no run of it faults, in text order; nothing where the unit has no such
@@ -186,8 +184,9 @@ pub fn claims_of(alloc: Global, unit: &Unit, p: ProcId) -> Result<Vec<Placed>, A
     requires { IsUnit (program unit.now) }
     ensures { IfOk result (λ l. map placed l.items ≡ unit_claims (program unit.now) p.0) }
 {
-    match unit.procs.get(p.0 as usize) {
-        None => Ok(Vec::new(alloc)),
-        Some(found) => claims_in(alloc, unit, found),
+    let mut out = Vec::new(alloc);
+    if let Some(found) = unit.procs.get(p.0 as usize) {
+        put_claims(alloc, &mut out, unit, found)?;
     }
+    Ok(out)
 }
