@@ -8,3 +8,4 @@ pub mod Counts
 pub mod CaseLists
 pub mod FormulaLists
 pub mod Answering
+pub mod RowLists

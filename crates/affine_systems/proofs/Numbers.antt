@@ -1,5 +1,5 @@
 -- The numbers that the terms of a sum add to the coefficients of numbered atoms: each of its atoms stands once, so each number is added once.
-use Rattle.std.proofs.Common.{◌≡◌, ℕ, zero, suc, ◌+◌, ◌<◌, ◌≤◌, ◌^◌, ℤ, pos, ◌+ℤ◌, Bool, true, false, cond, not, ◌&&◌, List, [], ◌∷◌, ◌++◌, map, length, set, get_or, drop, arith, refl, sym, ap, ap₂, ◌∙◌, true≢false, inl, inr, add-one}
+use Rattle.std.proofs.Common.{◌≡◌, ℕ, zero, suc, ◌+◌, ◌<◌, ◌≤◌, ◌^◌, ℤ, pos, ◌+ℤ◌, Bool, true, false, cond, not, ◌&&◌, List, [], ◌∷◌, map, length, set, get_or, drop, replicate, arith, refl, sym, ap, ap₂, ◌∙◌, true≢false, inl, inr, add-one}
 use Rattle.std.proofs.lemmas.Int.{ints}
 use Rattle.std.specs.Prelude.{◌⊎◌}
 use Rattle.std.specs.List.{list_all, position_or_len}
@@ -10,8 +10,6 @@ use Rattle.affine_forms.specs.TermBounds.{is_apart, are_distinct}
 use Rattle.affine_forms.proofs.Values.{and_parts}
 use Rattle.affine_forms.proofs.Distinct.{apart_alike}
 use Rattle.affine_forms.proofs.TermWidths.{within_le, within_from_le}
-use Rattle.std.proofs.lemmas.List.{map-append}
-use Rattle.affine_forms.specs.System.{below}
 use Rattle.affine_forms.specs.PlainAtoms.{plain_atom, plain_terms}
 use Rattle.affine_forms.specs.declared.atom.Atom.{Atom as RsAtom}
 use Rattle.affine_forms.specs.declared.atom.Weighed.{Weighed}
@@ -102,13 +100,9 @@ length_added (suc k) z (c ∷ cs) = ap suc (length_added k z cs)
 
 -- ---- zeros
 
-zero_first : (n : ℕ) → map (λ x. pos 0) (below n) ++ pos 0 ∷ [] ≡ pos 0 ∷ map (λ x. pos 0) (below n)
-zero_first zero = refl
-zero_first (suc n) = ap (λ r. r ++ pos 0 ∷ []) (map-append (λ x. pos 0) (below n) (n ∷ []) ∙ zero_first n) ∙ ap (λ r. pos 0 ∷ r) (sym (map-append (λ x. pos 0) (below n) (n ∷ [])))
-
-pub zeros_below : (xs : List RsAtom) → map (λ x. pos 0) (below (length xs)) ≡ map (λ a. pos 0) (map plain_atom xs)
-zeros_below [] = refl
-zeros_below (x ∷ xs) = map-append (λ y. pos 0) (below (length xs)) (length xs ∷ []) ∙ zero_first (length xs) ∙ ap (λ r. pos 0 ∷ r) (zeros_below xs)
+pub zeros_are : (xs : List RsAtom) → replicate (length xs) (pos 0) ≡ map (λ a. pos 0) (map plain_atom xs)
+zeros_are [] = refl
+zeros_are (x ∷ xs) = ap (λ r. pos 0 ∷ r) (zeros_are xs)
 
 -- ---- the atom of each term stands once
 

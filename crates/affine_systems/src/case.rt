@@ -51,8 +51,7 @@ fn joined<'a>(
 ) -> Result<Case<'a>, AllocError>
     ensures { IfOk result (λ k. k.items ≡ first.now ++ second.now) }
 {
-    let mut case = Vec::with_capacity(alloc, first.len())?;
-    case.extend_from_slice(first)?;
+    let mut case = Vec::from_slice(alloc, first)?;
     case.extend_from_slice(second)?;
     Ok(case)
 }

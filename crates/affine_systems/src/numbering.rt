@@ -24,18 +24,6 @@ fn number_of(alloc: Global, atoms: &[Atom], atom: &Atom) -> Result<usize, AllocE
     Ok(atoms.len())
 }
 
-/// A 0 for each atom.
-fn zeros(alloc: Global, atoms: &[Atom]) -> Result<Vec<i128>, AllocError>
-    ensures { IfOk result (λ v. v.items ≡ map (λ a. pos 0) (map plain_atom atoms.now)) }
-{
-    let mut all = Vec::with_capacity(alloc, atoms.len())?;
-    for k in 0..atoms.len() {
-        let _number = k;
-        all.push(0)?;
-    }
-    Ok(all)
-}
-
 /// Adds to the k-th number.
 fn add_at(all: &mut Vec<i128>, k: usize, z: i128)
     requires inside { k < length all.old.items }
@@ -54,7 +42,8 @@ fn coefficients(alloc: Global, atoms: &[Atom], terms: &Terms) -> Result<Vec<i128
     ensures narrow { IfOk result (λ v. IsTrue (list_all is_narrow v.items)) }
     ensures len { IfOk result (λ v. length v.items ≡ length atoms.now) }
 {
-    let mut all = zeros(alloc, atoms)?;
+    let count = atoms.len();
+    let mut all = Vec::from_elem(alloc, 0, count)?;
     for w in terms.as_slice() {
         let k = number_of(alloc, atoms, &w.atom)?;
         if k >= all.len() {

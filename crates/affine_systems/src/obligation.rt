@@ -1,12 +1,11 @@
 //! Claims, and formulas that are not to hold together, as obligations.
-ghost use Rattle.std.specs.Prelude.{◌≡◌, ◌≤◌, nat_lt, ◌++◌, ◌∷◌, [], map, min, length, IfOk, OnOk, IsTrue};
-ghost use Rattle.std.specs.List.{list_all};
+ghost use Rattle.std.specs.Prelude.{◌≡◌, ◌≤◌, ◌++◌, ◌∷◌, [], map, min, length, IfOk, OnOk, IsTrue};
 ghost use Rattle.affine_forms.specs.Bounds.{are_below};
 ghost use Rattle.affine_forms.specs.Formulas.{cases_of_all};
 ghost use Rattle.affine_forms.specs.PlainAtoms.{plain_atom};
 ghost use Rattle.affine_forms.specs.PlainFormulas.{plain_formula};
 ghost use Rattle.affine_forms.specs.System.{plain_row, plain_system};
-ghost use Rattle.affine_systems.specs.Systems.{stated_in, cases_stated, stated, system, equations_of, rows_of, affine, sum_of};
+ghost use Rattle.affine_systems.specs.Systems.{stated_in, cases_stated, stated, system, equations_of, rows_of};
 ghost use Rattle.affine_systems.specs.PlainCases.{plain_constraint, plain_cases};
 ghost use Rattle.affine_systems.specs.PlainMade.{plain_stated};
 ghost use Rattle.affine_systems.specs.Outcomes.{IsAnswer, IsSystem, FailuresArePoints, owed, plain_obligation};
@@ -30,48 +29,31 @@ pub struct Obligation {
     pub place: Path,
 }
 
-/// The row of a constraint over numbered atoms.
-fn row_of(alloc: Global, atoms: &[Atom], c: &Stated) -> Result<Row, AllocError>
-    requires { length atoms.now ≤ 64 }
-    ensures value { IfOk result (λ r. plain_row (length atoms.now) r ≡ affine (map plain_atom atoms.now) (sum_of (plain_stated c.now))) }
-    ensures below { IfOk result (λ r. IsTrue (list_all (λ x. nat_lt x (length atoms.now)) (map (λ t. t.variable) r.terms.items))) }
+/// Puts the rows of constraints over numbered atoms last, the equations apart.
+fn put_rows(
+    alloc: Global,
+    atoms: &[Atom],
+    cs: &[Stated],
+    equations: &mut Vec<Row>,
+    rows: &mut Vec<Row>,
+) -> Result<(), AllocError>
+    requires few { length atoms.now ≤ 64 }
+    requires equations_below { IsTrue (are_below (length atoms.now) (map (λ r. map (λ t. t.variable) r.terms.items) equations.old.items)) }
+    requires rows_below { IsTrue (are_below (length atoms.now) (map (λ r. map (λ t. t.variable) r.terms.items) rows.old.items)) }
+    ensures equations { OnOk result (map (plain_row (length atoms.now)) equations.new.items ≡ map (plain_row (length atoms.now)) equations.old.items ++ equations_of (map plain_atom atoms.now) (map plain_stated cs.now)) }
+    ensures rows { OnOk result (map (plain_row (length atoms.now)) rows.new.items ≡ map (plain_row (length atoms.now)) rows.old.items ++ rows_of (map plain_atom atoms.now) (map plain_stated cs.now)) }
+    ensures equations_below { OnOk result (IsTrue (are_below (length atoms.now) (map (λ r. map (λ t. t.variable) r.terms.items) equations.new.items))) }
+    ensures rows_below { OnOk result (IsTrue (are_below (length atoms.now) (map (λ r. map (λ t. t.variable) r.terms.items) rows.new.items))) }
 {
-    let r = row(alloc, atoms, c.constant(), c.terms())?;
-    Ok(r)
-}
-
-/// The equations over numbered atoms.
-fn equations(alloc: Global, atoms: &[Atom], cs: &[Stated]) -> Result<Vec<Row>, AllocError>
-    requires { length atoms.now ≤ 64 }
-    ensures value { IfOk result (λ v. map (plain_row (length atoms.now)) v.items ≡ equations_of (map plain_atom atoms.now) (map plain_stated cs.now)) }
-    ensures below { IfOk result (λ v. IsTrue (are_below (length atoms.now) (map (λ r. map (λ t. t.variable) r.terms.items) v.items))) }
-{
-    let mut all = Vec::new(alloc);
     for c in cs {
-        if !c.is_equation() {
-            continue;
-        }
-        let r = row_of(alloc, atoms, c)?;
-        all.push(r)?;
-    }
-    Ok(all)
-}
-
-/// The rows over numbered atoms.
-fn rows(alloc: Global, atoms: &[Atom], cs: &[Stated]) -> Result<Vec<Row>, AllocError>
-    requires { length atoms.now ≤ 64 }
-    ensures value { IfOk result (λ v. map (plain_row (length atoms.now)) v.items ≡ rows_of (map plain_atom atoms.now) (map plain_stated cs.now)) }
-    ensures below { IfOk result (λ v. IsTrue (are_below (length atoms.now) (map (λ r. map (λ t. t.variable) r.terms.items) v.items))) }
-{
-    let mut all = Vec::new(alloc);
-    for c in cs {
+        let r = row(alloc, atoms, c.constant(), c.terms())?;
         if c.is_equation() {
-            continue;
+            equations.push(r)?;
+        } else {
+            rows.push(r)?;
         }
-        let r = row_of(alloc, atoms, c)?;
-        all.push(r)?;
     }
-    Ok(all)
+    Ok(())
 }
 
 /// The most variables of a system.
@@ -86,8 +68,15 @@ fn system_of_case(alloc: Global, case: &[Constraint<'_>]) -> Result<System, Form
         return Err(FormError::SystemTooLarge);
     }
     let vars = made.atoms.len() as u32;
-    let equations = equations(alloc, &made.atoms, &made.constraints)?;
-    let rows = rows(alloc, &made.atoms, &made.constraints)?;
+    let mut equations = Vec::new(alloc);
+    let mut rows = Vec::new(alloc);
+    put_rows(
+        alloc,
+        &made.atoms,
+        &made.constraints,
+        &mut equations,
+        &mut rows,
+    )?;
     System::try_new(vars, equations, rows).ok_or(FormError::SystemTooLarge)
 }
 
@@ -190,6 +179,23 @@ pub fn systems_together(
     owed_in(alloc, &cases, what, place)
 }
 
+/// The obligations that formulas and a denied claim do not hold together.
+fn owed_where(
+    alloc: Global,
+    ctx: &Context,
+    denied: &Formula,
+    what: &Text,
+    place: &Path,
+) -> Result<Vec<Obligation>, FormError>
+    ensures { IsAnswer result (cases_stated (ctx.now ++ plain_formula denied.now ∷ [])) what.now place.now }
+{
+    if failing_count(ctx, denied) == MANY {
+        return Err(FormError::TooManyCases);
+    }
+    let cases = failing_cases(alloc, ctx, denied)?;
+    owed_in(alloc, &cases, what, place)
+}
+
 /// The obligations of a claim in its context: one for each case in which the context holds and the claim does not.
 ///
 /// The hypotheses and the denied claim are brought into disjunctive normal form: the cases of `either` are those of its
@@ -215,9 +221,5 @@ pub fn systems(
     ensures points { IfOk result (λ os. FailuresArePoints ctx.now (plain_formula claim.now) os.items) }
 {
     let denied = claim.negated(alloc)?;
-    if failing_count(ctx, &denied) == MANY {
-        return Err(FormError::TooManyCases);
-    }
-    let cases = failing_cases(alloc, ctx, &denied)?;
-    owed_in(alloc, &cases, what, place)
+    owed_where(alloc, ctx, &denied, what, place)
 }

@@ -7,7 +7,7 @@ use affine_forms::FormError;
 use std::alloc::AllocError;
 
 /// Why a procedure's obligations can't be listed.
-#[derive(Clone, Copy, Debug, PartialEq, Eq)]
+#[derive(Clone, Copy, PartialEq, Eq)]
 pub enum CheckError {
     /// A procedure has more than 65,536 obligations, or more than 4,194,304 terms in them together.
     TooManyObligations,

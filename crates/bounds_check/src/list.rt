@@ -20,25 +20,18 @@ use crate::owed::Owed;
 use affine_places::Roots;
 use affine_systems::Obligation;
 use check_claims::{Placed, claims_of};
-use check_facts::Cursor;
 use check_facts::laws::well_formed_procedures_may_be_walked;
+use check_facts::{Cursor, is_same_path};
 use config_state::{FieldTable, written_table};
 use exo_tree::{Path, Proc, ProcId, Unit};
 use std::alloc::Global;
-
-/// Whether two paths are the same.
-fn same_path(a: &Path, b: &Path) -> bool
-    ensures { result ≡ same_path a.now b.now }
-{
-    a.as_slice() == b.as_slice()
-}
 
 /// How many claims come before the first of another place.
 fn count_at(claims: &[Placed], place: &Path) -> usize
     ensures { result ≡ position_or_len (λ c. not (same_path c.place place.now)) (map placed claims.now) }
 {
     for (k, c) in claims.iter().enumerate() {
-        if !same_path(&c.place, place) {
+        if !is_same_path(&c.place, place) {
             return k;
         }
     }

@@ -7,3 +7,4 @@ pub mod Beginning
 pub mod Ways
 pub mod Arrivals
 pub mod Trails
+pub mod PathSteps

@@ -1,8 +1,7 @@
 //! Values of fields on which the ends of two branches agree.
-ghost use Rattle.std.specs.Prelude.{◌≡◌, ◌&&◌, Bool, IfOk, map};
+ghost use Rattle.std.specs.Prelude.{◌≡◌, ◌&&◌, Bool, IfOk};
 ghost use Rattle.exo_tree.specs.PlainArgument.{argument};
-ghost use Rattle.exo_tree.specs.PlainPlace.{branch_taken, step_taken};
-ghost use Rattle.meaning_laws.specs.KnownFields.{same_branch, same_step, same_path, same_value};
+ghost use Rattle.meaning_laws.specs.KnownFields.{same_path, same_value};
 ghost use Rattle.affine_places.specs.Readings.{entry_reading};
 ghost use Rattle.affine_places.specs.Seen.{roots_in};
 ghost use Rattle.affine_places.specs.Agreement.{Tested};
@@ -12,43 +11,14 @@ ghost use Rattle.check_facts.specs.Values.{plain_value};
 use crate::value::{Right, Value};
 use affine_forms::FormError;
 use affine_places::{AtEntry, agree, conditions_agree};
-use exo_tree::{Arg, Branch, Step};
+use exo_tree::{Arg, Path};
 use std::alloc::{AllocError, Global};
 
-fn is_same_branch(b: Branch, c: Branch) -> bool
-    ensures { result ≡ same_branch (branch_taken b) (branch_taken c) }
+/// Whether two paths are the same.
+pub fn is_same_path(p: &Path, q: &Path) -> bool
+    ensures { result ≡ same_path p.now q.now }
 {
-    match b {
-        Branch::Main => match c {
-            Branch::Main => true,
-            Branch::Else => false,
-        },
-        Branch::Else => match c {
-            Branch::Main => false,
-            Branch::Else => true,
-        },
-    }
-}
-
-fn is_same_step(s: Step, t: Step) -> bool
-    ensures { result ≡ same_step (step_taken s) (step_taken t) }
-{
-    is_same_branch(s.branch, t.branch) && s.index == t.index
-}
-
-fn is_same_path(p: &[Step], q: &[Step]) -> bool
-    ensures { result ≡ same_path (map step_taken p.now) (map step_taken q.now) }
-{
-    match p.split_first() {
-        None => match q.split_first() {
-            None => true,
-            Some((_, _)) => false,
-        },
-        Some((s, rest)) => match q.split_first() {
-            None => false,
-            Some((t, others)) => is_same_step(*s, *t) && is_same_path(rest, others),
-        },
-    }
+    p.as_slice() == q.as_slice()
 }
 
 /// The answer of a test that fails where a form that it needs is too wide.
@@ -112,7 +82,7 @@ pub(crate) fn is_same_value(
         Value::Unknown(p) => match other {
             Value::Entry => Ok(false),
             Value::Written(_) => Ok(false),
-            Value::Unknown(q) => Ok(is_same_path(p.as_slice(), q.as_slice())),
+            Value::Unknown(q) => Ok(is_same_path(p, q)),
         },
     }
 }

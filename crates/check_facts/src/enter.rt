@@ -1,5 +1,5 @@
 //! The formulas of conditions, loops and branches.
-ghost use Rattle.std.specs.Prelude.{◌≡◌, ◌&&◌, ◌∷◌, [], IsTrue};
+ghost use Rattle.std.specs.Prelude.{◌≡◌, ◌&&◌, ◌∷◌, [], ◌++◌, IsTrue, OnOk};
 ghost use Rattle.exo_tree.specs.Tree.{Var, Le, Lt};
 ghost use Rattle.exo_tree.specs.PlainControl.{control, condition};
 ghost use Rattle.exo_tree.specs.PlainPlace.{branch_taken};
@@ -9,8 +9,8 @@ ghost use Rattle.exo_tree.specs.PlainUnit.{program};
 ghost use Rattle.meaning_laws.specs.Facts.{Holds, Fails};
 ghost use Rattle.meaning_laws.specs.KnownFields.{KnownFields};
 ghost use Rattle.affine_forms.specs.Forms.{keeps_rules};
-ghost use Rattle.affine_forms.specs.Formulas.{condition_keeps_rules};
-ghost use Rattle.affine_forms.specs.PlainFormulas.{FormulaMade};
+ghost use Rattle.affine_forms.specs.Formulas.{condition_keeps_rules, negation};
+ghost use Rattle.affine_forms.specs.PlainFormulas.{FormulaMade, plain_formula};
 ghost use Rattle.affine_places.specs.Rules.{statement_keeps_rules};
 ghost use Rattle.check_facts.specs.Contexts.{condition_formula, condition_fits};
 ghost use Rattle.check_facts.specs.Tables.{known_in};
@@ -22,7 +22,7 @@ use affine_forms::{FormError, Formula, formula_of};
 use affine_places::AtPlace;
 use affine_systems::Context;
 use exo_tree::{Branch, Cond, Ctrl, Id, Stmt};
-use std::alloc::Global;
+use std::alloc::{AllocError, Global};
 
 /// The formula of a condition where that is known of fields.
 fn formula_where(
@@ -59,6 +59,13 @@ pub(crate) fn add_holds(
     Ok(())
 }
 
+/// Puts the formula last that holds where another does not.
+fn push_denied(alloc: Global, f: &Formula, context: &mut Context) -> Result<(), AllocError>
+    ensures { OnOk result (context.new ≡ context.old ++ negation (plain_formula f.now) ∷ []) }
+{
+    context.push(f.negated(alloc)?)
+}
+
 /// Adds the formula of a condition that does not hold.
 fn add_fails(
     basis: &Ground<'_, '_>,
@@ -71,8 +78,7 @@ fn add_fails(
     ensures { (first : KnownFields) → SameBelow basis.now.count (known_in known.now) first → Added result basis.now (record { known = first; fact = Fails (condition c.now) } ∷ []) context.old context.new }
 {
     let f = formula_where(basis, alloc, known, c)?;
-    let denied = f.negated(alloc)?;
-    context.push(denied)?;
+    push_denied(alloc, &f, context)?;
     Ok(())
 }
 

@@ -14,4 +14,5 @@ mod value;
 mod walk;
 mod writes;
 
+pub use agreement::is_same_path;
 pub use cursor::{Cursor, context_at};

@@ -10,16 +10,17 @@ use Rattle.affine_forms.specs.PlainAtoms.{plain_atom, plain_terms}
 use Rattle.affine_forms.proofs.TermLists.{plain_drop}
 use Rattle.affine_forms.proofs.TermWidths.{within_at, within_le, within_from_le, fits_within}
 use Rattle.affine_systems.specs.Systems.{numbered_onto, added_at}
-use Rattle.affine_systems.proofs.Numbers.{HasRoom, room_first, room_added, room_narrow, room_length, room_at, added_past, apart_at}
+use Rattle.affine_systems.proofs.Numbers.{zeros_are, HasRoom, room_first, room_added, room_narrow, room_length, room_at, added_past, apart_at}
 use Rattle.affine_systems.proofs.numbering.coefficients.Goals as goal
 
 pub loop-w-init : goal.loop-w-init
 loop-w-init c =
     let atoms = map plain_atom c.args.atoms.now in
     let ws = c.as_slice-w-items.result.now in
+    let zeros = c.in_ok-all.ensures.items_if_clones_equal (λ y h. h) ∙ zeros_are c.args.atoms.now in
     record {
-      sum = ap (λ cs. numbered_onto atoms cs (plain_terms ws)) c.in_ok-all.ensures ∙ ap (numbered_onto atoms (map (λ a. pos 0) atoms)) c.as_slice-w-items.ensures.terms;
-      room = subst (HasRoom (plain_terms ws) atoms) (sym c.in_ok-all.ensures) (room_first (plain_terms ws) atoms);
+      sum = ap (λ cs. numbered_onto atoms cs (plain_terms ws)) zeros ∙ ap (numbered_onto atoms (map (λ a. pos 0) atoms)) c.as_slice-w-items.ensures.terms;
+      room = subst (HasRoom (plain_terms ws) atoms) (sym zeros) (room_first (plain_terms ws) atoms);
     }
 
 pub loop-w-preserved-then-k-len : goal.loop-w-preserved-then-k-len

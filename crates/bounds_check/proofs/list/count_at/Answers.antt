@@ -7,11 +7,11 @@ use Rattle.bounds_check.proofs.list.count_at.Goals as goal
 pub loop-k-init : goal.loop-k-init
 loop-k-init c = passed_none placed (λ c'. not (same_path c'.place c.args.place.now)) c.args.claims.now
 
-pub returns-then-not-same_path : goal.returns-then-not-same_path
-returns-then-not-same_path c = passed_until placed (λ c'. not (same_path c'.place c.args.place.now)) c.args.claims.now c.loop-k.k c.index-claims-k.result c.index-claims-k.is c.loop-k-test.true (ap not (sym c.same_path.ensures ∙ c.if-not-same_path.true)) c.loop-k.invariant
+pub returns-then-not-is_same_path : goal.returns-then-not-is_same_path
+returns-then-not-is_same_path c = passed_until placed (λ c'. not (same_path c'.place c.args.place.now)) c.args.claims.now c.loop-k.k c.index-claims-k.result c.index-claims-k.is c.loop-k-test.true (ap not (sym c.is_same_path.ensures ∙ c.if-not-is_same_path.true)) c.loop-k.invariant
 
 pub loop-k-preserved : goal.loop-k-preserved
-loop-k-preserved c = passed_more placed (λ c'. not (same_path c'.place c.args.place.now)) c.args.claims.now c.loop-k.k c.index-claims-k.result c.index-claims-k.is c.loop-k-test.true (ap not (sym c.same_path.ensures ∙ c.if-not-same_path.false)) c.loop-k.invariant
+loop-k-preserved c = passed_more placed (λ c'. not (same_path c'.place c.args.place.now)) c.args.claims.now c.loop-k.k c.index-claims-k.result c.index-claims-k.is c.loop-k-test.true (ap not (sym c.is_same_path.ensures ∙ c.if-not-is_same_path.false)) c.loop-k.invariant
 
 pub returns : goal.returns
 returns c = passed_all placed (λ c'. not (same_path c'.place c.args.place.now)) c.args.claims.now c.loop-k.k c.loop-k.auto.k-end c.loop-k-test.false c.loop-k.invariant
