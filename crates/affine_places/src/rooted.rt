@@ -3,11 +3,10 @@ ghost use Rattle.std.specs.Prelude.{◌≡◌, ◌++◌, IfOk, map};
 ghost use Rattle.std.specs.List.{range_with_len};
 ghost use Rattle.exo_tree.specs.PlainControl.{coordinate};
 ghost use Rattle.exo_tree.specs.Spans.{is_span};
-ghost use Rattle.affine_places.specs.Roots.{own_root, seen_through, spanned};
-ghost use Rattle.affine_places.specs.Seen.{plain_layout, plain_root};
+ghost use Rattle.affine_places.specs.Roots.{spanned};
 
 use crate::layout::Layout;
-use exo_tree::{Coord, Coords, Id};
+use exo_tree::{Coord, Id};
 use std::alloc::{AllocError, Global};
 
 /// The root of a name, how its cells lie, and its dimension for each coordinate of the name.
@@ -19,7 +18,7 @@ pub(crate) struct Rooted<'a> {
 }
 
 /// The first dimensions.
-fn first_dims(alloc: Global, rank: u32) -> Result<Vec<u32>, AllocError>
+pub(crate) fn first_dims(alloc: Global, rank: u32) -> Result<Vec<u32>, AllocError>
     ensures { IfOk result (λ dims. dims.items ≡ range_with_len 0 rank) }
 {
     let mut dims = Vec::new(alloc);
@@ -39,37 +38,8 @@ fn is_span(c: &Coord) -> bool
     }
 }
 
-impl<'a> Rooted<'a> {
-    /// A root of that many dimensions.
-    pub(crate) fn own(
-        alloc: Global,
-        x: Id,
-        layout: Layout<'a>,
-        rank: u32,
-    ) -> Result<Rooted<'a>, AllocError>
-        ensures { IfOk result (λ r. plain_root r ≡ own_root x.0 (plain_layout layout.entry) rank) }
-    {
-        Ok(Rooted {
-            root: x,
-            layout,
-            dims: first_dims(alloc, rank)?,
-        })
-    }
-
-    /// What a window of the name has: a point drops its dimension.
-    pub(crate) fn through(&self, alloc: Global, coords: &Coords) -> Result<Rooted<'a>, AllocError>
-        ensures { IfOk result (λ r. plain_root r ≡ seen_through coords.now (plain_root self.now)) }
-    {
-        Ok(Rooted {
-            root: self.root,
-            layout: self.layout,
-            dims: spanned(alloc, coords.as_slice(), &self.dims)?,
-        })
-    }
-}
-
 /// The dimensions of the spans.
-fn spanned(alloc: Global, coords: &[Coord], dims: &[u32]) -> Result<Vec<u32>, AllocError>
+pub(crate) fn spanned(alloc: Global, coords: &[Coord], dims: &[u32]) -> Result<Vec<u32>, AllocError>
     ensures { IfOk result (λ kept. kept.items ≡ spanned (map coordinate coords.now) dims.now) }
 {
     let mut kept = Vec::new(alloc);

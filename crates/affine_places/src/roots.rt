@@ -6,12 +6,11 @@ ghost use Rattle.exo_tree.specs.PlainParam.{parameter_kind};
 ghost use Rattle.exo_tree.specs.PlainStatement.{statement};
 ghost use Rattle.exo_tree.specs.PlainProcedure.{procedure};
 ghost use Rattle.exo_tree.specs.PlainUnit.{program};
-ghost use Rattle.affine_places.specs.Roots as plain;
-ghost use Rattle.affine_places.specs.Roots.{Dense, no_roots, own_root, with_root, with_kind, with_params, with_view, with_block, with_statement, roots_of, are_extents, kind_has_extents, params_have_extents, block_has_extents, statement_has_extents, has_extents, unit_roots, unit_has_extents};
-ghost use Rattle.affine_places.specs.Seen.{plain_root, roots_in};
+ghost use Rattle.affine_places.specs.Roots.{no_roots, own_root, with_root, with_kind, with_params, with_view, with_block, with_statement, roots_of, are_extents, kind_has_extents, params_have_extents, block_has_extents, statement_has_extents, has_extents, unit_roots, unit_has_extents};
+ghost use Rattle.affine_places.specs.Seen.{plain_layout, plain_root, roots_in};
 
 use crate::layout::{Extents, Layout};
-use crate::rooted::Rooted;
+use crate::rooted::{Rooted, first_dims, spanned};
 use exo_tree::{Block, Coords, Id, Indices, ParamKind, Params, Proc, ProcId, Stmt, Unit};
 use indexmap::IndexMap;
 use std::alloc::{AllocError, Global};
@@ -47,24 +46,23 @@ impl<'a> Roots<'a> {
         Ok(())
     }
 
-    /// A dense buffer.
-    fn insert_dense(&mut self, alloc: Global, x: Id, list: &'a Indices) -> Result<(), AllocError>
+    /// A root, with its own dimensions.
+    fn insert_own(
+        &mut self,
+        alloc: Global,
+        x: Id,
+        layout: Layout<'a>,
+        list: &Indices,
+    ) -> Result<(), AllocError>
         requires { IsTrue (are_extents list.now) }
-        ensures { OnOk result (roots_in self.new ≡ with_root x.0 (own_root x.0 (Dense list.now) (length list.now)) (roots_in self.old)) }
+        ensures { OnOk result (roots_in self.new ≡ with_root x.0 (own_root x.0 (plain_layout layout.entry) (length list.now)) (roots_in self.old)) }
     {
-        let rank = list.len() as u32;
-        let layout = Layout::Dense(Extents { list });
-        let rooted = Rooted::own(alloc, x, layout, rank)?;
-        self.insert(x, rooted)
-    }
-
-    /// A buffer with strides that are given.
-    fn insert_strided(&mut self, alloc: Global, x: Id, list: &'a Indices) -> Result<(), AllocError>
-        requires { IsTrue (are_extents list.now) }
-        ensures { OnOk result (roots_in self.new ≡ with_root x.0 (own_root x.0 plain.Strided (length list.now)) (roots_in self.old)) }
-    {
-        let rank = list.len() as u32;
-        let rooted = Rooted::own(alloc, x, Layout::Strided, rank)?;
+        let dims = first_dims(alloc, list.len() as u32)?;
+        let rooted = Rooted {
+            root: x,
+            layout,
+            dims,
+        };
         self.insert(x, rooted)
     }
 
@@ -81,7 +79,12 @@ impl<'a> Roots<'a> {
         match self.get(x) {
             None => Ok(()),
             Some(seen) => {
-                let rooted = seen.through(alloc, coords)?;
+                let dims = spanned(alloc, coords.as_slice(), &seen.dims)?;
+                let rooted = Rooted {
+                    root: seen.root,
+                    layout: seen.layout,
+                    dims,
+                };
                 self.insert(w, rooted)
             }
         }
@@ -93,8 +96,10 @@ impl<'a> Roots<'a> {
     {
         match kind {
             ParamKind::Ctrl(_) => Ok(()),
-            ParamKind::Tensor(_, list, _) => self.insert_dense(alloc, x, list),
-            ParamKind::Window(_, list, _) => self.insert_strided(alloc, x, list),
+            ParamKind::Tensor(_, list, _) => {
+                self.insert_own(alloc, x, Layout::Dense(Extents { list }), list)
+            }
+            ParamKind::Window(_, list, _) => self.insert_own(alloc, x, Layout::Strided, list),
         }
     }
 
@@ -130,7 +135,9 @@ impl<'a> Roots<'a> {
                 self.insert_block(alloc, b)
             }
             Stmt::For(_, _, _, b) => self.insert_block(alloc, b),
-            Stmt::Alloc(x, _, list, _) => self.insert_dense(alloc, x.id, list),
+            Stmt::Alloc(x, _, list, _) => {
+                self.insert_own(alloc, x.id, Layout::Dense(Extents { list }), list)
+            }
             Stmt::View(w, x, coords) => self.insert_view(alloc, w.id, *x, coords),
             _ => Ok(()),
         }
