@@ -36,10 +36,10 @@ fn lower_store(
     x: Id,
     is: &Indices,
     e: &DataExpr,
-) -> Result<(CType, CCell, CData), AllocError>
+) -> Result<(CType, CCell, Box<CData>), AllocError>
     ensures cell_type { IfOk result (λ r. plain_type r.0 ≡ cell_in (forms_in scope.now x.0) I32) }
     ensures cell { IfOk result (λ r. plain_cell r.1 ≡ cell_at_of (naming_of names.now) (forms_in scope.now) x.0 is.now) }
-    ensures value { IfOk result (λ r. plain_data r.2 ≡ number32_of (naming_of names.now) (forms_in scope.now) (datum e.now)) }
+    ensures value { IfOk result (λ r. plain_data r.2.value ≡ number32_of (naming_of names.now) (forms_in scope.now) (datum e.now)) }
 {
     let cell = lower_cell(alloc, names, scope, x, is)?;
     let value = lower_data(alloc, names, scope, e)?;

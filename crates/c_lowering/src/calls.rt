@@ -13,9 +13,10 @@ ghost use Rattle.c_lowering.specs.PlainHole.{plain_hole};
 
 use crate::arguments::{first_of_whole, first_of_window, lower_actual, lower_actuals};
 use crate::names::Names;
+use crate::numbers::boxed_literal;
 use crate::scope::Entry;
 use crate::templates::{Hole, holes_of, is_hole_of};
-use c_tree::tree::{CCall, CCell, CHolder, CInstruction, CNumber, CPiece, CStatement};
+use c_tree::tree::{CCall, CCell, CHolder, CInstruction, CPiece, CStatement};
 use exo_tree::{Arg, Args, Param, ParamKind, Proc, ProcId};
 use std::alloc::{AllocError, Global};
 
@@ -29,11 +30,14 @@ fn first_cell(
     ensures { IfOk result (λ c. plain_cell c ≡ first_cell (naming_of names.now) (forms_in scope.now) (argument a.now)) }
 {
     match a {
-        Arg::Ctrl(_) | Arg::Cond(_) => Ok(CCell {
-            holder: CHolder::Array,
-            name: String::new(alloc),
-            offset: CNumber::Literal(0),
-        }),
+        Arg::Ctrl(_) | Arg::Cond(_) => {
+            let offset = boxed_literal(alloc, 0)?;
+            Ok(CCell {
+                holder: CHolder::Array,
+                name: String::new(alloc),
+                offset,
+            })
+        }
         Arg::Whole(x) => first_of_whole(alloc, names, scope, *x),
         Arg::Window(x, coords) => first_of_window(alloc, names, scope, *x, coords),
     }

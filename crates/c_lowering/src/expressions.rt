@@ -1,8 +1,8 @@
 //! The C of conditions, cells and data expressions.
-ghost use Rattle.std.specs.Prelude.{◌≡◌, IfOk};
+ghost use Rattle.std.specs.Prelude.{◌≡◌, pos, IfOk};
 ghost use Rattle.exo_tree.specs.PlainControl.{control, condition};
 ghost use Rattle.exo_tree.specs.PlainDatum.{datum};
-ghost use Rattle.c_tree.specs.CTree.{IsSet};
+ghost use Rattle.c_tree.specs.CTree.{Literal, IsSet, InArray};
 ghost use Rattle.c_tree.specs.Plain.{plain_number, plain_test, cell_of, plain_cell, plain_data};
 ghost use Rattle.c_lowered.specs.Lowered.{number_of, test_of, cell_at_of, number32_of};
 ghost use Rattle.c_lowering.specs.Scope.{forms_in};
@@ -10,7 +10,7 @@ ghost use Rattle.c_lowering.specs.Naming.{naming_of};
 ghost use Rattle.c_lowering.specs.Operations.{data_of_one, data_of_two, compared, connected};
 
 use crate::names::Names;
-use crate::numbers::{lower_number, lower_offset, lower_steps};
+use crate::numbers::{boxed_literal, lower_number, lower_offset, lower_steps};
 use crate::scope::{Entry, Form, find};
 use c_tree::tree::{CCell, CData, CHolder, CNumber, CTest};
 use exo_tree::{Cond, Ctrl, DataExpr, FieldId, Id, Indices};
@@ -23,9 +23,9 @@ pub(crate) fn lower_sides(
     scope: &[Entry],
     a: &Ctrl,
     b: &Ctrl,
-) -> Result<(CNumber, CNumber), AllocError>
-    ensures left { IfOk result (λ r. plain_number r.0 ≡ number_of (naming_of names.now) (forms_in scope.now) (control a.now)) }
-    ensures right { IfOk result (λ r. plain_number r.1 ≡ number_of (naming_of names.now) (forms_in scope.now) (control b.now)) }
+) -> Result<(Box<CNumber>, Box<CNumber>), AllocError>
+    ensures left { IfOk result (λ r. plain_number r.0.value ≡ number_of (naming_of names.now) (forms_in scope.now) (control a.now)) }
+    ensures right { IfOk result (λ r. plain_number r.1.value ≡ number_of (naming_of names.now) (forms_in scope.now) (control b.now)) }
 {
     let left = lower_number(alloc, names, scope, a)?;
     let right = lower_number(alloc, names, scope, b)?;
@@ -47,8 +47,8 @@ fn field_test(alloc: Global, names: &Names<'_>, f: FieldId) -> Result<CTest, All
 }
 
 /// A comparison, as the condition is one, of the C of its sides.
-fn compared(c: &Cond, left: CNumber, right: CNumber) -> CTest
-    ensures { plain_test result ≡ compared (condition c.now) (plain_number left) (plain_number right) }
+fn compared(c: &Cond, left: Box<CNumber>, right: Box<CNumber>) -> CTest
+    ensures { plain_test result ≡ compared (condition c.now) (plain_number left.value) (plain_number right.value) }
 {
     match c {
         Cond::Lt(_, _) => CTest::Less(left, right),
@@ -69,14 +69,9 @@ fn connected(c: &Cond, left: Box<CTest>, right: Box<CTest>) -> CTest
     }
 }
 
-/// The C of a condition.
+/// The outermost form of the C of a condition.
 #[cycle(lower_test)]
-pub(crate) fn lower_test(
-    alloc: Global,
-    names: &Names<'_>,
-    scope: &[Entry],
-    c: &Cond,
-) -> Result<CTest, AllocError>
+fn test_of(alloc: Global, names: &Names<'_>, scope: &[Entry], c: &Cond) -> Result<CTest, AllocError>
     ensures { IfOk result (λ t. plain_test t ≡ test_of (naming_of names.now) (forms_in scope.now) (condition c.now)) }
 {
     match c {
@@ -89,16 +84,16 @@ pub(crate) fn lower_test(
             Ok(compared(c, left, right))
         }
         Cond::And(a, b) | Cond::Or(a, b) => {
-            let left = boxed_test(alloc, names, scope, a)?;
-            let right = boxed_test(alloc, names, scope, b)?;
+            let left = lower_test(alloc, names, scope, a)?;
+            let right = lower_test(alloc, names, scope, b)?;
             Ok(connected(c, left, right))
         }
     }
 }
 
-/// The C of a part of a condition.
+/// The C of a condition.
 #[cycle(lower_test)]
-fn boxed_test(
+pub(crate) fn lower_test(
     alloc: Global,
     names: &Names<'_>,
     scope: &[Entry],
@@ -106,7 +101,7 @@ fn boxed_test(
 ) -> Result<Box<CTest>, AllocError>
     ensures { IfOk result (λ t. plain_test t.value ≡ test_of (naming_of names.now) (forms_in scope.now) (condition c.now)) }
 {
-    let test = lower_test(alloc, names, scope, c)?;
+    let test = test_of(alloc, names, scope, c)?;
     Ok(Box::new(alloc, test)?)
 }
 
@@ -116,15 +111,23 @@ fn cell_at(
     names: &Names<'_>,
     holder: CHolder,
     x: Id,
-    offset: CNumber,
+    offset: Box<CNumber>,
 ) -> Result<CCell, AllocError>
-    ensures { IfOk result (λ c. plain_cell c ≡ cell_of holder ((naming_of names.now).binder x.0) (plain_number offset)) }
+    ensures { IfOk result (λ c. plain_cell c ≡ cell_of holder ((naming_of names.now).binder x.0) (plain_number offset.value)) }
 {
     Ok(CCell {
         holder,
         name: names.binder(alloc, x)?,
         offset,
     })
+}
+
+/// The first cell of an array.
+fn first_cell(alloc: Global, names: &Names<'_>, x: Id) -> Result<CCell, AllocError>
+    ensures { IfOk result (λ c. plain_cell c ≡ InArray ((naming_of names.now).binder x.0) (Literal (pos 0))) }
+{
+    let offset = boxed_literal(alloc, 0)?;
+    cell_at(alloc, names, CHolder::Array, x, offset)
 }
 
 /// The C of a cell; of what is no buffer the first.
@@ -146,8 +149,8 @@ pub(crate) fn lower_cell(
             let offset = lower_steps(alloc, names, scope, is.as_slice(), x, *rank)?;
             cell_at(alloc, names, CHolder::Window, x, offset)
         }
-        Some(Form::Number) => cell_at(alloc, names, CHolder::Array, x, CNumber::Literal(0)),
-        None => cell_at(alloc, names, CHolder::Array, x, CNumber::Literal(0)),
+        Some(Form::Number) => first_cell(alloc, names, x),
+        None => first_cell(alloc, names, x),
     }
 }
 
@@ -172,9 +175,9 @@ fn of_two(e: &DataExpr, left: Box<CData>, right: Box<CData>) -> CData
     }
 }
 
-/// The C of a data expression.
+/// The outermost form of the C of a data expression.
 #[cycle(data)]
-pub(crate) fn lower_data(
+fn data_of(
     alloc: Global,
     names: &Names<'_>,
     scope: &[Entry],
@@ -186,27 +189,27 @@ pub(crate) fn lower_data(
         DataExpr::Lit(n) => Ok(CData::Literal(*n)),
         DataExpr::Read(x, is) => Ok(CData::Read(lower_cell(alloc, names, scope, *x, is)?)),
         DataExpr::Neg(a) | DataExpr::Relu(a) => {
-            let part = boxed_data(alloc, names, scope, a)?;
+            let part = lower_data(alloc, names, scope, a)?;
             Ok(of_one(e, part))
         }
         DataExpr::Add(a, b) | DataExpr::Sub(a, b) | DataExpr::Mul(a, b) => {
-            let left = boxed_data(alloc, names, scope, a)?;
-            let right = boxed_data(alloc, names, scope, b)?;
+            let left = lower_data(alloc, names, scope, a)?;
+            let right = lower_data(alloc, names, scope, b)?;
             Ok(of_two(e, left, right))
         }
         DataExpr::Select(x, v, y, z) => {
-            let x = boxed_data(alloc, names, scope, x)?;
-            let v = boxed_data(alloc, names, scope, v)?;
-            let y = boxed_data(alloc, names, scope, y)?;
-            let z = boxed_data(alloc, names, scope, z)?;
+            let x = lower_data(alloc, names, scope, x)?;
+            let v = lower_data(alloc, names, scope, v)?;
+            let y = lower_data(alloc, names, scope, y)?;
+            let z = lower_data(alloc, names, scope, z)?;
             Ok(CData::Select(x, v, y, z))
         }
     }
 }
 
-/// The C of a part of a data expression.
+/// The C of a data expression.
 #[cycle(data)]
-fn boxed_data(
+pub(crate) fn lower_data(
     alloc: Global,
     names: &Names<'_>,
     scope: &[Entry],
@@ -214,6 +217,6 @@ fn boxed_data(
 ) -> Result<Box<CData>, AllocError>
     ensures { IfOk result (λ d. plain_data d.value ≡ number32_of (naming_of names.now) (forms_in scope.now) (datum e.now)) }
 {
-    let number = lower_data(alloc, names, scope, e)?;
-    Ok(Box::new(alloc, number)?)
+    let data = data_of(alloc, names, scope, e)?;
+    Ok(Box::new(alloc, data)?)
 }

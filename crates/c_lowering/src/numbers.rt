@@ -1,7 +1,7 @@
 //! The C of control expressions.
 ghost use Rattle.std.specs.Prelude.{◌≡◌, ◌+◌, ◌-◌, map, drop, IfOk};
 ghost use Rattle.exo_tree.specs.PlainControl.{control};
-ghost use Rattle.c_tree.specs.CTree.{Named, StrideIn, Sum, Product};
+ghost use Rattle.c_tree.specs.CTree.{Literal, Named, StrideIn, Sum, Product};
 ghost use Rattle.c_tree.specs.Plain.{plain_number};
 ghost use Rattle.c_lowered.specs.Lowered.{number_of, numbers_of, dims_of, product_from, product_of, row_strides, window_strides, or_one, strides_in, horner, offset, scaled, scaled_from, front, without_lanes};
 ghost use Rattle.c_lowering.specs.Scope.{forms_in};
@@ -14,6 +14,13 @@ use crate::scope::{Entry, Form, find};
 use c_tree::tree::CNumber;
 use exo_tree::{Ctrl, FieldId, Id, Indices};
 use std::alloc::{AllocError, Global};
+
+/// A literal.
+pub(crate) fn boxed_literal(alloc: Global, n: i64) -> Result<Box<CNumber>, AllocError>
+    ensures { IfOk result (λ b. plain_number b.value ≡ Literal n) }
+{
+    Ok(Box::new(alloc, CNumber::Literal(n))?)
+}
 
 /// The number that a control name holds.
 fn binder_number(alloc: Global, names: &Names<'_>, x: Id) -> Result<CNumber, AllocError>
@@ -51,9 +58,9 @@ fn of_two(e: &Ctrl, left: Box<CNumber>, right: Box<CNumber>) -> CNumber
     }
 }
 
-/// The C of a dimension, which holds no stride.
+/// The outermost form of the C of a dimension.
 #[cycle(extent)]
-fn lower_extent(alloc: Global, names: &Names<'_>, e: &Ctrl) -> Result<CNumber, AllocError>
+fn extent_of(alloc: Global, names: &Names<'_>, e: &Ctrl) -> Result<CNumber, AllocError>
     ensures { IfOk result (λ n. plain_number n ≡ extent_of (naming_of names.now) (control e.now)) }
 {
     match e {
@@ -62,23 +69,23 @@ fn lower_extent(alloc: Global, names: &Names<'_>, e: &Ctrl) -> Result<CNumber, A
         Ctrl::Field(f) => field_number(alloc, names, *f),
         Ctrl::Stride(_, _) => Ok(CNumber::Literal(1)),
         Ctrl::Neg(a) | Ctrl::Div(a, _) | Ctrl::Mod(a, _) => {
-            let part = boxed_extent(alloc, names, a)?;
+            let part = lower_extent(alloc, names, a)?;
             Ok(of_one(e, part))
         }
         Ctrl::Add(a, b) | Ctrl::Sub(a, b) | Ctrl::Mul(a, b) => {
-            let left = boxed_extent(alloc, names, a)?;
-            let right = boxed_extent(alloc, names, b)?;
+            let left = lower_extent(alloc, names, a)?;
+            let right = lower_extent(alloc, names, b)?;
             Ok(of_two(e, left, right))
         }
     }
 }
 
-/// The C of a part of a dimension.
+/// The C of a dimension, which holds no stride.
 #[cycle(extent)]
-fn boxed_extent(alloc: Global, names: &Names<'_>, e: &Ctrl) -> Result<Box<CNumber>, AllocError>
+fn lower_extent(alloc: Global, names: &Names<'_>, e: &Ctrl) -> Result<Box<CNumber>, AllocError>
     ensures { IfOk result (λ n. plain_number n.value ≡ extent_of (naming_of names.now) (control e.now)) }
 {
-    let extent = lower_extent(alloc, names, e)?;
+    let extent = extent_of(alloc, names, e)?;
     Ok(Box::new(alloc, extent)?)
 }
 
@@ -94,7 +101,7 @@ fn times_extents(
     let Some((d, rest)) = dims.split_first() else {
         return Ok(product);
     };
-    let extent = boxed_extent(alloc, names, d)?;
+    let extent = lower_extent(alloc, names, d)?;
     let more = Box::new(alloc, CNumber::Product(product, extent))?;
     let whole = times_extents(alloc, names, more, rest)?;
     Ok(whole)
@@ -105,15 +112,15 @@ pub(crate) fn lower_product(
     alloc: Global,
     names: &Names<'_>,
     dims: &[Ctrl],
-) -> Result<CNumber, AllocError>
-    ensures { IfOk result (λ n. plain_number n ≡ product_of (dims_of (naming_of names.now) (map control dims.now))) }
+) -> Result<Box<CNumber>, AllocError>
+    ensures { IfOk result (λ n. plain_number n.value ≡ product_of (dims_of (naming_of names.now) (map control dims.now))) }
 {
     let Some((d, rest)) = dims.split_first() else {
-        return Ok(CNumber::Literal(1));
+        return boxed_literal(alloc, 1);
     };
-    let first = boxed_extent(alloc, names, d)?;
+    let first = lower_extent(alloc, names, d)?;
     let whole = times_extents(alloc, names, first, rest)?;
-    Ok(Box::into_inner(whole))
+    Ok(whole)
 }
 
 /// The dimensions after that one.
@@ -137,7 +144,7 @@ fn dense_stride(
 {
     let rest = later(dims.as_slice(), k);
     let stride = lower_product(alloc, names, rest)?;
-    Ok(stride)
+    Ok(Box::into_inner(stride))
 }
 
 /// The stride of a dimension of a window, as its struct has it.
@@ -188,9 +195,9 @@ pub(crate) fn lower_stride(
     }
 }
 
-/// The C of a control expression.
+/// The outermost form of the C of a control expression.
 #[cycle(number)]
-pub(crate) fn lower_number(
+fn number_of(
     alloc: Global,
     names: &Names<'_>,
     scope: &[Entry],
@@ -204,20 +211,20 @@ pub(crate) fn lower_number(
         Ctrl::Field(f) => field_number(alloc, names, *f),
         Ctrl::Stride(x, k) => lower_stride(alloc, names, scope, *x, *k as usize),
         Ctrl::Neg(a) | Ctrl::Div(a, _) | Ctrl::Mod(a, _) => {
-            let part = boxed_number(alloc, names, scope, a)?;
+            let part = lower_number(alloc, names, scope, a)?;
             Ok(of_one(e, part))
         }
         Ctrl::Add(a, b) | Ctrl::Sub(a, b) | Ctrl::Mul(a, b) => {
-            let left = boxed_number(alloc, names, scope, a)?;
-            let right = boxed_number(alloc, names, scope, b)?;
+            let left = lower_number(alloc, names, scope, a)?;
+            let right = lower_number(alloc, names, scope, b)?;
             Ok(of_two(e, left, right))
         }
     }
 }
 
-/// The C of a part of a control expression.
+/// The C of a control expression.
 #[cycle(number)]
-fn boxed_number(
+pub(crate) fn lower_number(
     alloc: Global,
     names: &Names<'_>,
     scope: &[Entry],
@@ -225,7 +232,7 @@ fn boxed_number(
 ) -> Result<Box<CNumber>, AllocError>
     ensures { IfOk result (λ n. plain_number n.value ≡ number_of (naming_of names.now) (forms_in scope.now) (control e.now)) }
 {
-    let number = lower_number(alloc, names, scope, e)?;
+    let number = number_of(alloc, names, scope, e)?;
     Ok(Box::new(alloc, number)?)
 }
 
@@ -240,9 +247,9 @@ fn next_row(
 ) -> Result<Box<CNumber>, AllocError>
     ensures { IfOk result (λ n. plain_number n.value ≡ Sum (Product (plain_number at.value) (extent_of (naming_of names.now) (control d.now))) (number_of (naming_of names.now) (forms_in scope.now) (control i.now))) }
 {
-    let extent = boxed_extent(alloc, names, d)?;
+    let extent = lower_extent(alloc, names, d)?;
     let row = Box::new(alloc, CNumber::Product(at, extent))?;
-    let index = boxed_number(alloc, names, scope, i)?;
+    let index = lower_number(alloc, names, scope, i)?;
     Ok(Box::new(alloc, CNumber::Sum(row, index))?)
 }
 
@@ -275,15 +282,15 @@ fn rows_offset(
     scope: &[Entry],
     is: &[Ctrl],
     rest: &[Ctrl],
-) -> Result<CNumber, AllocError>
-    ensures { IfOk result (λ n. plain_number n ≡ offset_behind (numbers_of (naming_of names.now) (forms_in scope.now) (map control is.now)) (dims_of (naming_of names.now) (map control rest.now))) }
+) -> Result<Box<CNumber>, AllocError>
+    ensures { IfOk result (λ n. plain_number n.value ≡ offset_behind (numbers_of (naming_of names.now) (forms_in scope.now) (map control is.now)) (dims_of (naming_of names.now) (map control rest.now))) }
 {
     let Some((i, inner)) = is.split_first() else {
-        return Ok(CNumber::Literal(0));
+        return boxed_literal(alloc, 0);
     };
-    let first = boxed_number(alloc, names, scope, i)?;
+    let first = lower_number(alloc, names, scope, i)?;
     let whole = add_rows(alloc, names, scope, first, inner, rest)?;
-    Ok(Box::into_inner(whole))
+    Ok(whole)
 }
 
 /// All but the last.
@@ -314,8 +321,8 @@ pub(crate) fn lower_offset(
     is: &Indices,
     dims: &Indices,
     lanes: u32,
-) -> Result<CNumber, AllocError>
-    ensures { IfOk result (λ n. plain_number n ≡ offset (without_lanes lanes (numbers_of (naming_of names.now) (forms_in scope.now) is.now)) (without_lanes lanes (dims_of (naming_of names.now) dims.now))) }
+) -> Result<Box<CNumber>, AllocError>
+    ensures { IfOk result (λ n. plain_number n.value ≡ offset (without_lanes lanes (numbers_of (naming_of names.now) (forms_in scope.now) is.now)) (without_lanes lanes (dims_of (naming_of names.now) dims.now))) }
 {
     let indices = own(is.as_slice(), lanes);
     let rest = later(own(dims.as_slice(), lanes), 0);
@@ -334,7 +341,7 @@ fn lower_step(
 ) -> Result<Box<CNumber>, AllocError>
     ensures { IfOk result (λ n. plain_number n.value ≡ Product (number_of (naming_of names.now) (forms_in scope.now) (control i.now)) (StrideIn ((naming_of names.now).binder w.0) k)) }
 {
-    let index = boxed_number(alloc, names, scope, i)?;
+    let index = lower_number(alloc, names, scope, i)?;
     let stride = Box::new(alloc, stride_in(alloc, names, w, k)?)?;
     Ok(Box::new(alloc, CNumber::Product(index, stride))?)
 }
@@ -387,16 +394,16 @@ pub(crate) fn lower_steps(
     is: &[Ctrl],
     w: Id,
     rank: usize,
-) -> Result<CNumber, AllocError>
-    ensures { IfOk result (λ n. plain_number n ≡ scaled (numbers_of (naming_of names.now) (forms_in scope.now) (map control is.now)) (window_strides ((naming_of names.now).binder w.0) 0 rank)) }
+) -> Result<Box<CNumber>, AllocError>
+    ensures { IfOk result (λ n. plain_number n.value ≡ scaled (numbers_of (naming_of names.now) (forms_in scope.now) (map control is.now)) (window_strides ((naming_of names.now).binder w.0) 0 rank)) }
 {
     let Some((i, inner)) = is.split_first() else {
-        return Ok(CNumber::Literal(0));
+        return boxed_literal(alloc, 0);
     };
     if rank == 0 {
-        return Ok(CNumber::Literal(0));
+        return boxed_literal(alloc, 0);
     }
     let first = lower_step(alloc, names, scope, i, w, 0)?;
     let whole = add_steps(alloc, names, scope, first, inner, w, 1, rank)?;
-    Ok(Box::into_inner(whole))
+    Ok(whole)
 }

@@ -45,11 +45,11 @@ abbrev pub plain_test : CTest → c.Test
 plain_test Always = c.Always
 plain_test Never = c.Never
 plain_test (IsSet x) = c.IsSet (string_bytes x)
-plain_test (Less a b) = c.Less (plain_number a) (plain_number b)
-plain_test (LessEqual a b) = c.LessEqual (plain_number a) (plain_number b)
-plain_test (More a b) = c.More (plain_number a) (plain_number b)
-plain_test (MoreEqual a b) = c.MoreEqual (plain_number a) (plain_number b)
-plain_test (Equal a b) = c.Equal (plain_number a) (plain_number b)
+plain_test (Less a b) = c.Less (plain_number a.value) (plain_number b.value)
+plain_test (LessEqual a b) = c.LessEqual (plain_number a.value) (plain_number b.value)
+plain_test (More a b) = c.More (plain_number a.value) (plain_number b.value)
+plain_test (MoreEqual a b) = c.MoreEqual (plain_number a.value) (plain_number b.value)
+plain_test (Equal a b) = c.Equal (plain_number a.value) (plain_number b.value)
 plain_test (Both' p a q b) = c.Both (plain_test a) (plain_test b)
 plain_test (Either' p a q b) = c.Either (plain_test a) (plain_test b)
 
@@ -58,7 +58,7 @@ cell_of h.Array = c.InArray
 cell_of h.Window = c.InWindow
 
 abbrev pub plain_cell : CCell → c.CellRef
-plain_cell x = cell_of x.holder (string_bytes x.name) (plain_number x.offset)
+plain_cell x = cell_of x.holder (string_bytes x.name) (plain_number x.offset.value)
 
 abbrev pub plain_data : d.CData → c.Number32
 plain_data (d.Literal n) = c.Literal32 n
@@ -83,8 +83,8 @@ plain_window w =
     (map plain_number w.strides.items)
 
 abbrev pub plain_actual : CActual → c.Actual
-plain_actual (a.Number n) = c.Control64 (plain_number n)
-plain_actual (a.Test t) = c.Tested (plain_test t)
+plain_actual (a.Number n) = c.Control64 (plain_number n.value)
+plain_actual (a.Test t) = c.Tested (plain_test t.value)
 plain_actual (a.Alone x) = c.Alone (string_bytes x)
 plain_actual (a.Address x) = c.Address (plain_cell x)
 plain_actual (a.Window w) = plain_window w
@@ -96,14 +96,14 @@ plain_piece (q.Cell x) = c.FirstCell (plain_cell x)
 
 -- one level, since a block is already seen as a list of plain statements
 abbrev pub plain_statement : CStatement → c.CStatement
-plain_statement (s.Store t x e) = c.Store (plain_type t) (plain_cell x) (plain_data e)
-plain_statement (s.AddTo t x e) = c.AddTo (plain_type t) (plain_cell x) (plain_data e)
+plain_statement (s.Store t x e) = c.Store (plain_type t) (plain_cell x) (plain_data e.value)
+plain_statement (s.AddTo t x e) = c.AddTo (plain_type t) (plain_cell x) (plain_data e.value)
 plain_statement (s.SetField x a) = c.SetField (string_bytes x) (plain_actual a)
 plain_statement s.Empty = c.Empty
-plain_statement (s.Branch t a b) = c.Branch (plain_test t) (c.cblock a) (c.cblock b)
-plain_statement (s.Loop x lo hi b) = c.Loop (string_bytes x) (plain_number lo) (plain_number hi) (c.cblock b)
+plain_statement (s.Branch t a b) = c.Branch (plain_test t.value) (c.cblock a) (c.cblock b)
+plain_statement (s.Loop x lo hi b) = c.Loop (string_bytes x) (plain_number lo.value) (plain_number hi.value) (c.cblock b)
 plain_statement (s.Array t x n) = c.Array (plain_element t) (string_bytes x) n
-plain_statement (s.Malloc t x n) = c.Malloc (plain_element t) (string_bytes x) (plain_number n)
+plain_statement (s.Malloc t x n) = c.Malloc (plain_element t) (string_bytes x) (plain_number n.value)
 plain_statement (s.Free x) = c.Free (string_bytes x)
 plain_statement (s.Bind x w) =
     c.Bind w.kind.rank (plain_type w.kind.cell) (string_bytes x) (plain_cell w.first)

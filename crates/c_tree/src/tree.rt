@@ -35,11 +35,11 @@ pub enum CTest {
     Never,
     /// The number of that name is not 0.
     IsSet(String),
-    Less(CNumber, CNumber),
-    LessEqual(CNumber, CNumber),
-    More(CNumber, CNumber),
-    MoreEqual(CNumber, CNumber),
-    Equal(CNumber, CNumber),
+    Less(Box<CNumber>, Box<CNumber>),
+    LessEqual(Box<CNumber>, Box<CNumber>),
+    More(Box<CNumber>, Box<CNumber>),
+    MoreEqual(Box<CNumber>, Box<CNumber>),
+    Equal(Box<CNumber>, Box<CNumber>),
     Both(Box<CTest>, Box<CTest>),
     Either(Box<CTest>, Box<CTest>),
 }
@@ -56,7 +56,7 @@ pub enum CHolder {
 pub struct CCell {
     pub holder: CHolder,
     pub name: String,
-    pub offset: CNumber,
+    pub offset: Box<CNumber>,
 }
 
 /// An expression over unsigned 32-bit numbers.
@@ -91,8 +91,8 @@ pub struct CWindow {
 /// What a function is called with, or a configuration field is set to.
 #[derive(Drop)]
 pub enum CActual {
-    Number(CNumber),
-    Test(CTest),
+    Number(Box<CNumber>),
+    Test(Box<CTest>),
     /// An array, a window or a number of that name.
     Alone(String),
     /// The address of a cell.
@@ -135,18 +135,18 @@ pub struct CInstruction {
 #[derive(Drop)]
 pub enum CStatement {
     /// The cell gets the number, converted to the type.
-    Store(CType, CCell, CData),
+    Store(CType, CCell, Box<CData>),
     /// The cell gets the sum of what it holds and the number, converted to the type.
-    AddTo(CType, CCell, CData),
+    AddTo(CType, CCell, Box<CData>),
     SetField(String, CActual),
     Empty,
-    Branch(CTest, CBlock, CBlock),
+    Branch(Box<CTest>, CBlock, CBlock),
     /// A counter from the first number up to the second, which it does not reach.
-    Loop(String, CNumber, CNumber, CBlock),
+    Loop(String, Box<CNumber>, Box<CNumber>, CBlock),
     /// An array on the stack, of so many elements.
     Array(CElement, String, i64),
     /// An array on the heap, of so many elements.
-    Malloc(CElement, String, CNumber),
+    Malloc(CElement, String, Box<CNumber>),
     Free(String),
     /// A name for a window.
     Bind(String, CWindow),
