@@ -10,5 +10,4 @@ mod statements;
 mod units;
 
 pub use magnitudes::{Bound, magnitude};
-pub use procedures::is_narrow;
 pub use units::widest;

@@ -3,7 +3,7 @@ ghost use Rattle.std.specs.Prelude.{◌≡◌, true, map, get_or, IfOk};
 ghost use Rattle.exo_tree.specs.PlainParam.{parameter, parameter_kind};
 ghost use Rattle.exo_tree.specs.PlainProcedure.{procedure};
 ghost use Rattle.exo_tree.specs.PlainBinder.{control_kind};
-ghost use Rattle.c_widths.specs.Widths.{most_of_kind, most_of_param, has_narrow_dims, have_narrow_dims, is_narrow_procedure};
+ghost use Rattle.c_widths.specs.Widths.{most_of_kind, most_of_param, has_narrow_dims, have_narrow_dims};
 ghost use Rattle.c_widths.specs.Raises.{most_from, raised, is_narrow_by};
 ghost use Rattle.c_widths.specs.Given.{given_in, IsChanged};
 ghost use Rattle.c_widths.specs.Bounds.{most_in};
@@ -97,14 +97,4 @@ pub(crate) fn fits_procedure(
         return Ok(false);
     }
     fits_block(alloc, memories, &bounds, &p.body, given)
-}
-
-/// Whether no magnitude in a procedure's own tree passes its bound: 2^62 for each control expression with its parts and for the
-/// number of cells of an allocation on the stack, 2^48 for what a configuration field is set to.
-/// A parameter is at most 2^31 - 1, and a stride, a field and a parameter of kind stride at most 2^48.
-pub fn is_narrow(alloc: Global, memories: &Memories, p: &Proc) -> Result<bool, AllocError>
-    ensures { IfOk result (λ t. t ≡ is_narrow_procedure memories.now (procedure p.now)) }
-{
-    let mut given = Given::new(alloc);
-    fits_procedure(alloc, memories, 0, p, &mut given)
 }

@@ -39,14 +39,7 @@ impl Marks {
         self.held.len()
     }
 
-    /// Whether the procedure is in the set; one that the unit has not is in none.
-    pub fn contains(&self, p: ProcId) -> bool
-        ensures { result ≡ contains self.now p.0 }
-    {
-        self.has(p.0 as usize)
-    }
-
-    /// The same of the procedure at that index.
+    /// Whether the procedure at that index is in the set; one that the unit has not is in none.
     pub fn has(&self, k: usize) -> bool
         ensures { result ≡ contains self.now k }
     {
