@@ -19,7 +19,7 @@ ghost use Rattle.step_driver.specs.Outcomes.{Tries, Refuses, IsKept, KeepsMeanin
 ghost use Rattle.step_driver.specs.PlainExit.{plain_exit};
 ghost use Rattle.step_driver.specs.PlainTarget.{target, plain_piece};
 ghost use Rattle.step_driver.specs.Spots.{spot_at, exit_of};
-ghost use Rattle.step_driver.specs.Stages.{shape_of, version_by, edits_by, plan_by, settled, concluded, finished};
+ghost use Rattle.step_driver.specs.Stages.{shape_of, version_by, edits_by, plan_by, settled, finished};
 
 use crate::made::{passed, placed, version};
 use crate::operator::{Exit, Operator, Writing};
@@ -148,28 +148,8 @@ fn finish<O: Operator>(
     ensures { Tries plain_proposal (finished (O.rule op.now) (spot_at (target on.now) (plain_piece piece.now))) result }
 {
     let made = op.draft(alloc, on, piece, Writing::Simplified, &mut Fresh::new(base))?;
-    let must = owed(alloc, on, piece, op)?;
-    conclude(alloc, on, piece, alone, base, made, must, op)
-}
-
-/// The result of what is drafted.
-fn conclude<O: Operator>(
-    alloc: Global,
-    on: &Target<'_>,
-    piece: &Piece,
-    alone: bool,
-    base: u32,
-    made: Block,
-    must: Vec<Obligation>,
-    op: &O,
-) -> Result<Proposal, StepError>
-    requires modes { table_says on.now.modes.now ≡ modes_of (program on.now.unit.now) }
-    requires base { base ≡ ids.next_id (procedure on.now.proc.now) }
-    requires small { base ≤ 4294901759 }
-    requires there { option_map (λ o. is_alone o.around) (opened piece.now.count piece.now.path (block on.now.proc.now.body)) ≡ Some alone }
-    ensures { Tries plain_proposal (concluded (O.rule op.now) (spot_at (target on.now) (plain_piece piece.now)) (block made) (map plain_obligation must.items)) result }
-{
     let whole = passed(on, piece, alone, made)?;
+    let must = owed(alloc, on, piece, op)?;
     settle(alloc, on, piece, alone, base, &whole, must, op)
 }
 
@@ -190,9 +170,9 @@ fn settle<O: Operator>(
     requires there { option_map (λ o. is_alone o.around) (opened piece.now.count piece.now.path (block on.now.proc.now.body)) ≡ Some alone }
     ensures { Tries plain_proposal (settled (O.rule op.now) (spot_at (target on.now) (plain_piece piece.now)) (block whole.now) (map plain_obligation must.items)) result }
 {
-    let told = told(alloc, on, piece, alone, base, whole, must, op)?;
-    version_kept(alloc, on, base, &told.proc)?;
-    Ok(told)
+    let proc = version_with(alloc, on, piece, alone, base, whole, op)?;
+    version_kept(alloc, on, base, &proc)?;
+    Ok(told(alloc, on, piece, whole, proc, must, op)?)
 }
 
 /// Refuses where the result breaks a rule, uses what is not in scope, binds a name again, or passes a limit.
@@ -223,23 +203,19 @@ fn version_with<O: Operator>(
     version(alloc, on.proc, name, copies, &body)
 }
 
-/// What is told of the result.
+/// What is told of a result.
 fn told<O: Operator>(
     alloc: Global,
     on: &Target<'_>,
     piece: &Piece,
-    alone: bool,
-    base: u32,
     whole: &Block,
+    proc: Proc,
     must: Vec<Obligation>,
     op: &O,
 ) -> Result<Proposal, AllocError>
-    requires small { base ≤ 4294901759 }
-    requires there { option_map (λ o. is_alone o.around) (opened piece.now.count piece.now.path (block on.now.proc.now.body)) ≡ Some alone }
-    ensures { IfOk result (λ m. plain_proposal m ≡ plan_by (O.rule op.now) (spot_at (target on.now) (plain_piece piece.now)) (version_by (O.rule op.now) (spot_at (target on.now) (plain_piece piece.now)) base (block whole.now)) (block whole.now) (map plain_obligation must.items)) }
+    ensures { IfOk result (λ m. plain_proposal m ≡ plan_by (O.rule op.now) (spot_at (target on.now) (plain_piece piece.now)) (procedure proc) (block whole.now) (map plain_obligation must.items)) }
 {
     let (edits, exit) = ways(alloc, on, piece, whole, op)?;
-    let proc = version_with(alloc, on, piece, alone, base, whole, op)?;
     Ok(Proposal {
         proc,
         must,

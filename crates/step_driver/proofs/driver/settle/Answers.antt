@@ -4,7 +4,6 @@ use Rattle.exo_tree.specs.PlainProcedure.{procedure}
 use Rattle.tree_rules.specs.declared.findings.Findings.{Findings}
 use Rattle.tree_rules.specs.Findings.{findings_of_version}
 use Rattle.cursor_forward.specs.PlainProposal.{plain_proposal}
-use Rattle.cursor_forward.specs.Proposals.{Plan}
 use Rattle.step_driver.specs.PlainTarget.{target, plain_piece}
 use Rattle.step_driver.specs.Spots.{spot_at}
 use Rattle.step_driver.specs.Stages.{version_by}
@@ -18,9 +17,9 @@ returns-in_err-version_kept g c =
     let s = spot_at t (plain_piece c.args.piece.now) in
     let found : Procedure → ℕ → Findings =
     λ q n. findings_of_version t.unit n q in
-    let made : procedure c.in_ok-told.told.proc ≡ version_by r s c.args.base (block c.args.whole.now) =
-    ap (λ (m : Plan). m.proc) c.in_ok-told.ensures in
-    let same : found (procedure c.in_ok-told.told.proc) c.args.base ≡ found (version_by r s c.args.base (block c.args.whole.now)) c.args.base =
+    let made : procedure c.in_ok-proc.proc ≡ version_by r s c.args.base (block c.args.whole.now) =
+    c.in_ok-proc.ensures in
+    let same : found (procedure c.in_ok-proc.proc) c.args.base ≡ found (version_by r s c.args.base (block c.args.whole.now)) c.args.base =
     ap (λ (q : Procedure). found q c.args.base) made in
     let at_base =
     ap (λ (n : ℕ). found (version_by r s n (block c.args.whole.now)) n) c.requires.base in
