@@ -45,16 +45,12 @@ fn is_low(e: &Ctrl) -> bool
     ensures { result ≡ is_low (control e.now) }
 {
     match e {
-        Ctrl::Lit(_) => true,
+        Ctrl::Lit(_) | Ctrl::Field(_) | Ctrl::Stride(_, _) => true,
         Ctrl::Var(x) => x.0 < PAST_ALL,
-        Ctrl::Field(_) => true,
-        Ctrl::Stride(_, _) => true,
         Ctrl::Neg(a) => is_low(a),
-        Ctrl::Add(a, b) => is_low(a) && is_low(b),
-        Ctrl::Sub(a, b) => is_low(a) && is_low(b),
+        Ctrl::Add(a, b) | Ctrl::Sub(a, b) => is_low(a) && is_low(b),
         Ctrl::Mul(a, b) => (is_of_literals(a) || is_of_literals(b)) && (is_low(a) && is_low(b)),
-        Ctrl::Div(a, c) => *c > 0 && is_low(a),
-        Ctrl::Mod(a, c) => *c > 0 && is_low(a),
+        Ctrl::Div(a, c) | Ctrl::Mod(a, c) => *c > 0 && is_low(a),
     }
 }
 

@@ -129,6 +129,18 @@ fn put_needs(
     put_needs(alloc, site, cursor, rest, out)
 }
 
+/// What needs owe, in their order.
+fn owed_on(alloc: Global, site: &Site<'_, '_>, needs: &[Need]) -> Result<Vec<Obligation>, StepError>
+    requires site { IsSite site.now }
+    requires affine { IsTrue (list_all is_affine (map plain_need needs.now)) }
+    ensures { (k : ℕ) → Tries (λ v. map plain_obligation v.items) (owing.owed_needs (target_in (seen site.now) k) (map plain_need needs.now)) result }
+{
+    let mut cursor = Cursor::new(alloc, site.unit, site.proc, site.roots, site.writes);
+    let mut out = Owed::new(alloc);
+    put_needs(alloc, site, &mut cursor, needs, &mut out)?;
+    Ok(out.into_items())
+}
+
 /// What needs owe, in their order, by the tables of the whole unit.
 fn owed_for(
     alloc: Global,
@@ -155,10 +167,7 @@ fn owed_for(
         writes: &writes,
         words: &words,
     };
-    let mut cursor = Cursor::new(alloc, unit, p, &roots, &writes);
-    let mut out = Owed::new(alloc);
-    put_needs(alloc, &site, &mut cursor, needs, &mut out)?;
-    Ok(out.into_items())
+    owed_on(alloc, &site, needs)
 }
 
 /// What needs owe, in their order, each in the context of its place. `Form` for the first that is refused: of one need
