@@ -11,7 +11,7 @@ use Rattle.compile_stages.specs.Stages.{Stage, Passed, Stopped, Checks}
 use Rattle.exo_cli.specs.Words.{Command, Check, command_of, files_of}
 use Rattle.exo_cli.specs.Answer.{Answer, Accepted, Rejected, Unread, Misused, answer_of, IsAnswerOf}
 use Rattle.exo_cli.specs.Answer.{status_of, for_out, for_err, IsVerdict}
-use Rattle.exo_cli.specs.Work.{Stays, file_limit, Opens, OpensBoth, AnswersTo, Answers, operands, IsReadFault}
+use Rattle.exo_cli.specs.Work.{Stays, file_limit, Opens, OpensBoth, AnswersTo, on_both, Comes, Answers, operands, IsReadFault}
 use Rattle.exo_cli.specs.Work.{IsAnswerTo, IsAnswer, EndsAt, Moment, OutFails, ErrFails, Ends}
 use Rattle.cli_outside.proofs.Taking.{with_more-nothing}
 
@@ -96,6 +96,18 @@ module _ (command : Command) (procs schedule : List ℕ) (next : List ℕ → Li
           (opened-within (content_of files procs) procs unit
           (λ u. Opens (content_of files schedule) schedule (next u)) reply held short
           (opened-within (content_of files schedule) schedule lines (next unit) reply also less comes))
+
+-- the command on both files opens both
+module _ (procs schedule : List ℕ) where
+  pub both_answers : (name : Option (List ℕ)) (files : Folder) (a : Answer)
+      → OpensBoth files procs schedule (λ unit lines. IsAnswerOf procs schedule (Comes name unit lines)) a
+      → AnswersTo (on_both procs schedule name) files a
+  both_answers None files a h = h
+  both_answers (Some name) files a h = h
+
+  pub both_files : (name : Option (List ℕ)) → files_of (on_both procs schedule name) ≡ procs ∷ schedule ∷ []
+  both_files None = refl
+  both_files (Some name) = refl
 
 -- the file to check is read
 pub checked-answers : (told : Option Folder) (procs text : List ℕ) (before after : ℕ) (last : Option (List ℕ))

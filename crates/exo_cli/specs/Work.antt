@@ -5,7 +5,7 @@ use Rattle.std.specs.Option.{option_map_or}
 use Rattle.exo_cli.specs.declared.status.Status.{Status}
 use Rattle.exo_cli.specs.declared.status.Status.TheVariants.{Ok, Usage, ReadFault, WriteFault}
 use Rattle.exo_cli.specs.declared.status.Status.TheVariants.{Memory}
-use Rattle.compile_stages.specs.Stages.{Compiles, Displays, Checks}
+use Rattle.compile_stages.specs.Stages.{Stage, Compiles, Displays, Checks}
 use Rattle.cli_outside.specs.Outside.{Folder, content_of, IsLonger, Rose, with_more, StopsWithin}
 use Rattle.exo_cli.specs.Messages.{usage, cannot_read, file_refused}
 use Rattle.exo_cli.specs.Words.{Command, Compile, Check, Show, command_of, files_of}
@@ -40,6 +40,16 @@ AnswersTo (Check procs) files =
 AnswersTo (Show procs schedule name) files =
     OpensBoth files procs schedule (λ unit lines.
     IsAnswerOf procs schedule (Displays unit lines name))
+
+-- the command on a unit and a schedule that shows the version of a name, or else compiles
+abbrev pub on_both : List ℕ → List ℕ → Option (List ℕ) → Command
+on_both procs schedule None = Compile procs schedule
+on_both procs schedule (Some name) = Show procs schedule name
+
+-- what it comes to
+abbrev pub Comes : Option (List ℕ) → List ℕ → List ℕ → Stage (List ℕ) → Type 0
+Comes None unit lines = Compiles unit lines
+Comes (Some name) unit lines = Displays unit lines name
 
 -- this is the answer to the words over these files
 abbrev pub Answers : List (List ℕ) → Folder → Answer → Type 0

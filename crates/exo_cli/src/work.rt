@@ -1,10 +1,12 @@
 // The order of the work: the words, the files, what their texts give, and then what is written.
-ghost use Rattle.std.specs.Prelude.{◌≡◌, ◌≤◌, IfOk, IfSome, MatchResult, length};
+ghost use Rattle.std.specs.Prelude.{◌≡◌, ◌≤◌, IfOk, IfSome, MatchResult, length, string_bytes};
+ghost use Rattle.std.specs.Option.{option_copied};
 ghost use Rattle.exo_cli.specs.Headline.{KeepsItsPromise};
 ghost use Rattle.cli_outside.specs.Outside.{HasBytes};
-ghost use Rattle.exo_cli.specs.Words.{Compile, Check, Show, texts};
+ghost use Rattle.compile_stages.specs.Stopping.{stage};
+ghost use Rattle.exo_cli.specs.Words.{Check, texts};
 ghost use Rattle.exo_cli.specs.Replies.{plain};
-ghost use Rattle.exo_cli.specs.Work.{Ends, EndsAt, IsAnswer, IsAnswerTo, file_limit};
+ghost use Rattle.exo_cli.specs.Work.{Comes, Ends, EndsAt, IsAnswer, IsAnswerTo, file_limit, on_both};
 
 use crate::messages;
 use crate::reply::{Reply, replied};
@@ -12,7 +14,7 @@ use crate::status::Status;
 use crate::words::{Command, read_command};
 use cli_outside::{FileFault, Files, Sink};
 use compile_stages::laws::{checked_is_counted, compiled_is_promised, displayed_is_promised};
-use compile_stages::{checked, compiled, displayed};
+use compile_stages::{Stop, checked, compiled, displayed};
 use ob_check::Gate;
 use std::alloc::{AllocError, Global};
 use std::thread::Threads;
@@ -78,58 +80,47 @@ fn reply_to<R: Threads + Sync, F: Files, G: Gate>(
 {
     match read_command(words) {
         Some(Command::Compile(procs, schedule)) => {
-            compile_files(rt, alloc, procs, schedule, files, gate)
+            run_files(rt, alloc, procs, schedule, None, files, gate)
         }
         Some(Command::Check(procs)) => check_file(rt, alloc, procs, files, gate),
         Some(Command::Show(procs, schedule, name)) => {
-            show_version(rt, alloc, procs, schedule, name, files, gate)
+            run_files(rt, alloc, procs, schedule, Some(name), files, gate)
         }
         None => Ok(Reply::Misused(messages::usage(alloc)?)),
     }
 }
 
-/// What is replied to the command to compile these files.
-fn compile_files<R: Threads + Sync, F: Files, G: Gate>(
+/// What the texts come to: the text of the version of that name, or else the C.
+fn end_of<R: Threads + Sync, G: Gate>(
     rt: &R,
     alloc: Global,
-    procs: &str,
-    schedule: &str,
-    files: &mut F,
+    unit: &[u8],
+    lines: &[u8],
+    name: Option<&str>,
     gate: &G,
-) -> Result<Reply, AllocError>
-    ensures answer { IfOk result (λ reply. IsAnswerTo (Compile procs.now schedule.now) (F.told files.old) (F.faults files.old)
-        (F.faults files.new) (F.last_fault files.new) (plain reply)) }
-    ensures same { F.told files.new ≡ F.told files.old }
-    ensures count { F.faults files.old ≤ F.faults files.new }
+) -> Result<String, Stop>
+    requires unit { length unit.now ≤ file_limit }
+    requires lines { length lines.now ≤ file_limit }
+    ensures { IfSome (stage string_bytes result) (Comes (option_copied name.entry) unit.now lines.now) }
 {
-    let unit = match read_text(alloc, files, procs)? {
-        Ok(text) => text,
-        Err(reply) => return Ok(reply),
-    };
-    let lines = match read_text(alloc, files, schedule)? {
-        Ok(text) => text,
-        Err(reply) => return Ok(reply),
-    };
-    replied(
-        alloc,
-        procs,
-        schedule,
-        compiled(rt, alloc, &unit, &lines, gate),
-    )
+    match name {
+        None => compiled(rt, alloc, unit, lines, gate),
+        Some(name) => displayed(rt, alloc, unit, lines, name, gate),
+    }
 }
 
-/// What is replied to the command to show a version that these files make.
-fn show_version<R: Threads + Sync, F: Files, G: Gate>(
+/// What is replied to the command to show the version of that name that these files make, or else to compile them.
+fn run_files<R: Threads + Sync, F: Files, G: Gate>(
     rt: &R,
     alloc: Global,
     procs: &str,
     schedule: &str,
-    name: &str,
+    name: Option<&str>,
     files: &mut F,
     gate: &G,
 ) -> Result<Reply, AllocError>
-    ensures answer { IfOk result (λ reply. IsAnswerTo (Show procs.now schedule.now name.now) (F.told files.old) (F.faults files.old)
-        (F.faults files.new) (F.last_fault files.new) (plain reply)) }
+    ensures answer { IfOk result (λ reply. IsAnswerTo (on_both procs.now schedule.now (option_copied name.entry)) (F.told files.old)
+        (F.faults files.old) (F.faults files.new) (F.last_fault files.new) (plain reply)) }
     ensures same { F.told files.new ≡ F.told files.old }
     ensures count { F.faults files.old ≤ F.faults files.new }
 {
@@ -145,7 +136,7 @@ fn show_version<R: Threads + Sync, F: Files, G: Gate>(
         alloc,
         procs,
         schedule,
-        displayed(rt, alloc, &unit, &lines, name, gate),
+        end_of(rt, alloc, &unit, &lines, name, gate),
     )
 }
 
