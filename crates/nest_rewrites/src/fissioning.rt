@@ -12,45 +12,40 @@ ghost use Rattle.nest_laws.specs.Fission.{fission_rule};
 ghost use Rattle.nest_laws.proofs.FissionRule.{fission_is_lawful, fission_is_carrying};
 ghost use Rattle.step_driver.specs.Outcomes.{Tries, IsKept, KeepsMeaning, Moves};
 ghost use Rattle.step_driver.specs.PlainTarget.{target};
-ghost use Rattle.step_needs.specs.PlainNeed.{plain_turns, plain_need};
+ghost use Rattle.step_needs.specs.PlainNeed.{plain_need};
 ghost use Rattle.nest_rewrites.specs.PlainParting.{plain_parting};
 
-use crate::conflicts::{in_loop, in_one, in_turn, numbered};
+use crate::conflicts::{PartAt, in_loop};
 use crate::fields::unless_it_writes;
+use crate::moves::three_shifts;
 use crate::parting::{PartingAt, parting_at};
 use cursor_forward::{Proposal, Shifts, StepError};
 use exo_tree::{Block, Name, Path, Proc};
 use made_trees::Fresh;
 use std::alloc::{AllocError, Global};
 use step_driver::{Exit, Operator, Piece, Target, Writing, propose};
-use step_needs::{Need, Turns};
-use step_shapes::{FIRST, alone_to, apart, inside, onward, range_to, size};
+use step_needs::Need;
+use step_shapes::{alone_to, apart, inside, range_to, size};
 
 impl PartingAt<'_> {
-    /// The second part at a turn.
-    fn second_turn(&self, alloc: Global, at: &Path) -> Result<Turns, AllocError>
-        ensures { IfOk result (λ k. plain_turns k ≡ (plain.fission_conflict at.now (plain_parting self.now)).first) }
-    {
-        let from = size(&self.first)?;
-        let path = onward(at, 0, &[numbered(from)])?;
-        in_one(alloc, &self.whole, path, size(&self.second)?)
-    }
-
-    /// The first part at a turn.
-    fn first_turn(&self, alloc: Global, at: &Path) -> Result<Turns, AllocError>
-        ensures { IfOk result (λ k. plain_turns k ≡ (plain.fission_conflict at.now (plain_parting self.now)).second) }
-    {
-        let path = onward(at, 0, &[FIRST])?;
-        in_one(alloc, &self.whole, path, size(&self.first)?)
-    }
-
     /// That the second part at a turn does not meet the first at a later one.
     fn owed(&self, alloc: Global, at: &Path) -> Result<Vec<Need>, AllocError>
         ensures { IfOk result (λ ns. map plain_need ns.items ≡ plain.fission_needs at.now (plain_parting self.now)) }
     {
-        let second = self.second_turn(alloc, at)?;
-        let first = self.first_turn(alloc, at)?;
-        apart(alloc, at, in_turn(alloc, second, first)?)
+        let from = size(&self.first)?;
+        let first = PartAt {
+            looping: self.whole,
+            number: 0,
+            from: 0,
+            body: &self.first,
+        };
+        let second = PartAt {
+            looping: self.whole,
+            number: 0,
+            from,
+            body: &self.second,
+        };
+        apart(alloc, at, second.behind(alloc, at, &first)?)
     }
 
     /// The first loop is the old one, and the second has the statements of the second part.
@@ -59,13 +54,12 @@ impl PartingAt<'_> {
     {
         let first = size(&self.first)?;
         let second = size(&self.second)?;
-        let from = in_loop(0, first)?;
-        let to = in_loop(1, 0)?;
-        let mut all = Shifts::new(alloc);
-        all.push(alone_to(inside(0), inside(0)))?;
-        all.push(range_to(inside(1), first, inside(1)))?;
-        all.push(range_to(from, second, to))?;
-        Ok(all)
+        three_shifts(
+            alloc,
+            alone_to(inside(0), inside(0)),
+            range_to(inside(1), first, inside(1)),
+            range_to(in_loop(0, first), second, in_loop(1, 0)),
+        )
     }
 }
 

@@ -13,11 +13,12 @@ ghost use Rattle.nest_laws.proofs.Fuse.{fuse_is_lawful, fuse_is_carrying};
 ghost use Rattle.step_driver.specs.Outcomes.{Tries, IsKept, KeepsMeaning, Moves};
 ghost use Rattle.step_driver.specs.PlainTarget.{target};
 ghost use Rattle.step_driver.specs.PlainWriting.{writing};
-ghost use Rattle.step_needs.specs.PlainNeed.{plain_turns, plain_conflict, plain_need};
+ghost use Rattle.step_needs.specs.PlainNeed.{plain_need};
 ghost use Rattle.nest_rewrites.specs.PlainTwo.{plain_two};
 
-use crate::conflicts::{in_loop, in_one, in_turn};
+use crate::conflicts::{PartAt, in_loop};
 use crate::fields::unless_it_writes;
+use crate::moves::three_shifts;
 use crate::two::{TwoAt, two_in};
 use affine_forms::FormError;
 use cursor_forward::{Proposal, Shifts, StepError};
@@ -25,26 +26,10 @@ use exo_tree::{Block, Name, Path, Proc};
 use made_trees::Fresh;
 use std::alloc::{AllocError, Global};
 use step_driver::{Exit, Operator, Piece, Target, Writing, propose};
-use step_needs::{Need, Turns};
-use step_shapes::{FIRST, alone_to, apart, inside, onward, range_to, size};
+use step_needs::Need;
+use step_shapes::{alone_to, apart, inside, range_to, size};
 
 impl TwoAt<'_> {
-    /// The second body at a turn.
-    fn second_turn(&self, alloc: Global, at: &Path) -> Result<Turns, AllocError>
-        ensures { IfOk result (λ k. plain_turns k ≡ (plain.fuse_conflict at.now (plain_two self.now)).first) }
-    {
-        let path = onward(at, 1, &[FIRST])?;
-        in_one(alloc, &self.second, path, size(self.second.body)?)
-    }
-
-    /// The first body at a turn.
-    fn first_turn(&self, alloc: Global, at: &Path) -> Result<Turns, AllocError>
-        ensures { IfOk result (λ k. plain_turns k ≡ (plain.fuse_conflict at.now (plain_two self.now)).second) }
-    {
-        let path = onward(at, 0, &[FIRST])?;
-        in_one(alloc, &self.first, path, size(self.first.body)?)
-    }
-
     /// What stands in the place of both. `Form` where the forms of the bounds are too wide.
     fn drafted(&self, alloc: Global, how: Writing) -> Result<Block, StepError>
         requires { self.now.fit ≡ plain.bounds_fit (plain_two self.now) }
@@ -65,9 +50,19 @@ impl TwoAt<'_> {
     fn owed(&self, alloc: Global, at: &Path) -> Result<Vec<Need>, AllocError>
         ensures { IfOk result (λ ns. map plain_need ns.items ≡ plain.fuse_needs at.now (plain_two self.now)) }
     {
-        let second = self.second_turn(alloc, at)?;
-        let first = self.first_turn(alloc, at)?;
-        apart(alloc, at, in_turn(alloc, second, first)?)
+        let first = PartAt {
+            looping: self.first,
+            number: 0,
+            from: 0,
+            body: self.first.body,
+        };
+        let second = PartAt {
+            looping: self.second,
+            number: 1,
+            from: 0,
+            body: self.second.body,
+        };
+        apart(alloc, at, second.behind(alloc, at, &first)?)
     }
 
     /// The first loop stays, the second is gone, and its body follows that of the first.
@@ -76,13 +71,12 @@ impl TwoAt<'_> {
     {
         let first = size(self.first.body)?;
         let second = size(self.second.body)?;
-        let from = in_loop(1, 0)?;
-        let to = in_loop(0, first)?;
-        let mut all = Shifts::new(alloc);
-        all.push(alone_to(inside(0), inside(0)))?;
-        all.push(range_to(inside(1), first, inside(1)))?;
-        all.push(range_to(from, second, to))?;
-        Ok(all)
+        three_shifts(
+            alloc,
+            alone_to(inside(0), inside(0)),
+            range_to(inside(1), first, inside(1)),
+            range_to(in_loop(1, 0), second, in_loop(0, first)),
+        )
     }
 }
 

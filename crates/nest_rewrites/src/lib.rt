@@ -6,6 +6,7 @@ mod conflicts;
 mod fields;
 mod fissioning;
 mod fusing;
+mod moves;
 mod nests;
 mod parting;
 mod reordering;

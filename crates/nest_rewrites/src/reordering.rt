@@ -1,5 +1,5 @@
 //! The step that exchanges a loop and the one loop in it.
-ghost use Rattle.std.specs.Prelude.{◌≡◌, map, IfOk};
+ghost use Rattle.std.specs.Prelude.{◌≡◌, [], ◌∷◌, map, IfOk};
 ghost use Rattle.exo_tree.specs.PlainUnit.{program};
 ghost use Rattle.exo_modes.specs.Marks.{modes_of};
 ghost use Rattle.exo_modes.specs.Seen.{table_says};
@@ -15,42 +15,48 @@ ghost use Rattle.nest_laws.specs.Shapes.{header_of, size, step};
 ghost use Rattle.nest_laws.proofs.ReorderLoops.{reorder_is_lawful, reorder_is_carrying};
 ghost use Rattle.step_driver.specs.Outcomes.{Tries, IsKept, KeepsMeaning, Moves};
 ghost use Rattle.step_driver.specs.PlainTarget.{target};
-ghost use Rattle.step_needs.specs.PlainNeed.{plain_turns, plain_conflict, plain_need};
+ghost use Rattle.step_needs.specs.PlainNeed.{plain_header, plain_turns, plain_conflict, plain_need};
 ghost use Rattle.nest_rewrites.specs.PlainNest.{plain_nest};
 
-use crate::conflicts::{crossing, in_two};
+use crate::conflicts::{crossing, one_loop};
 use crate::fields::unless_it_writes;
+use crate::moves::three_shifts;
 use crate::nests::{NestAt, nest_at};
 use cursor_forward::{Proposal, Shifts, StepError};
 use exo_tree::{Block, Name, Path, Proc};
 use made_trees::Fresh;
 use std::alloc::{AllocError, Global};
 use step_driver::{Exit, Operator, Piece, Target, Writing, propose};
-use step_needs::{Conflict, Need, Turns};
-use step_shapes::{FIRST, alone_to, apart, inside, onward, range_to, size};
+use step_needs::{Conflict, Header, Need, Turns};
+use step_shapes::{FIRST, alone_to, apart, header, inside, onward, range_to, size};
 
 impl NestAt<'_> {
+    /// Both loops.
+    fn loops(&self, alloc: Global) -> Result<Vec<Header>, AllocError>
+        ensures { IfOk result (λ hs. map plain_header hs.items ≡ header_of (plain_nest self.now).outer ∷ header_of (plain_nest self.now).inner ∷ []) }
+    {
+        let mut loops = one_loop(alloc, &self.outer)?;
+        loops.push(header(alloc, &self.inner)?)?;
+        Ok(loops)
+    }
+
     /// The body at a turn of both loops.
     fn body_turns(&self, alloc: Global, at: &Path) -> Result<Turns, AllocError>
         ensures { IfOk result (λ k. plain_turns k ≡ (plain.turns_conflict at.now (plain_nest self.now)).first) }
     {
+        let count = size(self.inner.body)?;
         let path = onward(at, 0, &[FIRST, FIRST])?;
-        in_two(
-            alloc,
-            &self.outer,
-            &self.inner,
-            path,
-            size(self.inner.body)?,
-        )
+        let loops = self.loops(alloc)?;
+        Ok(Turns { path, count, loops })
     }
 
     /// The body at a turn of both against that at a later one of the outer loop and an earlier one of the inner loop.
     fn turns_conflict(&self, alloc: Global, at: &Path) -> Result<Conflict, AllocError>
         ensures { IfOk result (λ k. plain_conflict k ≡ plain.turns_conflict at.now (plain_nest self.now)) }
     {
+        let order = crossing(alloc)?;
         let first = self.body_turns(alloc, at)?;
         let second = self.body_turns(alloc, at)?;
-        let order = crossing(alloc)?;
         Ok(Conflict {
             first,
             second,
@@ -71,11 +77,12 @@ impl NestAt<'_> {
         ensures { IfOk result (λ l. l ≡ plain.reorder_shifts (plain_nest self.now)) }
     {
         let count = size(self.inner.body)?;
-        let mut all = Shifts::new(alloc);
-        all.push(alone_to(inside(0), inside(1)))?;
-        all.push(alone_to(inside(1), inside(0)))?;
-        all.push(range_to(inside(2), count, inside(2)))?;
-        Ok(all)
+        three_shifts(
+            alloc,
+            alone_to(inside(0), inside(1)),
+            alone_to(inside(1), inside(0)),
+            range_to(inside(2), count, inside(2)),
+        )
     }
 }
 

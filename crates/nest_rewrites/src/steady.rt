@@ -1,5 +1,5 @@
 //! Whether the first part of a loop is a write that each turn may repeat.
-ghost use Rattle.std.specs.Prelude.{◌≡◌, ◌==◌, option_map, option_and_then, IfOk};
+ghost use Rattle.std.specs.Prelude.{◌≡◌, option_map, option_and_then, IfOk};
 ghost use Rattle.exo_tree.specs.Tree.{block};
 ghost use Rattle.exo_tree.specs.PlainArgument.{argument};
 ghost use Rattle.exo_tree.specs.PlainStatement.{statement};
@@ -9,31 +9,17 @@ ghost use Rattle.nest_laws.specs.Fission as plain;
 ghost use Rattle.nest_rewrites.specs.PlainParting.{plain_parting, plain_write};
 
 use crate::parting::PartingAt;
-use exo_tree::{Arg, Block, FieldId, Id, Stmt, Unit};
+use exo_tree::{Arg, Block, FieldId, Stmt, Unit};
 use std::alloc::{AllocError, Global};
 use step_fields::may_write;
-use step_shapes::only_statement;
-use tree_mentions::{Names, in_argument};
+use step_shapes::{Alone, only_statement};
+use tree_mentions::in_argument;
 
 /// What a statement writes into a field.
 #[derive(Clone, Copy)]
 pub(crate) struct WriteAt<'a> {
     pub(crate) field: FieldId,
     pub(crate) value: &'a Arg,
-}
-
-/// One variable.
-#[derive(Clone, Copy)]
-struct Variable {
-    id: Id,
-}
-
-impl Names for Variable {
-    ghost names = { λ v. λ x. x == v.id.0 };
-
-    fn has(&self, x: Id) -> bool {
-        x.0 == self.id.0
-    }
 }
 
 /// The write that a statement is; None exactly where it is another statement.
@@ -70,7 +56,7 @@ impl PartingAt<'_> {
             return Ok(false);
         }
         let written = may_write(alloc, unit, &self.second)?;
-        let variable = Variable {
+        let variable = Alone {
             id: self.whole.binder.id,
         };
         Ok(!in_argument(&variable, w.value) && !written.contains(field))

@@ -10,7 +10,7 @@ ghost use Rattle.nest_rewrites.specs.PlainTwo.{plain_loops, plain_two};
 use crate::agreeing::agreement;
 use exo_tree::{Block, Ctrl, Stmt, subst};
 use std::alloc::{AllocError, Global};
-use step_shapes::{LoopAt, is_over_variables, loop_in};
+use step_shapes::{LoopAt, loop_in};
 
 /// A loop and the next one.
 #[derive(Clone, Copy)]
@@ -45,13 +45,6 @@ fn loops_of(b: &Block) -> Option<Loops<'_>>
         return None;
     }
     both_loops(b.statement(0), b.statement(1))
-}
-
-/// Whether the bounds of a loop are affine and over variables alone.
-fn has_affine_bounds(l: &LoopAt<'_>) -> bool
-    ensures { result ≡ plain.bounds_are_affine (plain_loop l.now) }
-{
-    is_over_variables(l.lo) && is_over_variables(l.hi)
 }
 
 /// Whether both ends agree, as far as that is known.
@@ -98,7 +91,7 @@ pub(crate) fn two_in(alloc: Global, b: &Block) -> Result<Option<TwoAt<'_>>, Allo
     let Some(p) = loops_of(b) else {
         return Ok(None);
     };
-    if !(has_affine_bounds(&p.first) && has_affine_bounds(&p.second)) {
+    if !(p.first.has_affine_bounds() && p.second.has_affine_bounds()) {
         return Ok(None);
     }
     p.agreeing(alloc)
