@@ -1,5 +1,8 @@
 //! Copies of trees. A copy is the same plain tree.
 ghost use Rattle.std.specs.Prelude.{◌≡◌, IfOk};
+ghost use Rattle.exo_tree.specs.Tree as tree;
+ghost use Rattle.exo_tree.specs.Tree.{block};
+ghost use Rattle.exo_tree.specs.PlainBinder.{binding};
 ghost use Rattle.exo_tree.specs.PlainControl.{control, condition, coordinate};
 ghost use Rattle.exo_tree.specs.PlainDatum.{datum};
 ghost use Rattle.exo_tree.specs.PlainArgument.{argument};
@@ -12,6 +15,7 @@ use crate::control::{Cond, Coord, Ctrl};
 use crate::data::DataExpr;
 use crate::leaves::Leaves;
 use crate::list::{Coords, Indices};
+use crate::mapped_block::{branches, loop_over};
 use crate::number::Id;
 use std::alloc::{AllocError, Global};
 
@@ -114,6 +118,35 @@ impl Stmt {
         ensures { IfOk result (λ s. statement s ≡ statement self.now) }
     {
         self.mapped(alloc, &Same)
+    }
+
+    /// A loop over a body, its head copied.
+    #[tactic(auto, using(crate::proofs::Unchanged::same_control))]
+    pub fn loop_like(
+        alloc: Global,
+        i: &Binder,
+        lo: &Ctrl,
+        hi: &Ctrl,
+        body: Block,
+    ) -> Result<Stmt, AllocError>
+        ensures { IfOk result (λ s. statement s
+            ≡ tree.For (binding i.now) (control lo.now) (control hi.now) (block body)) }
+    {
+        loop_over(alloc, &Same, i, lo, hi, body)
+    }
+
+    /// A condition over branches, copied itself.
+    #[tactic(auto, using(crate::proofs::Unchanged::same_condition))]
+    pub fn branch_like(
+        alloc: Global,
+        c: &Cond,
+        then_part: Block,
+        else_part: Block,
+    ) -> Result<Stmt, AllocError>
+        ensures { IfOk result (λ s. statement s
+            ≡ tree.If (condition c.now) (block then_part) (block else_part)) }
+    {
+        branches(alloc, &Same, c, then_part, else_part)
     }
 }
 

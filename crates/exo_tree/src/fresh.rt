@@ -55,18 +55,13 @@ impl Stmt {
         match self {
             Stmt::If(_, a, b) => {
                 a.binders(ids)?;
-                b.binders(ids)?;
-                Ok(())
+                b.binders(ids)
             }
             Stmt::For(i, _, _, b) => {
                 ids.push(i.id)?;
-                b.binders(ids)?;
-                Ok(())
+                b.binders(ids)
             }
-            Stmt::Alloc(b, _, _, _) | Stmt::View(b, _, _) => {
-                ids.push(b.id)?;
-                Ok(())
-            }
+            Stmt::Alloc(b, _, _, _) | Stmt::View(b, _, _) => ids.push(b.id),
             _ => Ok(()),
         }
     }

@@ -101,7 +101,7 @@ fn reduction<L: Leaves>(
 }
 
 /// A condition over branches that are copies already.
-fn branches<L: Leaves>(
+pub(crate) fn branches<L: Leaves>(
     alloc: Global,
     leaves: &L,
     c: &Cond,
@@ -116,7 +116,7 @@ fn branches<L: Leaves>(
 }
 
 /// A loop over a body that is a copy already.
-fn loop_over<L: Leaves>(
+pub(crate) fn loop_over<L: Leaves>(
     alloc: Global,
     leaves: &L,
     i: &Binder,

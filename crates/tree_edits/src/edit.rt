@@ -1,19 +1,16 @@
 //! What stands at a place, and bodies with other statements there.
 ghost use Rattle.std.specs.Prelude.{◌≡◌, ◌∷◌, ◌++◌, ◌+◌, ◌<◌, ◌≤◌, ◌==◌, ◌&&◌, length, map, take, drop, slice_get, slice_range, option_map, option_and_then, Some, None, IfOk, MatchOption};
 ghost use Rattle.std.specs.Option.{option_copied};
-ghost use Rattle.exo_tree.specs.Tree as tree;
 ghost use Rattle.exo_tree.specs.Tree.{Statement, block};
 ghost use Rattle.exo_tree.specs.Context.{fill};
 ghost use Rattle.exo_tree.specs.Places.{opened_in, opened};
 ghost use Rattle.exo_tree.specs.Places as places;
 ghost use Rattle.exo_tree.specs.Branches.{branch_of, with_branch};
-ghost use Rattle.exo_tree.specs.PlainBinder.{binding};
-ghost use Rattle.exo_tree.specs.PlainControl.{control, condition};
 ghost use Rattle.exo_tree.specs.PlainPlace.{branch_taken, step_taken};
 ghost use Rattle.exo_tree.specs.PlainStatement.{statement};
 ghost use Rattle.made_trees.specs.Passes.{is_alone};
 
-use exo_tree::{Binder, Block, Branch, Cond, Ctrl, Path, Step, Stmt};
+use exo_tree::{Block, Branch, Path, Step, Stmt};
 use std::alloc::{AllocError, Global};
 
 /// Whether `count` statements from a path on are all of their block; None exactly where they are not there.
@@ -106,45 +103,24 @@ pub fn piece_at(
     }
 }
 
-/// A loop with a copied head.
-fn loop_of(alloc: Global, b: &Binder, lo: &Ctrl, hi: &Ctrl, body: Block) -> Result<Stmt, AllocError>
-    ensures { IfOk result (λ s. statement s ≡ tree.For (binding b.now) (control lo.now) (control hi.now) (block body)) }
-{
-    let binder = b.duplicate(alloc)?;
-    let low = lo.duplicate(alloc)?;
-    Ok(Stmt::For(binder, low, hi.duplicate(alloc)?, body))
-}
-
-/// A branch with a copied condition.
-fn branch_of(
-    alloc: Global,
-    c: &Cond,
-    then_part: Block,
-    else_part: Block,
-) -> Result<Stmt, AllocError>
-    ensures { IfOk result (λ s. statement s ≡ tree.If (condition c.now) (block then_part) (block else_part)) }
-{
-    Ok(Stmt::If(c.duplicate(alloc)?, then_part, else_part))
-}
-
 /// The statement with `changed` in a branch.
 fn with_block(alloc: Global, s: &Stmt, which: Branch, changed: Block) -> Result<Stmt, AllocError>
     ensures { IfOk result (λ a. statement a ≡ with_branch (branch_taken which) (block changed) (statement s.now)) }
 {
     match (s, which) {
-        (Stmt::If(c, _, else_part), Branch::Main) => branch_of(
+        (Stmt::If(c, _, else_part), Branch::Main) => Stmt::branch_like(
             alloc,
             c,
             changed,
             else_part.duplicate(alloc)?,
         ),
-        (Stmt::If(c, then_part, _), Branch::Else) => branch_of(
+        (Stmt::If(c, then_part, _), Branch::Else) => Stmt::branch_like(
             alloc,
             c,
             then_part.duplicate(alloc)?,
             changed,
         ),
-        (Stmt::For(b, lo, hi, _), Branch::Main) => loop_of(alloc, b, lo, hi, changed),
+        (Stmt::For(b, lo, hi, _), Branch::Main) => Stmt::loop_like(alloc, b, lo, hi, changed),
         _ => s.duplicate(alloc),
     }
 }
@@ -161,12 +137,8 @@ fn with_inner(
     ensures { IfOk result (λ all. (a : Statement) → slice_get b.now index ≡ Some a → all ≡ take index b.now ++ with_branch (branch_taken which) (block changed) a ∷ drop (index + 1) b.now) }
 {
     let _length = b.len();
-    let changed = Block::single(
-        alloc,
-        with_block(alloc, b.statement(index), which, changed)?,
-    )?;
     let mut made = b.piece(alloc, 0, index)?;
-    made.append(changed)?;
+    made.push(with_block(alloc, b.statement(index), which, changed)?)?;
     made.append_part(alloc, b, index + 1, b.len())?;
     Ok(made)
 }
