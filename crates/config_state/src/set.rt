@@ -71,15 +71,6 @@ impl FieldSet {
         self.held.len()
     }
 
-    /// A copy of the set.
-    pub fn duplicate(&self, alloc: Global) -> Result<FieldSet, AllocError>
-        ensures { IfOk result (Changed (λ f held. held) self.now) }
-    {
-        let mut copied = FieldSet::empty(alloc, self.len())?;
-        copied.unite(self);
-        Ok(copied)
-    }
-
     /// Takes a field out of the set.
     pub fn remove(&mut self, f: FieldId)
         ensures { Changed (λ g held. held && not (g == f.0)) self.old self.new }
@@ -87,28 +78,6 @@ impl FieldSet {
         let index = f.0 as usize;
         if index < self.held.len() {
             self.held[index] = false;
-        }
-    }
-
-    /// Takes the fields of another set out of this one.
-    pub fn subtract(&mut self, other: &FieldSet)
-        ensures { Changed (λ f held. held && not (contains other.now f)) self.old self.new }
-    {
-        for k in 0..self.held.len() {
-            if other.contains(k) {
-                self.held[k] = false;
-            }
-        }
-    }
-
-    /// Takes the fields out of the set that are not in another one.
-    pub fn intersect(&mut self, other: &FieldSet)
-        ensures { Changed (λ f held. held && contains other.now f) self.old self.new }
-    {
-        for k in 0..self.held.len() {
-            if !other.contains(k) {
-                self.held[k] = false;
-            }
         }
     }
 
