@@ -8,7 +8,7 @@ use text_lexer::place::Place;
 use thiserror::Error;
 
 /// What is wrong with a text.
-#[derive(Clone, Copy, Debug, PartialEq, Eq, Error)]
+#[derive(Clone, Copy, Debug, Error)]
 pub enum ReadKind {
     /// There was no memory.
     #[error("Memory")]
@@ -34,7 +34,7 @@ pub enum ReadKind {
 }
 
 /// What is wrong with a text, and where: line and column count from 1. Both are 0 for want of memory.
-#[derive(Clone, Copy, Debug, PartialEq, Eq)]
+#[derive(Clone, Copy)]
 pub struct ReadError {
     pub line: u32,
     pub column: u32,
