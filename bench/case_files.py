@@ -1,4 +1,4 @@
-"""Reads and writes the files of cases of crates/cases, and reads the tables of crates/inside_cases; docs/TESTING.md says their form."""
+"""Reads and writes the files of cases of crates/cases, and reads the tables of bench/inside; docs/TESTING.md says their form."""
 
 import re
 

@@ -6,6 +6,7 @@ import random
 from types import SimpleNamespace
 
 CONFIG = {"Cfg.n": "size", "Cfg.k": "index", "Cfg.b": "bool"}
+CELLS = ["i8", "i16", "i32", "ui8"]
 
 
 # ---- the text
@@ -43,7 +44,7 @@ def lines(st, by, unit):
     if op == "for":
         return [f"{pad}for {st[1]} in seq({text_of(st[2])}, {text_of(st[3])}):", *block(st[4], by + 1, unit)]
     if op == "alloc":
-        return [f"{pad}{st[1]}: {access('i32', st[2])}"]
+        return [f"{pad}{st[1]}: {access(st[3], st[2])}"]
     if op == "view":
         return [f"{pad}{st[1]} = {window(st[2], st[3])}"]
     kinds = [kind for _, kind, _ in unit[st[1]].params]
@@ -54,14 +55,14 @@ def block(body, by, unit):
     return [line for st in body for line in lines(st, by, unit)]
 
 
-def param(name, kind, dims):
-    return f"{name}: {access('i32' if kind == 'tensor' else '[i32]', dims) if dims else kind}"
+def param(name, kind, dims, cell):
+    return f"{name}: {access(cell if kind == 'tensor' else f'[{cell}]', dims) if dims else kind}"
 
 
 def unit_text(unit):
     out = ["@config", "class Cfg:", *(f"    {f[4:]}: {kind}" for f, kind in CONFIG.items())]
     for name, p in unit.items():
-        out += ["@proc", f"def {name}({', '.join(param(*q) for q in p.params)}):", *(f"    assert {text_of(c)}" for c in p.asserts), *block(p.body, 1, unit)]
+        out += ["@proc", f"def {name}({', '.join(param(*q, p.cells.get(q[0])) for q in p.params)}):", *(f"    assert {text_of(c)}" for c in p.asserts), *block(p.body, 1, unit)]
     return "\n".join(out) + "\n"
 
 
@@ -71,6 +72,7 @@ class Maker:
     def __init__(self, rng):
         self.rng = rng
         self.unit = {}
+        self.cell = self.pick(CELLS)
 
     def fresh(self, letter):
         self.made += 1
@@ -81,6 +83,10 @@ class Maker:
 
     def pick(self, items):
         return self.rng.choice(list(items))
+
+    def cells(self):
+        """The type of a buffer's cells, for most buffers of a unit the same."""
+        return self.cell if self.often(0.8) else self.pick(CELLS)
 
     def nudged(self, e, p=0.04):
         return (self.pick("+-"), e, ("lit", 1)) if self.often(p) else e
@@ -129,31 +135,61 @@ class Maker:
         """A call whose sizes come from the buffers that it is given."""
         if not self.unit:
             return ("pass",)
-        name, q = self.pick(self.unit.items())
+        name, q = self.pick([*self.unit.items(), *3 * [p for p in self.unit.items() if p[0] == "pair"]])
         values = {n: self.argument(kind, names, loops) for n, kind, _ in q.params if kind in ("size", "index", "bool")}
-        args, used = {}, set()
+        args, passed = {}, {}
         for n, kind, dims in q.params:
             if kind in values or not dims:
                 continue
-            fits = [x for x, ds in names.buffers.items() if x not in names.views and x not in used and (len(ds) == len(dims) and x not in names.windows or kind == "window" and len(ds) >= len(dims))]
+            fits = [x for x in names.buffers if names.cells[x] == q.cells[n] and self.fits(x, kind, dims, names, passed)]
             if not fits:
                 return ("pass",)
-            x = self.pick(fits)
-            used.add(x)
-            given = list(names.buffers[x])
-            coords = []
-            while len(given) - len(coords) > len(dims):
-                coords.append((self.index(given[len(coords)], loops),))
-            left = given[len(coords):]
-            if kind == "window" and (coords or self.often(0.5)):
-                spans = [self.span(d, loops) for d in left]
-                coords += spans
-                left = [b if a == ("lit", 0) else ("-", b, a) for a, b in spans]
+            again = [x for x in fits if names.roots[x] in passed]
+            x = self.pick(again if again and self.often(0.6) else fits)
+            before = passed.get(names.roots[x])
+            coords = [] if kind == "tensor" else self.part(names.buffers[x], len(dims), loops, sum(k == "window" for _, k, _ in q.params) > 1)
+            if before and before[0] == x and sum(len(c) == 2 for c in before[1]) == len(dims) and self.often(0.8):
+                coords = self.beside(before[1])
+            passed[names.roots[x]] = None if kind == "tensor" else (x, coords)
+            spans = [c for c in coords if len(c) == 2]
+            left = [b if a == ("lit", 0) else ("-", b, a) for a, b in spans] if coords else names.buffers[x]
             for d, e in zip(dims, left):
                 if d[0] == "var" and self.often(0.97):
                     values[d[1]] = e
             args[n] = (x, coords)
         return ("call", name, [values[n] if n in values else args[n] for n, _, _ in q.params])
+
+    def fits(self, x, kind, dims, names, passed):
+        """Whether a buffer may be passed, next to those of the roots that are passed: to a tensor only alone."""
+        root, rank = names.roots[x], len(names.buffers[x])
+        if kind == "tensor":
+            return rank == len(dims) and x not in names.windows | names.views and root not in passed
+        return rank >= len(dims) and (root not in passed or passed[root] is not None)
+
+    def part(self, given, rank, loops, one_of_several):
+        """A window of that rank, with room beside it where others are passed too, or no coordinates for a whole buffer."""
+        points = [(self.index(d, loops),) for d in given[:len(given) - rank]]
+        if not points and self.often(0.1 if one_of_several else 0.5):
+            return []
+        return points + [self.short(d, loops) if one_of_several and self.often(0.7) else self.span(d, loops) for d in given[len(points):]]
+
+    def short(self, extent, loops):
+        """Half of an extent, or one index of it."""
+        if extent[0] == "lit" and extent[1] > 1 and self.often(0.5):
+            return (("lit", 0), ("lit", extent[1] // 2))
+        a = self.pick([("lit", 0), self.index(extent, loops)])
+        return (a, ("+", a, ("lit", 1)))
+
+    def beside(self, coords):
+        """A window next to another one, in one dimension."""
+        k = self.rng.randrange(len(coords))
+        a, *rest = coords[k]
+        if rest:
+            extent = rest[0] if a == ("lit", 0) else ("-", rest[0], a)
+            moved = self.pick([(rest[0], ("+", rest[0], extent))] * 3 + [(("-", a, extent), a)])
+        else:
+            moved = (self.pick([("+", a, ("lit", 1)), ("-", a, ("lit", 1))]),)
+        return coords[:k] + [moved] + coords[k + 1:]
 
     def statement(self, depth, names, loops):
         kind = self.pick(["="] * 3 + ["+="] * 2 + ["for"] * 5 + ["if"] * 3 + ["alloc", "view", "config"] + ["call"] * 3)
@@ -174,14 +210,15 @@ class Maker:
         if kind == "alloc":
             t = self.fresh("t")
             dims = [self.extent(names) for _ in range(self.pick([0, 1, 1, 2]))]
-            names.buffers[t] = dims
-            return ("alloc", t, dims)
+            names.buffers[t], names.cells[t], names.roots[t] = dims, self.cells(), t
+            return ("alloc", t, dims, names.cells[t])
         if kind == "view":
             x, dims = self.pick(names.buffers.items())
             if dims:
                 w = self.fresh("w")
                 coords = [self.span(dims[0], loops)] + [self.span(d, loops) if self.often(0.5) else (self.index(d, loops),) for d in dims[1:]]
                 names.buffers[w] = [("-", c[1], c[0]) for c in coords if len(c) == 2]
+                names.cells[w], names.roots[w] = names.cells[x], names.roots[x]
                 names.views.add(w)
                 return ("view", w, x, coords)
         if kind == "config":
@@ -196,18 +233,19 @@ class Maker:
         return ("+=" if kind == "+=" else "=", x, indices, [self.place(names, loops) for _ in range(self.rng.randint(0, 2))])
 
     def body(self, depth, names, loops):
-        names = SimpleNamespace(sizes=names.sizes, indices=names.indices, bools=names.bools, buffers=dict(names.buffers), windows=names.windows, views=set(names.views))
+        names = SimpleNamespace(sizes=names.sizes, indices=names.indices, bools=names.bools, buffers=dict(names.buffers), windows=names.windows,
+                                views=set(names.views), cells=dict(names.cells), roots=dict(names.roots))
         return [self.statement(depth, names, loops) for _ in range(self.rng.randint(1, 2))]
 
     def procedure(self):
         self.made = 0
         names = SimpleNamespace(sizes=[self.fresh("n") for _ in range(self.rng.randint(1, 2))], indices=[self.fresh("k")] if self.often(0.3) else [],
-                                bools=[self.fresh("b")] if self.often(0.3) else [], buffers={}, windows=set(), views=set())
+                                bools=[self.fresh("b")] if self.often(0.3) else [], buffers={}, windows=set(), views=set(), cells={}, roots={})
         params = [(n, "size", []) for n in names.sizes] + [(k, "index", []) for k in names.indices] + [(b, "bool", []) for b in names.bools]
         asserts = []
         for _ in range(self.rng.randint(1, 3)):
             x, kind = self.fresh("x"), self.pick(["tensor", "window"])
-            names.buffers[x] = [self.extent(names) for _ in range(self.rng.randint(1, 2))]
+            names.buffers[x], names.cells[x], names.roots[x] = [self.extent(names) for _ in range(self.rng.randint(1, 2))], self.cells(), x
             params.append((x, kind, names.buffers[x]))
             if kind == "window":
                 names.windows.add(x)
@@ -215,9 +253,20 @@ class Maker:
                 asserts.append(("==", ("stride", x, len(names.buffers[x]) - 1), ("lit", 1)))
         if self.often(0.3):
             asserts.append(self.pick([("<=", ("var", names.sizes[0]), ("lit", 4)), ("<", ("lit", 1), ("var", names.sizes[0])), ("<", ("field", "Cfg.k"), ("lit", 5))]))
-        return SimpleNamespace(params=params, asserts=asserts, body=self.body(3, names, []))
+        return SimpleNamespace(params=params, asserts=asserts, body=self.body(3, names, []), cells=names.cells)
+
+    def pair(self):
+        """A procedure of two windows of one length, of which it sets one, or adds to it."""
+        n, x, y, i = ("n1", "x2", "x3", "i4")
+        there = [(z, [("var", i)]) for z in (x, y)]
+        self.rng.shuffle(there)
+        body = [("for", i, ("lit", 0), ("var", n), [(self.pick(["=", "+="]), *there[0], [there[1]])])]
+        params = [(n, "size", []), (x, "window", [("var", n)]), (y, "window", [("var", n)])]
+        return SimpleNamespace(params=params, asserts=[], body=body, cells={x: self.cell, y: self.cell})
 
     def make(self):
+        if self.often(0.4):
+            self.unit["pair"] = self.pair()
         for k in range(self.rng.randint(1, 3)):
             self.unit[f"p{k}"] = self.procedure()
         return self.unit

@@ -143,6 +143,34 @@ def step(unit, st, s):
         call(unit[st[1]], unit, st[2], s)
 
 
+def end(side):
+    return side[1] + (side[2] if side[0] == "range" else 1)
+
+
+def meet(a, b):
+    """Whether two views have a cell in common."""
+    return a[0] == b[0] and all(s[1] < end(t) and t[1] < end(s) for s, t in zip(a[1], b[1]))
+
+
+def written(unit, body, roots):
+    """The buffers that a block writes or reduces, by the names of their roots."""
+    out = set()
+    for st in body:
+        if st[0] in ("=", "+="):
+            out.add(roots.get(st[1], st[1]))
+        elif st[0] == "if":
+            out |= written(unit, st[2], roots) | written(unit, st[3], roots)
+        elif st[0] == "for":
+            out |= written(unit, st[4], roots)
+        elif st[0] == "view":
+            roots = {**roots, st[1]: roots.get(st[2], st[2])}
+        elif st[0] == "call":
+            callee = unit[st[1]]
+            there = written(unit, callee.body, {})
+            out |= {roots.get(arg[0], arg[0]) for (name, _, _), arg in zip(callee.params, st[2]) if name in there}
+    return out
+
+
 def call(callee, unit, args, s):
     t = SimpleNamespace(control={}, buffers={}, views={}, fields=s.fields)
     given = []
@@ -154,6 +182,10 @@ def call(callee, unit, args, s):
         test(kind != "size" or n >= 1)
         t.control[name] = n
         given.append(None)
+    writes = written(unit, callee.body, {})
+    passed = [(name in writes, seen) for (name, _, _), seen in zip(callee.params, given) if seen]
+    for (w, a), (v, b) in itertools.combinations(passed, 2):
+        test(not (w or v) or not meet(a, b))
     for (name, kind, dims), seen in zip(callee.params, given):
         if seen:
             sizes = [number(t, d) for d in dims]

@@ -1,7 +1,7 @@
 """A model of the readers of schedules, patterns and names, written apart from their code; reader_model.py says how it goes.
 
-`bench/schedule_tables` checks the tables of crates/inside_cases with it, and makes their rows of changes. What is read is written in
-one line, as crates/inside_cases/src/schedules.rt says.
+`bench/schedule_tables` checks the tables of bench/inside with it, and makes their rows of changes. What is read is written in
+one line, as bench/inside/src/schedules.program says.
 """
 
 import re

@@ -6,6 +6,7 @@ ghost use Rattle.exo_tree.specs.PlainParam.{parameter_kind};
 ghost use Rattle.exo_tree.specs.PlainStatement.{statement};
 ghost use Rattle.exo_tree.specs.PlainProcedure.{procedure};
 ghost use Rattle.exo_tree.specs.PlainUnit.{program};
+ghost use Rattle.affine_places.specs.Roots as plain;
 ghost use Rattle.affine_places.specs.Roots.{no_roots, own_root, with_root, with_kind, with_params, with_view, with_block, with_statement, roots_of, are_extents, kind_has_extents, params_have_extents, block_has_extents, statement_has_extents, has_extents, unit_roots, unit_has_extents};
 ghost use Rattle.affine_places.specs.Seen.{plain_layout, plain_root, roots_in};
 
@@ -37,6 +38,16 @@ impl<'a> Roots<'a> {
         ensures { option_map plain_root (option_copied result) ≡ roots_in self.now x.0 }
     {
         self.table.get(&x.0)
+    }
+
+    /// The parameter or allocation of which a name sees a part; None where the name stands for no buffer.
+    pub fn root(&self, x: Id) -> Option<Id>
+        ensures { option_map (λ (y : Id). y.0) result ≡ option_map (λ (r : plain.Rooted). r.root) (roots_in self.now x.0) }
+    {
+        match self.get(x) {
+            Some(found) => Some(found.root),
+            None => None,
+        }
     }
 
     fn insert(&mut self, x: Id, r: Rooted<'a>) -> Result<(), AllocError>

@@ -9,3 +9,5 @@ pub mod CaseLists
 pub mod FormulaLists
 pub mod Answering
 pub mod RowLists
+mod Terms
+mod Within

@@ -5,9 +5,11 @@ mod case;
 mod context;
 mod gathering;
 pub mod laws;
+mod list;
 mod numbering;
 mod obligation;
 mod own;
 
 pub use context::Context;
+pub use list::OwedList;
 pub use obligation::{Obligation, systems, systems_together};

@@ -10,22 +10,25 @@ use Rattle.exo_meaning.specs.Run.{roots_after}
 use Rattle.exo_meaning.specs.Units.{Scope, ControlName, plainly, with_fields, with_strides, sort_in, has_rank, is_control, are_controls, is_condition, is_access, is_datum, is_window, is_write, are_for, share_nothing_written, is_call, is_new, is_empty, is_short, is_rank, with_name, scope_after, spans, is_block, is_statement, field_kind}
 use Rattle.affine_forms.specs.Forms.{keeps_rules}
 use Rattle.affine_forms.specs.Formulas.{condition_keeps_rules}
+use Rattle.affine_places.specs.Roots.{Roots}
 use Rattle.text_show.specs.Words.{Words, words_of}
 use Rattle.check_claims.specs.Pairs.{flat_zip}
-use Rattle.check_claims.specs.Claim.{Claim, Placed}
+use Rattle.check_claims.specs.Claim.{Claim, Apart, Placed}
 use Rattle.check_claims.specs.Extents.{Extents, with_extents, span_extent, span_extents, dims_of, with_params, with_block, with_statement}
 use Rattle.check_claims.specs.Arguments.{control_under}
 use Rattle.check_claims.specs.Claims.{asserted, as_shown, at_least_one, one_index, index_claims, coord_claims, window_claims, read_claims, store_claims, argument_window, given_claims, argument_size, argument_extents, equal_extents, passed_extents, call_claims, write_claims, own_claims, placed_at, into, block_claims, inner_claims, param_claims}
+use Rattle.check_claims.specs.Claims.{written_by, must_be_apart, pairs_with, pair_claims}
+use Rattle.bounds_check.specs.Laws.{claim_keeps_rules}
 use Rattle.bounds_check.proofs.Affine.{coord_keeps_rules, argument_keeps_rules, dims_keep_rules, all_pass, all_affine, window_affine, given_affine, arguments_affine}
 use Rattle.bounds_check.proofs.Under.{control_affine, condition_under_affine}
 
 -- ---- lists
 
 abbrev says_affine : Claim → Bool
-says_affine c = condition_keeps_rules c.says
+says_affine c = claim_keeps_rules c
 
 abbrev pub claim_affine : Placed → Bool
-claim_affine c = condition_keeps_rules c.claim.says
+claim_affine c = claim_keeps_rules c.claim
 
 abbrev All : List Claim → Type 0
 All cs = list_all says_affine cs ≡ true
@@ -86,6 +89,28 @@ pub record CalleeAffine (q : Procedure) : Type 0 where
 abbrev pub AreCalleesAffine : Program → Type 0
 AreCalleesAffine u = (k : ℕ) (q : Procedure) → slice_get u.procedures k ≡ Some q → CalleeAffine q
 
+-- two arguments have no condition
+module _ (roots : Roots) (writes : ℕ → Bool) where
+  pair_affine : (j : ℕ) (p : Param) (a : Argument) (k : ℕ) (qs : List Param) (args : List Argument)
+      → All (pairs_with roots writes j p a k qs args)
+  pair_affine j p a k [] args = refl
+  pair_affine j p a k (q ∷ qs) [] = refl
+  pair_affine j p a k (q ∷ qs) (b ∷ args) =
+      by (must_be_apart roots writes p a q b) (pair_affine j p a (suc k) qs args)
+    where
+      by : (t : Bool) → All (pairs_with roots writes j p a (suc k) qs args)
+          → All ((if t then Apart j k ∷ [] else []) ++ pairs_with roots writes j p a (suc k) qs args)
+      by true h = h
+      by false h = h
+
+  pub pairs_affine : (j : ℕ) (ps : List Param) (args : List Argument) → All (pair_claims roots writes j ps args)
+  pairs_affine j [] args = refl
+  pairs_affine j (p ∷ ps) [] = refl
+  pairs_affine j (p ∷ ps) (a ∷ args) =
+      appended says_affine (pairs_with roots writes j p a (suc j) ps args)
+      (pair_claims roots writes (suc j) ps args)
+      (pair_affine j p a (suc j) ps args) (pairs_affine (suc j) ps args)
+
 module _ (w : Words) where
   size_affine : (d : Control) → keeps_rules d ≡ true → says_affine (at_least_one w d) ≡ true
   size_affine d h = h
@@ -131,7 +156,7 @@ module _ (w : Words) where
   equal_claims : (es dims : List Control) → list_all keeps_rules es ≡ true → list_all keeps_rules dims ≡ true → All (equal_extents w es dims)
   equal_claims = zipped keeps_rules keeps_rules (λ e d. as_shown w (Eq e d) ∷ []) (λ e d h k. and_from (keeps_rules e && keeps_rules d) true (and_from (keeps_rules e) (keeps_rules d) h k) refl)
 
-  module _ (u : Program) (extents : Extents) (known : AreAffine extents) where
+  module _ (u : Program) (extents : Extents) (roots : Roots) (known : AreAffine extents) where
     indices_affine : (x : ℕ) (is : List Control) → list_all keeps_rules is ≡ true → All (index_claims w is (extents x))
     indices_affine x is h = zipped keeps_rules keeps_rules (one_index w) index_affine is (extents x) h (known x)
 
@@ -150,22 +175,25 @@ module _ (w : Words) where
     passed_affine (Whole x) h = known x
     passed_affine (Window x coords) h = spans_affine coords h
 
-    called_affine : (q : Procedure) (args : List Argument) → CalleeAffine q → list_all argument_keeps_rules args ≡ true → All (call_claims w u extents (Some q) args)
-    called_affine q args good h =
+    called_affine : (writes : ℕ → Bool) (q : Procedure) (args : List Argument) → CalleeAffine q → list_all argument_keeps_rules args ≡ true → All (call_claims w u extents roots writes (Some q) args)
+    called_affine writes q args good h =
         let windows = flat_mapped argument_keeps_rules says_affine (argument_window w extents) argument_claims args h in
         let sizes = zipped dims_keep_rules argument_keeps_rules (argument_size w) (λ p a k l. kind_size p.kind a l) q.params args good.params h in
         let parts = zipped dims_keep_rules argument_keeps_rules (passed_extents w extents q.params args)
         (λ p a k l. equal_claims (argument_extents w extents a) (map (control_under q.params args) (dims_of p.kind)) (passed_affine a l) (mapped keeps_rules keeps_rules (control_under q.params args) (control_affine q.params args h) (dims_of p.kind) k)) q.params args good.params h in
+        let pairs = pairs_affine roots writes 0 q.params args in
         let rest = mapped condition_keeps_rules says_affine (asserted (words_of u q) q.params args) (condition_under_affine q.params args h) q.asserts good.asserts in
         let first = flat_map (argument_window w extents) args in
         let second = flat_zip (argument_size w) q.params args in
         let third = flat_zip (passed_extents w extents q.params args) q.params args in
-        appended says_affine (first ++ second ++ third) (map (asserted (words_of u q) q.params args) q.asserts)
-        (appended says_affine (first ++ second) third (appended says_affine first second windows sizes) parts) rest
+        let fourth = pair_claims roots writes 0 q.params args in
+        appended says_affine (first ++ second ++ third ++ fourth) (map (asserted (words_of u q) q.params args) q.asserts)
+        (appended says_affine (first ++ second ++ third) fourth
+        (appended says_affine (first ++ second) third (appended says_affine first second windows sizes) parts) pairs) rest
 
-    call_affine : (o : Option Procedure) (args : List Argument) → ((q : Procedure) → o ≡ Some q → CalleeAffine q) → list_all argument_keeps_rules args ≡ true → All (call_claims w u extents o args)
-    call_affine None args good h = refl
-    call_affine (Some q) args good h = called_affine q args (good q refl) h
+    call_affine : (writes : ℕ → Bool) (o : Option Procedure) (args : List Argument) → ((q : Procedure) → o ≡ Some q → CalleeAffine q) → list_all argument_keeps_rules args ≡ true → All (call_claims w u extents roots writes o args)
+    call_affine writes None args good h = refl
+    call_affine writes (Some q) args good h = called_affine writes q args (good q refl) h
 
     -- ---- statements
 
@@ -206,7 +234,7 @@ module _ (w : Words) where
       -- ---- statements and blocks
 
       module _ (memories : ℕ) (callees : ℕ → Option Callee) (called : AreCalleesAffine u) where
-        own_affine : (scope : Scope) (root : ℕ → ℕ) (a : Statement) → is_statement fields memories callees scope root a ≡ true → All (own_claims w u extents a)
+        own_affine : (scope : Scope) (root : ℕ → ℕ) (a : Statement) → is_statement fields memories callees scope root a ≡ true → All (own_claims w u extents roots a)
         own_affine scope root (Assign x is e) h = store_affine scope x is e h
         own_affine scope root (Reduce x is e) h = store_affine scope x is e h
         own_affine scope root (Config f a) h = write_claim (field_kind u.fields f) a (written_affine scope (fields f) a h)
@@ -219,25 +247,25 @@ module _ (w : Words) where
         own_affine scope root (View v x coords) h =
             let p = (and_parts (is_new scope v) (is_window fields scope x coords && nat_lt 0 (spans coords)) h).1 in
             windows_affine x coords (window_affine fields scope x coords (and_parts (is_window fields scope x coords) (nat_lt 0 (spans coords)) p).0)
-        own_affine scope root (Call k args) h = call_affine (slice_get u.procedures k) args (called k) (arguments_of_call scope root (callees k) args h)
+        own_affine scope root (Call k args) h = call_affine (written_by u k) (slice_get u.procedures k) args (called k) (arguments_of_call scope root (callees k) args h)
 
         abbrev AllPlaced : List Placed → Type 0
         AllPlaced cs = list_all claim_affine cs ≡ true
 
         mutual
-          pub block_affine : (outer : Path) (branch : Branch) (n : ℕ) (scope : Scope) (root : ℕ → ℕ) (b : Block) → is_block fields memories callees scope root b ≡ true → AllPlaced (block_claims w u extents outer branch n b)
+          pub block_affine : (outer : Path) (branch : Branch) (n : ℕ) (scope : Scope) (root : ℕ → ℕ) (b : Block) → is_block fields memories callees scope root b ≡ true → AllPlaced (block_claims w u extents roots outer branch n b)
           block_affine outer branch n scope root end h = refl
           block_affine outer branch n scope root (next a b) h =
               let p = and_parts (is_statement fields memories callees scope root a) (is_block fields memories callees (scope_after a scope) (roots_after a root) b) h in
               let here = into outer branch n in
-              let inner = inner_claims w u extents here a in
-              let rest = block_claims w u extents outer branch (suc n) b in
-              let own = placed_at here (own_claims w u extents a) in
+              let inner = inner_claims w u extents roots here a in
+              let rest = block_claims w u extents roots outer branch (suc n) b in
+              let own = placed_at here (own_claims w u extents roots a) in
               appended claim_affine (own ++ inner) rest
-              (appended claim_affine own inner (placed_affine here (own_claims w u extents a) (own_affine scope root a p.0)) (inner_affine here scope root a p.0))
+              (appended claim_affine own inner (placed_affine here (own_claims w u extents roots a) (own_affine scope root a p.0)) (inner_affine here scope root a p.0))
               (block_affine outer branch (suc n) (scope_after a scope) (roots_after a root) b p.1)
 
-          inner_affine : (path : Path) (scope : Scope) (root : ℕ → ℕ) (a : Statement) → is_statement fields memories callees scope root a ≡ true → AllPlaced (inner_claims w u extents path a)
+          inner_affine : (path : Path) (scope : Scope) (root : ℕ → ℕ) (a : Statement) → is_statement fields memories callees scope root a ≡ true → AllPlaced (inner_claims w u extents roots path a)
           inner_affine path scope root (Assign x is e) h = refl
           inner_affine path scope root (Reduce x is e) h = refl
           inner_affine path scope root (Config f a) h = refl
@@ -246,7 +274,7 @@ module _ (w : Words) where
               let p = (and_parts (is_condition fields with_fields scope c) ((not (is_empty a) && (is_short a && is_short b)) && (is_block fields memories callees scope root a && is_block fields memories callees scope root b)) h).1 in
               let q = (and_parts (not (is_empty a) && (is_short a && is_short b)) (is_block fields memories callees scope root a && is_block fields memories callees scope root b) p).1 in
               let r = and_parts (is_block fields memories callees scope root a) (is_block fields memories callees scope root b) q in
-              appended claim_affine (block_claims w u extents path Main 0 a) (block_claims w u extents path Else 0 b) (block_affine path Main 0 scope root a r.0) (block_affine path Else 0 scope root b r.1)
+              appended claim_affine (block_claims w u extents roots path Main 0 a) (block_claims w u extents roots path Else 0 b) (block_affine path Main 0 scope root a r.0) (block_affine path Else 0 scope root b r.1)
           inner_affine path scope root (For i lo hi b) h =
               let inner = with_name scope i (ControlName Index) in
               let p = (and_parts (is_new scope i) ((is_control fields plainly scope lo && is_control fields plainly scope hi) && ((not (is_empty b) && is_short b) && is_block fields memories callees inner root b)) h).1 in

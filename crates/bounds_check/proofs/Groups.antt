@@ -9,15 +9,14 @@ use Rattle.std.proofs.lemmas.Grind.{flat_map-append}
 use Rattle.exo_tree.specs.Tree.{Procedure, Program}
 use Rattle.exo_tree.specs.Places.{Branch, Main, Else, Path}
 use Rattle.affine_forms.specs.declared.error.FormError.TheVariants as form
-use Rattle.affine_forms.specs.Formulas.{condition_keeps_rules}
 use Rattle.affine_systems.specs.Outcomes.{Owed}
 use Rattle.affine_systems.specs.declared.obligation.Obligation.{Obligation}
 use Rattle.check_claims.specs.Claim.{Placed}
 use Rattle.check_claims.specs.Claims.{claims_of}
 use Rattle.check_facts.specs.Contexts.{IsPlaceOf}
 use Rattle.bounds_check.specs.Paths.{same_branch, same_path}
-use Rattle.bounds_check.specs.Limits.{are_within}
-use Rattle.bounds_check.specs.Laws.{is_place_of, may_be_owed}
+use Rattle.affine_systems.specs.Limits.{are_within}
+use Rattle.bounds_check.specs.Laws.{claim_keeps_rules, is_place_of, may_be_owed}
 use Rattle.bounds_check.specs.Obligations.{Fault, Wide, ManyCases, LargeSystem, ManyObligations, owed_for, owed_for_all, obligations_of, unless_refused, claim_fault, first_fault, list_fault}
 use Rattle.bounds_check.specs.Outcomes.{IsRefusal, AreObligations}
 use Rattle.bounds_check.specs.declared.error.CheckError.{CheckError}
@@ -149,14 +148,15 @@ module _ (u : Program) (p : Procedure) where
         go (Ok x) w = absurd w
         go (Err y) w = subst (λ z. IsRefusal z (list_fault u p)) (sym w) refused
 
-    pub rules_here : list_all (λ c. condition_keeps_rules c.claim.says) here ≡ true
+    pub rules_here : list_all (λ c. claim_keeps_rules c.claim) here ≡ true
     rules_here = go here both_owable.0
       where
-        go : (cs : List Placed) → list_all (may_be_owed p) cs ≡ true → list_all (λ c. condition_keeps_rules c.claim.says) cs ≡ true
+        go : (cs : List Placed) → list_all (may_be_owed p) cs ≡ true → list_all (λ c. claim_keeps_rules c.claim) cs ≡ true
         go [] h = refl
         go (c ∷ cs) h =
             let q = and_parts (may_be_owed p c) (list_all (may_be_owed p) cs) h in
-            and_from (condition_keeps_rules c.claim.says) (list_all (λ d. condition_keeps_rules d.claim.says) cs) (and_parts (condition_keeps_rules c.claim.says) (is_place_of c.place p) q.0).0 (go cs q.1)
+            and_from (claim_keeps_rules c.claim) (list_all (λ d. claim_keeps_rules d.claim) cs)
+            (and_parts (claim_keeps_rules c.claim) (is_place_of c.place p) q.0).0 (go cs q.1)
 
   pub onward_none : (out : List Owed) → Onward out [] → (list_fault u p ≡ None) × (out ≡ obligations_of u p)
   onward_none out left = (sym left.fault, sym (append-nil out) ∙ left.owed)
@@ -169,7 +169,7 @@ is_place (s ∷ path) p h = h
 
 pub place_of_first : {A : Type 0} (f : A → Placed) (p : Procedure) (xs : List A) (x : A) → slice_get xs 0 ≡ Some x → list_all (may_be_owed p) (map f xs) ≡ true → IsPlaceOf (f x).place p
 place_of_first f p [] x e h = cc
-place_of_first {A} f p (y ∷ xs) x e h = subst (λ z. IsPlaceOf (f z).place p) (some_is y x e) (is_place (f y).place p (and_parts (condition_keeps_rules (f y).claim.says) (is_place_of (f y).place p) (and_parts (may_be_owed p (f y)) (list_all (may_be_owed p) (map f xs)) h).0).1)
+place_of_first {A} f p (y ∷ xs) x e h = subst (λ z. IsPlaceOf (f z).place p) (some_is y x e) (is_place (f y).place p (and_parts (claim_keeps_rules (f y).claim) (is_place_of (f y).place p) (and_parts (may_be_owed p (f y)) (list_all (may_be_owed p) (map f xs)) h).0).1)
   where
     some_is : (a b : A) → Some a ≡ Some b → a ≡ b
     some_is a b k = cc

@@ -1,6 +1,6 @@
 -- What one claim owes, and why it is refused.
-use Rattle.std.proofs.Common.{◌≡◌, ℕ, nat_le, Bool, true, false, ◌&&◌, if◌then◌else◌, List, [], ◌∷◌, ◌++◌, map, length, Some, None, Result, Ok, Err, append-nil, refl, sym, ap, ◌∙◌, subst}
-use Rattle.std.specs.List.{list_all}
+use Rattle.std.proofs.Common.{◌≡◌, ℕ, nat_le, Bool, true, false, ◌&&◌, if◌then◌else◌, List, [], ◌∷◌, ◌++◌, map, length, Option, Some, None, Result, Ok, Err, Vec, append-nil, append_assoc, refl, sym, ap, ◌∙◌, subst}
+use Rattle.std.specs.List.{list_all, flat_map}
 use Rattle.std.specs.Result.{IsErrAnd}
 use Rattle.exo_tree.specs.Tree.{Condition, Procedure, ConfigField, Program}
 use Rattle.exo_tree.specs.Places.{Path}
@@ -12,17 +12,27 @@ use Rattle.affine_places.specs.Facts.{FieldFact, fact_of}
 use Rattle.affine_places.specs.Roots.{Roots, roots_of}
 use Rattle.affine_places.specs.Readings.{place_reading, place_flags, field_formula_fits}
 use Rattle.affine_systems.specs.Systems.{Stated, CasesPassed, SizePassed, Listed, systems, stated, is_small, failing_cases}
+use Rattle.affine_systems.specs.Limits.{are_within, Appended}
 use Rattle.affine_systems.specs.Outcomes as stating
 use Rattle.affine_systems.specs.Outcomes.{Owed, owed, plain_obligation, AreOwed}
 use Rattle.affine_systems.specs.declared.obligation.Obligation.{Obligation}
-use Rattle.check_claims.specs.Claim.{Placed}
-use Rattle.check_facts.specs.Contexts.{context_of, context_fits, condition_fits, facts_of}
+use Rattle.check_claims.specs.Claim.{Claim, Is, Apart, Placed}
+use Rattle.check_facts.specs.Contexts.{context_of, context_fits, facts_of}
 use Rattle.bounds_check.specs.Errors.{error_of}
-use Rattle.bounds_check.specs.Limits.{are_within}
-use Rattle.bounds_check.specs.Obligations.{Fault, Wide, ManyCases, LargeSystem, known_for, claim_formula, owed_for, claim_fits, claim_stated, stated_fault, unless_refused, claim_fault, first_fault}
-use Rattle.bounds_check.specs.Outcomes.{IsRefusal, Appended, Owes}
+use Rattle.exo_conflicts.specs.Outcomes.{Conflicting}
+use Rattle.exo_conflicts.specs.declared.standing.Standing.{Standing}
+use Rattle.exo_effects.specs.Accesses.{Access, access_of, use_fits}
+use Rattle.exo_effects.specs.Conflicts as conflict
+use Rattle.exo_effects.specs.Conflicts.{Listing, Lists, clashing, past_these, pair_fault, owed_behind, conflicts_of}
+use Rattle.exo_effects.specs.Orders.{Order, no_order}
+use Rattle.exo_effects.specs.Uses.{Use, argument_at}
+use Rattle.bounds_check.specs.Obligations.{Fault, Wide, ManyCases, LargeSystem, ManyObligations, formula_at}
+use Rattle.bounds_check.specs.Obligations.{argument_accesses, owed_for, owed_for_all, said_fits, claim_fits}
+use Rattle.bounds_check.specs.Obligations.{stated_fault, listing_fault, unless_refused, said_fault, claim_fault}
+use Rattle.bounds_check.specs.Obligations.{first_fault}
+use Rattle.bounds_check.specs.Outcomes.{IsRefusal, Owes}
+use Rattle.bounds_check.specs.Sites.{unit_at, proc_at, IsTold}
 use Rattle.bounds_check.specs.declared.error.CheckError.{CheckError}
-use Rattle.bounds_check.specs.declared.error.CheckError.TheVariants.{TooManyObligations, Form, Memory}
 
 -- a condition as it is read with roots and facts
 abbrev pub formula_read : Condition → List ConfigField → Roots → List FieldFact → Formula
@@ -41,72 +51,211 @@ systems_owed context claim os what place = go (nat_le (length (failing_cases con
     go true false h = absurd h
     go false small h = absurd h
 
-module _ (u : Program) (p : Procedure) (c : Placed) where
-  module _ (fields : List ConfigField) (roots : Roots) (facts : List FieldFact) (e : u.fields ≡ fields) (f : roots ≡ roots_of p) (g : facts ≡ facts_of u p c.place) where
-    pub same_formula : formula_read c.claim.says fields roots facts ≡ claim_formula u p c
-    same_formula i = formula_read c.claim.says (sym e i) (f i) (g i)
+-- the pairs that are owed for, where none of them is refused
+lists_are : (ctx : List Formula) (order : Order) (place : Path) (base : ℕ) (os : List Owed)
+    (ps : List (Access × Access)) (ws : List Owed)
+    → owed_behind ctx order place base os ps ≡ Lists ws
+    → ws ≡ os ++ flat_map (conflict.owed_for ctx order place base) ps
+lists_are ctx order place base os [] ws h =
+    let same : os ≡ ws = cc in
+    sym same ∙ sym (append-nil os)
+lists_are ctx order place base os (q ∷ ps) ws h =
+    by (pair_fault ctx order place base q) (are_within (os ++ here)) h (lists_are ctx order place base (os ++ here) ps ws)
+  where
+    here : List Owed
+    here = conflict.owed_for ctx order place base q
 
-    pub same_fits : fits_read c.claim.says fields roots facts ≡ condition_fits u p (known_for u p c) c.claim.says
-    same_fits i = fits_read c.claim.says (sym e i) (f i) (g i)
+    others : List Owed
+    others = flat_map (conflict.owed_for ctx order place base) ps
 
-  pub fits_where : (t : Bool) → context_fits u p c.place ≡ true → condition_fits u p (known_for u p c) c.claim.says ≡ t → claim_fits u p c ≡ t
-  fits_where t h k = ap (λ b. b && condition_fits u p (known_for u p c) c.claim.says) h ∙ k
+    rest : Listing
+    rest = owed_behind ctx order place base (os ++ here) ps
+
+    by : (f : Option conflict.Fault) (within : Bool)
+        → conflict.unless_refused ctx order place base f within rest ≡ Lists ws
+        → (rest ≡ Lists ws → ws ≡ (os ++ here) ++ others) → ws ≡ os ++ (here ++ others)
+    by (Some f) within e k = cc
+    by None true e k = k e ∙ append_assoc os here others
+    by None false e k = cc
+
+-- ---- one claim of a place
+
+module _ (u : Program) (p : Procedure) (place : Path) (c : Claim) where
+  abbrev it : Placed
+  it = record { place = place; claim = c }
+
+  unfit : claim_fits u p it ≡ false → claim_fault u p it ≡ Some Wide
+  unfit h = ap (λ b. if b then said_fault u p place c else Some Wide) h
+
+  fit : (why : Option Fault) → claim_fits u p it ≡ true → said_fault u p place c ≡ why → claim_fault u p it ≡ why
+  fit why h k = ap (λ b. if b then said_fault u p place c else Some Wide) h ∙ k
+
+  pub fits_where : (t : Bool) → context_fits u p place ≡ true → said_fits u p place c ≡ t → claim_fits u p it ≡ t
+  fits_where t h k = ap (λ b. b && said_fits u p place c) h ∙ k
 
   module _ (old : List Owed) where
-    faulty : (f : Fault) → claim_fault u p c ≡ Some f → first_fault u p old (c ∷ []) ≡ Some f
-    faulty f h = ap (λ o. unless_refused o (are_within (old ++ owed_for u p c)) None) h
+    faulty : (f : Fault) → claim_fault u p it ≡ Some f → first_fault u p old (it ∷ []) ≡ Some f
+    faulty f h = ap (λ o. unless_refused o (are_within (old ++ owed_for u p it)) None) h
 
-    unfit : claim_fits u p c ≡ false → claim_fault u p c ≡ Some Wide
-    unfit h = ap (λ b. if b then stated_fault (claim_stated u p c) else Some Wide) h
-
-    fit : (s : Stated) → claim_fits u p c ≡ true → claim_stated u p c ≡ s → claim_fault u p c ≡ stated_fault s
-    fit s h k = ap (λ b. if b then stated_fault (claim_stated u p c) else Some Wide) h ∙ ap stated_fault k
-
-    module _ {X : Type 0} (result : Result X CheckError) (new : List Owed) where
-      exit : (e : CheckError) → IsErrAnd result (λ r. r ≡ e) → IsRefusal e (first_fault u p old (c ∷ [])) → Owes result u p (c ∷ []) old new
-      exit e is h = go result is
-        where
-          go : (r : Result X CheckError) → IsErrAnd r (λ y. y ≡ e) → Owes r u p (c ∷ []) old new
-          go (Ok x) w = absurd w
-          go (Err y) w = subst (λ z. IsRefusal z (first_fault u p old (c ∷ []))) (sym w) h
-
-      -- its formula is too wide
-      pub refused_form : (e : FormError) (fits : Bool) → IsErrAnd result (λ r. r ≡ error_of e) → IsWide e fits → context_fits u p c.place ≡ true → fits ≡ condition_fits u p (known_for u p c) c.claim.says → Owes result u p (c ∷ []) old new
-      refused_form e fits is h k l = exit (error_of e) is (by e h)
-        where
-          by : (y : FormError) → IsWide y fits → IsRefusal (error_of y) (first_fault u p old (c ∷ []))
-          by form.TooManyCases w = absurd w
-          by form.SystemTooLarge w = absurd w
-          by form.WideNumber w = faulty Wide (unfit (fits_where false k (sym l ∙ w)))
-          by form.TooManySystems w = absurd w
-          by form.Memory w = tt
-
-      -- its systems are too many or too large
-      pub refused_systems : (e : FormError) → IsErrAnd result (λ r. r ≡ error_of e) → stating.IsRefusal e (claim_stated u p c) → claim_fits u p c ≡ true → Owes result u p (c ∷ []) old new
-      refused_systems e is h k = exit (error_of e) is (by e h)
-        where
-          by : (y : FormError) → stating.IsRefusal y (claim_stated u p c) → IsRefusal (error_of y) (first_fault u p old (c ∷ []))
-          by form.TooManyCases w = faulty ManyCases (fit CasesPassed k w)
-          by form.SystemTooLarge w = faulty LargeSystem (fit SizePassed k w)
-          by form.WideNumber w = absurd w
-          by form.TooManySystems w = absurd w
-          by form.Memory w = tt
-
-    -- its obligations come last, or are too many
-    pub owes_systems : {X : Type 0} (result : Result X CheckError) (new : List Owed) (os : List Obligation) → AreOwed os (claim_stated u p c) c.claim.text c.place → claim_fits u p c ≡ true → Appended result old (map plain_obligation os) new → Owes result u p (c ∷ []) old new
-    owes_systems {X} result new os h k a = go result (subst (λ l. Appended result old l new) all.1 a)
+    -- the error that is told is such a refusal
+    pub refused : {X : Type 0} (result : Result X CheckError) (new : List Owed) (e : CheckError)
+        → IsErrAnd result (λ r. r ≡ e) → IsRefusal e (first_fault u p old (it ∷ [])) → Owes result u p (it ∷ []) old new
+    refused {X} result new e is h = by result is
       where
-        all : (stated_fault (claim_stated u p c) ≡ None) × (map plain_obligation os ≡ owed_for u p c)
-        all = systems_owed (context_of u p c.place) (claim_formula u p c) os c.claim.text c.place h
+        by : (r : Result X CheckError) → IsErrAnd r (λ y. y ≡ e) → Owes r u p (it ∷ []) old new
+        by (Ok x) w = absurd w
+        by (Err y) w = subst (λ z. IsRefusal z (first_fault u p old (it ∷ []))) (sym w) h
 
-        none : claim_fault u p c ≡ None
-        none = fit (claim_stated u p c) k refl ∙ all.0
+    -- these are what it owes
+    module _ (os : List Owed) (h : (claim_fault u p it ≡ None) × (os ≡ owed_for u p it)) where
+      first : (t : Bool) → are_within (old ++ os) ≡ t → first_fault u p old (it ∷ []) ≡ unless_refused None t None
+      first t w i = unless_refused (h.0 i) ((ap (λ l. are_within (old ++ l)) (sym h.1) ∙ w) i) None
 
-        first : (t : Bool) → are_within (old ++ owed_for u p c) ≡ t → first_fault u p old (c ∷ []) ≡ unless_refused None t None
-        first t w i = unless_refused (none i) (w i) None
+      -- they come last
+      pub owes_all : (new : List Owed) → (are_within (old ++ os) ≡ true) × (new ≡ old ++ os)
+          → (first_fault u p old (it ∷ []) ≡ None) × (new ≡ old ++ owed_for_all u p (it ∷ []))
+      owes_all new w = (first true w.0, w.1 ∙ ap (λ l. old ++ l) (h.1 ∙ sym (append-nil (owed_for u p it))))
 
-        go : (r : Result X CheckError) → Appended r old (owed_for u p c) new → Owes r u p (c ∷ []) old new
-        go (Ok x) w = (first true w.0, w.1 ∙ ap (λ l. old ++ l) (sym (append-nil (owed_for u p c))))
-        go (Err TooManyObligations) w = first false w
-        go (Err (Form z)) w = absurd w
-        go (Err Memory) w = tt
+      -- or they are too many
+      pub too_many : (e : FormError) (new : List Owed) → Appended {A = Unit {0}} (Err e) old os new
+          → IsRefusal (error_of e) (first_fault u p old (it ∷ []))
+      too_many form.TooManyCases new w = absurd w
+      too_many form.SystemTooLarge new w = absurd w
+      too_many form.WideNumber new w = absurd w
+      too_many form.TooManySystems new w = first false w
+      too_many form.Memory new w = tt
+
+-- ---- a condition
+
+module _ (u : Program) (p : Procedure) (place : Path) (says : Condition) (text : List ℕ) where
+  abbrev is : Claim
+  is = Is says text
+
+  abbrev told : Stated
+  told = stated (context_of u p place) (formula_at u p place says)
+
+  module _ (fields : List ConfigField) (roots : Roots) (facts : List FieldFact) (e : u.fields ≡ fields) (f : roots ≡ roots_of p) (g : facts ≡ facts_of u p place) where
+    pub same_formula : formula_read says fields roots facts ≡ formula_at u p place says
+    same_formula i = formula_read says (sym e i) (f i) (g i)
+
+    pub same_fits : fits_read says fields roots facts ≡ said_fits u p place is
+    same_fits i = fits_read says (sym e i) (f i) (g i)
+
+  -- its formula is too wide
+  pub refused_form : (old : List Owed) (e : FormError) (fits : Bool) → IsWide e fits → context_fits u p place ≡ true
+      → fits ≡ said_fits u p place is → IsRefusal (error_of e) (first_fault u p old (it u p place is ∷ []))
+  refused_form old e fits h k l = by e h
+    where
+      by : (y : FormError) → IsWide y fits → IsRefusal (error_of y) (first_fault u p old (it u p place is ∷ []))
+      by form.TooManyCases w = absurd w
+      by form.SystemTooLarge w = absurd w
+      by form.WideNumber w = faulty u p place is old Wide (unfit u p place is (fits_where u p place is false k (sym l ∙ w)))
+      by form.TooManySystems w = absurd w
+      by form.Memory w = tt
+
+  -- its systems are too many or too large
+  pub refused_systems : (old : List Owed) (e : FormError) → stating.IsRefusal e told → claim_fits u p (it u p place is) ≡ true
+      → IsRefusal (error_of e) (first_fault u p old (it u p place is ∷ []))
+  refused_systems old e h k = by e h
+    where
+      by : (y : FormError) → stating.IsRefusal y told → IsRefusal (error_of y) (first_fault u p old (it u p place is ∷ []))
+      by form.TooManyCases w = faulty u p place is old ManyCases (fit u p place is (Some ManyCases) k (ap stated_fault w))
+      by form.SystemTooLarge w = faulty u p place is old LargeSystem (fit u p place is (Some LargeSystem) k (ap stated_fault w))
+      by form.WideNumber w = absurd w
+      by form.TooManySystems w = absurd w
+      by form.Memory w = tt
+
+  -- or these are what it owes
+  pub condition_owes : (os : List Obligation) → AreOwed os told text place → claim_fits u p (it u p place is) ≡ true
+      → (claim_fault u p (it u p place is) ≡ None) × (map plain_obligation os ≡ owed_for u p (it u p place is))
+  condition_owes os h k =
+      let all = systems_owed (context_of u p place) (formula_at u p place says) os text place h in
+      (fit u p place is None k all.0, all.1)
+
+-- as it is read at a place
+module _ (s : Standing) (says : Condition) (text : List ℕ) (fields : List ConfigField) (roots : Roots)
+    (facts : List FieldFact) (context : List Formula) (t : IsTold s fields roots facts context) where
+  abbrev here : Placed
+  here = record { place = s.path.now; claim = Is says text }
+
+  fits_there : fits_read says fields roots facts ≡ said_fits (unit_at s) (proc_at s) s.path.now (Is says text)
+  fits_there =
+      same_fits (unit_at s) (proc_at s) s.path.now says text fields roots facts t.fields_are t.roots_are t.facts_are
+
+  pub form_refused : (old : List Owed) (e : FormError) → IsWide e (fits_read says fields roots facts)
+      → IsRefusal (error_of e) (first_fault (unit_at s) (proc_at s) old (here ∷ []))
+  form_refused old e h =
+      refused_form (unit_at s) (proc_at s) s.path.now says text old e (fits_read says fields roots facts) h s.fits fits_there
+
+  module _ (f : Formula) (made : (fits_read says fields roots facts ≡ true) × (f ≡ formula_read says fields roots facts)) where
+    same_told : stated context f ≡ told (unit_at s) (proc_at s) s.path.now says text
+    same_told i =
+        stated (t.context_is i)
+        ((made.1
+        ∙ same_formula (unit_at s) (proc_at s) s.path.now says text fields roots facts t.fields_are t.roots_are t.facts_are) i)
+
+    fits : claim_fits (unit_at s) (proc_at s) here ≡ true
+    fits = fits_where (unit_at s) (proc_at s) s.path.now (Is says text) true s.fits (sym fits_there ∙ made.0)
+
+    pub systems_refused : (old : List Owed) (e : FormError) → stating.IsRefusal e (stated context f)
+        → IsRefusal (error_of e) (first_fault (unit_at s) (proc_at s) old (here ∷ []))
+    systems_refused old e h =
+        refused_systems (unit_at s) (proc_at s) s.path.now says text old e (subst (stating.IsRefusal e) same_told h) fits
+
+    pub systems_owe : (os : List Obligation) (what : List ℕ) → what ≡ text → AreOwed os (stated context f) what s.path.now
+        → (claim_fault (unit_at s) (proc_at s) here ≡ None)
+        × (map plain_obligation os ≡ owed_for (unit_at s) (proc_at s) here)
+    systems_owe os what same h =
+        condition_owes (unit_at s) (proc_at s) s.path.now says text os
+        (subst (λ q. AreOwed os q text s.path.now) same_told (subst (λ w. AreOwed os (stated context f) w s.path.now) same h))
+        fits
+
+-- ---- two arguments
+
+module _ (u : Program) (p : Procedure) (place : Path) (j k : ℕ) (h : context_fits u p place ≡ true) where
+  abbrev apart : Claim
+  apart = Apart j k
+
+  abbrev pub pair_fits : Bool
+  pair_fits = said_fits u p place (Apart j k)
+
+  abbrev pub pair_listing : Listing
+  pair_listing =
+      conflicts_of (context_of u p place) no_order place (argument_accesses u p place j) (argument_accesses u p place k)
+
+  -- what is answered of uses that are these
+  pub answered : {A : Type 0} (r : Result (Vec Obligation A) FormError) (us vs : List Use)
+      → us ≡ argument_at u p place j → vs ≡ argument_at u p place k
+      → Conflicting r (list_all use_fits us && list_all use_fits vs)
+      (conflicts_of (context_of u p place) no_order place (map access_of us) (map access_of vs))
+      → Conflicting r pair_fits pair_listing
+  answered r us vs e f =
+      subst (λ (q : List Use × List Use). Conflicting r (list_all use_fits q.0 && list_all use_fits q.1)
+      (conflicts_of (context_of u p place) no_order place (map access_of q.0) (map access_of q.1))) (λ i. (e i, f i))
+
+  -- the list is refused
+  pub refused_pair : (old : List Owed) (e : FormError) → Conflicting {A = Unit {0}} (Err e) pair_fits pair_listing
+      → IsRefusal (error_of e) (first_fault u p old (it u p place apart ∷ []))
+  refused_pair old form.TooManyCases w =
+      faulty u p place apart old ManyCases
+      (fit u p place apart (Some ManyCases) (fits_where u p place apart true h w.0) (ap listing_fault w.1))
+  refused_pair old form.SystemTooLarge w =
+      faulty u p place apart old LargeSystem
+      (fit u p place apart (Some LargeSystem) (fits_where u p place apart true h w.0) (ap listing_fault w.1))
+  refused_pair old form.WideNumber w =
+      faulty u p place apart old Wide (unfit u p place apart (fits_where u p place apart false h w))
+  refused_pair old form.TooManySystems w =
+      faulty u p place apart old ManyObligations
+      (fit u p place apart (Some ManyObligations) (fits_where u p place apart true h w.0) (ap listing_fault w.1))
+  refused_pair old form.Memory w = tt
+
+  -- or it is what they owe
+  pub pair_owes : {A : Type 0} (os : Vec Obligation A) → Conflicting (Ok os) pair_fits pair_listing
+      → (claim_fault u p (it u p place apart) ≡ None) × (map plain_obligation os.items ≡ owed_for u p (it u p place apart))
+  pair_owes os w =
+      let ctx = context_of u p place in
+      let xs = argument_accesses u p place j in
+      let ys = argument_accesses u p place k in (
+        fit u p place apart None (fits_where u p place apart true h w.0) (ap listing_fault w.1),
+        lists_are ctx no_order place (past_these ctx no_order xs ys) [] (clashing xs ys) (map plain_obligation os.items) w.1,
+      )

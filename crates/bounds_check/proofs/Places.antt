@@ -5,6 +5,7 @@ use Rattle.std.specs.Option.{is_some}
 use Rattle.std.proofs.lemmas.List.Folds.{list_all-map}
 use Rattle.exo_tree.specs.Tree.{Statement, Assign, Reduce, Config, Pass, If, For, Alloc, View, Call, Block, end, next, Program}
 use Rattle.exo_tree.specs.Places.{Branch, Main, Else, Step, Path, opened_in}
+use Rattle.affine_places.specs.Roots.{Roots}
 use Rattle.text_show.specs.Words.{Words}
 use Rattle.check_claims.specs.Claim.{Claim, Placed}
 use Rattle.check_claims.specs.Extents.{Extents}
@@ -27,7 +28,7 @@ all_same : {X : Type 0} (f : X → Bool) → ((x : X) → f x ≡ true) → (xs 
 all_same f h [] = refl
 all_same f h (x ∷ xs) = ap (λ t. t && list_all f xs) (h x) ∙ all_same f h xs
 
-module _ (w : Words) (u : Program) (extents : Extents) (test : Path → Bool) where
+module _ (w : Words) (u : Program) (extents : Extents) (roots : Roots) (test : Path → Bool) where
   abbrev here : Placed → Bool
   here c = test c.place
 
@@ -54,15 +55,15 @@ module _ (w : Words) (u : Program) (extents : Extents) (test : Path → Bool) wh
       before j = omega arith
 
   mutual
-    pub block_places : (outer : Path) (branch : Branch) (n : ℕ) (b : Block) → Passes outer branch n b → list_all here (block_claims w u extents outer branch n b) ≡ true
+    pub block_places : (outer : Path) (branch : Branch) (n : ℕ) (b : Block) → Passes outer branch n b → list_all here (block_claims w u extents roots outer branch n b) ≡ true
     block_places outer branch n end h = refl
     block_places outer branch n (next a b) h =
         let path = into outer branch n in
-        let inner = inner_claims w u extents path a in
-        let rest = block_claims w u extents outer branch (suc n) b in
-        let own = placed_at path (own_claims w u extents a) in
+        let inner = inner_claims w u extents roots path a in
+        let rest = block_claims w u extents roots outer branch (suc n) b in
+        let own = placed_at path (own_claims w u extents roots a) in
         appended here (own ++ inner) rest
-        (appended here own inner (own_places path (own_claims w u extents a) (ap (λ m. test (outer ++ step branch m ∷ [])) (nothing n) ∙ h 0 [] refl)) (inner_places outer branch n a b h))
+        (appended here own inner (own_places path (own_claims w u extents roots a) (ap (λ m. test (outer ++ step branch m ∷ [])) (nothing n) ∙ h 0 [] refl)) (inner_places outer branch n a b h))
         (block_places outer branch (suc n) b (λ j way e. ap (λ m. test (outer ++ step branch m ∷ way)) (further n j) ∙ h (suc j) way (one_further branch j way a b e)))
       where
         nothing : (n : ℕ) → n ≡ n + 0
@@ -71,14 +72,14 @@ module _ (w : Words) (u : Program) (extents : Extents) (test : Path → Bool) wh
         further : (n j : ℕ) → suc n + j ≡ n + suc j
         further n j = omega arith
 
-    inner_places : (outer : Path) (branch : Branch) (n : ℕ) (a : Statement) (b : Block) → Passes outer branch n (next a b) → list_all here (inner_claims w u extents (into outer branch n) a) ≡ true
+    inner_places : (outer : Path) (branch : Branch) (n : ℕ) (a : Statement) (b : Block) → Passes outer branch n (next a b) → list_all here (inner_claims w u extents roots (into outer branch n) a) ≡ true
     inner_places outer branch n (Assign x is e) b h = refl
     inner_places outer branch n (Reduce x is e) b h = refl
     inner_places outer branch n (Config f v) b h = refl
     inner_places outer branch n Pass b h = refl
     inner_places outer branch n (If c x y) b h =
         let path = into outer branch n in
-        appended here (block_claims w u extents path Main 0 x) (block_claims w u extents path Else 0 y)
+        appended here (block_claims w u extents roots path Main 0 x) (block_claims w u extents roots path Else 0 y)
         (block_places path Main 0 x (inside outer branch Main n (If c x y) b x h (λ j path e. still_some _ _ e)))
         (block_places path Else 0 y (inside outer branch Else n (If c x y) b y h (λ j path e. still_some _ _ e)))
     inner_places outer branch n (For i lo hi x) b h = block_places (into outer branch n) Main 0 x (inside outer branch Main n (For i lo hi x) b x h (λ j path e. still_some _ _ e))

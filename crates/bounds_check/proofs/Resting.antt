@@ -14,11 +14,11 @@ use Rattle.affine_systems.specs.Outcomes.{Owed}
 use Rattle.check_claims.specs.Claim.{Placed}
 use Rattle.check_claims.specs.declared.claim.Placed as declared
 use Rattle.check_claims.specs.PlainClaim.{placed}
-use Rattle.check_facts.specs.Contexts.{context_fits, condition_fits}
+use Rattle.check_facts.specs.Contexts.{context_fits}
 use Rattle.bounds_check.specs.Paths.{same_branch, same_path}
 use Rattle.bounds_check.specs.Errors.{error_of}
-use Rattle.bounds_check.specs.Limits.{are_within}
-use Rattle.bounds_check.specs.Obligations.{Fault, Wide, ManyCases, LargeSystem, ManyObligations, known_for, owed_for, owed_for_all, claim_fits, claim_stated, stated_fault, unless_refused, claim_fault, first_fault}
+use Rattle.affine_systems.specs.Limits.{are_within}
+use Rattle.bounds_check.specs.Obligations.{Fault, Wide, ManyCases, LargeSystem, ManyObligations, owed_for, owed_for_all, said_fits, claim_fits, said_fault, unless_refused, claim_fault, first_fault}
 use Rattle.bounds_check.specs.Outcomes.{IsRefusal, Owes}
 use Rattle.bounds_check.specs.declared.error.CheckError.{CheckError}
 use Rattle.bounds_check.specs.declared.error.CheckError.TheVariants.{TooManyObligations, Form, Memory}
@@ -150,8 +150,8 @@ module _ (u : Program) (p : Procedure) (claims : Claims) (before : List Owed) wh
       wide [] s q w = absurd (omega (arith, s))
       wide (c ∷ cs) s q w =
           let d = placed c in
-          let fits : claim_fits u p d ≡ false = ap (λ b. b && condition_fits u p (known_for u p d) d.claim.says) (ap (context_fits u p) (paths c.place place (and_parts (same_path c.place place) (list_all (λ b. same_path b.place place) (map placed cs)) q).0) ∙ w) in
-          ap (λ b. unless_refused (if b then stated_fault (claim_stated u p d) else Some Wide) (are_within (before ++ owed_for u p d)) (first_fault u p (before ++ owed_for u p d) (map placed cs))) fits
+          let fits : claim_fits u p d ≡ false = ap (λ b. b && said_fits u p d.place d.claim) (ap (context_fits u p) (paths c.place place (and_parts (same_path c.place place) (list_all (λ b. same_path b.place place) (map placed cs)) q).0) ∙ w) in
+          ap (λ b. unless_refused (if b then said_fault u p d.place d.claim else Some Wide) (are_within (before ++ owed_for u p d)) (first_fault u p (before ++ owed_for u p d) (map placed cs))) fits
 
       by : (y : FormError) → IsWide y (context_fits u p place) → IsRefusal (error_of y) (first_fault u p before (map placed claims))
       by form.TooManyCases w = absurd w

@@ -3,4 +3,5 @@ pub mod Errors
 pub mod Limits
 pub mod Obligations
 pub mod Outcomes
+pub mod Sites
 pub mod Laws

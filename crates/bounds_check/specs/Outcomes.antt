@@ -1,11 +1,10 @@
 -- What the calls on a procedure's obligations answer.
-use Rattle.std.specs.Prelude.{◌≡◌, ⊤, true, false, List, [], ◌++◌, map, Option, Some, None, Vec, Result, Ok, Err}
+use Rattle.std.specs.Prelude.{◌≡◌, ⊤, List, [], ◌++◌, map, Option, Some, None, Vec, Result, Ok, Err}
 use Rattle.exo_tree.specs.Tree.{Procedure, Program}
 use Rattle.affine_forms.specs.declared.error.FormError.TheVariants as form
 use Rattle.affine_systems.specs.Outcomes.{Owed, plain_obligation}
 use Rattle.affine_systems.specs.declared.obligation.Obligation.{Obligation}
 use Rattle.check_claims.specs.Claim.{Placed}
-use Rattle.bounds_check.specs.Limits.{are_within}
 use Rattle.bounds_check.specs.Obligations.{Fault, Wide, ManyCases, LargeSystem, ManyObligations, owed_for_all, obligations_of, first_fault, list_fault}
 use Rattle.bounds_check.specs.declared.error.CheckError.{CheckError}
 use Rattle.bounds_check.specs.declared.error.CheckError.TheVariants.{TooManyObligations, Form, Memory}
@@ -19,13 +18,6 @@ IsRefusal (Form form.WideNumber) f = f ≡ Some Wide
 IsRefusal (Form form.TooManySystems) f = ⊥
 IsRefusal (Form form.Memory) f = ⊥
 IsRefusal Memory f = ⊤
-
--- these obligations come behind the others, exactly where all are within the limits
-abbrev pub Appended : {A : Type 0} → Result A CheckError → List Owed → List Owed → List Owed → Type 0
-Appended (Ok t) old more new = (are_within (old ++ more) ≡ true) × (new ≡ old ++ more)
-Appended (Err TooManyObligations) old more new = are_within (old ++ more) ≡ false
-Appended (Err (Form e)) old more new = ⊥
-Appended (Err Memory) old more new = ⊤
 
 -- what claims of a procedure owe comes behind the others, exactly where nothing of it is refused
 abbrev pub Owes : {A : Type 0} → Result A CheckError → Program → Procedure → List Placed → List Owed → List Owed → Type 0

@@ -11,7 +11,7 @@ use std::alloc::AllocError;
 pub enum CheckError {
     /// A procedure has more than 65,536 obligations, or more than 4,194,304 terms in them together.
     TooManyObligations,
-    /// A claim has no systems within the limits; never `FormError::Memory`.
+    /// A claim has no systems within the limits; never `TooManySystems` or `Memory`.
     Form(FormError),
     /// There was no memory.
     Memory,
@@ -30,6 +30,7 @@ impl From<FormError> for CheckError {
 
     fn from(error: FormError) -> CheckError {
         match error {
+            FormError::TooManySystems => CheckError::TooManyObligations,
             FormError::Memory => CheckError::Memory,
             form => CheckError::Form(form),
         }

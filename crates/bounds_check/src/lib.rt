@@ -5,8 +5,6 @@ mod claims;
 mod error;
 pub mod laws;
 mod list;
-mod owed;
 
 pub use error::CheckError;
-pub use list::{obligations, obligations_with_writes};
-pub use owed::Owed;
+pub use list::{obligations, obligations_with_tables};

@@ -4,7 +4,6 @@ use Rattle.std.proofs.Common.{Some, None, refl, sym, ap, ◌∙◌, subst, eqb-t
 use Rattle.std.proofs.Common.{true≢false}
 use Rattle.std.proofs.lemmas.Int.{ints}
 use Rattle.std.proofs.Math.Path.{fun_ext}
-use Rattle.std.specs.Int.{int_wrap}
 use Rattle.exo_tree.specs.Tree.{Cell, I8, I32, Block, Procedure, ConfigField}
 use Rattle.exo_meaning.specs.Value.{Value, Undefined, Number, wrap}
 use Rattle.exo_meaning.specs.Scene.{Shape}
@@ -17,7 +16,7 @@ use Rattle.exo_meaning.specs.Orders.{Each}
 use Rattle.exo_meaning.specs.Run.{run, unit_world, kinds_of}
 use Rattle.exo_meaning.specs.Units.{Scope, BufferName, sort_in, field_kind}
 use Rattle.exo_meaning.proofs.Windows.{none_is_some}
-use Rattle.exo_meaning.proofs.Wrap.{wrap_wrapped, additions_swap}
+use Rattle.exo_meaning.proofs.Wrap.{wrap_laws, additions_swap}
 use Rattle.meaning_laws.specs.Touched.{touched, unit_modes, MayTouch, IsCovered}
 use Rattle.meaning_laws.specs.Touched.{Mode, Reading, Writing, Modes, has_mode}
 use Rattle.meaning_laws.proofs.Covered.{run_covered}
@@ -26,11 +25,6 @@ use Rattle.meaning_laws.proofs.UnitFootprints.{runs_exchange}
 use Rattle.buffer_laws.specs.Accumulated.{from_zero, adding, OnlyReduces, AccumLaw}
 use Rattle.buffer_laws.specs.Accumulated.{AccumByModes}
 
-pub zero_fits : (cell : Cell) → wrap cell (pos 0) ≡ pos 0
-unfolding int_wrap
-zero_fits I8 = refl
-zero_fits I32 = refl
-
 from_first : (m : ℤ) → pos 0 +ℤ m ≡ m
 from_first m = omega (arith, ints)
 
@@ -38,7 +32,7 @@ from_first m = omega (arith, ints)
 pub added_to_zero : (cell : Cell) (v : Value) → FitsCell cell v → added cell v (Number (pos 0)) ≡ v
 added_to_zero cell Undefined h = refl
 added_to_zero cell (Number m) h =
-    ap Number (wrap_wrapped cell (pos 0 +ℤ m) ∙ ap (wrap cell) (from_first m) ∙ h)
+    ap Number (wrap_laws.wrapped cell (pos 0 +ℤ m) ∙ ap (wrap cell) (from_first m) ∙ h)
 
 module _ (cell : Cell) (values : List ℤ → Value) (y : ℕ) where
   passes : (e : Entry) → OnlyReduces y cell e → Passes (adding cell values y) e
@@ -114,7 +108,7 @@ module _ (fields : List ConfigField) (memories : ℕ) (ps : List Procedure) (sco
 
       fits : (x : ℕ) (to : Shape) (at : List ℤ) → s.scene.buffers x ≡ Some to → (t : Bool)
           → FitsCell to.cell (cond {A = List ℤ → Value} t (λ js. Number (pos 0)) (s.cells x) at)
-      fits x to at h true = zero_fits to.cell
+      fits x to at h true = wrap_laws.zero to.cell
       fits x to at h false = may.sorted.cells x to h at
 
 pub accum_law : AccumLaw

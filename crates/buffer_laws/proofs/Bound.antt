@@ -3,19 +3,18 @@ use Rattle.std.proofs.Common.{◌≡◌, ℕ, ℤ, pos, ◌+ℤ◌, ◌-ℤ◌, 
 use Rattle.std.proofs.Common.{true≢false}
 use Rattle.std.proofs.Common.{◌||◌, ◌&&◌, List, [], Option, Some, None, option_map}
 use Rattle.std.proofs.Common.{refl, sym, ap, ap₂, ◌∙◌, subst, eq-eqb}
-use Rattle.std.specs.Int.{int_wrap}
 use Rattle.std.specs.Prelude.{IsSome}
-use Rattle.std.proofs.lemmas.Int.{int_wrap_fits, SFits-int_wrap}
 use Rattle.exo_tree.specs.Tree.{Cell, I32, Control, Datum, Const, Read, Negated, Relu, Plus}
 use Rattle.exo_tree.specs.Tree.{Minus, Times, Select, Assign, Block, next}
 use Rattle.exo_tree.specs.Context.{fill}
-use Rattle.exo_meaning.specs.Value.{Value, Undefined, Number, width, stored_as, on_one, on_two}
+use Rattle.exo_meaning.specs.Value.{Value, Undefined, Number, wrap, stored_as, on_one, on_two}
 use Rattle.exo_meaning.specs.Value.{on_four, relu, selected}
 use Rattle.exo_meaning.specs.Scene.{Shape, Seen, then_do, cell_at, numbers, whole}
 use Rattle.exo_meaning.specs.State.{State, Place, place, held, value, put, changed, same_index}
 use Rattle.exo_meaning.specs.Inputs.{FitsCell}
 use Rattle.exo_meaning.specs.Run.{World, run, step, unit_world}
 use Rattle.exo_meaning.specs.Unseen.{SameBut, in_datum, in_controls, in_statement as mentions}
+use Rattle.exo_meaning.proofs.Wrap.{wrap_laws}
 use Rattle.exo_meaning.proofs.Frame.{or_parts}
 use Rattle.exo_meaning.proofs.Ignored.{numbers_same, run_alike}
 use Rattle.meaning_laws.proofs.Parts.{then_gives, map_gives, some_injective, both_some}
@@ -119,8 +118,8 @@ module _ (s : State) (a b : Datum) (same : value s a ≡ value s b) where
 
 -- ---- values that fit
 
-number_fits : (n : ℤ) → FitsCell I32 (Number (int_wrap (width I32) n))
-number_fits n = int_wrap_fits (width I32) (int_wrap (width I32) n) (SFits-int_wrap (width I32) n)
+number_fits : (n : ℤ) → FitsCell I32 (Number (wrap I32 n))
+number_fits n = wrap_laws.twice I32 n
 
 one_fits : (f : ℤ → ℤ) (u : Value) → FitsCell I32 (on_one f u)
 one_fits f Undefined = tt

@@ -15,6 +15,7 @@ use Rattle.exo_meaning.specs.Scene.{Side, Point, Range, Seen, Scene, then_do, nu
 use Rattle.exo_meaning.specs.Scene.{narrowed, window, cell_at, is_below, where_true}
 use Rattle.exo_meaning.specs.State.{State, Place, place, held, put, value, on_scene, with_control}
 use Rattle.exo_meaning.specs.State.{with_view, with_field}
+use Rattle.exo_meaning.specs.Calls.{given_all_apart}
 use Rattle.exo_meaning.specs.Calls.{Callee, GivenNumber, GivenView, given, all_given, truth, suits}
 use Rattle.exo_meaning.specs.Calls.{entered, returned, run_asserted}
 use Rattle.exo_meaning.specs.Run.{World, step, argument_number, call_to}
@@ -237,8 +238,9 @@ module _ (x : ℕ) (point : Control) (dims : List Control) where
       → all_given s.scene gs ≡ all_given s.scene hs → call_to o gs s ≡ call_to o hs s
   calls_same None gs hs s e = refl
   calls_same (Some callee) gs hs s e =
-      ap (λ z. then_do z (λ ns. then_do (entered callee.procedure.params ns s) (λ inner.
-      option_map (returned callee ns s) (run_asserted callee inner)))) e
+      ap (λ z. where_true (given_all_apart callee.writes callee.procedure.params z)
+      (then_do z (λ ns. then_do (entered callee.procedure.params ns s) (λ inner.
+      option_map (returned callee ns s) (run_asserted callee inner))))) e
 
   module _ (world : World) where
     mutual

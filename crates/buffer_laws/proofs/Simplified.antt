@@ -11,6 +11,7 @@ use Rattle.exo_meaning.specs.Scene.{Scene, Seen, Side, Point, Range, number, num
 use Rattle.exo_meaning.specs.Scene.{where_true, is_below, cell_at, narrowed, window}
 use Rattle.exo_meaning.specs.State.{State, place, held, value, put, on_scene, with_view}
 use Rattle.exo_meaning.specs.State.{with_control}
+use Rattle.exo_meaning.specs.Calls.{given_all_apart}
 use Rattle.exo_meaning.specs.Calls.{given, all_given, GivenView, Callee, entered, returned}
 use Rattle.exo_meaning.specs.Calls.{run_asserted}
 use Rattle.exo_meaning.specs.Run.{World, step, call_to}
@@ -140,8 +141,9 @@ module _ (simple : Control → Control) (names : ℕ → Bool) (is : IsSimplifie
         go : (o : Option Callee)
             → call_to o gs s ≡ call_to o (simplified_arguments simple names gs) s
         go None = refl
-        go (Some c) = ap (λ q. then_do q (λ given. then_do (entered c.procedure.params given s)
-            (λ inner. option_map (returned c given s) (run_asserted c inner))))
+        go (Some c) = ap (λ q. where_true (given_all_apart c.writes c.procedure.params q)
+            (then_do q (λ given. then_do (entered c.procedure.params given s)
+            (λ inner. option_map (returned c given s) (run_asserted c inner)))))
             (all_given_same s.scene gs)
 
     mutual

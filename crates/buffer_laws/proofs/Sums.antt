@@ -26,7 +26,7 @@ use Rattle.staging_laws.proofs.Stores.{each_in_box, same_views, same_buffers, un
 use Rattle.staging_laws.proofs.Loads.{at_all, set_none, own_there, nothing_there}
 use Rattle.staging_laws.proofs.Box.{box_law}
 use Rattle.buffer_laws.specs.Sums.{zero_nest, zeros, zeroed, sums, ZerosLaw, SumsLaw}
-use Rattle.buffer_laws.proofs.Accumulated.{zero_fits}
+use Rattle.exo_meaning.proofs.Wrap.{wrap_laws}
 use Rattle.buffer_laws.proofs.Summed.{changed_at, Changes, nest_changes, Hit, hit_by, HitsOnce}
 use Rattle.buffer_laws.proofs.Summed.{hits_once}
 
@@ -76,7 +76,7 @@ module _ (world : World) (a x : ℕ) (to : Shape) (seen : Seen) (coords : List C
       (λ old. stored_as w.cell (Number (pos 0))))))
       (ap (λ f. f a) (same_buffers ls at s.scene) ∙ there)
       ∙ ap (λ n. Some (at_cells z (changed c (spot a (numbers z (vars ls))) (λ old. Number n))))
-      (zero_fits to.cell)
+      (wrap_laws.zero to.cell)
       ∙ ap (λ d. Some (at_cells z d)) (hit c (numbers z (vars ls)) q.0
       (ap (cell_at seen.sides) v ∙ q.1))
     where

@@ -20,7 +20,7 @@ use Rattle.c_follows.specs.Simulation.{Ground, AreSameFields, Layout, HasForm, I
 use Rattle.c_follows.specs.Good.{IsGoodParam, AreGoodParams}
 use Rattle.c_follows.specs.SameInput.{IsSame, IsSameTensor, IsSameWindow, AreSame, AreSeparate}
 use Rattle.c_follows.specs.Functions.{IsSmall, AreSmall}
-use Rattle.c_follows.proofs.Data.{narrow_fits}
+use Rattle.exo_meaning.proofs.Wrap.{wrap_laws}
 use Rattle.c_follows.proofs.Offsets.{injective}
 use Rattle.c_follows.proofs.Windows.{some_same, no_some}
 use Rattle.c_follows.proofs.Scopes.{numbers_by_control}
@@ -31,7 +31,7 @@ use Rattle.c_follows.proofs.Bound.{thing_of, param_there}
 -- a number that fits a cell fits 32 bits
 fits_held : (cell : Cell) (v w : Value) → FitsCell cell v → w ≡ v → IsHeld v w
 fits_held cell Undefined w h e = tt
-fits_held cell (Number n) w h e = (e, ap (wrap I32) (sym h) ∙ narrow_fits cell n ∙ h)
+fits_held cell (Number n) w h e = (e, ap (wrap I32) (sym h) ∙ wrap_laws.narrow cell n ∙ h)
 
 -- ---- the whole of a buffer
 

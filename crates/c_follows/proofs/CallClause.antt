@@ -1,9 +1,9 @@
 -- The clause of calls, from what is to be shown of their arguments.
-use Rattle.std.proofs.Common.{◌≡◌, ℕ, Bool, true, false, List, Option, Some, None, option_map, refl, sym, subst}
+use Rattle.std.proofs.Common.{◌≡◌, ℕ, Bool, true, false, List, Option, Some, None, option_map, refl, sym, ap, ◌∙◌, subst}
 use Rattle.exo_tree.specs.Tree.{Argument, Param}
-use Rattle.exo_meaning.specs.Scene.{then_do}
+use Rattle.exo_meaning.specs.Scene.{then_do, where_true}
 use Rattle.exo_meaning.specs.State.{State}
-use Rattle.exo_meaning.specs.Calls.{Callee, Given, all_given, entered, returned, run_asserted, call}
+use Rattle.exo_meaning.specs.Calls.{Callee, Given, all_given, all_apart, given_all_apart, keeps_apart, entered, returned, run_asserted, copied_call, call}
 use Rattle.exo_meaning.specs.Run.{World, call_to, call_to_writes}
 use Rattle.c_widths.specs.Few.{Fewness, CallAllocatesFew}
 use Rattle.c_tree.specs.CTree.{Actual, Piece}
@@ -11,7 +11,7 @@ use Rattle.c_machine.specs.Machine.{Outcome, after, Thing, Setting, Machine}
 use Rattle.c_machine.specs.CRun.{Behaviour, CWorld, things, things_of_cells, run_in_place, run_function, step_c}
 use Rattle.c_lowered.specs.Lowered.{Hole, Forms, actuals_of, piece_of, called_by, call_of}
 use Rattle.c_follows.specs.Simulation.{Ground, Follows, Layout, Matches, Ran}
-use Rattle.c_follows.specs.Good.{AreGoodArguments, is_function, IsGoodCall, CallSharesNothing}
+use Rattle.c_follows.specs.Good.{AreGoodArguments, is_function, IsGoodCall}
 use Rattle.c_follows.specs.Calls.{called_in, CallsFollow}
 use Rattle.c_follows.proofs.Clauses.{CallClause}
 use Rattle.c_follows.proofs.Steps.{follows_then}
@@ -45,11 +45,16 @@ module _ (Few : Type 0) (g : Ground) where
       abbrev fill : Hole → Piece
       fill = piece_of g.naming forms params args
 
-      module _ (c : Callee) (f : Behaviour) (then_follows : (gs : List Given) (ts : List Thing) → all_given s.scene args ≡ Some gs → Given_as gs ts → Follows Few Runs (then_do (entered c.procedure.params gs s) (λ inner. option_map (returned c gs s) (run_asserted c inner))) (run_in_place c_world (Some f) ts m)) where
+      module _ (c : Callee) (f : Behaviour) (then_follows : (gs : List Given) (ts : List Thing) → all_given s.scene args ≡ Some gs → all_apart c.writes c.procedure.params gs ≡ true → Given_as gs ts → Follows Few Runs (then_do (entered c.procedure.params gs s) (λ inner. option_map (returned c gs s) (run_asserted c inner))) (run_in_place c_world (Some f) ts m)) where
         from_things : (o : Outcome (List Thing)) (b : Option Behaviour) → b ≡ Some f → Follows Few Given_as (all_given s.scene args) o → Follows Few Runs (call c args s) (after o (λ ts. run_in_place c_world b ts m))
-        from_things o b e h =
-            follows_then Few Given_as Runs (all_given s.scene args) o (λ gs. then_do (entered c.procedure.params gs s) (λ inner. option_map (returned c gs s) (run_asserted c inner))) (λ ts. run_in_place c_world b ts m) h
-            (λ gs ts i r. subst (λ z. Follows Few Runs (then_do (entered c.procedure.params gs s) (λ inner. option_map (returned c gs s) (run_asserted c inner))) (run_in_place c_world z ts m)) (sym e) (then_follows gs ts i r))
+        from_things o b e h = go (keeps_apart c s.scene args) refl
+          where
+            -- where they are not apart the call faults
+            go : (t : Bool) → keeps_apart c s.scene args ≡ t → Follows Few Runs (where_true t (copied_call c args s)) (after o (λ ts. run_in_place c_world b ts m))
+            go false q = tt
+            go true q =
+                follows_then Few Given_as Runs (all_given s.scene args) o (λ gs. then_do (entered c.procedure.params gs s) (λ inner. option_map (returned c gs s) (run_asserted c inner))) (λ ts. run_in_place c_world b ts m) h
+                (λ gs ts i r. subst (λ z. Follows Few Runs (then_do (entered c.procedure.params gs s) (λ inner. option_map (returned c gs s) (run_asserted c inner))) (run_in_place c_world z ts m)) (sym e) (then_follows gs ts i (ap (given_all_apart c.writes c.procedure.params) (sym i) ∙ q) r))
 
         by_template : (t : Option (List Hole)) → (g.naming.routine k).template ≡ t → called_in c_world (g.naming.routine k).name t k ≡ Some f → AreGoodArguments g.declared forms most (g.bounds k) (is_function t) params args → Follows Few Runs (call c args s) (step_c c_world (called_by k (g.naming.routine k).name t fill actuals) m)
         by_template None e i h =
@@ -57,13 +62,13 @@ module _ (Few : Type 0) (g : Ground) where
             (from_things (things m.setting actuals) (c_world.functions (g.naming.routine k).name) i (functions_given forms most root layout s m match (g.bounds k) params args h))
         by_template (Some holes) e i h = from_things (things_of_cells m.setting actuals) (c_world.instructions k) i (instructions_given forms most root layout s m match (g.bounds k) params args h)
 
-      callee_follows : (o : Option Callee) → world.callees k ≡ o → ((y : ℕ) → call_to_writes o root y args ≡ true → g.stored y ≡ true) → CallSharesNothing o root args → (Few → CallAllocatesFew o (few k) args s) → Follows Few Runs (call_to o args s) (step_c c_world (call_of g.naming forms k (g.naming.routine k) args) m)
-      callee_follows None e may shares fw = tt
-      callee_follows (Some c) e may shares fw =
+      callee_follows : (o : Option Callee) → world.callees k ≡ o → ((y : ℕ) → call_to_writes o root y args ≡ true → g.stored y ≡ true) → (Few → CallAllocatesFew o (few k) args s) → Follows Few Runs (call_to o args s) (step_c c_world (call_of g.naming forms k (g.naming.routine k) args) m)
+      callee_follows None e may fw = tt
+      callee_follows (Some c) e may fw =
           let called = calls.each k c e good.0 in
           by_template c called.0
-          (λ gs ts i r. called_follows Few g c_world forms most root layout s m match (few k) c called.0 k called.2 calls.fields calls.functions args may shares gs ts i (subst (λ ps. AreGivenAs layout s.scene (g.bounds k) ps gs ts) (sym called.2.params) r) (λ inner j z. fw z gs inner i j))
+          (λ gs ts i q r. called_follows Few g c_world forms most root layout s m match (few k) c called.0 k called.2 calls.fields calls.functions args may gs ts i q (subst (λ ps. AreGivenAs layout s.scene (g.bounds k) ps gs ts) (sym called.2.params) r) (λ inner j z. fw z gs inner i j))
           (g.naming.routine k).template refl called.1 good.1
 
     pub call_follows : CallClause Few g c_world world few
-    call_follows forms most root layout k args good may shares s m fw match = callee_follows forms most root layout k args good s m match (world.callees k) refl may shares fw
+    call_follows forms most root layout k args good may s m fw match = callee_follows forms most root layout k args good s m match (world.callees k) refl may fw

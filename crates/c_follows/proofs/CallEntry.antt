@@ -2,14 +2,13 @@
 use Rattle.std.proofs.Common.{◌≡◌, ◌≤◌, ◌^◌, ◌==◌, ℕ, ℤ, pos, ◌≤ℤ◌, Bool, true, false, List, [], ◌∷◌, length, Option, Some, refl, sym, ap, ap₂, ◌∙◌, subst, ⊎_elim, eqb-true, unsigned_abs}
 use Rattle.exo_tree.specs.Tree.{Cell, Control, Param, ParamKind, ControlParam, TensorParam, WindowParam}
 use Rattle.exo_meaning.specs.Value.{Value}
-use Rattle.exo_meaning.specs.Scene.{then_do, Shape, Seen, cell_at, index_of, whole, extents, strides_of, strides_seen, numbers}
+use Rattle.exo_meaning.specs.Scene.{then_do, Shape, Seen, AreApart, cell_at, index_of, whole, extents, strides_of, strides_seen, numbers}
 use Rattle.exo_meaning.specs.State.{State}
 use Rattle.exo_meaning.specs.Calls.{Given, GivenNumber, GivenView, entered, all_positive}
 use Rattle.exo_meaning.specs.Run.{product, row_major}
 use Rattle.exo_meaning.specs.Inputs.{is_buffer_of}
 use Rattle.exo_meaning.specs.Laws.{HasRoots}
 use Rattle.exo_meaning.proofs.Windows.{index_at_cell}
-use Rattle.inplace_laws.specs.InPlace.{AreApart}
 use Rattle.inplace_laws.specs.CallInPlace.{base_of, seen_of, AreDistinct}
 use Rattle.inplace_laws.specs.Addresses.{stored, spots_through}
 use Rattle.inplace_laws.proofs.Addresses.{entry_law}
@@ -22,7 +21,7 @@ use Rattle.c_follows.specs.Simulation.{Ground, AreSameFields, Layout, HasForm, I
 use Rattle.c_follows.specs.Good.{AreGood, IsGoodParam, AreGoodParams, AreNamedApart}
 use Rattle.c_follows.proofs.Windows.{ArePlaced, some_same, no_some, strides_length}
 use Rattle.c_follows.proofs.Scopes.{numbers_by_control}
-use Rattle.c_follows.proofs.Simulate.{same_itself}
+use Rattle.exo_tree.specs.Cells.{same_itself}
 use Rattle.c_follows.proofs.Handed.{whole_in_whole}
 use Rattle.c_follows.proofs.Bound.{Suits, AreSuited, named_by, bound_here, bound_elsewhere, names_differ, params_other, param_there, thing_of}
 use Rattle.c_follows.proofs.Begun.{whole_begins, all_strides, all_extents, at_first}

@@ -1,9 +1,8 @@
 -- An instruction that calls an instruction meets what the law on blocks asks.
-use Rattle.std.proofs.Common.{◌≡◌, ◌==◌, ℕ, pos, Bool, true, false, cond, [], ◌∷◌, Some, None, refl, sym, ap, ◌∙◌, subst, arith, true≢false, eqb-true, inl, inr, ◌⊎◌}
+use Rattle.std.proofs.Common.{◌≡◌, ◌==◌, ℕ, pos, Bool, true, false, cond, [], ◌∷◌, Some, refl, sym, ap, ◌∙◌, subst, arith, true≢false, eqb-true, inl, inr, ◌⊎◌}
 use Rattle.std.proofs.lemmas.Int.{ints}
-use Rattle.exo_tree.specs.Tree.{I32, Lit, Whole}
+use Rattle.exo_tree.specs.Tree.{I32, Lit}
 use Rattle.exo_meaning.specs.Calls.{Callee}
-use Rattle.inplace_laws.specs.Shared.{DoNotShare}
 use Rattle.std.specs.Prelude.{codes}
 use Rattle.c_widths.specs.Few.{no_fewness, fewness_from}
 use Rattle.c_machine.specs.Machine.{same_name}
@@ -31,14 +30,6 @@ named_apart stored called = record {
     go x y true false e f = inr (inl (ap (λ b. cond b (TensorForm I32 (Lit (pos 2) ∷ []) 0) NoForm) f))
     go x y true true e f = inr (inr (inl (eqb-true x 0 e ∙ sym (eqb-true y 0 f))))
 
-one_argument : (writes : ℕ → Bool) → DoNotShare itself writes params (Whole 0 ∷ [])
-one_argument writes b c r w apart e f = go (b == 0) (c == 0) refl refl
-  where
-    go : (t u : Bool) → (b == 0) ≡ t → (c == 0) ≡ u → ⊥
-    go false u i j = no_some (sym (ap (λ d. cond d (Some 0) None) i) ∙ e)
-    go true false i j = no_some (sym (ap (λ d. cond d (Some 0) None) j) ∙ f)
-    go true true i j = true≢false (sym (ap (λ z. b == z) (eqb-true c 0 j) ∙ i) ∙ apart)
-
 lower_calls : CallsFollow lower_ground lower_world (fewness_from no_kinds [] no_fewness []) alone
 lower_calls = record {
   fields = λ f h. absurd (true≢false (sym h));
@@ -60,7 +51,7 @@ lower_follows = record {
   distinct = (refl, tt);
   good = (((tt, tt), (omega arith, tt)), tt);
   follows = λ place s m match. blocks_follow lower_ground (param_forms params) zero_bounds itself place lower_world no_kinds [] alone setting_one.body lower_calls
-      (((I32, inr (Lit (pos 2) ∷ [], refl, refl)), ((tt, tt), (omega arith, tt)), seven), tt) (λ y e. e) (tt, tt) s m match;
+      (((I32, inr (Lit (pos 2) ∷ [], refl, refl)), ((tt, tt), (omega arith, tt)), seven), tt) (λ y e. e) s m match;
 }
 
 abbrev IsFirst : ℕ → Type 0
@@ -90,7 +81,7 @@ middle_follows = record {
   distinct = (refl, tt);
   good = (((tt, tt), (omega arith, tt)), tt);
   follows = λ place s m match. blocks_follow middle_ground (param_forms params) zero_bounds itself place middle_world no_kinds (setting_one ∷ []) middle_c_world passing_on.body middle_calls
-      ((refl, ((Lit (pos 2) ∷ [], 0, refl, refl, λ h. refl), tt)), tt) (λ y e. e) (one_argument lower.writes, tt) s m match;
+      ((refl, ((Lit (pos 2) ∷ [], 0, refl, refl, λ h. refl), tt)), tt) (λ y e. e) s m match;
 }
 
 abbrev IsSecond : ℕ → Type 0
@@ -130,7 +121,6 @@ call_of_call = record {
   calls = top_calls;
   good = ((((tt, tt), (omega arith, tt)), fresh, plain_memory), ((refl, ((Lit (pos 2) ∷ [], 0, refl, refl, λ h. refl), tt)), tt));
   may = λ y e. refl;
-  apart = (tt, (λ b c r w far e f. one_argument middle.writes b c r w far e f, tt));
   matches = empty_matches;
   few = (omega (arith, ints), λ t e. ((λ gs inner i j. (λ hs low k l. (tt, λ u f. tt), λ u f. tt)), λ u f. tt));
   runs = refl;

@@ -4,7 +4,7 @@ use Rattle.std.proofs.lemmas.Bool.{and_from}
 use Rattle.exo_tree.specs.Tree.{Argument, ControlArg, ConditionArg, Whole, Window, Param}
 use Rattle.exo_meaning.specs.Scene.{then_do, where_true, Seen, Scene, window}
 use Rattle.exo_meaning.specs.State.{State}
-use Rattle.exo_meaning.specs.Calls.{Callee, Given, GivenView, given, all_given, entered, returned, run_asserted, all_hold}
+use Rattle.exo_meaning.specs.Calls.{all_apart, Callee, Given, GivenView, given, all_given, entered, returned, run_asserted, all_hold}
 use Rattle.exo_meaning.specs.Run.{is_root, call_writes}
 use Rattle.exo_meaning.specs.Laws.{HasRoots}
 use Rattle.exo_meaning.proofs.Frame.{window_root}
@@ -12,8 +12,7 @@ use Rattle.exo_meaning.proofs.Windows.{none_is_some, one_value}
 use Rattle.meaning_laws.proofs.Parts.{then_gives, map_gives}
 use Rattle.meaning_laws.proofs.Names.{if_gives}
 use Rattle.inplace_laws.specs.CallInPlace.{base_of, seen_of}
-use Rattle.inplace_laws.specs.Shared.{DoNotShare}
-use Rattle.inplace_laws.proofs.Shared.{shared_law}
+use Rattle.inplace_laws.proofs.Passed.{passed_apart}
 use Rattle.c_tree.specs.CTree.{Name}
 use Rattle.c_machine.specs.Machine.{Outcome, Done, Fault, NoStore, Thing, IsField, IsFunction, Machine}
 use Rattle.c_machine.specs.CRun.{Behaviour, CWorld, bind_formals, in_scope, back_to, run_in_place, with_names}
@@ -81,7 +80,7 @@ fewer Few More R (Some a) (Done b) h k = k
 fewer Few More R (Some a) Fault h k = k
 fewer Few More R (Some a) NoStore h k = λ f. k (h f)
 
-module _ (Few : Type 0) (g : Ground) (c_world : CWorld) (forms : Forms) (most : ℕ → ℕ) (root : ℕ → ℕ) (layout : Layout) (s : State) (m : Machine) (match : Matches g forms most root layout s m) (few : State → Type 0) (c : Callee) (f : Behaviour) (k : ℕ) (followed : IsFollowed g few c f k) (fields : (f : ℕ) → g.declared f ≡ true → c_world.globals (g.naming.field f) ≡ Some IsField) (functions : (x : Name) → g.function x ≡ true → c_world.globals x ≡ Some IsFunction) (args : List Argument) (may : (y : ℕ) → call_writes c.writes root y c.procedure.params args ≡ true → g.stored y ≡ true) (shares : DoNotShare root c.writes c.procedure.params args) (gs : List Given) (ts : List Thing) (given_is : all_given s.scene args ≡ Some gs) (as_given : AreGivenAs layout s.scene (g.bounds k) c.procedure.params gs ts) where
+module _ (Few : Type 0) (g : Ground) (c_world : CWorld) (forms : Forms) (most : ℕ → ℕ) (root : ℕ → ℕ) (layout : Layout) (s : State) (m : Machine) (match : Matches g forms most root layout s m) (few : State → Type 0) (c : Callee) (f : Behaviour) (k : ℕ) (followed : IsFollowed g few c f k) (fields : (f : ℕ) → g.declared f ≡ true → c_world.globals (g.naming.field f) ≡ Some IsField) (functions : (x : Name) → g.function x ≡ true → c_world.globals x ≡ Some IsFunction) (args : List Argument) (may : (y : ℕ) → call_writes c.writes root y c.procedure.params args ≡ true → g.stored y ≡ true) (gs : List Given) (ts : List Thing) (given_is : all_given s.scene args ≡ Some gs) (passed : all_apart c.writes c.procedure.params gs ≡ true) (as_given : AreGivenAs layout s.scene (g.bounds k) c.procedure.params gs ts) where
   abbrev ps : List Param
   ps = c.procedure.params
 
@@ -102,7 +101,7 @@ module _ (Few : Type 0) (g : Ground) (c_world : CWorld) (forms : Forms) (most : 
       fields_seen = fields;
       functions_seen = functions;
       may = λ x z w i. may z.buffer (written_root root s.scene match.roots c.writes ps args gs x z given_is (sym (ap (λ t. t x) followed.stored) ∙ w) i);
-      apart = λ b d z y w i j l. shared_law root c.writes s.scene ps args gs match.roots given_is shares b d z y (sym (ap (λ t. t b) followed.stored) ∙ w) i j l;
+      apart = λ b d z y w i j l. passed_apart c.writes ps gs passed b d z y (sym (ap (λ t. t b) followed.stored) ∙ w) i j l;
     }
 
     abbrev callee_names : Name → Option Thing

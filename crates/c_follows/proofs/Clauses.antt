@@ -11,7 +11,7 @@ use Rattle.c_machine.specs.Machine.{Machine, after}
 use Rattle.c_machine.specs.CRun.{CWorld, run_c, step_c}
 use Rattle.c_lowered.specs.Lowered.{Forms, forms_after, alloc_of, bind_of, window_of, cell_in, call_of}
 use Rattle.c_follows.specs.Simulation.{Ground, Follows, Layout, Matches, Ran, Ends}
-use Rattle.c_follows.specs.Good.{IsBuffer, AreGood, AreGoodCoords, IsFresh, FitsMemory, IsGoodCall, CallSharesNothing}
+use Rattle.c_follows.specs.Good.{IsBuffer, AreGood, AreGoodCoords, IsFresh, FitsMemory, IsGoodCall}
 
 module _ (Few : Type 0) (g : Ground) (c_world : CWorld) where
   -- the rest of a block, from wherever its first statement leads
@@ -54,7 +54,6 @@ module _ (Few : Type 0) (g : Ground) (c_world : CWorld) where
       (forms : Forms) (most : ℕ → ℕ) (root : ℕ → ℕ) (layout : Layout) (k : ℕ) (args : List Argument)
       → IsGoodCall g forms most k args
       → ((y : ℕ) → call_to_writes (world.callees k) root y args ≡ true → g.stored y ≡ true)
-      → CallSharesNothing (world.callees k) root args
       → (s : State) (m : Machine)
       → (Few → CallAllocatesFew (world.callees k) (few k) args s)
       → Matches g forms most root layout s m

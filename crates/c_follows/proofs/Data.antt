@@ -1,11 +1,11 @@
 -- 32-bit arithmetic of the C against the source's.
 use Rattle.std.proofs.Math.Nat.{mod-eq_of_lt}
 use Rattle.std.proofs.Common.{◌≡◌, ◌<◌, ◌-◌, ◌%◌, ℤ, pos, negsuc, neg_ℤ, ◌+ℤ◌, ◌-ℤ◌, ◌*ℤ◌, Bool, true, false, cond, refl, sym, ap, ap₂, ◌∙◌, subst, arith, unsigned_abs, int_lt, mod-lt}
-use Rattle.std.specs.Int.{w8, w32, int_wrap, cast_signed}
+use Rattle.std.specs.Int.{w32, int_wrap, cast_signed}
 use Rattle.std.proofs.lemmas.Int.{ints, int_wrap-add_right, int_wrap-add_left, int_wrap-sub_right, int_wrap-mul_right, int_wrap-mul_left, int_wrap_fits, SFits-int_wrap}
-use Rattle.exo_tree.specs.Tree.{Cell, I8, I32}
-use Rattle.exo_meaning.specs.Value.{Value, Undefined, Number, width, wrap, stored_as, on_one, on_two, on_four, relu, selected}
-use Rattle.exo_meaning.proofs.Wrap.{wrap_wrapped}
+use Rattle.exo_tree.specs.Tree.{Cell, I32}
+use Rattle.exo_meaning.specs.Value.{Value, Undefined, Number, wrap, stored_as, on_one, on_two, on_four, relu, selected}
+use Rattle.exo_meaning.proofs.Wrap.{wrap_laws}
 use Rattle.c_machine.specs.Machine.{unsigned, with_one, with_two, with_four, as_unsigned, relu32, select32}
 use Rattle.c_follows.specs.Simulation.{IsHeld, IsRead}
 
@@ -94,16 +94,8 @@ pub cell_read : (u v : Value) → IsHeld u v → IsRead u (as_unsigned v)
 cell_read Undefined v h = tt
 cell_read (Number n) v h = subst (λ x. IsRead (Number n) (as_unsigned x)) (sym h.0) (unsigned_kept n ∙ h.1)
 
--- what fits a cell fits 32 bits
-pub narrow_fits : (cell : Cell) (z : ℤ) → wrap I32 (wrap cell z) ≡ wrap cell z
-narrow_fits I8 z = let f = SFits-int_wrap w8 z in int_wrap_fits w32 (wrap I8 z) (record { sfits = omega (arith, f.sfits) })
-narrow_fits I32 z = int_wrap_fits w32 (wrap I32 z) (SFits-int_wrap w32 z)
-
-twice : (cell : Cell) (z : ℤ) → wrap cell (wrap cell z) ≡ wrap cell z
-twice cell z = int_wrap_fits (width cell) (wrap cell z) (SFits-int_wrap (width cell) z)
-
 pub stored_held : (cell : Cell) (u v : Value) → IsRead u v → IsHeld (stored_as cell u) (stored_as cell (stored_as cell v))
 stored_held cell Undefined v h = tt
 stored_held cell (Number n) Undefined h = absurd h
 stored_held cell (Number n) (Number c) h =
-    (ap Number (twice cell c ∙ sym (wrap_wrapped cell c) ∙ ap (wrap cell) h), narrow_fits cell n)
+    (ap Number (wrap_laws.twice cell c ∙ sym (wrap_laws.wrapped cell c) ∙ ap (wrap cell) h), wrap_laws.narrow cell n)

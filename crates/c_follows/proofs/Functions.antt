@@ -20,7 +20,7 @@ use Rattle.c_follows.specs.SameInput.{IsSame, AreSame}
 use Rattle.c_follows.specs.Units.{LeavesTheSame}
 use Rattle.c_follows.specs.Functions.{behaviour_of, AreDeclared, IsSameInput, FunctionsFollow, FunctionsWithoutCallsFollow}
 use Rattle.c_follows.proofs.Steps.{follows_done}
-use Rattle.c_follows.proofs.Simulate.{same_itself}
+use Rattle.exo_tree.specs.Cells.{same_itself}
 use Rattle.c_follows.proofs.Bound.{Suits, AreSuited, thing_of, named_by, formals_bind, bound_elsewhere, bound_here, names_differ, params_other, param_there}
 use Rattle.c_follows.proofs.Begun.{begun}
 use Rattle.c_follows.proofs.WithCalls.{blocks_follow}
@@ -94,7 +94,7 @@ module _ (g : Ground) (most : ℕ → ℕ) (layout : Layout) (world : World) (c_
   }
 
 pub functions_follow : FunctionsFollow
-functions_follow g most layout world kinds above c_world p s ts m calls declared good_params good may apart valid same = start (all_have_extents s.scene p.params) refl
+functions_follow g most layout world kinds above c_world p s ts m calls declared good_params good may valid same = start (all_have_extents s.scene p.params) refl
   where
     start : (t : Bool) → all_have_extents s.scene p.params ≡ t → Follows (AllocatesFew world (fewness_from kinds [] no_fewness above) p.body s) (LeavesTheSame g.naming g.declared layout s m) (where_true t (run world p.body s)) (run_in_place c_world (Some (behaviour_of g c_world p)) ts m)
     start false e = tt
@@ -104,7 +104,7 @@ functions_follow g most layout world kinds above c_world p s ts m calls declared
         follows_done Few (LeavesTheSame g.naming g.declared layout s m) (run world p.body s) (bind_formals m.setting.objects (formals_of g.naming p.params) ts c_world.globals) (named_by g.naming p.params ts c_world.globals) (λ z. in_scope (λ n. run_c c_world (block_of g.naming (param_forms p.params) p.body) (with_names z n)) m)
         (formals_bind g.naming m.setting.objects p.params ts c_world.globals (suited g most layout world c_world p s ts m declared good_params valid same))
         (follows_closed Few (Ends g (param_forms p.params) layout s inner) (LeavesTheSame g.naming g.declared layout s m) (run world p.body s) (run_c c_world (block_of g.naming (param_forms p.params) p.body) inner) (back_to m)
-        (blocks_follow g (param_forms p.params) most (λ x. x) layout world kinds above c_world p.body calls good may apart s inner (matched g most layout world c_world p s ts m declared good_params valid same e))
+        (blocks_follow g (param_forms p.params) most (λ x. x) layout world kinds above c_world p.body calls good may s inner (matched g most layout world c_world p s ts m declared good_params valid same e))
         (leaves g most layout world c_world p s ts m declared good_params valid same e))
 
 pub functions_without_calls_follow : FunctionsWithoutCallsFollow

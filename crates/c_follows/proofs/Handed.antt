@@ -21,7 +21,7 @@ use Rattle.c_follows.proofs.Steps.{follows_none, follows_both}
 use Rattle.c_follows.proofs.Windows.{ArePlaced, some_same, no_some, mapped, tested, strides_length, window_strides_are}
 use Rattle.c_follows.proofs.Places.{AreOne, cell_follows, tensor_here, window_here}
 use Rattle.c_follows.proofs.Open.{whole_strides, rows_have}
-use Rattle.c_follows.proofs.Simulate.{same_itself}
+use Rattle.exo_tree.specs.Cells.{same_itself}
 
 -- ---- windows of the source
 

@@ -22,7 +22,7 @@ use Rattle.c_follows.proofs.Numbers.{same_numbers, offset_value}
 use Rattle.c_follows.proofs.Windows.{some_same, no_some}
 use Rattle.c_follows.proofs.Places.{whole_cell, cell_inside, tensor_here}
 use Rattle.c_follows.proofs.Open.{whole_strides}
-use Rattle.c_follows.proofs.Simulate.{same_itself}
+use Rattle.exo_tree.specs.Cells.{same_itself}
 use Rattle.c_follows.proofs.Handed.{first_at, spans_have, good_ends, all_numbers, have_length, whole_in_whole}
 use Rattle.c_follows.proofs.Given.{IsPart, IsGivenAs}
 use Rattle.c_follows.proofs.Reading.{Reads}

@@ -1,13 +1,12 @@
--- A call that hands on two windows that overlap meets what the law on blocks asks.
-use Rattle.std.proofs.Common.{◌≡◌, ◌==◌, ◌&&◌, ◌||◌, ℕ, pos, Bool, true, false, cond, List, [], ◌∷◌, Some, None, refl, sym, ap, ◌∙◌, subst, arith, true≢false, eqb-true, inl, inr, ◌⊎◌}
+-- A call that hands on windows of one tensor, one of them to be written, meets what the law on blocks asks.
+use Rattle.std.proofs.Common.{◌≡◌, ◌==◌, ◌&&◌, ℕ, pos, Bool, true, false, List, [], ◌∷◌, Some, refl, sym, ap, subst, arith, true≢false, eqb-true, inl, inr, ◌⊎◌}
 use Rattle.std.proofs.lemmas.Int.{ints}
 use Rattle.exo_tree.specs.Tree.{I32, Control, Lit}
 use Rattle.exo_meaning.specs.Calls.{Callee}
-use Rattle.exo_meaning.specs.Scene.{updated}
 use Rattle.c_widths.specs.Few.{no_fewness, fewness_from}
 use Rattle.c_machine.specs.Examples.{bare, alone}
 use Rattle.c_machine.specs.CRun.{Behaviour, run_c}
-use Rattle.c_lowered.specs.Lowered.{NoForm, TensorForm, Forms, param_forms, block_of}
+use Rattle.c_lowered.specs.Lowered.{param_forms, block_of}
 use Rattle.c_follows.specs.Simulation.{Matches}
 use Rattle.c_follows.specs.Good.{IsFresh, FitsMemory, AreNamedApart}
 use Rattle.c_follows.specs.Calls.{called_in, IsFollowed, CallsFollow}
@@ -28,28 +27,6 @@ named_apart = record {
     go : (x y : ℕ) (t : Bool) → (x == y) ≡ t → (x ≡ y) ⊎ (((x == y) && true) ≡ false)
     go x y true e = inl (eqb-true x y e)
     go x y false e = inr (ap (λ b. b && true) e)
-
--- what is written is the last argument alone, of another buffer
-reads_overlap : (b c r : ℕ) → ((b == 2) || false) ≡ true → (b == c) ≡ false → cond (b == 0) (Some 3) (cond (b == 1) (Some 3) (cond (b == 2) (Some 4) None)) ≡ Some r → cond (c == 0) (Some 3) (cond (c == 1) (Some 3) (cond (c == 2) (Some 4) None)) ≡ Some r → ⊥
-reads_overlap b c r w far e f = written (b == 2) refl w
-  where
-    differ : Some 4 ≡ Some r → Some 3 ≡ Some r → ⊥
-    differ h k = three_four r (sym (some_same k)) (sym (some_same h))
-      where
-        three_four : (n : ℕ) → n ≡ 3 → n ≡ 4 → ⊥
-        three_four n e f = omega (arith, e, f)
-
-    others : Some 4 ≡ Some r → (2 == c) ≡ false → (t u v : Bool) → (c == 2) ≡ v → cond t (Some 3) (cond u (Some 3) (cond v (Some 4) None)) ≡ Some r → ⊥
-    others h k true u v i j = differ h j
-    others h k false true v i j = differ h j
-    others h k false false true i j = true≢false (sym (ap (λ z. 2 == z) (eqb-true c 2 i)) ∙ k)
-    others h k false false false i j = no_some j
-
-    written : (t : Bool) → (b == 2) ≡ t → (t || false) ≡ true → ⊥
-    written false i h = true≢false (sym h)
-    written true i h =
-        let two = eqb-true b 2 i in
-        others (subst (λ z. cond (z == 0) (Some 3) (cond (z == 1) (Some 3) (cond (z == 2) (Some 4) None)) ≡ Some r) two e) (sym (ap (λ z. z == c) two) ∙ far) (c == 0) (c == 1) (c == 2) refl f
 
 no_calls : CallsFollow own_ground lower_world (fewness_from no_kinds [] no_fewness []) alone
 no_calls = record {
@@ -72,7 +49,7 @@ adding_follows = record {
   distinct = (refl, (refl, (refl, tt)));
   good = (((tt, tt), (omega arith, tt)), (((tt, tt), (omega arith, tt)), (((tt, tt), (omega arith, tt)), tt)));
   follows = λ place s m match. blocks_follow own_ground (param_forms params) zero_bounds itself place lower_world no_kinds [] alone adding.body no_calls
-      (((I32, inr (Lit (pos 2) ∷ [], refl, refl)), ((tt, tt), (omega arith, tt)), (((I32, inl (refl, refl)), ((tt, tt), (omega arith, tt))), ((I32, inl (refl, refl)), ((tt, tt), (omega arith, tt))))), tt) (λ y e. e) (tt, tt) s m match;
+      (((I32, inl (refl, refl)), ((tt, tt), (omega arith, tt)), (((I32, inl (refl, refl)), ((tt, tt), (omega arith, tt))), ((I32, inl (refl, refl)), ((tt, tt), (omega arith, tt))))), tt) (λ y e. e) s m match;
 }
 
 abbrev IsFirst : ℕ → Type 0
@@ -104,16 +81,6 @@ empty_matches = record {
 fresh_first : IsFresh top_ground nothing 3
 fresh_first = record { not_there = refl; other_name = λ x. inl refl; no_field = λ f h. absurd (true≢false (sym h)); no_function = λ f h. absurd (true≢false (sym h)) }
 
-abbrev with_first : Forms
-with_first = updated nothing 3 (TensorForm I32 (Lit (pos 3) ∷ []) 0)
-
-fresh_second : IsFresh top_ground with_first 4
-fresh_second = record { not_there = refl; other_name = λ x. go x (x == 4) refl; no_field = λ f h. absurd (true≢false (sym h)); no_function = λ f h. absurd (true≢false (sym h)) }
-  where
-    go : (x : ℕ) (t : Bool) → (x == 4) ≡ t → (with_first x ≡ NoForm) ⊎ (((x == 4) && true) ≡ false)
-    go x true e = inl (ap with_first (eqb-true x 4 e))
-    go x false e = inr (ap (λ b. b && true) e)
-
 plain_memory : (ds : List Control) → FitsMemory (top_ground.naming.memory 0) zero_bounds ds
 plain_memory ds = record { last = tt; literals = λ h. absurd (true≢false (sym h)); small = λ h. absurd (true≢false (sym h)) }
 
@@ -121,28 +88,12 @@ pub overlapping_windows : Overlapping
 overlapping_windows = record {
   calls = top_calls;
   good = (
-    (((tt, tt), (omega arith, tt)), fresh_first, plain_memory (Lit (pos 3) ∷ [])),
-    (
-      (((tt, tt), (omega arith, tt)), fresh_second, plain_memory (Lit (pos 2) ∷ [])),
-      (
-        (
-          refl,
-          (
-            (0, inr (Lit (pos 3) ∷ [], refl, refl), λ h. refl, (((tt, omega arith), (tt, omega arith)), tt), refl, tt),
-            (
-              (0, inr (Lit (pos 3) ∷ [], refl, refl), λ h. refl, (((tt, omega arith), (tt, omega arith)), tt), refl, tt),
-              ((Lit (pos 2) ∷ [], 0, refl, refl, λ h. refl), tt),
-            ),
-          ),
-        ),
-        tt,
-      ),
-    ),
+    (((tt, tt), (omega arith, tt)), fresh_first, plain_memory (Lit (pos 5) ∷ [])),
+    ((refl, ((0, inr (Lit (pos 5) ∷ [], refl, refl), λ h. refl, (((tt, omega arith), (tt, omega arith)), tt), refl, tt), ((0, inr (Lit (pos 5) ∷ [], refl, refl), λ h. refl, (((tt, omega arith), (tt, omega arith)), tt), refl, tt), ((0, inr (Lit (pos 5) ∷ [], refl, refl), λ h. refl, (((tt, omega arith), (tt, omega arith)), tt), refl, tt), tt)))), tt),
   );
   may = λ y e. refl;
-  apart = (tt, (tt, (reads_overlap, tt)));
   matches = empty_matches;
-  few = (omega (arith, ints), λ t e. (omega (arith, ints), λ u f. ((λ gs inner i j. (tt, λ v k. tt)), λ v k. tt)));
+  few = (omega (arith, ints), λ t e. ((λ gs inner i j. (tt, λ v k. tt)), λ v k. tt));
   runs = refl;
   done = (machine_of (run_c c_world (block_of top_ground.naming nothing overlapping) bare), refl);
 }

@@ -4,7 +4,8 @@ use Rattle.std.specs.Ordering.{int_eq}
 use Rattle.std.proofs.lemmas.Bool.{and_parts, and_from}
 use Rattle.std.specs.Cmp.Rules.{signed_items}
 use Rattle.std.specs.Cmp.{signed_Decides}
-use Rattle.exo_tree.specs.Tree.{Cell, I8, I32, Control, Datum, Const, Read, Negated, Relu, Plus, Minus, Times, Select}
+use Rattle.exo_tree.specs.Cells.{same_itself}
+use Rattle.exo_tree.specs.Tree.{Cell, Control, Datum, Const, Read, Negated, Relu, Plus, Minus, Times, Select}
 use Rattle.exo_meaning.specs.Value.{Value, stored_as, on_two}
 use Rattle.exo_meaning.specs.Scene.{Shape}
 use Rattle.exo_meaning.specs.State.{State, Place, place, held, is_there, changed, put, value, same_index}
@@ -19,10 +20,6 @@ use Rattle.std.proofs.Math.Nat.{le_refl}
 use Rattle.c_follows.proofs.Data.{sum_read, difference_read, product_read, negation_read, relu_read, select_read, literal_read, cell_read, stored_held}
 use Rattle.c_follows.proofs.Steps.{follows_then, follows_map, follows_both, follows_good}
 use Rattle.c_follows.proofs.Places.{AreOne, cell_follows}
-
-pub same_itself : (c : Cell) → same_cell c c ≡ true
-same_itself I8 = refl
-same_itself I32 = refl
 
 -- ---- one change on both sides
 

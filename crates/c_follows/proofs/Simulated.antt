@@ -16,7 +16,7 @@ use Rattle.c_widths.specs.Widths.{with_bounds}
 use Rattle.c_widths.specs.Laws.{EachTurn}
 use Rattle.c_widths.specs.Few.{Fewness, AllocatesFew, StatementAllocatesFew}
 use Rattle.c_follows.specs.Simulation.{Ground, Follows, Layout, HaveForms, Matches, Kept, Ran, Ends}
-use Rattle.c_follows.specs.Good.{IsBuffer, IsGood, IsGoodTest, IsGoodBlock, IsGoodStatement, IsFresh, MayStore, SharesNothing, StatementSharesNothing}
+use Rattle.c_follows.specs.Good.{IsBuffer, IsGood, IsGoodTest, IsGoodBlock, IsGoodStatement, IsFresh, MayStore}
 use Rattle.c_follows.proofs.Clauses.{Rest, AllocClause, ViewClause, CallClause}
 use Rattle.c_follows.proofs.Steps.{follows_then, follows_map, follows_done, follows_weaken}
 use Rattle.c_follows.proofs.Numbers.{same_number, bounded, narrow}
@@ -223,28 +223,28 @@ module _ (Few : Type 0) (g : Ground) (world : World) (few : Fewness) (c_world : 
       (λ t n e r. follows_weaken Few (Ends g forms layout t n) (Ends g forms layout s m) _ _ (k layout t n e r.matches) (λ u q x. ends_on g forms most root layout s m t n u q r x))
 
   mutual
-    pub block_follows : (forms : Forms) (most : ℕ → ℕ) (root : ℕ → ℕ) (layout : Layout) (b : Block) → IsGoodBlock g forms most b → MayStore g.stored world root b → SharesNothing world root b → (s : State) (m : Machine) → (Few → AllocatesFew world few b s) → Matches g forms most root layout s m → Follows Few (Ends g forms layout s m) (run world b s) (run_c c_world (block_of g.naming forms b) m)
-    block_follows forms most root layout end h may apart s m fw match = ends_refl g forms most root layout s m match
-    block_follows forms most root layout (next a b) h may apart s m fw match =
-        statement_follows forms most root layout a h.0 (λ y e. may y (or_left (step_writes world root a y) (writes world (roots_after a root) b y) e)) apart.0 s m (λ f. (fw f).0) match (run world b) (block_of g.naming (forms_after g.naming a forms) b)
-        (λ after_layout t n e r. block_follows (forms_after g.naming a forms) most (roots_after a root) after_layout b h.1 (λ y i. may y (or_right (step_writes world root a y) (writes world (roots_after a root) b y) i)) apart.1 t n (λ f. (fw f).1 t e) r)
+    pub block_follows : (forms : Forms) (most : ℕ → ℕ) (root : ℕ → ℕ) (layout : Layout) (b : Block) → IsGoodBlock g forms most b → MayStore g.stored world root b → (s : State) (m : Machine) → (Few → AllocatesFew world few b s) → Matches g forms most root layout s m → Follows Few (Ends g forms layout s m) (run world b s) (run_c c_world (block_of g.naming forms b) m)
+    block_follows forms most root layout end h may s m fw match = ends_refl g forms most root layout s m match
+    block_follows forms most root layout (next a b) h may s m fw match =
+        statement_follows forms most root layout a h.0 (λ y e. may y (or_left (step_writes world root a y) (writes world (roots_after a root) b y) e)) s m (λ f. (fw f).0) match (run world b) (block_of g.naming (forms_after g.naming a forms) b)
+        (λ after_layout t n e r. block_follows (forms_after g.naming a forms) most (roots_after a root) after_layout b h.1 (λ y i. may y (or_right (step_writes world root a y) (writes world (roots_after a root) b y) i)) t n (λ f. (fw f).1 t e) r)
 
-    statement_follows : (forms : Forms) (most : ℕ → ℕ) (root : ℕ → ℕ) (layout : Layout) (a : Statement) → IsGoodStatement g forms most a → ((y : ℕ) → step_writes world root a y ≡ true → g.stored y ≡ true) → StatementSharesNothing world root a → (s : State) (m : Machine) → (Few → StatementAllocatesFew world few a s) → Matches g forms most root layout s m → (go : State → Option State) (c : CBlock) → Rest Few g c_world (forms_after g.naming a forms) most (roots_after a root) (step world a s) go c → Follows Few (Ends g forms layout s m) (then_do (step world a s) go) (run_c c_world (before g.naming forms a c) m)
-    statement_follows forms most root layout (Assign x is e) h may apart s m fw match go c k =
+    statement_follows : (forms : Forms) (most : ℕ → ℕ) (root : ℕ → ℕ) (layout : Layout) (a : Statement) → IsGoodStatement g forms most a → ((y : ℕ) → step_writes world root a y ≡ true → g.stored y ≡ true) → (s : State) (m : Machine) → (Few → StatementAllocatesFew world few a s) → Matches g forms most root layout s m → (go : State → Option State) (c : CBlock) → Rest Few g c_world (forms_after g.naming a forms) most (roots_after a root) (step world a s) go c → Follows Few (Ends g forms layout s m) (then_do (step world a s) go) (run_c c_world (before g.naming forms a c) m)
+    statement_follows forms most root layout (Assign x is e) h may s m fw match go c k =
         subst (λ cell. Follows Few (Ends g forms layout s m) (then_do (assign x is e s) go) (after (store cell (cell_at_of g.naming forms x is) (number32_of g.naming forms e) m) (run_c c_world c))) (sym (cell_is forms x (length is) h.0))
         (and_rest forms most root layout s m _ _ go c k (assign_follows g forms most root layout Few s m match x is e h.0 h.1 h.2 (may (root x) (eq-eqb (root x) (root x) refl))))
-    statement_follows forms most root layout (Reduce x is e) h may apart s m fw match go c k =
+    statement_follows forms most root layout (Reduce x is e) h may s m fw match go c k =
         subst (λ cell. Follows Few (Ends g forms layout s m) (then_do (reduce x is e s) go) (after (add_to cell (cell_at_of g.naming forms x is) (number32_of g.naming forms e) m) (run_c c_world c))) (sym (cell_is forms x (length is) h.0))
         (and_rest forms most root layout s m _ _ go c k (reduce_follows g forms most root layout Few s m match x is e h.0 h.1 h.2 (may (root x) (eq-eqb (root x) (root x) refl))))
-    statement_follows forms most root layout (Config f a) h may apart s m fw match go c k = and_rest forms most root layout s m _ _ go c k (setting_follows g forms most root layout s m match Few world f h.1 h.2 a h.0)
-    statement_follows forms most root layout Pass h may apart s m fw match go c k = k layout s m refl match
-    statement_follows forms most root layout (If d a b) h may apart s m fw match go c k =
+    statement_follows forms most root layout (Config f a) h may s m fw match go c k = and_rest forms most root layout s m _ _ go c k (setting_follows g forms most root layout s m match Few world f h.1 h.2 a h.0)
+    statement_follows forms most root layout Pass h may s m fw match go c k = k layout s m refl match
+    statement_follows forms most root layout (If d a b) h may s m fw match go c k =
         and_rest forms most root layout s m _ _ go c k
         (branch_follows forms most root layout d h.0 s m match (run world a) (run world b) (run_c c_world (block_of g.naming forms a)) (run_c c_world (block_of g.naming forms b))
-        (λ e. block_follows forms most root layout a h.1 (λ y i. may y (or_left (writes world root a y) (writes world root b y) i)) apart.0 s m (λ f. (fw f).0 e) match)
-        (λ e. block_follows forms most root layout b h.2 (λ y i. may y (or_right (writes world root a y) (writes world root b y) i)) apart.1 s m (λ f. (fw f).1 e) match))
-    statement_follows forms most root layout (For i lo hi b) h may apart s m fw match go c k =
-        and_rest forms most root layout s m _ _ go c k (loop_follows Few g forms most root layout i.id lo hi h.0 h.1 h.2 (run world b) (run_c c_world (block_of g.naming (updated forms i.id NumberForm) b)) (AllocatesFew world few b) (block_follows (updated forms i.id NumberForm) (with_bounds most i.id lo hi) root layout b h.3 may apart) s m fw match)
-    statement_follows forms most root layout (Alloc x cell dims memory) h may apart s m fw match go c k = alloc_follows forms most root layout x cell dims memory h.0 h.1 h.2 (may x.id (eq-eqb x.id x.id refl)) s m fw match go c k
-    statement_follows forms most root layout (View w x coords) h may apart s m fw match go c k = view_follows forms most root layout w x coords h.0 h.1 h.2 h.3 s m match go c k
-    statement_follows forms most root layout (Call j args) h may apart s m fw match go c k = and_rest forms most root layout s m _ _ go c k (call_follows forms most root layout j args h may apart s m fw match)
+        (λ e. block_follows forms most root layout a h.1 (λ y i. may y (or_left (writes world root a y) (writes world root b y) i)) s m (λ f. (fw f).0 e) match)
+        (λ e. block_follows forms most root layout b h.2 (λ y i. may y (or_right (writes world root a y) (writes world root b y) i)) s m (λ f. (fw f).1 e) match))
+    statement_follows forms most root layout (For i lo hi b) h may s m fw match go c k =
+        and_rest forms most root layout s m _ _ go c k (loop_follows Few g forms most root layout i.id lo hi h.0 h.1 h.2 (run world b) (run_c c_world (block_of g.naming (updated forms i.id NumberForm) b)) (AllocatesFew world few b) (block_follows (updated forms i.id NumberForm) (with_bounds most i.id lo hi) root layout b h.3 may) s m fw match)
+    statement_follows forms most root layout (Alloc x cell dims memory) h may s m fw match go c k = alloc_follows forms most root layout x cell dims memory h.0 h.1 h.2 (may x.id (eq-eqb x.id x.id refl)) s m fw match go c k
+    statement_follows forms most root layout (View w x coords) h may s m fw match go c k = view_follows forms most root layout w x coords h.0 h.1 h.2 h.3 s m match go c k
+    statement_follows forms most root layout (Call j args) h may s m fw match go c k = and_rest forms most root layout s m _ _ go c k (call_follows forms most root layout j args h may s m fw match)

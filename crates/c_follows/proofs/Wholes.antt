@@ -19,7 +19,7 @@ use Rattle.c_follows.proofs.Steps.{follows_both}
 use Rattle.c_follows.proofs.Numbers.{same_numbers, on_both_done}
 use Rattle.c_follows.proofs.Places.{cell_inside, tensor_here, window_here}
 use Rattle.c_follows.proofs.Open.{whole_strides, rows_have}
-use Rattle.c_follows.proofs.Simulate.{same_itself}
+use Rattle.exo_tree.specs.Cells.{same_itself}
 use Rattle.c_follows.proofs.Handed.{all_numbers, have_length, whole_in_whole}
 use Rattle.c_follows.proofs.Begun.{whole_begins, all_extents, at_first}
 use Rattle.c_follows.proofs.Given.{IsPart, IsGivenAs}

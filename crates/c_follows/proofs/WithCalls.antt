@@ -70,7 +70,7 @@ module _ (Few : Type 0) (g : Ground) where
   calls_follow world few c_world calls = call_follows Few g world few c_world calls functions_given instructions_given
 
 pub blocks_follow : BlocksFollow
-blocks_follow g forms most root layout world kinds ps c_world b calls good may apart s m match =
+blocks_follow g forms most root layout world kinds ps c_world b calls good may s m match =
     let few = fewness_from kinds [] no_fewness ps in
     let Few = AllocatesFew world few b s in
-    block_follows Few g world few c_world (alloc_follows Few g c_world) (view_follows Few g c_world) (calls_follow Few g world few c_world calls) forms most root layout b good may apart s m (λ f. f) match
+    block_follows Few g world few c_world (alloc_follows Few g c_world) (view_follows Few g c_world) (calls_follow Few g world few c_world calls) forms most root layout b good may s m (λ f. f) match

@@ -7,9 +7,9 @@ use Rattle.c_follows.proofs.Views.{view_follows}
 use Rattle.c_follows.proofs.Simulated.{block_follows}
 
 pub blocks_without_calls_follow : BlocksWithoutCallsFollow
-blocks_without_calls_follow g forms most root layout world kinds ps c_world b not_called good may apart s m match =
+blocks_without_calls_follow g forms most root layout world kinds ps c_world b not_called good may s m match =
     let few = fewness_from kinds [] no_fewness ps in
     let Few = AllocatesFew world few b s in
     block_follows Few g world few c_world (alloc_follows Few g c_world) (view_follows Few g c_world)
-    (λ inner wide base place k args h stores shares t n some held. absurd (true≢false (sym h.0 ∙ not_called k)))
-    forms most root layout b good may apart s m (λ f. f) match
+    (λ inner wide base place k args h stores t n some held. absurd (true≢false (sym h.0 ∙ not_called k)))
+    forms most root layout b good may s m (λ f. f) match

@@ -10,7 +10,7 @@ use Rattle.c_machine.specs.CRun.{Behaviour, CWorld, run_c}
 use Rattle.c_machine.specs.Examples.{bare, alone}
 use Rattle.c_lowered.specs.Lowered.{block_of}
 use Rattle.c_follows.specs.Simulation.{Ground, Matches}
-use Rattle.c_follows.specs.Good.{IsGoodBlock, MayStore, SharesNothing}
+use Rattle.c_follows.specs.Good.{IsGoodBlock, MayStore}
 use Rattle.c_follows.specs.Calls.{CallsFollow}
 use Rattle.c_follows.specs.Functions.{behaviour_of}
 use Rattle.c_follows.specs.Instance.{naming_with, nothing, zero_bounds, itself, layout, empty}
@@ -104,7 +104,6 @@ pub record CallOfCall : Type 0 where
   pub calls : CallsFollow top_ground whole_world few_of top_c_world
   pub good : IsGoodBlock top_ground nothing zero_bounds calling_both
   pub may : MayStore top_ground.stored whole_world itself calling_both
-  pub apart : SharesNothing whole_world itself calling_both
   pub matches : Matches top_ground nothing zero_bounds itself layout empty bare
   pub few : AllocatesFew whole_world few_of calling_both empty
   pub runs : IsSome (run whole_world calling_both empty)

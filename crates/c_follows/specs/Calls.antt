@@ -12,7 +12,7 @@ use Rattle.c_machine.specs.CRun.{Behaviour, CWorld, run_c}
 use Rattle.c_lowered.specs.Lowered.{Hole, Forms, param_forms, block_of}
 use Rattle.c_lowered.specs.LoweredUnit.{formals_of}
 use Rattle.c_follows.specs.Simulation.{Ground, Follows, Layout, Matches, Ends}
-use Rattle.c_follows.specs.Good.{IsGoodBlock, MayStore, SharesNothing, AreGoodParams, AreNamedApart}
+use Rattle.c_follows.specs.Good.{IsGoodBlock, MayStore, AreGoodParams, AreNamedApart}
 
 -- What is called does in the C what it does in the source: its body follows, from wherever its parameters hold the same,
 -- on ground of its own, which has the caller's fields and functions.
@@ -64,7 +64,6 @@ BlocksFollow =
     CallsFollow g world few c_world
     → IsGoodBlock g forms most b
     → MayStore g.stored world root b
-    → SharesNothing world root b
     → (s : State) (m : Machine)
     → Matches g forms most root layout s m
     → Follows (AllocatesFew world few b s) (Ends g forms layout s m)
@@ -79,7 +78,6 @@ BlocksWithoutCallsFollow =
     ((k : ℕ) → g.called k ≡ false)
     → IsGoodBlock g forms most b
     → MayStore g.stored world root b
-    → SharesNothing world root b
     → (s : State) (m : Machine)
     → Matches g forms most root layout s m
     → Follows (AllocatesFew world few b s) (Ends g forms layout s m)

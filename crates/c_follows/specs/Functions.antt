@@ -12,7 +12,7 @@ use Rattle.c_machine.specs.CRun.{Behaviour, CWorld, run_c, run_in_place}
 use Rattle.c_lowered.specs.Lowered.{param_forms, block_of}
 use Rattle.c_lowered.specs.LoweredUnit.{formals_of}
 use Rattle.c_follows.specs.Simulation.{Ground, Follows, Layout}
-use Rattle.c_follows.specs.Good.{IsGoodBlock, MayStore, SharesNothing, AreGoodParams, AreNamedApart}
+use Rattle.c_follows.specs.Good.{IsGoodBlock, MayStore, AreGoodParams, AreNamedApart}
 use Rattle.c_follows.specs.SameInput.{AreSame, AreSeparate}
 use Rattle.c_follows.specs.Units.{LeavesTheSame}
 use Rattle.c_follows.specs.Calls.{CallsFollow}
@@ -59,7 +59,6 @@ FunctionsFollow =
     → AreGoodParams (param_forms p.params) most p.params
     → IsGoodBlock g (param_forms p.params) most p.body
     → MayStore g.stored world (λ x. x) p.body
-    → SharesNothing world (λ x. x) p.body
     → IsValid world p s
     → IsSameInput g most layout s ts m p.params
     → Follows (AllocatesFew world few p.body s) (LeavesTheSame g.naming g.declared layout s m)
@@ -76,7 +75,6 @@ FunctionsWithoutCallsFollow =
     → AreGoodParams (param_forms p.params) most p.params
     → IsGoodBlock g (param_forms p.params) most p.body
     → MayStore g.stored world (λ x. x) p.body
-    → SharesNothing world (λ x. x) p.body
     → IsValid world p s
     → IsSameInput g most layout s ts m p.params
     → Follows (AllocatesFew world few p.body s) (LeavesTheSame g.naming g.declared layout s m)

@@ -4,9 +4,7 @@ use Rattle.exo_tree.specs.Tree.{Cell, I32, Control, Lit, Var, Field, StrideOf, N
 use Rattle.exo_meaning.specs.Value.{wrap}
 use Rattle.exo_meaning.specs.Scene.{updated}
 use Rattle.exo_meaning.specs.Units.{spans}
-use Rattle.exo_meaning.specs.Run.{World, writes, roots_after}
-use Rattle.exo_meaning.specs.Calls.{Callee}
-use Rattle.inplace_laws.specs.Shared.{DoNotShare}
+use Rattle.exo_meaning.specs.Run.{World, writes}
 use Rattle.c_tree.specs.CTree.{Name}
 use Rattle.c_machine.specs.Machine.{same_name}
 use Rattle.c_widths.specs.Magnitude.{magnitude}
@@ -286,31 +284,6 @@ abbrev mutual
 -- the block makes, writes and reduces no other buffers than these
 abbrev pub MayStore : (ℕ → Bool) → World → (ℕ → ℕ) → Block → Type 0
 MayStore stored world root b = (y : ℕ) → writes world root b y ≡ true → stored y ≡ true
-
-abbrev pub CallSharesNothing : Option Callee → (ℕ → ℕ) → List Argument → Type 0
-CallSharesNothing None root args = ⊤
-CallSharesNothing (Some c) root args = DoNotShare root c.writes c.procedure.params args
-
--- no call has a buffer twice that its callee may write there
-abbrev mutual
-  pub SharesNothing : World → (ℕ → ℕ) → Block → Type 0
-  SharesNothing world root end = ⊤
-  SharesNothing world root (next a b) =
-      StatementSharesNothing world root a
-      × SharesNothing world (roots_after a root) b
-
-  pub StatementSharesNothing : World → (ℕ → ℕ) → Statement → Type 0
-  StatementSharesNothing world root (Assign x is e) = ⊤
-  StatementSharesNothing world root (Reduce x is e) = ⊤
-  StatementSharesNothing world root (Config f a) = ⊤
-  StatementSharesNothing world root Pass = ⊤
-  StatementSharesNothing world root (If c a b) =
-      SharesNothing world root a
-      × SharesNothing world root b
-  StatementSharesNothing world root (For i lo hi b) = SharesNothing world root b
-  StatementSharesNothing world root (Alloc x cell dims memory) = ⊤
-  StatementSharesNothing world root (View w x coords) = ⊤
-  StatementSharesNothing world root (Call k args) = CallSharesNothing (world.callees k) root args
 
 -- ---- parameters
 

@@ -1,7 +1,7 @@
--- A closed instance of calls: two windows that overlap are handed on to be read.
+-- A closed instance of calls: of one tensor, two windows that overlap are handed on to be read, and one beside them to be written.
 use Rattle.std.specs.Prelude.{◌≡◌, ◌==◌, ℕ, pos, Bool, true, false, List, [], ◌∷◌, codes, Some, slice_get}
 use Rattle.std.specs.Option.{IsSome}
-use Rattle.exo_tree.specs.Tree.{Binder, I32, Lit, Read, Plus, Assign, Alloc, Span, Whole, Window, Call, Block, end, next, Param, TensorParam, WindowParam, Procedure}
+use Rattle.exo_tree.specs.Tree.{Binder, I32, Lit, Read, Plus, Assign, Alloc, Span, Window, Call, Block, end, next, Param, WindowParam, Procedure}
 use Rattle.exo_meaning.specs.Calls.{Callee}
 use Rattle.exo_meaning.specs.Run.{World, run, callee_in, unit_world}
 use Rattle.c_widths.specs.Few.{Fewness, AllocatesFew, no_fewness, fewness_from}
@@ -10,7 +10,7 @@ use Rattle.c_machine.specs.CRun.{Behaviour, CWorld, run_c}
 use Rattle.c_machine.specs.Examples.{bare, alone}
 use Rattle.c_lowered.specs.Lowered.{block_of}
 use Rattle.c_follows.specs.Simulation.{Ground, Matches}
-use Rattle.c_follows.specs.Good.{IsGoodBlock, MayStore, SharesNothing}
+use Rattle.c_follows.specs.Good.{IsGoodBlock, MayStore}
 use Rattle.c_follows.specs.Calls.{CallsFollow}
 use Rattle.c_follows.specs.Functions.{behaviour_of}
 use Rattle.c_follows.specs.Instance.{naming_with, nothing, zero_bounds, itself, layout, empty}
@@ -19,12 +19,12 @@ use Rattle.c_follows.specs.CallOfCall.{no_kinds, lower_world}
 abbrev pub called_by_letter : ℕ → Binder
 called_by_letter x = record { id = x; name = x ∷ [] }
 
--- (x: [i32][2], y: [i32][2], z: i32[2])
+-- (x: [i32][2], y: [i32][2], z: [i32][2])
 abbrev pub params : List Param
 params =
     record { binder = called_by_letter 0; kind = WindowParam I32 (Lit (pos 2) ∷ []) 0 }
     ∷ record { binder = called_by_letter 1; kind = WindowParam I32 (Lit (pos 2) ∷ []) 0 }
-    ∷ record { binder = called_by_letter 2; kind = TensorParam I32 (Lit (pos 2) ∷ []) 0 }
+    ∷ record { binder = called_by_letter 2; kind = WindowParam I32 (Lit (pos 2) ∷ []) 0 }
     ∷ []
 
 -- z[0] = x[0] + y[1]
@@ -37,12 +37,11 @@ adding = record {
   template = Some [];
 }
 
--- t : i32[3]; u : i32[2]; a call with t[0:2], t[1:3] and u
+-- t : i32[5]; a call with t[0:2], t[1:3] and t[3:5]
 abbrev pub overlapping : Block
 overlapping =
-    next (Alloc (called_by_letter 3) I32 (Lit (pos 3) ∷ []) 0)
-    (next (Alloc (called_by_letter 4) I32 (Lit (pos 2) ∷ []) 0)
-    (next (Call 0 (Window 3 (Span (Lit (pos 0)) (Lit (pos 2)) ∷ []) ∷ Window 3 (Span (Lit (pos 1)) (Lit (pos 3)) ∷ []) ∷ Whole 4 ∷ [])) end))
+    next (Alloc (called_by_letter 3) I32 (Lit (pos 5) ∷ []) 0)
+    (next (Call 0 (Window 3 (Span (Lit (pos 0)) (Lit (pos 2)) ∷ []) ∷ Window 3 (Span (Lit (pos 1)) (Lit (pos 3)) ∷ []) ∷ Window 3 (Span (Lit (pos 3)) (Lit (pos 5)) ∷ []) ∷ [])) end)
 
 abbrev pub callee : Callee
 callee = callee_in lower_world adding
@@ -80,7 +79,6 @@ pub record Overlapping : Type 0 where
   pub calls : CallsFollow top_ground world few_of c_world
   pub good : IsGoodBlock top_ground nothing zero_bounds overlapping
   pub may : MayStore top_ground.stored world itself overlapping
-  pub apart : SharesNothing world itself overlapping
   pub matches : Matches top_ground nothing zero_bounds itself layout empty bare
   pub few : AllocatesFew world few_of overlapping empty
   pub runs : IsSome (run world overlapping empty)

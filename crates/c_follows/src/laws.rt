@@ -44,8 +44,8 @@ pub fn call_of_call_instance()
     ensures { CallOfCall }
 {}
 
-/// A block that hands on two windows of one tensor that overlap, to be read, meets what the law on blocks asks, and its C
-/// is done.
+/// A block that hands on two windows of one tensor that overlap, to be read, and one beside them, to be written, meets what
+/// the law on blocks asks, and its C is done.
 pub fn overlapping_instance()
     ensures { Overlapping }
 {}

@@ -6,7 +6,7 @@ use Rattle.c_lowered.specs.Examples.{WindowsArePrinted, InstructionsArePrinted}
 
 pub windows_are_printed : WindowsArePrinted
 unfolding digits is_word
-windows_are_printed = record { as_argument = refl; as_view = refl }
+windows_are_printed = record { as_argument = refl; as_view = refl; by_type = refl }
 
 pub instructions_are_printed : InstructionsArePrinted
 unfolding digits is_word

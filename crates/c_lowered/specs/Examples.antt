@@ -1,6 +1,6 @@
 -- Closed texts, by which the rules of lowering can be read off.
 use Rattle.std.specs.Prelude.{◌≡◌, ℕ, suc, pos, true, false, List, [], ◌∷◌, ◌++◌, codes, Some, None}
-use Rattle.exo_tree.specs.Tree.{I32, Size, Binder, Control, Lit, Var, StrideOf, Sub, Condition, Eq, Coord, At, Span, ControlArg, Whole, Window, Const, Read, Statement, Assign, For, Alloc, View, Call, Block, end, next, Param, ParamKind, ControlParam, TensorParam, WindowParam, Procedure, MemoryKind, Program}
+use Rattle.exo_tree.specs.Tree.{Cell, I8, I16, I32, Ui8, Size, Binder, Control, Lit, Var, StrideOf, Sub, Condition, Eq, Coord, At, Span, ControlArg, Whole, Window, Const, Read, Statement, Assign, For, Alloc, View, Call, Block, end, next, Param, ParamKind, ControlParam, TensorParam, WindowParam, Procedure, MemoryKind, Program}
 use Rattle.c_tree.specs.CText.{Text, margin, each, struct_text, function_text}
 use Rattle.c_tree.specs.CTree.{CUnit}
 use Rattle.c_lowered.specs.LoweredUnit.{Printing, lowered}
@@ -61,6 +61,29 @@ fill_lines =
     ++ margin (codes "}") ++ margin []
     ++ margin (codes "void col(int64_t M, int64_t N, int32_t *A) {")
 
+abbrev pub one_cell : ℕ → List ℕ → Cell → Param
+one_cell id name cell = param id name (WindowParam cell (Lit (pos 1) ∷ []) 0)
+
+-- def put(a: [ui8][1], b: [i16][1], c: [i8][1]): a[0] = 200
+abbrev pub put : Procedure
+put = record {
+  name = codes "put";
+  params = one_cell 0 (codes "a") Ui8 ∷ one_cell 1 (codes "b") I16 ∷ one_cell 2 (codes "c") I8 ∷ [];
+  asserts = [];
+  body = next (Assign 0 (Lit (pos 0) ∷ []) (Const (pos 200))) end;
+  template = None;
+}
+
+abbrev pub put_lines : Text
+put_lines =
+    margin (codes "struct exo_win_1i8 { int8_t *data; int64_t strides[1]; };")
+    ++ margin (codes "struct exo_win_1i16 { int16_t *data; int64_t strides[1]; };")
+    ++ margin (codes "struct exo_win_1ui8 { uint8_t *data; int64_t strides[1]; };") ++ margin []
+    ++ margin
+    (codes "void put(struct exo_win_1ui8 a, struct exo_win_1i16 b, struct exo_win_1i8 c) {")
+    ++ margin (codes "    a.data[(0LL * a.strides[0])] = (uint8_t)200u;")
+    ++ margin (codes "}")
+
 pub record WindowsArePrinted : Type 0 where
   pub as_argument :
       columns (next (Call 0 (ControlArg (Var 3) ∷ Window 5 last_column ∷ [])) end) ≡
@@ -68,6 +91,10 @@ pub record WindowsArePrinted : Type 0 where
   pub as_view :
       columns (next (View (named 6 (codes "v")) 5 last_column) (next (Call 0 (ControlArg (Var 3) ∷ Whole 6 ∷ [])) end)) ≡
       fill_lines ++ margin (codes "    struct exo_win_1i32 v = (struct exo_win_1i32){ &A[((0LL * N) + (N - 1LL))], { N } };") ++ margin (codes "    fill(M, v);") ++ margin (codes "}")
+  pub by_type :
+      lines_of (lowered
+      (record { procedures = put ∷ []; fields = []; memories = [] }) (printed 0 (codes "put") ∷ []))
+      ≡ put_lines
 
 -- ---- instructions and vectors
 

@@ -1,7 +1,7 @@
 -- The C of a unit.
 use Rattle.std.specs.Prelude.{ℕ, zero, suc, ◌==◌, Bool, true, false, not, ◌&&◌, ◌||◌, if◌then◌else◌, List, [], ◌∷◌, ◌++◌, map, length, codes, Option, Some, None, option_map, slice_get}
 use Rattle.std.specs.List.{list_any}
-use Rattle.exo_tree.specs.Tree.{Cell, I8, I32, Binder, Control, Lit, Var, Field, StrideOf, Neg, Add, Sub, Mul, Div, Mod, Condition, True, False, Flag, FieldFlag, Lt, Le, Gt, Ge, Eq, And, Or, Argument, ControlArg, ConditionArg, Whole, Window, Statement, Config, If, For, Alloc, Call, Block, end, next, Param, ParamKind, ControlParam, TensorParam, WindowParam, Procedure, ConfigField, MemoryKind, Program}
+use Rattle.exo_tree.specs.Tree.{Cell, I8, I16, I32, Ui8, Binder, Control, Lit, Var, Field, StrideOf, Neg, Add, Sub, Mul, Div, Mod, Condition, True, False, Flag, FieldFlag, Lt, Le, Gt, Ge, Eq, And, Or, Argument, ControlArg, ConditionArg, Whole, Window, Statement, Config, If, For, Alloc, Call, Block, end, next, Param, ParamKind, ControlParam, TensorParam, WindowParam, Procedure, ConfigField, MemoryKind, Program}
 use Rattle.exo_meaning.specs.Units.{Reading, Plain, Opened, Closed, InHole, same_cell}
 use Rattle.exo_calls.specs.Closed.{closed}
 use Rattle.c_tree.specs.CTree.{Name, Actual, WindowOf, CStatement, Branch, Loop, Bind, CallOf, CBlock, stop, first, Formal, Number64Param, ArrayParam, WindowParamOf, CFunction, ReportLine, StructOf, CUnit}
@@ -240,9 +240,15 @@ in_formal s (WindowParamOf rank cell x) = is_struct rank cell s
 abbrev pub names_struct : StructOf → CFunction → Bool
 names_struct s f = list_any (in_formal s) f.formals || struct_in_block s f.body
 
+abbrev pub struct_at : ℕ → Cell → StructOf
+struct_at rank cell = record { rank = rank; cell = cell }
+
+abbrev pub structs_of_rank : ℕ → List StructOf
+structs_of_rank rank = map (struct_at rank) (I8 ∷ I16 ∷ I32 ∷ Ui8 ∷ [])
+
 abbrev pub structs_from : ℕ → ℕ → List StructOf
 structs_from zero rank = []
-structs_from (suc n) rank = record { rank = rank; cell = I8 } ∷ (record { rank = rank; cell = I32 } ∷ structs_from n (suc rank))
+structs_from (suc n) rank = structs_of_rank rank ++ structs_from n (suc rank)
 
 -- by rank, and then by type
 abbrev pub all_structs : List StructOf

@@ -2,7 +2,7 @@
 
 ghost use Rattle.c_lowered.specs.Examples.{WindowsArePrinted, InstructionsArePrinted};
 
-/// A window is a struct by value, as an argument and as a view.
+/// A window is a struct by value, as an argument and as a view. Structs of one rank stand in the order of their types.
 pub fn windows_are_printed()
     ensures { WindowsArePrinted }
 {}

@@ -86,5 +86,5 @@ stride_put old new n c ts k count b counted is on value pushed =
     ∙ ap (λ l. map plain_number old ++ l) (ap (λ t. t ∷ []) value ∙ sym (span_here c ts k count b counted is on))
 
 -- a window by its parts
-pub window_same : (cell t : Cell) (first ref : CellRef) (ts us : List Number64) → cell ≡ t → first ≡ ref → ts ≡ us → WindowOf (length ts) cell first ts ≡ WindowOf (length us) t ref us
-window_same cell t first ref ts us e f g = λ i. WindowOf (length (g i)) (e i) (f i) (g i)
+pub window_same : (cell : Cell) (first ref : CellRef) (ts us : List Number64) → first ≡ ref → ts ≡ us → WindowOf (length ts) cell first ts ≡ WindowOf (length us) cell ref us
+window_same cell first ref ts us f g = λ i. WindowOf (length (g i)) cell (f i) (g i)

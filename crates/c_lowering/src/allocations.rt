@@ -11,7 +11,6 @@ ghost use Rattle.c_lowering.specs.Heads.{is_on_stack, allocated_as, buffer_of};
 
 use crate::names::{Memory, Names};
 use crate::numbers::{lower_product, own};
-use crate::scope::c_type;
 use c_tree::tree::{CElement, CStatement};
 use exo_tree::{Binder, Cell, Ctrl, Indices, MemId};
 use std::alloc::{AllocError, Global};
@@ -70,10 +69,10 @@ fn element(alloc: Global, memory: Memory<'_>, cell: Cell) -> Result<CElement, Al
     ensures { IfOk result (λ e. plain_element e ≡ element_of (memory_in memory.entry) (cell_type cell)) }
 {
     if memory.lanes == 0 {
-        return Ok(CElement::Single(c_type(cell)));
+        return Ok(CElement::Single(cell));
     }
     let ctype = String::from_str(alloc, memory.ctype)?;
-    Ok(CElement::Vector(ctype, memory.lanes, c_type(cell)))
+    Ok(CElement::Vector(ctype, memory.lanes, cell))
 }
 
 /// Whether an allocation is on the stack: where its memory is, or where it is one cell.

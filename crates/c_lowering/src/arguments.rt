@@ -6,7 +6,7 @@ ghost use Rattle.exo_tree.specs.PlainControl.{control, coordinate};
 ghost use Rattle.exo_tree.specs.PlainArgument.{argument};
 ghost use Rattle.exo_tree.specs.PlainParam.{parameter, parameter_kind};
 ghost use Rattle.c_tree.specs.CTree.{Alone, WindowOf};
-ghost use Rattle.c_tree.specs.Plain.{plain_type, plain_number, plain_cell, plain_window, plain_actual};
+ghost use Rattle.c_tree.specs.Plain.{plain_number, plain_cell, plain_window, plain_actual};
 ghost use Rattle.c_lowered.specs.Lowered.{Naming, strides_in, at_spans, zeros, cell_ref, cell_at_of, lower_end, window_of, whole_window, whole_tensor, actual_of, actuals_of};
 ghost use Rattle.c_lowering.specs.Scope.{forms_in};
 ghost use Rattle.c_lowering.specs.Naming.{naming_of};
@@ -15,8 +15,8 @@ ghost use Rattle.c_lowering.specs.Whole.{is_span, whole_of};
 use crate::expressions::{lower_cell, lower_test};
 use crate::names::Names;
 use crate::numbers::{lower_number, lower_stride};
-use crate::scope::{Entry, Form, c_type, find, stride_count};
-use c_tree::tree::{CActual, CCell, CNumber, CStruct, CType, CWindow};
+use crate::scope::{Entry, Form, find, stride_count};
+use c_tree::tree::{CActual, CCell, CNumber, CStruct, CWindow};
 use exo_tree::{Arg, Cell, Coord, Coords, Ctrl, Id, Indices, Param, ParamKind};
 use std::alloc::{AllocError, Global};
 
@@ -157,8 +157,8 @@ pub(crate) fn first_of_window(
 }
 
 /// A window by its first cell and its strides.
-fn window_from(cell: CType, first: CCell, strides: Vec<CNumber>) -> CWindow
-    ensures { plain_window result ≡ WindowOf (length (map plain_number strides.items)) (plain_type cell) (plain_cell first) (map plain_number strides.items) }
+fn window_from(cell: Cell, first: CCell, strides: Vec<CNumber>) -> CWindow
+    ensures { plain_window result ≡ WindowOf (length (map plain_number strides.items)) (cell_type cell) (plain_cell first) (map plain_number strides.items) }
 {
     let kind = CStruct {
         rank: strides.len(),
@@ -177,10 +177,10 @@ pub(crate) fn lower_window(
     names: &Names<'_>,
     scope: &[Entry],
     x: Id,
-    cell: CType,
+    cell: Cell,
     coords: &Coords,
 ) -> Result<CWindow, AllocError>
-    ensures { IfOk result (λ w. plain_window w ≡ window_of (naming_of names.now) (forms_in scope.now) x.0 (plain_type cell) coords.now) }
+    ensures { IfOk result (λ w. plain_window w ≡ window_of (naming_of names.now) (forms_in scope.now) x.0 (cell_type cell) coords.now) }
 {
     let first = first_of_window(alloc, names, scope, x, coords)?;
     let strides = span_strides(alloc, names, scope, x, coords.as_slice())?;
@@ -199,7 +199,7 @@ fn window_of_whole(
 {
     let first = first_of_whole(alloc, names, scope, x)?;
     let strides = lower_strides(alloc, names, scope, x)?;
-    Ok(window_from(c_type(cell), first, strides))
+    Ok(window_from(cell, first, strides))
 }
 
 /// A name as an argument.
@@ -276,12 +276,7 @@ fn lower_part(
             alloc, names, scope, x, coords,
         )?)),
         ParamKind::Window(cell, _, _) => Ok(CActual::Window(lower_window(
-            alloc,
-            names,
-            scope,
-            x,
-            c_type(*cell),
-            coords,
+            alloc, names, scope, x, *cell, coords,
         )?)),
     }
 }

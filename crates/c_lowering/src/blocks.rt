@@ -9,7 +9,7 @@ ghost use Rattle.exo_tree.specs.PlainArgument.{argument};
 ghost use Rattle.exo_tree.specs.PlainStatement.{statement};
 ghost use Rattle.exo_meaning.specs.Scene.{updated};
 ghost use Rattle.c_tree.specs.CTree.{cblock, followed_by};
-ghost use Rattle.c_tree.specs.Plain.{plain_type, plain_cell, plain_data, plain_statement};
+ghost use Rattle.c_tree.specs.Plain.{plain_cell, plain_data, plain_statement};
 ghost use Rattle.c_lowered.specs.Lowered.{NumberForm, TensorForm, WindowForm, cell_in, strides_in, at_spans, cell_at_of, number32_of, block_of, forms_after};
 ghost use Rattle.c_lowering.specs.Scope.{forms_in};
 ghost use Rattle.c_lowering.specs.Naming.{naming_of};
@@ -20,8 +20,8 @@ use crate::arguments::{lower_actual, lower_window, span_count};
 use crate::calls::lower_call;
 use crate::expressions::{lower_cell, lower_data, lower_sides, lower_test};
 use crate::names::Names;
-use crate::scope::{Entry, Form, buffer_cell, cell_type, enter};
-use c_tree::tree::{CBlock, CCell, CData, CStatement, CType};
+use crate::scope::{Entry, Form, buffer_cell, enter};
+use c_tree::tree::{CBlock, CCell, CData, CStatement};
 use exo_tree::{
     Arg, Binder, Block, Cell, Cond, Coords, Ctrl, DataExpr, FieldId, Id, Indices, Kind, MemId,
     ParamKind, Stmt,
@@ -36,14 +36,14 @@ fn lower_store(
     x: Id,
     is: &Indices,
     e: &DataExpr,
-) -> Result<(CType, CCell, Box<CData>), AllocError>
-    ensures cell_type { IfOk result (λ r. plain_type r.0 ≡ cell_in (forms_in scope.now x.0) I32) }
+) -> Result<(Cell, CCell, Box<CData>), AllocError>
+    ensures cell_type { IfOk result (λ r. plain.cell_type r.0 ≡ cell_in (forms_in scope.now x.0) I32) }
     ensures cell { IfOk result (λ r. plain_cell r.1 ≡ cell_at_of (naming_of names.now) (forms_in scope.now) x.0 is.now) }
     ensures value { IfOk result (λ r. plain_data r.2.value ≡ number32_of (naming_of names.now) (forms_in scope.now) (datum e.now)) }
 {
     let cell = lower_cell(alloc, names, scope, x, is)?;
     let value = lower_data(alloc, names, scope, e)?;
-    Ok((cell_type(scope, x), cell, value))
+    Ok((buffer_cell(scope, x), cell, value))
 }
 
 /// The C of a condition with its branches.
@@ -132,7 +132,7 @@ fn lower_view(
     ensures { IfOk result (λ s. plain_statement s ≡ head_of (naming_of names.now) (forms_in scope.now) (View (binding w.now) x.0 coords.now)) }
 {
     let name = names.binder(alloc, w.id)?;
-    let window = lower_window(alloc, names, scope, x, cell_type(scope, x), coords)?;
+    let window = lower_window(alloc, names, scope, x, buffer_cell(scope, x), coords)?;
     Ok(CStatement::Bind(name, window))
 }
 

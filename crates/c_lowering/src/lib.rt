@@ -13,4 +13,4 @@ mod templates;
 
 pub use blocks::lower_block;
 pub use names::{Names, field_name};
-pub use scope::{Entry, Form, c_type, enter};
+pub use scope::{Entry, Form, enter};

@@ -4,11 +4,9 @@ ghost use Rattle.std.specs.Option.{option_copied};
 ghost use Rattle.exo_tree.specs.Tree.{I32};
 ghost use Rattle.exo_tree.specs.PlainBinder.{cell_type};
 ghost use Rattle.exo_meaning.specs.Scene.{updated};
-ghost use Rattle.c_tree.specs.Plain.{plain_type};
 ghost use Rattle.c_lowered.specs.Lowered.{Naming, cell_in, strides_in};
 ghost use Rattle.c_lowering.specs.Scope.{form_of, or_no_form, forms_in};
 
-use c_tree::tree::CType;
 use exo_tree::{Cell, Id, Indices};
 use std::alloc::AllocError;
 
@@ -50,16 +48,6 @@ pub fn enter(scope: &mut Vec<Entry>, id: Id, form: Form) -> Result<(), AllocErro
     Ok(())
 }
 
-/// The C type of cells.
-pub fn c_type(cell: Cell) -> CType
-    ensures { plain_type result ≡ cell_type cell }
-{
-    match cell {
-        Cell::I8 => CType::Int8,
-        Cell::I32 => CType::Int32,
-    }
-}
-
 /// The type of the cells of a buffer or window; `i32` for another name.
 pub(crate) fn buffer_cell(scope: &[Entry], x: Id) -> Cell
     ensures { cell_type result ≡ cell_in (forms_in scope.now x.0) I32 }
@@ -70,13 +58,6 @@ pub(crate) fn buffer_cell(scope: &[Entry], x: Id) -> Cell
         Some(Form::Number) => Cell::I32,
         None => Cell::I32,
     }
-}
-
-/// The C type of the cells of a buffer or window; `int32_t` for another name.
-pub(crate) fn cell_type(scope: &[Entry], x: Id) -> CType
-    ensures { plain_type result ≡ cell_in (forms_in scope.now x.0) I32 }
-{
-    c_type(buffer_cell(scope, x))
 }
 
 /// How many strides a name has: one for each dimension of a buffer or window, none for another name.

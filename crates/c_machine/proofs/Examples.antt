@@ -21,7 +21,7 @@ cells_are_checked = record {
 
 pub stores_wrap : StoresWrap
 unfolding int_wrap
-stores_wrap = record { low_bits = refl }
+stores_wrap = record { signed_8 = refl; signed_16 = refl; unsigned_8 = refl; below_zero = refl; one_more = refl }
 
 pub calls_are_in_place : CallsAreInPlace
 unfolding int_wrap

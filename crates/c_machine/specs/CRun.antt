@@ -49,6 +49,7 @@ abbrev pub into_object : Option Object → Value → Value
 into_object None v = v
 into_object (Some o) v = stored_as o.cell v
 
+-- the conversion to the cell's type is taken modulo its width
 abbrev pub put32 : Machine → Cell → (Value → Value) → Pointer → Machine
 put32 m cell f p = record m { contents = with_change m.contents p (λ old. into_object (m.setting.objects p.object) (stored_as cell (f old))) }
 

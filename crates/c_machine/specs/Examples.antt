@@ -1,8 +1,8 @@
 -- Closed runs, by which the rules of the machine can be read off.
 use Rattle.std.specs.Prelude.{◌≡◌, ℕ, ℤ, pos, negsuc, ◌+ℤ◌, ◌==◌, false, if◌then◌else◌, List, [], ◌∷◌, map, codes, Option, Some, None}
-use Rattle.exo_tree.specs.Tree.{Cell, I8, I32}
+use Rattle.exo_tree.specs.Tree.{Cell, I8, I16, I32, Ui8}
 use Rattle.exo_meaning.specs.Value.{Value, Undefined, Number}
-use Rattle.c_tree.specs.CTree.{Name, Single, Vector, Number64, Literal, Named, StrideIn, Sum, Difference, Product, Quotient, Remainder, CellRef, InArray, InWindow, Literal32, Read32, Actual, Control64, Alone, WindowOf, CStatement, Store, Loop, Array, Malloc, Free, Bind, CallOf, Instruction, CBlock, stop, first, Number64Param, ArrayParam, WindowParamOf, CFunction, CUnit}
+use Rattle.c_tree.specs.CTree.{Name, Single, Vector, Number64, Literal, Named, StrideIn, Sum, Difference, Product, Quotient, Remainder, CellRef, InArray, InWindow, Number32, Literal32, Read32, Difference32, Actual, Control64, Alone, WindowOf, CStatement, Store, AddTo, Loop, Array, Malloc, Free, Bind, CallOf, Instruction, CBlock, stop, first, Number64Param, ArrayParam, WindowParamOf, CFunction, CUnit}
 use Rattle.c_machine.specs.Machine.{Outcome, Done, Fault, NoStore, after, IsNumber, IsArray, Machine, number64}
 use Rattle.c_machine.specs.CRun.{CWorld, Behaviour, run_c, run_file}
 
@@ -49,8 +49,25 @@ pub record CellsAreChecked : Type 0 where
   pub no_store : first_cell (made (pos 281474976710657) stop) ≡ NoStore
   pub stored : first_cell (made (pos 281474976710656) stop) ≡ Done Undefined
 
+-- `x[0] = (TYPE)E;` in a cell of that type, and what comes after
+abbrev pub put_in : Cell → Number32 → CBlock → CBlock
+put_in cell e rest =
+    first (Array (Single cell) x (pos 1))
+    (first (Store cell (InArray x (Literal (pos 0))) e) rest)
+
+abbrev pub kept : Cell → Number32 → Outcome Value
+kept cell e = first_cell (put_in cell e stop)
+
 pub record StoresWrap : Type 0 where
-  pub low_bits : first_cell (made (pos 1) (first (put8 (pos 0) (pos 200)) stop)) ≡ Done (Number (negsuc 55))
+  pub signed_8 : kept I8 (Literal32 (pos 200)) ≡ Done (Number (negsuc 55))
+  pub signed_16 : kept I16 (Literal32 (pos 40000)) ≡ Done (Number (negsuc 25535))
+  pub unsigned_8 : kept Ui8 (Literal32 (pos 200)) ≡ Done (Number (pos 200))
+  pub below_zero :
+      kept Ui8 (Difference32 (Literal32 (pos 0)) (Literal32 (pos 1))) ≡ Done (Number (pos 255))
+  pub one_more :
+      first_cell (put_in Ui8 (Literal32 (pos 255))
+      (first (AddTo Ui8 (InArray x (Literal (pos 0))) (Literal32 (pos 1))) stop))
+      ≡ Done (Number (pos 0))
 
 -- ---- calls
 

@@ -13,7 +13,7 @@ pub fn cells_are_checked()
     ensures { CellsAreChecked }
 {}
 
-/// A store keeps the low bits.
+/// A store keeps the low bits, as a number of the cell's type.
 pub fn stores_wrap()
     ensures { StoresWrap }
 {}

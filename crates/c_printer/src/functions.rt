@@ -13,7 +13,7 @@ ghost use Rattle.c_lowering.specs.Scope.{form_of, forms_in};
 ghost use Rattle.c_lowering.specs.Naming.{naming_of};
 
 use crate::report::Printed;
-use c_lowering::{Entry, Form, Names, c_type, enter, lower_block};
+use c_lowering::{Entry, Form, Names, enter, lower_block};
 use c_names::NameTable;
 use c_tree::tree::{CBlock, CFunction, CParam, CStruct};
 use exo_tree::{Name, Param, ParamKind, Proc, ProcId, Unit};
@@ -25,11 +25,11 @@ fn lower_param(p: &Param, name: String) -> CParam
 {
     match &p.kind {
         ParamKind::Ctrl(_) => CParam::Number(name),
-        ParamKind::Tensor(cell, _, _) => CParam::Array(c_type(*cell), name),
+        ParamKind::Tensor(cell, _, _) => CParam::Array(*cell, name),
         ParamKind::Window(cell, dims, _) => CParam::Window(
             CStruct {
                 rank: dims.len(),
-                cell: c_type(*cell),
+                cell: *cell,
             },
             name,
         ),

@@ -2,31 +2,25 @@
 ghost use Rattle.std.specs.Prelude.{◌≡◌, ◌++◌, [], ◌∷◌, map, IfOk, OnOk};
 ghost use Rattle.std.specs.List.{list_any};
 ghost use Rattle.c_tree.specs.CTree.{cblock};
-ghost use Rattle.c_tree.specs.Plain.{plain_type, plain_struct, plain_actual, plain_statement, plain_param, plain_function};
-ghost use Rattle.exo_meaning.specs.Units.{same_cell};
+ghost use Rattle.exo_tree.specs.PlainBinder.{cell_type};
+ghost use Rattle.c_tree.specs.Plain.{plain_struct, plain_actual, plain_statement, plain_param, plain_function};
 ghost use Rattle.c_lowered.specs.LoweredUnit as structs;
 
-use c_tree::tree::{CActual, CBlock, CFunction, CParam, CStatement, CStruct, CType};
+use c_tree::tree::{CActual, CBlock, CFunction, CParam, CStatement, CStruct};
+use exo_tree::Cell;
 use std::alloc::{AllocError, Global};
 
 /// The greatest rank of a window.
 const MOST_DIMENSIONS: usize = 8;
 
-/// Whether two cell types are the same.
-fn is_same_type(a: CType, b: CType) -> bool
-    ensures { result ≡ same_cell (plain_type a) (plain_type b) }
-{
-    match (a, b) {
-        (CType::Int8, CType::Int8) | (CType::Int32, CType::Int32) => true,
-        (CType::Int8, CType::Int32) | (CType::Int32, CType::Int8) => false,
-    }
-}
+/// The cell types, in the order of their structs.
+const CELL_TYPES: [Cell; 4] = [Cell::I8, Cell::I16, Cell::I32, Cell::Ui8];
 
 /// Whether a window's struct is that one.
 fn is_struct(kind: CStruct, s: CStruct) -> bool
-    ensures { result ≡ structs.is_struct kind.rank (plain_type kind.cell) (plain_struct s) }
+    ensures { result ≡ structs.is_struct kind.rank (cell_type kind.cell) (plain_struct s) }
 {
-    kind.rank == s.rank && is_same_type(kind.cell, s.cell)
+    kind.rank == s.rank && kind.cell == s.cell
 }
 
 /// Whether an argument is a window of that struct.
@@ -133,20 +127,19 @@ fn put_struct(
     Ok(())
 }
 
-/// Appends the two structs of a rank, where a function names them.
-fn put_rank(rank: usize, functions: &[CFunction], made: &mut Vec<CStruct>) -> Result<(), AllocError>
-    ensures { OnOk result (map plain_struct made.new.items ≡ map plain_struct made.old.items ++ structs.kept_structs (map plain_function functions.now) (structs.structs_from 1 rank)) }
+/// Appends the structs of a rank over those cell types, where a function names them.
+fn put_rank(
+    rank: usize,
+    cells: &[Cell],
+    functions: &[CFunction],
+    made: &mut Vec<CStruct>,
+) -> Result<(), AllocError>
+    ensures { OnOk result (map plain_struct made.new.items ≡ map plain_struct made.old.items ++ structs.kept_structs (map plain_function functions.now) (map (λ c. structs.struct_at rank (cell_type c)) cells.now)) }
 {
-    let small = CStruct {
-        rank,
-        cell: CType::Int8,
-    };
-    put_struct(small, functions, made)?;
-    let large = CStruct {
-        rank,
-        cell: CType::Int32,
-    };
-    put_struct(large, functions, made)
+    for cell in cells {
+        put_struct(CStruct { rank, cell: *cell }, functions, made)?;
+    }
+    Ok(())
 }
 
 /// The structs that the C of functions names, by rank and then by type.
@@ -158,7 +151,7 @@ pub(crate) fn lower_structs(
 {
     let mut made = Vec::new(alloc);
     for k in 0..MOST_DIMENSIONS {
-        put_rank(k + 1, functions, &mut made)?;
+        put_rank(k + 1, &CELL_TYPES, functions, &mut made)?;
     }
     Ok(made)
 }

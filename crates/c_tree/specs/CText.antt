@@ -1,7 +1,7 @@
 -- The text of C trees.
 use Rattle.std.specs.Prelude.{ℕ, List, [], ◌∷◌, ◌++◌, map, codes, decimal}
 use Rattle.std.specs.Fmt.{signed_decimal}
-use Rattle.exo_tree.specs.Tree.{Cell, I8, I32}
+use Rattle.exo_tree.specs.Tree.{Cell, I8, I16, I32, Ui8}
 use Rattle.c_tree.specs.CTree.{Name, Element, Single, Vector, Number64, Literal, Named, StrideIn, Opposite, Sum, Difference, Product, Quotient, Remainder, Test, Always, Never, IsSet, Less, LessEqual, More, MoreEqual, Equal, Both, Either, CellRef, InArray, InWindow, Number32, Literal32, Read32, Opposite32, Relu32, Sum32, Difference32, Product32, Select32, Actual, Control64, Tested, Alone, Address, WindowOf, Piece, Plain, Filled, FirstCell, CStatement, Store, AddTo, SetField, Empty, Branch, Loop, Array, Malloc, Free, Bind, CallOf, Instruction, CBlock, stop, first, Formal, Number64Param, ArrayParam, WindowParamOf, CFunction, ReportLine, StructOf, CUnit}
 pub use Rattle.c_names.specs.Helpers.{Text, margin, helpers}
 
@@ -21,11 +21,15 @@ listed (t ∷ ts) = t ++ each (λ u. codes ", " ++ u) ts
 
 abbrev pub cell_word : Cell → Text
 cell_word I8 = codes "i8"
+cell_word I16 = codes "i16"
 cell_word I32 = codes "i32"
+cell_word Ui8 = codes "ui8"
 
 abbrev pub type_word : Cell → Text
 type_word I8 = codes "int8_t"
+type_word I16 = codes "int16_t"
 type_word I32 = codes "int32_t"
+type_word Ui8 = codes "uint8_t"
 
 abbrev pub element_word : Element → Text
 element_word (Single cell) = type_word cell

@@ -4,34 +4,22 @@ use Rattle.std.specs.Coded.{Coded, coded_ℕ, coded_ℤ, coded_list}
 use Rattle.std.proofs.Common.{ap, arith}
 use base.Stored.{Gv, gnil, gnum, gcons, num}
 use Rattle.exo_tree.specs.CodeParts.{left, right}
-use Rattle.exo_tree.specs.Tree.{Cell, I8, I32}
+use Rattle.exo_tree.specs.Codes.{cell_code}
 use Rattle.c_tree.specs.CTree.{Name, Element, Single, Vector, Number64, Literal, Named, StrideIn, Opposite, Sum, Difference, Product, Quotient, Remainder, Test, Always, Never, IsSet, Less, LessEqual, More, MoreEqual, Equal, Both, Either, CellRef, InArray, InWindow, Number32, Literal32, Read32, Opposite32, Relu32, Sum32, Difference32, Product32, Select32, Actual, Control64, Tested, Alone, Address, WindowOf, Piece, Plain, Filled, FirstCell, CStatement, Store, AddTo, SetField, Empty, Branch, Loop, Array, Malloc, Free, Bind, CallOf, Instruction, CBlock, stop, first}
 
 abbrev pub name_code : Coded Name
 name_code = coded_list coded_ℕ
 
-abbrev pub code_cell : Cell → Gv
-code_cell I8 = gcons (gnum 0) gnil
-code_cell I32 = gcons (gnum 1) gnil
-
-pub same_cell : (s t : Cell) → code_cell s ≡ code_cell t → s ≡ t
-same_cell I8 I8 p = λ i. I8
-same_cell I32 I32 p = λ i. I32
-same_cell _ _ p = let e = ap (λ g. num (left g)) p in absurd (omega arith)
-
-abbrev pub cell_code : Coded Cell
-cell_code = record { code = code_cell; inj = same_cell }
-
 abbrev pub code_element : Element → Gv
-code_element (Single a) = gcons (gnum 0) (code_cell a)
-code_element (Vector a b c) = gcons (gnum 1) (gcons (name_code.code a) (gcons (gnum b) (code_cell c)))
+code_element (Single a) = gcons (gnum 0) (cell_code.code a)
+code_element (Vector a b c) = gcons (gnum 1) (gcons (name_code.code a) (gcons (gnum b) (cell_code.code c)))
 
 pub same_element : (s t : Element) → code_element s ≡ code_element t → s ≡ t
-same_element (Single a) (Single a') p = ap Single (same_cell a a' (ap (λ g. right g) p))
+same_element (Single a) (Single a') p = ap Single (cell_code.inj a a' (ap (λ g. right g) p))
 same_element (Vector a b c) (Vector a' b' c') p =
     let q0 = name_code.inj a a' (ap (λ g. left (right g)) p) in
     let q1 = ap (λ g. num (left (right (right g)))) p in
-    let q2 = same_cell c c' (ap (λ g. right (right (right g))) p) in
+    let q2 = cell_code.inj c c' (ap (λ g. right (right (right g))) p) in
     λ i. Vector (q0 i) (q1 i) (q2 i)
 same_element _ _ p = let e = ap (λ g. num (left g)) p in absurd (omega arith)
 
@@ -195,7 +183,7 @@ code_actual (Control64 a) = gcons (gnum 0) (code_number a)
 code_actual (Tested a) = gcons (gnum 1) (code_test a)
 code_actual (Alone a) = gcons (gnum 2) (name_code.code a)
 code_actual (Address a) = gcons (gnum 3) (code_ref a)
-code_actual (WindowOf a b c d) = gcons (gnum 4) (gcons (gnum a) (gcons (code_cell b) (gcons (code_ref c) (numbers_code.code d))))
+code_actual (WindowOf a b c d) = gcons (gnum 4) (gcons (gnum a) (gcons (cell_code.code b) (gcons (code_ref c) (numbers_code.code d))))
 
 pub same_actual : (s t : Actual) → code_actual s ≡ code_actual t → s ≡ t
 same_actual (Control64 a) (Control64 a') p = ap Control64 (same_number a a' (ap (λ g. right g) p))
@@ -204,7 +192,7 @@ same_actual (Alone a) (Alone a') p = ap Alone (name_code.inj a a' (ap (λ g. rig
 same_actual (Address a) (Address a') p = ap Address (same_ref a a' (ap (λ g. right g) p))
 same_actual (WindowOf a b c d) (WindowOf a' b' c' d') p =
     let q0 = ap (λ g. num (left (right g))) p in
-    let q1 = same_cell b b' (ap (λ g. left (right (right g))) p) in
+    let q1 = cell_code.inj b b' (ap (λ g. left (right (right g))) p) in
     let q2 = same_ref c c' (ap (λ g. left (right (right (right g)))) p) in
     let q3 = numbers_code.inj d d' (ap (λ g. right (right (right (right g)))) p) in
     λ i. WindowOf (q0 i) (q1 i) (q2 i) (q3 i)
@@ -235,8 +223,8 @@ pieces_code = coded_list piece_code
 
 abbrev mutual
   pub code_statement : CStatement → Gv
-  code_statement (Store a b c) = gcons (gnum 0) (gcons (code_cell a) (gcons (code_ref b) (code_data c)))
-  code_statement (AddTo a b c) = gcons (gnum 1) (gcons (code_cell a) (gcons (code_ref b) (code_data c)))
+  code_statement (Store a b c) = gcons (gnum 0) (gcons (cell_code.code a) (gcons (code_ref b) (code_data c)))
+  code_statement (AddTo a b c) = gcons (gnum 1) (gcons (cell_code.code a) (gcons (code_ref b) (code_data c)))
   code_statement (SetField a b) = gcons (gnum 2) (gcons (name_code.code a) (code_actual b))
   code_statement Empty = gcons (gnum 3) gnil
   code_statement (Branch a b c) = gcons (gnum 4) (gcons (code_test a) (gcons (code_block b) (code_block c)))
@@ -244,7 +232,7 @@ abbrev mutual
   code_statement (Array a b c) = gcons (gnum 6) (gcons (code_element a) (gcons (name_code.code b) (coded_ℤ.code c)))
   code_statement (Malloc a b c) = gcons (gnum 7) (gcons (code_element a) (gcons (name_code.code b) (code_number c)))
   code_statement (Free a) = gcons (gnum 8) (name_code.code a)
-  code_statement (Bind a b c d e) = gcons (gnum 9) (gcons (gnum a) (gcons (code_cell b) (gcons (name_code.code c) (gcons (code_ref d) (numbers_code.code e)))))
+  code_statement (Bind a b c d e) = gcons (gnum 9) (gcons (gnum a) (gcons (cell_code.code b) (gcons (name_code.code c) (gcons (code_ref d) (numbers_code.code e)))))
   code_statement (CallOf a b) = gcons (gnum 10) (gcons (name_code.code a) (actuals_code.code b))
   code_statement (Instruction a b c) = gcons (gnum 11) (gcons (gnum a) (gcons (pieces_code.code b) (actuals_code.code c)))
 
@@ -255,12 +243,12 @@ abbrev mutual
 mutual
   pub same_statement : (s t : CStatement) → code_statement s ≡ code_statement t → s ≡ t
   same_statement (Store a b c) (Store a' b' c') p =
-      let q0 = same_cell a a' (ap (λ g. left (right g)) p) in
+      let q0 = cell_code.inj a a' (ap (λ g. left (right g)) p) in
       let q1 = same_ref b b' (ap (λ g. left (right (right g))) p) in
       let q2 = same_data c c' (ap (λ g. right (right (right g))) p) in
       λ i. Store (q0 i) (q1 i) (q2 i)
   same_statement (AddTo a b c) (AddTo a' b' c') p =
-      let q0 = same_cell a a' (ap (λ g. left (right g)) p) in
+      let q0 = cell_code.inj a a' (ap (λ g. left (right g)) p) in
       let q1 = same_ref b b' (ap (λ g. left (right (right g))) p) in
       let q2 = same_data c c' (ap (λ g. right (right (right g))) p) in
       λ i. AddTo (q0 i) (q1 i) (q2 i)
@@ -293,7 +281,7 @@ mutual
   same_statement (Free a) (Free a') p = ap Free (name_code.inj a a' (ap (λ g. right g) p))
   same_statement (Bind a b c d e) (Bind a' b' c' d' e') p =
       let q0 = ap (λ g. num (left (right g))) p in
-      let q1 = same_cell b b' (ap (λ g. left (right (right g))) p) in
+      let q1 = cell_code.inj b b' (ap (λ g. left (right (right g))) p) in
       let q2 = name_code.inj c c' (ap (λ g. left (right (right (right g)))) p) in
       let q3 = same_ref d d' (ap (λ g. left (right (right (right (right g))))) p) in
       let q4 = numbers_code.inj e e' (ap (λ g. right (right (right (right (right g))))) p) in

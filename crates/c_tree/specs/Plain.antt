@@ -1,9 +1,7 @@
 -- The plain trees of the program's trees of C.
 use Rattle.std.specs.Prelude.{map, string_bytes}
-use Rattle.exo_tree.specs.Tree.{Cell, I8, I32}
+use Rattle.exo_tree.specs.PlainBinder.{cell_type}
 use Rattle.c_tree.specs.CTree as c
-use Rattle.c_tree.specs.declared.tree.CType.{CType}
-use Rattle.c_tree.specs.declared.tree.CType.TheVariants.{Int8, Int32}
 use Rattle.c_tree.specs.declared.tree.CNumber.{CNumber, Literal, Named, Stride, Opposite', Sum', Difference', Product', Quotient', Remainder'}
 use Rattle.c_tree.specs.declared.tree.CTest.{CTest, Always, Never, IsSet, Less, LessEqual, More, MoreEqual, Equal, Both', Either'}
 use Rattle.c_tree.specs.declared.tree.CHolder.{CHolder}
@@ -25,10 +23,6 @@ use Rattle.c_tree.specs.declared.tree.CParam.TheVariants as p
 use Rattle.c_tree.specs.declared.tree.CFunction.{CFunction}
 use Rattle.c_tree.specs.declared.tree.ReportLine.{ReportLine}
 use Rattle.c_tree.specs.declared.tree.CUnit.{CUnit}
-
-abbrev pub plain_type : CType → Cell
-plain_type Int8 = I8
-plain_type Int32 = I32
 
 abbrev pub plain_number : CNumber → c.Number64
 plain_number (Literal n) = c.Literal n
@@ -71,15 +65,15 @@ plain_data (d.Product' p a q b) = c.Product32 (plain_data a) (plain_data b)
 plain_data (d.Select' p a q b r x s y) = c.Select32 (plain_data a) (plain_data b) (plain_data x) (plain_data y)
 
 abbrev pub plain_struct : CStruct → c.StructOf
-plain_struct s = record { rank = s.rank; cell = plain_type s.cell }
+plain_struct s = record { rank = s.rank; cell = cell_type s.cell }
 
 abbrev pub plain_element : CElement → c.Element
-plain_element (e.Single t) = c.Single (plain_type t)
-plain_element (e.Vector name lanes t) = c.Vector (string_bytes name) lanes (plain_type t)
+plain_element (e.Single t) = c.Single (cell_type t)
+plain_element (e.Vector name lanes t) = c.Vector (string_bytes name) lanes (cell_type t)
 
 abbrev pub plain_window : CWindow → c.Actual
 plain_window w =
-    c.WindowOf w.kind.rank (plain_type w.kind.cell) (plain_cell w.first)
+    c.WindowOf w.kind.rank (cell_type w.kind.cell) (plain_cell w.first)
     (map plain_number w.strides.items)
 
 abbrev pub plain_actual : CActual → c.Actual
@@ -96,8 +90,8 @@ plain_piece (q.Cell x) = c.FirstCell (plain_cell x)
 
 -- one level, since a block is already seen as a list of plain statements
 abbrev pub plain_statement : CStatement → c.CStatement
-plain_statement (s.Store t x e) = c.Store (plain_type t) (plain_cell x) (plain_data e.value)
-plain_statement (s.AddTo t x e) = c.AddTo (plain_type t) (plain_cell x) (plain_data e.value)
+plain_statement (s.Store t x e) = c.Store (cell_type t) (plain_cell x) (plain_data e.value)
+plain_statement (s.AddTo t x e) = c.AddTo (cell_type t) (plain_cell x) (plain_data e.value)
 plain_statement (s.SetField x a) = c.SetField (string_bytes x) (plain_actual a)
 plain_statement s.Empty = c.Empty
 plain_statement (s.Branch t a b) = c.Branch (plain_test t.value) (c.cblock a) (c.cblock b)
@@ -106,7 +100,7 @@ plain_statement (s.Array t x n) = c.Array (plain_element t) (string_bytes x) n
 plain_statement (s.Malloc t x n) = c.Malloc (plain_element t) (string_bytes x) (plain_number n.value)
 plain_statement (s.Free x) = c.Free (string_bytes x)
 plain_statement (s.Bind x w) =
-    c.Bind w.kind.rank (plain_type w.kind.cell) (string_bytes x) (plain_cell w.first)
+    c.Bind w.kind.rank (cell_type w.kind.cell) (string_bytes x) (plain_cell w.first)
     (map plain_number w.strides.items)
 plain_statement (s.Call f) = c.CallOf (string_bytes f.function) (map plain_actual f.args.items)
 plain_statement (s.Instruction f) =
@@ -114,8 +108,8 @@ plain_statement (s.Instruction f) =
 
 abbrev pub plain_param : CParam → c.Formal
 plain_param (p.Number x) = c.Number64Param (string_bytes x)
-plain_param (p.Array t x) = c.ArrayParam (plain_type t) (string_bytes x)
-plain_param (p.Window kind x) = c.WindowParamOf kind.rank (plain_type kind.cell) (string_bytes x)
+plain_param (p.Array t x) = c.ArrayParam (cell_type t) (string_bytes x)
+plain_param (p.Window kind x) = c.WindowParamOf kind.rank (cell_type kind.cell) (string_bytes x)
 
 abbrev pub plain_function : CFunction → c.CFunction
 plain_function f = record {

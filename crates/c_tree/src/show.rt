@@ -1,22 +1,37 @@
 //! Expressions of C print as C.
-ghost use Rattle.std.specs.Prelude.{Some, map, string_bytes};
-ghost use Rattle.c_tree.specs.CText.{type_word, struct_word, element_word, number64_text, test_text, cell_text, number32_text, actual_text, piece_text, allocation_text, bound_text, formal_text, head_text, each, listed};
-ghost use Rattle.c_tree.specs.Plain.{plain_type, plain_element, plain_number, plain_test, plain_cell, plain_data, plain_window, plain_actual, plain_piece, plain_param, plain_statement};
+ghost use Rattle.std.specs.Prelude.{◌≡◌, Some, map, string_bytes};
+ghost use Rattle.exo_tree.specs.PlainBinder.{cell_type};
+ghost use Rattle.c_tree.specs.CText.{cell_word, type_word, struct_word, element_word, number64_text, test_text, cell_text, number32_text, actual_text, piece_text, allocation_text, bound_text, formal_text, head_text, each, listed};
+ghost use Rattle.c_tree.specs.Plain.{plain_element, plain_number, plain_test, plain_cell, plain_data, plain_window, plain_actual, plain_piece, plain_param, plain_statement};
 
 use crate::tree::{
     CActual, CCell, CData, CElement, CHolder, CNumber, CParam, CPiece, CStatement, CStruct, CTest,
-    CType, CWindow,
+    CWindow,
 };
+use exo_tree::Cell;
 use std::fmt;
 
-impl fmt::Display for CType {
-    ghost output = { λ t. Some (type_word (plain_type t)) };
+/// The word of a cell type in a struct's name.
+fn cell_word(cell: Cell) -> &'static str
+    ensures { result.now ≡ cell_word (cell_type cell) }
+{
+    match cell {
+        Cell::I8 => "i8",
+        Cell::I16 => "i16",
+        Cell::I32 => "i32",
+        Cell::Ui8 => "ui8",
+    }
+}
 
-    fn fmt<W: fmt::Write>(&self, f: &mut fmt::Formatter<W>) -> fmt::Result {
-        match self {
-            CType::Int8 => f.write_str("int8_t"),
-            CType::Int32 => f.write_str("int32_t"),
-        }
+/// The C type of cells.
+pub(crate) fn type_word(cell: Cell) -> &'static str
+    ensures { result.now ≡ type_word (cell_type cell) }
+{
+    match cell {
+        Cell::I8 => "int8_t",
+        Cell::I16 => "int16_t",
+        Cell::I32 => "int32_t",
+        Cell::Ui8 => "uint8_t",
     }
 }
 
@@ -86,13 +101,10 @@ impl fmt::Display for CData {
 }
 
 impl fmt::Display for CStruct {
-    ghost output = { λ s. Some (struct_word s.rank (plain_type s.cell)) };
+    ghost output = { λ s. Some (struct_word s.rank (cell_type s.cell)) };
 
     fn fmt<W: fmt::Write>(&self, f: &mut fmt::Formatter<W>) -> fmt::Result {
-        match self.cell {
-            CType::Int8 => write!(f, "struct exo_win_{}i8", self.rank),
-            CType::Int32 => write!(f, "struct exo_win_{}i32", self.rank),
-        }
+        write!(f, "struct exo_win_{}{}", self.rank, cell_word(self.cell))
     }
 }
 
@@ -101,7 +113,7 @@ impl fmt::Display for CElement {
 
     fn fmt<W: fmt::Write>(&self, f: &mut fmt::Formatter<W>) -> fmt::Result {
         match self {
-            CElement::Single(t) => write!(f, "{t}"),
+            CElement::Single(cell) => f.write_str(type_word(*cell)),
             CElement::Vector(name, _, _) => write!(f, "{name}"),
         }
     }
@@ -202,7 +214,7 @@ impl fmt::Display for CParam {
     fn fmt<W: fmt::Write>(&self, f: &mut fmt::Formatter<W>) -> fmt::Result {
         match self {
             CParam::Number(x) => write!(f, "int64_t {x}"),
-            CParam::Array(t, x) => write!(f, "{t} *{x}"),
+            CParam::Array(cell, x) => write!(f, "{} *{x}", type_word(*cell)),
             CParam::Window(kind, x) => write!(f, "{kind} {x}"),
         }
     }
@@ -240,7 +252,7 @@ struct Binding<'a> {
 }
 
 impl fmt::Display for Binding<'_> {
-    ghost output = { λ b. Some (bound_text b.window.now.kind.rank (plain_type b.window.now.kind.cell) (string_bytes b.name.now) (actual_text (plain_window b.window.now))) };
+    ghost output = { λ b. Some (bound_text b.window.now.kind.rank (cell_type b.window.now.kind.cell) (string_bytes b.name.now) (actual_text (plain_window b.window.now))) };
 
     fn fmt<W: fmt::Write>(&self, f: &mut fmt::Formatter<W>) -> fmt::Result {
         write!(f, "{} {} = {};", self.window.kind, self.name, self.window)
@@ -253,8 +265,10 @@ impl fmt::Display for CStatement {
 
     fn fmt<W: fmt::Write>(&self, f: &mut fmt::Formatter<W>) -> fmt::Result {
         match self {
-            CStatement::Store(t, x, e) => write!(f, "{x} = ({t}){e};"),
-            CStatement::AddTo(t, x, e) => write!(f, "{x} = ({t})((uint32_t){x} + {e});"),
+            CStatement::Store(cell, x, e) => write!(f, "{x} = ({}){e};", type_word(*cell)),
+            CStatement::AddTo(cell, x, e) => {
+                write!(f, "{x} = ({})((uint32_t){x} + {e});", type_word(*cell))
+            }
             CStatement::SetField(x, a) => write!(f, "{x} = {a};"),
             CStatement::Empty => f.write_str(";"),
             CStatement::Branch(t, _, _) => write!(f, "if ({t}) {{"),

@@ -4,6 +4,7 @@ ghost use Rattle.c_tree.specs.CTree.{cblock};
 ghost use Rattle.c_tree.specs.CText.{line, deeper, margin, each, or_word, or_else, head_text, block_text, inner_text, formal_text, signature_text, function_text, report_text, include_text, struct_text, field_text, preamble_text, text_of};
 ghost use Rattle.c_tree.specs.Plain.{plain_statement, plain_struct, plain_param, plain_function, plain_line, plain_unit};
 
+use crate::show::type_word;
 use crate::tree::{CBlock, CFunction, CParam, CStatement, CStruct, CUnit, ReportLine};
 use c_names::{put_helpers, put_margin};
 use std::alloc::{AllocError, Global};
@@ -196,7 +197,8 @@ fn put_struct(out: &mut String, s: &CStruct) -> Result<(), AllocError>
     writeln!(
         out,
         "{s} {{ {} *data; int64_t strides[{}]; }};",
-        s.cell, s.rank
+        type_word(s.cell),
+        s.rank
     )
 }
 

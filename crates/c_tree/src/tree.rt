@@ -3,15 +3,9 @@ ghost use Rattle.std.specs.Prelude.{◌≡◌, ◌≤◌, ◌<◌, ◌+◌, ◌=
 ghost use Rattle.c_tree.specs.Sizes.{nodes, nodes_of};
 ghost use Rattle.c_tree.specs.Plain.{plain_statement};
 
+use exo_tree::Cell;
 use std::alloc::{AllocError, Global};
 use std::marker::Model;
-
-/// A signed integer type of a cell: `int8_t` or `int32_t`.
-#[derive(Clone, Copy)]
-pub enum CType {
-    Int8,
-    Int32,
-}
 
 /// An expression over 64-bit numbers. A quotient and a remainder are by a literal, and round towards minus infinity.
 #[derive(Drop)]
@@ -77,7 +71,7 @@ pub enum CData {
 #[derive(Clone, Copy)]
 pub struct CStruct {
     pub rank: usize,
-    pub cell: CType,
+    pub cell: Cell,
 }
 
 /// A window that is made: its struct, its first cell and the stride of each dimension.
@@ -103,8 +97,8 @@ pub enum CActual {
 /// The element type of an array: a cell type, or the vector type of that name, of so many cells.
 #[derive(Drop)]
 pub enum CElement {
-    Single(CType),
-    Vector(String, u32, CType),
+    Single(Cell),
+    Vector(String, u32, Cell),
 }
 
 /// A call of a function.
@@ -135,9 +129,9 @@ pub struct CInstruction {
 #[derive(Drop)]
 pub enum CStatement {
     /// The cell gets the number, converted to the type.
-    Store(CType, CCell, Box<CData>),
+    Store(Cell, CCell, Box<CData>),
     /// The cell gets the sum of what it holds and the number, converted to the type.
-    AddTo(CType, CCell, Box<CData>),
+    AddTo(Cell, CCell, Box<CData>),
     SetField(String, CActual),
     Empty,
     Branch(Box<CTest>, CBlock, CBlock),
@@ -232,7 +226,7 @@ impl CBlock {
 #[derive(Drop)]
 pub enum CParam {
     Number(String),
-    Array(CType, String),
+    Array(Cell, String),
     Window(CStruct, String),
 }
 

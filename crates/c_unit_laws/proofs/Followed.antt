@@ -58,5 +58,5 @@ module _ (program : Program) (what : List Printing) where
       distinct = good.distinct;
       good = good.params;
       follows = λ layout s m match. follows_less (FewAt k p s) (few s) (Ends (ground_of program what own k p) (param_forms p.params) layout s m) ((callee_of k p).run s) ((behaviour_of (ground_of program what own k p) c_world p).run m) (fewer s)
-          (blocks_follow (ground_of program what own k p) (param_forms p.params) (bounds_in program what k) (λ x. x) layout (world_above program k) (kinds_of program.fields) (take k program.procedures) c_world p.body calls good.body good.may good.apart s m match);
+          (blocks_follow (ground_of program what own k p) (param_forms p.params) (bounds_in program what k) (λ x. x) layout (world_above program k) (kinds_of program.fields) (take k program.procedures) c_world p.body calls good.body good.may s m match);
     }

@@ -3,7 +3,7 @@ use Rattle.std.proofs.Common.{◌≡◌, ◌==◌, ℕ, zero, suc, Bool, true, f
 use Rattle.exo_tree.specs.Tree.{Cell, Kind, Binder, Control, Coord, At, Span}
 use Rattle.exo_meaning.specs.Scene.{updated}
 use Rattle.exo_meaning.specs.Units.{Sort, ControlName, BufferName, Scope, sort_in, with_name, is_number, is_flag, has_rank, has_dimension, has_cell, is_dense, spans}
-use Rattle.meaning_laws.proofs.FirstState.{same_cell_is}
+use Rattle.exo_tree.specs.Cells.{same_cell_is}
 use Rattle.memory_kinds.specs.Homes.{Homes}
 use Rattle.c_lowered.specs.Lowered.{Naming, Form, NoForm, NumberForm, TensorForm, WindowForm, Forms}
 use Rattle.c_follows.specs.Good.{HasStride, EndsInSpan, EndsInLanes}

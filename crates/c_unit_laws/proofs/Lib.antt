@@ -13,7 +13,6 @@ pub mod ClearBlocks
 pub mod Fields
 pub mod Names
 pub mod Standing
-pub mod Shares
 pub mod Given
 pub mod Listed
 pub mod Units

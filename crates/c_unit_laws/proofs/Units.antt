@@ -33,7 +33,6 @@ use Rattle.c_unit_laws.proofs.ClearBlocks.{clear_block}
 use Rattle.c_unit_laws.proofs.Fields.{is_there, block_there}
 use Rattle.c_unit_laws.proofs.Names.{are_named}
 use Rattle.c_unit_laws.proofs.Standing.{stood, formed_at, calls_before}
-use Rattle.c_unit_laws.proofs.Shares.{block_shares}
 use Rattle.c_unit_laws.proofs.Given.{given_within}
 use Rattle.c_unit_laws.proofs.Listed.{listed_at, narrow_at, used_at, stack_fits, few_names}
 
@@ -153,7 +152,6 @@ module _ (program : Program) (what : List Printing) (unit : IsUnit program) (low
         params = good_dims;
         body = good_body;
         may = λ y e. e;
-        apart = block_shares fields memories world (scope_of [] p.params) (λ x. x) p.body own.body;
       }
 
       bounds_are : most ≡ bounds_in program what k

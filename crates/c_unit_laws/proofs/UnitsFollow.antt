@@ -100,7 +100,7 @@ module _ (program : Program) (what : List Printing) (unit : IsUnit program) (low
     follows = functions_follow g (bounds_in program what w.proc) layout (world_above program w.proc) (kinds_of program.fields) (take w.proc program.procedures) (file_at program what unit lowers templates does i) p s ts m
         (file_calls (suc i) i w p (omega arith) there at)
         (record { fields = field_global program what lowers.named; functions = function_global program what lowers.named; named = good.named; distinct = good.distinct })
-        good.params good.body good.may good.apart (valid_above program w.proc p s valid)
+        good.params good.body good.may (valid_above program w.proc p s valid)
         (record { arguments = start.arguments; fields = start.fields; separate = start.separate; small = small })
 
     file_runs : run_file (lowered program what) templates i ts m ≡ run_in_place (file_at program what unit lowers templates does i) (Some (behaviour_of g (file_at program what unit lowers templates does i) p)) ts m

@@ -8,7 +8,7 @@ use Rattle.memory_kinds.specs.Faults.{fault_of}
 use Rattle.c_lowered.specs.Lowered.{param_forms}
 use Rattle.c_lowered.specs.LoweredUnit.{Printing, is_listed, counts}
 use Rattle.c_follows.specs.Simulation.{Ground}
-use Rattle.c_follows.specs.Good.{IsGoodBlock, MayStore, SharesNothing, AreGoodParams, AreNamedApart}
+use Rattle.c_follows.specs.Good.{IsGoodBlock, MayStore, AreGoodParams, AreNamedApart}
 use Rattle.c_follows.specs.Units.{AreLowered, UnitsFollow}
 use Rattle.c_unit_laws.specs.Grounds.{world_above, bounds_in, printed_ground, plain_ground}
 
@@ -20,7 +20,6 @@ pub record IsGoodProcedure (g : Ground) (most : ℕ → ℕ) (world : World)
   pub params : AreGoodParams (param_forms p.params) most p.params
   pub body : IsGoodBlock g (param_forms p.params) most p.body
   pub may : MayStore g.stored world (λ x. x) p.body
-  pub apart : SharesNothing world (λ x. x) p.body
 
 -- Each printed procedure of a unit that has a C meets it.
 abbrev pub PrintedProceduresAreGood : Type 0

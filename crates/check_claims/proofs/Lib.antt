@@ -1,4 +1,5 @@
 pub mod Pairs
+pub mod PairClaims
 pub mod Passing
 pub mod Walks
 pub mod ShortUnits

@@ -5,6 +5,7 @@ use Rattle.std.proofs.lemmas.List.{length-append}
 use Rattle.exo_tree.specs.Tree.{Statement, block, statements, Program}
 use Rattle.exo_tree.specs.Places.{Branch, Path}
 use Rattle.exo_meaning.specs.Units.{is_short, larger, levels, step_levels}
+use Rattle.affine_places.specs.Roots.{Roots}
 use Rattle.text_show.specs.Words.{Words}
 use Rattle.check_claims.specs.Claim.{Claim, Placed}
 use Rattle.check_claims.specs.Extents.{Extents}
@@ -58,19 +59,19 @@ short_on ss rest s e h = both (step_is_short s) (is_short_inside (block rest)) (
 pub into_length : (outer path : Path) (branch : Branch) (k : ℕ) → path ≡ into outer branch k → length path ≡ length outer + 1
 into_length outer path branch k h = ap length h ∙ length-append outer (record { branch = branch; index = k } ∷ [])
 
-module _ (w : Words) (u : Program) (extents : Extents) (outer : Path) (branch : Branch) where
-  pub walked_on : (k : ℕ) (out behind after whole : List Placed) (path : Path) (own : List Claim) (s : Statement) (ss rest : List Statement) → ss ≡ s ∷ rest → path ≡ into outer branch k → own ≡ own_claims w u extents s
-      → behind ≡ out ++ placed_at path own → after ≡ behind ++ inner_claims w u extents path s
-      → out ++ block_claims w u extents outer branch k (block ss) ≡ whole → after ++ block_claims w u extents outer branch (k + 1) (block rest) ≡ whole
+module _ (w : Words) (u : Program) (extents : Extents) (roots : Roots) (outer : Path) (branch : Branch) where
+  pub walked_on : (k : ℕ) (out behind after whole : List Placed) (path : Path) (own : List Claim) (s : Statement) (ss rest : List Statement) → ss ≡ s ∷ rest → path ≡ into outer branch k → own ≡ own_claims w u extents roots s
+      → behind ≡ out ++ placed_at path own → after ≡ behind ++ inner_claims w u extents roots path s
+      → out ++ block_claims w u extents roots outer branch k (block ss) ≡ whole → after ++ block_claims w u extents roots outer branch (k + 1) (block rest) ≡ whole
   walked_on k out behind after whole path own s ss rest e p o h j g =
       let here = into outer branch k in
-      let a = placed_at here (own_claims w u extents s) in
-      let b = inner_claims w u extents here s in
-      let more = block_claims w u extents outer branch (suc k) (block rest) in
+      let a = placed_at here (own_claims w u extents roots s) in
+      let b = inner_claims w u extents roots here s in
+      let more = block_claims w u extents roots outer branch (suc k) (block rest) in
       let first : behind ≡ out ++ a = h ∙ (λ i. out ++ placed_at (p i) (o i)) in
-      let second : after ≡ (out ++ a) ++ b = j ∙ (λ i. first i ++ inner_claims w u extents (p i) s) in
-      ap (λ n. after ++ block_claims w u extents outer branch n (block rest)) (add-one k)
+      let second : after ≡ (out ++ a) ++ b = j ∙ (λ i. first i ++ inner_claims w u extents roots (p i) s) in
+      ap (λ n. after ++ block_claims w u extents roots outer branch n (block rest)) (add-one k)
       ∙ ap (λ l. l ++ more) (second ∙ append_assoc out a b)
       ∙ append_assoc out (a ++ b) more
-      ∙ ap (λ (l : List Statement). out ++ block_claims w u extents outer branch k (block l)) (sym e)
+      ∙ ap (λ (l : List Statement). out ++ block_claims w u extents roots outer branch k (block l)) (sym e)
       ∙ g

@@ -1,8 +1,8 @@
 -- The expressions of a callee under the arguments of a call: each parameter is what is passed for it, and the stride of a buffer
 -- parameter is that of the dimension of the buffer that is passed.
-use Rattle.std.specs.Prelude.{ℕ, zero, suc, ◌-◌, ◌==◌, Bool, true, false, if◌then◌else◌, List, [], ◌∷◌, take, Option, Some, None}
+use Rattle.std.specs.Prelude.{ℕ, zero, suc, ◌-◌, ◌==◌, if◌then◌else◌, List, [], ◌∷◌, take, Option, Some, None}
 use Rattle.exo_tree.specs.Spans.{is_span}
-use Rattle.exo_tree.specs.Tree.{Control, Lit, Var, Field, StrideOf, Neg, Add, Sub, Mul, Div, Mod, Condition, True, False, Flag, FieldFlag, Lt, Le, Gt, Ge, Eq, And, Or, Coord, At, Span, Argument, ControlArg, ConditionArg, Whole, Window, Param}
+use Rattle.exo_tree.specs.Tree.{Control, Lit, Var, Field, StrideOf, Neg, Add, Sub, Mul, Div, Mod, Condition, True, False, Flag, FieldFlag, Lt, Le, Gt, Ge, Eq, And, Or, Coord, Argument, ControlArg, ConditionArg, Whole, Window, Param}
 
 -- what is passed for a parameter
 abbrev pub passed_for : List Param → List Argument → ℕ → Option Argument

@@ -1,6 +1,6 @@
--- Blocks whose statements have paths: each block inside has fewer than 2^31 statements.
-use Rattle.std.specs.Prelude.{Bool, true, ◌&&◌}
-use Rattle.exo_tree.specs.Tree.{Statement, Assign, Reduce, Config, Pass, If, For, Alloc, View, Call, Block, end, next}
+-- Blocks whose statements have paths: each block inside has fewer than 2^31 statements. And few parameters.
+use Rattle.std.specs.Prelude.{Bool, true, ◌&&◌, ◌^◌, nat_lt, length}
+use Rattle.exo_tree.specs.Tree.{Procedure, Statement, Assign, Reduce, Config, Pass, If, For, Alloc, View, Call, Block, end, next}
 use Rattle.exo_meaning.specs.Units.{is_short}
 
 abbrev mutual
@@ -18,3 +18,7 @@ abbrev mutual
   step_is_short (Alloc x cell dims memory) = true
   step_is_short (View w x coords) = true
   step_is_short (Call k args) = true
+
+-- each parameter has a number below 2^32
+abbrev pub has_few_params : Procedure → Bool
+has_few_params p = nat_lt (length p.params) (2 ^ 32)

@@ -1,23 +1,33 @@
 //! Claims of indices, windows and reads.
-ghost use Rattle.std.specs.Prelude.{◌≡◌, ◌++◌, map, OnOk};
+ghost use Rattle.std.specs.Prelude.{◌≡◌, ◌++◌, IsTrue, map, OnOk};
+ghost use Rattle.std.specs.List.{list_all};
 ghost use Rattle.exo_tree.specs.PlainControl.{control, coordinate};
 ghost use Rattle.exo_tree.specs.PlainDatum.{datum};
+ghost use Rattle.exo_tree.specs.PlainUnit.{program};
 ghost use Rattle.text_show.specs.Seen.{words_in};
-ghost use Rattle.check_claims.specs.Claims.{at_least_one, one_index, index_claims, coord_claims, window_claims, read_claims, store_claims};
-ghost use Rattle.check_claims.specs.Seen.{extents_in};
+ghost use Rattle.check_claims.specs.Claims.{written_by, at_least_one, one_index, index_claims, coord_claims, window_claims, read_claims, store_claims};
+ghost use Rattle.check_claims.specs.Seen.{extents_in, writes_in, Writes-set};
+ghost use Rattle.check_claims.specs.Short.{has_few_params};
 
 use crate::extents::Extents;
 use crate::list::{Claims, Order};
+use affine_places::Roots;
+use exo_modes::ModeTable;
 use exo_tree::{Coord, Ctrl, DataExpr, Id, Unit};
 use std::alloc::{AllocError, Global};
 use text_show::Words;
 
-/// What claims of a procedure are made from: its unit, its words, and the extents of its names.
+/// What claims of a procedure are made from: its unit with the modes of its procedures, its words, and the extents and roots of
+/// its names.
 #[derive(Drop)]
-pub(crate) struct Site<'s, 'a> {
+pub(crate) struct Site<'s, 'a, 'r> {
     pub(crate) unit: &'a Unit,
+    pub(crate) modes: &'s ModeTable,
     pub(crate) words: &'s Words<'a>,
     pub(crate) extents: &'s Extents,
+    pub(crate) roots: &'s Roots<'r>,
+    pub(crate) ghost modes_are: { writes_in modes.now ≡ written_by (program unit.now) } by { Writes-set (writes_in modes.now) (written_by (program unit.now)) },
+    pub(crate) ghost few: { IsTrue (list_all has_few_params (program unit.now).procedures) },
 }
 
 /// `1 <= d` for each dimension.

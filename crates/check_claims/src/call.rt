@@ -1,5 +1,5 @@
 //! Claims of calls.
-ghost use Rattle.std.specs.Prelude.{◌≡◌, [], ◌∷◌, ◌++◌, map, flat_map, OnOk, slice_get, Some};
+ghost use Rattle.std.specs.Prelude.{◌≡◌, ◌+◌, ◌<◌, ◌^◌, [], ◌∷◌, ◌++◌, IsTrue, drop, length, map, flat_map, if◌then◌else◌, OnOk, slice_get, Some, option_map};
 ghost use Rattle.exo_tree.specs.Tree as tree;
 ghost use Rattle.exo_tree.specs.PlainBinder.{control_kind};
 ghost use Rattle.exo_tree.specs.PlainControl.{control, condition};
@@ -7,17 +7,21 @@ ghost use Rattle.exo_tree.specs.PlainParam.{parameter};
 ghost use Rattle.exo_tree.specs.PlainArgument.{argument};
 ghost use Rattle.exo_tree.specs.PlainProcedure.{procedure};
 ghost use Rattle.exo_tree.specs.PlainUnit.{program};
+ghost use Rattle.affine_places.specs.Seen.{roots_in};
 ghost use Rattle.text_show.specs.Seen.{words_in};
+ghost use Rattle.check_claims.specs.Claim as plain;
 ghost use Rattle.check_claims.specs.Pairs.{flat_zip};
 ghost use Rattle.check_claims.specs.Arguments.{control_under};
-ghost use Rattle.check_claims.specs.Claims.{as_shown, argument_window, given_claims, argument_size, equal_extents, passed_extents, asserted, call_claims};
+ghost use Rattle.check_claims.specs.Claims.{as_shown, argument_window, given_claims, argument_size, equal_extents, passed_extents, passed_root, written_by, share_root, must_be_apart, pairs_with, pair_claims, asserted, call_claims};
 ghost use Rattle.check_claims.specs.Seen.{extents_in};
+ghost use Rattle.check_claims.specs.Short.{has_few_params};
 
 use crate::arguments::{Passed, condition_under, control_under};
 use crate::bounds::{Site, put_window};
 use crate::extents::{dims_of, span_extents};
 use crate::list::Claims;
-use exo_tree::{Arg, Args, Cond, Ctrl, Kind, Param, ParamKind, Proc, ProcId};
+use affine_places::Roots;
+use exo_tree::{Arg, Args, Cond, Ctrl, Id, Kind, Param, ParamKind, Proc, ProcId};
 use std::alloc::{AllocError, Global};
 use text_show::Words;
 
@@ -181,6 +185,111 @@ fn put_argument_extents(
     Ok(())
 }
 
+/// The buffer of which an argument is a part.
+fn passed_root(roots: &Roots<'_>, a: &Arg) -> Option<Id>
+    ensures { option_map (λ (x : Id). x.0) result ≡ passed_root (roots_in roots.now) (argument a.now) }
+{
+    match a {
+        Arg::Ctrl(_) => None,
+        Arg::Cond(_) => None,
+        Arg::Whole(x) => roots.root(*x),
+        Arg::Window(x, _) => roots.root(*x),
+    }
+}
+
+/// A parameter of a callee, by its number, with what is passed for it.
+#[derive(Drop)]
+struct Slot<'a> {
+    number: u32,
+    param: &'a Param,
+    arg: &'a Arg,
+}
+
+/// Whether parts of one buffer are passed for two parameters.
+fn share_root(site: &Site, callee: ProcId, first: &Slot, second: &Slot) -> bool
+    ensures { result ≡ share_root (roots_in site.now.roots.now) (written_by (program site.now.unit.now) callee.0) (argument first.now.arg.now) (argument second.now.arg.now) }
+{
+    match (
+        passed_root(site.roots, first.arg),
+        passed_root(site.roots, second.arg),
+    ) {
+        (Some(x), Some(y)) => x.0 == y.0,
+        _ => false,
+    }
+}
+
+/// Whether a callee writes or reduces a parameter.
+fn is_written(site: &Site, callee: ProcId, p: &Param) -> bool
+    ensures { result ≡ written_by (program site.now.unit.now) callee.0 (parameter p.now).binder.id }
+{
+    let modes = site.modes.get(callee, p.binder.id);
+    modes.write || modes.reduce
+}
+
+/// The claim that what is passed for two parameters has no cell in common: where these are parts of one buffer, and the callee
+/// writes or reduces one of the two.
+fn put_pair(
+    out: &mut Claims,
+    site: &Site,
+    callee: ProcId,
+    first: &Slot,
+    second: &Slot,
+) -> Result<(), AllocError>
+    ensures { OnOk result (out.new ≡ out.old ++ (if must_be_apart (roots_in site.now.roots.now) (written_by (program site.now.unit.now) callee.0) (parameter first.now.param.now) (argument first.now.arg.now) (parameter second.now.param.now) (argument second.now.arg.now) then plain.Apart first.now.number second.now.number ∷ [] else [])) }
+{
+    if share_root(site, callee, first, second)
+        && (is_written(site, callee, first.param) || is_written(site, callee, second.param))
+    {
+        return out.push_apart(first.number, second.number);
+    }
+    Ok(())
+}
+
+/// The claims of a parameter with each later one.
+fn put_pairs_with(
+    out: &mut Claims,
+    site: &Site,
+    callee: ProcId,
+    first: &Slot,
+    params: &[Param],
+    args: &[Arg],
+) -> Result<(), AllocError>
+    requires { length params.now < 2 ^ 32 }
+    ensures { OnOk result (out.new ≡ out.old ++ pairs_with (roots_in site.now.roots.now) (written_by (program site.now.unit.now) callee.0) first.now.number (parameter first.now.param.now) (argument first.now.arg.now) (first.now.number + 1) (map parameter (drop (first.now.number + 1) params.now)) (map argument (drop (first.now.number + 1) args.now))) }
+{
+    for k in first.number as usize + 1..params.len().min(args.len()) {
+        let second = Slot {
+            number: k as u32,
+            param: &params[k],
+            arg: &args[k],
+        };
+        put_pair(out, site, callee, first, &second)?;
+    }
+    Ok(())
+}
+
+/// The claims of all pairs of parameters.
+fn put_pairs(
+    out: &mut Claims,
+    site: &Site,
+    callee: ProcId,
+    params: &[Param],
+    args: &[Arg],
+) -> Result<(), AllocError>
+    requires { length params.now < 2 ^ 32 }
+    ensures { OnOk result (out.new ≡ out.old ++ pair_claims (roots_in site.now.roots.now) (written_by (program site.now.unit.now) callee.0) 0 (map parameter params.now) (map argument args.now)) }
+{
+    for j in 0..params.len().min(args.len()) {
+        let first = Slot {
+            number: j as u32,
+            param: &params[j],
+            arg: &args[j],
+        };
+        put_pairs_with(out, site, callee, &first, params, args)?;
+    }
+    Ok(())
+}
+
 /// The callee's assertions under the arguments, with their texts in the callee's words.
 fn put_asserted(
     alloc: Global,
@@ -202,11 +311,13 @@ fn put_asserted(
 fn put_call_of<'a>(
     alloc: Global,
     out: &mut Claims,
-    site: &Site<'_, 'a>,
+    site: &Site<'_, 'a, '_>,
+    k: ProcId,
     q: &'a Proc,
     args: &Args,
 ) -> Result<(), AllocError>
-    ensures { OnOk result (out.new ≡ out.old ++ call_claims (words_in site.now.words.now) (program site.now.unit.now) (extents_in site.now.extents.now) (Some (procedure q.now)) args.now) }
+    requires { IsTrue (has_few_params (procedure q.now)) }
+    ensures { OnOk result (out.new ≡ out.old ++ call_claims (words_in site.now.words.now) (program site.now.unit.now) (extents_in site.now.extents.now) (roots_in site.now.roots.now) (written_by (program site.now.unit.now) k.0) (Some (procedure q.now)) args.now) }
 {
     let passed = Passed {
         params: &q.params,
@@ -216,6 +327,7 @@ fn put_call_of<'a>(
     put_argument_windows(alloc, out, site, given)?;
     put_argument_sizes(alloc, out, site.words, params, given)?;
     put_argument_extents(alloc, out, site, &passed, params, given)?;
+    put_pairs(out, site, k, params, given)?;
     let callee = Words::new(alloc, site.unit, q)?;
     put_asserted(alloc, out, &callee, &passed, q.asserts.as_slice())
 }
@@ -228,10 +340,10 @@ pub(crate) fn put_call(
     k: ProcId,
     args: &Args,
 ) -> Result<(), AllocError>
-    ensures { OnOk result (out.new ≡ out.old ++ call_claims (words_in site.now.words.now) (program site.now.unit.now) (extents_in site.now.extents.now) (slice_get (program site.now.unit.now).procedures k.0) args.now) }
+    ensures { OnOk result (out.new ≡ out.old ++ call_claims (words_in site.now.words.now) (program site.now.unit.now) (extents_in site.now.extents.now) (roots_in site.now.roots.now) (written_by (program site.now.unit.now) k.0) (slice_get (program site.now.unit.now).procedures k.0) args.now) }
 {
     match site.unit.procs.get(k.0 as usize) {
         None => Ok(()),
-        Some(q) => put_call_of(alloc, out, site, q, args),
+        Some(q) => put_call_of(alloc, out, site, k, q, args),
     }
 }

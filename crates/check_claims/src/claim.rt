@@ -2,11 +2,13 @@
 
 use exo_tree::{Cond, Path};
 
-/// A condition that has to hold, and how it is quoted where it is not shown.
+/// What has to hold.
 #[derive(Drop)]
-pub struct Claim {
-    pub says: Box<Cond>,
-    pub text: String,
+pub enum Claim {
+    /// The condition holds; with how it is quoted where it is not shown.
+    Is(Box<Cond>, String),
+    /// Arguments of those numbers, counted from 0, of the call at the place have no cell in common.
+    Apart(u32, u32),
 }
 
 /// A claim with the path of the statement that has to show it; the empty path for a claim of a parameter.

@@ -4,6 +4,7 @@ ghost use Rattle.exo_tree.specs.Tree as tree;
 ghost use Rattle.exo_tree.specs.PlainControl.{control, condition};
 ghost use Rattle.text_show.specs.ControlText.{condition_text};
 ghost use Rattle.text_show.specs.Seen.{words_in};
+ghost use Rattle.check_claims.specs.Claim as plain;
 ghost use Rattle.check_claims.specs.PlainClaim.{claim, placed};
 ghost use Rattle.check_claims.specs.Claims.{as_shown, placed_at};
 ghost use Rattle.check_claims.specs.Orders.{compared};
@@ -76,6 +77,13 @@ impl Claims {
         Ok(())
     }
 
+    /// Puts last that the arguments of those numbers have no cell in common.
+    pub(crate) fn push_apart(&mut self, j: u32, k: u32) -> Result<(), AllocError>
+        ensures { OnOk result (self.new ≡ self.old ++ plain.Apart j k ∷ []) }
+    {
+        self.push(Claim::Apart(j, k))
+    }
+
     /// Puts last that a condition holds, with the text of another condition in its words.
     pub(crate) fn push_quoted(
         &mut self,
@@ -84,12 +92,12 @@ impl Claims {
         words: &Words,
         quoted: &Cond,
     ) -> Result<(), AllocError>
-        ensures { OnOk result (self.new ≡ self.old ++ record { says = condition says; text = condition_text (words_in words.now) (condition quoted.now) } ∷ []) }
+        ensures { OnOk result (self.new ≡ self.old ++ plain.Is (condition says) (condition_text (words_in words.now) (condition quoted.now)) ∷ []) }
     {
         let says = Box::new(alloc, says)?;
         let mut text = String::new(alloc);
         put_condition(&mut text, words, quoted)?;
-        self.push(Claim { says, text })
+        self.push(Claim::Is(says, text))
     }
 
     /// Puts last that a condition holds.
@@ -104,7 +112,7 @@ impl Claims {
         let says = Box::new(alloc, says)?;
         let mut text = String::new(alloc);
         put_condition(&mut text, words, &says)?;
-        self.push(Claim { says, text })
+        self.push(Claim::Is(says, text))
     }
 
     /// `n <= e`

@@ -1,5 +1,6 @@
 //! The claims of a procedure, statement by statement.
-ghost use Rattle.std.specs.Prelude.{◌≡◌, ◌+◌, ◌<◌, ◌++◌, true, [], length, map, flat_map, OnOk, IfOk, zero};
+ghost use Rattle.std.specs.Prelude.{◌≡◌, ◌+◌, ◌<◌, ◌++◌, IsTrue, true, [], length, map, flat_map, OnOk, IfOk, zero};
+ghost use Rattle.std.specs.List.{list_all};
 ghost use Rattle.exo_tree.specs.Tree.{block};
 ghost use Rattle.exo_tree.specs.PlainPlace.{branch_taken};
 ghost use Rattle.exo_tree.specs.PlainParam.{parameter};
@@ -8,17 +9,23 @@ ghost use Rattle.exo_tree.specs.PlainStatement.{statement};
 ghost use Rattle.exo_tree.specs.PlainProcedure.{procedure};
 ghost use Rattle.exo_tree.specs.PlainUnit.{program};
 ghost use Rattle.exo_meaning.specs.Units.{field_kind, is_short, levels, step_levels, IsUnit};
+ghost use Rattle.exo_modes.specs.Marks.{modes_of};
+ghost use Rattle.exo_modes.specs.Seen.{table_says};
+ghost use Rattle.affine_places.specs.Roots.{roots_of, unit_roots};
+ghost use Rattle.affine_places.specs.Seen.{roots_in};
 ghost use Rattle.text_show.specs.Seen.{words_in};
 ghost use Rattle.check_claims.specs.Claims.{write_claims, own_claims, into, block_claims, inner_claims, param_claims, procedure_claims, claims_of, unit_claims};
 ghost use Rattle.check_claims.specs.PlainClaim.{placed};
 ghost use Rattle.check_claims.specs.Seen.{extents_in};
-ghost use Rattle.check_claims.specs.Short.{is_short_inside, step_is_short};
+ghost use Rattle.check_claims.specs.Short.{is_short_inside, step_is_short, has_few_params};
 
 use crate::bounds::{Site, put_sizes, put_store, put_window};
 use crate::call::{put_call, put_given};
 use crate::claim::Placed;
 use crate::extents::{Extents, dims_of};
 use crate::list::Claims;
+use affine_places::Roots;
+use exo_modes::ModeTable;
 use exo_tree::{Arg, Block, Branch, FieldId, Param, Path, Proc, ProcId, Step, Stmt, Unit};
 use std::alloc::{AllocError, Global};
 use text_show::Words;
@@ -46,7 +53,7 @@ pub(crate) fn put_own(
     site: &Site,
     s: &Stmt,
 ) -> Result<(), AllocError>
-    ensures { OnOk result (out.new ≡ out.old ++ own_claims (words_in site.now.words.now) (program site.now.unit.now) (extents_in site.now.extents.now) (statement s.now)) }
+    ensures { OnOk result (out.new ≡ out.old ++ own_claims (words_in site.now.words.now) (program site.now.unit.now) (extents_in site.now.extents.now) (roots_in site.now.roots.now) (statement s.now)) }
 {
     match s {
         Stmt::Assign(x, at, e) => put_store(alloc, out, site, *x, at.as_slice(), e),
@@ -90,7 +97,7 @@ fn put_block(
     requires short { is_short (block b.now) ≡ true }
     requires inside { is_short_inside (block b.now) ≡ true }
     requires levels { length outer.now + levels (block b.now) < 33 }
-    ensures { OnOk result (map placed out.new.items ≡ map placed out.old.items ++ block_claims (words_in site.now.words.now) (program site.now.unit.now) (extents_in site.now.extents.now) outer.now (branch_taken branch) 0 (block b.now)) }
+    ensures { OnOk result (map placed out.new.items ≡ map placed out.old.items ++ block_claims (words_in site.now.words.now) (program site.now.unit.now) (extents_in site.now.extents.now) (roots_in site.now.roots.now) outer.now (branch_taken branch) 0 (block b.now)) }
 {
     for k in 0..b.len() {
         let s = b.statement(k);
@@ -115,7 +122,7 @@ fn put_inner(
 ) -> Result<(), AllocError>
     requires inside { step_is_short (statement s.now) ≡ true }
     requires levels { length path.now + step_levels (statement s.now) < 33 }
-    ensures { OnOk result (map placed out.new.items ≡ map placed out.old.items ++ inner_claims (words_in site.now.words.now) (program site.now.unit.now) (extents_in site.now.extents.now) path.now (statement s.now)) }
+    ensures { OnOk result (map placed out.new.items ≡ map placed out.old.items ++ inner_claims (words_in site.now.words.now) (program site.now.unit.now) (extents_in site.now.extents.now) (roots_in site.now.roots.now) path.now (statement s.now)) }
 {
     match s {
         Stmt::If(_, a, b) => {
@@ -152,7 +159,7 @@ fn put_procedure(
     requires short { is_short (block p.now.body) ≡ true }
     requires inside { is_short_inside (block p.now.body) ≡ true }
     requires levels { levels (block p.now.body) < 33 }
-    ensures { OnOk result (map placed out.new.items ≡ map placed out.old.items ++ procedure_claims (words_in site.now.words.now) (program site.now.unit.now) (extents_in site.now.extents.now) (procedure p.now)) }
+    ensures { OnOk result (map placed out.new.items ≡ map placed out.old.items ++ procedure_claims (words_in site.now.words.now) (program site.now.unit.now) (extents_in site.now.extents.now) (roots_in site.now.roots.now) (procedure p.now)) }
 {
     let top = Path::new();
     let mut own = Claims::new(alloc);
@@ -162,31 +169,52 @@ fn put_procedure(
 }
 
 /// Puts the claims of a procedure of the unit last.
-fn put_claims(alloc: Global, out: &mut Vec<Placed>, unit: &Unit, p: &Proc) -> Result<(), AllocError>
+fn put_claims(
+    alloc: Global,
+    out: &mut Vec<Placed>,
+    unit: &Unit,
+    modes: &ModeTable,
+    roots: &Roots<'_>,
+    p: &Proc,
+) -> Result<(), AllocError>
     requires short { is_short (block p.now.body) ≡ true }
     requires inside { is_short_inside (block p.now.body) ≡ true }
     requires levels { levels (block p.now.body) < 33 }
+    requires few { IsTrue (list_all has_few_params (program unit.now).procedures) }
+    requires modes { table_says modes.now ≡ modes_of (program unit.now) }
+    requires roots { roots_in roots.now ≡ roots_of (procedure p.now) }
     ensures { OnOk result (map placed out.new.items ≡ map placed out.old.items ++ claims_of (program unit.now) (procedure p.now)) }
 {
     let words = Words::new(alloc, unit, p)?;
     let extents = Extents::of(alloc, p)?;
     let site = Site {
         unit,
+        modes,
         words: &words,
         extents: &extents,
+        roots,
     };
     put_procedure(alloc, out, &site, p)
 }
 
 /// What the procedure `p` of the unit has to show so that no run of it faults, in text order; nothing where the unit has no such
-/// procedure. A claim's text is in the words of the procedure, that of a callee's assertion in the words of the callee.
-pub fn claims_of(alloc: Global, unit: &Unit, p: ProcId) -> Result<Vec<Placed>, AllocError>
-    requires { IsUnit (program unit.now) }
+/// procedure. The modes are those of the unit's procedures, the roots those of the names of `p`. A claim's text is in the words of
+/// the procedure, that of a callee's assertion in the words of the callee.
+pub fn claims_of(
+    alloc: Global,
+    unit: &Unit,
+    modes: &ModeTable,
+    roots: &Roots<'_>,
+    p: ProcId,
+) -> Result<Vec<Placed>, AllocError>
+    requires unit { IsUnit (program unit.now) }
+    requires modes { table_says modes.now ≡ modes_of (program unit.now) }
+    requires roots { roots_in roots.now ≡ unit_roots (program unit.now) p.0 }
     ensures { IfOk result (λ l. map placed l.items ≡ unit_claims (program unit.now) p.0) }
 {
     let mut out = Vec::new(alloc);
     if let Some(found) = unit.procs.get(p.0 as usize) {
-        put_claims(alloc, &mut out, unit, found)?;
+        put_claims(alloc, &mut out, unit, modes, roots, found)?;
     }
     Ok(out)
 }

@@ -2,6 +2,7 @@
 use Rattle.std.proofs.Common.{◌≡◌, ℕ, zero, suc, ℤ, ◌+ℤ◌, ◌==◌, true, false, not, ◌&&◌, ◌||◌, List, [], ◌∷◌, ◌++◌, Option, Some, None, option_map, refl, sym, ap, ◌∙◌, subst}
 use Rattle.std.specs.Prelude.{IsSome, length, slice_get, nat_lt}
 use Rattle.exo_tree.specs.Tree.{Kind, Size, Index, Truth, Stride, Binder, Control, Condition, Argument, ControlArg, ConditionArg, Whole, Window, Statement, Assign, Reduce, Config, Pass, If, For, Alloc, View, Call, Block, end, next, Procedure, ConfigField, Program}
+use Rattle.exo_tree.specs.Calls.{passed_by}
 use Rattle.exo_tree.specs.Context.{fill}
 use Rattle.exo_tree.specs.Places.{Branch, Main, Else, Path, opened}
 use Rattle.exo_meaning.specs.Value.{on_two}
@@ -16,15 +17,18 @@ use Rattle.meaning_laws.specs.Places.{OpenedLaw}
 use Rattle.meaning_laws.specs.Sound.{IsSound}
 use Rattle.meaning_laws.specs.Copies.{SoundLaw}
 use Rattle.meaning_laws.specs.Sorted.{IsSorted, FitsAtLaw, MayRun}
+use Rattle.affine_places.specs.Roots.{Roots, roots_of}
 use Rattle.text_show.specs.Words.{Words, words_of}
+use Rattle.check_claims.specs.Claim.{Claim}
 use Rattle.check_claims.specs.Extents.{extents_of, Extents}
-use Rattle.check_claims.specs.Claims.{into, placed_at, given_claims, write_claims, own_claims, inner_claims, block_claims, call_claims}
+use Rattle.check_claims.specs.Claims.{into, placed_at, given_claims, write_claims, own_claims, inner_claims, block_claims, written_by, call_claims}
 use Rattle.check_claims_laws.specs.Holding.{ClaimHolds, calls, step_calls}
 use Rattle.check_claims_laws.proofs.Basics.{and_parts, no_test, by_test, none_some, there_some, if_gives, Succeeds, succeeds_then, succeeds_where, succeeds_some, some_injective, each_left, each_right, or_left, or_right, same_number}
-use Rattle.check_claims_laws.proofs.Seen.{Hold, IsDescribed, dims_positive, store_there, IsPart, window_there}
+use Rattle.check_claims_laws.proofs.Seen.{Hold, IsKeptApart, IsDescribed, dims_positive, store_there, IsPart, window_there}
 use Rattle.check_claims_laws.proofs.Kept.{SameNames, same_on, turn_names, same_described, control_described, step_described}
 use Rattle.check_claims_laws.proofs.Tables.{Agrees}
-use Rattle.check_claims_laws.proofs.Ways.{Reaches, claims_here, Leads, leads_here, Later, leads_next, leads_then, leads_else, InTurn, leads_loop}
+use Rattle.check_claims_laws.proofs.Rooted.{SeesRoots, roots_seen}
+use Rattle.check_claims_laws.proofs.Ways.{Reaches, claims_here, apart_here, Leads, leads_here, Later, leads_next, leads_then, leads_else, InTurn, leads_loop}
 
 -- ---- values of a kind
 
@@ -74,30 +78,39 @@ module _ (u : Program) (p : Procedure) (may : MayRun u.fields (length u.memories
   abbrev table : Extents
   table = extents_of p
 
+  abbrev roots : Roots
+  roots = roots_of p
+
   abbrev w : Words
   w = words_of u p
 
+  abbrev claims_of_call : ℕ → List Argument → List Claim
+  claims_of_call k args = call_claims w u table roots (written_by u k) (slice_get u.procedures k) args
+
   -- a call of a procedure that runs does not fault where its claims hold
   abbrev pub CallsRun : Type 0
-  CallsRun = (k : ℕ) (args : List Argument) (scope : Scope) (root : ℕ → ℕ) (t : State) → Runs k → is_call fields scope root (world.callees k) args ≡ true → IsSound t → IsSorted world.kinds scope t → IsDescribed table scope t.scene → Hold t.scene (call_claims w u table (slice_get u.procedures k) args) → IsSome (call_to (world.callees k) args t)
+  CallsRun = (k : ℕ) (args : List Argument) (scope : Scope) (root : ℕ → ℕ) (t : State) → Runs k → is_call fields scope root (world.callees k) args ≡ true → IsSound t → IsSorted world.kinds scope t → IsDescribed table scope t.scene → SeesRoots roots scope t.scene → Hold t.scene (claims_of_call k args) → Each (IsKeptApart t.scene args) (claims_of_call k args) → IsSome (call_to (world.callees k) args t)
 
   -- a block of p, with the states in which a run is at its begin
   pub record Stands (outer : Path) (branch : Branch) (n : ℕ) (b : Block) (scope : Scope) (root : ℕ → ℕ) (At : State → Type 0) : Type 0 where
     pub leads : Leads world p outer branch n b scope At
     pub formed : is_block fields (length u.memories) world.callees scope root b ≡ true
     pub agrees : Agrees table b
-    pub claimed : Each (ClaimHolds world p) (block_claims w u table outer branch n b)
+    pub claimed : Each (ClaimHolds world p) (block_claims w u table roots outer branch n b)
     pub callees_run : (k : ℕ) → calls b k ≡ true → Runs k
     pub described : (t : State) → At t → IsDescribed table scope t.scene
 
-  reached_sound : (path : Path) (scope : Scope) (t : State) → Reaches world p path scope t → IsSound t
-  reached_sound path scope t r = sound_law world p r.place.piece r.place.around r.start t r.good r.comes
+  reached_sound : (path : Path) (piece : Block) (scope : Scope) (t : State) → Reaches world p path piece scope t → IsSound t
+  reached_sound path piece scope t r = sound_law world p r.place.piece r.place.around r.start t r.good r.comes
 
   from_body_same : (count : ℕ) (path : Path) (o : _) → opened count path p.body ≡ Some o → fill o.around o.piece ≡ p.body
   from_body_same count path o e = opened_law count path p.body o e
 
-  reached_sorted : (path : Path) (scope : Scope) (t : State) → Reaches world p path scope t → IsSorted world.kinds scope t
-  reached_sorted path scope t r = subst (λ c. IsSorted world.kinds c t) r.scope_is (fits_law u.fields (length u.memories) u.procedures p r.place.around r.place.piece may (sym (from_body_same 1 path r.place r.is_there)) r.start t r.good r.comes)
+  reached_sorted : (path : Path) (piece : Block) (scope : Scope) (t : State) → Reaches world p path piece scope t → IsSorted world.kinds scope t
+  reached_sorted path piece scope t r = subst (λ c. IsSorted world.kinds c t) r.scope_is (fits_law u.fields (length u.memories) u.procedures p r.place.around r.place.piece may (sym (from_body_same 1 path r.place r.is_there)) r.start t r.good r.comes)
+
+  reached_roots : (path : Path) (piece : Block) (scope : Scope) (t : State) → Reaches world p path piece scope t → SeesRoots roots scope t.scene
+  reached_roots path piece scope t r = subst (λ c. SeesRoots roots c t.scene) r.scope_is (roots_seen u p may r.place r.start t (sym (from_body_same 1 path r.place r.is_there)) r.good r.comes)
 
   module _ (outer : Path) (branch : Branch) (n : ℕ) (a : Statement) (b : Block) (scope : Scope) (root : ℕ → ℕ) (At : State → Type 0) (s : Stands outer branch n (next a b) scope root At) where
     abbrev path : Path
@@ -106,24 +119,30 @@ module _ (u : Program) (p : Procedure) (may : MayRun u.fields (length u.memories
     formed_parts : (is_statement fields (length u.memories) world.callees scope root a ≡ true) × (is_block fields (length u.memories) world.callees (scope_after a scope) (roots_after a root) b ≡ true)
     formed_parts = and_parts (is_statement fields (length u.memories) world.callees scope root a) _ s.formed
 
-    first_claimed : Each (ClaimHolds world p) (placed_at path (own_claims w u table a) ++ inner_claims w u table path a)
-    first_claimed = each_left (ClaimHolds world p) (placed_at path (own_claims w u table a) ++ inner_claims w u table path a) (block_claims w u table outer branch (suc n) b) s.claimed
+    first_claimed : Each (ClaimHolds world p) (placed_at path (own_claims w u table roots a) ++ inner_claims w u table roots path a)
+    first_claimed = each_left (ClaimHolds world p) (placed_at path (own_claims w u table roots a) ++ inner_claims w u table roots path a) (block_claims w u table roots outer branch (suc n) b) s.claimed
 
-    pub inner_claimed : Each (ClaimHolds world p) (inner_claims w u table path a)
-    inner_claimed = each_right (ClaimHolds world p) (placed_at path (own_claims w u table a)) (inner_claims w u table path a) first_claimed
+    own_claimed : Each (ClaimHolds world p) (placed_at path (own_claims w u table roots a))
+    own_claimed = each_left (ClaimHolds world p) (placed_at path (own_claims w u table roots a)) (inner_claims w u table roots path a) first_claimed
 
-    pub reaches : (t : State) → At t → Reaches world p path scope t
+    pub inner_claimed : Each (ClaimHolds world p) (inner_claims w u table roots path a)
+    inner_claimed = each_right (ClaimHolds world p) (placed_at path (own_claims w u table roots a)) (inner_claims w u table roots path a) first_claimed
+
+    pub reaches : (t : State) → At t → Reaches world p path (next a end) scope t
     reaches t h = leads_here world p outer branch n a b scope At s.leads t h
 
-    pub held : (t : State) → At t → Hold t.scene (own_claims w u table a)
-    held t h = claims_here world p path scope t (reaches t h) (own_claims w u table a) (each_left (ClaimHolds world p) (placed_at path (own_claims w u table a)) (inner_claims w u table path a) first_claimed)
+    pub held : (t : State) → At t → Hold t.scene (own_claims w u table roots a)
+    held t h = claims_here world p path (next a end) scope t (reaches t h) (own_claims w u table roots a) own_claimed
+
+    pub kept_apart : (t : State) → At t → Each (IsKeptApart t.scene (passed_by a)) (own_claims w u table roots a)
+    kept_apart t h = apart_here world p path (next a end) scope t (reaches t h) (own_claims w u table roots a) own_claimed
 
     pub rest_stands : Stands outer branch (suc n) b (scope_after a scope) (roots_after a root) (Later world p a At)
     rest_stands = record {
       leads = leads_next world p outer branch n a b scope At s.leads;
       formed = formed_parts.1;
       agrees = s.agrees.1;
-      claimed = each_right (ClaimHolds world p) (placed_at path (own_claims w u table a) ++ inner_claims w u table path a) (block_claims w u table outer branch (suc n) b) s.claimed;
+      claimed = each_right (ClaimHolds world p) (placed_at path (own_claims w u table roots a) ++ inner_claims w u table roots path a) (block_claims w u table roots outer branch (suc n) b) s.claimed;
       callees_run = λ k e. s.callees_run k (or_right (step_calls a k) (calls b k) e);
       described = λ t h. if_gives (λ (t : State). IsDescribed table (scope_after a scope) t.scene) (step world a h.0) t (step_described world fields (length u.memories) world.callees table scope root h.0 (s.described h.0 h.1) a formed_parts.0 s.agrees.0) h.2;
     }
@@ -140,7 +159,7 @@ module _ (u : Program) (p : Procedure) (may : MayRun u.fields (length u.memories
         leads = leads_then world p outer branch n rest scope At c a b s.leads;
         formed = (and_parts (is_block fields (length u.memories) world.callees scope root a) _ both_formed).0;
         agrees = s.agrees.0.0;
-        claimed = each_left (ClaimHolds world p) (block_claims w u table (into outer branch n) Main 0 a) (block_claims w u table (into outer branch n) Else 0 b) (inner_claimed outer branch n (If c a b) rest scope root At s);
+        claimed = each_left (ClaimHolds world p) (block_claims w u table roots (into outer branch n) Main 0 a) (block_claims w u table roots (into outer branch n) Else 0 b) (inner_claimed outer branch n (If c a b) rest scope root At s);
         callees_run = λ k e. s.callees_run k (or_left (calls a k || calls b k) (calls rest k) (or_left (calls a k) (calls b k) e));
         described = λ t h. s.described t h.0;
       }
@@ -150,7 +169,7 @@ module _ (u : Program) (p : Procedure) (may : MayRun u.fields (length u.memories
         leads = leads_else world p outer branch n rest scope At c a b s.leads;
         formed = (and_parts (is_block fields (length u.memories) world.callees scope root a) _ both_formed).1;
         agrees = s.agrees.0.1;
-        claimed = each_right (ClaimHolds world p) (block_claims w u table (into outer branch n) Main 0 a) (block_claims w u table (into outer branch n) Else 0 b) (inner_claimed outer branch n (If c a b) rest scope root At s);
+        claimed = each_right (ClaimHolds world p) (block_claims w u table roots (into outer branch n) Main 0 a) (block_claims w u table roots (into outer branch n) Else 0 b) (inner_claimed outer branch n (If c a b) rest scope root At s);
         callees_run = λ k e. s.callees_run k (or_left (calls a k || calls b k) (calls rest k) (or_right (calls a k) (calls b k) e));
         described = λ t h. s.described t h.0;
       }
@@ -192,9 +211,9 @@ module _ (u : Program) (p : Procedure) (may : MayRun u.fields (length u.memories
 
       step_runs : (a : Statement) (b : Block) (outer : Path) (branch : Branch) (n : ℕ) (scope : Scope) (root : ℕ → ℕ) (At : State → Type 0) → Stands outer branch n (next a b) scope root At → (t : State) → At t → IsSome (step world a t)
       step_runs (Assign x is e) b outer branch n scope root At s t h =
-          succeeds_some (λ z. Unit {0}) (step world (Assign x is e) t) (store_there w fields table scope t (s.described t h) (reached_sound (into outer branch n) scope t (reaches outer branch n (Assign x is e) b scope root At s t h)) x is e (λ v old. v) (formed_parts outer branch n (Assign x is e) b scope root At s).0 (held outer branch n (Assign x is e) b scope root At s t h))
+          succeeds_some (λ z. Unit {0}) (step world (Assign x is e) t) (store_there w fields table scope t (s.described t h) (reached_sound (into outer branch n) (next (Assign x is e) end) scope t (reaches outer branch n (Assign x is e) b scope root At s t h)) x is e (λ v old. v) (formed_parts outer branch n (Assign x is e) b scope root At s).0 (held outer branch n (Assign x is e) b scope root At s t h))
       step_runs (Reduce x is e) b outer branch n scope root At s t h =
-          succeeds_some (λ z. Unit {0}) (step world (Reduce x is e) t) (store_there w fields table scope t (s.described t h) (reached_sound (into outer branch n) scope t (reaches outer branch n (Reduce x is e) b scope root At s t h)) x is e (λ v old. on_two ◌+ℤ◌ old v) (formed_parts outer branch n (Reduce x is e) b scope root At s).0 (held outer branch n (Reduce x is e) b scope root At s t h))
+          succeeds_some (λ z. Unit {0}) (step world (Reduce x is e) t) (store_there w fields table scope t (s.described t h) (reached_sound (into outer branch n) (next (Reduce x is e) end) scope t (reaches outer branch n (Reduce x is e) b scope root At s t h)) x is e (λ v old. on_two ◌+ℤ◌ old v) (formed_parts outer branch n (Reduce x is e) b scope root At s).0 (held outer branch n (Reduce x is e) b scope root At s t h))
       step_runs (Config f a) b outer branch n scope root At s t h =
           configured f a scope t (fields f) refl (formed_parts outer branch n (Config f a) b scope root At s).0 (held outer branch n (Config f a) b scope root At s t h)
       step_runs Pass b outer branch n scope root At s t h = refl
@@ -213,8 +232,12 @@ module _ (u : Program) (p : Procedure) (may : MayRun u.fields (length u.memories
           let q = and_parts (is_new scope v) (is_window fields scope x cs && nat_lt 0 (spans cs)) (formed_parts outer branch n (View v x cs) b scope root At s).0 in
           let r = and_parts (is_window fields scope x cs) (nat_lt 0 (spans cs)) q.1 in
           let d = s.described t h in
-          let sound = reached_sound (into outer branch n) scope t (reaches outer branch n (View v x cs) b scope root At s t h) in
+          let sound = reached_sound (into outer branch n) (next (View v x cs) end) scope t (reaches outer branch n (View v x cs) b scope root At s t h) in
           succeeds_some (λ z. Unit {0}) (step world (View v x cs) t) (succeeds_then (IsPart w fields table scope t d sound x cs) (λ z. Unit {0}) (window t.scene x cs) _ (window_there w fields table scope t d sound x cs r.0 (held outer branch n (View v x cs) b scope root At s t h)) (λ seen k. tt))
       step_runs (Call k args) b outer branch n scope root At s t h =
           let r = reaches outer branch n (Call k args) b scope root At s t h in
-          calls_run k args scope root t (s.callees_run k (or_left (k == k) (calls b k) (same_number k))) (formed_parts outer branch n (Call k args) b scope root At s).0 (reached_sound (into outer branch n) scope t r) (reached_sorted (into outer branch n) scope t r) (s.described t h) (held outer branch n (Call k args) b scope root At s t h)
+          let path = into outer branch n in
+          let piece = next (Call k args) end in
+          calls_run k args scope root t (s.callees_run k (or_left (k == k) (calls b k) (same_number k))) (formed_parts outer branch n (Call k args) b scope root At s).0
+          (reached_sound path piece scope t r) (reached_sorted path piece scope t r) (s.described t h) (reached_roots path piece scope t r)
+          (held outer branch n (Call k args) b scope root At s t h) (kept_apart outer branch n (Call k args) b scope root At s t h)

@@ -1,16 +1,17 @@
 -- The claims of a well-formed procedure are conditions over the names in scope at their places.
-use Rattle.std.proofs.Common.{◌≡◌, ℕ, ◌==◌, Bool, true, not, ◌&&◌, ◌||◌, List, [], ◌∷◌, ◌++◌, length, map, Option, Some, refl, sym, subst}
+use Rattle.std.proofs.Common.{◌≡◌, ℕ, suc, ◌==◌, Bool, true, false, if◌then◌else◌, not, ◌&&◌, ◌||◌, List, [], ◌∷◌, ◌++◌, length, map, Option, Some, refl, sym, subst}
 use Rattle.std.specs.Prelude.{flat_map}
 use Rattle.std.specs.List.{list_all}
 use Rattle.exo_tree.specs.Tree.{Kind, Size, Index, Truth, Stride, Control, Condition, Datum, Const, Read, Negated, Relu, Plus, Minus, Times, Select, Coord, At, Span, Argument, ControlArg, ConditionArg, Whole, Window, Param, ParamKind, ControlParam, TensorParam, WindowParam, Procedure, Program}
 use Rattle.exo_meaning.specs.Orders.{Each}
 use Rattle.exo_meaning.specs.Units.{Scope, sort_in, with_name, scope_of, param_sort, is_new, has_rank, has_cell, is_dense, is_rank, plainly, with_both, Reads, is_control, are_controls, is_condition, is_access, is_datum, is_coord, is_window, is_of_kind, is_for, are_for, is_param_kind, are_params, spans}
+use Rattle.affine_places.specs.Roots.{Roots}
 use Rattle.text_show.specs.Words.{Words, words_of}
 use Rattle.check_claims.specs.Pairs.{flat_zip}
-use Rattle.check_claims.specs.Claim.{Claim}
+use Rattle.check_claims.specs.Claim.{Claim, Is, Apart}
 use Rattle.check_claims.specs.Extents.{Extents, dims_of}
 use Rattle.check_claims.specs.Arguments.{control_under}
-use Rattle.check_claims.specs.Claims.{asserted, at_least_one, index_claims, window_claims, read_claims, store_claims, argument_window, given_claims, argument_size, argument_extents, equal_extents, passed_extents, call_claims}
+use Rattle.check_claims.specs.Claims.{asserted, at_least_one, index_claims, window_claims, read_claims, store_claims, argument_window, given_claims, argument_size, argument_extents, equal_extents, passed_extents, must_be_apart, pairs_with, pair_claims, call_claims}
 use Rattle.check_claims_laws.proofs.Basics.{and_parts, and_true, no_test}
 use Rattle.check_claims_laws.proofs.Entered.{Passed, params_differ, all_passed}
 use Rattle.check_claims_laws.proofs.Shapes.{control_freer, controls_freer, spans_formed, AreRanks, Gives, controls_formed, condition_formed, gives_nothing, gives_more, all_give}
@@ -25,13 +26,14 @@ each_append P (x ∷ xs) ys h k = (h.0, each_append P xs ys h.1 k)
 
 module _ (w : Words) (fields : ℕ → Option Kind) (table : Extents) (scope : Scope) where
   abbrev pub IsFormedHere : Claim → Type 0
-  IsFormedHere c = is_condition fields with_both scope c.says ≡ true
+  IsFormedHere (Is c text) = is_condition fields with_both scope c ≡ true
+  IsFormedHere (Apart j k) = Unit {0}
 
   abbrev pub AreFormed : List Claim → Type 0
   AreFormed cs = Each IsFormedHere cs
 
-  abbrev Is : Control → Bool
-  Is = is_control fields with_both scope
+  abbrev Fits : Control → Bool
+  Fits = is_control fields with_both scope
 
   abbrev Are : List Control → Bool
   Are = are_controls fields with_both scope
@@ -41,33 +43,33 @@ module _ (w : Words) (fields : ℕ → Option Kind) (table : Extents) (scope : S
 
   pub sizes_formed : (ds : List Control) → Are ds ≡ true → AreFormed (map (at_least_one w) ds)
   sizes_formed [] h = tt
-  sizes_formed (d ∷ ds) h = let p = and_parts (Is d) (Are ds) h in (p.0, sizes_formed ds p.1)
+  sizes_formed (d ∷ ds) h = let p = and_parts (Fits d) (Are ds) h in (p.0, sizes_formed ds p.1)
 
   indices_formed : (is ds : List Control) → Are is ≡ true → Are ds ≡ true → AreFormed (index_claims w is ds)
   indices_formed [] ds h k = tt
   indices_formed (i ∷ is) [] h k = tt
   indices_formed (i ∷ is) (d ∷ ds) h k =
-      let p = and_parts (Is i) (Are is) h in
-      let q = and_parts (Is d) (Are ds) k in
-      (p.0, (and_true (Is i) (Is d) p.0 q.0, indices_formed is ds p.1 q.1))
+      let p = and_parts (Fits i) (Are is) h in
+      let q = and_parts (Fits d) (Are ds) k in
+      (p.0, (and_true (Fits i) (Fits d) p.0 q.0, indices_formed is ds p.1 q.1))
 
   window_formed : (cs : List Coord) (ds : List Control) → list_all (is_coord fields scope) cs ≡ true → Are ds ≡ true → AreFormed (window_claims w cs ds)
   window_formed [] ds h k = tt
   window_formed (c ∷ cs) [] h k = tt
   window_formed (At a ∷ cs) (d ∷ ds) h k =
       let p = and_parts (is_control fields plainly scope a) (list_all (is_coord fields scope) cs) h in
-      let q = and_parts (Is d) (Are ds) k in
+      let q = and_parts (Fits d) (Are ds) k in
       let i = control_freer fields plainly scope a p.0 in
-      (i, (and_true (Is a) (Is d) i q.0, window_formed cs ds p.1 q.1))
+      (i, (and_true (Fits a) (Fits d) i q.0, window_formed cs ds p.1 q.1))
   window_formed (Span a b ∷ cs) (d ∷ ds) h k =
       let p = and_parts (is_control fields plainly scope a && is_control fields plainly scope b) (list_all (is_coord fields scope) cs) h in
       let r = and_parts (is_control fields plainly scope a) (is_control fields plainly scope b) p.0 in
-      let q = and_parts (Is d) (Are ds) k in
+      let q = and_parts (Fits d) (Are ds) k in
       let i = control_freer fields plainly scope a r.0 in
       let j = control_freer fields plainly scope b r.1 in
-      (i, (and_true (Is a) (Is b) i j, (and_true (Is b) (Is d) j q.0, window_formed cs ds p.1 q.1)))
+      (i, (and_true (Fits a) (Fits b) i j, (and_true (Fits b) (Fits d) j q.0, window_formed cs ds p.1 q.1)))
 
-  pub given_formed : (may : Reads) (kind : Kind) (a : Argument) → is_of_kind fields may scope kind a ≡ true → ((e : Control) → is_control fields may scope e ≡ true → Is e ≡ true) → AreFormed (given_claims w kind a)
+  pub given_formed : (may : Reads) (kind : Kind) (a : Argument) → is_of_kind fields may scope kind a ≡ true → ((e : Control) → is_control fields may scope e ≡ true → Fits e ≡ true) → AreFormed (given_claims w kind a)
   given_formed may Size (ControlArg e) h k = (k e h, tt)
   given_formed may Index a h k = tt
   given_formed may Truth a h k = tt
@@ -157,12 +159,32 @@ module _ (w : Words) (fields : ℕ → Option Kind) (table : Extents) (scope : S
     equal_formed [] ds h k = tt
     equal_formed (e ∷ es) [] h k = tt
     equal_formed (e ∷ es) (d ∷ ds) h k =
-        let p = and_parts (Is e) (Are es) h in
-        let q = and_parts (Is d) (Are ds) k in
-        (and_true (Is e) (Is d) p.0 q.0, equal_formed es ds p.1 q.1)
+        let p = and_parts (Fits e) (Are es) h in
+        let q = and_parts (Fits d) (Are ds) k in
+        (and_true (Fits e) (Fits d) p.0 q.0, equal_formed es ds p.1 q.1)
 
     ranks : AreRanks scope
     ranks x n h = (tabled x n h).1
+
+    -- that arguments are apart is no condition
+    module _ (roots : Roots) (writes : ℕ → Bool) where
+      with_formed : (j : ℕ) (p : Param) (a : Argument) (k : ℕ) (qs : List Param) (rest : List Argument) → AreFormed (pairs_with roots writes j p a k qs rest)
+      with_formed j p a k [] rest = tt
+      with_formed j p a k (q ∷ qs) [] = tt
+      with_formed j p a k (q ∷ qs) (b ∷ rest) =
+          let t = must_be_apart roots writes p a q b in
+          append (if t then Apart j k ∷ [] else []) (pairs_with roots writes j p a (suc k) qs rest) (one t) (with_formed j p a (suc k) qs rest)
+        where
+          one : (t : Bool) → AreFormed (if t then Apart j k ∷ [] else [])
+          one true = (tt, tt)
+          one false = tt
+
+      pairs_formed : (j : ℕ) (ps : List Param) (rest : List Argument) → AreFormed (pair_claims roots writes j ps rest)
+      pairs_formed j [] rest = tt
+      pairs_formed j (p ∷ ps) [] = tt
+      pairs_formed j (p ∷ ps) (a ∷ rest) =
+          append (pairs_with roots writes j p a (suc j) ps rest) (pair_claims roots writes (suc j) ps rest)
+          (with_formed j p a (suc j) ps rest) (pairs_formed (suc j) ps rest)
 
     module _ (memories : ℕ) (params : List Param) (args : List Argument) where
       dims_formed : (names : Scope) → Gives fields plainly params args scope ranks names → (kind : ParamKind) → is_param_kind fields memories names kind ≡ true → Are (map (control_under params args) (dims_of kind)) ≡ true
@@ -187,21 +209,26 @@ module _ (w : Words) (fields : ℕ → Option Kind) (table : Extents) (scope : S
           let p = and_parts (is_condition fields with_both names c) (list_all (is_condition fields with_both names) cs) h in
           (condition_formed fields with_both params args scope ranks names g c p.0, asserts_formed v names g cs p.1)
 
-      pub calls_formed : (u : Program) (q : Procedure) → q.params ≡ params → are_params fields memories [] params ≡ true → list_all (is_condition fields with_both (scope_of [] params)) q.asserts ≡ true → are_for fields scope params args ≡ true → AreFormed (call_claims w u table (Some q) args)
-      calls_formed u q same h asserts f = go
+      pub calls_formed : (u : Program) (roots : Roots) (writes : ℕ → Bool) (q : Procedure) → q.params ≡ params → are_params fields memories [] params ≡ true → list_all (is_condition fields with_both (scope_of [] params)) q.asserts ≡ true → are_for fields scope params args ≡ true → AreFormed (call_claims w u table roots writes (Some q) args)
+      calls_formed u roots writes q same h asserts f = subst (λ ps. AreFormed (claims ps)) (sym same) inside
         where
           passed : Passed params args params args
           passed = all_passed fields scope params args f (params_differ fields memories params [] h)
 
-          inside : AreFormed (flat_map (argument_window w table) args ++ flat_zip (argument_size w) params args ++ flat_zip (passed_extents w table params args) params args ++ map (asserted (words_of u q) params args) q.asserts)
+          claims : List Param → List Claim
+          claims ps =
+              flat_map (argument_window w table) args ++ flat_zip (argument_size w) ps args ++ flat_zip (passed_extents w table ps args) ps args
+              ++ pair_claims roots writes 0 ps args ++ map (asserted (words_of u q) ps args) q.asserts
+
+          inside : AreFormed (claims params)
           inside =
               let windows = flat_map (argument_window w table) args in
               let sizes = flat_zip (argument_size w) params args in
               let extents = flat_zip (passed_extents w table params args) params args in
+              let pairs = pair_claims roots writes 0 params args in
               let gives = all_give fields with_both params args scope ranks params args [] (gives_nothing fields with_both params args scope ranks) passed f in
-              append (windows ++ sizes ++ extents) (map (asserted (words_of u q) params args) q.asserts)
+              append (windows ++ sizes ++ extents ++ pairs) (map (asserted (words_of u q) params args) q.asserts)
+              (append (windows ++ sizes ++ extents) pairs
               (append (windows ++ sizes) extents (append windows sizes (windows_formed params args f) (all_sizes_formed params args f)) (passed_formed params args [] (gives_nothing fields plainly params args scope ranks) h passed f))
+              (pairs_formed roots writes 0 params args))
               (asserts_formed (words_of u q) (scope_of [] params) gives q.asserts asserts)
-
-          go : AreFormed (call_claims w u table (Some q) args)
-          go = subst (λ ps. AreFormed (flat_map (argument_window w table) args ++ flat_zip (argument_size w) ps args ++ flat_zip (passed_extents w table ps args) ps args ++ map (asserted (words_of u q) ps args) q.asserts)) (sym same) inside

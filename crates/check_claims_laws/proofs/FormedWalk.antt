@@ -10,11 +10,12 @@ use Rattle.exo_meaning.specs.Run.{roots_after, kinds_of, callee_in, unit_world, 
 use Rattle.exo_meaning.specs.Orders.{Each}
 use Rattle.exo_meaning.specs.Units.{Sort, ControlName, BufferName, Scope, sort_in, with_name, scope_of, scope_after, param_sort, view_sort, is_new, is_empty, is_short, has_rank, is_rank, plainly, with_fields, with_strides, with_both, is_control, are_controls, is_condition, is_coord, is_window, is_write, are_for, is_call, is_param_kind, are_params, spans, is_block, is_statement, field_kind}
 use Rattle.meaning_laws.specs.Sorted.{scope_at, scope_there, MayRun}
+use Rattle.affine_places.specs.Roots.{Roots, roots_of}
 use Rattle.text_show.specs.Words.{Words, words_of}
-use Rattle.check_claims.specs.Claim.{Claim}
+use Rattle.check_claims.specs.Claim.{Claim, Is, Apart}
 use Rattle.check_claims.specs.Extents.{Extents, span_extents, dims_of, extents_of}
-use Rattle.check_claims.specs.Claims.{at_least_one, call_claims, write_claims, own_claims, placed_at, into, block_claims, inner_claims, param_claims}
-use Rattle.check_claims_laws.specs.Holding.{ClaimIsFormed}
+use Rattle.check_claims.specs.Claims.{at_least_one, written_by, call_claims, write_claims, own_claims, placed_at, into, block_claims, inner_claims, param_claims}
+use Rattle.check_claims_laws.specs.Holding.{SaidIsFormed, ClaimIsFormed}
 use Rattle.check_claims_laws.specs.Laws.{ClaimsAreFormed}
 use Rattle.check_claims_laws.proofs.Basics.{and_parts, no_test, by_test, some_injective, append_assoc}
 use Rattle.check_claims_laws.proofs.Tables.{Agrees, StepAgrees, ParamsAgree, table_agrees}
@@ -154,6 +155,9 @@ module _ (u : Program) (p : Procedure) (may : MayRun u.fields (length u.memories
   abbrev table : Extents
   table = extents_of p
 
+  abbrev roots : Roots
+  roots = roots_of p
+
   abbrev w : Words
   w = words_of u p
 
@@ -170,20 +174,24 @@ module _ (u : Program) (p : Procedure) (may : MayRun u.fields (length u.memories
 
   placed_formed : (path : Path) (scope : Scope) → scope_there p (opened 1 path p.body) ≡ scope → (cs : List Claim) → Fits scope cs → Each (ClaimIsFormed u p) (placed_at path cs)
   placed_formed path scope e [] h = tt
-  placed_formed path scope e (c ∷ cs) h = (subst (λ z. is_condition fields with_both z c.says ≡ true) (sym e) h.0, placed_formed path scope e cs h.1)
+  placed_formed path scope e (c ∷ cs) h = (subst (λ z. SaidIsFormed u z c) (sym e) (said c h.0), placed_formed path scope e cs h.1)
+    where
+      said : (c : Claim) → IsFormedHere w fields table scope c → SaidIsFormed u scope c
+      said (Is c text) h = h
+      said (Apart j k) h = tt
 
   module _ (scope : Scope) (root : ℕ → ℕ) (t : IsTabled w fields table scope) where
     write_formed : (o : Option Kind) (a : Argument) → is_write fields scope o a ≡ true → Fits scope (write_claims w o a)
     write_formed None a h = tt
     write_formed (Some kind) a h = given_formed w fields table scope with_strides kind a h (control_freer fields with_strides scope)
 
-    call_formed : (k : ℕ) (args : List Argument) (o : Option Callee) → callees k ≡ o → is_call fields scope root o args ≡ true → Fits scope (call_claims w u table (slice_get u.procedures k) args)
+    call_formed : (k : ℕ) (args : List Argument) (o : Option Callee) → callees k ≡ o → is_call fields scope root o args ≡ true → Fits scope (call_claims w u table roots (written_by u k) (slice_get u.procedures k) args)
     call_formed k args None e h = no_test h
     call_formed k args (Some c) e h =
         let f = callee_formed k c e in
-        subst (λ o. Fits scope (call_claims w u table o args)) (sym f.0) (calls_formed w fields table scope t memories c.procedure.params args u c.procedure refl f.1 f.2 (and_parts (are_for fields scope c.procedure.params args) _ h).0)
+        subst (λ o. Fits scope (call_claims w u table roots (written_by u k) o args)) (sym f.0) (calls_formed w fields table scope t memories c.procedure.params args u roots (written_by u k) c.procedure refl f.1 f.2 (and_parts (are_for fields scope c.procedure.params args) _ h).0)
 
-    own_formed : (a : Statement) → is_statement fields memories callees scope root a ≡ true → Fits scope (own_claims w u table a)
+    own_formed : (a : Statement) → is_statement fields memories callees scope root a ≡ true → Fits scope (own_claims w u table roots a)
     own_formed (Assign x is e) h = store_formed w fields table scope t x is e h
     own_formed (Reduce x is e) h = store_formed w fields table scope t x is e h
     own_formed (Config f a) h = write_formed (fields f) a h
@@ -199,18 +207,18 @@ module _ (u : Program) (p : Procedure) (may : MayRun u.fields (length u.memories
     own_formed (Call k args) h = call_formed k args (callees k) refl h
 
   mutual
-    block_formed : (b : Block) (outer : Path) (branch : Branch) (n : ℕ) (scope : Scope) (root : ℕ → ℕ) → Opens p outer branch n b scope → is_block fields memories callees scope root b ≡ true → Agrees table b → IsTabled w fields table scope → Each (ClaimIsFormed u p) (block_claims w u table outer branch n b)
+    block_formed : (b : Block) (outer : Path) (branch : Branch) (n : ℕ) (scope : Scope) (root : ℕ → ℕ) → Opens p outer branch n b scope → is_block fields memories callees scope root b ≡ true → Agrees table b → IsTabled w fields table scope → Each (ClaimIsFormed u p) (block_claims w u table roots outer branch n b)
     block_formed end outer branch n scope root o h agree t = tt
     block_formed (next a b) outer branch n scope root o h agree t =
         let path = into outer branch n in
         let q = and_parts (is_statement fields memories callees scope root a) (is_block fields memories callees (scope_after a scope) (roots_after a root) b) h in
-        each_append (ClaimIsFormed u p) (placed_at path (own_claims w u table a) ++ inner_claims w u table path a) (block_claims w u table outer branch (suc n) b)
-        (each_append (ClaimIsFormed u p) (placed_at path (own_claims w u table a)) (inner_claims w u table path a)
-        (placed_formed path scope (opens_here p outer branch n a b scope o) (own_claims w u table a) (own_formed scope root t a q.0))
+        each_append (ClaimIsFormed u p) (placed_at path (own_claims w u table roots a) ++ inner_claims w u table roots path a) (block_claims w u table roots outer branch (suc n) b)
+        (each_append (ClaimIsFormed u p) (placed_at path (own_claims w u table roots a)) (inner_claims w u table roots path a)
+        (placed_formed path scope (opens_here p outer branch n a b scope o) (own_claims w u table roots a) (own_formed scope root t a q.0))
         (inner_formed a b outer branch n scope root o q.0 agree.0 t))
         (block_formed b outer branch (suc n) (scope_after a scope) (roots_after a root) (opens_next p outer branch n a b scope o) q.1 agree.1 (tabled_after w fields table memories callees scope root t a q.0 agree.0))
 
-    inner_formed : (a : Statement) (rest : Block) (outer : Path) (branch : Branch) (n : ℕ) (scope : Scope) (root : ℕ → ℕ) → Opens p outer branch n (next a rest) scope → is_statement fields memories callees scope root a ≡ true → StepAgrees table a → IsTabled w fields table scope → Each (ClaimIsFormed u p) (inner_claims w u table (into outer branch n) a)
+    inner_formed : (a : Statement) (rest : Block) (outer : Path) (branch : Branch) (n : ℕ) (scope : Scope) (root : ℕ → ℕ) → Opens p outer branch n (next a rest) scope → is_statement fields memories callees scope root a ≡ true → StepAgrees table a → IsTabled w fields table scope → Each (ClaimIsFormed u p) (inner_claims w u table roots (into outer branch n) a)
     inner_formed (Assign x is e) rest outer branch n scope root o h agree t = tt
     inner_formed (Reduce x is e) rest outer branch n scope root o h agree t = tt
     inner_formed (Config f a) rest outer branch n scope root o h agree t = tt
@@ -220,7 +228,7 @@ module _ (u : Program) (p : Procedure) (may : MayRun u.fields (length u.memories
         let r = and_parts (not (is_empty a) && (is_short a && is_short b)) (is_block fields memories callees scope root a && is_block fields memories callees scope root b) q.1 in
         let k = and_parts (is_block fields memories callees scope root a) (is_block fields memories callees scope root b) r.1 in
         let path = into outer branch n in
-        each_append (ClaimIsFormed u p) (block_claims w u table path Main 0 a) (block_claims w u table path Else 0 b)
+        each_append (ClaimIsFormed u p) (block_claims w u table roots path Main 0 a) (block_claims w u table roots path Else 0 b)
         (block_formed a path Main 0 scope root (opens_then p outer branch n rest scope c a b o) k.0 agree.0 t)
         (block_formed b path Else 0 scope root (opens_else p outer branch n rest scope c a b o) k.1 agree.1 t)
     inner_formed (For i lo hi b) rest outer branch n scope root o h agree t =
@@ -239,8 +247,9 @@ pub claims_are_formed : ClaimsAreFormed
 claims_are_formed u p may =
     let w = words_of u p in
     let table = extents_of p in
+    let roots = roots_of p in
     let fields = field_kind u.fields in
     let agree = table_agrees p may.procedure.distinct in
-    each_append (ClaimIsFormed u p) (placed_at [] (param_claims w p.params)) (block_claims w u table [] Main 0 p.body)
+    each_append (ClaimIsFormed u p) (placed_at [] (param_claims w p.params)) (block_claims w u table roots [] Main 0 p.body)
     (placed_formed u p may [] (scope_of [] p.params) refl (param_claims w p.params) (params_formed w fields table (length u.memories) p.params [] may.procedure.params))
     (block_formed u p may p.body [] Main 0 (scope_of [] p.params) (λ x. x) (opens_body p) may.procedure.body agree.1 (params_tabled w fields table (length u.memories) p.params [] may.procedure.params agree.0 (λ x n h. no_test h)))

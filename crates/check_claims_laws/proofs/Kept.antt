@@ -6,7 +6,7 @@ use Rattle.exo_tree.specs.Tree.{Binder, Cell, Kind, Control, Coord, At, Span, St
 use Rattle.exo_meaning.specs.Value.{Value, on_two}
 use Rattle.exo_meaning.specs.Scene.{Side, Point, Range, Seen, Scene, then_do, number, numbers, holds, is_below, extents, whole, narrowed, window}
 use Rattle.exo_meaning.specs.State.{State, Place, place, put, value, left, scoped, on_scene, with_control, with_field, with_view, with_buffer}
-use Rattle.exo_meaning.specs.Calls.{Callee, all_given, entered, run_asserted, returned, suits, all_positive}
+use Rattle.exo_meaning.specs.Calls.{Callee, all_given, keeps_apart, copied_call, entered, run_asserted, returned, suits, all_positive}
 use Rattle.exo_meaning.specs.Run.{World, run, step, call_to, turn, turns, turns_of, choose, argument_number, tensor}
 use Rattle.exo_meaning.specs.Units.{Sort, ControlName, BufferName, Named, Scope, sort_in, is_text, is_new, with_name, has_rank, is_rank, view_sort, scope_after, plainly, are_controls, is_coord, is_window, spans, is_statement}
 use Rattle.check_claims.specs.Extents.{Extents, span_extents}
@@ -45,9 +45,9 @@ turns_names i body (n ∷ ns) r s h = if_then (λ t. SameNames s.scene t.scene) 
 
 call_names : (o : Option Callee) (args : List _) (s : State) → KeepsNames s (call_to o args s)
 call_names None args s = tt
-call_names (Some c) args s = if_then (λ gs. Unit {0}) (λ t. SameNames s.scene t.scene) (all_given s.scene args) _ (any (all_given s.scene args)) (λ gs u.
+call_names (Some c) args s = if_where (λ t. SameNames s.scene t.scene) (keeps_apart c s.scene args) (copied_call c args s) (λ h. if_then (λ gs. Unit {0}) (λ t. SameNames s.scene t.scene) (all_given s.scene args) _ (any (all_given s.scene args)) (λ gs u.
     if_then (λ t. Unit {0}) (λ t. SameNames s.scene t.scene) (entered c.procedure.params gs s) _ (any (entered c.procedure.params gs s)) (λ inner v.
-    if_map (λ t. Unit {0}) (λ t. SameNames s.scene t.scene) (run_asserted c inner) (returned c gs s) (any (run_asserted c inner)) (λ t z. record { control = refl; views = refl })))
+    if_map (λ t. Unit {0}) (λ t. SameNames s.scene t.scene) (run_asserted c inner) (returned c gs s) (any (run_asserted c inner)) (λ t z. record { control = refl; views = refl }))))
 
 configure_names : (world : World) (f : ℕ) (a : _) (s : State) → KeepsNames s (step world (Config f a) s)
 configure_names world f a s = if_then (λ n. Unit {0}) (λ t. SameNames s.scene t.scene) (argument_number s.scene a) _ (any (argument_number s.scene a)) (λ n u. if_where (λ t. SameNames s.scene t.scene) (suits (world.kinds f) n) (Some (on_scene (with_field f n) s)) (λ h. record { control = refl; views = refl }))

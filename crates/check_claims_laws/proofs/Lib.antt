@@ -1,6 +1,9 @@
 mod Basics
 mod Seen
 mod Tables
+mod Rooted
+mod Written
+mod Pairs
 mod Kept
 mod Ways
 mod Blocks

@@ -4,17 +4,17 @@ use Rattle.std.specs.Prelude.{IsSome}
 use Rattle.std.specs.List.{list_all}
 use Rattle.std.specs.Int.{int_div_euclid, int_rem_euclid}
 use Rattle.std.proofs.lemmas.Int.{ints}
-use Rattle.exo_tree.specs.Tree.{Cell, Kind, Control, Lit, Var, Field, StrideOf, Neg, Add, Sub, Mul, Div, Mod, Datum, Const, Read, Negated, Relu, Plus, Minus, Times, Select, Coord, At, Span}
+use Rattle.exo_tree.specs.Tree.{Cell, Kind, Control, Lit, Var, Field, StrideOf, Neg, Add, Sub, Mul, Div, Mod, Datum, Const, Read, Negated, Relu, Plus, Minus, Times, Select, Coord, At, Span, Argument}
 use Rattle.exo_meaning.specs.Value.{Value, stored_as, on_four, selected}
 use Rattle.exo_meaning.specs.Scene.{Shape, Side, Point, Range, Seen, Scene, then_do, number, numbers, holds, cell_at, is_below, extents, narrowed, window}
 use Rattle.exo_meaning.specs.State as state
 use Rattle.exo_meaning.specs.State.{State, Place, place, put, changed, held}
-use Rattle.exo_meaning.specs.Calls.{all_positive}
+use Rattle.exo_meaning.specs.Calls.{all_positive, are_apart_at}
 use Rattle.exo_meaning.specs.Orders.{Each}
 use Rattle.exo_meaning.specs.Units.{Sort, ControlName, BufferName, Scope, sort_in, has_rank, is_number, is_rank, plainly, is_control, are_controls, is_access, is_datum, is_coord, is_window}
 use Rattle.text_show.specs.Words.{Words}
 use Rattle.meaning_laws.specs.Sound.{IsSound}
-use Rattle.check_claims.specs.Claim.{Claim}
+use Rattle.check_claims.specs.Claim.{Claim, Is, Apart}
 use Rattle.check_claims.specs.Extents.{Extents, span_extents}
 use Rattle.check_claims.specs.Claims.{at_least_one, index_claims, window_claims, read_claims, store_claims}
 use Rattle.check_claims_laws.proofs.Basics.{and_parts, and_true, no_test, Succeeds, succeeds_then, succeeds_map, succeeds_where, succeeds_as, head_same, tail_same, nil_cons, suc_same, each_left, each_right}
@@ -41,7 +41,13 @@ IsDescribed table scope scene = (x : ℕ) (cell : Cell) (rank : ℕ) (dense : Bo
 
 -- the conditions of claims
 abbrev pub IsHeld : Scene → Claim → Type 0
-IsHeld scene c = holds scene c.says ≡ true
+IsHeld scene (Is c text) = holds scene c ≡ true
+IsHeld scene (Apart j k) = Unit {0}
+
+-- the arguments that are to have no cell in common
+abbrev pub IsKeptApart : Scene → List Argument → Claim → Type 0
+IsKeptApart scene args (Is c text) = Unit {0}
+IsKeptApart scene args (Apart j k) = are_apart_at scene args j k ≡ true
 
 abbrev pub Hold : Scene → List Claim → Type 0
 Hold scene cs = Each (IsHeld scene) cs

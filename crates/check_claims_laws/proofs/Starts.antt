@@ -13,7 +13,9 @@ use Rattle.exo_meaning.specs.Units.{Sort, BufferName, Scope, is_new, with_name, 
 use Rattle.meaning_laws.specs.Places.{OpenedLaw}
 use Rattle.meaning_laws.specs.Copies.{SoundLaw}
 use Rattle.meaning_laws.specs.Sorted.{FitsAtLaw, MayRun}
+use Rattle.affine_places.specs.Roots.{roots_of}
 use Rattle.text_show.specs.Words.{Words, words_of}
+use Rattle.check_claims.specs.Claim.{Claim, Is, Apart}
 use Rattle.check_claims.specs.Extents.{Extents, dims_of, extents_of}
 use Rattle.check_claims.specs.Claims.{at_least_one, param_claims, placed_at, block_claims, claims_of}
 use Rattle.check_claims_laws.specs.Holding.{ClaimHolds, calls}
@@ -77,8 +79,12 @@ module _ (u : Program) (p : Procedure) (may : MayRun u.fields (length u.memories
 
   input_has_extents : (s : State) → IsAdmissible (program_world u) p s → all_have_extents s.scene p.params ≡ true
   input_has_extents s good =
-      params_have_extents w s.scene p.params (each_of (ClaimHolds (program_world u) p) (IsHeld s.scene) (λ c. record { place = []; claim = c }) (param_claims w p.params) (λ c h. h s good)
-      (each_left (ClaimHolds (program_world u) p) (placed_at [] (param_claims w p.params)) (block_claims w u (extents_of p) [] Main 0 p.body) claimed))
+      params_have_extents w s.scene p.params (each_of (ClaimHolds (program_world u) p) (IsHeld s.scene) (λ c. record { place = []; claim = c }) (param_claims w p.params) here
+      (each_left (ClaimHolds (program_world u) p) (placed_at [] (param_claims w p.params)) (block_claims w u (extents_of p) (roots_of p) [] Main 0 p.body) claimed))
+    where
+      here : (c : Claim) → ClaimHolds (program_world u) p (record { place = []; claim = c }) → IsHeld s.scene c
+      here (Is c text) h = h s good
+      here (Apart j k) h = tt
 
   abbrev tables : ParamsAgree (extents_of p) p.params × Agrees (extents_of p) p.body
   tables = table_agrees p may.procedure.distinct
@@ -91,7 +97,7 @@ module _ (u : Program) (p : Procedure) (may : MayRun u.fields (length u.memories
     leads = leads_body (program_world u) p;
     formed = may.procedure.body;
     agrees = tables.1;
-    claimed = each_right (ClaimHolds (program_world u) p) (placed_at [] (param_claims w p.params)) (block_claims w u (extents_of p) [] Main 0 p.body) claimed;
+    claimed = each_right (ClaimHolds (program_world u) p) (placed_at [] (param_claims w p.params)) (block_claims w u (extents_of p) (roots_of p) [] Main 0 p.body) claimed;
     callees_run = callees_run;
     described = λ s good. params_described (field_kind u.fields) (length u.memories) (extents_of p) s.scene p.params [] may.procedure.params tables.0 good.arguments (input_has_extents s good) (nothing_described s.scene);
   }

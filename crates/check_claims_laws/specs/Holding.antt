@@ -1,16 +1,19 @@
 -- Where claims hold, and which procedures a run comes to.
-use Rattle.std.specs.Prelude.{◌≡◌, ◌==◌, ℕ, Bool, true, false, ◌||◌, Option, Some, None, slice_get}
+use Rattle.std.specs.Prelude.{◌≡◌, ◌==◌, ℕ, Bool, true, false, ◌||◌, ⊤, Option, Some, None, slice_get}
 use Rattle.exo_tree.specs.Tree.{Condition, Statement, Assign, Reduce, Config, Pass, If, For, Alloc, View, Call, Block, end, next, Procedure, Program}
+use Rattle.exo_tree.specs.Calls.{call_arguments}
 use Rattle.exo_tree.specs.Places.{Opened, opened}
 use Rattle.exo_meaning.specs.Scene.{holds}
 use Rattle.exo_meaning.specs.State.{State}
+use Rattle.exo_meaning.specs.Calls.{are_apart_at}
 use Rattle.exo_meaning.specs.Run.{World, program_world}
 use Rattle.exo_meaning.specs.Inputs.{IsAdmissible}
 use Rattle.exo_meaning.specs.Orders.{Each}
-use Rattle.exo_meaning.specs.Units.{with_both, is_condition, field_kind}
+use Rattle.exo_meaning.specs.Units.{Scope, with_both, is_condition, field_kind}
+use Rattle.meaning_laws.specs.Context.{ComesTo}
 use Rattle.meaning_laws.specs.Copies.{HoldsAt}
 use Rattle.meaning_laws.specs.Sorted.{scope_there}
-use Rattle.check_claims.specs.Claim.{Placed}
+use Rattle.check_claims.specs.Claim.{Claim, Is, Apart, Placed}
 use Rattle.check_claims.specs.Claims.{claims_of}
 
 -- a condition holds wherever a run of the procedure on an admissible input comes to the place; the place of no statement is the one
@@ -19,17 +22,36 @@ abbrev pub HoldsAtPlace : World → Procedure → Option Opened → Condition �
 HoldsAtPlace world p None c = (s : State) → IsAdmissible world p s → holds s.scene c ≡ true
 HoldsAtPlace world p (Some o) c = HoldsAt world p o.piece o.around c
 
+-- wherever a run of the procedure on an admissible input comes to the call at the place, these of its
+-- arguments have no cell in common
+abbrev pub ApartAtPlace : World → Procedure → Option Opened → ℕ → ℕ → Type 0
+ApartAtPlace world p None j k = ⊤
+ApartAtPlace world p (Some o) j k =
+    (s t : State)
+    → IsAdmissible world p s
+    → ComesTo world o.piece o.around s t
+    → are_apart_at t.scene (call_arguments o.piece) j k ≡ true
+
+abbrev pub SaidHolds : World → Procedure → Option Opened → Claim → Type 0
+SaidHolds world p o (Is c text) = HoldsAtPlace world p o c
+SaidHolds world p o (Apart j k) = ApartAtPlace world p o j k
+
 -- what has to be shown at a place holds there
 abbrev pub ClaimHolds : World → Procedure → Placed → Type 0
-ClaimHolds world p c = HoldsAtPlace world p (opened 1 c.place p.body) c.claim.says
+ClaimHolds world p c = SaidHolds world p (opened 1 c.place p.body) c.claim
 
 -- all claims of the procedure of that number
 abbrev pub ClaimsHold : Program → ℕ → Type 0
 ClaimsHold u k = (p : Procedure) → slice_get u.procedures k ≡ Some p → Each (ClaimHolds (program_world u) p) (claims_of u p)
 
--- what has to be shown is a condition over the names in scope at its place
+-- a condition is one over the names in scope
+abbrev pub SaidIsFormed : Program → Scope → Claim → Type 0
+SaidIsFormed u scope (Is c text) = is_condition (field_kind u.fields) with_both scope c ≡ true
+SaidIsFormed u scope (Apart j k) = ⊤
+
+-- what has to be shown is well formed at its place
 abbrev pub ClaimIsFormed : Program → Procedure → Placed → Type 0
-ClaimIsFormed u p c = is_condition (field_kind u.fields) with_both (scope_there p (opened 1 c.place p.body)) c.claim.says ≡ true
+ClaimIsFormed u p c = SaidIsFormed u (scope_there p (opened 1 c.place p.body)) c.claim
 
 -- whether a block calls the procedure of that number
 abbrev mutual

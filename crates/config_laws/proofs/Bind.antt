@@ -10,8 +10,10 @@ use Rattle.exo_tree.specs.Tree.{Or}
 use Rattle.exo_tree.specs.Tree.{Argument, ControlArg, ConditionArg, Whole, Window, Param}
 use Rattle.exo_tree.specs.Tree.{Procedure}
 use Rattle.exo_tree.specs.Context.{Context}
+use Rattle.exo_meaning.specs.Scene.{where_true}
 use Rattle.exo_meaning.specs.Scene.{Scene, then_do, number, holds, is_set}
 use Rattle.exo_meaning.specs.State.{State, on_scene, with_field}
+use Rattle.exo_meaning.specs.Calls.{given_all_apart}
 use Rattle.exo_meaning.specs.Calls.{Callee, GivenNumber, given, all_given, truth}
 use Rattle.exo_meaning.specs.Calls.{entered, returned, run_asserted}
 use Rattle.exo_meaning.specs.Run.{World, run, argument_number, configure, call_to}
@@ -193,8 +195,9 @@ called_alike : (o : Option Callee) (xs ys : List Argument) (s : State)
     → all_given s.scene xs ≡ all_given s.scene ys → call_to o xs s ≡ call_to o ys s
 called_alike None xs ys s e = refl
 called_alike (Some c) xs ys s e =
-    ap (λ o. then_do o (λ gs. then_do (entered c.procedure.params gs s)
-    (λ inner. option_map (returned c gs s) (run_asserted c inner)))) e
+    ap (λ o. where_true (given_all_apart c.writes c.procedure.params o)
+    (then_do o (λ gs. then_do (entered c.procedure.params gs s)
+    (λ inner. option_map (returned c gs s) (run_asserted c inner))))) e
 
 module _ (world : World) (calls : ℕ → ℕ → Bool → Bool) (forget : CallsForget world calls)
     (f k : ℕ) (args : List Argument) (name : List ℕ) (params : List Param) (d : Bound)

@@ -186,5 +186,6 @@ module _ (world : World) (unit : Program) (os : List Origin) (versions : AreVers
       }
 
 pub descendants_refine : DescendantsRefine
-descendants_refine unit os from k p q versions h i j =
-    (all_keep (program_world unit) unit os versions from p i k q h j).refines
+descendants_refine unit os versions from k p q h i j =
+    let kept = all_keep (program_world unit) unit os versions from p i k q h j in
+    (kept.head, kept.refines)

@@ -24,7 +24,7 @@ use Rattle.config_laws.proofs.Local.{arguments_may_be_bound}
 use Rattle.config_laws.proofs.Called.{descendants_may_be_called}
 use Rattle.config_laws.proofs.RuleExamples.{one_field, fills, fill_n, sets, loud, quiet}
 use Rattle.config_laws.proofs.LawExamples.{fills_world, small, small_origins, small_world}
-use Rattle.config_laws.proofs.LawExamples.{are_versions, caller}
+use Rattle.config_laws.proofs.LawExamples.{they_stand, caller}
 
 -- ---- at one state
 
@@ -82,7 +82,7 @@ none_at_end = others_live_at_end all (0 ∷ [])
 
 quiet_may_be_called : (c d : Callee) → small_world.callees 0 ≡ Some c
     → small_world.callees 1 ≡ Some d → MayStandForCallee small_world c d (0 ∷ [])
-quiet_may_be_called c d = descendants_may_be_called small small_origins 0 1 c d are_versions refl
+quiet_may_be_called c d = descendants_may_be_called small small_origins 0 1 c d they_stand refl
 
 -- ---- runs
 

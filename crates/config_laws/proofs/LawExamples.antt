@@ -1,11 +1,10 @@
 -- The laws on closed units.
 use Rattle.std.proofs.Common.{◌≡◌, ◌<◌, ℕ, zero, suc, pos, true, false, List, [], ◌∷◌}
-use Rattle.std.proofs.Common.{Some, refl, sym, subst, arith}
+use Rattle.std.proofs.Common.{Some, refl, subst, arith}
 use Rattle.std.specs.Prelude.{Contains, IsSome, slice_get, slice_index_or}
 use Rattle.exo_tree.specs.Tree.{Lit, Config, ControlArg, end, next, Procedure}
 use Rattle.exo_tree.specs.Tree.{Program}
 use Rattle.exo_meaning.specs.State.{State}
-use Rattle.exo_meaning.specs.Calls.{Callee}
 use Rattle.exo_meaning.specs.Run.{World, unit_world, kinds_of, program_world, callees}
 use Rattle.exo_meaning.specs.Inputs.{IsAdmissible, Refines, run_procedure}
 use Rattle.exo_meaning.specs.Units.{AreProcedures, IsProcedure, field_kind}
@@ -16,6 +15,7 @@ use Rattle.meaning_laws.proofs.Parts.{none_some, some_injective}
 use Rattle.config_laws.specs.Surely.{unit_surely}
 use Rattle.config_laws.specs.FieldRule.{Before, Behind}
 use Rattle.config_laws.specs.Differing.{Origin, parent_in, step_fields, IsStep, AreVersions}
+use Rattle.config_laws.specs.Differing.{VersionsStand}
 use Rattle.config_laws.proofs.Exits.{blocks_go_by_exit, units_go_by_exit}
 use Rattle.config_laws.proofs.Derived.{descendants_refine}
 use Rattle.config_laws.proofs.Rules.{write_config_refines, delete_config_refines}
@@ -273,16 +273,7 @@ are_versions = record { safe = safe; steps = steps; fields = fields }
     one_step = record {
       head = (refl, refl);
       refines = quiet_refines;
-      writes = λ c d i j x w. none c d i j x w;
     }
-      where
-        none : (c d : Callee) → small_world.callees 0 ≡ Some c → small_world.callees 1 ≡ Some d
-            → (x : ℕ) → d.writes x ≡ true → c.writes x ≡ true
-        none c d i j x w =
-            absurd (no (subst (λ (z : Callee). z.writes x ≡ true) (sym (some_injective _ d j)) w))
-          where
-            no : false ≡ true → ⊥
-            no e = cc
 
     steps : (j k : ℕ) (q : Procedure) → parent_in small_origins k ≡ Some j
         → slice_get small.procedures k ≡ Some q
@@ -302,9 +293,11 @@ are_versions = record { safe = safe; steps = steps; fields = fields }
     fields (suc (suc k)) f c = absurd (no_field c.0 c.1)
 
 -- along the derivation
+pub they_stand : VersionsStand small small_origins
+they_stand = descendants_refine small small_origins are_versions
+
 descendant_refines : Refines small_world loud quiet (0 ∷ [])
-descendant_refines =
-    descendants_refine small small_origins 0 1 loud quiet are_versions refl refl refl
+descendant_refines = (they_stand 0 1 loud quiet refl refl refl).1
 
 -- and in a call, behind which the field is written again
 abbrev pub caller : ℕ → Procedure
@@ -312,7 +305,7 @@ caller k = calls_it k (next (Config 0 (ControlArg (Lit (pos 2)))) end)
 
 version_may_be_called : Refines small_world (caller 0) (caller 1) []
 version_may_be_called =
-    call_eqv_refines small small_origins 1 are_versions (caller 0) (at 0) _ refl
+    call_eqv_refines small small_origins 1 they_stand (caller 0) (at 0) _ refl
     (may_be_small (caller 0) (record {
       params = refl;
       asserts = refl;

@@ -11,7 +11,7 @@ use Rattle.exo_tree.specs.Tree.{Program}
 use Rattle.exo_tree.specs.Context.{Context, fill, rest_of}
 use Rattle.exo_tree.specs.Places.{Step, Path, Opened, opened, statement_at, first_of}
 use Rattle.exo_meaning.specs.Calls.{Callee}
-use Rattle.exo_meaning.specs.Run.{unit_world, kinds_of, program_world}
+use Rattle.exo_meaning.specs.Run.{unit_world, kinds_of}
 use Rattle.exo_meaning.specs.Inputs.{Refines}
 use Rattle.exo_meaning.specs.Units.{scope_of, is_call, field_kind}
 use Rattle.meaning_laws.specs.Live.{live, live_behind}
@@ -40,7 +40,7 @@ use Rattle.config_laws.specs.DeleteConfig.{behind_or_before}
 use Rattle.config_laws.specs.DeleteConfig.{delete_config}
 use Rattle.config_laws.specs.BindConfig.{Bound, bound_in, bound_by, bound_call}
 use Rattle.config_laws.specs.BindConfig.{write_and_call, bound_piece, bind_config}
-use Rattle.config_laws.specs.Differing.{AreVersions, Origin, is_descendant, differing}
+use Rattle.config_laws.specs.Differing.{VersionsStand, Origin, is_descendant, differing}
 use Rattle.config_laws.specs.CallEqv.{version_piece, call_eqv}
 use Rattle.config_laws.proofs.Holes.{written_refines, left_out_refines}
 use Rattle.config_laws.proofs.Bind.{bound_refines}
@@ -468,7 +468,7 @@ module _ (unit : Program) (os : List Origin) (j : ℕ) (p : Procedure) (at : Pat
   KeepsCall c a made =
       KeepsOne unit.fields memory_count there_are p (call_eqv unit os j) at c a made
 
-  call_kept : AreVersions (program_world unit) unit os → (c : Context) (k : ℕ)
+  call_kept : VersionsStand unit os → (c : Context) (k : ℕ)
       (args : List Argument) (made : Block) → is_descendant os j k ≡ true
       → KeepsCall c (Call k args) made
   call_kept versions c k args made is t =

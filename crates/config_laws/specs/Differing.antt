@@ -64,13 +64,6 @@ differing unit os k from =
 pub record IsStep (world : World) (j k : ℕ) (p q : Procedure) (but : List ℕ) : Type 0 where
   pub head : HasHead p q
   pub refines : Refines world p q but
-  pub writes :
-      (c d : Callee)
-      → world.callees j ≡ Some c
-      → world.callees k ≡ Some d
-      → (x : ℕ)
-      → d.writes x ≡ true
-      → c.writes x ≡ true
 
 pub record AreVersions (world : World) (unit : Program) (os : List Origin) : Type 0 where
   pub safe :
@@ -88,21 +81,27 @@ pub record AreVersions (world : World) (unit : Program) (os : List Origin) : Typ
       → Contains (step_fields unit.procedures os k) f
       → f < length unit.fields
 
--- a procedure is refined by each of its descendants but for the fields in which they may differ
-abbrev pub DescendantsRefine : Type 0
-DescendantsRefine =
-    (unit : Program) (os : List Origin) (from k : ℕ) (p q : Procedure)
-    → AreVersions (program_world unit) unit os
+-- each procedure has the head of all from which it descends, and refines them but for the fields in
+-- which it may differ
+abbrev pub VersionsStand : Program → List Origin → Type 0
+VersionsStand unit os =
+    (from k : ℕ) (p q : Procedure)
     → is_descendant os k from ≡ true
     → slice_get unit.procedures from ≡ Some p
     → slice_get unit.procedures k ≡ Some q
-    → Refines (program_world unit) p q (differing unit os k from)
+    → HasHead p q × Refines (program_world unit) p q (differing unit os k from)
+
+abbrev pub DescendantsRefine : Type 0
+DescendantsRefine =
+    (unit : Program) (os : List Origin)
+    → AreVersions (program_world unit) unit os
+    → VersionsStand unit os
 
 -- so it may stand in the place of the procedure as a callee
 abbrev pub DescendantsMayBeCalled : Type 0
 DescendantsMayBeCalled =
     (unit : Program) (os : List Origin) (from k : ℕ) (c d : Callee)
-    → AreVersions (program_world unit) unit os
+    → VersionsStand unit os
     → is_descendant os k from ≡ true
     → (program_world unit).callees from ≡ Some c
     → (program_world unit).callees k ≡ Some d

@@ -3,14 +3,14 @@
 use Rattle.std.specs.Prelude.{◌≡◌, ℕ, List, length}
 use Rattle.exo_tree.specs.Tree.{Argument, Procedure, ConfigField, Program}
 use Rattle.exo_tree.specs.Places.{Path}
-use Rattle.exo_meaning.specs.Run.{unit_world, kinds_of, program_world}
+use Rattle.exo_meaning.specs.Run.{unit_world, kinds_of}
 use Rattle.exo_meaning.specs.Inputs.{Refines}
 use Rattle.meaning_laws.specs.Sorted.{MayRun}
 use Rattle.config_laws.specs.FieldRule.{FieldRule, Side, Got, Proposed, proposed, fields_at_end}
 use Rattle.config_laws.specs.WriteConfig.{write_config}
 use Rattle.config_laws.specs.DeleteConfig.{delete_config}
 use Rattle.config_laws.specs.BindConfig.{bind_config}
-use Rattle.config_laws.specs.Differing.{Origin, AreVersions}
+use Rattle.config_laws.specs.Differing.{Origin, VersionsStand}
 use Rattle.config_laws.specs.CallEqv.{call_eqv}
 
 -- in a unit that may be called, where the result keeps the rules of the language
@@ -42,5 +42,5 @@ BindConfigRefines =
 abbrev pub CallEqvRefines : Type 0
 CallEqvRefines =
     (unit : Program) (os : List Origin) (j : ℕ)
-    → AreVersions (program_world unit) unit os
+    → VersionsStand unit os
     → KeepsMeaning unit.fields (length unit.memories) unit.procedures (call_eqv unit os j)

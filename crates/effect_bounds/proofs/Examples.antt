@@ -1,6 +1,6 @@
 -- Closed procedures, of which the laws speak: one with a field and a view, one with guards of each
--- form.
-use Rattle.std.specs.Prelude.{Vec, IsAscii, nat_lt, codes}
+-- form, one that calls another.
+use Rattle.std.specs.Prelude.{Vec, IsAscii, nat_lt, codes, slice_get}
 use Rattle.std.specs.Fmt.{digits}
 use Rattle.std.specs.List.{list_all}
 use Rattle.std.specs.declared.alloc.Global.{Global}
@@ -8,17 +8,20 @@ use Rattle.std.specs.declared.string.String.{String}
 use Rattle.std.proofs.lemmas.Bool.Decides.{nat_tests}
 use Rattle.std.proofs.lemmas.Str.{IsUtf8-from_ascii}
 use Rattle.std.proofs.lemmas.Str.Ascii.{IsAscii-nil, IsAscii-cons}
-use Rattle.std.proofs.Common.{◌≡◌, ◌<◌, ◌≤◌, ◌^◌, ℕ, pos, Bool, true, List, [], ◌∷◌, length, Some, None}
+use Rattle.std.proofs.Common.{◌≡◌, ◌<◌, ◌≤◌, ◌^◌, ℕ, pos, Bool, true, List, [], ◌∷◌, length, Option, Some, None}
 use Rattle.std.proofs.Common.{Bor, refl, le_refl, arith}
 use denote.RawPtr.{Ptr}
 use Rattle.exo_tree.specs.declared.control.Cond as cond
 use Rattle.exo_tree.specs.declared.control.Ctrl as ctrl
 use Rattle.exo_tree.specs.Tree.{I32, Size, Index, Binder, Control, Lit, Var, Field, Add, Lt, Coord}
 use Rattle.exo_tree.specs.Tree.{At, Span, Const, Read, ControlArg, Assign, Reduce, Config, If, For}
-use Rattle.exo_tree.specs.Tree.{View, Block, end, next, Param, ControlParam, TensorParam, Procedure}
+use Rattle.exo_tree.specs.Tree.{View, Call, Window, Block, end, next, Param, ControlParam}
+use Rattle.exo_tree.specs.Tree.{TensorParam, WindowParam, Procedure}
 use Rattle.exo_tree.specs.Tree.{Program}
 use Rattle.exo_tree.specs.Places.{Main, Path}
+use Rattle.exo_meaning.specs.Calls.{Callee}
 use Rattle.exo_meaning.specs.Orders.{Each}
+use Rattle.exo_meaning.specs.Run.{world_of, callee_in}
 use Rattle.exo_meaning.specs.Units.{IsProcedure}
 use Rattle.meaning_laws.proofs.Unmentioned.{unmentioned_law}
 use Rattle.meaning_laws.proofs.WellFormed.{well_scoped}
@@ -34,9 +37,9 @@ use Rattle.exo_effects.specs.declared.access.Mode.TheVariants as mode
 use Rattle.exo_effects.specs.declared.guards.Guard.{Guard}
 use Rattle.exo_effects.specs.declared.guards.Guard.TheVariants as guard
 use Rattle.exo_effects.proofs.LowProcedures.{well_formed_is_low}
-use Rattle.exo_effects.proofs.LowUses.{uses_stay_low}
+use Rattle.exo_effects.proofs.LowUses.{uses_stay_low, passed_stays_low}
 use Rattle.exo_conflicts.specs.Outcomes.{access_is_low}
-use Rattle.effect_bounds.proofs.LowAccesses.{accesses_low}
+use Rattle.effect_bounds.proofs.LowAccesses.{accesses_low, arguments_low}
 use Rattle.effect_bounds.proofs.LowContexts.{context_low}
 use Rattle.effect_bounds.proofs.SmallUses.{IsSmall, uses_small}
 
@@ -140,7 +143,46 @@ g_is_well_formed = record {
 abbrev the_loop : Path
 the_loop = record { branch = Main; index = 0 } ∷ []
 
--- ---- the program's accesses of both, wherever their lists and references stand in memory
+-- ---- def callee(x: [i32][4]): x[0] = 1, and def caller(N: size, A: i32[N, 4]):
+-- for i in seq(0, N): callee(A[i, 0:4])
+
+abbrev callee : Procedure
+callee = record {
+  name = 99 ∷ [];
+  params = record { binder = named 0 120; kind = WindowParam I32 (Lit (pos 4) ∷ []) 0 } ∷ [];
+  asserts = [];
+  body = next (Assign 0 (Lit (pos 0) ∷ []) (Const (pos 1))) end;
+  template = None;
+}
+
+abbrev caller : Procedure
+caller = record f {
+  name = 100 ∷ [];
+  body = next (For (named 2 105) (Lit (pos 0)) (Var 0) (next (Call 0 (Window 1 row_of ∷ [])) end)) end;
+}
+
+abbrev unit_of_caller : Program
+unit_of_caller = record { procedures = callee ∷ caller ∷ []; fields = []; memories = [] }
+
+abbrev above : ℕ → Option Callee
+above = slice_get (callee_in (world_of (λ k. Index) []) callee ∷ [])
+
+caller_is_well_formed : IsProcedure (λ k. None) 1 above caller
+caller_is_well_formed = record {
+  params = refl;
+  asserts = refl;
+  body = refl;
+  filled = refl;
+  ids = refl;
+  distinct = refl;
+  paths = refl;
+  template = refl;
+}
+
+abbrev the_call : Path
+the_call = record { branch = Main; index = 0 } ∷ record { branch = Main; index = 0 } ∷ []
+
+-- ---- the program's accesses of all, wherever their lists and references stand in memory
 
 abbrev is_ascii : ℕ → Bool
 is_ascii b = nat_lt b 128
@@ -220,3 +262,20 @@ module _ (ptr : Ptr) (heap : Global) (address : ℕ × ℕ) where
   -- the same by counting
   g_accesses_counted : list_all access_is_low g_accesses ≡ true
   g_accesses_counted = refl
+
+  -- the row that the call passes
+  abbrev passed : List Access
+  passed = record {
+    root = record { 0 = 1 };
+    mode = mode.Write;
+    coords = At (Add (Lit (pos 0)) (Var 2))
+        ∷ Span (Add (Lit (pos 0)) (Lit (pos 0))) (Add (Lit (pos 0)) (Lit (pos 4))) ∷ [];
+    guards = listed [] (omega arith);
+    text = spelled (codes "A[i, 0:4]") refl (omega arith);
+  } ∷ []
+
+  passed_is_low : list_all access_is_low passed ≡ true
+  unfolding digits
+  passed_is_low =
+      arguments_low well_formed_is_low passed_stays_low (λ k. None) 1 above unit_of_caller caller
+      the_call 0 passed caller_is_well_formed refl

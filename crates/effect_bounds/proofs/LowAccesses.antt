@@ -5,15 +5,15 @@ use Rattle.std.proofs.lemmas.Bool.Decides.{nat_tests}
 use Rattle.std.specs.List.{list_all}
 use Rattle.exo_meaning.specs.Orders.{Each}
 use Rattle.affine_forms.proofs.Values.{and_parts}
-use Rattle.exo_effects.specs.Low.{use_is_low, LowLaw, UsesLowLaw}
+use Rattle.exo_effects.specs.Low.{use_is_low, LowLaw, UsesLowLaw, PassedLowLaw}
 use Rattle.exo_effects.specs.PlainGuards.{all_facts}
 use Rattle.exo_effects.specs.PlainUses.{plain_use, plain_uses}
 use Rattle.exo_effects.specs.declared.access.Access.{Access}
 use Rattle.exo_effects.specs.declared.guards.Guard.{Guard}
 use Rattle.exo_effects.specs.declared.guards.Guard.TheVariants as guard
 use Rattle.exo_conflicts.specs.Outcomes.{access_is_low}
-use Rattle.effect_bounds.specs.Laws.{AccessesLowLaw}
-use Rattle.effect_bounds.proofs.SmallUses.{IsSmall, uses_small}
+use Rattle.effect_bounds.specs.Laws.{AccessesLowLaw, ArgumentsLowLaw}
+use Rattle.effect_bounds.proofs.SmallUses.{IsSmall, uses_small, passed_small}
 
 -- a guard says one fact or two
 guards_few : (gs : List Guard) → length gs ≤ length (all_facts gs)
@@ -47,3 +47,8 @@ pub accesses_low : LowLaw → UsesLowLaw → AccessesLowLaw
 accesses_low low uses fields memories callees u p path count l good e =
     all_low l (ap (list_all use_is_low) e ∙ uses u p path count (low fields memories callees p good))
     (subst (Each (IsSmall 64)) (sym e) (uses_small fields memories callees u p path count good))
+
+pub arguments_low : LowLaw → PassedLowLaw → ArgumentsLowLaw
+arguments_low low passed fields memories callees u p path k l good e =
+    all_low l (ap (list_all use_is_low) e ∙ passed u p path k (low fields memories callees p good))
+    (subst (Each (IsSmall 64)) (sym e) (passed_small fields memories callees u p path k good))

@@ -1,9 +1,9 @@
 -- In a well-formed procedure a use has 8 coordinates at most, and 64 facts around it.
-use Rattle.std.proofs.Common.{◌≡◌, ◌≤◌, ◌+◌, ◌*◌, ℕ, suc, ◌==◌, nat_lt, Bool, true, false, not, cond}
+use Rattle.std.proofs.Common.{◌≡◌, ◌≤◌, ◌+◌, ◌*◌, ℕ, zero, suc, ◌==◌, nat_lt, Bool, true, false, not, cond}
 use Rattle.std.proofs.Common.{◌&&◌, List, [], ◌∷◌, ◌++◌, length, map, Option, Some, None, option_map}
 use Rattle.std.proofs.Common.{◌||◌, refl, sym, ap, ap₂, ◌∙◌, true≢false, length-append, arith}
 use Rattle.std.proofs.lemmas.Bool.Decides.{nat_tests}
-use Rattle.std.specs.Prelude.{⊤}
+use Rattle.std.specs.Prelude.{⊤, slice_get}
 use Rattle.std.specs.List.{list_all}
 use Rattle.exo_tree.specs.Tree.{Kind, Index, Control, Var, Le, Lt, Datum, Const, Read}
 use Rattle.exo_tree.specs.Tree.{Negated, Relu, Plus, Minus, Times, Select, Coord, At, Argument}
@@ -11,6 +11,7 @@ use Rattle.exo_tree.specs.Tree.{ControlArg, ConditionArg, Whole, Window, Stateme
 use Rattle.exo_tree.specs.Tree.{Config, Pass, If, For, Alloc, View, Call, Block, end, next, joined}
 use Rattle.exo_tree.specs.Tree.{Param, ParamKind, ControlParam, TensorParam, WindowParam}
 use Rattle.exo_tree.specs.Tree.{Procedure, Program}
+use Rattle.exo_tree.specs.Calls.{passed_by, call_arguments}
 use Rattle.exo_tree.specs.Context.{Context, Here, After, InLoop, InThen, InElse, fill}
 use Rattle.exo_tree.specs.Places.{Path, Opened, opened}
 use Rattle.exo_meaning.specs.Calls.{Callee}
@@ -30,6 +31,7 @@ use Rattle.meaning_laws.proofs.Known.{each_join}
 use Rattle.meaning_laws.proofs.Places.{opened_law}
 use Rattle.inplace_laws.specs.Windows.{shifted}
 use Rattle.text_show.specs.Layout.{Text}
+use Rattle.text_show.specs.StatementText.{argument_text}
 use Rattle.text_show.specs.Words.{Words, words_of}
 use Rattle.affine_forms.proofs.Values.{and_parts}
 use Rattle.check_facts.proofs.Rooms.{larger_left, larger_right}
@@ -39,6 +41,7 @@ use Rattle.exo_effects.specs.Uses.{Use, Inside, in_loop, in_branch, past_stateme
 use Rattle.exo_effects.specs.Uses.{cell_of, part_of_argument, modes_had, cell_uses, data_uses}
 use Rattle.exo_effects.specs.Uses.{argument_uses, arguments_uses, block_uses, step_uses}
 use Rattle.exo_effects.specs.Uses.{params_of, modes_of, at_hole, uses_in, uses_at}
+use Rattle.exo_effects.specs.Uses.{argument_in, argument_at}
 use Rattle.effect_bounds.proofs.Ranks.{shifted_length, Stands, AllFit, at_rank, window_stands}
 use Rattle.effect_bounds.proofs.Ranks.{passed_fits, passed_inside_fits, loop_fits, params_fit}
 
@@ -378,29 +381,87 @@ module _ (fields : ℕ → Option Kind) (memories : ℕ) (callees : ℕ → Opti
 
   -- ---- of a procedure
 
+  module _ (u : Program) (p : Procedure) (good : IsProcedure fields memories callees p) where
+    module _ (path : Path) (count : ℕ) (o : Opened) (e : opened count path p.body ≡ Some o) where
+      abbrev first : Scope
+      first = scope_of [] p.params
+
+      piece_of : IsPiece (scope_at o.around first) (at_hole u p o).parts o.piece 32
+      piece_of =
+          let there = opened_law count path p.body o e in
+          piece_in o.around o.piece first (λ x. x) (with_params p.params no_parts) 32
+          (ap (keeps first (λ x. x)) there ∙ good.body)
+          (params_fit fields memories callees p.params [] no_parts good.params (λ x. tt))
+          (let same = ap levels there in omega (arith, deep))
+        where
+          deep : levels p.body ≤ 32
+          deep = let h = good.paths in grind (arith, nat_tests)
+
   pub uses_small :
       (u : Program) (p : Procedure) (path : Path) (count : ℕ)
       → IsProcedure fields memories callees p
       → Each (IsSmall 64) (uses_at u p path count)
   uses_small u p path count good = found (opened count path p.body) refl
     where
-      deep : levels p.body ≤ 32
-      deep = let h = good.paths in grind (arith, nat_tests)
-
       uses : Option Opened → List Use
       uses o = elim o [ None ↦ [] | Some o ↦ uses_in u p o ]
 
       found : (x : Option Opened) → opened count path p.body ≡ x → AreSmall 64 (uses x)
       found None e = tt
       found (Some o) e =
-          let there = opened_law count path p.body o e in
-          let first = scope_of [] p.params in
-          let parts = with_params p.params no_parts in
-          let piece =
-          piece_in o.around o.piece first (λ x. x) parts 32 (ap (keeps first (λ x. x)) there ∙ good.body)
-          (params_fit fields memories callees p.params [] no_parts good.params (λ x. tt))
-          (let same = ap levels there in omega (arith, deep))
-          in
+          let piece = piece_of u p good path count o e in
           let few = piece.deep in
           block_small (words_of u p) (params_of u) (modes_of u) 64 (at_hole u p o)
-          (scope_at o.around first) piece.root o.piece piece.rules piece.fit (omega arith)
+          (scope_at o.around (scope_of [] p.params)) piece.root o.piece piece.rules piece.fit
+          (omega arith)
+
+  -- the arguments of the call with which a block begins
+  passed_named :
+      (scope : Scope) (root : ℕ → ℕ) (b : Block)
+      → keeps scope root b ≡ true → Each (HasBuffer scope) (call_arguments b)
+  passed_named scope root end h = tt
+  passed_named scope root (next a b) h =
+      of_step a (and_parts (step_keeps scope root a) (keeps (scope_after a scope) (roots_after a root) b) h).0
+    where
+      of_step : (a : Statement) → step_keeps scope root a ≡ true → Each (HasBuffer scope) (passed_by a)
+      of_step (Assign x is e) h = tt
+      of_step (Reduce x is e) h = tt
+      of_step (Config f v) h = tt
+      of_step Pass h = tt
+      of_step (If c a b) h = tt
+      of_step (For i lo hi b) h = tt
+      of_step (Alloc x cell dims memory) h = tt
+      of_step (View v x coords) h = tt
+      of_step (Call k args) h = call_named scope root (callees k) args h
+
+  -- one of them as a whole
+  one_small :
+      (w : Words) (at : Inside) (scope : Scope) (args : List Argument) (k : ℕ)
+      → Each (HasBuffer scope) args
+      → AllFit scope at.parts → length at.round ≤ 64
+      → AreSmall 64 (elim (slice_get args k) [
+        | None ↦ []
+        | Some a ↦ uses_of at (argument_text w a) (part_of_argument at.parts a) (Writing ∷ [])
+      ])
+  one_small w at scope [] k h g few = tt
+  one_small w at scope (a ∷ args) zero h g few =
+      uses_of_small 64 at (argument_text w a) (part_of_argument at.parts a) (Writing ∷ [])
+      (argument_small scope at.parts a g h.0) few
+  one_small w at scope (a ∷ args) (suc k) h g few = one_small w at scope args k h.1 g few
+
+  pub passed_small :
+      (u : Program) (p : Procedure) (path : Path) (k : ℕ)
+      → IsProcedure fields memories callees p
+      → Each (IsSmall 64) (argument_at u p path k)
+  passed_small u p path k good = found (opened 1 path p.body) refl
+    where
+      uses : Option Opened → List Use
+      uses o = elim o [ None ↦ [] | Some o ↦ argument_in u p o k ]
+
+      found : (x : Option Opened) → opened 1 path p.body ≡ x → AreSmall 64 (uses x)
+      found None e = tt
+      found (Some o) e =
+          let piece = piece_of u p good path 1 o e in
+          let scope = scope_at o.around (scope_of [] p.params) in
+          one_small (words_of u p) (at_hole u p o) scope (call_arguments o.piece) k
+          (passed_named scope piece.root o.piece piece.rules) piece.fit (omega arith)

@@ -9,7 +9,7 @@ use Rattle.exo_meaning.specs.Units.{IsProcedure}
 use Rattle.check_facts.specs.Contexts.{context_of}
 use Rattle.exo_effects.specs.Fresh.{past_all, past_formula}
 use Rattle.exo_effects.specs.PlainUses.{plain_uses}
-use Rattle.exo_effects.specs.Uses.{uses_at}
+use Rattle.exo_effects.specs.Uses.{uses_at, argument_at}
 use Rattle.exo_effects.specs.declared.access.Access.{Access}
 use Rattle.exo_conflicts.specs.Outcomes.{access_is_low}
 
@@ -28,4 +28,13 @@ AccessesLowLaw =
     (u : Program) (p : Procedure) (path : Path) (count : ℕ) (l : List Access)
     → IsProcedure fields memories callees p
     → plain_uses l ≡ uses_at u p path count
+    → list_all access_is_low l ≡ true
+
+-- and so have its accesses of what a call passes
+abbrev pub ArgumentsLowLaw : Type 0
+ArgumentsLowLaw =
+    (fields : ℕ → Option Kind) (memories : ℕ) (callees : ℕ → Option Callee)
+    (u : Program) (p : Procedure) (path : Path) (k : ℕ) (l : List Access)
+    → IsProcedure fields memories callees p
+    → plain_uses l ≡ argument_at u p path k
     → list_all access_is_low l ≡ true

@@ -1,5 +1,5 @@
 //! The laws of bounds, each the contract of a function that does nothing.
-ghost use Rattle.effect_bounds.specs.Laws.{AccessesLowLaw, ContextLowLaw};
+ghost use Rattle.effect_bounds.specs.Laws.{AccessesLowLaw, ArgumentsLowLaw, ContextLowLaw};
 
 /// In a well-formed procedure all variables of the context of a place are below 2^31.
 pub fn contexts_are_low()
@@ -17,4 +17,12 @@ pub fn accesses_are_low()
 {
     exo_effects::laws::well_formed_procedures_are_low();
     exo_effects::laws::uses_are_low();
+}
+
+/// So have its accesses of what a call of one passes.
+pub fn arguments_are_low()
+    ensures { ArgumentsLowLaw }
+{
+    exo_effects::laws::well_formed_procedures_are_low();
+    exo_effects::laws::passed_is_low();
 }

@@ -38,7 +38,7 @@ use Rattle.effect_laws.specs.Apart.{Turns, Conflict, with_turns, AreTurns, AreOr
 use Rattle.effect_laws.proofs.Cells.{each_weaken}
 use Rattle.effect_laws.proofs.Clear.{clear_with}
 use Rattle.effect_laws.proofs.Known.{Now, IsTold, IsPart, is_there, not_none, some_of}
-use Rattle.effect_laws.proofs.Places.{AllTold, way_told, params_told, out_of_scope, no_param}
+use Rattle.effect_laws.proofs.Places.{AllTold, IsFormedAt, way_told, params_told, out_of_scope, no_param}
 use Rattle.effect_laws.proofs.Turns.{same_buffers, else_same, turns_within, nth_number, now_turned, inside_of, same_parts}
 
 -- ---- places as contexts
@@ -48,7 +48,7 @@ joined_end end = refl
 joined_end (next a b) = ap (next a) (joined_end b)
 
 -- the place before the body is the hole with the body in it
-abbrev place_of : Procedure → Option Opened → Opened
+abbrev pub place_of : Procedure → Option Opened → Opened
 place_of p None = record { around = Here end; piece = p.body }
 place_of p (Some o) = o
 
@@ -84,8 +84,6 @@ pub record Laws : Type 0 where
   pub unbound : UnboundLaw
   pub contexts : ContextsHold
   pub normal : NormalLaw
-  pub covers : CoversLaw
-  pub clear : ClearLaw
 
 module _ (laws : Laws) (u : Program) (p : Procedure) (may : MayRun u.fields (length u.memories) u.procedures p) (path : Path) (s a : State) (ok : IsAdmissible (program_world u) p s) (come : ComesToPlace (program_world u) (opened 1 path p.body) s a) where
   abbrev there : Option Opened
@@ -127,11 +125,21 @@ module _ (laws : Laws) (u : Program) (p : Procedure) (may : MayRun u.fields (len
   named_params : AllTold fields (length u.memories) (program_world u).callees a.scene (scope_of [] p.params) (with_params p.params no_parts)
   named_params = params_told fields (length u.memories) (program_world u).callees a.scene s.scene p.params (λ x h. ((stand.params x h).control, (stand.params x h).views)) p.params [] no_parts (λ y h. absurd (no_name y h)) (λ y h. h) may.procedure.params ok.arguments (λ y h. absurd (no_name y h))
 
-  told : AllTold fields (length u.memories) (program_world u).callees a.scene scope (parts_there u p there)
-  told = subst₂ (AllTold fields (length u.memories) (program_world u).callees a.scene) same_scope (place_parts u p there) (way_told fields (length u.memories) (program_world u).callees a.scene hole old (scope_of [] p.params) (λ x. x) (with_params p.params no_parts) (ap (is_block fields (length u.memories) (program_world u).callees (scope_of [] p.params) (λ x. x)) (sym body) ∙ may.procedure.body) stand.made named_params)
+  formed : is_block fields (length u.memories) (program_world u).callees (scope_of [] p.params) (λ x. x) (fill hole old) ≡ true
+  formed = ap (is_block fields (length u.memories) (program_world u).callees (scope_of [] p.params) (λ x. x)) (sym body) ∙ may.procedure.body
+
+  on_the_way : AllTold fields (length u.memories) (program_world u).callees a.scene (scope_at hole (scope_of [] p.params)) (parts_at hole (with_params p.params no_parts)) × IsFormedAt fields (length u.memories) (program_world u).callees a.scene (scope_at hole (scope_of [] p.params)) old
+  on_the_way = way_told fields (length u.memories) (program_world u).callees a.scene hole old (scope_of [] p.params) (λ x. x) (with_params p.params no_parts) formed stand.made named_params
+
+  pub told : AllTold fields (length u.memories) (program_world u).callees a.scene scope (parts_there u p there)
+  told = subst₂ (AllTold fields (length u.memories) (program_world u).callees a.scene) same_scope (place_parts u p there) on_the_way.0
+
+  -- what stands there is well formed
+  pub formed_there : IsFormedAt fields (length u.memories) (program_world u).callees a.scene scope old
+  formed_there = subst (λ sc. IsFormedAt fields (length u.memories) (program_world u).callees a.scene sc old) same_scope on_the_way.1
 
   -- a name that sees something is in scope
-  views_named : (x : ℕ) (seen : Seen) → a.scene.views x ≡ Some seen → IsSome (sort_in scope x)
+  pub views_named : (x : ℕ) (seen : Seen) → a.scene.views x ≡ Some seen → IsSome (sort_in scope x)
   views_named x seen e = go (sort_in scope x) refl
     where
       go : (o : Option Sort) → sort_in scope x ≡ o → IsSome o
@@ -143,13 +151,13 @@ module _ (laws : Laws) (u : Program) (p : Procedure) (may : MayRun u.fields (len
 
   -- ---- numbers for the atoms
 
-  abbrev known : (v : Valuation) × Describes u p path a v
+  abbrev pub known : (v : Valuation) × Describes u p path a v
   known = laws.contexts u p may path s a ok come
 
-  abbrev v : Valuation
+  abbrev pub v : Valuation
   v = known.0
 
-  variable_is : (x : ℕ) → v.variable x ≡ a.scene.control x
+  pub variable_is : (x : ℕ) → v.variable x ≡ a.scene.control x
   variable_is x =
       let is : value v (normal (place_reading u.fields (roots_of p) (facts_of u p path)) (Var x)) ≡ v.variable x = omega (arith, ints) in
       sym is ∙ known.1.numbers (Var x) refl
@@ -162,7 +170,7 @@ module _ (laws : Laws) (u : Program) (p : Procedure) (may : MayRun u.fields (len
 
   -- ---- a piece at the place
 
-  module _ (t : State) (same : t.scene ≡ a.scene) where
+  module _ (covers : CoversLaw) (clear : ClearLaw) (t : State) (same : t.scene ≡ a.scene) where
     now_at : (k : Turns) (q : Opened) → IsThere u p path k q → Now t.scene (at_hole u p q) scope t.scene
     now_at k q is = subst (λ z. Now z (at_hole u p q) scope z) (sym same) (record {
       kept = λ b shape e. e;
@@ -196,7 +204,7 @@ module _ (laws : Laws) (u : Program) (p : Procedure) (may : MayRun u.fields (len
     covered_at : (k : Turns) (q : Opened) (ms : List ℤ) → IsThere u p path k q → AreTurns k.loops ms t.scene → Covers (with_turns k.loops ms t.scene) (accesses_of u p k.path k.count) (touched (program_world u) (modes_of u) q.piece (on_scene (with_turns k.loops ms) t))
     covered_at k q ms is turns =
         subst (λ us. Covers (with_turns k.loops ms t.scene) (map access_of us) (touched (program_world u) (modes_of u) q.piece (on_scene (with_turns k.loops ms) t))) (sym (ap (λ o. elim o as (λ o. List Use) [ None ↦ [] | Some o ↦ uses_in u p o ]) is.opens))
-        (laws.covers u p q (scope_in k.loops scope) (on_scene (with_turns k.loops ms) t) (cover_at k q ms is turns))
+        (covers u p q (scope_in k.loops scope) (on_scene (with_turns k.loops ms) t) (cover_at k q ms is turns))
 
     -- ---- both pieces
 
@@ -245,10 +253,10 @@ module _ (laws : Laws) (u : Program) (p : Procedure) (may : MayRun u.fields (len
       are_apart shown h =
           let es = touched (program_world u) (modes_of u) o.piece (on_scene (with_turns k.first.loops ms) t) in
           let fs = touched (program_world u) (modes_of u) q.piece (on_scene (with_turns k.second.loops ns) t) in
-          let c = laws.clear (context_of u p path) order path (accesses_of u p k.first.path k.first.count) (accesses_of u p k.second.path k.second.count) v one other es fs known.1.kinds known.1.context shown (two_turns h) (covered_at k.first o ms first m_turns) (covered_at k.second q ns second n_turns) in (
+          let c = clear (context_of u p path) order path (accesses_of u p k.first.path k.first.count) (accesses_of u p k.second.path k.second.count) v one other es fs known.1.kinds known.1.context shown (two_turns h) (covered_at k.first o ms first m_turns) (covered_at k.second q ns second n_turns) in (
             each_weaken (IsClear one fs) (IsClear t.scene fs) es (clear_with t.scene one (same_buffers k.first.loops ms t.scene) fs) c.0,
             each_weaken (IsClear one es) (IsClear t.scene es) fs (clear_with t.scene one (same_buffers k.first.loops ms t.scene) es) c.1,
           )
 
-pub apart_is_met : Laws → ApartIsMet
-apart_is_met laws u p path k may shown s a t m n o q ok come same first second ms ns h = are_apart laws u p may path s a ok come t same k o q m n first second ms ns shown h
+pub apart_is_met : Laws → CoversLaw → ClearLaw → ApartIsMet
+apart_is_met laws covers clear u p path k may shown s a t m n o q ok come same first second ms ns h = are_apart laws u p may path s a ok come covers clear t same k o q m n first second ms ns shown h

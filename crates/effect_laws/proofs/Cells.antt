@@ -7,6 +7,7 @@ use Rattle.exo_meaning.specs.Scene.{Side, Point, Range, Scene, number, numbers, 
 use Rattle.exo_meaning.specs.Run.{range, count}
 use Rattle.exo_meaning.specs.Orders.{Each}
 use Rattle.exo_meaning.specs.Units.{Scope}
+use Rattle.exo_meaning.proofs.Windows.{where_parts}
 use Rattle.meaning_laws.specs.Touched.{crossed, cells_of}
 use Rattle.affine_forms.specs.Atoms.{Valuation}
 use Rattle.affine_forms.specs.Forms.{Allowed, is_affine}
@@ -138,3 +139,29 @@ module _ (normal : NormalLaw) (scope : Scope) (scene : Scene) where
       let q = parts (is_affine may a) (is_affine may b) p.0 in
       crossed_each (IsFrom (number scene a) (number scene b)) (Lies scene (map coord_form cs)) (Lies scene (map coord_form (Span a b ∷ cs))) (range (number scene a) (count (number scene b -ℤ number scene a))) (cells_of (sides_of scene cs)) (λ i at e l v same.
       (subst (λ n. n ≤ℤ i) (sym (value_is normal scope v scene same a q.0)) e.0, (subst (λ n. i <ℤ n) (sym (value_is normal scope v scene same b q.1)) e.1, l v same))) (range_within (number scene a) (number scene b)) (cells_lie cs p.1)
+
+  -- a cell that is seen at some indices
+  pub cell_lies_there : (cs : List Coord) (is at : List ℤ) → list_all (is_affine_coord (names_in scope)) cs ≡ true → cell_at (sides_of scene cs) is ≡ Some at → Lies scene (map coord_form cs) at
+  cell_lies_there [] [] at h e = subst (Lies scene []) (some_injective [] at e) (λ v same. tt)
+  cell_lies_there [] (i ∷ is) at h e = absurd (none_some e)
+  cell_lies_there (At a ∷ cs) is at h e =
+      let p = parts (is_affine (names_in scope) a) (list_all (is_affine_coord (names_in scope)) cs) h in
+      let m = map_gives (cell_at (sides_of scene cs) is) (λ rest. number scene a ∷ rest) at e in
+      subst (Lies scene (map coord_form (At a ∷ cs))) m.2 (λ v same. (value_is normal scope v scene same a p.0, cell_lies_there cs is m.0 p.1 m.1 v same))
+  cell_lies_there (Span a b ∷ cs) [] at h e = absurd (none_some e)
+  cell_lies_there (Span a b ∷ cs) (i ∷ is) at h e =
+      let may = names_in scope in
+      let p = parts (is_affine may a && is_affine may b) (list_all (is_affine_coord may) cs) h in
+      let q = parts (is_affine may a) (is_affine may b) p.0 in
+      let low = number scene a in
+      let n = number scene b -ℤ low in
+      let w = where_parts (is_below i n) (option_map (λ rest. (low +ℤ i) ∷ rest) (cell_at (sides_of scene cs) is)) at e in
+      let m = map_gives (cell_at (sides_of scene cs) is) (λ rest. (low +ℤ i) ∷ rest) at w.1 in
+      subst (Lies scene (map coord_form (Span a b ∷ cs))) m.2 (λ v same.
+      (subst (λ k. k ≤ℤ (low +ℤ i)) (sym (value_is normal scope v scene same a q.0)) (above low i n w.0), (subst (λ k. (low +ℤ i) <ℤ k) (sym (value_is normal scope v scene same b q.1)) (below low (number scene b) i w.0), cell_lies_there cs is m.0 p.1 m.1 v same)))
+    where
+      above : (low i n : ℤ) → is_below i n ≡ true → low ≤ℤ (low +ℤ i)
+      above low i n h = grind (arith, ints, h)
+
+      below : (low high i : ℤ) → is_below i (high -ℤ low) ≡ true → (low +ℤ i) <ℤ high
+      below low high i h = grind (arith, ints, h)

@@ -1,6 +1,6 @@
 -- Pieces whose conflicts have no integer point do not clash.
 use Rattle.std.proofs.Common.{◌≡◌, ◌≤◌, ℕ, max, ℤ, ◌==◌, Bool, true, false, true≢false, cond, List, [], ◌∷◌, ◌++◌, map, Option, Some, None, refl, sym, ap, ap₂, ◌∙◌, subst, eqb-true, eq-eqb, arith, inl, inr}
-use Rattle.std.specs.Prelude.{IsSome, is_some, filter}
+use Rattle.std.specs.Prelude.{IsSome, is_some, filter, flat_map}
 use Rattle.std.specs.List.{AllByRecursion}
 use Rattle.std.specs.Ordering.{int_eq}
 use Rattle.std.proofs.lemmas.Int.{ints}
@@ -24,7 +24,7 @@ use Rattle.exo_effects.specs.Limits.{are_within}
 use Rattle.exo_effects.specs.Fresh.{past_formula, past_all, past_access, past_order}
 use Rattle.exo_effects.specs.Conflicts.{against, Fault, ManySystems, Listing, Lists, Refuses, meeting, modes_clash, may_clash, clashing, past_these, owed_for, pair_fault, unless_refused, owed_behind}
 use Rattle.effect_laws.specs.Covers.{Reaches, IsCell, IsCellOfSome, IsCovered, Covers}
-use Rattle.effect_laws.specs.Clear.{AreTwoTurns, AreShownApart, ClearLaw}
+use Rattle.effect_laws.specs.Clear.{AreTwoTurns, ClearLaw}
 use Rattle.effect_laws.proofs.Renamed.{left_of, right_of}
 use Rattle.effect_laws.proofs.Meeting.{do_not_meet}
 
@@ -38,6 +38,13 @@ module _ (ctx : List Formula) (order : Order) (place : Path) (base : ℕ) (P : O
   right_each : (xs ys : List Owed) → Each P (xs ++ ys) → Each P ys
   right_each [] ys h = h
   right_each (x ∷ xs) ys h = right_each xs ys h.1
+
+  pub each_flat : (ps : List (Access × Access)) → Each P (flat_map (owed_for ctx order place base) ps) → Each (λ p. Each P (owed_for ctx order place base p)) ps
+  each_flat [] h = tt
+  each_flat (p ∷ ps) h =
+      let own = owed_for ctx order place base p in
+      let others = flat_map (owed_for ctx order place base) ps in
+      (left_each own others h, each_flat ps (right_each own others h))
 
   went_on : (o : Option Fault) (t : Bool) (rest : Listing) (os : List Owed) → unless_refused ctx order place base o t rest ≡ Lists os → rest ≡ Lists os
   went_on (Some f) t rest os e = absurd (refused e)
@@ -126,7 +133,7 @@ writes_clash Reducing h = refl
 -- ---- one piece against the other
 
 -- no cell of the first list is one of the second with a mode that clashes
-abbrev NoneClash : Scene → List Access → Scene → List Access → Type 0
+abbrev pub NoneClash : Scene → List Access → Scene → List Access → Type 0
 NoneClash s xs t ys = (m n : Mode) (p q : Place) → modes_clash m n ≡ true → p.buffer ≡ q.buffer → p.at ≡ q.at → IsCellOfSome s.control m p xs → IsCellOfSome t.control n q ys → ⊥
 
 module _ (s t : Scene) (xs ys : List Access) (buffers : t.buffers ≡ s.buffers) (none : NoneClash s xs t ys) where
@@ -198,7 +205,15 @@ clear_with s t e es (Writes p) h = λ i. h (ap (λ b. is_some (b p.buffer)) e �
 clear_with s t e es (Reduces cell p) h = λ shape i. h shape (ap (λ b. b p.buffer) e ∙ i)
 clear_with s t e es (Made x) h = ap (λ b. b x) (sym e) ∙ h
 
-module _ (systems : SystemsLaw) (ctx : List Formula) (order : Order) (place : Path) (xs ys : List Access) (v : Valuation) (s t : Scene) (keeps : KeepsKinds v) (met : all_met v ctx ≡ true) (shown : AreShownApart ctx order place xs ys) (two : AreTwoTurns order v s t) where
+-- all pairs that may clash are shown
+abbrev pub AllShown : List Formula → Order → List Access → List Access → Type 0
+AllShown ctx order xs ys = Each (λ p. HaveNoPoint (meeting ctx order (past_these ctx order xs ys) p.0 p.1)) (clashing xs ys)
+
+pub each_shown : (ctx : List Formula) (order : Order) (place : Path) (base : ℕ) (ps : List (Access × Access)) → Each (λ p. Each (λ o. HasNoIntegerPoint o.system) (owed_for ctx order place base p)) ps → Each (λ p. HaveNoPoint (meeting ctx order base p.0 p.1)) ps
+each_shown ctx order place base [] h = tt
+each_shown ctx order place base (p ∷ ps) h = (no_points (against p) place (systems_of (meeting ctx order base p.0 p.1)) h.0, each_shown ctx order place base ps h.1)
+
+module _ (systems : SystemsLaw) (ctx : List Formula) (order : Order) (xs ys : List Access) (v : Valuation) (s t : Scene) (keeps : KeepsKinds v) (met : all_met v ctx ≡ true) (shown : AllShown ctx order xs ys) (two : AreTwoTurns order v s t) where
   abbrev base : ℕ
   base = past_these ctx order xs ys
 
@@ -214,17 +229,10 @@ module _ (systems : SystemsLaw) (ctx : List Formula) (order : Order) (place : Pa
   low_lists : max (past_all past_access xs) (past_all past_access ys) ≤ base
   low_lists = right_of (max (past_all past_formula ctx) (past_order order)) (max (past_all past_access xs) (past_all past_access ys)) base low
 
-  each_weaken_pairs : (ps : List (Access × Access)) → Each (λ p. Each (λ o. HasNoIntegerPoint o.system) (owed_for ctx order place base p)) ps → Each Shown ps
-  each_weaken_pairs [] h = tt
-  each_weaken_pairs (p ∷ ps) h = (no_points (against p) place (systems_of (meeting ctx order base p.0 p.1)) h.0, each_weaken_pairs ps h.1)
-
-  all_shown : Each Shown (clashing xs ys)
-  all_shown = each_weaken_pairs (clashing xs ys) (of_each_pair ctx order place base (λ o. HasNoIntegerPoint o.system) [] (clashing xs ys) shown.0 shown.1 shown.2).1
-
   -- no cell is reached by two accesses that may clash
-  no_clash : (m n : Mode) (p q : Place) → modes_clash m n ≡ true → p.buffer ≡ q.buffer → p.at ≡ q.at → IsCellOfSome s.control m p xs → IsCellOfSome t.control n q ys → ⊥
+  pub no_clash : NoneClash s xs t ys
   no_clash m n p q clash same at one other =
-      let a = from_each Shown base xs ys (left_of (past_all past_access xs) (past_all past_access ys) base low_lists) all_shown s.control m p one in
+      let a = from_each Shown base xs ys (left_of (past_all past_access xs) (past_all past_access ys) base low_lists) shown s.control m p one in
       let b = with_each Shown base a.0 ys (right_of (past_all past_access xs) (past_all past_access ys) base low_lists) a.3 t.control n q other in
       let may : may_clash a.0 b.0 ≡ true = joined (a.0.root == b.0.root) (modes_clash a.0.mode b.0.mode) (eq-eqb a.0.root b.0.root (a.1.root ∙ same ∙ sym b.1.root)) (ap₂ modes_clash a.1.so b.1.so ∙ clash) in
       do_not_meet ctx order base a.0 b.0 v s.control t.control two.copies p.at
@@ -243,4 +251,7 @@ module _ (systems : SystemsLaw) (ctx : List Formula) (order : Order) (place : Pa
   )
 
 pub clear_law : SystemsLaw → ClearLaw
-clear_law systems ctx order place xs ys v s t es fs keeps met shown two h k = are_clear systems ctx order place xs ys v s t keeps met shown two es fs h k
+clear_law systems ctx order place xs ys v s t es fs keeps met shown two h k =
+    let base = past_these ctx order xs ys in
+    let closed = (of_each_pair ctx order place base (λ o. HasNoIntegerPoint o.system) [] (clashing xs ys) shown.0 shown.1 shown.2).1 in
+    are_clear systems ctx order xs ys v s t keeps met (each_shown ctx order place base (clashing xs ys) closed) two es fs h k

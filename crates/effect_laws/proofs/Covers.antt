@@ -16,7 +16,7 @@ use Rattle.exo_meaning.specs.Units.{Sort, ControlName, BufferName, Scope, sort_i
 use Rattle.meaning_laws.specs.Facts.{Fact, Holds, Fails, is_plain_condition, with_fact}
 use Rattle.meaning_laws.specs.Sound.{IsSameName, binds}
 use Rattle.meaning_laws.specs.Touched.{cells_of, window_entries, buffer_entries, param_entries, all_entries, given_entries, entries_to, call_entries, touched}
-use Rattle.meaning_laws.proofs.FirstState.{same_cell_is}
+use Rattle.exo_tree.specs.Cells.{same_cell_is}
 use Rattle.meaning_laws.proofs.Names.{Others, name_same, name_on, if_gives, step_names, turn_names}
 use Rattle.affine_forms.specs.Atoms.{Valuation, value}
 use Rattle.affine_forms.proofs.FormulaValues.{at_most_met, less_met}

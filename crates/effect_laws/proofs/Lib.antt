@@ -14,3 +14,5 @@ pub mod Apart
 pub mod Examples
 pub mod FitExamples
 pub mod Fits
+pub mod Pairs
+pub mod PairExamples

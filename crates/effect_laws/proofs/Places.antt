@@ -3,7 +3,7 @@ use Rattle.std.proofs.Common.{◌≡◌, ℕ, ℤ, pos, ◌-ℤ◌, ◌==◌, Bo
 use Rattle.std.specs.Prelude.{IsSome}
 use Rattle.std.specs.List.{list_all}
 use Rattle.std.proofs.lemmas.Int.{ints}
-use Rattle.exo_tree.specs.Tree.{Binder, Kind, Index, Control, Coord, At, Span, Statement, Assign, Reduce, Config, Pass, If, For, Alloc, View, Call, Block, Param, ParamKind, ControlParam, TensorParam, WindowParam}
+use Rattle.exo_tree.specs.Tree.{Binder, Kind, Index, Control, Coord, At, Span, Statement, Assign, Reduce, Config, Pass, If, For, Alloc, View, Call, Block, joined as joined_blocks, Param, ParamKind, ControlParam, TensorParam, WindowParam}
 use Rattle.exo_tree.specs.Context.{Context, Here, After, InLoop, InThen, InElse, fill}
 use Rattle.exo_meaning.specs.Scene.{Seen, Scene, Range, numbers, number, narrowed, window, whole}
 use Rattle.exo_meaning.specs.Calls.{Callee}
@@ -98,7 +98,7 @@ module _ (fields : ℕ → Option Kind) (memories : ℕ) (callees : ℕ → Opti
       joined (is_affine (names_in scope) a && is_affine (names_in scope) b) (list_all (is_affine_coord (names_in scope)) cs)
       (joined (is_affine (names_in scope) a) (is_affine (names_in scope) b) (bound_is_affine fields scope a r.0) (bound_is_affine fields scope b r.1)) (coords_affine scope cs q.1)
 
-  window_part : (scope : Scope) (table : Parts) (x : ℕ) (cs : List Coord) (z : Seen) → IsToldBy scope x (table x) → list_all (is_coord fields scope) cs ≡ true → window now x cs ≡ Some z → IsPart scope now (option_map (window_of cs) (table x)) z
+  pub window_part : (scope : Scope) (table : Parts) (x : ℕ) (cs : List Coord) (z : Seen) → IsToldBy scope x (table x) → list_all (is_coord fields scope) cs ≡ true → window now x cs ≡ Some z → IsPart scope now (option_map (window_of cs) (table x)) z
   window_part scope table x cs z h keeps e =
       let t = then_gives (now.views x) (λ seen. option_map (λ sides. record { buffer = seen.buffer; sides = sides }) (narrowed now seen.sides cs)) z e in
       let m = map_gives (narrowed now t.0.sides cs) (λ sides. record { buffer = t.0.buffer; sides = sides }) z t.2 in
@@ -135,8 +135,12 @@ module _ (fields : ℕ → Option Kind) (memories : ℕ) (callees : ℕ → Opti
       (w.0, w.1, sees_further scope (with_name scope v sort) now now (further scope v sort p.0) w.0 seen (subst (SeesPart scope now w.0) (some_injective there.0 seen (sym there.2 ∙ e)) w.2))) all
   step_told (Call k args) scope root table keeps there all = all
 
-  pub way_told : (c : Context) (old : Block) (scope : Scope) (root : ℕ → ℕ) (table : Parts) → is_block fields memories callees scope root (fill c old) ≡ true → made.AreMade now c → AllTold scope table → AllTold (scope_at c scope) (parts_at c table)
-  way_told (Here rest) old scope root table keeps there all = all
+  -- a block is well formed there, whatever it is that stands behind it
+  abbrev pub IsFormedAt : Scope → Block → Type 0
+  IsFormedAt scope old = (rest : Block) × (root : ℕ → ℕ) × (is_block fields memories callees scope root (joined_blocks old rest) ≡ true)
+
+  pub way_told : (c : Context) (old : Block) (scope : Scope) (root : ℕ → ℕ) (table : Parts) → is_block fields memories callees scope root (fill c old) ≡ true → made.AreMade now c → AllTold scope table → AllTold (scope_at c scope) (parts_at c table) × IsFormedAt (scope_at c scope) old
+  way_told (Here rest) old scope root table keeps there all = (all, (rest, root, keeps))
   way_told (After a c) old scope root table keeps there all =
       let q = parts (is_statement fields memories callees scope root a) (is_block fields memories callees (scope_after a scope) (roots_after a root) (fill c old)) keeps in
       way_told c old (scope_after a scope) (roots_after a root) (passed a table) q.1 there.1 (step_told a scope root table q.0 there.0 all)

@@ -2,4 +2,5 @@ pub mod Covers
 pub mod Clear
 pub mod Apart
 pub mod Fits
+pub mod Pairs
 pub mod Words

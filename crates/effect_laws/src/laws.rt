@@ -4,6 +4,7 @@ ghost use Rattle.effect_laws.specs.Apart.{ApartIsMet};
 ghost use Rattle.effect_laws.specs.Clear.{ClearLaw};
 ghost use Rattle.effect_laws.specs.Covers.{CoversLaw};
 ghost use Rattle.effect_laws.specs.Fits.{HalvesFit, NestsFit, NeighboursFit};
+ghost use Rattle.effect_laws.specs.Pairs.{PairsAreApart};
 
 pub use check_facts_laws::laws::contexts_hold;
 
@@ -52,3 +53,19 @@ pub fn nests_fit()
 pub fn neighbours_fit()
     ensures { NeighboursFit }
 {}
+
+/// Wherever a run comes to a call, two of its arguments have no cell in common where nothing that is
+/// owed for the two has an integer point.
+pub fn pairs_are_apart()
+    ensures { PairsAreApart }
+{
+    meaning_laws::laws::opened_blocks_are_there();
+    meaning_laws::laws::names_stay_as_made();
+    meaning_laws::laws::places_fit();
+    meaning_laws::laws::places_are_sound();
+    meaning_laws::laws::free_names_stand_for_nothing();
+    check_facts_laws::laws::contexts_hold();
+    affine_forms::laws::normal_is_exact();
+    affine_systems::laws::failed_claims_have_points();
+    exo_meaning::laws::windows_are_tested();
+}

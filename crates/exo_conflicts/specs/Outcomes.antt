@@ -17,7 +17,6 @@ use Rattle.exo_effects.specs.Conflicts.{Listing, Lists, Refuses}
 use Rattle.exo_effects.specs.Conflicts.{ManyCases, LargeSystem, ManySystems}
 use Rattle.exo_effects.specs.Conflicts.{span_number, asked, points, bounds, order_row, copied_turns}
 use Rattle.exo_effects.specs.Conflicts.{may_clash, owed_behind}
-use Rattle.exo_effects.specs.Limits.{are_within}
 use Rattle.exo_effects.specs.Low.{use_is_low}
 use Rattle.exo_effects.specs.Orders as orders
 use Rattle.exo_effects.specs.PlainUses.{plain_use}
@@ -103,16 +102,6 @@ module _ (ctx : List Formula) (order : orders.Order) (place : Path) where
   Owes (Err e) pairs old new =
       (rest : List (Access × Access))
       → IsFault e (owed_behind ctx order place (2 ^ 31) old (pairs ++ rest))
-
--- obligations come behind the others, exactly where all are within the limits
-abbrev pub Pushed :
-    {A : Type 0} → Result A FormError → List Owed → List Owed → List Owed → Type 0
-Pushed (Ok t) old more new = (are_within (old ++ more) ≡ true) × (new ≡ old ++ more)
-Pushed (Err TooManyCases) old more new = ⊥
-Pushed (Err SystemTooLarge) old more new = ⊥
-Pushed (Err WideNumber) old more new = ⊥
-Pushed (Err TooManySystems) old more new = are_within (old ++ more) ≡ false
-Pushed (Err Memory) old more new = ⊤
 
 abbrev pub IsListed : {A : Type 0} → Result (Vec Obligation A) FormError → Listing → Type 0
 IsListed (Ok os) l = l ≡ Lists (map plain_obligation os.items)

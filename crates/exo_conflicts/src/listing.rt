@@ -2,20 +2,19 @@
 ghost use Rattle.std.specs.Prelude.{◌≡◌, ◌++◌, ◌∷◌, [], ◌≤◌, ◌^◌, ◌&&◌, IsTrue, true, ⊤, map};
 ghost use Rattle.std.specs.List.{list_all};
 ghost use Rattle.affine_systems.specs.Systems.{cases_stated};
-ghost use Rattle.affine_systems.specs.Outcomes.{IsAnswer, plain_obligation};
+ghost use Rattle.affine_systems.specs.Outcomes.{IsAnswer};
 ghost use Rattle.exo_effects.specs.Accesses.{access_of, use_fits};
 ghost use Rattle.exo_effects.specs.Conflicts.{meeting, against, clashing, owed_behind, conflicts_of};
 ghost use Rattle.exo_effects.specs.Fresh.{past_formula, past_all};
 ghost use Rattle.exo_effects.specs.PlainUses.{plain_use, plain_uses};
-ghost use Rattle.exo_conflicts.specs.Outcomes.{access_is_low, order_is_low, order_fits, all_fit, clashing_with, Exactly, Owes, Pushed, IsListed, Conflicting};
+ghost use Rattle.exo_conflicts.specs.Outcomes.{access_is_low, order_is_low, order_fits, all_fit, clashing_with, Exactly, Owes, IsListed, Conflicting};
 ghost use Rattle.exo_conflicts.specs.PlainCopies.{plain_order};
 
 use crate::asked::{put_meeting, put_order, see_that_they_fit};
 use crate::order::Order;
 use crate::pairs::{against, modes_clash};
 use affine_forms::FormError;
-use affine_systems::{Context, Obligation, systems_together};
-use bounds_check::{CheckError, Owed};
+use affine_systems::{Context, Obligation, OwedList, systems_together};
 use exo_effects::Access;
 use exo_tree::Path;
 use std::alloc::Global;
@@ -54,18 +53,6 @@ fn owed_for<C: Contexts>(
     systems_together(alloc, &context, &what, place)
 }
 
-/// Puts obligations last. `TooManySystems` where one passes a limit.
-fn owe(out: &mut Owed, more: Vec<Obligation>) -> Result<(), FormError>
-    ensures { Pushed result out.old (map plain_obligation more.items) out.new }
-{
-    match out.push_all(more) {
-        Ok(()) => Ok(()),
-        Err(CheckError::TooManyObligations) => Err(FormError::TooManySystems),
-        Err(CheckError::Form(e)) => Err(e),
-        Err(CheckError::Memory) => Err(FormError::Memory),
-    }
-}
-
 /// Puts what two accesses owe last.
 fn owe_pair<C: Contexts>(
     alloc: Global,
@@ -74,7 +61,7 @@ fn owe_pair<C: Contexts>(
     place: &Path,
     x: &Access<'_>,
     y: &Access<'_>,
-    out: &mut Owed,
+    out: &mut OwedList,
 ) -> Result<(), FormError>
     requires order { IsTrue (order_is_low order.now) }
     requires first { IsTrue (access_is_low x.now) }
@@ -83,7 +70,7 @@ fn owe_pair<C: Contexts>(
     ensures { Owes (C.known contexts.now) (plain_order order.now) place.now result ((access_of (plain_use x.now), access_of (plain_use y.now)) ∷ []) out.old out.new }
 {
     let more = owed_for(alloc, contexts, order, place, x, y)?;
-    owe(out, more)
+    out.push_all(more)
 }
 
 /// Puts what two accesses owe last, where they may clash.
@@ -94,7 +81,7 @@ fn owe_clash<C: Contexts>(
     place: &Path,
     x: &Access<'_>,
     y: &Access<'_>,
-    out: &mut Owed,
+    out: &mut OwedList,
 ) -> Result<(), FormError>
     requires order { IsTrue (order_is_low order.now) }
     requires first { IsTrue (access_is_low x.now) }
@@ -117,7 +104,7 @@ fn owe_against<C: Contexts>(
     place: &Path,
     x: &Access<'_>,
     others: &[Access<'_>],
-    out: &mut Owed,
+    out: &mut OwedList,
 ) -> Result<(), FormError>
     requires order { IsTrue (order_is_low order.now) }
     requires first { IsTrue (access_is_low x.now) }
@@ -139,7 +126,7 @@ fn owe_all<C: Contexts>(
     place: &Path,
     first: &[Access<'_>],
     second: &[Access<'_>],
-    out: &mut Owed,
+    out: &mut OwedList,
 ) -> Result<(), FormError>
     requires order { IsTrue (order_is_low order.now) }
     requires first { IsTrue (list_all access_is_low first.now) }
@@ -168,7 +155,7 @@ fn owed_together<C: Contexts>(
     requires fits { all_fit order.now (plain_uses first.now) (plain_uses second.now) ≡ true }
     ensures { IsListed result (owed_behind (C.known contexts.now) (plain_order order.now) place.now (2 ^ 31) [] (clashing (map access_of (plain_uses first.now)) (map access_of (plain_uses second.now)))) }
 {
-    let mut out = Owed::new(alloc);
+    let mut out = OwedList::new(alloc);
     owe_all(alloc, contexts, order, place, first, second, &mut out)?;
     Ok(out.into_items())
 }

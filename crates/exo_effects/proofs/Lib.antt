@@ -6,3 +6,4 @@ pub mod Arguments
 pub mod LowProcedures
 pub mod LowUses
 pub mod Points
+mod Given

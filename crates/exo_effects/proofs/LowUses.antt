@@ -1,10 +1,12 @@
 -- The uses of a piece of a low procedure are low.
-use Rattle.std.proofs.Common.{◌≡◌, ◌^◌, nat_lt, ℕ, ◌==◌, Bool, true, false, ◌&&◌, List, [], ◌∷◌, ◌++◌, map, Option, Some, None, option_map, refl, ap, ◌∙◌}
+use Rattle.std.proofs.Common.{◌≡◌, ◌^◌, nat_lt, ℕ, zero, suc, ◌==◌, Bool, true, false, ◌&&◌, List, [], ◌∷◌, ◌++◌, map, Option, Some, None, option_map, refl, ap, ◌∙◌}
 use Rattle.std.specs.List.{list_all}
-use Rattle.std.specs.Prelude.{if◌then◌else◌}
+use Rattle.std.specs.Prelude.{if◌then◌else◌, slice_get}
 use Rattle.exo_tree.specs.Tree.{Binder, Control, Var, Le, Lt, Datum, Const, Read, Negated, Relu, Plus, Minus, Times, Select, Coord, At, Span, Argument, ControlArg, ConditionArg, Whole, Window, Statement, Assign, Reduce, Config, Pass, If, For, Alloc, View, Call, Block, end, next, joined, Param, ParamKind, ControlParam, TensorParam, WindowParam}
+use Rattle.exo_tree.specs.Tree.{Procedure, Program}
+use Rattle.exo_tree.specs.Calls.{passed_by, call_arguments}
 use Rattle.exo_tree.specs.Context.{Context, Here, After, InLoop, InThen, InElse, fill}
-use Rattle.exo_tree.specs.Places.{Opened, opened}
+use Rattle.exo_tree.specs.Places.{Path, Opened, opened}
 use Rattle.exo_meaning.specs.Modes as meaning
 use Rattle.exo_meaning.specs.Modes.{Mode, Reading, Writing, Reducing}
 use Rattle.exo_meaning.specs.Scene.{updated}
@@ -12,11 +14,14 @@ use Rattle.meaning_laws.specs.Facts.{Fact, Holds, Fails, is_plain_condition, wit
 use Rattle.meaning_laws.proofs.Places.{opened_law}
 use Rattle.inplace_laws.specs.Windows.{shifted, joined_coords}
 use Rattle.text_show.specs.Layout.{Text}
+use Rattle.text_show.specs.StatementText.{argument_text}
 use Rattle.text_show.specs.Words.{Words, words_of}
 use Rattle.affine_forms.proofs.Values.{and_parts}
 use Rattle.exo_effects.specs.Parts.{Part, Parts, no_parts, all_of, whole_of, window_of, with_kind, with_params, passed, passed_inside, parts_at}
 use Rattle.exo_effects.specs.Uses.{Use, Inside, in_loop, in_branch, past_statement, use_of, uses_of, cell_of, part_of_argument, modes_had, cell_uses, data_uses, argument_uses, arguments_uses, block_uses, step_uses, params_of, modes_of, at_hole, uses_in}
-use Rattle.exo_effects.specs.Low.{is_low, condition_is_low, coord_is_low, fact_is_low, use_is_low, uses_are_low, datum_is_low, argument_is_low, kind_is_low, block_is_low, statement_is_low, UsesLowLaw}
+use Rattle.exo_effects.specs.Uses.{argument_in}
+use Rattle.exo_effects.specs.Low.{is_low, condition_is_low, coord_is_low, fact_is_low, use_is_low, uses_are_low, datum_is_low, argument_is_low, kind_is_low, block_is_low, statement_is_low, procedure_is_low}
+use Rattle.exo_effects.specs.Low.{UsesLowLaw, PassedLowLaw}
 use Rattle.exo_effects.proofs.LowProcedures.{both_true}
 
 abbrev low_id : ℕ → Bool
@@ -281,13 +286,67 @@ module _ (w : Words) (params : ℕ → List Param) (modes : ℕ → meaning.Mode
     step_low at (View v x coords) g h = refl
     step_low at (Call k args) g h = arguments_low at (modes k) (params k) args g h
 
+-- ---- in a procedure
+
+module _ (u : Program) (p : Procedure) (path : Path) (count : ℕ) (h : procedure_is_low p ≡ true) where
+  module _ (o : Opened) (e : opened count path p.body ≡ Some o) where
+    piece_low : (block_is_low o.piece ≡ true) × IsLowAt (at_hole u p o)
+    piece_low =
+        let q = and_parts (list_all (λ q. kind_is_low q.kind) p.params) (block_is_low p.body) h in
+        let whole = ap block_is_low (opened_law count path p.body o e) ∙ q.1 in
+        let named = params_low p.params no_parts q.0 (λ x. refl) in
+        let r = hole_low o.around o.piece (with_params p.params no_parts) whole named in
+        (r.0, record { parts = r.1; own = refl; round = refl })
+
 pub uses_stay_low : UsesLowLaw
 uses_stay_low u p path count h = found (opened count path p.body) refl
   where
-    found : (x : Option Opened) → opened count path p.body ≡ x → uses_are_low (elim x [ None ↦ [] | Some o ↦ uses_in u p o ]) ≡ true
+    found : (x : Option Opened) → opened count path p.body ≡ x
+        → uses_are_low (elim x [ None ↦ [] | Some o ↦ uses_in u p o ]) ≡ true
     found None e = refl
     found (Some o) e =
-        let q = and_parts (list_all (λ q. kind_is_low q.kind) p.params) (block_is_low p.body) h in
-        let whole = ap block_is_low (opened_law count path p.body o e) ∙ q.1 in
-        let r = hole_low o.around o.piece (with_params p.params no_parts) whole (params_low p.params no_parts q.0 (λ x. refl)) in
-        block_low (words_of u p) (params_of u) (modes_of u) (at_hole u p o) o.piece (record { parts = r.1; own = refl; round = refl }) r.0
+        let r = piece_low u p path count h o e in
+        block_low (words_of u p) (params_of u) (modes_of u) (at_hole u p o) o.piece r.1 r.0
+
+-- the arguments of the call with which a block begins
+arguments_of_low : (b : Block) → block_is_low b ≡ true
+    → list_all argument_is_low (call_arguments b) ≡ true
+arguments_of_low end h = refl
+arguments_of_low (next a b) h = of_low a (and_parts (statement_is_low a) (block_is_low b) h).0
+  where
+    of_low : (a : Statement) → statement_is_low a ≡ true
+        → list_all argument_is_low (passed_by a) ≡ true
+    of_low (Assign x is e) h = refl
+    of_low (Reduce x is e) h = refl
+    of_low (Config f v) h = refl
+    of_low Pass h = refl
+    of_low (If c a b) h = refl
+    of_low (For i lo hi b) h = refl
+    of_low (Alloc x cell dims memory) h = refl
+    of_low (View v x coords) h = refl
+    of_low (Call k args) h = h
+
+-- one of them as a whole
+one_low : (w : Words) (at : Inside) (args : List Argument) (k : ℕ) → IsLowAt at
+    → list_all argument_is_low args ≡ true
+    → uses_are_low (elim (slice_get args k) [
+      | None ↦ []
+      | Some a ↦ uses_of at (argument_text w a) (part_of_argument at.parts a) (Writing ∷ [])
+    ]) ≡ true
+one_low w at [] k g h = refl
+one_low w at (a ∷ args) zero g h =
+    uses_of_low at (argument_text w a) (part_of_argument at.parts a) (Writing ∷ []) g
+    (argument_low at.parts a g.parts (and_parts (argument_is_low a) (list_all argument_is_low args) h).0)
+one_low w at (a ∷ args) (suc k) g h =
+    one_low w at args k g (and_parts (argument_is_low a) (list_all argument_is_low args) h).1
+
+pub passed_stays_low : PassedLowLaw
+passed_stays_low u p path k h = found (opened 1 path p.body) refl
+  where
+    found : (x : Option Opened) → opened 1 path p.body ≡ x
+        → uses_are_low (elim x [ None ↦ [] | Some o ↦ argument_in u p o k ]) ≡ true
+    found None e = refl
+    found (Some o) e =
+        let r = piece_low u p path 1 h o e in
+        one_low (words_of u p) (at_hole u p o) (call_arguments o.piece) k r.1
+        (arguments_of_low o.piece r.0)

@@ -12,7 +12,7 @@ use Rattle.exo_meaning.specs.Units.{IsProcedure}
 use Rattle.meaning_laws.specs.Facts.{Fact, Holds, Fails}
 use Rattle.affine_forms.specs.Forms.{Allowed, is_affine}
 use Rattle.affine_forms.specs.Formulas.{AllowedFlags, is_affine_condition}
-use Rattle.exo_effects.specs.Uses.{Use, uses_at}
+use Rattle.exo_effects.specs.Uses.{Use, uses_at, argument_at}
 
 -- ---- expressions
 
@@ -104,3 +104,10 @@ UsesLowLaw =
     (u : Program) (p : Procedure) (path : Path) (count : ℕ)
     → procedure_is_low p ≡ true
     → uses_are_low (uses_at u p path count) ≡ true
+
+-- and what each call of one passes
+abbrev pub PassedLowLaw : Type 0
+PassedLowLaw =
+    (u : Program) (p : Procedure) (path : Path) (k : ℕ)
+    → procedure_is_low p ≡ true
+    → uses_are_low (argument_at u p path k) ≡ true

@@ -1,5 +1,5 @@
 -- Two copies of the loop variables of a step, and how they stand to each other.
-use Rattle.std.specs.Prelude.{ℕ, List, map}
+use Rattle.std.specs.Prelude.{ℕ, List, [], map}
 use Rattle.exo_tree.specs.Tree.{Binder, Control}
 use Rattle.affine_forms.specs.Atoms.{Linear}
 use Rattle.exo_effects.specs.Accesses.{plain_form}
@@ -20,6 +20,10 @@ pub record Order : Type 0 where
   pub first : List Turn
   pub second : List Turn
   pub rows : List OrderRow
+
+-- no loops
+abbrev pub no_order : Order
+no_order = record { first = []; second = []; rows = [] }
 
 -- ---- of loops
 

@@ -6,6 +6,7 @@ use Rattle.exo_tree.specs.Tree.{Negated, Relu, Plus, Minus, Times, Select, Coord
 use Rattle.exo_tree.specs.Tree.{ControlArg, ConditionArg, Whole, Window, Statement, Assign, Reduce}
 use Rattle.exo_tree.specs.Tree.{Config, Pass, If, For, Alloc, View, Call, Block, end, next, Param}
 use Rattle.exo_tree.specs.Tree.{Procedure, Program}
+use Rattle.exo_tree.specs.Calls.{call_arguments}
 use Rattle.exo_tree.specs.Places.{Path, Opened, opened}
 use Rattle.exo_meaning.specs.Run.{kinds_of}
 use Rattle.exo_meaning.specs.Modes.{Mode, Reading, Writing, Reducing, Modes, unit_modes}
@@ -142,6 +143,20 @@ module _ (u : Program) (p : Procedure) where
 
   abbrev pub uses_in : Opened → List Use
   uses_in o = block_uses (words_of u p) (params_of u) (modes_of u) (at_hole o) o.piece
+
+  -- the whole of argument k of the call with which the piece begins, as if it were written; nothing
+  -- is around it. None where no such argument is there, or where it is no buffer
+  abbrev pub argument_in : Opened → ℕ → List Use
+  argument_in o k = elim (slice_get (call_arguments o.piece) k) [
+    | None ↦ []
+    | Some a ↦
+        uses_of (at_hole o) (argument_text (words_of u p) a)
+        (part_of_argument (at_hole o).parts a) (Writing ∷ [])
+  ]
+
+  -- of the call at the path
+  abbrev pub argument_at : Path → ℕ → List Use
+  argument_at path k = elim (opened 1 path p.body) [ None ↦ [] | Some o ↦ argument_in o k ]
 
   -- of so many statements from a path on; none where they are not there
   abbrev pub uses_at : Path → ℕ → List Use

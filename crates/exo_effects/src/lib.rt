@@ -6,6 +6,7 @@ mod guards;
 mod inside;
 pub mod laws;
 mod parts;
+mod passed;
 mod piece;
 mod plain;
 mod uses;
@@ -14,4 +15,5 @@ mod windows;
 
 pub use access::{Access, AccessCoord, Mode};
 pub use guards::Guard;
+pub use passed::argument;
 pub use piece::accesses;

@@ -25,8 +25,8 @@ use text_show::Words;
 /// Where some statements stand: in a block, from an index on.
 #[derive(Clone, Copy)]
 pub(crate) struct Spot<'a> {
-    block: &'a Block,
-    from: usize,
+    pub(crate) block: &'a Block,
+    pub(crate) from: usize,
 }
 
 /// Goes past the first statements of a block.
@@ -85,7 +85,7 @@ fn descend<'a>(
 }
 
 /// Goes to so many statements of a body from a path on; None exactly where they are not there.
-fn find<'a>(
+pub(crate) fn find<'a>(
     alloc: Global,
     parts: &mut Parts,
     body: &'a Block,

@@ -5,7 +5,7 @@ use Rattle.exo_tree.specs.Tree.{Control, Datum, Const, Read, Negated, Relu, Plus
 use Rattle.exo_meaning.specs.Value.{Value, Undefined, stored_as, on_one, on_two, on_four, relu, selected}
 use Rattle.exo_meaning.specs.Scene.{Shape, Seen, then_do, numbers, holds, where_true, window, updated}
 use Rattle.exo_meaning.specs.State.{State, Cells, Place, place, held, is_there, changed, put, value, kept, left, scoped, on_scene, with_control, with_field, with_view, with_contents, with_buffer}
-use Rattle.exo_meaning.specs.Calls.{Callee, all_given, entered, returned, run_asserted, suits, all_positive}
+use Rattle.exo_meaning.specs.Calls.{Callee, keeps_apart, copied_call, all_given, entered, returned, run_asserted, suits, all_positive}
 use Rattle.exo_meaning.specs.Run.{World, run, step, assign, reduce, call_to, turn, turns, turns_of, choose, argument_number, tensor}
 use Rattle.exo_meaning.specs.Footprint.{Entry, listed, all_read, written, reduced_as, reduced, reads, IsFixed, further, chosen, turns_touch, footprint, step_footprint, Change, under, changed_by, Passes, LeavesOthers, Exchanges}
 use Rattle.exo_meaning.specs.Orders.{Each}
@@ -39,7 +39,7 @@ turns_grow i body (n ∷ ns) s = if_then (Grows s) (Grows s) (turn i body n s) (
 
 call_grows : (o : Option Callee) (args : List Argument) (s : State) → IfSome (call_to o args s) (Grows s)
 call_grows None args s = tt
-call_grows (Some c) args s = if_then (λ gs. Unit {0}) (Grows s) (all_given s.scene args) _ (any (all_given s.scene args)) (λ gs u. if_then (λ t. Unit {0}) (Grows s) (entered c.procedure.params gs s) _ (any (entered c.procedure.params gs s)) (λ t v. if_map (λ w. Unit {0}) (Grows s) (run_asserted c t) (returned c gs s) (any (run_asserted c t)) (λ w z x e. e)))
+call_grows (Some c) args s = if_where (Grows s) (keeps_apart c s.scene args) (copied_call c args s) (if_then (λ gs. Unit {0}) (Grows s) (all_given s.scene args) _ (any (all_given s.scene args)) (λ gs u. if_then (λ t. Unit {0}) (Grows s) (entered c.procedure.params gs s) _ (any (entered c.procedure.params gs s)) (λ t v. if_map (λ w. Unit {0}) (Grows s) (run_asserted c t) (returned c gs s) (any (run_asserted c t)) (λ w z x e. e))))
 
 made_grows : (views : Option Shape) (t : Bool) (shape : Shape) → cond t (Some shape) views ≡ None → views ≡ None
 made_grows o true shape e = absurd (none_some (sym e))

@@ -5,7 +5,7 @@ use Rattle.exo_tree.specs.Tree.{Control, Coord, Argument, ControlArg, ConditionA
 use Rattle.exo_meaning.specs.Value.{Value, Undefined, stored_as, on_two}
 use Rattle.exo_meaning.specs.Scene.{then_do, Shape, Seen, Scene, updated, numbers, holds, narrowed, window, where_true, cell_at, index_of}
 use Rattle.exo_meaning.specs.State.{State, Cells, Place, place, is_there, put, value, kept, left, scoped, on_scene, with_control, with_field, with_contents, with_buffer, same_index}
-use Rattle.exo_meaning.specs.Calls.{Callee, GivenView, given, all_given, value_or, copy_back, copied_back, returned, entered, run_asserted, suits, all_positive}
+use Rattle.exo_meaning.specs.Calls.{Callee, keeps_apart, copied_call, GivenView, given, all_given, value_or, copy_back, copied_back, returned, entered, run_asserted, suits, all_positive}
 use Rattle.exo_meaning.specs.Run.{World, run, step, turn, turns, turns_of, choose, argument_number, call_to, roots_after, is_root, call_writes, call_to_writes, writes, step_writes, tensor}
 use Rattle.exo_meaning.specs.Laws.{HasRoots, IsKept, OthersAreKept}
 
@@ -162,12 +162,12 @@ module _ (world : World) (y : ℕ) where
   call_kept : (root : ℕ → ℕ) (s : State) (roots : HasRoots root s.scene) (o : Option Callee) (args : List Argument) → call_to_writes o root y args ≡ false → IfSome (call_to o args s) (After root y s)
   call_kept root s roots None args h = tt
   call_kept root s roots (Some callee) args h =
-      if_then (λ gs. (d c : Cells) → copied_back callee.writes callee.procedure.params gs d c y ≡ c y) (After root y s) (all_given s.scene args) _ (all_kept root s.scene roots y callee.writes callee.procedure.params args h) (λ gs k.
+      if_where (After root y s) (keeps_apart callee s.scene args) (copied_call callee args s) (if_then (λ gs. (d c : Cells) → copied_back callee.writes callee.procedure.params gs d c y ≡ c y) (After root y s) (all_given s.scene args) _ (all_kept root s.scene roots y callee.writes callee.procedure.params args h) (λ gs k.
       if_then (λ inner. Unit {0}) (After root y s) (entered callee.procedure.params gs s) _ (any (entered callee.procedure.params gs s)) (λ inner u.
       if_map (λ done. Unit {0}) (After root y s) (run_asserted callee inner) (returned callee gs s) (any (run_asserted callee inner)) (λ done v. record {
         is_kept = record { shape = refl; cells = k done.cells s.cells };
         roots = roots;
-      })))
+      }))))
 
   mutual
     run_keeps : (b : Block) (root : ℕ → ℕ) → writes world root b y ≡ false → Keeps y root (run world b)

@@ -8,7 +8,7 @@ use Rattle.exo_meaning.specs.Value.{Value, Undefined, stored_as, on_one, on_two,
 use Rattle.exo_meaning.specs.Scene.{is_set, Shape, Seen, Side, Point, Range, then_do, number, numbers, holds, stride_at, strides_seen, strides_of, where_true, window, narrowed, cell_at, updated, is_below, whole, extents, index_of}
 use Rattle.exo_meaning.specs.State.{State, Cells, Place, place, held, is_there, same_index, changed, put, value, kept, left, scoped, on_scene, with_control, with_field, with_view, with_contents, with_buffer}
 use Rattle.exo_meaning.specs.Run.{World, run, step, argument_number, turn, turns, turns_of, range, count, choose, call_to, tensor}
-use Rattle.exo_meaning.specs.Calls.{Callee, Given, GivenNumber, GivenView, given, all_given, suits, all_positive, truth, bind_numbers, copy_in, bind_buffer, bind_buffers, bare, entered, held_at, value_or, copy_back, copied_back, returned, run_asserted, call}
+use Rattle.exo_meaning.specs.Calls.{Callee, given_all_apart, keeps_apart, copied_call, Given, GivenNumber, GivenView, given, all_given, suits, all_positive, truth, bind_numbers, copy_in, bind_buffer, bind_buffers, bare, entered, held_at, value_or, copy_back, copied_back, returned, run_asserted, call}
 use Rattle.exo_meaning.specs.Refines.{Both, Respects}
 use Rattle.exo_meaning.specs.Unseen.{in_control, in_controls, in_condition, in_datum, in_coords, in_argument, in_arguments, in_statement, in_block, SameBut, RunsIgnoreUnmentioned}
 use Rattle.exo_meaning.proofs.Both.{both_then, both_map, both_then_same, both_map_same, both_where}
@@ -263,8 +263,9 @@ module _ (hidden : ℕ → Bool) (s t : State) (h : SameBut hidden s t) where
   call_same : (o : Option Callee) (args : List Argument) → in_arguments hidden args ≡ false → Both (SameBut hidden) (call_to o args s) (call_to o args t)
   call_same None args k = tt
   call_same (Some callee) args k =
-      subst (λ q. Both (SameBut hidden) (call callee args s) (then_do q (λ gs. then_do (entered callee.procedure.params gs t) (λ inner. option_map (returned callee gs t) (run_asserted callee inner))))) (all_given_same args k)
-      (by_given (all_given s.scene args) (all_given_open args k))
+      subst (λ q. Both (SameBut hidden) (call callee args s) (where_true (given_all_apart callee.writes callee.procedure.params q) (then_do q (λ gs. then_do (entered callee.procedure.params gs t) (λ inner. option_map (returned callee gs t) (run_asserted callee inner)))))) (all_given_same args k)
+      (both_where (SameBut hidden) (keeps_apart callee s.scene args) (copied_call callee args s) _
+      (by_given (all_given s.scene args) (all_given_open args k)))
     where
       by_entered : (gs : List Given) (o : Option State) → Both (SameBut hidden) (then_do o (λ inner. option_map (returned callee gs s) (run_asserted callee inner))) (then_do o (λ inner. option_map (returned callee gs t) (run_asserted callee inner)))
       by_entered gs o = both_then_same (SameBut hidden) o _ _ (λ inner. both_map_same (SameBut hidden) (run_asserted callee inner) (returned callee gs s) (returned callee gs t) (λ done. record {

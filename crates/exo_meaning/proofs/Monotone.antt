@@ -4,7 +4,7 @@ use Rattle.exo_tree.specs.Tree.{Cell, Control, Argument, Datum, Const, Read, Neg
 use Rattle.exo_meaning.specs.Value.{Value, Undefined, Number, IsRefinedBy, stored_as, on_one, on_two, on_four, relu, selected}
 use Rattle.exo_meaning.specs.Scene.{Shape, Scene, numbers, holds, cell_at, index_of, where_true, window}
 use Rattle.exo_meaning.specs.State.{State, Cells, Place, place, held, is_there, put, value, kept, left, scoped, with_control}
-use Rattle.exo_meaning.specs.Calls.{Callee, Given, GivenNumber, GivenView, held_at, copy_in, bind_buffer, bind_buffers, bind_numbers, entered, value_or, copy_back, copied_back, all_hold, run_asserted, call, all_given}
+use Rattle.exo_meaning.specs.Calls.{Callee, keeps_apart, Given, GivenNumber, GivenView, held_at, copy_in, bind_buffer, bind_buffers, bind_numbers, entered, value_or, copy_back, copied_back, all_hold, run_asserted, call, all_given}
 use Rattle.exo_meaning.specs.Run.{unit_world, World, run, step, assign, reduce, configure, view, call_to, turn, turns, turns_of, choose, argument_number, callees, callee_in, world_of}
 use Rattle.exo_meaning.specs.Refines.{Both, AreRelated, StatesRelated, Respects, CalleesRespect}
 use Rattle.exo_meaning.specs.Laws.{RunsAreMonotone, DataIsApart}
@@ -171,12 +171,12 @@ module _ (V : Value → Value → Type 0) (closed : IsClosed V) where
 
   call_respects : (callee : Callee) (args : List Argument) → Respects (StatesRelated V) callee.run → Respects (StatesRelated V) (call callee args)
   call_respects callee args k = to_equal_scenes (call callee args) (λ scene c d h.
-      both_then_same (StatesRelated V) (all_given scene args) _ _ (λ gs.
+      both_where (StatesRelated V) (keeps_apart callee scene args) _ _ (both_then_same (StatesRelated V) (all_given scene args) _ _ (λ gs.
       both_then (StatesRelated V) (StatesRelated V) _ _ _ _ (entered_refined scene c d h callee.procedure.params gs) (λ s t st.
       both_map (StatesRelated V) (StatesRelated V) _ _ _ _ (asserted_respects callee k s t st) (λ a b ab. record {
         scene = ap (λ sc. record scene { fields = sc.fields }) ab.scene;
         cells = all_back_refined callee.writes callee.procedure.params gs a.cells b.cells c d ab.cells h;
-      }))))
+      })))))
 
   -- ---- trees
 

@@ -1,14 +1,14 @@
 -- A run under other ids.
-use Rattle.std.proofs.Common.{◌≡◌, ℕ, ℤ, pos, neg_ℤ, ◌+ℤ◌, ◌-ℤ◌, ◌*ℤ◌, ◌==◌, int_lt, int_le, Bool, true, false, cond, ◌&&◌, ◌||◌, List, [], ◌∷◌, Option, Some, None, option_map, refl, sym, ap, ap₂, ◌∙◌, eqb-true, eq-eqb}
+use Rattle.std.proofs.Common.{◌≡◌, ℕ, ℤ, pos, neg_ℤ, ◌+ℤ◌, ◌-ℤ◌, ◌*ℤ◌, ◌==◌, int_lt, int_le, Bool, true, false, cond, not, ◌&&◌, ◌||◌, List, [], ◌∷◌, Option, Some, None, option_map, refl, sym, ap, ap₂, ◌∙◌, eqb-true, eq-eqb}
 use Rattle.std.proofs.Math.Path.{fun_ext}
 use Rattle.std.specs.Ordering.{int_eq}
 use Rattle.std.specs.Int.{int_div_euclid, int_rem_euclid}
 use Rattle.std.specs.Bool.{one_answer}
 use Rattle.exo_tree.specs.Tree.{Cell, Param, ParamKind, ControlParam, TensorParam, WindowParam, Control, Lit, Var, Field, StrideOf, Neg, Add, Sub, Mul, Div, Mod, Condition, True, False, Flag, FieldFlag, Lt, Le, Gt, Ge, Eq, And, Or, Datum, Const, Read, Negated, Relu, Plus, Minus, Times, Select, Coord, At, Span, Argument, ControlArg, ConditionArg, Whole, Window, Statement, Assign, Reduce, Config, Pass, If, For, Alloc, View, Call, Block, end, next}
 use Rattle.exo_meaning.specs.Value.{Value, Undefined, stored_as, on_one, on_two, on_four, relu, selected}
-use Rattle.exo_meaning.specs.Scene.{is_set, Shape, Seen, Side, Point, Range, Scene, then_do, number, numbers, holds, stride_at, strides_seen, where_true, window, narrowed, cell_at, updated, is_below, whole, extents, index_of}
+use Rattle.exo_meaning.specs.Scene.{is_set, Shape, Seen, Side, Point, Range, Scene, then_do, number, numbers, holds, stride_at, strides_seen, where_true, window, narrowed, all_meet, cell_at, updated, is_below, whole, extents, index_of}
 use Rattle.exo_meaning.specs.State.{State, Cells, Place, place, held, same_index, changed, put, value, left, scoped, on_scene, with_control, with_field, with_view, with_contents, with_buffer}
-use Rattle.exo_meaning.specs.Calls.{Callee, Given, GivenNumber, GivenView, given, all_given, truth, suits, all_positive, bind_number, bind_numbers, copy_in, bind_buffer, bind_buffers, bare, entered, held_at, value_or, copy_back, copied_back, returned, run_asserted}
+use Rattle.exo_meaning.specs.Calls.{Callee, given_apart, apart_from, all_apart, given_all_apart, keeps_apart, copied_call, Given, GivenNumber, GivenView, given, all_given, truth, suits, all_positive, bind_number, bind_numbers, copy_in, bind_buffer, bind_buffers, bare, entered, held_at, value_or, copy_back, copied_back, returned, run_asserted}
 use Rattle.exo_meaning.specs.Run.{World, run, step, allocate, call_to, turn, turns, turns_of, range, count, choose, argument_number, tensor}
 use Rattle.exo_meaning.specs.Renaming.{RunsRename, Renaming, re_control, re_controls, re_condition, re_datum, re_coords, re_argument, re_arguments, re_statement, re_block, re_seen, re_scene, re_state, re_place}
 
@@ -219,9 +219,8 @@ module _ (r : Renaming) where
   all_back_re w (p ∷ ps) [] copies c = refl
   all_back_re w (p ∷ ps) (g ∷ gs) copies c = ap (copied_back w ps (re_givens gs) copies) (back_re (w p.binder.id) g (copies p.binder.id) c) ∙ all_back_re w ps gs copies (copy_back (w p.binder.id) g (copies p.binder.id) c)
 
-  call_re : (o : Option Callee) (args : List Argument) (s : State) → call_to o (re_arguments r args) (re_state r s) ≡ option_map (re_state r) (call_to o args s)
-  call_re None args s = refl
-  call_re (Some callee) args s = ap (λ o. then_do o (λ gs. then_do (entered callee.procedure.params gs (re_state r s)) (λ inner. option_map (returned callee gs (re_state r s)) (run_asserted callee inner)))) (all_given_re s.scene args) ∙ by_given (all_given s.scene args)
+  copied_re : (callee : Callee) (args : List Argument) (s : State) → copied_call callee (re_arguments r args) (re_state r s) ≡ option_map (re_state r) (copied_call callee args s)
+  copied_re callee args s = ap (λ o. then_do o (λ gs. then_do (entered callee.procedure.params gs (re_state r s)) (λ inner. option_map (returned callee gs (re_state r s)) (run_asserted callee inner)))) (all_given_re s.scene args) ∙ by_given (all_given s.scene args)
     where
       by_run : (gs : List Given) (o : Option State) → option_map (returned callee (re_givens gs) (re_state r s)) o ≡ option_map (re_state r) (option_map (returned callee gs s) o)
       by_run gs None = refl
@@ -234,6 +233,36 @@ module _ (r : Renaming) where
       by_given : (o : Option (List Given)) → then_do (option_map re_givens o) (λ gs. then_do (entered callee.procedure.params gs (re_state r s)) (λ inner. option_map (returned callee gs (re_state r s)) (run_asserted callee inner))) ≡ option_map (re_state r) (then_do o (λ gs. then_do (entered callee.procedure.params gs s) (λ inner. option_map (returned callee gs s) (run_asserted callee inner))))
       by_given None = refl
       by_given (Some gs) = ap (λ o. then_do o (λ inner. option_map (returned callee (re_givens gs) (re_state r s)) (run_asserted callee inner))) (entered_re s callee.procedure.params gs) ∙ by_entered gs (entered callee.procedure.params gs s)
+
+  apart_re : (g h : Given) → given_apart (re_given g) (re_given h) ≡ given_apart g h
+  apart_re (GivenNumber n) h = refl
+  apart_re (GivenView z) (GivenNumber n) = refl
+  apart_re (GivenView z) (GivenView y) = ap (λ t. not (t && all_meet z.sides y.sides)) (same_test (r.to z.buffer) y.buffer ∙ ap (λ b. b == y.buffer) (r.from_to z.buffer))
+
+  apart_from_re : (w : ℕ → Bool) (x : ℕ) (g : Given) (ps : List Param) (gs : List Given) → apart_from w x (re_given g) ps (re_givens gs) ≡ apart_from w x g ps gs
+  apart_from_re w x g [] gs = refl
+  apart_from_re w x g (q ∷ qs) [] = refl
+  apart_from_re w x g (q ∷ qs) (h ∷ hs) = ap₂ (λ t u. (not (w x || w q.binder.id) || t) && u) (apart_re g h) (apart_from_re w x g qs hs)
+
+  all_apart_re : (w : ℕ → Bool) (ps : List Param) (gs : List Given) → all_apart w ps (re_givens gs) ≡ all_apart w ps gs
+  all_apart_re w [] gs = refl
+  all_apart_re w (p ∷ ps) [] = refl
+  all_apart_re w (p ∷ ps) (g ∷ gs) = ap₂ (λ t u. t && u) (apart_from_re w p.binder.id g ps gs) (all_apart_re w ps gs)
+
+  keeps_apart_re : (callee : Callee) (scene : Scene) (args : List Argument) → keeps_apart callee (re_scene r scene) (re_arguments r args) ≡ keeps_apart callee scene args
+  keeps_apart_re callee scene args = ap (given_all_apart callee.writes callee.procedure.params) (all_given_re scene args) ∙ go (all_given scene args)
+    where
+      go : (o : Option (List Given)) → given_all_apart callee.writes callee.procedure.params (option_map re_givens o) ≡ given_all_apart callee.writes callee.procedure.params o
+      go None = refl
+      go (Some gs) = all_apart_re callee.writes callee.procedure.params gs
+
+  call_re : (o : Option Callee) (args : List Argument) (s : State) → call_to o (re_arguments r args) (re_state r s) ≡ option_map (re_state r) (call_to o args s)
+  call_re None args s = refl
+  call_re (Some callee) args s = ap₂ where_true (keeps_apart_re callee s.scene args) (copied_re callee args s) ∙ by_test (keeps_apart callee s.scene args)
+    where
+      by_test : (t : Bool) → where_true t (option_map (re_state r) (copied_call callee args s)) ≡ option_map (re_state r) (where_true t (copied_call callee args s))
+      by_test true = refl
+      by_test false = refl
 
   -- ---- trees
 

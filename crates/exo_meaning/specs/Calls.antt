@@ -1,8 +1,8 @@
 -- Calls by copies.
-use Rattle.std.specs.Prelude.{ℕ, ℤ, pos, ◌==◌, int_le, Bool, true, false, ◌&&◌, if◌then◌else◌, List, [], ◌∷◌, Option, Some, None, option_map}
+use Rattle.std.specs.Prelude.{ℕ, ℤ, pos, ◌==◌, int_le, Bool, true, false, not, ◌&&◌, ◌||◌, if◌then◌else◌, List, [], ◌∷◌, Option, Some, None, option_map, slice_get}
 use Rattle.exo_tree.specs.Tree.{Cell, Kind, Size, Index, Truth, Stride, Condition, Argument, ControlArg, ConditionArg, Whole, Window, Param, ParamKind, ControlParam, TensorParam, WindowParam, Procedure}
 use Rattle.exo_meaning.specs.Value.{Value, Undefined}
-use Rattle.exo_meaning.specs.Scene.{then_do, Seen, Scene, updated, number, numbers, holds, cell_at, index_of, extents, strides_seen, window, where_true}
+use Rattle.exo_meaning.specs.Scene.{then_do, Seen, Scene, updated, number, numbers, holds, cell_at, index_of, extents, strides_seen, window, where_true, are_apart}
 use Rattle.exo_meaning.specs.State.{State, Cells, same_index, with_buffer, with_contents, on_scene}
 
 -- a procedure with the run of its body, and the parameters that it writes or reduces
@@ -115,6 +115,44 @@ returned callee gs outer inner = record {
   cells = copied_back callee.writes callee.procedure.params gs inner.cells outer.cells;
 }
 
+-- ---- windows of one call
+
+abbrev pub given_apart : Given → Given → Bool
+given_apart (GivenNumber n) h = true
+given_apart (GivenView z) (GivenNumber n) = true
+given_apart (GivenView z) (GivenView y) = are_apart z y
+
+-- what is given for a parameter meets none of what is given for later ones, but where neither of the two is written
+abbrev pub apart_from : (ℕ → Bool) → ℕ → Given → List Param → List Given → Bool
+apart_from writes x g [] gs = true
+apart_from writes x g (q ∷ qs) [] = true
+apart_from writes x g (q ∷ qs) (h ∷ hs) = (not (writes x || writes q.binder.id) || given_apart g h) && apart_from writes x g qs hs
+
+abbrev pub all_apart : (ℕ → Bool) → List Param → List Given → Bool
+all_apart writes [] gs = true
+all_apart writes (p ∷ ps) [] = true
+all_apart writes (p ∷ ps) (g ∷ gs) = apart_from writes p.binder.id g ps gs && all_apart writes ps gs
+
+-- of arguments that are outside their buffers nothing is asked here
+abbrev pub given_all_apart : (ℕ → Bool) → List Param → Option (List Given) → Bool
+given_all_apart writes ps None = true
+given_all_apart writes ps (Some gs) = all_apart writes ps gs
+
+-- no two windows of which the callee writes or reduces one have a cell in common
+abbrev pub keeps_apart : Callee → Scene → List Argument → Bool
+keeps_apart callee scene args = given_all_apart callee.writes callee.procedure.params (all_given scene args)
+
+-- what is given for the argument of that number; None where there is none, or where it is outside
+abbrev pub given_at : Scene → List Argument → ℕ → Option Given
+given_at scene args k = then_do (slice_get args k) (given scene)
+
+-- arguments of those numbers have no cell in common, where both are given
+abbrev pub are_apart_at : Scene → List Argument → ℕ → ℕ → Bool
+are_apart_at scene args j k = elim (given_at scene args j) [
+  | None ↦ true
+  | Some g ↦ elim (given_at scene args k) [ None ↦ true | Some h ↦ given_apart g h ]
+]
+
 -- ---- the call
 
 abbrev pub all_hold : Scene → List Condition → Bool
@@ -124,6 +162,10 @@ all_hold scene (c ∷ cs) = holds scene c && all_hold scene cs
 abbrev pub run_asserted : Callee → State → Option State
 run_asserted callee s = where_true (all_hold s.scene callee.procedure.asserts) (callee.run s)
 
-abbrev pub call : Callee → List Argument → State → Option State
-call callee args s =
+-- by copies of the windows
+abbrev pub copied_call : Callee → List Argument → State → Option State
+copied_call callee args s =
     then_do (all_given s.scene args) (λ gs. then_do (entered callee.procedure.params gs s) (λ inner. option_map (returned callee gs s) (run_asserted callee inner)))
+
+abbrev pub call : Callee → List Argument → State → Option State
+call callee args s = where_true (keeps_apart callee s.scene args) (copied_call callee args s)

@@ -1,7 +1,7 @@
 -- The laws of runs, each the contract of a function in `laws`.
-use Rattle.std.specs.Prelude.{ℕ, ℤ, ◌≡◌, false, List, [], Option, Some, IsSome, IfSome}
+use Rattle.std.specs.Prelude.{ℕ, ℤ, ◌≡◌, true, false, List, [], Option, Some, IsSome, IfSome}
 use Rattle.exo_tree.specs.Tree.{Kind, Argument, Block, joined, Procedure, Control, Assign, Reduce, Statement, Const, end, next}
-use Rattle.exo_meaning.specs.Scene.{then_do, Seen, Scene}
+use Rattle.exo_meaning.specs.Scene.{then_do, Seen, Scene, are_apart, AreApart}
 use Rattle.exo_meaning.specs.State.{State, Place, place, is_there, on_scene, with_control}
 use Rattle.exo_meaning.specs.Run.{World, run, world_of, unit_world, writes, turn}
 use Rattle.exo_meaning.specs.Footprint.{Entry, footprint, IsTidy, IsClear}
@@ -30,6 +30,10 @@ StoresCommute = (world : World) (x y : ℕ) (is js : List Control) (m n : ℤ) (
 -- reductions, also into one cell
 abbrev pub ReductionsCommute : Type 0
 ReductionsCommute = (world : World) (x y : ℕ) (is js : List Control) (m n : ℤ) (s : State) → both_in_order world (Reduce x is (Const m)) (Reduce y js (Const n)) s ≡ both_in_order world (Reduce y js (Const n)) (Reduce x is (Const m)) s
+
+-- the test on windows of one call finds exactly those that have no common cell
+abbrev pub WindowsAreTested : Type 0
+WindowsAreTested = (a b : Seen) → (are_apart a b ≡ true → AreApart a b) × (AreApart a b → are_apart a b ≡ true)
 
 -- each name stands for a part of the buffer that is its root
 abbrev pub HasRoots : (ℕ → ℕ) → Scene → Type 0

@@ -1,4 +1,5 @@
 pub mod Value
+pub mod Wraps
 pub mod Scene
 pub mod State
 pub mod Calls

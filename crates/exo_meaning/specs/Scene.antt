@@ -1,5 +1,5 @@
 -- All of a state but the values of the cells: what control expressions, places and faults depend on.
-use Rattle.std.specs.Prelude.{◌≡◌, ◌≤ℤ◌, ℕ, ℤ, pos, neg_ℤ, ◌+ℤ◌, ◌-ℤ◌, ◌*ℤ◌, ◌==◌, int_lt, int_le, Bool, true, false, ◌&&◌, ◌||◌, if◌then◌else◌, List, [], ◌∷◌, get_or, Option, Some, None, option_map}
+use Rattle.std.specs.Prelude.{◌≡◌, ◌≤ℤ◌, ℕ, ℤ, pos, neg_ℤ, ◌+ℤ◌, ◌-ℤ◌, ◌*ℤ◌, ◌==◌, int_lt, int_le, Bool, true, false, not, ◌&&◌, ◌||◌, if◌then◌else◌, List, [], ◌∷◌, get_or, Option, Some, None, option_map}
 use Rattle.std.specs.Int.{int_div_euclid, int_rem_euclid}
 use Rattle.std.specs.Ordering.{int_eq}
 use Rattle.exo_tree.specs.Tree.{Cell, Control, Lit, Var, Field, StrideOf, Neg, Add, Sub, Mul, Div, Mod, Condition, True, False, Flag, FieldFlag, Lt, Le, Gt, Ge, Eq, And, Or, Coord, At, Span}
@@ -156,3 +156,31 @@ LieWithin (Point p ∷ ss) ts = LieWithin ss ts
 LieWithin (Range lo n ∷ ss) [] = ⊥
 LieWithin (Range lo n ∷ ss) (Point q ∷ ts) = (is_below q n ≡ true) × LieWithin ss ts
 LieWithin (Range lo n ∷ ss) (Range mo m ∷ ts) = (pos 0 ≤ℤ mo) × ((mo +ℤ m) ≤ℤ n) × LieWithin ss ts
+
+-- ---- windows without a common cell
+
+abbrev pub begins : Side → ℤ
+begins (Point p) = p
+begins (Range lo n) = lo
+
+abbrev pub ends : Side → ℤ
+ends (Point p) = p +ℤ pos 1
+ends (Range lo n) = lo +ℤ n
+
+-- a side has an index in common with another one
+abbrev pub sides_meet : Side → Side → Bool
+sides_meet s t = (int_lt (begins s) (ends s) && int_lt (begins t) (ends t)) && (int_lt (begins s) (ends t) && int_lt (begins t) (ends s))
+
+-- in each dimension
+abbrev pub all_meet : List Side → List Side → Bool
+all_meet [] [] = true
+all_meet [] (t ∷ ts) = false
+all_meet (s ∷ ss) [] = false
+all_meet (s ∷ ss) (t ∷ ts) = sides_meet s t && all_meet ss ts
+
+abbrev pub are_apart : Seen → Seen → Bool
+are_apart a b = not ((a.buffer == b.buffer) && all_meet a.sides b.sides)
+
+-- no cell is seen by both
+abbrev pub AreApart : Seen → Seen → Type 0
+AreApart a b = (is js at : List ℤ) → a.buffer ≡ b.buffer → cell_at a.sides is ≡ Some at → cell_at b.sides js ≡ Some at → ⊥

@@ -3,7 +3,8 @@
 use Rattle.std.specs.Prelude.{◌≡◌, ◌^◌, ◌==◌, ℕ, zero, suc, ℤ, pos, int_le, int_lt, nat_lt, Bool, true, false, not, ◌&&◌, ◌||◌, if◌then◌else◌, List, [], ◌∷◌, ◌++◌, length, map, Option, Some, None, slice_get}
 use Rattle.std.specs.List.{list_any, list_all}
 use Rattle.std.specs.Cmp.Lexicographic.{pointwise}
-use Rattle.exo_tree.specs.Tree.{Cell, I8, I32, Kind, Size, Index, Truth, Stride, Binder, Control, Lit, Var, Field, StrideOf, Neg, Add, Sub, Mul, Div, Mod, Condition, True, False, Flag, FieldFlag, Lt, Le, Gt, Ge, Eq, And, Or, Datum, Const, Read, Negated, Relu, Plus, Minus, Times, Select, Coord, At, Span, Argument, ControlArg, ConditionArg, Whole, Window, Statement, Assign, Reduce, Config, Pass, If, For, Alloc, View, Call, Block, end, next, statements, Param, ParamKind, ControlParam, TensorParam, WindowParam, Procedure, ConfigField, MemoryKind, Program}
+pub use Rattle.exo_tree.specs.Cells.{same_cell}
+use Rattle.exo_tree.specs.Tree.{Cell, I32, Kind, Size, Index, Truth, Stride, Binder, Control, Lit, Var, Field, StrideOf, Neg, Add, Sub, Mul, Div, Mod, Condition, True, False, Flag, FieldFlag, Lt, Le, Gt, Ge, Eq, And, Or, Datum, Const, Read, Negated, Relu, Plus, Minus, Times, Select, Coord, At, Span, Argument, ControlArg, ConditionArg, Whole, Window, Statement, Assign, Reduce, Config, Pass, If, For, Alloc, View, Call, Block, end, next, statements, Param, ParamKind, ControlParam, TensorParam, WindowParam, Procedure, ConfigField, MemoryKind, Program}
 use Rattle.exo_meaning.specs.Calls.{Callee}
 use Rattle.exo_meaning.specs.Run.{world_of, callee_in, kinds_of, roots_after}
 use Rattle.exo_meaning.specs.Binders.{binders}
@@ -36,12 +37,6 @@ is_new scope x = not (list_any (λ n. (x.id == n.binder.id) || is_text x.name n.
 
 abbrev pub with_name : Scope → Binder → Sort → Scope
 with_name scope x sort = record { binder = x; sort = sort } ∷ scope
-
-abbrev pub same_cell : Cell → Cell → Bool
-same_cell I8 I8 = true
-same_cell I8 I32 = false
-same_cell I32 I8 = false
-same_cell I32 I32 = true
 
 abbrev pub is_truth : Kind → Bool
 is_truth Size = false
@@ -85,6 +80,12 @@ abbrev pub param_sort : ParamKind → Sort
 param_sort (ControlParam kind) = ControlName kind
 param_sort (TensorParam cell dims memory) = BufferName cell (length dims) true
 param_sort (WindowParam cell dims memory) = BufferName cell (length dims) false
+
+-- a tensor with dimensions
+abbrev pub is_whole : ParamKind → Bool
+is_whole (ControlParam kind) = false
+is_whole (TensorParam cell dims memory) = not (length dims == 0)
+is_whole (WindowParam cell dims memory) = false
 
 -- the parameters, the last one innermost
 abbrev pub scope_of : Scope → List Param → Scope
@@ -332,11 +333,11 @@ module _ (fields : ℕ → Option Kind) where
   same_root (Some x) None = false
   same_root (Some x) (Some y) = x == y
 
-  -- some later argument is of the same buffer, and the callee writes one of the two parameters
+  -- some later argument is of the same buffer, the callee writes one of the two parameters, and one of the two is a tensor with dimensions
   abbrev pub is_shared : (ℕ → Bool) → (ℕ → ℕ) → Param → Option ℕ → List Param → List Argument → Bool
   is_shared writes root p r [] args = false
   is_shared writes root p r (q ∷ qs) [] = false
-  is_shared writes root p r (q ∷ qs) (a ∷ args) = (same_root r (root_of root a) && (writes p.binder.id || writes q.binder.id)) || is_shared writes root p r qs args
+  is_shared writes root p r (q ∷ qs) (a ∷ args) = (same_root r (root_of root a) && ((writes p.binder.id || writes q.binder.id) && (is_whole p.kind || is_whole q.kind))) || is_shared writes root p r qs args
 
   abbrev pub share_nothing_written : (ℕ → Bool) → (ℕ → ℕ) → List Param → List Argument → Bool
   share_nothing_written writes root [] args = true

@@ -1,20 +1,18 @@
 -- What a cell holds.
 use Rattle.std.specs.Prelude.{ℤ, pos, ◌≡◌, int_lt, if◌then◌else◌, ⊤}
-use Rattle.std.specs.Int.{Width, w8, w32, int_wrap}
-use Rattle.exo_tree.specs.Tree.{Cell, I8, I32}
+use Rattle.std.specs.Int.{w8, w16, w32, int_wrap, int_rem_euclid}
+use Rattle.exo_tree.specs.Tree.{Cell, I8, I16, I32, Ui8}
 
 pub data Value : Type 0 where
   Undefined : Value
   Number : ℤ → Value
 
--- the bits of a cell
-abbrev pub width : Cell → Width
-width I8 = w8
-width I32 = w32
-
 -- what a cell of that type keeps of a number
 abbrev pub wrap : Cell → ℤ → ℤ
-wrap cell n = int_wrap (width cell) n
+wrap I8 n = int_wrap w8 n
+wrap I16 n = int_wrap w16 n
+wrap I32 n = int_wrap w32 n
+wrap Ui8 n = int_rem_euclid n (pos 256)
 
 abbrev pub stored_as : Cell → Value → Value
 stored_as cell Undefined = Undefined

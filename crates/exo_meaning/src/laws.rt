@@ -1,10 +1,16 @@
 // Laws of the meaning, each the contract of a function with nothing to do.
 
+ghost use Rattle.exo_meaning.specs.Wraps.{WrapLaws};
 ghost use Rattle.exo_meaning.specs.Orders.{NestsReorder};
 ghost use Rattle.exo_meaning.specs.Renaming.{RunsRename};
 ghost use Rattle.exo_meaning.specs.Unseen.{RunsIgnoreUnmentioned};
 ghost use Rattle.exo_meaning.specs.Nests.{LoopsReorder};
-ghost use Rattle.exo_meaning.specs.Laws.{RunsAreMonotone, RunsCompose, StoresCommute, ReductionsCommute, OthersAreKept, DataIsApart, TurnsCommute};
+ghost use Rattle.exo_meaning.specs.Laws.{RunsAreMonotone, RunsCompose, StoresCommute, ReductionsCommute, OthersAreKept, DataIsApart, TurnsCommute, WindowsAreTested};
+
+/// What cells of each type keep of numbers and of their sums.
+pub fn wraps_agree()
+    ensures { WrapLaws }
+{}
 
 /// A run from a less defined state gives a less defined one.
 pub fn runs_are_monotone()
@@ -59,4 +65,9 @@ pub fn runs_ignore_unmentioned()
 /// Two loops, one in the other, may change places where each exchanged pair of turns commutes.
 pub fn loops_reorder()
     ensures { LoopsReorder }
+{}
+
+/// The test on windows of one call finds exactly those that have no common cell.
+pub fn windows_are_tested()
+    ensures { WindowsAreTested }
 {}

@@ -1,6 +1,23 @@
--- Which procedures a block calls.
-use Rattle.std.specs.Prelude.{ℕ, Bool, false, ◌==◌, ◌||◌}
-use Rattle.exo_tree.specs.Tree.{Statement, Assign, Reduce, Config, Pass, If, For, Alloc, View, Call, Block, end, next}
+-- Which procedures a block calls, and what a call passes.
+use Rattle.std.specs.Prelude.{ℕ, Bool, false, ◌==◌, ◌||◌, List, []}
+use Rattle.exo_tree.specs.Tree.{Argument, Statement, Assign, Reduce, Config, Pass, If, For, Alloc, View, Call, Block, end, next}
+
+-- what a statement passes, where it is a call
+abbrev pub passed_by : Statement → List Argument
+passed_by (Assign x is e) = []
+passed_by (Reduce x is e) = []
+passed_by (Config f a) = []
+passed_by Pass = []
+passed_by (If c a b) = []
+passed_by (For i lo hi b) = []
+passed_by (Alloc x cell dims memory) = []
+passed_by (View w x coords) = []
+passed_by (Call k args) = args
+
+-- of the statement with which a block begins
+abbrev pub call_arguments : Block → List Argument
+call_arguments end = []
+call_arguments (next a b) = passed_by a
 
 abbrev mutual
   -- whether a block calls the procedure of that number

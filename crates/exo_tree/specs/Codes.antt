@@ -4,6 +4,7 @@ use Rattle.std.specs.Coded.{Coded, coded_list, coded_ℕ, coded_ℤ, coded_bool,
 use Rattle.std.proofs.Common.{ap, arith, refl}
 use base.Stored.{Gv, gnil, gnum, gcons, num}
 pub use Rattle.exo_tree.specs.CodeParts.{left, right, tag}
+use Rattle.exo_tree.specs.Cells.{cell_number, cells_are_same}
 use Rattle.exo_tree.specs.Tree as tree
 use Rattle.exo_tree.specs.Places as place
 use Rattle.exo_tree.specs.Tree.{Cell, Kind, Control, Condition, Datum, Coord, Argument, Statement, Block, Binder, ParamKind, Param, Procedure, ConfigField, MemoryKind, end, next}
@@ -12,16 +13,13 @@ abbrev pub name_code : Coded (List ℕ)
 name_code = coded_list coded_ℕ
 
 abbrev pub cell_of : Cell → Gv
-cell_of tree.I8 = gcons (gnum 0) gnil
-cell_of tree.I32 = gcons (gnum 1) gnil
+cell_of cell = gcons (gnum (cell_number cell)) gnil
 
-pub same_cell : (s t : Cell) → cell_of s ≡ cell_of t → s ≡ t
-same_cell tree.I8 tree.I8 p = refl
-same_cell tree.I32 tree.I32 p = refl
-same_cell _ _ p = let e = ap tag p in absurd (omega arith)
+pub same_cell_code : (s t : Cell) → cell_of s ≡ cell_of t → s ≡ t
+same_cell_code s t p = cells_are_same s t (ap tag p)
 
 abbrev pub cell_code : Coded Cell
-cell_code = record { code = cell_of; inj = same_cell }
+cell_code = record { code = cell_of; inj = same_cell_code }
 
 abbrev pub kind_of : Kind → Gv
 kind_of tree.Size = gcons (gnum 0) gnil

@@ -1,4 +1,5 @@
 pub mod Tree
+pub mod Cells
 pub mod Context
 pub mod Places
 pub mod Nodes

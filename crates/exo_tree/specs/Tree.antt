@@ -2,9 +2,9 @@
 -- Binders, procedures, configuration fields and memories go by number; names and texts are lists of bytes.
 use Rattle.std.specs.Prelude.{ℕ, ℤ, Bool, List, [], ◌∷◌, Option}
 
--- the type of a data cell: a signed whole number of 8 or of 32 bits
+-- the type of a data cell: a whole number of 8, 16 or 32 bits with a sign, or of 8 bits without one
 pub data Cell : Type 0 where
-  I8 I32 : Cell
+  I8 I16 I32 Ui8 : Cell
 
 -- the kind of a control value
 pub data Kind : Type 0 where

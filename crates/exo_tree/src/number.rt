@@ -16,11 +16,13 @@ pub struct FieldId(pub u32);
 #[derive(Clone, Copy, PartialEq, Eq)]
 pub struct MemId(pub u32);
 
-/// The type of a data cell: a signed whole number of 8 or of 32 bits.
+/// The type of a data cell: a whole number of 8, 16 or 32 bits with a sign, or of 8 bits without one.
 #[derive(Clone, Copy, PartialEq, Eq)]
 pub enum Cell {
     I8,
+    I16,
     I32,
+    Ui8,
 }
 
 /// The kind of a control value.

@@ -1,11 +1,11 @@
 -- Arguments, as many as there are both parameters and arguments.
-use Rattle.std.proofs.Common.{◌≡◌, ℕ, zero, suc, ◌+◌, ◌<◌, ◌≤◌, Bool, not, min, List, [], ◌∷◌, ◌++◌, Option, append_assoc, length, map, drop, get_or, refl, ap, sym, ◌∙◌, arith}
+use Rattle.std.proofs.Common.{◌≡◌, ℕ, zero, suc, ◌+◌, ◌<◌, ◌≤◌, Bool, not, min, List, [], ◌∷◌, ◌++◌, append_assoc, length, map, drop, get_or, refl, ap, sym, ◌∙◌, arith}
 use Rattle.std.proofs.lemmas.List.{drop_all}
 use Rattle.exo_tree.specs.Tree.{ConfigField, Param}
 use Rattle.exo_meaning.specs.Units.{Scope, root_of, field_kind}
 use Rattle.exo_reader.specs.Source.{Argument}
 use Rattle.rules_names.specs.declared.fault.Fault.{Fault}
-use Rattle.exo_types.specs.ArgumentRules.{argument_of, arguments_of, argument_faults, arguments_faults, is_passed, spaced_width, argument_width}
+use Rattle.exo_types.specs.ArgumentRules.{argument_of, arguments_of, argument_faults, arguments_faults, passed_for, is_passed, spaced_width, argument_width}
 use Rattle.rules_names.specs.declared.error.TypeKind.TheVariants.{SharedArgument}
 use Rattle.rules_names.specs.Faults.{unless}
 use Rattle.exo_types.specs.declared.call.Passed.{Passed}
@@ -41,13 +41,20 @@ module _ (fields : List ConfigField) (writes : ℕ → Bool) (scope : Scope) (ro
   faults passed ps n args = arguments_faults fields writes scope root passed ps n args
 
   -- one argument, and what is left
-  pub one_more : (passed after : List Passed) (n next : ℕ) (p : Param) (ps more : List Param) (a : Argument) (args rest : List Argument) (r : Option ℕ) (w : Bool) → ps ≡ p ∷ more → args ≡ a ∷ rest → r ≡ root_of (field_kind fields) root (argument_of fields scope p.kind a) → w ≡ writes p.binder.id → after ≡ passed ++ record { root = r; written = w } ∷ [] → next ≡ n + argument_width a + 1 → arguments_faults fields writes scope root passed ps n args ≡ (argument_faults fields scope p.kind n a ++ unless (not (is_passed w r passed)) SharedArgument n) ++ arguments_faults fields writes scope root after more next rest
-  one_more passed after n next p ps more a args rest r w d e er ew ea en =
+  pub one_more : (passed after : List Passed) (n next : ℕ) (p : Param) (ps more : List Param) (a : Argument) (args rest : List Argument) (now : Passed)
+      → ps ≡ p ∷ more
+      → args ≡ a ∷ rest
+      → now ≡ passed_for writes p (root_of (field_kind fields) root (argument_of fields scope p.kind a))
+      → after ≡ passed ++ now ∷ []
+      → next ≡ n + argument_width a + 1
+      → faults passed ps n args ≡ (argument_faults fields scope p.kind n a ++ unless (not (is_passed now passed)) SharedArgument n) ++ faults after more next rest
+  one_more passed after n next p ps more a args rest now d e eo ea en =
       let own = argument_faults fields scope p.kind n a in
+      let shared : Passed → List Fault = λ o. unless (not (is_passed o passed)) SharedArgument n in
       (λ i. faults passed (d i) n (e i))
-      ∙ (λ i. own ++ (unless (not (is_passed (sym ew i) (sym er i) passed)) SharedArgument n ++ faults (passed ++ record { root = sym er i; written = sym ew i } ∷ []) more (sym en i) rest))
-      ∙ ap (λ x. own ++ (unless (not (is_passed w r passed)) SharedArgument n ++ faults x more next rest)) (sym ea)
-      ∙ sym (append_assoc own (unless (not (is_passed w r passed)) SharedArgument n) (faults after more next rest))
+      ∙ (λ i. own ++ (shared (sym eo i) ++ faults (passed ++ sym eo i ∷ []) more (sym en i) rest))
+      ∙ ap (λ x. own ++ (shared now ++ faults x more next rest)) (sym ea)
+      ∙ sym (append_assoc own (shared now) (faults after more next rest))
 
 -- the arguments that are left
 pub spaced_read : {X : Type 0} (f : X → Argument) (xs : List X) (k : ℕ) (x : X) → x ≡ get_or xs k x → k < length xs → spaced_width (map f (drop k xs)) ≡ argument_width (f x) + suc (spaced_width (map f (drop (k + 1) xs)))

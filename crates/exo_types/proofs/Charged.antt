@@ -21,7 +21,7 @@ use Rattle.rules_names.specs.WindowRules.{coordinate_width, coordinates_width, c
 use Rattle.exo_types.specs.declared.call.Passed.{Passed}
 use Rattle.exo_types.specs.TypeRules.{cell_named, kind_named, no_cell_faults, cell_faults, no_kind_faults, kind_faults, is_taken, binder_faults, named_memory_faults, memory_faults, memory_width}
 use Rattle.exo_types.specs.ArgumentRules as rules
-use Rattle.exo_types.specs.ArgumentRules.{Signature, dims_width, argument_width, spaced_width, arguments_width, spans, points, may_be_tensor, may_be_strided, part_faults, is_passed, tensor_takes, cell_takes, whole_faults, tensor_faults, strided_faults, value_faults, view_faults, argument_faults, argument_of, arguments_faults, call_faults}
+use Rattle.exo_types.specs.ArgumentRules.{Signature, dims_width, argument_width, spaced_width, arguments_width, spans, points, may_be_tensor, may_be_strided, part_faults, passed_for, is_passed, tensor_takes, cell_takes, whole_faults, tensor_faults, strided_faults, value_faults, view_faults, argument_faults, argument_of, arguments_faults, call_faults}
 
 -- ---- lists of broken rules before a token
 
@@ -370,10 +370,10 @@ module _ (fields : List ConfigField) (hi : ℕ) where
   arguments_within writes scope root passed [] n args h = none
   arguments_within writes scope root passed (p ∷ ps) n [] h = none
   arguments_within writes scope root passed (p ∷ ps) n (a ∷ args) h =
-      let r : Option ℕ = root_of (field_kind fields) root (argument_of fields scope p.kind a) in
+      let now : Passed = passed_for writes p (root_of (field_kind fields) root (argument_of fields scope p.kind a)) in
       also (argument_within scope p.kind n a (omega (arith, h)))
-      (also (tested (not (is_passed (writes p.binder.id) r passed)) k.SharedArgument n (omega (arith, h, some_argument a)))
-      (arguments_within writes scope root (passed ++ record { root = r; written = writes p.binder.id } ∷ []) ps (n + argument_width a + 1) args (omega (arith, h))))
+      (also (tested (not (is_passed now passed)) k.SharedArgument n (omega (arith, h, some_argument a)))
+      (arguments_within writes scope root (passed ++ now ∷ []) ps (n + argument_width a + 1) args (omega (arith, h))))
 
   pub call_within : (callee : Option Signature) (scope : Scope) (root : ℕ → ℕ) (n : ℕ) (args : List Argument) → n + 2 + arguments_width args ≤ hi → Within hi (call_faults fields callee scope root n args)
   call_within None scope root n args h = one k.UnknownName n (omega (arith, h))

@@ -5,7 +5,7 @@ use Rattle.std.specs.List.{list_any}
 use Rattle.exo_tree.specs.Tree as tree
 use Rattle.exo_tree.specs.Tree.{Kind, Cell, ConfigField, Param, ParamKind, ControlParam, TensorParam, WindowParam}
 use Rattle.exo_meaning.specs.Calls.{Callee}
-use Rattle.exo_meaning.specs.Units.{Sort, Scope, Reads, plainly, with_both, is_truth, has_cell, is_dense, root_of, field_kind}
+use Rattle.exo_meaning.specs.Units.{Sort, Scope, Reads, plainly, with_both, is_truth, has_cell, is_dense, is_whole, root_of, field_kind}
 use Rattle.text_expressions.specs.Expression.{Tree, variable, access, parens}
 use Rattle.exo_reader.specs.Source.{Coordinate, point, span, Argument, value, window}
 use Rattle.rules_names.specs.declared.error.TypeKind.TheVariants.{UnknownName, RankMismatch, SharedArgument}
@@ -69,9 +69,17 @@ same_buffer None other = false
 same_buffer (Some x) None = false
 same_buffer (Some x) (Some y) = x == y
 
--- a part of a buffer that was passed before, where the callee writes or reduces one of the two parameters
-abbrev pub is_passed : Bool → Option ℕ → List Passed → Bool
-is_passed written r passed = list_any (λ q. same_buffer q.root r && (q.written || written)) passed
+-- what is told of an argument to those behind it
+abbrev pub passed_for : (ℕ → Bool) → Param → Option ℕ → Passed
+passed_for writes p r = record { root = r; written = writes p.binder.id; whole = is_whole p.kind }
+
+-- parts of one buffer, where the callee writes or reduces one of the two parameters, and one of the
+-- two is a tensor with dimensions
+abbrev pub shares : Passed → Passed → Bool
+shares q now = same_buffer q.root now.root && ((q.written || now.written) && (q.whole || now.whole))
+
+abbrev pub is_passed : Passed → List Passed → Bool
+is_passed now passed = list_any (λ q. shares q now) passed
 
 -- a whole buffer for a tensor: one of rank 0 takes a single cell, and one of a higher rank a whole dense tensor of its cell type
 abbrev pub tensor_takes : Cell → ℕ → Option Sort → Bool
@@ -180,10 +188,10 @@ module _ (fields : List ConfigField) where
   arguments_faults writes scope root passed (p ∷ ps) n [] = []
   arguments_faults writes scope root passed (p ∷ ps) n (a ∷ args) =
       let r = root_of (field_kind fields) root (argument_of scope p.kind a) in
-      let written = writes p.binder.id in
+      let now = passed_for writes p r in
       argument_faults scope p.kind n a
-      ++ (unless (not (is_passed written r passed)) SharedArgument n
-      ++ arguments_faults writes scope root (passed ++ record { root = r; written = written } ∷ []) ps (n + argument_width a + 1) args)
+      ++ (unless (not (is_passed now passed)) SharedArgument n
+      ++ arguments_faults writes scope root (passed ++ now ∷ []) ps (n + argument_width a + 1) args)
 
   -- a call of a procedure that stands above; a wrong number of arguments is charged at the procedure's name
   abbrev pub call_faults : Option Signature → Scope → (ℕ → ℕ) → ℕ → List Argument → List Fault

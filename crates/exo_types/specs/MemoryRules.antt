@@ -1,6 +1,7 @@
 -- The rules on classes of memories, and what they are as tables of a unit.
 use Rattle.std.specs.Prelude.{ℕ, ◌+◌, nat_le, Bool, true, false, not, ◌&&◌, ◌||◌, if◌then◌else◌, List, [], ◌∷◌, ◌++◌, length, codes, Option, Some, None}
 use Rattle.std.specs.List.{list_any}
+use Rattle.std.specs.Option.{is_some}
 use Rattle.exo_tree.specs.Tree.{MemoryKind}
 use Rattle.exo_meaning.specs.Units.{is_text, is_memory}
 use Rattle.text_lexer.specs.declared.token.Literal.TheVariants.{Value, TooLarge}
@@ -53,9 +54,9 @@ is_truth_value (int k) = false
 is_truth_value yes = true
 is_truth_value no = true
 
--- `i8`, `i32`, or nothing for any
+-- a type of cells, or nothing for any
 abbrev pub is_cell_word : List ℕ → Bool
-is_cell_word x = is_text x [] || (is_text x (codes "i8") || is_text x (codes "i32"))
+is_cell_word x = is_text x [] || is_some (cell_of_text x)
 
 abbrev pub is_place_word : List ℕ → Bool
 is_place_word x = is_text x (codes "heap") || is_text x (codes "stack")

@@ -1,7 +1,7 @@
 -- The rules on types, binders and memories, where parameters and statements name them. n is the number of the first token.
-use Rattle.std.specs.Prelude.{ℕ, ◌+◌, Bool, not, if◌then◌else◌, List, [], codes, Option, Some, None}
+use Rattle.std.specs.Prelude.{ℕ, ◌+◌, Bool, not, if◌then◌else◌, List, [], ◌∷◌, codes, Option, Some, None}
 use Rattle.std.specs.Option.{is_some}
-use Rattle.exo_tree.specs.Tree.{Kind, Size, Index, Truth, Stride, Cell, I8, I32, Binder}
+use Rattle.exo_tree.specs.Tree.{Kind, Size, Index, Truth, Stride, Cell, I8, I16, I32, Ui8, Binder}
 use Rattle.exo_meaning.specs.Units.{Scope, is_text}
 use Rattle.exo_reader.specs.Source.{TypeName, stride, named}
 use Rattle.rules_names.specs.declared.error.TypeKind.TheVariants.{UnknownName, Redefined, KindMismatch}
@@ -11,9 +11,17 @@ use Rattle.rules_names.specs.Names.{named_in, name_number}
 
 -- ---- types
 
--- `i8` and `i32` are types of cells
+-- the types of cells by their words
+abbrev pub cell_words : List (List ℕ × Cell)
+cell_words =
+    (codes "i8", I8) ∷ (codes "i16", I16) ∷ (codes "i32", I32) ∷ (codes "ui8", Ui8) ∷ []
+
+abbrev pub cell_among : List (List ℕ × Cell) → List ℕ → Option Cell
+cell_among [] x = None
+cell_among (w ∷ words) x = if is_text x w.0 then Some w.1 else cell_among words x
+
 abbrev pub cell_of_text : List ℕ → Option Cell
-cell_of_text x = if is_text x (codes "i8") then Some I8 else (if is_text x (codes "i32") then Some I32 else None)
+cell_of_text x = cell_among cell_words x
 
 abbrev pub cell_named : TypeName → Option Cell
 cell_named stride = None

@@ -113,7 +113,7 @@ fn is_lane_count(value: &SourceValue) -> bool
 fn is_cell_word(word: &[u8]) -> bool
     ensures { result ≡ is_cell_word word.now }
 {
-    is_same(word, b"") || is_same(word, b"i8") || is_same(word, b"i32")
+    is_same(word, b"") || cell_of_text(word).is_some()
 }
 
 fn is_place_word(word: &[u8]) -> bool

@@ -1,6 +1,7 @@
 //! Calls of procedures that stand above.
 ghost use Rattle.std.specs.Prelude.{◌≡◌, ◌+◌, ◌≤◌, ◌||◌, [], Some, map, length, IfOk};
-ghost use Rattle.exo_tree.specs.PlainParam.{parameter};
+ghost use Rattle.exo_tree.specs.PlainParam.{parameter, parameter_kind};
+ghost use Rattle.exo_meaning.specs.Units.{is_whole};
 ghost use Rattle.exo_reader.specs.Views.{plain_argument};
 ghost use Rattle.rules_names.specs.Faults.{charged};
 ghost use Rattle.rules_names.specs.Tests.{most_tokens};
@@ -11,7 +12,7 @@ ghost use Rattle.exo_types.specs.Seen.{signature};
 use crate::argument::{argument_of, root_of, test_argument};
 use exo_modes::{Alias, Row};
 use exo_reader::source::SourceArg;
-use exo_tree::{Args, Param, Params};
+use exo_tree::{Args, Param, ParamKind, Params};
 use rules_names::error::TypeKind;
 use rules_names::fault::Charge;
 use rules_names::tested::Names;
@@ -25,11 +26,13 @@ pub struct Callee<'c> {
     pub writes: &'c Row,
 }
 
-/// An argument that was passed: the buffer that it is a part of, and whether its parameter is written or reduced.
+/// An argument that was passed: the buffer that it is a part of, and whether its parameter is written
+/// or reduced, and is a tensor with dimensions.
 #[derive(Clone, Copy)]
 pub struct Passed {
     pub root: Option<u32>,
     pub written: bool,
+    pub whole: bool,
 }
 
 /// Whether both are parts of one buffer.
@@ -42,16 +45,36 @@ fn same_buffer(one: Option<u32>, other: Option<u32>) -> bool
     }
 }
 
-/// Whether a part of that buffer was passed before, and one of the two parameters is written.
+/// Whether both are parts of one buffer, one of the two parameters is written, and one of the two is a
+/// tensor with dimensions.
+fn shares(before: Passed, now: Passed) -> bool
+    ensures { result ≡ rules.shares before now }
+{
+    let written = before.written || now.written;
+    let whole = before.whole || now.whole;
+    same_buffer(before.root, now.root) && (written && whole)
+}
+
+/// Whether the argument shares a buffer with one that was passed before.
 fn is_passed(passed: &[Passed], now: Passed) -> bool
-    ensures { result ≡ rules.is_passed now.written now.root passed.now }
+    ensures { result ≡ rules.is_passed now passed.now }
 {
     for before in passed {
-        if same_buffer(before.root, now.root) && (before.written || now.written) {
+        if shares(*before, now) {
             return true;
         }
     }
     false
+}
+
+/// Whether a parameter is a tensor with dimensions.
+fn is_whole(kind: &ParamKind) -> bool
+    ensures { result ≡ is_whole (parameter_kind kind.now) }
+{
+    match kind {
+        ParamKind::Tensor(_, dims, _) => !(dims.len() == 0),
+        _ => false,
+    }
 }
 
 /// What the arguments of a call break, the first of which is token `n`, and the number of the token behind the one that is
@@ -78,6 +101,7 @@ fn test_arguments(
         let now = Passed {
             root: root_of(names, aliases, &param.kind, given),
             written: callee.writes.has_write(param.binder.id.0),
+            whole: is_whole(&param.kind),
         };
         let (own, end) = test_argument(names, &param.kind, next, given);
         let shared = is_passed(&passed, now);

@@ -1,10 +1,10 @@
 //! Types and words, where parameters, statements and attributes name them.
-ghost use Rattle.std.specs.Prelude.{◌≡◌, option_map};
+ghost use Rattle.std.specs.Prelude.{◌≡◌, map, option_map};
 ghost use Rattle.exo_tree.specs.PlainBinder.{cell_type, control_kind};
 ghost use Rattle.exo_meaning.specs.Units.{is_text};
 ghost use Rattle.exo_reader.specs.Views.{plain_kind};
 ghost use Rattle.rules_names.specs.Faults.{charged};
-ghost use Rattle.exo_types.specs.TypeRules.{cell_of_text, cell_named, kind_of_text, kind_named, cell_faults, kind_faults, cell_of, kind_of};
+ghost use Rattle.exo_types.specs.TypeRules.{cell_among, cell_of_text, cell_named, kind_of_text, kind_named, cell_faults, kind_faults, cell_of, kind_of};
 
 use exo_reader::source::SourceKind;
 use exo_tree::{Cell, Kind};
@@ -18,17 +18,32 @@ pub fn is_same(one: &[u8], other: &[u8]) -> bool
     one == other
 }
 
+/// The types of cells by their words.
+const CELL_WORDS: [(&[u8], Cell); 4] = [
+    (b"i8", Cell::I8),
+    (b"i16", Cell::I16),
+    (b"i32", Cell::I32),
+    (b"ui8", Cell::Ui8),
+];
+
+/// The type of cells of that name, among those of a table.
+fn cell_among(mut words: &[(&[u8], Cell)], name: &[u8]) -> Option<Cell>
+    ensures { option_map cell_type result ≡ cell_among (map (λ w. (w.0.now, cell_type w.1)) words.entry.now) name.now }
+{
+    while let [(word, cell), rest @ ..] = words {
+        if is_same(name, word) {
+            return Some(*cell);
+        }
+        words = rest;
+    }
+    None
+}
+
 /// The type of cells of that name.
 pub fn cell_of_text(name: &[u8]) -> Option<Cell>
     ensures { option_map cell_type result ≡ cell_of_text name.now }
 {
-    if is_same(name, b"i8") {
-        return Some(Cell::I8);
-    }
-    if is_same(name, b"i32") {
-        return Some(Cell::I32);
-    }
-    None
+    cell_among(&CELL_WORDS, name)
 }
 
 /// The kind of control values of that name.

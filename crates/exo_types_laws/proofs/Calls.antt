@@ -12,7 +12,7 @@ use Rattle.text_lexer.specs.declared.token.Sign.TheVariants as s
 use Rattle.exo_tree.specs.Tree as tree
 use Rattle.exo_tree.specs.Tree.{Kind, ConfigField, Param, ControlArg, ConditionArg, Whole, Window}
 use Rattle.exo_meaning.specs.Calls.{Callee}
-use Rattle.exo_meaning.specs.Units.{Scope, field_kind, are_for, root_of, same_root, is_shared, share_nothing_written, is_call}
+use Rattle.exo_meaning.specs.Units.{Scope, field_kind, are_for, is_whole, root_of, same_root, is_shared, share_nothing_written, is_call}
 use Rattle.exo_reader.specs.Source.{Argument}
 use Rattle.exo_reader.specs.Parts.{spell_enclosed}
 use Rattle.exo_reader.specs.Statements.{argument, arguments}
@@ -23,7 +23,7 @@ use Rattle.rules_names.specs.Names.{name_number, no_id}
 use Rattle.rules_names.specs.Laws.{KeepsIds}
 use Rattle.exo_types.specs.declared.call.Passed.{Passed}
 use Rattle.exo_types.specs.TypeRules.{number_or}
-use Rattle.exo_types.specs.ArgumentRules.{Signature, signature_of, same_buffer, is_passed, argument_width, argument_faults, argument_of, arguments_of, arguments_faults, call_faults, params_of}
+use Rattle.exo_types.specs.ArgumentRules.{Signature, signature_of, same_buffer, passed_for, shares, is_passed, argument_width, argument_faults, argument_of, arguments_of, arguments_faults, call_faults, params_of}
 use Rattle.exo_types.specs.StatementRules.{number_in, callee_named}
 use Rattle.exo_types_laws.proofs.Unbroken.{pair, nor, negated, not_true, none_of_both, left_none, right_none, fault_none, unless_none}
 use Rattle.exo_types_laws.proofs.Texts.{Text, front, back, behind}
@@ -82,19 +82,18 @@ same_roots F (Some x) None = refl
 same_roots F (Some x) (Some y) = refl
 
 module _ (laws : Laws) (fields : List ConfigField) (F : ℕ → Option Kind) (more : (f : ℕ) (k : Kind) → field_kind fields f ≡ Some k → F f ≡ Some k) (scope : Scope) (keeps : KeepsIds scope) (writes : ℕ → Bool) (root : ℕ → ℕ) where
-  -- what is told of an argument to those behind it
   abbrev told : Param → Argument → Passed
-  told p a = record { root = root_of (field_kind fields) root (argument_of fields scope p.kind a); written = writes p.binder.id }
+  told p a = passed_for writes p (root_of (field_kind fields) root (argument_of fields scope p.kind a))
 
   -- the parts of the rules on one argument and those behind it
   record Apart (passed : List Passed) (p : Param) (ps : List Param) (n : ℕ) (a : Argument) (args : List Argument) : Type 0 where
     own : argument_faults fields scope p.kind n a ≡ []
-    alone : is_passed (writes p.binder.id) (root_of (field_kind fields) root (argument_of fields scope p.kind a)) passed ≡ false
+    alone : is_passed (told p a) passed ≡ false
     rest : arguments_faults fields writes scope root (passed ++ told p a ∷ []) ps (n + argument_width a + 1) args ≡ []
 
   apart : (passed : List Passed) (p : Param) (ps : List Param) (n : ℕ) (a : Argument) (args : List Argument) → arguments_faults fields writes scope root passed (p ∷ ps) n (a ∷ args) ≡ [] → Apart passed p ps n a args
   apart passed p ps n a args h =
-      let test : Bool = is_passed (writes p.binder.id) (root_of (field_kind fields) root (argument_of fields scope p.kind a)) passed in
+      let test : Bool = is_passed (told p a) passed in
       let later : List Fault = arguments_faults fields writes scope root (passed ++ told p a ∷ []) ps (n + argument_width a + 1) args in
       let behind_own = right_none (argument_faults fields scope p.kind n a) (unless (not test) SharedArgument n ++ later) h in
       record {
@@ -112,18 +111,19 @@ module _ (laws : Laws) (fields : List ConfigField) (F : ℕ → Option Kind) (mo
       pair (argument_formed laws fields F more scope keeps p.kind n a fits.0 texts.0 parts.own)
       (arguments_formed (passed ++ told p a ∷ []) ps (n + argument_width a + 1) args fits.1 texts.1 (omega (arith, same)) parts.rest)
 
-  -- what was passed before is shared with no later argument where one of the two is written
-  not_shared : (p : Param) (r : Option ℕ) (passed : List Passed) (ps : List Param) (n : ℕ) (args : List Argument) → Among (record { root = r; written = writes p.binder.id }) passed → arguments_faults fields writes scope root passed ps n args ≡ []
+  -- what was passed before is shared with no later argument
+  not_shared : (p : Param) (r : Option ℕ) (passed : List Passed) (ps : List Param) (n : ℕ) (args : List Argument) → Among (passed_for writes p r) passed → arguments_faults fields writes scope root passed ps n args ≡ []
       → is_shared F writes root p r ps (arguments_of fields scope ps args) ≡ false
   not_shared p r passed [] n args among h = refl
   not_shared p r passed (q ∷ qs) n [] among h = refl
   not_shared p r passed (q ∷ qs) n (a ∷ args) among h =
       let parts = apart passed q qs n a args h in
       let own : Option ℕ = root_of (field_kind fields) root (argument_of fields scope q.kind a) in
-      let here = among (λ z. same_buffer z.root own && (z.written || writes q.binder.id)) parts.alone in
+      let here = among (λ z. shares z (told q a)) parts.alone in
+      let forbidden : Bool = (writes p.binder.id || writes q.binder.id) && (is_whole p.kind || is_whole q.kind) in
       nor
-      (ap (λ o. same_root F r o && (writes p.binder.id || writes q.binder.id)) (roots_same F (field_kind fields) root (argument_of fields scope q.kind a)) ∙ ap (λ b. b && (writes p.binder.id || writes q.binder.id)) (same_roots F r own) ∙ here)
-      (not_shared p r (passed ++ told q a ∷ []) qs (n + argument_width a + 1) args (among_more (record { root = r; written = writes p.binder.id }) (told q a) passed among) parts.rest)
+      (ap (λ o. same_root F r o && forbidden) (roots_same F (field_kind fields) root (argument_of fields scope q.kind a)) ∙ ap (λ b. b && forbidden) (same_roots F r own) ∙ here)
+      (not_shared p r (passed ++ told q a ∷ []) qs (n + argument_width a + 1) args (among_more (passed_for writes p r) (told q a) passed among) parts.rest)
 
   pub nothing_shared : (passed : List Passed) (ps : List Param) (n : ℕ) (args : List Argument) → arguments_faults fields writes scope root passed ps n args ≡ [] → share_nothing_written F writes root ps (arguments_of fields scope ps args) ≡ true
   nothing_shared passed [] n args h = refl

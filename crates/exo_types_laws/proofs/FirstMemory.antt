@@ -1,5 +1,5 @@
 -- The first memory is DRAM, since memories are put last.
-use Rattle.std.proofs.Common.{◌≡◌, ℕ, List, [], ◌∷◌, ◌++◌, Some, slice_get, refl}
+use Rattle.std.proofs.Common.{◌≡◌, List, [], ◌∷◌, ◌++◌, Some, slice_get, refl}
 use Rattle.exo_tree.specs.Tree.{MemoryKind}
 use Rattle.exo_reader.specs.Source.{Item, procedure, instruction, configuration, memory}
 use Rattle.exo_types.specs.MemoryRules.{dram, plain_memory, with_attributes}

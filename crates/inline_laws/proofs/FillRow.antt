@@ -11,9 +11,8 @@ use Rattle.exo_tree.specs.Places.{Opened}
 use Rattle.exo_meaning.specs.Scene.{Seen, Side, then_do, narrowed, window, whole, numbers}
 use Rattle.exo_meaning.specs.State.{State}
 use Rattle.exo_meaning.specs.Calls.{Given, GivenNumber, GivenView, all_given}
-use Rattle.exo_meaning.specs.Run.{World, unit_world, writes}
-use Rattle.exo_meaning.specs.Inputs.{IsAdmissible, Refines, AreArguments, is_buffer_of}
-use Rattle.exo_meaning.specs.Laws.{HasRoots}
+use Rattle.exo_meaning.specs.Run.{World, unit_world}
+use Rattle.exo_meaning.specs.Inputs.{IsAdmissible, Refines, AreArguments}
 use Rattle.affine_forms.proofs.Values.{none_some, some_injective}
 use Rattle.meaning_laws.specs.Copies.{IsFree}
 use Rattle.meaning_laws.specs.Scoped.{has_binder}
@@ -38,7 +37,6 @@ use Rattle.inline_laws.proofs.InlineRule.{inline_rule}
 use Rattle.inline_laws.proofs.MatchRows.{each_place, known}
 use Rattle.inline_laws.proofs.ReplaceRule.{replace_rule}
 use Rattle.inline_laws.proofs.Rows.{named, lit, first, param, loop, fill_it}
-use Rattle.inline_laws.proofs.Shares.{shares_law}
 
 -- ---- p(n: size, x: i32[n]): for i in seq(0, n): x[i] = 5
 
@@ -140,14 +138,13 @@ Apart y = (is_param fresh y ≡ false) × (has_binder body y ≡ false)
 
 inlinable : (p : Procedure) → IsFree p (Here end) 20 → IsFree p (Here end) 21
     → IsFree p (Here end) 22
-    → IsInlinable of_callee (λ x. x) empty p fresh (Here end) arguments
+    → IsInlinable of_callee p fresh (Here end) arguments
 inlinable p a b c = record {
   names = refl;
   params = is_own;
   distinct = (refl, (refl, tt));
-  share = shares_law (λ x. x) (writes empty (λ x. x) fresh.body) fresh.params arguments refl;
   takes = (
-    (refl, refl, λ y e. ap (is_param fresh) (eqb-true y 10 e)),
+    (refl, refl, λ y e. ap (is_param fresh) (eqb-true y 10 e), λ y e. no e),
     (
       (
         refl,
@@ -187,25 +184,6 @@ module _ (p : Procedure) (same : p.params ≡ filler.params) (w : World) (s : St
   given_there : AreArguments s.scene filler.params
   given_there = subst (AreArguments s.scene) same good.arguments
 
-  rooted : HasRoots (λ x. x) s.scene
-  rooted x seen e = go (x == 10) refl
-    where
-      others : (x == 10) ≡ false → (x == 11) ≡ false → seen.buffer ≡ x
-      others i j = absurd (none_some (sym (good.no_others x (ap (is_buffer_of x) same
-          ∙ ap₂ ◌||◌ i (ap₂ ◌||◌ j refl))).2 ∙ e))
-
-      second : (x == 10) ≡ false → (t : Bool) → (x == 11) ≡ t → seen.buffer ≡ x
-      second i true j =
-          ap (λ (z : Seen). z.buffer) (some_injective seen _
-          (sym e ∙ ap s.scene.views (eqb-true x 11 j) ∙ given_there.1.0.1))
-          ∙ sym (eqb-true x 11 j)
-      second i false j = others i j
-
-      go : (t : Bool) → (x == 10) ≡ t → seen.buffer ≡ x
-      go true i =
-          absurd (none_some (sym given_there.0.2 ∙ sym (ap s.scene.views (eqb-true x 10 i)) ∙ e))
-      go false i = second i (x == 11) refl
-
   typed : (gs : List Given) → all_given s.scene arguments ≡ Some gs
       → HaveTypes s fresh.params gs
   typed [] e = tt
@@ -222,18 +200,16 @@ module _ (p : Procedure) (same : p.params ≡ filler.params) (w : World) (s : St
       (tt, ((_, ap s.scene.buffers here ∙ given_there.1.0.0, refl), tt))
 
 stand_there : (p : Procedure) → p.params ≡ filler.params → (w : World) (old : Block)
-    → StandThere w (λ x. x) p fresh (Here end) old arguments
+    → StandThere w p fresh (Here end) old arguments
 stand_there p same w old s u good come =
-    subst (λ (t : State). HasRoots (λ x. x) t.scene
-    × ((gs : List Given) → all_given t.scene arguments ≡ Some gs
-    → HaveTypes t fresh.params gs)) (sym come)
-    (rooted p same w s good, typed p same w s good)
+    subst (λ (t : State). (gs : List Given) → all_given t.scene arguments ≡ Some gs
+    → HaveTypes t fresh.params gs) (sym come) (typed p same w s good)
 
 -- ---- the loop becomes a call
 
 may_call : MayInline unit empty of_callee (with_block filler there body) fresh (Here end) body 0
     arguments
-may_call = fresh_conditions (λ f. Index) [] fill_it [] 20 of_callee (λ x. x)
+may_call = fresh_conditions (λ f. Index) [] fill_it [] 20 of_callee
     (with_block filler there body) (Here end) body arguments refl
     (inlinable (with_block filler there body) (refl, refl) (refl, refl) (refl, refl))
     (stand_there (with_block filler there body) refl unit body)
@@ -279,7 +255,7 @@ abbrev called : Called
 called = record { callee = 0; args = arguments }
 
 may_inline : MayInline unit empty of_callee caller fresh (Here end) call 0 arguments
-may_inline = fresh_conditions (λ f. Index) [] fill_it [] 20 of_callee (λ x. x) caller (Here end)
+may_inline = fresh_conditions (λ f. Index) [] fill_it [] 20 of_callee caller (Here end)
     call arguments refl (inlinable caller (refl, refl) (refl, refl) (refl, refl))
     (stand_there caller refl unit call)
 

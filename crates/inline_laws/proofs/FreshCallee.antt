@@ -159,11 +159,11 @@ fresh_callee q n h = (
 )
 
 pub fresh_conditions : FreshConditions
-fresh_conditions kinds before callee after n own root p c old args unused may there =
+fresh_conditions kinds before callee after n own p c old args unused may there =
     let it = fresh_callee callee n unused in
     let above = unit_world kinds before in
     let world = unit_world kinds (before ++ callee ∷ after) in
     subst (λ (q : Procedure). MayInline world above own p q c old (size before) args) (sym it.1)
-    (inline_conditions kinds before callee after it.0 own root p c old args
-    (subst (λ (q : Procedure). IsInlinable own root above p q c args) it.1 may)
-    (subst (λ (q : Procedure). StandThere world root p q c old args) it.1 there))
+    (inline_conditions kinds before callee after it.0 own p c old args
+    (subst (λ (q : Procedure). IsInlinable own p q c args) it.1 may)
+    (subst (λ (q : Procedure). StandThere world p q c old args) it.1 there))

@@ -1,13 +1,11 @@
 -- A callee of the unit, with other ids, may be inlined.
 use Rattle.std.proofs.Common.{◌≡◌, Bool, true, false, not, ◌∷◌, ◌++◌, Some, refl, sym, ap, ◌∙◌}
 use Rattle.std.proofs.Common.{true≢false}
-use Rattle.exo_meaning.specs.Run.{call_to, callee_in, unit_world, writes}
+use Rattle.exo_meaning.specs.Run.{call_to, callee_in, unit_world}
 use Rattle.meaning_laws.proofs.Copies.{sound_law, unbound_law}
 use Rattle.inplace_laws.specs.Above.{size}
 use Rattle.inplace_laws.specs.Inline.{IsWider}
 use Rattle.inplace_laws.proofs.Above.{above_law}
-use Rattle.inplace_laws.proofs.Shared.{shared_law}
-use Rattle.match_laws.specs.RenamedCallee.{re_procedure}
 use Rattle.match_laws.proofs.RenamedCallee.{renamed_callee}
 use Rattle.inline_laws.specs.InlineConditions.{InlineConditions}
 
@@ -16,7 +14,7 @@ is_own true h = refl
 is_own false h = absurd (true≢false h)
 
 pub inline_conditions : InlineConditions
-inline_conditions kinds before callee after r own root p c old args may there = record {
+inline_conditions kinds before callee after r own p c old args may there = record {
   callee = λ s. ap (λ o. call_to o args s) unit.1
       ∙ sym (renamed_callee r (unit_world kinds before) callee args s);
   wider = unit.0;
@@ -27,10 +25,7 @@ inline_conditions kinds before callee after r own root p c old args may there = 
         come x (may.free x (is_own (own x) k));
     params = λ x k. (ap not (may.params x k).0, (may.params x k).1);
     distinct = may.distinct;
-    types = (there s u good come).1 gs e;
-    apart = shared_law root
-        (writes (unit_world kinds before) (λ x. x) (re_procedure r callee).body) u.scene
-        (re_procedure r callee).params args gs (there s u good come).0 e may.share;
+    types = there s u good come gs e;
   };
   takes = may.takes;
   free = may.free;

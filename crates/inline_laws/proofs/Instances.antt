@@ -1,6 +1,5 @@
 -- A call of a procedure that sets a field, inlined; and a view removed.
 use Rattle.std.proofs.Common.{◌≡◌, pos, false, List, [], ◌∷◌, Some, None, slice_get, refl, sym}
-use Rattle.std.proofs.Common.{ap, ◌∙◌}
 use Rattle.std.proofs.Common.{subst, true≢false}
 use Rattle.exo_tree.specs.Tree.{Index, Lit, Argument, ControlArg, Config, Call, Block, end, next}
 use Rattle.exo_tree.specs.Tree.{Procedure}
@@ -10,7 +9,6 @@ use Rattle.exo_meaning.specs.Renaming.{Renaming}
 use Rattle.exo_meaning.specs.State.{State}
 use Rattle.exo_meaning.specs.Run.{World, unit_world}
 use Rattle.exo_meaning.specs.Inputs.{Refines}
-use Rattle.exo_meaning.proofs.Windows.{none_is_some}
 use Rattle.meaning_laws.proofs.Copies.{sound_law}
 use Rattle.meaning_laws.proofs.Parts.{some_injective}
 use Rattle.inplace_laws.specs.Inline.{MayInline}
@@ -65,7 +63,6 @@ may_inline = record {
     params = λ x k. absurd (true≢false (sym k));
     distinct = tt;
     types = tt;
-    apart = λ b c z y w n i j. absurd (none_is_some i);
   };
   takes = tt;
   free = λ x k. absurd (true≢false (sym k));
@@ -132,22 +129,17 @@ same_ids = record { to = λ x. x; from = λ x. x; to_from = λ x. refl; from_to 
 
 by_conditions : MayInline above_it empty (λ x. false) caller (re_procedure same_ids setter)
     (Here end) call 0 []
-by_conditions = inline_conditions (λ f. Index) [] setter [] same_ids (λ x. false) (λ x. x) caller
+by_conditions = inline_conditions (λ f. Index) [] setter [] same_ids (λ x. false) caller
     (Here end) call [] (record {
       names = refl;
       params = λ x k. absurd (true≢false (sym k));
       distinct = tt;
-      share = λ b c r w n i j. absurd (none_is_some i);
       takes = tt;
       free = λ x k. absurd (true≢false (sym k));
       others = λ x k. (refl, refl);
       gone = refl;
       rest = refl;
-    }) (λ s u good come. (
-      λ x z e. absurd (none_is_some (sym (good.no_others x refl).2
-          ∙ ap (λ (t : State). t.scene.views x) (sym come) ∙ e)),
-      λ gs e. tt,
-    ))
+    }) (λ s u good come gs e. tt)
 
 -- ---- a block that sets field 0 to 4 becomes a call
 
@@ -165,22 +157,17 @@ they_match = refl
 
 may_call : MayInline above_it empty (λ x. false) (with_block setting block sets) setter (Here end)
     sets 0 []
-may_call = inline_conditions (λ f. Index) [] setter [] same_ids (λ x. false) (λ x. x)
+may_call = inline_conditions (λ f. Index) [] setter [] same_ids (λ x. false)
     (with_block setting block sets) (Here end) sets [] (record {
       names = refl;
       params = λ x k. absurd (true≢false (sym k));
       distinct = tt;
-      share = λ b c r w n i j. absurd (none_is_some i);
       takes = tt;
       free = λ x k. absurd (true≢false (sym k));
       others = λ x k. (refl, refl);
       gone = refl;
       rest = refl;
-    }) (λ s u good come. (
-      λ x z e. absurd (none_is_some (sym (good.no_others x refl).2
-          ∙ ap (λ (t : State). t.scene.views x) (sym come) ∙ e)),
-      λ gs e. tt,
-    ))
+    }) (λ s u good come gs e. tt)
 
 set_is_read : (u : State) → OfEach above_it (IsRead own) sets u
 set_is_read u = each_of_one above_it (IsRead own) (Config 0 (ControlArg (Lit (pos 4)))) u refl
@@ -219,19 +206,14 @@ fill_is_renamed = fresh_callee fill_it 3 refl
 
 with_new_ids : MayInline above_it empty (λ x. false) caller (with_fresh_ids 7 setter) (Here end)
     call 0 []
-with_new_ids = fresh_conditions (λ f. Index) [] setter [] 7 (λ x. false) (λ x. x) caller (Here end)
+with_new_ids = fresh_conditions (λ f. Index) [] setter [] 7 (λ x. false) caller (Here end)
     call [] refl (record {
       names = refl;
       params = λ x k. absurd (true≢false (sym k));
       distinct = tt;
-      share = λ b c r w n i j. absurd (none_is_some i);
       takes = tt;
       free = λ x k. absurd (true≢false (sym k));
       others = λ x k. (refl, refl);
       gone = refl;
       rest = refl;
-    }) (λ s u good come. (
-      λ x z e. absurd (none_is_some (sym (good.no_others x refl).2
-          ∙ ap (λ (t : State). t.scene.views x) (sym come) ∙ e)),
-      λ gs e. tt,
-    ))
+    }) (λ s u good come gs e. tt)

@@ -6,7 +6,6 @@ pub mod AtOnce
 pub mod MovedIsPut
 pub mod Meets
 pub mod MatchLaw
-pub mod Shares
 pub mod ReplaceRule
 pub mod Rows
 pub mod ReplaceRows

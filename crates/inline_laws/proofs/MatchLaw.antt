@@ -12,8 +12,7 @@ use Rattle.exo_tree.specs.Places.{Path}
 use Rattle.exo_meaning.specs.Inputs.{is_buffer_of}
 use Rattle.exo_meaning.specs.Orders.{Each}
 use Rattle.exo_meaning.specs.Scene.{Scene, number}
-use Rattle.affine_forms.specs.Atoms.{same_form, constantly}
-use Rattle.affine_forms.specs.Forms.{Reading, is_affine, normal}
+use Rattle.affine_forms.specs.Forms.{Reading, is_affine}
 use Rattle.exo_meaning.specs.Units.{is_of_literals}
 use Rattle.std.specs.Int.{is_positive}
 use Rattle.std.proofs.lemmas.Int.{ints}
@@ -23,14 +22,13 @@ use Rattle.meaning_laws.specs.Scoped.{has_binder}
 use Rattle.inplace_laws.specs.Along.{SameAlong}
 use Rattle.inplace_laws.specs.Inline.{inlined, is_view}
 use Rattle.inplace_laws.specs.Windows.{joined_coords, root_in, coords_of}
-use Rattle.simplify_laws.specs.Simplified.{simplified, values_in}
+use Rattle.simplify_laws.specs.Simplified.{values_in}
 use Rattle.simplify_laws.specs.SameControls.{OfCoords, OfEach}
 use Rattle.simplify_laws.specs.SimplifiedBlocks.{standing, IsRead}
-use Rattle.simplify_laws.proofs.Simplified.{simplified_law}
 use Rattle.match_laws.specs.Names.{Names, Buffer, names_of}
 use Rattle.match_laws.specs.Fitting.{SameCoords, IsAffine, OfSpots, IsComposed}
 use Rattle.match_laws.specs.Fitting.{coords_moved}
-use Rattle.match_laws.specs.Moved.{Moving, both, one, moved, moved_condition, agree}
+use Rattle.match_laws.specs.Moved.{Moving, both, one, moved, moved_condition, agree, simpler}
 use Rattle.match_laws.specs.Moved.{conditions_agree}
 use Rattle.match_laws.specs.Pairs.{Pair, Numbers, Truths, Binders, Own, Access, Unlike}
 use Rattle.match_laws.specs.Windows.{Use, use_in, uses_of, Spot, Offset, Point, coords_from}
@@ -44,7 +42,7 @@ use Rattle.match_laws.specs.Matched.{buffer_argument, argument_for, first_path}
 use Rattle.match_laws.specs.MatchedFits.{AreGiven, given_names, IsMatch}
 use Rattle.match_laws.specs.ArgumentFits.{IsFitting}
 use Rattle.match_laws.specs.Alike.{nameless}
-use Rattle.match_laws.proofs.Agree.{agree_law}
+use Rattle.match_laws.proofs.Agree.{agree_law, simpler_law}
 use Rattle.match_laws.proofs.Alike.{run_nameless}
 use Rattle.inplace_laws.proofs.Along.{along_law}
 use Rattle.match_laws.proofs.ArgumentFits.{argument_fits}
@@ -237,10 +235,10 @@ module _ (at : Reading) (m : Moving) (bound : ℕ → Bool) where
     zero_plus n = omega (arith, ints)
 
     at_zero : (e c : Control) → is_affine (standing scene) e ≡ true
-        → same_form (normal at e) (constantly (pos 0)) ≡ true
-        → number scene c ≡ number scene (Add (simplified at e) c)
+        → agree at e (Lit (pos 0)) ≡ true
+        → number scene c ≡ number scene (Add (simpler at e) c)
     at_zero e c i h =
-        sym (ap (λ n. n +ℤ number scene c) (simplified_law (standing scene) at scene e reads i
+        sym (ap (λ n. n +ℤ number scene c) (simpler_law (standing scene) at scene e reads i
         ∙ agree_law (standing scene) at scene e (Lit (pos 0)) reads i refl h)
         ∙ zero_plus (number scene c))
 
@@ -832,8 +830,8 @@ pub match_law : MatchLaw
 match_law world at theirs block q args s e may kd kb =
     let same = at_once q.params args q.body (suit_kinds q.params args may.kinds) may.apart in
     subst (λ b. SameAlong world (nameless block) (nameless b) s) (sym same)
-    (meets_along world at (puts q.params args) (params at theirs block q) (names_of q) theirs
-    q.body block s (puts_params at theirs block q args e may)
+    (meets_along world at (puts q.params args) (params at theirs block q) (has_binder block)
+    (names_of q) theirs q.body block s (puts_params at theirs block q args e may)
     (those_meet at theirs block q args e may) may.calls kd
     (subst (λ b. OfEach world (IsRead at) (nameless b) s) same kb))
 

@@ -30,12 +30,13 @@ use Rattle.match_laws.specs.Names.{Names}
 use Rattle.match_laws.specs.Fitting.{SameCoords}
 use Rattle.match_laws.specs.Moved.{agree, conditions_agree}
 use Rattle.match_laws.specs.Pairs.{Pair, Binders, Own, Access, Unlike}
-use Rattle.match_laws.specs.Pairs.{same_cell, same_cells, points, controls_paired, coords_paired}
-use Rattle.match_laws.specs.Pairs.{access_paired, data_paired, argument_paired}
+use Rattle.exo_tree.specs.Cells.{same_cell, same_cell_is}
+use Rattle.match_laws.specs.Pairs.{same_cells, points, controls_paired, coords_paired}
+use Rattle.match_laws.specs.Pairs.{param_paired, access_paired, data_paired, argument_paired}
 use Rattle.match_laws.specs.Pairs.{arguments_paired, step_to, blocks_paired, statements_paired}
 use Rattle.match_laws.specs.Alike.{nameless, nameless_statement, nameless_binder}
 use Rattle.match_laws.proofs.Alike.{numbers_agree, conditions_same, given_same, calls_same}
-use Rattle.match_laws.proofs.Alike.{Keeps, cells_same, by_turns, step_same}
+use Rattle.match_laws.proofs.Alike.{Keeps, by_turns, step_same}
 use Rattle.match_laws.proofs.Fitting.{same_windows, same_places}
 use Rattle.inline_laws.specs.AtOnce.{Put, put_control, put_controls, put_condition, put_index}
 use Rattle.inline_laws.specs.AtOnce.{put_datum, put_coords, put_window, put_argument}
@@ -78,7 +79,7 @@ view_no_number scene (Window y cs) h = refl
 one_binder : (i j : Binder) → i.id ≡ j.id → nameless_binder i ≡ nameless_binder j
 one_binder i j e = ap (λ (n : ℕ). record { id = n; name = [] }) e
 
-module _ (at : Reading) (put : Put) (params : ℕ → Bool) (ours theirs : Names)
+module _ (at : Reading) (put : Put) (params bound : ℕ → Bool) (ours theirs : Names)
     (puts : PutsParams params put) where
   abbrev All : List Pair → Type 0
   All = Each (Meets at put)
@@ -94,7 +95,7 @@ module _ (at : Reading) (put : Put) (params : ℕ → Bool) (ours theirs : Names
     number_meets e g h i j = sym (numbers_agree at scene (put_control put e) g h j i)
 
     controls_meet : (p : Path) (es gs : List Control)
-        → All (controls_paired params ours theirs p es gs) → OfControls Reads gs
+        → All (controls_paired params bound ours theirs p es gs) → OfControls Reads gs
         → OfControls Reads (put_controls put es)
         → numbers scene gs ≡ numbers scene (put_controls put es)
     controls_meet p [] [] h i j = refl
@@ -104,7 +105,7 @@ module _ (at : Reading) (put : Put) (params : ℕ → Bool) (ours theirs : Names
         ap₂ ◌∷◌ (number_meets e g h.0 i.0 j.0) (controls_meet p es gs h.1 i.1 j.1)
 
     coords_meet : (p : Path) (cs ds : List Coord)
-        → All (coords_paired params ours theirs p cs ds) → OfCoords Reads ds
+        → All (coords_paired params bound ours theirs p cs ds) → OfCoords Reads ds
         → OfCoords Reads (put_coords put cs) → SameCoords scene (put_coords put cs) ds
     coords_meet p [] [] h i j = tt
     coords_meet p [] (d ∷ ds) h i j = absurd h.0
@@ -128,15 +129,20 @@ module _ (at : Reading) (put : Put) (params : ℕ → Bool) (ours theirs : Names
         → SameCoords scene (put_window put x cs) ds)
 
     access_meets : (p : Path) (x : ℕ) (cs : List Coord) (y : ℕ) (ds : List Coord)
-        → All (access_paired params ours theirs p x cs y ds) → SameAccess x cs y ds
+        → All (access_paired params bound ours theirs p x cs y ds) → SameAccess x cs y ds
     access_meets p x cs y ds h =
         by_cells (same_cells (ours x) (theirs y)) h
       where
-        by_param : (t : Bool) → params x ≡ t
-            → All (if t then Access p x cs y ds ∷ []
-            else Own p x y ∷ coords_paired params ours theirs p cs ds)
+        by_bound : (t : Bool) → All (if t then Unlike p ∷ [] else Access p x cs y ds ∷ [])
             → SameAccess x cs y ds
-        by_param true e k = (k.0.0, λ i j. k.0.1 scene j i)
+        by_bound true k = absurd k.0
+        by_bound false k = (k.0.0, λ i j. k.0.1 scene j i)
+
+        by_param : (t : Bool) → params x ≡ t
+            → All (if t then param_paired params bound ours theirs p x cs y ds
+            else Own p x y ∷ coords_paired params bound ours theirs p cs ds)
+            → SameAccess x cs y ds
+        by_param true e k = by_bound (bound y) k
         by_param false e k = (
           ap (λ a. root_in a x) (puts.own x e) ∙ k.0,
           λ i j. subst (λ a. SameCoords scene (joined_coords (coords_of a) (put_coords put cs)) ds)
@@ -146,14 +152,14 @@ module _ (at : Reading) (put : Put) (params : ℕ → Bool) (ours theirs : Names
         )
 
         by_cells : (t : Bool)
-            → All (if t then (if params x then Access p x cs y ds ∷ []
-            else Own p x y ∷ coords_paired params ours theirs p cs ds) else Unlike p ∷ [])
+            → All (if t then (if params x then param_paired params bound ours theirs p x cs y ds
+            else Own p x y ∷ coords_paired params bound ours theirs p cs ds) else Unlike p ∷ [])
             → SameAccess x cs y ds
         by_cells true k = by_param (params x) refl k
         by_cells false k = absurd k.0
 
     place_meets : (p : Path) (x : ℕ) (is : List Control) (y : ℕ) (js : List Control)
-        → All (access_paired params ours theirs p x (points is) y (points js))
+        → All (access_paired params bound ours theirs p x (points is) y (points js))
         → OfControls Reads js → OfControls Reads (put_index put x is)
         → place scene y js ≡ place scene (root_for put x) (put_index put x is)
     place_meets p x is y js h i j =
@@ -166,7 +172,7 @@ module _ (at : Reading) (put : Put) (params : ℕ → Bool) (ours theirs : Names
         ∙ ap (λ z. place scene z js) it.0)
 
     window_meets : (p : Path) (x : ℕ) (cs : List Coord) (y : ℕ) (ds : List Coord)
-        → All (access_paired params ours theirs p x cs y ds) → OfCoords Reads ds
+        → All (access_paired params bound ours theirs p x cs y ds) → OfCoords Reads ds
         → OfCoords Reads (put_window put x cs)
         → window scene y ds ≡ window scene (root_for put x) (put_window put x cs)
     window_meets p x cs y ds h i j =
@@ -180,7 +186,7 @@ module _ (at : Reading) (put : Put) (params : ℕ → Bool) (ours theirs : Names
     condition_meets c d h i j = sym (conditions_same at scene (put_condition put c) d h j i)
 
     given_meets : (p : Path) (whole : Bool) (a b : Argument)
-        → All (argument_paired params ours theirs p whole a b) → wholes_alike at put a b ≡ true
+        → All (argument_paired params bound ours theirs p whole a b) → wholes_alike at put a b ≡ true
         → OfArgument Reads b → OfArgument Reads (put_argument put a)
         → given scene b ≡ given scene (put_argument put a)
     given_meets p whole (ControlArg e) (ControlArg g) h w i j =
@@ -195,7 +201,7 @@ module _ (at : Reading) (put : Put) (params : ℕ → Bool) (ours theirs : Names
     given_meets p whole a b h w i j = absurd h.0
 
     all_meet : (p : Path) (as' bs : List Argument)
-        → All (arguments_paired params ours theirs p as' bs)
+        → All (arguments_paired params bound ours theirs p as' bs)
         → all_wholes_alike at put as' bs ≡ true → OfArguments Reads bs
         → OfArguments Reads (put_arguments put as')
         → all_given scene bs ≡ all_given scene (put_arguments put as')
@@ -203,14 +209,14 @@ module _ (at : Reading) (put : Put) (params : ℕ → Bool) (ours theirs : Names
     all_meet p [] (b ∷ bs) h w i j = absurd h.0
     all_meet p (a ∷ as') [] h w i j = absurd h.0
     all_meet p (a ∷ as') (b ∷ bs) h w i j =
-        let k = each_split (Meets at put) (argument_paired params ours theirs p false a b)
-        (arguments_paired params ours theirs p as' bs) h in
+        let k = each_split (Meets at put) (argument_paired params bound ours theirs p false a b)
+        (arguments_paired params bound ours theirs p as' bs) h in
         let v = and_parts (wholes_alike at put a b) (all_wholes_alike at put as' bs) w in
         ap₂ (λ o r. then_do o (λ g. option_map (λ gs. g ∷ gs) r))
         (given_meets p false a b k.0 v.0 i.0 j.0) (all_meet p as' bs k.1 v.1 i.1 j.1)
 
     number_told : (p : Path) (whole : Bool) (a b : Argument)
-        → All (argument_paired params ours theirs p whole a b) → OfArgument Reads b
+        → All (argument_paired params bound ours theirs p whole a b) → OfArgument Reads b
         → OfArgument Reads (put_argument put a)
         → argument_number scene b ≡ argument_number scene (put_argument put a)
     number_told p whole (ControlArg e) (ControlArg g) h i j = ap Some (number_meets e g h.0 i j)
@@ -231,13 +237,13 @@ module _ (at : Reading) (put : Put) (params : ℕ → Bool) (ours theirs : Names
     There = IsRead at s.scene
 
     two_meet : (p : Path) (a b c d : Datum)
-        → All (data_paired params ours theirs p a c ++ data_paired params ours theirs p b d)
-        → All (data_paired params ours theirs p a c) × All (data_paired params ours theirs p b d)
+        → All (data_paired params bound ours theirs p a c ++ data_paired params bound ours theirs p b d)
+        → All (data_paired params bound ours theirs p a c) × All (data_paired params bound ours theirs p b d)
     two_meet p a b c d h =
-        each_split (Meets at put) (data_paired params ours theirs p a c)
-        (data_paired params ours theirs p b d) h
+        each_split (Meets at put) (data_paired params bound ours theirs p a c)
+        (data_paired params bound ours theirs p b d) h
 
-    value_meets : (p : Path) (e d : Datum) → All (data_paired params ours theirs p e d)
+    value_meets : (p : Path) (e d : Datum) → All (data_paired params bound ours theirs p e d)
         → OfDatum There d → OfDatum There (put_datum put e)
         → value s d ≡ value s (put_datum put e)
     value_meets p (Const m) (Const n) h i j = go (int_eq m n) refl h
@@ -265,12 +271,12 @@ module _ (at : Reading) (put : Put) (params : ℕ → Bool) (ours theirs : Names
         ap₂ (λ m n. then_do m (λ u. option_map (on_two ◌*ℤ◌ u) n))
         (value_meets p a c k.0 i.0 j.0) (value_meets p b d k.1 i.1 j.1)
     value_meets p (Select a b c d) (Select e f g l) h i j =
-        let k = each_split (Meets at put) (data_paired params ours theirs p a e
-        ++ data_paired params ours theirs p b f ++ data_paired params ours theirs p c g)
-        (data_paired params ours theirs p d l) h in
+        let k = each_split (Meets at put) (data_paired params bound ours theirs p a e
+        ++ data_paired params bound ours theirs p b f ++ data_paired params bound ours theirs p c g)
+        (data_paired params bound ours theirs p d l) h in
         let m = each_split (Meets at put)
-        (data_paired params ours theirs p a e ++ data_paired params ours theirs p b f)
-        (data_paired params ours theirs p c g) k.0 in
+        (data_paired params bound ours theirs p a e ++ data_paired params bound ours theirs p b f)
+        (data_paired params bound ours theirs p c g) k.0 in
         let n = two_meet p a b e f m.0 in
         ap₂ (λ (u v : Option Value). then_do u (λ x. then_do v (λ y.
         then_do (value s g) (λ w. option_map (on_four selected x y w) (value s l)))))
@@ -301,8 +307,8 @@ module _ (at : Reading) (put : Put) (params : ℕ → Bool) (ours theirs : Names
     -- what is stored
     stored : (under : Path → Path) (x : ℕ) (is : List Control) (e : Datum) (y : ℕ)
         (js : List Control) (d : Datum) (s : State) (f : Value → Value → Value)
-        → All (access_paired params ours theirs (under []) x (points is) y (points js)
-        ++ data_paired params ours theirs (under []) e d)
+        → All (access_paired params bound ours theirs (under []) x (points is) y (points js)
+        ++ data_paired params bound ours theirs (under []) e d)
         → OfControls (IsRead at s.scene) js × OfDatum (IsRead at s.scene) d
         → OfControls (IsRead at s.scene) (put_index put x is)
         × OfDatum (IsRead at s.scene) (put_datum put e)
@@ -312,8 +318,8 @@ module _ (at : Reading) (put : Put) (params : ℕ → Bool) (ours theirs : Names
         then_do (value s (put_datum put e)) (λ v. put_at s (λ old. f old v) z))
     stored under x is e y js d s f h i j =
         let k = each_split (Meets at put)
-        (access_paired params ours theirs (under []) x (points is) y (points js))
-        (data_paired params ours theirs (under []) e d) h in
+        (access_paired params bound ours theirs (under []) x (points is) y (points js))
+        (data_paired params bound ours theirs (under []) e d) h in
         ap₂ (λ (o : Option Place) (r : Option Value). then_do o (λ z.
         then_do r (λ v. put_at s (λ old. f old v) z)))
         (place_meets s.scene (under []) x is y js k.0 i.0 j.0)
@@ -321,16 +327,16 @@ module _ (at : Reading) (put : Put) (params : ℕ → Bool) (ours theirs : Names
 
     mutual
       along : (under : Path → Path) (branch : Branch) (n : ℕ) (b d : Block) (s : State)
-          → All (blocks_paired params ours theirs under branch n b d)
+          → All (blocks_paired params bound ours theirs under branch n b d)
           → calls_alike at put b d ≡ true → Kept (nameless d) s → Kept (within b) s
           → SameAlong world (nameless d) (within b) s
       along under branch n end end s h w kd kb = both_end
       along under branch n (next a b) (next c d) s h w kd kb =
           let pairs = each_split (Meets at put)
-          (statements_paired params ours theirs (step_to params ours theirs under branch n) a c)
-          (blocks_paired params ours theirs under branch (suc n) b d) h in
+          (statements_paired params bound ours theirs (step_to params bound ours theirs under branch n) a c)
+          (blocks_paired params bound ours theirs under branch (suc n) b d) h in
           let v = and_parts (calls_alike_in at put a c) (calls_alike at put b d) w in
-          let same = there (step_to params ours theirs under branch n) a c (nameless d) (within b) s pairs.0 v.0 kd kb
+          let same = there (step_to params bound ours theirs under branch n) a c (nameless d) (within b) s pairs.0 v.0 kd kb
           in
           both_next same (λ t e. along under branch (suc n) b d t pairs.1 v.1
           (λ k g u i come. kd (After (nameless_statement c) k) g u
@@ -341,7 +347,7 @@ module _ (at : Reading) (put : Put) (params : ℕ → Bool) (ours theirs : Names
       along under branch n (next a b) end s h w kd kb = absurd h.0
 
       there : (under : Path → Path) (a c : Statement) (rest more : Block) (s : State)
-          → All (statements_paired params ours theirs under a c)
+          → All (statements_paired params bound ours theirs under a c)
           → calls_alike_in at put a c ≡ true → Kept (next (nameless_statement c) rest) s
           → Kept (next (after a) more) s
           → SameThere world (nameless_statement c) (after a) s
@@ -357,7 +363,7 @@ module _ (at : Reading) (put : Put) (params : ℕ → Bool) (ours theirs : Names
           let i = kd (Here rest) (Config g b) s refl refl in
           let j = kb (Here more) (after (Config f a)) s refl refl in
           let k = where_like (f == g) (under [])
-          (argument_paired params ours theirs (under []) true a b) h in
+          (argument_paired params bound ours theirs (under []) true a b) h in
           at_once (ap₂ (λ k o. then_do o (λ n. where_true (suits (world.kinds k) n)
           (Some (on_scene (with_field k n) s)))) (sym (eqb-true f g k.0))
           (number_told s.scene (under []) true a b k.1 i j))
@@ -366,8 +372,8 @@ module _ (at : Reading) (put : Put) (params : ℕ → Bool) (ours theirs : Names
           let i = kd (Here rest) (If r (nameless c) (nameless d)) s refl refl in
           let j = kb (Here more) (after (If t a b)) s refl refl in
           let same = condition_meets s.scene t r h.0 i j in
-          let k = each_split (Meets at put) (blocks_paired params ours theirs under Main 0 a c)
-          (blocks_paired params ours theirs under Else 0 b d) h.1 in
+          let k = each_split (Meets at put) (blocks_paired params bound ours theirs under Main 0 a c)
+          (blocks_paired params bound ours theirs under Else 0 b d) h.1 in
           let v = and_parts (calls_alike at put a c) (calls_alike at put b d) w in
           let told = put_condition put t in
           in_branches same
@@ -400,26 +406,26 @@ module _ (at : Reading) (put : Put) (params : ℕ → Bool) (ours theirs : Names
           let i = kd (Here rest) (nameless_statement (Alloc y type extents store)) s refl refl in
           let j = kb (Here more) (after (Alloc x cell dims memory)) s refl refl in
           let k = where_like (same_cell cell type && (memory == store)) (under [])
-          (controls_paired params ours theirs (under []) dims extents ++ Binders x.id y.id ∷ []) h in
+          (controls_paired params bound ours theirs (under []) dims extents ++ Binders x.id y.id ∷ []) h in
           let p = and_parts (same_cell cell type) (memory == store) k.0 in
           let q = each_split (Meets at put)
-          (controls_paired params ours theirs (under []) dims extents) (Binders x.id y.id ∷ []) k.1 in
+          (controls_paired params bound ours theirs (under []) dims extents) (Binders x.id y.id ∷ []) k.1 in
           at_once (ap₂ (λ z t. allocate z t (numbers s.scene extents) s) (sym q.1.0)
-          (sym (cells_same cell type p.0))
+          (sym (same_cell_is cell type p.0))
           ∙ ap (λ ns. allocate x.id cell ns s)
           (controls_meet s.scene (under []) dims extents q.0 i j))
       there under (View v x cs) (View z y ds) rest more s h w kd kb =
           let i = kd (Here rest) (nameless_statement (View z y ds)) s refl refl in
           let j = kb (Here more) (after (View v x cs)) s refl refl in
           let q = each_split (Meets at put)
-          (access_paired params ours theirs (under []) x cs y ds) (Binders v.id z.id ∷ []) h in
+          (access_paired params bound ours theirs (under []) x cs y ds) (Binders v.id z.id ∷ []) h in
           at_once (ap₂ (λ k o. then_do o (λ r. Some (on_scene (with_view k r) s)))
           (sym q.1.0) (window_meets s.scene (under []) x cs y ds q.0 i j))
       there under (Call k as') (Call m bs) rest more s h w kd kb =
           let i = kd (Here rest) (Call m bs) s refl refl in
           let j = kb (Here more) (after (Call k as')) s refl refl in
           let q = where_like (k == m) (under [])
-          (arguments_paired params ours theirs (under []) as' bs) h in
+          (arguments_paired params bound ours theirs (under []) as' bs) h in
           at_once (calls_same at (world.callees m) bs (put_arguments put as') s
           (all_meet s.scene (under []) as' bs q.1 w i j)
           ∙ ap (λ z. call_to (world.callees z) (put_arguments put as') s)
@@ -427,5 +433,5 @@ module _ (at : Reading) (put : Put) (params : ℕ → Bool) (ours theirs : Names
       there under a c rest more s h w kd kb = absurd h.0
 
 pub meets_along : MeetsAlong
-meets_along world at put params ours theirs b d s puts h w kd kb =
-    along at put params ours theirs puts world (λ path. path) Main 0 b d s h w kd kb
+meets_along world at put params bound ours theirs b d s puts h w kd kb =
+    along at put params bound ours theirs puts world (λ path. path) Main 0 b d s h w kd kb

@@ -1,12 +1,12 @@
 -- The rewrite replace on small units, and the calls inlined again.
 use Rattle.std.proofs.Common.{◌≡◌, ℕ, ◌+◌, ◌==◌, Bool, if◌then◌else◌, pos, true, false, List, []}
-use Rattle.std.proofs.Common.{◌∷◌, Some, None}
+use Rattle.std.proofs.Common.{◌∷◌, Option, Some, None}
 use Rattle.std.proofs.Common.{IfSome, refl, sym, ◌∙◌, eqb-true}
-use Rattle.exo_tree.specs.Tree.{I32, Index, Control, Var, Add, Const, Read, At, Span}
-use Rattle.exo_tree.specs.Tree.{Argument, ControlArg, Window, ControlParam, TensorParam}
+use Rattle.exo_tree.specs.Tree.{I32, Kind, Index, Control, Var, Add, Const, Read, At, Span}
+use Rattle.exo_tree.specs.Tree.{Argument, ControlArg, Window, ParamKind, ControlParam, TensorParam}
+use Rattle.exo_tree.specs.Tree.{WindowParam}
 use Rattle.exo_tree.specs.Tree.{Assign, Call, Block, end, next, Procedure}
 use Rattle.inplace_laws.specs.Inline.{inlined}
-use Rattle.inplace_laws.specs.Shared.{DoNotShare}
 use Rattle.match_laws.specs.Alike.{blocks_agree, nameless}
 use Rattle.match_laws.proofs.Instances.{own, lit, loop, copy8, product, at_lane, loaded, step, rows}
 use Rattle.match_laws.proofs.Instances.{zeros, nest}
@@ -24,7 +24,6 @@ use Rattle.inline_laws.specs.InlineRule.{renumbered}
 use Rattle.inline_laws.specs.ReplaceRule.{AtPath, OfParam, Shared, replace_piece, replace_draft}
 use Rattle.inline_laws.specs.ReplaceRule.{replace_refusal}
 use Rattle.inline_laws.proofs.AtOnce.{at_once}
-use Rattle.inline_laws.proofs.Shares.{shares_law}
 use Rattle.inline_laws.proofs.Rows.{named, first, copy_n, param}
 
 abbrev call : ℕ → List Argument → Block
@@ -37,6 +36,9 @@ itself x = x
 abbrev first_only : ℕ → Bool
 first_only x = x == 0
 
+abbrev no_fields : ℕ → Option Kind
+no_fields f = None
+
 -- ---- for ji in seq(0, 8): c[ji] = C[i, 8 * jo + ji] is copy8(c[0:8], C[i, 8 * jo:8 * jo + 8])
 
 abbrev pub load : Block
@@ -48,7 +50,7 @@ its_piece = refl
 load_is_called : replace_draft own product copy8 3 load ≡ Some (call 3 loaded)
 load_is_called = refl
 
-load_is_not_refused : replace_refusal own product copy8 3 itself first_only load ≡ None
+load_is_not_refused : replace_refusal own product copy8 3 no_fields itself first_only load ≡ None
 load_is_not_refused = refl
 
 -- copy8 with the id of ji, and with its parameters out of the way
@@ -91,12 +93,12 @@ abbrev at_twice : Procedure
 at_twice = named (param 0 (ControlParam Index) ∷ param 1 (TensorParam I32 (lit 3 ∷ []) 0) ∷ [])
     (next (Assign 1 (Add (Var 0) (Var 0) ∷ []) (Const (pos 3))) end)
 
-first_is_not_determined : replace_refusal own rows at_twice 0 itself first_only row_loop
+first_is_not_determined : replace_refusal own rows at_twice 0 no_fields itself first_only row_loop
     ≡ Some (OfParam 0)
 first_is_not_determined = refl
 
 -- an inner bound that the block binds
-bounds_are_refused : replace_refusal own rows zeros 0 itself first_only
+bounds_are_refused : replace_refusal own rows zeros 0 no_fields itself first_only
     (nest 6 7 (Var 6) 3)
     ≡ Some (AtPath (step 0 ∷ step 0 ∷ []))
 bounds_are_refused = refl
@@ -104,18 +106,49 @@ bounds_are_refused = refl
 they_have_no_draft : replace_draft own rows zeros 0 (nest 6 7 (Var 6) 3) ≡ None
 they_have_no_draft = refl
 
--- ---- c[ji] = c[ji + 8] would be copy8(c[0:8], c[8:16]), which share c
+-- ---- c[ji] = c[ji + 8] is copy8(c[0:8], c[8:16]): that these are apart is owed by the result
 
 abbrev along_one : Block
 along_one = loop 11 (lit 8) (Assign 9 (Var 11 ∷ []) (Read 9 (Add (Var 11) (lit 8) ∷ [])))
 
-shared_ones_are_refused : replace_refusal own product copy8 3 itself first_only along_one
-    ≡ Some Shared
-shared_ones_are_refused = refl
+windows_of_one_are_not_refused :
+    replace_refusal own product copy8 3 no_fields itself first_only along_one ≡ None
+windows_of_one_are_not_refused = refl
 
--- the arguments of the load share nothing
-load_shares_nothing : DoNotShare itself first_only copy8.params loaded
-load_shares_nothing = shares_law itself first_only copy8.params loaded refl
+windows_of_one_are_called : replace_draft own product copy8 3 along_one
+    ≡ Some (call 3 (Window 9 (Span (lit 0) (lit 8) ∷ [])
+    ∷ Window 9 (Span (lit 8) (lit 16) ∷ []) ∷ []))
+windows_of_one_are_called = refl
+
+-- c[ji] = c[ji] would be whole8(c, c), or part8(c[0:8], c)
+
+abbrev onto_itself : Block
+onto_itself = loop 11 (lit 8) (Assign 9 (Var 11 ∷ []) (Read 9 (Var 11 ∷ [])))
+
+abbrev eight : ParamKind
+eight = TensorParam I32 (lit 8 ∷ []) 0
+
+abbrev copied : Block
+copied = loop 2 (lit 8) (Assign 0 (Var 2 ∷ []) (Read 1 (Var 2 ∷ [])))
+
+abbrev whole8 : Procedure
+whole8 = named (param 0 eight ∷ param 1 eight ∷ []) copied
+
+abbrev part8 : Procedure
+part8 = named (param 0 (WindowParam I32 (lit 8 ∷ []) 0) ∷ param 1 eight ∷ []) copied
+
+tensors_are_refused :
+    replace_refusal own product whole8 3 no_fields itself first_only onto_itself ≡ Some Shared
+tensors_are_refused = refl
+
+one_tensor_is_refused :
+    replace_refusal own product part8 3 no_fields itself first_only onto_itself ≡ Some Shared
+one_tensor_is_refused = refl
+
+-- what is only read may be one
+read_ones_are_not_refused :
+    replace_refusal own product whole8 3 no_fields itself (λ x. false) onto_itself ≡ None
+read_ones_are_not_refused = refl
 
 -- ---- the arguments of the copied row, all at once
 

@@ -54,12 +54,12 @@ FreshCallee =
 abbrev pub FreshConditions : Type 0
 FreshConditions =
     (kinds : ℕ → Kind) (before : List Procedure) (callee : Procedure) (after : List Procedure)
-    (n : ℕ) (own : ℕ → Bool) (root : ℕ → ℕ) (p : Procedure) (c : Context) (old : Block)
+    (n : ℕ) (own : ℕ → Bool) (p : Procedure) (c : Context) (old : Block)
     (args : List Argument)
     → let above = unit_world kinds before in
     let world = unit_world kinds (before ++ callee ∷ after) in
     let q = with_fresh_ids n callee in
     procedure_mentions (is_new n callee) callee ≡ false
-    → IsInlinable own root above p q c args
-    → StandThere world root p q c old args
+    → IsInlinable own p q c args
+    → StandThere world p q c old args
     → MayInline world above own p q c old (size before) args

@@ -7,5 +7,4 @@ pub mod AtOnce
 pub mod MovedIsPut
 pub mod Meets
 pub mod MatchLaw
-pub mod Shares
 pub mod ReplaceRule

@@ -66,10 +66,10 @@ pub record PutsParams (params : ℕ → Bool) (put : Put) : Type 0 where
 -- then the block does what the callee's body does, along any run
 abbrev pub MeetsAlong : Type 0
 MeetsAlong =
-    (world : World) (at : Reading) (put : Put) (params : ℕ → Bool) (ours theirs : Names)
+    (world : World) (at : Reading) (put : Put) (params bound : ℕ → Bool) (ours theirs : Names)
     (b d : Block) (s : State)
     → PutsParams params put
-    → Each (Meets at put) (paired params ours theirs b d)
+    → Each (Meets at put) (paired params bound ours theirs b d)
     → calls_alike at put b d ≡ true
     → OfEach world (IsRead at) (nameless d) s
     → OfEach world (IsRead at) (nameless (put_block put b)) s

@@ -8,6 +8,7 @@ use Rattle.exo_tree.specs.Places.{Path, Opened, opened}
 use Rattle.exo_meaning.specs.State.{State}
 use Rattle.exo_meaning.specs.Run.{World, unit_world}
 use Rattle.exo_meaning.specs.Inputs.{IsAdmissible, Refines}
+use Rattle.exo_meaning.specs.Units.{share_nothing_written}
 use Rattle.meaning_laws.specs.Context.{ComesTo}
 use Rattle.affine_forms.specs.Forms.{Reading}
 use Rattle.inplace_laws.specs.Inline.{inlined, MayInline}
@@ -18,10 +19,9 @@ use Rattle.match_laws.specs.Matched.{Arguments, NoMatch, Undetermined, matched}
 use Rattle.match_laws.specs.Alike.{nameless}
 use Rattle.inline_laws.specs.Pieces.{Piece, Shift}
 use Rattle.inline_laws.specs.MatchLaw.{MayMatch}
-use Rattle.inline_laws.specs.Shares.{shares}
 
 -- why it refuses: the first statement of the callee's body that differs, the first parameter that
--- no place determines, or an argument that shares its buffer with one that is written
+-- no place determines, or arguments that the call may not have by the rule on shared buffers
 pub data Differs : Type 0 where
   AtPath : Path → Differs
   OfParam : ℕ → Differs
@@ -38,11 +38,13 @@ replace_piece p at n =
 -- at: what an expression of the block reads; theirs: the names of the block's procedure; q: the
 -- callee, which is number k of the unit
 module _ (at : Reading) (theirs : Names) (q : Procedure) (k : ℕ) where
-  -- root: the buffer of each name at the place; writes: the parameters that the callee writes
-  abbrev pub replace_refusal : (ℕ → ℕ) → (ℕ → Bool) → Block → Option Differs
-  replace_refusal root writes piece =
+  -- fields: their kinds; root: the buffer of each name at the place; writes: the parameters that
+  -- the callee writes
+  abbrev pub replace_refusal : (ℕ → Option Kind) → (ℕ → ℕ) → (ℕ → Bool) → Block → Option Differs
+  replace_refusal fields root writes piece =
       elim (matched at theirs piece q) [
-        | Arguments args ↦ if shares root writes q.params args then Some Shared else None
+        | Arguments args ↦
+            if share_nothing_written fields writes root q.params args then None else Some Shared
         | NoMatch path ↦ Some (AtPath path)
         | Undetermined x ↦ Some (OfParam x)
       ]

@@ -7,7 +7,6 @@ ghost use Rattle.inline_laws.specs.FreshCallee.{FreshCallee};
 ghost use Rattle.inline_laws.specs.FreshCallee.{FreshConditions};
 ghost use Rattle.inline_laws.specs.MovedIsPut.{MovedIsPut};
 ghost use Rattle.inline_laws.specs.MovedIsPut.{MatchedAgrees};
-ghost use Rattle.inline_laws.specs.Shares.{SharesLaw};
 ghost use Rattle.inline_laws.specs.AtOnce.{AtOnce};
 ghost use Rattle.inline_laws.specs.ReplaceRule.{ReplaceRule};
 ghost use Rattle.inline_laws.specs.Meets.{MeetsAlong};
@@ -33,11 +32,6 @@ pub fn callees_of_the_unit_may_be_inlined()
 /// A procedure with a matched block replaced by a call is a refinement.
 pub fn replaced_blocks_refine()
     ensures { ReplaceRule }
-{}
-
-/// Where no argument that is written has the root of another one, none share a buffer.
-pub fn arguments_that_meet_are_told()
-    ensures { SharesLaw }
 {}
 
 /// The callee with new ids is the callee under a renaming.

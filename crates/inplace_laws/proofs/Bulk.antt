@@ -45,7 +45,7 @@ within_through scene None ts cs h = go (narrowed scene ts cs)
     go (Some l) = tt
 within_through scene (Some z) ts cs h = narrowed_within scene z.sides ts cs h
 
-one_cell : (o : Option Seen) (a b r : List ℤ) → cell_through o a ≡ Some r → cell_through o b ≡ Some r → a ≡ b
+pub one_cell : (o : Option Seen) (a b r : List ℤ) → cell_through o a ≡ Some r → cell_through o b ≡ Some r → a ≡ b
 one_cell None a b r i j = one_value a r i ∙ sym (one_value b r j)
 one_cell (Some z) a b r i j = one_value a b (sym (index_at_cell z.sides a r i) ∙ index_at_cell z.sides b r j)
 

@@ -1,4 +1,5 @@
 -- A call is a run of its body in place.
+use Rattle.inplace_laws.proofs.Passed.{passed_apart}
 use Rattle.std.proofs.Common.{◌≡◌, ℕ, ℤ, pos, ◌==◌, Bool, true, false, cond, ◌&&◌, ◌||◌, List, [], ◌∷◌, Option, Some, None, IsSome, option_map, refl, sym, ap, ap₂, ◌∙◌, subst, true≢false, eqb-true, eq-eqb}
 use Rattle.std.proofs.Math.Path.{fun_ext}
 use Rattle.std.specs.Cmp.Rules.{signed_items}
@@ -7,7 +8,7 @@ use Rattle.exo_meaning.specs.Value.{Value, Undefined}
 use Rattle.exo_meaning.specs.Scene.{Shape, Seen, Scene, numbers, updated, whole, extents, index_of, strides_seen, strides_of}
 use Rattle.exo_meaning.specs.State.{State, Cells, same_index, kept, left, on_scene, with_contents, with_buffer}
 use Rattle.exo_meaning.specs.Run.{World, run, writes, callee_in}
-use Rattle.exo_meaning.specs.Calls.{Given, GivenNumber, GivenView, suits, all_positive, bind_number, bind_numbers, copy_in, bind_buffer, bind_buffers, bare, entered, held_at, value_or, copy_back, copied_back, returned, contents}
+use Rattle.exo_meaning.specs.Calls.{all_apart, Given, GivenNumber, GivenView, suits, all_positive, bind_number, bind_numbers, copy_in, bind_buffer, bind_buffers, bare, entered, held_at, value_or, copy_back, copied_back, returned, contents}
 use Rattle.exo_meaning.specs.Inputs.{is_buffer_of}
 use Rattle.exo_meaning.specs.Refines.{Both}
 use Rattle.exo_meaning.proofs.Windows.{none_is_some, one_value, where_parts, cell_at_index}
@@ -254,7 +255,7 @@ base_there s (p ∷ ps) (g ∷ gs) h x z e = go (x == p.binder.id) e (base_there
 
 -- ---- the law
 
-module _ (hidden : ℕ → Bool) (world : World) (p : Procedure) (gs : List Given) (s inner : State) (may : MayRunInPlace hidden world p gs s) (there : AreThere s gs) where
+module _ (hidden : ℕ → Bool) (world : World) (p : Procedure) (gs : List Given) (s inner : State) (may : MayRunInPlace hidden world p gs s) (passed : all_apart (writes world (λ x. x) p.body) p.params gs ≡ true) (there : AreThere s gs) where
   abbrev base : ℕ → Option Seen
   base = base_of p.params gs
 
@@ -269,7 +270,7 @@ module _ (hidden : ℕ → Bool) (world : World) (p : Procedure) (gs : List Give
       go false e = absurd (true≢false (sym (subst IsSome ((may.unbound b e).buffers) i)))
 
   placing : IsPlacing hidden written every base
-  placing = record { whole = λ b e. refl; outside = λ b z e. hidden_there z.buffer (base_there s p.params gs there b z e); apart = may.apart }
+  placing = record { whole = λ b e. refl; outside = λ b z e. hidden_there z.buffer (base_there s p.params gs there b z e); apart = λ b c z y w n i j. passed_apart written p.params gs passed b c z y w n i j }
 
   none_made : (x : ℕ) → makes p.body x ≡ true → base x ≡ None
   none_made x e = go (base x) refl
@@ -330,7 +331,7 @@ module _ (hidden : ℕ → Bool) (world : World) (p : Procedure) (gs : List Give
   ends (Some a) (Some b) h = ap Some (returned_is a b h)
 
 pub call_in_place : CallInPlace
-call_in_place hidden world p args gs s inner may e k =
+call_in_place hidden world p args gs s inner may passed e k =
     let there : AreThere s gs = if_gives (AreThere s) (all_given s.scene args) gs (all_there s args may.sound) e in
-    ends hidden world p gs s inner may there (run world p.body inner) (run world p.body (on_scene (bound p.params gs) s))
-    (in_place world hidden (writes world (λ x. x) p.body) no_name every (base_of p.params gs) (λ x. x) p.body s inner (on_scene (bound p.params gs) s) (placing hidden world p gs s inner may there) may.names (λ y i. i) (none_made hidden world p gs s inner may there) (first_roots hidden world p gs s inner may there k) (stands_first hidden world p gs s inner may there k))
+    ends hidden world p gs s inner may passed there (run world p.body inner) (run world p.body (on_scene (bound p.params gs) s))
+    (in_place world hidden (writes world (λ x. x) p.body) no_name every (base_of p.params gs) (λ x. x) p.body s inner (on_scene (bound p.params gs) s) (placing hidden world p gs s inner may passed there) may.names (λ y i. i) (none_made hidden world p gs s inner may passed there) (first_roots hidden world p gs s inner may passed there k) (stands_first hidden world p gs s inner may passed there k))

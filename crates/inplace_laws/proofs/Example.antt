@@ -1,5 +1,5 @@
 -- The law of calls in place, at a call.
-use Rattle.std.proofs.Common.{◌≡◌, ℕ, ℤ, pos, ◌==◌, Bool, true, false, not, cond, ◌||◌, List, [], ◌∷◌, Option, Some, None, IsSome, option_map, refl, sym, ap, ◌∙◌, subst, true≢false, eqb-true, eq-eqb}
+use Rattle.std.proofs.Common.{◌≡◌, ℕ, ℤ, pos, ◌==◌, Bool, true, false, not, cond, ◌||◌, List, [], ◌∷◌, Option, Some, None, IsSome, option_map, refl, sym, ap, ◌∙◌, subst, true≢false, eqb-true}
 use Rattle.exo_tree.specs.Tree.{Binder, I8, Size, Index, Lit, Var, Const, Span, Argument, ControlArg, Window, ControlParam, WindowParam, Procedure, Assign, For, end, next}
 use Rattle.exo_meaning.specs.Value.{Value, Undefined, Number}
 use Rattle.exo_meaning.specs.Scene.{Shape, Seen, Range}
@@ -72,7 +72,6 @@ may = record {
   params = λ x k. (shown (x == 0) (x == 1) (x == 2) k, refl);
   distinct = (refl, (refl, tt));
   types = (tt, ((four, refl, refl), tt));
-  apart = λ b c z y w n i j. absurd (true≢false (sym (eq-eqb b c (second b z (b == 0) (b == 1) refl i ∙ sym (second c y (c == 0) (c == 1) refl j))) ∙ n));
 }
   where
     there : (x : ℕ) (z : Seen) (t : Bool) → cond t (Some all_of) None ≡ Some z → IsSome (s.scene.buffers z.buffer)
@@ -94,7 +93,7 @@ abbrev cell_after : Option State → ℤ → Option Value
 cell_after o i = option_map (λ (t : State). t.cells 10 (i ∷ [])) o
 
 copies : (inner : State) → entered q.params gs s ≡ Some inner → option_map (returned (callee_in world q) gs s) (run world q.body inner) ≡ scoped (λ t. run world q.body (on_scene (bound q.params gs) t)) s
-copies inner e = call_in_place hidden world q args gs s inner may given_is e
+copies inner e = call_in_place hidden world q args gs s inner may refl given_is e
 
 in_x2 : cell_after (scoped (λ t. run world q.body (on_scene (bound q.params gs) t)) s) (pos 2) ≡ Some (Number (pos 5))
 unfolding int_wrap

@@ -1,21 +1,22 @@
 -- A run on parts of buffers.
-use Rattle.std.proofs.Common.{◌≡◌, ℕ, ℤ, pos, neg_ℤ, ◌+ℤ◌, ◌-ℤ◌, ◌*ℤ◌, ◌==◌, int_lt, int_le, Bool, true, false, cond, not, ◌&&◌, ◌||◌, List, [], ◌∷◌, Option, Some, None, IfSome, IsSome, option_map, get_or, refl, sym, ap, ap₂, ◌∙◌, subst, true≢false, eqb-true, eq-eqb}
+use Rattle.std.proofs.Common.{◌⊎◌, inl, inr, ⊎_elim, ◌≡◌, ℕ, ℤ, pos, neg_ℤ, ◌+ℤ◌, ◌-ℤ◌, ◌*ℤ◌, ◌==◌, int_lt, int_le, Bool, true, false, cond, not, ◌&&◌, ◌||◌, List, [], ◌∷◌, Option, Some, None, IfSome, IsSome, option_map, get_or, refl, sym, ap, ap₂, ◌∙◌, subst, true≢false, eqb-true, eq-eqb}
 use Rattle.std.proofs.Math.Path.{fun_ext}
 use Rattle.std.specs.Ordering.{int_eq}
 use Rattle.std.specs.Int.{int_div_euclid, int_rem_euclid}
 use Rattle.exo_tree.specs.Tree.{Cell, Param, ParamKind, ControlParam, TensorParam, WindowParam, Control, Lit, Var, Field, StrideOf, Neg, Add, Sub, Mul, Div, Mod, Condition, True, False, Flag, FieldFlag, Lt, Le, Gt, Ge, Eq, And, Or, Datum, Const, Read, Negated, Relu, Plus, Minus, Times, Select, Coord, At, Span, Argument, ControlArg, ConditionArg, Whole, Window, Statement, Assign, Reduce, Config, Pass, If, For, Alloc, View, Call, Block, end, next}
 use Rattle.exo_meaning.specs.Value.{Value, Undefined, stored_as, on_one, on_two, on_four, relu, selected}
-use Rattle.exo_meaning.specs.Scene.{is_set, Shape, Seen, Side, Point, Range, Scene, then_do, number, numbers, holds, stride_at, strides_seen, strides_of, where_true, window, narrowed, cell_at, updated, is_below, whole, extents, index_of}
+use Rattle.exo_meaning.specs.Scene.{is_set, Shape, Seen, Side, Point, Range, Scene, then_do, number, numbers, holds, stride_at, strides_seen, strides_of, where_true, are_apart, window, narrowed, cell_at, updated, is_below, whole, extents, index_of}
 use Rattle.exo_meaning.specs.State.{State, Cells, Place, place, held, same_index, changed, put, value, kept, left, scoped, on_scene, with_control, with_field, with_view, with_contents, with_buffer}
 use Rattle.exo_meaning.specs.Run.{World, run, step, argument_number, turn, turns, turns_of, range, count, choose, call_to, tensor, roots_after, is_root, call_writes, call_to_writes, writes, step_writes}
-use Rattle.exo_meaning.specs.Calls.{Callee, Given, GivenNumber, GivenView, given, all_given, suits, all_positive, truth, bind_number, bind_numbers, copy_in, bind_buffer, bind_buffers, bare, entered, held_at, value_or, copy_back, copied_back, returned, run_asserted, contents}
+use Rattle.exo_meaning.specs.Calls.{keeps_apart, copied_call, given_all_apart, given_apart, apart_from, all_apart, call, Callee, Given, GivenNumber, GivenView, given, all_given, suits, all_positive, truth, bind_number, bind_numbers, copy_in, bind_buffer, bind_buffers, bare, entered, held_at, value_or, copy_back, copied_back, returned, run_asserted, contents}
 use Rattle.exo_meaning.specs.Refines.{Both}
 use Rattle.exo_meaning.specs.Laws.{HasRoots}
 use Rattle.inplace_laws.specs.Uses.{in_control, in_controls, in_condition, in_datum, in_coords, in_argument, in_arguments, in_statement, in_block}
 use Rattle.exo_meaning.proofs.Both.{both_then, both_map, both_then_same, both_map_same, both_where}
-use Rattle.exo_meaning.proofs.Frame.{or_parts, if_then, if_map, if_weaken, any, here, more_roots, root_of, window_root, place_root}
+use Rattle.exo_meaning.proofs.Frame.{if_where, or_parts, if_then, if_map, if_weaken, any, here, more_roots, root_of, window_root, place_root}
 use Rattle.exo_meaning.proofs.Windows.{one_value}
 use Rattle.inplace_laws.specs.InPlace.{buffer_through, sides_through, cell_through, through, held_through, IsWithin, IsPlacing, SeenStands, BufferStands, CellsStand, StandsFor, makes, step_makes, InPlace}
+use Rattle.inplace_laws.proofs.Passed.{apart_same}
 use Rattle.inplace_laws.proofs.Sides.{strides_composed}
 use Rattle.inplace_laws.proofs.Bulk.{cell_at_through, seen_through, extents_through, narrowed_through, within_through, back_seen, one_seen, at_buffer, changed_is, differ, bulk_stands}
 
@@ -487,11 +488,51 @@ module _ (hidden written blind strided : ℕ → Bool) (base : ℕ → Option Se
   both_if R P (Some a) None u k = absurd u
   both_if R P (Some a) (Some b) u k = (u, k)
 
+  both_or : (x y : Bool) → (x || y) ≡ true → (x ≡ true) ⊎ (y ≡ true)
+  both_or true y e = inl refl
+  both_or false y e = inr e
+
+  pair_same : (w : ℕ → Bool) (x y : ℕ) (g h i j : Given) → GivenStands g i → GivenStands h j → (w x ≡ true → IsWritten g) → (w y ≡ true → IsWritten h) → (not (w x || w y) || given_apart g h) ≡ (not (w x || w y) || given_apart i j)
+  pair_same w x y (GivenNumber m) h (GivenNumber n) j u v a b = refl
+  pair_same w x y (GivenNumber m) h (GivenView z) j u v a b = absurd u
+  pair_same w x y (GivenView z) h (GivenNumber n) j u v a b = absurd u
+  pair_same w x y (GivenView z) (GivenNumber m) (GivenView r) (GivenNumber n) u v a b = refl
+  pair_same w x y (GivenView z) (GivenNumber m) (GivenView r) (GivenView q) u v a b = absurd v
+  pair_same w x y (GivenView z) (GivenView o) (GivenView r) (GivenNumber n) u v a b = absurd v
+  pair_same w x y (GivenView z) (GivenView o) (GivenView r) (GivenView q) ((hz, wz, ez), sz) ((ho, wo, eo), so) a b = go (w x || w y) refl
+    where
+      go : (t : Bool) → (w x || w y) ≡ t → (not t || are_apart z o) ≡ (not t || are_apart r q)
+      go false e = refl
+      go true e = apart_same hidden written blind strided base first placing z o hz ho wz wo (⊎_elim (λ f. inl (a f)) (λ f. inr (b f)) (both_or (w x) (w y) e)) ∙ ap₂ are_apart (sym ez) (sym eo)
+
+  from_same : (w : ℕ → Bool) (x : ℕ) (g i : Given) (ps : List Param) (gs is : List Given) → GivenStands g i → (w x ≡ true → IsWritten g) → GivensStand gs is → AreWritten w ps gs → apart_from w x g ps gs ≡ apart_from w x i ps is
+  from_same w x g i [] gs is u a v b = refl
+  from_same w x g i (q ∷ qs) [] [] u a v b = refl
+  from_same w x g i (q ∷ qs) [] (j ∷ js) u a v b = absurd v
+  from_same w x g i (q ∷ qs) (h ∷ hs) [] u a v b = absurd v
+  from_same w x g i (q ∷ qs) (h ∷ hs) (j ∷ js) u a v b = ap₂ ◌&&◌ (pair_same w x q.binder.id g h i j u v.0 a b.0) (from_same w x g i qs hs js u a v.1 b.1)
+
+  givens_same : (w : ℕ → Bool) (ps : List Param) (gs is : List Given) → GivensStand gs is → AreWritten w ps gs → all_apart w ps gs ≡ all_apart w ps is
+  givens_same w [] gs is v b = refl
+  givens_same w (p ∷ ps) [] [] v b = refl
+  givens_same w (p ∷ ps) [] (j ∷ js) v b = absurd v
+  givens_same w (p ∷ ps) (h ∷ hs) [] v b = absurd v
+  givens_same w (p ∷ ps) (h ∷ hs) (j ∷ js) v b = ap₂ ◌&&◌ (from_same w p.binder.id h j ps hs js v.0 b.0 v.1 b.1) (givens_same w ps hs js v.1 b.1)
+
+  -- whether windows are apart is the same on the parts
+  passed_same : (w : ℕ → Bool) (ps : List Param) (o q : Option (List Given)) → Both (λ gs is. GivensStand gs is × AreWritten w ps gs) o q → given_all_apart w ps o ≡ given_all_apart w ps q
+  passed_same w ps None None b = refl
+  passed_same w ps None (Some is) b = absurd b
+  passed_same w ps (Some gs) None b = absurd b
+  passed_same w ps (Some gs) (Some is) b = givens_same w ps gs is b.0 b.1
+
   call_stands : (root : ℕ → ℕ) (o : Option Callee) (args : List Argument) (s t : State) → in_arguments hidden blind args ≡ false → Only (λ y. call_to_writes o root y args) → HasRoots root s.scene → Stands s t → Both Stands (call_to o args s) (call_to o args t)
   call_stands root None args s t k l r h = tt
   call_stands root (Some callee) args s t k l r h =
-      both_then (λ gs is. GivensStand gs is × AreWritten callee.writes callee.procedure.params gs) Stands (all_given s.scene args) (all_given t.scene args) _ _
-      (both_if GivensStand (AreWritten callee.writes callee.procedure.params) (all_given s.scene args) (all_given t.scene args) (all_stand s t h args k) (all_written root s.scene r callee.writes callee.procedure.params args l))
+      let both = both_if GivensStand (AreWritten callee.writes callee.procedure.params) (all_given s.scene args) (all_given t.scene args) (all_stand s t h args k) (all_written root s.scene r callee.writes callee.procedure.params args l) in
+      subst (λ q. Both Stands (call callee args s) (where_true q (copied_call callee args t))) (passed_same callee.writes callee.procedure.params (all_given s.scene args) (all_given t.scene args) both)
+      (both_where Stands (keeps_apart callee s.scene args) (copied_call callee args s) (copied_call callee args t)
+      (both_then (λ gs is. GivensStand gs is × AreWritten callee.writes callee.procedure.params gs) Stands (all_given s.scene args) (all_given t.scene args) _ _ both
       (λ gs is u. subst (λ z. Both Stands (then_do (entered callee.procedure.params gs s) (λ inner. option_map (returned callee gs s) (run_asserted callee inner))) (then_do z (λ inner. option_map (returned callee is t) (run_asserted callee inner)))) (entered_same s t h callee.procedure.params gs is u.0)
       (both_then_same Stands (entered callee.procedure.params gs s) _ _ (λ inner. both_map_same Stands (run_asserted callee inner) (returned callee gs s) (returned callee is t) (λ done. record {
         control = h.control;
@@ -501,7 +542,7 @@ module _ (hidden written blind strided : ℕ → Bool) (base : ℕ → Option Se
         others = h.others;
         fields = refl;
         cells = all_back_stand callee.writes callee.procedure.params gs is done.cells s.cells t.cells u.0 u.1 h.cells;
-      }))))
+      }))))))
 
   -- ---- trees
 
@@ -572,9 +613,9 @@ module _ (hidden written blind strided : ℕ → Bool) (base : ℕ → Option Se
   call_roots : (root : ℕ → ℕ) (s : State) → HasRoots root s.scene → (o : Option Callee) (args : List Argument) → IfSome (call_to o args s) (λ a. HasRoots root a.scene)
   call_roots root s r None args = tt
   call_roots root s r (Some c) args =
-      if_then (λ z. Unit {0}) (λ (a : State). HasRoots root a.scene) (all_given s.scene args) _ (any (all_given s.scene args)) (λ gs u.
+      if_where (λ (a : State). HasRoots root a.scene) (keeps_apart c s.scene args) (copied_call c args s) (if_then (λ z. Unit {0}) (λ (a : State). HasRoots root a.scene) (all_given s.scene args) _ (any (all_given s.scene args)) (λ gs u.
       if_then (λ z. Unit {0}) (λ (a : State). HasRoots root a.scene) (entered c.procedure.params gs s) _ (any (entered c.procedure.params gs s)) (λ inner v.
-      if_map (λ z. Unit {0}) (λ (a : State). HasRoots root a.scene) (run_asserted c inner) (returned c gs s) (any (run_asserted c inner)) (λ done w. r)))
+      if_map (λ z. Unit {0}) (λ (a : State). HasRoots root a.scene) (run_asserted c inner) (returned c gs s) (any (run_asserted c inner)) (λ done w. r))))
 
   module _ (world : World) where
     mutual

@@ -1,13 +1,14 @@
 -- The operator inline.
+use Rattle.exo_meaning.proofs.Windows.{where_parts}
 use Rattle.meaning_laws.specs.Scoped.{has_binder, step_has_binder}
-use Rattle.std.proofs.Common.{◌≡◌, ℕ, ℤ, ◌==◌, Bool, true, false, cond, ◌||◌, List, [], ◌∷◌, Option, Some, None, IsSome, option_map, refl, sym, ap, ◌∙◌, subst, true≢false, eqb-true, eq-eqb}
+use Rattle.std.proofs.Common.{◌≡◌, ℕ, ℤ, ◌==◌, Bool, true, false, cond, ◌||◌, List, [], ◌∷◌, Option, Some, None, IsSome, option_map, refl, sym, ap, ap₂, ◌∙◌, subst, true≢false, eqb-true, eq-eqb}
 use Rattle.std.proofs.Math.Path.{fun_ext}
-use Rattle.exo_tree.specs.Tree.{Control, Argument, ControlArg, ConditionArg, Whole, Window, ParamKind, ControlParam, TensorParam, WindowParam, Param, Statement, Assign, Reduce, Config, Pass, If, For, Alloc, View, Call, Block, end, next, Procedure}
+use Rattle.exo_tree.specs.Tree.{Control, Condition, Argument, ControlArg, ConditionArg, Whole, Window, ParamKind, ControlParam, TensorParam, WindowParam, Param, Statement, Assign, Reduce, Config, Pass, If, For, Alloc, View, Call, Block, end, next, Procedure}
 use Rattle.exo_meaning.specs.Value.{Value, Undefined, IsRefinedBy}
 use Rattle.meaning_laws.proofs.Sound.{run_sound}
 use Rattle.exo_meaning.specs.Scene.{is_set, Shape, Seen, then_do, number, holds, updated, where_true, window}
 use Rattle.exo_meaning.specs.State.{State, left, kept, on_scene, with_control, with_field}
-use Rattle.exo_meaning.specs.Calls.{truth, Callee, Given, GivenNumber, GivenView, given, all_given, entered, returned, run_asserted, all_hold, suits}
+use Rattle.exo_meaning.specs.Calls.{keeps_apart, copied_call, all_apart, given_all_apart, truth, Callee, Given, GivenNumber, GivenView, given, all_given, entered, returned, run_asserted, all_hold, suits}
 use Rattle.exo_meaning.specs.Run.{World, run, step, turn, turns, turns_of, choose, call_to, callee_in, argument_number}
 use Rattle.exo_meaning.specs.Run.{unit_world}
 use Rattle.exo_meaning.specs.Inputs.{is_buffer_of}
@@ -17,19 +18,23 @@ use Rattle.exo_meaning.proofs.Ignored.{run_alike}
 use Rattle.exo_tree.specs.Context.{fill}
 use Rattle.meaning_laws.specs.Context.{RefinedBut}
 use Rattle.meaning_laws.specs.Sound.{IsSound, IsUnbound, IsSameName, binds}
-use Rattle.meaning_laws.specs.Substitute.{is_plain, catches, in_block as with_number, bound as bound_number}
+use Rattle.meaning_laws.specs.Substitute.{catches, in_block as with_number, bound as bound_number}
 use Rattle.exo_meaning.proofs.Nested.{then_some}
 use Rattle.meaning_laws.proofs.Parts.{some_injective, then_gives, map_gives, both_some}
 use Rattle.meaning_laws.proofs.Names.{if_gives, step_names, name_same, name_on}
 use Rattle.meaning_laws.proofs.Refined.{refined_same}
 use Rattle.meaning_laws.proofs.Replace.{context_law, where_gives}
 use Rattle.meaning_laws.proofs.Copies.{place_sound, place_unbound}
-use Rattle.meaning_laws.proofs.Facts.{condition_same}
-use Rattle.meaning_laws.proofs.Flags.{flag_law}
-use Rattle.meaning_laws.proofs.Substitute.{plain_same, substitution_law}
+use Rattle.inplace_laws.proofs.SteadyFlags.{condition_steady, steady_flag_law}
 use Rattle.inplace_laws.specs.Windows.{root_in, view_of, in_block as with_window}
 use Rattle.inplace_laws.specs.CallInPlace.{bind_control, bind_controls, bind_view, bind_views, bound, AreDistinct, MayRunInPlace}
 use Rattle.inplace_laws.specs.Inline.{IsWider, WiderLaw, with_argument, inlined, is_view, TakesWindow, Takes, TakesAll, is_param, not_own, InlineRefines, ReplaceRefines}
+use Rattle.inplace_laws.specs.Steady.{is_steady, KeepsStrides}
+use Rattle.inplace_laws.proofs.Steady.{strides_same, steady_same, steady_substitution}
+use Rattle.meaning_laws.specs.Flags.{in_block as with_condition}
+use Rattle.exo_tree.specs.Substitution.{in_statement as number_in_statement}
+use Rattle.meaning_laws.specs.Flags.{in_statement as condition_in_statement}
+use Rattle.inplace_laws.specs.Windows.{in_statement as window_in_statement}
 use Rattle.inplace_laws.proofs.Windows.{Goes, goes_same, goes_then, goes_map, window_law, view_kept}
 use Rattle.inplace_laws.proofs.CallInPlace.{call_in_place}
 
@@ -122,7 +127,67 @@ module _ (v : State) where
   AllStand (p ∷ ps) [] = Unit {0}
   AllStand (p ∷ ps) (g ∷ gs) = Stands p.binder.id p.kind g × AllStand ps gs
 
-module _ (world : World) (params : ℕ → Bool) (s v : State) (control_else : (x : ℕ) → params x ≡ false → v.scene.control x ≡ s.scene.control x) (view_else : (x : ℕ) → params x ≡ false → v.scene.views x ≡ s.scene.views x) where
+-- ---- arguments bind nothing
+
+module _ (x : ℕ) (e : Control) where
+  mutual
+    number_binders : (b : Block) (y : ℕ) → has_binder (with_number x e b) y ≡ has_binder b y
+    number_binders end y = refl
+    number_binders (next a b) y = ap₂ ◌||◌ (number_binders_of a y) (number_binders b y)
+
+    number_binders_of : (a : Statement) (y : ℕ)
+        → step_has_binder (number_in_statement x e a) y ≡ step_has_binder a y
+    number_binders_of (If c a b) y = ap₂ ◌||◌ (number_binders a y) (number_binders b y)
+    number_binders_of (For i lo hi b) y = ap (λ t. (y == i.id) || t) (number_binders b y)
+    number_binders_of a y = refl
+
+module _ (x : ℕ) (c : Condition) where
+  mutual
+    condition_binders : (b : Block) (y : ℕ)
+        → has_binder (with_condition x c b) y ≡ has_binder b y
+    condition_binders end y = refl
+    condition_binders (next a b) y = ap₂ ◌||◌ (condition_binders_of a y) (condition_binders b y)
+
+    condition_binders_of : (a : Statement) (y : ℕ)
+        → step_has_binder (condition_in_statement x c a) y ≡ step_has_binder a y
+    condition_binders_of (If d a b) y = ap₂ ◌||◌ (condition_binders a y) (condition_binders b y)
+    condition_binders_of (For i lo hi b) y = ap (λ t. (y == i.id) || t) (condition_binders b y)
+    condition_binders_of a y = refl
+
+module _ (x : ℕ) (w : Argument) where
+  mutual
+    window_binders : (b : Block) (y : ℕ) → has_binder (with_window x w b) y ≡ has_binder b y
+    window_binders end y = refl
+    window_binders (next a b) y = ap₂ ◌||◌ (window_binders_of a y) (window_binders b y)
+
+    window_binders_of : (a : Statement) (y : ℕ)
+        → step_has_binder (window_in_statement x w a) y ≡ step_has_binder a y
+    window_binders_of (If c a b) y = ap₂ ◌||◌ (window_binders a y) (window_binders b y)
+    window_binders_of (For i lo hi b) y = ap (λ t. (y == i.id) || t) (window_binders b y)
+    window_binders_of a y = refl
+
+argument_binders : (x : ℕ) (kind : ParamKind) (a : Argument) (b : Block) (y : ℕ)
+    → has_binder (with_argument x kind a b) y ≡ has_binder b y
+argument_binders x (ControlParam kind) (ControlArg e) b y = number_binders x e b y
+argument_binders x (ControlParam kind) (ConditionArg c) b y = condition_binders x c b y
+argument_binders x (ControlParam kind) (Whole z) b y = refl
+argument_binders x (ControlParam kind) (Window z cs) b y = refl
+argument_binders x (TensorParam cell dims memory) a b y = window_binders x a b y
+argument_binders x (WindowParam cell dims memory) a b y = window_binders x a b y
+
+inlined_binders : (ps : List Param) (args : List Argument) (b : Block) (y : ℕ)
+    → has_binder (inlined ps args b) y ≡ has_binder b y
+inlined_binders [] args b y = refl
+inlined_binders (p ∷ ps) [] b y = refl
+inlined_binders (p ∷ ps) (a ∷ args) b y =
+    inlined_binders ps args (with_argument p.binder.id p.kind a b) y
+    ∙ argument_binders p.binder.id p.kind a b y
+
+module _ (world : World) (params : ℕ → Bool) (s v : State) (control_else : (x : ℕ) → params x ≡ false → v.scene.control x ≡ s.scene.control x) (view_else : (x : ℕ) → params x ≡ false → v.scene.views x ≡ s.scene.views x) (same_buffers : v.scene.buffers ≡ s.scene.buffers) where
+  -- the block binds no buffer that another name sees
+  abbrev Clear : Block → Type 0
+  Clear b = (y : ℕ) (z : Seen) → params y ≡ false → v.scene.views y ≡ Some z → has_binder b z.buffer ≡ false
+
   given_view : (a : Argument) (g : Given) → is_view a ≡ true → given s.scene a ≡ Some g → (z : Seen) × (g ≡ GivenView z) × (view_of s.scene a ≡ Some z)
   given_view (ControlArg e) g i k = absurd (true≢false (sym i))
   given_view (ConditionArg c) g i k = absurd (true≢false (sym i))
@@ -147,48 +212,48 @@ module _ (world : World) (params : ℕ → Bool) (s v : State) (control_else : (
       go y false i = refl
       go y true i = sym k ∙ ap v.scene.control (sym (eqb-true y x i))
 
-  one_number : (x : ℕ) (e : Control) (b : Block) (t : State) → is_plain e ≡ true → catches x e b ≡ false → v.scene.control x ≡ number v.scene e → run world b v ≡ Some t → (u : State) × (run world (with_number x e b) v ≡ Some u) × SameEnd t u
-  one_number x e b t plain free here r =
-      let m = map_gives (run world (with_number x e b) v) (bound_number x e) t (sym (substitution_law world x e b v plain free) ∙ ap (run world b) (bound_same x e here) ∙ r) in
+  one_number : (x : ℕ) (e : Control) (b : Block) (t : State) → is_steady e ≡ true → catches x e b ≡ false → KeepsStrides e (has_binder b) v → v.scene.control x ≡ number v.scene e → run world b v ≡ Some t → (u : State) × (run world (with_number x e b) v ≡ Some u) × SameEnd t u
+  one_number x e b t steady free keeps here r =
+      let m = map_gives (run world (with_number x e b) v) (bound_number x e) t (sym (steady_substitution world x e b v steady free keeps) ∙ ap (run world b) (bound_same x e here) ∙ r) in
       (m.0, m.1, subst (λ z. SameEnd z m.0) m.2 (record { cells = refl; fields = refl }))
 
   truth_set : (t : Bool) → is_set (truth t) ≡ t
   truth_set true = refl
   truth_set false = refl
 
-  one_argument : (x : ℕ) (kind : ParamKind) (a : Argument) (g : Given) (b : Block) (t : State) → Takes params x kind a b → given s.scene a ≡ Some g → Stands v x kind g → run world b v ≡ Some t → (u : State) × (run world (with_argument x kind a b) v ≡ Some u) × SameEnd t u
-  one_argument x (ControlParam kind) (ControlArg e) g b t (plain, free, names) k h r =
-      let same : number v.scene e ≡ number s.scene e = plain_same e v.scene s.scene plain (λ y i. control_else y (names y i)) in
+  one_argument : (x : ℕ) (kind : ParamKind) (a : Argument) (g : Given) (b : Block) (t : State) → Clear b → Takes params x kind a b → given s.scene a ≡ Some g → Stands v x kind g → run world b v ≡ Some t → (u : State) × (run world (with_argument x kind a b) v ≡ Some u) × SameEnd t u
+  one_argument x (ControlParam kind) (ControlArg e) g b t clear (steady, free, names, strides) k h r =
+      let same : number v.scene e ≡ number s.scene e = steady_same e v.scene s.scene steady (λ y i. control_else y (names y i)) (λ y i l. strides_same y v.scene s.scene (view_else y (strides y i).0) (λ z q. ap (λ f. f z.buffer) same_buffers) l) in
       let here : v.scene.control x ≡ number s.scene e = subst (Stands v x (ControlParam kind)) (sym (some_injective (GivenNumber (number s.scene e)) g k)) h in
-      one_number x e b t plain free (here ∙ sym same) r
-  one_argument x (ControlParam kind) (ConditionArg c) g b t (plain, own, names) k h r =
-      let same : holds v.scene c ≡ holds s.scene c = condition_same v.scene s.scene c plain (λ y i. control_else y (names y i).0) in
+      one_number x e b t steady free (λ y i. ((strides y i).1, λ z q. clear y z (strides y i).0 q)) (here ∙ sym same) r
+  one_argument x (ControlParam kind) (ConditionArg c) g b t clear (steady, own, names, strides) k h r =
+      let same : holds v.scene c ≡ holds s.scene c = condition_steady v.scene s.scene c steady (λ y i. control_else y (names y i).0) (λ y i l. strides_same y v.scene s.scene (view_else y (strides y i).0) (λ z q. ap (λ f. f z.buffer) same_buffers) l) in
       let here : v.scene.control x ≡ truth (holds s.scene c) = subst (Stands v x (ControlParam kind)) (sym (some_injective (GivenNumber (truth (holds s.scene c))) g k)) h in
-      (t, sym (flag_law world x c b v plain own (λ y i. (names y i).1) (ap is_set here ∙ truth_set (holds s.scene c) ∙ sym same)) ∙ r, record { cells = refl; fields = refl })
-  one_argument x (ControlParam kind) (Whole y) g b t take k h r = absurd take
-  one_argument x (ControlParam kind) (Window y coords) g b t take k h r = absurd take
-  one_argument x (TensorParam cell dims memory) a g b t take k h r =
+      (t, sym (steady_flag_law world x c b v steady own (λ y i. (names y i).1) (λ y i. ((strides y i).1, λ z q. clear y z (strides y i).0 q)) (ap is_set here ∙ truth_set (holds s.scene c) ∙ sym same)) ∙ r, record { cells = refl; fields = refl })
+  one_argument x (ControlParam kind) (Whole y) g b t clear take k h r = absurd take
+  one_argument x (ControlParam kind) (Window y coords) g b t clear take k h r = absurd take
+  one_argument x (TensorParam cell dims memory) a g b t clear take k h r =
       let z = given_view a g take.0 k in
       (t, one_window x a z.0 b t take z.2 (subst (Stands v x (TensorParam cell dims memory)) z.1 h) r, record { cells = refl; fields = refl })
-  one_argument x (WindowParam cell dims memory) a g b t take k h r =
+  one_argument x (WindowParam cell dims memory) a g b t clear take k h r =
       let z = given_view a g take.0 k in
       (t, one_window x a z.0 b t take z.2 (subst (Stands v x (WindowParam cell dims memory)) z.1 h) r, record { cells = refl; fields = refl })
 
-  all_arguments : (ps : List Param) (args : List Argument) (gs : List Given) (b : Block) (t : State) → TakesAll params ps args b → all_given s.scene args ≡ Some gs → AllStand v ps gs → run world b v ≡ Some t → (u : State) × (run world (inlined ps args b) v ≡ Some u) × SameEnd t u
-  all_arguments [] args gs b t take k h r = (t, r, record { cells = refl; fields = refl })
-  all_arguments (p ∷ ps) [] gs b t take k h r = (t, r, record { cells = refl; fields = refl })
-  all_arguments (p ∷ ps) (a ∷ args) [] b t take k h r =
+  all_arguments : (ps : List Param) (args : List Argument) (gs : List Given) (b : Block) (t : State) → Clear b → TakesAll params ps args b → all_given s.scene args ≡ Some gs → AllStand v ps gs → run world b v ≡ Some t → (u : State) × (run world (inlined ps args b) v ≡ Some u) × SameEnd t u
+  all_arguments [] args gs b t clear take k h r = (t, r, record { cells = refl; fields = refl })
+  all_arguments (p ∷ ps) [] gs b t clear take k h r = (t, r, record { cells = refl; fields = refl })
+  all_arguments (p ∷ ps) (a ∷ args) [] b t clear take k h r =
       let m = then_gives (given s.scene a) (λ g. option_map (λ gs. g ∷ gs) (all_given s.scene args)) [] k in
       let n = map_gives (all_given s.scene args) (λ gs. m.0 ∷ gs) [] m.2 in
       absurd (not_empty n.2)
     where
       not_empty : {A : Type 0} {x : A} {l : List A} → (x ∷ l) ≡ [] → ⊥
       not_empty e = cc
-  all_arguments (p ∷ ps) (a ∷ args) (g ∷ gs) b t take k h r =
+  all_arguments (p ∷ ps) (a ∷ args) (g ∷ gs) b t clear take k h r =
       let m = then_gives (given s.scene a) (λ g. option_map (λ gs. g ∷ gs) (all_given s.scene args)) (g ∷ gs) k in
       let n = map_gives (all_given s.scene args) (λ gs. m.0 ∷ gs) (g ∷ gs) m.2 in
-      let one = one_argument p.binder.id p.kind a g b t take.0 (m.1 ∙ ap Some (first n.2)) h.0 r in
-      let rest = all_arguments ps args gs (with_argument p.binder.id p.kind a b) one.0 take.1 (n.1 ∙ ap Some (second n.2)) h.1 one.1 in
+      let one = one_argument p.binder.id p.kind a g b t clear take.0 (m.1 ∙ ap Some (first n.2)) h.0 r in
+      let rest = all_arguments ps args gs (with_argument p.binder.id p.kind a b) one.0 (λ y z i q. argument_binders p.binder.id p.kind a b z.buffer ∙ clear y z i q) take.1 (n.1 ∙ ap Some (second n.2)) h.1 one.1 in
       (rest.0, rest.1, record { cells = one.2.cells ∙ rest.2.cells; fields = one.2.fields ∙ rest.2.fields })
     where
       first : {A : Type 0} {x y : A} {l m : List A} → (x ∷ l) ≡ (y ∷ m) → x ≡ y
@@ -317,15 +382,17 @@ module _ (world above : World) (q : Procedure) (args : List Argument) (own : ℕ
   runs : (a d : State) → call_to (Some (callee_in above q)) args u ≡ Some a → run world new u ≡ Some d → Ends a d
   runs a d i j =
       let callee : Callee = callee_in above q in
-      let m = then_gives (all_given u.scene args) (λ gs. then_do (entered q.params gs u) (λ inner. option_map (returned callee gs u) (run_asserted callee inner))) a i in
+      let made = where_parts (keeps_apart callee u.scene args) (copied_call callee args u) a i in
+      let m = then_gives (all_given u.scene args) (λ gs. then_do (entered q.params gs u) (λ inner. option_map (returned callee gs u) (run_asserted callee inner))) a made.1 in
+      let passed : all_apart callee.writes q.params m.0 ≡ true = ap (given_all_apart callee.writes q.params) (sym m.1) ∙ made.0 in
       let n = then_gives (entered q.params m.0 u) (λ inner. option_map (returned callee m.0 u) (run_asserted callee inner)) a m.2 in
       let r = map_gives (run_asserted callee n.0) (returned callee m.0 u) a n.2 in
       let done : run above q.body n.0 ≡ Some r.0 = where_gives (all_hold n.0.scene q.asserts) (run above q.body n.0) r.0 r.1 in
       let v : State = on_scene (bound q.params m.0) u in
-      let place = map_gives (run above q.body v) (left u) a (sym (call_in_place (not_own own) above q args m.0 u n.0 (may m.0 m.1) m.1 n.1) ∙ ap (option_map (returned callee m.0 u)) done ∙ ap Some r.2) in
+      let place = map_gives (run above q.body v) (left u) a (sym (call_in_place (not_own own) above q args m.0 u n.0 (may m.0 m.1) passed m.1 n.1) ∙ ap (option_map (returned callee m.0 u)) done ∙ ap Some r.2) in
       let wide = if_gives (λ z. run world q.body v ≡ Some z) (run above q.body v) place.0 (wider_law above world q.body v wider) place.1 in
       let stand = all_stand v q.params m.0 u.scene.control u.scene.views (may m.0 m.1).distinct (λ x k. refl) (λ x k. refl) in
-      let inside = all_arguments world (is_param q) u v (controls_else q.params m.0 u.scene.control) (views_else q.params m.0 u.scene.views) q.params args m.0 q.body place.0 take m.1 stand wide in
+      let inside = all_arguments world (is_param q) u v (controls_else q.params m.0 u.scene.control) (views_else q.params m.0 u.scene.views) refl q.params args m.0 q.body place.0 (λ y z i e. sym (inlined_binders q.params args q.body z.buffer) ∙ (others z.buffer (seen_other y z (sym (views_else q.params m.0 u.scene.views y i) ∙ e))).1) take m.1 stand wide in
       record { inner = place.0; inside = inside.0; call = place.2; same = inside.2; alike = both_some (SameBut (is_param q)) (run world new v) (run world new u) inside.0 d inside.1 j (run_alike (is_param q) world new gone v u (same_unbound m.0)) }
 
   there : (a d : State) → call_to (Some (callee_in above q)) args u ≡ Some a → run world new u ≡ Some d → RefinedBut own a d

@@ -4,12 +4,11 @@ use Rattle.std.specs.Int.{int_wrap}
 use Rattle.std.proofs.lemmas.Int.{ints}
 use Rattle.exo_tree.specs.Tree.{I8, Index, Lit, Const, Plus, Span, Argument, Window, ControlArg, Config, TensorParam, WindowParam, Param, Procedure, Datum, Assign, For, View, Call, Block, end, next}
 use Rattle.exo_meaning.specs.Value.{Value, Undefined, Number}
-use Rattle.exo_meaning.specs.Scene.{Seen, Scene, Shape, Range, whole}
+use Rattle.exo_meaning.specs.Scene.{Seen, Shape, Range, whole, AreApart}
 use Rattle.exo_meaning.specs.Calls.{GivenView, held_at}
-use Rattle.inplace_laws.specs.InPlace.{AreApart, IsPlacing, StandsFor, SeenStands, BufferStands, IsWithin, cell_through}
+use Rattle.inplace_laws.specs.InPlace.{IsPlacing, StandsFor, SeenStands, BufferStands, IsWithin, cell_through}
 use Rattle.inplace_laws.specs.CallInPlace.{no_name, every}
-use Rattle.inplace_laws.specs.Shared.{root_of, DoNotShare}
-use Rattle.inplace_laws.proofs.Shared.{shared_law}
+use Rattle.inplace_laws.proofs.Passed.{passed_apart}
 use Rattle.inplace_laws.proofs.InPlace.{in_place}
 use Rattle.exo_tree.specs.Context.{Here}
 use Rattle.exo_meaning.specs.State.{State, on_scene, with_view}
@@ -150,7 +149,6 @@ may_inline b = record {
     params = λ x k. absurd (true≢false (sym k));
     distinct = tt;
     types = tt;
-    apart = λ b c z y w n i j. absurd (none_is_some i);
   };
   takes = tt;
   free = λ x k. absurd (true≢false (sym k));
@@ -174,47 +172,16 @@ four_by_call = refl
 four_in_place : field_of (run above_it sets s) ≡ Some (pos 4)
 four_in_place = refl
 
--- ---- x[1:3] and y[0:2] as arguments, of which the first is written
-
-abbrev other : Seen
-other = record { buffer = 11; sides = Range (pos 0) (pos 4) ∷ [] }
-
-abbrev two_tensors : Scene
-two_tensors = record { control = λ x. pos 0; buffers = λ b. Some four; views = λ x. cond (x == 10) (Some all_of) (cond (x == 11) (Some other) None); fields = λ f. pos 0 }
+-- ---- x[1:3] and x[3:4] as arguments, of which the first is written
 
 abbrev two_params : List Param
-two_params = record { binder = binder 1; kind = WindowParam I8 (Lit (pos 2) ∷ []) 0 } ∷ record { binder = binder 2; kind = WindowParam I8 (Lit (pos 2) ∷ []) 0 } ∷ []
-
-abbrev two_windows : List Argument
-two_windows = w_window ∷ Window 11 (Span (Lit (pos 0)) (Lit (pos 2)) ∷ []) ∷ []
+two_params = record { binder = binder 1; kind = WindowParam I8 (Lit (pos 2) ∷ []) 0 } ∷ record { binder = binder 2; kind = WindowParam I8 (Lit (pos 1) ∷ []) 0 } ∷ []
 
 abbrev other_part : Seen
-other_part = record { buffer = 11; sides = Range (pos 0) (pos 2) ∷ [] }
+other_part = record { buffer = 10; sides = Range (pos 3) (pos 1) ∷ [] }
 
 they_are_apart : AreApart part other_part
-they_are_apart = shared_law (λ x. x) (λ x. x == 1) two_tensors two_params two_windows (GivenView part ∷ GivenView other_part ∷ []) roots refl apart 1 2 part other_part refl refl refl refl
-  where
-    roots : HasRoots (λ x. x) two_tensors
-    roots x z e = go (x == 10) (x == 11) refl refl e
-      where
-        go : (t r : Bool) → (x == 10) ≡ t → (x == 11) ≡ r → cond {A = Option Seen} t (Some all_of) (cond {A = Option Seen} r (Some other) None) ≡ Some z → z.buffer ≡ x
-        go true r k l e = subst (λ (o : Seen). o.buffer ≡ x) (one_value all_of z e) (sym (eqb-true x 10 k))
-        go false true k l e = subst (λ (o : Seen). o.buffer ≡ x) (one_value other z e) (sym (eqb-true x 11 l))
-        go false false k l e = absurd (none_is_some e)
-
-    ten : (r : ℕ) → (t u : Bool) → t ≡ false → Some 10 ≡ Some r → cond {A = Option ℕ} t (Some 10) (cond {A = Option ℕ} u (Some 11) None) ≡ Some r → ⊥
-    ten r true u k i j = absurd (true≢false k)
-    ten r false true k i j = absurd (true≢false (ap (λ n. n == 10) (one_value 10 11 (i ∙ sym j))))
-    ten r false false k i j = absurd (none_is_some j)
-
-    apart : DoNotShare (λ x. x) (λ x. x == 1) two_params two_windows
-    apart b c r w n i j =
-        let e : b ≡ 1 = eqb-true b 1 w in
-        ten r (c == 1) (c == 2) (differs (c == 1) refl) (subst (λ d. root_of (λ x. x) two_params two_windows d ≡ Some r) e i) j
-      where
-        differs : (t : Bool) → (c == 1) ≡ t → t ≡ false
-        differs false k = refl
-        differs true k = absurd (true≢false (sym (eq-eqb b c (eqb-true b 1 w ∙ sym (eqb-true c 1 k))) ∙ n))
+they_are_apart = passed_apart (λ x. x == 1) two_params (GivenView part ∷ GivenView other_part ∷ []) refl 1 2 part other_part refl refl refl refl
 
 -- ---- a store in a buffer 0 of two cells, and in x[1:3] in its place
 

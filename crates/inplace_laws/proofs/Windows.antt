@@ -9,7 +9,7 @@ use Rattle.exo_meaning.specs.Value.{Value, on_one, on_two, on_four, relu, select
 use Rattle.exo_meaning.specs.Scene.{Shape, Seen, Side, Point, Range, Scene, then_do, number, numbers, holds, stride_at, strides_of, where_true, window, narrowed, cell_at, is_below}
 use Rattle.exo_meaning.specs.State.{State, Place, place, held, put, value, left, scoped, on_scene, with_control, with_field}
 use Rattle.exo_meaning.specs.Run.{World, run, step, argument_number, turn, turns, turns_of, range, count, choose, call_to, allocate}
-use Rattle.exo_meaning.specs.Calls.{Callee, Given, GivenView, GivenNumber, given, all_given, truth, entered, returned, run_asserted, suits}
+use Rattle.exo_meaning.specs.Calls.{call, all_apart, given_all_apart, Given, Callee, Given, GivenView, GivenNumber, given, all_given, truth, entered, returned, run_asserted, suits}
 use Rattle.exo_meaning.proofs.Frame.{or_parts}
 use Rattle.exo_meaning.proofs.Windows.{none_is_some, one_value, where_parts, map_parts, sum_is}
 use Rattle.meaning_laws.specs.Sound.{IsSameName, binds}
@@ -348,7 +348,11 @@ module _ (w : ℕ) (t : Argument) where
 
     call_in : (o : Option Callee) (args : List Argument) → Goes (call_to o args s) (call_to o (in_arguments w t args) s)
     call_in None args = tt
-    call_in (Some c) args = goes_then (all_given s.scene args) (all_given s.scene (in_arguments w t args)) _ _ (all_given_in s.scene seen name stands args) (λ gs e. goes_same (then_do (entered c.procedure.params gs s) (λ inner. option_map (returned c gs s) (run_asserted c inner))))
+    call_in (Some c) args = go (all_given s.scene args) (all_given_in s.scene seen name stands args)
+      where
+        go : (o : Option (List Given)) → Goes o (all_given s.scene (in_arguments w t args)) → Goes (where_true (given_all_apart c.writes c.procedure.params o) (then_do o (λ gs. then_do (entered c.procedure.params gs s) (λ inner. option_map (returned c gs s) (run_asserted c inner))))) (call c (in_arguments w t args) s)
+        go None k = tt
+        go (Some gs) k = subst (λ q. Goes (where_true (all_apart c.writes c.procedure.params gs) (then_do (entered c.procedure.params gs s) (λ inner. option_map (returned c gs s) (run_asserted c inner)))) (where_true (given_all_apart c.writes c.procedure.params q) (then_do q (λ gs. then_do (entered c.procedure.params gs s) (λ inner. option_map (returned c gs s) (run_asserted c inner)))))) (sym k) (goes_same _)
 
   -- ---- trees
 

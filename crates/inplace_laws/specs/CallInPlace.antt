@@ -3,12 +3,12 @@ use Rattle.std.specs.Prelude.{◌≡◌, ◌==◌, if◌then◌else◌, ℕ, ℤ
 use Rattle.exo_tree.specs.Tree.{Argument, ParamKind, ControlParam, TensorParam, WindowParam, Param, Procedure}
 use Rattle.exo_meaning.specs.Scene.{Shape, Seen, Scene, updated}
 use Rattle.exo_meaning.specs.State.{State, scoped, on_scene}
-use Rattle.exo_meaning.specs.Calls.{Given, GivenNumber, GivenView, all_given, entered, returned}
+use Rattle.exo_meaning.specs.Calls.{all_apart, Given, GivenNumber, GivenView, all_given, entered, returned}
 use Rattle.exo_meaning.specs.Run.{World, run, writes, callee_in}
 use Rattle.exo_meaning.specs.Inputs.{is_buffer_of}
 use Rattle.inplace_laws.specs.Uses.{in_block}
 use Rattle.meaning_laws.specs.Sound.{IsSound, IsUnbound}
-use Rattle.inplace_laws.specs.InPlace.{AreApart, makes}
+use Rattle.inplace_laws.specs.InPlace.{makes}
 
 -- ---- the parameters as names of numbers and windows
 
@@ -72,7 +72,7 @@ no_name x = false
 abbrev pub every : ℕ → Bool
 every x = true
 
--- the callee's names are unbound here, its ids are distinct, and no argument that it writes meets another one
+-- the callee's names are unbound here, and its ids are distinct
 pub record MayRunInPlace (hidden : ℕ → Bool) (world : World) (p : Procedure) (gs : List Given) (s : State) : Type 0 where
   pub sound : IsSound s
   pub names : in_block hidden no_name p.body ≡ false
@@ -80,7 +80,6 @@ pub record MayRunInPlace (hidden : ℕ → Bool) (world : World) (p : Procedure)
   pub params : (x : ℕ) → is_buffer_of x p.params ≡ true → (hidden x ≡ false) × (makes p.body x ≡ false)
   pub distinct : AreDistinct p.params
   pub types : HaveTypes s p.params gs
-  pub apart : (b c : ℕ) (z y : Seen) → writes world (λ x. x) p.body b ≡ true → (b == c) ≡ false → base_of p.params gs b ≡ Some z → base_of p.params gs c ≡ Some y → AreApart z y
 
 abbrev pub CallInPlace : Type 0
-CallInPlace = (hidden : ℕ → Bool) (world : World) (p : Procedure) (args : List Argument) (gs : List Given) (s inner : State) → MayRunInPlace hidden world p gs s → all_given s.scene args ≡ Some gs → entered p.params gs s ≡ Some inner → option_map (returned (callee_in world p) gs s) (run world p.body inner) ≡ scoped (λ t. run world p.body (on_scene (bound p.params gs) t)) s
+CallInPlace = (hidden : ℕ → Bool) (world : World) (p : Procedure) (args : List Argument) (gs : List Given) (s inner : State) → MayRunInPlace hidden world p gs s → all_apart (writes world (λ x. x) p.body) p.params gs ≡ true → all_given s.scene args ≡ Some gs → entered p.params gs s ≡ Some inner → option_map (returned (callee_in world p) gs s) (run world p.body inner) ≡ scoped (λ t. run world p.body (on_scene (bound p.params gs) t)) s

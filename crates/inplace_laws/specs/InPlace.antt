@@ -2,7 +2,7 @@
 use Rattle.std.specs.Prelude.{◌≡◌, ◌==◌, ◌||◌, ℕ, ℤ, Bool, true, false, List, Option, Some, None, IsSome, ⊤}
 use Rattle.exo_tree.specs.Tree.{Statement, Assign, Reduce, Config, Pass, If, For, Alloc, View, Call, Block, end, next}
 use Rattle.exo_meaning.specs.Value.{Value}
-use Rattle.exo_meaning.specs.Scene.{Shape, Side, Seen, cell_at, index_of, composed, LieWithin, strides_of}
+use Rattle.exo_meaning.specs.Scene.{Shape, Side, Seen, cell_at, index_of, composed, LieWithin, strides_of, AreApart}
 use Rattle.exo_meaning.specs.State.{State, Cells}
 use Rattle.exo_meaning.specs.Calls.{held_at}
 use Rattle.exo_meaning.specs.Run.{World, run, writes}
@@ -34,10 +34,6 @@ held_through o cells b at = held_at (cells (buffer_through o b)) (cell_through o
 abbrev pub IsWithin : Option Seen → List Side → Type 0
 IsWithin None sides = ⊤
 IsWithin (Some z) sides = LieWithin z.sides sides
-
--- no cell is seen by both
-abbrev pub AreApart : Seen → Seen → Type 0
-AreApart a b = (is js at : List ℤ) → a.buffer ≡ b.buffer → cell_at a.sides is ≡ Some at → cell_at b.sides js ≡ Some at → ⊥
 
 -- the buffers of the one run are parts of hidden buffers of the other; one that is written is apart from each other one
 pub record IsPlacing (hidden written strided : ℕ → Bool) (base : ℕ → Option Seen) : Type 0 where

@@ -11,9 +11,11 @@ use Rattle.exo_meaning.specs.Unseen.{in_block as mentions}
 use Rattle.exo_tree.specs.Context.{Context, fill, rest_of}
 use Rattle.meaning_laws.specs.Context.{ComesTo}
 use Rattle.meaning_laws.specs.Copies.{IsFree}
-use Rattle.meaning_laws.specs.Facts.{is_plain_condition, condition_has}
+use Rattle.meaning_laws.specs.Facts.{condition_has}
 use Rattle.meaning_laws.specs.Flags.{in_block as with_condition}
-use Rattle.meaning_laws.specs.Substitute.{is_plain, has_variable, catches, in_block as with_number}
+use Rattle.meaning_laws.specs.Substitute.{has_variable, catches, in_block as with_number}
+use Rattle.inplace_laws.specs.Steady.{is_steady, has_stride}
+use Rattle.inplace_laws.specs.SteadyFlags.{is_steady_condition, condition_has_stride}
 use Rattle.inplace_laws.specs.Windows.{root_in, coords_of, are_plain, coords_have, in_block as with_window}
 use Rattle.inplace_laws.specs.CallInPlace.{MayRunInPlace}
 
@@ -52,8 +54,18 @@ abbrev pub TakesWindow : (ℕ → Bool) → ℕ → Argument → Block → Type 
 TakesWindow params x a b = (is_view a ≡ true) × (are_plain (coords_of a) ≡ true) × (params (root_in a x) ≡ false) × ((y : ℕ) → coords_have (coords_of a) y ≡ true → (params y ≡ false) × (has_binder b y ≡ false)) × (has_binder b x ≡ false) × (has_binder b (root_in a x) ≡ false)
 
 abbrev pub Takes : (ℕ → Bool) → ℕ → ParamKind → Argument → Block → Type 0
-Takes params x (ControlParam kind) (ControlArg e) b = (is_plain e ≡ true) × (catches x e b ≡ false) × ((y : ℕ) → has_variable e y ≡ true → params y ≡ false)
-Takes params x (ControlParam kind) (ConditionArg c) b = (is_plain_condition c ≡ true) × (has_binder b x ≡ false) × ((y : ℕ) → condition_has c y ≡ true → (params y ≡ false) × (has_binder b y ≡ false))
+Takes params x (ControlParam kind) (ControlArg e) b =
+    (is_steady e ≡ true)
+    × (catches x e b ≡ false)
+    × ((y : ℕ) → has_variable e y ≡ true → params y ≡ false)
+    × ((y : ℕ) → has_stride e y ≡ true → (params y ≡ false) × (has_binder b y ≡ false))
+Takes params x (ControlParam kind) (ConditionArg c) b =
+    (is_steady_condition c ≡ true)
+    × (has_binder b x ≡ false)
+    × ((y : ℕ) → condition_has c y ≡ true → (params y ≡ false) × (has_binder b y ≡ false))
+    × ((y : ℕ)
+    → condition_has_stride c y ≡ true
+    → (params y ≡ false) × (has_binder b y ≡ false))
 Takes params x (ControlParam kind) (Whole y) b = ⊥
 Takes params x (ControlParam kind) (Window y coords) b = ⊥
 Takes params x (TensorParam cell dims memory) a b = TakesWindow params x a b

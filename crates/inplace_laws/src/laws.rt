@@ -2,7 +2,7 @@
 
 ghost use Rattle.inplace_laws.specs.Along.{AlongLaw};
 ghost use Rattle.inplace_laws.specs.Above.{AboveLaw};
-ghost use Rattle.inplace_laws.specs.Shared.{SharedLaw};
+ghost use Rattle.inplace_laws.specs.Passed.{PassedLaw};
 ghost use Rattle.inplace_laws.specs.Inline.{WiderLaw};
 ghost use Rattle.inplace_laws.specs.Inline.{ReplaceRefines};
 ghost use Rattle.inplace_laws.specs.Inline.{InlineRefines};
@@ -11,6 +11,8 @@ ghost use Rattle.inplace_laws.specs.CallInPlace.{CallInPlace};
 ghost use Rattle.inplace_laws.specs.Windows.{WindowLaw};
 ghost use Rattle.inplace_laws.specs.InlineWindow.{InlineWindowRefines};
 ghost use Rattle.inplace_laws.specs.Staged.{StagedLaw};
+ghost use Rattle.inplace_laws.specs.Steady.{SteadySubstitutionLaw};
+ghost use Rattle.inplace_laws.specs.SteadyFlags.{SteadyFlagLaw};
 
 /// A block may run on parts of buffers instead of on buffers of its own.
 pub fn runs_go_in_place()
@@ -52,9 +54,9 @@ pub fn wider_worlds_do_the_same()
     ensures { WiderLaw }
 {}
 
-/// Arguments of different roots meet in no cell.
-pub fn shared_arguments_are_apart()
-    ensures { SharedLaw }
+/// Where the test on the windows of a call holds, none that is written meets another one.
+pub fn passed_windows_are_apart()
+    ensures { PassedLaw }
 {}
 
 /// A callee's body runs in the world of what stands above it.
@@ -65,4 +67,15 @@ pub fn callees_stand_above()
 /// Blocks whose statements do the same wherever a run comes to them run the same.
 pub fn same_along_runs_the_same()
     ensures { AlongLaw }
+{}
+
+/// A control expression without fields may stand for a variable, where the block binds no name whose
+/// stride stands in it, nor such a name's buffer.
+pub fn steady_expressions_stand_for_variables()
+    ensures { SteadySubstitutionLaw }
+{}
+
+/// A condition without fields may stand for a flag, likewise.
+pub fn steady_conditions_stand_for_flags()
+    ensures { SteadyFlagLaw }
 {}

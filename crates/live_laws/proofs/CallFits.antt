@@ -1,27 +1,29 @@
 -- From one first state both callees run, and what they leave is copied back.
+use Rattle.exo_meaning.proofs.Tested.{test_law}
+use Rattle.exo_meaning.proofs.Windows.{where_parts}
 use Rattle.std.proofs.Common.{◌≡◌, ℕ, ℤ, pos, Bool, true, false, true≢false, cond, ◌&&◌, ◌||◌, List}
 use Rattle.std.proofs.Common.{[], ◌∷◌, Option, Some, None, IfSome, option_map, not, refl, sym, ap}
 use Rattle.std.proofs.Common.{ap₂, ◌∙◌, subst, ◌==◌, eqb-true, eq-eqb}
 use Rattle.std.specs.Prelude.{IsSome, Contains}
 use Rattle.exo_tree.specs.Tree.{Kind, Argument, Param, ParamKind, ControlParam, TensorParam}
-use Rattle.exo_tree.specs.Tree.{WindowParam, ControlArg, ConditionArg, Whole, Window, ConfigField}
+use Rattle.exo_tree.specs.Tree.{WindowParam, ConfigField}
 use Rattle.exo_meaning.specs.Value.{Value, IsRefinedBy}
-use Rattle.exo_meaning.specs.Scene.{Scene, Seen, where_true, then_do, numbers, index_of, extents}
-use Rattle.exo_meaning.specs.Scene.{strides_seen, window}
+use Rattle.exo_meaning.specs.Scene.{are_apart, cell_at, Scene, Seen, where_true, then_do, numbers, index_of, extents}
+use Rattle.exo_meaning.specs.Scene.{strides_seen}
 use Rattle.exo_meaning.specs.State.{State, Cells, same_index, on_scene, with_buffer, with_contents}
-use Rattle.exo_meaning.specs.Calls.{Callee, Given, GivenNumber, GivenView, given, all_given}
+use Rattle.exo_meaning.specs.Calls.{keeps_apart, copied_call, given_all_apart, given_apart, apart_from, all_apart, Callee, Given, GivenNumber, GivenView, given, all_given}
 use Rattle.exo_meaning.specs.Calls.{contents, held_at, entered, bind_numbers, bind_buffer}
 use Rattle.exo_meaning.specs.Calls.{bind_buffers, copy_in, bare, returned, run_asserted, all_hold}
 use Rattle.exo_meaning.specs.Calls.{all_positive, copy_back, copied_back, value_or, call}
-use Rattle.exo_meaning.specs.Run.{World, run, kinds_of}
+use Rattle.exo_meaning.specs.Run.{World, run, kinds_of, callee_in}
 use Rattle.exo_meaning.specs.Inputs.{IsAdmissible, IsArgument, AreArguments, has_extents}
 use Rattle.exo_meaning.specs.Inputs.{all_have_extents, is_buffer_of}
 use Rattle.exo_meaning.specs.Units.{Scope, plainly, with_name, param_sort, is_new, is_param_kind}
-use Rattle.exo_meaning.specs.Units.{are_params, are_controls, are_for, field_kind, root_of}
-use Rattle.exo_meaning.specs.Units.{same_root, is_shared, share_nothing_written}
-use Rattle.exo_meaning.specs.Laws.{HasRoots, IsKept}
+use Rattle.exo_meaning.specs.Units.{are_params, are_controls, are_for, field_kind}
+use Rattle.exo_meaning.specs.Units.{share_nothing_written}
+use Rattle.exo_meaning.specs.Laws.{IsKept}
 use Rattle.exo_meaning.proofs.Windows.{one_value, cell_at_index}
-use Rattle.exo_meaning.proofs.Frame.{window_root, others_are_kept, or_parts, if_then, if_where}
+use Rattle.exo_meaning.proofs.Frame.{others_are_kept, or_parts, if_then, if_where}
 use Rattle.exo_meaning.proofs.Frame.{if_weaken, any, updated_other}
 use Rattle.meaning_laws.specs.Live.{RefinedLive, refield}
 use Rattle.meaning_laws.specs.Sound.{IsSound}
@@ -32,7 +34,7 @@ use Rattle.meaning_laws.proofs.Substitute.{and_parts, plain_same}
 use Rattle.meaning_laws.proofs.Refined.{refined_same}
 use Rattle.meaning_laws.proofs.Replace.{where_gives}
 use Rattle.meaning_laws.proofs.WellFormed.{plain_of}
-use Rattle.meaning_laws.proofs.FirstState.{not_true, Differ, params_differ, AllMatch, Matches}
+use Rattle.meaning_laws.proofs.FirstState.{Differ, params_differ, AllMatch, Matches}
 use Rattle.meaning_laws.proofs.FirstState.{all_match, first_state_law}
 use Rattle.scope_laws.proofs.Roots.{own_roots}
 use Rattle.live_laws.specs.CallFits.{IsCalled, IsVersion, CallFits}
@@ -138,7 +140,8 @@ back_one true (GivenView z) e f c d h k b at = go (b == z.buffer) (index_of z.si
 
 -- what is left of a window may be copied back or not
 back_none : (s : State) (z : Seen) (e : List ℤ → Value) (c d : Cells)
-    → ((is : List ℤ) → IsRefinedBy (e is) (contents s.cells z is)) → d z.buffer ≡ s.cells z.buffer
+    → ((is : List ℤ) → IsRefinedBy (e is) (contents s.cells z is))
+    → ((is at : List ℤ) → cell_at z.sides is ≡ Some at → d z.buffer at ≡ s.cells z.buffer at)
     → ((b : ℕ) (at : List ℤ) → IsRefinedBy (c b at) (d b at)) → (b : ℕ) (at : List ℤ)
     → IsRefinedBy (copy_back true (GivenView z) e c b at) (d b at)
 back_none s z e c d h still k b at = go (b == z.buffer) (eqb-true b z.buffer) (index_of z.sides at)
@@ -151,8 +154,27 @@ back_none s z e c d h still k b at = go (b == z.buffer) (eqb-true b z.buffer) (i
     go true same (Some is) i =
         let cell : contents s.cells z is ≡ d b at =
         ap (held_at (s.cells z.buffer)) (cell_at_index z.sides at is i)
-        ∙ ap (λ (f : List ℤ → Value). f at) (sym still) ∙ ap (λ x. d x at) (sym (same refl)) in
+        ∙ sym (still is at (cell_at_index z.sides at is i)) ∙ ap (λ x. d x at) (sym (same refl)) in
         subst (IsRefinedBy (e is)) cell (h is)
+
+-- what is left of a window that was left as it is may be copied back
+back_more : (s : State) (z : Seen) (f : List ℤ → Value) (c d : Cells)
+    → ((is : List ℤ) → IsRefinedBy (contents s.cells z is) (f is))
+    → ((is at : List ℤ) → cell_at z.sides is ≡ Some at → c z.buffer at ≡ s.cells z.buffer at)
+    → ((b : ℕ) (at : List ℤ) → IsRefinedBy (c b at) (d b at)) → (b : ℕ) (at : List ℤ)
+    → IsRefinedBy (c b at) (copy_back true (GivenView z) f d b at)
+back_more s z f c d h still k b at = go (b == z.buffer) (eqb-true b z.buffer) (index_of z.sides at)
+    refl
+  where
+    go : (t : Bool) → (t ≡ true → b ≡ z.buffer) → (o : Option (List ℤ)) → index_of z.sides at ≡ o
+        → IsRefinedBy (c b at) (cond t (value_or o f (d b at)) (d b at))
+    go false same o i = k b at
+    go true same None i = k b at
+    go true same (Some is) i =
+        let cell : contents s.cells z is ≡ c b at =
+        ap (held_at (s.cells z.buffer)) (cell_at_index z.sides at is i)
+        ∙ sym (still is at (cell_at_index z.sides at is i)) ∙ ap (λ x. c x at) (sym (same refl)) in
+        subst (λ v. IsRefinedBy v (f is)) cell (h is)
 
 there : {A : Type 0} (o : Option A) (a : A) → o ≡ Some a → IsSome o
 there o a k = subst IsSome (sym k) refl
@@ -268,115 +290,102 @@ view_is g z y i j = cc
 number_view : (n : ℤ) (z : Seen) → GivenNumber n ≡ GivenView z → ⊥
 number_view n z e = cc
 
-module _ (fields : ℕ → Option Kind) (root : ℕ → ℕ) (s : State) (roots : HasRoots root s.scene) where
-  -- the buffer of an argument
-  buffer_is : (a : Argument) (z : Seen) → given s.scene a ≡ Some (GivenView z)
-      → root_of fields root a ≡ Some z.buffer
-  buffer_is (ControlArg e) z k = absurd (number_view _ z (one_value _ _ k))
-  buffer_is (ConditionArg e) z k = absurd (number_view _ z (one_value _ _ k))
-  buffer_is (Whole x) z k =
-      let m = map_gives (s.scene.views x) GivenView (GivenView z) k in
-      ap Some (sym (roots x z (m.1 ∙ ap Some (view_is (GivenView z) m.0 z (sym m.2) refl))))
-  buffer_is (Window x coords) z k =
-      let m = map_gives (window s.scene x coords) GivenView (GivenView z) k in
-      ap Some (sym (if_gives (λ seen. seen.buffer ≡ root x) (window s.scene x coords) z
-      (window_root root s.scene roots x coords)
-      (m.1 ∙ ap Some (view_is (GivenView z) m.0 z (sym m.2) refl))))
+module _ (fields : ℕ → Option Kind) (s : State) where
+  -- the cells of windows of these parameters hold what they held
+  abbrev Still : (ℕ → Bool) → List Param → List Given → Cells → Type 0
+  Still these [] gs d = Unit {0}
+  Still these (p ∷ ps) [] d = Unit {0}
+  Still these (p ∷ ps) (g ∷ gs) d = ((z : Seen) → g ≡ GivenView z → these p.binder.id ≡ true
+      → (is at : List ℤ) → cell_at z.sides is ≡ Some at → d z.buffer at ≡ s.cells z.buffer at)
+      × Still these ps gs d
 
-  -- the buffers of windows hold what they held
-  abbrev Still : List Param → List Given → Cells → Type 0
-  Still [] gs d = Unit {0}
-  Still (p ∷ ps) [] d = Unit {0}
-  Still (p ∷ ps) (g ∷ gs) d = ((z : Seen) → g ≡ GivenView z → d z.buffer ≡ s.cells z.buffer)
-      × Still ps gs d
+  still_there : (these : ℕ → Bool) (ps : List Param) (gs : List Given)
+      → Still these ps gs s.cells
+  still_there these [] gs = tt
+  still_there these (p ∷ ps) [] = tt
+  still_there these (p ∷ ps) (g ∷ gs) = (λ z e i is at k. refl, still_there these ps gs)
 
-  still_there : (ps : List Param) (gs : List Given) → Still ps gs s.cells
-  still_there [] gs = tt
-  still_there (p ∷ ps) [] = tt
-  still_there (p ∷ ps) (g ∷ gs) = (λ z e. refl, still_there ps gs)
-
-  -- those that share no buffer with this one
-  still_apart : (w : ℕ → Bool) (p : Param) (z : Seen) (r : Option ℕ) → r ≡ Some z.buffer
-      → w p.binder.id ≡ true → (f : List ℤ → Value) (d : Cells) (ps : List Param)
-      (args : List Argument) (gs : List Given) → all_given s.scene args ≡ Some gs
-      → is_shared fields w root p r ps args ≡ false → Still ps gs d
-      → Still ps gs (copy_back true (GivenView z) f d)
-  still_apart w p z r is on f d [] args gs k apart h = tt
-  still_apart w p z r is on f d (q ∷ qs) args [] k apart h = tt
-  still_apart w p z r is on f d (q ∷ qs) [] (g ∷ gs) k apart h =
-      absurd (not_empty (one_value [] (g ∷ gs) k))
-  still_apart w p z r is on f d (q ∷ qs) (a ∷ args) (g ∷ gs) k apart h =
-      let l = given_parts s.scene a args g gs k in
-      let o = or_parts (same_root fields r (root_of fields root a)
-      && (w p.binder.id || w q.binder.id)) (is_shared fields w root p r qs args) apart in (
-        λ y e. one y (buffer_is a y (l.0 ∙ ap Some e)) o.0 (h.0 y e),
-        still_apart w p z r is on f d
-            qs args gs l.1 o.1 h.1,
+  -- those that are apart from this one
+  still_apart : (these w : ℕ → Bool) (x : ℕ) (z : Seen)
+      → ((y : ℕ) → these y ≡ true → (w x || w y) ≡ true) → (f : List ℤ → Value) (d : Cells)
+      (ps : List Param) (gs : List Given) → apart_from w x (GivenView z) ps gs ≡ true
+      → Still these ps gs d → Still these ps gs (copy_back true (GivenView z) f d)
+  still_apart these w x z on f d [] gs apart h = tt
+  still_apart these w x z on f d (q ∷ qs) [] apart h = tt
+  still_apart these w x z on f d (q ∷ qs) (g ∷ gs) apart h =
+      let o = and_parts (not (w x || w q.binder.id) || given_apart (GivenView z) g)
+      (apart_from w x (GivenView z) qs gs) apart in (
+        λ y e i is at k. one y (subst (λ (v : Given). given_apart (GivenView z) v ≡ true) e
+            (told (w x || w q.binder.id) (on q.binder.id i) (given_apart (GivenView z) g) o.0))
+            is at k (h.0 y e i is at k),
+        still_apart these w x z on f d qs gs o.1 h.1,
       )
     where
-      one : (y : Seen) → root_of fields root a ≡ Some y.buffer
-          → (same_root fields r (root_of fields root a) && (w p.binder.id || w q.binder.id)) ≡ false
-          → d y.buffer ≡ s.cells y.buffer → copy_back true (GivenView z) f d y.buffer ≡ s.cells
-          y.buffer
-      one y e m k = go (y.buffer == z.buffer) other k
+      told : (t : Bool) → t ≡ true → (v : Bool) → (not t || v) ≡ true → v ≡ true
+      told true i v k = k
+      told false i v k = absurd (true≢false (sym i))
+
+      one : (y : Seen) → are_apart z y ≡ true → (is at : List ℤ) → cell_at y.sides is ≡ Some at
+          → d y.buffer at ≡ s.cells y.buffer at
+          → copy_back true (GivenView z) f d y.buffer at ≡ s.cells y.buffer at
+      one y t is at k m = go (y.buffer == z.buffer) (eqb-true y.buffer z.buffer)
+          (index_of z.sides at) refl m
         where
-          go : (t : Bool) → t ≡ false → d y.buffer ≡ s.cells y.buffer
-              → (λ (at : List ℤ). cond t (value_or (index_of z.sides at) f (d y.buffer at))
-              (d y.buffer at)) ≡ s.cells y.buffer
-          go true i k = absurd (true≢false i)
-          go false i k = k
-
-          apart_by : (t : Bool) → w p.binder.id ≡ t → t ≡ true → (x : Bool)
-              → (x && (t || w q.binder.id)) ≡ false → x ≡ false
-          apart_by true i j true v = v
-          apart_by true i j false v = refl
-          apart_by false i j x v = absurd (true≢false (sym j))
-
-          differ : (z.buffer == y.buffer) ≡ false
-          differ = ap (λ o. same_root fields (Some z.buffer) o) (sym e)
-              ∙ ap (λ o. same_root fields o (root_of fields root a)) (sym is)
-              ∙ apart_by (w p.binder.id) refl on (same_root fields r (root_of fields root a)) m
-
-          by_same : (t : Bool) → (t ≡ true → y.buffer ≡ z.buffer) → t ≡ false
-          by_same true same = absurd (true≢false (sym (eq-eqb z.buffer y.buffer (sym (same refl)))
-              ∙ differ))
-          by_same false same = refl
-
-          other : (y.buffer == z.buffer) ≡ false
-          other = by_same (y.buffer == z.buffer) (eqb-true y.buffer z.buffer)
+          go : (b : Bool) → (b ≡ true → y.buffer ≡ z.buffer) → (o : Option (List ℤ))
+              → index_of z.sides at ≡ o → d y.buffer at ≡ s.cells y.buffer at
+              → cond b (value_or o f (d y.buffer at)) (d y.buffer at) ≡ s.cells y.buffer at
+          go false e o i m = m
+          go true e None i m = m
+          go true e (Some js) i m = absurd ((test_law z y).0 t js is at (sym (e refl))
+              (cell_at_index z.sides at js i) k)
 
   module _ (kinds : ℕ → Kind) (scope : Scope) (sorted : IsSorted kinds scope s) (inner : Scene)
       (first e f : Cells) (near : (b : ℕ) → IsSome (inner.buffers b) → (at : List ℤ) → IsRefinedBy
-      (e b at) (f b at)) (w v : ℕ → Bool) (more : (x : ℕ) → v x ≡ true
-      → w x ≡ true) (keeps : (x : ℕ) → v x ≡ false → IsSome (inner.buffers x) → f x ≡ first x) where
-    back_all : (ps : List Param) (args : List Argument) (gs : List Given) → AreArguments inner ps
+      (e b at) (f b at)) (w v : ℕ → Bool)
+      (old_keeps : (x : ℕ) → w x ≡ false → IsSome (inner.buffers x) → e x ≡ first x)
+      (new_keeps : (x : ℕ) → v x ≡ false → IsSome (inner.buffers x) → f x ≡ first x) where
+    abbrev all : ℕ → Bool
+    all x = true
+
+    back_all : (ps : List Param) (gs : List Given) → AreArguments inner ps
         → AllMatch fields kinds scope s sorted ps gs → AreCopies s ps gs first
-        → all_given s.scene args ≡ Some gs → share_nothing_written fields w root ps args ≡ true
-        → (c d : Cells) → Still ps gs d → ((b : ℕ) (at : List ℤ) → IsRefinedBy (c b at) (d b at))
+        → all_apart w ps gs ≡ true → (c d : Cells) → Still all ps gs c → Still w ps gs d
+        → ((b : ℕ) (at : List ℤ) → IsRefinedBy (c b at) (d b at))
         → (b : ℕ) (at : List ℤ) → IsRefinedBy (copied_back w ps gs e c b at)
         (copied_back v ps gs f d b at)
-    back_all [] args gs a m z i apart c d still k = k
-    back_all (p ∷ ps) args [] a m z i apart c d still k = absurd m
-    back_all (p ∷ ps) [] (g ∷ gs) a m z i apart c d still k =
-        absurd (not_empty (one_value [] (g ∷ gs) i))
-    back_all (p ∷ ps) (x ∷ args) (g ∷ gs) a m z i apart c d still k =
-        let l = given_parts s.scene x args g gs i in
-        let o = and_parts (not (is_shared fields w root p (root_of fields root x) ps args))
-        (share_nothing_written fields w root ps args) apart in
-        back_all ps args gs a.1 m.1 z.1 l.1 o.1 (copy_back (w p.binder.id) g (e p.binder.id) c)
+    back_all [] gs a m z apart c d was still k = k
+    back_all (p ∷ ps) [] a m z apart c d was still k = k
+    back_all (p ∷ ps) (g ∷ gs) a m z apart c d was still k =
+        let o = and_parts (apart_from w p.binder.id g ps gs) (all_apart w ps gs) apart in
+        back_all ps gs a.1 m.1 z.1 o.1 (copy_back (w p.binder.id) g (e p.binder.id) c)
         (copy_back (v p.binder.id) g (f p.binder.id) d)
-        (still_next (v p.binder.id) refl g l.0
-        (not_true (is_shared fields w root p (root_of fields root x) ps args) o.0) l.1)
-        (one (w p.binder.id) (v p.binder.id) refl (more p.binder.id) p.kind g a.0 m.0 z.0 still.0)
+        (was_next (w p.binder.id) refl g o.0) (still_next (v p.binder.id) g o.0)
+        (one (w p.binder.id) (v p.binder.id) refl refl p.kind g a.0 m.0 z.0 was.0 still.0)
       where
-        still_next : (t : Bool) → v p.binder.id ≡ t → (g : Given) → given s.scene x ≡ Some g
-            → is_shared fields w root p (root_of fields root x) ps args ≡ false
-            → all_given s.scene args ≡ Some gs → Still ps gs (copy_back t g (f p.binder.id) d)
-        still_next false j g l o r = still.1
-        still_next true j (GivenNumber n) l o r = still.1
-        still_next true j (GivenView y) l o r =
-            still_apart w p y (root_of fields root x) (buffer_is x y l) (more p.binder.id j)
-            (f p.binder.id) d ps args gs r o still.1
+        on_left : (a b : Bool) → a ≡ true → (a || b) ≡ true
+        on_left true b h = refl
+        on_left false b h = absurd (true≢false (sym h))
+
+        on_right : (a b : Bool) → b ≡ true → (a || b) ≡ true
+        on_right true b h = refl
+        on_right false b h = h
+
+        was_next : (t : Bool) → w p.binder.id ≡ t → (g : Given)
+            → apart_from w p.binder.id g ps gs ≡ true
+            → Still all ps gs (copy_back t g (e p.binder.id) c)
+        was_next false j g o = was.1
+        was_next true j (GivenNumber n) o = was.1
+        was_next true j (GivenView y) o =
+            still_apart all w p.binder.id y (λ q h. on_left (w p.binder.id) (w q) j)
+            (e p.binder.id) c ps gs o was.1
+
+        still_next : (t : Bool) (g : Given) → apart_from w p.binder.id g ps gs ≡ true
+            → Still w ps gs (copy_back t g (f p.binder.id) d)
+        still_next false g o = still.1
+        still_next true (GivenNumber n) o = still.1
+        still_next true (GivenView y) o =
+            still_apart w w p.binder.id y (λ q h. on_right (w p.binder.id) (w q) h)
+            (f p.binder.id) d ps gs o still.1
 
         view_there : (kind : ParamKind) (y : Seen) → IsArgument inner p.binder.id kind
             → Matches fields kinds scope s sorted kind (GivenView y)
@@ -393,24 +402,32 @@ module _ (fields : ℕ → Option Kind) (root : ℕ → ℕ) (s : State) (roots 
         is_copy (TensorParam cell dims memory) y m z = z
         is_copy (WindowParam cell dims memory) y m z = z
 
-        one : (t u : Bool) → v p.binder.id ≡ u → (u ≡ true → t ≡ true)
+        one : (t u : Bool) → w p.binder.id ≡ t → v p.binder.id ≡ u
             → (kind : ParamKind) (g : Given) → IsArgument inner p.binder.id kind
             → Matches fields kinds scope s sorted kind g → IsCopy s kind g (first p.binder.id)
-            → ((y : Seen) → g ≡ GivenView y → d y.buffer ≡ s.cells y.buffer) → (b : ℕ) (at : List ℤ)
+            → ((y : Seen) → g ≡ GivenView y → true ≡ true → (is at : List ℤ)
+            → cell_at y.sides is ≡ Some at → c y.buffer at ≡ s.cells y.buffer at)
+            → ((y : Seen) → g ≡ GivenView y → w p.binder.id ≡ true → (is at : List ℤ)
+            → cell_at y.sides is ≡ Some at → d y.buffer at ≡ s.cells y.buffer at)
+            → (b : ℕ) (at : List ℤ)
             → IsRefinedBy (copy_back t g (e p.binder.id) c b at) (copy_back u g (f p.binder.id) d b
             at)
-        one t true j more kind g a m z still =
-            subst (λ t. (b : ℕ) (at : List ℤ) → IsRefinedBy (copy_back t g (e p.binder.id) c b at)
-            (copy_back true g (f p.binder.id) d b at)) (sym (more refl))
-            (back_one true g (e p.binder.id) (f p.binder.id) c d (λ y i at. near p.binder.id
-            (view_there kind y a (subst (Matches fields kinds scope s sorted kind) i m)) at) k)
-        one false false j more kind g a m z still = k
-        one true false j more kind (GivenNumber n) a m z still = k
-        one true false j more kind (GivenView y) a m z still =
+        one true true i j kind g a m z was still =
+            back_one true g (e p.binder.id) (f p.binder.id) c d (λ y i at. near p.binder.id
+            (view_there kind y a (subst (Matches fields kinds scope s sorted kind) i m)) at) k
+        one false false i j kind g a m z was still = k
+        one true false i j kind (GivenNumber n) a m z was still = k
+        one true false i j kind (GivenView y) a m z was still =
             let here = view_there kind y a m in
             back_none s y (e p.binder.id) c d (λ is. subst (λ (h : List ℤ → Value). IsRefinedBy
-            (e p.binder.id is) (h is)) (keeps p.binder.id j here ∙ is_copy kind y m z)
-            (near p.binder.id here is)) (still y refl) k
+            (e p.binder.id is) (h is)) (new_keeps p.binder.id j here ∙ is_copy kind y m z)
+            (near p.binder.id here is)) (still y refl i) k
+        one false true i j kind (GivenNumber n) a m z was still = k
+        one false true i j kind (GivenView y) a m z was still =
+            let here = view_there kind y a m in
+            back_more s y (f p.binder.id) c d (λ is. subst (λ (h : List ℤ → Value). IsRefinedBy
+            (h is) (f p.binder.id is)) (old_keeps p.binder.id i here ∙ is_copy kind y m z)
+            (near p.binder.id here is)) (was y refl refl) k
 
 -- ---- calls
 
@@ -420,6 +437,7 @@ pub record Parts (c : Callee) (args : List Argument) (s a : State) : Type 0 wher
   pub first : State
   pub last : State
   pub is_given : all_given s.scene args ≡ Some given
+  pub apart : all_apart c.writes c.procedure.params given ≡ true
   pub is_first : entered c.procedure.params given s ≡ Some first
   pub hold : all_hold first.scene c.procedure.asserts ≡ true
   pub runs : c.run first ≡ Some last
@@ -427,7 +445,9 @@ pub record Parts (c : Callee) (args : List Argument) (s a : State) : Type 0 wher
 
 parts : (c : Callee) (args : List Argument) (s a : State) → call c args s ≡ Some a
     → Parts c args s a
-parts c args s a i =
+parts c args s a before =
+    let tested = where_parts (keeps_apart c s.scene args) (copied_call c args s) a before in
+    let i = tested.1 in
     let l = then_gives (all_given s.scene args) (λ gs. then_do (entered c.procedure.params gs s)
     (λ v. option_map (returned c gs s) (run_asserted c v))) a i in
     let m = then_gives (entered c.procedure.params l.0 s) (λ v. option_map (returned c l.0 s)
@@ -438,6 +458,7 @@ parts c args s a i =
       first = m.0;
       last = n.0;
       is_given = l.1;
+      apart = ap (given_all_apart c.writes c.procedure.params) (sym l.1) ∙ tested.0;
       is_first = m.1;
       hold = where_holds (all_hold m.0.scene c.procedure.asserts) (c.run m.0) n.0 n.1;
       runs = where_gives (all_hold m.0.scene c.procedure.asserts) (c.run m.0) n.0 n.1;
@@ -475,20 +496,22 @@ module _ (fields : List ConfigField) (memories : ℕ) (world : World) (scope : S
         copied_back d.writes l gs t.cells s.cells;
   }) version.params
 
-  -- what the new callee does not write stays
-  keeps : (v w : State) → IsAdmissible world c.procedure v → d.run v ≡ Some w → (x : ℕ)
-      → d.writes x ≡ false → IsSome (v.scene.buffers x) → w.cells x ≡ v.cells x
-  keeps v w good new x off there =
+  -- what a callee does not write stays
+  keeps : (above : World) (z : Callee) → z ≡ callee_in above z.procedure → (v w : State)
+      → IsAdmissible world c.procedure v → z.run v ≡ Some w → (x : ℕ)
+      → z.writes x ≡ false → IsSome (v.scene.buffers x) → w.cells x ≡ v.cells x
+  keeps above z made v w good ran x off there =
       let roots = own_roots world c.procedure v good kind memories called.params in
-      let not_written = ap (λ (z : Callee). z.writes x) (sym version.made) ∙ off in
-      let runs = ap (λ (z : Callee). z.run v) (sym version.made) ∙ new in
-      (if_gives (IsKept x v) (run version.above d.procedure.body v) w (others_are_kept version.above
-      (λ y. y) d.procedure.body x v roots there not_written) runs).cells
+      let not_written = ap (λ (y : Callee). y.writes x) (sym made) ∙ off in
+      let runs = ap (λ (y : Callee). y.run v) (sym made) ∙ ran in
+      (if_gives (IsKept x v) (run above z.procedure.body v) w (others_are_kept above
+      (λ y. y) z.procedure.body x v roots there not_written) runs).cells
 
   from_one : (gs : List Given) (v t w : State) → all_given s.scene args ≡ Some gs
+      → all_apart c.writes ps gs ≡ true
       → entered ps gs s ≡ Some v → all_hold v.scene c.procedure.asserts ≡ true → c.run v ≡ Some t
       → d.run v ≡ Some w → RefinedLive behind (left_by c.writes gs t) (left_by d.writes gs w)
-  from_one gs v t w given_is first_is hold old new =
+  from_one gs v t w given_is passed first_is hold old new =
       let good = first_state_law fields memories world scope root s v c args gs same sound sorted
       called.params called.call given_is first_is hold in
       let fit = and_parts (are_for kind scope ps args) (share_nothing_written kind c.writes root ps
@@ -513,10 +536,12 @@ module _ (fields : List ConfigField) (memories : ℕ) (world : World) (scope : S
         };
         refined = record {
           scene = refl;
-          cells = back_all kind root s called.roots world.kinds scope
+          cells = back_all kind s world.kinds scope
               sorted v.scene v.cells t.cells w.cells (version.refines.cells v t w good i j) c.writes
-              d.writes version.writes (keeps v w good new) ps args gs good.arguments match copies
-              given_is fit.1 s.cells s.cells (still_there kind root s called.roots ps gs)
+              d.writes (keeps version.old_above c version.old_made v t good old)
+              (keeps version.new_above d version.new_made v w good new) ps gs good.arguments
+              match copies passed s.cells s.cells (still_there kind s (λ x. true) ps gs)
+              (still_there kind s c.writes ps gs)
               (λ x at. refined_same (s.cells x at));
         };
       }
@@ -534,7 +559,7 @@ module _ (fields : List ConfigField) (memories : ℕ) (world : World) (scope : S
       ∙ q.is_after in
       subst (λ z. RefinedLive behind z b) p.is_after
       (subst (RefinedLive behind (left_by c.writes p.given p.last)) after
-      (from_one p.given p.first p.last q.last p.is_given p.is_first p.hold p.runs new))
+      (from_one p.given p.first p.last q.last p.is_given p.apart p.is_first p.hold p.runs new))
 
 pub call_fits : CallFits
 call_fits = both_calls

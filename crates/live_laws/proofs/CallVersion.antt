@@ -82,9 +82,10 @@ call_version fields memories ps calls c k j args p q one two differing out but f
         record {
           params = version.params;
           asserts = version.asserts;
-          writes = version.writes;
-          above = second.above;
-          made = second.made;
+          old_above = first.above;
+          old_made = first.made;
+          new_above = second.above;
+          new_made = second.made;
           old_run = first.runs;
           new_run =
               second.runs;

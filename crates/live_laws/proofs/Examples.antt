@@ -270,7 +270,7 @@ version_is_called =
     (1 ∷ []) (λ f. true) []
     (unit_forgets (kinds_of two_fields) both) (record { old = refl; new = refl }) may_call_first
     may_call_other refl refl
-    (record { params = refl; asserts = refl; writes = λ x e. e; refines = ones_refine })
+    (record { params = refl; asserts = refl; refines = ones_refine })
     (record { others = λ f k. refl }) apart
   where
     apart : (f : ℕ) → live_behind (unit_live both) f (called 0 []) then_sets true ≡ true
@@ -310,9 +310,10 @@ is_version : IsVersion unit first_callee other_callee (1 ∷ [])
 is_version = record {
   params = refl;
   asserts = refl;
-  writes = λ x e. e;
-  above = made_in_unit.above;
-  made = made_in_unit.made;
+  old_above = (callees_are_made two_fields 1 both are_procedures 0 first_callee refl).above;
+  old_made = (callees_are_made two_fields 1 both are_procedures 0 first_callee refl).made;
+  new_above = made_in_unit.above;
+  new_made = made_in_unit.made;
   old_run = (callees_are_made two_fields 1 both are_procedures 0 first_callee refl).runs;
   new_run = made_in_unit.runs;
   refines = ones_refine;
@@ -455,7 +456,6 @@ quiet_is_called =
     (record {
       params = refl;
       asserts = refl;
-      writes = λ x e. absurd (true≢false (sym e));
       refines = quiet_refines;
     })
     (record { others = λ f k. refl }) none

@@ -18,13 +18,14 @@ pub record IsCalled (fields : List ConfigField) (memories : ℕ) (scope : Scope)
   pub call : is_call (field_kind fields) scope root (Some c) args ≡ true
   pub roots : HasRoots root s.scene
 
--- d takes what c does, writes no more of it, and c is refined by it but for some fields
+-- d takes what c does, and c is refined by it but for some fields
 pub record IsVersion (world : World) (c d : Callee) (but : List ℕ) : Type 0 where
   pub params : d.procedure.params ≡ c.procedure.params
   pub asserts : d.procedure.asserts ≡ c.procedure.asserts
-  pub writes : (x : ℕ) → d.writes x ≡ true → c.writes x ≡ true
-  pub above : World
-  pub made : d ≡ callee_in above d.procedure
+  pub old_above : World
+  pub old_made : c ≡ callee_in old_above c.procedure
+  pub new_above : World
+  pub new_made : d ≡ callee_in new_above d.procedure
   pub old_run : c.run ≡ run world c.procedure.body
   pub new_run : d.run ≡ run world d.procedure.body
   pub refines : Refines world c.procedure d.procedure but

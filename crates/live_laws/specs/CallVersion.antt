@@ -25,11 +25,10 @@ CalleesAreMade =
     → world.callees k ≡ Some c
     → IsMadeIn world c
 
--- d takes what c does, writes no more of it, and c is refined by it but for some fields
+-- d takes what c does, and c is refined by it but for some fields
 pub record MayStandForCallee (world : World) (c d : Callee) (but : List ℕ) : Type 0 where
   pub params : d.procedure.params ≡ c.procedure.params
   pub asserts : d.procedure.asserts ≡ c.procedure.asserts
-  pub writes : (x : ℕ) → d.writes x ≡ true → c.writes x ≡ true
   pub refines : Refines world c.procedure d.procedure but
 
 abbrev pub called : ℕ → List Argument → Block

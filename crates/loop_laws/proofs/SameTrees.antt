@@ -4,7 +4,8 @@ use Rattle.std.proofs.Common.{refl, sym, ap, ap₂, arith}
 use Rattle.std.proofs.lemmas.Bool.Decides.{nat_tests}
 use Rattle.std.proofs.lemmas.Int.{ints}
 use Rattle.std.specs.Ordering.{int_eq}
-use Rattle.exo_tree.specs.Tree.{Cell, I8, I32, Binder, Control, Lit, Var, Field, StrideOf, Neg, Add, Sub}
+use Rattle.exo_tree.specs.Cells.{same_cell, same_cell_is}
+use Rattle.exo_tree.specs.Tree.{Cell, Binder, Control, Lit, Var, Field, StrideOf, Neg, Add, Sub}
 use Rattle.exo_tree.specs.Tree.{Mul, Div, Mod, Condition, True, False, Flag, FieldFlag, Lt, Le, Gt, Ge}
 use Rattle.exo_tree.specs.Tree.{Eq, And, Or, Datum, Const, Read, Negated, Relu, Plus, Minus, Times}
 use Rattle.exo_tree.specs.Tree.{Select, Coord, At, Span, Argument, ControlArg, ConditionArg, Whole}
@@ -12,7 +13,7 @@ use Rattle.exo_tree.specs.Tree.{Window, Statement, Assign, Reduce, Config, Pass,
 use Rattle.exo_tree.specs.Tree.{Call, Block, end, next}
 use Rattle.meaning_laws.proofs.Substitute.{and_parts}
 use Rattle.scope_laws.specs.Bare.{bare_binder, bare_statement, bare}
-use Rattle.loop_laws.specs.SameTrees.{same_cell, same_control, same_controls, same_condition}
+use Rattle.loop_laws.specs.SameTrees.{same_control, same_controls, same_condition}
 use Rattle.loop_laws.specs.SameTrees.{same_datum, same_coord, same_coords, same_argument}
 use Rattle.loop_laws.specs.SameTrees.{same_arguments, same_statement, same_block}
 
@@ -29,11 +30,6 @@ integers_are m n h = grind (arith, ints)
 two : {A B C : Type 0} {a a' : A} {b b' : B} (make : A → B → C) (s t : Bool)
     → (s ≡ true → a ≡ a') → (t ≡ true → b ≡ b') → s && t ≡ true → make a b ≡ make a' b'
 two make s t f g h = let p = and_parts s t h in ap₂ make (f p.0) (g p.1)
-
-cells_are : (c d : Cell) → same_cell c d ≡ true → c ≡ d
-cells_are I8 I8 h = refl
-cells_are I32 I32 h = refl
-cells_are _ _ h = not_true h
 
 controls_are : (a b : Control) → same_control a b ≡ true → a ≡ b
 controls_are (Lit m) (Lit n) h = ap Lit (integers_are m n h)
@@ -162,7 +158,7 @@ mutual
       two (λ z (p : (Cell × List Control) × ℕ). Alloc z p.0.0 p.0.1 p.1) (x.id == y.id)
       ((same_cell cell other && same_controls dims extents) && (k == l)) (binders_are x y)
       (two (λ s t. (s, t)) (same_cell cell other && same_controls dims extents) (k == l)
-      (two (λ s t. (s, t)) (same_cell cell other) (same_controls dims extents) (cells_are cell other)
+      (two (λ s t. (s, t)) (same_cell cell other) (same_controls dims extents) (same_cell_is cell other)
       (lists_of_controls_are dims extents)) (numbers_are k l)) h
   statements_are (View w x cs) (View v y ds) h =
       two (λ z (p : ℕ × List Coord). View z p.0 p.1) (w.id == v.id) ((x == y) && same_coords cs ds)

@@ -1,18 +1,14 @@
 -- Trees that are the same but for the names of binders.
 use Rattle.std.specs.Prelude.{◌==◌, Bool, true, false, ◌&&◌, List, [], ◌∷◌}
 use Rattle.std.specs.Ordering.{int_eq}
-use Rattle.exo_tree.specs.Tree.{Cell, I8, I32, Control, Lit, Var, Field, StrideOf, Neg, Add, Sub}
+use Rattle.exo_tree.specs.Cells.{same_cell}
+use Rattle.exo_tree.specs.Tree.{Control, Lit, Var, Field, StrideOf, Neg, Add, Sub}
 use Rattle.exo_tree.specs.Tree.{Mul, Div, Mod, Condition, True, False, Flag, FieldFlag, Lt, Le, Gt}
 use Rattle.exo_tree.specs.Tree.{Ge, Eq, And, Or, Datum, Const, Read, Negated, Relu, Plus, Minus}
 use Rattle.exo_tree.specs.Tree.{Times, Select}
 use Rattle.exo_tree.specs.Tree.{Coord, At, Span, Argument, ControlArg, ConditionArg, Whole, Window}
 use Rattle.exo_tree.specs.Tree.{Statement, Assign, Reduce, Config, Pass, If, For, Alloc, View, Call}
 use Rattle.exo_tree.specs.Tree.{Block, end, next}
-
-abbrev pub same_cell : Cell → Cell → Bool
-same_cell I8 I8 = true
-same_cell I32 I32 = true
-same_cell c d = false
 
 abbrev pub same_control : Control → Control → Bool
 same_control (Lit m) (Lit n) = int_eq m n

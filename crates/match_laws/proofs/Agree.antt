@@ -1,18 +1,19 @@
 -- Expressions that agree have one number, and conditions that agree hold together.
-use Rattle.std.proofs.Common.{◌≡◌, ◌+ℤ◌, int_lt, int_le, true, ◌&&◌, ◌||◌, refl, sym, ap, ap₂}
-use Rattle.std.proofs.Common.{◌∙◌, true≢false, eqb-true}
+use Rattle.std.proofs.Common.{◌≡◌, ◌+ℤ◌, int_lt, int_le, Bool, true, false, ◌&&◌, ◌||◌}
+use Rattle.std.proofs.Common.{if◌then◌else◌, refl, sym, ap, ap₂, ◌∙◌, true≢false, eqb-true}
 use Rattle.std.specs.Ordering.{int_eq}
 use Rattle.exo_tree.specs.Tree.{Control, Condition, True, False, Flag, FieldFlag, Lt, Le, Gt, Ge}
 use Rattle.exo_tree.specs.Tree.{Eq, And, Or}
 use Rattle.exo_meaning.specs.Scene.{Scene, number, holds, is_set}
 use Rattle.affine_forms.specs.Atoms.{Linear, value, same_terms, same_form}
-use Rattle.affine_forms.specs.Forms.{Reading, is_affine, normal}
+use Rattle.affine_forms.specs.Forms.{Reading, Allowed, is_affine, keeps_rules, normal}
 use Rattle.affine_forms.specs.Formulas.{AllowedFlags, is_affine_condition}
 use Rattle.affine_forms.specs.Laws.{ReadsAt}
 use Rattle.affine_forms.proofs.Values.{and_parts, int_eq_same, same_terms_value}
 use Rattle.affine_forms.proofs.NormalForm.{normal_law}
-use Rattle.simplify_laws.specs.Simplified.{values_in}
-use Rattle.match_laws.specs.Moved.{agree, conditions_agree, AgreeLaw, ConditionsAgreeLaw}
+use Rattle.simplify_laws.specs.Simplified.{simplified, values_in}
+use Rattle.simplify_laws.proofs.Simplified.{simplified_law}
+use Rattle.match_laws.specs.Moved.{agree, simpler, conditions_agree, AgreeLaw, ConditionsAgreeLaw}
 
 same_value : (scene : Scene) (k l : Linear) → same_form k l ≡ true
     → value (values_in scene) k ≡ value (values_in scene) l
@@ -21,11 +22,27 @@ same_value scene k l h =
     ap₂ ◌+ℤ◌ (int_eq_same k.constant l.constant p.0)
     (sym (same_terms_value (values_in scene) k.terms l.terms p.1))
 
+forms_same : (at : Reading) (a b : Control) → agree at a b ≡ true
+    → same_form (normal at a) (normal at b) ≡ true
+forms_same at a b h =
+    let same = same_form (normal at a) (normal at b) in
+    (and_parts (keeps_rules b) same (and_parts (keeps_rules a) (keeps_rules b && same) h).1).1
+
 pub agree_law : AgreeLaw
 agree_law may at scene a b reads i j h =
     sym (normal_law may (values_in scene) at scene a reads i)
-    ∙ same_value scene (normal at a) (normal at b) h
+    ∙ same_value scene (normal at a) (normal at b) (forms_same at a b h)
     ∙ normal_law may (values_in scene) at scene b reads j
+
+-- what is written more simply has the same number
+pub simpler_law : (may : Allowed) (at : Reading) (scene : Scene) (e : Control)
+    → ReadsAt may (values_in scene) at scene → is_affine may e ≡ true
+    → number scene (simpler at e) ≡ number scene e
+simpler_law may at scene e reads i = go (keeps_rules e)
+  where
+    go : (t : Bool) → number scene (if t then simplified at e else e) ≡ number scene e
+    go true = simplified_law may at scene e reads i
+    go false = refl
 
 module _ (may : AllowedFlags) (at : Reading) (scene : Scene)
     (reads : ReadsAt may.numbers (values_in scene) at scene) where

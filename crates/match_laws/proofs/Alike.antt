@@ -3,7 +3,8 @@ use Rattle.std.proofs.Common.{◌≡◌, ◌∙◌, ℕ, ℤ, ◌+ℤ◌, ◌-�
 use Rattle.std.proofs.Common.{true, false, ◌&&◌, ◌||◌, List, [], ◌∷◌, Option, Some, None}
 use Rattle.std.proofs.Common.{option_map, refl, sym, ap, ap₂, subst, true≢false, eqb-true}
 use Rattle.std.specs.Ordering.{int_eq}
-use Rattle.exo_tree.specs.Tree.{Cell, I8, I32, Binder, Control, Condition, True, False, Flag}
+use Rattle.exo_tree.specs.Cells.{same_cell, same_cell_is}
+use Rattle.exo_tree.specs.Tree.{Cell, Binder, Control, Condition, True, False, Flag}
 use Rattle.exo_tree.specs.Tree.{FieldFlag, Lt, Le, Gt, Ge, Eq, And, Or, Datum, Const, Read, Negated}
 use Rattle.exo_tree.specs.Tree.{Relu, Plus, Minus, Times, Select, Coord, At, Span, Argument}
 use Rattle.exo_tree.specs.Tree.{ControlArg, ConditionArg, Whole, Window, Statement, Assign, Reduce}
@@ -14,6 +15,7 @@ use Rattle.exo_meaning.specs.Scene.{Side, Point, Range, Seen, Scene, then_do, nu
 use Rattle.exo_meaning.specs.Scene.{holds, is_set, narrowed, window, cell_at, is_below, where_true}
 use Rattle.exo_meaning.specs.State.{State, Place, place, held, put, value, left, on_scene, scoped}
 use Rattle.exo_meaning.specs.State.{with_control, with_field, with_view}
+use Rattle.exo_meaning.specs.Calls.{given_all_apart}
 use Rattle.exo_meaning.specs.Calls.{Callee, GivenNumber, GivenView, given, all_given, truth, suits}
 use Rattle.exo_meaning.specs.Calls.{entered, returned, run_asserted}
 use Rattle.exo_meaning.specs.Run.{World, run, step, argument_number, turn, turns_of, range, count}
@@ -28,7 +30,6 @@ use Rattle.simplify_laws.specs.SameControls.{OfControls, OfCondition, OfDatum, O
 use Rattle.simplify_laws.specs.SameControls.{OfArguments, OfEach}
 use Rattle.simplify_laws.specs.SimplifiedBlocks.{standing, IsRead}
 use Rattle.match_laws.specs.Moved.{agree, conditions_agree}
-use Rattle.match_laws.specs.Pairs.{same_cell}
 use Rattle.match_laws.specs.Alike.{same_text, same_binder, controls_agree, data_agree}
 use Rattle.match_laws.specs.Alike.{coords_agree, arguments_alike, arguments_agree}
 use Rattle.match_laws.specs.Alike.{statements_agree, blocks_agree, AgreeAlong}
@@ -37,12 +38,6 @@ use Rattle.match_laws.proofs.Agree.{agree_law}
 
 no : {P : Type 0} → false ≡ true → P
 no h = absurd (true≢false (sym h))
-
-pub cells_same : (c d : Cell) → same_cell c d ≡ true → c ≡ d
-cells_same I8 I8 h = refl
-cells_same I8 I32 h = no h
-cells_same I32 I8 h = no h
-cells_same I32 I32 h = refl
 
 texts_same : (a b : List ℕ) → same_text a b ≡ true → a ≡ b
 texts_same [] [] h = refl
@@ -234,8 +229,9 @@ module _ (at : Reading) where
       → all_given s.scene gs ≡ all_given s.scene hs → call_to o gs s ≡ call_to o hs s
   calls_same None gs hs s e = refl
   calls_same (Some callee) gs hs s e =
-      ap (λ z. then_do z (λ ns. then_do (entered callee.procedure.params ns s) (λ inner.
-      option_map (returned callee ns s) (run_asserted callee inner)))) e
+      ap (λ z. where_true (given_all_apart callee.writes callee.procedure.params z)
+      (then_do z (λ ns. then_do (entered callee.procedure.params ns s) (λ inner.
+      option_map (returned callee ns s) (run_asserted callee inner))))) e
 
   -- ---- along a run
 
@@ -385,7 +381,7 @@ module _ (at : Reading) where
           h in
           let q = and_parts (same_cell cell type) (controls_agree at dims extents) p.1 in
           at_once (ap₂ (λ z t. allocate z t (numbers s.scene dims) s) (eqb-true x.id y.id p.0)
-          (cells_same cell type q.0)
+          (same_cell_is cell type q.0)
           ∙ ap (λ ns. allocate y.id type ns s) (controls_same s.scene dims extents q.1 i j))
       there (View w x cs) (View v y ds) rest more s h ka kc =
           let i = ka (Here rest) (View w x cs) s refl refl in

@@ -13,17 +13,16 @@ use Rattle.affine_forms.specs.Forms.{Reading, Allowed, is_affine}
 use Rattle.affine_forms.specs.Laws.{ReadsAt}
 use Rattle.affine_forms.proofs.Values.{and_parts, some_injective, none_some}
 use Rattle.inplace_laws.specs.Windows.{shifted, joined_coords}
-use Rattle.simplify_laws.specs.Simplified.{values_in, simplified}
+use Rattle.simplify_laws.specs.Simplified.{values_in}
 use Rattle.simplify_laws.specs.SameControls.{OfCoords}
-use Rattle.simplify_laws.proofs.Simplified.{simplified_law}
 use Rattle.match_laws.specs.Pairs.{points}
-use Rattle.match_laws.specs.Moved.{Moving, both, one, moved, agree}
+use Rattle.match_laws.specs.Moved.{Moving, both, one, moved, agree, simpler}
 use Rattle.match_laws.specs.Windows as w
 use Rattle.match_laws.specs.Windows.{Use, Spot, Offset, coords_from, fitting, spots, same_spots}
 use Rattle.match_laws.specs.Windows.{are_as, all_as, are_free, if_agree}
 use Rattle.match_laws.specs.Fitting.{coords_moved, SameCoords, SameWindows}
 use Rattle.match_laws.specs.Fitting.{SamePlaces, IsAffine, OfSpots, IsComposed, FittingLaw}
-use Rattle.match_laws.proofs.Agree.{agree_law}
+use Rattle.match_laws.proofs.Agree.{agree_law, simpler_law}
 
 no : {P : Type 0} → false ≡ true → P
 no h = absurd (true≢false (sym h))
@@ -143,17 +142,17 @@ module _ (may : Allowed) (at : Reading) (m : Moving) (bound : ℕ → Bool) (sce
 
   -- an index on the argument
   lower : (o e g : Control) → Affine o → number scene o ≡ number scene (Sub g e)
-      → number scene (Add (simplified at o) e) ≡ number scene g
+      → number scene (Add (simpler at o) e) ≡ number scene g
   lower o e g i same =
-      ap (λ n. n +ℤ number scene e) (simplified_law may at scene o reads i ∙ same)
+      ap (λ n. n +ℤ number scene e) (simpler_law may at scene o reads i ∙ same)
       ∙ back (number scene g) (number scene e)
 
   -- the end of a span
   higher : (o e g f h : Control) → Affine o → number scene o ≡ number scene (Sub g e)
       → number scene (Sub h g) ≡ number scene (Sub f e)
-      → number scene (Add (simplified at o) f) ≡ number scene h
+      → number scene (Add (simpler at o) f) ≡ number scene h
   higher o e g f h i same ends =
-      ap (λ n. n +ℤ number scene f) (simplified_law may at scene o reads i ∙ same)
+      ap (λ n. n +ℤ number scene f) (simpler_law may at scene o reads i ∙ same)
       ∙ upper (number scene g) (number scene e) (number scene f) (number scene h) ends
 
   -- ---- spots of affine coordinates are affine

@@ -189,7 +189,7 @@ words_are_not = refl
 
 -- ---- what no place determines: x[k % 8] = 0 with k: size; and a literal that differs
 
-abbrev at_rest : Procedure
+abbrev pub at_rest : Procedure
 at_rest = named (size 0 ∷ vector 1 I32 (lit 8) ∷ [])
     (next (Assign 1 (Mod (Var 0) (pos 8) ∷ []) (Const (pos 0))) end)
 

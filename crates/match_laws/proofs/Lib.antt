@@ -9,3 +9,7 @@ pub mod MatchedFits
 pub mod Single
 pub mod Instances
 pub mod MoreInstances
+pub mod RenamedNames
+pub mod RenamedPairs
+pub mod RenamedMatch
+pub mod WholeIsWindow

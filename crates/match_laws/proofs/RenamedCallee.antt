@@ -1,6 +1,6 @@
 -- A call of a callee with other ids is a call of the callee.
 use Rattle.std.proofs.Common.{◌≡◌, ℕ, ℤ, pos, neg_ℤ, ◌+ℤ◌, ◌-ℤ◌, ◌*ℤ◌, ◌==◌, int_lt, int_le, Bool}
-use Rattle.std.proofs.Common.{true, false, cond, ◌&&◌, ◌||◌, List, [], ◌∷◌, Option, Some, None}
+use Rattle.std.proofs.Common.{true, false, not, cond, ◌&&◌, ◌||◌, List, [], ◌∷◌, Option, Some, None}
 use Rattle.std.proofs.Common.{option_map, refl, sym, ap, ap₂, ◌∙◌, eqb-true, eq-eqb}
 use Rattle.std.proofs.Math.Path.{fun_ext}
 use Rattle.std.specs.Bool.{one_answer}
@@ -21,7 +21,8 @@ use Rattle.exo_meaning.specs.State.{State, Cells, same_index, on_scene, with_con
 use Rattle.exo_meaning.specs.Calls.{Callee, Given, GivenNumber, GivenView, all_given, suits}
 use Rattle.exo_meaning.specs.Calls.{all_positive, bind_number, bind_numbers, copy_in, bind_buffer}
 use Rattle.exo_meaning.specs.Calls.{bind_buffers, bare, entered, contents, copy_back, copied_back}
-use Rattle.exo_meaning.specs.Calls.{returned, all_hold, run_asserted}
+use Rattle.exo_meaning.specs.Calls.{returned, all_hold, run_asserted, given_apart, apart_from}
+use Rattle.exo_meaning.specs.Calls.{all_apart, given_all_apart}
 use Rattle.exo_meaning.specs.Run.{World, run, call_to, callee_in, writes, step_writes, roots_after}
 use Rattle.exo_meaning.specs.Run.{is_root, call_writes, call_to_writes}
 use Rattle.exo_meaning.specs.Renaming.{Renaming, re_control, re_controls, re_condition, re_argument}
@@ -40,7 +41,7 @@ module _ (r : Renaming) where
     (λ e. eq-eqb x (r.to k) (sym (r.to_from x) ∙ ap r.to e)),
   ) (eqb-true (r.from x) k, eq-eqb (r.from x) k)
 
-  same_ids : (x k : ℕ) → (r.to x == r.to k) ≡ (x == k)
+  pub same_ids : (x k : ℕ) → (r.to x == r.to k) ≡ (x == k)
   same_ids x k = same_test (r.to x) k ∙ ap (λ y. y == k) (r.from_to x)
 
   updated_re : {A : Type 0} (f : ℕ → A) (k : ℕ) (v : A)
@@ -331,6 +332,25 @@ module _ (r : Renaming) where
       ∙ copied_back_re w v same ps gs copies
       (copy_back (v p.binder.id) g (copies p.binder.id) cells)
 
+  -- ---- windows of one call
+
+  apart_from_re : (w v : ℕ → Bool) → ((x : ℕ) → w (r.to x) ≡ v x)
+      → (x : ℕ) (g : Given) (ps : List Param) (gs : List Given)
+      → apart_from w (r.to x) g (re_params r ps) gs ≡ apart_from v x g ps gs
+  apart_from_re w v same x g [] gs = refl
+  apart_from_re w v same x g (q ∷ qs) [] = refl
+  apart_from_re w v same x g (q ∷ qs) (h ∷ hs) =
+      ap₂ ◌&&◌ (ap₂ (λ s t. not (s || t) || given_apart g h) (same x) (same q.binder.id))
+      (apart_from_re w v same x g qs hs)
+
+  all_apart_re : (w v : ℕ → Bool) → ((x : ℕ) → w (r.to x) ≡ v x)
+      → (ps : List Param) (gs : List Given)
+      → all_apart w (re_params r ps) gs ≡ all_apart v ps gs
+  all_apart_re w v same [] gs = refl
+  all_apart_re w v same (p ∷ ps) [] = refl
+  all_apart_re w v same (p ∷ ps) (g ∷ gs) =
+      ap₂ ◌&&◌ (apart_from_re w v same p.binder.id g ps gs) (all_apart_re w v same ps gs)
+
   module _ (above : World) (q : Procedure) where
     abbrev renamed : Callee
     renamed = callee_in above (re_procedure r q)
@@ -384,9 +404,17 @@ module _ (r : Renaming) where
             ap (option_map (returned renamed gs s)) (asserted_re t)
             ∙ ends_re gs s (run_asserted callee t)
 
+    tested_re : (o : Option (List Given))
+        → given_all_apart renamed.writes (re_params r q.params) o
+        ≡ given_all_apart callee.writes q.params o
+    tested_re None = refl
+    tested_re (Some gs) =
+        all_apart_re renamed.writes callee.writes (own_writes above q.body) q.params gs
+
     call_re : (args : List Argument) (s : State)
         → call_to (Some renamed) args s ≡ call_to (Some callee) args s
-    call_re args s = ap (then_do (all_given s.scene args)) (fun_ext (given_re s))
+    call_re args s = ap₂ where_true (tested_re (all_given s.scene args))
+        (ap (then_do (all_given s.scene args)) (fun_ext (given_re s)))
 
 pub renamed_callee : RenamedCallee
 renamed_callee r above q args s = call_re r above q args s

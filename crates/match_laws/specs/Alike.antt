@@ -12,7 +12,7 @@ use Rattle.inplace_laws.specs.Along.{SameAlong}
 use Rattle.simplify_laws.specs.SameControls.{OfEach}
 use Rattle.simplify_laws.specs.SimplifiedBlocks.{IsRead}
 use Rattle.match_laws.specs.Moved.{agree, conditions_agree}
-use Rattle.match_laws.specs.Pairs.{same_cell}
+use Rattle.exo_tree.specs.Cells.{same_cell}
 
 abbrev pub same_text : List ℕ → List ℕ → Bool
 same_text [] [] = true

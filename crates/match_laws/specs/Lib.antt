@@ -9,3 +9,5 @@ pub mod Widths
 pub mod ArgumentFits
 pub mod MatchedFits
 pub mod RenamedCallee
+pub mod RenamedMatch
+pub mod WholeIsWindow

@@ -225,11 +225,11 @@ module _ (at : Reading) (theirs : Names) (block : Block) (q : Procedure) where
   params = is_param q
 
   abbrev pub all_pairs : List Pair
-  all_pairs = paired params (names_of q) theirs q.body block
+  all_pairs = paired params (has_binder block) (names_of q) theirs q.body block
 
   -- the callee's body against itself has all places
   abbrev pub own_pairs : List Pair
-  own_pairs = paired params (names_of q) (names_of q) q.body q.body
+  own_pairs = paired params (λ x. false) (names_of q) (names_of q) q.body q.body
 
   abbrev pub to : ℕ → Option ℕ
   to = partner all_pairs

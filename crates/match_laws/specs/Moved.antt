@@ -1,14 +1,15 @@
 -- Expressions of a callee, in the names of the block that it is matched with.
-use Rattle.std.specs.Prelude.{◌≡◌, ℕ, Bool, true, false, ◌&&◌, ◌==◌, Option, Some, None}
+use Rattle.std.specs.Prelude.{◌≡◌, ℕ, Bool, true, false, ◌&&◌, ◌==◌, if◌then◌else◌, Option, Some}
+use Rattle.std.specs.Prelude.{None}
 use Rattle.exo_tree.specs.Tree.{Control, Lit, Var, Field, StrideOf, Neg, Add, Sub, Mul, Div, Mod}
 use Rattle.exo_tree.specs.Tree.{Condition, True, False, Flag, FieldFlag, Lt, Le, Gt, Ge, Eq, And}
 use Rattle.exo_tree.specs.Tree.{Or}
 use Rattle.affine_forms.specs.Atoms.{same_form}
 use Rattle.exo_meaning.specs.Scene.{Scene, number, holds}
-use Rattle.affine_forms.specs.Forms.{Reading, Allowed, is_affine, normal}
+use Rattle.affine_forms.specs.Forms.{Reading, Allowed, is_affine, keeps_rules, normal}
 use Rattle.affine_forms.specs.Formulas.{AllowedFlags, is_affine_condition}
 use Rattle.affine_forms.specs.Laws.{ReadsAt}
-use Rattle.simplify_laws.specs.Simplified.{values_in}
+use Rattle.simplify_laws.specs.Simplified.{simplified, values_in}
 
 -- what stands for a variable, a bool and a stride; None is not known yet
 pub record Moving : Type 0 where
@@ -52,9 +53,14 @@ moved_condition m (Or c d) = both Or (moved_condition m c) (moved_condition m d)
 
 -- ---- agreement
 
--- expressions agree where their normal forms are equal
+-- expressions agree where their normal forms are equal; of what breaks the rules of expressions no
+-- form is asked, and it agrees with nothing
 abbrev pub agree : Reading → Control → Control → Bool
-agree at a b = same_form (normal at a) (normal at b)
+agree at a b = keeps_rules a && (keeps_rules b && same_form (normal at a) (normal at b))
+
+-- what breaks the rules stays as it is
+abbrev pub simpler : Reading → Control → Control
+simpler at e = if keeps_rules e then simplified at e else e
 
 -- conditions agree where they are one tree, and the sides of their comparisons agree
 abbrev pub conditions_agree : Reading → Condition → Condition → Bool

@@ -2,8 +2,8 @@
 use Rattle.std.specs.Prelude.{ℕ, suc, ◌==◌, Bool, true, false, ◌&&◌, List, [], ◌∷◌}
 use Rattle.std.specs.Prelude.{◌++◌, if◌then◌else◌, Option, Some, None}
 use Rattle.std.specs.Ordering.{int_eq}
-use Rattle.exo_tree.specs.Tree.{Cell, I8, I32, Control, Condition, Datum, Const, Read, Negated}
-use Rattle.exo_tree.specs.Tree.{Relu}
+use Rattle.exo_tree.specs.Cells.{same_cell}
+use Rattle.exo_tree.specs.Tree.{Control, Condition, Datum, Const, Read, Negated, Relu}
 use Rattle.exo_tree.specs.Tree.{Plus, Minus, Times, Select, Coord, At, Span, Argument, ControlArg}
 use Rattle.exo_tree.specs.Tree.{ConditionArg, Whole, Window, Statement, Assign, Reduce, Config}
 use Rattle.exo_tree.specs.Tree.{Pass}
@@ -25,12 +25,6 @@ pub data Pair : Type 0 where
   -- the walk ends
   Unlike : Path → Pair
 
-abbrev pub same_cell : Cell → Cell → Bool
-same_cell I8 I8 = true
-same_cell I8 I32 = false
-same_cell I32 I8 = false
-same_cell I32 I32 = true
-
 -- both stand for cells of one type
 abbrev pub same_cells : Option Buffer → Option Buffer → Bool
 same_cells None o = false
@@ -41,9 +35,9 @@ abbrev pub points : List Control → List Coord
 points [] = []
 points (e ∷ es) = At e ∷ points es
 
--- params: the callee's parameters; ours, theirs: the names of the callee and of the block's
--- procedure
-module _ (params : ℕ → Bool) (ours theirs : Names) where
+-- params: the callee's parameters; bound: the block's own names; ours, theirs: the names of the
+-- callee and of the block's procedure
+module _ (params bound : ℕ → Bool) (ours theirs : Names) where
   abbrev pub controls_paired : Path → List Control → List Control → List Pair
   controls_paired p [] [] = []
   controls_paired p [] (g ∷ gs) = Unlike p ∷ []
@@ -60,11 +54,15 @@ module _ (params : ℕ → Bool) (ours theirs : Names) where
   coords_paired p (Span e f ∷ cs) (Span g h ∷ ds) =
       Numbers p false e g ∷ Numbers p false f h ∷ coords_paired p cs ds
 
+  -- a parameter stands for no name of the block's own
+  abbrev pub param_paired : Path → ℕ → List Coord → ℕ → List Coord → List Pair
+  param_paired p x cs y ds = if bound y then Unlike p ∷ [] else Access p x cs y ds ∷ []
+
   -- cell types are compared at each access
   abbrev pub access_paired : Path → ℕ → List Coord → ℕ → List Coord → List Pair
   access_paired p x cs y ds =
       if same_cells (ours x) (theirs y)
-      then (if params x then Access p x cs y ds ∷ [] else Own p x y ∷ coords_paired p cs ds)
+      then (if params x then param_paired p x cs y ds else Own p x y ∷ coords_paired p cs ds)
       else Unlike p ∷ []
 
   -- the whole of a parameter is a window of all its dimensions; of another name it is that name
@@ -72,10 +70,12 @@ module _ (params : ℕ → Bool) (ours theirs : Names) where
   wholes_paired p x y =
       if same_cells (ours x) (theirs y)
       then (if params x
-      then Access p x (whole_of (extents_of (ours x))) y (whole_of (extents_of (theirs y))) ∷ []
+      then param_paired p x (whole_of (extents_of (ours x))) y (whole_of (extents_of (theirs y)))
       else Own p x y ∷ [])
       else Unlike p ∷ []
 
+  -- the whole of a parameter against a window, and the other way round: the coordinates of the
+  -- whole; of another name they differ
   abbrev pub whole_paired : Path → ℕ → ℕ → List Coord → List Pair
   whole_paired p x y ds =
       if params x then access_paired p x (whole_of (extents_of (ours x))) y ds else Unlike p ∷ []

@@ -7,12 +7,11 @@ use Rattle.exo_tree.specs.Tree.{At}
 use Rattle.exo_tree.specs.Tree.{Span, Argument, ParamKind, ControlParam, TensorParam, WindowParam}
 use Rattle.exo_tree.specs.Tree.{Param, Block, Procedure}
 use Rattle.exo_tree.specs.Places.{Path}
-use Rattle.affine_forms.specs.Forms.{Reading, is_writable}
+use Rattle.affine_forms.specs.Forms.{Reading, keeps_rules, is_writable}
 use Rattle.meaning_laws.specs.Scoped.{has_binder}
-use Rattle.simplify_laws.specs.Simplified.{simplified}
 use Rattle.match_laws.specs.Names.{Buffer, Names}
 use Rattle.match_laws.specs.Pairs.{Pair, Numbers, Truths, Binders, Own, Access, Unlike}
-use Rattle.match_laws.specs.Moved.{Moving, moved, moved_condition}
+use Rattle.match_laws.specs.Moved.{Moving, moved, moved_condition, simpler}
 use Rattle.match_laws.specs.Windows.{Use, uses_of, choices, Spot, Offset, Point, spots, same_spots}
 use Rattle.match_laws.specs.Windows.{are_free, fitting, argument_from, all_moved, all_of_name}
 use Rattle.match_laws.specs.Matched.{Matched, matched, differs, first_difference}
@@ -27,8 +26,13 @@ pub data InWidth : Type 0 where
 -- ---- the forms that a comparison asks for
 
 module _ (at : Reading) where
+  -- of what breaks the rules of expressions none is asked for
+  abbrev pub is_short : Control → Bool
+  is_short e = not (keeps_rules e) || is_writable at e
+
   abbrev pub are_short : Control → Control → Bool
-  are_short a b = is_writable at a && is_writable at b
+  are_short a b =
+      not (keeps_rules a && keeps_rules b) || (is_writable at a && is_writable at b)
 
   -- the sides of the comparisons that stand against each other
   abbrev pub conditions_are_short : Condition → Condition → Bool
@@ -85,7 +89,7 @@ module _ (at : Reading) (m : Moving) (bound : ℕ → Bool) where
   -- an offset is written
   abbrev pub offsets_are_short : List Spot → Bool
   offsets_are_short [] = true
-  offsets_are_short (Offset e ∷ ss) = is_writable at e && offsets_are_short ss
+  offsets_are_short (Offset e ∷ ss) = is_short at e && offsets_are_short ss
   offsets_are_short (Point g ∷ ss) = offsets_are_short ss
 
   -- and so is the end of its span
@@ -94,7 +98,7 @@ module _ (at : Reading) (m : Moving) (bound : ℕ → Bool) where
   ends_are_short (Point g ∷ ss) ds = ends_are_short ss ds
   ends_are_short (Offset e ∷ ss) [] = true
   ends_are_short (Offset e ∷ ss) (d ∷ ds) =
-      is_writable at (Add (simplified at e) d) && ends_are_short ss ds
+      is_short at (Add (simpler at e) d) && ends_are_short ss ds
 
   -- up to the first use that is not as the first one
   abbrev pub uses_are_short : List Bool → List Spot → List Use → Bool

@@ -1,15 +1,13 @@
 -- The window of a name that stands for a parameter in all its accesses.
 use Rattle.std.specs.Prelude.{ℕ, zero, suc, pos, ◌==◌, Bool, true, false, ◌&&◌, not, List, [], ◌∷◌}
 use Rattle.std.specs.Prelude.{◌++◌, map, length, if◌then◌else◌, Option, Some, None}
-use Rattle.exo_tree.specs.Tree.{Control, Add, Sub, Coord, At, Span, Argument, Whole, Window}
+use Rattle.exo_tree.specs.Tree.{Control, Lit, Add, Sub, Coord, At, Span, Argument, Whole, Window}
 use Rattle.exo_tree.specs.Places.{Path}
 use Rattle.exo_meaning.specs.Unseen.{in_control as mentions}
-use Rattle.affine_forms.specs.Atoms.{same_form, constantly}
-use Rattle.affine_forms.specs.Forms.{Reading, normal}
-use Rattle.simplify_laws.specs.Simplified.{simplified}
+use Rattle.affine_forms.specs.Forms.{Reading}
 use Rattle.match_laws.specs.Names.{Buffer}
 use Rattle.match_laws.specs.Pairs.{Pair, Numbers, Truths, Binders, Own, Access, Unlike}
-use Rattle.match_laws.specs.Moved.{Moving, both, one, moved, agree}
+use Rattle.match_laws.specs.Moved.{Moving, both, one, moved, agree, simpler}
 
 -- an access of the parameter against one of a name
 pub record Use : Type 0 where
@@ -82,7 +80,7 @@ module _ (at : Reading) (m : Moving) (bound : ℕ → Bool) where
 
   -- an offset as it is written
   abbrev pub is_free : Spot → Bool
-  is_free (Offset e) = not (mentions bound (simplified at e))
+  is_free (Offset e) = not (mentions bound (simpler at e))
   is_free (Point g) = not (mentions bound g)
 
   abbrev pub are_free : List Spot → Bool
@@ -109,7 +107,7 @@ module _ (at : Reading) (m : Moving) (bound : ℕ → Bool) where
   coords_from (Point g ∷ ss) ds = At g ∷ coords_from ss ds
   coords_from (Offset e ∷ ss) [] = []
   coords_from (Offset e ∷ ss) (d ∷ ds) =
-      Span (simplified at e) (simplified at (Add (simplified at e) d)) ∷ coords_from ss ds
+      Span (simpler at e) (simpler at (Add (simpler at e) d)) ∷ coords_from ss ds
 
   -- a name without dimensions has no window
   abbrev pub window_of : ℕ → List Coord → Argument
@@ -121,7 +119,7 @@ module _ (at : Reading) (m : Moving) (bound : ℕ → Bool) where
   all_moved (d ∷ ds) = both (λ e es. e ∷ es) (moved m d) (all_moved ds)
 
   abbrev pub is_at_zero : Spot → Bool
-  is_at_zero (Offset e) = same_form (normal at e) (constantly (pos 0))
+  is_at_zero (Offset e) = agree at e (Lit (pos 0))
   is_at_zero (Point g) = false
 
   abbrev pub are_at_zero : List Spot → Bool

@@ -11,6 +11,8 @@ ghost use Rattle.match_laws.specs.Fitting.{SamePlaces};
 ghost use Rattle.match_laws.specs.Fitting.{FittingLaw};
 ghost use Rattle.match_laws.specs.MatchedFits.{MatchedFits};
 ghost use Rattle.match_laws.specs.ArgumentFits.{ArgumentFits};
+ghost use Rattle.match_laws.specs.RenamedMatch.{MatchIsRenamed};
+ghost use Rattle.match_laws.specs.WholeIsWindow.{WholeIsWindow};
 ghost use Rattle.match_laws.specs.Widths.{WidthLaw};
 ghost use Rattle.match_laws.specs.Widths.{TooWideLaw};
 
@@ -78,4 +80,14 @@ pub fn blocks_that_agree_run_alike()
 /// The argument of a buffer parameter is one that a fitting list of positions gives.
 pub fn buffer_arguments_fit()
     ensures { ArgumentFits }
+{}
+
+/// The match with a callee that has other ids is the match with the callee.
+pub fn matches_keep_under_other_ids()
+    ensures { MatchIsRenamed }
+{}
+
+/// A window with the coordinates of a whole name is that name.
+pub fn whole_windows_are_names()
+    ensures { WholeIsWindow }
 {}

@@ -6,7 +6,7 @@ use Rattle.exo_tree.specs.Tree.{Binder, Cell, Kind, Index, Argument, Statement, 
 use Rattle.exo_meaning.specs.Value.{Value, Undefined}
 use Rattle.exo_meaning.specs.Scene.{Shape, Seen, then_do, where_true, numbers, holds, window, index_of, extents, strides_seen}
 use Rattle.exo_meaning.specs.State.{State, Cells, Place, place, is_there, value, same_index, on_scene, with_control, with_field, with_view, with_contents, with_buffer}
-use Rattle.exo_meaning.specs.Calls.{Callee, Given, GivenNumber, GivenView, all_given, suits, all_positive, held_at, contents, bind_numbers, bind_buffer, bind_buffers, bare, entered, value_or, copy_back, copied_back, returned, all_hold, run_asserted}
+use Rattle.exo_meaning.specs.Calls.{keeps_apart, copied_call, Callee, Given, GivenNumber, GivenView, all_given, suits, all_positive, held_at, contents, bind_numbers, bind_buffer, bind_buffers, bare, entered, value_or, copy_back, copied_back, returned, all_hold, run_asserted}
 use Rattle.exo_meaning.specs.Run.{World, run, step, call_to, turn, turns, turns_of, choose, argument_number, tensor}
 use Rattle.exo_meaning.specs.Inputs.{IsAdmissible, IsArgument, AreArguments, is_buffer_of}
 use Rattle.exo_meaning.specs.Footprint.{Entry, Reads, Writes, Reduces, Made, further, chosen, turns_touch, step_footprint, reads, Change, under, stores_one, stores, overwrites_one, overwrites, IsTidy, IsSum, ChangesBy}
@@ -369,7 +369,8 @@ module _ (kinds : ℕ → Kind) where
     module _ (sound : IsSound s) (memories : ℕ) (world : World) (same : world.kinds ≡ kinds) where
       call_changes : (c : Callee) (modes : Modes) → IsGood kinds fields memories c → ChangesWell c modes → WritesAre c modes → (root : ℕ → ℕ) (args : List Argument) → is_call fields scope root (Some c) args ≡ true → IfSome (call_to (Some c) args s) (λ t. IsTidy t → ChangesBy (entries_to (Some c) modes args s) s t)
       call_changes c modes good ch wr root args ok =
-          at_givens (all_given s.scene args) (all_match fields kinds scope s sorted c.procedure.params args (and_parts (are_for fields scope c.procedure.params args) _ ok).0) (all_there s args sound)
+          if_where (λ t. IsTidy t → ChangesBy (entries_to (Some c) modes args s) s t) (keeps_apart c s.scene args) (copied_call c args s)
+          (at_givens (all_given s.scene args) (all_match fields kinds scope s sorted c.procedure.params args (and_parts (are_for fields scope c.procedure.params args) _ ok).0) (all_there s args sound))
         where
           df : Differ c.procedure.params
           df = params_differ fields memories c.procedure.params [] good.0

@@ -6,7 +6,7 @@ use Rattle.exo_tree.specs.Tree.{Binder, Cell, Kind, Index, Argument, Statement, 
 use Rattle.exo_meaning.specs.Value.{Value, Undefined}
 use Rattle.exo_meaning.specs.Scene.{Side, Point, Range, Seen, Scene, then_do, where_true, numbers, holds, window, updated, cell_at, index_of, extents, strides_seen, is_below}
 use Rattle.exo_meaning.specs.State.{State, Cells, Place, left, same_index, on_scene, with_control, with_contents, with_buffer}
-use Rattle.exo_meaning.specs.Calls.{Callee, Given, GivenNumber, GivenView, all_given, all_positive, held_at, contents, copy_in, bind_numbers, bind_buffer, bind_buffers, bare, entered, value_or, copy_back, copied_back, returned, all_hold, run_asserted}
+use Rattle.exo_meaning.specs.Calls.{keeps_apart, copied_call, Callee, Given, GivenNumber, GivenView, all_given, all_positive, held_at, contents, copy_in, bind_numbers, bind_buffer, bind_buffers, bare, entered, value_or, copy_back, copied_back, returned, all_hold, run_asserted}
 use Rattle.exo_meaning.specs.Run.{World, run, step, call_to, turn, turns, turns_of, choose, argument_number, tensor, range, count}
 use Rattle.exo_meaning.specs.Inputs.{IsAdmissible, IsArgument, AreArguments, is_buffer_of}
 use Rattle.exo_meaning.specs.Footprint.{Entry, Reads, Writes, Reduces, Made, further, chosen, turns_touch, step_footprint, Change, under, changed_by, Passes, LeavesOthers, Exchanges, added}
@@ -393,7 +393,7 @@ module _ (kinds : ℕ → Kind) where
     module _ (sound : IsSound s) (memories : ℕ) (world : World) (same : world.kinds ≡ kinds) (d : Change) where
       call_exchanges : (c : Callee) (modes : Modes) → IsGood kinds fields memories c → ExchangesWell c modes → (root : ℕ → ℕ) (args : List Argument) → is_call fields scope root (Some c) args ≡ true → Each (Passes d) (entries_to (Some c) modes args s) → Exchanges d (call_to (Some c) args) s
       call_exchanges c modes good ex root args ok h =
-          at_givens (all_given s.scene args) h (all_match fields kinds scope s sorted c.procedure.params args (and_parts (are_for fields scope c.procedure.params args) _ ok).0) (all_there s args sound)
+          exchange_where d (keeps_apart c s.scene args) _ (copied_call c args s) (at_givens (all_given s.scene args) h (all_match fields kinds scope s sorted c.procedure.params args (and_parts (are_for fields scope c.procedure.params args) _ ok).0) (all_there s args sound))
         where
           df : Differ c.procedure.params
           df = params_differ fields memories c.procedure.params [] good.0

@@ -18,7 +18,8 @@ use Rattle.meaning_laws.proofs.Parts.{none_some}
 use Rattle.meaning_laws.proofs.Names.{if_gives, step_names}
 use Rattle.meaning_laws.proofs.Substitute.{and_parts}
 use Rattle.meaning_laws.proofs.Sound.{step_sound, turn_sound}
-use Rattle.meaning_laws.proofs.FirstState.{same_cell_is, new_is_none}
+use Rattle.exo_tree.specs.Cells.{same_cell_is}
+use Rattle.meaning_laws.proofs.FirstState.{new_is_none}
 use Rattle.meaning_laws.proofs.Sorted.{is_other, Next, IsGood, step_next, run_ends, inside, turn_next}
 
 pub each_join : {T : Type 0} (P : T → Type 0) (xs ys : List T) → Each P xs → Each P ys → Each P (xs ++ ys)

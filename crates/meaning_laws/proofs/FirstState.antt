@@ -5,7 +5,8 @@ use Rattle.std.specs.List.{list_any}
 use Rattle.std.specs.Int.{int_div_euclid, int_rem_euclid}
 use Rattle.std.specs.Cmp.Rules.{signed_items}
 use Rattle.std.proofs.lemmas.Int.{ints}
-use Rattle.exo_tree.specs.Tree.{Binder, Cell, I8, I32, Kind, Size, Index, Truth, Stride, Control, Lit, Var, Field, StrideOf, Neg, Add, Sub, Mul, Div, Mod, Coord, Argument, ControlArg, ConditionArg, Whole, Window, Param, ParamKind, ControlParam, TensorParam, WindowParam, Procedure}
+use Rattle.exo_tree.specs.Cells.{same_cell_is}
+use Rattle.exo_tree.specs.Tree.{Binder, Cell, Kind, Size, Index, Truth, Stride, Control, Lit, Var, Field, StrideOf, Neg, Add, Sub, Mul, Div, Mod, Coord, Argument, ControlArg, ConditionArg, Whole, Window, Param, ParamKind, ControlParam, TensorParam, WindowParam, Procedure}
 use Rattle.exo_meaning.specs.Value.{Value, Undefined}
 use Rattle.exo_meaning.specs.Scene.{Shape, Side, Point, Range, Seen, Scene, where_true, number, numbers, holds, window, narrowed, whole, extents, strides_of, strides_seen, updated, cell_at}
 use Rattle.exo_meaning.specs.State.{State, same_index, with_buffer, with_contents, on_scene}
@@ -27,12 +28,6 @@ use Rattle.meaning_laws.proofs.Substitute.{and_parts}
 pub not_true : (a : Bool) → not a ≡ true → a ≡ false
 not_true true h = absurd (true≢false (sym h))
 not_true false h = refl
-
-pub same_cell_is : (a b : Cell) → same_cell a b ≡ true → a ≡ b
-same_cell_is I8 I8 h = refl
-same_cell_is I8 I32 h = absurd (true≢false (sym h))
-same_cell_is I32 I8 h = absurd (true≢false (sym h))
-same_cell_is I32 I32 h = refl
 
 -- what is new is not in scope
 pub new_is_none : (scope : Scope) (x : Binder) → is_new scope x ≡ true → sort_in scope x.id ≡ None

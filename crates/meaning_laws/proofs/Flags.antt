@@ -3,7 +3,7 @@ use Rattle.std.proofs.Common.{◌≡◌, ℕ, ℤ, ◌==◌, Bool, true, false, 
 use Rattle.exo_tree.specs.Tree.{Binder, Condition, True, False, Flag, FieldFlag, Lt, Le, Gt, Ge, Eq, And, Or, Argument, ControlArg, ConditionArg, Whole, Window, Statement, Assign, Reduce, Config, Pass, If, For, Alloc, View, Call, Block, end, next}
 use Rattle.exo_meaning.specs.Scene.{Scene, then_do, where_true, is_set, holds}
 use Rattle.exo_meaning.specs.State.{State, left, on_scene, with_control, with_field}
-use Rattle.exo_meaning.specs.Calls.{Callee, GivenNumber, given, all_given, truth, suits, entered, returned, run_asserted}
+use Rattle.exo_meaning.specs.Calls.{given_all_apart, Callee, GivenNumber, given, all_given, truth, suits, entered, returned, run_asserted}
 use Rattle.exo_meaning.specs.Run.{World, run, step, call_to, turn, turns, turns_of, choose, argument_number}
 use Rattle.exo_meaning.proofs.Frame.{or_parts, updated_other}
 use Rattle.meaning_laws.specs.Sound.{IsSameName, binds}
@@ -77,7 +77,7 @@ module _ (world : World) (x : ℕ) (c : Condition) (plain : is_plain_condition c
 
   call_same : (o : Option Callee) (args : List Argument) (s : State) → Stands s.scene → call_to o args s ≡ call_to o (in_arguments x c args) s
   call_same None args s h = refl
-  call_same (Some callee) args s h = ap (λ o. then_do o (λ gs. then_do (entered callee.procedure.params gs s) (λ inner. option_map (returned callee gs s) (run_asserted callee inner)))) (all_given_same s.scene h args)
+  call_same (Some callee) args s h = ap (λ o. where_true (given_all_apart callee.writes callee.procedure.params o) (then_do o (λ gs. then_do (entered callee.procedure.params gs s) (λ inner. option_map (returned callee gs s) (run_asserted callee inner))))) (all_given_same s.scene h args)
 
   choose_same : (t : Bool) (f g f' g' : State → Option State) (s : State) → f s ≡ f' s → g s ≡ g' s → choose t f g s ≡ choose t f' g' s
   choose_same true f g f' g' s h k = h

@@ -4,7 +4,7 @@ use Rattle.exo_tree.specs.Tree.{Argument, Statement, Assign, Reduce, Config, Pas
 use Rattle.exo_meaning.specs.Value.{Value, Undefined, on_two}
 use Rattle.exo_meaning.specs.Scene.{then_do, numbers, holds, window, whole}
 use Rattle.exo_meaning.specs.State.{State, Place, place, put, value, left, scoped, on_scene, with_control, with_field, with_contents, with_buffer}
-use Rattle.exo_meaning.specs.Calls.{Callee, all_given, entered, returned, run_asserted, suits, all_positive}
+use Rattle.exo_meaning.specs.Calls.{keeps_apart, copied_call, Callee, all_given, entered, returned, run_asserted, suits, all_positive}
 use Rattle.exo_meaning.specs.Run.{World, run, step, call_to, turn, turns, turns_of, choose, argument_number, tensor}
 use Rattle.exo_meaning.proofs.Frame.{if_then, if_map, if_where, any, if_weaken, updated_other, or_parts}
 use Rattle.exo_tree.specs.Context.{Context, Here, After, InLoop, InThen, InElse, fill}
@@ -44,7 +44,7 @@ turns_names i body (n ∷ ns) s = if_then (λ t. (x : ℕ) → IsSameName x s t)
 
 call_names : (o : Option Callee) (args : List Argument) (s : State) → IfSome (call_to o args s) (Others None_bound s)
 call_names None args s = tt
-call_names (Some c) args s = if_then (λ gs. Unit {0}) (Others None_bound s) (all_given s.scene args) _ (any (all_given s.scene args)) (λ gs u. if_then (λ t. Unit {0}) (Others None_bound s) (entered c.procedure.params gs s) _ (any (entered c.procedure.params gs s)) (λ t v. if_map (λ w. Unit {0}) (Others None_bound s) (run_asserted c t) (returned c gs s) (any (run_asserted c t)) (λ w z x e. record { control = refl; buffers = refl; views = refl })))
+call_names (Some c) args s = if_where (Others None_bound s) (keeps_apart c s.scene args) (copied_call c args s) (if_then (λ gs. Unit {0}) (Others None_bound s) (all_given s.scene args) _ (any (all_given s.scene args)) (λ gs u. if_then (λ t. Unit {0}) (Others None_bound s) (entered c.procedure.params gs s) _ (any (entered c.procedure.params gs s)) (λ t v. if_map (λ w. Unit {0}) (Others None_bound s) (run_asserted c t) (returned c gs s) (any (run_asserted c t)) (λ w z x e. record { control = refl; buffers = refl; views = refl }))))
 
 pub step_names : (world : World) (a : Statement) (s : State) → IfSome (step world a s) (Others (binds a) s)
 step_names world (Assign x is e) s = store_names s (place s.scene x is) (value s e) (λ v old. v)
@@ -99,7 +99,7 @@ store_control s o r f = if_then (λ p. Unit {0}) (SameControl s) o _ (any o) (λ
 
 call_control : (o : Option Callee) (args : List Argument) (s : State) → IfSome (call_to o args s) (SameControl s)
 call_control None args s = tt
-call_control (Some c) args s = if_then (λ gs. Unit {0}) (SameControl s) (all_given s.scene args) _ (any (all_given s.scene args)) (λ gs u. if_then (λ t. Unit {0}) (SameControl s) (entered c.procedure.params gs s) _ (any (entered c.procedure.params gs s)) (λ t v. if_map (λ w. Unit {0}) (SameControl s) (run_asserted c t) (returned c gs s) (any (run_asserted c t)) (λ w z x. refl)))
+call_control (Some c) args s = if_where (SameControl s) (keeps_apart c s.scene args) (copied_call c args s) (if_then (λ gs. Unit {0}) (SameControl s) (all_given s.scene args) _ (any (all_given s.scene args)) (λ gs u. if_then (λ t. Unit {0}) (SameControl s) (entered c.procedure.params gs s) _ (any (entered c.procedure.params gs s)) (λ t v. if_map (λ w. Unit {0}) (SameControl s) (run_asserted c t) (returned c gs s) (any (run_asserted c t)) (λ w z x. refl))))
 
 pub step_control : (world : World) (a : Statement) (s : State) → IfSome (step world a s) (SameControl s)
 step_control world (Assign x is e) s = store_control s (place s.scene x is) (value s e) (λ v old. v)

@@ -1,14 +1,13 @@
 -- In a well-formed unit runs keep what cells, fields and names hold.
 use Rattle.std.proofs.Common.{◌≡◌, ℕ, zero, suc, ℤ, ◌+ℤ◌, ◌==◌, Bool, true, false, true≢false, cond, not, ◌&&◌, ◌||◌, List, [], ◌∷◌, ◌++◌, length, Option, Some, None, IfSome, option_map, refl, sym, ap, ◌∙◌, subst, eqb-true, eq-eqb}
 use Rattle.std.specs.Prelude.{IsSome, slice_get}
-use Rattle.std.specs.Int.{int_wrap}
-use Rattle.std.proofs.lemmas.Int.{int_wrap_fits, SFits-int_wrap}
 use Rattle.exo_tree.specs.Tree.{Binder, Cell, Kind, Index, Coord, Argument, Statement, Assign, Reduce, Config, Pass, If, For, Alloc, View, Call, Block, end, next, Param, ParamKind, ControlParam, TensorParam, WindowParam, Procedure, ConfigField}
 use Rattle.exo_tree.specs.Context.{Context, Here, After, InLoop, InThen, InElse, fill}
-use Rattle.exo_meaning.specs.Value.{Value, Undefined, Number, width, on_two, stored_as}
+use Rattle.exo_meaning.specs.Value.{Value, Undefined, Number, on_two, stored_as}
+use Rattle.exo_meaning.proofs.Wrap.{wrap_laws}
 use Rattle.exo_meaning.specs.Scene.{Shape, Seen, Scene, where_true, then_do, numbers, holds, window, narrowed, whole, index_of}
 use Rattle.exo_meaning.specs.State.{State, Cells, Place, place, is_there, put, value, kept, left, on_scene, with_control, with_field, with_view, with_contents, with_buffer}
-use Rattle.exo_meaning.specs.Calls.{Callee, Given, GivenNumber, GivenView, all_given, entered, returned, run_asserted, all_hold, suits, all_positive, copy_back, copied_back, value_or}
+use Rattle.exo_meaning.specs.Calls.{keeps_apart, copied_call, Callee, Given, GivenNumber, GivenView, all_given, entered, returned, run_asserted, all_hold, suits, all_positive, copy_back, copied_back, value_or}
 use Rattle.exo_meaning.specs.Run.{World, run, step, call_to, turn, turns, turns_of, choose, argument_number, tensor, row_major, roots_after, world_of, callees, callee_in, kinds_of, unit_world}
 use Rattle.exo_meaning.specs.Inputs.{IsAdmissible, IsOfKind, FitsCell, IsBuffer, IsArgument, AreArguments, is_buffer_of}
 use Rattle.exo_meaning.specs.Units.{Sort, ControlName, BufferName, Scope, sort_in, is_new, with_name, has_rank, with_strides, with_fields, plainly, is_control, is_condition, is_window, are_for, is_call, is_write, view_sort, scope_after, is_empty, is_short, is_block, is_statement, spans, param_sort, are_params, scope_of, field_kind, IsProcedure, AreProcedures}
@@ -26,7 +25,7 @@ use Rattle.meaning_laws.proofs.FirstState.{new_is_none, Differ, params_differ, n
 
 stored_fits : (cell : Cell) (v : Value) → FitsCell cell (stored_as cell v)
 stored_fits cell Undefined = tt
-stored_fits cell (Number n) = int_wrap_fits (width cell) (int_wrap (width cell) n) (SFits-int_wrap (width cell) n)
+stored_fits cell (Number n) = wrap_laws.twice cell n
 
 -- a new name is none that is in scope
 pub is_other : (scope : Scope) (x : Binder) → is_new scope x ≡ true → (y : ℕ) (sort : Sort) → sort_in scope y ≡ Some sort → (y == x.id) ≡ false
@@ -221,7 +220,7 @@ module _ (kinds : ℕ → Kind) where
           let g = good c refl in
           let q = and_parts (are_for fields scope c.procedure.params args) _ ok in
           let Fine = λ (gs : List Given). AllMatch fields kinds scope s h c.procedure.params gs × AreThere s gs in
-          if_then Fine (Next scope s) (all_given s.scene args) _ (if_both (AllMatch fields kinds scope s h c.procedure.params) (AreThere s) Fine (all_given s.scene args) (all_match fields kinds scope s h c.procedure.params args q.0) (all_there s args sound) (λ gs m i. (m, i))) (λ gs fine.
+          if_where (Next scope s) (keeps_apart c s.scene args) (copied_call c args s) (if_then Fine (Next scope s) (all_given s.scene args) _ (if_both (AllMatch fields kinds scope s h c.procedure.params) (AreThere s) Fine (all_given s.scene args) (all_match fields kinds scope s h c.procedure.params args q.0) (all_there s args sound) (λ gs m i. (m, i))) (λ gs fine.
           let Begins = λ (inner : State). all_hold inner.scene c.procedure.asserts ≡ true → IsAdmissible world c.procedure inner in
           if_then Begins (Next scope s) (entered c.procedure.params gs s) _ (enters fields kinds scope s h sound memories world same c.procedure g.0 gs fine.0 fine.1) (λ inner begins.
           if_map (λ w. (AreArguments inner.scene c.procedure.params) × Ends kinds inner w) (Next scope s) (run_asserted c inner) (returned c gs s) (asserted c inner (λ hold. begins hold) (g.1 world)) (λ w z. record {
@@ -232,7 +231,7 @@ module _ (kinds : ℕ → Kind) where
               fields = z.1.fields;
             };
             kept_buffers = λ b shape e. e;
-          })))
+          }))))
         where
           asserted : (c : Callee) (inner : State) → (all_hold inner.scene c.procedure.asserts ≡ true → IsAdmissible world c.procedure inner) → ((s : State) → world.kinds ≡ kinds → IsAdmissible world c.procedure s → IfSome (c.run s) (Ends kinds s)) → IfSome (run_asserted c inner) (λ w. (AreArguments inner.scene c.procedure.params) × Ends kinds inner w)
           asserted c inner begins runs = go (all_hold inner.scene c.procedure.asserts) refl

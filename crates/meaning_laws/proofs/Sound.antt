@@ -5,7 +5,7 @@ use Rattle.exo_tree.specs.Tree.{Coord, Argument, ControlArg, ConditionArg, Whole
 use Rattle.exo_meaning.specs.Value.{Value, Undefined, on_two, stored_as}
 use Rattle.exo_meaning.specs.Scene.{Shape, Seen, then_do, numbers, holds, window, narrowed, whole, index_of}
 use Rattle.exo_meaning.specs.State.{State, Cells, Place, place, put, value, left, scoped, on_scene, with_control, with_field, with_contents, with_buffer}
-use Rattle.exo_meaning.specs.Calls.{Callee, Given, GivenNumber, GivenView, given, all_given, entered, returned, run_asserted, suits, all_positive, copy_back, copied_back, value_or}
+use Rattle.exo_meaning.specs.Calls.{keeps_apart, copied_call, Callee, Given, GivenNumber, GivenView, given, all_given, entered, returned, run_asserted, suits, all_positive, copy_back, copied_back, value_or}
 use Rattle.exo_meaning.specs.Run.{World, run, step, call_to, turn, turns, turns_of, choose, argument_number, tensor}
 use Rattle.exo_meaning.proofs.Frame.{if_then, if_map, if_where, any, if_weaken, here}
 use Rattle.exo_meaning.proofs.Changes.{changed_tidy}
@@ -98,10 +98,10 @@ all_back_same s w (p ∷ ps) (g ∷ gs) copies c k y d at = all_back_same s w ps
 
 call_sound : (o : Option Callee) (args : List Argument) (s : State) → IsSound s → IfSome (call_to o args s) IsSound
 call_sound None args s h = tt
-call_sound (Some c) args s h = if_then (AreThere s) IsSound (all_given s.scene args) _ (all_there s args h) (λ gs u. if_then (λ t. Unit {0}) IsSound (entered c.procedure.params gs s) _ (any (entered c.procedure.params gs s)) (λ t v. if_map (λ w. Unit {0}) IsSound (run_asserted c t) (returned c gs s) (any (run_asserted c t)) (λ w z. record {
+call_sound (Some c) args s h = if_where IsSound (keeps_apart c s.scene args) (copied_call c args s) (if_then (AreThere s) IsSound (all_given s.scene args) _ (all_there s args h) (λ gs u. if_then (λ t. Unit {0}) IsSound (entered c.procedure.params gs s) _ (any (entered c.procedure.params gs s)) (λ t v. if_map (λ w. Unit {0}) IsSound (run_asserted c t) (returned c gs s) (any (run_asserted c t)) (λ w z. record {
   tidy = λ y d at. all_back_same s c.writes c.procedure.params gs w.cells s.cells u y d at ∙ h.tidy y d at;
   seen = h.seen;
-})))
+}))))
 
 -- ---- statements
 

@@ -8,7 +8,7 @@ use Rattle.exo_meaning.specs.Value.{Value, Undefined, stored_as, on_one, on_two,
 use Rattle.exo_meaning.specs.Scene.{is_set, Shape, Seen, Side, Point, Range, Scene, then_do, number, numbers, holds, stride_at, where_true, window, narrowed, cell_at, updated, is_below}
 use Rattle.exo_meaning.specs.State.{State, Place, place, held, changed, put, value, left, scoped, on_scene, with_control, with_field, with_view, with_contents, with_buffer}
 use Rattle.exo_meaning.specs.Run.{World, run, step, argument_number, turn, turns, turns_of, range, count, choose, call_to, tensor, allocate}
-use Rattle.exo_meaning.specs.Calls.{Callee, Given, GivenNumber, GivenView, given, all_given, suits, all_positive, truth, entered, returned, run_asserted, copy_in}
+use Rattle.exo_meaning.specs.Calls.{keeps_apart, copied_call, given_all_apart, Callee, Given, GivenNumber, GivenView, given, all_given, suits, all_positive, truth, entered, returned, run_asserted, copy_in}
 use Rattle.exo_meaning.proofs.Frame.{or_parts, updated_other}
 use Rattle.meaning_laws.specs.Substitute.{is_plain, has_variable, in_control, in_controls, in_condition, in_datum, in_coords, in_argument, in_arguments, in_statement, in_block, bound, has_flag, argument_has_flag, arguments_have_flag, step_catches, catches, SubstitutionLaw}
 
@@ -152,8 +152,14 @@ module _ (i : ℕ) (e : Control) (plain : is_plain e ≡ true) where
 
   call_in : (o : Option Callee) (args : List Argument) (s : State) → arguments_have_flag i args ≡ false → call_to o args (bound i e s) ≡ option_map (bound i e) (call_to o (in_arguments i e args) s)
   call_in None args s k = refl
-  call_in (Some callee) args s k = ap (λ o. then_do o (λ gs. then_do (entered callee.procedure.params gs (bound i e s)) (λ inner. option_map (returned callee gs (bound i e s)) (run_asserted callee inner)))) (all_given_in s.scene args k) ∙ by_given (all_given s.scene (in_arguments i e args))
+  call_in (Some callee) args s k =
+      ap (λ o. where_true (given_all_apart callee.writes callee.procedure.params o) (then_do o (λ gs. then_do (entered callee.procedure.params gs (bound i e s)) (λ inner. option_map (returned callee gs (bound i e s)) (run_asserted callee inner))))) (all_given_in s.scene args k)
+      ∙ where_map (keeps_apart callee s.scene (in_arguments i e args)) _ (copied_call callee (in_arguments i e args) s) (by_given (all_given s.scene (in_arguments i e args)))
     where
+      where_map : (t : Bool) (o r : Option State) → o ≡ option_map (bound i e) r → where_true t o ≡ option_map (bound i e) (where_true t r)
+      where_map true o r h = h
+      where_map false o r h = refl
+
       by_run : (gs : List Given) (o : Option State) → option_map (returned callee gs (bound i e s)) o ≡ option_map (bound i e) (option_map (returned callee gs s) o)
       by_run gs None = refl
       by_run gs (Some done) = ap Some (again s (returned callee gs s done) refl)

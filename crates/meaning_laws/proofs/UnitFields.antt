@@ -4,9 +4,10 @@ use Rattle.std.specs.Prelude.{slice_get}
 use Rattle.exo_tree.specs.Tree.{Cell, Kind, Condition, Argument, ControlArg, ConditionArg, Whole, Window, Param, ParamKind, ControlParam, TensorParam, WindowParam, Procedure}
 use Rattle.exo_meaning.specs.Scene.{Scene, then_do, where_true, numbers, extents, strides_seen}
 use Rattle.exo_meaning.specs.State.{State, same_index, with_buffer, with_contents, on_scene}
-use Rattle.exo_meaning.specs.Calls.{Callee, Given, GivenNumber, GivenView, given, all_given, truth, all_positive, bind_numbers, bind_buffer, bind_buffers, copy_in, contents, bare, entered, returned, all_hold, run_asserted}
+use Rattle.exo_meaning.specs.Calls.{keeps_apart, copied_call, given_all_apart, Callee, Given, GivenNumber, GivenView, given, all_given, truth, all_positive, bind_numbers, bind_buffer, bind_buffers, copy_in, contents, bare, entered, returned, all_hold, run_asserted}
 use Rattle.exo_meaning.specs.Run.{call_to, world_of, callee_in, callees}
 use Rattle.exo_meaning.specs.Refines.{Both}
+use Rattle.exo_meaning.proofs.Both.{both_where}
 use Rattle.exo_meaning.proofs.Frame.{if_then, if_map, if_where, any, if_weaken}
 use Rattle.meaning_laws.specs.Fields.{HasField, CallsLeave}
 use Rattle.meaning_laws.specs.Live.{read_by_condition, read_by_argument, read_by_arguments, live, refield, Agree, SameLive, CallsForget}
@@ -66,9 +67,9 @@ abbrev LeavesWell : Callee → (ℕ → Bool) → Type 0
 LeavesWell c w = (f : ℕ) → w f ≡ false → (s : State) → IfSome (c.run s) (HasField f s)
 
 call_leaves : (c : Callee) (w : ℕ → Bool) → LeavesWell c w → (f : ℕ) → w f ≡ false → (args : List Argument) (s : State) → IfSome (call_to (Some c) args s) (HasField f s)
-call_leaves c w h f k args s = if_then (λ gs. Unit {0}) (HasField f s) (all_given s.scene args) _ (any (all_given s.scene args)) (λ gs u.
+call_leaves c w h f k args s = if_where (HasField f s) (keeps_apart c s.scene args) (copied_call c args s) (if_then (λ gs. Unit {0}) (HasField f s) (all_given s.scene args) _ (any (all_given s.scene args)) (λ gs u.
     if_then (SameFields s) (HasField f s) (entered c.procedure.params gs s) _ (entered_fields s c.procedure.params gs) (λ inner e.
-    if_map (HasField f inner) (HasField f s) (run_asserted c inner) (returned c gs s) (if_where (HasField f inner) (all_hold inner.scene c.procedure.asserts) (c.run inner) (h f k inner)) (λ t d. d ∙ ap (λ g. g f) e)))
+    if_map (HasField f inner) (HasField f s) (run_asserted c inner) (returned c gs s) (if_where (HasField f inner) (all_hold inner.scene c.procedure.asserts) (c.run inner) (h f k inner)) (λ t d. d ∙ ap (λ g. g f) e))))
 
 table_leaves : (kinds : ℕ → Kind) (cs : List Callee) (ws : List (ℕ → Bool)) → Zip LeavesWell cs ws → CallsLeave (world_of kinds cs) (written_at ws)
 table_leaves kinds cs ws z k f h args s = go (slice_get cs k) refl
@@ -141,8 +142,8 @@ ForgetsWell c l = (out : ℕ → Bool) (g : ℕ → ℤ) (fields : ℕ → ℤ) 
 
 call_forgets : (c : Callee) (l : ℕ → Bool → Bool) → ForgetsWell c l → (args : List Argument) (out : ℕ → Bool) (s : State) (g : ℕ → ℤ) → Agree (λ f. read_by_arguments f args || l f (out f)) s.scene.fields g → Both (SameLive out) (call_to (Some c) args s) (call_to (Some c) args (refield g s))
 call_forgets c l w args out s g h =
-    subst (λ o. Both (SameLive out) (call_to (Some c) args s) (then_do o (λ gs. then_do (entered c.procedure.params gs (refield g s)) (λ inner. option_map (returned c gs (refield g s)) (run_asserted c inner))))) (sym (all_given_live g s args (left_of g s.scene (λ f. read_by_arguments f args) (λ f. l f (out f)) h)))
-    (at_givens (all_given s.scene args))
+    subst (λ o. Both (SameLive out) (call_to (Some c) args s) (where_true (given_all_apart c.writes c.procedure.params o) (then_do o (λ gs. then_do (entered c.procedure.params gs (refield g s)) (λ inner. option_map (returned c gs (refield g s)) (run_asserted c inner)))))) (sym (all_given_live g s args (left_of g s.scene (λ f. read_by_arguments f args) (λ f. l f (out f)) h)))
+    (both_where (SameLive out) (keeps_apart c s.scene args) (copied_call c args s) _ (at_givens (all_given s.scene args)))
   where
     k : Agree (λ f. read_by_params f c.procedure.params) s.scene.fields g × (Agree (λ f. read_by_conditions f c.procedure.asserts) s.scene.fields g × ((inner : State) → inner.scene.fields ≡ s.scene.fields → Both (SameLive out) (c.run inner) (c.run (refield g inner))))
     k = w out g s.scene.fields (right_of g s.scene (λ f. read_by_arguments f args) (λ f. l f (out f)) h)

@@ -71,8 +71,7 @@ fn takes(m: &MemoryClass, cell: Cell) -> bool
 {
     match m.cell {
         None => true,
-        Some(Cell::I8) => cell == Cell::I8,
-        Some(Cell::I32) => cell == Cell::I32,
+        Some(c) => c == cell,
     }
 }
 

@@ -16,6 +16,7 @@ use Rattle.exo_meaning.specs.Scene.{holds, window, whole, cell_at, index_of, ext
 use Rattle.exo_meaning.specs.State.{State, Cells, Place, place, is_there, held, changed, put, value}
 use Rattle.exo_meaning.specs.State.{kept, left, scoped, same_index, on_scene, with_control}
 use Rattle.exo_meaning.specs.State.{with_field, with_view, with_contents, with_buffer}
+use Rattle.exo_meaning.specs.Calls.{given_all_apart, keeps_apart, copied_call}
 use Rattle.exo_meaning.specs.Calls.{Callee, Given, GivenNumber, GivenView, given, all_given, truth}
 use Rattle.exo_meaning.specs.Calls.{suits, all_positive, held_at, contents, bind_number}
 use Rattle.exo_meaning.specs.Calls.{bind_numbers, copy_in, bind_buffer, bind_buffers, bare, entered}
@@ -28,7 +29,7 @@ use Rattle.exo_meaning.specs.Inputs.{is_buffer_of}
 use Rattle.exo_meaning.specs.Laws.{HasRoots}
 use Rattle.exo_meaning.specs.Refines.{Both}
 use Rattle.exo_meaning.specs.Units.{field_kind, AreProcedures}
-use Rattle.exo_meaning.proofs.Both.{both_then, both_map}
+use Rattle.exo_meaning.proofs.Both.{both_then, both_map, both_where}
 use Rattle.exo_meaning.proofs.Cells.{there_is}
 use Rattle.exo_meaning.proofs.Frame.{if_then, if_map, if_where, any, if_weaken, or_parts}
 use Rattle.exo_meaning.proofs.Frame.{updated_other, root_of, place_root, window_root}
@@ -877,15 +878,18 @@ call_done hidden None modes before well root args reads reduces out s g d roots 
 call_done hidden (Some c) modes before well root args reads reduces out s g d roots alive off =
     let ps = c.procedure.params in
     subst (λ q. Both (Done out s.scene.fields s.cells g d) (call_to (Some c) args s)
+    (where_true (given_all_apart c.writes ps q)
     (then_do q (λ gs. then_do (entered ps gs (redone g d s))
-    (λ inner. option_map (returned c gs (redone g d s)) (run_asserted c inner)))))
+    (λ inner. option_map (returned c gs (redone g d s)) (run_asserted c inner))))))
     (sym (all_given_done g d s args (left_of g s.scene (λ f. read_by_arguments f args)
     (λ f. before f (out f)) alive)))
+    (both_where (Done out s.scene.fields s.cells g d) (keeps_apart c s.scene args)
+    (copied_call c args s) _
     (with_givens hidden c modes before (well c refl) out s g d off
     (right_of g s.scene (λ f. read_by_arguments f args) (λ f. before f (out f)) alive)
     (all_given s.scene args)
     (all_free hidden root s.scene roots (modes Reading) ps args reads)
-    (all_free hidden root s.scene roots (modes Reducing) ps args reduces))
+    (all_free hidden root s.scene roots (modes Reducing) ps args reduces)))
 
 -- ---- trees
 

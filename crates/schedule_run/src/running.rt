@@ -24,7 +24,7 @@ use crate::session::{Held, Origin, Session, number_of};
 use crate::why::Why;
 use crate::writes::{add_writes, writes_of};
 use affine_systems::Obligation;
-use bounds_check::obligations_with_writes;
+use bounds_check::obligations_with_tables;
 use config_state::FieldTable;
 use cursor_forward::Proposal;
 use exo_modes::ModeTable;
@@ -129,7 +129,13 @@ impl Running {
         requires { IsRunning self.now }
         ensures { (q : Procedure) → slice_get (program self.now.session.unit).procedures p.0 ≡ Some q → Makes (λ n. n) (owed_with (program self.now.session.unit) (map plain_obligation must.now) q) result }
     {
-        let owed = obligations_with_writes(alloc, &self.session.unit, &self.writes, p)?;
+        let owed = obligations_with_tables(
+            alloc,
+            &self.session.unit,
+            &self.writes,
+            &self.modes,
+            p,
+        )?;
         show(rt, alloc, must, cache, gate)?;
         show(rt, alloc, &owed, cache, gate)?;
         total(must.len(), owed.len())

@@ -35,8 +35,9 @@ use Rattle.schedule_versions.specs.Versions.{with_step}
 use Rattle.schedule_versions.specs.Places.{parent_at, origin_at}
 use Rattle.schedule_versions.specs.Lines.{target, owed_for}
 use Rattle.schedule_versions.specs.Laws.{fields_of_step, NamesFields, IsMade, AreDerived}
-use Rattle.schedule_versions.proofs.Open.{IsMade as IsSystem, none_open_is_closed, first_none}
-use Rattle.schedule_versions.proofs.Open.{second_none, obligations_are_made, needs_are_made, IsClosed}
+use Rattle.unit_check.proofs.Made.{IsMade as IsSystem, IsClosed, none_open_is_closed}
+use Rattle.unit_check.proofs.Made.{obligations_are_made}
+use Rattle.schedule_versions.proofs.Open.{first_none, second_none, needs_are_made}
 use Rattle.schedule_versions.proofs.Quiet.{Laws, Which, old, last, which, get_last, get_old}
 use Rattle.schedule_versions.proofs.Quiet.{one_longer, calls_before, calls_unit, nothing_faults}
 use Rattle.schedule_versions.proofs.Growing.{end_grown, mapped_more, mapped_length}

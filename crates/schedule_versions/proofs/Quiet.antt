@@ -1,69 +1,32 @@
 -- Nothing faults in a unit with a version behind it that shows what it owes.
 use Rattle.std.proofs.Common.{◌≡◌, ℕ, ◌+◌, zero, suc, ◌&&◌, ◌||◌, Bool, true, false, List, [], ◌∷◌, ◌++◌, length}
-use Rattle.std.proofs.Common.{Option, Some, None, refl, sym, ap, ◌∙◌, subst, arith, All}
+use Rattle.std.proofs.Common.{Option, Some, refl, sym, ap, ◌∙◌, subst, arith, All}
 use Rattle.std.proofs.Common.{eqb-true, true≢false}
 use Rattle.std.specs.Prelude.{slice_get, nat_lt, IsSome}
 use Rattle.exo_tree.specs.Tree.{Statement, Assign, Reduce, Config, Pass, If, For, Alloc, View, Call}
 use Rattle.exo_tree.specs.Tree.{Kind, Block, end, next, Procedure, ConfigField, Program}
-use Rattle.exo_tree.specs.Places.{Opened, opened}
-use Rattle.exo_meaning.specs.Scene.{holds, where_true}
+use Rattle.exo_meaning.specs.Scene.{where_true}
 use Rattle.exo_meaning.specs.State.{State}
 use Rattle.exo_meaning.specs.Run.{program_world, kinds_of, callees, callee_in, world_of}
 use Rattle.exo_meaning.specs.Calls.{Callee}
 use Rattle.exo_meaning.specs.Inputs.{IsAdmissible, all_have_extents, run_procedure}
-use Rattle.exo_meaning.specs.Orders.{Each}
 use Rattle.exo_meaning.specs.Units.{IsUnit, IsProcedure, AreProcedures, field_kind}
-use Rattle.meaning_laws.specs.Sorted.{MayRun}
 use Rattle.meaning_laws.specs.Grown.{calls_below, step_calls_below, GrownLaw}
 use Rattle.meaning_laws.specs.WellFormed.{CallsAreBelow}
-use Rattle.affine_systems.specs.Systems.{IsShown as HasNoPoint, systems}
-use Rattle.affine_systems.specs.Outcomes.{owed}
-use Rattle.affine_forms.specs.Affine.{HasNoIntegerPoint}
-use Rattle.check_claims.specs.Claim.{Placed}
 use Rattle.check_claims.specs.Claims.{claims_of}
-use Rattle.check_facts.specs.Contexts.{context_of}
-use Rattle.bounds_check.specs.Obligations.{claim_formula, owed_for, owed_for_all, obligations_of}
-use Rattle.check_claims_laws.specs.Holding.{HoldsAtPlace, ClaimHolds, ClaimIsFormed, calls}
-use Rattle.check_claims_laws.specs.Holding.{step_calls}
+use Rattle.bounds_check.specs.Obligations.{owed_for_all, obligations_of}
+use Rattle.check_claims_laws.specs.Holding.{calls, step_calls}
 use Rattle.check_claims_laws.specs.Laws.{ProceduresMayRun, ClaimsAreFormed, ClaimsSufficeHere}
 use Rattle.check_claims_laws.specs.Laws.{NeverFaults}
 use Rattle.meaning_laws.proofs.Parts.{none_some}
 use Rattle.meaning_laws.proofs.Substitute.{and_parts}
-use Rattle.check_facts_laws.specs.Laws.{ComesToPlace, ShownConditionsHold}
+use Rattle.check_facts_laws.specs.Laws.{ShownConditionsHold}
+use Rattle.effect_laws.specs.Pairs.{PairsAreApart}
 use Rattle.tree_rules_laws.specs.Versions.{with_version}
 use Rattle.unit_check.specs.Faults.{NothingFaults}
-use Rattle.unit_check.proofs.Listed.{each_of_all, each_front, each_back, all_of_images}
-use Rattle.schedule_versions.proofs.Open.{IsClosed}
-
--- ---- the claims of a procedure that is shown hold, as in unit_check/proofs/Shown
-
-holds_at : (u : Program) (p : Procedure) (c : Placed) (o : Option Opened)
-    → ((s t : State) → IsAdmissible (program_world u) p s → ComesToPlace (program_world u) o s t
-    → holds t.scene c.claim.says ≡ true)
-    → HoldsAtPlace (program_world u) p o c.claim.says
-holds_at u p c None h = λ s good. h s s good refl
-holds_at u p c (Some o) h = h
-
-module _ (shown_law : ShownConditionsHold) (u : Program) (p : Procedure)
-    (may_run : MayRun u.fields (length u.memories) u.procedures p) where
-  claim_holds : (c : Placed) → ClaimIsFormed u p c
-      → HasNoPoint (context_of u p c.place) (claim_formula u p c)
-      → ClaimHolds (program_world u) p c
-  claim_holds c formed shown =
-      let place = opened 1 c.place p.body in
-      holds_at u p c place (shown_law u p may_run c.place c.claim.says formed shown)
-
-  claims_hold : (cs : List Placed) → Each (ClaimIsFormed u p) cs
-      → Each IsClosed (owed_for_all u p cs) → Each (ClaimHolds (program_world u) p) cs
-  claims_hold [] formed closed = tt
-  claims_hold (c ∷ cs) formed closed =
-      let first = each_front IsClosed (owed_for u p c) (owed_for_all u p cs) closed in
-      let others = each_back IsClosed (owed_for u p c) (owed_for_all u p cs) closed in (
-        claim_holds c formed.0 (all_of_images IsClosed HasNoIntegerPoint
-            (owed c.claim.text c.place) (λ s h. h)
-            (systems (context_of u p c.place) (claim_formula u p c)) first),
-        claims_hold cs formed.1 others,
-      )
+use Rattle.unit_check.proofs.Listed.{each_of_all}
+use Rattle.unit_check.proofs.Made.{IsClosed}
+use Rattle.unit_check.proofs.Shown.{claims_hold}
 
 -- ---- what is called stands before, as in check_claims_laws/proofs/Standing
 
@@ -156,6 +119,7 @@ pub record Laws : Type 0 where
   pub formed : ClaimsAreFormed
   pub suffice : ClaimsSufficeHere
   pub shown : ShownConditionsHold
+  pub pairs : PairsAreApart
 
 -- a table has an entry for each procedure
 table_length : (kinds : ℕ → Kind) (above : List Callee) (ps : List Procedure)
@@ -249,7 +213,7 @@ module _ (laws : Laws) (u : Program) (q : Procedure) (is : IsUnit u)
       let may = laws.may_run more (length u.procedures) q longer there in
       let below = calls_before laws u q longer in
       laws.suffice more q may
-      (claims_hold laws.shown more q may (claims_of more q) (laws.formed more q may)
+      (claims_hold laws.shown laws.pairs more q may (claims_of more q) (laws.formed more q may)
       (each_of_all IsClosed (owed_for_all more q (claims_of more q)) closed))
       (λ k called. old_never k (called_below (length u.procedures) k q.body called below))
 

@@ -18,6 +18,7 @@ pub fn runs_are_derived()
     check_claims_laws::laws::claims_are_formed();
     check_claims_laws::laws::claims_suffice_here();
     check_facts_laws::laws::shown_conditions_hold();
+    effect_laws::laws::pairs_are_apart();
     step_rules::laws::proposals_are_kept();
     step_rules::laws::lawful_rules_keep_meaning();
 }

@@ -20,7 +20,7 @@ use Rattle.exo_meaning.specs.Units.{has_cell, is_dense, is_truth, is_of_literals
 use Rattle.exo_meaning.specs.Units.{spans, view_sort, scope_after, is_empty, is_short, is_rank, plainly}
 use Rattle.exo_meaning.specs.Units.{with_fields, with_both, with_strides, is_control, are_controls}
 use Rattle.exo_meaning.specs.Units.{is_condition, is_access, is_datum, is_coord, is_window, is_of_kind}
-use Rattle.exo_meaning.specs.Units.{is_for, are_for, root_of, same_root, is_shared}
+use Rattle.exo_meaning.specs.Units.{is_for, are_for, root_of, same_root, is_whole, is_shared}
 use Rattle.exo_meaning.specs.Units.{share_nothing_written, is_call, is_write, is_block, is_statement}
 use Rattle.exo_meaning.specs.Unseen.{in_control, in_controls, in_condition, in_datum, in_coords}
 use Rattle.exo_meaning.specs.Unseen.{in_argument, in_arguments, in_statement, in_block as mentions}
@@ -207,7 +207,8 @@ module _ (fields : ℕ → Option Kind) (hidden : ℕ → Bool) where
     shared_same p o (q ∷ qs) [] h = refl
     shared_same p o (q ∷ qs) (a ∷ args) h =
         let k = or_parts (in_argument hidden a) (in_arguments hidden args) h in
-        ap₂ (λ z t. (same_root fields o z && (writes p.binder.id || writes q.binder.id)) || t)
+        ap₂ (λ z t. (same_root fields o z && ((writes p.binder.id || writes q.binder.id)
+        && (is_whole p.kind || is_whole q.kind))) || t)
         (root_same a k.0) (shared_same p o qs args k.1)
 
     all_shared_same : (ps : List Param) (args : List Argument) → in_arguments hidden args ≡ false

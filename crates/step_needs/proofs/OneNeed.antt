@@ -16,16 +16,13 @@ use Rattle.affine_places.specs.Facts.{FieldFact, fact_of}
 use Rattle.affine_places.specs.Roots.{Roots, roots_of}
 use Rattle.affine_places.specs.Readings.{place_reading, place_flags, field_formula_fits}
 use Rattle.affine_systems.specs.Systems.{Stated, CasesPassed, SizePassed, Listed, systems, stated, is_small, failing_cases}
+use Rattle.affine_systems.specs.Limits.{are_within, Appended}
 use Rattle.affine_systems.specs.Outcomes as stating
 use Rattle.affine_systems.specs.Outcomes.{Owed, owed, plain_obligation, AreOwed}
 use Rattle.affine_systems.specs.declared.obligation.Obligation.{Obligation}
 use Rattle.check_facts.specs.Contexts.{context_of, context_fits, fact_fits, condition_fits, condition_formula}
 use Rattle.check_facts.specs.Contexts.{fact_formula, facts_of, facts_at, formulas, all_fit, known_at_place}
 use Rattle.check_facts.specs.Contexts as contexts
-use Rattle.bounds_check.specs.Limits.{are_within}
-use Rattle.bounds_check.specs.Outcomes.{Appended}
-use Rattle.bounds_check.specs.declared.error.CheckError.{CheckError}
-use Rattle.bounds_check.specs.declared.error.CheckError.TheVariants as check
 use Rattle.cursor_forward.specs.Causes.{Cause, FormFault, WideNumber, TooManyCases, SystemTooLarge, TooManySystems, Form}
 use Rattle.cursor_forward.specs.PlainProposal.{fault_of, cause_of}
 use Rattle.cursor_forward.specs.declared.proposal.StepError.{StepError}
@@ -35,7 +32,7 @@ use Rattle.step_rules.specs.Owing.{condition_of, known_for, fact_text, claim_of,
 use Rattle.step_rules.specs.Owing.{unless_refused, owed_behind}
 use Rattle.step_needs.specs.Outcomes.{IsCause, RefusedBy, Tries}
 use Rattle.text_show.specs.Words.{words_of}
-use Rattle.step_needs.specs.Owing.{check_cause, cause_for, Puts, PutsAll, said, text_by}
+use Rattle.step_needs.specs.Owing.{cause_for, Puts, PutsAll, said, text_by}
 
 -- ---- a fact as it is read
 
@@ -100,11 +97,18 @@ module _ (t : Target) (n : Need) (old : List Owed) where
     puts_systems new w = (not_refused true w.0, w.1 ∙ ap (λ (l : List Owed). old ++ l) h.1)
 
     -- or they are too many
-    pub refused_list : (e : CheckError) (new : List Owed) → Appended {A = Unit {0}} (Err e) old os new
-        → IsCause why (check_cause e)
-    refused_list check.TooManyObligations new w = not_refused false w
-    refused_list (check.Form e) new w = absurd w
-    refused_list check.Memory new w = tt
+    pub refused_list : {X : Type 0} (result : Result X StepError) (e : FormError) (new : List Owed)
+        → IsErrAnd result (λ r. cause_of r ≡ option_map Form (fault_of e))
+        → Appended {A = Unit {0}} (Err e) old os new → Puts result t n old new
+    refused_list result e new is w = refused_by result new (option_map Form (fault_of e)) is (by e w)
+      where
+        by : (y : FormError) → Appended {A = Unit {0}} (Err y) old os new
+            → IsCause why (option_map Form (fault_of y))
+        by form.TooManyCases v = absurd v
+        by form.SystemTooLarge v = absurd v
+        by form.WideNumber v = absurd v
+        by form.TooManySystems v = not_refused false v
+        by form.Memory v = tt
 
 -- ---- one fact
 

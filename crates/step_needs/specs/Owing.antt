@@ -1,19 +1,16 @@
 -- What the calls on needs answer.
 use Rattle.std.specs.Prelude.{◌≡◌, ℕ, Bool, true, false, List, ◌++◌, codes, Option, Some, None}
-use Rattle.std.specs.Prelude.{option_map, Result, MatchResult}
+use Rattle.std.specs.Prelude.{Result, MatchResult}
 use Rattle.exo_tree.specs.Tree.{Procedure, Program}
 use Rattle.meaning_laws.specs.Facts.{Fact, Holds, Fails}
 use Rattle.affine_forms.specs.Formulas.{Formula, negation, condition_keeps_rules}
+use Rattle.affine_systems.specs.Limits.{are_within}
 use Rattle.affine_systems.specs.Outcomes.{Owed}
 use Rattle.text_show.specs.Layout.{Text}
 use Rattle.text_show.specs.Words.{Words}
 use Rattle.text_show.specs.ControlText.{condition_text}
-use Rattle.bounds_check.specs.Limits.{are_within}
-use Rattle.bounds_check.specs.declared.error.CheckError.TheVariants as check
-use Rattle.bounds_check.specs.declared.error.CheckError.{CheckError}
-use Rattle.bounds_check.specs.declared.error.CheckError.TheVariants.{TooManyObligations, Memory}
 use Rattle.cursor_forward.specs.Causes.{Cause, FormFault, TooManySystems, Form}
-use Rattle.cursor_forward.specs.PlainProposal.{fault_of, cause_of}
+use Rattle.cursor_forward.specs.PlainProposal.{cause_of}
 use Rattle.cursor_forward.specs.declared.proposal.StepError.{StepError}
 use Rattle.step_rules.specs.Rule.{Got, Target, Need, Says, Apart}
 use Rattle.step_rules.specs.Owing.{condition_of, conflict_is_low, owed_for, need_fault, owed_behind}
@@ -41,12 +38,6 @@ is_affine (Says path fact) = condition_keeps_rules (condition_of fact)
 is_affine (Apart path k) = conflict_is_low k
 
 -- ---- refusals
-
--- why a step is refused, where a list of obligations is; None: want of memory
-abbrev pub check_cause : CheckError → Option Cause
-check_cause TooManyObligations = Some (Form TooManySystems)
-check_cause (check.Form e) = option_map Form (fault_of e)
-check_cause Memory = None
 
 abbrev pub limit_passed : Bool → Option Cause
 limit_passed true = None

@@ -15,10 +15,9 @@ ghost use Rattle.step_needs.specs.PlainNeed.{plain_header, plain_conflict};
 ghost use Rattle.step_needs.specs.Sites.{IsSite, IsWell, seen};
 
 use crate::conflict::{Conflict, Header};
-use crate::site::{Site, place_in, refusal};
+use crate::site::{Site, place_in};
 use affine_forms::FormError;
-use affine_systems::Obligation;
-use bounds_check::Owed;
+use affine_systems::{Obligation, OwedList};
 use check_facts::Cursor;
 use cursor_forward::StepError;
 use effect_bounds::laws::{accesses_are_low, contexts_are_low};
@@ -103,7 +102,7 @@ pub(crate) fn put_apart(
     cursor: &mut Cursor<'_, '_>,
     path: &Path,
     k: &Conflict,
-    out: &mut Owed,
+    out: &mut OwedList,
 ) -> Result<(), StepError>
     requires site { IsSite site.now }
     requires cursor { cursor.old ≡ seen site.now }
@@ -122,8 +121,6 @@ pub(crate) fn put_apart(
         path: &place,
     };
     let owed = owed_at(alloc, &standing, site.modes, path, k)?;
-    match out.push_all(owed) {
-        Ok(()) => Ok(()),
-        Err(e) => Err(refusal(e)),
-    }
+    out.push_all(owed)?;
+    Ok(())
 }

@@ -25,11 +25,10 @@ ghost use Rattle.step_needs.specs.Sites.{IsSite, seen};
 use crate::apart::put_apart;
 use crate::fact::Fact;
 use crate::need::Need;
-use crate::site::{Site, place_in, refusal};
+use crate::site::{Site, place_in};
 use affine_forms::formula_of;
 use affine_places::{AtPlace, Roots};
-use affine_systems::{Context, Obligation, systems};
-use bounds_check::Owed;
+use affine_systems::{Context, Obligation, OwedList, systems};
 use check_facts::Cursor;
 use check_facts::laws::well_formed_procedures_may_be_walked;
 use config_state::written_table;
@@ -48,7 +47,7 @@ fn put_there(
     context: &Context,
     path: &Path,
     fact: &Fact,
-    out: &mut Owed,
+    out: &mut OwedList,
 ) -> Result<(), StepError>
     requires rules { IsTrue (condition_keeps_rules (condition_of (plain_fact fact.now))) }
     ensures { (t : Target) → t.unit.fields ≡ there.now.fields.now → roots_in there.now.roots.now ≡ roots_of t.proc → there.now.facts.now ≡ facts_of t.unit t.proc path.now →
@@ -59,10 +58,8 @@ fn put_there(
     let claim = fact.said(alloc, formula)?;
     let what = fact.text(alloc, words)?;
     let owed = systems(alloc, context, &claim, &what, path)?;
-    match out.push_all(owed) {
-        Ok(()) => Ok(()),
-        Err(e) => Err(refusal(e)),
-    }
+    out.push_all(owed)?;
+    Ok(())
 }
 
 /// Puts what a fact owes last, at a place of the procedure.
@@ -72,7 +69,7 @@ fn put_fact(
     cursor: &mut Cursor<'_, '_>,
     path: &Path,
     fact: &Fact,
-    out: &mut Owed,
+    out: &mut OwedList,
 ) -> Result<(), StepError>
     requires site { IsSite site.now }
     requires cursor { cursor.old ≡ seen site.now }
@@ -95,7 +92,7 @@ fn put_need(
     site: &Site<'_, '_>,
     cursor: &mut Cursor<'_, '_>,
     need: &Need,
-    out: &mut Owed,
+    out: &mut OwedList,
 ) -> Result<(), StepError>
     requires site { IsSite site.now }
     requires cursor { cursor.old ≡ seen site.now }
@@ -115,7 +112,7 @@ fn put_needs(
     site: &Site<'_, '_>,
     cursor: &mut Cursor<'_, '_>,
     needs: &[Need],
-    out: &mut Owed,
+    out: &mut OwedList,
 ) -> Result<(), StepError>
     requires site { IsSite site.now }
     requires cursor { cursor.old ≡ seen site.now }
@@ -156,7 +153,7 @@ fn owed_for(
         words: &words,
     };
     let mut cursor = Cursor::new(alloc, unit, p, &roots, &writes);
-    let mut out = Owed::new(alloc);
+    let mut out = OwedList::new(alloc);
     put_needs(alloc, &site, &mut cursor, needs, &mut out)?;
     Ok(out.into_items())
 }

@@ -3,14 +3,9 @@ ghost use Rattle.std.specs.Prelude.{◌≡◌};
 ghost use Rattle.exo_tree.specs.Places.{opened};
 ghost use Rattle.exo_tree.specs.PlainProcedure.{procedure};
 ghost use Rattle.check_facts.specs.Contexts.{IsPlaceOf};
-ghost use Rattle.cursor_forward.specs.PlainProposal.{cause_of};
-ghost use Rattle.step_needs.specs.Owing.{check_cause};
 
-use affine_forms::FormError;
 use affine_places::Roots;
-use bounds_check::CheckError;
 use config_state::FieldTable;
-use cursor_forward::StepError;
 use exo_modes::ModeTable;
 use exo_tree::{Path, Proc, Unit};
 use text_show::Words;
@@ -37,16 +32,5 @@ pub(crate) fn place_in(p: &Proc, path: &Path) -> Path
     match alone_at(&p.body, path, 1) {
         None => Path::new(),
         Some(_) => path.duplicate(),
-    }
-}
-
-/// Why a step is refused, where a list of obligations is.
-pub(crate) fn refusal(error: CheckError) -> StepError
-    ensures { cause_of result ≡ check_cause error }
-{
-    match error {
-        CheckError::TooManyObligations => StepError::Form(FormError::TooManySystems),
-        CheckError::Form(e) => StepError::from(e),
-        CheckError::Memory => StepError::Memory,
     }
 }

@@ -4,9 +4,11 @@ use Rattle.std.proofs.Common.{List, [], ◌∷◌, Option, Some, None, IfSome, o
 use Rattle.std.proofs.Common.{ap₂, ◌∙◌, subst, eq-eqb, eqb-true}
 use Rattle.exo_tree.specs.Tree.{Cell, Param, ParamKind, ControlParam, TensorParam, WindowParam}
 use Rattle.exo_tree.specs.Tree.{Control, Argument, ControlArg, ConditionArg, Whole, Window}
+use Rattle.exo_meaning.specs.Scene.{where_true}
 use Rattle.exo_meaning.specs.Scene.{Shape, Seen, then_do, numbers, strides_seen, window}
 use Rattle.exo_meaning.specs.Scene.{updated, whole, extents}
 use Rattle.exo_meaning.specs.State.{State, same_index, on_scene, with_contents, with_buffer}
+use Rattle.exo_meaning.specs.Calls.{given_all_apart}
 use Rattle.exo_meaning.specs.Calls.{Callee, Given, GivenNumber, GivenView, given, all_given, contents}
 use Rattle.exo_meaning.specs.Calls.{all_positive, bind_numbers, copy_in, bind_buffer, bind_buffers}
 use Rattle.exo_meaning.specs.Calls.{bare, entered, copied_back, returned, run_asserted, all_hold}
@@ -277,15 +279,21 @@ module _ (root : ℕ → ℕ) (blind : ℕ → Bool) (s t : State) (roots : HasR
         go : (o q : Option (List Given)) → o ≡ q
             → IfSome o (Told sees root blind s roots c.procedure.params)
             → WhereBoth (SameButStrides blind)
+            (where_true (given_all_apart c.writes c.procedure.params o)
             (then_do o (λ gs. then_do (entered c.procedure.params gs s) (λ i.
-            option_map (returned c gs s) (run_asserted c i))))
+            option_map (returned c gs s) (run_asserted c i)))))
+            (where_true (given_all_apart c.writes c.procedure.params q)
             (then_do q (λ gs. then_do (entered c.procedure.params gs t) (λ i.
-            option_map (returned c gs t) (run_asserted c i))))
+            option_map (returned c gs t) (run_asserted c i)))))
         go o q k told = subst (λ z. WhereBoth (SameButStrides blind)
+            (where_true (given_all_apart c.writes c.procedure.params o)
             (then_do o (λ gs. then_do (entered c.procedure.params gs s) (λ i.
-            option_map (returned c gs s) (run_asserted c i))))
+            option_map (returned c gs s) (run_asserted c i)))))
+            (where_true (given_all_apart c.writes c.procedure.params z)
             (then_do z (λ gs. then_do (entered c.procedure.params gs t) (λ i.
-            option_map (returned c gs t) (run_asserted c i))))) k (at_once o told)
+            option_map (returned c gs t) (run_asserted c i)))))) k
+            (where_tests (SameButStrides blind) (given_all_apart c.writes c.procedure.params o)
+            (given_all_apart c.writes c.procedure.params o) _ _ (at_once o told))
           where
             at_once : (o : Option (List Given))
                 → IfSome o (Told sees root blind s roots c.procedure.params)

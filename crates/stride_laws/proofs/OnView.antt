@@ -6,10 +6,12 @@ use Rattle.exo_tree.specs.Tree.{Control, Condition, Coord, Datum, Const, Read, N
 use Rattle.exo_tree.specs.Tree.{Minus, Times, Select, Argument, ControlArg, ConditionArg, Whole}
 use Rattle.exo_tree.specs.Tree.{Window, Param, ParamKind, ControlParam, TensorParam, WindowParam}
 use Rattle.exo_meaning.specs.Value.{Value, on_one, on_two, on_four, relu, selected, stored_as}
+use Rattle.exo_meaning.specs.Scene.{where_true}
 use Rattle.exo_meaning.specs.Scene.{Shape, Seen, Scene, then_do, window}
 use Rattle.exo_meaning.specs.Scene.{cell_at, narrowed}
 use Rattle.exo_meaning.specs.State.{State, Place, place, held, put, value, changed, on_scene}
 use Rattle.exo_meaning.specs.State.{with_view}
+use Rattle.exo_meaning.specs.Calls.{given_all_apart, keeps_apart, copied_call}
 use Rattle.exo_meaning.specs.Calls.{Callee, Given, GivenNumber, GivenView, given, all_given, truth}
 use Rattle.exo_meaning.specs.Calls.{bind_buffer, bind_buffers, bind_numbers, bare, entered}
 use Rattle.exo_meaning.specs.Calls.{returned, run_asserted}
@@ -257,11 +259,18 @@ module _ (a x : ℕ) (seen : Seen) (dims : List Control) (coords : List Coord)
         (entered_on callee.procedure.params gs)
         ∙ inner_on callee gs (entered callee.procedure.params gs s)
 
+    tested_on : (t : Bool) (o : Option State)
+        → where_true t (option_map V o) ≡ option_map V (where_true t o)
+    tested_on true o = refl
+    tested_on false o = refl
+
     pub call_on : (o : Option Callee) (gs hs : List Argument)
         → all_given (V s).scene hs ≡ all_given s.scene gs
         → call_to o hs (V s) ≡ option_map V (call_to o gs s)
     call_on None gs hs e = refl
     call_on (Some callee) gs hs e =
-        ap (λ o. then_do o (λ ns. then_do (entered callee.procedure.params ns (V s))
-        (λ t. option_map (returned callee ns (V s)) (run_asserted callee t)))) e
-        ∙ called_on callee (all_given s.scene gs)
+        ap (λ o. where_true (given_all_apart callee.writes callee.procedure.params o)
+        (then_do o (λ ns. then_do (entered callee.procedure.params ns (V s))
+        (λ t. option_map (returned callee ns (V s)) (run_asserted callee t))))) e
+        ∙ ap (where_true (keeps_apart callee s.scene gs)) (called_on callee (all_given s.scene gs))
+        ∙ tested_on (keeps_apart callee s.scene gs) (copied_call callee gs s)

@@ -37,7 +37,9 @@ pub(crate) fn cell_word(cell: Cell) -> &'static str
 {
     match cell {
         Cell::I8 => "i8",
+        Cell::I16 => "i16",
         Cell::I32 => "i32",
+        Cell::Ui8 => "ui8",
     }
 }
 

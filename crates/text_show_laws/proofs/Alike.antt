@@ -1,17 +1,16 @@
 -- Calls are judged by what their callees ask alone.
-use Rattle.std.proofs.Common.{◌≡◌, ℕ, suc, ◌+◌, ◌==◌, Bool, true, false, not, List, [], ◌∷◌, ◌++◌, length, Option, Some, refl, ap, ap₂, ◌∙◌}
+use Rattle.std.proofs.Common.{◌≡◌, ℕ, suc, ◌+◌, ◌==◌, Bool, not, List, [], ◌∷◌, ◌++◌, length, Some, refl, ap, ap₂, ◌∙◌}
 use Rattle.exo_tree.specs.Tree as tree
 use Rattle.exo_tree.specs.Tree.{ConfigField, ParamKind, ControlParam, TensorParam, WindowParam, Param}
-use Rattle.exo_meaning.specs.Units.{Scope, has_cell, root_of, field_kind}
+use Rattle.exo_meaning.specs.Units.{Scope, has_cell, is_whole, root_of, field_kind}
 use Rattle.exo_reader.specs.Source.{Argument, value, window}
 use Rattle.rules_names.specs.declared.error.TypeKind.TheVariants.{RankMismatch, SharedArgument}
 use Rattle.rules_names.specs.declared.fault.Fault.{Fault}
 use Rattle.rules_names.specs.Faults.{unless}
 use Rattle.rules_names.specs.WindowRules.{window_faults}
 use Rattle.exo_types.specs.declared.call.Passed.{Passed}
-use Rattle.exo_types.specs.ArgumentRules.{Signature, argument_width, is_passed, cell_takes, spans, tensor_faults, strided_faults, argument_faults, argument_of, arguments_of, arguments_faults, call_faults}
+use Rattle.exo_types.specs.ArgumentRules.{Signature, argument_width, passed_for, is_passed, cell_takes, spans, tensor_faults, strided_faults, argument_faults, argument_of, arguments_of, arguments_faults, call_faults}
 use Rattle.text_show_laws.specs.Again.{SameKind, AreAlike, IsAlike}
-use Rattle.text_show_laws.proofs.Scoped.{three}
 
 module _ (fields : List ConfigField) (scope : Scope) where
   argument_alike : (k j : ParamKind) (a : Argument) → SameKind k j → argument_of fields scope k a ≡ argument_of fields scope j a
@@ -42,6 +41,17 @@ module _ (fields : List ConfigField) (scope : Scope) where
   faults_alike (WindowParam c ds m) (ControlParam j) n a same = absurd same
   faults_alike (WindowParam c ds m) (TensorParam d es o) n a same = absurd same
 
+  whole_alike : (k j : ParamKind) → SameKind k j → is_whole k ≡ is_whole j
+  whole_alike (ControlParam k) (ControlParam j) same = refl
+  whole_alike (TensorParam c ds m) (TensorParam d es o) same = ap (λ l. not (l == 0)) same.1
+  whole_alike (WindowParam c ds m) (WindowParam d es o) same = refl
+  whole_alike (ControlParam k) (TensorParam d es o) same = absurd same
+  whole_alike (ControlParam k) (WindowParam d es o) same = absurd same
+  whole_alike (TensorParam c ds m) (ControlParam j) same = absurd same
+  whole_alike (TensorParam c ds m) (WindowParam d es o) same = absurd same
+  whole_alike (WindowParam c ds m) (ControlParam j) same = absurd same
+  whole_alike (WindowParam c ds m) (TensorParam d es o) same = absurd same
+
   pub arguments_alike : (writes others : ℕ → Bool) (ps qs : List Param) (args : List Argument) → AreAlike writes others ps qs → arguments_of fields scope ps args ≡ arguments_of fields scope qs args
   arguments_alike writes others [] [] args alike = refl
   arguments_alike writes others [] (q ∷ qs) args alike = absurd alike
@@ -57,11 +67,13 @@ module _ (fields : List ConfigField) (scope : Scope) where
     all_faults_alike writes others passed (p ∷ ps) (q ∷ qs) n [] alike = refl
     all_faults_alike writes others passed (p ∷ ps) (q ∷ qs) n (a ∷ args) alike =
         let m : ℕ = n + argument_width a + 1 in
-        let r : Option ℕ = root_of (field_kind fields) root (argument_of fields scope q.kind a) in
-        three (λ (fs : List Fault) (o : Option ℕ) (w : Bool). fs ++ (unless (not (is_passed w o passed)) SharedArgument n ++ arguments_faults fields writes scope root (passed ++ record { root = o; written = w } ∷ []) ps m args))
-        (faults_alike p.kind q.kind n a alike.0) (ap (root_of (field_kind fields) root) (argument_alike p.kind q.kind a alike.0)) alike.1
-        ∙ ap (λ (fs : List Fault). argument_faults fields scope q.kind n a ++ (unless (not (is_passed (others q.binder.id) r passed)) SharedArgument n ++ fs))
-        (all_faults_alike writes others (passed ++ record { root = r; written = others q.binder.id } ∷ []) ps qs m args alike.2)
+        let now : Passed = passed_for others q (root_of (field_kind fields) root (argument_of fields scope q.kind a)) in
+        let roots = ap (root_of (field_kind fields) root) (argument_alike p.kind q.kind a alike.0) in
+        ap₂ (λ (fs : List Fault) (e : Passed). fs ++ (unless (not (is_passed e passed)) SharedArgument n ++ arguments_faults fields writes scope root (passed ++ e ∷ []) ps m args))
+        (faults_alike p.kind q.kind n a alike.0)
+        (λ i. record { root = roots i; written = alike.1 i; whole = whole_alike p.kind q.kind alike.0 i })
+        ∙ ap (λ (fs : List Fault). argument_faults fields scope q.kind n a ++ (unless (not (is_passed now passed)) SharedArgument n ++ fs))
+        (all_faults_alike writes others (passed ++ now ∷ []) ps qs m args alike.2)
 
 lengths_alike : (writes others : ℕ → Bool) (ps qs : List Param) → AreAlike writes others ps qs → length ps ≡ length qs
 lengths_alike writes others [] [] alike = refl

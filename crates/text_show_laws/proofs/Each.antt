@@ -1,5 +1,5 @@
 -- What holds of each of a list.
-use Rattle.std.proofs.Common.{◌≡◌, ℕ, zero, suc, List, [], ◌∷◌, ◌++◌, map, replicate, Option, Some, slice_get, subst}
+use Rattle.std.proofs.Common.{◌≡◌, ℕ, zero, suc, List, [], ◌∷◌, ◌++◌, map, replicate, Some, slice_get, subst}
 use Rattle.text_show_laws.specs.Names.{Each}
 
 module _ {A : Type 0} (P : A → Type 0) where

@@ -42,7 +42,9 @@ memory_fits limits (Some x) k = short_name limits x k
 
 cell_short : (limits : Limits) (cell : Cell) → name.Fits limits (cell_word cell)
 cell_short limits tree.I8 = short_name limits (codes "i8") (omega arith)
+cell_short limits tree.I16 = short_name limits (codes "i16") (omega arith)
 cell_short limits tree.I32 = short_name limits (codes "i32") (omega arith)
+cell_short limits tree.Ui8 = short_name limits (codes "ui8") (omega arith)
 
 kind_short : (limits : Limits) (kind : Kind) → TypeNameFits limits (kind_name kind)
 kind_short limits tree.Size = short_name limits (codes "size") (omega arith)

@@ -66,7 +66,9 @@ free_brackets (u ∷ us) rest free = (refl, refl)
 
 cell_reads : (cell : Cell) → Reads Free (cell_word cell) (t.Name (cell_word cell) ∷ [])
 cell_reads tree.I8 = named (codes "i8") refl (refl, (refl, tt))
+cell_reads tree.I16 = named (codes "i16") refl (refl, (refl, (refl, tt)))
 cell_reads tree.I32 = named (codes "i32") refl (refl, (refl, (refl, tt)))
+cell_reads tree.Ui8 = named (codes "ui8") refl (refl, (refl, (refl, tt)))
 
 kind_reads : (kind : Kind) → Reads Free (kind_word kind) (spell_type_name (kind_name kind))
 kind_reads tree.Size = named (codes "size") refl (refl, (refl, (refl, (refl, tt))))

@@ -1,6 +1,6 @@
 -- Written blocks with their names resolved are themselves, under other ids, and break no rule.
 use Rattle.std.proofs.Common.{◌≡◌, ℕ, suc, ◌+◌, ◌==◌, nat_lt, Bool, true, false, not, ◌&&◌, ◌||◌, if◌then◌else◌, List, [], ◌∷◌, length, map, Option, Some, None, refl, sym, ap, ap₂, ◌∙◌, true≢false, eqb-true, eq-eqb, length-append}
-use Rattle.exo_tree.specs.Tree.{Kind, Index, Cell, I8, I32, Binder, ConfigField, Control, Coord, At, Span, Argument, ControlArg, ConditionArg, Whole, Window, Statement, Assign, Reduce, Config, Pass, If, For, Alloc, View, Call, Block, end, next, Program}
+use Rattle.exo_tree.specs.Tree.{Kind, Index, Cell, I8, I16, I32, Ui8, Binder, ConfigField, Control, Coord, At, Span, Argument, ControlArg, ConditionArg, Whole, Window, Statement, Assign, Reduce, Config, Pass, If, For, Alloc, View, Call, Block, end, next, Program}
 use Rattle.exo_meaning.specs.Scene.{updated}
 use Rattle.exo_meaning.specs.Calls.{Callee}
 use Rattle.exo_meaning.specs.Run.{roots_after}
@@ -13,7 +13,7 @@ use Rattle.rules_names.specs.Names.{name_number}
 use Rattle.rules_names.specs.Resolved.{control_of, field_number}
 use Rattle.text_show.specs.Layout.{Text}
 use Rattle.text_show.specs.Words.{Words, words_with, cell_word}
-use Rattle.exo_types.specs.TypeRules.{binder, binder_faults, cell_faults, cell_of, memory_faults, named_memory_faults, memory_of, number_or}
+use Rattle.exo_types.specs.TypeRules.{binder, binder_faults, kind_named, cell_faults, cell_of, memory_faults, named_memory_faults, memory_of, number_or}
 use Rattle.exo_types.specs.ArgumentRules.{Signature, signature_of, params_of, arguments_of, call_faults}
 use Rattle.exo_types.specs.StatementRules.{bound, bound_in, number_in, callee_named, written_of, statement_of, block_of}
 use Rattle.text_show_laws.specs.Again.{calls, is_call_of, re_calls, re_call, IsAlike}
@@ -106,11 +106,22 @@ roots_called to (Call k args) root = refl
 
 pub cell_same : (cell : Cell) → cell_of (source.named (cell_word cell)) ≡ cell
 cell_same I8 = refl
+cell_same I16 = refl
 cell_same I32 = refl
+cell_same Ui8 = refl
+
+-- no kind of control values has the word of a cell type
+pub cell_alone : (cell : Cell) → kind_named (source.named (cell_word cell)) ≡ None
+cell_alone I8 = refl
+cell_alone I16 = refl
+cell_alone I32 = refl
+cell_alone Ui8 = refl
 
 pub cell_fine : (cell : Cell) (n : ℕ) → cell_faults (source.named (cell_word cell)) n ≡ []
 cell_fine I8 n = refl
+cell_fine I16 n = refl
 cell_fine I32 n = refl
+cell_fine Ui8 n = refl
 
 pub binder_fine : (r : Renaming) (scope : Scope) (b : Binder) (n : ℕ) → is_new scope b ≡ true → binder_faults (re_scope r scope) n b.name ≡ []
 binder_fine r scope b n h = unless_fine _ _ n (ap not (not_taken r scope b h))

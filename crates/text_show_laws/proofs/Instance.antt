@@ -1,11 +1,10 @@
 -- The closed unit keeps all rules, and its names are of the grammar.
-use Rattle.std.proofs.Common.{◌≡◌, ◌==◌, List, [], ◌∷◌, ℕ, zero, suc, pos, codes, refl, sym, ap, ◌∙◌, subst, Bool, true, false, ◌||◌, true≢false, eqb-true, Option, Some, None, slice_get}
+use Rattle.std.proofs.Common.{◌≡◌, ◌==◌, List, [], ℕ, zero, suc, codes, refl, sym, ap, ◌∙◌, subst, Bool, true, false, ◌||◌, true≢false, eqb-true, Option, Some, None, slice_get}
 use Rattle.exo_tree.specs.Tree.{Procedure}
 use Rattle.exo_meaning.specs.Calls.{Callee}
 use Rattle.exo_meaning.specs.Run.{program_world}
-use Rattle.exo_meaning.specs.Units.{IsUnit, IsProcedure}
-use Rattle.exo_types.specs.UnitRules.{Above, nothing_above, after_items, signatures, unit_fault}
-use Rattle.text_lexer.specs.Piece.{word_of}
+use Rattle.exo_meaning.specs.Units.{IsUnit}
+use Rattle.exo_types.specs.UnitRules.{Above, nothing_above, after_items, signatures}
 use Rattle.text_show_laws.specs.Again.{calls, IsFound, HoldsWhatIsNamed, ShownIsTheSame}
 use Rattle.text_show_laws.specs.Names.{IsName}
 use Rattle.text_show_laws.specs.Named.{IsNamedProcedure, AreNamed}

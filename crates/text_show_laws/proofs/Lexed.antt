@@ -5,7 +5,7 @@ use Rattle.std.proofs.lemmas.List.Sums.{take_while-cons}
 use Rattle.std.specs.Char.{is_ascii_digit}
 use Rattle.text_lexer.specs.Bytes.{is_printable, is_quote, begins_name, goes_on_name, escaped}
 use Rattle.text_lexer.specs.Quoted.{behind, ends, unescaped, quoted, after_backslash}
-use Rattle.text_lexer.specs.Piece.{word_of, decorator_of, sign_of, sign_with_equals, string_ending, string_piece, word_token, name_token, name_piece, decorated, decorator_piece, digits_piece, literal_piece, lone_piece, longer_piece, sign_piece, piece_of}
+use Rattle.text_lexer.specs.Piece.{word_of, decorator_of, sign_of, sign_with_equals, string_ending, string_piece, word_token, name_piece, decorated, decorator_piece, digits_piece, literal_piece, lone_piece, longer_piece, sign_piece, piece_of}
 use Rattle.text_lexer.specs.Layout.{at, put, token_of, lines, tokens_in, is_fault, up_to_fault, line_tokens, is_import, innermost, still_open, blocks_at, indentation, is_foreign, brackets_after, line_end, with_end, Laid, begun, laid, text_end, layout, end_place, lexed}
 use Rattle.text_lexer.specs.declared.place.Place.{Place}
 use Rattle.text_lexer.specs.declared.place.Placed.{Placed}
@@ -13,7 +13,7 @@ use Rattle.text_lexer.specs.declared.piece.Piece.{Piece}
 use Rattle.text_lexer.specs.declared.quoted.Ending.{Ending}
 use Rattle.text_lexer.specs.declared.quoted.Ending.TheVariants.{Closed, Unclosed, Foreign}
 use Rattle.text_lexer.specs.declared.quoted.Quoted.{Quoted}
-use Rattle.text_lexer.specs.declared.token.Literal.TheVariants.{Value, TooLarge}
+use Rattle.text_lexer.specs.declared.token.Literal.TheVariants.{Value}
 use Rattle.text_lexer.specs.declared.token.Sign.{Sign}
 use Rattle.text_lexer.specs.declared.token.Sign.TheVariants.{Any}
 use Rattle.text_lexer.specs.declared.token.Word.{Word}

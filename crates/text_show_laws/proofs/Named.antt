@@ -1,17 +1,14 @@
 -- What the tokens of a text have for names, its unit has.
-use Rattle.std.proofs.Common.{◌≡◌, ℕ, suc, ◌+◌, Bool, true, false, List, [], ◌∷◌, ◌++◌, map, length, Option, Some, None, refl, subst, sym}
-use Rattle.text_phrases.specs.Text.{IsText}
+use Rattle.std.proofs.Common.{◌≡◌, ℕ, suc, ◌+◌, Bool, List, [], ◌∷◌, ◌++◌, map, length, Option, Some, None, refl, subst, sym}
 use Rattle.text_phrases.specs.Sequence.{spell_all, carried}
 use Rattle.text_phrases.specs.Commas.{spell_more}
 use Rattle.text_lexer.specs.declared.token.Token.{Token}
-use Rattle.text_lexer.specs.declared.token.Token.TheVariants.{Name, Str, Sign, Word, NewLine, Indent, Dedent}
+use Rattle.text_lexer.specs.declared.token.Token.TheVariants.{Str, Sign, NewLine, Indent, Dedent}
 use Rattle.text_lexer.specs.declared.token.Sign.TheVariants as s
-use Rattle.text_lexer.specs.declared.token.Word.TheVariants as w
 use Rattle.exo_tree.specs.Tree as tree
 use Rattle.exo_tree.specs.Tree.{Index, MemoryKind}
 use Rattle.exo_meaning.specs.Units.{Scope, ControlName, with_name, scope_after, scope_of}
-use Rattle.text_expressions.specs.Expression.{Tree, control, spelling as spelled}
-use Rattle.exo_reader.specs.Texts.{tokens_of}
+use Rattle.text_expressions.specs.Expression.{spelling as spelled}
 use Rattle.exo_reader.specs.Source as source
 use Rattle.exo_reader.specs.Source.{Statement, pass, branch, loop, allocate, call, configure, assign, reduce, view, Block, end, next, Parameter, Definition, Attribute, Item, procedure, instruction, configuration, memory}
 use Rattle.exo_reader.specs.Parts.{parameter, parameters}
@@ -22,15 +19,15 @@ use Rattle.exo_types.specs.TypeRules.{binder}
 use Rattle.exo_types.specs.ArgumentRules.{Signature}
 use Rattle.exo_types.specs.StatementRules.{bound, bound_in, statement_of, block_of}
 use Rattle.exo_types.specs.ItemRules.{with_param, param_of, params_from, definition_of, field_of}
-use Rattle.exo_types.specs.MemoryRules.{dram, plain_memory, with_trait, with_attributes, trait_named}
+use Rattle.exo_types.specs.MemoryRules.{plain_memory, with_trait, with_attributes, trait_named}
 use Rattle.exo_types.specs.declared.attribute.Trait.{Trait}
 use Rattle.exo_types.specs.declared.attribute.Trait.TheVariants.{Ctype, Lanes, CellType, Place, MayRead, MayWrite, MayReduce, Header}
-use Rattle.exo_types.specs.UnitRules.{Above, nothing_above, memory_names, procedure_names, signatures, procedure_here, after_item, after_items, unit_of}
+use Rattle.exo_types.specs.UnitRules.{Above, nothing_above, memory_names, procedure_names, signatures, procedure_here, after_item, after_items}
 use Rattle.text_show_laws.specs.Names.{IsName, Each}
 use Rattle.text_show_laws.specs.Writable.{IsTemplate, IsTemplateByte}
 use Rattle.text_show_laws.specs.Named.{IsNamedStatement, IsNamedBlock, IsNamedParam, IsNamedProcedure, IsNamedField, IsNamedMemory, AreNamed}
 use Rattle.text_show_laws.specs.Naming.{ReadUnitsAreNamed}
-use Rattle.text_show_laws.proofs.Each.{each_more, each_front, each_back, each_map}
+use Rattle.text_show_laws.proofs.Each.{each_more, each_front, each_back}
 use Rattle.text_show_laws.proofs.Lexed.{IsNamed, lexed_named}
 
 abbrev Named : List Token → Type 0

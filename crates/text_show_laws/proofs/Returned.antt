@@ -1,11 +1,10 @@
 -- Below items that hold what it names, a written procedure stands for itself.
-use Rattle.std.proofs.Common.{◌≡◌, ℕ, zero, suc, ◌+◌, ◌<◌, ◌==◌, Bool, true, false, not, ◌&&◌, ◌||◌, if◌then◌else◌, List, [], ◌∷◌, ◌++◌, length, map, Option, Some, None, slice_get, refl, sym, ap, ap₂, subst₂, ◌∙◌, arith, subst, append-nil, append_assoc}
+use Rattle.std.proofs.Common.{◌≡◌, ℕ, zero, suc, ◌+◌, ◌<◌, ◌==◌, true, false, not, ◌&&◌, ◌||◌, if◌then◌else◌, List, [], ◌∷◌, ◌++◌, length, map, Option, Some, None, slice_get, refl, sym, ap, ap₂, ◌∙◌, arith, subst, append-nil, append_assoc}
 use Rattle.std.specs.List.{list_any}
-use Rattle.std.proofs.Math.Path.{fun_ext}
 use Rattle.exo_tree.specs.Tree.{ConfigField, MemoryKind, Param, ParamKind, ControlParam, TensorParam, WindowParam, Procedure, Program}
 use Rattle.exo_meaning.specs.Calls.{Callee}
 use Rattle.exo_meaning.specs.Run.{world_of, callee_in, kinds_of, callees, program_world}
-use Rattle.exo_meaning.specs.Units.{is_text, IsUnit, IsProcedure, AreProcedures, field_kind, bound_ids, all_differ, scope_of, Reading, Plain, Opened, Closed, InHole, is_hole_of, holes_fit, is_template}
+use Rattle.exo_meaning.specs.Units.{is_text, IsUnit, IsProcedure, AreProcedures, field_kind, bound_ids, all_differ, Reading, Plain, Opened, Closed, InHole, is_hole_of, holes_fit, is_template}
 use Rattle.exo_meaning.specs.Renaming.{Renaming}
 use Rattle.exo_reader.specs.Source as source
 use Rattle.exo_reader.specs.Source.{Item, Definition}
@@ -16,7 +15,6 @@ use Rattle.text_show.specs.Layout.{Text}
 use Rattle.text_show.specs.Names.{names_of, unknown}
 use Rattle.text_show.specs.Words.{words_of, memory_name, callee_name}
 use Rattle.exo_types.specs.TypeRules.{number_or}
-use Rattle.exo_types.specs.ArgumentRules.{signature_of}
 use Rattle.exo_types.specs.ItemRules.{definition_of, definition_fault}
 use Rattle.exo_types.specs.UnitRules.{Above, nothing_above, after_item, after_items, item_fault, procedure_fault, procedure_here, memory_names, procedure_names, signatures}
 use Rattle.text_show_laws.specs.Again.{re_param, re_procedure, HoldsWhatIsNamed, StandsFor, ShownIsTheSame}
@@ -28,7 +26,7 @@ use Rattle.text_show_laws.proofs.Resolved.{FindsFields, unless_fine}
 use Rattle.text_show_laws.proofs.Listed.{fields_found, memory_found, procedure_found}
 use Rattle.text_show_laws.proofs.Numbered.{Counts, same_ids, counted, counts}
 use Rattle.text_show_laws.proofs.Inside.{FindsMemories, MeetsCalls}
-use Rattle.text_show_laws.proofs.Standing.{Stands, AllStand, no_procedures, one_more, Same, same_writes, calls_there, got_below, there}
+use Rattle.text_show_laws.proofs.Standing.{Stands, AllStand, no_procedures, one_more, got_below, there}
 use Rattle.text_show_laws.proofs.Whole.{definition_same, definition_fine}
 
 -- ---- what stands above

@@ -3,13 +3,13 @@ use Rattle.std.proofs.Common.{◌≡◌, ℕ, suc, ◌+◌, ◌==◌, Bool, true
 use Rattle.std.proofs.lemmas.List.{length-map, map-append}
 use Rattle.exo_tree.specs.Tree.{Kind, ConfigField, Argument, ControlArg, ConditionArg, Whole, Window, Param}
 use Rattle.exo_meaning.specs.Units as units
-use Rattle.exo_meaning.specs.Units.{Scope, is_for, are_for, share_nothing_written, is_shared, field_kind, root_of}
+use Rattle.exo_meaning.specs.Units.{Scope, is_for, are_for, share_nothing_written, is_shared, is_whole, field_kind, root_of}
 use Rattle.exo_meaning.specs.Renaming.{Renaming, re_argument, re_arguments}
 use Rattle.rules_names.specs.declared.error.TypeKind.TheVariants.{SharedArgument}
 use Rattle.rules_names.specs.Faults.{unless}
 use Rattle.text_show.specs.Words.{Words}
 use Rattle.exo_types.specs.declared.call.Passed.{Passed}
-use Rattle.exo_types.specs.ArgumentRules.{same_buffer, is_passed, argument_width, argument_of, arguments_of, arguments_faults, call_faults}
+use Rattle.exo_types.specs.ArgumentRules.{same_buffer, passed_for, is_passed, argument_width, argument_of, arguments_of, arguments_faults, call_faults}
 use Rattle.text_show_laws.specs.Written as written
 use Rattle.text_show_laws.specs.Names.{Each}
 use Rattle.text_show_laws.proofs.Scoped.{Finds, re_scope, both, neither, denied}
@@ -46,19 +46,23 @@ module _ (w : Words) (fields : List ConfigField) (r : Renaming) (scope : Scope) 
       ap₂ ◌∷◌ (argument_same w fields r scope finds finds_fields p.kind a s.0 some.0) (arguments_same ps args s.1 some.1)
 
   module _ (writes : ℕ → Bool) (root root' : ℕ → ℕ) (roots : (x : ℕ) → root' (r.to x) ≡ r.to (root x)) where
-    -- a part of this buffer, which is written or not, is also a later argument, and one of the two is written
-    abbrev shared : Bool → Option ℕ → List Param → List Argument → Bool
-    shared written o [] args = false
-    shared written o (q ∷ qs) [] = false
-    shared written o (q ∷ qs) (a ∷ args) = (units.same_root kinds o (root_of kinds root a) && (written || writes q.binder.id)) || shared written o qs args
+    -- what was passed may share no buffer with that parameter
+    abbrev forbids : Passed → Param → Bool
+    forbids e q = (e.written || writes q.binder.id) && (e.whole || is_whole q.kind)
 
-    shared_is : (p : Param) (o : Option ℕ) (qs : List Param) (args : List Argument) → is_shared kinds writes root p o qs args ≡ shared (writes p.binder.id) o qs args
+    -- what was passed shares its buffer with a later argument
+    abbrev shared : Passed → List Param → List Argument → Bool
+    shared e [] args = false
+    shared e (q ∷ qs) [] = false
+    shared e (q ∷ qs) (a ∷ args) = (units.same_root kinds e.root (root_of kinds root a) && forbids e q) || shared e qs args
+
+    shared_is : (p : Param) (o : Option ℕ) (qs : List Param) (args : List Argument) → is_shared kinds writes root p o qs args ≡ shared (passed_for writes p o) qs args
     shared_is p o [] args = refl
     shared_is p o (q ∷ qs) [] = refl
-    shared_is p o (q ∷ qs) (a ∷ args) = ap (λ t. (units.same_root kinds o (root_of kinds root a) && (writes p.binder.id || writes q.binder.id)) || t) (shared_is p o qs args)
+    shared_is p o (q ∷ qs) (a ∷ args) = ap (λ t. (units.same_root kinds o (root_of kinds root a) && forbids (passed_for writes p o) q) || t) (shared_is p o qs args)
 
     abbrev re_passed : Passed → Passed
-    re_passed q = record { root = option_map r.to q.root; written = q.written }
+    re_passed e = record e { root = option_map r.to e.root }
 
     root_re : (a : Argument) → root_of kinds root' (re_argument r a) ≡ option_map r.to (root_of kinds root a)
     root_re (ControlArg e) = refl
@@ -74,19 +78,19 @@ module _ (w : Words) (fields : List ConfigField) (r : Renaming) (scope : Scope) 
     -- nothing that was passed before is shared
     abbrev Clear : List Passed → List Param → List Argument → Type 0
     Clear [] ps args = Unit {0}
-    Clear (e ∷ passed) ps args = (shared e.written e.root ps args ≡ false) × Clear passed ps args
+    Clear (e ∷ passed) ps args = (shared e ps args ≡ false) × Clear passed ps args
 
-    passed_fine : (passed : List Passed) (p : Param) (ps : List Param) (a : Argument) (args : List Argument) → Clear passed (p ∷ ps) (a ∷ args) → is_passed (writes p.binder.id) (option_map r.to (root_of kinds root a)) (map re_passed passed) ≡ false
+    passed_fine : (passed : List Passed) (p : Param) (ps : List Param) (a : Argument) (args : List Argument) → Clear passed (p ∷ ps) (a ∷ args) → is_passed (passed_for writes p (option_map r.to (root_of kinds root a))) (map re_passed passed) ≡ false
     passed_fine [] p ps a args clear = refl
     passed_fine (e ∷ passed) p ps a args clear =
-        let s = neither (units.same_root kinds e.root (root_of kinds root a) && (e.written || writes p.binder.id)) _ clear.0 in
-        ap₂ ◌||◌ (ap (λ t. t && (e.written || writes p.binder.id)) (same_re e.root (root_of kinds root a)) ∙ s.0) (passed_fine passed p ps a args clear.1)
+        let s = neither (units.same_root kinds e.root (root_of kinds root a) && forbids e p) _ clear.0 in
+        ap₂ ◌||◌ (ap (λ t. t && forbids e p) (same_re e.root (root_of kinds root a)) ∙ s.0) (passed_fine passed p ps a args clear.1)
 
     clear_rest : (passed : List Passed) (p : Param) (ps : List Param) (a : Argument) (args : List Argument) → Clear passed (p ∷ ps) (a ∷ args) → Clear passed ps args
     clear_rest [] p ps a args clear = tt
-    clear_rest (e ∷ passed) p ps a args clear = ((neither (units.same_root kinds e.root (root_of kinds root a) && (e.written || writes p.binder.id)) _ clear.0).1, clear_rest passed p ps a args clear.1)
+    clear_rest (e ∷ passed) p ps a args clear = ((neither (units.same_root kinds e.root (root_of kinds root a) && forbids e p) _ clear.0).1, clear_rest passed p ps a args clear.1)
 
-    clear_more : (passed : List Passed) (e : Passed) (ps : List Param) (args : List Argument) → Clear passed ps args → shared e.written e.root ps args ≡ false → Clear (passed ++ e ∷ []) ps args
+    clear_more : (passed : List Passed) (e : Passed) (ps : List Param) (args : List Argument) → Clear passed ps args → shared e ps args ≡ false → Clear (passed ++ e ∷ []) ps args
     clear_more [] e ps args clear h = (h, tt)
     clear_more (f ∷ passed) e ps args clear h = (clear.0, clear_more passed e ps args clear.1 h)
 
@@ -98,12 +102,12 @@ module _ (w : Words) (fields : List ConfigField) (r : Renaming) (scope : Scope) 
         let t = both (not (is_shared kinds writes root p (root_of kinds root a) ps args)) _ apart in
         let same = argument_same w fields r scope finds finds_fields p.kind a s.0 some.0 in
         let o : root_of kinds root' (argument_of fields there p.kind (written.argument_of w fields a)) ≡ option_map r.to (root_of kinds root a) = ap (root_of kinds root') same ∙ root_re a in
-        let entry : Passed = record { root = root_of kinds root a; written = writes p.binder.id } in
-        let fresh : shared (writes p.binder.id) (root_of kinds root a) ps args ≡ false = sym (shared_is p (root_of kinds root a) ps args) ∙ denied _ t.0 in
+        let entry : Passed = passed_for writes p (root_of kinds root a) in
+        let fresh : shared entry ps args ≡ false = sym (shared_is p (root_of kinds root a) ps args) ∙ denied _ t.0 in
         joined_fine _ _ (argument_fine w fields r scope finds finds_fields p.kind a s.0 some.0 n)
         (joined_fine _ _
-        (ap (λ u. unless (not (is_passed (writes p.binder.id) u (map re_passed passed))) SharedArgument n) o ∙ unless_fine _ _ n (ap not (passed_fine passed p ps a args clear)))
-        (ap (λ u. arguments_faults fields writes there root' (map re_passed passed ++ record { root = u; written = writes p.binder.id } ∷ []) ps (n + argument_width (written.argument_of w fields a) + 1) (map (written.argument_of w fields) args)) o
+        (ap (λ u. unless (not (is_passed (passed_for writes p u) (map re_passed passed))) SharedArgument n) o ∙ unless_fine _ _ n (ap not (passed_fine passed p ps a args clear)))
+        (ap (λ u. arguments_faults fields writes there root' (map re_passed passed ++ passed_for writes p u ∷ []) ps (n + argument_width (written.argument_of w fields a) + 1) (map (written.argument_of w fields) args)) o
         ∙ ap (λ l. arguments_faults fields writes there root' l ps (n + argument_width (written.argument_of w fields a) + 1) (map (written.argument_of w fields) args)) (sym (map-append re_passed passed (entry ∷ [])))
         ∙ arguments_fine ps args (passed ++ entry ∷ []) s.1 t.1 some.1 (clear_more passed entry ps args (clear_rest passed p ps a args clear) fresh) _))
 

@@ -1,7 +1,7 @@
 -- A written block breaks no rule.
 use Rattle.std.proofs.Common.{◌≡◌, ℕ, suc, ◌+◌, true, not, ◌&&◌, List, [], length, map, Option, None, refl, sym, ap, ap₂, ◌∙◌}
 use Rattle.exo_tree.specs.Tree as tree
-use Rattle.exo_tree.specs.Tree.{Kind, Index, Cell, I8, I32, Binder, ConfigField, Control, Coord, At, Span, Argument, ControlArg, ConditionArg, Whole, Window, Statement, Assign, Reduce, Config, Pass, If, For, Alloc, View, Call, Block, end, next, Program}
+use Rattle.exo_tree.specs.Tree.{Kind, Index, Binder, ConfigField, Control, Coord, At, Span, Argument, ControlArg, ConditionArg, Whole, Window, Statement, Assign, Reduce, Config, Pass, If, For, Alloc, View, Call, Block, end, next, Program}
 use Rattle.exo_meaning.specs.Calls.{Callee}
 use Rattle.exo_meaning.specs.Run.{roots_after}
 use Rattle.exo_meaning.specs.Binders.{binders, step_binders}

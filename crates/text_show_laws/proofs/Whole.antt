@@ -2,7 +2,7 @@
 use Rattle.std.proofs.Common.{◌≡◌, ℕ, suc, ◌+◌, nat_lt, true, false, ◌&&◌, List, [], ◌∷◌, length, map, Option, None, refl, sym, ap, ap₂, ◌∙◌}
 use Rattle.std.specs.List.{list_all}
 use Rattle.std.proofs.lemmas.List.{length-map}
-use Rattle.exo_tree.specs.Tree.{Kind, Size, Index, Truth, Stride, I8, I32, ConfigField, Condition, Param, ParamKind, ControlParam, TensorParam, WindowParam, Procedure, Program}
+use Rattle.exo_tree.specs.Tree.{Kind, Size, Index, Truth, Stride, ConfigField, Condition, Param, ParamKind, ControlParam, TensorParam, WindowParam, Procedure, Program}
 use Rattle.exo_meaning.specs.Calls.{Callee}
 use Rattle.exo_meaning.specs.Binders.{binders}
 use Rattle.exo_meaning.specs.Units.{Scope, BufferName, with_name, scope_of, param_sort, plainly, with_both, is_new, is_rank, are_controls, is_condition, is_param_kind, are_params, IsProcedure, field_kind, bound_ids}
@@ -12,11 +12,11 @@ use Rattle.rules_names.specs.Faults.{least, or_else}
 use Rattle.rules_names.specs.Resolved.{condition_of}
 use Rattle.text_show.specs.Layout.{Text}
 use Rattle.text_show.specs.Names.{names_of}
-use Rattle.text_show.specs.Words.{Words, words_of, memory_name}
+use Rattle.text_show.specs.Words.{Words, words_of, cell_word, memory_name}
 use Rattle.exo_types.specs.TypeRules.{binder}
 use Rattle.exo_types.specs.ArgumentRules.{Signature}
 use Rattle.exo_types.specs.StatementRules.{block_of, block_fault}
-use Rattle.exo_types.specs.ItemRules.{form_faults, form_of, param_of, with_param, params_from, params_fault, parameter_width, asserts_start, body_start, assertions_fault, definition_of, definition_fault}
+use Rattle.exo_types.specs.ItemRules.{scalar_faults, form_faults, scalar_of, form_of, param_of, with_param, params_from, params_fault, parameter_width, asserts_start, body_start, assertions_fault, definition_of, definition_fault}
 use Rattle.text_show_laws.specs.Again.{re_kind, re_param, re_procedure}
 use Rattle.text_show_laws.specs.Written as written
 use Rattle.text_show_laws.specs.Written.{control_tree, condition_tree}
@@ -26,7 +26,7 @@ use Rattle.text_show_laws.proofs.Resolved.{FindsFields, joined_fine, controls_sa
 use Rattle.text_show_laws.proofs.Judged.{condition_same, condition_fine}
 use Rattle.text_show_laws.proofs.Called.{ParamsCalled, AreCalled, called}
 use Rattle.text_show_laws.proofs.Numbered.{Counts, split_left, split_right}
-use Rattle.text_show_laws.proofs.Inside.{FindsMemories, MeetsCalls, cell_same, cell_fine, binder_fine, memory_same, memory_fine, controls_length, block_same}
+use Rattle.text_show_laws.proofs.Inside.{FindsMemories, MeetsCalls, cell_same, cell_alone, cell_fine, binder_fine, memory_same, memory_fine, controls_length, block_same}
 use Rattle.text_show_laws.proofs.Unbroken.{block_fine}
 
 -- ---- parameters
@@ -55,8 +55,9 @@ module _ (w : Words) (fields : List ConfigField) (r : Renaming) (finds_fields : 
   form_same (ControlParam Index) scope finds h = refl
   form_same (ControlParam Truth) scope finds h = refl
   form_same (ControlParam Stride) scope finds h = refl
-  form_same (TensorParam I8 [] memory) scope finds h = ap (λ m. TensorParam I8 [] m) (memory_same w fields count memories memory finds_memories h)
-  form_same (TensorParam I32 [] memory) scope finds h = ap (λ m. TensorParam I32 [] m) (memory_same w fields count memories memory finds_memories h)
+  form_same (TensorParam cell [] memory) scope finds h =
+      ap (λ o. scalar_of fields memories o (source.named (cell_word cell)) (written.memory_of w fields memory)) (cell_alone cell)
+      ∙ ap₂ (λ t m. TensorParam t [] m) (cell_same cell) (memory_same w fields count memories memory finds_memories h)
   form_same (TensorParam cell (d ∷ ds) memory) scope finds h =
       let s = both (are_controls kinds plainly scope (d ∷ ds)) _ h in
       let t = both (is_rank (length (d ∷ ds))) _ s.1 in
@@ -71,8 +72,9 @@ module _ (w : Words) (fields : List ConfigField) (r : Renaming) (finds_fields : 
   form_fine (ControlParam Index) scope finds h n = refl
   form_fine (ControlParam Truth) scope finds h n = refl
   form_fine (ControlParam Stride) scope finds h n = refl
-  form_fine (TensorParam I8 [] memory) scope finds h n = memory_fine w fields count memories memory _ finds_memories h
-  form_fine (TensorParam I32 [] memory) scope finds h n = memory_fine w fields count memories memory _ finds_memories h
+  form_fine (TensorParam cell [] memory) scope finds h n =
+      ap (λ o. scalar_faults fields memories o (source.named (cell_word cell)) n (written.memory_of w fields memory)) (cell_alone cell)
+      ∙ joined_fine _ _ (cell_fine cell n) (memory_fine w fields count memories memory _ finds_memories h)
   form_fine (TensorParam cell (d ∷ ds) memory) scope finds h n =
       let s = both (are_controls kinds plainly scope (d ∷ ds)) _ h in
       let t = both (is_rank (length (d ∷ ds))) _ s.1 in

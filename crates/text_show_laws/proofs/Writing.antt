@@ -1,5 +1,5 @@
 -- A well-formed procedure whose names are of the grammar can be written down.
-use Rattle.std.proofs.Common.{◌≡◌, ℕ, ℤ, pos, negsuc, zero, suc, ◌<◌, ◌≤◌, ◌==◌, nat_lt, Bool, true, false, not, ◌&&◌, ◌||◌, if◌then◌else◌, List, [], ◌∷◌, ◌++◌, length, Option, Some, None, slice_get, refl, sym, ap, subst, ◌∙◌, arith, eqb-true, true≢false, append_assoc, append-nil as append_nil}
+use Rattle.std.proofs.Common.{◌≡◌, ℕ, ℤ, pos, negsuc, ◌<◌, ◌≤◌, ◌==◌, nat_lt, Bool, true, false, not, ◌&&◌, ◌||◌, if◌then◌else◌, List, [], ◌∷◌, ◌++◌, length, Option, Some, None, slice_get, refl, sym, ap, subst, ◌∙◌, arith, eqb-true, true≢false, append_assoc}
 use Rattle.std.proofs.lemmas.Bool.Decides.{nat_tests}
 use Rattle.std.specs.List.{list_all}
 use Rattle.std.specs.Prelude.{int_le, int_lt}
@@ -7,16 +7,16 @@ use Rattle.exo_tree.specs.Tree as tree
 use Rattle.exo_tree.specs.Tree.{Kind, Cell, Index, Binder, Control, Lit, Var, Field, StrideOf, Neg, Add, Sub, Mul, Div, Mod, Condition, Flag, FieldFlag, Lt, Le, Gt, Ge, Eq, And, Or, Datum, Const, Read, Negated, Relu, Plus, Minus, Times, Select, Coord, At, Span, Argument, ControlArg, ConditionArg, Whole, Window, Statement, Assign, Reduce, Config, Pass, If, For, Alloc, View, Call, Block, end, next, ParamKind, ControlParam, TensorParam, WindowParam, Param, ConfigField, MemoryKind, Procedure, Program}
 use Rattle.exo_meaning.specs.Calls.{Callee}
 use Rattle.exo_meaning.specs.Run.{world_of, callee_in, kinds_of, roots_after}
-use Rattle.exo_meaning.specs.Units.{Sort, ControlName, BufferName, Scope, Reads, sort_in, with_name, param_sort, scope_of, scope_after, view_sort, spans, is_truth, is_number, is_flag, has_rank, has_dimension, has_cell, is_dense, is_empty, is_short, is_rank, plainly, with_fields, with_strides, with_both, is_literal_number, is_of_literals, field_kind, is_new, is_number_field, is_flag_field, is_control, are_controls, is_condition, is_access, is_datum, is_coord, is_window, is_of_kind, is_for_tensor, is_for_window, is_for, are_for, share_nothing_written, is_call, is_param_kind, are_params, is_write, is_block, is_statement, IsProcedure, AreProcedures, IsUnit}
+use Rattle.exo_meaning.specs.Units.{Sort, ControlName, BufferName, Scope, Reads, sort_in, with_name, param_sort, scope_of, scope_after, view_sort, spans, is_truth, is_number, is_flag, has_rank, has_dimension, has_cell, is_empty, is_short, is_rank, plainly, with_fields, with_strides, with_both, is_literal_number, is_of_literals, field_kind, is_new, is_number_field, is_flag_field, is_control, are_controls, is_condition, is_access, is_datum, is_coord, is_window, is_of_kind, is_for_tensor, is_for_window, is_for, are_for, is_call, is_param_kind, are_params, is_write, is_block, is_statement, IsProcedure, AreProcedures}
 use Rattle.text_show.specs.Layout.{Text}
 use Rattle.text_show.specs.Names.{unknown, names_of}
 use Rattle.text_show.specs.Words.{memory_name, callee_name}
 use Rattle.text_show_laws.specs.Names.{IsName, Each}
 use Rattle.text_show_laws.specs.Written.{has_span}
-use Rattle.text_show_laws.specs.Writable.{IsLiteral, HasNames, HasSome, IsSome, IsBound, IsField, IsMemory, IsControl, IsCondition, IsAccess, IsDatum, IsCoord, IsArgument, IsStored, IsStatement, IsBlock, IsParamKind, IsParam, IsWritable}
+use Rattle.text_show_laws.specs.Writable.{IsLiteral, HasNames, HasSome, IsSome, IsBound, IsField, IsControl, IsCondition, IsAccess, IsDatum, IsCoord, IsArgument, IsStored, IsStatement, IsBlock, IsParamKind, IsParam, IsWritable}
 use Rattle.text_show_laws.specs.Named.{IsNamedStatement, IsNamedBlock, IsNamedParam, IsNamedProcedure, IsNamedField, IsNamedMemory, AreNamed}
 use Rattle.text_show_laws.specs.Naming.{NamedUnitsAreWritable}
-use Rattle.text_show_laws.proofs.Scoped.{both, neither}
+use Rattle.text_show_laws.proofs.Scoped.{both}
 use Rattle.text_show_laws.proofs.Called.{AreCalled, ParamsCalled, called}
 use Rattle.text_show_laws.proofs.Standing.{there, got_below, get_left, AllStand, no_procedures, one_more}
 use Rattle.text_show_laws.proofs.Each.{each_at}

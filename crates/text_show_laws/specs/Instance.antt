@@ -1,6 +1,6 @@
 -- A closed unit with names of the grammar: a procedure that fills a window, one that calls it, and
 -- versions of both.
-use Rattle.std.specs.Prelude.{◌≡◌, ◌+◌, ℕ, pos, true, false, List, [], ◌∷◌, codes, Some, None}
+use Rattle.std.specs.Prelude.{◌≡◌, ◌+◌, ℕ, pos, true, false, List, [], ◌∷◌, codes, None}
 use Rattle.exo_tree.specs.Tree.{I32, Size, Binder, Lit, Var, Sub, At, Span, ControlArg, Window}
 use Rattle.exo_tree.specs.Tree.{Const}
 use Rattle.exo_tree.specs.Tree.{Assign, For, Call, Block, end, next, Param, ParamKind, ControlParam}

@@ -1,5 +1,4 @@
 -- Units whose names are all of the grammar, with templates that a text can hold.
-use Rattle.std.specs.Prelude.{List}
 use Rattle.exo_tree.specs.Tree.{Statement, Assign, Reduce, Config, Pass, If, For, Alloc, View, Call}
 use Rattle.exo_tree.specs.Tree.{Block, end, next, Param, Procedure, ConfigField, MemoryKind}
 use Rattle.exo_tree.specs.Tree.{Program}

@@ -4,7 +4,7 @@ use Rattle.std.proofs.Common.{subst, arith}
 use Rattle.std.proofs.Common.{◌⊎◌, inl, inr}
 use Rattle.std.specs.Prelude.{slice_get, option_and_then, IfSome, IsSome}
 use Rattle.exo_tree.specs.Tree.{Statement, If, For, Block, end, next, block, Binder, Control, Condition}
-use Rattle.exo_tree.specs.Context.{Context, Here, After, InLoop, InThen, InElse}
+use Rattle.exo_tree.specs.Context.{Context, After, InLoop, InThen, InElse}
 use Rattle.exo_tree.specs.Places.{Branch, Main, Else, Step, Path, Opened, parted, past, into, opened_in, opened}
 use Rattle.exo_tree.specs.Places.{from_body, first_of, statement_at}
 use Rattle.exo_tree.proofs.Openings.{around_by, with_rest}

@@ -1,6 +1,6 @@
 -- The names in scope at a place, as a walk finds them.
-use Rattle.std.specs.Prelude.{◌≡◌, List, [], ◌∷◌, Option, None, Some, IfSome}
-use Rattle.exo_tree.specs.Tree.{Statement, Block, end, next}
+use Rattle.std.specs.Prelude.{◌≡◌, List, [], ◌∷◌, Option, IfSome}
+use Rattle.exo_tree.specs.Tree.{Statement, Block, next}
 use Rattle.exo_tree.specs.Places.{Branch, Opened, into}
 use Rattle.exo_meaning.specs.Units.{Scope, scope_after}
 use Rattle.meaning_laws.specs.Sorted.{scope_at}

@@ -13,7 +13,7 @@ use crate::argument::in_arguments;
 use crate::findings::Findings;
 use crate::name::Names;
 use exo_modes::{Alias, ModeTable, root};
-use exo_tree::{Arg, Args, Id, Param, Params, ProcId, Unit};
+use exo_tree::{Arg, Args, Id, Param, ParamKind, Params, ProcId, Unit};
 
 /// What stands round a body: its unit, with the modes of its procedures.
 #[derive(Clone, Copy)]
@@ -62,8 +62,18 @@ impl<'u> Ground<'u> {
     }
 }
 
-/// Whether a later argument is of the same buffer as that of a parameter, and the callee writes one of
-/// the two parameters.
+/// Whether a parameter is a tensor with dimensions.
+fn is_whole(p: &Param) -> bool
+    ensures { result ≡ units.is_whole (parameter p.now).kind }
+{
+    match &p.kind {
+        ParamKind::Tensor(_, dims, _) => !(dims.len() == 0),
+        _ => false,
+    }
+}
+
+/// Whether a later argument is of the same buffer as that of a parameter, the callee writes one of
+/// the two parameters, and one of the two is a tensor with dimensions.
 fn is_shared(
     ground: &Ground,
     aliases: &[Alias],
@@ -83,10 +93,11 @@ fn is_shared(
     };
     let same = ground.same_root(buffer, ground.root_of(aliases, a));
     let written = ground.has_write_of(callee, p.binder.id, q.binder.id);
-    (same && written) || is_shared(ground, aliases, callee, p, buffer, params, args)
+    let whole = is_whole(p) || is_whole(q);
+    (same && (written && whole)) || is_shared(ground, aliases, callee, p, buffer, params, args)
 }
 
-/// Whether no two arguments are of one buffer of which the callee writes one.
+/// Whether no later argument is shared with one before it.
 fn share_nothing_written(
     ground: &Ground,
     aliases: &[Alias],

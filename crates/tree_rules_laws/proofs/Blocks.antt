@@ -1,13 +1,13 @@
 -- Blocks in which nothing, or nothing but names, is found.
-use Rattle.std.proofs.Common.{◌≡◌, ℕ, nat_lt, Bool, true, false, not, ◌&&◌, List, length, Option, Some, None, refl, sym, ap, ◌∙◌, true≢false}
+use Rattle.std.proofs.Common.{◌≡◌, ℕ, nat_lt, Bool, true, not, ◌&&◌, length, Option, Some, None, refl, sym, ap, ◌∙◌, true≢false}
 use Rattle.std.proofs.lemmas.Bool.{and_parts}
-use Rattle.exo_tree.specs.Tree.{Kind, Index, Binder, Control, Condition, Coord, Statement, Assign, Reduce, Config, Pass, If, For, Alloc}
+use Rattle.exo_tree.specs.Tree.{Kind, Index, Binder, Statement, Assign, Reduce, Config, Pass, If, For, Alloc}
 use Rattle.exo_tree.specs.Tree.{View, Call, Block, end, next}
 use Rattle.exo_meaning.specs.Calls.{Callee}
 use Rattle.exo_meaning.specs.Run.{roots_after}
 use Rattle.exo_meaning.specs.Units.{Sort, Scope, ControlName, sort_in, has_rank, with_name, view_sort, scope_after, is_new}
-use Rattle.exo_meaning.specs.Units.{is_empty, is_short, is_rank, spans, plainly, with_fields, is_control, are_controls}
-use Rattle.exo_meaning.specs.Units.{is_condition, is_window, is_block, is_statement}
+use Rattle.exo_meaning.specs.Units.{is_empty, is_short, is_rank, spans, plainly, with_fields, is_control}
+use Rattle.exo_meaning.specs.Units.{is_condition, is_block, is_statement}
 use Rattle.tree_rules.specs.declared.findings.Findings.{Findings}
 use Rattle.tree_rules.specs.Classes.{both, all_of, rule, limit, use_of}
 use Rattle.tree_rules.specs.Findings.{found_in_binder, with_view, scope_behind, findings_of_control, findings_of_controls}

@@ -1,10 +1,10 @@
 -- What is found in `for i in seq(0, n): x[i] = 1`, where `n` is a size and `x` has n cells, and in
 -- the same with one thing changed.
 use Rattle.std.proofs.Common.{◌≡◌, ◌^◌, ℕ, pos, true, false, List, [], ◌∷◌, Option, None, refl, codes}
-use Rattle.exo_tree.specs.Tree.{Cell, I32, Kind, Size, Binder, Control, Lit, Var, Mul, Div, Lt, Const, Assign, For}
+use Rattle.exo_tree.specs.Tree.{I32, Kind, Size, Control, Lit, Var, Mul, Div, Lt, Const, Assign, For}
 use Rattle.exo_tree.specs.Tree.{Block, end, next, Param, ControlParam, TensorParam}
 use Rattle.exo_meaning.specs.Calls.{Callee}
-use Rattle.exo_meaning.specs.Units.{Scope, scope_of, plainly, with_fields, is_control, is_condition, is_block}
+use Rattle.exo_meaning.specs.Units.{scope_of, plainly, with_fields, is_control, is_condition, is_block}
 use Rattle.tree_rules.specs.declared.findings.Findings.{Findings}
 use Rattle.tree_rules.specs.Classes.{fine}
 use Rattle.tree_rules.specs.Findings.{findings_of_block}

@@ -1,15 +1,15 @@
 -- What a step makes is a procedure of the unit.
-use Rattle.std.proofs.Common.{◌≡◌, ◌^◌, ◌+◌, ℕ, nat_lt, nat_le, Bool, true, not, ◌&&◌, List, [], ◌∷◌, length, refl, sym, ap, ap₂, ◌∙◌, arith}
+use Rattle.std.proofs.Common.{◌≡◌, ◌^◌, ◌+◌, ℕ, nat_lt, nat_le, true, not, ◌&&◌, List, [], ◌∷◌, length, refl, ap, ap₂, ◌∙◌, arith}
 use Rattle.std.specs.List.{list_all}
 use Rattle.std.proofs.lemmas.Bool.{and_parts, leb-true, ltb-true, lt-ltb}
-use Rattle.exo_tree.specs.Tree.{Param, Procedure, Program}
+use Rattle.exo_tree.specs.Tree.{Param}
 use Rattle.exo_tree.specs.Nodes.{nodes_in}
 use Rattle.exo_meaning.specs.Run.{program_world}
-use Rattle.exo_meaning.specs.Units.{scope_of, is_empty, is_short, is_condition, with_both, are_params, is_template, bound_ids, are_distinct, levels, field_kind, IsProcedure}
+use Rattle.exo_meaning.specs.Units.{scope_of, is_empty, is_short, is_condition, with_both, are_params, is_template, bound_ids, are_distinct, levels, field_kind}
 use Rattle.tree_rules.specs.Classes.{both, rule, limit}
 use Rattle.tree_rules.specs.Findings.{is_small_body, findings_of_block, findings_of_body}
 use Rattle.tree_rules_laws.specs.Versions.{IsProcedureOf, FoundIsProcedure, KeptLaw}
-use Rattle.tree_rules_laws.proofs.Parts.{Obeys, kept_parts, split}
+use Rattle.tree_rules_laws.proofs.Parts.{kept_parts, split}
 use Rattle.tree_rules_laws.proofs.Blocks.{block_obeys, block_is}
 use Rattle.tree_rules_laws.proofs.Versions.{procedure_law, version_law}
 

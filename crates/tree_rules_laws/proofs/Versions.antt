@@ -1,13 +1,13 @@
 -- Units with one procedure more.
-use Rattle.std.proofs.Common.{◌≡◌, ◌^◌, ℕ, zero, suc, nat_lt, List, [], ◌∷◌, ◌++◌, length, Option, Some, None, Bool, true, not, ◌&&◌, refl, sym, ap, ◌∙◌, subst, true≢false, arith}
+use Rattle.std.proofs.Common.{◌≡◌, ◌^◌, ℕ, zero, suc, nat_lt, List, [], ◌∷◌, ◌++◌, length, Option, Some, None, true, not, ◌&&◌, refl, sym, ap, ◌∙◌, subst, true≢false, arith}
 use Rattle.std.specs.Prelude.{slice_get}
 use Rattle.std.proofs.lemmas.Bool.{and_parts, and_from}
 use Rattle.std.proofs.lemmas.List.{length-append}
-use Rattle.exo_tree.specs.Tree.{Kind, Index, Statement, Assign, Reduce, Config, Pass, If, For, Alloc, View, Call, Block, end, next, Procedure, ConfigField, Program}
+use Rattle.exo_tree.specs.Tree.{Kind, Index, Statement, Assign, Reduce, Config, Pass, If, For, Alloc, View, Call, Block, end, next, Procedure, ConfigField}
 use Rattle.exo_meaning.specs.Calls.{Callee}
 use Rattle.exo_meaning.specs.Run.{callees, callee_in, world_of, kinds_of, roots_after}
-use Rattle.exo_meaning.specs.Units.{Scope, ControlName, with_name, scope_of, scope_after, is_empty, is_short, plainly, with_fields, is_control, is_condition, is_call, is_new, is_block, is_statement, IsProcedure, field_kind, AreProcedures, IsUnit}
-use Rattle.tree_rules_laws.specs.Versions.{with_version, IsProcedureOf, ProcedureLaw, VersionLaw}
+use Rattle.exo_meaning.specs.Units.{Scope, ControlName, with_name, scope_of, scope_after, is_empty, is_short, plainly, with_fields, is_control, is_condition, is_call, is_new, is_block, is_statement, IsProcedure, field_kind, AreProcedures}
+use Rattle.tree_rules_laws.specs.Versions.{ProcedureLaw, VersionLaw}
 
 nothing_there : {A : Type 0} {a : A} → None ≡ Some a → ⊥
 nothing_there e = cc

@@ -1,10 +1,10 @@
 -- Well-formed units with one procedure more.
-use Rattle.std.specs.Prelude.{◌≡◌, ◌^◌, ◌+◌, ℕ, suc, nat_lt, nat_le, Bool, true, List, [], ◌∷◌, ◌++◌, length, Some, slice_get}
+use Rattle.std.specs.Prelude.{◌≡◌, ◌^◌, ◌+◌, ℕ, suc, nat_lt, nat_le, Bool, true, [], ◌∷◌, ◌++◌, length, Some, slice_get}
 use Rattle.exo_tree.specs.Tree.{Procedure, Program}
 use Rattle.exo_meaning.specs.Run.{program_world}
 use Rattle.exo_meaning.specs.Units.{IsProcedure, IsUnit, field_kind}
-use Rattle.tree_rules.specs.Classes.{all_kept, all_but_names}
-use Rattle.tree_rules.specs.Findings.{findings_of_version, findings_of_body}
+use Rattle.tree_rules.specs.Classes.{all_kept}
+use Rattle.tree_rules.specs.Findings.{findings_of_version}
 
 -- a unit with one procedure more, behind those that it has
 abbrev pub with_version : Program → Procedure → Program

@@ -1,4 +1,5 @@
 pub mod Listed
+pub mod Made
 pub mod Shown
 pub mod Opening
 pub mod Listing

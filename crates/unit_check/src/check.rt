@@ -5,6 +5,8 @@ ghost use Rattle.exo_tree.specs.PlainUnit.{program};
 ghost use Rattle.exo_meaning.specs.Units.{IsUnit};
 ghost use Rattle.meaning_laws.specs.UnitFields.{unit_writes};
 ghost use Rattle.config_state.specs.FieldSets.{IsTable};
+ghost use Rattle.exo_modes.specs.Marks.{modes_of};
+ghost use Rattle.exo_modes.specs.Seen.{table_says};
 ghost use Rattle.affine_forms.specs.Affine.{HasNoIntegerPoint};
 ghost use Rattle.bounds_check.specs.Obligations.{Fault, obligations_of};
 ghost use Rattle.unit_check.specs.declared.refused.Why.TheVariants.{Memory};
@@ -16,8 +18,9 @@ ghost use Rattle.unit_check.specs.Faults.{NothingFaults};
 use crate::laws::shown_procedures_do_not_fault;
 use crate::refused::{UnitRefused, Why};
 use crate::showing::show;
-use bounds_check::{CheckError, obligations_with_writes};
+use bounds_check::{CheckError, obligations_with_tables};
 use config_state::{FieldTable, written_table};
+use exo_modes::ModeTable;
 use exo_tree::{Path, ProcId, Unit};
 use ob_check::{Cache, Gate};
 use std::alloc::Global;
@@ -66,24 +69,27 @@ fn not_shown(p: ProcId, why: Why) -> UnitRefused
     }
 }
 
-/// Discharges the obligations of a procedure, and counts them. The table says which fields each procedure may write.
+/// Discharges the obligations of a procedure, and counts them. The tables say which fields each procedure may write, and how it
+/// touches its parameters.
 fn check_procedure<R: Threads + Sync, G: Gate>(
     rt: &R,
     alloc: Global,
     unit: &Unit,
     writes: &FieldTable,
+    modes: &ModeTable,
     p: ProcId,
     cache: &mut Cache,
     gate: &G,
 ) -> Result<u64, UnitRefused>
     requires unit { IsUnit (program unit.now) }
     requires table { IsTable (length (program unit.now).fields) (unit_writes (program unit.now).procedures) writes.now }
+    requires modes { table_says modes.now ≡ modes_of (program unit.now) }
     ensures exact { (q : Procedure) → slice_get (program unit.now).procedures p.0 ≡ Some q → Answers result p.0 (cause_of (program unit.now) q) }
     ensures count { (q : Procedure) → slice_get (program unit.now).procedures p.0 ≡ Some q → IfOk result (λ n. n ≡ length (obligations_of (program unit.now) q)) }
     ensures few { IfOk result (λ n. n ≤ 65536) }
     ensures shown { (q : Procedure) → slice_get (program unit.now).procedures p.0 ≡ Some q → IfOk result (λ n. All (λ o. HasNoIntegerPoint o.system) (obligations_of (program unit.now) q)) }
 {
-    let obs = match obligations_with_writes(alloc, unit, writes, p) {
+    let obs = match obligations_with_tables(alloc, unit, writes, modes, p) {
         Ok(list) => list,
         Err(e) => return Err(not_listed(p, e)),
     };
@@ -115,9 +121,22 @@ pub fn check_unit<R: Threads + Sync, G: Gate>(
         Ok(table) => table,
         Err(_) => return Err(out_of_memory(ProcId(0))),
     };
+    let modes = match ModeTable::new(alloc, unit) {
+        Ok(table) => table,
+        Err(_) => return Err(out_of_memory(ProcId(0))),
+    };
     let mut count = 0;
     for k in 0..unit.procs.len() {
-        count += check_procedure(rt, alloc, unit, &writes, ProcId(k as u32), cache, gate)?;
+        count += check_procedure(
+            rt,
+            alloc,
+            unit,
+            &writes,
+            &modes,
+            ProcId(k as u32),
+            cache,
+            gate,
+        )?;
     }
     Ok(count)
 }

@@ -11,6 +11,7 @@ pub fn shown_procedures_do_not_fault()
     check_claims_laws::laws::claims_are_formed();
     check_claims_laws::laws::claims_suffice();
     check_facts_laws::laws::shown_conditions_hold();
+    effect_laws::laws::pairs_are_apart();
 }
 
 /// No admissible input makes any procedure of a well-formed unit fault where all that it owes is shown.

@@ -1,38 +1,25 @@
-use Rattle.std.proofs.Common.{◌≡◌, ◌++◌, map, Ok, Err, sym, ap, ◌∙◌, subst, arith}
+use Rattle.std.proofs.Common.{◌≡◌, ◌++◌, map, sym, ap, ◌∙◌, subst, arith}
 use Rattle.std.proofs.lemmas.List.{map-append}
 use Rattle.exo_tree.specs.PlainProcedure.{procedure}
 use Rattle.exo_tree.specs.PlainUnit.{program}
-use Rattle.check_facts.specs.Contexts.{IsPlaceOf}
-use Rattle.affine_places.specs.Roots.{roots_of}
 use Rattle.check_claims.specs.PlainClaim.{placed}
-use Rattle.bounds_check.specs.Outcomes.{Owes}
 use Rattle.bounds_check.specs.Paths.{same_path}
-use Rattle.bounds_check.proofs.WellFormed.{extents_there}
 use Rattle.bounds_check.proofs.Groups.{Onward, same_self, counted_within, counted_some, counted_pass, onward_all, onward_more, onward_refused, onward_none, rules_here, place_of_first, none_left}
 use Rattle.bounds_check.proofs.list.obligations_of_claims.Goals as goal
-
-pub of-requires : goal.of-requires
-of-requires c = extents_there (procedure c.args.proc.now) c.requires.walked
 
 pub loop-first-init : goal.loop-first-init
 loop-first-init c = record {
   goes = c.new-cursor.ensures;
-  left = onward_all (program c.args.unit.now) (procedure c.args.proc.now) c.new-out.result (map placed c.args.claims.now) c.new-out.ensures c.requires.claims c.requires.owable;
+  left = onward_all (program c.args.site.now.unit.now) (procedure c.args.site.now.proc.now) c.new-out.result (map placed c.args.claims.now) c.new-out.ensures c.requires.claims c.requires.owable;
 }
 
 pub split_at-requires : goal.split_at-requires
 split_at-requires c = let h = counted_within placed (λ d. same_path d.place c.in-Some.first.now.place) c.loop-first.rest.now in omega (arith, h, c.count_at.ensures)
 
-pub put_claims-requires-clause-fields : goal.put_claims-requires-clause-fields
-put_claims-requires-clause-fields c = ap (λ it. it.0.fields) c.loop-first.invariant.goes
-
-pub put_claims-requires-clause-roots : goal.put_claims-requires-clause-roots
-put_claims-requires-clause-roots c = c.in_ok-roots.ensures ∙ ap (λ it. roots_of it.1) (sym c.loop-first.invariant.goes)
-
 pub put_claims-requires-clause-place : goal.put_claims-requires-clause-place
 put_claims-requires-clause-place c =
-    subst (λ it. IsPlaceOf c.in-Some.first.now.place it.1) (sym c.loop-first.invariant.goes)
-    (place_of_first placed (procedure c.args.proc.now) c.loop-first.rest.now c.in-Some.first.now (sym c.in-Some.ensures.value) c.loop-first.invariant.left.owable)
+    place_of_first placed (procedure c.args.site.now.proc.now) c.loop-first.rest.now c.in-Some.first.now
+    (sym c.in-Some.ensures.value) c.loop-first.invariant.left.owable
 
 pub put_claims-requires-clause-some : goal.put_claims-requires-clause-some
 put_claims-requires-clause-some c =
@@ -48,15 +35,15 @@ put_claims-requires-clause-rules c =
     let here = c.split_at.result.0.now in
     let others = c.split_at.result.1.now in
     let split : map placed c.loop-first.rest.now ≡ map placed here ++ map placed others = ap (map placed) c.split_at.ensures.by_index.0 ∙ map-append placed here others in
-    rules_here (program c.args.unit.now) (procedure c.args.proc.now) c.loop-first.out (map placed c.loop-first.rest.now) (map placed here) (map placed others) c.loop-first.invariant.left split
+    rules_here (program c.args.site.now.unit.now) (procedure c.args.site.now.proc.now) c.loop-first.out (map placed c.loop-first.rest.now) (map placed here) (map placed others) c.loop-first.invariant.left split
 
 pub returns-in_err-put_claims : goal.returns-in_err-put_claims
 returns-in_err-put_claims c =
     let here = c.split_at.result.0.now in
     let others = c.split_at.result.1.now in
     let split : map placed c.loop-first.rest.now ≡ map placed here ++ map placed others = ap (map placed) c.split_at.ensures.by_index.0 ∙ map-append placed here others in
-    onward_refused (program c.args.unit.now) (procedure c.args.proc.now) c.loop-first.out (map placed c.loop-first.rest.now) (map placed here) (map placed others) c.loop-first.invariant.left split c.from_residual-in_err-put_claims.result c.in_err-put_claims.field-0.0 c.from_residual-in_err-put_claims.ensures.1
-    (subst (λ it. Owes {A = Unit {0}} (Err c.in_err-put_claims.field-0.0) it.0 it.1 (map placed here) c.loop-first.out c.put_claims.new.out) c.loop-first.invariant.goes c.in_err-put_claims.ensures.owes)
+    onward_refused (program c.args.site.now.unit.now) (procedure c.args.site.now.proc.now) c.loop-first.out (map placed c.loop-first.rest.now) (map placed here) (map placed others) c.loop-first.invariant.left split c.from_residual.result c.in_err-put_claims.field-0.0 c.from_residual.ensures.1
+    c.in_err-put_claims.ensures.owes
 
 pub loop-first-smaller : goal.loop-first-smaller
 loop-first-smaller c =
@@ -72,14 +59,14 @@ loop-first-preserved c =
     record {
       goes = c.in_ok-put_claims.ensures.same ∙ c.loop-first.invariant.goes;
       left =
-          onward_more (program c.args.unit.now) (procedure c.args.proc.now) c.loop-first.out (map placed c.loop-first.rest.now) (map placed here) (map placed others) c.loop-first.invariant.left split c.put_claims.new.out
-          (subst (λ it. Owes (Ok (tt {0})) it.0 it.1 (map placed here) c.loop-first.out c.put_claims.new.out) c.loop-first.invariant.goes c.in_ok-put_claims.ensures.owes);
+          onward_more (program c.args.site.now.unit.now) (procedure c.args.site.now.proc.now) c.loop-first.out (map placed c.loop-first.rest.now) (map placed here) (map placed others) c.loop-first.invariant.left split c.put_claims.new.out
+          c.in_ok-put_claims.ensures.owes;
     }
 
 pub returns : goal.returns
 returns c =
-    let u = program c.args.unit.now in
-    let p = procedure c.args.proc.now in
+    let u = program c.args.site.now.unit.now in
+    let p = procedure c.args.site.now.proc.now in
     let left = subst (λ xs. Onward u p c.loop-first.out (map placed xs)) (none_left c.loop-first.rest.now (sym c.in_default.ensures.value)) c.loop-first.invariant.left in
     let w = onward_none u p c.loop-first.out left in
     (w.0, c.into_items.ensures ∙ w.1)

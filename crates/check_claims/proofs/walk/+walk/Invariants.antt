@@ -6,6 +6,7 @@ use Rattle.exo_tree.specs.Nodes.{nodes, nodes_of}
 use Rattle.exo_tree.specs.PlainStatement.{statement}
 use Rattle.exo_tree.specs.PlainUnit.{program}
 use Rattle.exo_meaning.specs.Units.{levels}
+use Rattle.affine_places.specs.Seen.{roots_in}
 use Rattle.text_show.specs.Seen.{words_in}
 use Rattle.check_claims.specs.Claims.{block_claims}
 use Rattle.check_claims.specs.PlainClaim.{placed}
@@ -15,7 +16,7 @@ use Rattle.check_claims.proofs.walk.+walk.Given as goal
 
 abbrev pub invariant-put_block-loop-k : goal.invariant-put_block-loop-k
 invariant-put_block-loop-k l =
-    let claims = block_claims (words_in l.site.words.now) (program l.site.unit.now) (extents_in l.site.extents.now) l.outer (branch_taken l.branch) in
+    let claims = block_claims (words_in l.site.words.now) (program l.site.unit.now) (extents_in l.site.extents.now) (roots_in l.site.roots.now) l.outer (branch_taken l.branch) in
     record {
       made : map placed l.out.items ++ claims l.k (block (drop l.k l.b)) ≡ map placed l.initial.out.items ++ claims 0 (block l.b);
       inside : is_short_inside (block (drop l.k l.b)) ≡ true;

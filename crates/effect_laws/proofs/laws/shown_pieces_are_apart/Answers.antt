@@ -10,6 +10,4 @@ returns c = apart_is_met (record {
   unbound = c.free_names_stand_for_nothing.ensures;
   contexts = c.contexts_hold.ensures;
   normal = c.normal_is_exact.ensures;
-  covers = c.accesses_cover.ensures;
-  clear = c.shown_conflicts_are_clear.ensures;
-})
+}) c.accesses_cover.ensures c.shown_conflicts_are_clear.ensures

@@ -4,4 +4,4 @@ use Rattle.exo_types.specs.ArgumentRules.{is_passed}
 use Rattle.exo_types.proofs.call.is_passed.Given as goal
 
 abbrev pub invariant-loop-before : goal.invariant-loop-before
-invariant-loop-before l = is_passed l.now.written l.now.root (drop l.before-index l.passed) ≡ is_passed l.now.written l.now.root l.passed
+invariant-loop-before l = is_passed l.now (drop l.before-index l.passed) ≡ is_passed l.now l.passed

@@ -6,6 +6,7 @@ use Rattle.rules_names.specs.declared.error.TypeKind.TheVariants.{SharedArgument
 use Rattle.rules_names.specs.Faults.{charged, unless}
 use Rattle.exo_modes.specs.Aliases.{roots_in}
 use Rattle.exo_modes.specs.Seen.{row_writes}
+use Rattle.exo_types.specs.declared.call.Passed.{Passed}
 use Rattle.exo_types.specs.ArgumentRules.{argument_faults, arguments_faults, is_passed}
 use Rattle.exo_types.proofs.Calls.{none_broken, one_more, spaced_read, nothing_spaced}
 use Rattle.exo_types.proofs.Gone.{gone_same, gone_next, gone_all}
@@ -44,17 +45,19 @@ loop-k-preserved c =
     let p = parameter c.index-params-k.result in
     let a = plain_argument c.index-arguments-k.result in
     let own = argument_faults fields scope p.kind c.loop-k.next a in
-    let shared = c.is_passed-shared.ensures ∙ ap (is_passed c.has_write.result c.root_of.result) c.deref.ensures.value in
+    let now : Passed = record { root = c.root_of.result; written = c.has_write.result; whole = c.is_whole.result } in
+    let shared = c.is_passed-shared.ensures ∙ ap (is_passed now) c.deref.ensures.value in
     let shares = c.unless-shares.ensures ∙ ap (λ b. charged (unless (not b) SharedArgument c.loop-k.next)) shared in
     record {
       count = omega (arith, w, c.loop-k.invariant.count, c.test_argument-end.ensures.end);
       gone =
-          gone_next _ _ (own ++ unless (not (is_passed c.has_write.result c.root_of.result c.loop-k.passed.items)) SharedArgument c.loop-k.next) _ _ _
+          gone_next _ _ (own ++ unless (not (is_passed now c.loop-k.passed.items)) SharedArgument c.loop-k.next) _ _ _
           (λ done e. c.and-charge.ensures done _ e (c.and.ensures own _ c.test_argument-end.ensures.charge shares))
-          (one_more fields (row_writes c.args.callee.writes.now) scope (roots_in c.args.aliases.now) c.loop-k.passed.items c.push.new.self.items c.loop-k.next (c.test_argument-end.result.1 + 1) p _ (map parameter (drop (c.loop-k.k + 1) c.as_slice-params.result.now)) a _ (map plain_argument (drop (c.loop-k.k + 1) c.args.arguments.now)) c.root_of.result c.has_write.result
+          (one_more fields (row_writes c.args.callee.writes.now) scope (roots_in c.args.aliases.now) c.loop-k.passed.items c.push.new.self.items c.loop-k.next (c.test_argument-end.result.1 + 1) p _ (map parameter (drop (c.loop-k.k + 1) c.as_slice-params.result.now)) a _ (map plain_argument (drop (c.loop-k.k + 1) c.args.arguments.now)) now
           (ap (map parameter) (drop_read c.as_slice-params.result.now c.loop-k.k c.index-params-k.result c.index-params-k.is g))
           (ap (map plain_argument) (drop_read c.args.arguments.now c.loop-k.k c.index-arguments-k.result c.index-arguments-k.is h))
-          c.root_of.ensures c.has_write.ensures c.in_ok-push.ensures.items (ap (λ k. k + 1) c.test_argument-end.ensures.end))
+          (λ i. record { root = c.root_of.ensures i; written = c.has_write.ensures i; whole = c.is_whole.ensures i })
+          c.in_ok-push.ensures.items (ap (λ k. k + 1) c.test_argument-end.ensures.end))
           c.loop-k.invariant.gone;
     }
 

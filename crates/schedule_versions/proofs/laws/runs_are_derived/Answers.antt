@@ -14,6 +14,7 @@ returns c =
         formed = c.claims_are_formed.ensures;
         suffice = c.claims_suffice_here.ensures;
         shown = c.shown_conditions_hold.ensures;
+        pairs = c.pairs_are_apart.ensures;
       };
       points = c.shown_systems_have_no_point.ensures;
       kept = c.proposals_are_kept.ensures;

@@ -4,10 +4,8 @@ use Rattle.affine_forms.specs.Outcomes.{IsWide}
 use Rattle.affine_systems.specs.Outcomes.{plain_obligation}
 use Rattle.check_facts.specs.Contexts.{context_fits}
 use Rattle.exo_conflicts.specs.Outcomes.{Conflicting}
-use Rattle.cursor_forward.specs.PlainProposal.{cause_of}
 use Rattle.step_rules.specs.Rule.{Need, Apart}
 use Rattle.step_rules.specs.Owing.{owed_for}
-use Rattle.step_needs.specs.Outcomes.{IsCause}
 use Rattle.step_needs.specs.Conflicts.{conflict_fits}
 use Rattle.step_needs.specs.Owing.{target_in, Puts}
 use Rattle.step_needs.specs.PlainNeed.{plain_conflict}
@@ -31,8 +29,8 @@ returns-in_err-owed-clause-puts c n m h =
     c.from_residual-in_err-owed.ensures.1
     (listing_there t k place path same.0 (λ l. Conflicting {A = Unit {0}} (Err e) (conflict_fits t k) l) (c.in_err-owed.ensures n)))
 
-pub returns-in-Ok-clause-puts : goal.returns-in-Ok-clause-puts
-returns-in-Ok-clause-puts c n m h =
+pub returns-clause-puts : goal.returns-clause-puts
+returns-clause-puts c n m h =
     let t = target_in (seen c.args.site.now) n in
     let k = plain_conflict c.args.k.now in
     let place = c.place_in-place.result in
@@ -44,10 +42,10 @@ returns-in-Ok-clause-puts c n m h =
     let owes = conflicts_owed t path k there os
     (listing_there t k place path same.0 (λ l. Conflicting (Ok os) (conflict_fits t k) l) (c.in_ok-owed.ensures n)) in
     subst (λ (x : Need). (why t x c.args.out.now ≡ None) × (c.push_all.new.self ≡ c.args.out.now ++ owed_for t x)) (sym h)
-    (puts_systems t (Apart path k) c.args.out.now (map plain_obligation os.items) owes c.push_all.new.self c.in-Ok.ensures)
+    (puts_systems t (Apart path k) c.args.out.now (map plain_obligation os.items) owes c.push_all.new.self c.in_ok-push_all.ensures)
 
-pub returns-in-Err-clause-puts : goal.returns-in-Err-clause-puts
-returns-in-Err-clause-puts c n m h =
+pub returns-in_err-push_all-clause-puts : goal.returns-in_err-push_all-clause-puts
+returns-in_err-push_all-clause-puts c n m h =
     let t = target_in (seen c.args.site.now) n in
     let k = plain_conflict c.args.k.now in
     let place = c.place_in-place.result in
@@ -58,9 +56,10 @@ returns-in-Err-clause-puts c n m h =
     let os = c.in_ok-owed.owed in
     let owes = conflicts_owed t path k there os
     (listing_there t k place path same.0 (λ l. Conflicting (Ok os) (conflict_fits t k) l) (c.in_ok-owed.ensures n)) in
-    subst (λ (x : Need). IsCause (why t x c.args.out.now) (cause_of c.refusal.result)) (sym h)
-    (subst (IsCause (why t (Apart path k) c.args.out.now)) (sym c.refusal.ensures)
-    (refused_list t (Apart path k) c.args.out.now (map plain_obligation os.items) owes c.in-Err.e c.push_all.new.self c.in-Err.ensures))
+    subst (λ (x : Need). Puts c.from_residual-in_err-push_all.result t x c.args.out.now c.push_all.new.self) (sym h)
+    (refused_list t (Apart path k) c.args.out.now (map plain_obligation os.items) owes
+    c.from_residual-in_err-push_all.result c.in_err-push_all.field-0.0 c.push_all.new.self
+    c.from_residual-in_err-push_all.ensures.1 c.in_err-push_all.ensures)
 
 pub returns-in_err-at-clause-puts : goal.returns-in_err-at-clause-puts
 returns-in_err-at-clause-puts c n m h =

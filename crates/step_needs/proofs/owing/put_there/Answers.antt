@@ -13,12 +13,11 @@ use Rattle.text_show.specs.Layout.{Text}
 use Rattle.text_show.specs.Words.{Words}
 use Rattle.step_rules.specs.Rule.{Says}
 use Rattle.step_rules.specs.Owing.{condition_of, fact_text}
-use Rattle.step_needs.specs.Outcomes.{IsCause}
 use Rattle.step_needs.specs.Owing.{said, text_by}
 use Rattle.step_needs.specs.PlainNeed.{plain_fact}
 use Rattle.step_needs.proofs.OneNeed.{formula_read, fits_read, all_fit_where, claim_read, told}
 use Rattle.step_needs.proofs.OneNeed.{refused_form, refused_systems, refused_memory, refused_list, puts_systems, all_owed}
-use Rattle.step_needs.proofs.OneNeed.{text_said, why}
+use Rattle.step_needs.proofs.OneNeed.{text_said}
 use Rattle.step_needs.proofs.owing.put_there.Goals as goal
 
 -- the formula is that of the condition, whose numbers fit
@@ -62,8 +61,8 @@ returns-in_err-owed c t e f g w h k =
     (subst (λ (s : Stated). stating.IsRefusal c.in_err-owed.field-0.0 s) same c.in_err-owed.ensures.exact)
     (all_fit_where t path fact at.fields.now (roots_in at.roots.now) at.facts.now e f g true k made.0)
 
-pub returns-in-Ok : goal.returns-in-Ok
-returns-in-Ok c t e f g w h k =
+pub returns-in_err-push_all : goal.returns-in_err-push_all
+returns-in_err-push_all c t e f g w h k =
     let at = c.args.there.now in
     let fact = plain_fact c.args.fact.now in
     let path = c.args.path.now in
@@ -78,7 +77,9 @@ returns-in-Ok c t e f g w h k =
     let owes =
     subst (λ (s : Stated). stating.AreOwed os s (fact_text t fact) path) same
     (subst (λ (x : Text). stating.AreOwed os (stated c.args.context.now (plain_formula c.in_ok-claim.claim)) x path) says c.in_ok-owed.ensures.exact) in
-    puts_systems t (Says path fact) c.args.out.now (map plain_obligation os) (all_owed t path fact os owes fits) c.push_all.new.self c.in-Ok.ensures
+    refused_list t (Says path fact) c.args.out.now (map plain_obligation os) (all_owed t path fact os owes fits)
+    c.from_residual-in_err-push_all.result c.in_err-push_all.field-0.0 c.push_all.new.self
+    c.from_residual-in_err-push_all.ensures.1 c.in_err-push_all.ensures
 
 pub returns : goal.returns
 returns c t e f g w h k =
@@ -96,5 +97,4 @@ returns c t e f g w h k =
     let owes =
     subst (λ (s : Stated). stating.AreOwed os s (fact_text t fact) path) same
     (subst (λ (x : Text). stating.AreOwed os (stated c.args.context.now (plain_formula c.in_ok-claim.claim)) x path) says c.in_ok-owed.ensures.exact) in
-    subst (IsCause (why t (Says path fact) c.args.out.now)) (sym c.refusal.ensures)
-    (refused_list t (Says path fact) c.args.out.now (map plain_obligation os) (all_owed t path fact os owes fits) c.in-Err.e c.push_all.new.self c.in-Err.ensures)
+    puts_systems t (Says path fact) c.args.out.now (map plain_obligation os) (all_owed t path fact os owes fits) c.push_all.new.self c.in_ok-push_all.ensures

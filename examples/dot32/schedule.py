@@ -1,0 +1,2 @@
+p = unroll_loop(dot, 'l')
+emit(p)
