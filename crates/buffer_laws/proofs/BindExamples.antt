@@ -12,7 +12,7 @@ use Rattle.exo_meaning.specs.Units.{scope_of}
 use Rattle.meaning_laws.specs.Context.{ComesTo}
 use Rattle.meaning_laws.specs.Copies.{IsFree}
 use Rattle.meaning_laws.specs.Sorted.{MayRun}
-use Rattle.scope_laws.specs.Opened.{MayLeave}
+use Rattle.place_laws.specs.Scope.Opened.{MayLeave}
 use Rattle.buffer_laws.specs.Bound.{Hole, Top, InPlus, filled, stores, only_statement, bound, IsShort}
 use Rattle.buffer_laws.specs.BoundAtPlaces.{IsBufferIn, ReadsCell}
 use Rattle.buffer_laws.specs.Buffers.{is_buffer}

@@ -19,7 +19,7 @@ use Rattle.exo_meaning.proofs.Frame.{or_parts}
 use Rattle.exo_meaning.proofs.Ignored.{numbers_same, run_alike}
 use Rattle.meaning_laws.proofs.Parts.{then_gives, map_gives, some_injective, both_some}
 use Rattle.meaning_laws.proofs.Refined.{state_same, through}
-use Rattle.scope_laws.proofs.Opened.{leaving_refines}
+use Rattle.place_laws.proofs.OfScope.Opened.{leaving_refines}
 use Rattle.buffer_laws.specs.Buffers.{Buffer, allocation, is_buffer}
 use Rattle.buffer_laws.specs.Bound.{Hole, Top, InNegated, InRelu, InPlus, InMinus, InTimes, PlusIn}
 use Rattle.buffer_laws.specs.Bound.{MinusIn, TimesIn, InFirst, InSecond, InThird, InFourth, filled}

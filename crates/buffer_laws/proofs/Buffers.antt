@@ -19,8 +19,8 @@ use Rattle.meaning_laws.proofs.Refined.{state_same, through}
 use Rattle.meaning_laws.proofs.Replace.{where_gives}
 use Rattle.meaning_laws.proofs.SameRuns.{same_runs_refine}
 use Rattle.meaning_laws.proofs.WellFormed.{well_scoped}
-use Rattle.scope_laws.specs.Scopes.{HasNone}
-use Rattle.scope_laws.proofs.Opened.{leaving_refines}
+use Rattle.place_laws.specs.Scope.Scopes.{HasNone}
+use Rattle.place_laws.proofs.OfScope.Opened.{leaving_refines}
 use Rattle.buffer_laws.specs.Buffers.{Buffer, allocation, only_buffer, is_buffer, MemoryLaw}
 use Rattle.buffer_laws.specs.Buffers.{DeleteLaw}
 

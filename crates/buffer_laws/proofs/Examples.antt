@@ -28,7 +28,7 @@ use Rattle.meaning_laws.specs.Sorted.{CellsFit}
 use Rattle.meaning_laws.proofs.Swaps.{swap, swap_moves}
 use Rattle.meaning_laws.proofs.Replace.{unit_respects}
 use Rattle.inplace_laws.specs.Along.{SameAlong}
-use Rattle.scope_laws.specs.Scopes.{HasNone}
+use Rattle.place_laws.specs.Scope.Scopes.{HasNone}
 use Rattle.buffer_laws.specs.Buffers.{Buffer, is_still_used, only_buffer, in_memory, is_buffer}
 use Rattle.buffer_laws.specs.Lifted.{loop_with, with_buffer_in, lifted_from_loop, MayLift}
 use Rattle.buffer_laws.specs.Lifted.{branch_with, lifted_from_then, lifted_from_else}

@@ -22,10 +22,10 @@ use Rattle.meaning_laws.proofs.Scoped.{not_true}
 use Rattle.meaning_laws.proofs.Swaps.{swap, swap_moves}
 use Rattle.inplace_laws.specs.Windows as windows
 use Rattle.inplace_laws.proofs.Along.{along_law}
-use Rattle.scope_laws.specs.Scopes.{top_binders}
-use Rattle.scope_laws.proofs.Opened.{leaving_refines}
-use Rattle.staging_laws.specs.Stage.{AreAlike}
-use Rattle.staging_laws.proofs.Replaced.{alike_replaces}
+use Rattle.place_laws.specs.Scope.Scopes.{top_binders}
+use Rattle.place_laws.proofs.OfScope.Opened.{leaving_refines}
+use Rattle.buffer_laws.specs.Staging.Stage.{AreAlike}
+use Rattle.buffer_laws.proofs.OfStaging.Replaced.{alike_replaces}
 use Rattle.buffer_laws.specs.Buffers.{Buffer, allocation}
 use Rattle.buffer_laws.specs.Expanded.{expanded, expanded_buffer, small, enlarged}
 use Rattle.buffer_laws.specs.Expanded.{passes_whole, part_of, part_coords, MayExpand}

@@ -40,10 +40,10 @@ use Rattle.inplace_laws.proofs.InPlace.{in_place}
 use Rattle.inplace_laws.proofs.InlineWindow.{viewed_same}
 use Rattle.inplace_laws.proofs.Sides.{whole_within, composed_whole}
 use Rattle.inplace_laws.proofs.Windows.{window_law}
-use Rattle.scope_laws.specs.Scopes.{top_binders}
-use Rattle.scope_laws.proofs.Opened.{leaving_refines}
-use Rattle.staging_laws.specs.Stage.{AreAlike}
-use Rattle.staging_laws.proofs.Replaced.{alike_replaces}
+use Rattle.place_laws.specs.Scope.Scopes.{top_binders}
+use Rattle.place_laws.proofs.OfScope.Opened.{leaving_refines}
+use Rattle.buffer_laws.specs.Staging.Stage.{AreAlike}
+use Rattle.buffer_laws.proofs.OfStaging.Replaced.{alike_replaces}
 use Rattle.buffer_laws.specs.Buffers.{Buffer, allocation, is_buffer}
 use Rattle.buffer_laws.specs.Expanded.{expanded_buffer, part_coords, part_of, with_id}
 use Rattle.buffer_laws.specs.Expanded.{small, enlarged, with_larger, MayExpand, EndsAlike}

@@ -30,3 +30,5 @@ pub mod StageAccumExamples
 pub mod SumsExamples
 pub mod BindExamples
 pub mod GemmRows
+pub mod OfStaging
+pub mod OfStride

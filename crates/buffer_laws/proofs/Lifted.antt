@@ -30,10 +30,10 @@ use Rattle.meaning_laws.proofs.Refined.{state_same, through, run_keeps_refined}
 use Rattle.meaning_laws.proofs.Replace.{unit_respects}
 use Rattle.meaning_laws.proofs.Scoped.{both_false}
 use Rattle.meaning_laws.proofs.Substitute.{and_parts}
-use Rattle.scope_laws.specs.Scopes.{top_binders, HasNone}
-use Rattle.scope_laws.proofs.MayLeave.{top_has}
-use Rattle.scope_laws.proofs.Opened.{leaving_refines}
-use Rattle.scope_laws.proofs.Scopes.{run_names}
+use Rattle.place_laws.specs.Scope.Scopes.{top_binders, HasNone}
+use Rattle.place_laws.proofs.OfScope.MayLeave.{top_has}
+use Rattle.place_laws.proofs.OfScope.Opened.{leaving_refines}
+use Rattle.place_laws.proofs.OfScope.Scopes.{run_names}
 use Rattle.buffer_laws.specs.Buffers.{Buffer, allocation, is_buffer}
 use Rattle.buffer_laws.specs.Lifted.{are_plain, loop_with, lifted_from_loop, with_buffer_in}
 use Rattle.buffer_laws.specs.Lifted.{LiftFromLoop, LiftLaw, LiftFromThen, LiftFromElse, LiftThenLaw}

@@ -4,8 +4,8 @@ use Rattle.std.proofs.lemmas.Int.{ints}
 use Rattle.exo_meaning.specs.Scene.{Scene, number}
 use Rattle.affine_forms.specs.Forms.{is_affine}
 use Rattle.affine_forms.specs.Laws.{ReadsAt}
-use Rattle.simplify_laws.specs.Simplified.{simplified, values_in}
-use Rattle.simplify_laws.proofs.Simplified.{simplified_law}
+use Rattle.match_laws.specs.Simplify.Simplified.{simplified, values_in}
+use Rattle.match_laws.proofs.OfSimplify.Simplified.{simplified_law}
 use Rattle.buffer_laws.specs.MadeIndices.{as_themselves, variables_alone}
 use Rattle.buffer_laws.specs.MadeIndices.{MadeSimplerLaw}
 

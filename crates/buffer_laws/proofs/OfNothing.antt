@@ -9,10 +9,10 @@ use Rattle.exo_meaning.specs.Unseen.{in_coords as coords_mention}
 use Rattle.exo_meaning.proofs.Compose.{compose}
 use Rattle.inplace_laws.specs.Filled.{Loop}
 use Rattle.inplace_laws.specs.Windows.{are_plain}
-use Rattle.staging_laws.specs.Stores.{spans, load_nest}
-use Rattle.staging_laws.specs.Known.{AreOver, AreMade, IsKnown}
-use Rattle.staging_laws.specs.Readers.{IsLoaded}
-use Rattle.staging_laws.proofs.Known.{known_reader_law}
+use Rattle.buffer_laws.specs.Staging.Stores.{spans, load_nest}
+use Rattle.buffer_laws.specs.Staging.Known.{AreOver, AreMade, IsKnown}
+use Rattle.buffer_laws.specs.Staging.Readers.{IsLoaded}
+use Rattle.buffer_laws.proofs.OfStaging.Known.{known_reader_law}
 
 no_statement : (c : Context) (d : Statement) → end ≡ fill c (next d end) → ⊥
 no_statement (Here rest) d e = cc

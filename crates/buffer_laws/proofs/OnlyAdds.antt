@@ -15,8 +15,8 @@ use Rattle.meaning_laws.specs.Sorted.{scope_at}
 use Rattle.meaning_laws.proofs.Copies.{sound_law}
 use Rattle.meaning_laws.proofs.Sorted.{is_other, fits_at_law}
 use Rattle.meaning_laws.proofs.Substitute.{and_parts}
-use Rattle.scope_laws.specs.Holes.{roots_at}
-use Rattle.scope_laws.proofs.WellAtPlace.{block_at_place}
+use Rattle.place_laws.specs.Scope.Holes.{roots_at}
+use Rattle.place_laws.proofs.OfScope.WellAtPlace.{block_at_place}
 use Rattle.buffer_laws.specs.Accumulated.{RootsHaveCells}
 use Rattle.buffer_laws.specs.StageAccum.{OnlyAddsAtPlace}
 

@@ -10,7 +10,7 @@ use Rattle.exo_meaning.specs.Run.{World, run, step, turn, turns_of, unit_world}
 use Rattle.exo_meaning.proofs.Monotone.{data_is_apart}
 use Rattle.exo_meaning.proofs.Nested.{then_some}
 use Rattle.meaning_laws.specs.Context.{ComesTo, ComesToTurn, now, later}
-use Rattle.staging_laws.specs.Converted.{StatementFits, FitsWithin}
+use Rattle.buffer_laws.specs.Staging.Converted.{StatementFits, FitsWithin}
 
 same_scene : (s t : State) → s.scene ≡ t.scene → SameScene s t
 same_scene s t e = record { scene = e; cells = λ b at. tt }

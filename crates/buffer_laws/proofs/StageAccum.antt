@@ -16,17 +16,17 @@ use Rattle.meaning_laws.specs.Sound.{IsSound}
 use Rattle.inplace_laws.specs.Filled.{Loop}
 use Rattle.inplace_laws.specs.Staged.{staged, StagedAlike, MayStage}
 use Rattle.inplace_laws.proofs.Staged.{staged_law}
-use Rattle.staging_laws.specs.Alone.{has_root, IsAlone}
-use Rattle.staging_laws.specs.Behind.{IsBetween}
+use Rattle.buffer_laws.specs.Staging.Alone.{has_root, IsAlone}
+use Rattle.buffer_laws.specs.Staging.Behind.{IsBetween}
 use Rattle.inplace_laws.specs.Uses.{in_block}
-use Rattle.staging_laws.specs.Converted.{converted}
-use Rattle.staging_laws.specs.Whole.{MayConvert, Follows}
-use Rattle.staging_laws.specs.Known.{AreMade, IsKnown}
-use Rattle.staging_laws.specs.Readers.{IsLoaded}
+use Rattle.buffer_laws.specs.Staging.Converted.{converted}
+use Rattle.buffer_laws.specs.Staging.Whole.{MayConvert, Follows}
+use Rattle.buffer_laws.specs.Staging.Known.{AreMade, IsKnown}
+use Rattle.buffer_laws.specs.Staging.Readers.{IsLoaded}
 use Rattle.exo_meaning.specs.Scene.{updated}
-use Rattle.staging_laws.proofs.Alone.{alone_law}
-use Rattle.staging_laws.proofs.Replaced.{alike_replaces}
-use Rattle.staging_laws.proofs.Whole.{viewed_law}
+use Rattle.buffer_laws.proofs.OfStaging.Alone.{alone_law}
+use Rattle.buffer_laws.proofs.OfStaging.Replaced.{alike_replaces}
+use Rattle.buffer_laws.proofs.OfStaging.Whole.{viewed_law}
 use Rattle.buffer_laws.specs.Accumulated.{from_zero}
 use Rattle.buffer_laws.specs.StageAccum.{OnlyAdds, SumsReplace}
 use Rattle.buffer_laws.specs.Sums.{between_sums}

@@ -18,12 +18,12 @@ use Rattle.meaning_laws.specs.Sound.{IsUnbound}
 use Rattle.meaning_laws.proofs.Copies.{sound_law, unbound_law}
 use Rattle.exo_meaning.specs.Units.{scope_of}
 use Rattle.inplace_laws.specs.Filled.{Loop}
-use Rattle.staging_laws.specs.Stores.{AreDistinct, spans}
-use Rattle.staging_laws.specs.Inside.{extents_of}
-use Rattle.staging_laws.specs.Known.{AreOver, AreMade, IsKnown}
-use Rattle.staging_laws.specs.Replaced.{Hides}
-use Rattle.staging_laws.proofs.AtPlaces.{known_at_place}
-use Rattle.staging_laws.proofs.Converted.{fits_law}
+use Rattle.buffer_laws.specs.Staging.Stores.{AreDistinct, spans}
+use Rattle.buffer_laws.specs.Staging.Inside.{extents_of}
+use Rattle.buffer_laws.specs.Staging.Known.{AreOver, AreMade, IsKnown}
+use Rattle.buffer_laws.specs.Staging.Replaced.{Hides}
+use Rattle.buffer_laws.proofs.OfStaging.AtPlaces.{known_at_place}
+use Rattle.buffer_laws.proofs.OfStaging.Converted.{fits_law}
 use Rattle.buffer_laws.specs.StageMem.{Staging, sizes, loads, stores}
 use Rattle.buffer_laws.specs.StageAccum.{OnlyAdds, sums_of, sums_as_made, sums_with_simpler}
 use Rattle.buffer_laws.proofs.OnlyAdds.{only_adds_at_place}

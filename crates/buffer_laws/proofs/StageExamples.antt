@@ -13,16 +13,16 @@ use Rattle.meaning_laws.specs.Sound.{IsUnbound}
 use Rattle.meaning_laws.proofs.Copies.{sound_law, unbound_law}
 use Rattle.meaning_laws.proofs.Sorted.{fits_at_law}
 use Rattle.exo_meaning.specs.Units.{scope_of}
-use Rattle.scope_laws.proofs.Within.{holes_compose}
-use Rattle.scope_laws.proofs.Roots.{names_have_roots}
-use Rattle.staging_laws.specs.Known.{AreOver, AreMade, IsKnown, FitsBehind}
-use Rattle.staging_laws.specs.Replaced.{Hides}
-use Rattle.staging_laws.specs.Converted.{FitsWithin}
-use Rattle.staging_laws.proofs.Converted.{fits_law}
-use Rattle.staging_laws.proofs.Known.{fits_behind_law}
+use Rattle.place_laws.proofs.OfScope.Within.{holes_compose}
+use Rattle.place_laws.proofs.OfScope.Roots.{names_have_roots}
+use Rattle.buffer_laws.specs.Staging.Known.{AreOver, AreMade, IsKnown, FitsBehind}
+use Rattle.buffer_laws.specs.Staging.Replaced.{Hides}
+use Rattle.buffer_laws.specs.Staging.Converted.{FitsWithin}
+use Rattle.buffer_laws.proofs.OfStaging.Converted.{fits_law}
+use Rattle.buffer_laws.proofs.OfStaging.Known.{fits_behind_law}
 use Rattle.inplace_laws.specs.Filled.{Loop}
-use Rattle.staging_laws.specs.Stores.{AreDistinct, spans}
-use Rattle.staging_laws.specs.Inside.{extents_of}
+use Rattle.buffer_laws.specs.Staging.Stores.{AreDistinct, spans}
+use Rattle.buffer_laws.specs.Staging.Inside.{extents_of}
 use Rattle.exo_meaning.specs.Scene.{Scene, numbers}
 use Rattle.buffer_laws.specs.Simplified.{IsSimplifier}
 use Rattle.buffer_laws.specs.StageMem.{Staging, sizes, loads, stores}
@@ -31,7 +31,7 @@ use Rattle.buffer_laws.specs.StageLaws.{reader_as_made, reader_with_simpler}
 use Rattle.buffer_laws.proofs.StageMem.{named, sevens}
 use Rattle.buffer_laws.proofs.StageLaws.{draft_law, stage_mem_law, fits_at_places}
 use Rattle.buffer_laws.proofs.StageLaws.{reader_draft_law, stage_reader_law}
-use Rattle.staging_laws.proofs.AtPlaces.{known_at_place}
+use Rattle.buffer_laws.proofs.OfStaging.AtPlaces.{known_at_place}
 
 abbrev half_of : Block → Procedure
 half_of b = record {

@@ -14,12 +14,12 @@ use Rattle.inplace_laws.specs.Along.{SameAlong, both_end, both_next, at_once, in
 use Rattle.inplace_laws.specs.Filled.{Loop, nest}
 use Rattle.inplace_laws.specs.Windows.{shifted}
 use Rattle.inplace_laws.proofs.Along.{along_law}
-use Rattle.scope_laws.proofs.Within.{holes_compose}
-use Rattle.staging_laws.specs.Stores.{load_nest, store_nest, variables}
-use Rattle.staging_laws.specs.Converted.{converted}
-use Rattle.staging_laws.proofs.Known.{known_law, known_reader_law}
-use Rattle.staging_laws.proofs.Readers.{reader_replaces}
-use Rattle.staging_laws.proofs.Replaced.{staged_replaces}
+use Rattle.place_laws.proofs.OfScope.Within.{holes_compose}
+use Rattle.buffer_laws.specs.Staging.Stores.{load_nest, store_nest, variables}
+use Rattle.buffer_laws.specs.Staging.Converted.{converted}
+use Rattle.buffer_laws.proofs.OfStaging.Known.{known_law, known_reader_law}
+use Rattle.buffer_laws.proofs.OfStaging.Readers.{reader_replaces}
+use Rattle.buffer_laws.proofs.OfStaging.Replaced.{staged_replaces}
 use Rattle.buffer_laws.specs.Simplified.{IsSimplifier, all_simpler}
 use Rattle.buffer_laws.specs.StageMem.{sizes, loads, stores, loading, storing, on_buffer}
 use Rattle.buffer_laws.specs.StageMem.{Staging}

@@ -10,8 +10,8 @@ use Rattle.exo_meaning.specs.Run.{World, run, step, unit_world, kinds_of}
 use Rattle.meaning_laws.proofs.Replace.{context_law}
 use Rattle.inplace_laws.specs.Filled.{Loop, nest}
 use Rattle.inplace_laws.specs.Windows.{shifted}
-use Rattle.staging_laws.specs.Stores.{variables}
-use Rattle.staging_laws.specs.Converted.{converted}
+use Rattle.buffer_laws.specs.Staging.Stores.{variables}
+use Rattle.buffer_laws.specs.Staging.Converted.{converted}
 use Rattle.buffer_laws.specs.Simplified.{IsSimplifier, all_simpler}
 use Rattle.buffer_laws.specs.StageMem.{Staging, sizes, loads, stores, storing, on_buffer}
 use Rattle.buffer_laws.specs.StageAccum.{sums_of, sums_with_simpler, sums_as_made, SumsDraftLaw}

@@ -20,7 +20,7 @@ use Rattle.exo_meaning.proofs.Windows.{cell_at_index, one_value}
 use Rattle.meaning_laws.specs.Sound.{IsSound, IsUnbound}
 use Rattle.meaning_laws.proofs.Names.{if_gives}
 use Rattle.inplace_laws.specs.Staged.{staged, StagedAlike}
-use Rattle.staging_laws.specs.Stage.{AreAlike}
+use Rattle.buffer_laws.specs.Staging.Stage.{AreAlike}
 use Rattle.buffer_laws.specs.Accumulated.{from_zero, adding}
 use Rattle.buffer_laws.specs.Sums.{zeros, zeroed, sums}
 use Rattle.buffer_laws.proofs.Accumulated.{added_to_zero}

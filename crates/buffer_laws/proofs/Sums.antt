@@ -20,11 +20,11 @@ use Rattle.inplace_laws.proofs.Windows.{place_on}
 use Rattle.inplace_laws.proofs.Filled.{nest_fills}
 use Rattle.inplace_laws.proofs.Hits.{InBox, set_all, vars, is_loop, vars_are, comes_to_box}
 use Rattle.inplace_laws.proofs.Hits.{box_is_hit}
-use Rattle.staging_laws.specs.Stores.{IsStaging, emptied}
-use Rattle.staging_laws.proofs.Stores.{vars_same, are_new, in_whole, in_sides, box_covers, at_any}
-use Rattle.staging_laws.proofs.Stores.{each_in_box, same_views, same_buffers, under}
-use Rattle.staging_laws.proofs.Loads.{at_all, set_none, own_there, nothing_there}
-use Rattle.staging_laws.proofs.Box.{box_law}
+use Rattle.buffer_laws.specs.Staging.Stores.{IsStaging, emptied}
+use Rattle.buffer_laws.proofs.OfStaging.Stores.{vars_same, are_new, in_whole, in_sides, box_covers, at_any}
+use Rattle.buffer_laws.proofs.OfStaging.Stores.{each_in_box, same_views, same_buffers, under}
+use Rattle.buffer_laws.proofs.OfStaging.Loads.{at_all, set_none, own_there, nothing_there}
+use Rattle.buffer_laws.proofs.OfStaging.Box.{box_law}
 use Rattle.buffer_laws.specs.Sums.{zero_nest, zeros, zeroed, sums, ZerosLaw, SumsLaw}
 use Rattle.exo_meaning.proofs.Wrap.{wrap_laws}
 use Rattle.buffer_laws.proofs.Summed.{changed_at, Changes, nest_changes, Hit, hit_by, HitsOnce}

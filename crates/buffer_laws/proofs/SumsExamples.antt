@@ -11,7 +11,7 @@ use Rattle.exo_meaning.specs.Footprint.{IsTidy}
 use Rattle.exo_meaning.specs.Run.{run, tensor}
 use Rattle.exo_meaning.proofs.Windows.{none_is_some}
 use Rattle.inplace_laws.specs.Filled.{Loop}
-use Rattle.staging_laws.specs.Stores.{IsStaging, emptied}
+use Rattle.buffer_laws.specs.Staging.Stores.{IsStaging, emptied}
 use Rattle.buffer_laws.specs.StageMem.{loads, stores}
 use Rattle.buffer_laws.specs.Sums.{zero_nest, sum_nest, zeros, zeroed, sums}
 use Rattle.buffer_laws.proofs.StageAccumExamples.{world, middle, t, window, fives, eight}

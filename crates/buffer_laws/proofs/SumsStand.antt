@@ -25,19 +25,19 @@ use Rattle.meaning_laws.proofs.Substitute.{and_parts}
 use Rattle.inplace_laws.specs.Filled.{Loop, nest}
 use Rattle.inplace_laws.specs.Staged.{staged, StagedAlike}
 use Rattle.inplace_laws.specs.Windows.{shifted}
-use Rattle.scope_laws.specs.Scopes.{top_binders}
-use Rattle.scope_laws.proofs.Scopes.{run_names}
-use Rattle.staging_laws.specs.Stores.{variables, spans, IsStaging}
-use Rattle.staging_laws.specs.Behind.{IsBetween}
-use Rattle.staging_laws.specs.Stage.{AreAlike}
-use Rattle.staging_laws.specs.Known.{AreMade, IsKnown}
-use Rattle.staging_laws.specs.Readers.{IsLoaded}
+use Rattle.place_laws.specs.Scope.Scopes.{top_binders}
+use Rattle.place_laws.proofs.OfScope.Scopes.{run_names}
+use Rattle.buffer_laws.specs.Staging.Stores.{variables, spans, IsStaging}
+use Rattle.buffer_laws.specs.Staging.Behind.{IsBetween}
+use Rattle.buffer_laws.specs.Staging.Stage.{AreAlike}
+use Rattle.buffer_laws.specs.Staging.Known.{AreMade, IsKnown}
+use Rattle.buffer_laws.specs.Staging.Readers.{IsLoaded}
 use Rattle.exo_meaning.specs.Scene.{updated}
-use Rattle.staging_laws.proofs.Behind.{run_names as names_behind, behind_law, staged_sound}
-use Rattle.staging_laws.proofs.Inside.{inside_law}
-use Rattle.staging_laws.proofs.Known.{over_spans, spans_same, window_same, allocated, shaped, is_root}
-use Rattle.staging_laws.proofs.Known.{staging, is_loaded}
-use Rattle.staging_laws.proofs.Stage.{uses_law}
+use Rattle.buffer_laws.proofs.OfStaging.Behind.{run_names as names_behind, behind_law, staged_sound}
+use Rattle.buffer_laws.proofs.OfStaging.Inside.{inside_law}
+use Rattle.buffer_laws.proofs.OfStaging.Known.{over_spans, spans_same, window_same, allocated, shaped, is_root}
+use Rattle.buffer_laws.proofs.OfStaging.Known.{staging, is_loaded}
+use Rattle.buffer_laws.proofs.OfStaging.Stage.{uses_law}
 use Rattle.buffer_laws.specs.Accumulated.{from_zero, adding}
 use Rattle.buffer_laws.specs.StageAccum.{OnlyAdds, touches_of}
 use Rattle.buffer_laws.specs.StageMem.{is_only_reduced}

@@ -13,8 +13,8 @@ use Rattle.exo_meaning.specs.Unseen.{in_statement as mentions}
 use Rattle.meaning_laws.specs.Context.{ComesTo, MayReplace}
 use Rattle.meaning_laws.specs.Sorted.{CellsFit}
 use Rattle.meaning_laws.specs.Sound.{IsSound}
-use Rattle.scope_laws.specs.Opened.{MayLeave}
-use Rattle.scope_laws.specs.Scopes.{HasNone}
+use Rattle.place_laws.specs.Scope.Opened.{MayLeave}
+use Rattle.place_laws.specs.Scope.Scopes.{HasNone}
 use Rattle.buffer_laws.specs.Buffers.{Buffer, allocation, is_buffer}
 
 -- ---- expressions with a hole

@@ -10,7 +10,7 @@ use Rattle.exo_meaning.specs.Units.{Scope, BufferName, sort_in, scope_of}
 use Rattle.exo_meaning.specs.Unseen.{in_statement as mentions}
 use Rattle.meaning_laws.specs.Context.{ComesTo}
 use Rattle.meaning_laws.specs.Sorted.{MayRun, scope_at}
-use Rattle.scope_laws.specs.Opened.{MayLeave}
+use Rattle.place_laws.specs.Scope.Opened.{MayLeave}
 use Rattle.buffer_laws.specs.Bound.{Hole, filled, stores, only_statement, bound, bound_cell}
 use Rattle.buffer_laws.specs.Bound.{IsShort}
 use Rattle.buffer_laws.specs.Buffers.{Buffer, is_buffer}

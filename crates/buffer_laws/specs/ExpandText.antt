@@ -9,8 +9,8 @@ use Rattle.exo_meaning.specs.Inputs.{IsAdmissible, Refines}
 use Rattle.exo_meaning.specs.Unseen.{in_controls as controls_mention}
 use Rattle.meaning_laws.specs.Context.{ComesTo}
 use Rattle.meaning_laws.specs.Copies.{IsFree}
-use Rattle.scope_laws.specs.Opened.{MayLeave}
-use Rattle.scope_laws.specs.Scopes.{top_binders}
+use Rattle.place_laws.specs.Scope.Opened.{MayLeave}
+use Rattle.place_laws.specs.Scope.Scopes.{top_binders}
 use Rattle.buffer_laws.specs.Buffers.{Buffer}
 use Rattle.buffer_laws.specs.Expanded.{expanded, may_expand, small, MayBePart, MayExpand, EndsAlike}
 

@@ -19,9 +19,9 @@ use Rattle.meaning_laws.specs.Sound.{IsSound, IsUnbound}
 use Rattle.meaning_laws.specs.Substitute.{is_plain}
 use Rattle.inplace_laws.specs.InlineWindow.{is_name}
 use Rattle.inplace_laws.specs.Windows.{coords_have, in_block as with_window}
-use Rattle.scope_laws.specs.Opened.{MayLeave}
-use Rattle.scope_laws.specs.Scopes.{top_binders}
-use Rattle.staging_laws.specs.Stage.{AreAlike}
+use Rattle.place_laws.specs.Scope.Opened.{MayLeave}
+use Rattle.place_laws.specs.Scope.Scopes.{top_binders}
+use Rattle.buffer_laws.specs.Staging.Stage.{AreAlike}
 use Rattle.buffer_laws.specs.Buffers.{Buffer, allocation, is_buffer}
 use Rattle.buffer_laws.specs.Lifted.{are_plain}
 use Rattle.buffer_laws.specs.Simplified.{IsSimplifier, simplified}

@@ -11,3 +11,5 @@ pub mod StageAccum
 pub mod ExpandText
 pub mod MadeIndices
 pub mod BoundAtPlaces
+pub mod Staging
+pub mod Stride

@@ -10,8 +10,8 @@ use Rattle.exo_meaning.specs.Run.{World, unit_world}
 use Rattle.exo_meaning.specs.Unseen.{in_control, in_controls, in_condition, in_block as mentions}
 use Rattle.meaning_laws.specs.Context.{MayReplace}
 use Rattle.meaning_laws.specs.Substitute.{is_plain}
-use Rattle.scope_laws.specs.Opened.{MayLeave}
-use Rattle.scope_laws.specs.Scopes.{HasNone, top_binders}
+use Rattle.place_laws.specs.Scope.Opened.{MayLeave}
+use Rattle.place_laws.specs.Scope.Scopes.{HasNone, top_binders}
 use Rattle.buffer_laws.specs.Buffers.{Buffer, allocation, is_buffer}
 
 abbrev pub are_plain : List Control → Bool

@@ -3,7 +3,7 @@ use Rattle.std.specs.Prelude.{cond, true, false}
 use Rattle.exo_tree.specs.Tree.{Index, Control}
 use Rattle.affine_forms.specs.Atoms.{Variable, EntryField, OpaqueStride, only}
 use Rattle.affine_forms.specs.Forms.{Reading, Allowed, is_affine}
-use Rattle.simplify_laws.specs.Simplified.{simplified}
+use Rattle.match_laws.specs.Simplify.Simplified.{simplified}
 use Rattle.buffer_laws.specs.Simplified.{IsSimplifier}
 
 -- each variable, field and stride is read as itself

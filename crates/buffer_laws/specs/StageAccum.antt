@@ -12,10 +12,10 @@ use Rattle.meaning_laws.specs.Context.{ComesTo, MayReplace}
 use Rattle.meaning_laws.specs.Sorted.{MayRun, scope_at}
 use Rattle.meaning_laws.specs.Touched.{Mode, MayTouch, unit_modes, has_mode}
 use Rattle.inplace_laws.specs.Filled.{Loop}
-use Rattle.scope_laws.specs.Roots.{own_roots_at}
-use Rattle.staging_laws.specs.Converted.{converted}
-use Rattle.staging_laws.specs.Replaced.{Hides}
-use Rattle.staging_laws.specs.Known.{AreMade, IsKnown}
+use Rattle.place_laws.specs.Scope.Roots.{own_roots_at}
+use Rattle.buffer_laws.specs.Staging.Converted.{converted}
+use Rattle.buffer_laws.specs.Staging.Replaced.{Hides}
+use Rattle.buffer_laws.specs.Staging.Known.{AreMade, IsKnown}
 use Rattle.buffer_laws.specs.Accumulated.{RootsHaveCells}
 use Rattle.buffer_laws.specs.Simplified.{IsSimplifier}
 use Rattle.buffer_laws.specs.StageMem.{Staging, sizes, loads, stores, staged_block, is_only_reduced}

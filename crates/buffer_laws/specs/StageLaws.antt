@@ -9,10 +9,10 @@ use Rattle.exo_meaning.specs.Inputs.{IsAdmissible, Refines}
 use Rattle.exo_meaning.specs.Run.{World, run, writes, unit_world}
 use Rattle.exo_meaning.specs.Unseen.{in_block as mentions}
 use Rattle.meaning_laws.specs.Context.{ComesTo}
-use Rattle.scope_laws.specs.Holes.{within}
-use Rattle.staging_laws.specs.Converted.{converted, StatementFits, FitsWithin}
-use Rattle.staging_laws.specs.Replaced.{Hides, between}
-use Rattle.staging_laws.specs.Known.{AreMade, IsKnown, FitsBehind, up_to_store}
+use Rattle.place_laws.specs.Scope.Holes.{within}
+use Rattle.buffer_laws.specs.Staging.Converted.{converted, StatementFits, FitsWithin}
+use Rattle.buffer_laws.specs.Staging.Replaced.{Hides, between}
+use Rattle.buffer_laws.specs.Staging.Known.{AreMade, IsKnown, FitsBehind, up_to_store}
 use Rattle.buffer_laws.specs.Simplified.{IsSimplifier}
 use Rattle.buffer_laws.specs.StageMem.{Staging, sizes, loads, stores, staged_block}
 

@@ -12,11 +12,11 @@ use Rattle.exo_meaning.specs.Run.{roots_after}
 use Rattle.exo_meaning.specs.Modes.{Mode, Reading, Writing}
 use Rattle.exo_meaning.specs.Unseen.{in_block as mentions}
 use Rattle.meaning_laws.specs.Scoped.{has_binder}
-use Rattle.scope_laws.specs.Scopes.{top_binders}
+use Rattle.place_laws.specs.Scope.Scopes.{top_binders}
 use Rattle.inplace_laws.specs.Filled.{Loop, nest}
 use Rattle.inplace_laws.specs.Windows.{shifted}
-use Rattle.staging_laws.specs.Stores.{spans, variables}
-use Rattle.staging_laws.specs.Converted.{converted}
+use Rattle.buffer_laws.specs.Staging.Stores.{spans, variables}
+use Rattle.buffer_laws.specs.Staging.Converted.{converted}
 use Rattle.buffer_laws.specs.Buffers.{Buffer, allocation}
 use Rattle.buffer_laws.specs.Simplified.{all_simpler, simplified}
 

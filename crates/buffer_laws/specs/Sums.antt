@@ -11,7 +11,7 @@ use Rattle.exo_meaning.specs.Footprint.{added}
 use Rattle.exo_meaning.specs.Run.{World, run, tensor}
 use Rattle.inplace_laws.specs.Filled.{Loop, nest}
 use Rattle.inplace_laws.specs.Windows.{shifted}
-use Rattle.staging_laws.specs.Stores.{IsStaging, variables, emptied}
+use Rattle.buffer_laws.specs.Staging.Stores.{IsStaging, variables, emptied}
 
 -- for each index list: a[..] = 0
 abbrev pub zero_nest : ℕ → List Loop → Block

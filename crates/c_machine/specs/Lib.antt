@@ -1,3 +1,4 @@
 pub mod Machine
 pub mod CRun
 pub mod Examples
+pub mod Behaviour

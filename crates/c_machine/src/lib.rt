@@ -1,4 +1,5 @@
-//! The C machine: what C does, as far as procedures are printed in it.
+//! The C machine: what C does, as far as procedures are printed in it, and what is read off it.
 #![tactic(auto)]
 
+pub mod behaviour;
 pub mod laws;

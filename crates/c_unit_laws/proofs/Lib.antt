@@ -28,3 +28,5 @@ pub mod Stores
 pub mod Runs
 pub mod Listings
 pub mod ColumnRun
+pub mod OfUndeclared
+pub mod OfClosedRuns

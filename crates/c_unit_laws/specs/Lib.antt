@@ -5,3 +5,5 @@ pub mod Listings
 pub mod Instance
 pub mod Runs
 pub mod ColumnRun
+pub mod Undeclared
+pub mod ClosedRuns

@@ -8,16 +8,16 @@ use Rattle.text_show_laws.specs.Named.{AreNamed}
 use Rattle.schedule_text.specs.Tree as tree
 use Rattle.schedule_calls.specs.Requests.{Request}
 use Rattle.schedule_calls.specs.Readings.{Asks}
-use Rattle.schedule_versions.specs.Versions.{Versions, started, version_of}
-use Rattle.schedule_versions.specs.Lines.{Why, UnknownOperator, BadArguments, Act, Faulty, Progress, Went}
-use Rattle.schedule_versions.specs.Lines.{Refused, performed, Outcome, Done, Stopped, behind, run_from}
-use Rattle.schedule_versions.specs.Behind.{NothingDiffers, RunsHoldVersions}
+use Rattle.schedule_laws.specs.Versions.Versions.{Versions, started, version_of}
+use Rattle.schedule_laws.specs.Versions.Lines.{Why, UnknownOperator, BadArguments, Act, Faulty, Progress, Went}
+use Rattle.schedule_laws.specs.Versions.Lines.{Refused, performed, Outcome, Done, Stopped, behind, run_from}
+use Rattle.schedule_laws.specs.Versions.Behind.{NothingDiffers, RunsHoldVersions}
 use Rattle.schedule_run.specs.Operators.{act_of, SchedulesDifferInNothing}
-use Rattle.schedule_name_laws.specs.Schedules.{GivesNames, LinesGiveNames, SchedulesKeepNames}
+use Rattle.schedule_laws.specs.Names.Schedules.{GivesNames, LinesGiveNames, SchedulesKeepNames}
 use Rattle.cursor_forward.specs.PlainProposal.{cause_of}
 use Rattle.schedule_text.specs.Views.{plain_line, number}
 use Rattle.schedule_text.specs.declared.source.Line.{Line}
-use Rattle.schedule_versions.specs.Lines as lines
+use Rattle.schedule_laws.specs.Versions.Lines as lines
 use Rattle.schedule_run.specs.PlainWhy.{fault_of, Says}
 use Rattle.schedule_run.specs.declared.why.Why as code
 use Rattle.schedule_run.specs.declared.why.Why.TheVariants as why

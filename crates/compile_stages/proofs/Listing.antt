@@ -12,7 +12,7 @@ use Rattle.std.proofs.lemmas.List.{drop_all}
 use Rattle.exo_calls.specs.Passed.{is_function}
 use Rattle.c_lowered.specs.LoweredUnit.{Printing}
 use Rattle.c_unit_laws.specs.Listings.{printings_from}
-use Rattle.schedule_versions.specs.Versions.{Versions}
+use Rattle.schedule_laws.specs.Versions.Versions.{Versions}
 use Rattle.compile_stages.specs.Printings.{printing_of, is_emitted, printings_of}
 
 pub nothing_there : {A : Type 0} {x : A} → None ≡ Some x → ⊥

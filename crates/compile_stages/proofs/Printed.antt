@@ -22,8 +22,8 @@ use Rattle.c_follows.specs.Units.{AreLowered, LeavesTheSame, EndsWell, naming_of
 use Rattle.c_unit_laws.specs.Laws.{FilesFollow}
 use Rattle.c_unit_laws.specs.Stores.{FilesWithoutAllocationsAreDone}
 use Rattle.unit_check.specs.Faults.{NothingFaults}
-use Rattle.schedule_versions.specs.Versions.{Versions, version_at}
-use Rattle.schedule_versions.specs.Behind.{NothingDiffers}
+use Rattle.schedule_laws.specs.Versions.Versions.{Versions, version_at}
+use Rattle.schedule_laws.specs.Versions.Behind.{NothingDiffers}
 use Rattle.schedule_run.specs.Roots.{root_of}
 use Rattle.schedule_run.specs.Laws.{AreVersionsOf, IsVersionOf, AreKept}
 use Rattle.compile_stages.specs.Printings.{differing_from, printing_of, printings_of}

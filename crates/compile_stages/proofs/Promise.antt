@@ -29,17 +29,17 @@ use Rattle.unit_check.specs.Faults.{NothingFaults}
 use Rattle.unit_check.specs.Laws.{CheckedUnitsDoNotFault}
 use Rattle.schedule_text.specs.Tree as tree
 use Rattle.schedule_text.specs.Grammar as grammar
-use Rattle.schedule_versions.specs.Versions.{Versions, started, version_at, version_of}
-use Rattle.schedule_versions.specs.Lines.{Outcome, Done}
-use Rattle.schedule_versions.specs.Lines as lines
-use Rattle.schedule_versions.specs.Laws.{HasRoom}
-use Rattle.schedule_versions.specs.Behind.{NothingDiffers, RunsHoldVersions}
+use Rattle.schedule_laws.specs.Versions.Versions.{Versions, started, version_at, version_of}
+use Rattle.schedule_laws.specs.Versions.Lines.{Outcome, Done}
+use Rattle.schedule_laws.specs.Versions.Lines as lines
+use Rattle.schedule_laws.specs.Versions.Laws.{HasRoom}
+use Rattle.schedule_laws.specs.Versions.Behind.{NothingDiffers, RunsHoldVersions}
 use Rattle.schedule_run.specs.Operators.{SchedulesDifferInNothing}
 use Rattle.schedule_run.specs.Runs.{LinesRun}
 use Rattle.schedule_run.specs.Laws.{SchedulesKeep, SmallUnitsHaveRoom, AreKept}
 use Rattle.compile_stages.specs.Printings.{printing_of, is_emitted, printings_of, or_later, memory_fault}
 use Rattle.compile_stages.specs.Stages.{Stage, Passed, Stopped, Typed, IsTyped, then_do, shown, Schedule}
-use Rattle.schedule_name_laws.specs.Schedules.{LinesGiveNames, SchedulesKeepNames}
+use Rattle.schedule_laws.specs.Names.Schedules.{LinesGiveNames, SchedulesKeepNames}
 use Rattle.compile_stages.specs.Stages.{IsScheduled, ended, IsRan, Made, made, kept, if_kept, narrow, if_narrow}
 use Rattle.compile_stages.specs.Stages.{named, if_named, text, lowered_text, printed, displayed, Leads}
 use Rattle.compile_stages.specs.Stages.{Schedules, Compiles, Displays, Checks, counted}

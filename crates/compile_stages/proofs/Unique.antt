@@ -14,7 +14,7 @@ use Rattle.exo_types.specs.UnitRules.{unit_fault}
 use Rattle.schedule_text.specs.Tree as tree
 use Rattle.schedule_text.specs.Grammar as grammar
 use Rattle.schedule_text.specs.Texts.{line_numbers}
-use Rattle.schedule_versions.specs.Versions.{Versions, started}
+use Rattle.schedule_laws.specs.Versions.Versions.{Versions, started}
 use Rattle.schedule_run.specs.Laws.{LinesRunOnce}
 use Rattle.compile_stages.specs.Stops as stop
 use Rattle.compile_stages.specs.Stages.{Stage, Passed, Stopped, Typed, IsUnread, IsRuled, IsRead, IsTyped}

@@ -17,10 +17,10 @@ use Rattle.memory_kinds.specs.declared.error.KindError.{KindError}
 use Rattle.memory_kinds.specs.declared.error.KindError.TheVariants as memory
 use Rattle.cursor_forward.specs.Causes.{FormFault, Cause}
 use Rattle.cursor_forward.specs.Causes as cause
-use Rattle.schedule_versions.specs.Places.{Missing}
-use Rattle.schedule_versions.specs.Places as missing
-use Rattle.schedule_versions.specs.Lines.{Why}
-use Rattle.schedule_versions.specs.Lines as why
+use Rattle.schedule_laws.specs.Versions.Places.{Missing}
+use Rattle.schedule_laws.specs.Versions.Places as missing
+use Rattle.schedule_laws.specs.Versions.Lines.{Why}
+use Rattle.schedule_laws.specs.Versions.Lines as why
 use Rattle.compile_stages.specs.Messages.{refused, name_refused, line_refused}
 use Rattle.compile_stages.specs.Messages.{place_refused, unit_refused}
 use Rattle.compile_stages.specs.Stops.{Stop, Unread, Broken, NotListed, NotShown, NoSchedule}

@@ -7,7 +7,7 @@ use Rattle.memory_kinds.specs.Faults.{fault_of}
 use Rattle.memory_kinds.specs.declared.error.KindError.{KindError}
 use Rattle.c_lowered.specs.LoweredUnit.{Printing, name_of}
 use Rattle.c_unit_laws.specs.Listings.{printings}
-use Rattle.schedule_versions.specs.Versions.{Versions, version_at, configured}
+use Rattle.schedule_laws.specs.Versions.Versions.{Versions, version_at, configured}
 use Rattle.schedule_run.specs.Roots.{root_of}
 
 -- ---- origins

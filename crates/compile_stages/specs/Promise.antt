@@ -30,8 +30,8 @@ use Rattle.c_follows.specs.Units.{naming_of, declared_in, IsListing, IsSameStart
 use Rattle.c_unit_laws.specs.Stores.{allocates_nothing}
 use Rattle.schedule_text.specs.Tree as tree
 use Rattle.schedule_text.specs.Grammar.{schedule as schedule_text}
-use Rattle.schedule_versions.specs.Versions.{Versions, started, version_at}
-use Rattle.schedule_versions.specs.Lines.{Done as Ran}
+use Rattle.schedule_laws.specs.Versions.Versions.{Versions, started, version_at}
+use Rattle.schedule_laws.specs.Versions.Lines.{Done as Ran}
 use Rattle.schedule_run.specs.Runs.{LinesRun}
 use Rattle.compile_stages.specs.Printings.{origins_of, differing_from, printings_of}
 use Rattle.compile_stages.specs.Printings.{memory_fault}

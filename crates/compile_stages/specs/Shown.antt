@@ -10,7 +10,7 @@ use Rattle.text_show.specs.ProcedureText.{shown}
 use Rattle.text_show_laws.specs.Laws.{ReadsBack}
 use Rattle.text_show_laws.specs.Sizes.{IsWithinItem}
 use Rattle.text_show_laws.specs.Written.{written}
-use Rattle.schedule_versions.specs.Versions.{Versions, version_of}
+use Rattle.schedule_laws.specs.Versions.Versions.{Versions, version_of}
 use Rattle.compile_stages.specs.Promise.{AreMade, ComesFrom}
 
 -- The text that is written is that of the version which the name holds in the end. It comes from a

@@ -34,9 +34,9 @@ use Rattle.c_printer.specs.Refusals.{too_wide, name_clash}
 use Rattle.schedule_text.specs.Tree as tree
 use Rattle.schedule_text.specs.Grammar as grammar
 use Rattle.schedule_text.specs.Texts.{line_numbers}
-use Rattle.schedule_versions.specs.Versions.{Versions, started, version_of}
-use Rattle.schedule_versions.specs.Lines.{Why, Outcome, Done}
-use Rattle.schedule_versions.specs.Lines as lines
+use Rattle.schedule_laws.specs.Versions.Versions.{Versions, started, version_of}
+use Rattle.schedule_laws.specs.Versions.Lines.{Why, Outcome, Done}
+use Rattle.schedule_laws.specs.Versions.Lines as lines
 use Rattle.schedule_run.specs.Runs.{LinesRun}
 use Rattle.compile_stages.specs.Printings.{printings_of, memory_fault}
 use Rattle.compile_stages.specs.Messages as messages

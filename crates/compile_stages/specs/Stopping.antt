@@ -19,7 +19,7 @@ use Rattle.c_printer.specs.declared.report.LowerError.TheVariants as lower
 use Rattle.schedule_text.specs.Views.{plain_lines, numbers}
 use Rattle.schedule_text.specs.declared.source.Schedule as text
 use Rattle.cursor_forward.specs.PlainProposal.{cause_of}
-use Rattle.schedule_versions.specs.Lines as lines
+use Rattle.schedule_laws.specs.Versions.Lines as lines
 use Rattle.schedule_run.specs.PlainWhy.{plain_missing, fault_of}
 use Rattle.schedule_run.specs.declared.why.Why.{Why}
 use Rattle.schedule_run.specs.declared.why.Why.TheVariants as why

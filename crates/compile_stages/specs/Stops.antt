@@ -5,7 +5,7 @@ use Rattle.rules_names.specs.declared.error.TypeError.{TypeError}
 use Rattle.affine_prover.specs.declared.answer.Verdict.{Verdict}
 use Rattle.bounds_check.specs.declared.error.CheckError.{CheckError}
 use Rattle.memory_kinds.specs.declared.error.KindError.{KindError}
-use Rattle.schedule_versions.specs.Lines.{Why}
+use Rattle.schedule_laws.specs.Versions.Lines.{Why}
 
 pub data Stop : Type 0 where
   -- the text is no unit

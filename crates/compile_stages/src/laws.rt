@@ -20,7 +20,7 @@ pub fn compiled_is_promised()
     schedule_run::laws::schedules_keep();
     schedule_run::laws::small_units_have_room();
     schedule_run::laws::schedules_differ_in_nothing();
-    schedule_versions::laws::runs_hold_versions();
+    schedule_laws::versions::laws::runs_hold_versions();
     meaning_laws::laws::fields_are_kept();
     meaning_laws::laws::calls_leave_fields();
     c_unit_laws::laws::printings_are_listings();
@@ -36,12 +36,12 @@ pub fn displayed_is_promised()
     schedule_run::laws::schedules_keep();
     schedule_run::laws::small_units_have_room();
     schedule_run::laws::schedules_differ_in_nothing();
-    schedule_versions::laws::runs_hold_versions();
+    schedule_laws::versions::laws::runs_hold_versions();
     text_show_laws::laws::shown_is_read();
     text_show_laws::laws::read_units_are_named();
     text_show_laws::laws::named_units_are_writable();
-    schedule_name_laws::laws::lines_give_names();
-    schedule_name_laws::laws::schedules_keep_names();
+    schedule_laws::names::laws::lines_give_names();
+    schedule_laws::names::laws::schedules_keep_names();
 }
 
 /// What a check counts is shown, and nothing of the unit faults.

@@ -8,7 +8,7 @@ ghost use Rattle.exo_calls.specs.Passed.{is_function};
 ghost use Rattle.c_lowered.specs.LoweredUnit.{name_of};
 ghost use Rattle.c_printer.specs.PlainPrinted.{printing};
 ghost use Rattle.c_unit_laws.specs.Listings.{printings_from};
-ghost use Rattle.schedule_versions.specs.Behind.{NothingDiffers};
+ghost use Rattle.schedule_laws.specs.Versions.Behind.{NothingDiffers};
 ghost use Rattle.schedule_run.specs.PlainVersions.{versions};
 ghost use Rattle.compile_stages.specs.Printings.{is_emitted, printing_of, printings_of};
 

@@ -3,7 +3,7 @@ use Rattle.std.proofs.Common.{◌≡◌, ◌==◌, ◌<◌, ℕ, Bool, true, fal
 use Rattle.std.proofs.Common.{◌∷◌, refl, sym, ap, ◌∙◌, true≢false, eqb-true, arith}
 use Rattle.std.specs.Prelude.{Contains, if◌then◌else◌, length}
 use Rattle.std.proofs.lemmas.List.Elements.{Contains-append_right}
-use Rattle.live_laws.specs.LiveFits.{LiveAtEnd}
+use Rattle.config_laws.specs.Live.LiveFits.{LiveAtEnd}
 use Rattle.config_laws.specs.FieldRule.{is_listed, not_again}
 use Rattle.config_laws.specs.Surely.{surely_behind}
 use Rattle.config_laws.specs.Exits.{by_exit}

@@ -25,8 +25,8 @@ use Rattle.meaning_laws.proofs.Live.{number_live, holds_live, run_forgets}
 use Rattle.meaning_laws.proofs.Parts.{none_some, some_injective, then_gives, both_some}
 use Rattle.meaning_laws.proofs.Refined.{state_same}
 use Rattle.meaning_laws.proofs.UnitFields.{unit_forgets}
-use Rattle.live_laws.specs.CallVersion.{called}
-use Rattle.live_laws.proofs.LiveFits.{live_fits}
+use Rattle.config_laws.specs.Live.CallVersion.{called}
+use Rattle.config_laws.proofs.OfLive.LiveFits.{live_fits}
 use Rattle.config_laws.specs.Surely.{surely_behind, unit_surely}
 use Rattle.config_laws.specs.Exits.{by_exit}
 use Rattle.config_laws.specs.FieldRule.{is_listed, not_again}

@@ -9,8 +9,8 @@ use Rattle.exo_meaning.specs.Run.{world_of, callee_in, callees, kinds_of, unit_w
 use Rattle.meaning_laws.specs.Live.{live_behind}
 use Rattle.meaning_laws.specs.UnitFields.{unit_live}
 use Rattle.meaning_laws.proofs.UnitFields.{unit_forgets}
-use Rattle.live_laws.specs.CallVersion.{called}
-use Rattle.live_laws.proofs.CallVersion.{call_version}
+use Rattle.config_laws.specs.Live.CallVersion.{called}
+use Rattle.config_laws.proofs.OfLive.CallVersion.{call_version}
 use Rattle.config_laws.specs.Surely.{surely_behind, unit_surely}
 use Rattle.config_laws.specs.FieldRule.{not_again}
 use Rattle.config_laws.specs.Differing.{DescendantsMayBeCalled}

@@ -10,8 +10,8 @@ use Rattle.exo_meaning.specs.Run.{run, kinds_of}
 use Rattle.meaning_laws.specs.Live.{live, live_behind}
 use Rattle.meaning_laws.specs.UnitFields.{unit_live}
 use Rattle.meaning_laws.proofs.UnitFields.{unit_forgets}
-use Rattle.live_laws.specs.LiveFits.{MayReplaceLive, LiveAtEnd}
-use Rattle.live_laws.specs.CallVersion.{called, MayStandForCallee}
+use Rattle.config_laws.specs.Live.LiveFits.{MayReplaceLive, LiveAtEnd}
+use Rattle.config_laws.specs.Live.CallVersion.{called, MayStandForCallee}
 use Rattle.config_laws.specs.Surely.{surely_behind, unit_surely}
 use Rattle.config_laws.specs.FieldRule.{or_pass}
 use Rattle.config_laws.specs.AtEnd.{lives_at_end}

@@ -17,7 +17,7 @@ use Rattle.meaning_laws.proofs.Parts.{then_gives, some_injective}
 use Rattle.meaning_laws.proofs.Refined.{state_same}
 use Rattle.meaning_laws.proofs.Replace.{where_gives}
 use Rattle.meaning_laws.proofs.UnitFields.{unit_forgets}
-use Rattle.live_laws.proofs.LiveFits.{live_fits}
+use Rattle.config_laws.proofs.OfLive.LiveFits.{live_fits}
 use Rattle.config_laws.specs.Surely.{surely_behind, unit_surely}
 use Rattle.config_laws.specs.FieldRule.{or_pass, is_first, is_end, is_listed, not_again}
 use Rattle.config_laws.specs.WriteConfig.{written}

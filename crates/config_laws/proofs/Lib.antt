@@ -13,3 +13,4 @@ pub mod GrownExamples
 pub mod Rules
 pub mod LawExamples
 pub mod HoleExamples
+pub mod OfLive

@@ -5,8 +5,8 @@ use Rattle.std.proofs.Math.Path.{fun_ext}
 use Rattle.exo_tree.specs.Tree.{Statement, Block, end, next, Procedure}
 use Rattle.exo_tree.specs.Places.{Path, Opened, parted, opened}
 use Rattle.meaning_laws.proofs.Parts.{none_some, some_injective}
-use Rattle.scope_laws.specs.SamePlace.{start_of}
-use Rattle.scope_laws.proofs.SamePlace.{same_place}
+use Rattle.place_laws.specs.Scope.SamePlace.{start_of}
+use Rattle.place_laws.proofs.OfScope.SamePlace.{same_place}
 use Rattle.config_laws.specs.Surely.{surely_behind, unit_surely}
 use Rattle.config_laws.specs.FieldRule.{Cause, Tried, Got, Not, then_try, Piece, Side, FieldRule}
 use Rattle.config_laws.specs.FieldRule.{Proposed, opened_or_wrong, unless, with_fields, proposed}

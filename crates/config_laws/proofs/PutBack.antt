@@ -7,9 +7,9 @@ use Rattle.exo_tree.specs.Context.{Context, Here, After, InLoop, InThen, InElse,
 use Rattle.exo_tree.specs.Places.{Branch, Main, Else, Path, Opened, parted, past, into, opened_in}
 use Rattle.exo_tree.specs.Places.{from_body, opened}
 use Rattle.meaning_laws.proofs.Parts.{none_some, map_gives}
-use Rattle.scope_laws.specs.Holes.{with_rest, within}
-use Rattle.scope_laws.proofs.SamePlace.{here, with_first}
-use Rattle.scope_laws.proofs.PlacesCompose.{places_compose}
+use Rattle.place_laws.specs.Scope.Holes.{with_rest, within}
+use Rattle.place_laws.proofs.OfScope.SamePlace.{here, with_first}
+use Rattle.place_laws.proofs.OfScope.PlacesCompose.{places_compose}
 use Rattle.config_laws.specs.Surely.{surely_writes, step_surely_writes, surely_behind}
 use Rattle.config_laws.specs.FieldRule.{Behind, gap}
 

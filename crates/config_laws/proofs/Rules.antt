@@ -20,11 +20,11 @@ use Rattle.meaning_laws.specs.UnitFields.{unit_live}
 use Rattle.meaning_laws.proofs.Parts.{none_some, some_injective, map_gives}
 use Rattle.meaning_laws.proofs.Places.{opened_law}
 use Rattle.meaning_laws.proofs.Substitute.{and_parts}
-use Rattle.scope_laws.specs.Holes.{roots_at, with_rest}
-use Rattle.scope_laws.specs.SamePlace.{start_of}
-use Rattle.scope_laws.proofs.SamePlace.{same_place}
-use Rattle.scope_laws.proofs.WellAtPlace.{well_at_place}
-use Rattle.live_laws.specs.CallVersion.{called}
+use Rattle.place_laws.specs.Scope.Holes.{roots_at, with_rest}
+use Rattle.place_laws.specs.Scope.SamePlace.{start_of}
+use Rattle.place_laws.proofs.OfScope.SamePlace.{same_place}
+use Rattle.place_laws.proofs.OfScope.WellAtPlace.{well_at_place}
+use Rattle.config_laws.specs.Live.CallVersion.{called}
 use Rattle.config_laws.specs.Surely.{surely_writes, surely_behind, unit_surely}
 use Rattle.config_laws.specs.FieldRule.{Got, Not, WrongShape, ConfigLive, NotDescendant}
 use Rattle.config_laws.specs.FieldRule.{Piece, Side, Before, Behind, FieldRule, Proposed}

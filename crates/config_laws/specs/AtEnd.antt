@@ -3,7 +3,7 @@ use Rattle.std.specs.Prelude.{◌≡◌, ◌||◌, not, ℕ, Bool, true, false, 
 use Rattle.exo_tree.specs.Tree.{Block}
 use Rattle.exo_tree.specs.Context.{Context}
 use Rattle.meaning_laws.specs.Live.{live_behind}
-use Rattle.live_laws.specs.LiveFits.{LiveAtEnd}
+use Rattle.config_laws.specs.Live.LiveFits.{LiveAtEnd}
 use Rattle.config_laws.specs.Surely.{surely_behind}
 use Rattle.config_laws.specs.Exits.{GoesByExit}
 use Rattle.config_laws.specs.FieldRule.{is_listed, not_again}

@@ -9,7 +9,7 @@ use Rattle.exo_meaning.specs.Run.{World, program_world}
 use Rattle.exo_meaning.specs.Inputs.{Refines}
 use Rattle.meaning_laws.specs.Chain.{HasHead, NeverFaults}
 use Rattle.config_state.specs.FieldSets.{fields_where}
-use Rattle.live_laws.specs.CallVersion.{MayStandForCallee}
+use Rattle.config_laws.specs.Live.CallVersion.{MayStandForCallee}
 use Rattle.config_laws.specs.FieldRule.{Side, fields_at_end, is_listed}
 
 -- the version that a version was made from, and the place from which these fields may differ;

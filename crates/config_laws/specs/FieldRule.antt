@@ -6,7 +6,7 @@ use Rattle.exo_tree.specs.Context.{Context, Here, After, InLoop, InThen, InElse,
 use Rattle.exo_tree.specs.Places.{Main, Path, Opened, opened}
 use Rattle.meaning_laws.specs.Live.{live_behind}
 use Rattle.meaning_laws.specs.UnitFields.{unit_live}
-use Rattle.scope_laws.specs.PlacesCompose.{onward}
+use Rattle.place_laws.specs.Scope.PlacesCompose.{onward}
 use Rattle.config_laws.specs.Surely.{surely_behind, unit_surely}
 
 -- why it refuses; that the result keeps the rules of the language is asked of every rewrite alike

@@ -8,7 +8,7 @@ use Rattle.exo_meaning.specs.Inputs.{Refines}
 use Rattle.meaning_laws.specs.Live.{live, live_behind}
 use Rattle.meaning_laws.specs.Sorted.{MayRun}
 use Rattle.meaning_laws.specs.UnitFields.{unit_live}
-use Rattle.live_laws.specs.CallVersion.{AreAlike, MayStandForCallee, called}
+use Rattle.config_laws.specs.Live.CallVersion.{AreAlike, MayStandForCallee, called}
 use Rattle.config_laws.specs.Surely.{surely_behind, unit_surely}
 use Rattle.config_laws.specs.FieldRule.{or_pass, not_again}
 use Rattle.config_laws.specs.WriteConfig.{written}

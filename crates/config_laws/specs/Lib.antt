@@ -11,3 +11,4 @@ pub mod Keeps
 pub mod AtEnd
 pub mod Local
 pub mod Grown
+pub mod Live

@@ -5,8 +5,8 @@ use Rattle.exo_tree.specs.Context.{Context}
 use Rattle.exo_meaning.specs.State.{State}
 use Rattle.exo_meaning.specs.Run.{World}
 use Rattle.meaning_laws.specs.Live.{live, CallsForget}
-use Rattle.live_laws.specs.LiveFits.{MayReplaceLive}
-use Rattle.live_laws.specs.CallVersion.{called}
+use Rattle.config_laws.specs.Live.LiveFits.{MayReplaceLive}
+use Rattle.config_laws.specs.Live.CallVersion.{called}
 use Rattle.config_laws.specs.FieldRule.{or_pass}
 use Rattle.config_laws.specs.WriteConfig.{written}
 use Rattle.config_laws.specs.BindConfig.{Bound, bound_in, write_and_call}

@@ -26,8 +26,8 @@ use Rattle.affine_places.specs.Readings.{place_reading}
 use Rattle.affine_forms.specs.Forms.{normal}
 use Rattle.affine_forms.specs.Formulas.{moved}
 use Rattle.affine_forms.specs.Laws.{NormalLaw}
-use Rattle.check_facts_laws.specs.Laws.{context_of, facts_of, ComesToPlace, Describes, ContextsHold}
-use Rattle.check_facts_laws.proofs.Truths.{none_some}
+use Rattle.check_laws.specs.Facts.Laws.{context_of, facts_of, ComesToPlace, Describes, ContextsHold}
+use Rattle.check_laws.proofs.OfFacts.Truths.{none_some}
 use Rattle.exo_effects.specs.Accesses.{access_of, accesses_of}
 use Rattle.exo_effects.specs.Orders.{Turn, OrderRow, Less, Greater, Order, order_of}
 use Rattle.exo_effects.specs.Parts.{Parts, no_parts, with_params, parts_at}

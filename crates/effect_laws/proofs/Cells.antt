@@ -14,8 +14,8 @@ use Rattle.affine_forms.specs.Forms.{Allowed, is_affine}
 use Rattle.affine_forms.specs.Strides.{all_affine}
 use Rattle.affine_forms.specs.Laws.{NormalLaw}
 use Rattle.inplace_laws.specs.Windows.{shifted, joined_coords}
-use Rattle.check_facts_laws.proofs.Truths.{parts, joined, none_some, some_injective}
-use Rattle.check_facts_laws.proofs.Sides.{map_gives}
+use Rattle.check_laws.proofs.OfFacts.Truths.{parts, joined, none_some, some_injective}
+use Rattle.check_laws.proofs.OfFacts.Sides.{map_gives}
 use Rattle.exo_effects.specs.Accesses.{AccessCoord, coord_form}
 use Rattle.effect_laws.specs.Covers.{LiesAt, names_in, is_affine_coord, sides_of}
 use Rattle.effect_laws.proofs.Forms.{value_is}

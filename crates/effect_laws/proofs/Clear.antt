@@ -17,7 +17,7 @@ use Rattle.affine_forms.specs.Formulas.{Formula, all_met}
 use Rattle.affine_systems.specs.Systems.{systems_of, HaveNoPoint, KeepsKinds}
 use Rattle.affine_systems.specs.Laws.{SystemsLaw}
 use Rattle.affine_systems.specs.Outcomes.{Owed, owed}
-use Rattle.check_facts_laws.proofs.Truths.{parts, joined, both_false}
+use Rattle.check_laws.proofs.OfFacts.Truths.{parts, joined, both_false}
 use Rattle.exo_effects.specs.Accesses.{Access}
 use Rattle.exo_effects.specs.Orders.{Order}
 use Rattle.exo_effects.specs.Limits.{are_within}

@@ -11,8 +11,8 @@ use Rattle.affine_forms.specs.Formulas.{Formula, less, at_most, equal, differenc
 use Rattle.affine_forms.proofs.Values.{subtracted_value, present_value}
 use Rattle.affine_forms.proofs.FormulaValues.{less_met, at_most_met}
 use Rattle.affine_systems.proofs.Cases.{all_met_append}
-use Rattle.check_facts_laws.proofs.Truths.{joined, none_some, some_injective}
-use Rattle.check_facts_laws.proofs.Sides.{map_gives}
+use Rattle.check_laws.proofs.OfFacts.Truths.{joined, none_some, some_injective}
+use Rattle.check_laws.proofs.OfFacts.Sides.{map_gives}
 use Rattle.exo_effects.specs.Accesses.{AccessCoord, At, Range, Access}
 use Rattle.exo_effects.specs.Orders.{Turn}
 use Rattle.exo_effects.specs.Renamed.{re_linear, re_formula}

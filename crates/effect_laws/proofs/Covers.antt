@@ -21,7 +21,7 @@ use Rattle.meaning_laws.proofs.Names.{Others, name_same, name_on, if_gives, step
 use Rattle.affine_forms.specs.Atoms.{Valuation, value}
 use Rattle.affine_forms.proofs.FormulaValues.{at_most_met, less_met}
 use Rattle.affine_systems.proofs.Cases.{negation_met}
-use Rattle.check_facts_laws.proofs.Affine.{same_number, same_truth}
+use Rattle.check_laws.proofs.OfFacts.Affine.{same_number, same_truth}
 use Rattle.affine_forms.specs.Forms.{is_affine}
 use Rattle.affine_forms.specs.Formulas.{is_met, all_met}
 use Rattle.affine_forms.specs.Strides.{all_affine}
@@ -31,8 +31,8 @@ use Rattle.text_show.specs.Layout.{Text}
 use Rattle.text_show.specs.Words.{Words}
 use Rattle.text_show.specs.ControlText.{access_text}
 use Rattle.text_show.specs.StatementText.{argument_text}
-use Rattle.check_facts_laws.proofs.Truths.{parts, joined, neither, both_false, none_some, some_injective, self}
-use Rattle.check_facts_laws.proofs.Sides.{map_gives}
+use Rattle.check_laws.proofs.OfFacts.Truths.{parts, joined, neither, both_false, none_some, some_injective, self}
+use Rattle.check_laws.proofs.OfFacts.Sides.{map_gives}
 use Rattle.exo_effects.specs.Accesses.{Access, coord_form, plain_form, plain_formula, guard_of, access_of}
 use Rattle.exo_effects.specs.Parts.{Part, window_of}
 use Rattle.exo_effects.specs.Uses.{Use, Inside, in_loop, in_branch, past_statement, use_of, uses_of, cell_of, modes_had, cell_uses, data_uses, argument_uses, arguments_uses, block_uses, step_uses}

@@ -16,7 +16,7 @@ use Rattle.meaning_laws.proofs.Examples.{input, is_admissible, store_three, stor
 use Rattle.meaning_laws.proofs.UnitInstances.{letter, three_named}
 use Rattle.affine_forms.specs.Affine.{Affine, Constraints, HasNoIntegerPoint}
 use Rattle.affine_systems.specs.Outcomes.{owed}
-use Rattle.order_laws.specs.TurnsOfTwo.{Loop, HalvesAreClear}
+use Rattle.place_laws.specs.Order.TurnsOfTwo.{Loop, HalvesAreClear}
 use Rattle.exo_effects.specs.Uses.{modes_of}
 use Rattle.effect_laws.specs.Apart.{Conflict, are_shown_apart, ApartIsMet}
 use Rattle.effect_laws.specs.Fits.{header, IsBlockThere, spot_of, HalvesFit, nest_conflict, NestsFit}

@@ -14,8 +14,8 @@ use Rattle.affine_forms.specs.Formulas.{AllowedFlags, is_affine_condition, own_f
 use Rattle.affine_forms.proofs.FormulaValues.{flag_is}
 use Rattle.affine_forms.specs.Laws.{NormalLaw, FormulaLaw}
 use Rattle.affine_places.specs.Readings.{extent_reading}
-use Rattle.check_facts_laws.proofs.Truths.{parts, joined}
-use Rattle.check_facts_laws.proofs.Affine.{Allows, affine}
+use Rattle.check_laws.proofs.OfFacts.Truths.{parts, joined}
+use Rattle.check_laws.proofs.OfFacts.Affine.{Allows, affine}
 use Rattle.exo_effects.specs.Accesses.{own_flags, plain_form, plain_formula}
 use Rattle.effect_laws.specs.Covers.{names_in}
 

@@ -14,8 +14,8 @@ use Rattle.meaning_laws.proofs.Sorted.{is_other}
 use Rattle.affine_forms.specs.Atoms.{Valuation}
 use Rattle.affine_forms.specs.Forms.{is_affine}
 use Rattle.affine_forms.specs.Formulas.{is_met}
-use Rattle.check_facts_laws.proofs.Truths.{parts, joined, self, some_injective}
-use Rattle.check_facts_laws.proofs.Affine.{Agrees, Grows, same_number, more_affine}
+use Rattle.check_laws.proofs.OfFacts.Truths.{parts, joined, self, some_injective}
+use Rattle.check_laws.proofs.OfFacts.Affine.{Agrees, Grows, same_number, more_affine}
 use Rattle.exo_effects.specs.Accesses.{guard_of}
 use Rattle.exo_effects.specs.Parts.{Part}
 use Rattle.exo_effects.specs.Uses.{Inside}

@@ -8,7 +8,7 @@ use Rattle.affine_forms.specs.Atoms.{Valuation, value}
 use Rattle.affine_forms.specs.Formulas.{Formula, less, is_met, all_met}
 use Rattle.affine_systems.specs.Systems.{HaveNoPoint, KeepsKinds}
 use Rattle.affine_systems.specs.Laws.{SystemsLaw}
-use Rattle.check_facts_laws.proofs.Truths.{joined}
+use Rattle.check_laws.proofs.OfFacts.Truths.{joined}
 use Rattle.exo_effects.specs.Accesses.{Access}
 use Rattle.exo_effects.specs.Orders.{Turn, OrderRow, Less, Greater, Order}
 use Rattle.exo_effects.specs.Fresh.{past_linear, past_formula, past_all, past_access, past_turn, past_order}

@@ -22,9 +22,9 @@ use Rattle.affine_systems.specs.Outcomes.{Owed}
 use Rattle.text_show.specs.Layout.{Text}
 use Rattle.text_show.specs.StatementText.{argument_text}
 use Rattle.text_show.specs.Words.{words_of}
-use Rattle.check_facts_laws.specs.Laws.{context_of, ComesToPlace}
-use Rattle.check_facts_laws.proofs.Sides.{map_gives}
-use Rattle.check_facts_laws.proofs.Truths.{parts, none_some, some_injective}
+use Rattle.check_laws.specs.Facts.Laws.{context_of, ComesToPlace}
+use Rattle.check_laws.proofs.OfFacts.Sides.{map_gives}
+use Rattle.check_laws.proofs.OfFacts.Truths.{parts, none_some, some_injective}
 use Rattle.exo_effects.specs.Accesses.{Access, access_of}
 use Rattle.exo_effects.specs.Conflicts.{clashing, past_these}
 use Rattle.exo_effects.specs.Orders.{no_order}

@@ -14,9 +14,9 @@ use Rattle.meaning_laws.specs.Sound.{binds, on_way}
 use Rattle.meaning_laws.specs.Sorted.{scope_at}
 use Rattle.meaning_laws.specs.Made as made
 use Rattle.affine_forms.specs.Forms.{is_affine}
-use Rattle.check_facts_laws.proofs.Truths.{parts, joined, both_false, on_left, on_right, self, none_some, some_injective}
-use Rattle.check_facts_laws.proofs.Affine.{same_number}
-use Rattle.check_facts_laws.proofs.Sides.{map_gives}
+use Rattle.check_laws.proofs.OfFacts.Truths.{parts, joined, both_false, on_left, on_right, self, none_some, some_injective}
+use Rattle.check_laws.proofs.OfFacts.Affine.{same_number}
+use Rattle.check_laws.proofs.OfFacts.Sides.{map_gives}
 use Rattle.exo_effects.specs.Parts.{Part, Parts, all_of, whole_of, window_of, with_kind, with_params, passed, parts_at}
 use Rattle.effect_laws.specs.Covers.{names_in, is_affine_coord, sides_of, SeesPart}
 use Rattle.effect_laws.proofs.Forms.{bound_is_affine}

@@ -8,8 +8,8 @@ use Rattle.exo_meaning.specs.Orders.{Each}
 use Rattle.exo_meaning.specs.Units.{ControlName, Scope, sort_in, with_name, is_new, plainly, is_control, field_kind}
 use Rattle.affine_forms.specs.Atoms.{Valuation, value}
 use Rattle.affine_forms.specs.Laws.{NormalLaw}
-use Rattle.check_facts_laws.proofs.Truths.{parts, neither, none_some, some_injective, self}
-use Rattle.check_facts_laws.proofs.Affine.{same_number}
+use Rattle.check_laws.proofs.OfFacts.Truths.{parts, neither, none_some, some_injective, self}
+use Rattle.check_laws.proofs.OfFacts.Affine.{same_number}
 use Rattle.exo_effects.specs.Accesses.{plain_form}
 use Rattle.exo_effects.specs.Orders.{Header, Turn, turn_of}
 use Rattle.exo_effects.specs.Uses.{Inside}

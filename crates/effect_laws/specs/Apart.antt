@@ -14,7 +14,7 @@ use Rattle.exo_meaning.specs.Units.{is_control, is_block, field_kind}
 use Rattle.meaning_laws.specs.Pairs.{AreClear}
 use Rattle.meaning_laws.specs.Sorted.{MayRun, scope_there}
 use Rattle.meaning_laws.specs.Touched.{touched}
-use Rattle.check_facts_laws.specs.Laws.{context_of, ComesToPlace}
+use Rattle.check_laws.specs.Facts.Laws.{context_of, ComesToPlace}
 use Rattle.exo_effects.specs.Accesses.{accesses_of}
 use Rattle.exo_effects.specs.Orders.{Header, OrderRow, Less, Greater, order_of}
 use Rattle.exo_effects.specs.Conflicts.{Listing, conflicts_of}

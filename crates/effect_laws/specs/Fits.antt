@@ -10,8 +10,8 @@ use Rattle.exo_meaning.specs.Units.{Scope}
 use Rattle.meaning_laws.specs.Pairs.{AreClear}
 use Rattle.meaning_laws.specs.Touched.{touched, pair_touched}
 use Rattle.meaning_laws.specs.NestsWithin.{IsBefore, BoundsAreApart}
-use Rattle.check_facts_laws.specs.Laws.{ComesToPlace}
-use Rattle.order_laws.specs.TurnsOfTwo.{Loop, Spot, AgreesAt, HalvesAreClear}
+use Rattle.check_laws.specs.Facts.Laws.{ComesToPlace}
+use Rattle.place_laws.specs.Order.TurnsOfTwo.{Loop, Spot, AgreesAt, HalvesAreClear}
 use Rattle.exo_effects.specs.Orders.{Header, Less, Greater}
 use Rattle.exo_effects.specs.Uses.{modes_of}
 use Rattle.effect_laws.specs.Apart.{Turns, Conflict, IsThere, IsApartAt}

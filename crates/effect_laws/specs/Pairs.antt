@@ -11,7 +11,7 @@ use Rattle.exo_meaning.specs.Orders.{Each}
 use Rattle.meaning_laws.specs.Context.{ComesTo}
 use Rattle.meaning_laws.specs.Sorted.{MayRun}
 use Rattle.affine_forms.specs.Affine.{HasNoIntegerPoint}
-use Rattle.check_facts_laws.specs.Laws.{context_of}
+use Rattle.check_laws.specs.Facts.Laws.{context_of}
 use Rattle.exo_effects.specs.Accesses.{access_of}
 use Rattle.exo_effects.specs.Orders.{no_order}
 use Rattle.exo_effects.specs.Conflicts.{clashing, past_these, owed_for}

@@ -6,7 +6,7 @@ ghost use Rattle.effect_laws.specs.Covers.{CoversLaw};
 ghost use Rattle.effect_laws.specs.Fits.{HalvesFit, NestsFit, NeighboursFit};
 ghost use Rattle.effect_laws.specs.Pairs.{PairsAreApart};
 
-pub use check_facts_laws::laws::contexts_hold;
+pub use check_laws::facts::laws::contexts_hold;
 
 /// The accesses of a piece cover what a run of it touches, calls included.
 pub fn accesses_cover()
@@ -33,7 +33,7 @@ pub fn shown_pieces_are_apart()
     meaning_laws::laws::places_fit();
     meaning_laws::laws::places_are_sound();
     meaning_laws::laws::free_names_stand_for_nothing();
-    check_facts_laws::laws::contexts_hold();
+    check_laws::facts::laws::contexts_hold();
     affine_forms::laws::normal_is_exact();
     accesses_cover();
     shown_conflicts_are_clear();
@@ -64,7 +64,7 @@ pub fn pairs_are_apart()
     meaning_laws::laws::places_fit();
     meaning_laws::laws::places_are_sound();
     meaning_laws::laws::free_names_stand_for_nothing();
-    check_facts_laws::laws::contexts_hold();
+    check_laws::facts::laws::contexts_hold();
     affine_forms::laws::normal_is_exact();
     affine_systems::laws::failed_claims_have_points();
     exo_meaning::laws::windows_are_tested();

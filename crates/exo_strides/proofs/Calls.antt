@@ -6,7 +6,7 @@ use Rattle.exo_tree.specs.Tree.{Kind, Param, Argument, Procedure}
 use Rattle.exo_meaning.specs.Calls.{Callee}
 use Rattle.exo_meaning.specs.Run.{is_root, call_writes, callees, callee_in, world_of}
 use Rattle.exo_meaning.specs.Modes.{call_has}
-use Rattle.stride_laws.specs.Strides.{all_see, sees_at, sees_strides}
+use Rattle.buffer_laws.specs.Stride.Strides.{all_see, sees_at, sees_strides}
 use Rattle.exo_strides.specs.Seen.{seen_of, passes}
 use Rattle.exo_strides.specs.Table.{rows_of}
 

@@ -4,7 +4,7 @@ use Rattle.std.proofs.lemmas.List.{length_push}
 use Rattle.std.proofs.lemmas.Option.{slice_get-map}
 use Rattle.exo_tree.specs.Tree.{Param, Argument, Block, Procedure, Program}
 use Rattle.exo_meaning.specs.Run.{is_root, kinds_of, unit_world}
-use Rattle.stride_laws.specs.Strides.{all_see, sees_at, sees_strides, uses_strides, stride_seen}
+use Rattle.buffer_laws.specs.Stride.Strides.{all_see, sees_at, sees_strides, uses_strides, stride_seen}
 use Rattle.exo_strides.specs.Seen.{seen_of, passes, call_sees, first_world, first_see, param_seen, block_sees, is_used_in}
 use Rattle.exo_strides.specs.Table.{rows_of, seen_rows, AreFirst, word_at}
 use Rattle.exo_strides.proofs.Calls.{passed_by, passed_none, passed_some, call_is, as_many_all, row_read, one_more}

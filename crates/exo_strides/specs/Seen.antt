@@ -4,8 +4,8 @@ use Rattle.std.specs.Prelude.{Some, None, slice_get}
 use Rattle.exo_tree.specs.Tree.{Param, Argument, Statement, Block, Procedure, Program}
 use Rattle.exo_meaning.specs.Modes.{call_has}
 use Rattle.exo_meaning.specs.Run.{World, is_root, kinds_of, unit_world, program_world}
-use Rattle.stride_laws.specs.Strides.{uses_strides, step_uses_strides, stride_seen}
-use Rattle.stride_laws.specs.Strides.{is_stride_used}
+use Rattle.buffer_laws.specs.Stride.Strides.{uses_strides, step_uses_strides, stride_seen}
+use Rattle.buffer_laws.specs.Stride.Strides.{is_stride_used}
 
 -- for each parameter, whether its strides are seen
 abbrev pub seen_of : (ℕ → Bool) → List Param → List Bool

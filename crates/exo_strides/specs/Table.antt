@@ -3,7 +3,7 @@ use Rattle.std.specs.Prelude.{◌≡◌, ℕ, Bool, false, List, [], ◌∷◌, 
 use Rattle.std.specs.Prelude.{Some, None, slice_get}
 use Rattle.exo_tree.specs.Tree.{Procedure, Program}
 use Rattle.exo_meaning.specs.Run.{kinds_of}
-use Rattle.stride_laws.specs.Strides.{all_see}
+use Rattle.buffer_laws.specs.Stride.Strides.{all_see}
 use Rattle.exo_strides.specs.Seen.{seen_of, first}
 
 -- a row for each procedure, a word for each parameter

@@ -5,7 +5,7 @@ ghost use Rattle.exo_tree.specs.PlainDatum.{datum};
 ghost use Rattle.exo_tree.specs.PlainArgument.{argument};
 ghost use Rattle.exo_modes.specs.Aliases.{roots_in};
 ghost use Rattle.inplace_laws.specs.Uses.{in_control, in_controls, in_condition, in_datum, in_coords};
-ghost use Rattle.stride_laws.specs.Strides.{nothing, names_of, argument_uses, arguments_use};
+ghost use Rattle.buffer_laws.specs.Stride.Strides.{nothing, names_of, argument_uses, arguments_use};
 
 use exo_modes::{Alias, root};
 use exo_tree::{Arg, Args, Cond, Coord, Coords, Ctrl, DataExpr, Indices};

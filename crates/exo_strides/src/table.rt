@@ -5,7 +5,7 @@ ghost use Rattle.exo_tree.specs.PlainUnit.{program};
 ghost use Rattle.exo_modes.specs.Aliases.{roots_in};
 ghost use Rattle.exo_tree.specs.PlainParam.{parameter_kind};
 ghost use Rattle.exo_tree.specs.PlainProcedure.{procedure};
-ghost use Rattle.stride_laws.specs.Strides.{kind_uses, params_use, sees_strides};
+ghost use Rattle.buffer_laws.specs.Stride.Strides.{kind_uses, params_use, sees_strides};
 ghost use Rattle.exo_strides.specs.Seen.{seen_of, first_world, first_see, param_seen, is_used_in};
 ghost use Rattle.exo_strides.specs.Table.{AreFirst, seen_rows, word_at};
 ghost use Rattle.exo_strides.specs.PlainTable.{rows, table_rows};

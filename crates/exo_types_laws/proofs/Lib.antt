@@ -14,3 +14,5 @@ mod Entries
 mod FirstMemory
 mod Lexed
 mod Units
+pub mod OfStrings
+pub mod OfInstances

@@ -1,2 +1,4 @@
 pub mod Small
 pub mod Laws
+pub mod Strings
+pub mod Instances

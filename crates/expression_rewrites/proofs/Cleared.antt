@@ -3,8 +3,8 @@ use Rattle.std.proofs.Common.{◌≡◌, ℕ, ◌+◌, List, [], ◌∷◌, ◌+
 use Rattle.exo_tree.specs.Tree.{Statement, Assign, Reduce, Config, Pass, If, For, Alloc, View, Call}
 use Rattle.exo_tree.specs.Tree.{Block, end, next, joined, block, statements}
 use Rattle.exo_tree.proofs.Openings.{joined_block}
-use Rattle.scope_laws.proofs.SamePlace.{joined_assoc}
-use Rattle.expression_laws.specs.Passes.{without, before, cleared, or_one_pass}
+use Rattle.place_laws.proofs.OfScope.SamePlace.{joined_assoc}
+use Rattle.proc_laws.specs.Expression.Passes.{without, before, cleared, or_one_pass}
 
 block_of : (b : Block) → block (statements b) ≡ b
 block_of end = refl

@@ -11,8 +11,8 @@ use Rattle.step_rules.specs.Rule.{Tried, Got, Not, Target, Piece}
 use Rattle.step_rules.specs.Shapes.{tried, one_statement}
 use Rattle.step_driver.specs.Outcomes.{RefusedBy}
 use Rattle.step_driver.specs.Spots.{or_nothing, spot_at}
-use Rattle.expression_laws.specs.Exchange.{Operation, matches, exchanged}
-use Rattle.expression_laws.specs.Commute.{operation_of, commuted_by, commuted}
+use Rattle.proc_laws.specs.Expression.Exchange.{Operation, matches, exchanged}
+use Rattle.proc_laws.specs.Expression.Commute.{operation_of, commuted_by, commuted}
 use Rattle.expression_rewrites.specs.Exchanging.{Exchanges}
 
 -- ---- what is made of what is found

@@ -5,7 +5,7 @@ use Rattle.exo_tree.specs.Tree.{Statement, Assign, Reduce, Config, Pass, If, For
 use Rattle.exo_tree.specs.Tree.{Block, end, next, block}
 use Rattle.exo_tree.specs.Places.{Branch, Path}
 use Rattle.cursor_forward.specs.Shifts.{Shift, alone}
-use Rattle.expression_laws.specs.Passes.{down, behind, is_one_pass, shifted, shifted_statement, shifted_block}
+use Rattle.proc_laws.specs.Expression.Passes.{down, behind, is_one_pass, shifted, shifted_statement, shifted_block}
 use Rattle.expression_rewrites.specs.Passing.{is_pass}
 
 module _ (from to : Path) (branch : Branch) where

@@ -1,7 +1,7 @@
 -- What a walk in search of a match does.
 use Rattle.std.specs.Prelude.{◌≡◌, ◌+◌, ◌<◌, ℕ, Bool, true, false}
 use Rattle.exo_tree.specs.Tree.{Datum}
-use Rattle.expression_laws.specs.Exchange.{Operation, matches, exchanged}
+use Rattle.proc_laws.specs.Expression.Exchange.{Operation, matches, exchanged}
 
 -- where a match is found behind the first k ones its sides are exchanged; else all are passed over
 abbrev pub Exchanges : Operation → ℕ → Datum → Bool → ℕ → Datum → Type 0

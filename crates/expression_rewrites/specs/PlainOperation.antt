@@ -1,5 +1,5 @@
 -- The plain form of an operation.
-use Rattle.expression_laws.specs.Exchange as plain
+use Rattle.proc_laws.specs.Expression.Exchange as plain
 use Rattle.expression_rewrites.specs.declared.exchange.Operation.{Operation}
 use Rattle.expression_rewrites.specs.declared.exchange.Operation.TheVariants.{Sum, Product}
 

@@ -5,8 +5,8 @@ ghost use Rattle.exo_tree.specs.Tree.{end, block, statements};
 ghost use Rattle.exo_tree.specs.PlainBinder.{binding};
 ghost use Rattle.exo_tree.specs.PlainControl.{control};
 ghost use Rattle.exo_tree.specs.PlainStatement.{statement};
-ghost use Rattle.expression_laws.specs.Passes as passes;
-ghost use Rattle.expression_laws.specs.Passes.{before, without};
+ghost use Rattle.proc_laws.specs.Expression.Passes as passes;
+ghost use Rattle.proc_laws.specs.Expression.Passes.{before, without};
 
 use exo_tree::{Binder, Block, Ctrl, Stmt};
 use std::alloc::{AllocError, Global};

@@ -1,7 +1,7 @@
 //! The sides of one sum or product of an expression, exchanged.
 ghost use Rattle.std.specs.Prelude.{◌≡◌, ◌+◌, true, MatchBool};
 ghost use Rattle.exo_tree.specs.PlainDatum.{datum};
-ghost use Rattle.expression_laws.specs.Exchange.{one_if, is_sum, is_product};
+ghost use Rattle.proc_laws.specs.Expression.Exchange.{one_if, is_sum, is_product};
 ghost use Rattle.expression_rewrites.specs.PlainOperation.{plain_operation};
 ghost use Rattle.expression_rewrites.specs.Exchanging.{Exchanges};
 

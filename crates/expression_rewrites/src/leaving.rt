@@ -4,8 +4,8 @@ ghost use Rattle.exo_tree.specs.Tree.{block};
 ghost use Rattle.exo_tree.specs.PlainPlace.{branch_taken};
 ghost use Rattle.exo_tree.specs.PlainStatement.{statement};
 ghost use Rattle.cursor_forward.specs.Shifts as shifts;
-ghost use Rattle.expression_laws.specs.Passes as passes;
-ghost use Rattle.expression_laws.specs.Passes.{shifted_block, shifted_statement};
+ghost use Rattle.proc_laws.specs.Expression.Passes as passes;
+ghost use Rattle.proc_laws.specs.Expression.Passes.{shifted_block, shifted_statement};
 ghost use Rattle.expression_rewrites.specs.Passing as passing;
 
 use cursor_forward::{Shift, Shifts};

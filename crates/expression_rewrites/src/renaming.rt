@@ -6,8 +6,8 @@ ghost use Rattle.exo_modes.specs.Seen.{table_says};
 ghost use Rattle.cursor_forward.specs.PlainProposal.{plain_proposal};
 ghost use Rattle.step_rules.specs.Answer.{proposed};
 ghost use Rattle.step_rules.specs.Lawful.{IsTarget};
-ghost use Rattle.expression_laws.specs.Rename.{rename_rule};
-ghost use Rattle.expression_laws.proofs.Rename.{rename_is_lawful, rename_is_carrying};
+ghost use Rattle.proc_laws.specs.Expression.Rename.{rename_rule};
+ghost use Rattle.proc_laws.proofs.OfExpression.Rename.{rename_is_lawful, rename_is_carrying};
 ghost use Rattle.step_driver.specs.Outcomes.{Tries, IsKept, KeepsMeaning, Moves};
 ghost use Rattle.step_driver.specs.PlainTarget.{target};
 

@@ -29,20 +29,20 @@ use Rattle.meaning_laws.proofs.FreshCopies.{copies_run_alike}
 use Rattle.meaning_laws.proofs.Scoped.{or_elim}
 use Rattle.meaning_laws.proofs.Substitute.{substitution_law}
 use Rattle.meaning_laws.proofs.WellFormed.{well_scoped}
-use Rattle.scope_laws.specs.BranchesAtPlaces.{only_branch}
-use Rattle.scope_laws.specs.Roots.{own_roots_at}
-use Rattle.scope_laws.specs.Opened.{IsNew, IsInner, MayLeave}
-use Rattle.scope_laws.specs.Scopes.{HasNone, top_binders, joined_all, scopes}
-use Rattle.scope_laws.specs.UnrollLoop.{only_loop}
-use Rattle.scope_laws.specs.Unrolled.{HasNamesOf, AreTurns}
-use Rattle.scope_laws.proofs.MadeCopies.{given_from, true_by, copy_leaves, made_copies_are_apart}
-use Rattle.scope_laws.proofs.MayLeave.{may_leave_law, top_has}
-use Rattle.scope_laws.proofs.Opened.{same_refines, blocks_may_open, branch_may_stand}
-use Rattle.scope_laws.proofs.Opened.{split_may_stand}
-use Rattle.scope_laws.proofs.Scopes.{joined_binders}
-use Rattle.scope_laws.proofs.Unrolled.{turns_are_scopes_law}
-use Rattle.order_laws.specs.TurnsOfTwo.{Loop}
-use Rattle.order_laws.proofs.Caught.{nothing_is_caught}
+use Rattle.place_laws.specs.Scope.BranchesAtPlaces.{only_branch}
+use Rattle.place_laws.specs.Scope.Roots.{own_roots_at}
+use Rattle.place_laws.specs.Scope.Opened.{IsNew, IsInner, MayLeave}
+use Rattle.place_laws.specs.Scope.Scopes.{HasNone, top_binders, joined_all, scopes}
+use Rattle.place_laws.specs.Scope.UnrollLoop.{only_loop}
+use Rattle.place_laws.specs.Scope.Unrolled.{HasNamesOf, AreTurns}
+use Rattle.place_laws.proofs.OfScope.MadeCopies.{given_from, true_by, copy_leaves, made_copies_are_apart}
+use Rattle.place_laws.proofs.OfScope.MayLeave.{may_leave_law, top_has}
+use Rattle.place_laws.proofs.OfScope.Opened.{same_refines, blocks_may_open, branch_may_stand}
+use Rattle.place_laws.proofs.OfScope.Opened.{split_may_stand}
+use Rattle.place_laws.proofs.OfScope.Scopes.{joined_binders}
+use Rattle.place_laws.proofs.OfScope.Unrolled.{turns_are_scopes_law}
+use Rattle.place_laws.specs.Order.TurnsOfTwo.{Loop}
+use Rattle.place_laws.proofs.OfOrder.Caught.{nothing_is_caught}
 use Rattle.step_rules.specs.Rule.{Spot}
 use Rattle.step_rules.specs.Lawful.{IsSpot, Stands, same, hiding, around, old, world_of}
 use Rattle.step_rules.specs.Lawful.{callees_for, scope_here}

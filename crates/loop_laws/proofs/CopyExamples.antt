@@ -3,10 +3,10 @@ use Rattle.std.proofs.Common.{ℕ, pos, true, [], ◌∷◌, refl}
 use Rattle.exo_tree.specs.Tree.{Lit, Var, Condition, True, Const, Assign, Pass, If, For, Block, end, next}
 use Rattle.exo_tree.specs.Context.{Here}
 use Rattle.exo_meaning.specs.Units.{IsUnit}
-use Rattle.scope_laws.specs.BranchesAtPlaces.{specialized}
+use Rattle.place_laws.specs.Scope.BranchesAtPlaces.{specialized}
 use Rattle.cursor_forward.specs.Shifts.{at_index}
-use Rattle.order_laws.specs.TurnsOfTwo.{Loop}
-use Rattle.simplify_laws.specs.Simplified.{literal}
+use Rattle.place_laws.specs.Order.TurnsOfTwo.{Loop}
+use Rattle.match_laws.specs.Simplify.Simplified.{literal}
 use Rattle.step_rules.specs.Rule.{Spot}
 use Rattle.step_rules.specs.Lawful.{IsSpot, Replaces}
 use Rattle.loop_laws.specs.Copies.{TurnsMayBeWrittenOut}

@@ -20,12 +20,12 @@ use Rattle.meaning_laws.specs.Substitute.{is_plain}
 use Rattle.meaning_laws.proofs.CopiesAtPlaces.{places_may_copy}
 use Rattle.meaning_laws.proofs.FreshCopies.{closed_copies_are_same}
 use Rattle.meaning_laws.proofs.Substitute.{plain_same}
-use Rattle.scope_laws.specs.Roots.{own_roots_at}
-use Rattle.scope_laws.specs.Unrolled.{HasNamesOf}
+use Rattle.place_laws.specs.Scope.Roots.{own_roots_at}
+use Rattle.place_laws.specs.Scope.Unrolled.{HasNamesOf}
 use Rattle.made_trees.specs.Passes.{or_pass}
 use Rattle.cursor_forward.specs.Shifts.{stays}
 use Rattle.cursor_forward.specs.Forwards.{Carries, are_apart}
-use Rattle.order_laws.specs.TurnsOfTwo.{Loop}
+use Rattle.place_laws.specs.Order.TurnsOfTwo.{Loop}
 use Rattle.step_rules.specs.Lawful.{IsFormedHere, Site, IsSite, around, old, world_of}
 use Rattle.step_rules.specs.Lawful.{scope_here, callees_for, same, IsLawful, IsCarrying}
 use Rattle.step_rules.proofs.Shapes.{or_pass_next}

@@ -25,14 +25,14 @@ use Rattle.meaning_laws.proofs.Facts.{or_left, or_right}
 use Rattle.meaning_laws.proofs.Fewer as fewer
 use Rattle.meaning_laws.proofs.Scoped.{control_open, or_elim}
 use Rattle.meaning_laws.proofs.Substitute.{and_parts}
-use Rattle.scope_laws.specs.Roots.{own_roots_at}
-use Rattle.scope_laws.specs.BranchesAtPlaces.{only_branch}
-use Rattle.scope_laws.specs.UnrollLoop.{only_loop}
+use Rattle.place_laws.specs.Scope.Roots.{own_roots_at}
+use Rattle.place_laws.specs.Scope.BranchesAtPlaces.{only_branch}
+use Rattle.place_laws.specs.Scope.UnrollLoop.{only_loop}
 use Rattle.made_trees.specs.Passes.{or_pass}
 use Rattle.cursor_forward.specs.Shifts.{at_index, alone, range}
 use Rattle.cursor_forward.specs.Forwards.{Carries, AreCarried, are_apart}
-use Rattle.order_laws.specs.TurnsOfTwo.{Loop}
-use Rattle.order_laws.proofs.Caught.{nothing_is_caught, binders_are_shown}
+use Rattle.place_laws.specs.Order.TurnsOfTwo.{Loop}
+use Rattle.place_laws.proofs.OfOrder.Caught.{nothing_is_caught, binders_are_shown}
 use Rattle.step_rules.specs.Rule.{Spot}
 use Rattle.step_rules.specs.Lawful.{IsMet, IsFormedHere, Site, IsSite, Stands, AtHole, around, old, world_of}
 use Rattle.step_rules.specs.Lawful.{scope_here, callees_for, fields_at_exit, Replaces, same, IsLawful}

@@ -21,10 +21,10 @@ use Rattle.meaning_laws.proofs.Copies.{unbound_on}
 use Rattle.meaning_laws.proofs.FreshCopies.{closed_copies_are_same}
 use Rattle.meaning_laws.proofs.Scoped.{control_open}
 use Rattle.meaning_laws.proofs.Substitute.{plain_same}
-use Rattle.scope_laws.specs.BranchesAtPlaces.{only_branch}
-use Rattle.scope_laws.specs.Unrolled.{HasNamesOf}
-use Rattle.scope_laws.proofs.Turns.{scope_of_none_law}
-use Rattle.order_laws.specs.TurnsOfTwo.{Loop}
+use Rattle.place_laws.specs.Scope.BranchesAtPlaces.{only_branch}
+use Rattle.place_laws.specs.Scope.Unrolled.{HasNamesOf}
+use Rattle.place_laws.proofs.OfScope.Turns.{scope_of_none_law}
+use Rattle.place_laws.specs.Order.TurnsOfTwo.{Loop}
 use Rattle.loop_laws.specs.DivideLoop.{Tail, Division, turn_behind, turn_in_group, body_in_group}
 use Rattle.loop_laws.specs.DivideLoop.{whole_groups, guarded_groups, turns_behind, tail_turns}
 use Rattle.loop_laws.specs.DivideLoop.{outer, inner}

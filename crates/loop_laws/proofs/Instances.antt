@@ -23,7 +23,7 @@ use Rattle.cursor_forward.specs.Cursors.{Before}
 use Rattle.cursor_forward.specs.Forwards.{Forwards}
 use Rattle.cursor_forward.specs.Shifts.{Shift, at_index, stays, edits_of, move_of}
 use Rattle.cursor_forward.specs.Proposals.{Plan}
-use Rattle.order_laws.specs.TurnsOfTwo.{Loop}
+use Rattle.place_laws.specs.Order.TurnsOfTwo.{Loop}
 use Rattle.step_rules.specs.Rule.{Got, Says}
 use Rattle.step_rules.specs.Owing.{AreShown, owed_for}
 use Rattle.step_rules.specs.Lawful.{IsMet, IsTarget, MayRunIn}

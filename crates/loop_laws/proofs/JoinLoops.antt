@@ -14,10 +14,10 @@ use Rattle.meaning_laws.specs.Sound.{IsSound}
 use Rattle.meaning_laws.specs.Substitute.{is_plain}
 use Rattle.meaning_laws.proofs.FreshCopies.{closed_copies_are_same}
 use Rattle.meaning_laws.proofs.Substitute.{and_parts, plain_same}
-use Rattle.scope_laws.specs.Bare.{bare}
-use Rattle.scope_laws.specs.UnrollLoop.{only_loop}
-use Rattle.scope_laws.specs.Unrolled.{HasNamesOf}
-use Rattle.scope_laws.proofs.Bare.{same_but_for_names}
+use Rattle.place_laws.specs.Scope.Bare.{bare}
+use Rattle.place_laws.specs.Scope.UnrollLoop.{only_loop}
+use Rattle.place_laws.specs.Scope.Unrolled.{HasNamesOf}
+use Rattle.place_laws.proofs.OfScope.Bare.{same_but_for_names}
 use Rattle.affine_forms.specs.Atoms.{Valuation, Linear, value, same_terms, same_form}
 use Rattle.affine_forms.specs.Forms.{is_affine, normal}
 use Rattle.affine_forms.proofs.NormalForm.{normal_law}
@@ -25,8 +25,8 @@ use Rattle.affine_forms.proofs.Values.{int_eq_same, same_terms_value}
 use Rattle.affine_places.specs.Agreement.{agree}
 use Rattle.affine_places.specs.Readings.{extent_reading}
 use Rattle.affine_places.specs.Roots.{variables}
-use Rattle.simplify_laws.specs.Simplified.{values_in}
-use Rattle.order_laws.specs.TurnsOfTwo.{Loop}
+use Rattle.match_laws.specs.Simplify.Simplified.{values_in}
+use Rattle.place_laws.specs.Order.TurnsOfTwo.{Loop}
 use Rattle.loop_laws.specs.Turns.{between}
 use Rattle.loop_laws.proofs.SameTurns.{own_names, turns_stay, if_left}
 use Rattle.loop_laws.proofs.Sites.{block_of, may_copy_there}

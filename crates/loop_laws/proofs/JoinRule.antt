@@ -20,19 +20,19 @@ use Rattle.meaning_laws.specs.Scoped.{has_binder}
 use Rattle.meaning_laws.specs.Substitute.{is_plain}
 use Rattle.meaning_laws.proofs.CopiesAtPlaces.{places_may_copy, old_is_made}
 use Rattle.meaning_laws.proofs.Substitute.{and_parts}
-use Rattle.scope_laws.specs.Roots.{own_roots_at}
-use Rattle.scope_laws.proofs.SamePlace.{first_place}
+use Rattle.place_laws.specs.Scope.Roots.{own_roots_at}
+use Rattle.place_laws.proofs.OfScope.SamePlace.{first_place}
 use Rattle.affine_forms.specs.Forms.{is_affine}
 use Rattle.affine_places.specs.Agreement.{agree, agreement_fits}
 use Rattle.affine_places.specs.Readings.{extent_reading}
 use Rattle.affine_places.specs.Roots.{variables}
 use Rattle.made_trees.specs.Ids.{next_id}
 use Rattle.made_trees.specs.Passes.{or_pass}
-use Rattle.check_facts_laws.specs.Laws.{ComesToPlace}
+use Rattle.check_laws.specs.Facts.Laws.{ComesToPlace}
 use Rattle.cursor_forward.specs.Causes.{WrongShape, Form, WideNumber}
 use Rattle.cursor_forward.specs.Shifts.{stays}
 use Rattle.cursor_forward.specs.Forwards.{Carries, are_apart}
-use Rattle.order_laws.specs.TurnsOfTwo.{Loop}
+use Rattle.place_laws.specs.Order.TurnsOfTwo.{Loop}
 use Rattle.step_rules.specs.Rule.{Tried, Got, Not, Piece, Says}
 use Rattle.step_rules.specs.Answer.{then_try, opened_or_wrong}
 use Rattle.step_rules.specs.Shapes.{tried}

@@ -25,3 +25,4 @@ pub mod SameTrees
 pub mod JoinLoops
 pub mod JoinRule
 pub mod JoinExamples
+pub mod OfNest

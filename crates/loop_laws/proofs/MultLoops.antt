@@ -17,13 +17,13 @@ use Rattle.meaning_laws.specs.Scoped.{has_binder}
 use Rattle.meaning_laws.specs.Substitute.{has_variable, catches}
 use Rattle.meaning_laws.proofs.Facts.{or_left}
 use Rattle.meaning_laws.proofs.Fewer as fewer
-use Rattle.scope_laws.specs.Roots.{own_roots_at}
-use Rattle.scope_laws.specs.UnrollLoop.{only_loop}
+use Rattle.place_laws.specs.Scope.Roots.{own_roots_at}
+use Rattle.place_laws.specs.Scope.UnrollLoop.{only_loop}
 use Rattle.made_trees.specs.Passes.{or_pass}
 use Rattle.cursor_forward.specs.Shifts.{at_index, alone, range}
 use Rattle.cursor_forward.specs.Forwards.{AreCarried, Carries, are_apart}
-use Rattle.order_laws.specs.TurnsOfTwo.{Loop}
-use Rattle.order_laws.proofs.Caught.{nothing_is_caught, binders_are_shown}
+use Rattle.place_laws.specs.Order.TurnsOfTwo.{Loop}
+use Rattle.place_laws.proofs.OfOrder.Caught.{nothing_is_caught, binders_are_shown}
 use Rattle.step_rules.specs.Lawful.{Site, IsSite, Stands, IsLawful, IsCarrying, same, around, old}
 use Rattle.step_rules.specs.Lawful.{world_of, callees_for, scope_here, Replaces, fields_at_exit}
 use Rattle.step_rules.proofs.Shapes.{made_of, or_pass_next}

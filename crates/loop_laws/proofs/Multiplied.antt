@@ -26,9 +26,9 @@ use Rattle.meaning_laws.specs.Sound.{IsSound, IsUnbound}
 use Rattle.meaning_laws.specs.Substitute.{bound, has_variable, has_flag, argument_has_flag, arguments_have_flag}
 use Rattle.meaning_laws.specs.Substitute.{catches, step_catches}
 use Rattle.meaning_laws.proofs.Copies.{unbound_on}
-use Rattle.scope_laws.specs.UnrollLoop.{only_loop}
-use Rattle.scope_laws.specs.Unrolled.{HasNamesOf}
-use Rattle.scope_laws.proofs.Scopes.{left_same_but}
+use Rattle.place_laws.specs.Scope.UnrollLoop.{only_loop}
+use Rattle.place_laws.specs.Scope.Unrolled.{HasNamesOf}
+use Rattle.place_laws.proofs.OfScope.Scopes.{left_same_but}
 use Rattle.loop_laws.specs.Turns.{Turn, group}
 use Rattle.loop_laws.specs.SameTurns.{MayStandIn, at_turn}
 use Rattle.loop_laws.proofs.SameTurns.{own_names, if_left, left_twice, substituted}

@@ -12,7 +12,7 @@ use Rattle.exo_tree.specs.Tree.{Select, Coord, At, Span, Argument, ControlArg, C
 use Rattle.exo_tree.specs.Tree.{Window, Statement, Assign, Reduce, Config, Pass, If, For, Alloc, View}
 use Rattle.exo_tree.specs.Tree.{Call, Block, end, next}
 use Rattle.meaning_laws.proofs.Substitute.{and_parts}
-use Rattle.scope_laws.specs.Bare.{bare_binder, bare_statement, bare}
+use Rattle.place_laws.specs.Scope.Bare.{bare_binder, bare_statement, bare}
 use Rattle.loop_laws.specs.SameTrees.{same_control, same_controls, same_condition}
 use Rattle.loop_laws.specs.SameTrees.{same_datum, same_coord, same_coords, same_argument}
 use Rattle.loop_laws.specs.SameTrees.{same_arguments, same_statement, same_block}

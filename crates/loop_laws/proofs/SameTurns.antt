@@ -14,9 +14,9 @@ use Rattle.meaning_laws.specs.Substitute.{bound}
 use Rattle.meaning_laws.proofs.Names.{name_same}
 use Rattle.meaning_laws.proofs.Sound.{left_sound}
 use Rattle.meaning_laws.proofs.Substitute.{substitution_law}
-use Rattle.scope_laws.specs.UnrollLoop.{only_loop}
-use Rattle.scope_laws.specs.Unrolled.{HasNamesOf}
-use Rattle.scope_laws.proofs.Scopes.{left_same_but}
+use Rattle.place_laws.specs.Scope.UnrollLoop.{only_loop}
+use Rattle.place_laws.specs.Scope.Unrolled.{HasNamesOf}
+use Rattle.place_laws.proofs.OfScope.Scopes.{left_same_but}
 use Rattle.loop_laws.specs.Turns.{Turn, group}
 use Rattle.loop_laws.specs.SameTurns.{MayStandIn, at_turn, SubstitutedTurn, IsMovedBy, MovedLoop}
 use Rattle.loop_laws.specs.SameTurns.{AreGroupsOf, GroupedLoop}

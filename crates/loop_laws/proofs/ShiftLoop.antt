@@ -20,13 +20,13 @@ use Rattle.meaning_laws.specs.Substitute.{is_plain, has_variable}
 use Rattle.meaning_laws.proofs.Facts.{or_left, or_right}
 use Rattle.meaning_laws.proofs.Scoped.{control_open}
 use Rattle.meaning_laws.proofs.Substitute.{and_parts, plain_same}
-use Rattle.scope_laws.specs.Roots.{own_roots_at}
-use Rattle.scope_laws.specs.Unrolled.{HasNamesOf}
+use Rattle.place_laws.specs.Scope.Roots.{own_roots_at}
+use Rattle.place_laws.specs.Scope.Unrolled.{HasNamesOf}
 use Rattle.made_trees.specs.Passes.{or_pass}
 use Rattle.cursor_forward.specs.Shifts.{stays}
 use Rattle.cursor_forward.specs.Forwards.{Loop as LoopKind, Joint, none, Carries, are_apart}
-use Rattle.order_laws.specs.TurnsOfTwo.{Loop}
-use Rattle.order_laws.proofs.Caught.{nothing_is_caught}
+use Rattle.place_laws.specs.Order.TurnsOfTwo.{Loop}
+use Rattle.place_laws.proofs.OfOrder.Caught.{nothing_is_caught}
 use Rattle.step_rules.specs.Lawful.{Site, IsSite, IsFormedHere, IsLawful, IsCarrying, same, around, old}
 use Rattle.step_rules.specs.Lawful.{world_of, callees_for, scope_here}
 use Rattle.step_rules.proofs.Shapes.{one_stays}

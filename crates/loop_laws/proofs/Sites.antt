@@ -30,15 +30,15 @@ use Rattle.meaning_laws.proofs.Copies.{unbound_on}
 use Rattle.meaning_laws.proofs.Fewer as fewer
 use Rattle.meaning_laws.proofs.Substitute.{and_parts}
 use Rattle.meaning_laws.proofs.WellFormed.{well_scoped, plain_of}
-use Rattle.scope_laws.specs.Roots.{own_roots_at}
-use Rattle.scope_laws.specs.UnrollLoop.{only_loop}
-use Rattle.scope_laws.specs.Unrolled.{HasNamesOf}
-use Rattle.check_facts_laws.specs.Laws.{ComesToPlace}
+use Rattle.place_laws.specs.Scope.Roots.{own_roots_at}
+use Rattle.place_laws.specs.Scope.UnrollLoop.{only_loop}
+use Rattle.place_laws.specs.Scope.Unrolled.{HasNamesOf}
+use Rattle.check_laws.specs.Facts.Laws.{ComesToPlace}
 use Rattle.tree_rules.specs.Classes.{both, rule, limit}
 use Rattle.tree_rules.specs.Findings.{found_in_binder, found_in_control, findings_of_control}
 use Rattle.tree_rules.specs.Findings.{findings_of_statement, findings_of_block}
 use Rattle.tree_rules.specs.Sizes.{is_small_control}
-use Rattle.order_laws.specs.TurnsOfTwo.{Loop}
+use Rattle.place_laws.specs.Order.TurnsOfTwo.{Loop}
 use Rattle.step_rules.specs.Rule.{Got, Target, Piece, Spot, Need, Says}
 use Rattle.step_rules.specs.Lawful.{IsMet, around, old, world_of, IsSpot, AtHole, Site, IsFormedHere}
 use Rattle.step_rules.specs.Lawful.{found_scope_at, scope_here, callees_for}

@@ -7,8 +7,8 @@ use Rattle.exo_tree.specs.Context.{Context, Here, InThen, rest_of}
 use Rattle.exo_tree.specs.Places.{Opened, opened}
 use Rattle.exo_tree.specs.Renaming.{fresh}
 use Rattle.exo_meaning.specs.Unseen.{in_block as mentions}
-use Rattle.scope_laws.specs.BranchesAtPlaces.{specialized}
-use Rattle.scope_laws.specs.Scopes.{top_binders}
+use Rattle.place_laws.specs.Scope.BranchesAtPlaces.{specialized}
+use Rattle.place_laws.specs.Scope.Scopes.{top_binders}
 use Rattle.made_trees.specs.Passes.{or_pass}
 use Rattle.cursor_forward.specs.Causes.{WrongShape}
 use Rattle.cursor_forward.specs.Forwards.{Carries}

@@ -17,20 +17,20 @@ use Rattle.exo_meaning.specs.Run as run
 use Rattle.exo_meaning.specs.Unseen.{in_control}
 use Rattle.meaning_laws.specs.FreshCopies.{copies_from}
 use Rattle.meaning_laws.specs.Substitute.{is_plain, has_variable}
-use Rattle.scope_laws.specs.Scopes.{joined_all}
-use Rattle.scope_laws.specs.UnrollLoop.{only_loop}
+use Rattle.place_laws.specs.Scope.Scopes.{joined_all}
+use Rattle.place_laws.specs.Scope.UnrollLoop.{only_loop}
 use Rattle.affine_forms.specs.Atoms.{Terms, none, term, Linear, value}
 use Rattle.affine_forms.specs.Forms.{is_affine}
 use Rattle.affine_forms.specs.Laws.{ReadsAt}
 use Rattle.affine_forms.proofs.NormalForm.{normal_law}
 use Rattle.affine_places.specs.Readings.{extent_reading}
 use Rattle.affine_places.specs.Roots.{variables}
-use Rattle.simplify_laws.specs.Simplified.{literal, values_in}
+use Rattle.match_laws.specs.Simplify.Simplified.{literal, values_in}
 use Rattle.made_trees.specs.Passes.{or_pass}
 use Rattle.cursor_forward.specs.Causes.{LimitPassed, Form, WideNumber}
 use Rattle.cursor_forward.specs.Shifts.{at_index}
 use Rattle.cursor_forward.specs.Forwards.{bones, Carries, are_apart}
-use Rattle.order_laws.specs.TurnsOfTwo.{Loop}
+use Rattle.place_laws.specs.Order.TurnsOfTwo.{Loop}
 use Rattle.step_rules.specs.Rule.{Tried, Got, Not}
 use Rattle.step_rules.specs.Answer.{then_try}
 use Rattle.step_rules.specs.Lawful.{IsSpot, Site, Replaces, IsLawful, IsCarrying, around, old}

@@ -11,10 +11,10 @@ use Rattle.exo_meaning.specs.Units.{bound_ids}
 use Rattle.exo_meaning.specs.Unseen.{in_control, in_block as mentions}
 use Rattle.meaning_laws.specs.FreshCopies.{copies_from}
 use Rattle.meaning_laws.specs.Substitute.{is_plain, has_variable}
-use Rattle.scope_laws.specs.BranchesAtPlaces.{only_branch, specialized}
-use Rattle.scope_laws.specs.Scopes.{top_binders, joined_all}
-use Rattle.scope_laws.specs.UnrollLoop.{only_loop}
-use Rattle.order_laws.specs.TurnsOfTwo.{Loop}
+use Rattle.place_laws.specs.Scope.BranchesAtPlaces.{only_branch, specialized}
+use Rattle.place_laws.specs.Scope.Scopes.{top_binders, joined_all}
+use Rattle.place_laws.specs.Scope.UnrollLoop.{only_loop}
+use Rattle.place_laws.specs.Order.TurnsOfTwo.{Loop}
 use Rattle.step_rules.specs.Rule.{Spot}
 use Rattle.step_rules.specs.Lawful.{IsSpot, AtHole, Replaces, around, old}
 

@@ -7,10 +7,10 @@ use Rattle.exo_tree.specs.Places.{Path}
 use Rattle.exo_tree.specs.Renaming.{fresh}
 use Rattle.exo_tree.specs.Substitution.{in_block}
 use Rattle.meaning_laws.specs.Facts.{Holds}
-use Rattle.scope_laws.specs.UnrollLoop.{only_loop}
-use Rattle.scope_laws.specs.BranchesAtPlaces.{only_branch}
+use Rattle.place_laws.specs.Scope.UnrollLoop.{only_loop}
+use Rattle.place_laws.specs.Scope.BranchesAtPlaces.{only_branch}
 use Rattle.cursor_forward.specs.Shifts.{Shift, at_index, alone, range}
-use Rattle.order_laws.specs.TurnsOfTwo.{Loop}
+use Rattle.place_laws.specs.Order.TurnsOfTwo.{Loop}
 use Rattle.step_rules.specs.Rule.{Need, Says, Rule}
 use Rattle.loop_laws.specs.Shapes.{loop_of, from_zero, listed, loop_rule, inside}
 

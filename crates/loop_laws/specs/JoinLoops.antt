@@ -6,7 +6,7 @@ use Rattle.exo_tree.specs.Tree.{Lit, Le, Block, end, next}
 use Rattle.exo_tree.specs.Places.{Path, opened}
 use Rattle.exo_tree.specs.Renaming.{fresh}
 use Rattle.meaning_laws.specs.Facts.{Holds}
-use Rattle.scope_laws.specs.UnrollLoop.{only_loop}
+use Rattle.place_laws.specs.Scope.UnrollLoop.{only_loop}
 use Rattle.affine_forms.specs.Forms.{is_affine}
 use Rattle.affine_places.specs.Agreement.{agree, agreement_fits}
 use Rattle.affine_places.specs.Readings.{extent_reading}
@@ -14,7 +14,7 @@ use Rattle.affine_places.specs.Roots.{variables}
 use Rattle.made_trees.specs.Ids.{next_id}
 use Rattle.cursor_forward.specs.Causes.{WrongShape, Form, WideNumber}
 use Rattle.cursor_forward.specs.Shifts.{stays}
-use Rattle.order_laws.specs.TurnsOfTwo.{Loop}
+use Rattle.place_laws.specs.Order.TurnsOfTwo.{Loop}
 use Rattle.step_rules.specs.Rule.{Tried, Got, Not, Target, Piece, Need, Says, Spot, Rule}
 use Rattle.step_rules.specs.Rule.{plain_rule}
 use Rattle.step_rules.specs.Answer.{then_try, opened_or_wrong}

@@ -10,3 +10,4 @@ pub mod ShiftLoop
 pub mod SameTurns
 pub mod SameTrees
 pub mod JoinLoops
+pub mod Nest

@@ -4,9 +4,9 @@ use Rattle.std.specs.Prelude.{Option, Some, None, option_and_then, option_map}
 use Rattle.exo_tree.specs.Tree.{Binder, Control, Lit, Var, Field, StrideOf, Neg, Add, Sub, Mul, Div}
 use Rattle.exo_tree.specs.Tree.{Mod, Block, statements}
 use Rattle.exo_tree.specs.Substitution.{in_block}
-use Rattle.scope_laws.specs.UnrollLoop.{only_loop}
+use Rattle.place_laws.specs.Scope.UnrollLoop.{only_loop}
 use Rattle.cursor_forward.specs.Shifts.{Shift, at_index, alone, range}
-use Rattle.order_laws.specs.TurnsOfTwo.{Loop}
+use Rattle.place_laws.specs.Order.TurnsOfTwo.{Loop}
 use Rattle.step_rules.specs.Rule.{Rule, plain_rule}
 use Rattle.step_rules.specs.Shapes.{tried, one_statement}
 use Rattle.loop_laws.specs.Shapes.{loop_of, from_zero, inside}

@@ -9,8 +9,8 @@ use Rattle.exo_meaning.specs.Run.{World, run, turn, turns, range, count}
 use Rattle.exo_meaning.specs.Unseen.{in_block as mentions, SameBut}
 use Rattle.meaning_laws.specs.Sound.{IsSound}
 use Rattle.meaning_laws.specs.Substitute.{is_plain, catches, bound}
-use Rattle.scope_laws.specs.UnrollLoop.{only_loop}
-use Rattle.scope_laws.specs.Unrolled.{HasNamesOf}
+use Rattle.place_laws.specs.Scope.UnrollLoop.{only_loop}
+use Rattle.place_laws.specs.Scope.Unrolled.{HasNamesOf}
 use Rattle.loop_laws.specs.Turns.{Turn}
 
 -- e may stand for the variable in the body

@@ -7,7 +7,7 @@ use Rattle.exo_tree.specs.Tree.{Statement, Assign, Reduce, Config, Pass, If, For
 use Rattle.exo_tree.specs.Tree.{Block}
 use Rattle.exo_tree.specs.Places.{Main, Path}
 use Rattle.cursor_forward.specs.Shifts.{Shift, at_index}
-use Rattle.order_laws.specs.TurnsOfTwo.{Loop}
+use Rattle.place_laws.specs.Order.TurnsOfTwo.{Loop}
 use Rattle.step_rules.specs.Rule.{Spot, Rule, plain_rule}
 use Rattle.step_rules.specs.Shapes.{tried, alone_in, one_statement}
 

@@ -4,9 +4,9 @@ use Rattle.exo_tree.specs.Tree.{Control, Lit, Var, Add, Sub, Le, Block}
 use Rattle.exo_tree.specs.Places.{Path}
 use Rattle.exo_tree.specs.Substitution.{in_block}
 use Rattle.meaning_laws.specs.Facts.{Holds}
-use Rattle.scope_laws.specs.UnrollLoop.{only_loop}
+use Rattle.place_laws.specs.Scope.UnrollLoop.{only_loop}
 use Rattle.cursor_forward.specs.Shifts.{stays}
-use Rattle.order_laws.specs.TurnsOfTwo.{Loop}
+use Rattle.place_laws.specs.Order.TurnsOfTwo.{Loop}
 use Rattle.step_rules.specs.Rule.{Need, Says, Rule}
 use Rattle.loop_laws.specs.Shapes.{loop_of, listed, loop_rule}
 

@@ -4,8 +4,8 @@ use Rattle.exo_tree.specs.Tree.{Condition, statements}
 use Rattle.exo_tree.specs.Context.{rest_of}
 use Rattle.exo_tree.specs.Places.{Path, Opened, opened}
 use Rattle.exo_meaning.specs.Unseen.{in_block as mentions}
-use Rattle.scope_laws.specs.BranchesAtPlaces.{specialized}
-use Rattle.scope_laws.specs.Scopes.{top_binders}
+use Rattle.place_laws.specs.Scope.BranchesAtPlaces.{specialized}
+use Rattle.place_laws.specs.Scope.Scopes.{top_binders}
 use Rattle.cursor_forward.specs.Causes.{WrongShape}
 use Rattle.cursor_forward.specs.Shifts.{Shift, at_index, range}
 use Rattle.step_rules.specs.Rule.{Tried, Got, Not, Target, Piece, Rule, plain_rule}

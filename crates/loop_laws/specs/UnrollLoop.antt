@@ -9,10 +9,10 @@ use Rattle.affine_forms.specs.Atoms.{none, term, Linear}
 use Rattle.affine_forms.specs.Forms.{is_affine, normal, is_writable}
 use Rattle.affine_places.specs.Readings.{extent_reading}
 use Rattle.affine_places.specs.Roots.{variables}
-use Rattle.simplify_laws.specs.Simplified.{literal}
+use Rattle.match_laws.specs.Simplify.Simplified.{literal}
 use Rattle.cursor_forward.specs.Causes.{WrongShape, LimitPassed, Form, WideNumber}
 use Rattle.cursor_forward.specs.Shifts.{Shift, at_index, range}
-use Rattle.order_laws.specs.TurnsOfTwo.{Loop}
+use Rattle.place_laws.specs.Order.TurnsOfTwo.{Loop}
 use Rattle.step_rules.specs.Rule.{Tried, Got, Not, Target, Piece, Rule, plain_rule}
 use Rattle.step_rules.specs.Answer.{then_try, opened_or_wrong}
 use Rattle.step_rules.specs.Shapes.{tried}

@@ -14,7 +14,7 @@ use Rattle.affine_forms.specs.Outcomes.{IsWide}
 use Rattle.affine_forms.specs.TermBounds.{is_none}
 use Rattle.affine_forms.specs.declared.error.FormError.{FormError}
 use Rattle.affine_forms.specs.declared.error.FormError.TheVariants as form
-use Rattle.order_laws.specs.TurnsOfTwo.{Loop}
+use Rattle.place_laws.specs.Order.TurnsOfTwo.{Loop}
 use Rattle.cursor_forward.specs.Causes.{WrongShape, LimitPassed, Form, WideNumber}
 use Rattle.cursor_forward.specs.PlainProposal.{cause_of, fault_of}
 use Rattle.cursor_forward.specs.declared.proposal.StepError.{StepError}

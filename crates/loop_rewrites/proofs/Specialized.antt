@@ -5,7 +5,7 @@ use Rattle.exo_tree.specs.Tree.{Block}
 use Rattle.exo_tree.specs.Context.{rest_of}
 use Rattle.exo_tree.specs.Places.{Opened}
 use Rattle.exo_meaning.specs.Unseen.{in_block as mentions}
-use Rattle.scope_laws.specs.Scopes.{top_binders}
+use Rattle.place_laws.specs.Scope.Scopes.{top_binders}
 use Rattle.cursor_forward.specs.Causes.{WrongShape}
 use Rattle.step_rules.specs.Rule.{Tried, Got, Not, Piece}
 use Rattle.step_rules.specs.Answer.{then_try, opened_or_wrong}

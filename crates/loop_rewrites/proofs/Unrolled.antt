@@ -6,10 +6,10 @@ use Rattle.std.specs.Prelude.{is_none}
 use Rattle.exo_tree.specs.Tree.{Lit, Neg, Block, statements}
 use Rattle.exo_tree.specs.Places.{Opened}
 use Rattle.exo_meaning.specs.Run as run
-use Rattle.simplify_laws.specs.Simplified.{literal}
+use Rattle.match_laws.specs.Simplify.Simplified.{literal}
 use Rattle.cursor_forward.specs.Causes.{Cause}
 use Rattle.cursor_forward.specs.Shifts.{at_index, range}
-use Rattle.order_laws.specs.TurnsOfTwo.{Loop}
+use Rattle.place_laws.specs.Order.TurnsOfTwo.{Loop}
 use Rattle.step_rules.specs.Rule.{Tried, Got}
 use Rattle.step_rules.specs.Answer.{then_try, opened_or_wrong}
 use Rattle.step_driver.specs.Outcomes.{RefusedBy}

@@ -1,2 +1,4 @@
 pub mod PlainTail
 pub mod PlainTurns
+pub mod Shapes
+pub mod Nest

@@ -3,11 +3,11 @@ use Rattle.std.specs.Prelude.{ℤ, Bool, ◌&&◌, List}
 use Rattle.exo_meaning.specs.Run as run
 use Rattle.affine_forms.specs.Forms.{is_affine}
 use Rattle.affine_places.specs.Roots.{variables}
-use Rattle.order_laws.specs.TurnsOfTwo.{Loop}
+use Rattle.place_laws.specs.Order.TurnsOfTwo.{Loop}
 use Rattle.step_rules.specs.Rule.{Tried, Got}
 use Rattle.step_rules.specs.Answer.{then_try}
 use Rattle.loop_laws.specs.UnrollLoop.{Unrolling}
-use Rattle.step_shapes.specs.PlainLoop.{plain_loop}
+use Rattle.loop_rewrites.specs.Shapes.PlainLoop.{plain_loop}
 use Rattle.loop_rewrites.specs.declared.turns.Turns.{Turns}
 
 abbrev pub plain_turns : Turns → Unrolling

@@ -8,7 +8,7 @@ ghost use Rattle.exo_tree.specs.Renaming as renaming;
 ghost use Rattle.exo_modes.specs.Marks.{modes_of};
 ghost use Rattle.exo_modes.specs.Seen.{table_says};
 ghost use Rattle.meaning_laws.specs.Facts as facts;
-ghost use Rattle.scope_laws.specs.UnrollLoop.{only_loop};
+ghost use Rattle.place_laws.specs.Scope.UnrollLoop.{only_loop};
 ghost use Rattle.cursor_forward.specs.PlainProposal.{plain_proposal};
 ghost use Rattle.step_rules.specs.Answer.{proposed};
 ghost use Rattle.step_rules.specs.Lawful.{IsTarget};
@@ -19,15 +19,15 @@ ghost use Rattle.loop_laws.proofs.CutLoop.{cut_is_lawful, cut_is_carrying};
 ghost use Rattle.step_driver.specs.Outcomes.{Tries, IsKept, KeepsMeaning, Moves};
 ghost use Rattle.step_driver.specs.PlainTarget.{target};
 ghost use Rattle.step_needs.specs.PlainNeed.{plain_need};
-ghost use Rattle.step_shapes.specs.PlainLoop.{plain_loop};
+ghost use Rattle.loop_rewrites.specs.Shapes.PlainLoop.{plain_loop};
 
+use crate::shapes::{LoopAt, copies, loop_at};
 use cursor_forward::{Proposal, Shifts, StepError};
 use exo_tree::{Block, Cond, Ctrl, Name, Path, Proc};
 use made_trees::Fresh;
 use std::alloc::{AllocError, Global};
 use step_driver::{Exit, Operator, Piece, Target, Writing, propose, stays};
 use step_needs::{Fact, Need};
-use step_shapes::{LoopAt, copies, loop_at};
 
 /// A copy of the loop from `e` on.
 fn copy_from(

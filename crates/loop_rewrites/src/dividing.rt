@@ -8,9 +8,9 @@ ghost use Rattle.exo_tree.specs.Renaming as renaming;
 ghost use Rattle.exo_tree.specs.Substitution.{in_block};
 ghost use Rattle.exo_modes.specs.Marks.{modes_of};
 ghost use Rattle.exo_modes.specs.Seen.{table_says};
-ghost use Rattle.scope_laws.specs.BranchesAtPlaces.{only_branch};
-ghost use Rattle.scope_laws.specs.UnrollLoop.{only_loop};
-ghost use Rattle.order_laws.specs.TurnsOfTwo.{Loop};
+ghost use Rattle.place_laws.specs.Scope.BranchesAtPlaces.{only_branch};
+ghost use Rattle.place_laws.specs.Scope.UnrollLoop.{only_loop};
+ghost use Rattle.place_laws.specs.Order.TurnsOfTwo.{Loop};
 ghost use Rattle.cursor_forward.specs.PlainProposal.{plain_proposal};
 ghost use Rattle.step_rules.specs.Answer.{proposed};
 ghost use Rattle.step_rules.specs.Lawful.{IsTarget};
@@ -22,17 +22,17 @@ ghost use Rattle.step_driver.specs.Outcomes.{Tries, IsKept, KeepsMeaning, Moves}
 ghost use Rattle.step_driver.specs.PlainTarget.{target, plain_piece};
 ghost use Rattle.step_driver.specs.Spots.{spot_at};
 ghost use Rattle.step_needs.specs.PlainNeed.{plain_need};
-ghost use Rattle.step_shapes.specs.PlainLoop.{plain_loop};
+ghost use Rattle.loop_rewrites.specs.Shapes.PlainLoop.{plain_loop};
 ghost use Rattle.loop_rewrites.specs.PlainTail.{plain_tail, division};
 
 use crate::numbers::{branch, quotient, remainder, rounded_up, turn_behind};
+use crate::shapes::{LoopAt, alone_to, inside, loop_at, one, one_shift, only_loop, range_to, size};
 use cursor_forward::{Proposal, Shifts, StepError};
 use exo_tree::{Binder, Block, Cond, Ctrl, Id, Name, Path, Proc, subst};
 use made_trees::Fresh;
 use std::alloc::{AllocError, Global};
 use step_driver::{Exit, Operator, Piece, Target, Writing, propose};
 use step_needs::{Fact, Need};
-use step_shapes::{LoopAt, alone_to, inside, loop_at, one, one_shift, only_loop, range_to, size};
 
 /// What becomes of the turns that fill no group: the last group is guarded, they have a loop of their own, or one that is
 /// guarded, or there are none.

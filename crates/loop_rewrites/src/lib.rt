@@ -1,10 +1,12 @@
-//! Rewrites of loops.
+//! Rewrites of loops and of the order of turns, and what operators find at their places.
 #![tactic(auto)]
 
 mod constants;
 mod cutting;
 mod dividing;
+pub mod nest;
 mod numbers;
+pub mod shapes;
 mod specializing;
 mod turns;
 mod unrolling;

@@ -3,7 +3,7 @@ ghost use Rattle.std.specs.Prelude.{◌≡◌, ◌-ℤ◌, ◌≤ℤ◌, pos, If
 ghost use Rattle.exo_tree.specs.Tree as tree;
 ghost use Rattle.exo_tree.specs.Tree.{block, end};
 ghost use Rattle.exo_tree.specs.PlainControl.{control, condition};
-ghost use Rattle.scope_laws.specs.BranchesAtPlaces.{only_branch};
+ghost use Rattle.place_laws.specs.Scope.BranchesAtPlaces.{only_branch};
 
 use exo_tree::{Block, Cond, Ctrl, Id, Stmt};
 use std::alloc::{AllocError, Global};

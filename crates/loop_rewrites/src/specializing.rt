@@ -5,7 +5,7 @@ ghost use Rattle.exo_tree.specs.PlainControl.{condition};
 ghost use Rattle.exo_tree.specs.PlainUnit.{program};
 ghost use Rattle.exo_modes.specs.Marks.{modes_of};
 ghost use Rattle.exo_modes.specs.Seen.{table_says};
-ghost use Rattle.scope_laws.specs.BranchesAtPlaces.{specialized};
+ghost use Rattle.place_laws.specs.Scope.BranchesAtPlaces.{specialized};
 ghost use Rattle.cursor_forward.specs.PlainProposal.{plain_proposal};
 ghost use Rattle.step_rules.specs.Answer.{proposed};
 ghost use Rattle.step_rules.specs.Lawful.{IsTarget};
@@ -14,13 +14,13 @@ ghost use Rattle.loop_laws.proofs.Specialize.{specialize_is_lawful, specialize_i
 ghost use Rattle.step_driver.specs.Outcomes.{Tries, IsKept, KeepsMeaning, Moves};
 ghost use Rattle.step_driver.specs.PlainTarget.{target};
 
+use crate::shapes::{Left, all_moved, inside};
 use cursor_forward::{Proposal, Shifts, StepError};
 use exo_tree::{Block, Cond, Name, Path, Proc, Stmt};
 use made_trees::Fresh;
 use std::alloc::{AllocError, Global};
 use step_driver::{Exit, Operator, Piece, Target, Writing, propose};
 use step_needs::Need;
-use step_shapes::{Left, all_moved, inside};
 use tree_mentions::is_mentioned_after;
 
 /// The step that puts a condition round so many statements: where it holds they stand as they are, and where not a copy.

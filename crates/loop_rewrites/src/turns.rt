@@ -1,7 +1,7 @@
 //! A loop with the numbers of its turns.
 ghost use Rattle.std.specs.Prelude.{◌≤◌, ◌^◌, unsigned_abs};
 
-use step_shapes::LoopAt;
+use crate::shapes::LoopAt;
 
 /// A loop, with the number of its first turn and how many turns it has, at most 256.
 #[derive(Clone, Copy)]

@@ -8,7 +8,7 @@ ghost use Rattle.exo_tree.specs.Renaming.{binders};
 ghost use Rattle.exo_tree.specs.Substitution.{in_block};
 ghost use Rattle.exo_modes.specs.Marks.{modes_of};
 ghost use Rattle.exo_modes.specs.Seen.{table_says};
-ghost use Rattle.simplify_laws.specs.Simplified.{literal};
+ghost use Rattle.match_laws.specs.Simplify.Simplified.{literal};
 ghost use Rattle.cursor_forward.specs.PlainProposal.{cause_of, plain_proposal};
 ghost use Rattle.step_rules.specs.Answer.{proposed};
 ghost use Rattle.step_rules.specs.Lawful.{IsTarget};
@@ -21,6 +21,7 @@ ghost use Rattle.step_driver.specs.PlainTarget.{target};
 ghost use Rattle.loop_rewrites.specs.PlainTurns.{plain_turns};
 
 use crate::constants::turns_at;
+use crate::shapes::{all_moved, inside};
 use crate::turns::Turns;
 use affine_forms::FormError;
 use cursor_forward::{Proposal, Shifts, StepError};
@@ -29,7 +30,6 @@ use made_trees::Fresh;
 use std::alloc::{AllocError, Global};
 use step_driver::{Exit, Operator, Piece, Target, Writing, propose};
 use step_needs::Need;
-use step_shapes::{all_moved, inside};
 
 /// A number as an expression.
 #[tactic(auto, using(crate::proofs::Unrolled::literal_below, crate::proofs::Unrolled::literal_from))]

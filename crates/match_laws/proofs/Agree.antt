@@ -11,8 +11,8 @@ use Rattle.affine_forms.specs.Formulas.{AllowedFlags, is_affine_condition}
 use Rattle.affine_forms.specs.Laws.{ReadsAt}
 use Rattle.affine_forms.proofs.Values.{and_parts, int_eq_same, same_terms_value}
 use Rattle.affine_forms.proofs.NormalForm.{normal_law}
-use Rattle.simplify_laws.specs.Simplified.{simplified, values_in}
-use Rattle.simplify_laws.proofs.Simplified.{simplified_law}
+use Rattle.match_laws.specs.Simplify.Simplified.{simplified, values_in}
+use Rattle.match_laws.proofs.OfSimplify.Simplified.{simplified_law}
 use Rattle.match_laws.specs.Moved.{agree, simpler, conditions_agree, AgreeLaw, ConditionsAgreeLaw}
 
 same_value : (scene : Scene) (k l : Linear) → same_form k l ≡ true

@@ -26,9 +26,9 @@ use Rattle.affine_forms.proofs.Values.{and_parts, int_eq_same}
 use Rattle.inplace_laws.specs.Along.{SameAlong, both_end, both_next, SameThere, at_once}
 use Rattle.inplace_laws.specs.Along.{in_branches, in_turns}
 use Rattle.inplace_laws.proofs.Along.{along_law}
-use Rattle.simplify_laws.specs.SameControls.{OfControls, OfCondition, OfDatum, OfCoords, OfArgument}
-use Rattle.simplify_laws.specs.SameControls.{OfArguments, OfEach}
-use Rattle.simplify_laws.specs.SimplifiedBlocks.{standing, IsRead}
+use Rattle.match_laws.specs.Simplify.SameControls.{OfControls, OfCondition, OfDatum, OfCoords, OfArgument}
+use Rattle.match_laws.specs.Simplify.SameControls.{OfArguments, OfEach}
+use Rattle.match_laws.specs.Simplify.SimplifiedBlocks.{standing, IsRead}
 use Rattle.match_laws.specs.Moved.{agree, conditions_agree}
 use Rattle.match_laws.specs.Alike.{same_text, same_binder, controls_agree, data_agree}
 use Rattle.match_laws.specs.Alike.{coords_agree, arguments_alike, arguments_agree}

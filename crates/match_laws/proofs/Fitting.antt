@@ -13,8 +13,8 @@ use Rattle.affine_forms.specs.Forms.{Reading, Allowed, is_affine}
 use Rattle.affine_forms.specs.Laws.{ReadsAt}
 use Rattle.affine_forms.proofs.Values.{and_parts, some_injective, none_some}
 use Rattle.inplace_laws.specs.Windows.{shifted, joined_coords}
-use Rattle.simplify_laws.specs.Simplified.{values_in}
-use Rattle.simplify_laws.specs.SameControls.{OfCoords}
+use Rattle.match_laws.specs.Simplify.Simplified.{values_in}
+use Rattle.match_laws.specs.Simplify.SameControls.{OfCoords}
 use Rattle.match_laws.specs.Pairs.{points}
 use Rattle.match_laws.specs.Moved.{Moving, both, one, moved, agree, simpler}
 use Rattle.match_laws.specs.Windows as w

@@ -16,7 +16,7 @@ use Rattle.exo_meaning.specs.Renaming.{Renaming}
 use Rattle.affine_forms.specs.Atoms.{Variable, EntryField, OpaqueStride, only}
 use Rattle.affine_forms.specs.Forms.{Reading, Allowed, anything}
 use Rattle.affine_forms.specs.Laws.{ReadsAt}
-use Rattle.simplify_laws.specs.Simplified.{values_in}
+use Rattle.match_laws.specs.Simplify.Simplified.{values_in}
 use Rattle.match_laws.specs.Names.{Names, names_of}
 use Rattle.match_laws.specs.Matched.{Arguments, NoMatch, Undetermined, matched}
 use Rattle.match_laws.specs.RenamedCallee.{re_procedure}

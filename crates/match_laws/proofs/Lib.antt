@@ -13,3 +13,5 @@ pub mod RenamedNames
 pub mod RenamedPairs
 pub mod RenamedMatch
 pub mod WholeIsWindow
+pub mod OfSimplify
+pub mod OfInline

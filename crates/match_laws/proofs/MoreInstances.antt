@@ -17,8 +17,8 @@ use Rattle.exo_meaning.specs.Renaming.{Renaming}
 use Rattle.affine_forms.specs.Forms.{anything}
 use Rattle.inplace_laws.specs.Along.{SameAlong}
 use Rattle.inplace_laws.specs.Windows.{shifted, joined_coords}
-use Rattle.simplify_laws.specs.SameControls.{OfEach}
-use Rattle.simplify_laws.specs.SimplifiedBlocks.{standing, IsRead}
+use Rattle.match_laws.specs.Simplify.SameControls.{OfEach}
+use Rattle.match_laws.specs.Simplify.SimplifiedBlocks.{standing, IsRead}
 use Rattle.match_laws.specs.Moved.{Moving, agree}
 use Rattle.match_laws.specs.Windows.{Use, Spot, Offset, Point, fitting, coords_from}
 use Rattle.match_laws.specs.Names.{names_of}

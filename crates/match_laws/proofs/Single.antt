@@ -6,7 +6,7 @@ use Rattle.exo_tree.specs.Context.{Context, Here, After, InLoop, InThen, InElse,
 use Rattle.exo_meaning.specs.Scene.{Scene}
 use Rattle.exo_meaning.specs.State.{State}
 use Rattle.exo_meaning.specs.Run.{World}
-use Rattle.simplify_laws.specs.SameControls.{OfStatement, OfEach}
+use Rattle.match_laws.specs.Simplify.SameControls.{OfStatement, OfEach}
 
 abbrev is_end : Block → Bool
 is_end end = true

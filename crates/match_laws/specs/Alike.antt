@@ -9,8 +9,8 @@ use Rattle.exo_meaning.specs.State.{State}
 use Rattle.exo_meaning.specs.Run.{World, run}
 use Rattle.affine_forms.specs.Forms.{Reading}
 use Rattle.inplace_laws.specs.Along.{SameAlong}
-use Rattle.simplify_laws.specs.SameControls.{OfEach}
-use Rattle.simplify_laws.specs.SimplifiedBlocks.{IsRead}
+use Rattle.match_laws.specs.Simplify.SameControls.{OfEach}
+use Rattle.match_laws.specs.Simplify.SimplifiedBlocks.{IsRead}
 use Rattle.match_laws.specs.Moved.{agree, conditions_agree}
 use Rattle.exo_tree.specs.Cells.{same_cell}
 

@@ -8,8 +8,8 @@ use Rattle.exo_meaning.specs.State.{place}
 use Rattle.affine_forms.specs.Forms.{Reading, Allowed, is_affine}
 use Rattle.affine_forms.specs.Laws.{ReadsAt}
 use Rattle.inplace_laws.specs.Windows.{shifted, joined_coords}
-use Rattle.simplify_laws.specs.Simplified.{values_in}
-use Rattle.simplify_laws.specs.SameControls.{OfCoords}
+use Rattle.match_laws.specs.Simplify.Simplified.{values_in}
+use Rattle.match_laws.specs.Simplify.SameControls.{OfCoords}
 use Rattle.match_laws.specs.Pairs.{points}
 use Rattle.match_laws.specs.Moved.{Moving, both, one, moved}
 use Rattle.match_laws.specs.Windows.{Use, Spot, Offset, Point, coords_from, fitting}

@@ -11,3 +11,5 @@ pub mod MatchedFits
 pub mod RenamedCallee
 pub mod RenamedMatch
 pub mod WholeIsWindow
+pub mod Simplify
+pub mod Inline

@@ -9,7 +9,7 @@ use Rattle.exo_meaning.specs.Scene.{Scene, number, holds}
 use Rattle.affine_forms.specs.Forms.{Reading, Allowed, is_affine, keeps_rules, normal}
 use Rattle.affine_forms.specs.Formulas.{AllowedFlags, is_affine_condition}
 use Rattle.affine_forms.specs.Laws.{ReadsAt}
-use Rattle.simplify_laws.specs.Simplified.{simplified, values_in}
+use Rattle.match_laws.specs.Simplify.Simplified.{simplified, values_in}
 
 -- what stands for a variable, a bool and a stride; None is not known yet
 pub record Moving : Type 0 where

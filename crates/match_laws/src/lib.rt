@@ -1,4 +1,6 @@
-//! The match of a block with a callee's body, and callees with other ids.
+//! Simplified expressions, the match of a block with a callee's body, and inlining.
 #![tactic(auto)]
 
+pub mod inline;
 pub mod laws;
+pub mod simplify;

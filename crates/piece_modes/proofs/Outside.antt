@@ -15,8 +15,8 @@ use Rattle.exo_meaning.specs.Units.{bound_ids}
 use Rattle.meaning_laws.specs.Sound.{binds, on_way}
 use Rattle.exo_modes.specs.Aliases.{roots_in}
 use Rattle.exo_modes.specs.declared.aliases.Alias.{Alias}
-use Rattle.scope_laws.specs.Holes.{roots_at}
-use Rattle.order_laws.specs.RemoveLoop.{is_outside}
+use Rattle.place_laws.specs.Scope.Holes.{roots_at}
+use Rattle.place_laws.specs.Order.RemoveLoop.{is_outside}
 use Rattle.piece_modes.specs.Own.{looks_back, sees_own_root}
 use Rattle.piece_modes.specs.Way.{Way, passed, led, at_start, around_of, way_to}
 

@@ -5,8 +5,8 @@ use Rattle.exo_tree.specs.Context.{Context}
 use Rattle.exo_meaning.specs.Modes.{Reading, Writing, Reducing}
 use Rattle.exo_meaning.specs.Units.{bound_ids}
 use Rattle.std.specs.List.{list_any}
-use Rattle.scope_laws.specs.Roots.{own_roots_at}
-use Rattle.order_laws.specs.RemoveLoop.{is_outside}
+use Rattle.place_laws.specs.Scope.Roots.{own_roots_at}
+use Rattle.place_laws.specs.Order.RemoveLoop.{is_outside}
 use Rattle.piece_modes.specs.Touching.{block_touches}
 
 -- it reduces into the buffer, or reads it and writes it

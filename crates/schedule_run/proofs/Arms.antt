@@ -8,9 +8,9 @@ use Rattle.schedule_calls.specs.Requests as plain
 use Rattle.schedule_calls.specs.PlainRequest.{plain_asked, plain_operation}
 use Rattle.schedule_calls.specs.declared.request.Asked.{Asked}
 use Rattle.schedule_calls.specs.declared.request.Operation.{Operation}
-use Rattle.schedule_versions.specs.Versions.{Versions}
-use Rattle.schedule_versions.specs.Lines.{Call}
-use Rattle.schedule_operators.specs.Operators.{call_of}
+use Rattle.schedule_laws.specs.Versions.Versions.{Versions}
+use Rattle.schedule_laws.specs.Versions.Lines.{Call}
+use Rattle.schedule_laws.specs.Operators.Operators.{call_of}
 use Rattle.schedule_run.specs.Outcomes.{Makes}
 use Rattle.schedule_run.specs.Planned.{planned}
 use Rattle.schedule_run.specs.declared.why.Why as memory

@@ -9,11 +9,11 @@ use Rattle.step_rules.specs.Rule.{Target, Piece, Rule}
 use Rattle.step_rules.specs.Shapes.{tried}
 use Rattle.step_rules.specs.Answer.{proposed}
 use Rattle.schedule_calls.specs.Requests.{Asked}
-use Rattle.schedule_versions.specs.Versions.{Versions}
-use Rattle.schedule_versions.specs.Places.{Sought, Got, Lost, then_seek, sought}
-use Rattle.schedule_versions.specs.Lines.{Why, UnknownName, target, Call}
-use Rattle.schedule_operators.specs.Operators.{at_statement, at_block, at_gap, GapIn}
-use Rattle.schedule_operators.specs.Operators.{gap_beside, ruled_in}
+use Rattle.schedule_laws.specs.Versions.Versions.{Versions}
+use Rattle.schedule_laws.specs.Versions.Places.{Sought, Got, Lost, then_seek, sought}
+use Rattle.schedule_laws.specs.Versions.Lines.{Why, UnknownName, target, Call}
+use Rattle.schedule_laws.specs.Operators.Operators.{at_statement, at_block, at_gap, GapIn}
+use Rattle.schedule_laws.specs.Operators.Operators.{gap_beside, ruled_in}
 use Rattle.schedule_run.specs.Planned as plans
 use Rattle.schedule_run.specs.Planned.{Made, Not, then_make, as_found, as_tried, planned_by, planned}
 use Rattle.schedule_run.specs.Planned.{statement_in, block_in, gap_in, statement_at, block_at, gap_at}

@@ -8,8 +8,8 @@ use Rattle.exo_tree.specs.declared.number.ProcId.{ProcId}
 use Rattle.config_laws.specs.Differing as config
 use Rattle.config_laws.specs.Differing.{from_parent, parent_in, descends}
 use Rattle.cursor_forward.specs.Cursors.{Cursor}
-use Rattle.schedule_versions.specs.Versions.{Origin, Versions, configured}
-use Rattle.schedule_versions.specs.Places.{parent_at, stepped, forwarded, Place, brought, or_lost, CursorGone}
+use Rattle.schedule_laws.specs.Versions.Versions.{Origin, Versions, configured}
+use Rattle.schedule_laws.specs.Versions.Places.{parent_at, stepped, forwarded, Place, brought, or_lost, CursorGone}
 use Rattle.schedule_run.specs.Roots.{root_in}
 use Rattle.schedule_run.specs.Ways.{way_to, along}
 

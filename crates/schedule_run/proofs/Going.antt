@@ -10,10 +10,10 @@ use Rattle.schedule_calls.specs.Readings.{Asks}
 use Rattle.schedule_calls.specs.Answers.{IsAnswer}
 use Rattle.schedule_calls.specs.declared.request.LineFault.{LineFault}
 use Rattle.schedule_calls.specs.declared.request.LineFault.TheVariants as fault
-use Rattle.schedule_operators.specs.Operators.{act_of}
+use Rattle.schedule_laws.specs.Operators.Operators.{act_of}
 use Rattle.schedule_run.proofs.Plans.{says}
-use Rattle.schedule_versions.specs.Versions.{Versions}
-use Rattle.schedule_versions.specs.Lines.{Why, UnknownOperator, BadArguments, Act, Faulty, Progress, Went, Refused, performed, Outcome, Stopped}
+use Rattle.schedule_laws.specs.Versions.Versions.{Versions}
+use Rattle.schedule_laws.specs.Versions.Lines.{Why, UnknownOperator, BadArguments, Act, Faulty, Progress, Went, Refused, performed, Outcome, Stopped}
 use Rattle.schedule_run.specs.Runs.{IsAct, asked, unknown, bad, LinesRun, stops, goes}
 use Rattle.schedule_run.specs.Planned.{Made, Not}
 use Rattle.schedule_run.specs.PlainWhy.{Says, why_of_line}

@@ -14,19 +14,19 @@ use Rattle.cursor_forward.specs.Proposals.{Plan}
 use Rattle.step_rules.specs.Rule.{Tried, Target}
 use Rattle.step_rules.specs.Rule as rule
 use Rattle.step_rules.specs.Answer.{proposed}
-use Rattle.tree_rules_laws.specs.Versions.{with_version}
+use Rattle.tree_laws.specs.Findings.Versions.{with_version}
 use Rattle.schedule_text.specs.Tree as tree
 use Rattle.schedule_calls.specs.Requests.{Move}
-use Rattle.schedule_versions.specs.Versions.{Origin, of_text, made_of, Versions, started}
-use Rattle.schedule_versions.specs.Versions.{version_at, version_of, held, with_step}
-use Rattle.schedule_versions.specs.Places.{Sought, Got, Lost, Place, then_seek, moved_at, matched}
-use Rattle.schedule_versions.specs.Places.{parent_at}
-use Rattle.schedule_versions.specs.Lines.{Why, BadArguments, Progress, Went, Refused, target}
-use Rattle.schedule_versions.specs.Lines.{owed_for, shown_step, checked_step, proposed_step, Ruled}
-use Rattle.schedule_versions.specs.Lines.{Call, all_sought, ruled_step, found_step, called_on}
-use Rattle.schedule_versions.specs.Lines.{called, binding, searched, held_place, is_instruction}
-use Rattle.schedule_versions.specs.Lines.{emitting, Act, Faulty, Apply, Search, Moved, Emit}
-use Rattle.schedule_versions.specs.Lines.{performed, Outcome, Done, Stopped}
+use Rattle.schedule_laws.specs.Versions.Versions.{Origin, of_text, made_of, Versions, started}
+use Rattle.schedule_laws.specs.Versions.Versions.{version_at, version_of, held, with_step}
+use Rattle.schedule_laws.specs.Versions.Places.{Sought, Got, Lost, Place, then_seek, moved_at, matched}
+use Rattle.schedule_laws.specs.Versions.Places.{parent_at}
+use Rattle.schedule_laws.specs.Versions.Lines.{Why, BadArguments, Progress, Went, Refused, target}
+use Rattle.schedule_laws.specs.Versions.Lines.{owed_for, shown_step, checked_step, proposed_step, Ruled}
+use Rattle.schedule_laws.specs.Versions.Lines.{Call, all_sought, ruled_step, found_step, called_on}
+use Rattle.schedule_laws.specs.Versions.Lines.{called, binding, searched, held_place, is_instruction}
+use Rattle.schedule_laws.specs.Versions.Lines.{emitting, Act, Faulty, Apply, Search, Moved, Emit}
+use Rattle.schedule_laws.specs.Versions.Lines.{performed, Outcome, Done, Stopped}
 use Rattle.schedule_run.specs.Runs.{LinesRun, ends, stops, goes}
 use Rattle.schedule_run.proofs.Once.{went_same, refused_went}
 

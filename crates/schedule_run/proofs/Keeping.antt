@@ -8,12 +8,12 @@ use Rattle.config_laws.specs.Differing as config
 use Rattle.config_laws.specs.Differing.{parent_in, from_parent, descends, is_descendant}
 use Rattle.schedule_text.specs.Tree as tree
 use Rattle.schedule_calls.specs.Requests.{Request}
-use Rattle.schedule_versions.specs.Versions.{Origin, configured, Versions, started}
-use Rattle.schedule_versions.specs.Places.{parent_at}
-use Rattle.schedule_versions.specs.Lines.{Act, Went, performed, Outcome, Done}
-use Rattle.schedule_versions.specs.Lines.{run_from, behind}
-use Rattle.schedule_versions.specs.Laws.{AreDerived, HasRoom, VersionsRefine, VersionsKeepHeads}
-use Rattle.schedule_operators.specs.Operators.{act_of, SchedulesDerive}
+use Rattle.schedule_laws.specs.Versions.Versions.{Origin, configured, Versions, started}
+use Rattle.schedule_laws.specs.Versions.Places.{parent_at}
+use Rattle.schedule_laws.specs.Versions.Lines.{Act, Went, performed, Outcome, Done}
+use Rattle.schedule_laws.specs.Versions.Lines.{run_from, behind}
+use Rattle.schedule_laws.specs.Versions.Laws.{AreDerived, HasRoom, VersionsRefine, VersionsKeepHeads}
+use Rattle.schedule_laws.specs.Operators.Operators.{act_of, SchedulesDerive}
 use Rattle.schedule_run.specs.Runs.{IsAct, asked, unknown, bad, LinesRun, ends, stops, goes}
 use Rattle.schedule_run.specs.Roots.{root_in}
 use Rattle.schedule_run.specs.Laws.{AreVersionsOf, SchedulesKeep}

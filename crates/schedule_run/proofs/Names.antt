@@ -7,7 +7,7 @@ use Rattle.exo_tree.specs.Tree.{Procedure}
 use Rattle.schedule_run.specs.PlainVersions.{binding, held}
 use Rattle.schedule_run.specs.declared.session.Binding.{Binding}
 use Rattle.schedule_run.proofs.Lists.{map_taken}
-use Rattle.schedule_versions.specs.Versions.{Origin, of_text, Held, Version, held_after, names_from}
+use Rattle.schedule_laws.specs.Versions.Versions.{Origin, of_text, Held, Version, held_after, names_from}
 
 -- the last binding holds where it is of the name
 pub held_push : (found : Option Held) (xs : List (List ℕ × Held)) (b : List ℕ × Held)

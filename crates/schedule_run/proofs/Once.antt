@@ -2,9 +2,9 @@
 use Rattle.std.proofs.Common.{◌≡◌, ℕ, suc, List, true≢false, refl, sym, ap, ◌∙◌, subst}
 use Rattle.schedule_text.specs.Tree as tree
 use Rattle.schedule_calls.specs.Answers.{LinesAskOnce}
-use Rattle.schedule_versions.specs.Versions.{Versions}
-use Rattle.schedule_versions.specs.Lines.{Why, Act, Went, Refused, performed, Outcome, Stopped}
-use Rattle.schedule_operators.specs.Operators.{act_of}
+use Rattle.schedule_laws.specs.Versions.Versions.{Versions}
+use Rattle.schedule_laws.specs.Versions.Lines.{Why, Act, Went, Refused, performed, Outcome, Stopped}
+use Rattle.schedule_laws.specs.Operators.Operators.{act_of}
 use Rattle.schedule_run.specs.Runs.{IsAct, asked, unknown, bad, LinesRun, ends, stops, goes}
 use Rattle.schedule_run.specs.Laws.{LinesRunOnce}
 

@@ -3,7 +3,7 @@ use Rattle.std.proofs.Common.{◌≡◌, ℕ, List, Option, Some, None, refl, su
 use Rattle.std.specs.Prelude.{MatchOption, Result, Ok, Err, IfOk, Bool, true, false, if◌then◌else◌}
 use Rattle.exo_tree.specs.PlainProcedure.{procedure}
 use Rattle.exo_meaning.specs.Units.{IsUnit}
-use Rattle.tree_rules_laws.specs.Versions.{has_room, with_version}
+use Rattle.tree_laws.specs.Findings.Versions.{has_room, with_version}
 use Rattle.step_rules.specs.Laws.{KeptLaw}
 use Rattle.step_rules.specs.Lawful.{IsTarget}
 use Rattle.cursor_forward.specs.PlainProposal.{plain_proposal}
@@ -16,9 +16,9 @@ use Rattle.cursor_forward.specs.PlainProposal.{cause_of}
 use Rattle.step_rules.specs.Rule.{Tried}
 use Rattle.step_rules.specs.Rule as rule
 use Rattle.step_rules.specs.Answer.{proposed}
-use Rattle.schedule_versions.specs.Versions.{Versions}
-use Rattle.schedule_versions.specs.Places.{Sought, Got, Lost}
-use Rattle.schedule_versions.specs.Lines.{Why, UnknownName, target, Ruled, Call, all_sought}
+use Rattle.schedule_laws.specs.Versions.Versions.{Versions}
+use Rattle.schedule_laws.specs.Versions.Places.{Sought, Got, Lost}
+use Rattle.schedule_laws.specs.Versions.Lines.{Why, UnknownName, target, Ruled, Call, all_sought}
 use Rattle.schedule_run.specs.Planned as plans
 use Rattle.schedule_run.specs.Planned.{Made, Not, then_make, as_found, as_tried, planned_by, planned}
 use Rattle.schedule_run.specs.PlainWhy.{Says, fault_of}

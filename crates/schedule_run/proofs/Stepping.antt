@@ -11,12 +11,12 @@ use Rattle.cursor_forward.specs.Proposals.{Plan}
 use Rattle.step_rules.specs.Rule.{Tried}
 use Rattle.step_rules.specs.Rule as rule
 use Rattle.step_rules.specs.Answer.{proposed}
-use Rattle.tree_rules_laws.specs.Versions.{with_version}
-use Rattle.schedule_versions.specs.Versions.{Versions, with_step}
-use Rattle.schedule_versions.specs.Places.{Sought, Got, Lost}
-use Rattle.schedule_versions.specs.Lines.{Progress, Went, Refused, UnknownName, target, owed_for}
-use Rattle.schedule_versions.specs.Lines.{shown_step, checked_step, proposed_step, Ruled, Call}
-use Rattle.schedule_versions.specs.Lines.{all_sought, ruled_step, found_step, called_on}
+use Rattle.tree_laws.specs.Findings.Versions.{with_version}
+use Rattle.schedule_laws.specs.Versions.Versions.{Versions, with_step}
+use Rattle.schedule_laws.specs.Versions.Places.{Sought, Got, Lost}
+use Rattle.schedule_laws.specs.Versions.Lines.{Progress, Went, Refused, UnknownName, target, owed_for}
+use Rattle.schedule_laws.specs.Versions.Lines.{shown_step, checked_step, proposed_step, Ruled, Call}
+use Rattle.schedule_laws.specs.Versions.Lines.{all_sought, ruled_step, found_step, called_on}
 use Rattle.schedule_run.specs.Planned as plans
 use Rattle.schedule_run.specs.Planned.{Made, then_make, as_found, as_tried, planned_by, planned_on}
 use Rattle.schedule_run.specs.Planned.{stepped, counted, listed, owed_with}

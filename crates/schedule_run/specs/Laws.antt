@@ -10,10 +10,10 @@ use Rattle.meaning_laws.specs.Chain.{HasHead}
 use Rattle.unit_check.specs.Faults.{NothingFaults}
 use Rattle.config_laws.specs.Differing.{is_descendant, differing}
 use Rattle.schedule_text.specs.Tree as tree
-use Rattle.schedule_versions.specs.Versions.{Versions, started, configured}
-use Rattle.schedule_versions.specs.Places.{parent_at}
-use Rattle.schedule_versions.specs.Lines.{Act, Outcome, Done}
-use Rattle.schedule_versions.specs.Laws.{AreDerived, HasRoom}
+use Rattle.schedule_laws.specs.Versions.Versions.{Versions, started, configured}
+use Rattle.schedule_laws.specs.Versions.Places.{parent_at}
+use Rattle.schedule_laws.specs.Versions.Lines.{Act, Outcome, Done}
+use Rattle.schedule_laws.specs.Versions.Laws.{AreDerived, HasRoom}
 use Rattle.schedule_run.specs.Runs.{IsAct, LinesRun}
 use Rattle.schedule_run.specs.Roots.{root_of}
 

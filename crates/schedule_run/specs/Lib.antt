@@ -8,4 +8,4 @@ pub mod PlainWhy
 pub mod Running
 pub mod Outcomes
 pub mod Laws
-pub use Rattle.schedule_operators.specs.Operators
+pub use Rattle.schedule_laws.specs.Operators.Operators

@@ -1,11 +1,11 @@
 -- What calls on versions answer.
 use Rattle.std.specs.Prelude.{◌≡◌, Result, MatchResult, List}
 use Rattle.schedule_text.specs.Tree as tree
-use Rattle.schedule_versions.specs.Versions.{Versions}
-use Rattle.schedule_versions.specs.Places.{Sought, Lost}
-use Rattle.schedule_versions.specs.Places as place
-use Rattle.schedule_versions.specs.Lines.{Act, Progress, Went, performed, Done, Stopped}
-use Rattle.schedule_versions.specs.Lines as lines
+use Rattle.schedule_laws.specs.Versions.Versions.{Versions}
+use Rattle.schedule_laws.specs.Versions.Places.{Sought, Lost}
+use Rattle.schedule_laws.specs.Versions.Places as place
+use Rattle.schedule_laws.specs.Versions.Lines.{Act, Progress, Went, performed, Done, Stopped}
+use Rattle.schedule_laws.specs.Versions.Lines as lines
 use Rattle.schedule_run.specs.Runs.{IsAct, LinesRun}
 use Rattle.schedule_run.specs.Planned.{Made, Got, Not}
 use Rattle.schedule_run.specs.PlainVersions.{versions}

@@ -2,7 +2,7 @@
 use Rattle.std.specs.Prelude.{ℕ, List, map, option_map}
 use Rattle.exo_tree.specs.PlainUnit.{program}
 use Rattle.cursor_forward.specs.PlainCursor.{plain_side, plain_cursor}
-use Rattle.schedule_versions.specs.Versions as plain
+use Rattle.schedule_laws.specs.Versions.Versions as plain
 use Rattle.schedule_run.specs.declared.session.Origin.{Origin}
 use Rattle.schedule_run.specs.declared.session.Held.{Held}
 use Rattle.schedule_run.specs.declared.session.Held.TheVariants.{Version, At}

@@ -13,8 +13,8 @@ use Rattle.unit_check.specs.declared.refused.Why as shown
 use Rattle.unit_check.specs.declared.refused.Why.TheVariants as shown_why
 use Rattle.schedule_calls.specs.declared.request.LineFault.{LineFault}
 use Rattle.schedule_calls.specs.declared.request.LineFault.TheVariants as fault
-use Rattle.schedule_versions.specs.Places as plain
-use Rattle.schedule_versions.specs.Lines as plain_why
+use Rattle.schedule_laws.specs.Versions.Places as plain
+use Rattle.schedule_laws.specs.Versions.Lines as plain_why
 use Rattle.schedule_run.specs.declared.why.Missing.{Missing}
 use Rattle.schedule_run.specs.declared.why.Missing.TheVariants as missing
 use Rattle.schedule_run.specs.declared.why.Why.{Why}

@@ -14,20 +14,21 @@ use Rattle.step_rules.specs.Rule.{Tried, Piece}
 use Rattle.step_rules.specs.Rule as rule
 use Rattle.step_rules.specs.Shapes.{tried}
 use Rattle.step_rules.specs.Answer.{proposed}
-use Rattle.tree_rules_laws.specs.Versions.{with_version}
+use Rattle.tree_laws.specs.Findings.Versions.{with_version}
 use Rattle.rules_names.specs.Arguments.{is_control_form, is_condition_form}
 use Rattle.schedule_calls.specs.Requests.{Asked, Operation, DivideLoop, CutLoop, ReorderLoops}
 use Rattle.schedule_calls.specs.Requests.{Fission, Fuse, UnrollLoop, RemoveLoop, Specialize}
 use Rattle.schedule_calls.specs.Requests.{EliminateDeadCode, ReorderStmts, CommuteExpr, Rename}
 use Rattle.schedule_calls.specs.Requests.{DeletePass, Request}
 use Rattle.schedule_calls.specs.Requests as request
-use Rattle.schedule_versions.specs.Versions.{Versions, version_at}
-use Rattle.schedule_versions.specs.Places.{Sought, sought}
-use Rattle.schedule_versions.specs.Places as place
-use Rattle.schedule_versions.specs.Lines.{Why, UnknownProc, UnknownName, NoPlace, Step, Check}
-use Rattle.schedule_versions.specs.Lines.{NotShown}
-use Rattle.schedule_versions.specs.Lines.{Progress, Refused, checked_step, target, Call, all_sought}
-use Rattle.schedule_operators.specs.Operators.{GapIn, gap_beside}
+use Rattle.schedule_laws.specs.Versions.Versions.{Versions, version_at}
+use Rattle.schedule_laws.specs.Versions.Places.{Sought, sought}
+use Rattle.schedule_laws.specs.Versions.Places as place
+use Rattle.schedule_laws.specs.Versions.Lines.{Why, UnknownProc, UnknownName, NoPlace, Step, Check}
+use Rattle.schedule_laws.specs.Versions.Lines.{NotShown}
+use Rattle.schedule_laws.specs.Versions.Lines.{Progress, Refused, checked_step, target, Call}
+use Rattle.schedule_laws.specs.Versions.Lines.{all_sought}
+use Rattle.schedule_laws.specs.Operators.Operators.{GapIn, gap_beside}
 
 -- something, or why a line is refused
 pub data Made (T : Type 0) : Type 0 where

@@ -1,8 +1,8 @@
 -- Of which procedure of the text a version comes.
 use Rattle.std.specs.Prelude.{ℕ, zero, suc}
 use Rattle.config_laws.specs.Differing.{from_parent}
-use Rattle.schedule_versions.specs.Versions.{Versions}
-use Rattle.schedule_versions.specs.Places.{parent_at}
+use Rattle.schedule_laws.specs.Versions.Versions.{Versions}
+use Rattle.schedule_laws.specs.Versions.Places.{parent_at}
 
 module _ (v : Versions) where
   -- in so many steps or fewer

@@ -7,7 +7,7 @@ use Rattle.meaning_laws.specs.UnitFields.{unit_writes}
 use Rattle.config_state.specs.FieldSets.{IsTable}
 use Rattle.exo_modes.specs.Marks.{modes_of}
 use Rattle.exo_modes.specs.Seen.{table_says}
-use Rattle.schedule_versions.specs.Versions as plain
+use Rattle.schedule_laws.specs.Versions.Versions as plain
 use Rattle.schedule_run.specs.PlainVersions.{versions}
 use Rattle.schedule_run.specs.declared.running.Running.{Running}
 

@@ -3,10 +3,10 @@ use Rattle.std.specs.Prelude.{◌≡◌, ℕ, suc, true, false, List, [], ◌∷
 use Rattle.schedule_text.specs.Tree as tree
 use Rattle.schedule_calls.specs.Requests.{Request}
 use Rattle.schedule_calls.specs.Readings.{Asks, is_unknown}
-use Rattle.schedule_versions.specs.Versions.{Versions}
-use Rattle.schedule_versions.specs.Lines.{Why, UnknownOperator, BadArguments, Act, Faulty}
-use Rattle.schedule_versions.specs.Lines.{Went, Refused, performed, Outcome, Done, Stopped}
-use Rattle.schedule_operators.specs.Operators.{act_of}
+use Rattle.schedule_laws.specs.Versions.Versions.{Versions}
+use Rattle.schedule_laws.specs.Versions.Lines.{Why, UnknownOperator, BadArguments, Act, Faulty}
+use Rattle.schedule_laws.specs.Versions.Lines.{Went, Refused, performed, Outcome, Done, Stopped}
+use Rattle.schedule_laws.specs.Operators.Operators.{act_of}
 
 -- what a line asks, by its text alone
 pub data IsAct : tree.Line → Act → Type 0 where

@@ -4,8 +4,8 @@ use Rattle.std.specs.Prelude.{ℕ, zero, suc, ◌==◌, if◌then◌else◌, Lis
 use Rattle.std.specs.Prelude.{Option, Some, None, option_map, option_and_then}
 use Rattle.config_laws.specs.Differing.{from_parent}
 use Rattle.cursor_forward.specs.Cursors.{Cursor}
-use Rattle.schedule_versions.specs.Versions.{Versions}
-use Rattle.schedule_versions.specs.Places.{parent_at, stepped}
+use Rattle.schedule_laws.specs.Versions.Versions.{Versions}
+use Rattle.schedule_laws.specs.Versions.Places.{parent_at, stepped}
 
 module _ (v : Versions) where
   -- the versions made on the way from one to version k in so many steps or fewer, the latest first

@@ -6,10 +6,10 @@ ghost use Rattle.cursor_patterns.specs.PlainPattern.{plain_pattern};
 ghost use Rattle.schedule_text.specs.Views.{plain_move};
 ghost use Rattle.schedule_calls.specs.Readings.{move};
 ghost use Rattle.schedule_calls.specs.PlainRequest.{moves_of};
-ghost use Rattle.schedule_versions.specs.Versions.{bound, version_of, version_at};
-ghost use Rattle.schedule_versions.specs.Versions as plain;
-ghost use Rattle.schedule_versions.specs.Places.{moved_at, then_seek};
-ghost use Rattle.schedule_versions.specs.Lines.{binding, emitting, held_place, is_instruction, searched};
+ghost use Rattle.schedule_laws.specs.Versions.Versions.{bound, version_of, version_at};
+ghost use Rattle.schedule_laws.specs.Versions.Versions as plain;
+ghost use Rattle.schedule_laws.specs.Versions.Places.{moved_at, then_seek};
+ghost use Rattle.schedule_laws.specs.Versions.Lines.{binding, emitting, held_place, is_instruction, searched};
 ghost use Rattle.schedule_run.specs.Outcomes.{Performs};
 ghost use Rattle.schedule_run.specs.PlainVersions.{held, origin, versions};
 

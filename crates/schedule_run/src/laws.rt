@@ -1,7 +1,7 @@
 //! Laws of the runs of lines, each the contract of a function with nothing to do.
 ghost use Rattle.schedule_run.specs.Laws.{LinesRunOnce, SchedulesKeep, SmallUnitsHaveRoom};
 
-pub use schedule_operators::laws::schedules_differ_in_nothing;
+pub use schedule_laws::operators::laws::schedules_differ_in_nothing;
 
 /// A line asks one thing, and lines come to one end.
 pub fn lines_run_once()
@@ -15,9 +15,9 @@ pub fn lines_run_once()
 pub fn schedules_keep()
     ensures { SchedulesKeep }
 {
-    schedule_operators::laws::schedules_derive();
-    schedule_versions::laws::versions_refine();
-    schedule_versions::laws::versions_keep_heads();
+    schedule_laws::operators::laws::schedules_derive();
+    schedule_laws::versions::laws::versions_refine();
+    schedule_laws::versions::laws::versions_keep_heads();
 }
 
 /// A unit of at most 2^20 procedures, with ids below 2^20, has room for 4,096 lines.

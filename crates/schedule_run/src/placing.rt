@@ -7,7 +7,7 @@ ghost use Rattle.cursor_forward.specs.PlainCursor.{plain_cursor, plain_side};
 ghost use Rattle.step_driver.specs.PlainTarget.{plain_piece};
 ghost use Rattle.schedule_calls.specs.PlainRequest.{plain_asked};
 ghost use Rattle.schedule_run.specs.Outcomes.{Makes};
-ghost use Rattle.schedule_operators.specs.Operators.{before_gap, gap_beside};
+ghost use Rattle.schedule_laws.specs.Operators.Operators.{before_gap, gap_beside};
 ghost use Rattle.schedule_run.specs.PlainPlace.{plain_gap};
 ghost use Rattle.schedule_run.specs.Planned.{statement_in, block_in, gap_in, statement_at, block_at, gap_at};
 ghost use Rattle.schedule_run.specs.PlainVersions.{versions};

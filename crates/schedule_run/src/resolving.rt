@@ -15,7 +15,7 @@ ghost use Rattle.step_rules.specs.Lawful.{IsTarget};
 ghost use Rattle.step_driver.specs.PlainTarget.{target, plain_piece};
 ghost use Rattle.schedule_calls.specs.PlainRequest.{plain_asked};
 ghost use Rattle.schedule_calls.specs.Requests.{CutLoop, Specialize};
-ghost use Rattle.schedule_operators.specs.Operators.{call_of, control_at, condition_at};
+ghost use Rattle.schedule_laws.specs.Operators.Operators.{call_of, control_at, condition_at};
 ghost use Rattle.schedule_run.specs.Outcomes.{Makes};
 ghost use Rattle.schedule_run.specs.Planned.{Not, as_tried, if_known, planned};
 ghost use Rattle.schedule_run.specs.PlainWhy.{Says};

@@ -3,9 +3,9 @@ ghost use Rattle.std.specs.Prelude.{◌≡◌, IfOk, MatchResult, option_map};
 ghost use Rattle.std.specs.Option.{option_copied};
 ghost use Rattle.std.specs.Str.{bytes_eq};
 ghost use Rattle.exo_tree.specs.PlainUnit.{program};
-ghost use Rattle.schedule_versions.specs.Versions.{of_text, started, version_of};
-ghost use Rattle.schedule_versions.specs.Versions as plain;
-ghost use Rattle.schedule_versions.specs.Places.{parent_at};
+ghost use Rattle.schedule_laws.specs.Versions.Versions.{of_text, started, version_of};
+ghost use Rattle.schedule_laws.specs.Versions.Versions as plain;
+ghost use Rattle.schedule_laws.specs.Versions.Places.{parent_at};
 ghost use Rattle.schedule_run.specs.PlainVersions.{origin, held, versions};
 ghost use Rattle.schedule_run.specs.Roots.{root_of};
 

@@ -2,7 +2,7 @@
 use Rattle.std.proofs.Common.{◌≡◌, true, List, refl, ap, ◌∙◌}
 use Rattle.exo_tree.specs.Tree.{Statement, Block, end, next, block}
 use Rattle.made_trees.specs.Passes.{pass_for}
-use Rattle.statement_laws.specs.DeadCode.{or_one_pass}
+use Rattle.proc_laws.specs.Statement.DeadCode.{or_one_pass}
 
 pass_alone : (b : Block) → pass_for true b ≡ or_one_pass b
 pass_alone end = refl

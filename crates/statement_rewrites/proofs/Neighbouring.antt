@@ -5,8 +5,8 @@ use Rattle.exo_tree.specs.Tree.{Statement, block, Program}
 use Rattle.exo_meaning.specs.Unseen.{in_block, in_statement}
 use Rattle.meaning_laws.specs.Sound.{binds}
 use Rattle.config_state.specs.FieldSets.{contains, Marked, fields_from}
-use Rattle.statement_laws.specs.Fields.{some_listed, some_field}
-use Rattle.statement_laws.specs.ReorderStatements.{neighbours_of, share_field}
+use Rattle.proc_laws.specs.Statement.Fields.{some_listed, some_field}
+use Rattle.proc_laws.specs.Statement.ReorderStatements.{neighbours_of, share_field}
 use Rattle.step_fields.specs.Fields.{IsFieldSet, written_by, read_by}
 use Rattle.statement_rewrites.specs.PlainNeighbours.{used_by, writes_used}
 

@@ -2,14 +2,14 @@
 use Rattle.std.proofs.Common.{◌≡◌, ◌||◌, ◌&&◌, Bool, Option, Some, None, refl, ap, ap₂, ◌∙◌}
 use Rattle.exo_tree.specs.Context.{Context}
 use Rattle.exo_tree.specs.Places.{Opened, opened}
-use Rattle.order_laws.specs.TurnsOfTwo.{Loop}
+use Rattle.place_laws.specs.Order.TurnsOfTwo.{Loop}
 use Rattle.piece_modes.specs.Own.{sees_own_root}
 use Rattle.piece_modes.specs.Way.{around_of}
 use Rattle.step_rules.specs.Rule.{Target, Piece}
 use Rattle.step_driver.specs.Spots.{or_nothing, spot_at}
 use Rattle.step_fields.specs.Fields.{written_in, read_in}
-use Rattle.statement_laws.specs.Fields.{some_field}
-use Rattle.statement_laws.specs.RemoveLoop.{sees_own}
+use Rattle.proc_laws.specs.Statement.Fields.{some_field}
+use Rattle.proc_laws.specs.Statement.RemoveLoop.{sees_own}
 
 same_around : (x : Option Opened) → around_of x ≡ (or_nothing x).around
 same_around None = refl

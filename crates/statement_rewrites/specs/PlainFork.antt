@@ -1,7 +1,7 @@
 -- The plain form of a condition with its branches.
 use Rattle.exo_tree.specs.Tree.{block}
 use Rattle.exo_tree.specs.PlainControl.{condition}
-use Rattle.statement_laws.specs.DeadCode.{Fork}
+use Rattle.proc_laws.specs.Statement.DeadCode.{Fork}
 use Rattle.statement_rewrites.specs.declared.forks.ForkAt.{ForkAt}
 
 abbrev pub plain_fork : ForkAt → Fork

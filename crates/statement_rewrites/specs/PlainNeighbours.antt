@@ -2,7 +2,7 @@
 use Rattle.std.specs.Prelude.{◌&&◌, ◌||◌, ℕ, Bool}
 use Rattle.exo_tree.specs.Tree.{Statement, Program}
 use Rattle.exo_tree.specs.PlainStatement.{statement}
-use Rattle.statement_laws.specs.ReorderStatements as plain
+use Rattle.proc_laws.specs.Statement.ReorderStatements as plain
 use Rattle.step_fields.specs.Fields.{written_by, read_by}
 use Rattle.statement_rewrites.specs.declared.neighbours.Neighbours.{Neighbours}
 

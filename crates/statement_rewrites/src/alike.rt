@@ -7,22 +7,22 @@ ghost use Rattle.exo_tree.specs.PlainUnit.{program};
 ghost use Rattle.exo_meaning.specs.Unseen as unseen;
 ghost use Rattle.piece_modes.specs.Own as seen;
 ghost use Rattle.piece_modes.specs.Way.{around_of};
-ghost use Rattle.statement_laws.specs.Fields.{some_field};
-ghost use Rattle.statement_laws.specs.RemoveLoop as plain;
+ghost use Rattle.proc_laws.specs.Statement.Fields.{some_field};
+ghost use Rattle.proc_laws.specs.Statement.RemoveLoop as plain;
 ghost use Rattle.step_driver.specs.PlainTarget.{target, plain_piece};
 ghost use Rattle.step_driver.specs.Spots.{spot_at};
 ghost use Rattle.step_fields.specs.Fields.{written_in, read_in};
 ghost use Rattle.step_needs.specs.Outcomes.{Refuses};
-ghost use Rattle.step_shapes.specs.PlainLoop.{plain_loop};
+ghost use Rattle.loop_rewrites.specs.Shapes.PlainLoop.{plain_loop};
 
 use cursor_forward::StepError;
 use exo_modes::ModeTable;
 use exo_tree::{Block, Unit};
+use loop_rewrites::shapes::{Alone, LoopAt, loop_at};
 use piece_modes::sees_own_root;
 use std::alloc::{AllocError, Global};
 use step_driver::{Piece, Target};
 use step_fields::{have_common, may_read, may_write};
-use step_shapes::{Alone, LoopAt, loop_at};
 use tree_mentions::in_block;
 
 /// Whether the body of a loop mentions its variable.

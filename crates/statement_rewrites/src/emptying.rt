@@ -6,19 +6,19 @@ ghost use Rattle.exo_modes.specs.Seen.{table_says};
 ghost use Rattle.cursor_forward.specs.PlainProposal.{plain_proposal};
 ghost use Rattle.step_rules.specs.Answer.{proposed};
 ghost use Rattle.step_rules.specs.Lawful.{IsTarget};
-ghost use Rattle.statement_laws.specs.DeadCode.{empty_loop_rule};
-ghost use Rattle.statement_laws.proofs.DeadCode.{empty_loop_is_lawful, empty_loop_is_carrying};
+ghost use Rattle.proc_laws.specs.Statement.DeadCode.{empty_loop_rule};
+ghost use Rattle.proc_laws.proofs.OfStatement.DeadCode.{empty_loop_is_lawful, empty_loop_is_carrying};
 ghost use Rattle.step_driver.specs.Outcomes.{Tries, IsKept, KeepsMeaning, Moves};
 ghost use Rattle.step_driver.specs.PlainTarget.{target};
 
 use crate::loops::no_turn;
 use cursor_forward::{Proposal, Shifts, StepError};
 use exo_tree::{Block, Name, Path, Proc, Stmt};
+use loop_rewrites::shapes::loop_at;
 use made_trees::Fresh;
 use std::alloc::{AllocError, Global};
 use step_driver::{Exit, Operator, Piece, Target, Writing, propose};
 use step_needs::Need;
-use step_shapes::loop_at;
 
 /// The step that takes a loop away that has no turn.
 #[derive(Drop)]

@@ -6,19 +6,19 @@ ghost use Rattle.exo_modes.specs.Seen.{table_says};
 ghost use Rattle.cursor_forward.specs.PlainProposal.{plain_proposal};
 ghost use Rattle.step_rules.specs.Answer.{proposed};
 ghost use Rattle.step_rules.specs.Lawful.{IsTarget};
-ghost use Rattle.statement_laws.specs.ReorderStatements.{reorder_rule};
-ghost use Rattle.statement_laws.proofs.ReorderStatements.{reorder_is_lawful, reorder_is_carrying};
+ghost use Rattle.proc_laws.specs.Statement.ReorderStatements.{reorder_rule};
+ghost use Rattle.proc_laws.proofs.OfStatement.ReorderStatements.{reorder_is_lawful, reorder_is_carrying};
 ghost use Rattle.step_driver.specs.Outcomes.{Tries, IsKept, KeepsMeaning, Moves};
 ghost use Rattle.step_driver.specs.PlainTarget.{target};
 
 use crate::neighbours::neighbours_of;
 use cursor_forward::{Proposal, Shifts, StepError};
 use exo_tree::{Block, Name, Path, Proc};
+use loop_rewrites::shapes::{at_index, one_shift, range_to};
 use made_trees::Fresh;
 use std::alloc::{AllocError, Global};
 use step_driver::{Exit, Operator, Piece, Target, Writing, propose};
 use step_needs::Need;
-use step_shapes::{at_index, one_shift, range_to};
 
 /// The step by which a statement and the next one change places.
 #[derive(Drop)]

@@ -3,7 +3,7 @@ ghost use Rattle.std.specs.Prelude.{◌≡◌, option_map, map, IfOk};
 ghost use Rattle.exo_tree.specs.Tree.{block};
 ghost use Rattle.exo_tree.specs.PlainPlace.{branch_taken};
 ghost use Rattle.exo_tree.specs.PlainStatement.{statement};
-ghost use Rattle.statement_laws.specs.DeadCode as plain;
+ghost use Rattle.proc_laws.specs.Statement.DeadCode as plain;
 ghost use Rattle.step_driver.specs.PlainTarget.{target, plain_piece};
 ghost use Rattle.step_driver.specs.Spots.{spot_at};
 ghost use Rattle.step_needs.specs.PlainNeed.{plain_need};
@@ -11,11 +11,11 @@ ghost use Rattle.statement_rewrites.specs.PlainFork.{plain_fork};
 
 use cursor_forward::Shifts;
 use exo_tree::{Block, Branch, Cond, Path, Step, Stmt};
+use loop_rewrites::shapes::{all_moved, at_index, one};
 use made_trees::or_pass;
 use std::alloc::{AllocError, Global};
 use step_driver::{Piece, Target};
 use step_needs::{Fact, Need};
-use step_shapes::{all_moved, at_index, one};
 
 /// A condition of a procedure, with its branches.
 #[derive(Clone, Copy)]

@@ -7,8 +7,8 @@ ghost use Rattle.exo_modes.specs.Seen.{table_says};
 ghost use Rattle.cursor_forward.specs.PlainProposal.{plain_proposal};
 ghost use Rattle.step_rules.specs.Answer.{proposed};
 ghost use Rattle.step_rules.specs.Lawful.{IsTarget};
-ghost use Rattle.statement_laws.specs.DeadCode.{keep_rule};
-ghost use Rattle.statement_laws.proofs.DeadCode.{keep_is_lawful, keep_is_carrying};
+ghost use Rattle.proc_laws.specs.Statement.DeadCode.{keep_rule};
+ghost use Rattle.proc_laws.proofs.OfStatement.DeadCode.{keep_is_lawful, keep_is_carrying};
 ghost use Rattle.step_driver.specs.Outcomes.{Tries, IsKept, KeepsMeaning, Moves};
 ghost use Rattle.step_driver.specs.PlainTarget.{target};
 

@@ -1,14 +1,14 @@
 //! What is owed of loops.
 ghost use Rattle.std.specs.Prelude.{◌≡◌, map, IfOk};
-ghost use Rattle.statement_laws.specs.DeadCode.{no_turn_needs};
-ghost use Rattle.statement_laws.specs.RemoveLoop.{remove_needs};
+ghost use Rattle.proc_laws.specs.Statement.DeadCode.{no_turn_needs};
+ghost use Rattle.proc_laws.specs.Statement.RemoveLoop.{remove_needs};
 ghost use Rattle.step_needs.specs.PlainNeed.{plain_need};
-ghost use Rattle.step_shapes.specs.PlainLoop.{plain_loop};
+ghost use Rattle.loop_rewrites.specs.Shapes.PlainLoop.{plain_loop};
 
 use exo_tree::{Cond, Path};
+use loop_rewrites::shapes::{LoopAt, copies, one};
 use std::alloc::{AllocError, Global};
 use step_needs::{Fact, Need};
-use step_shapes::{LoopAt, copies, one};
 
 /// That a loop has no turn.
 pub(crate) fn no_turn(alloc: Global, l: &LoopAt<'_>, at: &Path) -> Result<Vec<Need>, AllocError>

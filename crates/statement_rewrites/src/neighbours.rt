@@ -6,9 +6,9 @@ ghost use Rattle.exo_tree.specs.PlainUnit.{program};
 ghost use Rattle.meaning_laws.specs.Sound.{binds};
 ghost use Rattle.cursor_forward.specs.Causes.{ConfigWrite};
 ghost use Rattle.effect_laws.specs.Fits as fits;
-ghost use Rattle.order_laws.specs.Reorder.{pair};
-ghost use Rattle.statement_laws.specs.Fields.{some_field};
-ghost use Rattle.statement_laws.specs.ReorderStatements as plain;
+ghost use Rattle.place_laws.specs.Order.Reorder.{pair};
+ghost use Rattle.proc_laws.specs.Statement.Fields.{some_field};
+ghost use Rattle.proc_laws.specs.Statement.ReorderStatements as plain;
 ghost use Rattle.step_needs.specs.Outcomes.{Refuses};
 ghost use Rattle.step_needs.specs.PlainNeed.{plain_turns, plain_conflict, plain_need};
 ghost use Rattle.step_fields.specs.Fields.{IsFieldSet};
@@ -17,10 +17,10 @@ ghost use Rattle.statement_rewrites.specs.PlainNeighbours.{plain_neighbours, use
 use config_state::FieldSet;
 use cursor_forward::StepError;
 use exo_tree::{Block, Id, Path, Stmt, Unit};
+use loop_rewrites::shapes::{apart, binds, onward};
 use std::alloc::{AllocError, Global};
 use step_fields::{have_common, statement_may_read, statement_may_write};
 use step_needs::{Conflict, Need, Turns};
-use step_shapes::{apart, binds, onward};
 use tree_mentions::{Names, in_block};
 
 /// The name that a statement binds.

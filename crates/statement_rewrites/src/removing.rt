@@ -6,8 +6,8 @@ ghost use Rattle.exo_modes.specs.Seen.{table_says};
 ghost use Rattle.cursor_forward.specs.PlainProposal.{plain_proposal};
 ghost use Rattle.step_rules.specs.Answer.{proposed};
 ghost use Rattle.step_rules.specs.Lawful.{IsTarget};
-ghost use Rattle.statement_laws.specs.RemoveLoop.{remove_rule};
-ghost use Rattle.statement_laws.proofs.RemoveLoop.{remove_is_lawful, remove_is_carrying};
+ghost use Rattle.proc_laws.specs.Statement.RemoveLoop.{remove_rule};
+ghost use Rattle.proc_laws.proofs.OfStatement.RemoveLoop.{remove_is_lawful, remove_is_carrying};
 ghost use Rattle.step_driver.specs.Outcomes.{Tries, IsKept, KeepsMeaning, Moves};
 ghost use Rattle.step_driver.specs.PlainTarget.{target};
 
@@ -15,11 +15,11 @@ use crate::alike::{removable_at, unless_it_sees_own};
 use crate::loops::a_turn;
 use cursor_forward::{Proposal, Shifts, StepError};
 use exo_tree::{Block, Name, Path, Proc};
+use loop_rewrites::shapes::{all_moved, at_index, inside};
 use made_trees::Fresh;
 use std::alloc::{AllocError, Global};
 use step_driver::{Exit, Operator, Piece, Target, Writing, propose};
 use step_needs::Need;
-use step_shapes::{all_moved, at_index, inside};
 
 /// The step that puts the body of a loop in its place, where all turns do the same.
 #[derive(Drop)]

@@ -4,7 +4,7 @@ use Rattle.std.specs.Prelude.{◌≡◌, true}
 use Rattle.exo_meaning.specs.Inputs.{Refines}
 use Rattle.exo_meaning.specs.Run.{program_world}
 use Rattle.exo_meaning.specs.Units.{IsUnit}
-use Rattle.tree_rules_laws.specs.Versions.{has_room, with_version}
+use Rattle.tree_laws.specs.Findings.Versions.{has_room, with_version}
 use Rattle.cursor_forward.specs.Forwards.{Forwards}
 use Rattle.cursor_forward.specs.Shifts.{move_of}
 use Rattle.cursor_forward.specs.Proposals.{Plan}

@@ -11,7 +11,7 @@ use Rattle.affine_places.specs.Roots.{has_extents}
 use Rattle.affine_places.specs.Rules.{block_keeps_rules, procedure_keeps_rules}
 use Rattle.check_facts.specs.Contexts.{may_be_walked}
 use Rattle.check_facts.specs.Laws.{WellFormedMayBeWalked}
-use Rattle.tree_rules_laws.specs.Versions.{ProcedureLaw}
+use Rattle.tree_laws.specs.Findings.Versions.{ProcedureLaw}
 use Rattle.step_rules.specs.Rule.{Target}
 use Rattle.step_rules.specs.Lawful.{IsTarget}
 use Rattle.step_needs.specs.Sites.{IsWell}

@@ -37,7 +37,7 @@ use exo_modes::ModeTable;
 use exo_tree::{Path, Proc, Unit};
 use std::alloc::Global;
 use text_show::Words;
-use tree_rules_laws::laws::procedures_keep_rules;
+use tree_laws::findings::laws::procedures_keep_rules;
 
 /// Puts what a fact owes last, in the context of its place and with what is known of fields there.
 fn put_there(

@@ -8,7 +8,7 @@ use Rattle.exo_meaning.specs.Run.{roots_after}
 use Rattle.exo_meaning.specs.Units.{Scope, ControlName, with_name, is_empty, is_short, plainly}
 use Rattle.exo_meaning.specs.Units.{with_fields}
 use Rattle.meaning_laws.proofs.Substitute.{and_parts}
-use Rattle.scope_laws.specs.Holes.{roots_at}
+use Rattle.place_laws.specs.Scope.Holes.{roots_at}
 use Rattle.tree_rules.specs.declared.findings.Findings.{Findings}
 use Rattle.tree_rules.specs.Classes.{fine, both, rule, limit, all_kept}
 use Rattle.tree_rules.specs.Findings.{found_in_binder, findings_of_control, findings_of_condition}

@@ -17,10 +17,10 @@ use Rattle.meaning_laws.proofs.Replace.{context_law}
 use Rattle.meaning_laws.proofs.Copies.{place_sound, place_unbound}
 use Rattle.meaning_laws.proofs.Sorted.{fits_at_law}
 use Rattle.meaning_laws.proofs.Made.{made_law}
-use Rattle.scope_laws.specs.Bare.{bare}
-use Rattle.scope_laws.proofs.Bare.{same_but_for_names}
-use Rattle.scope_laws.proofs.Roots.{names_have_roots}
-use Rattle.live_laws.proofs.LiveFits.{live_fits}
+use Rattle.place_laws.specs.Scope.Bare.{bare}
+use Rattle.place_laws.proofs.OfScope.Bare.{same_but_for_names}
+use Rattle.place_laws.proofs.OfScope.Roots.{names_have_roots}
+use Rattle.config_laws.proofs.OfLive.LiveFits.{live_fits}
 use Rattle.made_trees.specs.Passes.{or_pass, is_alone}
 use Rattle.exo_meaning.specs.Units.{field_kind}
 use Rattle.step_rules.specs.Rule.{Spot}

@@ -7,7 +7,7 @@ use Rattle.exo_tree.specs.Tree.{Block, end, next, block, statements}
 use Rattle.exo_tree.specs.Places.{Branch, Main, Else, Step, Path}
 use Rattle.exo_tree.specs.Branches.{branch_of}
 use Rattle.exo_tree.proofs.Openings.{statement_in, at_last, at_more}
-use Rattle.scope_laws.specs.Bare.{bare, bare_statement}
+use Rattle.place_laws.specs.Scope.Bare.{bare, bare_statement}
 use Rattle.cursor_forward.specs.Forwards.{StatementKind, kind_of, kind_at}
 
 listed : (b : Block) → block (statements b) ≡ b

@@ -21,10 +21,10 @@ use Rattle.meaning_laws.specs.Live.{live, live_behind, CallsForget}
 use Rattle.meaning_laws.specs.Made.{AreMade}
 use Rattle.meaning_laws.specs.Sorted.{IsSorted, MayRun, scope_at}
 use Rattle.meaning_laws.specs.Sound.{IsSound, IsUnbound}
-use Rattle.scope_laws.specs.Bare.{bare}
-use Rattle.scope_laws.specs.Roots.{own_roots_at}
-use Rattle.scope_laws.specs.WellAtPlace.{IsWellAt}
-use Rattle.live_laws.specs.LiveFits.{MayReplaceLive, LiveAtEnd}
+use Rattle.place_laws.specs.Scope.Bare.{bare}
+use Rattle.place_laws.specs.Scope.Roots.{own_roots_at}
+use Rattle.place_laws.specs.Scope.WellAtPlace.{IsWellAt}
+use Rattle.config_laws.specs.Live.LiveFits.{MayReplaceLive, LiveAtEnd}
 use Rattle.tree_rules.specs.Classes.{all_kept}
 use Rattle.tree_rules.specs.Findings.{scope_behind, findings_of_block}
 use Rattle.made_trees.specs.Ids.{next_id}

@@ -3,7 +3,7 @@ use Rattle.std.specs.Prelude.{◌≡◌, ℕ, List}
 use Rattle.exo_tree.specs.Tree.{Block}
 use Rattle.exo_tree.specs.Context.{fill}
 use Rattle.exo_meaning.specs.Inputs.{Refines}
-use Rattle.scope_laws.specs.Bare.{bare}
+use Rattle.place_laws.specs.Scope.Bare.{bare}
 use Rattle.made_trees.specs.Passes.{or_pass}
 use Rattle.step_rules.specs.Rule.{Spot}
 use Rattle.step_rules.specs.Lawful.{IsSpot, around, world_of, with_body, Replaces}

@@ -29,7 +29,7 @@ pub fn proposals_are_kept()
 pub fn lawful_rules_keep_meaning()
     ensures { MeaningLaw }
 {
-    made_trees_laws::laws::names_of_copies_are_names_alone();
+    tree_laws::made::laws::names_of_copies_are_names_alone();
     needs_hold();
 }
 
@@ -37,5 +37,5 @@ pub fn lawful_rules_keep_meaning()
 pub fn carrying_rules_forward()
     ensures { ForwardsLaw }
 {
-    made_trees_laws::laws::names_of_copies_are_names_alone();
+    tree_laws::made::laws::names_of_copies_are_names_alone();
 }

@@ -16,9 +16,9 @@ use Rattle.check_claims.specs.Claims.{claims_of}
 use Rattle.check_facts.specs.Contexts.{context_of}
 use Rattle.effect_laws.specs.Pairs.{PairsAreApart}
 use Rattle.bounds_check.specs.Obligations.{formula_at, pair_owed, claim_owed, owed_for, owed_for_all}
-use Rattle.check_claims_laws.specs.Holding.{HoldsAtPlace, ApartAtPlace, SaidHolds, ClaimHolds, SaidIsFormed, ClaimIsFormed}
-use Rattle.check_claims_laws.specs.Laws.{ProceduresMayRun, ClaimsAreFormed, ClaimsSuffice}
-use Rattle.check_facts_laws.specs.Laws.{ComesToPlace, ShownConditionsHold}
+use Rattle.check_laws.specs.Claims.Holding.{HoldsAtPlace, ApartAtPlace, SaidHolds, ClaimHolds, SaidIsFormed, ClaimIsFormed}
+use Rattle.check_laws.specs.Claims.Laws.{ProceduresMayRun, ClaimsAreFormed, ClaimsSuffice}
+use Rattle.check_laws.specs.Facts.Laws.{ComesToPlace, ShownConditionsHold}
 use Rattle.unit_check.specs.Faults.{ShownProceduresDoNotFault}
 use Rattle.unit_check.proofs.Listed.{each_of_all, each_front, each_back, all_of_images}
 use Rattle.unit_check.proofs.Made.{IsClosed}

@@ -4,8 +4,8 @@ use Rattle.exo_tree.specs.Tree.{Procedure, Program}
 use Rattle.exo_meaning.specs.Units.{IsUnit}
 use Rattle.affine_forms.specs.Affine.{HasNoIntegerPoint}
 use Rattle.bounds_check.specs.Obligations.{obligations_of}
-use Rattle.check_claims_laws.specs.Holding.{LeadsTo}
-use Rattle.check_claims_laws.specs.Laws.{NeverFaults}
+use Rattle.check_laws.specs.Claims.Holding.{LeadsTo}
+use Rattle.check_laws.specs.Claims.Laws.{NeverFaults}
 
 -- no system that the procedure of that number owes has an integer point
 abbrev pub IsShown : Program → ℕ → Type 0

@@ -7,10 +7,10 @@ ghost use Rattle.unit_check.specs.Laws.{CheckedUnitsDoNotFault};
 pub fn shown_procedures_do_not_fault()
     ensures { ShownProceduresDoNotFault }
 {
-    check_claims_laws::laws::procedures_may_run();
-    check_claims_laws::laws::claims_are_formed();
-    check_claims_laws::laws::claims_suffice();
-    check_facts_laws::laws::shown_conditions_hold();
+    check_laws::claims::laws::procedures_may_run();
+    check_laws::claims::laws::claims_are_formed();
+    check_laws::claims::laws::claims_suffice();
+    check_laws::facts::laws::shown_conditions_hold();
     effect_laws::laws::pairs_are_apart();
 }
 

@@ -1,6 +1,6 @@
 -- What is left decides.
 use Rattle.std.proofs.Common.{◌≡◌, None, drop, map, option_map}
-use Rattle.schedule_versions.specs.Versions.{held_after}
+use Rattle.schedule_laws.specs.Versions.Versions.{held_after}
 use Rattle.schedule_run.specs.PlainVersions.{binding, held}
 use Rattle.compile_stages.proofs.stages.held.Given as goal
 

@@ -2,7 +2,7 @@ use Rattle.std.proofs.Common.{◌≡◌, ℕ, List, map, option_map, IfSome, sub
 use Rattle.exo_tree.specs.PlainUnit.{program}
 use Rattle.schedule_text.specs.Views.{plain_line, number}
 use Rattle.schedule_text.specs.declared.source.Line.{Line}
-use Rattle.schedule_versions.specs.Versions.{Versions, started}
+use Rattle.schedule_laws.specs.Versions.Versions.{Versions, started}
 use Rattle.schedule_run.specs.PlainVersions.{versions}
 use Rattle.compile_stages.specs.Stages.{Stage, Stopped, Schedule, IsRan}
 use Rattle.compile_stages.specs.Stopping.{plain}

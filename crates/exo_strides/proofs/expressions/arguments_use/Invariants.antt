@@ -2,7 +2,7 @@
 use Rattle.std.proofs.Common.{◌≡◌, map, drop}
 use Rattle.exo_tree.specs.PlainArgument.{argument}
 use Rattle.exo_modes.specs.Aliases.{roots_in}
-use Rattle.stride_laws.specs.Strides.{arguments_use}
+use Rattle.buffer_laws.specs.Stride.Strides.{arguments_use}
 use Rattle.exo_strides.proofs.expressions.arguments_use.Given as goal
 
 abbrev pub invariant-loop-a : goal.invariant-loop-a

@@ -3,7 +3,7 @@ use Rattle.std.proofs.Common.{◌≡◌, map, drop}
 use Rattle.exo_tree.specs.PlainControl.{coordinate}
 use Rattle.exo_modes.specs.Aliases.{roots_in}
 use Rattle.inplace_laws.specs.Uses.{in_coords}
-use Rattle.stride_laws.specs.Strides.{nothing, names_of}
+use Rattle.buffer_laws.specs.Stride.Strides.{nothing, names_of}
 use Rattle.exo_strides.proofs.expressions.coords_use.Given as goal
 
 abbrev pub invariant-loop-c : goal.invariant-loop-c

@@ -2,7 +2,7 @@ use Rattle.std.proofs.Common.{ap, sym, ◌∙◌}
 use Rattle.exo_tree.specs.PlainParam.{parameter_kind}
 use Rattle.exo_modes.specs.Aliases.{roots_in}
 use Rattle.inplace_laws.specs.Uses.{in_controls}
-use Rattle.stride_laws.specs.Strides.{nothing, names_of, kind_uses}
+use Rattle.buffer_laws.specs.Stride.Strides.{nothing, names_of, kind_uses}
 use Rattle.exo_strides.proofs.table.kind_sees.Goals as goal
 
 pub returns-in-Tensor : goal.returns-in-Tensor

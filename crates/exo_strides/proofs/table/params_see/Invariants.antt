@@ -1,7 +1,7 @@
 -- Those that are left use it just where all do.
 use Rattle.std.proofs.Common.{◌≡◌, map, drop}
 use Rattle.exo_tree.specs.PlainParam.{parameter}
-use Rattle.stride_laws.specs.Strides.{params_use}
+use Rattle.buffer_laws.specs.Stride.Strides.{params_use}
 use Rattle.exo_strides.proofs.table.params_see.Given as goal
 
 abbrev pub invariant-loop-x : goal.invariant-loop-x

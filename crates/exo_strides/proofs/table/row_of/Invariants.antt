@@ -3,7 +3,7 @@ use Rattle.std.proofs.Common.{◌≡◌, ◌++◌, map, drop, length}
 use Rattle.exo_tree.specs.PlainParam.{parameter}
 use Rattle.exo_tree.specs.PlainProcedure.{procedure}
 use Rattle.exo_tree.specs.PlainUnit.{program}
-use Rattle.stride_laws.specs.Strides.{sees_strides}
+use Rattle.buffer_laws.specs.Stride.Strides.{sees_strides}
 use Rattle.exo_strides.specs.Seen.{seen_of, first_world, first_see}
 use Rattle.exo_strides.proofs.table.row_of.Given as goal
 

@@ -1,7 +1,7 @@
 use Rattle.std.proofs.Common.{drop, arith}
 use Rattle.std.proofs.lemmas.List.{drop_all}
 use Rattle.exo_tree.specs.Tree.{block}
-use Rattle.expression_laws.specs.Passes.{without}
+use Rattle.proc_laws.specs.Expression.Passes.{without}
 use Rattle.expression_rewrites.proofs.Cleared.{kept_all}
 use Rattle.expression_rewrites.proofs.clearing.+clearing.Goals as goal
 

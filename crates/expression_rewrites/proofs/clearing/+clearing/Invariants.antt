@@ -3,7 +3,7 @@ use Rattle.std.proofs.Common.{◌≡◌, ◌+◌, ◌*◌, drop}
 use Rattle.exo_tree.specs.Tree.{block, joined}
 use Rattle.exo_tree.specs.Nodes.{nodes, nodes_in}
 use Rattle.exo_tree.specs.PlainStatement.{statement}
-use Rattle.expression_laws.specs.Passes.{without}
+use Rattle.proc_laws.specs.Expression.Passes.{without}
 use Rattle.expression_rewrites.proofs.clearing.+clearing.Given as goal
 
 abbrev pub decreases-put : goal.decreases-put

@@ -4,7 +4,7 @@ use Rattle.exo_tree.specs.Tree.{block}
 use Rattle.exo_tree.specs.Nodes.{nodes, nodes_in}
 use Rattle.exo_tree.specs.PlainPlace.{branch_taken}
 use Rattle.exo_tree.specs.PlainStatement.{statement}
-use Rattle.expression_laws.specs.Passes.{shifted}
+use Rattle.proc_laws.specs.Expression.Passes.{shifted}
 use Rattle.expression_rewrites.proofs.leaving.+leaving.Given as goal
 
 abbrev pub decreases-put_statement : goal.decreases-put_statement

@@ -1,4 +1,4 @@
-use Rattle.step_shapes.proofs.Made.{appended}
+use Rattle.loop_rewrites.proofs.OfShapes.Made.{appended}
 use Rattle.loop_rewrites.proofs.cutting.cut.Goals as goal
 
 pub returns : goal.returns

@@ -3,7 +3,7 @@ use Rattle.std.proofs.Common.{◌≡◌, drop}
 use Rattle.exo_tree.specs.Tree.{block}
 use Rattle.cursor_forward.specs.PlainCursor.{plain_cursor}
 use Rattle.schedule_calls.specs.PlainRequest.{moves_of}
-use Rattle.schedule_versions.specs.Places.{moved_all}
+use Rattle.schedule_laws.specs.Versions.Places.{moved_all}
 use Rattle.schedule_run.proofs.cursors.moved_all.Given as goal
 
 abbrev pub invariant-loop-m : goal.invariant-loop-m

@@ -5,7 +5,7 @@ use Rattle.cursor_forward.specs.PlainProposal.{plain_proposal}
 use Rattle.cursor_forward.specs.Proposals.{Plan}
 use Rattle.step_driver.specs.PlainTarget.{target}
 use Rattle.schedule_calls.specs.PlainRequest.{plain_asked}
-use Rattle.schedule_versions.specs.Lines as lines
+use Rattle.schedule_laws.specs.Versions.Lines as lines
 use Rattle.schedule_run.specs.Outcomes.{Makes}
 use Rattle.schedule_run.specs.Planned.{Made}
 use Rattle.schedule_run.specs.PlainVersions.{versions}

@@ -5,13 +5,13 @@ use Rattle.cursor_forward.specs.PlainProposal.{plain_proposal}
 use Rattle.cursor_forward.specs.Proposals.{Plan}
 use Rattle.step_driver.specs.PlainTarget.{target}
 use Rattle.schedule_calls.specs.PlainRequest.{plain_asked}
-use Rattle.schedule_versions.specs.Lines as lines
-use Rattle.nest_laws.specs.Fission.{fission_rule}
+use Rattle.schedule_laws.specs.Versions.Lines as lines
+use Rattle.loop_laws.specs.Nest.Fission.{fission_rule}
 use Rattle.schedule_run.specs.PlainPlace.{plain_gap}
 use Rattle.schedule_run.specs.Outcomes.{Makes}
 use Rattle.schedule_run.specs.Planned.{Made, planned}
 use Rattle.schedule_run.specs.PlainVersions.{versions}
-use Rattle.schedule_operators.specs.Operators.{gap_call}
+use Rattle.schedule_laws.specs.Operators.Operators.{gap_call}
 use Rattle.schedule_run.proofs.Going.{made_failed}
 use Rattle.schedule_run.proofs.Asking.{gap_lost, gap_there}
 use Rattle.schedule_run.proofs.planning.fission_at.Goals as goal

@@ -6,21 +6,21 @@ use Rattle.text_expressions.specs.Views.{tree_of}
 use Rattle.text_expressions.specs.declared.source.SourceExpr.{SourceExpr}
 use Rattle.cursor_patterns.specs.PlainPattern.{plain_expr_pattern}
 use Rattle.cursor_forward.specs.PlainProposal.{plain_proposal}
-use Rattle.expression_laws.specs.Commute.{commute_rule}
+use Rattle.proc_laws.specs.Expression.Commute.{commute_rule}
 use Rattle.loop_laws.specs.DivideLoop.{Division, divide_rule}
 use Rattle.loop_laws.specs.UnrollLoop.{unroll_rule}
-use Rattle.nest_laws.specs.Fission.{fission_rule}
-use Rattle.nest_laws.specs.Fuse.{fuse_rule}
-use Rattle.nest_laws.specs.ReorderLoops as loops
-use Rattle.statement_laws.specs.RemoveLoop.{remove_rule}
-use Rattle.statement_laws.specs.ReorderStatements as statements
+use Rattle.loop_laws.specs.Nest.Fission.{fission_rule}
+use Rattle.loop_laws.specs.Nest.Fuse.{fuse_rule}
+use Rattle.loop_laws.specs.Nest.ReorderLoops as loops
+use Rattle.proc_laws.specs.Statement.RemoveLoop.{remove_rule}
+use Rattle.proc_laws.specs.Statement.ReorderStatements as statements
 use Rattle.schedule_calls.specs.PlainRequest.{plain_asked, plain_division, plain_operation}
 use Rattle.schedule_calls.specs.Requests.{CutLoop, Specialize}
 use Rattle.schedule_calls.specs.declared.request.Asked.{Asked}
 use Rattle.schedule_calls.specs.declared.request.Division as written
 use Rattle.schedule_calls.specs.declared.request.Operation.{Operation}
-use Rattle.schedule_operators.specs.Operators.{call_of, division_of, statement_call, gap_call}
-use Rattle.schedule_operators.specs.Operators.{dead_code_rule}
+use Rattle.schedule_laws.specs.Operators.Operators.{call_of, division_of, statement_call, gap_call}
+use Rattle.schedule_laws.specs.Operators.Operators.{dead_code_rule}
 use Rattle.schedule_run.specs.Outcomes.{Makes}
 use Rattle.schedule_run.specs.Planned.{planned}
 use Rattle.schedule_run.specs.PlainVersions.{versions}

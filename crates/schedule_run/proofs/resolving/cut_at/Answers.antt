@@ -8,8 +8,8 @@ use Rattle.cursor_forward.specs.Proposals.{Plan}
 use Rattle.loop_laws.specs.CutLoop.{cut_rule}
 use Rattle.step_driver.specs.PlainTarget.{target}
 use Rattle.schedule_calls.specs.PlainRequest.{plain_asked}
-use Rattle.schedule_versions.specs.Lines as lines
-use Rattle.schedule_operators.specs.Operators.{control_at}
+use Rattle.schedule_laws.specs.Versions.Lines as lines
+use Rattle.schedule_laws.specs.Operators.Operators.{control_at}
 use Rattle.schedule_run.specs.Outcomes.{Makes}
 use Rattle.schedule_run.specs.Planned.{Made}
 use Rattle.schedule_run.specs.PlainVersions.{versions}

@@ -2,8 +2,8 @@ use Rattle.std.proofs.Common.{◌≤◌, ◌<◌, List, map, length, sym, subst,
 use Rattle.exo_tree.specs.PlainUnit.{program}
 use Rattle.schedule_text.specs.Tree as tree
 use Rattle.schedule_text.specs.Views.{plain_line}
-use Rattle.schedule_versions.specs.Versions.{started}
-use Rattle.schedule_versions.specs.Lines.{Done}
+use Rattle.schedule_laws.specs.Versions.Versions.{started}
+use Rattle.schedule_laws.specs.Versions.Lines.{Done}
 use Rattle.schedule_run.specs.Runs.{LinesRun, ends}
 use Rattle.schedule_run.specs.Running.{versions_in}
 use Rattle.schedule_run.proofs.Going.{dropped, past_all, goes_on, refused_runs}

@@ -2,8 +2,8 @@
 use Rattle.std.proofs.Common.{map, drop}
 use Rattle.exo_tree.specs.PlainUnit.{program}
 use Rattle.schedule_text.specs.Views.{plain_line}
-use Rattle.schedule_versions.specs.Versions.{started}
-use Rattle.schedule_versions.specs.Lines.{Outcome}
+use Rattle.schedule_laws.specs.Versions.Versions.{started}
+use Rattle.schedule_laws.specs.Versions.Lines.{Outcome}
 use Rattle.schedule_run.specs.Runs.{LinesRun}
 use Rattle.schedule_run.specs.Running.{IsRunning, versions_in}
 use Rattle.schedule_run.proofs.run.run_schedule.Given as goal

@@ -3,7 +3,7 @@ use Rattle.std.proofs.lemmas.List.{map-append, length-map, length_push}
 use Rattle.exo_tree.specs.PlainUnit.{program}
 use Rattle.exo_tree.specs.PlainProcedure.{procedure}
 use Rattle.exo_modes.proofs.Callees.{take_read}
-use Rattle.stride_laws.specs.Strides.{sees_strides}
+use Rattle.buffer_laws.specs.Stride.Strides.{sees_strides}
 use Rattle.exo_strides.specs.Seen.{seen_of, first_world, first_see}
 use Rattle.exo_strides.specs.Table.{AreFirst}
 use Rattle.exo_strides.specs.PlainTable.{rows, table_rows}

@@ -3,7 +3,7 @@ use Rattle.exo_tree.specs.Tree.{end, next, block}
 use Rattle.cursor_patterns.specs.PlainPattern.{plain_expr_pattern}
 use Rattle.step_rules.specs.Rule.{Got, Piece}
 use Rattle.step_rules.specs.Shapes.{tried}
-use Rattle.expression_laws.specs.Commute.{commuted_alone}
+use Rattle.proc_laws.specs.Expression.Commute.{commuted_alone}
 use Rattle.step_driver.specs.PlainTarget.{target}
 use Rattle.step_driver.specs.Spots.{spot_at}
 use Rattle.expression_rewrites.proofs.Commuted.{one_tried, found_again}

@@ -1,9 +1,9 @@
 use Rattle.std.proofs.Common.{◌≡◌, ◌+◌, pos, ℕ, List, IfOk, ap, sym, ◌∙◌, subst, arith}
 use Rattle.exo_tree.specs.Tree.{Statement, Lit, Mod, Gt, Block, end, block, joined}
 use Rattle.exo_tree.specs.Renaming.{fresh}
-use Rattle.scope_laws.specs.BranchesAtPlaces.{only_branch}
+use Rattle.place_laws.specs.Scope.BranchesAtPlaces.{only_branch}
 use Rattle.loop_laws.specs.DivideLoop.{whole_groups, turns_behind, divided_with, divided}
-use Rattle.step_shapes.specs.PlainLoop.{plain_loop}
+use Rattle.loop_rewrites.specs.Shapes.PlainLoop.{plain_loop}
 use Rattle.loop_rewrites.specs.PlainTail.{division, plain_tail}
 use Rattle.loop_rewrites.specs.declared.dividing.Tail.{Tail}
 use Rattle.loop_rewrites.proofs.dividing.Dividing.divided.Goals as goal

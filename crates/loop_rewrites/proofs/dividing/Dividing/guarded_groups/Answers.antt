@@ -2,9 +2,9 @@ use Rattle.std.proofs.Common.{◌≡◌, List, IfOk, subst}
 use Rattle.exo_tree.specs.Tree.{Statement, Control, Block, block}
 use Rattle.exo_tree.specs.PlainControl.{control}
 use Rattle.exo_tree.specs.Tree.{Lt, end}
-use Rattle.scope_laws.specs.BranchesAtPlaces.{only_branch}
+use Rattle.place_laws.specs.Scope.BranchesAtPlaces.{only_branch}
 use Rattle.loop_laws.specs.DivideLoop.{nest, turn_in_group, body_in_group}
-use Rattle.step_shapes.specs.PlainLoop.{plain_loop}
+use Rattle.loop_rewrites.specs.Shapes.PlainLoop.{plain_loop}
 use Rattle.loop_rewrites.specs.PlainTail.{division}
 use Rattle.loop_rewrites.proofs.dividing.Dividing.guarded_groups.Goals as goal
 

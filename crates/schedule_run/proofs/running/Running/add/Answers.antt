@@ -5,9 +5,9 @@ use Rattle.exo_tree.specs.PlainUnit.{program}
 use Rattle.affine_systems.specs.Outcomes.{plain_obligation}
 use Rattle.bounds_check.specs.Obligations.{list_fault}
 use Rattle.cursor_forward.specs.PlainProposal.{plain_proposal}
-use Rattle.tree_rules_laws.specs.Versions.{with_version}
-use Rattle.schedule_versions.specs.Versions.{Versions, Version, bound, made_of}
-use Rattle.schedule_versions.specs.Lines.{Went, checked_step}
+use Rattle.tree_laws.specs.Findings.Versions.{with_version}
+use Rattle.schedule_laws.specs.Versions.Versions.{Versions, Version, bound, made_of}
+use Rattle.schedule_laws.specs.Versions.Lines.{Went, checked_step}
 use Rattle.schedule_run.specs.Running.{versions_in}
 use Rattle.schedule_run.proofs.Going.{performed_failed}
 use Rattle.schedule_run.proofs.Growing.{get_last}

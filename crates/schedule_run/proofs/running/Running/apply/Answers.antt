@@ -1,8 +1,8 @@
 use Rattle.std.proofs.Common.{◌≡◌, sym, ap, ◌∙◌, subst}
 use Rattle.schedule_calls.specs.PlainRequest.{plain_operation}
-use Rattle.schedule_versions.specs.Versions.{version_of, version_at}
-use Rattle.schedule_versions.specs.Lines.{Progress, called}
-use Rattle.schedule_operators.specs.Operators.{call_of}
+use Rattle.schedule_laws.specs.Versions.Versions.{version_of, version_at}
+use Rattle.schedule_laws.specs.Versions.Lines.{Progress, called}
+use Rattle.schedule_laws.specs.Operators.Operators.{call_of}
 use Rattle.schedule_run.specs.Outcomes.{Performs}
 use Rattle.schedule_run.specs.Planned.{Not, planned_of, stepped}
 use Rattle.schedule_run.specs.Running.{versions_in}

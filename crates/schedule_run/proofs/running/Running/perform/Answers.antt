@@ -1,8 +1,8 @@
 use Rattle.std.proofs.Common.{sym, subst}
 use Rattle.schedule_calls.specs.PlainRequest.{plain_request}
 use Rattle.schedule_calls.specs.declared.request.Request.{Request}
-use Rattle.schedule_versions.specs.Lines.{performed}
-use Rattle.schedule_operators.specs.Operators.{act_of}
+use Rattle.schedule_laws.specs.Versions.Lines.{performed}
+use Rattle.schedule_laws.specs.Operators.Operators.{act_of}
 use Rattle.schedule_run.specs.Outcomes.{Performs}
 use Rattle.schedule_run.specs.PlainVersions.{versions}
 use Rattle.schedule_run.specs.Running.{versions_in}

@@ -1,7 +1,7 @@
 use Rattle.std.proofs.Common.{refl, sym}
 use Rattle.exo_tree.specs.PlainProcedure.{procedure}
 use Rattle.schedule_calls.specs.PlainRequest.{plain_operation}
-use Rattle.schedule_operators.specs.Operators.{call_of}
+use Rattle.schedule_laws.specs.Operators.Operators.{call_of}
 use Rattle.schedule_run.specs.Running.{versions_in}
 use Rattle.schedule_run.proofs.Plans.{all_stand}
 use Rattle.schedule_run.proofs.running.Running.plan.Goals as goal

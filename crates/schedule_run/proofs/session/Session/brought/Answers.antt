@@ -2,7 +2,7 @@ use Rattle.std.proofs.Common.{◌≡◌, List, None, Some, map, sym, ap, ◌∙�
 use Rattle.std.specs.Prelude.{option_map}
 use Rattle.exo_tree.specs.declared.number.ProcId.{ProcId}
 use Rattle.cursor_forward.specs.PlainCursor.{plain_cursor}
-use Rattle.schedule_versions.specs.Places.{or_lost, CursorGone}
+use Rattle.schedule_laws.specs.Versions.Places.{or_lost, CursorGone}
 use Rattle.schedule_run.specs.PlainPlace.{plain_place}
 use Rattle.schedule_run.specs.PlainVersions.{versions}
 use Rattle.schedule_run.specs.Planned.{as_found}

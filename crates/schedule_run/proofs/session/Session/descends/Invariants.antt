@@ -1,7 +1,7 @@
 -- What is left to ask.
 use Rattle.std.proofs.Common.{◌≡◌, [], map}
 use Rattle.config_laws.specs.Differing.{is_descendant, descends}
-use Rattle.schedule_versions.specs.Versions.{configured}
+use Rattle.schedule_laws.specs.Versions.Versions.{configured}
 use Rattle.schedule_run.specs.PlainVersions.{versions}
 use Rattle.schedule_run.proofs.session.Session.descends.Given as goal
 

@@ -1,6 +1,6 @@
 -- What the bindings so far hold.
 use Rattle.std.proofs.Common.{◌≡◌, ◌≤◌, None, map, take, length}
-use Rattle.schedule_versions.specs.Versions.{held_after}
+use Rattle.schedule_laws.specs.Versions.Versions.{held_after}
 use Rattle.schedule_run.specs.PlainVersions.{binding}
 use Rattle.schedule_run.proofs.session.Session.held.Given as goal
 

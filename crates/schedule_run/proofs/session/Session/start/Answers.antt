@@ -1,7 +1,7 @@
 use Rattle.std.proofs.Common.{◌≡◌, ◌≤◌, ◌+◌, map, take, length, ap, sym, ◌∙◌, arith}
 use Rattle.std.proofs.lemmas.List.{map-append, length_push}
 use Rattle.exo_tree.specs.PlainProcedure.{procedure}
-use Rattle.schedule_versions.specs.Versions.{of_text, names_from}
+use Rattle.schedule_laws.specs.Versions.Versions.{of_text, names_from}
 use Rattle.schedule_run.specs.PlainVersions.{origin, binding}
 use Rattle.schedule_run.proofs.Lists.{taken_mapped, long}
 use Rattle.schedule_run.proofs.Names.{names_more, texts_more}

@@ -1,7 +1,7 @@
 -- The procedures so far have their names and origins.
 use Rattle.std.proofs.Common.{◌≡◌, map, take, length}
 use Rattle.exo_tree.specs.PlainProcedure.{procedure}
-use Rattle.schedule_versions.specs.Versions.{of_text, names_from}
+use Rattle.schedule_laws.specs.Versions.Versions.{of_text, names_from}
 use Rattle.schedule_run.specs.PlainVersions.{origin, binding}
 use Rattle.schedule_run.proofs.session.Session.start.Given as goal
 

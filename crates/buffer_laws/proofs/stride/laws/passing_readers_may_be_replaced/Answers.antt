@@ -1,0 +1,5 @@
+use Rattle.buffer_laws.proofs.OfStride.Passed.{passed_reader_replaces}
+use Rattle.buffer_laws.proofs.stride.laws.passing_readers_may_be_replaced.Goals as goal
+
+pub returns : goal.returns
+returns c = passed_reader_replaces

@@ -1,0 +1,3 @@
+//! Procedures that do not look at the strides of their parameters.
+
+pub mod laws;

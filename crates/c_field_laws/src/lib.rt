@@ -1,4 +1,0 @@
-//! Fields that the C of a unit does not declare.
-#![tactic(auto)]
-
-pub mod laws;

@@ -1,3 +1,0 @@
-mod Helpers
-mod Runs
-mod OtherFields

@@ -1,0 +1,3 @@
+pub mod Entries
+pub mod Add3
+pub mod FilledColumn

@@ -1,0 +1,3 @@
+//! Closed runs of printed files, from a valid input to what is left.
+
+pub mod laws;

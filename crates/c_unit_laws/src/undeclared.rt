@@ -1,0 +1,3 @@
+//! Fields that the C of a unit does not declare.
+
+pub mod laws;

@@ -1,3 +1,0 @@
-mod Entries
-mod Add3
-mod FilledColumn

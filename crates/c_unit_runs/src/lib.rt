@@ -1,4 +1,0 @@
-//! Closed runs of printed files, from a valid input to what is left.
-#![tactic(auto)]
-
-pub mod laws;

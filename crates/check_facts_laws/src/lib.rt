@@ -1,4 +1,0 @@
-//! What is known at a place of a procedure holds in every run that comes to it.
-#![tactic(auto)]
-
-pub mod laws;

@@ -1,0 +1,2 @@
+pub mod OfFacts
+pub mod OfClaims

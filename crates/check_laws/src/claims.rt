@@ -1,0 +1,3 @@
+//! What claims are good for: where they hold, nothing faults.
+
+pub mod laws;

@@ -1,0 +1,5 @@
+//! Facts hold where they are known, and where claims hold nothing faults.
+#![tactic(auto)]
+
+pub mod claims;
+pub mod facts;

@@ -1,4 +1,0 @@
-//! A text that breaks no rule of the language, and one that breaks one.
-#![tactic(auto)]
-
-pub mod laws;

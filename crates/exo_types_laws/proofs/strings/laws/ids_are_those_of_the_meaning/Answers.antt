@@ -1,0 +1,5 @@
+use Rattle.exo_types_laws.proofs.OfStrings.SameNames.{same_ids_at_place}
+use Rattle.exo_types_laws.proofs.strings.laws.ids_are_those_of_the_meaning.Goals as goal
+
+pub returns : goal.returns
+returns c = same_ids_at_place

@@ -1,4 +1,0 @@
-//! The rewrites that put a callee's body in the place of its call, and a buffer in that of a view.
-#![tactic(auto)]
-
-pub mod laws;

@@ -1,4 +1,0 @@
-//! Laws of fields that are not live, and of calls of versions.
-#![tactic(auto)]
-
-pub mod laws;

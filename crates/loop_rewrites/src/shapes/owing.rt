@@ -1,0 +1,56 @@
+//! What has to be shown.
+ghost use Rattle.std.specs.Prelude.{◌≡◌, [], ◌∷◌, map, length, IfOk};
+ghost use Rattle.exo_tree.specs.Tree.{block, statements};
+ghost use Rattle.effect_laws.specs.Fits as fits;
+ghost use Rattle.step_rules.specs.Rule as rule;
+ghost use Rattle.step_needs.specs.PlainNeed.{plain_fact, plain_header, plain_conflict, plain_need};
+ghost use Rattle.loop_rewrites.specs.Shapes.PlainLoop.{plain_loop};
+
+use crate::shapes::loops::{LoopAt, copies};
+use exo_tree::{Block, Path};
+use std::alloc::{AllocError, Global};
+use step_needs::{Conflict, Fact, Header, Need};
+
+/// One fact, at a place.
+pub fn one(alloc: Global, at: &Path, fact: Fact) -> Result<Vec<Need>, AllocError>
+    ensures { IfOk result (λ ns. map plain_need ns.items ≡ rule.Says at.now (plain_fact fact) ∷ []) }
+{
+    let mut all = Vec::new(alloc);
+    all.push(Need::Says(at.duplicate(), fact))?;
+    Ok(all)
+}
+
+/// That two pieces do not meet, at a place.
+pub fn apart(alloc: Global, at: &Path, conflict: Conflict) -> Result<Vec<Need>, AllocError>
+    ensures { IfOk result (λ ns. map plain_need ns.items ≡ rule.Apart at.now (plain_conflict conflict) ∷ []) }
+{
+    let boxed = Box::new(alloc, conflict)?;
+    let mut all = Vec::new(alloc);
+    all.push(Need::Apart(at.duplicate(), boxed))?;
+    Ok(all)
+}
+
+/// A loop round a piece.
+pub fn header(alloc: Global, l: &LoopAt<'_>) -> Result<Header, AllocError>
+    ensures { IfOk result (λ h. plain_header h ≡ fits.header (plain_loop l.now).binder (plain_loop l.now).lo (plain_loop l.now).hi) }
+{
+    let binder = l.binder.duplicate(alloc)?;
+    let (lower, upper) = copies(alloc, l.lo, l.hi)?;
+    Ok(Header {
+        binder,
+        lower,
+        upper,
+    })
+}
+
+/// How many statements a block has. Past 4294967295 it is answered as want of memory: a path leads to none behind those.
+#[tactic(auto, using(crate::proofs::OfShapes::Made::statements_of))]
+pub fn size(b: &Block) -> Result<u32, AllocError>
+    ensures { IfOk result (λ n. n ≡ length (statements (block b.now))) }
+{
+    let count = b.len();
+    if count > 4294967295 {
+        return Err(AllocError);
+    }
+    Ok(count as u32)
+}

@@ -1,4 +1,0 @@
-//! Laws of trees that rewrites make.
-#![tactic(auto)]
-
-pub mod laws;

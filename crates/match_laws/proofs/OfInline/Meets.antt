@@ -1,0 +1,437 @@
+-- A block does what a callee's body does, where each pair of their walk meets.
+use Rattle.std.proofs.Common.{◌≡◌, ◌∙◌, ℕ, suc, ◌+ℤ◌, ◌-ℤ◌, ◌*ℤ◌, ◌==◌, pos}
+use Rattle.std.proofs.Common.{Bool, true, false, ◌&&◌, if◌then◌else◌, List, [], ◌∷◌, ◌++◌, Option}
+use Rattle.std.proofs.Common.{Some, None, option_map, refl, sym, ap, ap₂, subst, true≢false}
+use Rattle.std.proofs.Common.{eqb-true}
+use Rattle.std.specs.Ordering.{int_eq}
+use Rattle.exo_tree.specs.Tree.{Binder, Control, Condition, Datum, Const, Read, Negated, Relu, Plus}
+use Rattle.exo_tree.specs.Tree.{Minus, Times, Select, Coord, At, Span, Argument, ControlArg}
+use Rattle.exo_tree.specs.Tree.{ConditionArg, Whole, Window, Statement, Assign, Reduce, Config}
+use Rattle.exo_tree.specs.Tree.{Pass, If, For, Alloc, View, Call, Block, end, next}
+use Rattle.exo_tree.specs.Context.{Here, After, InThen, InElse}
+use Rattle.exo_tree.specs.Places.{Branch, Main, Else, Path}
+use Rattle.exo_meaning.specs.Orders.{Each}
+use Rattle.exo_meaning.specs.Value.{Value, Number, on_two, on_one, on_four, relu, selected}
+use Rattle.exo_meaning.specs.Scene.{Scene, then_do, number, numbers, holds, window, where_true}
+use Rattle.exo_meaning.specs.State.{State, Place, place, held, put as put_at, value, on_scene}
+use Rattle.exo_meaning.specs.State.{with_field, with_view}
+use Rattle.exo_meaning.specs.Calls.{GivenNumber, GivenView, given, all_given, truth, suits}
+use Rattle.exo_meaning.specs.Run.{World, argument_number, allocate, call_to}
+use Rattle.affine_forms.specs.Forms.{Reading}
+use Rattle.affine_forms.proofs.Values.{and_parts, int_eq_same}
+use Rattle.inplace_laws.specs.Along.{SameAlong, both_end, both_next, SameThere, at_once}
+use Rattle.inplace_laws.specs.Along.{in_branches, in_turns}
+use Rattle.inplace_laws.specs.Inline.{is_view}
+use Rattle.inplace_laws.specs.Windows.{shifted, joined_coords, root_in, coords_of}
+use Rattle.match_laws.specs.Simplify.SameControls.{OfControls, OfCondition, OfDatum, OfCoords, OfArgument}
+use Rattle.match_laws.specs.Simplify.SameControls.{OfArguments}
+use Rattle.match_laws.specs.Simplify.SimplifiedBlocks.{IsRead}
+use Rattle.match_laws.specs.Names.{Names}
+use Rattle.match_laws.specs.Fitting.{SameCoords}
+use Rattle.match_laws.specs.Moved.{agree, conditions_agree}
+use Rattle.match_laws.specs.Pairs.{Pair, Binders, Own, Access, Unlike}
+use Rattle.exo_tree.specs.Cells.{same_cell, same_cell_is}
+use Rattle.match_laws.specs.Pairs.{same_cells, points, controls_paired, coords_paired}
+use Rattle.match_laws.specs.Pairs.{param_paired, access_paired, data_paired, argument_paired}
+use Rattle.match_laws.specs.Pairs.{arguments_paired, step_to, blocks_paired, statements_paired}
+use Rattle.match_laws.specs.Alike.{nameless, nameless_statement, nameless_binder}
+use Rattle.match_laws.proofs.Alike.{numbers_agree, conditions_same, given_same, calls_same}
+use Rattle.match_laws.proofs.Alike.{Keeps, by_turns, step_same}
+use Rattle.match_laws.proofs.Fitting.{same_windows, same_places}
+use Rattle.match_laws.specs.Inline.AtOnce.{Put, put_control, put_controls, put_condition, put_index}
+use Rattle.match_laws.specs.Inline.AtOnce.{put_datum, put_coords, put_window, put_argument}
+use Rattle.match_laws.specs.Inline.AtOnce.{put_arguments, put_statement, put_block, root_for, coords_for}
+use Rattle.match_laws.specs.Inline.Meets.{Meets, wholes_alike, all_wholes_alike}
+use Rattle.match_laws.specs.Inline.Meets.{calls_alike_in, calls_alike, PutsParams, MeetsAlong}
+
+no : {P : Type 0} → false ≡ true → P
+no h = absurd (true≢false (sym h))
+
+pub each_split : {T : Type 0} (P : T → Type 0) (xs ys : List T) → Each P (xs ++ ys)
+    → Each P xs × Each P ys
+each_split P [] ys h = (tt, h)
+each_split P (x ∷ xs) ys h =
+    let rest = each_split P xs ys h.1 in ((h.0, rest.0), rest.1)
+
+points_put : (put : Put) (is : List Control)
+    → put_coords put (points is) ≡ points (put_controls put is)
+points_put put [] = refl
+points_put put (i ∷ is) = ap (λ r. At (put_control put i) ∷ r) (points_put put is)
+
+points_of : (P : Control → Type 0) (js : List Control) → OfControls P js → OfCoords P (points js)
+points_of P [] h = tt
+points_of P (j ∷ js) h = (h.0, points_of P js h.1)
+
+shifted_of : (P : Control → Type 0) (cs : List Coord) (is : List Control)
+    → OfControls P (shifted cs is) → OfCoords P (joined_coords cs (points is))
+shifted_of P [] is h = points_of P is h
+shifted_of P (At a ∷ cs) is h = (h.0, shifted_of P cs is h.1)
+shifted_of P (Span a b ∷ cs) [] h = tt
+shifted_of P (Span a b ∷ cs) (i ∷ is) h = (h.0, shifted_of P cs is h.1)
+
+view_no_number : (scene : Scene) (a : Argument) → is_view a ≡ true
+    → None ≡ argument_number scene a
+view_no_number scene (ControlArg e) h = no h
+view_no_number scene (ConditionArg c) h = no h
+view_no_number scene (Whole y) h = refl
+view_no_number scene (Window y cs) h = refl
+
+one_binder : (i j : Binder) → i.id ≡ j.id → nameless_binder i ≡ nameless_binder j
+one_binder i j e = ap (λ (n : ℕ). record { id = n; name = [] }) e
+
+module _ (at : Reading) (put : Put) (params bound : ℕ → Bool) (ours theirs : Names)
+    (puts : PutsParams params put) where
+  abbrev All : List Pair → Type 0
+  All = Each (Meets at put)
+
+  -- ---- in one scene
+
+  module _ (scene : Scene) where
+    abbrev Reads : Control → Type 0
+    Reads = IsRead at scene
+
+    number_meets : (e g : Control) → agree at (put_control put e) g ≡ true → Reads g
+        → Reads (put_control put e) → number scene g ≡ number scene (put_control put e)
+    number_meets e g h i j = sym (numbers_agree at scene (put_control put e) g h j i)
+
+    controls_meet : (p : Path) (es gs : List Control)
+        → All (controls_paired params bound ours theirs p es gs) → OfControls Reads gs
+        → OfControls Reads (put_controls put es)
+        → numbers scene gs ≡ numbers scene (put_controls put es)
+    controls_meet p [] [] h i j = refl
+    controls_meet p [] (g ∷ gs) h i j = absurd h.0
+    controls_meet p (e ∷ es) [] h i j = absurd h.0
+    controls_meet p (e ∷ es) (g ∷ gs) h i j =
+        ap₂ ◌∷◌ (number_meets e g h.0 i.0 j.0) (controls_meet p es gs h.1 i.1 j.1)
+
+    coords_meet : (p : Path) (cs ds : List Coord)
+        → All (coords_paired params bound ours theirs p cs ds) → OfCoords Reads ds
+        → OfCoords Reads (put_coords put cs) → SameCoords scene (put_coords put cs) ds
+    coords_meet p [] [] h i j = tt
+    coords_meet p [] (d ∷ ds) h i j = absurd h.0
+    coords_meet p (At e ∷ cs) [] h i j = absurd h.0
+    coords_meet p (Span e f ∷ cs) [] h i j = absurd h.0
+    coords_meet p (At e ∷ cs) (At g ∷ ds) h i j =
+        (sym (number_meets e g h.0 i.0 j.0), coords_meet p cs ds h.1 i.1 j.1)
+    coords_meet p (At e ∷ cs) (Span g k ∷ ds) h i j = absurd h.0
+    coords_meet p (Span e f ∷ cs) (At g ∷ ds) h i j = absurd h.0
+    coords_meet p (Span e f ∷ cs) (Span g k ∷ ds) h i j = (
+      sym (number_meets e g h.0 i.0 j.0),
+      sym (number_meets f k h.1.0 i.1 j.1),
+      coords_meet p cs ds h.1.1 i.2 j.2,
+    )
+
+    -- the access on what stands for the name
+    abbrev SameAccess : ℕ → List Coord → ℕ → List Coord → Type 0
+    SameAccess x cs y ds =
+        (root_for put x ≡ y)
+        × (OfCoords Reads ds → OfCoords Reads (put_window put x cs)
+        → SameCoords scene (put_window put x cs) ds)
+
+    access_meets : (p : Path) (x : ℕ) (cs : List Coord) (y : ℕ) (ds : List Coord)
+        → All (access_paired params bound ours theirs p x cs y ds) → SameAccess x cs y ds
+    access_meets p x cs y ds h =
+        by_cells (same_cells (ours x) (theirs y)) h
+      where
+        by_bound : (t : Bool) → All (if t then Unlike p ∷ [] else Access p x cs y ds ∷ [])
+            → SameAccess x cs y ds
+        by_bound true k = absurd k.0
+        by_bound false k = (k.0.0, λ i j. k.0.1 scene j i)
+
+        by_param : (t : Bool) → params x ≡ t
+            → All (if t then param_paired params bound ours theirs p x cs y ds
+            else Own p x y ∷ coords_paired params bound ours theirs p cs ds)
+            → SameAccess x cs y ds
+        by_param true e k = by_bound (bound y) k
+        by_param false e k = (
+          ap (λ a. root_in a x) (puts.own x e) ∙ k.0,
+          λ i j. subst (λ a. SameCoords scene (joined_coords (coords_of a) (put_coords put cs)) ds)
+              (sym (puts.own x e)) (coords_meet p cs ds k.1 i
+              (subst (λ a. OfCoords Reads (joined_coords (coords_of a) (put_coords put cs)))
+              (puts.own x e) j)),
+        )
+
+        by_cells : (t : Bool)
+            → All (if t then (if params x then param_paired params bound ours theirs p x cs y ds
+            else Own p x y ∷ coords_paired params bound ours theirs p cs ds) else Unlike p ∷ [])
+            → SameAccess x cs y ds
+        by_cells true k = by_param (params x) refl k
+        by_cells false k = absurd k.0
+
+    place_meets : (p : Path) (x : ℕ) (is : List Control) (y : ℕ) (js : List Control)
+        → All (access_paired params bound ours theirs p x (points is) y (points js))
+        → OfControls Reads js → OfControls Reads (put_index put x is)
+        → place scene y js ≡ place scene (root_for put x) (put_index put x is)
+    place_meets p x is y js h i j =
+        let it = access_meets p x (points is) y (points js) h in
+        let window = ap (λ r. joined_coords (coords_for put x) r) (points_put put is) in
+        let same = it.1 (points_of Reads js i) (subst (λ r. OfCoords Reads r) (sym window)
+        (shifted_of Reads (coords_for put x) (put_controls put is) j)) in
+        sym (same_places scene (root_for put x) (coords_for put x) (put_controls put is) js
+        (subst (λ r. SameCoords scene r (points js)) window same)
+        ∙ ap (λ z. place scene z js) it.0)
+
+    window_meets : (p : Path) (x : ℕ) (cs : List Coord) (y : ℕ) (ds : List Coord)
+        → All (access_paired params bound ours theirs p x cs y ds) → OfCoords Reads ds
+        → OfCoords Reads (put_window put x cs)
+        → window scene y ds ≡ window scene (root_for put x) (put_window put x cs)
+    window_meets p x cs y ds h i j =
+        let it = access_meets p x cs y ds h in
+        sym (same_windows scene (root_for put x) (put_window put x cs) ds (it.1 i j)
+        ∙ ap (λ z. window scene z ds) it.0)
+
+    condition_meets : (c d : Condition) → conditions_agree at (put_condition put c) d ≡ true
+        → OfCondition Reads d → OfCondition Reads (put_condition put c)
+        → holds scene d ≡ holds scene (put_condition put c)
+    condition_meets c d h i j = sym (conditions_same at scene (put_condition put c) d h j i)
+
+    given_meets : (p : Path) (whole : Bool) (a b : Argument)
+        → All (argument_paired params bound ours theirs p whole a b) → wholes_alike at put a b ≡ true
+        → OfArgument Reads b → OfArgument Reads (put_argument put a)
+        → given scene b ≡ given scene (put_argument put a)
+    given_meets p whole (ControlArg e) (ControlArg g) h w i j =
+        ap (λ n. Some (GivenNumber n)) (number_meets e g h.0 i j)
+    given_meets p whole (ConditionArg c) (ConditionArg d) h w i j =
+        ap (λ t. Some (GivenNumber (truth t))) (condition_meets c d h.0 i j)
+    given_meets p whole (Whole x) b h w i j =
+        sym (given_same at scene (put.name x) b w j i)
+    given_meets p whole (Window x cs) (Whole y) h w i j = no w
+    given_meets p whole (Window x cs) (Window y ds) h w i j =
+        ap (option_map GivenView) (window_meets p x cs y ds h i j)
+    given_meets p whole a b h w i j = absurd h.0
+
+    all_meet : (p : Path) (as' bs : List Argument)
+        → All (arguments_paired params bound ours theirs p as' bs)
+        → all_wholes_alike at put as' bs ≡ true → OfArguments Reads bs
+        → OfArguments Reads (put_arguments put as')
+        → all_given scene bs ≡ all_given scene (put_arguments put as')
+    all_meet p [] [] h w i j = refl
+    all_meet p [] (b ∷ bs) h w i j = absurd h.0
+    all_meet p (a ∷ as') [] h w i j = absurd h.0
+    all_meet p (a ∷ as') (b ∷ bs) h w i j =
+        let k = each_split (Meets at put) (argument_paired params bound ours theirs p false a b)
+        (arguments_paired params bound ours theirs p as' bs) h in
+        let v = and_parts (wholes_alike at put a b) (all_wholes_alike at put as' bs) w in
+        ap₂ (λ o r. then_do o (λ g. option_map (λ gs. g ∷ gs) r))
+        (given_meets p false a b k.0 v.0 i.0 j.0) (all_meet p as' bs k.1 v.1 i.1 j.1)
+
+    number_told : (p : Path) (whole : Bool) (a b : Argument)
+        → All (argument_paired params bound ours theirs p whole a b) → OfArgument Reads b
+        → OfArgument Reads (put_argument put a)
+        → argument_number scene b ≡ argument_number scene (put_argument put a)
+    number_told p whole (ControlArg e) (ControlArg g) h i j = ap Some (number_meets e g h.0 i j)
+    number_told p whole (ConditionArg c) (ConditionArg d) h i j =
+        ap (λ t. Some (truth t)) (condition_meets c d h.0 i j)
+    number_told p whole (Whole x) (Whole y) h i j =
+        view_no_number scene (put.name x) (puts.views x)
+    number_told p whole (Whole x) (Window y ds) h i j =
+        view_no_number scene (put.name x) (puts.views x)
+    number_told p whole (Window x cs) (Whole y) h i j = refl
+    number_told p whole (Window x cs) (Window y ds) h i j = refl
+    number_told p whole a b h i j = absurd h.0
+
+  -- ---- in one state
+
+  module _ (s : State) where
+    abbrev There : Control → Type 0
+    There = IsRead at s.scene
+
+    two_meet : (p : Path) (a b c d : Datum)
+        → All (data_paired params bound ours theirs p a c ++ data_paired params bound ours theirs p b d)
+        → All (data_paired params bound ours theirs p a c) × All (data_paired params bound ours theirs p b d)
+    two_meet p a b c d h =
+        each_split (Meets at put) (data_paired params bound ours theirs p a c)
+        (data_paired params bound ours theirs p b d) h
+
+    value_meets : (p : Path) (e d : Datum) → All (data_paired params bound ours theirs p e d)
+        → OfDatum There d → OfDatum There (put_datum put e)
+        → value s d ≡ value s (put_datum put e)
+    value_meets p (Const m) (Const n) h i j = go (int_eq m n) refl h
+      where
+        go : (t : Bool) → int_eq m n ≡ t → All (if t then [] else Unlike p ∷ [])
+            → Some (Number n) ≡ Some (Number m)
+        go true e k = ap (λ z. Some (Number z)) (sym (int_eq_same m n e))
+        go false e k = absurd k.0
+    value_meets p (Read x is) (Read y js) h i j =
+        ap (option_map (held s.cells)) (place_meets s.scene p x is y js h i j)
+    value_meets p (Negated a) (Negated b) h i j =
+        ap (option_map (on_one (λ m. pos 0 -ℤ m))) (value_meets p a b h i j)
+    value_meets p (Relu a) (Relu b) h i j =
+        ap (option_map (on_one relu)) (value_meets p a b h i j)
+    value_meets p (Plus a b) (Plus c d) h i j =
+        let k = two_meet p a b c d h in
+        ap₂ (λ m n. then_do m (λ u. option_map (on_two ◌+ℤ◌ u) n))
+        (value_meets p a c k.0 i.0 j.0) (value_meets p b d k.1 i.1 j.1)
+    value_meets p (Minus a b) (Minus c d) h i j =
+        let k = two_meet p a b c d h in
+        ap₂ (λ m n. then_do m (λ u. option_map (on_two ◌-ℤ◌ u) n))
+        (value_meets p a c k.0 i.0 j.0) (value_meets p b d k.1 i.1 j.1)
+    value_meets p (Times a b) (Times c d) h i j =
+        let k = two_meet p a b c d h in
+        ap₂ (λ m n. then_do m (λ u. option_map (on_two ◌*ℤ◌ u) n))
+        (value_meets p a c k.0 i.0 j.0) (value_meets p b d k.1 i.1 j.1)
+    value_meets p (Select a b c d) (Select e f g l) h i j =
+        let k = each_split (Meets at put) (data_paired params bound ours theirs p a e
+        ++ data_paired params bound ours theirs p b f ++ data_paired params bound ours theirs p c g)
+        (data_paired params bound ours theirs p d l) h in
+        let m = each_split (Meets at put)
+        (data_paired params bound ours theirs p a e ++ data_paired params bound ours theirs p b f)
+        (data_paired params bound ours theirs p c g) k.0 in
+        let n = two_meet p a b e f m.0 in
+        ap₂ (λ (u v : Option Value). then_do u (λ x. then_do v (λ y.
+        then_do (value s g) (λ w. option_map (on_four selected x y w) (value s l)))))
+        (value_meets p a e n.0 i.0 j.0) (value_meets p b f n.1 i.1 j.1)
+        ∙ ap₂ (λ (u v : Option Value). then_do (value s (put_datum put a)) (λ x.
+        then_do (value s (put_datum put b)) (λ y.
+        then_do u (λ w. option_map (on_four selected x y w) v))))
+        (value_meets p c g m.1 i.2 j.2) (value_meets p d l k.1 i.3 j.3)
+    value_meets p e d h i j = absurd h.0
+
+  where_like : (t : Bool) (p : Path) (pairs : List Pair)
+      → All (if t then pairs else Unlike p ∷ []) → (t ≡ true) × All pairs
+  where_like true p pairs h = (refl, h)
+  where_like false p pairs h = absurd h.0
+
+  -- ---- along a run
+
+  module _ (world : World) where
+    abbrev Kept : Block → State → Type 0
+    Kept = Keeps at world
+
+    abbrev after : Statement → Statement
+    after a = nameless_statement (put_statement put a)
+
+    abbrev within : Block → Block
+    within b = nameless (put_block put b)
+
+    -- what is stored
+    stored : (under : Path → Path) (x : ℕ) (is : List Control) (e : Datum) (y : ℕ)
+        (js : List Control) (d : Datum) (s : State) (f : Value → Value → Value)
+        → All (access_paired params bound ours theirs (under []) x (points is) y (points js)
+        ++ data_paired params bound ours theirs (under []) e d)
+        → OfControls (IsRead at s.scene) js × OfDatum (IsRead at s.scene) d
+        → OfControls (IsRead at s.scene) (put_index put x is)
+        × OfDatum (IsRead at s.scene) (put_datum put e)
+        → then_do (place s.scene y js) (λ z. then_do (value s d) (λ v.
+        put_at s (λ old. f old v) z))
+        ≡ then_do (place s.scene (root_for put x) (put_index put x is)) (λ z.
+        then_do (value s (put_datum put e)) (λ v. put_at s (λ old. f old v) z))
+    stored under x is e y js d s f h i j =
+        let k = each_split (Meets at put)
+        (access_paired params bound ours theirs (under []) x (points is) y (points js))
+        (data_paired params bound ours theirs (under []) e d) h in
+        ap₂ (λ (o : Option Place) (r : Option Value). then_do o (λ z.
+        then_do r (λ v. put_at s (λ old. f old v) z)))
+        (place_meets s.scene (under []) x is y js k.0 i.0 j.0)
+        (value_meets s (under []) e d k.1 i.1 j.1)
+
+    mutual
+      along : (under : Path → Path) (branch : Branch) (n : ℕ) (b d : Block) (s : State)
+          → All (blocks_paired params bound ours theirs under branch n b d)
+          → calls_alike at put b d ≡ true → Kept (nameless d) s → Kept (within b) s
+          → SameAlong world (nameless d) (within b) s
+      along under branch n end end s h w kd kb = both_end
+      along under branch n (next a b) (next c d) s h w kd kb =
+          let pairs = each_split (Meets at put)
+          (statements_paired params bound ours theirs (step_to params bound ours theirs under branch n) a c)
+          (blocks_paired params bound ours theirs under branch (suc n) b d) h in
+          let v = and_parts (calls_alike_in at put a c) (calls_alike at put b d) w in
+          let same = there (step_to params bound ours theirs under branch n) a c (nameless d) (within b) s pairs.0 v.0 kd kb
+          in
+          both_next same (λ t e. along under branch (suc n) b d t pairs.1 v.1
+          (λ k g u i come. kd (After (nameless_statement c) k) g u
+          (ap (next (nameless_statement c)) i) (t, e, come))
+          (λ k g u i come. kb (After (after a) k) g u (ap (next (after a)) i)
+          (t, sym (step_same at world (nameless_statement c) (after a) s same) ∙ e, come)))
+      along under branch n end (next c d) s h w kd kb = absurd h.0
+      along under branch n (next a b) end s h w kd kb = absurd h.0
+
+      there : (under : Path → Path) (a c : Statement) (rest more : Block) (s : State)
+          → All (statements_paired params bound ours theirs under a c)
+          → calls_alike_in at put a c ≡ true → Kept (next (nameless_statement c) rest) s
+          → Kept (next (after a) more) s
+          → SameThere world (nameless_statement c) (after a) s
+      there under (Assign x is e) (Assign y js d) rest more s h w kd kb =
+          let i = kd (Here rest) (Assign y js d) s refl refl in
+          let j = kb (Here more) (after (Assign x is e)) s refl refl in
+          at_once (stored under x is e y js d s (λ old v. v) h i j)
+      there under (Reduce x is e) (Reduce y js d) rest more s h w kd kb =
+          let i = kd (Here rest) (Reduce y js d) s refl refl in
+          let j = kb (Here more) (after (Reduce x is e)) s refl refl in
+          at_once (stored under x is e y js d s (λ old v. on_two ◌+ℤ◌ old v) h i j)
+      there under (Config f a) (Config g b) rest more s h w kd kb =
+          let i = kd (Here rest) (Config g b) s refl refl in
+          let j = kb (Here more) (after (Config f a)) s refl refl in
+          let k = where_like (f == g) (under [])
+          (argument_paired params bound ours theirs (under []) true a b) h in
+          at_once (ap₂ (λ k o. then_do o (λ n. where_true (suits (world.kinds k) n)
+          (Some (on_scene (with_field k n) s)))) (sym (eqb-true f g k.0))
+          (number_told s.scene (under []) true a b k.1 i j))
+      there under Pass Pass rest more s h w kd kb = at_once refl
+      there under (If t a b) (If r c d) rest more s h w kd kb =
+          let i = kd (Here rest) (If r (nameless c) (nameless d)) s refl refl in
+          let j = kb (Here more) (after (If t a b)) s refl refl in
+          let same = condition_meets s.scene t r h.0 i j in
+          let k = each_split (Meets at put) (blocks_paired params bound ours theirs under Main 0 a c)
+          (blocks_paired params bound ours theirs under Else 0 b d) h.1 in
+          let v = and_parts (calls_alike at put a c) (calls_alike at put b d) w in
+          let told = put_condition put t in
+          in_branches same
+          (λ z. along under Main 0 a c s k.0 v.0
+          (λ l g u e come. kd (InThen r l (nameless d) rest) g u
+          (ap (λ x. next (If r x (nameless d)) rest) e) (z, come))
+          (λ l g u e come. kb (InThen told l (within b) more) g u
+          (ap (λ x. next (If told x (within b)) more) e) (sym same ∙ z, come)))
+          (λ z. along under Else 0 b d s k.1 v.1
+          (λ l g u e come. kd (InElse r (nameless c) l rest) g u
+          (ap (λ x. next (If r (nameless c) x) rest) e) (z, come))
+          (λ l g u e come. kb (InElse told (within a) l more) g u
+          (ap (λ x. next (If told (within a) x) more) e) (sym same ∙ z, come)))
+      there under (For i lo hi b) (For j l h d) rest more s pairs w kd kb =
+          let x = kd (Here rest) (nameless_statement (For j l h d)) s refl refl in
+          let y = kb (Here more) (after (For i lo hi b)) s refl refl in
+          let first = number_meets s.scene lo l pairs.0 x.0 y.0 in
+          let last = number_meets s.scene hi h pairs.1.0 x.1 y.1 in
+          let same = one_binder i j pairs.1.1.0 in
+          let low = put_control put lo in
+          let high = put_control put hi in
+          subst (λ k. SameThere world (For (nameless_binder j) l h (nameless d))
+          (For k low high (within b)) s) (sym same)
+          (in_turns first last (λ n u come. by_turns at world (nameless_binder j) l h (nameless d)
+          low high (within b) rest more s
+          (λ v p q. along under Main 0 b d v pairs.1.1.1 w p q) first last kd
+          (subst (λ k. Kept (next (For k low high (within b)) more) s) same kb)
+          n u come))
+      there under (Alloc x cell dims memory) (Alloc y type extents store) rest more s h w kd kb =
+          let i = kd (Here rest) (nameless_statement (Alloc y type extents store)) s refl refl in
+          let j = kb (Here more) (after (Alloc x cell dims memory)) s refl refl in
+          let k = where_like (same_cell cell type && (memory == store)) (under [])
+          (controls_paired params bound ours theirs (under []) dims extents ++ Binders x.id y.id ∷ []) h in
+          let p = and_parts (same_cell cell type) (memory == store) k.0 in
+          let q = each_split (Meets at put)
+          (controls_paired params bound ours theirs (under []) dims extents) (Binders x.id y.id ∷ []) k.1 in
+          at_once (ap₂ (λ z t. allocate z t (numbers s.scene extents) s) (sym q.1.0)
+          (sym (same_cell_is cell type p.0))
+          ∙ ap (λ ns. allocate x.id cell ns s)
+          (controls_meet s.scene (under []) dims extents q.0 i j))
+      there under (View v x cs) (View z y ds) rest more s h w kd kb =
+          let i = kd (Here rest) (nameless_statement (View z y ds)) s refl refl in
+          let j = kb (Here more) (after (View v x cs)) s refl refl in
+          let q = each_split (Meets at put)
+          (access_paired params bound ours theirs (under []) x cs y ds) (Binders v.id z.id ∷ []) h in
+          at_once (ap₂ (λ k o. then_do o (λ r. Some (on_scene (with_view k r) s)))
+          (sym q.1.0) (window_meets s.scene (under []) x cs y ds q.0 i j))
+      there under (Call k as') (Call m bs) rest more s h w kd kb =
+          let i = kd (Here rest) (Call m bs) s refl refl in
+          let j = kb (Here more) (after (Call k as')) s refl refl in
+          let q = where_like (k == m) (under [])
+          (arguments_paired params bound ours theirs (under []) as' bs) h in
+          at_once (calls_same at (world.callees m) bs (put_arguments put as') s
+          (all_meet s.scene (under []) as' bs q.1 w i j)
+          ∙ ap (λ z. call_to (world.callees z) (put_arguments put as') s)
+          (sym (eqb-true k m q.0)))
+      there under a c rest more s h w kd kb = absurd h.0
+
+pub meets_along : MeetsAlong
+meets_along world at put params bound ours theirs b d s puts h w kd kb =
+    along at put params bound ours theirs puts world (λ path. path) Main 0 b d s h w kd kb

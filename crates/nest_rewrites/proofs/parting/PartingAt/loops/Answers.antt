@@ -1,6 +1,0 @@
-use Rattle.step_shapes.proofs.Made.{appended}
-use Rattle.nest_rewrites.proofs.parting.PartingAt.loops.Goals as goal
-
-pub returns : goal.returns
-returns c =
-    appended c.in_ok-made.made c.in_ok-copy.copy c.append.new.self _ _ c.in_ok-append.ensures c.in_ok-made.ensures c.in_ok-copy.ensures

@@ -1,4 +1,0 @@
-//! The order of statements, turns and loops: when it may change, and which turns only repeat.
-#![tactic(auto)]
-
-pub mod laws;

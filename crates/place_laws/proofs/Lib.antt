@@ -1,0 +1,2 @@
+pub mod OfScope
+pub mod OfOrder

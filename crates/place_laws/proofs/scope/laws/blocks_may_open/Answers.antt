@@ -1,0 +1,5 @@
+use Rattle.place_laws.proofs.OfScope.Opened.{blocks_may_open}
+use Rattle.place_laws.proofs.scope.laws.blocks_may_open.Goals as goal
+
+pub returns : goal.returns
+returns c = blocks_may_open

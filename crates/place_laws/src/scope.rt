@@ -1,0 +1,3 @@
+//! Laws of places and of blocks in scopes of their own.
+
+pub mod laws;

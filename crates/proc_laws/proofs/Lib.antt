@@ -1,0 +1,2 @@
+pub mod OfExpression
+pub mod OfStatement

@@ -1,0 +1,5 @@
+use Rattle.proc_laws.proofs.OfStatement.RemoveLoop.{remove_is_lawful}
+use Rattle.proc_laws.proofs.statement.laws.removed_loops_are_lawful.Goals as goal
+
+pub returns : goal.returns
+returns c = remove_is_lawful

@@ -1,0 +1,3 @@
+//! The rules of steps on statements, and that each is lawful.
+
+pub mod laws;

@@ -1,5 +1,0 @@
-use Rattle.rules_scope_laws.proofs.SameNames.{same_ids_at_place}
-use Rattle.rules_scope_laws.proofs.laws.ids_are_those_of_the_meaning.Goals as goal
-
-pub returns : goal.returns
-returns c = same_ids_at_place

@@ -1,4 +1,0 @@
-//! That the names of a place of a text are those of the meaning.
-#![tactic(auto)]
-
-pub mod laws;

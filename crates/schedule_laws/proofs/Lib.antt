@@ -1,0 +1,3 @@
+pub mod OfVersions
+pub mod OfOperators
+pub mod OfNames

@@ -1,0 +1,3 @@
+pub mod Lawful
+pub mod Examples
+pub mod OrderExamples

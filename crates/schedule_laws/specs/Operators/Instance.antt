@@ -1,0 +1,151 @@
+-- A schedule that is run on a procedure with a `pass` too many: a cursor in it follows its statement
+-- into the version without the `pass`, where an operator takes it.
+use Rattle.std.specs.Prelude.{◌≡◌, ℕ, pos, true, false, List, [], ◌∷◌, None, Some, codes, map}
+use Rattle.exo_tree.specs.Tree.{I32, Const, Plus, Assign, Pass, Block, end, next}
+use Rattle.exo_tree.specs.Tree.{TensorParam, Procedure, MemoryKind, Program}
+use Rattle.cursor_patterns.specs.Patterns as pattern
+use Rattle.cursor_forward.specs.Causes.{WrongShape}
+use Rattle.cursor_forward.specs.Cursors.{Before, Node}
+use Rattle.cursor_forward.specs.Shifts.{Shift, at_index, stays, edits_of, alone}
+use Rattle.schedule_calls.specs.Requests.{CommuteExpr, Rename, DeletePass, Under, Here}
+use Rattle.schedule_calls.specs.Requests.{Request, Apply, Search, Emit, Asked, Parent}
+use Rattle.schedule_laws.specs.Versions.Versions.{Origin, of_text, Version, At, Versions, started}
+use Rattle.schedule_laws.specs.Versions.Laws.{AreDerived}
+use Rattle.schedule_laws.specs.Versions.Places as place
+use Rattle.schedule_laws.specs.Versions.Lines as lines
+use Rattle.schedule_laws.specs.Versions.Lines.{Outcome, Done, Stopped, run_acts}
+use Rattle.schedule_laws.specs.Operators.Operators.{act_of}
+
+-- ---- the unit
+
+abbrev pub dram : MemoryKind
+dram = record {
+  name = codes "DRAM";
+  ctype = [];
+  lanes = 0;
+  cell = None;
+  stack = false;
+  read = true;
+  write = true;
+  reduce = true;
+  header = [];
+}
+
+-- of the parameter x: i32
+abbrev pub procedure : List ℕ → Block → Procedure
+procedure name b = record {
+  name = name;
+  params = record {
+    binder = record { id = 0; name = codes "x" };
+    kind = TensorParam I32 [] 0;
+  } ∷ [];
+  asserts = [];
+  body = b;
+  template = None;
+}
+
+-- x = a + b, which owes nothing
+abbrev pub sum_of : ℕ → ℕ → Block
+sum_of a b = next (Assign 0 [] (Plus (Const (pos a)) (Const (pos b)))) end
+
+abbrev pub first : Procedure
+first = procedure (codes "f") (next Pass (sum_of 1 2))
+
+abbrev pub unit : Program
+unit = record { procedures = first ∷ []; fields = []; memories = dram ∷ [] }
+
+-- ---- the schedule
+
+abbrev pub sum : pattern.ExprPattern
+sum = record { form = pattern.Add; nth = 0 }
+
+abbrev pub of_c : Asked
+of_c = record { source = Under (codes "c"); moves = [] }
+
+abbrev pub schedule : List Request
+schedule =
+    -- c = find(f, 'x = _')
+    Search (codes "c") (codes "f") (pattern.Assign (Some (codes "x"))) 0 []
+    -- p = delete_pass(f)
+    ∷ Apply (codes "p") (codes "f") DeletePass
+    -- q = commute_expr(p, c, '_ + _')
+    ∷ Apply (codes "q") (codes "p") (CommuteExpr of_c sum)
+    -- r = rename(q, 'g')
+    ∷ Apply (codes "r") (codes "q") (Rename (codes "g"))
+    -- emit(r)
+    ∷ Emit (codes "r") ∷ []
+
+abbrev pub made : ℕ → ℕ → ℕ → List Shift → Origin
+made k old new shifts = record {
+  parent = Some k;
+  edits = edits_of (at_index 0) old new shifts;
+  place = [];
+  side = Before;
+  fields = [];
+}
+
+abbrev pub result : Versions
+result = record {
+  unit = record unit {
+    procedures =
+        first
+        ∷ procedure (codes "f") (sum_of 1 2)
+        ∷ procedure (codes "f") (sum_of 2 1)
+        ∷ procedure (codes "g") (sum_of 2 1) ∷ [];
+  };
+  origins =
+      of_text
+      ∷ made 0 2 1 (alone (at_index 1) (Some (at_index 0)) ∷ [])
+      ∷ made 1 1 1 (stays 1)
+      ∷ made 2 0 0 [] ∷ [];
+  names =
+      (codes "f", Version 0)
+      ∷ (codes "c", At 0 (Node (at_index 1)))
+      ∷ (codes "p", Version 1)
+      ∷ (codes "q", Version 2)
+      ∷ (codes "r", Version 3) ∷ [];
+  emitted = 3 ∷ [];
+  steps = 3;
+  obligations = 0;
+}
+
+abbrev pub ran : List Request → Outcome
+ran requests = run_acts (map act_of requests) (started unit 0)
+
+-- ---- refusals
+
+-- c = find(f, 'pass'), p = delete_pass(f), q = commute_expr(p, c, '_ + _'): the `pass` is gone
+abbrev pub gone : List Request
+gone =
+    Search (codes "c") (codes "f") pattern.Pass 0 []
+    ∷ Apply (codes "p") (codes "f") DeletePass
+    ∷ Apply (codes "q") (codes "p") (CommuteExpr of_c sum) ∷ []
+
+-- p = rename(f, 'g'), c = find(p, 'pass'), q = commute_expr(f, c, '_ + _'): f was not made of p
+abbrev pub of_other : List Request
+of_other =
+    Apply (codes "p") (codes "f") (Rename (codes "g"))
+    ∷ Search (codes "c") (codes "p") pattern.Pass 0 []
+    ∷ Apply (codes "q") (codes "f") (CommuteExpr of_c sum) ∷ []
+
+-- p = commute_expr(NAME, 'pass #NTH', '_ + _')
+abbrev pub commuted : List ℕ → ℕ → List Request
+commuted name nth =
+    Apply (codes "p") name (CommuteExpr (record { source = Here pattern.Pass nth; moves = [] }) sum)
+    ∷ []
+
+pub record ScheduleInstance : Type 0 where
+  pub runs : ran schedule ≡ Done result
+  pub cursor_gone : ran gone ≡ Stopped 2 (lines.NoPlace place.CursorGone)
+  pub other_version : ran of_other ≡ Stopped 2 (lines.NoPlace place.UnknownCursor)
+  pub no_version : ran (commuted (codes "h") 0) ≡ Stopped 0 lines.UnknownProc
+  pub no_match : ran (commuted (codes "f") 1) ≡ Stopped 0 (lines.NoPlace place.NoSuchPattern)
+  pub wrong_shape : ran (commuted (codes "f") 0) ≡ Stopped 0 (lines.Step WrongShape)
+  pub no_parent :
+      ran (Search (codes "c") (codes "f") pattern.Pass 0 (Parent ∷ []) ∷ [])
+      ≡ Stopped 0 (lines.NoPlace place.NoNeighbour)
+  pub no_emit : ran (Emit (codes "h") ∷ []) ≡ Stopped 0 lines.UnknownProc
+
+-- what the schedule leaves is derived
+abbrev pub ResultIsDerived : Type 0
+ResultIsDerived = AreDerived result

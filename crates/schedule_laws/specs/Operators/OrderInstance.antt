@@ -1,0 +1,242 @@
+-- Schedules that change the order of loops and statements or take some away, and what is refused of
+-- these.
+use Rattle.std.specs.Prelude.{◌≡◌, ℕ, pos, List, [], ◌∷◌, None, Some, codes, map}
+use Rattle.exo_tree.specs.Tree.{I32, Lit, Lt, Const, Assign, Reduce, Pass, For, Block, end, next}
+use Rattle.exo_tree.specs.Tree.{Statement, TensorParam, Param, Procedure, Program}
+use Rattle.exo_tree.specs.Places.{Main, Else}
+use Rattle.place_laws.specs.Scope.BranchesAtPlaces.{only_branch}
+use Rattle.place_laws.specs.Scope.UnrollLoop.{only_loop}
+use Rattle.affine_prover.specs.declared.answer.Verdict.TheVariants.{Open}
+use Rattle.cursor_patterns.specs.Patterns as pattern
+use Rattle.cursor_forward.specs.Causes.{WrongShape, NotIdempotent}
+use Rattle.cursor_forward.specs.Shifts.{at_index, alone, range, edits_of}
+use Rattle.loop_laws.specs.Shapes.{inside}
+use Rattle.loop_laws.specs.Nest.Shapes.{step}
+use Rattle.proc_laws.specs.Statement.DeadCode.{in_branch}
+use Rattle.proc_laws.specs.Statement.ReorderStatements.{exchanged}
+use Rattle.schedule_calls.specs.Requests.{Asked, Here, Before, After, Operation, ReorderLoops}
+use Rattle.schedule_calls.specs.Requests.{Fission, Fuse, RemoveLoop, EliminateDeadCode}
+use Rattle.schedule_calls.specs.Requests.{ReorderStmts, Request, Apply, Emit}
+use Rattle.schedule_laws.specs.Versions.Versions.{Version, of_text, Versions, started}
+use Rattle.schedule_laws.specs.Versions.Lines as lines
+use Rattle.schedule_laws.specs.Versions.Lines.{Outcome, Done, Stopped, run_acts}
+use Rattle.schedule_laws.specs.Operators.Operators.{act_of}
+use Rattle.schedule_laws.specs.Operators.Instance as instance
+use Rattle.schedule_laws.specs.Operators.Instance.{made}
+
+-- ---- the unit
+
+abbrev pub cell : ℕ → List ℕ → Param
+cell id name = record {
+  binder = record { id = id; name = name };
+  kind = TensorParam I32 [] 0;
+}
+
+-- of the parameters x: i32 and y: i32
+abbrev pub procedure : List ℕ → Block → Procedure
+procedure name b = record {
+  name = name;
+  params = cell 0 (codes "x") ∷ cell 1 (codes "y") ∷ [];
+  asserts = [];
+  body = b;
+  template = None;
+}
+
+-- x = N and y = N, which owe nothing
+abbrev pub x_is : ℕ → Statement
+x_is n = Assign 0 [] (Const (pos n))
+
+abbrev pub y_is : ℕ → Statement
+y_is n = Assign 1 [] (Const (pos n))
+
+abbrev pub alone_is : Statement → Block
+alone_is a = next a end
+
+abbrev pub both : Statement → Statement → Block
+both a b = next a (next b end)
+
+-- for i in seq(LO, HI): b, and the same of j
+abbrev pub loop_i : ℕ → ℕ → Block → Block
+loop_i lo hi b =
+    only_loop (record { id = 2; name = codes "i" }) (Lit (pos lo)) (Lit (pos hi)) b
+
+abbrev pub loop_j : ℕ → ℕ → Block → Block
+loop_j lo hi b =
+    only_loop (record { id = 3; name = codes "j" }) (Lit (pos lo)) (Lit (pos hi)) b
+
+-- for i in seq(0, 2): a, for NAME in seq(0, 2): b
+abbrev pub two_loops : List ℕ → Statement → Statement → Block
+two_loops name a b =
+    next (For (record { id = 2; name = codes "i" }) (Lit (pos 0)) (Lit (pos 2)) (alone_is a))
+    (only_loop (record { id = 3; name = name }) (Lit (pos 0)) (Lit (pos 2)) (alone_is b))
+
+-- for i in seq(0, 2): x = 1, y = 2
+abbrev pub in_one : Block
+in_one = loop_i 0 2 (both (x_is 1) (y_is 2))
+
+-- for i in seq(0, 2): for j in seq(1, 3): pass
+abbrev pub nest : Block
+nest = loop_i 0 2 (loop_j 1 3 (alone_is Pass))
+
+-- if 0 < 1: for i in seq(3, 3): x = 1
+abbrev pub no_turn : Block
+no_turn = loop_i 3 3 (alone_is (x_is 1))
+
+abbrev pub dead : Block
+dead = only_branch (Lt (Lit (pos 0)) (Lit (pos 1))) no_turn end
+
+abbrev pub unit : Program
+unit = record instance.unit {
+  procedures =
+      procedure (codes "f") in_one
+      ∷ procedure (codes "g") nest
+      ∷ procedure (codes "h") dead ∷ [];
+}
+
+-- ---- where operators work
+
+-- 'i', 'if _: _' and 'x = _'
+abbrev pub the_loop : Asked
+the_loop = record { source = Here (pattern.Loop (Some (codes "i"))) 0; moves = [] }
+
+abbrev pub the_fork : Asked
+the_fork = record { source = Here pattern.If 0; moves = [] }
+
+abbrev pub the_write : Asked
+the_write = record { source = Here (pattern.Assign (Some (codes "x"))) 0; moves = [] }
+
+-- the gaps behind and before it
+abbrev pub gap_behind : Asked → Asked
+gap_behind at = record at { moves = After ∷ [] }
+
+abbrev pub gap_before : Asked → Asked
+gap_before at = record at { moves = Before ∷ [] }
+
+-- ---- a schedule
+
+abbrev pub schedule : List Request
+schedule =
+    -- p = fission(f, gap behind 'x = _')
+    Apply (codes "p") (codes "f") (Fission (gap_behind the_write))
+    -- q = fuse(p, 'i')
+    ∷ Apply (codes "q") (codes "p") (Fuse the_loop)
+    -- r = reorder_stmts(q, 'x = _')
+    ∷ Apply (codes "r") (codes "q") (ReorderStmts the_write)
+    -- s = remove_loop(r, 'i')
+    ∷ Apply (codes "s") (codes "r") (RemoveLoop the_loop)
+    -- t = reorder_loops(g, 'i')
+    ∷ Apply (codes "t") (codes "g") (ReorderLoops the_loop)
+    -- u = eliminate_dead_code(h, 'if _: _', keep='body')
+    ∷ Apply (codes "u") (codes "h") (EliminateDeadCode the_fork (Some Main))
+    -- v = eliminate_dead_code(u, 'i')
+    ∷ Apply (codes "v") (codes "u") (EliminateDeadCode the_loop None)
+    -- emit(v)
+    ∷ Emit (codes "v") ∷ []
+
+abbrev pub result : Versions
+result = record {
+  unit = record unit {
+    procedures =
+        procedure (codes "f") in_one
+        ∷ procedure (codes "g") nest
+        ∷ procedure (codes "h") dead
+        ∷ procedure (codes "f") (two_loops (codes "i") (x_is 1) (y_is 2))
+        ∷ procedure (codes "f") in_one
+        ∷ procedure (codes "f") (loop_i 0 2 (both (y_is 2) (x_is 1)))
+        ∷ procedure (codes "f") (both (y_is 2) (x_is 1))
+        ∷ procedure (codes "g") (loop_j 1 3 (loop_i 0 2 (alone_is Pass)))
+        ∷ procedure (codes "h") no_turn
+        ∷ procedure (codes "h") (alone_is Pass) ∷ [];
+  };
+  origins =
+      of_text
+      ∷ of_text
+      ∷ of_text
+      ∷ made 0 1 2
+      (alone (at_index 0) (Some (at_index 0))
+      ∷ range (inside 1) 1 (Some (inside 1))
+      ∷ range (step 0 ∷ at_index 1) 1 (Some (step 1 ∷ at_index 0)) ∷ [])
+      ∷ made 3 2 1
+      (alone (at_index 0) (Some (at_index 0))
+      ∷ range (inside 1) 1 (Some (inside 1))
+      ∷ range (step 1 ∷ at_index 0) 1 (Some (step 0 ∷ at_index 1)) ∷ [])
+      ∷ record (made 4 2 2 []) { edits = edits_of (inside 1) 2 2 exchanged }
+      ∷ made 5 1 2 (range (inside 1) 2 (Some (at_index 0)) ∷ [])
+      ∷ made 1 1 1
+      (alone (at_index 0) (Some (inside 1))
+      ∷ alone (inside 1) (Some (at_index 0))
+      ∷ range (inside 2) 1 (Some (inside 2)) ∷ [])
+      ∷ made 2 1 1 (range (in_branch Main) 1 (Some (at_index 0)) ∷ [])
+      ∷ made 8 1 1 [] ∷ [];
+  names =
+      (codes "f", Version 0)
+      ∷ (codes "g", Version 1)
+      ∷ (codes "h", Version 2)
+      ∷ (codes "p", Version 3)
+      ∷ (codes "q", Version 4)
+      ∷ (codes "r", Version 5)
+      ∷ (codes "s", Version 6)
+      ∷ (codes "t", Version 7)
+      ∷ (codes "u", Version 8)
+      ∷ (codes "v", Version 9) ∷ [];
+  emitted = 9 ∷ [];
+  steps = 7;
+  obligations = 3;
+}
+
+abbrev pub ran : List Request → Outcome
+ran requests = run_acts (map act_of requests) (started unit 0)
+
+-- ---- refusals
+
+-- one operator on a procedure with that body
+abbrev pub refused : Block → Operation → lines.Why → Type 0
+refused b o why =
+    run_acts (map act_of (Apply (codes "p") (codes "f") o ∷ []))
+    (started (record unit { procedures = procedure (codes "f") b ∷ [] }) 0)
+    ≡ Stopped 0 why
+
+-- for i in seq(0, 2): a
+abbrev pub each_turn : Statement → Block
+each_turn a = loop_i 0 2 (alone_is a)
+
+-- x += 1
+abbrev pub x_grows : Statement
+x_grows = Reduce 0 [] (Const (pos 1))
+
+-- two writes of x that meet
+abbrev pub clash : lines.Why
+clash = lines.NotShown (codes "x against x") (at_index 0) Open
+
+abbrev pub not_shown : List ℕ → lines.Why
+not_shown what = lines.NotShown what (at_index 0) Open
+
+pub record OrderInstance : Type 0 where
+  pub runs : ran schedule ≡ Done result
+  -- x is written in another order
+  pub turns_clash :
+      refused (loop_i 0 2 (loop_j 0 2 (alone_is (x_is 1)))) (ReorderLoops the_loop) clash
+  pub parts_clash :
+      refused (loop_i 0 2 (both (x_is 1) (x_is 2))) (Fission (gap_behind the_write)) clash
+  pub loops_clash : refused (two_loops (codes "j") (x_is 1) (x_is 2)) (Fuse the_loop) clash
+  pub statements_clash : refused (both (x_is 1) (x_is 2)) (ReorderStmts the_write) clash
+  -- a statement where a gap is asked, a gap in no loop, and a gap before all statements of one
+  pub no_gap : refused in_one (Fission the_write) (lines.Step WrongShape)
+  pub gap_outside : refused in_one (Fission (gap_behind the_loop)) (lines.Step WrongShape)
+  pub first_gap : refused in_one (Fission (gap_before the_write)) (lines.Step WrongShape)
+  -- a gap where a statement is asked
+  pub gap_for_loop : refused in_one (RemoveLoop (gap_behind the_loop)) (lines.Step WrongShape)
+  -- each turn adds to what the turns before it left
+  pub turns_differ : refused (each_turn x_grows) (RemoveLoop the_loop) (lines.Step NotIdempotent)
+  -- seq(3, 3) has no turn, and seq(0, 2) has one
+  pub no_first_turn : refused no_turn (RemoveLoop the_loop) (not_shown (codes "3 < 3"))
+  pub has_turns :
+      refused (each_turn (x_is 1)) (EliminateDeadCode the_loop None)
+      (not_shown (codes "2 <= 0"))
+  -- the branch behind `else` is not the one that is taken
+  pub not_taken :
+      refused dead (EliminateDeadCode the_fork (Some Else)) (not_shown (codes "not (0 < 1)"))
+  -- a condition without the branch that is kept, and a loop with it
+  pub no_key : refused dead (EliminateDeadCode the_fork None) (lines.Step WrongShape)
+  pub key_of_loop :
+      refused no_turn (EliminateDeadCode the_loop (Some Main)) (lines.Step WrongShape)

@@ -1,0 +1,3 @@
+//! Versions keep names of the grammar.
+
+pub mod laws;

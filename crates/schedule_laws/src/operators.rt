@@ -1,0 +1,3 @@
+//! What the operators of a schedule do, as definitions, and that they keep what holds of versions.
+
+pub mod laws;

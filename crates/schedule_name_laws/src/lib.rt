@@ -1,4 +1,0 @@
-//! Versions keep names of the grammar.
-#![tactic(auto)]
-
-pub mod laws;

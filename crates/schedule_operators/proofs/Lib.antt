@@ -1,3 +1,0 @@
-mod Lawful
-mod Examples
-mod OrderExamples

@@ -1,5 +1,0 @@
-use Rattle.schedule_versions.proofs.Runs.{started_is_derived}
-use Rattle.schedule_versions.proofs.laws.started_versions_are_derived.Goals as goal
-
-pub returns : goal.returns
-returns c = started_is_derived

@@ -1,4 +1,0 @@
-//! Versions of a schedule and what its lines do, as definitions; laws of them.
-#![tactic(auto)]
-
-pub mod laws;

@@ -1,5 +1,0 @@
-use Rattle.scope_laws.proofs.Opened.{block_may_open}
-use Rattle.scope_laws.proofs.laws.block_may_open.Goals as goal
-
-pub returns : goal.returns
-returns c = block_may_open

@@ -1,5 +1,0 @@
-use Rattle.scope_laws.proofs.Opened.{blocks_may_close}
-use Rattle.scope_laws.proofs.laws.blocks_may_close.Goals as goal
-
-pub returns : goal.returns
-returns c = blocks_may_close

@@ -1,4 +1,0 @@
-//! Control expressions that are written out from their normal forms.
-#![tactic(auto)]
-
-pub mod laws;

@@ -1,5 +1,0 @@
-use Rattle.stride_laws.proofs.StagePassed.{stage_passed_sums_law}
-use Rattle.stride_laws.proofs.laws.windows_of_sums_may_be_passed.Goals as goal
-
-pub returns : goal.returns
-returns c = stage_passed_sums_law

@@ -1,0 +1,2 @@
+pub mod OfMade
+pub mod OfFindings

@@ -1,0 +1,3 @@
+//! What is found of a procedure are the rules of well-formed units.
+
+pub mod laws;

@@ -1,0 +1,3 @@
+//! Laws of trees that rewrites make.
+
+pub mod laws;

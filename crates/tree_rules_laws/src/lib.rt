@@ -1,4 +1,0 @@
-//! What is found of a procedure are the rules of well-formed units.
-#![tactic(auto)]
-
-pub mod laws;
