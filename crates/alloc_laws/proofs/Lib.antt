@@ -1,0 +1,10 @@
+pub mod Here
+pub mod Memory
+pub mod Lifting
+pub mod Carrying
+pub mod Outside
+pub mod Told
+pub mod Expanding
+pub mod ExpandCarrying
+pub mod Examples
+pub mod OfBind

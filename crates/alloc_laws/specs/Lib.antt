@@ -1,0 +1,5 @@
+pub mod Allocations
+pub mod Lifting
+pub mod Outside
+pub mod Expanding
+pub mod Bind

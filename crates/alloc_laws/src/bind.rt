@@ -1,0 +1,3 @@
+//! The rule that stores a part of an expression before it is used, and that it is lawful.
+
+pub mod laws;

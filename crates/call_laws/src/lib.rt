@@ -1,0 +1,5 @@
+//! The rules of steps that inline calls and views, and that each is lawful; names and ids of copies.
+#![tactic(auto)]
+
+pub mod laws;
+pub mod names;

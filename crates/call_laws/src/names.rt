@@ -1,0 +1,3 @@
+//! Laws of names: new ids, names in scope, names that a draft uses.
+
+pub mod laws;

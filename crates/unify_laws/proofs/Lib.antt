@@ -1,0 +1,11 @@
+pub mod Owned
+pub mod Places
+pub mod Entries
+pub mod Each
+pub mod Nameless
+pub mod Spots
+pub mod Simplify
+pub mod Simplest
+pub mod Examples
+pub mod Instances
+pub mod OfReplace

@@ -1,0 +1,5 @@
+pub mod Places
+pub mod Nameless
+pub mod Spots
+pub mod Simplify
+pub mod Replace

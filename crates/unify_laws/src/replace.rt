@@ -1,0 +1,3 @@
+//! Laws of the rewrite `replace`.
+
+pub mod laws;
