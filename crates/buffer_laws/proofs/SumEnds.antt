@@ -109,7 +109,7 @@ module _ (hidden : ℕ → Bool) (world : World) (root : ℕ → ℕ) (a : ℕ) 
     seen = λ y z k e. sees_open y z k (y == a) e;
   }
 
-  both : Both (SameBut hidden) (run world inner on_zeros) (run world inner beside)
+  pub both : Both (SameBut hidden) (run world inner on_zeros) (run world inner beside)
   both = run_alike hidden world inner may.names on_zeros beside same
 
   -- ---- what the block leaves of the window's buffer

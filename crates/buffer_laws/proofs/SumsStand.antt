@@ -57,7 +57,7 @@ run_control world (next a b) s t e = λ y.
     ∙ if_gives (SameControl s) (step world a s) g.0 (step_control world a s) g.1 y
 
 -- a nest leaves no name
-no_names : (ls : List Loop) (a : Statement) (y : ℕ) → top_binders (next a end) y ≡ false
+pub no_names : (ls : List Loop) (a : Statement) (y : ℕ) → top_binders (next a end) y ≡ false
     → top_binders (nest ls a) y ≡ false
 no_names [] a y h = h
 no_names (l ∷ ls) a y h = refl
@@ -111,7 +111,7 @@ module _ (fields : List ConfigField) (memories : ℕ) (ps : List Procedure) (sco
           (ap (λ o. then_do o (λ w. Some w)) made_first.1) x
           (ap (λ r. r || false) made.other)).views
 
-      sees : IsSome (window s.scene x coords)
+      pub sees : IsSome (window s.scene x coords)
       sees = subst IsSome (window_same x coords made.plain u.scene s.scene same_view same_control)
           (inside_law world x coords ks
           (Reduce x (shifted coords (variables ks)) (Read a.id (variables ks))) u v
@@ -119,7 +119,7 @@ module _ (fields : List ConfigField) (memories : ℕ) (ps : List Procedure) (sco
           (uses_law world a.id x (shifted coords (variables ks)) (variables ks)
           (Read a.id (variables ks))).2 g)
 
-  loaded : (o : Option Seen) → window s.scene x coords ≡ o → IsSome (window s.scene x coords)
+  pub loaded : (o : Option Seen) → window s.scene x coords ≡ o → IsSome (window s.scene x coords)
       → IsLoaded blind world root a cell dims x coords ls end s
   loaded None e i = absurd (true≢false (sym (subst IsSome e i)))
   loaded (Some seen) e i =
@@ -185,11 +185,11 @@ module _ (fields : List ConfigField) (memories : ℕ) (ps : List Procedure) (sco
           over = h.over;
         }
 
-    first_is : run world first_part s ≡ Some beside
+    pub first_is : run world first_part s ≡ Some beside
     first_is = subst (λ c. run world (next (Alloc a c dims memory) (zero_nest a.id ls)) s
         ≡ Some beside) k.cell_is (zeros_law world a dims memory x seen to coords ls s k.sizes k.before)
 
-    last_is : IsBetween a.id x seen coords inner → (u : State) → run world inner beside ≡ Some u
+    pub last_is : IsBetween a.id x seen coords inner → (u : State) → run world inner beside ≡ Some u
         → run world (sum_nest a.id x coords ks) u ≡ Some (record u {
           cells = copy_back true (GivenView seen) (sums to.cell (u.cells a.id) u.cells seen) u.cells;
         })
@@ -203,7 +203,7 @@ module _ (fields : List ConfigField) (memories : ℕ) (ps : List Procedure) (sco
     without : is_only_reduced (touches_of fields ps root b) seen.buffer ≡ true
     without = ap (is_only_reduced (touches_of fields ps root b)) its_root ∙ adds.only
 
-    exchanged : run world b s ≡ option_map
+    pub exchanged : run world b s ≡ option_map
         (changed_by (adding to.cell (s.cells seen.buffer) seen.buffer)) (run world b zero)
     exchanged =
         let p = and_parts (not (touches_of fields ps root b Reading seen.buffer))

@@ -1,7 +1,7 @@
 -- The rule on closed procedures.
 use Rattle.std.proofs.Common.{◌≡◌, ℕ, pos, true, false, List, [], ◌∷◌, None, refl}
 use Rattle.std.specs.Prelude.{codes}
-use Rattle.exo_tree.specs.Tree.{Binder, Cell, I8, I32, Control, Lit, Datum, Read, Plus, Times}
+use Rattle.exo_tree.specs.Tree.{Binder, Cell, I8, I16, I32, Ui8, Control, Lit, Datum, Read, Plus, Times}
 use Rattle.exo_tree.specs.Tree.{Assign, Reduce, Alloc}
 use Rattle.exo_tree.specs.Tree.{Block, end, next, Param, TensorParam, Procedure, MemoryKind}
 use Rattle.cursor_forward.specs.Causes.{WrongShape, NameTaken}
@@ -33,11 +33,11 @@ plain_cells = record {
 abbrev at_zero : List Control
 at_zero = Lit (pos 0) ∷ []
 
--- y[0] += (x[0] + y[0]) * x[0], with y of 8 bits
-abbrev adds : Procedure
-adds = record {
+-- y[0] += (x[0] + y[0]) * x[0], with y of that cell type
+abbrev adds : Cell → Procedure
+adds cell = record {
   name = codes "f";
-  params = eight 0 (codes "x") I32 ∷ eight 1 (codes "y") I8 ∷ [];
+  params = eight 0 (codes "x") I32 ∷ eight 1 (codes "y") cell ∷ [];
   asserts = [];
   body =
       next (Reduce 1 at_zero (Times (Plus (Read 0 at_zero) (Read 1 at_zero)) (Read 0 at_zero))) end;
@@ -55,8 +55,12 @@ abbrev body_of : Tried Plan → Tried Block
 body_of (Got m) = Got m.proc.body
 body_of (Not cause) = Not cause
 
+abbrev makes_of : Cell → Form → ℕ → List ℕ → Tried Block
+makes_of cell f k name =
+    body_of (proposed (bind_rule f k name) (target_of (adds cell)) (at_index 0))
+
 abbrev makes : Form → ℕ → List ℕ → Tried Block
-makes f k name = body_of (proposed (bind_rule f k name) (target_of adds) (at_index 0))
+makes = makes_of I8
 
 abbrev bound_as : Cell → Datum → Datum → Block
 bound_as cell part whole =
@@ -73,6 +77,16 @@ of_y : makes (ReadOf 1) 0 (codes "b")
     ≡ Got (bound_as I8 (Read 1 at_zero)
     (Times (Plus (Read 0 at_zero) (Read 2 [])) (Read 0 at_zero)))
 of_y = refl
+
+of_short_y : makes_of I16 (ReadOf 1) 0 (codes "b")
+    ≡ Got (bound_as I16 (Read 1 at_zero)
+    (Times (Plus (Read 0 at_zero) (Read 2 [])) (Read 0 at_zero)))
+of_short_y = refl
+
+of_unsigned_y : makes_of Ui8 (ReadOf 1) 0 (codes "b")
+    ≡ Got (bound_as Ui8 (Read 1 at_zero)
+    (Times (Plus (Read 0 at_zero) (Read 2 [])) (Read 0 at_zero)))
+of_unsigned_y = refl
 
 second_of_x : makes (ReadOf 0) 1 (codes "b")
     ≡ Got (bound_as I32 (Read 0 at_zero)

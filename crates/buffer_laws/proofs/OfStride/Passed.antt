@@ -71,7 +71,7 @@ module _ (world : World) (sees : ℕ → ℕ → Bool) (root : ℕ → ℕ) (a :
       ls ks made.loads made.stores
 
   -- what the load nest shows
-  loaded : (t : State) → run world first_part s ≡ Some t → IsThere
+  pub loaded : (t : State) → run world first_part s ≡ Some t → IsThere
   loaded t e = loaded_of_nothing root a dims x coords made.new.spots made.other made.plain made.sizes
       world cell memory ls s t made.loads nothing_known e
 
@@ -88,7 +88,7 @@ module _ (world : World) (sees : ℕ → ℕ → Bool) (root : ℕ → ℕ) (a :
     abbrev beside : State
     beside = staged a.id seen to s
 
-    root_is : seen.buffer ≡ root x
+    pub root_is : seen.buffer ≡ root x
     root_is = is_root is_new world root a cell dims memory x coords ls ks end s nothing_made
         nothing_known seen k.may.window
 
@@ -101,7 +101,7 @@ module _ (world : World) (sees : ℕ → ℕ → Bool) (root : ℕ → ℕ) (a :
       variables = made.variables;
     }
 
-    converts : MayConvert world a.id x seen coords b s
+    pub converts : MayConvert world a.id x seen coords b s
     converts = record {
       sound = known.sound;
       unbound = known.unbound;
@@ -150,12 +150,12 @@ module _ (world : World) (sees : ℕ → ℕ → Bool) (root : ℕ → ℕ) (a :
         may_stage)) in
         record { fields = h.fields; cells = h.cells }
 
-    first_is : run world first_part s ≡ Some beside
+    pub first_is : run world first_part s ≡ Some beside
     first_is = subst (λ c. run world (next (Alloc a c dims memory) (load_nest a.id x coords ls)) s
         ≡ Some beside) k.cell_is (stage_in_law world a dims memory x seen to coords ls s k.sizes
         k.alone.there k.before k.fit)
 
-    first_staging : IsStaging a.id x seen coords ks beside
+    pub first_staging : IsStaging a.id x seen coords ks beside
     first_staging =
         let h = staging is_new world root a cell dims memory x coords ls ks end s nothing_made
         nothing_known seen k.may.window to k.alone.there ks made.stores in

@@ -47,10 +47,10 @@ module _ (fields : List ConfigField) (memories : ℕ) (ps : List Procedure) (sco
   abbrev is_new : ℕ → Bool
   is_new y = y == a.id
 
-  no_known : IsKnown world root a cell x coords end s
+  pub no_known : IsKnown world root a cell x coords end s
   no_known = nothing_known world sees root a cell dims memory x coords ls ks b s made known
 
-  no_made : AreMade is_new root a dims x coords ls ks end
+  pub no_made : AreMade is_new root a dims x coords ls ks end
   no_made = nothing_made world sees root a cell dims memory x coords ls ks b s made known
 
   module _ (k : IsLoaded is_new world root a cell dims x coords ls end s) where
@@ -73,7 +73,7 @@ module _ (fields : List ConfigField) (memories : ℕ) (ps : List Procedure) (sco
     may : MayStageBlind hidden world sees (updated root a.id a.id) a.id seen to inner s
     may = may_stage world sees root a cell dims memory x coords ls ks b s made known k
 
-    zero_may : MayStageBlind hidden world sees (updated root a.id a.id) a.id seen to inner zero
+    pub zero_may : MayStageBlind hidden world sees (updated root a.id a.id) a.id seen to inner zero
     zero_may = record {
       sound = is_zero_sound;
       there = may.there;
@@ -93,7 +93,7 @@ module _ (fields : List ConfigField) (memories : ℕ) (ps : List Procedure) (sco
       strides = may.strides;
     }
 
-    zero_converts : MayConvert world a.id x seen coords b zero
+    pub zero_converts : MayConvert world a.id x seen coords b zero
     zero_converts = record {
       sound = is_zero_sound;
       unbound = zero_may.new;
@@ -103,7 +103,7 @@ module _ (fields : List ConfigField) (memories : ℕ) (ps : List Procedure) (sco
       between = lies_between world sees root a cell dims memory x coords ls ks b s made known k;
     }
 
-    zero_lies : LiesWithin world x sides coords b zero
+    pub zero_lies : LiesWithin world x sides coords b zero
     zero_lies c d u is come = known_from (kinds_of fields) ps
         (λ d z. AllHold z (asked_of_statement x sides coords d)) b s zero refl lies c d u is come
 
@@ -120,7 +120,7 @@ module _ (fields : List ConfigField) (memories : ℕ) (ps : List Procedure) (sco
         zero_may)) in
         record { fields = h.fields; cells = h.cells }
 
-    stands : Stands fields memories ps scope is_new root a cell dims memory x coords ls ks b inner
+    pub stands : Stands fields memories ps scope is_new root a cell dims memory x coords ls ks b inner
         s no_made no_known adds made.name k
     stands = record {
       hidden = hidden;

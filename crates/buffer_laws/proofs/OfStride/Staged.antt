@@ -36,21 +36,21 @@ module _ (hidden : ℕ → Bool) (world : World) (sees : ℕ → ℕ → Bool) (
   abbrev outer : State
   outer = on_scene (with_view a seen) s
 
-  base_a : base a ≡ Some seen
+  pub base_a : base a ≡ Some seen
   base_a = ap (λ t. cond {A = Option Seen} t (Some seen) None) (eq-eqb a a refl)
 
   is_a : (y : ℕ) (z : Seen) (t : Bool) → (y == a) ≡ t → cond {A = Option Seen} t (Some seen) None ≡ Some z → (y ≡ a) × (seen ≡ z)
   is_a y z true e k = (eqb-true y a e, one_value seen z k)
   is_a y z false e k = absurd (none_is_some k)
 
-  placing : IsPlacing hidden all strided base
+  pub placing : IsPlacing hidden all strided base
   placing = record {
     whole = λ y e. refl;
     outside = λ y z e. ap (λ (q : Seen). hidden q.buffer) (sym (is_a y z (y == a) refl e).1) ∙ may.hides;
     apart = λ y c z x w n e k. absurd (true≢false (sym (eq-eqb y c ((is_a y z (y == a) refl e).0 ∙ sym (is_a c x (c == a) refl k).0)) ∙ n));
   }
 
-  none_made : (y : ℕ) → makes b y ≡ true → base y ≡ None
+  pub none_made : (y : ℕ) → makes b y ≡ true → base y ≡ None
   none_made y e = go (y == a) refl
     where
       go : (t : Bool) → (y == a) ≡ t → cond {A = Option Seen} t (Some seen) None ≡ None
@@ -65,7 +65,7 @@ module _ (hidden : ℕ → Bool) (world : World) (sees : ℕ → ℕ → Bool) (
       go false e = refl
       go true e = absurd (true≢false (sym (subst IsSome (ap s.scene.buffers (eqb-true y a e) ∙ may.new.buffers) i)))
 
-  base_else : (y : ℕ) → (y == a) ≡ false → base y ≡ None
+  pub base_else : (y : ℕ) → (y == a) ≡ false → base y ≡ None
   base_else y e = ap (λ t. cond {A = Option Seen} t (Some seen) None) e
 
   abbrev Sees : Seen → Seen → Type 0
@@ -99,7 +99,7 @@ module _ (hidden : ℕ → Bool) (world : World) (sees : ℕ → ℕ → Bool) (
   cell_stands y at true = refl
   cell_stands y at false = refl
 
-  stands : StandsFor hidden all nothing strided base s inner outer
+  pub stands : StandsFor hidden all nothing strided base s inner outer
   stands = record {
     control = λ y k. refl;
     fields = refl;
@@ -138,7 +138,7 @@ module _ (hidden : ℕ → Bool) (world : World) (sees : ℕ → ℕ → Bool) (
   still_there : IsSome (inner.scene.buffers seen.buffer)
   still_there = subst IsSome (sym (updated_other s.scene.buffers a (Some shape) seen.buffer (not_a seen.buffer (subst IsSome (sym may.there) refl)) ∙ may.there)) refl
 
-  same_but : SameButStrides (λ y. y == a) (staged a seen to s) inner
+  pub same_but : SameButStrides (λ y. y == a) (staged a seen to s) inner
   same_but = record {
     control = refl;
     views = refl;

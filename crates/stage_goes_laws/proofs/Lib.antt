@@ -1,0 +1,17 @@
+pub mod EndsStand
+pub mod Bound
+pub mod Goes
+pub mod StagedGoes
+pub mod EndsAtPlace
+pub mod Untouched
+pub mod SumsGo
+pub mod Either
+pub mod GoesDrafts
+pub mod TwiceBound
+pub mod Examples
+pub mod Fits
+pub mod Matches
+pub mod Asked
+pub mod Passing
+pub mod Sizes
+pub mod AskedExamples
