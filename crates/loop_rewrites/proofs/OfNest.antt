@@ -3,3 +3,5 @@ pub mod Forms
 pub mod Parts
 pub mod Pairs
 pub mod Written
+pub mod Same
+pub mod Neighbouring

@@ -1,4 +1,5 @@
 pub mod PlainTail
+pub mod PlainPair
 pub mod PlainTurns
 pub mod Shapes
 pub mod Nest

@@ -2,3 +2,4 @@ pub mod Agreement
 pub mod PlainNest
 pub mod PlainTwo
 pub mod PlainParting
+pub mod PlainNeighbours

@@ -1,18 +1,15 @@
 //! The step that cuts a loop in two.
 ghost use Rattle.std.specs.Prelude.{◌≡◌, map, IfOk};
-ghost use Rattle.exo_tree.specs.Tree as tree;
 ghost use Rattle.exo_tree.specs.Tree.{block};
 ghost use Rattle.exo_tree.specs.PlainControl.{control};
 ghost use Rattle.exo_tree.specs.PlainUnit.{program};
 ghost use Rattle.exo_tree.specs.Renaming as renaming;
 ghost use Rattle.exo_modes.specs.Marks.{modes_of};
 ghost use Rattle.exo_modes.specs.Seen.{table_says};
-ghost use Rattle.meaning_laws.specs.Facts as facts;
 ghost use Rattle.place_laws.specs.Scope.UnrollLoop.{only_loop};
 ghost use Rattle.cursor_forward.specs.PlainProposal.{plain_proposal};
 ghost use Rattle.step_rules.specs.Answer.{proposed};
 ghost use Rattle.step_rules.specs.Lawful.{IsTarget};
-ghost use Rattle.step_rules.specs.Rule as rule;
 ghost use Rattle.loop_laws.specs.CutLoop as plain;
 ghost use Rattle.loop_laws.specs.CutLoop.{cut_rule};
 ghost use Rattle.loop_laws.proofs.CutLoop.{cut_is_lawful, cut_is_carrying};
@@ -21,13 +18,13 @@ ghost use Rattle.step_driver.specs.PlainTarget.{target};
 ghost use Rattle.step_needs.specs.PlainNeed.{plain_need};
 ghost use Rattle.loop_rewrites.specs.Shapes.PlainLoop.{plain_loop};
 
-use crate::shapes::{LoopAt, copies, loop_at};
+use crate::shapes::{LoopAt, at_most, loop_at};
 use cursor_forward::{Proposal, Shifts, StepError};
-use exo_tree::{Block, Cond, Ctrl, Name, Path, Proc};
+use exo_tree::{Block, Ctrl, Name, Path, Proc};
 use made_trees::Fresh;
 use std::alloc::{AllocError, Global};
 use step_driver::{Exit, Operator, Piece, Target, Writing, propose, stays};
-use step_needs::{Fact, Need};
+use step_needs::Need;
 
 /// A copy of the loop from `e` on.
 fn copy_from(
@@ -50,14 +47,6 @@ fn cut(alloc: Global, l: &LoopAt<'_>, e: &Ctrl, fresh: &mut Fresh) -> Result<Blo
     let rest = copy_from(alloc, l, e, fresh)?;
     made.append(rest)?;
     Ok(made)
-}
-
-/// That one side is at most the other, at a place.
-fn at_most(alloc: Global, at: &Path, a: &Ctrl, b: &Ctrl) -> Result<Need, AllocError>
-    ensures { IfOk result (λ n. plain_need n ≡ rule.Says at.now (facts.Holds (tree.Le (control a.now) (control b.now)))) }
-{
-    let (low, high) = copies(alloc, a, b)?;
-    Ok(Need::Says(at.duplicate(), Fact::Holds(Cond::Le(low, high))))
 }
 
 /// That `e` is between the bounds of the loop.

@@ -9,14 +9,12 @@ ghost use Rattle.exo_tree.specs.Substitution.{in_block};
 ghost use Rattle.exo_modes.specs.Marks.{modes_of};
 ghost use Rattle.exo_modes.specs.Seen.{table_says};
 ghost use Rattle.place_laws.specs.Scope.BranchesAtPlaces.{only_branch};
-ghost use Rattle.place_laws.specs.Scope.UnrollLoop.{only_loop};
 ghost use Rattle.place_laws.specs.Order.TurnsOfTwo.{Loop};
 ghost use Rattle.cursor_forward.specs.PlainProposal.{plain_proposal};
 ghost use Rattle.step_rules.specs.Answer.{proposed};
 ghost use Rattle.step_rules.specs.Lawful.{IsTarget};
 ghost use Rattle.loop_laws.specs.DivideLoop as plain;
 ghost use Rattle.loop_laws.specs.DivideLoop.{divisible, divide_rule};
-ghost use Rattle.loop_laws.specs.Shapes as shapes;
 ghost use Rattle.loop_laws.proofs.DivideLoop.{divide_is_lawful, divide_is_carrying};
 ghost use Rattle.step_driver.specs.Outcomes.{Tries, IsKept, KeepsMeaning, Moves};
 ghost use Rattle.step_driver.specs.PlainTarget.{target, plain_piece};
@@ -26,9 +24,10 @@ ghost use Rattle.loop_rewrites.specs.Shapes.PlainLoop.{plain_loop};
 ghost use Rattle.loop_rewrites.specs.PlainTail.{plain_tail, division};
 
 use crate::numbers::{branch, quotient, remainder, rounded_up, turn_behind};
-use crate::shapes::{LoopAt, alone_to, inside, loop_at, one, one_shift, only_loop, range_to, size};
+use crate::shapes::{LoopAt, alone_to, inside, loop_at, one, one_shift, range_to, size};
+use crate::zero::{from_zero, zero_based};
 use cursor_forward::{Proposal, Shifts, StepError};
-use exo_tree::{Binder, Block, Cond, Ctrl, Id, Name, Path, Proc, subst};
+use exo_tree::{Block, Cond, Ctrl, Id, Name, Path, Proc, subst};
 use made_trees::Fresh;
 use std::alloc::{AllocError, Global};
 use step_driver::{Exit, Operator, Piece, Target, Writing, propose};
@@ -55,16 +54,6 @@ pub struct Dividing<'a> {
     pub tail: Tail,
 }
 
-/// Whether an expression is the literal 0.
-fn is_zero(e: &Ctrl) -> bool
-    ensures { result ≡ shapes.is_zero (control e.now) }
-{
-    match e {
-        Ctrl::Lit(n) => *n == 0,
-        _ => false,
-    }
-}
-
 /// The loop that is all of a piece and begins at 0, to be divided into groups of at least one turn.
 fn divisible_at<'a>(by: i64, on: &Target<'a>, piece: &Piece) -> Option<LoopAt<'a>>
     ensures { option_map plain_loop result ≡ divisible by (spot_at (target on.now) (plain_piece piece.now)).opened.piece }
@@ -74,16 +63,8 @@ fn divisible_at<'a>(by: i64, on: &Target<'a>, piece: &Piece) -> Option<LoopAt<'a
     }
     match loop_at(on, piece) {
         None => None,
-        Some(l) => { if is_zero(l.lo) { Some(l) } else { None } }
+        Some(l) => zero_based(l),
     }
-}
-
-/// A loop from 0, alone in a block.
-fn from_zero(alloc: Global, id: Id, name: &Name, hi: Ctrl, body: Block) -> Result<Block, AllocError>
-    ensures { IfOk result (λ b. block b ≡ only_loop (record { id = id.0; name = name.now }) (tree.Lit (pos 0)) (control hi) (block body)) }
-{
-    let name = name.duplicate(alloc)?;
-    only_loop(alloc, Binder { id, name }, Ctrl::Lit(0), hi, body)
 }
 
 impl Dividing<'_> {

@@ -22,6 +22,15 @@ fn sum(alloc: Global, a: Box<Ctrl>, b: Ctrl) -> Result<Ctrl, AllocError>
     Ok(Ctrl::Add(a, Box::new(alloc, b)?))
 }
 
+/// A sum of two copies, less a third one.
+pub(crate) fn sum_less(alloc: Global, a: &Ctrl, b: &Ctrl, c: &Ctrl) -> Result<Ctrl, AllocError>
+    ensures { IfOk result (λ e. control e ≡ tree.Sub (tree.Add (control a.now) (control b.now)) (control c.now)) }
+{
+    let all = sum(alloc, boxed(alloc, a)?, b.duplicate(alloc)?)?;
+    let left = Box::new(alloc, all)?;
+    Ok(Ctrl::Sub(left, boxed(alloc, c)?))
+}
+
 /// The turn of that number behind so many groups.
 pub(crate) fn turn_behind(alloc: Global, by: i64, groups: Ctrl, x: Id) -> Result<Ctrl, AllocError>
     ensures { IfOk result (λ e. control e ≡ tree.Add (tree.Mul (tree.Lit by) (control groups)) (tree.Var x.0)) }
@@ -30,6 +39,14 @@ pub(crate) fn turn_behind(alloc: Global, by: i64, groups: Ctrl, x: Id) -> Result
     let left = Box::new(alloc, Ctrl::Lit(by))?;
     let before = Box::new(alloc, Ctrl::Mul(left, right))?;
     sum(alloc, before, Ctrl::Var(x))
+}
+
+/// How many turns so many groups have.
+pub(crate) fn product(alloc: Global, groups: &Ctrl, by: i64) -> Result<Ctrl, AllocError>
+    ensures { IfOk result (λ e. control e ≡ tree.Mul (control groups.now) (tree.Lit by)) }
+{
+    let right = Box::new(alloc, Ctrl::Lit(by))?;
+    Ok(Ctrl::Mul(boxed(alloc, groups)?, right))
 }
 
 /// How many whole groups there are.

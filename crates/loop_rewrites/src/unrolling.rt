@@ -102,7 +102,7 @@ impl Turns<'_> {
 }
 
 /// Whether an error is want of memory.
-fn is_memory(error: &StepError) -> bool
+pub(crate) fn is_memory(error: &StepError) -> bool
     ensures { result ≡ is_none (cause_of error.now) }
 {
     match error {

@@ -9,16 +9,18 @@ use Rattle.schedule_calls.specs.Operators.{cursor_name}
 use Rattle.schedule_calls.specs.PlainRequest.{operation_at}
 use Rattle.schedule_calls.specs.Requests.{Asked, Operation}
 use Rattle.schedule_calls.specs.Readings.{AsksCursor, AsksOnlyCursor, AsksOperation}
-use Rattle.schedule_calls.specs.Readings.{reorder_loops, fission, fuse, unroll_loop, remove_loop}
-use Rattle.schedule_calls.specs.Readings.{reorder_stmts}
+use Rattle.schedule_calls.specs.Readings.{reorder_loops, fission, fuse, join_loops}
+use Rattle.schedule_calls.specs.Readings.{unroll_loop, remove_loop, lift_scope, reorder_stmts}
 
 pub asks_at : (o : AtCursor) (args : List tree.Argument) (at : Asked) → AsksOnlyCursor args at
     → AsksOperation (cursor_name o) args (operation_at o at)
 asks_at op.ReorderLoops args at h = reorder_loops args at h
 asks_at op.Fission args at h = fission args at h
 asks_at op.Fuse args at h = fuse args at h
+asks_at op.JoinLoops args at h = join_loops args at h
 asks_at op.UnrollLoop args at h = unroll_loop args at h
 asks_at op.RemoveLoop args at h = remove_loop args at h
+asks_at op.LiftScope args at h = lift_scope args at h
 asks_at op.ReorderStmts args at h = reorder_stmts args at h
 
 pub none_at : (o : AtCursor) (args : List tree.Argument)
@@ -27,8 +29,10 @@ pub none_at : (o : AtCursor) (args : List tree.Argument)
 none_at op.ReorderLoops args never _ (reorder_loops _ at h) = never at h
 none_at op.Fission args never _ (fission _ at h) = never at h
 none_at op.Fuse args never _ (fuse _ at h) = never at h
+none_at op.JoinLoops args never _ (join_loops _ at h) = never at h
 none_at op.UnrollLoop args never _ (unroll_loop _ at h) = never at h
 none_at op.RemoveLoop args never _ (remove_loop _ at h) = never at h
+none_at op.LiftScope args never _ (lift_scope _ at h) = never at h
 none_at op.ReorderStmts args never _ (reorder_stmts _ at h) = never at h
 
 -- ---- arguments as they are read

@@ -14,9 +14,10 @@ use Rattle.schedule_text.specs.declared.source.Direction.TheVariants as way
 use Rattle.exo_tree.specs.Places.{Branch, Main, Else}
 use Rattle.schedule_calls.specs.Requests.{Asked, Operation, Here, Tail, Guard, CutAndGuard}
 use Rattle.schedule_calls.specs.Requests.{Perfect, Division}
-use Rattle.schedule_calls.specs.Readings.{AsksOnlyCursor, AsksControl, AsksCondition, under, here}
-use Rattle.schedule_calls.specs.Readings.{divide_loop, cut_loop, reorder_loops, fission, fuse}
-use Rattle.schedule_calls.specs.Readings.{unroll_loop, remove_loop, specialize}
+use Rattle.schedule_calls.specs.Readings.{AsksOnlyCursor, AsksName, AsksControl, AsksCondition}
+use Rattle.schedule_calls.specs.Readings.{under, here, divide_loop, cut_loop, mult_loops}
+use Rattle.schedule_calls.specs.Readings.{shift_loop, reorder_loops, fission, fuse, join_loops}
+use Rattle.schedule_calls.specs.Readings.{unroll_loop, remove_loop, lift_scope, specialize}
 use Rattle.schedule_calls.specs.Readings.{eliminate_dead_code, reorder_stmts, is_unknown}
 use Rattle.schedule_calls.specs.Readings.{AsksOperation, commute_expr, rename, delete_pass}
 use Rattle.schedule_calls.specs.Readings.{Asks, apply, search, moved, emit}
@@ -32,7 +33,8 @@ use Rattle.schedule_calls.proofs.Closed.{five, yes}
 use Rattle.schedule_calls.proofs.Strings.{no_control, no_condition}
 use Rattle.schedule_calls.proofs.AtCursors.{asks_at, none_at}
 use Rattle.schedule_calls.proofs.Eliminations.{no_eliminate_key}
-use Rattle.schedule_calls.proofs.Loops.{no_divide, no_cut_value, no_specialize_condition}
+use Rattle.schedule_calls.proofs.Loops.{no_divide, no_cut_value, no_mult_name, no_shift_value}
+use Rattle.schedule_calls.proofs.Loops.{no_specialize_condition}
 use Rattle.schedule_calls.proofs.Lines.{no_apply}
 
 none_behind : (args : List tree.Argument) (at : Asked) → args ≡ [] → AsksOnlyCursor args at → ⊥
@@ -43,11 +45,15 @@ only_delete : (name : List ℕ) (args : List tree.Argument) (o : Operation)
     → AsksOperation name args o → args ≡ [] → name ≡ codes "delete_pass"
 only_delete _ _ _ (divide_loop a by names keys at d h k) is = absurd (cc (is))
 only_delete _ _ _ (cut_loop a b at e h k) is = absurd (cc (is))
+only_delete _ _ _ (mult_loops a b at name h k) is = absurd (cc (is))
+only_delete _ _ _ (shift_loop a b at e h k) is = absurd (cc (is))
 only_delete _ _ _ (reorder_loops args at h) is = absurd (none_behind args at is h)
 only_delete _ _ _ (fission args at h) is = absurd (none_behind args at is h)
 only_delete _ _ _ (fuse args at h) is = absurd (none_behind args at is h)
+only_delete _ _ _ (join_loops args at h) is = absurd (none_behind args at is h)
 only_delete _ _ _ (unroll_loop args at h) is = absurd (none_behind args at is h)
 only_delete _ _ _ (remove_loop args at h) is = absurd (none_behind args at is h)
+only_delete _ _ _ (lift_scope args at h) is = absurd (none_behind args at is h)
 only_delete _ _ _ (specialize a b at c h k) is = absurd (cc (is))
 only_delete _ _ _ (eliminate_dead_code a keys at keep h k) is = absurd (cc (is))
 only_delete _ _ _ (reorder_stmts args at h) is = absurd (none_behind args at is h)
@@ -87,8 +93,10 @@ there : (o : AtCursor) (args : List tree.Argument) → is_unknown (line_of (curs
 there op.ReorderLoops args = refl
 there op.Fission args = refl
 there op.Fuse args = refl
+there op.JoinLoops args = refl
 there op.UnrollLoop args = refl
 there op.RemoveLoop args = refl
+there op.LiftScope args = refl
 there op.ReorderStmts args = refl
 
 asks_nothing_at : (o : AtCursor) (args : List tree.Argument)
@@ -126,6 +134,15 @@ cuts_nothing s never = record {
       (no_cut_value held_c (text s) never);
 }
 
+shifts_nothing : (s : List ℕ) → ((e : Tree) → AsksControl (text s) e → ⊥)
+    → AsksNothing (on_c (codes "shift_loop") s)
+shifts_nothing s never = record {
+  known = refl;
+  none =
+      no_apply (codes "q") (codes "shift_loop") (on_p (held_c ∷ text s ∷ []))
+      (no_shift_value held_c (text s) never);
+}
+
 specializes_nothing : (s : List ℕ) → ((c : Tree) → AsksCondition (text s) c → ⊥)
     → AsksNothing (on_c (codes "specialize") s)
 specializes_nothing s never = record {
@@ -133,6 +150,17 @@ specializes_nothing s never = record {
   none =
       no_apply (codes "q") (codes "specialize") (on_p (held_c ∷ text s ∷ []))
       (no_specialize_condition held_c (text s) never);
+}
+
+-- ---- names
+
+multiplies_nothing : (s : List ℕ) → ((name : List ℕ) → AsksName (text s) name → ⊥)
+    → AsksNothing (on_c (codes "mult_loops") s)
+multiplies_nothing s never = record {
+  known = refl;
+  none =
+      no_apply (codes "q") (codes "mult_loops") (on_p (held_c ∷ text s ∷ []))
+      (no_mult_name held_c (text s) never);
 }
 
 pub instance : TextInstance → ReaderInstance → TextsAreOne control → LinesInstance
@@ -154,6 +182,15 @@ instance patterns texts one = record {
       apply (codes "q") (codes "cut_loop") (codes "p") (on_p (held_c ∷ text (codes "5") ∷ [])) _
       refl
       (cut_loop held_c (text (codes "5")) at_c (number (Value 5)) (under (codes "c") [])
+      (record { written = five; form = refl }));
+  multiplied =
+      apply (codes "q") (codes "mult_loops") (codes "p") (on_p (held_c ∷ text (codes "k") ∷ [])) _
+      refl
+      (mult_loops held_c (text (codes "k")) at_c (codes "k") (under (codes "c") []) (refl, refl));
+  shifted =
+      apply (codes "q") (codes "shift_loop") (codes "p") (on_p (held_c ∷ text (codes "5") ∷ [])) _
+      refl
+      (shift_loop held_c (text (codes "5")) at_c (number (Value 5)) (under (codes "c") [])
       (record { written = five; form = refl }));
   unrolled =
       apply (codes "q") (codes "unroll_loop") (codes "p") (on_p (text (codes "i #1") ∷ [])) _ refl
@@ -200,7 +237,10 @@ instance patterns texts one = record {
       k.written texts.two_names);
   no_control =
       cuts_nothing (codes "True") (no_control one (codes "True" ∷ []) (truth true) yes refl);
+  no_start =
+      shifts_nothing (codes "True") (no_control one (codes "True" ∷ []) (truth true) yes refl);
   no_condition =
       specializes_nothing (codes "5")
       (no_condition one (codes "5" ∷ []) (number (Value 5)) five refl);
+  no_name = multiplies_nothing (codes "5") (λ name k. cc (k.1));
 }

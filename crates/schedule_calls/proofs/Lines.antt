@@ -43,6 +43,11 @@ pub no_apply : (bind operator : List ℕ) (args : tree.Arguments)
     → Asks (tree.bind bind (tree.operation operator args)) r → ⊥
 no_apply bind operator args never _ (apply _ _ of _ o word asks) = never o asks
 
+pub no_version : (bind operator : List ℕ) (args : tree.Arguments)
+    → ((of : List ℕ) → IsWord args.head of → ⊥) → (r : Request)
+    → Asks (tree.bind bind (tree.operation operator args)) r → ⊥
+no_version bind operator args never _ (apply _ _ of _ o word asks) = never of word
+
 pub asks_apply : (bind name of known : List ℕ) (args : tree.Arguments) (o : Operation)
     → name ≡ known → IsWord args.head of → AsksOperation known args.more o
     → Asks (tree.bind bind (tree.operation name args)) (Apply bind of o)

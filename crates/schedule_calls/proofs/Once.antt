@@ -10,15 +10,17 @@ use Rattle.schedule_patterns.specs.Grammar.{statement, meant, expression, form_m
 use Rattle.schedule_patterns.specs.Texts.{PatternsAreOne}
 use Rattle.cursor_patterns.specs.Patterns.{Pattern, ExprForm, ExprPattern}
 use Rattle.schedule_calls.specs.Requests.{Asked, Found, Here, Operation, CommuteExpr, Rename}
-use Rattle.schedule_calls.specs.Requests.{Tail, Division, DivideLoop, CutLoop, ReorderLoops}
-use Rattle.schedule_calls.specs.Requests.{Fission, Fuse, UnrollLoop, RemoveLoop, Specialize}
+use Rattle.schedule_calls.specs.Requests.{Tail, Division, DivideLoop, CutLoop, MultLoops}
+use Rattle.schedule_calls.specs.Requests.{ShiftLoop, ReorderLoops, Fission, Fuse, JoinLoops}
+use Rattle.schedule_calls.specs.Requests.{UnrollLoop, RemoveLoop, LiftScope, Specialize}
 use Rattle.schedule_calls.specs.Requests.{EliminateDeadCode, ReorderStmts, Request, Apply, Search}
 use Rattle.schedule_calls.specs.Readings.{moves, IsPatternOf, IsExprPatternOf, IsWord}
 use Rattle.schedule_calls.specs.Readings.{AsksCursor, under, found, here, AsksOnlyCursor}
 use Rattle.schedule_calls.specs.Readings.{AsksExpression, AsksName}
 use Rattle.schedule_calls.specs.Readings.{AsksNames, AsksControl, AsksCondition, AsksDivision}
-use Rattle.schedule_calls.specs.Readings.{divide_loop, cut_loop, reorder_loops, fission, fuse}
-use Rattle.schedule_calls.specs.Readings.{unroll_loop, remove_loop, specialize}
+use Rattle.schedule_calls.specs.Readings.{divide_loop, cut_loop, mult_loops, shift_loop}
+use Rattle.schedule_calls.specs.Readings.{reorder_loops, fission, fuse, join_loops}
+use Rattle.schedule_calls.specs.Readings.{unroll_loop, remove_loop, lift_scope, specialize}
 use Rattle.schedule_calls.specs.Readings.{eliminate_dead_code, reorder_stmts}
 use Rattle.schedule_calls.specs.Readings.{AsksOperation, commute_expr, rename, delete_pass, Asks}
 use Rattle.schedule_calls.specs.Readings.{apply, search, moved, emit, is_operator, is_unknown}
@@ -134,16 +136,24 @@ one_operation one _ _ _ _ (divide_loop a by names keys at d h k)
     ap₂ DivideLoop (one_cursor one.pattern a at to h i) (one_division by names keys d e k l)
 one_operation one _ _ _ _ (cut_loop a b at e h k) (cut_loop _ _ to f i l) =
     ap₂ CutLoop (one_cursor one.pattern a at to h i) (one_control one.text b e f k l)
+one_operation one _ _ _ _ (mult_loops a b at n h k) (mult_loops _ _ to m i l) =
+    ap₂ MultLoops (one_cursor one.pattern a at to h i) (one_name b n m k l)
+one_operation one _ _ _ _ (shift_loop a b at e h k) (shift_loop _ _ to f i l) =
+    ap₂ ShiftLoop (one_cursor one.pattern a at to h i) (one_control one.text b e f k l)
 one_operation one _ _ _ _ (reorder_loops args at h) (reorder_loops _ to i) =
     ap ReorderLoops (one_only_cursor one.pattern args at to h i)
 one_operation one _ _ _ _ (fission args at h) (fission _ to i) =
     ap Fission (one_only_cursor one.pattern args at to h i)
 one_operation one _ _ _ _ (fuse args at h) (fuse _ to i) =
     ap Fuse (one_only_cursor one.pattern args at to h i)
+one_operation one _ _ _ _ (join_loops args at h) (join_loops _ to i) =
+    ap JoinLoops (one_only_cursor one.pattern args at to h i)
 one_operation one _ _ _ _ (unroll_loop args at h) (unroll_loop _ to i) =
     ap UnrollLoop (one_only_cursor one.pattern args at to h i)
 one_operation one _ _ _ _ (remove_loop args at h) (remove_loop _ to i) =
     ap RemoveLoop (one_only_cursor one.pattern args at to h i)
+one_operation one _ _ _ _ (lift_scope args at h) (lift_scope _ to i) =
+    ap LiftScope (one_only_cursor one.pattern args at to h i)
 one_operation one _ _ _ _ (specialize a b at e h k) (specialize _ _ to f i l) =
     ap₂ Specialize (one_cursor one.pattern a at to h i) (one_condition one.text b e f k l)
 one_operation one _ _ _ _ (eliminate_dead_code a keys at keep h k)
@@ -161,11 +171,15 @@ known : (name : List ℕ) (args : List tree.Argument) (o : Operation) → AsksOp
     → is_operator name ≡ true
 known _ _ _ (divide_loop a by names keys at d h k) = refl
 known _ _ _ (cut_loop a b at e h k) = refl
+known _ _ _ (mult_loops a b at name h k) = refl
+known _ _ _ (shift_loop a b at e h k) = refl
 known _ _ _ (reorder_loops args at h) = refl
 known _ _ _ (fission args at h) = refl
 known _ _ _ (fuse args at h) = refl
+known _ _ _ (join_loops args at h) = refl
 known _ _ _ (unroll_loop args at h) = refl
 known _ _ _ (remove_loop args at h) = refl
+known _ _ _ (lift_scope args at h) = refl
 known _ _ _ (specialize a b at e h k) = refl
 known _ _ _ (eliminate_dead_code a keys at keep h k) = refl
 known _ _ _ (reorder_stmts args at h) = refl

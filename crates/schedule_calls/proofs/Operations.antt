@@ -96,9 +96,11 @@ at_named name o =
     test (codes "reorder_loops") at_op.ReorderLoops _ refl
     (test (codes "fission") at_op.Fission _ refl
     (test (codes "fuse") at_op.Fuse _ refl
+    (test (codes "join_loops") at_op.JoinLoops _ refl
     (test (codes "unroll_loop") at_op.UnrollLoop _ refl
     (test (codes "remove_loop") at_op.RemoveLoop _ refl
-    (test (codes "reorder_stmts") at_op.ReorderStmts _ refl (none_left cursor_name name o))))))
+    (test (codes "lift_scope") at_op.LiftScope _ refl
+    (test (codes "reorder_stmts") at_op.ReorderStmts _ refl (none_left cursor_name name o))))))))
   where
     test : (text : List ℕ) (p : AtCursor) (rest : Option AtCursor) → text ≡ cursor_name p
         → (rest ≡ Some o → name ≡ cursor_name o)
@@ -109,11 +111,13 @@ other_named : (name : List ℕ) (o : Operator) → other_of name ≡ Some o → 
 other_named name o =
     test (codes "divide_loop") op.DivideLoop _ refl
     (test (codes "cut_loop") op.CutLoop _ refl
+    (test (codes "mult_loops") op.MultLoops _ refl
+    (test (codes "shift_loop") op.ShiftLoop _ refl
     (test (codes "specialize") op.Specialize _ refl
     (test (codes "eliminate_dead_code") op.EliminateDeadCode _ refl
     (test (codes "commute_expr") op.CommuteExpr _ refl
     (test (codes "rename") op.Rename _ refl
-    (test (codes "delete_pass") op.DeletePass _ refl (none_left name_of name o)))))))
+    (test (codes "delete_pass") op.DeletePass _ refl (none_left name_of name o)))))))))
   where
     test : (text : List ℕ) (p : Operator) (rest : Option Operator) → text ≡ name_of p
         → (rest ≡ Some o → name ≡ name_of o)
@@ -136,14 +140,18 @@ there_at : (o : AtCursor) → not (is_operator (cursor_name o)) ≡ false
 there_at at_op.ReorderLoops = refl
 there_at at_op.Fission = refl
 there_at at_op.Fuse = refl
+there_at at_op.JoinLoops = refl
 there_at at_op.UnrollLoop = refl
 there_at at_op.RemoveLoop = refl
+there_at at_op.LiftScope = refl
 there_at at_op.ReorderStmts = refl
 
 there : (o : Operator) → not (is_operator (name_of o)) ≡ false
 there (op.At o) = there_at o
 there op.DivideLoop = refl
 there op.CutLoop = refl
+there op.MultLoops = refl
+there op.ShiftLoop = refl
 there op.Specialize = refl
 there op.EliminateDeadCode = refl
 there op.CommuteExpr = refl

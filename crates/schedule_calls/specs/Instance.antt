@@ -8,7 +8,8 @@ use Rattle.schedule_text.specs.Tree as tree
 use Rattle.schedule_text.specs.declared.source.Direction.TheVariants as way
 use Rattle.schedule_calls.specs.Requests.{Parent, Item, Asked, Under, Here, Operation}
 use Rattle.schedule_calls.specs.Requests.{DivideLoop, Tail, Guard, CutAndGuard, Perfect}
-use Rattle.schedule_calls.specs.Requests.{CutLoop, UnrollLoop, Specialize, EliminateDeadCode}
+use Rattle.schedule_calls.specs.Requests.{CutLoop, MultLoops, ShiftLoop, UnrollLoop}
+use Rattle.schedule_calls.specs.Requests.{Specialize, EliminateDeadCode}
 use Rattle.schedule_calls.specs.Requests.{CommuteExpr, Rename, DeletePass}
 use Rattle.schedule_calls.specs.Requests.{Request, Apply, Search, Moved, Emit}
 use Rattle.schedule_calls.specs.Readings.{Asks, is_unknown}
@@ -105,6 +106,11 @@ pub record LinesInstance : Type 0 where
       Asks (divide_line (tail_key ∷ perfect_key tree.yes ∷ [])) (asks_divided Perfect)
   -- `q = cut_loop(p, c, '5')`
   pub cut : Asks (on_c (codes "cut_loop") (codes "5")) (asks (CutLoop at_c (number (Value 5))))
+  -- `q = mult_loops(p, c, 'k')` and `q = shift_loop(p, c, '5')`
+  pub multiplied :
+      Asks (on_c (codes "mult_loops") (codes "k")) (asks (MultLoops at_c (codes "k")))
+  pub shifted :
+      Asks (on_c (codes "shift_loop") (codes "5")) (asks (ShiftLoop at_c (number (Value 5))))
   -- `q = unroll_loop(p, 'i #1')`
   pub unrolled :
       Asks (line_of (codes "unroll_loop") (text (codes "i #1") ∷ []))
@@ -146,4 +152,7 @@ pub record LinesInstance : Type 0 where
   -- two names are no expression, a truth value is no control value, and a number no condition
   pub no_expression : AsksNothing (on_c (codes "cut_loop") (codes "i j"))
   pub no_control : AsksNothing (on_c (codes "cut_loop") (codes "True"))
+  pub no_start : AsksNothing (on_c (codes "shift_loop") (codes "True"))
   pub no_condition : AsksNothing (on_c (codes "specialize") (codes "5"))
+  -- a number is no name
+  pub no_name : AsksNothing (on_c (codes "mult_loops") (codes "5"))

@@ -56,11 +56,16 @@ abbrev pub plain_operation : Operation → plain.Operation
 plain_operation (operation.DivideLoop at d) =
     plain.DivideLoop (plain_asked at.value) (plain_division d.value)
 plain_operation (operation.CutLoop at e) = plain.CutLoop (plain_asked at.value) (tree_of e.value)
+plain_operation (operation.MultLoops at name) = plain.MultLoops (plain_asked at.value) name
+plain_operation (operation.ShiftLoop at e) =
+    plain.ShiftLoop (plain_asked at.value) (tree_of e.value)
 plain_operation (operation.ReorderLoops at) = plain.ReorderLoops (plain_asked at.value)
 plain_operation (operation.Fission at) = plain.Fission (plain_asked at.value)
 plain_operation (operation.Fuse at) = plain.Fuse (plain_asked at.value)
+plain_operation (operation.JoinLoops at) = plain.JoinLoops (plain_asked at.value)
 plain_operation (operation.UnrollLoop at) = plain.UnrollLoop (plain_asked at.value)
 plain_operation (operation.RemoveLoop at) = plain.RemoveLoop (plain_asked at.value)
+plain_operation (operation.LiftScope at) = plain.LiftScope (plain_asked at.value)
 plain_operation (operation.Specialize at c) =
     plain.Specialize (plain_asked at.value) (tree_of c.value)
 plain_operation (operation.EliminateDeadCode at keep) =
@@ -76,8 +81,10 @@ abbrev pub operation_at : AtCursor → plain.Asked → plain.Operation
 operation_at at_cursor.ReorderLoops at = plain.ReorderLoops at
 operation_at at_cursor.Fission at = plain.Fission at
 operation_at at_cursor.Fuse at = plain.Fuse at
+operation_at at_cursor.JoinLoops at = plain.JoinLoops at
 operation_at at_cursor.UnrollLoop at = plain.UnrollLoop at
 operation_at at_cursor.RemoveLoop at = plain.RemoveLoop at
+operation_at at_cursor.LiftScope at = plain.LiftScope at
 operation_at at_cursor.ReorderStmts at = plain.ReorderStmts at
 
 abbrev pub plain_request : Request → plain.Request

@@ -21,8 +21,9 @@ use Rattle.cursor_patterns.specs.Patterns.{Pattern, ExprPattern}
 use Rattle.schedule_calls.specs.Requests.{Move, Parent, Next, Prev, Body, Before, After, Expand}
 use Rattle.schedule_calls.specs.Requests.{Item}
 use Rattle.schedule_calls.specs.Requests.{Asked, Under, Found, Here, Division, Operation}
-use Rattle.schedule_calls.specs.Requests.{DivideLoop, CutLoop, ReorderLoops, Fission, Fuse}
-use Rattle.schedule_calls.specs.Requests.{UnrollLoop, RemoveLoop, Specialize, EliminateDeadCode}
+use Rattle.schedule_calls.specs.Requests.{DivideLoop, CutLoop, MultLoops, ShiftLoop}
+use Rattle.schedule_calls.specs.Requests.{ReorderLoops, Fission, Fuse, JoinLoops, UnrollLoop}
+use Rattle.schedule_calls.specs.Requests.{RemoveLoop, LiftScope, Specialize, EliminateDeadCode}
 use Rattle.schedule_calls.specs.Requests.{ReorderStmts, CommuteExpr, Rename, DeletePass}
 use Rattle.schedule_calls.specs.Requests.{Request, Apply, Search, Moved, Emit}
 use Rattle.schedule_calls.specs.Keys.{tail_in, keep_in}
@@ -144,6 +145,14 @@ pub data AsksOperation : List ℕ → List tree.Argument → Operation → Type 
       → AsksCursor a at
       → AsksControl b e
       → AsksOperation (codes "cut_loop") (a ∷ b ∷ []) (CutLoop at e)
+  mult_loops : (a b : tree.Argument) (at : Asked) (name : List ℕ)
+      → AsksCursor a at
+      → AsksName b name
+      → AsksOperation (codes "mult_loops") (a ∷ b ∷ []) (MultLoops at name)
+  shift_loop : (a b : tree.Argument) (at : Asked) (e : Tree)
+      → AsksCursor a at
+      → AsksControl b e
+      → AsksOperation (codes "shift_loop") (a ∷ b ∷ []) (ShiftLoop at e)
   reorder_loops : (args : List tree.Argument) (at : Asked)
       → AsksOnlyCursor args at
       → AsksOperation (codes "reorder_loops") args (ReorderLoops at)
@@ -153,12 +162,18 @@ pub data AsksOperation : List ℕ → List tree.Argument → Operation → Type 
   fuse : (args : List tree.Argument) (at : Asked)
       → AsksOnlyCursor args at
       → AsksOperation (codes "fuse") args (Fuse at)
+  join_loops : (args : List tree.Argument) (at : Asked)
+      → AsksOnlyCursor args at
+      → AsksOperation (codes "join_loops") args (JoinLoops at)
   unroll_loop : (args : List tree.Argument) (at : Asked)
       → AsksOnlyCursor args at
       → AsksOperation (codes "unroll_loop") args (UnrollLoop at)
   remove_loop : (args : List tree.Argument) (at : Asked)
       → AsksOnlyCursor args at
       → AsksOperation (codes "remove_loop") args (RemoveLoop at)
+  lift_scope : (args : List tree.Argument) (at : Asked)
+      → AsksOnlyCursor args at
+      → AsksOperation (codes "lift_scope") args (LiftScope at)
   specialize : (a b : tree.Argument) (at : Asked) (c : Tree)
       → AsksCursor a at
       → AsksCondition b c
@@ -186,19 +201,23 @@ takes_a_cursor name =
     bytes_eq name (codes "reorder_loops")
     || (bytes_eq name (codes "fission")
     || (bytes_eq name (codes "fuse")
+    || (bytes_eq name (codes "join_loops")
     || (bytes_eq name (codes "unroll_loop")
     || (bytes_eq name (codes "remove_loop")
-    || bytes_eq name (codes "reorder_stmts")))))
+    || (bytes_eq name (codes "lift_scope")
+    || bytes_eq name (codes "reorder_stmts")))))))
 
 abbrev pub takes_otherwise : List ℕ → Bool
 takes_otherwise name =
     bytes_eq name (codes "divide_loop")
     || (bytes_eq name (codes "cut_loop")
+    || (bytes_eq name (codes "mult_loops")
+    || (bytes_eq name (codes "shift_loop")
     || (bytes_eq name (codes "specialize")
     || (bytes_eq name (codes "eliminate_dead_code")
     || (bytes_eq name (codes "commute_expr")
     || (bytes_eq name (codes "rename")
-    || bytes_eq name (codes "delete_pass"))))))
+    || bytes_eq name (codes "delete_pass"))))))))
 
 abbrev pub is_operator : List ℕ → Bool
 is_operator name = takes_a_cursor name || takes_otherwise name

@@ -33,16 +33,20 @@ pub record Division : Type 0 where
   pub tail : Tail
 
 -- An operator with its arguments behind the first. Expressions are as they are written: a control
--- value for `CutLoop`, a condition for `Specialize`. `EliminateDeadCode` has the branch that is kept,
--- where one is named.
+-- value for `CutLoop` and `ShiftLoop`, a condition for `Specialize`. `EliminateDeadCode` has the
+-- branch that is kept, where one is named.
 pub data Operation : Type 0 where
   DivideLoop : Asked → Division → Operation
   CutLoop : Asked → Tree → Operation
+  MultLoops : Asked → List ℕ → Operation
+  ShiftLoop : Asked → Tree → Operation
   ReorderLoops : Asked → Operation
   Fission : Asked → Operation
   Fuse : Asked → Operation
+  JoinLoops : Asked → Operation
   UnrollLoop : Asked → Operation
   RemoveLoop : Asked → Operation
+  LiftScope : Asked → Operation
   Specialize : Asked → Tree → Operation
   EliminateDeadCode : Asked → Option Branch → Operation
   ReorderStmts : Asked → Operation

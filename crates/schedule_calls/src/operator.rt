@@ -21,8 +21,10 @@ pub enum AtCursor {
     ReorderLoops,
     Fission,
     Fuse,
+    JoinLoops,
     UnrollLoop,
     RemoveLoop,
+    LiftScope,
     ReorderStmts,
 }
 
@@ -32,6 +34,8 @@ pub enum Operator {
     At(AtCursor),
     DivideLoop,
     CutLoop,
+    MultLoops,
+    ShiftLoop,
     Specialize,
     EliminateDeadCode,
     CommuteExpr,
@@ -52,11 +56,17 @@ fn at_cursor_of(text: &[u8]) -> Option<AtCursor>
     if text == b"fuse".as_slice() {
         return Some(AtCursor::Fuse);
     }
+    if text == b"join_loops".as_slice() {
+        return Some(AtCursor::JoinLoops);
+    }
     if text == b"unroll_loop".as_slice() {
         return Some(AtCursor::UnrollLoop);
     }
     if text == b"remove_loop".as_slice() {
         return Some(AtCursor::RemoveLoop);
+    }
+    if text == b"lift_scope".as_slice() {
+        return Some(AtCursor::LiftScope);
     }
     if text == b"reorder_stmts".as_slice() {
         return Some(AtCursor::ReorderStmts);
@@ -73,6 +83,12 @@ fn other_of(text: &[u8]) -> Option<Operator>
     }
     if text == b"cut_loop".as_slice() {
         return Some(Operator::CutLoop);
+    }
+    if text == b"mult_loops".as_slice() {
+        return Some(Operator::MultLoops);
+    }
+    if text == b"shift_loop".as_slice() {
+        return Some(Operator::ShiftLoop);
     }
     if text == b"specialize".as_slice() {
         return Some(Operator::Specialize);
@@ -112,8 +128,10 @@ impl AtCursor {
             AtCursor::ReorderLoops => Operation::ReorderLoops(cursor),
             AtCursor::Fission => Operation::Fission(cursor),
             AtCursor::Fuse => Operation::Fuse(cursor),
+            AtCursor::JoinLoops => Operation::JoinLoops(cursor),
             AtCursor::UnrollLoop => Operation::UnrollLoop(cursor),
             AtCursor::RemoveLoop => Operation::RemoveLoop(cursor),
+            AtCursor::LiftScope => Operation::LiftScope(cursor),
             AtCursor::ReorderStmts => Operation::ReorderStmts(cursor),
         }
     }
@@ -164,6 +182,38 @@ fn cut_of(alloc: Global, args: &[ArgText]) -> Result<Option<Operation<'_>>, Allo
     };
     match cursor_of(alloc, at)? {
         Some(at) => Ok(Some(Operation::CutLoop(at, place))),
+        None => Ok(None),
+    }
+}
+
+/// `mult_loops(p, CURSOR, NAME)`
+fn mult_of(alloc: Global, args: &[ArgText]) -> Result<Option<Operation<'_>>, AllocError>
+    ensures { IfOk result (λ found. AsksOne (AsksOperation (codes "mult_loops") (map plain_argument args.now)) plain_operation found) }
+{
+    let [at, name] = args else {
+        return Ok(None);
+    };
+    let Some(name) = name_in(alloc, name)? else {
+        return Ok(None);
+    };
+    match cursor_of(alloc, at)? {
+        Some(at) => Ok(Some(Operation::MultLoops(at, name))),
+        None => Ok(None),
+    }
+}
+
+/// `shift_loop(p, CURSOR, CONTROL)`
+fn shift_of(alloc: Global, args: &[ArgText]) -> Result<Option<Operation<'_>>, AllocError>
+    ensures { IfOk result (λ found. AsksOne (AsksOperation (codes "shift_loop") (map plain_argument args.now)) plain_operation found) }
+{
+    let [at, start] = args else {
+        return Ok(None);
+    };
+    let Some(start) = control_in(alloc, start)? else {
+        return Ok(None);
+    };
+    match cursor_of(alloc, at)? {
+        Some(at) => Ok(Some(Operation::ShiftLoop(at, start))),
         None => Ok(None),
     }
 }
@@ -251,6 +301,8 @@ pub fn operation_of(
         Operator::At(operator) => at_of(alloc, operator, args),
         Operator::DivideLoop => divide_of(alloc, args),
         Operator::CutLoop => cut_of(alloc, args),
+        Operator::MultLoops => mult_of(alloc, args),
+        Operator::ShiftLoop => shift_of(alloc, args),
         Operator::Specialize => specialize_of(alloc, args),
         Operator::EliminateDeadCode => eliminate_of(alloc, args),
         Operator::CommuteExpr => commute_of(alloc, args),

@@ -56,16 +56,24 @@ pub enum Operation<'a> {
     DivideLoop(Box<Asked<'a>>, Box<Division>),
     /// The loop, and the control value at which it is cut.
     CutLoop(Box<Asked<'a>>, Box<SourceExpr>),
+    /// The outer loop of the two, and the name of the loop that they become.
+    MultLoops(Box<Asked<'a>>, Name),
+    /// The loop, and the control value from which it then runs.
+    ShiftLoop(Box<Asked<'a>>, Box<SourceExpr>),
     /// The outer loop of the two.
     ReorderLoops(Box<Asked<'a>>),
     /// The gap in the loop's body.
     Fission(Box<Asked<'a>>),
     /// The first loop of the two.
     Fuse(Box<Asked<'a>>),
+    /// The first loop of the two.
+    JoinLoops(Box<Asked<'a>>),
     /// The loop.
     UnrollLoop(Box<Asked<'a>>),
     /// The loop.
     RemoveLoop(Box<Asked<'a>>),
+    /// The condition or the loop that is to stand outside.
+    LiftScope(Box<Asked<'a>>),
     /// The statements, and the condition that tells their two copies apart.
     Specialize(Box<Asked<'a>>, Box<SourceExpr>),
     /// A loop that has no turn; or a condition, and which branch of it is kept.

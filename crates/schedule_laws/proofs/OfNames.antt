@@ -3,6 +3,7 @@ pub mod Blocks
 pub mod Proposed
 pub mod LoopRules
 pub mod OrderRules
+pub mod ScopeRules
 pub mod Rules
 pub mod Runs
 pub mod Schedules

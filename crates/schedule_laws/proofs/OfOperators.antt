@@ -1,3 +1,4 @@
 pub mod Lawful
 pub mod Examples
 pub mod OrderExamples
+pub mod ScopeExamples

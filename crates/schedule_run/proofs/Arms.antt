@@ -2,6 +2,9 @@
 use Rattle.std.proofs.Common.{◌≡◌, ℕ, sym, subst}
 use Rattle.std.specs.Prelude.{Result}
 use Rattle.exo_tree.specs.Tree.{Procedure}
+use Rattle.text_expressions.specs.Expression.{Tree}
+use Rattle.text_expressions.specs.Views.{tree_of}
+use Rattle.text_expressions.specs.declared.source.SourceExpr.{SourceExpr}
 use Rattle.cursor_forward.specs.PlainProposal.{plain_proposal}
 use Rattle.cursor_forward.specs.declared.proposal.Proposal.{Proposal}
 use Rattle.schedule_calls.specs.Requests as plain
@@ -28,3 +31,8 @@ module _ (v : Versions) (k : ℕ) (p : Procedure) (r : Result Proposal memory.Wh
   pub of_cursor : (call : plain.Asked → Call) (a b : Asked) → a ≡ b → Plans (call (plain_asked a))
       → Plans (call (plain_asked b))
   of_cursor call a b is h = subst (λ (x : Asked). Plans (call (plain_asked x))) is h
+
+  -- so is its expression
+  pub of_expression : (call : Tree → Call) (a b : SourceExpr) → a ≡ b → Plans (call (tree_of a))
+      → Plans (call (tree_of b))
+  of_expression call a b is h = subst (λ (x : SourceExpr). Plans (call (tree_of x))) is h

@@ -26,11 +26,15 @@ operation_form : (name : List ℕ) (args : List tree.Argument) (o : Operation)
     → AsksOperation name args o → has_form o ≡ true
 operation_form _ _ _ (asks.divide_loop a by names keys at d h i) = refl
 operation_form _ _ _ (asks.cut_loop a b at e h i) = control_form b e i
+operation_form _ _ _ (asks.mult_loops a b at name h i) = refl
+operation_form _ _ _ (asks.shift_loop a b at e h i) = control_form b e i
 operation_form _ _ _ (asks.reorder_loops args at h) = refl
 operation_form _ _ _ (asks.fission args at h) = refl
 operation_form _ _ _ (asks.fuse args at h) = refl
+operation_form _ _ _ (asks.join_loops args at h) = refl
 operation_form _ _ _ (asks.unroll_loop args at h) = refl
 operation_form _ _ _ (asks.remove_loop args at h) = refl
+operation_form _ _ _ (asks.lift_scope args at h) = refl
 operation_form _ _ _ (asks.specialize a b at c h i) = condition_form b c i
 operation_form _ _ _ (asks.eliminate_dead_code a keys at keep h i) = refl
 operation_form _ _ _ (asks.reorder_stmts args at h) = refl

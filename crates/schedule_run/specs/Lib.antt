@@ -1,6 +1,7 @@
 pub mod Runs
 pub mod Roots
 pub mod Ways
+pub mod AtControl
 pub mod Planned
 pub mod PlainPlace
 pub mod PlainVersions

@@ -16,8 +16,9 @@ use Rattle.step_rules.specs.Shapes.{tried}
 use Rattle.step_rules.specs.Answer.{proposed}
 use Rattle.tree_laws.specs.Findings.Versions.{with_version}
 use Rattle.rules_names.specs.Arguments.{is_control_form, is_condition_form}
-use Rattle.schedule_calls.specs.Requests.{Asked, Operation, DivideLoop, CutLoop, ReorderLoops}
-use Rattle.schedule_calls.specs.Requests.{Fission, Fuse, UnrollLoop, RemoveLoop, Specialize}
+use Rattle.schedule_calls.specs.Requests.{Asked, Operation, DivideLoop, CutLoop, MultLoops}
+use Rattle.schedule_calls.specs.Requests.{ShiftLoop, ReorderLoops, Fission, Fuse, JoinLoops}
+use Rattle.schedule_calls.specs.Requests.{UnrollLoop, RemoveLoop, LiftScope, Specialize}
 use Rattle.schedule_calls.specs.Requests.{EliminateDeadCode, ReorderStmts, CommuteExpr, Rename}
 use Rattle.schedule_calls.specs.Requests.{DeletePass, Request}
 use Rattle.schedule_calls.specs.Requests as request
@@ -94,11 +95,15 @@ module _ (v : Versions) (k : ℕ) (at : Asked) where
 abbrev pub has_form : Operation → Bool
 has_form (DivideLoop at d) = true
 has_form (CutLoop at e) = is_control_form e
+has_form (MultLoops at name) = true
+has_form (ShiftLoop at e) = is_control_form e
 has_form (ReorderLoops at) = true
 has_form (Fission at) = true
 has_form (Fuse at) = true
+has_form (JoinLoops at) = true
 has_form (UnrollLoop at) = true
 has_form (RemoveLoop at) = true
+has_form (LiftScope at) = true
 has_form (Specialize at c) = is_condition_form c
 has_form (EliminateDeadCode at keep) = true
 has_form (ReorderStmts at) = true

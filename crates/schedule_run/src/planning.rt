@@ -17,16 +17,16 @@ ghost use Rattle.schedule_run.specs.Outcomes.{Makes};
 ghost use Rattle.schedule_run.specs.Planned.{as_tried, has_form, planned};
 ghost use Rattle.schedule_run.specs.PlainVersions.{versions};
 
-use crate::resolving::{cut_at, specialize_at};
+use crate::resolving::{AtControl, by_control, specialize_at};
 use crate::session::Session;
 use crate::why::Why;
 use cursor_forward::Proposal;
 use exo_tree::{Branch, Path};
 use expression_rewrites::{Commuting, Deleting, Renaming};
-use loop_rewrites::nest::{Fissioning, Fusing, Reordering};
-use loop_rewrites::{Dividing, Unrolling};
+use loop_rewrites::nest::{Fissioning, Fusing, Joining, Reordering};
+use loop_rewrites::{Dividing, Multiplying, Unrolling};
 use schedule_calls::{Asked, Division, Operation, Tail};
-use statement_rewrites::{Emptying, Exchanging, Keeping, Removing};
+use statement_rewrites::{Emptying, Exchanging, Keeping, Lifting, Removing};
 use std::alloc::Global;
 use step_driver::{Operator, Target, propose};
 
@@ -145,12 +145,16 @@ pub(crate) fn planned(
 {
     match operation {
         Operation::DivideLoop(at, division) => at_statement(alloc, on, s, at, &dividing(division)),
-        Operation::CutLoop(at, e) => cut_at(alloc, on, s, at, e),
+        Operation::CutLoop(at, e) => by_control(alloc, on, s, at, AtControl::Cut, e),
+        Operation::MultLoops(at, name) => at_statement(alloc, on, s, at, &Multiplying { name }),
+        Operation::ShiftLoop(at, e) => by_control(alloc, on, s, at, AtControl::Shift, e),
         Operation::ReorderLoops(at) => at_statement(alloc, on, s, at, &Reordering),
         Operation::Fission(at) => fission_at(alloc, on, s, at),
         Operation::Fuse(at) => at_statement(alloc, on, s, at, &Fusing),
+        Operation::JoinLoops(at) => at_statement(alloc, on, s, at, &Joining),
         Operation::UnrollLoop(at) => at_statement(alloc, on, s, at, &Unrolling),
         Operation::RemoveLoop(at) => at_statement(alloc, on, s, at, &Removing),
+        Operation::LiftScope(at) => at_statement(alloc, on, s, at, &Lifting),
         Operation::Specialize(at, c) => specialize_at(alloc, on, s, at, c),
         Operation::EliminateDeadCode(at, keep) => eliminate_at(alloc, on, s, at, *keep),
         Operation::ReorderStmts(at) => at_statement(alloc, on, s, at, &Exchanging),

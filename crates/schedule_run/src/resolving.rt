@@ -1,6 +1,6 @@
 //! Operators whose arguments have expressions: what these stand for where the operators work.
 ghost use Rattle.std.specs.Prelude.{◌≡◌, true, MatchResult};
-ghost use Rattle.exo_tree.specs.PlainControl.{condition};
+ghost use Rattle.exo_tree.specs.PlainControl.{condition, control};
 ghost use Rattle.exo_tree.specs.PlainProcedure.{procedure};
 ghost use Rattle.exo_tree.specs.PlainUnit.{program};
 ghost use Rattle.exo_modes.specs.Marks.{modes_of};
@@ -8,14 +8,14 @@ ghost use Rattle.exo_modes.specs.Seen.{table_says};
 ghost use Rattle.text_expressions.specs.Views.{tree_of};
 ghost use Rattle.rules_names.specs.Arguments.{is_control_form, is_condition_form, knows_fields};
 ghost use Rattle.cursor_forward.specs.PlainProposal.{plain_proposal};
-ghost use Rattle.loop_laws.specs.CutLoop.{cut_rule};
 ghost use Rattle.loop_laws.specs.Specialize.{specialize_rule};
 ghost use Rattle.step_rules.specs.Answer as answer;
 ghost use Rattle.step_rules.specs.Lawful.{IsTarget};
 ghost use Rattle.step_driver.specs.PlainTarget.{target, plain_piece};
 ghost use Rattle.schedule_calls.specs.PlainRequest.{plain_asked};
-ghost use Rattle.schedule_calls.specs.Requests.{CutLoop, Specialize};
-ghost use Rattle.schedule_laws.specs.Operators.Operators.{call_of, control_at, condition_at};
+ghost use Rattle.schedule_calls.specs.Requests.{Specialize};
+ghost use Rattle.schedule_laws.specs.Operators.Operators.{call_of, control_call, control_at, condition_at};
+ghost use Rattle.schedule_run.specs.AtControl.{rule_with};
 ghost use Rattle.schedule_run.specs.Outcomes.{Makes};
 ghost use Rattle.schedule_run.specs.Planned.{Not, as_tried, if_known, planned};
 ghost use Rattle.schedule_run.specs.PlainWhy.{Says};
@@ -25,13 +25,20 @@ use crate::planning::proposed;
 use crate::session::Session;
 use crate::why::Why;
 use cursor_forward::Proposal;
-use exo_tree::{Cond, Path};
-use loop_rewrites::{Cutting, Specializing};
+use exo_tree::{Cond, Ctrl, Path};
+use loop_rewrites::{Cutting, Shifting, Specializing};
 use rules_scopes::{cond_at, ctrl_at};
 use schedule_calls::Asked;
 use std::alloc::Global;
 use step_driver::{Piece, Target};
 use text_expressions::source::SourceExpr;
+
+/// The operators at a loop that take a control value.
+#[derive(Clone, Copy)]
+pub(crate) enum AtControl {
+    Cut,
+    Shift,
+}
 
 /// That the fields in a control value are there.
 fn control_known(alloc: Global, on: &Target<'_>, e: &SourceExpr) -> Result<(), Why>
@@ -68,16 +75,40 @@ fn condition_known(alloc: Global, on: &Target<'_>, c: &SourceExpr) -> Result<(),
     Ok(())
 }
 
-/// What cutting makes of the loop at a path, at what the expression stands for there.
-fn cut(alloc: Global, on: &Target<'_>, path: &Path, e: &SourceExpr) -> Result<Proposal, Why>
+/// What an operator makes of the loop at a path, by a control value.
+fn made_by(
+    alloc: Global,
+    on: &Target<'_>,
+    path: &Path,
+    operator: AtControl,
+    e: &Ctrl,
+) -> Result<Proposal, Why>
+    requires modes { table_says on.now.modes.now ≡ modes_of (program on.now.unit.now) }
+    requires target { IsTarget (target on.now) }
+    ensures { Makes plain_proposal (as_tried (answer.proposed (rule_with operator (control e.now)) (target on.now) path.now)) result }
+{
+    match operator {
+        AtControl::Cut => proposed(alloc, on, path, &Cutting { e }),
+        AtControl::Shift => proposed(alloc, on, path, &Shifting { e }),
+    }
+}
+
+/// The same, by what the expression stands for there.
+fn resolved(
+    alloc: Global,
+    on: &Target<'_>,
+    path: &Path,
+    operator: AtControl,
+    e: &SourceExpr,
+) -> Result<Proposal, Why>
     requires modes { table_says on.now.modes.now ≡ modes_of (program on.now.unit.now) }
     requires target { IsTarget (target on.now) }
     requires form { is_control_form (tree_of e.now) ≡ true }
     requires known { knows_fields (program on.now.unit.now).fields (tree_of e.now) ≡ true }
-    ensures { Makes plain_proposal (as_tried (answer.proposed (cut_rule (control_at (target on.now) path.now (tree_of e.now))) (target on.now) path.now)) result }
+    ensures { Makes plain_proposal (as_tried (answer.proposed (rule_with operator (control_at (target on.now) path.now (tree_of e.now))) (target on.now) path.now)) result }
 {
     let e = ctrl_at(alloc, on.unit, on.number, path, false, e)?;
-    proposed(alloc, on, path, &Cutting { e: &e })
+    made_by(alloc, on, path, operator, &e)
 }
 
 /// What a condition makes of some statements.
@@ -110,23 +141,24 @@ fn specialized(
     specialized_by(alloc, on, piece, &c)
 }
 
-/// `cut_loop`
-pub(crate) fn cut_at(
+/// `cut_loop` and `shift_loop`
+pub(crate) fn by_control(
     alloc: Global,
     on: &Target<'_>,
     s: &Session,
     at: &Asked<'_>,
+    operator: AtControl,
     e: &SourceExpr,
 ) -> Result<Proposal, Why>
     requires modes { table_says on.now.modes.now ≡ modes_of (program on.now.unit.now) }
     requires target { IsTarget (target on.now) }
     requires unit { program on.now.unit.now ≡ program s.now.unit }
     requires form { is_control_form (tree_of e.now) ≡ true }
-    ensures { Makes plain_proposal (planned (versions s.now) on.now.number.0 (procedure on.now.proc.now) (call_of (CutLoop (plain_asked at.now) (tree_of e.now)))) result }
+    ensures { Makes plain_proposal (planned (versions s.now) on.now.number.0 (procedure on.now.proc.now) (control_call (plain_asked at.now) (tree_of e.now) (rule_with operator))) result }
 {
     control_known(alloc, on, e)?;
     let path = s.statement_at(alloc, on.number, at)?;
-    cut(alloc, on, &path, e)
+    resolved(alloc, on, &path, operator, e)
 }
 
 /// `specialize`

@@ -1,2 +1,3 @@
 pub mod PlainFork
 pub mod PlainNeighbours
+pub mod PlainLifting

@@ -26,7 +26,7 @@ pub(crate) struct ForkAt<'a> {
 }
 
 /// The condition that a statement is; None exactly where it is another statement.
-fn fork_in(s: &Stmt) -> Option<ForkAt<'_>>
+pub(crate) fn fork_in(s: &Stmt) -> Option<ForkAt<'_>>
     ensures { option_map plain_fork result ≡ plain.fork_in (statement s.now) }
 {
     match s {

@@ -14,9 +14,9 @@ use std::alloc::{AllocError, Global};
 
 /// A loop and the next one.
 #[derive(Clone, Copy)]
-struct Loops<'a> {
-    first: LoopAt<'a>,
-    second: LoopAt<'a>,
+pub(crate) struct Loops<'a> {
+    pub(crate) first: LoopAt<'a>,
+    pub(crate) second: LoopAt<'a>,
 }
 
 /// A loop and the next one, whose bounds agree, or may agree where their normal forms do not fit.
@@ -38,7 +38,7 @@ fn both_loops<'a>(a: &'a Stmt, b: &'a Stmt) -> Option<Loops<'a>>
 
 /// The two loops that are all of a block; None exactly where it is no two loops.
 #[tactic(auto, using(crate::proofs::OfNest::Pairs::two_there, crate::proofs::OfNest::Pairs::no_two))]
-fn loops_of(b: &Block) -> Option<Loops<'_>>
+pub(crate) fn loops_of(b: &Block) -> Option<Loops<'_>>
     ensures { option_map plain_loops result ≡ plain.two_of (block b.now) }
 {
     if b.len() != 2 {

@@ -1,13 +1,16 @@
 //! What has to be shown.
 ghost use Rattle.std.specs.Prelude.{◌≡◌, [], ◌∷◌, map, length, IfOk};
+ghost use Rattle.exo_tree.specs.Tree as tree;
 ghost use Rattle.exo_tree.specs.Tree.{block, statements};
+ghost use Rattle.exo_tree.specs.PlainControl.{control};
+ghost use Rattle.meaning_laws.specs.Facts as facts;
 ghost use Rattle.effect_laws.specs.Fits as fits;
 ghost use Rattle.step_rules.specs.Rule as rule;
 ghost use Rattle.step_needs.specs.PlainNeed.{plain_fact, plain_header, plain_conflict, plain_need};
 ghost use Rattle.loop_rewrites.specs.Shapes.PlainLoop.{plain_loop};
 
 use crate::shapes::loops::{LoopAt, copies};
-use exo_tree::{Block, Path};
+use exo_tree::{Block, Cond, Ctrl, Path};
 use std::alloc::{AllocError, Global};
 use step_needs::{Conflict, Fact, Header, Need};
 
@@ -18,6 +21,14 @@ pub fn one(alloc: Global, at: &Path, fact: Fact) -> Result<Vec<Need>, AllocError
     let mut all = Vec::new(alloc);
     all.push(Need::Says(at.duplicate(), fact))?;
     Ok(all)
+}
+
+/// That one side is at most the other, at a place.
+pub fn at_most(alloc: Global, at: &Path, a: &Ctrl, b: &Ctrl) -> Result<Need, AllocError>
+    ensures { IfOk result (λ n. plain_need n ≡ rule.Says at.now (facts.Holds (tree.Le (control a.now) (control b.now)))) }
+{
+    let (low, high) = copies(alloc, a, b)?;
+    Ok(Need::Says(at.duplicate(), Fact::Holds(Cond::Le(low, high))))
 }
 
 /// That two pieces do not meet, at a place.

@@ -8,6 +8,7 @@ use Rattle.text_show_laws.specs.Named.{AreNamed}
 use Rattle.schedule_laws.specs.Operators.Instance.{unit, schedule, result, ScheduleInstance}
 use Rattle.schedule_laws.specs.Operators.LoopInstance as loops
 use Rattle.schedule_laws.specs.Operators.OrderInstance as orders
+use Rattle.schedule_laws.specs.Operators.ScopeInstance as scopes
 use Rattle.schedule_laws.specs.Names.Instance.{NamesInstance}
 use Rattle.schedule_laws.specs.Names.Schedules.{GivesNames, SchedulesKeepNames}
 use Rattle.schedule_laws.proofs.OfNames.Numbered.{numbered_named}
@@ -104,6 +105,30 @@ named_orders = record {
 order_asked : Each GivesNames orders.schedule
 order_asked = (tt, (tt, (tt, (tt, (tt, (tt, (tt, (tt, tt))))))))
 
+named_k : IsName (codes "k")
+named_k = record { begins = refl; bytes = (refl, tt); some = refl; free = refl }
+
+named_scopes : AreNamed scopes.unit
+named_scopes = record {
+  procedures = (
+    named_loop.procedures.0,
+    (
+      record {
+        name = named_g;
+        params = (named_x, tt);
+        body = ((named_i, ((named_j, (tt, tt)), tt)), tt);
+        template = tt;
+      },
+      tt,
+    ),
+  );
+  fields = tt;
+  memories = named_unit.memories;
+}
+
+scope_asked : Each GivesNames scopes.schedule
+scope_asked = (tt, (tt, (tt, (named_k, (tt, (tt, tt))))))
+
 no_word : IsName (codes "for") → ⊥
 no_word is = absurd (none is.free)
   where
@@ -112,8 +137,8 @@ no_word is = absurd (none is.free)
 
 pub names_instance :
     SchedulesKeepNames → ScheduleInstance → loops.LoopsInstance → orders.OrderInstance
-    → NamesInstance
-names_instance keep one other third = record {
+    → scopes.ScopesInstance → NamesInstance
+names_instance keep one other third fourth = record {
   text = named_unit;
   asked = (tt, (tt, (tt, (named_g, (tt, tt)))));
   versions = keep unit 0 schedule result named_unit (tt, (tt, (tt, (named_g, (tt, tt))))) one.runs;
@@ -125,6 +150,9 @@ names_instance keep one other third = record {
   order_text = named_orders;
   order_asked = order_asked;
   order_versions = keep orders.unit 0 orders.schedule orders.result named_orders order_asked third.runs;
+  scope_text = named_scopes;
+  scope_asked = scope_asked;
+  scope_versions = keep scopes.unit 0 scopes.schedule scopes.result named_scopes scope_asked fourth.runs;
   word = no_word;
   numbered_word = numbered_named (codes "for") 1 refl (refl, (refl, (refl, tt)));
 }

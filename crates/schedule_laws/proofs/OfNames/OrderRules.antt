@@ -36,11 +36,11 @@ use Rattle.schedule_laws.proofs.OfNames.Blocks.{joined_named}
 use Rattle.schedule_laws.proofs.OfNames.LoopRules.{got_same, some_same, replaced_named, fresh_named}
 use Rattle.schedule_laws.proofs.OfNames.LoopRules.{IsNamedLoop, loop_named, loop_names}
 
-where_same : {A : Type 0} (t : Bool) (a b : A) → (if t then Some a else None) ≡ Some b → a ≡ b
+pub where_same : {A : Type 0} (t : Bool) (a b : A) → (if t then Some a else None) ≡ Some b → a ≡ b
 where_same true a b h = some_same h
 where_same false a b h = cc
 
-unless_same : {A : Type 0} (t : Bool) (a b : A) → (if t then None else Some a) ≡ Some b → a ≡ b
+pub unless_same : {A : Type 0} (t : Bool) (a b : A) → (if t then None else Some a) ≡ Some b → a ≡ b
 unless_same true a b h = cc
 unless_same false a b h = some_same h
 
@@ -175,7 +175,7 @@ fission_names count = record {
 
 -- ---- what is never run
 
-fork_named : (a : Statement) (k : Fork) → fork_in a ≡ Some k → IsNamedStatement a
+pub fork_named : (a : Statement) (k : Fork) → fork_in a ≡ Some k → IsNamedStatement a
     → IsNamedBlock k.main × IsNamedBlock k.other
 fork_named (Assign x is e) k found h = cc
 fork_named (Reduce x is e) k found h = cc

@@ -6,6 +6,7 @@ use Rattle.schedule_laws.proofs.OfNames.LoopRules.{specialize_names, shift_names
 use Rattle.schedule_laws.proofs.OfNames.OrderRules.{reorder_names, fuse_names, fission_names}
 use Rattle.schedule_laws.proofs.OfNames.OrderRules.{keep_names, empty_loop_names, remove_names}
 use Rattle.schedule_laws.proofs.OfNames.OrderRules.{exchange_names}
+use Rattle.schedule_laws.proofs.OfNames.ScopeRules.{join_names, lift_names}
 
 pub rules_give_names : RulesGiveNames
 rules_give_names = record {
@@ -20,9 +21,11 @@ rules_give_names = record {
   mult = mult_names;
   reorder_loops = reorder_names;
   fuse = fuse_names;
+  join = join_names;
   fission = fission_names;
   keep = keep_names;
   empty_loop = empty_loop_names;
   remove = remove_names;
+  lift = lift_names;
   reorder_statements = exchange_names;
 }

@@ -2,9 +2,11 @@
 use Rattle.std.proofs.Common.{◌≡◌, ℕ, Bool, true, false, if◌then◌else◌, List, [], ◌∷◌, map, take_while}
 use Rattle.std.proofs.Common.{Some, None, refl, sym, subst, ◌∙◌, true≢false}
 use Rattle.std.proofs.lemmas.List.Sums.{take_while-cons}
+use Rattle.exo_tree.specs.Tree.{Control}
 use Rattle.exo_tree.specs.Places.{Path}
 use Rattle.exo_meaning.specs.Orders.{Each}
 use Rattle.text_lexer.specs.Bytes.{goes_on_name}
+use Rattle.text_expressions.specs.Expression.{Tree}
 use Rattle.text_show_laws.specs.Names.{IsName, BeginsName, AreNameBytes}
 use Rattle.text_show_laws.specs.Naming.{NamedUnitsAreWritable}
 use Rattle.cursor_forward.specs.Cursors.{Cursor, Node, Range, Gap}
@@ -15,29 +17,35 @@ use Rattle.proc_laws.specs.Expression.Passes.{delete_pass_rule}
 use Rattle.proc_laws.specs.Expression.Rename.{rename_rule}
 use Rattle.loop_laws.specs.CutLoop.{cut_rule}
 use Rattle.loop_laws.specs.DivideLoop.{divide_rule}
+use Rattle.loop_laws.specs.JoinLoops.{join_rule}
+use Rattle.loop_laws.specs.MultLoops.{mult_rule}
+use Rattle.loop_laws.specs.ShiftLoop.{shift_rule}
 use Rattle.loop_laws.specs.Specialize.{specialize_rule}
 use Rattle.loop_laws.specs.UnrollLoop.{unroll_rule}
 use Rattle.loop_laws.specs.Nest.Fission.{fission_rule}
 use Rattle.loop_laws.specs.Nest.Fuse.{fuse_rule}
 use Rattle.loop_laws.specs.Nest.ReorderLoops as loops
 use Rattle.proc_laws.specs.Statement.DeadCode.{empty_loop_rule, keep_rule}
+use Rattle.proc_laws.specs.Statement.LiftScope.{lift_rule}
 use Rattle.proc_laws.specs.Statement.RemoveLoop.{remove_rule}
 use Rattle.proc_laws.specs.Statement.ReorderStatements as statements
 use Rattle.schedule_text.specs.Tree as tree
 use Rattle.schedule_patterns.specs.Names as pattern
-use Rattle.schedule_calls.specs.Requests.{Operation, DivideLoop, CutLoop, ReorderLoops, Fission}
-use Rattle.schedule_calls.specs.Requests.{Fuse, UnrollLoop, RemoveLoop, Specialize}
+use Rattle.schedule_calls.specs.Requests.{Operation, DivideLoop, CutLoop, MultLoops, ShiftLoop}
+use Rattle.schedule_calls.specs.Requests.{ReorderLoops, Fission, Fuse, JoinLoops, UnrollLoop}
+use Rattle.schedule_calls.specs.Requests.{RemoveLoop, LiftScope, Specialize}
 use Rattle.schedule_calls.specs.Requests.{EliminateDeadCode, ReorderStmts, CommuteExpr, Rename}
 use Rattle.schedule_calls.specs.Requests.{DeletePass, Request, Apply, Search, Moved, Emit, Asked}
 use Rattle.schedule_calls.specs.Readings.{IsNameOf, AsksName, AsksNames, AsksOperation}
-use Rattle.schedule_calls.specs.Readings.{divide_loop, cut_loop, reorder_loops, fission, fuse}
-use Rattle.schedule_calls.specs.Readings.{unroll_loop, remove_loop, specialize}
+use Rattle.schedule_calls.specs.Readings.{divide_loop, cut_loop, mult_loops, shift_loop}
+use Rattle.schedule_calls.specs.Readings.{reorder_loops, fission, fuse, join_loops}
+use Rattle.schedule_calls.specs.Readings.{unroll_loop, remove_loop, lift_scope, specialize}
 use Rattle.schedule_calls.specs.Readings.{eliminate_dead_code, reorder_stmts}
 use Rattle.schedule_calls.specs.Readings.{commute_expr, rename, delete_pass}
 use Rattle.schedule_calls.specs.Readings.{apply, search, moved, emit}
 use Rattle.schedule_laws.specs.Versions.Lines.{Ruled}
 use Rattle.schedule_laws.specs.Operators.Operators.{at_statement, at_block, gap_beside, ruled_in, at_gap}
-use Rattle.schedule_laws.specs.Operators.Operators.{on_procedure, statement_call}
+use Rattle.schedule_laws.specs.Operators.Operators.{on_procedure, statement_call, control_call}
 use Rattle.schedule_laws.specs.Operators.Operators.{division_of, control_at, condition_at, call_of, act_of}
 use Rattle.schedule_laws.specs.Operators.Operators.{SchedulesDerive}
 use Rattle.schedule_laws.specs.Names.Rules.{IsNaming}
@@ -100,11 +108,15 @@ module _ (names : pattern.NamesAreOne) where
       → AsksOperation operator args o → TakesNames o
   names_asked _ _ _ (divide_loop a b c keys at d h k) = two_asked c d.outer d.inner k.names
   names_asked _ _ _ (cut_loop a b at e h k) = tt
+  names_asked _ _ _ (mult_loops a b at name h k) = name_asked b name k
+  names_asked _ _ _ (shift_loop a b at e h k) = tt
   names_asked _ _ _ (reorder_loops args at h) = tt
   names_asked _ _ _ (fission args at h) = tt
   names_asked _ _ _ (fuse args at h) = tt
+  names_asked _ _ _ (join_loops args at h) = tt
   names_asked _ _ _ (unroll_loop args at h) = tt
   names_asked _ _ _ (remove_loop args at h) = tt
+  names_asked _ _ _ (lift_scope args at h) = tt
   names_asked _ _ _ (specialize a b at c h k) = tt
   names_asked _ _ _ (eliminate_dead_code a keys at keep h k) = tt
   names_asked _ _ _ (reorder_stmts args at h) = tt
@@ -164,21 +176,28 @@ of_gap r is (Gap path side ∷ c ∷ cs) made h = cc
 statement_gives_names : (at : Asked) (r : Rule) → IsNaming r → IsNamingCall (statement_call at r)
 statement_gives_names at r is = λ t cs made h. of_statement (λ path. r) (λ path. is) cs made h
 
+control_gives_names : (at : Asked) (e : Tree) (r : Control → Rule) → ((n : Control) → IsNaming (r n))
+    → IsNamingCall (control_call at e r)
+control_gives_names at e r is = λ t cs made h.
+    of_statement (λ path. r (control_at t path e)) (λ path. is (control_at t path e)) cs made h
+
 calls_give_names : (o : Operation) → TakesNames o → IsNamingCall (call_of o)
 calls_give_names (DivideLoop at d) asked =
     statement_gives_names at (divide_rule (division_of d))
     (rules_give_names.divide (division_of d) asked.0 asked.1)
-calls_give_names (CutLoop at e) asked =
-    λ t cs made h.
-    of_statement (λ path. cut_rule (control_at t path e))
-    (λ path. rules_give_names.cut (control_at t path e)) cs made h
+calls_give_names (CutLoop at e) asked = control_gives_names at e cut_rule rules_give_names.cut
+calls_give_names (MultLoops at name) asked =
+    statement_gives_names at (mult_rule name) (rules_give_names.mult name asked)
+calls_give_names (ShiftLoop at e) asked = control_gives_names at e shift_rule rules_give_names.shift
 calls_give_names (ReorderLoops at) asked =
     statement_gives_names at loops.reorder_rule rules_give_names.reorder_loops
 calls_give_names (Fission at) asked =
     λ t cs made h. of_gap fission_rule rules_give_names.fission cs made h
 calls_give_names (Fuse at) asked = statement_gives_names at fuse_rule rules_give_names.fuse
+calls_give_names (JoinLoops at) asked = statement_gives_names at join_rule rules_give_names.join
 calls_give_names (UnrollLoop at) asked = statement_gives_names at unroll_rule rules_give_names.unroll
 calls_give_names (RemoveLoop at) asked = statement_gives_names at remove_rule rules_give_names.remove
+calls_give_names (LiftScope at) asked = statement_gives_names at lift_rule rules_give_names.lift
 calls_give_names (Specialize at c) asked =
     λ t cs made h.
     of_block (λ path count. specialize_rule count (condition_at t path c))

@@ -4,6 +4,7 @@ use Rattle.std.specs.Prelude.{Option, Some, None}
 use Rattle.exo_tree.specs.Tree.{Control, Condition}
 use Rattle.exo_tree.specs.Places.{Branch, Path}
 use Rattle.exo_meaning.specs.Orders.{Each}
+use Rattle.text_expressions.specs.Expression.{Tree}
 use Rattle.cursor_patterns.specs.Patterns.{ExprPattern}
 use Rattle.cursor_forward.specs.Cursors.{Cursor, Node, Range, Gap}
 use Rattle.step_rules.specs.Lawful.{IsLawful}
@@ -14,16 +15,21 @@ use Rattle.proc_laws.specs.Expression.Passes.{delete_pass_rule}
 use Rattle.proc_laws.specs.Expression.Rename.{rename_rule}
 use Rattle.loop_laws.specs.DivideLoop.{Division, divide_rule}
 use Rattle.loop_laws.specs.CutLoop.{cut_rule}
+use Rattle.loop_laws.specs.JoinLoops.{join_rule}
+use Rattle.loop_laws.specs.MultLoops.{mult_rule}
+use Rattle.loop_laws.specs.ShiftLoop.{shift_rule}
 use Rattle.loop_laws.specs.UnrollLoop.{unroll_rule}
 use Rattle.loop_laws.specs.Specialize.{specialize_rule}
 use Rattle.loop_laws.specs.Nest.Fission.{fission_rule}
 use Rattle.loop_laws.specs.Nest.Fuse.{fuse_rule}
 use Rattle.loop_laws.specs.Nest.ReorderLoops as loops
 use Rattle.proc_laws.specs.Statement.DeadCode.{empty_loop_rule, keep_rule}
+use Rattle.proc_laws.specs.Statement.LiftScope.{lift_rule}
 use Rattle.proc_laws.specs.Statement.RemoveLoop.{remove_rule}
 use Rattle.proc_laws.specs.Statement.ReorderStatements as statements
-use Rattle.schedule_calls.specs.Requests.{Asked, DivideLoop, CutLoop, ReorderLoops, Fission, Fuse}
-use Rattle.schedule_calls.specs.Requests.{UnrollLoop, RemoveLoop, Specialize, EliminateDeadCode}
+use Rattle.schedule_calls.specs.Requests.{Asked, DivideLoop, CutLoop, MultLoops, ShiftLoop}
+use Rattle.schedule_calls.specs.Requests.{ReorderLoops, Fission, Fuse, JoinLoops, UnrollLoop}
+use Rattle.schedule_calls.specs.Requests.{RemoveLoop, LiftScope, Specialize, EliminateDeadCode}
 use Rattle.schedule_calls.specs.Requests.{ReorderStmts, CommuteExpr, Rename, DeletePass, Request}
 use Rattle.schedule_calls.specs.Requests as request
 use Rattle.schedule_laws.specs.Versions.Versions.{started}
@@ -35,7 +41,8 @@ use Rattle.schedule_laws.specs.Versions.Behind.{RunsDifferInNothing}
 use Rattle.schedule_laws.specs.Operators.Operators.{at_statement, at_block, GapIn, gap_beside, ruled_in}
 use Rattle.schedule_laws.specs.Operators.Operators.{at_gap, on_procedure, dead_code_rule, gap_call}
 use Rattle.schedule_laws.specs.Operators.Operators.{division_of, control_at, condition_at}
-use Rattle.schedule_laws.specs.Operators.Operators.{statement_call, procedure_call, act_of}
+use Rattle.schedule_laws.specs.Operators.Operators.{statement_call, control_call, procedure_call}
+use Rattle.schedule_laws.specs.Operators.Operators.{act_of}
 use Rattle.schedule_laws.specs.Operators.Operators.{OperatorsAreLawful, SchedulesDerive}
 use Rattle.schedule_laws.specs.Operators.Operators.{OperatorsNameNoField, SchedulesDifferInNothing}
 
@@ -107,6 +114,25 @@ module _ (r : Rule) where
   procedure_names_no_field : NamesNoField r → CallNamesNoField (procedure_call r)
   procedure_names_no_field none t cs made h = of_procedure NamesNoField r none made h
 
+-- at a statement, by an expression
+module _ (r : Control → Rule) (at : Asked) (e : Tree) where
+  control_is_lawful : ((n : Control) → IsLawful (r n)) → ((n : Control) → NamesFields (r n))
+      → IsLawfulCall (control_call at e r)
+  control_is_lawful is names = record {
+    lawful = λ t cs made h.
+        of_statement IsLawful (λ path. r (control_at t path e))
+        (λ path. is (control_at t path e)) cs made h;
+    fields = λ t cs made h.
+        of_statement NamesFields (λ path. r (control_at t path e))
+        (λ path. names (control_at t path e)) cs made h;
+  }
+
+  control_names_no_field : ((n : Control) → NamesNoField (r n))
+      → CallNamesNoField (control_call at e r)
+  control_names_no_field none t cs made h =
+      of_statement NamesNoField (λ path. r (control_at t path e))
+      (λ path. none (control_at t path e)) cs made h
+
 -- the rule of an operator at a gap
 module _ (r : ℕ → Rule) (at : Asked) where
   gap_is_lawful : ((count : ℕ) → IsLawful (r count)) → ((count : ℕ) → NamesFields (r count))
@@ -123,11 +149,15 @@ module _ (r : ℕ → Rule) (at : Asked) where
 pub record RulesAreLawful : Type 0 where
   pub divisions : (d : Division) → IsLawful (divide_rule d)
   pub cuts : (e : Control) → IsLawful (cut_rule e)
+  pub multiplied : (name : List ℕ) → IsLawful (mult_rule name)
+  pub shifts : (e : Control) → IsLawful (shift_rule e)
   pub reorders : IsLawful loops.reorder_rule
   pub fissions : (count : ℕ) → IsLawful (fission_rule count)
   pub fusions : IsLawful fuse_rule
+  pub joined : IsLawful join_rule
   pub unrolled : IsLawful unroll_rule
   pub removed : IsLawful remove_rule
+  pub lifted : IsLawful lift_rule
   pub emptied : IsLawful empty_loop_rule
   pub kept : (keep : Branch) → IsLawful (keep_rule keep)
   pub exchanged : IsLawful statements.reorder_rule
@@ -146,20 +176,19 @@ module _ (rules : RulesAreLawful) where
   pub operators_are_lawful : OperatorsAreLawful
   operators_are_lawful (DivideLoop at d) =
       statement_is_lawful (divide_rule (division_of d)) at (rules.divisions (division_of d)) (λ s. tt)
-  operators_are_lawful (CutLoop at e) = record {
-    lawful = λ t cs r h.
-        of_statement IsLawful (λ path. cut_rule (control_at t path e))
-        (λ path. rules.cuts (control_at t path e)) cs r h;
-    fields = λ t cs r h.
-        of_statement NamesFields (λ path. cut_rule (control_at t path e)) (λ path s. tt) cs r h;
-  }
+  operators_are_lawful (CutLoop at e) = control_is_lawful cut_rule at e rules.cuts (λ n s. tt)
+  operators_are_lawful (MultLoops at name) =
+      statement_is_lawful (mult_rule name) at (rules.multiplied name) (λ s. tt)
+  operators_are_lawful (ShiftLoop at e) = control_is_lawful shift_rule at e rules.shifts (λ n s. tt)
   operators_are_lawful (ReorderLoops at) =
       statement_is_lawful loops.reorder_rule at rules.reorders (λ s. tt)
   operators_are_lawful (Fission at) =
       gap_is_lawful fission_rule at rules.fissions (λ count s. tt)
   operators_are_lawful (Fuse at) = statement_is_lawful fuse_rule at rules.fusions (λ s. tt)
+  operators_are_lawful (JoinLoops at) = statement_is_lawful join_rule at rules.joined (λ s. tt)
   operators_are_lawful (UnrollLoop at) = statement_is_lawful unroll_rule at rules.unrolled (λ s. tt)
   operators_are_lawful (RemoveLoop at) = statement_is_lawful remove_rule at rules.removed (λ s. tt)
+  operators_are_lawful (LiftScope at) = statement_is_lawful lift_rule at rules.lifted (λ s. tt)
   operators_are_lawful (Specialize at c) = record {
     lawful = λ t cs r h.
         of_block IsLawful (λ path count. specialize_rule count (condition_at t path c))
@@ -207,14 +236,18 @@ dead_code_names_no_field at (Some keep) = statement_names_no_field (keep_rule ke
 pub operators_name_no_field : OperatorsNameNoField
 operators_name_no_field (DivideLoop at d) =
     statement_names_no_field (divide_rule (division_of d)) at (λ s. refl)
-operators_name_no_field (CutLoop at e) = λ t cs r h.
-    of_statement NamesNoField (λ path. cut_rule (control_at t path e)) (λ path s. refl) cs r h
+operators_name_no_field (CutLoop at e) = control_names_no_field cut_rule at e (λ n s. refl)
+operators_name_no_field (MultLoops at name) =
+    statement_names_no_field (mult_rule name) at (λ s. refl)
+operators_name_no_field (ShiftLoop at e) = control_names_no_field shift_rule at e (λ n s. refl)
 operators_name_no_field (ReorderLoops at) =
     statement_names_no_field loops.reorder_rule at (λ s. refl)
 operators_name_no_field (Fission at) = gap_names_no_field fission_rule at (λ count s. refl)
 operators_name_no_field (Fuse at) = statement_names_no_field fuse_rule at (λ s. refl)
+operators_name_no_field (JoinLoops at) = statement_names_no_field join_rule at (λ s. refl)
 operators_name_no_field (UnrollLoop at) = statement_names_no_field unroll_rule at (λ s. refl)
 operators_name_no_field (RemoveLoop at) = statement_names_no_field remove_rule at (λ s. refl)
+operators_name_no_field (LiftScope at) = statement_names_no_field lift_rule at (λ s. refl)
 operators_name_no_field (Specialize at c) = λ t cs r h.
     of_block NamesNoField (λ path count. specialize_rule count (condition_at t path c))
     (λ path count s. refl) cs r h

@@ -1,5 +1,5 @@
--- The closed schedules of the operators: one renames a procedure, one divides a loop, and one
--- changes orders.
+-- The closed schedules of the operators: one renames a procedure, one divides a loop, one changes
+-- orders, and one joins and multiplies loops.
 use Rattle.std.specs.Prelude.{pos, codes}
 use Rattle.exo_meaning.specs.Orders.{Each}
 use Rattle.text_show_laws.specs.Names.{IsName}
@@ -9,6 +9,7 @@ use Rattle.exo_tree.specs.Tree.{Lit}
 use Rattle.schedule_laws.specs.Operators.Instance.{unit, schedule, result}
 use Rattle.schedule_laws.specs.Operators.LoopInstance as loops
 use Rattle.schedule_laws.specs.Operators.OrderInstance as orders
+use Rattle.schedule_laws.specs.Operators.ScopeInstance as scopes
 use Rattle.schedule_laws.specs.Names.Schedules.{GivesNames}
 
 pub record NamesInstance : Type 0 where
@@ -21,6 +22,9 @@ pub record NamesInstance : Type 0 where
   pub order_text : AreNamed orders.unit
   pub order_asked : Each GivesNames orders.schedule
   pub order_versions : AreNamed orders.result.unit
+  pub scope_text : AreNamed scopes.unit
+  pub scope_asked : Each GivesNames scopes.schedule
+  pub scope_versions : AreNamed scopes.result.unit
   -- a word of the grammar is no name; with a number behind it, as that of a copy, it is one
   pub word : IsName (codes "for") → ⊥
   pub numbered_word : IsName (numbered (codes "for") 1)

@@ -14,6 +14,7 @@ use Rattle.proc_laws.specs.Expression.Passes.{delete_pass_rule}
 use Rattle.proc_laws.specs.Expression.Rename.{rename_rule}
 use Rattle.loop_laws.specs.CutLoop.{cut_rule}
 use Rattle.loop_laws.specs.DivideLoop.{Division, divide_rule}
+use Rattle.loop_laws.specs.JoinLoops.{join_rule}
 use Rattle.loop_laws.specs.MultLoops.{mult_rule}
 use Rattle.loop_laws.specs.ShiftLoop.{shift_rule}
 use Rattle.loop_laws.specs.Specialize.{specialize_rule}
@@ -22,6 +23,7 @@ use Rattle.loop_laws.specs.Nest.Fission.{fission_rule}
 use Rattle.loop_laws.specs.Nest.Fuse.{fuse_rule}
 use Rattle.loop_laws.specs.Nest.ReorderLoops as loops
 use Rattle.proc_laws.specs.Statement.DeadCode.{empty_loop_rule, keep_rule}
+use Rattle.proc_laws.specs.Statement.LiftScope.{lift_rule}
 use Rattle.proc_laws.specs.Statement.RemoveLoop.{remove_rule}
 use Rattle.proc_laws.specs.Statement.ReorderStatements as statements
 
@@ -66,8 +68,10 @@ pub record RulesGiveNames : Type 0 where
   pub mult : (name : List ℕ) → IsName name → IsNaming (mult_rule name)
   pub reorder_loops : IsNaming loops.reorder_rule
   pub fuse : IsNaming fuse_rule
+  pub join : IsNaming join_rule
   pub fission : (count : ℕ) → IsNaming (fission_rule count)
   pub keep : (keep : Branch) → IsNaming (keep_rule keep)
   pub empty_loop : IsNaming empty_loop_rule
   pub remove : IsNaming remove_rule
+  pub lift : IsNaming lift_rule
   pub reorder_statements : IsNaming statements.reorder_rule

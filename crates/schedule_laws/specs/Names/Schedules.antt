@@ -8,8 +8,9 @@ use Rattle.text_show_laws.specs.Named.{AreNamed}
 use Rattle.text_show_laws.specs.Writable.{IsWritable}
 use Rattle.unit_check.specs.Faults.{NothingFaults}
 use Rattle.schedule_text.specs.Tree as tree
-use Rattle.schedule_calls.specs.Requests.{Operation, DivideLoop, CutLoop, ReorderLoops, Fission}
-use Rattle.schedule_calls.specs.Requests.{Fuse, UnrollLoop, RemoveLoop, Specialize}
+use Rattle.schedule_calls.specs.Requests.{Operation, DivideLoop, CutLoop, MultLoops, ShiftLoop}
+use Rattle.schedule_calls.specs.Requests.{ReorderLoops, Fission, Fuse, JoinLoops, UnrollLoop}
+use Rattle.schedule_calls.specs.Requests.{RemoveLoop, LiftScope, Specialize}
 use Rattle.schedule_calls.specs.Requests.{EliminateDeadCode, ReorderStmts, CommuteExpr, Rename}
 use Rattle.schedule_calls.specs.Requests.{DeletePass, Request, Apply, Search, Moved, Emit}
 use Rattle.schedule_calls.specs.Readings.{Asks}
@@ -22,11 +23,15 @@ use Rattle.schedule_laws.specs.Operators.Operators.{act_of}
 abbrev pub TakesNames : Operation → Type 0
 TakesNames (DivideLoop at d) = IsName d.outer × IsName d.inner
 TakesNames (CutLoop at e) = ⊤
+TakesNames (MultLoops at name) = IsName name
+TakesNames (ShiftLoop at e) = ⊤
 TakesNames (ReorderLoops at) = ⊤
 TakesNames (Fission at) = ⊤
 TakesNames (Fuse at) = ⊤
+TakesNames (JoinLoops at) = ⊤
 TakesNames (UnrollLoop at) = ⊤
 TakesNames (RemoveLoop at) = ⊤
+TakesNames (LiftScope at) = ⊤
 TakesNames (Specialize at c) = ⊤
 TakesNames (EliminateDeadCode at keep) = ⊤
 TakesNames (ReorderStmts at) = ⊤

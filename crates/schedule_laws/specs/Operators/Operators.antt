@@ -20,17 +20,22 @@ use Rattle.proc_laws.specs.Expression.Rename.{rename_rule}
 use Rattle.loop_laws.specs.DivideLoop as divide
 use Rattle.loop_laws.specs.DivideLoop.{divide_rule}
 use Rattle.loop_laws.specs.CutLoop.{cut_rule}
+use Rattle.loop_laws.specs.JoinLoops.{join_rule}
+use Rattle.loop_laws.specs.MultLoops.{mult_rule}
+use Rattle.loop_laws.specs.ShiftLoop.{shift_rule}
 use Rattle.loop_laws.specs.UnrollLoop.{unroll_rule}
 use Rattle.loop_laws.specs.Specialize.{specialize_rule}
 use Rattle.loop_laws.specs.Nest.Fission.{fission_rule}
 use Rattle.loop_laws.specs.Nest.Fuse.{fuse_rule}
 use Rattle.loop_laws.specs.Nest.ReorderLoops as loops
 use Rattle.proc_laws.specs.Statement.DeadCode.{empty_loop_rule, keep_rule}
+use Rattle.proc_laws.specs.Statement.LiftScope.{lift_rule}
 use Rattle.proc_laws.specs.Statement.RemoveLoop.{remove_rule}
 use Rattle.proc_laws.specs.Statement.ReorderStatements as statements
 use Rattle.schedule_calls.specs.Requests.{Tail, Guard, Cut, CutAndGuard, Perfect, Division}
-use Rattle.schedule_calls.specs.Requests.{Asked, Operation, DivideLoop, CutLoop, ReorderLoops}
-use Rattle.schedule_calls.specs.Requests.{Fission, Fuse, UnrollLoop, RemoveLoop, Specialize}
+use Rattle.schedule_calls.specs.Requests.{Asked, Operation, DivideLoop, CutLoop, MultLoops}
+use Rattle.schedule_calls.specs.Requests.{ShiftLoop, ReorderLoops, Fission, Fuse, JoinLoops}
+use Rattle.schedule_calls.specs.Requests.{UnrollLoop, RemoveLoop, LiftScope, Specialize}
 use Rattle.schedule_calls.specs.Requests.{EliminateDeadCode, ReorderStmts, CommuteExpr, Rename}
 use Rattle.schedule_calls.specs.Requests.{DeletePass, Request}
 use Rattle.schedule_calls.specs.Requests as request
@@ -123,6 +128,14 @@ abbrev pub statement_call : Asked → Rule → Call
 statement_call at r =
     record { named = λ v. true; cursors = at ∷ []; rule = λ t cs. at_statement (λ path. r) cs }
 
+-- at the statement that is asked for, by a rule with what an expression stands for there
+abbrev pub control_call : Asked → Tree → (Control → Rule) → Call
+control_call at e r = record {
+  named = λ v. knows_fields v.unit.fields e;
+  cursors = at ∷ [];
+  rule = λ t cs. at_statement (λ path. r (control_at t path e)) cs;
+}
+
 -- at the gap that is asked for
 abbrev pub gap_call : Asked → (ℕ → Rule) → Call
 gap_call at r = record { named = λ v. true; cursors = at ∷ []; rule = λ t cs. at_gap r cs }
@@ -133,16 +146,16 @@ procedure_call r = record { named = λ v. true; cursors = []; rule = λ t cs. on
 
 abbrev pub call_of : Operation → Call
 call_of (DivideLoop at d) = statement_call at (divide_rule (division_of d))
-call_of (CutLoop at e) = record {
-  named = λ v. knows_fields v.unit.fields e;
-  cursors = at ∷ [];
-  rule = λ t cs. at_statement (λ path. cut_rule (control_at t path e)) cs;
-}
+call_of (CutLoop at e) = control_call at e cut_rule
+call_of (MultLoops at name) = statement_call at (mult_rule name)
+call_of (ShiftLoop at e) = control_call at e shift_rule
 call_of (ReorderLoops at) = statement_call at loops.reorder_rule
 call_of (Fission at) = gap_call at fission_rule
 call_of (Fuse at) = statement_call at fuse_rule
+call_of (JoinLoops at) = statement_call at join_rule
 call_of (UnrollLoop at) = statement_call at unroll_rule
 call_of (RemoveLoop at) = statement_call at remove_rule
+call_of (LiftScope at) = statement_call at lift_rule
 call_of (Specialize at c) = record {
   named = λ v. knows_fields v.unit.fields c;
   cursors = at ∷ [];

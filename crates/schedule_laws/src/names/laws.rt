@@ -53,5 +53,6 @@ pub fn names_instance()
     crate::operators::laws::schedule_instance();
     crate::operators::laws::loops_instance();
     crate::operators::laws::order_instance();
+    crate::operators::laws::scopes_instance();
     schedules_keep_names();
 }

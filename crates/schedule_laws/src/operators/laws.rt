@@ -5,6 +5,7 @@ ghost use Rattle.schedule_laws.specs.Operators.Operators.{OperatorsNameNoField, 
 ghost use Rattle.schedule_laws.specs.Operators.Instance.{ScheduleInstance, ResultIsDerived};
 ghost use Rattle.schedule_laws.specs.Operators.LoopInstance.{LoopsInstance};
 ghost use Rattle.schedule_laws.specs.Operators.OrderInstance.{OrderInstance};
+ghost use Rattle.schedule_laws.specs.Operators.ScopeInstance.{ScopesInstance};
 
 /// Every operator works by lawful rules.
 pub fn operators_are_lawful()
@@ -12,11 +13,15 @@ pub fn operators_are_lawful()
 {
     loop_laws::laws::divisions_are_lawful();
     loop_laws::laws::cuts_are_lawful();
+    loop_laws::laws::multiplications_are_lawful();
+    loop_laws::laws::shifts_are_lawful();
     loop_laws::nest::laws::reorders_are_lawful();
     loop_laws::nest::laws::fissions_are_lawful();
     loop_laws::nest::laws::fusions_are_lawful();
+    loop_laws::laws::joined_loops_are_lawful();
     loop_laws::laws::unrolled_loops_are_lawful();
     proc_laws::statement::laws::removed_loops_are_lawful();
+    proc_laws::statement::laws::lifted_scopes_are_lawful();
     loop_laws::laws::specialized_blocks_are_lawful();
     proc_laws::statement::laws::empty_loops_are_lawful();
     proc_laws::statement::laws::kept_branches_are_lawful();
@@ -48,6 +53,11 @@ pub fn loops_instance()
 /// A schedule that changes orders and takes loops away, and refusals of such ones.
 pub fn order_instance()
     ensures { OrderInstance }
+{}
+
+/// A schedule that joins, shifts and multiplies loops and lifts a condition, and refusals of such ones.
+pub fn scopes_instance()
+    ensures { ScopesInstance }
 {}
 
 /// What the schedule of the instance leaves is derived.

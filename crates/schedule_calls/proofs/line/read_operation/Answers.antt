@@ -5,7 +5,7 @@ use Rattle.schedule_calls.specs.PlainRequest.{plain_operation}
 use Rattle.schedule_calls.specs.Readings.{IsWord, AsksOperation}
 use Rattle.schedule_calls.proofs.Answered.{some_of, none_of}
 use Rattle.schedule_calls.proofs.Operations.{named, is_known}
-use Rattle.schedule_calls.proofs.Lines.{asks_apply, no_apply}
+use Rattle.schedule_calls.proofs.Lines.{asks_apply, no_apply, no_version}
 use Rattle.schedule_calls.proofs.line.read_operation.Goals as goal
 
 pub returns-in-Some-2 : goal.returns-in-Some-2
@@ -33,3 +33,12 @@ returns-in-None c =
           (sym c.as_slice.ensures.value)
           asks))),
     )
+
+pub returns-in_default-word_of : goal.returns-in_default-word_of
+returns-in_default-word_of c = (
+  is_known c.args.name.now c.in-Some.operator
+      (named _ _ (sym c.operator_of.ensures ∙ c.in-Some.is)),
+  no_version c.args.bind.now c.args.name.now (plain_arguments c.args.args.now)
+      (none_of (IsWord (plain_argument c.args.args.now.first)) (λ x. x.now) _
+      c.in_default-word_of.is c.word_of.ensures),
+)

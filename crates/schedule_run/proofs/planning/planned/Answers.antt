@@ -7,24 +7,29 @@ use Rattle.text_expressions.specs.declared.source.SourceExpr.{SourceExpr}
 use Rattle.cursor_patterns.specs.PlainPattern.{plain_expr_pattern}
 use Rattle.cursor_forward.specs.PlainProposal.{plain_proposal}
 use Rattle.proc_laws.specs.Expression.Commute.{commute_rule}
+use Rattle.loop_laws.specs.CutLoop.{cut_rule}
 use Rattle.loop_laws.specs.DivideLoop.{Division, divide_rule}
+use Rattle.loop_laws.specs.JoinLoops.{join_rule}
+use Rattle.loop_laws.specs.MultLoops.{mult_rule}
+use Rattle.loop_laws.specs.ShiftLoop.{shift_rule}
 use Rattle.loop_laws.specs.UnrollLoop.{unroll_rule}
 use Rattle.loop_laws.specs.Nest.Fission.{fission_rule}
 use Rattle.loop_laws.specs.Nest.Fuse.{fuse_rule}
 use Rattle.loop_laws.specs.Nest.ReorderLoops as loops
+use Rattle.proc_laws.specs.Statement.LiftScope.{lift_rule}
 use Rattle.proc_laws.specs.Statement.RemoveLoop.{remove_rule}
 use Rattle.proc_laws.specs.Statement.ReorderStatements as statements
 use Rattle.schedule_calls.specs.PlainRequest.{plain_asked, plain_division, plain_operation}
-use Rattle.schedule_calls.specs.Requests.{CutLoop, Specialize}
+use Rattle.schedule_calls.specs.Requests.{Specialize}
 use Rattle.schedule_calls.specs.declared.request.Asked.{Asked}
 use Rattle.schedule_calls.specs.declared.request.Division as written
 use Rattle.schedule_calls.specs.declared.request.Operation.{Operation}
 use Rattle.schedule_laws.specs.Operators.Operators.{call_of, division_of, statement_call, gap_call}
-use Rattle.schedule_laws.specs.Operators.Operators.{dead_code_rule}
+use Rattle.schedule_laws.specs.Operators.Operators.{control_call, dead_code_rule}
 use Rattle.schedule_run.specs.Outcomes.{Makes}
 use Rattle.schedule_run.specs.Planned.{planned}
 use Rattle.schedule_run.specs.PlainVersions.{versions}
-use Rattle.schedule_run.proofs.Arms.{of_arm, of_cursor}
+use Rattle.schedule_run.proofs.Arms.{of_arm, of_cursor, of_expression}
 use Rattle.schedule_run.proofs.planning.planned.Goals as goal
 
 pub returns-in-DivideLoop : goal.returns-in-DivideLoop
@@ -49,14 +54,56 @@ returns-in-CutLoop c =
     let v = versions c.args.s.now in
     let k = c.args.on.now.number.0 in
     let p = procedure c.args.on.now.proc.now in
-    subst (λ (o : Operation). Makes plain_proposal (planned v k p (call_of (plain_operation o))) c.cut_at.result)
-    (sym c.in-CutLoop.is)
-    (subst (λ (a : Asked). Makes plain_proposal
-    (planned v k p (call_of (CutLoop (plain_asked a) (tree_of c.in-CutLoop.e.value)))) c.cut_at.result)
+    let r = c.by_control.result in
+    of_arm v k p r _ _ c.in-CutLoop.is
+    (of_cursor v k p r (λ a. control_call a (tree_of c.in-CutLoop.e.value) cut_rule) _ _
     c.deref-in-CutLoop.ensures
-    (subst (λ (e : SourceExpr). Makes plain_proposal
-    (planned v k p (call_of (CutLoop (plain_asked c.deref-in-CutLoop.result.now) (tree_of e)))) c.cut_at.result)
-    c.deref-in-CutLoop-2.ensures c.cut_at.ensures))
+    (of_expression v k p r
+    (λ t. control_call (plain_asked c.deref-in-CutLoop.result.now) t cut_rule) _ _
+    c.deref-in-CutLoop-2.ensures c.by_control.ensures))
+
+pub returns-in-MultLoops : goal.returns-in-MultLoops
+returns-in-MultLoops c =
+    let v = versions c.args.s.now in
+    let k = c.args.on.now.number.0 in
+    let p = procedure c.args.on.now.proc.now in
+    let r = c.at_statement-in-MultLoops.result in
+    of_arm v k p r _ _ c.in-MultLoops.is
+    (of_cursor v k p r (λ a. statement_call a (mult_rule c.in-MultLoops.name)) _ _ c.deref-in-MultLoops.ensures
+    c.at_statement-in-MultLoops.ensures)
+
+pub returns-in-ShiftLoop : goal.returns-in-ShiftLoop
+returns-in-ShiftLoop c =
+    let v = versions c.args.s.now in
+    let k = c.args.on.now.number.0 in
+    let p = procedure c.args.on.now.proc.now in
+    let r = c.by_control-in-ShiftLoop.result in
+    of_arm v k p r _ _ c.in-ShiftLoop.is
+    (of_cursor v k p r (λ a. control_call a (tree_of c.in-ShiftLoop.e.value) shift_rule) _ _
+    c.deref-in-ShiftLoop.ensures
+    (of_expression v k p r
+    (λ t. control_call (plain_asked c.deref-in-ShiftLoop.result.now) t shift_rule) _ _
+    c.deref-in-ShiftLoop-2.ensures c.by_control-in-ShiftLoop.ensures))
+
+pub returns-in-JoinLoops : goal.returns-in-JoinLoops
+returns-in-JoinLoops c =
+    let v = versions c.args.s.now in
+    let k = c.args.on.now.number.0 in
+    let p = procedure c.args.on.now.proc.now in
+    let r = c.at_statement-in-JoinLoops.result in
+    of_arm v k p r _ _ c.in-JoinLoops.is
+    (of_cursor v k p r (λ a. statement_call a join_rule) _ _ c.deref-in-JoinLoops.ensures
+    c.at_statement-in-JoinLoops.ensures)
+
+pub returns-in-LiftScope : goal.returns-in-LiftScope
+returns-in-LiftScope c =
+    let v = versions c.args.s.now in
+    let k = c.args.on.now.number.0 in
+    let p = procedure c.args.on.now.proc.now in
+    let r = c.at_statement-in-LiftScope.result in
+    of_arm v k p r _ _ c.in-LiftScope.is
+    (of_cursor v k p r (λ a. statement_call a lift_rule) _ _ c.deref-in-LiftScope.ensures
+    c.at_statement-in-LiftScope.ensures)
 
 pub returns-in-UnrollLoop : goal.returns-in-UnrollLoop
 returns-in-UnrollLoop c =

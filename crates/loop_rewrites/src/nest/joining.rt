@@ -1,0 +1,221 @@
+//! The step that makes one loop of two, the second of which goes on where the first ends.
+ghost use Rattle.std.specs.Prelude.{◌≡◌, IsTrue, map, option_map, IfOk};
+ghost use Rattle.exo_tree.specs.Tree as tree;
+ghost use Rattle.exo_tree.specs.Tree.{block};
+ghost use Rattle.exo_tree.specs.PlainControl.{control};
+ghost use Rattle.exo_tree.specs.PlainProcedure.{procedure};
+ghost use Rattle.exo_tree.specs.PlainUnit.{program};
+ghost use Rattle.exo_tree.specs.Renaming as renaming;
+ghost use Rattle.exo_modes.specs.Marks.{modes_of};
+ghost use Rattle.exo_modes.specs.Seen.{table_says};
+ghost use Rattle.made_trees.specs.Ids.{next_id};
+ghost use Rattle.cursor_forward.specs.PlainProposal.{plain_proposal};
+ghost use Rattle.step_rules.specs.Answer.{proposed};
+ghost use Rattle.step_rules.specs.Lawful.{IsTarget};
+ghost use Rattle.loop_laws.specs.JoinLoops as plain;
+ghost use Rattle.loop_laws.specs.JoinLoops.{join_rule};
+ghost use Rattle.loop_laws.proofs.JoinRule.{join_is_lawful, join_is_carrying};
+ghost use Rattle.step_driver.specs.Outcomes.{Tries, IsKept, KeepsMeaning, Moves};
+ghost use Rattle.step_driver.specs.PlainTarget.{target};
+ghost use Rattle.step_needs.specs.PlainNeed.{plain_need};
+ghost use Rattle.loop_rewrites.specs.Nest.PlainNeighbours.{plain_neighbours};
+ghost use Rattle.loop_rewrites.specs.Shapes.PlainLoop.{plain_loop};
+
+use crate::nest::agreeing::agreement;
+use crate::nest::same::same_block;
+use crate::nest::two::{Loops, loops_of};
+use crate::shapes::{LoopAt, at_most, is_over_variables};
+use crate::unrolling::is_memory;
+use affine_forms::FormError;
+use cursor_forward::{Proposal, Shifts, StepError};
+use exo_tree::{Block, Ctrl, Name, Path, Proc};
+use made_trees::Fresh;
+use std::alloc::{AllocError, Global};
+use step_driver::{Exit, Operator, Piece, Target, Writing, propose, stays};
+use step_needs::Need;
+
+/// The two loops that are all of a block; None exactly where it is no two loops.
+#[tactic(auto, using(crate::proofs::OfNest::Neighbouring::neighbours_are_two))]
+fn neighbours(b: &Block) -> Option<Loops<'_>>
+    ensures { option_map plain_neighbours result ≡ plain.neighbours (block b.now) }
+{
+    loops_of(b)
+}
+
+/// A loop without its bounds, its binders numbered from behind the greatest id of a procedure on.
+fn numbered(alloc: Global, p: &Proc, l: &LoopAt<'_>) -> Result<Block, AllocError>
+    ensures { IfOk result (λ b. block b ≡ renaming.fresh (next_id (procedure p.now)) (plain.unbounded (plain_loop l.now))) }
+{
+    let zero = Ctrl::Lit(0);
+    let unbounded = l.between(alloc, &zero, &zero, l.body)?;
+    let mut fresh = Fresh::behind(p)?;
+    fresh.copy(alloc, &unbounded)
+}
+
+impl<'a> Loops<'a> {
+    /// Whether the bodies are the same but for the ids and names of binders.
+    fn have_one_body(&self, alloc: Global, p: &Proc) -> Result<bool, AllocError>
+        ensures { IfOk result (λ t. t ≡ plain.have_one_body (next_id (procedure p.now)) (plain_neighbours self.now)) }
+    {
+        let first = numbered(alloc, p, &self.first)?;
+        let second = numbered(alloc, p, &self.second)?;
+        Ok(same_block(&first, &second))
+    }
+
+    /// Whether the bounds that are to agree are affine and over variables alone.
+    fn meet_in_variables(&self) -> bool
+        ensures { result ≡ plain.meet_in_variables (plain_neighbours self.now) }
+    {
+        is_over_variables(self.second.lo) && is_over_variables(self.first.hi)
+    }
+
+    /// Both loops, where the second begins where the first ends. `WrongShape` where it does not, `Form` where the normal form
+    /// of one of those bounds is too wide.
+    #[tactic(auto, using(crate::proofs::OfNest::Neighbouring::they_meet, crate::proofs::OfNest::Neighbouring::they_miss, crate::proofs::OfNest::Neighbouring::not_known))]
+    fn meeting(self, alloc: Global) -> Result<Loops<'a>, StepError>
+        requires { IsTrue (plain.meet_in_variables (plain_neighbours self)) }
+        ensures { Tries plain_neighbours (plain.where_they_meet (plain_neighbours self.entry)) result }
+    {
+        match agreement(alloc, self.second.lo, self.first.hi)? {
+            None => Err(StepError::Form(FormError::WideNumber)),
+            Some(false) => Err(StepError::WrongShape),
+            Some(true) => Ok(self),
+        }
+    }
+
+    /// One loop from the lower bound of the first up to the upper one of the second, with the first body.
+    fn joined(&self, alloc: Global) -> Result<Block, AllocError>
+        ensures { IfOk result (λ b. block b ≡ plain.joined_loop (plain_neighbours self.now)) }
+    {
+        self.first
+            .between(alloc, self.first.lo, self.second.hi, self.first.body)
+    }
+
+    /// That neither ends before it begins.
+    fn in_order(&self, alloc: Global, at: &Path) -> Result<Vec<Need>, AllocError>
+        ensures { IfOk result (λ ns. map plain_need ns.items ≡ plain.join_needs at.now (plain_neighbours self.now)) }
+    {
+        let mut all = Vec::new(alloc);
+        all.push(at_most(alloc, at, self.first.lo, self.first.hi)?)?;
+        all.push(at_most(alloc, at, self.second.lo, self.second.hi)?)?;
+        Ok(all)
+    }
+}
+
+/// The two loops that are all of a block, with one body, the second from where the first ends. `WrongShape` where there are
+/// none, `Form` where the normal form of a bound is too wide.
+#[tactic(auto, using(crate::proofs::OfNest::Neighbouring::no_neighbours, crate::proofs::OfNest::Neighbouring::other_bodies, crate::proofs::OfNest::Neighbouring::other_bounds, crate::proofs::OfNest::Neighbouring::joining_of))]
+fn joinable<'a>(alloc: Global, p: &Proc, b: &'a Block) -> Result<Loops<'a>, StepError>
+    ensures { Tries plain_neighbours (plain.joining (next_id (procedure p.now)) (block b.now)) result }
+{
+    let Some(n) = neighbours(b) else {
+        return Err(StepError::WrongShape);
+    };
+    if !n.have_one_body(alloc, p)? {
+        return Err(StepError::WrongShape);
+    }
+    if !n.meet_in_variables() {
+        return Err(StepError::WrongShape);
+    }
+    n.meeting(alloc)
+}
+
+/// The step that makes one loop of two, the second of which goes on where the first ends.
+#[derive(Drop)]
+pub struct Joining;
+
+impl Operator for Joining {
+    ghost rule = { λ o. join_rule };
+
+    ghost lawful = { λ o. join_is_lawful };
+
+    ghost carrying = { λ o. join_is_carrying };
+
+    fn piece(&self, alloc: Global, on: &Target<'_>, at: &Path) -> Result<Piece, StepError> {
+        let piece = Piece {
+            path: at.duplicate(),
+            count: 2,
+        };
+        let old = on.statements(alloc, &piece)?;
+        joinable(alloc, on.proc, &old)?;
+        Ok(piece)
+    }
+
+    #[tactic(auto, using(crate::proofs::Unrolled::then_got, crate::proofs::Unrolled::then_refused))]
+    fn draft(
+        &self,
+        alloc: Global,
+        on: &Target<'_>,
+        piece: &Piece,
+        _how: Writing,
+        _fresh: &mut Fresh,
+    ) -> Result<Block, StepError> {
+        let old = on.statements(alloc, piece)?;
+        let n = joinable(alloc, on.proc, &old)?;
+        Ok(n.joined(alloc)?)
+    }
+
+    fn named(&self) -> u16 {
+        0
+    }
+
+    fn refusal(&self, _alloc: Global, _on: &Target<'_>, _piece: &Piece) -> Result<(), StepError> {
+        Ok(())
+    }
+
+    #[tactic(auto, using(crate::proofs::OfNest::Neighbouring::listed_by, crate::proofs::OfNest::Neighbouring::nothing_listed))]
+    fn needs(
+        &self,
+        alloc: Global,
+        on: &Target<'_>,
+        piece: &Piece,
+    ) -> Result<Vec<Need>, AllocError> {
+        let old = on.statements(alloc, piece)?;
+        match joinable(alloc, on.proc, &old) {
+            Ok(n) => n.in_order(alloc, &piece.path),
+            Err(error) => {
+                if is_memory(&error) {
+                    return Err(AllocError);
+                }
+                Ok(Vec::new(alloc))
+            }
+        }
+    }
+
+    #[tactic(auto, using(crate::proofs::OfNest::Neighbouring::listed_by, crate::proofs::OfNest::Neighbouring::nothing_listed))]
+    fn shifts(&self, alloc: Global, on: &Target<'_>, piece: &Piece) -> Result<Shifts, AllocError> {
+        let old = on.statements(alloc, piece)?;
+        match joinable(alloc, on.proc, &old) {
+            Ok(_) => stays(alloc, 1),
+            Err(error) => {
+                if is_memory(&error) {
+                    return Err(AllocError);
+                }
+                Ok(Shifts::new(alloc))
+            }
+        }
+    }
+
+    fn name(&self, alloc: Global, p: &Proc) -> Result<Name, AllocError> {
+        p.name.duplicate(alloc)
+    }
+
+    fn exit(&self, alloc: Global, _on: &Target<'_>, _piece: &Piece) -> Result<Exit, AllocError> {
+        Ok(Exit::unchanged(alloc))
+    }
+}
+
+/// The procedure with one loop in the place of the loop at a path and the next one, which has the same body but for the names
+/// of binders and begins where the first ends: up to where the second ends, with the first body. It owes that neither ends
+/// before it begins. `WrongShape` where no two such loops stand there; `Form` where the normal form of a bound that is to
+/// agree is too wide.
+pub fn join_loops(alloc: Global, on: &Target<'_>, at: &Path) -> Result<Proposal, StepError>
+    requires modes { table_says on.now.modes.now ≡ modes_of (program on.now.unit.now) }
+    requires target { IsTarget (target on.now) }
+    ensures answer { Tries plain_proposal (proposed join_rule (target on.now) at.now) result }
+    ensures kept { IfOk result (λ m. IsKept (target on.now) (plain_proposal m)) }
+    ensures meaning { IfOk result (λ m. KeepsMeaning (target on.now) (plain_proposal m)) }
+    ensures moves { IfOk result (λ m. Moves (target on.now) (plain_proposal m)) }
+{
+    propose(alloc, on, at, &Joining)
+}
